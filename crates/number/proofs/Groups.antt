@@ -1,0 +1,116 @@
+-- The reader's definition, group by group: what each kind of first byte makes of a reading, and how large and how long a reading can be.
+-- Assumes nothing.
+use Prim.Native.Nat.{ℕ, zero, suc, _+_, _*_, _-_, _%_, _≤_, _<_}
+use mathlib.Core.Path.{_≡_, refl, sym}
+use mathlib.Core.List.{List, [], _∷_}
+use native.Mathlib.Omega.{arith}
+use native.Mathlib.Numerals.{add-one}
+use borrow.Author.Tests.{lt-ltb, le-ltb, eq-eqb, ne-eqb}
+use lib.Dec.{lit≤}
+use lib.ListN.{length, drop, getD, drop-of-length-le}
+use lib.Seq.{drop-cons}
+use Rattle.number.specs.declared.NumberRead.{NumberRead}
+use Rattle.number.specs.Refusal.{none, cut, malformed}
+use Rattle.number.specs.Number.{accepted, refused, continued, fifthGroup, groups, room}
+use Rattle.number.proofs.Cases.{by-lt, by-eq}
+
+-- a group that must be the last
+pub fifth-small : (b : ℕ) → b < 16 → fifthGroup b ≡ accepted b 1
+unfolding fifthGroup
+fifth-small b h = simp (lt-ltb b 16 h)
+
+pub fifth-large : (b : ℕ) → 16 ≤ b → fifthGroup b ≡ refused malformed
+unfolding fifthGroup
+fifth-large b h = simp (le-ltb b 16 h)
+
+-- a byte that ends the number before its fifth group
+pub groups-end : (k b : ℕ) (bs : List ℕ) → 0 < k → b < 128 → groups k (b ∷ bs) ≡ accepted b 1
+unfolding groups
+groups-end zero b bs p h = absurd (omega arith)
+groups-end (suc k) b bs p h = simp (lt-ltb b 128 h)
+
+-- a byte with its top bit set
+pub groups-more : (k b : ℕ) (bs : List ℕ) → 0 < k → 128 ≤ b → groups k (b ∷ bs) ≡ continued (b % 128) (groups (k - 1) bs)
+unfolding groups
+groups-more zero b bs p h = absurd (omega arith)
+groups-more (suc k) b bs p h = simp (le-ltb b 128 h, pred-suc k)
+  where
+    pred-suc : (j : ℕ) → suc j - 1 ≡ j
+    pred-suc j = omega arith
+
+-- the three answers of `continued`
+pub continued-refused : (low : ℕ) (r : NumberRead) → (r .refusal ≡ none → ⊥) → continued low r ≡ refused (r .refusal)
+unfolding continued
+continued-refused low r h = simp (ne-eqb (r .refusal) none h)
+
+pub continued-zero : (low : ℕ) (r : NumberRead) → r .refusal ≡ none → r .value ≡ 0 → continued low r ≡ refused malformed
+unfolding continued
+continued-zero low r h z = simp (eq-eqb (r .refusal) none h, eq-eqb (r .value) 0 z)
+
+pub continued-more : (low : ℕ) (r : NumberRead) → r .refusal ≡ none → (r .value ≡ 0 → ⊥) → continued low r ≡ accepted (low + 128 * r .value) (1 + r .place)
+unfolding continued
+continued-more low r h z = simp (eq-eqb (r .refusal) none h, ne-eqb (r .value) 0 z)
+
+-- only the two refusals of a number are given
+groups-few : (k : ℕ) (bs : List ℕ) → groups k bs .refusal ≤ 2
+unfolding groups
+groups-few k [] = lit≤ tt
+groups-few zero (b ∷ bs) =
+    by-lt b 16
+    (λ h. rw (fifth-small b h) (lit≤ tt))
+    (λ h. rw (fifth-large b h) (lit≤ tt))
+groups-few (suc k) (b ∷ bs) =
+    by-lt b 128
+    (λ h. rw (lt-ltb b 128 h) (lit≤ tt))
+    (λ h. rw (le-ltb b 128 h) (kept (groups-few k bs)))
+  where
+    kept : groups k bs .refusal ≤ 2 → continued (b % 128) (groups k bs) .refusal ≤ 2
+    kept p =
+        by-eq (groups k bs .refusal) none
+        (λ a. by-eq (groups k bs .value) 0
+        (λ z. rw (continued-zero (b % 128) (groups k bs) a z) (lit≤ tt))
+        (λ z. rw (continued-more (b % 128) (groups k bs) a z) (lit≤ tt)))
+        (λ n. rw (continued-refused (b % 128) (groups k bs) n) p)
+
+-- a property of readings that the refused have, those of a last byte, and with any reading those that go on from it
+module _ (P : ℕ → List ℕ → NumberRead → Type 0)
+    (on-refused : (k : ℕ) (bs : List ℕ) (r : ℕ) → 1 ≤ r → r ≤ 2 → P k bs (refused r))
+    (on-last : (b : ℕ) (bs : List ℕ) → b < 16 → P 0 (b ∷ bs) (accepted b 1))
+    (on-end : (k b : ℕ) (bs : List ℕ) → b < 128 → P (suc k) (b ∷ bs) (accepted b 1))
+    (on-more : (k b : ℕ) (bs : List ℕ) (r : NumberRead) → 128 ≤ b → groups k bs ≡ r → r .refusal ≡ none → (r .value ≡ 0 → ⊥) → P k bs r → P (suc k) (b ∷ bs) (accepted (b % 128 + 128 * r .value) (1 + r .place)))
+  where
+    pub groups-elim : (k : ℕ) (bs : List ℕ) → P k bs (groups k bs)
+    unfolding groups
+    groups-elim k [] = on-refused k [] cut (lit≤ tt) (lit≤ tt)
+    groups-elim zero (b ∷ bs) =
+        by-lt b 16
+        (λ h. rw (fifth-small b h) (on-last b bs h))
+        (λ h. rw (fifth-large b h) (on-refused zero (b ∷ bs) malformed (lit≤ tt) (lit≤ tt)))
+    groups-elim (suc k) (b ∷ bs) =
+        by-lt b 128
+        (λ h. rw (lt-ltb b 128 h) (on-end k b bs h))
+        (λ h. rw (le-ltb b 128 h) (goes-on h (groups-elim k bs)))
+      where
+        goes-on : 128 ≤ b → P k bs (groups k bs) → P (suc k) (b ∷ bs) (continued (b % 128) (groups k bs))
+        goes-on h p =
+            by-eq (groups k bs .refusal) none
+            (λ a. by-eq (groups k bs .value) 0
+            (λ z. rw (continued-zero (b % 128) (groups k bs) a z) (on-refused (suc k) (b ∷ bs) malformed (lit≤ tt) (lit≤ tt)))
+            (λ z. rw (continued-more (b % 128) (groups k bs) a z) (on-more k b bs (groups k bs) h refl a z p)))
+            (λ n. rw (continued-refused (b % 128) (groups k bs) n) (on-refused (suc k) (b ∷ bs) (groups k bs .refusal) (omega arith) (groups-few k bs)))
+
+-- the same at a place of a list
+module _ (l : List ℕ) (at k : ℕ) where
+  pub groups-past : length l ≤ at → groups k (drop at l) ≡ refused cut
+  unfolding groups
+  groups-past h = rw (drop-of-length-le l h)
+
+  pub groups-at-last : at < length l → k ≡ 0 → groups k (drop at l) ≡ fifthGroup (getD l at 0)
+  unfolding groups
+  groups-at-last h z = rw (z, drop-cons l at 0 h)
+
+  pub groups-at-end : at < length l → 0 < k → getD l at 0 < 128 → groups k (drop at l) ≡ accepted (getD l at 0) 1
+  groups-at-end h p small = rw (drop-cons l at 0 h) (groups-end k (getD l at 0) (drop (suc at) l) p small)
+
+  pub groups-at-more : at < length l → 0 < k → 128 ≤ getD l at 0 → groups k (drop at l) ≡ continued (getD l at 0 % 128) (groups (k - 1) (drop (at + 1) l))
+  groups-at-more h p large = rw (add-one, drop-cons l at 0 h) (groups-more k (getD l at 0) (drop (suc at) l) p large)

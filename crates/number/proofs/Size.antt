@@ -1,0 +1,106 @@
+-- How large and how long a reading is, and how long a number's bytes are.
+-- Assumes nothing.
+use Prim.Native.Nat.{ℕ, zero, suc, _+_, _*_, _-_, _/_, _%_, _^_, _≤_, _<_}
+use mathlib.Core.Path.{_≡_, refl, ap}
+use mathlib.Core.List.{List, [], _∷_}
+use native.Mathlib.Omega.{arith}
+use borrow.Author.Tests.{lt-ltb, le-ltb}
+use lib.Dec.{lit<, lit≤}
+use lib.ListN.{length, drop, getD, length-drop}
+use Rattle.number.specs.declared.NumberRead.{NumberRead}
+use Rattle.number.specs.Refusal.{none}
+use Rattle.number.specs.Number.{limit, Bytes, groups, leading, groupBytes, numberBytes, room}
+use Rattle.number.proofs.Cases.{by-lt}
+use Rattle.number.proofs.Groups.{groups-elim}
+
+-- what every reading of the groups of a list satisfies
+pub record Sized (k : ℕ) (bs : List ℕ) (r : NumberRead) : Type 0 where
+  pub value-lt : r .value < room k
+  pub place-le : r .place ≤ length bs
+  pub some : r .refusal ≡ none → 1 ≤ r .place
+  pub few : r .refusal ≤ 2
+  pub nothing : (r .refusal ≡ none → ⊥) → (r .value ≡ 0) × (r .place ≡ 0)
+
+room-pos : (k : ℕ) → 16 ≤ room k
+unfolding room
+room-pos zero = lit≤ tt
+room-pos (suc k) = let h = room-pos k in omega arith
+
+pub room-mono : (j k : ℕ) → j ≤ k → room j ≤ room k
+unfolding room
+room-mono zero k h = room-pos k
+room-mono (suc j) zero h = absurd (omega arith)
+room-mono (suc j) (suc k) h = let p : room j ≤ room k = room-mono j k (omega arith) in omega arith
+
+pub groups-sized : (k : ℕ) (bs : List ℕ) → Sized k bs (groups k bs)
+unfolding room
+groups-sized =
+    groups-elim Sized
+    (λ k bs r some few. let h = room-pos k in record { value-lt = omega arith; place-le = omega arith; some = omega arith; few = few; nothing = λ n. (refl, refl) })
+    (λ b bs h. record { value-lt = h; place-le = omega arith; some = λ e. lit≤ tt; few = lit≤ tt; nothing = λ n. absurd (n refl) })
+    (λ k b bs h. let q = room-pos k in record { value-lt = omega arith; place-le = omega arith; some = λ e. lit≤ tt; few = lit≤ tt; nothing = λ n. absurd (n refl) })
+    (λ k b bs r h e a z p. record { value-lt = omega arith; place-le = omega arith; some = λ e. omega arith; few = lit≤ tt; nothing = λ n. absurd (n refl) })
+
+-- what comes after a group with its top bit set leaves room for that group
+pub continued-fits : (l : List ℕ) (at k : ℕ) → length l < 2 ^ 63 → 0 < k → k ≤ leading → (r : NumberRead) → r ≡ groups (k - 1) (drop (at + 1) l)
+    → (128 * r .value + 128 ≤ limit) × (r .place < 2 ^ 63)
+unfolding room
+continued-fits l at zero short p few r e = absurd (omega arith)
+continued-fits l at (suc k) short p few r e = rw (e, pred-suc k)
+    (let s = groups-sized k (drop (at + 1) l) in
+    let m : room (suc k) ≤ room leading = room-mono (suc k) leading few in
+    (omega arith, omega (arith, length-drop (at + 1) l)))
+  where
+    pred-suc : (j : ℕ) → suc j - 1 ≡ j
+    pred-suc j = omega arith
+
+-- a number has at least one byte, and at most one after those that lead
+length-groupBytes : (k v : ℕ) → (1 ≤ length (groupBytes k v)) × (length (groupBytes k v) ≤ suc k)
+unfolding groupBytes
+length-groupBytes zero v = (lit≤ tt, lit≤ tt)
+length-groupBytes (suc k) v =
+    by-lt v 128
+    (λ h. rw (lt-ltb v 128 h) (omega arith))
+    (λ h. rw (le-ltb v 128 h) (let p = length-groupBytes k (v / 128) in omega arith))
+
+pub length-numberBytes : (v : ℕ) → (1 ≤ length (numberBytes v)) × (length (numberBytes v) ≤ 5)
+unfolding numberBytes
+length-numberBytes v = length-groupBytes leading v
+
+pub groupBytes-are-bytes : (k v : ℕ) → v < room k → Bytes (groupBytes k v)
+unfolding groupBytes room
+groupBytes-are-bytes zero v h zero = omega arith
+groupBytes-are-bytes zero v h (suc i) = lit< tt
+groupBytes-are-bytes (suc k) v h i =
+    by-lt v 128
+    (λ p. rw (lt-ltb v 128 p) (short p i))
+    (λ p. rw (le-ltb v 128 p) (long (groupBytes-are-bytes k (v / 128) (omega arith)) i))
+  where
+    short : v < 128 → (i : ℕ) → getD (v ∷ []) i 0 < 256
+    short p zero = omega arith
+    short p (suc j) = lit< tt
+
+    long : Bytes (groupBytes k (v / 128)) → (i : ℕ) → getD ((128 + v % 128) ∷ groupBytes k (v / 128)) i 0 < 256
+    long p zero = omega arith
+    long p (suc j) = p j
+
+-- more groups than are needed change nothing
+groupBytes-enough : (j k v : ℕ) → v < room j → v < room k → groupBytes j v ≡ groupBytes k v
+unfolding groupBytes room
+groupBytes-enough zero zero v h p = refl
+groupBytes-enough zero (suc k) v h p = simp (lt-ltb v 128 (omega arith))
+groupBytes-enough (suc j) zero v h p = simp (lt-ltb v 128 (omega arith))
+groupBytes-enough (suc j) (suc k) v h p =
+    by-lt v 128
+    (λ q. simp (lt-ltb v 128 q))
+    (λ q. simp (le-ltb v 128 q, groupBytes-enough j k (v / 128) (omega arith) (omega arith)))
+
+-- the bytes of a number, group by group
+pub numberBytes-single : (v : ℕ) → v < 128 → numberBytes v ≡ v ∷ []
+unfolding numberBytes groupBytes
+numberBytes-single v h = simp (lt-ltb v 128 h)
+
+pub numberBytes-more : (v : ℕ) → 128 ≤ v → v < limit → numberBytes v ≡ (128 + v % 128) ∷ numberBytes (v / 128)
+unfolding numberBytes groupBytes room
+numberBytes-more v h small =
+    simp (le-ltb v 128 h) (ap (λ (l : List ℕ). (128 + v % 128) ∷ l) (groupBytes-enough 3 leading (v / 128) (omega arith) (omega arith)))
