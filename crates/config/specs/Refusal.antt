@@ -1,0 +1,35 @@
+-- The refusals of a configuration's numbers. Those of `number`, 1, 2 and 30, are given too.
+-- Assumes nothing.
+use Prim.Native.Nat.{ℕ}
+
+-- "version not 1"
+abbrev pub badVersion : ℕ
+badVersion = 3
+
+-- "a count outside its range"
+abbrev pub badCount : ℕ
+badCount = 4
+
+-- "another field outside its range, an entry's task that is an ISR too"
+abbrev pub badField : ℕ
+badField = 5
+
+-- "priority already used"
+abbrev pub usedPriority : ℕ
+usedPriority = 6
+
+-- "entry not after the one before"
+abbrev pub unsorted : ℕ
+unsorted = 7
+
+-- "this entry count takes the total over 64"
+abbrev pub tooManyEntries : ℕ
+tooManyEntries = 8
+
+-- "bytes left over"
+abbrev pub leftOver : ℕ
+leftOver = 9
+
+-- "configuration over 4,096 bytes"
+abbrev pub tooLong : ℕ
+tooLong = 10

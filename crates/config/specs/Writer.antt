@@ -1,0 +1,49 @@
+-- The configuration writer: the numbers of a value in reading order, and the first that the reader would refuse.
+--
+--   firstFault c    the refusal of the first number of c that is not in order, 0 where there is none
+--   configBytes c   the bytes of c, as far as its counts reach
+--   writeConfig c n, wroteConfig c d   what the writer answers, and what it leaves in its output
+--
+-- Assumes nothing.
+use Prim.Native.Nat.{ℕ, zero, suc}
+use mathlib.Core.Bool.{cond}
+use mathlib.Core.List.{List, [], _++_}
+use lib.Dec.{eqb}
+use Rattle.number.specs.Refusal.{none}
+use Rattle.number.specs.Number.{numberBytes}
+use Rattle.number.specs.Output.{unwritten, writing, written}
+use Rattle.number.specs.declared.Written.{Written}
+use Rattle.config.specs.declared.Config.{Config}
+use Rattle.config.specs.declared.Draft.{Draft}
+use Rattle.config.specs.Draft.{fault, put, asked, ended, start}
+
+-- the most numbers that a configuration has: 2, 3 for each of 32 bodies, 1 and 16 for resources, 1, 2 for each of 8 tables and 2 for each of 64 entries
+abbrev pub maxNumbers : ℕ
+maxNumbers = 260
+
+unfoldable pub faultFrom : ℕ → Config → Draft → ℕ
+faultFrom zero c d = none
+faultFrom (suc k) c d =
+    let v = asked c d in
+    let rest = faultFrom k c (put d v) in
+    cond (ended (d .field)) none (cond (eqb (fault d v) none) rest (fault d v))
+
+abbrev pub firstFault : Config → ℕ
+firstFault c = faultFrom maxNumbers c start
+
+unfoldable pub bytesFrom : ℕ → Config → Draft → List ℕ
+bytesFrom zero c d = []
+bytesFrom (suc k) c d =
+    let rest = numberBytes (asked c d) ++ bytesFrom k c (put d (asked c d)) in
+    cond (ended (d .field)) [] rest
+
+abbrev pub configBytes : Config → List ℕ
+configBytes c = bytesFrom maxNumbers c start
+
+-- "refuse with 3 to 8 in the reader's order .. all at place 0, then 30"
+abbrev pub writeConfig : Config → ℕ → Written
+writeConfig c n = cond (eqb (firstFault c) none) (writing (configBytes c) n) (unwritten (firstFault c) 0)
+
+-- "and leave their output untouched"
+abbrev pub wroteConfig : Config → List ℕ → List ℕ
+wroteConfig c d = cond (eqb (firstFault c) none) (written (configBytes c) d) d
