@@ -9,6 +9,7 @@ use Prim.Native.Nat.{ℕ, zero, suc}
 use mathlib.Core.Bool.{cond}
 use mathlib.Core.List.{List, [], _++_}
 use lib.Dec.{eqb}
+use lib.ListN.{length}
 use Rattle.number.specs.Refusal.{none}
 use Rattle.number.specs.Number.{numberBytes}
 use Rattle.number.specs.Output.{unwritten, writing, written}
@@ -39,6 +40,10 @@ bytesFrom (suc k) c d =
 
 abbrev pub configBytes : Config → List ℕ
 configBytes c = bytesFrom maxNumbers c start
+
+-- the writer's first walk: the first refusal, at place 0, or how many bytes the value takes
+abbrev pub measured : Config → Written
+measured c = cond (eqb (firstFault c) none) (record { refusal = none; place = length (configBytes c) }) (unwritten (firstFault c) 0)
 
 -- "refuse with 3 to 8 in the reader's order .. all at place 0, then 30"
 abbrev pub writeConfig : Config → ℕ → Written

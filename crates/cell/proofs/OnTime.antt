@@ -1,0 +1,52 @@
+-- What keeps a cell on time: it starts so, a tick keeps it so, and the ticks left to its next match fall one by one.
+--
+-- Nothing here knows how a cell counts but `on-time-start`, which rests on `Match`. Assumes nothing.
+use Prim.Native.Nat.{ℕ, suc, _+_, _-_, _≤_, _<_}
+use mathlib.Core.Bool.{Bool, true, false}
+use mathlib.Core.Path.{_≡_, refl, _∙_}
+use native.Mathlib.Omega.{arith}
+use Rattle.cell.specs.declared.Cell.{Cell}
+use Rattle.cell.specs.Cell.{modulus, unmarked, startCell, tickedIn, ticksIn, ticked}
+use Rattle.cell.specs.Due.{due, untilDue, OnTime, Left}
+use Rattle.cell.proofs.Due as Due
+use Rattle.cell.proofs.Match as Match
+
+module _ (P D : ℕ) where
+  pub on-time-start : 1 ≤ P → P ≤ modulus → 1 ≤ D → D ≤ modulus → OnTime (startCell P D) P D 0
+  on-time-start one-le P-fits some D-fits =
+      record { on = refl; matches = λ k. let e : 0 + suc k ≡ suc k = omega arith in rw e (Match.matches-when-due modulus P one-le P-fits D k some D-fits) }
+
+  module _ (c : Cell) (n : ℕ) (on-time : OnTime c P D n) where
+    pub on-time-matched : ticked c .matched ≡ due P D (suc n)
+    unfolding ticksIn
+    on-time-matched = let e : n + 1 ≡ suc n = omega arith in rw e at (on-time .matches 0)
+
+    pub on-time-tick : OnTime (ticked c) P D (suc n)
+    unfolding ticksIn tickedIn
+    on-time-tick =
+        record { on = on-time .on; matches = λ k. let e : suc n + suc k ≡ n + suc (suc k) = omega arith in rw e (on-time .matches (suc k)) }
+
+    pub on-time-unmarked : OnTime (unmarked (c .counter) (c .compare) (c .on)) P D n
+    unfolding ticksIn tickedIn
+    on-time-unmarked = record { on = on-time .on; matches = on-time .matches }
+
+    pub on-time-left : 1 ≤ P → Left c P (untilDue P D n)
+    on-time-left one-le =
+        record { on = on-time .on; matches = λ k. let e : 0 + suc k ≡ suc k = omega arith in rw e (on-time .matches k ∙ Due.due-from P one-le D n k) }
+
+pub on-time-counter : (P D n i k : ℕ) (on : Bool) → OnTime (unmarked i k on) P D n → OnTime (unmarked (ticked (unmarked i k on) .counter) k on) P D (suc n)
+unfolding tickedIn
+on-time-counter P D n i k on on-time = on-time-unmarked P D (ticked (unmarked i k on)) (suc n) (on-time-tick P D (unmarked i k on) n on-time)
+
+module _ (P : ℕ) (one-le : 1 ≤ P) (c : Cell) where
+  pub left-above-one : (u : ℕ) → 1 < u → Left c P u → (ticked c .matched ≡ false) × Left (ticked c) P (u - 1)
+  left-above-one u more left = (
+    on-time-matched P u c 0 left ∙ Due.due-before P more,
+    rw (Due.until-before P more) at (on-time-left P u (ticked c) 1 (on-time-tick P u c 0 left) one-le),
+  )
+
+  pub left-one : Left c P 1 → (ticked c .matched ≡ true) × Left (ticked c) P P
+  left-one left = (
+    on-time-matched P 1 c 0 left ∙ Due.due-first P 1,
+    rw (Due.until-due P 1) at (on-time-left P 1 (ticked c) 1 (on-time-tick P 1 c 0 left) one-le),
+  )

@@ -1,0 +1,105 @@
+-- What the crate shows beyond its contracts. Each law stands here in full, over specs/ alone; the module it cites proves it.
+--
+-- In order: one tick, field by field; a cell that is off; the main law, `matches-when-due`; and what a caller needs who keeps for a
+-- cell the ticks since its start (`OnTime`) or the ticks left to its next match (`Left`); a row of cells. Assumes nothing.
+use Prim.Native.Nat.{ℕ, suc, _+_, _-_, _%_, _≤_, _<_}
+use mathlib.Core.Bool.{Bool, true, false, cond, _&&_}
+use mathlib.Core.List.{List}
+use mathlib.Core.Path.{_≡_, refl, ap, _∙_}
+use lib.Dec.{eqb}
+use lib.ListN.{length, getD}
+use Rattle.cell.specs.declared.Cell.{Cell}
+use Rattle.cell.specs.Cell.{modulus, unmarked, startCellIn, tickedIn, ticksIn, startCell, ticked, ticks}
+use Rattle.cell.specs.Due.{due, untilDue, OnTime, Left}
+use Rattle.cell.specs.Rows.{rowTicks}
+use Rattle.cell.proofs.Tick as Tick
+use Rattle.cell.proofs.Match as Match
+use Rattle.cell.proofs.Due as Due
+use Rattle.cell.proofs.OnTime as OnTime
+use Rattle.cell.proofs.Rows as Rows
+
+-- a tick of a cell of any content
+module _ (c : Cell) where
+  pub ticked-compare-same : ticked c .compare ≡ c .compare
+  unfolding tickedIn
+  ticked-compare-same = refl
+
+  pub ticked-on-same : ticked c .on ≡ c .on
+  unfolding tickedIn
+  ticked-on-same = refl
+
+  pub ticked-mark : ticked c .matched ≡ c .on && eqb ((c .counter + 1) % modulus) (c .compare)
+  unfolding tickedIn
+  ticked-mark = refl
+
+  pub ticked-counter : ticked c .counter ≡ cond (ticked c .matched) 65535 (cond (c .on) ((c .counter + 1) % modulus) (c .counter))
+  unfolding tickedIn
+  ticked-counter = refl
+
+  pub off-ticked-same : c .on ≡ false → ticked c ≡ unmarked (c .counter) (c .compare) false
+  off-ticked-same = Tick.ticked-off modulus c
+
+  -- a cell that is off never matches and keeps its counter, however many ticks there are
+  pub off-ticks-same : c .on ≡ false → (n : ℕ) → ticks (suc n) c ≡ unmarked (c .counter) (c .compare) false
+  off-ticks-same off n = Tick.off-ticks modulus n c off
+
+-- a started cell matches at exactly the ticks at which its entry is due, however many ticks there are: for a counter of any modulus M
+pub matches-when-due-in : (M P D n : ℕ) → 1 ≤ P → P ≤ M → 1 ≤ D → D ≤ M
+    → ticksIn M (suc n) (startCellIn M P D) .matched ≡ due P D (suc n)
+matches-when-due-in M P D n one-le P-fits some D-fits = Match.matches-when-due M P one-le P-fits D n some D-fits
+
+-- the same for the 16-bit cell
+pub matches-when-due : (P D n : ℕ) → 1 ≤ P → P ≤ modulus → 1 ≤ D → D ≤ modulus
+    → ticks (suc n) (startCell P D) .matched ≡ due P D (suc n)
+matches-when-due = matches-when-due-in modulus
+
+-- a started cell is on time
+pub on-time-start : (P D : ℕ) → 1 ≤ P → P ≤ modulus → 1 ≤ D → D ≤ modulus → OnTime (startCell P D) P D 0
+on-time-start = OnTime.on-time-start
+
+-- a cell that is on time n ticks after its start
+module _ (P D n : ℕ) (c : Cell) (on-time : OnTime c P D n) where
+  -- at the next tick it matches exactly if its entry is due, and stays on time
+  pub on-time-matched : ticked c .matched ≡ due P D (suc n)
+  on-time-matched = OnTime.on-time-matched P D c n on-time
+
+  pub on-time-tick : OnTime (ticked c) P D (suc n)
+  on-time-tick = OnTime.on-time-tick P D c n on-time
+
+  -- as many ticks are left to its next match as to the next due one
+  pub on-time-left : 1 ≤ P → Left c P (untilDue P D n)
+  on-time-left = OnTime.on-time-left P D c n on-time
+
+-- for whoever keeps a cell as plain numbers: its mark does not count, and of the numbers a tick changes the counter alone
+pub on-time-counter : (P D n i k : ℕ) (on : Bool) → OnTime (unmarked i k on) P D n → OnTime (unmarked (ticked (unmarked i k on) .counter) k on) P D (suc n)
+on-time-counter = OnTime.on-time-counter
+
+-- one tick left is what makes the next tick a due one
+pub due-next : (P D n : ℕ) → 1 ≤ P → due P D (suc n) ≡ eqb (untilDue P D n) 1
+due-next P D n one-le = Due.due-next P one-le D n
+
+-- a cell with period P and first delay D has D ticks left when it is started
+pub left-start : (P D : ℕ) → 1 ≤ P → P ≤ modulus → 1 ≤ D → D ≤ modulus → Left (startCell P D) P D
+left-start = on-time-start
+
+-- above one, a tick takes one away and is no match
+pub left-above-one : (P u : ℕ) (c : Cell) → 1 ≤ P → 1 < u → Left c P u → (ticked c .matched ≡ false) × Left (ticked c) P (u - 1)
+left-above-one P u c one-le = OnTime.left-above-one P one-le c u
+
+-- at one, a tick is a match, and the next is a period ahead
+pub left-one : (P : ℕ) (c : Cell) → 1 ≤ P → Left c P 1 → (ticked c .matched ≡ true) × Left (ticked c) P P
+left-one P c one-le = OnTime.left-one P one-le c
+
+-- a row keeps its length, and its cells their places: each is ticked for itself
+pub row-length-same : (n : ℕ) (cs : List Cell) → length (rowTicks n cs) ≡ length cs
+row-length-same = Rows.row-length-same
+
+pub row-at : (n : ℕ) (cs : List Cell) (i : ℕ) (d : Cell) → i < length cs → getD (rowTicks n cs) i d ≡ ticks n (getD cs i d)
+row-at = Rows.row-at
+
+-- so a started cell in a row, whatever stands beside it, matches at exactly the ticks of the row at which its entry is due
+pub row-matches-when-due : (cs : List Cell) (i P D n : ℕ) (d : Cell) → i < length cs → getD cs i d ≡ startCell P D
+    → 1 ≤ P → P ≤ modulus → 1 ≤ D → D ≤ modulus
+    → getD (rowTicks (suc n) cs) i d .matched ≡ due P D (suc n)
+row-matches-when-due cs i P D n d within started one-le P-fits some D-fits =
+    ap (λ c. c .matched) (row-at (suc n) cs i d within ∙ ap (ticks (suc n)) started) ∙ matches-when-due P D n one-le P-fits some D-fits

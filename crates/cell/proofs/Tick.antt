@@ -1,0 +1,28 @@
+-- What one tick makes of a cell, for a counter of any modulus M: the three cases that the code tells apart, and a cell that is off.
+-- Assumes nothing.
+use Prim.Native.Nat.{ℕ, zero, suc}
+use mathlib.Core.Bool.{true, false}
+use mathlib.Core.Path.{_≡_, refl, ap, _∙_}
+use borrow.Author.Tests.{eq-eqb, ne-eqb}
+use Rattle.cell.specs.declared.Cell.{Cell}
+use Rattle.cell.specs.Cell.{cellOf, unmarked, sumIn, resetIn, tickedIn, ticksIn}
+
+module _ (M : ℕ) (c : Cell) where
+  pub ticked-off : c .on ≡ false → tickedIn M c ≡ unmarked (c .counter) (c .compare) false
+  unfolding tickedIn
+  ticked-off off = simp off
+
+  -- n is what the addition gives
+  module _ {n : ℕ} (on : c .on ≡ true) (sum : n ≡ sumIn M c) where
+    pub ticked-matched : n ≡ c .compare → tickedIn M c ≡ cellOf (resetIn M) (c .compare) true true
+    unfolding tickedIn
+    ticked-matched meets = simp (on, ← sum, eq-eqb _ _ meets)
+
+    pub ticked-passed : (n ≡ c .compare → ⊥) → tickedIn M c ≡ unmarked n (c .compare) true
+    unfolding tickedIn
+    ticked-passed misses = simp (on, ← sum, ne-eqb _ _ misses)
+
+pub off-ticks : (M n : ℕ) (c : Cell) → c .on ≡ false → ticksIn M (suc n) c ≡ unmarked (c .counter) (c .compare) false
+unfolding ticksIn
+off-ticks M zero c off = ticked-off M c off
+off-ticks M (suc n) c off = ap (ticksIn M (suc n)) (ticked-off M c off) ∙ off-ticks M n _ refl

@@ -1,0 +1,75 @@
+-- One timer cell: what a start, a tick and a stop make of it.
+--
+--   cellOf n k on m    the cell with counter n, compare value k, switch on and match mark m
+--   unmarked n k on    the same without a mark
+--   startCell P D      the cell of an entry with period P, D ticks before its first match
+--   ticked c           c after a tick; ticks n c: after n
+--   stopped c          c after its table was stopped
+--
+-- Each rule is written for a counter of M values (its name ends in `In`) and then taken at 16 bits, so that a fact about the counter is
+-- proved once over its width. When the cell's entry is due is in `Due`. Assumes nothing.
+use Prim.Native.Nat.{ℕ, zero, suc, _+_, _-_, _%_}
+use mathlib.Core.Bool.{Bool, true, false, cond, _&&_}
+use lib.Dec.{eqb}
+use Rattle.cell.specs.declared.Cell.{Cell}
+
+-- how many values a 16-bit counter has
+abbrev pub modulus : ℕ
+modulus = 65536
+
+-- the only place where a cell's record is written
+abbrev pub cellOf : ℕ → ℕ → Bool → Bool → Cell
+cellOf n k on m = record { counter = n; compare = k; on = on; matched = m }
+
+-- a cell that tells of no match: what its owner keeps of it between two ticks
+abbrev pub unmarked : ℕ → ℕ → Bool → Cell
+unmarked n k on = cellOf n k on false
+
+-- a − b modulo M, for b at most M
+abbrev pub minus : ℕ → ℕ → ℕ → ℕ
+minus M a b = (a + (M - b)) % M
+
+-- "Compare value: period P minus 1"
+abbrev pub compareIn : ℕ → ℕ → ℕ
+compareIn M P = minus M P 1
+
+-- "its counter becomes (P − 1 − D) modulo 65,536 and its switch goes on"
+abbrev pub startCellIn : ℕ → ℕ → ℕ → Cell
+startCellIn M P D = unmarked (minus M (compareIn M P) D) (compareIn M P) true
+
+-- "adds 1 modulo 65,536"
+abbrev pub sumIn : ℕ → Cell → ℕ
+sumIn M c = (c .counter + 1) % M
+
+-- "an enabled cell .. if the counter now equals the compare value it matches"
+abbrev pub matchesIn : ℕ → Cell → Bool
+matchesIn M c = c .on && eqb (sumIn M c) (c .compare)
+
+-- "the counter is set to 65,535", from which the next tick brings it to 0
+abbrev pub resetIn : ℕ → ℕ
+resetIn M = M - 1
+
+-- "it matches and the counter is set to 65,535"; "a cell that is off keeps its own"
+abbrev pub countedIn : ℕ → Cell → ℕ
+countedIn M c = cond (matchesIn M c) (resetIn M) (cond (c .on) (sumIn M c) (c .counter))
+
+-- "each record keeps its compare value and switch, gets the counter above .., and its match mark tells of this tick only"
+unfoldable pub tickedIn : ℕ → Cell → Cell
+tickedIn M c = cellOf (countedIn M c) (c .compare) (c .on) (matchesIn M c)
+
+unfoldable pub ticksIn : ℕ → ℕ → Cell → Cell
+ticksIn M zero c = c
+ticksIn M (suc n) c = ticksIn M n (tickedIn M c)
+
+abbrev pub startCell : ℕ → ℕ → Cell
+startCell = startCellIn modulus
+
+abbrev pub ticked : Cell → Cell
+ticked = tickedIn modulus
+
+abbrev pub ticks : ℕ → Cell → Cell
+ticks = ticksIn modulus
+
+-- "Stop switches the table's cells off and sets their counters to 0"
+abbrev pub stopped : Cell → Cell
+stopped c = unmarked 0 (c .compare) false

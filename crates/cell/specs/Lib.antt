@@ -1,0 +1,4 @@
+-- What the contracts and laws of the cell cite, in reading order.
+pub mod Cell
+pub mod Due
+pub mod Rows

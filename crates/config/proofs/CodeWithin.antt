@@ -1,0 +1,141 @@
+-- What the code has to know of a draft: its position lies inside the arrays (`Within`), at the start and after every number that is in order, and
+-- such a number is no greater than its place holds (`most`).
+-- Assumes nothing.
+use Prim.Native.Nat.{ℕ, _+_, _-_, _^_, _≤_, _<_}
+use mathlib.Core.Path.{_≡_, refl, sym, subst, _∙_}
+use mathlib.Core.Bool.{Bool, true, false, cond, _&&_}
+use native.Mathlib.Omega.{arith}
+use borrow.Author.Tests.{lt-leb, eq-eqb, ne-eqb, le-ltb, leb-true, ltb-true, eqb-false}
+use lib.Dec.{lit≤, lit<, ltb, leb, eqb}
+use lib.ListN.{getD}
+use Rattle.number.specs.Refusal.{none}
+use Rattle.number.proofs.Cases.{by-lt, by-eq}
+use Rattle.config.specs.declared.Draft.{Draft}
+use Rattle.config.specs.declared.Field.{Field}
+use Rattle.config.specs.declared.Field.the-variants.{Version, Bodies, Kind, Priority, Autostart, Resources, Users, Tables, Period, Entries, Offset, Task, End}
+use Rattle.config.specs.Refusal.{badVersion, badCount, badField, tooManyEntries}
+use Rattle.config.specs.Meaning.{isr, isTask}
+use Rattle.config.specs.Value.{maxEntries}
+use Rattle.config.specs.Draft.{unless, outside, andThen, mostAutostart, sorted, fault, faultAt, put, putAt, Inside, Within, start, orOn}
+
+-- tests that give no refusal
+unless-none : (ok : Bool) (r : ℕ) → 0 < r → unless ok r ≡ none → ok ≡ true
+unless-none true r p e = refl
+unless-none false r p e = absurd (omega arith)
+
+and-first : (a b : Bool) → a && b ≡ true → a ≡ true
+and-first true b e = refl
+and-first false b e = e
+
+and-second : (a b : Bool) → a && b ≡ true → b ≡ true
+and-second true b e = e
+and-second false true e = refl
+and-second false false e = e
+
+outside-none : (lo hi v r : ℕ) → 0 < r → outside lo hi v r ≡ none → (lo ≤ v) × (v ≤ hi)
+outside-none lo hi v r p e = let both = unless-none (leb lo v && leb v hi) r p e in
+    (leb-true lo v (and-first (leb lo v) (leb v hi) both), leb-true v hi (and-second (leb lo v) (leb v hi) both))
+
+andThen-first : (r s : ℕ) → andThen r s ≡ none → r ≡ none
+andThen-first r s e = by-eq r none (λ h. h) (λ n. absurd (n (sym (cond-false n) ∙ e)))
+  where
+    cond-false : (r ≡ none → ⊥) → andThen r s ≡ r
+    cond-false n = simp (ne-eqb r none n)
+
+andThen-second : (r s : ℕ) → andThen r s ≡ none → s ≡ none
+andThen-second r s e = sym (cond-true (andThen-first r s e)) ∙ e
+  where
+    cond-true : r ≡ none → andThen r s ≡ s
+    cond-true h = simp (eq-eqb r none h)
+
+-- how great a number that is in order can be
+unfoldable pub Small : Field → Draft → ℕ → Type 0
+Small Version d v = v ≤ 1
+Small Bodies d v = (1 ≤ v) × (v ≤ 32)
+Small Kind d v = v ≤ 1
+Small Priority d v = v ≤ 200
+Small Autostart d v = v ≤ 1
+Small Resources d v = v ≤ 16
+Small Users d v = v ≤ 2 ^ d .config .bodies - 1
+Small Tables d v = v ≤ 8
+Small Period d v = v ≤ 65535
+Small Entries d v = ((1 ≤ v) × (v ≤ 16)) × (d .entry + v ≤ maxEntries)
+Small Offset d v = v < getD (d .config .period) (d .index) 0
+Small Task d v = v < d .config .bodies
+Small End d v = Unit {0}
+
+small-at : (f : Field) (d : Draft) (v : ℕ) → faultAt f d v ≡ none → Small f d v
+unfolding faultAt Small
+small-at Version d v e = outside-none 1 1 v badVersion (lit< tt) e .1
+small-at Bodies d v e = outside-none 1 32 v badCount (lit< tt) e
+small-at Kind d v e = outside-none 0 isr v badField (lit< tt) e .1
+small-at Priority d v e = outside-none 1 200 v badField (lit< tt) (andThen-first _ _ e) .1
+small-at Autostart d v e = autostart (getD (d .config .kind) (d .index) 0) (outside-none 0 _ v badField (lit< tt) e .1)
+  where
+    autostart : (k : ℕ) → v ≤ mostAutostart k → v ≤ 1
+    autostart k = go (eqb k isr)
+      where
+        go : (b : Bool) → v ≤ cond b 0 1 → v ≤ 1
+        go true h = omega arith
+        go false h = h
+small-at Resources d v e = outside-none 0 16 v badCount (lit< tt) e .1
+small-at Users d v e = outside-none 1 (2 ^ d .config .bodies - 1) v badField (lit< tt) e .1
+small-at Tables d v e = outside-none 0 8 v badCount (lit< tt) e .1
+small-at Period d v e = outside-none 1 65535 v badField (lit< tt) e .1
+small-at Entries d v e = (
+  outside-none 1 16 v badCount (lit< tt) (andThen-first _ _ e),
+  leb-true (d .entry + v) maxEntries (unless-none _ tooManyEntries (lit< tt) (andThen-second (outside 1 16 v badCount) _ e)),
+)
+small-at Offset d v e = ltb-true v (getD (d .config .period) (d .index) 0) (unless-none _ badField (lit< tt) e)
+small-at Task d v e = ltb-true v (d .config .bodies) (and-first _ _ (unless-none (isTask (d .config) v) badField (lit< tt) (andThen-first _ _ e)))
+small-at End d v e = tt
+
+-- what is known of a draft at a given field, and of a number that is in order there
+pub small : (f : Field) (d : Draft) (v : ℕ) → d .field ≡ f → fault d v ≡ none → Small f d v
+small f d v h e = small-at f d v (subst (λ (g : Field). faultAt g d v ≡ none) h e)
+
+pub inside-at : (f : Field) (d : Draft) → Within d → d .field ≡ f → Inside f d
+inside-at f d w e = subst (λ (g : Field). Inside g d) e (w .inside)
+
+pub start-within : Within start
+unfolding Inside
+start-within = record { bodies-le = lit≤ tt; resources-le = lit≤ tt; tables-le = lit≤ tt; entry-le = lit≤ tt; until-le = lit≤ tt; inside = tt }
+
+module _ (d : Draft) (w : Within d) (v : ℕ) where
+  put-at-within : (f : Field) → Small f d v → Inside f d → Within (putAt f d v)
+  unfolding putAt Small Inside
+  put-at-within Version s i = omega arith
+  put-at-within Bodies s i = omega arith
+  put-at-within Kind s i = omega arith
+  put-at-within Priority s i = omega arith
+  put-at-within Autostart s i =
+      by-eq (d .index + 1) (d .config .bodies)
+      (λ h. rw (eq-eqb (d .index + 1) (d .config .bodies) h) (omega arith))
+      (λ h. rw (ne-eqb (d .index + 1) (d .config .bodies) h) (omega arith))
+  put-at-within Resources s i =
+      by-eq 0 v
+      (λ h. rw (eq-eqb 0 v h) (omega arith))
+      (λ h. rw (ne-eqb 0 v h) (omega arith))
+  put-at-within Users s i =
+      by-eq (d .index + 1) (d .config .resources)
+      (λ h. rw (eq-eqb (d .index + 1) (d .config .resources) h) (omega arith))
+      (λ h. rw (ne-eqb (d .index + 1) (d .config .resources) h) (omega arith))
+  put-at-within Tables s i =
+      by-eq 0 v
+      (λ h. rw (eq-eqb 0 v h) (omega arith))
+      (λ h. rw (ne-eqb 0 v h) (omega arith))
+  put-at-within Period s i = omega arith
+  put-at-within Entries s i = omega arith
+  put-at-within Offset s i = omega arith
+  put-at-within Task s i =
+      by-eq (d .entry + 1) (d .until)
+      (λ h. rw (eq-eqb (d .entry + 1) (d .until) h)
+      (by-eq (d .index + 1) (d .config .tables)
+      (λ g. rw (eq-eqb (d .index + 1) (d .config .tables) g) (omega arith))
+      (λ g. rw (ne-eqb (d .index + 1) (d .config .tables) g) (omega arith))))
+      (λ h. rw (ne-eqb (d .entry + 1) (d .until) h) (omega arith))
+  put-at-within End s i = w
+
+-- a number that is in order leads to a draft within the arrays
+pub put-within : (d : Draft) (v : ℕ) → Within d → fault d v ≡ none → Within (put d v)
+put-within d v w e = put-at-within d w v (d .field) (small (d .field) d v refl e) (w .inside)

@@ -1,0 +1,23 @@
+-- The laws of `config`. `Theorems` is the file to read and the one that other crates cite; `Tables` has the entries' places for every crate.
+-- The rest is in the order of the proofs: lists and tests, one number, all numbers, the value that they make; then what the functions' own
+-- proofs cite.
+pub mod Theorems
+pub mod Tables
+mod Padded
+mod Ranges
+mod Position
+mod Walk
+mod Extends
+mod Rows
+mod Sound
+mod Reading
+mod RoundTrip
+mod Past
+mod Fuel
+mod CodeFault
+mod CodeWithin
+mod CodeReader
+mod CodeWriter
+mod CodeMeasure
+mod CodeWritten
+mod CodeAnswer

@@ -1,0 +1,190 @@
+-- Where a draft stands: inside its arrays, and at most `left` numbers before the end. A number in order keeps the first and lowers the second,
+-- so that the 260 of `maxNumbers` are enough.
+-- Assumes nothing.
+use Prim.Native.Nat.{ℕ, zero, suc, _+_, _*_, _-_, _≤_, _<_}
+use mathlib.Core.Path.{_≡_}
+use mathlib.Core.Bool.{false, not, true≢false}
+use mathlib.Core.List.{List, [], _∷_}
+use native.Mathlib.Omega.{arith}
+use lib.Dec.{ltb, eqb}
+use lib.ListN.{getD, set}
+use lib.Pow.{pow-mono}
+use borrow.Author.Tests.{eq-eqb, ne-eqb, ltb-true}
+use Rattle.number.specs.Refusal.{none}
+use Rattle.number.specs.Number.{limit}
+use Rattle.number.proofs.Cases.{by-eq}
+use Rattle.config.specs.declared.Draft.{Draft}
+use Rattle.config.specs.declared.Field.{Field}
+use Rattle.config.specs.declared.Field.the-variants.{Version, Bodies, Kind, Priority, Autostart, Resources, Users, Tables, Period, Entries, Offset, Task, End}
+use Rattle.config.specs.Meaning.{isr}
+use Rattle.config.specs.Value.{maxBodies, maxResources, maxTables, maxEntries}
+use Rattle.config.specs.Draft.{mostAutostart, fault, put, putAt, ended, start, Inside, Within}
+use Rattle.config.proofs.Padded.{getD-zeros}
+use Rattle.config.proofs.Ranges.{InRange, in-range, and-true}
+
+-- `Within` of a draft at the field f, for proofs by cases on the field
+pub record Standing (f : Field) (d : Draft) : Type 0 where
+  pub bodies-le : d .config .bodies ≤ maxBodies
+  pub resources-le : d .config .resources ≤ maxResources
+  pub tables-le : d .config .tables ≤ maxTables
+  pub entry-le : d .entry ≤ d .until
+  pub until-le : d .until ≤ maxEntries
+  pub inside : Inside f d
+
+pub standing : (d : Draft) → Within d → Standing (d .field) d
+standing d w =
+    record { bodies-le = w .bodies-le; resources-le = w .resources-le; tables-le = w .tables-le; entry-le = w .entry-le; until-le = w .until-le; inside = w .inside }
+
+within : (d : Draft) → Standing (d .field) d → Within d
+within d s =
+    record { bodies-le = s .bodies-le; resources-le = s .resources-le; tables-le = s .tables-le; entry-le = s .entry-le; until-le = s .until-le; inside = s .inside }
+
+-- the most numbers that are still to come, this one included
+abbrev pub leftAt : Field → Draft → ℕ
+leftAt Version d = 132 + 2 * (64 - d .entry)
+leftAt Bodies d = 131 + 2 * (64 - d .entry)
+leftAt Kind d = 3 * (32 - d .index) + 34 + 2 * (64 - d .entry)
+leftAt Priority d = 3 * (32 - d .index) + 33 + 2 * (64 - d .entry)
+leftAt Autostart d = 3 * (32 - d .index) + 32 + 2 * (64 - d .entry)
+leftAt Resources d = 34 + 2 * (64 - d .entry)
+leftAt Users d = (16 - d .index) + 17 + 2 * (64 - d .entry)
+leftAt Tables d = 17 + 2 * (64 - d .entry)
+leftAt Period d = 2 * (8 - d .index) + 2 * (64 - d .entry)
+leftAt Entries d = 2 * (7 - d .index) + 1 + 2 * (64 - d .entry)
+leftAt Offset d = 2 * (7 - d .index) + 2 * (64 - d .entry)
+leftAt Task d = 2 * (7 - d .index) + 1 + 2 * (63 - d .entry)
+leftAt End d = 0
+
+abbrev pub left : Draft → ℕ
+left d = leftAt (d .field) d
+
+record MovedAt (f : Field) (d : Draft) (f′ : Field) (d′ : Draft) : Type 0 where
+  standing : Standing f′ d′
+  fewer : leftAt f′ d′ < leftAt f d
+
+moved-at : (f : Field) (d : Draft) (v : ℕ) → ended f ≡ false → Standing f d → InRange f d v → MovedAt f d (putAt f d v .field) (putAt f d v)
+unfolding putAt ended Inside
+moved-at Version d v e s h = omega arith
+moved-at Bodies d v e s h = omega arith
+moved-at Kind d v e s h = omega arith
+moved-at Priority d v e s h = omega arith
+moved-at Autostart d v e s h =
+    by-eq (d .index + 1) (d .config .bodies)
+    (λ p. rw (eq-eqb (d .index + 1) (d .config .bodies) p) (omega arith))
+    (λ p. rw (ne-eqb (d .index + 1) (d .config .bodies) p) (omega arith))
+moved-at Resources d v e s h =
+    by-eq 0 v
+    (λ p. rw (eq-eqb 0 v p) (omega arith))
+    (λ p. rw (ne-eqb 0 v p) (omega arith))
+moved-at Users d v e s h =
+    by-eq (d .index + 1) (d .config .resources)
+    (λ p. rw (eq-eqb (d .index + 1) (d .config .resources) p) (omega arith))
+    (λ p. rw (ne-eqb (d .index + 1) (d .config .resources) p) (omega arith))
+moved-at Tables d v e s h =
+    by-eq 0 v
+    (λ p. rw (eq-eqb 0 v p) (omega arith))
+    (λ p. rw (ne-eqb 0 v p) (omega arith))
+moved-at Period d v e s h = omega arith
+moved-at Entries d v e s h = omega arith
+moved-at Offset d v e s h = omega arith
+moved-at Task d v e s h =
+    by-eq (d .entry + 1) (d .until)
+    (λ p. rw (eq-eqb (d .entry + 1) (d .until) p)
+    (by-eq (d .index + 1) (d .config .tables)
+    (λ q. rw (eq-eqb (d .index + 1) (d .config .tables) q) (omega arith))
+    (λ q. rw (ne-eqb (d .index + 1) (d .config .tables) q) (omega arith))))
+    (λ p. rw (ne-eqb (d .entry + 1) (d .until) p) (omega arith))
+moved-at End d v e s h = absurd (true≢false e)
+
+-- what a number in order makes of a draft within its arrays
+pub record Moved (d d′ : Draft) : Type 0 where
+  pub within : Within d′
+  pub fewer : left d′ < left d
+
+pub moved : (d : Draft) (v : ℕ) → ended (d .field) ≡ false → fault d v ≡ none → Within d → Moved d (put d v)
+moved d v t e w =
+    let m = moved-at (d .field) d v t (standing d w) (in-range (d .field) d v e) in
+    record { within = within (put d v) (m .standing); fewer = m .fewer }
+
+pub start-within : Within start
+unfolding Inside
+start-within = omega arith
+
+-- no period is over 65,535
+abbrev pub Paced : Draft → Type 0
+Paced d = (t : ℕ) → getD (d .config .period) t 0 ≤ 65535
+
+getD-set-le : (l : List ℕ) (i v k t : ℕ) → v ≤ k → getD l t 0 ≤ k → getD (set l i v) t 0 ≤ k
+getD-set-le [] i v k t h p = p
+getD-set-le (x ∷ xs) zero v k zero h p = h
+getD-set-le (x ∷ xs) zero v k (suc t) h p = p
+getD-set-le (x ∷ xs) (suc i) v k zero h p = p
+getD-set-le (x ∷ xs) (suc i) v k (suc t) h p = getD-set-le xs i v k t h p
+
+paced-at : (f : Field) (d : Draft) (v : ℕ) → InRange f d v → Paced d → Paced (putAt f d v)
+unfolding putAt
+paced-at Version d v h p = p
+paced-at Bodies d v h p = p
+paced-at Kind d v h p = p
+paced-at Priority d v h p = p
+paced-at Autostart d v h p = p
+paced-at Resources d v h p = p
+paced-at Users d v h p = p
+paced-at Tables d v h p = p
+paced-at Period d v h p = λ t. getD-set-le (d .config .period) (d .index) v 65535 t (h .1) (p t)
+paced-at Entries d v h p = p
+paced-at Offset d v h p = p
+paced-at Task d v h p = p
+paced-at End d v h p = p
+
+pub paced : (d : Draft) (v : ℕ) → fault d v ≡ none → Paced d → Paced (put d v)
+paced d v e = paced-at (d .field) d v (in-range (d .field) d v e)
+
+pub start-paced : Paced start
+start-paced t = rw (getD-zeros maxTables t) (omega arith)
+
+most-le : (k : ℕ) → mostAutostart k ≤ 1
+most-le k =
+    by-eq k isr
+    (λ p. rw (eq-eqb k isr p) (omega arith))
+    (λ p. rw (ne-eqb k isr p) (omega arith))
+
+-- a number in order is a number of the format
+small-at : (f : Field) (d : Draft) (v : ℕ) → ended f ≡ false → Standing f d → Paced d → InRange f d v → v < limit
+unfolding ended
+small-at Version d v e s p h = omega arith
+small-at Bodies d v e s p h = omega arith
+small-at Kind d v e s p h = omega arith
+small-at Priority d v e s p h = omega arith
+small-at Autostart d v e s p h = omega (arith, most-le (getD (d .config .kind) (d .index) 0))
+small-at Resources d v e s p h = omega arith
+small-at Users d v e s p h = let q = pow-mono (s .bodies-le) in omega arith
+small-at Tables d v e s p h = omega arith
+small-at Period d v e s p h = omega arith
+small-at Entries d v e s p h = omega arith
+small-at Offset d v e s p h = omega (arith, p (d .index))
+small-at Task d v e s p h = omega (arith, ltb-true v (d .config .bodies) (and-true (ltb v (d .config .bodies)) (not (eqb (getD (d .config .kind) v 0) isr)) (h .0) .0))
+small-at End d v e s p h = absurd (true≢false e)
+
+pub small : (d : Draft) (v : ℕ) → ended (d .field) ≡ false → fault d v ≡ none → Within d → Paced d → v < limit
+small d v t e w p = small-at (d .field) d v t (standing d w) p (in-range (d .field) d v e)
+
+-- before the end there is a number to come
+some-left-at : (f : Field) (d : Draft) → ended f ≡ false → Standing f d → 0 < leftAt f d
+unfolding ended Inside
+some-left-at Version d e s = omega arith
+some-left-at Bodies d e s = omega arith
+some-left-at Kind d e s = omega arith
+some-left-at Priority d e s = omega arith
+some-left-at Autostart d e s = omega arith
+some-left-at Resources d e s = omega arith
+some-left-at Users d e s = omega arith
+some-left-at Tables d e s = omega arith
+some-left-at Period d e s = omega arith
+some-left-at Entries d e s = omega arith
+some-left-at Offset d e s = omega arith
+some-left-at Task d e s = omega arith
+some-left-at End d e s = absurd (true≢false e)
+
+pub some-left : (d : Draft) → ended (d .field) ≡ false → Within d → 0 < left d
+some-left d t w = some-left-at (d .field) d t (standing d w)

@@ -1,0 +1,113 @@
+-- What it says of a number that it is in order where a draft is: the tests of `fault` (specs/Draft.antt) as facts, both ways.
+-- Assumes nothing.
+use Prim.Native.Nat.{ℕ, _+_, _-_, _^_, _≤_, _<_}
+use mathlib.Core.Path.{_≡_, refl, sym, ap}
+use mathlib.Core.Bool.{Bool, true, false, not, _&&_, true≢false}
+use native.Mathlib.Omega.{arith}
+use lib.Dec.{leb, ltb, lit<}
+use lib.ListN.{getD, take}
+use lib.Pow.{pow-pos}
+use borrow.Author.Tests.{leb-true, ltb-true, le-leb, lt-ltb, eq-eqb, ne-eqb, not-true}
+use Rattle.number.proofs.Cases.{by-eq}
+use Rattle.number.specs.Refusal.{none}
+use Rattle.config.specs.declared.Draft.{Draft}
+use Rattle.config.specs.declared.Field.{Field}
+use Rattle.config.specs.declared.Field.the-variants.{Version, Bodies, Kind, Priority, Autostart, Resources, Users, Tables, Period, Entries, Offset, Task, End}
+use Rattle.config.specs.Refusal.{badVersion, badCount, badField, usedPriority, unsorted, tooManyEntries}
+use Rattle.config.specs.Meaning.{isr, isTask}
+use Rattle.config.specs.Value.{maxBodies, maxResources, maxTables, maxEntries}
+use Rattle.config.specs.Draft.{occurs, unless, outside, andThen, sorted, mostAutostart, faultAt}
+
+abbrev pub InRange : Field → Draft → ℕ → Type 0
+InRange Version d v = v ≡ 1
+InRange Bodies d v = (1 ≤ v) × (v ≤ maxBodies)
+InRange Kind d v = v ≤ isr
+InRange Priority d v = (1 ≤ v) × (v ≤ 200) × (occurs v (take (d .index) (d .config .priority)) ≡ false)
+InRange Autostart d v = v ≤ mostAutostart (getD (d .config .kind) (d .index) 0)
+InRange Resources d v = v ≤ maxResources
+InRange Users d v = (1 ≤ v) × (v < 2 ^ d .config .bodies)
+InRange Tables d v = v ≤ maxTables
+InRange Period d v = (1 ≤ v) × (v ≤ 65535)
+InRange Entries d v = (1 ≤ v) × (v ≤ 16) × (d .entry + v ≤ maxEntries)
+InRange Offset d v = v < getD (d .config .period) (d .index) 0
+InRange Task d v = (isTask (d .config) v ≡ true) × (sorted d v ≡ true)
+InRange End d v = Unit {0}
+
+-- a test that gives no refusal holds
+passed : (t : Bool) (r : ℕ) → 0 < r → unless t r ≡ none → t ≡ true
+passed true r p e = refl
+passed false r p e = absurd (omega arith)
+
+pub and-true : (s t : Bool) → (s && t) ≡ true → (s ≡ true) × (t ≡ true)
+and-true true t e = (refl, e)
+and-true false t e = absurd (true≢false (sym e))
+
+not-outside : (lo hi v r : ℕ) → 0 < r → outside lo hi v r ≡ none → (lo ≤ v) × (v ≤ hi)
+not-outside lo hi v r p e =
+    let b = and-true (leb lo v) (leb v hi) (passed (leb lo v && leb v hi) r p e) in
+    (leb-true lo v (b .0), leb-true v hi (b .1))
+
+inside : (lo hi v r : ℕ) → lo ≤ v → v ≤ hi → outside lo hi v r ≡ none
+inside lo hi v r p q = simp (le-leb lo v p, le-leb v hi q)
+
+neither : (r s : ℕ) → andThen r s ≡ none → (r ≡ none) × (s ≡ none)
+neither r s h =
+    by-eq r none
+    (λ e. (e, simp (eq-eqb r none e) at h))
+    (λ n. absurd (n (simp (ne-eqb r none n) at h)))
+
+both : (r s : ℕ) → r ≡ none → s ≡ none → andThen r s ≡ none
+both r s p q = simp (eq-eqb r none p) q
+
+pub in-range : (f : Field) (d : Draft) (v : ℕ) → faultAt f d v ≡ none → InRange f d v
+unfolding faultAt
+in-range Version d v e = let h = not-outside 1 1 v badVersion (lit< tt) e in omega arith
+in-range Bodies d v e = not-outside 1 maxBodies v badCount (lit< tt) e
+in-range Kind d v e = not-outside 0 isr v badField (lit< tt) e .1
+in-range Priority d v e =
+    let used = occurs v (take (d .index) (d .config .priority)) in
+    let h = neither (outside 1 200 v badField) (unless (not used) usedPriority) e in
+    let r = not-outside 1 200 v badField (lit< tt) (h .0) in
+    (r .0, r .1, not-true used (passed (not used) usedPriority (lit< tt) (h .1)))
+in-range Autostart d v e = not-outside 0 (mostAutostart (getD (d .config .kind) (d .index) 0)) v badField (lit< tt) e .1
+in-range Resources d v e = not-outside 0 maxResources v badCount (lit< tt) e .1
+in-range Users d v e =
+    let h = not-outside 1 (2 ^ d .config .bodies - 1) v badField (lit< tt) e in
+    (h .0, omega (arith, pow-pos (d .config .bodies)))
+in-range Tables d v e = not-outside 0 maxTables v badCount (lit< tt) e .1
+in-range Period d v e = not-outside 1 65535 v badField (lit< tt) e
+in-range Entries d v e =
+    let h = neither (outside 1 16 v badCount) (unless (leb (d .entry + v) maxEntries) tooManyEntries) e in
+    let r = not-outside 1 16 v badCount (lit< tt) (h .0) in
+    (r .0, r .1, leb-true (d .entry + v) maxEntries (passed (leb (d .entry + v) maxEntries) tooManyEntries (lit< tt) (h .1)))
+in-range Offset d v e =
+    ltb-true v (getD (d .config .period) (d .index) 0) (passed (ltb v (getD (d .config .period) (d .index) 0)) badField (lit< tt) e)
+in-range Task d v e =
+    let h = neither (unless (isTask (d .config) v) badField) (unless (sorted d v) unsorted) e in
+    (passed (isTask (d .config) v) badField (lit< tt) (h .0), passed (sorted d v) unsorted (lit< tt) (h .1))
+in-range End d v e = tt
+
+pub no-fault : (f : Field) (d : Draft) (v : ℕ) → InRange f d v → faultAt f d v ≡ none
+unfolding faultAt
+no-fault Version d v h = inside 1 1 v badVersion (omega arith) (omega arith)
+no-fault Bodies d v h = inside 1 maxBodies v badCount (h .0) (h .1)
+no-fault Kind d v h = inside 0 isr v badField (omega arith) h
+no-fault Priority d v h =
+    both (outside 1 200 v badField) (unless (not (occurs v (take (d .index) (d .config .priority)))) usedPriority)
+    (inside 1 200 v badField (h .0) (h .1))
+    (rw (h .2))
+no-fault Autostart d v h = inside 0 (mostAutostart (getD (d .config .kind) (d .index) 0)) v badField (omega arith) h
+no-fault Resources d v h = inside 0 maxResources v badCount (omega arith) h
+no-fault Users d v h = inside 1 (2 ^ d .config .bodies - 1) v badField (h .0) (omega (arith, h .1))
+no-fault Tables d v h = inside 0 maxTables v badCount (omega arith) h
+no-fault Period d v h = inside 1 65535 v badField (h .0) (h .1)
+no-fault Entries d v h =
+    both (outside 1 16 v badCount) (unless (leb (d .entry + v) maxEntries) tooManyEntries)
+    (inside 1 16 v badCount (h .0) (h .1))
+    (rw (le-leb (d .entry + v) maxEntries (h .2)))
+no-fault Offset d v h = rw (lt-ltb v (getD (d .config .period) (d .index) 0) h)
+no-fault Task d v h =
+    both (unless (isTask (d .config) v) badField) (unless (sorted d v) unsorted)
+    (ap (λ (t : Bool). unless t badField) (h .0))
+    (ap (λ (t : Bool). unless t unsorted) (h .1))
+no-fault End d v h = refl

@@ -1,0 +1,105 @@
+-- What the crate shows beyond its contracts. Each law stands here in full, over specs/ alone; the modules it cites prove it.
+--
+-- In order: what every reading satisfies, and every accepted value; both round trips; which values the writer accepts; what stands past the counts;
+-- that the fuel of the definitions is enough.
+-- Assumes nothing.
+use Prim.Native.Nat.{ℕ, suc, _+_, _≤_, _<_}
+use mathlib.Core.Path.{_≡_}
+use mathlib.Core.List.{List}
+use mathlib.Core.Logic.{_↔_, _⊎_}
+use native.Mathlib.Omega.{arith}
+use lib.ListN.{length, getD}
+use Rattle.number.specs.Refusal.{none}
+use Rattle.number.specs.Number.{Bytes}
+use Rattle.config.specs.declared.Config.{Config}
+use Rattle.config.specs.declared.ConfigRead.{ConfigRead}
+use Rattle.config.specs.Refusal.{tooLong}
+use Rattle.config.specs.Value.{noConfig}
+use Rattle.config.specs.Meaning.{firstOf}
+use Rattle.config.specs.Draft.{start}
+use Rattle.config.specs.Reader.{accepted, readFrom, readConfig}
+use Rattle.config.specs.Writer.{maxNumbers, faultFrom, firstFault, bytesFrom, configBytes, writeConfig, wroteConfig}
+use Rattle.config.specs.Accepted.{Shaped, Accepted, trimmed}
+use Rattle.config.proofs.Tables as Tables
+use Rattle.config.proofs.Reading as Reading
+use Rattle.config.proofs.RoundTrip as RoundTrip
+use Rattle.config.proofs.Sound as Sound
+use Rattle.config.proofs.Past as Past
+use Rattle.config.proofs.Fuel as Fuel
+
+-- "A refused reader returns an all-zero value with refusal and place"; "An accepted reading has refusal 0 and the place after it",
+-- which is the input's end, and "entries past the counts are 0"
+pub record ConfigReading (bs : List ℕ) (r : ConfigRead) : Type 0 where
+  pub refusals : r .refusal ≤ tooLong
+  pub inside : r .place ≤ length bs
+  pub shaped : Shaped (r .config)
+  pub whole : r .refusal ≡ none → r .place ≡ length bs
+  pub zero-value : (r .refusal ≡ none → ⊥) → r .config ≡ noConfig
+  pub zero-past : r .config ≡ trimmed (r .config)
+
+pub reading : (bs : List ℕ) → ConfigReading bs (readConfig bs)
+reading bs =
+    let b = Reading.bounded bs in
+    record {
+      refusals = b .refusals;
+      inside = b .inside;
+      shaped = RoundTrip.shaped bs;
+      whole = RoundTrip.read-place bs;
+      zero-value = b .zero-value;
+      zero-past = RoundTrip.zero-past bs;
+    }
+
+-- every field of an accepted configuration is in its range
+pub accepted-ranges : (bs : List ℕ) → readConfig bs .refusal ≡ none → Accepted (readConfig bs .config)
+accepted-ranges bs e = RoundTrip.faultless-accepted (readConfig bs .config) (RoundTrip.shaped bs) (RoundTrip.read-faultless bs e)
+
+-- the tests that `Accepted` has of an entry, said with numbers: "Entries rise by offset, then by task, none twice"; its task is one
+pub entries-in-order : (c : Config) → Accepted c → (t e : ℕ) → t < c .tables → firstOf c t ≤ e → e + 1 < firstOf c (suc t)
+    → (getD (c .offset) e 0 < getD (c .offset) (e + 1) 0)
+    ⊎ ((getD (c .offset) e 0 ≡ getD (c .offset) (e + 1) 0) × (getD (c .task) e 0 < getD (c .task) (e + 1) 0))
+entries-in-order c a t e p q r =
+    Tables.rises-true (getD (c .offset) e 0) (getD (c .task) e 0) (getD (c .offset) (e + 1) 0) (getD (c .task) (e + 1) 0) (a .entries-rise t e p q r)
+
+pub entry-of-task : (c : Config) → Accepted c → (e : ℕ) → e < firstOf c (c .tables)
+    → (getD (c .task) e 0 < c .bodies) × (getD (c .kind) (getD (c .task) e 0) 0 ≡ 0)
+entry-of-task c a e h =
+    let p = Tables.isTask-true c (getD (c .task) e 0) (a .entry-task e h) in
+    (p .0, omega (arith, a .kind-known (getD (c .task) e 0) (p .0), p .1))
+
+-- what is written reads back the same, as far as the counts reach
+pub read-written : (c : Config) → Shaped c → firstFault c ≡ none → readConfig (configBytes c) ≡ accepted (trimmed c) (length (configBytes c))
+read-written = RoundTrip.read-written
+
+-- whatever the reader accepts, the writer accepts, and writes it back to the same bytes
+pub written-read : (bs : List ℕ) → Bytes bs → readConfig bs .refusal ≡ none
+    → (firstFault (readConfig bs .config) ≡ none) × (configBytes (readConfig bs .config) ≡ bs)
+written-read bs b e = (RoundTrip.read-faultless bs e, RoundTrip.written-read bs e b)
+
+-- at most 260 numbers of "1 to 5 groups"
+pub length-configBytes : (c : Config) → length (configBytes c) ≤ 1300
+length-configBytes = RoundTrip.few-bytes
+
+-- the bytes of a value without a fault are bytes
+pub configBytes-are-bytes : (c : Config) → firstFault c ≡ none → Bytes (configBytes c)
+configBytes-are-bytes = RoundTrip.configBytes-are-bytes
+
+-- the writer accepts exactly the values whose fields are in their ranges
+pub writer-accepts : (c : Config) → Shaped c → (firstFault c ≡ none) ↔ Accepted c
+writer-accepts c s = (RoundTrip.faultless-accepted c s, Sound.accepted-faultless maxNumbers c s)
+
+-- "entries past the counts are .. ignored by the writer": values that differ only there get the same answer and leave the same output,
+-- refused ones too
+pub past-ignored : (b c : Config) → Shaped b → Shaped c → trimmed b ≡ trimmed c → (n : ℕ) (d : List ℕ)
+    → (writeConfig b n ≡ writeConfig c n) × (wroteConfig b d ≡ wroteConfig c d)
+past-ignored b c sb sc e n d = (Past.same-answer b c sb sc e n, Past.same-output b c sb sc e d)
+
+-- "a number takes at least a byte, so as many as there are bytes are enough" (specs/Reader.antt): more fuel reads the same
+pub readFrom-enough : (bs : List ℕ) (k : ℕ) → length bs ≤ k → readFrom k bs 0 start ≡ readFrom (length bs) bs 0 start
+readFrom-enough = Fuel.readFrom-enough
+
+-- "the most numbers that a configuration has" (specs/Writer.antt): more fuel finds the same fault and, where there is none, writes the same bytes
+pub faultFrom-enough : (c : Config) (k : ℕ) → maxNumbers ≤ k → faultFrom k c start ≡ firstFault c
+faultFrom-enough = Fuel.faultFrom-enough
+
+pub bytesFrom-enough : (c : Config) (k : ℕ) → maxNumbers ≤ k → firstFault c ≡ none → bytesFrom k c start ≡ configBytes c
+bytesFrom-enough = Fuel.bytesFrom-enough

@@ -1,0 +1,24 @@
+-- `autostart_fault` meets its contract, by those of its callees.
+-- Assumes nothing.
+use Rattle.config.specs.Draft.{faultAt}
+use borrow.Author.Needs.{needs}
+use Rattle.config.proofs.numbers.autostart_fault.Statement.{statement}
+use Rattle.config.proofs.numbers.autostart_fault.Tie as tie
+
+element-copy-out-most-autostart : tie.Need-element-copy-out-most-autostart
+element-copy-out-most-autostart c = search needs
+
+most-autostart-requires : tie.Need-most-autostart-requires
+most-autostart-requires c κs = search needs
+
+outside-requires : tie.Need-outside-requires
+outside-requires c κs = search needs
+
+returns : tie.Need-returns
+unfolding faultAt
+returns c = rw (c .outside .ensures, c .before .most-autostart .ensures)
+
+pub autostart-fault-spec : {M : Type 1} → statement M
+autostart-fault-spec =
+    tie.close
+    (tie.spec element-copy-out-most-autostart most-autostart-requires outside-requires returns)

@@ -1,0 +1,26 @@
+-- `offset_fault` meets its contract, by that of its callee.
+-- Assumes nothing.
+use Rattle.config.specs.Draft.{faultAt}
+use borrow.Author.Needs.{needs}
+use Rattle.config.proofs.numbers.offset_fault.Statement.{statement}
+use Rattle.config.proofs.numbers.offset_fault.Tie as tie
+
+mul-unless : tie.Need-mul-unless
+mul-unless c = search needs
+
+element-copy-out-unless : tie.Need-element-copy-out-unless
+element-copy-out-unless c = search needs
+
+cast-unless : tie.Need-cast-unless
+cast-unless c = search needs
+
+unless-requires : tie.Need-unless-requires
+unless-requires c κs = search needs
+
+returns : tie.Need-returns
+unfolding faultAt
+returns c = c .unless .ensures
+
+pub offset-fault-spec : {M : Type 1} → statement M
+offset-fault-spec =
+    tie.close (tie.spec mul-unless element-copy-out-unless cast-unless unless-requires returns)

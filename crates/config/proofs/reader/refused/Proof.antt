@@ -1,0 +1,17 @@
+-- `refused` meets its contract: the all-zero value with the reason.
+-- Assumes nothing.
+use mathlib.Core.Path.{_≡_, ap}
+use Rattle.config.specs.declared.Config.{Config}
+use Rattle.config.specs.declared.ConfigRead.{ConfigRead}
+use borrow.Author.Needs.{needs}
+use Rattle.config.proofs.reader.refused.Statement.{statement}
+use Rattle.config.proofs.reader.refused.Tie as tie
+
+no-config-requires : tie.Need-no-config-requires
+no-config-requires c κs = search needs
+
+returns : tie.Need-returns
+returns c = rw (c .no-config .ensures)
+
+pub refused-spec : {M : Type 1} → statement M
+refused-spec = tie.close (tie.spec no-config-requires returns)

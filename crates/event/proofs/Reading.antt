@@ -1,0 +1,46 @@
+-- The reader's definition, number by number.
+-- Assumes nothing.
+use Prim.Native.Nat.{ℕ, _≤_}
+use mathlib.Core.Path.{_≡_, _∙_}
+use mathlib.Core.Bool.{true, false}
+use mathlib.Core.List.{List}
+use native.Mathlib.Omega.{arith}
+use lib.ListN.{length}
+use borrow.Author.Tests.{eq-eqb, ne-eqb}
+use Rattle.number.specs.declared.NumberRead.{NumberRead}
+use Rattle.number.specs.Refusal.{none}
+use Rattle.number.specs.Number.{readNumber}
+use Rattle.number.proofs.Cases.{by-eq}
+use Rattle.number.proofs.Theorems.{reading}
+use Rattle.event.specs.declared.EventRead.{EventRead}
+use Rattle.event.specs.Event.{known, arguments, refused, unreadable, afterNumber, readArguments, readEvent}
+use Rattle.event.specs.Refusal.{unknownEvent}
+
+-- a number that was read leads on, and one that was refused ends the reading
+module _ (n m : NumberRead) (f : ℕ → ℕ → EventRead) (same : n ≡ m) where
+  pub goes-on : n .refusal ≡ none → afterNumber m f ≡ f (n .value) (n .place)
+  unfolding afterNumber
+  goes-on h = rw (← same) (simp (eq-eqb (n .refusal) none h))
+
+  pub ends : (n .refusal ≡ none → ⊥) → afterNumber m f ≡ unreadable n
+  unfolding afterNumber
+  ends h = rw (← same) (simp (ne-eqb (n .refusal) none h))
+
+-- a number's refusals are few, so that those of a trace fit a byte
+pub few-refusals : (n : NumberRead) (bs : List ℕ) (at : ℕ) → n ≡ readNumber bs at → n .refusal ≤ 2
+few-refusals n bs at e = rw e (reading bs at .refusals)
+
+-- a number that starts within the input has its place within it too, refused or not
+pub number-place-le : (bs : List ℕ) (at : ℕ) → at ≤ length bs → readNumber bs at .place ≤ length bs
+number-place-le bs at h = let r = reading bs at in
+    by-eq (readNumber bs at .refusal) none (r .inside) (λ n. let o = r .own-place n in omega arith)
+
+-- an event whose code was read: its arguments follow, or its code is unknown
+module _ (n : NumberRead) (bs : List ℕ) (at : ℕ) (same : n ≡ readNumber bs at) (read : n .refusal ≡ none) where
+  pub read-known : (code : ℕ) → n .value ≡ code → known code ≡ true → readEvent bs at ≡ readArguments (arguments code) bs code (n .place)
+  unfolding readEvent
+  read-known code e k = goes-on n (readNumber bs at) _ same read ∙ rw (e, k)
+
+  pub read-unknown : known (n .value) ≡ false → readEvent bs at ≡ refused unknownEvent at
+  unfolding readEvent
+  read-unknown k = goes-on n (readNumber bs at) _ same read ∙ rw k

@@ -1,0 +1,11 @@
+-- The laws of the plan. `Theorems` states them; the others prove them.
+pub mod Theorems
+pub mod Stored
+pub mod Words
+pub mod Below
+pub mod Greatest
+pub mod Entry
+pub mod KindRank
+pub mod Ranking
+pub mod Order
+pub mod Made

@@ -1,0 +1,205 @@
+-- What the crate shows beyond its contract, over specs/ alone: what the machine's lookups in a plan give. Callers lean on these laws.
+--
+-- In order: ranks; ranks by body; bodies by rank; the words; ceilings; tables; entries; lengths.
+-- The laws from ranks to entries hold of every accepted configuration. Assumes nothing.
+use Prim.Native.Nat.{ℕ, suc, _-_, _^_, _≤_, _<_}
+use mathlib.Core.Path.{_≡_, ap, _∙_}
+use mathlib.Core.Bool.{true, cond}
+use mathlib.Core.Logic.{_↔_}
+use native.Mathlib.Omega.{arith}
+use native.Mathlib.Nat.{min-eq-left}
+use lib.Dec.{eqb}
+use lib.ListN.{length, getD, take, replicate, length-replicate, length-take, getD-replicate, List·getD-eq-default}
+use lib.Seq.{getD-take}
+use borrow.Author.Tests.{lt-ltb, le-ltb}
+use Rattle.number.proofs.Cases.{by-lt}
+use Rattle.word.specs.Word as Word
+use Rattle.word.specs.Word.{has}
+use Rattle.config.specs.declared.Config.{Config}
+use Rattle.config.specs.Value.{maxBodies, maxResources, maxTables, maxEntries}
+use Rattle.config.specs.Meaning.{isTask, isIsr, priorityOf, ceiling, firstOf, largestOffset}
+use Rattle.config.specs.Accepted.{Accepted, Shaped}
+use Rattle.plan.specs.declared.Plan.{Plan}
+use Rattle.plan.specs.Stored.{stored, listed}
+use Rattle.plan.specs.Rank.{noRank, rankOf, bodyCount, taskRank, lineRank}
+use Rattle.plan.specs.Entry.{tableOf, tableCount, entryCount, firstEntry, compareOf, entryRank}
+use Rattle.plan.specs.Plan.{resourceCount, planOf}
+use Rattle.plan.proofs.Stored.{length-stored, stored-at, stored-past}
+use Rattle.plan.proofs.Words.{marked-has, marked-some, marked-lt}
+use Rattle.plan.proofs.Greatest.{greatestIn-le}
+use Rattle.plan.proofs.Entry.{entriesBefore-le, table-found, table-among}
+use Rattle.plan.proofs.Order as Order
+
+-- a list that is filled from the front has f i at i
+listed-at : (f : ℕ → ℕ) (n m z i d : ℕ) → i < n → i < m → getD (listed f n (replicate m z)) i d ≡ f i
+listed-at f n m z i d h l = stored-at (λ j. j) f n (replicate m z) (λ j k _ _ e. e) i d h (rw length-replicate l)
+
+-- and past what is filled it is as it was
+listed-past : (f : ℕ → ℕ) (n m z i : ℕ) → n ≤ i → getD (listed f n (replicate m z)) i z ≡ z
+listed-past f n m z i h = stored-past (λ j. j) f n (replicate m z) i z (λ j l e. omega arith) ∙ same
+  where
+    same : getD (replicate m z) i z ≡ z
+    same =
+        by-lt i m
+        (λ l. getD-replicate m i z z l)
+        (λ l. List·getD-eq-default (replicate m z) z {n = i} (rw length-replicate l))
+
+module _ (c : Config) (accepted : Accepted c) (shaped : Shaped c) where
+  -- "Bodies are ranked by priority"
+  pub rank-lt : (b : ℕ) → b < c .bodies → rankOf c b < c .bodies
+  rank-lt = Order.rank-lt c accepted shaped
+
+  pub rank-inj : (a b : ℕ) → a < c .bodies → b < c .bodies → rankOf c a ≡ rankOf c b → a ≡ b
+  rank-inj = Order.rank-inj c accepted shaped
+
+  pub rank-order : (a b : ℕ) → a < c .bodies → b < c .bodies → (priorityOf c a < priorityOf c b) ↔ (rankOf c a < rankOf c b)
+  rank-order a b ha hb = (Order.rank-rises c accepted shaped a b ha, Order.rank-order c accepted shaped a b hb)
+
+  -- a body's rank, where it is a task and where it is an ISR; nothing else has one
+  pub task-rank : (b : ℕ) → getD (planOf c .task) b noRank ≡ cond (isTask c b) (rankOf c b) noRank
+  unfolding planOf
+  task-rank b =
+      by-lt b (c .bodies)
+      (λ h. listed-at (taskRank c) (bodyCount c) maxBodies noRank b noRank (rw (Order.all-bodies c accepted shaped) h) (omega (arith, accepted .few-bodies)))
+      (λ h. listed-past (taskRank c) (bodyCount c) maxBodies noRank b (rw (Order.all-bodies c accepted shaped) h) ∙ simp (le-ltb b (c .bodies) h))
+
+  pub line-rank : (b : ℕ) → getD (planOf c .line) b noRank ≡ cond (isIsr c b) (rankOf c b) noRank
+  unfolding planOf
+  line-rank b =
+      by-lt b (c .bodies)
+      (λ h. listed-at (lineRank c) (bodyCount c) maxBodies noRank b noRank (rw (Order.all-bodies c accepted shaped) h) (omega (arith, accepted .few-bodies)))
+      (λ h. listed-past (lineRank c) (bodyCount c) maxBodies noRank b (rw (Order.all-bodies c accepted shaped) h) ∙ simp (le-ltb b (c .bodies) h))
+
+  -- what is stored by rank
+  by-rank : (f : ℕ → ℕ) (b : ℕ) → b < c .bodies → getD (stored (rankOf c) f (bodyCount c) (replicate maxBodies 0)) (rankOf c b) 0 ≡ f b
+  by-rank f b h =
+      rw (Order.all-bodies c accepted shaped)
+      (stored-at (rankOf c) f (c .bodies) (replicate maxBodies 0) rank-inj b 0 h (rw length-replicate (omega (arith, rank-lt b h, accepted .few-bodies))))
+
+  pub rank-priority : (b : ℕ) → b < c .bodies → getD (planOf c .priority) (rankOf c b) 0 ≡ priorityOf c b
+  unfolding planOf
+  rank-priority = by-rank (priorityOf c)
+
+  pub rank-body : (b : ℕ) → b < c .bodies → getD (planOf c .body) (rankOf c b) 0 ≡ b
+  unfolding planOf
+  rank-body = by-rank (λ b. b)
+
+  rank-small : (b : ℕ) → b < c .bodies → rankOf c b < Word.ranks
+  rank-small b h = omega (arith, rank-lt b h, accepted .few-bodies)
+
+  -- the word of the ISRs, and that of the tasks that are ready at the fresh start
+  pub rank-isr : (b : ℕ) → b < c .bodies → has (planOf c .isrs) (rankOf c b) ≡ isIsr c b
+  unfolding planOf
+  rank-isr b h =
+      rw (Order.all-bodies c accepted shaped, lt-ltb b (c .bodies) h)
+      (marked-has (rankOf c) (λ i. getD (c .kind) i 0) (c .bodies) rank-inj rank-small b h)
+
+  pub rank-autostart : (b : ℕ) → b < c .bodies → has (planOf c .autostart) (rankOf c b) ≡ eqb (getD (c .autostart) b 0) 1
+  unfolding planOf
+  rank-autostart b h =
+      rw (Order.all-bodies c accepted shaped)
+      (marked-has (rankOf c) (λ i. getD (c .autostart) i 0) (c .bodies) rank-inj rank-small b h)
+
+  -- every rank in them is some body's
+  pub isrs-body : (r : ℕ) → has (planOf c .isrs) r ≡ true → (b : ℕ) × (b < c .bodies) × (rankOf c b ≡ r)
+  unfolding planOf
+  isrs-body r e = marked-some (rankOf c) (λ i. getD (c .kind) i 0) (c .bodies) r (rw (Order.all-bodies c accepted shaped) at e)
+
+  pub autostart-body : (r : ℕ) → has (planOf c .autostart) r ≡ true → (b : ℕ) × (b < c .bodies) × (rankOf c b ≡ r)
+  unfolding planOf
+  autostart-body r e = marked-some (rankOf c) (λ i. getD (c .autostart) i 0) (c .bodies) r (rw (Order.all-bodies c accepted shaped) at e)
+
+  -- a resource's ceiling
+  pub resource-ceiling : (r : ℕ) → r < c .resources → getD (planOf c .ceiling) r 0 ≡ ceiling c r
+  unfolding planOf
+  resource-ceiling r h =
+      listed-at (ceiling c) (resourceCount c) maxResources 0 r 0 (omega (arith, accepted .few-resources)) (omega (arith, accepted .few-resources))
+
+  pub ceiling-le : (r : ℕ) → ceiling c r ≤ 200
+  ceiling-le r = greatestIn-le (getD (c .users) r 0) 200 (take (c .bodies) (c .priority)) each
+    where
+      each : (b : ℕ) → b < length (take (c .bodies) (c .priority)) → getD (take (c .bodies) (c .priority)) b 0 ≤ 200
+      each b h =
+          let l : b < c .bodies = omega (arith, length-take (c .bodies) (c .priority)) in
+          rw (getD-take (c .bodies) (c .priority) b 0 l) (accepted .priority-high b l)
+
+  -- a table's first entry, and its largest offset
+  first-le : (t : ℕ) → t ≤ c .tables → firstOf c t ≤ firstOf c (c .tables)
+  first-le t h = entriesBefore-le (c .entries) t (c .tables) h (omega (arith, accepted .few-tables, shaped .counts))
+
+  pub table-first : (t : ℕ) → t < c .tables → getD (planOf c .first) t 0 ≡ firstOf c t
+  unfolding planOf
+  table-first t h =
+      listed-at (firstEntry c) (tableCount c) maxTables 0 t 0 (omega (arith, accepted .few-tables)) (omega (arith, accepted .few-tables))
+      ∙ min-eq-left (omega (arith, first-le t (omega arith), accepted .few-entries))
+
+  pub table-largest : (t : ℕ) → t < c .tables → getD (planOf c .largest) t 0 ≡ largestOffset c t
+  unfolding planOf
+  table-largest t h =
+      listed-at (largestOffset c) (tableCount c) maxTables 0 t 0 (omega (arith, accepted .few-tables)) (omega (arith, accepted .few-tables))
+
+  -- how many entries there are in all
+  pub entry-count : planOf c .count ≡ firstOf c (c .tables)
+  unfolding planOf
+  entry-count = rw (min-eq-left (accepted .few-tables)) (min-eq-left (accepted .few-entries))
+
+  pub entry-count-le : planOf c .count ≤ maxEntries
+  entry-count-le = omega (arith, entry-count, accepted .few-entries)
+
+  -- an entry's table is the one whose entries it is among
+  pub entry-table : (e : ℕ) → e < planOf c .count → (tableOf c e < c .tables) × (firstOf c (tableOf c e) ≤ e) × (e < firstOf c (suc (tableOf c e)))
+  entry-table e h = table-among (c .entries) (c .tables) e (omega (arith, entry-count))
+
+  counted : (e : ℕ) → e < planOf c .count → e < entryCount c
+  unfolding planOf
+  counted e h = h
+
+  -- "Compare value: period P minus 1"
+  pub entry-compare : (t e : ℕ) → t < c .tables → firstOf c t ≤ e → e < firstOf c (suc t) → getD (planOf c .compare) e 0 ≡ getD (c .period) t 0 - 1
+  unfolding planOf
+  entry-compare t e h lo hi =
+      let inside : e < firstOf c (c .tables) = omega (arith, first-le (suc t) (omega arith)) in
+      listed-at (compareOf c) (entryCount c) maxEntries 0 e 0 (counted e (omega (arith, entry-count))) (omega (arith, accepted .few-entries))
+      ∙ ap (λ k. getD (c .period) k 0 - 1) (table-found (c .entries) t e (omega (arith, accepted .few-tables, shaped .counts)) lo hi)
+
+  -- the rank of an entry's task
+  looked-up : (e : ℕ) → e < planOf c .count → getD (planOf c .entry) e 0 ≡ getD (planOf c .task) (getD (c .task) e 0) noRank
+  unfolding planOf
+  looked-up e h = listed-at (entryRank c) (entryCount c) maxEntries 0 e 0 (counted e h) (omega arith)
+
+  pub entry-rank : (e : ℕ) → e < planOf c .count → getD (planOf c .entry) e 0 ≡ rankOf c (getD (c .task) e 0)
+  entry-rank e h =
+      looked-up e h ∙ task-rank (getD (c .task) e 0) ∙ rw (accepted .entry-task e (omega (arith, entry-count)))
+
+-- the lengths of the lists, and the size of the words, of whatever configuration
+pub record Sized (p : Plan) : Type 0 where
+  pub tasks : length (p .task) ≡ maxBodies
+  pub lines : length (p .line) ≡ maxBodies
+  pub priorities : length (p .priority) ≡ maxBodies
+  pub bodies : length (p .body) ≡ maxBodies
+  pub isrs-lt : p .isrs < 2 ^ Word.ranks
+  pub autostart-lt : p .autostart < 2 ^ Word.ranks
+  pub ceilings : length (p .ceiling) ≡ maxResources
+  pub firsts : length (p .first) ≡ maxTables
+  pub largests : length (p .largest) ≡ maxTables
+  pub compares : length (p .compare) ≡ maxEntries
+  pub entries : length (p .entry) ≡ maxEntries
+  pub count-le : p .count ≤ maxEntries
+
+pub plan-sized : (c : Config) → Sized (planOf c)
+unfolding planOf
+plan-sized c =
+    record {
+      tasks = simp length-stored;
+      lines = simp length-stored;
+      priorities = simp length-stored;
+      bodies = simp length-stored;
+      isrs-lt = marked-lt (rankOf c) (λ b. getD (c .kind) b 0) (bodyCount c);
+      autostart-lt = marked-lt (rankOf c) (λ b. getD (c .autostart) b 0) (bodyCount c);
+      ceilings = simp length-stored;
+      firsts = simp length-stored;
+      largests = simp length-stored;
+      compares = simp length-stored;
+      entries = simp length-stored;
+      count-le = omega arith;
+    }

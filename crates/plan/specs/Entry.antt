@@ -1,0 +1,48 @@
+-- The entries of all tables, one after the other: which table an entry is of, and what is kept for each table and entry.
+-- Assumes nothing.
+use Prim.Native.Nat.{ℕ, suc, _-_, min, max}
+use mathlib.Core.Bool.{cond}
+use mathlib.Core.List.{List, [], _∷_, foldr}
+use lib.Dec.{ltb}
+use lib.ListN.{getD, take, drop}
+use Rattle.config.specs.declared.Config.{Config}
+use Rattle.config.specs.Value.{maxTables, maxEntries}
+use Rattle.config.specs.Meaning.{entriesBefore}
+use Rattle.plan.specs.Rank.{noRank, taskRanks}
+
+-- the table of the e-th entry, where the tables have as many entries as the list says
+unfoldable pub tableIn : List ℕ → ℕ → ℕ
+tableIn [] e = 0
+tableIn (n ∷ ns) e = cond (ltb e n) 0 (suc (tableIn ns (e - n)))
+
+-- a table's first entry: no more than the arrays hold, whatever the value says
+abbrev pub firstIn : List ℕ → ℕ → ℕ
+firstIn ns t = min (entriesBefore ns t) maxEntries
+
+-- the largest of a table's offsets
+abbrev pub largestIn : List ℕ → List ℕ → ℕ → ℕ
+largestIn ns os t = foldr max 0 (take (getD ns t 0) (drop (entriesBefore ns t) os))
+
+-- "Compare value: period P minus 1"
+abbrev pub compareIn : List ℕ → List ℕ → ℕ → ℕ
+compareIn ns ps e = getD ps (tableIn ns e) 0 - 1
+
+abbrev pub tableOf : Config → ℕ → ℕ
+tableOf c e = tableIn (c .entries) e
+
+-- how many tables and how many entries there are: no more than the arrays hold, whatever the value says
+abbrev pub tableCount : Config → ℕ
+tableCount c = min (c .tables) maxTables
+
+abbrev pub entryCount : Config → ℕ
+entryCount c = firstIn (c .entries) (tableCount c)
+
+abbrev pub firstEntry : Config → ℕ → ℕ
+firstEntry c = firstIn (c .entries)
+
+abbrev pub compareOf : Config → ℕ → ℕ
+compareOf c = compareIn (c .entries) (c .period)
+
+-- the rank of the entry's task
+abbrev pub entryRank : Config → ℕ → ℕ
+entryRank c e = getD (taskRanks c) (getD (c .task) e 0) noRank

@@ -1,0 +1,99 @@
+// The static tables that the machine's events look up, derived once from a configuration.
+mod bodies;
+mod entries;
+mod resources;
+
+use config::Config;
+ghost use mathlib.Core.Path.{_≡_};
+ghost use Prim.Native.Nat.{min};
+ghost use Rattle.plan.specs.Plan.{planOf};
+
+// The rank of whatever has none.
+pub const NO_RANK: u8 = 255;
+
+const MAX_BODIES: usize = 32;
+
+const MAX_RESOURCES: usize = 16;
+
+const MAX_TABLES: usize = 8;
+
+const MAX_ENTRIES: usize = 64;
+
+// What the machine looks up: bodies by rank, ranks by body, and what is fixed of resources, tables and entries.
+// A rank is a body's place in the order of priorities, 0 the lowest.
+pub struct Plan {
+    // By body its rank where it is a task, and where it is an ISR; else NO_RANK.
+    pub task: [u8; 32],
+    pub line: [u8; 32],
+    // By rank the priority and the body's number.
+    pub priority: [u8; 32],
+    pub body: [u8; 32],
+    // The words of the ranks that are ISRs, and of those of autostart tasks.
+    pub isrs: u32,
+    pub autostart: u32,
+    // By resource.
+    pub ceiling: [u8; 16],
+    // By table its first entry and its largest offset.
+    pub first: [u8; 8],
+    pub largest: [u16; 8],
+    // By entry its cell's compare value and the rank of its task.
+    pub compare: [u16; 64],
+    pub entry: [u8; 64],
+    // How many entries there are in all.
+    pub count: usize,
+}
+
+impl Plan {
+    pub fn of(config: Config) -> Plan
+        ensures { λ r. ⌜ r ≡ planOf config ⌝ }
+    {
+        let kind = config.kind;
+        let priority = config.priority;
+        let flags = config.autostart;
+        let users = config.users;
+        let counts = config.entries;
+        let offset = config.offset;
+        let period = config.period;
+        let tasks = config.task;
+        let n = at_most(config.bodies as usize, MAX_BODIES);
+        let by = bodies::ranks(priority, n);
+        let kinds = bodies::by_kind(kind, by, n);
+        let ranked = bodies::by_rank(priority, by, n);
+        let isrs = bodies::marked(kind, by, n);
+        let autostart = bodies::marked(flags, by, n);
+        let some = at_most(config.resources as usize, MAX_RESOURCES);
+        let ceiling = resources::ceilings(users, some, priority, n);
+        let tables = at_most(config.tables as usize, MAX_TABLES);
+        let table = entries::by_table(counts, offset, tables);
+        let count = table.count;
+        let compare = entries::compares(counts, period, count);
+        let task = kinds.task;
+        let entry = entries::entry_ranks(tasks, task, count);
+        let line = kinds.line;
+        let level = ranked.priority;
+        let body = ranked.body;
+        let first = table.first;
+        let largest = table.largest;
+        Plan {
+            task,
+            line,
+            priority: level,
+            body,
+            isrs,
+            autostart,
+            ceiling,
+            first,
+            largest,
+            compare,
+            entry,
+            count,
+        }
+    }
+}
+
+// A count, but no more than the arrays hold.
+fn at_most(n: usize, most: usize) -> usize
+    ensures { λ r. ⌜ r ≡ min n most ⌝ }
+{
+    if n < most { n } else { most }
+}

@@ -1,0 +1,179 @@
+-- What an event leaves as it was.
+--
+-- In order: a change of one body leaves the others and the tables; an event is a call or a Tick (`step-elim`); no event adds a body or a
+-- table; no call changes a loss. Assumes nothing.
+use Prim.Native.Nat.{ℕ, _<_}
+use mathlib.Core.Path.{_≡_, refl, sym, ap, _∙_}
+use mathlib.Core.Bool.{Bool, true, false, cond}
+use mathlib.Core.List.{List, [], _∷_, _++_, map}
+use mathlib.Core.Logic.{_≢_}
+use lib.Dec.{eqb}
+use lib.ListN.{length, length-set, length-map, length-replicate, take, replicate}
+use lib.Seq.{getD-set-same, getD-set-other, map-set-same}
+use Rattle.config.specs.declared.Config.{Config}
+use Rattle.scheduler.specs.Status.{done}
+use Rattle.scheduler.specs.Body.{isStarted, Body, ready, started, become, finished, requested, takes, gives-back, activatedByEntry}
+use Rattle.scheduler.specs.State.{State, Table, stopped, noBody, bodyOf, changing, withTable, runner}
+use Rattle.scheduler.specs.Call.{caller, activateStatus, activate, finishStatus, finish, chainStatus, chain, getStatus, get, releaseStatus, release, lineStatus, line, startStatus, start, stopStatus, stop}
+use Rattle.scheduler.specs.Tick.{counting, counted, activatingDue, dues, ticked}
+use Rattle.scheduler.specs.Scheduler.{Event, Activate, Finish, Chain, Get, Release, Tick, Line, Start, Stop, Nothing, begins, dispatched, lossesOf, newBody, Stepped, attempt, step, fresh, after}
+
+module _ (i : ℕ) (f : Body → Body) (s : State) where
+  pub bodyOf-changing-same : i < length (s .bodies) → bodyOf (changing i f s) i ≡ f (bodyOf s i)
+  bodyOf-changing-same h = getD-set-same (s .bodies) i (f (bodyOf s i)) noBody h
+
+  pub bodyOf-changing-other : (j : ℕ) → j ≢ i → bodyOf (changing i f s) j ≡ bodyOf s j
+  bodyOf-changing-other j d = getD-set-other (s .bodies) i j (f (bodyOf s i)) noBody d
+
+  pub length-changing : length (changing i f s .bodies) ≡ length (s .bodies)
+  length-changing = length-set (s .bodies) i (f (bodyOf s i))
+
+  pub tables-changing : changing i f s .tables ≡ s .tables
+  tables-changing = refl
+
+abbrev pub KeepsLosses : (Body → Body) → Type 0
+KeepsLosses f = (b : Body) → f b .losses ≡ b .losses
+
+requested-losses : KeepsLosses requested
+requested-losses b = go (isStarted (b .phase))
+  where
+    go : (p : Bool)
+        → cond p (record { phase = started; waiting = true; held = b .held; losses = b .losses }) (become ready b) .losses
+        ≡ b .losses
+    go true = refl
+    go false = refl
+
+-- what a call may do to the state s where its status is 0
+pub data Effect (s : State) : State → Type 0 where
+  none : Effect s s
+  one-body : (i : ℕ) (f : Body → Body) → KeepsLosses f → Effect s (changing i f s)
+  two-bodies : (i j : ℕ) (f g : Body → Body) → KeepsLosses f → KeepsLosses g → Effect s (changing j g (changing i f s))
+  one-table : (t : ℕ) (x : Table) → Effect s (withTable t x s)
+
+-- an event is a call, of which "only 0 changes anything", or a Tick
+pub step-elim : (c : Config) (s : State) (P : Event → Stepped → Type 0)
+    → ((e : Event) (st : ℕ) (s′ : State) → Effect s s′ → P e (attempt c s st s′))
+    → P Tick (step c s Tick)
+    → (e : Event)
+    → P e (step c s e)
+unfolding step
+step-elim c s P call tick (Activate t) =
+    call (Activate t) (activateStatus c s t) (activate t s) (one-body t (become ready) (λ b. refl))
+step-elim c s P call tick Finish = call Finish (finishStatus c s) (finish c s) (one-body (caller c s) finished (λ b. refl))
+step-elim c s P call tick (Chain t) =
+    call (Chain t) (chainStatus c s t) (chain c t s)
+    (two-bodies (caller c s) t finished (become ready) (λ b. refl) (λ b. refl))
+step-elim c s P call tick (Get r) = call (Get r) (getStatus c s r) (get c r s) (one-body (caller c s) (takes r) (λ b. refl))
+step-elim c s P call tick (Release r) =
+    call (Release r) (releaseStatus c s r) (release c s) (one-body (caller c s) gives-back (λ b. refl))
+step-elim c s P call tick Tick = tick
+step-elim c s P call tick (Line i) = call (Line i) (lineStatus c s i) (line i s) (one-body i requested requested-losses)
+step-elim c s P call tick (Start t d) = call (Start t d) (startStatus c s t d) (start t d s) (one-table t _)
+step-elim c s P call tick (Stop t) = call (Stop t) (stopStatus c s t) (stop t s) (one-table t _)
+step-elim c s P call tick Nothing = call Nothing done s none
+
+pub cond-either : (P : State → Type 0) (b : Bool) (x y : State) → P x → P y → P (cond b x y)
+cond-either P true x y p q = p
+cond-either P false x y p q = q
+
+-- what every change of a body keeps
+module _ (P : State → Type 0) (on-body : (i : ℕ) (f : Body → Body) (s : State) → P s → P (changing i f s)) where
+  pub activatingDue-keeps : (ds : List Bool) (ts : List ℕ) (s : State) → P s → P (activatingDue ds ts s)
+  unfolding activatingDue
+  activatingDue-keeps [] ts s p = p
+  activatingDue-keeps (true ∷ ds) [] s p = p
+  activatingDue-keeps (false ∷ ds) [] s p = p
+  activatingDue-keeps (true ∷ ds) (t ∷ ts) s p = activatingDue-keeps ds ts (changing t activatedByEntry s) (on-body t activatedByEntry s p)
+  activatingDue-keeps (false ∷ ds) (t ∷ ts) s p = activatingDue-keeps ds ts s p
+
+  pub dispatched-keeps : (c : Config) (s : State) → P s → P (dispatched c s)
+  dispatched-keeps c s p = cond-either P (begins (runner c s)) _ s (on-body (runner c s .number) (become started) s p) p
+
+  -- what the changes of a table and their counting keep too
+  pub step-keeps : ((t : ℕ) (x : Table) (s : State) → P s → P (withTable t x s)) → ((s : State) → P s → P (counted s)) → (c : Config) (s : State)
+      → P s
+      → (e : Event)
+      → P (step c s e .state)
+  unfolding step
+  step-keeps on-table on-counted c s p =
+      step-elim c s (λ e x. P (x .state))
+      (λ e st s′ f. dispatched-keeps c _ (cond-either P (eqb st done) s′ s (effect f) p))
+      (dispatched-keeps c (ticked c s) (activatingDue-keeps (dues c (counted s)) (c .task) (counted s) (on-counted s p)))
+    where
+      effect : {s′ : State} → Effect s s′ → P s′
+      effect none = p
+      effect (one-body i f k) = on-body i f s p
+      effect (two-bodies i j f g k l) = on-body j g (changing i f s) (on-body i f s p)
+      effect (one-table t x) = on-table t x s p
+
+-- no event adds or takes away a body or a table
+module _ (c : Config) where
+  pub length-bodies-step : (s : State) (e : Event) → length (step c s e .state .bodies) ≡ length (s .bodies)
+  length-bodies-step s =
+      step-keeps (λ x. length (x .bodies) ≡ length (s .bodies))
+      (λ i f x h. length-changing i f x ∙ h)
+      (λ t y x h. h)
+      (λ x h. h)
+      c
+      s
+      refl
+
+  pub length-tables-step : (s : State) (e : Event) → length (step c s e .state .tables) ≡ length (s .tables)
+  length-tables-step s =
+      step-keeps (λ x. length (x .tables) ≡ length (s .tables))
+      (λ i f x h. h)
+      (λ t y x h. length-set (x .tables) t y ∙ h)
+      (λ x h. length-map (x .tables) counting ∙ h)
+      c
+      s
+      refl
+
+  pub tables-dispatched : (s : State) → dispatched c s .tables ≡ s .tables
+  tables-dispatched s = dispatched-keeps (λ x. x .tables ≡ s .tables) (λ i f x h. h) c s refl
+
+  pub tables-ticked : (s : State) → ticked c s .tables ≡ map counting (s .tables)
+  tables-ticked s =
+      activatingDue-keeps (λ x. x .tables ≡ map counting (s .tables)) (λ i f x h. h) (dues c (counted s)) (c .task) (counted s) refl
+
+  pub tables-fresh : fresh c .tables ≡ replicate (c .tables) stopped
+  tables-fresh = tables-dispatched (record { bodies = map newBody (take (c .bodies) (c .autostart)); tables = replicate (c .tables) stopped })
+
+  pub length-tables-fresh : length (fresh c .tables) ≡ c .tables
+  length-tables-fresh = ap length tables-fresh ∙ length-replicate (c .tables) stopped
+
+-- losses come from due entries only: no call changes one
+module _ (c : Config) where
+  losses-changing : (i : ℕ) (f : Body → Body) (s : State) → KeepsLosses f → lossesOf (changing i f s) ≡ lossesOf s
+  losses-changing i f s k = map-set-same (λ b. b .losses) (s .bodies) i (f (bodyOf s i)) noBody (k (bodyOf s i))
+
+  losses-dispatched : (s : State) → lossesOf (dispatched c s) ≡ lossesOf s
+  losses-dispatched s =
+      cond-either (λ x. lossesOf x ≡ lossesOf s) (begins (runner c s)) _ s
+      (losses-changing (runner c s .number) (become started) s (λ b. refl))
+      refl
+
+  pub losses-call : (s : State) (e : Event) → e ≢ Tick → lossesOf (step c s e .state) ≡ lossesOf s
+  losses-call s =
+      step-elim c s (λ e x. e ≢ Tick → lossesOf (x .state) ≡ lossesOf s)
+      (λ e st s′ f d. losses-dispatched (cond (eqb st done) s′ s) ∙ cond-either (λ x. lossesOf x ≡ lossesOf s) (eqb st done) s′ s (effect f) refl)
+      (λ d. absurd (d refl))
+    where
+      effect : {s′ : State} → Effect s s′ → lossesOf s′ ≡ lossesOf s
+      effect none = refl
+      effect (one-body i f k) = losses-changing i f s k
+      effect (two-bodies i j f g k l) = losses-changing j g (changing i f s) l ∙ losses-changing i f s k
+      effect (one-table t x) = refl
+
+  -- the losses that are seen are those of the state after the event
+  pub losses-seen : (s : State) (e : Event) → step c s e .seen .losses ≡ lossesOf (step c s e .state)
+  unfolding step
+  losses-seen s =
+      step-elim c s (λ e x. x .seen .losses ≡ lossesOf (x .state))
+      (λ e st s′ f. sym (losses-dispatched (cond (eqb st done) s′ s)))
+      (sym (losses-dispatched (ticked c s)))
+
+-- the state after two lists of events, one after the other
+pub after-append : (c : Config) (es fs : List Event) (s : State) → after c s (es ++ fs) ≡ after c (after c s es) fs
+unfolding after
+after-append c [] fs s = refl
+after-append c (e ∷ es) fs s = after-append c es fs (step c s e .state)

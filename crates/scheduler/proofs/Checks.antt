@@ -1,0 +1,106 @@
+-- A call that is accepted has passed each of its checks, "in order": what each accepted call tells of the state that it meets.
+-- Assumes nothing.
+use Prim.Native.Nat.{ℕ, _+_, _≤_, _<_}
+use mathlib.Core.Path.{_≡_, refl}
+use mathlib.Core.Bool.{Bool, true, false, true≢false, not, _&&_, _||_, and-true}
+use mathlib.Core.List.{List, [], _∷_}
+use mathlib.Core.Logic.{_≢_}
+use native.Mathlib.Omega.{arith}
+use borrow.Author.Tests.{leb-false, ltb-false, eqb-false, ne-eqb, not-false}
+use lib.Dec.{ltb, eqb}
+use Rattle.config.specs.declared.Config.{Config}
+use Rattle.config.specs.Meaning.{isTask, isIsr, priorityOf, ceiling, largestOffset}
+use Rattle.scheduler.specs.Status.{Check, done, firstOf}
+use Rattle.scheduler.specs.Body.{Phase, suspended, ready, started, isSuspended}
+use Rattle.scheduler.specs.State.{State, isRunning, bodyOf, tableOf, heldIn}
+use Rattle.scheduler.specs.Call.{nobodyRuns, caller, calling, holds, active, latestIs, requestWaits, activateStatus, finishStatus, chainStatus, getStatus, releaseStatus, lineStatus, longestDelay, startStatus, stopStatus}
+
+-- none of the checks gives status 0; none of them fails
+abbrev Refusing : List Check → Type 0
+Refusing [] = Unit {0}
+Refusing (k ∷ ks) = (k .status ≢ done) × Refusing ks
+
+abbrev Passed : List Check → Type 0
+Passed [] = Unit {0}
+Passed (k ∷ ks) = (k .fails ≡ false) × Passed ks
+
+all-passed : (ks : List Check) → Refusing ks → firstOf ks ≡ done → Passed ks
+unfolding firstOf
+all-passed [] r e = tt
+all-passed (k ∷ ks) r e = go (k .fails) refl (all-passed ks (r .1))
+  where
+    go : (b : Bool) → k .fails ≡ b → (firstOf ks ≡ done → Passed ks) → Passed (k ∷ ks)
+    go true q rest = absurd (r .0 (rw q at e))
+    go false q rest = (q, rest (rw q at e))
+
+neither : (a b : Bool) → (a || b) ≡ false → (a ≡ false) × (b ≡ false)
+neither true b e = absurd (true≢false e)
+neither false b e = (refl, e)
+
+inactive : (s : State) (t : ℕ) → active s t ≡ false → bodyOf s t .phase ≡ suspended
+inactive s t e = go (bodyOf s t .phase) e
+  where
+    go : (p : Phase) → not (isSuspended p) ≡ false → p ≡ suspended
+    go suspended e = refl
+    go ready e = absurd (true≢false e)
+    go started e = absurd (true≢false e)
+
+module _ (c : Config) (s : State) where
+  -- somebody runs, and t is a suspended task
+  pub activate-passed : (t : ℕ) → activateStatus c s t ≡ done → (nobodyRuns c s ≡ false) × (isTask c t ≡ true) × (bodyOf s t .phase ≡ suspended)
+  activate-passed t e =
+      let p = all-passed _ (omega arith) e in
+      (p .0, not-false (isTask c t) (p .1 .0), inactive s t (p .1 .1 .0))
+
+  -- the runner holds no resource
+  pub finish-passed : finishStatus c s ≡ done → (nobodyRuns c s ≡ false) × (holds (calling c s .held) ≡ false)
+  finish-passed e =
+      let p = all-passed _ (omega arith) e in
+      (p .0, p .1 .0)
+
+  -- the runner is a task that holds no resource, and t is a task that is suspended, or the runner itself
+  pub chain-passed : (t : ℕ) → chainStatus c s t ≡ done
+      → (nobodyRuns c s ≡ false) × (isIsr c (caller c s) ≡ false) × (isTask c t ≡ true) × (holds (calling c s .held) ≡ false)
+      × (t ≢ caller c s → bodyOf s t .phase ≡ suspended)
+  chain-passed t e =
+      let p = all-passed _ (omega arith) e in
+      let q = neither (nobodyRuns c s) (isIsr c (caller c s)) (p .0) in
+      (q .0, q .1, not-false (isTask c t) (p .1 .0), p .1 .1 .0, λ d. inactive s t (other d (p .1 .1 .1 .0)))
+    where
+      other : t ≢ caller c s → (active s t && not (eqb t (caller c s))) ≡ false → active s t ≡ false
+      other d h = rw (ne-eqb t (caller c s) d, and-true) at h
+
+  -- nobody holds r, and the runner's own priority is at most its ceiling
+  pub get-passed : (r : ℕ) → getStatus c s r ≡ done
+      → (nobodyRuns c s ≡ false) × (r < c .resources) × (heldIn r (s .bodies) ≡ false) × (priorityOf c (caller c s) ≤ ceiling c r)
+  get-passed r e =
+      let p = all-passed _ (omega arith) e in
+      let q = neither (heldIn r (s .bodies)) (ltb (ceiling c r) (priorityOf c (caller c s))) (p .1 .1 .0) in
+      (p .0, leb-false (c .resources) r (p .1 .0), q .0, ltb-false (ceiling c r) (priorityOf c (caller c s)) (q .1))
+
+  -- r is the one that the runner took last
+  pub release-passed : (r : ℕ) → releaseStatus c s r ≡ done
+      → (nobodyRuns c s ≡ false) × (r < c .resources) × (latestIs r (calling c s .held) ≡ true)
+  release-passed r e =
+      let p = all-passed _ (omega arith) e in
+      (p .0, leb-false (c .resources) r (p .1 .0), not-false (latestIs r (calling c s .held)) (p .1 .1 .0))
+
+  -- i is an ISR of which no request waits
+  pub line-passed : (i : ℕ) → lineStatus c s i ≡ done → (isIsr c i ≡ true) × (requestWaits (bodyOf s i) (bodyOf s i .phase) ≡ false)
+  line-passed i e =
+      let p = all-passed _ (omega arith) e in
+      (not-false (isIsr c i) (p .0), p .1 .0)
+
+  -- t is a table that doesn't run, and the delays fit
+  pub start-passed : (t d : ℕ) → startStatus c s t d ≡ done
+      → (nobodyRuns c s ≡ false) × (t < c .tables) × (d ≢ 0) × (d + largestOffset c t ≤ longestDelay) × (isRunning (tableOf s t) ≡ false)
+  start-passed t d e =
+      let p = all-passed _ (omega arith) e in
+      let q = neither (eqb d 0) (ltb longestDelay (d + largestOffset c t)) (p .1 .1 .0) in
+      (p .0, leb-false (c .tables) t (p .1 .0), eqb-false d 0 (q .0), ltb-false longestDelay (d + largestOffset c t) (q .1), p .1 .1 .1 .0)
+
+  -- t is a table that runs
+  pub stop-passed : (t : ℕ) → stopStatus c s t ≡ done → (nobodyRuns c s ≡ false) × (t < c .tables) × (isRunning (tableOf s t) ≡ true)
+  stop-passed t e =
+      let p = all-passed _ (omega arith) e in
+      (p .0, leb-false (c .tables) t (p .1 .0), not-false (isRunning (tableOf s t)) (p .1 .1 .0))

@@ -1,0 +1,9 @@
+-- The laws of the plain scheduler. `Theorems` is the file to read; the agreement of machine and scheduler also cites the modules below it.
+-- `Listing` is document 01's listing.
+pub mod Theorems
+pub mod Listing
+pub mod Choosing
+pub mod Checks
+pub mod Changing
+pub mod Refusals
+pub mod Tables

@@ -1,0 +1,112 @@
+-- What holds of the plain scheduler. Each law stands here in full, over specs/ alone; the modules it cites prove it.
+--
+-- In order: who runs; that a refused call changes nothing; what an accepted Activate finds; where losses come from; that d and n are
+-- counted as demand 3 says. `Choosing` and `Checks` have more of who is chosen and of what an accepted call finds.
+-- Assumes nothing.
+use Prim.Native.Nat.{ℕ, _≤_, _<_, max}
+use mathlib.Core.Path.{_≡_, ap}
+use mathlib.Core.Bool.{true, false}
+use mathlib.Core.List.{List, _∷_, _++_}
+use mathlib.Core.Logic.{_≢_, _↔_}
+use lib.ListN.{length}
+use Rattle.config.specs.declared.Config.{Config}
+use Rattle.config.specs.Meaning.{priorityOf, ceiling}
+use Rattle.scheduler.specs.Status.{done}
+use Rattle.scheduler.specs.Body.{Body, suspended, isSuspended, isStarted, current, takes, gives-back}
+use Rattle.scheduler.specs.Choice.{Candidate, nobody, isNobody, candidate, goesBefore}
+use Rattle.scheduler.specs.State.{State, Table, stopped, running, bodyOf, tableOf, runner}
+use Rattle.scheduler.specs.Scheduler.{Event, Activate, Tick, Start, Stop, begins, dispatched, lossesOf, step, fresh, after}
+use Rattle.scheduler.specs.History.{Accepted, next, NoStart, NoStop, ticksIn, History}
+use Rattle.scheduler.proofs.Choosing as Choosing
+use Rattle.scheduler.proofs.Checks as Checks
+use Rattle.scheduler.proofs.Changing as Changing
+use Rattle.scheduler.proofs.Refusals as Refusals
+use Rattle.scheduler.proofs.Tables as Tables
+
+-- what the body k is to the choice
+abbrev pub candidateOf : Config → State → ℕ → Candidate
+candidateOf c s k = candidate c k (bodyOf s k) (bodyOf s k .phase)
+
+-- "the body with the greatest current priority among ready and started ones runs; on equal priorities the one that already began"
+pub runner-greatest : (c : Config) (s : State) (k : ℕ) → isSuspended (bodyOf s k .phase) ≡ false → current c k (bodyOf s k) ≤ runner c s .level
+runner-greatest c s = Choosing.chosen-greatest c (s .bodies)
+
+pub runner-began : (c : Config) (s : State) (k : ℕ) → isSuspended (bodyOf s k .phase) ≡ false → isStarted (bodyOf s k .phase) ≡ true
+    → current c k (bodyOf s k) ≡ runner c s .level
+    → runner c s .began ≡ true
+runner-began c s = Choosing.chosen-began c (s .bodies)
+
+-- so one that goes before every other runs
+pub runner-best : (c : Config) (s : State) (k : ℕ) → isNobody (candidateOf c s k) ≡ false
+    → ((i : ℕ) → i < length (s .bodies) → i ≢ k → isSuspended (bodyOf s i .phase) ≡ false → goesBefore (candidateOf c s k) (candidateOf c s i) ≡ true)
+    → runner c s ≡ candidateOf c s k
+runner-best c s = Choosing.chosen-best c (s .bodies)
+
+-- and nobody runs exactly where every body is suspended
+pub runner-nobody : (c : Config) (s : State) → ((i : ℕ) → i < length (s .bodies) → bodyOf s i .phase ≡ suspended) → runner c s ≡ nobody
+runner-nobody c s = Choosing.chosen-nobody c (s .bodies)
+
+pub runner-someone : (c : Config) (s : State) (k : ℕ) → isSuspended (bodyOf s k .phase) ≡ false → 1 ≤ priorityOf c k → isNobody (runner c s) ≡ false
+runner-someone c s = Choosing.chosen-someone c (s .bodies)
+
+-- a Get raises the current priority to the ceiling, and the Release of the same resource undoes it
+pub current-takes : (c : Config) (i r : ℕ) (b : Body) → current c i (takes r b) ≡ max (ceiling c r) (current c i b)
+current-takes = Choosing.current-takes
+
+pub gives-back-takes : (r : ℕ) (b : Body) → gives-back (takes r b) ≡ b
+gives-back-takes = Choosing.gives-back-takes
+
+-- "A status other than 0 changes nothing", after every list of events
+pub refused-same : (c : Config) (es : List Event) (e : Event) → step c (after c (fresh c) es) e .seen .status ≢ done
+    → step c (after c (fresh c) es) e .state ≡ after c (fresh c) es
+refused-same c es e = Refusals.refused-same c (after c (fresh c) es) e (Refusals.settled-after c es (fresh c) (Refusals.settled-fresh c))
+
+-- whatever the state, only the dispatch follows a refused call
+pub refused-dispatched : (c : Config) (s : State) (e : Event) → step c s e .seen .status ≢ done → step c s e .state ≡ dispatched c s
+refused-dispatched = Refusals.refused-dispatched
+
+-- "At most one body begins in an event": the one that a dispatch chose is chosen again, and after an event nobody is left to begin
+pub runner-dispatched : (c : Config) (s : State)
+    → (runner c (dispatched c s) .number ≡ runner c s .number) × (runner c (dispatched c s) .level ≡ runner c s .level)
+    × (begins (runner c (dispatched c s)) ≡ false)
+runner-dispatched c s =
+    (ap (λ x. x .number) (Refusals.runner-dispatched c s), ap (λ x. x .level) (Refusals.runner-dispatched c s), Refusals.dispatched-settled c s)
+
+pub settled : (c : Config) (s : State) (e : Event) → begins (runner c (step c s e .state)) ≡ false
+settled = Refusals.settled-step
+
+-- "the task isn't suspended": an accepted Activate finds its task suspended, so a started one is never requested again
+pub activated-suspended : (c : Config) (s : State) (t : ℕ) → Accepted c s (Activate t) → bodyOf s t .phase ≡ suspended
+unfolding step
+activated-suspended c s t a = Checks.activate-passed c s t a .2
+
+-- losses come from due entries: no event but a Tick changes one, and what is seen of them is the state after the event
+pub losses-call : (c : Config) (s : State) (e : Event) → e ≢ Tick → lossesOf (step c s e .state) ≡ lossesOf s
+losses-call = Changing.losses-call
+
+pub losses-seen : (c : Config) (s : State) (e : Event) → step c s e .seen .losses ≡ lossesOf (step c s e .state)
+losses-seen = Changing.losses-seen
+
+-- "n, the Ticks since its start": from an accepted Start on, until an accepted Stop
+pub counted-from-start : (c : Config) (t d : ℕ) (before rest : List Event) → Accepted c (after c (fresh c) before) (Start t d)
+    → NoStop c t (next c (after c (fresh c) before) (Start t d)) rest
+    → tableOf (after c (fresh c) (before ++ Start t d ∷ rest)) t ≡ running d (ticksIn rest)
+counted-from-start = Tables.counted-from-start
+
+pub stopped-until-start : (c : Config) (t : ℕ) (es : List Event) → NoStart c t (fresh c) es → tableOf (after c (fresh c) es) t ≡ stopped
+stopped-until-start = Tables.stopped-until-start
+
+pub stopped-since-stop : (c : Config) (t : ℕ) (before rest : List Event) → Accepted c (after c (fresh c) before) (Stop t)
+    → NoStart c t (next c (after c (fresh c) before) (Stop t)) rest
+    → tableOf (after c (fresh c) (before ++ Stop t ∷ rest)) t ≡ stopped
+stopped-since-stop = Tables.stopped-since-stop
+
+-- no other case is left: each table is what its history says, and nothing else
+pub table-history : (c : Config) (t : ℕ) (es : List Event) (x : Table) → (tableOf (after c (fresh c) es) t ≡ x) ↔ History c t es x
+table-history c t es x = (λ e. rw e at (Tables.history-of-table c t es), Tables.table-history c t)
+
+-- the Start in a history is the table's last accepted one
+pub last-start : (c : Config) (t d : ℕ) (before rest : List Event) → Accepted c (after c (fresh c) before) (Start t d)
+    → NoStop c t (next c (after c (fresh c) before) (Start t d)) rest
+    → NoStart c t (next c (after c (fresh c) before) (Start t d)) rest
+last-start = Tables.last-start

@@ -1,0 +1,54 @@
+-- The scheduler's state: its bodies and its tables. A table is document 01's word for a schedule table.
+-- Assumes nothing.
+use Prim.Native.Nat.{ℕ}
+use mathlib.Core.Bool.{Bool, true, false, _||_}
+use mathlib.Core.List.{List, [], _∷_}
+use lib.Dec.{eqb}
+use lib.ListN.{getD, set}
+use Rattle.config.specs.declared.Config.{Config}
+use Rattle.scheduler.specs.Body.{suspended, Body}
+use Rattle.scheduler.specs.Choice.{Candidate, chosen}
+
+-- "each table is stopped or has d and n, the Ticks since its start"
+pub data Table : Type 0 where
+  stopped : Table
+  running : (d n : ℕ) → Table
+
+abbrev pub isRunning : Table → Bool
+isRunning stopped = false
+isRunning (running d n) = true
+
+pub record State : Type 0 where
+  pub bodies : List Body
+  pub tables : List Table
+
+-- a body that was never asked for; what stands past the list's end
+abbrev pub noBody : Body
+noBody = record { phase = suspended; waiting = false; held = []; losses = 0 }
+
+abbrev pub bodyOf : State → ℕ → Body
+bodyOf s i = getD (s .bodies) i noBody
+
+abbrev pub tableOf : State → ℕ → Table
+tableOf s t = getD (s .tables) t stopped
+
+-- the body i changed by f
+abbrev pub changing : ℕ → (Body → Body) → State → State
+changing i f s = record { bodies = set (s .bodies) i (f (bodyOf s i)); tables = s .tables }
+
+abbrev pub withTable : ℕ → Table → State → State
+withTable t x s = record { bodies = s .bodies; tables = set (s .tables) t x }
+
+-- who runs now
+abbrev pub runner : Config → State → Candidate
+runner c s = chosen c (s .bodies)
+
+-- r stands in the list
+unfoldable pub among : ℕ → List ℕ → Bool
+among r [] = false
+among r (x ∷ xs) = eqb r x || among r xs
+
+-- "r is held by anyone"
+unfoldable pub heldIn : ℕ → List Body → Bool
+heldIn r [] = false
+heldIn r (b ∷ bs) = among r (b .held) || heldIn r bs

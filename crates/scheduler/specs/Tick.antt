@@ -1,0 +1,47 @@
+-- Tick: the tables count, and their due entries activate their tasks.
+--
+--   counted s        "n up by 1 for each table not stopped"
+--   dues c s         for each entry whether it is due, by the table's arithmetic
+--   ticked c s       "then the due entries", by table, then in table order
+--
+-- Entry is document 01's word for an expiry point. Assumes nothing.
+use Prim.Native.Nat.{ℕ, suc, _+_}
+use mathlib.Core.Bool.{Bool, true, false}
+use mathlib.Core.List.{List, [], _∷_, _++_, map}
+use lib.ListN.{getD}
+use Rattle.config.specs.declared.Config.{Config}
+use Rattle.config.specs.Meaning.{offsets}
+use Rattle.cell.specs.Due.{due}
+use Rattle.scheduler.specs.Body.{activatedByEntry}
+use Rattle.scheduler.specs.State.{Table, stopped, running, State, changing}
+
+unfoldable pub counting : Table → Table
+counting stopped = stopped
+counting (running d n) = running d (suc n)
+
+abbrev pub counted : State → State
+counted s = record { bodies = s .bodies; tables = map counting (s .tables) }
+
+-- the entry at offset o of a table with period P: its first delay is d + o
+unfoldable pub entryDue : ℕ → Table → ℕ → Bool
+entryDue P stopped o = false
+entryDue P (running d n) o = due P (d + o) n
+
+-- the entries of the tables from t on
+unfoldable pub duesFrom : Config → ℕ → List Table → List Bool
+duesFrom c t [] = []
+duesFrom c t (x ∷ xs) = map (entryDue (getD (c .period) t 0) x) (offsets c t) ++ duesFrom c (suc t) xs
+
+abbrev pub dues : Config → State → List Bool
+dues c s = duesFrom c 0 (s .tables)
+
+-- the entries' tasks, each activated if its entry is due
+unfoldable pub activatingDue : List Bool → List ℕ → State → State
+activatingDue [] ts s = s
+activatingDue (true ∷ ds) [] s = s
+activatingDue (false ∷ ds) [] s = s
+activatingDue (true ∷ ds) (t ∷ ts) s = activatingDue ds ts (changing t activatedByEntry s)
+activatingDue (false ∷ ds) (t ∷ ts) s = activatingDue ds ts s
+
+abbrev pub ticked : Config → State → State
+ticked c s = activatingDue (dues c (counted s)) (c .task) (counted s)

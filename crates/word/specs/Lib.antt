@@ -1,0 +1,3 @@
+-- What the contracts and laws of the word cite.
+-- Assumes nothing.
+pub mod Word
