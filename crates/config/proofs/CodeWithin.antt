@@ -5,18 +5,18 @@ use Prim.Native.Nat.{ℕ, _+_, _-_, _^_, _≤_, _<_}
 use mathlib.Core.Path.{_≡_, refl, sym, subst, _∙_}
 use mathlib.Core.Bool.{Bool, true, false, cond, _&&_}
 use native.Mathlib.Omega.{arith}
-use borrow.Author.Tests.{lt-leb, eq-eqb, ne-eqb, le-ltb, leb-true, ltb-true, eqb-false}
-use lib.Dec.{lit≤, lit<, ltb, leb, eqb}
+use borrow.Author.Tests.{eq-eqb, ne-eqb, leb-true, ltb-true}
+use lib.Dec.{lit≤, lit<, leb, eqb}
 use lib.ListN.{getD}
 use Rattle.number.specs.Refusal.{none}
-use Rattle.number.proofs.Cases.{by-lt, by-eq}
+use Rattle.number.proofs.Cases.{by-eq}
 use Rattle.config.specs.declared.Draft.{Draft}
 use Rattle.config.specs.declared.Field.{Field}
 use Rattle.config.specs.declared.Field.the-variants.{Version, Bodies, Kind, Priority, Autostart, Resources, Users, Tables, Period, Entries, Offset, Task, End}
 use Rattle.config.specs.Refusal.{badVersion, badCount, badField, tooManyEntries}
 use Rattle.config.specs.Meaning.{isr, isTask}
 use Rattle.config.specs.Value.{maxEntries}
-use Rattle.config.specs.Draft.{unless, outside, andThen, mostAutostart, sorted, fault, faultAt, put, putAt, Inside, Within, start, orOn}
+use Rattle.config.specs.Draft.{unless, outside, andThen, mostAutostart, fault, faultAt, put, putAt, Inside, Within, start}
 
 -- tests that give no refusal
 unless-none : (ok : Bool) (r : ℕ) → 0 < r → unless ok r ≡ none → ok ≡ true

@@ -3,21 +3,19 @@
 use Prim.Native.Nat.{ℕ, zero, suc, _+_, _*_, _-_, _≤_, _<_}
 use mathlib.Core.Path.{_≡_, refl, sym, ap, _∙_}
 use mathlib.Core.Bool.{true, false}
-use mathlib.Core.List.{List, [], _∷_, _++_, append-assoc, append-nil}
+use mathlib.Core.List.{List, [], _++_, append-assoc, append-nil}
 use native.Mathlib.Omega.{arith}
-use native.Mathlib.Nat.{zero-add}
 use borrow.Author.Tests.{eq-eqb, ne-eqb}
 use lib.Dec.{lit≤}
 use lib.ListN.{length, length-append}
 use Rattle.number.specs.Refusal.{none}
 use Rattle.number.specs.Number.{numberBytes}
-use Rattle.number.specs.Output.{unwritten}
 use Rattle.number.proofs.Cases.{by-eq}
 use Rattle.number.proofs.Theorems.{length-numberBytes}
 use Rattle.config.specs.declared.Config.{Config}
 use Rattle.config.specs.declared.Draft.{Draft}
 use Rattle.config.specs.Draft.{Within, fault, put, asked, ended, start}
-use Rattle.config.specs.Writer.{maxNumbers, faultFrom, firstFault, bytesFrom, configBytes, measured}
+use Rattle.config.specs.Writer.{maxNumbers, faultFrom, firstFault, bytesFrom, configBytes}
 use Rattle.config.proofs.CodeWithin.{start-within, put-within}
 
 -- after k numbers of c, whose bytes are bs: what is left gives the first refusal F and, after bs, the bytes `all`

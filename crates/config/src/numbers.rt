@@ -3,26 +3,27 @@ use crate::Config;
 use crate::Draft;
 use crate::Field;
 ghost use mathlib.Core.Path.{_≡_};
-ghost use mathlib.Core.Bool.{Bool};
-ghost use Prim.Native.Nat.{ℕ, _+_, _-_, _^_, _<_, _≤_};
+ghost use Prim.Native.Nat.{_+_, _-_, _^_, _<_, _≤_};
 ghost use lib.ListN.{take};
 ghost use Rattle.number.specs.Refusal.{none};
 ghost use Rattle.config.specs.Meaning.{isTask};
 ghost use Rattle.config.specs.Value.{noConfig};
 ghost use Rattle.config.specs.Draft.{Within, unless, outside, andThen, occurs, mostAutostart, rises, sorted, fault, faultAt, put, asked, ended, orOn, onTo, row, start};
 
+// The version is not 1.
 const BAD_VERSION: u8 = 3;
-
+// A count is outside its range.
 const BAD_COUNT: u8 = 4;
-
+// Another field is outside its range, or an entry's task is an ISR.
 const BAD_FIELD: u8 = 5;
-
+// A body before has this priority.
 const USED_PRIORITY: u8 = 6;
-
+// An entry does not come after the one before it.
 const UNSORTED: u8 = 7;
-
+// This entry count takes the total over 64.
 const TOO_MANY_ENTRIES: u8 = 8;
 
+// How many there may be of each.
 const MAX_BODIES: u32 = 32;
 
 const MAX_RESOURCES: u32 = 16;
@@ -30,6 +31,7 @@ const MAX_RESOURCES: u32 = 16;
 const MAX_TABLES: u32 = 8;
 
 const MAX_ENTRIES: usize = 64;
+
 // An ISR's kind; a task's is 0.
 const ISR: u8 = 1;
 
@@ -75,6 +77,7 @@ fn used(v: u32, n: usize, priority: [u8; 32]) -> bool
     false
 }
 
+// The refusal of a priority, which no body before has.
 fn priority_fault(d: Draft, v: u32) -> u8
     requires { ⌜ d .index ≤ 32 ⌝ }
     ensures { λ r. ⌜ r ≡ faultAt Field.Priority d v ⌝ }
@@ -92,6 +95,7 @@ fn most_autostart(kind: u8) -> u32
     if kind == ISR { 0 } else { 1 }
 }
 
+// The refusal of an autostart.
 fn autostart_fault(d: Draft, v: u32) -> u8
     requires { ⌜ d .index < 32 ⌝ }
     ensures { λ r. ⌜ r ≡ faultAt Field.Autostart d v ⌝ }
@@ -113,6 +117,7 @@ fn all_bodies(bodies: u8) -> u32
     }
 }
 
+// The refusal of a mask of users.
 fn users_fault(d: Draft, v: u32) -> u8
     requires { ⌜ d .config .bodies ≤ 32 ⌝ }
     ensures { λ r. ⌜ r ≡ faultAt Field.Users d v ⌝ }
@@ -121,6 +126,7 @@ fn users_fault(d: Draft, v: u32) -> u8
     outside(1, all_bodies(c.bodies), v, BAD_FIELD)
 }
 
+// The refusal of a table's number of entries.
 fn entries_fault(d: Draft, v: u32) -> u8
     requires { ⌜ d .entry ≤ 64 ⌝ }
     ensures { λ r. ⌜ r ≡ faultAt Field.Entries d v ⌝ }
@@ -132,6 +138,7 @@ fn entries_fault(d: Draft, v: u32) -> u8
     )
 }
 
+// The refusal of an entry's offset.
 fn offset_fault(d: Draft, v: u32) -> u8
     requires { ⌜ d .index < 8 ⌝ }
     ensures { λ r. ⌜ r ≡ faultAt Field.Offset d v ⌝ }
@@ -189,6 +196,7 @@ fn sorted(d: Draft, v: u32) -> bool
     rises(c.offset[b], c.task[b], c.offset[e], v)
 }
 
+// The refusal of an entry's task.
 fn task_fault(d: Draft, v: u32) -> u8
     requires { ⌜ (d .config .bodies ≤ 32) × ((d .index < 8) × (d .entry < 64)) ⌝ }
     ensures { λ r. ⌜ r ≡ faultAt Field.Task d v ⌝ }

@@ -10,10 +10,9 @@ use crate::numbers::start;
 use number::NumberRead;
 use number::read_number;
 ghost use mathlib.Core.Path.{_≡_};
-ghost use Prim.Native.Nat.{_≤_};
 ghost use lib.ListN.{length};
 ghost use Rattle.config.specs.Draft.{Within, start};
-ghost use Rattle.config.specs.Reader.{accepted, refused, numberFault, faultPlace, finished, readFrom};
+ghost use Rattle.config.specs.Reader.{refused, numberFault, faultPlace, finished, readFrom};
 
 // Bytes are left over.
 const LEFT_OVER: u8 = 9;

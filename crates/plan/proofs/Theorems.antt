@@ -1,7 +1,7 @@
 -- What the crate shows beyond its contract, over specs/ alone: what the machine's lookups in a plan give. Callers lean on these laws.
 --
--- In order: ranks; ranks by body; bodies by rank; the words; ceilings; tables; entries; lengths.
--- The laws from ranks to entries hold of every accepted configuration. Assumes nothing.
+-- In order: lengths, of whatever configuration; then of every accepted one ranks, ranks by body, bodies by rank, the words, ceilings,
+-- tables, entries. Assumes nothing.
 use Prim.Native.Nat.{ℕ, suc, _-_, _^_, _≤_, _<_}
 use mathlib.Core.Path.{_≡_, ap, _∙_}
 use mathlib.Core.Bool.{true, cond}
@@ -24,11 +24,44 @@ use Rattle.plan.specs.Stored.{stored, listed}
 use Rattle.plan.specs.Rank.{noRank, rankOf, bodyCount, taskRank, lineRank}
 use Rattle.plan.specs.Entry.{tableOf, tableCount, entryCount, firstEntry, compareOf, entryRank}
 use Rattle.plan.specs.Plan.{resourceCount, planOf}
-use Rattle.plan.proofs.Stored.{length-stored, stored-at, stored-past}
+use Rattle.plan.proofs.Stored.{length-stored, stored-at, stored-past, getD-any}
 use Rattle.plan.proofs.Words.{marked-has, marked-some, marked-lt}
 use Rattle.plan.proofs.Greatest.{greatestIn-le}
 use Rattle.plan.proofs.Entry.{entriesBefore-le, table-found, table-among}
 use Rattle.plan.proofs.Order as Order
+
+-- the lengths of the lists, and the size of the words, of whatever configuration
+pub record Sized (p : Plan) : Type 0 where
+  pub tasks : length (p .task) ≡ maxBodies
+  pub lines : length (p .line) ≡ maxBodies
+  pub priorities : length (p .priority) ≡ maxBodies
+  pub bodies : length (p .body) ≡ maxBodies
+  pub isrs-lt : p .isrs < 2 ^ Word.ranks
+  pub autostart-lt : p .autostart < 2 ^ Word.ranks
+  pub ceilings : length (p .ceiling) ≡ maxResources
+  pub firsts : length (p .first) ≡ maxTables
+  pub largests : length (p .largest) ≡ maxTables
+  pub compares : length (p .compare) ≡ maxEntries
+  pub entries : length (p .entry) ≡ maxEntries
+  pub count-le : p .count ≤ maxEntries
+
+pub plan-sized : (c : Config) → Sized (planOf c)
+unfolding planOf
+plan-sized c =
+    record {
+      tasks = simp length-stored;
+      lines = simp length-stored;
+      priorities = simp length-stored;
+      bodies = simp length-stored;
+      isrs-lt = marked-lt (rankOf c) (λ b. getD (c .kind) b 0) (bodyCount c);
+      autostart-lt = marked-lt (rankOf c) (λ b. getD (c .autostart) b 0) (bodyCount c);
+      ceilings = simp length-stored;
+      firsts = simp length-stored;
+      largests = simp length-stored;
+      compares = simp length-stored;
+      entries = simp length-stored;
+      count-le = omega arith;
+    }
 
 -- a list that is filled from the front has f i at i
 listed-at : (f : ℕ → ℕ) (n m z i d : ℕ) → i < n → i < m → getD (listed f n (replicate m z)) i d ≡ f i
@@ -69,6 +102,13 @@ module _ (c : Config) (accepted : Accepted c) (shaped : Shaped c) where
       by-lt b (c .bodies)
       (λ h. listed-at (lineRank c) (bodyCount c) maxBodies noRank b noRank (rw (Order.all-bodies c accepted shaped) h) (omega (arith, accepted .few-bodies)))
       (λ h. listed-past (lineRank c) (bodyCount c) maxBodies noRank b (rw (Order.all-bodies c accepted shaped) h) ∙ simp (le-ltb b (c .bodies) h))
+
+  -- the same as the code reads it, where the default does not count
+  pub task-rank-read : (b d : ℕ) → b < maxBodies → getD (planOf c .task) b d ≡ cond (isTask c b) (rankOf c b) noRank
+  task-rank-read b d h = getD-any (planOf c .task) b d noRank (omega (arith, plan-sized c .tasks)) ∙ task-rank b
+
+  pub line-rank-read : (b d : ℕ) → b < maxBodies → getD (planOf c .line) b d ≡ cond (isIsr c b) (rankOf c b) noRank
+  line-rank-read b d h = getD-any (planOf c .line) b d noRank (omega (arith, plan-sized c .lines)) ∙ line-rank b
 
   -- what is stored by rank
   by-rank : (f : ℕ → ℕ) (b : ℕ) → b < c .bodies → getD (stored (rankOf c) f (bodyCount c) (replicate maxBodies 0)) (rankOf c b) 0 ≡ f b
@@ -170,36 +210,3 @@ module _ (c : Config) (accepted : Accepted c) (shaped : Shaped c) where
   pub entry-rank : (e : ℕ) → e < planOf c .count → getD (planOf c .entry) e 0 ≡ rankOf c (getD (c .task) e 0)
   entry-rank e h =
       looked-up e h ∙ task-rank (getD (c .task) e 0) ∙ rw (accepted .entry-task e (omega (arith, entry-count)))
-
--- the lengths of the lists, and the size of the words, of whatever configuration
-pub record Sized (p : Plan) : Type 0 where
-  pub tasks : length (p .task) ≡ maxBodies
-  pub lines : length (p .line) ≡ maxBodies
-  pub priorities : length (p .priority) ≡ maxBodies
-  pub bodies : length (p .body) ≡ maxBodies
-  pub isrs-lt : p .isrs < 2 ^ Word.ranks
-  pub autostart-lt : p .autostart < 2 ^ Word.ranks
-  pub ceilings : length (p .ceiling) ≡ maxResources
-  pub firsts : length (p .first) ≡ maxTables
-  pub largests : length (p .largest) ≡ maxTables
-  pub compares : length (p .compare) ≡ maxEntries
-  pub entries : length (p .entry) ≡ maxEntries
-  pub count-le : p .count ≤ maxEntries
-
-pub plan-sized : (c : Config) → Sized (planOf c)
-unfolding planOf
-plan-sized c =
-    record {
-      tasks = simp length-stored;
-      lines = simp length-stored;
-      priorities = simp length-stored;
-      bodies = simp length-stored;
-      isrs-lt = marked-lt (rankOf c) (λ b. getD (c .kind) b 0) (bodyCount c);
-      autostart-lt = marked-lt (rankOf c) (λ b. getD (c .autostart) b 0) (bodyCount c);
-      ceilings = simp length-stored;
-      firsts = simp length-stored;
-      largests = simp length-stored;
-      compares = simp length-stored;
-      entries = simp length-stored;
-      count-le = omega arith;
-    }

@@ -1,4 +1,9 @@
 -- The entries of all tables, one after the other: which table an entry is of, and what is kept for each table and entry.
+--
+--   tableOf c e      the table of entry e
+--   firstEntry c t   where the entries of table t begin
+--   compareOf c e, entryRank c e   entry e's compare value, and the rank of its task
+--
 -- Assumes nothing.
 use Prim.Native.Nat.{ℕ, suc, _-_, min, max}
 use mathlib.Core.Bool.{cond}
@@ -27,6 +32,7 @@ largestIn ns os t = foldr max 0 (take (getD ns t 0) (drop (entriesBefore ns t) o
 abbrev pub compareIn : List ℕ → List ℕ → ℕ → ℕ
 compareIn ns ps e = getD ps (tableIn ns e) 0 - 1
 
+-- the same of a configuration
 abbrev pub tableOf : Config → ℕ → ℕ
 tableOf c e = tableIn (c .entries) e
 

@@ -1,5 +1,6 @@
 -- The static tables that the machine's events look up, derived once from a configuration: `planOf`.
--- Assumes nothing.
+--
+-- Each is a list that is filled as far as the counts reach. Main laws: what a lookup gives (proofs/Theorems.antt). Assumes nothing.
 use Prim.Native.Nat.{ℕ, min}
 use lib.ListN.{getD, replicate}
 use mathlib.Core.List.{List}
@@ -26,18 +27,21 @@ isrs c = marked (rankOf c) (λ b. getD (c .kind) b 0) (bodyCount c)
 abbrev pub autostarts : Config → ℕ
 autostarts c = marked (rankOf c) (λ b. getD (c .autostart) b 0) (bodyCount c)
 
+-- by resource: its ceiling
 abbrev pub resourceCount : Config → ℕ
 resourceCount c = min (c .resources) maxResources
 
 abbrev pub ceilings : Config → List ℕ
 ceilings c = listed (ceiling c) (resourceCount c) (replicate maxResources 0)
 
+-- by table: its first entry, and its largest offset
 abbrev pub firsts : Config → List ℕ
 firsts c = listed (firstEntry c) (tableCount c) (replicate maxTables 0)
 
 abbrev pub largests : Config → List ℕ
 largests c = listed (largestOffset c) (tableCount c) (replicate maxTables 0)
 
+-- by entry: its cell's compare value, and the rank of its task
 abbrev pub compares : Config → List ℕ
 compares c = listed (compareOf c) (entryCount c) (replicate maxEntries 0)
 

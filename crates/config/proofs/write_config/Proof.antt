@@ -1,7 +1,6 @@
 -- `write_config` meets its contract: it measures, tests the room, and then writes.
 -- Assumes nothing.
 use native.Mathlib.Omega.{arith}
-use lib.ListN.{length}
 use Rattle.config.proofs.CodeAnswer.{faultless, measured-length, refused-answer, no-room-answer, written-answer}
 use borrow.Author.Needs.{needs}
 use Rattle.config.proofs.write_config.Statement.{statement}

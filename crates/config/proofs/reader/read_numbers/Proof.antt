@@ -1,16 +1,14 @@
 -- `read_numbers` meets its contract: the loop keeps `ReadsOn`. The measure is what is left of the input.
 -- Assumes nothing.
 use Prim.Native.Nat.{ℕ, _-_, _<_, _≤_}
-use mathlib.Core.Path.{_≡_, refl, sym, ap, subst, _∙_}
-use mathlib.Core.Bool.{true, false}
+use mathlib.Core.Path.{_≡_, sym, _∙_}
+use mathlib.Core.Bool.{false}
 use native.Mathlib.Omega.{arith}
 use borrow.Author.Tests.{not-true, not-false}
 use lib.ListN.{length}
 use Rattle.number.specs.Refusal.{none}
-use Rattle.config.specs.declared.Draft.{Draft}
-use Rattle.number.specs.declared.NumberRead.{NumberRead}
-use Rattle.config.specs.Draft.{fault, put, ended}
-use Rattle.config.specs.Reader.{refused, numberFault, faultPlace}
+use Rattle.config.specs.Draft.{put, ended}
+use Rattle.config.specs.Reader.{refused, numberFault}
 use Rattle.config.proofs.CodeReader.{ReadsOn, reads-start, reads-refused, reads-next, reads-forward, reads-end, faultless}
 use Rattle.config.proofs.reader.read_numbers.Statement.{statement}
 use Rattle.config.proofs.reader.read_numbers.Tie as tie

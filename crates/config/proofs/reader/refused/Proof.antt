@@ -1,8 +1,5 @@
 -- `refused` meets its contract: the all-zero value with the reason.
 -- Assumes nothing.
-use mathlib.Core.Path.{_≡_, ap}
-use Rattle.config.specs.declared.Config.{Config}
-use Rattle.config.specs.declared.ConfigRead.{ConfigRead}
 use borrow.Author.Needs.{needs}
 use Rattle.config.proofs.reader.refused.Statement.{statement}
 use Rattle.config.proofs.reader.refused.Tie as tie

@@ -1,7 +1,7 @@
 -- `measure` meets its contract: the loop keeps `MeasuresOn`. The measure is the turns left.
 -- Assumes nothing.
 use Prim.Native.Nat.{_-_}
-use mathlib.Core.Path.{_≡_, sym, ap, _∙_}
+use mathlib.Core.Path.{_≡_, sym, _∙_}
 use mathlib.Core.Bool.{false}
 use native.Mathlib.Omega.{arith}
 use Rattle.number.specs.Refusal.{none}

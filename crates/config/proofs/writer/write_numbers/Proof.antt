@@ -5,7 +5,6 @@ use mathlib.Core.Path.{_≡_, sym, ap, _∙_}
 use mathlib.Core.Bool.{false}
 use native.Mathlib.Omega.{arith}
 use lib.ListN.{length}
-use Rattle.number.specs.Output.{written}
 use Rattle.number.proofs.Theorems.{length-written}
 use Rattle.config.specs.Draft.{ended}
 use Rattle.config.specs.Writer.{maxNumbers, configBytes}

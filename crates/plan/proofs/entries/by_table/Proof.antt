@@ -12,7 +12,7 @@ use Rattle.plan.specs.Stored.{stored, listed}
 use Rattle.plan.proofs.Stored.{stored-turn}
 use mir.Val.{Fits}
 use mir.Syntax.{w8}
-use Rattle.plan.proofs.Entry.{table-passed}
+use Rattle.plan.proofs.Entry.{table-passed, first-known, largest-known}
 use Rattle.plan.proofs.entries.by_table.Statement.{statement}
 use Rattle.plan.proofs.entries.by_table.Tie as tie
 
@@ -74,8 +74,8 @@ loop-again c = let a = c .before .before .before .before .args in let l = c .bef
       omega arith,
       omega arith,
       table-passed (a .t1) (l .t) (l .e) (omega (arith, sized (c .before .before .before .before))) (l .inv .2),
-      stored-turn _ _ _ _ _ _ _ (l .inv .3) refl (rw (l .inv .2) at (c .before .at-most .ensures)),
-      stored-turn _ _ _ _ _ _ _ (l .inv .4) refl (rw (l .inv .2) at (c .largest .ensures)),
+      stored-turn _ _ _ _ _ _ _ (l .inv .3) refl (first-known (a .t1) (l .t) (l .e) (l .inv .2) (c .before .at-most .result) (c .before .at-most .ensures)),
+      stored-turn _ _ _ _ _ _ _ (l .inv .4) refl (largest-known (a .t1) (l .t) (l .e) (l .inv .2) (a .offset) (c .largest .result) (c .largest .ensures)),
     )
 
 at-most-requires-2 : tie.Need-at-most-requires-2 Inv-loop μ-loop

@@ -1,0 +1,153 @@
+/*
+ * OSEK OS reference, class BCC1: from a configuration and a trace of events to who runs after each event.
+ *
+ * One function, osek_run. It allocates nothing, keeps nothing between calls and never fails in another way than by
+ * the refusals below: any bytes may be handed to it. Link with libkernel.a.
+ *
+ *     static uint8_t out[OSEK_OUTPUT_MAX];
+ *     uint64_t result = osek_run(config, config_len, trace, trace_len, out, sizeof out);
+ *     if (osek_refusal(result) != 0)
+ *         printf("refused %u %u\n", (unsigned)osek_refusal(result), (unsigned)osek_place(result));
+ *     else
+ *         ... osek_events(result) answers of four bytes, then two bytes a body ...
+ *
+ * Words: a body is a task or a category 2 interrupt routine (ISR); bodies, resources and schedule tables are each
+ * numbered from 0 in the order of the configuration. A greater priority wins.
+ *
+ * NUMBERS. Configuration and trace are rows of numbers, 0 to 4,294,967,295, in LEB128: one to five groups of seven
+ * bits, lowest group first, the top bit set on every byte but the last. Only the shortest form is accepted: 127 is
+ * 7F, 128 is 80 01.
+ *
+ * CONFIGURATION, in this order:
+ *     version            1
+ *     body count         1 to 32
+ *     per body           kind (0 task, 1 ISR), priority (1 to 200, each used once), autostart (0 or 1; an ISR: 0)
+ *     resource count     0 to 16
+ *     per resource       its users, bit b for body b; not 0. The ceiling is their greatest priority.
+ *     table count        0 to 8
+ *     per table          period (1 to 65,535), entry count (1 to 16; 64 in all tables together), then
+ *       per entry        offset (below the period), task (the number of a body that is a task);
+ *                        entries rise by offset, then by task, and none stands twice
+ *
+ * TRACE: events one after the other, each its code and then its arguments. Any number may stand as an argument; one
+ * that names nothing gets a status. The events, with the statuses other than 0 in the order in which they are checked:
+ *     1 Activate task         makes the task ready                                  2, 3, 4
+ *     2 Finish                the running body ends                                 2, 6
+ *     3 Chain task            the running task ends and the named one is ready      2, 3, 6, 4
+ *     4 Get resource          the running body takes it                             2, 3, 1
+ *     5 Release resource      the running body gives it back                        2, 3, 5
+ *     6 Tick                  every started table counts one tick                   -
+ *     7 Line isr              the interrupt is requested                            3, 4
+ *     8 Start table, delay    its entry at offset o is due at tick delay + o, then  2, 3, 8, 7
+ *                             every period
+ *     9 Stop table            no entry of it is due any more                        2, 3, 5
+ */
+#ifndef OSEK_H
+#define OSEK_H
+
+#include <stddef.h>
+#include <stdint.h>
+
+#ifdef __cplusplus
+extern "C" {
+#endif
+
+/* Sizes in bytes. Longer inputs are refused; an output of OSEK_OUTPUT_MAX suffices for every run. */
+#define OSEK_CONFIG_MAX 4096
+#define OSEK_TRACE_MAX 8192
+#define OSEK_OUTPUT_MAX 32832
+
+/* The output of an accepted run with e events and b bodies takes 4 e + 2 b bytes:
+ *     byte 4 i        status of event i
+ *     byte 4 i + 1    the body that runs after it, OSEK_IDLE if none does
+ *     byte 4 i + 2    the level: the running body's current priority, 0 when idle
+ *     byte 4 i + 3    1 if the event made a body begin from its start, otherwise 0 (a resumed body: 0)
+ *     byte 4 e + 2 j, 4 e + 2 j + 1
+ *                     low and high byte of the lost activations of body j: how often an entry was due while its task
+ *                     was not suspended; stays at 65,535 once there
+ */
+#define OSEK_ANSWER_SIZE 4
+#define OSEK_LOSS_SIZE 2
+#define OSEK_IDLE 255
+
+/* Event codes. */
+enum {
+    OSEK_EVENT_ACTIVATE = 1,
+    OSEK_EVENT_FINISH = 2,
+    OSEK_EVENT_CHAIN = 3,
+    OSEK_EVENT_GET = 4,
+    OSEK_EVENT_RELEASE = 5,
+    OSEK_EVENT_TICK = 6,
+    OSEK_EVENT_LINE = 7,
+    OSEK_EVENT_START = 8,
+    OSEK_EVENT_STOP = 9
+};
+
+/* Statuses, with OSEK's names and numbers. An event with a status other than 0 changes nothing. */
+enum {
+    OSEK_E_OK = 0,          /* done */
+    OSEK_E_OS_ACCESS = 1,   /* Get: the resource is held, or the running body's own priority is above its ceiling */
+    OSEK_E_OS_CALLEVEL = 2, /* no body runs; Chain: nor when an ISR runs */
+    OSEK_E_OS_ID = 3,       /* no such task, resource, table or (Line) ISR; an ISR's number is no task */
+    OSEK_E_OS_LIMIT = 4,    /* Activate, Chain: the task is not suspended (a task may chain itself);
+                               Line: a request of this ISR waits already */
+    OSEK_E_OS_NOFUNC = 5,   /* Release: not the running body's most recently taken resource; Stop: table is stopped */
+    OSEK_E_OS_RESOURCE = 6, /* Finish, Chain: the running body holds a resource */
+    OSEK_E_OS_STATE = 7,    /* Start: the table is started already */
+    OSEK_E_OS_VALUE = 8     /* Start: the delay is 0, or delay + the table's largest offset is above 65,535 */
+};
+
+/* Refusals. The place is the offset of the first byte of the number at fault, where nothing else is said. Checked in
+ * this order: OSEK_CONFIG_TOO_LONG, the configuration number by number, OSEK_TRACE_TOO_LONG, the trace number by
+ * number, OSEK_OUTPUT_TOO_SHORT. Only the first one found is given. */
+enum {
+    OSEK_CONFIG_CUT = 1,           /* the configuration ends where a number, or the rest of one, is missing */
+    OSEK_CONFIG_NUMBER = 2,        /* a number above 4,294,967,295 or not in its shortest form */
+    OSEK_CONFIG_VERSION = 3,       /* the version is not 1 */
+    OSEK_CONFIG_COUNT = 4,         /* a count of bodies, resources, tables or entries outside its range */
+    OSEK_CONFIG_FIELD = 5,         /* another field outside its range; an entry's task that is no task */
+    OSEK_CONFIG_PRIORITY_USED = 6, /* a priority that a body before has */
+    OSEK_CONFIG_ENTRY_ORDER = 7,   /* an entry not after the one before it; place: its task's number */
+    OSEK_CONFIG_ENTRY_TOTAL = 8,   /* an entry count that makes more than 64 in all */
+    OSEK_CONFIG_LEFT_OVER = 9,     /* bytes after the last table; place: the first of them */
+    OSEK_CONFIG_TOO_LONG = 10,     /* the configuration is over OSEK_CONFIG_MAX bytes; place: 0 */
+    OSEK_TRACE_TOO_LONG = 20,      /* the trace is over OSEK_TRACE_MAX bytes; place: 0 */
+    OSEK_TRACE_CUT = 21,           /* as OSEK_CONFIG_CUT, in the trace */
+    OSEK_TRACE_NUMBER = 22,        /* as OSEK_CONFIG_NUMBER, in the trace */
+    OSEK_TRACE_EVENT = 23,         /* an event code that is not 1 to 9 */
+    OSEK_OUTPUT_TOO_SHORT = 30     /* out_len is too small; place: the bytes needed */
+};
+
+/*
+ * Runs a trace from the configuration's fresh start: autostart tasks are ready, the best one has begun, tables are
+ * stopped, nothing is lost.
+ *
+ *     config, config_len    the configuration's bytes; only read
+ *     trace, trace_len      the trace's bytes; only read. An empty trace is accepted and has 0 events.
+ *     out, out_len          where the output goes. Must not overlap the inputs; may hold anything before the call.
+ *
+ * No pointer may be null: where a length is 0, pass any valid pointer; no byte of it is touched.
+ *
+ * Result: refusal * 2^32 + place, or, with refusal 0, the number of events. Split it with the functions below.
+ *
+ * Left untouched: the inputs, always; all of out, if the run is refused; the bytes of out behind the output
+ * (4 e + 2 b, above), if it is accepted.
+ */
+uint64_t osek_run(const uint8_t *config, size_t config_len,
+                  const uint8_t *trace, size_t trace_len,
+                  uint8_t *out, size_t out_len);
+
+/* The refusal in a result: one of OSEK_CONFIG_CUT to OSEK_OUTPUT_TOO_SHORT, or 0 if the run is accepted. */
+static inline uint32_t osek_refusal(uint64_t result) { return (uint32_t)(result >> 32); }
+
+/* The place of a refusal. */
+static inline uint32_t osek_place(uint64_t result) { return (uint32_t)result; }
+
+/* The number of events of an accepted run. */
+static inline uint32_t osek_events(uint64_t result) { return (uint32_t)result; }
+
+#ifdef __cplusplus
+}
+#endif
+
+#endif

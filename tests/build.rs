@@ -1,0 +1,22 @@
+//! Finds the proved static library for the feature `linked`.
+
+use std::{env, path::PathBuf};
+
+fn main() {
+    println!("cargo:rerun-if-changed=build.rs");
+    println!("cargo:rerun-if-env-changed=OSEK_LIB_DIR");
+    if env::var_os("CARGO_FEATURE_LINKED").is_none() {
+        return;
+    }
+    let here = PathBuf::from(env::var_os("CARGO_MANIFEST_DIR").expect("cargo sets CARGO_MANIFEST_DIR"));
+    let folder = env::var_os("OSEK_LIB_DIR").map_or_else(|| here.join("../target/staticlib"), PathBuf::from);
+    let library = folder.join("libkernel.a");
+    assert!(
+        library.is_file(),
+        "{} is missing: build the static library first, or name its folder in OSEK_LIB_DIR",
+        library.display()
+    );
+    println!("cargo:rerun-if-changed={}", library.display());
+    println!("cargo:rustc-link-search=native={}", folder.display());
+    println!("cargo:rustc-link-lib=static=kernel");
+}

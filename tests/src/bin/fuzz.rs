@@ -1,0 +1,44 @@
+//! Compares drawn cases: `fuzz [SEED [COUNT [CASE]]]`. With CASE, that case alone is run, and shown.
+
+use std::process::ExitCode;
+use std::time::Instant;
+
+use osek_tests::compare::{self, hex};
+use osek_tests::draw;
+
+fn main() -> ExitCode {
+    let mut numbers = [1u64, 20_000, 0];
+    let arguments: Vec<String> = std::env::args().skip(1).collect();
+    for (number, argument) in numbers.iter_mut().zip(&arguments) {
+        match argument.parse() {
+            Ok(value) => *number = value,
+            Err(_) => {
+                eprintln!("usage: fuzz [SEED [COUNT [CASE]]]");
+                return ExitCode::from(2);
+            }
+        }
+    }
+    let [seed, count, case] = numbers;
+    let cases = if arguments.len() > 2 {
+        let drawn = draw::case(seed, case);
+        println!("configuration  {}\ntrace          {}", hex(&drawn.config), hex(&drawn.trace));
+        println!("output         {} bytes, fill {}", drawn.out_len, drawn.fill);
+        case..case + 1
+    } else {
+        0..count
+    };
+    let implementations = compare::others();
+    let names: Vec<&str> = implementations.iter().map(|implementation| implementation.name).collect();
+    println!("seed {seed}: {} against {}", compare::REFERENCE.name, names.join(", "));
+    let start = Instant::now();
+    match compare::compare(seed, cases, 2, &implementations) {
+        Ok(coverage) => {
+            println!("{coverage}\nall equal, {:.1} s", start.elapsed().as_secs_f64());
+            ExitCode::SUCCESS
+        }
+        Err(difference) => {
+            println!("{difference}");
+            ExitCode::FAILURE
+        }
+    }
+}

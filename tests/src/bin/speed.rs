@@ -1,0 +1,242 @@
+//! Times the proved run beside the Rust implementations: `speed [--write FILE]`.
+//!
+//! All implementations run in one process on the same inputs, call by call in turn; before every call the output buffer is
+//! cleared, outside the time taken. A round's time is that of its quickest call, since load only adds; a ratio is the
+//! median over the rounds. Instructions are counted by callgrind, if
+//! valgrind is there: the program runs itself as `speed --repeat IMPLEMENTATION SHAPE LENGTH TIMES` with two values of TIMES
+//! and takes the difference.
+
+use std::fmt::Write;
+use std::process::{Command, ExitCode};
+use std::time::Instant;
+
+use osek_tests::compare::{self, outcome, Implementation};
+use osek_tests::draw::{self, Case, Shape};
+use osek_tests::reference::TRACE_MAX;
+use osek_tests::stack;
+
+const ROUNDS: usize = 101;
+/// Calls of each implementation in a round.
+const CALLS: usize = 7;
+const SEED: u64 = 1;
+
+const SHAPES: [(Shape, &str); 3] =
+    [(Shape::NoTicks, "no ticks"), (Shape::Mixed, "mixed"), (Shape::Ticks, "ticks, 64 cells on")];
+
+/// The proved run first, if it is linked; then what it is held against.
+fn implementations() -> Vec<Implementation> {
+    vec![
+        #[cfg(feature = "linked")]
+        compare::SUBJECT,
+        compare::REFERENCE,
+        compare::CELLS,
+    ]
+}
+
+/// How an implementation is called in the tables.
+fn title(implementation: Implementation) -> &'static str {
+    match implementation.name {
+        "reference" => "Rust",
+        "reference with cells" => "Rust, cells",
+        name => name,
+    }
+}
+
+fn main() -> ExitCode {
+    let arguments: Vec<String> = std::env::args().skip(1).collect();
+    let arguments: Vec<&str> = arguments.iter().map(String::as_str).collect();
+    match arguments[..] {
+        [] => print!("{}", tables()),
+        ["--write", file] => {
+            let tables = tables();
+            print!("{tables}");
+            if let Err(error) = write_tables(file, &tables) {
+                eprintln!("{file}: {error}");
+                return ExitCode::FAILURE;
+            }
+        }
+        ["--repeat", implementation, shape, length, times] => repeat(implementation, shape, length, times),
+        _ => {
+            eprintln!("usage: speed [--write FILE]");
+            return ExitCode::from(2);
+        }
+    }
+    ExitCode::SUCCESS
+}
+
+fn events(case: &Case) -> usize {
+    let (result, _) = outcome(compare::REFERENCE, case);
+    assert_eq!(result >> 32, 0, "a timed trace is accepted");
+    result as usize
+}
+
+/// The nanoseconds of one call.
+fn call(implementation: Implementation, case: &Case, out: &mut [u8]) -> f64 {
+    out.fill(0);
+    let start = Instant::now();
+    std::hint::black_box((implementation.run)(&case.config, &case.trace, std::hint::black_box(out)));
+    start.elapsed().as_nanos() as f64
+}
+
+fn median(mut values: Vec<f64>) -> f64 {
+    values.sort_by(f64::total_cmp);
+    values[values.len() / 2]
+}
+
+/// For each implementation its nanoseconds per call, and how many times as long the first implementation takes.
+fn time(case: &Case) -> Vec<(f64, f64)> {
+    let implementations = implementations();
+    let mut out = vec![0; case.out_len];
+    for implementation in &implementations {
+        assert_eq!(
+            outcome(*implementation, case),
+            outcome(compare::REFERENCE, case),
+            "{} differs",
+            implementation.name
+        );
+    }
+    let mut taken = vec![Vec::new(); implementations.len()];
+    for _ in 0..ROUNDS {
+        let mut quickest = vec![f64::INFINITY; implementations.len()];
+        for turn in 0..CALLS * implementations.len() {
+            let index = turn % implementations.len();
+            quickest[index] = quickest[index].min(call(implementations[index], case, &mut out));
+        }
+        for (taken, quickest) in taken.iter_mut().zip(quickest) {
+            taken.push(quickest);
+        }
+    }
+    (0..implementations.len())
+        .map(|index| {
+            let ratios = taken[0].iter().zip(&taken[index]).map(|(first, this)| first / this).collect();
+            (median(taken[index].clone()), median(ratios))
+        })
+        .collect()
+}
+
+/// Runs an implementation so many times, for callgrind.
+fn repeat(implementation: &str, shape: &str, length: &str, times: &str) {
+    let implementation =
+        *implementations().iter().find(|other| other.name == implementation).expect("the implementation has a name");
+    let shape = SHAPES.iter().find(|(_, name)| *name == shape).expect("the shape has a name").0;
+    let case = draw::timed(SEED, shape, length.parse().expect("a length"));
+    let mut out = vec![0; case.out_len];
+    for _ in 0..times.parse().expect("a count") {
+        std::hint::black_box((implementation.run)(&case.config, &case.trace, std::hint::black_box(&mut out)));
+    }
+}
+
+/// Instructions of one call and nothing else; none without valgrind.
+fn instructions(implementation: Implementation, shape: &str, length: usize) -> Option<u64> {
+    let collected = |times: usize| {
+        let output = Command::new("valgrind")
+            .args(["--tool=callgrind", "--callgrind-out-file=/dev/null"])
+            .arg(std::env::current_exe().ok()?)
+            .args(["--repeat", implementation.name, shape, &length.to_string(), &times.to_string()])
+            .output()
+            .ok()?;
+        let said = String::from_utf8_lossy(&output.stderr).into_owned();
+        let line = said.lines().find(|line| line.contains("Collected : "))?;
+        line.rsplit(' ').next()?.parse::<u64>().ok()
+    };
+    Some((collected(12)? - collected(2)?) / 10)
+}
+
+/// The tables of docs/PERFORMANCE.md.
+fn tables() -> String {
+    let implementations = implementations();
+    let mut text = String::new();
+    let columns = |text: &mut String, first: &str| {
+        let _ = write!(text, "| {first} | events |");
+        for implementation in &implementations {
+            let _ = write!(text, " {} |", title(*implementation));
+        }
+        for implementation in &implementations[1..] {
+            let _ = write!(text, " {} / {} |", title(implementations[0]), title(*implementation));
+        }
+        let _ = write!(text, "\n|---|--:|");
+        let _ = writeln!(text, "{}", "--:|".repeat(2 * implementations.len() - 1));
+    };
+
+    let _ = writeln!(
+        text,
+        "All in one run on one machine, the same inputs, built for release; the output buffer is cleared before every \
+         call, outside the time taken. Rust keeps for each table how far its next entry is; Rust, cells counts every \
+         cell at every tick.\n"
+    );
+    let _ = writeln!(text, "Nanoseconds per event, and median of the ratios of {ROUNDS} rounds:\n");
+    columns(&mut text, "trace of 8,192 bytes");
+    let row = |text: &mut String, name: &str, case: &Case| {
+        let events = events(case);
+        let times = time(case);
+        let _ = write!(text, "| {name} | {events} |");
+        for (nanoseconds, _) in &times {
+            let _ = write!(text, " {:.2} |", nanoseconds / events as f64);
+        }
+        for (_, ratio) in &times[1..] {
+            let _ = write!(text, " {ratio:.2} |");
+        }
+        let _ = writeln!(text);
+    };
+    for (shape, name) in SHAPES {
+        row(&mut text, name, &draw::timed(SEED, shape, TRACE_MAX));
+    }
+
+    let _ = writeln!(text, "\nInstructions per event, counted by callgrind:\n");
+    columns(&mut text, "trace of 8,192 bytes");
+    for (shape, name) in SHAPES {
+        let events = events(&draw::timed(SEED, shape, TRACE_MAX));
+        let counts: Vec<Option<u64>> =
+            implementations.iter().map(|implementation| instructions(*implementation, name, TRACE_MAX)).collect();
+        let _ = write!(text, "| {name} | {events} |");
+        for count in &counts {
+            match count {
+                Some(count) => _ = write!(text, " {:.1} |", *count as f64 / events as f64),
+                None => _ = write!(text, " - |"),
+            }
+        }
+        for count in &counts[1..] {
+            match (counts[0], count) {
+                (Some(first), Some(count)) => _ = write!(text, " {:.2} |", first as f64 / *count as f64),
+                _ => _ = write!(text, " - |"),
+            }
+        }
+        let _ = writeln!(text);
+    }
+
+    let _ = writeln!(text, "\nNanoseconds per event as traces grow, mixed:\n");
+    columns(&mut text, "bytes");
+    for kib in [1, 2, 4, 8] {
+        let length = kib * 1024;
+        row(&mut text, &length.to_string(), &draw::timed(SEED, Shape::Mixed, length));
+    }
+
+    let _ = write!(text, "\nStack use of a run in bytes, the most over the traces of 8,192 bytes:");
+    let cases = SHAPES.map(|(shape, _)| draw::timed(SEED, shape, TRACE_MAX));
+    for (index, implementation) in implementations.iter().enumerate() {
+        let used = stack::used(implementation.run, &cases);
+        let _ = write!(text, "{} {} {used}", if index == 0 { "" } else { "," }, title(*implementation));
+    }
+    let _ = writeln!(text, ".");
+    text
+}
+
+const BEGIN: &str = "<!-- written by make speed -->\n";
+const END: &str = "<!-- end -->\n";
+
+/// Puts the tables between the two marks of the file, or makes the file.
+fn write_tables(file: &str, tables: &str) -> std::io::Result<()> {
+    let text = match std::fs::read_to_string(file) {
+        Ok(text) => text,
+        Err(error) if error.kind() == std::io::ErrorKind::NotFound => format!("# Performance\n\n{BEGIN}{END}"),
+        Err(error) => return Err(error),
+    };
+    let begin = text.find(BEGIN).map(|at| at + BEGIN.len());
+    let end = text.find(END);
+    match (begin, end) {
+        (Some(begin), Some(end)) if begin <= end => {
+            std::fs::write(file, format!("{}\n{tables}\n{}", &text[..begin], &text[end..]))
+        }
+        _ => Err(std::io::Error::other("the marks for the tables are missing")),
+    }
+}

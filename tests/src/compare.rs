@@ -1,0 +1,162 @@
+//! Drawn cases, run by every implementation and compared byte for byte: the result and the whole output buffer.
+
+use std::fmt::Write;
+use std::sync::atomic::{AtomicU64, Ordering};
+
+use crate::coverage::Coverage;
+use crate::draw::{self, Case};
+use crate::guard::{self, GuardedRun, Run, Side};
+use crate::reference::{self, Cells, NextDue};
+use crate::{plain, shrink};
+
+/// An implementation of the run.
+#[derive(Clone, Copy)]
+pub struct Implementation {
+    pub name: &'static str,
+    pub run: Run,
+    /// Its memory is guarded, on both sides in turn: C could reach outside.
+    pub guarded: bool,
+}
+
+/// What all others are compared with.
+pub const REFERENCE: Implementation =
+    Implementation { name: "reference", run: reference::run::<NextDue>, guarded: false };
+
+pub const CELLS: Implementation =
+    Implementation { name: "reference with cells", run: reference::run::<Cells>, guarded: false };
+
+pub const PLAIN: Implementation = Implementation { name: "plain scheduler", run: plain::run, guarded: false };
+
+#[cfg(feature = "linked")]
+pub const SUBJECT: Implementation = Implementation { name: "osek_run", run: crate::subject::run, guarded: true };
+
+/// Every implementation but [`REFERENCE`].
+pub fn others() -> Vec<Implementation> {
+    vec![
+        #[cfg(feature = "linked")]
+        SUBJECT,
+        CELLS,
+        PLAIN,
+    ]
+}
+
+/// A result and the output buffer after the run.
+pub type Outcome = (u64, Vec<u8>);
+
+pub fn outcome(implementation: Implementation, case: &Case) -> Outcome {
+    let mut out = case.prefilled();
+    let result = (implementation.run)(&case.config, &case.trace, &mut out);
+    (result, out)
+}
+
+/// The outcomes of an implementation: one, or, guarded, one for each side.
+fn outcomes(implementation: Implementation, case: &Case, memory: &mut GuardedRun) -> Vec<Outcome> {
+    if implementation.guarded {
+        [Side::Before, Side::After].map(|side| memory.run(implementation.run, case, side)).into()
+    } else {
+        vec![outcome(implementation, case)]
+    }
+}
+
+/// Compares a case; a difference is told in full, with the shortest trace that still shows it.
+pub fn check(case: &Case, implementations: &[Implementation], memory: &mut GuardedRun) -> Result<Outcome, String> {
+    let expected = outcome(REFERENCE, case);
+    for implementation in implementations {
+        if outcomes(*implementation, case, memory).iter().any(|outcome| *outcome != expected) {
+            return Err(describe(case, *implementation));
+        }
+    }
+    Ok(expected)
+}
+
+fn describe(case: &Case, implementation: Implementation) -> String {
+    let first_difference = |case: &Case| {
+        let expected = outcome(REFERENCE, case);
+        let differing = outcomes(implementation, case, &mut GuardedRun::default()).into_iter().find(|o| *o != expected);
+        differing.map(|outcome| (expected, outcome))
+    };
+    let shrunk = shrink::shrink(case, |case| first_difference(case).is_some());
+    let mut text = format!("{} differs from {}\n", implementation.name, REFERENCE.name);
+    let _ = writeln!(text, "configuration  {}", hex(&shrunk.config));
+    let _ = writeln!(text, "trace          {}", hex(&shrunk.trace));
+    let _ = writeln!(
+        text,
+        "               ({} bytes, shrunk from {}; output {} bytes, fill {})",
+        shrunk.trace.len(),
+        case.trace.len(),
+        shrunk.out_len,
+        shrunk.fill
+    );
+    let Some((expected, got)) = first_difference(&shrunk) else {
+        return text + "the difference does not show a second time\n";
+    };
+    for (name, (result, out)) in [(REFERENCE.name, &expected), (implementation.name, &got)] {
+        let _ = writeln!(text, "{name}: {}", result_words(*result));
+        let shown = out.len().min(4 * shrunk.trace.len() + 64);
+        let _ = writeln!(text, "  {}", hex(&out[..shown]));
+    }
+    match expected.1.iter().zip(&got.1).position(|(a, b)| a != b) {
+        Some(at) => _ = writeln!(text, "first byte that differs: {at}"),
+        None => _ = writeln!(text, "only the results differ"),
+    }
+    text
+}
+
+fn result_words(result: u64) -> String {
+    match result >> 32 {
+        0 => format!("{result} events"),
+        refusal => format!("refused {refusal} {}", result & 0xffff_ffff),
+    }
+}
+
+pub fn hex(bytes: &[u8]) -> String {
+    bytes.iter().map(|byte| format!("{byte:02X}")).collect::<Vec<_>>().join(" ")
+}
+
+/// Compares the cases `numbers` of a seed with `threads` threads. Returns what they covered, or the difference of the
+/// lowest case that has one.
+pub fn compare(
+    seed: u64,
+    numbers: std::ops::Range<u64>,
+    threads: u64,
+    implementations: &[Implementation],
+) -> Result<Coverage, String> {
+    guard::report_faults();
+    let lowest = AtomicU64::new(u64::MAX);
+    let work = |thread: u64| {
+        let mut coverage = Coverage::default();
+        let mut memory = GuardedRun::default();
+        for number in numbers.clone().skip(thread as usize).step_by(threads as usize) {
+            if number > lowest.load(Ordering::Relaxed) {
+                break;
+            }
+            guard::announce(seed, number);
+            let case = draw::case(seed, number);
+            match check(&case, implementations, &mut memory) {
+                Ok((result, out)) => coverage.add(&case, result, &out),
+                Err(difference) => {
+                    lowest.fetch_min(number, Ordering::Relaxed);
+                    return Err((number, format!("seed {seed} case {number}: {difference}")));
+                }
+            }
+        }
+        Ok(coverage)
+    };
+    let work = &work;
+    std::thread::scope(|scope| {
+        let workers: Vec<_> = (0..threads).map(|thread| scope.spawn(move || work(thread))).collect();
+        let mut coverage = Coverage::default();
+        let mut differences = Vec::new();
+        for worker in workers {
+            match worker.join() {
+                Ok(Ok(part)) => coverage.merge(&part),
+                Ok(Err(difference)) => differences.push(difference),
+                Err(panic) => std::panic::resume_unwind(panic),
+            }
+        }
+        match differences.into_iter().min() {
+            None => Ok(coverage),
+            Some((_, text)) => Err(text),
+        }
+    })
+}

@@ -1,0 +1,152 @@
+//! What a set of runs has shown: every refusal of the run, and every status of every event.
+
+use std::fmt;
+
+use crate::draw::Case;
+use crate::reference::{self, IDLE};
+
+/// The run's refusals.
+pub const REFUSALS: [u32; 15] = [1, 2, 3, 4, 5, 6, 7, 8, 9, 10, 20, 21, 22, 23, 30];
+
+/// Event codes with their names and the statuses document 01 gives them.
+pub const STATUSES: [(u8, &str, &[u8]); 9] = [
+    (1, "Activate", &[0, 2, 3, 4]),
+    (2, "Finish", &[0, 2, 6]),
+    (3, "Chain", &[0, 2, 3, 6, 4]),
+    (4, "Get", &[0, 2, 3, 1]),
+    (5, "Release", &[0, 2, 3, 5]),
+    (6, "Tick", &[0]),
+    (7, "Line", &[0, 3, 4]),
+    (8, "Start", &[0, 2, 3, 8, 7]),
+    (9, "Stop", &[0, 2, 3, 5]),
+];
+
+#[derive(Clone, Default)]
+pub struct Coverage {
+    pub cases: u64,
+    pub accepted: u64,
+    pub events: u64,
+    refusals: [u64; 31],
+    /// By event code and status.
+    statuses: [[u64; 9]; 10],
+    /// By event code: how often a body began.
+    begun: [u64; 10],
+    idle: u64,
+    /// Losses in all accepted runs, and the greatest one.
+    losses: u64,
+    greatest_loss: u16,
+    exact_output: u64,
+    longest_trace: usize,
+}
+
+impl Coverage {
+    /// Counts a case and the answer to it.
+    pub fn add(&mut self, case: &Case, result: u64, out: &[u8]) {
+        self.cases += 1;
+        let refusal = (result >> 32) as usize;
+        self.refusals[refusal] += 1;
+        if refusal != 0 {
+            return;
+        }
+        self.accepted += 1;
+        self.longest_trace = self.longest_trace.max(case.trace.len());
+        let events = result as usize;
+        self.events += events as u64;
+        let mut at = 0;
+        for answer in out.chunks_exact(4).take(events) {
+            let code = usize::from(case.trace[at]);
+            (_, at) = reference::read_event(&case.trace, at).expect("the run accepted the trace");
+            self.statuses[code][usize::from(answer[0])] += 1;
+            self.begun[code] += u64::from(answer[3]);
+            self.idle += u64::from(answer[1] == IDLE);
+        }
+        let bodies = usize::from(case.config[1]);
+        for loss in out[4 * events..4 * events + 2 * bodies].chunks_exact(2) {
+            let loss = u16::from_le_bytes([loss[0], loss[1]]);
+            self.losses += u64::from(loss);
+            self.greatest_loss = self.greatest_loss.max(loss);
+        }
+        self.exact_output += u64::from(case.out_len == 4 * events + 2 * bodies);
+    }
+
+    pub fn merge(&mut self, other: &Coverage) {
+        self.cases += other.cases;
+        self.accepted += other.accepted;
+        self.events += other.events;
+        for (mine, others) in self.refusals.iter_mut().zip(other.refusals) {
+            *mine += others;
+        }
+        for (mine, others) in self.statuses.iter_mut().flatten().zip(other.statuses.iter().flatten()) {
+            *mine += others;
+        }
+        for (mine, others) in self.begun.iter_mut().zip(other.begun) {
+            *mine += others;
+        }
+        self.idle += other.idle;
+        self.losses += other.losses;
+        self.greatest_loss = self.greatest_loss.max(other.greatest_loss);
+        self.exact_output += other.exact_output;
+        self.longest_trace = self.longest_trace.max(other.longest_trace);
+    }
+
+    /// What has not occurred and should have; empty if nothing is missing.
+    pub fn missing(&self) -> Vec<String> {
+        let mut missing = Vec::new();
+        for refusal in REFUSALS {
+            if self.refusals[refusal as usize] == 0 {
+                missing.push(format!("refusal {refusal}"));
+            }
+        }
+        for (code, name, statuses) in STATUSES {
+            for status in statuses {
+                if self.statuses[usize::from(code)][usize::from(*status)] == 0 {
+                    missing.push(format!("status {status} of {name}"));
+                }
+            }
+        }
+        missing
+    }
+
+    /// Calls that succeed, in percent of all events that can fail.
+    pub fn success_percent(&self) -> u64 {
+        let fallible = STATUSES.iter().filter(|(code, ..)| *code != 6);
+        let (mut done, mut all) = (0, 0);
+        for (code, ..) in fallible {
+            done += self.statuses[usize::from(*code)][0];
+            all += self.statuses[usize::from(*code)].iter().sum::<u64>();
+        }
+        100 * done / all.max(1)
+    }
+}
+
+impl fmt::Display for Coverage {
+    fn fmt(&self, f: &mut fmt::Formatter) -> fmt::Result {
+        writeln!(f, "{} cases, {} accepted, {} events", self.cases, self.accepted, self.events)?;
+        write!(f, "refusals")?;
+        for refusal in REFUSALS {
+            write!(f, "  {refusal}: {}", self.refusals[refusal as usize])?;
+        }
+        writeln!(f)?;
+        for (code, name, statuses) in STATUSES {
+            let code = usize::from(code);
+            write!(f, "{name:<9}")?;
+            for status in statuses {
+                write!(f, "  {status}: {}", self.statuses[code][usize::from(*status)])?;
+            }
+            writeln!(f, "  begun: {}", self.begun[code])?;
+        }
+        writeln!(
+            f,
+            "calls that succeed: {} %, events that leave nobody running: {} %, lost activations: {} (greatest {})",
+            self.success_percent(),
+            100 * self.idle / self.events.max(1),
+            self.losses,
+            self.greatest_loss
+        )?;
+        write!(
+            f,
+            "longest accepted trace: {} bytes, outputs of exactly the needed length: {}",
+            self.longest_trace, self.exact_output
+        )
+    }
+}

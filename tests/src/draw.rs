@@ -1,0 +1,795 @@
+//! Drawn cases: a configuration, a trace and an output length, from a seed and a case number alone.
+//!
+//! In order: random numbers, configurations biased to contention, traces that look at the kernel's state so that
+//! about half of the calls succeed, damage, the mix of all of them in [`case`], and long traces for timing.
+
+use crate::reference::{self, Config, Event, Kernel, NextDue, CONFIG_MAX, OUTPUT_MAX, TRACE_MAX};
+
+// Random numbers
+
+/// SplitMix64.
+pub struct Random(u64);
+
+impl Random {
+    pub fn new(seed: u64) -> Self {
+        Random(seed)
+    }
+
+    pub fn word(&mut self) -> u64 {
+        self.0 = self.0.wrapping_add(0x9e37_79b9_7f4a_7c15);
+        let mut z = self.0;
+        z = (z ^ (z >> 30)).wrapping_mul(0xbf58_476d_1ce4_e5b9);
+        z = (z ^ (z >> 27)).wrapping_mul(0x94d0_49bb_1331_11eb);
+        z ^ (z >> 31)
+    }
+
+    /// 0 to `n` - 1.
+    pub fn below(&mut self, n: usize) -> usize {
+        ((u128::from(self.word()) * n as u128) >> 64) as usize
+    }
+
+    /// `least` to `most`.
+    pub fn between(&mut self, least: usize, most: usize) -> usize {
+        least + self.below(most - least + 1)
+    }
+
+    /// True in `percent` of 100 draws.
+    pub fn chance(&mut self, percent: usize) -> bool {
+        self.below(100) < percent
+    }
+
+    pub fn pick<T: Copy>(&mut self, from: &[T]) -> T {
+        from[self.below(from.len())]
+    }
+
+    /// One of those for which `suits` holds.
+    pub fn pick_where(&mut self, count: usize, suits: impl Fn(u32) -> bool) -> Option<u32> {
+        let suited = (0..count as u32).filter(|id| suits(*id)).count();
+        if suited == 0 {
+            return None;
+        }
+        let nth = self.below(suited);
+        (0..count as u32).filter(|id| suits(*id)).nth(nth)
+    }
+
+    fn shuffle<T>(&mut self, items: &mut [T]) {
+        for i in (1..items.len()).rev() {
+            items.swap(i, self.below(i + 1));
+        }
+    }
+}
+
+// Configurations
+
+#[derive(Clone, Copy)]
+struct Body {
+    is_isr: bool,
+    priority: u32,
+    autostart: u32,
+}
+
+struct Table {
+    period: u32,
+    /// Offset and task.
+    entries: Vec<(u32, u32)>,
+}
+
+struct Plan {
+    bodies: Vec<Body>,
+    /// Masks of users.
+    resources: Vec<u32>,
+    tables: Vec<Table>,
+}
+
+/// What a number of a configuration stands for.
+#[derive(Clone, Copy, PartialEq, Eq)]
+enum Role {
+    Version,
+    BodyCount,
+    Kind,
+    Priority,
+    Autostart,
+    ResourceCount,
+    Users,
+    TableCount,
+    Period,
+    EntryCount,
+    Offset,
+    Task,
+}
+
+impl Plan {
+    fn numbers(&self) -> Vec<(Role, u32)> {
+        let mut numbers = vec![(Role::Version, 1), (Role::BodyCount, self.bodies.len() as u32)];
+        for body in &self.bodies {
+            numbers.push((Role::Kind, u32::from(body.is_isr)));
+            numbers.push((Role::Priority, body.priority));
+            numbers.push((Role::Autostart, body.autostart));
+        }
+        numbers.push((Role::ResourceCount, self.resources.len() as u32));
+        numbers.extend(self.resources.iter().map(|users| (Role::Users, *users)));
+        numbers.push((Role::TableCount, self.tables.len() as u32));
+        for table in &self.tables {
+            numbers.push((Role::Period, table.period));
+            numbers.push((Role::EntryCount, table.entries.len() as u32));
+            for (offset, task) in &table.entries {
+                numbers.push((Role::Offset, *offset));
+                numbers.push((Role::Task, *task));
+            }
+        }
+        numbers
+    }
+}
+
+pub fn push_number(bytes: &mut Vec<u8>, mut value: u32) {
+    while value >= 0x80 {
+        bytes.push(value as u8 | 0x80);
+        value >>= 7;
+    }
+    bytes.push(value as u8);
+}
+
+fn number_bytes(numbers: &[(Role, u32)]) -> Vec<u8> {
+    let mut bytes = Vec::new();
+    for (_, value) in numbers {
+        push_number(&mut bytes, *value);
+    }
+    bytes
+}
+
+fn draw_plan(random: &mut Random) -> Plan {
+    let bodies = draw_bodies(random);
+    let resources = draw_resources(random, &bodies);
+    let tasks: Vec<u32> = (0..bodies.len() as u32).filter(|body| !bodies[*body as usize].is_isr).collect();
+    let tables = if tasks.is_empty() { Vec::new() } else { draw_tables(random, &tasks) };
+    Plan { bodies, resources, tables }
+}
+
+fn draw_bodies(random: &mut Random) -> Vec<Body> {
+    let count = match random.below(10) {
+        0 => 1,
+        1..=3 => random.between(2, 5),
+        4..=6 => 32,
+        _ => random.between(6, 32),
+    };
+    // Priorities close together leave little room for ceilings between them; far apart they reach 1 and 200.
+    let span = if random.chance(40) { count } else { random.between(count, 200) };
+    let mut priorities: Vec<u32> = (1..=span as u32).collect();
+    random.shuffle(&mut priorities);
+    if random.chance(30) {
+        let top = 200 - span as u32;
+        priorities.iter_mut().for_each(|priority| *priority += top);
+    }
+    let isr_percent = random.pick(&[0, 10, 20, 30, 50, 80, 100]);
+    let autostart_percent = random.pick(&[10, 30, 60, 100]);
+    let mut bodies: Vec<Body> = (0..count)
+        .map(|body| {
+            let is_isr = random.chance(isr_percent);
+            Body {
+                is_isr,
+                priority: priorities[body],
+                autostart: u32::from(!is_isr && random.chance(autostart_percent)),
+            }
+        })
+        .collect();
+    // A configuration that can never leave idle says little.
+    if bodies.iter().all(|body| !body.is_isr && body.autostart == 0) && random.chance(95) {
+        let first = random.below(count);
+        bodies[first].autostart = 1;
+    }
+    bodies
+}
+
+fn draw_resources(random: &mut Random, bodies: &[Body]) -> Vec<u32> {
+    let count = match random.below(8) {
+        0 => 0,
+        1 => 16,
+        _ => random.between(1, 8),
+    };
+    let all = u32::MAX >> (32 - bodies.len());
+    (0..count)
+        .map(|_| {
+            let users = match random.below(5) {
+                0 => all,
+                1 => 1 << random.below(bodies.len()),
+                // Few users, so that bodies above the ceiling occur.
+                2 => random.word() as u32 & random.word() as u32 & random.word() as u32,
+                _ => random.word() as u32,
+            };
+            if users & all == 0 {
+                1 << random.below(bodies.len())
+            } else {
+                users & all
+            }
+        })
+        .collect()
+}
+
+fn draw_tables(random: &mut Random, tasks: &[u32]) -> Vec<Table> {
+    let count = match random.below(6) {
+        0 => 0,
+        1 | 2 => 8,
+        _ => random.between(1, 4),
+    };
+    // Tables that share few tasks lose activations.
+    let mut shared = tasks.to_vec();
+    random.shuffle(&mut shared);
+    shared.truncate(random.between(1, tasks.len()));
+    let mut left = 64;
+    (0..count)
+        .map(|table| {
+            let period = match random.below(9) {
+                0 => 1,
+                1 => 2,
+                2 => 65_535,
+                3 => random.between(1, 65_535) as u32,
+                4 => random.between(100, 2_000) as u32,
+                _ => random.between(3, 40) as u32,
+            };
+            let others = count - 1 - table;
+            let most = 16.min(left - others);
+            let wanted = if random.chance(50) { most } else { random.between(1, most) };
+            let mut entries: Vec<(u32, u32)> = (0..wanted)
+                .map(|_| {
+                    let offset = match random.below(6) {
+                        0 => 0,
+                        1 => period as usize - 1,
+                        2 => random.below((period as usize).min(4)),
+                        3 => random.below(period as usize),
+                        _ => random.below((period as usize).min(50)),
+                    };
+                    (offset as u32, random.pick(&shared))
+                })
+                .collect();
+            entries.sort_unstable();
+            entries.dedup();
+            left -= entries.len();
+            Table { period, entries }
+        })
+        .collect()
+}
+
+// Traces
+
+/// How often a trace does what.
+struct Habits {
+    /// How often the drawer looks at the state for an event that succeeds.
+    look: usize,
+    /// Weights of the event codes 1 to 9.
+    weight: [usize; 9],
+}
+
+fn draw_habits(random: &mut Random) -> Habits {
+    let weight = match random.below(7) {
+        // Activations and ends.
+        0 => [8, 8, 4, 2, 3, 2, 4, 1, 1],
+        // Resources, nested.
+        1 => [3, 3, 1, 12, 9, 1, 4, 1, 0],
+        // Ticks.
+        2 => [1, 16, 1, 1, 3, 30, 1, 4, 1],
+        // Starts and stops.
+        3 => [1, 6, 1, 1, 2, 12, 1, 8, 5],
+        // Interrupts.
+        4 => [2, 8, 1, 3, 3, 2, 16, 1, 1],
+        // Calls without ticks.
+        5 => [4, 4, 2, 4, 4, 0, 3, 1, 1],
+        _ => [1; 9],
+    };
+    Habits { look: random.pick(&[30, 40, 50, 50, 60, 80]), weight }
+}
+
+/// A number that is an id, or nearly one, or any.
+fn any_id(random: &mut Random, count: usize) -> u32 {
+    match random.below(20) {
+        0 => random.pick(&[31, 32, 33, 127, 128, 255, 256, 16_383, 16_384, 1 << 31, u32::MAX]),
+        1 | 2 => count as u32,
+        _ => random.below(count + 1) as u32,
+    }
+}
+
+fn any_delay(random: &mut Random, largest_offset: u32) -> u32 {
+    match random.below(12) {
+        0 => 0,
+        1 => 65_535 - largest_offset,
+        2 => 65_536 - largest_offset,
+        3 => random.pick(&[65_535, 65_536, u32::MAX, u32::MAX - largest_offset, 1 << 16, 1 << 31]),
+        4 => random.between(1, 65_535) as u32,
+        5 => random.between(1, 300) as u32,
+        _ => random.between(1, 6) as u32,
+    }
+}
+
+/// An event that succeeds now, if the code has one.
+fn good_event(random: &mut Random, config: &Config, kernel: &Kernel<NextDue>, code: usize) -> Option<Event> {
+    let bodies = config.bodies();
+    let runner = kernel.runner();
+    let suspended_task =
+        |random: &mut Random| random.pick_where(bodies, |body| config.is_task(body) && kernel.is_suspended(body));
+    if runner.is_none() && code != 6 && code != 7 {
+        return None;
+    }
+    match code {
+        1 => suspended_task(random).map(Event::Activate),
+        2 => kernel.last_held().is_none().then_some(Event::Finish),
+        3 => {
+            let runner = runner.filter(|runner| config.is_task(*runner) && kernel.last_held().is_none())?;
+            if random.chance(30) {
+                Some(Event::Chain(runner))
+            } else {
+                suspended_task(random).map(Event::Chain)
+            }
+        }
+        4 => random.pick_where(config.resources(), |resource| kernel.may_get(resource)).map(Event::Get),
+        5 => kernel.last_held().map(Event::Release),
+        6 => Some(Event::Tick),
+        7 => {
+            // A started ISR first: its second request.
+            let free = |body: u32| config.is_isr(body) && !kernel.is_requested(body);
+            let second = if random.chance(50) {
+                random.pick_where(bodies, |body| free(body) && kernel.is_started(body))
+            } else {
+                None
+            };
+            second.or_else(|| random.pick_where(bodies, free)).map(Event::Line)
+        }
+        8 => {
+            let table = random.pick_where(config.tables(), |table| !kernel.is_on(table))?;
+            let most = 65_535 - config.largest_offset(table as usize);
+            let delay = any_delay(random, config.largest_offset(table as usize));
+            Some(Event::Start(table, if (1..=most).contains(&delay) { delay } else { 1 }))
+        }
+        _ => random.pick_where(config.tables(), |table| kernel.is_on(table)).map(Event::Stop),
+    }
+}
+
+fn any_event(random: &mut Random, config: &Config, code: usize) -> Event {
+    match code {
+        1 => Event::Activate(any_id(random, config.bodies())),
+        2 => Event::Finish,
+        3 => Event::Chain(any_id(random, config.bodies())),
+        4 => Event::Get(any_id(random, config.resources())),
+        5 => Event::Release(any_id(random, config.resources())),
+        6 => Event::Tick,
+        7 => Event::Line(any_id(random, config.bodies())),
+        8 => {
+            let table = any_id(random, config.tables());
+            let largest = if (table as usize) < config.tables() { config.largest_offset(table as usize) } else { 0 };
+            Event::Start(table, any_delay(random, largest))
+        }
+        _ => Event::Stop(any_id(random, config.tables())),
+    }
+}
+
+fn draw_event(random: &mut Random, config: &Config, kernel: &Kernel<NextDue>, habits: &Habits) -> Event {
+    let total: usize = habits.weight.iter().sum();
+    let draw_code = |random: &mut Random| {
+        let mut at = random.below(total);
+        for (index, weight) in habits.weight.iter().enumerate() {
+            if at < *weight {
+                return index + 1;
+            }
+            at -= weight;
+        }
+        unreachable!("the draw lies below the sum of the weights")
+    };
+    if random.chance(habits.look) {
+        for _ in 0..4 {
+            let code = draw_code(random);
+            if let Some(event) = good_event(random, config, kernel, code) {
+                return event;
+            }
+        }
+    }
+    let code = draw_code(random);
+    any_event(random, config, code)
+}
+
+pub fn push_event(bytes: &mut Vec<u8>, event: Event) {
+    let (code, arguments) = match event {
+        Event::Activate(task) => (1, vec![task]),
+        Event::Finish => (2, vec![]),
+        Event::Chain(task) => (3, vec![task]),
+        Event::Get(resource) => (4, vec![resource]),
+        Event::Release(resource) => (5, vec![resource]),
+        Event::Tick => (6, vec![]),
+        Event::Line(isr) => (7, vec![isr]),
+        Event::Start(table, delay) => (8, vec![table, delay]),
+        Event::Stop(table) => (9, vec![table]),
+    };
+    bytes.push(code);
+    for argument in arguments {
+        push_number(bytes, argument);
+    }
+}
+
+/// A trace of at most `limit` bytes.
+fn draw_trace(random: &mut Random, config: &Config, limit: usize) -> Vec<u8> {
+    let mut habits = draw_habits(random);
+    let mut kernel = Kernel::<NextDue>::fresh(config);
+    let mut trace = Vec::new();
+    let has_isr = (0..config.bodies() as u32).any(|body| config.is_isr(body));
+    let table_on = |kernel: &Kernel<NextDue>| (0..config.tables() as u32).any(|table| kernel.is_on(table));
+    while trace.len() < limit {
+        if random.below(300) == 0 {
+            habits = draw_habits(random);
+        }
+        let mut event = draw_event(random, config, &kernel, &habits);
+        // The last body mostly goes on running if nothing could wake another.
+        if event == Event::Finish && kernel.others() == 0 && !has_isr && !table_on(&kernel) && random.chance(95) {
+            event = Event::Tick;
+        }
+        let length = trace.len();
+        push_event(&mut trace, event);
+        if trace.len() > limit {
+            trace.truncate(length);
+            break;
+        }
+        kernel.step(event);
+        // Nothing moves any more: a few events later the trace ends.
+        if kernel.runner().is_none() && !has_isr && !table_on(&kernel) && random.chance(20) {
+            break;
+        }
+    }
+    trace
+}
+
+fn draw_length(random: &mut Random) -> usize {
+    match random.below(100) {
+        0 => 0,
+        1..=49 => random.between(1, 120),
+        50..=84 => random.between(120, 600),
+        85..=95 => random.between(600, 2_000),
+        96..=98 => random.between(2_000, TRACE_MAX),
+        _ => TRACE_MAX,
+    }
+}
+
+// Damage
+
+/// A number that the reader can't take: longer than needed, too large, or without an end.
+fn bad_number(random: &mut Random, value: u32) -> Vec<u8> {
+    let mut bytes = Vec::new();
+    push_number(&mut bytes, value);
+    match random.below(5) {
+        0 | 1 => {
+            // A group of zeros more.
+            if bytes.len() < 5 {
+                *bytes.last_mut().expect("a number has a byte") |= 0x80;
+                let zeros = random.between(1, 5 - bytes.len());
+                bytes.extend(std::iter::repeat_n(0x80, zeros - 1));
+                bytes.push(0);
+            } else {
+                bytes[4] |= 0x10;
+            }
+            bytes
+        }
+        2 => vec![0xff, 0xff, 0xff, 0xff, random.pick(&[0x10, 0x1f, 0x7f, 0x80, 0xff])],
+        3 => vec![0x80, 0x80, 0x80, 0x80, random.pick(&[0, 0x10, 0x80])],
+        _ => vec![0x80; random.between(1, 5)],
+    }
+}
+
+fn flip_bits(random: &mut Random, bytes: &mut [u8]) {
+    if bytes.is_empty() {
+        return;
+    }
+    for _ in 0..random.between(1, 3) {
+        let at = random.below(bytes.len());
+        bytes[at] ^= 1 << random.below(8);
+    }
+}
+
+/// A value that the role's range leaves out, mostly just beside it.
+fn out_of_range(random: &mut Random, plan: &Plan, role: Role, value: u32) -> u32 {
+    let bodies = plan.bodies.len() as u32;
+    let isr = plan.bodies.iter().position(|body| body.is_isr).map_or(bodies, |isr| isr as u32);
+    match role {
+        Role::Version => random.pick(&[0, 2, 3, 128, 257]),
+        Role::BodyCount => random.pick(&[0, 33, 34, bodies + 1, bodies - 1, u32::MAX]),
+        Role::Kind => random.pick(&[2, 3, 1 - value.min(1), 128, 256]),
+        Role::Priority => random.pick(&[0, 201, 255, 256, 257, plan.bodies[0].priority]),
+        Role::Autostart => random.pick(&[2, 1 - value.min(1), 1 - value.min(1), 256]),
+        Role::ResourceCount => random.pick(&[17, value + 1, value.saturating_sub(1), 255, 256]),
+        Role::Users => random.pick(&[0, 1 << (bodies % 32), u32::MAX, value | 1 << 31]),
+        Role::TableCount => random.pick(&[9, value + 1, value.saturating_sub(1), 256]),
+        Role::Period => random.pick(&[0, 65_536, 1, u32::MAX]),
+        Role::EntryCount => random.pick(&[0, 17, value + 1, value - 1, 16, u32::MAX]),
+        Role::Offset => random.pick(&[65_535, 65_536, value + 1, value.saturating_sub(1), 0, u32::MAX]),
+        Role::Task => random.pick(&[bodies, isr, 32, value + 1, value.saturating_sub(1), u32::MAX]),
+    }
+}
+
+/// Tables with 64 entries or just above.
+fn many_entries(random: &mut Random, plan: &mut Plan) {
+    let Some(task) = plan.bodies.iter().position(|body| !body.is_isr) else { return };
+    let counts: &[u32] = random.pick(&[
+        &[16, 16, 16, 16][..],
+        &[16, 16, 16, 16, 1],
+        &[16, 16, 16, 15, 2],
+        &[9, 9, 9, 9, 9, 9, 9, 2],
+        &[16, 16, 16, 16, 16, 16, 16, 16],
+        &[16, 16, 17],
+    ]);
+    plan.tables = counts
+        .iter()
+        .map(|count| Table { period: 40, entries: (0..*count).map(|offset| (offset, task as u32)).collect() })
+        .collect();
+}
+
+/// Two entries in the wrong order, one twice, or one that rises by its task only.
+fn unsort_entries(random: &mut Random, plan: &mut Plan) {
+    let Some(table) = plan.tables.iter_mut().find(|table| table.entries.len() >= 2) else { return };
+    let at = random.below(table.entries.len() - 1);
+    match random.below(3) {
+        0 => table.entries.swap(at, at + 1),
+        1 => table.entries[at + 1] = table.entries[at],
+        _ => table.entries[at + 1].0 = table.entries[at].0,
+    }
+}
+
+/// The bytes of a configuration with something wrong in it.
+fn damage_config(random: &mut Random, plan: &mut Plan) -> Vec<u8> {
+    match random.below(8) {
+        0 => many_entries(random, plan),
+        1 => unsort_entries(random, plan),
+        2 if plan.bodies.len() >= 2 => {
+            let (from, to) = (random.below(plan.bodies.len()), random.below(plan.bodies.len()));
+            plan.bodies[to].priority = plan.bodies[from].priority;
+        }
+        _ => {}
+    }
+    let mut numbers = plan.numbers();
+    if random.chance(60) {
+        // All roles alike, however many numbers have them.
+        let role = random.pick(&numbers).0;
+        let role = if random.chance(50) {
+            role
+        } else {
+            random.pick(&[
+                Role::Version,
+                Role::BodyCount,
+                Role::ResourceCount,
+                Role::TableCount,
+                Role::Users,
+                Role::Period,
+                Role::EntryCount,
+            ])
+        };
+        let with_role: Vec<usize> = (0..numbers.len()).filter(|at| numbers[*at].0 == role).collect();
+        if !with_role.is_empty() {
+            let at = random.pick(&with_role);
+            numbers[at].1 = out_of_range(random, plan, role, numbers[at].1);
+        }
+    }
+    let mut bytes = number_bytes(&numbers);
+    match random.below(12) {
+        0 => bytes.truncate(random.below(bytes.len())),
+        1 => bytes.truncate(bytes.len() - 1),
+        2 => flip_bits(random, &mut bytes),
+        3 | 4 => {
+            let at = random.below(numbers.len());
+            bytes = number_bytes(&numbers[..at]);
+            bytes.extend(bad_number(random, numbers[at].1));
+            bytes.extend(number_bytes(&numbers[at + 1..]));
+        }
+        5 => {
+            // Ends inside a number.
+            let at = random.below(numbers.len());
+            bytes = number_bytes(&numbers[..at]);
+            bytes.extend(vec![0x80 | random.below(128) as u8; random.between(1, 4)]);
+        }
+        6 => bytes.extend((0..random.between(1, 9)).map(|_| random.word() as u8)),
+        7 => bytes.resize(random.pick(&[CONFIG_MAX - 1, CONFIG_MAX, CONFIG_MAX + 1, CONFIG_MAX + 100]), 0),
+        8 if random.chance(30) => bytes.clear(),
+        _ => {}
+    }
+    bytes
+}
+
+/// A trace with something wrong in it.
+fn damage_trace(random: &mut Random, trace: &mut Vec<u8>) {
+    let boundaries = |trace: &[u8]| {
+        let mut places = vec![0];
+        let mut at = 0;
+        while let Ok((_, next)) = reference::read_event(trace, at) {
+            places.push(next);
+            at = next;
+        }
+        places
+    };
+    let at = {
+        let places = boundaries(trace);
+        random.pick(&places)
+    };
+    match random.below(9) {
+        0 => trace.truncate(random.below(trace.len() + 1)),
+        1 => flip_bits(random, trace),
+        2 => {
+            let value = random.pick(&[0, 1, 6, 9, 10, 127, 128]);
+            let bad = bad_number(random, value);
+            trace.splice(at..at, bad);
+        }
+        3 => {
+            // A code with an argument that can't be read.
+            let code = random.pick(&[1, 3, 4, 5, 7, 8, 9]);
+            let mut event = vec![code];
+            if code == 8 && random.chance(50) {
+                push_number(&mut event, random.below(9) as u32);
+            }
+            let value = random.word() as u32 >> random.below(32);
+            event.extend(bad_number(random, value));
+            trace.splice(at..at, event);
+        }
+        4 => {
+            let mut code = Vec::new();
+            push_number(&mut code, random.pick(&[0, 10, 11, 127, 128, 129, 262, 1 << 14, u32::MAX]));
+            trace.splice(at..at, code);
+        }
+        5 => trace.resize(random.pick(&[TRACE_MAX + 1, TRACE_MAX + 2, TRACE_MAX + 5_000]), 6),
+        6 => {
+            // An event whose arguments are missing.
+            trace.truncate(at);
+            trace.push(random.pick(&[1, 3, 4, 5, 7, 8, 9]));
+            if random.chance(50) {
+                trace.extend(vec![0x80; random.between(1, 4)]);
+            }
+        }
+        7 => trace.resize(TRACE_MAX, 6),
+        _ => trace.clear(),
+    }
+}
+
+// Cases
+
+/// What one run is given.
+#[derive(Clone, PartialEq, Eq, Debug)]
+pub struct Case {
+    pub config: Vec<u8>,
+    pub trace: Vec<u8>,
+    pub out_len: usize,
+    /// The output buffer before the run depends on it.
+    pub fill: u8,
+}
+
+impl Case {
+    /// The output buffer before the run. Neighbours differ, so that a byte moved is seen as well as one overwritten.
+    pub fn prefilled(&self) -> Vec<u8> {
+        (0..self.out_len).map(|i| (i as u8).wrapping_mul(167).wrapping_add(self.fill)).collect()
+    }
+}
+
+fn draw_out_len(random: &mut Random, config: &[u8], trace: &[u8]) -> usize {
+    let needed = match (reference::read_config(config), reference::count_events(trace)) {
+        (Ok(config), Ok(events)) => 4 * events + 2 * config.bodies(),
+        _ => 4 * trace.len().min(TRACE_MAX),
+    };
+    match random.below(20) {
+        0 => needed.saturating_sub(1),
+        1 => random.below(needed + 1),
+        2 => 0,
+        3..=9 => needed,
+        10..=15 => needed + random.between(1, 40),
+        _ => OUTPUT_MAX,
+    }
+}
+
+/// The case with this number. Of ten cases about six are whole; the others have a damaged configuration, a damaged
+/// trace or both, or are noise.
+pub fn case(seed: u64, number: u64) -> Case {
+    let mut random = Random::new(Random::new(seed).word() ^ number.wrapping_mul(0xd134_2543_de82_ef95));
+    let mut plan = draw_plan(&mut random);
+    let whole = number_bytes(&plan.numbers());
+    let config = reference::read_config(&whole).expect("a drawn configuration is accepted");
+    let limit = draw_length(&mut random);
+    let mut trace = draw_trace(&mut random, &config, limit);
+    let mut config = whole;
+    match random.below(20) {
+        0..=4 => config = damage_config(&mut random, &mut plan),
+        5 | 6 => damage_trace(&mut random, &mut trace),
+        7 if random.chance(60) => {
+            config = damage_config(&mut random, &mut plan);
+            damage_trace(&mut random, &mut trace);
+        }
+        7 => {
+            let noise = |random: &mut Random, most: usize| {
+                (0..random.below(most)).map(|_| random.word() as u8 >> random.below(8)).collect::<Vec<u8>>()
+            };
+            config = noise(&mut random, 60);
+            if random.chance(70) && config.len() >= 2 {
+                config[0] = 1;
+                config[1] = 1 + config[1] % 4;
+            }
+            trace = noise(&mut random, 60);
+        }
+        _ => {}
+    }
+    let out_len = draw_out_len(&mut random, &config, &trace);
+    Case { config, trace, out_len, fill: random.word() as u8 }
+}
+
+// Timing
+
+/// A busy configuration and a trace of `length` bytes over it.
+pub fn timed(seed: u64, shape: Shape, length: usize) -> Case {
+    let mut random = Random::new(seed);
+    let plan = timed_plan(&mut random);
+    let config = number_bytes(&plan.numbers());
+    let ready = reference::read_config(&config).expect("the timed configuration is accepted");
+    let trace = timed_trace(&mut random, &ready, shape, length);
+    Case { config, trace, out_len: OUTPUT_MAX, fill: 0 }
+}
+
+/// What a timed trace is made of.
+#[derive(Clone, Copy, PartialEq, Eq, Debug)]
+pub enum Shape {
+    /// Calls and lines alone.
+    NoTicks,
+    /// Calls, lines and ticks, a fifth of them ticks, some tables on.
+    Mixed,
+    /// All 64 cells on, then ticks; bodies that begin end at once.
+    Ticks,
+}
+
+/// 32 bodies, every fourth an ISR, 8 resources, 8 tables of 8 entries.
+fn timed_plan(random: &mut Random) -> Plan {
+    let mut priorities: Vec<u32> = (1..=32).map(|rank| rank * 6).collect();
+    random.shuffle(&mut priorities);
+    let bodies: Vec<Body> = (0..32)
+        .map(|body| {
+            let is_isr = body % 4 == 3;
+            Body { is_isr, priority: priorities[body], autostart: u32::from(!is_isr && body % 2 == 0) }
+        })
+        .collect();
+    let resources = (0..8).map(|_| random.word() as u32 | 1).collect();
+    let tasks: Vec<u32> = (0..32).filter(|body| body % 4 != 3).collect();
+    let tables = (0..8)
+        .map(|table| {
+            let period = 40 + 13 * table;
+            let entries = (0..8).map(|entry| (entry * 5 + table % 5, random.pick(&tasks))).collect();
+            Table { period, entries }
+        })
+        .collect();
+    Plan { bodies, resources, tables }
+}
+
+fn timed_trace(random: &mut Random, config: &Config, shape: Shape, length: usize) -> Vec<u8> {
+    let habits = Habits {
+        look: 75,
+        weight: match shape {
+            Shape::NoTicks => [5, 6, 2, 4, 4, 0, 4, 1, 1],
+            Shape::Mixed => [5, 6, 2, 4, 4, 7, 4, 2, 1],
+            Shape::Ticks => [0, 0, 0, 0, 0, 1, 0, 0, 0],
+        },
+    };
+    let mut kernel = Kernel::<NextDue>::fresh(config);
+    let mut trace = Vec::new();
+    if shape == Shape::Ticks {
+        for table in 0..config.tables() as u32 {
+            let event = Event::Start(table, 1 + table);
+            push_event(&mut trace, event);
+            kernel.step(event);
+        }
+    }
+    while trace.len() < length {
+        let event = match (shape, kernel.runner()) {
+            (Shape::Ticks, Some(_)) if kernel.others() > 0 && random.chance(50) => Event::Finish,
+            (Shape::NoTicks | Shape::Mixed, Some(_)) if kernel.others() == 0 => draw_wake(random, config, &kernel),
+            _ => draw_event(random, config, &kernel, &habits),
+        };
+        let before = trace.len();
+        push_event(&mut trace, event);
+        if trace.len() > length {
+            trace.truncate(before);
+            trace.resize(length, if shape == Shape::NoTicks { 2 } else { 6 });
+            break;
+        }
+        kernel.step(event);
+    }
+    trace
+}
+
+/// An event that brings a second body in, so that a timed trace never falls idle for good.
+fn draw_wake(random: &mut Random, config: &Config, kernel: &Kernel<NextDue>) -> Event {
+    let code = random.pick(&[1, 7]);
+    good_event(random, config, kernel, code).unwrap_or_else(|| any_event(random, config, code))
+}

@@ -1,0 +1,204 @@
+//! Memory with unreadable pages on both sides: a byte read or written outside a slice ends the process.
+//!
+//! A slice is placed flush against the page before it or the page after it. The rest of its pages bears a pattern
+//! that is looked at afterwards, and input pages can't be written while the run works.
+
+use std::cell::Cell;
+use std::ffi::{c_int, c_long, c_void};
+
+use crate::draw::Case;
+
+extern "C" {
+    fn mmap(addr: *mut c_void, length: usize, prot: c_int, flags: c_int, fd: c_int, offset: i64) -> *mut c_void;
+    fn mprotect(addr: *mut c_void, length: usize, prot: c_int) -> c_int;
+    fn munmap(addr: *mut c_void, length: usize) -> c_int;
+    fn sysconf(name: c_int) -> c_long;
+    fn signal(number: c_int, handler: usize) -> usize;
+    fn write(fd: c_int, bytes: *const c_void, length: usize) -> isize;
+    fn _exit(status: c_int) -> !;
+}
+
+// Linux.
+const PROT_NONE: c_int = 0;
+const PROT_READ: c_int = 1;
+const PROT_WRITE: c_int = 2;
+const MAP_PRIVATE: c_int = 2;
+const MAP_ANONYMOUS: c_int = 0x20;
+const SC_PAGESIZE: c_int = 30;
+const SIGSEGV: c_int = 11;
+const SIGBUS: c_int = 7;
+
+/// The run as C declares it, with slices for pointers and lengths.
+pub type Run = fn(&[u8], &[u8], &mut [u8]) -> u64;
+
+/// The page against which slices are flush.
+#[derive(Clone, Copy, PartialEq, Eq, Debug)]
+pub enum Side {
+    Before,
+    After,
+}
+
+/// Pages between two unreadable ones.
+struct Pages {
+    start: *mut u8,
+    length: usize,
+    page: usize,
+}
+
+const PATTERN: u8 = 0xa5;
+
+impl Pages {
+    fn new(least: usize) -> Self {
+        let page = unsafe { sysconf(SC_PAGESIZE) } as usize;
+        let length = least.div_ceil(page).max(1) * page;
+        unsafe {
+            let all = mmap(std::ptr::null_mut(), length + 2 * page, PROT_NONE, MAP_PRIVATE | MAP_ANONYMOUS, -1, 0);
+            assert!(all as isize != -1, "mmap failed");
+            let pages = Pages { start: all.cast::<u8>().add(page), length, page };
+            pages.protect(PROT_READ | PROT_WRITE);
+            pages
+        }
+    }
+
+    fn protect(&self, prot: c_int) {
+        let status = unsafe { mprotect(self.start.cast(), self.length, prot) };
+        assert_eq!(status, 0, "mprotect failed");
+    }
+
+    fn all(&mut self) -> &mut [u8] {
+        unsafe { std::slice::from_raw_parts_mut(self.start, self.length) }
+    }
+
+    fn range(&self, length: usize, side: Side) -> std::ops::Range<usize> {
+        assert!(length <= self.length, "the case is larger than its pages");
+        match side {
+            Side::Before => 0..length,
+            Side::After => self.length - length..self.length,
+        }
+    }
+
+    /// Writes the pattern everywhere and `bytes` flush against `side`.
+    fn place(&mut self, bytes: &[u8], side: Side) {
+        let range = self.range(bytes.len(), side);
+        let all = self.all();
+        all.fill(PATTERN);
+        all[range].copy_from_slice(bytes);
+    }
+
+    /// The bytes outside the slice are as `place` left them.
+    fn surroundings_untouched(&mut self, length: usize, side: Side) -> bool {
+        let range = self.range(length, side);
+        let all = self.all();
+        all[..range.start].iter().chain(&all[range.end..]).all(|byte| *byte == PATTERN)
+    }
+}
+
+impl Drop for Pages {
+    fn drop(&mut self) {
+        unsafe { munmap(self.start.sub(self.page).cast(), self.length + 2 * self.page) };
+    }
+}
+
+/// Guarded pages for the two inputs and the output of a run.
+pub struct GuardedRun {
+    config: Pages,
+    trace: Pages,
+    out: Pages,
+}
+
+impl Default for GuardedRun {
+    fn default() -> Self {
+        GuardedRun { config: Pages::new(8_192), trace: Pages::new(16_384), out: Pages::new(65_536) }
+    }
+}
+
+impl GuardedRun {
+    /// The result of the run and the whole output buffer after it. Ends the test if anything outside was touched.
+    pub fn run(&mut self, run: Run, case: &Case, side: Side) -> (u64, Vec<u8>) {
+        self.config.place(&case.config, side);
+        self.trace.place(&case.trace, side);
+        self.out.place(&case.prefilled(), side);
+        self.config.protect(PROT_READ);
+        self.trace.protect(PROT_READ);
+        let (config, trace, out) = (
+            self.config.range(case.config.len(), side),
+            self.trace.range(case.trace.len(), side),
+            self.out.range(case.out_len, side),
+        );
+        let result = unsafe {
+            run(
+                std::slice::from_raw_parts(self.config.start.add(config.start), config.len()),
+                std::slice::from_raw_parts(self.trace.start.add(trace.start), trace.len()),
+                std::slice::from_raw_parts_mut(self.out.start.add(out.start), out.len()),
+            )
+        };
+        self.config.protect(PROT_READ | PROT_WRITE);
+        self.trace.protect(PROT_READ | PROT_WRITE);
+        let (seed, number) = CURRENT.get();
+        assert!(
+            self.out.surroundings_untouched(case.out_len, side),
+            "the run wrote outside its output of {} bytes: seed {seed} case {number}",
+            case.out_len
+        );
+        (result, self.out.all()[out].to_vec())
+    }
+}
+
+thread_local! {
+    static CURRENT: Cell<(u64, u64)> = const { Cell::new((0, 0)) };
+}
+
+/// Names the case that this thread runs, for the message of a memory fault.
+pub fn announce(seed: u64, number: u64) {
+    CURRENT.set((seed, number));
+}
+
+/// From now on a memory fault names seed and case before it ends the process.
+pub fn report_faults() {
+    unsafe {
+        signal(SIGSEGV, on_fault as *const () as usize);
+        signal(SIGBUS, on_fault as *const () as usize);
+    }
+}
+
+extern "C" fn on_fault(_: c_int) {
+    let (seed, number) = CURRENT.get();
+    let mut line = Line::default();
+    line.text(b"\nmemory touched outside the slices: seed ");
+    line.number(seed);
+    line.text(b" case ");
+    line.number(number);
+    line.text(b"\n");
+    unsafe {
+        write(2, line.bytes.as_ptr().cast(), line.length);
+        _exit(101)
+    }
+}
+
+/// A line put together without allocating, for the signal handler.
+struct Line {
+    bytes: [u8; 128],
+    length: usize,
+}
+
+impl Default for Line {
+    fn default() -> Self {
+        Line { bytes: [0; 128], length: 0 }
+    }
+}
+
+impl Line {
+    fn text(&mut self, text: &[u8]) {
+        for byte in text {
+            self.bytes[self.length] = *byte;
+            self.length += 1;
+        }
+    }
+
+    fn number(&mut self, value: u64) {
+        if value >= 10 {
+            self.number(value / 10);
+        }
+        self.text(&[b'0' + (value % 10) as u8]);
+    }
+}

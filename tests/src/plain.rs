@@ -1,0 +1,455 @@
+//! Document 01's plain scheduler, as slow and as near to its words as can be: a set of bodies, the runner chosen
+//! afresh after every event, tables with d and n. No rank, ready list, stack, kept level or cell; nothing here is
+//! shared with `reference`, so that a misreading in one of the two shows as a difference.
+
+use std::collections::BTreeSet;
+
+/// A refusal and its place.
+type Refused = (u64, usize);
+
+/// "A number is 1 to 5 groups of seven bits, lowest first": its bytes in the shortest form.
+pub fn number_bytes(mut value: u64) -> Vec<u8> {
+    let mut bytes = Vec::new();
+    loop {
+        let group = (value % 128) as u8;
+        value /= 128;
+        if value == 0 {
+            bytes.push(group);
+            return bytes;
+        }
+        bytes.push(group + 128);
+    }
+}
+
+/// The number at a place and its length; otherwise 1 or 2.
+fn number_at(input: &[u8], place: usize) -> Result<(u64, usize), u64> {
+    let five = &input[place.min(input.len())..input.len().min(place + 5)];
+    // "input ends before a last or fifth group"
+    let length = match five.iter().position(|byte| *byte < 128) {
+        Some(last) => last + 1,
+        None if five.len() == 5 => 5,
+        None => return Err(1),
+    };
+    let bytes = &five[..length];
+    // "a fifth byte above 15, or not shortest"
+    if length == 5 && bytes[4] > 15 {
+        return Err(2);
+    }
+    let value = bytes.iter().rev().fold(0u64, |value, byte| value * 128 + u64::from(byte % 128));
+    if number_bytes(value) != bytes {
+        return Err(2);
+    }
+    Ok((value, length))
+}
+
+/// A place in the input that moves on number by number. `base` is 0 in a configuration and 20 in a trace.
+struct Cursor<'a> {
+    input: &'a [u8],
+    base: u64,
+    next: usize,
+}
+
+impl Cursor<'_> {
+    /// The next number and its own place.
+    fn take(&mut self) -> Result<(u64, usize), Refused> {
+        let place = self.next;
+        let (value, length) = number_at(self.input, place).map_err(|fault| (self.base + fault, place))?;
+        self.next += length;
+        Ok((value, place))
+    }
+}
+
+fn ensure(holds: bool, refusal: u64, place: usize) -> Result<(), Refused> {
+    if holds {
+        Ok(())
+    } else {
+        Err((refusal, place))
+    }
+}
+
+#[derive(Clone, Copy, PartialEq, Eq, Debug)]
+enum Kind {
+    Task,
+    Isr,
+}
+
+#[derive(Clone, Copy, PartialEq, Eq, Debug)]
+enum State {
+    Suspended,
+    Ready,
+    Started,
+}
+
+#[derive(Clone, Debug)]
+struct Body {
+    kind: Kind,
+    priority: u64,
+    autostart: bool,
+    state: State,
+    /// "for a started ISR also whether a request waits"
+    request_waits: bool,
+    /// "its held resources in the order taken"
+    held: Vec<usize>,
+    losses: u64,
+}
+
+/// "each table is stopped or has d and n, the Ticks since its start"
+#[derive(Clone, Copy, PartialEq, Eq, Debug)]
+enum Progress {
+    Stopped,
+    Running { d: u64, n: u64 },
+}
+
+#[derive(Clone, Debug)]
+struct Table {
+    period: u64,
+    /// Offset and task.
+    entries: Vec<(u64, usize)>,
+    progress: Progress,
+}
+
+#[derive(Clone, Debug)]
+pub struct Scheduler {
+    bodies: Vec<Body>,
+    /// The users of each resource.
+    resources: Vec<BTreeSet<usize>>,
+    tables: Vec<Table>,
+    runner: Option<usize>,
+}
+
+fn read_configuration(input: &[u8]) -> Result<Scheduler, Refused> {
+    ensure(input.len() <= 4096, 10, 0)?;
+    let mut cursor = Cursor { input, base: 0, next: 0 };
+    let (version, at) = cursor.take()?;
+    ensure(version == 1, 3, at)?;
+
+    let (body_count, at) = cursor.take()?;
+    ensure((1..=32).contains(&body_count), 4, at)?;
+    let mut bodies: Vec<Body> = Vec::new();
+    for _ in 0..body_count {
+        let (kind, at) = cursor.take()?;
+        ensure(kind <= 1, 5, at)?;
+        let (priority, at) = cursor.take()?;
+        ensure((1..=200).contains(&priority), 5, at)?;
+        ensure(bodies.iter().all(|other| other.priority != priority), 6, at)?;
+        let (autostart, at) = cursor.take()?;
+        ensure(autostart == 0 || (autostart == 1 && kind == 0), 5, at)?;
+        bodies.push(Body {
+            kind: if kind == 0 { Kind::Task } else { Kind::Isr },
+            priority,
+            autostart: autostart == 1,
+            state: State::Suspended,
+            request_waits: false,
+            held: Vec::new(),
+            losses: 0,
+        });
+    }
+
+    let (resource_count, at) = cursor.take()?;
+    ensure(resource_count <= 16, 4, at)?;
+    let mut resources = Vec::new();
+    for _ in 0..resource_count {
+        let (mask, at) = cursor.take()?;
+        let users: BTreeSet<usize> = (0..32).filter(|bit| (mask >> bit) % 2 == 1).collect();
+        ensure(!users.is_empty() && users.iter().all(|user| *user < bodies.len()), 5, at)?;
+        resources.push(users);
+    }
+
+    let (table_count, at) = cursor.take()?;
+    ensure(table_count <= 8, 4, at)?;
+    let mut tables: Vec<Table> = Vec::new();
+    for _ in 0..table_count {
+        let (period, at) = cursor.take()?;
+        ensure((1..=65535).contains(&period), 5, at)?;
+        let (entry_count, at) = cursor.take()?;
+        ensure((1..=16).contains(&entry_count), 4, at)?;
+        let before: usize = tables.iter().map(|table| table.entries.len()).sum();
+        ensure(before as u64 + entry_count <= 64, 8, at)?;
+        let mut entries: Vec<(u64, usize)> = Vec::new();
+        for _ in 0..entry_count {
+            let (offset, at) = cursor.take()?;
+            ensure(offset < period, 5, at)?;
+            let (task, at) = cursor.take()?;
+            ensure(bodies.get(task as usize).is_some_and(|body| body.kind == Kind::Task), 5, at)?;
+            let entry = (offset, task as usize);
+            ensure(entries.iter().all(|earlier| *earlier < entry), 7, at)?;
+            entries.push(entry);
+        }
+        tables.push(Table { period, entries, progress: Progress::Stopped });
+    }
+    ensure(cursor.next == input.len(), 9, cursor.next)?;
+    Ok(Scheduler { bodies, resources, tables, runner: None })
+}
+
+/// A code and its arguments.
+type PlainEvent = (u64, Vec<u64>);
+
+fn read_trace(input: &[u8]) -> Result<Vec<PlainEvent>, Refused> {
+    ensure(input.len() <= 8192, 20, 0)?;
+    let mut cursor = Cursor { input, base: 20, next: 0 };
+    let mut events = Vec::new();
+    while cursor.next < input.len() {
+        let (code, at) = cursor.take()?;
+        let arguments = match code {
+            2 | 6 => 0,
+            1 | 3 | 4 | 5 | 7 | 9 => 1,
+            8 => 2,
+            _ => return Err((23, at)),
+        };
+        let mut values = Vec::new();
+        for _ in 0..arguments {
+            values.push(cursor.take()?.0);
+        }
+        events.push((code, values));
+    }
+    Ok(events)
+}
+
+impl Scheduler {
+    /// "its ceiling is the greatest priority among them"
+    fn ceiling(&self, resource: usize) -> u64 {
+        self.resources[resource].iter().map(|user| self.bodies[*user].priority).max().expect("a resource has users")
+    }
+
+    /// "the greatest of its own priority and the ceilings of the resources it holds"
+    fn current_priority(&self, body: usize) -> u64 {
+        let ceilings = self.bodies[body].held.iter().map(|resource| self.ceiling(*resource));
+        ceilings.fold(self.bodies[body].priority, u64::max)
+    }
+
+    /// "the body with the greatest current priority among ready and started ones runs; on equal priorities the one
+    /// that already began goes first". A ready one becomes started; true if one did.
+    fn choose(&mut self) -> bool {
+        let competes = |body: &usize| self.bodies[*body].state != State::Suspended;
+        let began = |body: usize| self.bodies[body].state == State::Started;
+        self.runner =
+            (0..self.bodies.len()).filter(competes).max_by_key(|body| (self.current_priority(*body), began(*body)));
+        match self.runner {
+            Some(body) if self.bodies[body].state == State::Ready => {
+                self.bodies[body].state = State::Started;
+                true
+            }
+            _ => false,
+        }
+    }
+
+    fn fresh_start(&mut self) {
+        for body in &mut self.bodies {
+            if body.autostart {
+                body.state = State::Ready;
+            }
+        }
+        self.choose();
+    }
+
+    fn task(&self, id: u64) -> Option<usize> {
+        let id = usize::try_from(id).ok()?;
+        (self.bodies.get(id)?.kind == Kind::Task).then_some(id)
+    }
+
+    fn isr(&self, id: u64) -> Option<usize> {
+        let id = usize::try_from(id).ok()?;
+        (self.bodies.get(id)?.kind == Kind::Isr).then_some(id)
+    }
+
+    fn suspended(&self, body: usize) -> bool {
+        self.bodies[body].state == State::Suspended
+    }
+
+    /// Status 2: "nobody runs; for Chain also when an ISR runs".
+    fn call_level(&self, code: u64) -> bool {
+        match self.runner {
+            None => true,
+            Some(runner) => code == 3 && self.bodies[runner].kind == Kind::Isr,
+        }
+    }
+
+    /// Status 3: "no such task, resource, table or, for Line, ISR".
+    fn no_such(&self, code: u64, id: u64) -> bool {
+        match code {
+            1 | 3 => self.task(id).is_none(),
+            4 | 5 => id >= self.resources.len() as u64,
+            7 => self.isr(id).is_none(),
+            8 | 9 => id >= self.tables.len() as u64,
+            _ => unreachable!("the event has no id"),
+        }
+    }
+
+    /// Status 4: "the task isn't suspended (Chain to the caller itself is allowed); for Line, a request already waits
+    /// (the ISR is ready, or started with one waiting)".
+    fn limit(&self, code: u64, id: usize) -> bool {
+        match code {
+            1 => !self.suspended(id),
+            3 => !self.suspended(id) && self.runner != Some(id),
+            7 => self.bodies[id].state == State::Ready || self.bodies[id].request_waits,
+            _ => unreachable!("the event has no limit"),
+        }
+    }
+
+    /// Status 6: "the runner holds a resource".
+    fn holds(&self) -> bool {
+        self.runner.is_some_and(|runner| !self.bodies[runner].held.is_empty())
+    }
+
+    /// Status 1: "r is held by anyone, or the runner's own priority is above the ceiling".
+    fn no_access(&self, resource: usize) -> bool {
+        let held = self.bodies.iter().any(|body| body.held.contains(&resource));
+        held || self.runner.is_some_and(|runner| self.bodies[runner].priority > self.ceiling(resource))
+    }
+
+    /// Status 5: "r is not the runner's most recently taken one still held; the table is stopped".
+    fn no_function(&self, code: u64, id: usize) -> bool {
+        match code {
+            5 => self.runner.is_none_or(|runner| self.bodies[runner].held.last() != Some(&id)),
+            9 => self.tables[id].progress == Progress::Stopped,
+            _ => unreachable!("the event has no such status"),
+        }
+    }
+
+    /// Status 8: "d is 0, or d plus the table's largest offset is above 65,535".
+    fn bad_delay(&self, table: usize, d: u64) -> bool {
+        let largest = self.tables[table].entries.iter().map(|(offset, _)| *offset).max().expect("a table has entries");
+        d == 0 || d + largest > 65535
+    }
+
+    /// The first status that applies, in the order that document 01's table gives for the event.
+    fn status(&self, code: u64, arguments: &[u64]) -> u8 {
+        let order: &[u8] = match code {
+            1 => &[2, 3, 4],
+            2 => &[2, 6],
+            3 => &[2, 3, 6, 4],
+            4 => &[2, 3, 1],
+            5 => &[2, 3, 5],
+            6 => &[],
+            7 => &[3, 4],
+            8 => &[2, 3, 8, 7],
+            9 => &[2, 3, 5],
+            _ => unreachable!("the trace was read"),
+        };
+        let id = || arguments[0] as usize;
+        for status in order {
+            let applies = match status {
+                1 => self.no_access(id()),
+                2 => self.call_level(code),
+                3 => self.no_such(code, arguments[0]),
+                4 => self.limit(code, id()),
+                5 => self.no_function(code, id()),
+                6 => self.holds(),
+                7 => self.tables[id()].progress != Progress::Stopped,
+                8 => self.bad_delay(id(), arguments[1]),
+                _ => unreachable!("statuses are 0 to 8"),
+            };
+            if applies {
+                return *status;
+            }
+        }
+        0
+    }
+
+    /// "the runner suspended, but ready if a request waits, which is then used up"
+    fn finish(&mut self) {
+        let runner = self.runner.expect("status 2 was checked");
+        let body = &mut self.bodies[runner];
+        body.state = if body.request_waits { State::Ready } else { State::Suspended };
+        body.request_waits = false;
+    }
+
+    /// "n up by 1 for each table not stopped, then the due entries": "n ≥ D and n − D is a multiple of P".
+    fn tick(&mut self) {
+        for table in &mut self.tables {
+            if let Progress::Running { n, .. } = &mut table.progress {
+                *n += 1;
+            }
+        }
+        let mut due = Vec::new();
+        for table in &self.tables {
+            if let Progress::Running { d, n } = table.progress {
+                for (offset, task) in &table.entries {
+                    let first = d + offset;
+                    if n >= first && (n - first) % table.period == 0 {
+                        due.push(*task);
+                    }
+                }
+            }
+        }
+        for task in due {
+            if self.suspended(task) {
+                self.bodies[task].state = State::Ready;
+            } else {
+                self.bodies[task].losses = (self.bodies[task].losses + 1).min(65535);
+            }
+        }
+    }
+
+    fn take_effect(&mut self, code: u64, arguments: &[u64]) {
+        let id = || arguments[0] as usize;
+        match code {
+            1 => self.bodies[id()].state = State::Ready,
+            2 => self.finish(),
+            3 => {
+                self.finish();
+                self.bodies[id()].state = State::Ready;
+            }
+            4 => {
+                let runner = self.runner.expect("status 2 was checked");
+                self.bodies[runner].held.push(id());
+            }
+            5 => {
+                let runner = self.runner.expect("status 2 was checked");
+                self.bodies[runner].held.retain(|resource| *resource != id());
+            }
+            6 => self.tick(),
+            7 => {
+                let body = &mut self.bodies[id()];
+                if body.state == State::Started {
+                    body.request_waits = true;
+                } else {
+                    body.state = State::Ready;
+                }
+            }
+            8 => self.tables[id()].progress = Progress::Running { d: arguments[1], n: 0 },
+            9 => self.tables[id()].progress = Progress::Stopped,
+            _ => unreachable!("the trace was read"),
+        }
+    }
+
+    /// Status, runner, level and begun mark of one event.
+    fn answer(&mut self, code: u64, arguments: &[u64]) -> [u8; 4] {
+        let status = self.status(code, arguments);
+        if status == 0 {
+            self.take_effect(code, arguments);
+        }
+        let begun = self.choose();
+        match self.runner {
+            Some(runner) => [status, runner as u8, self.current_priority(runner) as u8, u8::from(begun)],
+            None => [status, 255, 0, 0],
+        }
+    }
+}
+
+fn output(config: &[u8], trace: &[u8], out_len: usize) -> Result<(u64, Vec<u8>), Refused> {
+    let mut scheduler = read_configuration(config)?;
+    let events = read_trace(trace)?;
+    let needed = 4 * events.len() + 2 * scheduler.bodies.len();
+    ensure(out_len >= needed, 30, needed)?;
+    scheduler.fresh_start();
+    let mut bytes = Vec::with_capacity(needed);
+    for (code, arguments) in &events {
+        bytes.extend(scheduler.answer(*code, arguments));
+    }
+    for body in &scheduler.bodies {
+        bytes.extend([(body.losses % 256) as u8, (body.losses / 256) as u8]);
+    }
+    Ok((events.len() as u64, bytes))
+}
+
+/// The run as osek_run promises it.
+pub fn run(config: &[u8], trace: &[u8], out: &mut [u8]) -> u64 {
+    match output(config, trace, out.len()) {
+        Ok((events, bytes)) => {
+            out[..bytes.len()].copy_from_slice(&bytes);
+            events
+        }
+        Err((refusal, place)) => refusal * 4_294_967_296 + place as u64,
+    }
+}

@@ -1,0 +1,897 @@
+//! The reference in Rust, written for speed: a ready list of one word, the started bodies on a stack, everything
+//! changed in place. It follows document 01 and shares nothing with the Rattle code.
+//!
+//! In order: numbers, the configuration, events, the two kinds of timers, the kernel, the run.
+//!
+//! The timers come in two kinds that give the same answers. [`Cells`] counts every entry's 16-bit cell as document 01
+//! describes them; [`NextDue`] keeps for each table how far its next entry is, and so does a tick's work once per
+//! table.
+
+pub const CONFIG_MAX: usize = 4096;
+pub const TRACE_MAX: usize = 8192;
+pub const OUTPUT_MAX: usize = 4 * TRACE_MAX + 2 * BODIES_MAX;
+
+pub const BODIES_MAX: usize = 32;
+pub const RESOURCES_MAX: usize = 16;
+pub const TABLES_MAX: usize = 8;
+pub const TABLE_ENTRIES_MAX: usize = 16;
+pub const ENTRIES_MAX: usize = 64;
+pub const PRIORITY_MAX: u32 = 200;
+pub const TICKS_MAX: u32 = 65_535;
+
+/// The runner's number when nobody runs.
+pub const IDLE: u8 = 255;
+
+/// Why a run is refused, and the byte offset that document 01 calls the place.
+#[derive(Clone, Copy, PartialEq, Eq, Debug)]
+pub struct Refusal {
+    pub code: u32,
+    pub place: usize,
+}
+
+impl Refusal {
+    /// The refusal as the run's result.
+    pub fn result(self) -> u64 {
+        (u64::from(self.code) << 32) + self.place as u64
+    }
+}
+
+fn refuse<T>(code: u32, place: usize) -> Result<T, Refusal> {
+    Err(Refusal { code, place })
+}
+
+// Numbers
+
+/// Why a number can't be read.
+#[derive(Clone, Copy, PartialEq, Eq, Debug)]
+pub enum NumberFault {
+    /// The input ends before a last or fifth group.
+    Cut,
+    /// The fifth byte is above 15, or the form is not the shortest.
+    Malformed,
+}
+
+/// The number at `at`, and the offset after it.
+#[inline(always)]
+pub fn read_number(bytes: &[u8], at: usize) -> Result<(u32, usize), NumberFault> {
+    match bytes.get(at) {
+        Some(&byte) if byte < 0x80 => Ok((u32::from(byte), at + 1)),
+        Some(&byte) => read_long_number(bytes, at + 1, u32::from(byte & 0x7f)),
+        None => Err(NumberFault::Cut),
+    }
+}
+
+/// The rest of a number of two to five groups, the first of which is `value`.
+fn read_long_number(bytes: &[u8], mut at: usize, mut value: u32) -> Result<(u32, usize), NumberFault> {
+    for shift in [7, 14, 21, 28] {
+        let &byte = bytes.get(at).ok_or(NumberFault::Cut)?;
+        at += 1;
+        if shift == 28 && byte > 15 {
+            return Err(NumberFault::Malformed);
+        }
+        value |= u32::from(byte & 0x7f) << shift;
+        if byte < 0x80 {
+            return if byte == 0 { Err(NumberFault::Malformed) } else { Ok((value, at)) };
+        }
+    }
+    unreachable!("a fifth byte of at most 15 ends the number")
+}
+
+// The configuration
+
+/// A configuration made ready for running. Bodies are known by their rank, 0 for the lowest priority; only the
+/// callers' ids and the answers bear body numbers.
+#[derive(Clone, Debug)]
+pub struct Config {
+    bodies: usize,
+    resources: usize,
+    tables: usize,
+    /// Body numbers of tasks and of ISRs, one bit each.
+    task_numbers: u32,
+    isr_numbers: u32,
+    /// Ranks of ISRs and of autostart tasks, one bit each.
+    isr_ranks: u32,
+    autostart_ranks: u32,
+    rank: [u8; BODIES_MAX],
+    number: [u8; BODIES_MAX],
+    /// By rank.
+    priority: [u8; BODIES_MAX],
+    ceiling: [u8; RESOURCES_MAX],
+    table: [Table; TABLES_MAX],
+    entry: [Entry; ENTRIES_MAX],
+}
+
+/// A schedule table; its entries are `first .. end` of the configuration's.
+#[derive(Clone, Copy, Default, Debug)]
+struct Table {
+    period: u16,
+    first: u8,
+    end: u8,
+}
+
+/// An expiry point of a table.
+#[derive(Clone, Copy, Default, Debug)]
+struct Entry {
+    offset: u16,
+    /// From this entry to the next one of its table, or around to the first.
+    gap: u16,
+    rank: u8,
+}
+
+/// Reads the numbers of a configuration one by one and knows where the last one stood.
+struct Fields<'a> {
+    bytes: &'a [u8],
+    place: usize,
+    next: usize,
+}
+
+impl Fields<'_> {
+    /// The next number, if it lies in `range`; otherwise `code`.
+    fn number(&mut self, range: std::ops::RangeInclusive<u32>, code: u32) -> Result<u32, Refusal> {
+        self.place = self.next;
+        match read_number(self.bytes, self.next) {
+            Ok((value, next)) => {
+                self.next = next;
+                if range.contains(&value) {
+                    Ok(value)
+                } else {
+                    refuse(code, self.place)
+                }
+            }
+            Err(NumberFault::Cut) => refuse(1, self.place),
+            Err(NumberFault::Malformed) => refuse(2, self.place),
+        }
+    }
+
+    fn count(&mut self, least: usize, most: usize) -> Result<usize, Refusal> {
+        Ok(self.number(least as u32..=most as u32, 4)? as usize)
+    }
+
+    fn field(&mut self, least: u32, most: u32) -> Result<u32, Refusal> {
+        self.number(least..=most, 5)
+    }
+}
+
+pub fn read_config(bytes: &[u8]) -> Result<Config, Refusal> {
+    if bytes.len() > CONFIG_MAX {
+        return refuse(10, 0);
+    }
+    let mut fields = Fields { bytes, place: 0, next: 0 };
+    fields.number(1..=1, 3)?;
+
+    let bodies = fields.count(1, BODIES_MAX)?;
+    let mut priority_of = [0u8; BODIES_MAX];
+    let mut task_numbers = 0u32;
+    let mut autostart_numbers = 0u32;
+    // The body that has a priority.
+    let mut owner = [None::<u8>; PRIORITY_MAX as usize + 1];
+    for (body, own) in priority_of.iter_mut().enumerate().take(bodies) {
+        let is_isr = fields.field(0, 1)? == 1;
+        let priority = fields.field(1, PRIORITY_MAX)?;
+        if owner[priority as usize].is_some() {
+            return refuse(6, fields.place);
+        }
+        owner[priority as usize] = Some(body as u8);
+        *own = priority as u8;
+        let autostart = fields.field(0, if is_isr { 0 } else { 1 })?;
+        task_numbers |= u32::from(!is_isr) << body;
+        autostart_numbers |= autostart << body;
+    }
+    let all_bodies = u32::MAX >> (BODIES_MAX - bodies);
+
+    let mut config = Config {
+        bodies,
+        resources: 0,
+        tables: 0,
+        task_numbers,
+        isr_numbers: all_bodies & !task_numbers,
+        isr_ranks: 0,
+        autostart_ranks: 0,
+        rank: [0; BODIES_MAX],
+        number: [0; BODIES_MAX],
+        priority: [0; BODIES_MAX],
+        ceiling: [0; RESOURCES_MAX],
+        table: [Table::default(); TABLES_MAX],
+        entry: [Entry::default(); ENTRIES_MAX],
+    };
+    for (rank, &body) in owner.iter().flatten().enumerate() {
+        config.number[rank] = body;
+        config.rank[body as usize] = rank as u8;
+        config.priority[rank] = priority_of[body as usize];
+        config.isr_ranks |= (config.isr_numbers >> body & 1) << rank;
+        config.autostart_ranks |= (autostart_numbers >> body & 1) << rank;
+    }
+
+    config.resources = fields.count(0, RESOURCES_MAX)?;
+    for resource in 0..config.resources {
+        let users = fields.field(1, all_bodies)?;
+        config.ceiling[resource] =
+            (0..bodies).filter(|body| users >> body & 1 == 1).map(|body| priority_of[body]).max().unwrap_or(0);
+    }
+
+    config.tables = fields.count(0, TABLES_MAX)?;
+    let mut used = 0;
+    for table in 0..config.tables {
+        let period = fields.field(1, TICKS_MAX)?;
+        let count = fields.count(1, TABLE_ENTRIES_MAX)?;
+        if used + count > ENTRIES_MAX {
+            return refuse(8, fields.place);
+        }
+        let (first, end) = (used, used + count);
+        used = end;
+        let mut before = None;
+        for entry in first..end {
+            let offset = fields.field(0, period - 1)?;
+            let task = fields.field(0, bodies as u32 - 1)?;
+            if task_numbers >> task & 1 == 0 {
+                return refuse(5, fields.place);
+            }
+            if before >= Some((offset, task)) {
+                return refuse(7, fields.place);
+            }
+            before = Some((offset, task));
+            config.entry[entry] = Entry { offset: offset as u16, gap: 0, rank: config.rank[task as usize] };
+        }
+        config.table[table] = Table { period: period as u16, first: first as u8, end: end as u8 };
+        let entries = &mut config.entry[first..end];
+        let around = period as u16 - entries[count - 1].offset + entries[0].offset;
+        for i in 0..count {
+            entries[i].gap = if i + 1 < count { entries[i + 1].offset - entries[i].offset } else { around };
+        }
+    }
+    if fields.next < bytes.len() {
+        return refuse(9, fields.next);
+    }
+    Ok(config)
+}
+
+impl Config {
+    pub fn bodies(&self) -> usize {
+        self.bodies
+    }
+
+    pub fn resources(&self) -> usize {
+        self.resources
+    }
+
+    pub fn tables(&self) -> usize {
+        self.tables
+    }
+
+    pub fn is_task(&self, id: u32) -> bool {
+        id < BODIES_MAX as u32 && self.task_numbers >> id & 1 == 1
+    }
+
+    pub fn is_isr(&self, id: u32) -> bool {
+        id < BODIES_MAX as u32 && self.isr_numbers >> id & 1 == 1
+    }
+
+    pub fn ceiling(&self, resource: usize) -> u8 {
+        self.ceiling[resource]
+    }
+
+    /// Entries rise, so the last one has the largest offset.
+    pub fn largest_offset(&self, table: usize) -> u32 {
+        u32::from(self.entry[usize::from(self.table[table].end) - 1].offset)
+    }
+}
+
+// Events
+
+#[derive(Clone, Copy, PartialEq, Eq, Debug)]
+pub enum Event {
+    Activate(u32),
+    Finish,
+    Chain(u32),
+    Get(u32),
+    Release(u32),
+    Tick,
+    Line(u32),
+    Start(u32, u32),
+    Stop(u32),
+}
+
+/// The event at `at`, and the offset after it.
+#[inline(always)]
+pub fn read_event(trace: &[u8], at: usize) -> Result<(Event, usize), Refusal> {
+    #[inline(always)]
+    fn number(trace: &[u8], at: usize) -> Result<(u32, usize), Refusal> {
+        match read_number(trace, at) {
+            Ok(read) => Ok(read),
+            Err(NumberFault::Cut) => refuse(21, at),
+            Err(NumberFault::Malformed) => refuse(22, at),
+        }
+    }
+    let (code, next) = number(trace, at)?;
+    let one = |event: fn(u32) -> Event| number(trace, next).map(|(id, next)| (event(id), next));
+    match code {
+        1 => one(Event::Activate),
+        2 => Ok((Event::Finish, next)),
+        3 => one(Event::Chain),
+        4 => one(Event::Get),
+        5 => one(Event::Release),
+        6 => Ok((Event::Tick, next)),
+        7 => one(Event::Line),
+        8 => {
+            let (table, next) = number(trace, next)?;
+            let (delay, next) = number(trace, next)?;
+            Ok((Event::Start(table, delay), next))
+        }
+        9 => one(Event::Stop),
+        _ => refuse(23, at),
+    }
+}
+
+/// How many events a trace has, if all of it can be read.
+pub fn count_events(trace: &[u8]) -> Result<usize, Refusal> {
+    if trace.len() > TRACE_MAX {
+        return refuse(20, 0);
+    }
+    let (mut events, mut at) = (0, 0);
+    while at < trace.len() {
+        (_, at) = read_event(trace, at)?;
+        events += 1;
+    }
+    Ok(events)
+}
+
+// Timers
+
+/// When the entries of the started tables are due.
+pub trait Timers {
+    fn stopped(config: &Config) -> Self;
+    fn is_on(&self, table: usize) -> bool;
+    /// Starts a stopped table; `delay` is positive and `delay` plus the largest offset at most 65,535.
+    fn start(&mut self, config: &Config, table: usize, delay: u16);
+    fn stop(&mut self, config: &Config, table: usize);
+    /// Counts one tick and hands the rank of each due entry's task to `due`, by table, then in table order.
+    fn tick(&mut self, config: &Config, due: impl FnMut(u8));
+}
+
+/// Document 01's timer cells: for each entry a 16-bit counter, a compare value and a switch. A tick counts all of them
+/// alike, without a branch, so that the compiler counts several at once.
+pub struct Cells {
+    on: u8,
+    counter: [u16; ENTRIES_MAX],
+    compare: [u16; ENTRIES_MAX],
+    /// 1 for on, 0 for off: what a tick adds.
+    switch: [u16; ENTRIES_MAX],
+}
+
+impl Timers for Cells {
+    fn stopped(config: &Config) -> Self {
+        let mut compare = [0; ENTRIES_MAX];
+        for Table { period, first, end } in &config.table[..config.tables] {
+            compare[usize::from(*first)..usize::from(*end)].fill(period - 1);
+        }
+        Cells { on: 0, counter: [0; ENTRIES_MAX], compare, switch: [0; ENTRIES_MAX] }
+    }
+
+    fn is_on(&self, table: usize) -> bool {
+        self.on >> table & 1 == 1
+    }
+
+    fn start(&mut self, config: &Config, table: usize, delay: u16) {
+        self.on |= 1 << table;
+        let Table { period, first, end } = config.table[table];
+        for cell in usize::from(first)..usize::from(end) {
+            let first_delay = delay + config.entry[cell].offset;
+            self.counter[cell] = (period - 1).wrapping_sub(first_delay);
+            self.switch[cell] = 1;
+        }
+    }
+
+    fn stop(&mut self, config: &Config, table: usize) {
+        self.on &= !(1 << table);
+        let Table { first, end, .. } = config.table[table];
+        let cells = usize::from(first)..usize::from(end);
+        self.counter[cells.clone()].fill(0);
+        self.switch[cells].fill(0);
+    }
+
+    #[inline(always)]
+    fn tick(&mut self, config: &Config, mut due: impl FnMut(u8)) {
+        if self.on == 0 {
+            return;
+        }
+        let mut matched = [0u8; ENTRIES_MAX];
+        #[allow(clippy::needless_range_loop)]
+        for cell in 0..ENTRIES_MAX {
+            let count = self.counter[cell].wrapping_add(self.switch[cell]);
+            let matches = u16::from(count == self.compare[cell]) & self.switch[cell];
+            // A match sets the counter to 65,535 and not to 0: the next tick wraps it, so that no period is a tick
+            // short.
+            self.counter[cell] = count | matches.wrapping_neg();
+            matched[cell] = matches as u8;
+        }
+        for (group, marks) in matched.chunks_exact(8).enumerate() {
+            let mut marks = u64::from_le_bytes(marks.try_into().expect("eight bytes"));
+            while marks != 0 {
+                due(config.entry[8 * group + marks.trailing_zeros() as usize / 8].rank);
+                marks &= marks - 1;
+            }
+        }
+    }
+}
+
+/// For each started table its next entry and the ticks until it is due. Offsets lie below the period, so a table's
+/// entries come round in their order.
+pub struct NextDue {
+    on: u8,
+    left: [u16; TABLES_MAX],
+    next: [u8; TABLES_MAX],
+}
+
+impl Timers for NextDue {
+    fn stopped(_: &Config) -> Self {
+        NextDue { on: 0, left: [0; TABLES_MAX], next: [0; TABLES_MAX] }
+    }
+
+    fn is_on(&self, table: usize) -> bool {
+        self.on >> table & 1 == 1
+    }
+
+    fn start(&mut self, config: &Config, table: usize, delay: u16) {
+        self.on |= 1 << table;
+        let first = config.table[table].first;
+        self.next[table] = first;
+        self.left[table] = delay + config.entry[usize::from(first)].offset;
+    }
+
+    fn stop(&mut self, _: &Config, table: usize) {
+        self.on &= !(1 << table);
+    }
+
+    #[inline(always)]
+    fn tick(&mut self, config: &Config, mut due: impl FnMut(u8)) {
+        let mut on = self.on;
+        while on != 0 {
+            let table = on.trailing_zeros() as usize;
+            on &= on - 1;
+            self.left[table] -= 1;
+            // Entries with one offset are due together: the gap between them is 0.
+            while self.left[table] == 0 {
+                let entry = config.entry[usize::from(self.next[table])];
+                due(entry.rank);
+                self.left[table] = entry.gap;
+                self.next[table] += 1;
+                if self.next[table] == config.table[table].end {
+                    self.next[table] = config.table[table].first;
+                }
+            }
+        }
+    }
+}
+
+// The kernel
+
+/// A started body and its current priority; at the bottom of the stack stands idle.
+#[derive(Clone, Copy)]
+struct Frame {
+    number: u8,
+    rank: u8,
+    own: u8,
+    level: u8,
+    /// How many resources the bodies below hold; those above are this one's.
+    held_below: u8,
+}
+
+const IDLE_FRAME: Frame = Frame { number: IDLE, rank: 0, own: 0, level: 0, held_below: 0 };
+
+#[derive(Clone, Copy, Default)]
+struct Held {
+    resource: u8,
+    /// The holder's current priority before it took this one.
+    level_before: u8,
+}
+
+/// The status of an event, and who runs after it.
+#[derive(Clone, Copy, PartialEq, Eq, Debug)]
+pub struct Answer {
+    pub status: u8,
+    pub runner: u8,
+    pub level: u8,
+    pub begun: u8,
+}
+
+pub struct Kernel<'c, T> {
+    config: &'c Config,
+    /// The ready list, one bit per rank: bodies that wait to begin, a started ISR's second request among them.
+    ready: u32,
+    /// Started bodies, one bit per rank.
+    started: u32,
+    running: Frame,
+    /// The frames below the running one.
+    preempted: [Frame; BODIES_MAX],
+    depth: usize,
+    /// Resources held by all bodies in the order taken, and one bit for each of them.
+    held: [Held; RESOURCES_MAX],
+    held_count: u8,
+    taken: u16,
+    timers: T,
+    /// Lost activations, by body number.
+    losses: [u16; BODIES_MAX],
+}
+
+impl<'c, T: Timers> Kernel<'c, T> {
+    pub fn fresh(config: &'c Config) -> Self {
+        let mut kernel = Kernel {
+            config,
+            ready: config.autostart_ranks,
+            started: 0,
+            running: IDLE_FRAME,
+            preempted: [IDLE_FRAME; BODIES_MAX],
+            depth: 0,
+            held: [Held::default(); RESOURCES_MAX],
+            held_count: 0,
+            taken: 0,
+            timers: T::stopped(config),
+            losses: [0; BODIES_MAX],
+        };
+        kernel.dispatch();
+        kernel
+    }
+
+    #[inline(always)]
+    pub fn step(&mut self, event: Event) -> Answer {
+        let status = match event {
+            Event::Activate(task) => self.activate(task),
+            Event::Finish => self.finish(),
+            Event::Chain(task) => self.chain(task),
+            Event::Get(resource) => self.get(resource),
+            Event::Release(resource) => self.release(resource),
+            Event::Tick => self.tick(),
+            Event::Line(isr) => self.line(isr),
+            Event::Start(table, delay) => self.start(table, delay),
+            Event::Stop(table) => self.stop(table),
+        };
+        let begun = self.dispatch();
+        Answer { status, runner: self.running.number, level: self.running.level, begun }
+    }
+
+    /// Lets the best ready body begin if it is above the level. One event never makes two begin.
+    #[inline(always)]
+    fn dispatch(&mut self) -> u8 {
+        if self.ready == 0 {
+            return 0;
+        }
+        let rank = self.ready.ilog2() as u8;
+        let own = self.config.priority[usize::from(rank)];
+        if own <= self.running.level {
+            return 0;
+        }
+        self.ready &= !(1 << rank);
+        self.started |= 1 << rank;
+        self.preempted[self.depth] = self.running;
+        self.depth += 1;
+        let number = self.config.number[usize::from(rank)];
+        self.running = Frame { number, rank, own, level: own, held_below: self.held_count };
+        1
+    }
+
+    #[inline(always)]
+    fn end_running(&mut self) {
+        self.started &= !(1 << self.running.rank);
+        self.depth -= 1;
+        self.running = self.preempted[self.depth];
+    }
+
+    fn is_idle(&self) -> bool {
+        self.depth == 0
+    }
+
+    fn holds_any(&self) -> bool {
+        self.held_count > self.running.held_below
+    }
+
+    fn rank_bit(&self, number: u32) -> u32 {
+        1 << self.config.rank[number as usize]
+    }
+
+    fn activate(&mut self, task: u32) -> u8 {
+        if self.is_idle() {
+            return 2;
+        }
+        if !self.config.is_task(task) {
+            return 3;
+        }
+        let bit = self.rank_bit(task);
+        if (self.ready | self.started) & bit != 0 {
+            return 4;
+        }
+        self.ready |= bit;
+        0
+    }
+
+    fn finish(&mut self) -> u8 {
+        if self.is_idle() {
+            return 2;
+        }
+        if self.holds_any() {
+            return 6;
+        }
+        self.end_running();
+        0
+    }
+
+    fn chain(&mut self, task: u32) -> u8 {
+        if self.is_idle() || self.config.isr_ranks >> self.running.rank & 1 == 1 {
+            return 2;
+        }
+        if !self.config.is_task(task) {
+            return 3;
+        }
+        if self.holds_any() {
+            return 6;
+        }
+        let bit = self.rank_bit(task);
+        if (self.ready | self.started) & bit & !(1 << self.running.rank) != 0 {
+            return 4;
+        }
+        self.end_running();
+        self.ready |= bit;
+        0
+    }
+
+    fn get(&mut self, resource: u32) -> u8 {
+        if self.is_idle() {
+            return 2;
+        }
+        if resource >= self.config.resources as u32 {
+            return 3;
+        }
+        let ceiling = self.config.ceiling[resource as usize];
+        if self.taken >> resource & 1 == 1 || self.running.own > ceiling {
+            return 1;
+        }
+        self.held[usize::from(self.held_count)] = Held { resource: resource as u8, level_before: self.running.level };
+        self.held_count += 1;
+        self.taken |= 1 << resource;
+        self.running.level = self.running.level.max(ceiling);
+        0
+    }
+
+    fn release(&mut self, resource: u32) -> u8 {
+        if self.is_idle() {
+            return 2;
+        }
+        if resource >= self.config.resources as u32 {
+            return 3;
+        }
+        if !self.holds_any() {
+            return 5;
+        }
+        let last = self.held[usize::from(self.held_count) - 1];
+        if u32::from(last.resource) != resource {
+            return 5;
+        }
+        self.held_count -= 1;
+        self.taken &= !(1 << resource);
+        self.running.level = last.level_before;
+        0
+    }
+
+    fn tick(&mut self) -> u8 {
+        let Kernel { config, ready, started, timers, losses, .. } = self;
+        timers.tick(config, |rank| {
+            let bit = 1 << rank;
+            if (*ready | *started) & bit == 0 {
+                *ready |= bit;
+            } else {
+                let loss = &mut losses[usize::from(config.number[usize::from(rank)])];
+                *loss = loss.saturating_add(1);
+            }
+        });
+        0
+    }
+
+    fn line(&mut self, isr: u32) -> u8 {
+        if !self.config.is_isr(isr) {
+            return 3;
+        }
+        let bit = self.rank_bit(isr);
+        if self.ready & bit != 0 {
+            return 4;
+        }
+        self.ready |= bit;
+        0
+    }
+
+    fn start(&mut self, table: u32, delay: u32) -> u8 {
+        if self.is_idle() {
+            return 2;
+        }
+        if table >= self.config.tables as u32 {
+            return 3;
+        }
+        let table = table as usize;
+        if delay == 0 || delay > TICKS_MAX - self.config.largest_offset(table) {
+            return 8;
+        }
+        if self.timers.is_on(table) {
+            return 7;
+        }
+        self.timers.start(self.config, table, delay as u16);
+        0
+    }
+
+    fn stop(&mut self, table: u32) -> u8 {
+        if self.is_idle() {
+            return 2;
+        }
+        if table >= self.config.tables as u32 {
+            return 3;
+        }
+        if !self.timers.is_on(table as usize) {
+            return 5;
+        }
+        self.timers.stop(self.config, table as usize);
+        0
+    }
+
+    // What a drawer of traces looks at.
+
+    /// The running body's number.
+    pub fn runner(&self) -> Option<u32> {
+        (!self.is_idle()).then_some(u32::from(self.running.number))
+    }
+
+    pub fn is_suspended(&self, body: u32) -> bool {
+        (self.ready | self.started) & self.rank_bit(body) == 0
+    }
+
+    pub fn is_started(&self, body: u32) -> bool {
+        self.started & self.rank_bit(body) != 0
+    }
+
+    /// A request of the body waits to begin.
+    pub fn is_requested(&self, body: u32) -> bool {
+        self.ready & self.rank_bit(body) != 0
+    }
+
+    /// The running body could take the resource now.
+    pub fn may_get(&self, resource: u32) -> bool {
+        self.taken >> resource & 1 == 0 && self.running.own <= self.config.ceiling[resource as usize]
+    }
+
+    /// The running body's most recently taken resource.
+    pub fn last_held(&self) -> Option<u32> {
+        self.holds_any().then(|| u32::from(self.held[usize::from(self.held_count) - 1].resource))
+    }
+
+    pub fn is_on(&self, table: u32) -> bool {
+        self.timers.is_on(table as usize)
+    }
+
+    /// How many bodies would be left, started or ready, if the running one ended.
+    pub fn others(&self) -> u32 {
+        ((self.ready | self.started) & !(1 << self.running.rank)).count_ones()
+    }
+
+    pub fn losses(&self) -> &[u16] {
+        &self.losses[..self.config.bodies]
+    }
+}
+
+// The run
+
+/// The run as osek_run promises it, with cells or by next due entries.
+#[inline(never)]
+pub fn run<T: Timers>(config: &[u8], trace: &[u8], out: &mut [u8]) -> u64 {
+    match accepted(config, trace, out.len()) {
+        Err(refusal) => refusal.result(),
+        Ok((config, events)) => {
+            let (answers, losses) = out.split_at_mut(4 * events);
+            let mut kernel = Kernel::<T>::fresh(&config);
+            let mut at = 0;
+            for bytes in answers.chunks_exact_mut(4) {
+                let Ok((event, next)) = read_event(trace, at) else { unreachable!("the trace was read before") };
+                at = next;
+                let answer = kernel.step(event);
+                bytes.copy_from_slice(&[answer.status, answer.runner, answer.level, answer.begun]);
+            }
+            for (bytes, loss) in losses.chunks_exact_mut(2).zip(kernel.losses()) {
+                bytes.copy_from_slice(&loss.to_le_bytes());
+            }
+            events as u64
+        }
+    }
+}
+
+/// The configuration and the number of events, if nothing is to be refused.
+fn accepted(config: &[u8], trace: &[u8], out_len: usize) -> Result<(Config, usize), Refusal> {
+    let config = read_config(config)?;
+    let events = count_events(trace)?;
+    let needed = 4 * events + 2 * config.bodies;
+    if out_len < needed {
+        return refuse(30, needed);
+    }
+    Ok((config, events))
+}
+
+#[cfg(test)]
+mod tests {
+    //! What a run can't reach, or does not show: counters of cells, and counts beyond 8,192 bytes.
+
+    use super::*;
+
+    /// One autostart task, and one table of the given period with one entry at offset 0 for it.
+    fn one_table(period: u32) -> Config {
+        let mut bytes = vec![1, 1, 0, 1, 1, 0, 1];
+        crate::draw::push_number(&mut bytes, period);
+        bytes.extend([1, 0, 0]);
+        read_config(&bytes).expect("the configuration is accepted")
+    }
+
+    /// The ticks, up to `last`, at which the table's entry is due.
+    fn due_ticks<T: Timers>(config: &Config, delay: u16, last: u32) -> Vec<u32> {
+        let mut timers = T::stopped(config);
+        timers.start(config, 0, delay);
+        (1..=last)
+            .filter(|_| {
+                let mut due = false;
+                timers.tick(config, |_| due = true);
+                due
+            })
+            .collect()
+    }
+
+    fn start_counter(period: u32, delay: u16) -> u16 {
+        let config = one_table(period);
+        let mut cells = Cells::stopped(&config);
+        cells.start(&config, 0, delay);
+        cells.counter[0]
+    }
+
+    #[test]
+    fn edge_p4_period_1_is_due_at_each_tick() {
+        assert_eq!(start_counter(1, 1), 65_535);
+        let config = one_table(1);
+        assert_eq!(due_ticks::<Cells>(&config, 1, 5), [1, 2, 3, 4, 5]);
+        assert_eq!(due_ticks::<NextDue>(&config, 1, 5), [1, 2, 3, 4, 5]);
+    }
+
+    #[test]
+    fn edge_p5_period_4_delay_3_is_due_at_3_and_7() {
+        assert_eq!(start_counter(4, 3), 0);
+        let config = one_table(4);
+        assert_eq!(due_ticks::<Cells>(&config, 3, 10), [3, 7]);
+        assert_eq!(due_ticks::<NextDue>(&config, 3, 10), [3, 7]);
+    }
+
+    #[test]
+    fn edge_p6_longest_delay_starts_the_counter_at_4() {
+        assert_eq!(start_counter(4, 65_535), 4);
+        let config = one_table(4);
+        assert_eq!(due_ticks::<Cells>(&config, 65_535, 65_544), [65_535, 65_539, 65_543]);
+        assert_eq!(due_ticks::<NextDue>(&config, 65_535, 65_544), [65_535, 65_539, 65_543]);
+    }
+
+    #[test]
+    fn cells_and_next_due_agree_with_the_arithmetic() {
+        for period in [1, 2, 3, 5, 255, 256, 257, 65_534, 65_535] {
+            let config = one_table(period);
+            for delay in [1, 2, 3, 4, 254, 255, 256, 65_534, 65_535] {
+                let by_arithmetic: Vec<u32> =
+                    (1..=200_000).filter(|n| *n >= delay && (n - delay) % period == 0).collect();
+                assert_eq!(due_ticks::<Cells>(&config, delay as u16, 200_000), by_arithmetic, "{period} {delay}");
+                assert_eq!(due_ticks::<NextDue>(&config, delay as u16, 200_000), by_arithmetic, "{period} {delay}");
+            }
+        }
+    }
+
+    #[test]
+    fn edge_p11_a_loss_of_65_535_stays() {
+        let config = one_table(1);
+        let mut kernel = Kernel::<Cells>::fresh(&config);
+        assert_eq!(kernel.step(Event::Start(0, 1)).status, 0);
+        for _ in 0..65_534 {
+            kernel.step(Event::Tick);
+        }
+        assert_eq!(kernel.losses(), [65_534]);
+        kernel.step(Event::Tick);
+        assert_eq!(kernel.losses(), [65_535]);
+        kernel.step(Event::Tick);
+        assert_eq!(kernel.losses(), [65_535]);
+    }
+}

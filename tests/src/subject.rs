@@ -1,0 +1,18 @@
+//! The proved run, linked from the static library.
+
+extern "C" {
+    fn osek_run(
+        config: *const u8,
+        config_len: usize,
+        trace: *const u8,
+        trace_len: usize,
+        out: *mut u8,
+        out_len: usize,
+    ) -> u64;
+}
+
+/// Safe: the pointers come from slices, so they are not null and the output overlaps no input.
+#[inline(never)]
+pub fn run(config: &[u8], trace: &[u8], out: &mut [u8]) -> u64 {
+    unsafe { osek_run(config.as_ptr(), config.len(), trace.as_ptr(), trace.len(), out.as_mut_ptr(), out.len()) }
+}

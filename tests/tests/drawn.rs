@@ -1,0 +1,20 @@
+//! The gate's drawn cases: fixed seeds, every implementation, every refusal and every status of every event seen.
+
+use osek_tests::compare::{compare, others};
+use osek_tests::coverage::Coverage;
+
+#[test]
+fn drawn_cases_give_equal_answers_and_show_every_refusal_and_status() {
+    let mut coverage = Coverage::default();
+    for seed in [1, 20_261_115, 0x05ec, u64::MAX] {
+        match compare(seed, 0..10_000, 2, &others()) {
+            Ok(part) => coverage.merge(&part),
+            Err(difference) => panic!("{difference}"),
+        }
+    }
+    println!("{coverage}");
+    assert!(coverage.accepted >= 20_000, "only {} traces were accepted", coverage.accepted);
+    assert_eq!(coverage.missing(), Vec::<String>::new(), "never seen");
+    let success = coverage.success_percent();
+    assert!((35..=65).contains(&success), "{success} % of the calls succeed, which is far from half");
+}

@@ -1,0 +1,375 @@
+//! Document 01's listing and edges, worked by hand, shown by every implementation. P6 and P11 lie beyond a run's length and
+//! stand with the cells in src/reference.rs.
+
+use osek_tests::compare::{check, others};
+use osek_tests::draw::Case;
+use osek_tests::guard::GuardedRun;
+use osek_tests::listing::{listing, DOCUMENT_CONFIG, DOCUMENT_LISTING, DOCUMENT_TRACE};
+use osek_tests::reference::OUTPUT_MAX;
+
+/// What every implementation gives, as a listing.
+fn shown(config: &[u8], trace: &[u8]) -> String {
+    let case = Case { config: config.to_vec(), trace: trace.to_vec(), out_len: OUTPUT_MAX, fill: 77 };
+    match check(&case, &others(), &mut GuardedRun::default()) {
+        Ok((result, out)) => listing(config, trace, result, &out),
+        Err(difference) => panic!("{difference}"),
+    }
+}
+
+#[track_caller]
+fn assert_rows(config: &[u8], trace: &[u8], rows: &str) {
+    let rows: String = rows.lines().map(|row| format!("{}\n", row.trim())).collect();
+    assert_eq!(shown(config, trace), format!("step event status runner level begun\n{rows}"));
+}
+
+#[track_caller]
+fn assert_refused(config: &[u8], trace: &[u8], code: u32, place: usize) {
+    assert_eq!(shown(config, trace), format!("refused {code} {place}\n"));
+}
+
+/// One autostart task of priority 1.
+const ONE_TASK: [u8; 7] = [1, 1, 0, 1, 1, 0, 0];
+
+#[test]
+fn document_listing_is_reproduced() {
+    assert_eq!(shown(&DOCUMENT_CONFIG, &DOCUMENT_TRACE), DOCUMENT_LISTING);
+}
+
+#[test]
+fn empty_trace_is_accepted_with_no_events() {
+    assert_rows(&ONE_TASK, &[], "");
+}
+
+#[test]
+fn edge_p1_127_takes_one_byte_and_128_two() {
+    assert_rows(&ONE_TASK, &[1, 0x7f, 1, 0x80, 0x01], "0 1 3 0 1 0\n1 1 3 0 1 0");
+}
+
+#[test]
+fn edge_p2_two_bytes_for_zero_are_refused() {
+    assert_refused(&[0x80, 0x00], &[], 2, 0);
+    assert_refused(&ONE_TASK, &[1, 0x80, 0x00], 22, 1);
+}
+
+#[test]
+fn edge_p3_the_largest_number_ends_in_0f() {
+    assert_rows(&ONE_TASK, &[1, 0xff, 0xff, 0xff, 0xff, 0x0f], "0 1 3 0 1 0");
+    assert_refused(&ONE_TASK, &[1, 0xff, 0xff, 0xff, 0xff, 0x10], 22, 1);
+    assert_refused(&[0xff, 0xff, 0xff, 0xff, 0x0f], &[], 3, 0);
+    assert_refused(&[0xff, 0xff, 0xff, 0xff, 0x10], &[], 2, 0);
+}
+
+/// Task 0 (priority 1) runs; table 0 of period 1 and table 1 of period 4 have one entry each for task 1 (priority 2).
+const TWO_TABLES: [u8; 18] = [1, 2, 0, 1, 1, 0, 2, 0, 0, 2, 1, 1, 0, 1, 4, 1, 0, 1];
+
+#[test]
+fn edge_p4_period_1_is_due_at_each_tick() {
+    assert_rows(
+        &TWO_TABLES,
+        &[8, 0, 1, 6, 2, 6, 6, 2, 6],
+        "0 8 0 0 1 0
+         1 6 0 1 2 1
+         2 2 0 0 1 0
+         3 6 0 1 2 1
+         4 6 0 1 2 0
+         5 2 0 0 1 0
+         6 6 0 1 2 1
+         lost 1 1",
+    );
+}
+
+#[test]
+fn edge_p5_period_4_delay_3_is_due_at_3_and_7() {
+    assert_rows(
+        &TWO_TABLES,
+        &[8, 1, 3, 6, 6, 6, 2, 6, 6, 6, 6, 6],
+        "0 8 0 0 1 0
+         1 6 0 0 1 0
+         2 6 0 0 1 0
+         3 6 0 1 2 1
+         4 2 0 0 1 0
+         5 6 0 0 1 0
+         6 6 0 0 1 0
+         7 6 0 0 1 0
+         8 6 0 1 2 1
+         9 6 0 1 2 0",
+    );
+}
+
+#[test]
+fn edge_p7_delay_and_largest_offset_reach_65_535_together() {
+    // Period 3, entries at offsets 0 and 2.
+    let config = [1, 1, 0, 1, 1, 0, 1, 3, 2, 0, 0, 2, 0];
+    // 65,533 is FD FF 03, 65,534 is FE FF 03.
+    assert_rows(
+        &config,
+        &[8, 0, 0xfe, 0xff, 0x03, 8, 0, 0, 8, 0, 0xfd, 0xff, 0x03, 8, 0, 0, 8, 0, 1],
+        "0 8 8 0 1 0
+         1 8 8 0 1 0
+         2 8 0 0 1 0
+         3 8 8 0 1 0
+         4 8 7 0 1 0",
+    );
+}
+
+#[test]
+fn edge_p8_a_task_at_the_ceiling_does_not_begin() {
+    // Task 0 (priority 1) shares a resource with task 1 (priority 2) and activates it while it holds the resource.
+    let config = [1, 2, 0, 1, 1, 0, 2, 0, 1, 3, 0];
+    assert_rows(&config, &[4, 0, 1, 1, 5, 0], "0 4 0 0 2 0\n1 1 0 0 2 0\n2 5 0 1 2 1");
+}
+
+#[test]
+fn edge_p9_a_task_that_chains_itself_begins_again() {
+    assert_rows(&ONE_TASK, &[3, 0, 3, 0], "0 3 0 0 1 1\n1 3 0 0 1 1");
+}
+
+#[test]
+fn edge_p10_two_tables_due_at_once_lose_one_activation() {
+    assert_rows(
+        &TWO_TABLES,
+        &[8, 0, 2, 8, 1, 2, 6, 6],
+        "0 8 0 0 1 0
+         1 8 0 0 1 0
+         2 6 0 0 1 0
+         3 6 0 1 2 1
+         lost 1 1",
+    );
+}
+
+/// ISR 0 of priority 5, ISR 1 of priority 9, task 2 of priority 1, not started; a resource of ISRs 0 and 1.
+const TWO_ISRS: [u8; 14] = [1, 3, 1, 5, 0, 1, 9, 0, 0, 1, 0, 1, 3, 0];
+
+#[test]
+fn edge_p12_a_started_isr_takes_one_more_request() {
+    assert_rows(
+        &TWO_ISRS,
+        &[7, 0, 7, 0, 7, 0, 2, 2, 2],
+        "0 7 0 0 5 1
+         1 7 0 0 5 0
+         2 7 4 0 5 0
+         3 2 0 0 5 1
+         4 2 0 - 0 0
+         5 2 2 - 0 0",
+    );
+}
+
+#[test]
+fn edge_p13_resources_are_released_in_the_order_last_taken_first() {
+    // Resources 0 and 1, both of the one task.
+    let config = [1, 1, 0, 1, 1, 2, 1, 1, 0];
+    assert_rows(
+        &config,
+        &[4, 0, 4, 1, 5, 0, 5, 1, 5, 0, 5, 0],
+        "0 4 0 0 1 0
+         1 4 0 0 1 0
+         2 5 5 0 1 0
+         3 5 0 0 1 0
+         4 5 0 0 1 0
+         5 5 5 0 1 0",
+    );
+}
+
+#[test]
+fn a_preempted_isr_is_resumed_and_its_second_request_waits() {
+    assert_rows(
+        &TWO_ISRS,
+        &[7, 0, 7, 0, 7, 1, 2, 2, 2],
+        "0 7 0 0 5 1
+         1 7 0 0 5 0
+         2 7 0 1 9 1
+         3 2 0 0 5 0
+         4 2 0 0 5 1
+         5 2 0 - 0 0",
+    );
+}
+
+#[test]
+fn a_second_request_begins_only_after_a_better_ready_body() {
+    // ISR 0 at the ceiling 9; ISR 1 and a second request of ISR 0 wait behind it.
+    assert_rows(
+        &TWO_ISRS,
+        &[7, 0, 4, 0, 7, 1, 7, 0, 2, 5, 0, 2, 2],
+        "0 7 0 0 5 1
+         1 4 0 0 9 0
+         2 7 0 0 9 0
+         3 7 0 0 9 0
+         4 2 6 0 9 0
+         5 5 0 1 9 1
+         6 2 0 0 5 0
+         7 2 0 0 5 1",
+    );
+}
+
+#[test]
+fn release_falls_back_to_the_resource_still_held() {
+    // Priorities 1 (runs), 4 and 6; resource 0 of bodies 0 and 1, resource 1 of bodies 0 and 2.
+    let config = [1, 3, 0, 1, 1, 0, 4, 0, 0, 6, 0, 2, 3, 5, 0];
+    assert_rows(
+        &config,
+        &[4, 0, 4, 1, 1, 1, 5, 1, 5, 0],
+        "0 4 0 0 4 0
+         1 4 0 0 6 0
+         2 1 0 0 6 0
+         3 5 0 0 4 0
+         4 5 0 1 4 1",
+    );
+    // Taken the other way round, the lower ceiling does not lower the level.
+    assert_rows(
+        &config,
+        &[4, 1, 4, 0, 1, 1, 5, 0, 5, 1],
+        "0 4 0 0 6 0
+         1 4 0 0 6 0
+         2 1 0 0 6 0
+         3 5 0 0 6 0
+         4 5 0 1 4 1",
+    );
+}
+
+#[test]
+fn get_looks_at_the_own_priority_and_not_at_users_or_level() {
+    // Priorities 1, 4 and 6; resource 0 of body 1, resource 1 of body 2: task 0 uses neither and may take both.
+    let config = [1, 3, 0, 1, 1, 0, 4, 0, 0, 6, 0, 2, 2, 4, 0];
+    assert_rows(
+        &config,
+        &[4, 1, 4, 0, 4, 0, 5, 0, 5, 1, 1, 2, 4, 0, 4, 1],
+        "0 4 0 0 6 0
+         1 4 0 0 6 0
+         2 4 1 0 6 0
+         3 5 0 0 6 0
+         4 5 0 0 1 0
+         5 1 0 2 6 1
+         6 4 1 2 6 0
+         7 4 0 2 6 0",
+    );
+}
+
+#[test]
+fn a_preempting_body_releases_nothing_of_the_one_below() {
+    // Task 0 (1) holds its own resource; task 1 (4) preempts it.
+    let config = [1, 2, 0, 1, 1, 0, 4, 0, 1, 1, 0];
+    assert_rows(
+        &config,
+        &[4, 0, 1, 1, 5, 0, 4, 0, 2, 2, 5, 0],
+        "0 4 0 0 1 0
+         1 1 0 1 4 1
+         2 5 5 1 4 0
+         3 4 1 1 4 0
+         4 2 0 0 1 0
+         5 2 6 0 1 0
+         6 5 0 0 1 0",
+    );
+}
+
+#[test]
+fn chain_checks_the_id_before_resources_and_resources_before_the_limit() {
+    // Task 0 (1, runs), task 1 (4), ISR 2 (9); a resource of task 0.
+    let config = [1, 3, 0, 1, 1, 0, 4, 0, 1, 9, 0, 1, 1, 0];
+    assert_rows(
+        &config,
+        &[4, 0, 3, 2, 3, 3, 3, 0, 3, 1, 5, 0, 7, 2, 3, 1, 2, 3, 1, 3, 0, 2],
+        "0 4 0 0 1 0
+         1 3 3 0 1 0
+         2 3 3 0 1 0
+         3 3 6 0 1 0
+         4 3 6 0 1 0
+         5 5 0 0 1 0
+         6 7 0 2 9 1
+         7 3 2 2 9 0
+         8 2 0 0 1 0
+         9 3 0 1 4 1
+         10 3 0 0 1 1
+         11 2 0 - 0 0",
+    );
+}
+
+#[test]
+fn a_stopped_table_is_due_no_more_and_starts_afresh() {
+    assert_rows(
+        &TWO_TABLES,
+        &[9, 1, 8, 1, 2, 6, 9, 1, 9, 1, 6, 6, 8, 1, 1, 6, 8, 1, 1],
+        "0 9 5 0 1 0
+         1 8 0 0 1 0
+         2 6 0 0 1 0
+         3 9 0 0 1 0
+         4 9 5 0 1 0
+         5 6 0 0 1 0
+         6 6 0 0 1 0
+         7 8 0 0 1 0
+         8 6 0 1 2 1
+         9 8 7 1 2 0",
+    );
+}
+
+#[test]
+fn nobody_running_is_status_2_before_any_id_is_looked_at() {
+    let config = [1, 1, 0, 1, 0, 0, 0];
+    assert_rows(
+        &config,
+        &[1, 9, 2, 3, 9, 4, 9, 5, 9, 6, 7, 9, 8, 9, 0, 9, 9],
+        "0 1 2 - 0 0
+         1 2 2 - 0 0
+         2 3 2 - 0 0
+         3 4 2 - 0 0
+         4 5 2 - 0 0
+         5 6 0 - 0 0
+         6 7 3 - 0 0
+         7 8 2 - 0 0
+         8 9 2 - 0 0",
+    );
+}
+
+#[test]
+fn a_tick_serves_every_table_before_one_arbitration() {
+    // Task 0 (1, runs); table 0 makes task 1 (4) ready, table 1 task 2 (6), at the same tick.
+    let config = [1, 3, 0, 1, 1, 0, 4, 0, 0, 6, 0, 0, 2, 9, 1, 0, 1, 9, 1, 0, 2];
+    assert_rows(
+        &config,
+        &[8, 0, 1, 8, 1, 1, 6, 2, 2],
+        "0 8 0 0 1 0
+         1 8 0 0 1 0
+         2 6 0 2 6 1
+         3 2 0 1 4 1
+         4 2 0 0 1 0",
+    );
+}
+
+#[test]
+fn entries_at_one_offset_are_served_together_after_delay_and_offset() {
+    // Task 0 (1, runs); one table with entries at offset 2 for tasks 1 (4) and 2 (6).
+    let config = [1, 3, 0, 1, 1, 0, 4, 0, 0, 6, 0, 0, 1, 9, 2, 2, 1, 2, 2];
+    assert_rows(
+        &config,
+        &[8, 0, 1, 6, 6, 6, 2, 2],
+        "0 8 0 0 1 0
+         1 6 0 0 1 0
+         2 6 0 0 1 0
+         3 6 0 2 6 1
+         4 2 0 1 4 1
+         5 2 0 0 1 0",
+    );
+}
+
+#[test]
+fn a_request_that_waits_outlives_the_stop_of_its_table() {
+    // Task 0 (5, runs); the table's task 1 (2) waits behind it.
+    let config = [1, 2, 0, 5, 1, 0, 2, 0, 0, 1, 9, 1, 0, 1];
+    assert_rows(&config, &[8, 0, 1, 6, 9, 0, 2], "0 8 0 0 5 0\n1 6 0 0 5 0\n2 9 0 0 5 0\n3 2 0 1 2 1");
+}
+
+#[test]
+fn a_ready_or_started_task_is_at_its_limit_and_loses_nothing() {
+    // Task 0 (5, runs, uses the resource) makes task 1 (2) ready.
+    let config = [1, 2, 0, 5, 1, 0, 2, 0, 1, 1, 0];
+    assert_rows(
+        &config,
+        &[1, 1, 4, 0, 3, 1, 5, 0, 3, 1, 1, 1, 1, 0],
+        "0 1 0 0 5 0
+         1 4 0 0 5 0
+         2 3 6 0 5 0
+         3 5 0 0 5 0
+         4 3 4 0 5 0
+         5 1 4 0 5 0
+         6 1 4 0 5 0",
+    );
+}

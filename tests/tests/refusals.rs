@@ -1,0 +1,285 @@
+//! Every refusal at every kind of number, with its place, worked by hand and shown by every implementation.
+
+use osek_tests::compare::{check, others};
+use osek_tests::coverage::REFUSALS;
+use osek_tests::draw::Case;
+use osek_tests::guard::GuardedRun;
+use osek_tests::listing::{DOCUMENT_CONFIG, DOCUMENT_TRACE};
+
+/// Task 0 of priority 1 (autostart), ISR 1 of priority 2, task 2 of priority 200; one resource of all three; one table
+/// of period 3 with entries (0, task 0), (0, task 2), (2, task 0). The places:
+///
+/// 0 version, 1 body count, 2 kind, 3 priority, 4 autostart, 5 kind, 6 priority, 7 autostart, 8 kind, 9 priority,
+/// 11 autostart, 12 resource count, 13 users, 14 table count, 15 period, 16 entry count, 17 offset, 18 task,
+/// 19 offset, 20 task, 21 offset, 22 task, 23 end
+const CONFIG: [u8; 23] = [1, 3, 0, 1, 1, 1, 2, 0, 0, 200, 1, 0, 1, 7, 1, 3, 3, 0, 0, 0, 2, 2, 0];
+
+/// The configuration with `bytes` in the place of the `length` bytes at `place`.
+fn with(place: usize, length: usize, bytes: &[u8]) -> Vec<u8> {
+    let mut config = CONFIG.to_vec();
+    config.splice(place..place + length, bytes.iter().copied());
+    config
+}
+
+#[track_caller]
+fn result(config: &[u8], trace: &[u8], out_len: usize) -> (u64, u64) {
+    let case = Case { config: config.to_vec(), trace: trace.to_vec(), out_len, fill: 3 };
+    match check(&case, &others(), &mut GuardedRun::default()) {
+        Ok((result, out)) => {
+            assert!(result >> 32 == 0 || out == case.prefilled(), "a refused run wrote to the output");
+            (result >> 32, result & 0xffff_ffff)
+        }
+        Err(difference) => panic!("{difference}"),
+    }
+}
+
+#[track_caller]
+fn assert_config(config: &[u8], code: u64, place: u64) {
+    // Whatever is wrong with the trace and the output, the configuration's refusal comes first.
+    for trace in [&[][..], &[0], &[6; 8193]] {
+        assert_eq!(result(config, trace, 0), (code, place));
+    }
+}
+
+#[track_caller]
+fn assert_trace(trace: &[u8], code: u64, place: u64) {
+    assert_eq!(result(&CONFIG, trace, 40_000), (code, place));
+    assert_eq!(result(&CONFIG, trace, 0), (code, place), "an output too short comes after the trace");
+}
+
+#[test]
+fn the_whole_configuration_is_accepted() {
+    assert_eq!(result(&CONFIG, &[], 6), (0, 0));
+}
+
+#[test]
+fn a_configuration_over_4_096_bytes_is_10() {
+    assert_config(&[0x80; 4097], 10, 0);
+    let mut long = CONFIG.to_vec();
+    long.resize(4096, 0);
+    assert_config(&long, 9, 23);
+    long.push(0);
+    assert_config(&long, 10, 0);
+}
+
+#[test]
+fn a_configuration_that_ends_early_is_1_at_the_missing_number() {
+    // Every cut but the ones inside the priority 200 lies before a number.
+    for length in 0..CONFIG.len() {
+        let place = if length == 10 { 9 } else { length };
+        assert_config(&CONFIG[..length], 1, place as u64);
+    }
+}
+
+#[test]
+fn a_number_that_breaks_off_is_1_at_its_first_byte() {
+    for groups in 1..=4 {
+        let mut config = CONFIG[..13].to_vec();
+        config.extend(vec![0x80; groups]);
+        assert_config(&config, 1, 13);
+    }
+}
+
+#[test]
+fn a_number_too_large_or_not_shortest_is_2() {
+    let bad: [&[u8]; 8] = [
+        &[0x80, 0],
+        &[0x81, 0],
+        &[0x87, 0x80, 0],
+        &[0x80, 0x80, 0x80, 0x80, 0],
+        &[0x80, 0x80, 0x80, 0x80, 0x80],
+        &[0xff, 0xff, 0xff, 0xff, 0x10],
+        &[0xff, 0xff, 0xff, 0xff, 0x8f],
+        &[0x81, 0x80, 0x80, 0x80, 0x7f],
+    ];
+    let numbers = [0, 1, 2, 3, 4, 5, 6, 7, 8, 9, 11, 12, 13, 14, 15, 16, 17, 18, 19, 20, 21, 22];
+    for place in numbers {
+        let length = if place == 9 { 2 } else { 1 };
+        for bytes in bad {
+            assert_config(&with(place, length, bytes), 2, place as u64);
+        }
+    }
+}
+
+#[test]
+fn a_version_other_than_1_is_3() {
+    for version in [&[0][..], &[2], &[0x81, 1]] {
+        assert_config(&with(0, 1, version), 3, 0);
+    }
+}
+
+#[test]
+fn a_count_out_of_range_is_4() {
+    for (place, bytes) in [(1, &[0][..]), (1, &[33]), (12, &[17]), (14, &[9]), (16, &[0]), (16, &[17])] {
+        assert_config(&with(place, 1, bytes), 4, place as u64);
+        assert_config(&with(place, 1, &[0xff, 0xff, 0xff, 0xff, 0x0f]), 4, place as u64);
+    }
+}
+
+#[test]
+fn a_field_out_of_range_is_5() {
+    let fields: [(usize, usize, &[u8]); 18] = [
+        (2, 1, &[2]),
+        (3, 1, &[0]),
+        (3, 1, &[0xc9, 1]),
+        (4, 1, &[2]),
+        (7, 1, &[1]),
+        (7, 1, &[2]),
+        (13, 1, &[0]),
+        (13, 1, &[8]),
+        (13, 1, &[0x81, 0x80, 0x80, 0x80, 0x08]),
+        (15, 1, &[0]),
+        (15, 1, &[0x80, 0x80, 4]),
+        (17, 1, &[3]),
+        (18, 1, &[1]),
+        (18, 1, &[3]),
+        (18, 1, &[32]),
+        (20, 1, &[1]),
+        (22, 1, &[0xff, 0xff, 0xff, 0xff, 0x0f]),
+        (21, 1, &[0x82, 0x80, 4]),
+    ];
+    for (place, length, bytes) in fields {
+        assert_config(&with(place, length, bytes), 5, place as u64);
+    }
+}
+
+#[test]
+fn a_priority_already_used_is_6_before_the_autostart_is_read() {
+    assert_config(&with(6, 1, &[1]), 6, 6);
+    assert_config(&with(9, 2, &[2]), 6, 9);
+    assert_config(&with(9, 3, &[2, 9]), 6, 9);
+    assert_config(&with(9, 14, &[1]), 6, 9);
+}
+
+#[test]
+fn an_entry_not_after_the_one_before_is_7_at_its_task() {
+    // Twice the same; the task falls; the offset falls.
+    assert_config(&with(20, 1, &[0]), 7, 20);
+    assert_config(&with(18, 1, &[2]), 7, 20);
+    assert_config(&with(17, 6, &[1, 0, 0, 2, 2, 0]), 7, 20);
+    // The offset falls, but the task is an ISR or missing: 5 comes first.
+    assert_config(&with(17, 6, &[1, 0, 0, 1, 2, 0]), 5, 20);
+    assert_config(&with(17, 6, &[1, 0, 0]), 1, 20);
+}
+
+#[test]
+fn entries_of_another_table_need_not_rise() {
+    let mut config = with(14, 1, &[2]);
+    config.extend([3, 1, 0, 0]);
+    assert_eq!(result(&config, &[], 6), (0, 0));
+}
+
+/// One task; tables of period 16 with these many entries.
+fn tables(counts: &[u8]) -> Vec<u8> {
+    let mut config = vec![1, 1, 0, 1, 1, 0, counts.len() as u8];
+    for count in counts {
+        config.extend([16, *count]);
+        for offset in 0..*count {
+            config.extend([offset, 0]);
+        }
+    }
+    config
+}
+
+#[test]
+fn more_than_64_entries_are_8_at_the_count() {
+    assert_eq!(result(&tables(&[16, 16, 16, 16]), &[], 2), (0, 0));
+    assert_eq!(result(&tables(&[8; 8]), &[], 2), (0, 0));
+    // 7 bytes before, 34 a table, then the period.
+    assert_config(&tables(&[16, 16, 16, 16, 1]), 8, 7 + 4 * 34 + 1);
+    assert_config(&tables(&[16, 16, 16, 15, 2]), 8, 7 + 3 * 34 + 32 + 1);
+    // 17 is out of range before it is too many; the total is tested before the entries.
+    assert_config(&tables(&[16, 16, 16, 16, 17]), 4, 7 + 4 * 34 + 1);
+    let mut cut = tables(&[16, 16, 16, 16]);
+    cut[6] = 5;
+    cut.extend([16, 1]);
+    assert_config(&cut, 8, 7 + 4 * 34 + 1);
+}
+
+#[test]
+fn bytes_left_over_are_9_at_the_first() {
+    let mut config = CONFIG.to_vec();
+    config.push(0);
+    assert_config(&config, 9, 23);
+    config.extend([0x80; 5]);
+    assert_config(&config, 9, 23);
+}
+
+#[test]
+fn a_mask_of_32_bodies_may_have_every_bit() {
+    let mut config = vec![1, 32];
+    for body in 0..32 {
+        config.extend([0, body + 1, 0]);
+    }
+    config.extend([2, 0xff, 0xff, 0xff, 0xff, 0x0f, 0x80, 0x80, 0x80, 0x80, 0x08, 0]);
+    assert_eq!(result(&config, &[], 64), (0, 0));
+}
+
+#[test]
+fn the_largest_values_are_accepted() {
+    // Priority 200, period 65,535, an entry at 65,534.
+    let config = [1, 1, 0, 0xc8, 1, 1, 0, 1, 0xff, 0xff, 3, 1, 0xfe, 0xff, 3, 0];
+    assert_eq!(result(&config, &[], 2), (0, 0));
+}
+
+#[test]
+fn a_trace_over_8_192_bytes_is_20() {
+    assert_trace(&[6; 8193], 20, 0);
+    assert_trace(&[0; 8193], 20, 0);
+    assert_eq!(result(&CONFIG, &[6; 8192], 4 * 8192 + 6), (0, 8192));
+}
+
+#[test]
+fn a_trace_that_ends_early_is_21_at_the_missing_number() {
+    for code in [1, 3, 4, 5, 7, 8, 9] {
+        assert_trace(&[6, code], 21, 2);
+        assert_trace(&[6, code, 0x80], 21, 2);
+        assert_trace(&[6, code, 0xff, 0xff, 0xff, 0xff], 21, 2);
+    }
+    assert_trace(&[8, 0], 21, 2);
+    assert_trace(&[8, 0x80, 1], 21, 3);
+    assert_trace(&[6, 0x86], 21, 1);
+    assert_trace(&[0x80, 0x80, 0x80, 0x80], 21, 0);
+}
+
+#[test]
+fn a_bad_number_in_the_trace_is_22() {
+    assert_trace(&[0x86, 0], 22, 0);
+    assert_trace(&[6, 1, 0x80, 0], 22, 2);
+    assert_trace(&[8, 0, 0x80, 0x80, 0], 22, 2);
+    assert_trace(&[8, 0xff, 0xff, 0xff, 0xff, 0x10, 0], 22, 1);
+    assert_trace(&[0x80, 0x80, 0x80, 0x80, 0x80], 22, 0);
+    assert_trace(&[0x80, 0x80, 0x80, 0x80, 0], 22, 0);
+}
+
+#[test]
+fn an_unknown_event_code_is_23_before_its_arguments() {
+    for code in [&[0][..], &[10], &[11], &[0x7f], &[0x81, 1], &[0xff, 0xff, 0xff, 0xff, 0x0f]] {
+        let mut trace = vec![6, 1, 0];
+        trace.extend(code);
+        assert_trace(&trace, 23, 3);
+        trace.extend([0x80, 0]);
+        assert_trace(&trace, 23, 3);
+    }
+}
+
+#[test]
+fn an_output_too_short_is_30_at_the_bytes_needed() {
+    let needed = 4 * 17 + 2 * 3;
+    for out_len in [0, 1, needed as usize - 1] {
+        assert_eq!(result(&DOCUMENT_CONFIG, &DOCUMENT_TRACE, out_len), (30, needed));
+    }
+    assert_eq!(result(&DOCUMENT_CONFIG, &DOCUMENT_TRACE, needed as usize), (0, 17));
+    assert_eq!(result(&CONFIG, &[], 5), (30, 6));
+    assert_eq!(result(&CONFIG, &[6; 8192], 4 * 8192 + 5), (30, 4 * 8192 + 6));
+}
+
+#[test]
+fn an_empty_configuration_is_1_at_0() {
+    assert_config(&[], 1, 0);
+}
+
+#[test]
+fn the_run_has_fifteen_refusals() {
+    assert_eq!(REFUSALS.len(), 15);
+}
