@@ -15,7 +15,7 @@ use Rattle.number.proofs.Theorems.{reading}
 use Rattle.config.specs.declared.Draft.{Draft}
 use Rattle.config.specs.Draft.{Within, fault, put, ended, start}
 use Rattle.config.specs.Reader.{refused, numberFault, faultPlace, finished, readFrom}
-use Rattle.config.proofs.CodeWithin.{start-within, put-within}
+use Rattle.config.proofs.Position.{start-within, moved}
 
 -- at the place `at` with the draft d: as many numbers as there are bytes left are enough, and what they give is the whole answer
 pub record ReadsOn (bs : List ℕ) (at : ℕ) (d : Draft) : Type 0 where
@@ -91,7 +91,7 @@ module _ (bs : List ℕ) (at : ℕ) (d : Draft) (o : ReadsOn bs at d) (more : en
         left = k;
         enough = omega (arith, reading bs at .after h, o .enough);
         inside = reading bs at .inside h;
-        within = put-within d (readNumber bs at .value) (o .within) (faultless d (readNumber bs at) n);
+        within = moved d (readNumber bs at .value) more (faultless d (readNumber bs at) n) (o .within) .within;
         rest = sym (from-read bs at d k more n) ∙ ap (λ (j : ℕ). readFrom j bs at d) e ∙ o .rest;
       }
 

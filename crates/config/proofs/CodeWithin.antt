@@ -1,12 +1,12 @@
--- What the code has to know of a draft: its position lies inside the arrays (`Within`), at the start and after every number that is in order, and
--- such a number is no greater than its place holds (`most`).
+-- What the code has to know of a number that is in order: it is no greater than its place holds (`Small`), and the draft's position lies inside
+-- the arrays.
 -- Assumes nothing.
 use Prim.Native.Nat.{ℕ, _+_, _-_, _^_, _≤_, _<_}
 use mathlib.Core.Path.{_≡_, refl, sym, subst, _∙_}
 use mathlib.Core.Bool.{Bool, true, false, cond, _&&_}
 use native.Mathlib.Omega.{arith}
 use borrow.Author.Tests.{eq-eqb, ne-eqb, leb-true, ltb-true}
-use lib.Dec.{lit≤, lit<, leb, eqb}
+use lib.Dec.{lit<, leb, eqb}
 use lib.ListN.{getD}
 use Rattle.number.specs.Refusal.{none}
 use Rattle.number.proofs.Cases.{by-eq}
@@ -16,7 +16,7 @@ use Rattle.config.specs.declared.Field.the-variants.{Version, Bodies, Ki
 use Rattle.config.specs.Refusal.{badVersion, badCount, badField, tooManyEntries}
 use Rattle.config.specs.Meaning.{isr, isTask}
 use Rattle.config.specs.Value.{maxEntries}
-use Rattle.config.specs.Draft.{unless, outside, andThen, mostAutostart, fault, faultAt, put, putAt, Inside, Within, start}
+use Rattle.config.specs.Draft.{unless, outside, andThen, mostAutostart, fault, faultAt, Inside, Within}
 
 -- tests that give no refusal
 unless-none : (ok : Bool) (r : ℕ) → 0 < r → unless ok r ≡ none → ok ≡ true
@@ -96,46 +96,3 @@ small f d v h e = small-at f d v (subst (λ (g : Field). faultAt g d v ≡ none)
 
 pub inside-at : (f : Field) (d : Draft) → Within d → d .field ≡ f → Inside f d
 inside-at f d w e = subst (λ (g : Field). Inside g d) e (w .inside)
-
-pub start-within : Within start
-unfolding Inside
-start-within = record { bodies-le = lit≤ tt; resources-le = lit≤ tt; tables-le = lit≤ tt; entry-le = lit≤ tt; until-le = lit≤ tt; inside = tt }
-
-module _ (d : Draft) (w : Within d) (v : ℕ) where
-  put-at-within : (f : Field) → Small f d v → Inside f d → Within (putAt f d v)
-  unfolding putAt Small Inside
-  put-at-within Version s i = omega arith
-  put-at-within Bodies s i = omega arith
-  put-at-within Kind s i = omega arith
-  put-at-within Priority s i = omega arith
-  put-at-within Autostart s i =
-      by-eq (d .index + 1) (d .config .bodies)
-      (λ h. rw (eq-eqb (d .index + 1) (d .config .bodies) h) (omega arith))
-      (λ h. rw (ne-eqb (d .index + 1) (d .config .bodies) h) (omega arith))
-  put-at-within Resources s i =
-      by-eq 0 v
-      (λ h. rw (eq-eqb 0 v h) (omega arith))
-      (λ h. rw (ne-eqb 0 v h) (omega arith))
-  put-at-within Users s i =
-      by-eq (d .index + 1) (d .config .resources)
-      (λ h. rw (eq-eqb (d .index + 1) (d .config .resources) h) (omega arith))
-      (λ h. rw (ne-eqb (d .index + 1) (d .config .resources) h) (omega arith))
-  put-at-within Tables s i =
-      by-eq 0 v
-      (λ h. rw (eq-eqb 0 v h) (omega arith))
-      (λ h. rw (ne-eqb 0 v h) (omega arith))
-  put-at-within Period s i = omega arith
-  put-at-within Entries s i = omega arith
-  put-at-within Offset s i = omega arith
-  put-at-within Task s i =
-      by-eq (d .entry + 1) (d .until)
-      (λ h. rw (eq-eqb (d .entry + 1) (d .until) h)
-      (by-eq (d .index + 1) (d .config .tables)
-      (λ g. rw (eq-eqb (d .index + 1) (d .config .tables) g) (omega arith))
-      (λ g. rw (ne-eqb (d .index + 1) (d .config .tables) g) (omega arith))))
-      (λ h. rw (ne-eqb (d .entry + 1) (d .until) h) (omega arith))
-  put-at-within End s i = w
-
--- a number that is in order leads to a draft within the arrays
-pub put-within : (d : Draft) (v : ℕ) → Within d → fault d v ≡ none → Within (put d v)
-put-within d v w e = put-at-within d w v (d .field) (small (d .field) d v refl e) (w .inside)

@@ -16,7 +16,7 @@ use Rattle.config.specs.declared.Config.{Config}
 use Rattle.config.specs.declared.Draft.{Draft}
 use Rattle.config.specs.Draft.{Within, fault, put, asked, ended, start}
 use Rattle.config.specs.Writer.{maxNumbers, faultFrom, firstFault, bytesFrom, configBytes}
-use Rattle.config.proofs.CodeWithin.{start-within, put-within}
+use Rattle.config.proofs.Position.{start-within, moved}
 
 -- after k numbers of c, whose bytes are bs: what is left gives the first refusal F and, after bs, the bytes `all`
 pub record Walks (c : Config) (F : ℕ) (all : List ℕ) (k : ℕ) (d : Draft) (bs : List ℕ) : Type 0 where
@@ -94,7 +94,7 @@ module _ (c : Config) (F : ℕ) (all : List ℕ) (k : ℕ) (d : Draft) (bs : Lis
         record {
           left = o .left - 1;
           turns = omega (arith, o .turns);
-          within = put-within d v (o .within) n;
+          within = moved d v more n (o .within) .within;
           fault-rest = sym (fault-next c d (o .left - 1) more n) ∙ ap (λ (j : ℕ). faultFrom j c d) (sym one-more) ∙ o .fault-rest;
           bytes-rest =
               append-assoc bs (numberBytes v) (bytesFrom (o .left - 1) c (put d v))

@@ -21,10 +21,29 @@ fn title(name: &[u8]) {
     end_line();
 }
 
-// Reads, and prints the answer.
-fn read(bytes: &[u8]) {
+// What the reader answers.
+fn answer(bytes: &[u8]) {
     let r = read_config(bytes);
     print(r.refusal, r.place);
+}
+
+fn print_byte(b: u8) {
+    io::write_all(STDOUT_FILENO, b" ");
+    io::print_hex(STDOUT_FILENO, b as u64, 2);
+}
+
+fn print_bytes(bytes: &[u8]) {
+    let mut i = 0;
+    while i < bytes.len() {
+        print_byte(bytes[i]);
+        i += 1;
+    }
+}
+
+// The reader's answer and what it read.
+fn read(bytes: &[u8]) {
+    answer(bytes);
+    print_bytes(bytes);
     end_line();
 }
 
@@ -112,9 +131,11 @@ fn entries() {
 fn lengths() {
     title(b"lengths");
     let long = [0u8; 4096];
-    read(&long);
+    answer(&long);
+    end_line();
     let longer = [0u8; 4097];
-    read(&longer);
+    answer(&longer);
+    end_line();
 }
 
 // The value of document 01's listing.
@@ -129,19 +150,6 @@ fn full() -> Config {
     read_config(
         b"\x01\x01\x00\x05\x00\x00\x04\x10\x10\x00\x00\x01\x00\x02\x00\x03\x00\x04\x00\x05\x00\x06\x00\x07\x00\x08\x00\x09\x00\x0a\x00\x0b\x00\x0c\x00\x0d\x00\x0e\x00\x0f\x00\x10\x10\x00\x00\x01\x00\x02\x00\x03\x00\x04\x00\x05\x00\x06\x00\x07\x00\x08\x00\x09\x00\x0a\x00\x0b\x00\x0c\x00\x0d\x00\x0e\x00\x0f\x00\x10\x10\x00\x00\x01\x00\x02\x00\x03\x00\x04\x00\x05\x00\x06\x00\x07\x00\x08\x00\x09\x00\x0a\x00\x0b\x00\x0c\x00\x0d\x00\x0e\x00\x0f\x00\x10\x10\x00\x00\x01\x00\x02\x00\x03\x00\x04\x00\x05\x00\x06\x00\x07\x00\x08\x00\x09\x00\x0a\x00\x0b\x00\x0c\x00\x0d\x00\x0e\x00\x0f\x00",
     ).config
-}
-
-fn print_byte(b: u8) {
-    io::write_all(STDOUT_FILENO, b" ");
-    io::print_hex(STDOUT_FILENO, b as u64, 2);
-}
-
-fn print_bytes(bytes: &[u8]) {
-    let mut i = 0;
-    while i < bytes.len() {
-        print_byte(bytes[i]);
-        i += 1;
-    }
 }
 
 // Writes into an output of 22 bytes, each 255 before, and prints the answer and the output.

@@ -1,7 +1,7 @@
 -- The reader's definition, group by group: what each kind of first byte makes of a reading, and how large and how long a reading can be.
 -- Assumes nothing.
 use Prim.Native.Nat.{ℕ, zero, suc, _+_, _*_, _-_, _%_, _≤_, _<_}
-use mathlib.Core.Path.{_≡_, refl, sym}
+use mathlib.Core.Path.{_≡_, refl}
 use mathlib.Core.List.{List, [], _∷_}
 use native.Mathlib.Omega.{arith}
 use native.Mathlib.Numerals.{add-one}
@@ -11,7 +11,7 @@ use lib.ListN.{length, drop, getD, drop-of-length-le}
 use lib.Seq.{drop-cons}
 use Rattle.number.specs.declared.NumberRead.{NumberRead}
 use Rattle.number.specs.Refusal.{none, cut, malformed}
-use Rattle.number.specs.Number.{accepted, refused, continued, fifthGroup, groups, room}
+use Rattle.number.specs.Number.{accepted, refused, continued, fifthGroup, groups}
 use Rattle.number.proofs.Cases.{by-lt, by-eq}
 
 -- a group that must be the last

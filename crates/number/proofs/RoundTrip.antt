@@ -1,16 +1,17 @@
 -- Both round trips, group by group: what is written reads back, and what is read was written so.
 -- Assumes nothing.
 use Prim.Native.Nat.{ℕ, zero, suc, _+_, _*_, _/_, _%_, _≤_, _<_}
-use mathlib.Core.Path.{_≡_, refl, sym, ap, _∙_}
-use mathlib.Core.List.{List, [], _∷_, _++_}
+use mathlib.Core.Path.{_≡_, refl, ap, _∙_}
+use mathlib.Core.List.{List, _∷_, _++_}
 use native.Mathlib.Omega.{arith}
 use native.Mathlib.Numerals.{one-add}
-use borrow.Author.Tests.{lt-ltb, le-ltb, eqb-false}
+use borrow.Author.Tests.{lt-ltb, le-ltb}
 use lib.ListN.{length, drop}
 use Rattle.number.specs.declared.NumberRead.{NumberRead}
 use Rattle.number.specs.Refusal.{none}
-use Rattle.number.specs.Number.{Bytes, accepted, refused, continued, groups, groupBytes, room}
+use Rattle.number.specs.Number.{Bytes, accepted, groups, groupBytes}
 use Rattle.number.proofs.Cases.{by-lt}
+use Rattle.number.proofs.Size.{room}
 use Rattle.number.proofs.Groups.{fifth-small, groups-elim, continued-more}
 
 -- the bytes of a number read as that number, whatever stands after them

@@ -9,9 +9,14 @@ use lib.Dec.{lit<, lit≤}
 use lib.ListN.{length, drop, getD, length-drop}
 use Rattle.number.specs.declared.NumberRead.{NumberRead}
 use Rattle.number.specs.Refusal.{none}
-use Rattle.number.specs.Number.{limit, Bytes, groups, leading, groupBytes, numberBytes, room}
+use Rattle.number.specs.Number.{limit, Bytes, groups, leading, groupBytes, numberBytes}
 use Rattle.number.proofs.Cases.{by-lt}
 use Rattle.number.proofs.Groups.{groups-elim}
+
+-- numbers of at most k groups before the last one are below this
+unfoldable pub room : ℕ → ℕ
+room zero = 16
+room (suc k) = 128 * room k
 
 -- what every reading of the groups of a list satisfies
 pub record Sized (k : ℕ) (bs : List ℕ) (r : NumberRead) : Type 0 where

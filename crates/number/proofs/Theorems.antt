@@ -2,20 +2,20 @@
 --
 -- In order: what every reading satisfies; both round trips; how long a number's bytes are; what a writer does.
 -- Assumes nothing.
-use Prim.Native.Nat.{ℕ, suc, _+_, _≤_, _<_}
-use mathlib.Core.Path.{_≡_, refl, sym, ap, _∙_}
+use Prim.Native.Nat.{ℕ, _+_, _≤_, _<_}
+use mathlib.Core.Path.{_≡_, refl, ap, _∙_}
 use mathlib.Core.List.{List, _++_}
 use native.Mathlib.Omega.{arith}
-use lib.Dec.{leb}
-use lib.ListN.{length, drop, getD, length-append, length-drop}
+use lib.ListN.{length, drop, length-append, length-drop}
 use lib.Seq.{drop-drop, drop-at, getD-drop}
 use borrow.Author.Tests.{le-leb, lt-leb}
 use Rattle.number.specs.declared.NumberRead.{NumberRead}
 use Rattle.number.specs.Refusal.{none, noRoom}
 use Rattle.number.specs.Output.{writing, written, unwritten}
-use Rattle.number.specs.Number.{limit, Bytes, accepted, groups, leading, readNumber, numberBytes, groupBytes, room}
+use Rattle.number.specs.Number.{limit, Bytes, accepted, groups, leading, readNumber, numberBytes}
 use Rattle.number.proofs.Cases.{by-lt}
 use Rattle.number.proofs.Size as Size
+use Rattle.number.proofs.Size.{room}
 use Rattle.number.proofs.RoundTrip as RoundTrip
 
 -- whatever is read: an accepted number is in range and covers at least one byte of the input; a refused one is 0, at its own place

@@ -54,11 +54,6 @@ shifted p r = record { value = r .value; refusal = r .refusal; place = p + r .pl
 abbrev pub leading : ℕ
 leading = 4
 
--- numbers of at most k groups before the last one are below this
-unfoldable pub room : ℕ → ℕ
-room zero = 16
-room (suc k) = 128 * room k
-
 -- the number at a place; at or past the end, refusal 1 there
 unfoldable pub readNumber : List ℕ → ℕ → NumberRead
 readNumber bs at = shifted at (groups leading (drop at bs))

@@ -13,7 +13,7 @@ use Rattle.scheduler.specs.Status.{firstOf}
 use Rattle.scheduler.specs.Choice.{candidate, chosenFrom, idle}
 use Rattle.scheduler.specs.State.{among, heldIn}
 use Rattle.scheduler.specs.Tick.{counting, entryDue, duesFrom, activatingDue}
-use Rattle.scheduler.specs.Scheduler.{Event, Activate, Finish, Chain, Get, Release, Tick, Line, Start, Stop, Seen, step, fresh, seen, after, lossesOf}
+use Rattle.scheduler.specs.Scheduler.{Event, Finish, Chain, Get, Release, Tick, Line, Start, Stop, Seen, step, fresh, seen, after, lossesOf}
 
 -- "Configuration (hex)"
 pub listing : Config

@@ -7,7 +7,7 @@ use lib.Dec.{ltb, leb, eqb}
 use Rattle.config.specs.declared.Config.{Config}
 use Rattle.config.specs.Meaning.{isTask, isIsr, priorityOf, ceiling, largestOffset}
 use Rattle.scheduler.specs.Status.{callLevel, noSuch, limit, access, noFunction, holdsResource, alreadyRuns, badDelay, _gives_, firstOf}
-use Rattle.scheduler.specs.Body.{Phase, suspended, ready, started, isSuspended, isStarted, Body, become, finished, requested, takes, gives-back}
+use Rattle.scheduler.specs.Body.{Phase, suspended, ready, started, isSuspended, Body, become, finished, requested, takes, gives-back}
 use Rattle.scheduler.specs.Choice.{isNobody}
 use Rattle.scheduler.specs.State.{State, stopped, running, isRunning, bodyOf, tableOf, changing, withTable, runner, heldIn}
 

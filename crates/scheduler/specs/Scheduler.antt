@@ -6,13 +6,13 @@
 --
 -- Assumes nothing.
 use Prim.Native.Nat.{ℕ}
-use mathlib.Core.Bool.{Bool, true, false, cond, not, _&&_, _||_}
+use mathlib.Core.Bool.{Bool, false, cond, not, _&&_}
 use mathlib.Core.List.{List, [], _∷_, map}
 use lib.Dec.{eqb}
 use lib.ListN.{length, take, replicate}
 use Rattle.config.specs.declared.Config.{Config}
 use Rattle.scheduler.specs.Status.{done}
-use Rattle.scheduler.specs.Body.{suspended, ready, started, Body, become}
+use Rattle.scheduler.specs.Body.{ready, started, Body, become}
 use Rattle.scheduler.specs.Choice.{Candidate, isNobody}
 use Rattle.scheduler.specs.State.{stopped, State, noBody, changing, runner}
 use Rattle.scheduler.specs.Call.{activateStatus, activate, finishStatus, finish, chainStatus, chain, getStatus, get, releaseStatus, release, lineStatus, line, startStatus, start, stopStatus, stop}

@@ -1,6 +1,6 @@
 -- `read_number` meets its contract: the groups at the place, with their place counted from the input's start.
 -- Assumes nothing.
-use Prim.Native.Nat.{ℕ, _+_, _^_, _≤_, _<_}
+use Prim.Native.Nat.{ℕ, _+_, _^_, _<_}
 use mathlib.Core.Path.{_≡_, ap}
 use mathlib.Core.List.{List}
 use native.Mathlib.Omega.{arith}
@@ -10,7 +10,6 @@ use mir.Syntax.{w64}
 use Rattle.number.specs.declared.NumberRead.{NumberRead}
 use Rattle.number.specs.Number.{shifted, groups, leading, readNumber}
 use Rattle.number.proofs.Size.{groups-sized}
-use Rattle.number.proofs.Cases.{by-eq}
 use borrow.Author.Needs.{needs}
 use Rattle.number.proofs.read_number.Statement.{statement}
 use Rattle.number.proofs.read_number.Tie as tie
