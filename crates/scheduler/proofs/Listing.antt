@@ -16,7 +16,7 @@ use Rattle.scheduler.specs.Tick.{counting, entryDue, duesFrom, activatin
 use Rattle.scheduler.specs.Scheduler.{Event, Finish, Chain, Get, Release, Tick, Line, Start, Stop, Seen, step, fresh, seen, after, lossesOf}
 
 -- "Configuration (hex)"
-pub listing : Config
+unfoldable pub listing : Config
 listing =
     readConfig (0x01 ∷ 0x03 ∷ 0x00 ∷ 0x02 ∷ 0x01 ∷ 0x00 ∷ 0x05 ∷ 0x00 ∷ 0x01 ∷ 0x09 ∷ 0x00 ∷ 0x01 ∷ 0x03 ∷ 0x01 ∷ 0x04 ∷ 0x02 ∷ 0x00 ∷ 0x01 ∷ 0x02 ∷ 0x00 ∷ [])
     .config
@@ -33,10 +33,10 @@ pub record Row : Type 0 where
   pub level : ℕ
   pub begun : ℕ
 
-abbrev row : ℕ → ℕ → ℕ → ℕ → Row
+abbrev pub row : ℕ → ℕ → ℕ → ℕ → Row
 row s r l b = record { status = s; runner = r; level = l; begun = b }
 
-abbrev rowOf : Seen → Row
+abbrev pub rowOf : Seen → Row
 rowOf x = row (x .status) (x .runner) (x .level) (x .begun)
 
 rows : map rowOf (seen listing (fresh listing) events)

@@ -1,0 +1,387 @@
+-- Arbitration is the plain choice: the highest request above the level begins, and otherwise the runner goes on.
+--
+--   calm-choice      where no ready body is above the level, the runner is the one that is chosen
+--   settled-tied     after arbitration the model stands for the bodies after the dispatch, and who runs is the same
+--
+-- Assumes nothing.
+use Prim.Native.Nat.{ℕ, zero, suc, _+_, _^_, _≤_, _<_}
+use mathlib.Core.Path.{_≡_, refl, sym, ap, ap₂, _∙_}
+use mathlib.Core.Logic.{_≢_}
+use mathlib.Core.Bool.{Bool, true, false, true≢false, cond, not, _&&_}
+use mathlib.Core.List.{List, [], _∷_, _++_}
+use native.Mathlib.Nat.{eq-zero-or-pos}
+use mathlib.Core.Logic.{⊎-elim}
+use native.Mathlib.Omega.{arith}
+use borrow.Author.Tests.{lt-ltb, le-ltb, eq-eqb, ne-eqb}
+use lib.Dec.{ltb, eqb}
+use lib.ListN.{length, getD, set, length-set}
+use lib.Seq.{getD-set-same, getD-set-other}
+use Rattle.number.proofs.Cases.{by-lt, by-eq}
+use Rattle.config.specs.declared.Config.{Config}
+use Rattle.config.specs.Meaning.{priorityOf}
+use Rattle.plan.specs.declared.Plan.{Plan}
+use Rattle.word.specs.Word.{has, with, without, winner}
+use Rattle.word.proofs.Theorems.{has-lt, empty, has-with-same, has-with-other, has-without-same, has-without-other, without-lt, winner-has, winner-highest, winner-empty}
+use Rattle.scheduler.specs.Body.{Phase, suspended, ready, started, isSuspended, isStarted, Body, current, become}
+use Rattle.scheduler.specs.Choice.{chosen, nobody}
+use Rattle.scheduler.specs.State.{State, noBody, among}
+use Rattle.scheduler.specs.Call.{requestWaits}
+use Rattle.scheduler.specs.Scheduler.{begins, dispatched}
+use Rattle.scheduler.proofs.Choosing.{current-own}
+use Rattle.kernel.specs.declared.machine.Core.{Core}
+use Rattle.kernel.specs.declared.machine.Model.{Model}
+use Rattle.kernel.specs.declared.machine.Outcome.{Outcome}
+use Rattle.kernel.specs.Model.{noRank}
+use Rattle.kernel.specs.Arbiter.{winning, dispatching, arbitrated, laying, settled}
+use Rattle.kernel.specs.Events.{idles}
+use Rattle.kernel.specs.Machine.{runnerOf}
+use Rattle.kernel.proofs.Views.{Frame, frame, below, framesIn, framesOf, below-set, below-push, slotsOf}
+use Rattle.kernel.proofs.Simulation.{Fitted, at, wants, Words, framesFor, levelAt, Chained, Running, Calm, slotsFor, slotsAlong, Holding, Tied}
+use Rattle.kernel.proofs.Standing.{by-among, by-phase, chain-level, chosen-runner, chosen-newcomer, chosen-none}
+use Rattle.kernel.proofs.Chains.{Alike, AlikeAlong, among-head, among-tail, framesFor-alike, levelAt-alike, chained-alike, slotsAlong-alike, chain-short, length-framesFor, length-below, frames-none, TopIs, frames-top}
+
+and-false : (b : Bool) → b && false ≡ false
+and-false true = refl
+and-false false = refl
+
+-- a body that waits to begin wants to
+waits : (b : Body) (q : Phase) → isSuspended q ≡ false → isStarted q ≡ false → requestWaits b q ≡ true
+waits b suspended a n = absurd (true≢false a)
+waits b ready a n = refl
+waits b started a n = absurd (true≢false n)
+
+-- who wants to begin and has not begun is not suspended
+awake : (b : Body) (q : Phase) → requestWaits b q ≡ true → isStarted q ≡ false → isSuspended q ≡ false
+awake b suspended h n = absurd (true≢false (sym h))
+awake b ready h n = refl
+awake b started h n = absurd (true≢false n)
+
+-- the body whose rank wins
+pub record Winner (c : Config) (rk : ℕ → ℕ) (k : Core) : Type 0 where
+  pub body : ℕ
+  pub exists : body < c .bodies
+  pub rank : rk body ≡ winner (k .request)
+  pub asked : has (k .request) (rk body) ≡ true
+
+module _ (c : Config) (p : Plan) (rk : ℕ → ℕ) (fit : Fitted c p rk) where
+  -- who is chosen, as the machine shows it
+  pub record Seated (m : Model) (bs : List Body) : Type 0 where
+    pub number : runnerOf p m ≡ chosen c bs .number
+    pub level : m .core .level ≡ chosen c bs .level
+    pub begun : begins (chosen c bs) ≡ false
+
+  module _ (m : Model) (bs : List Body) where
+    -- the machine's level is that of the chain
+    pub level-is : (ch : List ℕ) → Running c rk m bs ch → m .core .level ≡ levelAt c bs ch
+    unfolding framesFor levelAt
+    level-is [] k = k .idle-level (eq-eqb (m .core .runner) noRank (frames-none (m .stack) (m .levels) (m .core) (k .frames)))
+    level-is (b ∷ ch) k = frames-top (m .stack) (m .levels) (m .core) _ _ (k .frames) .level
+
+    pub runner-is : (b : ℕ) (ch : List ℕ) → Running c rk m bs (b ∷ ch) → m .core .runner ≡ rk b
+    unfolding framesFor
+    runner-is b ch k = frames-top (m .stack) (m .levels) (m .core) _ _ (k .frames) .rank
+
+    rank-below : (b : ℕ) → b < c .bodies → rk b < 32
+    rank-below b h = omega (arith, fit .rank-lt b h, fit .few)
+
+    pub runnerOf-is : (b : ℕ) → b < c .bodies → m .core .runner ≡ rk b → runnerOf p m ≡ b
+    runnerOf-is b h e = rw (e, lt-ltb (rk b) 32 (rank-below b h)) (fit .body-at b h)
+
+    pub calm-choice : (ch : List ℕ) → Tied c rk m bs ch → Calm c (m .core .level) bs → Seated m bs
+    unfolding framesFor levelAt Chained
+    calm-choice [] t calm =
+        let e : m .core .runner ≡ noRank = frames-none (m .stack) (m .levels) (m .core) (t .running .frames) in
+        let l : m .core .level ≡ 0 = level-is [] (t .running) in
+        let h : chosen c bs ≡ nobody = chosen-none c bs (t .size) (fit .own-some) (t .holding .loose) (t .running .covers) (rw l at calm) in
+        record { number = rw (e, h); level = rw h l; begun = rw h }
+    calm-choice (b ∷ ch) t calm =
+        let k : Chained c bs (b ∷ ch) = t .running .chained in
+        let l : m .core .level ≡ current c b (at bs b) = level-is (b ∷ ch) (t .running) in
+        let h = chosen-runner c bs (t .size) (fit .own-some) (t .holding .loose) (b ∷ ch) (t .running .covers) k b ch refl (rw l at calm) in
+        record {
+          number = rw h (runnerOf-is b (k .0) (runner-is b ch (t .running)));
+          level = rw h l;
+          begun = rw h (and-false (not (eqb (current c b (at bs b)) 0)));
+        }
+
+    winning-of : (v : Winner c rk (m .core)) → winning (p .priority) (m .core) ≡ priorityOf c (v .body)
+    winning-of v = rw (sym (v .rank)) (fit .priority-at (v .body) (v .exists))
+
+    -- the words of a ready body and of the winner
+    module _ (w : Words c rk (m .core) bs) where
+      ready-asks : (b : ℕ) → b < c .bodies → isSuspended (at bs b .phase) ≡ false → isStarted (at bs b .phase) ≡ false → has (m .core .request) (rk b) ≡ true
+      ready-asks b h a n = w .asks b h ∙ waits (at bs b) (at bs b .phase) a n
+
+      -- a ready body's rank is at most the winner's
+      ready-le : (b : ℕ) → b < c .bodies → isSuspended (at bs b .phase) ≡ false → isStarted (at bs b .phase) ≡ false → rk b ≤ winner (m .core .request)
+      ready-le b h a n = winner-highest (m .core .request) (rk b) (ready-asks b h a n)
+
+      -- a request makes the winner some body's rank
+      winner-real : 0 < m .core .request → Winner c rk (m .core)
+      winner-real some =
+          let h = winner-has (m .core .request) some (w .request-lt) in
+          let v = w .asks-real (winner (m .core .request)) (h .1) in
+          record { body = v .0; exists = v .1 .0; rank = v .1 .1; asked = rw (v .1 .1) (h .1) }
+
+      some-request : (r : ℕ) → has (m .core .request) r ≡ true → 0 < m .core .request
+      some-request r h =
+          ⊎-elim (λ z. absurd (true≢false (sym h ∙ rw z (empty r)))) (λ q. q) (eq-zero-or-pos (m .core .request))
+
+      -- of two bodies the one with the lower rank has the lower priority
+      priority-le : (a b : ℕ) → a < c .bodies → b < c .bodies → rk a ≤ rk b → priorityOf c a ≤ priorityOf c b
+      priority-le a b ha hb le =
+          by-lt (priorityOf c b) (priorityOf c a) (λ lt. absurd (omega (arith, fit .rank-order b a hb ha lt))) (λ q. q)
+
+      -- where the winner is not above the level no ready body is
+      calm-below : winning (p .priority) (m .core) ≤ m .core .level → Calm c (m .core .level) bs
+      calm-below low b h a n =
+          let v = winner-real (some-request (rk b) (ready-asks b h a n)) in
+          let q : priorityOf c b ≤ priorityOf c (v .body) = priority-le b (v .body) h (v .exists) (omega (arith, ready-le b h a n, v .rank)) in
+          omega (arith, winning-of v)
+
+      -- where the winner is above the level it is a body
+      winner-above : m .core .level < winning (p .priority) (m .core) → Winner c rk (m .core)
+      winner-above above =
+          ⊎-elim
+          (λ z. absurd (let e : winning (p .priority) (m .core) ≡ 0 = ap (λ (q : ℕ). getD (p .priority) (winner q) 0) z ∙ ap (λ (q : ℕ). getD (p .priority) q 0) winner-empty ∙ fit .priority-none in omega arith))
+          (λ q. winner-real q)
+          (eq-zero-or-pos (m .core .request))
+
+  -- the model that the machine hands back stands for the bodies after the dispatch, and who runs is the one chosen
+  pub record Arbitrated (o : Outcome) (before after : List Body) : Type 0 where
+    pub chain : List ℕ
+    pub tied : Tied c rk (o .model) after chain
+    pub calm : Calm c (o .model .core .level) after
+    pub number : runnerOf p (o .model) ≡ chosen c before .number
+    pub level : o .model .core .level ≡ chosen c before .level
+    pub begun : o .begun ≡ begins (chosen c before)
+
+  module _ (m : Model) (s : State) (ch : List ℕ) (t : Tied c rk m (s .bodies) ch) where
+    abbrev bs : List Body
+    bs = s .bodies
+
+    -- the runner laid above the stack's top changes nothing that counts
+    laid-tied : Tied c rk (laying m (m .core)) bs ch
+    laid-tied =
+        record {
+          size = t .size;
+          words = t .words;
+          running = record {
+            frames = same (m .core .runner) ∙ t .running .frames;
+            chained = t .running .chained;
+            covers = t .running .covers;
+            idle-level = t .running .idle-level;
+            idle-depth = t .running .idle-depth;
+            stack-long = length-set (m .stack) (m .core .depth) (m .core .runner) ∙ t .running .stack-long;
+            levels-long = length-set (m .levels) (m .core .depth) (m .core .level) ∙ t .running .levels-long;
+          };
+          holding = record {
+            slots = t .holding .slots;
+            loose = t .holding .loose;
+            flags = t .holding .flags;
+            distinct = t .holding .distinct;
+            counted = t .holding .counted;
+            held-long = t .holding .held-long;
+            resource-long = t .holding .resource-long;
+            holder-long = t .holding .holder-long;
+            raised-long = t .holding .raised-long;
+          };
+        }
+      where
+        same : (r : ℕ) → cond (eqb r noRank) [] (frame r (m .core .level) ∷ below (set (m .stack) (m .core .depth) (m .core .runner)) (set (m .levels) (m .core .depth) (m .core .level)) (m .core .depth))
+            ≡ cond (eqb r noRank) [] (frame r (m .core .level) ∷ below (m .stack) (m .levels) (m .core .depth))
+        same r = rw (below-set (m .stack) (m .levels) (m .core .depth) (m .core .runner) (m .core .level) (m .core .depth) (omega arith))
+
+    -- the winner is not above the level
+    settled-calm : winning (p .priority) (m .core) ≤ m .core .level → Arbitrated (settled (p .priority) m) bs (dispatched c s .bodies)
+    unfolding arbitrated
+    settled-calm low =
+        let calm = calm-below m bs (t .words) low in
+        let seat = calm-choice m bs ch t calm in
+        let stays : dispatched c s .bodies ≡ bs = rw (seat .begun) in
+        rw (le-ltb (m .core .level) (winning (p .priority) (m .core)) low, stays)
+        (record { chain = ch; tied = laid-tied; calm = calm; number = seat .number; level = seat .level; begun = sym (seat .begun) })
+
+    -- the winner is above the level
+    module _ (v : Winner c rk (m .core)) (above : m .core .level < priorityOf c (v .body)) where
+      abbrev w : ℕ
+      w = v .body
+
+      -- the bodies after the winner began
+      abbrev bs′ : List Body
+      bs′ = set bs w (become started (at bs w))
+
+      chain-above : levelAt c bs ch < priorityOf c w
+      chain-above = rw (sym (level-is m bs ch (t .running))) above
+
+      -- a body that has begun runs at most at the level, so the winner has not
+      not-started : isStarted (at bs w .phase) ≡ false
+      not-started =
+          by-phase (at bs w .phase) (λ _ n. n) (λ _ n. n)
+          (λ _ h. absurd (omega (arith, chain-level c bs w ch (t .running .chained) (t .running .covers w (v .exists) h), chain-above, current-own c w (at bs w))))
+
+      not-suspended : isSuspended (at bs w .phase) ≡ false
+      not-suspended = awake (at bs w) (at bs w .phase) (sym (t .words .asks w (v .exists)) ∙ v .asked) not-started
+
+      rank-lower : (i : ℕ) → i < c .bodies → i ≢ w → isSuspended (at bs i .phase) ≡ false → isStarted (at bs i .phase) ≡ false → rk i < rk w
+      rank-lower i i< other a n =
+          let le = ready-le m bs (t .words) i i< a n in
+          let ne : rk i ≢ rk w = λ e. other (fit .rank-inj i w i< (v .exists) e) in
+          omega (arith, v .rank)
+
+      lower : (i : ℕ) → i < c .bodies → i ≢ w → isSuspended (at bs i .phase) ≡ false → isStarted (at bs i .phase) ≡ false → priorityOf c i < priorityOf c w
+      lower i i< other a n =
+          let le = priority-le m bs (t .words) i w i< (v .exists) (let q = rank-lower i i< other a n in omega arith) in
+          let ne : priorityOf c i ≢ priorityOf c w = λ e. other (fit .own-inj i w i< (v .exists) e) in
+          omega arith
+
+      chosen-w : chosen c bs ≡ record { number = w; level = priorityOf c w; began = false }
+      chosen-w =
+          chosen-newcomer c bs (t .size) (fit .own-some) (t .holding .loose) ch (t .running .covers) (t .running .chained) w (v .exists)
+          not-suspended not-started chain-above lower
+
+      -- the winner is no body of the chain
+      outside : (i : ℕ) → among i ch ≡ true → i ≢ w
+      outside i h e =
+          let l : current c w (at bs w) ≤ levelAt c bs ch = rw e at (chain-level c bs i ch (t .running .chained) h) in
+          omega (arith, chain-above, current-own c w (at bs w))
+
+      at-w : at bs′ w ≡ become started (at bs w)
+      at-w = getD-set-same bs w (become started (at bs w)) noBody (rw (t .size) (v .exists))
+
+      at-other : (i : ℕ) → i ≢ w → at bs′ i ≡ at bs i
+      at-other i n = getD-set-other bs w i (become started (at bs w)) noBody n
+
+      alike : AlikeAlong c rk bs bs′ ch
+      alike i h =
+          let e = at-other i (outside i h) in
+          record { phase = ap (λ (b : Body). isStarted (b .phase)) (sym e); held = ap (λ (b : Body). b .held) (sym e) }
+
+      free : at bs w .held ≡ []
+      free = t .holding .loose w not-started
+
+      winning-is : winning (p .priority) (m .core) ≡ priorityOf c w
+      winning-is = winning-of m bs v
+
+      rank-of-other : (b : ℕ) → b < c .bodies → b ≢ w → rk b ≢ winner (m .core .request)
+      rank-of-other b b< n e = n (fit .rank-inj b w b< (v .exists) (e ∙ sym (v .rank)))
+
+      winner-lt : winner (m .core .request) < 32
+      winner-lt = rw (sym (v .rank)) (rank-below m bs w (v .exists))
+
+      words′ : Words c rk (dispatching (p .priority) (m .core)) bs′
+      words′ =
+          record {
+            request-lt = without-lt q W (t .words .request-lt);
+            asks = λ b b<. by-eq b w
+                (λ e. rw (e, v .rank, at-w) (has-without-same q W ∙ sym (t .words .quiet w not-started)))
+                (λ n. rw (at-other b n) (has-without-other q W (rk b) (rank-of-other b b< n) ∙ t .words .asks b b<));
+            asks-real = λ r h. by-eq r W
+                (λ e. absurd (true≢false (sym (rw e at h) ∙ has-without-same q W)))
+                (λ n. t .words .asks-real r (sym (has-without-other q W r n) ∙ h));
+            begun = λ b b<. by-eq b w
+                (λ e. rw (e, v .rank, at-w) (has-with-same (m .core .started) W winner-lt))
+                (λ n. rw (at-other b n) (has-with-other (m .core .started) W (rk b) (rank-of-other b b< n) ∙ t .words .begun b b<));
+            quiet = λ b h. by-eq b w
+                (λ e. absurd (true≢false (ap (λ (x : Body). isStarted (x .phase)) (sym at-w) ∙ ap (λ (i : ℕ). isStarted (at bs′ i .phase)) (sym e) ∙ h)))
+                (λ n. rw (at-other b n) (t .words .quiet b (sym (ap (λ (x : Body). isStarted (x .phase)) (at-other b n)) ∙ h)));
+          }
+        where
+          q : ℕ
+          q = m .core .request
+
+          W : ℕ
+          W = winner (m .core .request)
+
+      -- what lies on the stack after the dispatch: the chain
+      pushed : (ch : List ℕ) → Running c rk m bs ch → below (set (m .stack) (m .core .depth) (m .core .runner)) (set (m .levels) (m .core .depth) (m .core .level)) (dispatching (p .priority) (m .core) .depth) ≡ framesFor c rk bs ch
+      unfolding framesFor below Chained
+      pushed [] k =
+          let e : m .core .runner ≡ noRank = frames-none (m .stack) (m .levels) (m .core) (k .frames) in
+          let d : m .core .depth ≡ 0 = k .idle-depth (eq-eqb (m .core .runner) noRank e) in
+          let same : dispatching (p .priority) (m .core) .depth ≡ 0 = rw (eq-eqb (m .core .runner) noRank e) d in
+          ap (below (set (m .stack) (m .core .depth) (m .core .runner)) (set (m .levels) (m .core .depth) (m .core .level))) same
+      pushed (b ∷ rest) k =
+          let top = frames-top (m .stack) (m .levels) (m .core) _ _ (k .frames) in
+          let d : m .core .depth < 32 = omega (arith, length-below (m .stack) (m .levels) (m .core .depth), ap length (top .under), length-framesFor c rk p fit bs rest, chain-short c rk p fit bs b rest (k .chained), rank-below m bs b (k .chained .0)) in
+          rw (ne-eqb (m .core .runner) noRank (top .somebody))
+          (below-push (m .stack) (m .levels) (m .core .runner) (m .core .level) (m .core .depth) (omega (arith, k .stack-long)) (omega (arith, k .levels-long))
+          ∙ ap₂ (λ (f : Frame) (fs : List Frame). f ∷ fs) (ap₂ frame (top .rank) (top .level)) (top .under))
+
+      began-level : current c w (at bs′ w) ≡ priorityOf c w
+      began-level = rw (at-w, free)
+
+      running′ : Running c rk (laying m (dispatching (p .priority) (m .core))) bs′ (w ∷ ch)
+      unfolding framesFor Chained
+      running′ =
+          record {
+            frames = rw (ne-eqb (winner (m .core .request)) noRank (λ e. absurd (omega (arith, e, winner-lt))))
+                (ap₂ (λ (f : Frame) (fs : List Frame). f ∷ fs)
+                (ap₂ frame (sym (v .rank)) (winning-is ∙ sym began-level))
+                (pushed ch (t .running) ∙ framesFor-alike c rk bs bs′ ch alike));
+            chained = (v .exists, (ap (λ (x : Body). isStarted (x .phase)) at-w, (rw (sym (levelAt-alike c rk bs bs′ ch alike)) chain-above, chained-alike c rk bs bs′ ch alike (t .running .chained))));
+            covers = λ b b< h. by-eq b w
+                (λ e. rw e (among-head w ch))
+                (λ n. among-tail b w ch (t .running .covers b b< (sym (ap (λ (x : Body). isStarted (x .phase)) (at-other b n)) ∙ h)));
+            idle-level = λ e. absurd (ranked e);
+            idle-depth = λ e. absurd (ranked e);
+            stack-long = length-set (m .stack) (m .core .depth) (m .core .runner) ∙ t .running .stack-long;
+            levels-long = length-set (m .levels) (m .core .depth) (m .core .level) ∙ t .running .levels-long;
+          }
+        where
+          ranked : eqb (winner (m .core .request)) noRank ≡ true → ⊥
+          ranked e = true≢false (sym e ∙ ne-eqb (winner (m .core .request)) noRank (λ z. absurd (omega (arith, z, winner-lt))))
+
+      slots-same : slotsAlong c rk bs ch ≡ slotsAlong c rk bs′ (w ∷ ch)
+      unfolding slotsAlong slotsFor
+      slots-same =
+          slotsAlong-alike c rk bs bs′ ch alike
+          ∙ sym (ap (λ (rs : List ℕ). slotsFor c rk w rs ++ slotsAlong c rk bs′ ch) (ap (λ (b : Body). b .held) at-w ∙ free))
+
+      holding′ : Holding c rk (laying m (dispatching (p .priority) (m .core))) bs′ (w ∷ ch)
+      holding′ =
+          record {
+            slots = t .holding .slots ∙ slots-same;
+            loose = λ b h. by-eq b w
+                (λ e. absurd (true≢false (ap (λ (x : Body). isStarted (x .phase)) (sym at-w) ∙ ap (λ (i : ℕ). isStarted (at bs′ i .phase)) (sym e) ∙ h)))
+                (λ n. rw (at-other b n) (t .holding .loose b (sym (ap (λ (x : Body). isStarted (x .phase)) (at-other b n)) ∙ h)));
+            flags = rw (sym slots-same) (t .holding .flags);
+            distinct = rw (sym slots-same) (t .holding .distinct);
+            counted = t .holding .counted;
+            held-long = t .holding .held-long;
+            resource-long = t .holding .resource-long;
+            holder-long = t .holding .holder-long;
+            raised-long = t .holding .raised-long;
+          }
+
+      calm′ : Calm c (winning (p .priority) (m .core)) bs′
+      calm′ i i< a n =
+          by-eq i w
+          (λ e. absurd (true≢false (ap (λ (x : Body). isStarted (x .phase)) (sym at-w) ∙ ap (λ (j : ℕ). isStarted (at bs′ j .phase)) (sym e) ∙ n)))
+          (λ o. let e = at-other i o in
+          omega (arith, winning-is, lower i i< o (sym (ap (λ (x : Body). isSuspended (x .phase)) e) ∙ a) (sym (ap (λ (x : Body). isStarted (x .phase)) e) ∙ n)))
+
+      settled-begins : Arbitrated (settled (p .priority) m) bs (dispatched c s .bodies)
+      unfolding arbitrated
+      settled-begins =
+          let began : begins (chosen c bs) ≡ true = rw chosen-w (begin-some (priorityOf c w) (fit .own-some w (v .exists))) in
+          let goes : dispatched c s .bodies ≡ bs′ = rw (began, chosen-w) in
+          rw (lt-ltb (m .core .level) (winning (p .priority) (m .core)) (rw winning-is above), goes)
+          (record {
+            chain = w ∷ ch;
+            tied = record { size = length-set bs w (become started (at bs w)) ∙ t .size; words = words′; running = running′; holding = holding′ };
+            calm = calm′;
+            number = rw chosen-w (runnerOf-is (laying m (dispatching (p .priority) (m .core))) bs w (v .exists) (sym (v .rank)));
+            level = rw chosen-w winning-is;
+            begun = sym began;
+          })
+        where
+          begin-some : (n : ℕ) → 1 ≤ n → not (eqb n 0) && true ≡ true
+          begin-some n h = rw (ne-eqb n 0 (λ z. absurd (omega arith)))
+
+    pub settled-tied : Arbitrated (settled (p .priority) m) bs (dispatched c s .bodies)
+    settled-tied =
+        by-lt (m .core .level) (winning (p .priority) (m .core))
+        (λ above. let v = winner-above m bs (t .words) above in
+        settled-begins v (rw (sym (winning-of m bs v)) above))
+        settled-calm

@@ -1,0 +1,79 @@
+-- `get` meets its contract, case by case in the order of its checks.
+-- Assumes nothing.
+use Rattle.kernel.proofs.CodeEvents.{get-idle, get-none, get-withheld, get-done}
+use borrow.Author.Needs.{needs}
+use Rattle.kernel.proofs.machine.Model.get.Statement.{statement}
+use Rattle.kernel.proofs.machine.Model.get.Tie as tie
+
+returns : tie.Need-returns
+returns c = let a = c .before .before .before .args in
+    get-idle (a .resources) (a .ceiling .now) (a .priority .now) (a .t1) (a .r) (c .if1 .taken)
+
+returns-2 : tie.Need-returns-2
+returns-2 c = let a = c .before .before .before .before .args in
+    get-none (a .resources) (a .ceiling .now) (a .priority .now) (a .t1) (a .r) (c .before .if1 .left) (c .if2 .taken)
+
+byte-at-requires : tie.Need-byte-at-requires
+byte-at-requires c κs = search needs
+
+cast-byte-at : tie.Need-cast-byte-at
+cast-byte-at c = search needs
+
+byte-at-requires-2 : tie.Need-byte-at-requires-2
+byte-at-requires-2 c κs = search needs
+
+withheld-requires : tie.Need-withheld-requires
+withheld-requires c κs = search needs
+
+returns-3 : tie.Need-returns-3
+returns-3 c = let a = c .before .before .before .before .before .before .before .before .before .before .before .before .before .args in
+    get-withheld (a .resources) (a .ceiling .now) (a .priority .now) (a .t1) (a .r) (c .before .before .before .before .before .before .before .before .before .before .if1 .left) (c .before .before .before .before .before .before .before .before .before .if2 .left)
+    (c .before .before .before .before .before .before .before .byte-at .ensures) (c .before .before .before .before .byte-at2 .ensures) (c .before .withheld .ensures) (c .if3 .taken)
+
+higher-requires : tie.Need-higher-requires
+higher-requires c κs = search needs
+
+cast-put-byte : tie.Need-cast-put-byte
+cast-put-byte c = search needs
+
+put-byte-requires : tie.Need-put-byte-requires
+put-byte-requires c κs = search needs
+
+put-byte-requires-2 : tie.Need-put-byte-requires-2
+put-byte-requires-2 c κs = search needs
+
+put-byte-requires-3 : tie.Need-put-byte-requires-3
+put-byte-requires-3 c κs = search needs
+
+put-flag-requires : tie.Need-put-flag-requires
+put-flag-requires c κs = search needs
+
+add-m : tie.Need-add-m
+add-m c = search needs
+
+returns-4 : tie.Need-returns-4
+returns-4 c = let a = c .before .before .before .before .before .before .before .before .before .before .before .before .before .before .before .before .before .before .before .before .before .before .before .args in
+    get-done (a .resources) (a .ceiling .now) (a .priority .now) (a .t1) (a .r)
+    (c .before .before .before .before .before .before .before .before .before .before .before .before .before .before .before .before .before .before .before .before .if1 .left) (c .before .before .before .before .before .before .before .before .before .before .before .before .before .before .before .before .before .before .before .if2 .left)
+    (c .before .before .before .before .before .before .before .before .before .before .before .before .before .before .before .before .before .byte-at .ensures) (c .before .before .before .before .before .before .before .before .before .before .before .before .before .before .byte-at2 .ensures) (c .before .before .before .before .before .before .before .before .before .before .before .withheld .ensures) (c .before .before .before .before .before .before .before .before .before .before .if3 .left)
+    (c .before .before .before .before .before .before .before .before .before .higher .ensures) (c .before .before .before .before .before .before .before .put-byte .ensures) (c .before .before .before .before .before .put-byte2 .ensures) (c .before .before .before .put-byte3 .ensures) (c .before .put-flag .ensures)
+
+pub get-spec : {M : Type 1} → statement M
+get-spec =
+    tie.close
+    (tie.spec
+    returns
+    returns-2
+    byte-at-requires
+    cast-byte-at
+    byte-at-requires-2
+    withheld-requires
+    returns-3
+    higher-requires
+    cast-put-byte
+    put-byte-requires
+    put-byte-requires-2
+    put-byte-requires-3
+    put-flag-requires
+    add-m
+    returns-4)

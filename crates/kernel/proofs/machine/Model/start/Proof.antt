@@ -1,0 +1,91 @@
+-- `start` meets its contract, case by case in the order of its checks.
+-- Assumes nothing.
+use mathlib.Core.Path.{sym, _∙_}
+use native.Mathlib.Omega.{arith}
+use Rattle.kernel.proofs.CodeTables.{short-sum, entries-within, delays-fit, start-idle, start-none, start-bad, start-runs, start-done}
+use borrow.Author.Needs.{needs}
+use Rattle.kernel.proofs.machine.Model.start.Statement.{statement}
+use Rattle.kernel.proofs.machine.Model.start.Tie as tie
+
+returns : tie.Need-returns
+returns c = let a = c .before .args in
+    start-idle (a .tables) (a .first .now) (a .largest .now) (a .entries .now) (a .period .now) (a .offset .now) (a .t1) (a .t) (a .d) (c .if1 .taken)
+
+returns-2 : tie.Need-returns-2
+returns-2 c = let a = c .before .before .args in
+    start-none (a .tables) (a .first .now) (a .largest .now) (a .entries .now) (a .period .now) (a .offset .now) (a .t1) (a .t) (a .d) (c .before .if1 .left) (c .if2 .taken)
+
+short-at-requires : tie.Need-short-at-requires
+short-at-requires c κs = search needs
+
+is-bad-delay-requires : tie.Need-is-bad-delay-requires
+is-bad-delay-requires c κs = search needs
+
+returns-3 : tie.Need-returns-3
+returns-3 c = let a = c .before .before .before .before .before .before .args in
+    start-bad (a .tables) (a .first .now) (a .largest .now) (a .entries .now) (a .period .now) (a .offset .now) (a .t1) (a .t) (a .d)
+    (c .before .before .before .before .before .if1 .left) (c .before .before .before .before .if2 .left) (c .before .before .short-at .ensures) (c .before .is-bad-delay .ensures) (c .if3 .taken)
+
+byte-at-requires : tie.Need-byte-at-requires
+byte-at-requires c κs = search needs
+
+cast-from : tie.Need-cast-from
+cast-from c = search needs
+
+flag-at-requires : tie.Need-flag-at-requires
+flag-at-requires c κs = search needs
+
+returns-4 : tie.Need-returns-4
+returns-4 c = let a = c .before .before .before .before .before .before .before .before .before .before .before .before .before .args in
+    start-runs (a .tables) (a .first .now) (a .largest .now) (a .entries .now) (a .period .now) (a .offset .now) (a .t1) (a .t) (a .d)
+    (c .before .before .before .before .before .before .before .before .before .before .before .before .if1 .left) (c .before .before .before .before .before .before .before .before .before .before .before .if2 .left) (c .before .before .before .before .before .before .before .before .before .short-at .ensures) (c .before .before .before .before .before .before .before .before .is-bad-delay .ensures) (c .before .before .before .before .before .before .before .if3 .left) (c .before .before .before .before .before .byte-at .ensures) (c .before .flag-at .ensures) (c .if4 .taken)
+
+byte-at-requires-2 : tie.Need-byte-at-requires-2
+byte-at-requires-2 c κs = search needs
+
+cast-n : tie.Need-cast-n
+cast-n c = search needs
+
+short-at-requires-2 : tie.Need-short-at-requires-2
+short-at-requires-2 c κs = search needs
+
+cast-start-counters : tie.Need-cast-start-counters
+cast-start-counters c = omega (arith, short-sum (c .before .before .before .before .before .before .before .before .before .before .before .before .before .before .before .before .before .before .args .d) (c .before .before .before .before .before .before .before .before .before .before .before .before .before .before .short-at .result) (sym (c .before .before .before .before .before .before .before .before .before .before .before .before .before .is-bad-delay .ensures) ∙ c .before .before .before .before .before .before .before .before .before .before .before .before .if3 .left))
+
+start-counters-requires : tie.Need-start-counters-requires
+start-counters-requires c κs = let a = c .before .before .before .before .before .before .before .before .before .before .before .before .before .before .before .before .before .before .before .args in (
+  entries-within (a .tables) (a .first .now) (a .entries .now) (c .before .before .before .before .before .before .before .before .before .before .before .before .before .before .before .before .before .before .before .pre .0) (a .t) (c .before .before .before .before .before .before .before .before .before .before .before .before .before .before .before .before .before .if2 .left) (c .before .before .before .before .before .before .before .before .before .before .before .byte-at .ensures) (c .before .before .before .before .byte-at2 .ensures),
+  delays-fit (a .tables) (a .first .now) (a .entries .now) (c .before .before .before .before .before .before .before .before .before .before .before .before .before .before .before .before .before .before .before .pre .0) (a .t) (c .before .before .before .before .before .before .before .before .before .before .before .before .before .before .before .before .before .if2 .left) (c .before .before .before .before .before .before .before .before .before .before .before .byte-at .ensures) (c .before .before .before .before .byte-at2 .ensures)
+      (a .largest .now) (a .offset .now) (c .before .before .before .before .before .before .before .before .before .before .before .before .before .before .before .before .before .before .before .pre .1) (a .d) (c .before .before .before .before .before .before .before .before .before .before .before .before .before .before .before .short-at .ensures) (c .before .before .before .before .before .before .before .before .before .before .before .before .before .before .is-bad-delay .ensures) (c .before .before .before .before .before .before .before .before .before .before .before .before .before .if3 .left),
+)
+
+switch-requires : tie.Need-switch-requires
+switch-requires c κs = let a = c .before .before .before .before .before .before .before .before .before .before .before .before .before .before .before .before .before .before .before .before .before .before .args in
+    entries-within (a .tables) (a .first .now) (a .entries .now) (c .before .before .before .before .before .before .before .before .before .before .before .before .before .before .before .before .before .before .before .before .before .before .pre .0) (a .t) (c .before .before .before .before .before .before .before .before .before .before .before .before .before .before .before .before .before .before .before .before .if2 .left) (c .before .before .before .before .before .before .before .before .before .before .before .before .before .before .byte-at .ensures) (c .before .before .before .before .before .before .before .byte-at2 .ensures)
+
+returns-5 : tie.Need-returns-5
+returns-5 c = let a = c .before .before .before .before .before .before .before .before .before .before .before .before .before .before .before .before .before .before .before .before .before .before .before .args in
+    start-done (a .tables) (a .first .now) (a .largest .now) (a .entries .now) (a .period .now) (a .offset .now) (a .t1) (a .t) (a .d)
+    (c .before .before .before .before .before .before .before .before .before .before .before .before .before .before .before .before .before .before .before .before .before .before .if1 .left) (c .before .before .before .before .before .before .before .before .before .before .before .before .before .before .before .before .before .before .before .before .before .if2 .left) (c .before .before .before .before .before .before .before .before .before .before .before .before .before .before .before .before .before .before .before .short-at .ensures) (c .before .before .before .before .before .before .before .before .before .before .before .before .before .before .before .before .before .before .is-bad-delay .ensures) (c .before .before .before .before .before .before .before .before .before .before .before .before .before .before .before .before .before .if3 .left) (c .before .before .before .before .before .before .before .before .before .before .before .before .before .before .before .byte-at .ensures) (c .before .before .before .before .before .before .before .before .before .before .before .flag-at .ensures) (c .before .before .before .before .before .before .before .before .before .before .if4 .left)
+    (c .before .before .before .before .before .before .before .before .byte-at2 .ensures) (c .before .before .before .before .before .short-at2 .ensures) (c .before .before .before .start-counters .ensures) (c .switch .ensures)
+
+pub start-spec : {M : Type 1} → statement M
+start-spec =
+    tie.close
+    (tie.spec
+    returns
+    returns-2
+    short-at-requires
+    is-bad-delay-requires
+    returns-3
+    byte-at-requires
+    cast-from
+    flag-at-requires
+    returns-4
+    byte-at-requires-2
+    cast-n
+    short-at-requires-2
+    cast-start-counters
+    start-counters-requires
+    switch-requires
+    returns-5)

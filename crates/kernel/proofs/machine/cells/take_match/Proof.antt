@@ -1,0 +1,29 @@
+-- `take_match` meets its contract, case by case: no match, a loss, a request.
+-- Assumes nothing.
+use mathlib.Core.Path.{sym, _∙_}
+use borrow.Author.Tests.{not-true, not-false}
+use borrow.Author.Needs.{needs}
+use Rattle.kernel.proofs.machine.cells.take_match.Statement.{statement}
+use Rattle.kernel.proofs.machine.cells.take_match.Tie as tie
+
+returns : tie.Need-returns
+returns c = rw (not-true (c .before .args .matched) (c .if1 .taken))
+
+busy-requires : tie.Need-busy-requires
+busy-requires c κs = search needs
+
+lose-requires : tie.Need-lose-requires
+lose-requires c κs = search needs
+
+returns-2 : tie.Need-returns-2
+returns-2 c = rw (not-false (c .before .before .before .before .before .args .matched) (c .before .before .before .before .if1 .left), sym (c .before .before .before .busy .ensures) ∙ c .before .before .if2 .taken, c .lose .ensures)
+
+with-requires : tie.Need-with-requires
+with-requires c κs = search needs
+
+returns-3 : tie.Need-returns-3
+returns-3 c = rw (not-false (c .before .before .before .before .args .matched) (c .before .before .before .if1 .left), sym (c .before .before .busy .ensures) ∙ c .before .if2 .left, c .with .ensures)
+
+pub take-match-spec : {M : Type 1} → statement M
+take-match-spec =
+    tie.close (tie.spec returns busy-requires lose-requires returns-2 with-requires returns-3)

@@ -1,0 +1,187 @@
+-- `play` meets its contract: each turn's step is that of the event that was read, and its answer is laid after those before it.
+-- Assumes nothing.
+use Prim.Native.Nat.{ℕ, _+_, _-_, _≤_, _<_}
+use mathlib.Core.Path.{_≡_, sym, ap, _∙_}
+use mathlib.Core.Logic.{⊎-elim}
+use mathlib.Core.Bool.{false}
+use mathlib.Core.List.{[], _∷_}
+use native.Mathlib.Omega.{arith}
+use lib.ListN.{length}
+use Rattle.number.specs.Output.{laid}
+use Rattle.plan.specs.Rank.{rankOf}
+use Rattle.scheduler.specs.Scheduler.{markOf}
+use Rattle.kernel.specs.Model.{doneWith}
+use Rattle.kernel.specs.Roomy.{Roomy}
+use Rattle.kernel.specs.Machine.{machineStep}
+use Rattle.kernel.specs.Run.{callOf}
+use Rattle.kernel.proofs.RunPlay.{together, step-1, step-2, step-3, step-4, step-5, step-6, step-7, step-8, step-9, step-zero, step-none, tables-laid, offsets-reached, count-le}
+use Rattle.kernel.proofs.RunPlay.{Playing, playable-start, playing-roomy, length-out, playing-end, playing-later, playing-room, playing-turn}
+use Rattle.kernel.proofs.play.play.Statement.{statement}
+use Rattle.kernel.proofs.play.play.Tie as tie
+
+abbrev Inv-loop : tie.InvT-loop
+Inv-loop trace out₀ config plan m₀ at₀ to₀ out m at to = Playing config plan trace out₀ m₀ at to m out
+
+abbrev μ-loop : tie.MeasureT-loop
+μ-loop trace out₀ config plan m₀ at₀ to₀ out m at to = length trace - at
+
+roomy : (k : tie.At-loop Inv-loop μ-loop) → Roomy (k .loop .m)
+roomy k = let a = k .before .before .before .args in
+    playing-roomy (a .t1) (a .t2) (a .trace .now) (a .out .now) (a .fresh) (k .loop .at) (k .loop .to) (k .loop .m) (k .loop .out) (k .loop .inv)
+
+loop-holds : tie.Need-loop-holds Inv-loop μ-loop
+loop-holds c = let a = c .before .before .args in playable-start (a .t1) (a .t2) (a .trace .now) (a .out .now) (a .fresh) (c .before .before .pre)
+
+read-event-requires : tie.Need-read-event-requires Inv-loop μ-loop
+read-event-requires c κs = tt
+
+activate-requires : tie.Need-activate-requires Inv-loop μ-loop
+activate-requires c κs = roomy (c .before .before .before .before .before .before .before)
+
+finish-requires : tie.Need-finish-requires Inv-loop μ-loop
+finish-requires c κs = roomy (c .before .before .before .before .before .before)
+
+chain-requires : tie.Need-chain-requires Inv-loop μ-loop
+chain-requires c κs = roomy (c .before .before .before .before .before .before .before)
+
+get-requires : tie.Need-get-requires Inv-loop μ-loop
+get-requires c κs = roomy (c .before .before .before .before .before .before .before)
+
+release-requires : tie.Need-release-requires Inv-loop μ-loop
+release-requires c κs = roomy (c .before .before .before .before .before .before)
+
+cast-tick : tie.Need-cast-tick Inv-loop μ-loop
+cast-tick c = let k = c .before .before .before .before in
+    let a = k .before .before .before .args in
+    omega (arith, count-le (a .t1) (a .t2) (rankOf (a .t1)) (k .loop .inv .fit))
+
+tick-requires : tie.Need-tick-requires Inv-loop μ-loop
+tick-requires c κs = let k = c .before .before .before .before .before .before .before .before in
+    let a = k .before .before .before .args in
+    (roomy k, count-le (a .t1) (a .t2) (rankOf (a .t1)) (k .loop .inv .fit))
+
+line-requires : tie.Need-line-requires Inv-loop μ-loop
+line-requires c κs = roomy (c .before .before .before .before .before .before .before)
+
+start-requires : tie.Need-start-requires Inv-loop μ-loop
+start-requires c κs = let k = c .before .before .before .before .before .before .before .before .before .before .before in
+    let a = k .before .before .before .args in
+    (tables-laid (a .t1) (a .t2) (rankOf (a .t1)) (k .loop .inv .fit), offsets-reached (a .t1) (a .t2) (rankOf (a .t1)) (k .loop .inv .fit))
+
+stop-requires : tie.Need-stop-requires Inv-loop μ-loop
+stop-requires c κs = let k = c .before .before .before .before .before .before .before .before in
+    let a = k .before .before .before .args in
+    tables-laid (a .t1) (a .t2) (rankOf (a .t1)) (k .loop .inv .fit)
+
+-- a turn has room for its answer, and goes on behind its event
+room : (r : tie.After-read-event Inv-loop μ-loop) → r .before .before .loop .to + 4 ≤ length (r .before .before .loop .out)
+room r =
+    let k = r .before .before in
+    let a = k .before .before .before .args in
+    playing-room (a .t1) (a .t2) (a .trace .now) (a .out .now) (a .fresh) (k .loop .at) (k .loop .to) (k .loop .m) (k .loop .out) (k .loop .inv) (r .before .loop-test .taken) (r .read-event .result) (r .read-event .ensures)
+
+later : (r : tie.After-read-event Inv-loop μ-loop) → r .before .before .loop .at < r .read-event .result .place
+later r =
+    let k = r .before .before in
+    let a = k .before .before .before .args in
+    playing-later (a .t1) (a .t2) (a .trace .now) (a .out .now) (a .fresh) (k .loop .at) (k .loop .to) (k .loop .m) (k .loop .out) (k .loop .inv) (r .before .loop-test .taken) (r .read-event .result) (r .read-event .ensures)
+
+long : (k : tie.At-loop Inv-loop μ-loop) → length (k .loop .out) ≡ length (k .before .before .before .args .out .now)
+long k =
+    let a = k .before .before .before .args in
+    length-out (a .t1) (a .t2) (a .trace .now) (a .out .now) (a .fresh) (k .loop .at) (k .loop .to) (k .loop .m) (k .loop .out) (k .loop .inv)
+
+-- what the arms leave is the step of the event that was read
+stepped : (j : tie.At-match-came Inv-loop μ-loop)
+    → record { model = j .match .m; status = j .match .status; begun = j .match .begun }
+    ≡ machineStep (j .before .before .before .before .before .before .before .args .t1) (j .before .before .before .before .before .before .before .args .t2)
+    (j .before .before .before .before .loop .m) (callOf (j .before .before .read-event .result .event))
+stepped j =
+    let a = j .before .before .before .before .before .before .before .args in
+    let m = j .before .before .before .before .loop .m in
+    let e = j .before .before .read-event .result .event in
+    ⊎-elim (λ w. together (w .4 .result) _ (j .match .m) (j .match .status) (j .match .begun) (w .6) (w .7) (w .8) (w .4 .ensures ∙ sym (step-1 (a .t1) (a .t2) m e (w .0 .keys1))))
+    (λ z1.
+    ⊎-elim (λ w. together (w .3 .result) _ (j .match .m) (j .match .status) (j .match .begun) (w .5) (w .6) (w .7) (w .3 .ensures ∙ sym (step-2 (a .t1) (a .t2) m e (w .0 .keys2))))
+    (λ z2.
+    ⊎-elim (λ w. together (w .4 .result) _ (j .match .m) (j .match .status) (j .match .begun) (w .6) (w .7) (w .8) (w .4 .ensures ∙ sym (step-3 (a .t1) (a .t2) m e (w .0 .keys3))))
+    (λ z3.
+    ⊎-elim (λ w. together (w .4 .result) _ (j .match .m) (j .match .status) (j .match .begun) (w .6) (w .7) (w .8) (w .4 .ensures ∙ sym (step-4 (a .t1) (a .t2) m e (w .0 .keys4))))
+    (λ z4.
+    ⊎-elim (λ w. together (w .3 .result) _ (j .match .m) (j .match .status) (j .match .begun) (w .5) (w .6) (w .7) (w .3 .ensures ∙ sym (step-5 (a .t1) (a .t2) m e (w .0 .keys5))))
+    (λ z5.
+    ⊎-elim (λ w. together (w .5 .result) _ (j .match .m) (j .match .status) (j .match .begun) (w .7) (w .8) (w .9) (w .5 .ensures ∙ sym (step-6 (a .t1) (a .t2) m e (w .0 .keys6))))
+    (λ z6.
+    ⊎-elim (λ w. together (w .4 .result) _ (j .match .m) (j .match .status) (j .match .begun) (w .6) (w .7) (w .8) (w .4 .ensures ∙ sym (step-7 (a .t1) (a .t2) m e (w .0 .keys7))))
+    (λ z7.
+    ⊎-elim (λ w. together (w .8 .result) _ (j .match .m) (j .match .status) (j .match .begun) (w .10) (w .11) (w .12) (w .8 .ensures ∙ sym (step-8 (a .t1) (a .t2) m e (w .0 .keys8))))
+    (λ z8.
+    ⊎-elim (λ w. together (w .5 .result) _ (j .match .m) (j .match .status) (j .match .begun) (w .7) (w .8) (w .9) (w .5 .ensures ∙ sym (step-9 (a .t1) (a .t2) m e (w .0 .keys9))))
+    (λ z9.
+    ⊎-elim
+    (λ w. together (doneWith m false) _ (j .match .m) (j .match .status) (j .match .begun) (w .1) (w .2) (w .3)
+    (sym (step-zero (a .t1) (a .t2) m e (w .0 .keys10))))
+    (λ w. together (doneWith m false) _ (j .match .m) (j .match .status) (j .match .begun) (w .1) (w .2) (w .3)
+    (sym (step-none (a .t1) (a .t2) m e (λ h. w .0 .rest .0 .0 .0 .0 .0 .0 .0 .0 .0 .1 h) (λ h. w .0 .rest .0 .0 .0 .0 .0 .0 .0 .0 .1 h) (λ h. w .0 .rest .0 .0 .0 .0 .0 .0 .0 .1 h) (λ h. w .0 .rest .0 .0 .0 .0 .0 .0 .1 h) (λ h. w .0 .rest .0 .0 .0 .0 .0 .1 h) (λ h. w .0 .rest .0 .0 .0 .0 .1 h) (λ h. w .0 .rest .0 .0 .0 .1 h) (λ h. w .0 .rest .0 .0 .1 h) (λ h. w .0 .rest .0 .1 h)))) z9) z8) z7) z6) z5) z4) z3) z2) z1) (j .match .came)
+
+runner-requires : tie.Need-runner-requires Inv-loop μ-loop
+runner-requires c κs = tt
+
+put-answer-requires : tie.Need-put-answer-requires Inv-loop μ-loop
+put-answer-requires c κs = room (c .before .before .before .before .before .before)
+
+add-to : tie.Need-add-to Inv-loop μ-loop
+add-to c = let r = c .before .before .before .before .before .before .before .before .before in
+    let k = r .before .before in
+    omega (arith, room r, long k, k .before .before .before .good)
+
+loop-less : tie.Need-loop-less Inv-loop μ-loop
+loop-less c = let r = c .before .before .before .before .before .before .before .before .before in
+    omega (arith, later r, r .before .loop-test .taken)
+
+loop-again : tie.Need-loop-again Inv-loop μ-loop
+loop-again c =
+    let p = c .before .before in
+    let j = p .before .before .before .before .before in
+    let r = j .before .before in
+    let k = r .before .before in
+    let a = k .before .before .before .args in
+    playing-turn (a .t1) (a .t2) (a .trace .now) (a .out .now) (a .fresh) (k .loop .at) (k .loop .to) (k .loop .m) (k .loop .out) (k .loop .inv) (r .before .loop-test .taken) (r .read-event .result) (r .read-event .ensures)
+    (record { model = j .match .m; status = j .match .status; begun = j .match .begun }) (stepped j) _
+    (p .put-answer .ensures
+    ∙ ap (λ (n : ℕ). laid (k .loop .to) (j .match .status ∷ n ∷ j .match .m .core .level ∷ markOf (j .match .begun) ∷ []) (k .loop .out)) (p .before .before .runner .ensures))
+
+same-length : tie.Need-same-length Inv-loop μ-loop
+same-length c = long (c .before)
+
+returns : tie.Need-returns Inv-loop μ-loop
+returns c =
+    let k = c .before in
+    let a = k .before .before .before .args in
+    playing-end (a .t1) (a .t2) (a .trace .now) (a .out .now) (a .fresh) (k .loop .at) (k .loop .to) (k .loop .m) (k .loop .out) (k .loop .inv) (c .loop-test .left)
+
+pub play-spec : {M : Type 1} → statement M
+play-spec =
+    tie.close
+    (tie.spec
+    Inv-loop
+    μ-loop
+    loop-holds
+    read-event-requires
+    activate-requires
+    finish-requires
+    chain-requires
+    get-requires
+    release-requires
+    cast-tick
+    tick-requires
+    line-requires
+    start-requires
+    stop-requires
+    runner-requires
+    put-answer-requires
+    add-to
+    loop-less
+    loop-again
+    same-length
+    returns)

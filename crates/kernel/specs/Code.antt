@@ -1,0 +1,35 @@
+-- What the contracts of the machine's helpers cite beside the definitions of its events: these, with numbers for the model.
+--
+--   ownSlotIn hs n r        the slot below place n of a row with the holders hs belongs to the body of rank r
+--   levelBelow hs ls n r ps the level of the body of rank r without its slots from place n on
+--   dueWith w ls            the requests w and the losses ls
+--
+-- and what its methods count on of the tables that they are lent, as the plan has them: Delays, Laid, Reached. Assumes nothing.
+use Prim.Native.Nat.{ℕ, _+_, _-_, _≤_, _<_}
+use mathlib.Core.Bool.{Bool, cond, _&&_}
+use mathlib.Core.List.{List}
+use lib.Dec.{ltb, eqb}
+use lib.ListN.{getD}
+use Rattle.kernel.specs.Model.{noRank}
+use Rattle.kernel.specs.Cells.{Due}
+
+abbrev pub ownSlotIn : List ℕ → ℕ → ℕ → Bool
+ownSlotIn hs n r = ltb 0 n && eqb (getD hs (n - 1) noRank) r
+
+abbrev pub levelBelow : List ℕ → List ℕ → ℕ → ℕ → List ℕ → ℕ
+levelBelow hs ls n r ps = cond (ownSlotIn hs n r) (getD ls (n - 1) 0) (getD ps r 0)
+
+abbrev pub dueWith : ℕ → List ℕ → Due
+dueWith w ls = record { request = w; losses = ls }
+
+-- d ticks before each of the k entries from e on, at the offsets os, the delay fits a counter
+pub record Delays (e k d : ℕ) (os : List ℕ) : Type 0 where
+  pub fits : (i : ℕ) → e ≤ i → i < e + k → d + getD os i 0 ≤ 65535
+
+-- the entries of n tables, es of them from fs on, lie in the row of cells
+pub record Laid (n : ℕ) (fs es : List ℕ) : Type 0 where
+  pub within : (t : ℕ) → t < n → getD fs t 0 + getD es t 0 ≤ 64
+
+-- none of them has an offset, os, above its table's largest, gs
+pub record Reached (n : ℕ) (fs gs es os : List ℕ) : Type 0 where
+  pub largest : (t i : ℕ) → t < n → getD fs t 0 ≤ i → i < getD fs t 0 + getD es t 0 → getD os i 0 ≤ getD gs t 0

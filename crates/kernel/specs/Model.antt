@@ -1,0 +1,60 @@
+-- The machine's model, with one part changed at a time.
+--
+-- Bodies stand in it by their rank. `noRank` in the place of a runner says that nobody runs. Assumes nothing.
+use Prim.Native.Nat.{ℕ}
+use mathlib.Core.Bool.{Bool, true, false}
+use mathlib.Core.List.{List}
+use Rattle.kernel.specs.declared.machine.Core.{Core}
+use Rattle.kernel.specs.declared.machine.Model.{Model}
+use Rattle.kernel.specs.declared.machine.Outcome.{Outcome}
+
+-- no body: neither a rank nor a body's number
+abbrev pub noRank : ℕ
+noRank = 255
+
+abbrev pub withCore : Model → Core → Model
+withCore m k =
+    record {
+      core = k;
+      stack = m .stack;
+      levels = m .levels;
+      slots = m .slots;
+      resource = m .resource;
+      holder = m .holder;
+      raised = m .raised;
+      held = m .held;
+      counter = m .counter;
+      on = m .on;
+      losses = m .losses;
+    }
+
+-- the core with other requests
+abbrev pub withRequest : Core → ℕ → Core
+withRequest k w = record { request = w; started = k .started; runner = k .runner; level = k .level; depth = k .depth }
+
+abbrev pub withLevel : Core → ℕ → Core
+withLevel k l = record { request = k .request; started = k .started; runner = k .runner; level = l; depth = k .depth }
+
+-- other cells
+abbrev pub withCells : Model → List ℕ → List Bool → Model
+withCells m ns os =
+    record {
+      core = m .core;
+      stack = m .stack;
+      levels = m .levels;
+      slots = m .slots;
+      resource = m .resource;
+      holder = m .holder;
+      raised = m .raised;
+      held = m .held;
+      counter = ns;
+      on = os;
+      losses = m .losses;
+    }
+
+-- an event that is done, and one that is refused with a status
+abbrev pub doneWith : Model → Bool → Outcome
+doneWith m begun = record { model = m; status = 0; begun = begun }
+
+abbrev pub refusedWith : Model → ℕ → Outcome
+refusedWith m st = record { model = m; status = st; begun = false }

@@ -1,0 +1,68 @@
+// The machine's model, and its methods: the fresh start, and one method by value for each event.
+//
+// A body stands in the model by its rank among the priorities, so that a greater rank is a greater priority.
+mod arbiter;
+mod bodies;
+mod cells;
+mod fresh;
+mod resources;
+mod row;
+mod tables;
+
+// No body: in the place of a rank it says that nobody runs, or that there is no such task or ISR.
+const NO_RANK: u8 = 255;
+
+// The statuses (OSEK's status codes) of an event. One that is refused changes nothing.
+const DONE: u8 = 0;
+
+const ACCESS: u8 = 1;
+
+const CALL_LEVEL: u8 = 2;
+
+const NO_SUCH: u8 = 3;
+
+const LIMIT: u8 = 4;
+
+const NO_FUNCTION: u8 = 5;
+
+const HOLDS_RESOURCE: u8 = 6;
+
+const ALREADY_RUNS: u8 = 7;
+
+const BAD_DELAY: u8 = 8;
+
+// The words, who runs at which level, and how many bodies it preempted.
+pub struct Core {
+    pub request: u32,
+    pub started: u32,
+    pub runner: u8,
+    pub level: u8,
+    pub depth: usize,
+}
+
+// A core after arbitration, and whether a body began.
+pub struct Picked {
+    pub core: Core,
+    pub begun: bool,
+}
+
+pub struct Model {
+    pub core: Core,
+    pub stack: [u8; 32],
+    pub levels: [u8; 32],
+    pub slots: usize,
+    pub resource: [u8; 16],
+    pub holder: [u8; 16],
+    pub raised: [u8; 16],
+    pub held: [bool; 16],
+    pub counter: [u16; 64],
+    pub on: [bool; 64],
+    pub losses: [u16; 32],
+}
+
+// The next model with its answer.
+pub struct Outcome {
+    pub model: Model,
+    pub status: u8,
+    pub begun: bool,
+}

@@ -1,0 +1,131 @@
+// The cells of the entries, as parallel arrays: what a tick, a start and a stop make of them.
+ghost use mathlib.Core.Path.{_≡_};
+ghost use mathlib.Core.Bool.{false, cond};
+ghost use Prim.Native.Nat.{_+_, _≤_};
+ghost use lib.ListN.{getD, set, take};
+ghost use Rattle.kernel.specs.Cells.{countersTicked, marks, countersStarted, countersStopped, switched, oneMore, matchAt, requestsDue};
+ghost use Rattle.kernel.specs.Code.{Delays, dueWith};
+use super::NO_RANK;
+use super::bodies::busy;
+use super::row::byte_at;
+use cell::Cell;
+use word::with;
+
+// Ticks the first `n` cells, and gives their match marks.
+pub fn tick_cells<'a, 'b>(
+    n: usize,
+    compare: &'a [u16; 64],
+    on: &'a [bool; 64],
+    counter: &'b mut [u16; 64],
+) -> [bool; 64]
+    requires { ⌜ n ≤ 64 ⌝ }
+    ensures { λ r. ⌜ take n r ≡ marks n 0 (now (compare .entry)) (now (on .entry)) (now (counter .entry)) ⌝ }
+    ensures { λ _. ⌜ now (counter .exit) ≡ countersTicked n 0 (now (compare .entry)) (now (on .entry)) (now (counter .entry)) ⌝ }
+{
+    let mut matched = [false; 64];
+    let mut e = 0;
+    while e < n {
+        let cell = Cell::of(counter[e], compare[e], on[e]).tick();
+        counter[e] = cell.counter;
+        matched[e] = cell.matched;
+        e += 1;
+    }
+    matched
+}
+
+// Takes the matches in table order, and gives the requests after them; `ranks` are those of the entries' tasks.
+pub fn take_matches<'a, 'b, 'c>(
+    matched: &'a [bool],
+    ranks: &'b [u8; 64],
+    started: u32,
+    request: u32,
+    losses: &'c mut [u16; 32],
+) -> u32
+    ensures { λ r. ⌜ dueWith r (now (losses .exit)) ≡ requestsDue started (now (matched .entry)) (now (ranks .entry)) (dueWith request (now (losses .entry))) ⌝ }
+{
+    let mut word = request;
+    let mut e = 0;
+    while e < matched.len() {
+        let rank = byte_at(ranks, e, NO_RANK);
+        word = take_match(matched[e], rank, started, word, losses);
+        e += 1;
+    }
+    word
+}
+
+// A match of an entry whose task has this rank: a request where the task is suspended, else a loss.
+fn take_match(matched: bool, rank: u8, started: u32, request: u32, losses: &mut [u16; 32]) -> u32
+    ensures { λ r. ⌜ dueWith r (now (losses .exit)) ≡ cond matched (matchAt started rank (dueWith request (now (losses .entry)))) (dueWith request (now (losses .entry))) ⌝ }
+{
+    if !matched {
+        return request;
+    }
+    if busy(request, started, rank) {
+        lose(losses, rank as usize);
+        return request;
+    }
+    with(request, rank as u32)
+}
+
+fn lose(losses: &mut [u16], i: usize)
+    ensures { λ _. ⌜ now (losses .exit) ≡ set (now (losses .entry)) i (oneMore (getD (now (losses .entry)) i 0)) ⌝ }
+{
+    if i < losses.len() {
+        losses[i] = one_more(losses[i]);
+    }
+}
+
+// A loss count stays at 65,535 once there.
+fn one_more(n: u16) -> u16
+    ensures { λ r. ⌜ r ≡ oneMore n ⌝ }
+{
+    if n < 65535 { n + 1 } else { 65535 }
+}
+
+// Starts the counters of `count` cells.
+pub fn start_counters<'a, 'b>(
+    from: usize,
+    count: usize,
+    period: u16,
+    delay: u16,
+    offset: &'a [u16; 64],
+    counter: &'b mut [u16; 64],
+)
+    requires { ⌜ from + count ≤ 64 ⌝ }
+    requires { ⌜ Delays from count delay (now offset) ⌝ }
+    ensures { λ _. ⌜ now (counter .exit) ≡ countersStarted count from period delay (now (offset .entry)) (now (counter .entry)) ⌝ }
+{
+    let until = from + count;
+    let mut e = from;
+    while e < until {
+        let cell = Cell::start(period, delay + offset[e]);
+        counter[e] = cell.counter;
+        e += 1;
+    }
+}
+
+// Sets the counters of `count` cells to 0.
+pub fn stop_counters(from: usize, count: usize, counter: &mut [u16; 64])
+    requires { ⌜ from + count ≤ 64 ⌝ }
+    ensures { λ _. ⌜ now (counter .exit) ≡ countersStopped count from (now (counter .entry)) ⌝ }
+{
+    let until = from + count;
+    let mut e = from;
+    while e < until {
+        counter[e] = 0;
+        e += 1;
+    }
+}
+
+// Switches `count` cells on or off.
+pub fn switch(from: usize, count: usize, to: bool, on: &mut [bool; 64])
+    requires { ⌜ from + count ≤ 64 ⌝ }
+    ensures { λ _. ⌜ now (on .exit) ≡ switched count from to (now (on .entry)) ⌝ }
+{
+    let until = from + count;
+    let mut e = from;
+    while e < until {
+        on[e] = to;
+        e += 1;
+    }
+}

@@ -1,0 +1,179 @@
+// The events of tables: Tick, Start and Stop.
+ghost use mathlib.Core.Path.{_≡_};
+ghost use mathlib.Core.Bool.{_||_};
+ghost use Prim.Native.Nat.{_+_, _≤_};
+ghost use lib.Dec.{ltb, eqb};
+ghost use Rattle.scheduler.specs.Call.{longestDelay};
+ghost use Rattle.kernel.specs.Roomy.{Roomy};
+ghost use Rattle.kernel.specs.Events.{tickedOnce, launched, halted};
+ghost use Rattle.kernel.specs.Code.{Laid, Reached};
+use super::ALREADY_RUNS;
+use super::BAD_DELAY;
+use super::CALL_LEVEL;
+use super::DONE;
+use super::Model;
+use super::NO_FUNCTION;
+use super::NO_RANK;
+use super::NO_SUCH;
+use super::Outcome;
+use super::arbiter::arbitrated;
+use super::bodies::asking;
+use super::cells::start_counters;
+use super::cells::stop_counters;
+use super::cells::switch;
+use super::cells::take_matches;
+use super::cells::tick_cells;
+use super::row::byte_at;
+use super::row::flag_at;
+use super::row::short_at;
+
+impl Model {
+    pub fn tick<'a>(
+        self,
+        count: u8,
+        compare: &'a [u16; 64],
+        entry_rank: &'a [u8; 64],
+        priority: &'a [u8; 32],
+    ) -> Outcome
+        requires { ⌜ Roomy self ⌝ }
+        requires { ⌜ count ≤ 64 ⌝ }
+        ensures { λ r. ⌜ r ≡ tickedOnce count (now (compare .entry)) (now («entry_rank» .entry)) (now (priority .entry)) self ⌝ }
+    {
+        let n = count as usize;
+        let core = self.core;
+        let on = self.on;
+        let mut counter = self.counter;
+        let mut losses = self.losses;
+        let matched = tick_cells(n, compare, &on, &mut counter);
+        let request = take_matches(
+            &matched[..n],
+            entry_rank,
+            core.started,
+            core.request,
+            &mut losses,
+        );
+        let picked = arbitrated(asking(core, request), priority);
+        let mut m = self;
+        m.counter = counter;
+        m.losses = losses;
+        let top = core.depth;
+        m.stack[top] = core.runner;
+        m.levels[top] = core.level;
+        let k = picked.core;
+        m.core = k;
+        Outcome {
+            model: m,
+            status: DONE,
+            begun: picked.begun,
+        }
+    }
+
+    pub fn start<'a>(
+        self,
+        tables: u8,
+        first: &'a [u8; 8],
+        largest: &'a [u16; 8],
+        entries: &'a [u8; 8],
+        period: &'a [u16; 8],
+        offset: &'a [u16; 64],
+        t: u32,
+        d: u32,
+    ) -> Outcome
+        requires { ⌜ Laid tables (now first) (now entries) ⌝ }
+        requires { ⌜ Reached tables (now first) (now largest) (now entries) (now offset) ⌝ }
+        ensures { λ r. ⌜ r ≡ launched tables (now (first .entry)) (now (largest .entry)) (now (entries .entry)) (now (period .entry)) (now (offset .entry)) self t d ⌝ }
+    {
+        if self.core.runner == NO_RANK {
+            return Outcome {
+                model: self,
+                status: CALL_LEVEL,
+                begun: false,
+            };
+        }
+        if tables as u32 <= t {
+            return Outcome {
+                model: self,
+                status: NO_SUCH,
+                begun: false,
+            };
+        }
+        let i = t as usize;
+        if is_bad_delay(d, short_at(largest, i)) {
+            return Outcome {
+                model: self,
+                status: BAD_DELAY,
+                begun: false,
+            };
+        }
+        let from = byte_at(first, i, 0) as usize;
+        if flag_at(&self.on, from) {
+            return Outcome {
+                model: self,
+                status: ALREADY_RUNS,
+                begun: false,
+            };
+        }
+        let n = byte_at(entries, i, 0) as usize;
+        let mut counter = self.counter;
+        start_counters(from, n, short_at(period, i), d as u16, offset, &mut counter);
+        let mut on = self.on;
+        switch(from, n, true, &mut on);
+        let mut m = self;
+        m.counter = counter;
+        m.on = on;
+        Outcome {
+            model: m,
+            status: DONE,
+            begun: false,
+        }
+    }
+
+    pub fn stop<'a>(self, tables: u8, first: &'a [u8; 8], entries: &'a [u8; 8], t: u32) -> Outcome
+        requires { ⌜ Laid tables (now first) (now entries) ⌝ }
+        ensures { λ r. ⌜ r ≡ halted tables (now (first .entry)) (now (entries .entry)) self t ⌝ }
+    {
+        if self.core.runner == NO_RANK {
+            return Outcome {
+                model: self,
+                status: CALL_LEVEL,
+                begun: false,
+            };
+        }
+        if tables as u32 <= t {
+            return Outcome {
+                model: self,
+                status: NO_SUCH,
+                begun: false,
+            };
+        }
+        let i = t as usize;
+        let from = byte_at(first, i, 0) as usize;
+        if !flag_at(&self.on, from) {
+            return Outcome {
+                model: self,
+                status: NO_FUNCTION,
+                begun: false,
+            };
+        }
+        let n = byte_at(entries, i, 0) as usize;
+        let mut counter = self.counter;
+        stop_counters(from, n, &mut counter);
+        let mut on = self.on;
+        switch(from, n, false, &mut on);
+        let mut m = self;
+        m.counter = counter;
+        m.on = on;
+        Outcome {
+            model: m,
+            status: DONE,
+            begun: false,
+        }
+    }
+}
+
+// A delay of 0, or one with which the entry at the table's largest offset would be out of the counter's reach.
+fn is_bad_delay(d: u32, largest: u16) -> bool
+    ensures { λ r. ⌜ r ≡ eqb d 0 || ltb longestDelay (d + largest) ⌝ }
+{
+    d == 0 || 65535 < d as u64 + largest as u64
+}
