@@ -4,7 +4,7 @@ use config::read_config;
 use event::read_event;
 use kernel::osek_run;
 use libc::STDOUT_FILENO;
-ghost use Prim.Native.Nat.{_≤_};
+ghost use Prim.Native.Nat.{_≤_, _<_};
 ghost use lib.ListN.{length};
 
 // The first or the second file can't be read.
@@ -19,7 +19,7 @@ const REFUSAL: u64 = 0x1_0000_0000;
 const MAX_EVENTS: usize = 8192;
 
 // In the place of a runner: nobody runs.
-const IDLE: u8 = 255;
+const IDLE: u64 = 255;
 
 // Whether a file could be read, and how many of its bytes are in the buffer.
 struct Loaded {
@@ -44,15 +44,20 @@ fn main() {
     }
     let config_len = c.len;
     let trace_len = t.len;
-    let result = osek_run(&config[..config_len], &trace[..trace_len], &mut out);
+    report(&config[..config_len], &trace[..trace_len], &mut out);
+}
+
+// Runs the trace, and prints its answers or the refusal.
+fn report(config: &[u8], trace: &[u8], out: &mut [u8]) {
+    let result = osek_run(config, trace, out);
     if REFUSAL <= result {
         print_refused(result / REFUSAL, result % REFUSAL);
         return;
     }
     let events = result as usize;
     if events <= MAX_EVENTS {
-        print_events(&trace[..trace_len], &out, events);
-        print_losses(&config[..config_len], &out, events);
+        print_events(trace, out, events);
+        print_losses(config, out, events);
     }
 }
 
@@ -85,7 +90,7 @@ fn print_refused(refusal: u64, place: u64) {
     io::write_all(STDOUT_FILENO, b"\n");
 }
 
-// A line for each event: its index, code, status, runner, level and begun mark.
+// A line for each event.
 fn print_events(trace: &[u8], out: &[u8], events: usize)
     requires { ⌜ events ≤ 8192 ⌝ }
 {
@@ -93,48 +98,71 @@ fn print_events(trace: &[u8], out: &[u8], events: usize)
     let mut at = 0;
     let mut i = 0;
     while i < events {
-        let e = read_event(trace, at);
-        at = e.place;
-        io::print_decimal(STDOUT_FILENO, i as u64);
-        print_field(e.event.code as u64);
-        print_field(byte(out, 4 * i) as u64);
-        print_runner(byte(out, 4 * i + 1));
-        print_field(byte(out, 4 * i + 2) as u64);
-        print_field(byte(out, 4 * i + 3) as u64);
-        io::write_all(STDOUT_FILENO, b"\n");
+        at = print_event(trace, at, out, i);
         i += 1;
     }
+}
+
+// An event's index, code, status, runner, level and begun mark; the result is the place of the next.
+fn print_event(trace: &[u8], at: usize, out: &[u8], i: usize) -> usize
+    requires { ⌜ i < 8192 ⌝ }
+{
+    let e = read_event(trace, at);
+    let event = e.event;
+    io::print_decimal(STDOUT_FILENO, i as u64);
+    print_field(event.code as u64);
+    print_answer(out, 4 * i);
+    e.place
+}
+
+// The four bytes of an answer.
+fn print_answer(out: &[u8], at: usize)
+    requires { ⌜ at < 32768 ⌝ }
+{
+    print_field(byte(out, at));
+    print_runner(byte(out, at + 1));
+    print_field(byte(out, at + 2));
+    print_field(byte(out, at + 3));
+    io::write_all(STDOUT_FILENO, b"\n");
 }
 
 // A line for each body that lost an activation.
 fn print_losses(config: &[u8], out: &[u8], events: usize)
     requires { ⌜ events ≤ 8192 ⌝ }
 {
-    let bodies = read_config(config).config.bodies as usize;
+    let bodies = body_count(config);
     let mut b = 0;
     while b < bodies {
-        let low = byte(out, 4 * events + 2 * b) as u64;
-        let high = byte(out, 4 * events + 2 * b + 1) as u64;
-        let lost = low + 256 * high;
-        if 0 < lost {
-            print_lost(b as u64, lost);
-        }
+        print_loss(out, 4 * events + 2 * b, b);
         b += 1;
     }
 }
 
-fn print_lost(body: u64, count: u64) {
-    io::write_all(STDOUT_FILENO, b"lost");
-    print_field(body);
-    print_field(count);
-    io::write_all(STDOUT_FILENO, b"\n");
+fn body_count(config: &[u8]) -> usize
+    ensures { λ r. ⌜ r < 256 ⌝ }
+{
+    let read = read_config(config);
+    let c = read.config;
+    c.bodies as usize
 }
 
-fn print_runner(runner: u8) {
+fn print_loss(out: &[u8], at: usize, body: usize)
+    requires { ⌜ at < 65536 ⌝ }
+{
+    let lost = byte(out, at) + 256 * byte(out, at + 1);
+    if 0 < lost {
+        io::write_all(STDOUT_FILENO, b"lost");
+        print_field(body as u64);
+        print_field(lost);
+        io::write_all(STDOUT_FILENO, b"\n");
+    }
+}
+
+fn print_runner(runner: u64) {
     if runner == IDLE {
         io::write_all(STDOUT_FILENO, b" -");
     } else {
-        print_field(runner as u64);
+        print_field(runner);
     }
 }
 
@@ -144,6 +172,14 @@ fn print_field(n: u64) {
 }
 
 // A byte of the output, which the run made long enough.
-fn byte(out: &[u8], i: usize) -> u8 {
-    if i < out.len() { out[i] } else { 0 }
+fn byte(out: &[u8], i: usize) -> u64
+    ensures { λ r. ⌜ r < 256 ⌝ }
+{
+    if i < out.len() { wide(out[i]) } else { 0 }
+}
+
+fn wide(b: u8) -> u64
+    ensures { λ r. ⌜ r < 256 ⌝ }
+{
+    b as u64
 }
