@@ -31,8 +31,26 @@ pub struct Written {
     pub place: usize,
 }
 
-// The number at a place of `bytes`.
+// The number at a place of `bytes`. Most numbers of a trace have one byte, so these come first.
 pub fn read_number(bytes: &[u8], at: usize) -> NumberRead
+    ensures { λ r. ⌜ r ≡ readNumber (now (bytes .entry)) at ⌝ }
+{
+    if bytes.len() <= at {
+        return read_long(bytes, at);
+    }
+    let b = bytes[at];
+    if b < 128 {
+        return NumberRead {
+            value: b as u32,
+            refusal: 0,
+            place: at + 1,
+        };
+    }
+    read_long(bytes, at)
+}
+
+// The same, group by group.
+fn read_long(bytes: &[u8], at: usize) -> NumberRead
     ensures { λ r. ⌜ r ≡ readNumber (now (bytes .entry)) at ⌝ }
 {
     let mut r = read_groups(bytes, at, LEADING);

@@ -1,33 +1,48 @@
--- `read_number` meets its contract: the groups at the place, with their place counted from the input's start.
+-- `read_number` meets its contract: a number of one byte is the law `groups-at-end`, and any other is read group by group.
 -- Assumes nothing.
-use Prim.Native.Nat.{ℕ, _+_, _^_, _<_}
-use mathlib.Core.Path.{_≡_, ap}
-use mathlib.Core.List.{List}
+use mathlib.Core.Path.{sym, ap}
 use native.Mathlib.Omega.{arith}
-use lib.ListN.{length, drop, length-drop}
-use mir.Val.{Fits}
-use mir.Syntax.{w64}
-use Rattle.number.specs.declared.NumberRead.{NumberRead}
-use Rattle.number.specs.Number.{shifted, groups, leading, readNumber}
-use Rattle.number.proofs.Size.{groups-sized}
+use Rattle.number.specs.Number.{shifted, leading, readNumber}
+use Rattle.number.proofs.Groups.{groups-at-end}
 use borrow.Author.Needs.{needs}
 use Rattle.number.proofs.read_number.Statement.{statement}
 use Rattle.number.proofs.read_number.Tie as tie
 
-read-groups-requires : tie.Need-read-groups-requires
-read-groups-requires c κs = search needs
-
--- past the end nothing is read, and elsewhere no further than the end
-place-fits : (l : List ℕ) (at : ℕ) → length l < 2 ^ 63 → at < 2 ^ 64 → (r : NumberRead) → r ≡ groups leading (drop at l) → Fits w64 (at + r .place)
-place-fits l at short small r e = rw e (let s = groups-sized leading (drop at l) in omega (arith, length-drop at l))
-
-add-r : tie.Need-add-r
-add-r c = let a = c .before .before .before .args in
-    place-fits (a .bytes .now) (a .at) (omega arith) (omega arith) (c .before .read-groups .result) (c .before .read-groups .ensures)
+read-long-requires : tie.Need-read-long-requires
+read-long-requires c κs = search needs
 
 returns : tie.Need-returns
+returns c = search needs
+
+shared-slice-read-b : tie.Need-shared-slice-read-b
+shared-slice-read-b c = search needs
+
+cast-t8 : tie.Need-cast-t8
+cast-t8 c = search needs
+
+add-t9 : tie.Need-add-t9
+add-t9 c = search needs
+
+returns-2 : tie.Need-returns-2
 unfolding readNumber
-returns c = ap (shifted (c .before .before .before .args .at)) (c .before .read-groups .ensures)
+returns-2 c = let a = c .before .before .before .before .args in
+    ap (shifted (a .at)) (sym (groups-at-end (a .bytes .now) (a .at) leading (omega arith) (omega arith) (c .if2 .taken)))
+
+read-long-requires-2 : tie.Need-read-long-requires-2
+read-long-requires-2 c κs = search needs
+
+returns-3 : tie.Need-returns-3
+returns-3 c = search needs
 
 pub read-number-spec : {M : Type 1} → statement M
-read-number-spec = tie.close (tie.spec read-groups-requires add-r returns)
+read-number-spec =
+    tie.close
+    (tie.spec
+    read-long-requires
+    returns
+    shared-slice-read-b
+    cast-t8
+    add-t9
+    returns-2
+    read-long-requires-2
+    returns-3)
