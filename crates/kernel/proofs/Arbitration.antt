@@ -4,7 +4,7 @@
 --   settled-tied     after arbitration the model stands for the bodies after the dispatch, and who runs is the same
 --
 -- Assumes nothing.
-use Prim.Native.Nat.{ℕ, zero, suc, _+_, _^_, _≤_, _<_}
+use Prim.Native.Nat.{ℕ, _≤_, _<_}
 use mathlib.Core.Path.{_≡_, refl, sym, ap, ap₂, _∙_}
 use mathlib.Core.Logic.{_≢_}
 use mathlib.Core.Bool.{Bool, true, false, true≢false, cond, not, _&&_}
@@ -13,15 +13,15 @@ use native.Mathlib.Nat.{eq-zero-or-pos}
 use mathlib.Core.Logic.{⊎-elim}
 use native.Mathlib.Omega.{arith}
 use borrow.Author.Tests.{lt-ltb, le-ltb, eq-eqb, ne-eqb}
-use lib.Dec.{ltb, eqb}
+use lib.Dec.{eqb}
 use lib.ListN.{length, getD, set, length-set}
 use lib.Seq.{getD-set-same, getD-set-other}
 use Rattle.number.proofs.Cases.{by-lt, by-eq}
 use Rattle.config.specs.declared.Config.{Config}
 use Rattle.config.specs.Meaning.{priorityOf}
 use Rattle.plan.specs.declared.Plan.{Plan}
-use Rattle.word.specs.Word.{has, with, without, winner}
-use Rattle.word.proofs.Theorems.{has-lt, empty, has-with-same, has-with-other, has-without-same, has-without-other, without-lt, winner-has, winner-highest, winner-empty}
+use Rattle.word.specs.Word.{has, winner}
+use Rattle.word.proofs.Theorems.{empty, has-with-same, has-with-other, has-without-same, has-without-other, without-lt, winner-has, winner-highest, winner-empty}
 use Rattle.scheduler.specs.Body.{Phase, suspended, ready, started, isSuspended, isStarted, Body, current, become}
 use Rattle.scheduler.specs.Choice.{chosen, nobody}
 use Rattle.scheduler.specs.State.{State, noBody, among}
@@ -33,12 +33,11 @@ use Rattle.kernel.specs.declared.machine.Model.{Model}
 use Rattle.kernel.specs.declared.machine.Outcome.{Outcome}
 use Rattle.kernel.specs.Model.{noRank}
 use Rattle.kernel.specs.Arbiter.{winning, dispatching, arbitrated, laying, settled}
-use Rattle.kernel.specs.Events.{idles}
 use Rattle.kernel.specs.Machine.{runnerOf}
-use Rattle.kernel.proofs.Views.{Frame, frame, below, framesIn, framesOf, below-set, below-push, slotsOf}
-use Rattle.kernel.proofs.Simulation.{Fitted, at, wants, Words, framesFor, levelAt, Chained, Running, Calm, slotsFor, slotsAlong, Holding, Tied}
-use Rattle.kernel.proofs.Standing.{by-among, by-phase, chain-level, chosen-runner, chosen-newcomer, chosen-none}
-use Rattle.kernel.proofs.Chains.{Alike, AlikeAlong, among-head, among-tail, framesFor-alike, levelAt-alike, chained-alike, slotsAlong-alike, chain-short, length-framesFor, length-below, frames-none, TopIs, frames-top}
+use Rattle.kernel.proofs.Views.{Frame, frame, below, below-set, below-push}
+use Rattle.kernel.proofs.Simulation.{Fitted, at, Words, framesFor, levelAt, Chained, Running, Calm, slotsFor, slotsAlong, Holding, Tied}
+use Rattle.kernel.proofs.Standing.{by-phase, chain-level, chosen-runner, chosen-newcomer, chosen-none}
+use Rattle.kernel.proofs.Chains.{AlikeAlong, among-head, among-tail, framesFor-alike, levelAt-alike, chained-alike, slotsAlong-alike, chain-short, length-framesFor, length-below, frames-none, frames-top}
 
 and-false : (b : Bool) → b && false ≡ false
 and-false true = refl

@@ -3,39 +3,35 @@
 --   Agrees m s e     the event e does the same to the model m and to the state s
 --
 -- Assumes nothing.
-use Prim.Native.Nat.{ℕ, zero, suc, _+_, _-_, max, _≤_, _<_}
-use mathlib.Core.Path.{_≡_, refl, sym, ap, ap₂, _∙_}
-use mathlib.Core.Logic.{_≢_}
-use mathlib.Core.Bool.{Bool, true, false, true≢false, cond, not, _&&_, _||_}
+use Prim.Native.Nat.{ℕ, zero, suc, _<_}
+use mathlib.Core.Path.{_≡_, refl, sym, ap, _∙_}
+use mathlib.Core.Bool.{Bool, true, false, cond}
 use mathlib.Core.List.{List, [], _∷_, map}
 use native.Mathlib.Omega.{arith}
-use borrow.Author.Tests.{lt-ltb, le-ltb, eq-eqb, ne-eqb, eqb-true, ltb-true, ltb-false}
-use lib.Dec.{ltb, leb, eqb}
-use lib.ListN.{length, getD, set, take, replicate, length-set, length-map, List·getD-map, List·getD-eq-default}
-use lib.Seq.{getD-set-same, getD-set-other, getD-take, ext-getD, length-take-le}
-use Rattle.number.proofs.Cases.{by-lt, by-eq}
+use borrow.Author.Tests.{eq-eqb, ne-eqb}
+use lib.ListN.{length, getD, set, take, length-map, List·getD-map, List·getD-eq-default}
+use lib.Seq.{getD-take, ext-getD, length-take-le}
+use Rattle.number.proofs.Cases.{by-eq}
 use Rattle.config.specs.declared.Config.{Config}
-use Rattle.config.specs.Meaning.{isTask, isIsr, priorityOf, ceiling}
+use Rattle.config.specs.Meaning.{isTask}
 use Rattle.plan.specs.declared.Plan.{Plan}
-use Rattle.word.specs.Word.{has, with}
-use Rattle.scheduler.specs.Status.{done, firstOf}
-use Rattle.scheduler.specs.Body.{Phase, suspended, ready, started, isSuspended, isStarted, Body, current, become, finished, requested, takes, gives-back}
-use Rattle.scheduler.specs.Choice.{chosen, isNobody}
-use Rattle.scheduler.specs.State.{State, noBody, among, runner}
+use Rattle.scheduler.specs.Status.{done}
+use Rattle.scheduler.specs.Body.{started, Body, current, become}
+use Rattle.scheduler.specs.Choice.{chosen}
+use Rattle.scheduler.specs.State.{State, noBody, runner}
 use Rattle.scheduler.specs.Call.{nobodyRuns, caller}
 use Rattle.scheduler.specs.Scheduler as Plain
-use Rattle.scheduler.specs.Scheduler.{Event, Activate, Finish, Chain, Get, Release, Tick, Line, Start, Stop, Nothing, Seen, step, begins, dispatched, ending, noneDue, markOf}
+use Rattle.scheduler.specs.Scheduler.{Event, step, begins, dispatched, ending, noneDue, markOf}
 use Rattle.scheduler.proofs.Choosing.{current-own}
 use Rattle.scheduler.proofs.Changing.{tables-dispatched}
 use Rattle.kernel.specs.declared.machine.Model.{Model}
 use Rattle.kernel.specs.declared.machine.Outcome.{Outcome}
-use Rattle.kernel.specs.Model.{noRank, doneWith, refusedWith}
-use Rattle.kernel.specs.Arbiter.{settled}
+use Rattle.kernel.specs.Model.{noRank, refusedWith}
 use Rattle.kernel.specs.Events as Machine
-use Rattle.kernel.specs.Machine.{machineStep, runnerOf, lossesOf, matched, observed}
-use Rattle.kernel.proofs.Simulation.{Fitted, at, wants, Words, framesFor, levelAt, Chained, Running, Calm, Holding, Tied, Timed, Lost, Sim}
+use Rattle.kernel.specs.Machine.{machineStep, lossesOf, matched, observed}
+use Rattle.kernel.proofs.Simulation.{Fitted, at, framesFor, levelAt, Chained, Calm, Tied, Timed, Lost, Sim}
 use Rattle.kernel.proofs.Chains.{frames-none}
-use Rattle.kernel.proofs.Arbitration.{Seated, calm-choice, level-is, runner-is, runnerOf-is, Arbitrated, settled-tied}
+use Rattle.kernel.proofs.Arbitration.{calm-choice, level-is, runner-is, runnerOf-is, Arbitrated}
 
 -- what a change of one body keeps, it keeps of every body
 pub kept {ℓ} : {A : Type ℓ} (g : Body → A) (f : Body → Body) → ((x : Body) → g (f x) ≡ g x) → (bs : List Body) (i j : ℕ)

@@ -1,12 +1,11 @@
 -- Chains of started bodies: what does not change them, how long they are, and how the machine's frames show them.
 -- Assumes nothing.
-use Prim.Native.Nat.{ℕ, zero, suc, _+_, _≤_, _<_}
+use Prim.Native.Nat.{ℕ, zero, suc, _≤_, _<_}
 use mathlib.Core.Path.{_≡_, refl, sym, ap, ap₂, _∙_}
-use mathlib.Core.Bool.{Bool, true, false, true≢false, cond, _||_}
+use mathlib.Core.Bool.{true}
 use mathlib.Core.List.{List, [], _∷_, _++_, foldr, map}
 use native.Mathlib.Omega.{arith}
 use borrow.Author.Tests.{eq-eqb, ne-eqb}
-use lib.Dec.{eqb, lit≤}
 use lib.ListN.{length}
 use Rattle.number.proofs.Cases.{by-eq}
 use Rattle.config.specs.declared.Config.{Config}
@@ -16,11 +15,9 @@ use Rattle.scheduler.specs.Body.{Body, isStarted, current}
 use Rattle.scheduler.specs.State.{among}
 use Rattle.scheduler.proofs.Choosing.{current-own}
 use Rattle.kernel.specs.declared.machine.Core.{Core}
-use Rattle.kernel.specs.declared.machine.Model.{Model}
 use Rattle.kernel.specs.Model.{noRank}
-use Rattle.kernel.specs.Events.{idles}
-use Rattle.kernel.proofs.Views.{Frame, frame, below, framesIn, framesOf, Slot}
-use Rattle.kernel.proofs.Simulation.{Fitted, at, framesFor, levelAt, Chained, Running, slotsFor, slotsAlong}
+use Rattle.kernel.proofs.Views.{Frame, frame, below, framesIn, Slot}
+use Rattle.kernel.proofs.Simulation.{Fitted, at, framesFor, levelAt, Chained, slotsFor, slotsAlong}
 
 -- as far as a chain goes two bodies are alike: begun or not, and holding the same
 pub record Alike (x y : Body) : Type 0 where

@@ -11,7 +11,7 @@ use native.Mathlib.Nat.{add-zero}
 use lib.ListN.{length, getD, set, take, drop, replicate, length-set, drop-of-length-le}
 use lib.Seq.{take-suc-set, drop-cons, drop-drop, getD-drop, getD-set-other}
 use Rattle.cell.specs.declared.Cell.{Cell}
-use Rattle.cell.specs.Cell.{startCell, ticked}
+use Rattle.cell.specs.Cell.{unmarked, startCell, ticked}
 use Rattle.word.specs.Word.{has, with}
 use Rattle.kernel.specs.Model.{noRank}
 use Rattle.kernel.specs.Cells.{cellAt, countersTicked, marks, countersStarted, countersStopped, switched, Due, matchAt, requestsDue}
@@ -32,7 +32,7 @@ module _ (ks : List ℕ) (os : List Bool) where
   unfolding marks
   marks-set zero e i x ns h = refl
   marks-set (suc k) e i x ns h =
-      ap₂ (λ (n : ℕ) (bs : List Bool). ticked (record { counter = n; compare = getD ks e 0; on = getD os e false; matched = false }) .matched ∷ bs)
+      ap₂ (λ (n : ℕ) (bs : List Bool). ticked (unmarked n (getD ks e 0) (getD os e false)) .matched ∷ bs)
       (getD-set-other ns i e x 0 (λ q. absurd (omega arith)))
       (marks-set k (suc e) i x ns (omega arith))
 
@@ -60,7 +60,13 @@ module _ (ks : List ℕ) (os : List Bool) where
             long = length-set ms e (c .matched) ∙ so-far .long;
             counters = rw (is, add-one e) (rw (next n e more, add-one e) at (so-far .counters));
             matches =
-                rw (add-one e, take-suc-set ms e (c .matched) (omega (arith, so-far .long)), append-assoc, marks-set (n - suc e) (suc e) e (c .counter) ns (omega arith), is)
+                rw (
+                  add-one e,
+                  take-suc-set ms e (c .matched) (omega (arith, so-far .long)),
+                  append-assoc,
+                  marks-set (n - suc e) (suc e) e (c .counter) ns (omega arith),
+                  is,
+                )
                 (rw (next n e more, add-one e) at (so-far .matches));
           }
 

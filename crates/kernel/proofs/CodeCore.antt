@@ -22,7 +22,8 @@ module _ (ps : List ℕ) (k : Core) {r l : ℕ} (won : r ≡ winner (k .request)
   arbitrated-same h = rw (le-ltb (k .level) (winning ps k) (rw (worth, won) at h))
 
   pub arbitrated-above : k .level < l
-      → {w : ℕ} → w ≡ without (k .request) r → {s : ℕ} → s ≡ with (k .started) r → {d : ℕ} → d ≡ cond (eqb (k .runner) noRank) (k .depth) (k .depth + 1)
+      → {w : ℕ} → w ≡ without (k .request) r → {s : ℕ} → s ≡ with (k .started) r
+      → {d : ℕ} → d ≡ cond (eqb (k .runner) noRank) (k .depth) (k .depth + 1)
       → _≡_ {A = Picked} (record { core = record { request = w; started = s; runner = r; level = l; depth = d }; begun = true }) (arbitrated ps k)
   unfolding arbitrated
   arbitrated-above h used runs deep =
@@ -36,11 +37,23 @@ module _ (ss ls : List ℕ) (k : Core) {w : ℕ} (left : w ≡ without (k .start
   popped-empty h = rw (left, eq-eqb (k .depth) 0 h)
 
   pub popped-top : (k .depth ≡ 0 → ⊥)
-      → _≡_ {A = Core} (record { request = k .request; started = w; runner = getD ss (k .depth - 1) 0; level = getD ls (k .depth - 1) 0; depth = k .depth - 1 }) (popped ss ls k)
+      → _≡_ {A = Core}
+      (record {
+        request = k .request;
+        started = w;
+        runner = getD ss (k .depth - 1) 0;
+        level = getD ls (k .depth - 1) 0;
+        depth = k .depth - 1;
+      })
+      (popped ss ls k)
   unfolding popped
   popped-top h = rw (left, ne-eqb (k .depth) 0 h)
 
 -- the stack does not grow
 pub popped-lt : (ss ls : List ℕ) (k : Core) {k′ : Core} → k′ ≡ popped ss ls k → k .depth < 32 → k′ .depth < 32
 unfolding popped
-popped-lt ss ls k e h = rw e (by-eq (k .depth) 0 (λ z. rw (eq-eqb (k .depth) 0 z) (omega arith)) (λ n. rw (ne-eqb (k .depth) 0 n) (omega arith)))
+popped-lt ss ls k e h =
+    rw e
+    (by-eq (k .depth) 0
+    (λ z. rw (eq-eqb (k .depth) 0 z) (omega arith))
+    (λ n. rw (ne-eqb (k .depth) 0 n) (omega arith)))

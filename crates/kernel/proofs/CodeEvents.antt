@@ -1,13 +1,12 @@
 -- The events of bodies and of resources, case by case in the order of their checks, as the code goes through them: refused with each
 -- status, and done. A variable before an equation is what the code has in its place. Assumes nothing.
 use Prim.Native.Nat.{ℕ, _+_, _-_, _≤_, _<_, max}
-use mathlib.Core.Path.{_≡_, refl, sym, _∙_}
+use mathlib.Core.Path.{_≡_, sym, _∙_}
 use mathlib.Core.Bool.{Bool, true, false, not, _&&_, _||_}
 use mathlib.Core.List.{List}
 use lib.Dec.{ltb, eqb}
 use lib.ListN.{getD, set}
 use borrow.Author.Tests.{le-leb, lt-leb, eq-eqb, ne-eqb}
-use Rattle.plan.specs.declared.Plan.{Plan}
 use Rattle.scheduler.specs.Status.{callLevel, noSuch, limit, access, noFunction, holdsResource, firstOf}
 use Rattle.word.specs.Word.{has, with}
 use Rattle.kernel.specs.declared.machine.Core.{Core}
@@ -17,7 +16,6 @@ use Rattle.kernel.specs.Model.{noRank, withCore, withRequest, withLevel,
 use Rattle.kernel.specs.Arbiter.{arbitrated, laying, popped, requesting}
 use Rattle.kernel.specs.Resources.{holding, latest, levelWithout}
 use Rattle.kernel.specs.Events.{idles, busy, activated, finished, chained, got, released, lined}
-use Rattle.kernel.specs.Machine.{freshModel}
 
 -- Finish
 module _ (ps : List ℕ) (m : Model) where

@@ -58,7 +58,8 @@ short-sum d g e = ltb-false longestDelay (d + g) (second (eqb d 0) _ e)
     second false b e = e
 
 -- what the tables give each of them
-module _ (n : ℕ) (fs es : List ℕ) (laid : Laid n fs es) (t : ℕ) (some : t < n) {f k : ℕ} (from : f ≡ getD fs t 0) (many : k ≡ getD es t 0) where
+module _ (n : ℕ) (fs es : List ℕ) (laid : Laid n fs es) (t : ℕ) (some : t < n)
+    {f k : ℕ} (from : f ≡ getD fs t 0) (many : k ≡ getD es t 0) where
   pub entries-within : f + k ≤ 64
   entries-within = rw (from, many) (laid .within t some)
 
@@ -97,7 +98,18 @@ module _ (n : ℕ) (fs gs es qs os : List ℕ) (m : Model) (t d : ℕ) where
             → doneWith (withCells m ns bs) false ≡ launched n fs gs es qs os m t d
         unfolding launched firstOf
         start-done h many period counted switches =
-            rw (ne-eqb (m .core .runner) noRank busy, lt-leb n t some, ← largest, sym test ∙ good, ← from, sym on ∙ h, counted, switches, many, period)
+            rw (
+              ne-eqb (m .core .runner) noRank busy,
+              lt-leb n t some,
+              ← largest,
+              sym test ∙ good,
+              ← from,
+              sym on ∙ h,
+              counted,
+              switches,
+              many,
+              period,
+            )
 
 -- Stop t
 module _ (n : ℕ) (fs es : List ℕ) (m : Model) (t : ℕ) where

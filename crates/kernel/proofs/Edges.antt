@@ -2,7 +2,7 @@
 -- Assumes nothing.
 use Prim.Native.Nat.{ℕ, suc, _-_}
 use mathlib.Core.Path.{_≡_, refl}
-use mathlib.Core.Bool.{Bool, true, false}
+use mathlib.Core.Bool.{true, false}
 use mathlib.Core.List.{List, [], _∷_, map}
 use native.Mathlib.Nat.{mod-one}
 use lib.Dec.{leb·zero, leb·suc-suc}
@@ -19,7 +19,7 @@ use Rattle.scheduler.specs.Body.{Body, started, loses}
 use Rattle.scheduler.specs.Choice.{candidate, chosenFrom}
 use Rattle.scheduler.specs.State.{among, heldIn}
 use Rattle.scheduler.specs.Tick.{counting, entryDue, duesFrom, activatingDue}
-use Rattle.scheduler.specs.Scheduler.{Event, Chain, Get, Release, Tick, Line, Start, Seen, step, fresh, seen}
+use Rattle.scheduler.specs.Scheduler.{Event, Chain, Get, Release, Tick, Line, Start, step, fresh, seen}
 use Rattle.scheduler.proofs.Listing.{Row, row, rowOf, listing}
 use Rattle.kernel.specs.Cells.{oneMore}
 

@@ -4,15 +4,15 @@
 --   freed-tied     after a Release the model stands for the bodies without that resource
 --
 -- Assumes nothing.
-use Prim.Native.Nat.{ℕ, zero, suc, _+_, _-_, max, _<_, _≤_}
+use Prim.Native.Nat.{ℕ, zero, suc, _-_, max, _<_, _≤_}
 use mathlib.Core.Path.{_≡_, refl, sym, ap, ap₂, _∙_}
 use mathlib.Core.Logic.{_≢_}
-use mathlib.Core.Bool.{Bool, true, false, true≢false, cond, _&&_, _||_}
+use mathlib.Core.Bool.{Bool, true, false, true≢false}
 use mathlib.Core.List.{List, [], _∷_, _++_, map, foldr}
 use native.Mathlib.Omega.{arith}
-use borrow.Author.Tests.{eq-eqb, ne-eqb, lt-ltb, le-ltb}
-use lib.Dec.{eqb, ltb}
-use lib.ListN.{length, getD, set, length-set}
+use borrow.Author.Tests.{eq-eqb, ne-eqb, lt-ltb}
+use lib.Dec.{eqb}
+use lib.ListN.{getD, set, length-set}
 use lib.Seq.{getD-set-same, getD-set-other}
 use Rattle.number.proofs.Cases.{by-eq}
 use Rattle.config.specs.declared.Config.{Config}
@@ -24,8 +24,8 @@ use Rattle.scheduler.specs.Call.{holds, latestIs}
 use Rattle.kernel.specs.declared.machine.Model.{Model}
 use Rattle.kernel.specs.Model.{noRank, withLevel}
 use Rattle.kernel.specs.Resources.{ownSlot, holding, latest, levelWithout, freeing}
-use Rattle.kernel.proofs.Views.{Frame, frame, below, framesIn, framesOf, Slot, slot, slotsIn, slotsOf}
-use Rattle.kernel.proofs.Simulation.{Fitted, at, wants, Words, framesFor, levelAt, Chained, Running, slotsFor, slotsAlong, Distinct, trues, resourcesIn, Holding, Tied}
+use Rattle.kernel.proofs.Views.{Frame, frame, Slot, slot, slotsIn}
+use Rattle.kernel.proofs.Simulation.{Fitted, at, wants, Words, framesFor, Chained, Running, slotsFor, slotsAlong, Distinct, trues, resourcesIn, Holding, Tied}
 use Rattle.kernel.proofs.Chains.{Alike, among-head, among-tail, framesFor-alike, levelAt-alike, chained-alike, slotsAlong-alike, TopIs, frames-top}
 use Rattle.kernel.proofs.Standing.{by-among, chain-other, waits-same}
 use Rattle.kernel.proofs.Marks.{trues-le, trues-clear, getD-inside}

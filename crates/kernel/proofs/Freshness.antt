@@ -1,24 +1,20 @@
 -- The machine's fresh start stands for the plain scheduler's.
 -- Assumes nothing.
-use Prim.Native.Nat.{ℕ, zero, suc, _^_, _<_}
+use Prim.Native.Nat.{ℕ, zero, suc, _<_}
 use mathlib.Core.Path.{_≡_, refl, sym, ap, _∙_}
 use mathlib.Core.Bool.{Bool, true, false, true≢false, cond}
-use mathlib.Core.List.{List, [], map}
+use mathlib.Core.List.{[], map}
 use native.Mathlib.Omega.{arith}
-use borrow.Author.Tests.{eq-eqb}
 use lib.Dec.{eqb}
 use lib.ListN.{length, getD, take, replicate, length-map, length-replicate, List·getD-map}
 use lib.Seq.{getD-take, length-take-le}
 use Rattle.config.specs.declared.Config.{Config}
-use Rattle.config.specs.Meaning.{isTask}
 use Rattle.plan.specs.declared.Plan.{Plan}
 use Rattle.word.proofs.Theorems.{empty}
 use Rattle.scheduler.specs.Body.{Body, isStarted, ready, become}
 use Rattle.scheduler.specs.State.{stopped, State, noBody, among}
-use Rattle.scheduler.specs.Scheduler.{newBody, fresh, dispatched}
+use Rattle.scheduler.specs.Scheduler.{newBody, fresh}
 use Rattle.scheduler.proofs.Changing.{tables-dispatched}
-use Rattle.kernel.specs.declared.machine.Model.{Model}
-use Rattle.kernel.specs.Arbiter.{settled}
 use Rattle.kernel.specs.Machine.{unstarted, freshModel}
 use Rattle.kernel.proofs.Views.{slotsIn}
 use Rattle.kernel.proofs.Simulation.{Fitted, at, wants, framesFor, Chained, slotsAlong, Distinct, trues, CellFits, Timed, Lost, Tied, Sim}

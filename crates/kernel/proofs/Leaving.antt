@@ -1,6 +1,6 @@
 -- The runner ends: the body below it on the stack runs again, at the level it was preempted at.
 -- Assumes nothing.
-use Prim.Native.Nat.{ℕ, zero, suc, _-_, _^_, _<_, _≤_}
+use Prim.Native.Nat.{ℕ, zero, suc, _-_, _<_}
 use mathlib.Core.Path.{_≡_, refl, sym, ap, ap₂, _∙_}
 use mathlib.Core.Logic.{_≢_}
 use mathlib.Core.Bool.{Bool, true, false, true≢false, cond}
@@ -8,23 +8,23 @@ use mathlib.Core.List.{List, [], _∷_, _++_}
 use native.Mathlib.Omega.{arith}
 use borrow.Author.Tests.{eq-eqb, ne-eqb, eqb-true}
 use lib.Dec.{eqb}
-use lib.ListN.{length, getD, set, length-set}
+use lib.ListN.{getD, set, length-set}
 use lib.Seq.{getD-set-same, getD-set-other}
 use Rattle.number.proofs.Cases.{by-eq}
 use Rattle.config.specs.declared.Config.{Config}
 use Rattle.plan.specs.declared.Plan.{Plan}
-use Rattle.word.specs.Word.{has, without}
-use Rattle.word.proofs.Theorems.{has-without-same, has-without-other, without-lt}
-use Rattle.scheduler.specs.Body.{Body, isStarted, isSuspended, Phase, suspended, ready, started, finished, current}
+use Rattle.word.specs.Word.{without}
+use Rattle.word.proofs.Theorems.{has-without-same, has-without-other}
+use Rattle.scheduler.specs.Body.{Body, isStarted, Phase, suspended, ready, started, finished}
 use Rattle.scheduler.specs.State.{noBody, among}
 use Rattle.scheduler.specs.Call.{requestWaits}
 use Rattle.kernel.specs.declared.machine.Core.{Core}
 use Rattle.kernel.specs.declared.machine.Model.{Model}
-use Rattle.kernel.specs.Model.{noRank, withCore}
+use Rattle.kernel.specs.Model.{noRank}
 use Rattle.kernel.specs.Arbiter.{popped, leaving}
-use Rattle.kernel.proofs.Views.{Frame, frame, below, framesIn, framesOf}
-use Rattle.kernel.proofs.Simulation.{Fitted, at, wants, Words, framesFor, levelAt, Chained, Running, slotsFor, slotsAlong, Holding, Tied}
-use Rattle.kernel.proofs.Chains.{Alike, framesFor-alike, chained-alike, slotsAlong-alike, length-below, frames-top}
+use Rattle.kernel.proofs.Views.{Frame, frame, below, framesIn}
+use Rattle.kernel.proofs.Simulation.{Fitted, at, Words, framesFor, Chained, Running, slotsFor, slotsAlong, Holding, Tied}
+use Rattle.kernel.proofs.Chains.{Alike, framesFor-alike, chained-alike, slotsAlong-alike, frames-top}
 use Rattle.kernel.proofs.Standing.{by-among, chain-other}
 
 -- what a pop leaves of the stack's frames

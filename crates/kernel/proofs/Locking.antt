@@ -1,23 +1,22 @@
 -- Get and Release do the same to the model as to the state.
 -- Assumes nothing.
-use Prim.Native.Nat.{ℕ, zero, suc, _+_, max, _≤_, _<_}
+use Prim.Native.Nat.{ℕ, zero, suc, max, _<_}
 use mathlib.Core.Path.{_≡_, refl, sym, ap, ap₂, _∙_}
-use mathlib.Core.Bool.{Bool, true, false, true≢false, not, _&&_, _||_}
-use mathlib.Core.List.{List, [], _∷_, _++_, map}
+use mathlib.Core.Bool.{Bool, true, false, true≢false, not, _||_}
+use mathlib.Core.List.{List, [], _∷_, _++_}
 use native.Mathlib.Omega.{arith}
-use borrow.Author.Tests.{eq-eqb, ne-eqb, eqb-true, leb-false}
+use borrow.Author.Tests.{eqb-true, leb-false}
 use lib.Dec.{ltb, leb, eqb}
-use lib.ListN.{length, getD, set, length-set}
-use Rattle.number.proofs.Cases.{by-eq}
+use lib.ListN.{length, getD, length-set}
 use Rattle.config.specs.declared.Config.{Config}
 use Rattle.config.specs.Meaning.{priorityOf, ceiling}
 use Rattle.plan.specs.declared.Plan.{Plan}
-use Rattle.scheduler.specs.Status.{done, firstOf, callLevel, noSuch, access, noFunction}
+use Rattle.scheduler.specs.Status.{done, callLevel, noSuch, access, noFunction}
 use Rattle.scheduler.specs.Body.{Body, isSuspended, isStarted, takes, gives-back}
-use Rattle.scheduler.specs.State.{State, noBody, among, heldIn, bodyOf}
+use Rattle.scheduler.specs.State.{State, among, heldIn, bodyOf}
 use Rattle.scheduler.specs.Call.{nobodyRuns, caller, calling, latestIs, getStatus, releaseStatus, get, release}
 use Rattle.scheduler.specs.Tick.{dues}
-use Rattle.scheduler.specs.Scheduler.{Get, Release, step, dispatched}
+use Rattle.scheduler.specs.Scheduler.{Get, Release, step}
 use Rattle.scheduler.proofs.Checks.{get-passed, release-passed}
 use Rattle.kernel.specs.declared.machine.Model.{Model}
 use Rattle.kernel.specs.Model.{doneWith}
@@ -26,14 +25,14 @@ use Rattle.kernel.specs.Resources.{latest, taking, freeing}
 use Rattle.kernel.specs.Events as Machine
 use Rattle.kernel.specs.Events.{idles, got, released}
 use Rattle.kernel.specs.Machine.{machineStep, matched}
-use Rattle.kernel.proofs.Simulation.{Fitted, at, levelAt, Chained, Calm, slotsFor, slotsAlong, resourcesIn, Tied, Sim}
+use Rattle.kernel.proofs.Simulation.{Fitted, at, Chained, slotsFor, slotsAlong, resourcesIn, Tied, Sim}
 use Rattle.kernel.proofs.Standing.{by-among}
-use Rattle.kernel.proofs.Chains.{among-head, among-tail}
+use Rattle.kernel.proofs.Chains.{among-tail}
 use Rattle.kernel.proofs.Arbitration.{settled-tied}
 use Rattle.kernel.proofs.Taking.{taken-tied}
 use Rattle.kernel.proofs.Freeing.{latest-is, freed-tied}
-use Rattle.kernel.proofs.Calls.{kept, lost-same, Agrees, Accepted, calm-arbitrated, agrees-attempt}
-use Rattle.kernel.proofs.Waking.{first-same, no-match, Runs, by-runner}
+use Rattle.kernel.proofs.Calls.{kept, lost-same, Agrees, calm-arbitrated, agrees-attempt}
+use Rattle.kernel.proofs.Waking.{first-same, no-match, by-runner}
 
 -- a Bool is what another is if each follows from the other
 iff-bool : (a b : Bool) → (a ≡ true → b ≡ true) → (b ≡ true → a ≡ true) → a ≡ b

@@ -7,24 +7,22 @@
 -- Assumes nothing.
 use Prim.Native.Nat.{ℕ, zero, suc, _+_, _-_, _≤_, _<_}
 use mathlib.Core.Path.{_≡_, refl, sym, ap, ap₂, _∙_}
-use mathlib.Core.Logic.{_≢_}
-use mathlib.Core.Bool.{Bool, true, false}
+use mathlib.Core.Bool.{Bool, false}
 use mathlib.Core.List.{List, [], _∷_, _++_, map}
 use native.Mathlib.Nat.{zero-add, add-zero}
 use native.Mathlib.Omega.{arith}
 use lib.ListN.{length, getD, set, take, drop, length-append, length-take, length-drop, length-map, length-set, List·getD-map}
 use lib.Seq.{getD-set-same, getD-set-other, drop-cons}
-use Rattle.number.proofs.Cases.{by-eq, by-lt}
+use Rattle.number.proofs.Cases.{by-eq}
 use Rattle.config.specs.declared.Config.{Config}
 use Rattle.config.specs.Meaning.{firstOf, offsets}
 use Rattle.config.proofs.Tables.{firstOf-step, firstOf-rises, firstOf-zero}
 use Rattle.plan.specs.declared.Plan.{Plan}
 use Rattle.cell.specs.declared.Cell.{Cell}
 use Rattle.cell.specs.Cell.{unmarked, ticked}
-use Rattle.cell.specs.Due.{due, OnTime}
 use Rattle.cell.proofs.Theorems.{off-ticked-same, on-time-matched, on-time-counter}
 use Rattle.scheduler.specs.State.{Table, stopped, running, State}
-use Rattle.scheduler.specs.Tick.{counting, entryDue, duesFrom, dues, counted}
+use Rattle.scheduler.specs.Tick.{counting, entryDue, duesFrom, dues}
 use Rattle.kernel.specs.Cells.{cellAt, countersTicked, marks}
 use Rattle.kernel.proofs.Simulation.{Fitted, CellFits, Timed}
 

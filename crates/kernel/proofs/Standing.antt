@@ -1,23 +1,21 @@
 -- Who runs, from how the started bodies stand: the runner of the chain, nobody, or a newcomer above the level.
 -- Assumes nothing.
-use Prim.Native.Nat.{ℕ, zero, suc, _+_, _*_, _≤_, _<_}
+use Prim.Native.Nat.{ℕ, _+_, _*_, _≤_, _<_}
 use mathlib.Core.Path.{_≡_, refl, sym, ap, _∙_}
 use mathlib.Core.Logic.{_≢_}
-use mathlib.Core.Bool.{Bool, true, false, true≢false, cond, _||_}
+use mathlib.Core.Bool.{true, false, true≢false}
 use mathlib.Core.List.{List, [], _∷_}
 use native.Mathlib.Omega.{arith}
-use borrow.Author.Tests.{eq-eqb, ne-eqb}
-use lib.Dec.{eqb}
-use lib.ListN.{length, getD}
+use borrow.Author.Tests.{ne-eqb}
+use lib.ListN.{length}
 use Rattle.number.proofs.Cases.{by-eq}
 use Rattle.config.specs.declared.Config.{Config}
 use Rattle.config.specs.Meaning.{priorityOf}
 use Rattle.scheduler.specs.Body.{Phase, suspended, ready, started, isSuspended, isStarted, Body, current}
-use Rattle.scheduler.specs.Choice.{Candidate, nobody, isNobody, goesBefore, chosen}
-use Rattle.scheduler.specs.State.{noBody, among}
+use Rattle.scheduler.specs.Choice.{nobody, chosen}
+use Rattle.scheduler.specs.State.{among}
 use Rattle.scheduler.specs.Call.{requestWaits}
-use Rattle.scheduler.specs.Scheduler.{markOf}
-use Rattle.scheduler.proofs.Choosing.{contender, weight, weight-before, chosen-best, chosen-nobody, current-own, current-free, candidate-active}
+use Rattle.scheduler.proofs.Choosing.{contender, weight, weight-before, chosen-best, chosen-nobody, current-own, candidate-active}
 use Rattle.kernel.proofs.Simulation.{at, levelAt, Chained, Calm}
 
 -- b is the first of the list, or stands further on

@@ -1,14 +1,14 @@
 -- Get: the runner takes a resource that nobody holds, and runs at its ceiling.
 -- Assumes nothing.
-use Prim.Native.Nat.{ℕ, zero, suc, _+_, max, _<_, _≤_}
+use Prim.Native.Nat.{ℕ, _+_, max, _<_}
 use mathlib.Core.Path.{_≡_, refl, sym, ap, ap₂, _∙_}
 use mathlib.Core.Logic.{_≢_}
-use mathlib.Core.Bool.{Bool, true, false, true≢false, _||_}
-use mathlib.Core.List.{List, [], _∷_, _++_, map}
+use mathlib.Core.Bool.{true, false, true≢false}
+use mathlib.Core.List.{List, _∷_, _++_}
 use native.Mathlib.Omega.{arith}
 use borrow.Author.Tests.{eq-eqb, ne-eqb}
 use lib.Dec.{eqb}
-use lib.ListN.{length, getD, set, length-set}
+use lib.ListN.{getD, set, length-set}
 use lib.Seq.{getD-set-same, getD-set-other}
 use Rattle.number.proofs.Cases.{by-eq}
 use Rattle.config.specs.declared.Config.{Config}
@@ -19,8 +19,8 @@ use Rattle.scheduler.specs.State.{noBody, among}
 use Rattle.kernel.specs.declared.machine.Model.{Model}
 use Rattle.kernel.specs.Model.{noRank, withLevel}
 use Rattle.kernel.specs.Resources.{taking}
-use Rattle.kernel.proofs.Views.{Frame, frame, below, framesIn, framesOf, Slot, slot, slotsIn, slotsOf, slots-push}
-use Rattle.kernel.proofs.Simulation.{Fitted, at, wants, Words, framesFor, levelAt, Chained, Running, slotsFor, slotsAlong, Distinct, trues, resourcesIn, Holding, Tied}
+use Rattle.kernel.proofs.Views.{Frame, frame, Slot, slot, slots-push}
+use Rattle.kernel.proofs.Simulation.{Fitted, at, wants, Words, framesFor, Chained, Running, slotsFor, slotsAlong, Distinct, Holding, Tied}
 use Rattle.kernel.proofs.Chains.{Alike, framesFor-alike, levelAt-alike, chained-alike, slotsAlong-alike, TopIs, frames-top}
 use Rattle.kernel.proofs.Standing.{chain-other, waits-same}
 use Rattle.kernel.proofs.Marks.{trues-lt, trues-set}

@@ -4,7 +4,7 @@
 -- That the scheduler's d and n are the Ticks counted from a table's last accepted Start until its next accepted Stop stands in the crate
 -- `scheduler` (`table-history` of its Theorems), over the list of events itself. Assumes nothing.
 use Prim.Native.Nat.{ℕ, max}
-use mathlib.Core.Path.{_≡_, refl, _∙_}
+use mathlib.Core.Path.{_≡_, refl}
 use mathlib.Core.Logic.{_≢_}
 use mathlib.Core.Bool.{false}
 use mathlib.Core.List.{List}

@@ -1,33 +1,33 @@
 -- Tick does the same to the model as to the state: a match is a due entry, and what it asks for or loses is the same.
 -- Assumes nothing.
-use Prim.Native.Nat.{ℕ, zero, suc, _+_, min, _≤_, _<_}
+use Prim.Native.Nat.{ℕ, suc, _+_, _≤_, _<_}
 use mathlib.Core.Path.{_≡_, refl, sym, ap, ap₂, _∙_}
 use mathlib.Core.Logic.{_≢_}
-use mathlib.Core.Bool.{Bool, true, false, true≢false, cond, not, _||_}
+use mathlib.Core.Bool.{Bool, true, false, true≢false, not, _||_}
 use mathlib.Core.List.{List, [], _∷_, map}
 use native.Mathlib.Omega.{arith}
 use lib.ListN.{length, getD, set, drop, length-set, length-map}
 use lib.Seq.{getD-set-same, getD-set-other, drop-cons}
 use Rattle.number.proofs.Cases.{by-eq}
 use Rattle.config.specs.declared.Config.{Config}
-use Rattle.config.specs.Meaning.{isTask, firstOf}
+use Rattle.config.specs.Meaning.{isTask}
 use Rattle.plan.specs.declared.Plan.{Plan}
-use Rattle.word.specs.Word.{has, with}
+use Rattle.word.specs.Word.{has}
 use Rattle.scheduler.specs.Status.{done}
-use Rattle.scheduler.specs.Body.{Phase, suspended, ready, started, isSuspended, isStarted, Body, become, loses, activatedByEntry, mostLosses}
-use Rattle.scheduler.specs.State.{State, noBody, bodyOf, changing}
+use Rattle.scheduler.specs.Body.{Phase, suspended, ready, started, isSuspended, isStarted, Body, become, loses, activatedByEntry}
+use Rattle.scheduler.specs.State.{State, noBody, changing}
 use Rattle.scheduler.specs.Call.{requestWaits}
-use Rattle.scheduler.specs.Tick.{counting, counted, dues, duesFrom, activatingDue}
+use Rattle.scheduler.specs.Tick.{counting, counted, dues, activatingDue}
 use Rattle.scheduler.specs.Tick as Plain
-use Rattle.scheduler.specs.Scheduler.{Tick, step, ending}
+use Rattle.scheduler.specs.Scheduler.{Tick, step}
 use Rattle.scheduler.proofs.Changing.{tables-ticked}
 use Rattle.kernel.specs.declared.machine.Model.{Model}
 use Rattle.kernel.specs.Model.{withCore, withRequest}
-use Rattle.kernel.specs.Arbiter.{settled, requesting}
-use Rattle.kernel.specs.Cells.{Due, oneMore, matchAt, requestsDue, marks, countersTicked}
-use Rattle.kernel.specs.Events.{busy, marksOf, dueOf, ticking, tickedOnce}
+use Rattle.kernel.specs.Arbiter.{settled}
+use Rattle.kernel.specs.Cells.{Due, oneMore, matchAt, requestsDue, countersTicked}
+use Rattle.kernel.specs.Events.{marksOf, dueOf, ticking, tickedOnce}
 use Rattle.kernel.specs.Machine.{machineStep, matched}
-use Rattle.kernel.proofs.Simulation.{Fitted, at, wants, Tied, Lost, Sim}
+use Rattle.kernel.proofs.Simulation.{Fitted, at, Tied, Lost, Sim}
 use Rattle.kernel.proofs.Standing.{by-phase}
 use Rattle.kernel.proofs.Touching.{withRest, elsewhere, woken-tied, lost-tied}
 use Rattle.kernel.proofs.Arbitration.{settled-tied}

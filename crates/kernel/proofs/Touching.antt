@@ -10,7 +10,7 @@ use mathlib.Core.Logic.{_≢_}
 use mathlib.Core.Bool.{Bool, true, false, true≢false}
 use mathlib.Core.List.{List}
 use native.Mathlib.Omega.{arith}
-use lib.ListN.{length, getD, set, length-set}
+use lib.ListN.{set, length-set}
 use lib.Seq.{getD-set-same, getD-set-other}
 use Rattle.number.proofs.Cases.{by-eq}
 use Rattle.config.specs.declared.Config.{Config}
@@ -18,12 +18,12 @@ use Rattle.plan.specs.declared.Plan.{Plan}
 use Rattle.word.specs.Word.{has, with}
 use Rattle.word.proofs.Theorems.{has-with-same, has-with-other, with-lt}
 use Rattle.scheduler.specs.Body.{Body, isStarted, Phase, suspended, ready, started, become, requested, loses}
-use Rattle.scheduler.specs.State.{noBody, among}
+use Rattle.scheduler.specs.State.{noBody}
 use Rattle.kernel.specs.declared.machine.Model.{Model}
 use Rattle.kernel.specs.Model.{withCore, withRequest}
 use Rattle.kernel.specs.Arbiter.{requesting}
-use Rattle.kernel.proofs.Simulation.{Fitted, at, wants, Words, Running, Holding, Tied}
-use Rattle.kernel.proofs.Chains.{Alike, AlikeAlong, framesFor-alike, chained-alike, slotsAlong-alike}
+use Rattle.kernel.proofs.Simulation.{Fitted, at, wants, Tied}
+use Rattle.kernel.proofs.Chains.{Alike, framesFor-alike, chained-alike, slotsAlong-alike}
 use Rattle.kernel.proofs.Standing.{waits-same}
 
 -- the cells and the losses of a model replaced

@@ -1,26 +1,26 @@
 -- Activate, Line, Finish and Chain do the same to the model as to the state.
 -- Assumes nothing.
-use Prim.Native.Nat.{ℕ, zero, suc, _+_, _≤_, _<_}
+use Prim.Native.Nat.{ℕ, _<_}
 use mathlib.Core.Path.{_≡_, refl, sym, ap, ap₂, _∙_}
 use mathlib.Core.Logic.{_≢_}
 use mathlib.Core.Bool.{Bool, true, false, true≢false, cond, not, _&&_, _||_}
 use mathlib.Core.List.{List, [], _∷_}
 use native.Mathlib.Omega.{arith}
-use borrow.Author.Tests.{lt-ltb, le-ltb, eq-eqb, ne-eqb, ltb-true, not-false}
+use borrow.Author.Tests.{eq-eqb, ne-eqb, ltb-true, not-false}
 use lib.Dec.{ltb, eqb}
-use lib.ListN.{length, getD, set, replicate, length-set}
+use lib.ListN.{length, getD, replicate, length-set}
 use lib.Seq.{getD-set-same, getD-set-other}
 use Rattle.number.proofs.Cases.{by-eq}
 use Rattle.config.specs.declared.Config.{Config}
-use Rattle.config.specs.Meaning.{isr, isTask, isIsr}
+use Rattle.config.specs.Meaning.{isTask, isIsr}
 use Rattle.plan.specs.declared.Plan.{Plan}
 use Rattle.word.specs.Word.{has}
-use Rattle.scheduler.specs.Status.{Check, done, _gives_, firstOf, callLevel, noSuch, limit, holdsResource}
+use Rattle.scheduler.specs.Status.{Check, _gives_, firstOf, callLevel, noSuch, limit, holdsResource}
 use Rattle.scheduler.specs.Body.{Phase, suspended, ready, started, isSuspended, isStarted, Body, become, finished, requested}
 use Rattle.scheduler.specs.State.{State, noBody, bodyOf}
 use Rattle.scheduler.specs.Call.{nobodyRuns, caller, calling, holds, active, requestWaits, activateStatus, finishStatus, chainStatus, lineStatus, activate, finish, chain, line}
 use Rattle.scheduler.specs.Tick.{dues}
-use Rattle.scheduler.specs.Scheduler.{Activate, Finish, Chain, Line, step, noneDue, dispatched}
+use Rattle.scheduler.specs.Scheduler.{Activate, Finish, Chain, Line, step, noneDue}
 use Rattle.scheduler.proofs.Checks.{activate-passed, finish-passed, chain-passed, line-passed}
 use Rattle.kernel.specs.declared.machine.Model.{Model}
 use Rattle.kernel.specs.Model.{noRank}
@@ -29,13 +29,12 @@ use Rattle.kernel.specs.Resources.{holding}
 use Rattle.kernel.specs.Events as Machine
 use Rattle.kernel.specs.Events.{activated, finished as endedBy, chained, lined, idles, busy}
 use Rattle.kernel.specs.Machine.{machineStep, matched}
-use Rattle.kernel.proofs.Simulation.{Fitted, at, wants, Words, Chained, Tied, Sim}
-use Rattle.kernel.proofs.Standing.{by-phase}
+use Rattle.kernel.proofs.Simulation.{Fitted, at, wants, Tied, Sim}
 use Rattle.kernel.proofs.Arbitration.{settled-tied}
 use Rattle.kernel.proofs.Touching.{woken-tied, requested-tied}
 use Rattle.kernel.proofs.Leaving.{left-tied}
 use Rattle.kernel.proofs.Freeing.{holding-is}
-use Rattle.kernel.proofs.Calls.{kept, lost-same, Agrees, Accepted, Who, idle, busy as running, who, agrees-attempt}
+use Rattle.kernel.proofs.Calls.{kept, lost-same, Agrees, Who, idle, busy as running, who, agrees-attempt}
 
 -- the same tests in the same order give the same status
 pub first-same : (a a′ : Bool) (st : ℕ) (ks ks′ : List Check) → a ≡ a′ → (a′ ≡ false → firstOf ks ≡ firstOf ks′)

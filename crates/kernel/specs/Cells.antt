@@ -10,7 +10,7 @@ use mathlib.Core.Bool.{Bool, true, false, cond, _||_}
 use mathlib.Core.List.{List, [], _∷_}
 use lib.ListN.{getD, set}
 use Rattle.cell.specs.declared.Cell.{Cell}
-use Rattle.cell.specs.Cell.{unmarked, startCell, ticked, stopped}
+use Rattle.cell.specs.Cell.{unmarked, startCell, ticked}
 use Rattle.word.specs.Word.{has, with}
 
 -- the cell of entry e

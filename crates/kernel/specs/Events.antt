@@ -1,18 +1,17 @@
 -- The machine's nine events: each one's status "in order", and the next model with its answer.
 --
 -- ps are the priorities by rank, trs and lrs the ranks of tasks and of ISRs by body, as the plan has them. Assumes nothing.
-use Prim.Native.Nat.{ℕ, suc, _+_, max}
+use Prim.Native.Nat.{ℕ, _+_, max}
 use mathlib.Core.Bool.{Bool, true, false, cond, not, _&&_, _||_}
 use mathlib.Core.List.{List, [], _∷_}
 use lib.Dec.{ltb, leb, eqb}
-use lib.ListN.{getD, take}
+use lib.ListN.{getD}
 use Rattle.scheduler.specs.Status.{done, callLevel, noSuch, limit, access, noFunction, holdsResource, alreadyRuns, badDelay, _gives_, firstOf}
 use Rattle.scheduler.specs.Call.{longestDelay}
-use Rattle.word.specs.Word.{has, with}
-use Rattle.kernel.specs.declared.machine.Core.{Core}
+use Rattle.word.specs.Word.{has}
 use Rattle.kernel.specs.declared.machine.Model.{Model}
 use Rattle.kernel.specs.declared.machine.Outcome.{Outcome}
-use Rattle.kernel.specs.Model.{noRank, withCore, withRequest, withCells, doneWith, refusedWith}
+use Rattle.kernel.specs.Model.{noRank, withRequest, withCells, doneWith, refusedWith}
 use Rattle.kernel.specs.Arbiter.{settled, leaving, requesting}
 use Rattle.kernel.specs.Resources.{holding, latest, taking, freeing}
 use Rattle.kernel.specs.Cells.{countersTicked, marks, countersStarted, countersStopped, switched, Due, requestsDue}

@@ -46,11 +46,13 @@ pub struct Picked {
     pub begun: bool,
 }
 
+// What the machine keeps between events. It goes by value, and is copied in parts of at most 128
+// bytes, which need no call: so no number stands between the arrays.
 pub struct Model {
     pub core: Core,
+    pub slots: usize,
     pub stack: [u8; 32],
     pub levels: [u8; 32],
-    pub slots: usize,
     pub resource: [u8; 16],
     pub holder: [u8; 16],
     pub raised: [u8; 16],

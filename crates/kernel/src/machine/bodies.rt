@@ -26,7 +26,12 @@ use word::has;
 use word::with;
 
 impl Model {
-    pub fn activate<'a>(self, task_rank: &'a [u8; 32], priority: &'a [u8; 32], t: u32) -> Outcome
+    pub fn activate<'a>(
+        mut self,
+        task_rank: &'a [u8; 32],
+        priority: &'a [u8; 32],
+        t: u32,
+    ) -> Outcome
         requires { ⌜ Roomy self ⌝ }
         ensures { λ r. ⌜ r ≡ activated (now («task_rank» .entry)) (now (priority .entry)) self t ⌝ }
     {
@@ -54,20 +59,19 @@ impl Model {
             };
         }
         let picked = requested(core, rank, priority);
-        let mut m = self;
         let top = core.depth;
-        m.stack[top] = core.runner;
-        m.levels[top] = core.level;
+        self.stack[top] = core.runner;
+        self.levels[top] = core.level;
         let k = picked.core;
-        m.core = k;
+        self.core = k;
         Outcome {
-            model: m,
+            model: self,
             status: DONE,
             begun: picked.begun,
         }
     }
 
-    pub fn finish(self, priority: &[u8; 32]) -> Outcome
+    pub fn finish(mut self, priority: &[u8; 32]) -> Outcome
         requires { ⌜ Roomy self ⌝ }
         ensures { λ r. ⌜ r ≡ finished (now (priority .entry)) self ⌝ }
     {
@@ -86,23 +90,22 @@ impl Model {
                 begun: false,
             };
         }
-        let mut m = self;
-        let below = popped(core, &m.stack, &m.levels);
+        let below = popped(core, &self.stack, &self.levels);
         let picked = arbitrated(below, priority);
         let top = below.depth;
-        m.stack[top] = below.runner;
-        m.levels[top] = below.level;
+        self.stack[top] = below.runner;
+        self.levels[top] = below.level;
         let k = picked.core;
-        m.core = k;
+        self.core = k;
         Outcome {
-            model: m,
+            model: self,
             status: DONE,
             begun: picked.begun,
         }
     }
 
     pub fn chain<'a>(
-        self,
+        mut self,
         isrs: u32,
         task_rank: &'a [u8; 32],
         priority: &'a [u8; 32],
@@ -141,22 +144,21 @@ impl Model {
                 begun: false,
             };
         }
-        let mut m = self;
-        let below = popped(core, &m.stack, &m.levels);
+        let below = popped(core, &self.stack, &self.levels);
         let picked = requested(below, rank, priority);
         let top = below.depth;
-        m.stack[top] = below.runner;
-        m.levels[top] = below.level;
+        self.stack[top] = below.runner;
+        self.levels[top] = below.level;
         let k = picked.core;
-        m.core = k;
+        self.core = k;
         Outcome {
-            model: m,
+            model: self,
             status: DONE,
             begun: picked.begun,
         }
     }
 
-    pub fn line<'a>(self, line_rank: &'a [u8; 32], priority: &'a [u8; 32], i: u32) -> Outcome
+    pub fn line<'a>(mut self, line_rank: &'a [u8; 32], priority: &'a [u8; 32], i: u32) -> Outcome
         requires { ⌜ Roomy self ⌝ }
         ensures { λ r. ⌜ r ≡ lined (now («line_rank» .entry)) (now (priority .entry)) self i ⌝ }
     {
@@ -177,14 +179,13 @@ impl Model {
             };
         }
         let picked = requested(core, rank, priority);
-        let mut m = self;
         let top = core.depth;
-        m.stack[top] = core.runner;
-        m.levels[top] = core.level;
+        self.stack[top] = core.runner;
+        self.levels[top] = core.level;
         let k = picked.core;
-        m.core = k;
+        self.core = k;
         Outcome {
-            model: m,
+            model: self,
             status: DONE,
             begun: picked.begun,
         }

@@ -25,7 +25,7 @@ use super::row::put_flag;
 
 impl Model {
     pub fn get<'a>(
-        self,
+        mut self,
         resources: u8,
         ceiling: &'a [u8; 16],
         priority: &'a [u8; 32],
@@ -60,21 +60,20 @@ impl Model {
         }
         let level = higher(top, core.level);
         let slots = self.slots;
-        let mut m = self;
-        put_byte(&mut m.resource, slots, r as u8);
-        put_byte(&mut m.holder, slots, core.runner);
-        put_byte(&mut m.raised, slots, level);
-        put_flag(&mut m.held, r as usize, true);
-        m.slots = slots + 1;
-        m.core.level = level;
+        put_byte(&mut self.resource, slots, r as u8);
+        put_byte(&mut self.holder, slots, core.runner);
+        put_byte(&mut self.raised, slots, level);
+        put_flag(&mut self.held, r as usize, true);
+        self.slots = slots + 1;
+        self.core.level = level;
         Outcome {
-            model: m,
+            model: self,
             status: DONE,
             begun: false,
         }
     }
 
-    pub fn release(self, resources: u8, priority: &[u8; 32], r: u32) -> Outcome
+    pub fn release(mut self, resources: u8, priority: &[u8; 32], r: u32) -> Outcome
         requires { ⌜ Roomy self ⌝ }
         ensures { λ o. ⌜ o ≡ released resources (now (priority .entry)) self r ⌝ }
     {
@@ -103,16 +102,15 @@ impl Model {
         }
         let level = level_below(&self.holder, &self.raised, slots - 1, core.runner, priority);
         let picked = arbitrated(at_level(core, level), priority);
-        let mut m = self;
         let top = core.depth;
-        m.stack[top] = core.runner;
-        m.levels[top] = level;
-        m.slots = slots - 1;
-        put_flag(&mut m.held, r as usize, false);
+        self.stack[top] = core.runner;
+        self.levels[top] = level;
+        self.slots = slots - 1;
+        put_flag(&mut self.held, r as usize, false);
         let k = picked.core;
-        m.core = k;
+        self.core = k;
         Outcome {
-            model: m,
+            model: self,
             status: DONE,
             begun: picked.begun,
         }

@@ -29,7 +29,7 @@ use super::row::short_at;
 
 impl Model {
     pub fn tick<'a>(
-        self,
+        mut self,
         count: u8,
         compare: &'a [u16; 64],
         entry_rank: &'a [u8; 64],
@@ -42,34 +42,32 @@ impl Model {
         let n = count as usize;
         let core = self.core;
         let on = self.on;
+        // Lent in place, the counters would make every event's copy of the model a call of memcpy.
         let mut counter = self.counter;
-        let mut losses = self.losses;
         let matched = tick_cells(n, compare, &on, &mut counter);
         let request = take_matches(
             &matched[..n],
             entry_rank,
             core.started,
             core.request,
-            &mut losses,
+            &mut self.losses,
         );
         let picked = arbitrated(asking(core, request), priority);
-        let mut m = self;
-        m.counter = counter;
-        m.losses = losses;
+        self.counter = counter;
         let top = core.depth;
-        m.stack[top] = core.runner;
-        m.levels[top] = core.level;
+        self.stack[top] = core.runner;
+        self.levels[top] = core.level;
         let k = picked.core;
-        m.core = k;
+        self.core = k;
         Outcome {
-            model: m,
+            model: self,
             status: DONE,
             begun: picked.begun,
         }
     }
 
     pub fn start<'a>(
-        self,
+        mut self,
         tables: u8,
         first: &'a [u8; 8],
         largest: &'a [u16; 8],
@@ -116,19 +114,22 @@ impl Model {
         let n = byte_at(entries, i, 0) as usize;
         let mut counter = self.counter;
         start_counters(from, n, short_at(period, i), d as u16, offset, &mut counter);
-        let mut on = self.on;
-        switch(from, n, true, &mut on);
-        let mut m = self;
-        m.counter = counter;
-        m.on = on;
+        switch(from, n, true, &mut self.on);
+        self.counter = counter;
         Outcome {
-            model: m,
+            model: self,
             status: DONE,
             begun: false,
         }
     }
 
-    pub fn stop<'a>(self, tables: u8, first: &'a [u8; 8], entries: &'a [u8; 8], t: u32) -> Outcome
+    pub fn stop<'a>(
+        mut self,
+        tables: u8,
+        first: &'a [u8; 8],
+        entries: &'a [u8; 8],
+        t: u32,
+    ) -> Outcome
         requires { ⌜ Laid tables (now first) (now entries) ⌝ }
         ensures { λ r. ⌜ r ≡ halted tables (now (first .entry)) (now (entries .entry)) self t ⌝ }
     {
@@ -158,13 +159,10 @@ impl Model {
         let n = byte_at(entries, i, 0) as usize;
         let mut counter = self.counter;
         stop_counters(from, n, &mut counter);
-        let mut on = self.on;
-        switch(from, n, false, &mut on);
-        let mut m = self;
-        m.counter = counter;
-        m.on = on;
+        switch(from, n, false, &mut self.on);
+        self.counter = counter;
         Outcome {
-            model: m,
+            model: self,
             status: DONE,
             begun: false,
         }

@@ -7,34 +7,45 @@ use Rattle.kernel.proofs.machine.Model.finish.Statement.{statement}
 use Rattle.kernel.proofs.machine.Model.finish.Tie as tie
 
 returns : tie.Need-returns
-returns c = let a = c .before .before .before .args in finish-idle (a .priority .now) (a .t1) (c .if1 .taken)
+returns c = let a = c .before .before .before .args in
+    finish-idle (a .priority .now) (a .t1) (c .if1 .taken)
 
 own-slot-requires : tie.Need-own-slot-requires
 own-slot-requires c κs = search needs
 
 returns-2 : tie.Need-returns-2
-returns-2 c = let a = c .before .before .before .before .before .before .before .args in
-    finish-holding (a .priority .now) (a .t1) (c .before .before .before .before .if1 .left) (c .before .own-slot .ensures) (c .if2 .taken)
+returns-2 c =
+    let c₁ = c .before in let c₂ = c₁ .before .before .before in let c₃ = c₂ .before .before .before in
+    let a = c₃ .args in
+    finish-holding (a .priority .now) (a .t1) (c₂ .if1 .left) (c₁ .own-slot .ensures) (c .if2 .taken)
 
 popped-requires : tie.Need-popped-requires
 popped-requires c κs = search needs
 
 arbitrated-requires : tie.Need-arbitrated-requires
-arbitrated-requires c κs = let s = c .before .before .before .before .before .before .before .before .before .before .before in let m = s .args .t1 in
-    popped-lt (m .stack) (m .levels) (m .core) (c .popped .ensures) (s .pre .stack)
+arbitrated-requires c κs =
+    let c₁ = c .before .before .before .before .before .before .before .before .before .before .before in
+    let m = c₁ .args .t1 in popped-lt (m .stack) (m .levels) (m .core) (c .popped .ensures) (c₁ .pre .stack)
 
-element-write-m : tie.Need-element-write-m
-element-write-m c = let s = c .before .before .before .before .before .before .before .before .before .before .before .before in let m = s .args .t1 in
-    popped-lt (m .stack) (m .levels) (m .core) (c .before .popped .ensures) (s .pre .stack)
+element-write-self : tie.Need-element-write-self
+element-write-self c =
+    let c₁ = c .before in
+    let c₂ = c₁ .before .before .before .before .before .before .before .before .before .before .before in
+    let m = c₂ .args .t1 in popped-lt (m .stack) (m .levels) (m .core) (c₁ .popped .ensures) (c₂ .pre .stack)
 
-element-write-m-2 : tie.Need-element-write-m-2
-element-write-m-2 c = let s = c .before .before .before .before .before .before .before .before .before .before .before .before in let m = s .args .t1 in
-    popped-lt (m .stack) (m .levels) (m .core) (c .before .popped .ensures) (s .pre .stack)
+element-write-self-2 : tie.Need-element-write-self-2
+element-write-self-2 c =
+    let c₁ = c .before in
+    let c₂ = c₁ .before .before .before .before .before .before .before .before .before .before .before in
+    let m = c₂ .args .t1 in popped-lt (m .stack) (m .levels) (m .core) (c₁ .popped .ensures) (c₂ .pre .stack)
 
 returns-3 : tie.Need-returns-3
-returns-3 c = let a = c .before .before .before .before .before .before .before .before .before .before .before .before .before .args in
-    finish-done (a .priority .now) (a .t1) (c .before .before .before .before .before .before .before .before .before .before .if1 .left) (c .before .before .before .before .before .before .before .own-slot .ensures) (c .before .before .before .before .before .before .if2 .left)
-    (c .before .before .popped .ensures) (c .before .arbitrated .ensures)
+returns-3 c =
+    let c₁ = c .before in let c₂ = c₁ .before in let c₃ = c₂ .before .before .before .before in
+    let c₄ = c₃ .before in let c₅ = c₄ .before .before .before in let c₆ = c₅ .before .before .before in
+    let a = c₆ .args in
+    finish-done (a .priority .now) (a .t1) (c₅ .if1 .left)
+    (c₄ .own-slot .ensures) (c₃ .if2 .left) (c₂ .popped .ensures) (c₁ .arbitrated .ensures)
 
 pub finish-spec : {M : Type 1} → statement M
 finish-spec =
@@ -45,6 +56,6 @@ finish-spec =
     returns-2
     popped-requires
     arbitrated-requires
-    element-write-m
-    element-write-m-2
+    element-write-self
+    element-write-self-2
     returns-3)

@@ -26,9 +26,12 @@ withheld-requires : tie.Need-withheld-requires
 withheld-requires c κs = search needs
 
 returns-3 : tie.Need-returns-3
-returns-3 c = let a = c .before .before .before .before .before .before .before .before .before .before .before .before .before .args in
-    get-withheld (a .resources) (a .ceiling .now) (a .priority .now) (a .t1) (a .r) (c .before .before .before .before .before .before .before .before .before .before .if1 .left) (c .before .before .before .before .before .before .before .before .before .if2 .left)
-    (c .before .before .before .before .before .before .before .byte-at .ensures) (c .before .before .before .before .byte-at2 .ensures) (c .before .withheld .ensures) (c .if3 .taken)
+returns-3 c =
+    let c₁ = c .before in let c₂ = c₁ .before .before .before in let c₃ = c₂ .before .before .before in
+    let c₄ = c₃ .before .before in let c₅ = c₄ .before in let c₆ = c₅ .before .before .before in
+    let a = c₆ .args in
+    get-withheld (a .resources) (a .ceiling .now) (a .priority .now) (a .t1) (a .r) (c₅ .if1 .left) (c₄ .if2 .left)
+    (c₃ .byte-at .ensures) (c₂ .byte-at2 .ensures) (c₁ .withheld .ensures) (c .if3 .taken)
 
 higher-requires : tie.Need-higher-requires
 higher-requires c κs = search needs
@@ -48,15 +51,21 @@ put-byte-requires-3 c κs = search needs
 put-flag-requires : tie.Need-put-flag-requires
 put-flag-requires c κs = search needs
 
-add-m : tie.Need-add-m
-add-m c = search needs
+add-self : tie.Need-add-self
+add-self c = search needs
 
 returns-4 : tie.Need-returns-4
-returns-4 c = let a = c .before .before .before .before .before .before .before .before .before .before .before .before .before .before .before .before .before .before .before .before .before .before .before .args in
+returns-4 c =
+    let c₁ = c .before in let c₂ = c₁ .before .before in let c₃ = c₂ .before .before in
+    let c₄ = c₃ .before .before in let c₅ = c₄ .before .before in let c₆ = c₅ .before in let c₇ = c₆ .before in
+    let c₈ = c₇ .before .before .before in let c₉ = c₈ .before .before .before in let c₁₀ = c₉ .before .before in
+    let c₁₁ = c₁₀ .before in let c₁₂ = c₁₁ .before .before .before in
+    let a = c₁₂ .args in
     get-done (a .resources) (a .ceiling .now) (a .priority .now) (a .t1) (a .r)
-    (c .before .before .before .before .before .before .before .before .before .before .before .before .before .before .before .before .before .before .before .before .if1 .left) (c .before .before .before .before .before .before .before .before .before .before .before .before .before .before .before .before .before .before .before .if2 .left)
-    (c .before .before .before .before .before .before .before .before .before .before .before .before .before .before .before .before .before .byte-at .ensures) (c .before .before .before .before .before .before .before .before .before .before .before .before .before .before .byte-at2 .ensures) (c .before .before .before .before .before .before .before .before .before .before .before .withheld .ensures) (c .before .before .before .before .before .before .before .before .before .before .if3 .left)
-    (c .before .before .before .before .before .before .before .before .before .higher .ensures) (c .before .before .before .before .before .before .before .put-byte .ensures) (c .before .before .before .before .before .put-byte2 .ensures) (c .before .before .before .put-byte3 .ensures) (c .before .put-flag .ensures)
+    (c₁₁ .if1 .left) (c₁₀ .if2 .left)
+    (c₉ .byte-at .ensures) (c₈ .byte-at2 .ensures) (c₇ .withheld .ensures) (c₆ .if3 .left)
+    (c₅ .higher .ensures) (c₄ .put-byte .ensures) (c₃ .put-byte2 .ensures)
+    (c₂ .put-byte3 .ensures) (c₁ .put-flag .ensures)
 
 pub get-spec : {M : Type 1} → statement M
 get-spec =
@@ -75,5 +84,5 @@ get-spec =
     put-byte-requires-2
     put-byte-requires-3
     put-flag-requires
-    add-m
+    add-self
     returns-4)

@@ -9,7 +9,8 @@ byte-at-requires : tie.Need-byte-at-requires
 byte-at-requires c κs = search needs
 
 returns : tie.Need-returns
-returns c = let a = c .before .before .before .before .args in line-none (a .line-rank .now) (a .priority .now) (a .self) (a .i) (c .before .byte-at .ensures) (c .if1 .taken)
+returns c = let a = c .before .before .before .before .args in
+    line-none (a .line-rank .now) (a .priority .now) (a .t1) (a .i) (c .before .byte-at .ensures) (c .if1 .taken)
 
 cast-has : tie.Need-cast-has
 cast-has c = search needs
@@ -18,22 +19,27 @@ has-requires : tie.Need-has-requires
 has-requires c κs = search needs
 
 returns-2 : tie.Need-returns-2
-returns-2 c = let a = c .before .before .before .before .before .before .args in
-    line-waits (a .line-rank .now) (a .priority .now) (a .self) (a .i) (c .before .before .before .byte-at .ensures) (c .before .before .if1 .left) (c .before .has .ensures) (c .if2 .taken)
+returns-2 c =
+    let c₁ = c .before in let c₂ = c₁ .before in let c₃ = c₂ .before in let c₄ = c₃ .before .before .before in
+    let a = c₄ .args in
+    line-waits (a .line-rank .now) (a .priority .now) (a .t1) (a .i) (c₃ .byte-at .ensures) (c₂ .if1 .left) (c₁ .has .ensures) (c .if2 .taken)
 
 requested-requires : tie.Need-requested-requires
 requested-requires c κs = search needs
 
-element-write-m : tie.Need-element-write-m
-element-write-m c = search needs
+element-write-self : tie.Need-element-write-self
+element-write-self c = search needs
 
-element-write-m-2 : tie.Need-element-write-m-2
-element-write-m-2 c = search needs
+element-write-self-2 : tie.Need-element-write-self-2
+element-write-self-2 c = search needs
 
 returns-3 : tie.Need-returns-3
-returns-3 c = let a = c .before .before .before .before .before .before .before .before .args in
-    line-done (a .line-rank .now) (a .priority .now) (a .self) (a .i) (c .before .before .before .before .before .byte-at .ensures) (c .before .before .before .before .if1 .left) (c .before .before .before .has .ensures) (c .before .before .if2 .left)
-    (c .before .requested .ensures)
+returns-3 c =
+    let c₁ = c .before in let c₂ = c₁ .before in let c₃ = c₂ .before in let c₄ = c₃ .before in
+    let c₅ = c₄ .before in let c₆ = c₅ .before .before .before in
+    let a = c₆ .args in
+    line-done (a .line-rank .now) (a .priority .now) (a .t1) (a .i) (c₅ .byte-at .ensures) (c₄ .if1 .left) (c₃ .has .ensures) (c₂ .if2 .left)
+    (c₁ .requested .ensures)
 
 pub line-spec : {M : Type 1} → statement M
 line-spec =
@@ -45,6 +51,6 @@ line-spec =
     has-requires
     returns-2
     requested-requires
-    element-write-m
-    element-write-m-2
+    element-write-self
+    element-write-self-2
     returns-3)

@@ -19,11 +19,19 @@ is-latest-requires : tie.Need-is-latest-requires
 is-latest-requires c κs = search needs
 
 returns-3 : tie.Need-returns-3
-returns-3 c = let a = c .before .before .before .before .before .before .before .before .before .args in
-    release-other (a .resources) (a .priority .now) (a .t1) (a .r) (c .before .before .before .before .before .before .if1 .left) (c .before .before .before .before .before .if2 .left) (c .before .is-latest .ensures) (not-true _ (c .if3 .taken))
+returns-3 c =
+    let c₁ = c .before in let c₂ = c₁ .before .before .before .before in let c₃ = c₂ .before in
+    let c₄ = c₃ .before .before .before in
+    let a = c₄ .args in
+    release-other (a .resources) (a .priority .now) (a .t1) (a .r)
+    (c₃ .if1 .left) (c₂ .if2 .left) (c₁ .is-latest .ensures) (not-true _ (c .if3 .taken))
 
 sub-level-below : tie.Need-sub-level-below
-sub-level-below c = let m = c .before .before .before .before .before .before .before .before .before .before .before .before .args .t1 in latest-some (m .resource) (m .holder) (m .slots) (m .core .runner) (c .before .before .before .before .before .before .before .before .before .before .before .before .args .r) (c .before .before .before .before .is-latest .ensures) (not-false _ (c .before .before .before .if3 .left))
+sub-level-below c =
+    let c₁ = c .before .before .before in let c₂ = c₁ .before in
+    let c₃ = c₂ .before .before .before .before .before .before .before .before in
+    let a = c₃ .args in let m = a .t1 in
+    latest-some (m .resource) (m .holder) (m .slots) (m .core .runner) (a .r) (c₂ .is-latest .ensures) (not-false _ (c₁ .if3 .left))
 
 level-below-requires : tie.Need-level-below-requires
 level-below-requires c κs = search needs
@@ -32,25 +40,35 @@ at-level-requires : tie.Need-at-level-requires
 at-level-requires c κs = search needs
 
 arbitrated-requires : tie.Need-arbitrated-requires
-arbitrated-requires c κs = rw (c .at-level .ensures) (c .before .before .before .before .before .before .before .before .before .before .before .before .before .before .pre .stack)
+arbitrated-requires c κs =
+    let c₁ = c .before .before .before .before .before .before .before .before .before .before .before .before .before .before in
+    rw (c .at-level .ensures) (c₁ .pre .stack)
 
-element-write-m : tie.Need-element-write-m
-element-write-m c = search needs
+element-write-self : tie.Need-element-write-self
+element-write-self c = search needs
 
-element-write-m-2 : tie.Need-element-write-m-2
-element-write-m-2 c = search needs
+element-write-self-2 : tie.Need-element-write-self-2
+element-write-self-2 c = search needs
 
-sub-m : tie.Need-sub-m
-sub-m c = let m = c .before .before .before .before .before .before .before .before .before .before .before .before .before .before .before .args .t1 in latest-some (m .resource) (m .holder) (m .slots) (m .core .runner) (c .before .before .before .before .before .before .before .before .before .before .before .before .before .before .before .args .r) (c .before .before .before .before .before .before .before .is-latest .ensures) (not-false _ (c .before .before .before .before .before .before .if3 .left))
+sub-self : tie.Need-sub-self
+sub-self c =
+    let c₁ = c .before .before .before .before .before .before in let c₂ = c₁ .before in
+    let c₃ = c₂ .before .before .before .before .before .before .before .before in
+    let a = c₃ .args in let m = a .t1 in
+    latest-some (m .resource) (m .holder) (m .slots) (m .core .runner) (a .r) (c₂ .is-latest .ensures) (not-false _ (c₁ .if3 .left))
 
 put-flag-requires : tie.Need-put-flag-requires
 put-flag-requires c κs = search needs
 
 returns-4 : tie.Need-returns-4
-returns-4 c = let a = c .before .before .before .before .before .before .before .before .before .before .before .before .before .before .before .before .before .before .args in
+returns-4 c =
+    let c₁ = c .before in let c₂ = c₁ .before .before in let c₃ = c₂ .before in let c₄ = c₃ .before in
+    let c₅ = c₄ .before .before .before .before in let c₆ = c₅ .before in
+    let c₇ = c₆ .before .before .before .before in let c₈ = c₇ .before in let c₉ = c₈ .before .before .before in
+    let a = c₉ .args in
     release-done (a .resources) (a .priority .now) (a .t1) (a .r)
-    (c .before .before .before .before .before .before .before .before .before .before .before .before .before .before .before .if1 .left) (c .before .before .before .before .before .before .before .before .before .before .before .before .before .before .if2 .left) (c .before .before .before .before .before .before .before .before .before .before .is-latest .ensures) (not-false _ (c .before .before .before .before .before .before .before .before .before .if3 .left))
-    (c .before .before .before .before .before .level-below .ensures) (c .before .before .before .before .at-level .ensures) (c .before .before .before .arbitrated .ensures) (c .before .put-flag .ensures)
+    (c₈ .if1 .left) (c₇ .if2 .left) (c₆ .is-latest .ensures) (not-false _ (c₅ .if3 .left))
+    (c₄ .level-below .ensures) (c₃ .at-level .ensures) (c₂ .arbitrated .ensures) (c₁ .put-flag .ensures)
 
 pub release-spec : {M : Type 1} → statement M
 release-spec =
@@ -64,8 +82,8 @@ release-spec =
     level-below-requires
     at-level-requires
     arbitrated-requires
-    element-write-m
-    element-write-m-2
-    sub-m
+    element-write-self
+    element-write-self-2
+    sub-self
     put-flag-requires
     returns-4)

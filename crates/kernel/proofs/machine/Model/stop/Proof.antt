@@ -24,8 +24,12 @@ flag-at-requires : tie.Need-flag-at-requires
 flag-at-requires c κs = search needs
 
 returns-3 : tie.Need-returns-3
-returns-3 c = let a = c .before .before .before .before .before .before .before .before .before .args in
-    stop-stopped (a .tables) (a .first .now) (a .entries .now) (a .t1) (a .t) (c .before .before .before .before .before .before .before .before .if1 .left) (c .before .before .before .before .before .before .before .if2 .left) (c .before .before .before .before .before .byte-at .ensures) (c .before .flag-at .ensures) (not-true _ (c .if3 .taken))
+returns-3 c =
+    let c₁ = c .before in let c₂ = c₁ .before .before .before .before in let c₃ = c₂ .before .before in
+    let c₄ = c₃ .before in let c₅ = c₄ .before in
+    let a = c₅ .args in
+    stop-stopped (a .tables) (a .first .now) (a .entries .now) (a .t1) (a .t)
+    (c₄ .if1 .left) (c₃ .if2 .left) (c₂ .byte-at .ensures) (c₁ .flag-at .ensures) (not-true _ (c .if3 .taken))
 
 byte-at-requires-2 : tie.Need-byte-at-requires-2
 byte-at-requires-2 c κs = search needs
@@ -34,18 +38,29 @@ cast-n : tie.Need-cast-n
 cast-n c = search needs
 
 stop-counters-requires : tie.Need-stop-counters-requires
-stop-counters-requires c κs = let a = c .before .before .before .before .before .before .before .before .before .before .before .before .before .args in
-    entries-within (a .tables) (a .first .now) (a .entries .now) (c .before .before .before .before .before .before .before .before .before .before .before .before .before .pre) (a .t) (c .before .before .before .before .before .before .before .before .before .before .before .if2 .left) (c .before .before .before .before .before .before .before .before .before .byte-at .ensures) (c .before .before .byte-at2 .ensures)
+stop-counters-requires c κs =
+    let c₁ = c .before .before in let c₂ = c₁ .before .before .before .before .before .before .before in
+    let c₃ = c₂ .before .before in let c₄ = c₃ .before .before in
+    let a = c₄ .args in
+    entries-within (a .tables) (a .first .now) (a .entries .now) (c₄ .pre) (a .t) (c₃ .if2 .left) (c₂ .byte-at .ensures) (c₁ .byte-at2 .ensures)
 
 switch-requires : tie.Need-switch-requires
-switch-requires c κs = let a = c .before .before .before .before .before .before .before .before .before .before .before .before .before .before .before .before .args in
-    entries-within (a .tables) (a .first .now) (a .entries .now) (c .before .before .before .before .before .before .before .before .before .before .before .before .before .before .before .before .pre) (a .t) (c .before .before .before .before .before .before .before .before .before .before .before .before .before .before .if2 .left) (c .before .before .before .before .before .before .before .before .before .before .before .before .byte-at .ensures) (c .before .before .before .before .before .byte-at2 .ensures)
+switch-requires c κs =
+    let c₁ = c .before .before .before .before in
+    let c₂ = c₁ .before .before .before .before .before .before .before in let c₃ = c₂ .before .before in
+    let c₄ = c₃ .before .before in
+    let a = c₄ .args in
+    entries-within (a .tables) (a .first .now) (a .entries .now) (c₄ .pre) (a .t) (c₃ .if2 .left) (c₂ .byte-at .ensures) (c₁ .byte-at2 .ensures)
 
 returns-4 : tie.Need-returns-4
-returns-4 c = let a = c .before .before .before .before .before .before .before .before .before .before .before .before .before .before .before .before .before .args in
+returns-4 c =
+    let c₁ = c .before .before in let c₂ = c₁ .before .before .before in let c₃ = c₂ .before .before in
+    let c₄ = c₃ .before in let c₅ = c₄ .before .before .before .before in let c₆ = c₅ .before .before in
+    let c₇ = c₆ .before in let c₈ = c₇ .before in
+    let a = c₈ .args in
     stop-done (a .tables) (a .first .now) (a .entries .now) (a .t1) (a .t)
-    (c .before .before .before .before .before .before .before .before .before .before .before .before .before .before .before .before .if1 .left) (c .before .before .before .before .before .before .before .before .before .before .before .before .before .before .before .if2 .left) (c .before .before .before .before .before .before .before .before .before .before .before .before .before .byte-at .ensures) (c .before .before .before .before .before .before .before .before .before .flag-at .ensures) (not-false _ (c .before .before .before .before .before .before .before .before .if3 .left))
-    (c .before .before .before .before .before .before .byte-at2 .ensures) (c .before .before .before .stop-counters .ensures) (c .switch .ensures)
+    (c₇ .if1 .left) (c₆ .if2 .left) (c₅ .byte-at .ensures) (c₄ .flag-at .ensures) (not-false _ (c₃ .if3 .left))
+    (c₂ .byte-at2 .ensures) (c₁ .stop-counters .ensures) (c .switch .ensures)
 
 pub stop-spec : {M : Type 1} → statement M
 stop-spec =

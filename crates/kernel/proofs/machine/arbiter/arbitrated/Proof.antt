@@ -17,7 +17,10 @@ byte-at-requires : tie.Need-byte-at-requires
 byte-at-requires c κs = search needs
 
 returns : tie.Need-returns
-returns c = let a = c .before .before .before .before .before .args in arbitrated-same (a .priority .now) (a .core) (c .before .before .before .before .winner .ensures) (c .before .before .byte-at .ensures) (c .if1 .taken)
+returns c =
+    let c₁ = c .before .before in let c₂ = c₁ .before .before in let c₃ = c₂ .before in
+    let a = c₃ .args in
+    arbitrated-same (a .priority .now) (a .core) (c₂ .winner .ensures) (c₁ .byte-at .ensures) (c .if1 .taken)
 
 without-requires : tie.Need-without-requires
 without-requires c κs = search needs
@@ -32,9 +35,12 @@ cast-t12 : tie.Need-cast-t12
 cast-t12 c = omega (arith, winner-le (c .before .before .before .before .before .before .before .before .args .core .request), c .before .before .before .before .before .before .before .winner .ensures)
 
 returns-2 : tie.Need-returns-2
-returns-2 c = let a = c .before .before .before .before .before .before .before .before .args in
-    arbitrated-above (a .priority .now) (a .core) (c .before .before .before .before .before .before .before .winner .ensures) (c .before .before .before .before .before .byte-at .ensures) (c .before .before .before .if1 .left)
-    (c .before .before .without .ensures) (c .before .with .ensures) (c .depth-above .ensures)
+returns-2 c =
+    let c₁ = c .before in let c₂ = c₁ .before in let c₃ = c₂ .before in let c₄ = c₃ .before .before in
+    let c₅ = c₄ .before .before in let c₆ = c₅ .before in
+    let a = c₆ .args in
+    arbitrated-above (a .priority .now) (a .core) (c₅ .winner .ensures) (c₄ .byte-at .ensures) (c₃ .if1 .left)
+    (c₂ .without .ensures) (c₁ .with .ensures) (c .depth-above .ensures)
 
 pub arbitrated-spec : {M : Type 1} → statement M
 arbitrated-spec =

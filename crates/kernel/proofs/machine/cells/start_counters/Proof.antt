@@ -12,7 +12,9 @@ use Rattle.kernel.proofs.machine.cells.start_counters.Tie as tie
 
 abbrev Inv-loop : tie.InvT-loop
 Inv-loop from count period delay offset counter₀ until e₀ counter e =
-    (from ≤ e) × ((e ≤ until) × (countersStarted (until - e) e period delay offset counter ≡ countersStarted count from period delay offset counter₀))
+    (from ≤ e)
+    × ((e ≤ until)
+    × (countersStarted (until - e) e period delay offset counter ≡ countersStarted count from period delay offset counter₀))
 
 abbrev μ-loop : tie.MeasureT-loop
 μ-loop from count period delay offset counter₀ until e₀ counter e = until - e
@@ -48,11 +50,19 @@ loop-less : tie.Need-loop-less Inv-loop μ-loop
 loop-less c = omega arith
 
 loop-again : tie.Need-loop-again Inv-loop μ-loop
-loop-again c = let a = c .before .before .before .before .args in let l = c .before .before .before .loop in
-    (omega arith, (omega arith, started-turn (a .from + a .count) (l .e) (a .period) (a .delay) (a .offset .now) (l .counter) (c .before .before .loop-test .taken) (ap (λ (k : Cell). k .counter) (c .start .ensures)) ∙ l .inv .1 .1))
+loop-again c = let a = c .before .before .before .before .args in let l = c .before .before .before .loop in (
+  omega arith,
+  (
+    omega arith,
+    started-turn (a .from + a .count) (l .e) (a .period) (a .delay) (a .offset .now) (l .counter) (c .before .before .loop-test .taken) (ap (λ (k : Cell). k .counter) (c .start .ensures))
+        ∙ l .inv .1 .1,
+  ),
+)
 
 returns : tie.Need-returns Inv-loop μ-loop
-returns c = let a = c .before .before .args in let l = c .before .loop in sym (started-end (a .from + a .count) (l .e) (a .period) (a .delay) (a .offset .now) (l .counter) (c .loop-test .left)) ∙ l .inv .1 .1
+returns c = let a = c .before .before .args in let l = c .before .loop in
+    sym (started-end (a .from + a .count) (l .e) (a .period) (a .delay) (a .offset .now) (l .counter) (c .loop-test .left))
+    ∙ l .inv .1 .1
 
 pub start-counters-spec : {M : Type 1} → statement M
 start-counters-spec =

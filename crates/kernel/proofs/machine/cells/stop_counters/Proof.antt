@@ -10,7 +10,9 @@ use Rattle.kernel.proofs.machine.cells.stop_counters.Tie as tie
 
 abbrev Inv-loop : tie.InvT-loop
 Inv-loop from count counter₀ until e₀ counter e =
-    (from ≤ e) × ((e ≤ until) × (countersStopped (until - e) e counter ≡ countersStopped count from counter₀))
+    (from ≤ e)
+    × ((e ≤ until)
+    × (countersStopped (until - e) e counter ≡ countersStopped count from counter₀))
 
 abbrev μ-loop : tie.MeasureT-loop
 μ-loop from count counter₀ until e₀ counter e = until - e
@@ -34,11 +36,19 @@ loop-less : tie.Need-loop-less Inv-loop μ-loop
 loop-less c = omega arith
 
 loop-again : tie.Need-loop-again Inv-loop μ-loop
-loop-again c = let a = c .before .before .args in let l = c .before .loop in
-    (omega arith, (omega arith, stopped-turn (a .from + a .count) (l .e) (l .counter) (c .loop-test .taken) ∙ l .inv .1 .1))
+loop-again c = let a = c .before .before .args in let l = c .before .loop in (
+  omega arith,
+  (
+    omega arith,
+    stopped-turn (a .from + a .count) (l .e) (l .counter) (c .loop-test .taken)
+        ∙ l .inv .1 .1,
+  ),
+)
 
 returns : tie.Need-returns Inv-loop μ-loop
-returns c = let a = c .before .before .args in let l = c .before .loop in sym (stopped-end (a .from + a .count) (l .e) (l .counter) (c .loop-test .left)) ∙ l .inv .1 .1
+returns c = let a = c .before .before .args in let l = c .before .loop in
+    sym (stopped-end (a .from + a .count) (l .e) (l .counter) (c .loop-test .left))
+    ∙ l .inv .1 .1
 
 pub stop-counters-spec : {M : Type 1} → statement M
 stop-counters-spec =

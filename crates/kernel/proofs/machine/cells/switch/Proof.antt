@@ -10,7 +10,9 @@ use Rattle.kernel.proofs.machine.cells.switch.Tie as tie
 
 abbrev Inv-loop : tie.InvT-loop
 Inv-loop from count to on₀ until e₀ on e =
-    (from ≤ e) × ((e ≤ until) × (switched (until - e) e to on ≡ switched count from to on₀))
+    (from ≤ e)
+    × ((e ≤ until)
+    × (switched (until - e) e to on ≡ switched count from to on₀))
 
 abbrev μ-loop : tie.MeasureT-loop
 μ-loop from count to on₀ until e₀ on e = until - e
@@ -31,11 +33,19 @@ loop-less : tie.Need-loop-less Inv-loop μ-loop
 loop-less c = omega arith
 
 loop-again : tie.Need-loop-again Inv-loop μ-loop
-loop-again c = let a = c .before .before .args in let l = c .before .loop in
-    (omega arith, (omega arith, switched-turn (a .from + a .count) (l .e) (a .to) (l .on) (c .loop-test .taken) ∙ l .inv .1 .1))
+loop-again c = let a = c .before .before .args in let l = c .before .loop in (
+  omega arith,
+  (
+    omega arith,
+    switched-turn (a .from + a .count) (l .e) (a .to) (l .on) (c .loop-test .taken)
+        ∙ l .inv .1 .1,
+  ),
+)
 
 returns : tie.Need-returns Inv-loop μ-loop
-returns c = let a = c .before .before .args in let l = c .before .loop in sym (switched-end (a .from + a .count) (l .e) (a .to) (l .on) (c .loop-test .left)) ∙ l .inv .1 .1
+returns c = let a = c .before .before .args in let l = c .before .loop in
+    sym (switched-end (a .from + a .count) (l .e) (a .to) (l .on) (c .loop-test .left))
+    ∙ l .inv .1 .1
 
 pub switch-spec : {M : Type 1} → statement M
 switch-spec =

@@ -16,13 +16,17 @@ lose-requires : tie.Need-lose-requires
 lose-requires c κs = search needs
 
 returns-2 : tie.Need-returns-2
-returns-2 c = rw (not-false (c .before .before .before .before .before .args .matched) (c .before .before .before .before .if1 .left), sym (c .before .before .before .busy .ensures) ∙ c .before .before .if2 .taken, c .lose .ensures)
+returns-2 c =
+    let c₁ = c .before .before in let c₂ = c₁ .before in let c₃ = c₂ .before in let c₄ = c₃ .before in
+    rw (not-false (c₄ .args .matched) (c₃ .if1 .left), sym (c₂ .busy .ensures) ∙ c₁ .if2 .taken, c .lose .ensures)
 
 with-requires : tie.Need-with-requires
 with-requires c κs = search needs
 
 returns-3 : tie.Need-returns-3
-returns-3 c = rw (not-false (c .before .before .before .before .args .matched) (c .before .before .before .if1 .left), sym (c .before .before .busy .ensures) ∙ c .before .if2 .left, c .with .ensures)
+returns-3 c =
+    let c₁ = c .before in let c₂ = c₁ .before in let c₃ = c₂ .before in let c₄ = c₃ .before in
+    rw (not-false (c₄ .args .matched) (c₃ .if1 .left), sym (c₂ .busy .ensures) ∙ c₁ .if2 .left, c .with .ensures)
 
 pub take-match-spec : {M : Type 1} → statement M
 take-match-spec =

@@ -1,4 +1,5 @@
--- `take_matches` meets its contract: what is left to do at entry e is what the definition does with the marks and ranks from there on.
+-- `take_matches` meets its contract: what is left to do at entry e is what the definition does with the marks and ranks
+-- from there on.
 -- Assumes nothing.
 use Prim.Native.Nat.{_-_, _≤_}
 use mathlib.Core.Path.{_≡_, sym, refl, _∙_}
@@ -13,7 +14,9 @@ use Rattle.kernel.proofs.machine.cells.take_matches.Tie as tie
 
 abbrev Inv-loop : tie.InvT-loop
 Inv-loop matched ranks started request losses₀ word₀ e₀ losses word e =
-    (e ≤ length matched) × (requestsDue started (drop e matched) (drop e ranks) (dueWith word losses) ≡ requestsDue started matched ranks (dueWith request losses₀))
+    (e ≤ length matched)
+    × (requestsDue started (drop e matched) (drop e ranks) (dueWith word losses)
+    ≡ requestsDue started matched ranks (dueWith request losses₀))
 
 abbrev μ-loop : tie.MeasureT-loop
 μ-loop matched ranks started request losses₀ word₀ e₀ losses word e = length matched - e
@@ -37,12 +40,17 @@ loop-less : tie.Need-loop-less Inv-loop μ-loop
 loop-less c = omega arith
 
 loop-again : tie.Need-loop-again Inv-loop μ-loop
-loop-again c = let a = c .before .before .before .before .before .before .before .before .args in let l = c .before .before .before .before .before .before .loop in
-    (omega arith, due-turn (a .started) (a .matched .now) (a .ranks .now) (l .e) (c .before .before .before .before .before .loop-test .taken) refl (c .before .before .before .byte-at .ensures) (dueWith (l .word) (l .losses)) (c .take-match .ensures) ∙ l .inv .1)
+loop-again c = let a = c .before .before .before .before .before .before .before .before .args in let l = c .before .before .before .before .before .before .loop in (
+  omega arith,
+  due-turn (a .started) (a .matched .now) (a .ranks .now) (l .e) (c .before .before .before .before .before .loop-test .taken)
+      refl (c .before .before .before .byte-at .ensures) (dueWith (l .word) (l .losses)) (c .take-match .ensures)
+      ∙ l .inv .1,
+)
 
 returns : tie.Need-returns Inv-loop μ-loop
 returns c = let a = c .before .before .before .args in let l = c .before .loop in
-    sym (due-end (a .started) (a .matched .now) (a .ranks .now) (l .e) (c .loop-test .left) (dueWith (l .word) (l .losses))) ∙ l .inv .1
+    sym (due-end (a .started) (a .matched .now) (a .ranks .now) (l .e) (c .loop-test .left) (dueWith (l .word) (l .losses)))
+    ∙ l .inv .1
 
 pub take-matches-spec : {M : Type 1} → statement M
 take-matches-spec =

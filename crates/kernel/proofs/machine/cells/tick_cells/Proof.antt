@@ -55,9 +55,12 @@ loop-less : tie.Need-loop-less Inv-loop μ-loop
 loop-less c = omega arith
 
 loop-again : tie.Need-loop-again Inv-loop μ-loop
-loop-again c = let a = c .before .before .before .before .before .before .before .args in let l = c .before .before .before .before .before .before .loop in
-    ticking-turn (a .compare .now) (a .on .now) (a .n) (a .counter .now) (l .counter) (l .matched) (l .e) (l .inv) (c .before .before .before .before .before .before .before .pre) (c .before .before .before .before .before .loop-test .taken)
-    (c .tick .ensures ∙ ap ticked (c .before .of .ensures))
+loop-again c =
+    let c₁ = c .before in let c₂ = c₁ .before .before .before .before in let c₃ = c₂ .before in
+    let c₄ = c₃ .before in
+    let a = c₄ .args in let l = c₃ .loop in
+    ticking-turn (a .compare .now) (a .on .now) (a .n) (a .counter .now) (l .counter) (l .matched) (l .e) (l .inv)
+    (c₄ .pre) (c₂ .loop-test .taken) (c .tick .ensures ∙ ap ticked (c₁ .of .ensures))
 
 returns : tie.Need-returns Inv-loop μ-loop
 returns c = let a = c .before .before .args in let l = c .before .loop in
