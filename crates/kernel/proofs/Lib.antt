@@ -1,4 +1,8 @@
--- The kernel's laws.
+-- The laws of `kernel`. `Theorems` is the file to read, `Edges` has P1 to P13.
+--
+-- In the order of the proof: how a model stands for a state (`Views` to `Chains`); arbitration is the plain choice; what each change of bodies
+-- and resources leaves of it (`Touching` to `Freeing`); the nine events (`Calls` to `Switching`); the fresh start, lists of events, the plan of an
+-- accepted configuration (`Freshness` to `Fitting`). `Code..` serve the methods' own proofs, `Run..` the run's.
 pub mod Views
 pub mod Simulation
 pub mod Standing
