@@ -31,14 +31,13 @@ module _ (ks : List ℕ) (os : List Bool) where
   pub length-ticked : (k e : ℕ) (ns : List ℕ) → length (countersTicked k e ks os ns) ≡ length ns
   unfolding countersTicked
   length-ticked zero e ns = refl
-  length-ticked (suc k) e ns = length-ticked k (suc e) (set ns e (ticked (cellAt ks os ns e) .counter)) ∙ length-set ns e (ticked (cellAt ks os ns e) .counter)
+  length-ticked (suc k) e ns = length-ticked k (suc e) _ ∙ length-set ns e _
 
   ticked-before : (k e i : ℕ) (ns : List ℕ) → i < e → getD (countersTicked k e ks os ns) i 0 ≡ getD ns i 0
   unfolding countersTicked
   ticked-before zero e i ns h = refl
   ticked-before (suc k) e i ns h =
-      ticked-before k (suc e) i (set ns e (ticked (cellAt ks os ns e) .counter)) (omega arith)
-      ∙ getD-set-other ns e i (ticked (cellAt ks os ns e) .counter) 0 (λ z. absurd (omega arith))
+      ticked-before k (suc e) i _ (omega arith) ∙ getD-set-other ns e i _ 0 (λ z. absurd (omega arith))
 
   pub ticked-at : (k e i : ℕ) (ns : List ℕ) → e ≤ i → i < e + k → i < length ns → getD (countersTicked k e ks os ns) i 0 ≡ ticked (cellAt ks os ns i) .counter
   unfolding countersTicked
