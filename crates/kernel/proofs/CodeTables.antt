@@ -7,6 +7,7 @@ use native.Mathlib.Omega.{arith}
 use lib.Dec.{ltb, eqb}
 use lib.ListN.{length, getD, set}
 use borrow.Author.Tests.{ltb-false, le-leb, lt-leb, eq-eqb, ne-eqb}
+use Rattle.config.specs.Value.{maxEntries}
 use Rattle.scheduler.specs.Status.{callLevel, noSuch, badDelay, alreadyRuns, noFunction, firstOf}
 use Rattle.scheduler.specs.Call.{longestDelay}
 use Rattle.kernel.specs.declared.machine.Core.{Core}
@@ -24,9 +25,9 @@ length-marks zero e ks os ns = refl
 length-marks (suc k) e ks os ns = ap suc (length-marks k (suc e) ks os ns)
 
 -- Tick
-module _ (n : ℕ) (ks rs ps : List ℕ) (m : Model) where
-  pub tick-done : {ms : List Bool} → ms ≡ marksOf n ks m
-      → {ns : List ℕ} → ns ≡ countersTicked n 0 ks (m .on) (m .counter)
+module _ (ks rs ps : List ℕ) (m : Model) where
+  pub tick-done : {ms : List Bool} → ms ≡ marksOf maxEntries ks m
+      → {ns : List ℕ} → ns ≡ countersTicked maxEntries 0 ks (m .on) (m .counter)
       → {w : ℕ} {ls : List ℕ} → dueWith w ls ≡ requestsDue (m .core .started) ms rs (dueWith (m .core .request) (m .losses))
       → {k : Core} → k ≡ withRequest (m .core) w → {p : Picked} → p ≡ arbitrated ps k
       → doneWith
@@ -44,7 +45,7 @@ module _ (n : ℕ) (ks rs ps : List ℕ) (m : Model) where
         losses = ls;
       })
       (p .begun)
-      ≡ tickedOnce n ks rs ps m
+      ≡ tickedOnce ks rs ps m
   unfolding tickedOnce
   tick-done marked counted due asked picked =
       rw (picked, asked, counted, ap (λ (x : Due). x .request) due, ap (λ (x : Due). x .losses) due, marked)

@@ -101,6 +101,7 @@ module _ (c : Config) (p : Plan) (rk : ℕ → ℕ) (fit : Fitted c p rk) where
         counters-long = refl;
         switches-long = refl;
         cells = λ t e t< a b. rw (same-everywhere (c .tables) stopped t) (same-everywhere 64 false e);
+        spare = λ e h. same-everywhere 64 false e;
       }
 
   unbegun-lost : Lost c rk (replicate 32 0) (unbegun .bodies)

@@ -2,6 +2,7 @@
 --
 --   dues-long      an entry for each cell
 --   marks-due      the marks of all cells are the due entries
+--   due-first-cells  cells without an entry are off, and ask for nothing
 --   ticked-timed   the counters after the tick stand for the tables after it
 --
 -- Assumes nothing.
@@ -15,6 +16,7 @@ use lib.ListN.{length, getD, set, take, drop, length-append, length-take, length
 use lib.Seq.{getD-set-same, getD-set-other, drop-cons}
 use Rattle.number.proofs.Cases.{by-eq}
 use Rattle.config.specs.declared.Config.{Config}
+use Rattle.config.specs.Value.{maxEntries}
 use Rattle.config.specs.Meaning.{firstOf, offsets}
 use Rattle.config.proofs.Tables.{firstOf-step, firstOf-rises, firstOf-zero}
 use Rattle.plan.specs.declared.Plan.{Plan}
@@ -23,8 +25,10 @@ use Rattle.cell.specs.Cell.{unmarked, ticked}
 use Rattle.cell.proofs.Theorems.{off-ticked-same, on-time-matched, on-time-counter}
 use Rattle.scheduler.specs.State.{Table, stopped, running, State}
 use Rattle.scheduler.specs.Tick.{counting, entryDue, duesFrom, dues}
-use Rattle.kernel.specs.Cells.{cellAt, countersTicked, marks}
+use Rattle.kernel.specs.Cells.{cellAt, countersTicked, marks, Due, requestsDue}
+use Rattle.kernel.specs.Code.{anyOf}
 use Rattle.kernel.proofs.Simulation.{Fitted, CellFits, Timed}
+use Rattle.kernel.proofs.CellLists.{due-append, due-quiet}
 
 -- a tick reaches the counters of its cells, each by its own cell alone
 module _ (ks : List ℕ) (os : List Bool) where
@@ -64,6 +68,26 @@ module _ (ks : List ℕ) (os : List Bool) where
 
       shift : (e j : ℕ) → suc e + j ≡ e + suc j
       shift e j = omega arith
+
+  -- cells that are off do not match
+  off-marks : (k e : ℕ) (ns : List ℕ) → ((i : ℕ) → e ≤ i → getD os i false ≡ false) → anyOf (marks k e ks os ns) ≡ false
+  unfolding marks anyOf
+  off-marks zero e ns off = refl
+  off-marks (suc k) e ns off =
+      rw (ap (λ (y : Cell). y .matched) (off-ticked-same (cellAt ks os ns e) (off e (omega arith))))
+      (off-marks k (suc e) ns (λ i h. off i (omega arith)))
+
+  -- what a row asks for of which only the first n cells may be on
+  pub due-first-cells : (n : ℕ) → n ≤ maxEntries → ((i : ℕ) → n ≤ i → getD os i false ≡ false) → (w : ℕ) (ns rs : List ℕ) (x : Due)
+      → requestsDue w (marks maxEntries 0 ks os ns) rs x ≡ requestsDue w (marks n 0 ks os ns) rs x
+  due-first-cells n h off w ns rs x =
+      ap (λ (k : ℕ). requestsDue w (marks k 0 ks os ns) rs x) all
+      ∙ ap (λ (l : List Bool). requestsDue w l rs x) (marks-append n (maxEntries - n) 0 ns)
+      ∙ due-append w (marks n 0 ks os ns) (marks (maxEntries - n) (0 + n) ks os ns) rs x
+      ∙ due-quiet w (marks (maxEntries - n) (0 + n) ks os ns) _ _ (off-marks (maxEntries - n) (0 + n) ns (λ i l. off i (omega arith)))
+    where
+      all : maxEntries ≡ n + (maxEntries - n)
+      all = omega arith
 
   -- the marks of one table's cells
   table-marks : (n e : ℕ) (ns qs : List ℕ) (f : ℕ → Bool) → e + n ≤ length qs
@@ -151,16 +175,17 @@ module _ (c : Config) (p : Plan) (rk : ℕ → ℕ) (fit : Fitted c p rk) (ns : 
         size = omega (arith, firstOf-zero c, fit .count-is)
 
     -- the counters after the tick stand for the tables after it
-    pub ticked-timed : Timed c p (countersTicked (p .count) 0 ks os ns) os (map counting ts)
+    pub ticked-timed : Timed c p (countersTicked maxEntries 0 ks os ns) os (map counting ts)
     unfolding counting
     ticked-timed =
         record {
           tables-long = length-map ts counting ∙ timed .tables-long;
-          counters-long = length-ticked ks os (p .count) 0 ns ∙ timed .counters-long;
+          counters-long = length-ticked ks os maxEntries 0 ns ∙ timed .counters-long;
           switches-long = timed .switches-long;
           cells = λ t e t< a b.
-              let inside : e < p .count = omega (arith, fit .count-is, firstOf-rises c (suc t) (c .tables) t<) in
-              let new = ticked-at ks os (p .count) 0 e ns (omega arith) (omega arith) (omega (arith, timed .counters-long, fit .count-is, fit .few-entries)) in
+              let inside : e < maxEntries = omega (arith, fit .few-entries, firstOf-rises c (suc t) (c .tables) t<) in
+              let new = ticked-at ks os maxEntries 0 e ns (omega arith) (omega arith) (omega (arith, timed .counters-long)) in
               rw (new, List·getD-map counting ts t stopped)
               (cell-counted (getD (c .period) t 0) (getD (c .offset) e 0) (getD ns e 0) (getD ks e 0) (getD os e false) (getD ts t stopped) (timed .cells t e t< a b));
+          spare = timed .spare;
         }

@@ -46,14 +46,6 @@ use Rattle.kernel.proofs.Freshness.{fresh-sim}
 use Rattle.kernel.proofs.Fitting.{fitted}
 use Rattle.kernel.proofs.RunBytes.{laid-none}
 
--- an outcome that was taken apart
-pub together : (o x : Outcome) (m : Model) (st : ℕ) (b : Bool) → m ≡ o .model → st ≡ o .status → b ≡ o .begun → o ≡ x
-    → record { model = m; status = st; begun = b } ≡ x
-together o x m st b e f g h = parts ∙ h
-  where
-    parts : record { model = m; status = st; begun = b } ≡ o
-    parts i = record { model = e i; status = f i; begun = g i }
-
 -- what an arm's method hands back is the step of the event that was read
 module _ (c : Config) (p : Plan) (m : Model) (e : Event) where
   pub step-1 : e .code ≡ 1 → machineStep c p m (callOf e) ≡ activated (p .task) (p .priority) m (e .first)
@@ -76,7 +68,7 @@ module _ (c : Config) (p : Plan) (m : Model) (e : Event) where
   unfolding callOf machineStep
   step-5 h = rw h
 
-  pub step-6 : e .code ≡ 6 → machineStep c p m (callOf e) ≡ tickedOnce (p .count) (p .compare) (p .entry) (p .priority) m
+  pub step-6 : e .code ≡ 6 → machineStep c p m (callOf e) ≡ tickedOnce (p .compare) (p .entry) (p .priority) m
   unfolding callOf machineStep
   step-6 h = rw h
 
@@ -140,9 +132,6 @@ module _ (c : Config) (p : Plan) (rk : ℕ → ℕ) (fit : Fitted c p rk) where
       record {
         largest = λ t i h low high. rw (fit .largest-at t h) (offset-le c p rk fit t h i (rw (fit .first-at t h) at low) (omega (arith, firstOf-step c t, fit .first-at t h)));
       }
-
-  pub count-le : p .count ≤ 64
-  count-le = omega (arith, fit .count-is, fit .few-entries)
 
 -- the events from a place on
 abbrev callsFrom : List ℕ → ℕ → List Plain.Event

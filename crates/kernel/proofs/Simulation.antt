@@ -154,6 +154,8 @@ pub record Timed (c : Config) (p : Plan) (ns : List ℕ) (os : List Bool) (ts : 
   pub switches-long : length os ≡ 64
   pub cells : (t e : ℕ) → t < c .tables → firstOf c t ≤ e → e < firstOf c (suc t)
       → CellFits (getD (c .period) t 0) (getD (c .offset) e 0) (cellAt (p .compare) os ns e) (getD ts t stopped)
+  -- a cell without an entry is off
+  pub spare : (e : ℕ) → firstOf c (c .tables) ≤ e → getD os e false ≡ false
 
 -- a task's losses stand at its rank, and an ISR has none; ls: the losses by rank
 pub record Lost (c : Config) (rk : ℕ → ℕ) (ls : List ℕ) (bs : List Body) : Type 0 where

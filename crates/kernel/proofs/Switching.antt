@@ -105,6 +105,8 @@ module _ (c : Config) (p : Plan) (rk : ℕ → ℕ) (fit : Fitted c p rk) where
                 (λ q. rw (q, getD-set-same ts t x stopped (rw (timed .tables-long) t<), own-cell e (rw q at low) (rw q at high))
                 (fits e (rw q at low) (rw q at high)))
                 (λ n. rw (getD-set-other ts t u x stopped n, other-cell u e u< n low high) (timed .cells u e u< low high));
+            spare = λ e h. laid-after (λ _. b) count (firstOf c t) os e false (omega (arith, firstOf-rises c (suc t) (c .tables) t<, firstOf-step c t))
+                ∙ timed .spare e h;
           }
 
 module _ (c : Config) (p : Plan) (rk : ℕ → ℕ) (fit : Fitted c p rk) (m : Model) (s : State) (sim : Sim c p rk m s)

@@ -10,6 +10,7 @@ use lib.ListN.{length, getD, set, drop, length-set, length-map}
 use lib.Seq.{getD-set-same, getD-set-other, drop-cons}
 use Rattle.number.proofs.Cases.{by-eq}
 use Rattle.config.specs.declared.Config.{Config}
+use Rattle.config.specs.Value.{maxEntries}
 use Rattle.config.specs.Meaning.{isTask}
 use Rattle.plan.specs.declared.Plan.{Plan}
 use Rattle.word.specs.Word.{has}
@@ -33,7 +34,7 @@ use Rattle.kernel.proofs.Touching.{withRest, elsewhere, woken-tied, los
 use Rattle.kernel.proofs.Arbitration.{settled-tied}
 use Rattle.kernel.proofs.Calls.{kept, lost-same, Agrees, agrees}
 use Rattle.kernel.proofs.Waking.{task-exists}
-use Rattle.kernel.proofs.Matching.{dues-long, marks-due, ticked-timed}
+use Rattle.kernel.proofs.Matching.{dues-long, marks-due, due-first-cells, ticked-timed}
 
 -- the entries of a list of marks have the ranks rs and the tasks ts
 unfoldable Entries : Config → (ℕ → ℕ) → List Bool → List ℕ → List ℕ → Type 0
@@ -154,20 +155,24 @@ module _ (c : Config) (p : Plan) (rk : ℕ → ℕ) (fit : Fitted c p rk) (m : M
       due-owed c p rk fit (sim .chain) m ms (p .entry) (c .task) entries (record { request = m .core .request; losses = m .losses }) (counted s)
       (record { tied = elsewhere c rk m (s .bodies) (sim .chain) (sim .tied) (m .counter) (m .on) (m .losses); lost = sim .lost })
 
-  due-is : dueOf (p .count) (p .compare) (p .entry) m ≡ requestsDue (m .core .started) ms (p .entry) (record { request = m .core .request; losses = m .losses })
-  due-is = rw marks-are
+  due-is : dueOf (p .compare) (p .entry) m ≡ requestsDue (m .core .started) ms (p .entry) (record { request = m .core .request; losses = m .losses })
+  due-is =
+      due-first-cells (p .compare) (m .on) (p .count) (omega (arith, fit .count-is, fit .few-entries))
+      (λ i h. sim .timed .spare i (omega (arith, fit .count-is)))
+      (m .core .started) (m .counter) (p .entry) (record { request = m .core .request; losses = m .losses })
+      ∙ ap (λ (l : List Bool). requestsDue (m .core .started) l (p .entry) (record { request = m .core .request; losses = m .losses })) marks-are
 
-  ticked-tied : Tied c rk (ticking (p .count) (p .compare) (p .entry) m) (Plain.ticked c s .bodies) (sim .chain)
+  ticked-tied : Tied c rk (ticking (p .compare) (p .entry) m) (Plain.ticked c s .bodies) (sim .chain)
   ticked-tied =
       rw due-is
       (elsewhere c rk _ (Plain.ticked c s .bodies) (sim .chain) (owed .tied)
-      (countersTicked (p .count) 0 (p .compare) (m .on) (m .counter)) (m .on) (requestsDue (m .core .started) ms (p .entry) (record { request = m .core .request; losses = m .losses }) .losses))
+      (countersTicked maxEntries 0 (p .compare) (m .on) (m .counter)) (m .on) (requestsDue (m .core .started) ms (p .entry) (record { request = m .core .request; losses = m .losses }) .losses))
 
   pub agrees-tick : Agrees c p rk fit m s Tick
   unfolding machineStep tickedOnce step matched
   agrees-tick =
-      agrees c p rk fit m s Tick (settled (p .priority) (ticking (p .count) (p .compare) (p .entry) m)) done ms (Plain.ticked c s) refl refl refl marks-are
-      (settled-tied c p rk fit (ticking (p .count) (p .compare) (p .entry) m) (Plain.ticked c s) (sim .chain) ticked-tied)
+      agrees c p rk fit m s Tick (settled (p .priority) (ticking (p .compare) (p .entry) m)) done ms (Plain.ticked c s) refl refl refl marks-are
+      (settled-tied c p rk fit (ticking (p .compare) (p .entry) m) (Plain.ticked c s) (sim .chain) ticked-tied)
       (ticked-tied .size)
       (rw (tables-ticked c s) (ticked-timed c p rk fit (m .counter) (m .on) (s .tables) (sim .timed)))
       (rw due-is (owed .lost))

@@ -3,11 +3,12 @@
 --   ownSlotIn hs n r        the slot below place n of a row with the holders hs belongs to the body of rank r
 --   levelBelow hs ls n r ps the level of the body of rank r without its slots from place n on
 --   dueWith w ls            the requests w and the losses ls
+--   anyOf bs                one of bs is true; a `group` of match marks is looked at in one go
 --
 -- and what its methods count on of the tables that they are lent, as the plan has them: Delays, Laid, Reached. Assumes nothing.
 use Prim.Native.Nat.{ℕ, _+_, _-_, _≤_, _<_}
-use mathlib.Core.Bool.{Bool, cond, _&&_}
-use mathlib.Core.List.{List}
+use mathlib.Core.Bool.{Bool, false, cond, _&&_, _||_}
+use mathlib.Core.List.{List, [], _∷_}
 use lib.Dec.{ltb, eqb}
 use lib.ListN.{getD}
 use Rattle.kernel.specs.Model.{noRank}
@@ -21,6 +22,13 @@ levelBelow hs ls n r ps = cond (ownSlotIn hs n r) (getD ls (n - 1) 0) (getD ps r
 
 abbrev pub dueWith : ℕ → List ℕ → Due
 dueWith w ls = record { request = w; losses = ls }
+
+abbrev pub group : ℕ
+group = 8
+
+unfoldable pub anyOf : List Bool → Bool
+anyOf [] = false
+anyOf (b ∷ bs) = b || anyOf bs
 
 -- d ticks before each of the k entries from e on, at the offsets os, the delay fits a counter
 pub record Delays (e k d : ℕ) (os : List ℕ) : Type 0 where

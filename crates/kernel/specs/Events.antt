@@ -6,6 +6,7 @@ use mathlib.Core.Bool.{Bool, true, false, cond, not, _&&_, _||_}
 use mathlib.Core.List.{List, [], _∷_}
 use lib.Dec.{ltb, leb, eqb}
 use lib.ListN.{getD}
+use Rattle.config.specs.Value.{maxEntries}
 use Rattle.scheduler.specs.Status.{done, callLevel, noSuch, limit, access, noFunction, holdsResource, alreadyRuns, badDelay, _gives_, firstOf}
 use Rattle.scheduler.specs.Call.{longestDelay}
 use Rattle.word.specs.Word.{has}
@@ -85,18 +86,19 @@ lineStatus lrs m i =
 unfoldable pub lined : List ℕ → List ℕ → Model → ℕ → Outcome
 lined lrs ps m i = attempt m (lineStatus lrs m i) (settled ps (requesting (getD lrs i noRank) m))
 
--- Tick, of n cells with the compare values ks; rs are the ranks of their entries' tasks
+-- Tick: every cell of the row is ticked, with the compare values ks; rs are the ranks of their entries' tasks. marksOf n: which of the
+-- first n match
 abbrev pub marksOf : ℕ → List ℕ → Model → List Bool
 marksOf n ks m = marks n 0 ks (m .on) (m .counter)
 
-abbrev pub dueOf : ℕ → List ℕ → List ℕ → Model → Due
-dueOf n ks rs m =
-    requestsDue (m .core .started) (marksOf n ks m) rs (record { request = m .core .request; losses = m .losses })
+abbrev pub dueOf : List ℕ → List ℕ → Model → Due
+dueOf ks rs m =
+    requestsDue (m .core .started) (marksOf maxEntries ks m) rs (record { request = m .core .request; losses = m .losses })
 
-abbrev pub ticking : ℕ → List ℕ → List ℕ → Model → Model
-ticking n ks rs m =
+abbrev pub ticking : List ℕ → List ℕ → Model → Model
+ticking ks rs m =
     record {
-      core = withRequest (m .core) (dueOf n ks rs m .request);
+      core = withRequest (m .core) (dueOf ks rs m .request);
       stack = m .stack;
       levels = m .levels;
       slots = m .slots;
@@ -104,13 +106,13 @@ ticking n ks rs m =
       holder = m .holder;
       raised = m .raised;
       held = m .held;
-      counter = countersTicked n 0 ks (m .on) (m .counter);
+      counter = countersTicked maxEntries 0 ks (m .on) (m .counter);
       on = m .on;
-      losses = dueOf n ks rs m .losses;
+      losses = dueOf ks rs m .losses;
     }
 
-unfoldable pub tickedOnce : ℕ → List ℕ → List ℕ → List ℕ → Model → Outcome
-tickedOnce n ks rs ps m = settled ps (ticking n ks rs m)
+unfoldable pub tickedOnce : List ℕ → List ℕ → List ℕ → Model → Outcome
+tickedOnce ks rs ps m = settled ps (ticking ks rs m)
 
 -- a table "runs" where its first cell is on; fs: the tables' first entries
 abbrev pub runs : List ℕ → Model → ℕ → Bool

@@ -24,7 +24,7 @@ abbrev pub unstarted : ℕ → Model
 unstarted w =
     record {
       core = record { request = w; started = 0; runner = noRank; level = 0; depth = 0 };
-      stack = replicate 32 0;
+      stack = replicate 32 noRank;
       levels = replicate 32 0;
       slots = 0;
       resource = replicate 16 0;
@@ -49,7 +49,7 @@ machineStep c p m Finish = finished (p .priority) m
 machineStep c p m (Chain t) = chained (p .isrs) (p .task) (p .priority) m t
 machineStep c p m (Get r) = got (c .resources) (p .ceiling) (p .priority) m r
 machineStep c p m (Release r) = released (c .resources) (p .priority) m r
-machineStep c p m Tick = tickedOnce (p .count) (p .compare) (p .entry) (p .priority) m
+machineStep c p m Tick = tickedOnce (p .compare) (p .entry) (p .priority) m
 machineStep c p m (Line i) = lined (p .line) (p .priority) m i
 machineStep c p m (Start t d) = launched (c .tables) (p .first) (p .largest) (c .entries) (c .period) (c .offset) m t d
 machineStep c p m (Stop t) = halted (c .tables) (p .first) (c .entries) m t

@@ -8,6 +8,7 @@ ghost use Rattle.kernel.specs.RunCode.{Playable, callsOf};
 use crate::answers::put_answer;
 use crate::answers::runner;
 use crate::machine::Model;
+use crate::machine::Outcome;
 use config::Config;
 use event::read_event;
 use plan::Plan;
@@ -24,60 +25,43 @@ pub fn play<'a, 'b>(
     ensures { λ r. ⌜ r ≡ machineAfter config plan fresh (callsOf (now (trace .entry))) ⌝ }
     ensures { λ _. ⌜ now (out .exit) ≡ laid 0 (answerBytes (machineSeen config plan fresh (callsOf (now (trace .entry))))) (now (out .entry)) ⌝ }
 {
-    let mut m = fresh;
+    let mut o = Outcome {
+        model: fresh,
+        status: 0,
+        begun: false,
+    };
     let mut at: usize = 0;
     let mut to: usize = 0;
     while at < trace.len() {
         let r = read_event(trace, at);
         let e = r.event;
         let code = e.code;
-        let mut status: u8 = 0;
-        let mut begun = false;
         match code {
             1 => {
-                let o = m.activate(&plan.task, &plan.priority, e.first);
-                m = o.model;
-                status = o.status;
-                begun = o.begun;
+                o = o.model.activate(&plan.task, &plan.priority, e.first);
             }
             2 => {
-                let o = m.finish(&plan.priority);
-                m = o.model;
-                status = o.status;
-                begun = o.begun;
+                o = o.model.finish(&plan.priority);
             }
             3 => {
-                let o = m.chain(plan.isrs, &plan.task, &plan.priority, e.first);
-                m = o.model;
-                status = o.status;
-                begun = o.begun;
+                o = o.model
+                    .chain(plan.isrs, &plan.task, &plan.priority, e.first);
             }
             4 => {
-                let o = m.get(config.resources, &plan.ceiling, &plan.priority, e.first);
-                m = o.model;
-                status = o.status;
-                begun = o.begun;
+                o = o.model
+                    .get(config.resources, &plan.ceiling, &plan.priority, e.first);
             }
             5 => {
-                let o = m.release(config.resources, &plan.priority, e.first);
-                m = o.model;
-                status = o.status;
-                begun = o.begun;
+                o = o.model.release(config.resources, &plan.priority, e.first);
             }
             6 => {
-                let o = m.tick(plan.count as u8, &plan.compare, &plan.entry, &plan.priority);
-                m = o.model;
-                status = o.status;
-                begun = o.begun;
+                o = o.model.tick(&plan.compare, &plan.entry, &plan.priority);
             }
             7 => {
-                let o = m.line(&plan.line, &plan.priority, e.first);
-                m = o.model;
-                status = o.status;
-                begun = o.begun;
+                o = o.model.line(&plan.line, &plan.priority, e.first);
             }
             8 => {
-                let o = m.start(
+                o = o.model.start(
                     config.tables,
                     &plan.first,
                     &plan.largest,
@@ -87,28 +71,26 @@ pub fn play<'a, 'b>(
                     e.first,
                     e.second,
                 );
-                m = o.model;
-                status = o.status;
-                begun = o.begun;
             }
             9 => {
-                let o = m.stop(config.tables, &plan.first, &config.entries, e.first);
-                m = o.model;
-                status = o.status;
-                begun = o.begun;
+                o = o.model
+                    .stop(config.tables, &plan.first, &config.entries, e.first);
             }
-            0 | 10..=255 => {}
+            0 | 10..=255 => {
+                o.status = 0;
+                o.begun = false;
+            }
         }
         put_answer(
-            status,
-            runner(&plan.body, m.core.runner),
-            m.core.level,
-            begun,
+            o.status,
+            runner(&plan.body, o.model.core.runner),
+            o.model.core.level,
+            o.begun,
             to,
             out,
         );
         at = r.place;
         to += 4;
     }
-    m
+    o.model
 }

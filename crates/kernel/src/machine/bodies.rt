@@ -58,10 +58,14 @@ impl Model {
                 begun: false,
             };
         }
+        let mut stack = self.stack;
+        let mut levels = self.levels;
         let picked = requested(core, rank, priority);
         let top = core.depth;
-        self.stack[top] = core.runner;
-        self.levels[top] = core.level;
+        stack[top] = core.runner;
+        levels[top] = core.level;
+        self.stack = stack;
+        self.levels = levels;
         let k = picked.core;
         self.core = k;
         Outcome {
@@ -83,18 +87,23 @@ impl Model {
                 begun: false,
             };
         }
-        if own_slot(&self.holder, self.slots, core.runner) {
+        let holder = self.holder;
+        if own_slot(&holder, self.slots, core.runner) {
             return Outcome {
                 model: self,
                 status: HOLDS_RESOURCE,
                 begun: false,
             };
         }
-        let below = popped(core, &self.stack, &self.levels);
+        let mut stack = self.stack;
+        let mut levels = self.levels;
+        let below = popped(core, &stack, &levels);
         let picked = arbitrated(below, priority);
         let top = below.depth;
-        self.stack[top] = below.runner;
-        self.levels[top] = below.level;
+        stack[top] = below.runner;
+        levels[top] = below.level;
+        self.stack = stack;
+        self.levels = levels;
         let k = picked.core;
         self.core = k;
         Outcome {
@@ -130,7 +139,8 @@ impl Model {
                 begun: false,
             };
         }
-        if own_slot(&self.holder, self.slots, core.runner) {
+        let holder = self.holder;
+        if own_slot(&holder, self.slots, core.runner) {
             return Outcome {
                 model: self,
                 status: HOLDS_RESOURCE,
@@ -144,11 +154,15 @@ impl Model {
                 begun: false,
             };
         }
-        let below = popped(core, &self.stack, &self.levels);
+        let mut stack = self.stack;
+        let mut levels = self.levels;
+        let below = popped(core, &stack, &levels);
         let picked = requested(below, rank, priority);
         let top = below.depth;
-        self.stack[top] = below.runner;
-        self.levels[top] = below.level;
+        stack[top] = below.runner;
+        levels[top] = below.level;
+        self.stack = stack;
+        self.levels = levels;
         let k = picked.core;
         self.core = k;
         Outcome {
@@ -178,10 +192,14 @@ impl Model {
                 begun: false,
             };
         }
+        let mut stack = self.stack;
+        let mut levels = self.levels;
         let picked = requested(core, rank, priority);
         let top = core.depth;
-        self.stack[top] = core.runner;
-        self.levels[top] = core.level;
+        stack[top] = core.runner;
+        levels[top] = core.level;
+        self.stack = stack;
+        self.levels = levels;
         let k = picked.core;
         self.core = k;
         Outcome {

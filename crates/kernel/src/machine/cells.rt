@@ -1,30 +1,35 @@
 // The cells of the entries, as parallel arrays: what a tick, a start and a stop make of them.
 ghost use mathlib.Core.Path.{_≡_};
-ghost use mathlib.Core.Bool.{false, cond};
+ghost use mathlib.Core.Bool.{cond, not};
 ghost use Prim.Native.Nat.{_+_, _≤_};
-ghost use lib.ListN.{getD, set, take};
+ghost use lib.ListN.{length, getD, set, take, drop};
+ghost use Rattle.config.specs.Value.{maxEntries};
 ghost use Rattle.kernel.specs.Cells.{countersTicked, marks, countersStarted, countersStopped, switched, oneMore, matchAt, requestsDue};
-ghost use Rattle.kernel.specs.Code.{Delays, dueWith};
+ghost use Rattle.kernel.specs.Code.{Delays, dueWith, group, anyOf};
 use super::NO_RANK;
 use super::bodies::busy;
 use super::row::byte_at;
 use cell::Cell;
 use word::with;
 
-// Ticks the first `n` cells, and gives their match marks.
+// One cell for each entry that there may be.
+const CELLS: usize = 64;
+
+// How many match marks are looked at in one go.
+const GROUP: usize = 8;
+
+// Ticks every cell, and gives their match marks.
 pub fn tick_cells<'a, 'b>(
-    n: usize,
     compare: &'a [u16; 64],
     on: &'a [bool; 64],
     counter: &'b mut [u16; 64],
 ) -> [bool; 64]
-    requires { ⌜ n ≤ 64 ⌝ }
-    ensures { λ r. ⌜ take n r ≡ marks n 0 (now (compare .entry)) (now (on .entry)) (now (counter .entry)) ⌝ }
-    ensures { λ _. ⌜ now (counter .exit) ≡ countersTicked n 0 (now (compare .entry)) (now (on .entry)) (now (counter .entry)) ⌝ }
+    ensures { λ r. ⌜ r ≡ marks maxEntries 0 (now (compare .entry)) (now (on .entry)) (now (counter .entry)) ⌝ }
+    ensures { λ _. ⌜ now (counter .exit) ≡ countersTicked maxEntries 0 (now (compare .entry)) (now (on .entry)) (now (counter .entry)) ⌝ }
 {
     let mut matched = [false; 64];
     let mut e = 0;
-    while e < n {
+    while e < CELLS {
         let cell = Cell::of(counter[e], compare[e], on[e]).tick();
         counter[e] = cell.counter;
         matched[e] = cell.matched;
@@ -34,23 +39,65 @@ pub fn tick_cells<'a, 'b>(
 }
 
 // Takes the matches in table order, and gives the requests after them; `ranks` are those of the entries' tasks.
-pub fn take_matches<'a, 'b, 'c>(
-    matched: &'a [bool],
-    ranks: &'b [u8; 64],
+pub fn take_matches<'a, 'b>(
+    matched: &'a [bool; 64],
+    ranks: &'a [u8; 64],
     started: u32,
     request: u32,
-    losses: &'c mut [u16; 32],
+    losses: &'b mut [u16; 32],
 ) -> u32
+    requires { ⌜ length (now matched) ≡ maxEntries ⌝ }
     ensures { λ r. ⌜ dueWith r (now (losses .exit)) ≡ requestsDue started (now (matched .entry)) (now (ranks .entry)) (dueWith request (now (losses .entry))) ⌝ }
 {
     let mut word = request;
     let mut e = 0;
-    while e < matched.len() {
+    while e < CELLS {
+        word = take_group(e, matched, ranks, started, word, losses);
+        e += GROUP;
+    }
+    word
+}
+
+// Takes the matches of the group of cells from `from` on. Few groups have one, so a quiet group is passed over.
+fn take_group<'a, 'b>(
+    from: usize,
+    matched: &'a [bool; 64],
+    ranks: &'a [u8; 64],
+    started: u32,
+    request: u32,
+    losses: &'b mut [u16; 32],
+) -> u32
+    requires { ⌜ (from + group ≤ maxEntries) × (from + group ≤ length (now matched)) ⌝ }
+    ensures { λ r. ⌜ dueWith r (now (losses .exit)) ≡ requestsDue started (take group (drop from (now (matched .entry)))) (drop from (now (ranks .entry))) (dueWith request (now (losses .entry))) ⌝ }
+{
+    if is_quiet(matched, from) {
+        return request;
+    }
+    let until = from + GROUP;
+    let mut word = request;
+    let mut e = from;
+    while e < until {
         let rank = byte_at(ranks, e, NO_RANK);
         word = take_match(matched[e], rank, started, word, losses);
         e += 1;
     }
     word
+}
+
+// Whether no cell of the group from `e` on matches. The marks are joined without a branch, so that the compiler reads them as one number.
+fn is_quiet(matched: &[bool; 64], e: usize) -> bool
+    requires { ⌜ e + group ≤ maxEntries ⌝ }
+    ensures { λ r. ⌜ r ≡ not (anyOf (take group (drop e (now (matched .entry))))) ⌝ }
+{
+    let any = matched[e]
+        | matched[e + 1]
+        | matched[e + 2]
+        | matched[e + 3]
+        | matched[e + 4]
+        | matched[e + 5]
+        | matched[e + 6]
+        | matched[e + 7];
+    !any
 }
 
 // A match of an entry whose task has this rank: a request where the task is suspended, else a loss.

@@ -20,11 +20,9 @@ impl Model {
         };
         let picked = arbitrated(idle, priority);
         let core = picked.core;
-        let mut stack = [0u8; 32];
-        stack[0] = NO_RANK;
         Model {
             core,
-            stack,
+            stack: [NO_RANK; 32],
             levels: [0u8; 32],
             slots: 0,
             resource: [0u8; 16],

@@ -49,9 +49,10 @@ impl Model {
                 begun: false,
             };
         }
+        let mut held = self.held;
         let top = byte_at(ceiling, r as usize, 0);
         let own = byte_at(priority, core.runner as usize, 0);
-        if withheld(&self.held, r, top, own) {
+        if withheld(&held, r, top, own) {
             return Outcome {
                 model: self,
                 status: ACCESS,
@@ -60,11 +61,18 @@ impl Model {
         }
         let level = higher(top, core.level);
         let slots = self.slots;
-        put_byte(&mut self.resource, slots, r as u8);
-        put_byte(&mut self.holder, slots, core.runner);
-        put_byte(&mut self.raised, slots, level);
-        put_flag(&mut self.held, r as usize, true);
+        let mut resource = self.resource;
+        let mut holder = self.holder;
+        let mut raised = self.raised;
+        put_byte(&mut resource, slots, r as u8);
+        put_byte(&mut holder, slots, core.runner);
+        put_byte(&mut raised, slots, level);
+        put_flag(&mut held, r as usize, true);
         self.slots = slots + 1;
+        self.resource = resource;
+        self.holder = holder;
+        self.raised = raised;
+        self.held = held;
         self.core.level = level;
         Outcome {
             model: self,
@@ -93,20 +101,29 @@ impl Model {
                 begun: false,
             };
         }
-        if !is_latest(&self.resource, &self.holder, slots, core.runner, r) {
+        let resource = self.resource;
+        let holder = self.holder;
+        if !is_latest(&resource, &holder, slots, core.runner, r) {
             return Outcome {
                 model: self,
                 status: NO_FUNCTION,
                 begun: false,
             };
         }
-        let level = level_below(&self.holder, &self.raised, slots - 1, core.runner, priority);
+        let mut stack = self.stack;
+        let mut levels = self.levels;
+        let raised = self.raised;
+        let mut held = self.held;
+        let level = level_below(&holder, &raised, slots - 1, core.runner, priority);
         let picked = arbitrated(at_level(core, level), priority);
         let top = core.depth;
-        self.stack[top] = core.runner;
-        self.levels[top] = level;
+        stack[top] = core.runner;
+        levels[top] = level;
+        self.stack = stack;
+        self.levels = levels;
         self.slots = slots - 1;
-        put_flag(&mut self.held, r as usize, false);
+        put_flag(&mut held, r as usize, false);
+        self.held = held;
         let k = picked.core;
         self.core = k;
         Outcome {

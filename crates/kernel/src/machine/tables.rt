@@ -1,8 +1,9 @@
 // The events of tables: Tick, Start and Stop.
 ghost use mathlib.Core.Path.{_≡_};
-ghost use mathlib.Core.Bool.{_||_};
-ghost use Prim.Native.Nat.{_+_, _≤_};
+ghost use mathlib.Core.Bool.{false, _||_};
+ghost use Prim.Native.Nat.{_+_};
 ghost use lib.Dec.{ltb, eqb};
+ghost use lib.ListN.{getD};
 ghost use Rattle.scheduler.specs.Call.{longestDelay};
 ghost use Rattle.kernel.specs.Roomy.{Roomy};
 ghost use Rattle.kernel.specs.Events.{tickedOnce, launched, halted};
@@ -30,33 +31,35 @@ use super::row::short_at;
 impl Model {
     pub fn tick<'a>(
         mut self,
-        count: u8,
         compare: &'a [u16; 64],
         entry_rank: &'a [u8; 64],
         priority: &'a [u8; 32],
     ) -> Outcome
         requires { ⌜ Roomy self ⌝ }
-        requires { ⌜ count ≤ 64 ⌝ }
-        ensures { λ r. ⌜ r ≡ tickedOnce count (now (compare .entry)) (now («entry_rank» .entry)) (now (priority .entry)) self ⌝ }
+        ensures { λ r. ⌜ r ≡ tickedOnce (now (compare .entry)) (now («entry_rank» .entry)) (now (priority .entry)) self ⌝ }
     {
-        let n = count as usize;
         let core = self.core;
+        let mut stack = self.stack;
+        let mut levels = self.levels;
+        let mut losses = self.losses;
         let on = self.on;
-        // Lent in place, the counters would make every event's copy of the model a call of memcpy.
         let mut counter = self.counter;
-        let matched = tick_cells(n, compare, &on, &mut counter);
+        let matched = tick_cells(compare, &on, &mut counter);
         let request = take_matches(
-            &matched[..n],
+            &matched,
             entry_rank,
             core.started,
             core.request,
-            &mut self.losses,
+            &mut losses,
         );
         let picked = arbitrated(asking(core, request), priority);
         self.counter = counter;
         let top = core.depth;
-        self.stack[top] = core.runner;
-        self.levels[top] = core.level;
+        stack[top] = core.runner;
+        levels[top] = core.level;
+        self.stack = stack;
+        self.levels = levels;
+        self.losses = losses;
         let k = picked.core;
         self.core = k;
         Outcome {
@@ -96,6 +99,7 @@ impl Model {
             };
         }
         let i = t as usize;
+        let mut on = self.on;
         if is_bad_delay(d, short_at(largest, i)) {
             return Outcome {
                 model: self,
@@ -104,7 +108,7 @@ impl Model {
             };
         }
         let from = byte_at(first, i, 0) as usize;
-        if flag_at(&self.on, from) {
+        if is_on(&on, from) {
             return Outcome {
                 model: self,
                 status: ALREADY_RUNS,
@@ -114,8 +118,9 @@ impl Model {
         let n = byte_at(entries, i, 0) as usize;
         let mut counter = self.counter;
         start_counters(from, n, short_at(period, i), d as u16, offset, &mut counter);
-        switch(from, n, true, &mut self.on);
+        switch(from, n, true, &mut on);
         self.counter = counter;
+        self.on = on;
         Outcome {
             model: self,
             status: DONE,
@@ -148,8 +153,9 @@ impl Model {
             };
         }
         let i = t as usize;
+        let mut on = self.on;
         let from = byte_at(first, i, 0) as usize;
-        if !flag_at(&self.on, from) {
+        if !is_on(&on, from) {
             return Outcome {
                 model: self,
                 status: NO_FUNCTION,
@@ -159,14 +165,22 @@ impl Model {
         let n = byte_at(entries, i, 0) as usize;
         let mut counter = self.counter;
         stop_counters(from, n, &mut counter);
-        switch(from, n, false, &mut self.on);
+        switch(from, n, false, &mut on);
         self.counter = counter;
+        self.on = on;
         Outcome {
             model: self,
             status: DONE,
             begun: false,
         }
     }
+}
+
+// Whether the cell of this entry is on.
+fn is_on(on: &[bool; 64], e: usize) -> bool
+    ensures { λ r. ⌜ r ≡ getD (now (on .entry)) e false ⌝ }
+{
+    flag_at(on, e)
 }
 
 // A delay of 0, or one with which the entry at the table's largest offset would be out of the counter's reach.

@@ -14,20 +14,20 @@ use Rattle.kernel.specs.Model.{doneWith}
 use Rattle.kernel.specs.Roomy.{Roomy}
 use Rattle.kernel.specs.Machine.{machineStep}
 use Rattle.kernel.specs.Run.{callOf}
-use Rattle.kernel.proofs.RunPlay.{together, step-1, step-2, step-3, step-4, step-5, step-6, step-7, step-8, step-9, step-zero, step-none, tables-laid, offsets-reached, count-le}
+use Rattle.kernel.proofs.RunPlay.{step-1, step-2, step-3, step-4, step-5, step-6, step-7, step-8, step-9, step-zero, step-none, tables-laid, offsets-reached}
 use Rattle.kernel.proofs.RunPlay.{Playing, playable-start, playing-roomy, length-out, playing-end, playing-later, playing-room, playing-turn}
 use Rattle.kernel.proofs.play.play.Statement.{statement}
 use Rattle.kernel.proofs.play.play.Tie as tie
 
 abbrev Inv-loop : tie.InvT-loop
-Inv-loop trace out₀ config plan m₀ at₀ to₀ out m at to = Playing config plan trace out₀ m₀ at to m out
+Inv-loop trace out₀ config plan o₀ at₀ to₀ out o at to = Playing config plan trace out₀ (o₀ .model) at to (o .model) out
 
 abbrev μ-loop : tie.MeasureT-loop
-μ-loop trace out₀ config plan m₀ at₀ to₀ out m at to = length trace - at
+μ-loop trace out₀ config plan o₀ at₀ to₀ out o at to = length trace - at
 
-roomy : (k : tie.At-loop Inv-loop μ-loop) → Roomy (k .loop .m)
+roomy : (k : tie.At-loop Inv-loop μ-loop) → Roomy (k .loop .o .model)
 roomy k = let a = k .before .before .before .args in
-    playing-roomy (a .t1) (a .t2) (a .trace .now) (a .out .now) (a .fresh) (k .loop .at) (k .loop .to) (k .loop .m) (k .loop .out) (k .loop .inv)
+    playing-roomy (a .t1) (a .t2) (a .trace .now) (a .out .now) (a .fresh) (k .loop .at) (k .loop .to) (k .loop .o .model) (k .loop .out) (k .loop .inv)
 
 loop-holds : tie.Need-loop-holds Inv-loop μ-loop
 loop-holds c = let a = c .before .before .args in playable-start (a .t1) (a .t2) (a .trace .now) (a .out .now) (a .fresh) (c .before .before .pre)
@@ -50,15 +50,8 @@ get-requires c κs = roomy (c .before .before .before .before .before .before .b
 release-requires : tie.Need-release-requires Inv-loop μ-loop
 release-requires c κs = roomy (c .before .before .before .before .before .before)
 
-cast-tick : tie.Need-cast-tick Inv-loop μ-loop
-cast-tick c = let k = c .before .before .before .before in
-    let a = k .before .before .before .args in
-    omega (arith, count-le (a .t1) (a .t2) (rankOf (a .t1)) (k .loop .inv .fit))
-
 tick-requires : tie.Need-tick-requires Inv-loop μ-loop
-tick-requires c κs = let k = c .before .before .before .before .before .before .before .before in
-    let a = k .before .before .before .args in
-    (roomy k, count-le (a .t1) (a .t2) (rankOf (a .t1)) (k .loop .inv .fit))
+tick-requires c κs = roomy (c .before .before .before .before .before .before .before .before)
 
 line-requires : tie.Need-line-requires Inv-loop μ-loop
 line-requires c κs = roomy (c .before .before .before .before .before .before .before)
@@ -78,51 +71,50 @@ room : (r : tie.After-read-event Inv-loop μ-loop) → r .before .before .loop .
 room r =
     let k = r .before .before in
     let a = k .before .before .before .args in
-    playing-room (a .t1) (a .t2) (a .trace .now) (a .out .now) (a .fresh) (k .loop .at) (k .loop .to) (k .loop .m) (k .loop .out) (k .loop .inv) (r .before .loop-test .taken) (r .read-event .result) (r .read-event .ensures)
+    playing-room (a .t1) (a .t2) (a .trace .now) (a .out .now) (a .fresh) (k .loop .at) (k .loop .to) (k .loop .o .model) (k .loop .out) (k .loop .inv) (r .before .loop-test .taken) (r .read-event .result) (r .read-event .ensures)
 
 later : (r : tie.After-read-event Inv-loop μ-loop) → r .before .before .loop .at < r .read-event .result .place
 later r =
     let k = r .before .before in
     let a = k .before .before .before .args in
-    playing-later (a .t1) (a .t2) (a .trace .now) (a .out .now) (a .fresh) (k .loop .at) (k .loop .to) (k .loop .m) (k .loop .out) (k .loop .inv) (r .before .loop-test .taken) (r .read-event .result) (r .read-event .ensures)
+    playing-later (a .t1) (a .t2) (a .trace .now) (a .out .now) (a .fresh) (k .loop .at) (k .loop .to) (k .loop .o .model) (k .loop .out) (k .loop .inv) (r .before .loop-test .taken) (r .read-event .result) (r .read-event .ensures)
 
 long : (k : tie.At-loop Inv-loop μ-loop) → length (k .loop .out) ≡ length (k .before .before .before .args .out .now)
 long k =
     let a = k .before .before .before .args in
-    length-out (a .t1) (a .t2) (a .trace .now) (a .out .now) (a .fresh) (k .loop .at) (k .loop .to) (k .loop .m) (k .loop .out) (k .loop .inv)
+    length-out (a .t1) (a .t2) (a .trace .now) (a .out .now) (a .fresh) (k .loop .at) (k .loop .to) (k .loop .o .model) (k .loop .out) (k .loop .inv)
 
 -- what the arms leave is the step of the event that was read
 stepped : (j : tie.At-match-came Inv-loop μ-loop)
-    → record { model = j .match .m; status = j .match .status; begun = j .match .begun }
+    → j .match .o
     ≡ machineStep (j .before .before .before .before .before .before .before .args .t1) (j .before .before .before .before .before .before .before .args .t2)
-    (j .before .before .before .before .loop .m) (callOf (j .before .before .read-event .result .event))
+    (j .before .before .before .before .loop .o .model) (callOf (j .before .before .read-event .result .event))
 stepped j =
     let a = j .before .before .before .before .before .before .before .args in
-    let m = j .before .before .before .before .loop .m in
+    let m = j .before .before .before .before .loop .o .model in
     let e = j .before .before .read-event .result .event in
-    ⊎-elim (λ w. together (w .4 .result) _ (j .match .m) (j .match .status) (j .match .begun) (w .6) (w .7) (w .8) (w .4 .ensures ∙ sym (step-1 (a .t1) (a .t2) m e (w .0 .keys1))))
+    ⊎-elim (λ w. w .5 ∙ w .4 .ensures ∙ sym (step-1 (a .t1) (a .t2) m e (w .0 .keys1)))
     (λ z1.
-    ⊎-elim (λ w. together (w .3 .result) _ (j .match .m) (j .match .status) (j .match .begun) (w .5) (w .6) (w .7) (w .3 .ensures ∙ sym (step-2 (a .t1) (a .t2) m e (w .0 .keys2))))
+    ⊎-elim (λ w. w .4 ∙ w .3 .ensures ∙ sym (step-2 (a .t1) (a .t2) m e (w .0 .keys2)))
     (λ z2.
-    ⊎-elim (λ w. together (w .4 .result) _ (j .match .m) (j .match .status) (j .match .begun) (w .6) (w .7) (w .8) (w .4 .ensures ∙ sym (step-3 (a .t1) (a .t2) m e (w .0 .keys3))))
+    ⊎-elim (λ w. w .5 ∙ w .4 .ensures ∙ sym (step-3 (a .t1) (a .t2) m e (w .0 .keys3)))
     (λ z3.
-    ⊎-elim (λ w. together (w .4 .result) _ (j .match .m) (j .match .status) (j .match .begun) (w .6) (w .7) (w .8) (w .4 .ensures ∙ sym (step-4 (a .t1) (a .t2) m e (w .0 .keys4))))
+    ⊎-elim (λ w. w .5 ∙ w .4 .ensures ∙ sym (step-4 (a .t1) (a .t2) m e (w .0 .keys4)))
     (λ z4.
-    ⊎-elim (λ w. together (w .3 .result) _ (j .match .m) (j .match .status) (j .match .begun) (w .5) (w .6) (w .7) (w .3 .ensures ∙ sym (step-5 (a .t1) (a .t2) m e (w .0 .keys5))))
+    ⊎-elim (λ w. w .4 ∙ w .3 .ensures ∙ sym (step-5 (a .t1) (a .t2) m e (w .0 .keys5)))
     (λ z5.
-    ⊎-elim (λ w. together (w .5 .result) _ (j .match .m) (j .match .status) (j .match .begun) (w .7) (w .8) (w .9) (w .5 .ensures ∙ sym (step-6 (a .t1) (a .t2) m e (w .0 .keys6))))
+    ⊎-elim (λ w. w .6 ∙ w .5 .ensures ∙ sym (step-6 (a .t1) (a .t2) m e (w .0 .keys6)))
     (λ z6.
-    ⊎-elim (λ w. together (w .4 .result) _ (j .match .m) (j .match .status) (j .match .begun) (w .6) (w .7) (w .8) (w .4 .ensures ∙ sym (step-7 (a .t1) (a .t2) m e (w .0 .keys7))))
+    ⊎-elim (λ w. w .5 ∙ w .4 .ensures ∙ sym (step-7 (a .t1) (a .t2) m e (w .0 .keys7)))
     (λ z7.
-    ⊎-elim (λ w. together (w .8 .result) _ (j .match .m) (j .match .status) (j .match .begun) (w .10) (w .11) (w .12) (w .8 .ensures ∙ sym (step-8 (a .t1) (a .t2) m e (w .0 .keys8))))
+    ⊎-elim (λ w. w .9 ∙ w .8 .ensures ∙ sym (step-8 (a .t1) (a .t2) m e (w .0 .keys8)))
     (λ z8.
-    ⊎-elim (λ w. together (w .5 .result) _ (j .match .m) (j .match .status) (j .match .begun) (w .7) (w .8) (w .9) (w .5 .ensures ∙ sym (step-9 (a .t1) (a .t2) m e (w .0 .keys9))))
+    ⊎-elim (λ w. w .6 ∙ w .5 .ensures ∙ sym (step-9 (a .t1) (a .t2) m e (w .0 .keys9)))
     (λ z9.
     ⊎-elim
-    (λ w. together (doneWith m false) _ (j .match .m) (j .match .status) (j .match .begun) (w .1) (w .2) (w .3)
-    (sym (step-zero (a .t1) (a .t2) m e (w .0 .keys10))))
-    (λ w. together (doneWith m false) _ (j .match .m) (j .match .status) (j .match .begun) (w .1) (w .2) (w .3)
-    (sym (step-none (a .t1) (a .t2) m e (λ h. w .0 .rest .0 .0 .0 .0 .0 .0 .0 .0 .0 .1 h) (λ h. w .0 .rest .0 .0 .0 .0 .0 .0 .0 .0 .1 h) (λ h. w .0 .rest .0 .0 .0 .0 .0 .0 .0 .1 h) (λ h. w .0 .rest .0 .0 .0 .0 .0 .0 .1 h) (λ h. w .0 .rest .0 .0 .0 .0 .0 .1 h) (λ h. w .0 .rest .0 .0 .0 .0 .1 h) (λ h. w .0 .rest .0 .0 .0 .1 h) (λ h. w .0 .rest .0 .0 .1 h) (λ h. w .0 .rest .0 .1 h)))) z9) z8) z7) z6) z5) z4) z3) z2) z1) (j .match .came)
+    (λ w. w .1 ∙ sym (step-zero (a .t1) (a .t2) m e (w .0 .keys10)))
+    (λ w. w .1
+    ∙ sym (step-none (a .t1) (a .t2) m e (λ h. w .0 .rest .0 .0 .0 .0 .0 .0 .0 .0 .0 .1 h) (λ h. w .0 .rest .0 .0 .0 .0 .0 .0 .0 .0 .1 h) (λ h. w .0 .rest .0 .0 .0 .0 .0 .0 .0 .1 h) (λ h. w .0 .rest .0 .0 .0 .0 .0 .0 .1 h) (λ h. w .0 .rest .0 .0 .0 .0 .0 .1 h) (λ h. w .0 .rest .0 .0 .0 .0 .1 h) (λ h. w .0 .rest .0 .0 .0 .1 h) (λ h. w .0 .rest .0 .0 .1 h) (λ h. w .0 .rest .0 .1 h))) z9) z8) z7) z6) z5) z4) z3) z2) z1) (j .match .came)
 
 runner-requires : tie.Need-runner-requires Inv-loop μ-loop
 runner-requires c κs = tt
@@ -146,19 +138,19 @@ loop-again c =
     let r = j .before .before in
     let k = r .before .before in
     let a = k .before .before .before .args in
-    playing-turn (a .t1) (a .t2) (a .trace .now) (a .out .now) (a .fresh) (k .loop .at) (k .loop .to) (k .loop .m) (k .loop .out) (k .loop .inv) (r .before .loop-test .taken) (r .read-event .result) (r .read-event .ensures)
-    (record { model = j .match .m; status = j .match .status; begun = j .match .begun }) (stepped j) _
+    playing-turn (a .t1) (a .t2) (a .trace .now) (a .out .now) (a .fresh) (k .loop .at) (k .loop .to) (k .loop .o .model) (k .loop .out) (k .loop .inv) (r .before .loop-test .taken) (r .read-event .result) (r .read-event .ensures)
+    (j .match .o) (stepped j) _
     (p .put-answer .ensures
-    ∙ ap (λ (n : ℕ). laid (k .loop .to) (j .match .status ∷ n ∷ j .match .m .core .level ∷ markOf (j .match .begun) ∷ []) (k .loop .out)) (p .before .before .runner .ensures))
+    ∙ ap (λ (n : ℕ). laid (k .loop .to) (j .match .o .status ∷ n ∷ j .match .o .model .core .level ∷ markOf (j .match .o .begun) ∷ []) (k .loop .out)) (p .before .before .runner .ensures))
 
 same-length : tie.Need-same-length Inv-loop μ-loop
-same-length c = long (c .before)
+same-length c = long (c .before .before)
 
 returns : tie.Need-returns Inv-loop μ-loop
 returns c =
-    let k = c .before in
+    let k = c .before .before in
     let a = k .before .before .before .args in
-    playing-end (a .t1) (a .t2) (a .trace .now) (a .out .now) (a .fresh) (k .loop .at) (k .loop .to) (k .loop .m) (k .loop .out) (k .loop .inv) (c .loop-test .left)
+    playing-end (a .t1) (a .t2) (a .trace .now) (a .out .now) (a .fresh) (k .loop .at) (k .loop .to) (k .loop .o .model) (k .loop .out) (k .loop .inv) (c .before .loop-test .left)
 
 pub play-spec : {M : Type 1} → statement M
 play-spec =
@@ -173,7 +165,6 @@ play-spec =
     chain-requires
     get-requires
     release-requires
-    cast-tick
     tick-requires
     line-requires
     start-requires

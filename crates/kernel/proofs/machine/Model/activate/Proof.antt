@@ -6,8 +6,10 @@ use Rattle.kernel.proofs.machine.Model.activate.Statement.{statement}
 use Rattle.kernel.proofs.machine.Model.activate.Tie as tie
 
 returns : tie.Need-returns
-returns c = let a = c .before .before .before .args in
-    activate-idle (a .task-rank .now) (a .priority .now) (a .t1) (a .t) (c .if1 .taken)
+returns c =
+    let c₁ = c .before .before .before in
+    let a = c₁ .args in
+    activate-idle (a .task-rank .now) (a .priority .now) (a .self) (a .t) (c .if1 .taken)
 
 byte-at-requires : tie.Need-byte-at-requires
 byte-at-requires c κs = search needs
@@ -16,7 +18,7 @@ returns-2 : tie.Need-returns-2
 returns-2 c =
     let c₁ = c .before in let c₂ = c₁ .before .before in let c₃ = c₂ .before .before .before in
     let a = c₃ .args in
-    activate-none (a .task-rank .now) (a .priority .now) (a .t1) (a .t) (c₂ .if1 .left) (c₁ .byte-at .ensures) (c .if2 .taken)
+    activate-none (a .task-rank .now) (a .priority .now) (a .self) (a .t) (c₂ .if1 .left) (c₁ .byte-at .ensures) (c .if2 .taken)
 
 busy-requires : tie.Need-busy-requires
 busy-requires c κs = search needs
@@ -26,24 +28,25 @@ returns-3 c =
     let c₁ = c .before in let c₂ = c₁ .before in let c₃ = c₂ .before in let c₄ = c₃ .before .before in
     let c₅ = c₄ .before .before .before in
     let a = c₅ .args in
-    activate-busy (a .task-rank .now) (a .priority .now) (a .t1) (a .t) (c₄ .if1 .left) (c₃ .byte-at .ensures) (c₂ .if2 .left)
+    activate-busy (a .task-rank .now) (a .priority .now) (a .self) (a .t) (c₄ .if1 .left) (c₃ .byte-at .ensures) (c₂ .if2 .left)
     (c₁ .busy .ensures) (c .if3 .taken)
 
 requested-requires : tie.Need-requested-requires
 requested-requires c κs = search needs
 
-element-write-self : tie.Need-element-write-self
-element-write-self c = search needs
+array-write-stack : tie.Need-array-write-stack
+array-write-stack c = search needs
 
-element-write-self-2 : tie.Need-element-write-self-2
-element-write-self-2 c = search needs
+array-write-levels : tie.Need-array-write-levels
+array-write-levels c = search needs
 
 returns-4 : tie.Need-returns-4
 returns-4 c =
-    let c₁ = c .before in let c₂ = c₁ .before in let c₃ = c₂ .before in let c₄ = c₃ .before in
-    let c₅ = c₄ .before in let c₆ = c₅ .before .before in let c₇ = c₆ .before .before .before in
+    let c₁ = c .before in let c₂ = c₁ .before .before .before in let c₃ = c₂ .before in
+    let c₄ = c₃ .before in let c₅ = c₄ .before in let c₆ = c₅ .before .before in
+    let c₇ = c₆ .before .before .before in
     let a = c₇ .args in
-    activate-done (a .task-rank .now) (a .priority .now) (a .t1) (a .t) (c₆ .if1 .left) (c₅ .byte-at .ensures) (c₄ .if2 .left)
+    activate-done (a .task-rank .now) (a .priority .now) (a .self) (a .t) (c₆ .if1 .left) (c₅ .byte-at .ensures) (c₄ .if2 .left)
     (c₃ .busy .ensures) (c₂ .if3 .left) (c₁ .requested .ensures)
 
 pub activate-spec : {M : Type 1} → statement M
@@ -56,6 +59,6 @@ activate-spec =
     busy-requires
     returns-3
     requested-requires
-    element-write-self
-    element-write-self-2
+    array-write-stack
+    array-write-levels
     returns-4)

@@ -7,11 +7,8 @@ use Rattle.kernel.proofs.machine.Model.fresh.Tie as tie
 arbitrated-requires : tie.Need-arbitrated-requires
 arbitrated-requires c κs = search needs
 
-array-write-stack : tie.Need-array-write-stack
-array-write-stack c = search needs
-
 returns : tie.Need-returns
 returns c = rw (c .before .arbitrated .ensures)
 
 pub fresh-spec : {M : Type 1} → statement M
-fresh-spec = tie.close (tie.spec arbitrated-requires array-write-stack returns)
+fresh-spec = tie.close (tie.spec arbitrated-requires returns)

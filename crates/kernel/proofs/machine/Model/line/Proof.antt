@@ -9,8 +9,10 @@ byte-at-requires : tie.Need-byte-at-requires
 byte-at-requires c κs = search needs
 
 returns : tie.Need-returns
-returns c = let a = c .before .before .before .before .args in
-    line-none (a .line-rank .now) (a .priority .now) (a .t1) (a .i) (c .before .byte-at .ensures) (c .if1 .taken)
+returns c =
+    let c₁ = c .before in let c₂ = c₁ .before .before .before in
+    let a = c₂ .args in
+    line-none (a .line-rank .now) (a .priority .now) (a .self) (a .i) (c₁ .byte-at .ensures) (c .if1 .taken)
 
 cast-has : tie.Need-cast-has
 cast-has c = search needs
@@ -20,25 +22,26 @@ has-requires c κs = search needs
 
 returns-2 : tie.Need-returns-2
 returns-2 c =
-    let c₁ = c .before in let c₂ = c₁ .before in let c₃ = c₂ .before in let c₄ = c₃ .before .before .before in
+    let c₁ = c .before in let c₂ = c₁ .before in let c₃ = c₂ .before in
+    let c₄ = c₃ .before .before .before in
     let a = c₄ .args in
-    line-waits (a .line-rank .now) (a .priority .now) (a .t1) (a .i) (c₃ .byte-at .ensures) (c₂ .if1 .left) (c₁ .has .ensures) (c .if2 .taken)
+    line-waits (a .line-rank .now) (a .priority .now) (a .self) (a .i) (c₃ .byte-at .ensures) (c₂ .if1 .left) (c₁ .has .ensures) (c .if2 .taken)
 
 requested-requires : tie.Need-requested-requires
 requested-requires c κs = search needs
 
-element-write-self : tie.Need-element-write-self
-element-write-self c = search needs
+array-write-stack : tie.Need-array-write-stack
+array-write-stack c = search needs
 
-element-write-self-2 : tie.Need-element-write-self-2
-element-write-self-2 c = search needs
+array-write-levels : tie.Need-array-write-levels
+array-write-levels c = search needs
 
 returns-3 : tie.Need-returns-3
 returns-3 c =
-    let c₁ = c .before in let c₂ = c₁ .before in let c₃ = c₂ .before in let c₄ = c₃ .before in
-    let c₅ = c₄ .before in let c₆ = c₅ .before .before .before in
+    let c₁ = c .before in let c₂ = c₁ .before .before .before in let c₃ = c₂ .before in
+    let c₄ = c₃ .before in let c₅ = c₄ .before in let c₆ = c₅ .before .before .before in
     let a = c₆ .args in
-    line-done (a .line-rank .now) (a .priority .now) (a .t1) (a .i) (c₅ .byte-at .ensures) (c₄ .if1 .left) (c₃ .has .ensures) (c₂ .if2 .left)
+    line-done (a .line-rank .now) (a .priority .now) (a .self) (a .i) (c₅ .byte-at .ensures) (c₄ .if1 .left) (c₃ .has .ensures) (c₂ .if2 .left)
     (c₁ .requested .ensures)
 
 pub line-spec : {M : Type 1} → statement M
@@ -51,6 +54,6 @@ line-spec =
     has-requires
     returns-2
     requested-requires
-    element-write-self
-    element-write-self-2
+    array-write-stack
+    array-write-levels
     returns-3)

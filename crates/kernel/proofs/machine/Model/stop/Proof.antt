@@ -7,12 +7,16 @@ use Rattle.kernel.proofs.machine.Model.stop.Statement.{statement}
 use Rattle.kernel.proofs.machine.Model.stop.Tie as tie
 
 returns : tie.Need-returns
-returns c = let a = c .before .args in
-    stop-idle (a .tables) (a .first .now) (a .entries .now) (a .t1) (a .t) (c .if1 .taken)
+returns c =
+    let c₁ = c .before .before in
+    let a = c₁ .args in
+    stop-idle (a .tables) (a .first .now) (a .entries .now) (a .self) (a .t) (c .if1 .taken)
 
 returns-2 : tie.Need-returns-2
-returns-2 c = let a = c .before .before .args in
-    stop-none (a .tables) (a .first .now) (a .entries .now) (a .t1) (a .t) (c .before .if1 .left) (c .if2 .taken)
+returns-2 c =
+    let c₁ = c .before in let c₂ = c₁ .before .before in
+    let a = c₂ .args in
+    stop-none (a .tables) (a .first .now) (a .entries .now) (a .self) (a .t) (c₁ .if1 .left) (c .if2 .taken)
 
 byte-at-requires : tie.Need-byte-at-requires
 byte-at-requires c κs = search needs
@@ -20,16 +24,16 @@ byte-at-requires c κs = search needs
 cast-from : tie.Need-cast-from
 cast-from c = search needs
 
-flag-at-requires : tie.Need-flag-at-requires
-flag-at-requires c κs = search needs
+is-on-requires : tie.Need-is-on-requires
+is-on-requires c κs = search needs
 
 returns-3 : tie.Need-returns-3
 returns-3 c =
-    let c₁ = c .before in let c₂ = c₁ .before .before .before .before in let c₃ = c₂ .before .before in
-    let c₄ = c₃ .before in let c₅ = c₄ .before in
+    let c₁ = c .before in let c₂ = c₁ .before .before in let c₃ = c₂ .before .before .before in
+    let c₄ = c₃ .before in let c₅ = c₄ .before .before in
     let a = c₅ .args in
-    stop-stopped (a .tables) (a .first .now) (a .entries .now) (a .t1) (a .t)
-    (c₄ .if1 .left) (c₃ .if2 .left) (c₂ .byte-at .ensures) (c₁ .flag-at .ensures) (not-true _ (c .if3 .taken))
+    stop-stopped (a .tables) (a .first .now) (a .entries .now) (a .self) (a .t)
+    (c₄ .if1 .left) (c₃ .if2 .left) (c₂ .byte-at .ensures) (c₁ .is-on .ensures) (not-true _ (c .if3 .taken))
 
 byte-at-requires-2 : tie.Need-byte-at-requires-2
 byte-at-requires-2 c κs = search needs
@@ -39,27 +43,26 @@ cast-n c = search needs
 
 stop-counters-requires : tie.Need-stop-counters-requires
 stop-counters-requires c κs =
-    let c₁ = c .before .before in let c₂ = c₁ .before .before .before .before .before .before .before in
-    let c₃ = c₂ .before .before in let c₄ = c₃ .before .before in
+    let c₁ = c .before .before in let c₂ = c₁ .before .before .before .before .before in
+    let c₃ = c₂ .before .before .before in let c₄ = c₃ .before .before .before in
     let a = c₄ .args in
     entries-within (a .tables) (a .first .now) (a .entries .now) (c₄ .pre) (a .t) (c₃ .if2 .left) (c₂ .byte-at .ensures) (c₁ .byte-at2 .ensures)
 
 switch-requires : tie.Need-switch-requires
 switch-requires c κs =
-    let c₁ = c .before .before .before .before in
-    let c₂ = c₁ .before .before .before .before .before .before .before in let c₃ = c₂ .before .before in
-    let c₄ = c₃ .before .before in
+    let c₁ = c .before .before .before .before in let c₂ = c₁ .before .before .before .before .before in
+    let c₃ = c₂ .before .before .before in let c₄ = c₃ .before .before .before in
     let a = c₄ .args in
     entries-within (a .tables) (a .first .now) (a .entries .now) (c₄ .pre) (a .t) (c₃ .if2 .left) (c₂ .byte-at .ensures) (c₁ .byte-at2 .ensures)
 
 returns-4 : tie.Need-returns-4
 returns-4 c =
     let c₁ = c .before .before in let c₂ = c₁ .before .before .before in let c₃ = c₂ .before .before in
-    let c₄ = c₃ .before in let c₅ = c₄ .before .before .before .before in let c₆ = c₅ .before .before in
-    let c₇ = c₆ .before in let c₈ = c₇ .before in
+    let c₄ = c₃ .before in let c₅ = c₄ .before .before in let c₆ = c₅ .before .before .before in
+    let c₇ = c₆ .before in let c₈ = c₇ .before .before in
     let a = c₈ .args in
-    stop-done (a .tables) (a .first .now) (a .entries .now) (a .t1) (a .t)
-    (c₇ .if1 .left) (c₆ .if2 .left) (c₅ .byte-at .ensures) (c₄ .flag-at .ensures) (not-false _ (c₃ .if3 .left))
+    stop-done (a .tables) (a .first .now) (a .entries .now) (a .self) (a .t)
+    (c₇ .if1 .left) (c₆ .if2 .left) (c₅ .byte-at .ensures) (c₄ .is-on .ensures) (not-false _ (c₃ .if3 .left))
     (c₂ .byte-at2 .ensures) (c₁ .stop-counters .ensures) (c .switch .ensures)
 
 pub stop-spec : {M : Type 1} → statement M
@@ -70,7 +73,7 @@ stop-spec =
     returns-2
     byte-at-requires
     cast-from
-    flag-at-requires
+    is-on-requires
     returns-3
     byte-at-requires-2
     cast-n

@@ -3,6 +3,7 @@
 use Prim.Native.Nat.{_-_}
 use mathlib.Core.Path.{ap, _∙_}
 use native.Mathlib.Omega.{arith}
+use Rattle.config.specs.Value.{maxEntries}
 use Rattle.cell.specs.Cell.{ticked}
 use Rattle.kernel.proofs.CodeCells.{Ticking, ticking-start, ticking-turn, ticking-end}
 use borrow.Author.Needs.{needs}
@@ -10,13 +11,13 @@ use Rattle.kernel.proofs.machine.cells.tick_cells.Statement.{statement}
 use Rattle.kernel.proofs.machine.cells.tick_cells.Tie as tie
 
 abbrev Inv-loop : tie.InvT-loop
-Inv-loop n compare on counter₀ matched₀ e₀ counter matched e = Ticking compare on n counter₀ counter matched e
+Inv-loop compare on counter₀ matched₀ e₀ counter matched e = Ticking compare on counter₀ counter matched e
 
 abbrev μ-loop : tie.MeasureT-loop
-μ-loop n compare on counter₀ matched₀ e₀ counter matched e = n - e
+μ-loop compare on counter₀ matched₀ e₀ counter matched e = maxEntries - e
 
 loop-holds : tie.Need-loop-holds Inv-loop μ-loop
-loop-holds c = let a = c .args in ticking-start (a .compare .now) (a .on .now) (a .n) (a .counter .now)
+loop-holds c = let a = c .args in ticking-start (a .compare .now) (a .on .now) (a .counter .now)
 
 mul-of : tie.Need-mul-of Inv-loop μ-loop
 mul-of c = omega arith
@@ -59,12 +60,12 @@ loop-again c =
     let c₁ = c .before in let c₂ = c₁ .before .before .before .before in let c₃ = c₂ .before in
     let c₄ = c₃ .before in
     let a = c₄ .args in let l = c₃ .loop in
-    ticking-turn (a .compare .now) (a .on .now) (a .n) (a .counter .now) (l .counter) (l .matched) (l .e) (l .inv)
-    (c₄ .pre) (c₂ .loop-test .taken) (c .tick .ensures ∙ ap ticked (c₁ .of .ensures))
+    ticking-turn (a .compare .now) (a .on .now) (a .counter .now) (l .counter) (l .matched) (l .e) (l .inv)
+    (c₂ .loop-test .taken) (c .tick .ensures ∙ ap ticked (c₁ .of .ensures))
 
 returns : tie.Need-returns Inv-loop μ-loop
 returns c = let a = c .before .before .args in let l = c .before .loop in
-    ticking-end (a .compare .now) (a .on .now) (a .n) (a .counter .now) (l .counter) (l .matched) (l .e) (l .inv) (c .loop-test .left)
+    ticking-end (a .compare .now) (a .on .now) (a .counter .now) (l .counter) (l .matched) (l .e) (l .inv) (c .loop-test .left)
 
 pub tick-cells-spec : {M : Type 1} → statement M
 tick-cells-spec =
