@@ -1,8 +1,9 @@
--- What one tick makes of a cell, for a counter of any modulus M: the three cases that the code tells apart, and a cell that is off.
+-- What one tick makes of a cell, for a counter of any modulus M: its three cases, the steps of the code, and a cell that is off.
 -- Assumes nothing.
 use Prim.Native.Nat.{ℕ, zero, suc}
-use mathlib.Core.Bool.{true, false}
+use mathlib.Core.Bool.{Bool, true, false, cond, _&&_}
 use mathlib.Core.Path.{_≡_, refl, ap, _∙_}
+use lib.Dec.{eqb}
 use borrow.Author.Tests.{eq-eqb, ne-eqb}
 use Rattle.cell.specs.declared.Cell.{Cell}
 use Rattle.cell.specs.Cell.{cellOf, unmarked, sumIn, resetIn, tickedIn, ticksIn}
@@ -21,6 +22,17 @@ module _ (M : ℕ) (c : Cell) where
     pub ticked-passed : (n ≡ c .compare → ⊥) → tickedIn M c ≡ unmarked n (c .compare) true
     unfolding tickedIn
     ticked-passed misses = simp (on, ← sum, ne-eqb _ _ misses)
+
+-- the steps of the code, for a cell that is on or off: n is the count, m the mark, next the counter that the cell is left with
+pub ticked-made : (M : ℕ) (c : Cell) (n : ℕ) (m : Bool) (next : ℕ)
+    → n ≡ cond (c .on) (sumIn M c) (c .counter) → m ≡ c .on && eqb n (c .compare) → next ≡ cond m (resetIn M) n
+    → cellOf next (c .compare) (c .on) m ≡ tickedIn M c
+unfolding tickedIn
+ticked-made M c n m next counts marks sets = rw (sets, marks, counts, compares (c .on) (sumIn M c) (c .counter) (c .compare))
+  where
+    compares : (on : Bool) (s i k : ℕ) → on && eqb (cond on s i) k ≡ on && eqb s k
+    compares true s i k = refl
+    compares false s i k = refl
 
 pub off-ticks : (M n : ℕ) (c : Cell) → c .on ≡ false → ticksIn M (suc n) c ≡ unmarked (c .counter) (c .compare) false
 unfolding ticksIn

@@ -54,15 +54,14 @@ impl Cell {
         ensures { λ r. ⌜ r ≡ ticked self ⌝ }
     {
         let compare = self.compare;
-        if !self.on {
-            return Cell::of(self.counter, compare, false);
-        }
-        let counter = std::num::wrapping_add_u16(self.counter, 1);
-        if counter == compare {
-            Cell::make(RESET, compare, true, true)
+        let counter = if self.on {
+            std::num::wrapping_add_u16(self.counter, 1)
         } else {
-            Cell::of(counter, compare, true)
-        }
+            self.counter
+        };
+        let matched = self.on && counter == compare;
+        let next = if matched { RESET } else { counter };
+        Cell::make(next, compare, self.on, matched)
     }
 
     pub fn stop(self) -> Cell

@@ -56,6 +56,10 @@ known code = leb activate code && leb code stop
 unfoldable pub arguments : ℕ → ℕ
 arguments code = cond (eqb code finish || eqb code tick) 0 (cond (eqb code start) 2 1)
 
+-- in the place of a count of arguments, of which no event has three: the code is unknown
+abbrev pub noEvent : ℕ
+noEvent = 3
+
 -- an event; an argument that it lacks is 0
 abbrev pub event : ℕ → ℕ → ℕ → Event
 event code first second = record { code = code; first = first; second = second }

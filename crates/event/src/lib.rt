@@ -6,13 +6,13 @@ use number::number_length;
 use number::read_number;
 use number::write_number;
 ghost use mathlib.Core.Path.{_≡_};
-ghost use mathlib.Core.Bool.{true};
+ghost use mathlib.Core.Bool.{true, cond};
 ghost use mathlib.Core.List.{_∷_, _++_};
 ghost use Prim.Native.Nat.{_+_, _≤_, _<_};
 ghost use lib.ListN.{length};
 ghost use Rattle.number.specs.Number.{numberBytes};
 ghost use Rattle.number.specs.Output.{unwritten, writing, written};
-ghost use Rattle.event.specs.Event.{known, arguments, event, accepted, refused, unreadable, readNone, readOne, readSecond, readTwo, readEvent, writeEvent, eventWritten};
+ghost use Rattle.event.specs.Event.{known, arguments, noEvent, event, accepted, refused, unreadable, readOne, readSecond, readTwo, readEvent, writeEvent, eventWritten};
 ghost use Rattle.event.specs.Refusal.{strayArgument};
 
 // The code is none of 1 to 9.
@@ -22,6 +22,9 @@ pub const STRAY_ARGUMENT: u8 = 24;
 
 // The refusal of a number that is part of a trace is this much more than `number` gives.
 const IN_TRACE: u8 = 20;
+
+// In the place of a count of arguments: no event has the code.
+const NO_EVENT: u8 = 3;
 
 // An event; an argument that it lacks is 0.
 pub struct Event {
@@ -38,8 +41,30 @@ pub struct EventRead {
     pub place: usize,
 }
 
-// The event at a place of `trace`.
+// The event at a place of `trace`. Most numbers of a trace have one byte, so these come first.
 pub fn read_event(trace: &[u8], at: usize) -> EventRead
+    ensures { λ r. ⌜ r ≡ readEvent (now (trace .entry)) at ⌝ }
+{
+    if trace.len() <= at {
+        return read_long(trace, at);
+    }
+    let code = trace[at];
+    let next = at + 1;
+    let count = arguments(code as u32);
+    if count == 0 {
+        return accepted(code, 0, 0, next);
+    }
+    if count == 1 && next < trace.len() {
+        let first = trace[next];
+        if first < 128 {
+            return accepted(code, first as u32, 0, next + 1);
+        }
+    }
+    read_long(trace, at)
+}
+
+// The same, number by number.
+fn read_long(trace: &[u8], at: usize) -> EventRead
     ensures { λ r. ⌜ r ≡ readEvent (now (trace .entry)) at ⌝ }
 {
     let head = read_number(trace, at);
@@ -47,18 +72,34 @@ pub fn read_event(trace: &[u8], at: usize) -> EventRead
         return unreadable(head);
     }
     let code = head.value;
-    let next = head.place;
+    let count = arguments(code);
+    if count == NO_EVENT {
+        return refused(UNKNOWN_EVENT, at);
+    }
+    if count == 0 {
+        return accepted(code as u8, 0, 0, head.place);
+    }
+    if count == 1 {
+        return read_one(trace, code as u8, head.place);
+    }
+    read_two(trace, code as u8, head.place)
+}
+
+// How many arguments follow the code.
+fn arguments(code: u32) -> u8
+    ensures { λ r. ⌜ r ≡ cond (known code) (arguments code) noEvent ⌝ }
+{
     match code {
-        1 => read_one(trace, 1, next), // Activate
-        2 => read_none(2, next), // Finish
-        3 => read_one(trace, 3, next), // Chain
-        4 => read_one(trace, 4, next), // Get
-        5 => read_one(trace, 5, next), // Release
-        6 => read_none(6, next), // Tick
-        7 => read_one(trace, 7, next), // Line
-        8 => read_two(trace, 8, next), // Start
-        9 => read_one(trace, 9, next), // Stop
-        0 | 10..=4294967295 => refused(UNKNOWN_EVENT, at),
+        1 => 1, // Activate
+        2 => 0, // Finish
+        3 => 1, // Chain
+        4 => 1, // Get
+        5 => 1, // Release
+        6 => 0, // Tick
+        7 => 1, // Line
+        8 => 2, // Start
+        9 => 1, // Stop
+        0 | 10..=4294967295 => NO_EVENT,
     }
 }
 
@@ -93,13 +134,6 @@ fn read_one(trace: &[u8], code: u8, at: usize) -> EventRead
         return unreadable(first);
     }
     accepted(code, first.value, 0, first.place)
-}
-
-// An event without arguments.
-fn read_none(code: u8, at: usize) -> EventRead
-    ensures { λ r. ⌜ r ≡ readNone code at ⌝ }
-{
-    accepted(code, 0, 0, at)
 }
 
 // An event, and the place after it.

@@ -1,19 +1,21 @@
 -- What the crate shows beyond its contracts. Each law stands here in full, over specs/ alone; the modules it cites prove it.
 --
--- In order: what every reading satisfies; both round trips; how long a number's bytes are; what a writer does.
+-- In order: what every reading satisfies; a number of one byte; both round trips; how long a number's bytes are; what a writer does.
 -- Assumes nothing.
 use Prim.Native.Nat.{ℕ, _+_, _≤_, _<_}
 use mathlib.Core.Path.{_≡_, refl, ap, _∙_}
 use mathlib.Core.List.{List, _++_}
 use native.Mathlib.Omega.{arith}
-use lib.ListN.{length, drop, length-append, length-drop}
+use lib.Dec.{lit<}
+use lib.ListN.{length, drop, getD, length-append, length-drop}
 use lib.Seq.{drop-drop, drop-at, getD-drop}
 use borrow.Author.Tests.{le-leb, lt-leb}
 use Rattle.number.specs.declared.NumberRead.{NumberRead}
 use Rattle.number.specs.Refusal.{none, noRoom}
 use Rattle.number.specs.Output.{writing, written, unwritten}
-use Rattle.number.specs.Number.{limit, Bytes, accepted, groups, leading, readNumber, numberBytes}
+use Rattle.number.specs.Number.{limit, Bytes, accepted, groups, shifted, leading, readNumber, numberBytes}
 use Rattle.number.proofs.Cases.{by-lt}
+use Rattle.number.proofs.Groups as Groups
 use Rattle.number.proofs.Size as Size
 use Rattle.number.proofs.Size.{room}
 use Rattle.number.proofs.RoundTrip as RoundTrip
@@ -41,6 +43,11 @@ reading bs at =
   where
     s : Size.Sized leading (drop at bs) (groups leading (drop at bs))
     s = Size.groups-sized leading (drop at bs)
+
+-- a byte with its top bit clear is a number by itself
+pub read-single : (bs : List ℕ) (at : ℕ) → at < length bs → getD bs at 0 < 128 → readNumber bs at ≡ accepted (getD bs at 0) (at + 1)
+unfolding readNumber
+read-single bs at within small = ap (shifted at) (Groups.groups-at-end bs at leading within (lit< tt) small)
 
 -- where the bytes of v stand, v is read and the place after them, whatever stands before and after
 pub read-at : (bs : List ℕ) (at v : ℕ) (rest : List ℕ) → v < limit → drop at bs ≡ numberBytes v ++ rest

@@ -1,9 +1,8 @@
--- `read_number` meets its contract: a number of one byte is the law `groups-at-end`, and any other is read group by group.
+-- `read_number` meets its contract: a number of one byte is the law `read-single`, and any other is read group by group.
 -- Assumes nothing.
-use mathlib.Core.Path.{sym, ap}
+use mathlib.Core.Path.{sym}
 use native.Mathlib.Omega.{arith}
-use Rattle.number.specs.Number.{shifted, leading, readNumber}
-use Rattle.number.proofs.Groups.{groups-at-end}
+use Rattle.number.proofs.Theorems.{read-single}
 use borrow.Author.Needs.{needs}
 use Rattle.number.proofs.read_number.Statement.{statement}
 use Rattle.number.proofs.read_number.Tie as tie
@@ -24,9 +23,8 @@ add-t9 : tie.Need-add-t9
 add-t9 c = search needs
 
 returns-2 : tie.Need-returns-2
-unfolding readNumber
 returns-2 c = let a = c .before .before .before .before .args in
-    ap (shifted (a .at)) (sym (groups-at-end (a .bytes .now) (a .at) leading (omega arith) (omega arith) (c .if2 .taken)))
+    sym (read-single (a .bytes .now) (a .at) (omega arith) (c .if2 .taken))
 
 read-long-requires-2 : tie.Need-read-long-requires-2
 read-long-requires-2 c κs = search needs
