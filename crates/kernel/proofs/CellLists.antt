@@ -60,10 +60,10 @@ unfolding countersStopped laid
 stopped-laid zero e ns = refl
 stopped-laid (suc k) e ns = stopped-laid k (suc e) (set ns e 0)
 
-pub switched-laid : (k e : ℕ) (b : Bool) (os : List Bool) → switched k e b os ≡ laid (λ _. b) k e os
+pub switched-laid : (k e x : ℕ) (os : List ℕ) → switched k e x os ≡ laid (λ _. x) k e os
 unfolding switched laid
-switched-laid zero e b os = refl
-switched-laid (suc k) e b os = switched-laid k (suc e) b (set os e b)
+switched-laid zero e x os = refl
+switched-laid (suc k) e x os = switched-laid k (suc e) x (set os e x)
 
 -- no number of a list is above its greatest
 pub greatest-le : (l : List ℕ) (i : ℕ) → getD l i 0 ≤ foldr max 0 l

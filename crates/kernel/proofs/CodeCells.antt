@@ -17,7 +17,7 @@ use Rattle.cell.specs.Cell.{unmarked, startCell, ticked}
 use Rattle.word.specs.Word.{has, with}
 use Rattle.kernel.specs.Model.{noRank}
 use Rattle.kernel.specs.Code.{group, anyOf}
-use Rattle.kernel.specs.Cells.{cellAt, countersTicked, marks, countersStarted, countersStopped, switched, Due, matchAt, requestsDue}
+use Rattle.kernel.specs.Cells.{isOn, cellAt, countersTicked, marks, countersStarted, countersStopped, switched, Due, matchAt, requestsDue}
 use Rattle.kernel.proofs.CellLists.{due-none, due-append}
 
 -- a loop over the k entries from f on begins with all of them, and each turn takes one
@@ -30,13 +30,13 @@ next u e h = omega arith
 none : (u e : ℕ) → u ≤ e → u - e ≡ 0
 none u e h = omega arith
 
-module _ (ks : List ℕ) (os : List Bool) where
+module _ (ks os : List ℕ) where
   -- later marks do not see an earlier counter
   marks-set : (k e i x : ℕ) (ns : List ℕ) → i < e → marks k e ks os (set ns i x) ≡ marks k e ks os ns
   unfolding marks
   marks-set zero e i x ns h = refl
   marks-set (suc k) e i x ns h =
-      ap₂ (λ (n : ℕ) (bs : List Bool). ticked (unmarked n (getD ks e 0) (getD os e false)) .matched ∷ bs)
+      ap₂ (λ (n : ℕ) (bs : List Bool). ticked (unmarked n (getD ks e 0) (isOn (getD os e 0))) .matched ∷ bs)
       (getD-set-other ns i e x 0 (λ q. absurd (omega arith)))
       (marks-set k (suc e) i x ns (omega arith))
 
@@ -190,11 +190,11 @@ module _ (u e : ℕ) (ns : List ℕ) where
   stopped-end h = rw (none u e h)
 
 -- switches
-module _ (u e : ℕ) (b : Bool) (os : List Bool) where
-  pub switched-turn : e < u → switched (u - (e + 1)) (e + 1) b (set os e b) ≡ switched (u - e) e b os
+module _ (u e x : ℕ) (os : List ℕ) where
+  pub switched-turn : e < u → switched (u - (e + 1)) (e + 1) x (set os e x) ≡ switched (u - e) e x os
   unfolding switched
   switched-turn h = rw (next u e h, add-one e)
 
-  pub switched-end : u ≤ e → switched (u - e) e b os ≡ os
+  pub switched-end : u ≤ e → switched (u - e) e x os ≡ os
   unfolding switched
   switched-end h = rw (none u e h)

@@ -15,11 +15,11 @@ use Rattle.kernel.specs.declared.machine.Picked.{Picked}
 use Rattle.kernel.specs.declared.machine.Model.{Model}
 use Rattle.kernel.specs.Model.{noRank, withRequest, withCells, doneWith, refusedWith}
 use Rattle.kernel.specs.Arbiter.{arbitrated}
-use Rattle.kernel.specs.Cells.{countersTicked, marks, countersStarted, countersStopped, switched, Due, requestsDue}
+use Rattle.kernel.specs.Cells.{switchOn, switchOff, isOn, countersTicked, marks, countersStarted, countersStopped, switched, Due, requestsDue}
 use Rattle.kernel.specs.Events.{marksOf, tickedOnce, launched, halted}
 use Rattle.kernel.specs.Code.{dueWith, Delays, Laid, Reached}
 
-pub length-marks : (k e : ℕ) (ks : List ℕ) (os : List Bool) (ns : List ℕ) → length (marks k e ks os ns) ≡ k
+pub length-marks : (k e : ℕ) (ks os ns : List ℕ) → length (marks k e ks os ns) ≡ k
 unfolding marks
 length-marks zero e ks os ns = refl
 length-marks (suc k) e ks os ns = ap suc (length-marks k (suc e) ks os ns)
@@ -88,15 +88,15 @@ module _ (n : ℕ) (fs gs es qs os : List ℕ) (m : Model) (t d : ℕ) where
       unfolding launched firstOf
       start-bad h = rw (ne-eqb (m .core .runner) noRank busy, lt-leb n t some, ← largest, sym test ∙ h)
 
-      module _ (good : b ≡ false) {f : ℕ} (from : f ≡ getD fs t 0) {a : Bool} (on : a ≡ getD (m .on) f false) where
+      module _ (good : b ≡ false) {f : ℕ} (from : f ≡ getD fs t 0) {a : Bool} (on : a ≡ isOn (getD (m .on) f 0)) where
         pub start-runs : a ≡ true → refusedWith m alreadyRuns ≡ launched n fs gs es qs os m t d
         unfolding launched firstOf
         start-runs h =
             rw (ne-eqb (m .core .runner) noRank busy, lt-leb n t some, ← largest, sym test ∙ good, ← from, sym on ∙ h)
 
         pub start-done : a ≡ false → {k : ℕ} → k ≡ getD es t 0 → {P : ℕ} → P ≡ getD qs t 0
-            → {ns : List ℕ} → ns ≡ countersStarted k f P d os (m .counter) → {bs : List Bool} → bs ≡ switched k f true (m .on)
-            → doneWith (withCells m ns bs) false ≡ launched n fs gs es qs os m t d
+            → {ns : List ℕ} → ns ≡ countersStarted k f P d os (m .counter) → {xs : List ℕ} → xs ≡ switched k f switchOn (m .on)
+            → doneWith (withCells m ns xs) false ≡ launched n fs gs es qs os m t d
         unfolding launched firstOf
         start-done h many period counted switches =
             rw (
@@ -123,14 +123,14 @@ module _ (n : ℕ) (fs es : List ℕ) (m : Model) (t : ℕ) where
     unfolding halted firstOf
     stop-none h = rw (ne-eqb (m .core .runner) noRank busy, le-leb n t h)
 
-    module _ (some : t < n) {f : ℕ} (from : f ≡ getD fs t 0) {a : Bool} (on : a ≡ getD (m .on) f false) where
+    module _ (some : t < n) {f : ℕ} (from : f ≡ getD fs t 0) {a : Bool} (on : a ≡ isOn (getD (m .on) f 0)) where
       pub stop-stopped : a ≡ false → refusedWith m noFunction ≡ halted n fs es m t
       unfolding halted firstOf
       stop-stopped h = rw (ne-eqb (m .core .runner) noRank busy, lt-leb n t some, ← from, sym on ∙ h)
 
       pub stop-done : a ≡ true → {k : ℕ} → k ≡ getD es t 0
-          → {ns : List ℕ} → ns ≡ countersStopped k f (m .counter) → {bs : List Bool} → bs ≡ switched k f false (m .on)
-          → doneWith (withCells m ns bs) false ≡ halted n fs es m t
+          → {ns : List ℕ} → ns ≡ countersStopped k f (m .counter) → {xs : List ℕ} → xs ≡ switched k f switchOff (m .on)
+          → doneWith (withCells m ns xs) false ≡ halted n fs es m t
       unfolding halted firstOf
       stop-done h many counted switches =
           rw (ne-eqb (m .core .runner) noRank busy, lt-leb n t some, ← from, sym on ∙ h, counted, switches, many)

@@ -17,6 +17,7 @@ use Rattle.scheduler.specs.Scheduler.{newBody, fresh}
 use Rattle.scheduler.proofs.Changing.{tables-dispatched}
 use Rattle.kernel.specs.Machine.{unstarted, freshModel}
 use Rattle.kernel.proofs.Views.{slotsIn}
+use Rattle.kernel.specs.Cells.{switchOff, isOn}
 use Rattle.kernel.proofs.Simulation.{Fitted, at, wants, framesFor, Chained, slotsAlong, Distinct, trues, CellFits, Timed, Lost, Tied, Sim}
 use Rattle.kernel.proofs.Arbitration.{settled-tied}
 use Rattle.kernel.proofs.Calls.{lost-same, dispatched-losses}
@@ -93,15 +94,15 @@ module _ (c : Config) (p : Plan) (rk : ℕ → ℕ) (fit : Fitted c p rk) where
         };
       }
 
-  unbegun-timed : Timed c p (replicate 64 0) (replicate 64 false) (replicate (c .tables) stopped)
+  unbegun-timed : Timed c p (replicate 64 0) (replicate 64 switchOff) (replicate (c .tables) stopped)
   unfolding CellFits
   unbegun-timed =
       record {
         tables-long = length-replicate (c .tables) stopped;
         counters-long = refl;
         switches-long = refl;
-        cells = λ t e t< a b. rw (same-everywhere (c .tables) stopped t) (same-everywhere 64 false e);
-        spare = λ e h. same-everywhere 64 false e;
+        cells = λ t e t< a b. rw (same-everywhere (c .tables) stopped t) (ap isOn (same-everywhere 64 switchOff e));
+        spare = λ e h. ap isOn (same-everywhere 64 switchOff e);
       }
 
   unbegun-lost : Lost c rk (replicate 32 0) (unbegun .bodies)

@@ -25,13 +25,13 @@ use Rattle.cell.specs.Cell.{unmarked, ticked}
 use Rattle.cell.proofs.Theorems.{off-ticked-same, on-time-matched, on-time-counter}
 use Rattle.scheduler.specs.State.{Table, stopped, running, State}
 use Rattle.scheduler.specs.Tick.{counting, entryDue, duesFrom, dues}
-use Rattle.kernel.specs.Cells.{cellAt, countersTicked, marks, Due, requestsDue}
+use Rattle.kernel.specs.Cells.{isOn, cellAt, countersTicked, marks, Due, requestsDue}
 use Rattle.kernel.specs.Code.{anyOf}
 use Rattle.kernel.proofs.Simulation.{Fitted, CellFits, Timed}
 use Rattle.kernel.proofs.CellLists.{due-append, due-quiet}
 
 -- a tick reaches the counters of its cells, each by its own cell alone
-module _ (ks : List ℕ) (os : List Bool) where
+module _ (ks os : List ℕ) where
   pub length-ticked : (k e : ℕ) (ns : List ℕ) → length (countersTicked k e ks os ns) ≡ length ns
   unfolding countersTicked
   length-ticked zero e ns = refl
@@ -50,7 +50,7 @@ module _ (ks : List ℕ) (os : List Bool) where
       by-eq i e
       (λ z. rw z (ticked-before k (suc e) e (set ns e x) (omega arith) ∙ getD-set-same ns e x 0 (omega arith)))
       (λ n. ticked-at k (suc e) i (set ns e x) (omega arith) (omega arith) (rw (length-set ns e x) len)
-      ∙ ap (λ (v : ℕ). ticked (unmarked v (getD ks i 0) (getD os i false)) .counter) (getD-set-other ns e i x 0 n))
+      ∙ ap (λ (v : ℕ). ticked (unmarked v (getD ks i 0) (isOn (getD os i 0))) .counter) (getD-set-other ns e i x 0 n))
     where
       x : ℕ
       x = ticked (cellAt ks os ns e) .counter
@@ -70,7 +70,7 @@ module _ (ks : List ℕ) (os : List Bool) where
       shift e j = omega arith
 
   -- cells that are off do not match
-  off-marks : (k e : ℕ) (ns : List ℕ) → ((i : ℕ) → e ≤ i → getD os i false ≡ false) → anyOf (marks k e ks os ns) ≡ false
+  off-marks : (k e : ℕ) (ns : List ℕ) → ((i : ℕ) → e ≤ i → isOn (getD os i 0) ≡ false) → anyOf (marks k e ks os ns) ≡ false
   unfolding marks anyOf
   off-marks zero e ns off = refl
   off-marks (suc k) e ns off =
@@ -78,7 +78,7 @@ module _ (ks : List ℕ) (os : List Bool) where
       (off-marks k (suc e) ns (λ i h. off i (omega arith)))
 
   -- what a row asks for of which only the first n cells may be on
-  pub due-first-cells : (n : ℕ) → n ≤ maxEntries → ((i : ℕ) → n ≤ i → getD os i false ≡ false) → (w : ℕ) (ns rs : List ℕ) (x : Due)
+  pub due-first-cells : (n : ℕ) → n ≤ maxEntries → ((i : ℕ) → n ≤ i → isOn (getD os i 0) ≡ false) → (w : ℕ) (ns rs : List ℕ) (x : Due)
       → requestsDue w (marks maxEntries 0 ks os ns) rs x ≡ requestsDue w (marks n 0 ks os ns) rs x
   due-first-cells n h off w ns rs x =
       ap (λ (k : ℕ). requestsDue w (marks k 0 ks os ns) rs x) all
@@ -131,7 +131,7 @@ unfolding CellFits counting
 cell-counted P o i k on stopped h = h
 cell-counted P o i k on (running d n) h = on-time-counter P (d + o) n i k on h
 
-module _ (c : Config) (p : Plan) (rk : ℕ → ℕ) (fit : Fitted c p rk) (ns : List ℕ) (os : List Bool) where
+module _ (c : Config) (p : Plan) (rk : ℕ → ℕ) (fit : Fitted c p rk) (ns os : List ℕ) where
   abbrev ks : List ℕ
   ks = p .compare
 
@@ -186,6 +186,6 @@ module _ (c : Config) (p : Plan) (rk : ℕ → ℕ) (fit : Fitted c p rk) (ns : 
               let inside : e < maxEntries = omega (arith, fit .few-entries, firstOf-rises c (suc t) (c .tables) t<) in
               let new = ticked-at ks os maxEntries 0 e ns (omega arith) (omega arith) (omega (arith, timed .counters-long)) in
               rw (new, List·getD-map counting ts t stopped)
-              (cell-counted (getD (c .period) t 0) (getD (c .offset) e 0) (getD ns e 0) (getD ks e 0) (getD os e false) (getD ts t stopped) (timed .cells t e t< a b));
+              (cell-counted (getD (c .period) t 0) (getD (c .offset) e 0) (getD ns e 0) (getD ks e 0) (isOn (getD os e 0)) (getD ts t stopped) (timed .cells t e t< a b));
           spare = timed .spare;
         }

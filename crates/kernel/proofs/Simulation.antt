@@ -22,7 +22,7 @@ use Rattle.scheduler.specs.Call.{requestWaits}
 use Rattle.kernel.specs.declared.machine.Core.{Core}
 use Rattle.kernel.specs.declared.machine.Model.{Model}
 use Rattle.kernel.specs.Model.{noRank}
-use Rattle.kernel.specs.Cells.{cellAt}
+use Rattle.kernel.specs.Cells.{isOn, cellAt}
 use Rattle.kernel.specs.Events.{idles}
 use Rattle.kernel.proofs.Views.{Frame, frame, framesOf, Slot, slot, slotsOf}
 
@@ -148,14 +148,14 @@ CellFits P o x stopped = x .on ≡ false
 CellFits P o x (running d n) = OnTime x P (d + o) n
 
 -- the cells keep the tables' arithmetic; ns: the counters, os: the switches
-pub record Timed (c : Config) (p : Plan) (ns : List ℕ) (os : List Bool) (ts : List Table) : Type 0 where
+pub record Timed (c : Config) (p : Plan) (ns os : List ℕ) (ts : List Table) : Type 0 where
   pub tables-long : length ts ≡ c .tables
   pub counters-long : length ns ≡ 64
   pub switches-long : length os ≡ 64
   pub cells : (t e : ℕ) → t < c .tables → firstOf c t ≤ e → e < firstOf c (suc t)
       → CellFits (getD (c .period) t 0) (getD (c .offset) e 0) (cellAt (p .compare) os ns e) (getD ts t stopped)
   -- a cell without an entry is off
-  pub spare : (e : ℕ) → firstOf c (c .tables) ≤ e → getD os e false ≡ false
+  pub spare : (e : ℕ) → firstOf c (c .tables) ≤ e → isOn (getD os e 0) ≡ false
 
 -- a task's losses stand at its rank, and an ISR has none; ls: the losses by rank
 pub record Lost (c : Config) (rk : ℕ → ℕ) (ls : List ℕ) (bs : List Body) : Type 0 where

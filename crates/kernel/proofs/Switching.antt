@@ -3,7 +3,7 @@
 use Prim.Native.Nat.{ℕ, suc, _+_, _-_, _≤_, _<_}
 use mathlib.Core.Path.{_≡_, refl, sym, ap, _∙_}
 use mathlib.Core.Logic.{_≢_}
-use mathlib.Core.Bool.{Bool, true, false, not, _||_}
+use mathlib.Core.Bool.{true, false, not, _||_}
 use mathlib.Core.List.{List}
 use native.Mathlib.Omega.{arith}
 use borrow.Author.Tests.{leb-false}
@@ -26,7 +26,7 @@ use Rattle.scheduler.specs.Scheduler.{Start, Stop, step}
 use Rattle.scheduler.proofs.Checks.{start-passed, stop-passed}
 use Rattle.kernel.specs.declared.machine.Model.{Model}
 use Rattle.kernel.specs.Model.{withCells, doneWith}
-use Rattle.kernel.specs.Cells.{cellAt}
+use Rattle.kernel.specs.Cells.{switchOn, switchOff, isOn, cellAt}
 use Rattle.kernel.specs.Events as Machine
 use Rattle.kernel.specs.Events.{idles, runs, starting, stopping, launched, halted}
 use Rattle.kernel.specs.Machine.{machineStep, matched}
@@ -62,21 +62,21 @@ module _ (c : Config) (p : Plan) (rk : ℕ → ℕ) (fit : Fitted c p rk) where
     P = getD (c .period) t 0
 
     -- table t becomes x, and its cells get the counters f and the switch b
-    module _ (ns : List ℕ) (os : List Bool) (ts : List Table) (timed : Timed c p ns os ts) (f : ℕ → ℕ) (b : Bool) (x : Table)
-        (fits : (e : ℕ) → firstOf c t ≤ e → e < firstOf c (suc t) → CellFits P (getD (c .offset) e 0) (unmarked (f e) (P - 1) b) x) where
+    module _ (ns os : List ℕ) (ts : List Table) (timed : Timed c p ns os ts) (f : ℕ → ℕ) (b : ℕ) (x : Table)
+        (fits : (e : ℕ) → firstOf c t ≤ e → e < firstOf c (suc t) → CellFits P (getD (c .offset) e 0) (unmarked (f e) (P - 1) (isOn b)) x) where
       abbrev ns′ : List ℕ
       ns′ = laid f count (firstOf c t) ns
 
-      abbrev os′ : List Bool
+      abbrev os′ : List ℕ
       os′ = laid (λ _. b) count (firstOf c t) os
 
       -- the cells of table t are those that it gets, and the other tables' stay
-      own-cell : (e : ℕ) → firstOf c t ≤ e → e < firstOf c (suc t) → cellAt (p .compare) os′ ns′ e ≡ unmarked (f e) (P - 1) b
+      own-cell : (e : ℕ) → firstOf c t ≤ e → e < firstOf c (suc t) → cellAt (p .compare) os′ ns′ e ≡ unmarked (f e) (P - 1) (isOn b)
       own-cell e low high i =
           unmarked
           (laid-inside f count (firstOf c t) ns e 0 low high′ (rw (timed .counters-long) e<64) i)
           (fit .compare-at t e t< low high i)
-          (laid-inside (λ _. b) count (firstOf c t) os e false low high′ (rw (timed .switches-long) e<64) i)
+          (isOn (laid-inside (λ _. b) count (firstOf c t) os e 0 low high′ (rw (timed .switches-long) e<64) i))
         where
           high′ : e < firstOf c t + count
           high′ = omega (arith, firstOf-step c t)
@@ -86,13 +86,13 @@ module _ (c : Config) (p : Plan) (rk : ℕ → ℕ) (fit : Fitted c p rk) where
 
       other-cell : (u e : ℕ) → u < c .tables → u ≢ t → firstOf c u ≤ e → e < firstOf c (suc u)
           → cellAt (p .compare) os′ ns′ e ≡ cellAt (p .compare) os ns e
-      other-cell u e u< n low high i = unmarked (stays f ns 0 i) (getD (p .compare) e 0) (stays (λ _. b) os false i)
+      other-cell u e u< n low high i = unmarked (stays f ns i) (getD (p .compare) e 0) (isOn (stays (λ _. b) os i))
         where
-          stays : {A : Type 0} (g : ℕ → A) (l : List A) (d : A) → getD (laid g count (firstOf c t) l) e d ≡ getD l e d
-          stays g l d =
+          stays : (g : ℕ → ℕ) (l : List ℕ) → getD (laid g count (firstOf c t) l) e 0 ≡ getD l e 0
+          stays g l =
               by-lt u t
-              (λ h. laid-before g count (firstOf c t) l e d (omega (arith, firstOf-rises c (suc u) t (omega arith))))
-              (λ h. laid-after g count (firstOf c t) l e d
+              (λ h. laid-before g count (firstOf c t) l e 0 (omega (arith, firstOf-rises c (suc u) t (omega arith))))
+              (λ h. laid-after g count (firstOf c t) l e 0
               (omega (arith, firstOf-rises c (suc t) u (omega (arith, n)), firstOf-step c t)))
 
       table-timed : Timed c p ns′ os′ (set ts t x)
@@ -105,7 +105,7 @@ module _ (c : Config) (p : Plan) (rk : ℕ → ℕ) (fit : Fitted c p rk) where
                 (λ q. rw (q, getD-set-same ts t x stopped (rw (timed .tables-long) t<), own-cell e (rw q at low) (rw q at high))
                 (fits e (rw q at low) (rw q at high)))
                 (λ n. rw (getD-set-other ts t u x stopped n, other-cell u e u< n low high) (timed .cells u e u< low high));
-            spare = λ e h. laid-after (λ _. b) count (firstOf c t) os e false (omega (arith, firstOf-rises c (suc t) (c .tables) t<, firstOf-step c t))
+            spare = λ e h. ap isOn (laid-after (λ _. b) count (firstOf c t) os e 0 (omega (arith, firstOf-rises c (suc t) (c .tables) t<, firstOf-step c t)))
                 ∙ timed .spare e h;
           }
 
@@ -119,12 +119,12 @@ module _ (c : Config) (p : Plan) (rk : ℕ → ℕ) (fit : Fitted c p rk) (m : M
       (go (tableOf s t) (sim .timed .cells t (firstOf c t) h (omega arith) (omega (arith, firstOf-step c t, fit .some-entry t h))))
     where
       go : (x : Table) → CellFits (getD (c .period) t 0) (getD (c .offset) (firstOf c t) 0) (cellAt (p .compare) (m .on) (m .counter) (firstOf c t)) x
-          → getD (m .on) (firstOf c t) false ≡ isRunning x
+          → isOn (getD (m .on) (firstOf c t) 0) ≡ isRunning x
       go stopped k = k
       go (running d n) k = k .on
 
   -- a call that changes the cells and one table alone
-  cells-accepted : (ns : List ℕ) (os : List Bool) (ts : List Table) → Timed c p ns os ts
+  cells-accepted : (ns os : List ℕ) (ts : List Table) → Timed c p ns os ts
       → Accepted c p rk fit (doneWith (withCells m ns os) false) (record { bodies = s .bodies; tables = ts })
   cells-accepted ns os ts timed =
       record {
@@ -155,7 +155,7 @@ module _ (c : Config) (p : Plan) (rk : ℕ → ℕ) (fit : Fitted c p rk) (m : M
   start-timed t d t< some fits =
       rw (fit .first-at t t<, started-laid, switched-laid)
       (table-timed c p rk fit t t< (m .counter) (m .on) (s .tables) (sim .timed)
-      (λ i. startCell (getD (c .period) t 0) (d + getD (c .offset) i 0) .counter) true (running d 0)
+      (λ i. startCell (getD (c .period) t 0) (d + getD (c .offset) i 0) .counter) switchOn (running d 0)
       (λ e low high. started-on-time (getD (c .period) t 0) (d + getD (c .offset) e 0) (fit .period-low t t<) (fit .period-high t t<)
       (omega (arith, some)) (omega (arith, offset-le c p rk fit t t< e low high))))
 
@@ -183,7 +183,7 @@ module _ (c : Config) (p : Plan) (rk : ℕ → ℕ) (fit : Fitted c p rk) (m : M
   unfolding CellFits
   stop-timed t t< =
       rw (fit .first-at t t<, stopped-laid, switched-laid)
-      (table-timed c p rk fit t t< (m .counter) (m .on) (s .tables) (sim .timed) (λ _. 0) false stopped (λ e low high. refl))
+      (table-timed c p rk fit t t< (m .counter) (m .on) (s .tables) (sim .timed) (λ _. 0) switchOff stopped (λ e low high. refl))
 
   pub agrees-stop : (t : ℕ) → Agrees c p rk fit m s (Stop t)
   unfolding machineStep halted step matched

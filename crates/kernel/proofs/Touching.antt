@@ -27,7 +27,7 @@ use Rattle.kernel.proofs.Chains.{Alike, framesFor-alike, chained-alike,
 use Rattle.kernel.proofs.Standing.{waits-same}
 
 -- the cells and the losses of a model replaced
-abbrev pub withRest : Model → List ℕ → List Bool → List ℕ → Model
+abbrev pub withRest : Model → List ℕ → List ℕ → List ℕ → Model
 withRest m ns os ls =
     record {
       core = m .core;
@@ -44,7 +44,7 @@ withRest m ns os ls =
     }
 
 module _ (c : Config) (rk : ℕ → ℕ) (m : Model) (bs : List Body) (ch : List ℕ) (t : Tied c rk m bs ch) where
-  pub elsewhere : (ns : List ℕ) (os : List Bool) (ls : List ℕ) → Tied c rk (withRest m ns os ls) bs ch
+  pub elsewhere : (ns os ls : List ℕ) → Tied c rk (withRest m ns os ls) bs ch
   elsewhere ns os ls =
       record {
         size = t .size;

@@ -8,20 +8,31 @@
 use Prim.Native.Nat.{ℕ, zero, suc, _+_, min}
 use mathlib.Core.Bool.{Bool, true, false, cond, _||_}
 use mathlib.Core.List.{List, [], _∷_}
+use lib.Dec.{eqb}
 use lib.ListN.{getD, set}
 use Rattle.cell.specs.declared.Cell.{Cell}
 use Rattle.cell.specs.Cell.{unmarked, startCell, ticked}
 use Rattle.word.specs.Word.{has, with}
 
--- the cell of entry e
-abbrev pub cellAt : List ℕ → List Bool → List ℕ → ℕ → Cell
-cellAt ks os ns e = unmarked (getD ns e 0) (getD ks e 0) (getD os e false)
+-- a switch is a number as wide as a counter, so that cells are ticked several at once
+abbrev pub switchOn : ℕ
+switchOn = 1
 
-unfoldable pub countersTicked : ℕ → ℕ → List ℕ → List Bool → List ℕ → List ℕ
+abbrev pub switchOff : ℕ
+switchOff = 0
+
+abbrev pub isOn : ℕ → Bool
+isOn x = eqb x switchOn
+
+-- the cell of entry e
+abbrev pub cellAt : List ℕ → List ℕ → List ℕ → ℕ → Cell
+cellAt ks os ns e = unmarked (getD ns e 0) (getD ks e 0) (isOn (getD os e 0))
+
+unfoldable pub countersTicked : ℕ → ℕ → List ℕ → List ℕ → List ℕ → List ℕ
 countersTicked zero e ks os ns = ns
 countersTicked (suc k) e ks os ns = countersTicked k (suc e) ks os (set ns e (ticked (cellAt ks os ns e) .counter))
 
-unfoldable pub marks : ℕ → ℕ → List ℕ → List Bool → List ℕ → List Bool
+unfoldable pub marks : ℕ → ℕ → List ℕ → List ℕ → List ℕ → List Bool
 marks zero e ks os ns = []
 marks (suc k) e ks os ns = ticked (cellAt ks os ns e) .matched ∷ marks k (suc e) ks os ns
 
@@ -35,10 +46,10 @@ unfoldable pub countersStopped : ℕ → ℕ → List ℕ → List ℕ
 countersStopped zero e ns = ns
 countersStopped (suc k) e ns = countersStopped k (suc e) (set ns e 0)
 
--- the switches of the k entries from e on, all at b
-unfoldable pub switched : ℕ → ℕ → Bool → List Bool → List Bool
-switched zero e b os = os
-switched (suc k) e b os = switched k (suc e) b (set os e b)
+-- the switches of the k entries from e on, all at x
+unfoldable pub switched : ℕ → ℕ → ℕ → List ℕ → List ℕ
+switched zero e x os = os
+switched (suc k) e x os = switched k (suc e) x (set os e x)
 
 -- the request word, and the losses by rank
 pub record Due : Type 0 where

@@ -2,7 +2,7 @@
 --
 -- ps are the priorities by rank, trs and lrs the ranks of tasks and of ISRs by body, as the plan has them. Assumes nothing.
 use Prim.Native.Nat.{ℕ, _+_, max}
-use mathlib.Core.Bool.{Bool, true, false, cond, not, _&&_, _||_}
+use mathlib.Core.Bool.{Bool, false, cond, not, _&&_, _||_}
 use mathlib.Core.List.{List, [], _∷_}
 use lib.Dec.{ltb, leb, eqb}
 use lib.ListN.{getD}
@@ -15,7 +15,7 @@ use Rattle.kernel.specs.declared.machine.Outcome.{Outcome}
 use Rattle.kernel.specs.Model.{noRank, withRequest, withCells, doneWith, refusedWith}
 use Rattle.kernel.specs.Arbiter.{settled, leaving, requesting}
 use Rattle.kernel.specs.Resources.{holding, latest, taking, freeing}
-use Rattle.kernel.specs.Cells.{countersTicked, marks, countersStarted, countersStopped, switched, Due, requestsDue}
+use Rattle.kernel.specs.Cells.{switchOn, switchOff, isOn, countersTicked, marks, countersStarted, countersStopped, switched, Due, requestsDue}
 
 -- "nobody runs"
 abbrev pub idles : Model → Bool
@@ -116,7 +116,7 @@ tickedOnce ks rs ps m = settled ps (ticking ks rs m)
 
 -- a table "runs" where its first cell is on; fs: the tables' first entries
 abbrev pub runs : List ℕ → Model → ℕ → Bool
-runs fs m t = getD (m .on) (getD fs t 0) false
+runs fs m t = isOn (getD (m .on) (getD fs t 0) 0)
 
 -- Start t, d, of n tables with the largest offsets gs
 abbrev pub startStatus : ℕ → List ℕ → List ℕ → Model → ℕ → ℕ → ℕ
@@ -130,7 +130,7 @@ startStatus n fs gs m t d =
 
 -- k entries from e on, with period P and offsets os
 abbrev pub starting : ℕ → ℕ → ℕ → List ℕ → ℕ → Model → Model
-starting k e P os d m = withCells m (countersStarted k e P d os (m .counter)) (switched k e true (m .on))
+starting k e P os d m = withCells m (countersStarted k e P d os (m .counter)) (switched k e switchOn (m .on))
 
 -- es: the tables' entry counts, qs: their periods
 unfoldable pub launched : ℕ → List ℕ → List ℕ → List ℕ → List ℕ → List ℕ → Model → ℕ → ℕ → Outcome
@@ -142,7 +142,7 @@ abbrev pub stopStatus : ℕ → List ℕ → Model → ℕ → ℕ
 stopStatus n fs m t = firstOf ((idles m gives callLevel) ∷ (leb n t gives noSuch) ∷ (not (runs fs m t) gives noFunction) ∷ [])
 
 abbrev pub stopping : ℕ → ℕ → Model → Model
-stopping k e m = withCells m (countersStopped k e (m .counter)) (switched k e false (m .on))
+stopping k e m = withCells m (countersStopped k e (m .counter)) (switched k e switchOff (m .on))
 
 unfoldable pub halted : ℕ → List ℕ → List ℕ → Model → ℕ → Outcome
 halted n fs es m t = attempt m (stopStatus n fs m t) (doneWith (stopping (getD es t 0) (getD fs t 0) m) false)

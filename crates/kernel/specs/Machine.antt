@@ -17,6 +17,7 @@ use Rattle.kernel.specs.declared.machine.Model.{Model}
 use Rattle.kernel.specs.declared.machine.Outcome.{Outcome}
 use Rattle.kernel.specs.Model.{noRank, doneWith}
 use Rattle.kernel.specs.Arbiter.{settled}
+use Rattle.kernel.specs.Cells.{switchOff}
 use Rattle.kernel.specs.Events.{activated, finished, chained, got, released, tickedOnce, lined, launched, halted, marksOf}
 
 -- "autostart tasks are ready .. all losses are 0, tables stopped"; w: the ranks of the autostart tasks
@@ -32,7 +33,7 @@ unstarted w =
       raised = replicate 16 0;
       held = replicate 16 false;
       counter = replicate 64 0;
-      on = replicate 64 false;
+      on = replicate 64 switchOff;
       losses = replicate 32 0;
     }
 

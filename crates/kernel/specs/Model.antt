@@ -36,7 +36,7 @@ abbrev pub withLevel : Core → ℕ → Core
 withLevel k l = record { request = k .request; started = k .started; runner = k .runner; level = l; depth = k .depth }
 
 -- other cells
-abbrev pub withCells : Model → List ℕ → List Bool → Model
+abbrev pub withCells : Model → List ℕ → List ℕ → Model
 withCells m ns os =
     record {
       core = m .core;

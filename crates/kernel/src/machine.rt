@@ -46,8 +46,8 @@ pub struct Picked {
     pub begun: bool,
 }
 
-// What the machine keeps between events. It goes by value, and is copied in parts of at most 128
-// bytes, which need no call: so no number stands between the arrays.
+// What the machine keeps between events. It goes by value. A method takes an array that it indexes out into a variable and puts
+// it back: indexed in place, it would make the compiler copy the whole model at every event.
 pub struct Model {
     pub core: Core,
     pub slots: usize,
@@ -58,7 +58,7 @@ pub struct Model {
     pub raised: [u8; 16],
     pub held: [bool; 16],
     pub counter: [u16; 64],
-    pub on: [bool; 64],
+    pub on: [u16; 64],
     pub losses: [u16; 32],
 }
 

@@ -15,13 +15,18 @@ use word::with;
 // One cell for each entry that there may be.
 const CELLS: usize = 64;
 
+// The switch of a cell (its enable): a number as wide as a counter, so that the compiler ticks several cells at once.
+pub const ON: u16 = 1;
+
+pub const OFF: u16 = 0;
+
 // How many match marks are looked at in one go.
 const GROUP: usize = 8;
 
 // Ticks every cell, and gives their match marks.
 pub fn tick_cells<'a, 'b>(
     compare: &'a [u16; 64],
-    on: &'a [bool; 64],
+    on: &'a [u16; 64],
     counter: &'b mut [u16; 64],
 ) -> [bool; 64]
     ensures { λ r. ⌜ r ≡ marks maxEntries 0 (now (compare .entry)) (now (on .entry)) (now (counter .entry)) ⌝ }
@@ -30,7 +35,7 @@ pub fn tick_cells<'a, 'b>(
     let mut matched = [false; 64];
     let mut e = 0;
     while e < CELLS {
-        let cell = Cell::of(counter[e], compare[e], on[e]).tick();
+        let cell = Cell::of(counter[e], compare[e], on[e] == ON).tick();
         counter[e] = cell.counter;
         matched[e] = cell.matched;
         e += 1;
@@ -84,7 +89,8 @@ fn take_group<'a, 'b>(
     word
 }
 
-// Whether no cell of the group from `e` on matches. The marks are joined without a branch, so that the compiler reads them as one number.
+// Whether no cell of the group from `e` on matches. The marks are joined without a branch, so that the compiler reads them as one
+// number.
 fn is_quiet(matched: &[bool; 64], e: usize) -> bool
     requires { ⌜ e + group ≤ maxEntries ⌝ }
     ensures { λ r. ⌜ r ≡ not (anyOf (take group (drop e (now (matched .entry))))) ⌝ }
@@ -165,7 +171,7 @@ pub fn stop_counters(from: usize, count: usize, counter: &mut [u16; 64])
 }
 
 // Switches `count` cells on or off.
-pub fn switch(from: usize, count: usize, to: bool, on: &mut [bool; 64])
+pub fn switch(from: usize, count: usize, to: u16, on: &mut [u16; 64])
     requires { ⌜ from + count ≤ 64 ⌝ }
     ensures { λ _. ⌜ now (on .exit) ≡ switched count from to (now (on .entry)) ⌝ }
 {

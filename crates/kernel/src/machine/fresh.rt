@@ -5,6 +5,7 @@ use super::Core;
 use super::Model;
 use super::NO_RANK;
 use super::arbiter::arbitrated;
+use super::cells::OFF;
 
 impl Model {
     // Autostart tasks are ready, the best one begins, all losses are 0, tables stopped.
@@ -30,7 +31,7 @@ impl Model {
             raised: [0u8; 16],
             held: [false; 16],
             counter: [0u16; 64],
-            on: [false; 64],
+            on: [OFF; 64],
             losses: [0u16; 32],
         }
     }

@@ -1,11 +1,12 @@
 // The events of tables: Tick, Start and Stop.
 ghost use mathlib.Core.Path.{_≡_};
-ghost use mathlib.Core.Bool.{false, _||_};
+ghost use mathlib.Core.Bool.{_||_};
 ghost use Prim.Native.Nat.{_+_};
 ghost use lib.Dec.{ltb, eqb};
 ghost use lib.ListN.{getD};
 ghost use Rattle.scheduler.specs.Call.{longestDelay};
 ghost use Rattle.kernel.specs.Roomy.{Roomy};
+ghost use Rattle.kernel.specs.Cells.{isOn};
 ghost use Rattle.kernel.specs.Events.{tickedOnce, launched, halted};
 ghost use Rattle.kernel.specs.Code.{Laid, Reached};
 use super::ALREADY_RUNS;
@@ -19,13 +20,14 @@ use super::NO_SUCH;
 use super::Outcome;
 use super::arbiter::arbitrated;
 use super::bodies::asking;
+use super::cells::OFF;
+use super::cells::ON;
 use super::cells::start_counters;
 use super::cells::stop_counters;
 use super::cells::switch;
 use super::cells::take_matches;
 use super::cells::tick_cells;
 use super::row::byte_at;
-use super::row::flag_at;
 use super::row::short_at;
 
 impl Model {
@@ -118,7 +120,7 @@ impl Model {
         let n = byte_at(entries, i, 0) as usize;
         let mut counter = self.counter;
         start_counters(from, n, short_at(period, i), d as u16, offset, &mut counter);
-        switch(from, n, true, &mut on);
+        switch(from, n, ON, &mut on);
         self.counter = counter;
         self.on = on;
         Outcome {
@@ -165,7 +167,7 @@ impl Model {
         let n = byte_at(entries, i, 0) as usize;
         let mut counter = self.counter;
         stop_counters(from, n, &mut counter);
-        switch(from, n, false, &mut on);
+        switch(from, n, OFF, &mut on);
         self.counter = counter;
         self.on = on;
         Outcome {
@@ -177,10 +179,10 @@ impl Model {
 }
 
 // Whether the cell of this entry is on.
-fn is_on(on: &[bool; 64], e: usize) -> bool
-    ensures { λ r. ⌜ r ≡ getD (now (on .entry)) e false ⌝ }
+fn is_on(on: &[u16; 64], e: usize) -> bool
+    ensures { λ r. ⌜ r ≡ isOn (getD (now (on .entry)) e 0) ⌝ }
 {
-    flag_at(on, e)
+    short_at(on, e) == ON
 }
 
 // A delay of 0, or one with which the entry at the table's largest offset would be out of the counter's reach.

@@ -3,14 +3,12 @@
 use Prim.Native.Nat.{ℕ, _+_, _-_, _≤_, _<_}
 use mathlib.Core.Path.{_≡_, sym, ap, _∙_}
 use mathlib.Core.Logic.{⊎-elim}
-use mathlib.Core.Bool.{false}
 use mathlib.Core.List.{[], _∷_}
 use native.Mathlib.Omega.{arith}
 use lib.ListN.{length}
 use Rattle.number.specs.Output.{laid}
 use Rattle.plan.specs.Rank.{rankOf}
 use Rattle.scheduler.specs.Scheduler.{markOf}
-use Rattle.kernel.specs.Model.{doneWith}
 use Rattle.kernel.specs.Roomy.{Roomy}
 use Rattle.kernel.specs.Machine.{machineStep}
 use Rattle.kernel.specs.Run.{callOf}

@@ -4,7 +4,6 @@ use mathlib.Core.Path.{ap}
 use mathlib.Core.Bool.{not}
 use native.Mathlib.Omega.{arith}
 use Rattle.kernel.proofs.CodeCells.{any-group}
-use borrow.Author.Needs.{needs}
 use Rattle.kernel.proofs.machine.cells.is_quiet.Statement.{statement}
 use Rattle.kernel.proofs.machine.cells.is_quiet.Tie as tie
 

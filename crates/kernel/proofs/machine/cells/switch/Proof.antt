@@ -23,6 +23,9 @@ add-until c = omega arith
 loop-holds : tie.Need-loop-holds Inv-loop μ-loop
 loop-holds c = let a = c .args in (omega arith, (omega arith, rw (span (a .from) (a .count))))
 
+mul-on : tie.Need-mul-on Inv-loop μ-loop
+mul-on c = omega arith
+
 element-write-on : tie.Need-element-write-on Inv-loop μ-loop
 element-write-on c = omega arith
 
@@ -55,6 +58,7 @@ switch-spec =
     μ-loop
     add-until
     loop-holds
+    mul-on
     element-write-on
     add-e
     loop-less

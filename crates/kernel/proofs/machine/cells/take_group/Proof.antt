@@ -2,11 +2,10 @@
 -- from there on.
 -- Assumes nothing.
 use Prim.Native.Nat.{_+_, _-_, _≤_}
-use mathlib.Core.Path.{_≡_, sym, refl, ap, _∙_}
+use mathlib.Core.Path.{_≡_, sym, refl, _∙_}
 use mathlib.Core.Bool.{Bool, true, false, true≢false, not}
 use native.Mathlib.Omega.{arith}
-use lib.ListN.{length, take, drop}
-use Rattle.config.specs.Value.{maxEntries}
+use lib.ListN.{take, drop}
 use Rattle.kernel.specs.Cells.{requestsDue}
 use Rattle.kernel.specs.Code.{dueWith, group}
 use Rattle.kernel.proofs.CellLists.{due-quiet}

@@ -4,12 +4,11 @@
 use Prim.Native.Nat.{ℕ, _+_, _*_, _-_, _≤_}
 use mathlib.Core.Path.{_≡_, sym, refl, _∙_}
 use native.Mathlib.Omega.{arith}
-use lib.ListN.{length, drop}
+use lib.ListN.{drop}
 use Rattle.config.specs.Value.{maxEntries}
 use Rattle.kernel.specs.Cells.{requestsDue}
 use Rattle.kernel.specs.Code.{dueWith, group}
 use Rattle.kernel.proofs.CodeCells.{group-turn, groups-end}
-use borrow.Author.Needs.{needs}
 use Rattle.kernel.proofs.machine.cells.take_matches.Statement.{statement}
 use Rattle.kernel.proofs.machine.cells.take_matches.Tie as tie
 

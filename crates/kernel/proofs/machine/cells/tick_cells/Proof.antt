@@ -31,6 +31,9 @@ mul-of-2 c = omega arith
 element-copy-out-of-2 : tie.Need-element-copy-out-of-2 Inv-loop μ-loop
 element-copy-out-of-2 c = omega arith
 
+mul-of-3 : tie.Need-mul-of-3 Inv-loop μ-loop
+mul-of-3 c = omega arith
+
 element-copy-out-of-3 : tie.Need-element-copy-out-of-3 Inv-loop μ-loop
 element-copy-out-of-3 c = omega arith
 
@@ -78,6 +81,7 @@ tick-cells-spec =
     element-copy-out-of
     mul-of-2
     element-copy-out-of-2
+    mul-of-3
     element-copy-out-of-3
     of-requires
     tick-requires
