@@ -55,6 +55,13 @@ awake b suspended h n = absurd (true≢false (sym h))
 awake b ready h n = refl
 awake b started h n = absurd (true≢false n)
 
+-- a winner that is not above the level is not dispatched
+none-picked : (ps : List ℕ) (k : Core) → winning ps k ≤ k .level → arbitrated ps k ≡ record { core = k; begun = false }
+unfolding arbitrated
+none-picked ps k low =
+    ap (λ (above : Bool). cond above (record { core = dispatching ps k; begun = true }) (record { core = k; begun = false }))
+    (le-ltb (k .level) (winning ps k) low)
+
 -- the body whose rank wins
 pub record Winner (c : Config) (rk : ℕ → ℕ) (k : Core) : Type 0 where
   pub body : ℕ
@@ -193,12 +200,11 @@ module _ (c : Config) (p : Plan) (rk : ℕ → ℕ) (fit : Fitted c p rk) where
 
     -- the winner is not above the level
     settled-calm : winning (p .priority) (m .core) ≤ m .core .level → Arbitrated (settled (p .priority) m) bs (dispatched c s .bodies)
-    unfolding arbitrated
     settled-calm low =
         let calm = calm-below m bs (t .words) low in
         let seat = calm-choice m bs ch t calm in
         let stays : dispatched c s .bodies ≡ bs = rw (seat .begun) in
-        rw (le-ltb (m .core .level) (winning (p .priority) (m .core)) low, stays)
+        rw (none-picked (p .priority) (m .core) low, stays)
         (record { chain = ch; tied = laid-tied; calm = calm; number = seat .number; level = seat .level; begun = sym (seat .begun) })
 
     -- the winner is above the level

@@ -2,20 +2,16 @@
 --
 --   laid f k e l   the list l with f i at each of the k places i from e on; the definitions of specs/Cells.antt are such lists
 --
--- And what match marks ask for: `due-append` in two parts, `due-quiet` nothing where none is set.
---
 -- Assumes nothing.
 use Prim.Native.Nat.{ℕ, zero, suc, _+_, max, _≤_, _<_}
-use mathlib.Core.Path.{_≡_, refl, sym, _∙_}
-use mathlib.Core.Bool.{Bool, true, false, true≢false}
-use mathlib.Core.List.{List, [], _∷_, _++_, foldr}
+use mathlib.Core.Path.{_≡_, refl, _∙_}
+use mathlib.Core.List.{List, [], _∷_, foldr}
 use native.Mathlib.Omega.{arith}
-use lib.ListN.{length, getD, set, drop, length-set}
+use lib.ListN.{length, getD, set, length-set}
 use lib.Seq.{getD-set-same, getD-set-other}
 use Rattle.number.proofs.Cases.{by-eq}
 use Rattle.cell.specs.Cell.{startCell}
-use Rattle.kernel.specs.Cells.{countersStarted, countersStopped, switched, Due, matchAt, requestsDue}
-use Rattle.kernel.specs.Code.{anyOf}
+use Rattle.kernel.specs.Cells.{countersStarted, countersStopped, switched}
 
 module _ {ℓ} {A : Type ℓ} (f : ℕ → A) where
   unfoldable pub laid : ℕ → ℕ → List A → List A
@@ -70,27 +66,3 @@ pub greatest-le : (l : List ℕ) (i : ℕ) → getD l i 0 ≤ foldr max 0 l
 greatest-le [] i = omega arith
 greatest-le (x ∷ l) zero = omega arith
 greatest-le (x ∷ l) (suc i) = omega (arith, greatest-le l i)
-
-module _ (w : ℕ) where
-  -- without ranks there is nothing to ask for
-  pub due-none : (ms : List Bool) (x : Due) → requestsDue w ms [] x ≡ x
-  unfolding requestsDue
-  due-none [] x = refl
-  due-none (true ∷ ms) x = refl
-  due-none (false ∷ ms) x = refl
-
-  pub due-append : (ms ns : List Bool) (rs : List ℕ) (x : Due)
-      → requestsDue w (ms ++ ns) rs x ≡ requestsDue w ns (drop (length ms) rs) (requestsDue w ms rs x)
-  unfolding requestsDue
-  due-append [] ns rs x = refl
-  due-append (true ∷ ms) ns [] x = sym (due-none ns x)
-  due-append (false ∷ ms) ns [] x = sym (due-none ns x)
-  due-append (true ∷ ms) ns (r ∷ rs) x = due-append ms ns rs (matchAt w r x)
-  due-append (false ∷ ms) ns (r ∷ rs) x = due-append ms ns rs x
-
-  pub due-quiet : (ms : List Bool) (rs : List ℕ) (x : Due) → anyOf ms ≡ false → requestsDue w ms rs x ≡ x
-  unfolding requestsDue anyOf
-  due-quiet [] rs x h = refl
-  due-quiet (true ∷ ms) rs x h = absurd (true≢false h)
-  due-quiet (false ∷ ms) [] x h = refl
-  due-quiet (false ∷ ms) (r ∷ rs) x h = due-quiet ms rs x h

@@ -18,7 +18,7 @@ use Rattle.word.specs.Word.{has, with}
 use Rattle.kernel.specs.Model.{noRank}
 use Rattle.kernel.specs.Code.{group, anyOf}
 use Rattle.kernel.specs.Cells.{isOn, cellAt, countersTicked, marks, countersStarted, countersStopped, switched, Due, matchAt, requestsDue}
-use Rattle.kernel.proofs.CellLists.{due-none, due-append}
+use Rattle.kernel.proofs.Requests.{due-none, due-append}
 
 -- a loop over the k entries from f on begins with all of them, and each turn takes one
 pub span : (f k : ℕ) → f + k - f ≡ k

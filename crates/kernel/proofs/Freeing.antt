@@ -185,7 +185,7 @@ module _ (c : Config) (p : Plan) (rk : ℕ → ℕ) (fit : Fitted c p rk) (m : M
     level-is (s ∷ q) e =
         let x = slots-top (m .resource) (m .holder) (m .raised) (m .slots - 1) _ _ e in
         let k : m .slots - 1 - 1 ≡ x .under = omega (arith, x .more) in
-        rw (own-slot (m .slots - 1) (s ∷ q) (omega (arith, few-slots)) e) (rw k (x .level))
+        rw (own-slot (m .slots - 1) (s ∷ q) (omega (arith, few-slots)) e) (ap (λ (i : ℕ). getD (m .raised) i 0) k ∙ x .level)
 
     new-level : levelWithout (p .priority) m ≡ current c b (at bs′ b)
     new-level = level-is rs row-below ∙ ap (λ (q : List ℕ). foldr max (priorityOf c b) (map (ceiling c) q)) (sym held-b)

@@ -16,6 +16,7 @@ pub mod Freeing
 pub mod Calls
 pub mod Waking
 pub mod Locking
+pub mod Requests
 pub mod Matching
 pub mod Ticking
 pub mod CellLists

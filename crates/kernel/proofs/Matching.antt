@@ -1,9 +1,9 @@
 -- At a tick the cells that match are those of the due entries, and the cells keep the tables' arithmetic.
 --
---   dues-long      an entry for each cell
---   marks-due      the marks of all cells are the due entries
---   due-first-cells  cells without an entry are off, and ask for nothing
---   ticked-timed   the counters after the tick stand for the tables after it
+--   dues-long         an entry for each cell
+--   marks-due         the marks of the entries' cells are the due entries
+--   due-first-cells   cells without an entry are off, and ask for nothing
+--   ticked-timed      the counters after the tick stand for the tables after it
 --
 -- Assumes nothing.
 use Prim.Native.Nat.{ℕ, zero, suc, _+_, _-_, _≤_, _<_}
@@ -28,7 +28,7 @@ use Rattle.scheduler.specs.Tick.{counting, entryDue, duesFrom, dues}
 use Rattle.kernel.specs.Cells.{isOn, cellAt, countersTicked, marks, Due, requestsDue}
 use Rattle.kernel.specs.Code.{anyOf}
 use Rattle.kernel.proofs.Simulation.{Fitted, CellFits, Timed}
-use Rattle.kernel.proofs.CellLists.{due-append, due-quiet}
+use Rattle.kernel.proofs.Requests.{due-append, due-quiet}
 
 -- a tick reaches the counters of its cells, each by its own cell alone
 module _ (ks os : List ℕ) where

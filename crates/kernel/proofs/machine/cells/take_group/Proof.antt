@@ -8,7 +8,7 @@ use native.Mathlib.Omega.{arith}
 use lib.ListN.{take, drop}
 use Rattle.kernel.specs.Cells.{requestsDue}
 use Rattle.kernel.specs.Code.{dueWith, group}
-use Rattle.kernel.proofs.CellLists.{due-quiet}
+use Rattle.kernel.proofs.Requests.{due-quiet}
 use Rattle.kernel.proofs.CodeCells.{span, due-turn, due-end}
 use borrow.Author.Needs.{needs}
 use Rattle.kernel.proofs.machine.cells.take_group.Statement.{statement}

@@ -1,0 +1,37 @@
+-- What match marks ask for: in two parts, and nothing where none is set.
+--
+--   due-append   the marks of two rows, one after the other
+--   due-quiet    no mark is set
+--
+-- Assumes nothing.
+use Prim.Native.Nat.{ℕ}
+use mathlib.Core.Path.{_≡_, refl, sym}
+use mathlib.Core.Bool.{Bool, true, false, true≢false}
+use mathlib.Core.List.{List, [], _∷_, _++_}
+use lib.ListN.{length, drop}
+use Rattle.kernel.specs.Cells.{Due, matchAt, requestsDue}
+use Rattle.kernel.specs.Code.{anyOf}
+
+module _ (w : ℕ) where
+  -- without ranks there is nothing to ask for
+  pub due-none : (ms : List Bool) (x : Due) → requestsDue w ms [] x ≡ x
+  unfolding requestsDue
+  due-none [] x = refl
+  due-none (true ∷ ms) x = refl
+  due-none (false ∷ ms) x = refl
+
+  pub due-append : (ms ns : List Bool) (rs : List ℕ) (x : Due)
+      → requestsDue w (ms ++ ns) rs x ≡ requestsDue w ns (drop (length ms) rs) (requestsDue w ms rs x)
+  unfolding requestsDue
+  due-append [] ns rs x = refl
+  due-append (true ∷ ms) ns [] x = sym (due-none ns x)
+  due-append (false ∷ ms) ns [] x = sym (due-none ns x)
+  due-append (true ∷ ms) ns (r ∷ rs) x = due-append ms ns rs (matchAt w r x)
+  due-append (false ∷ ms) ns (r ∷ rs) x = due-append ms ns rs x
+
+  pub due-quiet : (ms : List Bool) (rs : List ℕ) (x : Due) → anyOf ms ≡ false → requestsDue w ms rs x ≡ x
+  unfolding requestsDue anyOf
+  due-quiet [] rs x h = refl
+  due-quiet (true ∷ ms) rs x h = absurd (true≢false h)
+  due-quiet (false ∷ ms) [] x h = refl
+  due-quiet (false ∷ ms) (r ∷ rs) x h = due-quiet ms rs x h
