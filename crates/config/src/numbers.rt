@@ -101,8 +101,9 @@ fn autostart_fault(d: Draft, v: u32) -> u8
     ensures { λ r. ⌜ r ≡ faultAt Field.Autostart d v ⌝ }
 {
     let c = d.config;
+    let kind = c.kind;
     let i = d.index;
-    outside(0, most_autostart(c.kind[i]), v, BAD_FIELD)
+    outside(0, most_autostart(kind[i]), v, BAD_FIELD)
 }
 
 // The mask of all bodies.
@@ -144,8 +145,9 @@ fn offset_fault(d: Draft, v: u32) -> u8
     ensures { λ r. ⌜ r ≡ faultAt Field.Offset d v ⌝ }
 {
     let c = d.config;
+    let period = c.period;
     let i = d.index;
-    unless(v < c.period[i] as u32, BAD_FIELD)
+    unless(v < period[i] as u32, BAD_FIELD)
 }
 
 // Whether `v` is the number of a task.
@@ -155,7 +157,8 @@ fn is_task(c: Config, v: u32) -> bool
 {
     if v < c.bodies as u32 {
         let i = v as usize;
-        c.kind[i] != ISR
+        let kind = c.kind;
+        kind[i] != ISR
     } else {
         false
     }
@@ -189,11 +192,14 @@ fn sorted(d: Draft, v: u32) -> bool
     let c = d.config;
     let i = d.index;
     let e = d.entry;
-    if e + c.entries[i] as usize == d.until {
+    let entries = c.entries;
+    let offset = c.offset;
+    let task = c.task;
+    if e + entries[i] as usize == d.until {
         return true;
     }
     let b = before(e);
-    rises(c.offset[b], c.task[b], c.offset[e], v)
+    rises(offset[b], task[b], offset[e], v)
 }
 
 // The refusal of an entry's task.
@@ -281,15 +287,21 @@ pub fn put(d: Draft, v: u32) -> Draft
             row(d, c, Field::Kind, 0)
         }
         Field::Kind => {
-            c.kind[i] = v as u8;
+            let mut kind = c.kind;
+            kind[i] = v as u8;
+            c.kind = kind;
             on_to(d, c, Field::Priority)
         }
         Field::Priority => {
-            c.priority[i] = v as u8;
+            let mut priority = c.priority;
+            priority[i] = v as u8;
+            c.priority = priority;
             on_to(d, c, Field::Autostart)
         }
         Field::Autostart => {
-            c.autostart[i] = v as u8;
+            let mut autostart = c.autostart;
+            autostart[i] = v as u8;
+            c.autostart = autostart;
             let j = i + 1;
             row(
                 d,
@@ -303,7 +315,9 @@ pub fn put(d: Draft, v: u32) -> Draft
             row(d, c, or_on(0, v as usize, Field::Users, Field::Tables), 0)
         }
         Field::Users => {
-            c.users[i] = v;
+            let mut users = c.users;
+            users[i] = v;
+            c.users = users;
             let j = i + 1;
             row(
                 d,
@@ -317,11 +331,15 @@ pub fn put(d: Draft, v: u32) -> Draft
             row(d, c, or_on(0, v as usize, Field::Period, Field::End), 0)
         }
         Field::Period => {
-            c.period[i] = v as u16;
+            let mut period = c.period;
+            period[i] = v as u16;
+            c.period = period;
             on_to(d, c, Field::Entries)
         }
         Field::Entries => {
-            c.entries[i] = v as u8;
+            let mut entries = c.entries;
+            entries[i] = v as u8;
+            c.entries = entries;
             Draft {
                 config: c,
                 field: Field::Offset,
@@ -331,11 +349,15 @@ pub fn put(d: Draft, v: u32) -> Draft
             }
         }
         Field::Offset => {
-            c.offset[e] = v as u16;
+            let mut offset = c.offset;
+            offset[e] = v as u16;
+            c.offset = offset;
             on_to(d, c, Field::Task)
         }
         Field::Task => {
-            c.task[e] = v as u8;
+            let mut task = c.task;
+            task[e] = v as u8;
+            c.task = task;
             let after = e + 1;
             if after != d.until {
                 return Draft {

@@ -5,8 +5,8 @@ use borrow.Author.Needs.{needs}
 use Rattle.config.proofs.numbers.autostart_fault.Statement.{statement}
 use Rattle.config.proofs.numbers.autostart_fault.Tie as tie
 
-element-copy-out-most-autostart : tie.Need-element-copy-out-most-autostart
-element-copy-out-most-autostart c = search needs
+array-read-most-autostart : tie.Need-array-read-most-autostart
+array-read-most-autostart c = search needs
 
 most-autostart-requires : tie.Need-most-autostart-requires
 most-autostart-requires c κs = search needs
@@ -16,9 +16,15 @@ outside-requires c κs = search needs
 
 returns : tie.Need-returns
 unfolding faultAt
-returns c = rw (c .outside .ensures, c .before .most-autostart .ensures)
+returns c =
+    let c₁ = c .before in
+    rw (c .outside .ensures, c₁ .most-autostart .ensures)
 
 pub autostart-fault-spec : {M : Type 1} → statement M
 autostart-fault-spec =
     tie.close
-    (tie.spec element-copy-out-most-autostart most-autostart-requires outside-requires returns)
+    (tie.spec
+    array-read-most-autostart
+    most-autostart-requires
+    outside-requires
+    returns)

@@ -8,8 +8,8 @@ use Rattle.config.proofs.numbers.offset_fault.Tie as tie
 mul-unless : tie.Need-mul-unless
 mul-unless c = search needs
 
-element-copy-out-unless : tie.Need-element-copy-out-unless
-element-copy-out-unless c = search needs
+array-read-unless : tie.Need-array-read-unless
+array-read-unless c = search needs
 
 cast-unless : tie.Need-cast-unless
 cast-unless c = search needs
@@ -19,8 +19,15 @@ unless-requires c κs = search needs
 
 returns : tie.Need-returns
 unfolding faultAt
-returns c = c .unless .ensures
+returns c =
+    c .unless .ensures
 
 pub offset-fault-spec : {M : Type 1} → statement M
 offset-fault-spec =
-    tie.close (tie.spec mul-unless element-copy-out-unless cast-unless unless-requires returns)
+    tie.close
+    (tie.spec
+    mul-unless
+    array-read-unless
+    cast-unless
+    unless-requires
+    returns)
