@@ -8,7 +8,7 @@ use mathlib.Core.List.{List, [], _∷_, _++_, append-assoc, append-nil}
 use native.Mathlib.Omega.{arith}
 use native.Mathlib.Numerals.{add-one}
 use native.Mathlib.Nat.{add-zero}
-use lib.ListN.{length, getD, set, take, drop, replicate, length-set, length-drop, take-append-drop, drop-of-length-le}
+use lib.ListN.{length, getD, set, take, drop, replicate, length-set, length-drop, take-append-drop, drop-of-length-le, List·getD-eq-default}
 use lib.Seq.{take-suc-set, take-all, length-take-le, drop-cons, drop-drop, getD-drop, getD-set-other}
 use Rattle.number.proofs.Cases.{by-lt}
 use Rattle.config.specs.Value.{maxEntries}
@@ -126,15 +126,10 @@ module _ (ms : List Bool) (e : ℕ) where
   any-first k i =
       by-lt i (length ms)
       (λ h. rw (drop-cons ms i false h))
-      (λ h. rw (drop-of-length-le ms {i = i} h, drop-of-length-le ms {i = suc i} (omega arith), getD-past ms i h, nothing (suc k), nothing k))
+      (λ h. rw (drop-of-length-le ms {i = i} h, drop-of-length-le ms {i = suc i} (omega arith), List·getD-eq-default ms false h, nothing (suc k), nothing k))
     where
       nothing : (j : ℕ) → take {A = Bool} j [] ≡ []
       nothing j = take-all j [] (omega arith)
-
-      getD-past : (l : List Bool) (j : ℕ) → length l ≤ j → getD l j false ≡ false
-      getD-past [] j h = refl
-      getD-past (x ∷ xs) zero h = absurd (omega arith)
-      getD-past (x ∷ xs) (suc j) h = getD-past xs j (omega arith)
 
   join-step : (b : Bool) (i k : ℕ)
       → b || anyOf (take (suc k) (drop (e + i) ms)) ≡ b || getD ms (e + i) false || anyOf (take k (drop (e + suc i) ms))

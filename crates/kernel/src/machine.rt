@@ -13,7 +13,7 @@ mod tables;
 const NO_RANK: u8 = 255;
 
 // The statuses (OSEK's status codes) of an event. One that is refused changes nothing.
-const DONE: u8 = 0;
+pub const DONE: u8 = 0;
 
 const ACCESS: u8 = 1;
 

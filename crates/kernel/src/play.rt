@@ -7,6 +7,7 @@ ghost use Rattle.kernel.specs.Run.{answerBytes, machineAfter};
 ghost use Rattle.kernel.specs.RunCode.{Playable, callsOf};
 use crate::answers::put_answer;
 use crate::answers::runner;
+use crate::machine::DONE;
 use crate::machine::Model;
 use crate::machine::Outcome;
 use config::Config;
@@ -27,7 +28,7 @@ pub fn play<'a, 'b>(
 {
     let mut o = Outcome {
         model: fresh,
-        status: 0,
+        status: DONE,
         begun: false,
     };
     let mut at: usize = 0;
@@ -77,7 +78,7 @@ pub fn play<'a, 'b>(
                     .stop(config.tables, &plan.first, &config.entries, e.first);
             }
             0 | 10..=255 => {
-                o.status = 0;
+                o.status = DONE;
                 o.begun = false;
             }
         }

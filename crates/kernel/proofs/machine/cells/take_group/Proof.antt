@@ -3,7 +3,6 @@
 -- Assumes nothing.
 use Prim.Native.Nat.{_+_, _-_, _≤_}
 use mathlib.Core.Path.{_≡_, sym, refl, _∙_}
-use mathlib.Core.Bool.{Bool, true, false, true≢false, not}
 use native.Mathlib.Omega.{arith}
 use lib.ListN.{take, drop}
 use Rattle.kernel.specs.Cells.{requestsDue}
@@ -11,6 +10,7 @@ use Rattle.kernel.specs.Code.{dueWith, group}
 use Rattle.kernel.proofs.Requests.{due-quiet}
 use Rattle.kernel.proofs.CodeCells.{span, due-turn, due-end}
 use borrow.Author.Needs.{needs}
+use borrow.Author.Tests.{not-true}
 use Rattle.kernel.proofs.machine.cells.take_group.Statement.{statement}
 use Rattle.kernel.proofs.machine.cells.take_group.Tie as tie
 
@@ -23,17 +23,13 @@ Inv-loop from matched ranks started request losses₀ until word₀ e₀ losses 
 abbrev μ-loop : tie.MeasureT-loop
 μ-loop from matched ranks started request losses₀ until word₀ e₀ losses word e = until - e
 
-quiet-none : (a q : Bool) → q ≡ not a → q ≡ true → a ≡ false
-quiet-none true q e h = absurd (true≢false (sym h ∙ e))
-quiet-none false q e h = refl
-
 is-quiet-requires : tie.Need-is-quiet-requires Inv-loop μ-loop
 is-quiet-requires c κs = c .pre .0
 
 returns : tie.Need-returns Inv-loop μ-loop
 returns c = let a = c .before .before .args in
     sym (due-quiet (a .started) (take group (drop (a .from) (a .matched .now))) (drop (a .from) (a .ranks .now)) (dueWith (a .request) (a .losses .now))
-    (quiet-none _ _ (c .before .is-quiet .ensures) (c .if1 .taken)))
+    (not-true _ (sym (c .before .is-quiet .ensures) ∙ c .if1 .taken)))
 
 add-until : tie.Need-add-until Inv-loop μ-loop
 add-until c = omega arith
