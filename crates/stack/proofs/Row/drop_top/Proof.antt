@@ -1,0 +1,23 @@
+-- `stack::Row::drop_top` meets its contract: each word is popped as the definition pops it.
+-- Assumes nothing.
+use borrow.Author.Needs.{needs}
+use Rattle.stack.specs.Stack.{dropRow}
+use Rattle.stack.proofs.Row.drop_top.Statement.{statement}
+use Rattle.stack.proofs.Row.drop_top.Tie as tie
+
+first-byte-requires : tie.Need-first-byte-requires
+first-byte-requires c κs = search needs
+
+pop-word-requires : tie.Need-pop-word-requires
+pop-word-requires c κs = search needs
+
+pop-word-requires-2 : tie.Need-pop-word-requires-2
+pop-word-requires-2 c κs = search needs
+
+returns : tie.Need-returns
+unfolding dropRow
+returns c = cc
+
+pub drop-top-spec : {M : Type 1} → statement M
+drop-top-spec =
+    tie.close (tie.spec first-byte-requires pop-word-requires pop-word-requires-2 returns)

@@ -1,0 +1,3 @@
+-- What the contracts and laws of the stack cite.
+-- Assumes nothing.
+pub mod Stack

@@ -1,0 +1,122 @@
+-- A stack of bytes in 64-bit words: what is on it, and what a push and a pop make of it.
+--
+--   bytes n w                            the n lowest bytes of w, the lowest first
+--   rowBytes r, stackBytes s             all bytes, the top first
+--   topRow r, secondRow r, top s         the byte on top, and the one under it
+--   pushRow r x, pushed s x              x on top, and the byte at the bottom dropped
+--   popRow r, popped s                   the top taken off, and 255 at the bottom; dropRow r y: y at the bottom
+--   Fits s                               its words are 64-bit words
+--
+-- Each definition is total: a law asks for no range where a word's bytes alone decide. Main laws: `stack-top`, `stack-pushed` and
+-- `stack-popped` (proofs/Theorems.antt). Assumes nothing.
+use Prim.Native.Nat.{ℕ, zero, suc, _+_, _-_, _*_, _/_, _%_, _<_}
+use mathlib.Core.List.{List, [], _∷_, _++_}
+use Rattle.stack.specs.declared.Row.{Row}
+use Rattle.stack.specs.declared.Stack.{Stack}
+
+-- what lies past the bottom
+abbrev pub none : ℕ
+none = 255
+
+-- what seven bytes hold: the worth of a word's highest byte
+abbrev pub seven : ℕ
+seven = 72057594037927936
+
+-- how many values a word has
+abbrev pub wordValues : ℕ
+wordValues = seven * 256
+
+-- how many bytes a row has
+abbrev pub rowSize : ℕ
+rowSize = 16
+
+-- how many bytes a stack has
+abbrev pub stackSize : ℕ
+stackSize = 32
+
+-- the n lowest bytes of w, the lowest first
+unfoldable pub bytes : ℕ → ℕ → List ℕ
+bytes zero w = []
+bytes (suc n) w = w % 256 ∷ bytes n (w / 256)
+
+-- the lowest byte
+abbrev pub firstByte : ℕ → ℕ
+firstByte w = w % 256
+
+-- the highest byte of a word
+abbrev pub lastByte : ℕ → ℕ
+lastByte w = w / seven % 256
+
+-- x below the seven lowest bytes of w
+abbrev pub pushWord : ℕ → ℕ → ℕ
+pushWord w x = w % seven * 256 + x
+
+-- y above the seven highest bytes of w
+abbrev pub popWord : ℕ → ℕ → ℕ
+popWord w y = w / 256 % seven + y * seven
+
+-- the only place where a row's record is written
+abbrev pub rowOf : ℕ → ℕ → Row
+rowOf near far = record { near = near; far = far }
+
+-- every byte is `none`
+unfoldable pub emptyRow : Row
+emptyRow = rowOf (wordValues - 1) (wordValues - 1)
+
+-- the byte on top
+unfoldable pub topRow : Row → ℕ
+topRow r = firstByte (r .near)
+
+-- the byte under the top
+unfoldable pub secondRow : Row → ℕ
+secondRow r = firstByte (r .near / 256)
+
+-- what drops out of the near word comes into the far one
+unfoldable pub pushRow : Row → ℕ → Row
+pushRow r x = rowOf (pushWord (r .near) x) (pushWord (r .far) (lastByte (r .near)))
+
+-- a pop with y coming in at the bottom
+unfoldable pub dropRow : Row → ℕ → Row
+dropRow r y = rowOf (popWord (r .near) (firstByte (r .far))) (popWord (r .far) y)
+
+-- past the bottom lies `none`
+abbrev pub popRow : Row → Row
+popRow r = dropRow r none
+
+-- the only place where a stack's record is written
+abbrev pub stackOf : Row → Row → Stack
+stackOf near far = record { near = near; far = far }
+
+-- every byte is `none` here too
+unfoldable pub emptyStack : Stack
+emptyStack = stackOf emptyRow emptyRow
+
+-- the near row has the top
+unfoldable pub top : Stack → ℕ
+top s = topRow (s .near)
+
+-- what drops out of the near row comes into the far one
+unfoldable pub pushed : Stack → ℕ → Stack
+pushed s x = stackOf (pushRow (s .near) x) (pushRow (s .far) (lastByte (s .near .far)))
+
+-- the top of the far row comes into the near one
+unfoldable pub popped : Stack → Stack
+popped s = stackOf (dropRow (s .near) (topRow (s .far))) (popRow (s .far))
+
+-- the bytes of a row, the top first
+unfoldable pub rowBytes : Row → List ℕ
+rowBytes r = bytes 8 (r .near) ++ bytes 8 (r .far)
+
+-- the bytes of a stack, the top first
+unfoldable pub stackBytes : Stack → List ℕ
+stackBytes s = rowBytes (s .near) ++ rowBytes (s .far)
+
+-- the words of a row are 64-bit words
+pub record FitsRow (r : Row) : Type 0 where
+  pub near : r .near < wordValues
+  pub far : r .far < wordValues
+
+-- so are those of both rows
+pub record Fits (s : Stack) : Type 0 where
+  pub near : FitsRow (s .near)
+  pub far : FitsRow (s .far)

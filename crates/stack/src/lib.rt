@@ -1,0 +1,133 @@
+// A stack of bytes kept in 64-bit words, its top in the lowest byte of the first word.
+//
+// A push and a pop shift the words, so no index is needed and the compiler keeps the stack in registers. Past the bottom lies 255: a pop
+// brings it in, and a push onto a full stack drops the byte at the bottom. The laws are in proofs/Theorems.antt.
+ghost use mathlib.Core.Path.{_≡_};
+ghost use Rattle.stack.specs.Stack.{pushWord, popWord, firstByte, lastByte, emptyRow, topRow, secondRow, pushRow, dropRow, popRow, emptyStack, top, pushed, popped};
+
+// What lies past the bottom.
+pub const NONE: u8 = 255;
+
+// What seven bytes hold: the worth of a word's highest byte.
+const SEVEN: u64 = 72057594037927936;
+
+// Eight times NONE.
+const EMPTY: u64 = 18446744073709551615;
+
+// 16 bytes.
+pub struct Row {
+    // The eight bytes nearest the top.
+    pub near: u64,
+    pub far: u64,
+}
+
+// 32 bytes.
+pub struct Stack {
+    pub near: Row,
+    pub far: Row,
+}
+
+// The word with x below its seven lowest bytes; its highest one drops out.
+fn push_word(w: u64, x: u8) -> u64
+    ensures { λ r. ⌜ r ≡ pushWord w x ⌝ }
+{
+    w % SEVEN * 256 + x as u64
+}
+
+// The word without its lowest byte, y above the rest.
+fn pop_word(w: u64, y: u8) -> u64
+    ensures { λ r. ⌜ r ≡ popWord w y ⌝ }
+{
+    w / 256 + y as u64 * SEVEN
+}
+
+fn first_byte(w: u64) -> u8
+    ensures { λ r. ⌜ r ≡ firstByte w ⌝ }
+{
+    (w % 256) as u8
+}
+
+fn last_byte(w: u64) -> u8
+    ensures { λ r. ⌜ r ≡ lastByte w ⌝ }
+{
+    (w / SEVEN) as u8
+}
+
+impl Row {
+    pub fn empty() -> Row
+        ensures { λ r. ⌜ r ≡ emptyRow ⌝ }
+    {
+        Row {
+            near: EMPTY,
+            far: EMPTY,
+        }
+    }
+
+    pub fn top(self) -> u8
+        ensures { λ r. ⌜ r ≡ topRow self ⌝ }
+    {
+        first_byte(self.near)
+    }
+
+    // The byte under the top.
+    pub fn second(self) -> u8
+        ensures { λ r. ⌜ r ≡ secondRow self ⌝ }
+    {
+        first_byte(self.near / 256)
+    }
+
+    pub fn push(self, x: u8) -> Row
+        ensures { λ r. ⌜ r ≡ pushRow self x ⌝ }
+    {
+        let near = push_word(self.near, x);
+        let far = push_word(self.far, last_byte(self.near));
+        Row { near, far }
+    }
+
+    // The row without its top, y at the bottom.
+    fn drop_top(self, y: u8) -> Row
+        ensures { λ r. ⌜ r ≡ dropRow self y ⌝ }
+    {
+        let near = pop_word(self.near, first_byte(self.far));
+        let far = pop_word(self.far, y);
+        Row { near, far }
+    }
+
+    pub fn pop(self) -> Row
+        ensures { λ r. ⌜ r ≡ popRow self ⌝ }
+    {
+        self.drop_top(NONE)
+    }
+}
+
+impl Stack {
+    pub fn empty() -> Stack
+        ensures { λ r. ⌜ r ≡ emptyStack ⌝ }
+    {
+        let near = Row::empty();
+        let far = Row::empty();
+        Stack { near, far }
+    }
+
+    pub fn top(self) -> u8
+        ensures { λ r. ⌜ r ≡ top self ⌝ }
+    {
+        self.near.top()
+    }
+
+    pub fn push(self, x: u8) -> Stack
+        ensures { λ r. ⌜ r ≡ pushed self x ⌝ }
+    {
+        let near = self.near.push(x);
+        let far = self.far.push(last_byte(self.near.far));
+        Stack { near, far }
+    }
+
+    pub fn pop(self) -> Stack
+        ensures { λ r. ⌜ r ≡ popped self ⌝ }
+    {
+        let near = self.near.drop_top(self.far.top());
+        let far = self.far.pop();
+        Stack { near, far }
+    }
+}
