@@ -5,14 +5,14 @@
 --
 -- Assumes nothing.
 use Prim.Native.Nat.{ℕ, _≤_, _<_}
-use mathlib.Core.Path.{_≡_, refl, sym, ap, ap₂, _∙_}
+use mathlib.Core.Path.{_≡_, refl, sym, ap, _∙_}
 use mathlib.Core.Logic.{_≢_}
 use mathlib.Core.Bool.{Bool, true, false, true≢false, cond, not, _&&_}
 use mathlib.Core.List.{List, [], _∷_, _++_}
 use native.Mathlib.Nat.{eq-zero-or-pos}
 use mathlib.Core.Logic.{⊎-elim}
 use native.Mathlib.Omega.{arith}
-use borrow.Author.Tests.{lt-ltb, le-ltb, eq-eqb, ne-eqb}
+use borrow.Author.Tests.{lt-ltb, le-ltb, ne-eqb}
 use lib.Dec.{eqb}
 use lib.ListN.{length, getD, set, length-set}
 use lib.Seq.{getD-set-same, getD-set-other}
@@ -21,6 +21,7 @@ use Rattle.config.specs.declared.Config.{Config}
 use Rattle.config.specs.Meaning.{priorityOf}
 use Rattle.plan.specs.declared.Plan.{Plan}
 use Rattle.word.specs.Word.{has, winner}
+use Rattle.stack.specs.Stack.{pushed}
 use Rattle.word.proofs.Theorems.{empty, has-with-same, has-with-other, has-without-same, has-without-other, without-lt, winner-has, winner-highest, winner-empty}
 use Rattle.scheduler.specs.Body.{Phase, suspended, ready, started, isSuspended, isStarted, Body, current, become}
 use Rattle.scheduler.specs.Choice.{chosen, nobody}
@@ -34,10 +35,10 @@ use Rattle.kernel.specs.declared.machine.Outcome.{Outcome}
 use Rattle.kernel.specs.Model.{noRank}
 use Rattle.kernel.specs.Arbiter.{winning, dispatching, arbitrated, laying, settled}
 use Rattle.kernel.specs.Machine.{runnerOf}
-use Rattle.kernel.proofs.Views.{Frame, frame, below, below-set, below-push}
-use Rattle.kernel.proofs.Simulation.{Fitted, at, Words, framesFor, levelAt, Chained, Running, Calm, slotsFor, slotsAlong, Holding, Tied}
+use Rattle.kernel.proofs.Views.{on-top, shows-pushed}
+use Rattle.kernel.proofs.Simulation.{Fitted, at, Words, ranksFor, levelsFor, levelAt, Chained, Frames, Running, Calm, slotsFor, slotsAlong, Holding, Tied}
 use Rattle.kernel.proofs.Standing.{by-phase, chain-level, chosen-runner, chosen-newcomer, chosen-none}
-use Rattle.kernel.proofs.Chains.{AlikeAlong, among-head, among-tail, framesFor-alike, levelAt-alike, chained-alike, slotsAlong-alike, chain-short, length-framesFor, length-below, frames-none, frames-top}
+use Rattle.kernel.proofs.Chains.{AlikeAlong, among-head, among-tail, levelsFor-alike, levelAt-alike, chained-alike, slotsAlong-alike, chain-short, length-ranksFor, length-levelsFor, runner-none, runner-first, level-first}
 
 and-false : (b : Bool) → b && false ≡ false
 and-false true = refl
@@ -79,13 +80,10 @@ module _ (c : Config) (p : Plan) (rk : ℕ → ℕ) (fit : Fitted c p rk) where
   module _ (m : Model) (bs : List Body) where
     -- the machine's level is that of the chain
     pub level-is : (ch : List ℕ) → Running c rk m bs ch → m .core .level ≡ levelAt c bs ch
-    unfolding framesFor levelAt
-    level-is [] k = k .idle-level (eq-eqb (m .core .runner) noRank (frames-none (m .stack) (m .levels) (m .core) (k .frames)))
-    level-is (b ∷ ch) k = frames-top (m .stack) (m .levels) (m .core) _ _ (k .frames) .level
+    level-is ch k = level-first c rk bs ch (k .frames)
 
     pub runner-is : (b : ℕ) (ch : List ℕ) → Running c rk m bs (b ∷ ch) → m .core .runner ≡ rk b
-    unfolding framesFor
-    runner-is b ch k = frames-top (m .stack) (m .levels) (m .core) _ _ (k .frames) .rank
+    runner-is b ch k = runner-first c rk bs b ch (k .frames)
 
     rank-below : (b : ℕ) → b < c .bodies → rk b < 32
     rank-below b h = omega (arith, fit .rank-lt b h, fit .few)
@@ -94,9 +92,9 @@ module _ (c : Config) (p : Plan) (rk : ℕ → ℕ) (fit : Fitted c p rk) where
     runnerOf-is b h e = rw (e, lt-ltb (rk b) 32 (rank-below b h)) (fit .body-at b h)
 
     pub calm-choice : (ch : List ℕ) → Tied c rk m bs ch → Calm c (m .core .level) bs → Seated m bs
-    unfolding framesFor levelAt Chained
+    unfolding levelAt Chained
     calm-choice [] t calm =
-        let e : m .core .runner ≡ noRank = frames-none (m .stack) (m .levels) (m .core) (t .running .frames) in
+        let e : m .core .runner ≡ noRank = runner-none c rk bs (t .running .frames) in
         let l : m .core .level ≡ 0 = level-is [] (t .running) in
         let h : chosen c bs ≡ nobody = chosen-none c bs (t .size) (fit .own-some) (t .holding .loose) (t .running .covers) (rw l at calm) in
         record { number = rw (e, h); level = rw h l; begun = rw h }
@@ -166,38 +164,6 @@ module _ (c : Config) (p : Plan) (rk : ℕ → ℕ) (fit : Fitted c p rk) where
     abbrev bs : List Body
     bs = s .bodies
 
-    -- the runner laid above the stack's top changes nothing that counts
-    laid-tied : Tied c rk (laying m (m .core)) bs ch
-    laid-tied =
-        record {
-          size = t .size;
-          words = t .words;
-          running = record {
-            frames = same (m .core .runner) ∙ t .running .frames;
-            chained = t .running .chained;
-            covers = t .running .covers;
-            idle-level = t .running .idle-level;
-            idle-depth = t .running .idle-depth;
-            stack-long = length-set (m .stack) (m .core .depth) (m .core .runner) ∙ t .running .stack-long;
-            levels-long = length-set (m .levels) (m .core .depth) (m .core .level) ∙ t .running .levels-long;
-          };
-          holding = record {
-            slots = t .holding .slots;
-            loose = t .holding .loose;
-            flags = t .holding .flags;
-            distinct = t .holding .distinct;
-            counted = t .holding .counted;
-            held-long = t .holding .held-long;
-            resource-long = t .holding .resource-long;
-            holder-long = t .holding .holder-long;
-            raised-long = t .holding .raised-long;
-          };
-        }
-      where
-        same : (r : ℕ) → cond (eqb r noRank) [] (frame r (m .core .level) ∷ below (set (m .stack) (m .core .depth) (m .core .runner)) (set (m .levels) (m .core .depth) (m .core .level)) (m .core .depth))
-            ≡ cond (eqb r noRank) [] (frame r (m .core .level) ∷ below (m .stack) (m .levels) (m .core .depth))
-        same r = rw (below-set (m .stack) (m .levels) (m .core .depth) (m .core .runner) (m .core .level) (m .core .depth) (omega arith))
-
     -- the winner is not above the level
     settled-calm : winning (p .priority) (m .core) ≤ m .core .level → Arbitrated (settled (p .priority) m) bs (dispatched c s .bodies)
     settled-calm low =
@@ -205,7 +171,7 @@ module _ (c : Config) (p : Plan) (rk : ℕ → ℕ) (fit : Fitted c p rk) where
         let seat = calm-choice m bs ch t calm in
         let stays : dispatched c s .bodies ≡ bs = rw (seat .begun) in
         rw (none-picked (p .priority) (m .core) low, stays)
-        (record { chain = ch; tied = laid-tied; calm = calm; number = seat .number; level = seat .level; begun = sym (seat .begun) })
+        (record { chain = ch; tied = t; calm = calm; number = seat .number; level = seat .level; begun = sym (seat .begun) })
 
     -- the winner is above the level
     module _ (v : Winner c rk (m .core)) (above : m .core .level < priorityOf c (v .body)) where
@@ -298,44 +264,43 @@ module _ (c : Config) (p : Plan) (rk : ℕ → ℕ) (fit : Fitted c p rk) where
           W : ℕ
           W = winner (m .core .request)
 
-      -- what lies on the stack after the dispatch: the chain
-      pushed : (ch : List ℕ) → Running c rk m bs ch → below (set (m .stack) (m .core .depth) (m .core .runner)) (set (m .levels) (m .core .depth) (m .core .level)) (dispatching (p .priority) (m .core) .depth) ≡ framesFor c rk bs ch
-      unfolding framesFor below Chained
-      pushed [] k =
-          let e : m .core .runner ≡ noRank = frames-none (m .stack) (m .levels) (m .core) (k .frames) in
-          let d : m .core .depth ≡ 0 = k .idle-depth (eq-eqb (m .core .runner) noRank e) in
-          let same : dispatching (p .priority) (m .core) .depth ≡ 0 = rw (eq-eqb (m .core .runner) noRank e) d in
-          ap (below (set (m .stack) (m .core .depth) (m .core .runner)) (set (m .levels) (m .core .depth) (m .core .level))) same
-      pushed (b ∷ rest) k =
-          let top = frames-top (m .stack) (m .levels) (m .core) _ _ (k .frames) in
-          let d : m .core .depth < 32 = omega (arith, length-below (m .stack) (m .levels) (m .core .depth), ap length (top .under), length-framesFor c rk p fit bs rest, chain-short c rk p fit bs b rest (k .chained), rank-below m bs b (k .chained .0)) in
-          rw (ne-eqb (m .core .runner) noRank (top .somebody))
-          (below-push (m .stack) (m .levels) (m .core .runner) (m .core .level) (m .core .depth) (omega (arith, k .stack-long)) (omega (arith, k .levels-long))
-          ∙ ap₂ (λ (f : Frame) (fs : List Frame). f ∷ fs) (ap₂ frame (top .rank) (top .level)) (top .under))
+      -- the runner is laid on the stack, or nobody is
+      runner-lt : (ch : List ℕ) → Running c rk m bs ch → m .core .runner < 256
+      unfolding Chained
+      runner-lt [] k = rw (runner-none c rk bs (k .frames)) (omega arith)
+      runner-lt (b ∷ rest) k = rw (runner-first c rk bs b rest (k .frames)) (omega (arith, rank-below m bs b (k .chained .0)))
 
       began-level : current c w (at bs′ w) ≡ priorityOf c w
       began-level = rw (at-w, free)
 
-      running′ : Running c rk (laying m (dispatching (p .priority) (m .core))) bs′ (w ∷ ch)
-      unfolding framesFor Chained
+      chained′ : Chained c bs′ (w ∷ ch)
+      unfolding Chained
+      chained′ =
+          (v .exists, (ap (λ (x : Body). isStarted (x .phase)) at-w, (rw (sym (levelAt-alike c rk bs bs′ ch alike)) chain-above, chained-alike c rk bs bs′ ch alike (t .running .chained))))
+
+      few : length ch ≤ 31
+      few = omega (arith, chain-short c rk p fit bs′ w ch chained′, rank-below m bs w (v .exists))
+
+      frames′ : Frames (winner (m .core .request)) (winning (p .priority) (m .core)) (pushed (m .stack) (m .core .runner)) (pushed (m .levels) (m .core .level)) (ranksFor rk (w ∷ ch)) (levelsFor c bs′ (w ∷ ch))
+      unfolding ranksFor levelsFor
+      frames′ =
+          record {
+            ranks = on-top (sym (v .rank)) (shows-pushed (m .stack) (m .core .runner) (ranksFor rk ch) (runner-lt ch (t .running)) (omega (arith, few, length-ranksFor rk ch)) (t .running .frames .ranks));
+            levels = on-top (winning-is ∙ sym began-level)
+                (shows-pushed (m .levels) (m .core .level) (levelsFor c bs′ ch) (t .running .frames .level-lt) (omega (arith, few, length-levelsFor c bs′ ch))
+                (rw (sym (levelsFor-alike c rk bs bs′ ch alike)) (t .running .frames .levels)));
+            level-lt = omega (arith, winning-is, fit .own-few w (v .exists));
+          }
+
+      running′ : Running c rk (laying m (record { core = dispatching (p .priority) (m .core); begun = true })) bs′ (w ∷ ch)
       running′ =
           record {
-            frames = rw (ne-eqb (winner (m .core .request)) noRank (λ e. absurd (omega (arith, e, winner-lt))))
-                (ap₂ (λ (f : Frame) (fs : List Frame). f ∷ fs)
-                (ap₂ frame (sym (v .rank)) (winning-is ∙ sym began-level))
-                (pushed ch (t .running) ∙ framesFor-alike c rk bs bs′ ch alike));
-            chained = (v .exists, (ap (λ (x : Body). isStarted (x .phase)) at-w, (rw (sym (levelAt-alike c rk bs bs′ ch alike)) chain-above, chained-alike c rk bs bs′ ch alike (t .running .chained))));
+            frames = frames′;
+            chained = chained′;
             covers = λ b b< h. by-eq b w
                 (λ e. rw e (among-head w ch))
                 (λ n. among-tail b w ch (t .running .covers b b< (sym (ap (λ (x : Body). isStarted (x .phase)) (at-other b n)) ∙ h)));
-            idle-level = λ e. absurd (ranked e);
-            idle-depth = λ e. absurd (ranked e);
-            stack-long = length-set (m .stack) (m .core .depth) (m .core .runner) ∙ t .running .stack-long;
-            levels-long = length-set (m .levels) (m .core .depth) (m .core .level) ∙ t .running .levels-long;
           }
-        where
-          ranked : eqb (winner (m .core .request)) noRank ≡ true → ⊥
-          ranked e = true≢false (sym e ∙ ne-eqb (winner (m .core .request)) noRank (λ z. absurd (omega (arith, z, winner-lt))))
 
       slots-same : slotsAlong c rk bs ch ≡ slotsAlong c rk bs′ (w ∷ ch)
       unfolding slotsAlong slotsFor
@@ -343,20 +308,13 @@ module _ (c : Config) (p : Plan) (rk : ℕ → ℕ) (fit : Fitted c p rk) where
           slotsAlong-alike c rk bs bs′ ch alike
           ∙ sym (ap (λ (rs : List ℕ). slotsFor c rk w rs ++ slotsAlong c rk bs′ ch) (ap (λ (b : Body). b .held) at-w ∙ free))
 
-      holding′ : Holding c rk (laying m (dispatching (p .priority) (m .core))) bs′ (w ∷ ch)
+      holding′ : Holding c rk (laying m (record { core = dispatching (p .priority) (m .core); begun = true })) bs′ (w ∷ ch)
       holding′ =
           record {
-            slots = t .holding .slots ∙ slots-same;
+            slots = rw (sym slots-same) (t .holding .slots);
             loose = λ b h. by-eq b w
                 (λ e. absurd (true≢false (ap (λ (x : Body). isStarted (x .phase)) (sym at-w) ∙ ap (λ (i : ℕ). isStarted (at bs′ i .phase)) (sym e) ∙ h)))
                 (λ n. rw (at-other b n) (t .holding .loose b (sym (ap (λ (x : Body). isStarted (x .phase)) (at-other b n)) ∙ h)));
-            flags = rw (sym slots-same) (t .holding .flags);
-            distinct = rw (sym slots-same) (t .holding .distinct);
-            counted = t .holding .counted;
-            held-long = t .holding .held-long;
-            resource-long = t .holding .resource-long;
-            holder-long = t .holding .holder-long;
-            raised-long = t .holding .raised-long;
           }
 
       calm′ : Calm c (winning (p .priority) (m .core)) bs′
@@ -376,7 +334,7 @@ module _ (c : Config) (p : Plan) (rk : ℕ → ℕ) (fit : Fitted c p rk) where
             chain = w ∷ ch;
             tied = record { size = length-set bs w (become started (at bs w)) ∙ t .size; words = words′; running = running′; holding = holding′ };
             calm = calm′;
-            number = rw chosen-w (runnerOf-is (laying m (dispatching (p .priority) (m .core))) bs w (v .exists) (sym (v .rank)));
+            number = rw chosen-w (runnerOf-is (laying m (record { core = dispatching (p .priority) (m .core); begun = true })) bs w (v .exists) (sym (v .rank)));
             level = rw chosen-w winning-is;
             begun = sym began;
           })

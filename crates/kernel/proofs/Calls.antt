@@ -29,8 +29,8 @@ use Rattle.kernel.specs.declared.machine.Outcome.{Outcome}
 use Rattle.kernel.specs.Model.{noRank, refusedWith}
 use Rattle.kernel.specs.Events as Machine
 use Rattle.kernel.specs.Machine.{machineStep, lossesOf, matched, observed}
-use Rattle.kernel.proofs.Simulation.{Fitted, at, framesFor, levelAt, Chained, Calm, Tied, Timed, Lost, Sim}
-use Rattle.kernel.proofs.Chains.{frames-none}
+use Rattle.kernel.proofs.Simulation.{Fitted, at, levelAt, Chained, Calm, Tied, Timed, Lost, Sim}
+use Rattle.kernel.proofs.Chains.{runner-none}
 use Rattle.kernel.proofs.Arbitration.{calm-choice, level-is, runner-is, runnerOf-is, Arbitrated}
 
 -- what a change of one body keeps, it keeps of every body
@@ -99,11 +99,11 @@ module _ (c : Config) (p : Plan) (rk : ℕ → ℕ) (fit : Fitted c p rk) where
 
   module _ (m : Model) (s : State) where
     pub who : (ch : List ℕ) → Tied c rk m (s .bodies) ch → Calm c (m .core .level) (s .bodies) → Who m s ch
-    unfolding Chained levelAt framesFor
+    unfolding Chained levelAt
     who [] t calm =
         let seat = calm-choice c p rk fit m (s .bodies) [] t calm in
         let l : chosen c (s .bodies) .level ≡ 0 = sym (seat .level) ∙ level-is c p rk fit m (s .bodies) [] (t .running) in
-        idle (eq-eqb (m .core .runner) noRank (frames-none (m .stack) (m .levels) (m .core) (t .running .frames))) (eq-eqb (chosen c (s .bodies) .level) 0 l)
+        idle (eq-eqb (m .core .runner) noRank (runner-none c rk (s .bodies) (t .running .frames))) (eq-eqb (chosen c (s .bodies) .level) 0 l)
     who (b ∷ ch) t calm =
         let seat = calm-choice c p rk fit m (s .bodies) (b ∷ ch) t calm in
         let k = t .running .chained in

@@ -1,6 +1,6 @@
--- Chains of started bodies: what does not change them, how long they are, and how the machine's frames show them.
+-- Chains of started bodies: what does not change them, how long they are, and how the machine's runner and stack show them.
 -- Assumes nothing.
-use Prim.Native.Nat.{ℕ, zero, suc, _≤_, _<_}
+use Prim.Native.Nat.{ℕ, suc, _≤_, _<_}
 use mathlib.Core.Path.{_≡_, refl, sym, ap, ap₂, _∙_}
 use mathlib.Core.Bool.{true}
 use mathlib.Core.List.{List, [], _∷_, _++_, foldr, map}
@@ -14,10 +14,9 @@ use Rattle.plan.specs.declared.Plan.{Plan}
 use Rattle.scheduler.specs.Body.{Body, isStarted, current}
 use Rattle.scheduler.specs.State.{among}
 use Rattle.scheduler.proofs.Choosing.{current-own}
-use Rattle.kernel.specs.declared.machine.Core.{Core}
+use Rattle.stack.specs.declared.Stack.{Stack}
 use Rattle.kernel.specs.Model.{noRank}
-use Rattle.kernel.proofs.Views.{Frame, frame, below, framesIn, Slot}
-use Rattle.kernel.proofs.Simulation.{Fitted, at, framesFor, levelAt, Chained, slotsFor, slotsAlong}
+use Rattle.kernel.proofs.Simulation.{Fitted, at, ranksFor, levelsFor, levelAt, Chained, Frames, Slot, slotsFor, slotsAlong}
 
 -- as far as a chain goes two bodies are alike: begun or not, and holding the same
 pub record Alike (x y : Body) : Type 0 where
@@ -43,11 +42,11 @@ module _ (c : Config) (rk : ℕ → ℕ) (bs bs′ : List Body) where
   current-alike : (b : ℕ) → Alike (at bs b) (at bs′ b) → current c b (at bs b) ≡ current c b (at bs′ b)
   current-alike b a = ap (λ (rs : List ℕ). foldr Prim.Native.Nat.max (priorityOf c b) (map (ceiling c) rs)) (a .held)
 
-  pub framesFor-alike : (ch : List ℕ) → AlikeAlong ch → framesFor c rk bs ch ≡ framesFor c rk bs′ ch
-  unfolding framesFor
-  framesFor-alike [] a = refl
-  framesFor-alike (b ∷ ch) a =
-      ap₂ (λ (l : ℕ) (fs : List Frame). frame (rk b) l ∷ fs) (current-alike b (a b (among-head b ch))) (framesFor-alike ch (tail-alike b ch a))
+  pub levelsFor-alike : (ch : List ℕ) → AlikeAlong ch → levelsFor c bs ch ≡ levelsFor c bs′ ch
+  unfolding levelsFor
+  levelsFor-alike [] a = refl
+  levelsFor-alike (b ∷ ch) a =
+      ap₂ (λ (l : ℕ) (ls : List ℕ). l ∷ ls) (current-alike b (a b (among-head b ch))) (levelsFor-alike ch (tail-alike b ch a))
 
   pub levelAt-alike : (ch : List ℕ) → AlikeAlong ch → levelAt c bs ch ≡ levelAt c bs′ ch
   unfolding levelAt
@@ -75,43 +74,28 @@ module _ (c : Config) (rk : ℕ → ℕ) (p : Plan) (fit : Fitted c p rk) (bs : 
       let r : rk a < rk b = fit .rank-order a b (k .1 .1 .1 .0) (k .0) (omega (arith, current-own c a (at bs a), k .1 .1 .0)) in
       omega (arith, chain-short a ch (k .1 .1 .1))
 
-  pub length-framesFor : (ch : List ℕ) → length (framesFor c rk bs ch) ≡ length ch
-  unfolding framesFor
-  length-framesFor [] = refl
-  length-framesFor (b ∷ ch) = ap suc (length-framesFor ch)
+-- a chain's ranks and levels, with nobody's below them
+pub length-ranksFor : (rk : ℕ → ℕ) (ch : List ℕ) → length (ranksFor rk ch) ≡ suc (length ch)
+unfolding ranksFor
+length-ranksFor rk [] = refl
+length-ranksFor rk (b ∷ ch) = ap suc (length-ranksFor rk ch)
 
-pub length-below : (ss ls : List ℕ) (d : ℕ) → length (below ss ls d) ≡ d
-unfolding below
-length-below ss ls zero = refl
-length-below ss ls (suc d) = ap suc (length-below ss ls d)
+pub length-levelsFor : (c : Config) (bs : List Body) (ch : List ℕ) → length (levelsFor c bs ch) ≡ suc (length ch)
+unfolding levelsFor
+length-levelsFor c bs [] = refl
+length-levelsFor c bs (b ∷ ch) = ap suc (length-levelsFor c bs ch)
 
--- no frame: nobody runs
-pub frames-none : (ss ls : List ℕ) (k : Core) → framesIn ss ls k ≡ [] → k .runner ≡ noRank
-frames-none ss ls k e =
-    by-eq (k .runner) noRank (λ h. h)
-    (λ n. absurd (let z : _≡_ {A = ℕ} 0 1 = clash (simp (ne-eqb (k .runner) noRank n) at e) in omega arith))
-  where
-    clash : {x : Frame} {xs : List Frame} → x ∷ xs ≡ [] → _≡_ {A = ℕ} 0 1
-    clash h = cc
+-- who runs, and at which level
+module _ (c : Config) (rk : ℕ → ℕ) (bs : List Body) {r l : ℕ} {s v : Stack} where
+  pub runner-none : Frames r l s v (ranksFor rk []) (levelsFor c bs []) → r ≡ noRank
+  unfolding ranksFor
+  runner-none f = f .ranks .at 0
 
--- the first frame is the runner's, and the others lie on the stack
-pub record TopIs (ss ls : List ℕ) (k : Core) (f : Frame) (fs : List Frame) : Type 0 where
-  pub somebody : k .runner ≡ noRank → ⊥
-  pub rank : k .runner ≡ f .rank
-  pub level : k .level ≡ f .level
-  pub under : below ss ls (k .depth) ≡ fs
+  pub runner-first : (b : ℕ) (ch : List ℕ) → Frames r l s v (ranksFor rk (b ∷ ch)) (levelsFor c bs (b ∷ ch)) → r ≡ rk b
+  unfolding ranksFor
+  runner-first b ch f = f .ranks .at 0
 
-pub frames-top : (ss ls : List ℕ) (k : Core) (f : Frame) (fs : List Frame) → framesIn ss ls k ≡ f ∷ fs → TopIs ss ls k f fs
-frames-top ss ls k f fs e =
-    by-eq (k .runner) noRank
-    (λ h. absurd (let z : _≡_ {A = ℕ} 0 1 = clash (simp (eq-eqb (k .runner) noRank h) at e) in omega arith))
-    (λ n. parts n (simp (ne-eqb (k .runner) noRank n) at e))
-  where
-    clash : [] ≡ f ∷ fs → _≡_ {A = ℕ} 0 1
-    clash h = cc
-
-    parts : (k .runner ≡ noRank → ⊥) → frame (k .runner) (k .level) ∷ below ss ls (k .depth) ≡ f ∷ fs → TopIs ss ls k f fs
-    parts n h =
-        let x : frame (k .runner) (k .level) ≡ f = cc in
-        let y : below ss ls (k .depth) ≡ fs = cc in
-        record { somebody = n; rank = ap (λ (g : Frame). g .rank) x; level = ap (λ (g : Frame). g .level) x; under = y }
+  pub level-first : (ch : List ℕ) → Frames r l s v (ranksFor rk ch) (levelsFor c bs ch) → l ≡ levelAt c bs ch
+  unfolding levelsFor levelAt
+  level-first [] f = f .levels .at 0
+  level-first (b ∷ ch) f = f .levels .at 0

@@ -1,21 +1,43 @@
 -- The events of bodies and of resources, case by case in the order of their checks, as the code goes through them: refused with each
 -- status, and done. A variable before an equation is what the code has in its place. Assumes nothing.
-use Prim.Native.Nat.{ℕ, _+_, _-_, _≤_, _<_, max}
+use Prim.Native.Nat.{ℕ, _≤_, _<_, max}
 use mathlib.Core.Path.{_≡_, sym, _∙_}
 use mathlib.Core.Bool.{Bool, true, false, not, _&&_, _||_}
 use mathlib.Core.List.{List}
 use lib.Dec.{ltb, eqb}
-use lib.ListN.{getD, set}
+use lib.ListN.{getD}
 use borrow.Author.Tests.{le-leb, lt-leb, eq-eqb, ne-eqb}
 use Rattle.scheduler.specs.Status.{callLevel, noSuch, limit, access, noFunction, holdsResource, firstOf}
-use Rattle.word.specs.Word.{has, with}
+use Rattle.word.specs.Word.{has, with, without}
+use Rattle.stack.specs.declared.Row.{Row}
+use Rattle.stack.specs.declared.Stack.{Stack}
+use Rattle.stack.specs.Stack.{topRow, pushRow, popRow, top, popped}
 use Rattle.kernel.specs.declared.machine.Core.{Core}
 use Rattle.kernel.specs.declared.machine.Picked.{Picked}
 use Rattle.kernel.specs.declared.machine.Model.{Model}
-use Rattle.kernel.specs.Model.{noRank, withCore, withRequest, withLevel, doneWith, refusedWith}
-use Rattle.kernel.specs.Arbiter.{arbitrated, laying, popped, requesting}
-use Rattle.kernel.specs.Resources.{holding, latest, levelWithout}
+use Rattle.kernel.specs.Model.{noRank, withRequest, withLevel, doneWith, refusedWith}
+use Rattle.kernel.specs.Arbiter.{arbitrated, laidOn, resumed}
+use Rattle.kernel.specs.Resources.{latest, levelWithout}
 use Rattle.kernel.specs.Events.{idles, busy, activated, finished, chained, got, released, lined}
+
+-- another core, stack and row of slots
+abbrev withSlots : Model → Core → Stack → Stack → ℕ → Row → Row → Row → Model
+withSlots m k s v w xs hs vs =
+    record {
+      core = k;
+      stack = s;
+      levels = v;
+      held = w;
+      resource = xs;
+      holder = hs;
+      raised = vs;
+      counter = m .counter;
+      on = m .on;
+      losses = m .losses;
+    }
+
+abbrev withFrames : Model → Core → Stack → Stack → Model
+withFrames m k s v = withSlots m k s v (m .held) (m .resource) (m .holder) (m .raised)
 
 -- Finish
 module _ (ps : List ℕ) (m : Model) where
@@ -23,15 +45,18 @@ module _ (ps : List ℕ) (m : Model) where
   unfolding finished firstOf
   finish-idle h = rw (eq-eqb (m .core .runner) noRank h)
 
-  module _ (runs : m .core .runner ≡ noRank → ⊥) {b : Bool} (test : b ≡ holding m) where
-    pub finish-holding : b ≡ true → refusedWith m holdsResource ≡ finished ps m
+  module _ (runs : m .core .runner ≡ noRank → ⊥) {h : ℕ} (holder : h ≡ topRow (m .holder)) where
+    pub finish-holding : h ≡ m .core .runner → refusedWith m holdsResource ≡ finished ps m
     unfolding finished firstOf
-    finish-holding h = rw (ne-eqb (m .core .runner) noRank runs, sym test ∙ h)
+    finish-holding own = rw (ne-eqb (m .core .runner) noRank runs, ← holder, eq-eqb h (m .core .runner) own)
 
-    pub finish-done : b ≡ false → {k : Core} → k ≡ popped (m .stack) (m .levels) (m .core) → {p : Picked} → p ≡ arbitrated ps k
-        → doneWith (laying (withCore m k) (p .core)) (p .begun) ≡ finished ps m
+    pub finish-done : (h ≡ m .core .runner → ⊥) → {k : Core} → k ≡ resumed (m .stack) (m .levels) (m .core) → {p : Picked} → p ≡ arbitrated ps k
+        → {s : Stack} → s ≡ laidOn (p .begun) (popped (m .stack)) (top (m .stack))
+        → {v : Stack} → v ≡ laidOn (p .begun) (popped (m .levels)) (top (m .levels))
+        → doneWith (withFrames m (p .core) s v) (p .begun) ≡ finished ps m
     unfolding finished firstOf
-    finish-done h left picked = rw (ne-eqb (m .core .runner) noRank runs, sym test ∙ h, picked, left)
+    finish-done free left picked ranks levels =
+        rw (ne-eqb (m .core .runner) noRank runs, ← holder, ne-eqb h (m .core .runner) free, ranks, levels, picked, left)
 
 -- Activate t
 module _ (trs ps : List ℕ) (m : Model) (t : ℕ) where
@@ -50,10 +75,11 @@ module _ (trs ps : List ℕ) (m : Model) (t : ℕ) where
       activate-busy h = rw (ne-eqb (m .core .runner) noRank runs, ← rank, ne-eqb r noRank some, sym test ∙ h)
 
       pub activate-done : b ≡ false → {p : Picked} → p ≡ arbitrated ps (withRequest (m .core) (with (m .core .request) r))
-          → doneWith (laying (requesting r m) (p .core)) (p .begun) ≡ activated trs ps m t
+          → {s : Stack} → s ≡ laidOn (p .begun) (m .stack) (m .core .runner) → {v : Stack} → v ≡ laidOn (p .begun) (m .levels) (m .core .level)
+          → doneWith (withFrames m (p .core) s v) (p .begun) ≡ activated trs ps m t
       unfolding activated firstOf
-      activate-done h picked =
-          rw (ne-eqb (m .core .runner) noRank runs, ← rank, ne-eqb r noRank some, sym test ∙ h, picked)
+      activate-done h picked ranks levels =
+          rw (ne-eqb (m .core .runner) noRank runs, ← rank, ne-eqb r noRank some, sym test ∙ h, ranks, levels, picked)
 
 -- Line i
 module _ (lrs ps : List ℕ) (m : Model) (i : ℕ) {r : ℕ} (rank : r ≡ getD lrs i noRank) where
@@ -67,9 +93,10 @@ module _ (lrs ps : List ℕ) (m : Model) (i : ℕ) {r : ℕ} (rank : r ≡ getD 
     line-waits h = rw (← rank, ne-eqb r noRank some, sym test ∙ h)
 
     pub line-done : b ≡ false → {p : Picked} → p ≡ arbitrated ps (withRequest (m .core) (with (m .core .request) r))
-        → doneWith (laying (requesting r m) (p .core)) (p .begun) ≡ lined lrs ps m i
+        → {s : Stack} → s ≡ laidOn (p .begun) (m .stack) (m .core .runner) → {v : Stack} → v ≡ laidOn (p .begun) (m .levels) (m .core .level)
+        → doneWith (withFrames m (p .core) s v) (p .begun) ≡ lined lrs ps m i
     unfolding lined firstOf
-    line-done h picked = rw (← rank, ne-eqb r noRank some, sym test ∙ h, picked)
+    line-done h picked ranks levels = rw (← rank, ne-eqb r noRank some, sym test ∙ h, ranks, levels, picked)
 
 -- Chain t
 module _ (ws : ℕ) (trs ps : List ℕ) (m : Model) (t : ℕ) {a : Bool} (calls : a ≡ idles m || has ws (m .core .runner)) where
@@ -82,22 +109,35 @@ module _ (ws : ℕ) (trs ps : List ℕ) (m : Model) (t : ℕ) {a : Bool} (calls 
     unfolding chained firstOf
     chain-none h = rw (sym calls ∙ runs, ← rank, eq-eqb r noRank h)
 
-    module _ (some : r ≡ noRank → ⊥) {b : Bool} (holds : b ≡ holding m) where
-      pub chain-holding : b ≡ true → refusedWith m holdsResource ≡ chained ws trs ps m t
+    module _ (some : r ≡ noRank → ⊥) {h : ℕ} (holder : h ≡ topRow (m .holder)) where
+      pub chain-holding : h ≡ m .core .runner → refusedWith m holdsResource ≡ chained ws trs ps m t
       unfolding chained firstOf
-      chain-holding h = rw (sym calls ∙ runs, ← rank, ne-eqb r noRank some, sym holds ∙ h)
+      chain-holding own = rw (sym calls ∙ runs, ← rank, ne-eqb r noRank some, ← holder, eq-eqb h (m .core .runner) own)
 
-      module _ (free : b ≡ false) {d : Bool} (test : d ≡ busy m r && not (eqb r (m .core .runner))) where
+      module _ (free : h ≡ m .core .runner → ⊥) {d : Bool} (test : d ≡ busy m r && not (eqb r (m .core .runner))) where
         pub chain-busy : d ≡ true → refusedWith m limit ≡ chained ws trs ps m t
         unfolding chained firstOf
-        chain-busy h = rw (sym calls ∙ runs, ← rank, ne-eqb r noRank some, sym holds ∙ free, sym test ∙ h)
+        chain-busy e = rw (sym calls ∙ runs, ← rank, ne-eqb r noRank some, ← holder, ne-eqb h (m .core .runner) free, sym test ∙ e)
 
-        pub chain-done : d ≡ false → {k : Core} → k ≡ popped (m .stack) (m .levels) (m .core)
+        pub chain-done : d ≡ false → {k : Core} → k ≡ resumed (m .stack) (m .levels) (m .core)
             → {p : Picked} → p ≡ arbitrated ps (withRequest k (with (k .request) r))
-            → doneWith (laying (requesting r (withCore m k)) (p .core)) (p .begun) ≡ chained ws trs ps m t
+            → {s : Stack} → s ≡ laidOn (p .begun) (popped (m .stack)) (top (m .stack))
+            → {v : Stack} → v ≡ laidOn (p .begun) (popped (m .levels)) (top (m .levels))
+            → doneWith (withFrames m (p .core) s v) (p .begun) ≡ chained ws trs ps m t
         unfolding chained firstOf
-        chain-done h left picked =
-            rw (sym calls ∙ runs, ← rank, ne-eqb r noRank some, sym holds ∙ free, sym test ∙ h, picked, left)
+        chain-done e left picked ranks levels =
+            rw (
+              sym calls ∙ runs,
+              ← rank,
+              ne-eqb r noRank some,
+              ← holder,
+              ne-eqb h (m .core .runner) free,
+              sym test ∙ e,
+              ranks,
+              levels,
+              picked,
+              left,
+            )
 
 -- Get r
 module _ (n : ℕ) (cs ps : List ℕ) (m : Model) (r : ℕ) where
@@ -111,32 +151,17 @@ module _ (n : ℕ) (cs ps : List ℕ) (m : Model) (r : ℕ) where
     get-none h = rw (ne-eqb (m .core .runner) noRank runs, le-leb n r h)
 
     module _ (some : r < n) {l q : ℕ} (ceil : l ≡ getD cs r 0) (own : q ≡ getD ps (m .core .runner) 0)
-        {b : Bool} (test : b ≡ getD (m .held) r false || ltb l q) where
+        {b : Bool} (test : b ≡ has (m .held) r || ltb l q) where
       pub get-withheld : b ≡ true → refusedWith m access ≡ got n cs ps m r
       unfolding got firstOf
       get-withheld h = rw (ne-eqb (m .core .runner) noRank runs, lt-leb n r some, ← ceil, ← own, sym test ∙ h)
 
       pub get-done : b ≡ false → {v : ℕ} → v ≡ max l (m .core .level)
-          → {xs : List ℕ} → xs ≡ set (m .resource) (m .slots) r
-          → {hs : List ℕ} → hs ≡ set (m .holder) (m .slots) (m .core .runner)
-          → {vs : List ℕ} → vs ≡ set (m .raised) (m .slots) v
-          → {fs : List Bool} → fs ≡ set (m .held) r true
-          → doneWith
-          (record {
-            core = withLevel (m .core) v;
-            stack = m .stack;
-            levels = m .levels;
-            slots = m .slots + 1;
-            resource = xs;
-            holder = hs;
-            raised = vs;
-            held = fs;
-            counter = m .counter;
-            on = m .on;
-            losses = m .losses;
-          })
-          false
-          ≡ got n cs ps m r
+          → {w : ℕ} → w ≡ with (m .held) r
+          → {xs : Row} → xs ≡ pushRow (m .resource) r
+          → {hs : Row} → hs ≡ pushRow (m .holder) (m .core .runner)
+          → {vs : Row} → vs ≡ pushRow (m .raised) v
+          → doneWith (withSlots m (withLevel (m .core) v) (m .stack) (m .levels) w xs hs vs) false ≡ got n cs ps m r
       unfolding got firstOf
       get-done h level x₁ x₂ x₃ x₄ =
           rw (ne-eqb (m .core .runner) noRank runs, lt-leb n r some, ← ceil, ← own, sym test ∙ h, x₁, x₂, x₃, x₄, level)
@@ -157,24 +182,14 @@ module _ (n : ℕ) (ps : List ℕ) (m : Model) (r : ℕ) where
       unfolding released firstOf
       release-other h = rw (ne-eqb (m .core .runner) noRank runs, lt-leb n r some, sym test ∙ h)
 
-      pub release-done : b ≡ true → {v : ℕ} → v ≡ levelWithout ps m → {k : Core} → k ≡ withLevel (m .core) v
-          → {p : Picked} → p ≡ arbitrated ps k → {fs : List Bool} → fs ≡ set (m .held) r false
-          → doneWith
-          (record {
-            core = p .core;
-            stack = set (m .stack) (m .core .depth) (m .core .runner);
-            levels = set (m .levels) (m .core .depth) v;
-            slots = m .slots - 1;
-            resource = m .resource;
-            holder = m .holder;
-            raised = m .raised;
-            held = fs;
-            counter = m .counter;
-            on = m .on;
-            losses = m .losses;
-          })
-          (p .begun)
-          ≡ released n ps m r
+      pub release-done : b ≡ true → {l : ℕ} → l ≡ levelWithout ps m → {k : Core} → k ≡ withLevel (m .core) l
+          → {p : Picked} → p ≡ arbitrated ps k
+          → {s : Stack} → s ≡ laidOn (p .begun) (m .stack) (m .core .runner) → {v : Stack} → v ≡ laidOn (p .begun) (m .levels) l
+          → {w : ℕ} → w ≡ without (m .held) r
+          → {xs : Row} → xs ≡ popRow (m .resource)
+          → {hs : Row} → hs ≡ popRow (m .holder)
+          → {vs : Row} → vs ≡ popRow (m .raised)
+          → doneWith (withSlots m (p .core) s v w xs hs vs) (p .begun) ≡ released n ps m r
       unfolding released firstOf
-      release-done h level lowered picked x =
-          rw (ne-eqb (m .core .runner) noRank runs, lt-leb n r some, sym test ∙ h, picked, lowered, x, level)
+      release-done h level lowered picked ranks levels x₁ x₂ x₃ x₄ =
+          rw (ne-eqb (m .core .runner) noRank runs, lt-leb n r some, sym test ∙ h, x₁, x₂, x₃, x₄, ranks, levels, picked, lowered, level)

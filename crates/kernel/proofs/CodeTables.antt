@@ -5,16 +5,17 @@ use mathlib.Core.Bool.{Bool, true, false, _||_}
 use mathlib.Core.List.{List}
 use native.Mathlib.Omega.{arith}
 use lib.Dec.{ltb, eqb}
-use lib.ListN.{length, getD, set}
+use lib.ListN.{length, getD}
 use borrow.Author.Tests.{ltb-false, le-leb, lt-leb, eq-eqb, ne-eqb}
 use Rattle.config.specs.Value.{maxEntries}
 use Rattle.scheduler.specs.Status.{callLevel, noSuch, badDelay, alreadyRuns, noFunction, firstOf}
 use Rattle.scheduler.specs.Call.{longestDelay}
+use Rattle.stack.specs.declared.Stack.{Stack}
 use Rattle.kernel.specs.declared.machine.Core.{Core}
 use Rattle.kernel.specs.declared.machine.Picked.{Picked}
 use Rattle.kernel.specs.declared.machine.Model.{Model}
 use Rattle.kernel.specs.Model.{noRank, withRequest, withCells, doneWith, refusedWith}
-use Rattle.kernel.specs.Arbiter.{arbitrated}
+use Rattle.kernel.specs.Arbiter.{arbitrated, laidOn}
 use Rattle.kernel.specs.Cells.{switchOn, switchOff, isOn, countersTicked, marks, countersStarted, countersStopped, switched, Due, requestsDue}
 use Rattle.kernel.specs.Events.{marksOf, tickedOnce, launched, halted}
 use Rattle.kernel.specs.Code.{dueWith, Delays, Laid, Reached}
@@ -30,16 +31,16 @@ module _ (ks rs ps : List ℕ) (m : Model) where
       → {ns : List ℕ} → ns ≡ countersTicked maxEntries 0 ks (m .on) (m .counter)
       → {w : ℕ} {ls : List ℕ} → dueWith w ls ≡ requestsDue (m .core .started) ms rs (dueWith (m .core .request) (m .losses))
       → {k : Core} → k ≡ withRequest (m .core) w → {p : Picked} → p ≡ arbitrated ps k
+      → {s : Stack} → s ≡ laidOn (p .begun) (m .stack) (m .core .runner) → {v : Stack} → v ≡ laidOn (p .begun) (m .levels) (m .core .level)
       → doneWith
       (record {
         core = p .core;
-        stack = set (m .stack) (m .core .depth) (m .core .runner);
-        levels = set (m .levels) (m .core .depth) (m .core .level);
-        slots = m .slots;
+        stack = s;
+        levels = v;
+        held = m .held;
         resource = m .resource;
         holder = m .holder;
         raised = m .raised;
-        held = m .held;
         counter = ns;
         on = m .on;
         losses = ls;
@@ -47,8 +48,8 @@ module _ (ks rs ps : List ℕ) (m : Model) where
       (p .begun)
       ≡ tickedOnce ks rs ps m
   unfolding tickedOnce
-  tick-done marked counted due asked picked =
-      rw (picked, asked, counted, ap (λ (x : Due). x .request) due, ap (λ (x : Due). x .losses) due, marked)
+  tick-done marked counted due asked picked ranks levels =
+      rw (ranks, levels, picked, asked, counted, ap (λ (x : Due). x .request) due, ap (λ (x : Due). x .losses) due, marked)
 
 -- a delay that is not refused
 pub short-sum : (d g : ℕ) → eqb d 0 || ltb longestDelay (d + g) ≡ false → d + g ≤ longestDelay

@@ -1,16 +1,17 @@
 -- Release: the runner gives its latest resource back, and runs at the level that it has without it.
 --
---   top-slot       the last slot of the row is the runner's exactly if it holds a resource, and then the latest of them
+--   holding-is     the slot on top is the runner's exactly if it holds a resource
+--   latest-is      and then it is that of the latest of them
 --   freed-tied     after a Release the model stands for the bodies without that resource
 --
 -- Assumes nothing.
-use Prim.Native.Nat.{ℕ, zero, suc, _-_, max, _<_, _≤_}
+use Prim.Native.Nat.{ℕ, _+_, max, _<_}
 use mathlib.Core.Path.{_≡_, refl, sym, ap, ap₂, _∙_}
 use mathlib.Core.Logic.{_≢_}
-use mathlib.Core.Bool.{Bool, true, false, true≢false}
+use mathlib.Core.Bool.{Bool, true, false, true≢false, cond}
 use mathlib.Core.List.{List, [], _∷_, _++_, map, foldr}
 use native.Mathlib.Omega.{arith}
-use borrow.Author.Tests.{eq-eqb, ne-eqb, lt-ltb}
+use borrow.Author.Tests.{eq-eqb, ne-eqb}
 use lib.Dec.{eqb}
 use lib.ListN.{getD, set, length-set}
 use lib.Seq.{getD-set-same, getD-set-other}
@@ -18,39 +19,21 @@ use Rattle.number.proofs.Cases.{by-eq}
 use Rattle.config.specs.declared.Config.{Config}
 use Rattle.config.specs.Meaning.{ceiling, priorityOf}
 use Rattle.plan.specs.declared.Plan.{Plan}
+use Rattle.word.specs.Word.{has, without}
+use Rattle.word.proofs.Theorems.{has-without-same, has-without-other}
+use Rattle.stack.specs.Stack.{secondRow, popRow, rowBytes}
+use Rattle.stack.proofs.Theorems.{second-lt}
 use Rattle.scheduler.specs.Body.{Body, isStarted, current, gives-back}
 use Rattle.scheduler.specs.State.{noBody, among}
 use Rattle.scheduler.specs.Call.{holds, latestIs}
 use Rattle.kernel.specs.declared.machine.Model.{Model}
 use Rattle.kernel.specs.Model.{noRank, withLevel}
-use Rattle.kernel.specs.Resources.{ownSlot, holding, latest, levelWithout, freeing}
-use Rattle.kernel.proofs.Views.{Frame, frame, Slot, slot, slotsIn}
-use Rattle.kernel.proofs.Simulation.{Fitted, at, wants, Words, framesFor, Chained, Running, slotsFor, slotsAlong, Distinct, trues, resourcesIn, Holding, Tied}
-use Rattle.kernel.proofs.Chains.{Alike, among-head, among-tail, framesFor-alike, levelAt-alike, chained-alike, slotsAlong-alike, TopIs, frames-top}
+use Rattle.kernel.specs.Resources.{holding, latest, levelWithout, freeing}
+use Rattle.kernel.proofs.Views.{Shows, below, on-top, row-shows-popped, row-shows-top, row-shows-second}
+use Rattle.kernel.proofs.Simulation.{Fitted, at, wants, Words, ranksFor, levelsFor, Chained, Frames, Running, Slot, slot, slotsFor, slotsAlong, Distinct, holdersIn, levelsIn, missing, Slots, Holding, Tied}
+use Rattle.kernel.proofs.Chains.{Alike, among-head, among-tail, levelsFor-alike, levelAt-alike, chained-alike, slotsAlong-alike, runner-first}
 use Rattle.kernel.proofs.Standing.{by-among, chain-other, waits-same}
-use Rattle.kernel.proofs.Marks.{trues-le, trues-clear, getD-inside}
-
--- the last slot of a row of n
-pub record TopSlot (rs hs ls : List ℕ) (n : ℕ) (x : Slot) (xs : List Slot) : Type 0 where
-  pub under : ℕ
-  pub more : n ≡ suc under
-  pub resource : getD rs under 0 ≡ x .resource
-  pub holder : getD hs under 0 ≡ x .holder
-  pub level : getD ls under 0 ≡ x .level
-  pub rest : slotsIn rs hs ls under ≡ xs
-
-pub slots-top : (rs hs ls : List ℕ) (n : ℕ) (x : Slot) (xs : List Slot) → slotsIn rs hs ls n ≡ x ∷ xs → TopSlot rs hs ls n x xs
-unfolding slotsIn
-slots-top rs hs ls zero x xs e = absurd (let z : _≡_ {A = ℕ} 0 1 = cc in omega arith)
-slots-top rs hs ls (suc n) x xs e =
-    let f : slot (getD rs n 0) (getD hs n 0) (getD ls n 0) ≡ x = cc in
-    let g : slotsIn rs hs ls n ≡ xs = cc in
-    record { under = n; more = refl; resource = ap (λ (y : Slot). y .resource) f; holder = ap (λ (y : Slot). y .holder) f; level = ap (λ (y : Slot). y .level) f; rest = g }
-
-pub slots-none : (rs hs ls : List ℕ) (n : ℕ) → slotsIn rs hs ls n ≡ [] → n ≡ 0
-unfolding slotsIn
-slots-none rs hs ls zero e = refl
-slots-none rs hs ls (suc n) e = absurd (let z : _≡_ {A = ℕ} 0 1 = cc in omega arith)
+use Rattle.kernel.proofs.Marks.{missing-one}
 
 -- the slots of a chain: none, or the first is that of a body of the chain
 pub data Held (rk : ℕ → ℕ) (ch : List ℕ) : List Slot → Type 0 where
@@ -81,9 +64,8 @@ module _ (c : Config) (p : Plan) (rk : ℕ → ℕ) (fit : Fitted c p rk) (m : M
   unfolding Chained
   exists = t .running .chained .0
 
-  top : TopIs (m .stack) (m .levels) (m .core) (frame (rk b) (current c b (at bs b))) (framesFor c rk bs ch)
-  unfolding framesFor
-  top = frames-top (m .stack) (m .levels) (m .core) _ _ (t .running .frames)
+  runner-rank : m .core .runner ≡ rk b
+  runner-rank = runner-first c rk bs b ch (t .running .frames)
 
   below-exists : (a : ℕ) (ch : List ℕ) → Chained c bs ch → among a ch ≡ true → a < c .bodies
   unfolding Chained among
@@ -94,53 +76,40 @@ module _ (c : Config) (p : Plan) (rk : ℕ → ℕ) (fit : Fitted c p rk) (m : M
   unfolding Chained
   below-chained = t .running .chained .1 .1 .1
 
-  few-slots : m .slots ≤ 16
-  few-slots = omega (arith, t .holding .counted, t .holding .held-long, trues-le (m .held))
-
-  -- of the first n slots the last is the runner's exactly if some of them are
-  own-slot : (n : ℕ) (rs : List ℕ) → n ≤ 16 → slotsIn (m .resource) (m .holder) (m .raised) n ≡ slotsFor c rk b rs ++ slotsAlong c rk bs ch
-      → ownSlot m n ≡ holds rs
+  -- where the runner's slots for rs come first, the first slot is the runner's exactly if there are any
+  first-own : (rs : List ℕ) → eqb (getD (holdersIn (slotsFor c rk b rs ++ slotsAlong c rk bs ch)) 0 noRank) (m .core .runner) ≡ holds rs
   unfolding slotsFor
-  own-slot n (r ∷ rs) few e =
-      let x = slots-top (m .resource) (m .holder) (m .raised) n _ _ e in
-      let q : n - 1 ≡ x .under = omega (arith, x .more) in
-      let h : getD (m .holder) (n - 1) noRank ≡ m .core .runner = rw q (getD-inside (m .holder) (x .under) noRank 0 (rw (t .holding .holder-long) (omega (arith, x .more))) ∙ x .holder ∙ sym (top .rank)) in
-      rw (lt-ltb 0 n (omega (arith, x .more))) (eq-eqb (getD (m .holder) (n - 1) noRank) (m .core .runner) h)
-  own-slot n [] few e = go (along-held c rk bs ch) e
+  first-own (r ∷ rs) = eq-eqb (rk b) (m .core .runner) (sym runner-rank)
+  first-own [] = go (along-held c rk bs ch)
     where
-      go : {ss : List Slot} → Held rk ch ss → slotsIn (m .resource) (m .holder) (m .raised) n ≡ ss → ownSlot m n ≡ false
-      go nothing e = rw (slots-none (m .resource) (m .holder) (m .raised) n e)
-      go (by a x xs among-a holder) e =
-          let y = slots-top (m .resource) (m .holder) (m .raised) n x xs e in
-          let q : n - 1 ≡ y .under = omega (arith, y .more) in
-          let h : getD (m .holder) (n - 1) noRank ≡ rk a = rw q (getD-inside (m .holder) (y .under) noRank 0 (rw (t .holding .holder-long) (omega (arith, y .more))) ∙ y .holder ∙ holder) in
-          rw (lt-ltb 0 n (omega (arith, y .more)))
-          (ne-eqb (getD (m .holder) (n - 1) noRank) (m .core .runner)
-          (λ z. absurd (chain-other c bs b a ch (t .running .chained) among-a (fit .rank-inj a b (below-exists a ch below-chained among-a) exists (sym h ∙ z ∙ top .rank)))))
+      go : {ss : List Slot} → Held rk ch ss → eqb (getD (holdersIn ss) 0 noRank) (m .core .runner) ≡ false
+      go nothing = ne-eqb noRank (m .core .runner) (λ z. absurd (omega (arith, z, runner-rank, fit .rank-lt b exists, fit .few)))
+      go (by a x xs among-a holder) =
+          ne-eqb (x .holder) (m .core .runner)
+          (λ z. absurd (chain-other c bs b a ch (t .running .chained) among-a (fit .rank-inj a b (below-exists a ch below-chained among-a) exists (sym holder ∙ z ∙ runner-rank))))
 
-  slots-are : slotsIn (m .resource) (m .holder) (m .raised) (m .slots) ≡ slotsFor c rk b (at bs b .held) ++ slotsAlong c rk bs ch
+  -- the runner's slots come first of all
+  slots-are : Slots (m .held) (m .resource) (m .holder) (m .raised) (slotsFor c rk b (at bs b .held) ++ slotsAlong c rk bs ch)
   unfolding slotsAlong
   slots-are = t .holding .slots
 
   -- "the runner holds a resource"
   pub holding-is : holding m ≡ holds (at bs b .held)
-  holding-is = own-slot (m .slots) (at bs b .held) few-slots slots-are
+  holding-is =
+      ap (λ (h : ℕ). eqb h (m .core .runner)) (row-shows-top (m .holder) _ (slots-are .holders)) ∙ first-own (at bs b .held)
 
   -- "the runner's most recently taken one still held"
   pub latest-is : (r : ℕ) → latest m r ≡ latestIs r (at bs b .held)
   unfolding slotsFor
   latest-is r = go (at bs b .held) slots-are holding-is
     where
-      go : (rs : List ℕ) → slotsIn (m .resource) (m .holder) (m .raised) (m .slots) ≡ slotsFor c rk b rs ++ slotsAlong c rk bs ch
+      go : (rs : List ℕ) → Slots (m .held) (m .resource) (m .holder) (m .raised) (slotsFor c rk b rs ++ slotsAlong c rk bs ch)
           → holding m ≡ holds rs → latest m r ≡ latestIs r rs
-      go [] e h = rw h
-      go (q ∷ rs) e h =
-          let x = slots-top (m .resource) (m .holder) (m .raised) (m .slots) _ _ e in
-          let k : m .slots - 1 ≡ x .under = omega (arith, x .more) in
-          rw (h, k, getD-inside (m .resource) (x .under) noRank 0 (rw (t .holding .resource-long) (omega (arith, x .more, few-slots))), x .resource) (eqb-sym q r)
+      go [] k h = rw h
+      go (q ∷ rs) k h = rw (h, row-shows-top (m .resource) _ (k .resources)) (eqb-sym q r)
 
   -- the runner holds r, taken after rs
-  module _ (r : ℕ) (rs : List ℕ) (held-is : at bs b .held ≡ r ∷ rs) where
+  module _ (r : ℕ) (r< : r < c .resources) (rs : List ℕ) (held-is : at bs b .held ≡ r ∷ rs) where
     abbrev bs′ : List Body
     bs′ = set bs b (gives-back (at bs b))
 
@@ -162,33 +131,40 @@ module _ (c : Config) (p : Plan) (rk : ℕ → ℕ) (fit : Fitted c p rk) (m : M
     alike : (i : ℕ) → among i ch ≡ true → Alike (at bs i) (at bs′ i)
     alike i h = rw (at-other i (chain-other c bs b i ch (t .running .chained) h)) (record { phase = refl; held = refl })
 
-    -- the slot of r, and the row below it
-    last : TopSlot (m .resource) (m .holder) (m .raised) (m .slots) (slot r (rk b) (foldr max (priorityOf c b) (map (ceiling c) (r ∷ rs)))) (slotsFor c rk b rs ++ slotsAlong c rk bs ch)
+    -- the slots without that of r
+    abbrev rest : List Slot
+    rest = slotsFor c rk b rs ++ slotsAlong c rk bs ch
+
+    -- the slot of r comes first
+    old : Slots (m .held) (m .resource) (m .holder) (m .raised) (slot r (rk b) (foldr max (priorityOf c b) (map (ceiling c) (r ∷ rs))) ∷ rest)
     unfolding slotsFor
-    last = slots-top (m .resource) (m .holder) (m .raised) (m .slots) _ _ (slots-are ∙ ap (λ (q : List ℕ). slotsFor c rk b q ++ slotsAlong c rk bs ch) held-is)
+    old = rw held-is at slots-are
 
-    one-less : m .slots - 1 ≡ last .under
-    one-less = omega (arith, last .more)
-
-    row-below : slotsIn (m .resource) (m .holder) (m .raised) (m .slots - 1) ≡ slotsFor c rk b rs ++ slotsAlong c rk bs ch
-    row-below = rw one-less (last .rest)
-
-    slots-less : slotsAlong c rk bs′ (b ∷ ch) ≡ slotsFor c rk b rs ++ slotsAlong c rk bs ch
+    slots-less : slotsAlong c rk bs′ (b ∷ ch) ≡ rest
     unfolding slotsAlong
     slots-less = ap₂ (λ (q : List ℕ) (ss : List Slot). slotsFor c rk b q ++ ss) held-b (sym (slotsAlong-alike c rk bs bs′ ch alike))
 
     -- the level without r
-    level-is : (q : List ℕ) → slotsIn (m .resource) (m .holder) (m .raised) (m .slots - 1) ≡ slotsFor c rk b q ++ slotsAlong c rk bs ch
-        → levelWithout (p .priority) m ≡ foldr max (priorityOf c b) (map (ceiling c) q)
+    second-is : (q : List ℕ) → Shows (rowBytes (m .raised)) (foldr max (priorityOf c b) (map (ceiling c) (r ∷ rs)) ∷ levelsIn (slotsFor c rk b q ++ slotsAlong c rk bs ch))
+        → eqb (secondRow (m .holder)) (m .core .runner) ≡ holds q → levelWithout (p .priority) m ≡ foldr max (priorityOf c b) (map (ceiling c) q)
     unfolding slotsFor
-    level-is [] e = rw (own-slot (m .slots - 1) [] (omega (arith, few-slots)) e) (rw (top .rank) (fit .priority-at b exists))
-    level-is (s ∷ q) e =
-        let x = slots-top (m .resource) (m .holder) (m .raised) (m .slots - 1) _ _ e in
-        let k : m .slots - 1 - 1 ≡ x .under = omega (arith, x .more) in
-        rw (own-slot (m .slots - 1) (s ∷ q) (omega (arith, few-slots)) e) (ap (λ (i : ℕ). getD (m .raised) i 0) k ∙ x .level)
+    second-is [] k h = rw h (rw runner-rank (fit .priority-at b exists))
+    second-is (x ∷ q) k h = rw h (row-shows-second (m .raised) _ _ k)
+
+    level-is : levelWithout (p .priority) m ≡ foldr max (priorityOf c b) (map (ceiling c) rs)
+    level-is =
+        second-is rs (old .levels) (ap (λ (h : ℕ). eqb h (m .core .runner)) (row-shows-second (m .holder) _ _ (old .holders)) ∙ first-own rs)
 
     new-level : levelWithout (p .priority) m ≡ current c b (at bs′ b)
-    new-level = level-is rs row-below ∙ ap (λ (q : List ℕ). foldr max (priorityOf c b) (map (ceiling c) q)) (sym held-b)
+    new-level = level-is ∙ ap (λ (q : List ℕ). foldr max (priorityOf c b) (map (ceiling c) q)) (sym held-b)
+
+    -- it is a priority, or was kept as a byte
+    level-lt : levelWithout (p .priority) m < 256
+    level-lt = go (eqb (secondRow (m .holder)) (m .core .runner))
+      where
+        go : (o : Bool) → cond o (secondRow (m .raised)) (getD (p .priority) (m .core .runner) 0) < 256
+        go true = second-lt (m .raised)
+        go false = rw runner-rank (omega (arith, fit .priority-at b exists, fit .own-few b exists))
 
     words′ : Words c rk (withLevel (m .core) (levelWithout (p .priority) m)) bs′
     words′ =
@@ -200,65 +176,56 @@ module _ (c : Config) (p : Plan) (rk : ℕ → ℕ) (fit : Fitted c p rk) (m : M
           quiet = λ i h. same (λ x. x .waiting) (λ x. refl) i ∙ t .words .quiet i (sym (same-began i) ∙ h);
         }
 
-    not-idle : eqb (m .core .runner) noRank ≡ true → ⊥
-    not-idle e = true≢false (sym e ∙ ne-eqb (m .core .runner) noRank (top .somebody))
-
-    running′ : Running c rk (freeing (p .priority) r m) bs′ (b ∷ ch)
-    unfolding framesFor Chained
-    running′ =
+    frames′ : Frames (m .core .runner) (levelWithout (p .priority) m) (m .stack) (m .levels) (ranksFor rk (b ∷ ch)) (levelsFor c bs′ (b ∷ ch))
+    unfolding levelsFor
+    frames′ =
         record {
-          frames = rw (ne-eqb (m .core .runner) noRank (top .somebody))
-              (ap₂ (λ (f : Frame) (fs : List Frame). f ∷ fs) (ap₂ frame (top .rank) new-level) (top .under ∙ framesFor-alike c rk bs bs′ ch alike));
-          chained = (exists, (same-began b ∙ t .running .chained .1 .0, (rw (sym (levelAt-alike c rk bs bs′ ch alike)) (t .running .chained .1 .1 .0), chained-alike c rk bs bs′ ch alike below-chained)));
-          covers = λ i i< h. t .running .covers i i< (sym (same-began i) ∙ h);
-          idle-level = λ e. absurd (not-idle e);
-          idle-depth = λ e. absurd (not-idle e);
-          stack-long = t .running .stack-long;
-          levels-long = t .running .levels-long;
+          ranks = t .running .frames .ranks;
+          levels = on-top new-level (rw (sym (levelsFor-alike c rk bs bs′ ch alike)) (below (t .running .frames .levels)));
+          level-lt = level-lt;
         }
 
-    -- r stands once in the row, on its top
-    all-slots : slotsAlong c rk bs (b ∷ ch) ≡ slot r (rk b) (foldr max (priorityOf c b) (map (ceiling c) (r ∷ rs))) ∷ (slotsFor c rk b rs ++ slotsAlong c rk bs ch)
-    unfolding slotsAlong slotsFor
-    all-slots = ap (λ (q : List ℕ). slotsFor c rk b q ++ slotsAlong c rk bs ch) held-is
+    running′ : Running c rk (freeing (p .priority) r m) bs′ (b ∷ ch)
+    unfolding Chained
+    running′ =
+        record {
+          frames = frames′;
+          chained = (exists, (same-began b ∙ t .running .chained .1 .0, (rw (sym (levelAt-alike c rk bs bs′ ch alike)) (t .running .chained .1 .1 .0), chained-alike c rk bs bs′ ch alike below-chained)));
+          covers = λ i i< h. t .running .covers i i< (sym (same-began i) ∙ h);
+        }
 
-    once : Distinct (r ∷ resourcesIn (slotsFor c rk b rs ++ slotsAlong c rk bs ch))
-    once = rw all-slots at (t .holding .distinct)
-
-    flag : (q : ℕ) → getD (m .held) q false ≡ among q (r ∷ resourcesIn (slotsFor c rk b rs ++ slotsAlong c rk bs ch))
-    flag = rw all-slots at (t .holding .flags)
-
-    flag-r : getD (m .held) r false ≡ true
+    flag-r : has (m .held) r ≡ true
     unfolding among
-    flag-r = flag r ∙ rw (eq-eqb r r refl)
+    flag-r = old .flags r ∙ rw (eq-eqb r r refl)
+
+    one-more : missing 16 (without (m .held) r) ≡ missing 16 (m .held) + 1
+    one-more =
+        missing-one (m .held) (without (m .held) r) r (λ i n. sym (has-without-other (m .held) r i n)) 16 (omega (arith, fit .few-resources)) flag-r
+        (has-without-same (m .held) r)
+
+    slots′ : Slots (without (m .held) r) (popRow (m .resource)) (popRow (m .holder)) (popRow (m .raised)) rest
+    unfolding Distinct among
+    slots′ =
+        record {
+          resources = row-shows-popped (m .resource) _ _ (old .resources);
+          holders = row-shows-popped (m .holder) _ _ (old .holders);
+          levels = row-shows-popped (m .raised) _ _ (old .levels);
+          flags = λ q. by-eq q r
+              (λ e. rw e (has-without-same (m .held) r ∙ sym (old .distinct .0)))
+              (λ n. has-without-other (m .held) r q n ∙ old .flags q ∙ rw (ne-eqb q r n));
+          distinct = old .distinct .1;
+          counted = omega (arith, old .counted, one-more);
+        }
 
     holding′ : Holding c rk (freeing (p .priority) r m) bs′ (b ∷ ch)
-    unfolding Distinct among Chained
+    unfolding Chained
     holding′ =
         record {
-          slots = row-below ∙ sym slots-less;
+          slots = rw slots-less slots′;
           loose = λ i h. by-eq i b
               (λ e. absurd (true≢false (sym (rw e (t .running .chained .1 .0)) ∙ sym (same-began i) ∙ h)))
               (λ n. rw (at-other i n) (t .holding .loose i (sym (same-began i) ∙ h)));
-          flags = λ q. rw slots-less
-              (by-eq q r
-              (λ e. rw e (cleared (m .held) r ∙ sym (once .0)))
-              (λ n. getD-set-other (m .held) r q false false n ∙ flag q ∙ rw (ne-eqb q r n)));
-          distinct = rw slots-less (once .1);
-          counted = less;
-          held-long = length-set (m .held) r false ∙ t .holding .held-long;
-          resource-long = t .holding .resource-long;
-          holder-long = t .holding .holder-long;
-          raised-long = t .holding .raised-long;
         }
-      where
-        cleared : (l : List Bool) (i : ℕ) → getD (set l i false) i false ≡ false
-        cleared [] i = refl
-        cleared (x ∷ l) zero = refl
-        cleared (x ∷ l) (suc i) = cleared l i
-
-        less : m .slots - 1 ≡ trues (set (m .held) r false)
-        less = let q = trues-clear (m .held) r flag-r in omega (arith, t .holding .counted)
 
     pub freed-tied : Tied c rk (freeing (p .priority) r m) bs′ (b ∷ ch)
     freed-tied = record { size = length-set bs b (gives-back (at bs b)) ∙ t .size; words = words′; running = running′; holding = holding′ }

@@ -16,17 +16,12 @@ use Rattle.scheduler.specs.State.{stopped, State, noBody, among}
 use Rattle.scheduler.specs.Scheduler.{newBody, fresh}
 use Rattle.scheduler.proofs.Changing.{tables-dispatched}
 use Rattle.kernel.specs.Machine.{unstarted, freshModel}
-use Rattle.kernel.proofs.Views.{slotsIn}
+use Rattle.kernel.proofs.Views.{same-everywhere, on-top, empty-shows, row-empty-shows}
 use Rattle.kernel.specs.Cells.{switchOff, isOn}
-use Rattle.kernel.proofs.Simulation.{Fitted, at, wants, framesFor, Chained, slotsAlong, Distinct, trues, CellFits, Timed, Lost, Tied, Sim}
+use Rattle.kernel.proofs.Simulation.{Fitted, at, wants, ranksFor, levelsFor, Chained, slotsAlong, Distinct, CellFits, Timed, Lost, Tied, Sim}
+use Rattle.kernel.proofs.Marks.{missing-empty}
 use Rattle.kernel.proofs.Arbitration.{settled-tied}
 use Rattle.kernel.proofs.Calls.{lost-same, dispatched-losses}
-
--- a list of one value has it everywhere, past its end too
-same-everywhere {ℓ} : {A : Type ℓ} (n : ℕ) (a : A) (i : ℕ) → getD (replicate n a) i a ≡ a
-same-everywhere zero a i = refl
-same-everywhere (suc n) a zero = refl
-same-everywhere (suc n) a (suc i) = same-everywhere n a i
 
 -- whatever a new body is, it has not begun, holds nothing and lost nothing
 new-wants : (a : ℕ) → wants (newBody a) ≡ eqb a 1
@@ -61,7 +56,7 @@ module _ (c : Config) (p : Plan) (rk : ℕ → ℕ) (fit : Fitted c p rk) where
   at-same f e b = ap f (at-new b) ∙ new-same f e (getD (take (c .bodies) (c .autostart)) b 0)
 
   unbegun-tied : Tied c rk (unstarted (p .autostart)) (unbegun .bodies) []
-  unfolding framesFor Chained slotsAlong slotsIn Distinct among trues
+  unfolding ranksFor levelsFor Chained slotsAlong Distinct among
   unbegun-tied =
       record {
         size = size;
@@ -73,24 +68,20 @@ module _ (c : Config) (p : Plan) (rk : ℕ → ℕ) (fit : Fitted c p rk) where
           quiet = λ b h. at-same (λ x. x .waiting) refl b;
         };
         running = record {
-          frames = refl;
+          frames = record { ranks = on-top refl empty-shows; levels = on-top refl empty-shows; level-lt = omega arith };
           chained = tt;
           covers = λ b b< h. absurd (true≢false (sym h ∙ at-same (λ x. isStarted (x .phase)) refl b));
-          idle-level = λ e. refl;
-          idle-depth = λ e. refl;
-          stack-long = refl;
-          levels-long = refl;
         };
         holding = record {
-          slots = refl;
+          slots = record {
+            resources = row-empty-shows;
+            holders = row-empty-shows;
+            levels = row-empty-shows;
+            flags = empty;
+            distinct = tt;
+            counted = omega (arith, missing-empty 16);
+          };
           loose = λ b h. at-same (λ x. x .held) refl b;
-          flags = same-everywhere 16 false;
-          distinct = tt;
-          counted = refl;
-          held-long = refl;
-          resource-long = refl;
-          holder-long = refl;
-          raised-long = refl;
         };
       }
 

@@ -1,67 +1,27 @@
--- The runner ends: the body below it on the stack runs again, at the level it was preempted at.
+-- The runner ends: the body below it on the stack, or nobody, runs again, at the level that lies there.
 -- Assumes nothing.
-use Prim.Native.Nat.{ℕ, zero, suc, _-_, _<_}
-use mathlib.Core.Path.{_≡_, refl, sym, ap, ap₂, _∙_}
+use Prim.Native.Nat.{ℕ, _<_}
+use mathlib.Core.Path.{_≡_, refl, sym, ap, _∙_}
 use mathlib.Core.Logic.{_≢_}
 use mathlib.Core.Bool.{Bool, true, false, true≢false, cond}
 use mathlib.Core.List.{List, [], _∷_, _++_}
-use native.Mathlib.Omega.{arith}
-use borrow.Author.Tests.{eq-eqb, ne-eqb, eqb-true}
-use lib.Dec.{eqb}
-use lib.ListN.{getD, set, length-set}
+use lib.ListN.{set, length-set}
 use lib.Seq.{getD-set-same, getD-set-other}
 use Rattle.number.proofs.Cases.{by-eq}
 use Rattle.config.specs.declared.Config.{Config}
 use Rattle.plan.specs.declared.Plan.{Plan}
-use Rattle.word.specs.Word.{without}
 use Rattle.word.proofs.Theorems.{has-without-same, has-without-other}
+use Rattle.stack.specs.Stack.{top, popped}
+use Rattle.stack.proofs.Theorems.{top-lt}
 use Rattle.scheduler.specs.Body.{Body, isStarted, Phase, suspended, ready, started, finished}
 use Rattle.scheduler.specs.State.{noBody, among}
 use Rattle.scheduler.specs.Call.{requestWaits}
-use Rattle.kernel.specs.declared.machine.Core.{Core}
 use Rattle.kernel.specs.declared.machine.Model.{Model}
-use Rattle.kernel.specs.Model.{noRank}
-use Rattle.kernel.specs.Arbiter.{popped, leaving}
-use Rattle.kernel.proofs.Views.{Frame, frame, below, framesIn}
-use Rattle.kernel.proofs.Simulation.{Fitted, at, Words, framesFor, Chained, Running, slotsFor, slotsAlong, Holding, Tied}
-use Rattle.kernel.proofs.Chains.{Alike, framesFor-alike, chained-alike, slotsAlong-alike, frames-top}
+use Rattle.kernel.specs.Arbiter.{resumed, leaving}
+use Rattle.kernel.proofs.Views.{below, shows-popped}
+use Rattle.kernel.proofs.Simulation.{Fitted, at, Words, ranksFor, levelsFor, Chained, Frames, Running, slotsFor, slotsAlong, Holding, Tied}
+use Rattle.kernel.proofs.Chains.{Alike, levelsFor-alike, chained-alike, slotsAlong-alike, runner-first}
 use Rattle.kernel.proofs.Standing.{by-among, chain-other}
-
--- what a pop leaves of the stack's frames
-pub data Popped (ss ls : List ℕ) (k : Core) : List Frame → Type 0 where
-  emptied : popped ss ls k .runner ≡ noRank → popped ss ls k .level ≡ 0 → popped ss ls k .depth ≡ 0 → Popped ss ls k []
-  resumed : {f : Frame} {fs : List Frame} → popped ss ls k .runner ≡ f .rank → popped ss ls k .level ≡ f .level
-      → below ss ls (popped ss ls k .depth) ≡ fs → Popped ss ls k (f ∷ fs)
-
-pop : (ss ls : List ℕ) (k : Core) (fs : List Frame) (d : ℕ) → k .depth ≡ d → below ss ls d ≡ fs → Popped ss ls k fs
-unfolding below popped
-pop ss ls k [] zero e h = emptied (rw e) (rw e) (rw e)
-pop ss ls k (f ∷ fs) zero e h = absurd (let z : _≡_ {A = ℕ} 0 1 = cc in omega arith)
-pop ss ls k [] (suc d) e h = absurd (let z : _≡_ {A = ℕ} 0 1 = cc in omega arith)
-pop ss ls k (f ∷ fs) (suc d) e h =
-    let x : frame (getD ss d 0) (getD ls d 0) ≡ f = cc in
-    let y : below ss ls d ≡ fs = cc in
-    let n : eqb (k .depth) 0 ≡ false = ne-eqb (k .depth) 0 (λ z. absurd (omega arith)) in
-    let q : k .depth - 1 ≡ d = omega arith in
-    resumed {f = f} {fs = fs}
-    (rw (n, q) (ap (λ (g : Frame). g .rank) x))
-    (rw (n, q) (ap (λ (g : Frame). g .level) x))
-    (rw (n, q) y)
-
--- the first frame, if there is one, is a body's
-abbrev HeadRanked : List Frame → Type 0
-HeadRanked [] = Unit {0}
-HeadRanked (f ∷ fs) = f .rank ≢ noRank
-
-popped-frames : (ss ls : List ℕ) (k : Core) (fs : List Frame) → HeadRanked fs → Popped ss ls k fs → framesIn ss ls (popped ss ls k) ≡ fs
-popped-frames ss ls k [] ranked (emptied r l d) = rw (eq-eqb (popped ss ls k .runner) noRank r)
-popped-frames ss ls k (f ∷ fs) ranked (resumed r l u) =
-    rw (ne-eqb (popped ss ls k .runner) noRank (λ e. ranked (sym r ∙ e))) (ap₂ (λ (g : Frame) (gs : List Frame). g ∷ gs) (ap₂ frame r l) u)
-
-popped-idle : (ss ls : List ℕ) (k : Core) (fs : List Frame) → HeadRanked fs → Popped ss ls k fs → popped ss ls k .runner ≡ noRank
-    → (popped ss ls k .level ≡ 0) × (popped ss ls k .depth ≡ 0)
-popped-idle ss ls k [] ranked (emptied r l d) e = (l, d)
-popped-idle ss ls k (f ∷ fs) ranked (resumed r l u) e = absurd (ranked (sym r ∙ e))
 
 module _ (c : Config) (p : Plan) (rk : ℕ → ℕ) (fit : Fitted c p rk) (m : Model) (bs : List Body) (b : ℕ) (ch : List ℕ)
     (t : Tied c rk m bs (b ∷ ch)) (free : at bs b .held ≡ []) where
@@ -81,8 +41,7 @@ module _ (c : Config) (p : Plan) (rk : ℕ → ℕ) (fit : Fitted c p rk) (m : M
   was-started = t .running .chained .1 .0
 
   runner-rank : m .core .runner ≡ rk b
-  unfolding framesFor
-  runner-rank = frames-top (m .stack) (m .levels) (m .core) _ _ (t .running .frames) .rank
+  runner-rank = runner-first c rk bs b ch (t .running .frames)
 
   at-b : at bs′ b ≡ finished (at bs b)
   at-b = getD-set-same bs b (finished (at bs b)) noBody (rw (t .size) exists)
@@ -104,30 +63,17 @@ module _ (c : Config) (p : Plan) (rk : ℕ → ℕ) (fit : Fitted c p rk) (m : M
   same-began : (i : ℕ) (x : Bool) → i ≢ b → isStarted (at bs′ i .phase) ≡ x → isStarted (at bs i .phase) ≡ x
   same-began i x n h = sym (ap (λ (z : Body). isStarted (z .phase)) (at-other i n)) ∙ h
 
-  under : below (m .stack) (m .levels) (m .core .depth) ≡ framesFor c rk bs ch
-  unfolding framesFor
-  under = frames-top (m .stack) (m .levels) (m .core) _ _ (t .running .frames) .under
-
-  -- the words of a popped core, whichever way it was popped
-  popped-request : popped (m .stack) (m .levels) (m .core) .request ≡ m .core .request
-  unfolding popped
-  popped-request = by-eq (m .core .depth) 0 (λ e. rw (eq-eqb (m .core .depth) 0 e)) (λ n. rw (ne-eqb (m .core .depth) 0 n))
-
-  popped-started : popped (m .stack) (m .levels) (m .core) .started ≡ without (m .core .started) (m .core .runner)
-  unfolding popped
-  popped-started = by-eq (m .core .depth) 0 (λ e. rw (eq-eqb (m .core .depth) 0 e)) (λ n. rw (ne-eqb (m .core .depth) 0 n))
-
-  words′ : Words c rk (popped (m .stack) (m .levels) (m .core)) bs′
+  words′ : Words c rk (resumed (m .stack) (m .levels) (m .core)) bs′
   words′ =
       record {
-        request-lt = rw popped-request (t .words .request-lt);
+        request-lt = t .words .request-lt;
         asks = λ i i<. by-eq i b
-            (λ e. rw (popped-request, e, at-b) (t .words .asks b exists ∙ kept (at bs b) (at bs b .phase) was-started))
-            (λ n. rw (popped-request, at-other i n) (t .words .asks i i<));
-        asks-real = λ r h. t .words .asks-real r (rw popped-request at h);
+            (λ e. rw (e, at-b) (t .words .asks b exists ∙ kept (at bs b) (at bs b .phase) was-started))
+            (λ n. rw (at-other i n) (t .words .asks i i<));
+        asks-real = t .words .asks-real;
         begun = λ i i<. by-eq i b
-            (λ e. rw (popped-started, runner-rank, ended i e, e) (has-without-same (m .core .started) (rk b)))
-            (λ n. rw (popped-started, runner-rank, at-other i n) (has-without-other (m .core .started) (rk b) (rk i) (λ e. n (fit .rank-inj i b i< exists e)) ∙ t .words .begun i i<));
+            (λ e. rw (runner-rank, ended i e, e) (has-without-same (m .core .started) (rk b)))
+            (λ n. rw (runner-rank, at-other i n) (has-without-other (m .core .started) (rk b) (rk i) (λ e. n (fit .rank-inj i b i< exists e)) ∙ t .words .begun i i<));
         quiet = λ i h. by-eq i b
             (λ e. rw (e, at-b))
             (λ n. rw (at-other i n) (t .words .quiet i (same-began i false n h)));
@@ -143,30 +89,23 @@ module _ (c : Config) (p : Plan) (rk : ℕ → ℕ) (fit : Fitted c p rk) (m : M
           wait true = refl
           wait false = refl
 
-  head-ranked : (ch : List ℕ) → Chained c bs ch → HeadRanked (framesFor c rk bs ch)
-  unfolding framesFor Chained
-  head-ranked [] k = tt
-  head-ranked (a ∷ rest) k = λ e. omega (arith, e, fit .rank-lt a (k .0), fit .few)
-
-  stack-popped : Popped (m .stack) (m .levels) (m .core) (framesFor c rk bs ch)
-  stack-popped = pop (m .stack) (m .levels) (m .core) (framesFor c rk bs ch) (m .core .depth) refl under
-
-  idle-popped : popped (m .stack) (m .levels) (m .core) .runner ≡ noRank
-      → (popped (m .stack) (m .levels) (m .core) .level ≡ 0) × (popped (m .stack) (m .levels) (m .core) .depth ≡ 0)
-  idle-popped = popped-idle (m .stack) (m .levels) (m .core) (framesFor c rk bs ch) (head-ranked ch below-chained) stack-popped
+  frames′ : Frames (top (m .stack)) (top (m .levels)) (popped (m .stack)) (popped (m .levels)) (ranksFor rk ch) (levelsFor c bs′ ch)
+  unfolding ranksFor levelsFor
+  frames′ =
+      record {
+        ranks = shows-popped (m .stack) (ranksFor rk ch) (below (t .running .frames .ranks));
+        levels = shows-popped (m .levels) (levelsFor c bs′ ch) (rw (sym (levelsFor-alike c rk bs bs′ ch alike)) (below (t .running .frames .levels)));
+        level-lt = top-lt (m .levels);
+      }
 
   running′ : Running c rk (leaving m) bs′ ch
   running′ =
       record {
-        frames = popped-frames (m .stack) (m .levels) (m .core) (framesFor c rk bs ch) (head-ranked ch below-chained) stack-popped ∙ framesFor-alike c rk bs bs′ ch alike;
+        frames = frames′;
         chained = chained-alike c rk bs bs′ ch alike below-chained;
         covers = λ i i< h. by-eq i b
             (λ e. absurd (true≢false (sym h ∙ ended i e)))
             (λ n. by-among i b ch (t .running .covers i i< (same-began i true n h)) (λ e. absurd (n e)) (λ _ a. a));
-        idle-level = λ e. idle-popped (eqb-true (popped (m .stack) (m .levels) (m .core) .runner) noRank e) .0;
-        idle-depth = λ e. idle-popped (eqb-true (popped (m .stack) (m .levels) (m .core) .runner) noRank e) .1;
-        stack-long = t .running .stack-long;
-        levels-long = t .running .levels-long;
       }
 
   slots-same : slotsAlong c rk bs (b ∷ ch) ≡ slotsAlong c rk bs′ ch
@@ -176,17 +115,10 @@ module _ (c : Config) (p : Plan) (rk : ℕ → ℕ) (fit : Fitted c p rk) (m : M
   holding′ : Holding c rk (leaving m) bs′ ch
   holding′ =
       record {
-        slots = t .holding .slots ∙ slots-same;
+        slots = rw (sym slots-same) (t .holding .slots);
         loose = λ i h. by-eq i b
             (λ e. rw (e, at-b) free)
             (λ n. rw (at-other i n) (t .holding .loose i (same-began i false n h)));
-        flags = rw (sym slots-same) (t .holding .flags);
-        distinct = rw (sym slots-same) (t .holding .distinct);
-        counted = t .holding .counted;
-        held-long = t .holding .held-long;
-        resource-long = t .holding .resource-long;
-        holder-long = t .holding .holder-long;
-        raised-long = t .holding .raised-long;
       }
 
   pub left-tied : Tied c rk (leaving m) (set bs b (finished (at bs b))) ch

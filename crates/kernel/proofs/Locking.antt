@@ -11,6 +11,7 @@ use lib.ListN.{length, getD, length-set}
 use Rattle.config.specs.declared.Config.{Config}
 use Rattle.config.specs.Meaning.{priorityOf, ceiling}
 use Rattle.plan.specs.declared.Plan.{Plan}
+use Rattle.word.specs.Word.{has}
 use Rattle.scheduler.specs.Status.{done, callLevel, noSuch, access, noFunction}
 use Rattle.scheduler.specs.Body.{Body, isSuspended, isStarted, takes, gives-back}
 use Rattle.scheduler.specs.State.{State, among, heldIn, bodyOf}
@@ -25,7 +26,7 @@ use Rattle.kernel.specs.Resources.{latest, taking, freeing}
 use Rattle.kernel.specs.Events as Machine
 use Rattle.kernel.specs.Events.{idles, got, released}
 use Rattle.kernel.specs.Machine.{machineStep, matched}
-use Rattle.kernel.proofs.Simulation.{Fitted, at, Chained, slotsFor, slotsAlong, resourcesIn, Tied, Sim}
+use Rattle.kernel.proofs.Simulation.{Fitted, at, Chained, Slot, slotsFor, slotsAlong, resourcesIn, Tied, Sim}
 use Rattle.kernel.proofs.Standing.{by-among}
 use Rattle.kernel.proofs.Chains.{among-tail}
 use Rattle.kernel.proofs.Arbitration.{settled-tied}
@@ -90,7 +91,7 @@ module _ (c : Config) (rk : ℕ → ℕ) (bs : List Body) where
   resources-for b [] = refl
   resources-for b (r ∷ rs) = ap (λ (l : List ℕ). r ∷ l) (resources-for b rs)
 
-  map-append : (xs ys : List Rattle.kernel.proofs.Views.Slot) → resourcesIn (xs ++ ys) ≡ resourcesIn xs ++ resourcesIn ys
+  map-append : (xs ys : List Slot) → resourcesIn (xs ++ ys) ≡ resourcesIn xs ++ resourcesIn ys
   map-append [] ys = refl
   map-append (x ∷ xs) ys = ap (λ (l : List ℕ). x .resource ∷ l) (map-append xs ys)
 
@@ -121,9 +122,9 @@ unfolding among
 among-nil r h = true≢false (sym h)
 
 -- the machine's flag of a resource says whether anybody holds it
-flag-is : (c : Config) (rk : ℕ → ℕ) (m : Model) (bs : List Body) (ch : List ℕ) → Tied c rk m bs ch → (r : ℕ) → getD (m .held) r false ≡ heldIn r bs
+flag-is : (c : Config) (rk : ℕ → ℕ) (m : Model) (bs : List Body) (ch : List ℕ) → Tied c rk m bs ch → (r : ℕ) → has (m .held) r ≡ heldIn r bs
 flag-is c rk m bs ch t r =
-    t .holding .flags r
+    t .holding .slots .flags r
     ∙ iff-bool (among r (resourcesIn (slotsAlong c rk bs ch))) (heldIn r bs)
     (λ h. let x = slot-by c rk bs r ch (t .running .chained) h in held-at r bs (x .0) (rw (t .size) (x .1 .0)) (x .1 .1))
     (λ h. let x = held-by r bs h in
@@ -152,7 +153,7 @@ module _ (c : Config) (p : Plan) (rk : ℕ → ℕ) (fit : Fitted c p rk) (m : M
       (λ b ch k.
       first-same (idles m) (nobodyRuns c s) callLevel _ _ (k .not-idle ∙ sym (k .somebody))
       (λ _. first-same (leb (c .resources) r) (leb (c .resources) r) noSuch _ _ refl
-      (λ h. first-same (getD (m .held) r false || ltb (getD (p .ceiling) r 0) (getD (p .priority) (m .core .runner) 0)) (heldIn r bs || ltb (ceiling c r) (priorityOf c (caller c s))) access _ _
+      (λ h. first-same (has (m .held) r || ltb (getD (p .ceiling) r 0) (getD (p .priority) (m .core .runner) 0)) (heldIn r bs || ltb (ceiling c r) (priorityOf c (caller c s))) access _ _
       (ap₂ (λ (x y : Bool). x || y) (flag-is c rk m bs (sim .chain) (sim .tied) r)
       (ap₂ ltb (fit .ceiling-at r (leb-false (c .resources) r h)) (rw (k .rank) (fit .priority-at b (k .exists)) ∙ ap (priorityOf c) (sym (k .calls)))))
       (λ _. refl))))
@@ -205,7 +206,7 @@ module _ (c : Config) (p : Plan) (rk : ℕ → ℕ) (fit : Fitted c p rk) (m : M
       (λ i n. absurd (true≢false (sym n ∙ a .0)))
       (λ b ch k.
       let h = latest-split r (at bs b .held) (ap (λ (i : ℕ). latestIs r (bodyOf s i .held)) (sym (k .calls)) ∙ a .2) in
-      let t : Tied c rk (freeing (p .priority) r m) (release c s .bodies) (b ∷ ch) = rw (k .calls) (freed-tied c p rk fit m bs b ch (k .tied) r (h .0) (h .1)) in
+      let t : Tied c rk (freeing (p .priority) r m) (release c s .bodies) (b ∷ ch) = rw (k .calls) (freed-tied c p rk fit m bs b ch (k .tied) r (a .1) (h .0) (h .1)) in
       record {
         status = refl;
         arb = settled-tied c p rk fit (freeing (p .priority) r m) (release c s) (b ∷ ch) t;

@@ -1,6 +1,6 @@
 -- The second pass over a trace: the answers so far and those still to come are the answers of the whole trace.
 --
---   sim-roomy, tables-laid, offsets-reached   what the machine's methods count on
+--   tables-laid, offsets-reached              what the machine's methods count on
 --   step-1 .. step-9, step-zero, step-none    what an arm's method hands back is the step of the event that was read
 --   Playing                                   the invariant: `playable-start`, `playing-turn`, `playing-end`
 --
@@ -30,16 +30,13 @@ use Rattle.scheduler.specs.Scheduler as Plain
 use Rattle.scheduler.specs.Scheduler.{fresh, step, markOf}
 use Rattle.kernel.specs.declared.machine.Model.{Model}
 use Rattle.kernel.specs.declared.machine.Outcome.{Outcome}
-use Rattle.kernel.specs.Model.{noRank, doneWith}
-use Rattle.kernel.specs.Roomy.{Roomy}
+use Rattle.kernel.specs.Model.{doneWith}
 use Rattle.kernel.specs.Code.{Laid, Reached}
 use Rattle.kernel.specs.Events.{activated, finished, chained, got, released, tickedOnce, lined, launched, halted}
 use Rattle.kernel.specs.Machine.{machineStep, machineSeen, runnerOf}
 use Rattle.kernel.specs.Run.{callOf, answerBytes, machineAfter}
 use Rattle.kernel.specs.RunCode.{Playable}
-use Rattle.kernel.proofs.Simulation.{Fitted, Chained, framesFor, Running, Sim}
-use Rattle.kernel.proofs.Chains.{chain-short, length-framesFor, length-below, frames-none, frames-top}
-use Rattle.kernel.proofs.Marks.{trues-le}
+use Rattle.kernel.proofs.Simulation.{Fitted, Sim}
 use Rattle.kernel.proofs.Switching.{offset-le}
 use Rattle.kernel.proofs.Agreement.{event-agrees}
 use Rattle.kernel.proofs.Freshness.{fresh-sim}
@@ -96,31 +93,7 @@ module _ (c : Config) (p : Plan) (m : Model) (e : Event) where
       rw (ne-eqb k 1 n1, ne-eqb k 2 n2, ne-eqb k 3 n3, ne-eqb k 4 n4, ne-eqb k 5 n5, ne-eqb k 6 n6, ne-eqb k 7 n7, ne-eqb k 8 n8, ne-eqb k 9 n9)
 
 module _ (c : Config) (p : Plan) (rk : ℕ → ℕ) (fit : Fitted c p rk) where
-  -- what the methods count on of a model that stands for a state
-  sim-depth : (m : Model) (s : State) (ch : List ℕ) → Running c rk m (s .bodies) ch → m .core .depth < 32
-  unfolding framesFor Chained
-  sim-depth m s [] k =
-      omega (arith, k .idle-depth (eq-eqb (m .core .runner) noRank (frames-none (m .stack) (m .levels) (m .core) (k .frames))))
-  sim-depth m s (b ∷ ch) k =
-      let top = frames-top (m .stack) (m .levels) (m .core) _ _ (k .frames) in
-      omega (
-        arith,
-        length-below (m .stack) (m .levels) (m .core .depth),
-        ap length (top .under),
-        length-framesFor c rk p fit (s .bodies) ch,
-        chain-short c rk p fit (s .bodies) b ch (k .chained),
-        fit .rank-lt b (k .chained .0),
-        fit .few,
-      )
-
-  pub sim-roomy : (m : Model) (s : State) → Sim c p rk m s → Roomy m
-  sim-roomy m s sim =
-      record {
-        stack = sim-depth m s (sim .chain) (sim .tied .running);
-        row = omega (arith, sim .tied .holding .counted, sim .tied .holding .held-long, trues-le (m .held));
-      }
-
-  -- and of their tables
+  -- what the methods count on of their tables
   pub tables-laid : Laid (c .tables) (p .first) (c .entries)
   tables-laid =
       record {
@@ -179,9 +152,6 @@ module _ (c : Config) (p : Plan) (ts d : List ℕ) (m₀ : Model) where
   module _ (at to : ℕ) (m : Model) (out : List ℕ) (g : Playing c p ts d m₀ at to m out) where
     pub length-out : length out ≡ length d
     length-out = ap length (g .output) ∙ length-laid 0 (g .bytes) d (omega (arith, g .long, g .room))
-
-    pub playing-roomy : Roomy m
-    playing-roomy = sim-roomy c p (rankOf c) (g .fit) m (g .state) (g .sim)
 
     pub playing-end : length ts ≤ at
         → (m ≡ machineAfter c p m₀ (callsFrom ts 0)) × (out ≡ laid 0 (answerBytes (machineSeen c p m₀ (callsFrom ts 0))) d)

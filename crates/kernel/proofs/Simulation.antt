@@ -4,7 +4,7 @@
 --   Words, Running, Holding   the parts; `chain` is the started bodies from the runner down
 --
 -- Assumes nothing.
-use Prim.Native.Nat.{ℕ, suc, _+_, _-_, _^_, max, _≤_, _<_}
+use Prim.Native.Nat.{ℕ, zero, suc, _+_, _-_, _^_, max, _≤_, _<_}
 use mathlib.Core.Path.{_≡_}
 use mathlib.Core.Bool.{Bool, true, false, cond}
 use mathlib.Core.List.{List, [], _∷_, _++_, map, foldr}
@@ -14,6 +14,9 @@ use Rattle.config.specs.declared.Config.{Config}
 use Rattle.config.specs.Meaning.{isTask, isIsr, priorityOf, ceiling, firstOf, largestOffset}
 use Rattle.plan.specs.declared.Plan.{Plan}
 use Rattle.word.specs.Word.{has}
+use Rattle.stack.specs.declared.Row.{Row}
+use Rattle.stack.specs.declared.Stack.{Stack}
+use Rattle.stack.specs.Stack.{rowBytes, stackBytes}
 use Rattle.scheduler.specs.Body.{Body, isSuspended, isStarted, current}
 use Rattle.scheduler.specs.State.{Table, stopped, running, State, noBody, among}
 use Rattle.cell.specs.declared.Cell.{Cell}
@@ -23,8 +26,7 @@ use Rattle.kernel.specs.declared.machine.Core.{Core}
 use Rattle.kernel.specs.declared.machine.Model.{Model}
 use Rattle.kernel.specs.Model.{noRank}
 use Rattle.kernel.specs.Cells.{isOn, cellAt}
-use Rattle.kernel.specs.Events.{idles}
-use Rattle.kernel.proofs.Views.{Frame, frame, framesOf, Slot, slot, slotsOf}
+use Rattle.kernel.proofs.Views.{Shows}
 
 -- what the machine's events need to know of their tables
 pub record Fitted (c : Config) (p : Plan) (rk : ℕ → ℕ) : Type 0 where
@@ -36,6 +38,7 @@ pub record Fitted (c : Config) (p : Plan) (rk : ℕ → ℕ) : Type 0 where
   pub rank-inj : (a b : ℕ) → a < c .bodies → b < c .bodies → rk a ≡ rk b → a ≡ b
   pub own-inj : (a b : ℕ) → a < c .bodies → b < c .bodies → priorityOf c a ≡ priorityOf c b → a ≡ b
   pub own-some : (b : ℕ) → b < c .bodies → 1 ≤ priorityOf c b
+  pub own-few : (b : ℕ) → b < c .bodies → priorityOf c b ≤ 200
   pub priority-at : (b : ℕ) → b < c .bodies → getD (p .priority) (rk b) 0 ≡ priorityOf c b
   pub priority-none : getD (p .priority) 32 0 ≡ 0
   pub body-at : (b : ℕ) → b < c .bodies → getD (p .body) (rk b) 0 ≡ b
@@ -59,6 +62,7 @@ pub record Fitted (c : Config) (p : Plan) (rk : ℕ → ℕ) : Type 0 where
   pub compare-at : (t e : ℕ) → t < c .tables → firstOf c t ≤ e → e < firstOf c (suc t) → getD (p .compare) e 0 ≡ getD (c .period) t 0 - 1
   pub entry-rank-at : (e : ℕ) → e < p .count → getD (p .entry) e 0 ≡ rk (getD (c .task) e 0)
   pub entry-ranks-long : length (p .entry) ≡ 64
+  pub ceiling-few : (r : ℕ) → ceiling c r ≤ 200
   pub ceiling-at : (r : ℕ) → r < c .resources → getD (p .ceiling) r 0 ≡ ceiling c r
 
 -- body b of a list of bodies
@@ -77,10 +81,15 @@ pub record Words (c : Config) (rk : ℕ → ℕ) (k : Core) (bs : List Body) : T
   pub begun : (b : ℕ) → b < c .bodies → has (k .started) (rk b) ≡ isStarted (at bs b .phase)
   pub quiet : (b : ℕ) → isStarted (at bs b .phase) ≡ false → at bs b .waiting ≡ false
 
--- the frames of a chain of bodies
-unfoldable pub framesFor : Config → (ℕ → ℕ) → List Body → List ℕ → List Frame
-framesFor c rk bs [] = []
-framesFor c rk bs (b ∷ ch) = frame (rk b) (current c b (at bs b)) ∷ framesFor c rk bs ch
+-- the ranks of a chain of bodies, from its runner down to nobody
+unfoldable pub ranksFor : (ℕ → ℕ) → List ℕ → List ℕ
+ranksFor rk [] = noRank ∷ []
+ranksFor rk (b ∷ ch) = rk b ∷ ranksFor rk ch
+
+-- and their levels
+unfoldable pub levelsFor : Config → List Body → List ℕ → List ℕ
+levelsFor c bs [] = 0 ∷ []
+levelsFor c bs (b ∷ ch) = current c b (at bs b) ∷ levelsFor c bs ch
 
 -- the level at which a chain runs
 unfoldable pub levelAt : Config → List Body → List ℕ → ℕ
@@ -93,19 +102,30 @@ Chained c bs [] = Unit {0}
 Chained c bs (b ∷ ch) =
     (b < c .bodies) × ((isStarted (at bs b .phase) ≡ true) × ((levelAt c bs ch < priorityOf c b) × Chained c bs ch))
 
+-- a runner of rank r at the level l, with the stack s and its levels v below: the ranks are rs, the levels ls, and l fits a byte
+pub record Frames (r l : ℕ) (s v : Stack) (rs ls : List ℕ) : Type 0 where
+  pub ranks : Shows (r ∷ stackBytes s) rs
+  pub levels : Shows (l ∷ stackBytes v) ls
+  pub level-lt : l < 256
+
 -- the runner and the stack are the started bodies
 pub record Running (c : Config) (rk : ℕ → ℕ) (m : Model) (bs : List Body) (ch : List ℕ) : Type 0 where
-  pub frames : framesOf m ≡ framesFor c rk bs ch
+  pub frames : Frames (m .core .runner) (m .core .level) (m .stack) (m .levels) (ranksFor rk ch) (levelsFor c bs ch)
   pub chained : Chained c bs ch
   pub covers : (b : ℕ) → b < c .bodies → isStarted (at bs b .phase) ≡ true → among b ch ≡ true
-  pub idle-level : idles m ≡ true → m .core .level ≡ 0
-  pub idle-depth : idles m ≡ true → m .core .depth ≡ 0
-  pub stack-long : length (m .stack) ≡ 32
-  pub levels-long : length (m .levels) ≡ 32
 
 -- "no ready body's priority is above the level"
 abbrev pub Calm : Config → ℕ → List Body → Type 0
 Calm c l bs = (b : ℕ) → b < c .bodies → isSuspended (at bs b .phase) ≡ false → isStarted (at bs b .phase) ≡ false → priorityOf c b ≤ l
+
+-- a held resource: its number, its holder's rank, and the holder's level after it was taken
+pub record Slot : Type 0 where
+  pub resource : ℕ
+  pub holder : ℕ
+  pub level : ℕ
+
+abbrev pub slot : ℕ → ℕ → ℕ → Slot
+slot r h l = record { resource = r; holder = h; level = l }
 
 -- the slots of the resources that body b holds, the most recently taken first
 unfoldable pub slotsFor : Config → (ℕ → ℕ) → ℕ → List ℕ → List Slot
@@ -121,26 +141,33 @@ unfoldable pub Distinct : List ℕ → Type 0
 Distinct [] = Unit {0}
 Distinct (r ∷ rs) = (among r rs ≡ false) × Distinct rs
 
--- how many are true
-unfoldable pub trues : List Bool → ℕ
-trues [] = 0
-trues (true ∷ bs) = suc (trues bs)
-trues (false ∷ bs) = trues bs
-
 abbrev pub resourcesIn : List Slot → List ℕ
 resourcesIn = map (λ x. x .resource)
 
--- the row of slots is the held resources of the chain, one body after the other
+abbrev pub holdersIn : List Slot → List ℕ
+holdersIn = map (λ x. x .holder)
+
+abbrev pub levelsIn : List Slot → List ℕ
+levelsIn = map (λ x. x .level)
+
+-- how many of the numbers below n are not in the word
+unfoldable pub missing : ℕ → ℕ → ℕ
+missing zero w = 0
+missing (suc n) w = cond (has w n) 0 1 + missing n w
+
+-- the row of slots is ss, and the word w has their resources
+pub record Slots (w : ℕ) (rs hs ls : Row) (ss : List Slot) : Type 0 where
+  pub resources : Shows (rowBytes rs) (resourcesIn ss)
+  pub holders : Shows (rowBytes hs) (holdersIn ss)
+  pub levels : Shows (rowBytes ls) (levelsIn ss)
+  pub flags : (r : ℕ) → has w r ≡ among r (resourcesIn ss)
+  pub distinct : Distinct (resourcesIn ss)
+  pub counted : length ss + missing 16 w ≡ 16
+
+-- the slots are the held resources of the chain, one body after the other
 pub record Holding (c : Config) (rk : ℕ → ℕ) (m : Model) (bs : List Body) (ch : List ℕ) : Type 0 where
-  pub slots : slotsOf m ≡ slotsAlong c rk bs ch
+  pub slots : Slots (m .held) (m .resource) (m .holder) (m .raised) (slotsAlong c rk bs ch)
   pub loose : (b : ℕ) → isStarted (at bs b .phase) ≡ false → at bs b .held ≡ []
-  pub flags : (r : ℕ) → getD (m .held) r false ≡ among r (resourcesIn (slotsAlong c rk bs ch))
-  pub distinct : Distinct (resourcesIn (slotsAlong c rk bs ch))
-  pub counted : m .slots ≡ trues (m .held)
-  pub held-long : length (m .held) ≡ 16
-  pub resource-long : length (m .resource) ≡ 16
-  pub holder-long : length (m .holder) ≡ 16
-  pub raised-long : length (m .raised) ≡ 16
 
 -- the cell of an entry at offset o is off while its table is stopped, and else matches exactly when the entry is due
 unfoldable pub CellFits : ℕ → ℕ → Cell → Table → Type 0

@@ -1,32 +1,34 @@
 -- Get: the runner takes a resource that nobody holds, and runs at its ceiling.
 -- Assumes nothing.
-use Prim.Native.Nat.{ℕ, _+_, max, _<_}
+use Prim.Native.Nat.{ℕ, _+_, max, _≤_, _<_}
 use mathlib.Core.Path.{_≡_, refl, sym, ap, ap₂, _∙_}
 use mathlib.Core.Logic.{_≢_}
 use mathlib.Core.Bool.{true, false, true≢false}
 use mathlib.Core.List.{List, _∷_, _++_}
 use native.Mathlib.Omega.{arith}
 use borrow.Author.Tests.{eq-eqb, ne-eqb}
-use lib.Dec.{eqb}
-use lib.ListN.{getD, set, length-set}
+use lib.ListN.{length, getD, set, length-set, length-map}
 use lib.Seq.{getD-set-same, getD-set-other}
 use Rattle.number.proofs.Cases.{by-eq}
 use Rattle.config.specs.declared.Config.{Config}
 use Rattle.config.specs.Meaning.{ceiling}
 use Rattle.plan.specs.declared.Plan.{Plan}
+use Rattle.word.specs.Word.{has, with}
+use Rattle.word.proofs.Theorems.{has-with-same, has-with-other}
+use Rattle.stack.specs.Stack.{pushRow}
 use Rattle.scheduler.specs.Body.{Body, isStarted, current, takes}
 use Rattle.scheduler.specs.State.{noBody, among}
 use Rattle.kernel.specs.declared.machine.Model.{Model}
-use Rattle.kernel.specs.Model.{noRank, withLevel}
+use Rattle.kernel.specs.Model.{withLevel}
 use Rattle.kernel.specs.Resources.{taking}
-use Rattle.kernel.proofs.Views.{Frame, frame, Slot, slot, slots-push}
-use Rattle.kernel.proofs.Simulation.{Fitted, at, wants, Words, framesFor, Chained, Running, slotsFor, slotsAlong, Distinct, Holding, Tied}
-use Rattle.kernel.proofs.Chains.{Alike, framesFor-alike, levelAt-alike, chained-alike, slotsAlong-alike, TopIs, frames-top}
+use Rattle.kernel.proofs.Views.{below, on-top, row-shows-pushed}
+use Rattle.kernel.proofs.Simulation.{Fitted, at, wants, Words, ranksFor, levelsFor, levelAt, Chained, Frames, Running, Slot, slot, slotsFor, slotsAlong, Distinct, resourcesIn, holdersIn, levelsIn, missing, Slots, Holding, Tied}
+use Rattle.kernel.proofs.Chains.{Alike, levelsFor-alike, levelAt-alike, chained-alike, slotsAlong-alike, runner-first, level-first}
 use Rattle.kernel.proofs.Standing.{chain-other, waits-same}
-use Rattle.kernel.proofs.Marks.{trues-lt, trues-set}
+use Rattle.kernel.proofs.Marks.{missing-one}
 
 module _ (c : Config) (p : Plan) (rk : ℕ → ℕ) (fit : Fitted c p rk) (m : Model) (bs : List Body) (b : ℕ) (ch : List ℕ)
-    (t : Tied c rk m bs (b ∷ ch)) (r : ℕ) (r< : r < c .resources) (free : getD (m .held) r false ≡ false) where
+    (t : Tied c rk m bs (b ∷ ch)) (r : ℕ) (r< : r < c .resources) (free : has (m .held) r ≡ false) where
   abbrev level′ : ℕ
   level′ = max (getD (p .ceiling) r 0) (m .core .level)
 
@@ -37,9 +39,12 @@ module _ (c : Config) (p : Plan) (rk : ℕ → ℕ) (fit : Fitted c p rk) (m : M
   unfolding Chained
   exists = t .running .chained .0
 
-  top : TopIs (m .stack) (m .levels) (m .core) (frame (rk b) (current c b (at bs b))) (framesFor c rk bs ch)
-  unfolding framesFor
-  top = frames-top (m .stack) (m .levels) (m .core) _ _ (t .running .frames)
+  runner-rank : m .core .runner ≡ rk b
+  runner-rank = runner-first c rk bs b ch (t .running .frames)
+
+  level-was : m .core .level ≡ current c b (at bs b)
+  unfolding levelAt
+  level-was = level-first c rk bs (b ∷ ch) (t .running .frames)
 
   at-b : at bs′ b ≡ takes r (at bs b)
   at-b = getD-set-same bs b (takes r (at bs b)) noBody (rw (t .size) exists)
@@ -58,7 +63,7 @@ module _ (c : Config) (p : Plan) (rk : ℕ → ℕ) (fit : Fitted c p rk) (m : M
   alike i h = rw (at-other i (chain-other c bs b i ch (t .running .chained) h)) (record { phase = refl; held = refl })
 
   raised-level : level′ ≡ current c b (at bs′ b)
-  raised-level = rw at-b (ap₂ max (fit .ceiling-at r r<) (top .level))
+  raised-level = rw at-b (ap₂ max (fit .ceiling-at r r<) level-was)
 
   words′ : Words c rk (withLevel (m .core) level′) bs′
   words′ =
@@ -70,21 +75,25 @@ module _ (c : Config) (p : Plan) (rk : ℕ → ℕ) (fit : Fitted c p rk) (m : M
         quiet = λ i h. same (λ x. x .waiting) (λ x. refl) i ∙ t .words .quiet i (sym (same-began i) ∙ h);
       }
 
-  not-idle : eqb (m .core .runner) noRank ≡ true → ⊥
-  not-idle e = true≢false (sym e ∙ ne-eqb (m .core .runner) noRank (top .somebody))
+  level-lt : level′ < 256
+  level-lt = omega (arith, t .running .frames .level-lt, fit .ceiling-at r r<, fit .ceiling-few r)
+
+  frames′ : Frames (m .core .runner) level′ (m .stack) (m .levels) (ranksFor rk (b ∷ ch)) (levelsFor c bs′ (b ∷ ch))
+  unfolding levelsFor
+  frames′ =
+      record {
+        ranks = t .running .frames .ranks;
+        levels = on-top raised-level (rw (sym (levelsFor-alike c rk bs bs′ ch alike)) (below (t .running .frames .levels)));
+        level-lt = level-lt;
+      }
 
   running′ : Running c rk (taking r level′ m) bs′ (b ∷ ch)
-  unfolding framesFor Chained
+  unfolding Chained
   running′ =
       record {
-        frames = rw (ne-eqb (m .core .runner) noRank (top .somebody))
-            (ap₂ (λ (f : Frame) (fs : List Frame). f ∷ fs) (ap₂ frame (top .rank) raised-level) (top .under ∙ framesFor-alike c rk bs bs′ ch alike));
+        frames = frames′;
         chained = (exists, (same-began b ∙ t .running .chained .1 .0, (rw (sym (levelAt-alike c rk bs bs′ ch alike)) (t .running .chained .1 .1 .0), chained-alike c rk bs bs′ ch alike (t .running .chained .1 .1 .1))));
         covers = λ i i< h. t .running .covers i i< (sym (same-began i) ∙ h);
-        idle-level = λ e. absurd (not-idle e);
-        idle-depth = λ e. absurd (not-idle e);
-        stack-long = t .running .stack-long;
-        levels-long = t .running .levels-long;
       }
 
   -- the new slot on top of the row
@@ -96,31 +105,41 @@ module _ (c : Config) (p : Plan) (rk : ℕ → ℕ) (fit : Fitted c p rk) (m : M
   r-lt-16 : r < 16
   r-lt-16 = omega (arith, fit .few-resources)
 
-  row-room : m .slots < 16
-  row-room = omega (arith, t .holding .counted, t .holding .held-long, trues-lt (m .held) r (rw (t .holding .held-long) r-lt-16) free)
+  one-less : missing 16 (m .held) ≡ missing 16 (with (m .held) r) + 1
+  one-less =
+      missing-one (with (m .held) r) (m .held) r (λ i n. has-with-other (m .held) r i n) 16 r-lt-16
+      (has-with-same (m .held) r (omega (arith, r-lt-16))) free
+
+  row-room : length (slotsAlong c rk bs (b ∷ ch)) ≤ 15
+  row-room = omega (arith, t .holding .slots .counted, one-less)
+
+  slots′ : Slots (with (m .held) r) (pushRow (m .resource) r) (pushRow (m .holder) (m .core .runner)) (pushRow (m .raised) level′)
+      (slot r (rk b) (current c b (at bs′ b)) ∷ slotsAlong c rk bs (b ∷ ch))
+  unfolding Distinct among
+  slots′ =
+      let ss = slotsAlong c rk bs (b ∷ ch) in
+      let old = t .holding .slots in
+      record {
+        resources = row-shows-pushed (m .resource) r (resourcesIn ss) (omega (arith, r-lt-16)) (rw (length-map ss (λ x. x .resource)) row-room) (old .resources);
+        holders = rw (sym runner-rank)
+            (row-shows-pushed (m .holder) (m .core .runner) (holdersIn ss) (omega (arith, runner-rank, fit .rank-lt b exists, fit .few)) (rw (length-map ss (λ x. x .holder)) row-room) (old .holders));
+        levels = rw (sym raised-level)
+            (row-shows-pushed (m .raised) level′ (levelsIn ss) level-lt (rw (length-map ss (λ x. x .level)) row-room) (old .levels));
+        flags = λ q. by-eq q r
+            (λ e. rw (e, eq-eqb r r refl) (has-with-same (m .held) r (omega (arith, r-lt-16))))
+            (λ n. rw (ne-eqb q r n) (has-with-other (m .held) r q n ∙ old .flags q));
+        distinct = (sym (old .flags r) ∙ free, old .distinct);
+        counted = omega (arith, old .counted, one-less);
+      }
 
   holding′ : Holding c rk (taking r level′ m) bs′ (b ∷ ch)
-  unfolding Distinct among Chained
+  unfolding Chained
   holding′ =
       record {
-        slots =
-            slots-push (m .resource) (m .holder) (m .raised) r (m .core .runner) level′ (m .slots)
-            (rw (t .holding .resource-long) row-room) (rw (t .holding .holder-long) row-room) (rw (t .holding .raised-long) row-room)
-            ∙ ap₂ (λ (x : Slot) (xs : List Slot). x ∷ xs) (ap₂ (λ (h l : ℕ). slot r h l) (top .rank) raised-level) (t .holding .slots)
-            ∙ sym slots-more;
+        slots = rw slots-more slots′;
         loose = λ i h. by-eq i b
             (λ e. absurd (true≢false (sym (rw e (t .running .chained .1 .0)) ∙ sym (same-began i) ∙ h)))
             (λ n. rw (at-other i n) (t .holding .loose i (sym (same-began i) ∙ h)));
-        flags = λ q. rw slots-more
-            (by-eq q r
-            (λ e. rw (e, eq-eqb r r refl) (getD-set-same (m .held) r true false (rw (t .holding .held-long) r-lt-16)))
-            (λ n. rw (ne-eqb q r n) (getD-set-other (m .held) r q true false n ∙ t .holding .flags q)));
-        distinct = rw slots-more (sym (t .holding .flags r) ∙ free, t .holding .distinct);
-        counted = ap (λ (n : ℕ). n + 1) (t .holding .counted) ∙ sym (trues-set (m .held) r (rw (t .holding .held-long) r-lt-16) free);
-        held-long = length-set (m .held) r true ∙ t .holding .held-long;
-        resource-long = length-set (m .resource) (m .slots) r ∙ t .holding .resource-long;
-        holder-long = length-set (m .holder) (m .slots) (m .core .runner) ∙ t .holding .holder-long;
-        raised-long = length-set (m .raised) (m .slots) level′ ∙ t .holding .raised-long;
       }
 
   pub taken-tied : Tied c rk (taking r level′ m) bs′ (b ∷ ch)

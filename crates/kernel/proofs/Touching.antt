@@ -23,7 +23,7 @@ use Rattle.kernel.specs.declared.machine.Model.{Model}
 use Rattle.kernel.specs.Model.{withCore, withRequest}
 use Rattle.kernel.specs.Arbiter.{requesting}
 use Rattle.kernel.proofs.Simulation.{Fitted, at, wants, Tied}
-use Rattle.kernel.proofs.Chains.{Alike, framesFor-alike, chained-alike, slotsAlong-alike}
+use Rattle.kernel.proofs.Chains.{Alike, levelsFor-alike, chained-alike, slotsAlong-alike}
 use Rattle.kernel.proofs.Standing.{waits-same}
 
 -- the cells and the losses of a model replaced
@@ -33,11 +33,10 @@ withRest m ns os ls =
       core = m .core;
       stack = m .stack;
       levels = m .levels;
-      slots = m .slots;
+      held = m .held;
       resource = m .resource;
       holder = m .holder;
       raised = m .raised;
-      held = m .held;
       counter = ns;
       on = os;
       losses = ls;
@@ -49,26 +48,8 @@ module _ (c : Config) (rk : ℕ → ℕ) (m : Model) (bs : List Body) (ch : List
       record {
         size = t .size;
         words = t .words;
-        running = record {
-          frames = t .running .frames;
-          chained = t .running .chained;
-          covers = t .running .covers;
-          idle-level = t .running .idle-level;
-          idle-depth = t .running .idle-depth;
-          stack-long = t .running .stack-long;
-          levels-long = t .running .levels-long;
-        };
-        holding = record {
-          slots = t .holding .slots;
-          loose = t .holding .loose;
-          flags = t .holding .flags;
-          distinct = t .holding .distinct;
-          counted = t .holding .counted;
-          held-long = t .holding .held-long;
-          resource-long = t .holding .resource-long;
-          holder-long = t .holding .holder-long;
-          raised-long = t .holding .raised-long;
-        };
+        running = record { frames = t .running .frames; chained = t .running .chained; covers = t .running .covers };
+        holding = record { slots = t .holding .slots; loose = t .holding .loose };
       }
 
   module _ (p : Plan) (fit : Fitted c p rk) (b : ℕ) (b< : b < c .bodies) where
@@ -114,29 +95,15 @@ module _ (c : Config) (rk : ℕ → ℕ) (m : Model) (bs : List Body) (ch : List
                   (λ n. rw (at-other i n) (t .words .quiet i (began-before i false h)));
             };
             running = record {
-              frames = t .running .frames ∙ framesFor-alike c rk bs bs′ ch (λ i _. alike i);
+              frames = rw (sym (levelsFor-alike c rk bs bs′ ch (λ i _. alike i))) (t .running .frames);
               chained = chained-alike c rk bs bs′ ch (λ i _. alike i) (t .running .chained);
               covers = λ i i< h. t .running .covers i i< (began-before i true h);
-              idle-level = t .running .idle-level;
-              idle-depth = t .running .idle-depth;
-              stack-long = t .running .stack-long;
-              levels-long = t .running .levels-long;
             };
             holding = record {
-              slots = t .holding .slots ∙ same;
+              slots = rw (sym (slotsAlong-alike c rk bs bs′ ch (λ i _. alike i))) (t .holding .slots);
               loose = λ i h. sym (alike i .held) ∙ t .holding .loose i (began-before i false h);
-              flags = rw (sym same) (t .holding .flags);
-              distinct = rw (sym same) (t .holding .distinct);
-              counted = t .holding .counted;
-              held-long = t .holding .held-long;
-              resource-long = t .holding .resource-long;
-              holder-long = t .holding .holder-long;
-              raised-long = t .holding .raised-long;
             };
           }
-        where
-          same : Rattle.kernel.proofs.Simulation.slotsAlong c rk bs ch ≡ Rattle.kernel.proofs.Simulation.slotsAlong c rk bs′ ch
-          same = slotsAlong-alike c rk bs bs′ ch (λ i _. alike i)
 
     -- "t ready": a body that has not begun is asked for
     pub woken-tied : isStarted (at bs b .phase) ≡ false → Tied c rk (requesting (rk b) m) (set bs b (become ready (at bs b))) ch

@@ -1,91 +1,87 @@
--- The stack and the row of held resources as lists, from the top down, and what each store does to them.
+-- What the bytes of a stack or of a row show: a list from the top down, and past its end nothing but `none`.
 --
---   below ss ls d      the frames on the stack with the ranks ss, the levels ls and depth d
---   framesOf m         the runner's frame, if somebody runs, and those below it
---   slotsOf m          the held resources, the most recently taken first
+--   Shows ys xs      the bytes ys are xs, and `none` from there on
 --
--- Assumes nothing.
-use Prim.Native.Nat.{ℕ, zero, suc, _+_, _≤_, _<_}
-use mathlib.Core.Path.{_≡_, refl, ap₂}
-use mathlib.Core.Bool.{cond}
-use mathlib.Core.List.{List, [], _∷_}
+-- and what a push and a pop make of it. Assumes nothing.
+use Prim.Native.Nat.{ℕ, zero, suc, _≤_, _<_, min}
+use mathlib.Core.Path.{_≡_, refl, sym, ap, _∙_}
+use mathlib.Core.List.{List, [], _∷_, _++_}
 use native.Mathlib.Omega.{arith}
-use native.Mathlib.Numerals.{add-one}
-use lib.Dec.{eqb}
-use lib.ListN.{length, getD, set}
-use lib.Seq.{getD-set-same, getD-set-other}
-use Rattle.kernel.specs.declared.machine.Core.{Core}
-use Rattle.kernel.specs.declared.machine.Model.{Model}
-use Rattle.kernel.specs.Model.{noRank}
+use lib.ListN.{length, getD, take, drop, replicate, length-take, List·getD-eq-default}
+use lib.Seq.{getD-take}
+use Rattle.number.proofs.Cases.{by-lt}
+use Rattle.stack.specs.declared.Row.{Row}
+use Rattle.stack.specs.declared.Stack.{Stack}
+use Rattle.stack.specs.Stack.{none, emptyRow, topRow, secondRow, pushRow, popRow, rowBytes, emptyStack, top, pushed, popped, stackBytes}
+use Rattle.stack.proofs.Theorems.{row-empty, row-top, row-second, row-cons, row-pushed, row-popped, stack-empty, stack-cons, stack-pushed, stack-popped}
 
--- a started body on the machine: its rank, and the level at which it runs or was preempted
-pub record Frame : Type 0 where
-  pub rank : ℕ
-  pub level : ℕ
+pub record Shows (ys xs : List ℕ) : Type 0 where
+  pub at : (i : ℕ) → getD ys i none ≡ getD xs i none
 
-abbrev pub frame : ℕ → ℕ → Frame
-frame r l = record { rank = r; level = l }
+-- what is below the first
+pub below : {x y : ℕ} {ys xs : List ℕ} → Shows (y ∷ ys) (x ∷ xs) → Shows ys xs
+below h = record { at = λ i. h .at (suc i) }
 
-unfoldable pub below : List ℕ → List ℕ → ℕ → List Frame
-below ss ls zero = []
-below ss ls (suc d) = frame (getD ss d 0) (getD ls d 0) ∷ below ss ls d
+-- one more on top
+pub on-top : {x y : ℕ} {ys xs : List ℕ} → y ≡ x → Shows ys xs → Shows (y ∷ ys) (x ∷ xs)
+on-top {x} {y} {ys} {xs} e h = record { at = go }
+  where
+    go : (i : ℕ) → getD (y ∷ ys) i none ≡ getD (x ∷ xs) i none
+    go zero = e
+    go (suc i) = h .at i
 
--- a core with its stack: nobody, or the runner on top of it
-abbrev pub framesIn : List ℕ → List ℕ → Core → List Frame
-framesIn ss ls k = cond (eqb (k .runner) noRank) [] (frame (k .runner) (k .level) ∷ below ss ls (k .depth))
+-- what is not shown may be cut off
+shows-cut : (k : ℕ) (ys xs : List ℕ) → length xs ≤ k → Shows ys xs → Shows (take k ys) xs
+shows-cut k ys xs few h =
+    record {
+      at = λ i. by-lt i k
+          (λ l. getD-take k ys i none l ∙ h .at i)
+          (λ l. List·getD-eq-default (take k ys) none {n = i} (rw (length-take k ys) (omega arith))
+          ∙ sym (List·getD-eq-default xs none {n = i} (omega arith)));
+    }
 
-abbrev pub framesOf : Model → List Frame
-framesOf m = framesIn (m .stack) (m .levels) (m .core)
+-- `none` in at the end
+filled : (ys : List ℕ) (i : ℕ) → getD (ys ++ (none ∷ [])) i none ≡ getD ys i none
+filled [] zero = refl
+filled [] (suc i) = refl
+filled (y ∷ ys) zero = refl
+filled (y ∷ ys) (suc i) = filled ys i
 
--- a store above the top changes nothing below it
-pub below-set : (ss ls : List ℕ) (i x y d : ℕ) → d ≤ i → below (set ss i x) (set ls i y) d ≡ below ss ls d
-unfolding below
-below-set ss ls i x y zero h = refl
-below-set ss ls i x y (suc d) h =
-    ap₂ (λ (f : Frame) (fs : List Frame). f ∷ fs)
-    (ap₂ frame (getD-set-other ss i d x 0 (λ e. absurd (omega arith))) (getD-set-other ls i d y 0 (λ e. absurd (omega arith))))
-    (below-set ss ls i x y d (omega arith))
+shows-filled : {ys xs : List ℕ} → Shows ys xs → Shows (ys ++ (none ∷ [])) xs
+shows-filled {ys} h = record { at = λ i. filled ys i ∙ h .at i }
 
--- a frame laid on the top
-pub below-push : (ss ls : List ℕ) (x y d : ℕ) → d < length ss → d < length ls
-    → below (set ss d x) (set ls d y) (d + 1) ≡ frame x y ∷ below ss ls d
-unfolding below
-below-push ss ls x y d h k =
-    rw (add-one d)
-    (ap₂ (λ (f : Frame) (fs : List Frame). f ∷ fs)
-    (ap₂ frame (getD-set-same ss d x 0 h) (getD-set-same ls d y 0 k))
-    (below-set ss ls d x y d (omega arith)))
+-- a list of one value has it everywhere, past its end too
+pub same-everywhere {ℓ} : {A : Type ℓ} (n : ℕ) (a : A) (i : ℕ) → getD (replicate n a) i a ≡ a
+same-everywhere zero a i = refl
+same-everywhere (suc n) a zero = refl
+same-everywhere (suc n) a (suc i) = same-everywhere n a i
 
--- a held resource: its number, its holder's rank, and the holder's level after it was taken
-pub record Slot : Type 0 where
-  pub resource : ℕ
-  pub holder : ℕ
-  pub level : ℕ
+-- a stack: empty it shows nothing
+pub empty-shows : Shows (stackBytes emptyStack) []
+empty-shows = record { at = λ i. ap (λ (ys : List ℕ). getD ys i none) stack-empty ∙ same-everywhere 32 none i }
 
-abbrev pub slot : ℕ → ℕ → ℕ → Slot
-slot r h l = record { resource = r; holder = h; level = l }
+-- x laid on it shows with what it showed
+pub shows-pushed : (s : Stack) (x : ℕ) (xs : List ℕ) → x < 256 → length xs ≤ 32 → Shows (x ∷ stackBytes s) xs → Shows (stackBytes (pushed s x)) xs
+shows-pushed s x xs byte few h = rw (stack-pushed s x byte) (shows-cut 32 (x ∷ stackBytes s) xs few h)
 
-unfoldable pub slotsIn : List ℕ → List ℕ → List ℕ → ℕ → List Slot
-slotsIn rs hs ls zero = []
-slotsIn rs hs ls (suc n) = slot (getD rs n 0) (getD hs n 0) (getD ls n 0) ∷ slotsIn rs hs ls n
+-- what is on top, and the rest below it
+pub shows-popped : (s : Stack) (xs : List ℕ) → Shows (stackBytes s) xs → Shows (top s ∷ stackBytes (popped s)) xs
+shows-popped s xs h =
+    rw (stack-popped s) (shows-filled {ys = top s ∷ drop 1 (stackBytes s)} (rw (sym (stack-cons s)) h))
 
-abbrev pub slotsOf : Model → List Slot
-slotsOf m = slotsIn (m .resource) (m .holder) (m .raised) (m .slots)
+-- a row: the same
+pub row-empty-shows : Shows (rowBytes emptyRow) []
+row-empty-shows = record { at = λ i. ap (λ (ys : List ℕ). getD ys i none) row-empty ∙ same-everywhere 16 none i }
 
-slots-set : (rs hs ls : List ℕ) (i x y z n : ℕ) → n ≤ i → slotsIn (set rs i x) (set hs i y) (set ls i z) n ≡ slotsIn rs hs ls n
-unfolding slotsIn
-slots-set rs hs ls i x y z zero h = refl
-slots-set rs hs ls i x y z (suc n) h =
-    ap₂ (λ (f : Slot) (fs : List Slot). f ∷ fs)
-    (rw (getD-set-other rs i n x 0 (λ e. absurd (omega arith)), getD-set-other hs i n y 0 (λ e. absurd (omega arith)), getD-set-other ls i n z 0 (λ e. absurd (omega arith))) refl)
-    (slots-set rs hs ls i x y z n (omega arith))
+pub row-shows-pushed : (r : Row) (x : ℕ) (xs : List ℕ) → x < 256 → length xs ≤ 15 → Shows (rowBytes r) xs → Shows (rowBytes (pushRow r x)) (x ∷ xs)
+row-shows-pushed r x xs byte few h = rw (row-pushed r x byte) (on-top refl (shows-cut 15 (rowBytes r) xs few h))
 
--- a resource taken
-pub slots-push : (rs hs ls : List ℕ) (x y z n : ℕ) → n < length rs → n < length hs → n < length ls
-    → slotsIn (set rs n x) (set hs n y) (set ls n z) (n + 1) ≡ slot x y z ∷ slotsIn rs hs ls n
-unfolding slotsIn
-slots-push rs hs ls x y z n h k l =
-    rw (add-one n)
-    (ap₂ (λ (f : Slot) (fs : List Slot). f ∷ fs)
-    (rw (getD-set-same rs n x 0 h, getD-set-same hs n y 0 k, getD-set-same ls n z 0 l) refl)
-    (slots-set rs hs ls n x y z n (omega arith)))
+pub row-shows-popped : (r : Row) (x : ℕ) (xs : List ℕ) → Shows (rowBytes r) (x ∷ xs) → Shows (rowBytes (popRow r)) xs
+row-shows-popped r x xs h =
+    rw (row-popped r) (shows-filled {ys = drop 1 (rowBytes r)} (below {x = x} {y = topRow r} (rw (sym (row-cons r)) h)))
+
+pub row-shows-top : (r : Row) (xs : List ℕ) → Shows (rowBytes r) xs → topRow r ≡ getD xs 0 none
+row-shows-top r xs h = row-top r ∙ h .at 0
+
+pub row-shows-second : (r : Row) (x : ℕ) (xs : List ℕ) → Shows (rowBytes r) (x ∷ xs) → secondRow r ≡ getD xs 0 none
+row-shows-second r x xs h = row-second r ∙ h .at 1

@@ -1,7 +1,5 @@
 -- What the contracts of the machine's helpers cite beside the definitions of its events: these, with numbers for the model.
 --
---   ownSlotIn hs n r        the slot below place n of a row with the holders hs belongs to the body of rank r
---   levelBelow hs ls n r ps the level of the body of rank r without its slots from place n on
 --   dueWith w ls            the requests w and the losses ls
 --   anyOf bs                one of bs is true; a `group` of match marks is looked at in one go
 --
@@ -13,12 +11,6 @@ use lib.Dec.{ltb, eqb}
 use lib.ListN.{getD}
 use Rattle.kernel.specs.Model.{noRank}
 use Rattle.kernel.specs.Cells.{Due}
-
-abbrev pub ownSlotIn : List ℕ → ℕ → ℕ → Bool
-ownSlotIn hs n r = ltb 0 n && eqb (getD hs (n - 1) noRank) r
-
-abbrev pub levelBelow : List ℕ → List ℕ → ℕ → ℕ → List ℕ → ℕ
-levelBelow hs ls n r ps = cond (ownSlotIn hs n r) (getD ls (n - 1) 0) (getD ps r 0)
 
 abbrev pub dueWith : ℕ → List ℕ → Due
 dueWith w ls = record { request = w; losses = ls }

@@ -63,7 +63,7 @@ getStatus n cs ps m r =
     firstOf
     ((idles m gives callLevel) ∷
     (leb n r gives noSuch) ∷
-    (getD (m .held) r false || ltb (getD cs r 0) (getD ps (m .core .runner) 0) gives access) ∷
+    (has (m .held) r || ltb (getD cs r 0) (getD ps (m .core .runner) 0) gives access) ∷
     [])
 
 -- the level rises to the ceiling, or stays where it is above it
@@ -101,11 +101,10 @@ ticking ks rs m =
       core = withRequest (m .core) (dueOf ks rs m .request);
       stack = m .stack;
       levels = m .levels;
-      slots = m .slots;
+      held = m .held;
       resource = m .resource;
       holder = m .holder;
       raised = m .raised;
-      held = m .held;
       counter = countersTicked maxEntries 0 ks (m .on) (m .counter);
       on = m .on;
       losses = dueOf ks rs m .losses;

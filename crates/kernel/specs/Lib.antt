@@ -1,5 +1,5 @@
 -- What the kernel's contracts cite, in reading order: the model, the arbiter, the held resources, the cells, the nine events, the machine from
--- the fresh start on, and the run. `Roomy` and `Code` serve the machine's private functions, `RunCode` the run's.
+-- the fresh start on, and the run. `Code` serves the machine's private functions, `RunCode` the run's.
 -- Assumes nothing.
 pub mod Model
 pub mod Arbiter
@@ -8,6 +8,5 @@ pub mod Cells
 pub mod Events
 pub mod Machine
 pub mod Run
-pub mod Roomy
 pub mod Code
 pub mod RunCode

@@ -12,6 +12,7 @@ use lib.Dec.{ltb}
 use lib.ListN.{getD, take, replicate}
 use Rattle.config.specs.declared.Config.{Config}
 use Rattle.plan.specs.declared.Plan.{Plan}
+use Rattle.stack.specs.Stack.{emptyRow, emptyStack}
 use Rattle.scheduler.specs.Scheduler.{Event, Activate, Finish, Chain, Get, Release, Tick, Line, Start, Stop, Nothing, Seen, markOf}
 use Rattle.kernel.specs.declared.machine.Model.{Model}
 use Rattle.kernel.specs.declared.machine.Outcome.{Outcome}
@@ -24,14 +25,13 @@ use Rattle.kernel.specs.Events.{activated, finished, chained, got, relea
 abbrev pub unstarted : ℕ → Model
 unstarted w =
     record {
-      core = record { request = w; started = 0; runner = noRank; level = 0; depth = 0 };
-      stack = replicate 32 noRank;
-      levels = replicate 32 0;
-      slots = 0;
-      resource = replicate 16 0;
-      holder = replicate 16 0;
-      raised = replicate 16 0;
-      held = replicate 16 false;
+      core = record { request = w; started = 0; runner = noRank; level = 0 };
+      stack = emptyStack;
+      levels = emptyStack;
+      held = 0;
+      resource = emptyRow;
+      holder = emptyRow;
+      raised = emptyRow;
       counter = replicate 64 0;
       on = replicate 64 switchOff;
       losses = replicate 32 0;

@@ -18,11 +18,10 @@ withCore m k =
       core = k;
       stack = m .stack;
       levels = m .levels;
-      slots = m .slots;
+      held = m .held;
       resource = m .resource;
       holder = m .holder;
       raised = m .raised;
-      held = m .held;
       counter = m .counter;
       on = m .on;
       losses = m .losses;
@@ -30,10 +29,10 @@ withCore m k =
 
 -- the core with other requests
 abbrev pub withRequest : Core → ℕ → Core
-withRequest k w = record { request = w; started = k .started; runner = k .runner; level = k .level; depth = k .depth }
+withRequest k w = record { request = w; started = k .started; runner = k .runner; level = k .level }
 
 abbrev pub withLevel : Core → ℕ → Core
-withLevel k l = record { request = k .request; started = k .started; runner = k .runner; level = l; depth = k .depth }
+withLevel k l = record { request = k .request; started = k .started; runner = k .runner; level = l }
 
 -- other cells
 abbrev pub withCells : Model → List ℕ → List ℕ → Model
@@ -42,11 +41,10 @@ withCells m ns os =
       core = m .core;
       stack = m .stack;
       levels = m .levels;
-      slots = m .slots;
+      held = m .held;
       resource = m .resource;
       holder = m .holder;
       raised = m .raised;
-      held = m .held;
       counter = ns;
       on = os;
       losses = m .losses;

@@ -1,28 +1,27 @@
--- The held resources in one row, in the order taken: each slot has its resource, its holder's rank and the level after its Get.
+-- The held resources in one row, in the order taken, the latest on top: each slot has its resource, its holder's rank and the level
+-- after its Get. Past the bottom of the row there is no holder. Which resources are held stands in a word, too.
 --
 --   taking r l m   the runner takes r, and its level becomes l
 --   freeing ps r m the runner gives its latest resource r back: "the level .. is what it is without that resource"
 --
 -- Assumes nothing.
-use Prim.Native.Nat.{ℕ, _+_, _-_}
-use mathlib.Core.Bool.{Bool, true, false, cond, _&&_}
+use Prim.Native.Nat.{ℕ}
+use mathlib.Core.Bool.{Bool, cond, _&&_}
 use mathlib.Core.List.{List}
-use lib.Dec.{ltb, eqb}
-use lib.ListN.{getD, set}
+use lib.Dec.{eqb}
+use lib.ListN.{getD}
+use Rattle.word.specs.Word.{with, without}
+use Rattle.stack.specs.Stack.{topRow, secondRow, pushRow, popRow}
 use Rattle.kernel.specs.declared.machine.Model.{Model}
-use Rattle.kernel.specs.Model.{noRank, withLevel}
+use Rattle.kernel.specs.Model.{withLevel}
 
--- the slot below place n belongs to the runner
-abbrev pub ownSlot : Model → ℕ → Bool
-ownSlot m n = ltb 0 n && eqb (getD (m .holder) (n - 1) noRank) (m .core .runner)
-
--- "the runner holds a resource": its slots are the last ones
+-- "the runner holds a resource": its slots are on top
 abbrev pub holding : Model → Bool
-holding m = ownSlot m (m .slots)
+holding m = eqb (topRow (m .holder)) (m .core .runner)
 
 -- r is "the runner's most recently taken one still held"
 abbrev pub latest : Model → ℕ → Bool
-latest m r = holding m && eqb (getD (m .resource) (m .slots - 1) noRank) r
+latest m r = holding m && eqb (topRow (m .resource)) r
 
 abbrev pub taking : ℕ → ℕ → Model → Model
 taking r l m =
@@ -30,11 +29,10 @@ taking r l m =
       core = withLevel (m .core) l;
       stack = m .stack;
       levels = m .levels;
-      slots = m .slots + 1;
-      resource = set (m .resource) (m .slots) r;
-      holder = set (m .holder) (m .slots) (m .core .runner);
-      raised = set (m .raised) (m .slots) l;
-      held = set (m .held) r true;
+      held = with (m .held) r;
+      resource = pushRow (m .resource) r;
+      holder = pushRow (m .holder) (m .core .runner);
+      raised = pushRow (m .raised) l;
       counter = m .counter;
       on = m .on;
       losses = m .losses;
@@ -43,7 +41,7 @@ taking r l m =
 -- the level of the runner without its latest resource: that of the slot below if it is its own, else its own priority
 abbrev pub levelWithout : List ℕ → Model → ℕ
 levelWithout ps m =
-    cond (ownSlot m (m .slots - 1)) (getD (m .raised) (m .slots - 1 - 1) 0) (getD ps (m .core .runner) 0)
+    cond (eqb (secondRow (m .holder)) (m .core .runner)) (secondRow (m .raised)) (getD ps (m .core .runner) 0)
 
 abbrev pub freeing : List ℕ → ℕ → Model → Model
 freeing ps r m =
@@ -51,11 +49,10 @@ freeing ps r m =
       core = withLevel (m .core) (levelWithout ps m);
       stack = m .stack;
       levels = m .levels;
-      slots = m .slots - 1;
-      resource = m .resource;
-      holder = m .holder;
-      raised = m .raised;
-      held = set (m .held) r false;
+      held = without (m .held) r;
+      resource = popRow (m .resource);
+      holder = popRow (m .holder);
+      raised = popRow (m .raised);
       counter = m .counter;
       on = m .on;
       losses = m .losses;

@@ -9,6 +9,9 @@ mod resources;
 mod row;
 mod tables;
 
+use stack::Row;
+use stack::Stack;
+
 // No body: in the place of a rank it says that nobody runs, or that there is no such task or ISR.
 const NO_RANK: u8 = 255;
 
@@ -31,13 +34,12 @@ const ALREADY_RUNS: u8 = 7;
 
 const BAD_DELAY: u8 = 8;
 
-// The words, who runs at which level, and how many bodies it preempted.
+// The words, who runs and at which level.
 pub struct Core {
     pub request: u32,
     pub started: u32,
     pub runner: u8,
     pub level: u8,
-    pub depth: usize,
 }
 
 // A core after arbitration, and whether a body began.
@@ -46,17 +48,19 @@ pub struct Picked {
     pub begun: bool,
 }
 
-// What the machine keeps between events. It goes by value. A method takes an array that it indexes out into a variable and puts
-// it back: indexed in place, it would make the compiler copy the whole model at every event.
+// What the machine keeps between events. It goes by value. The stack and the row of held resources are words that shift, and a
+// method takes an array that it indexes out into a variable and puts it back: indexed in place, it would make the compiler copy the
+// whole model at every event.
 pub struct Model {
     pub core: Core,
-    pub slots: usize,
-    pub stack: [u8; 32],
-    pub levels: [u8; 32],
-    pub resource: [u8; 16],
-    pub holder: [u8; 16],
-    pub raised: [u8; 16],
-    pub held: [bool; 16],
+    // Whom the runner preempted and those below, down to nobody, with their levels.
+    pub stack: Stack,
+    pub levels: Stack,
+    // The held resources as a word, and in the order taken, each with its holder's rank and the level after its Get.
+    pub held: u32,
+    pub resource: Row,
+    pub holder: Row,
+    pub raised: Row,
     pub counter: [u16; 64],
     pub on: [u16; 64],
     pub losses: [u16; 32],

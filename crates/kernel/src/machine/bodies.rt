@@ -1,12 +1,10 @@
 // The events of bodies: Activate, Finish, Chain and Line.
 ghost use mathlib.Core.Path.{_≡_};
 ghost use mathlib.Core.Bool.{not, _&&_, _||_};
-ghost use Prim.Native.Nat.{_<_};
 ghost use lib.Dec.{eqb};
 ghost use Rattle.word.specs.Word.{has, with};
 ghost use Rattle.kernel.specs.Model.{noRank, withRequest};
 ghost use Rattle.kernel.specs.Arbiter.{arbitrated};
-ghost use Rattle.kernel.specs.Roomy.{Roomy};
 ghost use Rattle.kernel.specs.Events.{activated, finished, chained, lined};
 use super::CALL_LEVEL;
 use super::Core;
@@ -19,8 +17,9 @@ use super::NO_SUCH;
 use super::Outcome;
 use super::Picked;
 use super::arbiter::arbitrated;
-use super::arbiter::popped;
-use super::resources::own_slot;
+use super::arbiter::laid;
+use super::arbiter::left;
+use super::arbiter::resumed;
 use super::row::byte_at;
 use word::has;
 use word::with;
@@ -32,7 +31,6 @@ impl Model {
         priority: &'a [u8; 32],
         t: u32,
     ) -> Outcome
-        requires { ⌜ Roomy self ⌝ }
         ensures { λ r. ⌜ r ≡ activated (now («task_rank» .entry)) (now (priority .entry)) self t ⌝ }
     {
         let core = self.core;
@@ -58,14 +56,9 @@ impl Model {
                 begun: false,
             };
         }
-        let mut stack = self.stack;
-        let mut levels = self.levels;
         let picked = requested(core, rank, priority);
-        let top = core.depth;
-        stack[top] = core.runner;
-        levels[top] = core.level;
-        self.stack = stack;
-        self.levels = levels;
+        self.stack = laid(picked.begun, self.stack, core.runner);
+        self.levels = laid(picked.begun, self.levels, core.level);
         let k = picked.core;
         self.core = k;
         Outcome {
@@ -76,7 +69,6 @@ impl Model {
     }
 
     pub fn finish(mut self, priority: &[u8; 32]) -> Outcome
-        requires { ⌜ Roomy self ⌝ }
         ensures { λ r. ⌜ r ≡ finished (now (priority .entry)) self ⌝ }
     {
         let core = self.core;
@@ -87,23 +79,17 @@ impl Model {
                 begun: false,
             };
         }
-        let holder = self.holder;
-        if own_slot(&holder, self.slots, core.runner) {
+        if self.holder.top() == core.runner {
             return Outcome {
                 model: self,
                 status: HOLDS_RESOURCE,
                 begun: false,
             };
         }
-        let mut stack = self.stack;
-        let mut levels = self.levels;
-        let below = popped(core, &stack, &levels);
+        let below = resumed(core, self.stack, self.levels);
         let picked = arbitrated(below, priority);
-        let top = below.depth;
-        stack[top] = below.runner;
-        levels[top] = below.level;
-        self.stack = stack;
-        self.levels = levels;
+        self.stack = left(picked.begun, self.stack);
+        self.levels = left(picked.begun, self.levels);
         let k = picked.core;
         self.core = k;
         Outcome {
@@ -120,7 +106,6 @@ impl Model {
         priority: &'a [u8; 32],
         t: u32,
     ) -> Outcome
-        requires { ⌜ Roomy self ⌝ }
         ensures { λ r. ⌜ r ≡ chained isrs (now («task_rank» .entry)) (now (priority .entry)) self t ⌝ }
     {
         let core = self.core;
@@ -139,8 +124,7 @@ impl Model {
                 begun: false,
             };
         }
-        let holder = self.holder;
-        if own_slot(&holder, self.slots, core.runner) {
+        if self.holder.top() == core.runner {
             return Outcome {
                 model: self,
                 status: HOLDS_RESOURCE,
@@ -154,15 +138,10 @@ impl Model {
                 begun: false,
             };
         }
-        let mut stack = self.stack;
-        let mut levels = self.levels;
-        let below = popped(core, &stack, &levels);
+        let below = resumed(core, self.stack, self.levels);
         let picked = requested(below, rank, priority);
-        let top = below.depth;
-        stack[top] = below.runner;
-        levels[top] = below.level;
-        self.stack = stack;
-        self.levels = levels;
+        self.stack = left(picked.begun, self.stack);
+        self.levels = left(picked.begun, self.levels);
         let k = picked.core;
         self.core = k;
         Outcome {
@@ -173,7 +152,6 @@ impl Model {
     }
 
     pub fn line<'a>(mut self, line_rank: &'a [u8; 32], priority: &'a [u8; 32], i: u32) -> Outcome
-        requires { ⌜ Roomy self ⌝ }
         ensures { λ r. ⌜ r ≡ lined (now («line_rank» .entry)) (now (priority .entry)) self i ⌝ }
     {
         let core = self.core;
@@ -192,14 +170,9 @@ impl Model {
                 begun: false,
             };
         }
-        let mut stack = self.stack;
-        let mut levels = self.levels;
         let picked = requested(core, rank, priority);
-        let top = core.depth;
-        stack[top] = core.runner;
-        levels[top] = core.level;
-        self.stack = stack;
-        self.levels = levels;
+        self.stack = laid(picked.begun, self.stack, core.runner);
+        self.levels = laid(picked.begun, self.levels, core.level);
         let k = picked.core;
         self.core = k;
         Outcome {
@@ -233,7 +206,6 @@ fn no_task_runs(isrs: u32, runner: u8) -> bool
 
 // The core after the body of this rank was asked for, and arbitration.
 fn requested(core: Core, rank: u8, priority: &[u8; 32]) -> Picked
-    requires { ⌜ core .depth < 32 ⌝ }
     ensures { λ r. ⌜ r ≡ arbitrated (now (priority .entry)) (withRequest core (with (core .request) rank)) ⌝ }
 {
     arbitrated(asking(core, with(core.request, rank as u32)), priority)
@@ -248,6 +220,5 @@ pub fn asking(core: Core, request: u32) -> Core
         started: core.started,
         runner: core.runner,
         level: core.level,
-        depth: core.depth,
     }
 }

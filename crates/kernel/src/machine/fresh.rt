@@ -5,7 +5,10 @@ use super::Core;
 use super::Model;
 use super::NO_RANK;
 use super::arbiter::arbitrated;
+use super::arbiter::laid;
 use super::cells::OFF;
+use stack::Row;
+use stack::Stack;
 
 impl Model {
     // Autostart tasks are ready, the best one begins, all losses are 0, tables stopped.
@@ -17,19 +20,19 @@ impl Model {
             started: 0,
             runner: NO_RANK,
             level: 0,
-            depth: 0,
         };
         let picked = arbitrated(idle, priority);
         let core = picked.core;
+        let stack = laid(picked.begun, Stack::empty(), idle.runner);
+        let levels = laid(picked.begun, Stack::empty(), idle.level);
         Model {
             core,
-            stack: [NO_RANK; 32],
-            levels: [0u8; 32],
-            slots: 0,
-            resource: [0u8; 16],
-            holder: [0u8; 16],
-            raised: [0u8; 16],
-            held: [false; 16],
+            stack,
+            levels,
+            held: 0,
+            resource: Row::empty(),
+            holder: Row::empty(),
+            raised: Row::empty(),
             counter: [0u16; 64],
             on: [OFF; 64],
             losses: [0u16; 32],

@@ -5,7 +5,6 @@ ghost use Prim.Native.Nat.{_+_};
 ghost use lib.Dec.{ltb, eqb};
 ghost use lib.ListN.{getD};
 ghost use Rattle.scheduler.specs.Call.{longestDelay};
-ghost use Rattle.kernel.specs.Roomy.{Roomy};
 ghost use Rattle.kernel.specs.Cells.{isOn};
 ghost use Rattle.kernel.specs.Events.{tickedOnce, launched, halted};
 ghost use Rattle.kernel.specs.Code.{Laid, Reached};
@@ -19,6 +18,7 @@ use super::NO_RANK;
 use super::NO_SUCH;
 use super::Outcome;
 use super::arbiter::arbitrated;
+use super::arbiter::laid;
 use super::bodies::asking;
 use super::cells::OFF;
 use super::cells::ON;
@@ -37,12 +37,9 @@ impl Model {
         entry_rank: &'a [u8; 64],
         priority: &'a [u8; 32],
     ) -> Outcome
-        requires { ⌜ Roomy self ⌝ }
         ensures { λ r. ⌜ r ≡ tickedOnce (now (compare .entry)) (now («entry_rank» .entry)) (now (priority .entry)) self ⌝ }
     {
         let core = self.core;
-        let mut stack = self.stack;
-        let mut levels = self.levels;
         let mut losses = self.losses;
         let on = self.on;
         let mut counter = self.counter;
@@ -56,11 +53,8 @@ impl Model {
         );
         let picked = arbitrated(asking(core, request), priority);
         self.counter = counter;
-        let top = core.depth;
-        stack[top] = core.runner;
-        levels[top] = core.level;
-        self.stack = stack;
-        self.levels = levels;
+        self.stack = laid(picked.begun, self.stack, core.runner);
+        self.levels = laid(picked.begun, self.levels, core.level);
         self.losses = losses;
         let k = picked.core;
         self.core = k;

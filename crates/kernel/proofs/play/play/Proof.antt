@@ -9,11 +9,10 @@ use lib.ListN.{length}
 use Rattle.number.specs.Output.{laid}
 use Rattle.plan.specs.Rank.{rankOf}
 use Rattle.scheduler.specs.Scheduler.{markOf}
-use Rattle.kernel.specs.Roomy.{Roomy}
 use Rattle.kernel.specs.Machine.{machineStep}
 use Rattle.kernel.specs.Run.{callOf}
 use Rattle.kernel.proofs.RunPlay.{step-1, step-2, step-3, step-4, step-5, step-6, step-7, step-8, step-9, step-zero, step-none, tables-laid, offsets-reached}
-use Rattle.kernel.proofs.RunPlay.{Playing, playable-start, playing-roomy, length-out, playing-end, playing-later, playing-room, playing-turn}
+use Rattle.kernel.proofs.RunPlay.{Playing, playable-start, length-out, playing-end, playing-later, playing-room, playing-turn}
 use Rattle.kernel.proofs.play.play.Statement.{statement}
 use Rattle.kernel.proofs.play.play.Tie as tie
 
@@ -23,10 +22,6 @@ Inv-loop trace out₀ config plan o₀ at₀ to₀ out o at to = Playing config 
 abbrev μ-loop : tie.MeasureT-loop
 μ-loop trace out₀ config plan o₀ at₀ to₀ out o at to = length trace - at
 
-roomy : (k : tie.At-loop Inv-loop μ-loop) → Roomy (k .loop .o .model)
-roomy k = let a = k .before .before .before .args in
-    playing-roomy (a .t1) (a .t2) (a .trace .now) (a .out .now) (a .fresh) (k .loop .at) (k .loop .to) (k .loop .o .model) (k .loop .out) (k .loop .inv)
-
 loop-holds : tie.Need-loop-holds Inv-loop μ-loop
 loop-holds c = let a = c .before .before .args in playable-start (a .t1) (a .t2) (a .trace .now) (a .out .now) (a .fresh) (c .before .before .pre)
 
@@ -34,25 +29,25 @@ read-event-requires : tie.Need-read-event-requires Inv-loop μ-loop
 read-event-requires c κs = tt
 
 activate-requires : tie.Need-activate-requires Inv-loop μ-loop
-activate-requires c κs = roomy (c .before .before .before .before .before .before .before)
+activate-requires c κs = tt
 
 finish-requires : tie.Need-finish-requires Inv-loop μ-loop
-finish-requires c κs = roomy (c .before .before .before .before .before .before)
+finish-requires c κs = tt
 
 chain-requires : tie.Need-chain-requires Inv-loop μ-loop
-chain-requires c κs = roomy (c .before .before .before .before .before .before .before)
+chain-requires c κs = tt
 
 get-requires : tie.Need-get-requires Inv-loop μ-loop
-get-requires c κs = roomy (c .before .before .before .before .before .before .before)
+get-requires c κs = tt
 
 release-requires : tie.Need-release-requires Inv-loop μ-loop
-release-requires c κs = roomy (c .before .before .before .before .before .before)
+release-requires c κs = tt
 
 tick-requires : tie.Need-tick-requires Inv-loop μ-loop
-tick-requires c κs = roomy (c .before .before .before .before .before .before .before .before)
+tick-requires c κs = tt
 
 line-requires : tie.Need-line-requires Inv-loop μ-loop
-line-requires c κs = roomy (c .before .before .before .before .before .before .before)
+line-requires c κs = tt
 
 start-requires : tie.Need-start-requires Inv-loop μ-loop
 start-requires c κs = let k = c .before .before .before .before .before .before .before .before .before .before .before in

@@ -7,8 +7,7 @@ use Rattle.kernel.proofs.machine.Model.activate.Tie as tie
 
 returns : tie.Need-returns
 returns c =
-    let c₁ = c .before .before .before in
-    let a = c₁ .args in
+    let c₁ = c .before .before .before in let a = c₁ .args in
     activate-idle (a .task-rank .now) (a .priority .now) (a .self) (a .t) (c .if1 .taken)
 
 byte-at-requires : tie.Need-byte-at-requires
@@ -16,8 +15,7 @@ byte-at-requires c κs = search needs
 
 returns-2 : tie.Need-returns-2
 returns-2 c =
-    let c₁ = c .before in let c₂ = c₁ .before .before in let c₃ = c₂ .before .before .before in
-    let a = c₃ .args in
+    let c₁ = c .before in let c₂ = c₁ .before .before in let c₃ = c₂ .before .before .before in let a = c₃ .args in
     activate-none (a .task-rank .now) (a .priority .now) (a .self) (a .t) (c₂ .if1 .left) (c₁ .byte-at .ensures) (c .if2 .taken)
 
 busy-requires : tie.Need-busy-requires
@@ -26,28 +24,26 @@ busy-requires c κs = search needs
 returns-3 : tie.Need-returns-3
 returns-3 c =
     let c₁ = c .before in let c₂ = c₁ .before in let c₃ = c₂ .before in let c₄ = c₃ .before .before in
-    let c₅ = c₄ .before .before .before in
-    let a = c₅ .args in
+    let c₅ = c₄ .before .before .before in let a = c₅ .args in
     activate-busy (a .task-rank .now) (a .priority .now) (a .self) (a .t) (c₄ .if1 .left) (c₃ .byte-at .ensures) (c₂ .if2 .left)
     (c₁ .busy .ensures) (c .if3 .taken)
 
 requested-requires : tie.Need-requested-requires
 requested-requires c κs = search needs
 
-array-write-stack : tie.Need-array-write-stack
-array-write-stack c = search needs
+laid-requires : tie.Need-laid-requires
+laid-requires c κs = search needs
 
-array-write-levels : tie.Need-array-write-levels
-array-write-levels c = search needs
+laid-requires-2 : tie.Need-laid-requires-2
+laid-requires-2 c κs = search needs
 
 returns-4 : tie.Need-returns-4
 returns-4 c =
-    let c₁ = c .before in let c₂ = c₁ .before .before .before in let c₃ = c₂ .before in
-    let c₄ = c₃ .before in let c₅ = c₄ .before in let c₆ = c₅ .before .before in
-    let c₇ = c₆ .before .before .before in
-    let a = c₇ .args in
-    activate-done (a .task-rank .now) (a .priority .now) (a .self) (a .t) (c₆ .if1 .left) (c₅ .byte-at .ensures) (c₄ .if2 .left)
-    (c₃ .busy .ensures) (c₂ .if3 .left) (c₁ .requested .ensures)
+    let c₁ = c .before in let c₂ = c₁ .before in let c₃ = c₂ .before in let c₄ = c₃ .before in let c₅ = c₄ .before in
+    let c₆ = c₅ .before in let c₇ = c₆ .before in let c₈ = c₇ .before .before in let c₉ = c₈ .before .before .before in
+    let a = c₉ .args in
+    activate-done (a .task-rank .now) (a .priority .now) (a .self) (a .t) (c₈ .if1 .left) (c₇ .byte-at .ensures) (c₆ .if2 .left)
+    (c₅ .busy .ensures) (c₄ .if3 .left) (c₃ .requested .ensures) (c₂ .laid .ensures) (c₁ .laid2 .ensures)
 
 pub activate-spec : {M : Type 1} → statement M
 activate-spec =
@@ -59,6 +55,6 @@ activate-spec =
     busy-requires
     returns-3
     requested-requires
-    array-write-stack
-    array-write-levels
+    laid-requires
+    laid-requires-2
     returns-4)

@@ -11,8 +11,7 @@ tick-cells-requires c κs = search needs
 
 take-matches-requires : tie.Need-take-matches-requires
 take-matches-requires c κs =
-    let c₁ = c .before .before in
-    let c₂ = c₁ .before .before .before .before .before .before .before .before .before in
+    let c₁ = c .before .before in let c₂ = c₁ .before .before .before .before .before .before .before in
     let a = c₂ .args in
     rw (c₁ .tick-cells .ensures .0) (length-marks maxEntries 0 (a .compare .now) (a .self .on) (a .self .counter))
 
@@ -20,24 +19,21 @@ asking-requires : tie.Need-asking-requires
 asking-requires c κs = search needs
 
 arbitrated-requires : tie.Need-arbitrated-requires
-arbitrated-requires c κs =
-    let c₁ = c .before .before .before .before .before .before .before .before .before .before .before .before .before in
-    rw (c .asking .ensures) (c₁ .pre .stack)
+arbitrated-requires c κs = search needs
 
-array-write-stack : tie.Need-array-write-stack
-array-write-stack c = search needs
+laid-requires : tie.Need-laid-requires
+laid-requires c κs = search needs
 
-array-write-levels : tie.Need-array-write-levels
-array-write-levels c = search needs
+laid-requires-2 : tie.Need-laid-requires-2
+laid-requires-2 c κs = search needs
 
 returns : tie.Need-returns
 returns c =
-    let c₁ = c .before in let c₂ = c₁ .before in let c₃ = c₂ .before in
-    let c₄ = c₃ .before .before .before in
-    let c₅ = c₄ .before .before .before .before .before .before .before .before .before in
-    let a = c₅ .args in
-    tick-done (a .compare .now) (a .entry-rank .now) (a .priority .now) (a .self)
-    (c₄ .tick-cells .ensures .0) (c₄ .tick-cells .ensures .1) (c₃ .take-matches .ensures) (c₂ .asking .ensures) (c₁ .arbitrated .ensures)
+    let c₁ = c .before in let c₂ = c₁ .before in let c₃ = c₂ .before in let c₄ = c₃ .before in let c₅ = c₄ .before in
+    let c₆ = c₅ .before .before .before in let c₇ = c₆ .before .before .before .before .before .before .before in
+    let a = c₇ .args in
+    tick-done (a .compare .now) (a .entry-rank .now) (a .priority .now) (a .self) (c₆ .tick-cells .ensures .0) (c₆ .tick-cells .ensures .1)
+    (c₅ .take-matches .ensures) (c₄ .asking .ensures) (c₃ .arbitrated .ensures) (c₂ .laid .ensures) (c₁ .laid2 .ensures)
 
 pub tick-spec : {M : Type 1} → statement M
 tick-spec =
@@ -47,6 +43,6 @@ tick-spec =
     take-matches-requires
     asking-requires
     arbitrated-requires
-    array-write-stack
-    array-write-levels
+    laid-requires
+    laid-requires-2
     returns)

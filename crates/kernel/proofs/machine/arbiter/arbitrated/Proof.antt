@@ -18,8 +18,7 @@ byte-at-requires c κs = search needs
 
 returns : tie.Need-returns
 returns c =
-    let c₁ = c .before .before in let c₂ = c₁ .before .before in let c₃ = c₂ .before in
-    let a = c₃ .args in
+    let c₁ = c .before .before in let c₂ = c₁ .before .before in let c₃ = c₂ .before in let a = c₃ .args in
     arbitrated-same (a .priority .now) (a .core) (c₂ .winner .ensures) (c₁ .byte-at .ensures) (c .if1 .taken)
 
 without-requires : tie.Need-without-requires
@@ -28,19 +27,17 @@ without-requires c κs = search needs
 with-requires : tie.Need-with-requires
 with-requires c κs = search needs
 
-depth-above-requires : tie.Need-depth-above-requires
-depth-above-requires c κs = search needs
-
-cast-t12 : tie.Need-cast-t12
-cast-t12 c = omega (arith, winner-le (c .before .before .before .before .before .before .before .before .args .core .request), c .before .before .before .before .before .before .before .winner .ensures)
+cast-t11 : tie.Need-cast-t11
+cast-t11 c =
+    let c₁ = c .before .before .before .before .before .before in let c₂ = c₁ .before in let a = c₂ .args in
+    omega (arith, winner-le (a .core .request), (c₁ .winner .ensures))
 
 returns-2 : tie.Need-returns-2
 returns-2 c =
-    let c₁ = c .before in let c₂ = c₁ .before in let c₃ = c₂ .before in let c₄ = c₃ .before .before in
-    let c₅ = c₄ .before .before in let c₆ = c₅ .before in
-    let a = c₆ .args in
-    arbitrated-above (a .priority .now) (a .core) (c₅ .winner .ensures) (c₄ .byte-at .ensures) (c₃ .if1 .left)
-    (c₂ .without .ensures) (c₁ .with .ensures) (c .depth-above .ensures)
+    let c₁ = c .before in let c₂ = c₁ .before in let c₃ = c₂ .before .before in let c₄ = c₃ .before .before in
+    let c₅ = c₄ .before in let a = c₅ .args in
+    arbitrated-above (a .priority .now) (a .core) (c₄ .winner .ensures) (c₃ .byte-at .ensures) (c₂ .if1 .left)
+    (c₁ .without .ensures) (c .with .ensures)
 
 pub arbitrated-spec : {M : Type 1} → statement M
 arbitrated-spec =
@@ -52,6 +49,5 @@ arbitrated-spec =
     returns
     without-requires
     with-requires
-    depth-above-requires
-    cast-t12
+    cast-t11
     returns-2)

@@ -11,10 +11,12 @@ asking-requires : tie.Need-asking-requires
 asking-requires c κs = search needs
 
 arbitrated-requires : tie.Need-arbitrated-requires
-arbitrated-requires c κs = rw (c .asking .ensures) (c .before .before .pre)
+arbitrated-requires c κs = search needs
 
 returns : tie.Need-returns
-returns c = rw (c .arbitrated .ensures, c .before .asking .ensures, c .before .before .with .ensures)
+returns c =
+    let c₁ = c .before in let c₂ = c₁ .before in
+    rw ((c .arbitrated .ensures), (c₁ .asking .ensures), (c₂ .with .ensures))
 
 pub requested-spec : {M : Type 1} → statement M
 requested-spec = tie.close (tie.spec with-requires asking-requires arbitrated-requires returns)
