@@ -17,7 +17,6 @@ pub mod Calls
 pub mod Waking
 pub mod Locking
 pub mod Requests
-pub mod MarksWord
 pub mod Matching
 pub mod Ticking
 pub mod CellLists
@@ -32,6 +31,7 @@ pub mod CodeCore
 pub mod CodeTests
 pub mod CodeEvents
 pub mod CodeCells
+pub mod CodeMarks
 pub mod CodeTables
 pub mod RunBytes
 pub mod RunCount

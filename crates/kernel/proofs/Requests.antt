@@ -1,7 +1,9 @@
 -- What match marks ask for: in two parts, and nothing where none is set.
 --
---   due-append   the marks of two rows, one after the other
---   due-quiet    no mark is set
+--   due-marked     the first mark is set
+--   due-append     the marks of two rows, one after the other
+--   due-quiet      no mark is set
+--   due-unmarked   no mark is set: their number is 0
 --
 -- Assumes nothing.
 use Prim.Native.Nat.{ℕ}
@@ -23,7 +25,6 @@ module _ (w : ℕ) where
   due-none (true ∷ ms) x = refl
   due-none (false ∷ ms) x = refl
 
-  -- the first mark is set: a match of the first rank
   pub due-marked : (ms : List Bool) (rs : List ℕ) (x : Due)
       → requestsDue w (true ∷ ms) rs x ≡ requestsDue w ms (drop 1 rs) (matchAt w (getD rs 0 noRank) x)
   unfolding requestsDue has with

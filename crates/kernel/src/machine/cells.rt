@@ -62,8 +62,8 @@ pub fn take_matches<'a, 'b>(
     word
 }
 
-// Takes the matches of the group of cells from `from` on: the marks that are set are counted off by the zeros below them, and no branch
-// asks for each mark.
+// Takes the matches of the group of cells from `from` on. A mark that is set is found by the zeros below it, and not by a branch for each
+// mark, which the processor could not foresee.
 fn take_group<'a, 'b>(
     from: usize,
     matched: &'a [bool; 64],

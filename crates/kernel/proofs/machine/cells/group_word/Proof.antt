@@ -2,7 +2,7 @@
 -- Assumes nothing.
 use native.Mathlib.Omega.{arith}
 use borrow.Author.Needs.{needs}
-use Rattle.kernel.proofs.MarksWord.{bits-le, word-sum}
+use Rattle.kernel.proofs.CodeMarks.{bits-le, word-sum}
 use Rattle.kernel.proofs.machine.cells.group_word.Statement.{statement}
 use Rattle.kernel.proofs.machine.cells.group_word.Tie as tie
 

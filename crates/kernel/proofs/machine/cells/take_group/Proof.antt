@@ -1,4 +1,4 @@
--- `take_group` meets its contract: at entry e the matches of the group from there on are left (`Left`), and a turn takes the next.
+-- `take_group` meets its contract: the marks of the group that are not taken yet are `Left`, and a turn takes the next that is set.
 -- Assumes nothing.
 use Prim.Native.Nat.{_+_, _-_}
 use mathlib.Core.Path.{sym, _∙_}
@@ -10,7 +10,7 @@ use lib.Count.{trailing-le}
 use Rattle.kernel.specs.Cells.{requestsDue}
 use Rattle.kernel.specs.Code.{dueWith, group}
 use Rattle.kernel.proofs.Requests.{due-unmarked}
-use Rattle.kernel.proofs.MarksWord.{Left, left-start, zeros-lt, next-lt, left-turn}
+use Rattle.kernel.proofs.CodeMarks.{Left, left-start, zeros-lt, next-lt, left-turn}
 use borrow.Author.Needs.{needs}
 use Rattle.kernel.proofs.machine.cells.take_group.Statement.{statement}
 use Rattle.kernel.proofs.machine.cells.take_group.Tie as tie
@@ -18,8 +18,8 @@ use Rattle.kernel.proofs.machine.cells.take_group.Tie as tie
 abbrev Inv-loop : tie.InvT-loop
 Inv-loop from matched ranks started request losses₀ word₀ e₀ marks₀ losses word e marks =
     (bs : List Bool) × Left started ranks (from + group)
-        (requestsDue started (take group (drop from matched)) (drop from ranks) (dueWith request losses₀))
-        e marks (dueWith word losses) bs
+    (requestsDue started (take group (drop from matched)) (drop from ranks) (dueWith request losses₀))
+    e marks (dueWith word losses) bs
 
 abbrev μ-loop : tie.MeasureT-loop
 μ-loop from matched ranks started request losses₀ word₀ e₀ marks₀ losses word e marks = from + group - e
@@ -37,7 +37,7 @@ cast-e : tie.Need-cast-e Inv-loop μ-loop
 cast-e c = omega (arith, trailing-le 64 (c .before .loop .marks))
 
 add-e : tie.Need-add-e Inv-loop μ-loop
-add-e c = let l = c .before .loop in omega (arith, next-lt (l .inv .1) (omega arith), c .before .before .before .pre .0)
+add-e c = let l = c .before in omega (arith, next-lt (l .loop .inv .1) (c .loop-test .taken), l .before .before .pre .0)
 
 byte-at-requires : tie.Need-byte-at-requires Inv-loop μ-loop
 byte-at-requires c κs = search needs
@@ -46,19 +46,21 @@ take-match-requires : tie.Need-take-match-requires Inv-loop μ-loop
 take-match-requires c κs = search needs
 
 add-e-2 : tie.Need-add-e-2 Inv-loop μ-loop
-add-e-2 c = let l = c .before .before .before .before .before in omega (arith, next-lt (l .loop .inv .1) (omega (arith, c .before .before .before .before .loop-test .taken)), l .before .before .pre .0)
+add-e-2 c = let k = c .before .before .before .before in let l = k .before in
+    omega (arith, next-lt (l .loop .inv .1) (k .loop-test .taken), l .before .before .pre .0)
 
 cast-marks : tie.Need-cast-marks Inv-loop μ-loop
 cast-marks c = omega (arith, trailing-le 64 (c .before .before .before .before .before .loop .marks))
 
 shr-marks : tie.Need-shr-marks Inv-loop μ-loop
-shr-marks c = let l = c .before .before .before .before .before .loop in zeros-lt (l .inv .1) (omega (arith, c .before .before .before .before .loop-test .taken))
+shr-marks c = let k = c .before .before .before .before in zeros-lt (k .before .loop .inv .1) (k .loop-test .taken)
 
 loop-less : tie.Need-loop-less Inv-loop μ-loop
-loop-less c = let l = c .before .before .before .before .before .loop in omega (arith, next-lt (l .inv .1) (omega (arith, c .before .before .before .before .loop-test .taken)))
+loop-less c = let k = c .before .before .before .before in omega (arith, next-lt (k .before .loop .inv .1) (k .loop-test .taken))
 
 loop-again : tie.Need-loop-again Inv-loop μ-loop
-loop-again c = let l = c .before .before .before .before .before .loop in left-turn (l .inv .1) (omega (arith, c .before .before .before .before .loop-test .taken)) (c .before .before .byte-at .ensures) (c .take-match .ensures)
+loop-again c = let k = c .before .before .before .before in
+    left-turn (k .before .loop .inv .1) (k .loop-test .taken) (c .before .before .byte-at .ensures) (c .take-match .ensures)
 
 returns : tie.Need-returns Inv-loop μ-loop
 returns c = let a = c .before .before .before .args in let l = c .before .loop in

@@ -1,9 +1,10 @@
--- The match marks of a group as one number: how the next mark that is set is found in it, and what is left after it.
+-- The match marks of a group as one number: how the code sums it up, and how it finds the marks that are set.
 --
--- In order: the zeros at a number's low end; the first mark set (`First`); the matches still to be taken (`Left`); the number as the code
--- sums it up. Assumes nothing.
+-- In order: the zeros below a number's lowest set digit; the first mark set (`First`), found by them; the loop, at which matches are left to
+-- take (`Left`); the sum. A mark is a byte, so that the zeros below the first mark set are 8 for each mark before it. Assumes nothing.
 use Prim.Native.Nat.{ℕ, zero, suc, _+_, _-_, _*_, _/_, _%_, _^_, _≤_, _<_}
 use mathlib.Core.Path.{_≡_, refl, sym, ap, ap₂, _∙_}
+use mathlib.Core.Logic.{_≢_}
 use mathlib.Core.Bool.{Bool, true, false, cond}
 use mathlib.Core.List.{List, [], _∷_}
 use native.Mathlib.Omega.{arith}
@@ -11,7 +12,7 @@ use native.Mathlib.Nat.{add-zero, add-suc, mul-one}
 use mir.Val.{boolByte}
 use lib.ListN.{length, getD, take, drop, length-drop, drop-of-length-le, List·getD-eq-default}
 use lib.Seq.{drop-cons, drop-drop, getD-drop, take-nil, length-take-le}
-use lib.Count.{under, trailingZeros}
+use lib.Count.{trailingZeros}
 use lib.Pow.{shr-shr}
 use lib.Bits.{shifted-half, shifted-even}
 use Rattle.number.proofs.Cases.{by-lt}
@@ -20,7 +21,7 @@ use Rattle.kernel.specs.Code.{group, marksWord}
 use Rattle.kernel.specs.Cells.{Due, matchAt, requestsDue}
 use Rattle.kernel.proofs.Requests.{due-none, due-marked}
 
--- a number shifted up by j digits has j zeros more
+-- j digits further up there are j zeros more
 trailing-shifted : (k j n : ℕ) → trailingZeros (k + j) (n * 2 ^ j) ≡ trailingZeros k n + j
 unfolding trailingZeros
 trailing-shifted k zero n = rw (mul-one n, add-zero k, add-zero (trailingZeros k n))
@@ -31,7 +32,7 @@ unfolding trailingZeros
 trailing-odd zero n some odd = absurd (omega arith)
 trailing-odd (suc k) n some odd = rw odd
 
--- the first mark of bs that is set is the i-th: 8 zeros for each mark before it, and what it asks for is next
+-- the first mark of bs that is set is the i-th
 record First (bs : List Bool) (i : ℕ) : Type 0 where
   within : i < length bs
   zeros : (k : ℕ) → 8 * length bs ≤ k → trailingZeros k (marksWord bs) ≡ 8 * i
@@ -92,14 +93,14 @@ first (false ∷ bs) some = let f = first bs (omega arith) in (suc (f .0), first
 past : (e i : ℕ) → e + i + 1 ≡ e + suc i
 past e i = omega arith
 
--- of the matches before u, which ask for y in all, those from e on are left: the marks bs, as the number m; x is what is asked for so far
+-- at entry e the matches bs are left to take, up to entry u, as the number m: with what is due so far, x, they make y
 pub record Left (w : ℕ) (rs : List ℕ) (u : ℕ) (y : Due) (e m : ℕ) (x : Due) (bs : List Bool) : Type 0 where
   pub few : length bs ≤ group
   pub until : e + length bs ≡ u
   pub word : m ≡ marksWord bs
   pub due : requestsDue w bs (drop e rs) x ≡ y
 
-module _ {w : ℕ} {rs : List ℕ} {u : ℕ} {y : Due} {e m : ℕ} {x : Due} {bs : List Bool} (l : Left w rs u y e m x bs) (some : 0 < m) where
+module _ {w : ℕ} {rs : List ℕ} {u : ℕ} {y : Due} {e m : ℕ} {x : Due} {bs : List Bool} (l : Left w rs u y e m x bs) (some : m ≢ 0) where
   next : (i : ℕ) × First bs i
   next = first bs (omega (arith, l .word))
 
@@ -112,11 +113,10 @@ module _ {w : ℕ} {rs : List ℕ} {u : ℕ} {y : Due} {e m : ℕ} {x : Due} {bs
   pub zeros-lt : trailingZeros 64 m < 64
   zeros-lt = omega (arith, zeros-are, next .1 .within, l .few)
 
-  -- the next match is one of those left
   pub next-lt : e + trailingZeros 64 m / 8 < u
   next-lt = omega (arith, place-is, next .1 .within, l .until)
 
-  -- the next match taken
+  -- the next match taken, of rank r
   pub left-turn : {r : ℕ} → r ≡ getD rs (e + trailingZeros 64 m / 8) noRank → {x′ : Due} → x′ ≡ matchAt w r x
       → (cs : List Bool) × Left w rs u y (e + trailingZeros 64 m / 8 + 1) (m / 2 ^ trailingZeros 64 m / 256) x′ cs
   left-turn rank is = (
@@ -130,7 +130,7 @@ module _ {w : ℕ} {rs : List ℕ} {u : ℕ} {y : Due} {e m : ℕ} {x : Due} {bs
     },
   )
 
--- at the group from e on, all of its matches are left
+-- at its first entry all of a group is left
 pub left-start : (w : ℕ) (rs : List ℕ) (e : ℕ) (ms : List Bool) (x : Due) → e + group ≤ length ms → {m : ℕ} → m ≡ marksWord (take group (drop e ms))
     → Left w rs (e + group) (requestsDue w (take group (drop e ms)) (drop e rs) x) e m x (take group (drop e ms))
 left-start w rs e ms x h is = record { few = omega (arith, whole); until = omega (arith, whole); word = is; due = refl }
@@ -163,9 +163,9 @@ module _ (ms : List Bool) where
         (λ h. rw (drop-cons ms (e + i) false h, bit-is (getD ms (e + i) false)))
         (λ h. rw (drop-of-length-le ms {i = e + i} h, drop-of-length-le ms {i = suc (e + i)} (omega arith), List·getD-eq-default ms false h, take-nil (suc k), take-nil k)))
 
-    word-none : (i : ℕ) → marksWord (take 0 (drop i ms)) ≡ 0
+    word-end : marksWord (take 0 (drop (e + group) ms)) ≡ 0
     unfolding marksWord
-    word-none i = refl
+    word-end = refl
 
     pub bits-le : (bit e ≤ 1) × (bit (e + 1) ≤ 1) × (bit (e + 2) ≤ 1) × (bit (e + 3) ≤ 1) × (bit (e + 4) ≤ 1) × (bit (e + 5) ≤ 1)
         × (bit (e + 6) ≤ 1) × (bit (e + 7) ≤ 1)
@@ -176,4 +176,4 @@ module _ (ms : List Bool) where
         ≡ marksWord (take group (drop e ms))
     word-sum =
         omega
-        (arith, rw add-zero at (word-step 0 7), word-step 1 6, word-step 2 5, word-step 3 4, word-step 4 3, word-step 5 2, word-step 6 1, word-step 7 0, word-none (e + 8))
+        (arith, rw add-zero at (word-step 0 7), word-step 1 6, word-step 2 5, word-step 3 4, word-step 4 3, word-step 5 2, word-step 6 1, word-step 7 0, word-end)
