@@ -3,22 +3,18 @@
 -- In order: a tick's counters and match marks; a tick's requests and losses; starts and stops; the switches. Assumes nothing.
 use Prim.Native.Nat.{ℕ, zero, suc, _+_, _-_, _≤_, _<_}
 use mathlib.Core.Path.{_≡_, refl, sym, ap, ap₂, _∙_}
-use mathlib.Core.Bool.{Bool, true, false, cond, _||_, or-assoc, or-false}
+use mathlib.Core.Bool.{Bool, false}
 use mathlib.Core.List.{List, [], _∷_, _++_, append-assoc, append-nil}
 use native.Mathlib.Omega.{arith}
 use native.Mathlib.Numerals.{add-one}
-use native.Mathlib.Nat.{add-zero}
-use lib.ListN.{length, getD, set, take, drop, replicate, length-set, length-drop, take-append-drop, drop-of-length-le, List·getD-eq-default}
-use lib.Seq.{take-suc-set, take-all, length-take-le, drop-cons, drop-drop, getD-drop, getD-set-other}
-use Rattle.number.proofs.Cases.{by-lt}
+use lib.ListN.{length, getD, set, take, drop, replicate, length-set, length-drop, take-append-drop, drop-of-length-le}
+use lib.Seq.{take-suc-set, take-all, length-take-le, drop-drop, getD-set-other}
 use Rattle.config.specs.Value.{maxEntries}
 use Rattle.cell.specs.declared.Cell.{Cell}
 use Rattle.cell.specs.Cell.{unmarked, startCell, ticked}
-use Rattle.word.specs.Word.{has, with}
-use Rattle.kernel.specs.Model.{noRank}
-use Rattle.kernel.specs.Code.{group, anyOf}
-use Rattle.kernel.specs.Cells.{isOn, cellAt, countersTicked, marks, countersStarted, countersStopped, switched, Due, matchAt, requestsDue}
-use Rattle.kernel.proofs.Requests.{due-none, due-append}
+use Rattle.kernel.specs.Code.{group}
+use Rattle.kernel.specs.Cells.{isOn, cellAt, countersTicked, marks, countersStarted, countersStopped, switched, Due, requestsDue}
+use Rattle.kernel.proofs.Requests.{due-append}
 
 -- a loop over the k entries from f on begins with all of them, and each turn takes one
 pub span : (f k : ℕ) → f + k - f ≡ k
@@ -79,30 +75,11 @@ module _ (ks os : List ℕ) where
       )
 
 module _ (w : ℕ) where
-  due-first : (b : Bool) (ms : List Bool) (rs : List ℕ) (x : Due)
-      → requestsDue w ms (drop 1 rs) (cond b (matchAt w (getD rs 0 noRank) x) x) ≡ requestsDue w (b ∷ ms) rs x
-  unfolding requestsDue has with
-  due-first true ms [] x = due-none w ms x
-  due-first false ms [] x = due-none w ms x
-  due-first true ms (r ∷ rs) x = refl
-  due-first false ms (r ∷ rs) x = refl
-
   due-over : (rs : List ℕ) (x : Due) → requestsDue w [] rs x ≡ x
   unfolding requestsDue
   due-over rs x = refl
 
   module _ (ms : List Bool) (rs : List ℕ) where
-    -- the entry e taken, of those before u
-    pub due-turn : (u e : ℕ) → e < u → e < length ms → {b : Bool} → b ≡ getD ms e false → {r : ℕ} → r ≡ getD rs e noRank
-        → (x : Due) {y : Due} → y ≡ cond b (matchAt w r x) x
-        → requestsDue w (take (u - (e + 1)) (drop (e + 1) ms)) (drop (e + 1) rs) y ≡ requestsDue w (take (u - e) (drop e ms)) (drop e rs) x
-    due-turn u e more h marked rank x is =
-        rw (is, rank, marked, next u e more, drop-cons ms e false h, ← drop-drop 1 e rs, add-one e)
-        (rw (getD-drop e rs 0 noRank, add-zero e) at (due-first (getD ms e false) (take (u - suc e) (drop (suc e) ms)) (drop e rs) x))
-
-    pub due-end : (u e : ℕ) → u ≤ e → (x : Due) → requestsDue w (take (u - e) (drop e ms)) (drop e rs) x ≡ x
-    due-end u e h x = rw (none u e h) (due-over (drop e rs) x)
-
     -- the group from e on taken
     pub group-turn : (e : ℕ) → e + group ≤ length ms → (x : Due) {y : Due} → y ≡ requestsDue w (take group (drop e ms)) (drop e rs) x
         → requestsDue w (drop (e + group) ms) (drop (e + group) rs) y ≡ requestsDue w (drop e ms) (drop e rs) x
@@ -118,50 +95,6 @@ module _ (w : ℕ) where
 
     pub groups-end : (e : ℕ) → length ms ≤ e → (x : Due) → requestsDue w (drop e ms) (drop e rs) x ≡ x
     groups-end e h x = rw (drop-of-length-le ms {i = e} h) (due-over (drop e rs) x)
-
--- the marks of a group, joined from the left as the code does it
-module _ (ms : List Bool) (e : ℕ) where
-  any-first : (k i : ℕ) → anyOf (take (suc k) (drop i ms)) ≡ getD ms i false || anyOf (take k (drop (suc i) ms))
-  unfolding anyOf
-  any-first k i =
-      by-lt i (length ms)
-      (λ h. rw (drop-cons ms i false h))
-      (λ h. rw (drop-of-length-le ms {i = i} h, drop-of-length-le ms {i = suc i} (omega arith), List·getD-eq-default ms false h, nothing (suc k), nothing k))
-    where
-      nothing : (j : ℕ) → take {A = Bool} j [] ≡ []
-      nothing j = take-all j [] (omega arith)
-
-  join-step : (b : Bool) (i k : ℕ)
-      → b || anyOf (take (suc k) (drop (e + i) ms)) ≡ b || getD ms (e + i) false || anyOf (take k (drop (e + suc i) ms))
-  unfolding anyOf
-  join-step b i k = ap (λ (x : Bool). b || x) (any-first k (e + i) ∙ ap (λ (j : ℕ). getD ms (e + i) false || anyOf (take k (drop j ms))) shift)
-      ∙ sym (or-assoc b (getD ms (e + i) false) (anyOf (take k (drop (e + suc i) ms))))
-    where
-      shift : suc (e + i) ≡ e + suc i
-      shift = omega arith
-
-  pub any-group : getD ms e false || getD ms (e + 1) false || getD ms (e + 2) false || getD ms (e + 3) false || getD ms (e + 4) false
-      || getD ms (e + 5) false || getD ms (e + 6) false || getD ms (e + 7) false
-      ≡ anyOf (take group (drop e ms))
-  unfolding anyOf
-  any-group =
-      let b = getD ms e false in
-      let b₁ = b || getD ms (e + 1) false in
-      let b₂ = b₁ || getD ms (e + 2) false in
-      let b₃ = b₂ || getD ms (e + 3) false in
-      let b₄ = b₃ || getD ms (e + 4) false in
-      let b₅ = b₄ || getD ms (e + 5) false in
-      let b₆ = b₅ || getD ms (e + 6) false in
-      sym
-      ((rw add-zero at (join-step false 0 7))
-      ∙ join-step b 1 6
-      ∙ join-step b₁ 2 5
-      ∙ join-step b₂ 3 4
-      ∙ join-step b₃ 4 3
-      ∙ join-step b₄ 5 2
-      ∙ join-step b₅ 6 1
-      ∙ join-step b₆ 7 0
-      ∙ or-false (b₆ || getD ms (e + 7) false))
 
 -- starts
 module _ (u e P d : ℕ) (os ns : List ℕ) where

@@ -31,6 +31,7 @@ pub mod CodeCore
 pub mod CodeTests
 pub mod CodeEvents
 pub mod CodeCells
+pub mod CodeMarks
 pub mod CodeTables
 pub mod RunBytes
 pub mod RunCount

@@ -1,16 +1,21 @@
 -- What match marks ask for: in two parts, and nothing where none is set.
 --
---   due-append   the marks of two rows, one after the other
---   due-quiet    no mark is set
+--   due-marked     the first mark is set
+--   due-append     the marks of two rows, one after the other
+--   due-quiet      no mark is set
+--   due-unmarked   no mark is set: their number is 0
 --
 -- Assumes nothing.
 use Prim.Native.Nat.{ℕ}
 use mathlib.Core.Path.{_≡_, refl, sym}
 use mathlib.Core.Bool.{Bool, true, false, true≢false}
 use mathlib.Core.List.{List, [], _∷_, _++_}
-use lib.ListN.{length, drop}
+use native.Mathlib.Omega.{arith}
+use lib.ListN.{length, getD, drop}
+use Rattle.word.specs.Word.{has, with}
+use Rattle.kernel.specs.Model.{noRank}
 use Rattle.kernel.specs.Cells.{Due, matchAt, requestsDue}
-use Rattle.kernel.specs.Code.{anyOf}
+use Rattle.kernel.specs.Code.{anyOf, marksWord}
 
 module _ (w : ℕ) where
   -- without ranks there is nothing to ask for
@@ -19,6 +24,12 @@ module _ (w : ℕ) where
   due-none [] x = refl
   due-none (true ∷ ms) x = refl
   due-none (false ∷ ms) x = refl
+
+  pub due-marked : (ms : List Bool) (rs : List ℕ) (x : Due)
+      → requestsDue w (true ∷ ms) rs x ≡ requestsDue w ms (drop 1 rs) (matchAt w (getD rs 0 noRank) x)
+  unfolding requestsDue has with
+  due-marked ms [] x = sym (due-none ms x)
+  due-marked ms (r ∷ rs) x = refl
 
   pub due-append : (ms ns : List Bool) (rs : List ℕ) (x : Due)
       → requestsDue w (ms ++ ns) rs x ≡ requestsDue w ns (drop (length ms) rs) (requestsDue w ms rs x)
@@ -35,3 +46,10 @@ module _ (w : ℕ) where
   due-quiet (true ∷ ms) rs x h = absurd (true≢false h)
   due-quiet (false ∷ ms) [] x h = refl
   due-quiet (false ∷ ms) (r ∷ rs) x h = due-quiet ms rs x h
+
+  pub due-unmarked : (ms : List Bool) (rs : List ℕ) (x : Due) → marksWord ms ≡ 0 → requestsDue w ms rs x ≡ x
+  unfolding requestsDue marksWord
+  due-unmarked [] rs x h = refl
+  due-unmarked (true ∷ ms) rs x h = absurd (omega arith)
+  due-unmarked (false ∷ ms) [] x h = refl
+  due-unmarked (false ∷ ms) (r ∷ rs) x h = due-unmarked ms rs x (omega arith)

@@ -1,10 +1,11 @@
 -- What the contracts of the machine's helpers cite beside the definitions of its events: these, with numbers for the model.
 --
 --   dueWith w ls            the requests w and the losses ls
---   anyOf bs                one of bs is true; a `group` of match marks is looked at in one go
+--   marksWord bs            the match marks bs as one number, a byte each, the first the lowest; a `group` of them is looked at in one go
+--   anyOf bs                one of bs is true
 --
 -- and what its methods count on of the tables that they are lent, as the plan has them: Delays, Laid, Reached. Assumes nothing.
-use Prim.Native.Nat.{ℕ, _+_, _-_, _≤_, _<_}
+use Prim.Native.Nat.{ℕ, _+_, _-_, _*_, _≤_, _<_}
 use mathlib.Core.Bool.{Bool, false, cond, _&&_, _||_}
 use mathlib.Core.List.{List, [], _∷_}
 use lib.Dec.{ltb, eqb}
@@ -17,6 +18,10 @@ dueWith w ls = record { request = w; losses = ls }
 
 abbrev pub group : ℕ
 group = 8
+
+unfoldable pub marksWord : List Bool → ℕ
+marksWord [] = 0
+marksWord (b ∷ bs) = cond b 1 0 + 256 * marksWord bs
 
 unfoldable pub anyOf : List Bool → Bool
 anyOf [] = false

@@ -1,11 +1,10 @@
 // The cells of the entries, as parallel arrays: what a tick, a start and a stop make of them.
 ghost use mathlib.Core.Path.{_≡_};
-ghost use mathlib.Core.Bool.{cond, not};
 ghost use Prim.Native.Nat.{_+_, _≤_};
 ghost use lib.ListN.{length, getD, set, take, drop};
 ghost use Rattle.config.specs.Value.{maxEntries};
 ghost use Rattle.kernel.specs.Cells.{countersTicked, marks, countersStarted, countersStopped, switched, oneMore, matchAt, requestsDue};
-ghost use Rattle.kernel.specs.Code.{Delays, dueWith, group, anyOf};
+ghost use Rattle.kernel.specs.Code.{Delays, dueWith, group, marksWord};
 use super::NO_RANK;
 use super::bodies::busy;
 use super::row::byte_at;
@@ -63,7 +62,8 @@ pub fn take_matches<'a, 'b>(
     word
 }
 
-// Takes the matches of the group of cells from `from` on. Few groups have one, so a quiet group is passed over.
+// Takes the matches of the group of cells from `from` on. A mark that is set is found by the zeros below it, and not by a branch for each
+// mark, which the processor could not foresee.
 fn take_group<'a, 'b>(
     from: usize,
     matched: &'a [bool; 64],
@@ -75,44 +75,39 @@ fn take_group<'a, 'b>(
     requires { ⌜ (from + group ≤ maxEntries) × (from + group ≤ length (now matched)) ⌝ }
     ensures { λ r. ⌜ dueWith r (now (losses .exit)) ≡ requestsDue started (take group (drop from (now (matched .entry)))) (drop from (now (ranks .entry))) (dueWith request (now (losses .entry))) ⌝ }
 {
-    if is_quiet(matched, from) {
-        return request;
-    }
-    let until = from + GROUP;
     let mut word = request;
     let mut e = from;
-    while e < until {
+    let mut marks = group_word(matched, from);
+    while marks != 0 {
+        let zeros = u64::trailing_zeros(marks);
+        e += (zeros / 8) as usize;
         let rank = byte_at(ranks, e, NO_RANK);
-        word = take_match(matched[e], rank, started, word, losses);
+        word = take_match(rank, started, word, losses);
         e += 1;
+        marks = (marks >> zeros) / 256;
     }
     word
 }
 
-// Whether no cell of the group from `e` on matches. The marks are joined without a branch, so that the compiler reads them as one
-// number.
-fn is_quiet(matched: &[bool; 64], e: usize) -> bool
+// The marks of the group from `e` on as one number, a byte each, the first the lowest: the compiler makes one load of it.
+fn group_word(matched: &[bool; 64], e: usize) -> u64
     requires { ⌜ e + group ≤ maxEntries ⌝ }
-    ensures { λ r. ⌜ r ≡ not (anyOf (take group (drop e (now (matched .entry))))) ⌝ }
+    ensures { λ r. ⌜ r ≡ marksWord (take group (drop e (now (matched .entry)))) ⌝ }
 {
-    let any = matched[e]
-        | matched[e + 1]
-        | matched[e + 2]
-        | matched[e + 3]
-        | matched[e + 4]
-        | matched[e + 5]
-        | matched[e + 6]
-        | matched[e + 7];
-    !any
+    matched[e] as u64
+        + 256 * matched[e + 1] as u64
+        + 65536 * matched[e + 2] as u64
+        + 16777216 * matched[e + 3] as u64
+        + 4294967296 * matched[e + 4] as u64
+        + 1099511627776 * matched[e + 5] as u64
+        + 281474976710656 * matched[e + 6] as u64
+        + 72057594037927936 * matched[e + 7] as u64
 }
 
 // A match of an entry whose task has this rank: a request where the task is suspended, else a loss.
-fn take_match(matched: bool, rank: u8, started: u32, request: u32, losses: &mut [u16; 32]) -> u32
-    ensures { λ r. ⌜ dueWith r (now (losses .exit)) ≡ cond matched (matchAt started rank (dueWith request (now (losses .entry)))) (dueWith request (now (losses .entry))) ⌝ }
+fn take_match(rank: u8, started: u32, request: u32, losses: &mut [u16; 32]) -> u32
+    ensures { λ r. ⌜ dueWith r (now (losses .exit)) ≡ matchAt started rank (dueWith request (now (losses .entry))) ⌝ }
 {
-    if !matched {
-        return request;
-    }
     if busy(request, started, rank) {
         lose(losses, rank as usize);
         return request;
