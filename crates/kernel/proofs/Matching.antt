@@ -26,9 +26,9 @@ use Rattle.cell.proofs.Theorems.{off-ticked-same, on-time-matched, on-time-coun
 use Rattle.scheduler.specs.State.{Table, stopped, running, State}
 use Rattle.scheduler.specs.Tick.{counting, entryDue, duesFrom, dues}
 use Rattle.kernel.specs.Cells.{isOn, cellAt, countersTicked, marks, Due, requestsDue}
-use Rattle.kernel.specs.Code.{anyOf}
+use Rattle.kernel.specs.Code.{marksWord}
 use Rattle.kernel.proofs.Simulation.{Fitted, CellFits, Timed}
-use Rattle.kernel.proofs.Requests.{due-append, due-quiet}
+use Rattle.kernel.proofs.Requests.{due-append, due-unmarked}
 
 -- a tick reaches the counters of its cells, each by its own cell alone
 module _ (ks os : List ℕ) where
@@ -70,12 +70,12 @@ module _ (ks os : List ℕ) where
       shift e j = omega arith
 
   -- cells that are off do not match
-  off-marks : (k e : ℕ) (ns : List ℕ) → ((i : ℕ) → e ≤ i → isOn (getD os i 0) ≡ false) → anyOf (marks k e ks os ns) ≡ false
-  unfolding marks anyOf
+  off-marks : (k e : ℕ) (ns : List ℕ) → ((i : ℕ) → e ≤ i → isOn (getD os i 0) ≡ false) → marksWord (marks k e ks os ns) ≡ 0
+  unfolding marks marksWord
   off-marks zero e ns off = refl
   off-marks (suc k) e ns off =
       rw (ap (λ (y : Cell). y .matched) (off-ticked-same (cellAt ks os ns e) (off e (omega arith))))
-      (off-marks k (suc e) ns (λ i h. off i (omega arith)))
+      (let q = off-marks k (suc e) ns (λ i h. off i (omega arith)) in omega arith)
 
   -- what a row asks for of which only the first n cells may be on
   pub due-first-cells : (n : ℕ) → n ≤ maxEntries → ((i : ℕ) → n ≤ i → isOn (getD os i 0) ≡ false) → (w : ℕ) (ns rs : List ℕ) (x : Due)
@@ -84,7 +84,7 @@ module _ (ks os : List ℕ) where
       ap (λ (k : ℕ). requestsDue w (marks k 0 ks os ns) rs x) all
       ∙ ap (λ (l : List Bool). requestsDue w l rs x) (marks-append n (maxEntries - n) 0 ns)
       ∙ due-append w (marks n 0 ks os ns) (marks (maxEntries - n) (0 + n) ks os ns) rs x
-      ∙ due-quiet w (marks (maxEntries - n) (0 + n) ks os ns) _ _ (off-marks (maxEntries - n) (0 + n) ns (λ i l. off i (omega arith)))
+      ∙ due-unmarked w (marks (maxEntries - n) (0 + n) ks os ns) _ _ (off-marks (maxEntries - n) (0 + n) ns (λ i l. off i (omega arith)))
     where
       all : maxEntries ≡ n + (maxEntries - n)
       all = omega arith

@@ -2,20 +2,19 @@
 --
 --   due-marked     the first mark is set
 --   due-append     the marks of two rows, one after the other
---   due-quiet      no mark is set
 --   due-unmarked   no mark is set: their number is 0
 --
 -- Assumes nothing.
 use Prim.Native.Nat.{ℕ}
 use mathlib.Core.Path.{_≡_, refl, sym}
-use mathlib.Core.Bool.{Bool, true, false, true≢false}
+use mathlib.Core.Bool.{Bool, true, false}
 use mathlib.Core.List.{List, [], _∷_, _++_}
 use native.Mathlib.Omega.{arith}
 use lib.ListN.{length, getD, drop}
 use Rattle.word.specs.Word.{has, with}
 use Rattle.kernel.specs.Model.{noRank}
 use Rattle.kernel.specs.Cells.{Due, matchAt, requestsDue}
-use Rattle.kernel.specs.Code.{anyOf, marksWord}
+use Rattle.kernel.specs.Code.{marksWord}
 
 module _ (w : ℕ) where
   -- without ranks there is nothing to ask for
@@ -39,13 +38,6 @@ module _ (w : ℕ) where
   due-append (false ∷ ms) ns [] x = sym (due-none ns x)
   due-append (true ∷ ms) ns (r ∷ rs) x = due-append ms ns rs (matchAt w r x)
   due-append (false ∷ ms) ns (r ∷ rs) x = due-append ms ns rs x
-
-  pub due-quiet : (ms : List Bool) (rs : List ℕ) (x : Due) → anyOf ms ≡ false → requestsDue w ms rs x ≡ x
-  unfolding requestsDue anyOf
-  due-quiet [] rs x h = refl
-  due-quiet (true ∷ ms) rs x h = absurd (true≢false h)
-  due-quiet (false ∷ ms) [] x h = refl
-  due-quiet (false ∷ ms) (r ∷ rs) x h = due-quiet ms rs x h
 
   pub due-unmarked : (ms : List Bool) (rs : List ℕ) (x : Due) → marksWord ms ≡ 0 → requestsDue w ms rs x ≡ x
   unfolding requestsDue marksWord

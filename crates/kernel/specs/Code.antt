@@ -2,15 +2,12 @@
 --
 --   dueWith w ls            the requests w and the losses ls
 --   marksWord bs            the match marks bs as one number, a byte each, the first the lowest; a `group` of them is looked at in one go
---   anyOf bs                one of bs is true
 --
 -- and what its methods count on of the tables that they are lent, as the plan has them: Delays, Laid, Reached. Assumes nothing.
-use Prim.Native.Nat.{ℕ, _+_, _-_, _*_, _≤_, _<_}
-use mathlib.Core.Bool.{Bool, false, cond, _&&_, _||_}
+use Prim.Native.Nat.{ℕ, _+_, _*_, _≤_, _<_}
+use mathlib.Core.Bool.{Bool, cond}
 use mathlib.Core.List.{List, [], _∷_}
-use lib.Dec.{ltb, eqb}
 use lib.ListN.{getD}
-use Rattle.kernel.specs.Model.{noRank}
 use Rattle.kernel.specs.Cells.{Due}
 
 abbrev pub dueWith : ℕ → List ℕ → Due
@@ -22,10 +19,6 @@ group = 8
 unfoldable pub marksWord : List Bool → ℕ
 marksWord [] = 0
 marksWord (b ∷ bs) = cond b 1 0 + 256 * marksWord bs
-
-unfoldable pub anyOf : List Bool → Bool
-anyOf [] = false
-anyOf (b ∷ bs) = b || anyOf bs
 
 -- d ticks before each of the k entries from e on, at the offsets os, the delay fits a counter
 pub record Delays (e k d : ℕ) (os : List ℕ) : Type 0 where

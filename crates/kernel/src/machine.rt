@@ -53,11 +53,12 @@ pub struct Picked {
 // whole model at every event.
 pub struct Model {
     pub core: Core,
+    // The held resources, as a word.
+    pub held: u32,
     // Whom the runner preempted and those below, down to nobody, with their levels.
     pub stack: Stack,
     pub levels: Stack,
-    // The held resources as a word, and in the order taken, each with its holder's rank and the level after its Get.
-    pub held: u32,
+    // The held resources in the order taken, each with its holder's rank and the level after its Get.
     pub resource: Row,
     pub holder: Row,
     pub raised: Row,
