@@ -22,7 +22,7 @@ use Rattle.plan.specs.declared.Plan.{Plan}
 use Rattle.word.specs.Word.{has, without}
 use Rattle.word.proofs.Theorems.{has-without-same, has-without-other}
 use Rattle.stack.specs.Stack.{secondRow, popRow, rowBytes}
-use Rattle.stack.proofs.Theorems.{second-lt}
+use Rattle.stack.proofs.Theorems.{row-second-lt}
 use Rattle.scheduler.specs.Body.{Body, isStarted, current, gives-back}
 use Rattle.scheduler.specs.State.{noBody, among}
 use Rattle.scheduler.specs.Call.{holds, latestIs}
@@ -163,7 +163,7 @@ module _ (c : Config) (p : Plan) (rk : ℕ → ℕ) (fit : Fitted c p rk) (m : M
     level-lt = go (eqb (secondRow (m .holder)) (m .core .runner))
       where
         go : (o : Bool) → cond o (secondRow (m .raised)) (getD (p .priority) (m .core .runner) 0) < 256
-        go true = second-lt (m .raised)
+        go true = row-second-lt (m .raised)
         go false = rw runner-rank (omega (arith, fit .priority-at b exists, fit .own-few b exists))
 
     words′ : Words c rk (withLevel (m .core) (levelWithout (p .priority) m)) bs′

@@ -12,7 +12,7 @@ use Rattle.config.specs.declared.Config.{Config}
 use Rattle.plan.specs.declared.Plan.{Plan}
 use Rattle.word.proofs.Theorems.{has-without-same, has-without-other}
 use Rattle.stack.specs.Stack.{top, popped}
-use Rattle.stack.proofs.Theorems.{top-lt}
+use Rattle.stack.proofs.Theorems.{stack-top-lt}
 use Rattle.scheduler.specs.Body.{Body, isStarted, Phase, suspended, ready, started, finished}
 use Rattle.scheduler.specs.State.{noBody, among}
 use Rattle.scheduler.specs.Call.{requestWaits}
@@ -95,7 +95,7 @@ module _ (c : Config) (p : Plan) (rk : ℕ → ℕ) (fit : Fitted c p rk) (m : M
       record {
         ranks = shows-popped (m .stack) (ranksFor rk ch) (below (t .running .frames .ranks));
         levels = shows-popped (m .levels) (levelsFor c bs′ ch) (rw (sym (levelsFor-alike c rk bs bs′ ch alike)) (below (t .running .frames .levels)));
-        level-lt = top-lt (m .levels);
+        level-lt = stack-top-lt (m .levels);
       }
 
   running′ : Running c rk (leaving m) bs′ ch

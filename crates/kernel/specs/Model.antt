@@ -4,13 +4,14 @@
 use Prim.Native.Nat.{ℕ}
 use mathlib.Core.Bool.{Bool, false}
 use mathlib.Core.List.{List}
+use Rattle.stack.specs.Stack.{none}
 use Rattle.kernel.specs.declared.machine.Core.{Core}
 use Rattle.kernel.specs.declared.machine.Model.{Model}
 use Rattle.kernel.specs.declared.machine.Outcome.{Outcome}
 
--- no body: neither a rank nor a body's number
+-- no body: neither a rank nor a body's number; it is what lies past the bottom of the stack and of the row of held resources
 abbrev pub noRank : ℕ
-noRank = 255
+noRank = none
 
 abbrev pub withCore : Model → Core → Model
 withCore m k =

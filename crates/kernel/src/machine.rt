@@ -9,11 +9,13 @@ mod resources;
 mod row;
 mod tables;
 
+use stack::NONE;
 use stack::Row;
 use stack::Stack;
 
-// No body: in the place of a rank it says that nobody runs, or that there is no such task or ISR.
-const NO_RANK: u8 = 255;
+// No body: in the place of a rank it says that nobody runs, or that there is no such task or ISR. It is what lies past the bottom of
+// the stack and of the row of held resources.
+const NO_RANK: u8 = NONE;
 
 // The statuses (OSEK's status codes) of an event. One that is refused changes nothing.
 pub const DONE: u8 = 0;

@@ -25,9 +25,9 @@ pub row-second : (r : Row) → secondRow r ≡ getD (rowBytes r) 1 none
 unfolding secondRow rowBytes bytes
 row-second r = refl
 
-pub second-lt : (r : Row) → secondRow r < 256
+pub row-second-lt : (r : Row) → secondRow r < 256
 unfolding secondRow
-second-lt r = omega arith
+row-second-lt r = omega arith
 
 pub row-cons : (r : Row) → rowBytes r ≡ topRow r ∷ drop 1 (rowBytes r)
 unfolding topRow rowBytes bytes
@@ -53,9 +53,9 @@ pub stack-top : (s : Stack) → top s ≡ getD (stackBytes s) 0 none
 unfolding top topRow stackBytes rowBytes bytes
 stack-top s = refl
 
-pub top-lt : (s : Stack) → top s < 256
-unfolding top topRow
-top-lt s = omega arith
+pub stack-top-lt : (s : Stack) → top s < 256
+unfolding top
+stack-top-lt s = RowBytes.top-lt (s .near)
 
 pub stack-cons : (s : Stack) → stackBytes s ≡ top s ∷ drop 1 (stackBytes s)
 unfolding top topRow stackBytes rowBytes bytes

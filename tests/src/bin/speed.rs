@@ -1,8 +1,8 @@
 //! Times the proved run beside the Rust implementations: `speed [--write FILE]`.
 //!
 //! All implementations run in one process on the same inputs, call by call in turn; before every call the output buffer is
-//! cleared, outside the time taken. A round's time is that of its quickest call, since load only adds; a ratio is the
-//! median over the rounds. Instructions are counted by callgrind, if
+//! cleared, outside the time taken. A round goes through all traces of a table; its time for a trace is that of the
+//! quickest call, since load only adds; a ratio is the median over the rounds. Instructions are counted by callgrind, if
 //! valgrind is there: the program runs itself as `speed --repeat IMPLEMENTATION SHAPE LENGTH TIMES` with two values of TIMES
 //! and takes the difference.
 
@@ -83,35 +83,43 @@ fn median(mut values: Vec<f64>) -> f64 {
     values[values.len() / 2]
 }
 
-/// For each implementation its nanoseconds per call, and how many times as long the first implementation takes.
-fn time(case: &Case) -> Vec<(f64, f64)> {
+/// For each case and each implementation its nanoseconds per call, and how many times as long the first implementation
+/// takes. A round goes through all cases, so that a slow spell of the machine falls on all of them alike.
+fn time(cases: &[Case]) -> Vec<Vec<(f64, f64)>> {
     let implementations = implementations();
-    let mut out = vec![0; case.out_len];
-    for implementation in &implementations {
-        assert_eq!(
-            outcome(*implementation, case),
-            outcome(compare::REFERENCE, case),
-            "{} differs",
-            implementation.name
-        );
+    for case in cases {
+        for implementation in &implementations {
+            assert_eq!(
+                outcome(*implementation, case),
+                outcome(compare::REFERENCE, case),
+                "{} differs",
+                implementation.name
+            );
+        }
     }
-    let mut taken = vec![Vec::new(); implementations.len()];
+    let mut outs: Vec<Vec<u8>> = cases.iter().map(|case| vec![0; case.out_len]).collect();
+    let mut taken = vec![vec![Vec::new(); implementations.len()]; cases.len()];
     for _ in 0..ROUNDS {
-        let mut quickest = vec![f64::INFINITY; implementations.len()];
-        for turn in 0..CALLS * implementations.len() {
-            let index = turn % implementations.len();
-            quickest[index] = quickest[index].min(call(implementations[index], case, &mut out));
-        }
-        for (taken, quickest) in taken.iter_mut().zip(quickest) {
-            taken.push(quickest);
+        for ((case, out), taken) in cases.iter().zip(&mut outs).zip(&mut taken) {
+            let mut quickest = vec![f64::INFINITY; implementations.len()];
+            for turn in 0..CALLS * implementations.len() {
+                let index = turn % implementations.len();
+                quickest[index] = quickest[index].min(call(implementations[index], case, out));
+            }
+            for (taken, quickest) in taken.iter_mut().zip(quickest) {
+                taken.push(quickest);
+            }
         }
     }
-    (0..implementations.len())
-        .map(|index| {
-            let ratios = taken[0].iter().zip(&taken[index]).map(|(first, this)| first / this).collect();
-            (median(taken[index].clone()), median(ratios))
-        })
-        .collect()
+    let of_case = |taken: Vec<Vec<f64>>| {
+        (0..implementations.len())
+            .map(|index| {
+                let ratios = taken[0].iter().zip(&taken[index]).map(|(first, this)| first / this).collect();
+                (median(taken[index].clone()), median(ratios))
+            })
+            .collect()
+    };
+    taken.into_iter().map(of_case).collect()
 }
 
 /// Runs an implementation so many times, for callgrind.
@@ -166,26 +174,26 @@ fn tables() -> String {
     );
     let _ = writeln!(text, "Nanoseconds per event, and median of the ratios of {ROUNDS} rounds:\n");
     columns(&mut text, "trace of 8,192 bytes");
-    let row = |text: &mut String, name: &str, case: &Case| {
-        let events = events(case);
-        let times = time(case);
-        let _ = write!(text, "| {name} | {events} |");
-        for (nanoseconds, _) in &times {
-            let _ = write!(text, " {:.2} |", nanoseconds / events as f64);
+    let rows = |text: &mut String, names: &[String], cases: &[Case]| {
+        for ((name, case), times) in names.iter().zip(cases).zip(time(cases)) {
+            let events = events(case);
+            let _ = write!(text, "| {name} | {events} |");
+            for (nanoseconds, _) in &times {
+                let _ = write!(text, " {:.2} |", nanoseconds / events as f64);
+            }
+            for (_, ratio) in &times[1..] {
+                let _ = write!(text, " {ratio:.2} |");
+            }
+            let _ = writeln!(text);
         }
-        for (_, ratio) in &times[1..] {
-            let _ = write!(text, " {ratio:.2} |");
-        }
-        let _ = writeln!(text);
     };
-    for (shape, name) in SHAPES {
-        row(&mut text, name, &draw::timed(SEED, shape, TRACE_MAX));
-    }
+    let cases = SHAPES.map(|(shape, _)| draw::timed(SEED, shape, TRACE_MAX));
+    rows(&mut text, &SHAPES.map(|(_, name)| name.to_string()), &cases);
 
     let _ = writeln!(text, "\nInstructions per event, counted by callgrind:\n");
     columns(&mut text, "trace of 8,192 bytes");
-    for (shape, name) in SHAPES {
-        let events = events(&draw::timed(SEED, shape, TRACE_MAX));
+    for ((_, name), case) in SHAPES.iter().zip(&cases) {
+        let events = events(case);
         let counts: Vec<Option<u64>> =
             implementations.iter().map(|implementation| instructions(*implementation, name, TRACE_MAX)).collect();
         let _ = write!(text, "| {name} | {events} |");
@@ -206,13 +214,14 @@ fn tables() -> String {
 
     let _ = writeln!(text, "\nNanoseconds per event as traces grow, mixed:\n");
     columns(&mut text, "bytes");
-    for kib in [1, 2, 4, 8] {
-        let length = kib * 1024;
-        row(&mut text, &length.to_string(), &draw::timed(SEED, Shape::Mixed, length));
-    }
+    let lengths = [1, 2, 4, 8].map(|kib| kib * 1024);
+    rows(
+        &mut text,
+        &lengths.map(|length| length.to_string()),
+        &lengths.map(|length| draw::timed(SEED, Shape::Mixed, length)),
+    );
 
     let _ = write!(text, "\nStack use of a run in bytes, the most over the traces of 8,192 bytes:");
-    let cases = SHAPES.map(|(shape, _)| draw::timed(SEED, shape, TRACE_MAX));
     for (index, implementation) in implementations.iter().enumerate() {
         let used = stack::used(implementation.run, &cases);
         let _ = write!(text, "{} {} {used}", if index == 0 { "" } else { "," }, title(*implementation));
