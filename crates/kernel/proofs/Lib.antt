@@ -26,7 +26,6 @@ pub mod Agreement
 pub mod Fitting
 pub mod Theorems
 pub mod Edges
-pub mod CodeRows
 pub mod CodeCore
 pub mod CodeTests
 pub mod CodeEvents

@@ -1,7 +1,6 @@
 // Who runs: the highest request wins, and is dispatched only strictly above the level.
 ghost use mathlib.Core.Path.{_≡_};
-ghost use mathlib.Core.Bool.{cond};
-ghost use Rattle.stack.specs.Stack.{top, pushed, popped};
+ghost use Rattle.stack.specs.Stack.{top, popped};
 ghost use Rattle.kernel.specs.Arbiter.{arbitrated, laidOn, resumed};
 use super::Core;
 use super::Picked;

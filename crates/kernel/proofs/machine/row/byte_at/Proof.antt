@@ -3,7 +3,7 @@
 use mathlib.Core.Path.{sym}
 use borrow.Author.Needs.{needs}
 use lib.ListN.{List·getD-eq-default}
-use Rattle.kernel.proofs.CodeRows.{getD-within}
+use Rattle.plan.proofs.Stored.{getD-any}
 use Rattle.kernel.proofs.machine.row.byte_at.Statement.{statement}
 use Rattle.kernel.proofs.machine.row.byte_at.Tie as tie
 
@@ -11,7 +11,7 @@ shared-slice-read-result : tie.Need-shared-slice-read-result
 shared-slice-read-result c = search needs
 
 returns : tie.Need-returns
-returns c = let a = c .before .before .args in getD-within (a .row .now) (a .i) 0 (a .past) (c .before .if1 .taken)
+returns c = let a = c .before .before .args in getD-any (a .row .now) (a .i) 0 (a .past) (c .before .if1 .taken)
 
 returns-2 : tie.Need-returns-2
 returns-2 c = let a = c .before .args in sym (List·getD-eq-default (a .row .now) (a .past) (c .if1 .left))
