@@ -1,9 +1,10 @@
-//! What a set of runs has shown: every refusal of the run, and every status of every event.
+//! What a set of runs has shown: every refusal of the run, every status of every event, every body begun at once, every
+//! resource held at once.
 
 use std::fmt;
 
 use crate::draw::Case;
-use crate::reference::{self, IDLE};
+use crate::reference::{self, Kernel, NextDue, BODIES_MAX, IDLE, RESOURCES_MAX};
 
 /// The run's refusals.
 pub const REFUSALS: [u32; 15] = [1, 2, 3, 4, 5, 6, 7, 8, 9, 10, 20, 21, 22, 23, 30];
@@ -37,6 +38,9 @@ pub struct Coverage {
     greatest_loss: u16,
     exact_output: u64,
     longest_trace: usize,
+    /// The most bodies that had begun at once, and the most resources held at once.
+    most_begun: usize,
+    most_held: usize,
 }
 
 impl Coverage {
@@ -52,10 +56,16 @@ impl Coverage {
         self.longest_trace = self.longest_trace.max(case.trace.len());
         let events = result as usize;
         self.events += events as u64;
+        let config = reference::read_config(&case.config).expect("the run accepted the configuration");
+        let mut kernel = Kernel::<NextDue>::fresh(&config);
         let mut at = 0;
         for answer in out.chunks_exact(4).take(events) {
             let code = usize::from(case.trace[at]);
-            (_, at) = reference::read_event(&case.trace, at).expect("the run accepted the trace");
+            let (event, next) = reference::read_event(&case.trace, at).expect("the run accepted the trace");
+            at = next;
+            kernel.step(event);
+            self.most_begun = self.most_begun.max(kernel.begun_bodies());
+            self.most_held = self.most_held.max(kernel.held_resources());
             self.statuses[code][usize::from(answer[0])] += 1;
             self.begun[code] += u64::from(answer[3]);
             self.idle += u64::from(answer[1] == IDLE);
@@ -87,6 +97,8 @@ impl Coverage {
         self.greatest_loss = self.greatest_loss.max(other.greatest_loss);
         self.exact_output += other.exact_output;
         self.longest_trace = self.longest_trace.max(other.longest_trace);
+        self.most_begun = self.most_begun.max(other.most_begun);
+        self.most_held = self.most_held.max(other.most_held);
     }
 
     /// What has not occurred and should have; empty if nothing is missing.
@@ -103,6 +115,12 @@ impl Coverage {
                     missing.push(format!("status {status} of {name}"));
                 }
             }
+        }
+        if self.most_begun < BODIES_MAX {
+            missing.push(format!("more than {} bodies begun at once", self.most_begun));
+        }
+        if self.most_held < RESOURCES_MAX {
+            missing.push(format!("more than {} resources held at once", self.most_held));
         }
         missing
     }
@@ -143,10 +161,11 @@ impl fmt::Display for Coverage {
             self.losses,
             self.greatest_loss
         )?;
-        write!(
+        writeln!(
             f,
             "longest accepted trace: {} bytes, outputs of exactly the needed length: {}",
             self.longest_trace, self.exact_output
-        )
+        )?;
+        write!(f, "most bodies begun at once: {}, most resources held at once: {}", self.most_begun, self.most_held)
     }
 }

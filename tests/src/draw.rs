@@ -257,10 +257,15 @@ struct Habits {
     look: usize,
     /// Weights of the event codes 1 to 9.
     weight: [usize; 9],
+    /// Whether the body that is woken is the lowest one above the level, so that the stack of preempted bodies grows.
+    climb: bool,
 }
 
 fn draw_habits(random: &mut Random) -> Habits {
+    let climb = random.below(8) == 0;
     let weight = match random.below(7) {
+        // Bodies one above the other.
+        _ if climb => [12, 1, 0, 4, 1, 1, 12, 0, 0],
         // Activations and ends.
         0 => [8, 8, 4, 2, 3, 2, 4, 1, 1],
         // Resources, nested.
@@ -275,7 +280,7 @@ fn draw_habits(random: &mut Random) -> Habits {
         5 => [4, 4, 2, 4, 4, 0, 3, 1, 1],
         _ => [1; 9],
     };
-    Habits { look: random.pick(&[30, 40, 50, 50, 60, 80]), weight }
+    Habits { look: random.pick(&[30, 40, 50, 50, 60, 80]), weight, climb }
 }
 
 /// A number that is an id, or nearly one, or any.
@@ -296,6 +301,17 @@ fn any_delay(random: &mut Random, largest_offset: u32) -> u32 {
         4 => random.between(1, 65_535) as u32,
         5 => random.between(1, 300) as u32,
         _ => random.between(1, 6) as u32,
+    }
+}
+
+/// Activate or Line of the lowest suspended body above the level.
+fn next_above(config: &Config, kernel: &Kernel<NextDue>) -> Option<Event> {
+    let above = |body: &u32| kernel.is_suspended(*body) && config.priority(*body) > kernel.level();
+    let body = (0..config.bodies() as u32).filter(above).min_by_key(|body| config.priority(*body))?;
+    if config.is_isr(body) {
+        Some(Event::Line(body))
+    } else {
+        kernel.runner().map(|_| Event::Activate(body))
     }
 }
 
@@ -375,7 +391,9 @@ fn draw_event(random: &mut Random, config: &Config, kernel: &Kernel<NextDue>, ha
     if random.chance(habits.look) {
         for _ in 0..4 {
             let code = draw_code(random);
-            if let Some(event) = good_event(random, config, kernel, code) {
+            let climbs = habits.climb && (code == 1 || code == 7);
+            let event = if climbs { next_above(config, kernel) } else { good_event(random, config, kernel, code) };
+            if let Some(event) = event {
                 return event;
             }
         }
@@ -760,6 +778,7 @@ fn timed_trace(random: &mut Random, config: &Config, shape: Shape, length: usize
             Shape::Mixed => [5, 6, 2, 4, 4, 7, 4, 2, 1],
             Shape::Ticks => [0, 0, 0, 0, 0, 1, 0, 0, 0],
         },
+        climb: false,
     };
     let mut kernel = Kernel::<NextDue>::fresh(config);
     let mut trace = Vec::new();

@@ -266,6 +266,10 @@ impl Config {
         id < BODIES_MAX as u32 && self.isr_numbers >> id & 1 == 1
     }
 
+    pub fn priority(&self, body: u32) -> u8 {
+        self.priority[usize::from(self.rank[body as usize])]
+    }
+
     pub fn ceiling(&self, resource: usize) -> u8 {
         self.ceiling[resource]
     }
@@ -734,6 +738,19 @@ impl<'c, T: Timers> Kernel<'c, T> {
     /// The running body's number.
     pub fn runner(&self) -> Option<u32> {
         (!self.is_idle()).then_some(u32::from(self.running.number))
+    }
+
+    pub fn level(&self) -> u8 {
+        self.running.level
+    }
+
+    /// How many bodies have begun and not ended.
+    pub fn begun_bodies(&self) -> usize {
+        self.depth
+    }
+
+    pub fn held_resources(&self) -> usize {
+        usize::from(self.held_count)
     }
 
     pub fn is_suspended(&self, body: u32) -> bool {

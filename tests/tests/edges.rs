@@ -2,7 +2,7 @@
 //! stand with the cells in src/reference.rs.
 
 use osek_tests::compare::{check, others};
-use osek_tests::draw::Case;
+use osek_tests::draw::{push_number, Case};
 use osek_tests::guard::GuardedRun;
 use osek_tests::listing::{listing, DOCUMENT_CONFIG, DOCUMENT_LISTING, DOCUMENT_TRACE};
 use osek_tests::reference::OUTPUT_MAX;
@@ -372,4 +372,94 @@ fn a_ready_or_started_task_is_at_its_limit_and_loses_nothing() {
          5 1 4 0 5 0
          6 1 4 0 5 0",
     );
+}
+
+/// So many tasks, body 0 ready at the fresh start, each of a greater priority than the one before: `priority(body)`.
+fn rising_tasks(bodies: u8) -> Vec<u8> {
+    let mut config = vec![1, bodies];
+    for body in 0..bodies {
+        config.extend([0, priority(body), u8::from(body == 0)]);
+    }
+    config
+}
+
+fn priority(body: u8) -> u8 {
+    3 * body + 1
+}
+
+/// A trace and its rows, written side by side.
+#[derive(Default)]
+struct Script {
+    trace: Vec<u8>,
+    rows: Vec<String>,
+}
+
+impl Script {
+    /// An event and what it gives: status, runner, level, begun mark.
+    fn event(&mut self, event: &[u8], status: u8, runner: &str, level: u8, begun: u8) {
+        self.rows.push(format!("{} {} {status} {runner} {level} {begun}", self.rows.len(), event[0]));
+        self.trace.extend(event);
+    }
+}
+
+#[test]
+fn all_32_bodies_are_preempted_in_turn_and_come_back() {
+    let config = [rising_tasks(32), vec![0, 0]].concat();
+    let mut script = Script::default();
+    for body in 1..32 {
+        script.event(&[1, body], 0, &body.to_string(), priority(body), 1);
+    }
+    for body in (0..31).rev() {
+        script.event(&[2], 0, &body.to_string(), priority(body), 0);
+    }
+    script.event(&[2], 0, "-", 0, 0);
+    script.event(&[2], 2, "-", 0, 0);
+    assert_rows(&config, &script.trace, &script.rows.join("\n"));
+}
+
+#[test]
+fn bodies_that_hold_all_16_resources_come_back_at_their_levels() {
+    // Body 2k takes resource k, whose ceiling is the priority of body 2k + 1; then body 2k + 2 begins.
+    let masks = (0..16).flat_map(|k| number(3 << (2 * k)));
+    let config = [rising_tasks(32), vec![16], masks.collect(), vec![0]].concat();
+    let mut script = Script::default();
+    for k in 0..16 {
+        script.event(&[4, k], 0, &(2 * k).to_string(), priority(2 * k + 1), 0);
+        if k < 15 {
+            script.event(&[1, 2 * k + 2], 0, &(2 * k + 2).to_string(), priority(2 * k + 2), 1);
+        }
+    }
+    for k in (0..16).rev() {
+        let runner = (2 * k).to_string();
+        script.event(&[2], 6, &runner, priority(2 * k + 1), 0);
+        script.event(&[5, k], 0, &runner, priority(2 * k), 0);
+        match k.checked_sub(1) {
+            Some(below) => script.event(&[2], 0, &(2 * below).to_string(), priority(2 * below + 1), 0),
+            None => script.event(&[2], 0, "-", 0, 0),
+        }
+    }
+    assert_rows(&config, &script.trace, &script.rows.join("\n"));
+}
+
+#[test]
+fn one_body_holds_all_16_resources_and_gives_them_back() {
+    // Resource k has the ceiling of body k + 1.
+    let masks = (0..16).flat_map(|k| number(1 | 2 << k));
+    let config = [rising_tasks(17), vec![16], masks.collect(), vec![0]].concat();
+    let mut script = Script::default();
+    for k in 0..16 {
+        script.event(&[4, k], 0, "0", priority(k + 1), 0);
+        script.event(&[4, k], 1, "0", priority(k + 1), 0);
+    }
+    for k in (0..16).rev() {
+        script.event(&[5, k], 0, "0", priority(k), 0);
+        script.event(&[5, k], 5, "0", priority(k), 0);
+    }
+    assert_rows(&config, &script.trace, &script.rows.join("\n"));
+}
+
+fn number(value: u32) -> Vec<u8> {
+    let mut bytes = Vec::new();
+    push_number(&mut bytes, value);
+    bytes
 }
