@@ -1,4 +1,4 @@
--- What the code on a core computes: arbitration.
+-- What the code of the arbiter computes: on a core, and on a model before and after its runner ended.
 -- Assumes nothing.
 use Prim.Native.Nat.{ℕ, _≤_, _<_}
 use mathlib.Core.Path.{_≡_}
@@ -7,9 +7,13 @@ use mathlib.Core.List.{List}
 use borrow.Author.Tests.{lt-ltb, le-ltb}
 use lib.ListN.{getD}
 use Rattle.word.specs.Word.{with, without, winner}
+use Rattle.stack.specs.declared.Stack.{Stack}
+use Rattle.stack.specs.Stack.{top, popped}
 use Rattle.kernel.specs.declared.machine.Core.{Core}
 use Rattle.kernel.specs.declared.machine.Picked.{Picked}
-use Rattle.kernel.specs.Arbiter.{winning, arbitrated}
+use Rattle.kernel.specs.declared.machine.Model.{Model}
+use Rattle.kernel.specs.Model.{doneWith}
+use Rattle.kernel.specs.Arbiter.{winning, arbitrated, laidOn, settled, resumed, leaving}
 
 -- the winner r has the priority l
 module _ (ps : List ℕ) (k : Core) {r l : ℕ} (won : r ≡ winner (k .request)) (worth : l ≡ getD ps r 0) where
@@ -23,3 +27,31 @@ module _ (ps : List ℕ) (k : Core) {r l : ℕ} (won : r ≡ winner (k .request)
   unfolding arbitrated
   arbitrated-above h used runs =
       rw (used, runs, worth, won, lt-ltb (k .level) (winning ps k) (rw (worth, won) at h))
+
+-- another core, with its stack
+abbrev withFrames : Model → Core → Stack → Stack → Model
+withFrames m k s v =
+    record {
+      core = k;
+      stack = s;
+      levels = v;
+      held = m .held;
+      resource = m .resource;
+      holder = m .holder;
+      raised = m .raised;
+      counter = m .counter;
+      on = m .on;
+      losses = m .losses;
+    }
+
+module _ (ps : List ℕ) (m : Model) where
+  pub settled-made : {p : Picked} → p ≡ arbitrated ps (m .core)
+      → {s : Stack} → s ≡ laidOn (p .begun) (m .stack) (m .core .runner) → {v : Stack} → v ≡ laidOn (p .begun) (m .levels) (m .core .level)
+      → doneWith (withFrames m (p .core) s v) (p .begun) ≡ settled ps m
+  settled-made picked ranks levels = rw (ranks, levels, picked)
+
+  pub ended-made : {k : Core} → k ≡ resumed (m .stack) (m .levels) (m .core) → {p : Picked} → p ≡ arbitrated ps k
+      → {s : Stack} → s ≡ laidOn (p .begun) (popped (m .stack)) (top (m .stack))
+      → {v : Stack} → v ≡ laidOn (p .begun) (popped (m .levels)) (top (m .levels))
+      → doneWith (withFrames m (p .core) s v) (p .begun) ≡ settled ps (leaving m)
+  ended-made left picked ranks levels = rw (ranks, levels, picked, left)

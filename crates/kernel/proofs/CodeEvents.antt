@@ -10,34 +10,12 @@ use borrow.Author.Tests.{le-leb, lt-leb, eq-eqb, ne-eqb}
 use Rattle.scheduler.specs.Status.{callLevel, noSuch, limit, access, noFunction, holdsResource, firstOf}
 use Rattle.word.specs.Word.{has, with, without}
 use Rattle.stack.specs.declared.Row.{Row}
-use Rattle.stack.specs.declared.Stack.{Stack}
-use Rattle.stack.specs.Stack.{topRow, pushRow, popRow, top, popped}
-use Rattle.kernel.specs.declared.machine.Core.{Core}
-use Rattle.kernel.specs.declared.machine.Picked.{Picked}
+use Rattle.stack.specs.Stack.{topRow, pushRow, popRow}
 use Rattle.kernel.specs.declared.machine.Model.{Model}
-use Rattle.kernel.specs.Model.{noRank, withRequest, withLevel, doneWith, refusedWith}
-use Rattle.kernel.specs.Arbiter.{arbitrated, laidOn, resumed}
+use Rattle.kernel.specs.Model.{noRank, withLevel, doneWith, refusedWith}
+use Rattle.kernel.specs.Arbiter.{settled, leaving, requesting}
 use Rattle.kernel.specs.Resources.{latest, levelWithout}
 use Rattle.kernel.specs.Events.{idles, busy, activated, finished, chained, got, released, lined}
-
--- another core, stack and row of slots
-abbrev withSlots : Model → Core → Stack → Stack → ℕ → Row → Row → Row → Model
-withSlots m k s v w xs hs vs =
-    record {
-      core = k;
-      stack = s;
-      levels = v;
-      held = w;
-      resource = xs;
-      holder = hs;
-      raised = vs;
-      counter = m .counter;
-      on = m .on;
-      losses = m .losses;
-    }
-
-abbrev withFrames : Model → Core → Stack → Stack → Model
-withFrames m k s v = withSlots m k s v (m .held) (m .resource) (m .holder) (m .raised)
 
 -- Finish
 module _ (ps : List ℕ) (m : Model) where
@@ -50,13 +28,9 @@ module _ (ps : List ℕ) (m : Model) where
     unfolding finished firstOf
     finish-holding own = rw (ne-eqb (m .core .runner) noRank runs, ← holder, eq-eqb h (m .core .runner) own)
 
-    pub finish-done : (h ≡ m .core .runner → ⊥) → {k : Core} → k ≡ resumed (m .stack) (m .levels) (m .core) → {p : Picked} → p ≡ arbitrated ps k
-        → {s : Stack} → s ≡ laidOn (p .begun) (popped (m .stack)) (top (m .stack))
-        → {v : Stack} → v ≡ laidOn (p .begun) (popped (m .levels)) (top (m .levels))
-        → doneWith (withFrames m (p .core) s v) (p .begun) ≡ finished ps m
+    pub finish-done : (h ≡ m .core .runner → ⊥) → settled ps (leaving m) ≡ finished ps m
     unfolding finished firstOf
-    finish-done free left picked ranks levels =
-        rw (ne-eqb (m .core .runner) noRank runs, ← holder, ne-eqb h (m .core .runner) free, ranks, levels, picked, left)
+    finish-done free = rw (ne-eqb (m .core .runner) noRank runs, ← holder, ne-eqb h (m .core .runner) free)
 
 -- Activate t
 module _ (trs ps : List ℕ) (m : Model) (t : ℕ) where
@@ -74,12 +48,9 @@ module _ (trs ps : List ℕ) (m : Model) (t : ℕ) where
       unfolding activated firstOf
       activate-busy h = rw (ne-eqb (m .core .runner) noRank runs, ← rank, ne-eqb r noRank some, sym test ∙ h)
 
-      pub activate-done : b ≡ false → {p : Picked} → p ≡ arbitrated ps (withRequest (m .core) (with (m .core .request) r))
-          → {s : Stack} → s ≡ laidOn (p .begun) (m .stack) (m .core .runner) → {v : Stack} → v ≡ laidOn (p .begun) (m .levels) (m .core .level)
-          → doneWith (withFrames m (p .core) s v) (p .begun) ≡ activated trs ps m t
+      pub activate-done : b ≡ false → settled ps (requesting r m) ≡ activated trs ps m t
       unfolding activated firstOf
-      activate-done h picked ranks levels =
-          rw (ne-eqb (m .core .runner) noRank runs, ← rank, ne-eqb r noRank some, sym test ∙ h, ranks, levels, picked)
+      activate-done h = rw (ne-eqb (m .core .runner) noRank runs, ← rank, ne-eqb r noRank some, sym test ∙ h)
 
 -- Line i
 module _ (lrs ps : List ℕ) (m : Model) (i : ℕ) {r : ℕ} (rank : r ≡ getD lrs i noRank) where
@@ -92,11 +63,9 @@ module _ (lrs ps : List ℕ) (m : Model) (i : ℕ) {r : ℕ} (rank : r ≡ getD 
     unfolding lined firstOf
     line-waits h = rw (← rank, ne-eqb r noRank some, sym test ∙ h)
 
-    pub line-done : b ≡ false → {p : Picked} → p ≡ arbitrated ps (withRequest (m .core) (with (m .core .request) r))
-        → {s : Stack} → s ≡ laidOn (p .begun) (m .stack) (m .core .runner) → {v : Stack} → v ≡ laidOn (p .begun) (m .levels) (m .core .level)
-        → doneWith (withFrames m (p .core) s v) (p .begun) ≡ lined lrs ps m i
+    pub line-done : b ≡ false → settled ps (requesting r m) ≡ lined lrs ps m i
     unfolding lined firstOf
-    line-done h picked ranks levels = rw (← rank, ne-eqb r noRank some, sym test ∙ h, ranks, levels, picked)
+    line-done h = rw (← rank, ne-eqb r noRank some, sym test ∙ h)
 
 -- Chain t
 module _ (ws : ℕ) (trs ps : List ℕ) (m : Model) (t : ℕ) {a : Bool} (calls : a ≡ idles m || has ws (m .core .runner)) where
@@ -119,25 +88,26 @@ module _ (ws : ℕ) (trs ps : List ℕ) (m : Model) (t : ℕ) {a : Bool} (calls 
         unfolding chained firstOf
         chain-busy e = rw (sym calls ∙ runs, ← rank, ne-eqb r noRank some, ← holder, ne-eqb h (m .core .runner) free, sym test ∙ e)
 
-        pub chain-done : d ≡ false → {k : Core} → k ≡ resumed (m .stack) (m .levels) (m .core)
-            → {p : Picked} → p ≡ arbitrated ps (withRequest k (with (k .request) r))
-            → {s : Stack} → s ≡ laidOn (p .begun) (popped (m .stack)) (top (m .stack))
-            → {v : Stack} → v ≡ laidOn (p .begun) (popped (m .levels)) (top (m .levels))
-            → doneWith (withFrames m (p .core) s v) (p .begun) ≡ chained ws trs ps m t
+        pub chain-done : d ≡ false → settled ps (leaving (requesting r m)) ≡ chained ws trs ps m t
         unfolding chained firstOf
-        chain-done e left picked ranks levels =
-            rw (
-              sym calls ∙ runs,
-              ← rank,
-              ne-eqb r noRank some,
-              ← holder,
-              ne-eqb h (m .core .runner) free,
-              sym test ∙ e,
-              ranks,
-              levels,
-              picked,
-              left,
-            )
+        chain-done e =
+            rw (sym calls ∙ runs, ← rank, ne-eqb r noRank some, ← holder, ne-eqb h (m .core .runner) free, sym test ∙ e)
+
+-- another level and row of slots
+abbrev withSlots : Model → ℕ → ℕ → Row → Row → Row → Model
+withSlots m l w xs hs vs =
+    record {
+      core = withLevel (m .core) l;
+      stack = m .stack;
+      levels = m .levels;
+      held = w;
+      resource = xs;
+      holder = hs;
+      raised = vs;
+      counter = m .counter;
+      on = m .on;
+      losses = m .losses;
+    }
 
 -- Get r
 module _ (n : ℕ) (cs ps : List ℕ) (m : Model) (r : ℕ) where
@@ -161,7 +131,7 @@ module _ (n : ℕ) (cs ps : List ℕ) (m : Model) (r : ℕ) where
           → {xs : Row} → xs ≡ pushRow (m .resource) r
           → {hs : Row} → hs ≡ pushRow (m .holder) (m .core .runner)
           → {vs : Row} → vs ≡ pushRow (m .raised) v
-          → doneWith (withSlots m (withLevel (m .core) v) (m .stack) (m .levels) w xs hs vs) false ≡ got n cs ps m r
+          → doneWith (withSlots m v w xs hs vs) false ≡ got n cs ps m r
       unfolding got firstOf
       get-done h level x₁ x₂ x₃ x₄ =
           rw (ne-eqb (m .core .runner) noRank runs, lt-leb n r some, ← ceil, ← own, sym test ∙ h, x₁, x₂, x₃, x₄, level)
@@ -182,14 +152,12 @@ module _ (n : ℕ) (ps : List ℕ) (m : Model) (r : ℕ) where
       unfolding released firstOf
       release-other h = rw (ne-eqb (m .core .runner) noRank runs, lt-leb n r some, sym test ∙ h)
 
-      pub release-done : b ≡ true → {l : ℕ} → l ≡ levelWithout ps m → {k : Core} → k ≡ withLevel (m .core) l
-          → {p : Picked} → p ≡ arbitrated ps k
-          → {s : Stack} → s ≡ laidOn (p .begun) (m .stack) (m .core .runner) → {v : Stack} → v ≡ laidOn (p .begun) (m .levels) l
+      pub release-done : b ≡ true → {l : ℕ} → l ≡ levelWithout ps m
           → {w : ℕ} → w ≡ without (m .held) r
           → {xs : Row} → xs ≡ popRow (m .resource)
           → {hs : Row} → hs ≡ popRow (m .holder)
           → {vs : Row} → vs ≡ popRow (m .raised)
-          → doneWith (withSlots m (p .core) s v w xs hs vs) (p .begun) ≡ released n ps m r
+          → settled ps (withSlots m l w xs hs vs) ≡ released n ps m r
       unfolding released firstOf
-      release-done h level lowered picked ranks levels x₁ x₂ x₃ x₄ =
-          rw (ne-eqb (m .core .runner) noRank runs, lt-leb n r some, sym test ∙ h, x₁, x₂, x₃, x₄, ranks, levels, picked, lowered, level)
+      release-done h level x₁ x₂ x₃ x₄ =
+          rw (ne-eqb (m .core .runner) noRank runs, lt-leb n r some, sym test ∙ h, x₁, x₂, x₃, x₄, level)

@@ -1,6 +1,9 @@
 // The machine's model, and its methods: the fresh start, and one method by value for each event.
 //
 // A body stands in the model by its rank among the priorities, so that a greater rank is a greater priority.
+ghost use mathlib.Core.Path.{_≡_};
+ghost use Rattle.kernel.specs.Model.{refusedWith};
+
 mod arbiter;
 mod bodies;
 mod cells;
@@ -74,4 +77,17 @@ pub struct Outcome {
     pub model: Model,
     pub status: u8,
     pub begun: bool,
+}
+
+impl Model {
+    // The answer to an event that lets nobody begin.
+    fn with_status(self, status: u8) -> Outcome
+        ensures { λ r. ⌜ r ≡ refusedWith self status ⌝ }
+    {
+        Outcome {
+            model: self,
+            status,
+            begun: false,
+        }
+    }
 }

@@ -1,14 +1,62 @@
-// Who runs: the highest request wins, and is dispatched only strictly above the level.
+// Who runs: the highest request wins, and is dispatched only strictly above the level; whom it preempts waits on the stack.
 ghost use mathlib.Core.Path.{_≡_};
 ghost use Rattle.stack.specs.Stack.{top, popped};
-ghost use Rattle.kernel.specs.Arbiter.{arbitrated, laidOn, resumed};
+ghost use Rattle.kernel.specs.Arbiter.{arbitrated, laidOn, settled, resumed, leaving, requesting};
 use super::Core;
+use super::DONE;
+use super::Model;
+use super::Outcome;
 use super::Picked;
 use super::row::byte_at;
 use stack::Stack;
 use word::winner;
 use word::with;
 use word::without;
+
+impl Model {
+    // The model after arbitration, which ends every event that may let a body begin.
+    pub fn settled(mut self, priority: &[u8; 32]) -> Outcome
+        ensures { λ r. ⌜ r ≡ settled (now (priority .entry)) self ⌝ }
+    {
+        let core = self.core;
+        let picked = arbitrated(core, priority);
+        self.stack = laid(picked.begun, self.stack, core.runner);
+        self.levels = laid(picked.begun, self.levels, core.level);
+        let k = picked.core;
+        self.core = k;
+        Outcome {
+            model: self,
+            status: DONE,
+            begun: picked.begun,
+        }
+    }
+
+    // The same once the runner has ended.
+    pub fn ended(mut self, priority: &[u8; 32]) -> Outcome
+        ensures { λ r. ⌜ r ≡ settled (now (priority .entry)) (leaving self) ⌝ }
+    {
+        let below = resumed(self.core, self.stack, self.levels);
+        let picked = arbitrated(below, priority);
+        self.stack = left(picked.begun, self.stack);
+        self.levels = left(picked.begun, self.levels);
+        let k = picked.core;
+        self.core = k;
+        Outcome {
+            model: self,
+            status: DONE,
+            begun: picked.begun,
+        }
+    }
+
+    // The body of this rank asked for.
+    pub fn requesting(mut self, rank: u8) -> Model
+        ensures { λ r. ⌜ r ≡ requesting rank self ⌝ }
+    {
+        let request = with(self.core.request, rank as u32);
+        self.core.request = request;
+        self
+    }
+}
 
 // The core after arbitration. A winner that is dispatched has its request used up.
 pub fn arbitrated(core: Core, priority: &[u8; 32]) -> Picked
@@ -40,7 +88,7 @@ pub fn laid(begun: bool, below: Stack, x: u8) -> Stack
 }
 
 // The core after its runner ended: who is on top of the stack runs again, at its level.
-pub fn resumed(core: Core, stack: Stack, levels: Stack) -> Core
+fn resumed(core: Core, stack: Stack, levels: Stack) -> Core
     ensures { λ r. ⌜ r ≡ resumed stack levels core ⌝ }
 {
     let started = without(core.started, core.runner as u32);
@@ -53,7 +101,7 @@ pub fn resumed(core: Core, stack: Stack, levels: Stack) -> Core
 }
 
 // The stack after its runner ended and arbitration: where a body began, it preempts who was on top, so that nothing moves.
-pub fn left(begun: bool, stack: Stack) -> Stack
+fn left(begun: bool, stack: Stack) -> Stack
     ensures { λ r. ⌜ r ≡ laidOn begun (popped stack) (top stack) ⌝ }
 {
     if begun { stack } else { stack.pop() }

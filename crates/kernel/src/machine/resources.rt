@@ -6,19 +6,15 @@ ghost use lib.Dec.{ltb, eqb};
 ghost use lib.ListN.{getD};
 ghost use Rattle.word.specs.Word.{has};
 ghost use Rattle.stack.specs.Stack.{topRow, secondRow};
-ghost use Rattle.kernel.specs.Model.{withLevel};
 ghost use Rattle.kernel.specs.Events.{got, released};
 use super::ACCESS;
 use super::CALL_LEVEL;
-use super::Core;
 use super::DONE;
 use super::Model;
 use super::NO_FUNCTION;
 use super::NO_RANK;
 use super::NO_SUCH;
 use super::Outcome;
-use super::arbiter::arbitrated;
-use super::arbiter::laid;
 use super::row::byte_at;
 use stack::Row;
 use word::has;
@@ -37,27 +33,15 @@ impl Model {
     {
         let core = self.core;
         if core.runner == NO_RANK {
-            return Outcome {
-                model: self,
-                status: CALL_LEVEL,
-                begun: false,
-            };
+            return self.with_status(CALL_LEVEL);
         }
         if resources as u32 <= r {
-            return Outcome {
-                model: self,
-                status: NO_SUCH,
-                begun: false,
-            };
+            return self.with_status(NO_SUCH);
         }
         let top = byte_at(ceiling, r as usize, 0);
         let own = byte_at(priority, core.runner as usize, 0);
         if withheld(self.held, r, top, own) {
-            return Outcome {
-                model: self,
-                status: ACCESS,
-                begun: false,
-            };
+            return self.with_status(ACCESS);
         }
         let level = higher(top, core.level);
         self.held = with(self.held, r);
@@ -65,11 +49,7 @@ impl Model {
         self.holder = self.holder.push(core.runner);
         self.raised = self.raised.push(level);
         self.core.level = level;
-        Outcome {
-            model: self,
-            status: DONE,
-            begun: false,
-        }
+        self.with_status(DONE)
     }
 
     pub fn release(mut self, resources: u8, priority: &[u8; 32], r: u32) -> Outcome
@@ -77,41 +57,21 @@ impl Model {
     {
         let core = self.core;
         if core.runner == NO_RANK {
-            return Outcome {
-                model: self,
-                status: CALL_LEVEL,
-                begun: false,
-            };
+            return self.with_status(CALL_LEVEL);
         }
         if resources as u32 <= r {
-            return Outcome {
-                model: self,
-                status: NO_SUCH,
-                begun: false,
-            };
+            return self.with_status(NO_SUCH);
         }
         if !is_latest(self.resource, self.holder, core.runner, r) {
-            return Outcome {
-                model: self,
-                status: NO_FUNCTION,
-                begun: false,
-            };
+            return self.with_status(NO_FUNCTION);
         }
         let level = level_without(self.holder, self.raised, core.runner, priority);
-        let picked = arbitrated(at_level(core, level), priority);
-        self.stack = laid(picked.begun, self.stack, core.runner);
-        self.levels = laid(picked.begun, self.levels, level);
+        self.core.level = level;
         self.held = without(self.held, r);
         self.resource = self.resource.pop();
         self.holder = self.holder.pop();
         self.raised = self.raised.pop();
-        let k = picked.core;
-        self.core = k;
-        Outcome {
-            model: self,
-            status: DONE,
-            begun: picked.begun,
-        }
+        self.settled(priority)
     }
 }
 
@@ -136,18 +96,6 @@ fn level_without(holder: Row, raised: Row, rank: u8, priority: &[u8; 32]) -> u8
     let own = byte_at(priority, rank as usize, 0);
     let below = raised.second();
     if holder.second() == rank { below } else { own }
-}
-
-// The core at another level.
-fn at_level(core: Core, level: u8) -> Core
-    ensures { λ r. ⌜ r ≡ withLevel core level ⌝ }
-{
-    Core {
-        request: core.request,
-        started: core.started,
-        runner: core.runner,
-        level,
-    }
 }
 
 fn higher(a: u8, b: u8) -> u8

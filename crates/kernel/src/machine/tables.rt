@@ -5,12 +5,14 @@ ghost use Prim.Native.Nat.{_+_};
 ghost use lib.Dec.{ltb, eqb};
 ghost use lib.ListN.{getD};
 ghost use Rattle.scheduler.specs.Call.{longestDelay};
+ghost use Rattle.kernel.specs.Model.{withRequest};
 ghost use Rattle.kernel.specs.Cells.{isOn};
 ghost use Rattle.kernel.specs.Events.{tickedOnce, launched, halted};
 ghost use Rattle.kernel.specs.Code.{Laid, Reached};
 use super::ALREADY_RUNS;
 use super::BAD_DELAY;
 use super::CALL_LEVEL;
+use super::Core;
 use super::DONE;
 use super::Model;
 use super::NO_FUNCTION;
@@ -19,7 +21,6 @@ use super::NO_SUCH;
 use super::Outcome;
 use super::arbiter::arbitrated;
 use super::arbiter::laid;
-use super::bodies::asking;
 use super::cells::OFF;
 use super::cells::ON;
 use super::cells::start_counters;
@@ -31,6 +32,7 @@ use super::row::byte_at;
 use super::row::short_at;
 
 impl Model {
+    // It ends as `settled` does, written out: with the cells' arrays in hand, a call by value would copy them.
     pub fn tick<'a>(
         mut self,
         compare: &'a [u16; 64],
@@ -81,35 +83,19 @@ impl Model {
         ensures { λ r. ⌜ r ≡ launched tables (now (first .entry)) (now (largest .entry)) (now (entries .entry)) (now (period .entry)) (now (offset .entry)) self t d ⌝ }
     {
         if self.core.runner == NO_RANK {
-            return Outcome {
-                model: self,
-                status: CALL_LEVEL,
-                begun: false,
-            };
+            return self.with_status(CALL_LEVEL);
         }
         if tables as u32 <= t {
-            return Outcome {
-                model: self,
-                status: NO_SUCH,
-                begun: false,
-            };
+            return self.with_status(NO_SUCH);
         }
         let i = t as usize;
         let mut on = self.on;
         if is_bad_delay(d, short_at(largest, i)) {
-            return Outcome {
-                model: self,
-                status: BAD_DELAY,
-                begun: false,
-            };
+            return self.with_status(BAD_DELAY);
         }
         let from = byte_at(first, i, 0) as usize;
         if is_on(&on, from) {
-            return Outcome {
-                model: self,
-                status: ALREADY_RUNS,
-                begun: false,
-            };
+            return self.with_status(ALREADY_RUNS);
         }
         let n = byte_at(entries, i, 0) as usize;
         let mut counter = self.counter;
@@ -117,11 +103,7 @@ impl Model {
         switch(from, n, ON, &mut on);
         self.counter = counter;
         self.on = on;
-        Outcome {
-            model: self,
-            status: DONE,
-            begun: false,
-        }
+        self.with_status(DONE)
     }
 
     pub fn stop<'a>(
@@ -135,28 +117,16 @@ impl Model {
         ensures { λ r. ⌜ r ≡ halted tables (now (first .entry)) (now (entries .entry)) self t ⌝ }
     {
         if self.core.runner == NO_RANK {
-            return Outcome {
-                model: self,
-                status: CALL_LEVEL,
-                begun: false,
-            };
+            return self.with_status(CALL_LEVEL);
         }
         if tables as u32 <= t {
-            return Outcome {
-                model: self,
-                status: NO_SUCH,
-                begun: false,
-            };
+            return self.with_status(NO_SUCH);
         }
         let i = t as usize;
         let mut on = self.on;
         let from = byte_at(first, i, 0) as usize;
         if !is_on(&on, from) {
-            return Outcome {
-                model: self,
-                status: NO_FUNCTION,
-                begun: false,
-            };
+            return self.with_status(NO_FUNCTION);
         }
         let n = byte_at(entries, i, 0) as usize;
         let mut counter = self.counter;
@@ -164,11 +134,7 @@ impl Model {
         switch(from, n, OFF, &mut on);
         self.counter = counter;
         self.on = on;
-        Outcome {
-            model: self,
-            status: DONE,
-            begun: false,
-        }
+        self.with_status(DONE)
     }
 }
 
@@ -184,4 +150,16 @@ fn is_bad_delay(d: u32, largest: u16) -> bool
     ensures { λ r. ⌜ r ≡ eqb d 0 || ltb longestDelay (d + largest) ⌝ }
 {
     d == 0 || 65535 < d as u64 + largest as u64
+}
+
+// The core with other requests.
+fn asking(core: Core, request: u32) -> Core
+    ensures { λ r. ⌜ r ≡ withRequest core request ⌝ }
+{
+    Core {
+        request,
+        started: core.started,
+        runner: core.runner,
+        level: core.level,
+    }
 }
