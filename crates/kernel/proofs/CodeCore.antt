@@ -12,7 +12,7 @@ use Rattle.stack.specs.Stack.{top, popped}
 use Rattle.kernel.specs.declared.machine.Core.{Core}
 use Rattle.kernel.specs.declared.machine.Picked.{Picked}
 use Rattle.kernel.specs.declared.machine.Model.{Model}
-use Rattle.kernel.specs.Model.{doneWith}
+use Rattle.kernel.specs.Model.{withFrames, doneWith}
 use Rattle.kernel.specs.Arbiter.{winning, arbitrated, laidOn, settled, resumed, leaving}
 
 -- the winner r has the priority l
@@ -27,22 +27,6 @@ module _ (ps : List ℕ) (k : Core) {r l : ℕ} (won : r ≡ winner (k .request)
   unfolding arbitrated
   arbitrated-above h used runs =
       rw (used, runs, worth, won, lt-ltb (k .level) (winning ps k) (rw (worth, won) at h))
-
--- another core, with its stack
-abbrev withFrames : Model → Core → Stack → Stack → Model
-withFrames m k s v =
-    record {
-      core = k;
-      stack = s;
-      levels = v;
-      held = m .held;
-      resource = m .resource;
-      holder = m .holder;
-      raised = m .raised;
-      counter = m .counter;
-      on = m .on;
-      losses = m .losses;
-    }
 
 module _ (ps : List ℕ) (m : Model) where
   pub settled-made : {p : Picked} → p ≡ arbitrated ps (m .core)

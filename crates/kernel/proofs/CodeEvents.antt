@@ -12,7 +12,7 @@ use Rattle.word.specs.Word.{has, with, without}
 use Rattle.stack.specs.declared.Row.{Row}
 use Rattle.stack.specs.Stack.{topRow, pushRow, popRow}
 use Rattle.kernel.specs.declared.machine.Model.{Model}
-use Rattle.kernel.specs.Model.{noRank, withLevel, doneWith, refusedWith}
+use Rattle.kernel.specs.Model.{noRank, withSlots, doneWith, refusedWith}
 use Rattle.kernel.specs.Arbiter.{settled, leaving, requesting}
 use Rattle.kernel.specs.Resources.{latest, levelWithout}
 use Rattle.kernel.specs.Events.{idles, busy, activated, finished, chained, got, released, lined}
@@ -92,22 +92,6 @@ module _ (ws : ℕ) (trs ps : List ℕ) (m : Model) (t : ℕ) {a : Bool} (calls 
         unfolding chained firstOf
         chain-done e =
             rw (sym calls ∙ runs, ← rank, ne-eqb r noRank some, ← holder, ne-eqb h (m .core .runner) free, sym test ∙ e)
-
--- another level and row of slots
-abbrev withSlots : Model → ℕ → ℕ → Row → Row → Row → Model
-withSlots m l w xs hs vs =
-    record {
-      core = withLevel (m .core) l;
-      stack = m .stack;
-      levels = m .levels;
-      held = w;
-      resource = xs;
-      holder = hs;
-      raised = vs;
-      counter = m .counter;
-      on = m .on;
-      losses = m .losses;
-    }
 
 -- Get r
 module _ (n : ℕ) (cs ps : List ℕ) (m : Model) (r : ℕ) where

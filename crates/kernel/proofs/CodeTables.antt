@@ -14,7 +14,7 @@ use Rattle.stack.specs.declared.Stack.{Stack}
 use Rattle.kernel.specs.declared.machine.Core.{Core}
 use Rattle.kernel.specs.declared.machine.Picked.{Picked}
 use Rattle.kernel.specs.declared.machine.Model.{Model}
-use Rattle.kernel.specs.Model.{noRank, withRequest, withCells, doneWith, refusedWith}
+use Rattle.kernel.specs.Model.{noRank, withFrames, withRequest, withRest, withCells, doneWith, refusedWith}
 use Rattle.kernel.specs.Arbiter.{arbitrated, laidOn}
 use Rattle.kernel.specs.Cells.{switchOn, switchOff, isOn, countersTicked, marks, countersStarted, countersStopped, switched, Due, requestsDue}
 use Rattle.kernel.specs.Events.{marksOf, tickedOnce, launched, halted}
@@ -32,21 +32,7 @@ module _ (ks rs ps : List ℕ) (m : Model) where
       → {w : ℕ} {ls : List ℕ} → dueWith w ls ≡ requestsDue (m .core .started) ms rs (dueWith (m .core .request) (m .losses))
       → {k : Core} → k ≡ withRequest (m .core) w → {p : Picked} → p ≡ arbitrated ps k
       → {s : Stack} → s ≡ laidOn (p .begun) (m .stack) (m .core .runner) → {v : Stack} → v ≡ laidOn (p .begun) (m .levels) (m .core .level)
-      → doneWith
-      (record {
-        core = p .core;
-        stack = s;
-        levels = v;
-        held = m .held;
-        resource = m .resource;
-        holder = m .holder;
-        raised = m .raised;
-        counter = ns;
-        on = m .on;
-        losses = ls;
-      })
-      (p .begun)
-      ≡ tickedOnce ks rs ps m
+      → doneWith (withRest (withFrames m (p .core) s v) ns (m .on) ls) (p .begun) ≡ tickedOnce ks rs ps m
   unfolding tickedOnce
   tick-done marked counted due asked picked ranks levels =
       rw (ranks, levels, picked, asked, counted, ap (λ (x : Due). x .request) due, ap (λ (x : Due). x .losses) due, marked)

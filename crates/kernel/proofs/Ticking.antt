@@ -23,14 +23,14 @@ use Rattle.scheduler.specs.Tick as Plain
 use Rattle.scheduler.specs.Scheduler.{Tick, step}
 use Rattle.scheduler.proofs.Changing.{tables-ticked}
 use Rattle.kernel.specs.declared.machine.Model.{Model}
-use Rattle.kernel.specs.Model.{withCore, withRequest}
+use Rattle.kernel.specs.Model.{withCore, withRequest, withRest}
 use Rattle.kernel.specs.Arbiter.{settled}
 use Rattle.kernel.specs.Cells.{Due, oneMore, matchAt, requestsDue, countersTicked}
 use Rattle.kernel.specs.Events.{marksOf, dueOf, ticking, tickedOnce}
 use Rattle.kernel.specs.Machine.{machineStep, matched}
 use Rattle.kernel.proofs.Simulation.{Fitted, at, Tied, Lost, Sim}
 use Rattle.kernel.proofs.Standing.{by-phase}
-use Rattle.kernel.proofs.Touching.{withRest, elsewhere, woken-tied, lost-tied}
+use Rattle.kernel.proofs.Touching.{elsewhere, woken-tied, lost-tied}
 use Rattle.kernel.proofs.Arbitration.{settled-tied}
 use Rattle.kernel.proofs.Calls.{kept, lost-same, Agrees, agrees}
 use Rattle.kernel.proofs.Waking.{task-exists}

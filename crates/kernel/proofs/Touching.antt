@@ -20,27 +20,11 @@ use Rattle.word.proofs.Theorems.{has-with-same, has-with-other, with-lt}
 use Rattle.scheduler.specs.Body.{Body, isStarted, Phase, suspended, ready, started, become, requested, loses}
 use Rattle.scheduler.specs.State.{noBody}
 use Rattle.kernel.specs.declared.machine.Model.{Model}
-use Rattle.kernel.specs.Model.{withCore, withRequest}
+use Rattle.kernel.specs.Model.{withCore, withRequest, withRest}
 use Rattle.kernel.specs.Arbiter.{requesting}
 use Rattle.kernel.proofs.Simulation.{Fitted, at, wants, Tied}
 use Rattle.kernel.proofs.Chains.{Alike, levelsFor-alike, chained-alike, slotsAlong-alike}
 use Rattle.kernel.proofs.Standing.{waits-same}
-
--- the cells and the losses of a model replaced
-abbrev pub withRest : Model → List ℕ → List ℕ → List ℕ → Model
-withRest m ns os ls =
-    record {
-      core = m .core;
-      stack = m .stack;
-      levels = m .levels;
-      held = m .held;
-      resource = m .resource;
-      holder = m .holder;
-      raised = m .raised;
-      counter = ns;
-      on = os;
-      losses = ls;
-    }
 
 module _ (c : Config) (rk : ℕ → ℕ) (m : Model) (bs : List Body) (ch : List ℕ) (t : Tied c rk m bs ch) where
   pub elsewhere : (ns os ls : List ℕ) → Tied c rk (withRest m ns os ls) bs ch

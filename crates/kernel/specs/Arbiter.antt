@@ -17,7 +17,7 @@ use Rattle.kernel.specs.declared.machine.Core.{Core}
 use Rattle.kernel.specs.declared.machine.Picked.{Picked}
 use Rattle.kernel.specs.declared.machine.Model.{Model}
 use Rattle.kernel.specs.declared.machine.Outcome.{Outcome}
-use Rattle.kernel.specs.Model.{withCore, withRequest, doneWith}
+use Rattle.kernel.specs.Model.{withFrames, withCore, withRequest, doneWith}
 
 -- "the arbiter's winner is the highest bit set in that word": its priority, 0 where no bit is set
 abbrev pub winning : List ℕ → Core → ℕ
@@ -45,18 +45,9 @@ laidOn begun s x = cond begun (pushed s x) s
 -- "Preempted bodies with their levels lie on a stack": whoever ran before a body began, nobody too, is laid on it
 abbrev pub laying : Model → Picked → Model
 laying m p =
-    record {
-      core = p .core;
-      stack = laidOn (p .begun) (m .stack) (m .core .runner);
-      levels = laidOn (p .begun) (m .levels) (m .core .level);
-      held = m .held;
-      resource = m .resource;
-      holder = m .holder;
-      raised = m .raised;
-      counter = m .counter;
-      on = m .on;
-      losses = m .losses;
-    }
+    withFrames m (p .core)
+    (laidOn (p .begun) (m .stack) (m .core .runner))
+    (laidOn (p .begun) (m .levels) (m .core .level))
 
 abbrev pub settled : List ℕ → Model → Outcome
 settled ps m = doneWith (laying m (arbitrated ps (m .core))) (arbitrated ps (m .core) .begun)
@@ -67,19 +58,7 @@ resumed stack levels k =
     record { request = k .request; started = without (k .started) (k .runner); runner = top stack; level = top levels }
 
 abbrev pub leaving : Model → Model
-leaving m =
-    record {
-      core = resumed (m .stack) (m .levels) (m .core);
-      stack = popped (m .stack);
-      levels = popped (m .levels);
-      held = m .held;
-      resource = m .resource;
-      holder = m .holder;
-      raised = m .raised;
-      counter = m .counter;
-      on = m .on;
-      losses = m .losses;
-    }
+leaving m = withFrames m (resumed (m .stack) (m .levels) (m .core)) (popped (m .stack)) (popped (m .levels))
 
 -- the body of rank r asked for
 abbrev pub requesting : ℕ → Model → Model

@@ -12,7 +12,7 @@ use Rattle.scheduler.specs.Call.{longestDelay}
 use Rattle.word.specs.Word.{has}
 use Rattle.kernel.specs.declared.machine.Model.{Model}
 use Rattle.kernel.specs.declared.machine.Outcome.{Outcome}
-use Rattle.kernel.specs.Model.{noRank, withRequest, withCells, doneWith, refusedWith}
+use Rattle.kernel.specs.Model.{noRank, withCore, withRequest, withRest, withCells, doneWith, refusedWith}
 use Rattle.kernel.specs.Arbiter.{settled, leaving, requesting}
 use Rattle.kernel.specs.Resources.{holding, latest, taking, freeing}
 use Rattle.kernel.specs.Cells.{switchOn, switchOff, isOn, countersTicked, marks, countersStarted, countersStopped, switched, Due, requestsDue}
@@ -97,18 +97,10 @@ dueOf ks rs m =
 
 abbrev pub ticking : List ℕ → List ℕ → Model → Model
 ticking ks rs m =
-    record {
-      core = withRequest (m .core) (dueOf ks rs m .request);
-      stack = m .stack;
-      levels = m .levels;
-      held = m .held;
-      resource = m .resource;
-      holder = m .holder;
-      raised = m .raised;
-      counter = countersTicked maxEntries 0 ks (m .on) (m .counter);
-      on = m .on;
-      losses = dueOf ks rs m .losses;
-    }
+    withRest (withCore m (withRequest (m .core) (dueOf ks rs m .request)))
+    (countersTicked maxEntries 0 ks (m .on) (m .counter))
+    (m .on)
+    (dueOf ks rs m .losses)
 
 unfoldable pub tickedOnce : List ℕ → List ℕ → List ℕ → Model → Outcome
 tickedOnce ks rs ps m = settled ps (ticking ks rs m)

@@ -4,6 +4,8 @@
 use Prim.Native.Nat.{ℕ}
 use mathlib.Core.Bool.{Bool, false}
 use mathlib.Core.List.{List}
+use Rattle.stack.specs.declared.Row.{Row}
+use Rattle.stack.specs.declared.Stack.{Stack}
 use Rattle.stack.specs.Stack.{none}
 use Rattle.kernel.specs.declared.machine.Core.{Core}
 use Rattle.kernel.specs.declared.machine.Model.{Model}
@@ -13,12 +15,13 @@ use Rattle.kernel.specs.declared.machine.Outcome.{Outcome}
 abbrev pub noRank : ℕ
 noRank = none
 
-abbrev pub withCore : Model → Core → Model
-withCore m k =
+-- another core, with its stack and the levels on it
+abbrev pub withFrames : Model → Core → Stack → Stack → Model
+withFrames m k s v =
     record {
       core = k;
-      stack = m .stack;
-      levels = m .levels;
+      stack = s;
+      levels = v;
       held = m .held;
       resource = m .resource;
       holder = m .holder;
@@ -28,6 +31,9 @@ withCore m k =
       losses = m .losses;
     }
 
+abbrev pub withCore : Model → Core → Model
+withCore m k = withFrames m k (m .stack) (m .levels)
+
 -- the core with other requests
 abbrev pub withRequest : Core → ℕ → Core
 withRequest k w = record { request = w; started = k .started; runner = k .runner; level = k .level }
@@ -35,9 +41,25 @@ withRequest k w = record { request = w; started = k .started; runner = k .runner
 abbrev pub withLevel : Core → ℕ → Core
 withLevel k l = record { request = k .request; started = k .started; runner = k .runner; level = l }
 
--- other cells
-abbrev pub withCells : Model → List ℕ → List ℕ → Model
-withCells m ns os =
+-- another level, and other held resources: w as a word, the rows rs, hs and ls with their holders and levels
+abbrev pub withSlots : Model → ℕ → ℕ → Row → Row → Row → Model
+withSlots m l w rs hs ls =
+    record {
+      core = withLevel (m .core) l;
+      stack = m .stack;
+      levels = m .levels;
+      held = w;
+      resource = rs;
+      holder = hs;
+      raised = ls;
+      counter = m .counter;
+      on = m .on;
+      losses = m .losses;
+    }
+
+-- other counters, switches and losses
+abbrev pub withRest : Model → List ℕ → List ℕ → List ℕ → Model
+withRest m ns os ls =
     record {
       core = m .core;
       stack = m .stack;
@@ -48,8 +70,11 @@ withCells m ns os =
       raised = m .raised;
       counter = ns;
       on = os;
-      losses = m .losses;
+      losses = ls;
     }
+
+abbrev pub withCells : Model → List ℕ → List ℕ → Model
+withCells m ns os = withRest m ns os (m .losses)
 
 -- an event that is done, and one that is refused with a status
 abbrev pub doneWith : Model → Bool → Outcome

@@ -13,7 +13,7 @@ use lib.ListN.{getD}
 use Rattle.word.specs.Word.{with, without}
 use Rattle.stack.specs.Stack.{topRow, secondRow, pushRow, popRow}
 use Rattle.kernel.specs.declared.machine.Model.{Model}
-use Rattle.kernel.specs.Model.{withLevel}
+use Rattle.kernel.specs.Model.{withSlots}
 
 -- "the runner holds a resource": its slots are on top
 abbrev pub holding : Model → Bool
@@ -25,18 +25,7 @@ latest m r = holding m && eqb (topRow (m .resource)) r
 
 abbrev pub taking : ℕ → ℕ → Model → Model
 taking r l m =
-    record {
-      core = withLevel (m .core) l;
-      stack = m .stack;
-      levels = m .levels;
-      held = with (m .held) r;
-      resource = pushRow (m .resource) r;
-      holder = pushRow (m .holder) (m .core .runner);
-      raised = pushRow (m .raised) l;
-      counter = m .counter;
-      on = m .on;
-      losses = m .losses;
-    }
+    withSlots m l (with (m .held) r) (pushRow (m .resource) r) (pushRow (m .holder) (m .core .runner)) (pushRow (m .raised) l)
 
 -- the level of the runner without its latest resource: that of the slot below if it is its own, else its own priority
 abbrev pub levelWithout : List ℕ → Model → ℕ
@@ -45,15 +34,4 @@ levelWithout ps m =
 
 abbrev pub freeing : List ℕ → ℕ → Model → Model
 freeing ps r m =
-    record {
-      core = withLevel (m .core) (levelWithout ps m);
-      stack = m .stack;
-      levels = m .levels;
-      held = without (m .held) r;
-      resource = popRow (m .resource);
-      holder = popRow (m .holder);
-      raised = popRow (m .raised);
-      counter = m .counter;
-      on = m .on;
-      losses = m .losses;
-    }
+    withSlots m (levelWithout ps m) (without (m .held) r) (popRow (m .resource)) (popRow (m .holder)) (popRow (m .raised))

@@ -1,6 +1,7 @@
 // Who runs: the highest request wins, and is dispatched only strictly above the level; whom it preempts waits on the stack.
 ghost use mathlib.Core.Path.{_≡_};
 ghost use Rattle.stack.specs.Stack.{top, popped};
+ghost use Rattle.kernel.specs.Model.{withFrames, doneWith};
 ghost use Rattle.kernel.specs.Arbiter.{arbitrated, laidOn, settled, resumed, leaving, requesting};
 use super::Core;
 use super::DONE;
@@ -15,32 +16,35 @@ use word::without;
 
 impl Model {
     // The model after arbitration, which ends every event that may let a body begin.
-    pub fn settled(mut self, priority: &[u8; 32]) -> Outcome
+    pub fn settled(self, priority: &[u8; 32]) -> Outcome
         ensures { λ r. ⌜ r ≡ settled (now (priority .entry)) self ⌝ }
     {
         let core = self.core;
         let picked = arbitrated(core, priority);
-        self.stack = laid(picked.begun, self.stack, core.runner);
-        self.levels = laid(picked.begun, self.levels, core.level);
-        let k = picked.core;
-        self.core = k;
-        Outcome {
-            model: self,
-            status: DONE,
-            begun: picked.begun,
-        }
+        let stack = laid(picked.begun, self.stack, core.runner);
+        let levels = laid(picked.begun, self.levels, core.level);
+        self.with_frames(picked, stack, levels)
     }
 
     // The same once the runner has ended.
-    pub fn ended(mut self, priority: &[u8; 32]) -> Outcome
+    pub fn ended(self, priority: &[u8; 32]) -> Outcome
         ensures { λ r. ⌜ r ≡ settled (now (priority .entry)) (leaving self) ⌝ }
     {
         let below = resumed(self.core, self.stack, self.levels);
         let picked = arbitrated(below, priority);
-        self.stack = left(picked.begun, self.stack);
-        self.levels = left(picked.begun, self.levels);
-        let k = picked.core;
-        self.core = k;
+        let stack = left(picked.begun, self.stack);
+        let levels = left(picked.begun, self.levels);
+        self.with_frames(picked, stack, levels)
+    }
+
+    // The model with the core that arbitration picked, and its stack.
+    pub fn with_frames(mut self, picked: Picked, stack: Stack, levels: Stack) -> Outcome
+        ensures { λ r. ⌜ r ≡ doneWith (withFrames self (picked .core) stack levels) (picked .begun) ⌝ }
+    {
+        let core = picked.core;
+        self.core = core;
+        self.stack = stack;
+        self.levels = levels;
         Outcome {
             model: self,
             status: DONE,

@@ -32,7 +32,7 @@ use super::row::byte_at;
 use super::row::short_at;
 
 impl Model {
-    // It ends as `settled` does, written out: with the cells' arrays in hand, a call by value would copy them.
+    // It ends as `settled` does; called with the new counters and losses, that would make the compiler copy them once more.
     pub fn tick<'a>(
         mut self,
         compare: &'a [u16; 64],
@@ -54,17 +54,11 @@ impl Model {
             &mut losses,
         );
         let picked = arbitrated(asking(core, request), priority);
+        let stack = laid(picked.begun, self.stack, core.runner);
+        let levels = laid(picked.begun, self.levels, core.level);
         self.counter = counter;
-        self.stack = laid(picked.begun, self.stack, core.runner);
-        self.levels = laid(picked.begun, self.levels, core.level);
         self.losses = losses;
-        let k = picked.core;
-        self.core = k;
-        Outcome {
-            model: self,
-            status: DONE,
-            begun: picked.begun,
-        }
+        self.with_frames(picked, stack, levels)
     }
 
     pub fn start<'a>(

@@ -1,5 +1,6 @@
 -- `ended` meets its contract: who is on top of the stack runs again, then arbitration.
 -- Assumes nothing.
+use mathlib.Core.Path.{_∙_}
 use Rattle.kernel.proofs.CodeCore.{ended-made}
 use borrow.Author.Needs.{needs}
 use Rattle.kernel.proofs.machine.Model.ended.Statement.{statement}
@@ -17,12 +18,23 @@ left-requires c κs = search needs
 left-requires-2 : tie.Need-left-requires-2
 left-requires-2 c κs = search needs
 
+with-frames-requires : tie.Need-with-frames-requires
+with-frames-requires c κs = search needs
+
 returns : tie.Need-returns
 returns c =
     let c₁ = c .before in let c₂ = c₁ .before in let c₃ = c₂ .before in let c₄ = c₃ .before in let c₅ = c₄ .before in
     let a = c₅ .args in
-    ended-made (a .priority .now) (a .self) (c₄ .resumed .ensures) (c₃ .arbitrated .ensures) (c₂ .left .ensures) (c₁ .left2 .ensures)
+    (c .with-frames .ensures)
+    ∙ ended-made (a .priority .now) (a .self) (c₄ .resumed .ensures) (c₃ .arbitrated .ensures) (c₂ .left .ensures) (c₁ .left2 .ensures)
 
 pub ended-spec : {M : Type 1} → statement M
 ended-spec =
-    tie.close (tie.spec resumed-requires arbitrated-requires left-requires left-requires-2 returns)
+    tie.close
+    (tie.spec
+    resumed-requires
+    arbitrated-requires
+    left-requires
+    left-requires-2
+    with-frames-requires
+    returns)

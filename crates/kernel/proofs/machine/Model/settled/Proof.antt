@@ -1,5 +1,6 @@
 -- `settled` meets its contract: arbitration, and what it lays on the stack.
 -- Assumes nothing.
+use mathlib.Core.Path.{_∙_}
 use Rattle.kernel.proofs.CodeCore.{settled-made}
 use borrow.Author.Needs.{needs}
 use Rattle.kernel.proofs.machine.Model.settled.Statement.{statement}
@@ -14,11 +15,16 @@ laid-requires c κs = search needs
 laid-requires-2 : tie.Need-laid-requires-2
 laid-requires-2 c κs = search needs
 
+with-frames-requires : tie.Need-with-frames-requires
+with-frames-requires c κs = search needs
+
 returns : tie.Need-returns
 returns c =
     let c₁ = c .before in let c₂ = c₁ .before in let c₃ = c₂ .before in let c₄ = c₃ .before .before in
     let a = c₄ .args in
-    settled-made (a .priority .now) (a .self) (c₃ .arbitrated .ensures) (c₂ .laid .ensures) (c₁ .laid2 .ensures)
+    (c .with-frames .ensures) ∙ settled-made (a .priority .now) (a .self) (c₃ .arbitrated .ensures) (c₂ .laid .ensures) (c₁ .laid2 .ensures)
 
 pub settled-spec : {M : Type 1} → statement M
-settled-spec = tie.close (tie.spec arbitrated-requires laid-requires laid-requires-2 returns)
+settled-spec =
+    tie.close
+    (tie.spec arbitrated-requires laid-requires laid-requires-2 with-frames-requires returns)

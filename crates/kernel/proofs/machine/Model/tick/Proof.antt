@@ -1,5 +1,6 @@
 -- `tick` meets its contract: the cells, then the matches in table order, then arbitration.
 -- Assumes nothing.
+use mathlib.Core.Path.{_∙_}
 use Rattle.config.specs.Value.{maxEntries}
 use Rattle.kernel.proofs.CodeTables.{length-marks, tick-done}
 use borrow.Author.Needs.{needs}
@@ -27,12 +28,16 @@ laid-requires c κs = search needs
 laid-requires-2 : tie.Need-laid-requires-2
 laid-requires-2 c κs = search needs
 
+with-frames-requires : tie.Need-with-frames-requires
+with-frames-requires c κs = search needs
+
 returns : tie.Need-returns
 returns c =
     let c₁ = c .before in let c₂ = c₁ .before in let c₃ = c₂ .before in let c₄ = c₃ .before in let c₅ = c₄ .before in
     let c₆ = c₅ .before .before .before in let c₇ = c₆ .before .before .before .before .before .before .before in
     let a = c₇ .args in
-    tick-done (a .compare .now) (a .entry-rank .now) (a .priority .now) (a .self) (c₆ .tick-cells .ensures .0) (c₆ .tick-cells .ensures .1)
+    (c .with-frames .ensures)
+    ∙ tick-done (a .compare .now) (a .entry-rank .now) (a .priority .now) (a .self) (c₆ .tick-cells .ensures .0) (c₆ .tick-cells .ensures .1)
     (c₅ .take-matches .ensures) (c₄ .asking .ensures) (c₃ .arbitrated .ensures) (c₂ .laid .ensures) (c₁ .laid2 .ensures)
 
 pub tick-spec : {M : Type 1} → statement M
@@ -45,4 +50,5 @@ tick-spec =
     arbitrated-requires
     laid-requires
     laid-requires-2
+    with-frames-requires
     returns)
