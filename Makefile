@@ -18,8 +18,10 @@ run: bench
 bench:
 	@rt check bench > /dev/null
 
-# The library that C links: target/staticlib/libkernel.a, with the symbol osek_run.
-staticlib:
+# The library that C links, with the symbol osek_run: proved and built again only where a source is newer.
+staticlib: $(LIBRARY)
+
+$(LIBRARY): KIT crates.txt $(shell find crates -name must-fail -prune -o -type f -print)
 	@rt staticlib kernel > /dev/null
 
 host: staticlib

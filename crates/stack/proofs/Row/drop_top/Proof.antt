@@ -16,7 +16,7 @@ pop-word-requires-2 c κs = search needs
 
 returns : tie.Need-returns
 unfolding dropRow
-returns c = cc
+returns c = rw (c .pop-word2 .ensures, c .before .pop-word .ensures, c .before .before .first-byte .ensures)
 
 pub drop-top-spec : {M : Type 1} → statement M
 drop-top-spec =
