@@ -13,6 +13,7 @@ use lib.ListN.{getD, set}
 use Rattle.cell.specs.declared.Cell.{Cell}
 use Rattle.cell.specs.Cell.{unmarked, startCell, ticked}
 use Rattle.word.specs.Word.{has, with}
+use Rattle.scheduler.specs.Body.{mostLosses}
 
 -- a switch is a number as wide as a counter, so that cells are ticked several at once
 abbrev pub switchOn : ℕ
@@ -58,7 +59,7 @@ pub record Due : Type 0 where
 
 -- "its loss count rises by 1 and stays at 65,535 once there"
 abbrev pub oneMore : ℕ → ℕ
-oneMore n = min (n + 1) 65535
+oneMore n = min (n + 1) mostLosses
 
 -- a match of an entry whose task has rank r: a request where the task is suspended, else a loss; w: the started bodies
 abbrev pub matchAt : ℕ → ℕ → Due → Due

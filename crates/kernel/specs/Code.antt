@@ -8,6 +8,8 @@ use Prim.Native.Nat.{ℕ, _+_, _*_, _≤_, _<_}
 use mathlib.Core.Bool.{Bool, cond}
 use mathlib.Core.List.{List, [], _∷_}
 use lib.ListN.{getD}
+use Rattle.config.specs.Value.{maxEntries}
+use Rattle.scheduler.specs.Call.{longestDelay}
 use Rattle.kernel.specs.Cells.{Due}
 
 abbrev pub dueWith : ℕ → List ℕ → Due
@@ -22,11 +24,11 @@ marksWord (b ∷ bs) = cond b 1 0 + 256 * marksWord bs
 
 -- d ticks before each of the k entries from e on, at the offsets os, the delay fits a counter
 pub record Delays (e k d : ℕ) (os : List ℕ) : Type 0 where
-  pub fits : (i : ℕ) → e ≤ i → i < e + k → d + getD os i 0 ≤ 65535
+  pub fits : (i : ℕ) → e ≤ i → i < e + k → d + getD os i 0 ≤ longestDelay
 
 -- the entries of n tables, es of them from fs on, lie in the row of cells
 pub record Laid (n : ℕ) (fs es : List ℕ) : Type 0 where
-  pub within : (t : ℕ) → t < n → getD fs t 0 + getD es t 0 ≤ 64
+  pub within : (t : ℕ) → t < n → getD fs t 0 + getD es t 0 ≤ maxEntries
 
 -- none of them has an offset, os, above its table's largest, gs
 pub record Reached (n : ℕ) (fs gs es os : List ℕ) : Type 0 where

@@ -127,7 +127,7 @@ fn lose(losses: &mut [u16], i: usize)
 fn one_more(n: u16) -> u16
     ensures { λ r. ⌜ r ≡ oneMore n ⌝ }
 {
-    if n < 65535 { n + 1 } else { 65535 }
+    if n < u16::MAX { n + 1 } else { u16::MAX }
 }
 
 // Starts the counters of `count` cells.
@@ -139,7 +139,7 @@ pub fn start_counters<'a, 'b>(
     offset: &'a [u16; 64],
     counter: &'b mut [u16; 64],
 )
-    requires { ⌜ from + count ≤ 64 ⌝ }
+    requires { ⌜ from + count ≤ maxEntries ⌝ }
     requires { ⌜ Delays from count delay (now offset) ⌝ }
     ensures { λ _. ⌜ now (counter .exit) ≡ countersStarted count from period delay (now (offset .entry)) (now (counter .entry)) ⌝ }
 {
@@ -154,7 +154,7 @@ pub fn start_counters<'a, 'b>(
 
 // Sets the counters of `count` cells to 0.
 pub fn stop_counters(from: usize, count: usize, counter: &mut [u16; 64])
-    requires { ⌜ from + count ≤ 64 ⌝ }
+    requires { ⌜ from + count ≤ maxEntries ⌝ }
     ensures { λ _. ⌜ now (counter .exit) ≡ countersStopped count from (now (counter .entry)) ⌝ }
 {
     let until = from + count;
@@ -167,7 +167,7 @@ pub fn stop_counters(from: usize, count: usize, counter: &mut [u16; 64])
 
 // Switches `count` cells on or off.
 pub fn switch(from: usize, count: usize, to: u16, on: &mut [u16; 64])
-    requires { ⌜ from + count ≤ 64 ⌝ }
+    requires { ⌜ from + count ≤ maxEntries ⌝ }
     ensures { λ _. ⌜ now (on .exit) ≡ switched count from to (now (on .entry)) ⌝ }
 {
     let until = from + count;
