@@ -3,10 +3,10 @@
 use std::fmt::Write;
 use std::sync::atomic::{AtomicU64, Ordering};
 
+use crate::cases::{self, Case};
 use crate::coverage::Coverage;
-use crate::draw::{self, Case};
+use crate::fast::{self, Cells, NextDue};
 use crate::guard::{self, GuardedRun, Run, Side};
-use crate::reference::{self, Cells, NextDue};
 use crate::{plain, shrink};
 
 /// An implementation of the run.
@@ -19,18 +19,16 @@ pub struct Implementation {
 }
 
 /// What all others are compared with.
-pub const REFERENCE: Implementation =
-    Implementation { name: "reference", run: reference::run::<NextDue>, guarded: false };
+pub const FAST: Implementation = Implementation { name: "fast", run: fast::run::<NextDue>, guarded: false };
 
-pub const CELLS: Implementation =
-    Implementation { name: "reference with cells", run: reference::run::<Cells>, guarded: false };
+pub const CELLS: Implementation = Implementation { name: "fast with cells", run: fast::run::<Cells>, guarded: false };
 
 pub const PLAIN: Implementation = Implementation { name: "plain scheduler", run: plain::run, guarded: false };
 
 #[cfg(feature = "linked")]
 pub const SUBJECT: Implementation = Implementation { name: "osek_run", run: crate::subject::run, guarded: true };
 
-/// Every implementation but [`REFERENCE`].
+/// Every implementation but [`FAST`].
 pub fn others() -> Vec<Implementation> {
     vec![
         #[cfg(feature = "linked")]
@@ -60,7 +58,7 @@ fn outcomes(implementation: Implementation, case: &Case, memory: &mut GuardedRun
 
 /// Compares a case; a difference is told in full, with the shortest trace that still shows it.
 pub fn check(case: &Case, implementations: &[Implementation], memory: &mut GuardedRun) -> Result<Outcome, String> {
-    let expected = outcome(REFERENCE, case);
+    let expected = outcome(FAST, case);
     for implementation in implementations {
         if outcomes(*implementation, case, memory).iter().any(|outcome| *outcome != expected) {
             return Err(describe(case, *implementation));
@@ -71,12 +69,12 @@ pub fn check(case: &Case, implementations: &[Implementation], memory: &mut Guard
 
 fn describe(case: &Case, implementation: Implementation) -> String {
     let first_difference = |case: &Case| {
-        let expected = outcome(REFERENCE, case);
+        let expected = outcome(FAST, case);
         let differing = outcomes(implementation, case, &mut GuardedRun::default()).into_iter().find(|o| *o != expected);
         differing.map(|outcome| (expected, outcome))
     };
     let shrunk = shrink::shrink(case, |case| first_difference(case).is_some());
-    let mut text = format!("{} differs from {}\n", implementation.name, REFERENCE.name);
+    let mut text = format!("{} differs from {}\n", implementation.name, FAST.name);
     let _ = writeln!(text, "configuration  {}", hex(&shrunk.config));
     let _ = writeln!(text, "trace          {}", hex(&shrunk.trace));
     let _ = writeln!(
@@ -90,7 +88,7 @@ fn describe(case: &Case, implementation: Implementation) -> String {
     let Some((expected, got)) = first_difference(&shrunk) else {
         return text + "the difference does not show a second time\n";
     };
-    for (name, (result, out)) in [(REFERENCE.name, &expected), (implementation.name, &got)] {
+    for (name, (result, out)) in [(FAST.name, &expected), (implementation.name, &got)] {
         let _ = writeln!(text, "{name}: {}", result_words(*result));
         let shown = out.len().min(4 * shrunk.trace.len() + 64);
         let _ = writeln!(text, "  {}", hex(&out[..shown]));
@@ -131,7 +129,7 @@ pub fn compare(
                 break;
             }
             guard::announce(seed, number);
-            let case = draw::case(seed, number);
+            let case = cases::case(seed, number);
             match check(&case, implementations, &mut memory) {
                 Ok((result, out)) => coverage.add(&case, result, &out),
                 Err(difference) => {

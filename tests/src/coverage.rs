@@ -3,8 +3,8 @@
 
 use std::fmt;
 
-use crate::draw::Case;
-use crate::reference::{self, Kernel, NextDue, BODIES_MAX, IDLE, RESOURCES_MAX};
+use crate::cases::Case;
+use crate::fast::{self, Kernel, NextDue, BODIES_MAX, IDLE, RESOURCES_MAX};
 
 /// The run's refusals.
 pub const REFUSALS: [u32; 15] = [1, 2, 3, 4, 5, 6, 7, 8, 9, 10, 20, 21, 22, 23, 30];
@@ -56,12 +56,12 @@ impl Coverage {
         self.longest_trace = self.longest_trace.max(case.trace.len());
         let events = result as usize;
         self.events += events as u64;
-        let config = reference::read_config(&case.config).expect("the run accepted the configuration");
+        let config = fast::read_config(&case.config).expect("the run accepted the configuration");
         let mut kernel = Kernel::<NextDue>::fresh(&config);
         let mut at = 0;
         for answer in out.chunks_exact(4).take(events) {
             let code = usize::from(case.trace[at]);
-            let (event, next) = reference::read_event(&case.trace, at).expect("the run accepted the trace");
+            let (event, next) = fast::read_event(&case.trace, at).expect("the run accepted the trace");
             at = next;
             kernel.step(event);
             self.most_begun = self.most_begun.max(kernel.begun_bodies());

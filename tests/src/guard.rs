@@ -6,7 +6,7 @@
 use std::cell::Cell;
 use std::ffi::{c_int, c_long, c_void};
 
-use crate::draw::Case;
+use crate::cases::Case;
 
 extern "C" {
     fn mmap(addr: *mut c_void, length: usize, prot: c_int, flags: c_int, fd: c_int, offset: i64) -> *mut c_void;

@@ -1,13 +1,13 @@
 //! The host tests of the OSEK reference: independent Rust implementations of document 01 and everything that compares them
 //! with the proved static library. README.md says how to run them.
 
+pub mod cases;
 pub mod compare;
 pub mod coverage;
-pub mod draw;
+pub mod fast;
 pub mod guard;
 pub mod listing;
 pub mod plain;
-pub mod reference;
 pub mod shrink;
 pub mod stack;
 #[cfg(feature = "linked")]

@@ -2,7 +2,7 @@
 
 use std::fmt::Write;
 
-use crate::reference;
+use crate::fast;
 
 /// Document 01's configuration.
 pub const DOCUMENT_CONFIG: [u8; 20] = [
@@ -50,8 +50,8 @@ pub fn listing(config: &[u8], trace: &[u8], result: u64, out: &[u8]) -> String {
     let mut at = 0;
     for (step, answer) in out.chunks_exact(4).take(events).enumerate() {
         let code = trace[at];
-        (_, at) = reference::read_event(trace, at).expect("the run accepted the trace");
-        let runner = if answer[1] == reference::IDLE { "-".into() } else { answer[1].to_string() };
+        (_, at) = fast::read_event(trace, at).expect("the run accepted the trace");
+        let runner = if answer[1] == fast::IDLE { "-".into() } else { answer[1].to_string() };
         let _ = writeln!(text, "{step} {code} {} {runner} {} {}", answer[0], answer[2], answer[3]);
     }
     let bodies = usize::from(config[1]);

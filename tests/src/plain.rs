@@ -1,6 +1,6 @@
 //! Document 01's plain scheduler, as slow and as near to its words as can be: a set of bodies, the runner chosen
 //! afresh after every event, tables with d and n. No rank, ready list, stack, kept level or cell; nothing here is
-//! shared with `reference`, so that a misreading in one of the two shows as a difference.
+//! shared with `fast`, so that a misreading in one of the two shows as a difference.
 
 use std::collections::BTreeSet;
 

@@ -1,13 +1,13 @@
 //! Makes the trace of a differing case as short as it can while the difference stays.
 
-use crate::draw::Case;
-use crate::reference;
+use crate::cases::Case;
+use crate::fast;
 
 /// The trace's events as byte strings; from the first one that can't be read on, single bytes.
 fn pieces(trace: &[u8]) -> Vec<Vec<u8>> {
     let mut pieces = Vec::new();
     let mut at = 0;
-    while let Ok((_, next)) = reference::read_event(trace, at) {
+    while let Ok((_, next)) = fast::read_event(trace, at) {
         pieces.push(trace[at..next].to_vec());
         at = next;
     }

@@ -3,7 +3,7 @@
 
 use std::ffi::{c_int, c_void};
 
-use crate::draw::Case;
+use crate::cases::Case;
 use crate::guard::Run;
 
 /// glibc's pthread_attr_t on 64-bit Linux, with room to spare.

@@ -1,11 +1,11 @@
 //! Document 01's listing and edges, worked by hand, shown by every implementation. P6 and P11 lie beyond a run's length and
-//! stand with the cells in src/reference.rs.
+//! stand with the cells in src/fast.rs.
 
+use osek_tests::cases::{push_number, Case};
 use osek_tests::compare::{check, others};
-use osek_tests::draw::{push_number, Case};
+use osek_tests::fast::OUTPUT_MAX;
 use osek_tests::guard::GuardedRun;
 use osek_tests::listing::{listing, DOCUMENT_CONFIG, DOCUMENT_LISTING, DOCUMENT_TRACE};
-use osek_tests::reference::OUTPUT_MAX;
 
 /// What every implementation gives, as a listing.
 fn shown(config: &[u8], trace: &[u8]) -> String {

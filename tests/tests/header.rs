@@ -5,7 +5,7 @@ use std::path::{Path, PathBuf};
 use std::process::Command;
 
 use osek_tests::coverage::REFUSALS;
-use osek_tests::reference::{CONFIG_MAX, IDLE, OUTPUT_MAX, TRACE_MAX};
+use osek_tests::fast::{CONFIG_MAX, IDLE, OUTPUT_MAX, TRACE_MAX};
 
 fn header() -> PathBuf {
     Path::new(env!("CARGO_MANIFEST_DIR")).join("../include/osek.h")

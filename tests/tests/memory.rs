@@ -2,8 +2,8 @@
 
 use std::process::Command;
 
+use osek_tests::cases::{self, Case, Shape};
 use osek_tests::compare::{self, Implementation};
-use osek_tests::draw::{self, Case, Shape};
 use osek_tests::guard::{announce, report_faults, GuardedRun, Run, Side};
 use osek_tests::stack;
 
@@ -75,7 +75,7 @@ fn a_write_far_from_the_guarded_side_is_seen() {
 fn empty_slices_are_not_touched() {
     let case = Case { config: vec![], trace: vec![], out_len: 0, fill: 0 };
     let mut memory = GuardedRun::default();
-    for implementation in [&[compare::REFERENCE][..], &compare::others()].concat() {
+    for implementation in [&[compare::FAST][..], &compare::others()].concat() {
         for side in [Side::Before, Side::After] {
             assert_eq!(memory.run(implementation.run, &case, side), (1 << 32, vec![]), "{}", implementation.name);
         }
@@ -98,9 +98,9 @@ const STACK_LIMIT: usize = 64 * 1024;
 
 #[test]
 fn a_run_needs_little_stack() {
-    let mut cases: Vec<Case> = (0..2_000).map(|number| draw::case(5, number)).collect();
-    cases.extend([Shape::NoTicks, Shape::Mixed, Shape::Ticks].map(|shape| draw::timed(1, shape, 8_192)));
-    let implementations: Vec<Implementation> = [&[compare::REFERENCE][..], &compare::others()].concat();
+    let mut cases: Vec<Case> = (0..2_000).map(|number| cases::case(5, number)).collect();
+    cases.extend([Shape::NoTicks, Shape::Mixed, Shape::Ticks].map(|shape| cases::timed(1, shape, 8_192)));
+    let implementations: Vec<Implementation> = [&[compare::FAST][..], &compare::others()].concat();
     for implementation in implementations {
         let used = stack::used(implementation.run, &cases);
         println!("stack use of {}: {used} bytes", implementation.name);

@@ -6,10 +6,10 @@ use std::path::{Path, PathBuf};
 use std::process::{Command, Output};
 use std::sync::atomic::{AtomicUsize, Ordering};
 
-use osek_tests::compare::{outcome, REFERENCE};
-use osek_tests::draw::{self, Case};
+use osek_tests::cases::{self, Case};
+use osek_tests::compare::{outcome, FAST};
+use osek_tests::fast::OUTPUT_MAX;
 use osek_tests::listing::{listing, DOCUMENT_CONFIG, DOCUMENT_LISTING, DOCUMENT_TRACE};
-use osek_tests::reference::OUTPUT_MAX;
 
 #[derive(Clone, Copy, PartialEq, Eq, Debug)]
 enum Program {
@@ -85,10 +85,10 @@ fn assert_shown(config: &[u8], trace: &[u8], expected: &str) {
     Folder::with(config, trace).assert_shown(expected);
 }
 
-/// What the reference gives with the programs' output buffer.
+/// What the fast Rust version gives with the programs' output buffer.
 fn expected(config: &[u8], trace: &[u8]) -> String {
     let case = Case { config: config.to_vec(), trace: trace.to_vec(), out_len: OUTPUT_MAX, fill: 0 };
-    let (result, out) = outcome(REFERENCE, &case);
+    let (result, out) = outcome(FAST, &case);
     listing(config, trace, result, &out)
 }
 
@@ -197,9 +197,9 @@ fn files_without_permission_are_40_and_41() {
 }
 
 #[test]
-fn drawn_cases_are_printed_as_the_reference_has_them() {
+fn drawn_cases_are_printed_as_the_fast_version_has_them() {
     for number in 0..200 {
-        let Case { config, trace, .. } = draw::case(7, number);
+        let Case { config, trace, .. } = cases::case(7, number);
         assert_shown(&config, &trace, &expected(&config, &trace));
     }
 }

@@ -1,8 +1,8 @@
 //! Every refusal at every kind of number, with its place, worked by hand and shown by every implementation.
 
+use osek_tests::cases::Case;
 use osek_tests::compare::{check, others};
 use osek_tests::coverage::REFUSALS;
-use osek_tests::draw::Case;
 use osek_tests::guard::GuardedRun;
 use osek_tests::listing::{DOCUMENT_CONFIG, DOCUMENT_TRACE};
 

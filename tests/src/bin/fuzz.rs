@@ -3,8 +3,8 @@
 use std::process::ExitCode;
 use std::time::Instant;
 
+use osek_tests::cases;
 use osek_tests::compare::{self, hex};
-use osek_tests::draw;
 
 fn main() -> ExitCode {
     let mut numbers = [1u64, 20_000, 0];
@@ -20,7 +20,7 @@ fn main() -> ExitCode {
     }
     let [seed, count, case] = numbers;
     let cases = if arguments.len() > 2 {
-        let drawn = draw::case(seed, case);
+        let drawn = cases::case(seed, case);
         println!("configuration  {}\ntrace          {}", hex(&drawn.config), hex(&drawn.trace));
         println!("output         {} bytes, fill {}", drawn.out_len, drawn.fill);
         case..case + 1
@@ -29,7 +29,7 @@ fn main() -> ExitCode {
     };
     let implementations = compare::others();
     let names: Vec<&str> = implementations.iter().map(|implementation| implementation.name).collect();
-    println!("seed {seed}: {} against {}", compare::REFERENCE.name, names.join(", "));
+    println!("seed {seed}: {} against {}", compare::FAST.name, names.join(", "));
     let start = Instant::now();
     match compare::compare(seed, cases, 2, &implementations) {
         Ok(coverage) => {

@@ -10,9 +10,9 @@ use std::fmt::Write;
 use std::process::{Command, ExitCode};
 use std::time::Instant;
 
+use osek_tests::cases::{self, Case, Shape};
 use osek_tests::compare::{self, outcome, Implementation};
-use osek_tests::draw::{self, Case, Shape};
-use osek_tests::reference::TRACE_MAX;
+use osek_tests::fast::TRACE_MAX;
 use osek_tests::stack;
 
 const ROUNDS: usize = 101;
@@ -28,7 +28,7 @@ fn implementations() -> Vec<Implementation> {
     vec![
         #[cfg(feature = "linked")]
         compare::SUBJECT,
-        compare::REFERENCE,
+        compare::FAST,
         compare::CELLS,
     ]
 }
@@ -36,8 +36,8 @@ fn implementations() -> Vec<Implementation> {
 /// How an implementation is called in the tables.
 fn title(implementation: Implementation) -> &'static str {
     match implementation.name {
-        "reference" => "Rust",
-        "reference with cells" => "Rust, cells",
+        "fast" => "Rust",
+        "fast with cells" => "Rust, cells",
         name => name,
     }
 }
@@ -65,7 +65,7 @@ fn main() -> ExitCode {
 }
 
 fn events(case: &Case) -> usize {
-    let (result, _) = outcome(compare::REFERENCE, case);
+    let (result, _) = outcome(compare::FAST, case);
     assert_eq!(result >> 32, 0, "a timed trace is accepted");
     result as usize
 }
@@ -89,12 +89,7 @@ fn time(cases: &[Case]) -> Vec<Vec<(f64, f64)>> {
     let implementations = implementations();
     for case in cases {
         for implementation in &implementations {
-            assert_eq!(
-                outcome(*implementation, case),
-                outcome(compare::REFERENCE, case),
-                "{} differs",
-                implementation.name
-            );
+            assert_eq!(outcome(*implementation, case), outcome(compare::FAST, case), "{} differs", implementation.name);
         }
     }
     let mut outs: Vec<Vec<u8>> = cases.iter().map(|case| vec![0; case.out_len]).collect();
@@ -127,7 +122,7 @@ fn repeat(implementation: &str, shape: &str, length: &str, times: &str) {
     let implementation =
         *implementations().iter().find(|other| other.name == implementation).expect("the implementation has a name");
     let shape = SHAPES.iter().find(|(_, name)| *name == shape).expect("the shape has a name").0;
-    let case = draw::timed(SEED, shape, length.parse().expect("a length"));
+    let case = cases::timed(SEED, shape, length.parse().expect("a length"));
     let mut out = vec![0; case.out_len];
     for _ in 0..times.parse().expect("a count") {
         std::hint::black_box((implementation.run)(&case.config, &case.trace, std::hint::black_box(&mut out)));
@@ -187,7 +182,7 @@ fn tables() -> String {
             let _ = writeln!(text);
         }
     };
-    let cases = SHAPES.map(|(shape, _)| draw::timed(SEED, shape, TRACE_MAX));
+    let cases = SHAPES.map(|(shape, _)| cases::timed(SEED, shape, TRACE_MAX));
     rows(&mut text, &SHAPES.map(|(_, name)| name.to_string()), &cases);
 
     let _ = writeln!(text, "\nInstructions per event, counted by callgrind:\n");
@@ -218,7 +213,7 @@ fn tables() -> String {
     rows(
         &mut text,
         &lengths.map(|length| length.to_string()),
-        &lengths.map(|length| draw::timed(SEED, Shape::Mixed, length)),
+        &lengths.map(|length| cases::timed(SEED, Shape::Mixed, length)),
     );
 
     let _ = write!(text, "\nStack use of a run in bytes, the most over the traces of 8,192 bytes:");

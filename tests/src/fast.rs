@@ -1,4 +1,4 @@
-//! The reference in Rust, written for speed: a ready list of one word, the started bodies on a stack, everything
+//! Document 01 in Rust, written for speed: a ready list of one word, the started bodies on a stack, everything
 //! changed in place. It follows document 01 and shares nothing with the Rattle code.
 //!
 //! In order: numbers, the configuration, events, the two kinds of timers, the kernel, the run.
@@ -835,7 +835,7 @@ mod tests {
     /// One autostart task, and one table of the given period with one entry at offset 0 for it.
     fn one_table(period: u32) -> Config {
         let mut bytes = vec![1, 1, 0, 1, 1, 0, 1];
-        crate::draw::push_number(&mut bytes, period);
+        crate::cases::push_number(&mut bytes, period);
         bytes.extend([1, 0, 0]);
         read_config(&bytes).expect("the configuration is accepted")
     }

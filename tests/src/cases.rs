@@ -3,7 +3,7 @@
 //! In order: random numbers, configurations biased to contention, traces that look at the kernel's state so that
 //! about half of the calls succeed, damage, the mix of all of them in [`case`], and long traces for timing.
 
-use crate::reference::{self, Config, Event, Kernel, NextDue, CONFIG_MAX, OUTPUT_MAX, TRACE_MAX};
+use crate::fast::{self, Config, Event, Kernel, NextDue, CONFIG_MAX, OUTPUT_MAX, TRACE_MAX};
 
 // Random numbers
 
@@ -609,7 +609,7 @@ fn damage_trace(random: &mut Random, trace: &mut Vec<u8>) {
     let boundaries = |trace: &[u8]| {
         let mut places = vec![0];
         let mut at = 0;
-        while let Ok((_, next)) = reference::read_event(trace, at) {
+        while let Ok((_, next)) = fast::read_event(trace, at) {
             places.push(next);
             at = next;
         }
@@ -677,7 +677,7 @@ impl Case {
 }
 
 fn draw_out_len(random: &mut Random, config: &[u8], trace: &[u8]) -> usize {
-    let needed = match (reference::read_config(config), reference::count_events(trace)) {
+    let needed = match (fast::read_config(config), fast::count_events(trace)) {
         (Ok(config), Ok(events)) => 4 * events + 2 * config.bodies(),
         _ => 4 * trace.len().min(TRACE_MAX),
     };
@@ -697,7 +697,7 @@ pub fn case(seed: u64, number: u64) -> Case {
     let mut random = Random::new(Random::new(seed).word() ^ number.wrapping_mul(0xd134_2543_de82_ef95));
     let mut plan = draw_plan(&mut random);
     let whole = number_bytes(&plan.numbers());
-    let config = reference::read_config(&whole).expect("a drawn configuration is accepted");
+    let config = fast::read_config(&whole).expect("a drawn configuration is accepted");
     let limit = draw_length(&mut random);
     let mut trace = draw_trace(&mut random, &config, limit);
     let mut config = whole;
@@ -732,7 +732,7 @@ pub fn timed(seed: u64, shape: Shape, length: usize) -> Case {
     let mut random = Random::new(seed);
     let plan = timed_plan(&mut random);
     let config = number_bytes(&plan.numbers());
-    let ready = reference::read_config(&config).expect("the timed configuration is accepted");
+    let ready = fast::read_config(&config).expect("the timed configuration is accepted");
     let trace = timed_trace(&mut random, &ready, shape, length);
     Case { config, trace, out_len: OUTPUT_MAX, fill: 0 }
 }
