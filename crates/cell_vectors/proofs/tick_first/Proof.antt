@@ -54,11 +54,11 @@ use Rattle.cell.proofs.row.tick_row as tick-row
 use Rattle.cell.proofs.row.tick_row.Symbol as tick-row-def
 use Rattle.cell.proofs.row.tick_row.Symbol.{name as #tick-row}
 use Rattle.cell.proofs.row.tick_row.Met as tick-row-thm
-use Rattle.rows.proofs.Local.{array-out, array-in}
-use Rattle.rows.proofs.tick_first.Key.{name as #tick-first}
-use Rattle.rows.proofs.tick_first as tick-first
-use Rattle.rows.proofs.tick_first.Statement as stated
-use Rattle.rows.proofs.tick_first.Code as code
+use Rattle.cell_vectors.proofs.Local.{array-out, array-in}
+use Rattle.cell_vectors.proofs.tick_first.Key.{name as #tick-first}
+use Rattle.cell_vectors.proofs.tick_first as tick-first
+use Rattle.cell_vectors.proofs.tick_first.Statement as stated
+use Rattle.cell_vectors.proofs.tick_first.Code as code
 
 abbrev stayed : Stays (tick-first.ended .signature .params) (tick-first.ended .kept)
 stayed = (stay-none (λ _. Array T.the-row 1000) yes, (stay-none (λ _. usize) yes, tt))

@@ -1,8 +1,8 @@
 -- `rows::show` is safe: it ticks nine times, and the row's length is at most that of the array. Assumes nothing.
 use Prim.Native.Nat.{_≤_, _-_}
 use borrow.Author.Needs.{needs}
-use Rattle.rows.proofs.show.Statement.{statement}
-use Rattle.rows.proofs.show.Tie as tie
+use Rattle.cell_vectors.proofs.show.Statement.{statement}
+use Rattle.cell_vectors.proofs.show.Tie as tie
 
 abbrev Inv-loop : tie.InvT-loop
 Inv-loop n row₀ counter₀ row counter = counter ≤ 9

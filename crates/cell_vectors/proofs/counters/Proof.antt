@@ -1,8 +1,8 @@
 -- `rows::counters` is safe: it adds at most 65,535 for each cell passed. Assumes nothing.
 use Prim.Native.Nat.{_≤_, _*_, _-_}
 use borrow.Author.Needs.{needs}
-use Rattle.rows.proofs.counters.Statement.{statement}
-use Rattle.rows.proofs.counters.Tie as tie
+use Rattle.cell_vectors.proofs.counters.Statement.{statement}
+use Rattle.cell_vectors.proofs.counters.Tie as tie
 
 abbrev Inv-loop : tie.InvT-loop
 Inv-loop from to row sum₀ i₀ sum i = sum ≤ 65535 * i

@@ -1,8 +1,8 @@
 -- `rows::cells` is safe: every place that it writes is one of the array's. Assumes nothing.
 use Prim.Native.Nat.{_≤_, _-_}
 use borrow.Author.Needs.{needs}
-use Rattle.rows.proofs.cells.Statement.{statement}
-use Rattle.rows.proofs.cells.Tie as tie
+use Rattle.cell_vectors.proofs.cells.Statement.{statement}
+use Rattle.cell_vectors.proofs.cells.Tie as tie
 
 abbrev Inv-loop : tie.InvT-loop
 Inv-loop row₀ i₀ row i = i ≤ 1000

@@ -3,8 +3,8 @@ use Prim.Native.Nat.{_≤_, _-_}
 use native.Mathlib.Omega.{arith}
 use mathlib.Core.Logic.{⊎-elim}
 use borrow.Author.Needs.{needs}
-use Rattle.rows.proofs.matches.Statement.{statement}
-use Rattle.rows.proofs.matches.Tie as tie
+use Rattle.cell_vectors.proofs.matches.Statement.{statement}
+use Rattle.cell_vectors.proofs.matches.Tie as tie
 
 abbrev Inv-loop : tie.InvT-loop
 Inv-loop n row count₀ i₀ count i = (i ≤ n) × (count ≤ i)
