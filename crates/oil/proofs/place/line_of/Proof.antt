@@ -1,0 +1,52 @@
+-- `line_of` meets its contract: what is left of the bytes before the place gives the line.
+-- Assumes nothing.
+use Prim.Native.Nat.{_+_, _-_, _≤_}
+use mathlib.Core.Path.{_≡_, refl, sym, _∙_}
+use native.Mathlib.Omega.{arith}
+use lib.ListN.{length, take, drop, getD}
+use Rattle.oil_grammar.specs.Reader.{lineAfter, lineOf}
+use Rattle.oil_grammar.proofs.Place.{line-step, line-end, line-le}
+use borrow.Author.Needs.{needs}
+use Rattle.oil.proofs.place.line_of.Statement.{statement}
+use Rattle.oil.proofs.place.line_of.Tie as tie
+
+abbrev Inv-loop : tie.InvT-loop
+Inv-loop text at line₀ i₀ line i = (i ≤ at) × ((line ≤ i + 1) × (lineAfter line (drop i (take at text)) ≡ lineOf text at))
+
+abbrev μ-loop : tie.MeasureT-loop
+μ-loop text at line₀ i₀ line i = at - i
+
+loop-holds : tie.Need-loop-holds Inv-loop μ-loop
+loop-holds c = (omega arith, (omega arith, refl))
+
+shared-slice-read-line-after : tie.Need-shared-slice-read-line-after Inv-loop μ-loop
+shared-slice-read-line-after c = search needs
+
+line-after-requires : tie.Need-line-after-requires Inv-loop μ-loop
+line-after-requires c κs = search needs
+
+add-i : tie.Need-add-i Inv-loop μ-loop
+add-i c = search needs
+
+loop-less : tie.Need-loop-less Inv-loop μ-loop
+loop-less c = search needs
+
+loop-again : tie.Need-loop-again Inv-loop μ-loop
+loop-again c = (omega arith, (rw (c .line-after .ensures) (line-le (getD (c .before .before .before .before .before .args .text .now) (c .before .before .before .loop .i) 0) (c .before .before .before .loop .line) (c .before .before .before .loop .i) (c .before .before .before .loop .inv .1 .0)), rw (c .line-after .ensures) (sym (line-step (c .before .before .before .before .before .args .text .now) (c .before .before .before .before .before .args .at) (c .before .before .before .before .before .pre) (c .before .before .before .loop .line) (c .before .before .before .loop .i) (c .before .before .loop-test .taken)) ∙ c .before .before .before .loop .inv .1 .1)))
+
+returns : tie.Need-returns Inv-loop μ-loop
+returns c = sym (line-end (c .before .before .before .args .text .now) (c .before .before .before .args .at) (c .before .before .before .pre) (c .before .loop .line) (c .before .loop .i) (c .loop-test .left)) ∙ c .before .loop .inv .1 .1
+
+pub line-of-spec : {M : Type 1} → statement M
+line-of-spec =
+    tie.close
+    (tie.spec
+    Inv-loop
+    μ-loop
+    loop-holds
+    shared-slice-read-line-after
+    line-after-requires
+    add-i
+    loop-less
+    loop-again
+    returns)
