@@ -13,7 +13,7 @@ use lib.Dec.{ltb}
 use lib.ListN.{getD, take, replicate}
 use Rattle.config.specs.declared.Config.{Config}
 use Rattle.plan.specs.declared.Plan.{Plan}
-use Rattle.stack.specs.Stack.{emptyRow, emptyStack}
+use Rattle.stack.specs.Stack.{emptyRow}
 use Rattle.scheduler.specs.Scheduler.{Event, Activate, Finish, Chain, Get, Release, Tick, Line, Start, Stop, Nothing, Seen, markOf}
 use Rattle.machine.specs.Model.{Model, Outcome, noRank, doneWith}
 use Rattle.machine.specs.Arbiter.{settled}
@@ -25,8 +25,6 @@ abbrev pub unstarted : ℕ → Model
 unstarted w =
     record {
       core = record { request = w; started = 0; runner = noRank; level = 0 };
-      stack = emptyStack;
-      levels = emptyStack;
       held = 0;
       resource = emptyRow;
       holder = emptyRow;

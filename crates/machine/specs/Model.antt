@@ -6,7 +6,6 @@ use Prim.Native.Nat.{ℕ}
 use mathlib.Core.Bool.{Bool, false}
 use mathlib.Core.List.{List}
 use Rattle.stack.specs.declared.Row.{Row}
-use Rattle.stack.specs.declared.Stack.{Stack}
 use Rattle.stack.specs.Stack.{none}
 
 -- The words, who runs and at which level: `request` has the ranks that wait to begin, `started` those that began and have not ended.
@@ -21,14 +20,12 @@ pub record Picked : Type 0 where
   pub core : Core
   pub begun : Bool
 
--- What the machine keeps between events. `stack` and `levels`: whom the runner preempted and those below, down to nobody. `held`: the held
--- resources as a word; `resource`, `holder`, `raised`: in the order taken, each with its holder's rank and the level after its Get.
--- `counter` and `on` are the cells, `losses` the lost activations by rank.
+-- What the machine keeps between events. `held`: the held resources as a word; `resource`, `holder`, `raised`: in the order taken, the
+-- latest on top, each with its holder's rank and the level after its Get. `counter` and `on` are the cells, `losses` the lost activations
+-- by rank.
 pub record Model : Type 0 where
   pub core : Core
   pub held : ℕ
-  pub stack : Stack
-  pub levels : Stack
   pub resource : Row
   pub holder : Row
   pub raised : Row
@@ -42,17 +39,14 @@ pub record Outcome : Type 0 where
   pub status : ℕ
   pub begun : Bool
 
--- no body: neither a rank nor a body's number; it is what lies past the bottom of the stack and of the row of held resources
+-- no body: neither a rank nor a body's number; it is what lies past the bottom of the row of held resources
 abbrev pub noRank : ℕ
 noRank = none
 
--- another core, with its stack and the levels on it
-abbrev pub withFrames : Model → Core → Stack → Stack → Model
-withFrames m k s v =
+abbrev pub withCore : Model → Core → Model
+withCore m k =
     record {
       core = k;
-      stack = s;
-      levels = v;
       held = m .held;
       resource = m .resource;
       holder = m .holder;
@@ -61,9 +55,6 @@ withFrames m k s v =
       on = m .on;
       losses = m .losses;
     }
-
-abbrev pub withCore : Model → Core → Model
-withCore m k = withFrames m k (m .stack) (m .levels)
 
 -- the core with other requests
 abbrev pub withRequest : Core → ℕ → Core
@@ -77,8 +68,6 @@ abbrev pub withSlots : Model → ℕ → ℕ → Row → Row → Row → Model
 withSlots m l w rs hs ls =
     record {
       core = withLevel (m .core) l;
-      stack = m .stack;
-      levels = m .levels;
       held = w;
       resource = rs;
       holder = hs;
@@ -93,8 +82,6 @@ abbrev pub withRest : Model → List ℕ → List ℕ → List ℕ → Model
 withRest m ns os ls =
     record {
       core = m .core;
-      stack = m .stack;
-      levels = m .levels;
       held = m .held;
       resource = m .resource;
       holder = m .holder;

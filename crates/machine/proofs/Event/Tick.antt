@@ -27,13 +27,16 @@ use Rattle.machine.specs.Arbiter.{settled}
 use Rattle.machine.specs.Cells.{Due, oneMore, matchAt, requestsDue, countersTicked}
 use Rattle.machine.specs.Events.{marksOf, dueOf, ticking, tickedOnce}
 use Rattle.machine.specs.Machine.{machineStep, matched}
-use Rattle.machine.proofs.Simulation.{Fitted, at, Tied, Lost, Sim}
-use Rattle.machine.proofs.Standing.{by-phase}
-use Rattle.machine.proofs.Touching.{elsewhere, woken-tied, lost-tied}
-use Rattle.machine.proofs.Arbitration.{settled-tied}
-use Rattle.machine.proofs.Calls.{kept, lost-same, Agrees, agrees}
-use Rattle.machine.proofs.Waking.{task-exists}
-use Rattle.machine.proofs.Matching.{dues-long, marks-due, due-first-cells, ticked-timed}
+use Rattle.machine.proofs.Relation.Fitted.{Fitted}
+use Rattle.machine.proofs.Relation.Words.{at, busy-is}
+use Rattle.machine.proofs.Relation.Losses.{Lost, lost-same}
+use Rattle.machine.proofs.Relation.Whole.{Tied, Sim}
+use Rattle.machine.proofs.Arbitration.Choice.{by-phase}
+use Rattle.machine.proofs.Arbitration.Dispatch.{rank-below, settled-tied}
+use Rattle.machine.proofs.Change.Request.{elsewhere, activate-tied, loss-tied}
+use Rattle.machine.proofs.Change.Ticks.{dues-long, marks-due, due-first-cells, ticked-timed}
+use Rattle.machine.proofs.Event.Agrees.{kept, Agrees, agrees}
+use Rattle.machine.proofs.Event.Bodies.{task-exists}
 
 -- the entries of a list of marks have the ranks rs and the tasks ts
 unfoldable Entries : Config → (ℕ → ℕ) → List Bool → List ℕ → List ℕ → Type 0
@@ -55,10 +58,10 @@ entries-from c rk rs ts (b ∷ ms) e h k each =
 abbrev withDue : Model → Due → Model
 withDue m x = withRest (withCore m (withRequest (m .core) (x .request))) (m .counter) (m .on) (x .losses)
 
-module _ (c : Config) (p : Plan) (rk : ℕ → ℕ) (fit : Fitted c p rk) (ch : List ℕ) where
+module _ {c : Config} {p : Plan} {rk : ℕ → ℕ} (fit : Fitted c p rk) (ns : List ℕ) where
   -- what is owed after some entries
   record Owed (m : Model) (x : Due) (s : State) : Type 0 where
-    tied : Tied c rk (withDue m x) (s .bodies) ch
+    tied : Tied c rk (withDue m x) (s .bodies) ns
     lost : Lost c rk (x .losses) (s .bodies)
 
   -- a match at the rank of a task
@@ -69,21 +72,6 @@ module _ (c : Config) (p : Plan) (rk : ℕ → ℕ) (fit : Fitted c p rk) (ch : 
     exists : t < c .bodies
     exists = task-exists c t task
 
-    rank-in : rk t < 32
-    rank-in = omega (arith, fit .rank-lt t exists, fit .few)
-
-    busy-is : has (x .request) (rk t) || has (m .core .started) (rk t) ≡ not (isSuspended (at bs t .phase))
-    busy-is = ap₂ (λ (a b : Bool). a || b) (owed .tied .words .asks t exists) (owed .tied .words .begun t exists) ∙ go (at bs t) (at bs t .phase)
-      where
-        go : (b : Body) (q : Phase) → requestWaits b q || isStarted q ≡ not (isSuspended q)
-        go b suspended = refl
-        go b ready = refl
-        go b started = either (b .waiting)
-          where
-            either : (w : Bool) → w || true ≡ true
-            either true = refl
-            either false = refl
-
     -- another body's losses stand at another rank
     lost-other : (b : ℕ) → b < c .bodies → b ≢ t → getD (set (x .losses) (rk t) (oneMore (getD (x .losses) (rk t) 0))) (rk b) 0 ≡ getD (x .losses) (rk b) 0
     lost-other b b< n = getD-set-other (x .losses) (rk t) (rk b) (oneMore (getD (x .losses) (rk t) 0)) 0 (λ e. n (fit .rank-inj b t b< exists e))
@@ -93,7 +81,7 @@ module _ (c : Config) (p : Plan) (rk : ℕ → ℕ) (fit : Fitted c p rk) (ch : 
         record {
           losses-long = length-set (x .losses) (rk t) (oneMore (getD (x .losses) (rk t) 0)) ∙ owed .lost .losses-long;
           of-task = λ b b< h. by-eq b t
-              (λ e. rw (e, getD-set-same (x .losses) (rk t) (oneMore (getD (x .losses) (rk t) 0)) 0 (omega (arith, owed .lost .losses-long, rank-in)), getD-set-same bs t (loses (at bs t)) noBody (rw (owed .tied .size) exists))
+              (λ e. rw (e, getD-set-same (x .losses) (rk t) (oneMore (getD (x .losses) (rk t) 0)) 0 (omega (arith, owed .lost .losses-long, rank-below fit t exists)), getD-set-same bs t (loses (at bs t)) noBody (rw (owed .tied .size) exists))
               (ap oneMore (owed .lost .of-task t exists task)))
               (λ n. lost-other b b< n ∙ owed .lost .of-task b b< h ∙ sym (ap (λ (y : Body). y .losses) (getD-set-other bs t b (loses (at bs t)) noBody n)));
           of-isr = λ b b< h. by-eq b t
@@ -104,16 +92,16 @@ module _ (c : Config) (p : Plan) (rk : ℕ → ℕ) (fit : Fitted c p rk) (ch : 
     match-owed : Owed m (matchAt (m .core .started) (rk t) x) (changing t activatedByEntry s)
     match-owed =
         by-phase (at bs t .phase)
-        (λ s n. rw (busy-is, s) (record {
-          tied = elsewhere c rk _ _ ch (woken-tied c rk (withDue m x) bs ch (owed .tied) p fit t exists n) (m .counter) (m .on) (x .losses);
-          lost = lost-same c rk (x .losses) bs (set bs t (become ready (at bs t))) (kept (λ y. y .losses) (become ready) (λ y. refl) bs t) (owed .lost);
+        (λ a n. rw (busy-is (owed .tied .words) t exists, a) (record {
+          tied = elsewhere (activate-tied (owed .tied) fit t exists n) (m .counter) (m .on) (x .losses);
+          lost = lost-same (kept (λ y. y .losses) (become ready) (λ y. refl) bs t) (owed .lost);
         }))
         (λ a n. loss a)
         (λ a n. loss a)
       where
         loss : isSuspended (at bs t .phase) ≡ false → Owed m (matchAt (m .core .started) (rk t) x) (changing t activatedByEntry s)
-        loss a = rw (busy-is, a) (record {
-          tied = elsewhere c rk (withDue m x) (set bs t (loses (at bs t))) ch (lost-tied c rk (withDue m x) bs ch (owed .tied) p fit t exists) (m .counter) (m .on) (set (x .losses) (rk t) (oneMore (getD (x .losses) (rk t) 0)));
+        loss a = rw (busy-is (owed .tied .words) t exists, a) (record {
+          tied = elsewhere (loss-tied (owed .tied) fit t exists) (m .counter) (m .on) (set (x .losses) (rk t) (oneMore (getD (x .losses) (rk t) 0)));
           lost = losing;
         })
 
@@ -129,7 +117,7 @@ module _ (c : Config) (p : Plan) (rk : ℕ → ℕ) (fit : Fitted c p rk) (ch : 
       due-owed m ms rs ts (k .1 .1) (matchAt (m .core .started) r x) (changing t activatedByEntry s) (rw (k .0) (match-owed m x s o t (k .1 .0)))
   due-owed m (false ∷ ms) (r ∷ rs) (t ∷ ts) k x s o = due-owed m ms rs ts (k .1 .1) x s o
 
-module _ (c : Config) (p : Plan) (rk : ℕ → ℕ) (fit : Fitted c p rk) (m : Model) (s : State) (sim : Sim c p rk m s) where
+module _ {c : Config} {p : Plan} {rk : ℕ → ℕ} (fit : Fitted c p rk) {m : Model} {s : State} (sim : Sim c p rk m s) where
   abbrev ms : List Bool
   ms = dues c (counted s)
 
@@ -149,10 +137,10 @@ module _ (c : Config) (p : Plan) (rk : ℕ → ℕ) (fit : Fitted c p rk) (m : M
       (omega (arith, long, fit .tasks-long, fit .count-is, fit .few-entries))
       (λ i _ l. (fit .entry-rank-at i (omega (arith, long)), fit .entry-task i (omega (arith, long, fit .count-is))))
 
-  owed : Owed c p rk fit (sim .chain) m (requestsDue (m .core .started) ms (p .entry) (record { request = m .core .request; losses = m .losses })) (Plain.ticked c s)
+  owed : Owed fit (sim .nest) m (requestsDue (m .core .started) ms (p .entry) (record { request = m .core .request; losses = m .losses })) (Plain.ticked c s)
   owed =
-      due-owed c p rk fit (sim .chain) m ms (p .entry) (c .task) entries (record { request = m .core .request; losses = m .losses }) (counted s)
-      (record { tied = elsewhere c rk m (s .bodies) (sim .chain) (sim .tied) (m .counter) (m .on) (m .losses); lost = sim .lost })
+      due-owed fit (sim .nest) m ms (p .entry) (c .task) entries (record { request = m .core .request; losses = m .losses }) (counted s)
+      (record { tied = elsewhere (sim .tied) (m .counter) (m .on) (m .losses); lost = sim .lost })
 
   due-is : dueOf (p .compare) (p .entry) m ≡ requestsDue (m .core .started) ms (p .entry) (record { request = m .core .request; losses = m .losses })
   due-is =
@@ -161,17 +149,17 @@ module _ (c : Config) (p : Plan) (rk : ℕ → ℕ) (fit : Fitted c p rk) (m : M
       (m .core .started) (m .counter) (p .entry) (record { request = m .core .request; losses = m .losses })
       ∙ ap (λ (l : List Bool). requestsDue (m .core .started) l (p .entry) (record { request = m .core .request; losses = m .losses })) marks-are
 
-  ticked-tied : Tied c rk (ticking (p .compare) (p .entry) m) (Plain.ticked c s .bodies) (sim .chain)
+  ticked-tied : Tied c rk (ticking (p .compare) (p .entry) m) (Plain.ticked c s .bodies) (sim .nest)
   ticked-tied =
       rw due-is
-      (elsewhere c rk _ (Plain.ticked c s .bodies) (sim .chain) (owed .tied)
+      (elsewhere (owed .tied)
       (countersTicked maxEntries 0 (p .compare) (m .on) (m .counter)) (m .on) (requestsDue (m .core .started) ms (p .entry) (record { request = m .core .request; losses = m .losses }) .losses))
 
-  pub agrees-tick : Agrees c p rk fit m s Tick
+  pub agrees-tick : Agrees c p rk m s Tick
   unfolding machineStep tickedOnce step matched
   agrees-tick =
-      agrees c p rk fit m s Tick (settled (p .priority) (ticking (p .compare) (p .entry) m)) done ms (Plain.ticked c s) refl refl refl marks-are
-      (settled-tied c p rk fit (ticking (p .compare) (p .entry) m) (Plain.ticked c s) (sim .chain) ticked-tied)
+      agrees fit Tick (settled (p .priority) (ticking (p .compare) (p .entry) m)) done ms (Plain.ticked c s) refl refl refl marks-are
+      (settled-tied fit (Plain.ticked c s) ticked-tied)
       (ticked-tied .size)
       (rw (tables-ticked c s) (ticked-timed c p rk fit (m .counter) (m .on) (s .tables) (sim .timed)))
       (rw due-is (owed .lost))

@@ -2,7 +2,7 @@
 -- Assumes nothing.
 use Prim.Native.Nat.{ℕ, _<_}
 use mathlib.Core.Path.{_≡_, refl, sym, ap, _∙_}
-use mathlib.Core.Bool.{Bool, true, false, true≢false, cond}
+use mathlib.Core.Bool.{Bool, true, false, true≢false, cond, _||_}
 use mathlib.Core.List.{[], map}
 use native.Mathlib.Omega.{arith}
 use lib.Dec.{eqb}
@@ -10,18 +10,25 @@ use lib.ListN.{length, getD, take, replicate, length-map, length-replicate, List
 use lib.Seq.{getD-take, length-take-le}
 use Rattle.config.specs.declared.Config.{Config}
 use Rattle.plan.specs.declared.Plan.{Plan}
-use Rattle.word.proofs.Theorems.{empty}
+use Rattle.word.specs.Word.{has}
+use Rattle.word.proofs.Theorems.{empty, has-union}
 use Rattle.scheduler.specs.Body.{Body, isStarted, ready, become}
 use Rattle.scheduler.specs.State.{stopped, State, noBody, among}
 use Rattle.scheduler.specs.Scheduler.{newBody, fresh}
 use Rattle.scheduler.proofs.Changing.{tables-dispatched}
 use Rattle.machine.specs.Machine.{unstarted, freshModel}
-use Rattle.machine.proofs.Views.{same-everywhere, on-top, empty-shows, row-empty-shows}
+use Rattle.machine.proofs.Relation.Rows.{same-everywhere, row-empty-shows}
 use Rattle.machine.specs.Cells.{switchOff, isOn}
-use Rattle.machine.proofs.Simulation.{Fitted, at, wants, ranksFor, levelsFor, Chained, slotsAlong, Distinct, CellFits, Timed, Lost, Tied, Sim}
-use Rattle.machine.proofs.Marks.{missing-empty}
-use Rattle.machine.proofs.Arbitration.{settled-tied}
-use Rattle.machine.proofs.Calls.{lost-same, dispatched-losses}
+use Rattle.machine.proofs.Relation.Fitted.{Fitted}
+use Rattle.machine.proofs.Relation.Words.{at, wants}
+use Rattle.machine.proofs.Relation.Slots.{slotsAlong, Distinct}
+use Rattle.machine.proofs.Relation.Free.{missing-empty}
+use Rattle.machine.proofs.Relation.Nest.{Nested, Seats}
+use Rattle.machine.proofs.Relation.Cells.{CellFits, Timed}
+use Rattle.machine.proofs.Relation.Losses.{Lost, lost-same}
+use Rattle.machine.proofs.Relation.Whole.{Tied, Sim}
+use Rattle.machine.proofs.Arbitration.Dispatch.{settled-tied}
+use Rattle.machine.proofs.Event.Agrees.{dispatched-losses}
 
 -- whatever a new body is, it has not begun, holds nothing and lost nothing
 new-wants : (a : ℕ) → wants (newBody a) ≡ eqb a 1
@@ -38,7 +45,7 @@ new-same f e a = go (eqb a 1)
     go true = e
     go false = refl
 
-module _ (c : Config) (p : Plan) (rk : ℕ → ℕ) (fit : Fitted c p rk) where
+module _ {c : Config} {p : Plan} {rk : ℕ → ℕ} (fit : Fitted c p rk) where
   abbrev unbegun : State
   unbegun = record { bodies = map newBody (take (c .bodies) (c .autostart)); tables = replicate (c .tables) stopped }
 
@@ -56,34 +63,35 @@ module _ (c : Config) (p : Plan) (rk : ℕ → ℕ) (fit : Fitted c p rk) where
   at-same f e b = ap f (at-new b) ∙ new-same f e (getD (take (c .bodies) (c .autostart)) b 0)
 
   unbegun-tied : Tied c rk (unstarted (p .autostart)) (unbegun .bodies) []
-  unfolding ranksFor levelsFor Chained slotsAlong Distinct among
+  unfolding Nested Seats slotsAlong Distinct among
   unbegun-tied =
       record {
         size = size;
         words = record {
           request-lt = fit .autostart-lt;
+          started-lt = omega arith;
           asks = λ b b<. fit .autostart-at b b< ∙ sym (ap wants (at-known b b<) ∙ new-wants (getD (c .autostart) b 0));
-          asks-real = fit .autostart-real;
           begun = λ b b<. empty (rk b) ∙ sym (at-same (λ x. isStarted (x .phase)) refl b);
+          real = λ r h. fit .autostart-real r (or-false (has (p .autostart) r) ∙ ap (λ (b : Bool). has (p .autostart) r || b) (sym (empty r)) ∙ sym (has-union (p .autostart) 0 r) ∙ h);
           quiet = λ b h. at-same (λ x. x .waiting) refl b;
         };
-        running = record {
-          frames = record { ranks = on-top refl empty-shows; levels = on-top refl empty-shows; level-lt = omega arith };
-          chained = tt;
-          covers = λ b b< h. absurd (true≢false (sym h ∙ at-same (λ x. isStarted (x .phase)) refl b));
+        nested = tt;
+        seats = (refl, refl);
+        slots = record {
+          resources = row-empty-shows;
+          holders = row-empty-shows;
+          levels = row-empty-shows;
+          flags = empty;
+          distinct = tt;
+          counted = omega (arith, missing-empty 16);
         };
-        holding = record {
-          slots = record {
-            resources = row-empty-shows;
-            holders = row-empty-shows;
-            levels = row-empty-shows;
-            flags = empty;
-            distinct = tt;
-            counted = omega (arith, missing-empty 16);
-          };
-          loose = λ b h. at-same (λ x. x .held) refl b;
-        };
+        loose = λ b h. at-same (λ x. x .held) refl b;
+        apart = λ a b a< b< sa sb l. absurd (true≢false (sym sa ∙ at-same (λ x. isStarted (x .phase)) refl a));
       }
+    where
+      or-false : (b : Bool) → b ≡ b || false
+      or-false true = refl
+      or-false false = refl
 
   unbegun-timed : Timed c p (replicate 64 0) (replicate 64 switchOff) (replicate (c .tables) stopped)
   unfolding CellFits
@@ -106,11 +114,11 @@ module _ (c : Config) (p : Plan) (rk : ℕ → ℕ) (fit : Fitted c p rk) where
 
   pub fresh-sim : Sim c p rk (freshModel p) (fresh c)
   fresh-sim =
-      let arb = settled-tied c p rk fit (unstarted (p .autostart)) unbegun [] unbegun-tied in
+      let arb = settled-tied fit unbegun unbegun-tied in
       record {
-        chain = arb .chain;
+        nest = arb .nest;
         tied = arb .tied;
         calm = arb .calm;
         timed = rw (tables-dispatched c unbegun) unbegun-timed;
-        lost = lost-same c rk (replicate 32 0) (unbegun .bodies) (fresh c .bodies) (dispatched-losses c unbegun) unbegun-lost;
+        lost = lost-same (dispatched-losses c unbegun) unbegun-lost;
       }

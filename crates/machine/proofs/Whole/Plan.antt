@@ -13,7 +13,7 @@ use Rattle.plan.specs.Rank.{rankOf}
 use Rattle.plan.specs.Plan.{planOf}
 use Rattle.plan.proofs.Greatest.{greatestIn-le}
 use Rattle.plan.proofs.Theorems as Plan
-use Rattle.machine.proofs.Simulation.{Fitted}
+use Rattle.machine.proofs.Relation.Fitted.{Fitted}
 
 pub fitted : (c : Config) → Accepted c → Shaped c → Fitted c (planOf c) (rankOf c)
 fitted c ok shaped =

@@ -26,8 +26,9 @@ use Rattle.cell.proofs.Theorems.{off-ticked-same, on-time-matched, on-time-coun
 use Rattle.scheduler.specs.State.{Table, stopped, running, State}
 use Rattle.scheduler.specs.Tick.{counting, entryDue, duesFrom, dues}
 use Rattle.machine.specs.Cells.{isOn, cellAt, countersTicked, marks, Due, requestsDue}
-use Rattle.machine.proofs.Simulation.{Fitted, CellFits, Timed}
-use Rattle.machine.proofs.Requests.{due-append, due-quiet}
+use Rattle.machine.proofs.Relation.Fitted.{Fitted}
+use Rattle.machine.proofs.Relation.Cells.{CellFits, Timed}
+use Rattle.machine.proofs.Change.Matches.{due-append, due-quiet}
 
 -- a tick reaches the counters of its cells, each by its own cell alone
 module _ (ks os : List ℕ) where

@@ -29,11 +29,13 @@ use Rattle.machine.specs.Cells.{switchOn, switchOff, isOn, cellAt}
 use Rattle.machine.specs.Events as Machine
 use Rattle.machine.specs.Events.{idles, runs, starting, stopping, launched, halted}
 use Rattle.machine.specs.Machine.{machineStep, matched}
-use Rattle.machine.proofs.Simulation.{Fitted, CellFits, Timed, Sim}
-use Rattle.machine.proofs.Touching.{elsewhere}
-use Rattle.machine.proofs.Calls.{Agrees, Accepted, calm-arbitrated, agrees-attempt}
-use Rattle.machine.proofs.Waking.{first-same, no-match, idle-same}
-use Rattle.machine.proofs.CellLists.{laid, length-laid, laid-before, laid-after, laid-inside, started-laid, stopped-laid, switched-laid, greatest-le}
+use Rattle.machine.proofs.Relation.Fitted.{Fitted}
+use Rattle.machine.proofs.Relation.Cells.{CellFits, Timed}
+use Rattle.machine.proofs.Relation.Whole.{Sim}
+use Rattle.machine.proofs.Arbitration.Dispatch.{calm-arbitrated}
+use Rattle.machine.proofs.Change.Request.{elsewhere}
+use Rattle.machine.proofs.Event.Agrees.{first-same, Agrees, Accepted, idle-same, agrees-attempt, no-match}
+use Rattle.machine.proofs.Change.Cells.{laid, length-laid, laid-before, laid-after, laid-inside, started-laid, stopped-laid, switched-laid, greatest-le}
 
 -- a started cell, kept as plain numbers, is on time
 started-on-time : (P D : ℕ) → 1 ≤ P → P ≤ 65535 → 1 ≤ D → D ≤ 65535 → OnTime (unmarked (startCell P D .counter) (P - 1) true) P D 0
@@ -42,7 +44,7 @@ started-on-time P D low high some few = rw (sym compare) (on-time-start P D low 
     compare : compareIn modulus P ≡ P - 1
     compare = omega arith
 
-module _ (c : Config) (p : Plan) (rk : ℕ → ℕ) (fit : Fitted c p rk) where
+module _ {c : Config} {p : Plan} {rk : ℕ → ℕ} (fit : Fitted c p rk) where
   module _ (t : ℕ) (t< : t < c .tables) where
     -- no offset of a table is above its largest
     pub offset-le : (e : ℕ) → firstOf c t ≤ e → e < firstOf c (suc t) → getD (c .offset) e 0 ≤ largestOffset c t
@@ -108,7 +110,7 @@ module _ (c : Config) (p : Plan) (rk : ℕ → ℕ) (fit : Fitted c p rk) where
                 ∙ timed .spare e h;
           }
 
-module _ (c : Config) (p : Plan) (rk : ℕ → ℕ) (fit : Fitted c p rk) (m : Model) (s : State) (sim : Sim c p rk m s)
+module _ {c : Config} {p : Plan} {rk : ℕ → ℕ} (fit : Fitted c p rk) {m : Model} {s : State} (sim : Sim c p rk m s)
     (long : length (dues c s) ≡ p .count) where
   -- the first cell of a table is on exactly if the table runs
   runs-is : (t : ℕ) → t < c .tables → runs (p .first) m t ≡ isRunning (tableOf s t)
@@ -124,12 +126,11 @@ module _ (c : Config) (p : Plan) (rk : ℕ → ℕ) (fit : Fitted c p rk) (m : M
 
   -- a call that changes the cells and one table alone
   cells-accepted : (ns os : List ℕ) (ts : List Table) → Timed c p ns os ts
-      → Accepted c p rk fit (doneWith (withCells m ns os) false) (record { bodies = s .bodies; tables = ts })
+      → Accepted c p rk (doneWith (withCells m ns os) false) (record { bodies = s .bodies; tables = ts })
   cells-accepted ns os ts timed =
       record {
         status = refl;
-        arb = calm-arbitrated c p rk fit (withCells m ns os) (record { bodies = s .bodies; tables = ts }) (sim .chain) done
-            (elsewhere c rk m (s .bodies) (sim .chain) (sim .tied) ns os (m .losses)) (sim .calm);
+        arb = calm-arbitrated fit (record { bodies = s .bodies; tables = ts }) done (elsewhere (sim .tied) ns os (m .losses)) (sim .calm);
         size = sim .tied .size;
         timed = timed;
         lost = sim .lost;
@@ -141,7 +142,7 @@ module _ (c : Config) (p : Plan) (rk : ℕ → ℕ) (fit : Fitted c p rk) (m : M
 
   start-status : (t d : ℕ) → Machine.startStatus (c .tables) (p .first) (p .largest) m t d ≡ startStatus c s t d
   start-status t d =
-      first-same (idles m) (nobodyRuns c s) callLevel _ _ (idle-same c p rk fit m s sim long)
+      first-same (idles m) (nobodyRuns c s) callLevel _ _ (idle-same fit sim)
       (λ _. first-same (leb (c .tables) t) (leb (c .tables) t) noSuch _ _ refl
       (λ h. let t< = leb-false (c .tables) t h in
       first-same (eqb d 0 || ltb longestDelay (d + getD (p .largest) t 0)) (eqb d 0 || ltb longestDelay (d + largestOffset c t)) badDelay _ _
@@ -153,17 +154,17 @@ module _ (c : Config) (p : Plan) (rk : ℕ → ℕ) (fit : Fitted c p rk) (m : M
   unfolding CellFits
   start-timed t d t< some fits =
       rw (fit .first-at t t<, started-laid, switched-laid)
-      (table-timed c p rk fit t t< (m .counter) (m .on) (s .tables) (sim .timed)
+      (table-timed fit t t< (m .counter) (m .on) (s .tables) (sim .timed)
       (λ i. startCell (getD (c .period) t 0) (d + getD (c .offset) i 0) .counter) switchOn (running d 0)
       (λ e low high. started-on-time (getD (c .period) t 0) (d + getD (c .offset) e 0) (fit .period-low t t<) (fit .period-high t t<)
-      (omega (arith, some)) (omega (arith, offset-le c p rk fit t t< e low high))))
+      (omega (arith, some)) (omega (arith, offset-le fit t t< e low high))))
 
-  pub agrees-start : (t d : ℕ) → Agrees c p rk fit m s (Start t d)
+  pub agrees-start : (t d : ℕ) → Agrees c p rk m s (Start t d)
   unfolding machineStep launched step matched
   agrees-start t d =
-      agrees-attempt c p rk fit m s (Start t d) (Machine.startStatus (c .tables) (p .first) (p .largest) m t d) (startStatus c s t d)
-      (doneWith (launching t d) false) (start t d s) sim refl refl
-      (no-match c p rk fit m s sim long) (start-status t d)
+      agrees-attempt fit sim (Start t d) (Machine.startStatus (c .tables) (p .first) (p .largest) m t d) (startStatus c s t d)
+      (doneWith (launching t d) false) (start t d s) refl refl
+      (no-match fit sim long) (start-status t d)
       (λ z. let a = start-passed c s t d z in
       cells-accepted _ _ _ (start-timed t d (a .1) (a .2) (a .3)))
 
@@ -173,7 +174,7 @@ module _ (c : Config) (p : Plan) (rk : ℕ → ℕ) (fit : Fitted c p rk) (m : M
 
   stop-status : (t : ℕ) → Machine.stopStatus (c .tables) (p .first) m t ≡ stopStatus c s t
   stop-status t =
-      first-same (idles m) (nobodyRuns c s) callLevel _ _ (idle-same c p rk fit m s sim long)
+      first-same (idles m) (nobodyRuns c s) callLevel _ _ (idle-same fit sim)
       (λ _. first-same (leb (c .tables) t) (leb (c .tables) t) noSuch _ _ refl
       (λ h. first-same (not (runs (p .first) m t)) (not (isRunning (tableOf s t))) noFunction _ _
       (ap not (runs-is t (leb-false (c .tables) t h))) (λ _. refl)))
@@ -182,13 +183,13 @@ module _ (c : Config) (p : Plan) (rk : ℕ → ℕ) (fit : Fitted c p rk) (m : M
   unfolding CellFits
   stop-timed t t< =
       rw (fit .first-at t t<, stopped-laid, switched-laid)
-      (table-timed c p rk fit t t< (m .counter) (m .on) (s .tables) (sim .timed) (λ _. 0) switchOff stopped (λ e low high. refl))
+      (table-timed fit t t< (m .counter) (m .on) (s .tables) (sim .timed) (λ _. 0) switchOff stopped (λ e low high. refl))
 
-  pub agrees-stop : (t : ℕ) → Agrees c p rk fit m s (Stop t)
+  pub agrees-stop : (t : ℕ) → Agrees c p rk m s (Stop t)
   unfolding machineStep halted step matched
   agrees-stop t =
-      agrees-attempt c p rk fit m s (Stop t) (Machine.stopStatus (c .tables) (p .first) m t) (stopStatus c s t)
-      (doneWith (halting t) false) (stop t s) sim refl refl
-      (no-match c p rk fit m s sim long) (stop-status t)
+      agrees-attempt fit sim (Stop t) (Machine.stopStatus (c .tables) (p .first) m t) (stopStatus c s t)
+      (doneWith (halting t) false) (stop t s) refl refl
+      (no-match fit sim long) (stop-status t)
       (λ z. let a = stop-passed c s t z in
       cells-accepted _ _ _ (stop-timed t (a .1)))

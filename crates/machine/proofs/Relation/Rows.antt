@@ -1,4 +1,4 @@
--- What the bytes of a stack or of a row show: a list from the top down, and past its end nothing but `none`.
+-- What the bytes of a row show: a list from the top down, and past its end nothing but `none`.
 --
 --   Shows ys xs      the bytes ys are xs, and `none` from there on
 --
@@ -11,9 +11,8 @@ use lib.ListN.{length, getD, take, drop, replicate, length-take, List·getD-eq-d
 use lib.Seq.{getD-take}
 use Rattle.number.proofs.Cases.{by-lt}
 use Rattle.stack.specs.declared.Row.{Row}
-use Rattle.stack.specs.declared.Stack.{Stack}
-use Rattle.stack.specs.Stack.{none, emptyRow, topRow, secondRow, pushRow, popRow, rowBytes, emptyStack, top, pushed, popped, stackBytes}
-use Rattle.stack.proofs.Theorems.{row-empty, row-top, row-second, row-cons, row-pushed, row-popped, stack-empty, stack-cons, stack-pushed, stack-popped}
+use Rattle.stack.specs.Stack.{none, emptyRow, topRow, secondRow, pushRow, popRow, rowBytes}
+use Rattle.stack.proofs.Theorems.{row-empty, row-top, row-second, row-cons, row-pushed, row-popped}
 
 pub record Shows (ys xs : List ℕ) : Type 0 where
   pub at : (i : ℕ) → getD ys i none ≡ getD xs i none
@@ -56,20 +55,7 @@ same-everywhere zero a i = refl
 same-everywhere (suc n) a zero = refl
 same-everywhere (suc n) a (suc i) = same-everywhere n a i
 
--- a stack: empty it shows nothing
-pub empty-shows : Shows (stackBytes emptyStack) []
-empty-shows = record { at = λ i. ap (λ (ys : List ℕ). getD ys i none) stack-empty ∙ same-everywhere 32 none i }
-
--- x laid on it shows with what it showed
-pub shows-pushed : (s : Stack) (x : ℕ) (xs : List ℕ) → x < 256 → length xs ≤ 32 → Shows (x ∷ stackBytes s) xs → Shows (stackBytes (pushed s x)) xs
-shows-pushed s x xs byte few h = rw (stack-pushed s x byte) (shows-cut 32 (x ∷ stackBytes s) xs few h)
-
--- what is on top, and the rest below it
-pub shows-popped : (s : Stack) (xs : List ℕ) → Shows (stackBytes s) xs → Shows (top s ∷ stackBytes (popped s)) xs
-shows-popped s xs h =
-    rw (stack-popped s) (shows-filled {ys = top s ∷ drop 1 (stackBytes s)} (rw (sym (stack-cons s)) h))
-
--- a row: the same
+-- empty it shows nothing
 pub row-empty-shows : Shows (rowBytes emptyRow) []
 row-empty-shows = record { at = λ i. ap (λ (ys : List ℕ). getD ys i none) row-empty ∙ same-everywhere 16 none i }
 

@@ -1,4 +1,4 @@
--- How many resources are not held, and what one that is taken or given back changes.
+-- How many resources are free, and what one that is taken or given back changes.
 -- Assumes nothing.
 use Prim.Native.Nat.{ℕ, zero, suc, _+_, _≤_, _<_}
 use mathlib.Core.Path.{_≡_, refl, ap₂}
@@ -8,7 +8,7 @@ use native.Mathlib.Omega.{arith}
 use Rattle.number.proofs.Cases.{by-eq}
 use Rattle.word.specs.Word.{has}
 use Rattle.word.proofs.Theorems.{empty}
-use Rattle.machine.proofs.Simulation.{missing}
+use Rattle.machine.proofs.Relation.Slots.{missing}
 
 -- two words that differ in r alone, which the first has
 module _ (u v r : ℕ) (others : (i : ℕ) → i ≢ r → has u i ≡ has v i) where

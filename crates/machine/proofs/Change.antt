@@ -1,0 +1,9 @@
+-- What one change leaves of the relation.
+pub mod Request
+pub mod End
+pub mod Hold
+pub mod Get
+pub mod Release
+pub mod Matches
+pub mod Ticks
+pub mod Cells
