@@ -85,8 +85,8 @@ pub fn play<'a, 'b>(
         }
         put_answer(
             o.status,
-            runner(&plan.body, o.model.core.runner),
-            o.model.core.level,
+            runner(&plan.body, o.model.runner),
+            o.model.level,
             o.begun,
             to,
             out,

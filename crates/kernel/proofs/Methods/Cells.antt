@@ -14,7 +14,7 @@ use Rattle.cell.specs.declared.Cell.{Cell}
 use Rattle.cell.specs.Cell.{unmarked, startCell, ticked}
 use Rattle.kernel.specs.Methods.{group}
 use Rattle.machine.specs.Cells.{isOn, cellAt, countersTicked, marks, countersStarted, countersStopped, switched, Due, requestsDue}
-use Rattle.machine.proofs.Requests.{due-append}
+use Rattle.machine.proofs.Change.Matches.{due-append}
 
 -- a loop over the k entries from f on begins with all of them, and each turn takes one
 pub span : (f k : ℕ) → f + k - f ≡ k

@@ -11,8 +11,8 @@ use Rattle.scheduler.specs.Status.{callLevel, noSuch, limit, access, noFunction
 use Rattle.word.specs.Word.{has, with, without}
 use Rattle.stack.specs.declared.Row.{Row}
 use Rattle.stack.specs.Stack.{topRow, pushRow, popRow}
-use Rattle.machine.specs.Model.{Model, noRank, withSlots, doneWith, refusedWith}
-use Rattle.machine.specs.Arbiter.{settled, leaving, requesting}
+use Rattle.machine.specs.Model.{Picked, Model, noRank, withCore, withRequest, withLevel, withSlots, doneWith, refusedWith}
+use Rattle.machine.specs.Arbiter.{arbitrated, settled, vacated, leaving}
 use Rattle.machine.specs.Resources.{latest, levelWithout}
 use Rattle.machine.specs.Events.{idles, busy, activated, finished, chained, got, released, lined}
 
@@ -47,9 +47,9 @@ module _ (trs ps : List ℕ) (m : Model) (t : ℕ) where
       unfolding activated firstOf
       activate-busy h = rw (ne-eqb (m .core .runner) noRank runs, ← rank, ne-eqb r noRank some, sym test ∙ h)
 
-      pub activate-done : b ≡ false → settled ps (requesting r m) ≡ activated trs ps m t
+      pub activate-done : b ≡ false → {q : ℕ} → q ≡ with (m .core .request) r → settled ps (withCore m (withRequest (m .core) q)) ≡ activated trs ps m t
       unfolding activated firstOf
-      activate-done h = rw (ne-eqb (m .core .runner) noRank runs, ← rank, ne-eqb r noRank some, sym test ∙ h)
+      activate-done h asked = rw (ne-eqb (m .core .runner) noRank runs, ← rank, ne-eqb r noRank some, sym test ∙ h, asked)
 
 -- Line i
 module _ (lrs ps : List ℕ) (m : Model) (i : ℕ) {r : ℕ} (rank : r ≡ getD lrs i noRank) where
@@ -62,9 +62,9 @@ module _ (lrs ps : List ℕ) (m : Model) (i : ℕ) {r : ℕ} (rank : r ≡ getD 
     unfolding lined firstOf
     line-waits h = rw (← rank, ne-eqb r noRank some, sym test ∙ h)
 
-    pub line-done : b ≡ false → settled ps (requesting r m) ≡ lined lrs ps m i
+    pub line-done : b ≡ false → {q : ℕ} → q ≡ with (m .core .request) r → settled ps (withCore m (withRequest (m .core) q)) ≡ lined lrs ps m i
     unfolding lined firstOf
-    line-done h = rw (← rank, ne-eqb r noRank some, sym test ∙ h)
+    line-done h asked = rw (← rank, ne-eqb r noRank some, sym test ∙ h, asked)
 
 -- Chain t
 module _ (ws : ℕ) (trs ps : List ℕ) (m : Model) (t : ℕ) {a : Bool} (calls : a ≡ idles m || has ws (m .core .runner)) where
@@ -87,10 +87,11 @@ module _ (ws : ℕ) (trs ps : List ℕ) (m : Model) (t : ℕ) {a : Bool} (calls 
         unfolding chained firstOf
         chain-busy e = rw (sym calls ∙ runs, ← rank, ne-eqb r noRank some, ← holder, ne-eqb h (m .core .runner) free, sym test ∙ e)
 
-        pub chain-done : d ≡ false → settled ps (leaving (requesting r m)) ≡ chained ws trs ps m t
+        pub chain-done : d ≡ false → {q : ℕ} → q ≡ with (m .core .request) r
+            → settled ps (withCore m (withRequest (vacated m) q)) ≡ chained ws trs ps m t
         unfolding chained firstOf
-        chain-done e =
-            rw (sym calls ∙ runs, ← rank, ne-eqb r noRank some, ← holder, ne-eqb h (m .core .runner) free, sym test ∙ e)
+        chain-done e asked =
+            rw (sym calls ∙ runs, ← rank, ne-eqb r noRank some, ← holder, ne-eqb h (m .core .runner) free, sym test ∙ e, asked)
 
 -- Get r
 module _ (n : ℕ) (cs ps : List ℕ) (m : Model) (r : ℕ) where
@@ -140,7 +141,8 @@ module _ (n : ℕ) (ps : List ℕ) (m : Model) (r : ℕ) where
           → {xs : Row} → xs ≡ popRow (m .resource)
           → {hs : Row} → hs ≡ popRow (m .holder)
           → {vs : Row} → vs ≡ popRow (m .raised)
-          → settled ps (withSlots m l w xs hs vs) ≡ released n ps m r
+          → {p : Picked} → p ≡ arbitrated ps (withLevel (m .core) l)
+          → doneWith (withCore (withSlots m l w xs hs vs) (p .core)) (p .begun) ≡ released n ps m r
       unfolding released firstOf
-      release-done h level x₁ x₂ x₃ x₄ =
-          rw (ne-eqb (m .core .runner) noRank runs, lt-leb n r some, sym test ∙ h, x₁, x₂, x₃, x₄, level)
+      release-done h level x₁ x₂ x₃ x₄ picked =
+          rw (ne-eqb (m .core .runner) noRank runs, lt-leb n r some, sym test ∙ h, picked, x₁, x₂, x₃, x₄, level)

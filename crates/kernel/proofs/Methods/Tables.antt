@@ -10,9 +10,8 @@ use borrow.Author.Tests.{ltb-false, le-leb, lt-leb, eq-eqb, ne-eqb}
 use Rattle.config.specs.Value.{maxEntries}
 use Rattle.scheduler.specs.Status.{callLevel, noSuch, badDelay, alreadyRuns, noFunction, firstOf}
 use Rattle.scheduler.specs.Call.{longestDelay}
-use Rattle.stack.specs.declared.Stack.{Stack}
-use Rattle.machine.specs.Model.{Core, Picked, Model, noRank, withFrames, withRequest, withRest, withCells, doneWith, refusedWith}
-use Rattle.machine.specs.Arbiter.{arbitrated, laidOn}
+use Rattle.machine.specs.Model.{Picked, Model, noRank, withCore, withRequest, withRest, withCells, doneWith, refusedWith}
+use Rattle.machine.specs.Arbiter.{arbitrated}
 use Rattle.machine.specs.Cells.{switchOn, switchOff, isOn, countersTicked, marks, countersStarted, countersStopped, switched, Due, requestsDue}
 use Rattle.machine.specs.Events.{marksOf, tickedOnce, launched, halted}
 use Rattle.kernel.specs.Methods.{dueWith, Delays, Laid, Reached}
@@ -27,12 +26,11 @@ module _ (ks rs ps : List ℕ) (m : Model) where
   pub tick-done : {ms : List Bool} → ms ≡ marksOf maxEntries ks m
       → {ns : List ℕ} → ns ≡ countersTicked maxEntries 0 ks (m .on) (m .counter)
       → {w : ℕ} {ls : List ℕ} → dueWith w ls ≡ requestsDue (m .core .started) ms rs (dueWith (m .core .request) (m .losses))
-      → {k : Core} → k ≡ withRequest (m .core) w → {p : Picked} → p ≡ arbitrated ps k
-      → {s : Stack} → s ≡ laidOn (p .begun) (m .stack) (m .core .runner) → {v : Stack} → v ≡ laidOn (p .begun) (m .levels) (m .core .level)
-      → doneWith (withRest (withFrames m (p .core) s v) ns (m .on) ls) (p .begun) ≡ tickedOnce ks rs ps m
+      → {p : Picked} → p ≡ arbitrated ps (withRequest (m .core) w)
+      → doneWith (withCore (withRest m ns (m .on) ls) (p .core)) (p .begun) ≡ tickedOnce ks rs ps m
   unfolding tickedOnce
-  tick-done marked counted due asked picked ranks levels =
-      rw (ranks, levels, picked, asked, counted, ap (λ (x : Due). x .request) due, ap (λ (x : Due). x .losses) due, marked)
+  tick-done marked counted due picked =
+      rw (picked, counted, ap (λ (x : Due). x .request) due, ap (λ (x : Due). x .losses) due, marked)
 
 -- a delay that is not refused
 pub short-sum : (d g : ℕ) → eqb d 0 || ltb longestDelay (d + g) ≡ false → d + g ≤ longestDelay

@@ -34,11 +34,12 @@ use Rattle.machine.specs.Events.{activated, finished, chained, got, released, t
 use Rattle.machine.specs.Machine.{machineStep, runnerOf, machineSeen, machineAfter}
 use Rattle.run.specs.Run.{callOf, answerBytes}
 use Rattle.kernel.specs.Passes.{Playable}
-use Rattle.machine.proofs.Simulation.{Fitted, Sim}
-use Rattle.machine.proofs.Switching.{offset-le}
-use Rattle.machine.proofs.Agreement.{event-agrees}
-use Rattle.machine.proofs.Freshness.{fresh-sim}
-use Rattle.machine.proofs.Fitting.{fitted}
+use Rattle.machine.proofs.Relation.Fitted.{Fitted}
+use Rattle.machine.proofs.Relation.Whole.{Sim}
+use Rattle.machine.proofs.Event.Tables.{offset-le}
+use Rattle.machine.proofs.Whole.Lists.{event-agrees}
+use Rattle.machine.proofs.Whole.Fresh.{fresh-sim}
+use Rattle.machine.proofs.Whole.Plan.{fitted}
 use Rattle.kernel.proofs.Run.Bytes.{laid-none}
 
 -- what an arm's method hands back is the step of the event that was read
@@ -101,7 +102,7 @@ module _ (c : Config) (p : Plan) (rk : ℕ → ℕ) (fit : Fitted c p rk) where
   pub offsets-reached : Reached (c .tables) (p .first) (p .largest) (c .entries) (c .offset)
   offsets-reached =
       record {
-        largest = λ t i h low high. rw (fit .largest-at t h) (offset-le c p rk fit t h i (rw (fit .first-at t h) at low) (omega (arith, firstOf-step c t, fit .first-at t h)));
+        largest = λ t i h low high. rw (fit .largest-at t h) (offset-le fit t h i (rw (fit .first-at t h) at low) (omega (arith, firstOf-step c t, fit .first-at t h)));
       }
 
 -- the events from a place on
@@ -145,7 +146,7 @@ module _ (c : Config) (p : Plan) (ts d : List ℕ) (m₀ : Model) where
   pub playable-start : Playable c p m₀ ts (length d) → Playing c p ts d m₀ 0 0 m₀ d
   playable-start given =
       let fit : Fitted c p (rankOf c) = rw (given .planned) (fitted c (given .accepted) (given .shaped)) in
-      playing-start fit (fresh c) (rw (given .fresh) (fresh-sim c p (rankOf c) fit)) (given .readable) (given .room)
+      playing-start fit (fresh c) (rw (given .fresh) (fresh-sim fit)) (given .readable) (given .room)
 
   module _ (at to : ℕ) (m : Model) (out : List ℕ) (g : Playing c p ts d m₀ at to m out) where
     pub length-out : length out ≡ length d
@@ -188,7 +189,7 @@ module _ (c : Config) (p : Plan) (ts d : List ℕ) (m₀ : Model) where
           record {
             fit = g .fit;
             state = step c (g .state) (callOf (r .event)) .state;
-            sim = rw stepped (event-agrees c p (rankOf c) (g .fit) m (g .state) (callOf (r .event)) (g .sim) .sim);
+            sim = rw stepped (event-agrees (g .fit) (callOf (r .event)) (g .sim) .sim);
             bytes = g .bytes ++ answerOf p o;
             output =
                 wrote ∙ ap (laid to (answerOf p o)) (g .output) ∙ ap (λ (k : ℕ). laid k (answerOf p o) (laid 0 (g .bytes) d)) shift

@@ -5,15 +5,13 @@ ghost use Prim.Native.Nat.{_+_};
 ghost use lib.Dec.{ltb, eqb};
 ghost use lib.ListN.{getD};
 ghost use Rattle.scheduler.specs.Call.{longestDelay};
-ghost use Rattle.machine.specs.Model.{withRequest};
 ghost use Rattle.machine.specs.Cells.{isOn};
 ghost use Rattle.machine.specs.Events.{tickedOnce, launched, halted};
 ghost use Rattle.kernel.specs.Methods.{Laid, Reached};
-ghost use Rattle.kernel.specs.View.{view, viewCore, coreOf, outcomeOf};
+ghost use Rattle.kernel.specs.View.{view, outcomeOf};
 use super::ALREADY_RUNS;
 use super::BAD_DELAY;
 use super::CALL_LEVEL;
-use super::Core;
 use super::DONE;
 use super::Model;
 use super::NO_FUNCTION;
@@ -21,7 +19,6 @@ use super::NO_RANK;
 use super::NO_SUCH;
 use super::Outcome;
 use super::arbiter::arbitrated;
-use super::arbiter::laid;
 use super::cells::OFF;
 use super::cells::ON;
 use super::cells::start_counters;
@@ -33,7 +30,6 @@ use super::lookup::byte_at;
 use super::lookup::short_at;
 
 impl Model {
-    // It ends as `settled` does; called with the new counters and losses, that would make the compiler copy them once more.
     pub fn tick<'a>(
         mut self,
         compare: &'a [u16; 64],
@@ -42,7 +38,6 @@ impl Model {
     ) -> Outcome
         ensures { λ r. ⌜ r ≡ outcomeOf (tickedOnce (now (compare .entry)) (now («entry_rank» .entry)) (now (priority .entry)) (view self)) ⌝ }
     {
-        let core = self.core;
         let mut losses = self.losses;
         let on = self.on;
         let mut counter = self.counter;
@@ -50,16 +45,14 @@ impl Model {
         let request = take_matches(
             &matched,
             entry_rank,
-            core.started,
-            core.request,
+            self.started,
+            self.request,
             &mut losses,
         );
-        let picked = arbitrated(asking(core, request), priority);
-        let stack = laid(picked.begun, self.stack, core.runner);
-        let levels = laid(picked.begun, self.levels, core.level);
+        let picked = arbitrated(request, self.started, self.runner, self.level, priority);
         self.counter = counter;
         self.losses = losses;
-        self.with_frames(picked, stack, levels)
+        self.seated(picked)
     }
 
     pub fn start<'a>(
@@ -77,7 +70,7 @@ impl Model {
         requires { ⌜ Reached tables (now first) (now largest) (now entries) (now offset) ⌝ }
         ensures { λ r. ⌜ r ≡ outcomeOf (launched tables (now (first .entry)) (now (largest .entry)) (now (entries .entry)) (now (period .entry)) (now (offset .entry)) (view self) t d) ⌝ }
     {
-        if self.core.runner == NO_RANK {
+        if self.runner == NO_RANK {
             return self.with_status(CALL_LEVEL);
         }
         if tables as u32 <= t {
@@ -111,7 +104,7 @@ impl Model {
         requires { ⌜ Laid tables (now first) (now entries) ⌝ }
         ensures { λ r. ⌜ r ≡ outcomeOf (halted tables (now (first .entry)) (now (entries .entry)) (view self) t) ⌝ }
     {
-        if self.core.runner == NO_RANK {
+        if self.runner == NO_RANK {
             return self.with_status(CALL_LEVEL);
         }
         if tables as u32 <= t {
@@ -145,16 +138,4 @@ fn is_bad_delay(d: u32, largest: u16) -> bool
     ensures { λ r. ⌜ r ≡ eqb d 0 || ltb longestDelay (d + largest) ⌝ }
 {
     d == 0 || 65535 < d as u64 + largest as u64
-}
-
-// The core with other requests.
-fn asking(core: Core, request: u32) -> Core
-    ensures { λ r. ⌜ r ≡ coreOf (withRequest (viewCore core) request) ⌝ }
-{
-    Core {
-        request,
-        started: core.started,
-        runner: core.runner,
-        level: core.level,
-    }
 }

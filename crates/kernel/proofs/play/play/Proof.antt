@@ -135,7 +135,7 @@ loop-again c =
     playing-turn (a .t1) (a .t2) (a .trace .now) (a .out .now) (view (a .fresh)) (k .loop .at) (k .loop .to) (view (k .loop .o .model)) (k .loop .out) (k .loop .inv) (r .before .loop-test .taken) (r .read-event .result) (r .read-event .ensures)
     (viewOutcome (j .match .o)) (stepped j) _
     (p .put-answer .ensures
-    ∙ ap (λ (n : ℕ). laid (k .loop .to) (j .match .o .status ∷ n ∷ j .match .o .model .core .level ∷ markOf (j .match .o .begun) ∷ []) (k .loop .out)) (p .before .before .runner .ensures))
+    ∙ ap (λ (n : ℕ). laid (k .loop .to) (j .match .o .status ∷ n ∷ j .match .o .model .level ∷ markOf (j .match .o .begun) ∷ []) (k .loop .out)) (p .before .before .runner .ensures))
 
 same-length : tie.Need-same-length Inv-loop μ-loop
 same-length c = long (c .before .before)

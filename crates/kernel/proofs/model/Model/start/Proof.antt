@@ -83,8 +83,8 @@ cast-start-counters c =
 start-counters-requires : tie.Need-start-counters-requires
 start-counters-requires c κs =
     let c₁ = c .before .before .before .before in let c₂ = c₁ .before .before .before .before .before in
-    let c₃ = c₂ .before .before in let c₄ = c₃ .before in let c₅ = c₄ .before in let c₆ = c₅ .before .before .before in
-    let c₇ = c₆ .before .before .before in let a = c₇ .args in (
+    let c₃ = c₂ .before .before in let c₄ = c₃ .before in let c₅ = c₄ .before in
+    let c₆ = c₅ .before .before .before in let c₇ = c₆ .before .before .before in let a = c₇ .args in (
       entries-within (a .tables) (a .first .now) (a .entries .now) (c₇ .pre .0) (a .t) (c₆ .if2 .left) (c₂ .byte-at .ensures) (c₁ .byte-at2 .ensures),
       delays-fit (a .tables) (a .first .now) (a .entries .now) (c₇ .pre .0) (a .t) (c₆ .if2 .left) (c₂ .byte-at .ensures) (c₁ .byte-at2 .ensures)
           (a .largest .now) (a .offset .now) (c₇ .pre .1) (a .d) (c₅ .short-at .ensures) (c₄ .is-bad-delay .ensures) (c₃ .if3 .left),
@@ -114,27 +114,4 @@ returns-5 c =
     (c₄ .byte-at2 .ensures) (c₃ .short-at2 .ensures) (c₂ .start-counters .ensures) (c₁ .switch .ensures))
 
 pub start-spec : {M : Type 1} → statement M
-start-spec =
-    tie.close
-    (tie.spec
-    with-status-requires
-    returns
-    with-status-requires-2
-    returns-2
-    short-at-requires
-    is-bad-delay-requires
-    with-status-requires-3
-    returns-3
-    byte-at-requires
-    cast-from
-    is-on-requires
-    with-status-requires-4
-    returns-4
-    byte-at-requires-2
-    cast-n
-    short-at-requires-2
-    cast-start-counters
-    start-counters-requires
-    switch-requires
-    with-status-requires-5
-    returns-5)
+start-spec = tie.close (tie.spec with-status-requires returns with-status-requires-2 returns-2 short-at-requires is-bad-delay-requires with-status-requires-3 returns-3 byte-at-requires cast-from is-on-requires with-status-requires-4 returns-4 byte-at-requires-2 cast-n short-at-requires-2 cast-start-counters start-counters-requires switch-requires with-status-requires-5 returns-5)
