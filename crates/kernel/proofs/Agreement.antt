@@ -15,7 +15,7 @@ use mathlib.Core.List.{List, [], _∷_}
 use lib.ListN.{length}
 use Rattle.config.specs.declared.Config.{Config}
 use Rattle.plan.specs.declared.Plan.{Plan}
-use Rattle.scheduler.specs.Status.{done}
+use Rattle.scheduler.specs.Status.{done, firstOf}
 use Rattle.scheduler.specs.State.{State}
 use Rattle.scheduler.specs.Tick.{dues}
 use Rattle.scheduler.specs.Scheduler.{Event, Activate, Finish, Chain, Get, Release, Tick, Line, Start, Stop, Nothing, Seen, step, noneDue, seen}
@@ -33,7 +33,7 @@ use Rattle.kernel.proofs.Switching.{agrees-start, agrees-stop}
 module _ (c : Config) (p : Plan) (rk : ℕ → ℕ) (fit : Fitted c p rk) where
   -- a code that no event has: nothing happens on either side
   agrees-nothing : (m : Model) (s : State) → Sim c p rk m s → length (dues c s) ≡ p .count → Agrees c p rk fit m s Nothing
-  unfolding machineStep step matched
+  unfolding machineStep step matched firstOf
   agrees-nothing m s sim long =
       agrees c p rk fit m s Nothing (doneWith m false) done (noneDue c s) s refl refl refl (no-match c p rk fit m s sim long)
       (calm-arbitrated c p rk fit m s (sim .chain) done (sim .tied) (sim .calm)) (sim .tied .size) (sim .timed) (sim .lost)

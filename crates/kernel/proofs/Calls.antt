@@ -164,7 +164,7 @@ module _ (c : Config) (p : Plan) (rk : ℕ → ℕ) (fit : Fitted c p rk) where
 
   -- a call with the same status on both sides
   pub agrees-attempt : (m : Model) (s : State) (e : Event) (stM stP : ℕ) (o : Outcome) (s′ : State) → Sim c p rk m s
-      → machineStep c p m e ≡ Machine.attempt m stM o → step c s e ≡ Plain.attempt c s stP s′ → matched p m e ≡ noneDue c s
+      → machineStep c p m e ≡ Machine.attempt m stM o → step c s e ≡ Plain.attempt c s stP (noneDue c s) s′ → matched p m e ≡ noneDue c s
       → stM ≡ stP → (stP ≡ done → Accepted o s′) → Agrees m s e
   agrees-attempt m s e stM stP o s′ sim machine plain due same acc =
       by-eq stP done

@@ -14,7 +14,7 @@ use Rattle.config.specs.Value.{maxEntries}
 use Rattle.config.specs.Meaning.{isTask}
 use Rattle.plan.specs.declared.Plan.{Plan}
 use Rattle.word.specs.Word.{has}
-use Rattle.scheduler.specs.Status.{done}
+use Rattle.scheduler.specs.Status.{done, firstOf}
 use Rattle.scheduler.specs.Body.{Phase, suspended, ready, started, isSuspended, isStarted, Body, become, loses, activatedByEntry}
 use Rattle.scheduler.specs.State.{State, noBody, changing}
 use Rattle.scheduler.specs.Call.{requestWaits}
@@ -169,7 +169,7 @@ module _ (c : Config) (p : Plan) (rk : ℕ → ℕ) (fit : Fitted c p rk) (m : M
       (countersTicked maxEntries 0 (p .compare) (m .on) (m .counter)) (m .on) (requestsDue (m .core .started) ms (p .entry) (record { request = m .core .request; losses = m .losses }) .losses))
 
   pub agrees-tick : Agrees c p rk fit m s Tick
-  unfolding machineStep tickedOnce step matched
+  unfolding machineStep tickedOnce step matched firstOf
   agrees-tick =
       agrees c p rk fit m s Tick (settled (p .priority) (ticking (p .compare) (p .entry) m)) done ms (Plain.ticked c s) refl refl refl marks-are
       (settled-tied c p rk fit (ticking (p .compare) (p .entry) m) (Plain.ticked c s) (sim .chain) ticked-tied)

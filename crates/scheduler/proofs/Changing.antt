@@ -1,6 +1,6 @@
 -- What an event leaves as it was.
 --
--- In order: a change of one body leaves the others and the tables; an event is a call or a Tick (`step-elim`); no event adds a body or a
+-- In order: a change of one body leaves the others and the tables; what every effect keeps (`effectOf-keeps`); no event adds a body or a
 -- table; no call changes a loss. Assumes nothing.
 use Prim.Native.Nat.{ℕ, _<_}
 use mathlib.Core.Path.{_≡_, refl, sym, ap, _∙_}
@@ -13,10 +13,11 @@ use lib.Seq.{getD-set-same, getD-set-other, map-set-same}
 use Rattle.config.specs.declared.Config.{Config}
 use Rattle.scheduler.specs.Status.{done}
 use Rattle.scheduler.specs.Body.{isStarted, Body, ready, started, become, finished, requested, takes, gives-back, activatedByEntry}
-use Rattle.scheduler.specs.State.{State, Table, stopped, noBody, bodyOf, changing, withTable, runner}
-use Rattle.scheduler.specs.Call.{caller, activateStatus, activate, finishStatus, finish, chainStatus, chain, getStatus, get, releaseStatus, release, lineStatus, line, startStatus, start, stopStatus, stop}
+use Rattle.scheduler.specs.State.{State, Table, stopped, running, noBody, bodyOf, changing, withTable, runner}
+use Rattle.scheduler.specs.Call.{caller, finish, statusOf, effectOf}
 use Rattle.scheduler.specs.Tick.{counting, counted, activatingDue, dues, ticked}
-use Rattle.scheduler.specs.Scheduler.{Event, Activate, Finish, Chain, Get, Release, Tick, Line, Start, Stop, Nothing, begins, dispatched, lossesOf, newBody, Stepped, attempt, step, fresh, after}
+use Rattle.scheduler.specs.Event.{Event, Activate, Finish, Chain, Get, Release, Tick, Line, Start, Stop, Nothing}
+use Rattle.scheduler.specs.Scheduler.{begins, dispatched, lossesOf, newBody, step, fresh, after}
 
 module _ (i : ℕ) (f : Body → Body) (s : State) where
   pub bodyOf-changing-same : i < length (s .bodies) → bodyOf (changing i f s) i ≡ f (bodyOf s i)
@@ -43,34 +44,25 @@ requested-losses b = go (isStarted (b .phase))
     go true = refl
     go false = refl
 
--- what a call may do to the state s where its status is 0
-pub data Effect (s : State) : State → Type 0 where
-  none : Effect s s
-  one-body : (i : ℕ) (f : Body → Body) → KeepsLosses f → Effect s (changing i f s)
-  two-bodies : (i j : ℕ) (f g : Body → Body) → KeepsLosses f → KeepsLosses g → Effect s (changing j g (changing i f s))
-  one-table : (t : ℕ) (x : Table) → Effect s (withTable t x s)
-
--- an event is a call, of which "only 0 changes anything", or a Tick
-pub step-elim : (c : Config) (s : State) (P : Event → Stepped → Type 0)
-    → ((e : Event) (st : ℕ) (s′ : State) → Effect s s′ → P e (attempt c s st s′))
-    → P Tick (step c s Tick)
+-- what the effects keep: each changes bodies and leaves their losses, or changes a table, or is that of a Tick
+pub effectOf-keeps : (c : Config) (s : State) (P : State → Type 0)
+    → ((i : ℕ) (f : Body → Body) (x : State) → KeepsLosses f → P x → P (changing i f x))
+    → ((t : ℕ) (y : Table) → P (withTable t y s))
+    → P s
     → (e : Event)
-    → P e (step c s e)
-unfolding step
-step-elim c s P call tick (Activate t) =
-    call (Activate t) (activateStatus c s t) (activate t s) (one-body t (become ready) (λ b. refl))
-step-elim c s P call tick Finish = call Finish (finishStatus c s) (finish c s) (one-body (caller c s) finished (λ b. refl))
-step-elim c s P call tick (Chain t) =
-    call (Chain t) (chainStatus c s t) (chain c t s)
-    (two-bodies (caller c s) t finished (become ready) (λ b. refl) (λ b. refl))
-step-elim c s P call tick (Get r) = call (Get r) (getStatus c s r) (get c r s) (one-body (caller c s) (takes r) (λ b. refl))
-step-elim c s P call tick (Release r) =
-    call (Release r) (releaseStatus c s r) (release c s) (one-body (caller c s) gives-back (λ b. refl))
-step-elim c s P call tick Tick = tick
-step-elim c s P call tick (Line i) = call (Line i) (lineStatus c s i) (line i s) (one-body i requested requested-losses)
-step-elim c s P call tick (Start t d) = call (Start t d) (startStatus c s t d) (start t d s) (one-table t _)
-step-elim c s P call tick (Stop t) = call (Stop t) (stopStatus c s t) (stop t s) (one-table t _)
-step-elim c s P call tick Nothing = call Nothing done s none
+    → (e ≡ Tick → P (ticked c s))
+    → P (effectOf c s e)
+effectOf-keeps c s P on-body on-table p (Activate t) tick = on-body t (become ready) s (λ b. refl) p
+effectOf-keeps c s P on-body on-table p Finish tick = on-body (caller c s) finished s (λ b. refl) p
+effectOf-keeps c s P on-body on-table p (Chain t) tick =
+    on-body t (become ready) (finish c s) (λ b. refl) (on-body (caller c s) finished s (λ b. refl) p)
+effectOf-keeps c s P on-body on-table p (Get r) tick = on-body (caller c s) (takes r) s (λ b. refl) p
+effectOf-keeps c s P on-body on-table p (Release r) tick = on-body (caller c s) gives-back s (λ b. refl) p
+effectOf-keeps c s P on-body on-table p Tick tick = tick refl
+effectOf-keeps c s P on-body on-table p (Line i) tick = on-body i requested s requested-losses p
+effectOf-keeps c s P on-body on-table p (Start t d) tick = on-table t (running d 0)
+effectOf-keeps c s P on-body on-table p (Stop t) tick = on-table t stopped
+effectOf-keeps c s P on-body on-table p Nothing tick = p
 
 pub cond-either : (P : State → Type 0) (b : Bool) (x y : State) → P x → P y → P (cond b x y)
 cond-either P true x y p q = p
@@ -95,16 +87,11 @@ module _ (P : State → Type 0) (on-body : (i : ℕ) (f : Body → Body) (s : St
       → (e : Event)
       → P (step c s e .state)
   unfolding step
-  step-keeps on-table on-counted c s p =
-      step-elim c s (λ e x. P (x .state))
-      (λ e st s′ f. dispatched-keeps c _ (cond-either P (eqb st done) s′ s (effect f) p))
-      (dispatched-keeps c (ticked c s) (activatingDue-keeps (dues c (counted s)) (c .task) (counted s) (on-counted s p)))
-    where
-      effect : {s′ : State} → Effect s s′ → P s′
-      effect none = p
-      effect (one-body i f k) = on-body i f s p
-      effect (two-bodies i j f g k l) = on-body j g (changing i f s) (on-body i f s p)
-      effect (one-table t x) = on-table t x s p
+  step-keeps on-table on-counted c s p e =
+      dispatched-keeps c _
+      (cond-either P (eqb (statusOf c s e) done) (effectOf c s e) s
+      (effectOf-keeps c s P (λ i f x k. on-body i f x) (λ t y. on-table t y s p) p e (λ q. activatingDue-keeps (dues c (counted s)) (c .task) (counted s) (on-counted s p)))
+      p)
 
 -- no event adds or takes away a body or a table
 module _ (c : Config) where
@@ -153,24 +140,17 @@ module _ (c : Config) where
       refl
 
   pub losses-call : (s : State) (e : Event) → e ≢ Tick → lossesOf (step c s e .state) ≡ lossesOf s
-  losses-call s =
-      step-elim c s (λ e x. e ≢ Tick → lossesOf (x .state) ≡ lossesOf s)
-      (λ e st s′ f d. losses-dispatched (cond (eqb st done) s′ s) ∙ cond-either (λ x. lossesOf x ≡ lossesOf s) (eqb st done) s′ s (effect f) refl)
-      (λ d. absurd (d refl))
-    where
-      effect : {s′ : State} → Effect s s′ → lossesOf s′ ≡ lossesOf s
-      effect none = refl
-      effect (one-body i f k) = losses-changing i f s k
-      effect (two-bodies i j f g k l) = losses-changing j g (changing i f s) l ∙ losses-changing i f s k
-      effect (one-table t x) = refl
+  unfolding step
+  losses-call s e d =
+      losses-dispatched (cond (eqb (statusOf c s e) done) (effectOf c s e) s)
+      ∙ cond-either (λ x. lossesOf x ≡ lossesOf s) (eqb (statusOf c s e) done) (effectOf c s e) s
+      (effectOf-keeps c s (λ x. lossesOf x ≡ lossesOf s) (λ i f x k h. losses-changing i f x k ∙ h) (λ t y. refl) refl e (λ q. absurd (d q)))
+      refl
 
   -- the losses that are seen are those of the state after the event
   pub losses-seen : (s : State) (e : Event) → step c s e .seen .losses ≡ lossesOf (step c s e .state)
   unfolding step
-  losses-seen s =
-      step-elim c s (λ e x. x .seen .losses ≡ lossesOf (x .state))
-      (λ e st s′ f. sym (losses-dispatched (cond (eqb st done) s′ s)))
-      (sym (losses-dispatched (ticked c s)))
+  losses-seen s e = sym (losses-dispatched (cond (eqb (statusOf c s e) done) (effectOf c s e) s))
 
 -- the state after two lists of events, one after the other
 pub after-append : (c : Config) (es fs : List Event) (s : State) → after c s (es ++ fs) ≡ after c (after c s es) fs

@@ -15,12 +15,13 @@ use lib.ListN.{length, getD, List·getD-map, replicate}
 use lib.Seq.{getD-set-same, getD-set-other}
 use Rattle.number.proofs.Cases.{by-eq}
 use Rattle.config.specs.declared.Config.{Config}
-use Rattle.scheduler.specs.Status.{done}
+use Rattle.scheduler.specs.Status.{done, firstOf}
 use Rattle.scheduler.specs.State.{State, Table, stopped, running, tableOf, withTable}
-use Rattle.scheduler.specs.Call.{activateStatus, activate, finishStatus, finish, chainStatus, chain, getStatus, get, releaseStatus, release, lineStatus, line, startStatus, start, stopStatus, stop}
-use Rattle.scheduler.specs.Tick.{counting, ticked}
-use Rattle.scheduler.specs.Scheduler.{Event, Activate, Finish, Chain, Get, Release, Tick, Line, Start, Stop, Nothing, attempt, step, fresh, after}
-use Rattle.scheduler.specs.History.{Accepted, next, NoneAccepted, StartOf, StopOf, NoStart, NoStop, isTick, ticksIn, History, never-started, since-start, since-stop}
+use Rattle.scheduler.specs.Event.{Event, Activate, Finish, Chain, Get, Release, Tick, Line, Start, Stop, Nothing, isTick}
+use Rattle.scheduler.specs.Tick.{counting}
+use Rattle.scheduler.specs.Call.{statusOf, effectOf}
+use Rattle.scheduler.specs.Scheduler.{step, fresh, after}
+use Rattle.scheduler.specs.History.{Accepted, next, NoneAccepted, StartOf, StopOf, NoStart, NoStop, ticksIn, History, never-started, since-start, since-stop}
 use Rattle.scheduler.proofs.Checks.{start-passed, stop-passed}
 use Rattle.scheduler.proofs.Changing.{after-append, cond-either, tables-dispatched, tables-ticked, tables-fresh, length-tables-step, length-tables-fresh}
 
@@ -36,17 +37,21 @@ clash : _≡_ {A = ℕ} 0 1 → ⊥
 clash e = omega arith
 
 module _ (c : Config) (t : ℕ) (s : State) where
-  -- a call's own change of the table, or none
-  attempt-table : (st : ℕ) (s′ : State) → tableOf s′ t ≡ tableOf s t → tableOf (attempt c s st s′ .state) t ≡ tableOf s t
-  attempt-table st s′ e =
-      ap (λ l. getD l t stopped) (tables-dispatched c (cond (eqb st done) s′ s))
-      ∙ cond-either (λ x. tableOf x t ≡ tableOf s t) (eqb st done) s′ s e refl
+  -- the table after the event e: its effect's where the status is 0
+  table-next : (e : Event) → tableOf (next c s e) t ≡ tableOf (cond (eqb (statusOf c s e) done) (effectOf c s e) s) t
+  unfolding step
+  table-next e = ap (λ l. getD l t stopped) (tables-dispatched c (cond (eqb (statusOf c s e) done) (effectOf c s e) s))
 
-  attempt-done : (st : ℕ) (s′ : State) → st ≡ done → tableOf (attempt c s st s′ .state) t ≡ tableOf s′ t
-  attempt-done st s′ e = ap (λ l. getD l t stopped) (tables-dispatched c (cond (eqb st done) s′ s)) ∙ rw (eq-eqb st done e)
+  table-done : (e : Event) → Accepted c s e → tableOf (next c s e) t ≡ tableOf (effectOf c s e) t
+  unfolding step
+  table-done e a = table-next e ∙ rw (eq-eqb (statusOf c s e) done a)
 
-  attempt-refused : (st : ℕ) (s′ : State) → st ≢ done → tableOf (attempt c s st s′ .state) t ≡ tableOf s t
-  attempt-refused st s′ e = ap (λ l. getD l t stopped) (tables-dispatched c (cond (eqb st done) s′ s)) ∙ rw (ne-eqb st done e)
+  table-refused : (e : Event) → (Accepted c s e → ⊥) → tableOf (next c s e) t ≡ tableOf s t
+  unfolding step
+  table-refused e r = table-next e ∙ rw (ne-eqb (statusOf c s e) done r)
+
+  table-kept : (e : Event) → tableOf (effectOf c s e) t ≡ tableOf s t → tableOf (next c s e) t ≡ tableOf s t
+  table-kept e k = table-next e ∙ cond-either (λ x. tableOf x t ≡ tableOf s t) (eqb (statusOf c s e) done) (effectOf c s e) s k refl
 
   withTable-other : (u : ℕ) (x : Table) → (u ≡ t → ⊥) → tableOf (withTable u x s) t ≡ tableOf s t
   withTable-other u x d = getD-set-other (s .tables) u t x stopped (λ e. d (sym e))
@@ -54,51 +59,48 @@ module _ (c : Config) (t : ℕ) (s : State) where
   table-started : (d : ℕ) → length (s .tables) ≡ c .tables → Accepted c s (Start t d) → tableOf (next c s (Start t d)) t ≡ running d 0
   unfolding step
   table-started d n a =
-      attempt-done (startStatus c s t d) (start t d s) a
+      table-done (Start t d) a
       ∙ getD-set-same (s .tables) t (running d 0) stopped (omega (arith, start-passed c s t d a .1))
 
   table-stopped : length (s .tables) ≡ c .tables → Accepted c s (Stop t) → tableOf (next c s (Stop t)) t ≡ stopped
   unfolding step
   table-stopped n a =
-      attempt-done (stopStatus c s t) (stop t s) a
+      table-done (Stop t) a
       ∙ getD-set-same (s .tables) t stopped stopped (omega (arith, stop-passed c s t a .1))
 
   table-ticked : tableOf (next c s Tick) t ≡ counting (tableOf s t)
-  unfolding step counting
-  table-ticked =
-      ap (λ l. getD l t stopped) (tables-dispatched c (ticked c s) ∙ tables-ticked c s)
-      ∙ List·getD-map counting (s .tables) t stopped
+  unfolding step firstOf counting
+  table-ticked = table-done Tick refl ∙ ap (λ l. getD l t stopped) (tables-ticked c s) ∙ List·getD-map counting (s .tables) t stopped
 
   turn-start : (u d : ℕ) → length (s .tables) ≡ c .tables → Turn c t s (Start u d)
   unfolding step
   turn-start u d n =
-      by-eq (startStatus c s u d) done
+      by-eq (statusOf c s (Start u d)) done
       (λ ok. by-eq u t
       (λ same. rw same (starts d refl (rw same at ok) (table-started d n (rw same at ok))))
-      (λ other. passes (λ p a. other (cc)) (λ q a. clash (cc)) (attempt-table (startStatus c s u d) (start u d s) (withTable-other u (running d 0) other))))
-      (λ bad. passes (λ p a. bad a) (λ q a. clash (cc)) (attempt-refused (startStatus c s u d) (start u d s) bad))
+      (λ other. passes (λ p a. other (cc)) (λ q a. clash (cc)) (table-kept (Start u d) (withTable-other u (running d 0) other))))
+      (λ bad. passes (λ p a. bad a) (λ q a. clash (cc)) (table-refused (Start u d) bad))
 
   turn-stop : (u : ℕ) → length (s .tables) ≡ c .tables → Turn c t s (Stop u)
   unfolding step
   turn-stop u n =
-      by-eq (stopStatus c s u) done
+      by-eq (statusOf c s (Stop u)) done
       (λ ok. by-eq u t
       (λ same. rw same (stops refl (rw same at ok) (table-stopped n (rw same at ok))))
-      (λ other. passes (λ p a. clash (cc)) (λ q a. other (cc)) (attempt-table (stopStatus c s u) (stop u s) (withTable-other u stopped other))))
-      (λ bad. passes (λ p a. clash (cc)) (λ q a. bad a) (attempt-refused (stopStatus c s u) (stop u s) bad))
+      (λ other. passes (λ p a. clash (cc)) (λ q a. other (cc)) (table-kept (Stop u) (withTable-other u stopped other))))
+      (λ bad. passes (λ p a. clash (cc)) (λ q a. bad a) (table-refused (Stop u) bad))
 
   turn : (e : Event) → length (s .tables) ≡ c .tables → Turn c t s e
-  unfolding step
-  turn (Activate u) n = passes (λ p a. clash (cc)) (λ q a. clash (cc)) (attempt-table (activateStatus c s u) (activate u s) refl)
-  turn Finish n = passes (λ p a. clash (cc)) (λ q a. clash (cc)) (attempt-table (finishStatus c s) (finish c s) refl)
-  turn (Chain u) n = passes (λ p a. clash (cc)) (λ q a. clash (cc)) (attempt-table (chainStatus c s u) (chain c u s) refl)
-  turn (Get r) n = passes (λ p a. clash (cc)) (λ q a. clash (cc)) (attempt-table (getStatus c s r) (get c r s) refl)
-  turn (Release r) n = passes (λ p a. clash (cc)) (λ q a. clash (cc)) (attempt-table (releaseStatus c s r) (release c s) refl)
+  turn (Activate u) n = passes (λ p a. clash (cc)) (λ q a. clash (cc)) (table-kept (Activate u) refl)
+  turn Finish n = passes (λ p a. clash (cc)) (λ q a. clash (cc)) (table-kept Finish refl)
+  turn (Chain u) n = passes (λ p a. clash (cc)) (λ q a. clash (cc)) (table-kept (Chain u) refl)
+  turn (Get r) n = passes (λ p a. clash (cc)) (λ q a. clash (cc)) (table-kept (Get r) refl)
+  turn (Release r) n = passes (λ p a. clash (cc)) (λ q a. clash (cc)) (table-kept (Release r) refl)
   turn Tick n = passes (λ p a. clash (cc)) (λ q a. clash (cc)) table-ticked
-  turn (Line i) n = passes (λ p a. clash (cc)) (λ q a. clash (cc)) (attempt-table (lineStatus c s i) (line i s) refl)
+  turn (Line i) n = passes (λ p a. clash (cc)) (λ q a. clash (cc)) (table-kept (Line i) refl)
   turn (Start u d) n = turn-start u d n
   turn (Stop u) n = turn-stop u n
-  turn Nothing n = passes (λ p a. clash (cc)) (λ q a. clash (cc)) (attempt-table done s refl)
+  turn Nothing n = passes (λ p a. clash (cc)) (λ q a. clash (cc)) (table-kept Nothing refl)
 
 -- none of e and es: neither e nor any of es
 module _ (P : Event → Type 0) (c : Config) (s : State) (e : Event) (es : List Event) where

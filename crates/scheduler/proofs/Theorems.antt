@@ -1,21 +1,23 @@
 -- What holds of the plain scheduler. Each law stands here in full, over specs/ alone; the modules it cites prove it.
 --
--- In order: who runs; that a refused call changes nothing; what an accepted Activate finds; where losses come from; that d and n are
+-- In order: who runs; document 01's table of events; that a refused call changes nothing; what an accepted Activate finds; where losses come from; that d and n are
 -- counted as demand 3 says. `Choosing` and `Checks` have more of who is chosen and of what an accepted call finds.
 -- Assumes nothing.
 use Prim.Native.Nat.{ℕ, _≤_, _<_, max}
-use mathlib.Core.Path.{_≡_, ap}
+use mathlib.Core.Path.{_≡_, refl, ap}
 use mathlib.Core.Bool.{true, false}
-use mathlib.Core.List.{List, _∷_, _++_}
+use mathlib.Core.List.{List, [], _∷_, _++_, map}
 use mathlib.Core.Logic.{_≢_, _↔_}
 use lib.ListN.{length}
 use Rattle.config.specs.declared.Config.{Config}
 use Rattle.config.specs.Meaning.{priorityOf, ceiling}
-use Rattle.scheduler.specs.Status.{done}
+use Rattle.scheduler.specs.Status.{Check, done, NoneFails}
 use Rattle.scheduler.specs.Body.{Body, suspended, isSuspended, isStarted, current, takes, gives-back}
 use Rattle.scheduler.specs.Choice.{Candidate, nobody, isNobody, candidate, goesBefore}
 use Rattle.scheduler.specs.State.{State, Table, stopped, running, bodyOf, tableOf, runner}
-use Rattle.scheduler.specs.Scheduler.{Event, Activate, Tick, Start, Stop, begins, dispatched, lossesOf, step, fresh, after}
+use Rattle.scheduler.specs.Event.{Event, Activate, Finish, Chain, Get, Release, Tick, Line, Start, Stop}
+use Rattle.scheduler.specs.Call.{checksOf}
+use Rattle.scheduler.specs.Scheduler.{begins, dispatched, lossesOf, step, fresh, after}
 use Rattle.scheduler.specs.History.{Accepted, next, NoStart, NoStop, ticksIn, History}
 use Rattle.scheduler.proofs.Choosing as Choosing
 use Rattle.scheduler.proofs.Checks as Checks
@@ -55,6 +57,46 @@ current-takes = Choosing.current-takes
 
 pub gives-back-takes : (r : ℕ) (b : Body) → gives-back (takes r b) ≡ b
 gives-back-takes = Choosing.gives-back-takes
+
+-- "statuses in order": the numbers that the event's checks give
+abbrev pub statuses : Config → State → Event → List ℕ
+statuses c s e = map (λ k. k .status) (checksOf c s e)
+
+-- document 01's table of events, whole
+pub record EventTable (c : Config) (s : State) : Type 0 where
+  pub one-activate : (t : ℕ) → statuses c s (Activate t) ≡ 2 ∷ 3 ∷ 4 ∷ []
+  pub two-finish : statuses c s Finish ≡ 2 ∷ 6 ∷ []
+  pub three-chain : (t : ℕ) → statuses c s (Chain t) ≡ 2 ∷ 3 ∷ 6 ∷ 4 ∷ []
+  pub four-get : (r : ℕ) → statuses c s (Get r) ≡ 2 ∷ 3 ∷ 1 ∷ []
+  pub five-release : (r : ℕ) → statuses c s (Release r) ≡ 2 ∷ 3 ∷ 5 ∷ []
+  pub six-tick : statuses c s Tick ≡ []
+  pub seven-line : (i : ℕ) → statuses c s (Line i) ≡ 3 ∷ 4 ∷ []
+  pub eight-start : (t d : ℕ) → statuses c s (Start t d) ≡ 2 ∷ 3 ∷ 8 ∷ 7 ∷ []
+  pub nine-stop : (t : ℕ) → statuses c s (Stop t) ≡ 2 ∷ 3 ∷ 5 ∷ []
+
+pub event-table : (c : Config) (s : State) → EventTable c s
+event-table c s =
+    record {
+      one-activate = λ t. refl;
+      two-finish = refl;
+      three-chain = λ t. refl;
+      four-get = λ r. refl;
+      five-release = λ r. refl;
+      six-tick = refl;
+      seven-line = λ i. refl;
+      eight-start = λ t d. refl;
+      nine-stop = λ t. refl;
+    }
+
+-- an event is accepted exactly if none of its checks fails, and "the first status that applies is given"
+pub accepted-none-fails : (c : Config) (s : State) (e : Event) → (step c s e .seen .status ≡ 0) ↔ NoneFails (checksOf c s e)
+accepted-none-fails = Checks.accepted-none-fails
+
+pub first-given : (c : Config) (s : State) (e : Event) (before : List Check) (k : Check) (rest : List Check) → checksOf c s e ≡ before ++ k ∷ rest
+    → NoneFails before
+    → k .fails ≡ true
+    → step c s e .seen .status ≡ k .status
+first-given = Checks.first-given
 
 -- "A status other than 0 changes nothing", after every list of events
 pub refused-same : (c : Config) (es : List Event) (e : Event) → step c (after c (fresh c) es) e .seen .status ≢ done

@@ -8,12 +8,13 @@
 -- Main law: `table-history` (proofs/Theorems.antt). Assumes nothing.
 use Prim.Native.Nat.{ℕ, suc}
 use mathlib.Core.Path.{_≡_}
-use mathlib.Core.Bool.{Bool, true, false, cond}
+use mathlib.Core.Bool.{cond}
 use mathlib.Core.List.{List, [], _∷_, _++_}
 use Rattle.config.specs.declared.Config.{Config}
 use Rattle.scheduler.specs.Status.{done}
 use Rattle.scheduler.specs.State.{Table, stopped, running, State}
-use Rattle.scheduler.specs.Scheduler.{Event, Activate, Finish, Chain, Get, Release, Tick, Line, Start, Stop, Nothing, step, fresh, after}
+use Rattle.scheduler.specs.Event.{Event, Start, Stop, isTick}
+use Rattle.scheduler.specs.Scheduler.{step, fresh, after}
 
 abbrev pub Accepted : Config → State → Event → Type 0
 Accepted c s e = step c s e .seen .status ≡ done
@@ -37,18 +38,6 @@ NoStart c t = NoneAccepted (StartOf t) c
 
 abbrev pub NoStop : Config → ℕ → State → List Event → Type 0
 NoStop c t = NoneAccepted (StopOf t) c
-
-abbrev pub isTick : Event → Bool
-isTick (Activate t) = false
-isTick Finish = false
-isTick (Chain t) = false
-isTick (Get r) = false
-isTick (Release r) = false
-isTick Tick = true
-isTick (Line i) = false
-isTick (Start t d) = false
-isTick (Stop t) = false
-isTick Nothing = false
 
 unfoldable pub ticksIn : List Event → ℕ
 ticksIn [] = 0

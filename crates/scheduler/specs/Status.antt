@@ -1,8 +1,9 @@
 -- What a call answers: OSEK's status codes, by document 01's numbers.
 -- Assumes nothing.
 use Prim.Native.Nat.{ℕ}
-use mathlib.Core.Bool.{Bool, cond}
-use mathlib.Core.List.{List, [], _∷_}
+use mathlib.Core.Path.{_≡_}
+use mathlib.Core.Bool.{Bool, false, cond}
+use mathlib.Core.List.{List, [], _∷_, _++_}
 
 -- E_OK
 abbrev pub done : ℕ
@@ -53,3 +54,7 @@ infix 1 _gives_
 unfoldable pub firstOf : List Check → ℕ
 firstOf [] = done
 firstOf (k ∷ ks) = cond (k .fails) (k .status) (firstOf ks)
+
+-- none of the checks fails
+abbrev pub NoneFails : List Check → Type 0
+NoneFails ks = (k : Check) (before rest : List Check) → ks ≡ before ++ k ∷ rest → k .fails ≡ false
