@@ -13,7 +13,7 @@ use lib.Seq.{getD-set-same, getD-set-other, map-set-same}
 use Rattle.config.specs.declared.Config.{Config}
 use Rattle.scheduler.specs.Status.{done}
 use Rattle.scheduler.specs.Body.{isStarted, Body, ready, started, become, finished, requested, takes, gives-back, activatedByEntry}
-use Rattle.scheduler.specs.State.{State, Table, stopped, running, noBody, bodyOf, changing, withTable, runner}
+use Rattle.scheduler.specs.State.{State, Table, stopped, noBody, bodyOf, changing, withTable, runner}
 use Rattle.scheduler.specs.Call.{caller, finish, statusOf, effectOf}
 use Rattle.scheduler.specs.Tick.{counting, counted, activatingDue, dues, ticked}
 use Rattle.scheduler.specs.Event.{Event, Activate, Finish, Chain, Get, Release, Tick, Line, Start, Stop, Nothing}
@@ -60,8 +60,8 @@ effectOf-keeps c s P on-body on-table p (Get r) tick = on-body (caller c s) (tak
 effectOf-keeps c s P on-body on-table p (Release r) tick = on-body (caller c s) gives-back s (λ b. refl) p
 effectOf-keeps c s P on-body on-table p Tick tick = tick refl
 effectOf-keeps c s P on-body on-table p (Line i) tick = on-body i requested s requested-losses p
-effectOf-keeps c s P on-body on-table p (Start t d) tick = on-table t (running d 0)
-effectOf-keeps c s P on-body on-table p (Stop t) tick = on-table t stopped
+effectOf-keeps c s P on-body on-table p (Start t d) tick = on-table t _
+effectOf-keeps c s P on-body on-table p (Stop t) tick = on-table t _
 effectOf-keeps c s P on-body on-table p Nothing tick = p
 
 pub cond-either : (P : State → Type 0) (b : Bool) (x y : State) → P x → P y → P (cond b x y)
