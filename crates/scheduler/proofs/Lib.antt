@@ -2,6 +2,7 @@
 -- `Listing` is document 01's listing.
 pub mod Theorems
 pub mod Listing
+pub mod Examples
 pub mod Choosing
 pub mod Checks
 pub mod Changing
