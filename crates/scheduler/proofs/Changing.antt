@@ -7,6 +7,7 @@ use mathlib.Core.Path.{_≡_, refl, sym, ap, _∙_}
 use mathlib.Core.Bool.{Bool, true, false, cond}
 use mathlib.Core.List.{List, [], _∷_, _++_, map}
 use mathlib.Core.Logic.{_≢_}
+use native.Mathlib.Omega.{arith}
 use lib.Dec.{eqb}
 use lib.ListN.{length, length-set, length-map, length-replicate, take, replicate}
 use lib.Seq.{getD-set-same, getD-set-other, map-set-same}
@@ -31,6 +32,10 @@ module _ (i : ℕ) (f : Body → Body) (s : State) where
 
   pub tables-changing : changing i f s .tables ≡ s .tables
   tables-changing = refl
+
+-- two events of different kinds are not equal
+pub clash : _≡_ {A = ℕ} 0 1 → ⊥
+clash e = omega arith
 
 abbrev pub KeepsLosses : (Body → Body) → Type 0
 KeepsLosses f = (b : Body) → f b .losses ≡ b .losses
@@ -64,20 +69,34 @@ effectOf-keeps c s P on-body on-table p (Start t d) tick = on-table t _
 effectOf-keeps c s P on-body on-table p (Stop t) tick = on-table t _
 effectOf-keeps c s P on-body on-table p Nothing tick = p
 
+pub by-tick : {C : Type 0} (e : Event) → (e ≡ Tick → C) → (e ≢ Tick → C) → C
+by-tick (Activate t) f g = g (λ q. clash (cc))
+by-tick Finish f g = g (λ q. clash (cc))
+by-tick (Chain t) f g = g (λ q. clash (cc))
+by-tick (Get r) f g = g (λ q. clash (cc))
+by-tick (Release r) f g = g (λ q. clash (cc))
+by-tick Tick f g = f refl
+by-tick (Line i) f g = g (λ q. clash (cc))
+by-tick (Start t d) f g = g (λ q. clash (cc))
+by-tick (Stop t) f g = g (λ q. clash (cc))
+by-tick Nothing f g = g (λ q. clash (cc))
+
 pub cond-either : (P : State → Type 0) (b : Bool) (x y : State) → P x → P y → P (cond b x y)
 cond-either P true x y p q = p
 cond-either P false x y p q = q
 
--- what every change of a body keeps
-module _ (P : State → Type 0) (on-body : (i : ℕ) (f : Body → Body) (s : State) → P s → P (changing i f s)) where
+-- what every due entry keeps
+module _ (P : State → Type 0) (on-entry : (t : ℕ) (s : State) → P s → P (changing t activatedByEntry s)) where
   pub activatingDue-keeps : (ds : List Bool) (ts : List ℕ) (s : State) → P s → P (activatingDue ds ts s)
   unfolding activatingDue
   activatingDue-keeps [] ts s p = p
   activatingDue-keeps (true ∷ ds) [] s p = p
   activatingDue-keeps (false ∷ ds) [] s p = p
-  activatingDue-keeps (true ∷ ds) (t ∷ ts) s p = activatingDue-keeps ds ts (changing t activatedByEntry s) (on-body t activatedByEntry s p)
+  activatingDue-keeps (true ∷ ds) (t ∷ ts) s p = activatingDue-keeps ds ts (changing t activatedByEntry s) (on-entry t s p)
   activatingDue-keeps (false ∷ ds) (t ∷ ts) s p = activatingDue-keeps ds ts s p
 
+-- what every change of a body keeps
+module _ (P : State → Type 0) (on-body : (i : ℕ) (f : Body → Body) (s : State) → P s → P (changing i f s)) where
   pub dispatched-keeps : (c : Config) (s : State) → P s → P (dispatched c s)
   dispatched-keeps c s p = cond-either P (begins (runner c s)) _ s (on-body (runner c s .number) (become started) s p) p
 
@@ -90,7 +109,7 @@ module _ (P : State → Type 0) (on-body : (i : ℕ) (f : Body → Body) (s : St
   step-keeps on-table on-counted c s p e =
       dispatched-keeps c _
       (cond-either P (eqb (statusOf c s e) done) (effectOf c s e) s
-      (effectOf-keeps c s P (λ i f x k. on-body i f x) (λ t y. on-table t y s p) p e (λ q. activatingDue-keeps (dues c (counted s)) (c .task) (counted s) (on-counted s p)))
+      (effectOf-keeps c s P (λ i f x k. on-body i f x) (λ t y. on-table t y s p) p e (λ q. activatingDue-keeps P (λ t. on-body t activatedByEntry) (dues c (counted s)) (c .task) (counted s) (on-counted s p)))
       p)
 
 -- no event adds or takes away a body or a table
@@ -120,7 +139,7 @@ module _ (c : Config) where
 
   pub tables-ticked : (s : State) → ticked c s .tables ≡ map counting (s .tables)
   tables-ticked s =
-      activatingDue-keeps (λ x. x .tables ≡ map counting (s .tables)) (λ i f x h. h) (dues c (counted s)) (c .task) (counted s) refl
+      activatingDue-keeps (λ x. x .tables ≡ map counting (s .tables)) (λ t x h. h) (dues c (counted s)) (c .task) (counted s) refl
 
   pub tables-fresh : fresh c .tables ≡ replicate (c .tables) stopped
   tables-fresh = tables-dispatched (record { bodies = map newBody (take (c .bodies) (c .autostart)); tables = replicate (c .tables) stopped })
@@ -133,7 +152,7 @@ module _ (c : Config) where
   losses-changing : (i : ℕ) (f : Body → Body) (s : State) → KeepsLosses f → lossesOf (changing i f s) ≡ lossesOf s
   losses-changing i f s k = map-set-same (λ b. b .losses) (s .bodies) i (f (bodyOf s i)) noBody (k (bodyOf s i))
 
-  losses-dispatched : (s : State) → lossesOf (dispatched c s) ≡ lossesOf s
+  pub losses-dispatched : (s : State) → lossesOf (dispatched c s) ≡ lossesOf s
   losses-dispatched s =
       cond-either (λ x. lossesOf x ≡ lossesOf s) (begins (runner c s)) _ s
       (losses-changing (runner c s .number) (become started) s (λ b. refl))

@@ -18,6 +18,7 @@ use Rattle.scheduler.specs.Event.{Event, Activate, Finish, Chain, Get, R
 use Rattle.scheduler.specs.Call.{nobodyRuns, caller, calling, holds, active, latestIs, requestWaits, checksOf, activateStatus, finishStatus, chainStatus, getStatus, releaseStatus, lineStatus, longestDelay, startStatus, stopStatus}
 use Rattle.scheduler.specs.Scheduler.{step}
 use Rattle.scheduler.specs.History.{Accepted}
+use Rattle.scheduler.proofs.Changing.{clash}
 
 -- none of the checks gives status 0; none of them fails
 abbrev Refusing : List Check → Type 0
@@ -27,9 +28,6 @@ Refusing (k ∷ ks) = (k .status ≢ done) × Refusing ks
 abbrev Passed : List Check → Type 0
 Passed [] = Unit {0}
 Passed (k ∷ ks) = (k .fails ≡ false) × Passed ks
-
-clash : _≡_ {A = ℕ} 0 1 → ⊥
-clash e = omega arith
 
 all-passed : (ks : List Check) → Refusing ks → firstOf ks ≡ done → Passed ks
 unfolding firstOf

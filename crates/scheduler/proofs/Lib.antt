@@ -1,5 +1,5 @@
 -- The laws of the plain scheduler. `Theorems` is the file to read; the agreement of machine and scheduler also cites the modules below it.
--- `Listing` is document 01's listing.
+-- `Listing` is document 01's listing, `Examples` are worked lists of events.
 pub mod Theorems
 pub mod Listing
 pub mod Examples
@@ -8,3 +8,5 @@ pub mod Checks
 pub mod Changing
 pub mod Refusals
 pub mod Tables
+pub mod Requests
+pub mod Losses

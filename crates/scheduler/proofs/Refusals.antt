@@ -33,7 +33,7 @@ dispatched-same c s h = rw h
 abbrev pub onceBegun : Candidate → Candidate
 onceBegun x = record { number = x .number; level = x .level; began = x .began || begins x }
 
-begins-some : (x : Candidate) → begins x ≡ true → (isNobody x ≡ false) × (x .began ≡ false)
+pub begins-some : (x : Candidate) → begins x ≡ true → (isNobody x ≡ false) × (x .began ≡ false)
 begins-some x h = both (isNobody x) (x .began) h
   where
     both : (a b : Bool) → (not a && not b) ≡ true → (a ≡ false) × (b ≡ false)

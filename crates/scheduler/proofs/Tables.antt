@@ -6,7 +6,6 @@ use Prim.Native.Nat.{ℕ, zero, suc, _+_}
 use mathlib.Core.Path.{_≡_, refl, sym, ap, _∙_}
 use mathlib.Core.Bool.{Bool, true, false, true≢false, cond}
 use mathlib.Core.List.{List, [], _∷_, _++_, append-assoc}
-use mathlib.Core.Logic.{_≢_}
 use native.Mathlib.Nat.{add-zero, zero-add}
 use native.Mathlib.Omega.{arith}
 use borrow.Author.Tests.{eq-eqb, ne-eqb}
@@ -23,7 +22,7 @@ use Rattle.scheduler.specs.Call.{statusOf, effectOf}
 use Rattle.scheduler.specs.Scheduler.{step, fresh, after}
 use Rattle.scheduler.specs.History.{Accepted, next, NoneAccepted, StartOf, StopOf, NoStart, NoStop, ticksIn, History, never-started, since-start, since-stop}
 use Rattle.scheduler.proofs.Checks.{start-passed, stop-passed}
-use Rattle.scheduler.proofs.Changing.{after-append, cond-either, tables-dispatched, tables-ticked, tables-fresh, length-tables-step, length-tables-fresh}
+use Rattle.scheduler.proofs.Changing.{clash, after-append, cond-either, tables-dispatched, tables-ticked, tables-fresh, length-tables-step, length-tables-fresh}
 
 -- what the event e, met in the state s, does to the table t
 data Turn (c : Config) (t : ℕ) (s : State) (e : Event) : Type 0 where
@@ -32,9 +31,6 @@ data Turn (c : Config) (t : ℕ) (s : State) (e : Event) : Type 0 where
   passes : (StartOf t e → Accepted c s e → ⊥) → (StopOf t e → Accepted c s e → ⊥)
       → tableOf (next c s e) t ≡ cond (isTick e) (counting (tableOf s t)) (tableOf s t)
       → Turn c t s e
-
-clash : _≡_ {A = ℕ} 0 1 → ⊥
-clash e = omega arith
 
 module _ (c : Config) (t : ℕ) (s : State) where
   -- the table after the event e: its effect's where the status is 0

@@ -1,28 +1,31 @@
 -- What holds of the plain scheduler. Each law stands here in full, over specs/ alone; the modules it cites prove it.
 --
--- In order: who runs; document 01's table of events; that a refused call changes nothing; what an accepted Activate finds; where losses come from; that d and n are
--- counted as demand 3 says. `Choosing` and `Checks` have more of who is chosen and of what an accepted call finds.
--- Assumes nothing.
-use Prim.Native.Nat.{ℕ, _≤_, _<_, max}
+-- In order: who runs; document 01's table of events; that a refused call changes nothing; what an accepted Activate finds; requests that wait;
+-- where losses come from; that d and n are counted as demand 3 says. `Choosing` and `Checks` have more of who is chosen and of what an
+-- accepted call finds; `Examples` are worked lists of events. Assumes nothing.
+use Prim.Native.Nat.{ℕ, suc, _≤_, _<_, max}
 use mathlib.Core.Path.{_≡_, refl, ap}
 use mathlib.Core.Bool.{true, false}
 use mathlib.Core.List.{List, [], _∷_, _++_, map}
 use mathlib.Core.Logic.{_≢_, _↔_}
 use lib.ListN.{length}
 use Rattle.config.specs.declared.Config.{Config}
-use Rattle.config.specs.Meaning.{priorityOf, ceiling}
+use Rattle.config.specs.Meaning.{isIsr, priorityOf, ceiling}
 use Rattle.scheduler.specs.Status.{Check, done, NoneFails}
-use Rattle.scheduler.specs.Body.{Body, suspended, isSuspended, isStarted, current, takes, gives-back}
+use Rattle.scheduler.specs.Body.{Body, suspended, ready, isSuspended, isStarted, current, become, losing, takes, gives-back}
 use Rattle.scheduler.specs.Choice.{Candidate, nobody, isNobody, candidate, goesBefore}
 use Rattle.scheduler.specs.State.{State, Table, stopped, running, bodyOf, tableOf, runner}
 use Rattle.scheduler.specs.Event.{Event, Activate, Finish, Chain, Get, Release, Tick, Line, Start, Stop}
-use Rattle.scheduler.specs.Call.{checksOf}
+use Rattle.scheduler.specs.Tick.{ticked, dueFor}
+use Rattle.scheduler.specs.Call.{caller, checksOf}
 use Rattle.scheduler.specs.Scheduler.{begins, dispatched, lossesOf, step, fresh, after}
 use Rattle.scheduler.specs.History.{Accepted, next, NoStart, NoStop, ticksIn, History}
 use Rattle.scheduler.proofs.Choosing as Choosing
 use Rattle.scheduler.proofs.Checks as Checks
 use Rattle.scheduler.proofs.Changing as Changing
 use Rattle.scheduler.proofs.Refusals as Refusals
+use Rattle.scheduler.proofs.Requests as Requests
+use Rattle.scheduler.proofs.Losses as Losses
 use Rattle.scheduler.proofs.Tables as Tables
 
 -- what the body k is to the choice
@@ -122,12 +125,40 @@ pub activated-suspended : (c : Config) (s : State) (t : ℕ) → Accepted c s (A
 unfolding step
 activated-suspended c s t a = Checks.activate-passed c s t a .2
 
+-- "A started ISR's second request .. begins only after it has finished": where a started ISR begins, the event is its own accepted Finish
+pub begins-after-finish : (c : Config) (s : State) (i : ℕ) → isIsr c i ≡ true → isStarted (bodyOf s i .phase) ≡ true
+    → (e : Event)
+    → step c s e .seen .begun ≡ 1
+    → step c s e .seen .runner ≡ i
+    → (e ≡ Finish) × (caller c s ≡ i) × Accepted c s e
+begins-after-finish = Requests.begins-after-finish
+
+-- "requests already waiting stay": a Stop changes no body
+pub stop-bodies : (c : Config) (es : List Event) (t : ℕ) → step c (after c (fresh c) es) (Stop t) .state .bodies ≡ after c (fresh c) es .bodies
+stop-bodies c es t = Requests.stop-bodies c (after c (fresh c) es) t (Refusals.settled-after c es (fresh c) (Refusals.settled-fresh c))
+
 -- losses come from due entries: no event but a Tick changes one, and what is seen of them is the state after the event
 pub losses-call : (c : Config) (s : State) (e : Event) → e ≢ Tick → lossesOf (step c s e .state) ≡ lossesOf s
 losses-call = Changing.losses-call
 
 pub losses-seen : (c : Config) (s : State) (e : Event) → step c s e .seen .losses ≡ lossesOf (step c s e .state)
 losses-seen = Changing.losses-seen
+
+-- At one tick a task that several due entries name becomes ready once and loses the rest, whatever their order: only their number counts.
+-- One that isn't suspended loses them all.
+pub tick-suspended : (c : Config) (es : List Event) (t k : ℕ) → t < length (after c (fresh c) es .bodies)
+    → bodyOf (after c (fresh c) es) t .phase ≡ suspended
+    → dueFor c (after c (fresh c) es) t ≡ suc k
+    → bodyOf (ticked c (after c (fresh c) es)) t ≡ losing k (become ready (bodyOf (after c (fresh c) es) t))
+tick-suspended = Losses.tick-suspended
+
+pub tick-active : (c : Config) (es : List Event) (t : ℕ) → t < length (after c (fresh c) es .bodies)
+    → isSuspended (bodyOf (after c (fresh c) es) t .phase) ≡ false
+    → bodyOf (ticked c (after c (fresh c) es)) t ≡ losing (dueFor c (after c (fresh c) es) t) (bodyOf (after c (fresh c) es) t)
+tick-active = Losses.tick-active
+
+pub losses-le : (c : Config) (es : List Event) (i : ℕ) → bodyOf (after c (fresh c) es) i .losses ≤ 65535
+losses-le c es = Losses.few-after c es (fresh c) (Losses.few-fresh c)
 
 -- "n, the Ticks since its start": from an accepted Start on, until an accepted Stop
 pub counted-from-start : (c : Config) (t d : ℕ) (before rest : List Event) → Accepted c (after c (fresh c) before) (Start t d)

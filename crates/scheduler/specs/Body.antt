@@ -59,8 +59,12 @@ gives-back b = record { phase = b .phase; waiting = b .waiting; held = rest (b .
 abbrev pub mostLosses : ℕ
 mostLosses = 65535
 
+-- n activations lost
+abbrev pub losing : ℕ → Body → Body
+losing n b = record { phase = b .phase; waiting = b .waiting; held = b .held; losses = min (b .losses + n) mostLosses }
+
 abbrev pub loses : Body → Body
-loses b = record { phase = b .phase; waiting = b .waiting; held = b .held; losses = min (b .losses + 1) mostLosses }
+loses b = losing 1 b
 
 -- "A due entry makes a suspended task ready. If the task isn't suspended, its loss count rises"
 abbrev pub activatedByEntry : Body → Body
