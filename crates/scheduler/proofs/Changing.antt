@@ -4,7 +4,7 @@
 -- table; no call changes a loss. Assumes nothing.
 use Prim.Native.Nat.{ℕ, _<_}
 use mathlib.Core.Path.{_≡_, refl, sym, ap, _∙_}
-use mathlib.Core.Bool.{Bool, true, false, cond}
+use mathlib.Core.Bool.{Bool, true, false, true≢false, cond}
 use mathlib.Core.List.{List, [], _∷_, _++_, map}
 use mathlib.Core.Logic.{_≢_}
 use native.Mathlib.Omega.{arith}
@@ -17,7 +17,7 @@ use Rattle.scheduler.specs.Body.{isStarted, Body, ready, started, become
 use Rattle.scheduler.specs.State.{State, Table, stopped, noBody, bodyOf, changing, withTable, runner}
 use Rattle.scheduler.specs.Call.{caller, finish, statusOf, effectOf}
 use Rattle.scheduler.specs.Tick.{counting, counted, activatingDue, dues, ticked}
-use Rattle.scheduler.specs.Event.{Event, Activate, Finish, Chain, Get, Release, Tick, Line, Start, Stop, Nothing}
+use Rattle.scheduler.specs.Event.{Event, Activate, Finish, Chain, Get, Release, Tick, Line, Start, Stop, Nothing, isTick}
 use Rattle.scheduler.specs.Scheduler.{begins, dispatched, lossesOf, newBody, step, fresh, after}
 
 module _ (i : ℕ) (f : Body → Body) (s : State) where
@@ -69,17 +69,21 @@ effectOf-keeps c s P on-body on-table p (Start t d) tick = on-table t _
 effectOf-keeps c s P on-body on-table p (Stop t) tick = on-table t _
 effectOf-keeps c s P on-body on-table p Nothing tick = p
 
-pub by-tick : {C : Type 0} (e : Event) → (e ≡ Tick → C) → (e ≢ Tick → C) → C
-by-tick (Activate t) f g = g (λ q. clash (cc))
-by-tick Finish f g = g (λ q. clash (cc))
-by-tick (Chain t) f g = g (λ q. clash (cc))
-by-tick (Get r) f g = g (λ q. clash (cc))
-by-tick (Release r) f g = g (λ q. clash (cc))
+-- an event is a Tick or not
+pub by-tick : {C : Type 0} (e : Event) → (e ≡ Tick → C) → (isTick e ≡ false → C) → C
+by-tick (Activate t) f g = g refl
+by-tick Finish f g = g refl
+by-tick (Chain t) f g = g refl
+by-tick (Get r) f g = g refl
+by-tick (Release r) f g = g refl
 by-tick Tick f g = f refl
-by-tick (Line i) f g = g (λ q. clash (cc))
-by-tick (Start t d) f g = g (λ q. clash (cc))
-by-tick (Stop t) f g = g (λ q. clash (cc))
-by-tick Nothing f g = g (λ q. clash (cc))
+by-tick (Line i) f g = g refl
+by-tick (Start t d) f g = g refl
+by-tick (Stop t) f g = g refl
+by-tick Nothing f g = g refl
+
+pub no-tick : (e : Event) → isTick e ≡ false → e ≢ Tick
+no-tick e h q = true≢false (sym (ap isTick q) ∙ h)
 
 pub cond-either : (P : State → Type 0) (b : Bool) (x y : State) → P x → P y → P (cond b x y)
 cond-either P true x y p q = p

@@ -10,3 +10,4 @@ pub mod Refusals
 pub mod Tables
 pub mod Requests
 pub mod Losses
+pub mod Dues

@@ -18,7 +18,7 @@ use Rattle.scheduler.specs.State.{State, stopped, noBody, bodyOf, changi
 use Rattle.scheduler.specs.Event.{Event}
 use Rattle.scheduler.specs.Tick.{counted, dues, activatingDue, ticked, naming, dueFor}
 use Rattle.scheduler.specs.Scheduler.{newBody, dispatched, lossesOf, step, fresh, after}
-use Rattle.scheduler.proofs.Changing.{bodyOf-changing-same, bodyOf-changing-other, length-changing, activatingDue-keeps, by-tick, losses-dispatched, losses-call}
+use Rattle.scheduler.proofs.Changing.{bodyOf-changing-same, bodyOf-changing-other, length-changing, activatingDue-keeps, by-tick, no-tick, losses-dispatched, losses-call}
 
 -- n entries that name the body b, one after the other
 times : ℕ → Body → Body
@@ -93,7 +93,7 @@ module _ (c : Config) where
       (λ q. rw q
       (few-losses (ticked c s) (dispatched c (ticked c s)) (losses-dispatched c (ticked c s))
       (activatingDue-keeps FewLosses few-entry (dues c (counted s)) (c .task) (counted s) few)))
-      (λ d. few-losses s (step c s e .state) (losses-call c s e d) few)
+      (λ d. few-losses s (step c s e .state) (losses-call c s e (no-tick e d)) few)
 
   pub few-fresh : FewLosses (fresh c)
   few-fresh =

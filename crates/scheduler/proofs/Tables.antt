@@ -123,22 +123,24 @@ none-before : (P : Event → Type 0) (c : Config) (s : State) (e : Event) (befor
 none-before P c s e before rest none x before′ rest′ q =
     none x before′ (rest′ ++ e ∷ rest) (ap (λ l. l ++ e ∷ rest) q ∙ append-assoc before′ (x ∷ rest′) (e ∷ rest))
 
-module _ (c : Config) (t : ℕ) where
+-- there are as many tables as the configuration says
+module _ (c : Config) where
   fits-step : (s : State) (e : Event) → length (s .tables) ≡ c .tables → length (next c s e .tables) ≡ c .tables
   fits-step s e n = length-tables-step c s e ∙ n
 
-  fits-after : (es : List Event) (s : State) → length (s .tables) ≡ c .tables → length (after c s es .tables) ≡ c .tables
+  pub fits-after : (es : List Event) (s : State) → length (s .tables) ≡ c .tables → length (after c s es .tables) ≡ c .tables
   unfolding after
   fits-after [] s n = n
   fits-after (e ∷ es) s n = fits-after es (next c s e) (fits-step s e n)
 
+module _ (c : Config) (t : ℕ) where
   -- a table that runs counts the Ticks until an accepted Stop
   runs-on : (es : List Event) (s : State) (d n : ℕ) → length (s .tables) ≡ c .tables → tableOf s t ≡ running d n → NoStop c t s es
       → tableOf (after c s es) t ≡ running d (n + ticksIn es)
   unfolding step after ticksIn counting
   runs-on [] s d n fits r none = r ∙ ap (running d) (sym (add-zero n))
   runs-on (e ∷ es) s d n fits r none =
-      go (turn c t s e fits) (λ m r′. runs-on es (next c s e) d m (fits-step s e fits) r′ (none-tail (StopOf t) c s e es none))
+      go (turn c t s e fits) (λ m r′. runs-on es (next c s e) d m (fits-step c s e fits) r′ (none-tail (StopOf t) c s e es none))
     where
       Later : ℕ → Type 0
       Later m = tableOf (next c s e) t ≡ running d m → tableOf (after c (next c s e) es) t ≡ running d (m + ticksIn es)
@@ -161,7 +163,7 @@ module _ (c : Config) (t : ℕ) where
   unfolding after counting
   stays-stopped [] s fits r none = r
   stays-stopped (e ∷ es) s fits r none =
-      stays-stopped es (next c s e) (fits-step s e fits) (go (turn c t s e fits)) (none-tail (StartOf t) c s e es none)
+      stays-stopped es (next c s e) (fits-step c s e fits) (go (turn c t s e fits)) (none-tail (StartOf t) c s e es none)
     where
       still : (b : Bool) → cond b (counting stopped) stopped ≡ stopped
       still true = refl
@@ -179,14 +181,14 @@ module _ (c : Config) (t : ℕ) where
   unfolding after
   counted-from-start d before rest a none =
       ap (λ x. tableOf x t) (after-append c before (Start t d ∷ rest) (fresh c))
-      ∙ runs-on rest (next c s (Start t d)) d 0 (fits-step s (Start t d) fits) (table-started c t s d fits a) none
+      ∙ runs-on rest (next c s (Start t d)) d 0 (fits-step c s (Start t d) fits) (table-started c t s d fits a) none
       ∙ ap (running d) (zero-add (ticksIn rest))
     where
       s : State
       s = after c (fresh c) before
 
       fits : length (s .tables) ≡ c .tables
-      fits = fits-after before (fresh c) (length-tables-fresh c)
+      fits = fits-after c before (fresh c) (length-tables-fresh c)
 
   pub stopped-until-start : (es : List Event) → NoStart c t (fresh c) es → tableOf (after c (fresh c) es) t ≡ stopped
   stopped-until-start es none =
@@ -203,13 +205,13 @@ module _ (c : Config) (t : ℕ) where
   unfolding after
   stopped-since-stop before rest a none =
       ap (λ x. tableOf x t) (after-append c before (Stop t ∷ rest) (fresh c))
-      ∙ stays-stopped rest (next c s (Stop t)) (fits-step s (Stop t) fits) (table-stopped c t s fits a) none
+      ∙ stays-stopped rest (next c s (Stop t)) (fits-step c s (Stop t) fits) (table-stopped c t s fits a) none
     where
       s : State
       s = after c (fresh c) before
 
       fits : length (s .tables) ≡ c .tables
-      fits = fits-after before (fresh c) (length-tables-fresh c)
+      fits = fits-after c before (fresh c) (length-tables-fresh c)
 
   -- a table that runs can't be started again
   no-restart : (d : ℕ) (s : State) (rest : List Event) → length (s .tables) ≡ c .tables → Accepted c s (Start t d)
@@ -218,7 +220,7 @@ module _ (c : Config) (t : ℕ) where
   unfolding step
   no-restart d s rest fits a none e before later q p a′ =
       true≢false
-      (rw (runs-on before (next c s (Start t d)) d 0 (fits-step s (Start t d) fits) (table-started c t s d fits a) fewer)
+      (rw (runs-on before (next c s (Start t d)) d 0 (fits-step c s (Start t d) fits) (table-started c t s d fits a) fewer)
       at (start-passed c (after c (next c s (Start t d)) before) t (p .0) (rw (p .1) at a′) .4))
     where
       fewer : NoStop c t (next c s (Start t d)) before
@@ -227,7 +229,7 @@ module _ (c : Config) (t : ℕ) where
   pub last-start : (d : ℕ) (before rest : List Event) → Accepted c (after c (fresh c) before) (Start t d)
       → NoStop c t (next c (after c (fresh c) before) (Start t d)) rest
       → NoStart c t (next c (after c (fresh c) before) (Start t d)) rest
-  last-start d before rest = no-restart d (after c (fresh c) before) rest (fits-after before (fresh c) (length-tables-fresh c))
+  last-start d before rest = no-restart d (after c (fresh c) before) rest (fits-after c before (fresh c) (length-tables-fresh c))
 
   -- the last accepted Start or Stop among the events es from the state s on
   data Last (s : State) (es : List Event) : Type 0 where
@@ -242,7 +244,7 @@ module _ (c : Config) (t : ℕ) where
   last : (es : List Event) (s : State) → length (s .tables) ≡ c .tables → Last s es
   unfolding after
   last [] s fits = neither (none-nil (StartOf t) c s) (none-nil (StopOf t) c s)
-  last (e ∷ es) s fits = go (turn c t s e fits) (last es (next c s e) (fits-step s e fits))
+  last (e ∷ es) s fits = go (turn c t s e fits) (last es (next c s e) (fits-step c s e fits))
     where
       go : Turn c t s e → Last (next c s e) es → Last s (e ∷ es)
       go τ (start-last d before rest q a none) = start-last d (e ∷ before) rest (ap (λ l. e ∷ l) q) a none

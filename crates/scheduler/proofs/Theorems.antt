@@ -1,14 +1,14 @@
 -- What holds of the plain scheduler. Each law stands here in full, over specs/ alone; the modules it cites prove it.
 --
 -- In order: who runs; document 01's table of events; that a refused call changes nothing; what an accepted Activate finds; requests that wait;
--- where losses come from; that d and n are counted as demand 3 says. `Choosing` and `Checks` have more of who is chosen and of what an
--- accepted call finds; `Examples` are worked lists of events. Assumes nothing.
+-- where losses come from; that d and n are counted, and entries due, as demand 3 says. `Choosing` and `Checks` have more of who is chosen and
+-- of what an accepted call finds; `Examples` are worked lists of events. Assumes nothing.
 use Prim.Native.Nat.{ℕ, suc, _≤_, _<_, max}
 use mathlib.Core.Path.{_≡_, refl, ap}
 use mathlib.Core.Bool.{true, false}
 use mathlib.Core.List.{List, [], _∷_, _++_, map}
 use mathlib.Core.Logic.{_≢_, _↔_}
-use lib.ListN.{length}
+use lib.ListN.{length, getD, take}
 use Rattle.config.specs.declared.Config.{Config}
 use Rattle.config.specs.Meaning.{isIsr, priorityOf, ceiling}
 use Rattle.scheduler.specs.Status.{Check, done, NoneFails}
@@ -18,8 +18,9 @@ use Rattle.scheduler.specs.State.{State, Table, stopped, running, bodyOf
 use Rattle.scheduler.specs.Event.{Event, Activate, Finish, Chain, Get, Release, Tick, Line, Start, Stop}
 use Rattle.scheduler.specs.Tick.{ticked, dueFor}
 use Rattle.scheduler.specs.Call.{caller, checksOf}
-use Rattle.scheduler.specs.Scheduler.{begins, dispatched, lossesOf, step, fresh, after}
-use Rattle.scheduler.specs.History.{Accepted, next, NoStart, NoStop, ticksIn, History}
+use Rattle.scheduler.specs.Scheduler.{begins, dispatched, lossesOf, step, fresh, seen, after}
+use Rattle.scheduler.specs.Entries.{entriesOf, entryAt}
+use Rattle.scheduler.specs.History.{Accepted, next, NoStart, NoStop, ticksIn, History, dueMark, DueAt}
 use Rattle.scheduler.proofs.Choosing as Choosing
 use Rattle.scheduler.proofs.Checks as Checks
 use Rattle.scheduler.proofs.Changing as Changing
@@ -27,6 +28,7 @@ use Rattle.scheduler.proofs.Refusals as Refusals
 use Rattle.scheduler.proofs.Requests as Requests
 use Rattle.scheduler.proofs.Losses as Losses
 use Rattle.scheduler.proofs.Tables as Tables
+use Rattle.scheduler.proofs.Dues as Dues
 
 -- what the body k is to the choice
 abbrev pub candidateOf : Config → State → ℕ → Candidate
@@ -183,3 +185,10 @@ pub last-start : (c : Config) (t d : ℕ) (before rest : List Event) → Accepte
     → NoStop c t (next c (after c (fresh c) before) (Start t d)) rest
     → NoStart c t (next c (after c (fresh c) before) (Start t d)) rest
 last-start = Tables.last-start
+
+-- Demand 3: an entry is marked due at exactly those events that are Ticks and at which it is due "by the table's arithmetic, counted from the
+-- table's last accepted start until its next accepted stop": the events before are `before ++ Start t d ∷ rest`, that Start is accepted where
+-- it stands, no Stop of t in rest is, and `due P (d + o) (suc (ticksIn rest))`. For every list of events, the i-th of them and the k-th entry.
+pub due-exactly : (c : Config) (es : List Event) (i k : ℕ) → i < length es → k < length (entriesOf c)
+    → (dueMark (seen c (fresh c) es) i k ≡ true) ↔ DueAt c (take i es) (getD es i Tick) (entryAt c k)
+due-exactly = Dues.due-exactly

@@ -4,17 +4,22 @@
 --   NoStart c t s es      of the events es from the state s on, none is an accepted Start of the table t; NoStop: Stop
 --   ticksIn es            how many of es are Ticks
 --   History c t es x      what the events es from the fresh start say of the table t is x
+--   DueAt c es e x        they say of the entry x that it is due at the event e, which comes next
+--   dueMark xs i k        the mark of the k-th entry at the i-th event, in what was seen
 --
--- Main law: `table-history` (proofs/Theorems.antt). Assumes nothing.
-use Prim.Native.Nat.{ℕ, suc}
+-- Main laws: `table-history`, `due-exactly` (proofs/Theorems.antt). Assumes nothing.
+use Prim.Native.Nat.{ℕ, suc, _+_}
 use mathlib.Core.Path.{_≡_}
-use mathlib.Core.Bool.{cond}
-use mathlib.Core.List.{List, [], _∷_, _++_}
+use mathlib.Core.Bool.{Bool, true, false, cond}
+use mathlib.Core.List.{List, [], _∷_, _++_, map}
+use lib.ListN.{getD}
 use Rattle.config.specs.declared.Config.{Config}
+use Rattle.cell.specs.Due.{due}
 use Rattle.scheduler.specs.Status.{done}
 use Rattle.scheduler.specs.State.{Table, stopped, running, State}
-use Rattle.scheduler.specs.Event.{Event, Start, Stop, isTick}
-use Rattle.scheduler.specs.Scheduler.{step, fresh, after}
+use Rattle.scheduler.specs.Event.{Event, Tick, Start, Stop, isTick}
+use Rattle.scheduler.specs.Scheduler.{Seen, step, fresh, after}
+use Rattle.scheduler.specs.Entries.{Entry}
 
 abbrev pub Accepted : Config → State → Event → Type 0
 Accepted c s e = step c s e .seen .status ≡ done
@@ -54,3 +59,18 @@ pub data History (c : Config) (t : ℕ) (es : List Event) : Table → Type 0 whe
       → Accepted c (after c (fresh c) before) (Stop t)
       → NoStart c t (next c (after c (fresh c) before) (Stop t)) rest
       → History c t es stopped
+
+-- the marks of an event past the last one: none
+abbrev pub dueMark : List Seen → ℕ → ℕ → Bool
+dueMark xs i k = getD (getD (map (λ x. x .due) xs) i []) k false
+
+-- Demand 3's "due by the table's arithmetic, counted from the table's last accepted start until its next accepted stop"
+pub record DueAt (c : Config) (es : List Event) (e : Event) (x : Entry) : Type 0 where
+  pub at-tick : e ≡ Tick
+  pub d : ℕ
+  pub before : List Event
+  pub rest : List Event
+  pub split : es ≡ before ++ Start (x .table) d ∷ rest
+  pub accepted : Accepted c (after c (fresh c) before) (Start (x .table) d)
+  pub no-stop : NoStop c (x .table) (next c (after c (fresh c) before) (Start (x .table) d)) rest
+  pub on-time : due (x .period) (d + x .offset) (suc (ticksIn rest)) ≡ true
