@@ -20,6 +20,7 @@ use Rattle.scheduler.specs.Scheduler.{step, fresh, seen, after}
 use Rattle.scheduler.specs.Entries.{Entry, entryOf, entriesFrom, entriesOf, entryAt}
 use Rattle.scheduler.specs.History.{History, never-started, since-start, since-stop, dueMark, DueAt}
 use Rattle.scheduler.proofs.Changing.{by-tick, no-tick, length-tables-fresh}
+use Rattle.scheduler.proofs.Entries.{getD-map-in}
 use Rattle.scheduler.proofs.Tables.{table-history, history-of-table, fits-after}
 
 -- the marks of the i-th event
@@ -48,11 +49,6 @@ duesFrom-entries c ys (x ∷ xs) t e =
 
     tail : drop (suc t) ys ≡ xs
     tail = ap (λ n. drop n ys) (sym (add-one t)) ∙ sym (drop-drop 1 t ys) ∙ ap (drop 1) e
-
-getD-map-in : {A B : Type 0} (f : A → B) (l : List A) (n : ℕ) (a : A) (b : B) → n < length l → getD (map f l) n b ≡ f (getD l n a)
-getD-map-in f [] n a b h = absurd (omega arith)
-getD-map-in f (x ∷ l) zero a b h = refl
-getD-map-in f (x ∷ l) (suc n) a b h = getD-map-in f l n a b (omega arith)
 
 none-due : (n k : ℕ) → getD (replicate n false) k false ≡ false
 none-due zero k = refl

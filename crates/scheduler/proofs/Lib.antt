@@ -11,3 +11,4 @@ pub mod Tables
 pub mod Requests
 pub mod Losses
 pub mod Dues
+pub mod Entries

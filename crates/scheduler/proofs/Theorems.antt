@@ -3,14 +3,16 @@
 -- In order: who runs; document 01's table of events; that a refused call changes nothing; what an accepted Activate finds; requests that wait;
 -- where losses come from; that d and n are counted, and entries due, as demand 3 says. `Choosing` and `Checks` have more of who is chosen and
 -- of what an accepted call finds; `Examples` are worked lists of events. Assumes nothing.
-use Prim.Native.Nat.{ℕ, suc, _≤_, _<_, max}
+use Prim.Native.Nat.{ℕ, suc, _+_, _≤_, _<_, max}
 use mathlib.Core.Path.{_≡_, refl, ap}
 use mathlib.Core.Bool.{true, false}
 use mathlib.Core.List.{List, [], _∷_, _++_, map}
 use mathlib.Core.Logic.{_≢_, _↔_}
+use native.Mathlib.Omega.{arith}
 use lib.ListN.{length, getD, take}
 use Rattle.config.specs.declared.Config.{Config}
-use Rattle.config.specs.Meaning.{isIsr, priorityOf, ceiling}
+use Rattle.config.specs.Meaning.{isIsr, priorityOf, ceiling, firstOf}
+use Rattle.config.specs.Accepted as Configuration
 use Rattle.scheduler.specs.Status.{Check, done, NoneFails}
 use Rattle.scheduler.specs.Body.{Body, suspended, ready, isSuspended, isStarted, current, become, losing, takes, gives-back}
 use Rattle.scheduler.specs.Choice.{Candidate, nobody, isNobody, candidate, goesBefore}
@@ -19,7 +21,7 @@ use Rattle.scheduler.specs.Event.{Event, Activate, Finish, Chain, Get, R
 use Rattle.scheduler.specs.Tick.{ticked, dueFor}
 use Rattle.scheduler.specs.Call.{caller, checksOf}
 use Rattle.scheduler.specs.Scheduler.{begins, dispatched, lossesOf, step, fresh, seen, after}
-use Rattle.scheduler.specs.Entries.{entriesOf, entryAt}
+use Rattle.scheduler.specs.Entries.{entryOf, entriesOf, entryAt}
 use Rattle.scheduler.specs.History.{Accepted, next, NoStart, NoStop, ticksIn, History, dueMark, DueAt}
 use Rattle.scheduler.proofs.Choosing as Choosing
 use Rattle.scheduler.proofs.Checks as Checks
@@ -29,6 +31,7 @@ use Rattle.scheduler.proofs.Requests as Requests
 use Rattle.scheduler.proofs.Losses as Losses
 use Rattle.scheduler.proofs.Tables as Tables
 use Rattle.scheduler.proofs.Dues as Dues
+use Rattle.scheduler.proofs.Entries as Entries
 
 -- what the body k is to the choice
 abbrev pub candidateOf : Config → State → ℕ → Candidate
@@ -192,3 +195,11 @@ last-start = Tables.last-start
 pub due-exactly : (c : Config) (es : List Event) (i k : ℕ) → i < length es → k < length (entriesOf c)
     → (dueMark (seen c (fresh c) es) i k ≡ true) ↔ DueAt c (take i es) (getD es i Tick) (entryAt c k)
 due-exactly = Dues.due-exactly
+
+-- of a configuration that the reader accepts, the k-th entry is that of the k-th offset, in the table to whose entries k belongs
+pub entries-long : (c : Config) → Configuration.Accepted c → Configuration.Shaped c → length (entriesOf c) ≡ firstOf c (c .tables)
+entries-long c ok shaped = Entries.entries-long c (omega (arith, ok .few-entries, shaped .offsets))
+
+pub entry-at : (c : Config) → Configuration.Accepted c → Configuration.Shaped c → (t j : ℕ) → t < c .tables → j < getD (c .entries) t 0
+    → entryAt c (firstOf c t + j) ≡ entryOf c t (getD (c .offset) (firstOf c t + j) 0)
+entry-at c ok shaped = Entries.entry-at c (omega (arith, ok .few-entries, shaped .offsets))
