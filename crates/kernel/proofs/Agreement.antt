@@ -10,34 +10,24 @@
 -- Assumes nothing.
 use Prim.Native.Nat.{ℕ}
 use mathlib.Core.Path.{_≡_, refl, ap₂}
-use mathlib.Core.Bool.{false}
 use mathlib.Core.List.{List, [], _∷_}
 use lib.ListN.{length}
 use Rattle.config.specs.declared.Config.{Config}
 use Rattle.plan.specs.declared.Plan.{Plan}
-use Rattle.scheduler.specs.Status.{done, firstOf}
 use Rattle.scheduler.specs.State.{State}
 use Rattle.scheduler.specs.Tick.{dues}
-use Rattle.scheduler.specs.Scheduler.{Event, Activate, Finish, Chain, Get, Release, Tick, Line, Start, Stop, Nothing, Seen, step, noneDue, seen}
+use Rattle.scheduler.specs.Scheduler.{Event, Activate, Finish, Chain, Get, Release, Tick, Line, Start, Stop, Seen, step, seen}
 use Rattle.kernel.specs.declared.machine.Model.{Model}
-use Rattle.kernel.specs.Model.{doneWith}
-use Rattle.kernel.specs.Machine.{machineStep, matched, machineSeen}
+use Rattle.kernel.specs.Machine.{machineStep, machineSeen}
 use Rattle.kernel.proofs.Simulation.{Fitted, Sim}
-use Rattle.kernel.proofs.Calls.{Agrees, agrees, calm-arbitrated}
-use Rattle.kernel.proofs.Waking.{no-match, agrees-activate, agrees-line, agrees-finish, agrees-chain}
+use Rattle.kernel.proofs.Calls.{Agrees}
+use Rattle.kernel.proofs.Waking.{agrees-activate, agrees-line, agrees-finish, agrees-chain}
 use Rattle.kernel.proofs.Locking.{agrees-get, agrees-release}
 use Rattle.kernel.proofs.Matching.{dues-long}
 use Rattle.kernel.proofs.Ticking.{agrees-tick}
 use Rattle.kernel.proofs.Switching.{agrees-start, agrees-stop}
 
 module _ (c : Config) (p : Plan) (rk : ℕ → ℕ) (fit : Fitted c p rk) where
-  -- a code that no event has: nothing happens on either side
-  agrees-nothing : (m : Model) (s : State) → Sim c p rk m s → length (dues c s) ≡ p .count → Agrees c p rk fit m s Nothing
-  unfolding machineStep step matched firstOf
-  agrees-nothing m s sim long =
-      agrees c p rk fit m s Nothing (doneWith m false) done (noneDue c s) s refl refl refl (no-match c p rk fit m s sim long)
-      (calm-arbitrated c p rk fit m s (sim .chain) done (sim .tied) (sim .calm)) (sim .tied .size) (sim .timed) (sim .lost)
-
   pub event-agrees : (m : Model) (s : State) (e : Event) → Sim c p rk m s → Agrees c p rk fit m s e
   event-agrees m s e sim = by e (dues-long c p rk fit s (sim .timed .tables-long))
     where
@@ -51,7 +41,6 @@ module _ (c : Config) (p : Plan) (rk : ℕ → ℕ) (fit : Fitted c p rk) where
       by (Line i) long = agrees-line c p rk fit m s sim long i
       by (Start t d) long = agrees-start c p rk fit m s sim long t d
       by (Stop t) long = agrees-stop c p rk fit m s sim long t
-      by Nothing long = agrees-nothing m s sim long
 
   pub agreement-from : (es : List Event) (m : Model) (s : State) → Sim c p rk m s → machineSeen c p m es ≡ seen c s es
   unfolding machineSeen seen

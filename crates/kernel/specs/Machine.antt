@@ -13,10 +13,10 @@ use lib.ListN.{getD, take, replicate}
 use Rattle.config.specs.declared.Config.{Config}
 use Rattle.plan.specs.declared.Plan.{Plan}
 use Rattle.stack.specs.Stack.{emptyRow, emptyStack}
-use Rattle.scheduler.specs.Scheduler.{Event, Activate, Finish, Chain, Get, Release, Tick, Line, Start, Stop, Nothing, Seen, markOf}
+use Rattle.scheduler.specs.Scheduler.{Event, Activate, Finish, Chain, Get, Release, Tick, Line, Start, Stop, Seen, markOf}
 use Rattle.kernel.specs.declared.machine.Model.{Model}
 use Rattle.kernel.specs.declared.machine.Outcome.{Outcome}
-use Rattle.kernel.specs.Model.{noRank, doneWith}
+use Rattle.kernel.specs.Model.{noRank}
 use Rattle.kernel.specs.Arbiter.{settled}
 use Rattle.kernel.specs.Cells.{switchOff}
 use Rattle.kernel.specs.Events.{activated, finished, chained, got, released, tickedOnce, lined, launched, halted, marksOf}
@@ -54,7 +54,6 @@ machineStep c p m Tick = tickedOnce (p .compare) (p .entry) (p .priority) m
 machineStep c p m (Line i) = lined (p .line) (p .priority) m i
 machineStep c p m (Start t d) = launched (c .tables) (p .first) (p .largest) (c .entries) (c .period) (c .offset) m t d
 machineStep c p m (Stop t) = halted (c .tables) (p .first) (c .entries) m t
-machineStep c p m Nothing = doneWith m false
 
 -- the number of the body that runs
 abbrev pub runnerOf : Plan → Model → ℕ
@@ -75,7 +74,6 @@ matched p m Tick = marksOf (p .count) (p .compare) m
 matched p m (Line i) = replicate (p .count) false
 matched p m (Start t d) = replicate (p .count) false
 matched p m (Stop t) = replicate (p .count) false
-matched p m Nothing = replicate (p .count) false
 
 -- what is seen of the event e, which met m and handed o back
 abbrev pub observed : Config → Plan → Model → Event → Outcome → Seen

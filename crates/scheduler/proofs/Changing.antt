@@ -17,7 +17,7 @@ use Rattle.scheduler.specs.Body.{isStarted, Body, ready, started, become
 use Rattle.scheduler.specs.State.{State, Table, stopped, noBody, bodyOf, changing, withTable, runner}
 use Rattle.scheduler.specs.Call.{caller, finish, statusOf, effectOf}
 use Rattle.scheduler.specs.Tick.{counting, counted, activatingDue, dues, ticked}
-use Rattle.scheduler.specs.Event.{Event, Activate, Finish, Chain, Get, Release, Tick, Line, Start, Stop, Nothing, isTick}
+use Rattle.scheduler.specs.Event.{Event, Activate, Finish, Chain, Get, Release, Tick, Line, Start, Stop, isTick}
 use Rattle.scheduler.specs.Scheduler.{begins, dispatched, lossesOf, newBody, step, fresh, after}
 
 module _ (i : ℕ) (f : Body → Body) (s : State) where
@@ -67,7 +67,6 @@ effectOf-keeps c s P on-body on-table p Tick tick = tick refl
 effectOf-keeps c s P on-body on-table p (Line i) tick = on-body i requested s requested-losses p
 effectOf-keeps c s P on-body on-table p (Start t d) tick = on-table t _
 effectOf-keeps c s P on-body on-table p (Stop t) tick = on-table t _
-effectOf-keeps c s P on-body on-table p Nothing tick = p
 
 -- an event is a Tick or not
 pub by-tick : {C : Type 0} (e : Event) → (e ≡ Tick → C) → (isTick e ≡ false → C) → C
@@ -80,7 +79,6 @@ by-tick Tick f g = f refl
 by-tick (Line i) f g = g refl
 by-tick (Start t d) f g = g refl
 by-tick (Stop t) f g = g refl
-by-tick Nothing f g = g refl
 
 pub no-tick : (e : Event) → isTick e ≡ false → e ≢ Tick
 no-tick e h q = true≢false (sym (ap isTick q) ∙ h)

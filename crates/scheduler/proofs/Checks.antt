@@ -14,7 +14,7 @@ use Rattle.config.specs.Meaning.{isTask, isIsr, priorityOf, ceiling, largestOff
 use Rattle.scheduler.specs.Status.{Check, done, firstOf, NoneFails}
 use Rattle.scheduler.specs.Body.{Phase, suspended, ready, started, isSuspended}
 use Rattle.scheduler.specs.State.{State, isRunning, bodyOf, tableOf, heldIn}
-use Rattle.scheduler.specs.Event.{Event, Activate, Finish, Chain, Get, Release, Tick, Line, Start, Stop, Nothing}
+use Rattle.scheduler.specs.Event.{Event, Activate, Finish, Chain, Get, Release, Tick, Line, Start, Stop}
 use Rattle.scheduler.specs.Call.{nobodyRuns, caller, calling, holds, active, latestIs, requestWaits, checksOf, activateStatus, finishStatus, chainStatus, getStatus, releaseStatus, lineStatus, longestDelay, startStatus, stopStatus}
 use Rattle.scheduler.specs.Scheduler.{step}
 use Rattle.scheduler.specs.History.{Accepted}
@@ -69,7 +69,6 @@ refusing c s Tick = tt
 refusing c s (Line i) = omega arith
 refusing c s (Start t d) = omega arith
 refusing c s (Stop t) = omega arith
-refusing c s Nothing = tt
 
 pub accepted-none-fails : (c : Config) (s : State) (e : Event) → Accepted c s e ↔ NoneFails (checksOf c s e)
 unfolding step

@@ -15,7 +15,7 @@ use Rattle.config.specs.Meaning.{isIsr}
 use Rattle.scheduler.specs.Status.{done}
 use Rattle.scheduler.specs.Body.{Body, Phase, suspended, ready, started, isSuspended, isStarted, become, loses, requested, takes, gives-back, activatedByEntry, finished}
 use Rattle.scheduler.specs.State.{State, noBody, bodyOf, changing, runner}
-use Rattle.scheduler.specs.Event.{Event, Activate, Finish, Chain, Get, Release, Tick, Line, Start, Stop, Nothing}
+use Rattle.scheduler.specs.Event.{Event, Activate, Finish, Chain, Get, Release, Tick, Line, Start, Stop}
 use Rattle.scheduler.specs.Tick.{dues, counted}
 use Rattle.scheduler.specs.Call.{caller, finish, stop, statusOf, effectOf}
 use Rattle.scheduler.specs.Scheduler.{begins, markOf, step}
@@ -95,7 +95,6 @@ module _ (c : Config) (s : State) (i : ℕ) (isr : isIsr c i ≡ true) (begun : 
   started-stays (Line j) a = inr (started-changing i j requested s requested-started begun)
   started-stays (Start t d) a = inr begun
   started-stays (Stop t) a = inr begun
-  started-stays Nothing a = inr begun
 
   pub begins-after-finish : (e : Event) → step c s e .seen .begun ≡ 1 → step c s e .seen .runner ≡ i
       → (e ≡ Finish) × (caller c s ≡ i) × Accepted c s e

@@ -16,7 +16,7 @@ use Rattle.number.proofs.Cases.{by-eq}
 use Rattle.config.specs.declared.Config.{Config}
 use Rattle.scheduler.specs.Status.{done, firstOf}
 use Rattle.scheduler.specs.State.{State, Table, stopped, running, tableOf, withTable}
-use Rattle.scheduler.specs.Event.{Event, Activate, Finish, Chain, Get, Release, Tick, Line, Start, Stop, Nothing, isTick}
+use Rattle.scheduler.specs.Event.{Event, Activate, Finish, Chain, Get, Release, Tick, Line, Start, Stop, isTick}
 use Rattle.scheduler.specs.Tick.{counting}
 use Rattle.scheduler.specs.Call.{statusOf, effectOf}
 use Rattle.scheduler.specs.Scheduler.{step, fresh, after}
@@ -96,7 +96,6 @@ module _ (c : Config) (t : ℕ) (s : State) where
   turn (Line i) n = passes (λ p a. clash (cc)) (λ q a. clash (cc)) (table-kept (Line i) refl)
   turn (Start u d) n = turn-start u d n
   turn (Stop u) n = turn-stop u n
-  turn Nothing n = passes (λ p a. clash (cc)) (λ q a. clash (cc)) (table-kept Nothing refl)
 
 -- none of e and es: neither e nor any of es
 module _ (P : Event → Type 0) (c : Config) (s : State) (e : Event) (es : List Event) where

@@ -16,7 +16,7 @@ use Rattle.scheduler.specs.Status.{Check, callLevel, noSuch, limit, acce
 use Rattle.scheduler.specs.Body.{Phase, suspended, ready, started, isSuspended, Body, become, finished, requested, takes, gives-back}
 use Rattle.scheduler.specs.Choice.{isNobody}
 use Rattle.scheduler.specs.State.{State, stopped, running, isRunning, bodyOf, tableOf, changing, withTable, runner, heldIn}
-use Rattle.scheduler.specs.Event.{Event, Activate, Finish, Chain, Get, Release, Tick, Line, Start, Stop, Nothing}
+use Rattle.scheduler.specs.Event.{Event, Activate, Finish, Chain, Get, Release, Tick, Line, Start, Stop}
 use Rattle.scheduler.specs.Tick.{ticked}
 
 -- "nobody runs"
@@ -87,7 +87,6 @@ checksOf c s (Stop t) =
     (leb (c .tables) t gives noSuch) ∷
     (not (isRunning (tableOf s t)) gives noFunction) ∷
     []
-checksOf c s Nothing = []
 
 -- "At an event the first status that applies is given"
 abbrev pub statusOf : Config → State → Event → ℕ
@@ -160,4 +159,3 @@ effectOf c s Tick = ticked c s
 effectOf c s (Line i) = line i s
 effectOf c s (Start t d) = start t d s
 effectOf c s (Stop t) = stop t s
-effectOf c s Nothing = s

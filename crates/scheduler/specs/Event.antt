@@ -3,8 +3,7 @@
 use Prim.Native.Nat.{ℕ}
 use mathlib.Core.Bool.{Bool, true, false}
 
--- t: a task or a schedule table; r: a resource; i: an ISR; d: a delay. `Nothing` stands for a code that no event has, which no readable
--- trace holds.
+-- t: a task or a schedule table; r: a resource; i: an ISR; d: a delay.
 pub data Event : Type 0 where
   Activate : (t : ℕ) → Event
   Finish : Event
@@ -15,7 +14,6 @@ pub data Event : Type 0 where
   Line : (i : ℕ) → Event
   Start : (t d : ℕ) → Event
   Stop : (t : ℕ) → Event
-  Nothing : Event
 
 abbrev pub isTick : Event → Bool
 isTick (Activate t) = false
@@ -27,4 +25,3 @@ isTick Tick = true
 isTick (Line i) = false
 isTick (Start t d) = false
 isTick (Stop t) = false
-isTick Nothing = false

@@ -15,7 +15,7 @@ use Rattle.scheduler.specs.Status.{done}
 use Rattle.scheduler.specs.Body.{ready, started, Body, become}
 use Rattle.scheduler.specs.Choice.{Candidate, isNobody}
 use Rattle.scheduler.specs.State.{stopped, State, noBody, changing, runner}
-pub use Rattle.scheduler.specs.Event.{Event, Activate, Finish, Chain, Get, Release, Tick, Line, Start, Stop, Nothing}
+pub use Rattle.scheduler.specs.Event.{Event, Activate, Finish, Chain, Get, Release, Tick, Line, Start, Stop}
 use Rattle.scheduler.specs.Event.{isTick}
 use Rattle.scheduler.specs.Call.{statusOf, effectOf}
 use Rattle.scheduler.specs.Tick.{counted, dues}
