@@ -65,11 +65,17 @@ pub record Examples : Type 0 where
       ∷ row 2 255 0 0 ∷ row 3 255 0 0 ∷ row 0 2 6 1 ∷ []
   -- an ISR's number is no task, a task's no ISR, though both wait: 3, not 4
   pub id-before-limit : rows sample (Line 4 ∷ Activate 4 ∷ Activate 1 ∷ Line 1 ∷ []) ≡ row 0 0 4 0 ∷ row 3 0 4 0 ∷ row 0 0 4 0 ∷ row 3 0 4 0 ∷ []
-  -- Chain while a resource is held: to no task 3, to one that is ready 6
-  pub chain-order : rows sample (Activate 1 ∷ Get 0 ∷ Chain 9 ∷ Chain 1 ∷ []) ≡ row 0 0 4 0 ∷ row 0 0 6 0 ∷ row 3 0 6 0 ∷ row 6 0 6 0 ∷ []
-  -- no such resource and table: 3 before 1, 5 and 8; and 8 before 7
-  pub id-before-others : rows sample (Get 9 ∷ Release 9 ∷ Start 9 0 ∷ Stop 9 ∷ Start 0 1 ∷ Start 0 0 ∷ [])
-      ≡ row 3 0 4 0 ∷ row 3 0 4 0 ∷ row 3 0 4 0 ∷ row 3 0 4 0 ∷ row 0 0 4 0 ∷ row 8 0 4 0 ∷ []
+  -- a lower ISR waits too, and 4 is for a request that waits
+  pub line-lower : rows sample (Line 4 ∷ Line 4 ∷ Finish ∷ []) ≡ row 0 0 4 0 ∷ row 4 0 4 0 ∷ row 0 4 3 1 ∷ []
+  -- Chain while a resource is held: to no task 3, to one that is ready 6; and 4 to that one afterwards
+  pub chain-order : rows sample (Activate 1 ∷ Get 0 ∷ Chain 9 ∷ Chain 1 ∷ Release 0 ∷ Chain 1 ∷ [])
+      ≡ row 0 0 4 0 ∷ row 0 0 6 0 ∷ row 3 0 6 0 ∷ row 6 0 6 0 ∷ row 0 0 4 0 ∷ row 4 0 4 0 ∷ []
+  -- no such resource and table: 3 before 1, 5 and 8; 5 for a resource that nobody holds; and 8 before 7
+  pub id-before-others : rows sample (Get 9 ∷ Release 9 ∷ Release 0 ∷ Start 9 0 ∷ Stop 9 ∷ Start 0 1 ∷ Start 0 0 ∷ [])
+      ≡ row 3 0 4 0 ∷ row 3 0 4 0 ∷ row 5 0 4 0 ∷ row 3 0 4 0 ∷ row 3 0 4 0 ∷ row 0 0 4 0 ∷ row 8 0 4 0 ∷ []
+  -- delay and largest offset, 2 and 0, are 65,535 together, or one more
+  pub longest-delay : rows sample (Start 0 65534 ∷ Start 0 65533 ∷ Start 1 65536 ∷ Start 1 65535 ∷ [])
+      ≡ row 8 0 4 0 ∷ row 0 0 4 0 ∷ row 8 0 4 0 ∷ row 0 0 4 0 ∷ []
   -- own priority 4 at level 9: below, at and above the ceilings 6, 4 and 2; then one that it holds already, and Release in the order taken
   pub get-by-own-priority : rows sample (Get 3 ∷ Get 0 ∷ Get 2 ∷ Get 1 ∷ Get 0 ∷ Release 0 ∷ Release 2 ∷ Release 0 ∷ Release 3 ∷ [])
       ≡ row 0 0 9 0 ∷ row 0 0 9 0 ∷ row 0 0 9 0 ∷ row 1 0 9 0 ∷ row 1 0 9 0 ∷ row 5 0 9 0 ∷ row 0 0 9 0 ∷ row 0 0 9 0 ∷ row 0 0 4 0 ∷ []
@@ -111,8 +117,10 @@ examples =
       chain-itself = refl;
       idle-first = refl;
       id-before-limit = refl;
+      line-lower = refl;
       chain-order = refl;
       id-before-others = refl;
+      longest-delay = refl;
       get-by-own-priority = refl;
       isr-calls = refl;
       begins-again = refl;
