@@ -60,7 +60,7 @@ pub data History (c : Config) (t : ℕ) (es : List Event) : Table → Type 0 whe
       → NoStart c t (next c (after c (fresh c) before) (Stop t)) rest
       → History c t es stopped
 
--- the marks of an event past the last one: none
+-- past the last event and the last entry no mark is true
 abbrev pub dueMark : List Seen → ℕ → ℕ → Bool
 dueMark xs i k = getD (getD (map (λ x. x .due) xs) i []) k false
 
