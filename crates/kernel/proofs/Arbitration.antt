@@ -28,7 +28,7 @@ use Rattle.scheduler.specs.Choice.{chosen, nobody}
 use Rattle.scheduler.specs.State.{State, noBody, among}
 use Rattle.scheduler.specs.Call.{requestWaits}
 use Rattle.scheduler.specs.Scheduler.{begins, dispatched}
-use Rattle.scheduler.proofs.Choosing.{current-own}
+use Rattle.scheduler.proofs.Choice.{current-own}
 use Rattle.kernel.specs.declared.machine.Core.{Core}
 use Rattle.kernel.specs.declared.machine.Model.{Model}
 use Rattle.kernel.specs.declared.machine.Outcome.{Outcome}

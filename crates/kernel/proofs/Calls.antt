@@ -22,8 +22,8 @@ use Rattle.scheduler.specs.State.{State, noBody, runner}
 use Rattle.scheduler.specs.Call.{nobodyRuns, caller}
 use Rattle.scheduler.specs.Scheduler as Plain
 use Rattle.scheduler.specs.Scheduler.{Event, step, begins, dispatched, ending, noneDue, markOf}
-use Rattle.scheduler.proofs.Choosing.{current-own}
-use Rattle.scheduler.proofs.Changing.{tables-dispatched}
+use Rattle.scheduler.proofs.Choice.{current-own}
+use Rattle.scheduler.proofs.Effects.{tables-dispatched}
 use Rattle.kernel.specs.declared.machine.Model.{Model}
 use Rattle.kernel.specs.declared.machine.Outcome.{Outcome}
 use Rattle.kernel.specs.Model.{noRank, refusedWith}

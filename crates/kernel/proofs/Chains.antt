@@ -13,7 +13,7 @@ use Rattle.config.specs.Meaning.{priorityOf, ceiling}
 use Rattle.plan.specs.declared.Plan.{Plan}
 use Rattle.scheduler.specs.Body.{Body, isStarted, current}
 use Rattle.scheduler.specs.State.{among}
-use Rattle.scheduler.proofs.Choosing.{current-own}
+use Rattle.scheduler.proofs.Choice.{current-own}
 use Rattle.stack.specs.declared.Stack.{Stack}
 use Rattle.kernel.specs.Model.{noRank}
 use Rattle.kernel.proofs.Simulation.{Fitted, at, ranksFor, levelsFor, levelAt, Chained, Frames, Slot, slotsFor, slotsAlong}

@@ -23,7 +23,7 @@ use Rattle.word.specs.Word.{has, without}
 use Rattle.word.proofs.Theorems.{has-without-same, has-without-other}
 use Rattle.stack.specs.Stack.{secondRow, popRow, rowBytes}
 use Rattle.stack.proofs.Theorems.{row-second-lt}
-use Rattle.scheduler.specs.Body.{Body, isStarted, current, gives-back}
+use Rattle.scheduler.specs.Body.{Body, isStarted, current, releases}
 use Rattle.scheduler.specs.State.{noBody, among}
 use Rattle.scheduler.specs.Call.{holds, latestIs}
 use Rattle.kernel.specs.declared.machine.Model.{Model}
@@ -111,18 +111,18 @@ module _ (c : Config) (p : Plan) (rk : ℕ → ℕ) (fit : Fitted c p rk) (m : M
   -- the runner holds r, taken after rs
   module _ (r : ℕ) (r< : r < c .resources) (rs : List ℕ) (held-is : at bs b .held ≡ r ∷ rs) where
     abbrev bs′ : List Body
-    bs′ = set bs b (gives-back (at bs b))
+    bs′ = set bs b (releases (at bs b))
 
-    at-b : at bs′ b ≡ gives-back (at bs b)
-    at-b = getD-set-same bs b (gives-back (at bs b)) noBody (rw (t .size) exists)
+    at-b : at bs′ b ≡ releases (at bs b)
+    at-b = getD-set-same bs b (releases (at bs b)) noBody (rw (t .size) exists)
 
     held-b : at bs′ b .held ≡ rs
     held-b = rw (at-b, held-is)
 
     at-other : (i : ℕ) → i ≢ b → at bs′ i ≡ at bs i
-    at-other i n = getD-set-other bs b i (gives-back (at bs b)) noBody n
+    at-other i n = getD-set-other bs b i (releases (at bs b)) noBody n
 
-    same {ℓ} : {A : Type ℓ} (f : Body → A) → ((x : Body) → f (gives-back x) ≡ f x) → (i : ℕ) → f (at bs′ i) ≡ f (at bs i)
+    same {ℓ} : {A : Type ℓ} (f : Body → A) → ((x : Body) → f (releases x) ≡ f x) → (i : ℕ) → f (at bs′ i) ≡ f (at bs i)
     same f keeps i = by-eq i b (λ e. rw (e, at-b) (keeps (at bs b))) (λ n. ap f (at-other i n))
 
     same-began : (i : ℕ) → isStarted (at bs′ i .phase) ≡ isStarted (at bs i .phase)
@@ -170,10 +170,10 @@ module _ (c : Config) (p : Plan) (rk : ℕ → ℕ) (fit : Fitted c p rk) (m : M
     words′ =
         record {
           request-lt = t .words .request-lt;
-          asks = λ i i<. t .words .asks i i< ∙ sym (same wants (λ x. waits-same (gives-back x) x (x .phase) refl) i);
+          asks = λ i i<. t .words .asks i i< ∙ sym (same wants (λ x. waits-same (releases x) x (x .phase) refl) i);
           asks-real = t .words .asks-real;
           begun = λ i i<. t .words .begun i i< ∙ sym (same-began i);
-          quiet = λ i h. same (λ x. x .waiting) (λ x. refl) i ∙ t .words .quiet i (sym (same-began i) ∙ h);
+          quiet = λ i h. same (λ x. x .pending) (λ x. refl) i ∙ t .words .quiet i (sym (same-began i) ∙ h);
         }
 
     frames′ : Frames (m .core .runner) (levelWithout (p .priority) m) (m .stack) (m .levels) (ranksFor rk (b ∷ ch)) (levelsFor c bs′ (b ∷ ch))
@@ -228,4 +228,4 @@ module _ (c : Config) (p : Plan) (rk : ℕ → ℕ) (fit : Fitted c p rk) (m : M
         }
 
     pub freed-tied : Tied c rk (freeing (p .priority) r m) bs′ (b ∷ ch)
-    freed-tied = record { size = length-set bs b (gives-back (at bs b)) ∙ t .size; words = words′; running = running′; holding = holding′ }
+    freed-tied = record { size = length-set bs b (releases (at bs b)) ∙ t .size; words = words′; running = running′; holding = holding′ }

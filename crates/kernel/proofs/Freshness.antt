@@ -14,7 +14,7 @@ use Rattle.word.proofs.Theorems.{empty}
 use Rattle.scheduler.specs.Body.{Body, isStarted, ready, become}
 use Rattle.scheduler.specs.State.{stopped, State, noBody, among}
 use Rattle.scheduler.specs.Scheduler.{newBody, fresh}
-use Rattle.scheduler.proofs.Changing.{tables-dispatched}
+use Rattle.scheduler.proofs.Effects.{tables-dispatched}
 use Rattle.kernel.specs.Machine.{unstarted, freshModel}
 use Rattle.kernel.proofs.Views.{same-everywhere, on-top, empty-shows, row-empty-shows}
 use Rattle.kernel.specs.Cells.{switchOff, isOn}
@@ -65,7 +65,7 @@ module _ (c : Config) (p : Plan) (rk : ℕ → ℕ) (fit : Fitted c p rk) where
           asks = λ b b<. fit .autostart-at b b< ∙ sym (ap wants (at-known b b<) ∙ new-wants (getD (c .autostart) b 0));
           asks-real = fit .autostart-real;
           begun = λ b b<. empty (rk b) ∙ sym (at-same (λ x. isStarted (x .phase)) refl b);
-          quiet = λ b h. at-same (λ x. x .waiting) refl b;
+          quiet = λ b h. at-same (λ x. x .pending) refl b;
         };
         running = record {
           frames = record { ranks = on-top refl empty-shows; levels = on-top refl empty-shows; level-lt = omega arith };

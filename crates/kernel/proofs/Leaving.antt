@@ -51,7 +51,7 @@ module _ (c : Config) (p : Plan) (rk : ℕ → ℕ) (fit : Fitted c p rk) (m : M
 
   -- it has not begun now
   ended : (i : ℕ) → i ≡ b → isStarted (at bs′ i .phase) ≡ false
-  ended i e = rw (e, at-b) (out (at bs b .waiting))
+  ended i e = rw (e, at-b) (out (at bs b .pending))
     where
       out : (w : Bool) → isStarted (cond w ready suspended) ≡ false
       out true = refl
@@ -80,10 +80,10 @@ module _ (c : Config) (p : Plan) (rk : ℕ → ℕ) (fit : Fitted c p rk) (m : M
       }
     where
       -- a request that waited makes the body ready, which wants to begin
-      kept : (x : Body) (q : Phase) → isStarted q ≡ true → requestWaits x q ≡ requestWaits (finished x) (cond (x .waiting) ready suspended)
+      kept : (x : Body) (q : Phase) → isStarted q ≡ true → requestWaits x q ≡ requestWaits (finished x) (cond (x .pending) ready suspended)
       kept x suspended h = absurd (true≢false (sym h))
       kept x ready h = absurd (true≢false (sym h))
-      kept x started h = wait (x .waiting)
+      kept x started h = wait (x .pending)
         where
           wait : (w : Bool) → w ≡ requestWaits (finished x) (cond w ready suspended)
           wait true = refl

@@ -79,7 +79,7 @@ pub record Words (c : Config) (rk : ℕ → ℕ) (k : Core) (bs : List Body) : T
   pub asks : (b : ℕ) → b < c .bodies → has (k .request) (rk b) ≡ wants (at bs b)
   pub asks-real : (r : ℕ) → has (k .request) r ≡ true → (b : ℕ) × ((b < c .bodies) × (rk b ≡ r))
   pub begun : (b : ℕ) → b < c .bodies → has (k .started) (rk b) ≡ isStarted (at bs b .phase)
-  pub quiet : (b : ℕ) → isStarted (at bs b .phase) ≡ false → at bs b .waiting ≡ false
+  pub quiet : (b : ℕ) → isStarted (at bs b .phase) ≡ false → at bs b .pending ≡ false
 
 -- the ranks of a chain of bodies, from its runner down to nobody
 unfoldable pub ranksFor : (ℕ → ℕ) → List ℕ → List ℕ

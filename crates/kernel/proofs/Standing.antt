@@ -15,7 +15,7 @@ use Rattle.scheduler.specs.Body.{Phase, suspended, ready, started, isSuspended,
 use Rattle.scheduler.specs.Choice.{nobody, chosen}
 use Rattle.scheduler.specs.State.{among}
 use Rattle.scheduler.specs.Call.{requestWaits}
-use Rattle.scheduler.proofs.Choosing.{contender, weight, weight-before, chosen-best, chosen-nobody, current-own, candidate-active}
+use Rattle.scheduler.proofs.Choice.{contender, weight, weight-before, chosen-best, chosen-nobody, current-own, candidate-active}
 use Rattle.kernel.proofs.Simulation.{at, levelAt, Chained, Calm}
 
 -- b is the first of the list, or stands further on
@@ -31,7 +31,7 @@ by-phase ready f g h = g refl refl
 by-phase started f g h = h refl refl
 
 -- whether a request waits goes by the phase and the mark alone
-pub waits-same : (x y : Body) (q : Phase) → x .waiting ≡ y .waiting → requestWaits x q ≡ requestWaits y q
+pub waits-same : (x y : Body) (q : Phase) → x .pending ≡ y .pending → requestWaits x q ≡ requestWaits y q
 waits-same x y suspended e = refl
 waits-same x y ready e = refl
 waits-same x y started e = e

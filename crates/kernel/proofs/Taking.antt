@@ -16,7 +16,7 @@ use Rattle.plan.specs.declared.Plan.{Plan}
 use Rattle.word.specs.Word.{has, with}
 use Rattle.word.proofs.Theorems.{has-with-same, has-with-other}
 use Rattle.stack.specs.Stack.{pushRow}
-use Rattle.scheduler.specs.Body.{Body, isStarted, current, takes}
+use Rattle.scheduler.specs.Body.{Body, isStarted, current, gets}
 use Rattle.scheduler.specs.State.{noBody, among}
 use Rattle.kernel.specs.declared.machine.Model.{Model}
 use Rattle.kernel.specs.Model.{withLevel}
@@ -33,7 +33,7 @@ module _ (c : Config) (p : Plan) (rk : ℕ → ℕ) (fit : Fitted c p rk) (m : M
   level′ = max (getD (p .ceiling) r 0) (m .core .level)
 
   abbrev bs′ : List Body
-  bs′ = set bs b (takes r (at bs b))
+  bs′ = set bs b (gets r (at bs b))
 
   exists : b < c .bodies
   unfolding Chained
@@ -46,14 +46,14 @@ module _ (c : Config) (p : Plan) (rk : ℕ → ℕ) (fit : Fitted c p rk) (m : M
   unfolding levelAt
   level-was = level-first c rk bs (b ∷ ch) (t .running .frames)
 
-  at-b : at bs′ b ≡ takes r (at bs b)
-  at-b = getD-set-same bs b (takes r (at bs b)) noBody (rw (t .size) exists)
+  at-b : at bs′ b ≡ gets r (at bs b)
+  at-b = getD-set-same bs b (gets r (at bs b)) noBody (rw (t .size) exists)
 
   at-other : (i : ℕ) → i ≢ b → at bs′ i ≡ at bs i
-  at-other i n = getD-set-other bs b i (takes r (at bs b)) noBody n
+  at-other i n = getD-set-other bs b i (gets r (at bs b)) noBody n
 
   -- nothing but the held resources changes
-  same {ℓ} : {A : Type ℓ} (f : Body → A) → ((x : Body) → f (takes r x) ≡ f x) → (i : ℕ) → f (at bs′ i) ≡ f (at bs i)
+  same {ℓ} : {A : Type ℓ} (f : Body → A) → ((x : Body) → f (gets r x) ≡ f x) → (i : ℕ) → f (at bs′ i) ≡ f (at bs i)
   same f keeps i = by-eq i b (λ e. rw (e, at-b) (keeps (at bs b))) (λ n. ap f (at-other i n))
 
   same-began : (i : ℕ) → isStarted (at bs′ i .phase) ≡ isStarted (at bs i .phase)
@@ -69,10 +69,10 @@ module _ (c : Config) (p : Plan) (rk : ℕ → ℕ) (fit : Fitted c p rk) (m : M
   words′ =
       record {
         request-lt = t .words .request-lt;
-        asks = λ i i<. t .words .asks i i< ∙ sym (same wants (λ x. waits-same (takes r x) x (x .phase) refl) i);
+        asks = λ i i<. t .words .asks i i< ∙ sym (same wants (λ x. waits-same (gets r x) x (x .phase) refl) i);
         asks-real = t .words .asks-real;
         begun = λ i i<. t .words .begun i i< ∙ sym (same-began i);
-        quiet = λ i h. same (λ x. x .waiting) (λ x. refl) i ∙ t .words .quiet i (sym (same-began i) ∙ h);
+        quiet = λ i h. same (λ x. x .pending) (λ x. refl) i ∙ t .words .quiet i (sym (same-began i) ∙ h);
       }
 
   level-lt : level′ < 256
@@ -100,7 +100,7 @@ module _ (c : Config) (p : Plan) (rk : ℕ → ℕ) (fit : Fitted c p rk) (m : M
   slots-more : slotsAlong c rk bs′ (b ∷ ch) ≡ slot r (rk b) (current c b (at bs′ b)) ∷ slotsAlong c rk bs (b ∷ ch)
   unfolding slotsAlong slotsFor
   slots-more =
-      rw at-b (ap (λ (ss : List Slot). slot r (rk b) (current c b (takes r (at bs b))) ∷ (slotsFor c rk b (at bs b .held) ++ ss)) (sym (slotsAlong-alike c rk bs bs′ ch alike)))
+      rw at-b (ap (λ (ss : List Slot). slot r (rk b) (current c b (gets r (at bs b))) ∷ (slotsFor c rk b (at bs b .held) ++ ss)) (sym (slotsAlong-alike c rk bs bs′ ch alike)))
 
   r-lt-16 : r < 16
   r-lt-16 = omega (arith, fit .few-resources)
@@ -143,4 +143,4 @@ module _ (c : Config) (p : Plan) (rk : ℕ → ℕ) (fit : Fitted c p rk) (m : M
       }
 
   pub taken-tied : Tied c rk (taking r level′ m) bs′ (b ∷ ch)
-  taken-tied = record { size = length-set bs b (takes r (at bs b)) ∙ t .size; words = words′; running = running′; holding = holding′ }
+  taken-tied = record { size = length-set bs b (gets r (at bs b)) ∙ t .size; words = words′; running = running′; holding = holding′ }

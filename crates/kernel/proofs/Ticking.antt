@@ -14,14 +14,14 @@ use Rattle.config.specs.Value.{maxEntries}
 use Rattle.config.specs.Meaning.{isTask}
 use Rattle.plan.specs.declared.Plan.{Plan}
 use Rattle.word.specs.Word.{has}
-use Rattle.scheduler.specs.Status.{done, firstOf}
+use Rattle.scheduler.specs.Status.{done, firstGiven}
 use Rattle.scheduler.specs.Body.{Phase, suspended, ready, started, isSuspended, isStarted, Body, become, loses, activatedByEntry}
 use Rattle.scheduler.specs.State.{State, noBody, changing}
 use Rattle.scheduler.specs.Call.{requestWaits}
 use Rattle.scheduler.specs.Tick.{counting, counted, dues, activatingDue}
 use Rattle.scheduler.specs.Tick as Plain
 use Rattle.scheduler.specs.Scheduler.{Tick, step}
-use Rattle.scheduler.proofs.Changing.{tables-ticked}
+use Rattle.scheduler.proofs.Effects.{tables-ticked}
 use Rattle.kernel.specs.declared.machine.Model.{Model}
 use Rattle.kernel.specs.Model.{withCore, withRequest, withRest}
 use Rattle.kernel.specs.Arbiter.{settled}
@@ -79,7 +79,7 @@ module _ (c : Config) (p : Plan) (rk : ℕ → ℕ) (fit : Fitted c p rk) (ch : 
         go : (b : Body) (q : Phase) → requestWaits b q || isStarted q ≡ not (isSuspended q)
         go b suspended = refl
         go b ready = refl
-        go b started = either (b .waiting)
+        go b started = either (b .pending)
           where
             either : (w : Bool) → w || true ≡ true
             either true = refl
@@ -169,7 +169,7 @@ module _ (c : Config) (p : Plan) (rk : ℕ → ℕ) (fit : Fitted c p rk) (m : M
       (countersTicked maxEntries 0 (p .compare) (m .on) (m .counter)) (m .on) (requestsDue (m .core .started) ms (p .entry) (record { request = m .core .request; losses = m .losses }) .losses))
 
   pub agrees-tick : Agrees c p rk fit m s Tick
-  unfolding machineStep tickedOnce step matched firstOf
+  unfolding machineStep tickedOnce step matched firstGiven
   agrees-tick =
       agrees c p rk fit m s Tick (settled (p .priority) (ticking (p .compare) (p .entry) m)) done ms (Plain.ticked c s) refl refl refl marks-are
       (settled-tied c p rk fit (ticking (p .compare) (p .entry) m) (Plain.ticked c s) (sim .chain) ticked-tied)

@@ -41,7 +41,7 @@ module _ (c : Config) (rk : ℕ → ℕ) (m : Model) (bs : List Body) (ch : List
     rank-lt-32 = omega (arith, fit .rank-lt b b<, fit .few)
 
     -- body b becomes y, and the request word q
-    module _ (y : Body) (like : Alike (at bs b) y) (still : isStarted (y .phase) ≡ false → y .waiting ≡ false)
+    module _ (y : Body) (like : Alike (at bs b) y) (still : isStarted (y .phase) ≡ false → y .pending ≡ false)
         (q : ℕ) (q-lt : q < 2 ^ 32) (asked : has q (rk b) ≡ wants y) (others : (r : ℕ) → r ≢ rk b → has q r ≡ has (m .core .request) r) where
       abbrev bs′ : List Body
       bs′ = set bs b y
@@ -115,7 +115,7 @@ module _ (c : Config) (rk : ℕ → ℕ) (m : Model) (bs : List Body) (ch : List
         like ready e = rw e (record { phase = rw e; held = refl })
         like started e = rw e (record { phase = rw e; held = refl })
 
-        still : (q : Phase) → at bs b .phase ≡ q → isStarted (requested (at bs b) .phase) ≡ false → requested (at bs b) .waiting ≡ false
+        still : (q : Phase) → at bs b .phase ≡ q → isStarted (requested (at bs b) .phase) ≡ false → requested (at bs b) .pending ≡ false
         still suspended e h = rw e (t .words .quiet b (rw e))
         still ready e h = rw e (t .words .quiet b (rw e))
         still started e h = absurd (true≢false (rw e at h))

@@ -15,7 +15,7 @@ use Rattle.config.specs.declared.Config.{Config}
 use Rattle.config.specs.Meaning.{isTask, isIsr}
 use Rattle.plan.specs.declared.Plan.{Plan}
 use Rattle.word.specs.Word.{has}
-use Rattle.scheduler.specs.Status.{Check, _gives_, firstOf, callLevel, noSuch, limit, holdsResource}
+use Rattle.scheduler.specs.Status.{Check, _gives_, firstGiven, callLevel, noSuch, limitReached, holdsResource}
 use Rattle.scheduler.specs.Body.{Phase, suspended, ready, started, isSuspended, isStarted, Body, become, finished, requested}
 use Rattle.scheduler.specs.State.{State, noBody, bodyOf}
 use Rattle.scheduler.specs.Call.{nobodyRuns, caller, calling, holds, active, requestWaits, activateStatus, finishStatus, chainStatus, lineStatus, activate, finish, chain, line}
@@ -37,9 +37,9 @@ use Rattle.kernel.proofs.Freeing.{holding-is}
 use Rattle.kernel.proofs.Calls.{kept, lost-same, Agrees, Who, idle, busy as running, who, agrees-attempt}
 
 -- the same tests in the same order give the same status
-pub first-same : (a a′ : Bool) (st : ℕ) (ks ks′ : List Check) → a ≡ a′ → (a′ ≡ false → firstOf ks ≡ firstOf ks′)
-    → firstOf ((a gives st) ∷ ks) ≡ firstOf ((a′ gives st) ∷ ks′)
-unfolding firstOf
+pub first-same : (a a′ : Bool) (st : ℕ) (ks ks′ : List Check) → a ≡ a′ → (a′ ≡ false → firstGiven ks ≡ firstGiven ks′)
+    → firstGiven ((a gives st) ∷ ks) ≡ firstGiven ((a′ gives st) ∷ ks′)
+unfolding firstGiven
 first-same a true st ks ks′ e f = rw e
 first-same a false st ks ks′ e f = rw e (f refl)
 
@@ -89,7 +89,7 @@ module _ (c : Config) (p : Plan) (rk : ℕ → ℕ) (fit : Fitted c p rk) (m : M
       go : (b : Body) (q : Phase) → requestWaits b q || isStarted q ≡ not (isSuspended q)
       go b suspended = refl
       go b ready = refl
-      go b started = or-true (b .waiting)
+      go b started = or-true (b .pending)
 
   pub no-match : replicate (p .count) false ≡ noneDue c s
   no-match = ap (λ (n : ℕ). replicate n false) (sym long)
@@ -110,7 +110,7 @@ module _ (c : Config) (p : Plan) (rk : ℕ → ℕ) (fit : Fitted c p rk) (m : M
       (first-same (idles m) (nobodyRuns c s) callLevel _ _ idle-same
       (λ _. first-same (eqb (getD (p .task) t noRank) noRank) (not (isTask c t)) noSuch _ _ (missing-rank (isTask c) (task-exists c) t (getD (p .task) t noRank) (fit .task-rank t))
       (λ h. let k = not-false (isTask c t) h in
-      first-same (busy m (getD (p .task) t noRank)) (active s t) limit _ _ (rw (task-rank-is t k) (busy-is t (task-exists c t k))) (λ _. refl))))
+      first-same (busy m (getD (p .task) t noRank)) (active s t) limitReached _ _ (rw (task-rank-is t k) (busy-is t (task-exists c t k))) (λ _. refl))))
       (λ z. let a = activate-passed c s t z in
       rw (task-rank-is t (a .1))
       (record {
@@ -129,7 +129,7 @@ module _ (c : Config) (p : Plan) (rk : ℕ → ℕ) (fit : Fitted c p rk) (m : M
       (settled (p .priority) (requesting (getD (p .line) i noRank) m)) (line i s) sim refl refl no-match
       (first-same (eqb (getD (p .line) i noRank) noRank) (not (isIsr c i)) noSuch _ _ (missing-rank (isIsr c) (isr-exists c) i (getD (p .line) i noRank) (fit .line-rank i))
       (λ h. let k = not-false (isIsr c i) h in
-      first-same (has (m .core .request) (getD (p .line) i noRank)) (wants (at bs i)) limit _ _ (rw (line-rank-is i k) (sim .tied .words .asks i (isr-exists c i k))) (λ _. refl)))
+      first-same (has (m .core .request) (getD (p .line) i noRank)) (wants (at bs i)) limitReached _ _ (rw (line-rank-is i k) (sim .tied .words .asks i (isr-exists c i k))) (λ _. refl)))
       (λ z. let a = line-passed c s i z in
       rw (line-rank-is i (a .0))
       (record {
@@ -140,7 +140,7 @@ module _ (c : Config) (p : Plan) (rk : ℕ → ℕ) (fit : Fitted c p rk) (m : M
         lost = lost-same c rk (m .losses) bs (line i s .bodies) (kept (λ x. x .losses) requested (λ x. same-losses x (x .phase)) bs i) (sim .lost);
       }))
     where
-      same-losses : (x : Body) (q : Phase) → (cond (isStarted q) (record { phase = started; waiting = true; held = x .held; losses = x .losses }) (become ready x)) .losses ≡ x .losses
+      same-losses : (x : Body) (q : Phase) → (cond (isStarted q) (record { phase = started; pending = true; held = x .held; losses = x .losses }) (become ready x)) .losses ≡ x .losses
       same-losses x suspended = refl
       same-losses x ready = refl
       same-losses x started = refl
@@ -176,7 +176,7 @@ module _ (c : Config) (p : Plan) (rk : ℕ → ℕ) (fit : Fitted c p rk) (m : M
 
   -- Finish
   finish-status : Machine.finishStatus m ≡ finishStatus c s
-  unfolding firstOf
+  unfolding firstGiven
   finish-status =
       by-runner c p rk fit m s sim
       (λ i n. rw (i, n))
@@ -224,7 +224,7 @@ module _ (c : Config) (p : Plan) (rk : ℕ → ℕ) (fit : Fitted c p rk) (m : M
       (λ _. first-same (eqb (getD (p .task) t noRank) noRank) (not (isTask c t)) noSuch _ _ (missing-rank c p rk fit m s sim long (isTask c) (task-exists c) t (getD (p .task) t noRank) (fit .task-rank t))
       (λ h. let q = not-false (isTask c t) h in
       first-same (holding m) (holds (calling c s .held)) holdsResource _ _ (holding-same b ch k)
-      (λ _. first-same (busy m (getD (p .task) t noRank) && not (eqb (getD (p .task) t noRank) (m .core .runner))) (active s t && not (eqb t (caller c s))) limit _ _
+      (λ _. first-same (busy m (getD (p .task) t noRank) && not (eqb (getD (p .task) t noRank) (m .core .runner))) (active s t && not (eqb t (caller c s))) limitReached _ _
       (rw (task-rank-is c p rk fit m s sim long t q)
       (ap₂ (λ (x y : Bool). x && not y) (busy-is c p rk fit m s sim long t (task-exists c t q)) (same-task b ch k t (task-exists c t q))))
       (λ _. refl)))))
@@ -234,7 +234,7 @@ module _ (c : Config) (p : Plan) (rk : ℕ → ℕ) (fit : Fitted c p rk) (m : M
       → isStarted (at (finish c s .bodies) t .phase) ≡ false
   chained-asleep b ch k t asleep =
       by-eq t (caller c s)
-      (λ e. rw e (ap (λ (x : Body). isStarted (x .phase)) (getD-set-same (s .bodies) (caller c s) (finished (calling c s)) noBody (rw (k .calls, sim .tied .size) (k .exists))) ∙ out (calling c s .waiting)))
+      (λ e. rw e (ap (λ (x : Body). isStarted (x .phase)) (getD-set-same (s .bodies) (caller c s) (finished (calling c s)) noBody (rw (k .calls, sim .tied .size) (k .exists))) ∙ out (calling c s .pending)))
       (λ n. ap (λ (x : Body). isStarted (x .phase)) (getD-set-other (s .bodies) (caller c s) t (finished (calling c s)) noBody n) ∙ rw (asleep n))
     where
       out : (w : Bool) → isStarted (cond w ready suspended) ≡ false

@@ -19,7 +19,7 @@ use Rattle.scheduler.specs.Tick.{counting, counted, entryDue, duesFrom, 
 use Rattle.scheduler.specs.Scheduler.{step, fresh, seen, after}
 use Rattle.scheduler.specs.Entries.{Entry, entryOf, entriesFrom, entriesOf, entryAt}
 use Rattle.scheduler.specs.History.{History, never-started, since-start, since-stop, dueMark, DueAt}
-use Rattle.scheduler.proofs.Changing.{by-tick, no-tick, length-tables-fresh}
+use Rattle.scheduler.proofs.Effects.{by-tick, no-tick, length-tables-fresh}
 use Rattle.scheduler.proofs.Entries.{getD-map-in}
 use Rattle.scheduler.proofs.Tables.{table-history, history-of-table, fits-after}
 

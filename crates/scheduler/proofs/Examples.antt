@@ -12,7 +12,7 @@ use Rattle.config.specs.Draft.{faultAt, putAt, ended, occurs}
 use Rattle.config.specs.Reader.{readConfig, readFrom}
 use Rattle.config.specs.Meaning.{greatestIn, entriesBefore}
 use Rattle.cell.specs.Due.{due}
-use Rattle.scheduler.specs.Status.{firstOf}
+use Rattle.scheduler.specs.Status.{firstGiven}
 use Rattle.scheduler.specs.Choice.{candidate, chosenFrom}
 use Rattle.scheduler.specs.State.{among, heldIn}
 use Rattle.scheduler.specs.Event.{Event, Activate, Finish, Chain, Get, Release, Tick, Line, Start, Stop}
@@ -108,7 +108,7 @@ pub record Examples : Type 0 where
       ∷ (false ∷ true ∷ true ∷ []) ∷ []
 
 pub examples : Examples
-unfolding sample twoAutostart readConfig readFrom readNumber groups continued fifthGroup faultAt putAt ended occurs greatestIn entriesBefore due firstOf candidate chosenFrom among heldIn counting entryDue duesFrom activatingDue step seen
+unfolding sample twoAutostart readConfig readFrom readNumber groups continued fifthGroup faultAt putAt ended occurs greatestIn entriesBefore due firstGiven candidate chosenFrom among heldIn counting entryDue duesFrom activatingDue step seen
 examples =
     record {
       activate-higher = refl;

@@ -3,9 +3,9 @@
 pub mod Theorems
 pub mod Listing
 pub mod Examples
-pub mod Choosing
+pub mod Choice
 pub mod Checks
-pub mod Changing
+pub mod Effects
 pub mod Refusals
 pub mod Tables
 pub mod Requests

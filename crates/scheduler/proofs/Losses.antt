@@ -12,13 +12,13 @@ use lib.Dec.{eqb, lit≤}
 use lib.ListN.{length, getD, List·getD-eq-default, List·getD-map, take, replicate}
 use Rattle.number.proofs.Cases.{by-lt, by-eq}
 use Rattle.config.specs.declared.Config.{Config}
-use Rattle.scheduler.specs.Status.{firstOf}
+use Rattle.scheduler.specs.Status.{firstGiven}
 use Rattle.scheduler.specs.Body.{Body, ready, suspended, isSuspended, become, mostLosses, losing, loses, activatedByEntry}
 use Rattle.scheduler.specs.State.{State, stopped, noBody, bodyOf, changing}
 use Rattle.scheduler.specs.Event.{Event}
 use Rattle.scheduler.specs.Tick.{counted, dues, activatingDue, ticked, naming, dueFor}
 use Rattle.scheduler.specs.Scheduler.{newBody, dispatched, lossesOf, step, fresh, after}
-use Rattle.scheduler.proofs.Changing.{bodyOf-changing-same, bodyOf-changing-other, length-changing, activatingDue-keeps, by-tick, no-tick, losses-dispatched, losses-call}
+use Rattle.scheduler.proofs.Effects.{bodyOf-changing-same, bodyOf-changing-other, length-changing, activatingDue-keeps, by-tick, no-tick, losses-dispatched, losses-call}
 
 -- n entries that name the body b, one after the other
 times : ℕ → Body → Body
@@ -39,7 +39,7 @@ activatingDue-times t (true ∷ ds) (u ∷ us) s fits =
 activatingDue-times t (false ∷ ds) (u ∷ us) s fits = activatingDue-times t ds us s fits
 
 withLosses : Body → ℕ → Body
-withLosses b n = record { phase = b .phase; waiting = b .waiting; held = b .held; losses = n }
+withLosses b n = record { phase = b .phase; pending = b .pending; held = b .held; losses = n }
 
 -- a body that isn't suspended loses them all
 times-active : (n : ℕ) (b : Body) → isSuspended (b .phase) ≡ false → b .losses ≤ mostLosses → times n b ≡ losing n b
@@ -87,7 +87,7 @@ module _ (c : Config) where
       rw same (few i)
 
   few-step : (s : State) (e : Event) → FewLosses s → FewLosses (step c s e .state)
-  unfolding step firstOf
+  unfolding step firstGiven
   few-step s e few =
       by-tick e
       (λ q. rw q

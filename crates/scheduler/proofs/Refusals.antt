@@ -19,8 +19,8 @@ use Rattle.scheduler.specs.State.{State, stopped, bodyOf, changing, runn
 use Rattle.scheduler.specs.Event.{Event}
 use Rattle.scheduler.specs.Call.{statusOf, effectOf}
 use Rattle.scheduler.specs.Scheduler.{begins, dispatched, markOf, newBody, step, fresh, after}
-use Rattle.scheduler.proofs.Choosing.{contender, weight, weight-before, chosen-weight, candidate-active, chosen-best, Taken, no-one, body, chosen-from}
-use Rattle.scheduler.proofs.Changing.{bodyOf-changing-same, bodyOf-changing-other}
+use Rattle.scheduler.proofs.Choice.{contender, weight, weight-before, chosen-weight, candidate-active, chosen-best, Taken, no-one, body, chosen-from}
+use Rattle.scheduler.proofs.Effects.{bodyOf-changing-same, bodyOf-changing-other}
 
 pub refused-dispatched : (c : Config) (s : State) (e : Event) → step c s e .seen .status ≢ done → step c s e .state ≡ dispatched c s
 unfolding step

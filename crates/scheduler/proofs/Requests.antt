@@ -13,16 +13,16 @@ use Rattle.number.proofs.Cases.{by-lt, by-eq}
 use Rattle.config.specs.declared.Config.{Config}
 use Rattle.config.specs.Meaning.{isIsr}
 use Rattle.scheduler.specs.Status.{done}
-use Rattle.scheduler.specs.Body.{Body, Phase, suspended, ready, started, isSuspended, isStarted, become, loses, requested, takes, gives-back, activatedByEntry, finished}
+use Rattle.scheduler.specs.Body.{Body, Phase, suspended, ready, started, isSuspended, isStarted, become, loses, requested, gets, releases, activatedByEntry, finished}
 use Rattle.scheduler.specs.State.{State, noBody, bodyOf, changing, runner}
 use Rattle.scheduler.specs.Event.{Event, Activate, Finish, Chain, Get, Release, Tick, Line, Start, Stop}
 use Rattle.scheduler.specs.Tick.{dues, counted}
 use Rattle.scheduler.specs.Call.{caller, finish, stop, statusOf, effectOf}
 use Rattle.scheduler.specs.Scheduler.{begins, markOf, step}
-use Rattle.scheduler.specs.History.{Accepted}
-use Rattle.scheduler.proofs.Choosing.{Taken, no-one, body, chosen-from, candidate-active}
+use Rattle.scheduler.specs.History.{AcceptedIn}
+use Rattle.scheduler.proofs.Choice.{Taken, no-one, body, chosen-from, candidate-active}
 use Rattle.scheduler.proofs.Checks.{activate-passed, chain-passed}
-use Rattle.scheduler.proofs.Changing.{bodyOf-changing-same, bodyOf-changing-other, activatingDue-keeps, cond-either}
+use Rattle.scheduler.proofs.Effects.{bodyOf-changing-same, bodyOf-changing-other, activatingDue-keeps, cond-either}
 use Rattle.scheduler.proofs.Refusals.{begins-some, dispatched-same}
 
 -- the body that begins was not started
@@ -74,7 +74,7 @@ module _ (c : Config) (s : State) (i : ℕ) (isr : isIsr c i ≡ true) (begun : 
   other : (t : ℕ) → bodyOf s t .phase ≡ suspended → t ≢ i
   other t h e = true≢false (sym begun ∙ ap (λ k. isStarted (bodyOf s k .phase)) (sym e) ∙ ap isStarted h)
 
-  started-stays : (e : Event) → Accepted c s e → ((e ≡ Finish) × (caller c s ≡ i)) ⊎ (isStarted (bodyOf (effectOf c s e) i .phase) ≡ true)
+  started-stays : (e : Event) → AcceptedIn c s e → ((e ≡ Finish) × (caller c s ≡ i)) ⊎ (isStarted (bodyOf (effectOf c s e) i .phase) ≡ true)
   unfolding step
   started-stays (Activate t) a = inr (started-other i t (become ready) s (other t (activate-passed c s t a .2)) begun)
   started-stays Finish a =
@@ -86,8 +86,8 @@ module _ (c : Config) (s : State) (i : ℕ) (isr : isIsr c i ≡ true) (begun : 
       let not-caller : caller c s ≢ i = λ e. true≢false (sym isr ∙ ap (isIsr c) (sym e) ∙ p .1) in
       let not-t : t ≢ i = by-eq t (caller c s) (λ same e. not-caller (sym same ∙ e)) (λ d. other t (p .4 d)) in
       inr (started-other i t (become ready) (finish c s) not-t (started-other i (caller c s) finished s not-caller begun))
-  started-stays (Get r) a = inr (started-changing i (caller c s) (takes r) s (λ b h. h) begun)
-  started-stays (Release r) a = inr (started-changing i (caller c s) gives-back s (λ b h. h) begun)
+  started-stays (Get r) a = inr (started-changing i (caller c s) (gets r) s (λ b h. h) begun)
+  started-stays (Release r) a = inr (started-changing i (caller c s) releases s (λ b h. h) begun)
   started-stays Tick a =
       inr
       (activatingDue-keeps (λ x. isStarted (bodyOf x i .phase) ≡ true) (λ t x. started-changing i t activatedByEntry x entry-started)
@@ -97,7 +97,7 @@ module _ (c : Config) (s : State) (i : ℕ) (isr : isIsr c i ≡ true) (begun : 
   started-stays (Stop t) a = inr begun
 
   pub begins-after-finish : (e : Event) → step c s e .seen .begun ≡ 1 → step c s e .seen .runner ≡ i
-      → (e ≡ Finish) × (caller c s ≡ i) × Accepted c s e
+      → (e ≡ Finish) × (caller c s ≡ i) × AcceptedIn c s e
   unfolding step
   begins-after-finish e b r =
       by-eq (statusOf c s e) done

@@ -14,21 +14,21 @@ use lib.ListN.{length, getD, List·getD-map, replicate}
 use lib.Seq.{getD-set-same, getD-set-other}
 use Rattle.number.proofs.Cases.{by-eq}
 use Rattle.config.specs.declared.Config.{Config}
-use Rattle.scheduler.specs.Status.{done, firstOf}
+use Rattle.scheduler.specs.Status.{done, firstGiven}
 use Rattle.scheduler.specs.State.{State, Table, stopped, running, tableOf, withTable}
 use Rattle.scheduler.specs.Event.{Event, Activate, Finish, Chain, Get, Release, Tick, Line, Start, Stop, isTick}
 use Rattle.scheduler.specs.Tick.{counting}
 use Rattle.scheduler.specs.Call.{statusOf, effectOf}
 use Rattle.scheduler.specs.Scheduler.{step, fresh, after}
-use Rattle.scheduler.specs.History.{Accepted, next, NoneAccepted, StartOf, StopOf, NoStart, NoStop, ticksIn, History, never-started, since-start, since-stop}
+use Rattle.scheduler.specs.History.{AcceptedIn, next, NoneAccepted, StartOf, StopOf, NoStart, NoStop, tickCount, History, never-started, since-start, since-stop}
 use Rattle.scheduler.proofs.Checks.{start-passed, stop-passed}
-use Rattle.scheduler.proofs.Changing.{clash, after-append, cond-either, tables-dispatched, tables-ticked, tables-fresh, length-tables-step, length-tables-fresh}
+use Rattle.scheduler.proofs.Effects.{clash, after-append, cond-either, tables-dispatched, tables-ticked, tables-fresh, length-tables-step, length-tables-fresh}
 
 -- what the event e, met in the state s, does to the table t
 data Turn (c : Config) (t : ℕ) (s : State) (e : Event) : Type 0 where
-  starts : (d : ℕ) → e ≡ Start t d → Accepted c s e → tableOf (next c s e) t ≡ running d 0 → Turn c t s e
-  stops : e ≡ Stop t → Accepted c s e → tableOf (next c s e) t ≡ stopped → Turn c t s e
-  passes : (StartOf t e → Accepted c s e → ⊥) → (StopOf t e → Accepted c s e → ⊥)
+  starts : (d : ℕ) → e ≡ Start t d → AcceptedIn c s e → tableOf (next c s e) t ≡ running d 0 → Turn c t s e
+  stops : e ≡ Stop t → AcceptedIn c s e → tableOf (next c s e) t ≡ stopped → Turn c t s e
+  passes : (StartOf t e → AcceptedIn c s e → ⊥) → (StopOf t e → AcceptedIn c s e → ⊥)
       → tableOf (next c s e) t ≡ cond (isTick e) (counting (tableOf s t)) (tableOf s t)
       → Turn c t s e
 
@@ -38,11 +38,11 @@ module _ (c : Config) (t : ℕ) (s : State) where
   unfolding step
   table-next e = ap (λ l. getD l t stopped) (tables-dispatched c (cond (eqb (statusOf c s e) done) (effectOf c s e) s))
 
-  table-done : (e : Event) → Accepted c s e → tableOf (next c s e) t ≡ tableOf (effectOf c s e) t
+  table-done : (e : Event) → AcceptedIn c s e → tableOf (next c s e) t ≡ tableOf (effectOf c s e) t
   unfolding step
   table-done e a = table-next e ∙ rw (eq-eqb (statusOf c s e) done a)
 
-  table-refused : (e : Event) → (Accepted c s e → ⊥) → tableOf (next c s e) t ≡ tableOf s t
+  table-refused : (e : Event) → (AcceptedIn c s e → ⊥) → tableOf (next c s e) t ≡ tableOf s t
   unfolding step
   table-refused e r = table-next e ∙ rw (ne-eqb (statusOf c s e) done r)
 
@@ -52,20 +52,20 @@ module _ (c : Config) (t : ℕ) (s : State) where
   withTable-other : (u : ℕ) (x : Table) → (u ≡ t → ⊥) → tableOf (withTable u x s) t ≡ tableOf s t
   withTable-other u x d = getD-set-other (s .tables) u t x stopped (λ e. d (sym e))
 
-  table-started : (d : ℕ) → length (s .tables) ≡ c .tables → Accepted c s (Start t d) → tableOf (next c s (Start t d)) t ≡ running d 0
+  table-started : (d : ℕ) → length (s .tables) ≡ c .tables → AcceptedIn c s (Start t d) → tableOf (next c s (Start t d)) t ≡ running d 0
   unfolding step
   table-started d n a =
       table-done (Start t d) a
       ∙ getD-set-same (s .tables) t (running d 0) stopped (omega (arith, start-passed c s t d a .1))
 
-  table-stopped : length (s .tables) ≡ c .tables → Accepted c s (Stop t) → tableOf (next c s (Stop t)) t ≡ stopped
+  table-stopped : length (s .tables) ≡ c .tables → AcceptedIn c s (Stop t) → tableOf (next c s (Stop t)) t ≡ stopped
   unfolding step
   table-stopped n a =
       table-done (Stop t) a
       ∙ getD-set-same (s .tables) t stopped stopped (omega (arith, stop-passed c s t a .1))
 
   table-ticked : tableOf (next c s Tick) t ≡ counting (tableOf s t)
-  unfolding step firstOf counting
+  unfolding step firstGiven counting
   table-ticked = table-done Tick refl ∙ ap (λ l. getD l t stopped) (tables-ticked c s) ∙ List·getD-map counting (s .tables) t stopped
 
   turn-start : (u d : ℕ) → length (s .tables) ≡ c .tables → Turn c t s (Start u d)
@@ -99,7 +99,7 @@ module _ (c : Config) (t : ℕ) (s : State) where
 
 -- none of e and es: neither e nor any of es
 module _ (P : Event → Type 0) (c : Config) (s : State) (e : Event) (es : List Event) where
-  none-head : NoneAccepted P c s (e ∷ es) → P e → Accepted c s e → ⊥
+  none-head : NoneAccepted P c s (e ∷ es) → P e → AcceptedIn c s e → ⊥
   unfolding after
   none-head none = none e [] es refl
 
@@ -107,7 +107,7 @@ module _ (P : Event → Type 0) (c : Config) (s : State) (e : Event) (es : List 
   unfolding after
   none-tail none x before rest q = none x (e ∷ before) rest (ap (λ l. e ∷ l) q)
 
-  none-cons : (P e → Accepted c s e → ⊥) → NoneAccepted P c (next c s e) es → NoneAccepted P c s (e ∷ es)
+  none-cons : (P e → AcceptedIn c s e → ⊥) → NoneAccepted P c (next c s e) es → NoneAccepted P c s (e ∷ es)
   unfolding after
   none-cons head tail x [] rest q p a = let h : e ≡ x = cc in head (rw h p) (rw h a)
   none-cons head tail x (y ∷ before) rest q p a = let h : e ≡ y = cc in tail x before rest (cc) p (rw h a)
@@ -135,23 +135,23 @@ module _ (c : Config) where
 module _ (c : Config) (t : ℕ) where
   -- a table that runs counts the Ticks until an accepted Stop
   runs-on : (es : List Event) (s : State) (d n : ℕ) → length (s .tables) ≡ c .tables → tableOf s t ≡ running d n → NoStop c t s es
-      → tableOf (after c s es) t ≡ running d (n + ticksIn es)
-  unfolding step after ticksIn counting
+      → tableOf (after c s es) t ≡ running d (n + tickCount es)
+  unfolding step after tickCount counting
   runs-on [] s d n fits r none = r ∙ ap (running d) (sym (add-zero n))
   runs-on (e ∷ es) s d n fits r none =
       go (turn c t s e fits) (λ m r′. runs-on es (next c s e) d m (fits-step c s e fits) r′ (none-tail (StopOf t) c s e es none))
     where
       Later : ℕ → Type 0
-      Later m = tableOf (next c s e) t ≡ running d m → tableOf (after c (next c s e) es) t ≡ running d (m + ticksIn es)
+      Later m = tableOf (next c s e) t ≡ running d m → tableOf (after c (next c s e) es) t ≡ running d (m + tickCount es)
 
       counts : (b : Bool) → tableOf (next c s e) t ≡ cond b (counting (running d n)) (running d n) → ((m : ℕ) → Later m)
-          → tableOf (after c (next c s e) es) t ≡ running d (n + cond b (suc (ticksIn es)) (ticksIn es))
+          → tableOf (after c (next c s e) es) t ≡ running d (n + cond b (suc (tickCount es)) (tickCount es))
       counts true y later =
-          let one-more : suc n + ticksIn es ≡ n + suc (ticksIn es) = omega arith in
+          let one-more : suc n + tickCount es ≡ n + suc (tickCount es) = omega arith in
           later (suc n) y ∙ ap (running d) one-more
       counts false y later = later n y
 
-      go : Turn c t s e → ((m : ℕ) → Later m) → tableOf (after c s (e ∷ es)) t ≡ running d (n + ticksIn (e ∷ es))
+      go : Turn c t s e → ((m : ℕ) → Later m) → tableOf (after c s (e ∷ es)) t ≡ running d (n + tickCount (e ∷ es))
       go (starts d′ q a y) later = absurd (true≢false (rw r at (start-passed c s t d′ (rw q at a) .4)))
       go (stops q a y) later = absurd (none-head (StopOf t) c s e es none q a)
       go (passes p q y) later = counts (isTick e) (y ∙ ap (λ x. cond (isTick e) (counting x) x) r) later
@@ -174,14 +174,14 @@ module _ (c : Config) (t : ℕ) where
       go (passes p q y) = y ∙ rw r (still (isTick e))
 
   -- the same from the fresh start
-  pub counted-from-start : (d : ℕ) (before rest : List Event) → Accepted c (after c (fresh c) before) (Start t d)
+  pub counted-from-start : (d : ℕ) (before rest : List Event) → AcceptedIn c (after c (fresh c) before) (Start t d)
       → NoStop c t (next c (after c (fresh c) before) (Start t d)) rest
-      → tableOf (after c (fresh c) (before ++ Start t d ∷ rest)) t ≡ running d (ticksIn rest)
+      → tableOf (after c (fresh c) (before ++ Start t d ∷ rest)) t ≡ running d (tickCount rest)
   unfolding after
   counted-from-start d before rest a none =
       ap (λ x. tableOf x t) (after-append c before (Start t d ∷ rest) (fresh c))
       ∙ runs-on rest (next c s (Start t d)) d 0 (fits-step c s (Start t d) fits) (table-started c t s d fits a) none
-      ∙ ap (running d) (zero-add (ticksIn rest))
+      ∙ ap (running d) (zero-add (tickCount rest))
     where
       s : State
       s = after c (fresh c) before
@@ -198,7 +198,7 @@ module _ (c : Config) (t : ℕ) where
       all-stopped (suc n) zero = refl
       all-stopped (suc n) (suc i) = all-stopped n i
 
-  pub stopped-since-stop : (before rest : List Event) → Accepted c (after c (fresh c) before) (Stop t)
+  pub stopped-since-stop : (before rest : List Event) → AcceptedIn c (after c (fresh c) before) (Stop t)
       → NoStart c t (next c (after c (fresh c) before) (Stop t)) rest
       → tableOf (after c (fresh c) (before ++ Stop t ∷ rest)) t ≡ stopped
   unfolding after
@@ -213,7 +213,7 @@ module _ (c : Config) (t : ℕ) where
       fits = fits-after c before (fresh c) (length-tables-fresh c)
 
   -- a table that runs can't be started again
-  no-restart : (d : ℕ) (s : State) (rest : List Event) → length (s .tables) ≡ c .tables → Accepted c s (Start t d)
+  no-restart : (d : ℕ) (s : State) (rest : List Event) → length (s .tables) ≡ c .tables → AcceptedIn c s (Start t d)
       → NoStop c t (next c s (Start t d)) rest
       → NoStart c t (next c s (Start t d)) rest
   unfolding step
@@ -225,7 +225,7 @@ module _ (c : Config) (t : ℕ) where
       fewer : NoStop c t (next c s (Start t d)) before
       fewer = none-before (StopOf t) c (next c s (Start t d)) e before later (rw q at none)
 
-  pub last-start : (d : ℕ) (before rest : List Event) → Accepted c (after c (fresh c) before) (Start t d)
+  pub last-start : (d : ℕ) (before rest : List Event) → AcceptedIn c (after c (fresh c) before) (Start t d)
       → NoStop c t (next c (after c (fresh c) before) (Start t d)) rest
       → NoStart c t (next c (after c (fresh c) before) (Start t d)) rest
   last-start d before rest = no-restart d (after c (fresh c) before) rest (fits-after c before (fresh c) (length-tables-fresh c))
@@ -233,10 +233,10 @@ module _ (c : Config) (t : ℕ) where
   -- the last accepted Start or Stop among the events es from the state s on
   data Last (s : State) (es : List Event) : Type 0 where
     neither : NoStart c t s es → NoStop c t s es → Last s es
-    start-last : (d : ℕ) (before rest : List Event) → es ≡ before ++ Start t d ∷ rest → Accepted c (after c s before) (Start t d)
+    start-last : (d : ℕ) (before rest : List Event) → es ≡ before ++ Start t d ∷ rest → AcceptedIn c (after c s before) (Start t d)
         → NoStop c t (next c (after c s before) (Start t d)) rest
         → Last s es
-    stop-last : (before rest : List Event) → es ≡ before ++ Stop t ∷ rest → Accepted c (after c s before) (Stop t)
+    stop-last : (before rest : List Event) → es ≡ before ++ Stop t ∷ rest → AcceptedIn c (after c s before) (Stop t)
         → NoStart c t (next c (after c s before) (Stop t)) rest
         → Last s es
 

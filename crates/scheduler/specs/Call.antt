@@ -12,8 +12,8 @@ use mathlib.Core.List.{List, [], _∷_}
 use lib.Dec.{ltb, leb, eqb}
 use Rattle.config.specs.declared.Config.{Config}
 use Rattle.config.specs.Meaning.{isTask, isIsr, priorityOf, ceiling, largestOffset}
-use Rattle.scheduler.specs.Status.{Check, callLevel, noSuch, limit, access, noFunction, holdsResource, alreadyRuns, badDelay, _gives_, firstOf}
-use Rattle.scheduler.specs.Body.{Phase, suspended, ready, started, isSuspended, Body, become, finished, requested, takes, gives-back}
+use Rattle.scheduler.specs.Status.{Check, callLevel, noSuch, limitReached, access, noFunction, holdsResource, alreadyRuns, badDelay, _gives_, firstGiven}
+use Rattle.scheduler.specs.Body.{Phase, suspended, ready, started, isSuspended, Body, become, finished, requested, gets, releases}
 use Rattle.scheduler.specs.Choice.{isNobody}
 use Rattle.scheduler.specs.State.{State, stopped, running, isRunning, bodyOf, tableOf, changing, withTable, runner, heldIn}
 use Rattle.scheduler.specs.Event.{Event, Activate, Finish, Chain, Get, Release, Tick, Line, Start, Stop}
@@ -48,7 +48,7 @@ latestIs r (x ∷ xs) = eqb r x
 abbrev pub requestWaits : Body → Phase → Bool
 requestWaits b suspended = false
 requestWaits b ready = true
-requestWaits b started = b .waiting
+requestWaits b started = b .pending
 
 -- the largest sum of delay and offset
 abbrev pub longestDelay : ℕ
@@ -56,13 +56,13 @@ longestDelay = 65535
 
 -- "statuses in order". Line is document 01's word for an interrupt request.
 abbrev pub checksOf : Config → State → Event → List Check
-checksOf c s (Activate t) = (nobodyRuns c s gives callLevel) ∷ (not (isTask c t) gives noSuch) ∷ (active s t gives limit) ∷ []
+checksOf c s (Activate t) = (nobodyRuns c s gives callLevel) ∷ (not (isTask c t) gives noSuch) ∷ (active s t gives limitReached) ∷ []
 checksOf c s Finish = (nobodyRuns c s gives callLevel) ∷ (holds (calling c s .held) gives holdsResource) ∷ []
 checksOf c s (Chain t) =
     (nobodyRuns c s || isIsr c (caller c s) gives callLevel) ∷
     (not (isTask c t) gives noSuch) ∷
     (holds (calling c s .held) gives holdsResource) ∷
-    (active s t && not (eqb t (caller c s)) gives limit) ∷
+    (active s t && not (eqb t (caller c s)) gives limitReached) ∷
     []
 checksOf c s (Get r) =
     (nobodyRuns c s gives callLevel) ∷
@@ -75,7 +75,7 @@ checksOf c s (Release r) =
     (not (latestIs r (calling c s .held)) gives noFunction) ∷
     []
 checksOf c s Tick = []
-checksOf c s (Line i) = (not (isIsr c i) gives noSuch) ∷ (requestWaits (bodyOf s i) (bodyOf s i .phase) gives limit) ∷ []
+checksOf c s (Line i) = (not (isIsr c i) gives noSuch) ∷ (requestWaits (bodyOf s i) (bodyOf s i .phase) gives limitReached) ∷ []
 checksOf c s (Start t d) =
     (nobodyRuns c s gives callLevel) ∷
     (leb (c .tables) t gives noSuch) ∷
@@ -90,7 +90,7 @@ checksOf c s (Stop t) =
 
 -- "At an event the first status that applies is given"
 abbrev pub statusOf : Config → State → Event → ℕ
-statusOf c s e = firstOf (checksOf c s e)
+statusOf c s e = firstGiven (checksOf c s e)
 
 -- the same, event by event
 abbrev pub activateStatus : Config → State → ℕ → ℕ
@@ -131,11 +131,11 @@ chain c t s = activate t (finish c s)
 
 -- "r last in the runner's order"
 abbrev pub get : Config → ℕ → State → State
-get c r s = changing (caller c s) (takes r) s
+get c r s = changing (caller c s) (gets r) s
 
 -- "r out"
 abbrev pub release : Config → State → State
-release c s = changing (caller c s) gives-back s
+release c s = changing (caller c s) releases s
 
 -- "i ready, or if started a request waits"
 abbrev pub line : ℕ → State → State

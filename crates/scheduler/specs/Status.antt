@@ -22,8 +22,8 @@ abbrev pub noSuch : ℕ
 noSuch = 3
 
 -- E_OS_LIMIT: "the task isn't suspended"; "for Line, a request already waits"
-abbrev pub limit : ℕ
-limit = 4
+abbrev pub limitReached : ℕ
+limitReached = 4
 
 -- E_OS_NOFUNC: "r is not the runner's most recently taken one still held; the table is stopped"
 abbrev pub noFunction : ℕ
@@ -51,9 +51,9 @@ b gives s = record { fails = b; status = s }
 
 infix 1 _gives_
 -- "the first status that applies is given"
-unfoldable pub firstOf : List Check → ℕ
-firstOf [] = done
-firstOf (k ∷ ks) = cond (k .fails) (k .status) (firstOf ks)
+unfoldable pub firstGiven : List Check → ℕ
+firstGiven [] = done
+firstGiven (k ∷ ks) = cond (k .fails) (k .status) (firstGiven ks)
 
 -- none of the checks fails
 abbrev pub NoneFails : List Check → Type 0

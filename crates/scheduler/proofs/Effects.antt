@@ -13,7 +13,7 @@ use lib.ListN.{length, length-set, length-map, length-replicate, take, replicate
 use lib.Seq.{getD-set-same, getD-set-other, map-set-same}
 use Rattle.config.specs.declared.Config.{Config}
 use Rattle.scheduler.specs.Status.{done}
-use Rattle.scheduler.specs.Body.{isStarted, Body, ready, started, become, finished, requested, takes, gives-back, activatedByEntry}
+use Rattle.scheduler.specs.Body.{isStarted, Body, ready, started, become, finished, requested, gets, releases, activatedByEntry}
 use Rattle.scheduler.specs.State.{State, Table, stopped, noBody, bodyOf, changing, withTable, runner}
 use Rattle.scheduler.specs.Call.{caller, finish, statusOf, effectOf}
 use Rattle.scheduler.specs.Tick.{counting, counted, activatingDue, dues, ticked}
@@ -44,7 +44,7 @@ requested-losses : KeepsLosses requested
 requested-losses b = go (isStarted (b .phase))
   where
     go : (p : Bool)
-        → cond p (record { phase = started; waiting = true; held = b .held; losses = b .losses }) (become ready b) .losses
+        → cond p (record { phase = started; pending = true; held = b .held; losses = b .losses }) (become ready b) .losses
         ≡ b .losses
     go true = refl
     go false = refl
@@ -61,8 +61,8 @@ effectOf-keeps c s P on-body on-table p (Activate t) tick = on-body t (become re
 effectOf-keeps c s P on-body on-table p Finish tick = on-body (caller c s) finished s (λ b. refl) p
 effectOf-keeps c s P on-body on-table p (Chain t) tick =
     on-body t (become ready) (finish c s) (λ b. refl) (on-body (caller c s) finished s (λ b. refl) p)
-effectOf-keeps c s P on-body on-table p (Get r) tick = on-body (caller c s) (takes r) s (λ b. refl) p
-effectOf-keeps c s P on-body on-table p (Release r) tick = on-body (caller c s) gives-back s (λ b. refl) p
+effectOf-keeps c s P on-body on-table p (Get r) tick = on-body (caller c s) (gets r) s (λ b. refl) p
+effectOf-keeps c s P on-body on-table p (Release r) tick = on-body (caller c s) releases s (λ b. refl) p
 effectOf-keeps c s P on-body on-table p Tick tick = tick refl
 effectOf-keeps c s P on-body on-table p (Line i) tick = on-body i requested s requested-losses p
 effectOf-keeps c s P on-body on-table p (Start t d) tick = on-table t _
