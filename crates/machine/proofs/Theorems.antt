@@ -19,7 +19,7 @@ use Rattle.config.proofs.Theorems.{accepted-ranges, reading}
 use Rattle.plan.specs.declared.Plan.{Plan}
 use Rattle.plan.specs.Plan.{planOf}
 use Rattle.scheduler.specs.Status.{done}
-use Rattle.scheduler.specs.Scheduler.{Event, Activate, Finish, Chain, Get, Release, Tick, Line, Start, Stop, Nothing, fresh, seen}
+use Rattle.scheduler.specs.Scheduler.{Event, Activate, Finish, Chain, Get, Release, Tick, Line, Start, Stop, fresh, seen}
 use Rattle.machine.specs.Model.{Model, Outcome, noRank, doneWith}
 use Rattle.machine.specs.Arbiter.{settled, leaving, requesting}
 use Rattle.machine.specs.Resources.{taking, freeing}
@@ -69,4 +69,3 @@ refused-same c p m (Start t d) n =
     (doneWith (starting (getD (c .entries) t 0) (getD (p .first) t 0) (getD (c .period) t 0) (c .offset) d m) false) refl n
 refused-same c p m (Stop t) n =
     attempt-same m (stopStatus (c .tables) (p .first) m t) (doneWith (stopping (getD (c .entries) t 0) (getD (p .first) t 0) m) false) refl n
-refused-same c p m Nothing n = absurd (n refl)

@@ -7,7 +7,7 @@ use mathlib.Core.List.{List, [], _∷_}
 use lib.Dec.{ltb, leb, eqb}
 use lib.ListN.{getD}
 use Rattle.config.specs.Value.{maxEntries}
-use Rattle.scheduler.specs.Status.{done, callLevel, noSuch, limit, access, noFunction, holdsResource, alreadyRuns, badDelay, _gives_, firstOf}
+use Rattle.scheduler.specs.Status.{done, callLevel, noSuch, limitReached, access, noFunction, holdsResource, alreadyRuns, badDelay, _gives_, firstGiven}
 use Rattle.scheduler.specs.Call.{longestDelay}
 use Rattle.word.specs.Word.{has}
 use Rattle.machine.specs.Model.{Model, Outcome, noRank, withCore, withRequest, withRest, withCells, doneWith, refusedWith}
@@ -30,14 +30,14 @@ attempt m st o = cond (eqb st done) o (refusedWith m st)
 -- Activate t
 abbrev pub activateStatus : List ℕ → Model → ℕ → ℕ
 activateStatus trs m t =
-    firstOf ((idles m gives callLevel) ∷ (eqb (getD trs t noRank) noRank gives noSuch) ∷ (busy m (getD trs t noRank) gives limit) ∷ [])
+    firstGiven ((idles m gives callLevel) ∷ (eqb (getD trs t noRank) noRank gives noSuch) ∷ (busy m (getD trs t noRank) gives limitReached) ∷ [])
 
 unfoldable pub activated : List ℕ → List ℕ → Model → ℕ → Outcome
 activated trs ps m t = attempt m (activateStatus trs m t) (settled ps (requesting (getD trs t noRank) m))
 
 -- Finish
 abbrev pub finishStatus : Model → ℕ
-finishStatus m = firstOf ((idles m gives callLevel) ∷ (holding m gives holdsResource) ∷ [])
+finishStatus m = firstGiven ((idles m gives callLevel) ∷ (holding m gives holdsResource) ∷ [])
 
 unfoldable pub finished : List ℕ → Model → Outcome
 finished ps m = attempt m (finishStatus m) (settled ps (leaving m))
@@ -45,11 +45,11 @@ finished ps m = attempt m (finishStatus m) (settled ps (leaving m))
 -- Chain t; ws: the ranks that are ISRs
 abbrev pub chainStatus : ℕ → List ℕ → Model → ℕ → ℕ
 chainStatus ws trs m t =
-    firstOf
+    firstGiven
     ((idles m || has ws (m .core .runner) gives callLevel) ∷
     (eqb (getD trs t noRank) noRank gives noSuch) ∷
     (holding m gives holdsResource) ∷
-    (busy m (getD trs t noRank) && not (eqb (getD trs t noRank) (m .core .runner)) gives limit) ∷
+    (busy m (getD trs t noRank) && not (eqb (getD trs t noRank) (m .core .runner)) gives limitReached) ∷
     [])
 
 unfoldable pub chained : ℕ → List ℕ → List ℕ → Model → ℕ → Outcome
@@ -58,7 +58,7 @@ chained ws trs ps m t = attempt m (chainStatus ws trs m t) (settled ps (requesti
 -- Get r, of n resources with the ceilings cs
 abbrev pub getStatus : ℕ → List ℕ → List ℕ → Model → ℕ → ℕ
 getStatus n cs ps m r =
-    firstOf
+    firstGiven
     ((idles m gives callLevel) ∷
     (leb n r gives noSuch) ∷
     (has (m .held) r || ltb (getD cs r 0) (getD ps (m .core .runner) 0) gives access) ∷
@@ -71,7 +71,7 @@ got n cs ps m r = attempt m (getStatus n cs ps m r) (doneWith (taking r (max (ge
 -- Release r
 abbrev pub releaseStatus : ℕ → Model → ℕ → ℕ
 releaseStatus n m r =
-    firstOf ((idles m gives callLevel) ∷ (leb n r gives noSuch) ∷ (not (latest m r) gives noFunction) ∷ [])
+    firstGiven ((idles m gives callLevel) ∷ (leb n r gives noSuch) ∷ (not (latest m r) gives noFunction) ∷ [])
 
 unfoldable pub released : ℕ → List ℕ → Model → ℕ → Outcome
 released n ps m r = attempt m (releaseStatus n m r) (settled ps (freeing ps r m))
@@ -79,7 +79,7 @@ released n ps m r = attempt m (releaseStatus n m r) (settled ps (freeing ps r m)
 -- Line i
 abbrev pub lineStatus : List ℕ → Model → ℕ → ℕ
 lineStatus lrs m i =
-    firstOf ((eqb (getD lrs i noRank) noRank gives noSuch) ∷ (has (m .core .request) (getD lrs i noRank) gives limit) ∷ [])
+    firstGiven ((eqb (getD lrs i noRank) noRank gives noSuch) ∷ (has (m .core .request) (getD lrs i noRank) gives limitReached) ∷ [])
 
 unfoldable pub lined : List ℕ → List ℕ → Model → ℕ → Outcome
 lined lrs ps m i = attempt m (lineStatus lrs m i) (settled ps (requesting (getD lrs i noRank) m))
@@ -110,7 +110,7 @@ runs fs m t = isOn (getD (m .on) (getD fs t 0) 0)
 -- Start t, d, of n tables with the largest offsets gs
 abbrev pub startStatus : ℕ → List ℕ → List ℕ → Model → ℕ → ℕ → ℕ
 startStatus n fs gs m t d =
-    firstOf
+    firstGiven
     ((idles m gives callLevel) ∷
     (leb n t gives noSuch) ∷
     (eqb d 0 || ltb longestDelay (d + getD gs t 0) gives badDelay) ∷
@@ -128,7 +128,7 @@ launched n fs gs es qs os m t d =
 
 -- Stop t
 abbrev pub stopStatus : ℕ → List ℕ → Model → ℕ → ℕ
-stopStatus n fs m t = firstOf ((idles m gives callLevel) ∷ (leb n t gives noSuch) ∷ (not (runs fs m t) gives noFunction) ∷ [])
+stopStatus n fs m t = firstGiven ((idles m gives callLevel) ∷ (leb n t gives noSuch) ∷ (not (runs fs m t) gives noFunction) ∷ [])
 
 abbrev pub stopping : ℕ → ℕ → Model → Model
 stopping k e m = withCells m (countersStopped k e (m .counter)) (switched k e switchOff (m .on))

@@ -22,7 +22,7 @@ use Rattle.config.specs.Accepted.{Accepted, Shaped}
 use Rattle.plan.specs.declared.Plan.{Plan}
 use Rattle.plan.specs.Stored.{stored, listed}
 use Rattle.plan.specs.Rank.{noRank, rankOf, bodyCount, taskRank, lineRank}
-use Rattle.plan.specs.Entry.{tableOf, tableCount, entryCount, firstEntry, compareOf, entryRank}
+use Rattle.plan.specs.Entry.{entryTable, tableCount, entryCount, firstEntry, compareOf, entryRank}
 use Rattle.plan.specs.Plan.{resourceCount, planOf}
 use Rattle.plan.proofs.Stored.{length-stored, stored-at, stored-past, getD-any}
 use Rattle.plan.proofs.Words.{marked-has, marked-some, marked-lt}
@@ -187,7 +187,7 @@ module _ (c : Config) (accepted : Accepted c) (shaped : Shaped c) where
   entry-count-le = omega (arith, entry-count, accepted .few-entries)
 
   -- an entry's table is the one whose entries it is among
-  pub entry-table : (e : ℕ) → e < planOf c .count → (tableOf c e < c .tables) × (firstOf c (tableOf c e) ≤ e) × (e < firstOf c (suc (tableOf c e)))
+  pub entry-table : (e : ℕ) → e < planOf c .count → (entryTable c e < c .tables) × (firstOf c (entryTable c e) ≤ e) × (e < firstOf c (suc (entryTable c e)))
   entry-table e h = table-among (c .entries) (c .tables) e (omega (arith, entry-count))
 
   counted : (e : ℕ) → e < planOf c .count → e < entryCount c

@@ -1,6 +1,6 @@
 -- The entries of all tables, one after the other: which table an entry is of, and what is kept for each table and entry.
 --
---   tableOf c e      the table of entry e
+--   entryTable c e      the table of entry e
 --   firstEntry c t   where the entries of table t begin
 --   compareOf c e, entryRank c e   entry e's compare value, and the rank of its task
 --
@@ -33,8 +33,8 @@ abbrev pub compareIn : List ℕ → List ℕ → ℕ → ℕ
 compareIn ns ps e = getD ps (tableIn ns e) 0 - 1
 
 -- the same of a configuration
-abbrev pub tableOf : Config → ℕ → ℕ
-tableOf c e = tableIn (c .entries) e
+abbrev pub entryTable : Config → ℕ → ℕ
+entryTable c e = tableIn (c .entries) e
 
 -- how many tables and how many entries there are: no more than the arrays hold, whatever the value says
 abbrev pub tableCount : Config → ℕ

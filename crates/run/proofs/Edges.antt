@@ -14,7 +14,7 @@ use Rattle.config.specs.Reader.{readConfig, readFrom}
 use Rattle.config.specs.Meaning.{greatestIn, entriesBefore, largestOffset}
 use Rattle.cell.specs.Cell.{startCell}
 use Rattle.cell.specs.Due.{due}
-use Rattle.scheduler.specs.Status.{firstOf}
+use Rattle.scheduler.specs.Status.{firstGiven}
 use Rattle.scheduler.specs.Body.{Body, started, loses}
 use Rattle.scheduler.specs.Choice.{candidate, chosenFrom}
 use Rattle.scheduler.specs.State.{among, heldIn}
@@ -49,7 +49,7 @@ twoTables = read (1 ∷ 2 ∷ 0 ∷ 1 ∷ 1 ∷ 0 ∷ 2 ∷ 0 ∷ 0 ∷ 2 ∷ 1 
 
 -- a task that has lost as many activations as are counted
 abbrev fullyLost : Body
-fullyLost = record { phase = started; waiting = false; held = []; losses = 65535 }
+fullyLost = record { phase = started; pending = false; held = []; losses = 65535 }
 
 pub record Edges : Type 0 where
   pub p1 : (numberBytes 127 ≡ 0x7F ∷ []) × (numberBytes 128 ≡ 0x80 ∷ 0x01 ∷ [])
@@ -76,7 +76,7 @@ unfolding due
 each-tick n = simp (leb·suc-suc 0 n, leb·zero n, mod-one (suc n - 1))
 
 pub edges : Edges
-unfolding listing numberBytes groupBytes readNumber groups continued fifthGroup readConfig readFrom faultAt putAt ended occurs greatestIn entriesBefore due firstOf candidate chosenFrom among heldIn counting entryDue duesFrom activatingDue step seen
+unfolding listing numberBytes groupBytes readNumber groups continued fifthGroup readConfig readFrom faultAt putAt ended occurs greatestIn entriesBefore due firstGiven candidate chosenFrom among heldIn counting entryDue duesFrom activatingDue step seen
 edges =
     record {
       p1 = (refl, refl);

@@ -15,12 +15,12 @@ use Rattle.number.specs.Output.{written}
 use Rattle.config.specs.declared.Config.{Config}
 use Rattle.config.specs.Reader.{readConfig}
 use Rattle.event.specs.declared.Event.{Event}
-use Rattle.event.specs.Event.{activate, finish, chain, get, release, tick, line, start, stop}
+use Rattle.event.specs.Event.{activate, finish, chain, get, release, tick, line, start}
 use Rattle.event.specs.Trace.{readTrace}
 use Rattle.scheduler.specs.Scheduler as Plain
-use Rattle.scheduler.specs.Scheduler.{Activate, Finish, Chain, Get, Release, Tick, Line, Start, Stop, Nothing, Seen, fresh, seen, after, lossesOf}
+use Rattle.scheduler.specs.Scheduler.{Activate, Finish, Chain, Get, Release, Tick, Line, Start, Stop, Seen, fresh, seen, after, lossesOf}
 
--- the event that a code with two arguments stands for
+-- the event that a code with two arguments stands for; of the nine codes that a readable event has, the last needs no test
 unfoldable pub callOf : Event → Plain.Event
 callOf e =
     cond (eqb (e .code) activate) (Activate (e .first))
@@ -31,8 +31,7 @@ callOf e =
     (cond (eqb (e .code) tick) Tick
     (cond (eqb (e .code) line) (Line (e .first))
     (cond (eqb (e .code) start) (Start (e .first) (e .second))
-    (cond (eqb (e .code) stop) (Stop (e .first))
-    Nothing))))))))
+    (Stop (e .first)))))))))
 
 -- the events of a trace
 abbrev pub callsOf : List ℕ → List Plain.Event

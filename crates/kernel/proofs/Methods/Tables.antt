@@ -8,7 +8,7 @@ use lib.Dec.{ltb, eqb}
 use lib.ListN.{length, getD}
 use borrow.Author.Tests.{ltb-false, le-leb, lt-leb, eq-eqb, ne-eqb}
 use Rattle.config.specs.Value.{maxEntries}
-use Rattle.scheduler.specs.Status.{callLevel, noSuch, badDelay, alreadyRuns, noFunction, firstOf}
+use Rattle.scheduler.specs.Status.{callLevel, noSuch, badDelay, alreadyRuns, noFunction, firstGiven}
 use Rattle.scheduler.specs.Call.{longestDelay}
 use Rattle.machine.specs.Model.{Picked, Model, noRank, withCore, withRequest, withRest, withCells, doneWith, refusedWith}
 use Rattle.machine.specs.Arbiter.{arbitrated}
@@ -57,29 +57,29 @@ module _ (n : ℕ) (fs es : List ℕ) (laid : Laid n fs es) (t : ℕ) (some : t 
 -- Start t, d
 module _ (n : ℕ) (fs gs es qs os : List ℕ) (m : Model) (t d : ℕ) where
   pub start-idle : m .core .runner ≡ noRank → refusedWith m callLevel ≡ launched n fs gs es qs os m t d
-  unfolding launched firstOf
+  unfolding launched firstGiven
   start-idle h = rw (eq-eqb (m .core .runner) noRank h)
 
   module _ (busy : m .core .runner ≡ noRank → ⊥) where
     pub start-none : n ≤ t → refusedWith m noSuch ≡ launched n fs gs es qs os m t d
-    unfolding launched firstOf
+    unfolding launched firstGiven
     start-none h = rw (ne-eqb (m .core .runner) noRank busy, le-leb n t h)
 
     module _ (some : t < n) {g : ℕ} (largest : g ≡ getD gs t 0) {b : Bool} (test : b ≡ eqb d 0 || ltb longestDelay (d + g)) where
       pub start-bad : b ≡ true → refusedWith m badDelay ≡ launched n fs gs es qs os m t d
-      unfolding launched firstOf
+      unfolding launched firstGiven
       start-bad h = rw (ne-eqb (m .core .runner) noRank busy, lt-leb n t some, ← largest, sym test ∙ h)
 
       module _ (good : b ≡ false) {f : ℕ} (from : f ≡ getD fs t 0) {a : Bool} (on : a ≡ isOn (getD (m .on) f 0)) where
         pub start-runs : a ≡ true → refusedWith m alreadyRuns ≡ launched n fs gs es qs os m t d
-        unfolding launched firstOf
+        unfolding launched firstGiven
         start-runs h =
             rw (ne-eqb (m .core .runner) noRank busy, lt-leb n t some, ← largest, sym test ∙ good, ← from, sym on ∙ h)
 
         pub start-done : a ≡ false → {k : ℕ} → k ≡ getD es t 0 → {P : ℕ} → P ≡ getD qs t 0
             → {ns : List ℕ} → ns ≡ countersStarted k f P d os (m .counter) → {xs : List ℕ} → xs ≡ switched k f switchOn (m .on)
             → doneWith (withCells m ns xs) false ≡ launched n fs gs es qs os m t d
-        unfolding launched firstOf
+        unfolding launched firstGiven
         start-done h many period counted switches =
             rw (
               ne-eqb (m .core .runner) noRank busy,
@@ -97,22 +97,22 @@ module _ (n : ℕ) (fs gs es qs os : List ℕ) (m : Model) (t d : ℕ) where
 -- Stop t
 module _ (n : ℕ) (fs es : List ℕ) (m : Model) (t : ℕ) where
   pub stop-idle : m .core .runner ≡ noRank → refusedWith m callLevel ≡ halted n fs es m t
-  unfolding halted firstOf
+  unfolding halted firstGiven
   stop-idle h = rw (eq-eqb (m .core .runner) noRank h)
 
   module _ (busy : m .core .runner ≡ noRank → ⊥) where
     pub stop-none : n ≤ t → refusedWith m noSuch ≡ halted n fs es m t
-    unfolding halted firstOf
+    unfolding halted firstGiven
     stop-none h = rw (ne-eqb (m .core .runner) noRank busy, le-leb n t h)
 
     module _ (some : t < n) {f : ℕ} (from : f ≡ getD fs t 0) {a : Bool} (on : a ≡ isOn (getD (m .on) f 0)) where
       pub stop-stopped : a ≡ false → refusedWith m noFunction ≡ halted n fs es m t
-      unfolding halted firstOf
+      unfolding halted firstGiven
       stop-stopped h = rw (ne-eqb (m .core .runner) noRank busy, lt-leb n t some, ← from, sym on ∙ h)
 
       pub stop-done : a ≡ true → {k : ℕ} → k ≡ getD es t 0
           → {ns : List ℕ} → ns ≡ countersStopped k f (m .counter) → {xs : List ℕ} → xs ≡ switched k f switchOff (m .on)
           → doneWith (withCells m ns xs) false ≡ halted n fs es m t
-      unfolding halted firstOf
+      unfolding halted firstGiven
       stop-done h many counted switches =
           rw (ne-eqb (m .core .runner) noRank busy, lt-leb n t some, ← from, sym on ∙ h, counted, switches, many)

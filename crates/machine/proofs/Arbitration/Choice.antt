@@ -21,7 +21,7 @@ use Rattle.scheduler.specs.Body.{Phase, suspended, ready, started, isSuspended,
 use Rattle.scheduler.specs.Choice.{nobody, chosen}
 use Rattle.scheduler.specs.State.{among}
 use Rattle.scheduler.specs.Scheduler.{markOf}
-use Rattle.scheduler.proofs.Choosing.{contender, weight, weight-before, chosen-best, chosen-nobody, current-own, current-free, candidate-active}
+use Rattle.scheduler.proofs.Choice.{contender, weight, weight-before, chosen-best, chosen-nobody, current-own, current-free, candidate-active}
 use Rattle.machine.specs.Model.{Model}
 use Rattle.machine.proofs.Relation.Fitted.{Fitted}
 use Rattle.machine.proofs.Relation.Words.{at}

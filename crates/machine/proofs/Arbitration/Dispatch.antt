@@ -26,7 +26,7 @@ use Rattle.scheduler.specs.Choice.{chosen, nobody}
 use Rattle.scheduler.specs.State.{State, noBody, among, changing}
 use Rattle.scheduler.specs.Call.{requestWaits, holds}
 use Rattle.scheduler.specs.Scheduler.{begins, dispatched}
-use Rattle.scheduler.proofs.Choosing.{current-own}
+use Rattle.scheduler.proofs.Choice.{current-own}
 use Rattle.machine.specs.Model.{Core, Picked, Model, Outcome, noRank, withCore}
 use Rattle.machine.specs.Arbiter.{bids, winning, beginning, dispatching, arbitrated, settled}
 use Rattle.machine.specs.Machine.{runnerOf}
@@ -122,7 +122,7 @@ module _ {c : Config} {p : Plan} {rk : ℕ → ℕ} (fit : Fitted c p rk) where
         go : (x : Body) (q : Phase) → x .phase ≡ q → isStarted q ≡ true → become started x ≡ x
         go x suspended e h = absurd (true≢false (sym h))
         go x ready e h = absurd (true≢false (sym h))
-        go x started e h = λ i. record { phase = sym e i; waiting = x .waiting; held = x .held; losses = x .losses }
+        go x started e h = λ i. record { phase = sym e i; pending = x .pending; held = x .held; losses = x .losses }
 
     dispatched-is : dispatched c s .bodies ≡ bs′
     dispatched-is = rw chosen-w (go (isStarted (at bs w .phase)) refl)
@@ -170,12 +170,12 @@ module _ {c : Config} {p : Plan} {rk : ℕ → ℕ} (fit : Fitted c p rk) where
         other true r n = has-without-other q W r n
         other false r n = refl
 
-        second : (x : Body) (f : Phase) → isStarted f ≡ true → requestWaits x f ≡ x .waiting
+        second : (x : Body) (f : Phase) → isStarted f ≡ true → requestWaits x f ≡ x .pending
         second x suspended h = absurd (true≢false (sym h))
         second x ready h = absurd (true≢false (sym h))
         second x started h = refl
 
-        asked : (b : Bool) → isStarted (at bs w .phase) ≡ b → has (cond (not b) (without q W) q) (rk w) ≡ at bs w .waiting
+        asked : (b : Bool) → isStarted (at bs w .phase) ≡ b → has (cond (not b) (without q W) q) (rk w) ≡ at bs w .pending
         asked true e = t .words .asks w (v .exists) ∙ second (at bs w) (at bs w .phase) e
         asked false e = rw (v .rank) (has-without-same q W) ∙ sym (t .words .quiet w e)
 

@@ -20,7 +20,7 @@ use Rattle.stack.specs.Stack.{topRow}
 use Rattle.scheduler.specs.Body.{Body, current}
 use Rattle.scheduler.specs.State.{among}
 use Rattle.scheduler.specs.Call.{holds}
-use Rattle.scheduler.proofs.Choosing.{current-own}
+use Rattle.scheduler.proofs.Choice.{current-own}
 use Rattle.machine.specs.Model.{Model, noRank}
 use Rattle.machine.proofs.Relation.Fitted.{Fitted}
 use Rattle.machine.proofs.Relation.Rows.{row-shows-top}

@@ -84,7 +84,7 @@ module _ {c : Config} {p : Plan} {rk : ℕ → ℕ} (fit : Fitted c p rk) {m : M
   ended false = refl
 
   other : (i : ℕ) → isStarted (at bs′ i .phase) ≡ true → i ≢ b
-  other i h e = true≢false (sym h ∙ rw (e, at-b) (ended (at bs b .waiting)))
+  other i h e = true≢false (sym h ∙ rw (e, at-b) (ended (at bs b .pending)))
 
   alike : (i : ℕ) → among i ns ≡ true → Alike (at bs i) (at bs′ i)
   alike i h = alike-same (sym (at-other i (nest-other c bs b i ns (t .nested) h)))
@@ -94,16 +94,16 @@ module _ {c : Config} {p : Plan} {rk : ℕ → ℕ} (fit : Fitted c p rk) {m : M
       words-changed fit (t .words) (t .size) b exists (finished (at bs b)) (vacated m) (t .words .request-lt)
       (without-lt (m .core .started) (m .core .runner) (t .words .started-lt))
       (t .words .asks b exists ∙ kept (at bs b) (at bs b .phase) was-started)
-      (rw (runner-rank, ended (at bs b .waiting)) (has-without-same (m .core .started) (rk b)))
+      (rw (runner-rank, ended (at bs b .pending)) (has-without-same (m .core .started) (rk b)))
       (λ r n. refl)
       (λ r n. rw runner-rank (has-without-other (m .core .started) (rk b) r n))
       (λ _. refl)
     where
       -- a request that waited makes the body ready, which wants to begin
-      kept : (x : Body) (q : Phase) → isStarted q ≡ true → requestWaits x q ≡ requestWaits (finished x) (cond (x .waiting) ready suspended)
+      kept : (x : Body) (q : Phase) → isStarted q ≡ true → requestWaits x q ≡ requestWaits (finished x) (cond (x .pending) ready suspended)
       kept x suspended h = absurd (true≢false (sym h))
       kept x ready h = absurd (true≢false (sym h))
-      kept x started h = wait (x .waiting)
+      kept x started h = wait (x .pending)
         where
           wait : (w : Bool) → w ≡ requestWaits (finished x) (cond w ready suspended)
           wait true = refl

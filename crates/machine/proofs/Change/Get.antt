@@ -14,7 +14,7 @@ use Rattle.plan.specs.declared.Plan.{Plan}
 use Rattle.word.specs.Word.{has, with}
 use Rattle.word.proofs.Theorems.{has-with-same, has-with-other}
 use Rattle.stack.specs.Stack.{pushRow}
-use Rattle.scheduler.specs.Body.{Body, isStarted, current, takes}
+use Rattle.scheduler.specs.Body.{Body, isStarted, current, gets}
 use Rattle.scheduler.specs.State.{among}
 use Rattle.machine.specs.Model.{Model}
 use Rattle.machine.specs.Resources.{taking}
@@ -34,7 +34,7 @@ module _ {c : Config} {p : Plan} {rk : ℕ → ℕ} (fit : Fitted c p rk) {m : M
   abbrev level′ : ℕ
   level′ = max (getD (p .ceiling) r 0) (m .core .level)
 
-  raised-level : level′ ≡ current c b (takes r (at bs b))
+  raised-level : level′ ≡ current c b (gets r (at bs b))
   raised-level = ap₂ max (fit .ceiling-at r r<) (level-was fit t)
 
   level-lt : level′ < 256
@@ -63,7 +63,7 @@ module _ {c : Config} {p : Plan} {rk : ℕ → ℕ} (fit : Fitted c p rk) {m : M
   row-room = omega (arith, slots-are fit t .counted, one-less)
 
   slots′ : Slots (with (m .held) r) (pushRow (m .resource) r) (pushRow (m .holder) (m .core .runner)) (pushRow (m .raised) level′)
-      (slot r (rk b) (current c b (takes r (at bs b))) ∷ ss)
+      (slot r (rk b) (current c b (gets r (at bs b))) ∷ ss)
   unfolding Distinct among
   slots′ =
       let old = slots-are fit t in
@@ -81,15 +81,15 @@ module _ {c : Config} {p : Plan} {rk : ℕ → ℕ} (fit : Fitted c p rk) {m : M
       }
 
   -- no other body that has begun is above the level
-  none-above : (j : ℕ) → j < c .bodies → isStarted (at bs j .phase) ≡ true → priorityOf c b < priorityOf c j → current c b (takes r (at bs b)) < priorityOf c j
+  none-above : (j : ℕ) → j < c .bodies → isStarted (at bs j .phase) ≡ true → priorityOf c b < priorityOf c j → current c b (gets r (at bs b)) < priorityOf c j
   none-above j j< s l =
       absurd (omega (arith, calm j j< (active-of-started (at bs j .phase) s), level-was fit t, t .apart b j (exists fit t) j< began s l))
     where
       began : isStarted (at bs b .phase) ≡ true
       began = nest-started c bs b (b ∷ ns) (t .nested) (among-head b ns)
 
-  pub get-tied : Tied c rk (taking r level′ m) (set bs b (takes r (at bs b))) (b ∷ ns)
+  pub get-tied : Tied c rk (taking r level′ m) (set bs b (gets r (at bs b))) (b ∷ ns)
   unfolding slotsFor
   get-tied =
-      held-tied fit t (takes r (at bs b)) refl refl level′ raised-level
+      held-tied fit t (gets r (at bs b)) refl refl level′ raised-level
       (with (m .held) r) (pushRow (m .resource) r) (pushRow (m .holder) (m .core .runner)) (pushRow (m .raised) level′) slots′ none-above

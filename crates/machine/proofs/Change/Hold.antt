@@ -107,7 +107,7 @@ module _ {c : Config} {p : Plan} {rk : ℕ → ℕ} (fit : Fitted c p rk) {m : M
       go (q ∷ rs) k h = rw (h, row-shows-top (m .resource) _ (k .resources)) (eqb-sym q r)
 
   -- the runner becomes y, which is as it was but for what it holds
-  module _ (y : Body) (phase : y .phase ≡ at bs b .phase) (second : y .waiting ≡ at bs b .waiting)
+  module _ (y : Body) (phase : y .phase ≡ at bs b .phase) (second : y .pending ≡ at bs b .pending)
       (l : ℕ) (level : l ≡ current c b y) (w : ℕ) (rs hs ls : Row) (slots : Slots w rs hs ls (slotsFor c rk b (y .held) ++ slotsAlong c rk bs ns))
       (apart-b : (j : ℕ) → j < c .bodies → isStarted (at bs j .phase) ≡ true → priorityOf c b < priorityOf c j → current c b y < priorityOf c j) where
     abbrev bs′ : List Body

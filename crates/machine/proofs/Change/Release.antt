@@ -15,7 +15,7 @@ use Rattle.plan.specs.declared.Plan.{Plan}
 use Rattle.word.specs.Word.{has, without}
 use Rattle.word.proofs.Theorems.{has-without-same, has-without-other}
 use Rattle.stack.specs.Stack.{secondRow, popRow, rowBytes}
-use Rattle.scheduler.specs.Body.{Body, isStarted, current, gives-back}
+use Rattle.scheduler.specs.Body.{Body, isStarted, current, releases}
 use Rattle.scheduler.specs.State.{among}
 use Rattle.scheduler.specs.Call.{holds}
 use Rattle.machine.specs.Model.{Model}
@@ -33,7 +33,7 @@ use Rattle.machine.proofs.Change.Hold.{exists, runner-rank, first-own, 
 module _ {c : Config} {p : Plan} {rk : ℕ → ℕ} (fit : Fitted c p rk) {m : Model} {bs : List Body} {b : ℕ} {ns : List ℕ}
     (t : Tied c rk m bs (b ∷ ns)) (r : ℕ) (r< : r < c .resources) (rs : List ℕ) (held-is : at bs b .held ≡ r ∷ rs) where
   abbrev y : Body
-  y = gives-back (at bs b)
+  y = releases (at bs b)
 
   held-y : y .held ≡ rs
   held-y = rw held-is
@@ -81,7 +81,7 @@ module _ {c : Config} {p : Plan} {rk : ℕ → ℕ} (fit : Fitted c p rk) {m : M
         counted = omega (arith, old .counted, one-more);
       }
 
-  pub release-tied : Tied c rk (freeing (p .priority) r m) (set bs b (gives-back (at bs b))) (b ∷ ns)
+  pub release-tied : Tied c rk (freeing (p .priority) r m) (set bs b (releases (at bs b))) (b ∷ ns)
   release-tied =
       held-tied fit t y refl refl (levelWithout (p .priority) m) level-is
       (without (m .held) r) (popRow (m .resource)) (popRow (m .holder)) (popRow (m .raised)) (rw held-y slots′)

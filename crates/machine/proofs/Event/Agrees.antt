@@ -18,7 +18,7 @@ use Rattle.number.proofs.Cases.{by-eq}
 use Rattle.config.specs.declared.Config.{Config}
 use Rattle.config.specs.Meaning.{isTask}
 use Rattle.plan.specs.declared.Plan.{Plan}
-use Rattle.scheduler.specs.Status.{done, Check, _gives_, firstOf}
+use Rattle.scheduler.specs.Status.{done, Check, _gives_, firstGiven}
 use Rattle.scheduler.specs.Body.{started, Body, current, become}
 use Rattle.scheduler.specs.Choice.{Candidate}
 use Rattle.scheduler.specs.State.{State, noBody, runner, changing}
@@ -26,8 +26,8 @@ use Rattle.scheduler.specs.Call.{nobodyRuns, caller}
 use Rattle.scheduler.specs.Tick.{dues}
 use Rattle.scheduler.specs.Scheduler as Plain
 use Rattle.scheduler.specs.Scheduler.{Event, step, begins, dispatched, ending, noneDue, markOf}
-use Rattle.scheduler.proofs.Choosing.{current-own}
-use Rattle.scheduler.proofs.Changing.{tables-dispatched}
+use Rattle.scheduler.proofs.Choice.{current-own}
+use Rattle.scheduler.proofs.Effects.{tables-dispatched}
 use Rattle.machine.specs.Model.{Model, Outcome, noRank, refusedWith}
 use Rattle.machine.specs.Events as Machine
 use Rattle.machine.specs.Events.{idles}
@@ -59,9 +59,9 @@ dispatched-losses c s i = go (begins (runner c s))
     go false = refl
 
 -- the same tests in the same order give the same status
-pub first-same : (a a′ : Bool) (st : ℕ) (ks ks′ : List Check) → a ≡ a′ → (a′ ≡ false → firstOf ks ≡ firstOf ks′)
-    → firstOf ((a gives st) ∷ ks) ≡ firstOf ((a′ gives st) ∷ ks′)
-unfolding firstOf
+pub first-same : (a a′ : Bool) (st : ℕ) (ks ks′ : List Check) → a ≡ a′ → (a′ ≡ false → firstGiven ks ≡ firstGiven ks′)
+    → firstGiven ((a gives st) ∷ ks) ≡ firstGiven ((a′ gives st) ∷ ks′)
+unfolding firstGiven
 first-same a true st ks ks′ e f = rw e
 first-same a false st ks ks′ e f = rw e (f refl)
 
@@ -170,7 +170,7 @@ module _ {c : Config} {p : Plan} {rk : ℕ → ℕ} (fit : Fitted c p rk) where
 
   module _ {m : Model} {s : State} (sim : Sim c p rk m s) where
     pub agrees-attempt : (e : Event) (stM stP : ℕ) (o : Outcome) (s′ : State)
-        → machineStep c p m e ≡ Machine.attempt m stM o → step c s e ≡ Plain.attempt c s stP s′ → matched p m e ≡ noneDue c s
+        → machineStep c p m e ≡ Machine.attempt m stM o → step c s e ≡ Plain.attempt c s stP (noneDue c s) s′ → matched p m e ≡ noneDue c s
         → stM ≡ stP → (stP ≡ done → Accepted c p rk o s′) → Agrees c p rk m s e
     agrees-attempt e stM stP o s′ machine plain due same acc =
         by-eq stP done

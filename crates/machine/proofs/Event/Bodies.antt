@@ -15,7 +15,7 @@ use Rattle.config.specs.declared.Config.{Config}
 use Rattle.config.specs.Meaning.{isTask, isIsr}
 use Rattle.plan.specs.declared.Plan.{Plan}
 use Rattle.word.specs.Word.{has}
-use Rattle.scheduler.specs.Status.{firstOf, callLevel, noSuch, limit, holdsResource}
+use Rattle.scheduler.specs.Status.{firstGiven, callLevel, noSuch, limitReached, holdsResource}
 use Rattle.scheduler.specs.Body.{Phase, suspended, ready, started, isStarted, Body, become, finished, requested}
 use Rattle.scheduler.specs.State.{State, noBody, bodyOf}
 use Rattle.scheduler.specs.Call.{nobodyRuns, caller, calling, holds, active, activateStatus, finishStatus, chainStatus, lineStatus, activate, finish, chain, line}
@@ -85,7 +85,7 @@ module _ {c : Config} {p : Plan} {rk : ℕ → ℕ} (fit : Fitted c p rk) where
         (first-same (idles m) (nobodyRuns c s) callLevel _ _ (idle-same fit sim)
         (λ _. first-same (eqb (getD (p .task) t noRank) noRank) (not (isTask c t)) noSuch _ _ (no-task t)
         (λ h. let k = not-false (isTask c t) h in
-        first-same (busy m (getD (p .task) t noRank)) (active s t) limit _ _ (rw (task-rank-is t k) (busy-is (sim .tied .words) t (task-exists c t k))) (λ _. refl))))
+        first-same (busy m (getD (p .task) t noRank)) (active s t) limitReached _ _ (rw (task-rank-is t k) (busy-is (sim .tied .words) t (task-exists c t k))) (λ _. refl))))
         (λ z. let a = activate-passed c s t z in
         rw (task-rank-is t (a .1))
         (record {
@@ -104,7 +104,7 @@ module _ {c : Config} {p : Plan} {rk : ℕ → ℕ} (fit : Fitted c p rk) where
         (settled (p .priority) (requesting (getD (p .line) i noRank) m)) (line i s) refl refl (no-match fit sim long)
         (first-same (eqb (getD (p .line) i noRank) noRank) (not (isIsr c i)) noSuch _ _ (missing-rank (isIsr c) (isr-exists c) i (getD (p .line) i noRank) (fit .line-rank i))
         (λ h. let k = not-false (isIsr c i) h in
-        first-same (has (m .core .request) (getD (p .line) i noRank)) (wants (at bs i)) limit _ _ (rw (line-rank-is i k) (sim .tied .words .asks i (isr-exists c i k))) (λ _. refl)))
+        first-same (has (m .core .request) (getD (p .line) i noRank)) (wants (at bs i)) limitReached _ _ (rw (line-rank-is i k) (sim .tied .words .asks i (isr-exists c i k))) (λ _. refl)))
         (λ z. let a = line-passed c s i z in
         rw (line-rank-is i (a .0))
         (record {
@@ -115,7 +115,7 @@ module _ {c : Config} {p : Plan} {rk : ℕ → ℕ} (fit : Fitted c p rk) where
           lost = lost-same (kept (λ x. x .losses) requested (λ x. same-losses x (x .phase)) bs i) (sim .lost);
         }))
       where
-        same-losses : (x : Body) (q : Phase) → (cond (isStarted q) (record { phase = started; waiting = true; held = x .held; losses = x .losses }) (become ready x)) .losses ≡ x .losses
+        same-losses : (x : Body) (q : Phase) → (cond (isStarted q) (record { phase = started; pending = true; held = x .held; losses = x .losses }) (become ready x)) .losses ≡ x .losses
         same-losses x suspended = refl
         same-losses x ready = refl
         same-losses x started = refl
@@ -126,7 +126,7 @@ module _ {c : Config} {p : Plan} {rk : ℕ → ℕ} (fit : Fitted c p rk) where
 
     -- Finish
     finish-status : Machine.finishStatus m ≡ finishStatus c s
-    unfolding firstOf
+    unfolding firstGiven
     finish-status =
         by-runner fit sim
         (λ i n. rw (i, n))
@@ -173,7 +173,7 @@ module _ {c : Config} {p : Plan} {rk : ℕ → ℕ} (fit : Fitted c p rk) where
         (λ _. first-same (eqb (getD (p .task) t noRank) noRank) (not (isTask c t)) noSuch _ _ (no-task t)
         (λ h. let q = not-false (isTask c t) h in
         first-same (holding m) (holds (calling c s .held)) holdsResource _ _ (holding-same k)
-        (λ _. first-same (busy m (getD (p .task) t noRank) && not (eqb (getD (p .task) t noRank) (m .core .runner))) (active s t && not (eqb t (caller c s))) limit _ _
+        (λ _. first-same (busy m (getD (p .task) t noRank) && not (eqb (getD (p .task) t noRank) (m .core .runner))) (active s t && not (eqb t (caller c s))) limitReached _ _
         (rw (task-rank-is t q)
         (ap₂ (λ (x y : Bool). x && not y) (busy-is (sim .tied .words) t (task-exists c t q)) (same-task k t (task-exists c t q))))
         (λ _. refl)))))
@@ -183,7 +183,7 @@ module _ {c : Config} {p : Plan} {rk : ℕ → ℕ} (fit : Fitted c p rk) where
         → isStarted (at (finish c s .bodies) t .phase) ≡ false
     chained-asleep k t asleep =
         by-eq t (caller c s)
-        (λ e. rw e (ap (λ (x : Body). isStarted (x .phase)) (getD-set-same bs (caller c s) (finished (calling c s)) noBody (rw (k .calls, sim .tied .size) (k .exists))) ∙ out (calling c s .waiting)))
+        (λ e. rw e (ap (λ (x : Body). isStarted (x .phase)) (getD-set-same bs (caller c s) (finished (calling c s)) noBody (rw (k .calls, sim .tied .size) (k .exists))) ∙ out (calling c s .pending)))
         (λ n. ap (λ (x : Body). isStarted (x .phase)) (getD-set-other bs (caller c s) t (finished (calling c s)) noBody n) ∙ rw (asleep n))
       where
         out : (w : Bool) → isStarted (cond w ready suspended) ≡ false

@@ -13,7 +13,7 @@ use Rattle.config.specs.Meaning.{priorityOf, ceiling}
 use Rattle.plan.specs.declared.Plan.{Plan}
 use Rattle.word.specs.Word.{has}
 use Rattle.scheduler.specs.Status.{done, callLevel, noSuch, access, noFunction}
-use Rattle.scheduler.specs.Body.{Body, isSuspended, takes, gives-back}
+use Rattle.scheduler.specs.Body.{Body, isSuspended, gets, releases}
 use Rattle.scheduler.specs.State.{State, among, heldIn, bodyOf}
 use Rattle.scheduler.specs.Call.{nobodyRuns, caller, calling, latestIs, getStatus, releaseStatus, get, release}
 use Rattle.scheduler.specs.Tick.{dues}
@@ -156,8 +156,8 @@ module _ {c : Config} {p : Plan} {rk : ℕ → ℕ} (fit : Fitted c p rk) {m : M
       (λ _. refl))))
 
   -- Get changes no phase
-  get-phase {ℓ} : {A : Type ℓ} (f : Body → A) → ((x : Body) (r : ℕ) → f (takes r x) ≡ f x) → (r i : ℕ) → f (at (get c r s .bodies) i) ≡ f (at bs i)
-  get-phase f keeps r = kept f (takes r) (λ x. keeps x r) bs (caller c s)
+  get-phase {ℓ} : {A : Type ℓ} (f : Body → A) → ((x : Body) (r : ℕ) → f (gets r x) ≡ f x) → (r i : ℕ) → f (at (get c r s .bodies) i) ≡ f (at bs i)
+  get-phase f keeps r = kept f (gets r) (λ x. keeps x r) bs (caller c s)
 
   pub agrees-get : (r : ℕ) → Agrees c p rk m s (Get r)
   unfolding machineStep got step matched
@@ -175,7 +175,7 @@ module _ {c : Config} {p : Plan} {rk : ℕ → ℕ} (fit : Fitted c p rk) {m : M
         status = refl;
         arb = calm-arbitrated fit (get c r s) done t
             (λ i i< u. let q = sim .calm i i< (sym (get-phase (λ x. isSuspended (x .phase)) (λ x _. refl) r i) ∙ u) in omega arith);
-        size = length-set bs (caller c s) (takes r (calling c s)) ∙ sim .tied .size;
+        size = length-set bs (caller c s) (gets r (calling c s)) ∙ sim .tied .size;
         timed = sim .timed;
         lost = lost-same (get-phase (λ x. x .losses) (λ x _. refl) r) (sim .lost);
       }))
@@ -207,7 +207,7 @@ module _ {c : Config} {p : Plan} {rk : ℕ → ℕ} (fit : Fitted c p rk) {m : M
       record {
         status = refl;
         arb = settled-tied fit (release c s) t;
-        size = length-set bs (caller c s) (gives-back (calling c s)) ∙ sim .tied .size;
+        size = length-set bs (caller c s) (releases (calling c s)) ∙ sim .tied .size;
         timed = sim .timed;
-        lost = lost-same (kept (λ x. x .losses) gives-back (λ x. refl) bs (caller c s)) (sim .lost);
+        lost = lost-same (kept (λ x. x .losses) releases (λ x. refl) bs (caller c s)) (sim .lost);
       }))

@@ -18,7 +18,7 @@ use Rattle.config.specs.Meaning.{priorityOf, ceiling}
 use Rattle.scheduler.specs.Body.{Body, isStarted, current}
 use Rattle.scheduler.specs.State.{among}
 use Rattle.scheduler.specs.Call.{holds}
-use Rattle.scheduler.proofs.Choosing.{current-own}
+use Rattle.scheduler.proofs.Choice.{current-own}
 use Rattle.machine.specs.Model.{noRank}
 use Rattle.machine.proofs.Relation.Words.{at}
 use Rattle.machine.proofs.Relation.Slots.{Slot, slotsFor, slotsAlong}

@@ -40,14 +40,14 @@ pub record Words (c : Config) (rk : ℕ → ℕ) (k : Core) (bs : List Body) : T
   -- a bit that bids is some body's
   pub real : (r : ℕ) → has (bids k) r ≡ true → (b : ℕ) × ((b < c .bodies) × (rk b ≡ r))
   -- who has not begun has no second request
-  pub quiet : (b : ℕ) → isStarted (at bs b .phase) ≡ false → at bs b .waiting ≡ false
+  pub quiet : (b : ℕ) → isStarted (at bs b .phase) ≡ false → at bs b .pending ≡ false
 
 -- body b becomes y, the words agree with y at its rank, and are as before elsewhere
 module _ {c : Config} {p : Plan} {rk : ℕ → ℕ} (fit : Fitted c p rk) {k : Core} {bs : List Body} (w : Words c rk k bs) (size : length bs ≡ c .bodies)
     (b : ℕ) (b< : b < c .bodies) (y : Body) (k′ : Core) where
   pub words-changed : k′ .request < 2 ^ 32 → k′ .started < 2 ^ 32 → has (k′ .request) (rk b) ≡ wants y → has (k′ .started) (rk b) ≡ isStarted (y .phase)
       → ((r : ℕ) → r ≢ rk b → has (k′ .request) r ≡ has (k .request) r) → ((r : ℕ) → r ≢ rk b → has (k′ .started) r ≡ has (k .started) r)
-      → (isStarted (y .phase) ≡ false → y .waiting ≡ false) → Words c rk k′ (set bs b y)
+      → (isStarted (y .phase) ≡ false → y .pending ≡ false) → Words c rk k′ (set bs b y)
   words-changed q-lt s-lt asked began other-asks other-begun still =
       record {
         request-lt = q-lt;
@@ -87,4 +87,4 @@ busy-is {bs = bs} w t h = ap₂ (λ (x y : Bool). x || y) (w .asks t h) (w .begu
     go : (b : Body) (q : Phase) → requestWaits b q || isStarted q ≡ not (isSuspended q)
     go b suspended = refl
     go b ready = refl
-    go b started = or-true (b .waiting)
+    go b started = or-true (b .pending)

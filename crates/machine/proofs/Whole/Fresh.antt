@@ -15,7 +15,7 @@ use Rattle.word.proofs.Theorems.{empty, has-union}
 use Rattle.scheduler.specs.Body.{Body, isStarted, ready, become}
 use Rattle.scheduler.specs.State.{stopped, State, noBody, among}
 use Rattle.scheduler.specs.Scheduler.{newBody, fresh}
-use Rattle.scheduler.proofs.Changing.{tables-dispatched}
+use Rattle.scheduler.proofs.Effects.{tables-dispatched}
 use Rattle.machine.specs.Machine.{unstarted, freshModel}
 use Rattle.machine.proofs.Relation.Rows.{same-everywhere, row-empty-shows}
 use Rattle.machine.specs.Cells.{switchOff, isOn}
@@ -73,7 +73,7 @@ module _ {c : Config} {p : Plan} {rk : ℕ → ℕ} (fit : Fitted c p rk) where
           asks = λ b b<. fit .autostart-at b b< ∙ sym (ap wants (at-known b b<) ∙ new-wants (getD (c .autostart) b 0));
           begun = λ b b<. empty (rk b) ∙ sym (at-same (λ x. isStarted (x .phase)) refl b);
           real = λ r h. fit .autostart-real r (or-false (has (p .autostart) r) ∙ ap (λ (b : Bool). has (p .autostart) r || b) (sym (empty r)) ∙ sym (has-union (p .autostart) 0 r) ∙ h);
-          quiet = λ b h. at-same (λ x. x .waiting) refl b;
+          quiet = λ b h. at-same (λ x. x .pending) refl b;
         };
         nested = tt;
         seats = (refl, refl);

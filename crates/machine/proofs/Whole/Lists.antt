@@ -10,35 +10,25 @@
 -- Assumes nothing.
 use Prim.Native.Nat.{ℕ}
 use mathlib.Core.Path.{_≡_, refl, ap₂}
-use mathlib.Core.Bool.{false}
 use mathlib.Core.List.{List, [], _∷_}
 use lib.ListN.{length}
 use Rattle.config.specs.declared.Config.{Config}
 use Rattle.plan.specs.declared.Plan.{Plan}
-use Rattle.scheduler.specs.Status.{done}
 use Rattle.scheduler.specs.State.{State}
 use Rattle.scheduler.specs.Tick.{dues}
-use Rattle.scheduler.specs.Scheduler.{Event, Activate, Finish, Chain, Get, Release, Tick, Line, Start, Stop, Nothing, Seen, step, noneDue, seen, after}
-use Rattle.machine.specs.Model.{Model, doneWith}
-use Rattle.machine.specs.Machine.{machineStep, matched, machineSeen, machineAfter}
+use Rattle.scheduler.specs.Scheduler.{Event, Activate, Finish, Chain, Get, Release, Tick, Line, Start, Stop, Seen, step, seen, after}
+use Rattle.machine.specs.Model.{Model}
+use Rattle.machine.specs.Machine.{machineSeen, machineAfter}
 use Rattle.machine.proofs.Relation.Fitted.{Fitted}
 use Rattle.machine.proofs.Relation.Whole.{Sim}
-use Rattle.machine.proofs.Arbitration.Dispatch.{calm-arbitrated}
 use Rattle.machine.proofs.Change.Ticks.{dues-long}
-use Rattle.machine.proofs.Event.Agrees.{Agrees, agrees, no-match}
+use Rattle.machine.proofs.Event.Agrees.{Agrees}
 use Rattle.machine.proofs.Event.Bodies.{agrees-activate, agrees-line, agrees-finish, agrees-chain}
 use Rattle.machine.proofs.Event.Resources.{agrees-get, agrees-release}
 use Rattle.machine.proofs.Event.Tick.{agrees-tick}
 use Rattle.machine.proofs.Event.Tables.{agrees-start, agrees-stop}
 
 module _ {c : Config} {p : Plan} {rk : ℕ → ℕ} (fit : Fitted c p rk) where
-  -- a code that no event has: nothing happens on either side
-  agrees-nothing : {m : Model} {s : State} → Sim c p rk m s → length (dues c s) ≡ p .count → Agrees c p rk m s Nothing
-  unfolding machineStep step matched
-  agrees-nothing {m} {s} sim long =
-      agrees fit Nothing (doneWith m false) done (noneDue c s) s refl refl refl (no-match fit sim long)
-      (calm-arbitrated fit s done (sim .tied) (sim .calm)) (sim .tied .size) (sim .timed) (sim .lost)
-
   pub event-agrees : {m : Model} {s : State} (e : Event) → Sim c p rk m s → Agrees c p rk m s e
   event-agrees {m} {s} e sim = by e (dues-long c p rk fit s (sim .timed .tables-long))
     where
@@ -52,7 +42,6 @@ module _ {c : Config} {p : Plan} {rk : ℕ → ℕ} (fit : Fitted c p rk) where
       by (Line i) long = agrees-line fit sim long i
       by (Start t d) long = agrees-start fit sim long t d
       by (Stop t) long = agrees-stop fit sim long t
-      by Nothing long = agrees-nothing sim long
 
   pub agreement-from : (es : List Event) {m : Model} {s : State} → Sim c p rk m s → machineSeen c p m es ≡ seen c s es
   unfolding machineSeen seen

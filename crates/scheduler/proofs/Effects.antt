@@ -1,22 +1,24 @@
 -- What an event leaves as it was.
 --
--- In order: a change of one body leaves the others and the tables; an event is a call or a Tick (`step-elim`); no event adds a body or a
+-- In order: a change of one body leaves the others and the tables; what every effect keeps (`effectOf-keeps`); no event adds a body or a
 -- table; no call changes a loss. Assumes nothing.
 use Prim.Native.Nat.{ℕ, _<_}
 use mathlib.Core.Path.{_≡_, refl, sym, ap, _∙_}
-use mathlib.Core.Bool.{Bool, true, false, cond}
+use mathlib.Core.Bool.{Bool, true, false, true≢false, cond}
 use mathlib.Core.List.{List, [], _∷_, _++_, map}
 use mathlib.Core.Logic.{_≢_}
+use native.Mathlib.Omega.{arith}
 use lib.Dec.{eqb}
 use lib.ListN.{length, length-set, length-map, length-replicate, take, replicate}
 use lib.Seq.{getD-set-same, getD-set-other, map-set-same}
 use Rattle.config.specs.declared.Config.{Config}
 use Rattle.scheduler.specs.Status.{done}
-use Rattle.scheduler.specs.Body.{isStarted, Body, ready, started, become, finished, requested, takes, gives-back, activatedByEntry}
+use Rattle.scheduler.specs.Body.{isStarted, Body, ready, started, become, finished, requested, gets, releases, activatedByEntry}
 use Rattle.scheduler.specs.State.{State, Table, stopped, noBody, bodyOf, changing, withTable, runner}
-use Rattle.scheduler.specs.Call.{caller, activateStatus, activate, finishStatus, finish, chainStatus, chain, getStatus, get, releaseStatus, release, lineStatus, line, startStatus, start, stopStatus, stop}
+use Rattle.scheduler.specs.Call.{caller, finish, statusOf, effectOf}
 use Rattle.scheduler.specs.Tick.{counting, counted, activatingDue, dues, ticked}
-use Rattle.scheduler.specs.Scheduler.{Event, Activate, Finish, Chain, Get, Release, Tick, Line, Start, Stop, Nothing, begins, dispatched, lossesOf, newBody, Stepped, attempt, step, fresh, after}
+use Rattle.scheduler.specs.Event.{Event, Activate, Finish, Chain, Get, Release, Tick, Line, Start, Stop, isTick}
+use Rattle.scheduler.specs.Scheduler.{begins, dispatched, lossesOf, newBody, step, fresh, after}
 
 module _ (i : ℕ) (f : Body → Body) (s : State) where
   pub bodyOf-changing-same : i < length (s .bodies) → bodyOf (changing i f s) i ≡ f (bodyOf s i)
@@ -31,6 +33,10 @@ module _ (i : ℕ) (f : Body → Body) (s : State) where
   pub tables-changing : changing i f s .tables ≡ s .tables
   tables-changing = refl
 
+-- two events of different kinds are not equal
+pub clash : _≡_ {A = ℕ} 0 1 → ⊥
+clash e = omega arith
+
 abbrev pub KeepsLosses : (Body → Body) → Type 0
 KeepsLosses f = (b : Body) → f b .losses ≡ b .losses
 
@@ -38,54 +44,61 @@ requested-losses : KeepsLosses requested
 requested-losses b = go (isStarted (b .phase))
   where
     go : (p : Bool)
-        → cond p (record { phase = started; waiting = true; held = b .held; losses = b .losses }) (become ready b) .losses
+        → cond p (record { phase = started; pending = true; held = b .held; losses = b .losses }) (become ready b) .losses
         ≡ b .losses
     go true = refl
     go false = refl
 
--- what a call may do to the state s where its status is 0
-pub data Effect (s : State) : State → Type 0 where
-  none : Effect s s
-  one-body : (i : ℕ) (f : Body → Body) → KeepsLosses f → Effect s (changing i f s)
-  two-bodies : (i j : ℕ) (f g : Body → Body) → KeepsLosses f → KeepsLosses g → Effect s (changing j g (changing i f s))
-  one-table : (t : ℕ) (x : Table) → Effect s (withTable t x s)
-
--- an event is a call, of which "only 0 changes anything", or a Tick
-pub step-elim : (c : Config) (s : State) (P : Event → Stepped → Type 0)
-    → ((e : Event) (st : ℕ) (s′ : State) → Effect s s′ → P e (attempt c s st s′))
-    → P Tick (step c s Tick)
+-- what the effects keep: each changes bodies and leaves their losses, or changes a table, or is that of a Tick
+pub effectOf-keeps : (c : Config) (s : State) (P : State → Type 0)
+    → ((i : ℕ) (f : Body → Body) (x : State) → KeepsLosses f → P x → P (changing i f x))
+    → ((t : ℕ) (y : Table) → P (withTable t y s))
+    → P s
     → (e : Event)
-    → P e (step c s e)
-unfolding step
-step-elim c s P call tick (Activate t) =
-    call (Activate t) (activateStatus c s t) (activate t s) (one-body t (become ready) (λ b. refl))
-step-elim c s P call tick Finish = call Finish (finishStatus c s) (finish c s) (one-body (caller c s) finished (λ b. refl))
-step-elim c s P call tick (Chain t) =
-    call (Chain t) (chainStatus c s t) (chain c t s)
-    (two-bodies (caller c s) t finished (become ready) (λ b. refl) (λ b. refl))
-step-elim c s P call tick (Get r) = call (Get r) (getStatus c s r) (get c r s) (one-body (caller c s) (takes r) (λ b. refl))
-step-elim c s P call tick (Release r) =
-    call (Release r) (releaseStatus c s r) (release c s) (one-body (caller c s) gives-back (λ b. refl))
-step-elim c s P call tick Tick = tick
-step-elim c s P call tick (Line i) = call (Line i) (lineStatus c s i) (line i s) (one-body i requested requested-losses)
-step-elim c s P call tick (Start t d) = call (Start t d) (startStatus c s t d) (start t d s) (one-table t _)
-step-elim c s P call tick (Stop t) = call (Stop t) (stopStatus c s t) (stop t s) (one-table t _)
-step-elim c s P call tick Nothing = call Nothing done s none
+    → (e ≡ Tick → P (ticked c s))
+    → P (effectOf c s e)
+effectOf-keeps c s P on-body on-table p (Activate t) tick = on-body t (become ready) s (λ b. refl) p
+effectOf-keeps c s P on-body on-table p Finish tick = on-body (caller c s) finished s (λ b. refl) p
+effectOf-keeps c s P on-body on-table p (Chain t) tick =
+    on-body t (become ready) (finish c s) (λ b. refl) (on-body (caller c s) finished s (λ b. refl) p)
+effectOf-keeps c s P on-body on-table p (Get r) tick = on-body (caller c s) (gets r) s (λ b. refl) p
+effectOf-keeps c s P on-body on-table p (Release r) tick = on-body (caller c s) releases s (λ b. refl) p
+effectOf-keeps c s P on-body on-table p Tick tick = tick refl
+effectOf-keeps c s P on-body on-table p (Line i) tick = on-body i requested s requested-losses p
+effectOf-keeps c s P on-body on-table p (Start t d) tick = on-table t _
+effectOf-keeps c s P on-body on-table p (Stop t) tick = on-table t _
+
+-- an event is a Tick or not
+pub by-tick : {C : Type 0} (e : Event) → (e ≡ Tick → C) → (isTick e ≡ false → C) → C
+by-tick (Activate t) f g = g refl
+by-tick Finish f g = g refl
+by-tick (Chain t) f g = g refl
+by-tick (Get r) f g = g refl
+by-tick (Release r) f g = g refl
+by-tick Tick f g = f refl
+by-tick (Line i) f g = g refl
+by-tick (Start t d) f g = g refl
+by-tick (Stop t) f g = g refl
+
+pub no-tick : (e : Event) → isTick e ≡ false → e ≢ Tick
+no-tick e h q = true≢false (sym (ap isTick q) ∙ h)
 
 pub cond-either : (P : State → Type 0) (b : Bool) (x y : State) → P x → P y → P (cond b x y)
 cond-either P true x y p q = p
 cond-either P false x y p q = q
 
--- what every change of a body keeps
-module _ (P : State → Type 0) (on-body : (i : ℕ) (f : Body → Body) (s : State) → P s → P (changing i f s)) where
+-- what every due entry keeps
+module _ (P : State → Type 0) (on-entry : (t : ℕ) (s : State) → P s → P (changing t activatedByEntry s)) where
   pub activatingDue-keeps : (ds : List Bool) (ts : List ℕ) (s : State) → P s → P (activatingDue ds ts s)
   unfolding activatingDue
   activatingDue-keeps [] ts s p = p
   activatingDue-keeps (true ∷ ds) [] s p = p
   activatingDue-keeps (false ∷ ds) [] s p = p
-  activatingDue-keeps (true ∷ ds) (t ∷ ts) s p = activatingDue-keeps ds ts (changing t activatedByEntry s) (on-body t activatedByEntry s p)
+  activatingDue-keeps (true ∷ ds) (t ∷ ts) s p = activatingDue-keeps ds ts (changing t activatedByEntry s) (on-entry t s p)
   activatingDue-keeps (false ∷ ds) (t ∷ ts) s p = activatingDue-keeps ds ts s p
 
+-- what every change of a body keeps
+module _ (P : State → Type 0) (on-body : (i : ℕ) (f : Body → Body) (s : State) → P s → P (changing i f s)) where
   pub dispatched-keeps : (c : Config) (s : State) → P s → P (dispatched c s)
   dispatched-keeps c s p = cond-either P (begins (runner c s)) _ s (on-body (runner c s .number) (become started) s p) p
 
@@ -95,16 +108,11 @@ module _ (P : State → Type 0) (on-body : (i : ℕ) (f : Body → Body) (s : St
       → (e : Event)
       → P (step c s e .state)
   unfolding step
-  step-keeps on-table on-counted c s p =
-      step-elim c s (λ e x. P (x .state))
-      (λ e st s′ f. dispatched-keeps c _ (cond-either P (eqb st done) s′ s (effect f) p))
-      (dispatched-keeps c (ticked c s) (activatingDue-keeps (dues c (counted s)) (c .task) (counted s) (on-counted s p)))
-    where
-      effect : {s′ : State} → Effect s s′ → P s′
-      effect none = p
-      effect (one-body i f k) = on-body i f s p
-      effect (two-bodies i j f g k l) = on-body j g (changing i f s) (on-body i f s p)
-      effect (one-table t x) = on-table t x s p
+  step-keeps on-table on-counted c s p e =
+      dispatched-keeps c _
+      (cond-either P (eqb (statusOf c s e) done) (effectOf c s e) s
+      (effectOf-keeps c s P (λ i f x k. on-body i f x) (λ t y. on-table t y s p) p e (λ q. activatingDue-keeps P (λ t. on-body t activatedByEntry) (dues c (counted s)) (c .task) (counted s) (on-counted s p)))
+      p)
 
 -- no event adds or takes away a body or a table
 module _ (c : Config) where
@@ -133,7 +141,7 @@ module _ (c : Config) where
 
   pub tables-ticked : (s : State) → ticked c s .tables ≡ map counting (s .tables)
   tables-ticked s =
-      activatingDue-keeps (λ x. x .tables ≡ map counting (s .tables)) (λ i f x h. h) (dues c (counted s)) (c .task) (counted s) refl
+      activatingDue-keeps (λ x. x .tables ≡ map counting (s .tables)) (λ t x h. h) (dues c (counted s)) (c .task) (counted s) refl
 
   pub tables-fresh : fresh c .tables ≡ replicate (c .tables) stopped
   tables-fresh = tables-dispatched (record { bodies = map newBody (take (c .bodies) (c .autostart)); tables = replicate (c .tables) stopped })
@@ -146,31 +154,24 @@ module _ (c : Config) where
   losses-changing : (i : ℕ) (f : Body → Body) (s : State) → KeepsLosses f → lossesOf (changing i f s) ≡ lossesOf s
   losses-changing i f s k = map-set-same (λ b. b .losses) (s .bodies) i (f (bodyOf s i)) noBody (k (bodyOf s i))
 
-  losses-dispatched : (s : State) → lossesOf (dispatched c s) ≡ lossesOf s
+  pub losses-dispatched : (s : State) → lossesOf (dispatched c s) ≡ lossesOf s
   losses-dispatched s =
       cond-either (λ x. lossesOf x ≡ lossesOf s) (begins (runner c s)) _ s
       (losses-changing (runner c s .number) (become started) s (λ b. refl))
       refl
 
   pub losses-call : (s : State) (e : Event) → e ≢ Tick → lossesOf (step c s e .state) ≡ lossesOf s
-  losses-call s =
-      step-elim c s (λ e x. e ≢ Tick → lossesOf (x .state) ≡ lossesOf s)
-      (λ e st s′ f d. losses-dispatched (cond (eqb st done) s′ s) ∙ cond-either (λ x. lossesOf x ≡ lossesOf s) (eqb st done) s′ s (effect f) refl)
-      (λ d. absurd (d refl))
-    where
-      effect : {s′ : State} → Effect s s′ → lossesOf s′ ≡ lossesOf s
-      effect none = refl
-      effect (one-body i f k) = losses-changing i f s k
-      effect (two-bodies i j f g k l) = losses-changing j g (changing i f s) l ∙ losses-changing i f s k
-      effect (one-table t x) = refl
+  unfolding step
+  losses-call s e d =
+      losses-dispatched (cond (eqb (statusOf c s e) done) (effectOf c s e) s)
+      ∙ cond-either (λ x. lossesOf x ≡ lossesOf s) (eqb (statusOf c s e) done) (effectOf c s e) s
+      (effectOf-keeps c s (λ x. lossesOf x ≡ lossesOf s) (λ i f x k h. losses-changing i f x k ∙ h) (λ t y. refl) refl e (λ q. absurd (d q)))
+      refl
 
   -- the losses that are seen are those of the state after the event
   pub losses-seen : (s : State) (e : Event) → step c s e .seen .losses ≡ lossesOf (step c s e .state)
   unfolding step
-  losses-seen s =
-      step-elim c s (λ e x. x .seen .losses ≡ lossesOf (x .state))
-      (λ e st s′ f. sym (losses-dispatched (cond (eqb st done) s′ s)))
-      (sym (losses-dispatched (ticked c s)))
+  losses-seen s e = sym (losses-dispatched (cond (eqb (statusOf c s e) done) (effectOf c s e) s))
 
 -- the state after two lists of events, one after the other
 pub after-append : (c : Config) (es fs : List Event) (s : State) → after c s (es ++ fs) ≡ after c (after c s es) fs

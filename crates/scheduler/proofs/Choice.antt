@@ -16,7 +16,7 @@ use lib.ListN.{length, getD}
 use Rattle.number.proofs.Cases.{by-lt, by-eq}
 use Rattle.config.specs.declared.Config.{Config}
 use Rattle.config.specs.Meaning.{priorityOf, ceiling}
-use Rattle.scheduler.specs.Body.{Phase, suspended, ready, started, isSuspended, isStarted, Body, current, takes, gives-back}
+use Rattle.scheduler.specs.Body.{Phase, suspended, ready, started, isSuspended, isStarted, Body, current, gets, releases}
 use Rattle.scheduler.specs.Choice.{Candidate, nobody, isNobody, candidate, goesBefore, preferred, chosenFrom, chosen}
 use Rattle.scheduler.specs.State.{noBody}
 use Rattle.scheduler.specs.Scheduler.{markOf}
@@ -160,8 +160,8 @@ module _ (c : Config) (bs : List Body) where
 
 -- "the greatest of its own priority and the ceilings of the resources it holds"
 module _ (c : Config) (i : ℕ) where
-  pub current-takes : (r : ℕ) (b : Body) → current c i (takes r b) ≡ max (ceiling c r) (current c i b)
-  current-takes r b = refl
+  pub current-gets : (r : ℕ) (b : Body) → current c i (gets r b) ≡ max (ceiling c r) (current c i b)
+  current-gets r b = refl
 
   pub current-own : (b : Body) → priorityOf c i ≤ current c i b
   current-own b = least (b .held)
@@ -182,8 +182,8 @@ module _ (c : Config) (i : ℕ) where
   candidate-active b started h = refl
 
 -- what is given back is what was taken last, and nothing else
-pub gives-back-takes : (r : ℕ) (b : Body) → gives-back (takes r b) ≡ b
-gives-back-takes r b = refl
+pub releases-gets : (r : ℕ) (b : Body) → releases (gets r b) ≡ b
+releases-gets r b = refl
 
 -- "After each event the body with the greatest current priority among ready and started ones runs"
 module _ (c : Config) (bs : List Body) (k : ℕ) (active : isSuspended (getD bs k noBody .phase) ≡ false) where
