@@ -97,12 +97,14 @@ enum {
     OSEK_E_OS_VALUE = 8     /* Start: the delay is 0, or delay + the table's largest offset is above 65,535 */
 };
 
-/* Refusals. The place is the offset of the first byte of the number at fault, where nothing else is said. Checked in
- * this order: OSEK_CONFIG_TOO_LONG, the configuration number by number, OSEK_TRACE_TOO_LONG, the trace number by
+/* Refusals. The place is the offset of the first byte of the number at fault, where nothing else is said; of a number
+ * that can't be read it is the byte that decides it, whatever follows. Checked in this order: OSEK_CONFIG_TOO_LONG, the configuration number by number, OSEK_TRACE_TOO_LONG, the trace number by
  * number, OSEK_OUTPUT_TOO_SHORT. Only the first one found is given. */
 enum {
-    OSEK_CONFIG_CUT = 1,           /* the configuration ends where a number, or the rest of one, is missing */
-    OSEK_CONFIG_NUMBER = 2,        /* a number above 4,294,967,295 or not in its shortest form */
+    OSEK_CONFIG_CUT = 1,           /* the configuration ends where a number, or the rest of one, is missing; place: its
+                                      end, config_len */
+    OSEK_CONFIG_NUMBER = 2,        /* a number above 4,294,967,295, place: its fifth byte; or not in its shortest form,
+                                      place: its last byte, the superfluous 00 */
     OSEK_CONFIG_VERSION = 3,       /* the version is not 1 */
     OSEK_CONFIG_COUNT = 4,         /* a count of bodies, resources, tables or entries outside its range */
     OSEK_CONFIG_FIELD = 5,         /* another field outside its range; an entry's task that is no task */
@@ -112,8 +114,8 @@ enum {
     OSEK_CONFIG_LEFT_OVER = 9,     /* bytes after the last table; place: the first of them */
     OSEK_CONFIG_TOO_LONG = 10,     /* the configuration is over OSEK_CONFIG_MAX bytes; place: 0 */
     OSEK_TRACE_TOO_LONG = 20,      /* the trace is over OSEK_TRACE_MAX bytes; place: 0 */
-    OSEK_TRACE_CUT = 21,           /* as OSEK_CONFIG_CUT, in the trace */
-    OSEK_TRACE_NUMBER = 22,        /* as OSEK_CONFIG_NUMBER, in the trace */
+    OSEK_TRACE_CUT = 21,           /* as OSEK_CONFIG_CUT, in the trace; place: trace_len */
+    OSEK_TRACE_NUMBER = 22,        /* as OSEK_CONFIG_NUMBER, in the trace, with the same places */
     OSEK_TRACE_EVENT = 23,         /* an event code that is not 1 to 9 */
     OSEK_OUTPUT_TOO_SHORT = 30     /* out_len is too small; place: the bytes needed */
 };

@@ -117,10 +117,11 @@ fn each_refusal_is_printed_with_its_place() {
         many.extend([16, 16]);
         many.extend((0..16).flat_map(|offset| [offset, 0]));
     }
-    let refused: [(Vec<u8>, &[u8], &str); 16] = [
+    let refused: [(Vec<u8>, &[u8], &str); 18] = [
         (vec![], &[], "refused 1 0\n"),
         (DOCUMENT_CONFIG[..19].to_vec(), &[], "refused 1 19\n"),
-        (vec![0x81, 0], &[], "refused 2 0\n"),
+        (vec![1, 0x81, 0x80], &[], "refused 1 3\n"),
+        (vec![0x81, 0], &[], "refused 2 1\n"),
         (config(0, 2), &[], "refused 3 0\n"),
         (config(1, 33), &[], "refused 4 1\n"),
         (config(2, 2), &[], "refused 5 2\n"),
@@ -131,7 +132,8 @@ fn each_refusal_is_printed_with_its_place() {
         (vec![1; 4097], &[], "refused 10 0\n"),
         (DOCUMENT_CONFIG.to_vec(), &[6; 8193], "refused 20 0\n"),
         (DOCUMENT_CONFIG.to_vec(), &[6, 1], "refused 21 2\n"),
-        (DOCUMENT_CONFIG.to_vec(), &[6, 1, 0x80, 0], "refused 22 2\n"),
+        (DOCUMENT_CONFIG.to_vec(), &[6, 1, 0x80, 0x80], "refused 21 4\n"),
+        (DOCUMENT_CONFIG.to_vec(), &[6, 1, 0x80, 0], "refused 22 3\n"),
         (DOCUMENT_CONFIG.to_vec(), &[6, 10], "refused 23 1\n"),
         (DOCUMENT_CONFIG.to_vec(), &[0], "refused 23 0\n"),
     ];

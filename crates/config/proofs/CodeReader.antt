@@ -5,13 +5,13 @@ use mathlib.Core.Path.{_≡_, refl, sym, ap, _∙_}
 use mathlib.Core.Bool.{true, false}
 use mathlib.Core.List.{List}
 use native.Mathlib.Omega.{arith}
-use borrow.Author.Tests.{eq-eqb, ne-eqb, eqb-false}
-use lib.ListN.{length, drop-of-length-le}
-use Rattle.number.specs.Refusal.{none, cut}
-use Rattle.number.specs.Number.{readNumber, groups}
+use borrow.Author.Tests.{eq-eqb, ne-eqb}
+use lib.ListN.{length}
+use Rattle.number.specs.Refusal.{none}
+use Rattle.number.specs.Number.{readNumber}
 use Rattle.number.specs.declared.NumberRead.{NumberRead}
 use Rattle.number.proofs.Cases.{by-eq}
-use Rattle.number.proofs.Theorems.{reading}
+use Rattle.number.proofs.Theorems.{reading, read-past}
 use Rattle.config.specs.declared.Draft.{Draft}
 use Rattle.config.specs.Draft.{Within, fault, put, ended, start}
 use Rattle.config.specs.Reader.{refused, numberFault, faultPlace, finished, readFrom}
@@ -41,11 +41,6 @@ faultless d r e = sym (read (readable d r e)) ∙ e
     read : r .refusal ≡ none → numberFault d r ≡ fault d (r .value)
     read h = simp (eq-eqb (r .refusal) none h)
 
--- past the last byte there is no number
-cut-at-end : (bs : List ℕ) (at : ℕ) → length bs ≤ at → readNumber bs at .refusal ≡ cut
-unfolding readNumber groups
-cut-at-end bs at h = rw (drop-of-length-le bs {i = at} h)
-
 module _ (bs : List ℕ) (at : ℕ) (d : Draft) where
   from-end : (k : ℕ) → ended (d .field) ≡ true → readFrom k bs at d ≡ finished bs at d
   unfolding readFrom
@@ -57,10 +52,7 @@ module _ (bs : List ℕ) (at : ℕ) (d : Draft) where
 
   from-refused : (k : ℕ) → length bs ≤ at + k → ended (d .field) ≡ false → (numberFault d r ≡ none → ⊥) → readFrom k bs at d ≡ refused (numberFault d r) (faultPlace at r)
   unfolding readFrom
-  from-refused zero m e n =
-      let c : r .refusal ≡ cut = cut-at-end bs at (omega arith) in
-      let ne : r .refusal ≡ none → ⊥ = λ h. eqb-false cut none refl (sym c ∙ h) in
-      rw (e, ne-eqb (r .refusal) none ne, c, reading bs at .own-place ne)
+  from-refused zero m e n = rw (e, read-past bs at (omega arith))
   from-refused (suc k) m e n = rw (e, ne-eqb (numberFault d r) none n)
 
   from-read : (k : ℕ) → ended (d .field) ≡ false → numberFault d r ≡ none → readFrom (suc k) bs at d ≡ readFrom k bs (r .place) (put d (r .value))

@@ -82,7 +82,7 @@ number-bounded bs at d h =
     let s = Number.reading bs at in
     by-eq (n .refusal) none
     (λ e. rw (eq-eqb (n .refusal) none e) (refused-bounded bs (fault d (n .value)) at (omega (arith, fault-le (d .field) d (n .value))) h))
-    (λ e. rw (ne-eqb (n .refusal) none e) (refused-bounded bs (n .refusal) (n .place) (omega (arith, s .refusals)) (omega (arith, s .own-place e))))
+    (λ e. rw (ne-eqb (n .refusal) none e) (refused-bounded bs (n .refusal) (n .place) (omega (arith, s .refusals)) (s .place-le h)))
 
 readFrom-bounded : (bs : List ℕ) (k at : ℕ) (d : Draft) → at ≤ length bs → Bounded bs (readFrom k bs at d)
 readFrom-bounded bs =

@@ -10,7 +10,6 @@ use borrow.Author.Tests.{eq-eqb, ne-eqb}
 use Rattle.number.specs.declared.NumberRead.{NumberRead}
 use Rattle.number.specs.Refusal.{none}
 use Rattle.number.specs.Number.{readNumber}
-use Rattle.number.proofs.Cases.{by-eq}
 use Rattle.number.proofs.Theorems.{reading, read-single}
 use Rattle.event.specs.declared.EventRead.{EventRead}
 use Rattle.event.specs.Event.{known, arguments, event, accepted, refused, unreadable, afterNumber, readNone, readArguments, readEvent}
@@ -30,11 +29,6 @@ module _ (n m : NumberRead) (f : ℕ → ℕ → EventRead) (same : n ≡ m) whe
 -- a number's refusals are few, so that those of a trace fit a byte
 pub few-refusals : (n : NumberRead) (bs : List ℕ) (at : ℕ) → n ≡ readNumber bs at → n .refusal ≤ 2
 few-refusals n bs at e = rw e (reading bs at .refusals)
-
--- a number that starts within the input has its place within it too, refused or not
-pub number-place-le : (bs : List ℕ) (at : ℕ) → at ≤ length bs → readNumber bs at .place ≤ length bs
-number-place-le bs at h = let r = reading bs at in
-    by-eq (readNumber bs at .refusal) none (r .inside) (λ n. let o = r .own-place n in omega arith)
 
 -- an event whose code was read: its arguments follow, or its code is unknown
 module _ (n : NumberRead) (bs : List ℕ) (at : ℕ) (same : n ≡ readNumber bs at) (read : n .refusal ≡ none) where

@@ -18,7 +18,6 @@ use Rattle.event.specs.declared.EventRead.{EventRead}
 use Rattle.event.specs.Refusal.{traceCut, unknownEvent}
 use Rattle.event.specs.Event.{event, accepted, refused, readEvent, eventBytes, writerRefusal, writeEvent, eventWritten, Writable}
 use Rattle.event.specs.Trace.{TraceRead, ended, broken, before, readFrom, readRest, readTrace, traceBytes, AllWritable}
-use Rattle.event.proofs.Reading.{number-place-le}
 use Rattle.event.proofs.RoundTrip as RoundTrip
 use Rattle.event.proofs.Size as Size
 use Rattle.event.proofs.Writing as Writing
@@ -36,7 +35,7 @@ pub record EventReading (bs : List ℕ) (at : ℕ) (r : EventRead) : Type 0 wher
 pub event-reading : (bs : List ℕ) (at : ℕ) → EventReading bs at (readEvent bs at)
 event-reading bs at =
     RoundTrip.read-elim bs at (EventReading bs at)
-    (λ p i n. let few = Number.reading bs p .refusals in no-event _ _ (omega arith) (omega arith) (λ h. number-place-le bs p (i h)))
+    (λ p i n. let few = Number.reading bs p .refusals in no-event _ _ (omega arith) (omega arith) (λ h. Number.reading bs p .place-le (i h)))
     (no-event unknownEvent at (lit≤ tt) (lit≤ tt) (λ h. h))
     (λ e p w s. record { after = λ h. s .later; inside = λ h. s .inside; writable = λ h. w; refusals = λ n. absurd (n refl); zero-event = λ n. absurd (n refl); place-le = λ h. s .inside })
   where

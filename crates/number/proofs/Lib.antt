@@ -3,5 +3,6 @@ pub mod Cases
 pub mod Theorems
 pub mod Laying
 mod Groups
+mod Place
 mod Size
 mod RoundTrip

@@ -17,7 +17,7 @@ pub const NO_ROOM: u8 = 30;
 const LEADING: usize = 4;
 
 // What a reading gives: the value with refusal 0 and the place after it, or value 0 with the
-// refusal (error code) and its place (byte offset).
+// refusal (error code) and its place (byte offset): the byte that decides it, or the input's end.
 pub struct NumberRead {
     pub value: u32,
     pub refusal: u8,
@@ -64,7 +64,7 @@ fn read_groups(bytes: &[u8], at: usize, more: usize) -> NumberRead
     ensures { λ r. ⌜ r ≡ groups more (drop at (now (bytes .entry))) ⌝ }
 {
     if bytes.len() <= at {
-        return refused(CUT);
+        return refused(CUT, 0);
     }
     let b = bytes[at];
     if more == 0 {
@@ -83,20 +83,21 @@ fn fifth(b: u8) -> NumberRead
     if b < 16 {
         single(b)
     } else {
-        refused(MALFORMED)
+        refused(MALFORMED, 0)
     }
 }
 
-// A group with its top bit set, and the number that the groups after it make.
+// A group with its top bit set, and the number that the groups after it make. They make 0 only as one
+// superfluous byte.
 fn continued(b: u8, rest: NumberRead) -> NumberRead
     requires { ⌜ (128 * (rest .value) + 128 ≤ limit) × (rest .place < 2 ^ 63) ⌝ }
     ensures { λ r. ⌜ r ≡ continued (b % 128) rest ⌝ }
 {
     if rest.refusal != 0 {
-        return refused(rest.refusal);
+        return refused(rest.refusal, 1 + rest.place);
     }
     if rest.value == 0 {
-        return refused(MALFORMED);
+        return refused(MALFORMED, 1);
     }
     NumberRead {
         value: (b % 128) as u32 + 128 * rest.value,
@@ -116,14 +117,14 @@ fn single(b: u8) -> NumberRead
     }
 }
 
-// No number, with the reason.
-fn refused(refusal: u8) -> NumberRead
-    ensures { λ r. ⌜ r ≡ refused refusal ⌝ }
+// No number, with the reason and the byte that decides it.
+fn refused(refusal: u8, place: usize) -> NumberRead
+    ensures { λ r. ⌜ r ≡ refused refusal place ⌝ }
 {
     NumberRead {
         value: 0,
         refusal: refusal,
-        place: 0,
+        place: place,
     }
 }
 

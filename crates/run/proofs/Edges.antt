@@ -53,9 +53,9 @@ fullyLost = record { phase = started; pending = false; held = []; losses = 65535
 
 pub record Edges : Type 0 where
   pub p1 : (numberBytes 127 ≡ 0x7F ∷ []) × (numberBytes 128 ≡ 0x80 ∷ 0x01 ∷ [])
-  pub p2 : readNumber (0x80 ∷ 0x00 ∷ []) 0 ≡ refused malformed
+  pub p2 : readNumber (0x80 ∷ 0x00 ∷ []) 0 ≡ refused malformed 1
   pub p3 : (readNumber (0xFF ∷ 0xFF ∷ 0xFF ∷ 0xFF ∷ 0x0F ∷ []) 0 ≡ accepted 4294967295 5)
-      × (readNumber (0xFF ∷ 0xFF ∷ 0xFF ∷ 0xFF ∷ 0x10 ∷ []) 0 ≡ refused malformed)
+      × (readNumber (0xFF ∷ 0xFF ∷ 0xFF ∷ 0xFF ∷ 0x10 ∷ []) 0 ≡ refused malformed 4)
   pub p4 : (startCell 1 1 .counter ≡ 65535) × ((n : ℕ) → due 1 1 (suc n) ≡ true)
   pub p5 : (startCell 4 3 .counter ≡ 0)
       × (map (due 4 3) (1 ∷ 2 ∷ 3 ∷ 4 ∷ 5 ∷ 6 ∷ 7 ∷ 8 ∷ []) ≡ false ∷ false ∷ true ∷ false ∷ false ∷ false ∷ true ∷ false ∷ [])

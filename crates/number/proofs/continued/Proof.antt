@@ -7,11 +7,14 @@ use Rattle.number.proofs.Groups.{continued-refused, continued-zero, con
 use Rattle.number.proofs.continued.Statement.{statement}
 use Rattle.number.proofs.continued.Tie as tie
 
+add-refused : tie.Need-add-refused
+add-refused c = search needs
+
 refused-requires : tie.Need-refused-requires
 refused-requires c κs = search needs
 
 returns : tie.Need-returns
-returns c = c .refused .ensures ∙ sym (continued-refused _ _ (c .before .if1 .taken))
+returns c = c .refused .ensures ∙ sym (continued-refused _ _ (c .before .before .if1 .taken))
 
 refused-requires-2 : tie.Need-refused-requires-2
 refused-requires-2 c κs = search needs
@@ -19,17 +22,17 @@ refused-requires-2 c κs = search needs
 returns-2 : tie.Need-returns-2
 returns-2 c = c .refused2 .ensures ∙ sym (continued-zero _ _ (omega arith) (c .before .if2 .taken))
 
-cast-t5 : tie.Need-cast-t5
-cast-t5 c = search needs
+cast-t6 : tie.Need-cast-t6
+cast-t6 c = search needs
 
-mul-t6 : tie.Need-mul-t6
-mul-t6 c = search needs
-
-add-t7 : tie.Need-add-t7
-add-t7 c = search needs
+mul-t7 : tie.Need-mul-t7
+mul-t7 c = search needs
 
 add-t8 : tie.Need-add-t8
 add-t8 c = search needs
+
+add-t9 : tie.Need-add-t9
+add-t9 c = search needs
 
 returns-3 : tie.Need-returns-3
 returns-3 c = sym (continued-more _ _ (omega arith) (c .before .before .if2 .left))
@@ -38,12 +41,13 @@ pub continued-spec : {M : Type 1} → statement M
 continued-spec =
     tie.close
     (tie.spec
+    add-refused
     refused-requires
     returns
     refused-requires-2
     returns-2
-    cast-t5
-    mul-t6
-    add-t7
+    cast-t6
+    mul-t7
     add-t8
+    add-t9
     returns-3)
