@@ -1,6 +1,6 @@
 -- What the crate shows beyond its contracts. Each law stands here in full, over specs/ alone; the modules it cites prove it.
 --
--- In order: what every reading satisfies; both round trips; how long an event's bytes are; what the writer refuses; the trace as a list of events.
+-- In order: what every reading satisfies, and one past the end; both round trips; how long an event's bytes are; what the writer refuses; the trace as a list of events.
 -- Assumes nothing.
 use Prim.Native.Nat.{ℕ, _+_, _-_, _≤_, _<_}
 use mathlib.Core.Path.{_≡_, refl, ap, _∙_}
@@ -16,7 +16,7 @@ use Rattle.number.proofs.Theorems as Number
 use Rattle.event.specs.declared.Event.{Event}
 use Rattle.event.specs.declared.EventRead.{EventRead}
 use Rattle.event.specs.Refusal.{traceCut, unknownEvent}
-use Rattle.event.specs.Event.{event, accepted, refused, readEvent, eventBytes, writerRefusal, writeEvent, eventWritten, Writable}
+use Rattle.event.specs.Event.{event, accepted, refused, afterNumber, readEvent, eventBytes, writerRefusal, writeEvent, eventWritten, Writable}
 use Rattle.event.specs.Trace.{TraceRead, ended, broken, before, readFrom, readRest, readTrace, traceBytes, AllWritable}
 use Rattle.event.proofs.RoundTrip as RoundTrip
 use Rattle.event.proofs.Size as Size
@@ -42,6 +42,11 @@ event-reading bs at =
     no-event : (r p : ℕ) → traceCut ≤ r → r ≤ unknownEvent → (at ≤ length bs → p ≤ length bs) → EventReading bs at (refused r p)
     no-event r p low high place =
         record { after = λ h. absurd (omega arith); inside = λ h. absurd (omega arith); writable = λ h. absurd (omega arith); refusals = λ h. (low, high); zero-event = λ h. refl; place-le = place }
+
+-- "a place at or past the end gives 21 there"
+pub read-past : (bs : List ℕ) (at : ℕ) → length bs ≤ at → readEvent bs at ≡ refused traceCut at
+unfolding afterNumber readEvent
+read-past bs at h = rw (Number.read-past bs at h)
 
 -- where the bytes of an event stand, that event is read and the place after them, whatever stands before and after
 pub read-at : (bs : List ℕ) (at : ℕ) (e : Event) (rest : List ℕ) → Writable e → drop at bs ≡ eventBytes e ++ rest

@@ -64,7 +64,7 @@ malformed-cut-before = Place.cut-before-at
 pub cut-completed : (bs : List ℕ) (at : ℕ) → at ≤ length bs → readNumber bs at .refusal ≡ cut → readNumber (bs ++ 1 ∷ []) at .refusal ≡ none
 cut-completed = Place.completed-at
 
--- at or past the input's end nothing is left to read
+-- "a place at or past the end gives .. (the number reader: 1)" there
 pub read-past : (bs : List ℕ) (at : ℕ) → length bs ≤ at → readNumber bs at ≡ refused cut at
 unfolding readNumber
 read-past bs at h = rw (Groups.groups-past bs at leading h, add-zero)
