@@ -1,22 +1,35 @@
 -- What the crate shows beyond its contracts. Each law stands here in full, over specs/ alone; the module it cites proves it.
 --
--- In order: one tick, field by field; a cell that is off; the main law, `matches-when-due`; and what a caller needs who keeps for a
--- cell the ticks since its start (`OnTime`) or the ticks left to its next match (`Left`); a row of cells. Assumes nothing.
+-- In order: the start counter, by additions alone; one tick, field by field; a cell that is off; the main law, `matches-when-due`; and what
+-- a caller needs who keeps for a cell the ticks since its start (`OnTime`) or the ticks left to its next match (`Left`); a row of cells.
+-- Assumes nothing.
 use Prim.Native.Nat.{ℕ, suc, _+_, _-_, _%_, _≤_, _<_}
 use mathlib.Core.Bool.{Bool, true, false, cond, _&&_}
 use mathlib.Core.List.{List}
+use mathlib.Core.Logic.{_≢_}
 use mathlib.Core.Path.{_≡_, refl, ap, _∙_}
 use lib.Dec.{eqb}
 use lib.ListN.{length, getD}
 use Rattle.cell.specs.declared.Cell.{Cell}
-use Rattle.cell.specs.Cell.{modulus, unmarked, startCellIn, tickedIn, ticksIn, startCell, ticked, ticks}
+use Rattle.cell.specs.Cell.{modulus, unmarked, startCounterIn, sumsIn, startCellIn, tickedIn, ticksIn, startCounter, sums, startCell, ticked, ticks}
 use Rattle.cell.specs.Due.{due, untilDue, OnTime, Left}
 use Rattle.cell.specs.Rows.{rowTicks}
+use Rattle.cell.proofs.Reach as Reach
 use Rattle.cell.proofs.Tick as Tick
 use Rattle.cell.proofs.Match as Match
 use Rattle.cell.proofs.Due as Due
 use Rattle.cell.proofs.OnTime as OnTime
 use Rattle.cell.proofs.Rows as Rows
+
+-- the D-th addition of 1 to the start counter, and none before it, brings it to the compare value k: for a counter of any modulus M
+pub compare-reached-in : (M k D : ℕ) → k < M → 1 ≤ D → D ≤ M
+    → (sumsIn M D (startCounterIn M k D) ≡ k) × ((n : ℕ) → 1 ≤ n → n < D → sumsIn M n (startCounterIn M k D) ≢ k)
+compare-reached-in M k D fits some few = let r = Reach.reaches-start M k fits D some few in (r .reached, r .none-before)
+
+-- the same at 16 bits
+pub compare-reached : (k D : ℕ) → k < modulus → 1 ≤ D → D ≤ modulus
+    → (sums D (startCounter k D) ≡ k) × ((n : ℕ) → 1 ≤ n → n < D → sums n (startCounter k D) ≢ k)
+compare-reached = compare-reached-in modulus
 
 -- a tick of a cell of any content
 module _ (c : Cell) where

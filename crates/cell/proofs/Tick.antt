@@ -14,7 +14,7 @@ module _ (M : ℕ) (c : Cell) where
   ticked-off off = simp off
 
   -- n is what the addition gives
-  module _ {n : ℕ} (on : c .on ≡ true) (sum : n ≡ sumIn M c) where
+  module _ {n : ℕ} (on : c .on ≡ true) (sum : n ≡ sumIn M (c .counter)) where
     pub ticked-matched : n ≡ c .compare → tickedIn M c ≡ cellOf (resetIn M) (c .compare) true true
     unfolding tickedIn
     ticked-matched meets = simp (on, ← sum, eq-eqb _ _ meets)
@@ -25,10 +25,10 @@ module _ (M : ℕ) (c : Cell) where
 
 -- the steps of the code, for a cell that is on or off: n is the count, m the mark, next the counter that the cell is left with
 pub ticked-made : (M : ℕ) (c : Cell) (n : ℕ) (m : Bool) (next : ℕ)
-    → n ≡ cond (c .on) (sumIn M c) (c .counter) → m ≡ c .on && eqb n (c .compare) → next ≡ cond m (resetIn M) n
+    → n ≡ cond (c .on) (sumIn M (c .counter)) (c .counter) → m ≡ c .on && eqb n (c .compare) → next ≡ cond m (resetIn M) n
     → cellOf next (c .compare) (c .on) m ≡ tickedIn M c
 unfolding tickedIn
-ticked-made M c n m next counts marks sets = rw (sets, marks, counts, compares (c .on) (sumIn M c) (c .counter) (c .compare))
+ticked-made M c n m next counts marks sets = rw (sets, marks, counts, compares (c .on) (sumIn M (c .counter)) (c .counter) (c .compare))
   where
     compares : (on : Bool) (s i k : ℕ) → on && eqb (cond on s i) k ≡ on && eqb s k
     compares true s i k = refl

@@ -2,6 +2,7 @@
 --
 --   cellOf n k on m    the cell with counter n, compare value k, switch on and match mark m
 --   unmarked n k on    the same without a mark
+--   startCounter k D   the counter from which D additions of 1 lead to the compare value k; sums n i: i after n additions of 1
 --   startCell P D      the cell of an entry with period P, D ticks before its first match
 --   ticked c           c after a tick; ticks n c: after n
 --   stopped c          c after its table was stopped
@@ -25,25 +26,33 @@ cellOf n k on m = record { counter = n; compare = k; on = on; matched = m }
 abbrev pub unmarked : ℕ → ℕ → Bool → Cell
 unmarked n k on = cellOf n k on false
 
--- a − b modulo M, for b at most M
+-- a − b modulo M
 abbrev pub minus : ℕ → ℕ → ℕ → ℕ
-minus M a b = (a + (M - b)) % M
+minus M a b = (a + (M - b % M)) % M
 
 -- "Compare value: period P minus 1"
 abbrev pub compareIn : ℕ → ℕ → ℕ
 compareIn M P = minus M P 1
 
--- "its counter becomes (P − 1 − D) modulo 65,536 and its switch goes on"
+-- "its counter becomes (P − 1 − D) modulo 65,536", where P − 1 is the compare value k and "D = d + o"
+abbrev pub startCounterIn : ℕ → ℕ → ℕ → ℕ
+startCounterIn = minus
+
+-- "and its switch goes on"
 abbrev pub startCellIn : ℕ → ℕ → ℕ → Cell
-startCellIn M P D = unmarked (minus M (compareIn M P) D) (compareIn M P) true
+startCellIn M P D = unmarked (startCounterIn M (compareIn M P) D) (compareIn M P) true
 
 -- "adds 1 modulo 65,536"
-abbrev pub sumIn : ℕ → Cell → ℕ
-sumIn M c = (c .counter + 1) % M
+abbrev pub sumIn : ℕ → ℕ → ℕ
+sumIn M i = (i + 1) % M
+
+unfoldable pub sumsIn : ℕ → ℕ → ℕ → ℕ
+sumsIn M zero i = i
+sumsIn M (suc n) i = sumsIn M n (sumIn M i)
 
 -- "an enabled cell .. if the counter now equals the compare value it matches"
 abbrev pub matchesIn : ℕ → Cell → Bool
-matchesIn M c = c .on && eqb (sumIn M c) (c .compare)
+matchesIn M c = c .on && eqb (sumIn M (c .counter)) (c .compare)
 
 -- "the counter is set to 65,535", from which the next tick brings it to 0
 abbrev pub resetIn : ℕ → ℕ
@@ -51,7 +60,7 @@ resetIn M = M - 1
 
 -- "it matches and the counter is set to 65,535"; "a cell that is off keeps its own"
 abbrev pub countedIn : ℕ → Cell → ℕ
-countedIn M c = cond (matchesIn M c) (resetIn M) (cond (c .on) (sumIn M c) (c .counter))
+countedIn M c = cond (matchesIn M c) (resetIn M) (cond (c .on) (sumIn M (c .counter)) (c .counter))
 
 -- "each record keeps its compare value and switch, gets the counter above .., and its match mark tells of this tick only"
 unfoldable pub tickedIn : ℕ → Cell → Cell
@@ -60,6 +69,12 @@ tickedIn M c = cellOf (countedIn M c) (c .compare) (c .on) (matchesIn M c)
 unfoldable pub ticksIn : ℕ → ℕ → Cell → Cell
 ticksIn M zero c = c
 ticksIn M (suc n) c = ticksIn M n (tickedIn M c)
+
+abbrev pub startCounter : ℕ → ℕ → ℕ
+startCounter = startCounterIn modulus
+
+abbrev pub sums : ℕ → ℕ → ℕ
+sums = sumsIn modulus
 
 abbrev pub startCell : ℕ → ℕ → Cell
 startCell = startCellIn modulus

@@ -29,8 +29,8 @@ fn off_and_marked() -> Cell {
 // In turn: a cell due at ticks 3 and 7; one due at every tick; one that is off; one that wraps at tick 1 and matches at tick 8.
 fn kind(i: usize) -> Cell {
     match i % 4 {
-        0 => Cell::start(4, 3),
-        1 => Cell::start(1, 1),
+        0 => Cell::start(4, 1, 2),
+        1 => Cell::start(1, 1, 0),
         2 => off_and_marked(),
         _ => Cell::of(65535, 7, true),
     }

@@ -14,7 +14,7 @@ use Rattle.machine.specs.Model.{Picked, Model, noRank, withCore, withRequest, w
 use Rattle.machine.specs.Arbiter.{arbitrated}
 use Rattle.machine.specs.Cells.{switchOn, switchOff, isOn, countersTicked, marks, countersStarted, countersStopped, switched, Due, requestsDue}
 use Rattle.machine.specs.Events.{marksOf, tickedOnce, launched, halted}
-use Rattle.kernel.specs.Methods.{dueWith, Delays, Laid, Reached}
+use Rattle.kernel.specs.Methods.{dueWith, Laid}
 
 pub length-marks : (k e : ℕ) (ks os ns : List ℕ) → length (marks k e ks os ns) ≡ k
 unfolding marks
@@ -45,14 +45,6 @@ module _ (n : ℕ) (fs es : List ℕ) (laid : Laid n fs es) (t : ℕ) (some : t 
     {f k : ℕ} (from : f ≡ getD fs t 0) (many : k ≡ getD es t 0) where
   pub entries-within : f + k ≤ 64
   entries-within = rw (from, many) (laid .within t some)
-
-  pub delays-fit : (gs os : List ℕ) → Reached n fs gs es os → (d : ℕ) {g : ℕ} → g ≡ getD gs t 0
-      → {b : Bool} → b ≡ eqb d 0 || ltb longestDelay (d + g) → b ≡ false → Delays f k d os
-  delays-fit gs os reached d {g} largest test good =
-      record {
-        fits = λ i le lt.
-            omega (arith, reached .largest t i some (rw from at le) (rw (from, many) at lt), largest, short-sum d g (sym test ∙ good));
-      }
 
 -- Start t, d
 module _ (n : ℕ) (fs gs es qs os : List ℕ) (m : Model) (t d : ℕ) where

@@ -1,6 +1,6 @@
 -- The second pass over a trace: the answers so far and those still to come are the answers of the whole trace.
 --
---   tables-laid, offsets-reached              what the machine's methods count on
+--   tables-laid                               what the machine's methods count on
 --   step-1 .. step-9                          what an arm's method hands back is the step of the event that was read
 --   Playing                                   the invariant: `playable-start`, `playing-turn`, `playing-end`
 --
@@ -28,14 +28,13 @@ use Rattle.scheduler.specs.State.{State}
 use Rattle.scheduler.specs.Scheduler as Plain
 use Rattle.scheduler.specs.Scheduler.{fresh, step, markOf}
 use Rattle.machine.specs.Model.{Model, Outcome}
-use Rattle.kernel.specs.Methods.{Laid, Reached}
+use Rattle.kernel.specs.Methods.{Laid}
 use Rattle.machine.specs.Events.{activated, finished, chained, got, released, tickedOnce, lined, launched, halted}
 use Rattle.machine.specs.Machine.{machineStep, runnerOf, machineSeen, machineAfter}
 use Rattle.run.specs.Run.{callOf, answerBytes}
 use Rattle.kernel.specs.Passes.{Playable}
 use Rattle.machine.proofs.Relation.Fitted.{Fitted}
 use Rattle.machine.proofs.Relation.Whole.{Sim}
-use Rattle.machine.proofs.Event.Tables.{offset-le}
 use Rattle.machine.proofs.Whole.Lists.{event-agrees}
 use Rattle.machine.proofs.Whole.Fresh.{fresh-sim}
 use Rattle.machine.proofs.Whole.Plan.{fitted}
@@ -94,12 +93,6 @@ module _ (c : Config) (p : Plan) (rk : ℕ → ℕ) (fit : Fitted c p rk) where
   tables-laid =
       record {
         within = λ t h. rw (fit .first-at t h) (omega (arith, firstOf-step c t, firstOf-rises c (suc t) (c .tables) h, fit .few-entries));
-      }
-
-  pub offsets-reached : Reached (c .tables) (p .first) (p .largest) (c .entries) (c .offset)
-  offsets-reached =
-      record {
-        largest = λ t i h low high. rw (fit .largest-at t h) (offset-le fit t h i (rw (fit .first-at t h) at low) (omega (arith, firstOf-step c t, fit .first-at t h)));
       }
 
 -- the events from a place on

@@ -4,7 +4,7 @@ ghost use Prim.Native.Nat.{_+_, _≤_};
 ghost use lib.ListN.{length, getD, set, take, drop};
 ghost use Rattle.config.specs.Value.{maxEntries};
 ghost use Rattle.machine.specs.Cells.{countersTicked, marks, countersStarted, countersStopped, switched, oneMore, matchAt, requestsDue};
-ghost use Rattle.kernel.specs.Methods.{Delays, dueWith, group, marksWord};
+ghost use Rattle.kernel.specs.Methods.{dueWith, group, marksWord};
 use super::NO_RANK;
 use super::bodies::busy;
 use super::lookup::byte_at;
@@ -140,13 +140,12 @@ pub fn start_counters<'a, 'b>(
     counter: &'b mut [u16; 64],
 )
     requires { ⌜ from + count ≤ maxEntries ⌝ }
-    requires { ⌜ Delays from count delay (now offset) ⌝ }
     ensures { λ _. ⌜ now (counter .exit) ≡ countersStarted count from period delay (now (offset .entry)) (now (counter .entry)) ⌝ }
 {
     let until = from + count;
     let mut e = from;
     while e < until {
-        let cell = Cell::start(period, delay + offset[e]);
+        let cell = Cell::start(period, delay, offset[e]);
         counter[e] = cell.counter;
         e += 1;
     }

@@ -7,7 +7,7 @@ ghost use lib.ListN.{getD};
 ghost use Rattle.scheduler.specs.Call.{longestDelay};
 ghost use Rattle.machine.specs.Cells.{isOn};
 ghost use Rattle.machine.specs.Events.{tickedOnce, launched, halted};
-ghost use Rattle.kernel.specs.Methods.{Laid, Reached};
+ghost use Rattle.kernel.specs.Methods.{Laid};
 ghost use Rattle.kernel.specs.View.{view, outcomeOf};
 use super::ALREADY_RUNS;
 use super::BAD_DELAY;
@@ -67,7 +67,6 @@ impl Model {
         d: u32,
     ) -> Outcome
         requires { ⌜ Laid tables (now first) (now entries) ⌝ }
-        requires { ⌜ Reached tables (now first) (now largest) (now entries) (now offset) ⌝ }
         ensures { λ r. ⌜ r ≡ outcomeOf (launched tables (now (first .entry)) (now (largest .entry)) (now (entries .entry)) (now (period .entry)) (now (offset .entry)) (view self) t d) ⌝ }
     {
         if self.runner == NO_RANK {

@@ -47,7 +47,7 @@ started-on-time P D low high some few = rw (sym compare) (on-time-start P D low 
 module _ {c : Config} {p : Plan} {rk : ℕ → ℕ} (fit : Fitted c p rk) where
   module _ (t : ℕ) (t< : t < c .tables) where
     -- no offset of a table is above its largest
-    pub offset-le : (e : ℕ) → firstOf c t ≤ e → e < firstOf c (suc t) → getD (c .offset) e 0 ≤ largestOffset c t
+    offset-le : (e : ℕ) → firstOf c t ≤ e → e < firstOf c (suc t) → getD (c .offset) e 0 ≤ largestOffset c t
     offset-le e low high = rw (sym at-e) (greatest-le (offsets c t) (e - firstOf c t))
       where
         at-e : getD (offsets c t) (e - firstOf c t) 0 ≡ getD (c .offset) e 0

@@ -12,7 +12,7 @@ use Rattle.scheduler.specs.Scheduler.{markOf}
 use Rattle.machine.specs.Machine.{machineStep}
 use Rattle.run.specs.Run.{callOf}
 use Rattle.kernel.specs.View.{view, modelOf, viewOutcome}
-use Rattle.kernel.proofs.Run.Play.{step-1, step-2, step-3, step-4, step-5, step-6, step-7, step-8, step-9, one-of-nine, tables-laid, offsets-reached}
+use Rattle.kernel.proofs.Run.Play.{step-1, step-2, step-3, step-4, step-5, step-6, step-7, step-8, step-9, one-of-nine, tables-laid}
 use Rattle.kernel.proofs.Run.Play.{Playing, playable-start, length-out, playing-end, playing-later, playing-known, playing-room, playing-turn}
 use Rattle.kernel.proofs.play.play.Statement.{statement}
 use Rattle.kernel.proofs.play.play.Tie as tie
@@ -53,7 +53,7 @@ line-requires c κs = tt
 start-requires : tie.Need-start-requires Inv-loop μ-loop
 start-requires c κs = let k = c .before .before .before .before .before .before .before .before .before .before .before in
     let a = k .before .before .before .args in
-    (tables-laid (a .t1) (a .t2) (rankOf (a .t1)) (k .loop .inv .fit), offsets-reached (a .t1) (a .t2) (rankOf (a .t1)) (k .loop .inv .fit))
+    tables-laid (a .t1) (a .t2) (rankOf (a .t1)) (k .loop .inv .fit)
 
 stop-requires : tie.Need-stop-requires Inv-loop μ-loop
 stop-requires c κs = let k = c .before .before .before .before .before .before .before .before in

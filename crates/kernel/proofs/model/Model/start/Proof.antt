@@ -3,7 +3,7 @@
 use mathlib.Core.Path.{sym, ap, _∙_}
 use native.Mathlib.Omega.{arith}
 use Rattle.kernel.specs.View.{view, outcomeOf}
-use Rattle.kernel.proofs.Methods.Tables.{short-sum, entries-within, delays-fit, start-idle, start-none, start-bad, start-runs, start-done}
+use Rattle.kernel.proofs.Methods.Tables.{short-sum, entries-within, start-idle, start-none, start-bad, start-runs, start-done}
 use borrow.Author.Needs.{needs}
 use Rattle.kernel.proofs.model.Model.start.Statement.{statement}
 use Rattle.kernel.proofs.model.Model.start.Tie as tie
@@ -83,12 +83,9 @@ cast-start-counters c =
 start-counters-requires : tie.Need-start-counters-requires
 start-counters-requires c κs =
     let c₁ = c .before .before .before .before in let c₂ = c₁ .before .before .before .before .before in
-    let c₃ = c₂ .before .before in let c₄ = c₃ .before in let c₅ = c₄ .before in
-    let c₆ = c₅ .before .before .before in let c₇ = c₆ .before .before .before in let a = c₇ .args in (
-      entries-within (a .tables) (a .first .now) (a .entries .now) (c₇ .pre .0) (a .t) (c₆ .if2 .left) (c₂ .byte-at .ensures) (c₁ .byte-at2 .ensures),
-      delays-fit (a .tables) (a .first .now) (a .entries .now) (c₇ .pre .0) (a .t) (c₆ .if2 .left) (c₂ .byte-at .ensures) (c₁ .byte-at2 .ensures)
-          (a .largest .now) (a .offset .now) (c₇ .pre .1) (a .d) (c₅ .short-at .ensures) (c₄ .is-bad-delay .ensures) (c₃ .if3 .left),
-    )
+    let c₃ = c₂ .before .before .before .before .before .before .before in let c₄ = c₃ .before .before .before in
+    let a = c₄ .args in
+    entries-within (a .tables) (a .first .now) (a .entries .now) (c₄ .pre) (a .t) (c₃ .if2 .left) (c₂ .byte-at .ensures) (c₁ .byte-at2 .ensures)
 
 switch-requires : tie.Need-switch-requires
 switch-requires c κs =
@@ -96,7 +93,7 @@ switch-requires c κs =
     let c₂ = c₁ .before .before .before .before .before in
     let c₃ = c₂ .before .before .before .before .before .before .before in let c₄ = c₃ .before .before .before in
     let a = c₄ .args in
-    entries-within (a .tables) (a .first .now) (a .entries .now) (c₄ .pre .0) (a .t) (c₃ .if2 .left) (c₂ .byte-at .ensures) (c₁ .byte-at2 .ensures)
+    entries-within (a .tables) (a .first .now) (a .entries .now) (c₄ .pre) (a .t) (c₃ .if2 .left) (c₂ .byte-at .ensures) (c₁ .byte-at2 .ensures)
 
 with-status-requires-5 : tie.Need-with-status-requires-5
 with-status-requires-5 c κs = search needs

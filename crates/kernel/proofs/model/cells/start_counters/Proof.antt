@@ -31,9 +31,6 @@ mul-start c = omega arith
 element-copy-out-start : tie.Need-element-copy-out-start Inv-loop μ-loop
 element-copy-out-start c = omega arith
 
-add-start : tie.Need-add-start Inv-loop μ-loop
-add-start c = let l = c .before .before .loop in omega (arith, c .before .before .before .pre .1 .fits (l .e) (omega arith) (omega arith))
-
 start-requires : tie.Need-start-requires Inv-loop μ-loop
 start-requires c κs = search needs
 
@@ -74,7 +71,6 @@ start-counters-spec =
     loop-holds
     mul-start
     element-copy-out-start
-    add-start
     start-requires
     mul-counter
     element-write-counter
