@@ -2,7 +2,8 @@
 // contract. A crate of its own, so that an archive is built from the proved crates below it and none of them is proved again.
 ghost use mathlib.Core.Path.{_≡_};
 ghost use lib.ListN.{length};
-ghost use Rattle.kernel.specs.Run.{runResult, runOutput, machineOutput};
+ghost use Rattle.run.specs.Run.{runResult, runOutput};
+ghost use Rattle.run.specs.Steps.{machineOutput};
 
 #[no_mangle]
 pub extern "C" fn osek_run(config: &[u8], trace: &[u8], out: &mut [u8]) -> u64
