@@ -1,9 +1,9 @@
 # `make help` lists what can be made. Everything beyond the kit, a C compiler and cargo is built here.
 
-# The crates whose exported functions are the library, each an archive of its own; `lib` joins them.
+# The crates whose exported functions are the library, each an archive of its own that `lib` joins. A new function needs no
+# archive: three lines in crates/osek export it, and the crate that proves it is not proved again.
 EXPORTS = osek
 
-SHELL = /bin/bash
 KIT_BIN = $(or $(RATTLE_HOME),/opt/rattle)/bin
 export PATH := $(PATH):$(KIT_BIN)
 CFLAGS = -std=c99 -O2 -Wall -Wextra -Wpedantic -Werror
