@@ -1,6 +1,9 @@
-//! What include/osek.h promises of the C call beside its answers: null pointers with a length of 0, and calls from several
-//! threads at once.
+//! What include/osek.h promises of the C call beside its answers: that both libraries have it, null pointers with a length of
+//! 0, and calls from several threads at once.
 
+use std::fs;
+use std::path::Path;
+use std::process::Command;
 use std::ptr::{null, null_mut};
 use std::sync::Barrier;
 
@@ -8,6 +11,29 @@ use osek_tests::cases;
 use osek_tests::compare::{outcome, FAST, SUBJECT};
 use osek_tests::listing::{DOCUMENT_CONFIG, DOCUMENT_TRACE};
 use osek_tests::subject::osek_run;
+
+/// The functions that a library defines for others.
+fn exported(library: &str, option: &str) -> Vec<String> {
+    let path = Path::new(env!("CARGO_MANIFEST_DIR")).join("../build").join(library);
+    let output = Command::new("nm").args([option, "--defined-only"]).arg(&path).output().expect("nm runs");
+    assert!(output.status.success(), "{}", String::from_utf8_lossy(&output.stderr));
+    let text = String::from_utf8_lossy(&output.stdout).into_owned();
+    let mut names: Vec<String> = text.lines().filter_map(|line| line.split(" T ").nth(1)).map(String::from).collect();
+    names.sort();
+    names
+}
+
+#[test]
+fn both_libraries_export_the_functions_of_the_header_and_no_others() {
+    let header = Path::new(env!("CARGO_MANIFEST_DIR")).join("../include/osek.h");
+    let text = fs::read_to_string(header).expect("the header can be read");
+    let declared = text.lines().filter_map(|line| line.strip_prefix("uint64_t ")?.split('(').next());
+    let mut declared: Vec<String> = declared.map(String::from).collect();
+    declared.sort();
+    assert!(declared.contains(&"osek_run".to_string()));
+    assert_eq!(exported("libosek.a", "-g"), declared);
+    assert_eq!(exported("libosek.so", "-D"), declared);
+}
 
 #[test]
 fn a_pointer_of_length_0_may_be_null() {
