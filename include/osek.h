@@ -2,7 +2,8 @@
  * OSEK OS reference, class BCC1: from a configuration and a trace of events to who runs after each event.
  *
  * One function, osek_run. It allocates nothing, keeps nothing between calls and never fails in another way than by
- * the refusals below: any bytes may be handed to it. Link with libkernel.a.
+ * the refusals below: any bytes may be handed to it. It may be called from several threads at once, each with an
+ * output of its own; they may share their inputs.
  *
  *     static uint8_t out[OSEK_OUTPUT_MAX];
  *     uint64_t result = osek_run(config, config_len, trace, trace_len, out, sizeof out);
@@ -10,6 +11,8 @@
  *         printf("refused %u %u\n", (unsigned)osek_refusal(result), (unsigned)osek_place(result));
  *     else
  *         ... osek_events(result) answers of four bytes, then two bytes a body ...
+ *
+ * For C99, C++98 and later, on x86-64 Linux. Link with libosek.a or libosek.so (`pkg-config --cflags --libs osek`).
  *
  * Words: a body is a task or a category 2 interrupt routine (ISR); bodies, resources and schedule tables are each
  * numbered from 0 in the order of the configuration. A greater priority wins.
@@ -52,7 +55,12 @@
 extern "C" {
 #endif
 
-/* Sizes in bytes. Longer inputs are refused; an output of OSEK_OUTPUT_MAX suffices for every run. */
+/* The first number changes when a program has to be compiled or linked anew, the second with what the calls answer or
+ * offer, the last with everything else. CHANGELOG.md says what each one brought. */
+#define OSEK_VERSION "1.0.0"
+
+/* Sizes in bytes. Longer inputs are refused; an output of OSEK_OUTPUT_MAX suffices for every run, which is proved as
+ * `room-enough` in crates/run/proofs/Theorems.antt. */
 #define OSEK_CONFIG_MAX 4096
 #define OSEK_TRACE_MAX 8192
 #define OSEK_OUTPUT_MAX 32832
@@ -128,7 +136,7 @@ enum {
  *     trace, trace_len      the trace's bytes; only read. An empty trace is accepted and has 0 events.
  *     out, out_len          where the output goes. Must not overlap the inputs; may hold anything before the call.
  *
- * No pointer may be null: where a length is 0, pass any valid pointer; no byte of it is touched.
+ * A pointer whose length is 0 may be null; no byte of it is touched. Where it is not 0, so many bytes are there.
  *
  * Result: refusal * 2^32 + place, or, with refusal 0, the number of events. Split it with the functions below.
  *

@@ -1,7 +1,7 @@
 //! The proved run, linked from the static library.
 
 extern "C" {
-    fn osek_run(
+    pub fn osek_run(
         config: *const u8,
         config_len: usize,
         trace: *const u8,
