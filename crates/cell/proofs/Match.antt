@@ -40,6 +40,13 @@ module _ (M P : ℕ) (one-le : 1 ≤ P) (P-fits : P ≤ M) where
   start-counter : (D : ℕ) → startCellIn M P D .counter ≡ startCounterIn M (P - 1) D
   start-counter D = ap (λ k. startCounterIn M k D) compare-one-less
 
+  -- a turn must pass where the first match is more than a turn ahead
+  start-long : (D : ℕ) → M < D → startCellIn M P D .turn ≡ true
+  start-long D more = lt-ltb M D more
+
+  start-short : (D : ℕ) → D ≤ M → startCellIn M P D .turn ≡ false
+  start-short D few = le-ltb M D few
+
   counting-start : (D : ℕ) → 1 ≤ D → D ≤ M + M → Counting (startCellIn M P D) D
   counting-start D some fits =
       ⊎-elim
@@ -49,7 +56,7 @@ module _ (M P : ℕ) (one-le : 1 ≤ P) (P-fits : P ≤ M) where
         compares = compare-one-less;
         ahead = D - M;
         reaches = rw (start-counter D, start-later M (P - 1) D (omega arith)) (reaches-start M (P - 1) compare-lt (D - M) (omega arith) (omega arith));
-        left = rw (lt-ltb M D more) (omega arith);
+        left = rw (start-long D more) (omega arith);
       })
       (λ (few : D ≤ M).
       record {
@@ -57,7 +64,7 @@ module _ (M P : ℕ) (one-le : 1 ≤ P) (P-fits : P ≤ M) where
         compares = compare-one-less;
         ahead = D;
         reaches = rw (start-counter D) (reaches-start M (P - 1) compare-lt D some few);
-        left = rw (le-ltb M D few) (omega arith);
+        left = rw (start-short D few) (omega arith);
       })
       (lt-or-le M D)
 

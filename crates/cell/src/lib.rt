@@ -35,7 +35,7 @@ fn start_counter(compare: u16, delay: u16, offset: u16) -> u16
 }
 
 // Whether the first match is more than a turn of the counter ahead.
-fn is_long(delay: u16, offset: u16) -> bool
+pub fn is_long(delay: u16, offset: u16) -> bool
     ensures { λ r. ⌜ r ≡ long (delay + offset) ⌝ }
 {
     65536 < delay as u32 + offset as u32

@@ -116,7 +116,7 @@ module _ (c : Config) (p : Plan) (rk : ℕ → ℕ) (fit : Fitted c p rk) where
   module _ (m : Model) (s : State) (e : Event) (o : Outcome) (st : ℕ) (ds : List Bool) (s″ : State)
       (machine : machineStep c p m e ≡ o) (plain : step c s e ≡ ending c st ds s″) (status : o .status ≡ st) (due : matched p m e ≡ ds)
       (arb : Arbitrated c p rk fit o (s″ .bodies) (dispatched c s″ .bodies)) (size : length (s″ .bodies) ≡ c .bodies)
-      (timed : Timed c p (o .model .counter) (o .model .on) (s″ .tables)) (lost : Lost c rk (o .model .losses) (s″ .bodies)) where
+      (timed : Timed c p (o .model .counter) (o .model .on) (o .model .turning) (s″ .tables)) (lost : Lost c rk (o .model .losses) (s″ .bodies)) where
     -- an event that ends in an arbitrated model
     pub agrees : Agrees m s e
     agrees =
@@ -157,7 +157,7 @@ module _ (c : Config) (p : Plan) (rk : ℕ → ℕ) (fit : Fitted c p rk) where
     pub status : o .status ≡ done
     pub arb : Arbitrated c p rk fit o (s′ .bodies) (dispatched c s′ .bodies)
     pub size : length (s′ .bodies) ≡ c .bodies
-    pub timed : Timed c p (o .model .counter) (o .model .on) (s′ .tables)
+    pub timed : Timed c p (o .model .counter) (o .model .on) (o .model .turning) (s′ .tables)
     pub lost : Lost c rk (o .model .losses) (s′ .bodies)
 
   -- a call with the same status on both sides

@@ -17,7 +17,7 @@ use Rattle.scheduler.specs.Scheduler.{newBody, fresh}
 use Rattle.scheduler.proofs.Changing.{tables-dispatched}
 use Rattle.machine.specs.Machine.{unstarted, freshModel}
 use Rattle.machine.proofs.Views.{same-everywhere, on-top, empty-shows, row-empty-shows}
-use Rattle.machine.specs.Cells.{switchOff, isOn}
+use Rattle.machine.specs.Cells.{switchOff, isOn, hasTurn}
 use Rattle.machine.proofs.Simulation.{Fitted, at, wants, ranksFor, levelsFor, Chained, slotsAlong, Distinct, CellFits, Timed, Lost, Tied, Sim}
 use Rattle.machine.proofs.Marks.{missing-empty}
 use Rattle.machine.proofs.Arbitration.{settled-tied}
@@ -85,7 +85,7 @@ module _ (c : Config) (p : Plan) (rk : ℕ → ℕ) (fit : Fitted c p rk) where
         };
       }
 
-  unbegun-timed : Timed c p (replicate 64 0) (replicate 64 switchOff) (replicate (c .tables) stopped)
+  unbegun-timed : Timed c p (replicate 64 0) (replicate 64 switchOff) false (replicate (c .tables) stopped)
   unfolding CellFits
   unbegun-timed =
       record {
@@ -94,6 +94,7 @@ module _ (c : Config) (p : Plan) (rk : ℕ → ℕ) (fit : Fitted c p rk) where
         switches-long = refl;
         cells = λ t e t< a b. rw (same-everywhere (c .tables) stopped t) (ap isOn (same-everywhere 64 switchOff e));
         spare = λ e h. ap isOn (same-everywhere 64 switchOff e);
+        unturned = λ _ e. ap hasTurn (same-everywhere 64 switchOff e);
       }
 
   unbegun-lost : Lost c rk (replicate 32 0) (unbegun .bodies)

@@ -17,6 +17,7 @@ pub mod Calls
 pub mod Waking
 pub mod Locking
 pub mod Requests
+pub mod Turns
 pub mod Matching
 pub mod Ticking
 pub mod CellLists

@@ -11,7 +11,7 @@ use mathlib.Core.List.{List, [], _∷_, _++_, map, foldr}
 use lib.Dec.{eqb}
 use lib.ListN.{length, getD}
 use Rattle.config.specs.declared.Config.{Config}
-use Rattle.config.specs.Meaning.{isTask, isIsr, priorityOf, ceiling, firstOf, largestOffset}
+use Rattle.config.specs.Meaning.{isTask, isIsr, priorityOf, ceiling, firstOf}
 use Rattle.plan.specs.declared.Plan.{Plan}
 use Rattle.word.specs.Word.{has}
 use Rattle.stack.specs.declared.Row.{Row}
@@ -23,7 +23,7 @@ use Rattle.cell.specs.declared.Cell.{Cell}
 use Rattle.cell.specs.Due.{OnTime}
 use Rattle.scheduler.specs.Call.{requestWaits}
 use Rattle.machine.specs.Model.{Core, Model, noRank}
-use Rattle.machine.specs.Cells.{isOn, cellAt}
+use Rattle.machine.specs.Cells.{isOn, hasTurn, cellAt}
 use Rattle.machine.proofs.Views.{Shows}
 
 -- what the machine's events need to know of their tables
@@ -51,12 +51,12 @@ pub record Fitted (c : Config) (p : Plan) (rk : ℕ → ℕ) : Type 0 where
   pub some-entry : (t : ℕ) → t < c .tables → 1 ≤ getD (c .entries) t 0
   pub period-low : (t : ℕ) → t < c .tables → 1 ≤ getD (c .period) t 0
   pub period-high : (t : ℕ) → t < c .tables → getD (c .period) t 0 ≤ 65535
+  pub offset-lt : (t e : ℕ) → t < c .tables → firstOf c t ≤ e → e < firstOf c (suc t) → getD (c .offset) e 0 < getD (c .period) t 0
   pub entry-task : (e : ℕ) → e < firstOf c (c .tables) → isTask c (getD (c .task) e 0) ≡ true
   pub offsets-long : length (c .offset) ≡ 64
   pub tasks-long : length (c .task) ≡ 64
   pub autostarts-long : length (c .autostart) ≡ 32
   pub first-at : (t : ℕ) → t < c .tables → getD (p .first) t 0 ≡ firstOf c t
-  pub largest-at : (t : ℕ) → t < c .tables → getD (p .largest) t 0 ≡ largestOffset c t
   pub compare-at : (t e : ℕ) → t < c .tables → firstOf c t ≤ e → e < firstOf c (suc t) → getD (p .compare) e 0 ≡ getD (c .period) t 0 - 1
   pub entry-rank-at : (e : ℕ) → e < p .count → getD (p .entry) e 0 ≡ rk (getD (c .task) e 0)
   pub entry-ranks-long : length (p .entry) ≡ 64
@@ -172,15 +172,16 @@ unfoldable pub CellFits : ℕ → ℕ → Cell → Table → Type 0
 CellFits P o x stopped = x .on ≡ false
 CellFits P o x (running d n) = OnTime x P (d + o) n
 
--- the cells keep the tables' arithmetic; ns: the counters, os: the switches
-pub record Timed (c : Config) (p : Plan) (ns os : List ℕ) (ts : List Table) : Type 0 where
+-- the cells keep the tables' arithmetic; ns: the counters, os: the switches, w: whether any cell has a turn to pass
+pub record Timed (c : Config) (p : Plan) (ns os : List ℕ) (w : Bool) (ts : List Table) : Type 0 where
   pub tables-long : length ts ≡ c .tables
   pub counters-long : length ns ≡ 64
   pub switches-long : length os ≡ 64
   pub cells : (t e : ℕ) → t < c .tables → firstOf c t ≤ e → e < firstOf c (suc t)
-      → CellFits (getD (c .period) t 0) (getD (c .offset) e 0) (cellAt (p .compare) os ns e) (getD ts t stopped)
+      → CellFits (getD (c .period) t 0) (getD (c .offset) e 0) (cellAt w (p .compare) os ns e) (getD ts t stopped)
   -- a cell without an entry is off
   pub spare : (e : ℕ) → firstOf c (c .tables) ≤ e → isOn (getD os e 0) ≡ false
+  pub unturned : w ≡ false → (e : ℕ) → hasTurn (getD os e 0) ≡ false
 
 -- a task's losses stand at its rank, and an ISR has none; ls: the losses by rank
 pub record Lost (c : Config) (rk : ℕ → ℕ) (ls : List ℕ) (bs : List Body) : Type 0 where
@@ -200,5 +201,5 @@ pub record Sim (c : Config) (p : Plan) (rk : ℕ → ℕ) (m : Model) (s : State
   pub chain : List ℕ
   pub tied : Tied c rk m (s .bodies) chain
   pub calm : Calm c (m .core .level) (s .bodies)
-  pub timed : Timed c p (m .counter) (m .on) (s .tables)
+  pub timed : Timed c p (m .counter) (m .on) (m .turning) (s .tables)
   pub lost : Lost c rk (m .losses) (s .bodies)

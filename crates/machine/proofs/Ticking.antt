@@ -3,7 +3,7 @@
 use Prim.Native.Nat.{ℕ, suc, _+_, _≤_, _<_}
 use mathlib.Core.Path.{_≡_, refl, sym, ap, ap₂, _∙_}
 use mathlib.Core.Logic.{_≢_}
-use mathlib.Core.Bool.{Bool, true, false, true≢false, not, _||_}
+use mathlib.Core.Bool.{Bool, true, false, true≢false, not, _&&_, _||_}
 use mathlib.Core.List.{List, [], _∷_, map}
 use native.Mathlib.Omega.{arith}
 use lib.ListN.{length, getD, set, drop, length-set, length-map}
@@ -24,8 +24,8 @@ use Rattle.scheduler.specs.Scheduler.{Tick, step}
 use Rattle.scheduler.proofs.Changing.{tables-ticked}
 use Rattle.machine.specs.Model.{Model, withCore, withRequest, withRest}
 use Rattle.machine.specs.Arbiter.{settled}
-use Rattle.machine.specs.Cells.{Due, oneMore, matchAt, requestsDue, countersTicked}
-use Rattle.machine.specs.Events.{marksOf, dueOf, ticking, tickedOnce}
+use Rattle.machine.specs.Cells.{Due, oneMore, matchAt, requestsDue, countersTicked, someTurn}
+use Rattle.machine.specs.Events.{marksOf, dueOf, switchesOf, ticking, tickedOnce}
 use Rattle.machine.specs.Machine.{machineStep, matched}
 use Rattle.machine.proofs.Simulation.{Fitted, at, Tied, Lost, Sim}
 use Rattle.machine.proofs.Standing.{by-phase}
@@ -53,7 +53,7 @@ entries-from c rk rs ts (b ∷ ms) e h k each =
 
 -- the model with other requests and losses
 abbrev withDue : Model → Due → Model
-withDue m x = withRest (withCore m (withRequest (m .core) (x .request))) (m .counter) (m .on) (x .losses)
+withDue m x = withRest (withCore m (withRequest (m .core) (x .request))) (m .counter) (m .on) (m .turning) (x .losses)
 
 module _ (c : Config) (p : Plan) (rk : ℕ → ℕ) (fit : Fitted c p rk) (ch : List ℕ) where
   -- what is owed after some entries
@@ -105,7 +105,7 @@ module _ (c : Config) (p : Plan) (rk : ℕ → ℕ) (fit : Fitted c p rk) (ch : 
     match-owed =
         by-phase (at bs t .phase)
         (λ s n. rw (busy-is, s) (record {
-          tied = elsewhere c rk _ _ ch (woken-tied c rk (withDue m x) bs ch (owed .tied) p fit t exists n) (m .counter) (m .on) (x .losses);
+          tied = elsewhere c rk _ _ ch (woken-tied c rk (withDue m x) bs ch (owed .tied) p fit t exists n) (m .counter) (m .on) (m .turning) (x .losses);
           lost = lost-same c rk (x .losses) bs (set bs t (become ready (at bs t))) (kept (λ y. y .losses) (become ready) (λ y. refl) bs t) (owed .lost);
         }))
         (λ a n. loss a)
@@ -113,7 +113,7 @@ module _ (c : Config) (p : Plan) (rk : ℕ → ℕ) (fit : Fitted c p rk) (ch : 
       where
         loss : isSuspended (at bs t .phase) ≡ false → Owed m (matchAt (m .core .started) (rk t) x) (changing t activatedByEntry s)
         loss a = rw (busy-is, a) (record {
-          tied = elsewhere c rk (withDue m x) (set bs t (loses (at bs t))) ch (lost-tied c rk (withDue m x) bs ch (owed .tied) p fit t exists) (m .counter) (m .on) (set (x .losses) (rk t) (oneMore (getD (x .losses) (rk t) 0)));
+          tied = elsewhere c rk (withDue m x) (set bs t (loses (at bs t))) ch (lost-tied c rk (withDue m x) bs ch (owed .tied) p fit t exists) (m .counter) (m .on) (m .turning) (set (x .losses) (rk t) (oneMore (getD (x .losses) (rk t) 0)));
           lost = losing;
         })
 
@@ -134,7 +134,7 @@ module _ (c : Config) (p : Plan) (rk : ℕ → ℕ) (fit : Fitted c p rk) (m : M
   ms = dues c (counted s)
 
   marks-are : marksOf (p .count) (p .compare) m ≡ ms
-  marks-are = marks-due c p rk fit (m .counter) (m .on) (s .tables) (sim .timed)
+  marks-are = marks-due c p rk fit (m .turning) (m .counter) (m .on) (s .tables) (sim .timed)
 
   tables-counted : length (map counting (s .tables)) ≡ c .tables
   tables-counted = length-map (s .tables) counting ∙ sim .timed .tables-long
@@ -152,11 +152,11 @@ module _ (c : Config) (p : Plan) (rk : ℕ → ℕ) (fit : Fitted c p rk) (m : M
   owed : Owed c p rk fit (sim .chain) m (requestsDue (m .core .started) ms (p .entry) (record { request = m .core .request; losses = m .losses })) (Plain.ticked c s)
   owed =
       due-owed c p rk fit (sim .chain) m ms (p .entry) (c .task) entries (record { request = m .core .request; losses = m .losses }) (counted s)
-      (record { tied = elsewhere c rk m (s .bodies) (sim .chain) (sim .tied) (m .counter) (m .on) (m .losses); lost = sim .lost })
+      (record { tied = elsewhere c rk m (s .bodies) (sim .chain) (sim .tied) (m .counter) (m .on) (m .turning) (m .losses); lost = sim .lost })
 
   due-is : dueOf (p .compare) (p .entry) m ≡ requestsDue (m .core .started) ms (p .entry) (record { request = m .core .request; losses = m .losses })
   due-is =
-      due-first-cells (p .compare) (m .on) (p .count) (omega (arith, fit .count-is, fit .few-entries))
+      due-first-cells (m .turning) (p .compare) (m .on) (p .count) (omega (arith, fit .count-is, fit .few-entries))
       (λ i h. sim .timed .spare i (omega (arith, fit .count-is)))
       (m .core .started) (m .counter) (p .entry) (record { request = m .core .request; losses = m .losses })
       ∙ ap (λ (l : List Bool). requestsDue (m .core .started) l (p .entry) (record { request = m .core .request; losses = m .losses })) marks-are
@@ -165,7 +165,8 @@ module _ (c : Config) (p : Plan) (rk : ℕ → ℕ) (fit : Fitted c p rk) (m : M
   ticked-tied =
       rw due-is
       (elsewhere c rk _ (Plain.ticked c s .bodies) (sim .chain) (owed .tied)
-      (countersTicked maxEntries 0 (p .compare) (m .on) (m .counter)) (m .on) (requestsDue (m .core .started) ms (p .entry) (record { request = m .core .request; losses = m .losses }) .losses))
+      (countersTicked maxEntries 0 (m .turning) (p .compare) (m .on) (m .counter)) (switchesOf (p .compare) m)
+      (m .turning && someTurn maxEntries 0 (switchesOf (p .compare) m)) (requestsDue (m .core .started) ms (p .entry) (record { request = m .core .request; losses = m .losses }) .losses))
 
   pub agrees-tick : Agrees c p rk fit m s Tick
   unfolding machineStep tickedOnce step matched
@@ -173,5 +174,5 @@ module _ (c : Config) (p : Plan) (rk : ℕ → ℕ) (fit : Fitted c p rk) (m : M
       agrees c p rk fit m s Tick (settled (p .priority) (ticking (p .compare) (p .entry) m)) done ms (Plain.ticked c s) refl refl refl marks-are
       (settled-tied c p rk fit (ticking (p .compare) (p .entry) m) (Plain.ticked c s) (sim .chain) ticked-tied)
       (ticked-tied .size)
-      (rw (tables-ticked c s) (ticked-timed c p rk fit (m .counter) (m .on) (s .tables) (sim .timed)))
+      (rw (tables-ticked c s) (ticked-timed c p rk fit (m .turning) (m .counter) (m .on) (s .tables) (sim .timed)))
       (rw due-is (owed .lost))

@@ -26,8 +26,8 @@ use Rattle.machine.proofs.Chains.{Alike, levelsFor-alike, chained-alike
 use Rattle.machine.proofs.Standing.{waits-same}
 
 module _ (c : Config) (rk : ℕ → ℕ) (m : Model) (bs : List Body) (ch : List ℕ) (t : Tied c rk m bs ch) where
-  pub elsewhere : (ns os ls : List ℕ) → Tied c rk (withRest m ns os ls) bs ch
-  elsewhere ns os ls =
+  pub elsewhere : (ns os : List ℕ) (w : Bool) (ls : List ℕ) → Tied c rk (withRest m ns os w ls) bs ch
+  elsewhere ns os w ls =
       record {
         size = t .size;
         words = t .words;

@@ -5,7 +5,7 @@ use mathlib.Core.Bool.{Bool, true, false, not, _&&_, _||_}
 use mathlib.Core.List.{List, [], _∷_}
 use lib.Dec.{ltb, leb, eqb}
 use Rattle.config.specs.declared.Config.{Config}
-use Rattle.config.specs.Meaning.{isTask, isIsr, priorityOf, ceiling, largestOffset}
+use Rattle.config.specs.Meaning.{isTask, isIsr, priorityOf, ceiling, smallestOffset}
 use Rattle.scheduler.specs.Status.{callLevel, noSuch, limit, access, noFunction, holdsResource, alreadyRuns, badDelay, _gives_, firstOf}
 use Rattle.scheduler.specs.Body.{Phase, suspended, ready, started, isSuspended, Body, become, finished, requested, takes, gives-back}
 use Rattle.scheduler.specs.Choice.{isNobody}
@@ -102,7 +102,7 @@ lineStatus c s i = firstOf ((not (isIsr c i) gives noSuch) ∷ (requestWaits (bo
 abbrev pub line : ℕ → State → State
 line i s = changing i requested s
 
--- the largest sum of delay and offset
+-- the largest sum of the delay and the smallest offset
 abbrev pub longestDelay : ℕ
 longestDelay = 65535
 
@@ -112,7 +112,7 @@ startStatus c s t d =
     firstOf
     ((nobodyRuns c s gives callLevel) ∷
     (leb (c .tables) t gives noSuch) ∷
-    (eqb d 0 || ltb longestDelay (d + largestOffset c t) gives badDelay) ∷
+    (eqb d 0 || ltb longestDelay (d + smallestOffset c t) gives badDelay) ∷
     (isRunning (tableOf s t) gives alreadyRuns) ∷
     [])
 
