@@ -30,6 +30,7 @@ view m =
       raised = m .raised;
       counter = m .counter;
       on = m .on;
+      turning = m .turning;
       losses = m .losses;
     }
 
@@ -45,6 +46,7 @@ modelOf m =
       raised = m .raised;
       counter = m .counter;
       on = m .on;
+      turning = m .turning;
       losses = m .losses;
     }
 

@@ -1,21 +1,28 @@
--- `tick` meets its contract: the cells, then the matches in table order, then arbitration.
+-- `tick` meets its contract: the switches where a turn may pass, the cells, then the matches in table order, then arbitration.
 -- Assumes nothing.
+use mathlib.Core.Logic.{⊎-elim}
 use mathlib.Core.Path.{ap, _∙_}
 use Rattle.config.specs.Value.{maxEntries}
 use Rattle.kernel.specs.View.{view, viewCore, viewPicked, outcomeOf}
-use Rattle.kernel.proofs.Methods.Tables.{length-marks, tick-done}
+use Rattle.kernel.proofs.Methods.Tables.{length-marks, turning-switches, turning-turns, still-switches, still-turns, tick-done}
 use borrow.Author.Needs.{needs}
 use Rattle.kernel.proofs.model.Model.tick.Statement.{statement}
 use Rattle.kernel.proofs.model.Model.tick.Tie as tie
+
+tick-switches-requires : tie.Need-tick-switches-requires
+tick-switches-requires c κs = search needs
+
+some-turn-requires : tie.Need-some-turn-requires
+some-turn-requires c κs = search needs
 
 tick-cells-requires : tie.Need-tick-cells-requires
 tick-cells-requires c κs = search needs
 
 take-matches-requires : tie.Need-take-matches-requires
 take-matches-requires c κs =
-    let c₁ = c .before .before in let c₂ = c₁ .before .before .before .before .before .before .before in
+    let c₁ = c .before .before in let c₂ = c₁ .before .before .before .before .before .before .before .before in
     let a = c₂ .args in
-    rw (c₁ .tick-cells .ensures .0) (length-marks maxEntries 0 (a .compare .now) (a .self .on) (a .self .counter))
+    rw (c₁ .tick-cells .ensures .0) (length-marks maxEntries 0 (a .self .turning) (a .compare .now) (a .self .on) (a .self .counter))
 
 asking-requires : tie.Need-asking-requires
 asking-requires c κs = search needs
@@ -35,16 +42,27 @@ with-frames-requires c κs = search needs
 returns : tie.Need-returns
 returns c =
     let c₁ = c .before in let c₂ = c₁ .before in let c₃ = c₂ .before in let c₄ = c₃ .before in let c₅ = c₄ .before in
-    let c₆ = c₅ .before .before .before in let c₇ = c₆ .before .before .before .before .before .before .before in
-    let a = c₇ .args in
-    (c .with-frames .ensures)
+    let c₆ = c₅ .before .before .before in let c₇ = c₆ .before .before .before in let c₈ = c₇ .before .before .before .before .before in
+    let a = c₈ .args in
+    ⊎-elim
+    (λ w.
+    (rw (w .6) at (c .with-frames .ensures))
     ∙ ap outcomeOf (tick-done (a .compare .now) (a .entry-rank .now) (a .priority .now) (view (a .self)) (c₆ .tick-cells .ensures .0) (c₆ .tick-cells .ensures .1)
-    (c₅ .take-matches .ensures) (ap viewCore (c₄ .asking .ensures)) (ap viewPicked (c₃ .arbitrated .ensures)) (c₂ .laid .ensures) (c₁ .laid2 .ensures))
+    (turning-switches (a .compare .now) (view (a .self)) (w .0 .taken) (w .3 .ensures)) (turning-turns (a .compare .now) (view (a .self)) (w .0 .taken) (w .3 .ensures) (w .5 .ensures))
+    (c₅ .take-matches .ensures) (ap viewCore (c₄ .asking .ensures)) (ap viewPicked (c₃ .arbitrated .ensures)) (rw (w .6) at (c₂ .laid .ensures)) (rw (w .6) at (c₁ .laid2 .ensures))))
+    (λ w.
+    (rw (w .1) at (c .with-frames .ensures))
+    ∙ ap outcomeOf (tick-done (a .compare .now) (a .entry-rank .now) (a .priority .now) (view (a .self)) (c₆ .tick-cells .ensures .0) (c₆ .tick-cells .ensures .1)
+    (still-switches (a .compare .now) (view (a .self)) (w .0 .left)) (still-turns (a .compare .now) (view (a .self)) (w .0 .left))
+    (c₅ .take-matches .ensures) (ap viewCore (c₄ .asking .ensures)) (ap viewPicked (c₃ .arbitrated .ensures)) (rw (w .1) at (c₂ .laid .ensures)) (rw (w .1) at (c₁ .laid2 .ensures))))
+    (c₇ .if1 .came)
 
 pub tick-spec : {M : Type 1} → statement M
 tick-spec =
     tie.close
     (tie.spec
+    tick-switches-requires
+    some-turn-requires
     tick-cells-requires
     take-matches-requires
     asking-requires
