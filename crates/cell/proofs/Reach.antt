@@ -1,9 +1,10 @@
 -- How many additions of 1 bring a counter of any modulus M to the compare value k: from the start counter for D it is the D-th, and none
--- before it, for D from 1 to M (`reaches-start`). So the counter that a match leaves is a period before the next. Assumes nothing.
+-- before it, for D from 1 to M (`reaches-start`). So the counter that a match leaves is a period before the next, and one that stands at
+-- the compare value a turn. Assumes nothing.
 use Prim.Native.Nat.{ℕ, zero, suc, _+_, _-_, _%_, _≤_, _<_}
 use mathlib.Core.Logic.{_≢_}
 use mathlib.Core.Path.{_≡_, sym, ap, _∙_}
-use native.Mathlib.Nat.{mod-lt, mod-eq-of-lt, mod-add-mod, add-mod-right}
+use native.Mathlib.Nat.{mod-lt, mod-eq-of-lt, mod-add-mod, add-mod-right, mod-eq-sub-mod}
 use native.Mathlib.Omega.{arith}
 use Rattle.cell.specs.Cell.{startCounterIn, sumIn, sumsIn, resetIn}
 use Rattle.cell.proofs.Modulo.{minus-plus, minus-unique, turn-apart}
@@ -56,7 +57,14 @@ module _ (M k : ℕ) where
             ∙ sym (sums-add M D _ below)
             ∙ at-D)
 
+    pub turn-start : k ≡ startCounterIn M k M
+    turn-start = minus-unique k M fits (add-mod-right k M)
+
     pub reset-start : resetIn M ≡ startCounterIn M k (k + 1)
     reset-start =
         let e : M - 1 + (k + 1) ≡ k + M = omega arith in
         minus-unique k (k + 1) (omega arith) (ap (λ s. s % M) e ∙ add-mod-right k M)
+
+-- a turn more before the compare value is reached starts at the same counter
+pub start-later : (M k D : ℕ) → M ≤ D → startCounterIn M k D ≡ startCounterIn M k (D - M)
+start-later M k D more = ap (λ r. (k + (M - r)) % M) (mod-eq-sub-mod more)

@@ -6,7 +6,7 @@
 ghost use mathlib.Core.Path.{_≡_};
 ghost use mathlib.Core.Bool.{true, false};
 ghost use Prim.Native.Nat.{_+_};
-ghost use Rattle.cell.specs.Cell.{cellOf, unmarked, startCounter, startCell, ticked, stopped};
+ghost use Rattle.cell.specs.Cell.{cellOf, unmarked, startCounter, long, startCell, ticked, stopped};
 
 pub mod row;
 
@@ -19,6 +19,8 @@ pub struct Cell {
     pub on: bool,
     // The match mark, or service request of the compare LTC: whether the last tick brought the counter to the compare value.
     pub matched: bool,
+    // No register but a flag beside them: whether a turn of the counter, 65,536 ticks, must pass unmatched.
+    pub turn: bool,
 }
 
 // A match sets the counter register to 65,535 and not to 0: the next tick wraps it to 0, so no period is a tick short.
@@ -32,24 +34,32 @@ fn start_counter(compare: u16, delay: u16, offset: u16) -> u16
     std::num::wrapping_sub_u16(delayed, offset)
 }
 
+// Whether the first match is more than a turn of the counter ahead.
+pub fn is_long(delay: u16, offset: u16) -> bool
+    ensures { λ r. ⌜ r ≡ long (delay + offset) ⌝ }
+{
+    65536 < delay as u32 + offset as u32
+}
+
 impl Cell {
     // The only place where the struct is written.
-    fn make(counter: u16, compare: u16, on: bool, matched: bool) -> Cell
-        ensures { λ r. ⌜ r ≡ cellOf counter compare on matched ⌝ }
+    fn make(counter: u16, compare: u16, on: bool, matched: bool, turn: bool) -> Cell
+        ensures { λ r. ⌜ r ≡ cellOf counter compare on matched turn ⌝ }
     {
         Cell {
             counter,
             compare,
             on,
             matched,
+            turn,
         }
     }
 
     // A cell of plain numbers, for whoever keeps cells as parallel arrays.
-    pub fn of(counter: u16, compare: u16, on: bool) -> Cell
-        ensures { λ r. ⌜ r ≡ unmarked counter compare on ⌝ }
+    pub fn of(counter: u16, compare: u16, on: bool, turn: bool) -> Cell
+        ensures { λ r. ⌜ r ≡ unmarked counter compare on turn ⌝ }
     {
-        Cell::make(counter, compare, on, false)
+        Cell::make(counter, compare, on, false, turn)
     }
 
     // The cell of an entry at `offset` of a table with this period, started with `delay`: its first match is `delay + offset` ticks ahead,
@@ -59,7 +69,7 @@ impl Cell {
     {
         let compare = std::num::wrapping_sub_u16(period, 1);
         let counter = start_counter(compare, delay, offset);
-        Cell::of(counter, compare, true)
+        Cell::of(counter, compare, true, is_long(delay, offset))
     }
 
     pub fn tick(self) -> Cell
@@ -71,14 +81,16 @@ impl Cell {
         } else {
             self.counter
         };
-        let matched = self.on && counter == compare;
+        let reached = self.on && counter == compare;
+        let matched = reached && !self.turn;
         let next = if matched { RESET } else { counter };
-        Cell::make(next, compare, self.on, matched)
+        let turn = self.turn && !reached;
+        Cell::make(next, compare, self.on, matched, turn)
     }
 
     pub fn stop(self) -> Cell
         ensures { λ r. ⌜ r ≡ stopped self ⌝ }
     {
-        Cell::of(0, self.compare, false)
+        Cell::of(0, self.compare, false, false)
     }
 }

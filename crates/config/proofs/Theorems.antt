@@ -3,10 +3,10 @@
 -- In order: what every reading satisfies, and every accepted value; both round trips; which values the writer accepts; what stands past the counts;
 -- that the fuel of the definitions is enough.
 -- Assumes nothing.
-use Prim.Native.Nat.{ℕ, suc, _+_, _≤_, _<_}
+use Prim.Native.Nat.{ℕ, zero, suc, _+_, _-_, _≤_, _<_}
 use mathlib.Core.Path.{_≡_}
 use mathlib.Core.List.{List}
-use mathlib.Core.Logic.{_↔_, _⊎_}
+use mathlib.Core.Logic.{_↔_, _⊎_, ⊎-elim}
 use native.Mathlib.Omega.{arith}
 use lib.ListN.{length, getD}
 use Rattle.number.specs.Refusal.{none}
@@ -15,7 +15,7 @@ use Rattle.config.specs.declared.Config.{Config}
 use Rattle.config.specs.declared.ConfigRead.{ConfigRead}
 use Rattle.config.specs.Refusal.{tooLong}
 use Rattle.config.specs.Value.{noConfig}
-use Rattle.config.specs.Meaning.{firstOf}
+use Rattle.config.specs.Meaning.{firstOf, smallestOffset}
 use Rattle.config.specs.Draft.{start}
 use Rattle.config.specs.Reader.{accepted, readFrom, readConfig}
 use Rattle.config.specs.Writer.{maxNumbers, faultFrom, firstFault, bytesFrom, configBytes, writeConfig, wroteConfig}
@@ -59,6 +59,22 @@ pub entries-in-order : (c : Config) → Accepted c → (t e : ℕ) → t < c .ta
     ⊎ ((getD (c .offset) e 0 ≡ getD (c .offset) (e + 1) 0) × (getD (c .task) e 0 < getD (c .task) (e + 1) 0))
 entries-in-order c a t e p q r =
     Tables.rises-true (getD (c .offset) e 0) (getD (c .task) e 0) (getD (c .offset) (e + 1) 0) (getD (c .task) (e + 1) 0) (a .entries-rise t e p q r)
+
+-- so no offset of a table is below its smallest, the first entry's
+pub smallest-least : (c : Config) → Accepted c → (t e : ℕ) → t < c .tables → firstOf c t ≤ e → e < firstOf c (suc t)
+    → smallestOffset c t ≤ getD (c .offset) e 0
+smallest-least c a t e t< low high = let q : firstOf c t + (e - firstOf c t) ≡ e = omega arith in rw q at (go (e - firstOf c t) (omega arith))
+  where
+    go : (k : ℕ) → firstOf c t + k < firstOf c (suc t) → smallestOffset c t ≤ getD (c .offset) (firstOf c t + k) 0
+    go zero h = let q : firstOf c t + 0 ≡ firstOf c t = omega arith in rw q (omega arith)
+    go (suc k) h =
+        let q : firstOf c t + suc k ≡ firstOf c t + k + 1 = omega arith in
+        let before = go k (omega arith) in
+        rw q
+        (⊎-elim
+        (λ (less : getD (c .offset) (firstOf c t + k) 0 < getD (c .offset) (firstOf c t + k + 1) 0). omega arith)
+        (λ same. omega (arith, same .0))
+        (entries-in-order c a t (firstOf c t + k) t< (omega arith) (omega arith)))
 
 pub entry-of-task : (c : Config) → Accepted c → (e : ℕ) → e < firstOf c (c .tables)
     → (getD (c .task) e 0 < c .bodies) × (getD (c .kind) (getD (c .task) e 0) 0 ≡ 0)

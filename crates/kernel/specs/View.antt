@@ -36,6 +36,7 @@ view m =
       raised = m .raised;
       counter = m .counter;
       on = m .on;
+      turning = m .turning;
       losses = m .losses;
     }
 
@@ -52,6 +53,7 @@ modelOf m =
       raised = m .raised;
       counter = m .counter;
       on = m .on;
+      turning = m .turning;
       losses = m .losses;
     }
 

@@ -62,8 +62,10 @@ pub struct Model {
     pub resource: Row,
     pub holder: Row,
     pub raised: Row,
+    // The cells by entry: their counters and switches, and whether any of them has a turn of its counter to pass.
     pub counter: [u16; 64],
     pub on: [u16; 64],
+    pub turning: bool,
     pub losses: [u16; 32],
 }
 

@@ -66,7 +66,6 @@ pub fn play<'a, 'b>(
                 o = o.model.start(
                     config.tables,
                     &plan.first,
-                    &plan.largest,
                     &config.entries,
                     &config.period,
                     &config.offset,

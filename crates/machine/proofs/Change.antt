@@ -5,5 +5,6 @@ pub mod Hold
 pub mod Get
 pub mod Release
 pub mod Matches
+pub mod Turns
 pub mod Ticks
 pub mod Cells

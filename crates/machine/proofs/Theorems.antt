@@ -65,7 +65,7 @@ refused-same c p m Tick n = absurd (n refl)
 refused-same c p m (Line i) n =
     attempt-same m (lineStatus (p .line) m i) (settled (p .priority) (requesting (getD (p .line) i noRank) m)) refl n
 refused-same c p m (Start t d) n =
-    attempt-same m (startStatus (c .tables) (p .first) (p .largest) m t d)
+    attempt-same m (startStatus (c .tables) (p .first) (c .offset) m t d)
     (doneWith (starting (getD (c .entries) t 0) (getD (p .first) t 0) (getD (c .period) t 0) (c .offset) d m) false) refl n
 refused-same c p m (Stop t) n =
     attempt-same m (stopStatus (c .tables) (p .first) m t) (doneWith (stopping (getD (c .entries) t 0) (getD (p .first) t 0) m) false) refl n

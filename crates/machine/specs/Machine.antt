@@ -31,6 +31,7 @@ unstarted w =
       raised = emptyRow;
       counter = replicate 64 0;
       on = replicate 64 switchOff;
+      turning = false;
       losses = replicate 32 0;
     }
 
@@ -49,7 +50,7 @@ machineStep c p m (Get r) = got (c .resources) (p .ceiling) (p .priority) m r
 machineStep c p m (Release r) = released (c .resources) (p .priority) m r
 machineStep c p m Tick = tickedOnce (p .compare) (p .entry) (p .priority) m
 machineStep c p m (Line i) = lined (p .line) (p .priority) m i
-machineStep c p m (Start t d) = launched (c .tables) (p .first) (p .largest) (c .entries) (c .period) (c .offset) m t d
+machineStep c p m (Start t d) = launched (c .tables) (p .first) (c .entries) (c .period) (c .offset) m t d
 machineStep c p m (Stop t) = halted (c .tables) (p .first) (c .entries) m t
 
 -- the number of the body that runs

@@ -21,8 +21,8 @@ pub record Picked : Type 0 where
   pub begun : Bool
 
 -- What the machine keeps between events. `held`: the held resources as a word; `resource`, `holder`, `raised`: in the order taken, the
--- latest on top, each with its holder's rank and the level after its Get. `counter` and `on` are the cells, `losses` the lost activations
--- by rank.
+-- latest on top, each with its holder's rank and the level after its Get. `counter` and `on` are the cells, and `turning` says whether any of
+-- them has a turn of its counter to pass; `losses` are the lost activations by rank.
 pub record Model : Type 0 where
   pub core : Core
   pub held : ℕ
@@ -31,6 +31,7 @@ pub record Model : Type 0 where
   pub raised : Row
   pub counter : List ℕ
   pub on : List ℕ
+  pub turning : Bool
   pub losses : List ℕ
 
 -- the next model with its answer
@@ -53,6 +54,7 @@ withCore m k =
       raised = m .raised;
       counter = m .counter;
       on = m .on;
+      turning = m .turning;
       losses = m .losses;
     }
 
@@ -74,12 +76,13 @@ withSlots m l w rs hs ls =
       raised = ls;
       counter = m .counter;
       on = m .on;
+      turning = m .turning;
       losses = m .losses;
     }
 
--- other counters, switches and losses
-abbrev pub withRest : Model → List ℕ → List ℕ → List ℕ → Model
-withRest m ns os ls =
+-- other counters, switches with or without a turn to pass, and losses
+abbrev pub withRest : Model → List ℕ → List ℕ → Bool → List ℕ → Model
+withRest m ns os w ls =
     record {
       core = m .core;
       held = m .held;
@@ -88,11 +91,12 @@ withRest m ns os ls =
       raised = m .raised;
       counter = ns;
       on = os;
+      turning = w;
       losses = ls;
     }
 
-abbrev pub withCells : Model → List ℕ → List ℕ → Model
-withCells m ns os = withRest m ns os (m .losses)
+abbrev pub withCells : Model → List ℕ → List ℕ → Bool → Model
+withCells m ns os w = withRest m ns os w (m .losses)
 
 -- an event that is done, and one that is refused with a status
 abbrev pub doneWith : Model → Bool → Outcome

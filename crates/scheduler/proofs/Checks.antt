@@ -10,7 +10,7 @@ use native.Mathlib.Omega.{arith}
 use borrow.Author.Tests.{leb-false, ltb-false, eqb-false, ne-eqb, not-false}
 use lib.Dec.{ltb, eqb}
 use Rattle.config.specs.declared.Config.{Config}
-use Rattle.config.specs.Meaning.{isTask, isIsr, priorityOf, ceiling, largestOffset}
+use Rattle.config.specs.Meaning.{isTask, isIsr, priorityOf, ceiling, smallestOffset}
 use Rattle.scheduler.specs.Status.{Check, done, firstGiven, NoneFails}
 use Rattle.scheduler.specs.Body.{Phase, suspended, ready, started, isSuspended}
 use Rattle.scheduler.specs.State.{State, isRunning, bodyOf, tableOf, heldIn}
@@ -142,11 +142,11 @@ module _ (c : Config) (s : State) where
 
   -- t is a table that doesn't run, and the delays fit
   pub start-passed : (t d : ℕ) → startStatus c s t d ≡ done
-      → (nobodyRuns c s ≡ false) × (t < c .tables) × (d ≢ 0) × (d + largestOffset c t ≤ longestDelay) × (isRunning (tableOf s t) ≡ false)
+      → (nobodyRuns c s ≡ false) × (t < c .tables) × (d ≢ 0) × (d + smallestOffset c t ≤ longestDelay) × (isRunning (tableOf s t) ≡ false)
   start-passed t d e =
       let p = all-passed _ (omega arith) e in
-      let q = neither (eqb d 0) (ltb longestDelay (d + largestOffset c t)) (p .1 .1 .0) in
-      (p .0, leb-false (c .tables) t (p .1 .0), eqb-false d 0 (q .0), ltb-false longestDelay (d + largestOffset c t) (q .1), p .1 .1 .1 .0)
+      let q = neither (eqb d 0) (ltb longestDelay (d + smallestOffset c t)) (p .1 .1 .0) in
+      (p .0, leb-false (c .tables) t (p .1 .0), eqb-false d 0 (q .0), ltb-false longestDelay (d + smallestOffset c t) (q .1), p .1 .1 .1 .0)
 
   -- t is a table that runs
   pub stop-passed : (t : ℕ) → stopStatus c s t ≡ done → (nobodyRuns c s ≡ false) × (t < c .tables) × (isRunning (tableOf s t) ≡ true)

@@ -73,8 +73,8 @@ pub record Examples : Type 0 where
   -- no such resource and table: 3 before 1, 5 and 8; 5 for a resource that nobody holds; and 8 before 7
   pub id-before-others : rows sample (Get 9 ∷ Release 9 ∷ Release 0 ∷ Start 9 0 ∷ Stop 9 ∷ Start 0 1 ∷ Start 0 0 ∷ [])
       ≡ row 3 0 4 0 ∷ row 3 0 4 0 ∷ row 5 0 4 0 ∷ row 3 0 4 0 ∷ row 3 0 4 0 ∷ row 0 0 4 0 ∷ row 8 0 4 0 ∷ []
-  -- delay and largest offset, 2 and 0, are 65,535 together, or one more
-  pub longest-delay : rows sample (Start 0 65534 ∷ Start 0 65533 ∷ Start 1 65536 ∷ Start 1 65535 ∷ [])
+  -- delay and smallest offset, 0, are 65,535 together, or one more; the offset 2 of table 0 has no part in it
+  pub longest-delay : rows sample (Start 0 65536 ∷ Start 0 65535 ∷ Start 1 65536 ∷ Start 1 65535 ∷ [])
       ≡ row 8 0 4 0 ∷ row 0 0 4 0 ∷ row 8 0 4 0 ∷ row 0 0 4 0 ∷ []
   -- own priority 4 at level 9: below, at and above the ceilings 6, 4 and 2; then one that it holds already, and Release in the order taken
   pub get-by-own-priority : rows sample (Get 3 ∷ Get 0 ∷ Get 2 ∷ Get 1 ∷ Get 0 ∷ Release 0 ∷ Release 2 ∷ Release 0 ∷ Release 3 ∷ [])

@@ -11,7 +11,7 @@ use mathlib.Core.Bool.{Bool, true, false, not, _&&_, _||_}
 use mathlib.Core.List.{List, [], _∷_}
 use lib.Dec.{ltb, leb, eqb}
 use Rattle.config.specs.declared.Config.{Config}
-use Rattle.config.specs.Meaning.{isTask, isIsr, priorityOf, ceiling, largestOffset}
+use Rattle.config.specs.Meaning.{isTask, isIsr, priorityOf, ceiling, smallestOffset}
 use Rattle.scheduler.specs.Status.{Check, callLevel, noSuch, limitReached, access, noFunction, holdsResource, alreadyRuns, badDelay, _gives_, firstGiven}
 use Rattle.scheduler.specs.Body.{Phase, suspended, ready, started, isSuspended, Body, become, finished, requested, gets, releases}
 use Rattle.scheduler.specs.Choice.{isNobody}
@@ -50,7 +50,7 @@ requestWaits b suspended = false
 requestWaits b ready = true
 requestWaits b started = b .pending
 
--- the largest sum of delay and offset
+-- the largest sum of the delay and the smallest offset
 abbrev pub longestDelay : ℕ
 longestDelay = 65535
 
@@ -79,7 +79,7 @@ checksOf c s (Line i) = (not (isIsr c i) gives noSuch) ∷ (requestWaits (bodyOf
 checksOf c s (Start t d) =
     (nobodyRuns c s gives callLevel) ∷
     (leb (c .tables) t gives noSuch) ∷
-    (eqb d 0 || ltb longestDelay (d + largestOffset c t) gives badDelay) ∷
+    (eqb d 0 || ltb longestDelay (d + smallestOffset c t) gives badDelay) ∷
     (isRunning (tableOf s t) gives alreadyRuns) ∷
     []
 checksOf c s (Stop t) =

@@ -37,7 +37,7 @@ holdsResource = 6
 abbrev pub alreadyRuns : ℕ
 alreadyRuns = 7
 
--- E_OS_VALUE: "d is 0, or d plus the table's largest offset is above 65,535"
+-- E_OS_VALUE: "d is 0, or d plus the smallest offset is above 65,535"
 abbrev pub badDelay : ℕ
 badDelay = 8
 

@@ -70,7 +70,7 @@ module _ (c : Config) (p : Plan) (m : Model) (e : Event) where
   unfolding callOf machineStep
   step-7 h = rw h
 
-  pub step-8 : e .code ≡ 8 → machineStep c p m (callOf e) ≡ launched (c .tables) (p .first) (p .largest) (c .entries) (c .period) (c .offset) m (e .first) (e .second)
+  pub step-8 : e .code ≡ 8 → machineStep c p m (callOf e) ≡ launched (c .tables) (p .first) (c .entries) (c .period) (c .offset) m (e .first) (e .second)
   unfolding callOf machineStep
   step-8 h = rw h
 

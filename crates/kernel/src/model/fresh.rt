@@ -25,6 +25,7 @@ impl Model {
             raised: Row::empty(),
             counter: [0u16; 64],
             on: [OFF; 64],
+            turning: false,
             losses: [0u16; 32],
         }
     }

@@ -20,12 +20,13 @@ use super::NO_SUCH;
 use super::Outcome;
 use super::arbiter::arbitrated;
 use super::cells::OFF;
-use super::cells::ON;
-use super::cells::start_counters;
+use super::cells::some_turn;
+use super::cells::start_cells;
 use super::cells::stop_counters;
 use super::cells::switch;
 use super::cells::take_matches;
 use super::cells::tick_cells;
+use super::cells::tick_switches;
 use super::lookup::byte_at;
 use super::lookup::short_at;
 
@@ -38,18 +39,23 @@ impl Model {
     ) -> Outcome
         ensures { λ r. ⌜ r ≡ outcomeOf (tickedOnce (now (compare .entry)) (now («entry_rank» .entry)) (now (priority .entry)) (view self)) ⌝ }
     {
+        let started = self.started;
+        let asked = self.request;
+        let runner = self.runner;
+        let level = self.level;
+        let turning = self.turning;
         let mut losses = self.losses;
         let on = self.on;
         let mut counter = self.counter;
-        let matched = tick_cells(compare, &on, &mut counter);
-        let request = take_matches(
-            &matched,
-            entry_rank,
-            self.started,
-            self.request,
-            &mut losses,
-        );
-        let picked = arbitrated(request, self.started, self.runner, self.level, priority);
+        if turning {
+            let mut next = on;
+            tick_switches(compare, &counter, &mut next);
+            self.turning = some_turn(&next);
+            self.on = next;
+        }
+        let matched = tick_cells(turning, compare, &on, &mut counter);
+        let request = take_matches(&matched, entry_rank, started, asked, &mut losses);
+        let picked = arbitrated(request, started, runner, level, priority);
         self.counter = counter;
         self.losses = losses;
         self.seated(picked)
@@ -59,7 +65,6 @@ impl Model {
         mut self,
         tables: u8,
         first: &'a [u8; 8],
-        largest: &'a [u16; 8],
         entries: &'a [u8; 8],
         period: &'a [u16; 8],
         offset: &'a [u16; 64],
@@ -67,7 +72,7 @@ impl Model {
         d: u32,
     ) -> Outcome
         requires { ⌜ Laid tables (now first) (now entries) ⌝ }
-        ensures { λ r. ⌜ r ≡ outcomeOf (launched tables (now (first .entry)) (now (largest .entry)) (now (entries .entry)) (now (period .entry)) (now (offset .entry)) (view self) t d) ⌝ }
+        ensures { λ r. ⌜ r ≡ outcomeOf (launched tables (now (first .entry)) (now (entries .entry)) (now (period .entry)) (now (offset .entry)) (view self) t d) ⌝ }
     {
         if self.runner == NO_RANK {
             return self.with_status(CALL_LEVEL);
@@ -76,20 +81,29 @@ impl Model {
             return self.with_status(NO_SUCH);
         }
         let i = t as usize;
-        let mut on = self.on;
-        if is_bad_delay(d, short_at(largest, i)) {
+        let from = byte_at(first, i, 0) as usize;
+        if is_bad_delay(d, short_at(offset, from)) {
             return self.with_status(BAD_DELAY);
         }
-        let from = byte_at(first, i, 0) as usize;
+        let mut on = self.on;
         if is_on(&on, from) {
             return self.with_status(ALREADY_RUNS);
         }
         let n = byte_at(entries, i, 0) as usize;
         let mut counter = self.counter;
-        start_counters(from, n, short_at(period, i), d as u16, offset, &mut counter);
-        switch(from, n, ON, &mut on);
+        let turning = start_cells(
+            self.turning,
+            from,
+            n,
+            short_at(period, i),
+            d as u16,
+            offset,
+            &mut counter,
+            &mut on,
+        );
         self.counter = counter;
         self.on = on;
+        self.turning = turning;
         self.with_status(DONE)
     }
 
@@ -129,12 +143,12 @@ impl Model {
 fn is_on(on: &[u16; 64], e: usize) -> bool
     ensures { λ r. ⌜ r ≡ isOn (getD (now (on .entry)) e 0) ⌝ }
 {
-    short_at(on, e) == ON
+    short_at(on, e) != OFF
 }
 
-// A delay of 0, or one with which the entry at the table's largest offset would be out of the counter's reach.
-fn is_bad_delay(d: u32, largest: u16) -> bool
-    ensures { λ r. ⌜ r ≡ eqb d 0 || ltb longestDelay (d + largest) ⌝ }
+// A delay of 0, or one that with the table's smallest offset is above 65,535.
+fn is_bad_delay(d: u32, smallest: u16) -> bool
+    ensures { λ r. ⌜ r ≡ eqb d 0 || ltb longestDelay (d + smallest) ⌝ }
 {
-    d == 0 || 65535 < d as u64 + largest as u64
+    d == 0 || 65535 < d as u64 + smallest as u64
 }

@@ -3,15 +3,16 @@
 --   laid f k e l   the list l with f i at each of the k places i from e on; the definitions of specs/Cells.antt are such lists
 --
 -- Assumes nothing.
-use Prim.Native.Nat.{ℕ, zero, suc, _+_, max, _≤_, _<_}
+use Prim.Native.Nat.{ℕ, zero, suc, _+_, _≤_, _<_}
 use mathlib.Core.Path.{_≡_, refl, _∙_}
-use mathlib.Core.List.{List, [], _∷_, foldr}
+use mathlib.Core.Bool.{true}
+use mathlib.Core.List.{List}
 use native.Mathlib.Omega.{arith}
 use lib.ListN.{length, getD, set, length-set}
 use lib.Seq.{getD-set-same, getD-set-other}
 use Rattle.number.proofs.Cases.{by-eq}
-use Rattle.cell.specs.Cell.{startCell}
-use Rattle.machine.specs.Cells.{countersStarted, countersStopped, switched}
+use Rattle.cell.specs.Cell.{long, startCell}
+use Rattle.machine.specs.Cells.{switchFor, countersStarted, switchesStarted, countersStopped, switched}
 
 module _ {ℓ} {A : Type ℓ} (f : ℕ → A) where
   unfoldable pub laid : ℕ → ℕ → List A → List A
@@ -51,6 +52,11 @@ unfolding countersStarted laid
 started-laid zero e P d os ns = refl
 started-laid (suc k) e P d os ns = started-laid k (suc e) P d os (set ns e (startCell P (d + getD os e 0) .counter))
 
+pub switches-laid : (k e d : ℕ) (qs os : List ℕ) → switchesStarted k e d qs os ≡ laid (λ i. switchFor true (long (d + getD qs i 0))) k e os
+unfolding switchesStarted laid
+switches-laid zero e d qs os = refl
+switches-laid (suc k) e d qs os = switches-laid k (suc e) d qs (set os e (switchFor true (long (d + getD qs e 0))))
+
 pub stopped-laid : (k e : ℕ) (ns : List ℕ) → countersStopped k e ns ≡ laid (λ _. 0) k e ns
 unfolding countersStopped laid
 stopped-laid zero e ns = refl
@@ -60,9 +66,3 @@ pub switched-laid : (k e x : ℕ) (os : List ℕ) → switched k e x os ≡ laid
 unfolding switched laid
 switched-laid zero e x os = refl
 switched-laid (suc k) e x os = switched-laid k (suc e) x (set os e x)
-
--- no number of a list is above its greatest
-pub greatest-le : (l : List ℕ) (i : ℕ) → getD l i 0 ≤ foldr max 0 l
-greatest-le [] i = omega arith
-greatest-le (x ∷ l) zero = omega arith
-greatest-le (x ∷ l) (suc i) = omega (arith, greatest-le l i)

@@ -35,8 +35,8 @@ waits-same x y ready e = refl
 waits-same x y started e = e
 
 module _ {c : Config} {rk : ℕ → ℕ} {m : Model} {bs : List Body} {ns : List ℕ} (t : Tied c rk m bs ns) where
-  pub elsewhere : (ks os ls : List ℕ) → Tied c rk (withRest m ks os ls) bs ns
-  elsewhere ks os ls =
+  pub elsewhere : (ks os : List ℕ) (w : Bool) (ls : List ℕ) → Tied c rk (withRest m ks os w ls) bs ns
+  elsewhere ks os w ls =
       record { size = t .size; words = t .words; nested = t .nested; seats = t .seats; slots = t .slots; loose = t .loose; apart = t .apart }
 
   module _ {p : Plan} (fit : Fitted c p rk) (b : ℕ) (b< : b < c .bodies) where

@@ -75,7 +75,7 @@ pub record Accepted (c : Config) (p : Plan) (rk : ℕ → ℕ) (o : Outcome) (s�
   pub status : o .status ≡ done
   pub arb : Arbitrated c p rk o (s′ .bodies) (dispatched c s′ .bodies)
   pub size : length (s′ .bodies) ≡ c .bodies
-  pub timed : Timed c p (o .model .counter) (o .model .on) (s′ .tables)
+  pub timed : Timed c p (o .model .counter) (o .model .on) (o .model .turning) (s′ .tables)
   pub lost : Lost c rk (o .model .losses) (s′ .bodies)
 
 -- the runner, body b of the nest, as both sides see it
@@ -142,7 +142,7 @@ module _ {c : Config} {p : Plan} {rk : ℕ → ℕ} (fit : Fitted c p rk) where
   module _ {m : Model} {s : State} (e : Event) (o : Outcome) (st : ℕ) (ds : List Bool) (s″ : State)
       (machine : machineStep c p m e ≡ o) (plain : step c s e ≡ ending c st ds s″) (status : o .status ≡ st) (due : matched p m e ≡ ds)
       (arb : Arbitrated c p rk o (s″ .bodies) (dispatched c s″ .bodies)) (size : length (s″ .bodies) ≡ c .bodies)
-      (timed : Timed c p (o .model .counter) (o .model .on) (s″ .tables)) (lost : Lost c rk (o .model .losses) (s″ .bodies)) where
+      (timed : Timed c p (o .model .counter) (o .model .on) (o .model .turning) (s″ .tables)) (lost : Lost c rk (o .model .losses) (s″ .bodies)) where
     pub agrees : Agrees c p rk m s e
     agrees =
         record {

@@ -3,7 +3,7 @@
 use Prim.Native.Nat.{ℕ, suc, _+_, _≤_, _<_}
 use mathlib.Core.Path.{_≡_, refl, sym, ap, ap₂, _∙_}
 use mathlib.Core.Logic.{_≢_}
-use mathlib.Core.Bool.{Bool, true, false, true≢false, not, _||_}
+use mathlib.Core.Bool.{Bool, true, false, true≢false, not, _&&_, _||_}
 use mathlib.Core.List.{List, [], _∷_, map}
 use native.Mathlib.Omega.{arith}
 use lib.ListN.{length, getD, set, drop, length-set, length-map}
@@ -24,8 +24,8 @@ use Rattle.scheduler.specs.Scheduler.{Tick, step}
 use Rattle.scheduler.proofs.Effects.{tables-ticked}
 use Rattle.machine.specs.Model.{Model, withCore, withRequest, withRest}
 use Rattle.machine.specs.Arbiter.{settled}
-use Rattle.machine.specs.Cells.{Due, oneMore, matchAt, requestsDue, countersTicked}
-use Rattle.machine.specs.Events.{marksOf, dueOf, ticking, tickedOnce}
+use Rattle.machine.specs.Cells.{Due, oneMore, matchAt, requestsDue, countersTicked, someTurn}
+use Rattle.machine.specs.Events.{marksOf, dueOf, switchesOf, ticking, tickedOnce}
 use Rattle.machine.specs.Machine.{machineStep, matched}
 use Rattle.machine.proofs.Relation.Fitted.{Fitted}
 use Rattle.machine.proofs.Relation.Words.{at, busy-is}
@@ -56,7 +56,7 @@ entries-from c rk rs ts (b ∷ ms) e h k each =
 
 -- the model with other requests and losses
 abbrev withDue : Model → Due → Model
-withDue m x = withRest (withCore m (withRequest (m .core) (x .request))) (m .counter) (m .on) (x .losses)
+withDue m x = withRest (withCore m (withRequest (m .core) (x .request))) (m .counter) (m .on) (m .turning) (x .losses)
 
 module _ {c : Config} {p : Plan} {rk : ℕ → ℕ} (fit : Fitted c p rk) (ns : List ℕ) where
   -- what is owed after some entries
@@ -93,7 +93,7 @@ module _ {c : Config} {p : Plan} {rk : ℕ → ℕ} (fit : Fitted c p rk) (ns : 
     match-owed =
         by-phase (at bs t .phase)
         (λ a n. rw (busy-is (owed .tied .words) t exists, a) (record {
-          tied = elsewhere (activate-tied (owed .tied) fit t exists n) (m .counter) (m .on) (x .losses);
+          tied = elsewhere (activate-tied (owed .tied) fit t exists n) (m .counter) (m .on) (m .turning) (x .losses);
           lost = lost-same (kept (λ y. y .losses) (become ready) (λ y. refl) bs t) (owed .lost);
         }))
         (λ a n. loss a)
@@ -101,7 +101,7 @@ module _ {c : Config} {p : Plan} {rk : ℕ → ℕ} (fit : Fitted c p rk) (ns : 
       where
         loss : isSuspended (at bs t .phase) ≡ false → Owed m (matchAt (m .core .started) (rk t) x) (changing t activatedByEntry s)
         loss a = rw (busy-is (owed .tied .words) t exists, a) (record {
-          tied = elsewhere (loss-tied (owed .tied) fit t exists) (m .counter) (m .on) (set (x .losses) (rk t) (oneMore (getD (x .losses) (rk t) 0)));
+          tied = elsewhere (loss-tied (owed .tied) fit t exists) (m .counter) (m .on) (m .turning) (set (x .losses) (rk t) (oneMore (getD (x .losses) (rk t) 0)));
           lost = losing;
         })
 
@@ -122,7 +122,7 @@ module _ {c : Config} {p : Plan} {rk : ℕ → ℕ} (fit : Fitted c p rk) {m : M
   ms = dues c (counted s)
 
   marks-are : marksOf (p .count) (p .compare) m ≡ ms
-  marks-are = marks-due c p rk fit (m .counter) (m .on) (s .tables) (sim .timed)
+  marks-are = marks-due c p rk fit (m .turning) (m .counter) (m .on) (s .tables) (sim .timed)
 
   tables-counted : length (map counting (s .tables)) ≡ c .tables
   tables-counted = length-map (s .tables) counting ∙ sim .timed .tables-long
@@ -140,11 +140,11 @@ module _ {c : Config} {p : Plan} {rk : ℕ → ℕ} (fit : Fitted c p rk) {m : M
   owed : Owed fit (sim .nest) m (requestsDue (m .core .started) ms (p .entry) (record { request = m .core .request; losses = m .losses })) (Plain.ticked c s)
   owed =
       due-owed fit (sim .nest) m ms (p .entry) (c .task) entries (record { request = m .core .request; losses = m .losses }) (counted s)
-      (record { tied = elsewhere (sim .tied) (m .counter) (m .on) (m .losses); lost = sim .lost })
+      (record { tied = elsewhere (sim .tied) (m .counter) (m .on) (m .turning) (m .losses); lost = sim .lost })
 
   due-is : dueOf (p .compare) (p .entry) m ≡ requestsDue (m .core .started) ms (p .entry) (record { request = m .core .request; losses = m .losses })
   due-is =
-      due-first-cells (p .compare) (m .on) (p .count) (omega (arith, fit .count-is, fit .few-entries))
+      due-first-cells (m .turning) (p .compare) (m .on) (p .count) (omega (arith, fit .count-is, fit .few-entries))
       (λ i h. sim .timed .spare i (omega (arith, fit .count-is)))
       (m .core .started) (m .counter) (p .entry) (record { request = m .core .request; losses = m .losses })
       ∙ ap (λ (l : List Bool). requestsDue (m .core .started) l (p .entry) (record { request = m .core .request; losses = m .losses })) marks-are
@@ -153,7 +153,8 @@ module _ {c : Config} {p : Plan} {rk : ℕ → ℕ} (fit : Fitted c p rk) {m : M
   ticked-tied =
       rw due-is
       (elsewhere (owed .tied)
-      (countersTicked maxEntries 0 (p .compare) (m .on) (m .counter)) (m .on) (requestsDue (m .core .started) ms (p .entry) (record { request = m .core .request; losses = m .losses }) .losses))
+      (countersTicked maxEntries 0 (m .turning) (p .compare) (m .on) (m .counter)) (switchesOf (p .compare) m)
+      (m .turning && someTurn maxEntries 0 (switchesOf (p .compare) m)) (requestsDue (m .core .started) ms (p .entry) (record { request = m .core .request; losses = m .losses }) .losses))
 
   pub agrees-tick : Agrees c p rk m s Tick
   unfolding machineStep tickedOnce step matched firstGiven
@@ -161,5 +162,5 @@ module _ {c : Config} {p : Plan} {rk : ℕ → ℕ} (fit : Fitted c p rk) {m : M
       agrees fit Tick (settled (p .priority) (ticking (p .compare) (p .entry) m)) done ms (Plain.ticked c s) refl refl refl marks-are
       (settled-tied fit (Plain.ticked c s) ticked-tied)
       (ticked-tied .size)
-      (rw (tables-ticked c s) (ticked-timed c p rk fit (m .counter) (m .on) (s .tables) (sim .timed)))
+      (rw (tables-ticked c s) (ticked-timed c p rk fit (m .turning) (m .counter) (m .on) (s .tables) (sim .timed)))
       (rw due-is (owed .lost))

@@ -6,7 +6,7 @@ use mathlib.Core.Bool.{true, cond}
 use lib.Dec.{eqb}
 use lib.ListN.{length, getD}
 use Rattle.config.specs.declared.Config.{Config}
-use Rattle.config.specs.Meaning.{isTask, isIsr, priorityOf, ceiling, firstOf, largestOffset}
+use Rattle.config.specs.Meaning.{isTask, isIsr, priorityOf, ceiling, firstOf}
 use Rattle.plan.specs.declared.Plan.{Plan}
 use Rattle.word.specs.Word.{has}
 use Rattle.machine.specs.Model.{noRank}
@@ -36,11 +36,11 @@ pub record Fitted (c : Config) (p : Plan) (rk : ℕ → ℕ) : Type 0 where
   pub period-low : (t : ℕ) → t < c .tables → 1 ≤ getD (c .period) t 0
   pub period-high : (t : ℕ) → t < c .tables → getD (c .period) t 0 ≤ 65535
   pub entry-task : (e : ℕ) → e < firstOf c (c .tables) → isTask c (getD (c .task) e 0) ≡ true
+  pub offset-lt : (t e : ℕ) → t < c .tables → firstOf c t ≤ e → e < firstOf c (suc t) → getD (c .offset) e 0 < getD (c .period) t 0
   pub offsets-long : length (c .offset) ≡ 64
   pub tasks-long : length (c .task) ≡ 64
   pub autostarts-long : length (c .autostart) ≡ 32
   pub first-at : (t : ℕ) → t < c .tables → getD (p .first) t 0 ≡ firstOf c t
-  pub largest-at : (t : ℕ) → t < c .tables → getD (p .largest) t 0 ≡ largestOffset c t
   pub compare-at : (t e : ℕ) → t < c .tables → firstOf c t ≤ e → e < firstOf c (suc t) → getD (p .compare) e 0 ≡ getD (c .period) t 0 - 1
   pub entry-rank-at : (e : ℕ) → e < p .count → getD (p .entry) e 0 ≡ rk (getD (c .task) e 0)
   pub entry-ranks-long : length (p .entry) ≡ 64

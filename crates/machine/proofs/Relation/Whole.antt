@@ -48,5 +48,5 @@ pub record Sim (c : Config) (p : Plan) (rk : ℕ → ℕ) (m : Model) (s : State
   pub nest : List ℕ
   pub tied : Tied c rk m (s .bodies) nest
   pub calm : Calm c (m .core .level) (s .bodies)
-  pub timed : Timed c p (m .counter) (m .on) (s .tables)
+  pub timed : Timed c p (m .counter) (m .on) (m .turning) (s .tables)
   pub lost : Lost c rk (m .losses) (s .bodies)

@@ -18,7 +18,7 @@ use Rattle.scheduler.specs.Scheduler.{newBody, fresh}
 use Rattle.scheduler.proofs.Effects.{tables-dispatched}
 use Rattle.machine.specs.Machine.{unstarted, freshModel}
 use Rattle.machine.proofs.Relation.Rows.{same-everywhere, row-empty-shows}
-use Rattle.machine.specs.Cells.{switchOff, isOn}
+use Rattle.machine.specs.Cells.{switchOff, isOn, hasTurn}
 use Rattle.machine.proofs.Relation.Fitted.{Fitted}
 use Rattle.machine.proofs.Relation.Words.{at, wants}
 use Rattle.machine.proofs.Relation.Slots.{slotsAlong, Distinct}
@@ -93,7 +93,7 @@ module _ {c : Config} {p : Plan} {rk : ℕ → ℕ} (fit : Fitted c p rk) where
       or-false true = refl
       or-false false = refl
 
-  unbegun-timed : Timed c p (replicate 64 0) (replicate 64 switchOff) (replicate (c .tables) stopped)
+  unbegun-timed : Timed c p (replicate 64 0) (replicate 64 switchOff) false (replicate (c .tables) stopped)
   unfolding CellFits
   unbegun-timed =
       record {
@@ -102,6 +102,7 @@ module _ {c : Config} {p : Plan} {rk : ℕ → ℕ} (fit : Fitted c p rk) where
         switches-long = refl;
         cells = λ t e t< a b. rw (same-everywhere (c .tables) stopped t) (ap isOn (same-everywhere 64 switchOff e));
         spare = λ e h. ap isOn (same-everywhere 64 switchOff e);
+        unturned = λ _ e. ap hasTurn (same-everywhere 64 switchOff e);
       }
 
   unbegun-lost : Lost c rk (replicate 32 0) (unbegun .bodies)

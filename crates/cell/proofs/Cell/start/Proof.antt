@@ -14,17 +14,23 @@ wrapping-sub-u16-requires c κs = search needs
 start-counter-requires : tie.Need-start-counter-requires
 start-counter-requires c κs = search needs
 
+is-long-requires : tie.Need-is-long-requires
+is-long-requires c κs = search needs
+
 of-requires : tie.Need-of-requires
 of-requires c κs = search needs
 
 returns : tie.Need-returns
 returns c =
-    let a = c .before .before .before .args in
+    let c₁ = c .before in
+    let c₂ = c₁ .before in
+    let c₃ = c₂ .before in
     c .of .ensures
     ∙ rw (
-      c .before .start-counter .ensures,
-      minus-unique {M = modulus} (a .period) 1 (search needs) (c .before .before .wrapping-sub-u16 .ensures ∙ sym (mod-eq-of-lt (search needs))),
+      c₁ .is-long .ensures,
+      c₂ .start-counter .ensures,
+      minus-unique {M = modulus} (c₃ .before .args .period) 1 (search needs) (c₃ .wrapping-sub-u16 .ensures ∙ sym (mod-eq-of-lt (search needs))),
     )
 
 pub start-spec : {M : Type 1} → statement M
-start-spec = tie.close (tie.spec wrapping-sub-u16-requires start-counter-requires of-requires returns)
+start-spec = tie.close (tie.spec wrapping-sub-u16-requires start-counter-requires is-long-requires of-requires returns)

@@ -51,7 +51,7 @@ line-requires : tie.Need-line-requires Inv-loop μ-loop
 line-requires c κs = tt
 
 start-requires : tie.Need-start-requires Inv-loop μ-loop
-start-requires c κs = let k = c .before .before .before .before .before .before .before .before .before .before .before in
+start-requires c κs = let k = c .before .before .before .before .before .before .before .before .before .before in
     let a = k .before .before .before .args in
     tables-laid (a .t1) (a .t2) (rankOf (a .t1)) (k .loop .inv .fit)
 
@@ -107,7 +107,7 @@ stepped j =
     (λ z6.
     ⊎-elim (λ w. ap viewOutcome (w .5 ∙ w .4 .ensures) ∙ sym (step-7 (a .t1) (a .t2) m e (w .0 .keys7)))
     (λ z7.
-    ⊎-elim (λ w. ap viewOutcome (w .9 ∙ w .8 .ensures) ∙ sym (step-8 (a .t1) (a .t2) m e (w .0 .keys8)))
+    ⊎-elim (λ w. ap viewOutcome (w .8 ∙ w .7 .ensures) ∙ sym (step-8 (a .t1) (a .t2) m e (w .0 .keys8)))
     (λ z8.
     ⊎-elim (λ w. ap viewOutcome (w .6 ∙ w .5 .ensures) ∙ sym (step-9 (a .t1) (a .t2) m e (w .0 .keys9)))
     (λ z9.
