@@ -9,7 +9,7 @@ use mathlib.Core.List.{List}
 use mathlib.Core.Logic.{_↔_, _⊎_}
 use native.Mathlib.Omega.{arith}
 use lib.ListN.{length, getD}
-use Rattle.number.specs.Refusal.{none}
+use Rattle.number.specs.Refusal.{none, cut}
 use Rattle.number.specs.Number.{Bytes}
 use Rattle.config.specs.declared.Config.{Config}
 use Rattle.config.specs.declared.ConfigRead.{ConfigRead}
@@ -28,12 +28,13 @@ use Rattle.config.proofs.Past as Past
 use Rattle.config.proofs.Fuel as Fuel
 
 -- "A refused reader returns an all-zero value with refusal and place"; "An accepted reading has refusal 0 and the place after it",
--- which is the input's end, and "entries past the counts are 0"
+-- which is the input's end, as is that of one "cut off"; "entries past the counts are 0"
 pub record ConfigReading (bs : List ℕ) (r : ConfigRead) : Type 0 where
   pub refusals : r .refusal ≤ tooLong
   pub inside : r .place ≤ length bs
   pub shaped : Shaped (r .config)
   pub whole : r .refusal ≡ none → r .place ≡ length bs
+  pub at-end : r .refusal ≡ cut → r .place ≡ length bs
   pub zero-value : (r .refusal ≡ none → ⊥) → r .config ≡ noConfig
   pub zero-past : r .config ≡ trimmed (r .config)
 
@@ -45,6 +46,7 @@ reading bs =
       inside = b .inside;
       shaped = RoundTrip.shaped bs;
       whole = RoundTrip.read-place bs;
+      at-end = Reading.cut-place bs;
       zero-value = b .zero-value;
       zero-past = RoundTrip.zero-past bs;
     }

@@ -55,7 +55,7 @@ writable code first second k f s no-first no-second =
 
 -- a reading ends at a number that can't be read, at an unknown code, or with an event
 module _ (bs : List ℕ) (at : ℕ) (P : EventRead → Type 0)
-    (on-unreadable : (p : ℕ) → (at ≤ length bs → p ≤ length bs) → (readNumber bs p .refusal ≡ none → ⊥) → P (unreadable (readNumber bs p)))
+    (on-unreadable : (p : ℕ) → at ≤ p → (at < p → p ≤ length bs) → (readNumber bs p .refusal ≡ none → ⊥) → P (unreadable (readNumber bs p)))
     (on-unknown : P (refused unknownEvent at))
     (on-event : (e : Event) (p : ℕ) → Writable e → Spans bs at (eventBytes e) p → P (accepted e p))
   where
@@ -71,7 +71,7 @@ module _ (bs : List ℕ) (at : ℕ) (P : EventRead → Type 0)
         (λ h. on-event _ _
         (writable code (readNumber bs p .value) 0 k (Number.reading bs p .in-range) (lit< tt) (λ g. absurd (omega arith)) (λ g. refl))
         (rw z (spans-append s (spans-number bs p h))))
-        (on-unreadable p (λ g. s .inside))
+        (on-unreadable p (omega (arith, s .later)) (λ g. s .inside))
     arguments-elim (suc (suc n)) code p z k s =
         after-elim P (readNumber bs p) _
         (λ h. let t = spans-number bs p h in
@@ -79,8 +79,8 @@ module _ (bs : List ℕ) (at : ℕ) (P : EventRead → Type 0)
         (λ g. on-event _ _
         (writable code (readNumber bs p .value) (readNumber bs (readNumber bs p .place) .value) k (Number.reading bs p .in-range) (Number.reading bs (readNumber bs p .place) .in-range) (λ f. absurd (omega arith)) (λ f. absurd (omega arith)))
         (rw z (spans-append s (spans-append t (spans-number bs (readNumber bs p .place) g)))))
-        (on-unreadable (readNumber bs p .place) (λ g. t .inside)))
-        (on-unreadable p (λ g. s .inside))
+        (on-unreadable (readNumber bs p .place) (omega (arith, s .later, t .later)) (λ g. t .inside)))
+        (on-unreadable p (omega (arith, s .later)) (λ g. s .inside))
 
     pub read-elim : P (readEvent bs at)
     unfolding readEvent
@@ -89,7 +89,7 @@ module _ (bs : List ℕ) (at : ℕ) (P : EventRead → Type 0)
         (λ h. by-test (known (readNumber bs at .value))
         (λ k. rw k (arguments-elim (arguments (readNumber bs at .value)) (readNumber bs at .value) (readNumber bs at .place) refl k (spans-number bs at h)))
         (λ k. rw k on-unknown))
-        (on-unreadable at (λ g. g))
+        (on-unreadable at (omega arith) (λ g. absurd (omega arith)))
 
 -- what is left at the place after xs
 pub after-bytes : (bs : List ℕ) (at : ℕ) (xs ys : List ℕ) → drop at bs ≡ xs ++ ys → drop (at + length xs) bs ≡ ys
@@ -136,7 +136,7 @@ module _ (bs : List ℕ) (e : Event) (rest : List ℕ) (w : Writable e) where
 pub read-spans : (bs : List ℕ) (at : ℕ) → readEvent bs at .refusal ≡ none → Spans bs at (eventBytes (readEvent bs at .event)) (readEvent bs at .place)
 read-spans bs at =
     read-elim bs at (λ r. r .refusal ≡ none → Spans bs at (eventBytes (r .event)) (r .place))
-    (λ p i n h. absurd (omega arith))
+    (λ p le i n h. absurd (omega arith))
     (λ h. absurd (omega arith))
     (λ e p w s h. s)
 
