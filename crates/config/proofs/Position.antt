@@ -12,7 +12,7 @@ use lib.Pow.{pow-mono}
 use borrow.Author.Tests.{eq-eqb, ne-eqb, ltb-true}
 use Rattle.number.specs.Refusal.{none}
 use Rattle.number.specs.Number.{limit}
-use Rattle.number.proofs.Cases.{by-eq}
+use Rattle.number.proofs.Cases.{by-eq, and-true}
 use Rattle.config.specs.declared.Draft.{Draft}
 use Rattle.config.specs.declared.Field.{Field}
 use Rattle.config.specs.declared.Field.the-variants.{Version, Bodies, Kind, Priority, Autostart, Resources, Users, Tables, Period, Entries, Offset, Task, End}
@@ -20,7 +20,7 @@ use Rattle.config.specs.Meaning.{isr}
 use Rattle.config.specs.Value.{maxBodies, maxResources, maxTables, maxEntries}
 use Rattle.config.specs.Draft.{mostAutostart, fault, put, putAt, ended, start, Inside, Within}
 use Rattle.config.proofs.Padded.{getD-zeros}
-use Rattle.config.proofs.Ranges.{InRange, in-range, and-true}
+use Rattle.config.proofs.Ranges.{InRange, in-range}
 
 -- `Within` of a draft at the field f, for proofs by cases on the field
 pub record Standing (f : Field) (d : Draft) : Type 0 where

@@ -11,7 +11,7 @@ use lib.ListN.{length, getD, take}
 use borrow.Author.Tests.{eq-eqb, ne-eqb, le-leb, lt-leb}
 use Rattle.number.specs.Refusal.{none, cut}
 use Rattle.number.specs.Number.{readNumber}
-use Rattle.number.proofs.Cases.{by-lt, by-eq}
+use Rattle.number.proofs.Cases.{by-test, by-lt, by-eq}
 use Rattle.number.proofs.Theorems as Number
 use Rattle.config.specs.declared.ConfigRead.{ConfigRead}
 use Rattle.config.specs.declared.Draft.{Draft}
@@ -22,7 +22,7 @@ use Rattle.config.specs.Meaning.{isr, isTask}
 use Rattle.config.specs.Value.{maxBodies, maxResources, maxTables, maxEntries, noConfig}
 use Rattle.config.specs.Draft.{occurs, unless, outside, andThen, sorted, mostAutostart, fault, faultAt, put, ended, start}
 use Rattle.config.specs.Reader.{numberFault, faultPlace, finished, refused, readFrom, maxLength, readConfig}
-use Rattle.config.proofs.Walk.{by-test, number-fine, read-end, read-zero, read-step, read-stop, readFrom-elim}
+use Rattle.config.proofs.Walk.{number-fine, read-end, read-zero, read-step, read-stop, readFrom-elim}
 
 -- a test's answer: nothing, or one of 3 to 8
 abbrev Tested : ℕ → Type 0

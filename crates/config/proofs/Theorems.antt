@@ -95,11 +95,12 @@ pub past-ignored : (b c : Config) → Shaped b → Shaped c → trimmed b ≡ tr
     → (writeConfig b n ≡ writeConfig c n) × (wroteConfig b d ≡ wroteConfig c d)
 past-ignored b c sb sc e n d = (Past.same-answer b c sb sc e n, Past.same-output b c sb sc e d)
 
--- "a number takes at least a byte, so as many as there are bytes are enough" (specs/Reader.antt): more fuel reads the same
+-- as many numbers as there are bytes are enough (specs/Reader.antt): more fuel reads the same
 pub readFrom-enough : (bs : List ℕ) (k : ℕ) → length bs ≤ k → readFrom k bs 0 start ≡ readFrom (length bs) bs 0 start
 readFrom-enough = Fuel.readFrom-enough
 
--- "the most numbers that a configuration has" (specs/Writer.antt): more fuel finds the same fault and, where there is none, writes the same bytes
+-- no configuration has more numbers than `maxNumbers` (specs/Writer.antt): more fuel finds the same fault and, where there is none, writes the same
+-- bytes
 pub faultFrom-enough : (c : Config) (k : ℕ) → maxNumbers ≤ k → faultFrom k c start ≡ firstFault c
 faultFrom-enough = Fuel.faultFrom-enough
 

@@ -14,13 +14,12 @@ use lib.Seq.{drop-at, drop-drop}
 use Rattle.number.specs.declared.NumberRead.{NumberRead}
 use Rattle.number.specs.Refusal.{none}
 use Rattle.number.specs.Number.{limit, Bytes, readNumber, numberBytes}
-use Rattle.number.proofs.Cases.{by-eq}
+use Rattle.number.proofs.Cases.{by-test, by-eq}
 use Rattle.number.proofs.Theorems as Number
 use Rattle.event.specs.declared.Event.{Event}
 use Rattle.event.specs.declared.EventRead.{EventRead}
 use Rattle.event.specs.Refusal.{unknownEvent}
 use Rattle.event.specs.Event.{known, arguments, event, accepted, refused, unreadable, afterNumber, readArguments, readEvent, argumentBytes, eventBytes, writeEvent, eventWritten, Writable}
-use Rattle.event.proofs.Cases.{by-test}
 use Rattle.event.proofs.Codes.{known-true, known-le}
 use Rattle.event.proofs.Reading.{goes-on, ends, read-known}
 use Rattle.event.proofs.Writing.{writes-bytes, stray-none, accepted-writable, write-accepted, write-room}
