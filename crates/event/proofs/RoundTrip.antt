@@ -13,7 +13,7 @@ use lib.ListN.{length, drop, length-append}
 use lib.Seq.{drop-at, drop-drop}
 use Rattle.number.specs.declared.NumberRead.{NumberRead}
 use Rattle.number.specs.Refusal.{none}
-use Rattle.number.specs.Number.{limit, Bytes, readNumber, numberBytes}
+use Rattle.number.specs.Number.{numberBound, Bytes, readNumber, numberBytes}
 use Rattle.number.proofs.Cases.{by-test, by-eq}
 use Rattle.number.proofs.Theorems as Number
 use Rattle.event.specs.declared.Event.{Event}
@@ -47,7 +47,7 @@ after-elim P n f on off =
     (λ h. rw (ends n n f refl h) (off h))
 
 -- an event of a known code
-writable : (code first second : ℕ) → known code ≡ true → first < limit → second < limit → (arguments code < 1 → first ≡ 0) → (arguments code < 2 → second ≡ 0)
+writable : (code first second : ℕ) → known code ≡ true → first < numberBound → second < numberBound → (arguments code < 1 → first ≡ 0) → (arguments code < 2 → second ≡ 0)
     → Writable (event code first second)
 writable code first second k f s no-first no-second =
     record { at-least = known-le code k .0; at-most = known-le code k .1; first-lt = f; second-lt = s; lacks-first = no-first; lacks-second = no-second }
@@ -140,7 +140,7 @@ read-spans bs at =
     (λ e p w s h. s)
 
 -- an event that was written is read from the output
-pub read-output : (e : Event) (d : List ℕ) → e .first < limit → e .second < limit → writeEvent e (length d) .refusal ≡ none
+pub read-output : (e : Event) (d : List ℕ) → e .first < numberBound → e .second < numberBound → writeEvent e (length d) .refusal ≡ none
     → readEvent (eventWritten e d) 0 ≡ accepted e (writeEvent e (length d) .place)
 read-output e d f s h =
     rw (← o .0, ← o .1)

@@ -11,7 +11,7 @@ use lib.Dec.{lit≤}
 use lib.ListN.{length, drop, length-append, length-drop}
 use lib.Seq.{drop-at}
 use Rattle.number.specs.Refusal.{none}
-use Rattle.number.specs.Number.{limit, Bytes}
+use Rattle.number.specs.Number.{numberBound, Bytes}
 use Rattle.number.proofs.Cases.{by-lt}
 use Rattle.number.proofs.Theorems as Number
 use Rattle.event.specs.declared.Event.{Event}
@@ -102,11 +102,11 @@ length-eventBytes = Size.length-eventBytes
 pub writable-accepted : (e : Event) → Writable e → writerRefusal e ≡ none
 writable-accepted = Writing.writable-accepted
 
-pub accepted-writable : (e : Event) → e .first < limit → e .second < limit → writerRefusal e ≡ none → Writable e
+pub accepted-writable : (e : Event) → e .first < numberBound → e .second < numberBound → writerRefusal e ≡ none → Writable e
 accepted-writable = Writing.accepted-writable
 
 -- an event that was written is read from the output, up to the length that the writer returned
-pub read-output : (e : Event) (d : List ℕ) → e .first < limit → e .second < limit → writeEvent e (length d) .refusal ≡ none
+pub read-output : (e : Event) (d : List ℕ) → e .first < numberBound → e .second < numberBound → writeEvent e (length d) .refusal ≡ none
     → readEvent (eventWritten e d) 0 ≡ accepted e (writeEvent e (length d) .place)
 read-output = RoundTrip.read-output
 

@@ -9,7 +9,7 @@ use borrow.Author.Tests.{lt-ltb, le-ltb, lt-leb, eq-eqb, ne-eqb}
 use lib.ListN.{length}
 use Rattle.number.specs.declared.Written.{Written}
 use Rattle.number.specs.Refusal.{none, noRoom}
-use Rattle.number.specs.Number.{limit, numberBytes, groupBytes}
+use Rattle.number.specs.Number.{numberBound, numberBytes, groupBytes}
 use Rattle.number.proofs.Cases.{by-test, by-lt, by-eq}
 use Rattle.number.specs.Output.{unwritten, writing, written}
 use Rattle.event.specs.declared.Event.{Event}
@@ -88,7 +88,7 @@ module _ (e : Event) where
       (λ s. (k, s)))
       (λ k. let z : _≡_ {A = ℕ} unknownEvent none = rw k at h in absurd (omega arith))
 
-  pub accepted-writable : e .first < limit → e .second < limit → writerRefusal e ≡ none → Writable e
+  pub accepted-writable : e .first < numberBound → e .second < numberBound → writerRefusal e ≡ none → Writable e
   accepted-writable f s h =
       let k = accepted-known h in
       record {

@@ -9,7 +9,7 @@ use lib.Dec.{lit<, lit≤}
 use lib.ListN.{length, getD}
 use Rattle.number.specs.declared.NumberRead.{NumberRead}
 use Rattle.number.specs.Refusal.{none, cut, malformed}
-use Rattle.number.specs.Number.{limit, Bytes, accepted, refused, groups, leading, groupBytes, numberBytes}
+use Rattle.number.specs.Number.{numberBound, Bytes, accepted, refused, groups, leading, groupBytes, numberBytes}
 use Rattle.number.proofs.Cases.{by-lt}
 use Rattle.number.proofs.Groups.{groups-elim}
 
@@ -126,7 +126,7 @@ pub numberBytes-single : (v : ℕ) → v < 128 → numberBytes v ≡ v ∷ []
 unfolding numberBytes groupBytes
 numberBytes-single v h = simp (lt-ltb v 128 h)
 
-pub numberBytes-more : (v : ℕ) → 128 ≤ v → v < limit → numberBytes v ≡ (128 + v % 128) ∷ numberBytes (v / 128)
+pub numberBytes-more : (v : ℕ) → 128 ≤ v → v < numberBound → numberBytes v ≡ (128 + v % 128) ∷ numberBytes (v / 128)
 unfolding numberBytes groupBytes room
 numberBytes-more v h small =
     simp (le-ltb v 128 h) (ap (λ (l : List ℕ). (128 + v % 128) ∷ l) (groupBytes-enough 3 leading (v / 128) (omega arith) (omega arith)))

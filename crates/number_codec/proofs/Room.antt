@@ -6,12 +6,12 @@ use mathlib.Core.List.{List}
 use native.Mathlib.Omega.{arith}
 use lib.ListN.{length, drop, length-drop}
 use Rattle.number.specs.declared.NumberRead.{NumberRead}
-use Rattle.number.specs.Number.{limit, groups, leading}
+use Rattle.number.specs.Number.{numberBound, groups, leading}
 use Rattle.number.proofs.Size.{room, room-mono, groups-sized}
 
 -- what comes after a group with its top bit set leaves room for that group
 pub continued-fits : (l : List ℕ) (at k : ℕ) → length l < 2 ^ 63 → 0 < k → k ≤ leading → (r : NumberRead) → r ≡ groups (k - 1) (drop (at + 1) l)
-    → (128 * r .value + 128 ≤ limit) × (r .place < 2 ^ 63)
+    → (128 * r .value + 128 ≤ numberBound) × (r .place < 2 ^ 63)
 unfolding room
 continued-fits l at zero short p few r e = absurd (omega arith)
 continued-fits l at (suc k) short p few r e = rw (e, pred-suc k)

@@ -8,7 +8,7 @@ use number::Written;
 ghost use mathlib.Core.Path.{_≡_};
 ghost use Prim.Native.Nat.{_+_, _*_, _%_, _^_, _≤_, _<_};
 ghost use lib.ListN.{length, drop};
-ghost use Rattle.number.specs.Number.{limit, accepted, refused, continued, fifthGroup, groups, leading, readNumber, numberBytes};
+ghost use Rattle.number.specs.Number.{numberBound, accepted, refused, continued, fifthGroup, groups, leading, readNumber, numberBytes};
 ghost use Rattle.number.specs.Output.{writing, written};
 
 // How many groups may stand before the last one.
@@ -73,7 +73,7 @@ fn fifth(b: u8) -> NumberRead
 // A group with its top bit set, and the number that the groups after it make. They make 0 only as one
 // superfluous byte.
 fn continued(b: u8, rest: NumberRead) -> NumberRead
-    requires { ⌜ (128 * (rest .value) + 128 ≤ limit) × (rest .place < 2 ^ 63) ⌝ }
+    requires { ⌜ (128 * (rest .value) + 128 ≤ numberBound) × (rest .place < 2 ^ 63) ⌝ }
     ensures { λ r. ⌜ r ≡ continued (b % 128) rest ⌝ }
 {
     if rest.refusal != 0 {

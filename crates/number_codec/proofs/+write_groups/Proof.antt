@@ -7,7 +7,7 @@ use borrow.Rule.Slice.PartMut.{putMid}
 use native.Mathlib.Omega.{arith}
 use borrow.Author.Needs.{needs}
 use lib.ListN.{length, take, drop, set, length-set, length-take, length-drop}
-use Rattle.number.specs.Number.{limit, numberBytes}
+use Rattle.number.specs.Number.{numberBound, numberBytes}
 use Rattle.number.specs.Output.{written}
 use Rattle.number.proofs.Theorems.{written-fits, length-written}
 use Rattle.number.proofs.Size.{length-numberBytes, numberBytes-single, numberBytes-more}
@@ -26,7 +26,7 @@ stored [] v h p = absurd (omega arith)
 stored (x ∷ xs) v h p = rw (numberBytes-single v h, written-fits (v ∷ []) (x ∷ xs) (omega arith))
 
 -- one byte stored, and the part after it lent for the rest
-module _ (d : List ℕ) (v : ℕ) (h : 128 ≤ v) (small : v < limit) (room : length (numberBytes v) ≤ length d) where
+module _ (d : List ℕ) (v : ℕ) (h : 128 ≤ v) (small : v < numberBound) (room : length (numberBytes v) ≤ length d) where
   abbrev after : List ℕ
   after = set d 0 (128 + v % 128)
 
