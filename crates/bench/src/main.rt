@@ -1,7 +1,7 @@
 // The bench program: runs `config.bin` and `trace.bin` of the current folder, and prints the answers
 // or the refusal. Everything goes to standard output.
-use config::read_config;
-use event::read_event;
+use config_codec::read_config;
+use event_codec::read_event;
 use kernel::osek_run;
 use libc::STDOUT_FILENO;
 ghost use Prim.Native.Nat.{_+_, _≤_, _<_};

@@ -9,7 +9,7 @@ use lib.ListN.{length}
 use Rattle.number.specs.Refusal.{none, cut}
 use Rattle.number.specs.Number as Number
 use Rattle.number.specs.Number.{readNumber}
-use Rattle.number.proofs.Cases.{by-eq}
+use Rattle.number.proofs.Cases.{by-test, by-eq}
 use Rattle.number.proofs.Theorems.{reading, read-past}
 use Rattle.config.specs.declared.Config.{Config}
 use Rattle.config.specs.declared.Draft.{Draft}
@@ -17,7 +17,7 @@ use Rattle.config.specs.Draft.{fault, put, asked, ended, start, Within}
 use Rattle.config.specs.Reader.{numberFault, refused, readFrom}
 use Rattle.config.specs.Writer.{maxNumbers, faultFrom, bytesFrom, firstFault, configBytes}
 use Rattle.config.proofs.Position.{left, moved, some-left, start-within}
-use Rattle.config.proofs.Walk.{by-test, number-fine, read-end, read-zero, read-step, read-stop, fault-end, fault-step, fault-stop, walk-bytes}
+use Rattle.config.proofs.Walk.{number-fine, read-end, read-zero, read-step, read-stop, fault-end, fault-step, fault-stop, walk-bytes}
 use Rattle.config.proofs.RoundTrip.{walk, enough, walk-written}
 
 read-cut : (k : ℕ) (bs : List ℕ) (at : ℕ) (d : Draft) → ended (d .field) ≡ false → length bs ≤ at → readFrom (suc k) bs at d ≡ refused cut at

@@ -9,7 +9,7 @@ use mathlib.Core.List.{List}
 use mathlib.Core.Logic.{_↔_, _⊎_, ⊎-elim}
 use native.Mathlib.Omega.{arith}
 use lib.ListN.{length, getD}
-use Rattle.number.specs.Refusal.{none}
+use Rattle.number.specs.Refusal.{none, cut}
 use Rattle.number.specs.Number.{Bytes}
 use Rattle.config.specs.declared.Config.{Config}
 use Rattle.config.specs.declared.ConfigRead.{ConfigRead}
@@ -28,12 +28,13 @@ use Rattle.config.proofs.Past as Past
 use Rattle.config.proofs.Fuel as Fuel
 
 -- "A refused reader returns an all-zero value with refusal and place"; "An accepted reading has refusal 0 and the place after it",
--- which is the input's end, and "entries past the counts are 0"
+-- which is the input's end, as is that of one "cut off"; "entries past the counts are 0"
 pub record ConfigReading (bs : List ℕ) (r : ConfigRead) : Type 0 where
   pub refusals : r .refusal ≤ tooLong
   pub inside : r .place ≤ length bs
   pub shaped : Shaped (r .config)
   pub whole : r .refusal ≡ none → r .place ≡ length bs
+  pub at-end : r .refusal ≡ cut → r .place ≡ length bs
   pub zero-value : (r .refusal ≡ none → ⊥) → r .config ≡ noConfig
   pub zero-past : r .config ≡ trimmed (r .config)
 
@@ -45,6 +46,7 @@ reading bs =
       inside = b .inside;
       shaped = RoundTrip.shaped bs;
       whole = RoundTrip.read-place bs;
+      at-end = Reading.cut-place bs;
       zero-value = b .zero-value;
       zero-past = RoundTrip.zero-past bs;
     }
@@ -109,11 +111,12 @@ pub past-ignored : (b c : Config) → Shaped b → Shaped c → trimmed b ≡ tr
     → (writeConfig b n ≡ writeConfig c n) × (wroteConfig b d ≡ wroteConfig c d)
 past-ignored b c sb sc e n d = (Past.same-answer b c sb sc e n, Past.same-output b c sb sc e d)
 
--- "a number takes at least a byte, so as many as there are bytes are enough" (specs/Reader.antt): more fuel reads the same
+-- as many numbers as there are bytes are enough (specs/Reader.antt): more fuel reads the same
 pub readFrom-enough : (bs : List ℕ) (k : ℕ) → length bs ≤ k → readFrom k bs 0 start ≡ readFrom (length bs) bs 0 start
 readFrom-enough = Fuel.readFrom-enough
 
--- "the most numbers that a configuration has" (specs/Writer.antt): more fuel finds the same fault and, where there is none, writes the same bytes
+-- no configuration has more numbers than `maxNumbers` (specs/Writer.antt): more fuel finds the same fault and, where there is none, writes the same
+-- bytes
 pub faultFrom-enough : (c : Config) (k : ℕ) → maxNumbers ≤ k → faultFrom k c start ≡ firstFault c
 faultFrom-enough = Fuel.faultFrom-enough
 

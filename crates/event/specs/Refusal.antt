@@ -1,7 +1,7 @@
 -- Refusals that the readers and the writer of events give besides none (0) and noRoom (30), which `number` names.
 -- Assumes nothing.
 use Prim.Native.Nat.{ℕ, _+_}
-use Rattle.number.specs.Refusal.{cut, malformed}
+use Rattle.number.specs.Refusal.{cut}
 
 -- "21 / 22: as 1 / 2, in the trace"
 abbrev pub inTrace : ℕ → ℕ
@@ -9,9 +9,6 @@ inTrace r = 20 + r
 
 abbrev pub traceCut : ℕ
 traceCut = inTrace cut
-
-abbrev pub traceMalformed : ℕ
-traceMalformed = inTrace malformed
 
 -- "event code not 1 to 9"
 abbrev pub unknownEvent : ℕ

@@ -6,7 +6,7 @@ mod output;
 mod play;
 
 use answer::answer;
-use config::read_config;
+use config_codec::read_config;
 use count::count_events;
 use number::NO_ROOM;
 ghost use mathlib.Core.Path.{_≡_};

@@ -12,7 +12,7 @@ use crate::model::Outcome;
 use crate::output::put_answer;
 use crate::output::runner;
 use config::Config;
-use event::read_event;
+use event_codec::read_event;
 use plan::Plan;
 
 // Each event meets the model that the one before it handed back; the last one's is the result.

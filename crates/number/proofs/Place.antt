@@ -1,7 +1,7 @@
 -- Which byte decides a refused reading, group by group: no byte after it matters (`decided`), those before it leave the reading open
 -- (`cut-before`), and a reading that breaks off could still have become a number (`completed`).
 -- Assumes nothing.
-use Prim.Native.Nat.{ℕ, zero, suc, _+_, _*_, _%_, _≤_}
+use Prim.Native.Nat.{ℕ, zero, suc, _+_, _%_, _≤_}
 use mathlib.Core.Path.{_≡_, refl, sym, ap, _∙_}
 use mathlib.Core.List.{List, [], _∷_, _++_}
 use native.Mathlib.Omega.{arith}
@@ -11,11 +11,11 @@ use lib.ListN.{length, take, drop}
 use lib.Seq.{take-nil, drop-append-le}
 use Rattle.number.specs.declared.NumberRead.{NumberRead}
 use Rattle.number.specs.Refusal.{none, cut, malformed}
-use Rattle.number.specs.Number.{accepted, refused, continued, fifthGroup, groups, shifted, leading, readNumber}
+use Rattle.number.specs.Number.{refused, continued, fifthGroup, groups, shifted, leading, readNumber}
 use Rattle.number.proofs.Groups.{fifth-small, fifth-large, groups-end, groups-step, continued-refused, continued-zero, continued-more, groups-elim}
 
 -- what lies at a place of a list's first bytes
-pub drop-take : (at n : ℕ) (l : List ℕ) → drop at (take (at + n) l) ≡ take n (drop at l)
+drop-take : (at n : ℕ) (l : List ℕ) → drop at (take (at + n) l) ≡ take n (drop at l)
 drop-take zero n l = rw zero-add
 drop-take (suc at) n [] = rw (suc-add, take-nil n)
 drop-take (suc at) n (x ∷ xs) = rw suc-add (drop-take at n xs)
@@ -31,12 +31,12 @@ module _ (k b n : ℕ) (bs : List ℕ) {r : NumberRead} (on-cons : (cs : List �
   begins (c ∷ cs) e = let h : c ≡ b = cc in let t : take n cs ≡ take n bs = cc in rw h (on-cons cs t)
 
 -- a number needs the bytes that it covers, and a malformed one those up to its place and the one there: lists that agree on them read alike
-pub record Decided (k : ℕ) (bs : List ℕ) (r : NumberRead) : Type 0 where
-  pub zero-byte : r .refusal ≡ none → r .value ≡ 0 → r .place ≡ 1
-  pub by-covered : r .refusal ≡ none → (cs : List ℕ) → take (r .place) cs ≡ take (r .place) bs → groups k cs ≡ r
-  pub by-place : r .refusal ≡ malformed → (cs : List ℕ) → take (suc (r .place)) cs ≡ take (suc (r .place)) bs → groups k cs ≡ r
+record Decided (k : ℕ) (bs : List ℕ) (r : NumberRead) : Type 0 where
+  zero-byte : r .refusal ≡ none → r .value ≡ 0 → r .place ≡ 1
+  by-covered : r .refusal ≡ none → (cs : List ℕ) → take (r .place) cs ≡ take (r .place) bs → groups k cs ≡ r
+  by-place : r .refusal ≡ malformed → (cs : List ℕ) → take (suc (r .place)) cs ≡ take (suc (r .place)) bs → groups k cs ≡ r
 
-pub decided : (k : ℕ) (bs : List ℕ) → Decided k bs (groups k bs)
+decided : (k : ℕ) (bs : List ℕ) → Decided k bs (groups k bs)
 unfolding groups
 decided =
     groups-elim Decided
@@ -73,7 +73,7 @@ decided =
     })
 
 -- the bytes before the place of a malformed number alone break off there
-pub cut-before : (k : ℕ) (bs : List ℕ) → groups k bs .refusal ≡ malformed → groups k (take (groups k bs .place) bs) ≡ refused cut (groups k bs .place)
+cut-before : (k : ℕ) (bs : List ℕ) → groups k bs .refusal ≡ malformed → groups k (take (groups k bs .place) bs) ≡ refused cut (groups k bs .place)
 unfolding groups
 cut-before =
     groups-elim (λ k bs r. r .refusal ≡ malformed → groups k (take (r .place) bs) ≡ refused cut (r .place))
@@ -93,7 +93,7 @@ abbrev Positive : ℕ → List ℕ → Type 0
 Positive k bs = (groups k bs .refusal ≡ none) × (groups k bs .value ≡ 0 → ⊥)
 
 -- with 01 after it, a reading that broke off is a number other than 0
-pub completed : (k : ℕ) (bs : List ℕ) → groups k bs .refusal ≡ cut → Positive k (bs ++ 1 ∷ [])
+completed : (k : ℕ) (bs : List ℕ) → groups k bs .refusal ≡ cut → Positive k (bs ++ 1 ∷ [])
 unfolding groups fifthGroup
 completed =
     groups-elim (λ k bs r. r .refusal ≡ cut → Positive k (bs ++ 1 ∷ []))

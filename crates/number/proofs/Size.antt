@@ -1,15 +1,15 @@
 -- How large and how long a reading is, and how long a number's bytes are.
 -- Assumes nothing.
-use Prim.Native.Nat.{ℕ, zero, suc, _+_, _*_, _-_, _/_, _%_, _^_, _≤_, _<_}
+use Prim.Native.Nat.{ℕ, zero, suc, _+_, _*_, _-_, _/_, _%_, _≤_, _<_}
 use mathlib.Core.Path.{_≡_, refl, ap}
 use mathlib.Core.List.{List, [], _∷_}
 use native.Mathlib.Omega.{arith}
 use borrow.Author.Tests.{lt-ltb, le-ltb}
 use lib.Dec.{lit<, lit≤}
-use lib.ListN.{length, drop, getD, length-drop}
+use lib.ListN.{length, getD}
 use Rattle.number.specs.declared.NumberRead.{NumberRead}
 use Rattle.number.specs.Refusal.{none, cut, malformed}
-use Rattle.number.specs.Number.{limit, Bytes, accepted, refused, groups, leading, groupBytes, numberBytes}
+use Rattle.number.specs.Number.{numberBound, Bytes, accepted, refused, groups, leading, groupBytes, numberBytes}
 use Rattle.number.proofs.Cases.{by-lt}
 use Rattle.number.proofs.Groups.{groups-elim}
 
@@ -80,19 +80,6 @@ groups-sized =
     (λ k b bs r h a z p. refused-sized (suc k) (b ∷ bs) _ _ (omega arith) (lit≤ tt) (lit≤ tt) (λ e. absurd (omega arith)) (λ e. omega (arith, p .some a, p .place-le)))
     (λ k b bs r h n p. refused-sized (suc k) (b ∷ bs) _ _ (omega (arith, p .place-le)) (omega arith) (p .few) (λ e. omega (arith, p .at-end e)) (λ e. omega (arith, p .at-byte e)))
 
--- what comes after a group with its top bit set leaves room for that group
-pub continued-fits : (l : List ℕ) (at k : ℕ) → length l < 2 ^ 63 → 0 < k → k ≤ leading → (r : NumberRead) → r ≡ groups (k - 1) (drop (at + 1) l)
-    → (128 * r .value + 128 ≤ limit) × (r .place < 2 ^ 63)
-unfolding room
-continued-fits l at zero short p few r e = absurd (omega arith)
-continued-fits l at (suc k) short p few r e = rw (e, pred-suc k)
-    (let s = groups-sized k (drop (at + 1) l) in
-    let m : room (suc k) ≤ room leading = room-mono (suc k) leading few in
-    (omega arith, omega (arith, length-drop (at + 1) l)))
-  where
-    pred-suc : (j : ℕ) → suc j - 1 ≡ j
-    pred-suc j = omega arith
-
 -- a number has at least one byte, and at most one after those that lead
 length-groupBytes : (k v : ℕ) → (1 ≤ length (groupBytes k v)) × (length (groupBytes k v) ≤ suc k)
 unfolding groupBytes
@@ -139,7 +126,7 @@ pub numberBytes-single : (v : ℕ) → v < 128 → numberBytes v ≡ v ∷ []
 unfolding numberBytes groupBytes
 numberBytes-single v h = simp (lt-ltb v 128 h)
 
-pub numberBytes-more : (v : ℕ) → 128 ≤ v → v < limit → numberBytes v ≡ (128 + v % 128) ∷ numberBytes (v / 128)
+pub numberBytes-more : (v : ℕ) → 128 ≤ v → v < numberBound → numberBytes v ≡ (128 + v % 128) ∷ numberBytes (v / 128)
 unfolding numberBytes groupBytes room
 numberBytes-more v h small =
     simp (le-ltb v 128 h) (ap (λ (l : List ℕ). (128 + v % 128) ∷ l) (groupBytes-enough 3 leading (v / 128) (omega arith) (omega arith)))

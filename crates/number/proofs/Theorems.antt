@@ -14,7 +14,7 @@ use borrow.Author.Tests.{le-leb, lt-leb}
 use Rattle.number.specs.declared.NumberRead.{NumberRead}
 use Rattle.number.specs.Refusal.{none, cut, malformed, noRoom}
 use Rattle.number.specs.Output.{writing, written, unwritten}
-use Rattle.number.specs.Number.{limit, Bytes, accepted, refused, groups, shifted, leading, readNumber, numberBytes}
+use Rattle.number.specs.Number.{numberBound, Bytes, accepted, refused, groups, shifted, leading, readNumber, numberBytes}
 use Rattle.number.proofs.Cases.{by-lt}
 use Rattle.number.proofs.Groups as Groups
 use Rattle.number.proofs.Size as Size
@@ -25,7 +25,7 @@ use Rattle.number.proofs.RoundTrip as RoundTrip
 -- whatever is read: an accepted number is in range and covers at least one byte of the input; a refused one is 0, at one of its bytes, or at
 -- "the input's end when cut off (a start past it keeps its own place)"
 pub record Reading (bs : List ℕ) (at : ℕ) (r : NumberRead) : Type 0 where
-  pub in-range : r .value < limit
+  pub in-range : r .value < numberBound
   pub refusals : r .refusal ≤ 2
   pub after : r .refusal ≡ none → at < r .place
   pub inside : r .refusal ≡ none → r .place ≤ length bs
@@ -75,13 +75,13 @@ unfolding readNumber
 read-single bs at within small = ap (shifted at) (Groups.groups-at-end bs at leading within (lit< tt) small)
 
 -- where the bytes of v stand, v is read and the place after them, whatever stands before and after
-pub read-at : (bs : List ℕ) (at v : ℕ) (rest : List ℕ) → v < limit → drop at bs ≡ numberBytes v ++ rest
+pub read-at : (bs : List ℕ) (at v : ℕ) (rest : List ℕ) → v < numberBound → drop at bs ≡ numberBytes v ++ rest
     → readNumber bs at ≡ accepted v (at + length (numberBytes v))
 unfolding readNumber numberBytes room
 read-at bs at v rest h e = rw (e, RoundTrip.groups-written leading v rest h)
 
 -- what is written reads back as the same value and the place after it
-pub read-written : (before after : List ℕ) (v : ℕ) → v < limit
+pub read-written : (before after : List ℕ) (v : ℕ) → v < numberBound
     → readNumber (before ++ (numberBytes v ++ after)) (length before) ≡ accepted v (length before + length (numberBytes v))
 read-written before after v h =
     read-at (before ++ (numberBytes v ++ after)) (length before) v after h (drop-at before (numberBytes v ++ after) (length before) refl)
@@ -99,7 +99,7 @@ pub length-numberBytes : (v : ℕ) → (1 ≤ length (numberBytes v)) × (length
 length-numberBytes = Size.length-numberBytes
 
 -- the bytes of a number are bytes
-pub numberBytes-are-bytes : (v : ℕ) → v < limit → Bytes (numberBytes v)
+pub numberBytes-are-bytes : (v : ℕ) → v < numberBound → Bytes (numberBytes v)
 unfolding numberBytes room
 numberBytes-are-bytes v h = Size.groupBytes-are-bytes leading v h
 

@@ -15,8 +15,8 @@ use Rattle.number.specs.declared.NumberRead.{NumberRead}
 use Rattle.number.specs.Refusal.{none, cut, malformed}
 
 -- numbers are "at most 4,294,967,295", this less one
-abbrev pub limit : ℕ
-limit = 4294967296
+abbrev pub numberBound : ℕ
+numberBound = 4294967296
 
 -- each element is a byte, as those of a slice of bytes are
 abbrev pub Bytes : List ℕ → Type 0
