@@ -6,7 +6,7 @@ CARGO = --quiet --release --offline --locked --manifest-path tests/Cargo.toml --
 SEED = 1
 COUNT = 100000
 
-.PHONY: test run bench staticlib host fuzz speed
+.PHONY: test run bench staticlib host tool fuzz speed
 
 test:
 	@scripts/test
@@ -27,6 +27,12 @@ $(LIBRARY): KIT crates.txt $(shell find crates -name must-fail -prune -o -type f
 host: staticlib
 	@mkdir -p build
 	$(CC) $(CFLAGS) -Iinclude host/osek_host.c $(LIBRARY) -o build/osek_host
+
+# The bench tool: build/osek --help
+tool: staticlib
+	@mkdir -p build
+	@cargo build --quiet --release --offline --locked --manifest-path tool/Cargo.toml --target-dir tool/target
+	@cp tool/target/release/osek build/osek
 
 # Drawn cases from a seed of one's own: make fuzz SEED=7 COUNT=20000
 fuzz: staticlib

@@ -1,0 +1,288 @@
+//! How a simulator's reply differs from the reference, in words.
+
+use osek_tests::cases::Case;
+use osek_tests::subject;
+
+use super::simulator::Reply;
+use crate::layout::{self, Event};
+use crate::names::Names;
+use crate::reference::{self, Answer, Refused, Run, ANSWER_SIZE, LOSS_SIZE};
+use crate::words;
+
+/// What the reference says of a case.
+pub struct Expected {
+    /// The result and the whole output buffer, at the case's output length.
+    result: u64,
+    buffer: Vec<u8>,
+    /// With an output as long as needed.
+    pub outcome: Result<Run, Refused>,
+    events: Vec<Event>,
+    names: Names,
+}
+
+impl Expected {
+    pub fn of(case: &Case) -> Expected {
+        let mut buffer = case.prefilled();
+        let result = subject::run(&case.config, &case.trace, &mut buffer);
+        Expected {
+            result,
+            buffer,
+            outcome: reference::run(&case.config, &case.trace),
+            events: layout::trace(&case.trace).events,
+            names: Names::of(&layout::config(&case.config).objects),
+        }
+    }
+
+    pub fn listing(&self) -> String {
+        reference::listing(&self.outcome, &self.events)
+    }
+
+    /// The refusal at the case's output length, 0 for none.
+    pub fn refusal(&self) -> u32 {
+        Refused::of(self.result).map_or(0, |refused| refused.code)
+    }
+
+    /// How the reply differs; none if it does not.
+    pub fn difference(&self, reply: &Reply) -> Option<String> {
+        match reply {
+            Reply::Nothing(why) => Some(format!("{} expected, no answer given: {why}", self.summary())),
+            Reply::Listing(text) => (*text != self.listing()).then(|| self.of_listing(text)),
+            Reply::Output(bytes) => match &self.outcome {
+                Ok(run) if run.output() == *bytes => None,
+                Ok(run) => Some(self.of_output(run, bytes)),
+                Err(refused) => Some(format!(
+                    "{} expected, as a line `refused {} {}`; {} given",
+                    refusal_words(*refused),
+                    refused.code,
+                    refused.place,
+                    words::counted(bytes.len(), "byte")
+                )),
+            },
+            Reply::Call(result, buffer) => {
+                (*result != self.result || *buffer != self.buffer).then(|| self.of_call(*result, buffer))
+            }
+        }
+    }
+
+    fn summary(&self) -> String {
+        match &self.outcome {
+            Ok(run) => words::counted(run.answers.len(), "event"),
+            Err(refused) => refusal_words(*refused),
+        }
+    }
+
+    /// The first line that differs, in words where it is a row of the listing.
+    fn of_listing(&self, text: &str) -> String {
+        let listing = self.listing();
+        let (mut expected, mut given) = (listing.lines(), text.lines());
+        for number in 1.. {
+            let (line, other) = (expected.next(), given.next());
+            if line == other && line.is_some() {
+                continue;
+            }
+            let (Some(line), Some(other)) = (line, other) else {
+                return match (line, other) {
+                    (Some(line), None) => format!("line {number}: `{line}` expected, the listing ends before it"),
+                    (None, Some(other)) => format!("line {number}: the listing ends before it, `{other}` given"),
+                    _ => "the listings have the same lines, but not the same line ends".into(),
+                };
+            };
+            return match (row(line), row(other)) {
+                (Some(line), Some(other)) if line.step == other.step && line.code == other.code => {
+                    self.of_answers(line.step, line.answer, other.answer)
+                }
+                _ => self.of_lines(number, line, other),
+            };
+        }
+        unreachable!("one of the listings ends")
+    }
+
+    fn of_lines(&self, number: usize, line: &str, other: &str) -> String {
+        match (lost(line), lost(other), &self.outcome) {
+            (Some((body, count)), Some((other_body, other_count)), _) if body == other_body => {
+                self.of_losses(body, count, other_count)
+            }
+            (_, _, Ok(run)) if other.starts_with("refused ") => {
+                format!("{} expected, `{other}` given", words::counted(run.answers.len(), "event"))
+            }
+            (_, _, Err(refused)) => format!("{} expected, `{other}` given", refusal_words(*refused)),
+            _ => format!("line {number}: `{line}` expected, `{other}` given"),
+        }
+    }
+
+    fn of_output(&self, run: &Run, bytes: &[u8]) -> String {
+        let expected = run.output();
+        if bytes.len() != expected.len() {
+            let same = expected.iter().zip(bytes).take_while(|(a, b)| a == b).count();
+            let at = same / ANSWER_SIZE;
+            return if at < run.answers.len().min(bytes.len() / ANSWER_SIZE) {
+                self.of_answers(at, run.answers[at], Run::of(bytes, at + 1).answers[at])
+            } else {
+                let (expected, given) = (words::counted(expected.len(), "byte"), words::counted(bytes.len(), "byte"));
+                format!("{expected} of output expected, {given} given")
+            };
+        }
+        self.of_runs(run, &Run::of(bytes, run.answers.len()))
+    }
+
+    /// The first answer, or the first loss count, that differs.
+    fn of_runs(&self, expected: &Run, given: &Run) -> String {
+        let answers = expected.answers.iter().zip(&given.answers).enumerate();
+        if let Some((step, (a, b))) = answers.into_iter().find(|(_, (a, b))| a != b) {
+            return self.of_answers(step, *a, *b);
+        }
+        let losses = expected.losses.iter().zip(&given.losses).enumerate();
+        match losses.into_iter().find(|(_, (a, b))| a != b) {
+            Some((body, (a, b))) => self.of_losses(body, (*a).into(), (*b).into()),
+            None => "nothing differs".into(),
+        }
+    }
+
+    fn of_call(&self, result: u64, buffer: &[u8]) -> String {
+        let given = Refused::of(result);
+        match (Refused::of(self.result), given) {
+            (Some(expected), Some(given)) if expected == given => {
+                let at = first_difference(&self.buffer, buffer);
+                format!("{} as expected, but byte {at} of the output was written", refusal_words(expected))
+            }
+            (Some(expected), Some(given)) => {
+                format!("{} expected, {} given", refusal_words(expected), refusal_words(given))
+            }
+            (Some(expected), None) => {
+                format!("{} expected, {} given", refusal_words(expected), words::counted(result as usize, "event"))
+            }
+            (None, Some(given)) => {
+                format!("{} expected, {} given", words::counted(self.events.len(), "event"), refusal_words(given))
+            }
+            (None, None) if result != self.result => {
+                let given = words::counted(result as usize, "event");
+                format!("{} expected, {given} given", words::counted(self.events.len(), "event"))
+            }
+            (None, None) => self.of_buffers(buffer),
+        }
+    }
+
+    fn of_buffers(&self, buffer: &[u8]) -> String {
+        let Ok(run) = &self.outcome else { return "nothing differs".into() };
+        let length = run.answers.len() * ANSWER_SIZE + run.losses.len() * LOSS_SIZE;
+        let at = first_difference(&self.buffer, buffer);
+        match buffer.get(..length) {
+            Some(output) if at < length => self.of_runs(run, &Run::of(output, run.answers.len())),
+            _ => format!("byte {at} of the output buffer was written, and the output ends at {length}"),
+        }
+    }
+
+    fn of_answers(&self, step: usize, expected: Answer, given: Answer) -> String {
+        let runner = |body: Option<u8>| body.map_or_else(|| "-".into(), |body| self.names.body(body.into()));
+        let mut fields = Vec::new();
+        let mut compare = |name: &str, expected: String, given: String| {
+            if expected != given {
+                fields.push(format!("{name} {expected} expected, {given} given"));
+            }
+        };
+        compare("status", words::status_words(expected.status), words::status_words(given.status));
+        compare("runner", runner(expected.runner), runner(given.runner));
+        compare("level", expected.level.to_string(), given.level.to_string());
+        compare("begun", expected.begun.to_string(), given.begun.to_string());
+        let event = self.events.get(step).map_or_else(String::new, |event| format!(" {}", self.names.event(event)));
+        format!("event {step}{event}: {}", fields.join("; "))
+    }
+
+    fn of_losses(&self, body: usize, expected: u32, given: u32) -> String {
+        format!("losses of body {body} {}: {expected} expected, {given} given", self.names.body(body as u32))
+    }
+}
+
+fn first_difference(a: &[u8], b: &[u8]) -> usize {
+    a.iter().zip(b).take_while(|(a, b)| a == b).count()
+}
+
+fn refusal_words(refused: Refused) -> String {
+    format!("refusal {} at place {}", refused.code, refused.place)
+}
+
+struct Row {
+    step: usize,
+    code: u32,
+    answer: Answer,
+}
+
+/// A row of a listing.
+fn row(line: &str) -> Option<Row> {
+    let cells: Vec<&str> = line.split(' ').collect();
+    let [step, code, status, runner, level, begun] = cells[..] else { return None };
+    let runner = if runner == "-" { None } else { Some(runner.parse().ok()?) };
+    let answer =
+        Answer { status: status.parse().ok()?, runner, level: level.parse().ok()?, begun: begun.parse().ok()? };
+    Some(Row { step: step.parse().ok()?, code: code.parse().ok()?, answer })
+}
+
+/// A line `lost BODY COUNT`.
+fn lost(line: &str) -> Option<(usize, u32)> {
+    let (body, count) = line.strip_prefix("lost ")?.split_once(' ')?;
+    Some((body.parse().ok()?, count.parse().ok()?))
+}
+
+#[cfg(test)]
+mod tests {
+    use super::*;
+    use osek_tests::fast::OUTPUT_MAX;
+    use osek_tests::listing::{DOCUMENT_CONFIG, DOCUMENT_LISTING, DOCUMENT_TRACE};
+
+    fn expected() -> Expected {
+        let (config, trace) = (DOCUMENT_CONFIG.to_vec(), DOCUMENT_TRACE.to_vec());
+        Expected::of(&Case { config, trace, out_len: OUTPUT_MAX, fill: 0 })
+    }
+
+    #[track_caller]
+    fn assert_told(reply: Reply, told: &str) {
+        assert_eq!(expected().difference(&reply).as_deref(), Some(told));
+    }
+
+    fn listing(from: &str, to: &str) -> Reply {
+        Reply::Listing(DOCUMENT_LISTING.replace(from, to))
+    }
+
+    #[test]
+    fn equal_replies_have_no_difference() {
+        let expected = expected();
+        let output = expected.outcome.clone().expect("the listing is accepted").output();
+        assert_eq!(expected.difference(&Reply::Listing(DOCUMENT_LISTING.into())), None);
+        assert_eq!(expected.difference(&Reply::Output(output)), None);
+        assert_eq!(expected.difference(&Reply::Call(expected.result, expected.buffer.clone())), None);
+    }
+
+    #[test]
+    fn a_listing_s_first_difference_is_told() {
+        assert_told(
+            listing("6 2 6 0 5 0", "6 2 2 0 5 0"),
+            "event 6 Finish: status 6 E_OS_RESOURCE expected, 2 E_OS_CALLEVEL given",
+        );
+        assert_told(
+            listing("7 5 0 1 5 1", "7 5 0 - 0 0"),
+            "event 7 Release resource0: runner task1 expected, - given; level 5 expected, 0 given; begun 1 expected, 0 \
+             given",
+        );
+        assert_told(listing("lost 0 1", "lost 0 2"), "losses of body 0 task0: 1 expected, 2 given");
+        assert_told(listing("lost 0 1\n", ""), "line 19: `lost 0 1` expected, the listing ends before it");
+        assert_told(listing("\n", "\r\n"), "the listings have the same lines, but not the same line ends");
+        assert_told(Reply::Listing("refused 23 1\n".into()), "17 events expected, `refused 23 1` given");
+    }
+
+    #[test]
+    fn an_output_s_first_difference_is_told() {
+        let mut output = expected().outcome.expect("the listing is accepted").output();
+        output[4 * 3 + 2] = 5;
+        assert_told(Reply::Output(output.clone()), "event 3 Line isr2: level 9 expected, 5 given");
+        output.truncate(10);
+        assert_told(Reply::Output(output), "74 bytes of output expected, 10 bytes given");
+    }
+
+    #[test]
+    fn a_call_s_difference_is_told() {
+        let Expected { result, mut buffer, .. } = expected();
+        assert_told(Reply::Call(5 << 32, buffer.clone()), "17 events expected, refusal 5 at place 0 given");
+        buffer[80] ^= 1;
+        assert_told(Reply::Call(result, buffer), "byte 80 of the output buffer was written, and the output ends at 74");
+    }
+}

@@ -1,0 +1,122 @@
+//! The proved run: what it says of a configuration and a trace.
+
+use std::fmt::Write;
+
+use osek_tests::fast::{IDLE, OUTPUT_MAX};
+use osek_tests::subject;
+
+use crate::layout::Event;
+
+/// Bytes of an answer and of a loss count in the output.
+pub const ANSWER_SIZE: usize = 4;
+pub const LOSS_SIZE: usize = 2;
+
+/// What an event gave.
+#[derive(Clone, Copy, PartialEq, Eq, Debug)]
+pub struct Answer {
+    pub status: u8,
+    /// The running body, if one runs.
+    pub runner: Option<u8>,
+    pub level: u8,
+    pub begun: u8,
+}
+
+impl Answer {
+    fn of(bytes: &[u8]) -> Answer {
+        Answer { status: bytes[0], runner: (bytes[1] != IDLE).then_some(bytes[1]), level: bytes[2], begun: bytes[3] }
+    }
+}
+
+/// An accepted run.
+#[derive(Clone, PartialEq, Eq, Debug)]
+pub struct Run {
+    pub answers: Vec<Answer>,
+    /// By body.
+    pub losses: Vec<u16>,
+}
+
+impl Run {
+    /// The run that an output of `events` events says.
+    pub fn of(output: &[u8], events: usize) -> Run {
+        let (answers, losses) = output.split_at(ANSWER_SIZE * events);
+        Run {
+            answers: answers.chunks_exact(ANSWER_SIZE).map(Answer::of).collect(),
+            losses: losses.chunks_exact(LOSS_SIZE).map(|loss| u16::from_le_bytes([loss[0], loss[1]])).collect(),
+        }
+    }
+
+    pub fn output(&self) -> Vec<u8> {
+        let answers = self.answers.iter().flat_map(|a| [a.status, a.runner.unwrap_or(IDLE), a.level, a.begun]);
+        answers.chain(self.losses.iter().flat_map(|loss| loss.to_le_bytes())).collect()
+    }
+}
+
+#[derive(Clone, Copy, PartialEq, Eq, Debug)]
+pub struct Refused {
+    pub code: u32,
+    pub place: u32,
+}
+
+impl Refused {
+    /// The refusal in a result, if it is one.
+    pub fn of(result: u64) -> Option<Refused> {
+        let code = (result >> 32) as u32;
+        (code != 0).then_some(Refused { code, place: result as u32 })
+    }
+}
+
+pub fn run(config: &[u8], trace: &[u8]) -> Result<Run, Refused> {
+    let mut out = vec![0; OUTPUT_MAX];
+    let result = subject::run(config, trace, &mut out);
+    match Refused::of(result) {
+        Some(refused) => Err(refused),
+        None => {
+            let events = result as usize;
+            // An accepted configuration's second byte is its body count.
+            out.truncate(ANSWER_SIZE * events + LOSS_SIZE * usize::from(config[1]));
+            Ok(Run::of(&out, events))
+        }
+    }
+}
+
+/// Why the configuration is refused, whatever the trace.
+pub fn config_refusal(config: &[u8]) -> Option<Refused> {
+    run(config, &[]).err()
+}
+
+/// Why the trace is refused over an accepted configuration.
+pub fn trace_refusal(trace: &[u8]) -> Option<Refused> {
+    const ONE_TASK: [u8; 7] = [1, 1, 0, 1, 1, 0, 0];
+    run(&ONE_TASK, trace).err()
+}
+
+/// The bench program's listing.
+pub fn listing(outcome: &Result<Run, Refused>, events: &[Event]) -> String {
+    let run = match outcome {
+        Err(Refused { code, place }) => return format!("refused {code} {place}\n"),
+        Ok(run) => run,
+    };
+    let mut text = String::from("step event status runner level begun\n");
+    for (step, (answer, event)) in run.answers.iter().zip(events).enumerate() {
+        let runner = answer.runner.map_or_else(|| "-".into(), |body| body.to_string());
+        let Answer { status, level, begun, .. } = answer;
+        let _ = writeln!(text, "{step} {} {status} {runner} {level} {begun}", event.word.code);
+    }
+    for (body, count) in run.losses.iter().enumerate().filter(|(_, count)| **count > 0) {
+        let _ = writeln!(text, "lost {body} {count}");
+    }
+    text
+}
+
+#[cfg(test)]
+mod tests {
+    use super::*;
+    use crate::layout;
+    use osek_tests::listing::{DOCUMENT_CONFIG, DOCUMENT_LISTING, DOCUMENT_TRACE};
+
+    #[test]
+    fn the_document_s_listing_is_given() {
+        let outcome = run(&DOCUMENT_CONFIG, &DOCUMENT_TRACE);
+        assert_eq!(listing(&outcome, &layout::trace(&DOCUMENT_TRACE).events), DOCUMENT_LISTING);
+    }
+}

@@ -1,0 +1,170 @@
+//! Who is in which state when, from the fresh start on, and the pictures of it.
+//!
+//! The library's answers say who runs, not who waits. The states in between come from the Rust version that the tests
+//! keep; every answer of it, and its losses, are compared with the library's before anything is drawn.
+
+pub mod svg;
+pub mod trace_events;
+pub mod vcd;
+
+use osek_tests::fast::{self, Kernel, NextDue};
+
+use crate::failure::Failure;
+use crate::input::Pair;
+use crate::layout::{self, Body, Event};
+use crate::names::Names;
+use crate::reference::{self, Answer, Run};
+
+/// Document 01's states, with OSEK's words for a started body: it runs or is preempted.
+#[derive(Clone, Copy, PartialEq, Eq, Debug)]
+pub enum State {
+    Suspended,
+    Ready,
+    Running,
+    Preempted,
+}
+
+pub const STATES: [State; 4] = [State::Suspended, State::Ready, State::Running, State::Preempted];
+
+impl State {
+    pub fn word(self) -> &'static str {
+        match self {
+            State::Suspended => "suspended",
+            State::Ready => "ready",
+            State::Running => "running",
+            State::Preempted => "preempted",
+        }
+    }
+}
+
+/// What holds after an event, or at the fresh start.
+#[derive(Clone, PartialEq, Eq, Debug)]
+pub struct Moment {
+    /// By body.
+    pub states: Vec<State>,
+    /// By body: a request waits to begin; of a started ISR it is the second one.
+    pub requests: Vec<bool>,
+    pub losses: Vec<u16>,
+    pub runner: Option<u8>,
+    pub level: u8,
+}
+
+pub struct Step {
+    pub event: Event,
+    pub answer: Answer,
+    pub after: Moment,
+    /// Ticks so far, this event included.
+    pub tick: u32,
+}
+
+/// An accepted run, step by step.
+pub struct Timeline {
+    pub names: Names,
+    pub bodies: Vec<Body>,
+    pub fresh: Moment,
+    pub steps: Vec<Step>,
+}
+
+/// The length of a tick and of the whole in pictures that have a time, in nanoseconds.
+const TICK: u64 = 1_000_000;
+
+impl Timeline {
+    pub fn of(pair: Pair, run: &Run) -> Result<Timeline, Failure> {
+        let (config_bytes, trace) = (&pair.config.source.bytes, &pair.trace.bytes);
+        let config = fast::read_config(config_bytes).map_err(|_| disagreement("reading the configuration"))?;
+        let mut kernel = Kernel::<NextDue>::fresh(&config);
+        let fresh = moment(&kernel, config.bodies());
+        check_fresh(config_bytes, &fresh)?;
+        let mut steps = Vec::with_capacity(run.answers.len());
+        let mut tick = 0;
+        for (index, event) in layout::trace(trace).events.into_iter().enumerate() {
+            let place = format!("event {index}");
+            let (call, _) = fast::read_event(trace, event.offset).map_err(|_| disagreement(&place))?;
+            let given = kernel.step(call);
+            let after = moment(&kernel, config.bodies());
+            let answer = *run.answers.get(index).ok_or_else(|| disagreement(&place))?;
+            let same = (given.status, after.runner, given.level, given.begun)
+                == (answer.status, answer.runner, answer.level, answer.begun);
+            if !same {
+                return Err(disagreement(&place));
+            }
+            tick += u32::from(event.word.is_tick());
+            steps.push(Step { event, answer, after, tick });
+        }
+        if kernel.losses() != run.losses {
+            return Err(disagreement("the losses"));
+        }
+        let bodies = layout::config(config_bytes).objects.bodies;
+        Ok(Timeline { names: pair.config.names, bodies, fresh, steps })
+    }
+
+    /// The moments, the fresh start first.
+    pub fn moments(&self) -> impl Iterator<Item = &Moment> {
+        std::iter::once(&self.fresh).chain(self.steps.iter().map(|step| &step.after))
+    }
+
+    /// The moment before a step.
+    pub fn before(&self, step: usize) -> &Moment {
+        step.checked_sub(1).map_or(&self.fresh, |before| &self.steps[before].after)
+    }
+
+    /// The bodies, the greatest priority first.
+    pub fn by_priority(&self) -> Vec<usize> {
+        let mut bodies: Vec<usize> = (0..self.bodies.len()).collect();
+        bodies.sort_by_key(|body| std::cmp::Reverse(self.bodies[*body].priority));
+        bodies
+    }
+
+    /// When each step happens, then the end. The n-th tick is at n times its length; the events between two ticks are
+    /// spread evenly.
+    pub fn times(&self) -> Vec<u64> {
+        let mut times = Vec::with_capacity(self.steps.len() + 1);
+        let mut first = 0;
+        let mut tick = 0;
+        while first < self.steps.len() {
+            tick = self.steps[first].tick;
+            let together = self.steps[first..].iter().take_while(|step| step.tick == tick).count() as u64;
+            // Before the first tick the fresh start takes the first place.
+            let shift = u64::from(tick == 0);
+            let places = together + shift;
+            times.extend((0..together).map(|place| u64::from(tick) * TICK + (place + shift) * TICK / places));
+            first += together as usize;
+        }
+        times.push((u64::from(tick) + 1) * TICK);
+        times
+    }
+}
+
+fn moment(kernel: &Kernel<NextDue>, bodies: usize) -> Moment {
+    let runner = kernel.runner();
+    let state = |body: u32| match () {
+        () if runner == Some(body) => State::Running,
+        () if kernel.is_started(body) => State::Preempted,
+        () if kernel.is_suspended(body) => State::Suspended,
+        () => State::Ready,
+    };
+    let all = || 0..bodies as u32;
+    Moment {
+        states: all().map(state).collect(),
+        requests: all().map(|body| kernel.is_requested(body)).collect(),
+        losses: kernel.losses().to_vec(),
+        runner: runner.map(|body| body as u8),
+        level: kernel.level(),
+    }
+}
+
+/// A Line that names no ISR changes nothing, so that its answer shows the fresh start.
+fn check_fresh(config: &[u8], fresh: &Moment) -> Result<(), Failure> {
+    const LINE_OF_NOBODY: [u8; 6] = [7, 0xff, 0xff, 0xff, 0xff, 0x0f];
+    let run = reference::run(config, &LINE_OF_NOBODY).map_err(|_| disagreement("the fresh start"))?;
+    let shown = run.answers.first().map(|answer| (answer.runner, answer.level));
+    if shown == Some((fresh.runner, fresh.level)) {
+        Ok(())
+    } else {
+        Err(disagreement("the fresh start"))
+    }
+}
+
+fn disagreement(place: &str) -> Failure {
+    Failure::Output(format!("the timeline's states and the library's answers differ at {place}: nothing is drawn"))
+}
