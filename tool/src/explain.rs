@@ -67,8 +67,8 @@ fn config_sentence(bytes: &[u8], code: u32, place: usize, names: &Names) -> (Str
             let offset = read.objects.tables[table].entries.get(entry).map_or(0, |entry| entry.offset);
             let (before_offset, before_task) = (before.offset, names.body(before.task));
             format!(
-                "an entry after the one before it, rising by offset, then by task, none twice: offset {offset}, task \
-                 {} comes after offset {before_offset}, task {before_task}",
+                "an entry after the one before it, rising by offset, then by task, none twice; offset {offset}, task \
+                 {} does not come after offset {before_offset}, task {before_task}",
                 names.body(number.value)
             )
         }),
@@ -101,37 +101,37 @@ fn trace_sentence(bytes: &[u8], place: usize) -> (String, usize) {
     }
 }
 
+/// The most bytes of a number, and the greatest that the last of them may be.
+const NUMBER_MAX: usize = 5;
+const FIFTH_MAX: u8 = 15;
+
+/// The sentence about a number that can't be read, and where its bytes end.
 fn stopped(bytes: &[u8], name: &str, stop: Stop) -> (String, usize) {
     let place = stop.offset().min(bytes.len());
     let rest = &bytes[place..];
-    let shown = &rest[..rest.len().min(NUMBER_MAX)];
-    match stop {
-        Stop::Cut(_) if rest.is_empty() => (format!("{name} is missing: the input ends here."), bytes.len()),
-        Stop::Cut(_) => {
-            let sentence = format!(
+    if rest.is_empty() {
+        return (format!("{name} is missing: the input ends here."), place);
+    }
+    let groups = rest.iter().take(NUMBER_MAX - 1).take_while(|byte| **byte >= 0x80).count() + 1;
+    let number = &rest[..groups.min(rest.len())];
+    let sentence = match (stop, number.get(NUMBER_MAX - 1)) {
+        (Stop::Cut(_), _) => {
+            format!(
                 "{name} is not complete: after {} the input ends, and the last byte of a number is below 80.",
                 hex(rest)
-            );
-            (sentence, bytes.len())
-        }
-        _ => {
-            let groups = shown.iter().take_while(|byte| **byte >= 0x80).count() + 1;
-            let end = place + groups.min(shown.len());
-            let why = if groups >= NUMBER_MAX {
-                "its fifth byte may be at most 0f, so that it is at most 4,294,967,295, and its last byte not 00"
-            } else {
-                "its last byte is 00, so it would be shorter without it"
-            };
-            (
-                format!("{name} is not a number in its shortest form: {} is refused, {why}.", hex(&bytes[place..end])),
-                end,
             )
         }
-    }
+        (_, Some(fifth)) if *fifth > FIFTH_MAX => {
+            format!("{name} is above 4,294,967,295: {} is refused, a fifth byte may be at most 0f.", hex(number))
+        }
+        _ => format!(
+            "{name} is not a number in its shortest form: {} is refused, its last byte is 00, so it would be shorter \
+             without it.",
+            hex(number)
+        ),
+    };
+    (sentence, place + number.len())
 }
-
-/// The most bytes of a number.
-const NUMBER_MAX: usize = 5;
 
 /// Bytes in a row of the excerpt.
 const ROW: usize = 16;

@@ -128,8 +128,11 @@ pub struct Holds {
 
 /// What a text holds. Names in its trace are those of its configuration, or else `names`.
 pub fn assemble(file: &str, text: &str, wanted: Option<Part>, names: Option<&Names>) -> Result<Holds, InputFault> {
+    assemble_sheet(file, text, Sheet::of(plain(text), wanted), names)
+}
+
+fn assemble_sheet(file: &str, text: &str, sheet: Sheet, names: Option<&Names>) -> Result<Holds, InputFault> {
     let wrong = |fault: Fault| InputFault::Wrong(fault_words(file, text, &fault));
-    let sheet = Sheet::of(plain(text), wanted);
     let mut holds = Holds::default();
     if let Some(lines) = sheet.config {
         let (assembled, names) = text::config::assemble(lines).map_err(wrong)?;
@@ -150,13 +153,16 @@ pub fn read_config(file: &str) -> Result<Config, InputFault> {
 }
 
 fn config_of(file: &str, content: Content) -> Result<Config, InputFault> {
-    match content {
-        Content::Bytes(bytes) => Ok(Config::of_bytes(file, bytes)),
-        Content::Text(text) => {
-            let holds = assemble(file, &text, Some(Part::Config), None)?;
-            holds.config.ok_or_else(|| InputFault::Wrong(format!("{file} holds a trace alone, no configuration")))
-        }
-    }
+    let text = match content {
+        Content::Bytes(bytes) => return Ok(Config::of_bytes(file, bytes)),
+        Content::Text(text) => text,
+    };
+    let sheet = Sheet { trace: None, ..Sheet::of(plain(&text), Some(Part::Config)) };
+    assemble_sheet(file, &text, sheet, None)?.config.ok_or_else(|| no_configuration(file))
+}
+
+fn no_configuration(file: &str) -> InputFault {
+    InputFault::Wrong(format!("{file} holds a trace alone, no configuration"))
 }
 
 fn trace_of(file: &str, content: Content, names: &Names) -> Result<Source, InputFault> {
@@ -164,38 +170,49 @@ fn trace_of(file: &str, content: Content, names: &Names) -> Result<Source, Input
         Content::Bytes(bytes) => return Ok(Source::of_bytes(file, bytes)),
         Content::Text(text) => text,
     };
-    if Sheet::of(plain(&text), Some(Part::Trace)).config.is_some() {
+    let sheet = Sheet::of(plain(&text), Some(Part::Trace));
+    if sheet.config.is_some() {
         let message = format!("{file} holds a configuration of its own: give it as the only file, or a trace alone");
         return Err(InputFault::Wrong(message));
     }
-    let holds = assemble(file, &text, Some(Part::Trace), Some(names))?;
-    Ok(holds.trace.unwrap_or_else(|| Source::of_bytes(file, Vec::new())))
+    let trace = assemble_sheet(file, &text, sheet, Some(names))?.trace;
+    Ok(trace.unwrap_or_else(|| Source::of_bytes(file, Vec::new())))
 }
 
-/// A configuration and a trace, from two files or from one text that holds both.
+/// A configuration and a trace.
 pub struct Pair {
     pub config: Config,
     pub trace: Source,
 }
 
+/// From two files, or from one text that holds both.
 pub fn read_pair(files: &[String]) -> Result<Pair, InputFault> {
-    if let [config_file, trace_file] = files {
-        // Both are read before either is judged, as the bench program does.
-        let (config, trace) = (read(config_file, Part::Config)?, read(trace_file, Part::Trace)?);
-        let config = config_of(config_file, config)?;
-        let trace = trace_of(trace_file, trace, &config.names)?;
-        return Ok(Pair { config, trace });
+    match files {
+        [config_file, trace_file, ..] => {
+            // Both are read before either is judged, as the bench program does.
+            let (config, trace) = (read(config_file, Part::Config)?, read(trace_file, Part::Trace)?);
+            let config = config_of(config_file, config)?;
+            let trace = trace_of(trace_file, trace, &config.names)?;
+            Ok(Pair { config, trace })
+        }
+        [file] => both_of(file, read(file, Part::Config)?),
+        [] => Err(InputFault::Wrong("no file is named".into())),
     }
-    let file = &files[0];
-    let Content::Text(text) = read(file, Part::Config)? else {
+}
+
+fn both_of(file: &str, content: Content) -> Result<Pair, InputFault> {
+    let Content::Text(text) = content else {
         return Err(InputFault::Wrong(format!("{file} holds bytes: the trace has to be a second file")));
     };
-    match assemble(file, &text, Some(Part::Config), None)? {
+    let sheet = Sheet::of(plain(&text), Some(Part::Config));
+    if sheet.config.is_none() {
+        return Err(no_configuration(file));
+    }
+    match assemble_sheet(file, &text, sheet, None)? {
         Holds { config: Some(config), trace: Some(trace) } => Ok(Pair { config, trace }),
-        Holds { config: None, .. } => Err(InputFault::Wrong(format!("{file} holds a trace alone, no configuration"))),
-        Holds { trace: None, .. } => {
-            let where_to = "it follows a line `trace`, or is a second file";
-            Err(InputFault::Wrong(format!("{file} holds a configuration alone, no trace: {where_to}")))
+        _ => {
+            let place = "it follows a line `trace`, or is a second file";
+            Err(InputFault::Wrong(format!("{file} holds a configuration alone, no trace: {place}")))
         }
     }
 }

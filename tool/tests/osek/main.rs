@@ -1,0 +1,10 @@
+//! The bench tool, run as a process on files.
+
+mod cases;
+mod command_line;
+mod common;
+mod compare;
+mod explain;
+mod run;
+mod text;
+mod timeline;
