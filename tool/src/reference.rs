@@ -90,6 +90,13 @@ pub fn trace_refusal(trace: &[u8]) -> Option<Refused> {
     run(&ONE_TASK, trace).err()
 }
 
+/// Who runs after the fresh start of an accepted configuration, and at which level: the answer to a Line that names no
+/// ISR, which changes nothing.
+pub fn fresh_start(config: &[u8]) -> Option<Answer> {
+    const LINE_OF_NOBODY: [u8; 6] = [7, 0xff, 0xff, 0xff, 0xff, 0x0f];
+    run(config, &LINE_OF_NOBODY).ok()?.answers.first().copied()
+}
+
 /// The bench program's listing.
 pub fn listing(outcome: &Result<Run, Refused>, events: &[Event]) -> String {
     let run = match outcome {

@@ -41,16 +41,14 @@ fn statuses(pair: &Pair, run: &Run) -> String {
     let events = layout::trace(&pair.trace.bytes).events;
     let refused = run.answers.iter().filter(|answer| answer.status != 0).count();
     let mut text = format!("accepted: {}, {refused} with a status other than 0\n", counted(events.len(), "event"));
-    let mut runner = None;
+    let fresh = reference::fresh_start(&pair.config.source.bytes);
+    let mut runner = fresh.and_then(|answer| answer.runner).map(u32::from);
     for (step, (event, answer)) in events.iter().zip(&run.answers).enumerate() {
         if answer.status != 0 {
-            let by = match runner {
-                Some(body) => format!(" by {}", pair.config.names.body(body)),
-                None => String::new(),
-            };
+            let runner = runner.map_or_else(|| "nobody".into(), |body| pair.config.names.body(body));
             let _ = writeln!(
                 text,
-                "event {step} {}{by}: status {}: {}",
+                "event {step} {} while {runner} runs: status {}: {}",
                 pair.config.names.event(event),
                 words::status_words(answer.status),
                 words::status_meaning(event.word, answer.status),

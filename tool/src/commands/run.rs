@@ -22,7 +22,7 @@ Runs a trace over a configuration and prints the listing: per event its index, c
 idle), the level and the begun mark, then `lost BODY COUNT` for every body with lost activations. A refused run prints
 `refused CODE PLACE` alone; `osek explain` says it in a sentence. 40 and 41: CONFIG or TRACE can't be read.
 
-  --names    the same in words: names, OSEK's status names, ticks that change nothing in one line
+  --names    the same in words: names, OSEK's status names, ticks with equal answers in one line
   --json     one object: `events` and `bodies`, or `refused`
   --csv      a row for each event, with a header
   --losses   with --csv: a row for each body instead, with its lost activations

@@ -71,69 +71,93 @@ impl Expected {
         }
     }
 
-    /// The first line that differs, in words where it is a row of the listing.
+    /// By the values that the listing says, where it is one; otherwise by the first line that differs.
     fn of_listing(&self, text: &str) -> String {
-        let listing = self.listing();
-        let (mut expected, mut given) = (listing.lines(), text.lines());
-        for number in 1.. {
-            let (line, other) = (expected.next(), given.next());
-            if line == other && line.is_some() {
-                continue;
+        let given = self.parsed(text);
+        match (&self.outcome, given) {
+            (Ok(expected), Some(Ok(given))) if *expected != given => self.of_runs(expected, &given),
+            (Ok(expected), Some(Err(given))) => {
+                format!("{} expected, {} given", words::counted(expected.answers.len(), "event"), refusal_words(given))
             }
-            let (Some(line), Some(other)) = (line, other) else {
-                return match (line, other) {
-                    (Some(line), None) => format!("line {number}: `{line}` expected, the listing ends before it"),
-                    (None, Some(other)) => format!("line {number}: the listing ends before it, `{other}` given"),
-                    _ => "the listings have the same lines, but not the same line ends".into(),
-                };
-            };
-            return match (row(line), row(other)) {
-                (Some(line), Some(other)) if line.step == other.step && line.code == other.code => {
-                    self.of_answers(line.step, line.answer, other.answer)
-                }
-                _ => self.of_lines(number, line, other),
-            };
+            (Err(expected), Some(Err(given))) if *expected != given => {
+                format!("{} expected, {} given", refusal_words(*expected), refusal_words(given))
+            }
+            (Err(expected), Some(Ok(given))) => {
+                format!("{} expected, {} given", refusal_words(*expected), words::counted(given.answers.len(), "event"))
+            }
+            _ => self.of_lines(text),
         }
-        unreachable!("one of the listings ends")
     }
 
-    fn of_lines(&self, number: usize, line: &str, other: &str) -> String {
-        match (lost(line), lost(other), &self.outcome) {
-            (Some((body, count)), Some((other_body, other_count)), _) if body == other_body => {
-                self.of_losses(body, count, other_count)
+    /// The first line that differs.
+    fn of_lines(&self, text: &str) -> String {
+        let listing = self.listing();
+        let (mut expected, mut given) = (listing.lines(), text.lines());
+        let mut number = 1;
+        loop {
+            match (expected.next(), given.next()) {
+                (Some(line), Some(other)) if line == other => number += 1,
+                (Some(line), Some(other)) => return format!("line {number}: `{line}` expected, `{other}` given"),
+                (Some(line), None) => return format!("line {number}: `{line}` expected, the listing ends before it"),
+                (None, Some(other)) => return format!("line {number}: the end expected, `{other}` given"),
+                (None, None) => return "the listings have the same lines, but not the same line ends".into(),
             }
-            (_, _, Ok(run)) if other.starts_with("refused ") => {
-                format!("{} expected, `{other}` given", words::counted(run.answers.len(), "event"))
-            }
-            (_, _, Err(refused)) => format!("{} expected, `{other}` given", refusal_words(*refused)),
-            _ => format!("line {number}: `{line}` expected, `{other}` given"),
         }
+    }
+
+    /// The run that a listing says, if it is one of these events and bodies.
+    fn parsed(&self, text: &str) -> Option<Result<Run, Refused>> {
+        let mut lines = text.lines();
+        let first = lines.next()?;
+        if let Some(refused) = first.strip_prefix("refused ") {
+            let (code, place) = refused.split_once(' ')?;
+            return Some(Err(Refused { code: code.parse().ok()?, place: place.parse().ok()? }));
+        }
+        let mut run = Run { answers: Vec::new(), losses: vec![0; self.names.bodies.len()] };
+        for line in lines {
+            if let Some((body, count)) = lost(line) {
+                *run.losses.get_mut(body)? = count;
+            } else {
+                let row = row(line)?;
+                let here = row.step == run.answers.len();
+                let same = self.events.get(row.step).is_some_and(|event| event.word.code == row.code);
+                run.answers.push((here && same).then_some(row.answer)?);
+            }
+        }
+        Some(Ok(run))
     }
 
     fn of_output(&self, run: &Run, bytes: &[u8]) -> String {
-        let expected = run.output();
-        if bytes.len() != expected.len() {
-            let same = expected.iter().zip(bytes).take_while(|(a, b)| a == b).count();
-            let at = same / ANSWER_SIZE;
-            return if at < run.answers.len().min(bytes.len() / ANSWER_SIZE) {
-                self.of_answers(at, run.answers[at], Run::of(bytes, at + 1).answers[at])
-            } else {
-                let (expected, given) = (words::counted(expected.len(), "byte"), words::counted(bytes.len(), "byte"));
-                format!("{expected} of output expected, {given} given")
-            };
+        let length = run.output().len();
+        if bytes.len() == length {
+            return self.of_runs(run, &Run::of(bytes, run.answers.len()));
         }
-        self.of_runs(run, &Run::of(bytes, run.answers.len()))
+        let whole = bytes.len().min(length) / ANSWER_SIZE;
+        let given = Run::of(bytes, whole.min(run.answers.len())).answers;
+        match run.answers.iter().zip(&given).position(|(expected, given)| expected != given) {
+            Some(step) => self.of_answers(step, run.answers[step], given[step]),
+            None => {
+                let (expected, given) = (words::counted(length, "byte"), words::counted(bytes.len(), "byte"));
+                format!("{expected} of output expected, {given} given")
+            }
+        }
     }
 
-    /// The first answer, or the first loss count, that differs.
+    /// The first answer, or else the number of answers, or else the first loss count, that differs.
     fn of_runs(&self, expected: &Run, given: &Run) -> String {
-        let answers = expected.answers.iter().zip(&given.answers).enumerate();
-        if let Some((step, (a, b))) = answers.into_iter().find(|(_, (a, b))| a != b) {
+        let answers = expected.answers.iter().zip(&given.answers);
+        if let Some((step, (a, b))) = answers.enumerate().find(|(_, (a, b))| a != b) {
             return self.of_answers(step, *a, *b);
         }
-        let losses = expected.losses.iter().zip(&given.losses).enumerate();
-        match losses.into_iter().find(|(_, (a, b))| a != b) {
-            Some((body, (a, b))) => self.of_losses(body, (*a).into(), (*b).into()),
+        let (all, others) = (expected.answers.len(), given.answers.len());
+        if all != others {
+            return format!("{} expected, {} given", words::counted(all, "event"), words::counted(others, "event"));
+        }
+        let losses = expected.losses.iter().zip(&given.losses);
+        match losses.enumerate().find(|(_, (a, b))| a != b) {
+            Some((body, (a, b))) => {
+                format!("losses of body {body} {}: {a} expected, {b} given", self.names.body(body as u32))
+            }
             None => "nothing differs".into(),
         }
     }
@@ -187,10 +211,6 @@ impl Expected {
         let event = self.events.get(step).map_or_else(String::new, |event| format!(" {}", self.names.event(event)));
         format!("event {step}{event}: {}", fields.join("; "))
     }
-
-    fn of_losses(&self, body: usize, expected: u32, given: u32) -> String {
-        format!("losses of body {body} {}: {expected} expected, {given} given", self.names.body(body as u32))
-    }
 }
 
 fn first_difference(a: &[u8], b: &[u8]) -> usize {
@@ -218,7 +238,7 @@ fn row(line: &str) -> Option<Row> {
 }
 
 /// A line `lost BODY COUNT`.
-fn lost(line: &str) -> Option<(usize, u32)> {
+fn lost(line: &str) -> Option<(usize, u16)> {
     let (body, count) = line.strip_prefix("lost ")?.split_once(' ')?;
     Some((body.parse().ok()?, count.parse().ok()?))
 }
@@ -264,9 +284,12 @@ mod tests {
              given",
         );
         assert_told(listing("lost 0 1", "lost 0 2"), "losses of body 0 task0: 1 expected, 2 given");
-        assert_told(listing("lost 0 1\n", ""), "line 19: `lost 0 1` expected, the listing ends before it");
+        assert_told(listing("lost 0 1\n", ""), "losses of body 0 task0: 1 expected, 0 given");
+        assert_told(listing("lost 0 1", "lost 0 one"), "line 19: `lost 0 1` expected, `lost 0 one` given");
+        assert_told(listing("15 2 0 - 0 0\n16 2 2 - 0 0\n", ""), "17 events expected, 15 events given");
+        assert_told(listing("5 2 0 0 5 0", "5 3 0 0 5 0"), "line 7: `5 2 0 0 5 0` expected, `5 3 0 0 5 0` given");
         assert_told(listing("\n", "\r\n"), "the listings have the same lines, but not the same line ends");
-        assert_told(Reply::Listing("refused 23 1\n".into()), "17 events expected, `refused 23 1` given");
+        assert_told(Reply::Listing("refused 23 1\n".into()), "17 events expected, refusal 23 at place 1 given");
     }
 
     #[test]

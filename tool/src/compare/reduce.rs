@@ -11,10 +11,10 @@ pub fn reduce(case: &Case, differs: impl Fn(&Case) -> bool) -> Case {
     let mut best = shrink(case, &differs);
     loop {
         let before = best.clone();
-        best = match Pieces::of(&best) {
-            Some(pieces) => smaller_objects(pieces, &best, &differs),
-            None => fewer_bytes(&best, &differs),
-        };
+        if let Some(pieces) = Pieces::of(&best) {
+            best = smaller_objects(pieces, &best, &differs);
+        }
+        best = fewer_bytes(&best, &differs);
         best = shrink(&best, &differs);
         if best == before {
             return best;
@@ -22,31 +22,35 @@ pub fn reduce(case: &Case, differs: impl Fn(&Case) -> bool) -> Case {
     }
 }
 
-/// A configuration that can't be taken apart loses bytes.
+/// What is not an object of the configuration goes byte by byte.
 fn fewer_bytes(case: &Case, differs: &impl Fn(&Case) -> bool) -> Case {
     let with = |config: &[u8]| Case { config: config.to_vec(), ..case.clone() };
     with(&fewest(case.config.clone(), |config| differs(&with(config))))
 }
 
-/// A case whose configuration and trace can be read.
+/// A case whose configuration can be read.
 #[derive(Clone)]
 struct Pieces {
     objects: Objects,
     events: Vec<(&'static EventWord, Vec<u32>)>,
+    /// What follows the objects, and the events that can be read.
+    left_over: Vec<u8>,
+    unread: Vec<u8>,
 }
 
 impl Pieces {
     fn of(case: &Case) -> Option<Pieces> {
         let config = layout::config(&case.config);
         let trace = layout::trace(&case.trace);
-        let whole = config.stop.is_none() && config.end == case.config.len() && trace.stop.is_none();
-        whole.then(|| Pieces {
+        config.stop.is_none().then(|| Pieces {
             objects: config.objects,
             events: trace
                 .events
                 .iter()
                 .map(|event| (event.word, event.arguments.iter().map(|argument| argument.value).collect()))
                 .collect(),
+            left_over: case.config[config.end..].to_vec(),
+            unread: case.trace[trace.end..].to_vec(),
         })
     }
 
@@ -56,8 +60,10 @@ impl Pieces {
             push_number(&mut trace, word.code);
             arguments.iter().for_each(|argument| push_number(&mut trace, *argument));
         }
+        trace.extend(&self.unread);
         let mut config = Vec::new();
         self.objects.numbers().into_iter().for_each(|number| push_number(&mut config, number));
+        config.extend(&self.left_over);
         Case { config, trace, ..like.clone() }
     }
 
@@ -158,12 +164,12 @@ impl Pieces {
         for table in 0..self.objects.tables.len() {
             changed(&|other| other.objects.tables[table].shorten());
         }
-        for (index, (word, _)) in self.events.iter().enumerate() {
-            for (argument, _) in word.arguments.iter().enumerate().filter(|(_, sort)| **sort == Sort::Delay) {
-                changed(&|other| {
-                    let delay = &mut other.events[index].1[argument];
-                    *delay = (*delay).min(1);
-                });
+        for (index, (word, arguments)) in self.events.iter().enumerate() {
+            for (place, _) in word.arguments.iter().enumerate().filter(|(_, sort)| **sort == Sort::Delay) {
+                let delay = arguments[place];
+                for less in [1, 2, delay / 2, delay.saturating_sub(1)].into_iter().filter(|less| *less < delay) {
+                    changed(&|other| other.events[index].1[place] = less);
+                }
             }
         }
         all

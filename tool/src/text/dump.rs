@@ -22,7 +22,7 @@ struct Row {
 const ROW_BYTES: usize = 16;
 
 /// The statement's column is at most so wide; a longer statement pushes its comment to the right.
-const STATEMENT_WIDTH: usize = 40;
+const STATEMENT_WIDTH: usize = 56;
 
 pub fn hex(bytes: &[u8]) -> String {
     bytes.iter().map(|byte| format!("{byte:02x}")).collect::<Vec<_>>().join(" ")

@@ -74,7 +74,10 @@ impl Timeline {
         let config = fast::read_config(config_bytes).map_err(|_| disagreement("reading the configuration"))?;
         let mut kernel = Kernel::<NextDue>::fresh(&config);
         let fresh = moment(&kernel, config.bodies());
-        check_fresh(config_bytes, &fresh)?;
+        let shown = reference::fresh_start(config_bytes).map(|answer| (answer.runner, answer.level));
+        if shown != Some((fresh.runner, fresh.level)) {
+            return Err(disagreement("the fresh start"));
+        }
         let mut steps = Vec::with_capacity(run.answers.len());
         let mut tick = 0;
         for (index, event) in layout::trace(trace).events.into_iter().enumerate() {
@@ -150,18 +153,6 @@ fn moment(kernel: &Kernel<NextDue>, bodies: usize) -> Moment {
         losses: kernel.losses().to_vec(),
         runner: runner.map(|body| body as u8),
         level: kernel.level(),
-    }
-}
-
-/// A Line that names no ISR changes nothing, so that its answer shows the fresh start.
-fn check_fresh(config: &[u8], fresh: &Moment) -> Result<(), Failure> {
-    const LINE_OF_NOBODY: [u8; 6] = [7, 0xff, 0xff, 0xff, 0xff, 0x0f];
-    let run = reference::run(config, &LINE_OF_NOBODY).map_err(|_| disagreement("the fresh start"))?;
-    let shown = run.answers.first().map(|answer| (answer.runner, answer.level));
-    if shown == Some((fresh.runner, fresh.level)) {
-        Ok(())
-    } else {
-        Err(disagreement("the fresh start"))
     }
 }
 

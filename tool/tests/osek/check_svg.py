@@ -24,7 +24,7 @@ named = "fresh start" in texts
 if named:
     labels = [element for element in picture.iter(SVG + "text") if element.get("transform")]
     refused = sum(row[2] != 0 for row in rows)
-    assert sum(label.get("class") == "wrong" for label in labels) == refused
+    assert sum(label.get("class") == "refused" for label in labels) == refused
     calls = sum(row[1] != TICK for row in rows)
     ticks = sum(int(t.split()[0]) if t.endswith(" ticks") else t == "Tick" for t in ("".join(l.itertext()) for l in labels))
     assert ticks == sum(row[1] == TICK for row in rows)

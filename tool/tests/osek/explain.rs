@@ -146,9 +146,9 @@ fn an_accepted_run_says_which_events_were_refused_and_why() {
     folder.osek(&["explain", "both.txt"]).prints(
         "\
 accepted: 17 events, 3 with a status other than 0
-event 4 Chain high by door: status 2 E_OS_CALLEVEL: nobody runs, or an ISR does
-event 6 Finish by low: status 6 E_OS_RESOURCE: the running body holds a resource
-event 16 Finish: status 2 E_OS_CALLEVEL: nobody runs
+event 4 Chain high while door runs: status 2 E_OS_CALLEVEL: nobody runs, or an ISR does
+event 6 Finish while low runs: status 6 E_OS_RESOURCE: the running body holds a resource
+event 16 Finish while nobody runs: status 2 E_OS_CALLEVEL: nobody runs
 ",
         0,
     );

@@ -4,6 +4,7 @@ mod cases;
 mod command_line;
 mod common;
 mod compare;
+mod documents;
 mod explain;
 mod run;
 mod text;
