@@ -1,4 +1,4 @@
-# `make test` is the gate. Everything beyond the kit at /opt/rattle, gcc and cargo is built here.
+# `make test` is the gate. Everything beyond the kit at /opt/rattle, gcc, cargo and python3 is built here.
 
 LIBRARY = target/staticlib/libkernel.a
 CFLAGS = -std=c99 -O2 -Wall -Wextra -Wpedantic -Werror

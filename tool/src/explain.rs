@@ -2,135 +2,138 @@
 
 use std::fmt::Write;
 
+use osek_tests::compare::hex;
+
 use crate::fields;
 use crate::input::{Pair, Source};
-use crate::layout::{self, Field, Place, Stop};
+use crate::layout::{self, Break, Field, TraceField};
 use crate::names::Names;
 use crate::reference::Refused;
-use crate::text::dump::hex;
-use crate::words::{self, counted, grouped, About};
+use crate::words::{self, counted, grouped, About, Part};
+
+/// A sentence, and the bytes that it is about.
+struct Told {
+    sentence: String,
+    from: usize,
+    to: usize,
+}
 
 /// The refusal of a pair, in full.
 pub fn refusal(pair: &Pair, refused: Refused) -> String {
     let Refused { code, place } = refused;
     let Some(word) = words::refusal(code) else {
-        return format!("refused {code} at {place}\n");
+        return refused.line();
     };
+    let place = place as usize;
     let mut text = format!("refused {code} {place}: {}\n", word.meaning);
+    let (config, trace) = (&pair.config.source, &pair.trace);
+    let of = |part: Part| if part == Part::Config { config } else { trace };
     match word.about {
-        About::ConfigNumber => number(&mut text, &pair.config.source, place as usize, |place| {
-            config_sentence(&pair.config.source.bytes, code, place, &pair.config.names)
-        }),
-        About::TraceNumber => {
-            number(&mut text, &pair.trace, place as usize, |place| trace_sentence(&pair.trace.bytes, place))
+        About::Unread(Part::Config) => tell(&mut text, config, unread_field(&config.bytes, &pair.config.names)),
+        About::Unread(Part::Trace) | About::UnknownEvent => tell(&mut text, trace, unread_event(&trace.bytes)),
+        About::Range | About::PriorityUsed | About::EntryOrder | About::EntryTotal => {
+            tell(&mut text, config, not_allowed(&config.bytes, word.about, place, &pair.config.names));
         }
-        About::WholeConfig => whole(&mut text, &pair.config.source),
-        About::WholeTrace => whole(&mut text, &pair.trace),
-        About::Output => _ = writeln!(text, "The output needs {}.", counted(place as usize, "byte")),
-        About::ConfigFile | About::TraceFile => {}
+        About::LeftOver => tell(&mut text, config, left_over(&config.bytes, place)),
+        About::TooLong(part) => {
+            _ = writeln!(text, "{} has {}.", of(part).file, counted(of(part).bytes.len(), "byte"));
+        }
+        About::Output => _ = writeln!(text, "The output needs {}.", counted(place, "byte")),
+        About::Unreadable(_) => {}
     }
     text
 }
 
-fn whole(text: &mut String, source: &Source) {
-    let _ = writeln!(text, "{} has {}.", source.file, counted(source.bytes.len(), "byte"));
+/// A sentence with its file, its line in a text, and its bytes marked among their neighbours.
+fn tell(text: &mut String, source: &Source, told: Option<Told>) {
+    let Some(Told { sentence, from, to }) = told else { return };
+    let _ = match source.position(from) {
+        Some(position) => writeln!(text, "{}:{}:{}: {sentence}", source.file, position.line, position.column),
+        None => writeln!(text, "{}, offset {from}: {sentence}", source.file),
+    };
+    marked(text, &source.bytes, from, to);
 }
 
-/// A sentence about a number, with its file, its line in a text, and its bytes marked among their neighbours.
-fn number(text: &mut String, source: &Source, place: usize, sentence: impl Fn(usize) -> (String, usize)) {
-    let (sentence, end) = sentence(place);
-    let written = match source.position(place) {
-        Some(position) => format!("{}:{}:{}: ", source.file, position.line, position.column),
-        None => format!("{}, offset {place}: ", source.file),
-    };
-    let _ = writeln!(text, "{written}{sentence}");
-    marked(text, &source.bytes, place, end);
+/// The configuration's number that can't be read.
+fn unread_field(bytes: &[u8], names: &Names) -> Option<Told> {
+    let (field, why) = layout::config(bytes).broken?;
+    Some(unread(bytes, &fields::name(field, names), why))
 }
 
-/// The sentence about the configuration's number at `place`, and where its bytes end.
-fn config_sentence(bytes: &[u8], code: u32, place: usize, names: &Names) -> (String, usize) {
-    let read = layout::config(bytes);
-    if let Some((field, stop)) = read.stop.filter(|(_, stop)| stop.offset() == place) {
-        return stopped(bytes, &fields::name(field, names), stop);
-    }
-    let Some((field, number)) = read.numbers.iter().find(|(_, number)| number.offset == place) else {
-        let left = bytes.len() - place.min(bytes.len());
-        let sentence = format!("the configuration is complete here, and {} more follow.", counted(left, "byte"));
-        return (sentence.replace("1 byte more follow.", "1 byte more follows."), bytes.len());
-    };
-    let name = fields::name(*field, names);
-    let value = grouped(u64::from(number.value));
-    let allowed = match (code, *field) {
-        (6, _) => fields::priority_owner(&read.objects, number.value, names)
-            .map(|owner| format!("{}; {owner} has this one already", fields::allowed(*field, &read.objects, names))),
-        (7, Field::Task(table, entry)) => fields::entry_before(&read.objects, table, entry).map(|before| {
-            let offset = read.objects.tables[table].entries.get(entry).map_or(0, |entry| entry.offset);
-            let (before_offset, before_task) = (before.offset, names.body(before.task));
-            format!(
-                "an entry after the one before it, rising by offset, then by task, none twice; offset {offset}, task \
-                 {} does not come after offset {before_offset}, task {before_task}",
-                names.body(number.value)
-            )
-        }),
-        (8, Field::EntryCount(table)) => {
-            let left = fields::entries_left(&read.objects, table);
-            Some(format!("at most {left}, because all tables together have at most 64"))
+/// The number of the configuration at `place`, its value, and what was allowed.
+fn not_allowed(bytes: &[u8], about: About, place: usize, names: &Names) -> Option<Told> {
+    let layout::Config { numbers, objects, .. } = layout::config(bytes);
+    let (field, number) = *numbers.iter().find(|(_, number)| number.offset == place)?;
+    let usual = fields::allowed(field, &objects, names);
+    let allowed = match (about, field) {
+        (About::PriorityUsed, _) => match fields::priority_owner(&objects, number.value, names) {
+            Some(owner) => format!("{usual}; {owner} has this one already"),
+            None => usual,
+        },
+        (About::EntryOrder, Field::Task(table, entry)) => {
+            let entries = &objects.tables.get(table)?.entries;
+            let (before, this) = (entries.get(entry.checked_sub(1)?)?, entries.get(entry)?);
+            let words = |entry: &layout::Entry| format!("offset {}, task {}", entry.offset, names.body(entry.task));
+            let rule = "an entry after the one before it, rising by offset, then by task, none twice";
+            format!("{rule}; {} does not come after {}", words(this), words(before))
         }
-        _ => None,
+        (About::EntryTotal, Field::EntryCount(table)) => fields::entries_left(&objects, table),
+        _ => usual,
     };
-    let allowed = allowed.unwrap_or_else(|| fields::allowed(*field, &read.objects, names));
-    (format!("{name} is {value}. Allowed: {allowed}."), number.end)
+    let sentence = format!("{} is {}. Allowed: {allowed}.", fields::name(field, names), grouped(number.value.into()));
+    Some(Told { sentence, from: number.offset, to: number.end })
 }
 
-/// The sentence about the trace's number at which its reading stops, and where its bytes end.
-fn trace_sentence(bytes: &[u8], place: usize) -> (String, usize) {
+fn left_over(bytes: &[u8], place: usize) -> Option<Told> {
+    let left = bytes.len().checked_sub(place)?;
+    let follow = if left == 1 { "follows" } else { "follow" };
+    let sentence = format!("the configuration is complete here, and {} more {follow}.", counted(left, "byte"));
+    Some(Told { sentence, from: place, to: bytes.len() })
+}
+
+/// The trace's number that can't be read, or is no event's code.
+fn unread_event(bytes: &[u8]) -> Option<Told> {
     let read = layout::trace(bytes);
     let step = read.events.len();
-    match read.stop {
-        Some((_, Stop::UnknownEvent(code))) => {
-            let codes = || words::EVENTS.iter().map(|event| event.code);
-            let (first, last) = (codes().min().unwrap_or(0), codes().max().unwrap_or(0));
-            let value = grouped(u64::from(code.value));
-            (format!("the code of event {step} is {value}. Allowed: {first} to {last}."), code.end)
-        }
-        Some((Place::Code, stop)) => stopped(bytes, &format!("the code of event {step}"), stop),
-        Some((Place::Argument(word, sort), stop)) => {
-            stopped(bytes, &format!("the {} of event {step} {}", sort.name(), word.name), stop)
-        }
-        None => ("nothing is wrong here.".into(), place),
-    }
+    let (field, why) = read.broken?;
+    let name = match field {
+        TraceField::Code => format!("the code of event {step}"),
+        TraceField::Argument(word, sort) => format!("the {} of event {step} {}", sort.name(), word.name),
+    };
+    let Break::UnknownEvent(code) = why else {
+        return Some(unread(bytes, &name, why));
+    };
+    let codes = || words::EVENTS.iter().map(|event| event.code);
+    let (first, last) = (codes().min().unwrap_or(0), codes().max().unwrap_or(0));
+    let sentence = format!("{name} is {}. Allowed: {first} to {last}.", grouped(code.value.into()));
+    Some(Told { sentence, from: code.offset, to: code.end })
 }
 
 /// The most bytes of a number, and the greatest that the last of them may be.
 const NUMBER_MAX: usize = 5;
 const FIFTH_MAX: u8 = 15;
 
-/// The sentence about a number that can't be read, and where its bytes end.
-fn stopped(bytes: &[u8], name: &str, stop: Stop) -> (String, usize) {
-    let place = stop.offset().min(bytes.len());
-    let rest = &bytes[place..];
-    if rest.is_empty() {
-        return (format!("{name} is missing: the input ends here."), place);
-    }
+/// A number that can't be read.
+fn unread(bytes: &[u8], name: &str, why: Break) -> Told {
+    let from = why.offset().min(bytes.len());
+    let rest = &bytes[from..];
     let groups = rest.iter().take(NUMBER_MAX - 1).take_while(|byte| **byte >= 0x80).count() + 1;
     let number = &rest[..groups.min(rest.len())];
-    let sentence = match (stop, number.get(NUMBER_MAX - 1)) {
-        (Stop::Cut(_), _) => {
-            format!(
-                "{name} is not complete: after {} the input ends, and the last byte of a number is below 80.",
-                hex(rest)
-            )
+    let shown = hex(number);
+    let sentence = match (why, number) {
+        (_, []) => format!("{name} is missing: the input ends here."),
+        (Break::Cut(_), _) => {
+            format!("{name} is not complete: after {shown} the input ends, and the last byte of a number is below 80.")
         }
-        (_, Some(fifth)) if *fifth > FIFTH_MAX => {
-            format!("{name} is above 4,294,967,295: {} is refused, a fifth byte may be at most 0f.", hex(number))
+        (_, [_, _, _, _, fifth]) if *fifth > FIFTH_MAX => {
+            format!("{name} is above 4,294,967,295: {shown} is refused, a fifth byte may be at most {FIFTH_MAX:02X}.")
         }
         _ => format!(
-            "{name} is not a number in its shortest form: {} is refused, its last byte is 00, so it would be shorter \
-             without it.",
-            hex(number)
+            "{name} is not a number in its shortest form: {shown} is refused, its last byte is 00, so it would be \
+             shorter without it."
         ),
     };
-    (sentence, place + number.len())
+    Told { sentence, from, to: from + number.len() }
 }
 
 /// Bytes in a row of the excerpt.

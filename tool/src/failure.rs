@@ -3,6 +3,8 @@
 use std::io;
 use std::process::ExitCode;
 
+use crate::output;
+
 /// How a command that did its work ends.
 #[derive(Clone, Copy, PartialEq, Eq, Debug)]
 pub enum Ending {
@@ -54,8 +56,6 @@ pub fn exit_code(result: Result<Ending, Failure>) -> ExitCode {
         Err(Failure::Output(message)) => (message, 3),
         Err(Failure::Input(message)) => (message, 4),
     };
-    use io::Write;
-    // Nothing is left to tell it to where standard error is closed too.
-    let _ = writeln!(io::stderr(), "osek: {message}");
+    output::complain(&format!("osek: {message}\n"));
     ExitCode::from(code)
 }

@@ -1,18 +1,13 @@
-//! The fields of a configuration in words: what each is called, what a value means, and what was allowed.
+//! The fields of a configuration in words: what each is called, what a value means, and what was allowed. The library
+//! alone decides what is allowed; here it is only said.
 
-use crate::layout::{Entry, Field, Objects};
+use osek_tests::fast::{
+    BODIES_MAX, ENTRIES_MAX, PRIORITY_MAX, RESOURCES_MAX, TABLES_MAX, TABLE_ENTRIES_MAX, TICKS_MAX,
+};
+
+use crate::layout::{Field, Objects};
 use crate::names::Names;
 use crate::words::{self, grouped, KINDS};
-
-/// Document 01's limits, for sentences only: the library applies them.
-const VERSIONS: &str = "1";
-const BODIES: &str = "1 to 32";
-const PRIORITIES: &str = "1 to 200";
-const RESOURCES: &str = "0 to 16";
-const TABLES: &str = "0 to 8";
-const TABLE_ENTRIES: &str = "1 to 16";
-const ENTRIES_MAX: usize = 64;
-const PERIODS: &str = "1 to 65,535";
 
 /// A field as a sentence calls it.
 pub fn name(field: Field, names: &Names) -> String {
@@ -67,25 +62,25 @@ pub fn meaning(field: Field, value: u32, names: &Names) -> String {
 /// What a field may be, given the objects before it.
 pub fn allowed(field: Field, objects: &Objects, names: &Names) -> String {
     match field {
-        Field::Version => VERSIONS.into(),
-        Field::BodyCount => BODIES.into(),
+        Field::Version => "1".into(),
+        Field::BodyCount => format!("1 to {BODIES_MAX}"),
         Field::Kind(_) => {
             let kinds: Vec<String> = KINDS.iter().map(|kind| format!("{} ({})", kind.number, kind.name)).collect();
             words::either(&kinds)
         }
-        Field::Priority(_) => format!("{PRIORITIES}, each used once"),
+        Field::Priority(_) => format!("1 to {PRIORITY_MAX}, each used once"),
         Field::Autostart(body) => match objects.bodies.get(body).and_then(|body| words::kind(body.kind)) {
             Some(kind) if !kind.autostarts => format!("0, because it is an {}", kind.name),
             _ => "0 or 1".into(),
         },
-        Field::ResourceCount => RESOURCES.into(),
+        Field::ResourceCount => format!("0 to {RESOURCES_MAX}"),
         Field::Users(_) => {
             let last = objects.bodies.len().saturating_sub(1);
             format!("a mask with bits of the bodies 0 to {last} only, and not 0")
         }
-        Field::TableCount => TABLES.into(),
-        Field::Period(_) => PERIODS.into(),
-        Field::EntryCount(_) => TABLE_ENTRIES.into(),
+        Field::TableCount => format!("0 to {TABLES_MAX}"),
+        Field::Period(_) => format!("1 to {}", grouped(TICKS_MAX.into())),
+        Field::EntryCount(_) => format!("1 to {TABLE_ENTRIES_MAX}"),
         Field::Offset(table, _) => {
             let period = objects.tables.get(table).map_or(0, |table| table.period);
             format!("0 to {}, below the period", grouped(u64::from(period.saturating_sub(1))))
@@ -114,12 +109,8 @@ pub fn priority_owner(objects: &Objects, priority: u32, names: &Names) -> Option
 }
 
 /// How many entries the tables before this one leave it.
-pub fn entries_left(objects: &Objects, table: usize) -> usize {
+pub fn entries_left(objects: &Objects, table: usize) -> String {
     let used: usize = objects.tables.iter().take(table).map(|table| table.entries.len()).sum();
-    ENTRIES_MAX.saturating_sub(used)
-}
-
-/// The entry before this one, which it has to come after.
-pub fn entry_before(objects: &Objects, table: usize, entry: usize) -> Option<Entry> {
-    objects.tables.get(table)?.entries.get(entry.checked_sub(1)?).copied()
+    let left = ENTRIES_MAX.saturating_sub(used);
+    format!("at most {left}, because all tables together have at most {ENTRIES_MAX}")
 }

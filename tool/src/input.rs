@@ -7,7 +7,8 @@ use crate::failure::{self, Failure};
 use crate::layout;
 use crate::names::Names;
 use crate::text::line::{Fault, Position};
-use crate::text::{self, Assembled, Part, Sheet};
+use crate::text::{self, Assembled, Sheet};
+use crate::words::Part;
 
 /// A longer file is neither a configuration nor a trace nor a text of one.
 const FILE_MAX: u64 = 16 << 20;
@@ -74,14 +75,20 @@ fn plain(text: &str) -> &str {
     text.strip_prefix(BYTE_ORDER_MARK).unwrap_or(text)
 }
 
-/// A fault of a text as a message: file, line and column, what was expected, and the line with the place marked.
+/// So much of a line is shown before its fault, and in all.
+const SHOWN_BEFORE: usize = 80;
+const SHOWN: usize = 120;
+
+/// A fault of a text as a message: file, line and column, what was expected, and the line with the fault marked.
 fn fault_words(file: &str, text: &str, fault: &Fault) -> String {
     let Fault { position: Position { line, column }, width, message } = fault;
-    let shown = plain(text).lines().nth(line - 1).unwrap_or_default().trim_end().replace('\t', " ");
+    let skipped = (column - 1).saturating_sub(SHOWN_BEFORE);
+    let whole = plain(text).lines().nth(line - 1).unwrap_or_default().trim_end().replace('\t', " ");
+    let shown: String = whole.chars().skip(skipped).take(SHOWN).collect();
     let margin = line.to_string();
     let gap = " ".repeat(margin.len());
-    let spaces = " ".repeat(column - 1);
-    let marks = "^".repeat((*width).max(1));
+    let spaces = " ".repeat(column - 1 - skipped);
+    let marks = "^".repeat((*width).clamp(1, SHOWN - SHOWN_BEFORE));
     format!("{file}:{line}:{column}: {message}\n  {margin} | {shown}\n  {gap} | {spaces}{marks}")
 }
 

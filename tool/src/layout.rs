@@ -30,9 +30,9 @@ pub struct Number {
     pub end: usize,
 }
 
-/// Why the reading ended before the end.
+/// Why the reading broke off.
 #[derive(Clone, Copy, PartialEq, Eq, Debug)]
-pub enum Stop {
+pub enum Break {
     /// The input ends where this number, or the rest of it, is missing.
     Cut(usize),
     /// The number here is too large or not in its shortest form.
@@ -41,20 +41,20 @@ pub enum Stop {
     UnknownEvent(Number),
 }
 
-impl Stop {
+impl Break {
     pub fn offset(self) -> usize {
         match self {
-            Stop::Cut(offset) | Stop::Malformed(offset) => offset,
-            Stop::UnknownEvent(code) => code.offset,
+            Break::Cut(offset) | Break::Malformed(offset) => offset,
+            Break::UnknownEvent(code) => code.offset,
         }
     }
 }
 
-fn number_at(bytes: &[u8], offset: usize) -> Result<Number, Stop> {
+fn number_at(bytes: &[u8], offset: usize) -> Result<Number, Break> {
     match read_number(bytes, offset) {
         Ok((value, end)) => Ok(Number { value, offset, end }),
-        Err(NumberFault::Cut) => Err(Stop::Cut(offset)),
-        Err(NumberFault::Malformed) => Err(Stop::Malformed(offset)),
+        Err(NumberFault::Cut) => Err(Break::Cut(offset)),
+        Err(NumberFault::Malformed) => Err(Break::Malformed(offset)),
     }
 }
 
@@ -111,8 +111,8 @@ pub struct Config {
     pub objects: Objects,
     /// The offset after the last number.
     pub end: usize,
-    /// The field at which the reading stopped, if it did.
-    pub stop: Option<(Field, Stop)>,
+    /// The field at which the reading broke off, if it did.
+    pub broken: Option<(Field, Break)>,
 }
 
 struct Reader<'a> {
@@ -128,8 +128,8 @@ impl Reader<'_> {
                 self.config.end = number.end;
                 Some(number.value)
             }
-            Err(stop) => {
-                self.config.stop = Some((field, stop));
+            Err(why) => {
+                self.config.broken = Some((field, why));
                 None
             }
         }
@@ -161,7 +161,7 @@ impl Reader<'_> {
 }
 
 pub fn config(bytes: &[u8]) -> Config {
-    let config = Config { numbers: Vec::new(), objects: Objects::default(), end: 0, stop: None };
+    let config = Config { numbers: Vec::new(), objects: Objects::default(), end: 0, broken: None };
     let mut reader = Reader { bytes, config };
     reader.read();
     reader.config
@@ -178,7 +178,7 @@ pub struct Event {
 
 /// A number of a trace.
 #[derive(Clone, Copy, PartialEq, Eq, Debug)]
-pub enum Place {
+pub enum TraceField {
     Code,
     Argument(&'static EventWord, Sort),
 }
@@ -188,17 +188,17 @@ pub struct Trace {
     pub events: Vec<Event>,
     /// The offset after the last whole event.
     pub end: usize,
-    /// The number at which the reading stopped, if it did.
-    pub stop: Option<(Place, Stop)>,
+    /// The number at which the reading broke off, if it did.
+    pub broken: Option<(TraceField, Break)>,
 }
 
-fn event_at(bytes: &[u8], offset: usize) -> Result<Event, (Place, Stop)> {
-    let code = number_at(bytes, offset).map_err(|stop| (Place::Code, stop))?;
-    let word = words::event(code.value).ok_or((Place::Code, Stop::UnknownEvent(code)))?;
+fn event_at(bytes: &[u8], offset: usize) -> Result<Event, (TraceField, Break)> {
+    let code = number_at(bytes, offset).map_err(|why| (TraceField::Code, why))?;
+    let word = words::event(code.value).ok_or((TraceField::Code, Break::UnknownEvent(code)))?;
     let mut end = code.end;
     let mut arguments = Vec::new();
     for sort in word.arguments {
-        let argument = number_at(bytes, end).map_err(|stop| (Place::Argument(word, *sort), stop))?;
+        let argument = number_at(bytes, end).map_err(|why| (TraceField::Argument(word, *sort), why))?;
         end = argument.end;
         arguments.push(argument);
     }
@@ -206,15 +206,15 @@ fn event_at(bytes: &[u8], offset: usize) -> Result<Event, (Place, Stop)> {
 }
 
 pub fn trace(bytes: &[u8]) -> Trace {
-    let mut trace = Trace { events: Vec::new(), end: 0, stop: None };
+    let mut trace = Trace { events: Vec::new(), end: 0, broken: None };
     while trace.end < bytes.len() {
         match event_at(bytes, trace.end) {
             Ok(event) => {
                 trace.end = event.end;
                 trace.events.push(event);
             }
-            Err(stop) => {
-                trace.stop = Some(stop);
+            Err(broken) => {
+                trace.broken = Some(broken);
                 break;
             }
         }
@@ -230,21 +230,21 @@ mod tests {
     #[test]
     fn numbers_stand_where_the_document_puts_them() {
         let config = config(&DOCUMENT_CONFIG);
-        assert_eq!((config.end, config.stop), (20, None));
+        assert_eq!((config.end, config.broken), (20, None));
         assert_eq!(config.numbers[7], (Field::Autostart(1), Number { value: 0, offset: 7, end: 8 }));
         assert_eq!(config.numbers[19], (Field::Task(0, 1), Number { value: 0, offset: 19, end: 20 }));
         let trace = trace(&DOCUMENT_TRACE);
-        assert_eq!((trace.events.len(), trace.end, trace.stop), (17, 24, None));
+        assert_eq!((trace.events.len(), trace.end, trace.broken), (17, 24, None));
         assert_eq!(trace.events[3].word.name, "Line");
         assert_eq!(trace.events[3].arguments, [Number { value: 2, offset: 7, end: 8 }]);
     }
 
     #[test]
-    fn a_reading_stops_at_the_field_that_is_missing() {
-        assert_eq!(config(&DOCUMENT_CONFIG[..6]).stop, Some((Field::Priority(1), Stop::Cut(6))));
-        let (place, stop) = trace(&[6, 8, 0, 0x80]).stop.expect("the delay is cut");
-        assert_eq!(stop, Stop::Cut(3));
-        assert!(matches!(place, Place::Argument(word, Sort::Delay) if word.name == "Start"));
-        assert_eq!(trace(&[6, 77]).stop.map(|(_, stop)| stop.offset()), Some(1));
+    fn a_reading_breaks_off_at_the_field_that_is_missing() {
+        assert_eq!(config(&DOCUMENT_CONFIG[..6]).broken, Some((Field::Priority(1), Break::Cut(6))));
+        let (field, why) = trace(&[6, 8, 0, 0x80]).broken.expect("the delay is cut");
+        assert_eq!(why, Break::Cut(3));
+        assert!(matches!(field, TraceField::Argument(word, Sort::Delay) if word.name == "Start"));
+        assert_eq!(trace(&[6, 77]).broken.map(|(_, why)| why.offset()), Some(1));
     }
 }

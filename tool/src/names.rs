@@ -32,6 +32,16 @@ impl Names {
         }
     }
 
+    /// Names the next thing of this sort.
+    pub fn add(&mut self, sort: Sort, name: String) {
+        match sort {
+            Sort::Body => self.bodies.push(name),
+            Sort::Resource => self.resources.push(name),
+            Sort::Table => self.tables.push(name),
+            Sort::Delay => {}
+        }
+    }
+
     /// The number of the thing of this sort and name.
     pub fn number(&self, sort: Sort, name: &str) -> Option<u32> {
         self.list(sort).iter().position(|known| known == name).map(|number| number as u32)

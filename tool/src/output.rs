@@ -15,6 +15,11 @@ pub fn print(bytes: impl AsRef<[u8]>) -> Result<(), Failure> {
         .map_err(|error| Failure::write("standard output", &error))
 }
 
+/// Writes to standard error; where that is closed too, nothing is left to tell it to.
+pub fn complain(text: &str) {
+    let _ = io::stderr().write_all(text.as_bytes());
+}
+
 /// Writes a file, or standard output where the name is `-`.
 pub fn write(name: &str, bytes: impl AsRef<[u8]>) -> Result<(), Failure> {
     if name == "-" {

@@ -1,11 +1,7 @@
 //! The proved run: what it says of a configuration and a trace.
 
-use std::fmt::Write;
-
 use osek_tests::fast::{IDLE, OUTPUT_MAX};
-use osek_tests::subject;
-
-use crate::layout::Event;
+use osek_tests::{listing, subject};
 
 /// Bytes of an answer and of a loss count in the output.
 pub const ANSWER_SIZE: usize = 4;
@@ -58,6 +54,11 @@ pub struct Refused {
 }
 
 impl Refused {
+    /// `refused CODE PLACE`, as the bench program prints it.
+    pub fn line(self) -> String {
+        format!("refused {} {}\n", self.code, self.place)
+    }
+
     /// The refusal in a result, if it is one.
     pub fn of(result: u64) -> Option<Refused> {
         let code = (result >> 32) as u32;
@@ -98,32 +99,9 @@ pub fn fresh_start(config: &[u8]) -> Option<Answer> {
 }
 
 /// The bench program's listing.
-pub fn listing(outcome: &Result<Run, Refused>, events: &[Event]) -> String {
-    let run = match outcome {
-        Err(Refused { code, place }) => return format!("refused {code} {place}\n"),
-        Ok(run) => run,
-    };
-    let mut text = String::from("step event status runner level begun\n");
-    for (step, (answer, event)) in run.answers.iter().zip(events).enumerate() {
-        let runner = answer.runner.map_or_else(|| "-".into(), |body| body.to_string());
-        let Answer { status, level, begun, .. } = answer;
-        let _ = writeln!(text, "{step} {} {status} {runner} {level} {begun}", event.word.code);
-    }
-    for (body, count) in run.losses.iter().enumerate().filter(|(_, count)| **count > 0) {
-        let _ = writeln!(text, "lost {body} {count}");
-    }
-    text
-}
-
-#[cfg(test)]
-mod tests {
-    use super::*;
-    use crate::layout;
-    use osek_tests::listing::{DOCUMENT_CONFIG, DOCUMENT_LISTING, DOCUMENT_TRACE};
-
-    #[test]
-    fn the_document_s_listing_is_given() {
-        let outcome = run(&DOCUMENT_CONFIG, &DOCUMENT_TRACE);
-        assert_eq!(listing(&outcome, &layout::trace(&DOCUMENT_TRACE).events), DOCUMENT_LISTING);
+pub fn listing(config: &[u8], trace: &[u8], outcome: &Result<Run, Refused>) -> String {
+    match outcome {
+        Ok(run) => listing::listing(config, trace, run.answers.len() as u64, &run.output()),
+        Err(refused) => refused.line(),
     }
 }

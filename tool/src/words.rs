@@ -1,5 +1,12 @@
 //! The words of document 01: events, kinds, statuses and refusals, each in one table, and nowhere else in the tool.
 
+/// What a file holds, and a refusal is about.
+#[derive(Clone, Copy, PartialEq, Eq, Debug)]
+pub enum Part {
+    Config,
+    Trace,
+}
+
 /// What an argument of an event names.
 #[derive(Clone, Copy, PartialEq, Eq, Debug)]
 pub enum Sort {
@@ -165,20 +172,26 @@ pub fn kind(number: u32) -> Option<&'static KindWord> {
     KINDS.iter().find(|kind| kind.number == number)
 }
 
-/// What a refusal is about, which also says what its place counts.
+/// What a refusal is about, and with it what its place counts.
 #[derive(Clone, Copy, PartialEq, Eq, Debug)]
 pub enum About {
-    /// A number of the configuration or the trace; the place is its offset.
-    ConfigNumber,
-    TraceNumber,
-    /// The input as a whole; the place is 0.
-    WholeConfig,
-    WholeTrace,
+    /// A number that can't be read.
+    Unread(Part),
+    /// A number of the configuration that is not allowed: out of its range, or beside the numbers before it.
+    Range,
+    PriorityUsed,
+    EntryOrder,
+    EntryTotal,
+    /// The bytes after the configuration.
+    LeftOver,
+    /// An event's code.
+    UnknownEvent,
+    /// The input as a whole.
+    TooLong(Part),
     /// The output's length; the place is the bytes needed.
     Output,
-    /// A file that can't be read; the place is 0.
-    ConfigFile,
-    TraceFile,
+    /// A file.
+    Unreadable(Part),
 }
 
 pub struct RefusalWord {
@@ -191,29 +204,34 @@ const fn refusal_word(code: u32, about: About, meaning: &'static str) -> Refusal
     RefusalWord { code, about, meaning }
 }
 
-/// Refusals of a file that can't be read, as the bench program gives them.
-pub const CONFIG_UNREADABLE: u32 = 40;
-pub const TRACE_UNREADABLE: u32 = 41;
+const CUT: &str = "the input ends where a number, or the rest of one, is missing";
+const MALFORMED: &str = "a number is above 4,294,967,295 or not in its shortest form";
 
+/// Those of the run, then those of the bench program.
 pub const REFUSALS: [RefusalWord; 17] = [
-    refusal_word(1, About::ConfigNumber, "the configuration ends where a number, or the rest of one, is missing"),
-    refusal_word(2, About::ConfigNumber, "a number is above 4,294,967,295 or not in its shortest form"),
-    refusal_word(3, About::ConfigNumber, "the version is unknown"),
-    refusal_word(4, About::ConfigNumber, "a count is outside its range"),
-    refusal_word(5, About::ConfigNumber, "a field is outside its range"),
-    refusal_word(6, About::ConfigNumber, "a priority is used already"),
-    refusal_word(7, About::ConfigNumber, "an entry does not come after the one before it"),
-    refusal_word(8, About::ConfigNumber, "an entry count takes the total over 64"),
-    refusal_word(9, About::ConfigNumber, "bytes are left over after the configuration"),
-    refusal_word(10, About::WholeConfig, "the configuration is longer than 4,096 bytes"),
-    refusal_word(20, About::WholeTrace, "the trace is longer than 8,192 bytes"),
-    refusal_word(21, About::TraceNumber, "the trace ends where a number, or the rest of one, is missing"),
-    refusal_word(22, About::TraceNumber, "a number is above 4,294,967,295 or not in its shortest form"),
-    refusal_word(23, About::TraceNumber, "an event code is unknown"),
+    refusal_word(1, About::Unread(Part::Config), CUT),
+    refusal_word(2, About::Unread(Part::Config), MALFORMED),
+    refusal_word(3, About::Range, "the version is unknown"),
+    refusal_word(4, About::Range, "a count is outside its range"),
+    refusal_word(5, About::Range, "a field is outside its range"),
+    refusal_word(6, About::PriorityUsed, "a priority is used already"),
+    refusal_word(7, About::EntryOrder, "an entry does not come after the one before it"),
+    refusal_word(8, About::EntryTotal, "an entry count takes the total over 64"),
+    refusal_word(9, About::LeftOver, "bytes are left over after the configuration"),
+    refusal_word(10, About::TooLong(Part::Config), "the configuration is longer than 4,096 bytes"),
+    refusal_word(20, About::TooLong(Part::Trace), "the trace is longer than 8,192 bytes"),
+    refusal_word(21, About::Unread(Part::Trace), CUT),
+    refusal_word(22, About::Unread(Part::Trace), MALFORMED),
+    refusal_word(23, About::UnknownEvent, "an event code is unknown"),
     refusal_word(30, About::Output, "the output is too short"),
-    refusal_word(CONFIG_UNREADABLE, About::ConfigFile, "the configuration can't be read"),
-    refusal_word(TRACE_UNREADABLE, About::TraceFile, "the trace can't be read"),
+    refusal_word(40, About::Unreadable(Part::Config), "the configuration can't be read"),
+    refusal_word(41, About::Unreadable(Part::Trace), "the trace can't be read"),
 ];
+
+/// The refusal of a file that can't be read.
+pub fn unreadable(part: Part) -> u32 {
+    REFUSALS.iter().find(|refusal| refusal.about == About::Unreadable(part)).map_or(0, |refusal| refusal.code)
+}
 
 pub fn refusal(code: u32) -> Option<&'static RefusalWord> {
     REFUSALS.iter().find(|refusal| refusal.code == code)
@@ -249,7 +267,7 @@ pub fn either<T: AsRef<str>>(words: &[T]) -> String {
     }
 }
 
-/// `words(n)` of the first few things that are listed in a sentence, then `..`.
+/// A sentence lists at most so many things, then `..`.
 pub const LISTED_MAX: usize = 8;
 
 #[cfg(test)]

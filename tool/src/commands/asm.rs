@@ -5,7 +5,7 @@ use crate::failure::{Ending, Failure};
 use crate::input::{self, Content, Holds};
 use crate::options::{Accepts, Options};
 use crate::output;
-use crate::text::Part;
+use crate::words::Part;
 
 pub const COMMAND: Command = Command {
     name: "asm",

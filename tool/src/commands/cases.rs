@@ -7,9 +7,9 @@ use osek_tests::cases;
 use super::Command;
 use crate::failure::{Ending, Failure};
 use crate::options::{Accepts, Options};
+use crate::output;
 use crate::progress::Progress;
 use crate::reference::{self, Refused};
-use crate::{layout, output};
 
 /// More files than this are asked for by mistake.
 const COUNT_MAX: u64 = 1_000_000;
@@ -48,7 +48,7 @@ fn run(options: &Options) -> Result<Ending, Failure> {
         let name = format!("{number:0digits$}");
         output::write_in(folder, &format!("{name}.config.bin"), &case.config)?;
         output::write_in(folder, &format!("{name}.trace.bin"), &case.trace)?;
-        let listing = reference::listing(&outcome, &layout::trace(&case.trace).events);
+        let listing = reference::listing(&case.config, &case.trace, &outcome);
         output::write_in(folder, &format!("{name}.expected"), listing)?;
         let result = match outcome {
             Ok(run) => format!("{},,", run.answers.len()),

@@ -4,7 +4,8 @@ use super::Command;
 use crate::failure::{Ending, Failure};
 use crate::input::{self, Config, Content};
 use crate::options::{Accepts, Options};
-use crate::text::{dump, Part};
+use crate::text::dump;
+use crate::words::Part;
 use crate::{output, reference};
 
 pub const COMMAND: Command = Command {

@@ -8,8 +8,7 @@ use crate::input::{self, InputFault, Pair};
 use crate::layout::{self, Event};
 use crate::options::{Accepts, Options};
 use crate::reference::{self, Answer, Refused, Run};
-use crate::text::Part;
-use crate::words::{self, CONFIG_UNREADABLE, TRACE_UNREADABLE};
+use crate::words::{self, Part};
 use crate::{json, output};
 
 pub const COMMAND: Command = Command {
@@ -65,25 +64,17 @@ fn run(options: &Options) -> Result<Ending, Failure> {
 
 /// As the bench program, with the reason on standard error.
 fn unreadable(part: Part, message: &str, options: &Options) -> Result<Ending, Failure> {
-    let code = match part {
-        Part::Config => CONFIG_UNREADABLE,
-        Part::Trace => TRACE_UNREADABLE,
-    };
-    let refused = Refused { code, place: 0 };
-    eprintln!("osek: {message}");
-    output::print(if options.flag("--json") { json_refused(refused) } else { plain_refused(refused) })?;
+    let refused = Refused { code: words::unreadable(part), place: 0 };
+    output::complain(&format!("osek: {message}\n"));
+    output::print(if options.flag("--json") { json_refused(refused) } else { refused.line() })?;
     Ok(Ending::Refused)
-}
-
-fn plain_refused(refused: Refused) -> String {
-    reference::listing(&Err(refused), &[])
 }
 
 impl Listing {
     fn shown(&self, options: &Options) -> String {
         let run = match &self.outcome {
             Err(refused) if options.flag("--json") => return json_refused(*refused),
-            Err(refused) => return plain_refused(*refused),
+            Err(refused) => return refused.line(),
             Ok(run) => run,
         };
         if options.flag("--names") {
@@ -95,7 +86,7 @@ impl Listing {
         } else if options.flag("--csv") {
             self.csv(run)
         } else {
-            reference::listing(&self.outcome, &self.events)
+            reference::listing(&self.pair.config.source.bytes, &self.pair.trace.bytes, &self.outcome)
         }
     }
 

@@ -40,7 +40,7 @@ fn run(options: &Options) -> Result<Ending, Failure> {
     let run = match reference::run(&pair.config.source.bytes, &pair.trace.bytes) {
         Ok(run) => run,
         Err(refused) => {
-            eprint!("{}", explain::refusal(&pair, refused));
+            output::complain(&explain::refusal(&pair, refused));
             return Ok(Ending::Refused);
         }
     };

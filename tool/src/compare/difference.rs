@@ -11,6 +11,7 @@ use crate::words;
 
 /// What the reference says of a case.
 pub struct Expected {
+    case: Case,
     /// The result and the whole output buffer, at the case's output length.
     result: u64,
     buffer: Vec<u8>,
@@ -25,6 +26,7 @@ impl Expected {
         let mut buffer = case.prefilled();
         let result = subject::run(&case.config, &case.trace, &mut buffer);
         Expected {
+            case: case.clone(),
             result,
             buffer,
             outcome: reference::run(&case.config, &case.trace),
@@ -34,7 +36,7 @@ impl Expected {
     }
 
     pub fn listing(&self) -> String {
-        reference::listing(&self.outcome, &self.events)
+        reference::listing(&self.case.config, &self.case.trace, &self.outcome)
     }
 
     /// The refusal at the case's output length, 0 for none.

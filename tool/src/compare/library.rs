@@ -9,7 +9,7 @@ use osek_tests::cases::Case;
 use crate::failure::{Ending, Failure};
 use crate::input;
 use crate::output;
-use crate::text::Part;
+use crate::words::Part;
 
 /// The command that this tool gives itself.
 pub const CALL: &str = "call-library";

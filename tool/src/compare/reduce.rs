@@ -42,7 +42,7 @@ impl Pieces {
     fn of(case: &Case) -> Option<Pieces> {
         let config = layout::config(&case.config);
         let trace = layout::trace(&case.trace);
-        config.stop.is_none().then(|| Pieces {
+        config.broken.is_none().then(|| Pieces {
             objects: config.objects,
             events: trace
                 .events

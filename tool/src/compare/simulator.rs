@@ -1,7 +1,7 @@
 //! Runs a simulator as a process on a case.
 
 use std::fs;
-use std::io::Read;
+use std::io::{ErrorKind, Read};
 use std::os::unix::process::{CommandExt, ExitStatusExt};
 use std::path::{Path, PathBuf};
 use std::process::{Child, Command, ExitStatus, Stdio};
@@ -189,10 +189,15 @@ struct Scratch(PathBuf);
 
 impl Scratch {
     fn new() -> Result<Scratch, Failure> {
-        let path = std::env::temp_dir().join(format!("osek-compare-{}", std::process::id()));
-        let _ = fs::remove_dir_all(&path);
-        fs::create_dir_all(&path).map_err(|error| Failure::write(&path.display().to_string(), &error))?;
-        Ok(Scratch(path))
+        let names = (0..).map(|number| format!("osek-compare-{}-{number}", std::process::id()));
+        for path in names.map(|name| std::env::temp_dir().join(name)) {
+            match fs::create_dir(&path) {
+                Ok(()) => return Ok(Scratch(path)),
+                Err(error) if error.kind() == ErrorKind::AlreadyExists => {}
+                Err(error) => return Err(Failure::write(&path.display().to_string(), &error)),
+            }
+        }
+        unreachable!("the names have no end")
     }
 }
 

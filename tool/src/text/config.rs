@@ -124,12 +124,7 @@ impl Objects {
         }
         let (name, position) = line.new_name(sort.name())?;
         self.given.insert(name.clone(), position);
-        match sort {
-            Sort::Body => self.names.bodies.push(name),
-            Sort::Resource => self.names.resources.push(name),
-            Sort::Table => self.names.tables.push(name),
-            Sort::Delay => {}
-        }
+        self.names.add(sort, name);
         Ok(())
     }
 

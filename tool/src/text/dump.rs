@@ -6,9 +6,10 @@ use std::fmt::Write;
 use super::config::statement;
 use super::{BYTES, NUMBER, TRACE};
 use crate::fields;
-use crate::layout::{self, Field, Number, Stop};
+use crate::layout::{self, Break, Field, Number};
 use crate::names::Names;
 use crate::words;
+use osek_tests::compare::hex;
 
 /// A statement, or none, beside one number or some bytes.
 struct Row {
@@ -23,10 +24,6 @@ const ROW_BYTES: usize = 16;
 
 /// The statement's column is at most so wide; a longer statement pushes its comment to the right.
 const STATEMENT_WIDTH: usize = 56;
-
-pub fn hex(bytes: &[u8]) -> String {
-    bytes.iter().map(|byte| format!("{byte:02x}")).collect::<Vec<_>>().join(" ")
-}
 
 fn bytes_row(offset: usize, bytes: &[u8], meaning: &str) -> Row {
     Row { statement: format!("{BYTES} {}", hex(bytes)), offset, bytes: bytes.into(), meaning: meaning.into() }
@@ -45,13 +42,13 @@ fn bytes_rows(bytes: &[u8], offset: usize, meaning: &str) -> Vec<Row> {
 /// A configuration as text.
 pub fn config(bytes: &[u8], names: &Names) -> String {
     let read = layout::config(bytes);
-    let rows = match read.stop {
+    let rows = match read.broken {
         None => {
             let mut rows = object_rows(bytes, &read, names);
             rows.extend(bytes_rows(bytes, read.end, "left over after the configuration"));
             rows
         }
-        Some((field, stop)) => {
+        Some((field, why)) => {
             let mut rows: Vec<Row> = read
                 .numbers
                 .iter()
@@ -60,14 +57,14 @@ pub fn config(bytes: &[u8], names: &Names) -> String {
                     number_row(bytes, statement, number, fields::meaning(*field, number.value, names))
                 })
                 .collect();
-            let why = format!("{}: {}", fields::name(field, names), stop_words(stop));
+            let why = format!("{}: {}", fields::name(field, names), break_words(why));
             rows.extend(bytes_rows(bytes, read.end, &why));
             rows
         }
     };
     let mut text = format!("# configuration, {}\n", words::counted(bytes.len(), "byte"));
     write_rows(&mut text, &rows);
-    if let Some((field, Stop::Cut(offset))) = read.stop.filter(|(_, stop)| stop.offset() == bytes.len()) {
+    if let Some((field, Break::Cut(offset))) = read.broken.filter(|(_, why)| why.offset() == bytes.len()) {
         let _ = writeln!(text, "# it ends at offset {offset}, where {} is missing", fields::name(field, names));
     }
     text
@@ -107,8 +104,8 @@ pub fn trace(bytes: &[u8], names: &Names) -> String {
         rows.extend(event_rows(bytes, &read.events[step], step, times, names));
         step += times;
     }
-    if let Some((_, stop)) = read.stop {
-        rows.extend(bytes_rows(bytes, read.end, &format!("event {step} can't be read: {}", stop_words(stop))));
+    if let Some((_, why)) = read.broken {
+        rows.extend(bytes_rows(bytes, read.end, &format!("event {step} can't be read: {}", break_words(why))));
     }
     let mut text = format!("# trace, {}\n{TRACE}\n", words::counted(bytes.len(), "byte"));
     write_rows(&mut text, &rows);
@@ -143,11 +140,11 @@ fn event_rows(bytes: &[u8], event: &layout::Event, step: usize, times: usize, na
     rows
 }
 
-fn stop_words(stop: Stop) -> String {
-    match stop {
-        Stop::Cut(offset) => format!("the number at {offset} is cut off"),
-        Stop::Malformed(offset) => format!("the number at {offset} is too large or not in its shortest form"),
-        Stop::UnknownEvent(code) => format!("no event has the code {}", code.value),
+fn break_words(why: Break) -> String {
+    match why {
+        Break::Cut(offset) => format!("the number at {offset} is cut off"),
+        Break::Malformed(offset) => format!("the number at {offset} is too large or not in its shortest form"),
+        Break::UnknownEvent(code) => format!("no event has the code {}", code.value),
     }
 }
 

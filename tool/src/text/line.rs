@@ -77,7 +77,7 @@ impl<'a> Line<'a> {
     /// The next word is not what was expected.
     pub fn expected(&self, what: &str) -> Fault {
         let (width, found) = match self.peek() {
-            Some(word) => (word.chars().count(), format!("`{word}`")),
+            Some(word) => (word.chars().count(), format!("`{}`", shortened(word))),
             None => (0, "the end of the line".into()),
         };
         Fault { position: self.position(), width, message: format!("expected {what}, found {found}") }
@@ -128,8 +128,7 @@ impl<'a> Line<'a> {
             return Err(self.expected(&format!("the {of}'s name")));
         };
         if super::config::is_reserved(word) {
-            let message = format!("expected the {of}'s name, found `{word}`, which is a word of the text form");
-            return Err(self.wrong(message));
+            return Err(self.expected(&format!("the {of}'s name and no word of the text form")));
         }
         let (_, position) = self.take();
         Ok((word.into(), position))
@@ -172,6 +171,15 @@ fn number(word: &str) -> Option<u32> {
     // A sign, which the standard library would take, is no digit.
     let plain = !digits.is_empty() && digits.chars().all(|digit| digit.is_digit(radix));
     plain.then(|| u32::from_str_radix(digits, radix).ok()).flatten()
+}
+
+/// A word as a message shows it.
+fn shortened(word: &str) -> String {
+    const SHOWN: usize = 40;
+    if word.chars().count() <= SHOWN {
+        return word.into();
+    }
+    word.chars().take(SHOWN).chain("..".chars()).collect()
 }
 
 /// A choice of words, quoted.

@@ -10,6 +10,7 @@ pub mod trace;
 
 use osek_tests::cases::push_number;
 
+use crate::words::Part;
 use line::{Fault, Line, Position};
 
 /// Line that parts the configuration from the trace.
@@ -69,13 +70,6 @@ impl Assembled {
         }
         Ok(())
     }
-}
-
-/// What a text, or a file of bytes, holds.
-#[derive(Clone, Copy, PartialEq, Eq, Debug)]
-pub enum Part {
-    Config,
-    Trace,
 }
 
 /// The lines of each part of a text; those without a word are left out.

@@ -180,6 +180,33 @@ fn a_full_disk_is_told() {
 }
 
 #[test]
+fn a_complaint_that_nobody_reads_is_no_matter() {
+    let folder = Folder::document().with("bad.bin", [7]);
+    for (arguments, code) in [
+        (&["run", "no.bin", "no.bin"][..], 1),
+        (&["explain", "no.bin", "no.bin"], 4),
+        (&["timeline", "bad.bin", "trace.bin", "--svg", "x"], 1),
+        (&["rum"], 2),
+    ] {
+        let mut child =
+            folder.command(arguments).stdout(Stdio::null()).stderr(Stdio::piped()).spawn().expect("the tool runs");
+        drop(child.stderr.take());
+        assert_eq!(child.wait().expect("the tool ends").code(), Some(code), "{arguments:?}");
+    }
+}
+
+#[test]
+fn a_long_line_is_shown_in_part() {
+    let folder = Folder::new().with("long.txt", format!("version 1\n{}{}", " ".repeat(500_000), "x".repeat(500_000)));
+    let said = folder.osek(&["asm", "long.txt", "-o", "out"]);
+    assert!(
+        said.err.starts_with("osek: long.txt:2:500001: expected `task`") && said.err.len() < 500,
+        "{}",
+        said.err.len()
+    );
+}
+
+#[test]
 fn a_closed_standard_error_is_no_matter() {
     let folder = Folder::document();
     for line in ["run no.bin no.bin 2>&-", "explain no.bin no.bin 2>&-", "rum 2>&-", "explain no.bin no.bin >&- 2>&-"] {

@@ -138,7 +138,7 @@ impl Said {
 #[track_caller]
 pub fn python(folder: &Folder, script: &str, arguments: &[&str]) {
     let path = Path::new(env!("CARGO_MANIFEST_DIR")).join("tests/osek").join(script);
-    let output = Command::new("python3").arg(path).args(arguments).current_dir(&folder.0).output();
+    let output = Command::new("python3").arg("-B").arg(path).args(arguments).current_dir(&folder.0).output();
     let output = output.expect("python3 runs");
     let said = String::from_utf8_lossy(&output.stderr);
     assert!(output.status.success(), "{script} {}: {said}", arguments.join(" "));

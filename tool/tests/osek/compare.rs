@@ -4,6 +4,8 @@ use std::path::{Path, PathBuf};
 use std::process::Command;
 use std::time::{Duration, Instant};
 
+use osek_tests::subject::LIBRARY;
+
 use super::common::*;
 
 /// Built beside the tool by `cargo test`.
@@ -151,12 +153,9 @@ uint64_t osek_run(const byte *c, size_t cl, const byte *t, size_t tl, byte *o, s
 #[test]
 fn a_library_is_compared_with_its_whole_output() {
     let folder = Folder::new();
-    let archive = std::env::var_os("OSEK_LIB_DIR")
-        .map_or_else(|| Path::new(env!("CARGO_MANIFEST_DIR")).join("../target/staticlib"), PathBuf::from)
-        .join("libkernel.a");
     let renamed = Command::new("objcopy")
         .args(["--redefine-sym", "osek_run=proved_run"])
-        .arg(archive)
+        .arg(LIBRARY)
         .arg(folder.0.join("proved.a"))
         .status();
     assert!(renamed.expect("objcopy runs").success());

@@ -93,7 +93,7 @@ fn each_refusal_of_the_trace_is_a_sentence() {
         (
             &[9, 0xff, 0xff, 0xff, 0xff, 0x10],
             "22 1",
-            "offset 1: the table of event 0 Stop is above 4,294,967,295: ff ff ff ff 10 is refused, a fifth byte may be at most 0f.",
+            "offset 1: the table of event 0 Stop is above 4,294,967,295: FF FF FF FF 10 is refused, a fifth byte may be at most 0F.",
         ),
         (&[6, 0x80, 1], "23 1", "offset 1: the code of event 1 is 128. Allowed: 1 to 9."),
         (&[0], "23 0", "offset 0: the code of event 0 is 0. Allowed: 1 to 9."),

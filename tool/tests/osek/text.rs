@@ -135,7 +135,7 @@ fn a_wrong_text_is_refused_at_its_line_and_column() {
         ("version 1\ntask 7up priority 3", "2:6: expected the body's name, found `7up`"),
         (
             "version 1\ntask priority 3",
-            "2:6: expected the body's name, found `priority`, which is a word of the text form",
+            "2:6: expected the body's name and no word of the text form, found `priority`",
         ),
         ("version 1\ntask a priorty 3", "2:8: expected `priority`, found `priorty`"),
         ("version 1\ntask a priority high", "2:17: expected the priority, a number, found `high`"),
