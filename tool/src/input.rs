@@ -7,11 +7,8 @@ use crate::failure::{self, Failure};
 use crate::layout;
 use crate::names::Names;
 use crate::text::line::{Fault, Position};
-use crate::text::{self, Assembled, Sheet};
+use crate::text::{self, Assembled, Sheet, LENGTH_MAX};
 use crate::words::Part;
-
-/// A longer file is neither a configuration nor a trace nor a text of one.
-const FILE_MAX: u64 = 16 << 20;
 
 /// Why an input is not there.
 pub enum InputFault {
@@ -45,9 +42,9 @@ pub fn read_bytes(name: &str, part: Part) -> Result<Vec<u8>, InputFault> {
         InputFault::Unreadable(part, format!("{name} can't be read: {}", failure::reason(&error)))
     };
     let mut bytes = Vec::new();
-    File::open(name).and_then(|file| file.take(FILE_MAX + 1).read_to_end(&mut bytes)).map_err(unreadable)?;
-    if bytes.len() as u64 > FILE_MAX {
-        return Err(InputFault::Wrong(format!("{name} is longer than {FILE_MAX} bytes")));
+    File::open(name).and_then(|file| file.take(LENGTH_MAX as u64 + 1).read_to_end(&mut bytes)).map_err(unreadable)?;
+    if bytes.len() > LENGTH_MAX {
+        return Err(InputFault::Wrong(format!("{name} is longer than {LENGTH_MAX} bytes")));
     }
     Ok(bytes)
 }

@@ -59,6 +59,10 @@ impl Refused {
         format!("refused {} {}\n", self.code, self.place)
     }
 
+    pub fn result(self) -> u64 {
+        (u64::from(self.code) << 32) + u64::from(self.place)
+    }
+
     /// The refusal in a result, if it is one.
     pub fn of(result: u64) -> Option<Refused> {
         let code = (result >> 32) as u32;
@@ -69,13 +73,18 @@ impl Refused {
 pub fn run(config: &[u8], trace: &[u8]) -> Result<Run, Refused> {
     let mut out = vec![0; OUTPUT_MAX];
     let result = subject::run(config, trace, &mut out);
+    outcome(config, result, &out)
+}
+
+/// What a result and an output say.
+pub fn outcome(config: &[u8], result: u64, out: &[u8]) -> Result<Run, Refused> {
     match Refused::of(result) {
         Some(refused) => Err(refused),
         None => {
             let events = result as usize;
             // An accepted configuration's second byte is its body count.
-            out.truncate(ANSWER_SIZE * events + LOSS_SIZE * usize::from(config[1]));
-            Ok(Run::of(&out, events))
+            let length = ANSWER_SIZE * events + LOSS_SIZE * usize::from(config[1]);
+            Ok(Run::of(&out[..length], events))
         }
     }
 }

@@ -35,9 +35,6 @@ const COMMANDS: [&Command; 7] = [
     &compare::COMMAND,
 ];
 
-/// What the usage of a command that reads a configuration and a trace says.
-const PAIR: &str = "CONFIG TRACE";
-
 const INPUTS: &str = "\
 CONFIG and TRACE are files of bytes or of the text form, told apart by their content. One text that holds both, with
 a line `trace` between, may stand for the two. docs/TEXT.md has the text form.
@@ -46,7 +43,7 @@ a line `trace` between, may stand for the two. docs/TEXT.md has the text form.
 impl Command {
     pub fn help(&self) -> String {
         let usage: Vec<String> = self.usage.iter().map(|usage| format!("osek {} {usage}", self.name)).collect();
-        let inputs = if self.usage[0].contains(PAIR) { format!("{INPUTS}\n") } else { String::new() };
+        let inputs = if self.accepts.files.contains(&"TRACE") { format!("{INPUTS}\n") } else { String::new() };
         format!("usage: {}\n\n{}\n{inputs}{EXIT_STATUSES}", usage.join("\n       "), self.details)
     }
 }

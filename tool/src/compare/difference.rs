@@ -12,10 +12,9 @@ use crate::words;
 /// What the reference says of a case.
 pub struct Expected {
     case: Case,
-    /// The result and the whole output buffer, at the case's output length.
+    /// The result and the whole output buffer.
     result: u64,
     buffer: Vec<u8>,
-    /// With an output as long as needed.
     pub outcome: Result<Run, Refused>,
     events: Vec<Event>,
     names: Names,
@@ -28,8 +27,8 @@ impl Expected {
         Expected {
             case: case.clone(),
             result,
+            outcome: reference::outcome(&case.config, result, &buffer),
             buffer,
-            outcome: reference::run(&case.config, &case.trace),
             events: layout::trace(&case.trace).events,
             names: Names::of(&layout::config(&case.config).objects),
         }
@@ -39,53 +38,41 @@ impl Expected {
         reference::listing(&self.case.config, &self.case.trace, &self.outcome)
     }
 
-    /// The refusal at the case's output length, 0 for none.
+    /// The refusal, 0 for none.
     pub fn refusal(&self) -> u32 {
         Refused::of(self.result).map_or(0, |refused| refused.code)
     }
 
     /// How the reply differs; none if it does not.
     pub fn difference(&self, reply: &Reply) -> Option<String> {
-        match reply {
-            Reply::Nothing(why) => Some(format!("{} expected, no answer given: {why}", self.summary())),
-            Reply::Listing(text) => (*text != self.listing()).then(|| self.of_listing(text)),
+        let told = match reply {
+            Reply::Nothing(why) => format!("{} expected, no answer given: {why}", result_words(self.result)),
+            Reply::Listing(text) if *text == self.listing() => return None,
+            Reply::Listing(text) => self.of_listing(text),
             Reply::Output(bytes) => match &self.outcome {
-                Ok(run) if run.output() == *bytes => None,
-                Ok(run) => Some(self.of_output(run, bytes)),
-                Err(refused) => Some(format!(
-                    "{} expected, as a line `refused {} {}`; {} given",
-                    refusal_words(*refused),
-                    refused.code,
-                    refused.place,
-                    words::counted(bytes.len(), "byte")
-                )),
+                Ok(run) if run.output() == *bytes => return None,
+                Ok(run) => self.of_output(run, bytes),
+                Err(refused) => {
+                    let (line, given) = (refused.line(), words::counted(bytes.len(), "byte"));
+                    format!("a line `{}` expected, {given} of output given", line.trim_end())
+                }
             },
-            Reply::Call(result, buffer) => {
-                (*result != self.result || *buffer != self.buffer).then(|| self.of_call(*result, buffer))
-            }
-        }
-    }
-
-    fn summary(&self) -> String {
-        match &self.outcome {
-            Ok(run) => words::counted(run.answers.len(), "event"),
-            Err(refused) => refusal_words(*refused),
-        }
+            Reply::Call(result, buffer) if (*result, buffer) == (self.result, &self.buffer) => return None,
+            Reply::Call(result, buffer) => self.of_call(*result, buffer),
+        };
+        Some(told)
     }
 
     /// By the values that the listing says, where it is one; otherwise by the first line that differs.
     fn of_listing(&self, text: &str) -> String {
-        let given = self.parsed(text);
-        match (&self.outcome, given) {
+        match (&self.outcome, self.parsed(text)) {
             (Ok(expected), Some(Ok(given))) if *expected != given => self.of_runs(expected, &given),
-            (Ok(expected), Some(Err(given))) => {
-                format!("{} expected, {} given", words::counted(expected.answers.len(), "event"), refusal_words(given))
-            }
-            (Err(expected), Some(Err(given))) if *expected != given => {
-                format!("{} expected, {} given", refusal_words(*expected), refusal_words(given))
-            }
-            (Err(expected), Some(Ok(given))) => {
-                format!("{} expected, {} given", refusal_words(*expected), words::counted(given.answers.len(), "event"))
+            (expected, Some(given)) if *expected != given => {
+                let result = match given {
+                    Ok(run) => run.answers.len() as u64,
+                    Err(refused) => refused.result(),
+                };
+                format!("{} expected, {} given", result_words(self.result), result_words(result))
             }
             _ => self.of_lines(text),
         }
@@ -165,31 +152,19 @@ impl Expected {
     }
 
     fn of_call(&self, result: u64, buffer: &[u8]) -> String {
-        let given = Refused::of(result);
-        match (Refused::of(self.result), given) {
-            (Some(expected), Some(given)) if expected == given => {
+        if result != self.result {
+            return format!("{} expected, {} given", result_words(self.result), result_words(result));
+        }
+        match &self.outcome {
+            Ok(run) => self.of_buffers(run, buffer),
+            Err(_) => {
                 let at = first_difference(&self.buffer, buffer);
-                format!("{} as expected, but byte {at} of the output was written", refusal_words(expected))
+                format!("{} as expected, but byte {at} of the output was written", result_words(result))
             }
-            (Some(expected), Some(given)) => {
-                format!("{} expected, {} given", refusal_words(expected), refusal_words(given))
-            }
-            (Some(expected), None) => {
-                format!("{} expected, {} given", refusal_words(expected), words::counted(result as usize, "event"))
-            }
-            (None, Some(given)) => {
-                format!("{} expected, {} given", words::counted(self.events.len(), "event"), refusal_words(given))
-            }
-            (None, None) if result != self.result => {
-                let given = words::counted(result as usize, "event");
-                format!("{} expected, {given} given", words::counted(self.events.len(), "event"))
-            }
-            (None, None) => self.of_buffers(buffer),
         }
     }
 
-    fn of_buffers(&self, buffer: &[u8]) -> String {
-        let Ok(run) = &self.outcome else { return "nothing differs".into() };
+    fn of_buffers(&self, run: &Run, buffer: &[u8]) -> String {
         let length = run.answers.len() * ANSWER_SIZE + run.losses.len() * LOSS_SIZE;
         let at = first_difference(&self.buffer, buffer);
         match buffer.get(..length) {
@@ -219,8 +194,11 @@ fn first_difference(a: &[u8], b: &[u8]) -> usize {
     a.iter().zip(b).take_while(|(a, b)| a == b).count()
 }
 
-fn refusal_words(refused: Refused) -> String {
-    format!("refusal {} at place {}", refused.code, refused.place)
+fn result_words(result: u64) -> String {
+    match Refused::of(result) {
+        Some(Refused { code, place }) => format!("refusal {code} at place {place}"),
+        None => words::counted(result as usize, "event"),
+    }
 }
 
 struct Row {

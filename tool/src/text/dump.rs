@@ -4,6 +4,7 @@
 use std::fmt::Write;
 
 use super::config::statement;
+use super::trace::REPEATED_MAX;
 use super::{BYTES, NUMBER, TRACE};
 use crate::fields;
 use crate::layout::{self, Break, Field, Number};
@@ -118,7 +119,7 @@ fn repetitions(events: &[layout::Event]) -> usize {
     if !first.word.is_tick() {
         return 1;
     }
-    events.iter().take_while(|event| event.word == first.word).count()
+    events.iter().take(REPEATED_MAX as usize).take_while(|event| event.word == first.word).count()
 }
 
 fn event_rows(bytes: &[u8], event: &layout::Event, step: usize, times: usize, names: &Names) -> Vec<Row> {

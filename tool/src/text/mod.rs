@@ -19,8 +19,8 @@ pub const TRACE: &str = "trace";
 pub const NUMBER: &str = "number";
 pub const BYTES: &str = "bytes";
 
-/// More bytes than this are no configuration and no trace, however damaged.
-const BYTES_MAX: usize = 1 << 20;
+/// Longer files are not read, and a text gives no more bytes.
+pub const LENGTH_MAX: usize = 16 << 20;
 
 /// Bytes made from a text, with the position in the text of each number.
 #[derive(Default)]
@@ -31,8 +31,15 @@ pub struct Assembled {
 
 impl Assembled {
     fn number(&mut self, value: u32, position: Position) {
-        self.marks.push((self.bytes.len(), position));
+        self.mark(position);
         push_number(&mut self.bytes, value);
+    }
+
+    /// What follows was written here.
+    fn mark(&mut self, position: Position) {
+        if self.marks.last().is_none_or(|(_, last)| *last != position) {
+            self.marks.push((self.bytes.len(), position));
+        }
     }
 
     /// Where the number that covers this offset was written.
@@ -52,7 +59,7 @@ impl Assembled {
             Some(BYTES) => {
                 line.take();
                 let (first, position) = line.byte()?;
-                self.marks.push((self.bytes.len(), position));
+                self.mark(position);
                 self.bytes.push(first);
                 while line.peek().is_some() {
                     self.bytes.push(line.byte()?.0);
@@ -65,8 +72,8 @@ impl Assembled {
     }
 
     fn check_length(&self, line: &Line) -> Result<(), Fault> {
-        if self.bytes.len() > BYTES_MAX {
-            return Err(line.whole(format!("the text gives more than {BYTES_MAX} bytes")));
+        if self.bytes.len() > LENGTH_MAX {
+            return Err(line.whole(format!("the text gives more than {LENGTH_MAX} bytes")));
         }
         Ok(())
     }

@@ -7,7 +7,7 @@ use crate::names::Names;
 use crate::words::{self, EventWord, Sort, EVENTS};
 
 /// The most times that one statement repeats an event.
-const REPEATED_MAX: u32 = 65_535;
+pub const REPEATED_MAX: u32 = 65_535;
 
 pub fn assemble(lines: Vec<Line>, names: &Names) -> Result<Assembled, Fault> {
     let mut out = Assembled::default();

@@ -65,7 +65,7 @@ pub struct Timeline {
     pub steps: Vec<Step>,
 }
 
-/// The length of a tick and of the whole in pictures that have a time, in nanoseconds.
+/// The length of a tick in pictures that have a time, in nanoseconds.
 const TICK: u64 = 1_000_000;
 
 impl Timeline {
@@ -140,11 +140,16 @@ impl Timeline {
 
 fn moment(kernel: &Kernel<NextDue>, bodies: usize) -> Moment {
     let runner = kernel.runner();
-    let state = |body: u32| match () {
-        () if runner == Some(body) => State::Running,
-        () if kernel.is_started(body) => State::Preempted,
-        () if kernel.is_suspended(body) => State::Suspended,
-        () => State::Ready,
+    let state = |body: u32| {
+        if runner == Some(body) {
+            State::Running
+        } else if kernel.is_started(body) {
+            State::Preempted
+        } else if kernel.is_suspended(body) {
+            State::Suspended
+        } else {
+            State::Ready
+        }
     };
     let all = || 0..bodies as u32;
     Moment {

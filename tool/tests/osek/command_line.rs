@@ -1,6 +1,7 @@
 //! What every command does with a bad command line, bad files, and an output that can't be written.
 
 use std::fs::{File, OpenOptions};
+use std::io::{self, PipeWriter};
 use std::process::{Command, Stdio};
 
 use osek_tests::cases::Random;
@@ -9,12 +10,12 @@ use super::common::*;
 
 const COMMANDS: [&str; 7] = ["run", "explain", "timeline", "asm", "dump", "cases", "compare"];
 
-/// A command line of each command that works in a folder with `both.txt`, and prints something.
+/// A command line of each command that prints something, in a folder with `both.txt` and `trace.txt`.
 const PRINTING: [&[&str]; 6] = [
     &["run", "both.txt", "--json"],
     &["explain", "both.txt"],
     &["timeline", "both.txt", "--svg", "-"],
-    &["asm", "both.txt", "-o", "-"],
+    &["asm", "trace.txt", "-o", "-"],
     &["dump", "both.txt"],
     &["compare", "--sim", "true", "both.txt"],
 ];
@@ -106,6 +107,30 @@ fn empty_files_are_bytes_of_length_0() {
 }
 
 #[test]
+fn huge_files_are_judged_or_refused() {
+    let ticks = vec![6; 200_000];
+    let folder = Folder::document().with("ticks.bin", &ticks).with("huge.bin", vec![6; (16 << 20) + 1]);
+    let said = folder.osek(&["explain", "config.bin", "ticks.bin"]);
+    said.prints("refused 20 0: the trace is longer than 8,192 bytes\nticks.bin has 200,000 bytes.\n", 1);
+    let said = folder.osek(&["timeline", "ticks.bin", "trace.bin", "--svg", "x"]);
+    assert_eq!(said.err, "refused 10 0: the configuration is longer than 4,096 bytes\nticks.bin has 200,000 bytes.\n");
+    folder.write("ticks.txt", folder.osek(&["dump", "ticks.bin"]).done());
+    folder.osek(&["asm", "ticks.txt", "-o", "again.bin"]).prints("", 0);
+    assert_eq!(folder.read("again.bin"), ticks);
+    folder.osek(&["compare", "--sim", &format!("{OSEK} run"), "config.bin", "ticks.bin"]).prints("equal\n", 0);
+    for arguments in [
+        &["run", "huge.bin", "trace.bin"][..],
+        &["explain", "config.bin", "huge.bin"],
+        &["timeline", "config.bin", "huge.bin", "--svg", "x"],
+        &["asm", "huge.bin", "-o", "x"],
+        &["dump", "huge.bin"],
+        &["compare", "--sim", "true", "huge.bin", "trace.bin"],
+    ] {
+        folder.osek(arguments).fails(4, "huge.bin is longer than 16777216 bytes");
+    }
+}
+
+#[test]
 fn noise_never_breaks_a_command() {
     let folder = Folder::new();
     let mut random = Random::new(99);
@@ -140,21 +165,17 @@ fn noise_never_breaks_a_command() {
     }
 }
 
+/// A pipe that nobody reads any more.
+fn unread_pipe() -> PipeWriter {
+    let (_, writer) = io::pipe().expect("a pipe can be made");
+    writer
+}
+
 #[test]
 fn a_closed_pipe_ends_a_command_quietly() {
-    let ticks = "tick\n".repeat(8_000);
-    let folder = Folder::new().with("both.txt", format!("version 1\ntask a priority 1 autostart\ntrace\n{ticks}"));
-    // A trace alone gives one file, which may go to standard output.
-    folder.write("trace.txt", format!("trace\n{}", "tick 65535\n".repeat(4)));
+    let folder = Folder::new().with("both.txt", DOCUMENT_TEXT).with("trace.txt", "trace\ntick\n");
     for arguments in PRINTING {
-        let arguments: Vec<&str> = match arguments[0] {
-            "asm" => vec!["asm", "trace.txt", "-o", "-"],
-            _ => arguments.to_vec(),
-        };
-        let mut child =
-            folder.command(&arguments).stdout(Stdio::piped()).stderr(Stdio::piped()).spawn().expect("the tool runs");
-        drop(child.stdout.take());
-        let output = child.wait_with_output().expect("the tool ends");
+        let output = folder.command(arguments).stdout(unread_pipe()).output().expect("the tool runs");
         assert_eq!(String::from_utf8_lossy(&output.stderr), "", "{arguments:?}");
         assert_eq!(output.status.code(), Some(3), "{arguments:?}");
     }
@@ -164,12 +185,8 @@ fn a_closed_pipe_ends_a_command_quietly() {
 fn a_full_disk_is_told() {
     let folder = Folder::new().with("both.txt", DOCUMENT_TEXT).with("trace.txt", "trace\ntick\n");
     for arguments in PRINTING {
-        let arguments: Vec<&str> = match arguments[0] {
-            "asm" => vec!["asm", "trace.txt", "-o", "-"],
-            _ => arguments.to_vec(),
-        };
         let full: File = OpenOptions::new().write(true).open("/dev/full").expect("/dev/full opens");
-        let output = folder.command(&arguments).stdout(full).output().expect("the tool runs");
+        let output = folder.command(arguments).stdout(full).output().expect("the tool runs");
         let said = String::from_utf8_lossy(&output.stderr).into_owned();
         assert_eq!(said, "osek: standard output could not be written: No space left on device\n", "{arguments:?}");
         assert_eq!(output.status.code(), Some(3), "{arguments:?}");
@@ -188,10 +205,8 @@ fn a_complaint_that_nobody_reads_is_no_matter() {
         (&["timeline", "bad.bin", "trace.bin", "--svg", "x"], 1),
         (&["rum"], 2),
     ] {
-        let mut child =
-            folder.command(arguments).stdout(Stdio::null()).stderr(Stdio::piped()).spawn().expect("the tool runs");
-        drop(child.stderr.take());
-        assert_eq!(child.wait().expect("the tool ends").code(), Some(code), "{arguments:?}");
+        let status = folder.command(arguments).stdout(Stdio::null()).stderr(unread_pipe()).status();
+        assert_eq!(status.expect("the tool runs").code(), Some(code), "{arguments:?}");
     }
 }
 
@@ -213,6 +228,7 @@ fn a_closed_standard_error_is_no_matter() {
         let status = Command::new("sh")
             .arg("-c")
             .arg(format!("{OSEK} {line}"))
+            .stdout(Stdio::null())
             .current_dir(&folder.0)
             .status()
             .expect("sh runs");

@@ -215,9 +215,9 @@ fn values_out_of_range_are_written_and_left_to_the_library() {
 
 #[test]
 fn a_text_of_many_ticks_has_an_end() {
-    let folder = Folder::new().with("long.txt", "trace\n".to_string() + &"tick 65535\n".repeat(20));
+    let folder = Folder::new().with("long.txt", "trace\n".to_string() + &"tick 65535\n".repeat(300));
     let said = folder.osek(&["asm", "long.txt", "-o", "out"]);
-    assert_eq!(said.err.lines().next(), Some("osek: long.txt:18:1: the text gives more than 1048576 bytes"));
+    assert_eq!(said.err.lines().next(), Some("osek: long.txt:258:1: the text gives more than 16777216 bytes"));
     assert_eq!(said.code, Some(4));
 }
 
