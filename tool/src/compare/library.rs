@@ -3,12 +3,14 @@
 //! It is called in a process of its own, `osek call-library ..`, so that nothing it does can harm the comparison.
 
 use std::ffi::{c_char, c_int, c_void, CStr, CString};
+use std::fs::File;
+use std::io::{self, Write};
+use std::os::fd::{AsFd, AsRawFd};
 
 use osek_tests::cases::Case;
 
 use crate::failure::{Ending, Failure};
 use crate::input;
-use crate::output;
 use crate::words::Part;
 
 /// The command that this tool gives itself.
@@ -18,6 +20,7 @@ extern "C" {
     fn dlopen(file: *const c_char, flags: c_int) -> *mut c_void;
     fn dlsym(library: *mut c_void, name: *const c_char) -> *mut c_void;
     fn dlerror() -> *const c_char;
+    fn dup2(from: c_int, to: c_int) -> c_int;
 }
 
 /// Every name is found when the library is opened, or it is not opened.
@@ -73,6 +76,7 @@ pub fn call(arguments: &[String]) -> Result<Ending, Failure> {
         out_len: number(out_len)?,
         fill: number(fill)? as u8,
     };
+    let mut replies = own_output().map_err(|error| Failure::write("standard output", &error))?;
     let run = open(file).map_err(|error| Failure::Input(format!("{file}: {error}")))?;
     let (config, trace, mut out) = (case.config.clone(), case.trace.clone(), case.prefilled());
     // The slices are valid and do not overlap; what the library does with them is its own affair.
@@ -81,6 +85,17 @@ pub fn call(arguments: &[String]) -> Result<Ending, Failure> {
     if config != case.config || trace != case.trace {
         return Err(Failure::Input("the library has changed its input".into()));
     }
-    output::print([&result.to_le_bytes()[..], &out].concat())?;
+    let reply = [&result.to_le_bytes()[..], &out].concat();
+    replies.write_all(&reply).map_err(|error| Failure::write("standard output", &error))?;
     Ok(Ending::Done)
+}
+
+/// Standard output for the reply alone: what the library prints goes nowhere.
+fn own_output() -> io::Result<File> {
+    let stdout = io::stdout();
+    let own = stdout.as_fd().try_clone_to_owned()?;
+    let nowhere = File::options().write(true).open("/dev/null")?;
+    // Both are open files, and the copy keeps the first one's.
+    unsafe { dup2(nowhere.as_raw_fd(), stdout.as_raw_fd()) };
+    Ok(own.into())
 }

@@ -139,6 +139,7 @@ fn build(folder: &Folder, sources: &[&str], library: &str) {
 const SPOILED: &str = "
 #include <stddef.h>
 #include <stdint.h>
+#include <stdio.h>
 typedef uint8_t byte;
 uint64_t proved_run(const byte *, size_t, const byte *, size_t, byte *, size_t);
 uint64_t osek_run(const byte *c, size_t cl, const byte *t, size_t tl, byte *o, size_t ol)
@@ -161,6 +162,7 @@ fn a_library_is_compared_with_its_whole_output() {
     assert!(renamed.expect("objcopy runs").success());
     let libraries = [
         ("right", "", ""),
+        ("chatty", "puts(\"hello\"); fflush(stdout);", ""),
         ("output_too_short", "if (refusal == 30) r++;", "refusal 30 at place 2 expected, refusal 30 at place 3 given"),
         (
             "refused_writes",
@@ -185,8 +187,8 @@ fn a_library_is_compared_with_its_whole_output() {
         let library = format!("{name}.so");
         build(&folder, &["spoiled.c", "proved.a"], &library);
         if told.is_empty() {
-            let out = folder.osek(&["compare", "--lib", &library, "--count", "200"]).done();
-            assert!(out.starts_with("200 cases of seed 1: all equal ("), "{out}");
+            let out = folder.osek(&["compare", "--lib", &library, "--count", "100"]).done();
+            assert!(out.starts_with("100 cases of seed 1: all equal ("), "{out}");
             continue;
         }
         let said = folder.osek(&["compare", "--lib", &library, "-o", name]);

@@ -76,6 +76,10 @@ fn a_picture_is_xml_and_has_every_body_and_event() {
         folder.osek(&["timeline", "config.bin", "trace.bin", "--svg", "run.svg"]).prints("", 0);
         python(&folder, "check_svg.py", &["run.svg", "listing"]);
     }
+    // Its title is the name of the file.
+    let folder = folder.with("a&<b>\".txt", DOCUMENT_TEXT).with("listing", DOCUMENT_LISTING);
+    folder.osek(&["timeline", "a&<b>\".txt", "--svg", "run.svg"]).prints("", 0);
+    python(&folder, "check_svg.py", &["run.svg", "listing"]);
 }
 
 #[test]
