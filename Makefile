@@ -32,7 +32,7 @@ host: staticlib
 tool: staticlib
 	@mkdir -p build
 	@cargo build --quiet --release --offline --locked --manifest-path tool/Cargo.toml --target-dir tool/target
-	@cp tool/target/release/osek build/osek
+	@install tool/target/release/osek build/osek
 
 # Drawn cases from a seed of one's own: make fuzz SEED=7 COUNT=20000
 fuzz: staticlib

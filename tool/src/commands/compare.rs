@@ -46,7 +46,7 @@ the command that shows it again.
   --count N         how many; 1000 if not given
   --timeout T       seconds for one run, 1 to 3600; 10 if not given
   --out-len N       with --lib and two files: the length of the output, 0 to 65535; 32832 if not given
-  -o DIR            where the difference is written; otherwise the folder `difference`
+  -o DIR            where the difference is written, over what is there; otherwise the folder `difference`
 ",
     accepts: Accepts {
         flags: &[],

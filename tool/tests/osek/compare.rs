@@ -11,7 +11,7 @@ use super::common::*;
 /// Built beside the tool by `cargo test`.
 fn stand_in() -> PathBuf {
     let path = Path::new(OSEK).with_file_name("examples").join("stand_in");
-    assert!(path.is_file(), "{} is not built", path.display());
+    assert!(path.is_file(), "{} is not built: cargo build --example stand_in, in the same profile", path.display());
     path
 }
 
