@@ -97,7 +97,7 @@ pub struct Source {
 }
 
 impl Source {
-    fn of_bytes(file: &str, bytes: Vec<u8>) -> Source {
+    pub fn of_bytes(file: &str, bytes: Vec<u8>) -> Source {
         Source { file: file.into(), bytes, assembled: None }
     }
 

@@ -164,3 +164,68 @@ fn moment(kernel: &Kernel<NextDue>, bodies: usize) -> Moment {
 fn disagreement(place: &str) -> Failure {
     Failure::Output(format!("the timeline's states and the library's answers differ at {place}: nothing is drawn"))
 }
+
+#[cfg(test)]
+mod tests {
+    use super::*;
+    use crate::input::{Config, Source};
+    use crate::words;
+    use osek_tests::cases;
+    use std::collections::BTreeSet;
+
+    /// Whether a request of the body waits, by what the library answers if the body is asked for after the trace.
+    fn refused_at_its_limit(config: &[u8], trace: &[u8], body: usize, kind: u32) -> bool {
+        const LIMIT: u8 = 4;
+        let word = if words::kind(kind).is_some_and(|kind| kind.in_tables) { "activate" } else { "line" };
+        let code = words::event_named(word).expect("it is an event").code;
+        let asked = [trace, &[code as u8, body as u8]].concat();
+        let run = reference::run(config, &asked).expect("the run is accepted");
+        run.answers.last().expect("it has an event").status == LIMIT
+    }
+
+    /// The bodies that have begun and not ended, by the answers alone.
+    fn started_after(started: &mut BTreeSet<usize>, before: Option<u8>, step: &Step) {
+        let ends = matches!(step.event.word.name, "Finish" | "Chain");
+        if let (true, 0, Some(runner)) = (ends, step.answer.status, before) {
+            started.remove(&usize::from(runner));
+        }
+        if let (1, Some(runner)) = (step.answer.begun, step.answer.runner) {
+            started.insert(runner.into());
+        }
+    }
+
+    #[test]
+    fn states_and_losses_are_what_the_library_answers() {
+        let mut seen = [0; STATES.len()];
+        for case in (0..150).map(|number| cases::case(17, number)).filter(|case| case.trace.len() < 150) {
+            let Ok(run) = reference::run(&case.config, &case.trace) else { continue };
+            let pair = Pair {
+                config: Config::of_bytes("config", case.config.clone()),
+                trace: Source::of_bytes("trace", case.trace.clone()),
+            };
+            let timeline = Timeline::of(pair, &run).expect("the versions agree");
+            let mut before = timeline.fresh.runner;
+            let mut started: BTreeSet<usize> = before.into_iter().map(usize::from).collect();
+            for step in &timeline.steps {
+                started_after(&mut started, before, step);
+                before = step.answer.runner;
+                let prefix = &case.trace[..step.event.end];
+                let so_far = reference::run(&case.config, prefix).expect("a prefix of events is accepted");
+                assert_eq!(step.after.losses, so_far.losses);
+                for (body, state) in step.after.states.iter().enumerate() {
+                    let asked = || refused_at_its_limit(&case.config, prefix, body, timeline.bodies[body].kind);
+                    let expected = match before {
+                        None => State::Suspended,
+                        Some(runner) if usize::from(runner) == body => State::Running,
+                        _ if started.contains(&body) => State::Preempted,
+                        _ if asked() => State::Ready,
+                        _ => State::Suspended,
+                    };
+                    assert_eq!(*state, expected, "body {body} after {:?}", step.event);
+                    seen[STATES.iter().position(|known| known == state).expect("it is a state")] += 1;
+                }
+            }
+        }
+        assert!(seen.iter().all(|count| *count > 100), "{seen:?}");
+    }
+}
