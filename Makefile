@@ -1,4 +1,4 @@
-# `make help` lists what can be made. Everything beyond the kit, a C compiler and cargo is built here.
+# `make help` lists what can be made. Everything beyond the kit, a C compiler, cargo and python3 is built here.
 
 # The crates whose exported functions are the library, each an archive of its own that `lib` joins. A new function needs no
 # archive: three lines in crates/osek export it, and the crate that proves it is not proved again.
@@ -22,12 +22,13 @@ ARCHIVES = $(EXPORTS:%=target/staticlib/lib%.a)
 SOURCES := KIT crates.txt $(shell find crates -name must-fail -prune -o -type f -print)
 
 .NOTPARALLEL:
-.PHONY: help run test host lib install uninstall fuzz speed clean need need-cargo
+.PHONY: help run test host lib tool install uninstall fuzz speed clean need need-cargo
 
 ## make run          proves the bench program and runs it on the listing of document 01
 ## make test         the gate: every crate proved, every must-fail edit refused, every test run
 ## make host         build/osek_host, the bench host in C, for files of one's own
 ## make lib          build/libosek.a and build/libosek.so, for C, C++, Python and whatever calls C
+## make tool         build/osek, the bench tool: text in, words and pictures out, a simulator beside the reference
 ## make install      header, libraries, osek.pc, host and manual page under PREFIX=/usr/local; make uninstall
 ## make fuzz         drawn cases beside the Rust versions of tests/: SEED=7 COUNT=20000
 ## make speed        the run timed beside Rust; WRITE=1 puts the tables into docs/PERFORMANCE.md
@@ -89,6 +90,12 @@ install: lib host
 uninstall:
 	@rm -f $(INSTALLED:%=$(DESTDIR)$(PREFIX)/%)
 
+# The bench tool: build/osek --help
+tool: need-cargo lib
+	@cargo build --quiet --release --offline --locked --manifest-path tool/Cargo.toml --target-dir tool/target
+	@install tool/target/release/osek build/osek
+	@echo 'build/osek --help lists its commands'
+
 fuzz: need-cargo lib
 	@cargo run $(CARGO) --bin fuzz -- $(SEED) $(COUNT)
 
@@ -97,4 +104,4 @@ speed: need-cargo lib
 	@cargo run $(CARGO) --bin speed -- $(if $(WRITE),--write docs/PERFORMANCE.md)
 
 clean:
-	@rm -rf build target tests/target
+	@rm -rf build target tests/target tool/target

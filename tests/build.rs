@@ -17,6 +17,7 @@ fn main() {
         library.display()
     );
     println!("cargo:rerun-if-changed={}", library.display());
+    println!("cargo:rustc-env=OSEK_LIBRARY={}", library.display());
     println!("cargo:rustc-link-search=native={}", folder.display());
     println!("cargo:rustc-link-lib=static=osek");
 }

@@ -1,5 +1,8 @@
 //! The proved run, linked from the static library.
 
+/// The static library's file.
+pub const LIBRARY: &str = env!("OSEK_LIBRARY");
+
 extern "C" {
     pub fn osek_run(
         config: *const u8,
