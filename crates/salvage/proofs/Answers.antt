@@ -38,6 +38,25 @@ module _ (bs : List ℕ) (n m : ℕ) where
       unfolding salvaged
       salvaged-whole h = simp (le-leb (length bs) maxTrace short, le-leb (length (keptBytes bs)) n room, le-leb (length (listBytes bs)) m h)
 
+-- no refusal: both outputs have room
+pub record Whole (bs : List ℕ) (n m : ℕ) : Type 0 where
+  pub whole : salvaged bs n m ≡ accepted (lengths bs)
+  pub events-fit : length (keptBytes bs) ≤ n
+  pub list-fits : length (listBytes bs) ≤ m
+
+pub accepted-whole : (bs : List ℕ) (n m : ℕ) → salvaged bs n m .refusal ≡ none → Whole bs n m
+accepted-whole bs n m ok =
+    by-lt maxTrace (length bs)
+    (λ h. no (salvaged-too-long bs n m h) (λ z. omega arith))
+    (λ short. by-lt n (length (keptBytes bs))
+    (λ h. no (salvaged-no-room bs n m short h) (λ z. omega arith))
+    (λ room. by-lt m (length (listBytes bs))
+    (λ h. no (salvaged-no-list bs n m short room h) (λ z. omega arith))
+    (λ space. record { whole = salvaged-whole bs n m short room space; events-fit = room; list-fits = space })))
+  where
+    no : {k p : ℕ} → salvaged bs n m ≡ refused k p → (k ≡ none → ⊥) → Whole bs n m
+    no e bad = absurd (bad (rw e at ok))
+
 -- what is counted is what the definitions have
 module _ (bs : List ℕ) (need : Lengths) (count : need ≡ lengths bs) where
   many : need .events ≡ length (keptBytes bs)
