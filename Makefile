@@ -1,6 +1,8 @@
 # `make test` is the gate. Everything beyond the kit at /opt/rattle, gcc and cargo is built here.
 
 LIBRARY = target/staticlib/libkernel.a
+LIBRARIES = $(LIBRARY) target/staticlib/libsalvage.a
+SOURCES = $(shell find crates -name must-fail -prune -o -type f -print)
 CFLAGS = -std=c99 -O2 -Wall -Wextra -Wpedantic -Werror
 CARGO = --quiet --release --offline --locked --manifest-path tests/Cargo.toml --features linked
 SEED = 1
@@ -18,11 +20,11 @@ run: bench
 bench:
 	@rt check bench > /dev/null
 
-# The library that C links, with the symbol osek_run: proved and built again only where a source is newer.
-staticlib: $(LIBRARY)
+# The libraries that C links, one for each exported function (osek_run, osek_salvage): proved and built again only where a source is newer.
+staticlib: $(LIBRARIES)
 
-$(LIBRARY): KIT crates.txt $(shell find crates -name must-fail -prune -o -type f -print)
-	@rt staticlib kernel > /dev/null
+target/staticlib/lib%.a: KIT crates.txt $(SOURCES)
+	@rt staticlib $* > /dev/null
 
 host: staticlib
 	@mkdir -p build

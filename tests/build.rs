@@ -1,4 +1,4 @@
-//! Finds the proved static library for the feature `linked`.
+//! Finds the proved static libraries for the feature `linked`.
 
 use std::{env, path::PathBuf};
 
@@ -10,13 +10,15 @@ fn main() {
     }
     let here = PathBuf::from(env::var_os("CARGO_MANIFEST_DIR").expect("cargo sets CARGO_MANIFEST_DIR"));
     let folder = env::var_os("OSEK_LIB_DIR").map_or_else(|| here.join("../target/staticlib"), PathBuf::from);
-    let library = folder.join("libkernel.a");
-    assert!(
-        library.is_file(),
-        "{} is missing: build the static library first, or name its folder in OSEK_LIB_DIR",
-        library.display()
-    );
-    println!("cargo:rerun-if-changed={}", library.display());
     println!("cargo:rustc-link-search=native={}", folder.display());
-    println!("cargo:rustc-link-lib=static=kernel");
+    for name in ["kernel", "salvage"] {
+        let library = folder.join(format!("lib{name}.a"));
+        assert!(
+            library.is_file(),
+            "{} is missing: build the static libraries first, or name their folder in OSEK_LIB_DIR",
+            library.display()
+        );
+        println!("cargo:rerun-if-changed={}", library.display());
+        println!("cargo:rustc-link-lib=static={name}");
+    }
 }

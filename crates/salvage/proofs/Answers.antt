@@ -17,7 +17,7 @@ use Rattle.recording.specs.Stretch.{listBytes}
 use Rattle.recording.proofs.Theorems.{kept-fit, list-fits}
 use Rattle.salvage.specs.declared.Lengths.{Lengths}
 use Rattle.salvage.specs.declared.Salvaged.{Salvaged}
-use Rattle.salvage.specs.Salvage.{lengths, refused, accepted, salvaged, filled, eventsAfter, stretchesAfter, both, resultOf}
+use Rattle.salvage.specs.Salvage.{Fitting, lengths, refused, accepted, salvaged, filled, eventsAfter, stretchesAfter, both, resultOf}
 
 module _ (bs : List ℕ) (n m : ℕ) where
   pub salvaged-too-long : maxTrace < length bs → salvaged bs n m ≡ refused traceTooLong 0
@@ -29,32 +29,26 @@ module _ (bs : List ℕ) (n m : ℕ) where
     unfolding salvaged
     salvaged-no-room h = simp (le-leb (length bs) maxTrace short, lt-leb (length (keptBytes bs)) n h)
 
-    module _ (room : length (keptBytes bs) ≤ n) where
-      pub salvaged-no-list : m < length (listBytes bs) → salvaged bs n m ≡ refused noRoom (length (listBytes bs))
-      unfolding salvaged
-      salvaged-no-list h = simp (le-leb (length bs) maxTrace short, le-leb (length (keptBytes bs)) n room, lt-leb (length (listBytes bs)) m h)
+    pub salvaged-no-list : length (keptBytes bs) ≤ n → m < length (listBytes bs) → salvaged bs n m ≡ refused noRoom (length (listBytes bs))
+    unfolding salvaged
+    salvaged-no-list room h = simp (le-leb (length bs) maxTrace short, le-leb (length (keptBytes bs)) n room, lt-leb (length (listBytes bs)) m h)
 
-      pub salvaged-whole : length (listBytes bs) ≤ m → salvaged bs n m ≡ accepted (lengths bs)
-      unfolding salvaged
-      salvaged-whole h = simp (le-leb (length bs) maxTrace short, le-leb (length (keptBytes bs)) n room, le-leb (length (listBytes bs)) m h)
+  pub salvaged-whole : Fitting bs n m → salvaged bs n m ≡ accepted (lengths bs)
+  unfolding salvaged
+  salvaged-whole f = simp (le-leb (length bs) maxTrace (f .short), le-leb (length (keptBytes bs)) n (f .events), le-leb (length (listBytes bs)) m (f .stretches))
 
 -- no refusal: both outputs have room
-pub record Whole (bs : List ℕ) (n m : ℕ) : Type 0 where
-  pub whole : salvaged bs n m ≡ accepted (lengths bs)
-  pub events-fit : length (keptBytes bs) ≤ n
-  pub list-fits : length (listBytes bs) ≤ m
-
-pub accepted-whole : (bs : List ℕ) (n m : ℕ) → salvaged bs n m .refusal ≡ none → Whole bs n m
-accepted-whole bs n m ok =
+pub accepted-fitting : (bs : List ℕ) (n m : ℕ) → salvaged bs n m .refusal ≡ none → Fitting bs n m
+accepted-fitting bs n m ok =
     by-lt maxTrace (length bs)
     (λ h. no (salvaged-too-long bs n m h) (λ z. omega arith))
     (λ short. by-lt n (length (keptBytes bs))
     (λ h. no (salvaged-no-room bs n m short h) (λ z. omega arith))
     (λ room. by-lt m (length (listBytes bs))
     (λ h. no (salvaged-no-list bs n m short room h) (λ z. omega arith))
-    (λ space. record { whole = salvaged-whole bs n m short room space; events-fit = room; list-fits = space })))
+    (λ space. record { short = short; events = room; stretches = space })))
   where
-    no : {k p : ℕ} → salvaged bs n m ≡ refused k p → (k ≡ none → ⊥) → Whole bs n m
+    no : {k p : ℕ} → salvaged bs n m ≡ refused k p → (k ≡ none → ⊥) → Fitting bs n m
     no e bad = absurd (bad (rw e at ok))
 
 -- what is counted is what the definitions have
@@ -65,11 +59,8 @@ module _ (bs : List ℕ) (need : Lengths) (count : need ≡ lengths bs) where
   listed : need .stretches ≡ length (listBytes bs)
   listed = ap (λ (x : Lengths). x .stretches) count
 
-  pub events-fit : (n : ℕ) → need .events ≤ n → length (keptBytes bs) ≤ n
-  events-fit n h = omega (arith, many)
-
-  pub list-fit : (n : ℕ) → need .stretches ≤ n → length (listBytes bs) ≤ n
-  list-fit n h = omega (arith, listed)
+  pub fitting : (n m : ℕ) → length bs ≤ maxTrace → need .events ≤ n → need .stretches ≤ m → Fitting bs n m
+  fitting n m short room space = record { short = short; events = omega (arith, many); stretches = omega (arith, listed) }
 
 -- the answer r, and what both slices hold afterwards
 abbrev Did : List ℕ → List ℕ → List ℕ → Salvaged → List ℕ → List ℕ → Type 0
@@ -92,7 +83,7 @@ module _ (bs es ss : List ℕ) (r : Salvaged) where
     module _ (room : need .events ≤ length es) where
       pub did-no-list : length ss < need .stretches → r ≡ refused noRoom (need .stretches) → Did bs es ss r es ss
       did-no-list h same = let e = listed bs need count in
-          did-refused noRoom (length (listBytes bs)) (λ z. omega arith) (same ∙ ap (refused noRoom) e) (salvaged-no-list bs _ _ short (events-fit bs need count _ room) (omega arith))
+          did-refused noRoom (length (listBytes bs)) (λ z. omega arith) (same ∙ ap (refused noRoom) e) (salvaged-no-list bs _ _ short (omega (arith, many bs need count)) (omega arith))
 
       pub did-whole : need .stretches ≤ length ss → r ≡ accepted need → (es₁ ss₁ : List ℕ) → es₁ ≡ written (keptBytes bs) es → ss₁ ≡ written (listBytes bs) ss
           → Did bs es ss r es₁ ss₁
@@ -100,7 +91,7 @@ module _ (bs es ss : List ℕ) (r : Salvaged) where
       did-whole space same es₁ ss₁ e s = (same ∙ ap accepted count ∙ sym whole, (e ∙ rw whole, s ∙ rw whole))
         where
           whole : salvaged bs (length es) (length ss) ≡ accepted (lengths bs)
-          whole = salvaged-whole bs _ _ short (events-fit bs need count _ room) (list-fit bs need count _ space)
+          whole = salvaged-whole bs _ _ (fitting bs need count _ _ short room space)
 
 -- an answer fits one number
 pub record Small (r : Salvaged) : Type 0 where
@@ -118,7 +109,7 @@ salvaged-small bs n m =
     (λ h. rw (salvaged-no-room bs n m short h) (record { events-le = lit≤ tt; stretches-le = lit≤ tt; refusal-le = lit≤ tt; place-le = omega (arith, kept-fit bs) }))
     (λ room. by-lt m (length (listBytes bs))
     (λ h. rw (salvaged-no-list bs n m short room h) (record { events-le = lit≤ tt; stretches-le = lit≤ tt; refusal-le = lit≤ tt; place-le = few }))
-    (λ h. rw (salvaged-whole bs n m short room h) (record { events-le = omega (arith, kept-fit bs); stretches-le = few; refusal-le = lit≤ tt; place-le = lit≤ tt }))))
+    (λ h. rw (salvaged-whole bs n m (record { short = short; events = room; stretches = h })) (record { events-le = omega (arith, kept-fit bs); stretches-le = few; refusal-le = lit≤ tt; place-le = lit≤ tt }))))
 
 -- both forms of the answer's number
 module _ (r : Salvaged) where

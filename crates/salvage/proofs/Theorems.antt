@@ -21,7 +21,7 @@ use Rattle.salvage.proofs.Answers as Answers
 -- 8,192 bytes for the events and 12,224 for the stretches are enough for every trace that is not too long
 pub enough : (bs : List ℕ) (n m : ℕ) → length bs ≤ 8192 → 8192 ≤ n → 12224 ≤ m → salvaged bs n m ≡ accepted (lengths bs)
 enough bs n m short room space =
-    Answers.salvaged-whole bs n m short (omega (arith, kept-fit bs)) (omega (arith, list-fits bs short))
+    Answers.salvaged-whole bs n m (record { short = short; events = omega (arith, kept-fit bs); stretches = omega (arith, list-fits bs short) })
 
 -- a refused call leaves both slices as they were
 pub refused-same : (bs es ss : List ℕ) → (salvaged bs (length es) (length ss) .refusal ≡ none → ⊥)
@@ -34,9 +34,9 @@ pub accepted-outputs : (bs es ss : List ℕ) → let r = salvaged bs (length es)
     → (take (r .events) (eventsAfter bs es ss) ≡ keptBytes bs) × (take (r .stretches) (stretchesAfter bs es ss) ≡ listBytes bs)
 unfolding filled
 accepted-outputs bs es ss ok =
-    let a = Answers.accepted-whole bs (length es) (length ss) ok in
-    rw (a .whole)
-    (front (keptBytes bs) es (a .events-fit), front (listBytes bs) ss (a .list-fits))
+    let f = Answers.accepted-fitting bs (length es) (length ss) ok in
+    rw (Answers.salvaged-whole bs (length es) (length ss) f)
+    (front (keptBytes bs) es (f .events), front (listBytes bs) ss (f .stretches))
   where
     front : (xs d : List ℕ) → length xs ≤ length d → take (length xs) (written xs d) ≡ xs
     front xs d h = rw (written-fits xs d h) (take-append-seam xs (drop (length xs) d))

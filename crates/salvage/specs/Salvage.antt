@@ -5,7 +5,7 @@
 --   resultOf r               the answer as one number, for C
 --
 -- Assumes nothing.
-use Prim.Native.Nat.{ℕ, _+_, _*_}
+use Prim.Native.Nat.{ℕ, _+_, _*_, _≤_}
 use mathlib.Core.Bool.{cond}
 use mathlib.Core.List.{List}
 use lib.Dec.{leb, eqb}
@@ -22,6 +22,12 @@ use Rattle.salvage.specs.declared.Salvaged.{Salvaged}
 -- how many bytes each output takes
 abbrev pub lengths : List ℕ → Lengths
 lengths bs = record { events = length (keptBytes bs); stretches = length (listBytes bs) }
+
+-- the recording is not too long, and n and m bytes are room enough for events and stretches
+pub record Fitting (bs : List ℕ) (n m : ℕ) : Type 0 where
+  pub short : length bs ≤ maxTrace
+  pub events : length (keptBytes bs) ≤ n
+  pub stretches : length (listBytes bs) ≤ m
 
 abbrev pub refused : ℕ → ℕ → Salvaged
 refused r p = record { events = 0; stretches = 0; refusal = r; place = p }

@@ -4,8 +4,7 @@ mod write;
 
 use number::NO_ROOM;
 use walk::measure;
-use write::write_events;
-use write::write_stretches;
+use write::write_both;
 ghost use mathlib.Core.Path.{_≡_};
 ghost use lib.ListN.{length};
 ghost use Rattle.salvage.specs.Salvage.{salvaged, eventsAfter, stretchesAfter, resultOf, refused};
@@ -47,8 +46,7 @@ pub fn salvage(trace: &[u8], events: &mut [u8], stretches: &mut [u8]) -> Salvage
     if stretches.len() < need.stretches {
         return refused(NO_ROOM, need.stretches);
     }
-    write_events(trace, events);
-    write_stretches(trace, stretches);
+    write_both(trace, events, stretches);
     Salvaged {
         events: need.events,
         stretches: need.stretches,

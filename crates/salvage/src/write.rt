@@ -10,44 +10,31 @@ ghost use Rattle.number.specs.Output.{written, laid};
 ghost use Rattle.event.specs.Trace.{maxTrace};
 ghost use Rattle.recording.specs.Fate.{keptBytes};
 ghost use Rattle.recording.specs.Stretch.{closed, stretchBytes, listBytes};
+ghost use Rattle.salvage.specs.Salvage.{Fitting};
 
-// Writes the kept bytes.
-pub fn write_events(trace: &[u8], events: &mut [u8])
-    requires { ⌜ length (keptBytes (now trace)) ≤ length (now events) ⌝ }
-    ensures { λ _. ⌜ now (events .exit) ≡ written (keptBytes (now (trace .entry))) (now (events .entry)) ⌝ }
-{
-    let mut left: usize = 0;
-    let mut n: usize = 0;
-    for at in 0..trace.len() {
-        let here = belonging(trace, at, left);
-        if here == 0 {
-            continue;
-        }
-        events[n] = trace[at];
-        n += 1;
-        left = here - 1;
-    }
-}
-
-// Writes the list of stretches. `gap` bytes before `at` are dropped and not yet listed.
-pub fn write_stretches(trace: &[u8], stretches: &mut [u8])
-    requires { ⌜ (length (now trace) ≤ maxTrace) × (length (listBytes (now trace)) ≤ length (now stretches)) ⌝ }
-    ensures { λ _. ⌜ now (stretches .exit) ≡ written (listBytes (now (trace .entry))) (now (stretches .entry)) ⌝ }
+// Writes the kept bytes and the list of stretches. `gap` bytes before `at` are dropped and not yet listed.
+pub fn write_both(trace: &[u8], events: &mut [u8], stretches: &mut [u8])
+    requires { ⌜ Fitting (now trace) (length (now events)) (length (now stretches)) ⌝ }
+    ensures events { λ _. ⌜ now (events .exit) ≡ written (keptBytes (now (trace .entry))) (now (events .entry)) ⌝ }
+    ensures stretches { λ _. ⌜ now (stretches .exit) ≡ written (listBytes (now (trace .entry))) (now (stretches .entry)) ⌝ }
 {
     let mut left: usize = 0;
     let mut gap: usize = 0;
     let mut n: usize = 0;
+    let mut m: usize = 0;
     for at in 0..trace.len() {
         let here = belonging(trace, at, left);
         if here == 0 {
             gap += 1;
             continue;
         }
-        n = write_stretch(at - gap, gap, n, stretches);
+        events[n] = trace[at];
+        n += 1;
+        m = write_stretch(at - gap, gap, m, stretches);
         gap = 0;
         left = here - 1;
     }
-    write_stretch(trace.len() - gap, gap, n, stretches);
+    write_stretch(trace.len() - gap, gap, m, stretches);
 }
 
 // Writes a stretch at a place of the list and returns the place after it; one without bytes is none.

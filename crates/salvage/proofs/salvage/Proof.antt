@@ -1,7 +1,7 @@
 -- `salvage` meets its contract: each of its four ways out is a law of `Answers`.
 -- Assumes nothing.
 use mathlib.Core.Path.{refl}
-use Rattle.salvage.proofs.Answers.{did-too-long, did-no-room, did-no-list, did-whole, events-fit, list-fit}
+use Rattle.salvage.proofs.Answers.{did-too-long, did-no-room, did-no-list, did-whole, fitting}
 use borrow.Author.Needs.{needs}
 use Rattle.salvage.proofs.salvage.Statement.{statement}
 use Rattle.salvage.proofs.salvage.Tie as tie
@@ -33,18 +33,11 @@ returns-3 c = let f = c .before .before .before in
     let a = e .before .before .before .before .args in
     did-no-list (a .trace .now) (a .events .now) (a .stretches .now) (c .refused3 .result) (e .if1 .left) (m .result) (m .ensures) (f .if2 .left) (c .before .if3 .taken) (c .refused3 .ensures)
 
-write-events-requires : tie.Need-write-events-requires
-write-events-requires c κs = let f = c .before .before .before in
-    let e = f .before .before .before in let m = f .before .before .measure in
-    let a = e .before .before .before .before .args in
-    events-fit (a .trace .now) (m .result) (m .ensures) _ (f .if2 .left)
-
-write-stretches-requires : tie.Need-write-stretches-requires
-write-stretches-requires c κs = let g = c .before .before .before .before .before in
+write-both-requires : tie.Need-write-both-requires
+write-both-requires c κs = let g = c .before .before in
     let f = g .before .before in
     let e = f .before .before .before in let m = f .before .before .measure in
-    let a = e .before .before .before .before .args in
-    (e .if1 .left, list-fit (a .trace .now) (m .result) (m .ensures) _ (g .if3 .left))
+    fitting (e .before .before .before .before .args .trace .now) (m .result) (m .ensures) _ _ (e .if1 .left) (f .if2 .left) (g .if3 .left)
 
 same-length : tie.Need-same-length
 same-length c = search needs
@@ -53,13 +46,12 @@ same-length-2 : tie.Need-same-length-2
 same-length-2 c = search needs
 
 returns-4 : tie.Need-returns-4
-returns-4 c = let ws = c .before .before .write-stretches in
-    let we = c .before .before .before .before .before .before .write-events in
-    let g = c .before .before .before .before .before .before .before .before in
+returns-4 c = let w = c .before .before .before .before .write-both in
+    let g = c .before .before .before .before .before .before .before in
     let f = g .before .before in
     let e = f .before .before .before in let m = f .before .before .measure in
     let a = e .before .before .before .before .args in
-    did-whole (a .trace .now) (a .events .now) (a .stretches .now) _ (e .if1 .left) (m .result) (m .ensures) (f .if2 .left) (g .if3 .left) refl _ _ (we .ensures) (ws .ensures)
+    did-whole (a .trace .now) (a .events .now) (a .stretches .now) _ (e .if1 .left) (m .result) (m .ensures) (f .if2 .left) (g .if3 .left) refl _ _ (w .ensures .0) (w .ensures .1)
 
 pub salvage-spec : {M : Type 1} → statement M
 salvage-spec =
@@ -72,8 +64,7 @@ salvage-spec =
     returns-2
     refused-requires-3
     returns-3
-    write-events-requires
-    write-stretches-requires
+    write-both-requires
     same-length
     same-length-2
     returns-4)
