@@ -2,8 +2,8 @@
 --
 -- In order: a byte of each fate; an event at the head; what holds of every recording (`recording-elim`); events in a row.
 -- Assumes nothing.
-use Prim.Native.Nat.{ℕ, zero, suc, _+_, _-_, _≤_, _<_}
-use mathlib.Core.Path.{_≡_, refl, sym, ap, _∙_}
+use Prim.Native.Nat.{ℕ, zero, suc, _+_, _-_, _≤_}
+use mathlib.Core.Path.{_≡_, refl, ap, _∙_}
 use mathlib.Core.List.{List, [], _∷_, _++_}
 use native.Mathlib.Omega.{arith}
 use native.Mathlib.Nat.{zero-add}
@@ -30,19 +30,19 @@ unfolding covered
 covered-some bs h = simp (eq-eqb (readEvent bs 0 .refusal) none h)
 
 -- no event covers more than there is
-pub covered-le : (bs : List ℕ) → covered bs ≤ length bs
+covered-le : (bs : List ℕ) → covered bs ≤ length bs
 covered-le bs =
     by-eq (readEvent bs 0 .refusal) none
     (λ h. rw (covered-some bs h) (event-reading bs 0 .inside h))
     (λ n. rw (covered-none bs n) (omega arith))
 
 -- where bytes are covered, they are those of an event that can be written
-pub record Headed (bs : List ℕ) (e : Event) : Type 0 where
-  pub writable : Writable e
-  pub long : covered bs ≡ length (eventBytes e)
-  pub bytes : bs ≡ eventBytes e ++ drop (covered bs) bs
+record Headed (bs : List ℕ) (e : Event) : Type 0 where
+  writable : Writable e
+  long : covered bs ≡ length (eventBytes e)
+  bytes : bs ≡ eventBytes e ++ drop (covered bs) bs
 
-pub headed : (bs : List ℕ) → Bytes bs → readEvent bs 0 .refusal ≡ none → Headed bs (readEvent bs 0 .event)
+headed : (bs : List ℕ) → Bytes bs → readEvent bs 0 .refusal ≡ none → Headed bs (readEvent bs 0 .event)
 headed bs b h = record {
   writable = event-reading bs 0 .writable h;
   long = covered-some bs h ∙ place-read bs 0 b h ∙ zero-add _;
@@ -50,7 +50,7 @@ headed bs b h = record {
 }
 
 -- the event at the head is read whatever follows it
-pub covered-bytes : (e : Event) (rest : List ℕ) → Writable e → covered (eventBytes e ++ rest) ≡ length (eventBytes e)
+covered-bytes : (e : Event) (rest : List ℕ) → Writable e → covered (eventBytes e ++ rest) ≡ length (eventBytes e)
 covered-bytes e rest w =
     covered-some (eventBytes e ++ rest) (ap (λ (r : EventRead). r .refusal) here)
     ∙ ap (λ (r : EventRead). r .place) here
@@ -83,7 +83,7 @@ unfolding fatesFrom belonging fateOf
 fates-dropped b bs h = rw h
 
 -- the bytes of an event that began before are kept
-pub fates-left : (left : ℕ) (bs : List ℕ) → left ≤ length bs → fatesFrom left bs ≡ replicate left kept ++ fates (drop left bs)
+fates-left : (left : ℕ) (bs : List ℕ) → left ≤ length bs → fatesFrom left bs ≡ replicate left kept ++ fates (drop left bs)
 unfolding fatesFrom belonging fateOf
 fates-left zero bs h = refl
 fates-left (suc left) [] h = absurd (omega arith)
@@ -102,7 +102,7 @@ fates-covered (b ∷ bs) = go (covered (b ∷ bs)) refl
 pub fates-event : (bs : List ℕ) → fates bs ≡ replicate (covered bs) kept ++ fates (drop (covered bs) bs)
 fates-event bs = fates-covered bs ∙ fates-left (covered bs) bs (covered-le bs)
 
-pub fates-bytes : (e : Event) (rest : List ℕ) → Writable e
+fates-bytes : (e : Event) (rest : List ℕ) → Writable e
     → fates (eventBytes e ++ rest) ≡ replicate (length (eventBytes e)) kept ++ fates rest
 fates-bytes e rest w =
     fates-event (eventBytes e ++ rest)
@@ -133,7 +133,7 @@ module _ (P : List ℕ → Type 0)
     pub recording-elim : (bs : List ℕ) → Bytes bs → P bs
     recording-elim bs b = bounded (length bs) bs (omega arith) b
 
-pub chosen-kept : (xs rest : List ℕ) (fs : List Fate) → chosen (replicate (length xs) kept ++ fs) (xs ++ rest) ≡ xs ++ chosen fs rest
+chosen-kept : (xs rest : List ℕ) (fs : List Fate) → chosen (replicate (length xs) kept ++ fs) (xs ++ rest) ≡ xs ++ chosen fs rest
 unfolding chosen
 chosen-kept [] rest fs = refl
 chosen-kept (x ∷ xs) rest fs = ap (λ (l : List ℕ). x ∷ l) (chosen-kept xs rest fs)

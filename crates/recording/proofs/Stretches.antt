@@ -1,18 +1,20 @@
--- The dropped stretches: they lie apart, the recording is put together from them and the kept bytes, and they take few bytes.
+-- The dropped stretches: they lie apart, the recording is put together from them and the kept bytes, and they tell each byte's fate.
 --
--- In order: a stretch that is closed; stretches lie apart; kept bytes before a stretch; put together; none where all is kept; their size.
+-- In order: stretches lie apart; the recording is put together; which places lie in a stretch; no stretch where all is kept.
 -- Everything holds of any fates, so nothing here knows what an event is. Assumes nothing.
-use Prim.Native.Nat.{ℕ, zero, suc, _+_, _*_, _-_, _/_, _≤_, _<_}
+use Prim.Native.Nat.{ℕ, zero, suc, _+_, _-_, _≤_, _<_}
 use mathlib.Core.Path.{_≡_, refl, sym, ap, _∙_}
-use mathlib.Core.List.{List, [], _∷_, _++_, append-nil}
+use mathlib.Core.Bool.{true, false, cond, _&&_, _||_}
+use mathlib.Core.List.{List, [], _∷_}
 use native.Mathlib.Omega.{arith}
 use native.Mathlib.Nat.{add-zero, add-suc}
-use native.Mathlib.Numerals.{add-one}
-use lib.Dec.{lit≤}
-use lib.ListN.{length, take, drop, getD, replicate, take-append-drop, drop-of-length-le}
-use lib.Seq.{take-all, drop-drop, drop-cons}
+use borrow.Author.Tests.{le-leb, lt-leb, lt-ltb, le-ltb}
+use lib.Dec.{leb, ltb}
+use lib.ListN.{length, drop, getD, replicate, take-append-drop, drop-of-length-le}
+use lib.Seq.{drop-drop, drop-cons}
+use Rattle.number.proofs.Cases.{by-lt}
 use Rattle.recording.specs.Fate.{Fate, kept, dropped, chosen}
-use Rattle.recording.specs.Stretch.{Stretch, closed, stretchesFrom, stretchBytes, cutout, rebuilt, Apart}
+use Rattle.recording.specs.Stretch.{Stretch, closed, stretchesFrom, within, rebuilt, Apart}
 
 -- stretches that lie apart do so from every earlier place on
 apart-earlier : (a b end : ℕ) (ss : List Stretch) → a ≤ b → Apart b end ss → Apart a end ss
@@ -90,6 +92,48 @@ rebuilt-stretches from n (dropped ∷ fs) bs h =
 rebuilt-stretches from n (kept ∷ fs) bs h =
     rw (drop-cons bs (from + n) 0 (omega arith))
     (put-kept from n fs bs h (rw add-zero at (rebuilt-stretches (suc (from + n)) 0 fs bs (omega arith))))
+
+-- which places lie in a stretch that is closed, or in a later one
+within-closed : (from n : ℕ) (ss : List Stretch) (p : ℕ) → within (closed from n ss) p ≡ (leb from p && ltb p (from + n)) || within ss p
+unfolding closed within
+within-closed from zero ss p = by-lt p from
+    (λ h. rw (lt-leb from p h))
+    (λ h. rw (le-leb from p h, add-zero, le-ltb p from h))
+within-closed from (suc n) ss p = refl
+
+outside-closed : (from n : ℕ) (ss : List Stretch) (p : ℕ) → from + n ≤ p → within (closed from n ss) p ≡ within ss p
+outside-closed from n ss p h = within-closed from n ss p ∙ rw (le-leb from p (omega arith), le-ltb p (from + n) h)
+
+before-closed : (from n : ℕ) (ss : List Stretch) (p : ℕ) → p < from → within (closed from n ss) p ≡ within ss p
+before-closed from n ss p h = within-closed from n ss p ∙ rw (lt-leb from p h)
+
+inside-closed : (from n : ℕ) (ss : List Stretch) (p : ℕ) → from ≤ p → p < from + n → within (closed from n ss) p ≡ true
+inside-closed from n ss p h k = within-closed from n ss p ∙ rw (le-leb from p h, lt-ltb p (from + n) k)
+
+-- no place before the first of the fates does
+within-before : (from n : ℕ) (fs : List Fate) (p : ℕ) → p < from → within (stretchesFrom from n fs) p ≡ false
+unfolding stretchesFrom within
+within-before from n [] p h = before-closed from n [] p h
+within-before from n (dropped ∷ fs) p h = within-before from (suc n) fs p h
+within-before from n (kept ∷ fs) p h = before-closed from n _ p h ∙ within-before (suc (from + n)) 0 fs p (omega arith)
+
+-- every place of the n dropped ones does
+within-gap : (from n : ℕ) (fs : List Fate) (p : ℕ) → from ≤ p → p < from + n → within (stretchesFrom from n fs) p ≡ true
+unfolding stretchesFrom
+within-gap from n [] p h k = inside-closed from n [] p h k
+within-gap from n (dropped ∷ fs) p h k = within-gap from (suc n) fs p h (omega arith)
+within-gap from n (kept ∷ fs) p h k = inside-closed from n _ p h k
+
+-- and of the others those whose fate it is
+pub within-fates : (from n : ℕ) (fs : List Fate) (i : ℕ) → i < length fs → getD fs i kept ≡ cond (within (stretchesFrom from n fs) (from + n + i)) dropped kept
+unfolding stretchesFrom
+within-fates from n [] i h = absurd (omega arith)
+within-fates from n (dropped ∷ fs) zero h = rw (within-gap from (suc n) fs (from + n + 0) (omega arith) (omega arith))
+within-fates from n (dropped ∷ fs) (suc i) h = rw (more from n i) (within-fates from (suc n) fs i (omega arith))
+within-fates from n (kept ∷ fs) zero h =
+    rw (outside-closed from n (stretchesFrom (suc (from + n)) 0 fs) (from + n + 0) (omega arith), within-before (suc (from + n)) 0 fs (from + n + 0) (omega arith))
+within-fates from n (kept ∷ fs) (suc i) h =
+    rw (outside-closed from n (stretchesFrom (suc (from + n)) 0 fs) (from + n + suc i) (omega arith), past (from + n) i) (within-fates (suc (from + n)) 0 fs i (omega arith))
 
 pub stretches-none : (from n : ℕ) → stretchesFrom from 0 (replicate n kept) ≡ []
 unfolding stretchesFrom closed

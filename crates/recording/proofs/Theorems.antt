@@ -2,19 +2,20 @@
 --
 -- In order: what becomes of the bytes at the head of a recording, which fixes all of them; document 02's three claims; the stretches; what is
 -- salvaged twice; how long both outputs are. Assumes nothing.
-use Prim.Native.Nat.{ℕ, _-_, _≤_}
+use Prim.Native.Nat.{ℕ, _-_, _≤_, _<_}
 use mathlib.Core.Path.{_≡_}
+use mathlib.Core.Bool.{cond}
 use mathlib.Core.List.{List, [], _∷_, _++_}
 use native.Mathlib.Omega.{arith}
 use native.Mathlib.Nat.{zero-add}
-use lib.ListN.{length, drop, replicate}
+use lib.ListN.{length, drop, getD, replicate}
 use Rattle.number.specs.Refusal.{none}
 use Rattle.number.specs.Number.{Bytes}
 use Rattle.event.specs.Event.{readEvent}
 use Rattle.event.specs.Trace.{readTrace}
 use Rattle.event.proofs.Theorems.{trace-reading, trace-written-read, trace-read-written}
-use Rattle.recording.specs.Fate.{Fate, kept, dropped, covered, fates, keptBytes}
-use Rattle.recording.specs.Stretch.{stretches, listBytes, rebuilt, Apart}
+use Rattle.recording.specs.Fate.{kept, dropped, covered, fates, keptBytes}
+use Rattle.recording.specs.Stretch.{stretches, listBytes, within, rebuilt, Apart}
 use Rattle.recording.proofs.Fates as Fates
 use Rattle.recording.proofs.Stretches as Stretches
 use Rattle.recording.proofs.Size as Size
@@ -54,6 +55,11 @@ readable-same bs b h = (rw all (Fates.chosen-all bs), rw all (Stretches.stretche
 -- "kept and dropped bytes together are the input in order": the kept bytes up to the first stretch, its bytes, the kept ones up to the next, and so on
 pub put-together : (bs : List ℕ) → rebuilt 0 (stretches bs) (keptBytes bs) bs ≡ bs
 put-together bs = Stretches.rebuilt-stretches 0 0 (fates bs) bs (rw (zero-add (length (fates bs))) (length-fates bs))
+
+-- and the stretches tell of each byte whether it was dropped
+pub fate-told : (bs : List ℕ) (p : ℕ) → p < length bs → getD (fates bs) p kept ≡ cond (within (stretches bs) p) dropped kept
+fate-told bs p h =
+    rw (zero-add p) at (Stretches.within-fates 0 0 (fates bs) p (omega (arith, length-fates bs)))
 
 -- no stretch is empty, and between two of them a byte is kept: they neither touch nor overlap
 pub stretches-apart : (bs : List ℕ) → Apart 0 (length bs) (stretches bs)

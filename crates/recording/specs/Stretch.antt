@@ -2,11 +2,14 @@
 --
 --   stretches bs       the dropped stretches of bs
 --   stretchBytes ss    "lists each dropped stretch as two numbers, offset and length"
+--   within ss p        the place p lies in one of the stretches ss
 --   rebuilt 0 ss ks bs the recording put together again from its kept bytes and its dropped stretches
 --
--- Main laws: `put-together`, `stretches-apart`, `stretches-fit` (proofs/Theorems.antt). Assumes nothing.
+-- Main laws: `put-together`, `fate-told`, `stretches-apart`, `list-fits` (proofs/Theorems.antt). Assumes nothing.
 use Prim.Native.Nat.{ℕ, zero, suc, _+_, _-_, _≤_}
+use mathlib.Core.Bool.{Bool, false, _&&_, _||_}
 use mathlib.Core.List.{List, [], _∷_, _++_}
+use lib.Dec.{leb, ltb}
 use lib.ListN.{take, drop}
 use Rattle.number.specs.Number.{numberBytes}
 use Rattle.recording.specs.Fate.{Fate, kept, dropped, fates}
@@ -37,6 +40,11 @@ stretchBytes (s ∷ ss) = numberBytes (s .offset) ++ (numberBytes (s .size) ++ s
 -- the list of dropped stretches, in bytes
 abbrev pub listBytes : List ℕ → List ℕ
 listBytes bs = stretchBytes (stretches bs)
+
+-- the place p lies in one of the stretches
+unfoldable pub within : List Stretch → ℕ → Bool
+within [] p = false
+within (s ∷ ss) p = (leb (s .offset) p && ltb p (s .offset + s .size)) || within ss p
 
 -- the bytes of bs that a stretch covers
 abbrev pub cutout : List ℕ → Stretch → List ℕ

@@ -1,7 +1,7 @@
 -- The whole call: what it answers and leaves in each of its four cases, in the order of its checks, and that the answer fits one number.
 -- Assumes nothing.
 use Prim.Native.Nat.{ℕ, _≤_, _<_}
-use mathlib.Core.Path.{_≡_, refl, sym, ap, _∙_}
+use mathlib.Core.Path.{_≡_, sym, ap, _∙_}
 use mathlib.Core.List.{List}
 use native.Mathlib.Omega.{arith}
 use lib.Dec.{lit≤}
@@ -20,16 +20,16 @@ use Rattle.salvage.specs.declared.Salvaged.{Salvaged}
 use Rattle.salvage.specs.Salvage.{Fitting, lengths, refused, accepted, salvaged, filled, eventsAfter, stretchesAfter, both, resultOf}
 
 module _ (bs : List ℕ) (n m : ℕ) where
-  pub salvaged-too-long : maxTrace < length bs → salvaged bs n m ≡ refused traceTooLong 0
+  salvaged-too-long : maxTrace < length bs → salvaged bs n m ≡ refused traceTooLong 0
   unfolding salvaged
   salvaged-too-long h = simp (lt-leb (length bs) maxTrace h)
 
   module _ (short : length bs ≤ maxTrace) where
-    pub salvaged-no-room : n < length (keptBytes bs) → salvaged bs n m ≡ refused noRoom (length (keptBytes bs))
+    salvaged-no-room : n < length (keptBytes bs) → salvaged bs n m ≡ refused noRoom (length (keptBytes bs))
     unfolding salvaged
     salvaged-no-room h = simp (le-leb (length bs) maxTrace short, lt-leb (length (keptBytes bs)) n h)
 
-    pub salvaged-no-list : length (keptBytes bs) ≤ n → m < length (listBytes bs) → salvaged bs n m ≡ refused noRoom (length (listBytes bs))
+    salvaged-no-list : length (keptBytes bs) ≤ n → m < length (listBytes bs) → salvaged bs n m ≡ refused noRoom (length (listBytes bs))
     unfolding salvaged
     salvaged-no-list room h = simp (le-leb (length bs) maxTrace short, le-leb (length (keptBytes bs)) n room, lt-leb (length (listBytes bs)) m h)
 

@@ -1,15 +1,14 @@
 -- An output written piece by piece: what stands in it, and what is left to write.
 -- Assumes nothing.
-use Prim.Native.Nat.{ℕ, suc, _+_, _-_, _≤_, _<_}
+use Prim.Native.Nat.{ℕ, _+_, _≤_, _<_}
 use mathlib.Core.Path.{_≡_, refl, sym, ap, _∙_}
 use mathlib.Core.List.{List, [], _∷_, _++_, append-assoc, append-nil}
 use native.Mathlib.Omega.{arith}
 use native.Mathlib.Nat.{zero-add, add-zero}
 use native.Mathlib.Numerals.{add-one}
-use lib.ListN.{length, take, drop, set, length-append, take-append-drop}
-use lib.Seq.{set-split, length-take-le, take-at, drop-at, drop-drop}
+use lib.ListN.{length, set, length-append, take-append-drop}
+use lib.Seq.{set-split}
 use Rattle.number.specs.Output.{written, laid}
-use Rattle.number.proofs.Theorems.{written-fits}
 use Rattle.number.proofs.Laying.{length-laid, laid-zero, laid-laid}
 
 -- out is d with `done` over its start, and `rest` is what is left of the whole

@@ -17,7 +17,7 @@ use Rattle.number.specs.Number.{Bytes, numberBytes}
 use Rattle.event.specs.declared.EventRead.{EventRead}
 use Rattle.event.specs.Event.{readEvent}
 use Rattle.event.proofs.Theorems.{event-reading}
-use Rattle.recording.specs.Fate.{Fate, kept, dropped, covered, belonging, fateOf, fatesFrom, chosen}
+use Rattle.recording.specs.Fate.{kept, dropped, covered, belonging, fateOf, fatesFrom, chosen}
 use Rattle.recording.specs.Stretch.{Stretch, closed, stretchesFrom, stretchBytes}
 use Rattle.recording.proofs.Theorems.{covered-at, uncovered-at}
 
