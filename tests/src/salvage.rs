@@ -4,6 +4,8 @@
 use crate::cases::{self, Random};
 
 const TRACE_MAX: usize = 8_192;
+/// What suffices for the list of every trace.
+pub const STRETCHES_MAX: usize = 12_224;
 const TRACE_TOO_LONG: u64 = 20;
 const TOO_SHORT: u64 = 30;
 
@@ -146,6 +148,6 @@ pub fn recording(seed: u64, number: u64) -> Recording {
     }
     let (kept, dropped) = parts(&trace);
     let events_len = lent(&mut random, kept.len(), TRACE_MAX);
-    let stretches_len = lent(&mut random, list(&dropped).len(), 12_224);
+    let stretches_len = lent(&mut random, list(&dropped).len(), STRETCHES_MAX);
     Recording { trace, events_len, stretches_len, fill: random.word() as u8 }
 }

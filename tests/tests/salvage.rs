@@ -1,7 +1,7 @@
 //! Damaged traces: worked by hand, and drawn and compared with the proved salvage, whose slices are guarded.
 
 use osek_tests::guard::{announce, report_faults, GuardedSalvage, Salvage, Side};
-use osek_tests::salvage::{parts, recording, salvage, Recording};
+use osek_tests::salvage::{parts, recording, salvage, Recording, STRETCHES_MAX};
 
 /// Every implementation, with whether its memory is guarded.
 fn implementations() -> Vec<(&'static str, Salvage, bool)> {
@@ -94,7 +94,7 @@ fn refusals_come_in_order_and_leave_both_outputs() {
 #[test]
 fn the_longest_list_takes_12_224_bytes() {
     let trace = [0x00, 0x02].repeat(4_096);
-    let recording = Recording { trace, events_len: 8_192, stretches_len: 12_224, fill: 0 };
+    let recording = Recording { trace, events_len: 8_192, stretches_len: STRETCHES_MAX, fill: 0 };
     let (result, ..) = agreed(&recording, &mut GuardedSalvage::default(), 0, 0);
     assert_eq!(result, 12_224 * ACCEPTED + 4_096);
     let short = Recording { stretches_len: 12_223, ..recording };
