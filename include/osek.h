@@ -1,9 +1,9 @@
 /*
  * OSEK OS reference, class BCC1: from a configuration and a trace of events to who runs after each event.
  *
- * One function, osek_run. It allocates nothing, keeps nothing between calls and never fails in another way than by
- * the refusals below: any bytes may be handed to it. It may be called from several threads at once, each with an
- * output of its own; they may share their inputs.
+ * Two functions: osek_run, and osek_salvage for damaged traces. They allocate nothing, keep nothing between calls and
+ * never fail in another way than by the refusals below: any bytes may be handed to them. They may be called from several
+ * threads at once, each with outputs of its own; they may share their inputs.
  *
  *     static uint8_t out[OSEK_OUTPUT_MAX];
  *     uint64_t result = osek_run(config, config_len, trace, trace_len, out, sizeof out);
@@ -64,6 +64,10 @@ extern "C" {
 #define OSEK_CONFIG_MAX 4096
 #define OSEK_TRACE_MAX 8192
 #define OSEK_OUTPUT_MAX 32832
+
+/* What suffices for the list of every salvage; OSEK_TRACE_MAX does for its events. A trace of OSEK_TRACE_MAX bytes that
+ * alternates between a byte to drop and an event of one byte needs as much. */
+#define OSEK_STRETCHES_MAX 12224
 
 /* The output of an accepted run with e events and b bodies takes 4 e + 2 b bytes:
  *     byte 4 i        status of event i
@@ -147,7 +151,28 @@ uint64_t osek_run(const uint8_t *config, size_t config_len,
                   const uint8_t *trace, size_t trace_len,
                   uint8_t *out, size_t out_len);
 
-/* The refusal in a result: one of OSEK_CONFIG_CUT to OSEK_OUTPUT_TOO_SHORT, or 0 if the run is accepted. */
+/*
+ * Salvages a damaged trace: events are read one after the other, and where none can be read one byte is dropped and the
+ * next is tried. What is kept is a readable trace; a readable trace is kept whole.
+ *
+ *     trace, trace_len            the trace's bytes; only read
+ *     events, events_len          where the kept events go: the bytes of the trace that are not dropped, in their order
+ *     stretches, stretches_len    where the dropped stretches are listed: for each, in order, the offset of its first
+ *                                 byte in the trace and its length, as two numbers. A stretch is as long as it goes, so
+ *                                 at least one byte is kept between two of them.
+ *
+ * The outputs must not overlap each other or the trace. No pointer may be null, as above.
+ *
+ * Result: refusal * 2^32 + place, or, with refusal 0, the list's length * 65,536 + the events' length. Checked in this
+ * order: OSEK_TRACE_TOO_LONG; OSEK_OUTPUT_TOO_SHORT for the events; OSEK_OUTPUT_TOO_SHORT for the list, each time with
+ * the bytes that this output needs as place. A refused call leaves both outputs untouched; an accepted one leaves the
+ * bytes behind what it wrote.
+ */
+uint64_t osek_salvage(const uint8_t *trace, size_t trace_len,
+                      uint8_t *events, size_t events_len,
+                      uint8_t *stretches, size_t stretches_len);
+
+/* The refusal in a result: one of OSEK_CONFIG_CUT to OSEK_OUTPUT_TOO_SHORT, or 0 if the call is accepted. */
 static inline uint32_t osek_refusal(uint64_t result) { return (uint32_t)(result >> 32); }
 
 /* The place of a refusal. */
@@ -155,6 +180,10 @@ static inline uint32_t osek_place(uint64_t result) { return (uint32_t)result; }
 
 /* The number of events of an accepted run. */
 static inline uint32_t osek_events(uint64_t result) { return (uint32_t)result; }
+
+/* The lengths of the events and of the list of an accepted salvage. */
+static inline uint32_t osek_kept_length(uint64_t result) { return (uint32_t)(result & 65535); }
+static inline uint32_t osek_stretches_length(uint64_t result) { return (uint32_t)(result >> 16); }
 
 #ifdef __cplusplus
 }

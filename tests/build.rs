@@ -1,4 +1,4 @@
-//! Finds the proved static library for the feature `linked`.
+//! Finds the proved static libraries for the feature `linked`.
 
 use std::{env, path::PathBuf};
 

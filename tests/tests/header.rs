@@ -7,6 +7,7 @@ use std::process::Command;
 
 use osek_tests::coverage::REFUSALS;
 use osek_tests::fast::{CONFIG_MAX, IDLE, OUTPUT_MAX, TRACE_MAX};
+use osek_tests::salvage::STRETCHES_MAX;
 
 fn header() -> PathBuf {
     Path::new(env!("CARGO_MANIFEST_DIR")).join("../include/osek.h")
@@ -40,6 +41,7 @@ fn constants_are_those_of_document_01() {
     assert_eq!(value("OSEK_TRACE_MAX"), TRACE_MAX as u64);
     assert_eq!(value("OSEK_OUTPUT_MAX"), OUTPUT_MAX as u64);
     assert_eq!((CONFIG_MAX, TRACE_MAX, OUTPUT_MAX), (4_096, 8_192, 32_832));
+    assert_eq!(value("OSEK_STRETCHES_MAX"), STRETCHES_MAX as u64);
     assert_eq!(value("OSEK_IDLE"), u64::from(IDLE));
     let group = |prefixes: &[&str], without: &str| -> Vec<u64> {
         let has = |name: &str| prefixes.iter().any(|prefix| name.starts_with(prefix)) && !name.ends_with(without);

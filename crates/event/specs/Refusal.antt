@@ -3,6 +3,10 @@
 use Prim.Native.Nat.{ℕ, _+_}
 use Rattle.number.specs.Refusal.{cut}
 
+-- "trace longer than 8,192 bytes"; the readers of events take a trace of any length and never give it
+abbrev pub traceTooLong : ℕ
+traceTooLong = 20
+
 -- "21 / 22: as 1 / 2, in the trace"
 abbrev pub inTrace : ℕ → ℕ
 inTrace r = 20 + r
