@@ -17,8 +17,13 @@ fn pieces(trace: &[u8]) -> Vec<Vec<u8>> {
 
 /// A case that differs as `case` does, and of whose trace no single event can be left out.
 pub fn shrink(case: &Case, differs: impl Fn(&Case) -> bool) -> Case {
-    let mut best = pieces(&case.trace);
     let with = |pieces: &[Vec<u8>]| Case { trace: pieces.concat(), ..case.clone() };
+    with(&fewest(pieces(&case.trace), |pieces| differs(&with(pieces))))
+}
+
+/// Some of `all`, in order, that `differ` as all do, and of which none can be left out.
+pub fn fewest<T: Clone>(all: Vec<T>, differ: impl Fn(&[T]) -> bool) -> Vec<T> {
+    let mut best = all;
     let mut size = best.len().div_ceil(2);
     while size > 0 {
         let mut removed = false;
@@ -28,18 +33,18 @@ pub fn shrink(case: &Case, differs: impl Fn(&Case) -> bool) -> Case {
             let start = end.saturating_sub(size);
             let mut fewer = best.clone();
             fewer.drain(start..end);
-            if differs(&with(&fewer)) {
+            if differ(&fewer) {
                 best = fewer;
                 removed = true;
             }
             end = start;
         }
-        // Single events are tried until none can go.
+        // Single ones are tried until none can go.
         if size > 1 || !removed {
             size /= 2;
         }
     }
-    with(&best)
+    best
 }
 
 #[cfg(test)]

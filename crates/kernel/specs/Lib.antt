@@ -1,12 +1,5 @@
--- What the kernel's contracts cite, in reading order: the model, the arbiter, the held resources, the cells, the nine events, the machine from
--- the fresh start on, and the run. `Code` serves the machine's private functions, `RunCode` the run's.
--- Assumes nothing.
-pub mod Model
-pub mod Arbiter
-pub mod Resources
-pub mod Cells
-pub mod Events
-pub mod Machine
-pub mod Run
-pub mod Code
-pub mod RunCode
+-- What the kernel's contracts cite beside the definitions of the crates `machine` and `run`: `View` joins the code's structs to the machine's
+-- records, `Methods` serves the model's private functions, `Passes` the two passes over a trace. Assumes nothing.
+pub mod View
+pub mod Methods
+pub mod Passes

@@ -1,18 +1,20 @@
-// The kernel: the machine, and the run of a trace on it, which C calls.
-mod answers;
-mod machine;
+// The kernel: the machine's model with a method for each event, and the run of a trace on it, which C calls.
+mod answer;
+mod count;
+mod model;
+mod output;
 mod play;
-mod run;
-mod trace;
 
-use config::read_config;
+use answer::answer;
+use config_codec::read_config;
+use count::count_events;
 use number::NO_ROOM;
-use run::answer;
-use run::packed;
-use trace::count_events;
 ghost use mathlib.Core.Path.{_≡_};
+ghost use Prim.Native.Nat.{_<_};
 ghost use lib.ListN.{length};
-ghost use Rattle.kernel.specs.Run.{runResult, runOutput, machineOutput};
+ghost use Rattle.number.specs.Output.{packed};
+ghost use Rattle.run.specs.Run.{runResult, runOutput};
+ghost use Rattle.run.specs.Steps.{machineOutput};
 
 const MAX_TRACE: usize = 8192;
 
@@ -46,4 +48,12 @@ pub extern "C" fn osek_run(config: &[u8], trace: &[u8], out: &mut [u8]) -> u64
     }
     answer(c, trace, events, out);
     events as u64
+}
+
+// A refusal and its place as one number.
+fn packed(refusal: u8, place: usize) -> u64
+    requires { ⌜ place < 9223372036854775808 ⌝ }
+    ensures { λ r. ⌜ r ≡ packed refusal place ⌝ }
+{
+    refusal as u64 * 4294967296 + place as u64
 }

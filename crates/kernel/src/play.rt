@@ -2,16 +2,17 @@
 ghost use mathlib.Core.Path.{_≡_};
 ghost use lib.ListN.{length};
 ghost use Rattle.number.specs.Output.{laid};
-ghost use Rattle.kernel.specs.Machine.{machineSeen};
-ghost use Rattle.kernel.specs.Run.{answerBytes, machineAfter};
-ghost use Rattle.kernel.specs.RunCode.{Playable, callsOf};
-use crate::answers::put_answer;
-use crate::answers::runner;
-use crate::machine::DONE;
-use crate::machine::Model;
-use crate::machine::Outcome;
+ghost use Rattle.machine.specs.Machine.{machineSeen, machineAfter};
+ghost use Rattle.run.specs.Run.{answerBytes, callsOf};
+ghost use Rattle.kernel.specs.View.{view, modelOf};
+ghost use Rattle.kernel.specs.Passes.{Playable};
+use crate::model::DONE;
+use crate::model::Model;
+use crate::model::Outcome;
+use crate::output::put_answer;
+use crate::output::runner;
 use config::Config;
-use event::read_event;
+use event_codec::read_event;
 use plan::Plan;
 
 // Each event meets the model that the one before it handed back; the last one's is the result.
@@ -22,9 +23,9 @@ pub fn play<'a, 'b>(
     trace: &'a [u8],
     out: &'b mut [u8],
 ) -> Model
-    requires { ⌜ Playable config plan fresh (now trace) (length (now out)) ⌝ }
-    ensures { λ r. ⌜ r ≡ machineAfter config plan fresh (callsOf (now (trace .entry))) ⌝ }
-    ensures { λ _. ⌜ now (out .exit) ≡ laid 0 (answerBytes (machineSeen config plan fresh (callsOf (now (trace .entry))))) (now (out .entry)) ⌝ }
+    requires { ⌜ Playable config plan (view fresh) (now trace) (length (now out)) ⌝ }
+    ensures { λ r. ⌜ r ≡ modelOf (machineAfter config plan (view fresh) (callsOf (now (trace .entry)))) ⌝ }
+    ensures { λ _. ⌜ now (out .exit) ≡ laid 0 (answerBytes (machineSeen config plan (view fresh) (callsOf (now (trace .entry))))) (now (out .entry)) ⌝ }
 {
     let mut o = Outcome {
         model: fresh,
@@ -65,7 +66,6 @@ pub fn play<'a, 'b>(
                 o = o.model.start(
                     config.tables,
                     &plan.first,
-                    &plan.largest,
                     &config.entries,
                     &config.period,
                     &config.offset,
@@ -84,8 +84,8 @@ pub fn play<'a, 'b>(
         }
         put_answer(
             o.status,
-            runner(&plan.body, o.model.core.runner),
-            o.model.core.level,
+            runner(&plan.body, o.model.runner),
+            o.model.level,
             o.begun,
             to,
             out,

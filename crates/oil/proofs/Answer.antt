@@ -1,19 +1,18 @@
 -- The whole reading: its steps one after the other.
 -- Assumes nothing.
-use Prim.Native.Nat.{ℕ, _+_, _*_}
+use Prim.Native.Nat.{ℕ}
 use mathlib.Core.Path.{_≡_, refl, sym, ap, _∙_}
 use mathlib.Core.List.{List, [], _∷_}
-use native.Mathlib.Nat.{add-zero}
 use lib.ListN.{length}
 use borrow.Author.Tests.{eq-eqb, ne-eqb}
-use Rattle.number.specs.Number.{limit}
+use Rattle.number.specs.Output.{packed}
 use Rattle.number.specs.declared.Written.{Written}
 use Rattle.config.specs.Writer.{writeConfig, wroteConfig}
 use Rattle.oil_grammar.specs.declared.Found.{Found}
 use Rattle.oil_grammar.specs.declared.OilRead.{OilRead}
 use Rattle.oil_grammar.specs.Machine.{fresh}
 use Rattle.oil_grammar.specs.Walk.{unborne}
-use Rattle.oil_grammar.specs.Reader.{walked, filled, ranged, refusedIn, afterUses, afterWalk, readOil, packed, oilResult, oilOutput, oilPlace}
+use Rattle.oil_grammar.specs.Reader.{walked, filled, ranged, refusedIn, afterUses, afterWalk, readOil, oilResult, oilOutput, oilPlace}
 
 module _ (t : List ℕ) where
   module _ (n : ℕ) (u : Found) (e : u ≡ unborne n t 0 fresh n) where
@@ -39,17 +38,17 @@ module _ (t d : List ℕ) (r : OilRead) (e : r ≡ readOil t) (x : ℕ) where
   unfolding oilPlace
   placed = rw e
 
-  pub refused-answer : x ≡ r .refusal * limit + 0 → (r .refusal ≡ 0 → ⊥)
+  pub refused-answer : x ≡ packed (r .refusal) 0 → (r .refusal ≡ 0 → ⊥)
       → (x ≡ oilResult t (length d)) × ((d ≡ oilOutput t d) × (r .line ∷ r .column ∷ [] ≡ oilPlace t))
   unfolding oilResult oilOutput
   refused-answer q n =
       let f = ne-eqb (readOil t .refusal) 0 (λ z. n (rw e z)) in
-      (q ∙ add-zero (r .refusal * limit) ∙ rw e (sym (rw f)), (sym (rw f), placed))
+      (q ∙ rw e (sym (rw f)), (sym (rw f), placed))
 
-  pub written-answer : r .refusal ≡ 0 → (w : Written) → w ≡ writeConfig (r .config) (length d) → x ≡ w .refusal * limit + w .place
+  pub written-answer : r .refusal ≡ 0 → (w : Written) → w ≡ writeConfig (r .config) (length d) → x ≡ packed (w .refusal) (w .place)
       → (d′ : List ℕ) → d′ ≡ wroteConfig (r .config) d
       → (x ≡ oilResult t (length d)) × ((d′ ≡ oilOutput t d) × (r .line ∷ r .column ∷ [] ≡ oilPlace t))
   unfolding oilResult oilOutput
   written-answer z w g q d′ k =
       let f = eq-eqb (readOil t .refusal) 0 (rw e at z) in
-      (q ∙ ap packed g ∙ rw e (sym (rw f)), (k ∙ rw e (sym (rw f)), placed))
+      (q ∙ ap (λ (v : Written). packed (v .refusal) (v .place)) g ∙ rw e (sym (rw f)), (k ∙ rw e (sym (rw f)), placed))

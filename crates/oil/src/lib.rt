@@ -9,7 +9,7 @@ mod uses;
 mod walk;
 
 use config::Config;
-use config::write_config;
+use config_codec::write_config;
 use meaning::empty;
 use meaning::fill;
 use oil_grammar::OilRead;
@@ -18,9 +18,9 @@ use place::line_of;
 use uses::unborne;
 use walk::walk;
 ghost use mathlib.Core.Path.{_≡_};
-ghost use Prim.Native.Nat.{_+_, _*_, _≤_, _<_};
+ghost use Prim.Native.Nat.{_≤_, _<_};
 ghost use lib.ListN.{length};
-ghost use Rattle.number.specs.Number.{limit};
+ghost use Rattle.number.specs.Output.{packed};
 ghost use Rattle.config.specs.Writer.{firstFault};
 ghost use Rattle.oil_grammar.specs.Walk.{unborne};
 ghost use Rattle.oil_grammar.specs.Machine.{fresh};
@@ -98,7 +98,7 @@ pub fn read_oil(text: &[u8]) -> OilRead
 // A refusal and its place as one number.
 fn packed(refusal: u8, place: usize) -> u64
     requires { ⌜ place < 9223372036854775808 ⌝ }
-    ensures { λ r. ⌜ r ≡ refusal * limit + place ⌝ }
+    ensures { λ r. ⌜ r ≡ packed refusal place ⌝ }
 {
     refusal as u64 * 4294967296 + place as u64
 }

@@ -4,14 +4,13 @@
 --   oilResult t n, oilOutput t d, oilPlace t n   what the call from C answers, leaves in its output and tells of the place
 --
 -- Assumes nothing.
-use Prim.Native.Nat.{ℕ, suc, _+_, _*_}
+use Prim.Native.Nat.{ℕ, suc, _+_}
 use mathlib.Core.Bool.{cond}
 use mathlib.Core.List.{List, [], _∷_}
 use lib.Dec.{eqb}
 use lib.ListN.{length, take}
 use Rattle.number.specs.Refusal.{none}
-use Rattle.number.specs.Number.{limit}
-use Rattle.number.specs.declared.Written.{Written}
+use Rattle.number.specs.Output.{packed}
 use Rattle.config.specs.declared.Config.{Config}
 use Rattle.config.specs.Value.{noConfig}
 use Rattle.config.specs.Writer.{firstFault, writeConfig, wroteConfig}
@@ -66,12 +65,11 @@ walked t = walk (suc (length t)) t 0 fresh 0
 unfoldable pub readOil : List ℕ → OilRead
 readOil t = afterWalk t (walked t)
 
--- "refusal × 4,294,967,296 + place, or" the length; the place of 30 is the bytes needed
-abbrev pub packed : Written → ℕ
-packed w = w .refusal * limit + w .place
-
+-- what a writer answered, or the refusal of the text: "refusal × 4,294,967,296 + place", where only 30 has a place, the bytes needed
 abbrev pub answered : OilRead → ℕ → ℕ
-answered r n = cond (eqb (r .refusal) none) (packed (writeConfig (r .config) n)) (r .refusal * limit)
+answered r n =
+    let w = writeConfig (r .config) n in
+    cond (eqb (r .refusal) none) (packed (w .refusal) (w .place)) (packed (r .refusal) 0)
 
 unfoldable pub oilResult : List ℕ → ℕ → ℕ
 oilResult t n = answered (readOil t) n

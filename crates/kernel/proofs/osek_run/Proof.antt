@@ -2,7 +2,7 @@
 -- Assumes nothing.
 use mathlib.Core.Path.{refl}
 use native.Mathlib.Omega.{arith}
-use Rattle.kernel.proofs.RunWhole.{config-place-le, ran-config-refused, ran-too-long, config-accepted, config-shaped, few-events, trace-place-le, ran-trace-refused, trace-readable, events-counted, ran-no-room, ran-all}
+use Rattle.kernel.proofs.Run.Whole.{config-place-le, ran-config-refused, ran-too-long, config-accepted, config-shaped, few-events, trace-place-le, ran-trace-refused, trace-readable, events-counted, ran-no-room, ran-all}
 use borrow.Author.Needs.{needs}
 use Rattle.kernel.proofs.osek_run.Statement.{statement}
 use Rattle.kernel.proofs.osek_run.Tie as tie

@@ -9,21 +9,22 @@ use lib.ListN.{length}
 use Rattle.number.specs.Output.{laid}
 use Rattle.plan.specs.Rank.{rankOf}
 use Rattle.scheduler.specs.Scheduler.{markOf}
-use Rattle.kernel.specs.Machine.{machineStep}
-use Rattle.kernel.specs.Run.{callOf}
-use Rattle.kernel.proofs.RunPlay.{step-1, step-2, step-3, step-4, step-5, step-6, step-7, step-8, step-9, step-zero, step-none, tables-laid, offsets-reached}
-use Rattle.kernel.proofs.RunPlay.{Playing, playable-start, length-out, playing-end, playing-later, playing-room, playing-turn}
+use Rattle.machine.specs.Machine.{machineStep}
+use Rattle.run.specs.Run.{callOf}
+use Rattle.kernel.specs.View.{view, modelOf, viewOutcome}
+use Rattle.kernel.proofs.Run.Play.{step-1, step-2, step-3, step-4, step-5, step-6, step-7, step-8, step-9, one-of-nine, tables-laid}
+use Rattle.kernel.proofs.Run.Play.{Playing, playable-start, length-out, playing-end, playing-later, playing-known, playing-room, playing-turn}
 use Rattle.kernel.proofs.play.play.Statement.{statement}
 use Rattle.kernel.proofs.play.play.Tie as tie
 
 abbrev Inv-loop : tie.InvT-loop
-Inv-loop trace out₀ config plan o₀ at₀ to₀ out o at to = Playing config plan trace out₀ (o₀ .model) at to (o .model) out
+Inv-loop trace out₀ config plan o₀ at₀ to₀ out o at to = Playing config plan trace out₀ (view (o₀ .model)) at to (view (o .model)) out
 
 abbrev μ-loop : tie.MeasureT-loop
 μ-loop trace out₀ config plan o₀ at₀ to₀ out o at to = length trace - at
 
 loop-holds : tie.Need-loop-holds Inv-loop μ-loop
-loop-holds c = let a = c .before .before .args in playable-start (a .t1) (a .t2) (a .trace .now) (a .out .now) (a .fresh) (c .before .before .pre)
+loop-holds c = let a = c .before .before .args in playable-start (a .t1) (a .t2) (a .trace .now) (a .out .now) (view (a .fresh)) (c .before .before .pre)
 
 read-event-requires : tie.Need-read-event-requires Inv-loop μ-loop
 read-event-requires c κs = tt
@@ -50,9 +51,9 @@ line-requires : tie.Need-line-requires Inv-loop μ-loop
 line-requires c κs = tt
 
 start-requires : tie.Need-start-requires Inv-loop μ-loop
-start-requires c κs = let k = c .before .before .before .before .before .before .before .before .before .before .before in
+start-requires c κs = let k = c .before .before .before .before .before .before .before .before .before .before in
     let a = k .before .before .before .args in
-    (tables-laid (a .t1) (a .t2) (rankOf (a .t1)) (k .loop .inv .fit), offsets-reached (a .t1) (a .t2) (rankOf (a .t1)) (k .loop .inv .fit))
+    tables-laid (a .t1) (a .t2) (rankOf (a .t1)) (k .loop .inv .fit)
 
 stop-requires : tie.Need-stop-requires Inv-loop μ-loop
 stop-requires c κs = let k = c .before .before .before .before .before .before .before .before in
@@ -64,50 +65,56 @@ room : (r : tie.After-read-event Inv-loop μ-loop) → r .before .before .loop .
 room r =
     let k = r .before .before in
     let a = k .before .before .before .args in
-    playing-room (a .t1) (a .t2) (a .trace .now) (a .out .now) (a .fresh) (k .loop .at) (k .loop .to) (k .loop .o .model) (k .loop .out) (k .loop .inv) (r .before .loop-test .taken) (r .read-event .result) (r .read-event .ensures)
+    playing-room (a .t1) (a .t2) (a .trace .now) (a .out .now) (view (a .fresh)) (k .loop .at) (k .loop .to) (view (k .loop .o .model)) (k .loop .out) (k .loop .inv) (r .before .loop-test .taken) (r .read-event .result) (r .read-event .ensures)
 
 later : (r : tie.After-read-event Inv-loop μ-loop) → r .before .before .loop .at < r .read-event .result .place
 later r =
     let k = r .before .before in
     let a = k .before .before .before .args in
-    playing-later (a .t1) (a .t2) (a .trace .now) (a .out .now) (a .fresh) (k .loop .at) (k .loop .to) (k .loop .o .model) (k .loop .out) (k .loop .inv) (r .before .loop-test .taken) (r .read-event .result) (r .read-event .ensures)
+    playing-later (a .t1) (a .t2) (a .trace .now) (a .out .now) (view (a .fresh)) (k .loop .at) (k .loop .to) (view (k .loop .o .model)) (k .loop .out) (k .loop .inv) (r .before .loop-test .taken) (r .read-event .result) (r .read-event .ensures)
+
+known : (r : tie.After-read-event Inv-loop μ-loop) → (1 ≤ r .read-event .result .event .code) × (r .read-event .result .event .code ≤ 9)
+known r =
+    let k = r .before .before in
+    let a = k .before .before .before .args in
+    playing-known (a .t1) (a .t2) (a .trace .now) (a .out .now) (view (a .fresh)) (k .loop .at) (k .loop .to) (view (k .loop .o .model)) (k .loop .out) (k .loop .inv) (r .before .loop-test .taken) (r .read-event .result) (r .read-event .ensures)
 
 long : (k : tie.At-loop Inv-loop μ-loop) → length (k .loop .out) ≡ length (k .before .before .before .args .out .now)
 long k =
     let a = k .before .before .before .args in
-    length-out (a .t1) (a .t2) (a .trace .now) (a .out .now) (a .fresh) (k .loop .at) (k .loop .to) (k .loop .o .model) (k .loop .out) (k .loop .inv)
+    length-out (a .t1) (a .t2) (a .trace .now) (a .out .now) (view (a .fresh)) (k .loop .at) (k .loop .to) (view (k .loop .o .model)) (k .loop .out) (k .loop .inv)
 
 -- what the arms leave is the step of the event that was read
 stepped : (j : tie.At-match-came Inv-loop μ-loop)
-    → j .match .o
+    → viewOutcome (j .match .o)
     ≡ machineStep (j .before .before .before .before .before .before .before .args .t1) (j .before .before .before .before .before .before .before .args .t2)
-    (j .before .before .before .before .loop .o .model) (callOf (j .before .before .read-event .result .event))
+    (view (j .before .before .before .before .loop .o .model)) (callOf (j .before .before .read-event .result .event))
 stepped j =
     let a = j .before .before .before .before .before .before .before .args in
-    let m = j .before .before .before .before .loop .o .model in
+    let m = view (j .before .before .before .before .loop .o .model) in
     let e = j .before .before .read-event .result .event in
-    ⊎-elim (λ w. w .5 ∙ w .4 .ensures ∙ sym (step-1 (a .t1) (a .t2) m e (w .0 .keys1)))
+    ⊎-elim (λ w. ap viewOutcome (w .5 ∙ w .4 .ensures) ∙ sym (step-1 (a .t1) (a .t2) m e (w .0 .keys1)))
     (λ z1.
-    ⊎-elim (λ w. w .4 ∙ w .3 .ensures ∙ sym (step-2 (a .t1) (a .t2) m e (w .0 .keys2)))
+    ⊎-elim (λ w. ap viewOutcome (w .4 ∙ w .3 .ensures) ∙ sym (step-2 (a .t1) (a .t2) m e (w .0 .keys2)))
     (λ z2.
-    ⊎-elim (λ w. w .5 ∙ w .4 .ensures ∙ sym (step-3 (a .t1) (a .t2) m e (w .0 .keys3)))
+    ⊎-elim (λ w. ap viewOutcome (w .5 ∙ w .4 .ensures) ∙ sym (step-3 (a .t1) (a .t2) m e (w .0 .keys3)))
     (λ z3.
-    ⊎-elim (λ w. w .5 ∙ w .4 .ensures ∙ sym (step-4 (a .t1) (a .t2) m e (w .0 .keys4)))
+    ⊎-elim (λ w. ap viewOutcome (w .5 ∙ w .4 .ensures) ∙ sym (step-4 (a .t1) (a .t2) m e (w .0 .keys4)))
     (λ z4.
-    ⊎-elim (λ w. w .4 ∙ w .3 .ensures ∙ sym (step-5 (a .t1) (a .t2) m e (w .0 .keys5)))
+    ⊎-elim (λ w. ap viewOutcome (w .4 ∙ w .3 .ensures) ∙ sym (step-5 (a .t1) (a .t2) m e (w .0 .keys5)))
     (λ z5.
-    ⊎-elim (λ w. w .6 ∙ w .5 .ensures ∙ sym (step-6 (a .t1) (a .t2) m e (w .0 .keys6)))
+    ⊎-elim (λ w. ap viewOutcome (w .6 ∙ w .5 .ensures) ∙ sym (step-6 (a .t1) (a .t2) m e (w .0 .keys6)))
     (λ z6.
-    ⊎-elim (λ w. w .5 ∙ w .4 .ensures ∙ sym (step-7 (a .t1) (a .t2) m e (w .0 .keys7)))
+    ⊎-elim (λ w. ap viewOutcome (w .5 ∙ w .4 .ensures) ∙ sym (step-7 (a .t1) (a .t2) m e (w .0 .keys7)))
     (λ z7.
-    ⊎-elim (λ w. w .9 ∙ w .8 .ensures ∙ sym (step-8 (a .t1) (a .t2) m e (w .0 .keys8)))
+    ⊎-elim (λ w. ap viewOutcome (w .8 ∙ w .7 .ensures) ∙ sym (step-8 (a .t1) (a .t2) m e (w .0 .keys8)))
     (λ z8.
-    ⊎-elim (λ w. w .6 ∙ w .5 .ensures ∙ sym (step-9 (a .t1) (a .t2) m e (w .0 .keys9)))
+    ⊎-elim (λ w. ap viewOutcome (w .6 ∙ w .5 .ensures) ∙ sym (step-9 (a .t1) (a .t2) m e (w .0 .keys9)))
     (λ z9.
     ⊎-elim
-    (λ w. w .1 ∙ sym (step-zero (a .t1) (a .t2) m e (w .0 .keys10)))
-    (λ w. w .1
-    ∙ sym (step-none (a .t1) (a .t2) m e (λ h. w .0 .rest .0 .0 .0 .0 .0 .0 .0 .0 .0 .1 h) (λ h. w .0 .rest .0 .0 .0 .0 .0 .0 .0 .0 .1 h) (λ h. w .0 .rest .0 .0 .0 .0 .0 .0 .0 .1 h) (λ h. w .0 .rest .0 .0 .0 .0 .0 .0 .1 h) (λ h. w .0 .rest .0 .0 .0 .0 .0 .1 h) (λ h. w .0 .rest .0 .0 .0 .0 .1 h) (λ h. w .0 .rest .0 .0 .0 .1 h) (λ h. w .0 .rest .0 .0 .1 h) (λ h. w .0 .rest .0 .1 h))) z9) z8) z7) z6) z5) z4) z3) z2) z1) (j .match .came)
+    (λ w. absurd (omega (arith, w .0 .keys10, known (j .before .before))))
+    (λ w. absurd
+    (one-of-nine (e .code) (known (j .before .before) .0) (known (j .before .before) .1) (λ h. w .0 .rest .0 .0 .0 .0 .0 .0 .0 .0 .0 .1 h) (λ h. w .0 .rest .0 .0 .0 .0 .0 .0 .0 .0 .1 h) (λ h. w .0 .rest .0 .0 .0 .0 .0 .0 .0 .1 h) (λ h. w .0 .rest .0 .0 .0 .0 .0 .0 .1 h) (λ h. w .0 .rest .0 .0 .0 .0 .0 .1 h) (λ h. w .0 .rest .0 .0 .0 .0 .1 h) (λ h. w .0 .rest .0 .0 .0 .1 h) (λ h. w .0 .rest .0 .0 .1 h) (λ h. w .0 .rest .0 .1 h))) z9) z8) z7) z6) z5) z4) z3) z2) z1) (j .match .came)
 
 runner-requires : tie.Need-runner-requires Inv-loop μ-loop
 runner-requires c κs = tt
@@ -131,10 +138,10 @@ loop-again c =
     let r = j .before .before in
     let k = r .before .before in
     let a = k .before .before .before .args in
-    playing-turn (a .t1) (a .t2) (a .trace .now) (a .out .now) (a .fresh) (k .loop .at) (k .loop .to) (k .loop .o .model) (k .loop .out) (k .loop .inv) (r .before .loop-test .taken) (r .read-event .result) (r .read-event .ensures)
-    (j .match .o) (stepped j) _
+    playing-turn (a .t1) (a .t2) (a .trace .now) (a .out .now) (view (a .fresh)) (k .loop .at) (k .loop .to) (view (k .loop .o .model)) (k .loop .out) (k .loop .inv) (r .before .loop-test .taken) (r .read-event .result) (r .read-event .ensures)
+    (viewOutcome (j .match .o)) (stepped j) _
     (p .put-answer .ensures
-    ∙ ap (λ (n : ℕ). laid (k .loop .to) (j .match .o .status ∷ n ∷ j .match .o .model .core .level ∷ markOf (j .match .o .begun) ∷ []) (k .loop .out)) (p .before .before .runner .ensures))
+    ∙ ap (λ (n : ℕ). laid (k .loop .to) (j .match .o .status ∷ n ∷ j .match .o .model .level ∷ markOf (j .match .o .begun) ∷ []) (k .loop .out)) (p .before .before .runner .ensures))
 
 same-length : tie.Need-same-length Inv-loop μ-loop
 same-length c = long (c .before .before)
@@ -143,7 +150,8 @@ returns : tie.Need-returns Inv-loop μ-loop
 returns c =
     let k = c .before .before in
     let a = k .before .before .before .args in
-    playing-end (a .t1) (a .t2) (a .trace .now) (a .out .now) (a .fresh) (k .loop .at) (k .loop .to) (k .loop .o .model) (k .loop .out) (k .loop .inv) (c .before .loop-test .left)
+    let e = playing-end (a .t1) (a .t2) (a .trace .now) (a .out .now) (view (a .fresh)) (k .loop .at) (k .loop .to) (view (k .loop .o .model)) (k .loop .out) (k .loop .inv) (c .before .loop-test .left) in
+    (ap modelOf (e .0), e .1)
 
 pub play-spec : {M : Type 1} → statement M
 play-spec =

@@ -1,0 +1,5 @@
+-- What the proofs of the run's functions cite.
+pub mod Bytes
+pub mod Count
+pub mod Play
+pub mod Whole

@@ -1,0 +1,205 @@
+-- The second pass over a trace: the answers so far and those still to come are the answers of the whole trace.
+--
+--   tables-laid                               what the machine's methods count on
+--   step-1 .. step-9                          what an arm's method hands back is the step of the event that was read
+--   Playing                                   the invariant: `playable-start`, `playing-turn`, `playing-end`
+--
+-- Assumes nothing.
+use Prim.Native.Nat.{ℕ, suc, _+_, _*_, _≤_, _<_}
+use mathlib.Core.Path.{_≡_, refl, sym, ap, _∙_}
+use mathlib.Core.List.{List, [], _∷_, _++_, map, append-assoc, append-nil}
+use native.Mathlib.Nat.{not-le-of-lt}
+use native.Mathlib.Omega.{arith}
+use lib.ListN.{length, length-append}
+use Rattle.number.specs.Refusal.{none}
+use Rattle.number.specs.Output.{laid}
+use Rattle.number.proofs.Cases.{by-eq}
+use Rattle.number.proofs.Laying.{laid-laid, length-laid}
+use Rattle.config.specs.declared.Config.{Config}
+use Rattle.config.proofs.Tables.{firstOf-step, firstOf-rises}
+use Rattle.event.specs.declared.Event.{Event}
+use Rattle.event.specs.declared.EventRead.{EventRead}
+use Rattle.event.specs.Event.{readEvent}
+use Rattle.event.specs.Trace.{TraceRead, before, readRest, readTrace}
+use Rattle.event.proofs.Theorems.{event-reading, rest-end, rest-step, rest-refused}
+use Rattle.plan.specs.declared.Plan.{Plan}
+use Rattle.plan.specs.Rank.{rankOf}
+use Rattle.scheduler.specs.State.{State}
+use Rattle.scheduler.specs.Scheduler as Plain
+use Rattle.scheduler.specs.Scheduler.{fresh, step, markOf}
+use Rattle.machine.specs.Model.{Model, Outcome}
+use Rattle.kernel.specs.Methods.{Laid}
+use Rattle.machine.specs.Events.{activated, finished, chained, got, released, tickedOnce, lined, launched, halted}
+use Rattle.machine.specs.Machine.{machineStep, runnerOf, machineSeen, machineAfter}
+use Rattle.run.specs.Run.{callOf, answerBytes}
+use Rattle.kernel.specs.Passes.{Playable}
+use Rattle.machine.proofs.Relation.Fitted.{Fitted}
+use Rattle.machine.proofs.Relation.Whole.{Sim}
+use Rattle.machine.proofs.Whole.Lists.{event-agrees}
+use Rattle.machine.proofs.Whole.Fresh.{fresh-sim}
+use Rattle.machine.proofs.Whole.Plan.{fitted}
+use Rattle.kernel.proofs.Run.Bytes.{laid-none}
+
+-- what an arm's method hands back is the step of the event that was read
+module _ (c : Config) (p : Plan) (m : Model) (e : Event) where
+  pub step-1 : e .code ≡ 1 → machineStep c p m (callOf e) ≡ activated (p .task) (p .priority) m (e .first)
+  unfolding callOf machineStep
+  step-1 h = rw h
+
+  pub step-2 : e .code ≡ 2 → machineStep c p m (callOf e) ≡ finished (p .priority) m
+  unfolding callOf machineStep
+  step-2 h = rw h
+
+  pub step-3 : e .code ≡ 3 → machineStep c p m (callOf e) ≡ chained (p .isrs) (p .task) (p .priority) m (e .first)
+  unfolding callOf machineStep
+  step-3 h = rw h
+
+  pub step-4 : e .code ≡ 4 → machineStep c p m (callOf e) ≡ got (c .resources) (p .ceiling) (p .priority) m (e .first)
+  unfolding callOf machineStep
+  step-4 h = rw h
+
+  pub step-5 : e .code ≡ 5 → machineStep c p m (callOf e) ≡ released (c .resources) (p .priority) m (e .first)
+  unfolding callOf machineStep
+  step-5 h = rw h
+
+  pub step-6 : e .code ≡ 6 → machineStep c p m (callOf e) ≡ tickedOnce (p .compare) (p .entry) (p .priority) m
+  unfolding callOf machineStep
+  step-6 h = rw h
+
+  pub step-7 : e .code ≡ 7 → machineStep c p m (callOf e) ≡ lined (p .line) (p .priority) m (e .first)
+  unfolding callOf machineStep
+  step-7 h = rw h
+
+  pub step-8 : e .code ≡ 8 → machineStep c p m (callOf e) ≡ launched (c .tables) (p .first) (c .entries) (c .period) (c .offset) m (e .first) (e .second)
+  unfolding callOf machineStep
+  step-8 h = rw h
+
+  pub step-9 : e .code ≡ 9 → machineStep c p m (callOf e) ≡ halted (c .tables) (p .first) (c .entries) m (e .first)
+  unfolding callOf machineStep
+  step-9 h = rw h
+
+past : (n : ℕ) {k : ℕ} → n ≤ k → (k ≡ n → ⊥) → n < k
+past n h d = omega arith
+
+-- no other code is left
+pub one-of-nine : (k : ℕ) → 1 ≤ k → k ≤ 9 → (k ≡ 1 → ⊥) → (k ≡ 2 → ⊥) → (k ≡ 3 → ⊥) → (k ≡ 4 → ⊥) → (k ≡ 5 → ⊥)
+    → (k ≡ 6 → ⊥) → (k ≡ 7 → ⊥) → (k ≡ 8 → ⊥) → (k ≡ 9 → ⊥) → ⊥
+one-of-nine k low high n1 n2 n3 n4 n5 n6 n7 n8 n9 =
+    not-le-of-lt (past 9 (past 8 (past 7 (past 6 (past 5 (past 4 (past 3 (past 2 (past 1 low n1) n2) n3) n4) n5) n6) n7) n8) n9) high
+
+module _ (c : Config) (p : Plan) (rk : ℕ → ℕ) (fit : Fitted c p rk) where
+  -- what the methods count on of their tables
+  pub tables-laid : Laid (c .tables) (p .first) (c .entries)
+  tables-laid =
+      record {
+        within = λ t h. rw (fit .first-at t h) (omega (arith, firstOf-step c t, firstOf-rises c (suc t) (c .tables) h, fit .few-entries));
+      }
+
+-- the events from a place on
+abbrev callsFrom : List ℕ → ℕ → List Plain.Event
+callsFrom ts at = map callOf (readRest ts at .events)
+
+-- "four bytes an event (status, runner, level, begun)"
+abbrev pub answerOf : Plan → Outcome → List ℕ
+answerOf p o = o .status ∷ runnerOf p (o .model) ∷ o .model .core .level ∷ markOf (o .begun) ∷ []
+
+-- the trace ts is played up to the place at: the model is m and the output out, whose first `to` bytes are written; it was m₀ and d
+pub record Playing (c : Config) (p : Plan) (ts d : List ℕ) (m₀ : Model) (at to : ℕ) (m : Model) (out : List ℕ) : Type 0 where
+  pub fit : Fitted c p (rankOf c)
+  pub state : State
+  pub sim : Sim c p (rankOf c) m state
+  pub bytes : List ℕ
+  pub output : out ≡ laid 0 bytes d
+  pub long : length bytes ≡ to
+  pub readable : readRest ts at .refusal ≡ none
+  pub room : to + 4 * length (readRest ts at .events) ≤ length d
+  pub answers : bytes ++ answerBytes (machineSeen c p m (callsFrom ts at)) ≡ answerBytes (machineSeen c p m₀ (callsFrom ts 0))
+  pub last : machineAfter c p m (callsFrom ts at) ≡ machineAfter c p m₀ (callsFrom ts 0)
+
+module _ (c : Config) (p : Plan) (ts d : List ℕ) (m₀ : Model) where
+  playing-start : Fitted c p (rankOf c) → (s : State) → Sim c p (rankOf c) m₀ s → readTrace ts .refusal ≡ none
+      → 4 * length (readTrace ts .events) ≤ length d → Playing c p ts d m₀ 0 0 m₀ d
+  playing-start fit s sim readable room =
+      record {
+        fit = fit;
+        state = s;
+        sim = sim;
+        bytes = [];
+        output = laid-none 0 d;
+        long = refl;
+        readable = readable;
+        room = omega arith;
+        answers = refl;
+        last = refl;
+      }
+
+  pub playable-start : Playable c p m₀ ts (length d) → Playing c p ts d m₀ 0 0 m₀ d
+  playable-start given =
+      let fit : Fitted c p (rankOf c) = rw (given .planned) (fitted c (given .accepted) (given .shaped)) in
+      playing-start fit (fresh c) (rw (given .fresh) (fresh-sim fit)) (given .readable) (given .room)
+
+  module _ (at to : ℕ) (m : Model) (out : List ℕ) (g : Playing c p ts d m₀ at to m out) where
+    pub length-out : length out ≡ length d
+    length-out = ap length (g .output) ∙ length-laid 0 (g .bytes) d (omega (arith, g .long, g .room))
+
+    pub playing-end : length ts ≤ at
+        → (m ≡ machineAfter c p m₀ (callsFrom ts 0)) × (out ≡ laid 0 (answerBytes (machineSeen c p m₀ (callsFrom ts 0))) d)
+    unfolding machineAfter machineSeen answerBytes
+    playing-end h =
+        let none-left : callsFrom ts at ≡ [] = ap (λ (r : TraceRead). map callOf (r .events)) (rest-end ts at h) in (
+          sym (ap (machineAfter c p m) none-left) ∙ g .last,
+          g .output ∙ ap (λ (l : List ℕ). laid 0 l d)
+              (sym (append-nil (g .bytes)) ∙ ap (λ (l : List Plain.Event). g .bytes ++ answerBytes (machineSeen c p m l)) (sym none-left) ∙ g .answers),
+        )
+
+    -- the event at the place
+    module _ (inside : at < length ts) (r : EventRead) (read : r ≡ readEvent ts at) where
+      fine : readEvent ts at .refusal ≡ none
+      fine =
+          by-eq (readEvent ts at .refusal) none
+          (λ h. h)
+          (λ n. absurd (n (sym (ap (λ (t : TraceRead). t .refusal) (rest-refused ts at inside n)) ∙ g .readable)))
+
+      more : readRest ts at ≡ before (r .event) (readRest ts (r .place))
+      more = rest-step ts at fine ∙ ap (λ (x : EventRead). before (x .event) (readRest ts (x .place))) (sym read)
+
+      calls : callsFrom ts at ≡ callOf (r .event) ∷ callsFrom ts (r .place)
+      calls = ap (λ (t : TraceRead). map callOf (t .events)) more
+
+      pub playing-later : at < r .place
+      playing-later = rw read (event-reading ts at .after fine)
+
+      pub playing-known : (1 ≤ r .event .code) × (r .event .code ≤ 9)
+      playing-known = let w = event-reading ts at .writable fine in rw read (w .at-least, w .at-most)
+
+      pub playing-room : to + 4 ≤ length out
+      playing-room = omega (arith, g .room, length-out, ap (λ (t : TraceRead). length (t .events)) more)
+
+      pub playing-turn : (o : Outcome) → o ≡ machineStep c p m (callOf (r .event)) → (out′ : List ℕ) → out′ ≡ laid to (answerOf p o) out
+          → Playing c p ts d m₀ (r .place) (to + 4) (o .model) out′
+      unfolding machineAfter machineSeen answerBytes
+      playing-turn o stepped out′ wrote =
+          record {
+            fit = g .fit;
+            state = step c (g .state) (callOf (r .event)) .state;
+            sim = rw stepped (event-agrees (g .fit) (callOf (r .event)) (g .sim) .sim);
+            bytes = g .bytes ++ answerOf p o;
+            output =
+                wrote ∙ ap (laid to (answerOf p o)) (g .output) ∙ ap (λ (k : ℕ). laid k (answerOf p o) (laid 0 (g .bytes) d)) shift
+                ∙ laid-laid 0 (g .bytes) (answerOf p o) d (omega (arith, playing-room, length-out, g .long));
+            long = length-append (g .bytes) (answerOf p o) ∙ ap (λ (n : ℕ). n + 4) (g .long);
+            readable = sym (ap (λ (t : TraceRead). t .refusal) more) ∙ g .readable;
+            room = omega (arith, g .room, ap (λ (t : TraceRead). length (t .events)) more);
+            answers = append-assoc (g .bytes) (answerOf p o) _ ∙ ap (λ (l : List ℕ). g .bytes ++ l) (sym one) ∙ g .answers;
+            last =
+                ap (λ (x : Outcome). machineAfter c p (x .model) (callsFrom ts (r .place))) stepped
+                ∙ sym (ap (machineAfter c p m) calls) ∙ g .last;
+          }
+        where
+          shift : to ≡ 0 + length (g .bytes)
+          shift = omega (arith, g .long)
+
+          one : answerBytes (machineSeen c p m (callsFrom ts at)) ≡ answerOf p o ++ answerBytes (machineSeen c p (o .model) (callsFrom ts (r .place)))
+          one =
+              ap (λ (l : List Plain.Event). answerBytes (machineSeen c p m l)) calls
+              ∙ ap (λ (x : Outcome). answerOf p x ++ answerBytes (machineSeen c p (x .model) (callsFrom ts (r .place)))) (sym stepped)

@@ -1,0 +1,54 @@
+-- `count_events` meets its contract: whatever is left to read, with the events counted, is the whole trace.
+-- Assumes nothing.
+use Prim.Native.Nat.{_-_}
+use native.Mathlib.Omega.{arith}
+use lib.ListN.{length}
+use Rattle.kernel.proofs.Run.Count.{Passed, passed-start, passed-end, passed-refused, passed-later, passed-turn}
+use Rattle.kernel.proofs.count.count_events.Statement.{statement}
+use Rattle.kernel.proofs.count.count_events.Tie as tie
+
+abbrev Inv-loop : tie.InvT-loop
+Inv-loop trace at₀ events₀ at events = Passed trace at events
+
+abbrev μ-loop : tie.MeasureT-loop
+μ-loop trace at₀ events₀ at events = length trace - at
+
+loop-holds : tie.Need-loop-holds Inv-loop μ-loop
+loop-holds c = passed-start (c .before .args .trace .now)
+
+read-event-requires : tie.Need-read-event-requires Inv-loop μ-loop
+read-event-requires c κs = tt
+
+returns : tie.Need-returns Inv-loop μ-loop
+returns c = let l = c .before .before .before .before .loop in
+    passed-refused (c .before .before .before .before .before .before .args .trace .now) (l .at) (l .events) (l .inv) (c .before .before .read-event .result) (c .before .before .read-event .ensures) (c .before .before .before .loop-test .taken) (c .if1 .taken)
+
+add-events : tie.Need-add-events Inv-loop μ-loop
+add-events c = omega arith
+
+loop-less : tie.Need-loop-less Inv-loop μ-loop
+loop-less c = let l = c .before .before .before .before .loop in
+    let later = passed-later (c .before .before .before .before .before .before .args .trace .now) (l .at) (l .events) (l .inv) (c .before .before .read-event .result) (c .before .before .read-event .ensures) (c .if1 .left) in
+    omega arith
+
+loop-again : tie.Need-loop-again Inv-loop μ-loop
+loop-again c = let l = c .before .before .before .before .loop in
+    passed-turn (c .before .before .before .before .before .before .args .trace .now) (l .at) (l .events) (l .inv) (c .before .before .read-event .result) (c .before .before .read-event .ensures) (c .if1 .left)
+
+returns-2 : tie.Need-returns-2 Inv-loop μ-loop
+returns-2 c = let l = c .before .loop in
+    passed-end (c .before .before .before .args .trace .now) (l .at) (l .events) (l .inv) (c .loop-test .left)
+
+pub count-events-spec : {M : Type 1} → statement M
+count-events-spec =
+    tie.close
+    (tie.spec
+    Inv-loop
+    μ-loop
+    loop-holds
+    read-event-requires
+    returns
+    add-events
+    loop-less
+    loop-again
+    returns-2)

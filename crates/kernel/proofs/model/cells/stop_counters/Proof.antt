@@ -1,0 +1,66 @@
+-- `stop_counters` meets its contract: what is left to do at entry e is what the definition does from there on.
+-- Assumes nothing.
+use Prim.Native.Nat.{_+_, _-_, _≤_}
+use mathlib.Core.Path.{_≡_, sym, _∙_}
+use native.Mathlib.Omega.{arith}
+use Rattle.machine.specs.Cells.{countersStopped}
+use Rattle.kernel.proofs.Methods.Cells.{span, stopped-turn, stopped-end}
+use Rattle.kernel.proofs.model.cells.stop_counters.Statement.{statement}
+use Rattle.kernel.proofs.model.cells.stop_counters.Tie as tie
+
+abbrev Inv-loop : tie.InvT-loop
+Inv-loop from count counter₀ until e₀ counter e =
+    (from ≤ e)
+    × ((e ≤ until)
+    × (countersStopped (until - e) e counter ≡ countersStopped count from counter₀))
+
+abbrev μ-loop : tie.MeasureT-loop
+μ-loop from count counter₀ until e₀ counter e = until - e
+
+add-until : tie.Need-add-until Inv-loop μ-loop
+add-until c = omega arith
+
+loop-holds : tie.Need-loop-holds Inv-loop μ-loop
+loop-holds c = let a = c .args in (omega arith, (omega arith, rw (span (a .from) (a .count))))
+
+mul-counter : tie.Need-mul-counter Inv-loop μ-loop
+mul-counter c = omega arith
+
+element-write-counter : tie.Need-element-write-counter Inv-loop μ-loop
+element-write-counter c = omega arith
+
+add-e : tie.Need-add-e Inv-loop μ-loop
+add-e c = omega arith
+
+loop-less : tie.Need-loop-less Inv-loop μ-loop
+loop-less c = omega arith
+
+loop-again : tie.Need-loop-again Inv-loop μ-loop
+loop-again c = let a = c .before .before .args in let l = c .before .loop in (
+  omega arith,
+  (
+    omega arith,
+    stopped-turn (a .from + a .count) (l .e) (l .counter) (c .loop-test .taken)
+        ∙ l .inv .1 .1,
+  ),
+)
+
+returns : tie.Need-returns Inv-loop μ-loop
+returns c = let a = c .before .before .args in let l = c .before .loop in
+    sym (stopped-end (a .from + a .count) (l .e) (l .counter) (c .loop-test .left))
+    ∙ l .inv .1 .1
+
+pub stop-counters-spec : {M : Type 1} → statement M
+stop-counters-spec =
+    tie.close
+    (tie.spec
+    Inv-loop
+    μ-loop
+    add-until
+    loop-holds
+    mul-counter
+    element-write-counter
+    add-e
+    loop-less
+    loop-again
+    returns)

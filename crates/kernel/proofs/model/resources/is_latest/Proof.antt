@@ -1,0 +1,33 @@
+-- `is_latest` meets its contract, by the two cases of its first test.
+-- Assumes nothing.
+use Prim.Native.Nat.{ℕ}
+use mathlib.Core.Path.{ap}
+use lib.Dec.{eqb}
+use borrow.Author.Tests.{eq-eqb, ne-eqb}
+use Rattle.stack.specs.Stack.{topRow}
+use Rattle.kernel.proofs.Methods.Tests.{and-first}
+use borrow.Author.Needs.{needs}
+use Rattle.kernel.proofs.model.resources.is_latest.Statement.{statement}
+use Rattle.kernel.proofs.model.resources.is_latest.Tie as tie
+
+top-requires : tie.Need-top-requires
+top-requires c κs = search needs
+
+top-requires-2 : tie.Need-top-requires-2
+top-requires-2 c κs = search needs
+
+cast-result : tie.Need-cast-result
+cast-result c = search needs
+
+returns : tie.Need-returns
+returns c =
+    let c₁ = c .before in let c₂ = c₁ .before in let c₃ = c₂ .before in let a = c₃ .args in
+    rw ((c .top2 .ensures), eq-eqb (topRow (a .holder)) (a .rank) (rw (c₂ .top .ensures) at (c₁ .if1 .taken)))
+
+returns-2 : tie.Need-returns-2
+returns-2 c =
+    let c₁ = c .before in let c₂ = c₁ .before in let a = c₂ .args in
+    and-first (eqb (topRow (a .holder)) (a .rank)) _ (ap (λ (h : ℕ). eqb h (a .rank)) (c₁ .top .ensures)) (ne-eqb (c₁ .top .result) (a .rank) (c .if1 .left))
+
+pub is-latest-spec : {M : Type 1} → statement M
+is-latest-spec = tie.close (tie.spec top-requires top-requires-2 cast-result returns returns-2)

@@ -1,0 +1,32 @@
+-- `level_without` meets its contract, by the two cases of its test.
+-- Assumes nothing.
+use borrow.Author.Tests.{eq-eqb, ne-eqb}
+use Rattle.stack.specs.Stack.{secondRow}
+use borrow.Author.Needs.{needs}
+use Rattle.kernel.proofs.model.resources.level_without.Statement.{statement}
+use Rattle.kernel.proofs.model.resources.level_without.Tie as tie
+
+byte-at-requires : tie.Need-byte-at-requires
+byte-at-requires c κs = search needs
+
+second-requires : tie.Need-second-requires
+second-requires c κs = search needs
+
+second-requires-2 : tie.Need-second-requires-2
+second-requires-2 c κs = search needs
+
+returns : tie.Need-returns
+returns c =
+    let c₁ = c .before in let c₂ = c₁ .before in let c₃ = c₂ .before .before in
+    let a = c₃ .before .args in
+    rw (eq-eqb (secondRow (a .holder)) (a .rank) (rw (c₁ .second2 .ensures) at (c .if1 .taken))) (c₂ .second .ensures)
+
+returns-2 : tie.Need-returns-2
+returns-2 c =
+    let c₁ = c .before in let c₂ = c₁ .before .before in
+    let a = c₂ .before .before .args in
+    rw (ne-eqb (secondRow (a .holder)) (a .rank) (rw (c₁ .second2 .ensures) at (c .if1 .left))) (c₂ .byte-at .ensures)
+
+pub level-without-spec : {M : Type 1} → statement M
+level-without-spec =
+    tie.close (tie.spec byte-at-requires second-requires second-requires-2 returns returns-2)

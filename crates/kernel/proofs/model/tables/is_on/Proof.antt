@@ -1,0 +1,16 @@
+-- `is_on` meets its contract: the switch that was read is that of the entry.
+-- Assumes nothing.
+use mathlib.Core.Path.{ap}
+use Rattle.machine.specs.Cells.{isOn}
+use borrow.Author.Needs.{needs}
+use Rattle.kernel.proofs.model.tables.is_on.Statement.{statement}
+use Rattle.kernel.proofs.model.tables.is_on.Tie as tie
+
+short-at-requires : tie.Need-short-at-requires
+short-at-requires c κs = search needs
+
+returns : tie.Need-returns
+returns c = ap isOn (c .short-at .ensures)
+
+pub is-on-spec : {M : Type 1} → statement M
+is-on-spec = tie.close (tie.spec short-at-requires returns)

@@ -1,0 +1,80 @@
+-- `put_losses` meets its contract: each turn lays the losses of one body more.
+-- Assumes nothing.
+use Prim.Native.Nat.{_+_, _*_, _-_, _/_, _%_, _≤_}
+use mathlib.Core.Path.{_≡_, refl, ap, _∙_}
+use mathlib.Core.List.{[], _∷_, map}
+use native.Mathlib.Omega.{arith}
+use lib.ListN.{length, getD, take}
+use Rattle.number.specs.Output.{laid}
+use Rattle.run.specs.Run.{lossBytes}
+use Rattle.kernel.proofs.Run.Bytes.{laid-none, losses-turn}
+use Rattle.kernel.proofs.output.put_losses.Statement.{statement}
+use Rattle.kernel.proofs.output.put_losses.Tie as tie
+
+abbrev Inv-loop : tie.InvT-loop
+Inv-loop losses task bodies at out₀ b₀ out b =
+    (b ≤ bodies) × (length out ≡ length out₀) × (out ≡ laid at (lossBytes (map (λ r. getD losses r 0) (take b task))) out₀)
+
+abbrev μ-loop : tie.MeasureT-loop
+μ-loop losses task bodies at out₀ b₀ out b = bodies - b
+
+loop-holds : tie.Need-loop-holds Inv-loop μ-loop
+unfolding lossBytes
+loop-holds c = (omega arith, refl, laid-none (c .before .args .at) (c .before .args .out .now))
+
+element-copy-out-loss : tie.Need-element-copy-out-loss Inv-loop μ-loop
+element-copy-out-loss c = omega arith
+
+loss-requires : tie.Need-loss-requires Inv-loop μ-loop
+loss-requires c κs = tt
+
+mul-put-loss : tie.Need-mul-put-loss Inv-loop μ-loop
+mul-put-loss c = omega arith
+
+add-put-loss : tie.Need-add-put-loss Inv-loop μ-loop
+add-put-loss c = omega arith
+
+put-loss-requires : tie.Need-put-loss-requires Inv-loop μ-loop
+put-loss-requires c κs = omega arith
+
+add-b : tie.Need-add-b Inv-loop μ-loop
+add-b c = omega arith
+
+loop-less : tie.Need-loop-less Inv-loop μ-loop
+loop-less c = omega arith
+
+loop-again : tie.Need-loop-again Inv-loop μ-loop
+loop-again c =
+    let l = c .before .before .before .before .before .before .before .before .loop in
+    let a = c .before .before .before .before .before .before .before .before .before .before .args in (
+      omega arith,
+      c .before .before .put-loss .kept .1 .1 .0 ∙ l .inv .1,
+      c .before .before .put-loss .ensures
+          ∙ ap (laid (a .at + 2 * l .b) (c .before .before .before .before .loss .result % 256 ∷ c .before .before .before .before .loss .result / 256 ∷ [])) (l .inv .2)
+          ∙ losses-turn (λ r. getD (a .losses .now) r 0) (a .task .now) (a .at) (a .out .now) (l .b) (c .before .before .before .before .loss .result) (omega arith) (omega arith) (c .before .before .before .before .loss .ensures),
+    )
+
+same-length : tie.Need-same-length Inv-loop μ-loop
+same-length c = c .before .loop .inv .1
+
+returns : tie.Need-returns Inv-loop μ-loop
+returns c = let h : c .before .loop .b ≡ c .before .before .before .args .bodies = omega arith in
+    rw h at (c .before .loop .inv .2)
+
+pub put-losses-spec : {M : Type 1} → statement M
+put-losses-spec =
+    tie.close
+    (tie.spec
+    Inv-loop
+    μ-loop
+    loop-holds
+    element-copy-out-loss
+    loss-requires
+    mul-put-loss
+    add-put-loss
+    put-loss-requires
+    add-b
+    loop-less
+    loop-again
+    same-length
+    returns)

@@ -1,0 +1,90 @@
+// The machine's model, and its methods: the fresh start, and one method by value for each event.
+//
+// A body stands in the model by its rank among the priorities, so that a greater rank is a greater priority.
+ghost use mathlib.Core.Path.{_≡_};
+ghost use Rattle.machine.specs.Model.{refusedWith};
+ghost use Rattle.kernel.specs.View.{view, outcomeOf};
+
+mod arbiter;
+mod bodies;
+mod cells;
+mod fresh;
+mod lookup;
+mod resources;
+mod tables;
+
+use stack::NONE;
+use stack::Row;
+
+// No body: in the place of a rank it says that nobody runs, or that there is no such task or ISR. It is what lies past the bottom of
+// the row of held resources.
+const NO_RANK: u8 = NONE;
+
+// The statuses (OSEK's status codes) of an event. One that is refused changes nothing.
+pub const DONE: u8 = 0;
+
+const ACCESS: u8 = 1;
+
+const CALL_LEVEL: u8 = 2;
+
+const NO_SUCH: u8 = 3;
+
+const LIMIT: u8 = 4;
+
+const NO_FUNCTION: u8 = 5;
+
+const HOLDS_RESOURCE: u8 = 6;
+
+const ALREADY_RUNS: u8 = 7;
+
+const BAD_DELAY: u8 = 8;
+
+// Who runs after arbitration, with the words that it leaves, and whether a body began.
+pub struct Picked {
+    pub request: u32,
+    pub started: u32,
+    pub runner: u8,
+    pub level: u8,
+    pub begun: bool,
+}
+
+// What the machine keeps between events. It goes by value. Its fields are flat, the row of held resources is in words that shift, and a
+// method takes an array that it indexes out into a variable and puts it back: otherwise the compiler copies the whole model at every event.
+pub struct Model {
+    // The ranks that wait to begin, and those that began and have not ended, as words.
+    pub request: u32,
+    pub started: u32,
+    // The held resources, as a word.
+    pub held: u32,
+    pub runner: u8,
+    pub level: u8,
+    // The held resources in the order taken, each with its holder's rank and the level after its Get.
+    pub resource: Row,
+    pub holder: Row,
+    pub raised: Row,
+    // The cells by entry: their counters and switches, and whether any of them has a turn of its counter to pass.
+    pub counter: [u16; 64],
+    pub on: [u16; 64],
+    pub turning: bool,
+    pub losses: [u16; 32],
+}
+
+// The next model with its answer.
+pub struct Outcome {
+    pub model: Model,
+    pub status: u8,
+    pub begun: bool,
+}
+
+impl Model {
+    // The answer to an event that lets nobody begin.
+    fn with_status(self, status: u8) -> Outcome
+        ensures { λ r. ⌜ r ≡ outcomeOf (refusedWith (view self) status) ⌝ }
+    {
+        Outcome {
+            model: self,
+            status,
+            begun: false,
+        }
+    }
+}

@@ -1,0 +1,107 @@
+// The events of bodies: Activate, Finish, Chain and Line.
+ghost use mathlib.Core.Path.{_≡_};
+ghost use mathlib.Core.Bool.{not, _&&_, _||_};
+ghost use lib.Dec.{eqb};
+ghost use Rattle.word.specs.Word.{has};
+ghost use Rattle.machine.specs.Model.{noRank};
+ghost use Rattle.machine.specs.Events.{activated, finished, chained, lined};
+ghost use Rattle.kernel.specs.View.{view, outcomeOf};
+use super::CALL_LEVEL;
+use super::HOLDS_RESOURCE;
+use super::LIMIT;
+use super::Model;
+use super::NO_RANK;
+use super::NO_SUCH;
+use super::Outcome;
+use super::lookup::byte_at;
+use word::has;
+use word::with;
+
+impl Model {
+    pub fn activate<'a>(self, task_rank: &'a [u8; 32], priority: &'a [u8; 32], t: u32) -> Outcome
+        ensures { λ r. ⌜ r ≡ outcomeOf (activated (now («task_rank» .entry)) (now (priority .entry)) (view self) t) ⌝ }
+    {
+        if self.runner == NO_RANK {
+            return self.with_status(CALL_LEVEL);
+        }
+        let rank = byte_at(task_rank, t as usize, NO_RANK);
+        if rank == NO_RANK {
+            return self.with_status(NO_SUCH);
+        }
+        if busy(self.request, self.started, rank) {
+            return self.with_status(LIMIT);
+        }
+        self.settled(with(self.request, rank as u32), priority)
+    }
+
+    pub fn finish(self, priority: &[u8; 32]) -> Outcome
+        ensures { λ r. ⌜ r ≡ outcomeOf (finished (now (priority .entry)) (view self)) ⌝ }
+    {
+        if self.runner == NO_RANK {
+            return self.with_status(CALL_LEVEL);
+        }
+        if self.holder.top() == self.runner {
+            return self.with_status(HOLDS_RESOURCE);
+        }
+        self.ended(self.request, priority)
+    }
+
+    pub fn chain<'a>(
+        self,
+        isrs: u32,
+        task_rank: &'a [u8; 32],
+        priority: &'a [u8; 32],
+        t: u32,
+    ) -> Outcome
+        ensures { λ r. ⌜ r ≡ outcomeOf (chained isrs (now («task_rank» .entry)) (now (priority .entry)) (view self) t) ⌝ }
+    {
+        if no_task_runs(isrs, self.runner) {
+            return self.with_status(CALL_LEVEL);
+        }
+        let rank = byte_at(task_rank, t as usize, NO_RANK);
+        if rank == NO_RANK {
+            return self.with_status(NO_SUCH);
+        }
+        if self.holder.top() == self.runner {
+            return self.with_status(HOLDS_RESOURCE);
+        }
+        if busy_beside(self.request, self.started, self.runner, rank) {
+            return self.with_status(LIMIT);
+        }
+        self.ended(with(self.request, rank as u32), priority)
+    }
+
+    pub fn line<'a>(self, line_rank: &'a [u8; 32], priority: &'a [u8; 32], i: u32) -> Outcome
+        ensures { λ r. ⌜ r ≡ outcomeOf (lined (now («line_rank» .entry)) (now (priority .entry)) (view self) i) ⌝ }
+    {
+        let rank = byte_at(line_rank, i as usize, NO_RANK);
+        if rank == NO_RANK {
+            return self.with_status(NO_SUCH);
+        }
+        if has(self.request, rank as u32) {
+            return self.with_status(LIMIT);
+        }
+        self.settled(with(self.request, rank as u32), priority)
+    }
+}
+
+// Whether the body of this rank is ready or started.
+pub fn busy(request: u32, started: u32, rank: u8) -> bool
+    ensures { λ r. ⌜ r ≡ has request rank || has started rank ⌝ }
+{
+    has(request, rank as u32) || has(started, rank as u32)
+}
+
+// The same, of any body but the runner.
+fn busy_beside(request: u32, started: u32, runner: u8, rank: u8) -> bool
+    ensures { λ r. ⌜ r ≡ (has request rank || has started rank) && not (eqb rank runner) ⌝ }
+{
+    rank != runner && busy(request, started, rank)
+}
+
+// Whether nobody runs, or an ISR does.
+fn no_task_runs(isrs: u32, runner: u8) -> bool
+    ensures { λ r. ⌜ r ≡ eqb runner noRank || has isrs runner ⌝ }
+{
+    runner == NO_RANK || has(isrs, runner as u32)
+}

@@ -1,0 +1,105 @@
+// The held resources, in the order taken: Get and Release.
+ghost use mathlib.Core.Path.{_≡_};
+ghost use mathlib.Core.Bool.{cond, _&&_, _||_};
+ghost use Prim.Native.Nat.{max};
+ghost use lib.Dec.{ltb, eqb};
+ghost use lib.ListN.{getD};
+ghost use Rattle.word.specs.Word.{has};
+ghost use Rattle.stack.specs.Stack.{topRow, secondRow};
+ghost use Rattle.machine.specs.Events.{got, released};
+ghost use Rattle.kernel.specs.View.{view, outcomeOf};
+use super::ACCESS;
+use super::CALL_LEVEL;
+use super::DONE;
+use super::Model;
+use super::NO_FUNCTION;
+use super::NO_RANK;
+use super::NO_SUCH;
+use super::Outcome;
+use super::arbiter::arbitrated;
+use super::lookup::byte_at;
+use stack::Row;
+use word::has;
+use word::with;
+use word::without;
+
+impl Model {
+    pub fn get<'a>(
+        mut self,
+        resources: u8,
+        ceiling: &'a [u8; 16],
+        priority: &'a [u8; 32],
+        r: u32,
+    ) -> Outcome
+        ensures { λ o. ⌜ o ≡ outcomeOf (got resources (now (ceiling .entry)) (now (priority .entry)) (view self) r) ⌝ }
+    {
+        if self.runner == NO_RANK {
+            return self.with_status(CALL_LEVEL);
+        }
+        if resources as u32 <= r {
+            return self.with_status(NO_SUCH);
+        }
+        let top = byte_at(ceiling, r as usize, 0);
+        let own = byte_at(priority, self.runner as usize, 0);
+        if withheld(self.held, r, top, own) {
+            return self.with_status(ACCESS);
+        }
+        let level = higher(top, self.level);
+        self.held = with(self.held, r);
+        self.resource = self.resource.push(r as u8);
+        self.holder = self.holder.push(self.runner);
+        self.raised = self.raised.push(level);
+        self.level = level;
+        self.with_status(DONE)
+    }
+
+    pub fn release(mut self, resources: u8, priority: &[u8; 32], r: u32) -> Outcome
+        ensures { λ o. ⌜ o ≡ outcomeOf (released resources (now (priority .entry)) (view self) r) ⌝ }
+    {
+        if self.runner == NO_RANK {
+            return self.with_status(CALL_LEVEL);
+        }
+        if resources as u32 <= r {
+            return self.with_status(NO_SUCH);
+        }
+        if !is_latest(self.resource, self.holder, self.runner, r) {
+            return self.with_status(NO_FUNCTION);
+        }
+        let level = level_without(self.holder, self.raised, self.runner, priority);
+        let picked = arbitrated(self.request, self.started, self.runner, level, priority);
+        self.held = without(self.held, r);
+        self.resource = self.resource.pop();
+        self.holder = self.holder.pop();
+        self.raised = self.raised.pop();
+        self.seated(picked)
+    }
+}
+
+// Whether the latest slot belongs to this body and has this resource.
+fn is_latest(resource: Row, holder: Row, rank: u8, r: u32) -> bool
+    ensures { λ b. ⌜ b ≡ eqb (topRow holder) rank && eqb (topRow resource) r ⌝ }
+{
+    holder.top() == rank && resource.top() as u32 == r
+}
+
+// Whether the resource is held, or its ceiling is below the own priority of who wants it.
+fn withheld(held: u32, r: u32, ceiling: u8, own: u8) -> bool
+    ensures { λ b. ⌜ b ≡ has held r || ltb ceiling own ⌝ }
+{
+    has(held, r) || ceiling < own
+}
+
+// The level of a body without its latest slot: that of the slot below if it is its own, else its own priority.
+fn level_without(holder: Row, raised: Row, rank: u8, priority: &[u8; 32]) -> u8
+    ensures { λ r. ⌜ r ≡ cond (eqb (secondRow holder) rank) (secondRow raised) (getD (now (priority .entry)) rank 0) ⌝ }
+{
+    let own = byte_at(priority, rank as usize, 0);
+    let below = raised.second();
+    if holder.second() == rank { below } else { own }
+}
+
+fn higher(a: u8, b: u8) -> u8
+    ensures { λ r. ⌜ r ≡ max a b ⌝ }
+{
+    if a < b { b } else { a }
+}

@@ -1,0 +1,154 @@
+// The events of tables: Tick, Start and Stop.
+ghost use mathlib.Core.Path.{_≡_};
+ghost use mathlib.Core.Bool.{_||_};
+ghost use Prim.Native.Nat.{_+_};
+ghost use lib.Dec.{ltb, eqb};
+ghost use lib.ListN.{getD};
+ghost use Rattle.scheduler.specs.Call.{longestDelay};
+ghost use Rattle.machine.specs.Cells.{isOn};
+ghost use Rattle.machine.specs.Events.{tickedOnce, launched, halted};
+ghost use Rattle.kernel.specs.Methods.{Laid};
+ghost use Rattle.kernel.specs.View.{view, outcomeOf};
+use super::ALREADY_RUNS;
+use super::BAD_DELAY;
+use super::CALL_LEVEL;
+use super::DONE;
+use super::Model;
+use super::NO_FUNCTION;
+use super::NO_RANK;
+use super::NO_SUCH;
+use super::Outcome;
+use super::arbiter::arbitrated;
+use super::cells::OFF;
+use super::cells::some_turn;
+use super::cells::start_cells;
+use super::cells::stop_counters;
+use super::cells::switch;
+use super::cells::take_matches;
+use super::cells::tick_cells;
+use super::cells::tick_switches;
+use super::lookup::byte_at;
+use super::lookup::short_at;
+
+impl Model {
+    pub fn tick<'a>(
+        mut self,
+        compare: &'a [u16; 64],
+        entry_rank: &'a [u8; 64],
+        priority: &'a [u8; 32],
+    ) -> Outcome
+        ensures { λ r. ⌜ r ≡ outcomeOf (tickedOnce (now (compare .entry)) (now («entry_rank» .entry)) (now (priority .entry)) (view self)) ⌝ }
+    {
+        let started = self.started;
+        let asked = self.request;
+        let runner = self.runner;
+        let level = self.level;
+        let turning = self.turning;
+        let mut losses = self.losses;
+        let on = self.on;
+        let mut counter = self.counter;
+        if turning {
+            let mut next = on;
+            tick_switches(compare, &counter, &mut next);
+            self.turning = some_turn(&next);
+            self.on = next;
+        }
+        let matched = tick_cells(turning, compare, &on, &mut counter);
+        let request = take_matches(&matched, entry_rank, started, asked, &mut losses);
+        let picked = arbitrated(request, started, runner, level, priority);
+        self.counter = counter;
+        self.losses = losses;
+        self.seated(picked)
+    }
+
+    pub fn start<'a>(
+        mut self,
+        tables: u8,
+        first: &'a [u8; 8],
+        entries: &'a [u8; 8],
+        period: &'a [u16; 8],
+        offset: &'a [u16; 64],
+        t: u32,
+        d: u32,
+    ) -> Outcome
+        requires { ⌜ Laid tables (now first) (now entries) ⌝ }
+        ensures { λ r. ⌜ r ≡ outcomeOf (launched tables (now (first .entry)) (now (entries .entry)) (now (period .entry)) (now (offset .entry)) (view self) t d) ⌝ }
+    {
+        if self.runner == NO_RANK {
+            return self.with_status(CALL_LEVEL);
+        }
+        if tables as u32 <= t {
+            return self.with_status(NO_SUCH);
+        }
+        let i = t as usize;
+        let from = byte_at(first, i, 0) as usize;
+        if is_bad_delay(d, short_at(offset, from)) {
+            return self.with_status(BAD_DELAY);
+        }
+        let mut on = self.on;
+        if is_on(&on, from) {
+            return self.with_status(ALREADY_RUNS);
+        }
+        let n = byte_at(entries, i, 0) as usize;
+        let mut counter = self.counter;
+        let turning = start_cells(
+            self.turning,
+            from,
+            n,
+            short_at(period, i),
+            d as u16,
+            offset,
+            &mut counter,
+            &mut on,
+        );
+        self.counter = counter;
+        self.on = on;
+        self.turning = turning;
+        self.with_status(DONE)
+    }
+
+    pub fn stop<'a>(
+        mut self,
+        tables: u8,
+        first: &'a [u8; 8],
+        entries: &'a [u8; 8],
+        t: u32,
+    ) -> Outcome
+        requires { ⌜ Laid tables (now first) (now entries) ⌝ }
+        ensures { λ r. ⌜ r ≡ outcomeOf (halted tables (now (first .entry)) (now (entries .entry)) (view self) t) ⌝ }
+    {
+        if self.runner == NO_RANK {
+            return self.with_status(CALL_LEVEL);
+        }
+        if tables as u32 <= t {
+            return self.with_status(NO_SUCH);
+        }
+        let i = t as usize;
+        let mut on = self.on;
+        let from = byte_at(first, i, 0) as usize;
+        if !is_on(&on, from) {
+            return self.with_status(NO_FUNCTION);
+        }
+        let n = byte_at(entries, i, 0) as usize;
+        let mut counter = self.counter;
+        stop_counters(from, n, &mut counter);
+        switch(from, n, OFF, &mut on);
+        self.counter = counter;
+        self.on = on;
+        self.with_status(DONE)
+    }
+}
+
+// Whether the cell of this entry is on.
+fn is_on(on: &[u16; 64], e: usize) -> bool
+    ensures { λ r. ⌜ r ≡ isOn (getD (now (on .entry)) e 0) ⌝ }
+{
+    short_at(on, e) != OFF
+}
+
+// A delay of 0, or one that with the table's smallest offset is above 65,535.
+fn is_bad_delay(d: u32, smallest: u16) -> bool
+    ensures { λ r. ⌜ r ≡ eqb d 0 || ltb longestDelay (d + smallest) ⌝ }
+{
+    d == 0 || 65535 < d as u64 + smallest as u64
+}

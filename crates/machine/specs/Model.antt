@@ -1,0 +1,106 @@
+-- The machine's model, with one part changed at a time.
+--
+-- Bodies stand in it by their rank among the priorities, so that a greater rank is a greater priority. `noRank` in the place of a runner says
+-- that nobody runs. Assumes nothing.
+use Prim.Native.Nat.{ℕ}
+use mathlib.Core.Bool.{Bool, false}
+use mathlib.Core.List.{List}
+use Rattle.stack.specs.declared.Row.{Row}
+use Rattle.stack.specs.Stack.{none}
+
+-- The words, who runs and at which level: `request` has the ranks that wait to begin, `started` those that began and have not ended.
+pub record Core : Type 0 where
+  pub request : ℕ
+  pub started : ℕ
+  pub runner : ℕ
+  pub level : ℕ
+
+-- a core after arbitration, and whether a body began
+pub record Picked : Type 0 where
+  pub core : Core
+  pub begun : Bool
+
+-- What the machine keeps between events. `held`: the held resources as a word; `resource`, `holder`, `raised`: in the order taken, the
+-- latest on top, each with its holder's rank and the level after its Get. `counter` and `on` are the cells, and `turning` says whether any of
+-- them has a turn of its counter to pass; `losses` are the lost activations by rank.
+pub record Model : Type 0 where
+  pub core : Core
+  pub held : ℕ
+  pub resource : Row
+  pub holder : Row
+  pub raised : Row
+  pub counter : List ℕ
+  pub on : List ℕ
+  pub turning : Bool
+  pub losses : List ℕ
+
+-- the next model with its answer
+pub record Outcome : Type 0 where
+  pub model : Model
+  pub status : ℕ
+  pub begun : Bool
+
+-- no body: neither a rank nor a body's number; it is what lies past the bottom of the row of held resources
+abbrev pub noRank : ℕ
+noRank = none
+
+abbrev pub withCore : Model → Core → Model
+withCore m k =
+    record {
+      core = k;
+      held = m .held;
+      resource = m .resource;
+      holder = m .holder;
+      raised = m .raised;
+      counter = m .counter;
+      on = m .on;
+      turning = m .turning;
+      losses = m .losses;
+    }
+
+-- the core with other requests
+abbrev pub withRequest : Core → ℕ → Core
+withRequest k w = record { request = w; started = k .started; runner = k .runner; level = k .level }
+
+abbrev pub withLevel : Core → ℕ → Core
+withLevel k l = record { request = k .request; started = k .started; runner = k .runner; level = l }
+
+-- another level, and other held resources: w as a word, the rows rs, hs and ls with their holders and levels
+abbrev pub withSlots : Model → ℕ → ℕ → Row → Row → Row → Model
+withSlots m l w rs hs ls =
+    record {
+      core = withLevel (m .core) l;
+      held = w;
+      resource = rs;
+      holder = hs;
+      raised = ls;
+      counter = m .counter;
+      on = m .on;
+      turning = m .turning;
+      losses = m .losses;
+    }
+
+-- other counters, switches with or without a turn to pass, and losses
+abbrev pub withRest : Model → List ℕ → List ℕ → Bool → List ℕ → Model
+withRest m ns os w ls =
+    record {
+      core = m .core;
+      held = m .held;
+      resource = m .resource;
+      holder = m .holder;
+      raised = m .raised;
+      counter = ns;
+      on = os;
+      turning = w;
+      losses = ls;
+    }
+
+abbrev pub withCells : Model → List ℕ → List ℕ → Bool → Model
+withCells m ns os w = withRest m ns os w (m .losses)
+
+-- an event that is done, and one that is refused with a status
+abbrev pub doneWith : Model → Bool → Outcome
+doneWith m begun = record { model = m; status = 0; begun = begun }
+
+abbrev pub refusedWith : Model → ℕ → Outcome
+refusedWith m st = record { model = m; status = st; begun = false }

@@ -1,0 +1,79 @@
+-- What the run's input is, by its checks in order, and what the run returns and leaves for each.
+--
+--   config-refused .. all-readable   what the input is
+--   Ran cs ts d r d₁                 the run of cs and ts on the slice d returns r and leaves d₁
+--   ran-refused, ran-short, ran-whole   its ways out
+--
+-- Assumes nothing.
+use Prim.Native.Nat.{ℕ, _+_, _*_, _≤_, _<_}
+use mathlib.Core.Path.{_≡_, sym, ap, _∙_}
+use mathlib.Core.List.{List}
+use native.Mathlib.Omega.{arith}
+use borrow.Author.Tests.{le-leb, lt-leb, eq-eqb, ne-eqb}
+use lib.ListN.{length}
+use Rattle.number.specs.Refusal.{none, noRoom}
+use Rattle.number.specs.Output.{written, packed}
+use Rattle.config.specs.declared.Config.{Config}
+use Rattle.config.specs.Accepted.{Accepted, Shaped}
+use Rattle.config.specs.Reader.{readConfig}
+use Rattle.event.specs.Refusal.{traceTooLong}
+use Rattle.event.specs.Trace.{maxTrace, readTrace}
+use Rattle.plan.specs.Plan.{planOf}
+use Rattle.scheduler.specs.Scheduler.{Event}
+use Rattle.run.specs.Run.{callsOf, refused, played, readRun, answers, resultOf, outputOf, runResult, runOutput}
+use Rattle.run.specs.Steps.{machineAnswers, machineOutputOf, machineOutput}
+use Rattle.run.proofs.Answers.{answers-same, length-answers}
+
+-- what the run's input is, by its checks in order
+module _ (cs ts : List ℕ) where
+  pub config-refused : (readConfig cs .refusal ≡ none → ⊥) → readRun cs ts ≡ refused (readConfig cs .refusal) (readConfig cs .place)
+  unfolding readRun
+  config-refused n = rw (ne-eqb (readConfig cs .refusal) none n)
+
+  module _ (ok : readConfig cs .refusal ≡ none) where
+    pub trace-too-long : maxTrace < length ts → readRun cs ts ≡ refused traceTooLong 0
+    unfolding readRun
+    trace-too-long h = rw (eq-eqb (readConfig cs .refusal) none ok, lt-leb (length ts) maxTrace h)
+
+    module _ (short : length ts ≤ maxTrace) where
+      pub trace-refused : (readTrace ts .refusal ≡ none → ⊥) → readRun cs ts ≡ refused (readTrace ts .refusal) (readTrace ts .place)
+      unfolding readRun
+      trace-refused n = rw (eq-eqb (readConfig cs .refusal) none ok, le-leb (length ts) maxTrace short, ne-eqb (readTrace ts .refusal) none n)
+
+      pub all-readable : readTrace ts .refusal ≡ none → readRun cs ts ≡ played (readConfig cs .config) (callsOf ts)
+      unfolding readRun
+      all-readable e = rw (eq-eqb (readConfig cs .refusal) none ok, le-leb (length ts) maxTrace short, eq-eqb (readTrace ts .refusal) none e)
+
+-- the run's contract: r is what it returns, and d₁ what it leaves where d was
+pub record Ran (cs ts d : List ℕ) (r : ℕ) (d₁ : List ℕ) : Type 0 where
+  pub result : r ≡ runResult cs ts (length d)
+  pub output : d₁ ≡ runOutput cs ts d
+  pub steps : d₁ ≡ machineOutput cs ts d
+
+module _ (cs ts d : List ℕ) where
+  pub ran-refused : (r p x : ℕ) → readRun cs ts ≡ refused r p → x ≡ packed r p → Ran cs ts d x d
+  unfolding resultOf outputOf machineOutputOf
+  ran-refused r p x e same = record { result = same ∙ sym (ap (resultOf (length d)) e); output = sym (ap (outputOf d) e); steps = sym (ap (machineOutputOf d) e) }
+
+  module _ (c : Config) (ok : Accepted c) (shaped : Shaped c) (es : List Event) (e : readRun cs ts ≡ played c es) where
+    pub ran-short : (need x : ℕ) → need ≡ 4 * length es + 2 * c .bodies → length d < need → x ≡ packed noRoom need → Ran cs ts d x d
+    unfolding resultOf outputOf machineOutputOf written
+    ran-short need x long short same =
+        let size : length (answers c es) ≡ need = length-answers c ok shaped es ∙ sym long in
+        let size′ : length (machineAnswers c (planOf c) es) ≡ need = ap length (answers-same c ok shaped es) ∙ size in
+        record {
+          result = same ∙ sym (ap (resultOf (length d)) e ∙ rw (size, lt-leb need (length d) short));
+          output = sym (ap (outputOf d) e ∙ rw (size, lt-leb need (length d) short));
+          steps = sym (ap (machineOutputOf d) e ∙ rw (size′, lt-leb need (length d) short));
+        }
+
+    pub ran-whole : (x : ℕ) (d₁ : List ℕ) → 4 * length es + 2 * c .bodies ≤ length d → x ≡ length es
+        → d₁ ≡ written (machineAnswers c (planOf c) es) d → Ran cs ts d x d₁
+    unfolding resultOf outputOf machineOutputOf
+    ran-whole x d₁ room count wrote =
+        let fits : length (answers c es) ≤ length d = omega (arith, length-answers c ok shaped es) in
+        record {
+          result = count ∙ sym (ap (resultOf (length d)) e ∙ rw (le-leb (length (answers c es)) (length d) fits));
+          output = wrote ∙ ap (λ (l : List ℕ). written l d) (answers-same c ok shaped es) ∙ sym (ap (outputOf d) e);
+          steps = wrote ∙ sym (ap (machineOutputOf d) e);
+        }

@@ -1,0 +1,6 @@
+-- The laws of the run. `Theorems` is the file to read; `Worked` has the run on bytes, computed, and `Edges` document 01's edges P1 to P13.
+pub mod Theorems
+pub mod Worked
+pub mod Edges
+pub mod Answers
+pub mod Input

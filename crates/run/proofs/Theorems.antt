@@ -1,0 +1,90 @@
+-- What the crate shows of the run, for every input. Each law stands here in full, over specs/ alone.
+--
+-- In order: how many bytes the answers take; that refusal and place can be split again. `Worked` has the run on bytes, computed, and `Edges`
+-- P1 to P13. Assumes nothing.
+use Prim.Native.Nat.{ℕ, _+_, _*_, _/_, _%_, _≤_, _<_}
+use mathlib.Core.Path.{_≡_, refl, sym, ap, _∙_}
+use mathlib.Core.List.{List}
+use native.Mathlib.Omega.{arith}
+use borrow.Author.Tests.{le-leb, lt-leb}
+use lib.ListN.{length, length-map}
+use Rattle.number.specs.Refusal.{none, noRoom}
+use Rattle.number.specs.Output.{packed}
+use Rattle.number.proofs.Cases.{by-lt, by-eq}
+use Rattle.config.specs.declared.Config.{Config}
+use Rattle.config.specs.Reader.{readConfig, maxLength}
+use Rattle.config.proofs.Theorems.{reading, accepted-ranges}
+use Rattle.event.specs.Trace.{maxTrace, readTrace}
+use Rattle.event.proofs.Theorems.{trace-reading}
+use Rattle.scheduler.specs.Scheduler.{Event}
+use Rattle.run.specs.Run.{callOf, callsOf, Input, refused, played, readRun, answers, resultOf, runResult}
+use Rattle.run.proofs.Answers.{length-answers}
+use Rattle.run.proofs.Input.{config-refused, trace-too-long, trace-refused, all-readable}
+
+-- how many values a place has in a result
+abbrev pub places : ℕ
+places = 4294967296
+
+-- what holds of a run's input: a refusal's place is below that; of a trace that is played, the events and the bytes of their answers are few
+unfoldable pub Bounded : Input → Type 0
+Bounded (refused r p) = p < places
+Bounded (played c es) = (length es ≤ 8192) × (length (answers c es) ≤ 32832)
+
+-- a configuration that is looked at is short
+config-place-lt : (cs : List ℕ) → readConfig cs .place < places
+unfolding readConfig
+config-place-lt cs = by-lt maxLength (length cs) too-long (λ h. omega (arith, reading cs .inside))
+  where
+    too-long : maxLength < length cs → readConfig cs .place < places
+    too-long h = rw (lt-leb (length cs) maxLength h) (omega arith)
+
+-- every input, by the run's checks in order
+pub input-bounded : (cs ts : List ℕ) → Bounded (readRun cs ts)
+unfolding Bounded
+input-bounded cs ts =
+    by-eq (readConfig cs .refusal) none
+    (λ ok. by-lt maxTrace (length ts)
+    (λ long. rw (trace-too-long cs ts ok long) (omega arith))
+    (λ short. by-eq (readTrace ts .refusal) none
+    (λ fine. rw (all-readable cs ts ok short fine) (few ok short, answers-few ok short))
+    (λ bad. rw (trace-refused cs ts ok short bad) (omega (arith, trace-reading ts 0 (omega arith) .place-le)))))
+    (λ bad. rw (config-refused cs ts bad) (config-place-lt cs))
+  where
+    few : readConfig cs .refusal ≡ none → length ts ≤ maxTrace → length (callsOf ts) ≤ 8192
+    few ok short = omega (arith, length-map (readTrace ts .events) callOf, trace-reading ts 0 (omega arith) .few)
+
+    answers-few : readConfig cs .refusal ≡ none → length ts ≤ maxTrace → length (answers (readConfig cs .config) (callsOf ts)) ≤ 32832
+    answers-few ok short =
+        omega (arith, length-answers (readConfig cs .config) (accepted-ranges cs ok) (reading cs .shaped) (callsOf ts), accepted-ranges cs ok .few-bodies, few ok short)
+
+-- "A trace of at most 8,192 bytes needs at most 32,832"
+pub room-enough : (cs ts : List ℕ) (c : Config) (es : List Event) → readRun cs ts ≡ played c es → length (answers c es) ≤ 32832
+unfolding Bounded
+room-enough cs ts c es e = (rw e at (input-bounded cs ts)) .1
+
+-- a result is split as the header does it: the high half is the refusal, the low half its place or the number of events
+abbrev pub highHalf : ℕ → ℕ
+highHalf n = n / places
+
+abbrev pub lowHalf : ℕ → ℕ
+lowHalf n = n % places
+
+split : (r p : ℕ) → p < places → (highHalf (packed r p) ≡ r) × (lowHalf (packed r p) ≡ p)
+split r p h = (omega arith, omega arith)
+
+pub refused-split : (cs ts : List ℕ) (n r p : ℕ) → readRun cs ts ≡ refused r p
+    → (highHalf (runResult cs ts n) ≡ r) × (lowHalf (runResult cs ts n) ≡ p)
+unfolding Bounded resultOf
+refused-split cs ts n r p e = rw e (split r p (rw e at (input-bounded cs ts)))
+
+module _ (cs ts : List ℕ) (n : ℕ) (c : Config) (es : List Event) (e : readRun cs ts ≡ played c es) where
+  pub short-split : n < length (answers c es)
+      → (highHalf (runResult cs ts n) ≡ 30) × (lowHalf (runResult cs ts n) ≡ length (answers c es))
+  unfolding Bounded resultOf
+  short-split less = rw (e, lt-leb (length (answers c es)) n less) (split noRoom (length (answers c es)) (omega (arith, room-enough cs ts c es e)))
+
+  pub played-split : length (answers c es) ≤ n → (highHalf (runResult cs ts n) ≡ 0) × (lowHalf (runResult cs ts n) ≡ length es)
+  unfolding Bounded resultOf
+  played-split room =
+      let few : length es ≤ 8192 = (rw e at (input-bounded cs ts)) .0 in
+      rw (e, le-leb (length (answers c es)) n room) (omega arith, omega arith)

@@ -1,0 +1,67 @@
+//! The commands, one a file, and the table of them.
+
+mod asm;
+mod cases;
+mod compare;
+mod dump;
+mod explain;
+mod run;
+mod timeline;
+
+use std::fmt::Write;
+
+use crate::failure::{Ending, Failure, EXIT_STATUSES};
+use crate::options::{Accepts, Options};
+
+pub struct Command {
+    pub name: &'static str,
+    /// What follows the name on a command line: in short, and in full.
+    brief: &'static str,
+    usage: &'static [&'static str],
+    /// One line for the overview.
+    summary: &'static str,
+    details: &'static str,
+    pub accepts: Accepts,
+    pub run: fn(&Options) -> Result<Ending, Failure>,
+}
+
+const COMMANDS: [&Command; 7] = [
+    &run::COMMAND,
+    &explain::COMMAND,
+    &timeline::COMMAND,
+    &asm::COMMAND,
+    &dump::COMMAND,
+    &cases::COMMAND,
+    &compare::COMMAND,
+];
+
+const INPUTS: &str = "\
+CONFIG and TRACE are files of bytes or of the text form, told apart by their content. One text that holds both, with
+a line `trace` between, may stand for the two. docs/TEXT.md has the text form.
+";
+
+impl Command {
+    pub fn help(&self) -> String {
+        let usage: Vec<String> = self.usage.iter().map(|usage| format!("osek {} {usage}", self.name)).collect();
+        let inputs = if self.accepts.files.contains(&"TRACE") { format!("{INPUTS}\n") } else { String::new() };
+        format!("usage: {}\n\n{}\n{inputs}{EXIT_STATUSES}", usage.join("\n       "), self.details)
+    }
+}
+
+pub fn find(name: &str) -> Result<&'static Command, Failure> {
+    let found = COMMANDS.iter().find(|command| command.name == name);
+    found.copied().ok_or_else(|| Failure::Usage(format!("unknown command {name}\n\n{}", overview())))
+}
+
+/// What `osek --help` says.
+pub fn overview() -> String {
+    let mut text = String::from("usage: osek COMMAND ..\n\nThe bench tool over the proved OSEK reference.\n\n");
+    for Command { name, brief, summary, .. } in COMMANDS {
+        let _ = writeln!(text, "  {:<28}{summary}", format!("{name} {brief}"));
+    }
+    text.push_str("\nosek COMMAND --help says more of each.\n\n");
+    text.push_str(INPUTS);
+    text.push('\n');
+    text.push_str(EXIT_STATUSES);
+    text
+}

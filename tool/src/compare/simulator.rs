@@ -1,0 +1,208 @@
+//! Runs a simulator as a process on a case.
+
+use std::fs;
+use std::io::{ErrorKind, Read};
+use std::os::unix::process::{CommandExt, ExitStatusExt};
+use std::path::{Path, PathBuf};
+use std::process::{Child, Command, ExitStatus, Stdio};
+use std::sync::mpsc;
+use std::thread;
+use std::time::{Duration, Instant};
+
+use osek_tests::cases::Case;
+
+use super::library;
+use crate::failure::{self, Failure};
+
+/// Which simulator.
+pub enum Subject {
+    /// A command line that is given two file names and prints the output's bytes or the listing.
+    Command(String),
+    /// A shared library that exports `osek_run`.
+    Library(String),
+}
+
+/// What it said.
+#[derive(Clone, PartialEq, Eq, Debug)]
+pub enum Reply {
+    /// A listing, or a line `refused CODE PLACE`.
+    Listing(String),
+    /// The output's bytes.
+    Output(Vec<u8>),
+    /// A library's result and its whole output buffer.
+    Call(u64, Vec<u8>),
+    /// It gave no answer at all, and why.
+    Nothing(String),
+}
+
+pub struct Simulator {
+    subject: Subject,
+    timeout: Duration,
+    folder: Scratch,
+}
+
+/// More than the longest listing.
+const REPLY_MAX: u64 = 1 << 20;
+/// What is kept of standard error.
+const COMPLAINT_MAX: u64 = 4_096;
+
+/// Exit statuses with which a shell says that it can't start a command.
+const NOT_STARTED: [i32; 2] = [126, 127];
+
+impl Simulator {
+    pub fn new(subject: Subject, timeout: Duration) -> Result<Simulator, Failure> {
+        Ok(Simulator { subject, timeout, folder: Scratch::new()? })
+    }
+
+    pub fn subject(&self) -> &Subject {
+        &self.subject
+    }
+
+    pub fn run(&self, case: &Case) -> Result<Reply, Failure> {
+        let (config, trace) = (self.folder.0.join("config.bin"), self.folder.0.join("trace.bin"));
+        for (file, bytes) in [(&config, &case.config), (&trace, &case.trace)] {
+            fs::write(file, bytes).map_err(|error| Failure::write(&file.display().to_string(), &error))?;
+        }
+        let said = self.process(&config, &trace, case)?;
+        Ok(match (&self.subject, said.failed) {
+            (_, Some(why)) => Reply::Nothing(why),
+            (Subject::Command(_), None) => printed(said.out),
+            (Subject::Library(_), None) => match library::reply(&said.out) {
+                Some((result, out)) => Reply::Call(result, out),
+                None => Reply::Nothing(said.complaint),
+            },
+        })
+    }
+
+    fn process(&self, config: &Path, trace: &Path, case: &Case) -> Result<Said, Failure> {
+        let mut command = match &self.subject {
+            Subject::Command(line) => {
+                let mut shell = Command::new("sh");
+                shell.arg("-c").arg(format!("{line} \"$@\"")).arg("sh").args([config, trace]);
+                shell
+            }
+            Subject::Library(file) => {
+                let own = std::env::current_exe().map_err(|error| cant_start(&failure::reason(&error)))?;
+                let mut caller = Command::new(own);
+                caller.args([library::CALL, file]).args([config, trace]);
+                caller.args([case.out_len.to_string(), case.fill.to_string()]);
+                caller
+            }
+        };
+        // A group of its own, so that all of it can be ended.
+        command.process_group(0).stdin(Stdio::null()).stdout(Stdio::piped()).stderr(Stdio::piped());
+        let child = command.spawn().map_err(|error| cant_start(&failure::reason(&error)))?;
+        let said = listen(child, self.timeout);
+        if let (Subject::Command(_), Some(code)) = (&self.subject, said.exit.and_then(|exit| exit.code())) {
+            if NOT_STARTED.contains(&code) {
+                return Err(cant_start(said.complaint.trim_end()));
+            }
+        }
+        Ok(said)
+    }
+}
+
+fn cant_start(why: &str) -> Failure {
+    Failure::Input(format!("the simulator can't be started: {why}"))
+}
+
+/// A listing begins with its header or with `refused`; no status has the number of an s or an r.
+fn printed(bytes: Vec<u8>) -> Reply {
+    let is_listing = bytes.starts_with(b"step ") || bytes.starts_with(b"refused ");
+    match String::from_utf8(bytes) {
+        Ok(text) if is_listing => Reply::Listing(text),
+        Ok(text) => Reply::Output(text.into_bytes()),
+        Err(other) => Reply::Output(other.into_bytes()),
+    }
+}
+
+struct Said {
+    out: Vec<u8>,
+    complaint: String,
+    exit: Option<ExitStatus>,
+    /// Why there is no answer.
+    failed: Option<String>,
+}
+
+/// Reads what a process says until it ends, or ends it when its time is up.
+fn listen(mut child: Child, timeout: Duration) -> Said {
+    let begin = Instant::now();
+    let (sender, out) = mpsc::channel();
+    let pipe = child.stdout.take();
+    thread::spawn(move || sender.send(read_some(pipe, REPLY_MAX)));
+    let (sender, complaint) = mpsc::channel();
+    let pipe = child.stderr.take();
+    thread::spawn(move || sender.send(read_some(pipe, COMPLAINT_MAX)));
+    let out = out.recv_timeout(timeout).ok();
+    let exit = if out.is_some() { ended(&mut child, begin, timeout) } else { None };
+    end_group(&child);
+    let _ = child.wait();
+    let complaint = complaint.recv_timeout(Duration::from_secs(1)).unwrap_or_default();
+    let complaint = String::from_utf8_lossy(&complaint).into_owned();
+    let failed = match (&out, exit) {
+        (Some(bytes), _) if bytes.len() as u64 > REPLY_MAX => Some(format!("it gave more than {REPLY_MAX} bytes")),
+        (_, None) => Some(format!("it did not end within {} s", timeout.as_secs())),
+        (_, Some(exit)) => exit.signal().map(|signal| format!("it was ended by signal {signal}")),
+    };
+    let failed = failed.or_else(|| {
+        let silent = out.as_ref().is_none_or(Vec::is_empty);
+        silent.then(|| match complaint.lines().last() {
+            Some(last) => format!("it printed nothing, and on standard error: {last}"),
+            None => "it printed nothing".into(),
+        })
+    });
+    Said { out: out.unwrap_or_default(), complaint, exit, failed }
+}
+
+/// At most one byte more than `most`.
+fn read_some(pipe: Option<impl Read>, most: u64) -> Vec<u8> {
+    let mut bytes = Vec::new();
+    if let Some(pipe) = pipe {
+        // What was read before an error is what there is.
+        let _ = pipe.take(most + 1).read_to_end(&mut bytes);
+    }
+    bytes
+}
+
+/// The exit status of a process that has closed its output.
+fn ended(child: &mut Child, begin: Instant, timeout: Duration) -> Option<ExitStatus> {
+    loop {
+        match child.try_wait() {
+            Ok(Some(exit)) => return Some(exit),
+            Ok(None) if begin.elapsed() < timeout => thread::sleep(Duration::from_micros(200)),
+            _ => return None,
+        }
+    }
+}
+
+fn end_group(child: &Child) {
+    extern "C" {
+        fn kill(process: i32, signal: i32) -> i32;
+    }
+    const SIGKILL: i32 = 9;
+    // The group was made for this child alone; where it has ended already nothing happens.
+    unsafe { kill(-(child.id() as i32), SIGKILL) };
+}
+
+/// A folder for the files of one comparison, removed at its end.
+struct Scratch(PathBuf);
+
+impl Scratch {
+    fn new() -> Result<Scratch, Failure> {
+        let names = (0..).map(|number| format!("osek-compare-{}-{number}", std::process::id()));
+        for path in names.map(|name| std::env::temp_dir().join(name)) {
+            match fs::create_dir(&path) {
+                Ok(()) => return Ok(Scratch(path)),
+                Err(error) if error.kind() == ErrorKind::AlreadyExists => {}
+                Err(error) => return Err(Failure::write(&path.display().to_string(), &error)),
+            }
+        }
+        unreachable!("the names have no end")
+    }
+}
+
+impl Drop for Scratch {
+    fn drop(&mut self) {
+        let _ = fs::remove_dir_all(&self.0);
+    }
+}

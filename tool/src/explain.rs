@@ -1,0 +1,160 @@
+//! A refusal as sentences: what stands where, what was allowed, and the bytes around the place.
+
+use std::fmt::Write;
+
+use osek_tests::compare::hex;
+
+use crate::fields;
+use crate::input::{Pair, Source};
+use crate::layout::{self, Break, Field, TraceField};
+use crate::names::Names;
+use crate::reference::Refused;
+use crate::words::{self, counted, grouped, About, Part};
+
+/// A sentence, and the bytes that it is about.
+struct Told {
+    sentence: String,
+    from: usize,
+    to: usize,
+}
+
+/// The refusal of a pair, in full.
+pub fn refusal(pair: &Pair, refused: Refused) -> String {
+    let Refused { code, place } = refused;
+    let Some(word) = words::refusal(code) else {
+        return refused.line();
+    };
+    let place = place as usize;
+    let mut text = format!("refused {code} {place}: {}\n", word.meaning);
+    let (config, trace) = (&pair.config.source, &pair.trace);
+    let of = |part: Part| if part == Part::Config { config } else { trace };
+    match word.about {
+        About::Unread(Part::Config) => tell(&mut text, config, unread_field(&config.bytes, &pair.config.names)),
+        About::Unread(Part::Trace) | About::UnknownEvent => tell(&mut text, trace, unread_event(&trace.bytes)),
+        About::Range | About::PriorityUsed | About::EntryOrder | About::EntryTotal => {
+            tell(&mut text, config, not_allowed(&config.bytes, word.about, place, &pair.config.names));
+        }
+        About::LeftOver => tell(&mut text, config, left_over(&config.bytes, place)),
+        About::TooLong(part) => {
+            _ = writeln!(text, "{} has {}.", of(part).file, counted(of(part).bytes.len(), "byte"));
+        }
+        About::Output => _ = writeln!(text, "The output needs {}.", counted(place, "byte")),
+        About::Unreadable(_) => {}
+    }
+    text
+}
+
+/// A sentence with its file, its line in a text, and its bytes marked among their neighbours.
+fn tell(text: &mut String, source: &Source, told: Option<Told>) {
+    let Some(Told { sentence, from, to }) = told else { return };
+    let _ = match source.position(from) {
+        Some(position) => writeln!(text, "{}:{}:{}: {sentence}", source.file, position.line, position.column),
+        None => writeln!(text, "{}, offset {from}: {sentence}", source.file),
+    };
+    marked(text, &source.bytes, from, to);
+}
+
+/// The configuration's number that can't be read.
+fn unread_field(bytes: &[u8], names: &Names) -> Option<Told> {
+    let (field, why) = layout::config(bytes).broken?;
+    Some(unread(bytes, &fields::name(field, names), why))
+}
+
+/// The number of the configuration at `place`, its value, and what was allowed.
+fn not_allowed(bytes: &[u8], about: About, place: usize, names: &Names) -> Option<Told> {
+    let layout::Config { numbers, objects, .. } = layout::config(bytes);
+    let (field, number) = *numbers.iter().find(|(_, number)| number.offset == place)?;
+    let usual = fields::allowed(field, &objects, names);
+    let allowed = match (about, field) {
+        (About::PriorityUsed, _) => match fields::priority_owner(&objects, number.value, names) {
+            Some(owner) => format!("{usual}; {owner} has this one already"),
+            None => usual,
+        },
+        (About::EntryOrder, Field::Task(table, entry)) => {
+            let entries = &objects.tables.get(table)?.entries;
+            let (before, this) = (entries.get(entry.checked_sub(1)?)?, entries.get(entry)?);
+            let words = |entry: &layout::Entry| format!("offset {}, task {}", entry.offset, names.body(entry.task));
+            let rule = "an entry after the one before it, rising by offset, then by task, none twice";
+            format!("{rule}; {} does not come after {}", words(this), words(before))
+        }
+        (About::EntryTotal, Field::EntryCount(table)) => fields::entries_left(&objects, table),
+        _ => usual,
+    };
+    let sentence = format!("{} is {}. Allowed: {allowed}.", fields::name(field, names), grouped(number.value.into()));
+    Some(Told { sentence, from: number.offset, to: number.end })
+}
+
+fn left_over(bytes: &[u8], place: usize) -> Option<Told> {
+    let left = bytes.len().checked_sub(place)?;
+    let follow = if left == 1 { "follows" } else { "follow" };
+    let sentence = format!("the configuration is complete here, and {} more {follow}.", counted(left, "byte"));
+    Some(Told { sentence, from: place, to: bytes.len() })
+}
+
+/// The trace's number that can't be read, or is no event's code.
+fn unread_event(bytes: &[u8]) -> Option<Told> {
+    let read = layout::trace(bytes);
+    let step = read.events.len();
+    let (field, why) = read.broken?;
+    let name = match field {
+        TraceField::Code => format!("the code of event {step}"),
+        TraceField::Argument(word, sort) => format!("the {} of event {step} {}", sort.name(), word.name),
+    };
+    let Break::UnknownEvent(code) = why else {
+        return Some(unread(bytes, &name, why));
+    };
+    let codes = || words::EVENTS.iter().map(|event| event.code);
+    let (first, last) = (codes().min().unwrap_or(0), codes().max().unwrap_or(0));
+    let sentence = format!("{name} is {}. Allowed: {first} to {last}.", grouped(code.value.into()));
+    Some(Told { sentence, from: code.offset, to: code.end })
+}
+
+/// The most bytes of a number, and the greatest that the last of them may be.
+const NUMBER_MAX: usize = 5;
+const FIFTH_MAX: u8 = 15;
+
+/// A number that can't be read.
+fn unread(bytes: &[u8], name: &str, why: Break) -> Told {
+    let from = why.offset().min(bytes.len());
+    let rest = &bytes[from..];
+    let groups = rest.iter().take(NUMBER_MAX - 1).take_while(|byte| **byte >= 0x80).count() + 1;
+    let number = &rest[..groups.min(rest.len())];
+    let shown = hex(number);
+    let sentence = match (why, number) {
+        (_, []) => format!("{name} is missing: the input ends here."),
+        (Break::Cut(_), _) => {
+            format!("{name} is not complete: after {shown} the input ends, and the last byte of a number is below 80.")
+        }
+        (_, [_, _, _, _, fifth]) if *fifth > FIFTH_MAX => {
+            format!("{name} is above 4,294,967,295: {shown} is refused, a fifth byte may be at most {FIFTH_MAX:02X}.")
+        }
+        _ => format!(
+            "{name} is not a number in its shortest form: {shown} is refused, its last byte is 00, so it would be \
+             shorter without it."
+        ),
+    };
+    Told { sentence, from, to: from + number.len() }
+}
+
+/// Bytes in a row of the excerpt.
+const ROW: usize = 16;
+
+/// The row of the bytes at the place, with the row before and after, and marks below the number.
+fn marked(text: &mut String, bytes: &[u8], place: usize, end: usize) {
+    let row = place / ROW;
+    let first = row.saturating_sub(1);
+    for at in first..=row + 1 {
+        let start = at * ROW;
+        if start > bytes.len() || (start == bytes.len() && at != row) {
+            break;
+        }
+        let shown = &bytes[start..bytes.len().min(start + ROW)];
+        let _ = writeln!(text, "  {}", format!("{start:>6}  {}", hex(shown)).trim_end());
+        let marks: String = (start..start + ROW)
+            .map(|offset| if (place..end.max(place + 1)).contains(&offset) { "^^ " } else { "   " })
+            .collect();
+        if !marks.trim().is_empty() {
+            let _ = writeln!(text, "          {}", marks.trim_end());
+        }
+    }
+}

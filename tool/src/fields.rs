@@ -1,0 +1,116 @@
+//! The fields of a configuration in words: what each is called, what a value means, and what was allowed. The library
+//! alone decides what is allowed; here it is only said.
+
+use osek_tests::fast::{
+    BODIES_MAX, ENTRIES_MAX, PRIORITY_MAX, RESOURCES_MAX, TABLES_MAX, TABLE_ENTRIES_MAX, TICKS_MAX,
+};
+
+use crate::layout::{Field, Objects};
+use crate::names::Names;
+use crate::words::{self, grouped, KINDS};
+
+/// A field as a sentence calls it.
+pub fn name(field: Field, names: &Names) -> String {
+    let body = |body: usize| numbered("body", body, names.bodies.get(body));
+    let resource = |resource: usize| numbered("resource", resource, names.resources.get(resource));
+    let table = |table: usize| numbered("table", table, names.tables.get(table));
+    match field {
+        Field::Version => "the version".into(),
+        Field::BodyCount => "the body count".into(),
+        Field::Kind(at) => format!("the kind of {}", body(at)),
+        Field::Priority(at) => format!("the priority of {}", body(at)),
+        Field::Autostart(at) => format!("the autostart of {}", body(at)),
+        Field::ResourceCount => "the resource count".into(),
+        Field::Users(at) => format!("the users of {}", resource(at)),
+        Field::TableCount => "the table count".into(),
+        Field::Period(at) => format!("the period of {}", table(at)),
+        Field::EntryCount(at) => format!("the entry count of {}", table(at)),
+        Field::Offset(at, entry) => format!("the offset of entry {entry} of {}", table(at)),
+        Field::Task(at, entry) => format!("the task of entry {entry} of {}", table(at)),
+    }
+}
+
+fn numbered(thing: &str, number: usize, name: Option<&String>) -> String {
+    name.map_or_else(|| format!("{thing} {number}"), |name| format!("{thing} {number} {name}"))
+}
+
+/// A field and its value, for a dump.
+pub fn meaning(field: Field, value: u32, names: &Names) -> String {
+    match field {
+        Field::Version => format!("version {value}"),
+        Field::BodyCount => format!("body count {value}"),
+        Field::Kind(body) => {
+            let kind = words::kind(value).map_or_else(|| "unknown kind".into(), |kind| kind.name.to_string());
+            format!("body {body}: kind {value}, {kind}")
+        }
+        Field::Priority(_) => format!("priority {value}"),
+        Field::Autostart(_) => format!("autostart {value}"),
+        Field::ResourceCount => format!("resource count {value}"),
+        Field::Users(resource) => format!("resource {resource}: users {value:#b}"),
+        Field::TableCount => format!("table count {value}"),
+        Field::Period(table) => format!("table {table}: period {value}"),
+        Field::EntryCount(_) => format!("entry count {value}"),
+        Field::Offset(_, entry) => format!("entry {entry}: offset {value}"),
+        Field::Task(..) => {
+            let name = names.body(value);
+            let known = if name == value.to_string() { String::new() } else { format!(" {name}") };
+            format!("task {value}{known}")
+        }
+    }
+}
+
+/// What a field may be, given the objects before it.
+pub fn allowed(field: Field, objects: &Objects, names: &Names) -> String {
+    match field {
+        Field::Version => "1".into(),
+        Field::BodyCount => format!("1 to {BODIES_MAX}"),
+        Field::Kind(_) => {
+            let kinds: Vec<String> = KINDS.iter().map(|kind| format!("{} ({})", kind.number, kind.name)).collect();
+            words::either(&kinds)
+        }
+        Field::Priority(_) => format!("1 to {PRIORITY_MAX}, each used once"),
+        Field::Autostart(body) => match objects.bodies.get(body).and_then(|body| words::kind(body.kind)) {
+            Some(kind) if !kind.autostarts => format!("0, because it is an {}", kind.name),
+            _ => "0 or 1".into(),
+        },
+        Field::ResourceCount => format!("0 to {RESOURCES_MAX}"),
+        Field::Users(_) => {
+            let last = objects.bodies.len().saturating_sub(1);
+            format!("a mask with bits of the bodies 0 to {last} only, and not 0")
+        }
+        Field::TableCount => format!("0 to {TABLES_MAX}"),
+        Field::Period(_) => format!("1 to {}", grouped(TICKS_MAX.into())),
+        Field::EntryCount(_) => format!("1 to {TABLE_ENTRIES_MAX}"),
+        Field::Offset(table, _) => {
+            let period = objects.tables.get(table).map_or(0, |table| table.period);
+            format!("0 to {}, below the period", grouped(u64::from(period.saturating_sub(1))))
+        }
+        Field::Task(..) => {
+            let allowed: Vec<String> = objects
+                .bodies
+                .iter()
+                .enumerate()
+                .filter(|(_, body)| words::kind(body.kind).is_some_and(|kind| kind.in_tables))
+                .map(|(number, _)| format!("{number} {}", names.body(number as u32)))
+                .collect();
+            match allowed.len() {
+                0 => "the number of a task, and there is none".into(),
+                1..=words::LISTED_MAX => format!("a task: {}", words::either(&allowed)),
+                _ => format!("a task: {}, ..", allowed[..words::LISTED_MAX].join(", ")),
+            }
+        }
+    }
+}
+
+/// The first body that has this priority.
+pub fn priority_owner(objects: &Objects, priority: u32, names: &Names) -> Option<String> {
+    let owner = objects.bodies.iter().position(|body| body.priority == priority)?;
+    Some(numbered("body", owner, names.bodies.get(owner)))
+}
+
+/// How many entries the tables before this one leave it.
+pub fn entries_left(objects: &Objects, table: usize) -> String {
+    let used: usize = objects.tables.iter().take(table).map(|table| table.entries.len()).sum();
+    let left = ENTRIES_MAX.saturating_sub(used);
+    format!("at most {left}, because all tables together have at most {ENTRIES_MAX}")
+}

@@ -1,0 +1,116 @@
+//! The proved run: what it says of a configuration and a trace.
+
+use osek_tests::fast::{IDLE, OUTPUT_MAX};
+use osek_tests::{listing, subject};
+
+/// Bytes of an answer and of a loss count in the output.
+pub const ANSWER_SIZE: usize = 4;
+pub const LOSS_SIZE: usize = 2;
+
+/// What an event gave.
+#[derive(Clone, Copy, PartialEq, Eq, Debug)]
+pub struct Answer {
+    pub status: u8,
+    /// The running body, if one runs.
+    pub runner: Option<u8>,
+    pub level: u8,
+    pub begun: u8,
+}
+
+impl Answer {
+    fn of(bytes: &[u8]) -> Answer {
+        Answer { status: bytes[0], runner: (bytes[1] != IDLE).then_some(bytes[1]), level: bytes[2], begun: bytes[3] }
+    }
+}
+
+/// An accepted run.
+#[derive(Clone, PartialEq, Eq, Debug)]
+pub struct Run {
+    pub answers: Vec<Answer>,
+    /// By body.
+    pub losses: Vec<u16>,
+}
+
+impl Run {
+    /// The run that an output of `events` events says.
+    pub fn of(output: &[u8], events: usize) -> Run {
+        let (answers, losses) = output.split_at(ANSWER_SIZE * events);
+        Run {
+            answers: answers.chunks_exact(ANSWER_SIZE).map(Answer::of).collect(),
+            losses: losses.chunks_exact(LOSS_SIZE).map(|loss| u16::from_le_bytes([loss[0], loss[1]])).collect(),
+        }
+    }
+
+    pub fn output(&self) -> Vec<u8> {
+        let answers = self.answers.iter().flat_map(|a| [a.status, a.runner.unwrap_or(IDLE), a.level, a.begun]);
+        answers.chain(self.losses.iter().flat_map(|loss| loss.to_le_bytes())).collect()
+    }
+}
+
+#[derive(Clone, Copy, PartialEq, Eq, Debug)]
+pub struct Refused {
+    pub code: u32,
+    pub place: u32,
+}
+
+impl Refused {
+    /// `refused CODE PLACE`, as the bench program prints it.
+    pub fn line(self) -> String {
+        format!("refused {} {}\n", self.code, self.place)
+    }
+
+    pub fn result(self) -> u64 {
+        (u64::from(self.code) << 32) + u64::from(self.place)
+    }
+
+    /// The refusal in a result, if it is one.
+    pub fn of(result: u64) -> Option<Refused> {
+        let code = (result >> 32) as u32;
+        (code != 0).then_some(Refused { code, place: result as u32 })
+    }
+}
+
+pub fn run(config: &[u8], trace: &[u8]) -> Result<Run, Refused> {
+    let mut out = vec![0; OUTPUT_MAX];
+    let result = subject::run(config, trace, &mut out);
+    outcome(config, result, &out)
+}
+
+/// What a result and an output say.
+pub fn outcome(config: &[u8], result: u64, out: &[u8]) -> Result<Run, Refused> {
+    match Refused::of(result) {
+        Some(refused) => Err(refused),
+        None => {
+            let events = result as usize;
+            // An accepted configuration's second byte is its body count.
+            let length = ANSWER_SIZE * events + LOSS_SIZE * usize::from(config[1]);
+            Ok(Run::of(&out[..length], events))
+        }
+    }
+}
+
+/// Why the configuration is refused, whatever the trace.
+pub fn config_refusal(config: &[u8]) -> Option<Refused> {
+    run(config, &[]).err()
+}
+
+/// Why the trace is refused over an accepted configuration.
+pub fn trace_refusal(trace: &[u8]) -> Option<Refused> {
+    const ONE_TASK: [u8; 7] = [1, 1, 0, 1, 1, 0, 0];
+    run(&ONE_TASK, trace).err()
+}
+
+/// Who runs after the fresh start of an accepted configuration, and at which level: the answer to a Line that names no
+/// ISR, which changes nothing.
+pub fn fresh_start(config: &[u8]) -> Option<Answer> {
+    const LINE_OF_NOBODY: [u8; 6] = [7, 0xff, 0xff, 0xff, 0xff, 0x0f];
+    run(config, &LINE_OF_NOBODY).ok()?.answers.first().copied()
+}
+
+/// The bench program's listing.
+pub fn listing(config: &[u8], trace: &[u8], outcome: &Result<Run, Refused>) -> String {
+    match outcome {
+        Ok(run) => listing::listing(config, trace, run.answers.len() as u64, &run.output()),
+        Err(refused) => refused.line(),
+    }
+}

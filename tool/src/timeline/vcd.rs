@@ -1,0 +1,132 @@
+//! A timeline as a value change dump (IEEE 1364), with GTKWave's strings for states and names.
+
+use std::fmt::Write;
+
+use super::{Moment, Step, Timeline};
+use crate::words;
+
+/// A variable: its name, its width in bits or none for a string, and its value at each moment.
+struct Variable {
+    scope: &'static str,
+    name: String,
+    width: Option<u32>,
+    values: Vec<String>,
+}
+
+/// Variables that are told apart by short names of printable signs.
+fn identifier(mut index: usize) -> String {
+    const FIRST: u8 = b'!';
+    const COUNT: usize = (b'~' - b'!' + 1) as usize;
+    let mut name = String::new();
+    loop {
+        name.push((FIRST + (index % COUNT) as u8) as char);
+        index /= COUNT;
+        if index == 0 {
+            return name;
+        }
+        index -= 1;
+    }
+}
+
+pub fn write(timeline: &Timeline) -> String {
+    let mut text = String::from(
+        "$comment osek timeline: a tick is 1 ms, and the events between two ticks are spread evenly $end\n\
+         $timescale 1 ns $end\n$scope module osek $end\n",
+    );
+    let variables = variables(timeline);
+    let mut scope = "";
+    for (index, variable) in variables.iter().enumerate() {
+        if variable.scope != scope {
+            if !scope.is_empty() {
+                text.push_str("$upscope $end\n");
+            }
+            scope = variable.scope;
+            let _ = writeln!(text, "$scope module {scope} $end");
+        }
+        let (id, name) = (identifier(index), &variable.name);
+        let _ = match variable.width {
+            None => writeln!(text, "$var string 1 {id} {name} $end"),
+            Some(1) => writeln!(text, "$var wire 1 {id} {name} $end"),
+            Some(width) => writeln!(text, "$var wire {width} {id} {name} [{}:0] $end", width - 1),
+        };
+    }
+    text.push_str("$upscope $end\n$upscope $end\n$enddefinitions $end\n");
+    write_changes(&mut text, timeline, &variables);
+    text
+}
+
+fn write_changes(text: &mut String, timeline: &Timeline, variables: &[Variable]) {
+    let times = timeline.times();
+    text.push_str("#0\n$dumpvars\n");
+    for moment in 0..times.len() {
+        if moment > 0 {
+            let _ = writeln!(text, "#{}", times[moment - 1]);
+        }
+        for (index, variable) in variables.iter().enumerate() {
+            if moment == 0 || variable.values[moment] != variable.values[moment - 1] {
+                let (value, id) = (&variable.values[moment], identifier(index));
+                let _ = match variable.width {
+                    None => writeln!(text, "s{value} {id}"),
+                    Some(1) => writeln!(text, "{value}{id}"),
+                    Some(_) => writeln!(text, "b{value} {id}"),
+                };
+            }
+        }
+        if moment == 0 {
+            text.push_str("$end\n");
+        }
+    }
+    let _ = writeln!(text, "#{}", times[times.len() - 1]);
+}
+
+fn variables(timeline: &Timeline) -> Vec<Variable> {
+    let moments: Vec<&Moment> = timeline.moments().collect();
+    let of_moments = |value: &dyn Fn(&Moment) -> String| moments.iter().map(|moment| value(moment)).collect();
+    // The fresh start is no event: its values of an event's variables are `fresh`.
+    let of_steps = |fresh: &str, value: &dyn Fn(usize, &Step) -> String| {
+        let steps = timeline.steps.iter().enumerate().map(|(index, step)| value(index, step));
+        std::iter::once(fresh.to_string()).chain(steps).collect()
+    };
+    let binary = |value: u32| format!("{value:b}");
+    let names = &timeline.names;
+    let named = |body: Option<u8>| body.map_or_else(|| "-".into(), |body| names.body(body.into()));
+    let mut variables = Vec::new();
+    let mut add = |scope, name: &str, width, values| {
+        variables.push(Variable { scope, name: name.into(), width, values });
+    };
+    add("run", "tick", Some(16), of_steps("0", &|_, step| binary(step.tick)));
+    add("run", "step", Some(16), of_steps("0", &|index, _| binary(index as u32)));
+    add("run", "event", None, of_steps("fresh_start", &|_, step| names.event(&step.event).replace(' ', "_")));
+    add("run", "status", Some(8), of_steps("0", &|_, step| binary(step.answer.status.into())));
+    let status_name = |_: usize, step: &Step| words::status(step.answer.status).unwrap_or("-").to_string();
+    add("run", "status_name", None, of_steps("-", &status_name));
+    add("run", "runner", None, of_moments(&|moment| named(moment.runner)));
+    add("run", "level", Some(8), of_moments(&|moment| binary(moment.level.into())));
+    add("run", "begun", Some(1), of_steps("0", &|_, step| binary(step.answer.begun.into())));
+    for body in timeline.by_priority() {
+        let name = names.body(body as u32);
+        add("states", &name, None, of_moments(&|moment| moment.states[body].word().into()));
+    }
+    for body in timeline.by_priority() {
+        let name = names.body(body as u32);
+        add("requests", &name, Some(1), of_moments(&|moment| binary(moment.requests[body].into())));
+    }
+    for body in timeline.by_priority() {
+        let name = names.body(body as u32);
+        add("losses", &name, Some(16), of_moments(&|moment| binary(moment.losses[body].into())));
+    }
+    variables
+}
+
+#[cfg(test)]
+mod tests {
+    use super::identifier;
+    use std::collections::HashSet;
+
+    #[test]
+    fn identifiers_differ_and_are_printable() {
+        let all: HashSet<String> = (0..20_000).map(identifier).collect();
+        assert_eq!(all.len(), 20_000);
+        assert!(all.iter().all(|id| id.bytes().all(|sign| (b'!'..=b'~').contains(&sign))));
+    }
+}

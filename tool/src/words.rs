@@ -1,0 +1,307 @@
+//! The words of document 01: events, kinds, statuses and refusals, each in one table, and nowhere else in the tool.
+
+/// What a file holds, and a refusal is about.
+#[derive(Clone, Copy, PartialEq, Eq, Debug)]
+pub enum Part {
+    Config,
+    Trace,
+}
+
+/// What an argument of an event names.
+#[derive(Clone, Copy, PartialEq, Eq, Debug)]
+pub enum Sort {
+    Body,
+    Resource,
+    Table,
+    Delay,
+}
+
+impl Sort {
+    pub fn name(self) -> &'static str {
+        match self {
+            Sort::Body => "body",
+            Sort::Resource => "resource",
+            Sort::Table => "table",
+            Sort::Delay => "delay",
+        }
+    }
+}
+
+#[derive(PartialEq, Eq, Debug)]
+pub struct EventWord {
+    pub code: u32,
+    /// As a listing calls it.
+    pub name: &'static str,
+    /// As the text form writes it.
+    pub word: &'static str,
+    pub arguments: &'static [Sort],
+    /// The statuses other than 0 in the order of their checks, each with what it says of this event.
+    pub statuses: &'static [(u8, &'static str)],
+}
+
+impl EventWord {
+    pub fn is_tick(&self) -> bool {
+        self.code == TICK
+    }
+}
+
+const TICK: u32 = 6;
+
+const NOBODY_RUNS: (u8, &str) = (2, "nobody runs");
+const NO_TASK: (u8, &str) = (3, "no task has this number");
+const NO_RESOURCE: (u8, &str) = (3, "no resource has this number");
+const NO_TABLE: (u8, &str) = (3, "no table has this number");
+const NOT_SUSPENDED: (u8, &str) = (4, "the task is not suspended");
+const HOLDS: (u8, &str) = (6, "the running body holds a resource");
+
+pub const EVENTS: [EventWord; 9] = [
+    EventWord {
+        code: 1,
+        name: "Activate",
+        word: "activate",
+        arguments: &[Sort::Body],
+        statuses: &[NOBODY_RUNS, NO_TASK, NOT_SUSPENDED],
+    },
+    EventWord { code: 2, name: "Finish", word: "finish", arguments: &[], statuses: &[NOBODY_RUNS, HOLDS] },
+    EventWord {
+        code: 3,
+        name: "Chain",
+        word: "chain",
+        arguments: &[Sort::Body],
+        statuses: &[(2, "nobody runs, or an ISR does"), NO_TASK, HOLDS, NOT_SUSPENDED],
+    },
+    EventWord {
+        code: 4,
+        name: "Get",
+        word: "get",
+        arguments: &[Sort::Resource],
+        statuses: &[
+            NOBODY_RUNS,
+            NO_RESOURCE,
+            (1, "the resource is held, or the running body's own priority is above its ceiling"),
+        ],
+    },
+    EventWord {
+        code: 5,
+        name: "Release",
+        word: "release",
+        arguments: &[Sort::Resource],
+        statuses: &[NOBODY_RUNS, NO_RESOURCE, (5, "it is not the resource that the running body took last")],
+    },
+    EventWord { code: TICK, name: "Tick", word: "tick", arguments: &[], statuses: &[] },
+    EventWord {
+        code: 7,
+        name: "Line",
+        word: "line",
+        arguments: &[Sort::Body],
+        statuses: &[(3, "no ISR has this number"), (4, "a request of this ISR waits already")],
+    },
+    EventWord {
+        code: 8,
+        name: "Start",
+        word: "start",
+        arguments: &[Sort::Table, Sort::Delay],
+        statuses: &[
+            NOBODY_RUNS,
+            NO_TABLE,
+            (8, "the delay is 0, or with the table's largest offset above 65,535"),
+            (7, "the table already runs"),
+        ],
+    },
+    EventWord {
+        code: 9,
+        name: "Stop",
+        word: "stop",
+        arguments: &[Sort::Table],
+        statuses: &[NOBODY_RUNS, NO_TABLE, (5, "the table is stopped")],
+    },
+];
+
+pub fn event(code: u32) -> Option<&'static EventWord> {
+    EVENTS.iter().find(|event| event.code == code)
+}
+
+pub fn event_named(word: &str) -> Option<&'static EventWord> {
+    EVENTS.iter().find(|event| event.word == word)
+}
+
+/// OSEK's name of each status.
+pub const STATUSES: [(u8, &str); 9] = [
+    (0, "E_OK"),
+    (1, "E_OS_ACCESS"),
+    (2, "E_OS_CALLEVEL"),
+    (3, "E_OS_ID"),
+    (4, "E_OS_LIMIT"),
+    (5, "E_OS_NOFUNC"),
+    (6, "E_OS_RESOURCE"),
+    (7, "E_OS_STATE"),
+    (8, "E_OS_VALUE"),
+];
+
+/// OSEK's name of a status; none if no event gives it.
+pub fn status(number: u8) -> Option<&'static str> {
+    STATUSES.iter().find(|(status, _)| *status == number).map(|(_, name)| *name)
+}
+
+/// A status with its name: `4 E_OS_LIMIT`.
+pub fn status_words(number: u8) -> String {
+    status(number).map_or_else(|| number.to_string(), |name| format!("{number} {name}"))
+}
+
+/// What a status says of an event.
+pub fn status_meaning(event: &EventWord, status: u8) -> &'static str {
+    event.statuses.iter().find(|(number, _)| *number == status).map_or("done", |(_, meaning)| meaning)
+}
+
+/// A kind of body: its number in a configuration, its word in the text form and its name in sentences.
+pub struct KindWord {
+    pub number: u32,
+    pub word: &'static str,
+    pub name: &'static str,
+    /// Whether it may be ready at the fresh start, and whether an entry of a table may name it.
+    pub autostarts: bool,
+    pub in_tables: bool,
+}
+
+pub const KINDS: [KindWord; 2] = [
+    KindWord { number: 0, word: "task", name: "task", autostarts: true, in_tables: true },
+    KindWord { number: 1, word: "isr", name: "ISR", autostarts: false, in_tables: false },
+];
+
+pub fn kind(number: u32) -> Option<&'static KindWord> {
+    KINDS.iter().find(|kind| kind.number == number)
+}
+
+/// What a refusal is about, and with it what its place counts.
+#[derive(Clone, Copy, PartialEq, Eq, Debug)]
+pub enum About {
+    /// A number that can't be read.
+    Unread(Part),
+    /// A number of the configuration that is not allowed: out of its range, or beside the numbers before it.
+    Range,
+    PriorityUsed,
+    EntryOrder,
+    EntryTotal,
+    /// The bytes after the configuration.
+    LeftOver,
+    /// An event's code.
+    UnknownEvent,
+    /// The input as a whole.
+    TooLong(Part),
+    /// The output's length; the place is the bytes needed.
+    Output,
+    /// A file.
+    Unreadable(Part),
+}
+
+pub struct RefusalWord {
+    pub code: u32,
+    pub about: About,
+    pub meaning: &'static str,
+}
+
+const fn refusal_word(code: u32, about: About, meaning: &'static str) -> RefusalWord {
+    RefusalWord { code, about, meaning }
+}
+
+const CUT: &str = "the input ends where a number, or the rest of one, is missing";
+const MALFORMED: &str = "a number is above 4,294,967,295 or not in its shortest form";
+
+/// Those of the run, then those of the bench program.
+pub const REFUSALS: [RefusalWord; 17] = [
+    refusal_word(1, About::Unread(Part::Config), CUT),
+    refusal_word(2, About::Unread(Part::Config), MALFORMED),
+    refusal_word(3, About::Range, "the version is unknown"),
+    refusal_word(4, About::Range, "a count is outside its range"),
+    refusal_word(5, About::Range, "a field is outside its range"),
+    refusal_word(6, About::PriorityUsed, "a priority is used already"),
+    refusal_word(7, About::EntryOrder, "an entry does not come after the one before it"),
+    refusal_word(8, About::EntryTotal, "an entry count takes the total over 64"),
+    refusal_word(9, About::LeftOver, "bytes are left over after the configuration"),
+    refusal_word(10, About::TooLong(Part::Config), "the configuration is longer than 4,096 bytes"),
+    refusal_word(20, About::TooLong(Part::Trace), "the trace is longer than 8,192 bytes"),
+    refusal_word(21, About::Unread(Part::Trace), CUT),
+    refusal_word(22, About::Unread(Part::Trace), MALFORMED),
+    refusal_word(23, About::UnknownEvent, "an event code is unknown"),
+    refusal_word(30, About::Output, "the output is too short"),
+    refusal_word(40, About::Unreadable(Part::Config), "the configuration can't be read"),
+    refusal_word(41, About::Unreadable(Part::Trace), "the trace can't be read"),
+];
+
+/// The refusal of a file that can't be read.
+pub fn unreadable(part: Part) -> u32 {
+    REFUSALS.iter().find(|refusal| refusal.about == About::Unreadable(part)).map_or(0, |refusal| refusal.code)
+}
+
+pub fn refusal(code: u32) -> Option<&'static RefusalWord> {
+    REFUSALS.iter().find(|refusal| refusal.code == code)
+}
+
+/// 65,535 for 65535, as document 01 writes numbers.
+pub fn grouped(number: u64) -> String {
+    let digits = number.to_string();
+    let mut text = String::new();
+    for (index, digit) in digits.chars().enumerate() {
+        if index > 0 && (digits.len() - index).is_multiple_of(3) {
+            text.push(',');
+        }
+        text.push(digit);
+    }
+    text
+}
+
+/// `1 byte`, `2 bytes`, `8,192 bytes`.
+pub fn counted(number: usize, thing: &str) -> String {
+    format!("{} {thing}{}", grouped(number as u64), if number == 1 { "" } else { "s" })
+}
+
+/// `a`, `a or b`, `a, b or c`.
+pub fn either<T: AsRef<str>>(words: &[T]) -> String {
+    match words {
+        [] => String::new(),
+        [word] => word.as_ref().into(),
+        [most @ .., last] => {
+            let most: Vec<&str> = most.iter().map(AsRef::as_ref).collect();
+            format!("{} or {}", most.join(", "), last.as_ref())
+        }
+    }
+}
+
+/// A sentence lists at most so many things, then `..`.
+pub const LISTED_MAX: usize = 8;
+
+#[cfg(test)]
+mod tests {
+    use super::*;
+    use osek_tests::coverage;
+
+    #[test]
+    fn every_event_and_status_that_the_tests_cover_has_its_words() {
+        for (code, name, statuses) in coverage::STATUSES {
+            let event = event(u32::from(code)).expect("a covered event has a word");
+            assert_eq!(event.name, name);
+            let worded: Vec<u8> = [0].into_iter().chain(event.statuses.iter().map(|(status, _)| *status)).collect();
+            assert_eq!(worded, statuses);
+            for number in statuses {
+                assert!(status(*number).is_some());
+            }
+        }
+        assert_eq!(EVENTS.len(), coverage::STATUSES.len());
+    }
+
+    #[test]
+    fn every_refusal_that_the_tests_cover_has_its_words() {
+        for code in coverage::REFUSALS {
+            assert!(refusal(code).is_some(), "{code}");
+        }
+        assert_eq!(REFUSALS.len(), coverage::REFUSALS.len() + 2);
+    }
+
+    #[test]
+    fn numbers_and_lists_read_well() {
+        assert_eq!(grouped(4_294_967_295), "4,294,967,295");
+        assert_eq!(counted(1, "byte"), "1 byte");
+        assert_eq!(counted(8_192, "byte"), "8,192 bytes");
+        assert_eq!(either(&["a", "b", "c"]), "a, b or c");
+    }
+}

@@ -1,0 +1,179 @@
+//! `osek explain`: a refusal says field, offset, value and what was allowed.
+
+use osek_tests::cases;
+use osek_tests::coverage::REFUSALS;
+
+use super::common::*;
+
+/// Document 01's configuration with other bytes from a place on.
+fn damaged(place: usize, bytes: &[u8]) -> Vec<u8> {
+    let mut config = DOCUMENT_CONFIG.to_vec();
+    config.splice(place..place + 1, bytes.iter().copied());
+    config
+}
+
+#[test]
+fn each_refusal_of_the_configuration_is_a_sentence() {
+    let entries = |counts: &[u8]| {
+        let mut config = vec![1, 1, 0, 1, 1, 0, counts.len() as u8];
+        for count in counts {
+            config.extend([40, *count]);
+            config.extend((0..*count).flat_map(|offset| [offset, 0]));
+        }
+        config
+    };
+    let cases: [(Vec<u8>, &str, &str); 22] = [
+        (vec![], "1 0", "offset 0: the version is missing: the input ends here."),
+        (DOCUMENT_CONFIG[..19].to_vec(), "1 19", "offset 19: the task of entry 1 of table 0 table0 is missing: the input ends here."),
+        (
+            [&DOCUMENT_CONFIG[..3], &[0x80]].concat(),
+            "1 3",
+            "offset 3: the priority of body 0 is not complete: after 80 the input ends, and the last byte of a number is below 80.",
+        ),
+        (
+            damaged(3, &[0x82, 0]),
+            "2 3",
+            "offset 3: the priority of body 0 is not a number in its shortest form: 82 00 is refused, its last byte is 00, so it would be shorter without it.",
+        ),
+        (damaged(0, &[2]), "3 0", "offset 0: the version is 2. Allowed: 1."),
+        (damaged(1, &[33]), "4 1", "offset 1: the body count is 33. Allowed: 1 to 32."),
+        (damaged(11, &[17]), "4 11", "offset 11: the resource count is 17. Allowed: 0 to 16."),
+        (damaged(13, &[9]), "4 13", "offset 13: the table count is 9. Allowed: 0 to 8."),
+        (damaged(15, &[0]), "4 15", "offset 15: the entry count of table 0 table0 is 0. Allowed: 1 to 16."),
+        (damaged(2, &[2]), "5 2", "offset 2: the kind of body 0 body0 is 2. Allowed: 0 (task) or 1 (ISR)."),
+        (damaged(3, &[0xc9, 1]), "5 3", "offset 3: the priority of body 0 task0 is 201. Allowed: 1 to 200, each used once."),
+        (damaged(4, &[2]), "5 4", "offset 4: the autostart of body 0 task0 is 2. Allowed: 0 or 1."),
+        (damaged(10, &[1]), "5 10", "offset 10: the autostart of body 2 isr2 is 1. Allowed: 0, because it is an ISR."),
+        (
+            damaged(12, &[8]),
+            "5 12",
+            "offset 12: the users of resource 0 resource0 is 8. Allowed: a mask with bits of the bodies 0 to 2 only, and not 0.",
+        ),
+        (damaged(14, &[0x80, 0x80, 4]), "5 14", "offset 14: the period of table 0 table0 is 65,536. Allowed: 1 to 65,535."),
+        (damaged(16, &[4]), "5 16", "offset 16: the offset of entry 0 of table 0 table0 is 4. Allowed: 0 to 3, below the period."),
+        (damaged(17, &[2]), "5 17", "offset 17: the task of entry 0 of table 0 table0 is 2. Allowed: a task: 0 task0 or 1 task1."),
+        (
+            damaged(6, &[2]),
+            "6 6",
+            "offset 6: the priority of body 1 task1 is 2. Allowed: 1 to 200, each used once; body 0 task0 has this one already.",
+        ),
+        (
+            damaged(18, &[0]),
+            "7 19",
+            "offset 19: the task of entry 1 of table 0 table0 is 0. Allowed: an entry after the one before it, rising by offset, then by task, none twice; offset 0, task task0 does not come after offset 0, task task1.",
+        ),
+        (
+            entries(&[16, 16, 16, 15, 2]),
+            "8 142",
+            "offset 142: the entry count of table 4 table4 is 2. Allowed: at most 1, because all tables together have at most 64.",
+        ),
+        ([&DOCUMENT_CONFIG[..], &[5]].concat(), "9 20", "offset 20: the configuration is complete here, and 1 byte more follows."),
+        (vec![1; 4097], "10 0", "config.bin has 4,097 bytes."),
+    ];
+    let folder = Folder::document();
+    for (config, refusal, sentence) in cases {
+        folder.write("config.bin", config);
+        let said = folder.osek(&["explain", "config.bin", "trace.bin"]);
+        let lines: Vec<&str> = said.out.lines().collect();
+        assert!(lines[0].starts_with(&format!("refused {refusal}: ")), "{}", said.out);
+        let told = lines[1].strip_prefix("config.bin, ").unwrap_or(lines[1]);
+        assert_eq!(told, sentence);
+        assert_eq!((said.code, said.err.as_str()), (Some(1), ""));
+        assert_eq!(refusal.starts_with("10 "), lines.len() == 2, "{}", said.out);
+    }
+}
+
+#[test]
+fn each_refusal_of_the_trace_is_a_sentence() {
+    let cases: [(&[u8], &str, &str); 7] = [
+        (&[6, 1], "21 2", "offset 2: the body of event 1 Activate is missing: the input ends here."),
+        (&[8, 0, 0x80], "21 2", "offset 2: the delay of event 0 Start is not complete: after 80 the input ends, and the last byte of a number is below 80."),
+        (&[0x80], "21 0", "offset 0: the code of event 0 is not complete: after 80 the input ends, and the last byte of a number is below 80."),
+        (&[4, 0x80, 0], "22 1", "offset 1: the resource of event 0 Get is not a number in its shortest form: 80 00 is refused, its last byte is 00, so it would be shorter without it."),
+        (
+            &[9, 0xff, 0xff, 0xff, 0xff, 0x10],
+            "22 1",
+            "offset 1: the table of event 0 Stop is above 4,294,967,295: FF FF FF FF 10 is refused, a fifth byte may be at most 0F.",
+        ),
+        (&[6, 0x80, 1], "23 1", "offset 1: the code of event 1 is 128. Allowed: 1 to 9."),
+        (&[0], "23 0", "offset 0: the code of event 0 is 0. Allowed: 1 to 9."),
+    ];
+    let folder = Folder::document();
+    for (trace, refusal, sentence) in cases {
+        folder.write("trace.bin", trace);
+        let said = folder.osek(&["explain", "config.bin", "trace.bin"]);
+        let lines: Vec<&str> = said.out.lines().collect();
+        assert!(lines[0].starts_with(&format!("refused {refusal}: ")), "{}", said.out);
+        assert_eq!(lines[1], format!("trace.bin, {sentence}"));
+        assert_eq!(said.code, Some(1));
+    }
+    folder.write("trace.bin", vec![6; 9_000]);
+    folder
+        .osek(&["explain", "config.bin", "trace.bin"])
+        .prints("refused 20 0: the trace is longer than 8,192 bytes\ntrace.bin has 9,000 bytes.\n", 1);
+}
+
+#[test]
+fn the_bytes_around_the_place_are_marked() {
+    let mut config = DOCUMENT_CONFIG.to_vec();
+    config.splice(17..18, [0x80, 1]);
+    let folder = Folder::document().with("config.bin", config);
+    folder.osek(&["explain", "config.bin", "trace.bin"]).prints(
+        "\
+refused 5 17: a field is outside its range
+config.bin, offset 17: the task of entry 0 of table 0 table0 is 128. Allowed: a task: 0 task0 or 1 task1.
+       0  01 03 00 02 01 00 05 00 01 09 00 01 03 01 04 02
+      16  00 80 01 02 00
+             ^^ ^^
+",
+        1,
+    );
+}
+
+#[test]
+fn a_text_is_refused_at_its_line() {
+    let folder = Folder::new().with("both.txt", DOCUMENT_TEXT.replace("priority 9", "priority 5"));
+    let said = folder.osek(&["explain", "both.txt"]);
+    assert_eq!(
+        said.out.lines().nth(1),
+        Some("both.txt:4:19: the priority of body 2 door is 5. Allowed: 1 to 200, each used once; body 1 high has this one already.")
+    );
+}
+
+#[test]
+fn an_accepted_run_says_which_events_were_refused_and_why() {
+    let folder = Folder::new().with("both.txt", DOCUMENT_TEXT);
+    folder.osek(&["explain", "both.txt"]).prints(
+        "\
+accepted: 17 events, 3 with a status other than 0
+event 4 Chain high while door runs: status 2 E_OS_CALLEVEL: nobody runs, or an ISR does
+event 6 Finish while low runs: status 6 E_OS_RESOURCE: the running body holds a resource
+event 16 Finish while nobody runs: status 2 E_OS_CALLEVEL: nobody runs
+",
+        0,
+    );
+}
+
+#[test]
+fn every_drawn_refusal_is_explained_at_its_place() {
+    let folder = Folder::new();
+    let mut seen = Vec::new();
+    for number in 0..400 {
+        let case = cases::case(5, number);
+        folder.write("config.bin", &case.config);
+        folder.write("trace.bin", &case.trace);
+        let said = folder.osek(&["explain", "config.bin", "trace.bin"]);
+        let first = said.out.lines().next().unwrap_or_default().to_string();
+        if let Some(refused) = first.strip_prefix("refused ") {
+            let listing = folder.osek(&["run", "config.bin", "trace.bin"]).out;
+            let place = listing.trim_end().strip_prefix("refused ").expect("the run is refused too");
+            assert!(refused.starts_with(&format!("{place}: ")), "{listing}{}", said.out);
+            assert!(!said.out.contains("nothing is wrong"), "{}", said.out);
+            seen.extend(place.split(' ').next().and_then(|code| code.parse::<u32>().ok()));
+        }
+        assert_eq!(said.err, "");
+    }
+    for code in REFUSALS.into_iter().filter(|code| *code != 30) {
+        assert!(seen.contains(&code), "refusal {code} was not drawn");
+    }
+}

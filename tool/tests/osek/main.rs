@@ -1,0 +1,11 @@
+//! The bench tool, run as a process on files.
+
+mod cases;
+mod command_line;
+mod common;
+mod compare;
+mod documents;
+mod explain;
+mod run;
+mod text;
+mod timeline;
