@@ -5,6 +5,7 @@ mod cases;
 mod compare;
 mod dump;
 mod explain;
+mod oil;
 mod run;
 mod timeline;
 
@@ -25,11 +26,12 @@ pub struct Command {
     pub run: fn(&Options) -> Result<Ending, Failure>,
 }
 
-const COMMANDS: [&Command; 7] = [
+const COMMANDS: [&Command; 8] = [
     &run::COMMAND,
     &explain::COMMAND,
     &timeline::COMMAND,
     &asm::COMMAND,
+    &oil::COMMAND,
     &dump::COMMAND,
     &cases::COMMAND,
     &compare::COMMAND,
