@@ -36,8 +36,8 @@ const COMMANDS: [&Command; 7] = [
 ];
 
 const INPUTS: &str = "\
-CONFIG and TRACE are files of bytes or of the text form, told apart by their content. One text that holds both, with
-a line `trace` between, may stand for the two. docs/TEXT.md has the text form.
+CONFIG and TRACE are files of bytes or of the text form, told apart by their content. LOGGER is one text that holds
+both, with a line `trace` between. docs/TEXT.md has the text form.
 ";
 
 impl Command {
