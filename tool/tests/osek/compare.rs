@@ -97,7 +97,9 @@ fn a_simulator_that_breaks_down_differs() {
     let hangs = simulator("stop_hangs");
     folder.write("stop.txt", "version 1\ntask a priority 1 autostart\ntrace\nstop 0\n");
     for endless in [hangs.as_str(), "yes #"] {
-        let said = folder.osek(&["compare", "--sim", endless, "--timeout", "1", "-o", "c", "stop.txt"]);
+        let arguments = ["compare", "--sim", endless, "--timeout", "1", "-o", "c", "stop.txt"];
+        let output = Command::new("timeout").args(["60", OSEK]).args(arguments).current_dir(&folder.0).output();
+        let said = Said::of(&arguments, output.expect("timeout runs"));
         assert!(said.out.contains("no answer given: it did not end within 1 s"), "{}{}", said.out, said.err);
     }
     assert!(begin.elapsed() < Duration::from_secs(30));
