@@ -1,43 +1,107 @@
-# `make test` is the gate. Everything beyond the kit at /opt/rattle, gcc, cargo and python3 is built here.
+# `make help` lists what can be made. Everything beyond the kit, a C compiler, cargo and python3 is built here.
 
-LIBRARY = target/staticlib/libkernel.a
+# The crates whose exported functions are the library, each an archive of its own that `lib` joins. A new function needs no
+# archive: three lines in crates/osek export it, and the crate that proves it is not proved again.
+EXPORTS = osek
+
+KIT_BIN = $(or $(RATTLE_HOME),/opt/rattle)/bin
+export PATH := $(PATH):$(KIT_BIN)
 CFLAGS = -std=c99 -O2 -Wall -Wextra -Wpedantic -Werror
-CARGO = --quiet --release --offline --locked --manifest-path tests/Cargo.toml --features linked
+CARGO = --release --offline --locked --manifest-path tests/Cargo.toml --features linked
+PREFIX = /usr/local
 SEED = 1
 COUNT = 100000
 
-.PHONY: test run bench staticlib host tool fuzz speed
+# The version stands in the header alone.
+VERSION := $(shell sed -n 's/^.define OSEK_VERSION "\(.*\)"/\1/p' include/osek.h)
+SONAME := libosek.so.$(firstword $(subst ., ,$(VERSION)))
+
+LIBRARY = build/libosek.a
+SHARED = build/libosek.so
+ARCHIVES = $(EXPORTS:%=target/staticlib/lib%.a)
+SOURCES := KIT crates.txt $(shell find crates -name must-fail -prune -o -type f -print)
+
+.NOTPARALLEL:
+.PHONY: help run test host lib tool install uninstall fuzz speed clean need need-cargo
+
+## make run          proves the bench program and runs it on the listing of document 01
+## make test         the gate: every crate proved, every must-fail edit refused, every test run
+## make host         build/osek_host, the bench host in C, for files of one's own
+## make lib          build/libosek.a and build/libosek.so, for C, C++, Python and whatever calls C
+## make tool         build/osek, the bench tool: text in, words and pictures out, a simulator beside the reference
+## make install      header, libraries, osek.pc, host and manual page under PREFIX=/usr/local; make uninstall
+## make fuzz         drawn cases beside the Rust versions of tests/: SEED=7 COUNT=20000
+## make speed        the run timed beside Rust; WRITE=1 puts the tables into docs/PERFORMANCE.md
+## make clean        removes all that was built, what is known to be proved too
+help:
+	@sed -n 's/^## //p' $(MAKEFILE_LIST)
+
+need:
+	@scripts/need rt $(CC)
+
+need-cargo:
+	@scripts/need rt $(CC) cargo
 
 test:
 	@scripts/test
 
-# The bench program, on the listing of document 01.
-run: bench
+run: need
+	@scripts/prove program bench
 	@cd crates/bench/data && ../../../target/bin/bench
 
-bench:
-	@rt check bench > /dev/null
+# Proved and built again only where a source is newer.
+target/staticlib/lib%.a: $(SOURCES)
+	@scripts/prove archive $*
 
-# The library that C links, with the symbol osek_run: proved and built again only where a source is newer.
-staticlib: $(LIBRARY)
-
-$(LIBRARY): KIT crates.txt $(shell find crates -name must-fail -prune -o -type f -print)
-	@rt staticlib kernel > /dev/null
-
-host: staticlib
+$(LIBRARY): $(ARCHIVES)
 	@mkdir -p build
-	$(CC) $(CFLAGS) -Iinclude host/osek_host.c $(LIBRARY) -o build/osek_host
+	@scripts/join $@ $^
+
+$(SHARED): $(LIBRARY) include/osek.h
+	@$(CC) -shared -Wl,-soname,$(SONAME) -Wl,--whole-archive $(LIBRARY) -Wl,--no-whole-archive -o $@.$(VERSION)
+	@ln -sf libosek.so.$(VERSION) build/$(SONAME)
+	@ln -sf $(SONAME) $@
+
+build/osek_host: host/osek_host.c include/osek.h $(LIBRARY)
+	@$(CC) $(CFLAGS) -Iinclude $< $(LIBRARY) -o $@
+
+lib: need $(LIBRARY) $(SHARED)
+	@echo 'build/libosek.a and build/libosek.so: the functions of include/osek.h'
+
+host: need build/osek_host
+	@echo 'build/osek_host CONFIG TRACE runs the trace in one file over the configuration in another'
+
+# Where things are installed; DESTDIR goes before PREFIX.
+INSTALLED = include/osek.h lib/libosek.a lib/libosek.so lib/$(SONAME) lib/libosek.so.$(VERSION) \
+            lib/pkgconfig/osek.pc bin/osek_host share/man/man1/osek_host.1
+
+install: lib host
+	@install -d $(sort $(dir $(INSTALLED:%=$(DESTDIR)$(PREFIX)/%)))
+	@install -m 644 include/osek.h $(DESTDIR)$(PREFIX)/include
+	@install -m 644 $(LIBRARY) $(DESTDIR)$(PREFIX)/lib
+	@install -m 755 $(SHARED).$(VERSION) $(DESTDIR)$(PREFIX)/lib
+	@ln -sf libosek.so.$(VERSION) $(DESTDIR)$(PREFIX)/lib/$(SONAME)
+	@ln -sf $(SONAME) $(DESTDIR)$(PREFIX)/lib/libosek.so
+	@sed -e 's|@PREFIX@|$(PREFIX)|' -e 's|@VERSION@|$(VERSION)|' host/osek.pc.in > $(DESTDIR)$(PREFIX)/lib/pkgconfig/osek.pc
+	@install -m 755 build/osek_host $(DESTDIR)$(PREFIX)/bin
+	@install -m 644 host/osek_host.1 $(DESTDIR)$(PREFIX)/share/man/man1
+	@printf '%s\n' $(INSTALLED:%=$(DESTDIR)$(PREFIX)/%)
+
+uninstall:
+	@rm -f $(INSTALLED:%=$(DESTDIR)$(PREFIX)/%)
 
 # The bench tool: build/osek --help
-tool: staticlib
-	@mkdir -p build
+tool: need-cargo lib
 	@cargo build --quiet --release --offline --locked --manifest-path tool/Cargo.toml --target-dir tool/target
 	@install tool/target/release/osek build/osek
+	@echo 'build/osek --help lists its commands'
 
-# Drawn cases from a seed of one's own: make fuzz SEED=7 COUNT=20000
-fuzz: staticlib
+fuzz: need-cargo lib
 	@cargo run $(CARGO) --bin fuzz -- $(SEED) $(COUNT)
 
-# The run beside the Rust version; writes the table of docs/PERFORMANCE.md.
-speed: staticlib
-	@cargo run $(CARGO) --bin speed -- --write docs/PERFORMANCE.md
+speed: need-cargo lib
+	@scripts/need valgrind || echo 'instructions are not counted without it' >&2
+	@cargo run $(CARGO) --bin speed -- $(if $(WRITE),--write docs/PERFORMANCE.md)
+
+clean:
+	@rm -rf build target tests/target tool/target

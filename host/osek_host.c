@@ -13,11 +13,12 @@ enum { LISTED = 0, REFUSED = 1, BAD_COMMAND_LINE = 2, OUTPUT_FAILED = 3 };
 
 static const char usage[] =
     "usage: osek_host CONFIG TRACE\n"
+    "       osek_host [-h | --help | --version]\n"
     "\n"
     "Runs the trace in the file TRACE over the configuration in the file CONFIG and prints, event by event, its index,\n"
     "code, status, the running body (- when idle), the level and the begun mark; then `lost BODY COUNT` for every body\n"
-    "with lost activations. A refused run prints only `refused CODE PLACE`; include/osek.h has the codes, 40 and 41\n"
-    "say that CONFIG or TRACE can't be read.\n"
+    "with lost activations. One of the files may be -, standard input. A refused run prints only `refused CODE PLACE`;\n"
+    "osek.h has the codes, 40 and 41 say that CONFIG or TRACE can't be read.\n"
     "\n"
     "Exit status: 0 a listing, 1 a refusal, 2 a bad command line, 3 standard output could not be written.\n";
 
@@ -26,15 +27,18 @@ static uint8_t config[OSEK_CONFIG_MAX + 1];
 static uint8_t trace[OSEK_TRACE_MAX + 1];
 static uint8_t out[OSEK_OUTPUT_MAX];
 
-/* Reads at most size bytes of a file; 0 if it can't be read. */
+static int is(const char *word, const char *other) { return strcmp(word, other) == 0; }
+
+/* Reads at most size bytes of a file; 0 if it can't be read, be it in its middle. */
 static int read_file(const char *name, uint8_t *bytes, size_t size, size_t *len)
 {
-    FILE *file = fopen(name, "rb");
+    FILE *file = is(name, "-") ? stdin : fopen(name, "rb");
     if (file == NULL)
         return 0;
     *len = fread(bytes, 1, size, file);
     int readable = !ferror(file);
-    fclose(file);
+    if (file != stdin)
+        fclose(file);
     return readable;
 }
 
@@ -102,9 +106,11 @@ static int bench(const char *config_name, const char *trace_name)
 int main(int argc, char **argv)
 {
     int status = LISTED;
-    if (argc == 2 && strcmp(argv[1], "--help") == 0) {
+    if (argc == 2 && (is(argv[1], "-h") || is(argv[1], "--help"))) {
         fputs(usage, stdout);
-    } else if (argc == 3) {
+    } else if (argc == 2 && is(argv[1], "--version")) {
+        puts("osek_host " OSEK_VERSION);
+    } else if (argc == 3 && !(is(argv[1], "-") && is(argv[2], "-"))) {
         status = bench(argv[1], argv[2]);
     } else {
         fputs(usage, stderr);

@@ -1,8 +1,9 @@
 /*
  * OSEK OS reference, class BCC1: from a configuration and a trace of events to who runs after each event.
  *
- * One function, osek_run. It allocates nothing, keeps nothing between calls and never fails in another way than by
- * the refusals below: any bytes may be handed to it. Link with libkernel.a.
+ * Two functions: osek_run, and osek_salvage for damaged traces. They allocate nothing, keep nothing between calls and
+ * never fail in another way than by the refusals below: any bytes may be handed to them. They may be called from several
+ * threads at once, each with outputs of its own; they may share their inputs.
  *
  *     static uint8_t out[OSEK_OUTPUT_MAX];
  *     uint64_t result = osek_run(config, config_len, trace, trace_len, out, sizeof out);
@@ -10,6 +11,8 @@
  *         printf("refused %u %u\n", (unsigned)osek_refusal(result), (unsigned)osek_place(result));
  *     else
  *         ... osek_events(result) answers of four bytes, then two bytes a body ...
+ *
+ * For C99, C++98 and later, on x86-64 Linux. Link with libosek.a or libosek.so (`pkg-config --cflags --libs osek`).
  *
  * Words: a body is a task or a category 2 interrupt routine (ISR); bodies, resources and schedule tables are each
  * numbered from 0 in the order of the configuration. A greater priority wins.
@@ -52,10 +55,19 @@
 extern "C" {
 #endif
 
-/* Sizes in bytes. Longer inputs are refused; an output of OSEK_OUTPUT_MAX suffices for every run. */
+/* The first number changes when a program has to be compiled or linked anew, the second with what the calls answer or
+ * offer, the last with everything else. CHANGELOG.md says what each one brought. */
+#define OSEK_VERSION "1.0.0"
+
+/* Sizes in bytes. Longer inputs are refused; an output of OSEK_OUTPUT_MAX suffices for every run, which is proved as
+ * `room-enough` in crates/run/proofs/Theorems.antt. */
 #define OSEK_CONFIG_MAX 4096
 #define OSEK_TRACE_MAX 8192
 #define OSEK_OUTPUT_MAX 32832
+
+/* What suffices for the list of every salvage; OSEK_TRACE_MAX does for its events. A trace of OSEK_TRACE_MAX bytes that
+ * alternates between a byte to drop and an event of one byte needs as much. */
+#define OSEK_STRETCHES_MAX 12224
 
 /* The output of an accepted run with e events and b bodies takes 4 e + 2 b bytes:
  *     byte 4 i        status of event i
@@ -97,12 +109,14 @@ enum {
     OSEK_E_OS_VALUE = 8     /* Start: the delay is 0, or delay + the table's largest offset is above 65,535 */
 };
 
-/* Refusals. The place is the offset of the first byte of the number at fault, where nothing else is said. Checked in
- * this order: OSEK_CONFIG_TOO_LONG, the configuration number by number, OSEK_TRACE_TOO_LONG, the trace number by
+/* Refusals. The place is the offset of the first byte of the number at fault, where nothing else is said; of a number
+ * that can't be read it is the byte that decides it, whatever follows. Checked in this order: OSEK_CONFIG_TOO_LONG, the configuration number by number, OSEK_TRACE_TOO_LONG, the trace number by
  * number, OSEK_OUTPUT_TOO_SHORT. Only the first one found is given. */
 enum {
-    OSEK_CONFIG_CUT = 1,           /* the configuration ends where a number, or the rest of one, is missing */
-    OSEK_CONFIG_NUMBER = 2,        /* a number above 4,294,967,295 or not in its shortest form */
+    OSEK_CONFIG_CUT = 1,           /* the configuration ends where a number, or the rest of one, is missing; place: its
+                                      end, config_len */
+    OSEK_CONFIG_NUMBER = 2,        /* a number above 4,294,967,295, place: its fifth byte; or not in its shortest form,
+                                      place: its last byte, the superfluous 00 */
     OSEK_CONFIG_VERSION = 3,       /* the version is not 1 */
     OSEK_CONFIG_COUNT = 4,         /* a count of bodies, resources, tables or entries outside its range */
     OSEK_CONFIG_FIELD = 5,         /* another field outside its range; an entry's task that is no task */
@@ -112,8 +126,8 @@ enum {
     OSEK_CONFIG_LEFT_OVER = 9,     /* bytes after the last table; place: the first of them */
     OSEK_CONFIG_TOO_LONG = 10,     /* the configuration is over OSEK_CONFIG_MAX bytes; place: 0 */
     OSEK_TRACE_TOO_LONG = 20,      /* the trace is over OSEK_TRACE_MAX bytes; place: 0 */
-    OSEK_TRACE_CUT = 21,           /* as OSEK_CONFIG_CUT, in the trace */
-    OSEK_TRACE_NUMBER = 22,        /* as OSEK_CONFIG_NUMBER, in the trace */
+    OSEK_TRACE_CUT = 21,           /* as OSEK_CONFIG_CUT, in the trace; place: trace_len */
+    OSEK_TRACE_NUMBER = 22,        /* as OSEK_CONFIG_NUMBER, in the trace, with the same places */
     OSEK_TRACE_EVENT = 23,         /* an event code that is not 1 to 9 */
     OSEK_OUTPUT_TOO_SHORT = 30     /* out_len is too small; place: the bytes needed */
 };
@@ -126,7 +140,7 @@ enum {
  *     trace, trace_len      the trace's bytes; only read. An empty trace is accepted and has 0 events.
  *     out, out_len          where the output goes. Must not overlap the inputs; may hold anything before the call.
  *
- * No pointer may be null: where a length is 0, pass any valid pointer; no byte of it is touched.
+ * A pointer whose length is 0 may be null; no byte of it is touched. Where it is not 0, so many bytes are there.
  *
  * Result: refusal * 2^32 + place, or, with refusal 0, the number of events. Split it with the functions below.
  *
@@ -137,7 +151,28 @@ uint64_t osek_run(const uint8_t *config, size_t config_len,
                   const uint8_t *trace, size_t trace_len,
                   uint8_t *out, size_t out_len);
 
-/* The refusal in a result: one of OSEK_CONFIG_CUT to OSEK_OUTPUT_TOO_SHORT, or 0 if the run is accepted. */
+/*
+ * Salvages a damaged trace: events are read one after the other, and where none can be read one byte is dropped and the
+ * next is tried. What is kept is a readable trace; a readable trace is kept whole.
+ *
+ *     trace, trace_len            the trace's bytes; only read
+ *     events, events_len          where the kept events go: the bytes of the trace that are not dropped, in their order
+ *     stretches, stretches_len    where the dropped stretches are listed: for each, in order, the offset of its first
+ *                                 byte in the trace and its length, as two numbers. A stretch is as long as it goes, so
+ *                                 at least one byte is kept between two of them.
+ *
+ * The outputs must not overlap each other or the trace. No pointer may be null, as above.
+ *
+ * Result: refusal * 2^32 + place, or, with refusal 0, the list's length * 65,536 + the events' length. Checked in this
+ * order: OSEK_TRACE_TOO_LONG; OSEK_OUTPUT_TOO_SHORT for the events; OSEK_OUTPUT_TOO_SHORT for the list, each time with
+ * the bytes that this output needs as place. A refused call leaves both outputs untouched; an accepted one leaves the
+ * bytes behind what it wrote.
+ */
+uint64_t osek_salvage(const uint8_t *trace, size_t trace_len,
+                      uint8_t *events, size_t events_len,
+                      uint8_t *stretches, size_t stretches_len);
+
+/* The refusal in a result: one of OSEK_CONFIG_CUT to OSEK_OUTPUT_TOO_SHORT, or 0 if the call is accepted. */
 static inline uint32_t osek_refusal(uint64_t result) { return (uint32_t)(result >> 32); }
 
 /* The place of a refusal. */
@@ -145,6 +180,10 @@ static inline uint32_t osek_place(uint64_t result) { return (uint32_t)result; }
 
 /* The number of events of an accepted run. */
 static inline uint32_t osek_events(uint64_t result) { return (uint32_t)result; }
+
+/* The lengths of the events and of the list of an accepted salvage. */
+static inline uint32_t osek_kept_length(uint64_t result) { return (uint32_t)(result & 65535); }
+static inline uint32_t osek_stretches_length(uint64_t result) { return (uint32_t)(result >> 16); }
 
 #ifdef __cplusplus
 }

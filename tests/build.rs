@@ -1,4 +1,4 @@
-//! Finds the proved static library for the feature `linked`.
+//! Finds the proved static libraries for the feature `linked`.
 
 use std::{env, path::PathBuf};
 
@@ -9,15 +9,15 @@ fn main() {
         return;
     }
     let here = PathBuf::from(env::var_os("CARGO_MANIFEST_DIR").expect("cargo sets CARGO_MANIFEST_DIR"));
-    let folder = env::var_os("OSEK_LIB_DIR").map_or_else(|| here.join("../target/staticlib"), PathBuf::from);
-    let library = folder.join("libkernel.a");
+    let folder = env::var_os("OSEK_LIB_DIR").map_or_else(|| here.join("../build"), PathBuf::from);
+    let library = folder.join("libosek.a");
     assert!(
         library.is_file(),
-        "{} is missing: build the static library first, or name its folder in OSEK_LIB_DIR",
+        "{} is missing: build it first by `make lib`, or name its folder in OSEK_LIB_DIR",
         library.display()
     );
     println!("cargo:rerun-if-changed={}", library.display());
     println!("cargo:rustc-env=OSEK_LIBRARY={}", library.display());
     println!("cargo:rustc-link-search=native={}", folder.display());
-    println!("cargo:rustc-link-lib=static=kernel");
+    println!("cargo:rustc-link-lib=static=osek");
 }

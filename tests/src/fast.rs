@@ -42,36 +42,32 @@ fn refuse<T>(code: u32, place: usize) -> Result<T, Refusal> {
 
 // Numbers
 
-/// Why a number can't be read.
-#[derive(Clone, Copy, PartialEq, Eq, Debug)]
-pub enum NumberFault {
-    /// The input ends before a last or fifth group.
-    Cut,
-    /// The fifth byte is above 15, or the form is not the shortest.
-    Malformed,
-}
+/// The input ends before a last or fifth group; the place is its end.
+const CUT: u32 = 1;
+/// The fifth byte is above 15, or the last one superfluous; the place is that byte.
+const MALFORMED: u32 = 2;
 
 /// The number at `at`, and the offset after it.
 #[inline(always)]
-pub fn read_number(bytes: &[u8], at: usize) -> Result<(u32, usize), NumberFault> {
+pub fn read_number(bytes: &[u8], at: usize) -> Result<(u32, usize), Refusal> {
     match bytes.get(at) {
         Some(&byte) if byte < 0x80 => Ok((u32::from(byte), at + 1)),
         Some(&byte) => read_long_number(bytes, at + 1, u32::from(byte & 0x7f)),
-        None => Err(NumberFault::Cut),
+        None => refuse(CUT, at),
     }
 }
 
 /// The rest of a number of two to five groups, the first of which is `value`.
-fn read_long_number(bytes: &[u8], mut at: usize, mut value: u32) -> Result<(u32, usize), NumberFault> {
+fn read_long_number(bytes: &[u8], mut at: usize, mut value: u32) -> Result<(u32, usize), Refusal> {
     for shift in [7, 14, 21, 28] {
-        let &byte = bytes.get(at).ok_or(NumberFault::Cut)?;
-        at += 1;
-        if shift == 28 && byte > 15 {
-            return Err(NumberFault::Malformed);
+        let Some(&byte) = bytes.get(at) else { return refuse(CUT, at) };
+        if byte == 0 || shift == 28 && byte > 15 {
+            return refuse(MALFORMED, at);
         }
+        at += 1;
         value |= u32::from(byte & 0x7f) << shift;
         if byte < 0x80 {
-            return if byte == 0 { Err(NumberFault::Malformed) } else { Ok((value, at)) };
+            return Ok((value, at));
         }
     }
     unreachable!("a fifth byte of at most 15 ends the number")
@@ -129,17 +125,12 @@ impl Fields<'_> {
     /// The next number, if it lies in `range`; otherwise `code`.
     fn number(&mut self, range: std::ops::RangeInclusive<u32>, code: u32) -> Result<u32, Refusal> {
         self.place = self.next;
-        match read_number(self.bytes, self.next) {
-            Ok((value, next)) => {
-                self.next = next;
-                if range.contains(&value) {
-                    Ok(value)
-                } else {
-                    refuse(code, self.place)
-                }
-            }
-            Err(NumberFault::Cut) => refuse(1, self.place),
-            Err(NumberFault::Malformed) => refuse(2, self.place),
+        let (value, next) = read_number(self.bytes, self.next)?;
+        self.next = next;
+        if range.contains(&value) {
+            Ok(value)
+        } else {
+            refuse(code, self.place)
         }
     }
 
@@ -300,11 +291,7 @@ pub enum Event {
 pub fn read_event(trace: &[u8], at: usize) -> Result<(Event, usize), Refusal> {
     #[inline(always)]
     fn number(trace: &[u8], at: usize) -> Result<(u32, usize), Refusal> {
-        match read_number(trace, at) {
-            Ok(read) => Ok(read),
-            Err(NumberFault::Cut) => refuse(21, at),
-            Err(NumberFault::Malformed) => refuse(22, at),
-        }
+        read_number(trace, at).or_else(|fault| refuse(20 + fault.code, fault.place))
     }
     let (code, next) = number(trace, at)?;
     let one = |event: fn(u32) -> Event| number(trace, next).map(|(id, next)| (event(id), next));

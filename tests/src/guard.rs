@@ -7,6 +7,7 @@ use std::cell::Cell;
 use std::ffi::{c_int, c_long, c_void};
 
 use crate::cases::Case;
+use crate::salvage::Recording;
 
 extern "C" {
     fn mmap(addr: *mut c_void, length: usize, prot: c_int, flags: c_int, fd: c_int, offset: i64) -> *mut c_void;
@@ -30,6 +31,9 @@ const SIGBUS: c_int = 7;
 
 /// The run as C declares it, with slices for pointers and lengths.
 pub type Run = fn(&[u8], &[u8], &mut [u8]) -> u64;
+
+/// The salvage, in the same way.
+pub type Salvage = fn(&[u8], &mut [u8], &mut [u8]) -> u64;
 
 /// The page against which slices are flush.
 #[derive(Clone, Copy, PartialEq, Eq, Debug)]
@@ -83,6 +87,15 @@ impl Pages {
         let all = self.all();
         all.fill(PATTERN);
         all[range].copy_from_slice(bytes);
+    }
+
+    /// The slice of that length which is flush against `side`.
+    ///
+    /// # Safety
+    /// No two slices of the same pages may be in use at once.
+    unsafe fn lent<'a>(&self, length: usize, side: Side) -> &'a mut [u8] {
+        let range = self.range(length, side);
+        std::slice::from_raw_parts_mut(self.start.add(range.start), range.len())
     }
 
     /// The bytes outside the slice are as `place` left them.
@@ -141,6 +154,49 @@ impl GuardedRun {
             case.out_len
         );
         (result, self.out.all()[out].to_vec())
+    }
+}
+
+/// Guarded pages for the input and both outputs of a salvage.
+pub struct GuardedSalvage {
+    trace: Pages,
+    events: Pages,
+    stretches: Pages,
+}
+
+impl Default for GuardedSalvage {
+    fn default() -> Self {
+        GuardedSalvage { trace: Pages::new(16_384), events: Pages::new(16_384), stretches: Pages::new(65_536) }
+    }
+}
+
+impl GuardedSalvage {
+    /// The result and both whole outputs after it. Ends the test if anything outside was touched.
+    pub fn run(&mut self, salvage: Salvage, recording: &Recording, side: Side) -> (u64, Vec<u8>, Vec<u8>) {
+        let (events, stretches) = recording.prefilled();
+        self.trace.place(&recording.trace, side);
+        self.events.place(&events, side);
+        self.stretches.place(&stretches, side);
+        self.trace.protect(PROT_READ);
+        let (result, events, stretches) = unsafe {
+            let events = self.events.lent(recording.events_len, side);
+            let stretches = self.stretches.lent(recording.stretches_len, side);
+            (
+                salvage(self.trace.lent(recording.trace.len(), side), events, stretches),
+                events.to_vec(),
+                stretches.to_vec(),
+            )
+        };
+        self.trace.protect(PROT_READ | PROT_WRITE);
+        let (seed, number) = CURRENT.get();
+        assert!(
+            self.events.surroundings_untouched(events.len(), side)
+                && self.stretches.surroundings_untouched(stretches.len(), side),
+            "the salvage wrote outside its outputs of {} and {} bytes: seed {seed} case {number}",
+            events.len(),
+            stretches.len()
+        );
+        (result, events, stretches)
     }
 }
 

@@ -8,6 +8,7 @@ pub mod fast;
 pub mod guard;
 pub mod listing;
 pub mod plain;
+pub mod salvage;
 pub mod shrink;
 pub mod stack;
 #[cfg(feature = "linked")]

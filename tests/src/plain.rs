@@ -21,23 +21,24 @@ pub fn number_bytes(mut value: u64) -> Vec<u8> {
     }
 }
 
-/// The number at a place and its length; otherwise 1 or 2.
-fn number_at(input: &[u8], place: usize) -> Result<(u64, usize), u64> {
+/// The number at a place and its length; otherwise 1 or 2, at "the byte that decides it".
+fn number_at(input: &[u8], place: usize) -> Result<(u64, usize), Refused> {
     let five = &input[place.min(input.len())..input.len().min(place + 5)];
     // "input ends before a last or fifth group"
     let length = match five.iter().position(|byte| *byte < 128) {
         Some(last) => last + 1,
         None if five.len() == 5 => 5,
-        None => return Err(1),
+        // "the input's end when cut off (a start past it keeps its own place)"
+        None => return Err((1, place.max(input.len()))),
     };
     let bytes = &five[..length];
-    // "a fifth byte above 15, or not shortest"
+    // "a fifth byte above 15, or not shortest": "the fifth group when it is too large, the superfluous last group"
     if length == 5 && bytes[4] > 15 {
-        return Err(2);
+        return Err((2, place + 4));
     }
     let value = bytes.iter().rev().fold(0u64, |value, byte| value * 128 + u64::from(byte % 128));
     if number_bytes(value) != bytes {
-        return Err(2);
+        return Err((2, place + length - 1));
     }
     Ok((value, length))
 }
@@ -53,7 +54,7 @@ impl Cursor<'_> {
     /// The next number and its own place.
     fn take(&mut self) -> Result<(u64, usize), Refused> {
         let place = self.next;
-        let (value, length) = number_at(self.input, place).map_err(|fault| (self.base + fault, place))?;
+        let (value, length) = number_at(self.input, place).map_err(|(fault, decides)| (self.base + fault, decides))?;
         self.next += length;
         Ok((value, place))
     }

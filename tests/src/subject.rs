@@ -1,10 +1,10 @@
-//! The proved run, linked from the static library.
+//! The proved run and the proved salvage, linked from the static libraries.
 
 /// The static library's file.
 pub const LIBRARY: &str = env!("OSEK_LIBRARY");
 
 extern "C" {
-    fn osek_run(
+    pub fn osek_run(
         config: *const u8,
         config_len: usize,
         trace: *const u8,
@@ -12,10 +12,33 @@ extern "C" {
         out: *mut u8,
         out_len: usize,
     ) -> u64;
+    fn osek_salvage(
+        trace: *const u8,
+        trace_len: usize,
+        events: *mut u8,
+        events_len: usize,
+        stretches: *mut u8,
+        stretches_len: usize,
+    ) -> u64;
 }
 
 /// Safe: the pointers come from slices, so they are not null and the output overlaps no input.
 #[inline(never)]
 pub fn run(config: &[u8], trace: &[u8], out: &mut [u8]) -> u64 {
     unsafe { osek_run(config.as_ptr(), config.len(), trace.as_ptr(), trace.len(), out.as_mut_ptr(), out.len()) }
+}
+
+/// Safe for the same reasons.
+#[inline(never)]
+pub fn salvage(trace: &[u8], events: &mut [u8], stretches: &mut [u8]) -> u64 {
+    unsafe {
+        osek_salvage(
+            trace.as_ptr(),
+            trace.len(),
+            events.as_mut_ptr(),
+            events.len(),
+            stretches.as_mut_ptr(),
+            stretches.len(),
+        )
+    }
 }

@@ -47,16 +47,16 @@ fn edge_p1_127_takes_one_byte_and_128_two() {
 
 #[test]
 fn edge_p2_two_bytes_for_zero_are_refused() {
-    assert_refused(&[0x80, 0x00], &[], 2, 0);
-    assert_refused(&ONE_TASK, &[1, 0x80, 0x00], 22, 1);
+    assert_refused(&[0x80, 0x00], &[], 2, 1);
+    assert_refused(&ONE_TASK, &[1, 0x80, 0x00], 22, 2);
 }
 
 #[test]
 fn edge_p3_the_largest_number_ends_in_0f() {
     assert_rows(&ONE_TASK, &[1, 0xff, 0xff, 0xff, 0xff, 0x0f], "0 1 3 0 1 0");
-    assert_refused(&ONE_TASK, &[1, 0xff, 0xff, 0xff, 0xff, 0x10], 22, 1);
+    assert_refused(&ONE_TASK, &[1, 0xff, 0xff, 0xff, 0xff, 0x10], 22, 5);
     assert_refused(&[0xff, 0xff, 0xff, 0xff, 0x0f], &[], 3, 0);
-    assert_refused(&[0xff, 0xff, 0xff, 0xff, 0x10], &[], 2, 0);
+    assert_refused(&[0xff, 0xff, 0xff, 0xff, 0x10], &[], 2, 4);
 }
 
 /// Task 0 (priority 1) runs; table 0 of period 1 and table 1 of period 4 have one entry each for task 1 (priority 2).

@@ -1,4 +1,5 @@
-//! include/osek.h compiles as C and as C++ without a warning, and its constants are document 01's.
+//! include/osek.h compiles as C and as C++ of every standard since C99 and C++98 without a warning, its constants are document
+//! 01's, and CHANGELOG.md has its version.
 
 use std::fs;
 use std::path::{Path, PathBuf};
@@ -6,19 +7,20 @@ use std::process::Command;
 
 use osek_tests::coverage::REFUSALS;
 use osek_tests::fast::{CONFIG_MAX, IDLE, OUTPUT_MAX, TRACE_MAX};
+use osek_tests::salvage::STRETCHES_MAX;
 
 fn header() -> PathBuf {
     Path::new(env!("CARGO_MANIFEST_DIR")).join("../include/osek.h")
 }
 
-/// A constant's value in the header, from `#define NAME value` or `NAME = value`.
+/// The numbers that the header names, from `#define NAME value` or `NAME = value`.
 fn constants() -> Vec<(String, u64)> {
     let text = fs::read_to_string(header()).expect("the header can be read");
     let mut constants = Vec::new();
     for line in text.lines() {
         let words: Vec<&str> = line.split_whitespace().collect();
         let named = match words[..] {
-            ["#define", name, value] => Some((name, value)),
+            ["#define", name, value] if !value.starts_with('"') => Some((name, value)),
             [name, "=", value, ..] if name.starts_with("OSEK_") => Some((name, value)),
             _ => None,
         };
@@ -39,6 +41,7 @@ fn constants_are_those_of_document_01() {
     assert_eq!(value("OSEK_TRACE_MAX"), TRACE_MAX as u64);
     assert_eq!(value("OSEK_OUTPUT_MAX"), OUTPUT_MAX as u64);
     assert_eq!((CONFIG_MAX, TRACE_MAX, OUTPUT_MAX), (4_096, 8_192, 32_832));
+    assert_eq!(value("OSEK_STRETCHES_MAX"), STRETCHES_MAX as u64);
     assert_eq!(value("OSEK_IDLE"), u64::from(IDLE));
     let group = |prefixes: &[&str], without: &str| -> Vec<u64> {
         let has = |name: &str| prefixes.iter().any(|prefix| name.starts_with(prefix)) && !name.ends_with(without);
@@ -58,7 +61,9 @@ fn header_compiles_as_c_and_as_cpp() {
         ("gcc", "c", "-std=c99"),
         ("clang", "c", "-std=c99"),
         ("gcc", "c", "-std=c17"),
+        ("g++", "c++", "-std=c++98"),
         ("g++", "c++", "-std=c++11"),
+        ("clang++", "c++", "-std=c++98"),
         ("clang++", "c++", "-std=c++17"),
     ] {
         // A file of its own: a header given as the main file warns of itself.
@@ -78,4 +83,14 @@ fn header_compiles_as_c_and_as_cpp() {
         }
     }
     assert!(compiled > 0, "no C compiler was found");
+}
+
+#[test]
+fn the_version_stands_at_the_head_of_the_changelog() {
+    let text = fs::read_to_string(header()).expect("the header can be read");
+    let (_, after) = text.split_once("#define OSEK_VERSION \"").expect("the header has a version");
+    let version = after.split('"').next().expect("the version ends");
+    let changes = fs::read_to_string(header().with_file_name("../CHANGELOG.md")).expect("CHANGELOG.md can be read");
+    let newest = changes.lines().find(|line| line.starts_with("## ")).expect("CHANGELOG.md has a version");
+    assert_eq!(newest, format!("## {version}"));
 }

@@ -1,9 +1,10 @@
 //! The bench program and the C host, run as processes on files. OSEK_BENCH and OSEK_HOST say where they are; otherwise
 //! ../target/bin/bench and ../build/osek_host.
 
+use std::ffi::OsStr;
 use std::fs;
 use std::path::{Path, PathBuf};
-use std::process::{Command, Output};
+use std::process::Command;
 use std::sync::atomic::{AtomicUsize, Ordering};
 
 use osek_tests::cases::{self, Case};
@@ -52,19 +53,22 @@ impl Folder {
         fs::write(self.0.join(name), bytes).expect("a file can be written");
     }
 
-    fn run(&self, program: Program) -> Output {
-        let mut command = Command::new(path(program));
-        if program == Program::Host {
-            command.args(["config.bin", "trace.bin"]);
-        }
-        command.current_dir(&self.0).output().expect("the program runs")
-    }
-
     /// Both programs print `expected` and nothing else; the host's exit status says whether it is a listing.
     #[track_caller]
     fn assert_shown(&self, expected: &str) {
+        self.assert_shown_with(&[], expected);
+    }
+
+    /// The same, with variables of the environment set.
+    #[track_caller]
+    fn assert_shown_with(&self, variables: &[(&str, &OsStr)], expected: &str) {
         for program in PROGRAMS {
-            let output = self.run(program);
+            let mut command = Command::new(path(program));
+            if program == Program::Host {
+                command.args(["config.bin", "trace.bin"]);
+            }
+            command.current_dir(&self.0).envs(variables.iter().copied());
+            let output = command.output().expect("the program runs");
             assert_eq!(String::from_utf8_lossy(&output.stdout), expected, "{program:?}");
             assert_eq!(String::from_utf8_lossy(&output.stderr), "", "{program:?}");
             if program == Program::Host {
@@ -117,10 +121,11 @@ fn each_refusal_is_printed_with_its_place() {
         many.extend([16, 16]);
         many.extend((0..16).flat_map(|offset| [offset, 0]));
     }
-    let refused: [(Vec<u8>, &[u8], &str); 16] = [
+    let refused: [(Vec<u8>, &[u8], &str); 18] = [
         (vec![], &[], "refused 1 0\n"),
         (DOCUMENT_CONFIG[..19].to_vec(), &[], "refused 1 19\n"),
-        (vec![0x81, 0], &[], "refused 2 0\n"),
+        (vec![1, 0x81, 0x80], &[], "refused 1 3\n"),
+        (vec![0x81, 0], &[], "refused 2 1\n"),
         (config(0, 2), &[], "refused 3 0\n"),
         (config(1, 33), &[], "refused 4 1\n"),
         (config(2, 2), &[], "refused 5 2\n"),
@@ -131,7 +136,8 @@ fn each_refusal_is_printed_with_its_place() {
         (vec![1; 4097], &[], "refused 10 0\n"),
         (DOCUMENT_CONFIG.to_vec(), &[6; 8193], "refused 20 0\n"),
         (DOCUMENT_CONFIG.to_vec(), &[6, 1], "refused 21 2\n"),
-        (DOCUMENT_CONFIG.to_vec(), &[6, 1, 0x80, 0], "refused 22 2\n"),
+        (DOCUMENT_CONFIG.to_vec(), &[6, 1, 0x80, 0x80], "refused 21 4\n"),
+        (DOCUMENT_CONFIG.to_vec(), &[6, 1, 0x80, 0], "refused 22 3\n"),
         (DOCUMENT_CONFIG.to_vec(), &[6, 10], "refused 23 1\n"),
         (DOCUMENT_CONFIG.to_vec(), &[0], "refused 23 0\n"),
     ];
@@ -197,6 +203,25 @@ fn files_without_permission_are_40_and_41() {
 }
 
 #[test]
+fn a_read_that_fails_in_the_middle_of_a_file_is_40_and_41() {
+    let folder = Folder::with(&DOCUMENT_CONFIG, &DOCUMENT_TRACE);
+    let library = folder.0.join("failing_reads.so");
+    let compiler = Command::new("cc")
+        .args(["-shared", "-fPIC", "-Wall", "-Wextra", "-Werror", "-o"])
+        .arg(&library)
+        .arg(Path::new(env!("CARGO_MANIFEST_DIR")).join("tests/failing_reads.c"))
+        .status();
+    assert!(compiler.expect("there is a C compiler").success());
+    let failing = |name: &'static str| [("LD_PRELOAD", library.as_os_str()), ("OSEK_FAILING", OsStr::new(name))];
+    folder.assert_shown_with(&failing("no file"), DOCUMENT_LISTING);
+    folder.assert_shown_with(&failing("config.bin"), "refused 40 0\n");
+    folder.assert_shown_with(&failing("trace.bin"), "refused 41 0\n");
+    // Nor is half a trace run where the four bytes are a trace by themselves.
+    folder.write("trace.bin", &[6; 8]);
+    folder.assert_shown_with(&failing("trace.bin"), "refused 41 0\n");
+}
+
+#[test]
 fn drawn_cases_are_printed_as_the_fast_version_has_them() {
     for number in 0..200 {
         let Case { config, trace, .. } = cases::case(7, number);
@@ -207,14 +232,34 @@ fn drawn_cases_are_printed_as_the_fast_version_has_them() {
 #[test]
 fn host_explains_itself_and_refuses_a_bad_command_line() {
     let run = |arguments: &[&str]| Command::new(path(Program::Host)).args(arguments).output().expect("the host runs");
-    let help = run(&["--help"]);
-    assert_eq!(help.status.code(), Some(0));
-    assert!(help.stdout.starts_with(b"usage: osek_host CONFIG TRACE\n"));
-    assert!(help.stderr.is_empty());
-    for arguments in [&[][..], &["config.bin"], &["config.bin", "trace.bin", "more"]] {
+    for option in ["-h", "--help"] {
+        let help = run(&[option]);
+        assert_eq!(help.status.code(), Some(0));
+        assert!(help.stdout.starts_with(b"usage: osek_host CONFIG TRACE\n"));
+        assert!(help.stderr.is_empty());
+    }
+    let version = run(&["--version"]);
+    assert_eq!(version.status.code(), Some(0));
+    assert!(version.stdout.starts_with(b"osek_host "));
+    for arguments in [&[][..], &["config.bin"], &["config.bin", "trace.bin", "more"], &["-", "-"]] {
         let output = run(arguments);
         assert_eq!(output.status.code(), Some(2), "{arguments:?}");
         assert!(output.stdout.is_empty());
         assert!(output.stderr.starts_with(b"usage: "));
     }
+}
+
+#[test]
+fn host_reads_one_file_from_standard_input() {
+    let folder = Folder::with(&DOCUMENT_CONFIG, &DOCUMENT_TRACE);
+    for (arguments, input) in [(["-", "trace.bin"], "config.bin"), (["config.bin", "-"], "trace.bin")] {
+        let input = fs::File::open(folder.0.join(input)).expect("a file can be read");
+        let output = Command::new(path(Program::Host)).args(arguments).current_dir(&folder.0).stdin(input).output();
+        assert_eq!(String::from_utf8_lossy(&output.expect("the host runs").stdout), DOCUMENT_LISTING);
+    }
+    // A folder opens, and can't be read.
+    let input = fs::File::open(&folder.0).expect("a folder can be opened");
+    let output =
+        Command::new(path(Program::Host)).args(["config.bin", "-"]).current_dir(&folder.0).stdin(input).output();
+    assert_eq!(String::from_utf8_lossy(&output.expect("the host runs").stdout), "refused 41 0\n");
 }

@@ -63,40 +63,50 @@ fn a_configuration_over_4_096_bytes_is_10() {
 }
 
 #[test]
-fn a_configuration_that_ends_early_is_1_at_the_missing_number() {
-    // Every cut but the ones inside the priority 200 lies before a number.
+fn a_configuration_that_ends_early_is_1_at_its_end() {
+    // One of these cuts lies inside a number, the priority 200.
     for length in 0..CONFIG.len() {
-        let place = if length == 10 { 9 } else { length };
-        assert_config(&CONFIG[..length], 1, place as u64);
+        assert_config(&CONFIG[..length], 1, length as u64);
     }
 }
 
 #[test]
-fn a_number_that_breaks_off_is_1_at_its_first_byte() {
-    for groups in 1..=4 {
-        let mut config = CONFIG[..13].to_vec();
-        config.extend(vec![0x80; groups]);
-        assert_config(&config, 1, 13);
+fn a_number_that_breaks_off_is_1_at_the_inputs_end() {
+    // The version, the users, the last task.
+    for place in [0, 13, 22] {
+        for groups in 1..=4 {
+            let mut config = CONFIG[..place].to_vec();
+            config.extend(vec![0x80; groups]);
+            assert_config(&config, 1, (place + groups) as u64);
+        }
     }
 }
 
+/// Numbers that are too large or not in their shortest form, and the offset of the byte that decides it.
+const BAD_NUMBERS: [(&[u8], usize); 9] = [
+    (&[0x80, 0], 1),
+    (&[0x81, 0], 1),
+    (&[0x80, 0x80, 0], 2),
+    (&[0x87, 0x80, 0], 2),
+    (&[0x80, 0x80, 0x80, 0x80, 0], 4),
+    (&[0x80, 0x80, 0x80, 0x80, 0x80], 4),
+    (&[0xff, 0xff, 0xff, 0xff, 0x10], 4),
+    (&[0xff, 0xff, 0xff, 0xff, 0x8f], 4),
+    (&[0x81, 0x80, 0x80, 0x80, 0x7f], 4),
+];
+
 #[test]
-fn a_number_too_large_or_not_shortest_is_2() {
-    let bad: [&[u8]; 8] = [
-        &[0x80, 0],
-        &[0x81, 0],
-        &[0x87, 0x80, 0],
-        &[0x80, 0x80, 0x80, 0x80, 0],
-        &[0x80, 0x80, 0x80, 0x80, 0x80],
-        &[0xff, 0xff, 0xff, 0xff, 0x10],
-        &[0xff, 0xff, 0xff, 0xff, 0x8f],
-        &[0x81, 0x80, 0x80, 0x80, 0x7f],
-    ];
+fn a_number_too_large_or_not_shortest_is_2_at_the_byte_that_decides() {
     let numbers = [0, 1, 2, 3, 4, 5, 6, 7, 8, 9, 11, 12, 13, 14, 15, 16, 17, 18, 19, 20, 21, 22];
     for place in numbers {
         let length = if place == 9 { 2 } else { 1 };
-        for bytes in bad {
-            assert_config(&with(place, length, bytes), 2, place as u64);
+        for (bytes, decides) in BAD_NUMBERS {
+            let config = with(place, length, bytes);
+            assert_config(&config, 2, (place + decides) as u64);
+            // Nothing after that byte matters, and without it the number breaks off there.
+            let (before, after) = config.split_at(place + decides);
+            assert_config(&[before, &after[..1], &[0xff]].concat(), 2, (place + decides) as u64);
+            assert_config(before, 1, (place + decides) as u64);
         }
     }
 }
@@ -229,27 +239,31 @@ fn a_trace_over_8_192_bytes_is_20() {
     assert_eq!(result(&CONFIG, &[6; 8192], 4 * 8192 + 6), (0, 8192));
 }
 
+/// What stands before a number of a trace: the first code, a later one, a first and a second argument.
+const BEFORE_NUMBERS: [&[u8]; 6] = [&[], &[6, 1, 0], &[1], &[6, 8], &[8, 0], &[6, 8, 0x80, 1]];
+
 #[test]
-fn a_trace_that_ends_early_is_21_at_the_missing_number() {
+fn a_trace_that_ends_early_is_21_at_its_end() {
     for code in [1, 3, 4, 5, 7, 8, 9] {
         assert_trace(&[6, code], 21, 2);
-        assert_trace(&[6, code, 0x80], 21, 2);
-        assert_trace(&[6, code, 0xff, 0xff, 0xff, 0xff], 21, 2);
     }
     assert_trace(&[8, 0], 21, 2);
     assert_trace(&[8, 0x80, 1], 21, 3);
-    assert_trace(&[6, 0x86], 21, 1);
-    assert_trace(&[0x80, 0x80, 0x80, 0x80], 21, 0);
+    for before in BEFORE_NUMBERS {
+        for groups in 1..=4 {
+            assert_trace(&[before, &vec![0x86; groups]].concat(), 21, (before.len() + groups) as u64);
+        }
+    }
 }
 
 #[test]
-fn a_bad_number_in_the_trace_is_22() {
-    assert_trace(&[0x86, 0], 22, 0);
-    assert_trace(&[6, 1, 0x80, 0], 22, 2);
-    assert_trace(&[8, 0, 0x80, 0x80, 0], 22, 2);
-    assert_trace(&[8, 0xff, 0xff, 0xff, 0xff, 0x10, 0], 22, 1);
-    assert_trace(&[0x80, 0x80, 0x80, 0x80, 0x80], 22, 0);
-    assert_trace(&[0x80, 0x80, 0x80, 0x80, 0], 22, 0);
+fn a_bad_number_in_the_trace_is_22_at_the_byte_that_decides() {
+    for before in BEFORE_NUMBERS {
+        for (bytes, decides) in BAD_NUMBERS {
+            assert_trace(&[before, bytes].concat(), 22, (before.len() + decides) as u64);
+            assert_trace(&[before, bytes, &[6, 0xff]].concat(), 22, (before.len() + decides) as u64);
+        }
+    }
 }
 
 #[test]

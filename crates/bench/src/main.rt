@@ -1,10 +1,10 @@
 // The bench program: runs `config.bin` and `trace.bin` of the current folder, and prints the answers
 // or the refusal. Everything goes to standard output.
-use config::read_config;
-use event::read_event;
+use config_codec::read_config;
+use event_codec::read_event;
 use kernel::osek_run;
 use libc::STDOUT_FILENO;
-ghost use Prim.Native.Nat.{_≤_, _<_};
+ghost use Prim.Native.Nat.{_+_, _≤_, _<_};
 ghost use lib.ListN.{length};
 
 // The first or the second file can't be read.
@@ -61,7 +61,8 @@ fn report(config: &[u8], trace: &[u8], out: &mut [u8]) {
     }
 }
 
-// Reads a file into the buffer, as far as that goes.
+// Reads a file into the buffer, until it ends or the buffer is full. A read that fails makes the whole file unreadable,
+// wherever it stands.
 fn load(path: &[u8], buffer: &mut [u8]) -> Loaded
     ensures { λ r. ⌜ r .len ≤ length (now (buffer .exit)) ⌝ }
 {
@@ -69,18 +70,40 @@ fn load(path: &[u8], buffer: &mut [u8]) -> Loaded
     if fd < 0 {
         return Loaded { ok: false, len: 0 };
     }
-    let got = libc::read(fd, buffer);
+    let loaded = read_whole(fd, buffer);
+    libc::close(fd);
+    loaded
+}
+
+fn read_whole(fd: i32, buffer: &mut [u8]) -> Loaded
+    ensures { λ r. ⌜ r .len ≤ length (now (buffer .exit)) ⌝ }
+{
+    let mut len = 0;
+    while len < buffer.len() {
+        let part = read_part(fd, buffer, len);
+        if !part.ok {
+            return Loaded { ok: false, len: 0 };
+        }
+        let more = part.len;
+        if more == 0 {
+            break;
+        }
+        len += more;
+    }
+    Loaded { ok: true, len: len }
+}
+
+// One read into the buffer from index `at` on; no bytes at the end of the file.
+fn read_part(fd: i32, buffer: &mut [u8], at: usize) -> Loaded
+    requires { ⌜ at ≤ length (now buffer) ⌝ }
+    ensures { λ r. ⌜ at + r .len ≤ length (now (buffer .exit)) ⌝ }
+{
+    let got = libc::read(fd, &mut buffer[at..]);
     if got < 0 {
-        libc::close(fd);
         return Loaded { ok: false, len: 0 };
     }
-    let n = io::count(got, buffer);
-    let more = io::read_full(fd, &mut buffer[n..]);
-    libc::close(fd);
-    Loaded {
-        ok: true,
-        len: n + more,
-    }
+    let n = io::count(got, &buffer[at..]);
+    Loaded { ok: true, len: n }
 }
 
 fn print_refused(refusal: u64, place: u64) {

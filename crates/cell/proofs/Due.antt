@@ -1,12 +1,12 @@
 -- The table's arithmetic: how `due` moves from one tick to the next, and how far it is to the next due tick (`due-from`).
 -- Assumes nothing.
-use Prim.Native.Nat.{ℕ, suc, _+_, _-_, _%_, _≤_, _<_}
-use mathlib.Core.Bool.{true, false}
+use Prim.Native.Nat.{ℕ, suc, _+_, _*_, _-_, _/_, _%_, _≤_, _<_}
+use mathlib.Core.Bool.{true, false, true≢false}
 use mathlib.Core.Logic.{⊎-elim}
 use mathlib.Core.Path.{_≡_, sym, ap, _∙_}
-use native.Mathlib.Nat.{mod-lt, mod-eq-of-lt, mod-add-mod, mod-eq-sub-mod, zero-mod}
+use native.Mathlib.Nat.{mod-lt, mod-eq-of-lt, mod-add-mod, mod-eq-sub-mod, mul-mod-left, div-add-mod', zero-mod}
 use native.Mathlib.Omega.{arith}
-use borrow.Author.Tests.{lt-ltb, le-ltb, le-leb, lt-leb, eq-eqb, ne-eqb}
+use borrow.Author.Tests.{lt-ltb, le-ltb, le-leb, lt-leb, eq-eqb, ne-eqb, eqb-true}
 use lib.Dec.{eqb}
 use Rattle.cell.proofs.Order.{lt-or-le}
 use Rattle.cell.specs.Due.{due, untilDue}
@@ -51,6 +51,21 @@ module _ (P : ℕ) where
       let e : u ≡ 1 = omega arith in
       rw e (due-first 1))
       (lt-or-le 1 u)
+
+  -- the due ticks, one by one
+  pub due-at : (D j : ℕ) → due P D (D + j * P) ≡ true
+  due-at D j =
+      let e : D + j * P - D ≡ j * P = omega arith in
+      due-after (omega arith) ∙ ap (λ d. eqb (d % P) 0) e ∙ eq-eqb _ _ (mul-mod-left j P)
+
+  pub due-only : (D n : ℕ) → due P D n ≡ true → (j : ℕ) × (n ≡ D + j * P)
+  due-only D n is =
+      ⊎-elim
+      (λ (before : n < D). absurd (true≢false (sym is ∙ due-before before)))
+      (λ (after : D ≤ n).
+      let z : (n - D) % P ≡ 0 = eqb-true _ _ (sym (due-after after) ∙ is) in
+      ((n - D) / P, omega (arith, div-add-mod' (n - D) P)))
+      (lt-or-le n D)
 
   pub until-before : {D n : ℕ} → n < D → untilDue P D n ≡ D - n
   unfolding untilDue

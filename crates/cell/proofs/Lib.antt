@@ -3,6 +3,7 @@ pub mod Theorems
 pub mod Tick
 pub mod Order
 pub mod Modulo
+pub mod Reach
 pub mod Due
 pub mod Match
 pub mod OnTime

@@ -1,7 +1,8 @@
 // Ticks rows of 0, 1, 64 and 1,000 cells where they lie, and prints what becomes of them: the values in `stdout` are worked out by hand.
 //
-// A row is the first cells of an array of 1,000, of four kinds in turn. A line has the row's length, how many of its cells matched at each of
-// nine ticks, the sum of its counters after them, and the sum of the counters past its end, which no tick may touch.
+// A row is the first cells of an array of 1,000, of six kinds in turn. A line has the row's length, how many of its cells matched at each of
+// nine ticks, after them the sum of its counters and how many of its cells have a turn to pass, and the same for the cells past its end,
+// which no tick may touch.
 use cell::Cell;
 use libc::STDOUT_FILENO;
 ghost use mathlib.Core.Path.{_≡_};
@@ -20,19 +21,22 @@ fn tick_first(mut row: [Cell; 1000], n: usize) -> [Cell; 1000]
 }
 
 // A cell that is off, a tick before its compare value, with a mark from before.
-fn off_and_marked() -> Cell {
-    let mut c = Cell::of(4, 5, false);
+fn off_and_marked(turn: bool) -> Cell {
+    let mut c = Cell::of(4, 5, false, turn);
     c.matched = true;
     c
 }
 
-// In turn: a cell due at ticks 3 and 7; one due at every tick; one that is off; one that wraps at tick 1 and matches at tick 8.
+// In turn: a cell due at ticks 3 and 7; one due at every tick; one that is off; one that wraps at tick 1 and matches at tick 8; one due at
+// tick 65,540, whose counter reaches the compare value at tick 4 too; one that is off with a turn to pass.
 fn kind(i: usize) -> Cell {
-    match i % 4 {
-        0 => Cell::start(4, 3),
-        1 => Cell::start(1, 1),
-        2 => off_and_marked(),
-        _ => Cell::of(65535, 7, true),
+    match i % 6 {
+        0 => Cell::start(4, 1, 2),
+        1 => Cell::start(1, 1, 0),
+        2 => off_and_marked(false),
+        3 => Cell::of(65535, 7, true, false),
+        4 => Cell::start(8, 65535, 5),
+        _ => off_and_marked(true),
     }
 }
 
@@ -72,6 +76,18 @@ fn counters(row: [Cell; 1000], from: usize, to: usize) -> u64
     sum
 }
 
+fn turns(row: [Cell; 1000], from: usize, to: usize) -> u64
+    requires { ⌜ to ≤ 1000 ⌝ }
+{
+    let mut count: u64 = 0;
+    for i in from..to {
+        if row[i].turn {
+            count += 1;
+        }
+    }
+    count
+}
+
 fn print(n: u64) {
     io::print_decimal(STDOUT_FILENO, n);
     io::write_all(STDOUT_FILENO, b" ");
@@ -93,7 +109,9 @@ fn show(n: usize)
         print(matches(row, n));
     }
     print(counters(row, 0, n));
-    print_last(counters(row, n, 1000));
+    print(turns(row, 0, n));
+    print(counters(row, n, 1000));
+    print_last(turns(row, n, 1000));
 }
 
 fn main() {

@@ -5,27 +5,23 @@ use mathlib.Core.Path.{_≡_, refl, sym, _∙_}
 use mathlib.Core.Bool.{false}
 use mathlib.Core.List.{List}
 use native.Mathlib.Omega.{arith}
-use native.Mathlib.Nat.{add-zero}
-use lib.ListN.{length, drop-of-length-le}
+use lib.ListN.{length}
 use Rattle.number.specs.Refusal.{none, cut}
-use Rattle.number.specs.Number.{readNumber, groups}
-use Rattle.number.proofs.Cases.{by-eq}
-use Rattle.number.proofs.Theorems as Number
+use Rattle.number.specs.Number as Number
+use Rattle.number.specs.Number.{readNumber}
+use Rattle.number.proofs.Cases.{by-test, by-eq}
+use Rattle.number.proofs.Theorems.{reading, read-past}
 use Rattle.config.specs.declared.Config.{Config}
 use Rattle.config.specs.declared.Draft.{Draft}
 use Rattle.config.specs.Draft.{fault, put, asked, ended, start, Within}
 use Rattle.config.specs.Reader.{numberFault, refused, readFrom}
 use Rattle.config.specs.Writer.{maxNumbers, faultFrom, bytesFrom, firstFault, configBytes}
 use Rattle.config.proofs.Position.{left, moved, some-left, start-within}
-use Rattle.config.proofs.Walk.{by-test, number-fine, read-end, read-zero, read-step, read-stop, fault-end, fault-step, fault-stop, walk-bytes}
+use Rattle.config.proofs.Walk.{number-fine, read-end, read-zero, read-step, read-stop, fault-end, fault-step, fault-stop, walk-bytes}
 use Rattle.config.proofs.RoundTrip.{walk, enough, walk-written}
 
-read-past : (bs : List ℕ) (at : ℕ) → length bs ≤ at → readNumber bs at ≡ record { value = 0; refusal = cut; place = at }
-unfolding readNumber groups
-read-past bs at h = rw (drop-of-length-le bs {i = at} h, add-zero)
-
 read-cut : (k : ℕ) (bs : List ℕ) (at : ℕ) (d : Draft) → ended (d .field) ≡ false → length bs ≤ at → readFrom (suc k) bs at d ≡ refused cut at
-read-cut k bs at d t h = read-stop k bs at d (record { value = 0; refusal = cut; place = at }) (read-past bs at h) t (λ e. omega arith)
+read-cut k bs at d t h = read-stop k bs at d (Number.refused cut at) (read-past bs at h) t (λ e. omega arith)
 
 read-fuel : (k j : ℕ) (bs : List ℕ) (at : ℕ) (d : Draft) → length bs ≤ at + k → length bs ≤ at + j → readFrom k bs at d ≡ readFrom j bs at d
 read-fuel zero zero bs at d p q = refl
@@ -42,7 +38,7 @@ read-fuel (suc k) (suc j) bs at d p q =
     by-test (ended (d .field))
     (λ t. read-end (suc k) bs at d t ∙ sym (read-end (suc j) bs at d t))
     (λ t. by-eq (numberFault d n) none
-    (λ f. let h = Number.reading bs at .after (number-fine d n f .0) in
+    (λ f. let h = reading bs at .after (number-fine d n f .0) in
     read-step k bs at d n refl t f
     ∙ read-fuel k j bs (n .place) (put d (n .value)) (omega arith) (omega arith)
     ∙ sym (read-step j bs at d n refl t f))

@@ -1,11 +1,13 @@
--- The laws of `config`. `Theorems` is the file to read and the one that other crates cite; `Tables` has the entries' places for every crate.
--- The rest is in the order of the proofs: lists and tests, one number, all numbers, the value that they make; then what the functions' own
--- proofs cite.
+-- The laws of `config`. `Theorems` is the file to read and the one that other crates cite; `Refusals` computes document 01's table; `Tables` has the
+-- entries' places for every crate.
+-- The rest is in the order of the proofs: lists and tests, one number, all numbers, the value that they make. `Position` serves the proofs of the
+-- code too.
 pub mod Theorems
+pub mod Refusals
 pub mod Tables
 mod Padded
 mod Ranges
-mod Position
+pub mod Position
 mod Walk
 mod Extends
 mod Rows
@@ -14,10 +16,3 @@ mod Reading
 mod RoundTrip
 mod Past
 mod Fuel
-mod CodeFault
-mod CodeWithin
-mod CodeReader
-mod CodeWriter
-mod CodeMeasure
-mod CodeWritten
-mod CodeAnswer

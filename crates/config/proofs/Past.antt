@@ -6,7 +6,7 @@ use mathlib.Core.List.{List, [], _∷_}
 use native.Mathlib.Omega.{arith}
 use borrow.Author.Tests.{eq-eqb, ne-eqb}
 use Rattle.number.specs.Refusal.{none}
-use Rattle.number.proofs.Cases.{by-eq}
+use Rattle.number.proofs.Cases.{by-test, by-eq}
 use Rattle.config.specs.declared.Config.{Config}
 use Rattle.config.specs.declared.Draft.{Draft}
 use Rattle.config.specs.declared.Field.{Field}
@@ -18,7 +18,7 @@ use Rattle.config.specs.Writer.{maxNumbers, faultFrom, firstFault, confi
 use Rattle.config.specs.Accepted.{Shaped, trimmed}
 use Rattle.config.proofs.Padded.{getD-padded}
 use Rattle.config.proofs.Ranges.{in-range}
-use Rattle.config.proofs.Walk.{InOrder, Asks, by-test, fault-end, fault-step, fault-stop, walk-bytes}
+use Rattle.config.proofs.Walk.{InOrder, Asks, fault-end, fault-step, fault-stop, walk-bytes}
 use Rattle.config.proofs.Extends.{Extends, start-extends, extends-put}
 use Rattle.config.proofs.Tables.{firstOf-step, firstOf-rises}
 use Rattle.config.proofs.Rows.{Place, place-put}

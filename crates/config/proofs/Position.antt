@@ -11,8 +11,8 @@ use lib.ListN.{getD, set}
 use lib.Pow.{pow-mono}
 use borrow.Author.Tests.{eq-eqb, ne-eqb, ltb-true}
 use Rattle.number.specs.Refusal.{none}
-use Rattle.number.specs.Number.{limit}
-use Rattle.number.proofs.Cases.{by-eq}
+use Rattle.number.specs.Number.{numberBound}
+use Rattle.number.proofs.Cases.{by-eq, and-true}
 use Rattle.config.specs.declared.Draft.{Draft}
 use Rattle.config.specs.declared.Field.{Field}
 use Rattle.config.specs.declared.Field.the-variants.{Version, Bodies, Kind, Priority, Autostart, Resources, Users, Tables, Period, Entries, Offset, Task, End}
@@ -20,7 +20,7 @@ use Rattle.config.specs.Meaning.{isr}
 use Rattle.config.specs.Value.{maxBodies, maxResources, maxTables, maxEntries}
 use Rattle.config.specs.Draft.{mostAutostart, fault, put, putAt, ended, start, Inside, Within}
 use Rattle.config.proofs.Padded.{getD-zeros}
-use Rattle.config.proofs.Ranges.{InRange, in-range, and-true}
+use Rattle.config.proofs.Ranges.{InRange, in-range}
 
 -- `Within` of a draft at the field f, for proofs by cases on the field
 pub record Standing (f : Field) (d : Draft) : Type 0 where
@@ -150,7 +150,7 @@ most-le k =
     (λ p. rw (ne-eqb k isr p) (omega arith))
 
 -- a number in order is a number of the format
-small-at : (f : Field) (d : Draft) (v : ℕ) → ended f ≡ false → Standing f d → Paced d → InRange f d v → v < limit
+small-at : (f : Field) (d : Draft) (v : ℕ) → ended f ≡ false → Standing f d → Paced d → InRange f d v → v < numberBound
 unfolding ended
 small-at Version d v e s p h = omega arith
 small-at Bodies d v e s p h = omega arith
@@ -166,7 +166,7 @@ small-at Offset d v e s p h = omega (arith, p (d .index))
 small-at Task d v e s p h = omega (arith, ltb-true v (d .config .bodies) (and-true (ltb v (d .config .bodies)) (not (eqb (getD (d .config .kind) v 0) isr)) (h .0) .0))
 small-at End d v e s p h = absurd (true≢false e)
 
-pub small : (d : Draft) (v : ℕ) → ended (d .field) ≡ false → fault d v ≡ none → Within d → Paced d → v < limit
+pub small : (d : Draft) (v : ℕ) → ended (d .field) ≡ false → fault d v ≡ none → Within d → Paced d → v < numberBound
 small d v t e w p = small-at (d .field) d v t (standing d w) p (in-range (d .field) d v e)
 
 -- before the end there is a number to come

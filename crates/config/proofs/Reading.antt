@@ -1,6 +1,7 @@
--- What every reading satisfies, refused or not: its refusal and its place are in range, and a refused one has the all-zero value.
+-- What every reading satisfies, refused or not: its refusal and its place are in range, a refused one has the all-zero value, and one that is cut off
+-- its place at the input's end.
 -- Assumes nothing.
-use Prim.Native.Nat.{ℕ, _+_, _-_, _^_, _≤_}
+use Prim.Native.Nat.{ℕ, zero, suc, _+_, _-_, _^_, _≤_}
 use mathlib.Core.Path.{_≡_, refl}
 use mathlib.Core.Bool.{Bool, true, false, not, _&&_}
 use mathlib.Core.List.{List}
@@ -10,7 +11,7 @@ use lib.ListN.{length, getD, take}
 use borrow.Author.Tests.{eq-eqb, ne-eqb, le-leb, lt-leb}
 use Rattle.number.specs.Refusal.{none, cut}
 use Rattle.number.specs.Number.{readNumber}
-use Rattle.number.proofs.Cases.{by-lt, by-eq}
+use Rattle.number.proofs.Cases.{by-test, by-lt, by-eq}
 use Rattle.number.proofs.Theorems as Number
 use Rattle.config.specs.declared.ConfigRead.{ConfigRead}
 use Rattle.config.specs.declared.Draft.{Draft}
@@ -19,47 +20,51 @@ use Rattle.config.specs.declared.Field.the-variants.{Version, Bodies, Ki
 use Rattle.config.specs.Refusal.{badVersion, badCount, badField, usedPriority, unsorted, tooManyEntries, leftOver, tooLong}
 use Rattle.config.specs.Meaning.{isr, isTask}
 use Rattle.config.specs.Value.{maxBodies, maxResources, maxTables, maxEntries, noConfig}
-use Rattle.config.specs.Draft.{occurs, unless, outside, andThen, sorted, mostAutostart, fault, faultAt, start}
+use Rattle.config.specs.Draft.{occurs, unless, outside, andThen, sorted, mostAutostart, fault, faultAt, put, ended, start}
 use Rattle.config.specs.Reader.{numberFault, faultPlace, finished, refused, readFrom, maxLength, readConfig}
-use Rattle.config.proofs.Walk.{number-fine, readFrom-elim}
+use Rattle.config.proofs.Walk.{number-fine, read-end, read-zero, read-step, read-stop, readFrom-elim}
 
-unless-le : (t : Bool) (r : ℕ) → r ≤ 8 → unless t r ≤ 8
-unless-le true r h = lit≤ tt
-unless-le false r h = h
+-- a test's answer: nothing, or one of 3 to 8
+abbrev Tested : ℕ → Type 0
+Tested r = (r ≤ tooManyEntries) × ((r ≡ none → ⊥) → badVersion ≤ r)
 
-andThen-le : (r s : ℕ) → r ≤ 8 → s ≤ 8 → andThen r s ≤ 8
-andThen-le r s p q =
+unless-tested : (t : Bool) (r : ℕ) → badVersion ≤ r → r ≤ tooManyEntries → Tested (unless t r)
+unless-tested true r low high = (lit≤ tt, λ n. absurd (n refl))
+unless-tested false r low high = (high, λ n. low)
+
+andThen-tested : (r s : ℕ) → Tested r → Tested s → Tested (andThen r s)
+andThen-tested r s p q =
     by-eq r none
     (λ e. rw (eq-eqb r none e) q)
     (λ e. rw (ne-eqb r none e) p)
 
-outside-le : (lo hi v r : ℕ) → r ≤ 8 → outside lo hi v r ≤ 8
-outside-le lo hi v r h = unless-le (leb lo v && leb v hi) r h
+outside-tested : (lo hi v r : ℕ) → badVersion ≤ r → r ≤ tooManyEntries → Tested (outside lo hi v r)
+outside-tested lo hi v r low high = unless-tested (leb lo v && leb v hi) r low high
 
-fault-le : (f : Field) (d : Draft) (v : ℕ) → faultAt f d v ≤ 8
+fault-tested : (f : Field) (d : Draft) (v : ℕ) → Tested (faultAt f d v)
 unfolding faultAt
-fault-le Version d v = outside-le 1 1 v badVersion (lit≤ tt)
-fault-le Bodies d v = outside-le 1 maxBodies v badCount (lit≤ tt)
-fault-le Kind d v = outside-le 0 isr v badField (lit≤ tt)
-fault-le Priority d v =
-    andThen-le (outside 1 200 v badField) (unless (not (occurs v (take (d .index) (d .config .priority)))) usedPriority)
-    (outside-le 1 200 v badField (lit≤ tt))
-    (unless-le (not (occurs v (take (d .index) (d .config .priority)))) usedPriority (lit≤ tt))
-fault-le Autostart d v = outside-le 0 (mostAutostart (getD (d .config .kind) (d .index) 0)) v badField (lit≤ tt)
-fault-le Resources d v = outside-le 0 maxResources v badCount (lit≤ tt)
-fault-le Users d v = outside-le 1 (2 ^ d .config .bodies - 1) v badField (lit≤ tt)
-fault-le Tables d v = outside-le 0 maxTables v badCount (lit≤ tt)
-fault-le Period d v = outside-le 1 65535 v badField (lit≤ tt)
-fault-le Entries d v =
-    andThen-le (outside 1 16 v badCount) (unless (leb (d .entry + v) maxEntries) tooManyEntries)
-    (outside-le 1 16 v badCount (lit≤ tt))
-    (unless-le (leb (d .entry + v) maxEntries) tooManyEntries (lit≤ tt))
-fault-le Offset d v = unless-le (ltb v (getD (d .config .period) (d .index) 0)) badField (lit≤ tt)
-fault-le Task d v =
-    andThen-le (unless (isTask (d .config) v) badField) (unless (sorted d v) unsorted)
-    (unless-le (isTask (d .config) v) badField (lit≤ tt))
-    (unless-le (sorted d v) unsorted (lit≤ tt))
-fault-le End d v = lit≤ tt
+fault-tested Version d v = outside-tested 1 1 v badVersion (lit≤ tt) (lit≤ tt)
+fault-tested Bodies d v = outside-tested 1 maxBodies v badCount (lit≤ tt) (lit≤ tt)
+fault-tested Kind d v = outside-tested 0 isr v badField (lit≤ tt) (lit≤ tt)
+fault-tested Priority d v =
+    andThen-tested (outside 1 200 v badField) (unless (not (occurs v (take (d .index) (d .config .priority)))) usedPriority)
+    (outside-tested 1 200 v badField (lit≤ tt) (lit≤ tt))
+    (unless-tested (not (occurs v (take (d .index) (d .config .priority)))) usedPriority (lit≤ tt) (lit≤ tt))
+fault-tested Autostart d v = outside-tested 0 (mostAutostart (getD (d .config .kind) (d .index) 0)) v badField (lit≤ tt) (lit≤ tt)
+fault-tested Resources d v = outside-tested 0 maxResources v badCount (lit≤ tt) (lit≤ tt)
+fault-tested Users d v = outside-tested 1 (2 ^ d .config .bodies - 1) v badField (lit≤ tt) (lit≤ tt)
+fault-tested Tables d v = outside-tested 0 maxTables v badCount (lit≤ tt) (lit≤ tt)
+fault-tested Period d v = outside-tested 1 65535 v badField (lit≤ tt) (lit≤ tt)
+fault-tested Entries d v =
+    andThen-tested (outside 1 16 v badCount) (unless (leb (d .entry + v) maxEntries) tooManyEntries)
+    (outside-tested 1 16 v badCount (lit≤ tt) (lit≤ tt))
+    (unless-tested (leb (d .entry + v) maxEntries) tooManyEntries (lit≤ tt) (lit≤ tt))
+fault-tested Offset d v = unless-tested (ltb v (getD (d .config .period) (d .index) 0)) badField (lit≤ tt) (lit≤ tt)
+fault-tested Task d v =
+    andThen-tested (unless (isTask (d .config) v) badField) (unless (sorted d v) unsorted)
+    (unless-tested (isTask (d .config) v) badField (lit≤ tt) (lit≤ tt))
+    (unless-tested (sorted d v) unsorted (lit≤ tt) (lit≤ tt))
+fault-tested End d v = (lit≤ tt, λ n. absurd (n refl))
 
 pub record Bounded (bs : List ℕ) (r : ConfigRead) : Type 0 where
   pub refusals : r .refusal ≤ 10
@@ -81,8 +86,8 @@ number-bounded bs at d h =
     let n = readNumber bs at in
     let s = Number.reading bs at in
     by-eq (n .refusal) none
-    (λ e. rw (eq-eqb (n .refusal) none e) (refused-bounded bs (fault d (n .value)) at (omega (arith, fault-le (d .field) d (n .value))) h))
-    (λ e. rw (ne-eqb (n .refusal) none e) (refused-bounded bs (n .refusal) (n .place) (omega (arith, s .refusals)) (omega (arith, s .own-place e))))
+    (λ e. rw (eq-eqb (n .refusal) none e) (refused-bounded bs (fault d (n .value)) at (omega (arith, fault-tested (d .field) d (n .value) .0)) h))
+    (λ e. rw (ne-eqb (n .refusal) none e) (refused-bounded bs (n .refusal) (n .place) (omega (arith, s .refusals)) (s .place-le h)))
 
 readFrom-bounded : (bs : List ℕ) (k at : ℕ) (d : Draft) → at ≤ length bs → Bounded bs (readFrom k bs at d)
 readFrom-bounded bs =
@@ -98,3 +103,45 @@ bounded bs =
     by-lt maxLength (length bs)
     (λ h. rw (lt-leb (length bs) maxLength h) (refused-bounded bs tooLong 0 (lit≤ tt) (omega arith)))
     (λ h. rw (le-leb (length bs) maxLength h) (readFrom-bounded bs (length bs) 0 start (omega arith)))
+
+-- after the last number nothing is cut off
+finished-not-cut : (bs : List ℕ) (at : ℕ) (d : Draft) → finished bs at d .refusal ≡ cut → ⊥
+finished-not-cut bs at d e =
+    by-eq at (length bs)
+    (λ h. let z : _≡_ {A = ℕ} none cut = rw (eq-eqb at (length bs) h) at e in omega arith)
+    (λ h. let z : _≡_ {A = ℕ} leftOver cut = rw (ne-eqb at (length bs) h) at e in omega arith)
+
+-- the place of a number refused with 1
+number-cut : (bs : List ℕ) (at : ℕ) (d : Draft) → at ≤ length bs → numberFault d (readNumber bs at) ≡ cut
+    → faultPlace at (readNumber bs at) ≡ length bs
+number-cut bs at d h c =
+    let n = readNumber bs at in
+    by-eq (n .refusal) none
+    (λ e. let f : fault d (n .value) ≡ cut = rw (eq-eqb (n .refusal) none e) at c in
+    absurd (omega (arith, fault-tested (d .field) d (n .value) .1 (λ z. omega arith))))
+    (λ e. let f : n .refusal ≡ cut = rw (ne-eqb (n .refusal) none e) at c in
+    rw (ne-eqb (n .refusal) none e) (omega (arith, Number.reading bs at .at-end f)))
+
+-- with numbers enough for the bytes that are left, what is cut off is refused at the input's end
+readFrom-cut : (k : ℕ) (bs : List ℕ) (at : ℕ) (d : Draft) → at ≤ length bs → length bs ≤ at + k → readFrom k bs at d .refusal ≡ cut
+    → readFrom k bs at d .place ≡ length bs
+readFrom-cut zero bs at d h m e =
+    by-test (ended (d .field))
+    (λ t. absurd (finished-not-cut bs at d (rw (read-end zero bs at d t) at e)))
+    (λ t. rw (read-zero bs at d t) (omega arith))
+readFrom-cut (suc k) bs at d h m e =
+    let n = readNumber bs at in
+    by-test (ended (d .field))
+    (λ t. absurd (finished-not-cut bs at d (rw (read-end (suc k) bs at d t) at e)))
+    (λ t. by-eq (numberFault d n) none
+    (λ f. let r = Number.reading bs at in let a = number-fine d n f .0 in
+    rw (read-step k bs at d n refl t f)
+    (readFrom-cut k bs (n .place) (put d (n .value)) (r .inside a) (omega (arith, r .after a)) (rw (read-step k bs at d n refl t f) at e)))
+    (λ f. rw (read-stop k bs at d n refl t f) (number-cut bs at d h (rw (read-stop k bs at d n refl t f) at e))))
+
+pub cut-place : (bs : List ℕ) → readConfig bs .refusal ≡ cut → readConfig bs .place ≡ length bs
+unfolding readConfig
+cut-place bs e =
+    by-lt maxLength (length bs)
+    (λ h. let z : _≡_ {A = ℕ} tooLong cut = rw (lt-leb (length bs) maxLength h) at e in absurd (omega arith))
+    (λ h. rw (le-leb (length bs) maxLength h) (readFrom-cut (length bs) bs 0 start (omega arith) (omega arith) (rw (le-leb (length bs) maxLength h) at e)))

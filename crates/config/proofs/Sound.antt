@@ -11,7 +11,7 @@ use native.Mathlib.Omega.{arith}
 use lib.ListN.{getD}
 use borrow.Author.Tests.{eq-eqb, ne-eqb}
 use Rattle.number.specs.Refusal.{none}
-use Rattle.number.proofs.Cases.{by-eq}
+use Rattle.number.proofs.Cases.{by-test, by-eq}
 use Rattle.config.specs.declared.Config.{Config}
 use Rattle.config.specs.declared.Draft.{Draft}
 use Rattle.config.specs.declared.Field.{Field}
@@ -22,7 +22,7 @@ use Rattle.config.specs.Draft.{put, putAt, asked, askedAt, ended, start}
 use Rattle.config.specs.Accepted.{Shaped, Accepted, trimmed}
 use Rattle.config.specs.Writer.{faultFrom}
 use Rattle.config.proofs.Ranges.{InRange, in-range, no-fault}
-use Rattle.config.proofs.Walk.{InOrder, Asks, last, by-test, fault-end, fault-step}
+use Rattle.config.proofs.Walk.{InOrder, Asks, last, fault-end, fault-step}
 use Rattle.config.proofs.Extends.{Extends, start-extends, extends-put}
 use Rattle.config.proofs.Tables.{firstOf-step, firstOf-zero, firstOf-rises, one-table}
 use Rattle.config.proofs.Rows.{Place, place-put, Fits, KindFits, PriorityFits, AutostartFits, UsersFit, PeriodFits, EntriesFit, OffsetFits, TaskFits, risesAt, fits, fits-back, accepted-fits}

@@ -10,11 +10,10 @@ use native.Mathlib.Omega.{arith}
 use lib.Dec.{ltb, eqb}
 use lib.ListN.{getD}
 use borrow.Author.Tests.{ltb-true, le-ltb, eqb-false, eq-eqb, ne-eqb, not-true}
-use Rattle.number.proofs.Cases.{by-lt, by-eq}
+use Rattle.number.proofs.Cases.{by-lt, by-eq, and-true}
 use Rattle.config.specs.declared.Config.{Config}
 use Rattle.config.specs.Meaning.{isr, isTask, entriesBefore, firstOf}
 use Rattle.config.specs.Draft.{rises}
-use Rattle.config.proofs.Ranges.{and-true}
 
 entries-step : (l : List ℕ) (t : ℕ) → entriesBefore l (suc t) ≡ entriesBefore l t + getD l t 0
 unfolding entriesBefore

@@ -3,19 +3,19 @@
 -- In order: what every reading satisfies, and every accepted value; both round trips; which values the writer accepts; what stands past the counts;
 -- that the fuel of the definitions is enough.
 -- Assumes nothing.
-use Prim.Native.Nat.{ℕ, suc, _+_, _≤_, _<_}
+use Prim.Native.Nat.{ℕ, zero, suc, _+_, _-_, _≤_, _<_}
 use mathlib.Core.Path.{_≡_}
 use mathlib.Core.List.{List}
-use mathlib.Core.Logic.{_↔_, _⊎_}
+use mathlib.Core.Logic.{_↔_, _⊎_, ⊎-elim}
 use native.Mathlib.Omega.{arith}
 use lib.ListN.{length, getD}
-use Rattle.number.specs.Refusal.{none}
+use Rattle.number.specs.Refusal.{none, cut}
 use Rattle.number.specs.Number.{Bytes}
 use Rattle.config.specs.declared.Config.{Config}
 use Rattle.config.specs.declared.ConfigRead.{ConfigRead}
 use Rattle.config.specs.Refusal.{tooLong}
 use Rattle.config.specs.Value.{noConfig}
-use Rattle.config.specs.Meaning.{firstOf}
+use Rattle.config.specs.Meaning.{firstOf, smallestOffset}
 use Rattle.config.specs.Draft.{start}
 use Rattle.config.specs.Reader.{accepted, readFrom, readConfig}
 use Rattle.config.specs.Writer.{maxNumbers, faultFrom, firstFault, bytesFrom, configBytes, writeConfig, wroteConfig}
@@ -28,12 +28,13 @@ use Rattle.config.proofs.Past as Past
 use Rattle.config.proofs.Fuel as Fuel
 
 -- "A refused reader returns an all-zero value with refusal and place"; "An accepted reading has refusal 0 and the place after it",
--- which is the input's end, and "entries past the counts are 0"
+-- which is the input's end, as is that of one "cut off"; "entries past the counts are 0"
 pub record ConfigReading (bs : List ℕ) (r : ConfigRead) : Type 0 where
   pub refusals : r .refusal ≤ tooLong
   pub inside : r .place ≤ length bs
   pub shaped : Shaped (r .config)
   pub whole : r .refusal ≡ none → r .place ≡ length bs
+  pub at-end : r .refusal ≡ cut → r .place ≡ length bs
   pub zero-value : (r .refusal ≡ none → ⊥) → r .config ≡ noConfig
   pub zero-past : r .config ≡ trimmed (r .config)
 
@@ -45,6 +46,7 @@ reading bs =
       inside = b .inside;
       shaped = RoundTrip.shaped bs;
       whole = RoundTrip.read-place bs;
+      at-end = Reading.cut-place bs;
       zero-value = b .zero-value;
       zero-past = RoundTrip.zero-past bs;
     }
@@ -59,6 +61,22 @@ pub entries-in-order : (c : Config) → Accepted c → (t e : ℕ) → t < c .ta
     ⊎ ((getD (c .offset) e 0 ≡ getD (c .offset) (e + 1) 0) × (getD (c .task) e 0 < getD (c .task) (e + 1) 0))
 entries-in-order c a t e p q r =
     Tables.rises-true (getD (c .offset) e 0) (getD (c .task) e 0) (getD (c .offset) (e + 1) 0) (getD (c .task) (e + 1) 0) (a .entries-rise t e p q r)
+
+-- so no offset of a table is below its smallest, the first entry's
+pub smallest-least : (c : Config) → Accepted c → (t e : ℕ) → t < c .tables → firstOf c t ≤ e → e < firstOf c (suc t)
+    → smallestOffset c t ≤ getD (c .offset) e 0
+smallest-least c a t e t< low high = let q : firstOf c t + (e - firstOf c t) ≡ e = omega arith in rw q at (go (e - firstOf c t) (omega arith))
+  where
+    go : (k : ℕ) → firstOf c t + k < firstOf c (suc t) → smallestOffset c t ≤ getD (c .offset) (firstOf c t + k) 0
+    go zero h = let q : firstOf c t + 0 ≡ firstOf c t = omega arith in rw q (omega arith)
+    go (suc k) h =
+        let q : firstOf c t + suc k ≡ firstOf c t + k + 1 = omega arith in
+        let before = go k (omega arith) in
+        rw q
+        (⊎-elim
+        (λ (less : getD (c .offset) (firstOf c t + k) 0 < getD (c .offset) (firstOf c t + k + 1) 0). omega arith)
+        (λ same. omega (arith, same .0))
+        (entries-in-order c a t (firstOf c t + k) t< (omega arith) (omega arith)))
 
 pub entry-of-task : (c : Config) → Accepted c → (e : ℕ) → e < firstOf c (c .tables)
     → (getD (c .task) e 0 < c .bodies) × (getD (c .kind) (getD (c .task) e 0) 0 ≡ 0)
@@ -93,11 +111,12 @@ pub past-ignored : (b c : Config) → Shaped b → Shaped c → trimmed b ≡ tr
     → (writeConfig b n ≡ writeConfig c n) × (wroteConfig b d ≡ wroteConfig c d)
 past-ignored b c sb sc e n d = (Past.same-answer b c sb sc e n, Past.same-output b c sb sc e d)
 
--- "a number takes at least a byte, so as many as there are bytes are enough" (specs/Reader.antt): more fuel reads the same
+-- as many numbers as there are bytes are enough (specs/Reader.antt): more fuel reads the same
 pub readFrom-enough : (bs : List ℕ) (k : ℕ) → length bs ≤ k → readFrom k bs 0 start ≡ readFrom (length bs) bs 0 start
 readFrom-enough = Fuel.readFrom-enough
 
--- "the most numbers that a configuration has" (specs/Writer.antt): more fuel finds the same fault and, where there is none, writes the same bytes
+-- no configuration has more numbers than `maxNumbers` (specs/Writer.antt): more fuel finds the same fault and, where there is none, writes the same
+-- bytes
 pub faultFrom-enough : (c : Config) (k : ℕ) → maxNumbers ≤ k → faultFrom k c start ≡ firstFault c
 faultFrom-enough = Fuel.faultFrom-enough
 

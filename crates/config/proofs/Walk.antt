@@ -8,7 +8,7 @@
 -- the list of a writer without a fault (`Walks`); the writer on a list. Assumes nothing.
 use Prim.Native.Nat.{ℕ, zero, suc, _+_, _*_, _≤_}
 use mathlib.Core.Path.{_≡_, refl, sym, ap, _∙_}
-use mathlib.Core.Bool.{Bool, true, false}
+use mathlib.Core.Bool.{true, false}
 use mathlib.Core.List.{List, [], _∷_, _++_}
 use native.Mathlib.Omega.{arith}
 use lib.Dec.{lit≤}
@@ -18,7 +18,7 @@ use borrow.Author.Tests.{eq-eqb, ne-eqb}
 use Rattle.number.specs.Refusal.{none, cut}
 use Rattle.number.specs.Number.{Bytes, readNumber, numberBytes}
 use Rattle.number.specs.declared.NumberRead.{NumberRead}
-use Rattle.number.proofs.Cases.{by-eq}
+use Rattle.number.proofs.Cases.{by-test, by-eq}
 use Rattle.number.proofs.Theorems as Number
 use Rattle.config.specs.declared.Config.{Config}
 use Rattle.config.specs.declared.ConfigRead.{ConfigRead}
@@ -43,10 +43,6 @@ Asks c d (v ∷ vs) = (asked c d ≡ v) × Asks c (put d v) vs
 abbrev pub bytesOf : List ℕ → List ℕ
 bytesOf [] = []
 bytesOf (v ∷ vs) = numberBytes v ++ bytesOf vs
-
-pub by-test : {C : Type 0} (t : Bool) → (t ≡ true → C) → (t ≡ false → C) → C
-by-test true f g = f refl
-by-test false f g = g refl
 
 -- a number takes at least one byte
 pub length-bytesOf : (vs : List ℕ) → length vs ≤ length (bytesOf vs)

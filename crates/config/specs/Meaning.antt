@@ -2,7 +2,7 @@
 -- Assumes nothing.
 use Prim.Native.Nat.{ℕ, zero, suc, _+_, _/_, _%_, max}
 use mathlib.Core.Bool.{Bool, cond, not, _&&_}
-use mathlib.Core.List.{List, [], _∷_, foldr}
+use mathlib.Core.List.{List, [], _∷_}
 use lib.Dec.{ltb, eqb}
 use lib.ListN.{getD, take, drop}
 use Rattle.config.specs.declared.Config.{Config}
@@ -52,6 +52,6 @@ offsets c t = ofTable c t (c .offset)
 abbrev pub tasks : Config → ℕ → List ℕ
 tasks c t = ofTable c t (c .task)
 
--- the table's largest offset
-abbrev pub largestOffset : Config → ℕ → ℕ
-largestOffset c t = foldr max 0 (offsets c t)
+-- the table's smallest offset: "Entries rise by offset", so it is that of the first
+abbrev pub smallestOffset : Config → ℕ → ℕ
+smallestOffset c t = getD (c .offset) (firstOf c t) 0

@@ -1,8 +1,8 @@
 // Document 01's configuration rules, case by case: what the reader and the writer answer. `stdout`
 // has the answers that the document asks for.
 use config::Config;
-use config::read_config;
-use config::write_config;
+use config_codec::read_config;
+use config_codec::write_config;
 use libc::STDOUT_FILENO;
 
 // A refusal and its place.
@@ -55,8 +55,10 @@ fn numbers() {
     read(b"\x01");
     read(b"\x80");
     read(b"\x80\x00");
-    read(b"\x80\x80\x80\x80\x10");
+    read(b"\x80\x80\x00");
+    read(b"\x80\x80\x80\x80\x00");
     read(b"\x80\x80\x80\x80\x80");
+    read(b"\xff\xff\xff\xff\x10");
     read(b"\x81\x80\x80\x80");
     read(b"\x01\x01\x00\x85");
     read(b"\x01\x01\x00\x85\x00");

@@ -13,14 +13,13 @@ use lib.ListN.{length, drop, length-append}
 use lib.Seq.{drop-at, drop-drop}
 use Rattle.number.specs.declared.NumberRead.{NumberRead}
 use Rattle.number.specs.Refusal.{none}
-use Rattle.number.specs.Number.{limit, Bytes, readNumber, numberBytes}
-use Rattle.number.proofs.Cases.{by-eq}
+use Rattle.number.specs.Number.{numberBound, Bytes, readNumber, numberBytes}
+use Rattle.number.proofs.Cases.{by-test, by-eq}
 use Rattle.number.proofs.Theorems as Number
 use Rattle.event.specs.declared.Event.{Event}
 use Rattle.event.specs.declared.EventRead.{EventRead}
 use Rattle.event.specs.Refusal.{unknownEvent}
 use Rattle.event.specs.Event.{known, arguments, event, accepted, refused, unreadable, afterNumber, readArguments, readEvent, argumentBytes, eventBytes, writeEvent, eventWritten, Writable}
-use Rattle.event.proofs.Cases.{by-test}
 use Rattle.event.proofs.Codes.{known-true, known-le}
 use Rattle.event.proofs.Reading.{goes-on, ends, read-known}
 use Rattle.event.proofs.Writing.{writes-bytes, stray-none, accepted-writable, write-accepted, write-room}
@@ -48,14 +47,14 @@ after-elim P n f on off =
     (λ h. rw (ends n n f refl h) (off h))
 
 -- an event of a known code
-writable : (code first second : ℕ) → known code ≡ true → first < limit → second < limit → (arguments code < 1 → first ≡ 0) → (arguments code < 2 → second ≡ 0)
+writable : (code first second : ℕ) → known code ≡ true → first < numberBound → second < numberBound → (arguments code < 1 → first ≡ 0) → (arguments code < 2 → second ≡ 0)
     → Writable (event code first second)
 writable code first second k f s no-first no-second =
     record { at-least = known-le code k .0; at-most = known-le code k .1; first-lt = f; second-lt = s; lacks-first = no-first; lacks-second = no-second }
 
 -- a reading ends at a number that can't be read, at an unknown code, or with an event
 module _ (bs : List ℕ) (at : ℕ) (P : EventRead → Type 0)
-    (on-unreadable : (p : ℕ) → (at ≤ length bs → p ≤ length bs) → (readNumber bs p .refusal ≡ none → ⊥) → P (unreadable (readNumber bs p)))
+    (on-unreadable : (p : ℕ) → at ≤ p → (at < p → p ≤ length bs) → (readNumber bs p .refusal ≡ none → ⊥) → P (unreadable (readNumber bs p)))
     (on-unknown : P (refused unknownEvent at))
     (on-event : (e : Event) (p : ℕ) → Writable e → Spans bs at (eventBytes e) p → P (accepted e p))
   where
@@ -71,7 +70,7 @@ module _ (bs : List ℕ) (at : ℕ) (P : EventRead → Type 0)
         (λ h. on-event _ _
         (writable code (readNumber bs p .value) 0 k (Number.reading bs p .in-range) (lit< tt) (λ g. absurd (omega arith)) (λ g. refl))
         (rw z (spans-append s (spans-number bs p h))))
-        (on-unreadable p (λ g. s .inside))
+        (on-unreadable p (omega (arith, s .later)) (λ g. s .inside))
     arguments-elim (suc (suc n)) code p z k s =
         after-elim P (readNumber bs p) _
         (λ h. let t = spans-number bs p h in
@@ -79,8 +78,8 @@ module _ (bs : List ℕ) (at : ℕ) (P : EventRead → Type 0)
         (λ g. on-event _ _
         (writable code (readNumber bs p .value) (readNumber bs (readNumber bs p .place) .value) k (Number.reading bs p .in-range) (Number.reading bs (readNumber bs p .place) .in-range) (λ f. absurd (omega arith)) (λ f. absurd (omega arith)))
         (rw z (spans-append s (spans-append t (spans-number bs (readNumber bs p .place) g)))))
-        (on-unreadable (readNumber bs p .place) (λ g. t .inside)))
-        (on-unreadable p (λ g. s .inside))
+        (on-unreadable (readNumber bs p .place) (omega (arith, s .later, t .later)) (λ g. t .inside)))
+        (on-unreadable p (omega (arith, s .later)) (λ g. s .inside))
 
     pub read-elim : P (readEvent bs at)
     unfolding readEvent
@@ -89,7 +88,7 @@ module _ (bs : List ℕ) (at : ℕ) (P : EventRead → Type 0)
         (λ h. by-test (known (readNumber bs at .value))
         (λ k. rw k (arguments-elim (arguments (readNumber bs at .value)) (readNumber bs at .value) (readNumber bs at .place) refl k (spans-number bs at h)))
         (λ k. rw k on-unknown))
-        (on-unreadable at (λ g. g))
+        (on-unreadable at (omega arith) (λ g. absurd (omega arith)))
 
 -- what is left at the place after xs
 pub after-bytes : (bs : List ℕ) (at : ℕ) (xs ys : List ℕ) → drop at bs ≡ xs ++ ys → drop (at + length xs) bs ≡ ys
@@ -136,12 +135,12 @@ module _ (bs : List ℕ) (e : Event) (rest : List ℕ) (w : Writable e) where
 pub read-spans : (bs : List ℕ) (at : ℕ) → readEvent bs at .refusal ≡ none → Spans bs at (eventBytes (readEvent bs at .event)) (readEvent bs at .place)
 read-spans bs at =
     read-elim bs at (λ r. r .refusal ≡ none → Spans bs at (eventBytes (r .event)) (r .place))
-    (λ p i n h. absurd (omega arith))
+    (λ p le i n h. absurd (omega arith))
     (λ h. absurd (omega arith))
     (λ e p w s h. s)
 
 -- an event that was written is read from the output
-pub read-output : (e : Event) (d : List ℕ) → e .first < limit → e .second < limit → writeEvent e (length d) .refusal ≡ none
+pub read-output : (e : Event) (d : List ℕ) → e .first < numberBound → e .second < numberBound → writeEvent e (length d) .refusal ≡ none
     → readEvent (eventWritten e d) 0 ≡ accepted e (writeEvent e (length d) .place)
 read-output e d f s h =
     rw (← o .0, ← o .1)

@@ -1,8 +1,8 @@
 -- What the crate shows beyond its contracts. Each law stands here in full, over specs/ alone; the modules it cites prove it.
 --
--- In order: what every reading satisfies; both round trips; how long an event's bytes are; what the writer refuses; the trace as a list of events.
+-- In order: what every reading satisfies, and one past the end; both round trips; how long an event's bytes are; what the writer refuses; the trace as a list of events.
 -- Assumes nothing.
-use Prim.Native.Nat.{ℕ, _+_, _-_, _≤_, _<_}
+use Prim.Native.Nat.{ℕ, _+_, _-_, _≤_, _<_, max}
 use mathlib.Core.Path.{_≡_, refl, ap, _∙_}
 use mathlib.Core.List.{List, _++_}
 use native.Mathlib.Omega.{arith}
@@ -11,20 +11,21 @@ use lib.Dec.{lit≤}
 use lib.ListN.{length, drop, length-append, length-drop}
 use lib.Seq.{drop-at}
 use Rattle.number.specs.Refusal.{none}
-use Rattle.number.specs.Number.{limit, Bytes}
+use Rattle.number.specs.Number.{numberBound, Bytes}
+use Rattle.number.proofs.Cases.{by-lt}
 use Rattle.number.proofs.Theorems as Number
 use Rattle.event.specs.declared.Event.{Event}
 use Rattle.event.specs.declared.EventRead.{EventRead}
 use Rattle.event.specs.Refusal.{traceCut, unknownEvent}
-use Rattle.event.specs.Event.{event, accepted, refused, readEvent, eventBytes, writerRefusal, writeEvent, eventWritten, Writable}
+use Rattle.event.specs.Event.{event, accepted, refused, afterNumber, readEvent, eventBytes, writerRefusal, writeEvent, eventWritten, Writable}
 use Rattle.event.specs.Trace.{TraceRead, ended, broken, before, readFrom, readRest, readTrace, traceBytes, AllWritable}
-use Rattle.event.proofs.Reading.{number-place-le}
 use Rattle.event.proofs.RoundTrip as RoundTrip
 use Rattle.event.proofs.Size as Size
 use Rattle.event.proofs.Writing as Writing
 use Rattle.event.proofs.Trace as Trace
 
--- whatever is read: an accepted event can be written and covers at least one byte of the input; a refused one is all zero
+-- whatever is read: an accepted event can be written and covers at least one byte of the input; a refused one is all zero, and one cut off has its
+-- place at the input's end, "(a start past it keeps its own place)"
 pub record EventReading (bs : List ℕ) (at : ℕ) (r : EventRead) : Type 0 where
   pub after : r .refusal ≡ none → at < r .place
   pub inside : r .refusal ≡ none → r .place ≤ length bs
@@ -32,17 +33,44 @@ pub record EventReading (bs : List ℕ) (at : ℕ) (r : EventRead) : Type 0 wher
   pub refusals : (r .refusal ≡ none → ⊥) → (traceCut ≤ r .refusal) × (r .refusal ≤ unknownEvent)
   pub zero-event : (r .refusal ≡ none → ⊥) → r .event ≡ event 0 0 0
   pub place-le : at ≤ length bs → r .place ≤ length bs
+  pub at-end : r .refusal ≡ traceCut → r .place ≡ max at (length bs)
 
 pub event-reading : (bs : List ℕ) (at : ℕ) → EventReading bs at (readEvent bs at)
 event-reading bs at =
     RoundTrip.read-elim bs at (EventReading bs at)
-    (λ p i n. let few = Number.reading bs p .refusals in no-event _ _ (omega arith) (omega arith) (λ h. number-place-le bs p (i h)))
-    (no-event unknownEvent at (lit≤ tt) (lit≤ tt) (λ h. h))
-    (λ e p w s. record { after = λ h. s .later; inside = λ h. s .inside; writable = λ h. w; refusals = λ n. absurd (n refl); zero-event = λ n. absurd (n refl); place-le = λ h. s .inside })
+    (λ p le i n. let number = Number.reading bs p in
+    no-event _ _ (omega arith) (omega (arith, number .refusals))
+    (λ h. number .place-le (by-lt at p i (λ ge. omega arith)))
+    (λ e. number .at-end (omega arith) ∙ by-lt at p (λ lt. let h = i lt in omega arith) (λ ge. omega arith)))
+    (no-event unknownEvent at (lit≤ tt) (lit≤ tt) (λ h. h) (λ e. absurd (omega arith)))
+    (λ e p w s.
+    record {
+      after = λ h. s .later;
+      inside = λ h. s .inside;
+      writable = λ h. w;
+      refusals = λ n. absurd (n refl);
+      zero-event = λ n. absurd (n refl);
+      place-le = λ h. s .inside;
+      at-end = λ h. absurd (omega arith);
+    })
   where
-    no-event : (r p : ℕ) → traceCut ≤ r → r ≤ unknownEvent → (at ≤ length bs → p ≤ length bs) → EventReading bs at (refused r p)
-    no-event r p low high place =
-        record { after = λ h. absurd (omega arith); inside = λ h. absurd (omega arith); writable = λ h. absurd (omega arith); refusals = λ h. (low, high); zero-event = λ h. refl; place-le = place }
+    no-event : (r p : ℕ) → traceCut ≤ r → r ≤ unknownEvent → (at ≤ length bs → p ≤ length bs) → (r ≡ traceCut → p ≡ max at (length bs))
+        → EventReading bs at (refused r p)
+    no-event r p low high place end =
+        record {
+          after = λ h. absurd (omega arith);
+          inside = λ h. absurd (omega arith);
+          writable = λ h. absurd (omega arith);
+          refusals = λ h. (low, high);
+          zero-event = λ h. refl;
+          place-le = place;
+          at-end = end;
+        }
+
+-- "a place at or past the end gives 21 there"
+pub read-past : (bs : List ℕ) (at : ℕ) → length bs ≤ at → readEvent bs at ≡ refused traceCut at
+unfolding afterNumber readEvent
+read-past bs at h = rw (Number.read-past bs at h)
 
 -- where the bytes of an event stand, that event is read and the place after them, whatever stands before and after
 pub read-at : (bs : List ℕ) (at : ℕ) (e : Event) (rest : List ℕ) → Writable e → drop at bs ≡ eventBytes e ++ rest
@@ -74,11 +102,11 @@ length-eventBytes = Size.length-eventBytes
 pub writable-accepted : (e : Event) → Writable e → writerRefusal e ≡ none
 writable-accepted = Writing.writable-accepted
 
-pub accepted-writable : (e : Event) → e .first < limit → e .second < limit → writerRefusal e ≡ none → Writable e
+pub accepted-writable : (e : Event) → e .first < numberBound → e .second < numberBound → writerRefusal e ≡ none → Writable e
 accepted-writable = Writing.accepted-writable
 
 -- an event that was written is read from the output, up to the length that the writer returned
-pub read-output : (e : Event) (d : List ℕ) → e .first < limit → e .second < limit → writeEvent e (length d) .refusal ≡ none
+pub read-output : (e : Event) (d : List ℕ) → e .first < numberBound → e .second < numberBound → writeEvent e (length d) .refusal ≡ none
     → readEvent (eventWritten e d) 0 ≡ accepted e (writeEvent e (length d) .place)
 read-output = RoundTrip.read-output
 
@@ -121,12 +149,13 @@ pub record TraceReading (bs : List ℕ) (at : ℕ) (r : TraceRead) : Type 0 wher
   pub whole : r .refusal ≡ none → r .place ≡ length bs
   pub refusals : (r .refusal ≡ none → ⊥) → (traceCut ≤ r .refusal) × (r .refusal ≤ unknownEvent)
   pub place-le : r .place ≤ length bs
+  pub at-end : r .refusal ≡ traceCut → r .place ≡ length bs
 
 pub trace-reading : (bs : List ℕ) (at : ℕ) → at ≤ length bs → TraceReading bs at (readRest bs at)
 unfolding AllWritable
 trace-reading bs =
     rest-elim bs (λ at r. at ≤ length bs → TraceReading bs at r)
-    (λ at h le. record { writable = tt; few = omega arith; whole = λ e. omega arith; refusals = λ n. absurd (n refl); place-le = le })
-    (λ at h n le. let r = event-reading bs at in record { writable = tt; few = omega arith; whole = λ e. absurd (n e); refusals = r .refusals; place-le = r .place-le le })
+    (λ at h le. record { writable = tt; few = omega arith; whole = λ e. omega arith; refusals = λ n. absurd (n refl); place-le = le; at-end = λ e. absurd (omega arith) })
+    (λ at h n le. let r = event-reading bs at in record { writable = tt; few = omega arith; whole = λ e. absurd (n e); refusals = r .refusals; place-le = r .place-le le; at-end = λ e. omega (arith, r .at-end e) })
     (λ at h a p le. let r = event-reading bs at in let later = r .after a in let q = p (r .inside a) in
-    record { writable = (r .writable a, q .writable); few = omega (arith, r .inside a); whole = q .whole; refusals = q .refusals; place-le = q .place-le })
+    record { writable = (r .writable a, q .writable); few = omega (arith, r .inside a); whole = q .whole; refusals = q .refusals; place-le = q .place-le; at-end = q .at-end })

@@ -9,13 +9,12 @@ use borrow.Author.Tests.{lt-ltb, le-ltb, lt-leb, eq-eqb, ne-eqb}
 use lib.ListN.{length}
 use Rattle.number.specs.declared.Written.{Written}
 use Rattle.number.specs.Refusal.{none, noRoom}
-use Rattle.number.specs.Number.{limit, numberBytes, groupBytes}
-use Rattle.number.proofs.Cases.{by-lt, by-eq}
+use Rattle.number.specs.Number.{numberBound, numberBytes, groupBytes}
+use Rattle.number.proofs.Cases.{by-test, by-lt, by-eq}
 use Rattle.number.specs.Output.{unwritten, writing, written}
 use Rattle.event.specs.declared.Event.{Event}
 use Rattle.event.specs.Refusal.{unknownEvent, strayArgument}
 use Rattle.event.specs.Event.{known, arguments, argumentBytes, eventBytes, stray, writerRefusal, writeEvent, eventWritten, Writable}
-use Rattle.event.proofs.Cases.{by-test}
 use Rattle.event.proofs.Codes.{known-true, known-le}
 
 -- the three answers that the writer can come to: the bytes, the stray argument, the unknown code
@@ -55,7 +54,7 @@ module _ (e : Event) where
       (λ g. simp (le-ltb (arguments (e .code)) 1 h, le-ltb (arguments (e .code)) 2 g)))
 
 -- a code is a single byte
-pub code-byte : (code : ℕ) → known code ≡ true → numberBytes code ≡ code ∷ []
+code-byte : (code : ℕ) → known code ≡ true → numberBytes code ≡ code ∷ []
 unfolding numberBytes groupBytes
 code-byte code k = simp (lt-ltb code 128 (omega (arith, known-le code k)))
 
@@ -89,7 +88,7 @@ module _ (e : Event) where
       (λ s. (k, s)))
       (λ k. let z : _≡_ {A = ℕ} unknownEvent none = rw k at h in absurd (omega arith))
 
-  pub accepted-writable : e .first < limit → e .second < limit → writerRefusal e ≡ none → Writable e
+  pub accepted-writable : e .first < numberBound → e .second < numberBound → writerRefusal e ≡ none → Writable e
   accepted-writable f s h =
       let k = accepted-known h in
       record {

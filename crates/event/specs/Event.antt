@@ -14,7 +14,7 @@ use lib.Dec.{leb, ltb, eqb}
 use Rattle.number.specs.declared.NumberRead.{NumberRead}
 use Rattle.number.specs.declared.Written.{Written}
 use Rattle.number.specs.Refusal.{none}
-use Rattle.number.specs.Number.{limit, readNumber, numberBytes}
+use Rattle.number.specs.Number.{numberBound, readNumber, numberBytes}
 use Rattle.number.specs.Output.{unwritten, writing, written}
 use Rattle.event.specs.declared.Event.{Event}
 use Rattle.event.specs.declared.EventRead.{EventRead}
@@ -130,7 +130,7 @@ eventWritten e d = cond (eqb (writerRefusal e) none) (written (eventBytes e) d) 
 pub record Writable (e : Event) : Type 0 where
   pub at-least : activate ≤ e .code
   pub at-most : e .code ≤ stop
-  pub first-lt : e .first < limit
-  pub second-lt : e .second < limit
+  pub first-lt : e .first < numberBound
+  pub second-lt : e .second < numberBound
   pub lacks-first : arguments (e .code) < 1 → e .first ≡ 0
   pub lacks-second : arguments (e .code) < 2 → e .second ≡ 0

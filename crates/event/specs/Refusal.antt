@@ -1,7 +1,11 @@
 -- Refusals that the readers and the writer of events give besides none (0) and noRoom (30), which `number` names.
 -- Assumes nothing.
 use Prim.Native.Nat.{ℕ, _+_}
-use Rattle.number.specs.Refusal.{cut, malformed}
+use Rattle.number.specs.Refusal.{cut}
+
+-- "trace longer than 8,192 bytes"; the readers of events take a trace of any length and never give it
+abbrev pub traceTooLong : ℕ
+traceTooLong = 20
 
 -- "21 / 22: as 1 / 2, in the trace"
 abbrev pub inTrace : ℕ → ℕ
@@ -9,9 +13,6 @@ inTrace r = 20 + r
 
 abbrev pub traceCut : ℕ
 traceCut = inTrace cut
-
-abbrev pub traceMalformed : ℕ
-traceMalformed = inTrace malformed
 
 -- "event code not 1 to 9"
 abbrev pub unknownEvent : ℕ

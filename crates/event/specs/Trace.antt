@@ -16,6 +16,10 @@ use Rattle.event.specs.declared.Event.{Event}
 use Rattle.event.specs.declared.EventRead.{EventRead}
 use Rattle.event.specs.Event.{Writable, readEvent, eventBytes}
 
+-- "trace longer than 8,192 bytes": whoever is lent one refuses it with `traceTooLong`
+abbrev pub maxTrace : ℕ
+maxTrace = 8192
+
 -- the events read, with refusal none and the place after them, or with the first refusal and its place
 pub record TraceRead : Type 0 where
   pub events : List Event

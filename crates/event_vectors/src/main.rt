@@ -2,8 +2,8 @@
 // and place. The file `stdout` is worked out by hand from document 01 and not from this program.
 use event::Event;
 use event::EventRead;
-use event::read_event;
-use event::write_event;
+use event_codec::read_event;
+use event_codec::write_event;
 use libc::STDOUT_FILENO;
 
 fn main() {

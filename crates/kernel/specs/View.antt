@@ -1,50 +1,59 @@
 -- The code's model is the machine's, field by field, and so is an outcome: `view` looks at a struct of the code as the machine's record,
 -- the others go back. A contract speaks of the machine's definitions through them. Assumes nothing.
-use Rattle.kernel.specs.declared.model.Core.{Core}
+use Prim.Native.Nat.{ℕ}
 use Rattle.kernel.specs.declared.model.Picked.{Picked}
 use Rattle.kernel.specs.declared.model.Model.{Model}
 use Rattle.kernel.specs.declared.model.Outcome.{Outcome}
 use Rattle.machine.specs.Model as Machine
 
-abbrev pub viewCore : Core → Machine.Core
-viewCore k = record { request = k .request; started = k .started; runner = k .runner; level = k .level }
+-- the words, who runs and at which level
+abbrev pub core : ℕ → ℕ → ℕ → ℕ → Machine.Core
+core w v r l = record { request = w; started = v; runner = r; level = l }
 
-abbrev pub coreOf : Machine.Core → Core
-coreOf k = record { request = k .request; started = k .started; runner = k .runner; level = k .level }
+abbrev pub coreOf : Picked → Machine.Core
+coreOf p = core (p .request) (p .started) (p .runner) (p .level)
 
 abbrev pub viewPicked : Picked → Machine.Picked
-viewPicked p = record { core = viewCore (p .core); begun = p .begun }
+viewPicked p = record { core = coreOf p; begun = p .begun }
 
 abbrev pub pickedOf : Machine.Picked → Picked
-pickedOf p = record { core = coreOf (p .core); begun = p .begun }
+pickedOf p =
+    record {
+      request = p .core .request;
+      started = p .core .started;
+      runner = p .core .runner;
+      level = p .core .level;
+      begun = p .begun;
+    }
 
 abbrev pub view : Model → Machine.Model
 view m =
     record {
-      core = viewCore (m .core);
+      core = core (m .request) (m .started) (m .runner) (m .level);
       held = m .held;
-      stack = m .stack;
-      levels = m .levels;
       resource = m .resource;
       holder = m .holder;
       raised = m .raised;
       counter = m .counter;
       on = m .on;
+      turning = m .turning;
       losses = m .losses;
     }
 
 abbrev pub modelOf : Machine.Model → Model
 modelOf m =
     record {
-      core = coreOf (m .core);
+      request = m .core .request;
+      started = m .core .started;
       held = m .held;
-      stack = m .stack;
-      levels = m .levels;
+      runner = m .core .runner;
+      level = m .core .level;
       resource = m .resource;
       holder = m .holder;
       raised = m .raised;
       counter = m .counter;
       on = m .on;
+      turning = m .turning;
       losses = m .losses;
     }
 

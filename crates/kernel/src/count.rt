@@ -2,7 +2,7 @@
 ghost use mathlib.Core.Path.{_≡_};
 ghost use Rattle.event.specs.Trace.{readTrace};
 ghost use Rattle.kernel.specs.Passes.{counted};
-use event::read_event;
+use event_codec::read_event;
 
 // How many events were read; the refusal is 0 where they are the whole trace.
 pub struct Counted {

@@ -6,13 +6,14 @@ mod output;
 mod play;
 
 use answer::answer;
-use config::read_config;
+use config_codec::read_config;
 use count::count_events;
 use number::NO_ROOM;
 ghost use mathlib.Core.Path.{_≡_};
 ghost use Prim.Native.Nat.{_<_};
 ghost use lib.ListN.{length};
-ghost use Rattle.run.specs.Run.{packed, runResult, runOutput};
+ghost use Rattle.number.specs.Output.{packed};
+ghost use Rattle.run.specs.Run.{runResult, runOutput};
 ghost use Rattle.run.specs.Steps.{machineOutput};
 
 const MAX_TRACE: usize = 8192;

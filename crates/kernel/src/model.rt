@@ -15,10 +15,9 @@ mod tables;
 
 use stack::NONE;
 use stack::Row;
-use stack::Stack;
 
 // No body: in the place of a rank it says that nobody runs, or that there is no such task or ISR. It is what lies past the bottom of
-// the stack and of the row of held resources.
+// the row of held resources.
 const NO_RANK: u8 = NONE;
 
 // The statuses (OSEK's status codes) of an event. One that is refused changes nothing.
@@ -40,36 +39,33 @@ const ALREADY_RUNS: u8 = 7;
 
 const BAD_DELAY: u8 = 8;
 
-// The words, who runs and at which level.
-pub struct Core {
+// Who runs after arbitration, with the words that it leaves, and whether a body began.
+pub struct Picked {
     pub request: u32,
     pub started: u32,
     pub runner: u8,
     pub level: u8,
-}
-
-// A core after arbitration, and whether a body began.
-pub struct Picked {
-    pub core: Core,
     pub begun: bool,
 }
 
-// What the machine keeps between events. It goes by value. The stack and the row of held resources are words that shift, and a
-// method takes an array that it indexes out into a variable and puts it back: indexed in place, it would make the compiler copy the
-// whole model at every event.
+// What the machine keeps between events. It goes by value. Its fields are flat, the row of held resources is in words that shift, and a
+// method takes an array that it indexes out into a variable and puts it back: otherwise the compiler copies the whole model at every event.
 pub struct Model {
-    pub core: Core,
+    // The ranks that wait to begin, and those that began and have not ended, as words.
+    pub request: u32,
+    pub started: u32,
     // The held resources, as a word.
     pub held: u32,
-    // Whom the runner preempted and those below, down to nobody, with their levels.
-    pub stack: Stack,
-    pub levels: Stack,
+    pub runner: u8,
+    pub level: u8,
     // The held resources in the order taken, each with its holder's rank and the level after its Get.
     pub resource: Row,
     pub holder: Row,
     pub raised: Row,
+    // The cells by entry: their counters and switches, and whether any of them has a turn of its counter to pass.
     pub counter: [u16; 64],
     pub on: [u16; 64],
+    pub turning: bool,
     pub losses: [u16; 32],
 }
 

@@ -12,7 +12,7 @@ use crate::model::Outcome;
 use crate::output::put_answer;
 use crate::output::runner;
 use config::Config;
-use event::read_event;
+use event_codec::read_event;
 use plan::Plan;
 
 // Each event meets the model that the one before it handed back; the last one's is the result.
@@ -66,7 +66,6 @@ pub fn play<'a, 'b>(
                 o = o.model.start(
                     config.tables,
                     &plan.first,
-                    &plan.largest,
                     &config.entries,
                     &config.period,
                     &config.offset,
@@ -85,8 +84,8 @@ pub fn play<'a, 'b>(
         }
         put_answer(
             o.status,
-            runner(&plan.body, o.model.core.runner),
-            o.model.core.level,
+            runner(&plan.body, o.model.runner),
+            o.model.level,
             o.begun,
             to,
             out,

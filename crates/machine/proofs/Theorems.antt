@@ -17,26 +17,24 @@ use Rattle.config.specs.Accepted.{Accepted, Shaped}
 use Rattle.config.specs.Reader.{readConfig}
 use Rattle.config.proofs.Theorems.{accepted-ranges, reading}
 use Rattle.plan.specs.declared.Plan.{Plan}
-use Rattle.plan.specs.Rank.{rankOf}
 use Rattle.plan.specs.Plan.{planOf}
 use Rattle.scheduler.specs.Status.{done}
-use Rattle.scheduler.specs.Scheduler.{Event, Activate, Finish, Chain, Get, Release, Tick, Line, Start, Stop, Nothing, fresh, seen}
+use Rattle.scheduler.specs.Scheduler.{Event, Activate, Finish, Chain, Get, Release, Tick, Line, Start, Stop, fresh, seen}
 use Rattle.machine.specs.Model.{Model, Outcome, noRank, doneWith}
 use Rattle.machine.specs.Arbiter.{settled, leaving, requesting}
 use Rattle.machine.specs.Resources.{taking, freeing}
 use Rattle.machine.specs.Events.{activateStatus, finishStatus, chainStatus, getStatus, releaseStatus, lineStatus, startStatus, starting, stopStatus, stopping}
 use Rattle.machine.specs.Events.{attempt, activated, finished, chained, got, released, tickedOnce, lined, launched, halted}
 use Rattle.machine.specs.Machine.{freshModel, machineStep, machineSeen}
-use Rattle.machine.proofs.Agreement.{agreement-from}
-use Rattle.machine.proofs.Freshness.{fresh-sim}
-use Rattle.machine.proofs.Fitting.{fitted}
+use Rattle.machine.proofs.Whole.Plan.{fitted}
+use Rattle.machine.proofs.Whole.Fresh.{fresh-sim}
+use Rattle.machine.proofs.Whole.Lists.{agreement-from}
 
 -- Demand 3: for every accepted configuration and every list of events, from the fresh start, the machine and the plain scheduler are seen to do
 -- the same: status, runner, level and begun mark of every event, the losses of all bodies after it, and a cell's match where its entry is due.
 pub agreement : (c : Config) → Accepted c → Shaped c → (es : List Event)
     → machineSeen c (planOf c) (freshModel (planOf c)) es ≡ seen c (fresh c) es
-agreement c ok shaped es =
-    agreement-from c (planOf c) (rankOf c) (fitted c ok shaped) es (freshModel (planOf c)) (fresh c) (fresh-sim c (planOf c) (rankOf c) (fitted c ok shaped))
+agreement c ok shaped es = agreement-from (fitted c ok shaped) es (fresh-sim (fitted c ok shaped))
 
 -- the same of every configuration that the reader accepts
 pub agreement-read : (bs : List ℕ) → readConfig bs .refusal ≡ none → (es : List Event)
@@ -67,8 +65,7 @@ refused-same c p m Tick n = absurd (n refl)
 refused-same c p m (Line i) n =
     attempt-same m (lineStatus (p .line) m i) (settled (p .priority) (requesting (getD (p .line) i noRank) m)) refl n
 refused-same c p m (Start t d) n =
-    attempt-same m (startStatus (c .tables) (p .first) (p .largest) m t d)
+    attempt-same m (startStatus (c .tables) (p .first) (c .offset) m t d)
     (doneWith (starting (getD (c .entries) t 0) (getD (p .first) t 0) (getD (c .period) t 0) (c .offset) d m) false) refl n
 refused-same c p m (Stop t) n =
     attempt-same m (stopStatus (c .tables) (p .first) m t) (doneWith (stopping (getD (c .entries) t 0) (getD (p .first) t 0) m) false) refl n
-refused-same c p m Nothing n = absurd (n refl)

@@ -1,60 +1,63 @@
--- Who runs, as the interrupt controller does it: the highest request wins, and is dispatched only strictly above the level.
+-- Who runs, as the interrupt controller does it: of those that wait to begin or have begun the highest wins, and is dispatched only strictly
+-- above the level.
 --
 --   arbitrated ps k   the core k after arbitration, and whether a body began; ps: the priorities by rank
---   settled ps m      the model after arbitration, with the preempted body on the stack
---   leaving m         the model after its runner ended, with the body below it on the stack as the runner, or nobody
+--   settled ps m      the model after arbitration, which ends every event that may let another body run
+--   leaving m         the model after its runner ended
 --
--- The stack is touched by `settled` and `leaving` alone. Assumes nothing.
+-- No stack of preempted bodies is kept: one that holds no resource bids for the processor by its bit in `started`, and one that holds some
+-- is found in the row of held resources. Assumes nothing.
 use Prim.Native.Nat.{ℕ}
-use mathlib.Core.Bool.{Bool, true, false, cond}
+use mathlib.Core.Bool.{Bool, false, cond, not}
 use mathlib.Core.List.{List}
-use lib.Dec.{ltb}
+use lib.Dec.{ltb, eqb}
 use lib.ListN.{getD}
-use Rattle.word.specs.Word.{with, without, winner}
-use Rattle.stack.specs.declared.Stack.{Stack}
-use Rattle.stack.specs.Stack.{top, pushed, popped}
-use Rattle.machine.specs.Model.{Core, Picked, Model, Outcome, withFrames, withCore, withRequest, doneWith}
+use Rattle.word.specs.Word.{has, with, without, union, winner}
+use Rattle.stack.specs.Stack.{topRow}
+use Rattle.machine.specs.Model.{Core, Picked, Model, Outcome, noRank, withCore, withRequest, doneWith}
+
+-- the ranks that ask for the processor: they wait to begin, or have begun and not ended
+abbrev pub bids : Core → ℕ
+bids k = union (k .request) (k .started)
 
 -- "the arbiter's winner is the highest bit set in that word": its priority, 0 where no bit is set
 abbrev pub winning : List ℕ → Core → ℕ
-winning ps k = getD ps (winner (k .request)) 0
+winning ps k = getD ps (winner (bids k)) 0
 
--- the winner runs, its request used up
+-- the winner begins where it has not begun; else it is resumed
+abbrev pub beginning : Core → Bool
+beginning k = not (has (k .started) (winner (bids k)))
+
+-- the winner runs; a request by which it begins is used up, and a second one of a body that is resumed waits on
 abbrev pub dispatching : List ℕ → Core → Core
 dispatching ps k =
     record {
-      request = without (k .request) (winner (k .request));
-      started = with (k .started) (winner (k .request));
-      runner = winner (k .request);
+      request = cond (beginning k) (without (k .request) (winner (bids k))) (k .request);
+      started = with (k .started) (winner (bids k));
+      runner = winner (bids k);
       level = winning ps k;
     }
 
 -- "it is dispatched only if its priority is strictly above the level"
 unfoldable pub arbitrated : List ℕ → Core → Picked
 arbitrated ps k =
-    cond (ltb (k .level) (winning ps k)) (record { core = dispatching ps k; begun = true }) (record { core = k; begun = false })
-
--- a stack on which x is laid, where a body began
-abbrev pub laidOn : Bool → Stack → ℕ → Stack
-laidOn begun s x = cond begun (pushed s x) s
-
--- "Preempted bodies with their levels lie on a stack": whoever ran before a body began, nobody too, is laid on it
-abbrev pub laying : Model → Picked → Model
-laying m p =
-    withFrames m (p .core)
-    (laidOn (p .begun) (m .stack) (m .core .runner))
-    (laidOn (p .begun) (m .levels) (m .core .level))
+    cond (ltb (k .level) (winning ps k)) (record { core = dispatching ps k; begun = beginning k }) (record { core = k; begun = false })
 
 abbrev pub settled : List ℕ → Model → Outcome
-settled ps m = doneWith (laying m (arbitrated ps (m .core))) (arbitrated ps (m .core) .begun)
+settled ps m = doneWith (withCore m (arbitrated ps (m .core) .core)) (arbitrated ps (m .core) .begun)
 
--- the runner has ended: who is on top of the stack runs again, at its level
-abbrev pub resumed : Stack → Stack → Core → Core
-resumed stack levels k =
-    record { request = k .request; started = without (k .started) (k .runner); runner = top stack; level = top levels }
+-- the runner has ended: the level is left to whoever took the latest resource that is held, or to nobody; arbitration follows
+abbrev pub vacated : Model → Core
+vacated m =
+    record {
+      request = m .core .request;
+      started = without (m .core .started) (m .core .runner);
+      runner = topRow (m .holder);
+      level = cond (eqb (topRow (m .holder)) noRank) 0 (topRow (m .raised));
+    }
 
 abbrev pub leaving : Model → Model
-leaving m = withFrames m (resumed (m .stack) (m .levels) (m .core)) (popped (m .stack)) (popped (m .levels))
+leaving m = withCore m (vacated m)
 
 -- the body of rank r asked for
 abbrev pub requesting : ℕ → Model → Model

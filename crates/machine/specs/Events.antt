@@ -7,13 +7,13 @@ use mathlib.Core.List.{List, [], _∷_}
 use lib.Dec.{ltb, leb, eqb}
 use lib.ListN.{getD}
 use Rattle.config.specs.Value.{maxEntries}
-use Rattle.scheduler.specs.Status.{done, callLevel, noSuch, limit, access, noFunction, holdsResource, alreadyRuns, badDelay, _gives_, firstOf}
+use Rattle.scheduler.specs.Status.{done, callLevel, noSuch, limitReached, access, noFunction, holdsResource, alreadyRuns, badDelay, _gives_, firstGiven}
 use Rattle.scheduler.specs.Call.{longestDelay}
 use Rattle.word.specs.Word.{has}
 use Rattle.machine.specs.Model.{Model, Outcome, noRank, withCore, withRequest, withRest, withCells, doneWith, refusedWith}
 use Rattle.machine.specs.Arbiter.{settled, leaving, requesting}
 use Rattle.machine.specs.Resources.{holding, latest, taking, freeing}
-use Rattle.machine.specs.Cells.{switchOn, switchOff, isOn, countersTicked, marks, countersStarted, countersStopped, switched, Due, requestsDue}
+use Rattle.machine.specs.Cells.{switchOff, isOn, countersTicked, switchesTicked, someTurn, marks, countersStarted, switchesStarted, someLong, countersStopped, switched, Due, requestsDue}
 
 -- "nobody runs"
 abbrev pub idles : Model → Bool
@@ -30,14 +30,14 @@ attempt m st o = cond (eqb st done) o (refusedWith m st)
 -- Activate t
 abbrev pub activateStatus : List ℕ → Model → ℕ → ℕ
 activateStatus trs m t =
-    firstOf ((idles m gives callLevel) ∷ (eqb (getD trs t noRank) noRank gives noSuch) ∷ (busy m (getD trs t noRank) gives limit) ∷ [])
+    firstGiven ((idles m gives callLevel) ∷ (eqb (getD trs t noRank) noRank gives noSuch) ∷ (busy m (getD trs t noRank) gives limitReached) ∷ [])
 
 unfoldable pub activated : List ℕ → List ℕ → Model → ℕ → Outcome
 activated trs ps m t = attempt m (activateStatus trs m t) (settled ps (requesting (getD trs t noRank) m))
 
 -- Finish
 abbrev pub finishStatus : Model → ℕ
-finishStatus m = firstOf ((idles m gives callLevel) ∷ (holding m gives holdsResource) ∷ [])
+finishStatus m = firstGiven ((idles m gives callLevel) ∷ (holding m gives holdsResource) ∷ [])
 
 unfoldable pub finished : List ℕ → Model → Outcome
 finished ps m = attempt m (finishStatus m) (settled ps (leaving m))
@@ -45,11 +45,11 @@ finished ps m = attempt m (finishStatus m) (settled ps (leaving m))
 -- Chain t; ws: the ranks that are ISRs
 abbrev pub chainStatus : ℕ → List ℕ → Model → ℕ → ℕ
 chainStatus ws trs m t =
-    firstOf
+    firstGiven
     ((idles m || has ws (m .core .runner) gives callLevel) ∷
     (eqb (getD trs t noRank) noRank gives noSuch) ∷
     (holding m gives holdsResource) ∷
-    (busy m (getD trs t noRank) && not (eqb (getD trs t noRank) (m .core .runner)) gives limit) ∷
+    (busy m (getD trs t noRank) && not (eqb (getD trs t noRank) (m .core .runner)) gives limitReached) ∷
     [])
 
 unfoldable pub chained : ℕ → List ℕ → List ℕ → Model → ℕ → Outcome
@@ -58,7 +58,7 @@ chained ws trs ps m t = attempt m (chainStatus ws trs m t) (settled ps (requesti
 -- Get r, of n resources with the ceilings cs
 abbrev pub getStatus : ℕ → List ℕ → List ℕ → Model → ℕ → ℕ
 getStatus n cs ps m r =
-    firstOf
+    firstGiven
     ((idles m gives callLevel) ∷
     (leb n r gives noSuch) ∷
     (has (m .held) r || ltb (getD cs r 0) (getD ps (m .core .runner) 0) gives access) ∷
@@ -71,7 +71,7 @@ got n cs ps m r = attempt m (getStatus n cs ps m r) (doneWith (taking r (max (ge
 -- Release r
 abbrev pub releaseStatus : ℕ → Model → ℕ → ℕ
 releaseStatus n m r =
-    firstOf ((idles m gives callLevel) ∷ (leb n r gives noSuch) ∷ (not (latest m r) gives noFunction) ∷ [])
+    firstGiven ((idles m gives callLevel) ∷ (leb n r gives noSuch) ∷ (not (latest m r) gives noFunction) ∷ [])
 
 unfoldable pub released : ℕ → List ℕ → Model → ℕ → Outcome
 released n ps m r = attempt m (releaseStatus n m r) (settled ps (freeing ps r m))
@@ -79,7 +79,7 @@ released n ps m r = attempt m (releaseStatus n m r) (settled ps (freeing ps r m)
 -- Line i
 abbrev pub lineStatus : List ℕ → Model → ℕ → ℕ
 lineStatus lrs m i =
-    firstOf ((eqb (getD lrs i noRank) noRank gives noSuch) ∷ (has (m .core .request) (getD lrs i noRank) gives limit) ∷ [])
+    firstGiven ((eqb (getD lrs i noRank) noRank gives noSuch) ∷ (has (m .core .request) (getD lrs i noRank) gives limitReached) ∷ [])
 
 unfoldable pub lined : List ℕ → List ℕ → Model → ℕ → Outcome
 lined lrs ps m i = attempt m (lineStatus lrs m i) (settled ps (requesting (getD lrs i noRank) m))
@@ -87,17 +87,22 @@ lined lrs ps m i = attempt m (lineStatus lrs m i) (settled ps (requesting (getD 
 -- Tick: every cell of the row is ticked, with the compare values ks; rs are the ranks of their entries' tasks. marksOf n: which of the
 -- first n match
 abbrev pub marksOf : ℕ → List ℕ → Model → List Bool
-marksOf n ks m = marks n 0 ks (m .on) (m .counter)
+marksOf n ks m = marks n 0 (m .turning) ks (m .on) (m .counter)
 
 abbrev pub dueOf : List ℕ → List ℕ → Model → Due
 dueOf ks rs m =
     requestsDue (m .core .started) (marksOf maxEntries ks m) rs (record { request = m .core .request; losses = m .losses })
 
+-- the switches after a tick: they change only where a turn may have passed
+abbrev pub switchesOf : List ℕ → Model → List ℕ
+switchesOf ks m = cond (m .turning) (switchesTicked maxEntries 0 ks (m .counter) (m .on)) (m .on)
+
 abbrev pub ticking : List ℕ → List ℕ → Model → Model
 ticking ks rs m =
     withRest (withCore m (withRequest (m .core) (dueOf ks rs m .request)))
-    (countersTicked maxEntries 0 ks (m .on) (m .counter))
-    (m .on)
+    (countersTicked maxEntries 0 (m .turning) ks (m .on) (m .counter))
+    (switchesOf ks m)
+    (m .turning && someTurn maxEntries 0 (switchesOf ks m))
     (dueOf ks rs m .losses)
 
 unfoldable pub tickedOnce : List ℕ → List ℕ → List ℕ → Model → Outcome
@@ -107,31 +112,32 @@ tickedOnce ks rs ps m = settled ps (ticking ks rs m)
 abbrev pub runs : List ℕ → Model → ℕ → Bool
 runs fs m t = isOn (getD (m .on) (getD fs t 0) 0)
 
--- Start t, d, of n tables with the largest offsets gs
+-- Start t, d, of n tables whose entries have the offsets os: "d plus the smallest offset", which is that of the table's first entry
 abbrev pub startStatus : ℕ → List ℕ → List ℕ → Model → ℕ → ℕ → ℕ
-startStatus n fs gs m t d =
-    firstOf
+startStatus n fs os m t d =
+    firstGiven
     ((idles m gives callLevel) ∷
     (leb n t gives noSuch) ∷
-    (eqb d 0 || ltb longestDelay (d + getD gs t 0) gives badDelay) ∷
+    (eqb d 0 || ltb longestDelay (d + getD os (getD fs t 0) 0) gives badDelay) ∷
     (runs fs m t gives alreadyRuns) ∷
     [])
 
 -- k entries from e on, with period P and offsets os
 abbrev pub starting : ℕ → ℕ → ℕ → List ℕ → ℕ → Model → Model
-starting k e P os d m = withCells m (countersStarted k e P d os (m .counter)) (switched k e switchOn (m .on))
+starting k e P os d m =
+    withCells m (countersStarted k e P d os (m .counter)) (switchesStarted k e d os (m .on)) (m .turning || someLong k e d os)
 
 -- es: the tables' entry counts, qs: their periods
-unfoldable pub launched : ℕ → List ℕ → List ℕ → List ℕ → List ℕ → List ℕ → Model → ℕ → ℕ → Outcome
-launched n fs gs es qs os m t d =
-    attempt m (startStatus n fs gs m t d) (doneWith (starting (getD es t 0) (getD fs t 0) (getD qs t 0) os d m) false)
+unfoldable pub launched : ℕ → List ℕ → List ℕ → List ℕ → List ℕ → Model → ℕ → ℕ → Outcome
+launched n fs es qs os m t d =
+    attempt m (startStatus n fs os m t d) (doneWith (starting (getD es t 0) (getD fs t 0) (getD qs t 0) os d m) false)
 
 -- Stop t
 abbrev pub stopStatus : ℕ → List ℕ → Model → ℕ → ℕ
-stopStatus n fs m t = firstOf ((idles m gives callLevel) ∷ (leb n t gives noSuch) ∷ (not (runs fs m t) gives noFunction) ∷ [])
+stopStatus n fs m t = firstGiven ((idles m gives callLevel) ∷ (leb n t gives noSuch) ∷ (not (runs fs m t) gives noFunction) ∷ [])
 
 abbrev pub stopping : ℕ → ℕ → Model → Model
-stopping k e m = withCells m (countersStopped k e (m .counter)) (switched k e switchOff (m .on))
+stopping k e m = withCells m (countersStopped k e (m .counter)) (switched k e switchOff (m .on)) (m .turning)
 
 unfoldable pub halted : ℕ → List ℕ → List ℕ → Model → ℕ → Outcome
 halted n fs es m t = attempt m (stopStatus n fs m t) (doneWith (stopping (getD es t 0) (getD fs t 0) m) false)

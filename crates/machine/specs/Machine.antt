@@ -13,9 +13,9 @@ use lib.Dec.{ltb}
 use lib.ListN.{getD, take, replicate}
 use Rattle.config.specs.declared.Config.{Config}
 use Rattle.plan.specs.declared.Plan.{Plan}
-use Rattle.stack.specs.Stack.{emptyRow, emptyStack}
-use Rattle.scheduler.specs.Scheduler.{Event, Activate, Finish, Chain, Get, Release, Tick, Line, Start, Stop, Nothing, Seen, markOf}
-use Rattle.machine.specs.Model.{Model, Outcome, noRank, doneWith}
+use Rattle.stack.specs.Stack.{emptyRow}
+use Rattle.scheduler.specs.Scheduler.{Event, Activate, Finish, Chain, Get, Release, Tick, Line, Start, Stop, Seen, markOf}
+use Rattle.machine.specs.Model.{Model, Outcome, noRank}
 use Rattle.machine.specs.Arbiter.{settled}
 use Rattle.machine.specs.Cells.{switchOff}
 use Rattle.machine.specs.Events.{activated, finished, chained, got, released, tickedOnce, lined, launched, halted, marksOf}
@@ -25,14 +25,13 @@ abbrev pub unstarted : ℕ → Model
 unstarted w =
     record {
       core = record { request = w; started = 0; runner = noRank; level = 0 };
-      stack = emptyStack;
-      levels = emptyStack;
       held = 0;
       resource = emptyRow;
       holder = emptyRow;
       raised = emptyRow;
       counter = replicate 64 0;
       on = replicate 64 switchOff;
+      turning = false;
       losses = replicate 32 0;
     }
 
@@ -51,9 +50,8 @@ machineStep c p m (Get r) = got (c .resources) (p .ceiling) (p .priority) m r
 machineStep c p m (Release r) = released (c .resources) (p .priority) m r
 machineStep c p m Tick = tickedOnce (p .compare) (p .entry) (p .priority) m
 machineStep c p m (Line i) = lined (p .line) (p .priority) m i
-machineStep c p m (Start t d) = launched (c .tables) (p .first) (p .largest) (c .entries) (c .period) (c .offset) m t d
+machineStep c p m (Start t d) = launched (c .tables) (p .first) (c .entries) (c .period) (c .offset) m t d
 machineStep c p m (Stop t) = halted (c .tables) (p .first) (c .entries) m t
-machineStep c p m Nothing = doneWith m false
 
 -- the number of the body that runs
 abbrev pub runnerOf : Plan → Model → ℕ
@@ -74,7 +72,6 @@ matched p m Tick = marksOf (p .count) (p .compare) m
 matched p m (Line i) = replicate (p .count) false
 matched p m (Start t d) = replicate (p .count) false
 matched p m (Stop t) = replicate (p .count) false
-matched p m Nothing = replicate (p .count) false
 
 -- what is seen of the event e, which met m and handed o back
 abbrev pub observed : Config → Plan → Model → Event → Outcome → Seen

@@ -6,7 +6,6 @@ use Prim.Native.Nat.{ℕ}
 use mathlib.Core.Bool.{Bool, false}
 use mathlib.Core.List.{List}
 use Rattle.stack.specs.declared.Row.{Row}
-use Rattle.stack.specs.declared.Stack.{Stack}
 use Rattle.stack.specs.Stack.{none}
 
 -- The words, who runs and at which level: `request` has the ranks that wait to begin, `started` those that began and have not ended.
@@ -21,19 +20,18 @@ pub record Picked : Type 0 where
   pub core : Core
   pub begun : Bool
 
--- What the machine keeps between events. `stack` and `levels`: whom the runner preempted and those below, down to nobody. `held`: the held
--- resources as a word; `resource`, `holder`, `raised`: in the order taken, each with its holder's rank and the level after its Get.
--- `counter` and `on` are the cells, `losses` the lost activations by rank.
+-- What the machine keeps between events. `held`: the held resources as a word; `resource`, `holder`, `raised`: in the order taken, the
+-- latest on top, each with its holder's rank and the level after its Get. `counter` and `on` are the cells, and `turning` says whether any of
+-- them has a turn of its counter to pass; `losses` are the lost activations by rank.
 pub record Model : Type 0 where
   pub core : Core
   pub held : ℕ
-  pub stack : Stack
-  pub levels : Stack
   pub resource : Row
   pub holder : Row
   pub raised : Row
   pub counter : List ℕ
   pub on : List ℕ
+  pub turning : Bool
   pub losses : List ℕ
 
 -- the next model with its answer
@@ -42,28 +40,23 @@ pub record Outcome : Type 0 where
   pub status : ℕ
   pub begun : Bool
 
--- no body: neither a rank nor a body's number; it is what lies past the bottom of the stack and of the row of held resources
+-- no body: neither a rank nor a body's number; it is what lies past the bottom of the row of held resources
 abbrev pub noRank : ℕ
 noRank = none
 
--- another core, with its stack and the levels on it
-abbrev pub withFrames : Model → Core → Stack → Stack → Model
-withFrames m k s v =
+abbrev pub withCore : Model → Core → Model
+withCore m k =
     record {
       core = k;
-      stack = s;
-      levels = v;
       held = m .held;
       resource = m .resource;
       holder = m .holder;
       raised = m .raised;
       counter = m .counter;
       on = m .on;
+      turning = m .turning;
       losses = m .losses;
     }
-
-abbrev pub withCore : Model → Core → Model
-withCore m k = withFrames m k (m .stack) (m .levels)
 
 -- the core with other requests
 abbrev pub withRequest : Core → ℕ → Core
@@ -77,35 +70,33 @@ abbrev pub withSlots : Model → ℕ → ℕ → Row → Row → Row → Model
 withSlots m l w rs hs ls =
     record {
       core = withLevel (m .core) l;
-      stack = m .stack;
-      levels = m .levels;
       held = w;
       resource = rs;
       holder = hs;
       raised = ls;
       counter = m .counter;
       on = m .on;
+      turning = m .turning;
       losses = m .losses;
     }
 
--- other counters, switches and losses
-abbrev pub withRest : Model → List ℕ → List ℕ → List ℕ → Model
-withRest m ns os ls =
+-- other counters, switches with or without a turn to pass, and losses
+abbrev pub withRest : Model → List ℕ → List ℕ → Bool → List ℕ → Model
+withRest m ns os w ls =
     record {
       core = m .core;
-      stack = m .stack;
-      levels = m .levels;
       held = m .held;
       resource = m .resource;
       holder = m .holder;
       raised = m .raised;
       counter = ns;
       on = os;
+      turning = w;
       losses = ls;
     }
 
-abbrev pub withCells : Model → List ℕ → List ℕ → Model
-withCells m ns os = withRest m ns os (m .losses)
+abbrev pub withCells : Model → List ℕ → List ℕ → Bool → Model
+withCells m ns os w = withRest m ns os w (m .losses)
 
 -- an event that is done, and one that is refused with a status
 abbrev pub doneWith : Model → Bool → Outcome

@@ -1,22 +1,21 @@
--- Proofs by cases on how two numbers compare.
+-- Proofs by cases: on a test, and on how two numbers compare; and what a test of two says of each.
 -- Assumes nothing.
 use Prim.Native.Nat.{ℕ, _≤_, _<_}
-use mathlib.Core.Path.{_≡_}
-use mathlib.Core.Bool.{Bool, true, false}
-use mathlib.Core.Path.{refl}
+use mathlib.Core.Path.{_≡_, refl, sym}
+use mathlib.Core.Bool.{Bool, true, false, _&&_, true≢false}
 use lib.Dec.{ltb, eqb}
 use borrow.Author.Tests.{ltb-true, ltb-false, eqb-true, eqb-false}
 
+pub by-test {ℓ} : {C : Type ℓ} (t : Bool) → (t ≡ true → C) → (t ≡ false → C) → C
+by-test true f g = f refl
+by-test false f g = g refl
+
 pub by-lt {ℓ} : {C : Type ℓ} (a b : ℕ) → (a < b → C) → (b ≤ a → C) → C
-by-lt {C = C} a b f g = go (ltb a b) refl
-  where
-    go : (t : Bool) → ltb a b ≡ t → C
-    go true e = f (ltb-true a b e)
-    go false e = g (ltb-false a b e)
+by-lt a b f g = by-test (ltb a b) (λ e. f (ltb-true a b e)) (λ e. g (ltb-false a b e))
 
 pub by-eq {ℓ} : {C : Type ℓ} (a b : ℕ) → (a ≡ b → C) → ((a ≡ b → ⊥) → C) → C
-by-eq {C = C} a b f g = go (eqb a b) refl
-  where
-    go : (t : Bool) → eqb a b ≡ t → C
-    go true e = f (eqb-true a b e)
-    go false e = g (eqb-false a b e)
+by-eq a b f g = by-test (eqb a b) (λ e. f (eqb-true a b e)) (λ e. g (eqb-false a b e))
+
+pub and-true : (s t : Bool) → s && t ≡ true → (s ≡ true) × (t ≡ true)
+and-true true t e = (refl, e)
+and-true false t e = absurd (true≢false (sym e))

@@ -1,17 +1,16 @@
 -- The reader's definition, group by group: what each kind of first byte makes of a reading, and how large and how long a reading can be.
 -- Assumes nothing.
 use Prim.Native.Nat.{ℕ, zero, suc, _+_, _*_, _-_, _%_, _≤_, _<_}
-use mathlib.Core.Path.{_≡_, refl}
+use mathlib.Core.Path.{_≡_}
 use mathlib.Core.List.{List, [], _∷_}
 use native.Mathlib.Omega.{arith}
 use native.Mathlib.Numerals.{add-one}
 use borrow.Author.Tests.{lt-ltb, le-ltb, eq-eqb, ne-eqb}
-use lib.Dec.{lit≤}
 use lib.ListN.{length, drop, getD, drop-of-length-le}
 use lib.Seq.{drop-cons}
 use Rattle.number.specs.declared.NumberRead.{NumberRead}
-use Rattle.number.specs.Refusal.{none, cut, malformed}
-use Rattle.number.specs.Number.{accepted, refused, continued, fifthGroup, groups}
+use Rattle.number.specs.Refusal.{none}
+use Rattle.number.specs.Number.{accepted, tooLarge, superfluous, brokenOff, refusedLater, continued, fifthGroup, groups}
 use Rattle.number.proofs.Cases.{by-lt, by-eq}
 
 -- a group that must be the last
@@ -19,7 +18,7 @@ pub fifth-small : (b : ℕ) → b < 16 → fifthGroup b ≡ accepted b 1
 unfolding fifthGroup
 fifth-small b h = simp (lt-ltb b 16 h)
 
-pub fifth-large : (b : ℕ) → 16 ≤ b → fifthGroup b ≡ refused malformed
+pub fifth-large : (b : ℕ) → 16 ≤ b → fifthGroup b ≡ tooLarge
 unfolding fifthGroup
 fifth-large b h = simp (le-ltb b 16 h)
 
@@ -30,20 +29,23 @@ groups-end zero b bs p h = absurd (omega arith)
 groups-end (suc k) b bs p h = simp (lt-ltb b 128 h)
 
 -- a byte with its top bit set
-pub groups-more : (k b : ℕ) (bs : List ℕ) → 0 < k → 128 ≤ b → groups k (b ∷ bs) ≡ continued (b % 128) (groups (k - 1) bs)
+pub groups-step : (k b : ℕ) (bs : List ℕ) → 128 ≤ b → groups (suc k) (b ∷ bs) ≡ continued (b % 128) (groups k bs)
 unfolding groups
+groups-step k b bs h = simp (le-ltb b 128 h)
+
+groups-more : (k b : ℕ) (bs : List ℕ) → 0 < k → 128 ≤ b → groups k (b ∷ bs) ≡ continued (b % 128) (groups (k - 1) bs)
 groups-more zero b bs p h = absurd (omega arith)
-groups-more (suc k) b bs p h = simp (le-ltb b 128 h, pred-suc k)
+groups-more (suc k) b bs p h = simp (pred-suc k) (groups-step k b bs h)
   where
     pred-suc : (j : ℕ) → suc j - 1 ≡ j
     pred-suc j = omega arith
 
 -- the three answers of `continued`
-pub continued-refused : (low : ℕ) (r : NumberRead) → (r .refusal ≡ none → ⊥) → continued low r ≡ refused (r .refusal)
+pub continued-refused : (low : ℕ) (r : NumberRead) → (r .refusal ≡ none → ⊥) → continued low r ≡ refusedLater r
 unfolding continued
 continued-refused low r h = simp (ne-eqb (r .refusal) none h)
 
-pub continued-zero : (low : ℕ) (r : NumberRead) → r .refusal ≡ none → r .value ≡ 0 → continued low r ≡ refused malformed
+pub continued-zero : (low : ℕ) (r : NumberRead) → r .refusal ≡ none → r .value ≡ 0 → continued low r ≡ superfluous
 unfolding continued
 continued-zero low r h z = simp (eq-eqb (r .refusal) none h, eq-eqb (r .value) 0 z)
 
@@ -51,41 +53,23 @@ pub continued-more : (low : ℕ) (r : NumberRead) → r .refusal ≡ none → (r
 unfolding continued
 continued-more low r h z = simp (eq-eqb (r .refusal) none h, ne-eqb (r .value) 0 z)
 
--- only the two refusals of a number are given
-groups-few : (k : ℕ) (bs : List ℕ) → groups k bs .refusal ≤ 2
-unfolding groups
-groups-few k [] = lit≤ tt
-groups-few zero (b ∷ bs) =
-    by-lt b 16
-    (λ h. rw (fifth-small b h) (lit≤ tt))
-    (λ h. rw (fifth-large b h) (lit≤ tt))
-groups-few (suc k) (b ∷ bs) =
-    by-lt b 128
-    (λ h. rw (lt-ltb b 128 h) (lit≤ tt))
-    (λ h. rw (le-ltb b 128 h) (kept (groups-few k bs)))
-  where
-    kept : groups k bs .refusal ≤ 2 → continued (b % 128) (groups k bs) .refusal ≤ 2
-    kept p =
-        by-eq (groups k bs .refusal) none
-        (λ a. by-eq (groups k bs .value) 0
-        (λ z. rw (continued-zero (b % 128) (groups k bs) a z) (lit≤ tt))
-        (λ z. rw (continued-more (b % 128) (groups k bs) a z) (lit≤ tt)))
-        (λ n. rw (continued-refused (b % 128) (groups k bs) n) p)
-
--- a property of readings that the refused have, those of a last byte, and with any reading those that go on from it
+-- a property of readings: that of no bytes, a fifth group too large, a last group, and what a group before any reading makes of it
 module _ (P : ℕ → List ℕ → NumberRead → Type 0)
-    (on-refused : (k : ℕ) (bs : List ℕ) (r : ℕ) → 1 ≤ r → r ≤ 2 → P k bs (refused r))
+    (on-cut : (k : ℕ) → P k [] brokenOff)
+    (on-large : (b : ℕ) (bs : List ℕ) → 16 ≤ b → P 0 (b ∷ bs) tooLarge)
     (on-last : (b : ℕ) (bs : List ℕ) → b < 16 → P 0 (b ∷ bs) (accepted b 1))
     (on-end : (k b : ℕ) (bs : List ℕ) → b < 128 → P (suc k) (b ∷ bs) (accepted b 1))
-    (on-more : (k b : ℕ) (bs : List ℕ) (r : NumberRead) → 128 ≤ b → groups k bs ≡ r → r .refusal ≡ none → (r .value ≡ 0 → ⊥) → P k bs r → P (suc k) (b ∷ bs) (accepted (b % 128 + 128 * r .value) (1 + r .place)))
+    (on-more : (k b : ℕ) (bs : List ℕ) (r : NumberRead) → 128 ≤ b → r .refusal ≡ none → (r .value ≡ 0 → ⊥) → P k bs r → P (suc k) (b ∷ bs) (accepted (b % 128 + 128 * r .value) (1 + r .place)))
+    (on-zero : (k b : ℕ) (bs : List ℕ) (r : NumberRead) → 128 ≤ b → r .refusal ≡ none → r .value ≡ 0 → P k bs r → P (suc k) (b ∷ bs) superfluous)
+    (on-refused : (k b : ℕ) (bs : List ℕ) (r : NumberRead) → 128 ≤ b → (r .refusal ≡ none → ⊥) → P k bs r → P (suc k) (b ∷ bs) (refusedLater r))
   where
     pub groups-elim : (k : ℕ) (bs : List ℕ) → P k bs (groups k bs)
     unfolding groups
-    groups-elim k [] = on-refused k [] cut (lit≤ tt) (lit≤ tt)
+    groups-elim k [] = on-cut k
     groups-elim zero (b ∷ bs) =
         by-lt b 16
         (λ h. rw (fifth-small b h) (on-last b bs h))
-        (λ h. rw (fifth-large b h) (on-refused zero (b ∷ bs) malformed (lit≤ tt) (lit≤ tt)))
+        (λ h. rw (fifth-large b h) (on-large b bs h))
     groups-elim (suc k) (b ∷ bs) =
         by-lt b 128
         (λ h. rw (lt-ltb b 128 h) (on-end k b bs h))
@@ -95,13 +79,13 @@ module _ (P : ℕ → List ℕ → NumberRead → Type 0)
         goes-on h p =
             by-eq (groups k bs .refusal) none
             (λ a. by-eq (groups k bs .value) 0
-            (λ z. rw (continued-zero (b % 128) (groups k bs) a z) (on-refused (suc k) (b ∷ bs) malformed (lit≤ tt) (lit≤ tt)))
-            (λ z. rw (continued-more (b % 128) (groups k bs) a z) (on-more k b bs (groups k bs) h refl a z p)))
-            (λ n. rw (continued-refused (b % 128) (groups k bs) n) (on-refused (suc k) (b ∷ bs) (groups k bs .refusal) (omega arith) (groups-few k bs)))
+            (λ z. rw (continued-zero (b % 128) (groups k bs) a z) (on-zero k b bs (groups k bs) h a z p))
+            (λ z. rw (continued-more (b % 128) (groups k bs) a z) (on-more k b bs (groups k bs) h a z p)))
+            (λ n. rw (continued-refused (b % 128) (groups k bs) n) (on-refused k b bs (groups k bs) h n p))
 
 -- the same at a place of a list
 module _ (l : List ℕ) (at k : ℕ) where
-  pub groups-past : length l ≤ at → groups k (drop at l) ≡ refused cut
+  pub groups-past : length l ≤ at → groups k (drop at l) ≡ brokenOff
   unfolding groups
   groups-past h = rw (drop-of-length-le l h)
 

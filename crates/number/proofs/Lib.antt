@@ -1,7 +1,9 @@
--- The laws of `number`. `Theorems` is the file to read and the one that other crates cite; `Cases` has proofs by cases for every crate.
+-- The laws of `number`. `Theorems` is the file to read and the one that other crates cite; `Cases` has proofs by cases for every crate, `Laying` the
+-- laws of a writer that writes piece by piece; `Groups` and `Size` have what the definitions give group by group, for the proofs of the code.
 pub mod Cases
 pub mod Theorems
 pub mod Laying
-mod Groups
-mod Size
+pub mod Groups
+pub mod Size
+mod Place
 mod RoundTrip

@@ -57,7 +57,10 @@ pub groups-read : (k : ℕ) (bs : List ℕ) → Wrote k bs (groups k bs)
 unfolding groupBytes
 groups-read =
     groups-elim Wrote
-    (λ k bs r some few bytes none. absurd (omega arith))
-    (λ b bs h bytes none. refl)
-    (λ k b bs h bytes none. simp (lt-ltb b 128 h))
-    (λ k b bs r h e a z p bytes none. wrote-more k b (r .value) (r .place) bs h (bytes zero) z (p (λ i. bytes (suc i)) a))
+    (λ k bytes e. absurd (omega arith))
+    (λ b bs h bytes e. absurd (omega arith))
+    (λ b bs h bytes e. refl)
+    (λ k b bs h bytes e. simp (lt-ltb b 128 h))
+    (λ k b bs r h a z p bytes e. wrote-more k b (r .value) (r .place) bs h (bytes zero) z (p (λ i. bytes (suc i)) a))
+    (λ k b bs r h a z p bytes e. absurd (omega arith))
+    (λ k b bs r h n p bytes e. absurd (n e))

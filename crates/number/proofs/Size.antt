@@ -1,15 +1,15 @@
 -- How large and how long a reading is, and how long a number's bytes are.
 -- Assumes nothing.
-use Prim.Native.Nat.{ℕ, zero, suc, _+_, _*_, _-_, _/_, _%_, _^_, _≤_, _<_}
+use Prim.Native.Nat.{ℕ, zero, suc, _+_, _*_, _-_, _/_, _%_, _≤_, _<_}
 use mathlib.Core.Path.{_≡_, refl, ap}
 use mathlib.Core.List.{List, [], _∷_}
 use native.Mathlib.Omega.{arith}
 use borrow.Author.Tests.{lt-ltb, le-ltb}
 use lib.Dec.{lit<, lit≤}
-use lib.ListN.{length, drop, getD, length-drop}
+use lib.ListN.{length, getD}
 use Rattle.number.specs.declared.NumberRead.{NumberRead}
-use Rattle.number.specs.Refusal.{none}
-use Rattle.number.specs.Number.{limit, Bytes, groups, leading, groupBytes, numberBytes}
+use Rattle.number.specs.Refusal.{none, cut, malformed}
+use Rattle.number.specs.Number.{numberBound, Bytes, accepted, refused, groups, leading, groupBytes, numberBytes}
 use Rattle.number.proofs.Cases.{by-lt}
 use Rattle.number.proofs.Groups.{groups-elim}
 
@@ -24,7 +24,9 @@ pub record Sized (k : ℕ) (bs : List ℕ) (r : NumberRead) : Type 0 where
   pub place-le : r .place ≤ length bs
   pub some : r .refusal ≡ none → 1 ≤ r .place
   pub few : r .refusal ≤ 2
-  pub nothing : (r .refusal ≡ none → ⊥) → (r .value ≡ 0) × (r .place ≡ 0)
+  pub nothing : (r .refusal ≡ none → ⊥) → r .value ≡ 0
+  pub at-end : r .refusal ≡ cut → r .place ≡ length bs
+  pub at-byte : r .refusal ≡ malformed → r .place < length bs
 
 room-pos : (k : ℕ) → 16 ≤ room k
 unfolding room
@@ -37,27 +39,46 @@ room-mono zero k h = room-pos k
 room-mono (suc j) zero h = absurd (omega arith)
 room-mono (suc j) (suc k) h = let p : room j ≤ room k = room-mono j k (omega arith) in omega arith
 
+refused-sized : (k : ℕ) (bs : List ℕ) (r p : ℕ) → p ≤ length bs → 1 ≤ r → r ≤ 2 → (r ≡ cut → p ≡ length bs) → (r ≡ malformed → p < length bs)
+    → Sized k bs (refused r p)
+refused-sized k bs r p inside low high end byte =
+    let h = room-pos k in
+    record {
+      value-lt = omega arith;
+      place-le = inside;
+      some = λ e. absurd (omega arith);
+      few = high;
+      nothing = λ n. refl;
+      at-end = end;
+      at-byte = byte;
+    }
+
+accepted-sized : (k : ℕ) (bs : List ℕ) (v p : ℕ) → v < room k → 1 ≤ p → p ≤ length bs → Sized k bs (accepted v p)
+accepted-sized k bs v p small some inside =
+    record {
+      value-lt = small;
+      place-le = inside;
+      some = λ e. some;
+      few = lit≤ tt;
+      nothing = λ n. absurd (n refl);
+      at-end = λ e. absurd (omega arith);
+      at-byte = λ e. absurd (omega arith);
+    }
+
+last-sized : (k b : ℕ) (bs : List ℕ) → b < room k → Sized k (b ∷ bs) (accepted b 1)
+last-sized k b bs h = accepted-sized k (b ∷ bs) b 1 h (lit≤ tt) (omega arith)
+
 pub groups-sized : (k : ℕ) (bs : List ℕ) → Sized k bs (groups k bs)
 unfolding room
 groups-sized =
     groups-elim Sized
-    (λ k bs r some few. let h = room-pos k in record { value-lt = omega arith; place-le = omega arith; some = omega arith; few = few; nothing = λ n. (refl, refl) })
-    (λ b bs h. record { value-lt = h; place-le = omega arith; some = λ e. lit≤ tt; few = lit≤ tt; nothing = λ n. absurd (n refl) })
-    (λ k b bs h. let q = room-pos k in record { value-lt = omega arith; place-le = omega arith; some = λ e. lit≤ tt; few = lit≤ tt; nothing = λ n. absurd (n refl) })
-    (λ k b bs r h e a z p. record { value-lt = omega arith; place-le = omega arith; some = λ e. omega arith; few = lit≤ tt; nothing = λ n. absurd (n refl) })
-
--- what comes after a group with its top bit set leaves room for that group
-pub continued-fits : (l : List ℕ) (at k : ℕ) → length l < 2 ^ 63 → 0 < k → k ≤ leading → (r : NumberRead) → r ≡ groups (k - 1) (drop (at + 1) l)
-    → (128 * r .value + 128 ≤ limit) × (r .place < 2 ^ 63)
-unfolding room
-continued-fits l at zero short p few r e = absurd (omega arith)
-continued-fits l at (suc k) short p few r e = rw (e, pred-suc k)
-    (let s = groups-sized k (drop (at + 1) l) in
-    let m : room (suc k) ≤ room leading = room-mono (suc k) leading few in
-    (omega arith, omega (arith, length-drop (at + 1) l)))
-  where
-    pred-suc : (j : ℕ) → suc j - 1 ≡ j
-    pred-suc j = omega arith
+    (λ k. refused-sized k [] _ _ (omega arith) (lit≤ tt) (lit≤ tt) (λ e. refl) (λ e. absurd (omega arith)))
+    (λ b bs h. refused-sized 0 (b ∷ bs) _ _ (omega arith) (lit≤ tt) (lit≤ tt) (λ e. absurd (omega arith)) (λ e. omega arith))
+    (λ b bs h. last-sized 0 b bs h)
+    (λ k b bs h. last-sized (suc k) b bs (let q = room-pos k in omega arith))
+    (λ k b bs r h a z p. accepted-sized (suc k) (b ∷ bs) _ _ (omega arith) (omega arith) (omega arith))
+    (λ k b bs r h a z p. refused-sized (suc k) (b ∷ bs) _ _ (omega arith) (lit≤ tt) (lit≤ tt) (λ e. absurd (omega arith)) (λ e. omega (arith, p .some a, p .place-le)))
+    (λ k b bs r h n p. refused-sized (suc k) (b ∷ bs) _ _ (omega (arith, p .place-le)) (omega arith) (p .few) (λ e. omega (arith, p .at-end e)) (λ e. omega (arith, p .at-byte e)))
 
 -- a number has at least one byte, and at most one after those that lead
 length-groupBytes : (k v : ℕ) → (1 ≤ length (groupBytes k v)) × (length (groupBytes k v) ≤ suc k)
@@ -105,7 +126,7 @@ pub numberBytes-single : (v : ℕ) → v < 128 → numberBytes v ≡ v ∷ []
 unfolding numberBytes groupBytes
 numberBytes-single v h = simp (lt-ltb v 128 h)
 
-pub numberBytes-more : (v : ℕ) → 128 ≤ v → v < limit → numberBytes v ≡ (128 + v % 128) ∷ numberBytes (v / 128)
+pub numberBytes-more : (v : ℕ) → 128 ≤ v → v < numberBound → numberBytes v ≡ (128 + v % 128) ∷ numberBytes (v / 128)
 unfolding numberBytes groupBytes room
 numberBytes-more v h small =
     simp (le-ltb v 128 h) (ap (λ (l : List ℕ). (128 + v % 128) ∷ l) (groupBytes-enough 3 leading (v / 128) (omega arith) (omega arith)))

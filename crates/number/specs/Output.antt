@@ -2,10 +2,11 @@
 --
 --   writing bs n   the answer of a writer of bs that is lent n bytes
 --   written bs d   what d holds afterwards
+--   packed r p     a refusal and its place as one number
 --   laid at bs d   d with bs over it at a place, for a writer that writes piece by piece
 --
 -- They serve every writer of the format. Assumes nothing.
-use Prim.Native.Nat.{ℕ, _+_}
+use Prim.Native.Nat.{ℕ, _+_, _*_}
 use mathlib.Core.Bool.{cond}
 use mathlib.Core.List.{List, _++_}
 use lib.Dec.{leb}
@@ -24,6 +25,10 @@ writing bs n = cond (leb (length bs) n) (record { refusal = none; place = length
 -- "bytes beyond it staying"; a refused writer leaves its output "untouched"
 unfoldable pub written : List ℕ → List ℕ → List ℕ
 written bs d = cond (leb (length bs) (length d)) (bs ++ drop (length bs) d) d
+
+-- "refusal × 4,294,967,296 + place", the answer of a refused call over the C boundary
+abbrev pub packed : ℕ → ℕ → ℕ
+packed refusal place = refusal * 4294967296 + place
 
 -- d with bs over it, from the place at on
 unfoldable pub laid : ℕ → List ℕ → List ℕ → List ℕ

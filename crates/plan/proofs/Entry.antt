@@ -1,17 +1,17 @@
 -- The entries of all tables, one after the other: table by table, and the table of an entry.
 -- Assumes nothing.
-use Prim.Native.Nat.{ℕ, zero, suc, _+_, _-_, _≤_, _<_, min, max}
+use Prim.Native.Nat.{ℕ, zero, suc, _+_, _-_, _≤_, _<_, min}
 use mathlib.Core.Path.{_≡_, sym, ap}
-use mathlib.Core.List.{List, [], _∷_, foldr}
+use mathlib.Core.List.{List, [], _∷_}
 use native.Mathlib.Omega.{arith}
 use native.Mathlib.Numerals.{add-one}
-use lib.ListN.{length, getD, take, drop, drop-of-length-le}
+use lib.ListN.{length, getD, drop, drop-of-length-le}
 use lib.Seq.{drop-cons}
 use borrow.Author.Tests.{lt-ltb, le-ltb}
 use Rattle.number.proofs.Cases.{by-lt}
 use Rattle.config.specs.Value.{maxEntries}
 use Rattle.config.specs.Meaning.{entriesBefore}
-use Rattle.plan.specs.Entry.{tableIn, firstIn, largestIn}
+use Rattle.plan.specs.Entry.{tableIn, firstIn}
 
 -- one table more
 pub entriesBefore-step : (ns : List ℕ) (t : ℕ) → t < length ns → entriesBefore ns (suc t) ≡ entriesBefore ns t + getD ns t 0
@@ -28,9 +28,6 @@ table-passed ns t e h p = rw (p, add-one) (sym (entriesBefore-step ns t h))
 module _ (ns : List ℕ) (t e : ℕ) (begins : e ≡ entriesBefore ns t) where
   pub first-known : (r : ℕ) → r ≡ min e maxEntries → r ≡ firstIn ns t
   first-known r p = rw begins at p
-
-  pub largest-known : (os : List ℕ) (r : ℕ) → r ≡ foldr max 0 (take (getD ns t 0) (drop e os)) → r ≡ largestIn ns os t
-  largest-known os r p = rw begins at p
 
 -- a loop over the tables, `left` entries before the one looked for
 module _ (ns : List ℕ) (t left : ℕ) where

@@ -1,14 +1,13 @@
--- The greatest of a list, and of the elements whose bits are set in a mask: element by element, and how large it can be.
+-- The greatest of the elements whose bits are set in a mask: element by element, and how large it can be.
 -- Assumes nothing.
-use Prim.Native.Nat.{ℕ, suc, _+_, _-_, _/_, _%_, _≤_, _<_, min, max}
-use mathlib.Core.Path.{_≡_, ap, _∙_}
-use mathlib.Core.List.{List, [], _∷_, foldr}
+use Prim.Native.Nat.{ℕ, suc, _/_, _%_, _≤_, _<_, max}
+use mathlib.Core.Path.{_≡_, ap}
+use mathlib.Core.List.{List, [], _∷_}
 use native.Mathlib.Omega.{arith}
-use lib.ListN.{length, getD, take, drop, length-take, length-drop, drop-of-length-le}
-use lib.Seq.{length-take-le, drop-cons, getD-take, getD-drop}
+use lib.ListN.{length, getD, take, drop, drop-of-length-le}
+use lib.Seq.{length-take-le}
 use borrow.Author.Tests.{eq-eqb, ne-eqb}
 use Rattle.number.proofs.Cases.{by-eq}
-use Rattle.config.specs.Value.{maxEntries}
 use Rattle.config.specs.Meaning.{greatestIn}
 use Rattle.plan.proofs.Stored.{drop-take-cons}
 
@@ -18,35 +17,7 @@ max-assoc a b c = omega arith
 max-zero : (a : ℕ) → max a 0 ≡ a
 max-zero a = omega arith
 
--- a loop over a list that keeps the greatest so far
-module _ (l : List ℕ) (k r : ℕ) where
-  pub greatest-next : k < length l → max (max r (getD l k 0)) (foldr max 0 (drop (suc k) l)) ≡ max r (foldr max 0 (drop k l))
-  greatest-next h = rw (drop-cons l k 0 h) (max-assoc r (getD l k 0) (foldr max 0 (drop (suc k) l)))
-
-  pub greatest-all : length l ≤ k → max r (foldr max 0 (drop k l)) ≡ r
-  greatest-all h = rw (drop-of-length-le l {i = k} h) (max-zero r)
-
--- a loop over the n offsets from a place on, at the offset e
-module _ (l : List ℕ) (sized : length l ≡ maxEntries) (from n e r : ℕ) where
-  pub offset-next : (r′ : ℕ) → r′ ≡ max r (getD l e 0) → from ≤ e → e < from + n → e < maxEntries
-      → max r′ (foldr max 0 (drop (e + 1 - from) (take n (drop from l)))) ≡ max r (foldr max 0 (drop (e - from) (take n (drop from l))))
-  offset-next r′ new lo hi inside =
-      rw (new, next, ← here)
-      (greatest-next (take n (drop from l)) (e - from) r (simp (length-take, length-drop) (omega arith)))
-    where
-      next : e + 1 - from ≡ suc (e - from)
-      next = omega arith
-
-      there : from + (e - from) ≡ e
-      there = omega arith
-
-      here : getD (take n (drop from l)) (e - from) 0 ≡ getD l e 0
-      here = getD-take n (drop from l) (e - from) 0 (omega arith) ∙ getD-drop from l (e - from) 0 ∙ ap (λ i. getD l i 0) there
-
-  pub offset-all : from ≤ e → min (from + n) maxEntries ≤ e → max r (foldr max 0 (drop (e - from) (take n (drop from l)))) ≡ r
-  offset-all lo hi = greatest-all (take n (drop from l)) (e - from) r (simp (length-take, length-drop) (omega arith))
-
--- the same where the bits of a mask choose
+-- a loop over a list that keeps the greatest so far of the elements that the bits of a mask choose
 module _ (m r n : ℕ) (l : List ℕ) (fits : n ≤ length l) (b : ℕ) where
   pub chosen-next : b < n → m % 2 ≡ 1 → max (max r (getD l b 0)) (greatestIn (m / 2) (drop (suc b) (take n l))) ≡ max r (greatestIn m (drop b (take n l)))
   unfolding greatestIn

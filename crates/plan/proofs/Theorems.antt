@@ -17,12 +17,12 @@ use Rattle.word.specs.Word as Word
 use Rattle.word.specs.Word.{has}
 use Rattle.config.specs.declared.Config.{Config}
 use Rattle.config.specs.Value.{maxBodies, maxResources, maxTables, maxEntries}
-use Rattle.config.specs.Meaning.{isTask, isIsr, priorityOf, ceiling, firstOf, largestOffset}
+use Rattle.config.specs.Meaning.{isTask, isIsr, priorityOf, ceiling, firstOf}
 use Rattle.config.specs.Accepted.{Accepted, Shaped}
 use Rattle.plan.specs.declared.Plan.{Plan}
 use Rattle.plan.specs.Stored.{stored, listed}
 use Rattle.plan.specs.Rank.{noRank, rankOf, bodyCount, taskRank, lineRank}
-use Rattle.plan.specs.Entry.{tableOf, tableCount, entryCount, firstEntry, compareOf, entryRank}
+use Rattle.plan.specs.Entry.{entryTable, tableCount, entryCount, firstEntry, compareOf, entryRank}
 use Rattle.plan.specs.Plan.{resourceCount, planOf}
 use Rattle.plan.proofs.Stored.{length-stored, stored-at, stored-past, getD-any}
 use Rattle.plan.proofs.Words.{marked-has, marked-some, marked-lt}
@@ -40,7 +40,6 @@ pub record Sized (p : Plan) : Type 0 where
   pub autostart-lt : p .autostart < 2 ^ Word.ranks
   pub ceilings : length (p .ceiling) ≡ maxResources
   pub firsts : length (p .first) ≡ maxTables
-  pub largests : length (p .largest) ≡ maxTables
   pub compares : length (p .compare) ≡ maxEntries
   pub entries : length (p .entry) ≡ maxEntries
   pub count-le : p .count ≤ maxEntries
@@ -57,7 +56,6 @@ plan-sized c =
       autostart-lt = marked-lt (rankOf c) (λ b. getD (c .autostart) b 0) (bodyCount c);
       ceilings = simp length-stored;
       firsts = simp length-stored;
-      largests = simp length-stored;
       compares = simp length-stored;
       entries = simp length-stored;
       count-le = omega arith;
@@ -163,7 +161,7 @@ module _ (c : Config) (accepted : Accepted c) (shaped : Shaped c) where
           let l : b < c .bodies = omega (arith, length-take (c .bodies) (c .priority)) in
           rw (getD-take (c .bodies) (c .priority) b 0 l) (accepted .priority-high b l)
 
-  -- a table's first entry, and its largest offset
+  -- a table's first entry
   first-le : (t : ℕ) → t ≤ c .tables → firstOf c t ≤ firstOf c (c .tables)
   first-le t h = entriesBefore-le (c .entries) t (c .tables) h (omega (arith, accepted .few-tables, shaped .counts))
 
@@ -172,11 +170,6 @@ module _ (c : Config) (accepted : Accepted c) (shaped : Shaped c) where
   table-first t h =
       listed-at (firstEntry c) (tableCount c) maxTables 0 t 0 (omega (arith, accepted .few-tables)) (omega (arith, accepted .few-tables))
       ∙ min-eq-left (omega (arith, first-le t (omega arith), accepted .few-entries))
-
-  pub table-largest : (t : ℕ) → t < c .tables → getD (planOf c .largest) t 0 ≡ largestOffset c t
-  unfolding planOf
-  table-largest t h =
-      listed-at (largestOffset c) (tableCount c) maxTables 0 t 0 (omega (arith, accepted .few-tables)) (omega (arith, accepted .few-tables))
 
   -- how many entries there are in all
   pub entry-count : planOf c .count ≡ firstOf c (c .tables)
@@ -187,7 +180,7 @@ module _ (c : Config) (accepted : Accepted c) (shaped : Shaped c) where
   entry-count-le = omega (arith, entry-count, accepted .few-entries)
 
   -- an entry's table is the one whose entries it is among
-  pub entry-table : (e : ℕ) → e < planOf c .count → (tableOf c e < c .tables) × (firstOf c (tableOf c e) ≤ e) × (e < firstOf c (suc (tableOf c e)))
+  pub entry-table : (e : ℕ) → e < planOf c .count → (entryTable c e < c .tables) × (firstOf c (entryTable c e) ≤ e) × (e < firstOf c (suc (entryTable c e)))
   entry-table e h = table-among (c .entries) (c .tables) e (omega (arith, entry-count))
 
   counted : (e : ℕ) → e < planOf c .count → e < entryCount c

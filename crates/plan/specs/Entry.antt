@@ -1,15 +1,15 @@
 -- The entries of all tables, one after the other: which table an entry is of, and what is kept for each table and entry.
 --
---   tableOf c e      the table of entry e
+--   entryTable c e      the table of entry e
 --   firstEntry c t   where the entries of table t begin
 --   compareOf c e, entryRank c e   entry e's compare value, and the rank of its task
 --
 -- Assumes nothing.
-use Prim.Native.Nat.{ℕ, suc, _-_, min, max}
+use Prim.Native.Nat.{ℕ, suc, _-_, min}
 use mathlib.Core.Bool.{cond}
-use mathlib.Core.List.{List, [], _∷_, foldr}
+use mathlib.Core.List.{List, [], _∷_}
 use lib.Dec.{ltb}
-use lib.ListN.{getD, take, drop}
+use lib.ListN.{getD}
 use Rattle.config.specs.declared.Config.{Config}
 use Rattle.config.specs.Value.{maxTables, maxEntries}
 use Rattle.config.specs.Meaning.{entriesBefore}
@@ -24,17 +24,13 @@ tableIn (n ∷ ns) e = cond (ltb e n) 0 (suc (tableIn ns (e - n)))
 abbrev pub firstIn : List ℕ → ℕ → ℕ
 firstIn ns t = min (entriesBefore ns t) maxEntries
 
--- the largest of a table's offsets
-abbrev pub largestIn : List ℕ → List ℕ → ℕ → ℕ
-largestIn ns os t = foldr max 0 (take (getD ns t 0) (drop (entriesBefore ns t) os))
-
 -- "Compare value: period P minus 1"
 abbrev pub compareIn : List ℕ → List ℕ → ℕ → ℕ
 compareIn ns ps e = getD ps (tableIn ns e) 0 - 1
 
 -- the same of a configuration
-abbrev pub tableOf : Config → ℕ → ℕ
-tableOf c e = tableIn (c .entries) e
+abbrev pub entryTable : Config → ℕ → ℕ
+entryTable c e = tableIn (c .entries) e
 
 -- how many tables and how many entries there are: no more than the arrays hold, whatever the value says
 abbrev pub tableCount : Config → ℕ

@@ -6,7 +6,7 @@ use lib.ListN.{getD, replicate}
 use mathlib.Core.List.{List}
 use Rattle.config.specs.declared.Config.{Config}
 use Rattle.config.specs.Value.{maxBodies, maxResources, maxTables, maxEntries}
-use Rattle.config.specs.Meaning.{priorityOf, ceiling, largestOffset}
+use Rattle.config.specs.Meaning.{priorityOf, ceiling}
 use Rattle.plan.specs.declared.Plan.{Plan}
 use Rattle.plan.specs.Stored.{stored, listed}
 use Rattle.plan.specs.Marked.{marked}
@@ -34,12 +34,9 @@ resourceCount c = min (c .resources) maxResources
 abbrev pub ceilings : Config → List ℕ
 ceilings c = listed (ceiling c) (resourceCount c) (replicate maxResources 0)
 
--- by table: its first entry, and its largest offset
+-- by table: its first entry
 abbrev pub firsts : Config → List ℕ
 firsts c = listed (firstEntry c) (tableCount c) (replicate maxTables 0)
-
-abbrev pub largests : Config → List ℕ
-largests c = listed (largestOffset c) (tableCount c) (replicate maxTables 0)
 
 -- by entry: its cell's compare value, and the rank of its task
 abbrev pub compares : Config → List ℕ
@@ -59,7 +56,6 @@ planOf c =
       autostart = autostarts c;
       ceiling = ceilings c;
       first = firsts c;
-      largest = largests c;
       compare = compares c;
       entry = entryRanks c;
       count = entryCount c;

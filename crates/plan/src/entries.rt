@@ -1,63 +1,39 @@
-// Tables and their entries: where a table's entries begin, its largest offset, and what each entry's cell has.
+// Tables and their entries: where a table's entries begin, and what each entry's cell has.
 use crate::MAX_BODIES;
 use crate::MAX_ENTRIES;
 use crate::MAX_TABLES;
 use crate::NO_RANK;
 use crate::at_most;
 ghost use mathlib.Core.Path.{_≡_};
-ghost use Prim.Native.Nat.{_-_, _≤_, max};
-ghost use mathlib.Core.List.{foldr};
-ghost use lib.ListN.{take, drop, getD, replicate};
+ghost use Prim.Native.Nat.{_-_, _≤_};
+ghost use lib.ListN.{getD, replicate};
 ghost use Rattle.config.specs.Value.{maxTables, maxEntries};
 ghost use Rattle.plan.specs.Stored.{listed};
 ghost use Rattle.plan.specs.Rank.{noRank};
-ghost use Rattle.plan.specs.Entry.{tableIn, firstIn, largestIn, compareIn};
+ghost use Rattle.plan.specs.Entry.{tableIn, firstIn, compareIn};
 
-// The largest of the `n` offsets from `from` on.
-fn largest(offset: [u16; 64], from: usize, n: usize) -> u16
-    requires { ⌜ (from ≤ 4096) × (n ≤ 4096) ⌝ }
-    ensures { λ r. ⌜ r ≡ foldr max 0 (take n (drop from offset)) ⌝ }
-{
-    let mut r: u16 = 0;
-    let end = at_most(from + n, MAX_ENTRIES);
-    let mut e = from;
-    while e < end {
-        let o = offset[e];
-        if r < o {
-            r = o;
-        }
-        e += 1;
-    }
-    r
-}
-
-// By table its first entry and its largest offset, and how many entries there are in all.
+// By table its first entry, and how many entries there are in all.
 pub struct ByTable {
     pub first: [u8; 8],
-    pub largest: [u16; 8],
     pub count: usize,
 }
 
-pub fn by_table(entries: [u8; 8], offset: [u16; 64], n: usize) -> ByTable
+pub fn by_table(entries: [u8; 8], n: usize) -> ByTable
     requires { ⌜ n ≤ maxTables ⌝ }
     ensures first { λ r. ⌜ r .first ≡ listed (firstIn entries) n (replicate maxTables 0) ⌝ }
-    ensures largest { λ r. ⌜ r .largest ≡ listed (largestIn entries offset) n (replicate maxTables 0) ⌝ }
     ensures count { λ r. ⌜ r .count ≡ firstIn entries n ⌝ }
 {
     let mut first = [0u8; 8];
-    let mut most = [0u16; 8];
     let mut e: usize = 0;
     let mut t = 0;
     while t < n {
         let k = entries[t] as usize;
         first[t] = at_most(e, MAX_ENTRIES) as u8;
-        most[t] = largest(offset, e, k);
         e += k;
         t += 1;
     }
     ByTable {
         first,
-        largest: most,
         count: at_most(e, MAX_ENTRIES),
     }
 }

@@ -33,9 +33,8 @@ pub struct Plan {
     pub autostart: u32,
     // By resource.
     pub ceiling: [u8; 16],
-    // By table its first entry and its largest offset.
+    // By table its first entry.
     pub first: [u8; 8],
-    pub largest: [u16; 8],
     // By entry its cell's compare value and the rank of its task.
     pub compare: [u16; 64],
     pub entry: [u8; 64],
@@ -52,7 +51,6 @@ impl Plan {
         let flags = config.autostart;
         let users = config.users;
         let counts = config.entries;
-        let offset = config.offset;
         let period = config.period;
         let tasks = config.task;
         let n = at_most(config.bodies as usize, MAX_BODIES);
@@ -64,7 +62,7 @@ impl Plan {
         let some = at_most(config.resources as usize, MAX_RESOURCES);
         let ceiling = resources::ceilings(users, some, priority, n);
         let tables = at_most(config.tables as usize, MAX_TABLES);
-        let table = entries::by_table(counts, offset, tables);
+        let table = entries::by_table(counts, tables);
         let count = table.count;
         let compare = entries::compares(counts, period, count);
         let task = kinds.task;
@@ -73,7 +71,6 @@ impl Plan {
         let level = ranked.priority;
         let body = ranked.body;
         let first = table.first;
-        let largest = table.largest;
         Plan {
             task,
             line,
@@ -83,7 +80,6 @@ impl Plan {
             autostart,
             ceiling,
             first,
-            largest,
             compare,
             entry,
             count,

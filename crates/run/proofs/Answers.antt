@@ -18,11 +18,11 @@ use Rattle.plan.specs.Plan.{planOf}
 use Rattle.scheduler.specs.Scheduler.{Event, Seen, fresh, after}
 use Rattle.machine.specs.Model.{Model}
 use Rattle.machine.specs.Machine.{freshModel, machineStep, lossesOf, machineSeen, machineAfter}
-use Rattle.machine.proofs.Simulation.{Fitted}
-use Rattle.machine.proofs.Calls.{losses-seen}
-use Rattle.machine.proofs.Agreement.{agreement-from, after-sim}
-use Rattle.machine.proofs.Freshness.{fresh-sim}
-use Rattle.machine.proofs.Fitting.{fitted}
+use Rattle.machine.proofs.Relation.Fitted.{Fitted}
+use Rattle.machine.proofs.Event.Agrees.{losses-seen}
+use Rattle.machine.proofs.Whole.Lists.{agreement-from, after-sim}
+use Rattle.machine.proofs.Whole.Fresh.{fresh-sim}
+use Rattle.machine.proofs.Whole.Plan.{fitted}
 use Rattle.run.specs.Run.{answerBytes, lossBytes, answers}
 use Rattle.run.specs.Steps.{machineAnswers}
 
@@ -66,11 +66,11 @@ module _ (c : Config) (p : Plan) (fit : Fitted c p (rankOf c)) where
     machine-same : machineAnswers c p es ≡ answers c es
     unfolding machineAnswers answers
     machine-same =
-        let start = fresh-sim c p (rankOf c) fit in
-        let end = after-sim c p (rankOf c) fit es (freshModel p) (fresh c) start in
+        let start = fresh-sim fit in
+        let end = after-sim fit es start in
         ap₂ (λ (xs : List Seen) (ns : List ℕ). answerBytes xs ++ lossBytes ns)
-        (agreement-from c p (rankOf c) fit es (freshModel p) (fresh c) start)
-        (losses-seen c p (rankOf c) fit (machineAfter c p (freshModel p) es) (after c (fresh c) es .bodies) (end .tied .size) (end .lost))
+        (agreement-from fit es start)
+        (losses-seen fit (machineAfter c p (freshModel p) es) (after c (fresh c) es .bodies) (end .tied .size) (end .lost))
 
 module _ (c : Config) (ok : Accepted c) (shaped : Shaped c) (es : List Event) where
   -- the two sides of demand 3, as bytes

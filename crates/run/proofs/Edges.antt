@@ -11,10 +11,10 @@ use Rattle.number.specs.Number.{accepted, refused, readNumber, groups, continue
 use Rattle.config.specs.declared.Config.{Config}
 use Rattle.config.specs.Draft.{faultAt, putAt, ended, occurs}
 use Rattle.config.specs.Reader.{readConfig, readFrom}
-use Rattle.config.specs.Meaning.{greatestIn, entriesBefore, largestOffset}
+use Rattle.config.specs.Meaning.{greatestIn, entriesBefore, smallestOffset}
 use Rattle.cell.specs.Cell.{startCell}
 use Rattle.cell.specs.Due.{due}
-use Rattle.scheduler.specs.Status.{firstOf}
+use Rattle.scheduler.specs.Status.{firstGiven}
 use Rattle.scheduler.specs.Body.{Body, started, loses}
 use Rattle.scheduler.specs.Choice.{candidate, chosenFrom}
 use Rattle.scheduler.specs.State.{among, heldIn}
@@ -47,21 +47,25 @@ oneIsr = read (1 ∷ 1 ∷ 1 ∷ 1 ∷ 0 ∷ 0 ∷ 0 ∷ [])
 abbrev twoTables : Config
 twoTables = read (1 ∷ 2 ∷ 0 ∷ 1 ∷ 1 ∷ 0 ∷ 2 ∷ 0 ∷ 0 ∷ 2 ∷ 1 ∷ 1 ∷ 0 ∷ 1 ∷ 1 ∷ 1 ∷ 0 ∷ 1 ∷ [])
 
+-- a running task of priority 1, and a table of period 4 that activates it at the offsets 2 and 3
+abbrev latestStart : Config
+latestStart = read (1 ∷ 1 ∷ 0 ∷ 1 ∷ 1 ∷ 0 ∷ 1 ∷ 4 ∷ 2 ∷ 2 ∷ 0 ∷ 3 ∷ 0 ∷ [])
+
 -- a task that has lost as many activations as are counted
 abbrev fullyLost : Body
-fullyLost = record { phase = started; waiting = false; held = []; losses = 65535 }
+fullyLost = record { phase = started; pending = false; held = []; losses = 65535 }
 
 pub record Edges : Type 0 where
   pub p1 : (numberBytes 127 ≡ 0x7F ∷ []) × (numberBytes 128 ≡ 0x80 ∷ 0x01 ∷ [])
-  pub p2 : readNumber (0x80 ∷ 0x00 ∷ []) 0 ≡ refused malformed
+  pub p2 : readNumber (0x80 ∷ 0x00 ∷ []) 0 ≡ refused malformed 1
   pub p3 : (readNumber (0xFF ∷ 0xFF ∷ 0xFF ∷ 0xFF ∷ 0x0F ∷ []) 0 ≡ accepted 4294967295 5)
-      × (readNumber (0xFF ∷ 0xFF ∷ 0xFF ∷ 0xFF ∷ 0x10 ∷ []) 0 ≡ refused malformed)
+      × (readNumber (0xFF ∷ 0xFF ∷ 0xFF ∷ 0xFF ∷ 0x10 ∷ []) 0 ≡ refused malformed 4)
   pub p4 : (startCell 1 1 .counter ≡ 65535) × ((n : ℕ) → due 1 1 (suc n) ≡ true)
   pub p5 : (startCell 4 3 .counter ≡ 0)
       × (map (due 4 3) (1 ∷ 2 ∷ 3 ∷ 4 ∷ 5 ∷ 6 ∷ 7 ∷ 8 ∷ []) ≡ false ∷ false ∷ true ∷ false ∷ false ∷ false ∷ true ∷ false ∷ [])
   pub p6 : startCell 4 65535 .counter ≡ 4
-  pub p7 : (largestOffset listing 0 ≡ 2)
-      × (rows listing (Start 0 65534 ∷ Start 0 0 ∷ Start 0 65533 ∷ []) ≡ row 8 0 2 0 ∷ row 8 0 2 0 ∷ row 0 0 2 0 ∷ [])
+  pub p7 : (smallestOffset latestStart 0 ≡ 2)
+      × (rows latestStart (Start 0 65534 ∷ Start 0 0 ∷ Start 0 65533 ∷ []) ≡ row 8 0 1 0 ∷ row 8 0 1 0 ∷ row 0 0 1 0 ∷ [])
   pub p8 : rows listing (Start 0 1 ∷ Get 0 ∷ Tick ∷ []) ≡ row 0 0 2 0 ∷ row 0 0 5 0 ∷ row 0 0 5 0 ∷ []
   pub p9 : rows oneTask (Chain 0 ∷ []) ≡ row 0 0 1 1 ∷ []
   pub p10 : (rows twoTables (Start 0 1 ∷ Start 1 1 ∷ Tick ∷ []) ≡ row 0 0 1 0 ∷ row 0 0 1 0 ∷ row 0 1 2 1 ∷ [])
@@ -76,7 +80,7 @@ unfolding due
 each-tick n = simp (leb·suc-suc 0 n, leb·zero n, mod-one (suc n - 1))
 
 pub edges : Edges
-unfolding listing numberBytes groupBytes readNumber groups continued fifthGroup readConfig readFrom faultAt putAt ended occurs greatestIn entriesBefore due firstOf candidate chosenFrom among heldIn counting entryDue duesFrom activatingDue step seen
+unfolding listing numberBytes groupBytes readNumber groups continued fifthGroup readConfig readFrom faultAt putAt ended occurs greatestIn entriesBefore due firstGiven candidate chosenFrom among heldIn counting entryDue duesFrom activatingDue step seen
 edges =
     record {
       p1 = (refl, refl);

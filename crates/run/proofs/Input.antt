@@ -12,14 +12,15 @@ use native.Mathlib.Omega.{arith}
 use borrow.Author.Tests.{le-leb, lt-leb, eq-eqb, ne-eqb}
 use lib.ListN.{length}
 use Rattle.number.specs.Refusal.{none, noRoom}
-use Rattle.number.specs.Output.{written}
+use Rattle.number.specs.Output.{written, packed}
 use Rattle.config.specs.declared.Config.{Config}
 use Rattle.config.specs.Accepted.{Accepted, Shaped}
 use Rattle.config.specs.Reader.{readConfig}
-use Rattle.event.specs.Trace.{readTrace}
+use Rattle.event.specs.Refusal.{traceTooLong}
+use Rattle.event.specs.Trace.{maxTrace, readTrace}
 use Rattle.plan.specs.Plan.{planOf}
 use Rattle.scheduler.specs.Scheduler.{Event}
-use Rattle.run.specs.Run.{callsOf, maxTrace, traceTooLong, refused, played, readRun, answers, packed, resultOf, outputOf, runResult, runOutput}
+use Rattle.run.specs.Run.{callsOf, refused, played, readRun, answers, resultOf, outputOf, runResult, runOutput}
 use Rattle.run.specs.Steps.{machineAnswers, machineOutputOf, machineOutput}
 use Rattle.run.proofs.Answers.{answers-same, length-answers}
 

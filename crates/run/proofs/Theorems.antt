@@ -9,14 +9,15 @@ use native.Mathlib.Omega.{arith}
 use borrow.Author.Tests.{le-leb, lt-leb}
 use lib.ListN.{length, length-map}
 use Rattle.number.specs.Refusal.{none, noRoom}
+use Rattle.number.specs.Output.{packed}
 use Rattle.number.proofs.Cases.{by-lt, by-eq}
 use Rattle.config.specs.declared.Config.{Config}
 use Rattle.config.specs.Reader.{readConfig, maxLength}
 use Rattle.config.proofs.Theorems.{reading, accepted-ranges}
-use Rattle.event.specs.Trace.{readTrace}
+use Rattle.event.specs.Trace.{maxTrace, readTrace}
 use Rattle.event.proofs.Theorems.{trace-reading}
 use Rattle.scheduler.specs.Scheduler.{Event}
-use Rattle.run.specs.Run.{callOf, callsOf, maxTrace, Input, refused, played, readRun, answers, packed, resultOf, runResult}
+use Rattle.run.specs.Run.{callOf, callsOf, Input, refused, played, readRun, answers, resultOf, runResult}
 use Rattle.run.proofs.Answers.{length-answers}
 use Rattle.run.proofs.Input.{config-refused, trace-too-long, trace-refused, all-readable}
 

@@ -12,7 +12,7 @@ use Rattle.config.specs.Meaning.{greatestIn, entriesBefore}
 use Rattle.event.specs.Event.{known, arguments, afterNumber, readArguments, readEvent}
 use Rattle.event.specs.Trace.{readFrom as eventsFrom, readRest}
 use Rattle.cell.specs.Due.{due}
-use Rattle.scheduler.specs.Status.{firstOf}
+use Rattle.scheduler.specs.Status.{firstGiven}
 use Rattle.scheduler.specs.Choice.{candidate, chosenFrom}
 use Rattle.scheduler.specs.State.{among, heldIn}
 use Rattle.scheduler.specs.Tick.{counting, entryDue, duesFrom, activatingDue}
@@ -73,7 +73,7 @@ pub record Worked : Type 0 where
   pub low-first : lossBytes (258 ∷ 65535 ∷ []) ≡ 2 ∷ 1 ∷ 255 ∷ 255 ∷ []
 
 pub worked : Worked
-unfolding written readNumber groups continued fifthGroup faultAt putAt ended occurs readFrom readConfig greatestIn entriesBefore known arguments afterNumber readArguments readEvent eventsFrom readRest due firstOf candidate chosenFrom among heldIn counting entryDue duesFrom activatingDue step seen after callOf readRun answerBytes lossBytes answers resultOf outputOf
+unfolding written readNumber groups continued fifthGroup faultAt putAt ended occurs readFrom readConfig greatestIn entriesBefore known arguments afterNumber readArguments readEvent eventsFrom readRest due firstGiven candidate chosenFrom among heldIn counting entryDue duesFrom activatingDue step seen after callOf readRun answerBytes lossBytes answers resultOf outputOf
 worked =
     record {
       listing = (refl, refl);

@@ -5,22 +5,23 @@
 --   runResult, runOutput   what the run returns, and what it leaves in the slice that it is lent
 --
 -- Assumes nothing.
-use Prim.Native.Nat.{ℕ, _+_, _*_, _/_, _%_}
+use Prim.Native.Nat.{ℕ, _/_, _%_}
 use mathlib.Core.Bool.{cond}
 use mathlib.Core.List.{List, [], _∷_, _++_, map}
 use lib.Dec.{leb, eqb}
 use lib.ListN.{length}
 use Rattle.number.specs.Refusal.{none, noRoom}
-use Rattle.number.specs.Output.{written}
+use Rattle.number.specs.Output.{written, packed}
 use Rattle.config.specs.declared.Config.{Config}
 use Rattle.config.specs.Reader.{readConfig}
 use Rattle.event.specs.declared.Event.{Event}
-use Rattle.event.specs.Event.{activate, finish, chain, get, release, tick, line, start, stop}
-use Rattle.event.specs.Trace.{readTrace}
+use Rattle.event.specs.Event.{activate, finish, chain, get, release, tick, line, start}
+use Rattle.event.specs.Refusal.{traceTooLong}
+use Rattle.event.specs.Trace.{maxTrace, readTrace}
 use Rattle.scheduler.specs.Scheduler as Plain
-use Rattle.scheduler.specs.Scheduler.{Activate, Finish, Chain, Get, Release, Tick, Line, Start, Stop, Nothing, Seen, fresh, seen, after, lossesOf}
+use Rattle.scheduler.specs.Scheduler.{Activate, Finish, Chain, Get, Release, Tick, Line, Start, Stop, Seen, fresh, seen, after, lossesOf}
 
--- the event that a code with two arguments stands for
+-- the event that a code with two arguments stands for; of the nine codes that a readable event has, the last needs no test
 unfoldable pub callOf : Event → Plain.Event
 callOf e =
     cond (eqb (e .code) activate) (Activate (e .first))
@@ -31,19 +32,11 @@ callOf e =
     (cond (eqb (e .code) tick) Tick
     (cond (eqb (e .code) line) (Line (e .first))
     (cond (eqb (e .code) start) (Start (e .first) (e .second))
-    (cond (eqb (e .code) stop) (Stop (e .first))
-    Nothing))))))))
+    (Stop (e .first)))))))))
 
 -- the events of a trace
 abbrev pub callsOf : List ℕ → List Plain.Event
 callsOf ts = map callOf (readTrace ts .events)
-
--- "trace longer than 8,192 bytes"
-abbrev pub maxTrace : ℕ
-maxTrace = 8192
-
-abbrev pub traceTooLong : ℕ
-traceTooLong = 20
 
 -- what the run's input is
 pub data Input : Type 0 where
@@ -72,11 +65,7 @@ lossBytes (n ∷ ns) = n % 256 ∷ n / 256 ∷ lossBytes ns
 unfoldable pub answers : Config → List Plain.Event → List ℕ
 answers c es = answerBytes (seen c (fresh c) es) ++ lossBytes (lossesOf (after c (fresh c) es))
 
--- "refusal × 4,294,967,296 + place"
-abbrev pub packed : ℕ → ℕ → ℕ
-packed refusal place = refusal * 4294967296 + place
-
--- "then 30", or "the event count"; n: how many bytes are lent
+-- "refusal × 4,294,967,296 + place"; "then 30", or "the event count"; n: how many bytes are lent
 unfoldable pub resultOf : ℕ → Input → ℕ
 resultOf n (refused r p) = packed r p
 resultOf n (played c es) = cond (leb (length (answers c es)) n) (length es) (packed noRoom (length (answers c es)))

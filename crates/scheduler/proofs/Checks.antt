@@ -1,19 +1,24 @@
--- A call that is accepted has passed each of its checks, "in order": what each accepted call tells of the state that it meets.
--- Assumes nothing.
+-- An event is accepted exactly if none of its checks fails, and what each accepted call tells of the state that it meets.
+--
+-- In order: a list of checks; that each event's checks give statuses other than 0; the accepted calls one by one. Assumes nothing.
 use Prim.Native.Nat.{ℕ, _+_, _≤_, _<_}
-use mathlib.Core.Path.{_≡_, refl}
+use mathlib.Core.Path.{_≡_, refl, ap, _∙_}
 use mathlib.Core.Bool.{Bool, true, false, true≢false, not, _&&_, _||_, and-true}
-use mathlib.Core.List.{List, [], _∷_}
-use mathlib.Core.Logic.{_≢_}
+use mathlib.Core.List.{List, [], _∷_, _++_}
+use mathlib.Core.Logic.{_≢_, _↔_}
 use native.Mathlib.Omega.{arith}
 use borrow.Author.Tests.{leb-false, ltb-false, eqb-false, ne-eqb, not-false}
 use lib.Dec.{ltb, eqb}
 use Rattle.config.specs.declared.Config.{Config}
-use Rattle.config.specs.Meaning.{isTask, isIsr, priorityOf, ceiling, largestOffset}
-use Rattle.scheduler.specs.Status.{Check, done, firstOf}
+use Rattle.config.specs.Meaning.{isTask, isIsr, priorityOf, ceiling, smallestOffset}
+use Rattle.scheduler.specs.Status.{Check, done, firstGiven, NoneFails}
 use Rattle.scheduler.specs.Body.{Phase, suspended, ready, started, isSuspended}
 use Rattle.scheduler.specs.State.{State, isRunning, bodyOf, tableOf, heldIn}
-use Rattle.scheduler.specs.Call.{nobodyRuns, caller, calling, holds, active, latestIs, requestWaits, activateStatus, finishStatus, chainStatus, getStatus, releaseStatus, lineStatus, longestDelay, startStatus, stopStatus}
+use Rattle.scheduler.specs.Event.{Event, Activate, Finish, Chain, Get, Release, Tick, Line, Start, Stop}
+use Rattle.scheduler.specs.Call.{nobodyRuns, caller, calling, holds, active, latestIs, requestWaits, checksOf, activateStatus, finishStatus, chainStatus, getStatus, releaseStatus, lineStatus, longestDelay, startStatus, stopStatus}
+use Rattle.scheduler.specs.Scheduler.{step}
+use Rattle.scheduler.specs.History.{AcceptedIn}
+use Rattle.scheduler.proofs.Effects.{clash}
 
 -- none of the checks gives status 0; none of them fails
 abbrev Refusing : List Check → Type 0
@@ -24,14 +29,58 @@ abbrev Passed : List Check → Type 0
 Passed [] = Unit {0}
 Passed (k ∷ ks) = (k .fails ≡ false) × Passed ks
 
-all-passed : (ks : List Check) → Refusing ks → firstOf ks ≡ done → Passed ks
-unfolding firstOf
+all-passed : (ks : List Check) → Refusing ks → firstGiven ks ≡ done → Passed ks
+unfolding firstGiven
 all-passed [] r e = tt
 all-passed (k ∷ ks) r e = go (k .fails) refl (all-passed ks (r .1))
   where
-    go : (b : Bool) → k .fails ≡ b → (firstOf ks ≡ done → Passed ks) → Passed (k ∷ ks)
+    go : (b : Bool) → k .fails ≡ b → (firstGiven ks ≡ done → Passed ks) → Passed (k ∷ ks)
     go true q rest = absurd (r .0 (rw q at e))
     go false q rest = (q, rest (rw q at e))
+
+passed-done : (ks : List Check) → Passed ks → firstGiven ks ≡ done
+unfolding firstGiven
+passed-done [] p = refl
+passed-done (k ∷ ks) p = rw (p .0) (passed-done ks (p .1))
+
+none-fails : (ks : List Check) → Passed ks → NoneFails ks
+none-fails [] p k [] rest q = absurd (clash (cc))
+none-fails [] p k (x ∷ before) rest q = absurd (clash (cc))
+none-fails (x ∷ ks) p k [] rest q = let h : k ≡ x = cc in rw h (p .0)
+none-fails (x ∷ ks) p k (y ∷ before) rest q = none-fails ks (p .1) k before rest (cc)
+
+none-passed : (ks : List Check) → NoneFails ks → Passed ks
+none-passed [] none = tt
+none-passed (k ∷ ks) none = (none k [] ks refl, none-passed ks (λ x before rest q. none x (k ∷ before) rest (ap (λ l. k ∷ l) q)))
+
+first-fails : (before : List Check) (k : Check) (rest : List Check) → Passed before → k .fails ≡ true → firstGiven (before ++ k ∷ rest) ≡ k .status
+unfolding firstGiven
+first-fails [] k rest p q = rw q
+first-fails (x ∷ before) k rest p q = rw (p .0) (first-fails before k rest (p .1) q)
+
+-- every check of the table gives a status other than 0
+refusing : (c : Config) (s : State) (e : Event) → Refusing (checksOf c s e)
+refusing c s (Activate t) = omega arith
+refusing c s Finish = omega arith
+refusing c s (Chain t) = omega arith
+refusing c s (Get r) = omega arith
+refusing c s (Release r) = omega arith
+refusing c s Tick = tt
+refusing c s (Line i) = omega arith
+refusing c s (Start t d) = omega arith
+refusing c s (Stop t) = omega arith
+
+pub accepted-none-fails : (c : Config) (s : State) (e : Event) → AcceptedIn c s e ↔ NoneFails (checksOf c s e)
+unfolding step
+accepted-none-fails c s e =
+    (λ a. none-fails (checksOf c s e) (all-passed (checksOf c s e) (refusing c s e) a), λ none. passed-done (checksOf c s e) (none-passed (checksOf c s e) none))
+
+pub first-given : (c : Config) (s : State) (e : Event) (before : List Check) (k : Check) (rest : List Check) → checksOf c s e ≡ before ++ k ∷ rest
+    → NoneFails before
+    → k .fails ≡ true
+    → step c s e .seen .status ≡ k .status
+unfolding step
+first-given c s e before k rest q none f = ap firstGiven q ∙ first-fails before k rest (none-passed before none) f
 
 neither : (a b : Bool) → (a || b) ≡ false → (a ≡ false) × (b ≡ false)
 neither true b e = absurd (true≢false e)
@@ -93,11 +142,11 @@ module _ (c : Config) (s : State) where
 
   -- t is a table that doesn't run, and the delays fit
   pub start-passed : (t d : ℕ) → startStatus c s t d ≡ done
-      → (nobodyRuns c s ≡ false) × (t < c .tables) × (d ≢ 0) × (d + largestOffset c t ≤ longestDelay) × (isRunning (tableOf s t) ≡ false)
+      → (nobodyRuns c s ≡ false) × (t < c .tables) × (d ≢ 0) × (d + smallestOffset c t ≤ longestDelay) × (isRunning (tableOf s t) ≡ false)
   start-passed t d e =
       let p = all-passed _ (omega arith) e in
-      let q = neither (eqb d 0) (ltb longestDelay (d + largestOffset c t)) (p .1 .1 .0) in
-      (p .0, leb-false (c .tables) t (p .1 .0), eqb-false d 0 (q .0), ltb-false longestDelay (d + largestOffset c t) (q .1), p .1 .1 .1 .0)
+      let q = neither (eqb d 0) (ltb longestDelay (d + smallestOffset c t)) (p .1 .1 .0) in
+      (p .0, leb-false (c .tables) t (p .1 .0), eqb-false d 0 (q .0), ltb-false longestDelay (d + smallestOffset c t) (q .1), p .1 .1 .1 .0)
 
   -- t is a table that runs
   pub stop-passed : (t : ℕ) → stopStatus c s t ≡ done → (nobodyRuns c s ≡ false) × (t < c .tables) × (isRunning (tableOf s t) ≡ true)

@@ -1,9 +1,14 @@
 -- The laws of the plain scheduler. `Theorems` is the file to read; the agreement of machine and scheduler also cites the modules below it.
--- `Listing` is document 01's listing.
+-- `Listing` is document 01's listing, `Examples` are worked lists of events.
 pub mod Theorems
 pub mod Listing
-pub mod Choosing
+pub mod Examples
+pub mod Choice
 pub mod Checks
-pub mod Changing
+pub mod Effects
 pub mod Refusals
 pub mod Tables
+pub mod Requests
+pub mod Losses
+pub mod Dues
+pub mod Entries

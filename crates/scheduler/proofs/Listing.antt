@@ -9,8 +9,8 @@ use Rattle.config.specs.Draft.{faultAt, putAt, ended, occurs}
 use Rattle.config.specs.Reader.{readConfig, readFrom}
 use Rattle.config.specs.Meaning.{greatestIn, entriesBefore}
 use Rattle.cell.specs.Due.{due}
-use Rattle.scheduler.specs.Status.{firstOf}
-use Rattle.scheduler.specs.Choice.{candidate, chosenFrom, idle}
+use Rattle.scheduler.specs.Status.{firstGiven}
+use Rattle.scheduler.specs.Choice.{candidate, chosenFrom}
 use Rattle.scheduler.specs.State.{among, heldIn}
 use Rattle.scheduler.specs.Tick.{counting, entryDue, duesFrom, activatingDue}
 use Rattle.scheduler.specs.Scheduler.{Event, Finish, Chain, Get, Release, Tick, Line, Start, Stop, Seen, step, fresh, seen, after, lossesOf}
@@ -41,10 +41,10 @@ rowOf x = row (x .status) (x .runner) (x .level) (x .begun)
 
 rows : map rowOf (seen listing (fresh listing) events)
     ≡ row 0 0 2 0 ∷ row 0 0 5 0 ∷ row 0 0 5 0 ∷ row 0 2 9 1 ∷ row 2 2 9 0 ∷ row 0 0 5 0 ∷ row 6 0 5 0 ∷ row 0 1 5 1 ∷ row 0 1 5 0 ∷ row 0 1 5 0
-    ∷ row 0 0 2 0 ∷ row 0 idle 0 0 ∷ row 0 idle 0 0 ∷ row 0 1 5 1 ∷ row 0 1 5 0 ∷ row 0 idle 0 0 ∷ row 2 idle 0 0 ∷ []
-unfolding listing events readConfig readFrom readNumber groups continued fifthGroup faultAt putAt ended occurs greatestIn entriesBefore due firstOf candidate chosenFrom among heldIn counting entryDue duesFrom activatingDue step seen
+    ∷ row 0 0 2 0 ∷ row 0 255 0 0 ∷ row 0 255 0 0 ∷ row 0 1 5 1 ∷ row 0 1 5 0 ∷ row 0 255 0 0 ∷ row 2 255 0 0 ∷ []
+unfolding listing events readConfig readFrom readNumber groups continued fifthGroup faultAt putAt ended occurs greatestIn entriesBefore due firstGiven candidate chosenFrom among heldIn counting entryDue duesFrom activatingDue step seen
 rows = refl
 
 losses : lossesOf (after listing (fresh listing) events) ≡ 1 ∷ 0 ∷ 0 ∷ []
-unfolding listing events readConfig readFrom readNumber groups continued fifthGroup faultAt putAt ended occurs greatestIn entriesBefore due firstOf candidate chosenFrom among heldIn counting entryDue duesFrom activatingDue step after
+unfolding listing events readConfig readFrom readNumber groups continued fifthGroup faultAt putAt ended occurs greatestIn entriesBefore due firstGiven candidate chosenFrom among heldIn counting entryDue duesFrom activatingDue step after
 losses = refl

@@ -16,17 +16,15 @@ use Rattle.scheduler.specs.Status.{done}
 use Rattle.scheduler.specs.Body.{started, isSuspended, isStarted, current, become}
 use Rattle.scheduler.specs.Choice.{Candidate, isNobody, candidate}
 use Rattle.scheduler.specs.State.{State, stopped, bodyOf, changing, runner}
-use Rattle.scheduler.specs.Tick.{ticked}
-use Rattle.scheduler.specs.Scheduler.{Event, begins, dispatched, markOf, newBody, step, fresh, after}
-use Rattle.scheduler.proofs.Choosing.{contender, weight, weight-before, chosen-weight, candidate-active, chosen-best, Taken, no-one, body, chosen-from}
-use Rattle.scheduler.proofs.Changing.{step-elim, bodyOf-changing-same, bodyOf-changing-other}
+use Rattle.scheduler.specs.Event.{Event}
+use Rattle.scheduler.specs.Call.{statusOf, effectOf}
+use Rattle.scheduler.specs.Scheduler.{begins, dispatched, markOf, newBody, step, fresh, after}
+use Rattle.scheduler.proofs.Choice.{contender, weight, weight-before, chosen-weight, candidate-active, chosen-best, Taken, no-one, body, chosen-from}
+use Rattle.scheduler.proofs.Effects.{bodyOf-changing-same, bodyOf-changing-other}
 
 pub refused-dispatched : (c : Config) (s : State) (e : Event) → step c s e .seen .status ≢ done → step c s e .state ≡ dispatched c s
 unfolding step
-refused-dispatched c s =
-    step-elim c s (λ e x. x .seen .status ≢ done → x .state ≡ dispatched c s)
-    (λ e st s′ f h. rw (ne-eqb st done h))
-    (λ h. absurd (h refl))
+refused-dispatched c s e refused = rw (ne-eqb (statusOf c s e) done refused)
 
 pub dispatched-same : (c : Config) (s : State) → begins (runner c s) ≡ false → dispatched c s ≡ s
 dispatched-same c s h = rw h
@@ -35,7 +33,7 @@ dispatched-same c s h = rw h
 abbrev pub onceBegun : Candidate → Candidate
 onceBegun x = record { number = x .number; level = x .level; began = x .began || begins x }
 
-begins-some : (x : Candidate) → begins x ≡ true → (isNobody x ≡ false) × (x .began ≡ false)
+pub begins-some : (x : Candidate) → begins x ≡ true → (isNobody x ≡ false) × (x .began ≡ false)
 begins-some x h = both (isNobody x) (x .began) h
   where
     both : (a b : Bool) → (not a && not b) ≡ true → (a ≡ false) × (b ≡ false)
@@ -123,10 +121,7 @@ module _ (c : Config) where
 
   pub settled-step : (s : State) (e : Event) → begins (runner c (step c s e .state)) ≡ false
   unfolding step
-  settled-step s =
-      step-elim c s (λ e x. begins (runner c (x .state)) ≡ false)
-      (λ e st s′ f. dispatched-settled c (cond (eqb st done) s′ s))
-      (dispatched-settled c (ticked c s))
+  settled-step s e = dispatched-settled c (cond (eqb (statusOf c s e) done) (effectOf c s e) s)
 
   pub settled-after : (es : List Event) (s : State) → begins (runner c s) ≡ false → begins (runner c (after c s es)) ≡ false
   unfolding after

@@ -6,7 +6,6 @@ use Prim.Native.Nat.{ℕ, zero, suc, _+_}
 use mathlib.Core.Path.{_≡_, refl, sym, ap, _∙_}
 use mathlib.Core.Bool.{Bool, true, false, true≢false, cond}
 use mathlib.Core.List.{List, [], _∷_, _++_, append-assoc}
-use mathlib.Core.Logic.{_≢_}
 use native.Mathlib.Nat.{add-zero, zero-add}
 use native.Mathlib.Omega.{arith}
 use borrow.Author.Tests.{eq-eqb, ne-eqb}
@@ -15,94 +14,92 @@ use lib.ListN.{length, getD, List·getD-map, replicate}
 use lib.Seq.{getD-set-same, getD-set-other}
 use Rattle.number.proofs.Cases.{by-eq}
 use Rattle.config.specs.declared.Config.{Config}
-use Rattle.scheduler.specs.Status.{done}
+use Rattle.scheduler.specs.Status.{done, firstGiven}
 use Rattle.scheduler.specs.State.{State, Table, stopped, running, tableOf, withTable}
-use Rattle.scheduler.specs.Call.{activateStatus, activate, finishStatus, finish, chainStatus, chain, getStatus, get, releaseStatus, release, lineStatus, line, startStatus, start, stopStatus, stop}
-use Rattle.scheduler.specs.Tick.{counting, ticked}
-use Rattle.scheduler.specs.Scheduler.{Event, Activate, Finish, Chain, Get, Release, Tick, Line, Start, Stop, Nothing, attempt, step, fresh, after}
-use Rattle.scheduler.specs.History.{Accepted, next, NoneAccepted, StartOf, StopOf, NoStart, NoStop, isTick, ticksIn, History, never-started, since-start, since-stop}
+use Rattle.scheduler.specs.Event.{Event, Activate, Finish, Chain, Get, Release, Tick, Line, Start, Stop, isTick}
+use Rattle.scheduler.specs.Tick.{counting}
+use Rattle.scheduler.specs.Call.{statusOf, effectOf}
+use Rattle.scheduler.specs.Scheduler.{step, fresh, after}
+use Rattle.scheduler.specs.History.{AcceptedIn, next, NoneAccepted, StartOf, StopOf, NoStart, NoStop, tickCount, History, never-started, since-start, since-stop}
 use Rattle.scheduler.proofs.Checks.{start-passed, stop-passed}
-use Rattle.scheduler.proofs.Changing.{after-append, cond-either, tables-dispatched, tables-ticked, tables-fresh, length-tables-step, length-tables-fresh}
+use Rattle.scheduler.proofs.Effects.{clash, after-append, cond-either, tables-dispatched, tables-ticked, tables-fresh, length-tables-step, length-tables-fresh}
 
 -- what the event e, met in the state s, does to the table t
 data Turn (c : Config) (t : ℕ) (s : State) (e : Event) : Type 0 where
-  starts : (d : ℕ) → e ≡ Start t d → Accepted c s e → tableOf (next c s e) t ≡ running d 0 → Turn c t s e
-  stops : e ≡ Stop t → Accepted c s e → tableOf (next c s e) t ≡ stopped → Turn c t s e
-  passes : (StartOf t e → Accepted c s e → ⊥) → (StopOf t e → Accepted c s e → ⊥)
+  starts : (d : ℕ) → e ≡ Start t d → AcceptedIn c s e → tableOf (next c s e) t ≡ running d 0 → Turn c t s e
+  stops : e ≡ Stop t → AcceptedIn c s e → tableOf (next c s e) t ≡ stopped → Turn c t s e
+  passes : (StartOf t e → AcceptedIn c s e → ⊥) → (StopOf t e → AcceptedIn c s e → ⊥)
       → tableOf (next c s e) t ≡ cond (isTick e) (counting (tableOf s t)) (tableOf s t)
       → Turn c t s e
 
-clash : _≡_ {A = ℕ} 0 1 → ⊥
-clash e = omega arith
-
 module _ (c : Config) (t : ℕ) (s : State) where
-  -- a call's own change of the table, or none
-  attempt-table : (st : ℕ) (s′ : State) → tableOf s′ t ≡ tableOf s t → tableOf (attempt c s st s′ .state) t ≡ tableOf s t
-  attempt-table st s′ e =
-      ap (λ l. getD l t stopped) (tables-dispatched c (cond (eqb st done) s′ s))
-      ∙ cond-either (λ x. tableOf x t ≡ tableOf s t) (eqb st done) s′ s e refl
+  -- the table after the event e: its effect's where the status is 0
+  table-next : (e : Event) → tableOf (next c s e) t ≡ tableOf (cond (eqb (statusOf c s e) done) (effectOf c s e) s) t
+  unfolding step
+  table-next e = ap (λ l. getD l t stopped) (tables-dispatched c (cond (eqb (statusOf c s e) done) (effectOf c s e) s))
 
-  attempt-done : (st : ℕ) (s′ : State) → st ≡ done → tableOf (attempt c s st s′ .state) t ≡ tableOf s′ t
-  attempt-done st s′ e = ap (λ l. getD l t stopped) (tables-dispatched c (cond (eqb st done) s′ s)) ∙ rw (eq-eqb st done e)
+  table-done : (e : Event) → AcceptedIn c s e → tableOf (next c s e) t ≡ tableOf (effectOf c s e) t
+  unfolding step
+  table-done e a = table-next e ∙ rw (eq-eqb (statusOf c s e) done a)
 
-  attempt-refused : (st : ℕ) (s′ : State) → st ≢ done → tableOf (attempt c s st s′ .state) t ≡ tableOf s t
-  attempt-refused st s′ e = ap (λ l. getD l t stopped) (tables-dispatched c (cond (eqb st done) s′ s)) ∙ rw (ne-eqb st done e)
+  table-refused : (e : Event) → (AcceptedIn c s e → ⊥) → tableOf (next c s e) t ≡ tableOf s t
+  unfolding step
+  table-refused e r = table-next e ∙ rw (ne-eqb (statusOf c s e) done r)
+
+  table-kept : (e : Event) → tableOf (effectOf c s e) t ≡ tableOf s t → tableOf (next c s e) t ≡ tableOf s t
+  table-kept e k = table-next e ∙ cond-either (λ x. tableOf x t ≡ tableOf s t) (eqb (statusOf c s e) done) (effectOf c s e) s k refl
 
   withTable-other : (u : ℕ) (x : Table) → (u ≡ t → ⊥) → tableOf (withTable u x s) t ≡ tableOf s t
   withTable-other u x d = getD-set-other (s .tables) u t x stopped (λ e. d (sym e))
 
-  table-started : (d : ℕ) → length (s .tables) ≡ c .tables → Accepted c s (Start t d) → tableOf (next c s (Start t d)) t ≡ running d 0
+  table-started : (d : ℕ) → length (s .tables) ≡ c .tables → AcceptedIn c s (Start t d) → tableOf (next c s (Start t d)) t ≡ running d 0
   unfolding step
   table-started d n a =
-      attempt-done (startStatus c s t d) (start t d s) a
+      table-done (Start t d) a
       ∙ getD-set-same (s .tables) t (running d 0) stopped (omega (arith, start-passed c s t d a .1))
 
-  table-stopped : length (s .tables) ≡ c .tables → Accepted c s (Stop t) → tableOf (next c s (Stop t)) t ≡ stopped
+  table-stopped : length (s .tables) ≡ c .tables → AcceptedIn c s (Stop t) → tableOf (next c s (Stop t)) t ≡ stopped
   unfolding step
   table-stopped n a =
-      attempt-done (stopStatus c s t) (stop t s) a
+      table-done (Stop t) a
       ∙ getD-set-same (s .tables) t stopped stopped (omega (arith, stop-passed c s t a .1))
 
   table-ticked : tableOf (next c s Tick) t ≡ counting (tableOf s t)
-  unfolding step counting
-  table-ticked =
-      ap (λ l. getD l t stopped) (tables-dispatched c (ticked c s) ∙ tables-ticked c s)
-      ∙ List·getD-map counting (s .tables) t stopped
+  unfolding step firstGiven counting
+  table-ticked = table-done Tick refl ∙ ap (λ l. getD l t stopped) (tables-ticked c s) ∙ List·getD-map counting (s .tables) t stopped
 
   turn-start : (u d : ℕ) → length (s .tables) ≡ c .tables → Turn c t s (Start u d)
   unfolding step
   turn-start u d n =
-      by-eq (startStatus c s u d) done
+      by-eq (statusOf c s (Start u d)) done
       (λ ok. by-eq u t
       (λ same. rw same (starts d refl (rw same at ok) (table-started d n (rw same at ok))))
-      (λ other. passes (λ p a. other (cc)) (λ q a. clash (cc)) (attempt-table (startStatus c s u d) (start u d s) (withTable-other u (running d 0) other))))
-      (λ bad. passes (λ p a. bad a) (λ q a. clash (cc)) (attempt-refused (startStatus c s u d) (start u d s) bad))
+      (λ other. passes (λ p a. other (cc)) (λ q a. clash (cc)) (table-kept (Start u d) (withTable-other u (running d 0) other))))
+      (λ bad. passes (λ p a. bad a) (λ q a. clash (cc)) (table-refused (Start u d) bad))
 
   turn-stop : (u : ℕ) → length (s .tables) ≡ c .tables → Turn c t s (Stop u)
   unfolding step
   turn-stop u n =
-      by-eq (stopStatus c s u) done
+      by-eq (statusOf c s (Stop u)) done
       (λ ok. by-eq u t
       (λ same. rw same (stops refl (rw same at ok) (table-stopped n (rw same at ok))))
-      (λ other. passes (λ p a. clash (cc)) (λ q a. other (cc)) (attempt-table (stopStatus c s u) (stop u s) (withTable-other u stopped other))))
-      (λ bad. passes (λ p a. clash (cc)) (λ q a. bad a) (attempt-refused (stopStatus c s u) (stop u s) bad))
+      (λ other. passes (λ p a. clash (cc)) (λ q a. other (cc)) (table-kept (Stop u) (withTable-other u stopped other))))
+      (λ bad. passes (λ p a. clash (cc)) (λ q a. bad a) (table-refused (Stop u) bad))
 
   turn : (e : Event) → length (s .tables) ≡ c .tables → Turn c t s e
-  unfolding step
-  turn (Activate u) n = passes (λ p a. clash (cc)) (λ q a. clash (cc)) (attempt-table (activateStatus c s u) (activate u s) refl)
-  turn Finish n = passes (λ p a. clash (cc)) (λ q a. clash (cc)) (attempt-table (finishStatus c s) (finish c s) refl)
-  turn (Chain u) n = passes (λ p a. clash (cc)) (λ q a. clash (cc)) (attempt-table (chainStatus c s u) (chain c u s) refl)
-  turn (Get r) n = passes (λ p a. clash (cc)) (λ q a. clash (cc)) (attempt-table (getStatus c s r) (get c r s) refl)
-  turn (Release r) n = passes (λ p a. clash (cc)) (λ q a. clash (cc)) (attempt-table (releaseStatus c s r) (release c s) refl)
+  turn (Activate u) n = passes (λ p a. clash (cc)) (λ q a. clash (cc)) (table-kept (Activate u) refl)
+  turn Finish n = passes (λ p a. clash (cc)) (λ q a. clash (cc)) (table-kept Finish refl)
+  turn (Chain u) n = passes (λ p a. clash (cc)) (λ q a. clash (cc)) (table-kept (Chain u) refl)
+  turn (Get r) n = passes (λ p a. clash (cc)) (λ q a. clash (cc)) (table-kept (Get r) refl)
+  turn (Release r) n = passes (λ p a. clash (cc)) (λ q a. clash (cc)) (table-kept (Release r) refl)
   turn Tick n = passes (λ p a. clash (cc)) (λ q a. clash (cc)) table-ticked
-  turn (Line i) n = passes (λ p a. clash (cc)) (λ q a. clash (cc)) (attempt-table (lineStatus c s i) (line i s) refl)
+  turn (Line i) n = passes (λ p a. clash (cc)) (λ q a. clash (cc)) (table-kept (Line i) refl)
   turn (Start u d) n = turn-start u d n
   turn (Stop u) n = turn-stop u n
-  turn Nothing n = passes (λ p a. clash (cc)) (λ q a. clash (cc)) (attempt-table done s refl)
 
 -- none of e and es: neither e nor any of es
 module _ (P : Event → Type 0) (c : Config) (s : State) (e : Event) (es : List Event) where
-  none-head : NoneAccepted P c s (e ∷ es) → P e → Accepted c s e → ⊥
+  none-head : NoneAccepted P c s (e ∷ es) → P e → AcceptedIn c s e → ⊥
   unfolding after
   none-head none = none e [] es refl
 
@@ -110,7 +107,7 @@ module _ (P : Event → Type 0) (c : Config) (s : State) (e : Event) (es : List 
   unfolding after
   none-tail none x before rest q = none x (e ∷ before) rest (ap (λ l. e ∷ l) q)
 
-  none-cons : (P e → Accepted c s e → ⊥) → NoneAccepted P c (next c s e) es → NoneAccepted P c s (e ∷ es)
+  none-cons : (P e → AcceptedIn c s e → ⊥) → NoneAccepted P c (next c s e) es → NoneAccepted P c s (e ∷ es)
   unfolding after
   none-cons head tail x [] rest q p a = let h : e ≡ x = cc in head (rw h p) (rw h a)
   none-cons head tail x (y ∷ before) rest q p a = let h : e ≡ y = cc in tail x before rest (cc) p (rw h a)
@@ -125,34 +122,36 @@ none-before : (P : Event → Type 0) (c : Config) (s : State) (e : Event) (befor
 none-before P c s e before rest none x before′ rest′ q =
     none x before′ (rest′ ++ e ∷ rest) (ap (λ l. l ++ e ∷ rest) q ∙ append-assoc before′ (x ∷ rest′) (e ∷ rest))
 
-module _ (c : Config) (t : ℕ) where
+-- there are as many tables as the configuration says
+module _ (c : Config) where
   fits-step : (s : State) (e : Event) → length (s .tables) ≡ c .tables → length (next c s e .tables) ≡ c .tables
   fits-step s e n = length-tables-step c s e ∙ n
 
-  fits-after : (es : List Event) (s : State) → length (s .tables) ≡ c .tables → length (after c s es .tables) ≡ c .tables
+  pub fits-after : (es : List Event) (s : State) → length (s .tables) ≡ c .tables → length (after c s es .tables) ≡ c .tables
   unfolding after
   fits-after [] s n = n
   fits-after (e ∷ es) s n = fits-after es (next c s e) (fits-step s e n)
 
+module _ (c : Config) (t : ℕ) where
   -- a table that runs counts the Ticks until an accepted Stop
   runs-on : (es : List Event) (s : State) (d n : ℕ) → length (s .tables) ≡ c .tables → tableOf s t ≡ running d n → NoStop c t s es
-      → tableOf (after c s es) t ≡ running d (n + ticksIn es)
-  unfolding step after ticksIn counting
+      → tableOf (after c s es) t ≡ running d (n + tickCount es)
+  unfolding step after tickCount counting
   runs-on [] s d n fits r none = r ∙ ap (running d) (sym (add-zero n))
   runs-on (e ∷ es) s d n fits r none =
-      go (turn c t s e fits) (λ m r′. runs-on es (next c s e) d m (fits-step s e fits) r′ (none-tail (StopOf t) c s e es none))
+      go (turn c t s e fits) (λ m r′. runs-on es (next c s e) d m (fits-step c s e fits) r′ (none-tail (StopOf t) c s e es none))
     where
       Later : ℕ → Type 0
-      Later m = tableOf (next c s e) t ≡ running d m → tableOf (after c (next c s e) es) t ≡ running d (m + ticksIn es)
+      Later m = tableOf (next c s e) t ≡ running d m → tableOf (after c (next c s e) es) t ≡ running d (m + tickCount es)
 
       counts : (b : Bool) → tableOf (next c s e) t ≡ cond b (counting (running d n)) (running d n) → ((m : ℕ) → Later m)
-          → tableOf (after c (next c s e) es) t ≡ running d (n + cond b (suc (ticksIn es)) (ticksIn es))
+          → tableOf (after c (next c s e) es) t ≡ running d (n + cond b (suc (tickCount es)) (tickCount es))
       counts true y later =
-          let one-more : suc n + ticksIn es ≡ n + suc (ticksIn es) = omega arith in
+          let one-more : suc n + tickCount es ≡ n + suc (tickCount es) = omega arith in
           later (suc n) y ∙ ap (running d) one-more
       counts false y later = later n y
 
-      go : Turn c t s e → ((m : ℕ) → Later m) → tableOf (after c s (e ∷ es)) t ≡ running d (n + ticksIn (e ∷ es))
+      go : Turn c t s e → ((m : ℕ) → Later m) → tableOf (after c s (e ∷ es)) t ≡ running d (n + tickCount (e ∷ es))
       go (starts d′ q a y) later = absurd (true≢false (rw r at (start-passed c s t d′ (rw q at a) .4)))
       go (stops q a y) later = absurd (none-head (StopOf t) c s e es none q a)
       go (passes p q y) later = counts (isTick e) (y ∙ ap (λ x. cond (isTick e) (counting x) x) r) later
@@ -163,7 +162,7 @@ module _ (c : Config) (t : ℕ) where
   unfolding after counting
   stays-stopped [] s fits r none = r
   stays-stopped (e ∷ es) s fits r none =
-      stays-stopped es (next c s e) (fits-step s e fits) (go (turn c t s e fits)) (none-tail (StartOf t) c s e es none)
+      stays-stopped es (next c s e) (fits-step c s e fits) (go (turn c t s e fits)) (none-tail (StartOf t) c s e es none)
     where
       still : (b : Bool) → cond b (counting stopped) stopped ≡ stopped
       still true = refl
@@ -175,20 +174,20 @@ module _ (c : Config) (t : ℕ) where
       go (passes p q y) = y ∙ rw r (still (isTick e))
 
   -- the same from the fresh start
-  pub counted-from-start : (d : ℕ) (before rest : List Event) → Accepted c (after c (fresh c) before) (Start t d)
+  pub counted-from-start : (d : ℕ) (before rest : List Event) → AcceptedIn c (after c (fresh c) before) (Start t d)
       → NoStop c t (next c (after c (fresh c) before) (Start t d)) rest
-      → tableOf (after c (fresh c) (before ++ Start t d ∷ rest)) t ≡ running d (ticksIn rest)
+      → tableOf (after c (fresh c) (before ++ Start t d ∷ rest)) t ≡ running d (tickCount rest)
   unfolding after
   counted-from-start d before rest a none =
       ap (λ x. tableOf x t) (after-append c before (Start t d ∷ rest) (fresh c))
-      ∙ runs-on rest (next c s (Start t d)) d 0 (fits-step s (Start t d) fits) (table-started c t s d fits a) none
-      ∙ ap (running d) (zero-add (ticksIn rest))
+      ∙ runs-on rest (next c s (Start t d)) d 0 (fits-step c s (Start t d) fits) (table-started c t s d fits a) none
+      ∙ ap (running d) (zero-add (tickCount rest))
     where
       s : State
       s = after c (fresh c) before
 
       fits : length (s .tables) ≡ c .tables
-      fits = fits-after before (fresh c) (length-tables-fresh c)
+      fits = fits-after c before (fresh c) (length-tables-fresh c)
 
   pub stopped-until-start : (es : List Event) → NoStart c t (fresh c) es → tableOf (after c (fresh c) es) t ≡ stopped
   stopped-until-start es none =
@@ -199,52 +198,52 @@ module _ (c : Config) (t : ℕ) where
       all-stopped (suc n) zero = refl
       all-stopped (suc n) (suc i) = all-stopped n i
 
-  pub stopped-since-stop : (before rest : List Event) → Accepted c (after c (fresh c) before) (Stop t)
+  pub stopped-since-stop : (before rest : List Event) → AcceptedIn c (after c (fresh c) before) (Stop t)
       → NoStart c t (next c (after c (fresh c) before) (Stop t)) rest
       → tableOf (after c (fresh c) (before ++ Stop t ∷ rest)) t ≡ stopped
   unfolding after
   stopped-since-stop before rest a none =
       ap (λ x. tableOf x t) (after-append c before (Stop t ∷ rest) (fresh c))
-      ∙ stays-stopped rest (next c s (Stop t)) (fits-step s (Stop t) fits) (table-stopped c t s fits a) none
+      ∙ stays-stopped rest (next c s (Stop t)) (fits-step c s (Stop t) fits) (table-stopped c t s fits a) none
     where
       s : State
       s = after c (fresh c) before
 
       fits : length (s .tables) ≡ c .tables
-      fits = fits-after before (fresh c) (length-tables-fresh c)
+      fits = fits-after c before (fresh c) (length-tables-fresh c)
 
   -- a table that runs can't be started again
-  no-restart : (d : ℕ) (s : State) (rest : List Event) → length (s .tables) ≡ c .tables → Accepted c s (Start t d)
+  no-restart : (d : ℕ) (s : State) (rest : List Event) → length (s .tables) ≡ c .tables → AcceptedIn c s (Start t d)
       → NoStop c t (next c s (Start t d)) rest
       → NoStart c t (next c s (Start t d)) rest
   unfolding step
   no-restart d s rest fits a none e before later q p a′ =
       true≢false
-      (rw (runs-on before (next c s (Start t d)) d 0 (fits-step s (Start t d) fits) (table-started c t s d fits a) fewer)
+      (rw (runs-on before (next c s (Start t d)) d 0 (fits-step c s (Start t d) fits) (table-started c t s d fits a) fewer)
       at (start-passed c (after c (next c s (Start t d)) before) t (p .0) (rw (p .1) at a′) .4))
     where
       fewer : NoStop c t (next c s (Start t d)) before
       fewer = none-before (StopOf t) c (next c s (Start t d)) e before later (rw q at none)
 
-  pub last-start : (d : ℕ) (before rest : List Event) → Accepted c (after c (fresh c) before) (Start t d)
+  pub last-start : (d : ℕ) (before rest : List Event) → AcceptedIn c (after c (fresh c) before) (Start t d)
       → NoStop c t (next c (after c (fresh c) before) (Start t d)) rest
       → NoStart c t (next c (after c (fresh c) before) (Start t d)) rest
-  last-start d before rest = no-restart d (after c (fresh c) before) rest (fits-after before (fresh c) (length-tables-fresh c))
+  last-start d before rest = no-restart d (after c (fresh c) before) rest (fits-after c before (fresh c) (length-tables-fresh c))
 
   -- the last accepted Start or Stop among the events es from the state s on
   data Last (s : State) (es : List Event) : Type 0 where
     neither : NoStart c t s es → NoStop c t s es → Last s es
-    start-last : (d : ℕ) (before rest : List Event) → es ≡ before ++ Start t d ∷ rest → Accepted c (after c s before) (Start t d)
+    start-last : (d : ℕ) (before rest : List Event) → es ≡ before ++ Start t d ∷ rest → AcceptedIn c (after c s before) (Start t d)
         → NoStop c t (next c (after c s before) (Start t d)) rest
         → Last s es
-    stop-last : (before rest : List Event) → es ≡ before ++ Stop t ∷ rest → Accepted c (after c s before) (Stop t)
+    stop-last : (before rest : List Event) → es ≡ before ++ Stop t ∷ rest → AcceptedIn c (after c s before) (Stop t)
         → NoStart c t (next c (after c s before) (Stop t)) rest
         → Last s es
 
   last : (es : List Event) (s : State) → length (s .tables) ≡ c .tables → Last s es
   unfolding after
   last [] s fits = neither (none-nil (StartOf t) c s) (none-nil (StopOf t) c s)
-  last (e ∷ es) s fits = go (turn c t s e fits) (last es (next c s e) (fits-step s e fits))
+  last (e ∷ es) s fits = go (turn c t s e fits) (last es (next c s e) (fits-step c s e fits))
     where
       go : Turn c t s e → Last (next c s e) es → Last s (e ∷ es)
       go τ (start-last d before rest q a none) = start-last d (e ∷ before) rest (ap (λ l. e ∷ l) q) a none

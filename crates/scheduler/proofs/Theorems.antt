@@ -1,27 +1,37 @@
 -- What holds of the plain scheduler. Each law stands here in full, over specs/ alone; the modules it cites prove it.
 --
--- In order: who runs; that a refused call changes nothing; what an accepted Activate finds; where losses come from; that d and n are
--- counted as demand 3 says. `Choosing` and `Checks` have more of who is chosen and of what an accepted call finds.
--- Assumes nothing.
-use Prim.Native.Nat.{ℕ, _≤_, _<_, max}
-use mathlib.Core.Path.{_≡_, ap}
+-- In order: who runs; document 01's table of events; that a refused call changes nothing; what an accepted Activate finds; requests that wait;
+-- where losses come from; that d and n are counted, and entries due, as demand 3 says. `Choice` and `Checks` have more of who is chosen and
+-- of what an accepted call finds; `Examples` are worked lists of events. Assumes nothing.
+use Prim.Native.Nat.{ℕ, suc, _+_, _≤_, _<_, max}
+use mathlib.Core.Path.{_≡_, refl, ap}
 use mathlib.Core.Bool.{true, false}
-use mathlib.Core.List.{List, _∷_, _++_}
+use mathlib.Core.List.{List, [], _∷_, _++_, map}
 use mathlib.Core.Logic.{_≢_, _↔_}
-use lib.ListN.{length}
+use native.Mathlib.Omega.{arith}
+use lib.ListN.{length, getD, take}
 use Rattle.config.specs.declared.Config.{Config}
-use Rattle.config.specs.Meaning.{priorityOf, ceiling}
-use Rattle.scheduler.specs.Status.{done}
-use Rattle.scheduler.specs.Body.{Body, suspended, isSuspended, isStarted, current, takes, gives-back}
+use Rattle.config.specs.Meaning.{isIsr, priorityOf, ceiling, firstOf}
+use Rattle.config.specs.Accepted as Configuration
+use Rattle.scheduler.specs.Status.{Check, done, NoneFails}
+use Rattle.scheduler.specs.Body.{Body, suspended, ready, isSuspended, isStarted, current, become, losing, gets, releases}
 use Rattle.scheduler.specs.Choice.{Candidate, nobody, isNobody, candidate, goesBefore}
 use Rattle.scheduler.specs.State.{State, Table, stopped, running, bodyOf, tableOf, runner}
-use Rattle.scheduler.specs.Scheduler.{Event, Activate, Tick, Start, Stop, begins, dispatched, lossesOf, step, fresh, after}
-use Rattle.scheduler.specs.History.{Accepted, next, NoStart, NoStop, ticksIn, History}
-use Rattle.scheduler.proofs.Choosing as Choosing
+use Rattle.scheduler.specs.Event.{Event, Activate, Finish, Chain, Get, Release, Tick, Line, Start, Stop}
+use Rattle.scheduler.specs.Tick.{ticked, dueFor}
+use Rattle.scheduler.specs.Call.{caller, checksOf}
+use Rattle.scheduler.specs.Scheduler.{begins, dispatched, lossesOf, step, fresh, seen, after}
+use Rattle.scheduler.specs.Entries.{entryOf, entriesOf, entryAt}
+use Rattle.scheduler.specs.History.{AcceptedIn, next, NoStart, NoStop, tickCount, History, dueMark, DueAt}
+use Rattle.scheduler.proofs.Choice as Choice
 use Rattle.scheduler.proofs.Checks as Checks
-use Rattle.scheduler.proofs.Changing as Changing
+use Rattle.scheduler.proofs.Effects as Effects
 use Rattle.scheduler.proofs.Refusals as Refusals
+use Rattle.scheduler.proofs.Requests as Requests
+use Rattle.scheduler.proofs.Losses as Losses
 use Rattle.scheduler.proofs.Tables as Tables
+use Rattle.scheduler.proofs.Dues as Dues
+use Rattle.scheduler.proofs.Entries as Entries
 
 -- what the body k is to the choice
 abbrev pub candidateOf : Config → State → ℕ → Candidate
@@ -29,32 +39,72 @@ candidateOf c s k = candidate c k (bodyOf s k) (bodyOf s k .phase)
 
 -- "the body with the greatest current priority among ready and started ones runs; on equal priorities the one that already began"
 pub runner-greatest : (c : Config) (s : State) (k : ℕ) → isSuspended (bodyOf s k .phase) ≡ false → current c k (bodyOf s k) ≤ runner c s .level
-runner-greatest c s = Choosing.chosen-greatest c (s .bodies)
+runner-greatest c s = Choice.chosen-greatest c (s .bodies)
 
 pub runner-began : (c : Config) (s : State) (k : ℕ) → isSuspended (bodyOf s k .phase) ≡ false → isStarted (bodyOf s k .phase) ≡ true
     → current c k (bodyOf s k) ≡ runner c s .level
     → runner c s .began ≡ true
-runner-began c s = Choosing.chosen-began c (s .bodies)
+runner-began c s = Choice.chosen-began c (s .bodies)
 
 -- so one that goes before every other runs
 pub runner-best : (c : Config) (s : State) (k : ℕ) → isNobody (candidateOf c s k) ≡ false
     → ((i : ℕ) → i < length (s .bodies) → i ≢ k → isSuspended (bodyOf s i .phase) ≡ false → goesBefore (candidateOf c s k) (candidateOf c s i) ≡ true)
     → runner c s ≡ candidateOf c s k
-runner-best c s = Choosing.chosen-best c (s .bodies)
+runner-best c s = Choice.chosen-best c (s .bodies)
 
 -- and nobody runs exactly where every body is suspended
 pub runner-nobody : (c : Config) (s : State) → ((i : ℕ) → i < length (s .bodies) → bodyOf s i .phase ≡ suspended) → runner c s ≡ nobody
-runner-nobody c s = Choosing.chosen-nobody c (s .bodies)
+runner-nobody c s = Choice.chosen-nobody c (s .bodies)
 
 pub runner-someone : (c : Config) (s : State) (k : ℕ) → isSuspended (bodyOf s k .phase) ≡ false → 1 ≤ priorityOf c k → isNobody (runner c s) ≡ false
-runner-someone c s = Choosing.chosen-someone c (s .bodies)
+runner-someone c s = Choice.chosen-someone c (s .bodies)
 
 -- a Get raises the current priority to the ceiling, and the Release of the same resource undoes it
-pub current-takes : (c : Config) (i r : ℕ) (b : Body) → current c i (takes r b) ≡ max (ceiling c r) (current c i b)
-current-takes = Choosing.current-takes
+pub current-gets : (c : Config) (i r : ℕ) (b : Body) → current c i (gets r b) ≡ max (ceiling c r) (current c i b)
+current-gets = Choice.current-gets
 
-pub gives-back-takes : (r : ℕ) (b : Body) → gives-back (takes r b) ≡ b
-gives-back-takes = Choosing.gives-back-takes
+pub releases-gets : (r : ℕ) (b : Body) → releases (gets r b) ≡ b
+releases-gets = Choice.releases-gets
+
+-- "statuses in order": the numbers that the event's checks give
+abbrev pub statuses : Config → State → Event → List ℕ
+statuses c s e = map (λ k. k .status) (checksOf c s e)
+
+-- document 01's table of events, whole
+pub record EventTable (c : Config) (s : State) : Type 0 where
+  pub one-activate : (t : ℕ) → statuses c s (Activate t) ≡ 2 ∷ 3 ∷ 4 ∷ []
+  pub two-finish : statuses c s Finish ≡ 2 ∷ 6 ∷ []
+  pub three-chain : (t : ℕ) → statuses c s (Chain t) ≡ 2 ∷ 3 ∷ 6 ∷ 4 ∷ []
+  pub four-get : (r : ℕ) → statuses c s (Get r) ≡ 2 ∷ 3 ∷ 1 ∷ []
+  pub five-release : (r : ℕ) → statuses c s (Release r) ≡ 2 ∷ 3 ∷ 5 ∷ []
+  pub six-tick : statuses c s Tick ≡ []
+  pub seven-line : (i : ℕ) → statuses c s (Line i) ≡ 3 ∷ 4 ∷ []
+  pub eight-start : (t d : ℕ) → statuses c s (Start t d) ≡ 2 ∷ 3 ∷ 8 ∷ 7 ∷ []
+  pub nine-stop : (t : ℕ) → statuses c s (Stop t) ≡ 2 ∷ 3 ∷ 5 ∷ []
+
+pub event-table : (c : Config) (s : State) → EventTable c s
+event-table c s =
+    record {
+      one-activate = λ t. refl;
+      two-finish = refl;
+      three-chain = λ t. refl;
+      four-get = λ r. refl;
+      five-release = λ r. refl;
+      six-tick = refl;
+      seven-line = λ i. refl;
+      eight-start = λ t d. refl;
+      nine-stop = λ t. refl;
+    }
+
+-- an event is accepted exactly if none of its checks fails, and "the first status that applies is given"
+pub accepted-none-fails : (c : Config) (s : State) (e : Event) → (step c s e .seen .status ≡ 0) ↔ NoneFails (checksOf c s e)
+accepted-none-fails = Checks.accepted-none-fails
+
+pub first-given : (c : Config) (s : State) (e : Event) (before : List Check) (k : Check) (rest : List Check) → checksOf c s e ≡ before ++ k ∷ rest
+    → NoneFails before
+    → k .fails ≡ true
+    → step c s e .seen .status ≡ k .status
+first-given = Checks.first-given
 
 -- "A status other than 0 changes nothing", after every list of events
 pub refused-same : (c : Config) (es : List Event) (e : Event) → step c (after c (fresh c) es) e .seen .status ≢ done
@@ -76,27 +126,55 @@ pub settled : (c : Config) (s : State) (e : Event) → begins (runner c (step c 
 settled = Refusals.settled-step
 
 -- "the task isn't suspended": an accepted Activate finds its task suspended, so a started one is never requested again
-pub activated-suspended : (c : Config) (s : State) (t : ℕ) → Accepted c s (Activate t) → bodyOf s t .phase ≡ suspended
+pub activated-suspended : (c : Config) (s : State) (t : ℕ) → AcceptedIn c s (Activate t) → bodyOf s t .phase ≡ suspended
 unfolding step
 activated-suspended c s t a = Checks.activate-passed c s t a .2
 
+-- "A started ISR's second request .. begins only after it has finished": where a started ISR begins, the event is its own accepted Finish
+pub begins-after-finish : (c : Config) (s : State) (i : ℕ) → isIsr c i ≡ true → isStarted (bodyOf s i .phase) ≡ true
+    → (e : Event)
+    → step c s e .seen .begun ≡ 1
+    → step c s e .seen .runner ≡ i
+    → (e ≡ Finish) × (caller c s ≡ i) × AcceptedIn c s e
+begins-after-finish = Requests.begins-after-finish
+
+-- "requests already waiting stay": a Stop changes no body
+pub stop-bodies : (c : Config) (es : List Event) (t : ℕ) → step c (after c (fresh c) es) (Stop t) .state .bodies ≡ after c (fresh c) es .bodies
+stop-bodies c es t = Requests.stop-bodies c (after c (fresh c) es) t (Refusals.settled-after c es (fresh c) (Refusals.settled-fresh c))
+
 -- losses come from due entries: no event but a Tick changes one, and what is seen of them is the state after the event
 pub losses-call : (c : Config) (s : State) (e : Event) → e ≢ Tick → lossesOf (step c s e .state) ≡ lossesOf s
-losses-call = Changing.losses-call
+losses-call = Effects.losses-call
 
 pub losses-seen : (c : Config) (s : State) (e : Event) → step c s e .seen .losses ≡ lossesOf (step c s e .state)
-losses-seen = Changing.losses-seen
+losses-seen = Effects.losses-seen
+
+-- At one tick a task that several due entries name becomes ready once and loses the rest, whatever their order: only their number counts.
+-- One that isn't suspended loses them all.
+pub tick-suspended : (c : Config) (es : List Event) (t k : ℕ) → t < length (after c (fresh c) es .bodies)
+    → bodyOf (after c (fresh c) es) t .phase ≡ suspended
+    → dueFor c (after c (fresh c) es) t ≡ suc k
+    → bodyOf (ticked c (after c (fresh c) es)) t ≡ losing k (become ready (bodyOf (after c (fresh c) es) t))
+tick-suspended = Losses.tick-suspended
+
+pub tick-active : (c : Config) (es : List Event) (t : ℕ) → t < length (after c (fresh c) es .bodies)
+    → isSuspended (bodyOf (after c (fresh c) es) t .phase) ≡ false
+    → bodyOf (ticked c (after c (fresh c) es)) t ≡ losing (dueFor c (after c (fresh c) es) t) (bodyOf (after c (fresh c) es) t)
+tick-active = Losses.tick-active
+
+pub losses-le : (c : Config) (es : List Event) (i : ℕ) → bodyOf (after c (fresh c) es) i .losses ≤ 65535
+losses-le c es = Losses.few-after c es (fresh c) (Losses.few-fresh c)
 
 -- "n, the Ticks since its start": from an accepted Start on, until an accepted Stop
-pub counted-from-start : (c : Config) (t d : ℕ) (before rest : List Event) → Accepted c (after c (fresh c) before) (Start t d)
+pub counted-from-start : (c : Config) (t d : ℕ) (before rest : List Event) → AcceptedIn c (after c (fresh c) before) (Start t d)
     → NoStop c t (next c (after c (fresh c) before) (Start t d)) rest
-    → tableOf (after c (fresh c) (before ++ Start t d ∷ rest)) t ≡ running d (ticksIn rest)
+    → tableOf (after c (fresh c) (before ++ Start t d ∷ rest)) t ≡ running d (tickCount rest)
 counted-from-start = Tables.counted-from-start
 
 pub stopped-until-start : (c : Config) (t : ℕ) (es : List Event) → NoStart c t (fresh c) es → tableOf (after c (fresh c) es) t ≡ stopped
 stopped-until-start = Tables.stopped-until-start
 
-pub stopped-since-stop : (c : Config) (t : ℕ) (before rest : List Event) → Accepted c (after c (fresh c) before) (Stop t)
+pub stopped-since-stop : (c : Config) (t : ℕ) (before rest : List Event) → AcceptedIn c (after c (fresh c) before) (Stop t)
     → NoStart c t (next c (after c (fresh c) before) (Stop t)) rest
     → tableOf (after c (fresh c) (before ++ Stop t ∷ rest)) t ≡ stopped
 stopped-since-stop = Tables.stopped-since-stop
@@ -106,7 +184,22 @@ pub table-history : (c : Config) (t : ℕ) (es : List Event) (x : Table) → (ta
 table-history c t es x = (λ e. rw e at (Tables.history-of-table c t es), Tables.table-history c t)
 
 -- the Start in a history is the table's last accepted one
-pub last-start : (c : Config) (t d : ℕ) (before rest : List Event) → Accepted c (after c (fresh c) before) (Start t d)
+pub last-start : (c : Config) (t d : ℕ) (before rest : List Event) → AcceptedIn c (after c (fresh c) before) (Start t d)
     → NoStop c t (next c (after c (fresh c) before) (Start t d)) rest
     → NoStart c t (next c (after c (fresh c) before) (Start t d)) rest
 last-start = Tables.last-start
+
+-- Demand 3: an entry is marked due at exactly those events that are Ticks and at which it is due "by the table's arithmetic, counted from the
+-- table's last accepted start until its next accepted stop": the events before are `before ++ Start t d ∷ rest`, that Start is accepted where
+-- it stands, no Stop of t in rest is, and `due P (d + o) (suc (tickCount rest))`. For every list of events, the i-th of them and the k-th entry.
+pub due-exactly : (c : Config) (es : List Event) (i k : ℕ) → i < length es → k < length (entriesOf c)
+    → (dueMark (seen c (fresh c) es) i k ≡ true) ↔ DueAt c (take i es) (getD es i Tick) (entryAt c k)
+due-exactly = Dues.due-exactly
+
+-- of a configuration that the reader accepts, the k-th entry is that of the k-th offset, in the table to whose entries k belongs
+pub entries-long : (c : Config) → Configuration.Accepted c → Configuration.Shaped c → length (entriesOf c) ≡ firstOf c (c .tables)
+entries-long c ok shaped = Entries.entries-long c (omega (arith, ok .few-entries, shaped .offsets))
+
+pub entry-at : (c : Config) → Configuration.Accepted c → Configuration.Shaped c → (t j : ℕ) → t < c .tables → j < getD (c .entries) t 0
+    → entryAt c (firstOf c t + j) ≡ entryOf c t (getD (c .offset) (firstOf c t + j) 0)
+entry-at c ok shaped = Entries.entry-at c (omega (arith, ok .few-entries, shaped .offsets))

@@ -20,11 +20,11 @@ isStarted suspended = false
 isStarted ready = false
 isStarted started = true
 
--- `waiting`: for a started ISR, whether a request waits. `held`: the resources it holds, the most recently taken first.
+-- `pending`: for a started ISR, whether a request waits. `held`: the resources it holds, the most recently taken first.
 -- `losses`: lost activations.
 pub record Body : Type 0 where
   pub phase : Phase
-  pub waiting : Bool
+  pub pending : Bool
   pub held : List ℕ
   pub losses : ℕ
 
@@ -33,34 +33,38 @@ abbrev pub current : Config → ℕ → Body → ℕ
 current c i b = foldr max (priorityOf c i) (map (ceiling c) (b .held))
 
 abbrev pub become : Phase → Body → Body
-become p b = record { phase = p; waiting = b .waiting; held = b .held; losses = b .losses }
+become p b = record { phase = p; pending = b .pending; held = b .held; losses = b .losses }
 
 -- "the runner suspended, but ready if a request waits, which is then used up"
 abbrev pub finished : Body → Body
-finished b = record { phase = cond (b .waiting) ready suspended; waiting = false; held = b .held; losses = b .losses }
+finished b = record { phase = cond (b .pending) ready suspended; pending = false; held = b .held; losses = b .losses }
 
 -- "i ready, or if started a request waits"
 abbrev pub requested : Body → Body
-requested b = cond (isStarted (b .phase)) (record { phase = started; waiting = true; held = b .held; losses = b .losses }) (become ready b)
+requested b = cond (isStarted (b .phase)) (record { phase = started; pending = true; held = b .held; losses = b .losses }) (become ready b)
 
 -- "r last in the runner's order"
-abbrev pub takes : ℕ → Body → Body
-takes r b = record { phase = b .phase; waiting = b .waiting; held = r ∷ b .held; losses = b .losses }
+abbrev pub gets : ℕ → Body → Body
+gets r b = record { phase = b .phase; pending = b .pending; held = r ∷ b .held; losses = b .losses }
 
 -- "r out": the most recently taken one
 abbrev pub rest : List ℕ → List ℕ
 rest [] = []
 rest (r ∷ rs) = rs
 
-abbrev pub gives-back : Body → Body
-gives-back b = record { phase = b .phase; waiting = b .waiting; held = rest (b .held); losses = b .losses }
+abbrev pub releases : Body → Body
+releases b = record { phase = b .phase; pending = b .pending; held = rest (b .held); losses = b .losses }
 
 -- "its loss count rises by 1 and stays at 65,535 once there"
 abbrev pub mostLosses : ℕ
 mostLosses = 65535
 
+-- n activations lost
+abbrev pub losing : ℕ → Body → Body
+losing n b = record { phase = b .phase; pending = b .pending; held = b .held; losses = min (b .losses + n) mostLosses }
+
 abbrev pub loses : Body → Body
-loses b = record { phase = b .phase; waiting = b .waiting; held = b .held; losses = min (b .losses + 1) mostLosses }
+loses b = losing 1 b
 
 -- "A due entry makes a suspended task ready. If the task isn't suspended, its loss count rises"
 abbrev pub activatedByEntry : Body → Body

@@ -1,22 +1,28 @@
 -- A table's d and n as demand 3 words them: "counted from the table's last accepted start until its next accepted stop".
 --
---   Accepted c s e        the event e, met in the state s, is accepted
+--   AcceptedIn c s e        the event e, met in the state s, is accepted
 --   NoStart c t s es      of the events es from the state s on, none is an accepted Start of the table t; NoStop: Stop
---   ticksIn es            how many of es are Ticks
+--   tickCount es            how many of es are Ticks
 --   History c t es x      what the events es from the fresh start say of the table t is x
+--   DueAt c es e x        they say of the entry x that it is due at the event e, which comes next
+--   dueMark xs i k        the mark of the k-th entry at the i-th event, in what was seen
 --
--- Main law: `table-history` (proofs/Theorems.antt). Assumes nothing.
-use Prim.Native.Nat.{ℕ, suc}
+-- Main laws: `table-history`, `due-exactly` (proofs/Theorems.antt). Assumes nothing.
+use Prim.Native.Nat.{ℕ, suc, _+_}
 use mathlib.Core.Path.{_≡_}
 use mathlib.Core.Bool.{Bool, true, false, cond}
-use mathlib.Core.List.{List, [], _∷_, _++_}
+use mathlib.Core.List.{List, [], _∷_, _++_, map}
+use lib.ListN.{getD}
 use Rattle.config.specs.declared.Config.{Config}
+use Rattle.cell.specs.Due.{due}
 use Rattle.scheduler.specs.Status.{done}
 use Rattle.scheduler.specs.State.{Table, stopped, running, State}
-use Rattle.scheduler.specs.Scheduler.{Event, Activate, Finish, Chain, Get, Release, Tick, Line, Start, Stop, Nothing, step, fresh, after}
+use Rattle.scheduler.specs.Event.{Event, Tick, Start, Stop, isTick}
+use Rattle.scheduler.specs.Scheduler.{Seen, step, fresh, after}
+use Rattle.scheduler.specs.Entries.{Entry}
 
-abbrev pub Accepted : Config → State → Event → Type 0
-Accepted c s e = step c s e .seen .status ≡ done
+abbrev pub AcceptedIn : Config → State → Event → Type 0
+AcceptedIn c s e = step c s e .seen .status ≡ done
 
 -- the state that the event e leaves
 abbrev pub next : Config → State → Event → State
@@ -24,7 +30,7 @@ next c s e = step c s e .state
 
 -- of the events es from the state s on, none that P names is accepted
 abbrev pub NoneAccepted : (Event → Type 0) → Config → State → List Event → Type 0
-NoneAccepted P c s es = (e : Event) (before rest : List Event) → es ≡ before ++ e ∷ rest → P e → Accepted c (after c s before) e → ⊥
+NoneAccepted P c s es = (e : Event) (before rest : List Event) → es ≡ before ++ e ∷ rest → P e → AcceptedIn c (after c s before) e → ⊥
 
 abbrev pub StartOf : ℕ → Event → Type 0
 StartOf t e = (d : ℕ) × (e ≡ Start t d)
@@ -38,30 +44,33 @@ NoStart c t = NoneAccepted (StartOf t) c
 abbrev pub NoStop : Config → ℕ → State → List Event → Type 0
 NoStop c t = NoneAccepted (StopOf t) c
 
-abbrev pub isTick : Event → Bool
-isTick (Activate t) = false
-isTick Finish = false
-isTick (Chain t) = false
-isTick (Get r) = false
-isTick (Release r) = false
-isTick Tick = true
-isTick (Line i) = false
-isTick (Start t d) = false
-isTick (Stop t) = false
-isTick Nothing = false
-
-unfoldable pub ticksIn : List Event → ℕ
-ticksIn [] = 0
-ticksIn (e ∷ es) = cond (isTick e) (suc (ticksIn es)) (ticksIn es)
+unfoldable pub tickCount : List Event → ℕ
+tickCount [] = 0
+tickCount (e ∷ es) = cond (isTick e) (suc (tickCount es)) (tickCount es)
 
 -- A table that runs can't be started again, so an accepted Start with no accepted Stop after it is the last one.
 pub data History (c : Config) (t : ℕ) (es : List Event) : Table → Type 0 where
   never-started : NoStart c t (fresh c) es → History c t es stopped
   since-start : (d : ℕ) (before rest : List Event) → es ≡ before ++ Start t d ∷ rest
-      → Accepted c (after c (fresh c) before) (Start t d)
+      → AcceptedIn c (after c (fresh c) before) (Start t d)
       → NoStop c t (next c (after c (fresh c) before) (Start t d)) rest
-      → History c t es (running d (ticksIn rest))
+      → History c t es (running d (tickCount rest))
   since-stop : (before rest : List Event) → es ≡ before ++ Stop t ∷ rest
-      → Accepted c (after c (fresh c) before) (Stop t)
+      → AcceptedIn c (after c (fresh c) before) (Stop t)
       → NoStart c t (next c (after c (fresh c) before) (Stop t)) rest
       → History c t es stopped
+
+-- past the last event and the last entry no mark is true
+abbrev pub dueMark : List Seen → ℕ → ℕ → Bool
+dueMark xs i k = getD (getD (map (λ x. x .due) xs) i []) k false
+
+-- Demand 3's "due by the table's arithmetic, counted from the table's last accepted start until its next accepted stop"
+pub record DueAt (c : Config) (es : List Event) (e : Event) (x : Entry) : Type 0 where
+  pub at-tick : e ≡ Tick
+  pub d : ℕ
+  pub before : List Event
+  pub rest : List Event
+  pub split : es ≡ before ++ Start (x .table) d ∷ rest
+  pub accepted : AcceptedIn c (after c (fresh c) before) (Start (x .table) d)
+  pub no-stop : NoStop c (x .table) (next c (after c (fresh c) before) (Start (x .table) d)) rest
+  pub on-time : due (x .period) (d + x .offset) (suc (tickCount rest)) ≡ true

@@ -1,11 +1,18 @@
--- The plain scheduler of OSEK OS class BCC1 as document 01 restates it, in reading order: the statuses, one body, who runs, the calls with
--- their order of checks, the tick, the whole from the fresh start on, and last a table's history told by its events.
+-- The plain scheduler of OSEK OS class BCC1 as document 01 restates it, in reading order: the statuses, one body, who runs, the state, the
+-- events, the tick, the table of events with its order of checks, the whole from the fresh start on, and last what the events alone say of a
+-- table and of its entries.
 -- It has no rank, request word, stack, level kept between events, or cell. Assumes nothing.
+--
+-- Letters: c a configuration, s a state, e and es events, b and bs bodies, i the number of a body, t that of a task or a table, r that of a
+-- resource, p a phase, k a candidate or a check, st a status; d a delay, n a count of Ticks, P a period, o an offset, ds the marks of due
+-- entries.
 pub mod Status
 pub mod Body
 pub mod Choice
 pub mod State
-pub mod Call
+pub mod Event
 pub mod Tick
+pub mod Call
 pub mod Scheduler
+pub mod Entries
 pub mod History

@@ -15,21 +15,10 @@ use Rattle.scheduler.specs.Status.{done}
 use Rattle.scheduler.specs.Body.{ready, started, Body, become}
 use Rattle.scheduler.specs.Choice.{Candidate, isNobody}
 use Rattle.scheduler.specs.State.{stopped, State, noBody, changing, runner}
-use Rattle.scheduler.specs.Call.{activateStatus, activate, finishStatus, finish, chainStatus, chain, getStatus, get, releaseStatus, release, lineStatus, line, startStatus, start, stopStatus, stop}
-use Rattle.scheduler.specs.Tick.{counted, dues, ticked}
-
--- an event with its arguments; `Nothing` stands for a code that no event has, which no readable trace holds
-pub data Event : Type 0 where
-  Activate : (t : ℕ) → Event
-  Finish : Event
-  Chain : (t : ℕ) → Event
-  Get : (r : ℕ) → Event
-  Release : (r : ℕ) → Event
-  Tick : Event
-  Line : (i : ℕ) → Event
-  Start : (t d : ℕ) → Event
-  Stop : (t : ℕ) → Event
-  Nothing : Event
+pub use Rattle.scheduler.specs.Event.{Event, Activate, Finish, Chain, Get, Release, Tick, Line, Start, Stop}
+use Rattle.scheduler.specs.Event.{isTick}
+use Rattle.scheduler.specs.Call.{statusOf, effectOf}
+use Rattle.scheduler.specs.Tick.{counted, dues}
 
 -- what is seen of an event: its answer, every body's losses after it, and for each entry whether it was due at it
 pub record Seen : Type 0 where
@@ -73,25 +62,19 @@ ending c st ds s =
       };
     }
 
--- an event that is no Tick has no due entry
+-- the due entries of an event: only a Tick has any
 abbrev pub noneDue : Config → State → List Bool
 noneDue c s = replicate (length (dues c s)) false
 
--- "only 0 changes anything": s′ is the state after the call, s that before it
-abbrev pub attempt : Config → State → ℕ → State → Stepped
-attempt c s st s′ = ending c st (noneDue c s) (cond (eqb st done) s′ s)
+abbrev pub duesAt : Config → State → Event → List Bool
+duesAt c s e = cond (isTick e) (dues c (counted s)) (noneDue c s)
+
+-- "only 0 changes anything": st is the event's status, ds its due entries, s′ the state that it leaves where st is 0, s that before it
+abbrev pub attempt : Config → State → ℕ → List Bool → State → Stepped
+attempt c s st ds s′ = ending c st ds (cond (eqb st done) s′ s)
 
 unfoldable pub step : Config → State → Event → Stepped
-step c s (Activate t) = attempt c s (activateStatus c s t) (activate t s)
-step c s Finish = attempt c s (finishStatus c s) (finish c s)
-step c s (Chain t) = attempt c s (chainStatus c s t) (chain c t s)
-step c s (Get r) = attempt c s (getStatus c s r) (get c r s)
-step c s (Release r) = attempt c s (releaseStatus c s r) (release c s)
-step c s Tick = ending c done (dues c (counted s)) (ticked c s)
-step c s (Line i) = attempt c s (lineStatus c s i) (line i s)
-step c s (Start t d) = attempt c s (startStatus c s t d) (start t d s)
-step c s (Stop t) = attempt c s (stopStatus c s t) (stop t s)
-step c s Nothing = attempt c s done s
+step c s e = attempt c s (statusOf c s e) (duesAt c s e) (effectOf c s e)
 
 -- "Fresh start: autostart tasks are ready, the best one begins, all losses are 0, tables stopped"
 abbrev pub newBody : ℕ → Body

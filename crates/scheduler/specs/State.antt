@@ -9,7 +9,7 @@ use Rattle.config.specs.declared.Config.{Config}
 use Rattle.scheduler.specs.Body.{suspended, Body}
 use Rattle.scheduler.specs.Choice.{Candidate, chosen}
 
--- "each table is stopped or has d and n, the Ticks since its start"
+-- "each table is stopped or has d and n, the Ticks since its start": AUTOSAR's stopped and running
 pub data Table : Type 0 where
   stopped : Table
   running : (d n : ℕ) → Table
@@ -24,7 +24,7 @@ pub record State : Type 0 where
 
 -- a body that was never asked for; what stands past the list's end
 abbrev pub noBody : Body
-noBody = record { phase = suspended; waiting = false; held = []; losses = 0 }
+noBody = record { phase = suspended; pending = false; held = []; losses = 0 }
 
 abbrev pub bodyOf : State → ℕ → Body
 bodyOf s i = getD (s .bodies) i noBody

@@ -1,8 +1,9 @@
 -- What a call answers: OSEK's status codes, by document 01's numbers.
 -- Assumes nothing.
 use Prim.Native.Nat.{ℕ}
-use mathlib.Core.Bool.{Bool, cond}
-use mathlib.Core.List.{List, [], _∷_}
+use mathlib.Core.Path.{_≡_}
+use mathlib.Core.Bool.{Bool, false, cond}
+use mathlib.Core.List.{List, [], _∷_, _++_}
 
 -- E_OK
 abbrev pub done : ℕ
@@ -21,8 +22,8 @@ abbrev pub noSuch : ℕ
 noSuch = 3
 
 -- E_OS_LIMIT: "the task isn't suspended"; "for Line, a request already waits"
-abbrev pub limit : ℕ
-limit = 4
+abbrev pub limitReached : ℕ
+limitReached = 4
 
 -- E_OS_NOFUNC: "r is not the runner's most recently taken one still held; the table is stopped"
 abbrev pub noFunction : ℕ
@@ -36,7 +37,7 @@ holdsResource = 6
 abbrev pub alreadyRuns : ℕ
 alreadyRuns = 7
 
--- E_OS_VALUE: "d is 0, or d plus the table's largest offset is above 65,535"
+-- E_OS_VALUE: "d is 0, or d plus the smallest offset is above 65,535"
 abbrev pub badDelay : ℕ
 badDelay = 8
 
@@ -50,6 +51,10 @@ b gives s = record { fails = b; status = s }
 
 infix 1 _gives_
 -- "the first status that applies is given"
-unfoldable pub firstOf : List Check → ℕ
-firstOf [] = done
-firstOf (k ∷ ks) = cond (k .fails) (k .status) (firstOf ks)
+unfoldable pub firstGiven : List Check → ℕ
+firstGiven [] = done
+firstGiven (k ∷ ks) = cond (k .fails) (k .status) (firstGiven ks)
+
+-- none of the checks fails
+abbrev pub NoneFails : List Check → Type 0
+NoneFails ks = (k : Check) (before rest : List Check) → ks ≡ before ++ k ∷ rest → k .fails ≡ false

@@ -3,11 +3,13 @@
 --   counted s        "n up by 1 for each table not stopped"
 --   dues c s         for each entry whether it is due, by the table's arithmetic
 --   ticked c s       "then the due entries", by table, then in table order
+--   dueFor c s t     how many of them name the task t
 --
 -- Entry is document 01's word for an expiry point. Assumes nothing.
 use Prim.Native.Nat.{ℕ, suc, _+_}
-use mathlib.Core.Bool.{Bool, true, false}
+use mathlib.Core.Bool.{Bool, true, false, cond, _&&_}
 use mathlib.Core.List.{List, [], _∷_, _++_, map}
+use lib.Dec.{eqb}
 use lib.ListN.{getD}
 use Rattle.config.specs.declared.Config.{Config}
 use Rattle.config.specs.Meaning.{offsets}
@@ -45,3 +47,13 @@ activatingDue (false ∷ ds) (t ∷ ts) s = activatingDue ds ts s
 
 abbrev pub ticked : Config → State → State
 ticked c s = activatingDue (dues c (counted s)) (c .task) (counted s)
+
+-- how many of the due entries name the task t: a number, so their order does not tell
+unfoldable pub naming : ℕ → List Bool → List ℕ → ℕ
+naming t [] us = 0
+naming t (d ∷ ds) [] = 0
+naming t (d ∷ ds) (u ∷ us) = cond (d && eqb u t) (suc (naming t ds us)) (naming t ds us)
+
+-- how many of the entries due at a Tick that meets the state s
+abbrev pub dueFor : Config → State → ℕ → ℕ
+dueFor c s t = naming t (dues c (counted s)) (c .task)

@@ -1,18 +1,16 @@
 -- A stack of bytes in 64-bit words: what is on it, and what a push and a pop make of it.
 --
 --   bytes n w                            the n lowest bytes of w, the lowest first
---   rowBytes r, stackBytes s             all bytes, the top first
---   topRow r, secondRow r, top s         the byte on top, and the one under it
---   pushRow r x, pushed s x              x on top, and the byte at the bottom dropped
---   popRow r, popped s                   the top taken off, and 255 at the bottom; dropRow r y: y at the bottom
---   Fits s                               its words are 64-bit words
+--   rowBytes r                           all bytes of a row, the top first
+--   topRow r, secondRow r                the byte on top, and the one under it
+--   pushRow r x                          x on top, and the byte at the bottom dropped
+--   popRow r                             the top taken off, and 255 at the bottom
 --
--- Each definition is total: a law asks for no range where a word's bytes alone decide. Main laws: `stack-top`, `stack-pushed` and
--- `stack-popped` (proofs/Theorems.antt). Assumes nothing.
-use Prim.Native.Nat.{ℕ, zero, suc, _+_, _-_, _*_, _/_, _%_, _<_}
+-- Each definition is total: a law asks for no range where a word's bytes alone decide. Main laws: `row-top`, `row-pushed` and
+-- `row-popped` (proofs/Theorems.antt). Assumes nothing.
+use Prim.Native.Nat.{ℕ, zero, suc, _+_, _-_, _*_, _/_, _%_}
 use mathlib.Core.List.{List, [], _∷_, _++_}
 use Rattle.stack.specs.declared.Row.{Row}
-use Rattle.stack.specs.declared.Stack.{Stack}
 
 -- what lies past the bottom
 abbrev pub none : ℕ
@@ -29,10 +27,6 @@ wordValues = seven * 256
 -- how many bytes a row has
 abbrev pub rowSize : ℕ
 rowSize = 16
-
--- how many bytes a stack has
-abbrev pub stackSize : ℕ
-stackSize = 32
 
 -- the n lowest bytes of w, the lowest first
 unfoldable pub bytes : ℕ → ℕ → List ℕ
@@ -75,48 +69,10 @@ secondRow r = firstByte (r .near / 256)
 unfoldable pub pushRow : Row → ℕ → Row
 pushRow r x = rowOf (pushWord (r .near) x) (pushWord (r .far) (lastByte (r .near)))
 
--- a pop with y coming in at the bottom
-unfoldable pub dropRow : Row → ℕ → Row
-dropRow r y = rowOf (popWord (r .near) (firstByte (r .far))) (popWord (r .far) y)
-
--- past the bottom lies `none`
-abbrev pub popRow : Row → Row
-popRow r = dropRow r none
-
--- the only place where a stack's record is written
-abbrev pub stackOf : Row → Row → Stack
-stackOf near far = record { near = near; far = far }
-
--- every byte is `none` here too
-unfoldable pub emptyStack : Stack
-emptyStack = stackOf emptyRow emptyRow
-
--- the near row has the top
-unfoldable pub top : Stack → ℕ
-top s = topRow (s .near)
-
--- what drops out of the near row comes into the far one
-unfoldable pub pushed : Stack → ℕ → Stack
-pushed s x = stackOf (pushRow (s .near) x) (pushRow (s .far) (lastByte (s .near .far)))
-
--- the top of the far row comes into the near one
-unfoldable pub popped : Stack → Stack
-popped s = stackOf (dropRow (s .near) (topRow (s .far))) (popRow (s .far))
+-- the top of the far word comes into the near one, and past the bottom lies `none`
+unfoldable pub popRow : Row → Row
+popRow r = rowOf (popWord (r .near) (firstByte (r .far))) (popWord (r .far) none)
 
 -- the bytes of a row, the top first
 unfoldable pub rowBytes : Row → List ℕ
 rowBytes r = bytes 8 (r .near) ++ bytes 8 (r .far)
-
--- the bytes of a stack, the top first
-unfoldable pub stackBytes : Stack → List ℕ
-stackBytes s = rowBytes (s .near) ++ rowBytes (s .far)
-
--- the words of a row are 64-bit words
-pub record FitsRow (r : Row) : Type 0 where
-  pub near : r .near < wordValues
-  pub far : r .far < wordValues
-
--- so are those of both rows
-pub record Fits (s : Stack) : Type 0 where
-  pub near : FitsRow (s .near)
-  pub far : FitsRow (s .far)

@@ -3,7 +3,7 @@
 // A push and a pop shift the words, so no index is needed and the compiler keeps the stack in registers. Past the bottom lies 255: a pop
 // brings it in, and a push onto a full stack drops the byte at the bottom. The laws are in proofs/Theorems.antt.
 ghost use mathlib.Core.Path.{_≡_};
-ghost use Rattle.stack.specs.Stack.{pushWord, popWord, firstByte, lastByte, emptyRow, topRow, secondRow, pushRow, dropRow, popRow, emptyStack, top, pushed, popped};
+ghost use Rattle.stack.specs.Stack.{pushWord, popWord, firstByte, lastByte, emptyRow, topRow, secondRow, pushRow, popRow};
 
 // What lies past the bottom.
 pub const NONE: u8 = 255;
@@ -19,12 +19,6 @@ pub struct Row {
     // The eight bytes nearest the top.
     pub near: u64,
     pub far: u64,
-}
-
-// 32 bytes.
-pub struct Stack {
-    pub near: Row,
-    pub far: Row,
 }
 
 // The word with x below its seven lowest bytes; its highest one drops out.
@@ -84,50 +78,12 @@ impl Row {
         Row { near, far }
     }
 
-    // The row without its top, y at the bottom.
-    fn drop_top(self, y: u8) -> Row
-        ensures { λ r. ⌜ r ≡ dropRow self y ⌝ }
-    {
-        let near = pop_word(self.near, first_byte(self.far));
-        let far = pop_word(self.far, y);
-        Row { near, far }
-    }
-
+    // The row without its top.
     pub fn pop(self) -> Row
         ensures { λ r. ⌜ r ≡ popRow self ⌝ }
     {
-        self.drop_top(NONE)
-    }
-}
-
-impl Stack {
-    pub fn empty() -> Stack
-        ensures { λ r. ⌜ r ≡ emptyStack ⌝ }
-    {
-        let near = Row::empty();
-        let far = Row::empty();
-        Stack { near, far }
-    }
-
-    pub fn top(self) -> u8
-        ensures { λ r. ⌜ r ≡ top self ⌝ }
-    {
-        self.near.top()
-    }
-
-    pub fn push(self, x: u8) -> Stack
-        ensures { λ r. ⌜ r ≡ pushed self x ⌝ }
-    {
-        let near = self.near.push(x);
-        let far = self.far.push(last_byte(self.near.far));
-        Stack { near, far }
-    }
-
-    pub fn pop(self) -> Stack
-        ensures { λ r. ⌜ r ≡ popped self ⌝ }
-    {
-        let near = self.near.drop_top(self.far.top());
-        let far = self.far.pop();
-        Stack { near, far }
+        let near = pop_word(self.near, first_byte(self.far));
+        let far = pop_word(self.far, NONE);
+        Row { near, far }
     }
 }

@@ -1,13 +1,14 @@
--- What the code's `|`, `&` and `!` make of one bit: `or-with` and `and-without`, at the end of the file.
+-- What the code's `|`, `&` and `!` make of one bit: `or-with` and `and-without`; and what `|` makes of every bit: `or-bit`.
 -- Assumes nothing.
-use Prim.Native.Nat.{ℕ, zero, suc, _+_, _-_, _*_, _/_, _%_, _^_, _<_}
-use mathlib.Core.Path.{_≡_, ap, _∙_}
+use Prim.Native.Nat.{ℕ, zero, suc, _+_, _-_, _*_, _/_, _%_, _^_, max, _≤_, _<_}
+use mathlib.Core.Path.{_≡_, refl, ap, _∙_}
+use mathlib.Core.Bool.{_||_}
 use native.Mathlib.Nat.{pow-suc, one-mul}
 use native.Mathlib.Numerals.{one-add}
 use native.Mathlib.Omega.{arith}
 use lib.Arith.{lt-one}
-use lib.Bits.{bitAnd, bitOr, and-step, and-high, or-add-and}
-use lib.Dec.{lit<}
+use lib.Bits.{bitAnd, bitOr, and-step, and-high, or-step, or-shr, or-add-and}
+use lib.Dec.{eqb, lit<}
 use lib.Pow.{pow-lt, shl-exact}
 use Rattle.word.specs.Word.{ranks, with, without}
 use Rattle.word.proofs.Bit.{bit}
@@ -54,3 +55,21 @@ module _ (w r : ℕ) (rank : r < ranks) where
     where
       whole : bitAnd w (2 ^ ranks - 1 - 2 ^ r) + bitAnd w (2 ^ r) ≡ w
       whole = and-not ranks w (2 ^ r) h (pow-lt rank)
+
+-- a bit of an `|` is set exactly if one of the two is
+pub or-bit : (w v i : ℕ) → eqb (bitOr w v / 2 ^ i % 2) 1 ≡ eqb (w / 2 ^ i % 2) 1 || eqb (v / 2 ^ i % 2) 1
+or-bit w v i =
+    ap (λ (n : ℕ). eqb (n % 2) 1) (or-shr w v i ∙ or-step (w / 2 ^ i) (v / 2 ^ i)) ∙ low (bitOr (w / 2 ^ i / 2) (v / 2 ^ i / 2))
+    ∙ each (w / 2 ^ i % 2) (v / 2 ^ i % 2) (omega arith) (omega arith)
+  where
+    low : (n : ℕ) → eqb ((n * 2 + max (w / 2 ^ i % 2) (v / 2 ^ i % 2)) % 2) 1 ≡ eqb (max (w / 2 ^ i % 2) (v / 2 ^ i % 2)) 1
+    low n = let e : (n * 2 + max (w / 2 ^ i % 2) (v / 2 ^ i % 2)) % 2 ≡ max (w / 2 ^ i % 2) (v / 2 ^ i % 2) = omega arith in ap (λ (x : ℕ). eqb x 1) e
+
+    each : (x y : ℕ) → x ≤ 1 → y ≤ 1 → eqb (max x y) 1 ≡ eqb x 1 || eqb y 1
+    each zero zero h k = refl
+    each zero (suc zero) h k = refl
+    each (suc zero) zero h k = refl
+    each (suc zero) (suc zero) h k = refl
+    each (suc (suc x)) y h k = absurd (omega arith)
+    each zero (suc (suc y)) h k = absurd (omega arith)
+    each (suc zero) (suc (suc y)) h k = absurd (omega arith)

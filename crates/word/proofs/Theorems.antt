@@ -1,17 +1,20 @@
 -- What the crate shows beyond its contracts, over specs/ alone: which ranks are in a word, and which of them wins.
 --
--- In order: `has`; `with`; `without`; words with the same ranks; the winner. Callers lean on these laws, not on the definitions.
+-- In order: `has`; `with`; `without`; `union`; words with the same ranks; the winner. Callers lean on these laws, not on the definitions.
 -- Assumes nothing.
-use Prim.Native.Nat.{ℕ, _+_, _-_, _^_, _≤_, _<_}
+use Prim.Native.Nat.{ℕ, _+_, _-_, _/_, _%_, _^_, _≤_, _<_}
 use mathlib.Core.Path.{_≡_, refl, sym, _∙_}
 use mathlib.Core.Logic.{⊎-elim}
-use mathlib.Core.Bool.{true, false}
+use mathlib.Core.Bool.{Bool, true, false, _&&_, _||_}
 use native.Mathlib.Nat.{zero-div, eq-zero-or-pos}
 use native.Mathlib.Omega.{arith}
-use Rattle.word.specs.Word.{ranks, noRank, has, with, without, highestBelow, winner}
+use lib.Dec.{ltb, eqb}
+use lib.Bits.{or-lt}
+use Rattle.word.specs.Word.{ranks, noRank, has, with, without, union, highestBelow, winner}
 use Rattle.word.proofs.Bit.{add-same, add-other, add-lt, sub-same, sub-other, bits-same}
 use Rattle.word.proofs.Rank as Rank
 use Rattle.word.proofs.Rank.{with-elim, without-elim, has-bit}
+use Rattle.word.proofs.Bitwise.{or-bit}
 use Rattle.word.proofs.Highest as Highest
 
 -- only ranks are in a word
@@ -51,6 +54,19 @@ without-lt w r h = without-elim (λ (v : ℕ). v < 2 ^ ranks) w r (λ _. h) (λ 
 
 pub without-no-rank : (w r : ℕ) → ranks ≤ r → without w r ≡ w
 without-no-rank w r h = without-elim (λ (v : ℕ). v ≡ w) w r (λ _. refl) (λ l _. absurd (omega arith))
+
+-- a rank is in the union exactly if it is in one of the two words
+pub has-union : (w v i : ℕ) → has (union w v) i ≡ has w i || has v i
+unfolding has union
+has-union w v i = rw (or-bit w v i) (go (ltb i ranks) (eqb (w / 2 ^ i % 2) 1) (eqb (v / 2 ^ i % 2) 1))
+  where
+    go : (a b c : Bool) → a && (b || c) ≡ (a && b) || (a && c)
+    go true b c = refl
+    go false b c = refl
+
+pub union-lt : (w v : ℕ) → w < 2 ^ ranks → v < 2 ^ ranks → union w v < 2 ^ ranks
+unfolding union
+union-lt w v = or-lt ranks w v
 
 -- a word is the set of its ranks
 pub same-ranks : (w v : ℕ) → w < 2 ^ ranks → v < 2 ^ ranks → ((i : ℕ) → has w i ≡ has v i) → w ≡ v

@@ -2,12 +2,14 @@
 --
 --   has w r        rank r is in w
 --   with w r       w with rank r in it; without w r: with rank r not in it
+--   union w v      the ranks of both words
 --   winner w       the highest rank in w, or `noRank`
 --
 -- Main laws: `winner-has` and `winner-highest` (proofs/Theorems.antt). Assumes nothing.
 use Prim.Native.Nat.{ℕ, zero, suc, _+_, _-_, _/_, _%_, _^_}
 use mathlib.Core.Bool.{Bool, cond, not, _&&_}
 use lib.Dec.{ltb, eqb}
+use lib.Bits.{bitOr}
 
 -- how many ranks there are, 0 the lowest
 abbrev pub ranks : ℕ
@@ -27,6 +29,9 @@ with w r = cond (ltb r ranks && not (has w r)) (w + 2 ^ r) w
 
 unfoldable pub without : ℕ → ℕ → ℕ
 without w r = cond (has w r) (w - 2 ^ r) w
+
+unfoldable pub union : ℕ → ℕ → ℕ
+union w v = bitOr w v
 
 -- the highest rank below n in w
 unfoldable pub highestBelow : ℕ → ℕ → ℕ

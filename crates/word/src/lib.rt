@@ -1,6 +1,6 @@
 // A 32-bit word as a set of ranks: bit r is set where rank r is in the word.
 ghost use mathlib.Core.Path.{_≡_};
-ghost use Rattle.word.specs.Word.{has, with, without, winner};
+ghost use Rattle.word.specs.Word.{has, with, without, union, winner};
 
 // How many ranks there are, 0 the lowest.
 pub const RANKS: u32 = 32;
@@ -34,6 +34,13 @@ pub fn without(word: u32, rank: u32) -> u32
     } else {
         word
     }
+}
+
+// The ranks of both words.
+pub fn union(word: u32, other: u32) -> u32
+    ensures { λ r. ⌜ r ≡ union word other ⌝ }
+{
+    word | other
 }
 
 // The highest rank in the word, or NO_RANK.

@@ -1,4 +1,4 @@
--- `rows::matches` is safe: it counts at most one for each cell passed. Assumes nothing.
+-- `cell_vectors::matches` is safe: it counts at most one for each cell passed. Assumes nothing.
 use Prim.Native.Nat.{_≤_, _-_}
 use native.Mathlib.Omega.{arith}
 use mathlib.Core.Logic.{⊎-elim}

@@ -1,4 +1,4 @@
--- `rows::show` is safe: it ticks nine times, and the row's length is at most that of the array. Assumes nothing.
+-- `cell_vectors::show` is safe: it ticks nine times, and the row's length is at most that of the array. Assumes nothing.
 use Prim.Native.Nat.{_≤_, _-_}
 use borrow.Author.Needs.{needs}
 use Rattle.cell_vectors.proofs.show.Statement.{statement}
@@ -43,8 +43,20 @@ counters-requires c κs = search needs
 print-requires-3 : tie.Need-print-requires-3 Inv-loop μ-loop
 print-requires-3 c κs = search needs
 
+turns-requires : tie.Need-turns-requires Inv-loop μ-loop
+turns-requires c κs = search needs
+
+print-requires-4 : tie.Need-print-requires-4 Inv-loop μ-loop
+print-requires-4 c κs = search needs
+
 counters-requires-2 : tie.Need-counters-requires-2 Inv-loop μ-loop
 counters-requires-2 c κs = search needs
+
+print-requires-5 : tie.Need-print-requires-5 Inv-loop μ-loop
+print-requires-5 c κs = search needs
+
+turns-requires-2 : tie.Need-turns-requires-2 Inv-loop μ-loop
+turns-requires-2 c κs = search needs
 
 print-last-requires : tie.Need-print-last-requires Inv-loop μ-loop
 print-last-requires c κs = search needs
@@ -69,6 +81,10 @@ show-spec =
     loop-again
     counters-requires
     print-requires-3
+    turns-requires
+    print-requires-4
     counters-requires-2
+    print-requires-5
+    turns-requires-2
     print-last-requires
     returns)

@@ -1,9 +1,9 @@
 -- The loops over the cells: what each has done of its definition before entry e, from its start to its end.
 --
--- In order: a tick's counters and match marks; a tick's requests and losses; starts and stops; the switches. Assumes nothing.
+-- In order: a tick's counters and match marks; a tick's requests and losses; its switches; starts and stops; the switches. Assumes nothing.
 use Prim.Native.Nat.{ℕ, zero, suc, _+_, _-_, _≤_, _<_}
 use mathlib.Core.Path.{_≡_, refl, sym, ap, ap₂, _∙_}
-use mathlib.Core.Bool.{Bool, false}
+use mathlib.Core.Bool.{Bool, true, false, _&&_, _||_, or-assoc, or-false}
 use mathlib.Core.List.{List, [], _∷_, _++_, append-assoc, append-nil}
 use native.Mathlib.Omega.{arith}
 use native.Mathlib.Numerals.{add-one}
@@ -11,10 +11,10 @@ use lib.ListN.{length, getD, set, take, drop, replicate, length-set, length-drop
 use lib.Seq.{take-suc-set, take-all, length-take-le, drop-drop, getD-set-other}
 use Rattle.config.specs.Value.{maxEntries}
 use Rattle.cell.specs.declared.Cell.{Cell}
-use Rattle.cell.specs.Cell.{unmarked, startCell, ticked}
+use Rattle.cell.specs.Cell.{unmarked, long, startCell, ticked}
 use Rattle.kernel.specs.Methods.{group}
-use Rattle.machine.specs.Cells.{isOn, cellAt, countersTicked, marks, countersStarted, countersStopped, switched, Due, requestsDue}
-use Rattle.machine.proofs.Requests.{due-append}
+use Rattle.machine.specs.Cells.{isOn, hasTurn, switchFor, cellAt, countersTicked, switchTicked, switchesTicked, some, marks, countersStarted, switchesStarted, countersStopped, switched, Due, requestsDue}
+use Rattle.machine.proofs.Change.Matches.{due-append}
 
 -- a loop over the k entries from f on begins with all of them, and each turn takes one
 pub span : (f k : ℕ) → f + k - f ≡ k
@@ -26,13 +26,13 @@ next u e h = omega arith
 none : (u e : ℕ) → u ≤ e → u - e ≡ 0
 none u e h = omega arith
 
-module _ (ks os : List ℕ) where
+module _ (w : Bool) (ks os : List ℕ) where
   -- later marks do not see an earlier counter
-  marks-set : (k e i x : ℕ) (ns : List ℕ) → i < e → marks k e ks os (set ns i x) ≡ marks k e ks os ns
+  marks-set : (k e i x : ℕ) (ns : List ℕ) → i < e → marks k e w ks os (set ns i x) ≡ marks k e w ks os ns
   unfolding marks
   marks-set zero e i x ns h = refl
   marks-set (suc k) e i x ns h =
-      ap₂ (λ (n : ℕ) (bs : List Bool). ticked (unmarked n (getD ks e 0) (isOn (getD os e 0))) .matched ∷ bs)
+      ap₂ (λ (n : ℕ) (bs : List Bool). ticked (unmarked n (getD ks e 0) (isOn (getD os e 0)) (w && hasTurn (getD os e 0))) .matched ∷ bs)
       (getD-set-other ns i e x 0 (λ q. absurd (omega arith)))
       (marks-set k (suc e) i x ns (omega arith))
 
@@ -41,14 +41,14 @@ module _ (ks os : List ℕ) where
     pub record Ticking (ns : List ℕ) (ms : List Bool) (e : ℕ) : Type 0 where
       pub reached : e ≤ maxEntries
       pub long : length ms ≡ maxEntries
-      pub counters : countersTicked (maxEntries - e) e ks os ns ≡ countersTicked maxEntries 0 ks os ns₀
-      pub matches : take e ms ++ marks (maxEntries - e) e ks os ns ≡ marks maxEntries 0 ks os ns₀
+      pub counters : countersTicked (maxEntries - e) e w ks os ns ≡ countersTicked maxEntries 0 w ks os ns₀
+      pub matches : take e ms ++ marks (maxEntries - e) e w ks os ns ≡ marks maxEntries 0 w ks os ns₀
 
     pub ticking-start : Ticking ns₀ (replicate maxEntries false) 0
     ticking-start = record { reached = omega arith; long = refl; counters = refl; matches = refl }
 
     module _ (ns : List ℕ) (ms : List Bool) (e : ℕ) (so-far : Ticking ns ms e) where
-      pub ticking-turn : e < maxEntries → {c : Cell} → c ≡ ticked (cellAt ks os ns e)
+      pub ticking-turn : e < maxEntries → {c : Cell} → c ≡ ticked (cellAt w ks os ns e)
           → Ticking (set ns e (c .counter)) (set ms e (c .matched)) (e + 1)
       unfolding countersTicked marks
       ticking-turn more {c} is =
@@ -67,7 +67,7 @@ module _ (ks os : List ℕ) where
                 (rw (next maxEntries e more, add-one e) at (so-far .matches));
           }
 
-      pub ticking-end : maxEntries ≤ e → (ms ≡ marks maxEntries 0 ks os ns₀) × (ns ≡ countersTicked maxEntries 0 ks os ns₀)
+      pub ticking-end : maxEntries ≤ e → (ms ≡ marks maxEntries 0 w ks os ns₀) × (ns ≡ countersTicked maxEntries 0 w ks os ns₀)
       unfolding countersTicked marks
       ticking-end h = (
         sym (take-all e ms (omega (arith, so-far .long))) ∙ sym (append-nil (take e ms)) ∙ (rw (none maxEntries e h) at (so-far .matches)),
@@ -96,7 +96,38 @@ module _ (w : ℕ) where
     pub groups-end : (e : ℕ) → length ms ≤ e → (x : Due) → requestsDue w (drop e ms) (drop e rs) x ≡ x
     groups-end e h x = rw (drop-of-length-le ms {i = e} h) (due-over (drop e rs) x)
 
+-- the switches of a tick
+module _ (u e : ℕ) (ks ns os : List ℕ) where
+  pub switches-turn : e < u → {x : ℕ} → x ≡ switchTicked ks ns os e
+      → switchesTicked (u - (e + 1)) (e + 1) ks ns (set os e x) ≡ switchesTicked (u - e) e ks ns os
+  unfolding switchesTicked
+  switches-turn h is = rw (next u e h, is, add-one e)
+
+  pub switches-end : u ≤ e → switchesTicked (u - e) e ks ns os ≡ os
+  unfolding switchesTicked
+  switches-end h = rw (none u e h)
+
+-- a search that stops at nothing: b is what was found before e
+module _ (f : ℕ → Bool) (u e : ℕ) (b : Bool) where
+  pub some-turn : e < u → {b′ : Bool} → b′ ≡ b || f e → b′ || some f (u - (e + 1)) (e + 1) ≡ b || some f (u - e) e
+  unfolding some
+  some-turn h is = rw (next u e h, is, add-one e) (or-assoc b (f e) (some f (u - suc e) (suc e)))
+
+  pub some-end : u ≤ e → b || some f (u - e) e ≡ b
+  unfolding some
+  some-end h = rw (none u e h) (or-false b)
+
 -- starts
+module _ (u e d : ℕ) (qs os : List ℕ) where
+  pub switched-on-turn : e < u → {x : ℕ} → x ≡ switchFor true (long (d + getD qs e 0))
+      → switchesStarted (u - (e + 1)) (e + 1) d qs (set os e x) ≡ switchesStarted (u - e) e d qs os
+  unfolding switchesStarted
+  switched-on-turn h is = rw (next u e h, is, add-one e)
+
+  pub switched-on-end : u ≤ e → switchesStarted (u - e) e d qs os ≡ os
+  unfolding switchesStarted
+  switched-on-end h = rw (none u e h)
+
 module _ (u e P d : ℕ) (os ns : List ℕ) where
   pub started-turn : e < u → {x : ℕ} → x ≡ startCell P (d + getD os e 0) .counter
       → countersStarted (u - (e + 1)) (e + 1) P d os (set ns e x) ≡ countersStarted (u - e) e P d os ns

@@ -1,38 +1,36 @@
--- What the code of the arbiter computes: on a core, and on a model before and after its runner ended.
+-- What the code of the arbiter computes.
 -- Assumes nothing.
 use Prim.Native.Nat.{ℕ, _≤_, _<_}
 use mathlib.Core.Path.{_≡_}
-use mathlib.Core.Bool.{true, false}
+use mathlib.Core.Bool.{Bool, false, cond, not}
 use mathlib.Core.List.{List}
 use borrow.Author.Tests.{lt-ltb, le-ltb}
+use lib.Dec.{eqb}
 use lib.ListN.{getD}
-use Rattle.word.specs.Word.{with, without, winner}
-use Rattle.stack.specs.declared.Stack.{Stack}
-use Rattle.stack.specs.Stack.{top, popped}
-use Rattle.machine.specs.Model.{Core, Picked, Model, withFrames, doneWith}
-use Rattle.machine.specs.Arbiter.{winning, arbitrated, laidOn, settled, resumed, leaving}
+use Rattle.word.specs.Word.{has, with, without, winner}
+use Rattle.stack.specs.Stack.{topRow}
+use Rattle.machine.specs.Model.{Core, Picked, Model, noRank, withCore, withRequest, doneWith}
+use Rattle.machine.specs.Arbiter.{bids, winning, arbitrated, settled, vacated}
 
 -- the winner r has the priority l
-module _ (ps : List ℕ) (k : Core) {r l : ℕ} (won : r ≡ winner (k .request)) (worth : l ≡ getD ps r 0) where
+module _ (ps : List ℕ) (k : Core) {r l : ℕ} (won : r ≡ winner (bids k)) (worth : l ≡ getD ps r 0) where
   pub arbitrated-same : l ≤ k .level → _≡_ {A = Picked} (record { core = k; begun = false }) (arbitrated ps k)
   unfolding arbitrated
   arbitrated-same h = rw (le-ltb (k .level) (winning ps k) (rw (worth, won) at h))
 
-  pub arbitrated-above : k .level < l
-      → {w : ℕ} → w ≡ without (k .request) r → {s : ℕ} → s ≡ with (k .started) r
-      → _≡_ {A = Picked} (record { core = record { request = w; started = s; runner = r; level = l }; begun = true }) (arbitrated ps k)
+  pub arbitrated-above : k .level < l → {b : Bool} → b ≡ not (has (k .started) r)
+      → {w : ℕ} → w ≡ cond b (without (k .request) r) (k .request) → {s : ℕ} → s ≡ with (k .started) r
+      → _≡_ {A = Picked} (record { core = record { request = w; started = s; runner = r; level = l }; begun = b }) (arbitrated ps k)
   unfolding arbitrated
-  arbitrated-above h used runs =
-      rw (used, runs, worth, won, lt-ltb (k .level) (winning ps k) (rw (worth, won) at h))
+  arbitrated-above h begun used runs =
+      rw (used, runs, begun, worth, won, lt-ltb (k .level) (winning ps k) (rw (worth, won) at h))
 
-module _ (ps : List ℕ) (m : Model) where
-  pub settled-made : {p : Picked} → p ≡ arbitrated ps (m .core)
-      → {s : Stack} → s ≡ laidOn (p .begun) (m .stack) (m .core .runner) → {v : Stack} → v ≡ laidOn (p .begun) (m .levels) (m .core .level)
-      → doneWith (withFrames m (p .core) s v) (p .begun) ≡ settled ps m
-  settled-made picked ranks levels = rw (ranks, levels, picked)
+-- the model m with the core k, after arbitration
+pub settled-made : (ps : List ℕ) (m : Model) (k : Core) {p : Picked} → p ≡ arbitrated ps k → doneWith (withCore m (p .core)) (p .begun) ≡ settled ps (withCore m k)
+settled-made ps m k picked = rw picked
 
-  pub ended-made : {k : Core} → k ≡ resumed (m .stack) (m .levels) (m .core) → {p : Picked} → p ≡ arbitrated ps k
-      → {s : Stack} → s ≡ laidOn (p .begun) (popped (m .stack)) (top (m .stack))
-      → {v : Stack} → v ≡ laidOn (p .begun) (popped (m .levels)) (top (m .levels))
-      → doneWith (withFrames m (p .core) s v) (p .begun) ≡ settled ps (leaving m)
-  ended-made left picked ranks levels = rw (ranks, levels, picked, left)
+-- the core that a runner which ended leaves, with the requests q
+pub vacated-made : (ps : List ℕ) (m : Model) (q : ℕ) {v : ℕ} → v ≡ without (m .core .started) (m .core .runner)
+    → {r : ℕ} → r ≡ topRow (m .holder) → {l : ℕ} → l ≡ cond (eqb (topRow (m .holder)) noRank) 0 (topRow (m .raised))
+    → arbitrated ps (record { request = q; started = v; runner = r; level = l }) ≡ arbitrated ps (withRequest (vacated m) q)
+vacated-made ps m q ended seat level = rw (ended, seat, level)

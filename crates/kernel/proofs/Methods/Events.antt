@@ -7,106 +7,107 @@ use mathlib.Core.List.{List}
 use lib.Dec.{ltb, eqb}
 use lib.ListN.{getD}
 use borrow.Author.Tests.{le-leb, lt-leb, eq-eqb, ne-eqb}
-use Rattle.scheduler.specs.Status.{callLevel, noSuch, limit, access, noFunction, holdsResource, firstOf}
+use Rattle.scheduler.specs.Status.{callLevel, noSuch, limitReached, access, noFunction, holdsResource, firstGiven}
 use Rattle.word.specs.Word.{has, with, without}
 use Rattle.stack.specs.declared.Row.{Row}
 use Rattle.stack.specs.Stack.{topRow, pushRow, popRow}
-use Rattle.machine.specs.Model.{Model, noRank, withSlots, doneWith, refusedWith}
-use Rattle.machine.specs.Arbiter.{settled, leaving, requesting}
+use Rattle.machine.specs.Model.{Picked, Model, noRank, withCore, withRequest, withLevel, withSlots, doneWith, refusedWith}
+use Rattle.machine.specs.Arbiter.{arbitrated, settled, vacated, leaving}
 use Rattle.machine.specs.Resources.{latest, levelWithout}
 use Rattle.machine.specs.Events.{idles, busy, activated, finished, chained, got, released, lined}
 
 -- Finish
 module _ (ps : List ℕ) (m : Model) where
   pub finish-idle : m .core .runner ≡ noRank → refusedWith m callLevel ≡ finished ps m
-  unfolding finished firstOf
+  unfolding finished firstGiven
   finish-idle h = rw (eq-eqb (m .core .runner) noRank h)
 
   module _ (runs : m .core .runner ≡ noRank → ⊥) {h : ℕ} (holder : h ≡ topRow (m .holder)) where
     pub finish-holding : h ≡ m .core .runner → refusedWith m holdsResource ≡ finished ps m
-    unfolding finished firstOf
+    unfolding finished firstGiven
     finish-holding own = rw (ne-eqb (m .core .runner) noRank runs, ← holder, eq-eqb h (m .core .runner) own)
 
     pub finish-done : (h ≡ m .core .runner → ⊥) → settled ps (leaving m) ≡ finished ps m
-    unfolding finished firstOf
+    unfolding finished firstGiven
     finish-done free = rw (ne-eqb (m .core .runner) noRank runs, ← holder, ne-eqb h (m .core .runner) free)
 
 -- Activate t
 module _ (trs ps : List ℕ) (m : Model) (t : ℕ) where
   pub activate-idle : m .core .runner ≡ noRank → refusedWith m callLevel ≡ activated trs ps m t
-  unfolding activated firstOf
+  unfolding activated firstGiven
   activate-idle h = rw (eq-eqb (m .core .runner) noRank h)
 
   module _ (runs : m .core .runner ≡ noRank → ⊥) {r : ℕ} (rank : r ≡ getD trs t noRank) where
     pub activate-none : r ≡ noRank → refusedWith m noSuch ≡ activated trs ps m t
-    unfolding activated firstOf
+    unfolding activated firstGiven
     activate-none h = rw (ne-eqb (m .core .runner) noRank runs, ← rank, eq-eqb r noRank h)
 
     module _ (some : r ≡ noRank → ⊥) {b : Bool} (test : b ≡ busy m r) where
-      pub activate-busy : b ≡ true → refusedWith m limit ≡ activated trs ps m t
-      unfolding activated firstOf
+      pub activate-busy : b ≡ true → refusedWith m limitReached ≡ activated trs ps m t
+      unfolding activated firstGiven
       activate-busy h = rw (ne-eqb (m .core .runner) noRank runs, ← rank, ne-eqb r noRank some, sym test ∙ h)
 
-      pub activate-done : b ≡ false → settled ps (requesting r m) ≡ activated trs ps m t
-      unfolding activated firstOf
-      activate-done h = rw (ne-eqb (m .core .runner) noRank runs, ← rank, ne-eqb r noRank some, sym test ∙ h)
+      pub activate-done : b ≡ false → {q : ℕ} → q ≡ with (m .core .request) r → settled ps (withCore m (withRequest (m .core) q)) ≡ activated trs ps m t
+      unfolding activated firstGiven
+      activate-done h asked = rw (ne-eqb (m .core .runner) noRank runs, ← rank, ne-eqb r noRank some, sym test ∙ h, asked)
 
 -- Line i
 module _ (lrs ps : List ℕ) (m : Model) (i : ℕ) {r : ℕ} (rank : r ≡ getD lrs i noRank) where
   pub line-none : r ≡ noRank → refusedWith m noSuch ≡ lined lrs ps m i
-  unfolding lined firstOf
+  unfolding lined firstGiven
   line-none h = rw (← rank, eq-eqb r noRank h)
 
   module _ (some : r ≡ noRank → ⊥) {b : Bool} (test : b ≡ has (m .core .request) r) where
-    pub line-waits : b ≡ true → refusedWith m limit ≡ lined lrs ps m i
-    unfolding lined firstOf
+    pub line-waits : b ≡ true → refusedWith m limitReached ≡ lined lrs ps m i
+    unfolding lined firstGiven
     line-waits h = rw (← rank, ne-eqb r noRank some, sym test ∙ h)
 
-    pub line-done : b ≡ false → settled ps (requesting r m) ≡ lined lrs ps m i
-    unfolding lined firstOf
-    line-done h = rw (← rank, ne-eqb r noRank some, sym test ∙ h)
+    pub line-done : b ≡ false → {q : ℕ} → q ≡ with (m .core .request) r → settled ps (withCore m (withRequest (m .core) q)) ≡ lined lrs ps m i
+    unfolding lined firstGiven
+    line-done h asked = rw (← rank, ne-eqb r noRank some, sym test ∙ h, asked)
 
 -- Chain t
 module _ (ws : ℕ) (trs ps : List ℕ) (m : Model) (t : ℕ) {a : Bool} (calls : a ≡ idles m || has ws (m .core .runner)) where
   pub chain-idle : a ≡ true → refusedWith m callLevel ≡ chained ws trs ps m t
-  unfolding chained firstOf
+  unfolding chained firstGiven
   chain-idle h = rw (sym calls ∙ h)
 
   module _ (runs : a ≡ false) {r : ℕ} (rank : r ≡ getD trs t noRank) where
     pub chain-none : r ≡ noRank → refusedWith m noSuch ≡ chained ws trs ps m t
-    unfolding chained firstOf
+    unfolding chained firstGiven
     chain-none h = rw (sym calls ∙ runs, ← rank, eq-eqb r noRank h)
 
     module _ (some : r ≡ noRank → ⊥) {h : ℕ} (holder : h ≡ topRow (m .holder)) where
       pub chain-holding : h ≡ m .core .runner → refusedWith m holdsResource ≡ chained ws trs ps m t
-      unfolding chained firstOf
+      unfolding chained firstGiven
       chain-holding own = rw (sym calls ∙ runs, ← rank, ne-eqb r noRank some, ← holder, eq-eqb h (m .core .runner) own)
 
       module _ (free : h ≡ m .core .runner → ⊥) {d : Bool} (test : d ≡ busy m r && not (eqb r (m .core .runner))) where
-        pub chain-busy : d ≡ true → refusedWith m limit ≡ chained ws trs ps m t
-        unfolding chained firstOf
+        pub chain-busy : d ≡ true → refusedWith m limitReached ≡ chained ws trs ps m t
+        unfolding chained firstGiven
         chain-busy e = rw (sym calls ∙ runs, ← rank, ne-eqb r noRank some, ← holder, ne-eqb h (m .core .runner) free, sym test ∙ e)
 
-        pub chain-done : d ≡ false → settled ps (leaving (requesting r m)) ≡ chained ws trs ps m t
-        unfolding chained firstOf
-        chain-done e =
-            rw (sym calls ∙ runs, ← rank, ne-eqb r noRank some, ← holder, ne-eqb h (m .core .runner) free, sym test ∙ e)
+        pub chain-done : d ≡ false → {q : ℕ} → q ≡ with (m .core .request) r
+            → settled ps (withCore m (withRequest (vacated m) q)) ≡ chained ws trs ps m t
+        unfolding chained firstGiven
+        chain-done e asked =
+            rw (sym calls ∙ runs, ← rank, ne-eqb r noRank some, ← holder, ne-eqb h (m .core .runner) free, sym test ∙ e, asked)
 
 -- Get r
 module _ (n : ℕ) (cs ps : List ℕ) (m : Model) (r : ℕ) where
   pub get-idle : m .core .runner ≡ noRank → refusedWith m callLevel ≡ got n cs ps m r
-  unfolding got firstOf
+  unfolding got firstGiven
   get-idle h = rw (eq-eqb (m .core .runner) noRank h)
 
   module _ (runs : m .core .runner ≡ noRank → ⊥) where
     pub get-none : n ≤ r → refusedWith m noSuch ≡ got n cs ps m r
-    unfolding got firstOf
+    unfolding got firstGiven
     get-none h = rw (ne-eqb (m .core .runner) noRank runs, le-leb n r h)
 
     module _ (some : r < n) {l q : ℕ} (ceil : l ≡ getD cs r 0) (own : q ≡ getD ps (m .core .runner) 0)
         {b : Bool} (test : b ≡ has (m .held) r || ltb l q) where
       pub get-withheld : b ≡ true → refusedWith m access ≡ got n cs ps m r
-      unfolding got firstOf
+      unfolding got firstGiven
       get-withheld h = rw (ne-eqb (m .core .runner) noRank runs, lt-leb n r some, ← ceil, ← own, sym test ∙ h)
 
       pub get-done : b ≡ false → {v : ℕ} → v ≡ max l (m .core .level)
@@ -115,24 +116,24 @@ module _ (n : ℕ) (cs ps : List ℕ) (m : Model) (r : ℕ) where
           → {hs : Row} → hs ≡ pushRow (m .holder) (m .core .runner)
           → {vs : Row} → vs ≡ pushRow (m .raised) v
           → doneWith (withSlots m v w xs hs vs) false ≡ got n cs ps m r
-      unfolding got firstOf
+      unfolding got firstGiven
       get-done h level x₁ x₂ x₃ x₄ =
           rw (ne-eqb (m .core .runner) noRank runs, lt-leb n r some, ← ceil, ← own, sym test ∙ h, x₁, x₂, x₃, x₄, level)
 
 -- Release r
 module _ (n : ℕ) (ps : List ℕ) (m : Model) (r : ℕ) where
   pub release-idle : m .core .runner ≡ noRank → refusedWith m callLevel ≡ released n ps m r
-  unfolding released firstOf
+  unfolding released firstGiven
   release-idle h = rw (eq-eqb (m .core .runner) noRank h)
 
   module _ (runs : m .core .runner ≡ noRank → ⊥) where
     pub release-none : n ≤ r → refusedWith m noSuch ≡ released n ps m r
-    unfolding released firstOf
+    unfolding released firstGiven
     release-none h = rw (ne-eqb (m .core .runner) noRank runs, le-leb n r h)
 
     module _ (some : r < n) {b : Bool} (test : b ≡ latest m r) where
       pub release-other : b ≡ false → refusedWith m noFunction ≡ released n ps m r
-      unfolding released firstOf
+      unfolding released firstGiven
       release-other h = rw (ne-eqb (m .core .runner) noRank runs, lt-leb n r some, sym test ∙ h)
 
       pub release-done : b ≡ true → {l : ℕ} → l ≡ levelWithout ps m
@@ -140,7 +141,8 @@ module _ (n : ℕ) (ps : List ℕ) (m : Model) (r : ℕ) where
           → {xs : Row} → xs ≡ popRow (m .resource)
           → {hs : Row} → hs ≡ popRow (m .holder)
           → {vs : Row} → vs ≡ popRow (m .raised)
-          → settled ps (withSlots m l w xs hs vs) ≡ released n ps m r
-      unfolding released firstOf
-      release-done h level x₁ x₂ x₃ x₄ =
-          rw (ne-eqb (m .core .runner) noRank runs, lt-leb n r some, sym test ∙ h, x₁, x₂, x₃, x₄, level)
+          → {p : Picked} → p ≡ arbitrated ps (withLevel (m .core) l)
+          → doneWith (withCore (withSlots m l w xs hs vs) (p .core)) (p .begun) ≡ released n ps m r
+      unfolding released firstGiven
+      release-done h level x₁ x₂ x₃ x₄ picked =
+          rw (ne-eqb (m .core .runner) noRank runs, lt-leb n r some, sym test ∙ h, picked, x₁, x₂, x₃, x₄, level)

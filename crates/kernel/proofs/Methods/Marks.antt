@@ -19,7 +19,7 @@ use Rattle.number.proofs.Cases.{by-lt}
 use Rattle.machine.specs.Model.{noRank}
 use Rattle.kernel.specs.Methods.{group, marksWord}
 use Rattle.machine.specs.Cells.{Due, matchAt, requestsDue}
-use Rattle.machine.proofs.Requests.{due-none, due-marked}
+use Rattle.machine.proofs.Change.Matches.{due-none, due-marked}
 
 -- j digits further up there are j zeros more
 trailing-shifted : (k j n : ℕ) → trailingZeros (k + j) (n * 2 ^ j) ≡ trailingZeros k n + j

@@ -1,38 +1,53 @@
 -- The events of tables, case by case in the order of their checks, as the code goes through them. Assumes nothing.
 use Prim.Native.Nat.{ℕ, zero, suc, _+_, _≤_, _<_}
 use mathlib.Core.Path.{_≡_, refl, sym, ap, _∙_}
-use mathlib.Core.Bool.{Bool, true, false, _||_}
+use mathlib.Core.Bool.{Bool, true, false, _&&_, _||_}
 use mathlib.Core.List.{List}
 use native.Mathlib.Omega.{arith}
 use lib.Dec.{ltb, eqb}
 use lib.ListN.{length, getD}
 use borrow.Author.Tests.{ltb-false, le-leb, lt-leb, eq-eqb, ne-eqb}
 use Rattle.config.specs.Value.{maxEntries}
-use Rattle.scheduler.specs.Status.{callLevel, noSuch, badDelay, alreadyRuns, noFunction, firstOf}
+use Rattle.scheduler.specs.Status.{callLevel, noSuch, badDelay, alreadyRuns, noFunction, firstGiven}
 use Rattle.scheduler.specs.Call.{longestDelay}
-use Rattle.stack.specs.declared.Stack.{Stack}
-use Rattle.machine.specs.Model.{Core, Picked, Model, noRank, withFrames, withRequest, withRest, withCells, doneWith, refusedWith}
-use Rattle.machine.specs.Arbiter.{arbitrated, laidOn}
-use Rattle.machine.specs.Cells.{switchOn, switchOff, isOn, countersTicked, marks, countersStarted, countersStopped, switched, Due, requestsDue}
-use Rattle.machine.specs.Events.{marksOf, tickedOnce, launched, halted}
-use Rattle.kernel.specs.Methods.{dueWith, Delays, Laid, Reached}
+use Rattle.machine.specs.Model.{Picked, Model, noRank, withCore, withRequest, withRest, withCells, doneWith, refusedWith}
+use Rattle.machine.specs.Arbiter.{arbitrated}
+use Rattle.machine.specs.Cells.{switchOff, isOn, countersTicked, switchesTicked, someTurn, marks, countersStarted, switchesStarted, someLong, countersStopped, switched, Due, requestsDue}
+use Rattle.machine.specs.Events.{marksOf, switchesOf, tickedOnce, launched, halted}
+use Rattle.kernel.specs.Methods.{dueWith, Laid}
 
-pub length-marks : (k e : ℕ) (ks os ns : List ℕ) → length (marks k e ks os ns) ≡ k
+pub length-marks : (k e : ℕ) (w : Bool) (ks os ns : List ℕ) → length (marks k e w ks os ns) ≡ k
 unfolding marks
-length-marks zero e ks os ns = refl
-length-marks (suc k) e ks os ns = ap suc (length-marks k (suc e) ks os ns)
+length-marks zero e w ks os ns = refl
+length-marks (suc k) e w ks os ns = ap suc (length-marks k (suc e) w ks os ns)
+
+-- the switches after a tick, and whether a turn is left to pass: where one was, and where none was
+module _ (ks : List ℕ) (m : Model) where
+  module _ (turning : m .turning ≡ true) {os : List ℕ} (switches : os ≡ switchesTicked maxEntries 0 ks (m .counter) (m .on)) where
+    pub turning-switches : os ≡ switchesOf ks m
+    turning-switches = rw turning switches
+
+    pub turning-turns : {z : Bool} → z ≡ someTurn maxEntries 0 os → z ≡ m .turning && someTurn maxEntries 0 (switchesOf ks m)
+    turning-turns is = rw turning (is ∙ ap (someTurn maxEntries 0) switches)
+
+  module _ (still : m .turning ≡ false) where
+    pub still-switches : m .on ≡ switchesOf ks m
+    still-switches = rw still
+
+    pub still-turns : m .turning ≡ m .turning && someTurn maxEntries 0 (switchesOf ks m)
+    still-turns = rw still
 
 -- Tick
 module _ (ks rs ps : List ℕ) (m : Model) where
   pub tick-done : {ms : List Bool} → ms ≡ marksOf maxEntries ks m
-      → {ns : List ℕ} → ns ≡ countersTicked maxEntries 0 ks (m .on) (m .counter)
+      → {ns : List ℕ} → ns ≡ countersTicked maxEntries 0 (m .turning) ks (m .on) (m .counter)
+      → {os : List ℕ} {z : Bool} → os ≡ switchesOf ks m → z ≡ m .turning && someTurn maxEntries 0 (switchesOf ks m)
       → {w : ℕ} {ls : List ℕ} → dueWith w ls ≡ requestsDue (m .core .started) ms rs (dueWith (m .core .request) (m .losses))
-      → {k : Core} → k ≡ withRequest (m .core) w → {p : Picked} → p ≡ arbitrated ps k
-      → {s : Stack} → s ≡ laidOn (p .begun) (m .stack) (m .core .runner) → {v : Stack} → v ≡ laidOn (p .begun) (m .levels) (m .core .level)
-      → doneWith (withRest (withFrames m (p .core) s v) ns (m .on) ls) (p .begun) ≡ tickedOnce ks rs ps m
+      → {p : Picked} → p ≡ arbitrated ps (withRequest (m .core) w)
+      → doneWith (withCore (withRest m ns os z ls) (p .core)) (p .begun) ≡ tickedOnce ks rs ps m
   unfolding tickedOnce
-  tick-done marked counted due asked picked ranks levels =
-      rw (ranks, levels, picked, asked, counted, ap (λ (x : Due). x .request) due, ap (λ (x : Due). x .losses) due, marked)
+  tick-done marked counted switches turns due picked =
+      rw (picked, counted, switches, turns, ap (λ (x : Due). x .request) due, ap (λ (x : Due). x .losses) due, marked)
 
 -- a delay that is not refused
 pub short-sum : (d g : ℕ) → eqb d 0 || ltb longestDelay (d + g) ≡ false → d + g ≤ longestDelay
@@ -48,48 +63,42 @@ module _ (n : ℕ) (fs es : List ℕ) (laid : Laid n fs es) (t : ℕ) (some : t 
   pub entries-within : f + k ≤ 64
   entries-within = rw (from, many) (laid .within t some)
 
-  pub delays-fit : (gs os : List ℕ) → Reached n fs gs es os → (d : ℕ) {g : ℕ} → g ≡ getD gs t 0
-      → {b : Bool} → b ≡ eqb d 0 || ltb longestDelay (d + g) → b ≡ false → Delays f k d os
-  delays-fit gs os reached d {g} largest test good =
-      record {
-        fits = λ i le lt.
-            omega (arith, reached .largest t i some (rw from at le) (rw (from, many) at lt), largest, short-sum d g (sym test ∙ good));
-      }
-
 -- Start t, d
-module _ (n : ℕ) (fs gs es qs os : List ℕ) (m : Model) (t d : ℕ) where
-  pub start-idle : m .core .runner ≡ noRank → refusedWith m callLevel ≡ launched n fs gs es qs os m t d
-  unfolding launched firstOf
+module _ (n : ℕ) (fs es qs os : List ℕ) (m : Model) (t d : ℕ) where
+  pub start-idle : m .core .runner ≡ noRank → refusedWith m callLevel ≡ launched n fs es qs os m t d
+  unfolding launched firstGiven
   start-idle h = rw (eq-eqb (m .core .runner) noRank h)
 
   module _ (busy : m .core .runner ≡ noRank → ⊥) where
-    pub start-none : n ≤ t → refusedWith m noSuch ≡ launched n fs gs es qs os m t d
-    unfolding launched firstOf
+    pub start-none : n ≤ t → refusedWith m noSuch ≡ launched n fs es qs os m t d
+    unfolding launched firstGiven
     start-none h = rw (ne-eqb (m .core .runner) noRank busy, le-leb n t h)
 
-    module _ (some : t < n) {g : ℕ} (largest : g ≡ getD gs t 0) {b : Bool} (test : b ≡ eqb d 0 || ltb longestDelay (d + g)) where
-      pub start-bad : b ≡ true → refusedWith m badDelay ≡ launched n fs gs es qs os m t d
-      unfolding launched firstOf
-      start-bad h = rw (ne-eqb (m .core .runner) noRank busy, lt-leb n t some, ← largest, sym test ∙ h)
+    module _ (some : t < n) {f : ℕ} (from : f ≡ getD fs t 0) {g : ℕ} (smallest : g ≡ getD os f 0) {b : Bool} (test : b ≡ eqb d 0 || ltb longestDelay (d + g)) where
+      pub start-bad : b ≡ true → refusedWith m badDelay ≡ launched n fs es qs os m t d
+      unfolding launched firstGiven
+      start-bad h = rw (ne-eqb (m .core .runner) noRank busy, lt-leb n t some, ← from, ← smallest, sym test ∙ h)
 
-      module _ (good : b ≡ false) {f : ℕ} (from : f ≡ getD fs t 0) {a : Bool} (on : a ≡ isOn (getD (m .on) f 0)) where
-        pub start-runs : a ≡ true → refusedWith m alreadyRuns ≡ launched n fs gs es qs os m t d
-        unfolding launched firstOf
+      module _ (good : b ≡ false) {a : Bool} (on : a ≡ isOn (getD (m .on) f 0)) where
+        pub start-runs : a ≡ true → refusedWith m alreadyRuns ≡ launched n fs es qs os m t d
+        unfolding launched firstGiven
         start-runs h =
-            rw (ne-eqb (m .core .runner) noRank busy, lt-leb n t some, ← largest, sym test ∙ good, ← from, sym on ∙ h)
+            rw (ne-eqb (m .core .runner) noRank busy, lt-leb n t some, ← from, ← smallest, sym test ∙ good, sym on ∙ h)
 
         pub start-done : a ≡ false → {k : ℕ} → k ≡ getD es t 0 → {P : ℕ} → P ≡ getD qs t 0
-            → {ns : List ℕ} → ns ≡ countersStarted k f P d os (m .counter) → {xs : List ℕ} → xs ≡ switched k f switchOn (m .on)
-            → doneWith (withCells m ns xs) false ≡ launched n fs gs es qs os m t d
-        unfolding launched firstOf
-        start-done h many period counted switches =
+            → {w : Bool} → w ≡ m .turning || someLong k f d os
+            → {ns : List ℕ} → ns ≡ countersStarted k f P d os (m .counter) → {xs : List ℕ} → xs ≡ switchesStarted k f d os (m .on)
+            → doneWith (withCells m ns xs w) false ≡ launched n fs es qs os m t d
+        unfolding launched firstGiven
+        start-done h many period turns counted switches =
             rw (
               ne-eqb (m .core .runner) noRank busy,
               lt-leb n t some,
-              ← largest,
-              sym test ∙ good,
               ← from,
+              ← smallest,
+              sym test ∙ good,
               sym on ∙ h,
+              turns,
               counted,
               switches,
               many,
@@ -99,22 +108,22 @@ module _ (n : ℕ) (fs gs es qs os : List ℕ) (m : Model) (t d : ℕ) where
 -- Stop t
 module _ (n : ℕ) (fs es : List ℕ) (m : Model) (t : ℕ) where
   pub stop-idle : m .core .runner ≡ noRank → refusedWith m callLevel ≡ halted n fs es m t
-  unfolding halted firstOf
+  unfolding halted firstGiven
   stop-idle h = rw (eq-eqb (m .core .runner) noRank h)
 
   module _ (busy : m .core .runner ≡ noRank → ⊥) where
     pub stop-none : n ≤ t → refusedWith m noSuch ≡ halted n fs es m t
-    unfolding halted firstOf
+    unfolding halted firstGiven
     stop-none h = rw (ne-eqb (m .core .runner) noRank busy, le-leb n t h)
 
     module _ (some : t < n) {f : ℕ} (from : f ≡ getD fs t 0) {a : Bool} (on : a ≡ isOn (getD (m .on) f 0)) where
       pub stop-stopped : a ≡ false → refusedWith m noFunction ≡ halted n fs es m t
-      unfolding halted firstOf
+      unfolding halted firstGiven
       stop-stopped h = rw (ne-eqb (m .core .runner) noRank busy, lt-leb n t some, ← from, sym on ∙ h)
 
       pub stop-done : a ≡ true → {k : ℕ} → k ≡ getD es t 0
           → {ns : List ℕ} → ns ≡ countersStopped k f (m .counter) → {xs : List ℕ} → xs ≡ switched k f switchOff (m .on)
-          → doneWith (withCells m ns xs) false ≡ halted n fs es m t
-      unfolding halted firstOf
+          → doneWith (withCells m ns xs (m .turning)) false ≡ halted n fs es m t
+      unfolding halted firstGiven
       stop-done h many counted switches =
           rw (ne-eqb (m .core .runner) noRank busy, lt-leb n t some, ← from, sym on ∙ h, counted, switches, many)

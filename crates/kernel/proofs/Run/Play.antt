@@ -1,16 +1,15 @@
 -- The second pass over a trace: the answers so far and those still to come are the answers of the whole trace.
 --
---   tables-laid, offsets-reached              what the machine's methods count on
---   step-1 .. step-9, step-zero, step-none    what an arm's method hands back is the step of the event that was read
+--   tables-laid                               what the machine's methods count on
+--   step-1 .. step-9                          what an arm's method hands back is the step of the event that was read
 --   Playing                                   the invariant: `playable-start`, `playing-turn`, `playing-end`
 --
 -- Assumes nothing.
 use Prim.Native.Nat.{ℕ, suc, _+_, _*_, _≤_, _<_}
 use mathlib.Core.Path.{_≡_, refl, sym, ap, _∙_}
-use mathlib.Core.Bool.{false}
 use mathlib.Core.List.{List, [], _∷_, _++_, map, append-assoc, append-nil}
+use native.Mathlib.Nat.{not-le-of-lt}
 use native.Mathlib.Omega.{arith}
-use borrow.Author.Tests.{ne-eqb}
 use lib.ListN.{length, length-append}
 use Rattle.number.specs.Refusal.{none}
 use Rattle.number.specs.Output.{laid}
@@ -28,17 +27,17 @@ use Rattle.plan.specs.Rank.{rankOf}
 use Rattle.scheduler.specs.State.{State}
 use Rattle.scheduler.specs.Scheduler as Plain
 use Rattle.scheduler.specs.Scheduler.{fresh, step, markOf}
-use Rattle.machine.specs.Model.{Model, Outcome, doneWith}
-use Rattle.kernel.specs.Methods.{Laid, Reached}
+use Rattle.machine.specs.Model.{Model, Outcome}
+use Rattle.kernel.specs.Methods.{Laid}
 use Rattle.machine.specs.Events.{activated, finished, chained, got, released, tickedOnce, lined, launched, halted}
 use Rattle.machine.specs.Machine.{machineStep, runnerOf, machineSeen, machineAfter}
 use Rattle.run.specs.Run.{callOf, answerBytes}
 use Rattle.kernel.specs.Passes.{Playable}
-use Rattle.machine.proofs.Simulation.{Fitted, Sim}
-use Rattle.machine.proofs.Switching.{offset-le}
-use Rattle.machine.proofs.Agreement.{event-agrees}
-use Rattle.machine.proofs.Freshness.{fresh-sim}
-use Rattle.machine.proofs.Fitting.{fitted}
+use Rattle.machine.proofs.Relation.Fitted.{Fitted}
+use Rattle.machine.proofs.Relation.Whole.{Sim}
+use Rattle.machine.proofs.Whole.Lists.{event-agrees}
+use Rattle.machine.proofs.Whole.Fresh.{fresh-sim}
+use Rattle.machine.proofs.Whole.Plan.{fitted}
 use Rattle.kernel.proofs.Run.Bytes.{laid-none}
 
 -- what an arm's method hands back is the step of the event that was read
@@ -71,7 +70,7 @@ module _ (c : Config) (p : Plan) (m : Model) (e : Event) where
   unfolding callOf machineStep
   step-7 h = rw h
 
-  pub step-8 : e .code ≡ 8 → machineStep c p m (callOf e) ≡ launched (c .tables) (p .first) (p .largest) (c .entries) (c .period) (c .offset) m (e .first) (e .second)
+  pub step-8 : e .code ≡ 8 → machineStep c p m (callOf e) ≡ launched (c .tables) (p .first) (c .entries) (c .period) (c .offset) m (e .first) (e .second)
   unfolding callOf machineStep
   step-8 h = rw h
 
@@ -79,16 +78,14 @@ module _ (c : Config) (p : Plan) (m : Model) (e : Event) where
   unfolding callOf machineStep
   step-9 h = rw h
 
-  pub step-zero : e .code ≡ 0 → machineStep c p m (callOf e) ≡ doneWith m false
-  unfolding callOf machineStep
-  step-zero h = rw h
+past : (n : ℕ) {k : ℕ} → n ≤ k → (k ≡ n → ⊥) → n < k
+past n h d = omega arith
 
-  pub step-none : (e .code ≡ 1 → ⊥) → (e .code ≡ 2 → ⊥) → (e .code ≡ 3 → ⊥) → (e .code ≡ 4 → ⊥) → (e .code ≡ 5 → ⊥)
-      → (e .code ≡ 6 → ⊥) → (e .code ≡ 7 → ⊥) → (e .code ≡ 8 → ⊥) → (e .code ≡ 9 → ⊥) → machineStep c p m (callOf e) ≡ doneWith m false
-  unfolding callOf machineStep
-  step-none n1 n2 n3 n4 n5 n6 n7 n8 n9 =
-      let k = e .code in
-      rw (ne-eqb k 1 n1, ne-eqb k 2 n2, ne-eqb k 3 n3, ne-eqb k 4 n4, ne-eqb k 5 n5, ne-eqb k 6 n6, ne-eqb k 7 n7, ne-eqb k 8 n8, ne-eqb k 9 n9)
+-- no other code is left
+pub one-of-nine : (k : ℕ) → 1 ≤ k → k ≤ 9 → (k ≡ 1 → ⊥) → (k ≡ 2 → ⊥) → (k ≡ 3 → ⊥) → (k ≡ 4 → ⊥) → (k ≡ 5 → ⊥)
+    → (k ≡ 6 → ⊥) → (k ≡ 7 → ⊥) → (k ≡ 8 → ⊥) → (k ≡ 9 → ⊥) → ⊥
+one-of-nine k low high n1 n2 n3 n4 n5 n6 n7 n8 n9 =
+    not-le-of-lt (past 9 (past 8 (past 7 (past 6 (past 5 (past 4 (past 3 (past 2 (past 1 low n1) n2) n3) n4) n5) n6) n7) n8) n9) high
 
 module _ (c : Config) (p : Plan) (rk : ℕ → ℕ) (fit : Fitted c p rk) where
   -- what the methods count on of their tables
@@ -96,12 +93,6 @@ module _ (c : Config) (p : Plan) (rk : ℕ → ℕ) (fit : Fitted c p rk) where
   tables-laid =
       record {
         within = λ t h. rw (fit .first-at t h) (omega (arith, firstOf-step c t, firstOf-rises c (suc t) (c .tables) h, fit .few-entries));
-      }
-
-  pub offsets-reached : Reached (c .tables) (p .first) (p .largest) (c .entries) (c .offset)
-  offsets-reached =
-      record {
-        largest = λ t i h low high. rw (fit .largest-at t h) (offset-le c p rk fit t h i (rw (fit .first-at t h) at low) (omega (arith, firstOf-step c t, fit .first-at t h)));
       }
 
 -- the events from a place on
@@ -145,7 +136,7 @@ module _ (c : Config) (p : Plan) (ts d : List ℕ) (m₀ : Model) where
   pub playable-start : Playable c p m₀ ts (length d) → Playing c p ts d m₀ 0 0 m₀ d
   playable-start given =
       let fit : Fitted c p (rankOf c) = rw (given .planned) (fitted c (given .accepted) (given .shaped)) in
-      playing-start fit (fresh c) (rw (given .fresh) (fresh-sim c p (rankOf c) fit)) (given .readable) (given .room)
+      playing-start fit (fresh c) (rw (given .fresh) (fresh-sim fit)) (given .readable) (given .room)
 
   module _ (at to : ℕ) (m : Model) (out : List ℕ) (g : Playing c p ts d m₀ at to m out) where
     pub length-out : length out ≡ length d
@@ -178,6 +169,9 @@ module _ (c : Config) (p : Plan) (ts d : List ℕ) (m₀ : Model) where
       pub playing-later : at < r .place
       playing-later = rw read (event-reading ts at .after fine)
 
+      pub playing-known : (1 ≤ r .event .code) × (r .event .code ≤ 9)
+      playing-known = let w = event-reading ts at .writable fine in rw read (w .at-least, w .at-most)
+
       pub playing-room : to + 4 ≤ length out
       playing-room = omega (arith, g .room, length-out, ap (λ (t : TraceRead). length (t .events)) more)
 
@@ -188,7 +182,7 @@ module _ (c : Config) (p : Plan) (ts d : List ℕ) (m₀ : Model) where
           record {
             fit = g .fit;
             state = step c (g .state) (callOf (r .event)) .state;
-            sim = rw stepped (event-agrees c p (rankOf c) (g .fit) m (g .state) (callOf (r .event)) (g .sim) .sim);
+            sim = rw stepped (event-agrees (g .fit) (callOf (r .event)) (g .sim) .sim);
             bytes = g .bytes ++ answerOf p o;
             output =
                 wrote ∙ ap (laid to (answerOf p o)) (g .output) ∙ ap (λ (k : ℕ). laid k (answerOf p o) (laid 0 (g .bytes) d)) shift

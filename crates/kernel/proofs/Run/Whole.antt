@@ -10,14 +10,15 @@ use mathlib.Core.List.{List, _++_}
 use native.Mathlib.Omega.{arith}
 use lib.ListN.{length, length-append, length-map}
 use Rattle.number.specs.Refusal.{none, noRoom}
-use Rattle.number.specs.Output.{laid, written}
+use Rattle.number.specs.Output.{laid, written, packed}
 use Rattle.number.proofs.Laying.{laid-laid, laid-zero}
 use Rattle.config.specs.declared.Config.{Config}
 use Rattle.config.specs.Accepted.{Accepted, Shaped}
 use Rattle.config.specs.declared.ConfigRead.{ConfigRead}
 use Rattle.config.specs.Reader.{readConfig}
 use Rattle.config.proofs.Theorems.{reading, accepted-ranges}
-use Rattle.event.specs.Trace.{readTrace}
+use Rattle.event.specs.Refusal.{traceTooLong}
+use Rattle.event.specs.Trace.{maxTrace, readTrace}
 use Rattle.event.proofs.Theorems.{trace-reading}
 use Rattle.plan.specs.declared.Plan.{Plan}
 use Rattle.plan.specs.Rank.{rankOf}
@@ -25,9 +26,9 @@ use Rattle.plan.specs.Plan.{planOf}
 use Rattle.scheduler.specs.Scheduler.{Event}
 use Rattle.machine.specs.Model.{Model}
 use Rattle.machine.specs.Machine.{freshModel, lossesOf, machineSeen, machineAfter}
-use Rattle.machine.proofs.Simulation.{Fitted}
-use Rattle.machine.proofs.Fitting.{fitted}
-use Rattle.run.specs.Run.{callOf, callsOf, maxTrace, traceTooLong, played, readRun, answerBytes, lossBytes, packed}
+use Rattle.machine.proofs.Relation.Fitted.{Fitted}
+use Rattle.machine.proofs.Whole.Plan.{fitted}
+use Rattle.run.specs.Run.{callOf, callsOf, played, readRun, answerBytes, lossBytes}
 use Rattle.run.specs.Steps.{machineAnswers}
 use Rattle.run.proofs.Answers.{events, length-events, length-losses}
 use Rattle.run.proofs.Input.{config-refused, trace-too-long, trace-refused, all-readable, Ran, ran-refused, ran-short, ran-whole}

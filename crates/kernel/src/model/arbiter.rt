@@ -1,113 +1,98 @@
-// Who runs: the highest request wins, and is dispatched only strictly above the level; whom it preempts waits on the stack.
+// Who runs: of those that wait to begin or have begun the highest wins, and is dispatched only strictly above the level.
 ghost use mathlib.Core.Path.{_≡_};
-ghost use Rattle.stack.specs.Stack.{top, popped};
-ghost use Rattle.machine.specs.Model.{withFrames, doneWith};
-ghost use Rattle.machine.specs.Arbiter.{arbitrated, laidOn, settled, resumed, leaving, requesting};
-ghost use Rattle.kernel.specs.View.{view, viewCore, coreOf, pickedOf, modelOf, outcomeOf};
-use super::Core;
+ghost use mathlib.Core.Bool.{cond};
+ghost use lib.Dec.{eqb};
+ghost use Rattle.word.specs.Word.{without};
+ghost use Rattle.stack.specs.Stack.{topRow};
+ghost use Rattle.machine.specs.Model.{noRank, withCore, withRequest, doneWith};
+ghost use Rattle.machine.specs.Arbiter.{arbitrated, settled, leaving};
+ghost use Rattle.kernel.specs.View.{core, coreOf, view, pickedOf, outcomeOf};
 use super::DONE;
 use super::Model;
+use super::NO_RANK;
 use super::Outcome;
 use super::Picked;
 use super::lookup::byte_at;
-use stack::Stack;
+use stack::Row;
+use word::has;
+use word::union;
 use word::winner;
 use word::with;
 use word::without;
 
 impl Model {
-    // The model after arbitration, which ends every event that may let a body begin.
-    pub fn settled(self, priority: &[u8; 32]) -> Outcome
-        ensures { λ r. ⌜ r ≡ outcomeOf (settled (now (priority .entry)) (view self)) ⌝ }
+    // The model after arbitration, with these requests.
+    pub fn settled(self, request: u32, priority: &[u8; 32]) -> Outcome
+        ensures { λ r. ⌜ r ≡ outcomeOf (settled (now (priority .entry)) (withCore (view self) (withRequest (view self .core) request))) ⌝ }
     {
-        let core = self.core;
-        let picked = arbitrated(core, priority);
-        let stack = laid(picked.begun, self.stack, core.runner);
-        let levels = laid(picked.begun, self.levels, core.level);
-        self.with_frames(picked, stack, levels)
+        let picked = arbitrated(request, self.started, self.runner, self.level, priority);
+        self.seated(picked)
     }
 
-    // The same once the runner has ended.
-    pub fn ended(self, priority: &[u8; 32]) -> Outcome
-        ensures { λ r. ⌜ r ≡ outcomeOf (settled (now (priority .entry)) (leaving (view self))) ⌝ }
+    // The same once the runner has ended: whoever took the latest resource that is held takes its seat, or nobody does.
+    pub fn ended(self, request: u32, priority: &[u8; 32]) -> Outcome
+        ensures { λ r. ⌜ r ≡ outcomeOf (settled (now (priority .entry)) (withCore (view self) (withRequest (leaving (view self) .core) request))) ⌝ }
     {
-        let below = resumed(self.core, self.stack, self.levels);
-        let picked = arbitrated(below, priority);
-        let stack = left(picked.begun, self.stack);
-        let levels = left(picked.begun, self.levels);
-        self.with_frames(picked, stack, levels)
+        let started = without(self.started, self.runner as u32);
+        let holder = self.holder;
+        let level = latest_level(holder, self.raised);
+        let picked = arbitrated(request, started, holder.top(), level, priority);
+        self.seated(picked)
     }
 
-    // The model with the core that arbitration picked, and its stack.
-    pub fn with_frames(mut self, picked: Picked, stack: Stack, levels: Stack) -> Outcome
-        ensures { λ r. ⌜ r ≡ outcomeOf (doneWith (withFrames (view self) (viewCore (picked .core)) stack levels) (picked .begun)) ⌝ }
+    // The model with whom arbitration picked.
+    pub fn seated(mut self, picked: Picked) -> Outcome
+        ensures { λ r. ⌜ r ≡ outcomeOf (doneWith (withCore (view self) (coreOf picked)) (picked .begun)) ⌝ }
     {
-        let core = picked.core;
-        self.core = core;
-        self.stack = stack;
-        self.levels = levels;
+        self.request = picked.request;
+        self.started = picked.started;
+        self.runner = picked.runner;
+        self.level = picked.level;
         Outcome {
             model: self,
             status: DONE,
             begun: picked.begun,
         }
     }
-
-    // The body of this rank asked for.
-    pub fn requesting(mut self, rank: u8) -> Model
-        ensures { λ r. ⌜ r ≡ modelOf (requesting rank (view self)) ⌝ }
-    {
-        let request = with(self.core.request, rank as u32);
-        self.core.request = request;
-        self
-    }
 }
 
-// The core after arbitration. A winner that is dispatched has its request used up.
-pub fn arbitrated(core: Core, priority: &[u8; 32]) -> Picked
-    ensures { λ r. ⌜ r ≡ pickedOf (arbitrated (now (priority .entry)) (viewCore core)) ⌝ }
+// Who runs after arbitration.
+pub fn arbitrated(request: u32, started: u32, runner: u8, level: u8, priority: &[u8; 32]) -> Picked
+    ensures { λ r. ⌜ r ≡ pickedOf (arbitrated (now (priority .entry)) (core request started runner level)) ⌝ }
 {
-    let rank = winner(core.request);
-    let level = byte_at(priority, rank as usize, 0);
-    if level <= core.level {
-        return Picked { core, begun: false };
-    }
-    let request = without(core.request, rank);
-    let started = with(core.started, rank);
-    Picked {
-        core: Core {
+    let rank = winner(union(request, started));
+    let own = byte_at(priority, rank as usize, 0);
+    if own <= level {
+        return Picked {
             request,
             started,
-            runner: rank as u8,
+            runner,
             level,
-        },
-        begun: true,
+            begun: false,
+        };
+    }
+    let begun = !has(started, rank);
+    Picked {
+        request: used_up(begun, request, rank),
+        started: with(started, rank),
+        runner: rank as u8,
+        level: own,
+        begun,
     }
 }
 
-// The stack after arbitration: where a body began, whoever ran before waits on it.
-pub fn laid(begun: bool, below: Stack, x: u8) -> Stack
-    ensures { λ r. ⌜ r ≡ laidOn begun below x ⌝ }
+// The requests once a body has begun by its own; where it is resumed, a second one waits on.
+fn used_up(begun: bool, request: u32, rank: u32) -> u32
+    ensures { λ r. ⌜ r ≡ cond begun (without request rank) request ⌝ }
 {
-    if begun { below.push(x) } else { below }
+    let rest = without(request, rank);
+    if begun { rest } else { request }
 }
 
-// The core after its runner ended: who is on top of the stack runs again, at its level.
-fn resumed(core: Core, stack: Stack, levels: Stack) -> Core
-    ensures { λ r. ⌜ r ≡ coreOf (resumed stack levels (viewCore core)) ⌝ }
+// The level of whoever took the latest resource that is held, 0 where none is.
+fn latest_level(holder: Row, raised: Row) -> u8
+    ensures { λ r. ⌜ r ≡ cond (eqb (topRow holder) noRank) 0 (topRow raised) ⌝ }
 {
-    let started = without(core.started, core.runner as u32);
-    Core {
-        request: core.request,
-        started,
-        runner: stack.top(),
-        level: levels.top(),
-    }
-}
-
-// The stack after its runner ended and arbitration: where a body began, it preempts who was on top, so that nothing moves.
-fn left(begun: bool, stack: Stack) -> Stack
-    ensures { λ r. ⌜ r ≡ laidOn begun (popped stack) (top stack) ⌝ }
-{
-    if begun { stack } else { stack.pop() }
+    let level = raised.top();
+    if holder.top() == NO_RANK { 0 } else { level }
 }

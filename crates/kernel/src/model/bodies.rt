@@ -7,7 +7,6 @@ ghost use Rattle.machine.specs.Model.{noRank};
 ghost use Rattle.machine.specs.Events.{activated, finished, chained, lined};
 ghost use Rattle.kernel.specs.View.{view, outcomeOf};
 use super::CALL_LEVEL;
-use super::Core;
 use super::HOLDS_RESOURCE;
 use super::LIMIT;
 use super::Model;
@@ -16,36 +15,35 @@ use super::NO_SUCH;
 use super::Outcome;
 use super::lookup::byte_at;
 use word::has;
+use word::with;
 
 impl Model {
     pub fn activate<'a>(self, task_rank: &'a [u8; 32], priority: &'a [u8; 32], t: u32) -> Outcome
         ensures { λ r. ⌜ r ≡ outcomeOf (activated (now («task_rank» .entry)) (now (priority .entry)) (view self) t) ⌝ }
     {
-        let core = self.core;
-        if core.runner == NO_RANK {
+        if self.runner == NO_RANK {
             return self.with_status(CALL_LEVEL);
         }
         let rank = byte_at(task_rank, t as usize, NO_RANK);
         if rank == NO_RANK {
             return self.with_status(NO_SUCH);
         }
-        if busy(core.request, core.started, rank) {
+        if busy(self.request, self.started, rank) {
             return self.with_status(LIMIT);
         }
-        self.requesting(rank).settled(priority)
+        self.settled(with(self.request, rank as u32), priority)
     }
 
     pub fn finish(self, priority: &[u8; 32]) -> Outcome
         ensures { λ r. ⌜ r ≡ outcomeOf (finished (now (priority .entry)) (view self)) ⌝ }
     {
-        let core = self.core;
-        if core.runner == NO_RANK {
+        if self.runner == NO_RANK {
             return self.with_status(CALL_LEVEL);
         }
-        if self.holder.top() == core.runner {
+        if self.holder.top() == self.runner {
             return self.with_status(HOLDS_RESOURCE);
         }
-        self.ended(priority)
+        self.ended(self.request, priority)
     }
 
     pub fn chain<'a>(
@@ -57,35 +55,33 @@ impl Model {
     ) -> Outcome
         ensures { λ r. ⌜ r ≡ outcomeOf (chained isrs (now («task_rank» .entry)) (now (priority .entry)) (view self) t) ⌝ }
     {
-        let core = self.core;
-        if no_task_runs(isrs, core.runner) {
+        if no_task_runs(isrs, self.runner) {
             return self.with_status(CALL_LEVEL);
         }
         let rank = byte_at(task_rank, t as usize, NO_RANK);
         if rank == NO_RANK {
             return self.with_status(NO_SUCH);
         }
-        if self.holder.top() == core.runner {
+        if self.holder.top() == self.runner {
             return self.with_status(HOLDS_RESOURCE);
         }
-        if busy_beside(core, rank) {
+        if busy_beside(self.request, self.started, self.runner, rank) {
             return self.with_status(LIMIT);
         }
-        self.requesting(rank).ended(priority)
+        self.ended(with(self.request, rank as u32), priority)
     }
 
     pub fn line<'a>(self, line_rank: &'a [u8; 32], priority: &'a [u8; 32], i: u32) -> Outcome
         ensures { λ r. ⌜ r ≡ outcomeOf (lined (now («line_rank» .entry)) (now (priority .entry)) (view self) i) ⌝ }
     {
-        let core = self.core;
         let rank = byte_at(line_rank, i as usize, NO_RANK);
         if rank == NO_RANK {
             return self.with_status(NO_SUCH);
         }
-        if has(core.request, rank as u32) {
+        if has(self.request, rank as u32) {
             return self.with_status(LIMIT);
         }
-        self.requesting(rank).settled(priority)
+        self.settled(with(self.request, rank as u32), priority)
     }
 }
 
@@ -97,10 +93,10 @@ pub fn busy(request: u32, started: u32, rank: u8) -> bool
 }
 
 // The same, of any body but the runner.
-fn busy_beside(core: Core, rank: u8) -> bool
-    ensures { λ r. ⌜ r ≡ (has (core .request) rank || has (core .started) rank) && not (eqb rank (core .runner)) ⌝ }
+fn busy_beside(request: u32, started: u32, runner: u8, rank: u8) -> bool
+    ensures { λ r. ⌜ r ≡ (has request rank || has started rank) && not (eqb rank runner) ⌝ }
 {
-    rank != core.runner && busy(core.request, core.started, rank)
+    rank != runner && busy(request, started, rank)
 }
 
 // Whether nobody runs, or an ISR does.

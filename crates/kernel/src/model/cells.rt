@@ -1,10 +1,11 @@
 // The cells of the entries, as parallel arrays: what a tick, a start and a stop make of them.
 ghost use mathlib.Core.Path.{_≡_};
+ghost use mathlib.Core.Bool.{true, false, _||_};
 ghost use Prim.Native.Nat.{_+_, _≤_};
 ghost use lib.ListN.{length, getD, set, take, drop};
 ghost use Rattle.config.specs.Value.{maxEntries};
-ghost use Rattle.machine.specs.Cells.{countersTicked, marks, countersStarted, countersStopped, switched, oneMore, matchAt, requestsDue};
-ghost use Rattle.kernel.specs.Methods.{Delays, dueWith, group, marksWord};
+ghost use Rattle.machine.specs.Cells.{countersTicked, switchFor, switchesTicked, someTurn, marks, countersStarted, switchesStarted, someLong, countersStopped, switched, oneMore, matchAt, requestsDue};
+ghost use Rattle.kernel.specs.Methods.{dueWith, group, marksWord};
 use super::NO_RANK;
 use super::bodies::busy;
 use super::lookup::byte_at;
@@ -15,31 +16,107 @@ use word::with;
 const CELLS: usize = 64;
 
 // The switch of a cell (its enable): a number as wide as a counter, so that the compiler ticks several cells at once.
-pub const ON: u16 = 1;
-
 pub const OFF: u16 = 0;
+
+const ON: u16 = 1;
+
+// On, and a turn of the counter must pass unmatched.
+const TURN: u16 = 2;
 
 // How many match marks are looked at in one go.
 const GROUP: usize = 8;
 
-// Ticks every cell, and gives their match marks.
+// Ticks every cell's counter, and gives their match marks. Turns to pass are rare, and a loop that need not look at them is shorter.
 pub fn tick_cells<'a, 'b>(
+    turning: bool,
     compare: &'a [u16; 64],
     on: &'a [u16; 64],
     counter: &'b mut [u16; 64],
 ) -> [bool; 64]
-    ensures { λ r. ⌜ r ≡ marks maxEntries 0 (now (compare .entry)) (now (on .entry)) (now (counter .entry)) ⌝ }
-    ensures { λ _. ⌜ now (counter .exit) ≡ countersTicked maxEntries 0 (now (compare .entry)) (now (on .entry)) (now (counter .entry)) ⌝ }
+    ensures { λ r. ⌜ r ≡ marks maxEntries 0 turning (now (compare .entry)) (now (on .entry)) (now (counter .entry)) ⌝ }
+    ensures { λ _. ⌜ now (counter .exit) ≡ countersTicked maxEntries 0 turning (now (compare .entry)) (now (on .entry)) (now (counter .entry)) ⌝ }
+{
+    if turning {
+        return tick_turning(compare, on, counter);
+    }
+    tick_plain(compare, on, counter)
+}
+
+// The same where no cell has a turn to pass.
+fn tick_plain<'a, 'b>(
+    compare: &'a [u16; 64],
+    on: &'a [u16; 64],
+    counter: &'b mut [u16; 64],
+) -> [bool; 64]
+    ensures { λ r. ⌜ r ≡ marks maxEntries 0 false (now (compare .entry)) (now (on .entry)) (now (counter .entry)) ⌝ }
+    ensures { λ _. ⌜ now (counter .exit) ≡ countersTicked maxEntries 0 false (now (compare .entry)) (now (on .entry)) (now (counter .entry)) ⌝ }
 {
     let mut matched = [false; 64];
     let mut e = 0;
     while e < CELLS {
-        let cell = Cell::of(counter[e], compare[e], on[e] == ON).tick();
+        let cell = Cell::of(counter[e], compare[e], on[e] != OFF, false).tick();
         counter[e] = cell.counter;
         matched[e] = cell.matched;
         e += 1;
     }
     matched
+}
+
+// The same where a cell may have one.
+fn tick_turning<'a, 'b>(
+    compare: &'a [u16; 64],
+    on: &'a [u16; 64],
+    counter: &'b mut [u16; 64],
+) -> [bool; 64]
+    ensures { λ r. ⌜ r ≡ marks maxEntries 0 true (now (compare .entry)) (now (on .entry)) (now (counter .entry)) ⌝ }
+    ensures { λ _. ⌜ now (counter .exit) ≡ countersTicked maxEntries 0 true (now (compare .entry)) (now (on .entry)) (now (counter .entry)) ⌝ }
+{
+    let mut matched = [false; 64];
+    let mut e = 0;
+    while e < CELLS {
+        let switch = on[e];
+        let cell = Cell::of(counter[e], compare[e], switch != OFF, switch == TURN).tick();
+        counter[e] = cell.counter;
+        matched[e] = cell.matched;
+        e += 1;
+    }
+    matched
+}
+
+// The switches after a tick that meets these counters: a turn may have passed.
+pub fn tick_switches<'a, 'b>(compare: &'a [u16; 64], counter: &'a [u16; 64], on: &'b mut [u16; 64])
+    ensures { λ _. ⌜ now (on .exit) ≡ switchesTicked maxEntries 0 (now (compare .entry)) (now (counter .entry)) (now (on .entry)) ⌝ }
+{
+    let mut e = 0;
+    while e < CELLS {
+        let switch = on[e];
+        let cell = Cell::of(counter[e], compare[e], switch != OFF, switch == TURN).tick();
+        on[e] = switch_for(switch != OFF, cell.turn);
+        e += 1;
+    }
+}
+
+fn switch_for(on: bool, turn: bool) -> u16
+    ensures { λ r. ⌜ r ≡ switchFor on turn ⌝ }
+{
+    if turn {
+        return TURN;
+    }
+    if on { ON } else { OFF }
+}
+
+// Whether any cell has a turn to pass.
+pub fn some_turn(on: &[u16; 64]) -> bool
+    ensures { λ r. ⌜ r ≡ someTurn maxEntries 0 (now (on .entry)) ⌝ }
+{
+    let mut found = false;
+    let mut e = 0;
+    while e < CELLS {
+        let switch = on[e];
+        found = found || switch == TURN;
+        e += 1;
+    }
+    found
 }
 
 // Takes the matches in table order, and gives the requests after them; `ranks` are those of the entries' tasks.
@@ -130,26 +207,33 @@ fn one_more(n: u16) -> u16
     if n < u16::MAX { n + 1 } else { u16::MAX }
 }
 
-// Starts the counters of `count` cells.
-pub fn start_counters<'a, 'b>(
+// Starts `count` cells, and says whether any cell has a turn to pass then; `turning`: whether one had before.
+pub fn start_cells<'a, 'b, 'c>(
+    turning: bool,
     from: usize,
     count: usize,
     period: u16,
     delay: u16,
     offset: &'a [u16; 64],
     counter: &'b mut [u16; 64],
-)
+    on: &'c mut [u16; 64],
+) -> bool
     requires { ⌜ from + count ≤ maxEntries ⌝ }
-    requires { ⌜ Delays from count delay (now offset) ⌝ }
+    ensures { λ r. ⌜ r ≡ turning || someLong count from delay (now (offset .entry)) ⌝ }
     ensures { λ _. ⌜ now (counter .exit) ≡ countersStarted count from period delay (now (offset .entry)) (now (counter .entry)) ⌝ }
+    ensures { λ _. ⌜ now (on .exit) ≡ switchesStarted count from delay (now (offset .entry)) (now (on .entry)) ⌝ }
 {
     let until = from + count;
+    let mut some = turning;
     let mut e = from;
     while e < until {
-        let cell = Cell::start(period, delay + offset[e]);
+        let cell = Cell::start(period, delay, offset[e]);
         counter[e] = cell.counter;
+        on[e] = switch_for(true, cell.turn);
+        some = some || cell.turn;
         e += 1;
     }
+    some
 }
 
 // Sets the counters of `count` cells to 0.
@@ -165,7 +249,7 @@ pub fn stop_counters(from: usize, count: usize, counter: &mut [u16; 64])
     }
 }
 
-// Switches `count` cells on or off.
+// Sets the switches of `count` cells.
 pub fn switch(from: usize, count: usize, to: u16, on: &mut [u16; 64])
     requires { ⌜ from + count ≤ maxEntries ⌝ }
     ensures { λ _. ⌜ now (on .exit) ≡ switched count from to (now (on .entry)) ⌝ }

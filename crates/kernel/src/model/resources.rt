@@ -16,6 +16,7 @@ use super::NO_FUNCTION;
 use super::NO_RANK;
 use super::NO_SUCH;
 use super::Outcome;
+use super::arbiter::arbitrated;
 use super::lookup::byte_at;
 use stack::Row;
 use word::has;
@@ -32,47 +33,45 @@ impl Model {
     ) -> Outcome
         ensures { λ o. ⌜ o ≡ outcomeOf (got resources (now (ceiling .entry)) (now (priority .entry)) (view self) r) ⌝ }
     {
-        let core = self.core;
-        if core.runner == NO_RANK {
+        if self.runner == NO_RANK {
             return self.with_status(CALL_LEVEL);
         }
         if resources as u32 <= r {
             return self.with_status(NO_SUCH);
         }
         let top = byte_at(ceiling, r as usize, 0);
-        let own = byte_at(priority, core.runner as usize, 0);
+        let own = byte_at(priority, self.runner as usize, 0);
         if withheld(self.held, r, top, own) {
             return self.with_status(ACCESS);
         }
-        let level = higher(top, core.level);
+        let level = higher(top, self.level);
         self.held = with(self.held, r);
         self.resource = self.resource.push(r as u8);
-        self.holder = self.holder.push(core.runner);
+        self.holder = self.holder.push(self.runner);
         self.raised = self.raised.push(level);
-        self.core.level = level;
+        self.level = level;
         self.with_status(DONE)
     }
 
     pub fn release(mut self, resources: u8, priority: &[u8; 32], r: u32) -> Outcome
         ensures { λ o. ⌜ o ≡ outcomeOf (released resources (now (priority .entry)) (view self) r) ⌝ }
     {
-        let core = self.core;
-        if core.runner == NO_RANK {
+        if self.runner == NO_RANK {
             return self.with_status(CALL_LEVEL);
         }
         if resources as u32 <= r {
             return self.with_status(NO_SUCH);
         }
-        if !is_latest(self.resource, self.holder, core.runner, r) {
+        if !is_latest(self.resource, self.holder, self.runner, r) {
             return self.with_status(NO_FUNCTION);
         }
-        let level = level_without(self.holder, self.raised, core.runner, priority);
-        self.core.level = level;
+        let level = level_without(self.holder, self.raised, self.runner, priority);
+        let picked = arbitrated(self.request, self.started, self.runner, level, priority);
         self.held = without(self.held, r);
         self.resource = self.resource.pop();
         self.holder = self.holder.pop();
         self.raised = self.raised.pop();
-        self.settled(priority)
+        self.seated(picked)
     }
 }
 

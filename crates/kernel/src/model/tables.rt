@@ -5,15 +5,13 @@ ghost use Prim.Native.Nat.{_+_};
 ghost use lib.Dec.{ltb, eqb};
 ghost use lib.ListN.{getD};
 ghost use Rattle.scheduler.specs.Call.{longestDelay};
-ghost use Rattle.machine.specs.Model.{withRequest};
 ghost use Rattle.machine.specs.Cells.{isOn};
 ghost use Rattle.machine.specs.Events.{tickedOnce, launched, halted};
-ghost use Rattle.kernel.specs.Methods.{Laid, Reached};
-ghost use Rattle.kernel.specs.View.{view, viewCore, coreOf, outcomeOf};
+ghost use Rattle.kernel.specs.Methods.{Laid};
+ghost use Rattle.kernel.specs.View.{view, outcomeOf};
 use super::ALREADY_RUNS;
 use super::BAD_DELAY;
 use super::CALL_LEVEL;
-use super::Core;
 use super::DONE;
 use super::Model;
 use super::NO_FUNCTION;
@@ -21,19 +19,18 @@ use super::NO_RANK;
 use super::NO_SUCH;
 use super::Outcome;
 use super::arbiter::arbitrated;
-use super::arbiter::laid;
 use super::cells::OFF;
-use super::cells::ON;
-use super::cells::start_counters;
+use super::cells::some_turn;
+use super::cells::start_cells;
 use super::cells::stop_counters;
 use super::cells::switch;
 use super::cells::take_matches;
 use super::cells::tick_cells;
+use super::cells::tick_switches;
 use super::lookup::byte_at;
 use super::lookup::short_at;
 
 impl Model {
-    // It ends as `settled` does; called with the new counters and losses, that would make the compiler copy them once more.
     pub fn tick<'a>(
         mut self,
         compare: &'a [u16; 64],
@@ -42,31 +39,32 @@ impl Model {
     ) -> Outcome
         ensures { λ r. ⌜ r ≡ outcomeOf (tickedOnce (now (compare .entry)) (now («entry_rank» .entry)) (now (priority .entry)) (view self)) ⌝ }
     {
-        let core = self.core;
+        let started = self.started;
+        let asked = self.request;
+        let runner = self.runner;
+        let level = self.level;
+        let turning = self.turning;
         let mut losses = self.losses;
         let on = self.on;
         let mut counter = self.counter;
-        let matched = tick_cells(compare, &on, &mut counter);
-        let request = take_matches(
-            &matched,
-            entry_rank,
-            core.started,
-            core.request,
-            &mut losses,
-        );
-        let picked = arbitrated(asking(core, request), priority);
-        let stack = laid(picked.begun, self.stack, core.runner);
-        let levels = laid(picked.begun, self.levels, core.level);
+        if turning {
+            let mut next = on;
+            tick_switches(compare, &counter, &mut next);
+            self.turning = some_turn(&next);
+            self.on = next;
+        }
+        let matched = tick_cells(turning, compare, &on, &mut counter);
+        let request = take_matches(&matched, entry_rank, started, asked, &mut losses);
+        let picked = arbitrated(request, started, runner, level, priority);
         self.counter = counter;
         self.losses = losses;
-        self.with_frames(picked, stack, levels)
+        self.seated(picked)
     }
 
     pub fn start<'a>(
         mut self,
         tables: u8,
         first: &'a [u8; 8],
-        largest: &'a [u16; 8],
         entries: &'a [u8; 8],
         period: &'a [u16; 8],
         offset: &'a [u16; 64],
@@ -74,30 +72,38 @@ impl Model {
         d: u32,
     ) -> Outcome
         requires { ⌜ Laid tables (now first) (now entries) ⌝ }
-        requires { ⌜ Reached tables (now first) (now largest) (now entries) (now offset) ⌝ }
-        ensures { λ r. ⌜ r ≡ outcomeOf (launched tables (now (first .entry)) (now (largest .entry)) (now (entries .entry)) (now (period .entry)) (now (offset .entry)) (view self) t d) ⌝ }
+        ensures { λ r. ⌜ r ≡ outcomeOf (launched tables (now (first .entry)) (now (entries .entry)) (now (period .entry)) (now (offset .entry)) (view self) t d) ⌝ }
     {
-        if self.core.runner == NO_RANK {
+        if self.runner == NO_RANK {
             return self.with_status(CALL_LEVEL);
         }
         if tables as u32 <= t {
             return self.with_status(NO_SUCH);
         }
         let i = t as usize;
-        let mut on = self.on;
-        if is_bad_delay(d, short_at(largest, i)) {
+        let from = byte_at(first, i, 0) as usize;
+        if is_bad_delay(d, short_at(offset, from)) {
             return self.with_status(BAD_DELAY);
         }
-        let from = byte_at(first, i, 0) as usize;
+        let mut on = self.on;
         if is_on(&on, from) {
             return self.with_status(ALREADY_RUNS);
         }
         let n = byte_at(entries, i, 0) as usize;
         let mut counter = self.counter;
-        start_counters(from, n, short_at(period, i), d as u16, offset, &mut counter);
-        switch(from, n, ON, &mut on);
+        let turning = start_cells(
+            self.turning,
+            from,
+            n,
+            short_at(period, i),
+            d as u16,
+            offset,
+            &mut counter,
+            &mut on,
+        );
         self.counter = counter;
         self.on = on;
+        self.turning = turning;
         self.with_status(DONE)
     }
 
@@ -111,7 +117,7 @@ impl Model {
         requires { ⌜ Laid tables (now first) (now entries) ⌝ }
         ensures { λ r. ⌜ r ≡ outcomeOf (halted tables (now (first .entry)) (now (entries .entry)) (view self) t) ⌝ }
     {
-        if self.core.runner == NO_RANK {
+        if self.runner == NO_RANK {
             return self.with_status(CALL_LEVEL);
         }
         if tables as u32 <= t {
@@ -137,24 +143,12 @@ impl Model {
 fn is_on(on: &[u16; 64], e: usize) -> bool
     ensures { λ r. ⌜ r ≡ isOn (getD (now (on .entry)) e 0) ⌝ }
 {
-    short_at(on, e) == ON
+    short_at(on, e) != OFF
 }
 
-// A delay of 0, or one with which the entry at the table's largest offset would be out of the counter's reach.
-fn is_bad_delay(d: u32, largest: u16) -> bool
-    ensures { λ r. ⌜ r ≡ eqb d 0 || ltb longestDelay (d + largest) ⌝ }
+// A delay of 0, or one that with the table's smallest offset is above 65,535.
+fn is_bad_delay(d: u32, smallest: u16) -> bool
+    ensures { λ r. ⌜ r ≡ eqb d 0 || ltb longestDelay (d + smallest) ⌝ }
 {
-    d == 0 || 65535 < d as u64 + largest as u64
-}
-
-// The core with other requests.
-fn asking(core: Core, request: u32) -> Core
-    ensures { λ r. ⌜ r ≡ coreOf (withRequest (viewCore core) request) ⌝ }
-{
-    Core {
-        request,
-        started: core.started,
-        runner: core.runner,
-        level: core.level,
-    }
+    d == 0 || 65535 < d as u64 + smallest as u64
 }

@@ -1,5 +1,5 @@
--- `cell::Cell::tick` meets its contract: its count, its mark and its counter are those of `ticked-made`, whichever way each test went.
--- Assumes nothing.
+-- `cell::Cell::tick` meets its contract: its count, its mark, its counter and its turn are those of `ticked-made`, whichever way each test
+-- went. Assumes nothing.
 use borrow.Author.Needs.{needs}
 use mathlib.Core.Logic.{⊎-elim}
 use mathlib.Core.Path.{_∙_}
@@ -16,14 +16,18 @@ make-requires c κs = search needs
 
 returns : tie.Need-returns
 returns c =
-    let set = c .before in
+    let turned = c .before in
+    let set = turned .before in
     let marked = set .before in
-    let counted = marked .before in
+    let reached = marked .before in
+    let counted = reached .before in
     c .make .ensures
-    ∙ ticked-made modulus (counted .before .args .self) (counted .if1 .counter) (marked .if2 .matched) (set .if3 .next)
+    ∙ ticked-made modulus (counted .before .args .self) (counted .if1 .counter) (reached .if2 .reached) (marked .if3 .matched) (set .if4 .next) (turned .if5 .turn)
     (⊎-elim (λ w. rw (w .0 .taken) (w .2 ∙ w .1 .ensures)) (λ w. rw (w .0 .left) (w .1)) (counted .if1 .came))
-    (⊎-elim (λ w. rw (w .0 .taken) (w .1)) (λ w. rw (w .0 .left) (w .1 ∙ w .0 .left)) (marked .if2 .came))
-    (⊎-elim (λ w. rw (w .0 .taken) (w .1)) (λ w. rw (w .0 .left) (w .1)) (set .if3 .came))
+    (⊎-elim (λ w. rw (w .0 .taken) (w .1)) (λ w. rw (w .0 .left) (w .1 ∙ w .0 .left)) (reached .if2 .came))
+    (⊎-elim (λ w. rw (w .0 .taken) (w .2)) (λ w. rw (w .0 .left) (w .1 ∙ w .0 .left)) (marked .if3 .came))
+    (⊎-elim (λ w. rw (w .0 .taken) (w .1)) (λ w. rw (w .0 .left) (w .1)) (set .if4 .came))
+    (⊎-elim (λ w. rw (w .0 .taken) (w .1)) (λ w. rw (w .0 .left) (w .1 ∙ w .0 .left)) (turned .if5 .came))
 
 pub tick-spec : {M : Type 1} → statement M
 tick-spec = tie.close (tie.spec wrapping-add-u16-requires make-requires returns)

@@ -12,8 +12,8 @@ use Rattle.scheduler.specs.Scheduler.{markOf}
 use Rattle.machine.specs.Machine.{machineStep}
 use Rattle.run.specs.Run.{callOf}
 use Rattle.kernel.specs.View.{view, modelOf, viewOutcome}
-use Rattle.kernel.proofs.Run.Play.{step-1, step-2, step-3, step-4, step-5, step-6, step-7, step-8, step-9, step-zero, step-none, tables-laid, offsets-reached}
-use Rattle.kernel.proofs.Run.Play.{Playing, playable-start, length-out, playing-end, playing-later, playing-room, playing-turn}
+use Rattle.kernel.proofs.Run.Play.{step-1, step-2, step-3, step-4, step-5, step-6, step-7, step-8, step-9, one-of-nine, tables-laid}
+use Rattle.kernel.proofs.Run.Play.{Playing, playable-start, length-out, playing-end, playing-later, playing-known, playing-room, playing-turn}
 use Rattle.kernel.proofs.play.play.Statement.{statement}
 use Rattle.kernel.proofs.play.play.Tie as tie
 
@@ -51,9 +51,9 @@ line-requires : tie.Need-line-requires Inv-loop μ-loop
 line-requires c κs = tt
 
 start-requires : tie.Need-start-requires Inv-loop μ-loop
-start-requires c κs = let k = c .before .before .before .before .before .before .before .before .before .before .before in
+start-requires c κs = let k = c .before .before .before .before .before .before .before .before .before .before in
     let a = k .before .before .before .args in
-    (tables-laid (a .t1) (a .t2) (rankOf (a .t1)) (k .loop .inv .fit), offsets-reached (a .t1) (a .t2) (rankOf (a .t1)) (k .loop .inv .fit))
+    tables-laid (a .t1) (a .t2) (rankOf (a .t1)) (k .loop .inv .fit)
 
 stop-requires : tie.Need-stop-requires Inv-loop μ-loop
 stop-requires c κs = let k = c .before .before .before .before .before .before .before .before in
@@ -72,6 +72,12 @@ later r =
     let k = r .before .before in
     let a = k .before .before .before .args in
     playing-later (a .t1) (a .t2) (a .trace .now) (a .out .now) (view (a .fresh)) (k .loop .at) (k .loop .to) (view (k .loop .o .model)) (k .loop .out) (k .loop .inv) (r .before .loop-test .taken) (r .read-event .result) (r .read-event .ensures)
+
+known : (r : tie.After-read-event Inv-loop μ-loop) → (1 ≤ r .read-event .result .event .code) × (r .read-event .result .event .code ≤ 9)
+known r =
+    let k = r .before .before in
+    let a = k .before .before .before .args in
+    playing-known (a .t1) (a .t2) (a .trace .now) (a .out .now) (view (a .fresh)) (k .loop .at) (k .loop .to) (view (k .loop .o .model)) (k .loop .out) (k .loop .inv) (r .before .loop-test .taken) (r .read-event .result) (r .read-event .ensures)
 
 long : (k : tie.At-loop Inv-loop μ-loop) → length (k .loop .out) ≡ length (k .before .before .before .args .out .now)
 long k =
@@ -101,14 +107,14 @@ stepped j =
     (λ z6.
     ⊎-elim (λ w. ap viewOutcome (w .5 ∙ w .4 .ensures) ∙ sym (step-7 (a .t1) (a .t2) m e (w .0 .keys7)))
     (λ z7.
-    ⊎-elim (λ w. ap viewOutcome (w .9 ∙ w .8 .ensures) ∙ sym (step-8 (a .t1) (a .t2) m e (w .0 .keys8)))
+    ⊎-elim (λ w. ap viewOutcome (w .8 ∙ w .7 .ensures) ∙ sym (step-8 (a .t1) (a .t2) m e (w .0 .keys8)))
     (λ z8.
     ⊎-elim (λ w. ap viewOutcome (w .6 ∙ w .5 .ensures) ∙ sym (step-9 (a .t1) (a .t2) m e (w .0 .keys9)))
     (λ z9.
     ⊎-elim
-    (λ w. ap viewOutcome (w .1) ∙ sym (step-zero (a .t1) (a .t2) m e (w .0 .keys10)))
-    (λ w. ap viewOutcome (w .1)
-    ∙ sym (step-none (a .t1) (a .t2) m e (λ h. w .0 .rest .0 .0 .0 .0 .0 .0 .0 .0 .0 .1 h) (λ h. w .0 .rest .0 .0 .0 .0 .0 .0 .0 .0 .1 h) (λ h. w .0 .rest .0 .0 .0 .0 .0 .0 .0 .1 h) (λ h. w .0 .rest .0 .0 .0 .0 .0 .0 .1 h) (λ h. w .0 .rest .0 .0 .0 .0 .0 .1 h) (λ h. w .0 .rest .0 .0 .0 .0 .1 h) (λ h. w .0 .rest .0 .0 .0 .1 h) (λ h. w .0 .rest .0 .0 .1 h) (λ h. w .0 .rest .0 .1 h))) z9) z8) z7) z6) z5) z4) z3) z2) z1) (j .match .came)
+    (λ w. absurd (omega (arith, w .0 .keys10, known (j .before .before))))
+    (λ w. absurd
+    (one-of-nine (e .code) (known (j .before .before) .0) (known (j .before .before) .1) (λ h. w .0 .rest .0 .0 .0 .0 .0 .0 .0 .0 .0 .1 h) (λ h. w .0 .rest .0 .0 .0 .0 .0 .0 .0 .0 .1 h) (λ h. w .0 .rest .0 .0 .0 .0 .0 .0 .0 .1 h) (λ h. w .0 .rest .0 .0 .0 .0 .0 .0 .1 h) (λ h. w .0 .rest .0 .0 .0 .0 .0 .1 h) (λ h. w .0 .rest .0 .0 .0 .0 .1 h) (λ h. w .0 .rest .0 .0 .0 .1 h) (λ h. w .0 .rest .0 .0 .1 h) (λ h. w .0 .rest .0 .1 h))) z9) z8) z7) z6) z5) z4) z3) z2) z1) (j .match .came)
 
 runner-requires : tie.Need-runner-requires Inv-loop μ-loop
 runner-requires c κs = tt
@@ -135,7 +141,7 @@ loop-again c =
     playing-turn (a .t1) (a .t2) (a .trace .now) (a .out .now) (view (a .fresh)) (k .loop .at) (k .loop .to) (view (k .loop .o .model)) (k .loop .out) (k .loop .inv) (r .before .loop-test .taken) (r .read-event .result) (r .read-event .ensures)
     (viewOutcome (j .match .o)) (stepped j) _
     (p .put-answer .ensures
-    ∙ ap (λ (n : ℕ). laid (k .loop .to) (j .match .o .status ∷ n ∷ j .match .o .model .core .level ∷ markOf (j .match .o .begun) ∷ []) (k .loop .out)) (p .before .before .runner .ensures))
+    ∙ ap (λ (n : ℕ). laid (k .loop .to) (j .match .o .status ∷ n ∷ j .match .o .model .level ∷ markOf (j .match .o .begun) ∷ []) (k .loop .out)) (p .before .before .runner .ensures))
 
 same-length : tie.Need-same-length Inv-loop μ-loop
 same-length c = long (c .before .before)

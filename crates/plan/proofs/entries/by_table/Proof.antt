@@ -7,23 +7,22 @@ use lib.ListN.{length, getD, replicate}
 use borrow.Author.Needs.{needs}
 use Rattle.config.specs.Value.{maxTables}
 use Rattle.config.specs.Meaning.{entriesBefore}
-use Rattle.plan.specs.Entry.{firstIn, largestIn}
+use Rattle.plan.specs.Entry.{firstIn}
 use Rattle.plan.specs.Stored.{stored, listed}
 use Rattle.plan.proofs.Stored.{stored-turn}
 use mir.Val.{Fits}
 use mir.Syntax.{w8}
-use Rattle.plan.proofs.Entry.{table-passed, first-known, largest-known}
+use Rattle.plan.proofs.Entry.{table-passed, first-known}
 use Rattle.plan.proofs.entries.by_table.Statement.{statement}
 use Rattle.plan.proofs.entries.by_table.Tie as tie
 
 abbrev Inv-loop : tie.InvT-loop
-Inv-loop offset n entries first₀ most₀ e₀ t₀ first most e t =
+Inv-loop n entries first₀ e₀ t₀ first e t =
     (t ≤ n) × (e ≤ 255 * t) × (e ≡ entriesBefore entries t)
     × (first ≡ listed (firstIn entries) t (replicate maxTables 0))
-    × (most ≡ listed (largestIn entries offset) t (replicate maxTables 0))
 
 abbrev μ-loop : tie.MeasureT-loop
-μ-loop offset n entries first₀ most₀ e₀ t₀ first most e t = n - t
+μ-loop n entries first₀ e₀ t₀ first e t = n - t
 
 sized : (c : tie.Start Inv-loop μ-loop) → length (c .args .t1) ≡ maxTables
 sized c = search needs
@@ -33,7 +32,7 @@ small c t h = let f : Fits w8 (getD (c .args .t1) t 0) = search needs in omega a
 
 loop-holds : tie.Need-loop-holds Inv-loop μ-loop
 unfolding stored entriesBefore
-loop-holds c = (omega arith, omega arith, refl, refl, refl)
+loop-holds c = (omega arith, omega arith, refl, refl)
 
 array-read-k : tie.Need-array-read-k Inv-loop μ-loop
 array-read-k c = omega arith
@@ -50,17 +49,8 @@ cast-first c = omega (arith, c .at-most .ensures)
 array-write-first : tie.Need-array-write-first Inv-loop μ-loop
 array-write-first c = omega arith
 
-largest-requires : tie.Need-largest-requires Inv-loop μ-loop
-largest-requires c κs = (omega arith, omega (arith, small (c .before .before .before) (c .before .before .loop .t) (omega arith)))
-
-mul-most : tie.Need-mul-most Inv-loop μ-loop
-mul-most c = omega arith
-
-array-write-most : tie.Need-array-write-most Inv-loop μ-loop
-array-write-most c = omega arith
-
 add-e : tie.Need-add-e Inv-loop μ-loop
-add-e c = omega (arith, small (c .before .before .before .before) (c .before .before .before .loop .t) (omega arith))
+add-e c = omega (arith, small (c .before .before .before) (c .before .before .loop .t) (omega arith))
 
 add-t : tie.Need-add-t Inv-loop μ-loop
 add-t c = omega arith
@@ -69,13 +59,12 @@ loop-less : tie.Need-loop-less Inv-loop μ-loop
 loop-less c = omega arith
 
 loop-again : tie.Need-loop-again Inv-loop μ-loop
-loop-again c = let a = c .before .before .before .before .args in let l = c .before .before .before .loop in
-    let k = small (c .before .before .before .before) (l .t) (omega arith) in (
+loop-again c = let a = c .before .before .before .args in let l = c .before .before .loop in
+    let k = small (c .before .before .before) (l .t) (omega arith) in (
       omega arith,
       omega arith,
-      table-passed (a .t1) (l .t) (l .e) (omega (arith, sized (c .before .before .before .before))) (l .inv .2),
-      stored-turn _ _ _ _ _ _ _ (l .inv .3) refl (first-known (a .t1) (l .t) (l .e) (l .inv .2) (c .before .at-most .result) (c .before .at-most .ensures)),
-      stored-turn _ _ _ _ _ _ _ (l .inv .4) refl (largest-known (a .t1) (l .t) (l .e) (l .inv .2) (a .offset) (c .largest .result) (c .largest .ensures)),
+      table-passed (a .t1) (l .t) (l .e) (omega (arith, sized (c .before .before .before))) (l .inv .2),
+      stored-turn _ _ _ _ _ _ _ (l .inv .3) refl (first-known (a .t1) (l .t) (l .e) (l .inv .2) (c .at-most .result) (c .at-most .ensures)),
     )
 
 at-most-requires-2 : tie.Need-at-most-requires-2 Inv-loop μ-loop
@@ -83,7 +72,7 @@ at-most-requires-2 c κs = tt
 
 returns : tie.Need-returns Inv-loop μ-loop
 returns c = let h : c .before .before .loop .t ≡ c .before .before .before .args .n = omega arith in
-    (rw h at (c .before .before .loop .inv .3), (rw h at (c .before .before .loop .inv .4), rw (c .before .before .loop .inv .2, h) at (c .at-most2 .ensures)))
+    (rw h at (c .before .before .loop .inv .3), rw (c .before .before .loop .inv .2, h) at (c .at-most2 .ensures))
 
 pub by-table-spec : {M : Type 1} → statement M
 by-table-spec =
@@ -97,9 +86,6 @@ by-table-spec =
     at-most-requires
     cast-first
     array-write-first
-    largest-requires
-    mul-most
-    array-write-most
     add-e
     add-t
     loop-less

@@ -1,8 +1,6 @@
 -- `activate` meets its contract, case by case in the order of its checks.
 -- Assumes nothing.
 use mathlib.Core.Path.{ap, _∙_}
-use Rattle.machine.specs.Arbiter.{settled}
-use Rattle.kernel.specs.declared.model.Model.{Model}
 use Rattle.kernel.specs.View.{view, outcomeOf}
 use Rattle.kernel.proofs.Methods.Events.{activate-idle, activate-none, activate-busy, activate-done}
 use borrow.Author.Needs.{needs}
@@ -14,7 +12,7 @@ with-status-requires c κs = search needs
 
 returns : tie.Need-returns
 returns c =
-    let c₁ = c .before in let c₂ = c₁ .before .before .before in let a = c₂ .args in
+    let c₁ = c .before in let c₂ = c₁ .before .before in let a = c₂ .args in
     (c .with-status .ensures) ∙ ap outcomeOf (activate-idle (a .task-rank .now) (a .priority .now) (view (a .self)) (a .t) (c₁ .if1 .taken))
 
 byte-at-requires : tie.Need-byte-at-requires
@@ -25,7 +23,7 @@ with-status-requires-2 c κs = search needs
 
 returns-2 : tie.Need-returns-2
 returns-2 c =
-    let c₁ = c .before in let c₂ = c₁ .before in let c₃ = c₂ .before .before in let c₄ = c₃ .before .before .before in
+    let c₁ = c .before in let c₂ = c₁ .before in let c₃ = c₂ .before .before in let c₄ = c₃ .before .before in
     let a = c₄ .args in
     (c .with-status2 .ensures)
     ∙ ap outcomeOf (activate-none (a .task-rank .now) (a .priority .now) (view (a .self)) (a .t) (c₃ .if1 .left) (c₂ .byte-at .ensures) (c₁ .if2 .taken))
@@ -39,13 +37,16 @@ with-status-requires-3 c κs = search needs
 returns-3 : tie.Need-returns-3
 returns-3 c =
     let c₁ = c .before in let c₂ = c₁ .before in let c₃ = c₂ .before in let c₄ = c₃ .before in
-    let c₅ = c₄ .before .before in let c₆ = c₅ .before .before .before in let a = c₆ .args in
+    let c₅ = c₄ .before .before in let c₆ = c₅ .before .before in let a = c₆ .args in
     (c .with-status3 .ensures)
     ∙ ap outcomeOf (activate-busy (a .task-rank .now) (a .priority .now) (view (a .self)) (a .t) (c₅ .if1 .left) (c₄ .byte-at .ensures) (c₃ .if2 .left)
     (c₂ .busy .ensures) (c₁ .if3 .taken))
 
-requesting-requires : tie.Need-requesting-requires
-requesting-requires c κs = search needs
+cast-with : tie.Need-cast-with
+cast-with c = search needs
+
+with-requires : tie.Need-with-requires
+with-requires c κs = search needs
 
 settled-requires : tie.Need-settled-requires
 settled-requires c κs = search needs
@@ -53,23 +54,10 @@ settled-requires c κs = search needs
 returns-4 : tie.Need-returns-4
 returns-4 c =
     let c₁ = c .before in let c₂ = c₁ .before in let c₃ = c₂ .before in let c₄ = c₃ .before in let c₅ = c₄ .before in
-    let c₆ = c₅ .before .before in let c₇ = c₆ .before .before .before in let a = c₇ .args in
-    (c .settled .ensures) ∙ ap (λ (m : Model). outcomeOf (settled (a .priority .now) (view m))) (c₁ .requesting .ensures)
+    let c₆ = c₅ .before .before in let c₇ = c₆ .before .before in let a = c₇ .args in
+    (c .settled .ensures)
     ∙ ap outcomeOf (activate-done (a .task-rank .now) (a .priority .now) (view (a .self)) (a .t) (c₆ .if1 .left) (c₅ .byte-at .ensures) (c₄ .if2 .left)
-    (c₃ .busy .ensures) (c₂ .if3 .left))
+    (c₃ .busy .ensures) (c₂ .if3 .left) (c₁ .with .ensures))
 
 pub activate-spec : {M : Type 1} → statement M
-activate-spec =
-    tie.close
-    (tie.spec
-    with-status-requires
-    returns
-    byte-at-requires
-    with-status-requires-2
-    returns-2
-    busy-requires
-    with-status-requires-3
-    returns-3
-    requesting-requires
-    settled-requires
-    returns-4)
+activate-spec = tie.close (tie.spec with-status-requires returns byte-at-requires with-status-requires-2 returns-2 busy-requires with-status-requires-3 returns-3 cast-with with-requires settled-requires returns-4)

@@ -1,8 +1,6 @@
 -- `chain` meets its contract, case by case in the order of its checks.
 -- Assumes nothing.
 use mathlib.Core.Path.{ap, _∙_}
-use Rattle.kernel.specs.declared.model.Model.{Model}
-use Rattle.machine.specs.Arbiter.{settled, leaving}
 use Rattle.kernel.specs.View.{view, outcomeOf}
 use Rattle.kernel.proofs.Methods.Events.{chain-idle, chain-none, chain-holding, chain-busy, chain-done}
 use borrow.Author.Needs.{needs}
@@ -17,7 +15,7 @@ with-status-requires c κs = search needs
 
 returns : tie.Need-returns
 returns c =
-    let c₁ = c .before in let c₂ = c₁ .before in let c₃ = c₂ .before .before in let a = c₃ .args in
+    let c₁ = c .before in let c₂ = c₁ .before in let c₃ = c₂ .before in let a = c₃ .args in
     (c .with-status .ensures)
     ∙ ap outcomeOf (chain-idle (a .isrs) (a .task-rank .now) (a .priority .now) (view (a .self)) (a .t) (c₂ .no-task-runs .ensures) (c₁ .if1 .taken))
 
@@ -30,7 +28,7 @@ with-status-requires-2 c κs = search needs
 returns-2 : tie.Need-returns-2
 returns-2 c =
     let c₁ = c .before in let c₂ = c₁ .before in let c₃ = c₂ .before .before in let c₄ = c₃ .before in
-    let c₅ = c₄ .before .before in let a = c₅ .args in
+    let c₅ = c₄ .before in let a = c₅ .args in
     (c .with-status2 .ensures)
     ∙ ap outcomeOf (chain-none (a .isrs) (a .task-rank .now) (a .priority .now) (view (a .self)) (a .t) (c₄ .no-task-runs .ensures) (c₃ .if1 .left)
     (c₂ .byte-at .ensures) (c₁ .if2 .taken))
@@ -44,7 +42,7 @@ with-status-requires-3 c κs = search needs
 returns-3 : tie.Need-returns-3
 returns-3 c =
     let c₁ = c .before in let c₂ = c₁ .before .before in let c₃ = c₂ .before in let c₄ = c₃ .before in
-    let c₅ = c₄ .before .before in let c₆ = c₅ .before in let c₇ = c₆ .before .before in let a = c₇ .args in
+    let c₅ = c₄ .before .before in let c₆ = c₅ .before in let c₇ = c₆ .before in let a = c₇ .args in
     (c .with-status3 .ensures)
     ∙ ap outcomeOf (chain-holding (a .isrs) (a .task-rank .now) (a .priority .now) (view (a .self)) (a .t) (c₆ .no-task-runs .ensures) (c₅ .if1 .left)
     (c₄ .byte-at .ensures) (c₃ .if2 .left) (c₂ .top .ensures) (c₁ .if3 .taken))
@@ -59,13 +57,16 @@ returns-4 : tie.Need-returns-4
 returns-4 c =
     let c₁ = c .before in let c₂ = c₁ .before in let c₃ = c₂ .before in let c₄ = c₃ .before .before in
     let c₅ = c₄ .before in let c₆ = c₅ .before in let c₇ = c₆ .before .before in let c₈ = c₇ .before in
-    let c₉ = c₈ .before .before in let a = c₉ .args in
+    let c₉ = c₈ .before in let a = c₉ .args in
     (c .with-status4 .ensures)
     ∙ ap outcomeOf (chain-busy (a .isrs) (a .task-rank .now) (a .priority .now) (view (a .self)) (a .t) (c₈ .no-task-runs .ensures) (c₇ .if1 .left)
     (c₆ .byte-at .ensures) (c₅ .if2 .left) (c₄ .top .ensures) (c₃ .if3 .left) (c₂ .busy-beside .ensures) (c₁ .if4 .taken))
 
-requesting-requires : tie.Need-requesting-requires
-requesting-requires c κs = search needs
+cast-with : tie.Need-cast-with
+cast-with c = search needs
+
+with-requires : tie.Need-with-requires
+with-requires c κs = search needs
 
 ended-requires : tie.Need-ended-requires
 ended-requires c κs = search needs
@@ -74,27 +75,10 @@ returns-5 : tie.Need-returns-5
 returns-5 c =
     let c₁ = c .before in let c₂ = c₁ .before in let c₃ = c₂ .before in let c₄ = c₃ .before in
     let c₅ = c₄ .before .before in let c₆ = c₅ .before in let c₇ = c₆ .before in let c₈ = c₇ .before .before in
-    let c₉ = c₈ .before in let c₁₀ = c₉ .before .before in let a = c₁₀ .args in
-    (c .ended .ensures) ∙ ap (λ (m : Model). outcomeOf (settled (a .priority .now) (leaving (view m)))) (c₁ .requesting .ensures)
+    let c₉ = c₈ .before in let c₁₀ = c₉ .before in let a = c₁₀ .args in
+    (c .ended .ensures)
     ∙ ap outcomeOf (chain-done (a .isrs) (a .task-rank .now) (a .priority .now) (view (a .self)) (a .t) (c₉ .no-task-runs .ensures) (c₈ .if1 .left)
-    (c₇ .byte-at .ensures) (c₆ .if2 .left) (c₅ .top .ensures) (c₄ .if3 .left) (c₃ .busy-beside .ensures) (c₂ .if4 .left))
+    (c₇ .byte-at .ensures) (c₆ .if2 .left) (c₅ .top .ensures) (c₄ .if3 .left) (c₃ .busy-beside .ensures) (c₂ .if4 .left) (c₁ .with .ensures))
 
 pub chain-spec : {M : Type 1} → statement M
-chain-spec =
-    tie.close
-    (tie.spec
-    no-task-runs-requires
-    with-status-requires
-    returns
-    byte-at-requires
-    with-status-requires-2
-    returns-2
-    top-requires
-    with-status-requires-3
-    returns-3
-    busy-beside-requires
-    with-status-requires-4
-    returns-4
-    requesting-requires
-    ended-requires
-    returns-5)
+chain-spec = tie.close (tie.spec no-task-runs-requires with-status-requires returns byte-at-requires with-status-requires-2 returns-2 top-requires with-status-requires-3 returns-3 busy-beside-requires with-status-requires-4 returns-4 cast-with with-requires ended-requires returns-5)

@@ -12,7 +12,7 @@ with-status-requires c κs = search needs
 
 returns : tie.Need-returns
 returns c =
-    let c₁ = c .before in let c₂ = c₁ .before .before .before in let a = c₂ .args in
+    let c₁ = c .before in let c₂ = c₁ .before .before in let a = c₂ .args in
     (c .with-status .ensures) ∙ ap outcomeOf (finish-idle (a .priority .now) (view (a .self)) (c₁ .if1 .taken))
 
 top-requires : tie.Need-top-requires
@@ -23,7 +23,7 @@ with-status-requires-2 c κs = search needs
 
 returns-2 : tie.Need-returns-2
 returns-2 c =
-    let c₁ = c .before in let c₂ = c₁ .before .before in let c₃ = c₂ .before in let c₄ = c₃ .before .before .before in
+    let c₁ = c .before in let c₂ = c₁ .before .before in let c₃ = c₂ .before in let c₄ = c₃ .before .before in
     let a = c₄ .args in
     (c .with-status2 .ensures) ∙ ap outcomeOf (finish-holding (a .priority .now) (view (a .self)) (c₃ .if1 .left) (c₂ .top .ensures) (c₁ .if2 .taken))
 
@@ -32,18 +32,9 @@ ended-requires c κs = search needs
 
 returns-3 : tie.Need-returns-3
 returns-3 c =
-    let c₁ = c .before in let c₂ = c₁ .before .before in let c₃ = c₂ .before in let c₄ = c₃ .before .before .before in
+    let c₁ = c .before in let c₂ = c₁ .before .before in let c₃ = c₂ .before in let c₄ = c₃ .before .before in
     let a = c₄ .args in
     (c .ended .ensures) ∙ ap outcomeOf (finish-done (a .priority .now) (view (a .self)) (c₃ .if1 .left) (c₂ .top .ensures) (c₁ .if2 .left))
 
 pub finish-spec : {M : Type 1} → statement M
-finish-spec =
-    tie.close
-    (tie.spec
-    with-status-requires
-    returns
-    top-requires
-    with-status-requires-2
-    returns-2
-    ended-requires
-    returns-3)
+finish-spec = tie.close (tie.spec with-status-requires returns top-requires with-status-requires-2 returns-2 ended-requires returns-3)

@@ -10,40 +10,16 @@ arbitrated-requires c κs = search needs
 empty-requires : tie.Need-empty-requires
 empty-requires c κs = search needs
 
-laid-requires : tie.Need-laid-requires
-laid-requires c κs = search needs
-
 empty-requires-2 : tie.Need-empty-requires-2
 empty-requires-2 c κs = search needs
-
-laid-requires-2 : tie.Need-laid-requires-2
-laid-requires-2 c κs = search needs
 
 empty-requires-3 : tie.Need-empty-requires-3
 empty-requires-3 c κs = search needs
 
-empty-requires-4 : tie.Need-empty-requires-4
-empty-requires-4 c κs = search needs
-
-empty-requires-5 : tie.Need-empty-requires-5
-empty-requires-5 c κs = search needs
-
 returns : tie.Need-returns
 returns c =
-    let c₁ = c .before in let c₂ = c₁ .before in let c₃ = c₂ .before in let c₄ = c₃ .before in let c₅ = c₄ .before in
-    let c₆ = c₅ .before in let c₇ = c₆ .before .before in
-    rw ((c₅ .laid .ensures), (c₃ .laid2 .ensures), (c₇ .arbitrated .ensures), (c₆ .empty .ensures), (c₄ .empty2 .ensures), (c₂ .empty3 .ensures), (c₁ .empty4 .ensures), (c .empty5 .ensures))
+    let c₁ = c .before in let c₂ = c₁ .before in let c₃ = c₂ .before in
+    rw ((c₃ .arbitrated .ensures), (c₂ .empty .ensures), (c₁ .empty2 .ensures), (c .empty3 .ensures))
 
 pub fresh-spec : {M : Type 1} → statement M
-fresh-spec =
-    tie.close
-    (tie.spec
-    arbitrated-requires
-    empty-requires
-    laid-requires
-    empty-requires-2
-    laid-requires-2
-    empty-requires-3
-    empty-requires-4
-    empty-requires-5
-    returns)
+fresh-spec = tie.close (tie.spec arbitrated-requires empty-requires empty-requires-2 empty-requires-3 returns)

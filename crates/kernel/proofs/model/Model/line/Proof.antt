@@ -1,8 +1,6 @@
 -- `line` meets its contract, case by case in the order of its checks.
 -- Assumes nothing.
 use mathlib.Core.Path.{ap, _∙_}
-use Rattle.machine.specs.Arbiter.{settled}
-use Rattle.kernel.specs.declared.model.Model.{Model}
 use Rattle.kernel.specs.View.{view, outcomeOf}
 use Rattle.kernel.proofs.Methods.Events.{line-none, line-waits, line-done}
 use borrow.Author.Needs.{needs}
@@ -17,7 +15,7 @@ with-status-requires c κs = search needs
 
 returns : tie.Need-returns
 returns c =
-    let c₁ = c .before in let c₂ = c₁ .before in let c₃ = c₂ .before .before .before in let a = c₃ .args in
+    let c₁ = c .before in let c₂ = c₁ .before in let c₃ = c₂ .before .before in let a = c₃ .args in
     (c .with-status .ensures) ∙ ap outcomeOf (line-none (a .line-rank .now) (a .priority .now) (view (a .self)) (a .i) (c₂ .byte-at .ensures) (c₁ .if1 .taken))
 
 cast-has : tie.Need-cast-has
@@ -32,12 +30,15 @@ with-status-requires-2 c κs = search needs
 returns-2 : tie.Need-returns-2
 returns-2 c =
     let c₁ = c .before in let c₂ = c₁ .before in let c₃ = c₂ .before in let c₄ = c₃ .before in
-    let c₅ = c₄ .before .before .before in let a = c₅ .args in
+    let c₅ = c₄ .before .before in let a = c₅ .args in
     (c .with-status2 .ensures)
     ∙ ap outcomeOf (line-waits (a .line-rank .now) (a .priority .now) (view (a .self)) (a .i) (c₄ .byte-at .ensures) (c₃ .if1 .left) (c₂ .has .ensures) (c₁ .if2 .taken))
 
-requesting-requires : tie.Need-requesting-requires
-requesting-requires c κs = search needs
+cast-with : tie.Need-cast-with
+cast-with c = search needs
+
+with-requires : tie.Need-with-requires
+with-requires c κs = search needs
 
 settled-requires : tie.Need-settled-requires
 settled-requires c κs = search needs
@@ -45,21 +46,9 @@ settled-requires c κs = search needs
 returns-3 : tie.Need-returns-3
 returns-3 c =
     let c₁ = c .before in let c₂ = c₁ .before in let c₃ = c₂ .before in let c₄ = c₃ .before in let c₅ = c₄ .before in
-    let c₆ = c₅ .before .before .before in let a = c₆ .args in
-    (c .settled .ensures) ∙ ap (λ (m : Model). outcomeOf (settled (a .priority .now) (view m))) (c₁ .requesting .ensures)
-    ∙ ap outcomeOf (line-done (a .line-rank .now) (a .priority .now) (view (a .self)) (a .i) (c₅ .byte-at .ensures) (c₄ .if1 .left) (c₃ .has .ensures) (c₂ .if2 .left))
+    let c₆ = c₅ .before .before in let a = c₆ .args in
+    (c .settled .ensures)
+    ∙ ap outcomeOf (line-done (a .line-rank .now) (a .priority .now) (view (a .self)) (a .i) (c₅ .byte-at .ensures) (c₄ .if1 .left) (c₃ .has .ensures) (c₂ .if2 .left) (c₁ .with .ensures))
 
 pub line-spec : {M : Type 1} → statement M
-line-spec =
-    tie.close
-    (tie.spec
-    byte-at-requires
-    with-status-requires
-    returns
-    cast-has
-    has-requires
-    with-status-requires-2
-    returns-2
-    requesting-requires
-    settled-requires
-    returns-3)
+line-spec = tie.close (tie.spec byte-at-requires with-status-requires returns cast-has has-requires with-status-requires-2 returns-2 cast-with with-requires settled-requires returns-3)

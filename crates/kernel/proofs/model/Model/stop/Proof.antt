@@ -74,21 +74,4 @@ returns-4 c =
     (c₃ .byte-at2 .ensures) (c₂ .stop-counters .ensures) (c₁ .switch .ensures))
 
 pub stop-spec : {M : Type 1} → statement M
-stop-spec =
-    tie.close
-    (tie.spec
-    with-status-requires
-    returns
-    with-status-requires-2
-    returns-2
-    byte-at-requires
-    cast-from
-    is-on-requires
-    with-status-requires-3
-    returns-3
-    byte-at-requires-2
-    cast-n
-    stop-counters-requires
-    switch-requires
-    with-status-requires-4
-    returns-4)
+stop-spec = tie.close (tie.spec with-status-requires returns with-status-requires-2 returns-2 byte-at-requires cast-from is-on-requires with-status-requires-3 returns-3 byte-at-requires-2 cast-n stop-counters-requires switch-requires with-status-requires-4 returns-4)

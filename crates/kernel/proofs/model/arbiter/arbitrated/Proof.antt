@@ -1,13 +1,18 @@
 -- `arbitrated` meets its contract: the winner is dispatched where its priority is above the level, and else nothing changes.
 -- Assumes nothing.
-use mathlib.Core.Path.{ap}
+use mathlib.Core.Path.{ap, _∙_}
+use mathlib.Core.Bool.{not}
 use native.Mathlib.Omega.{arith}
+use Rattle.word.specs.Word.{union, winner}
 use Rattle.word.proofs.Theorems.{winner-le}
-use Rattle.kernel.specs.View.{viewCore, pickedOf}
+use Rattle.kernel.specs.View.{core, pickedOf}
 use Rattle.kernel.proofs.Methods.Core.{arbitrated-same, arbitrated-above}
 use borrow.Author.Needs.{needs}
 use Rattle.kernel.proofs.model.arbiter.arbitrated.Statement.{statement}
 use Rattle.kernel.proofs.model.arbiter.arbitrated.Tie as tie
+
+union-requires : tie.Need-union-requires
+union-requires c κs = search needs
 
 winner-requires : tie.Need-winner-requires
 winner-requires c κs = search needs
@@ -20,36 +25,33 @@ byte-at-requires c κs = search needs
 
 returns : tie.Need-returns
 returns c =
-    let c₁ = c .before .before in let c₂ = c₁ .before .before in let c₃ = c₂ .before in let a = c₃ .args in
-    ap pickedOf (arbitrated-same (a .priority .now) (viewCore (a .core)) (c₂ .winner .ensures) (c₁ .byte-at .ensures) (c .if1 .taken))
+    let c₁ = c .before in let c₂ = c₁ .before .before in let c₃ = c₂ .before in let c₄ = c₃ .before in
+    let a = c₄ .args in
+    ap pickedOf
+    (arbitrated-same (a .priority .now) (core (a .request) (a .started) (a .runner) (a .level))
+    ((c₂ .winner .ensures) ∙ ap winner (c₃ .union .ensures)) (c₁ .byte-at .ensures) (c .if1 .taken))
 
-without-requires : tie.Need-without-requires
-without-requires c κs = search needs
+has-requires : tie.Need-has-requires
+has-requires c κs = search needs
+
+used-up-requires : tie.Need-used-up-requires
+used-up-requires c κs = search needs
 
 with-requires : tie.Need-with-requires
 with-requires c κs = search needs
 
-cast-t11 : tie.Need-cast-t11
-cast-t11 c =
-    let c₁ = c .before .before .before .before .before .before in let c₂ = c₁ .before in let a = c₂ .args in
-    omega (arith, winner-le (a .core .request), (c₁ .winner .ensures))
+cast-t15 : tie.Need-cast-t15
+cast-t15 c =
+    let c₁ = c .before .before .before .before .before .before in let c₂ = c₁ .before in
+    omega (arith, winner-le (c₂ .union .result), (c₁ .winner .ensures))
 
 returns-2 : tie.Need-returns-2
 returns-2 c =
-    let c₁ = c .before in let c₂ = c₁ .before in let c₃ = c₂ .before .before in let c₄ = c₃ .before .before in
-    let c₅ = c₄ .before in let a = c₅ .args in
-    ap pickedOf (arbitrated-above (a .priority .now) (viewCore (a .core)) (c₄ .winner .ensures) (c₃ .byte-at .ensures) (c₂ .if1 .left)
-    (c₁ .without .ensures) (c .with .ensures))
+    let c₁ = c .before in let c₂ = c₁ .before in let c₃ = c₂ .before in let c₄ = c₃ .before in
+    let c₅ = c₄ .before .before in let c₆ = c₅ .before in let c₇ = c₆ .before in let a = c₇ .args in
+    ap pickedOf
+    (arbitrated-above (a .priority .now) (core (a .request) (a .started) (a .runner) (a .level))
+    ((c₅ .winner .ensures) ∙ ap winner (c₆ .union .ensures)) (c₄ .byte-at .ensures) (c₃ .if1 .left) (ap not (c₂ .has .ensures)) (c₁ .used-up .ensures) (c .with .ensures))
 
 pub arbitrated-spec : {M : Type 1} → statement M
-arbitrated-spec =
-    tie.close
-    (tie.spec
-    winner-requires
-    cast-byte-at
-    byte-at-requires
-    returns
-    without-requires
-    with-requires
-    cast-t11
-    returns-2)
+arbitrated-spec = tie.close (tie.spec union-requires winner-requires cast-byte-at byte-at-requires returns has-requires used-up-requires with-requires cast-t15 returns-2)

@@ -10,11 +10,14 @@ busy-requires : tie.Need-busy-requires
 busy-requires c κs = search needs
 
 returns : tie.Need-returns
-returns c = let a = c .before .before .before .args in
-    rw (c .busy .ensures, ne-eqb (a .rank) (a .core .runner) (c .before .if1 .taken), and-true)
+returns c =
+    let c₁ = c .before in let c₂ = c₁ .before in let a = c₂ .args in
+    rw (c .busy .ensures, ne-eqb (a .rank) (a .runner) (c₁ .if1 .taken), and-true)
 
 returns-2 : tie.Need-returns-2
-returns-2 c = let a = c .before .before .args in rw (eq-eqb (a .rank) (a .core .runner) (c .if1 .left), and-false)
+returns-2 c =
+    let c₁ = c .before in let a = c₁ .args in
+    rw (eq-eqb (a .rank) (a .runner) (c .if1 .left), and-false)
 
 pub busy-beside-spec : {M : Type 1} → statement M
 busy-beside-spec = tie.close (tie.spec busy-requires returns returns-2)

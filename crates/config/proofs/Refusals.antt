@@ -1,0 +1,144 @@
+-- Document 01's refusals of a configuration with their places, row by row and with the numbers written out: the reader's on both sides of each
+-- limit, the order of two faults, then the writer's. Each is computed from the definitions that the contracts cite.
+--
+-- An input that ends after a number which is in order is refused with 1 at its end, so that (1, n) says: the n bytes are in order.
+-- Assumes nothing.
+use Prim.Native.Nat.{ℕ}
+use mathlib.Core.Path.{_≡_, refl}
+use mathlib.Core.List.{List, [], _∷_, _++_, map}
+use lib.ListN.{replicate}
+use Rattle.number.specs.Number.{readNumber, groups, continued, fifthGroup, numberBytes, groupBytes}
+use Rattle.number.specs.Output.{writing, written}
+use Rattle.config.specs.declared.Config.{Config}
+use Rattle.config.specs.Value.{withVersion, withBodies, withKind, withPriority, withAutostart, withUsers, withTables, withPeriod, withEntries, withOffset, withTask}
+use Rattle.config.specs.Draft.{faultAt, putAt, askedAt, ended, occurs}
+use Rattle.config.specs.Reader.{readFrom, readConfig}
+use Rattle.config.specs.Writer.{faultFrom, bytesFrom, writeConfig, wroteConfig}
+
+-- the reader's refusal and place for each of some bytes that follow others
+abbrev answers : List ℕ → List (List ℕ) → List (ℕ × ℕ)
+answers before = map (λ (bs : List ℕ). (readConfig (before ++ bs) .refusal, readConfig (before ++ bs) .place))
+
+-- version 1 and a task of priority 5, up to the resource count, and up to the table count
+abbrev oneTask : List ℕ
+oneTask = 0x01 ∷ 0x01 ∷ 0x00 ∷ 0x05 ∷ 0x00 ∷ []
+
+abbrev noResource : List ℕ
+noResource = oneTask ++ 0x00 ∷ []
+
+-- tasks 0 and 2 and ISR 1, and a table of period 4 up to its entry count
+abbrev threeBodies : List ℕ
+threeBodies = 0x01 ∷ 0x03 ∷ 0x00 ∷ 0x05 ∷ 0x00 ∷ 0x01 ∷ 0x06 ∷ 0x00 ∷ 0x00 ∷ 0x07 ∷ 0x00 ∷ 0x00 ∷ 0x01 ∷ 0x04 ∷ []
+
+-- a table of 16 entries
+abbrev sixteen : List ℕ
+sixteen =
+    0x10 ∷ 0x10 ∷ 0 ∷ 0 ∷ 1 ∷ 0 ∷ 2 ∷ 0 ∷ 3 ∷ 0 ∷ 4 ∷ 0 ∷ 5 ∷ 0 ∷ 6 ∷ 0 ∷ 7 ∷ 0 ∷ 8 ∷ 0 ∷ 9 ∷ 0 ∷ 10 ∷ 0 ∷ 11 ∷ 0 ∷ 12 ∷ 0 ∷ 13 ∷ 0 ∷ 14 ∷ 0 ∷ 15 ∷ 0 ∷ []
+
+abbrev sixtyFour : List ℕ
+sixtyFour = sixteen ++ (sixteen ++ (sixteen ++ sixteen))
+
+pub record ReaderRows : Type 0 where
+  -- an empty input; 4,096 bytes and one more
+  pub lengths : answers [] ([] ∷ replicate 4096 0x00 ∷ replicate 4097 0x00 ∷ []) ≡ (1, 0) ∷ (3, 0) ∷ (10, 0) ∷ []
+  -- readable before in range; cut at the end, malformed at the byte that decides it
+  pub unreadable : answers [] ((0x80 ∷ []) ∷ (0x80 ∷ 0x00 ∷ 0x07 ∷ []) ∷ []) ≡ (1, 1) ∷ (2, 1) ∷ []
+  pub version : answers [] ((0x00 ∷ []) ∷ (0x01 ∷ []) ∷ (0x02 ∷ []) ∷ []) ≡ (3, 0) ∷ (1, 1) ∷ (3, 0) ∷ []
+  pub body-count : answers (0x01 ∷ []) ((0x00 ∷ []) ∷ (0x01 ∷ []) ∷ (0x20 ∷ []) ∷ (0x21 ∷ []) ∷ []) ≡ (4, 1) ∷ (1, 2) ∷ (1, 2) ∷ (4, 1) ∷ []
+  pub kind : answers (0x01 ∷ 0x01 ∷ []) ((0x00 ∷ []) ∷ (0x01 ∷ []) ∷ (0x02 ∷ []) ∷ []) ≡ (1, 3) ∷ (1, 3) ∷ (5, 2) ∷ []
+  pub priority : answers (0x01 ∷ 0x01 ∷ 0x00 ∷ []) ((0x00 ∷ []) ∷ (0x01 ∷ []) ∷ (0xC8 ∷ 0x01 ∷ []) ∷ (0xC9 ∷ 0x01 ∷ []) ∷ [])
+      ≡ (5, 3) ∷ (1, 4) ∷ (1, 5) ∷ (5, 3) ∷ []
+  -- 6 before the autostart is read
+  pub priority-used : answers (0x01 ∷ 0x02 ∷ 0x00 ∷ 0x05 ∷ 0x00 ∷ 0x00 ∷ []) ((0x04 ∷ []) ∷ (0x05 ∷ []) ∷ (0x05 ∷ 0x02 ∷ []) ∷ []) ≡ (1, 7) ∷ (6, 6) ∷ (6, 6) ∷ []
+  pub autostart-task : answers (0x01 ∷ 0x01 ∷ 0x00 ∷ 0x05 ∷ []) ((0x00 ∷ []) ∷ (0x01 ∷ []) ∷ (0x02 ∷ []) ∷ []) ≡ (1, 5) ∷ (1, 5) ∷ (5, 4) ∷ []
+  pub autostart-isr : answers (0x01 ∷ 0x01 ∷ 0x01 ∷ 0x05 ∷ []) ((0x00 ∷ []) ∷ (0x01 ∷ []) ∷ []) ≡ (1, 5) ∷ (5, 4) ∷ []
+  pub resource-count : answers oneTask ((0x10 ∷ []) ∷ (0x11 ∷ []) ∷ []) ≡ (1, 6) ∷ (4, 5) ∷ []
+  -- the masks of one body
+  pub users : answers (oneTask ++ 0x01 ∷ []) ((0x00 ∷ []) ∷ (0x01 ∷ []) ∷ (0x02 ∷ []) ∷ (0x03 ∷ []) ∷ []) ≡ (5, 6) ∷ (1, 7) ∷ (5, 6) ∷ (5, 6) ∷ []
+  pub table-count : answers noResource ((0x08 ∷ []) ∷ (0x09 ∷ []) ∷ []) ≡ (1, 7) ∷ (4, 6) ∷ []
+  pub period : answers (noResource ++ 0x01 ∷ []) ((0x00 ∷ []) ∷ (0x01 ∷ []) ∷ (0xFF ∷ 0xFF ∷ 0x03 ∷ []) ∷ (0x80 ∷ 0x80 ∷ 0x04 ∷ []) ∷ [])
+      ≡ (5, 7) ∷ (1, 8) ∷ (1, 10) ∷ (5, 7) ∷ []
+  pub entry-count : answers (noResource ++ 0x01 ∷ 0x04 ∷ []) ((0x00 ∷ []) ∷ (0x01 ∷ []) ∷ (0x10 ∷ []) ∷ (0x11 ∷ []) ∷ []) ≡ (4, 8) ∷ (1, 9) ∷ (1, 9) ∷ (4, 8) ∷ []
+  -- 64 entries and one more; 4 before 8
+  pub entry-total : answers noResource ((0x04 ∷ sixtyFour) ∷ (0x05 ∷ (sixtyFour ++ 0x01 ∷ 0x01 ∷ [])) ∷ (0x05 ∷ (sixtyFour ++ 0x01 ∷ 0x11 ∷ [])) ∷ [])
+      ≡ (0, 143) ∷ (8, 144) ∷ (4, 144) ∷ []
+  pub offset : answers (threeBodies ++ 0x01 ∷ []) ((0x03 ∷ []) ∷ (0x04 ∷ []) ∷ []) ≡ (1, 16) ∷ (5, 15) ∷ []
+  -- a task, an ISR, no body
+  pub task : answers (threeBodies ++ 0x01 ∷ 0x03 ∷ []) ((0x02 ∷ []) ∷ (0x01 ∷ []) ∷ (0x03 ∷ []) ∷ []) ≡ (0, 17) ∷ (5, 16) ∷ (5, 16) ∷ []
+  -- after offset 1 and task 0: the same, an offset that falls, a task that rises; 5 before 7; and task 2 before task 0
+  pub entry-order : answers (threeBodies ++ 0x02 ∷ 0x01 ∷ []) (
+      (0x00 ∷ 0x01 ∷ 0x00 ∷ []) ∷ (0x00 ∷ 0x00 ∷ 0x02 ∷ []) ∷ (0x00 ∷ 0x01 ∷ 0x02 ∷ []) ∷ (0x00 ∷ 0x00 ∷ 0x01 ∷ []) ∷ (0x02 ∷ 0x01 ∷ 0x00 ∷ []) ∷ []
+      )
+      ≡ (7, 18) ∷ (7, 18) ∷ (0, 19) ∷ (5, 18) ∷ (7, 18) ∷ []
+  -- the entries of another table need not come after those of the one before
+  pub next-table : answers (noResource ++ 0x02 ∷ 0x04 ∷ 0x01 ∷ 0x03 ∷ 0x00 ∷ []) ((0x04 ∷ 0x01 ∷ 0x00 ∷ 0x00 ∷ []) ∷ []) ≡ (0, 15) ∷ []
+  pub left-over : answers (noResource ++ 0x00 ∷ []) ([] ∷ (0x00 ∷ []) ∷ (0x80 ∷ 0x80 ∷ []) ∷ []) ≡ (0, 7) ∷ (9, 7) ∷ (9, 7) ∷ []
+
+pub reader-rows : ReaderRows
+unfolding readNumber groups continued fifthGroup readConfig readFrom faultAt putAt ended occurs
+reader-rows =
+    record {
+      lengths = refl;
+      unreadable = refl;
+      version = refl;
+      body-count = refl;
+      kind = refl;
+      priority = refl;
+      priority-used = refl;
+      autostart-task = refl;
+      autostart-isr = refl;
+      resource-count = refl;
+      users = refl;
+      table-count = refl;
+      period = refl;
+      entry-count = refl;
+      entry-total = refl;
+      offset = refl;
+      task = refl;
+      entry-order = refl;
+      next-table = refl;
+      left-over = refl;
+    }
+
+-- document 01's listing, and its value
+abbrev listing : List ℕ
+listing =
+    0x01 ∷ 0x03 ∷ 0x00 ∷ 0x02 ∷ 0x01 ∷ 0x00 ∷ 0x05 ∷ 0x00 ∷ 0x01 ∷ 0x09 ∷ 0x00 ∷ 0x01 ∷ 0x03 ∷ 0x01 ∷ 0x04 ∷ 0x02 ∷ 0x00 ∷ 0x01 ∷ 0x02 ∷ 0x00 ∷ []
+
+abbrev value : Config
+value = readConfig listing .config
+
+-- a value with 64 entries
+abbrev full : Config
+full = readConfig (noResource ++ 0x04 ∷ sixtyFour) .config
+
+-- the writer's refusal and place, with room for n bytes
+abbrev answer : ℕ → Config → ℕ × ℕ
+answer n c = (writeConfig c n .refusal, writeConfig c n .place)
+
+pub record WriterRows : Type 0 where
+  -- the length, and 30 with the bytes needed
+  pub room : (answer 21 value ≡ (0, 20)) × (answer 20 value ≡ (0, 20)) × (answer 19 value ≡ (30, 20))
+  -- 3 to 8 at place 0, before 30, and the first in the reader's order
+  pub refused : map (answer 0) (
+      withVersion value 2 ∷ withBodies value 33 ∷ withKind value 1 2 ∷ withPriority value 2 5 ∷ withAutostart value 2 1 ∷ withUsers value 0 8
+      ∷ withPeriod value 0 0 ∷ withEntries value 0 17 ∷ withOffset value 1 0 ∷ withTask value 1 2
+      ∷ withEntries (withPeriod (withTables full 5) 4 1) 4 1 ∷ withVersion (withBodies value 33) 2 ∷ []
+      )
+      ≡ (3, 0) ∷ (4, 0) ∷ (5, 0) ∷ (6, 0) ∷ (5, 0) ∷ (5, 0) ∷ (5, 0) ∷ (4, 0) ∷ (7, 0) ∷ (5, 0) ∷ (8, 0) ∷ (3, 0) ∷ []
+  -- bytes beyond the length stay; too short or refused, all stay
+  pub output : (wroteConfig value (replicate 22 0xFF) ≡ listing ++ 0xFF ∷ 0xFF ∷ [])
+      × (wroteConfig value (replicate 19 0xFF) ≡ replicate 19 0xFF)
+      × (wroteConfig (withVersion value 2) (replicate 22 0xFF) ≡ replicate 22 0xFF)
+  -- entries past the counts are ignored
+  pub past : answer 20 (withKind (withUsers (withTask value 2 200) 1 77) 3 9) ≡ (0, 20)
+
+pub writer-rows : WriterRows
+unfolding readNumber groups continued fifthGroup numberBytes groupBytes writing written readConfig readFrom faultAt putAt askedAt ended occurs faultFrom bytesFrom
+writer-rows =
+    record {
+      room = (refl, refl, refl);
+      refused = refl;
+      output = (refl, refl, refl);
+      past = refl;
+    }

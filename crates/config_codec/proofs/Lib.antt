@@ -1,0 +1,8 @@
+-- What the proofs of the functions share: over a draft, in the reader, in the writer. The laws of configurations are those of `config`.
+mod Within
+mod Used
+mod ReaderWalk
+mod WriterWalk
+mod Measure
+mod Written
+mod Answer

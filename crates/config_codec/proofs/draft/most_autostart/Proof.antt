@@ -1,0 +1,15 @@
+-- `most_autostart` meets its contract, by its test.
+-- Assumes nothing.
+use borrow.Author.Tests.{eq-eqb, ne-eqb}
+use Rattle.config.specs.Meaning.{isr}
+use Rattle.config_codec.proofs.draft.most_autostart.Statement.{statement}
+use Rattle.config_codec.proofs.draft.most_autostart.Tie as tie
+
+returns : tie.Need-returns
+returns c = simp (eq-eqb (c .before .args .kind) isr (c .if1 .taken))
+
+returns-2 : tie.Need-returns-2
+returns-2 c = simp (ne-eqb (c .before .args .kind) isr (c .if1 .left))
+
+pub most-autostart-spec : {M : Type 1} → statement M
+most-autostart-spec = tie.close (tie.spec returns returns-2)

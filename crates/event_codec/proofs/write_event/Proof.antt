@@ -1,0 +1,142 @@
+-- `write_event` meets its contract: an arm for each code, which fixes how many arguments are written.
+-- Assumes nothing.
+use mathlib.Core.Path.{refl}
+use Rattle.event.specs.Event.{known, arguments}
+use Rattle.event_codec.proofs.Arms.{known-no-arm}
+use Rattle.event.proofs.Writing.{writes-unknown}
+use borrow.Author.Needs.{needs}
+use Rattle.event_codec.proofs.write_event.Statement.{statement}
+use Rattle.event_codec.proofs.write_event.Tie as tie
+
+write-one-requires : tie.Need-write-one-requires
+unfolding known arguments
+write-one-requires c κs = rw (c .before .match .keys1) (refl, refl)
+
+write-none-requires : tie.Need-write-none-requires
+unfolding known arguments
+write-none-requires c κs = rw (c .before .match .keys2) (refl, refl)
+
+write-one-requires-2 : tie.Need-write-one-requires-2
+unfolding known arguments
+write-one-requires-2 c κs = rw (c .before .match .keys3) (refl, refl)
+
+write-one-requires-3 : tie.Need-write-one-requires-3
+unfolding known arguments
+write-one-requires-3 c κs = rw (c .before .match .keys4) (refl, refl)
+
+write-one-requires-4 : tie.Need-write-one-requires-4
+unfolding known arguments
+write-one-requires-4 c κs = rw (c .before .match .keys5) (refl, refl)
+
+write-none-requires-2 : tie.Need-write-none-requires-2
+unfolding known arguments
+write-none-requires-2 c κs = rw (c .before .match .keys6) (refl, refl)
+
+write-one-requires-5 : tie.Need-write-one-requires-5
+unfolding known arguments
+write-one-requires-5 c κs = rw (c .before .match .keys7) (refl, refl)
+
+write-two-requires : tie.Need-write-two-requires
+unfolding known arguments
+write-two-requires c κs = rw (c .before .match .keys8) (refl, refl)
+
+write-one-requires-6 : tie.Need-write-one-requires-6
+unfolding known arguments
+write-one-requires-6 c κs = rw (c .before .match .keys9) (refl, refl)
+
+same-length : tie.Need-same-length
+same-length c = search needs
+
+returns : tie.Need-returns
+returns c = search needs
+
+same-length-2 : tie.Need-same-length-2
+same-length-2 c = search needs
+
+returns-2 : tie.Need-returns-2
+returns-2 c = search needs
+
+same-length-3 : tie.Need-same-length-3
+same-length-3 c = search needs
+
+returns-3 : tie.Need-returns-3
+returns-3 c = search needs
+
+same-length-4 : tie.Need-same-length-4
+same-length-4 c = search needs
+
+returns-4 : tie.Need-returns-4
+returns-4 c = search needs
+
+same-length-5 : tie.Need-same-length-5
+same-length-5 c = search needs
+
+returns-5 : tie.Need-returns-5
+returns-5 c = search needs
+
+same-length-6 : tie.Need-same-length-6
+same-length-6 c = search needs
+
+returns-6 : tie.Need-returns-6
+returns-6 c = search needs
+
+same-length-7 : tie.Need-same-length-7
+same-length-7 c = search needs
+
+returns-7 : tie.Need-returns-7
+returns-7 c = search needs
+
+same-length-8 : tie.Need-same-length-8
+same-length-8 c = search needs
+
+returns-8 : tie.Need-returns-8
+returns-8 c = search needs
+
+same-length-9 : tie.Need-same-length-9
+same-length-9 c = search needs
+
+returns-9 : tie.Need-returns-9
+returns-9 c = search needs
+
+returns-10 : tie.Need-returns-10
+unfolding known
+returns-10 c = let s = c .before .before in
+    writes-unknown (s .args .event) (s .args .out .now) _ (rw (c .match .keys10)) refl
+
+returns-11 : tie.Need-returns-11
+returns-11 c = let s = c .before .before in
+    writes-unknown (s .args .event) (s .args .out .now) _ (known-no-arm (s .args .event .code) (c .match .rest)) refl
+
+pub write-event-spec : {M : Type 1} → statement M
+write-event-spec =
+    tie.close
+    (tie.spec
+    write-one-requires
+    write-none-requires
+    write-one-requires-2
+    write-one-requires-3
+    write-one-requires-4
+    write-none-requires-2
+    write-one-requires-5
+    write-two-requires
+    write-one-requires-6
+    same-length
+    returns
+    same-length-2
+    returns-2
+    same-length-3
+    returns-3
+    same-length-4
+    returns-4
+    same-length-5
+    returns-5
+    same-length-6
+    returns-6
+    same-length-7
+    returns-7
+    same-length-8
+    returns-8
+    same-length-9
+    returns-9
+    returns-10
+    returns-11)

@@ -1,0 +1,272 @@
+// The events of a trace, read and written: a code, then its arguments, each a number of the format.
+use event::Event;
+use event::EventRead;
+use number::NO_ROOM;
+use number::NumberRead;
+use number::Written;
+use number_codec::number_length;
+use number_codec::read_number;
+use number_codec::write_number;
+ghost use mathlib.Core.Path.{_≡_};
+ghost use mathlib.Core.Bool.{true, cond};
+ghost use mathlib.Core.List.{_∷_, _++_};
+ghost use Prim.Native.Nat.{_+_, _≤_, _<_};
+ghost use lib.ListN.{length};
+ghost use Rattle.number.specs.Number.{numberBytes};
+ghost use Rattle.number.specs.Output.{unwritten, writing, written};
+ghost use Rattle.event.specs.Event.{known, arguments, noEvent, event, accepted, refused, unreadable, readOne, readSecond, readTwo, readEvent, writeEvent, eventWritten};
+ghost use Rattle.event.specs.Refusal.{strayArgument};
+
+// The code is none of 1 to 9.
+pub const UNKNOWN_EVENT: u8 = 23;
+// The writer's: an argument that the event lacks is not 0.
+pub const STRAY_ARGUMENT: u8 = 24;
+
+// The refusal of a number that is part of a trace is this much more than `number` gives.
+const IN_TRACE: u8 = 20;
+
+// In the place of a count of arguments: no event has the code.
+const NO_EVENT: u8 = 3;
+
+// The event at a place of `trace`. Most numbers of a trace have one byte, so these come first.
+pub fn read_event(trace: &[u8], at: usize) -> EventRead
+    ensures { λ r. ⌜ r ≡ readEvent (now (trace .entry)) at ⌝ }
+{
+    if trace.len() <= at {
+        return read_long(trace, at);
+    }
+    let code = trace[at];
+    let next = at + 1;
+    let count = arguments(code as u32);
+    if count == 0 {
+        return accepted(code, 0, 0, next);
+    }
+    if count == 1 && next < trace.len() {
+        let first = trace[next];
+        if first < 128 {
+            return accepted(code, first as u32, 0, next + 1);
+        }
+    }
+    read_long(trace, at)
+}
+
+// The same, number by number.
+fn read_long(trace: &[u8], at: usize) -> EventRead
+    ensures { λ r. ⌜ r ≡ readEvent (now (trace .entry)) at ⌝ }
+{
+    let head = read_number(trace, at);
+    if head.refusal != 0 {
+        return unreadable(head);
+    }
+    let code = head.value;
+    let count = arguments(code);
+    if count == NO_EVENT {
+        return refused(UNKNOWN_EVENT, at);
+    }
+    if count == 0 {
+        return accepted(code as u8, 0, 0, head.place);
+    }
+    if count == 1 {
+        return read_one(trace, code as u8, head.place);
+    }
+    read_two(trace, code as u8, head.place)
+}
+
+// How many arguments follow the code.
+fn arguments(code: u32) -> u8
+    ensures { λ r. ⌜ r ≡ cond (known code) (arguments code) noEvent ⌝ }
+{
+    match code {
+        1 => 1, // Activate
+        2 => 0, // Finish
+        3 => 1, // Chain
+        4 => 1, // Get
+        5 => 1, // Release
+        6 => 0, // Tick
+        7 => 1, // Line
+        8 => 2, // Start
+        9 => 1, // Stop
+        0 | 10..=4294967295 => NO_EVENT,
+    }
+}
+
+// An event with two arguments, the first of them at `at`.
+fn read_two(trace: &[u8], code: u8, at: usize) -> EventRead
+    ensures { λ r. ⌜ r ≡ readTwo (now (trace .entry)) code at ⌝ }
+{
+    let first = read_number(trace, at);
+    if first.refusal != 0 {
+        return unreadable(first);
+    }
+    read_second(trace, code, first.value, first.place)
+}
+
+// The second argument, at `at`.
+fn read_second(trace: &[u8], code: u8, first: u32, at: usize) -> EventRead
+    ensures { λ r. ⌜ r ≡ readSecond (now (trace .entry)) code first at ⌝ }
+{
+    let second = read_number(trace, at);
+    if second.refusal != 0 {
+        return unreadable(second);
+    }
+    accepted(code, first, second.value, second.place)
+}
+
+// An event with one argument, at `at`.
+fn read_one(trace: &[u8], code: u8, at: usize) -> EventRead
+    ensures { λ r. ⌜ r ≡ readOne (now (trace .entry)) code at ⌝ }
+{
+    let first = read_number(trace, at);
+    if first.refusal != 0 {
+        return unreadable(first);
+    }
+    accepted(code, first.value, 0, first.place)
+}
+
+// An event, and the place after it.
+fn accepted(code: u8, first: u32, second: u32, place: usize) -> EventRead
+    ensures { λ r. ⌜ r ≡ accepted (event code first second) place ⌝ }
+{
+    EventRead {
+        event: Event {
+            code: code,
+            first: first,
+            second: second,
+        },
+        refusal: 0,
+        place: place,
+    }
+}
+
+// No event, because one of its numbers can't be read.
+fn unreadable(n: NumberRead) -> EventRead
+    requires { ⌜ n .refusal ≤ 2 ⌝ }
+    ensures { λ r. ⌜ r ≡ unreadable n ⌝ }
+{
+    refused(IN_TRACE + n.refusal, n.place)
+}
+
+// No event, with the reason.
+fn refused(refusal: u8, place: usize) -> EventRead
+    ensures { λ r. ⌜ r ≡ refused refusal place ⌝ }
+{
+    EventRead {
+        event: Event {
+            code: 0,
+            first: 0,
+            second: 0,
+        },
+        refusal: refusal,
+        place: place,
+    }
+}
+
+// Writes the event at the start of `out`, or nothing where it is refused.
+pub fn write_event(event: Event, out: &mut [u8]) -> Written
+    ensures result { λ r. ⌜ r ≡ writeEvent event (length (now (out .entry))) ⌝ }
+    ensures output { λ _. ⌜ now (out .exit) ≡ eventWritten event (now (out .entry)) ⌝ }
+{
+    let code = event.code;
+    match code {
+        1 => write_one(event, out), // Activate
+        2 => write_none(event, out), // Finish
+        3 => write_one(event, out), // Chain
+        4 => write_one(event, out), // Get
+        5 => write_one(event, out), // Release
+        6 => write_none(event, out), // Tick
+        7 => write_one(event, out), // Line
+        8 => write_two(event, out), // Start
+        9 => write_one(event, out), // Stop
+        0 | 10..=255 => Written {
+            refusal: UNKNOWN_EVENT,
+            place: 0,
+        },
+    }
+}
+
+// Writes an event without arguments.
+fn write_none(event: Event, out: &mut [u8]) -> Written
+    requires { ⌜ (known (event .code) ≡ true) × (arguments (event .code) ≡ 0) ⌝ }
+    ensures result { λ r. ⌜ r ≡ writeEvent event (length (now (out .entry))) ⌝ }
+    ensures output { λ _. ⌜ now (out .exit) ≡ eventWritten event (now (out .entry)) ⌝ }
+{
+    if event.first != 0 {
+        return stray();
+    }
+    if event.second != 0 {
+        return stray();
+    }
+    write_number(event.code as u32, out)
+}
+
+// Writes an event with one argument.
+fn write_one(event: Event, out: &mut [u8]) -> Written
+    requires { ⌜ (known (event .code) ≡ true) × (arguments (event .code) ≡ 1) ⌝ }
+    ensures result { λ r. ⌜ r ≡ writeEvent event (length (now (out .entry))) ⌝ }
+    ensures output { λ _. ⌜ now (out .exit) ≡ eventWritten event (now (out .entry)) ⌝ }
+{
+    if event.second != 0 {
+        return stray();
+    }
+    write_pair(event.code, event.first, out)
+}
+
+// The writer's refusal of an argument that the event lacks.
+fn stray() -> Written
+    ensures { λ r. ⌜ r ≡ unwritten strayArgument 0 ⌝ }
+{
+    Written {
+        refusal: STRAY_ARGUMENT,
+        place: 0,
+    }
+}
+
+// Writes an event with two arguments.
+fn write_two(event: Event, out: &mut [u8]) -> Written
+    requires { ⌜ (known (event .code) ≡ true) × (arguments (event .code) ≡ 2) ⌝ }
+    ensures result { λ r. ⌜ r ≡ writeEvent event (length (now (out .entry))) ⌝ }
+    ensures output { λ _. ⌜ now (out .exit) ≡ eventWritten event (now (out .entry)) ⌝ }
+{
+    write_triple(event.code, event.first, event.second, out)
+}
+
+// Writes a byte and two numbers after it, or nothing where they do not fit.
+fn write_triple(code: u8, first: u32, second: u32, out: &mut [u8]) -> Written
+    ensures result { λ r. ⌜ r ≡ writing (code ∷ (numberBytes first ++ numberBytes second)) (length (now (out .entry))) ⌝ }
+    ensures output { λ _. ⌜ now (out .exit) ≡ written (code ∷ (numberBytes first ++ numberBytes second)) (now (out .entry)) ⌝ }
+{
+    let at = 1 + number_length(first);
+    let end = at + number_length(second);
+    if out.len() < end {
+        return Written {
+            refusal: NO_ROOM,
+            place: end,
+        };
+    }
+    write_pair(code, first, out);
+    let w = write_number(second, &mut out[at..]);
+    Written {
+        refusal: w.refusal,
+        place: end,
+    }
+}
+
+// Writes a byte and a number after it, or nothing where they do not fit.
+fn write_pair(code: u8, first: u32, out: &mut [u8]) -> Written
+    ensures result { λ r. ⌜ r ≡ writing (code ∷ numberBytes first) (length (now (out .entry))) ⌝ }
+    ensures output { λ _. ⌜ now (out .exit) ≡ written (code ∷ numberBytes first) (now (out .entry)) ⌝ }
+{
+    let n = 1 + number_length(first);
+    if out.len() < n {
+        return Written {
+            refusal: NO_ROOM,
+            place: n,
+        };
+    }
+    out[0] = code;
+    let w = write_number(first, &mut out[1..]);
+    Written {
+        refusal: w.refusal,
+        place: n,
+    }
+}

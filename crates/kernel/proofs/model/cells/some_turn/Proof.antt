@@ -1,0 +1,52 @@
+-- `some_turn` meets its contract: what was found before entry e, or will be from there on, is what there is.
+-- Assumes nothing.
+use Prim.Native.Nat.{_-_, _≤_}
+use mathlib.Core.Bool.{_||_}
+use mathlib.Core.Logic.{⊎-elim}
+use mathlib.Core.Path.{_≡_, refl, sym, _∙_}
+use native.Mathlib.Omega.{arith}
+use lib.ListN.{getD}
+use Rattle.config.specs.Value.{maxEntries}
+use Rattle.machine.specs.Cells.{hasTurn, someTurn}
+use Rattle.kernel.proofs.Methods.Cells.{some-turn, some-end}
+use Rattle.kernel.proofs.model.cells.some_turn.Statement.{statement}
+use Rattle.kernel.proofs.model.cells.some_turn.Tie as tie
+
+abbrev Inv-loop : tie.InvT-loop
+Inv-loop on found₀ e₀ found e = (e ≤ maxEntries) × (found || someTurn (maxEntries - e) e on ≡ someTurn maxEntries 0 on)
+
+abbrev μ-loop : tie.MeasureT-loop
+μ-loop on found₀ e₀ found e = maxEntries - e
+
+loop-holds : tie.Need-loop-holds Inv-loop μ-loop
+loop-holds c = (omega arith, refl)
+
+mul-switch : tie.Need-mul-switch Inv-loop μ-loop
+mul-switch c = omega arith
+
+element-copy-out-switch : tie.Need-element-copy-out-switch Inv-loop μ-loop
+element-copy-out-switch c = omega arith
+
+add-e : tie.Need-add-e Inv-loop μ-loop
+add-e c = omega arith
+
+loop-less : tie.Need-loop-less Inv-loop μ-loop
+loop-less c = omega arith
+
+loop-again : tie.Need-loop-again Inv-loop μ-loop
+loop-again c =
+    let c₁ = c .before .before in let c₂ = c₁ .before in
+    let a = c₂ .before .args in let l = c₂ .loop in (
+      omega arith,
+      some-turn (λ i. hasTurn (getD (a .on .now) i 0)) maxEntries (l .e) (l .found) (c₁ .loop-test .taken) {b′ = c .if1 .found}
+          (⊎-elim (λ w. rw (w .0 .taken) (w .1 ∙ w .0 .taken)) (λ w. rw (w .0 .left) (w .1)) (c .if1 .came))
+          ∙ l .inv .1,
+    )
+
+returns : tie.Need-returns Inv-loop μ-loop
+returns c = let a = c .before .before .args in let l = c .before .loop in
+    sym (some-end (λ i. hasTurn (getD (a .on .now) i 0)) maxEntries (l .e) (l .found) (c .loop-test .left)) ∙ l .inv .1
+
+pub some-turn-spec : {M : Type 1} → statement M
+some-turn-spec =
+    tie.close (tie.spec Inv-loop μ-loop loop-holds mul-switch element-copy-out-switch add-e loop-less loop-again returns)

@@ -1,0 +1,276 @@
+-- After arbitration the model stands for the bodies after the dispatch, and who runs is the one that is chosen.
+--
+--   calm-arbitrated   no body is above the level: nothing changes
+--   settled-tied      whatever the model
+--
+-- Assumes nothing.
+use Prim.Native.Nat.{ℕ, _^_, _≤_, _<_}
+use mathlib.Core.Path.{_≡_, refl, sym, ap, _∙_}
+use mathlib.Core.Logic.{_≢_, ⊎-elim}
+use mathlib.Core.Bool.{Bool, true, false, true≢false, cond, not, _&&_, _||_}
+use mathlib.Core.List.{List, [], _∷_, _++_}
+use native.Mathlib.Nat.{eq-zero-or-pos}
+use native.Mathlib.Omega.{arith}
+use borrow.Author.Tests.{lt-ltb, le-ltb, ne-eqb}
+use lib.Dec.{eqb}
+use lib.ListN.{length, getD, set, length-set}
+use lib.Seq.{getD-set-same, getD-set-other, set-getD}
+use Rattle.number.proofs.Cases.{by-lt, by-eq}
+use Rattle.config.specs.declared.Config.{Config}
+use Rattle.config.specs.Meaning.{priorityOf}
+use Rattle.plan.specs.declared.Plan.{Plan}
+use Rattle.word.specs.Word.{has, with, without, winner}
+use Rattle.word.proofs.Theorems.{empty, has-with-same, has-with-other, with-lt, has-without-same, has-without-other, without-lt, has-union, union-lt, winner-has, winner-highest, winner-empty}
+use Rattle.scheduler.specs.Body.{Phase, suspended, ready, started, isSuspended, isStarted, Body, current, become}
+use Rattle.scheduler.specs.Choice.{chosen, nobody}
+use Rattle.scheduler.specs.State.{State, noBody, among, changing}
+use Rattle.scheduler.specs.Call.{requestWaits, holds}
+use Rattle.scheduler.specs.Scheduler.{begins, dispatched}
+use Rattle.scheduler.proofs.Choice.{current-own}
+use Rattle.machine.specs.Model.{Core, Picked, Model, Outcome, noRank, withCore}
+use Rattle.machine.specs.Arbiter.{bids, winning, beginning, dispatching, arbitrated, settled}
+use Rattle.machine.specs.Machine.{runnerOf}
+use Rattle.machine.proofs.Relation.Fitted.{Fitted}
+use Rattle.machine.proofs.Relation.Words.{at, wants, Words, words-changed}
+use Rattle.machine.proofs.Relation.Slots.{slotsFor, slotsAlong}
+use Rattle.machine.proofs.Relation.Nest.{levelAt, Nested, AllHold, Seats, Alike, alike-same, among-tail-false, nest-level, levelAt-alike, nested-alike, slotsAlong-alike, hold-alike}
+use Rattle.machine.proofs.Relation.Whole.{Apart, Tied, Calm}
+use Rattle.machine.proofs.Arbitration.Seat.{Holders, holders}
+use Rattle.machine.proofs.Arbitration.Bids.{Winner, winning-is, calm-below, winner-above, winner-best}
+use Rattle.machine.proofs.Arbitration.Choice.{active-of-started, chosen-seated, chosen-none, outside, current-below, chosen-above}
+
+and-false : (b : Bool) → b && false ≡ false
+and-false true = refl
+and-false false = refl
+
+-- the model that the machine hands back stands for the bodies after the dispatch, and who runs is the one chosen
+pub record Arbitrated (c : Config) (p : Plan) (rk : ℕ → ℕ) (o : Outcome) (before after : List Body) : Type 0 where
+  pub nest : List ℕ
+  pub tied : Tied c rk (o .model) after nest
+  pub calm : Calm c (o .model .core .level) after
+  pub number : runnerOf p (o .model) ≡ chosen c before .number
+  pub level : o .model .core .level ≡ chosen c before .level
+  pub begun : o .begun ≡ begins (chosen c before)
+
+module _ {c : Config} {p : Plan} {rk : ℕ → ℕ} (fit : Fitted c p rk) where
+  pub rank-below : (b : ℕ) → b < c .bodies → rk b < 32
+  rank-below b h = omega (arith, fit .rank-lt b h, fit .few)
+
+  pub runnerOf-is : (m : Model) (b : ℕ) → b < c .bodies → m .core .runner ≡ rk b → runnerOf p m ≡ b
+  runnerOf-is m b h e = rw (e, lt-ltb (rk b) 32 (rank-below b h)) (fit .body-at b h)
+
+  -- who is chosen, as the machine shows it
+  record Shown (m : Model) (bs : List Body) : Type 0 where
+    number : runnerOf p m ≡ chosen c bs .number
+    level : m .core .level ≡ chosen c bs .level
+    begun : begins (chosen c bs) ≡ false
+
+  module _ {m : Model} {bs : List Body} where
+    shown : (ns : List ℕ) → Tied c rk m bs ns → Calm c (m .core .level) bs → Shown m bs
+    unfolding Seats Nested
+    shown [] t calm =
+        let h : chosen c bs ≡ nobody = chosen-none fit t calm refl in
+        record { number = rw (t .seats .0, h); level = rw h (t .seats .1); begun = rw h }
+    shown (b ∷ ns) t calm =
+        let h = chosen-seated fit t calm b ns refl in
+        record {
+          number = rw h (runnerOf-is m b (t .nested .0) (t .seats .0));
+          level = rw h (t .seats .1 .0);
+          begun = rw h (and-false (not (eqb (current c b (at bs b)) 0)));
+        }
+
+  -- where nobody is above the level the model stays as it is
+  pub calm-arbitrated : {m : Model} {ns : List ℕ} (s : State) (st : ℕ) → Tied c rk m (s .bodies) ns → Calm c (m .core .level) (s .bodies)
+      → Arbitrated c p rk (record { model = m; status = st; begun = false }) (s .bodies) (dispatched c s .bodies)
+  calm-arbitrated {m} {ns} s st t calm =
+      let seat = shown ns t calm in
+      let stays : dispatched c s .bodies ≡ s .bodies = rw (seat .begun) in
+      rw stays (record { nest = ns; tied = t; calm = calm; number = seat .number; level = seat .level; begun = sym (seat .begun) })
+
+  -- the winner is above the level
+  module _ {m : Model} {ns : List ℕ} (s : State) (t : Tied c rk m (s .bodies) ns) (v : Winner fit (t .words))
+      (above : m .core .level < priorityOf c (v .body)) where
+    abbrev bs : List Body
+    bs = s .bodies
+
+    abbrev w : ℕ
+    w = v .body
+
+    -- the bodies after the winner began, or goes on
+    abbrev bs′ : List Body
+    bs′ = set bs w (become started (at bs w))
+
+    best : (i : ℕ) → i < c .bodies → i ≢ w → isSuspended (at bs i .phase) ≡ false → priorityOf c i < priorityOf c w
+    best = winner-best fit (t .words) v
+
+    chosen-w : chosen c bs ≡ record { number = w; level = priorityOf c w; began = isStarted (at bs w .phase) }
+    chosen-w = chosen-above fit t w (v .exists) (v .awake) above best
+
+    free : at bs w .held ≡ []
+    free = t .loose w (outside fit t w (v .exists) (v .awake) above best)
+
+    at-w : at bs′ w ≡ become started (at bs w)
+    at-w = getD-set-same bs w (become started (at bs w)) noBody (rw (t .size) (v .exists))
+
+    at-other : (i : ℕ) → i ≢ w → at bs′ i ≡ at bs i
+    at-other i n = getD-set-other bs w i (become started (at bs w)) noBody n
+
+    -- a body that had begun stays as it is
+    resumed-same : isStarted (at bs w .phase) ≡ true → bs′ ≡ bs
+    resumed-same h = ap (set bs w) (go (at bs w) (at bs w .phase) refl h) ∙ set-getD bs w noBody
+      where
+        go : (x : Body) (q : Phase) → x .phase ≡ q → isStarted q ≡ true → become started x ≡ x
+        go x suspended e h = absurd (true≢false (sym h))
+        go x ready e h = absurd (true≢false (sym h))
+        go x started e h = λ i. record { phase = sym e i; pending = x .pending; held = x .held; losses = x .losses }
+
+    dispatched-is : dispatched c s .bodies ≡ bs′
+    dispatched-is = rw chosen-w (go (isStarted (at bs w .phase)) refl)
+      where
+        go : (b : Bool) → isStarted (at bs w .phase) ≡ b
+            → cond (not (eqb (priorityOf c w) 0) && not b) (changing w (become started) s) s .bodies ≡ bs′
+        go true e = rw (and-false (not (eqb (priorityOf c w) 0))) (sym (resumed-same e))
+        go false e = rw (ne-eqb (priorityOf c w) 0 (λ z. absurd (omega (arith, z, fit .own-some w (v .exists)))))
+
+    -- the winner's bits: it has begun, and what waits of it is its second request
+    abbrev k′ : Core
+    k′ = dispatching (p .priority) (m .core)
+
+    winner-lt : winner (bids (m .core)) < 32
+    winner-lt = rw (sym (v .rank)) (rank-below w (v .exists))
+
+    began-is : has (m .core .started) (winner (bids (m .core))) ≡ isStarted (at bs w .phase)
+    began-is = rw (sym (v .rank)) (t .words .begun w (v .exists))
+
+    beginning-is : beginning (m .core) ≡ not (isStarted (at bs w .phase))
+    beginning-is = ap not began-is
+
+    words′ : Words c rk k′ bs′
+    words′ =
+        words-changed fit (t .words) (t .size) w (v .exists) (become started (at bs w)) k′
+        (request-lt (beginning (m .core)))
+        (with-lt (m .core .started) (winner (bids (m .core))) (t .words .started-lt))
+        (rw beginning-is (asked (isStarted (at bs w .phase)) refl))
+        (rw (v .rank) (has-with-same (m .core .started) (winner (bids (m .core))) winner-lt))
+        (λ r n. other (beginning (m .core)) r (rw (v .rank) at n))
+        (λ r n. has-with-other (m .core .started) (winner (bids (m .core))) r (rw (v .rank) at n))
+        (λ h. absurd (true≢false h))
+      where
+        q : ℕ
+        q = m .core .request
+
+        W : ℕ
+        W = winner (bids (m .core))
+
+        request-lt : (b : Bool) → cond b (without q W) q < 2 ^ 32
+        request-lt true = without-lt q W (t .words .request-lt)
+        request-lt false = t .words .request-lt
+
+        other : (b : Bool) (r : ℕ) → r ≢ W → has (cond b (without q W) q) r ≡ has q r
+        other true r n = has-without-other q W r n
+        other false r n = refl
+
+        second : (x : Body) (f : Phase) → isStarted f ≡ true → requestWaits x f ≡ x .pending
+        second x suspended h = absurd (true≢false (sym h))
+        second x ready h = absurd (true≢false (sym h))
+        second x started h = refl
+
+        asked : (b : Bool) → isStarted (at bs w .phase) ≡ b → has (cond (not b) (without q W) q) (rk w) ≡ at bs w .pending
+        asked true e = t .words .asks w (v .exists) ∙ second (at bs w) (at bs w .phase) e
+        asked false e = rw (v .rank) (has-without-same q W) ∙ sym (t .words .quiet w e)
+
+    -- the nest below the winner
+    abbrev below : Holders c rk m bs
+    below = holders t
+
+    abbrev ks : List ℕ
+    ks = below .nest
+
+    low : levelAt c bs ks < priorityOf c w
+    low = omega (arith, below .low, above)
+
+    -- the winner is none of those that hold a resource
+    other : (i : ℕ) → among i ks ≡ true → i ≢ w
+    other i h e =
+        let l : current c w (at bs w) ≤ levelAt c bs ks = rw e at (nest-level c bs i ks (below .nested) h) in
+        omega (arith, low, current-own c w (at bs w))
+
+    alike : (i : ℕ) → among i ks ≡ true → Alike (at bs i) (at bs′ i)
+    alike i h = alike-same (sym (at-other i (other i h)))
+
+    nested′ : Nested c bs′ (w ∷ ks)
+    unfolding Nested
+    nested′ =
+        (v .exists, (ap (λ (x : Body). isStarted (x .phase)) at-w, (rw (sym (levelAt-alike c rk bs bs′ ks alike)) low, nested-alike c rk bs bs′ ks alike (below .nested))))
+
+    level′ : winning (p .priority) (m .core) ≡ current c w (at bs′ w)
+    level′ = winning-is fit (t .words) v ∙ sym (rw (at-w, free))
+
+    slots-same : slotsAlong c rk bs ks ≡ slotsAlong c rk bs′ (w ∷ ks)
+    unfolding slotsAlong slotsFor
+    slots-same =
+        slotsAlong-alike c rk bs bs′ ks alike
+        ∙ sym (ap (λ (rs : List ℕ). slotsFor c rk w rs ++ slotsAlong c rk bs′ ks) (ap (λ (b : Body). b .held) at-w ∙ free))
+
+    -- a body that has begun now had begun, or is the winner
+    apart′ : Apart c bs′
+    apart′ a b a< b< sa sb l =
+        by-eq a w
+        (λ e. by-eq b w
+        (λ f. absurd (omega (arith, l, ap (priorityOf c) (e ∙ sym f))))
+        (λ n. absurd (omega (arith, l, ap (priorityOf c) e, best b b< n (active b n sb)))))
+        (λ n. rw (at-other a n) (by-eq b w
+        (λ f. rw f (current-below fit t w (v .exists) (v .awake) above best a a< n (active a n sa)))
+        (λ o. t .apart a b a< b< (before a n sa) (before b o sb) l)))
+      where
+        before : (i : ℕ) → i ≢ w → isStarted (at bs′ i .phase) ≡ true → isStarted (at bs i .phase) ≡ true
+        before i n h = sym (ap (λ (x : Body). isStarted (x .phase)) (at-other i n)) ∙ h
+
+        active : (i : ℕ) → i ≢ w → isStarted (at bs′ i .phase) ≡ true → isSuspended (at bs i .phase) ≡ false
+        active i n h = active-of-started (at bs i .phase) (before i n h)
+
+    tied′ : Tied c rk (withCore m k′) bs′ (w ∷ ks)
+    unfolding Seats
+    tied′ =
+        record {
+          size = length-set bs w (become started (at bs w)) ∙ t .size;
+          words = words′;
+          nested = nested′;
+          seats = (sym (v .rank), (level′, hold-alike c rk bs bs′ ks alike (below .hold)));
+          slots = rw (sym slots-same) (below .slots);
+          loose = λ i h. by-eq i w
+              (λ e. rw (e, at-w) free)
+              (λ n. rw (at-other i n) (below .loose i (among-tail-false i w ks h)));
+          apart = apart′;
+        }
+
+    calm′ : Calm c (winning (p .priority) (m .core)) bs′
+    calm′ i i< a =
+        by-eq i w
+        (λ e. omega (arith, winning-is fit (t .words) v, ap (priorityOf c) e))
+        (λ n. omega (arith, winning-is fit (t .words) v, best i i< n (sym (ap (λ (x : Body). isSuspended (x .phase)) (at-other i n)) ∙ a)))
+
+    settled-above : Arbitrated c p rk (settled (p .priority) m) bs (dispatched c s .bodies)
+    unfolding arbitrated
+    settled-above =
+        rw (lt-ltb (m .core .level) (winning (p .priority) (m .core)) (rw (winning-is fit (t .words) v) above), dispatched-is)
+        (record {
+          nest = w ∷ ks;
+          tied = tied′;
+          calm = calm′;
+          number = rw chosen-w (runnerOf-is (withCore m k′) w (v .exists) (sym (v .rank)));
+          level = rw chosen-w (winning-is fit (t .words) v);
+          begun = rw chosen-w (beginning-is ∙ begins-is (priorityOf c w) (isStarted (at bs w .phase)) (fit .own-some w (v .exists)));
+        })
+      where
+        begins-is : (n : ℕ) (b : Bool) → 1 ≤ n → not b ≡ not (eqb n 0) && not b
+        begins-is n b h = rw (ne-eqb n 0 (λ z. absurd (omega arith)))
+
+  pub settled-tied : {m : Model} {ns : List ℕ} (s : State) → Tied c rk m (s .bodies) ns
+      → Arbitrated c p rk (settled (p .priority) m) (s .bodies) (dispatched c s .bodies)
+  unfolding arbitrated
+  settled-tied {m} {ns} s t =
+      by-lt (m .core .level) (winning (p .priority) (m .core))
+      (λ above. let v = winner-above fit (t .words) above in
+      settled-above s t v (rw (sym (winning-is fit (t .words) v)) above))
+      (λ low. rw (le-ltb (m .core .level) (winning (p .priority) (m .core)) low) (calm-arbitrated s 0 t (calm-below fit (t .words) low)))

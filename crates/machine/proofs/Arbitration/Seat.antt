@@ -1,0 +1,69 @@
+-- The state between two runners: the nest of those that hold a resource.
+--
+--   Holders c rk m bs   the bodies that hold a resource, nested, with a level at most the model's
+--   holders             of every model there are such
+--   seated-last         the one that took the latest resource takes the seat, or nobody does
+--
+-- Assumes nothing.
+use Prim.Native.Nat.{ℕ, _≤_, _<_}
+use mathlib.Core.Path.{_≡_, refl, sym, ap, _∙_}
+use mathlib.Core.Bool.{Bool, true, false, true≢false, cond}
+use mathlib.Core.List.{List, [], _∷_, _++_}
+use native.Mathlib.Omega.{arith}
+use borrow.Author.Tests.{eq-eqb, ne-eqb}
+use lib.Dec.{eqb}
+use Rattle.number.proofs.Cases.{by-eq}
+use Rattle.config.specs.declared.Config.{Config}
+use Rattle.config.specs.Meaning.{priorityOf}
+use Rattle.plan.specs.declared.Plan.{Plan}
+use Rattle.stack.specs.Stack.{topRow}
+use Rattle.scheduler.specs.Body.{Body, current}
+use Rattle.scheduler.specs.State.{among}
+use Rattle.scheduler.specs.Call.{holds}
+use Rattle.scheduler.proofs.Choice.{current-own}
+use Rattle.machine.specs.Model.{Model, noRank}
+use Rattle.machine.proofs.Relation.Fitted.{Fitted}
+use Rattle.machine.proofs.Relation.Rows.{row-shows-top}
+use Rattle.machine.proofs.Relation.Words.{at}
+use Rattle.machine.proofs.Relation.Slots.{Slot, slotsFor, slotsAlong, Slots}
+use Rattle.machine.proofs.Relation.Nest.{levelAt, Nested, AllHold, Seats, by-among, among-head, among-tail, not-among, among-nil}
+use Rattle.machine.proofs.Relation.Whole.{Tied}
+
+pub record Holders (c : Config) (rk : ℕ → ℕ) (m : Model) (bs : List Body) : Type 0 where
+  pub nest : List ℕ
+  pub nested : Nested c bs nest
+  pub hold : AllHold bs nest
+  pub low : levelAt c bs nest ≤ m .core .level
+  pub slots : Slots (m .held) (m .resource) (m .holder) (m .raised) (slotsAlong c rk bs nest)
+  pub loose : (b : ℕ) → among b nest ≡ false → at bs b .held ≡ []
+
+module _ {c : Config} {rk : ℕ → ℕ} {m : Model} {bs : List Body} where
+  -- whoever runs stays among them if it holds a resource
+  pub holders : {ns : List ℕ} → Tied c rk m bs ns → Holders c rk m bs
+  unfolding Nested Seats levelAt slotsAlong slotsFor
+  holders {ns} t = go ns (t .nested) (t .seats) (t .slots) (t .loose)
+    where
+      go : (ns : List ℕ) → Nested c bs ns → Seats c rk bs (m .core .runner) (m .core .level) ns
+          → Slots (m .held) (m .resource) (m .holder) (m .raised) (slotsAlong c rk bs ns) → ((b : ℕ) → among b ns ≡ false → at bs b .held ≡ []) → Holders c rk m bs
+      go [] k s q l = record { nest = []; nested = k; hold = λ i h. absurd (true≢false (sym h ∙ among-nil i)); low = omega arith; slots = q; loose = l }
+      go (b ∷ ns) k s q l = by (at bs b .held) refl
+        where
+          by : (rs : List ℕ) → at bs b .held ≡ rs → Holders c rk m bs
+          by [] e =
+              record {
+                nest = ns;
+                nested = k .1 .1 .1;
+                hold = s .1 .1;
+                low = omega (arith, k .1 .1 .0, s .1 .0, current-own c b (at bs b));
+                slots = rw e at q;
+                loose = λ i h. by-eq i b (λ f. rw f e) (λ n. l i (not-among i b ns n h));
+              }
+          by (r ∷ rs) e =
+              record {
+                nest = b ∷ ns;
+                nested = k;
+                hold = λ i h. by-among i b ns h (λ f. rw (f, e)) (λ _ a. s .1 .1 i a);
+                low = omega (arith, s .1 .0);
+                slots = q;
+                loose = l;
+              }

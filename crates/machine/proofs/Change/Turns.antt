@@ -1,0 +1,148 @@
+-- Turns of the counter that must pass unmatched: what the switches say of them after a tick, and at a start.
+--
+--   switch-on, switch-turn   a switch says whether its cell is on, and whether it has a turn to pass
+--   some-holds, some-none    one of the cells from e on
+--   on-after, turn-after     a cell's switch after a tick says what the tick made of the cell
+--
+-- Assumes nothing.
+use Prim.Native.Nat.{ℕ, zero, suc, _+_, _≤_, _<_}
+use mathlib.Core.Bool.{Bool, true, false, cond, not, true≢false, _&&_, _||_, and-false, or-true}
+use mathlib.Core.List.{List}
+use mathlib.Core.Path.{_≡_, refl, sym, ap, ap₂, _∙_}
+use native.Mathlib.Omega.{arith}
+use borrow.Author.Tests.{eqb-true}
+use lib.ListN.{length, getD, set, length-set, List·getD-eq-default}
+use lib.Seq.{getD-set-same, getD-set-other}
+use Rattle.number.proofs.Cases.{by-eq, by-lt}
+use Rattle.config.specs.Value.{maxEntries}
+use Rattle.cell.specs.declared.Cell.{Cell}
+use Rattle.cell.specs.Cell.{unmarked, ticked}
+use Rattle.cell.proofs.Theorems.{ticked-turn}
+use Rattle.machine.specs.Cells.{switchTurn, isOn, hasTurn, switchFor, cellAt, switchTicked, switchesTicked, some, someTurn}
+
+-- a turn is one of a cell that is on
+pub switch-on : (on t : Bool) → (t ≡ true → on ≡ true) → isOn (switchFor on t) ≡ on
+switch-on on true h = sym (h refl)
+switch-on true false h = refl
+switch-on false false h = refl
+
+pub switch-turn : (on t : Bool) → hasTurn (switchFor on t) ≡ t
+switch-turn on true = refl
+switch-turn true false = refl
+switch-turn false false = refl
+
+turn-on : (x : ℕ) → hasTurn x ≡ true → isOn x ≡ true
+turn-on x h = ap isOn (eqb-true x switchTurn h)
+
+first-true : (a b : Bool) → a && b ≡ true → a ≡ true
+first-true true b h = refl
+first-true false b h = h
+
+-- of two that are not both false
+module _ (f : ℕ → Bool) where
+  pub some-holds : (k e i : ℕ) → e ≤ i → i < e + k → f i ≡ true → some f k e ≡ true
+  unfolding some
+  some-holds zero e i low high h = absurd (omega arith)
+  some-holds (suc k) e i low high h =
+      by-eq i e
+      (λ q. rw (sym (ap f q) ∙ h))
+      (λ n. rw (some-holds k (suc e) i (omega (arith, n)) (omega arith) h) (or-true (f e)))
+
+  pub some-none : (k e i : ℕ) → e ≤ i → i < e + k → some f k e ≡ false → f i ≡ false
+  some-none k e i low high h = go (f i) refl
+    where
+      go : (b : Bool) → f i ≡ b → f i ≡ false
+      go true q = absurd (true≢false (sym (some-holds k e i low high q) ∙ h))
+      go false q = q
+
+-- the switches after a tick, place by place
+module _ (ks ns : List ℕ) where
+  length-switches : (k e : ℕ) (os : List ℕ) → length (switchesTicked k e ks ns os) ≡ length os
+  unfolding switchesTicked
+  length-switches zero e os = refl
+  length-switches (suc k) e os = length-switches k (suc e) _ ∙ length-set os e _
+
+  switches-before : (k e i : ℕ) (os : List ℕ) → i < e → getD (switchesTicked k e ks ns os) i 0 ≡ getD os i 0
+  unfolding switchesTicked
+  switches-before zero e i os h = refl
+  switches-before (suc k) e i os h =
+      switches-before k (suc e) i _ (omega arith) ∙ getD-set-other os e i _ 0 (λ z. absurd (omega arith))
+
+  switches-at : (k e i : ℕ) (os : List ℕ) → e ≤ i → i < e + k → i < length os → getD (switchesTicked k e ks ns os) i 0 ≡ switchTicked ks ns os i
+  unfolding switchesTicked
+  switches-at zero e i os low high within = absurd (omega arith)
+  switches-at (suc k) e i os low high within =
+      by-eq i e
+      (λ z. rw z (switches-before k (suc e) e (set os e x) (omega arith) ∙ getD-set-same os e x 0 (omega arith)))
+      (λ n. switches-at k (suc e) i (set os e x) (omega (arith, n)) (omega arith) (rw (length-set os e x) within)
+      ∙ ap (λ (y : ℕ). switchFor (isOn y) (ticked (unmarked (getD ns i 0) (getD ks i 0) (isOn y) (hasTurn y)) .turn)) (getD-set-other os e i x 0 n))
+    where
+      x : ℕ
+      x = switchTicked ks ns os e
+
+-- the switches and whether any turn is left, after a tick of a row that has turns to pass or not
+abbrev pub switchesAfter : Bool → List ℕ → List ℕ → List ℕ → List ℕ
+switchesAfter w ks ns os = cond w (switchesTicked maxEntries 0 ks ns os) os
+
+abbrev pub turningAfter : Bool → List ℕ → List ℕ → List ℕ → Bool
+turningAfter w ks ns os = w && someTurn maxEntries 0 (switchesAfter w ks ns os)
+
+pub length-after : (w : Bool) (ks ns os : List ℕ) → length (switchesAfter w ks ns os) ≡ length os
+length-after true ks ns os = length-switches ks ns maxEntries 0 os
+length-after false ks ns os = refl
+
+past : (os : List ℕ) (e : ℕ) → length os ≡ maxEntries → maxEntries ≤ e → getD os e 0 ≡ 0
+past os e long h = List·getD-eq-default os 0 (omega arith)
+
+module _ (ks ns os : List ℕ) (e : ℕ) where
+  turn-of-on : ticked (cellAt true ks os ns e) .turn ≡ true → isOn (getD os e 0) ≡ true
+  turn-of-on h = turn-on (getD os e 0) (first-true _ _ (sym (ticked-turn (cellAt true ks os ns e)) ∙ h))
+
+  module _ (inside : e < maxEntries) (long : length os ≡ maxEntries) where
+    switch-after : getD (switchesTicked maxEntries 0 ks ns os) e 0 ≡ switchTicked ks ns os e
+    switch-after = switches-at ks ns maxEntries 0 e os (omega arith) (omega arith) (omega arith)
+
+    on-ticked : isOn (getD (switchesTicked maxEntries 0 ks ns os) e 0) ≡ isOn (getD os e 0)
+    on-ticked = ap isOn switch-after ∙ switch-on (isOn (getD os e 0)) (ticked (cellAt true ks os ns e) .turn) turn-of-on
+
+    turn-ticked : hasTurn (getD (switchesTicked maxEntries 0 ks ns os) e 0) ≡ ticked (cellAt true ks os ns e) .turn
+    turn-ticked = ap hasTurn switch-after ∙ switch-turn (isOn (getD os e 0)) (ticked (cellAt true ks os ns e) .turn)
+
+module _ (w : Bool) (ks ns os : List ℕ) where
+  pub on-after : (e : ℕ) → e < maxEntries → length os ≡ maxEntries → isOn (getD (switchesAfter w ks ns os) e 0) ≡ isOn (getD os e 0)
+  on-after e inside long = go w
+    where
+      go : (w : Bool) → isOn (getD (switchesAfter w ks ns os) e 0) ≡ isOn (getD os e 0)
+      go true = on-ticked ks ns os e inside long
+      go false = refl
+
+  pub turn-after : (e : ℕ) → e < maxEntries → length os ≡ maxEntries
+      → turningAfter w ks ns os && hasTurn (getD (switchesAfter w ks ns os) e 0) ≡ ticked (cellAt w ks os ns e) .turn
+  turn-after e inside long = go w
+    where
+      left : (t : Bool) → hasTurn (getD (switchesTicked maxEntries 0 ks ns os) e 0) ≡ t
+          → someTurn maxEntries 0 (switchesTicked maxEntries 0 ks ns os) && hasTurn (getD (switchesTicked maxEntries 0 ks ns os) e 0) ≡ t
+      left true h = ap₂ (λ (a b : Bool). a && b) (some-holds _ maxEntries 0 e (omega arith) (omega arith) h) h
+      left false h = rw h (and-false (someTurn maxEntries 0 (switchesTicked maxEntries 0 ks ns os)))
+
+      go : (w : Bool) → turningAfter w ks ns os && hasTurn (getD (switchesAfter w ks ns os) e 0) ≡ ticked (cellAt w ks os ns e) .turn
+      go true = left (ticked (cellAt true ks os ns e) .turn) (turn-ticked ks ns os e inside long)
+      go false = sym (ticked-turn (cellAt false ks os ns e))
+
+  pub off-after : (e : ℕ) → length os ≡ maxEntries → isOn (getD os e 0) ≡ false → isOn (getD (switchesAfter w ks ns os) e 0) ≡ false
+  off-after e long off =
+      by-lt e maxEntries
+      (λ inside. on-after e inside long ∙ off)
+      (λ h. ap isOn (past (switchesAfter w ks ns os) e (length-after w ks ns os ∙ long) h))
+
+  pub none-after : length os ≡ maxEntries → (w ≡ false → (e : ℕ) → hasTurn (getD os e 0) ≡ false)
+      → turningAfter w ks ns os ≡ false → (e : ℕ) → hasTurn (getD (switchesAfter w ks ns os) e 0) ≡ false
+  none-after long before = go w before
+    where
+      go : (w : Bool) → (w ≡ false → (e : ℕ) → hasTurn (getD os e 0) ≡ false) → turningAfter w ks ns os ≡ false
+          → (e : ℕ) → hasTurn (getD (switchesAfter w ks ns os) e 0) ≡ false
+      go true before none e =
+          by-lt e maxEntries
+          (λ inside. some-none _ maxEntries 0 e (omega arith) (omega arith) none)
+          (λ h. ap hasTurn (past (switchesTicked maxEntries 0 ks ns os) e (length-switches ks ns maxEntries 0 os ∙ long) h))
+      go false before none e = before refl e

@@ -1,0 +1,213 @@
+-- Get and Release do the same to the model as to the state.
+-- Assumes nothing.
+use Prim.Native.Nat.{ℕ, zero, suc, max, _<_}
+use mathlib.Core.Path.{_≡_, refl, sym, ap, ap₂, _∙_}
+use mathlib.Core.Bool.{Bool, true, false, true≢false, not, _||_}
+use mathlib.Core.List.{List, [], _∷_, _++_}
+use native.Mathlib.Omega.{arith}
+use borrow.Author.Tests.{eqb-true, leb-false}
+use lib.Dec.{ltb, leb, eqb}
+use lib.ListN.{length, getD, length-set}
+use Rattle.config.specs.declared.Config.{Config}
+use Rattle.config.specs.Meaning.{priorityOf, ceiling}
+use Rattle.plan.specs.declared.Plan.{Plan}
+use Rattle.word.specs.Word.{has}
+use Rattle.scheduler.specs.Status.{done, callLevel, noSuch, access, noFunction}
+use Rattle.scheduler.specs.Body.{Body, isSuspended, gets, releases}
+use Rattle.scheduler.specs.State.{State, among, heldIn, bodyOf}
+use Rattle.scheduler.specs.Call.{nobodyRuns, caller, calling, latestIs, getStatus, releaseStatus, get, release}
+use Rattle.scheduler.specs.Tick.{dues}
+use Rattle.scheduler.specs.Scheduler.{Get, Release, step}
+use Rattle.scheduler.proofs.Checks.{get-passed, release-passed}
+use Rattle.machine.specs.Model.{Model, doneWith}
+use Rattle.machine.specs.Arbiter.{settled}
+use Rattle.machine.specs.Resources.{latest, taking, freeing}
+use Rattle.machine.specs.Events as Machine
+use Rattle.machine.specs.Events.{idles, got, released}
+use Rattle.machine.specs.Machine.{machineStep, matched}
+use Rattle.machine.proofs.Relation.Fitted.{Fitted}
+use Rattle.machine.proofs.Relation.Words.{at}
+use Rattle.machine.proofs.Relation.Slots.{Slot, slotsFor, slotsAlong, resourcesIn}
+use Rattle.machine.proofs.Relation.Nest.{Nested, by-among, among-tail, among-nil}
+use Rattle.machine.proofs.Relation.Losses.{lost-same}
+use Rattle.machine.proofs.Relation.Whole.{Tied, Sim}
+use Rattle.machine.proofs.Arbitration.Dispatch.{settled-tied, calm-arbitrated}
+use Rattle.machine.proofs.Change.Hold.{latest-is}
+use Rattle.machine.proofs.Change.Get.{get-tied}
+use Rattle.machine.proofs.Change.Release.{release-tied}
+use Rattle.machine.proofs.Event.Agrees.{kept, first-same, Agrees, by-runner, agrees-attempt, no-match}
+
+-- a Bool is what another is if each follows from the other
+iff-bool : (a b : Bool) → (a ≡ true → b ≡ true) → (b ≡ true → a ≡ true) → a ≡ b
+iff-bool true b f g = sym (f refl)
+iff-bool false true f g = g refl
+iff-bool false false f g = refl
+
+or-cases {ℓ} : {C : Type ℓ} (a b : Bool) → a || b ≡ true → (a ≡ true → C) → (b ≡ true → C) → C
+or-cases true b h f g = f refl
+or-cases false b h f g = g h
+
+or-left : (a b : Bool) → a ≡ true → a || b ≡ true
+or-left a b h = rw h
+
+or-right : (a b : Bool) → b ≡ true → a || b ≡ true
+or-right true b h = refl
+or-right false b h = h
+
+-- a number in one of two lists
+among-append-left : (r : ℕ) (xs ys : List ℕ) → among r xs ≡ true → among r (xs ++ ys) ≡ true
+unfolding among
+among-append-left r [] ys h = absurd (true≢false (sym h))
+among-append-left r (x ∷ xs) ys h = or-cases (eqb r x) (among r xs) h (λ e. or-left (eqb r x) _ e) (λ q. or-right (eqb r x) _ (among-append-left r xs ys q))
+
+among-append-right : (r : ℕ) (xs ys : List ℕ) → among r ys ≡ true → among r (xs ++ ys) ≡ true
+among-append-right r [] ys h = h
+among-append-right r (x ∷ xs) ys h = among-tail r x (xs ++ ys) (among-append-right r xs ys h)
+
+by-append {ℓ} : {C : Type ℓ} (r : ℕ) (xs ys : List ℕ) → among r (xs ++ ys) ≡ true → (among r xs ≡ true → C) → (among r ys ≡ true → C) → C
+unfolding among
+by-append r [] ys h f g = g h
+by-append r (x ∷ xs) ys h f g =
+    or-cases (eqb r x) (among r (xs ++ ys)) h
+    (λ e. f (or-left (eqb r x) _ e))
+    (λ q. by-append r xs ys q (λ a. f (or-right (eqb r x) _ a)) g)
+
+-- "held by anyone" is held by some body of the list
+held-at : (r : ℕ) (bs : List Body) (i : ℕ) → i < length bs → among r (at bs i .held) ≡ true → heldIn r bs ≡ true
+unfolding heldIn
+held-at r [] i h a = absurd (omega arith)
+held-at r (b ∷ bs) zero h a = or-left (among r (b .held)) _ a
+held-at r (b ∷ bs) (suc i) h a = or-right (among r (b .held)) _ (held-at r bs i (omega arith) a)
+
+held-by : (r : ℕ) (bs : List Body) → heldIn r bs ≡ true → (i : ℕ) × ((i < length bs) × (among r (at bs i .held) ≡ true))
+unfolding heldIn
+held-by r [] h = absurd (true≢false (sym h))
+held-by r (b ∷ bs) h =
+    or-cases (among r (b .held)) (heldIn r bs) h
+    (λ a. (zero, (omega arith, a)))
+    (λ q. let x = held-by r bs q in (suc (x .0), (omega (arith, x .1 .0), x .1 .1)))
+
+module _ (c : Config) (rk : ℕ → ℕ) (bs : List Body) where
+  resources-for : (b : ℕ) (rs : List ℕ) → resourcesIn (slotsFor c rk b rs) ≡ rs
+  unfolding slotsFor
+  resources-for b [] = refl
+  resources-for b (r ∷ rs) = ap (λ (l : List ℕ). r ∷ l) (resources-for b rs)
+
+  map-append : (xs ys : List Slot) → resourcesIn (xs ++ ys) ≡ resourcesIn xs ++ resourcesIn ys
+  map-append [] ys = refl
+  map-append (x ∷ xs) ys = ap (λ (l : List ℕ). x .resource ∷ l) (map-append xs ys)
+
+  along-step : (b : ℕ) (ns : List ℕ) → resourcesIn (slotsAlong c rk bs (b ∷ ns)) ≡ at bs b .held ++ resourcesIn (slotsAlong c rk bs ns)
+  unfolding slotsAlong
+  along-step b ns = map-append (slotsFor c rk b (at bs b .held)) (slotsAlong c rk bs ns) ∙ ap (λ (l : List ℕ). l ++ resourcesIn (slotsAlong c rk bs ns)) (resources-for b (at bs b .held))
+
+  -- what a body of the chain holds has a slot, and what has a slot is held by a body of the chain
+  slot-of : (r i : ℕ) (ns : List ℕ) → among i ns ≡ true → among r (at bs i .held) ≡ true → among r (resourcesIn (slotsAlong c rk bs ns)) ≡ true
+  unfolding among
+  slot-of r i [] h a = absurd (true≢false (sym h))
+  slot-of r i (b ∷ ns) h a =
+      rw (along-step b ns)
+      (by-among i b ns h
+      (λ e. among-append-left r (at bs b .held) _ (rw e at a))
+      (λ _ q. among-append-right r (at bs b .held) _ (slot-of r i ns q a)))
+
+  slot-by : (r : ℕ) (ns : List ℕ) → Nested c bs ns → among r (resourcesIn (slotsAlong c rk bs ns)) ≡ true → (i : ℕ) × ((i < c .bodies) × (among r (at bs i .held) ≡ true))
+  unfolding slotsAlong among Nested
+  slot-by r [] k h = absurd (true≢false (sym h))
+  slot-by r (b ∷ ns) k h =
+      by-append r (at bs b .held) (resourcesIn (slotsAlong c rk bs ns)) (rw (along-step b ns) at h)
+      (λ a. (b, (k .0, a)))
+      (λ q. slot-by r ns (k .1 .1 .1) q)
+
+-- the machine's flag of a resource says whether anybody holds it
+pub flag-is : {c : Config} {rk : ℕ → ℕ} {m : Model} {bs : List Body} {ns : List ℕ} → Tied c rk m bs ns → (r : ℕ) → has (m .held) r ≡ heldIn r bs
+flag-is {c} {rk} {m} {bs} {ns} t r =
+    t .slots .flags r
+    ∙ iff-bool (among r (resourcesIn (slotsAlong c rk bs ns))) (heldIn r bs)
+    (λ h. let x = slot-by c rk bs r ns (t .nested) h in held-at r bs (x .0) (rw (t .size) (x .1 .0)) (x .1 .1))
+    (λ h. let x = held-by r bs h in slot-of c rk bs r (x .0) ns (inside (x .0) (among (x .0) ns) refl (x .1 .1)) (x .1 .1))
+  where
+    -- who holds something is in the nest
+    inside : (i : ℕ) (b : Bool) → among i ns ≡ b → among r (at bs i .held) ≡ true → among i ns ≡ true
+    inside i true e a = e
+    inside i false e a = absurd (true≢false (sym (rw (t .loose i e) at a) ∙ among-nil r))
+
+-- the latest of a list of held resources
+latest-split : (r : ℕ) (rs : List ℕ) → latestIs r rs ≡ true → (q : List ℕ) × (rs ≡ r ∷ q)
+latest-split r [] h = absurd (true≢false (sym h))
+latest-split r (x ∷ xs) h = (xs, ap (λ (y : ℕ). y ∷ xs) (sym (eqb-true r x h)))
+
+module _ {c : Config} {p : Plan} {rk : ℕ → ℕ} (fit : Fitted c p rk) {m : Model} {s : State} (sim : Sim c p rk m s)
+    (long : length (dues c s) ≡ p .count) where
+  abbrev bs : List Body
+  bs = s .bodies
+
+  -- Get
+  get-status : (r : ℕ) → Machine.getStatus (c .resources) (p .ceiling) (p .priority) m r ≡ getStatus c s r
+  get-status r =
+      by-runner fit sim
+      (λ i n. first-same (idles m) (nobodyRuns c s) callLevel _ _ (i ∙ sym n) (λ h. absurd (true≢false (sym n ∙ h))))
+      (λ b ns k.
+      first-same (idles m) (nobodyRuns c s) callLevel _ _ (k .not-idle ∙ sym (k .somebody))
+      (λ _. first-same (leb (c .resources) r) (leb (c .resources) r) noSuch _ _ refl
+      (λ h. first-same (has (m .held) r || ltb (getD (p .ceiling) r 0) (getD (p .priority) (m .core .runner) 0)) (heldIn r bs || ltb (ceiling c r) (priorityOf c (caller c s))) access _ _
+      (ap₂ (λ (x y : Bool). x || y) (flag-is (sim .tied) r)
+      (ap₂ ltb (fit .ceiling-at r (leb-false (c .resources) r h)) (rw (k .rank) (fit .priority-at b (k .exists)) ∙ ap (priorityOf c) (sym (k .calls)))))
+      (λ _. refl))))
+
+  -- Get changes no phase
+  get-phase {ℓ} : {A : Type ℓ} (f : Body → A) → ((x : Body) (r : ℕ) → f (gets r x) ≡ f x) → (r i : ℕ) → f (at (get c r s .bodies) i) ≡ f (at bs i)
+  get-phase f keeps r = kept f (gets r) (λ x. keeps x r) bs (caller c s)
+
+  pub agrees-get : (r : ℕ) → Agrees c p rk m s (Get r)
+  unfolding machineStep got step matched
+  agrees-get r =
+      agrees-attempt fit sim (Get r) (Machine.getStatus (c .resources) (p .ceiling) (p .priority) m r) (getStatus c s r)
+      (doneWith (taking r (max (getD (p .ceiling) r 0) (m .core .level)) m) false) (get c r s) refl refl
+      (no-match fit sim long) (get-status r)
+      (λ z. let a = get-passed c s r z in
+      by-runner fit sim
+      (λ i n. absurd (true≢false (sym n ∙ a .0)))
+      (λ b ns k.
+      let t : Tied c rk (taking r (max (getD (p .ceiling) r 0) (m .core .level)) m) (get c r s .bodies) (b ∷ ns) =
+      rw (k .calls) (get-tied fit (k .tied) (sim .calm) r (a .1) (flag-is (sim .tied) r ∙ a .2)) in
+      record {
+        status = refl;
+        arb = calm-arbitrated fit (get c r s) done t
+            (λ i i< u. let q = sim .calm i i< (sym (get-phase (λ x. isSuspended (x .phase)) (λ x _. refl) r i) ∙ u) in omega arith);
+        size = length-set bs (caller c s) (gets r (calling c s)) ∙ sim .tied .size;
+        timed = sim .timed;
+        lost = lost-same (get-phase (λ x. x .losses) (λ x _. refl) r) (sim .lost);
+      }))
+
+  -- Release
+  release-status : (r : ℕ) → Machine.releaseStatus (c .resources) m r ≡ releaseStatus c s r
+  release-status r =
+      by-runner fit sim
+      (λ i n. first-same (idles m) (nobodyRuns c s) callLevel _ _ (i ∙ sym n) (λ h. absurd (true≢false (sym n ∙ h))))
+      (λ b ns k.
+      first-same (idles m) (nobodyRuns c s) callLevel _ _ (k .not-idle ∙ sym (k .somebody))
+      (λ _. first-same (leb (c .resources) r) (leb (c .resources) r) noSuch _ _ refl
+      (λ _. first-same (not (latest m r)) (not (latestIs r (calling c s .held))) noFunction _ _
+      (ap not (latest-is fit (k .tied) r ∙ ap (λ (i : ℕ). latestIs r (bodyOf s i .held)) (sym (k .calls))))
+      (λ _. refl))))
+
+  pub agrees-release : (r : ℕ) → Agrees c p rk m s (Release r)
+  unfolding machineStep released step matched
+  agrees-release r =
+      agrees-attempt fit sim (Release r) (Machine.releaseStatus (c .resources) m r) (releaseStatus c s r)
+      (settled (p .priority) (freeing (p .priority) r m)) (release c s) refl refl
+      (no-match fit sim long) (release-status r)
+      (λ z. let a = release-passed c s r z in
+      by-runner fit sim
+      (λ i n. absurd (true≢false (sym n ∙ a .0)))
+      (λ b ns k.
+      let h = latest-split r (at bs b .held) (ap (λ (i : ℕ). latestIs r (bodyOf s i .held)) (sym (k .calls)) ∙ a .2) in
+      let t : Tied c rk (freeing (p .priority) r m) (release c s .bodies) (b ∷ ns) = rw (k .calls) (release-tied fit (k .tied) r (a .1) (h .0) (h .1)) in
+      record {
+        status = refl;
+        arb = settled-tied fit (release c s) t;
+        size = length-set bs (caller c s) (releases (calling c s)) ∙ sim .tied .size;
+        timed = sim .timed;
+        lost = lost-same (kept (λ x. x .losses) releases (λ x. refl) bs (caller c s)) (sim .lost);
+      }))

@@ -1,0 +1,236 @@
+-- Start and Stop do the same to the model as to the state: the cells of one table are switched, and no other table's.
+-- Assumes nothing.
+use Prim.Native.Nat.{ℕ, suc, _+_, _-_, _≤_, _<_}
+use mathlib.Core.Path.{_≡_, refl, sym, ap, _∙_}
+use mathlib.Core.Logic.{_≢_}
+use mathlib.Core.Bool.{Bool, true, false, true≢false, not, _&&_, _||_, and-false, or-true}
+use mathlib.Core.List.{List}
+use native.Mathlib.Omega.{arith}
+use borrow.Author.Tests.{leb-false}
+use lib.Dec.{ltb, leb, eqb}
+use lib.ListN.{length, getD, set, length-set}
+use lib.Seq.{getD-set-same, getD-set-other}
+use Rattle.number.proofs.Cases.{by-lt, by-eq}
+use Rattle.config.specs.declared.Config.{Config}
+use Rattle.config.specs.Meaning.{firstOf, smallestOffset}
+use Rattle.config.proofs.Tables.{firstOf-step, firstOf-rises}
+use Rattle.plan.specs.declared.Plan.{Plan}
+use Rattle.cell.specs.Cell.{unmarked, compareIn, long as isLong, startCell, modulus}
+use Rattle.cell.specs.Due.{OnTime}
+use Rattle.cell.proofs.Theorems.{on-time-start}
+use Rattle.scheduler.specs.Status.{done, callLevel, noSuch, noFunction, alreadyRuns, badDelay}
+use Rattle.scheduler.specs.State.{Table, stopped, running, isRunning, State, tableOf}
+use Rattle.scheduler.specs.Call.{nobodyRuns, longestDelay, startStatus, stopStatus, start, stop}
+use Rattle.scheduler.specs.Tick.{dues}
+use Rattle.scheduler.specs.Scheduler.{Start, Stop, step}
+use Rattle.scheduler.proofs.Checks.{start-passed, stop-passed}
+use Rattle.machine.specs.Model.{Model, withCells, doneWith}
+use Rattle.machine.specs.Cells.{switchOff, isOn, hasTurn, switchFor, cellAt, someLong}
+use Rattle.machine.specs.Events as Machine
+use Rattle.machine.specs.Events.{idles, runs, starting, stopping, launched, halted}
+use Rattle.machine.specs.Machine.{machineStep, matched}
+use Rattle.machine.proofs.Relation.Fitted.{Fitted}
+use Rattle.machine.proofs.Relation.Cells.{CellFits, Timed}
+use Rattle.machine.proofs.Relation.Whole.{Sim}
+use Rattle.machine.proofs.Arbitration.Dispatch.{calm-arbitrated}
+use Rattle.machine.proofs.Change.Request.{elsewhere}
+use Rattle.machine.proofs.Event.Agrees.{first-same, Agrees, Accepted, idle-same, agrees-attempt, no-match}
+use Rattle.machine.proofs.Change.Cells.{laid, length-laid, laid-before, laid-after, laid-inside, started-laid, switches-laid, stopped-laid, switched-laid}
+use Rattle.machine.proofs.Change.Turns.{switch-on, switch-turn, some-holds, some-none}
+
+-- a started cell, kept as plain numbers, is on time
+started-on-time : (P D : ℕ) → 1 ≤ P → P ≤ 65535 → 1 ≤ D → D ≤ modulus + modulus → OnTime (unmarked (startCell P D .counter) (P - 1) true (isLong D)) P D 0
+started-on-time P D low high some few = rw (sym compare) (on-time-start P D low (omega arith) some few)
+  where
+    compare : compareIn modulus P ≡ P - 1
+    compare = omega arith
+
+-- a cell that no start or stop touches has a turn to pass as before, whatever the others have
+same-turn : (w w′ t : Bool) → (w ≡ true → w′ ≡ true) → (w ≡ false → t ≡ false) → w′ && t ≡ w && t
+same-turn true w′ t keeps none = rw (keeps refl)
+same-turn false w′ t keeps none = rw (none refl) (and-false w′)
+
+-- where no cell is said to have a turn to pass after it, none was before
+was-false : (w w′ : Bool) → (w ≡ true → w′ ≡ true) → w′ ≡ false → w ≡ false
+was-false true w′ keeps none = absurd (true≢false (sym (keeps refl) ∙ none))
+was-false false w′ keeps none = refl
+
+second-false : (a b : Bool) → a || b ≡ false → b ≡ false
+second-false true b h = absurd (true≢false h)
+second-false false b h = h
+
+module _ {c : Config} {p : Plan} {rk : ℕ → ℕ} (fit : Fitted c p rk) where
+  module _ (t : ℕ) (t< : t < c .tables) where
+    abbrev count : ℕ
+    count = getD (c .entries) t 0
+
+    abbrev P : ℕ
+    P = getD (c .period) t 0
+
+    -- table t becomes x, its cells get the counters f and the switches g, and w′ says whether any cell has a turn to pass
+    module _ (ns os : List ℕ) (w : Bool) (ts : List Table) (timed : Timed c p ns os w ts) (f g : ℕ → ℕ) (w′ : Bool) (x : Table)
+        (keeps : w ≡ true → w′ ≡ true) (none : w′ ≡ false → (e : ℕ) → firstOf c t ≤ e → e < firstOf c (suc t) → hasTurn (g e) ≡ false)
+        (fits : (e : ℕ) → firstOf c t ≤ e → e < firstOf c (suc t)
+        → CellFits P (getD (c .offset) e 0) (unmarked (f e) (P - 1) (isOn (g e)) (w′ && hasTurn (g e))) x) where
+      abbrev ns′ : List ℕ
+      ns′ = laid f count (firstOf c t) ns
+
+      abbrev os′ : List ℕ
+      os′ = laid g count (firstOf c t) os
+
+      own-at : (h : ℕ → ℕ) (l : List ℕ) → length l ≡ 64 → (e : ℕ) → firstOf c t ≤ e → e < firstOf c (suc t) → getD (laid h count (firstOf c t) l) e 0 ≡ h e
+      own-at h l long e low high =
+          laid-inside h count (firstOf c t) l e 0 low (omega (arith, firstOf-step c t))
+          (omega (arith, firstOf-rises c (suc t) (c .tables) t<, fit .few-entries))
+
+      -- the cells of table t are those that it gets, and the other tables' stay
+      own-cell : (e : ℕ) → firstOf c t ≤ e → e < firstOf c (suc t)
+          → cellAt w′ (p .compare) os′ ns′ e ≡ unmarked (f e) (P - 1) (isOn (g e)) (w′ && hasTurn (g e))
+      own-cell e low high =
+          rw (own-at f ns (timed .counters-long) e low high, own-at g os (timed .switches-long) e low high, fit .compare-at t e t< low high)
+
+      other-cell : (u e : ℕ) → u < c .tables → u ≢ t → firstOf c u ≤ e → e < firstOf c (suc u)
+          → cellAt w′ (p .compare) os′ ns′ e ≡ cellAt w (p .compare) os ns e
+      other-cell u e u< n low high =
+          rw (stays f ns, stays g os, same-turn w w′ (hasTurn (getD os e 0)) keeps (λ z. timed .unturned z e))
+        where
+          stays : (h : ℕ → ℕ) (l : List ℕ) → getD (laid h count (firstOf c t) l) e 0 ≡ getD l e 0
+          stays h l =
+              by-lt u t
+              (λ b. laid-before h count (firstOf c t) l e 0 (omega (arith, firstOf-rises c (suc u) t (omega arith))))
+              (λ b. laid-after h count (firstOf c t) l e 0
+              (omega (arith, firstOf-rises c (suc t) u (omega (arith, n)), firstOf-step c t)))
+
+      none-left : w′ ≡ false → (e : ℕ) → hasTurn (getD os′ e 0) ≡ false
+      none-left z e =
+          by-lt e (firstOf c t)
+          (λ b. ap hasTurn (laid-before g count (firstOf c t) os e 0 b) ∙ before)
+          (λ low. by-lt e (firstOf c (suc t))
+          (λ high. ap hasTurn (own-at g os (timed .switches-long) e low high) ∙ none z e low high)
+          (λ h. ap hasTurn (laid-after g count (firstOf c t) os e 0 (omega (arith, firstOf-step c t))) ∙ before))
+        where
+          before : hasTurn (getD os e 0) ≡ false
+          before = timed .unturned (was-false w w′ keeps z) e
+
+      table-timed : Timed c p ns′ os′ w′ (set ts t x)
+      table-timed =
+          record {
+            tables-long = length-set ts t x ∙ timed .tables-long;
+            counters-long = length-laid f count (firstOf c t) ns ∙ timed .counters-long;
+            switches-long = length-laid g count (firstOf c t) os ∙ timed .switches-long;
+            cells = λ u e u< low high. by-eq u t
+                (λ q. rw (q, getD-set-same ts t x stopped (rw (timed .tables-long) t<), own-cell e (rw q at low) (rw q at high))
+                (fits e (rw q at low) (rw q at high)))
+                (λ n. rw (getD-set-other ts t u x stopped n, other-cell u e u< n low high) (timed .cells u e u< low high));
+            spare = λ e h. ap isOn (laid-after g count (firstOf c t) os e 0 (omega (arith, firstOf-rises c (suc t) (c .tables) t<, firstOf-step c t)))
+                ∙ timed .spare e h;
+            unturned = none-left;
+          }
+
+module _ {c : Config} {p : Plan} {rk : ℕ → ℕ} (fit : Fitted c p rk) {m : Model} {s : State} (sim : Sim c p rk m s)
+    (long : length (dues c s) ≡ p .count) where
+  -- the first cell of a table is on exactly if the table runs
+  runs-is : (t : ℕ) → t < c .tables → runs (p .first) m t ≡ isRunning (tableOf s t)
+  unfolding CellFits
+  runs-is t h =
+      rw (fit .first-at t h)
+      (go (tableOf s t) (sim .timed .cells t (firstOf c t) h (omega arith) (omega (arith, firstOf-step c t, fit .some-entry t h))))
+    where
+      go : (x : Table) → CellFits (getD (c .period) t 0) (getD (c .offset) (firstOf c t) 0) (cellAt (m .turning) (p .compare) (m .on) (m .counter) (firstOf c t)) x
+          → isOn (getD (m .on) (firstOf c t) 0) ≡ isRunning x
+      go stopped k = k
+      go (running d n) k = k .on
+
+  -- a call that changes the cells and one table alone
+  cells-accepted : (ns os : List ℕ) (w : Bool) (ts : List Table) → Timed c p ns os w ts
+      → Accepted c p rk (doneWith (withCells m ns os w) false) (record { bodies = s .bodies; tables = ts })
+  cells-accepted ns os w ts timed =
+      record {
+        status = refl;
+        arb = calm-arbitrated fit (record { bodies = s .bodies; tables = ts }) done (elsewhere (sim .tied) ns os w (m .losses)) (sim .calm);
+        size = sim .tied .size;
+        timed = timed;
+        lost = sim .lost;
+      }
+
+  -- Start
+  abbrev launching : ℕ → ℕ → Model
+  launching t d = starting (getD (c .entries) t 0) (getD (p .first) t 0) (getD (c .period) t 0) (c .offset) d m
+
+  start-status : (t d : ℕ) → Machine.startStatus (c .tables) (p .first) (c .offset) m t d ≡ startStatus c s t d
+  start-status t d =
+      first-same (idles m) (nobodyRuns c s) callLevel _ _ (idle-same fit sim)
+      (λ _. first-same (leb (c .tables) t) (leb (c .tables) t) noSuch _ _ refl
+      (λ h. let t< = leb-false (c .tables) t h in
+      first-same (eqb d 0 || ltb longestDelay (d + getD (c .offset) (getD (p .first) t 0) 0)) (eqb d 0 || ltb longestDelay (d + smallestOffset c t)) badDelay _ _
+      (ap (λ (e : ℕ). eqb d 0 || ltb longestDelay (d + getD (c .offset) e 0)) (fit .first-at t t<))
+      (λ _. first-same (runs (p .first) m t) (isRunning (tableOf s t)) alreadyRuns _ _ (runs-is t t<) (λ _. refl))))
+
+  -- an entry's first delay, and whether one of table t's is more than a turn of the counter
+  abbrev delayed : ℕ → ℕ → ℕ
+  delayed d i = d + getD (c .offset) i 0
+
+  abbrev anyLong : ℕ → ℕ → Bool
+  anyLong t d = someLong (getD (c .entries) t 0) (firstOf c t) d (c .offset)
+
+  -- what is said of the turns of table t's cells is so
+  module _ (t d e : ℕ) (low : firstOf c t ≤ e) (high : e < firstOf c (suc t)) where
+    turn-said : (m .turning || anyLong t d) && hasTurn (switchFor true (isLong (delayed d e))) ≡ isLong (delayed d e)
+    turn-said = rw (switch-turn true (isLong (delayed d e))) (go (isLong (delayed d e)) refl)
+      where
+        go : (b : Bool) → isLong (delayed d e) ≡ b → (m .turning || anyLong t d) && b ≡ b
+        go true h = rw (some-holds (λ i. isLong (delayed d i)) (getD (c .entries) t 0) (firstOf c t) e low (omega (arith, firstOf-step c t)) h, or-true (m .turning))
+        go false h = and-false (m .turning || anyLong t d)
+
+    none-long : m .turning || anyLong t d ≡ false → hasTurn (switchFor true (isLong (delayed d e))) ≡ false
+    none-long z =
+        switch-turn true (isLong (delayed d e))
+        ∙ some-none (λ i. isLong (delayed d i)) (getD (c .entries) t 0) (firstOf c t) e low (omega (arith, firstOf-step c t)) (second-false (m .turning) (anyLong t d) z)
+
+  start-timed : (t d : ℕ) → t < c .tables → d ≢ 0 → d + smallestOffset c t ≤ longestDelay
+      → Timed c p (launching t d .counter) (launching t d .on) (launching t d .turning) (start t d s .tables)
+  unfolding CellFits
+  start-timed t d t< some fits =
+      rw (fit .first-at t t<, started-laid, switches-laid)
+      (table-timed fit t t< (m .counter) (m .on) (m .turning) (s .tables) (sim .timed)
+      (λ i. startCell (getD (c .period) t 0) (delayed d i) .counter) (λ i. switchFor true (isLong (delayed d i))) (m .turning || anyLong t d) (running d 0)
+      (λ w. rw w) (λ z e low high. none-long t d e low high z)
+      (λ e low high. rw (switch-on true (isLong (delayed d e)) (λ _. refl), turn-said t d e low high)
+      (started-on-time (getD (c .period) t 0) (delayed d e) (fit .period-low t t<) (fit .period-high t t<) (omega (arith, some))
+      (omega (arith, fit .offset-lt t e t< low high, fit .period-high t t<)))))
+
+  pub agrees-start : (t d : ℕ) → Agrees c p rk m s (Start t d)
+  unfolding machineStep launched step matched
+  agrees-start t d =
+      agrees-attempt fit sim (Start t d) (Machine.startStatus (c .tables) (p .first) (c .offset) m t d) (startStatus c s t d)
+      (doneWith (launching t d) false) (start t d s) refl refl
+      (no-match fit sim long) (start-status t d)
+      (λ z. let a = start-passed c s t d z in
+      cells-accepted _ _ _ _ (start-timed t d (a .1) (a .2) (a .3)))
+
+  -- Stop
+  abbrev halting : ℕ → Model
+  halting t = stopping (getD (c .entries) t 0) (getD (p .first) t 0) m
+
+  stop-status : (t : ℕ) → Machine.stopStatus (c .tables) (p .first) m t ≡ stopStatus c s t
+  stop-status t =
+      first-same (idles m) (nobodyRuns c s) callLevel _ _ (idle-same fit sim)
+      (λ _. first-same (leb (c .tables) t) (leb (c .tables) t) noSuch _ _ refl
+      (λ h. first-same (not (runs (p .first) m t)) (not (isRunning (tableOf s t))) noFunction _ _
+      (ap not (runs-is t (leb-false (c .tables) t h))) (λ _. refl)))
+
+  stop-timed : (t : ℕ) → t < c .tables → Timed c p (halting t .counter) (halting t .on) (halting t .turning) (stop t s .tables)
+  unfolding CellFits
+  stop-timed t t< =
+      rw (fit .first-at t t<, stopped-laid, switched-laid)
+      (table-timed fit t t< (m .counter) (m .on) (m .turning) (s .tables) (sim .timed) (λ _. 0) (λ _. switchOff) (m .turning) stopped
+      (λ w. w) (λ _ e low high. refl) (λ e low high. refl))
+
+  pub agrees-stop : (t : ℕ) → Agrees c p rk m s (Stop t)
+  unfolding machineStep halted step matched
+  agrees-stop t =
+      agrees-attempt fit sim (Stop t) (Machine.stopStatus (c .tables) (p .first) m t) (stopStatus c s t)
+      (doneWith (halting t) false) (stop t s) refl refl
+      (no-match fit sim long) (stop-status t)
+      (λ z. let a = stop-passed c s t z in
+      cells-accepted _ _ _ _ (stop-timed t (a .1)))

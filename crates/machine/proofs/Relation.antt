@@ -1,0 +1,10 @@
+-- How a model of the machine stands for a state of the plain scheduler, in named parts, and `Whole`.
+pub mod Fitted
+pub mod Rows
+pub mod Words
+pub mod Slots
+pub mod Free
+pub mod Nest
+pub mod Cells
+pub mod Losses
+pub mod Whole

@@ -1,0 +1,143 @@
+-- The nest: the runner, and below it those preempted bodies that hold a resource, each above the level of the rest.
+--
+--   levelAt c bs ns      the level at which a nest runs
+--   Nested c bs ns       "each one's own priority above the level of the rest"
+--   Seats c rk bs r l ns the runner r and the level l are those of the nest, and whoever is below holds a resource
+--
+-- A preempted body that holds nothing is in no nest: its bit in `started` brings it back. Assumes nothing.
+use Prim.Native.Nat.{ℕ, max, _≤_, _<_}
+use mathlib.Core.Path.{_≡_, refl, sym, ap, ap₂, _∙_}
+use mathlib.Core.Bool.{Bool, true, false, true≢false, _||_}
+use mathlib.Core.List.{List, [], _∷_, _++_, foldr, map}
+use native.Mathlib.Omega.{arith}
+use borrow.Author.Tests.{eq-eqb, ne-eqb}
+use lib.Dec.{eqb}
+use Rattle.number.proofs.Cases.{by-eq}
+use Rattle.config.specs.declared.Config.{Config}
+use Rattle.config.specs.Meaning.{priorityOf, ceiling}
+use Rattle.scheduler.specs.Body.{Body, isStarted, current}
+use Rattle.scheduler.specs.State.{among}
+use Rattle.scheduler.specs.Call.{holds}
+use Rattle.scheduler.proofs.Choice.{current-own}
+use Rattle.machine.specs.Model.{noRank}
+use Rattle.machine.proofs.Relation.Words.{at}
+use Rattle.machine.proofs.Relation.Slots.{Slot, slotsFor, slotsAlong}
+
+unfoldable pub levelAt : Config → List Body → List ℕ → ℕ
+levelAt c bs [] = 0
+levelAt c bs (b ∷ ns) = current c b (at bs b)
+
+unfoldable pub Nested : Config → List Body → List ℕ → Type 0
+Nested c bs [] = Unit {0}
+Nested c bs (b ∷ ns) =
+    (b < c .bodies) × ((isStarted (at bs b .phase) ≡ true) × ((levelAt c bs ns < priorityOf c b) × Nested c bs ns))
+
+-- every body of a list holds a resource
+abbrev pub AllHold : List Body → List ℕ → Type 0
+AllHold bs ns = (i : ℕ) → among i ns ≡ true → holds (at bs i .held) ≡ true
+
+unfoldable pub Seats : Config → (ℕ → ℕ) → List Body → ℕ → ℕ → List ℕ → Type 0
+Seats c rk bs r l [] = (r ≡ noRank) × (l ≡ 0)
+Seats c rk bs r l (b ∷ ns) = (r ≡ rk b) × ((l ≡ current c b (at bs b)) × AllHold bs ns)
+
+-- b is the first of the list, or stands further on
+pub by-among {ℓ} : {C : Type ℓ} (i b : ℕ) (ns : List ℕ) → among i (b ∷ ns) ≡ true → (i ≡ b → C) → ((i ≡ b → ⊥) → among i ns ≡ true → C) → C
+unfolding among
+by-among i b ns h f g = by-eq i b f (λ n. g n (simp (ne-eqb i b n) at h))
+
+pub among-head : (b : ℕ) (ns : List ℕ) → among b (b ∷ ns) ≡ true
+unfolding among
+among-head b ns = rw (eq-eqb b b refl)
+
+pub among-tail : (i b : ℕ) (ns : List ℕ) → among i ns ≡ true → among i (b ∷ ns) ≡ true
+unfolding among
+among-tail i b ns h = by-eq i b (λ e. rw (eq-eqb i b e)) (λ n. rw (ne-eqb i b n) h)
+
+-- who is neither the first nor further on is not in the list
+pub not-among : (i b : ℕ) (ns : List ℕ) → (i ≡ b → ⊥) → among i ns ≡ false → among i (b ∷ ns) ≡ false
+unfolding among
+not-among i b ns n h = rw (ne-eqb i b n) h
+
+pub among-tail-false : (i b : ℕ) (ns : List ℕ) → among i (b ∷ ns) ≡ false → among i ns ≡ false
+unfolding among
+among-tail-false i b ns h = by-eq i b (λ e. absurd (true≢false (sym (eq-eqb i b e) ∙ or-first (eqb i b) (among i ns) h))) (λ n. simp (ne-eqb i b n) at h)
+  where
+    or-first : (x y : Bool) → x || y ≡ false → x ≡ false
+    or-first true y e = absurd (true≢false e)
+    or-first false y e = refl
+
+pub among-nil : (i : ℕ) → among i [] ≡ false
+unfolding among
+among-nil i = refl
+
+-- in a nest
+module _ (c : Config) (bs : List Body) where
+  -- every body of a nest runs at most at its level
+  pub nest-level : (i : ℕ) (ns : List ℕ) → Nested c bs ns → among i ns ≡ true → current c i (at bs i) ≤ levelAt c bs ns
+  unfolding Nested levelAt among
+  nest-level i [] k h = absurd (true≢false (sym h))
+  nest-level i (b ∷ ns) k h =
+      by-among i b ns h
+      (λ e. rw e (omega arith))
+      (λ _ a. let l = nest-level i ns (k .1 .1 .1) a in omega (arith, k .1 .1 .0, current-own c b (at bs b)))
+
+  -- the bodies of a nest below its first are other bodies
+  pub nest-other : (b i : ℕ) (ns : List ℕ) → Nested c bs (b ∷ ns) → among i ns ≡ true → i ≡ b → ⊥
+  unfolding Nested
+  nest-other b i ns k h e =
+      let l : current c b (at bs b) ≤ levelAt c bs ns = rw e at (nest-level i ns (k .1 .1 .1) h) in
+      omega (arith, current-own c b (at bs b), k .1 .1 .0)
+
+  pub nest-exists : (i : ℕ) (ns : List ℕ) → Nested c bs ns → among i ns ≡ true → i < c .bodies
+  unfolding Nested among
+  nest-exists i [] k h = absurd (true≢false (sym h))
+  nest-exists i (b ∷ ns) k h = by-among i b ns h (λ e. rw e (k .0)) (λ _ a. nest-exists i ns (k .1 .1 .1) a)
+
+  pub nest-started : (i : ℕ) (ns : List ℕ) → Nested c bs ns → among i ns ≡ true → isStarted (at bs i .phase) ≡ true
+  unfolding Nested among
+  nest-started i [] k h = absurd (true≢false (sym h))
+  nest-started i (b ∷ ns) k h = by-among i b ns h (λ e. rw e (k .1 .0)) (λ _ a. nest-started i ns (k .1 .1 .1) a)
+
+-- as far as a nest goes two bodies are alike: begun or not, and holding the same
+pub record Alike (x y : Body) : Type 0 where
+  pub phase : isStarted (x .phase) ≡ isStarted (y .phase)
+  pub held : x .held ≡ y .held
+
+pub alike-same : {x y : Body} → x ≡ y → Alike x y
+alike-same e = record { phase = ap (λ (b : Body). isStarted (b .phase)) e; held = ap (λ (b : Body). b .held) e }
+
+-- bodies that are alike where a nest goes leave it as it is
+module _ (c : Config) (rk : ℕ → ℕ) (bs bs′ : List Body) where
+  abbrev pub AlikeAlong : List ℕ → Type 0
+  AlikeAlong ns = (b : ℕ) → among b ns ≡ true → Alike (at bs b) (at bs′ b)
+
+  tail-alike : (b : ℕ) (ns : List ℕ) → AlikeAlong (b ∷ ns) → AlikeAlong ns
+  tail-alike b ns a i h = a i (among-tail i b ns h)
+
+  pub current-alike : (b : ℕ) → Alike (at bs b) (at bs′ b) → current c b (at bs b) ≡ current c b (at bs′ b)
+  current-alike b a = ap (λ (rs : List ℕ). foldr max (priorityOf c b) (map (ceiling c) rs)) (a .held)
+
+  pub levelAt-alike : (ns : List ℕ) → AlikeAlong ns → levelAt c bs ns ≡ levelAt c bs′ ns
+  unfolding levelAt
+  levelAt-alike [] a = refl
+  levelAt-alike (b ∷ ns) a = current-alike b (a b (among-head b ns))
+
+  pub nested-alike : (ns : List ℕ) → AlikeAlong ns → Nested c bs ns → Nested c bs′ ns
+  unfolding Nested
+  nested-alike [] a k = k
+  nested-alike (b ∷ ns) a k =
+      (k .0, (sym (a b (among-head b ns) .phase) ∙ k .1 .0, (rw (sym (levelAt-alike ns (tail-alike b ns a))) (k .1 .1 .0), nested-alike ns (tail-alike b ns a) (k .1 .1 .1))))
+
+  pub slotsAlong-alike : (ns : List ℕ) → AlikeAlong ns → slotsAlong c rk bs ns ≡ slotsAlong c rk bs′ ns
+  unfolding slotsAlong
+  slotsAlong-alike [] a = refl
+  slotsAlong-alike (b ∷ ns) a =
+      ap₂ (λ (x y : List Slot). x ++ y) (ap (slotsFor c rk b) (a b (among-head b ns) .held)) (slotsAlong-alike ns (tail-alike b ns a))
+
+  pub hold-alike : (ns : List ℕ) → AlikeAlong ns → AllHold bs ns → AllHold bs′ ns
+  hold-alike ns a h i m = sym (ap holds (a i m .held)) ∙ h i m
+
+  pub seats-alike : (r l : ℕ) (ns : List ℕ) → AlikeAlong ns → Seats c rk bs r l ns → Seats c rk bs′ r l ns
+  unfolding Seats
+  seats-alike r l [] a k = k
+  seats-alike r l (b ∷ ns) a k = (k .0, (k .1 .0 ∙ current-alike b (a b (among-head b ns)), hold-alike ns (tail-alike b ns a) (k .1 .1)))

@@ -1,0 +1,52 @@
+-- How a model of the machine stands for a state of the plain scheduler.
+--
+--   Tied   the words, who runs and the held resources are those of the bodies; another body may still be above the level
+--   Calm   none is
+--   Sim    the whole: tied, calm, with the cells and the losses
+--
+-- Assumes nothing.
+use Prim.Native.Nat.{ℕ, _≤_, _<_}
+use mathlib.Core.Path.{_≡_}
+use mathlib.Core.Bool.{true, false}
+use mathlib.Core.List.{List, []}
+use lib.ListN.{length}
+use Rattle.config.specs.declared.Config.{Config}
+use Rattle.config.specs.Meaning.{priorityOf}
+use Rattle.plan.specs.declared.Plan.{Plan}
+use Rattle.scheduler.specs.Body.{Body, isSuspended, isStarted, current}
+use Rattle.scheduler.specs.State.{State, among}
+use Rattle.machine.specs.Model.{Model}
+use Rattle.machine.proofs.Relation.Words.{at, Words}
+use Rattle.machine.proofs.Relation.Slots.{slotsAlong, Slots}
+use Rattle.machine.proofs.Relation.Nest.{Nested, Seats}
+use Rattle.machine.proofs.Relation.Cells.{Timed}
+use Rattle.machine.proofs.Relation.Losses.{Lost}
+
+-- of two started bodies the lower one, its held resources counted, is below the other's own priority
+abbrev pub Apart : Config → List Body → Type 0
+Apart c bs =
+    (a b : ℕ) → a < c .bodies → b < c .bodies → isStarted (at bs a .phase) ≡ true → isStarted (at bs b .phase) ≡ true
+    → priorityOf c a < priorityOf c b
+    → current c a (at bs a) < priorityOf c b
+
+pub record Tied (c : Config) (rk : ℕ → ℕ) (m : Model) (bs : List Body) (ns : List ℕ) : Type 0 where
+  pub size : length bs ≡ c .bodies
+  pub words : Words c rk (m .core) bs
+  pub nested : Nested c bs ns
+  pub seats : Seats c rk bs (m .core .runner) (m .core .level) ns
+  pub slots : Slots (m .held) (m .resource) (m .holder) (m .raised) (slotsAlong c rk bs ns)
+  -- who is in no nest holds nothing
+  pub loose : (b : ℕ) → among b ns ≡ false → at bs b .held ≡ []
+  pub apart : Apart c bs
+
+-- no body that is ready or started has an own priority above the level
+abbrev pub Calm : Config → ℕ → List Body → Type 0
+Calm c l bs = (b : ℕ) → b < c .bodies → isSuspended (at bs b .phase) ≡ false → priorityOf c b ≤ l
+
+-- the model m of the machine stands for the state s of the plain scheduler
+pub record Sim (c : Config) (p : Plan) (rk : ℕ → ℕ) (m : Model) (s : State) : Type 0 where
+  pub nest : List ℕ
+  pub tied : Tied c rk m (s .bodies) nest
+  pub calm : Calm c (m .core .level) (s .bodies)
+  pub timed : Timed c p (m .counter) (m .on) (m .turning) (s .tables)
+  pub lost : Lost c rk (m .losses) (s .bodies)

@@ -1,0 +1,2 @@
+-- What the contracts of `salvage` cite. Assumes nothing.
+pub mod Salvage

@@ -1,0 +1,180 @@
+-- What an event leaves as it was.
+--
+-- In order: a change of one body leaves the others and the tables; what every effect keeps (`effectOf-keeps`); no event adds a body or a
+-- table; no call changes a loss. Assumes nothing.
+use Prim.Native.Nat.{ℕ, _<_}
+use mathlib.Core.Path.{_≡_, refl, sym, ap, _∙_}
+use mathlib.Core.Bool.{Bool, true, false, true≢false, cond}
+use mathlib.Core.List.{List, [], _∷_, _++_, map}
+use mathlib.Core.Logic.{_≢_}
+use native.Mathlib.Omega.{arith}
+use lib.Dec.{eqb}
+use lib.ListN.{length, length-set, length-map, length-replicate, take, replicate}
+use lib.Seq.{getD-set-same, getD-set-other, map-set-same}
+use Rattle.config.specs.declared.Config.{Config}
+use Rattle.scheduler.specs.Status.{done}
+use Rattle.scheduler.specs.Body.{isStarted, Body, ready, started, become, finished, requested, gets, releases, activatedByEntry}
+use Rattle.scheduler.specs.State.{State, Table, stopped, noBody, bodyOf, changing, withTable, runner}
+use Rattle.scheduler.specs.Call.{caller, finish, statusOf, effectOf}
+use Rattle.scheduler.specs.Tick.{counting, counted, activatingDue, dues, ticked}
+use Rattle.scheduler.specs.Event.{Event, Activate, Finish, Chain, Get, Release, Tick, Line, Start, Stop, isTick}
+use Rattle.scheduler.specs.Scheduler.{begins, dispatched, lossesOf, newBody, step, fresh, after}
+
+module _ (i : ℕ) (f : Body → Body) (s : State) where
+  pub bodyOf-changing-same : i < length (s .bodies) → bodyOf (changing i f s) i ≡ f (bodyOf s i)
+  bodyOf-changing-same h = getD-set-same (s .bodies) i (f (bodyOf s i)) noBody h
+
+  pub bodyOf-changing-other : (j : ℕ) → j ≢ i → bodyOf (changing i f s) j ≡ bodyOf s j
+  bodyOf-changing-other j d = getD-set-other (s .bodies) i j (f (bodyOf s i)) noBody d
+
+  pub length-changing : length (changing i f s .bodies) ≡ length (s .bodies)
+  length-changing = length-set (s .bodies) i (f (bodyOf s i))
+
+  pub tables-changing : changing i f s .tables ≡ s .tables
+  tables-changing = refl
+
+-- two events of different kinds are not equal
+pub clash : _≡_ {A = ℕ} 0 1 → ⊥
+clash e = omega arith
+
+abbrev pub KeepsLosses : (Body → Body) → Type 0
+KeepsLosses f = (b : Body) → f b .losses ≡ b .losses
+
+requested-losses : KeepsLosses requested
+requested-losses b = go (isStarted (b .phase))
+  where
+    go : (p : Bool)
+        → cond p (record { phase = started; pending = true; held = b .held; losses = b .losses }) (become ready b) .losses
+        ≡ b .losses
+    go true = refl
+    go false = refl
+
+-- what the effects keep: each changes bodies and leaves their losses, or changes a table, or is that of a Tick
+pub effectOf-keeps : (c : Config) (s : State) (P : State → Type 0)
+    → ((i : ℕ) (f : Body → Body) (x : State) → KeepsLosses f → P x → P (changing i f x))
+    → ((t : ℕ) (y : Table) → P (withTable t y s))
+    → P s
+    → (e : Event)
+    → (e ≡ Tick → P (ticked c s))
+    → P (effectOf c s e)
+effectOf-keeps c s P on-body on-table p (Activate t) tick = on-body t (become ready) s (λ b. refl) p
+effectOf-keeps c s P on-body on-table p Finish tick = on-body (caller c s) finished s (λ b. refl) p
+effectOf-keeps c s P on-body on-table p (Chain t) tick =
+    on-body t (become ready) (finish c s) (λ b. refl) (on-body (caller c s) finished s (λ b. refl) p)
+effectOf-keeps c s P on-body on-table p (Get r) tick = on-body (caller c s) (gets r) s (λ b. refl) p
+effectOf-keeps c s P on-body on-table p (Release r) tick = on-body (caller c s) releases s (λ b. refl) p
+effectOf-keeps c s P on-body on-table p Tick tick = tick refl
+effectOf-keeps c s P on-body on-table p (Line i) tick = on-body i requested s requested-losses p
+effectOf-keeps c s P on-body on-table p (Start t d) tick = on-table t _
+effectOf-keeps c s P on-body on-table p (Stop t) tick = on-table t _
+
+-- an event is a Tick or not
+pub by-tick : {C : Type 0} (e : Event) → (e ≡ Tick → C) → (isTick e ≡ false → C) → C
+by-tick (Activate t) f g = g refl
+by-tick Finish f g = g refl
+by-tick (Chain t) f g = g refl
+by-tick (Get r) f g = g refl
+by-tick (Release r) f g = g refl
+by-tick Tick f g = f refl
+by-tick (Line i) f g = g refl
+by-tick (Start t d) f g = g refl
+by-tick (Stop t) f g = g refl
+
+pub no-tick : (e : Event) → isTick e ≡ false → e ≢ Tick
+no-tick e h q = true≢false (sym (ap isTick q) ∙ h)
+
+pub cond-either : (P : State → Type 0) (b : Bool) (x y : State) → P x → P y → P (cond b x y)
+cond-either P true x y p q = p
+cond-either P false x y p q = q
+
+-- what every due entry keeps
+module _ (P : State → Type 0) (on-entry : (t : ℕ) (s : State) → P s → P (changing t activatedByEntry s)) where
+  pub activatingDue-keeps : (ds : List Bool) (ts : List ℕ) (s : State) → P s → P (activatingDue ds ts s)
+  unfolding activatingDue
+  activatingDue-keeps [] ts s p = p
+  activatingDue-keeps (true ∷ ds) [] s p = p
+  activatingDue-keeps (false ∷ ds) [] s p = p
+  activatingDue-keeps (true ∷ ds) (t ∷ ts) s p = activatingDue-keeps ds ts (changing t activatedByEntry s) (on-entry t s p)
+  activatingDue-keeps (false ∷ ds) (t ∷ ts) s p = activatingDue-keeps ds ts s p
+
+-- what every change of a body keeps
+module _ (P : State → Type 0) (on-body : (i : ℕ) (f : Body → Body) (s : State) → P s → P (changing i f s)) where
+  pub dispatched-keeps : (c : Config) (s : State) → P s → P (dispatched c s)
+  dispatched-keeps c s p = cond-either P (begins (runner c s)) _ s (on-body (runner c s .number) (become started) s p) p
+
+  -- what the changes of a table and their counting keep too
+  pub step-keeps : ((t : ℕ) (x : Table) (s : State) → P s → P (withTable t x s)) → ((s : State) → P s → P (counted s)) → (c : Config) (s : State)
+      → P s
+      → (e : Event)
+      → P (step c s e .state)
+  unfolding step
+  step-keeps on-table on-counted c s p e =
+      dispatched-keeps c _
+      (cond-either P (eqb (statusOf c s e) done) (effectOf c s e) s
+      (effectOf-keeps c s P (λ i f x k. on-body i f x) (λ t y. on-table t y s p) p e (λ q. activatingDue-keeps P (λ t. on-body t activatedByEntry) (dues c (counted s)) (c .task) (counted s) (on-counted s p)))
+      p)
+
+-- no event adds or takes away a body or a table
+module _ (c : Config) where
+  pub length-bodies-step : (s : State) (e : Event) → length (step c s e .state .bodies) ≡ length (s .bodies)
+  length-bodies-step s =
+      step-keeps (λ x. length (x .bodies) ≡ length (s .bodies))
+      (λ i f x h. length-changing i f x ∙ h)
+      (λ t y x h. h)
+      (λ x h. h)
+      c
+      s
+      refl
+
+  pub length-tables-step : (s : State) (e : Event) → length (step c s e .state .tables) ≡ length (s .tables)
+  length-tables-step s =
+      step-keeps (λ x. length (x .tables) ≡ length (s .tables))
+      (λ i f x h. h)
+      (λ t y x h. length-set (x .tables) t y ∙ h)
+      (λ x h. length-map (x .tables) counting ∙ h)
+      c
+      s
+      refl
+
+  pub tables-dispatched : (s : State) → dispatched c s .tables ≡ s .tables
+  tables-dispatched s = dispatched-keeps (λ x. x .tables ≡ s .tables) (λ i f x h. h) c s refl
+
+  pub tables-ticked : (s : State) → ticked c s .tables ≡ map counting (s .tables)
+  tables-ticked s =
+      activatingDue-keeps (λ x. x .tables ≡ map counting (s .tables)) (λ t x h. h) (dues c (counted s)) (c .task) (counted s) refl
+
+  pub tables-fresh : fresh c .tables ≡ replicate (c .tables) stopped
+  tables-fresh = tables-dispatched (record { bodies = map newBody (take (c .bodies) (c .autostart)); tables = replicate (c .tables) stopped })
+
+  pub length-tables-fresh : length (fresh c .tables) ≡ c .tables
+  length-tables-fresh = ap length tables-fresh ∙ length-replicate (c .tables) stopped
+
+-- losses come from due entries only: no call changes one
+module _ (c : Config) where
+  losses-changing : (i : ℕ) (f : Body → Body) (s : State) → KeepsLosses f → lossesOf (changing i f s) ≡ lossesOf s
+  losses-changing i f s k = map-set-same (λ b. b .losses) (s .bodies) i (f (bodyOf s i)) noBody (k (bodyOf s i))
+
+  pub losses-dispatched : (s : State) → lossesOf (dispatched c s) ≡ lossesOf s
+  losses-dispatched s =
+      cond-either (λ x. lossesOf x ≡ lossesOf s) (begins (runner c s)) _ s
+      (losses-changing (runner c s .number) (become started) s (λ b. refl))
+      refl
+
+  pub losses-call : (s : State) (e : Event) → e ≢ Tick → lossesOf (step c s e .state) ≡ lossesOf s
+  unfolding step
+  losses-call s e d =
+      losses-dispatched (cond (eqb (statusOf c s e) done) (effectOf c s e) s)
+      ∙ cond-either (λ x. lossesOf x ≡ lossesOf s) (eqb (statusOf c s e) done) (effectOf c s e) s
+      (effectOf-keeps c s (λ x. lossesOf x ≡ lossesOf s) (λ i f x k h. losses-changing i f x k ∙ h) (λ t y. refl) refl e (λ q. absurd (d q)))
+      refl
+
+  -- the losses that are seen are those of the state after the event
+  pub losses-seen : (s : State) (e : Event) → step c s e .seen .losses ≡ lossesOf (step c s e .state)
+  unfolding step
+  losses-seen s e = sym (losses-dispatched (cond (eqb (statusOf c s e) done) (effectOf c s e) s))
+
+-- the state after two lists of events, one after the other
+pub after-append : (c : Config) (es fs : List Event) (s : State) → after c s (es ++ fs) ≡ after c (after c s es) fs
+unfolding after
+after-append c [] fs s = refl
+after-append c (e ∷ es) fs s = after-append c es fs (step c s e .state)

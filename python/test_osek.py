@@ -1,0 +1,110 @@
+"""osek.py on document 01's listing, on every refusal, and on drawn cases with the answers of the Rust version.
+
+OSEK_CASES names the file of drawn cases that tests/tests/python.rs writes, a line each: configuration, trace, result and
+output, all but the result in hexadecimal, - for nothing.
+"""
+
+import os
+import unittest
+
+import osek
+
+CONFIG = bytes.fromhex("0103 000201 000500 010900 01 03 01 0402 0001 0200")
+TRACE = bytes.fromhex("080001 0400 06 0702 0301 02 02 0500 06 06 02 02 06 06 0900 02 02")
+
+LISTING = """\
+0 8 0 0 2 0
+1 4 0 0 5 0
+2 6 0 0 5 0
+3 7 0 2 9 1
+4 3 2 2 9 0
+5 2 0 0 5 0
+6 2 6 0 5 0
+7 5 0 1 5 1
+8 6 0 1 5 0
+9 6 0 1 5 0
+10 2 0 0 2 0
+11 2 0 - 0 0
+12 6 0 - 0 0
+13 6 0 1 5 1
+14 9 0 1 5 0
+15 2 0 - 0 0
+16 2 2 - 0 0
+"""
+
+
+def config_with(place, byte):
+    changed = bytearray(CONFIG)
+    changed[place] = byte
+    return bytes(changed)
+
+
+# Five tables of 16 entries: the fifth takes the total over 64.
+MANY = bytes([1, 1, 0, 1, 1, 0, 5]) + 5 * (bytes([16, 16]) + bytes(b for offset in range(16) for b in (offset, 0)))
+
+REFUSED = [
+    (b"", b"", 1, 0),
+    (b"\x81\x00", b"", 2, 0),
+    (config_with(0, 2), b"", 3, 0),
+    (config_with(1, 33), b"", 4, 1),
+    (config_with(2, 2), b"", 5, 2),
+    (config_with(6, 2), b"", 6, 6),
+    (config_with(18, 0), b"", 7, 19),
+    (MANY, b"", 8, 144),
+    (CONFIG + b"\x00", b"", 9, 20),
+    (4097 * b"\x01", b"", 10, 0),
+    (CONFIG, 8193 * b"\x06", 20, 0),
+    (CONFIG, b"\x06\x01", 21, 2),
+    (CONFIG, b"\x06\x01\x80\x00", 22, 2),
+    (CONFIG, b"\x06\x0a", 23, 1),
+]
+
+
+class OsekTest(unittest.TestCase):
+    def test_the_listing(self):
+        answers, losses = osek.run(CONFIG, TRACE)
+        rows = [row.split()[2:] for row in LISTING.splitlines()]
+        shown = [[str(a.status), "-" if a.runner is None else str(a.runner), str(a.level), str(int(a.begun))] for a in answers]
+        self.assertEqual(shown, rows)
+        self.assertEqual(losses, [1, 0, 0])
+
+    def test_an_empty_trace_has_no_answers(self):
+        self.assertEqual(osek.run(CONFIG, b""), ([], [0, 0, 0]))
+
+    def test_every_refusal_with_its_place_and_words(self):
+        for config, trace, code, place in REFUSED:
+            with self.subTest(code=code), self.assertRaises(osek.Refused) as raised:
+                osek.run(config, trace)
+            refused = raised.exception
+            self.assertEqual((refused.code, refused.place, refused.words), (code, place, osek.REFUSALS[code]))
+        out = bytearray(73)
+        self.assertEqual(osek.osek_run(CONFIG, TRACE, out), 30 << 32 | 74)
+        self.assertEqual(out, bytes(73))
+        self.assertEqual({code for _, _, code, _ in REFUSED} | {30}, set(osek.REFUSALS))
+
+    def test_only_bytes_are_taken(self):
+        for wrong in (7, "text", None):
+            self.assertRaises(TypeError, osek.run, CONFIG, wrong)
+        self.assertEqual(osek.run(bytearray(CONFIG), memoryview(TRACE)), osek.run(CONFIG, TRACE))
+
+    @unittest.skipUnless("OSEK_CASES" in os.environ, "OSEK_CASES names no file")
+    def test_drawn_cases_give_the_answers_of_the_rust_version(self):
+        with open(os.environ["OSEK_CASES"], encoding="ascii") as lines:
+            cases = [line.split() for line in lines]
+        self.assertGreaterEqual(len(cases), 1000)
+        for config, trace, result, expected in cases:
+            config, trace, expected = ["" if word == "-" else word for word in (config, trace, expected)]
+            code, low = divmod(int(result), 1 << 32)
+            try:
+                run = osek.run(bytes.fromhex(config), bytes.fromhex(trace))
+            except osek.Refused as refused:
+                self.assertEqual((refused.code, refused.place), (code, low))
+                continue
+            self.assertEqual((0, len(run.answers)), (code, low))
+            shown = bytes(b for a in run.answers for b in (a.status, 255 if a.runner is None else a.runner, a.level, a.begun))
+            shown += b"".join(loss.to_bytes(2, "little") for loss in run.losses)
+            self.assertEqual(shown.hex(), expected)
+
+
+if __name__ == "__main__":
+    unittest.main()

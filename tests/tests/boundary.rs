@@ -1,0 +1,76 @@
+//! What include/osek.h promises of the C call beside its answers: that both libraries have it, null pointers with a length of
+//! 0, and calls from several threads at once.
+
+use std::fs;
+use std::path::Path;
+use std::process::Command;
+use std::ptr::{null, null_mut};
+use std::sync::Barrier;
+
+use osek_tests::cases;
+use osek_tests::compare::{outcome, FAST, SUBJECT};
+use osek_tests::listing::{DOCUMENT_CONFIG, DOCUMENT_TRACE};
+use osek_tests::subject::osek_run;
+
+/// The functions that a library defines for others.
+fn exported(library: &str, option: &str) -> Vec<String> {
+    let path = Path::new(env!("CARGO_MANIFEST_DIR")).join("../build").join(library);
+    let output = Command::new("nm").args([option, "--defined-only"]).arg(&path).output().expect("nm runs");
+    assert!(output.status.success(), "{}", String::from_utf8_lossy(&output.stderr));
+    let text = String::from_utf8_lossy(&output.stdout).into_owned();
+    let mut names: Vec<String> = text.lines().filter_map(|line| line.split(" T ").nth(1)).map(String::from).collect();
+    names.sort();
+    names
+}
+
+#[test]
+fn both_libraries_export_the_functions_of_the_header_and_no_others() {
+    let header = Path::new(env!("CARGO_MANIFEST_DIR")).join("../include/osek.h");
+    let text = fs::read_to_string(header).expect("the header can be read");
+    let declared = text.lines().filter_map(|line| line.strip_prefix("uint64_t ")?.split('(').next());
+    let mut declared: Vec<String> = declared.map(String::from).collect();
+    declared.sort();
+    assert!(declared.contains(&"osek_run".to_string()));
+    assert_eq!(exported("libosek.a", "-g"), declared);
+    assert_eq!(exported("libosek.so", "-D"), declared);
+}
+
+#[test]
+fn a_pointer_of_length_0_may_be_null() {
+    let (config, trace) = (&DOCUMENT_CONFIG, &DOCUMENT_TRACE);
+    let mut out = [77; 128];
+    unsafe {
+        // No configuration: 1 at place 0, whatever else is there.
+        assert_eq!(osek_run(null(), 0, null(), 0, null_mut(), 0), 1 << 32);
+        assert_eq!(osek_run(null(), 0, trace.as_ptr(), trace.len(), out.as_mut_ptr(), out.len()), 1 << 32);
+        // No trace: no events, and the losses of three bodies.
+        assert_eq!(osek_run(config.as_ptr(), config.len(), null(), 0, null_mut(), 0), 30 << 32 | 6);
+        assert_eq!(osek_run(config.as_ptr(), config.len(), null(), 0, out.as_mut_ptr(), out.len()), 0);
+        assert_eq!(out[..6], [0; 6]);
+        // No output: 4 × 17 + 2 × 3 bytes are needed.
+        let result = osek_run(config.as_ptr(), config.len(), trace.as_ptr(), trace.len(), null_mut(), 0);
+        assert_eq!(result, 30 << 32 | 74);
+    }
+    assert!(out[6..].iter().all(|byte| *byte == 77));
+}
+
+#[test]
+fn several_threads_may_run_at_once() {
+    const THREADS: usize = 8;
+    let cases: Vec<_> = (0..500).map(|number| cases::case(11, number)).collect();
+    let expected: Vec<_> = cases.iter().map(|case| outcome(FAST, case)).collect();
+    let barrier = Barrier::new(THREADS);
+    std::thread::scope(|scope| {
+        for thread in 0..THREADS {
+            let (cases, expected, barrier) = (&cases, &expected, &barrier);
+            scope.spawn(move || {
+                barrier.wait();
+                // Half of the threads share their inputs, the others are elsewhere in the row.
+                let from = if thread % 2 == 0 { 0 } else { thread * 50 };
+                for (case, expected) in cases.iter().zip(expected).cycle().skip(from).take(cases.len()) {
+                    assert_eq!(outcome(SUBJECT, case), *expected);
+                }
+            });
+        }
+    });
+}
