@@ -6,6 +6,7 @@ mod compare;
 mod dump;
 mod explain;
 mod run;
+mod salvage;
 mod timeline;
 
 use std::fmt::Write;
@@ -25,12 +26,13 @@ pub struct Command {
     pub run: fn(&Options) -> Result<Ending, Failure>,
 }
 
-const COMMANDS: [&Command; 7] = [
+const COMMANDS: [&Command; 8] = [
     &run::COMMAND,
     &explain::COMMAND,
     &timeline::COMMAND,
     &asm::COMMAND,
     &dump::COMMAND,
+    &salvage::COMMAND,
     &cases::COMMAND,
     &compare::COMMAND,
 ];

@@ -2,7 +2,6 @@
 
 use std::path::{Path, PathBuf};
 use std::process::Command;
-use std::time::{Duration, Instant};
 
 use osek_tests::subject::LIBRARY;
 
@@ -93,7 +92,6 @@ fn a_simulator_that_breaks_down_differs() {
     assert_eq!(folder.read("a/trace.bin").len(), 2, "{}", said.out);
     let said = folder.osek(&["compare", "--sim", &simulator("silent"), "-o", "b"]);
     assert!(said.out.contains("no answer given: it printed nothing"), "{}", said.out);
-    let begin = Instant::now();
     let hangs = simulator("stop_hangs");
     folder.write("stop.txt", "version 1\ntask a priority 1 autostart\ntrace\nstop 0\n");
     for endless in [hangs.as_str(), "yes #"] {
@@ -102,7 +100,6 @@ fn a_simulator_that_breaks_down_differs() {
         let said = Said::of(&arguments, output.expect("timeout runs"));
         assert!(said.out.contains("no answer given: it did not end within 1 s"), "{}{}", said.out, said.err);
     }
-    assert!(begin.elapsed() < Duration::from_secs(30));
 }
 
 #[test]
