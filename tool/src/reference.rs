@@ -1,6 +1,7 @@
-//! The proved run: what it says of a configuration and a trace.
+//! The proved run: what it says of a configuration and a trace; and the proved salvage of a damaged trace.
 
-use osek_tests::fast::{IDLE, OUTPUT_MAX};
+use osek_tests::fast::{read_number, IDLE, OUTPUT_MAX, TRACE_MAX};
+use osek_tests::salvage::STRETCHES_MAX;
 use osek_tests::{listing, subject};
 
 /// Bytes of an answer and of a loss count in the output.
@@ -105,6 +106,37 @@ pub fn trace_refusal(trace: &[u8]) -> Option<Refused> {
 pub fn fresh_start(config: &[u8]) -> Option<Answer> {
     const LINE_OF_NOBODY: [u8; 6] = [7, 0xff, 0xff, 0xff, 0xff, 0x0f];
     run(config, &LINE_OF_NOBODY).ok()?.answers.first().copied()
+}
+
+/// What is kept of a damaged trace, and what is dropped.
+pub struct Salvaged {
+    pub events: Vec<u8>,
+    /// The dropped stretches, in bytes, and as offset and length.
+    pub list: Vec<u8>,
+    pub stretches: Vec<(usize, usize)>,
+}
+
+pub fn salvage(trace: &[u8]) -> Result<Salvaged, Refused> {
+    let (mut events, mut list) = (vec![0; TRACE_MAX], vec![0; STRETCHES_MAX]);
+    let result = subject::salvage(trace, &mut events, &mut list);
+    if let Some(refused) = Refused::of(result) {
+        return Err(refused);
+    }
+    events.truncate(result as usize & 0xffff);
+    list.truncate(result as usize >> 16);
+    let stretches = numbers(&list).chunks_exact(2).map(|pair| (pair[0], pair[1])).collect();
+    Ok(Salvaged { events, list, stretches })
+}
+
+/// The numbers that stand one after the other.
+fn numbers(bytes: &[u8]) -> Vec<usize> {
+    let mut numbers = Vec::new();
+    let mut at = 0;
+    while let Ok((value, next)) = read_number(bytes, at) {
+        numbers.push(value as usize);
+        at = next;
+    }
+    numbers
 }
 
 /// The bench program's listing.

@@ -6,6 +6,7 @@ mod compare;
 mod dump;
 mod explain;
 mod run;
+mod salvage;
 mod timeline;
 
 use std::fmt::Write;
@@ -25,7 +26,7 @@ pub struct Command {
     pub run: fn(&Options) -> Result<Ending, Failure>,
 }
 
-const COMMANDS: [&Command; 7] = [
+const COMMANDS: [&Command; 8] = [
     &run::COMMAND,
     &explain::COMMAND,
     &timeline::COMMAND,
@@ -33,6 +34,7 @@ const COMMANDS: [&Command; 7] = [
     &dump::COMMAND,
     &cases::COMMAND,
     &compare::COMMAND,
+    &salvage::COMMAND,
 ];
 
 const INPUTS: &str = "\
