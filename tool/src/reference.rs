@@ -110,23 +110,25 @@ pub fn fresh_start(config: &[u8]) -> Option<Answer> {
     run(config, &LINE_OF_NOBODY).ok()?.answers.first().copied()
 }
 
-/// What a salvage keeps of a trace, and the offset and length of each stretch that it drops.
+/// What is kept of a damaged trace, and what is dropped.
 pub struct Salvaged {
-    pub kept: Vec<u8>,
-    pub dropped: Vec<(usize, usize)>,
+    pub events: Vec<u8>,
+    /// The dropped stretches, in bytes, and as offset and length.
+    pub list: Vec<u8>,
+    pub stretches: Vec<(usize, usize)>,
 }
 
 pub fn salvage(trace: &[u8]) -> Result<Salvaged, Refused> {
-    let (mut kept, mut stretches) = (vec![0; TRACE_MAX], vec![0; STRETCHES_MAX]);
-    let result = subject::salvage(trace, &mut kept, &mut stretches);
+    let (mut events, mut list) = (vec![0; TRACE_MAX], vec![0; STRETCHES_MAX]);
+    let result = subject::salvage(trace, &mut events, &mut list);
     if let Some(refused) = Refused::of(result) {
         return Err(refused);
     }
-    kept.truncate((result & 0xffff) as usize);
-    stretches.truncate((result >> 16) as usize);
-    let numbers = layout::numbers(&stretches);
+    events.truncate(result as usize & 0xffff);
+    list.truncate(result as usize >> 16);
     let pair = |pair: &[u32]| (pair[0] as usize, pair[1] as usize);
-    Ok(Salvaged { kept, dropped: numbers.chunks_exact(2).map(pair).collect() })
+    let stretches = layout::numbers(&list).chunks_exact(2).map(pair).collect();
+    Ok(Salvaged { events, list, stretches })
 }
 
 /// The bench program's listing.

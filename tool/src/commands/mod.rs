@@ -35,6 +35,7 @@ const COMMANDS: [&Command; 8] = [
     &salvage::COMMAND,
     &cases::COMMAND,
     &compare::COMMAND,
+    &salvage::COMMAND,
 ];
 
 const INPUTS: &str = "\

@@ -1,64 +1,65 @@
-//! `osek salvage`: the events of a damaged trace that can be read, and what lies between them.
+//! `osek salvage`: what can be kept of a damaged trace, and what was dropped, in words and hex.
 
 use std::fmt::Write;
 
-use osek_tests::compare::hex;
-
 use super::Command;
 use crate::failure::{Ending, Failure};
-use crate::input;
-use crate::layout;
 use crate::options::{Accepts, Options};
-use crate::output;
-use crate::reference::{self, Salvaged};
-use crate::words::{self, counted};
+use crate::reference::Salvaged;
+use crate::words::{counted, grouped, refusal, Part};
+use crate::{input, output, reference};
 
 pub const COMMAND: Command = Command {
     name: "salvage",
-    brief: "TRACE -o OUT",
-    usage: &["TRACE -o OUT [--config CONFIG]"],
-    summary: "the readable events of a damaged trace",
+    brief: "TRACE -o EVENTS",
+    usage: &["TRACE -o EVENTS [--dropped FILE]"],
+    summary: "what can be kept of a damaged trace",
     details: "\
-Reads a damaged trace event by event, and where none can be read drops one byte and tries the next. The kept events go
-to OUT as bytes; each dropped stretch is printed with its offset, its length and its bytes. A readable trace is kept
-whole. TRACE is bytes or a text.
+Reads a damaged trace event by event; where none can be read one byte is dropped, and the next is tried. EVENTS gets
+the kept events. Each dropped stretch is told on standard output: how long it is, where it stands, why no event could
+be read there, and its bytes. TRACE is taken for bytes, whatever they are.
 
-  --config CONFIG   names in a text come from this configuration
+  --dropped FILE   the list of stretches as the library gives it: for each its offset and its length, as numbers
 ",
-    accepts: Accepts { flags: &[], values: &["-o", "--config"], files: &["TRACE"], optional: 0 },
+    accepts: Accepts { flags: &[], values: &["-o", "--dropped"], files: &["the trace"], optional: 0 },
     run,
 };
 
 fn run(options: &Options) -> Result<Ending, Failure> {
-    let out = options.required("-o")?;
-    if out == "-" {
-        return Err(options.wrong("-o takes the name of a file: standard output has the stretches"));
+    let (events, dropped) = (options.required("-o")?, options.value("--dropped"));
+    if [Some(events), dropped].contains(&Some("-")) {
+        return Err(options.wrong("standard output takes the words: name files"));
     }
-    let names = options.value("--config").map(input::read_config).transpose()?.map(|config| config.names);
-    let trace = input::read_trace(&options.files[0], &names.unwrap_or_default())?;
-    match reference::salvage(&trace.bytes) {
+    let trace = input::read_bytes(&options.files[0], Part::Trace)?;
+    match reference::salvage(&trace) {
         Err(refused) => {
-            let meaning = words::refusal(refused.code).map_or("", |word| word.meaning);
-            output::print(format!("{}: {meaning}\n", refused.line().trim_end()))?;
+            output::print(refused.line())?;
             Ok(Ending::Refused)
         }
         Ok(salvaged) => {
-            output::write(out, &salvaged.kept)?;
-            output::print(told(&trace.bytes, &salvaged))?;
+            output::write(events, &salvaged.events)?;
+            dropped.map(|file| output::write(file, &salvaged.list)).transpose()?;
+            output::print(told(&trace, &salvaged))?;
             Ok(Ending::Done)
         }
     }
 }
 
+/// So many bytes stand in a line.
+const BYTES_IN_LINE: usize = 16;
+
+/// What was kept and what was dropped.
 fn told(trace: &[u8], salvaged: &Salvaged) -> String {
-    let Salvaged { kept, dropped } = salvaged;
-    let mut text = String::new();
-    for (offset, length) in dropped {
-        let bytes = hex(&trace[*offset..offset + length]);
-        let _ = writeln!(text, "dropped {} at offset {offset}: {bytes}", counted(*length, "byte"));
+    let kept = grouped(salvaged.events.len() as u64);
+    let mut text = format!("kept {kept} of {}\n", counted(trace.len(), "byte"));
+    for &(offset, length) in &salvaged.stretches {
+        let why = reference::trace_refusal(&trace[offset..]).and_then(|refused| refusal(refused.code));
+        let why = why.map_or("", |word| word.meaning);
+        let _ = writeln!(text, "dropped {} at {}: {why}", counted(length, "byte"), grouped(offset as u64));
+        for line in trace[offset..offset + length].chunks(BYTES_IN_LINE) {
+            let bytes: Vec<String> = line.iter().map(|byte| format!("{byte:02x}")).collect();
+            let _ = writeln!(text, "  {}", bytes.join(" "));
+        }
     }
-    let events = counted(layout::trace(kept).events.len(), "event");
-    let lost = counted(trace.len() - kept.len(), "byte");
-    let _ = writeln!(text, "kept {events} in {}, dropped {lost}", counted(kept.len(), "byte"));
     text
 }
