@@ -13,7 +13,7 @@ use Rattle.scheduler.specs.Call.{longestDelay}
 use Rattle.machine.specs.Model.{Picked, Model, noRank, withCore, withRequest, withRest, withCells, doneWith, refusedWith}
 use Rattle.machine.specs.Arbiter.{arbitrated}
 use Rattle.machine.specs.Cells.{switchOff, isOn, countersTicked, switchesTicked, someTurn, marks, countersStarted, switchesStarted, someLong, countersStopped, switched, Due, requestsDue}
-use Rattle.machine.specs.Events.{marksOf, switchesOf, tickedOnce, launched, halted}
+use Rattle.machine.specs.Events.{marksOf, switchesOf, tick, start, stop}
 use Rattle.kernel.specs.Methods.{dueWith, Laid}
 
 pub length-marks : (k e : ℕ) (w : Bool) (ks os ns : List ℕ) → length (marks k e w ks os ns) ≡ k
@@ -44,8 +44,8 @@ module _ (ks rs ps : List ℕ) (m : Model) where
       → {os : List ℕ} {z : Bool} → os ≡ switchesOf ks m → z ≡ m .turning && someTurn maxEntries 0 (switchesOf ks m)
       → {w : ℕ} {ls : List ℕ} → dueWith w ls ≡ requestsDue (m .core .started) ms rs (dueWith (m .core .request) (m .losses))
       → {p : Picked} → p ≡ arbitrated ps (withRequest (m .core) w)
-      → doneWith (withCore (withRest m ns os z ls) (p .core)) (p .begun) ≡ tickedOnce ks rs ps m
-  unfolding tickedOnce
+      → doneWith (withCore (withRest m ns os z ls) (p .core)) (p .begun) ≡ tick ks rs ps m
+  unfolding tick
   tick-done marked counted switches turns due picked =
       rw (picked, counted, switches, turns, ap (λ (x : Due). x .request) due, ap (λ (x : Due). x .losses) due, marked)
 
@@ -65,31 +65,31 @@ module _ (n : ℕ) (fs es : List ℕ) (laid : Laid n fs es) (t : ℕ) (some : t 
 
 -- Start t, d
 module _ (n : ℕ) (fs es qs os : List ℕ) (m : Model) (t d : ℕ) where
-  pub start-idle : m .core .runner ≡ noRank → refusedWith m callLevel ≡ launched n fs es qs os m t d
-  unfolding launched firstGiven
+  pub start-idle : m .core .runner ≡ noRank → refusedWith m callLevel ≡ start n fs es qs os m t d
+  unfolding start firstGiven
   start-idle h = rw (eq-eqb (m .core .runner) noRank h)
 
   module _ (busy : m .core .runner ≡ noRank → ⊥) where
-    pub start-none : n ≤ t → refusedWith m noSuch ≡ launched n fs es qs os m t d
-    unfolding launched firstGiven
+    pub start-none : n ≤ t → refusedWith m noSuch ≡ start n fs es qs os m t d
+    unfolding start firstGiven
     start-none h = rw (ne-eqb (m .core .runner) noRank busy, le-leb n t h)
 
     module _ (some : t < n) {f : ℕ} (from : f ≡ getD fs t 0) {g : ℕ} (smallest : g ≡ getD os f 0) {b : Bool} (test : b ≡ eqb d 0 || ltb longestDelay (d + g)) where
-      pub start-bad : b ≡ true → refusedWith m badDelay ≡ launched n fs es qs os m t d
-      unfolding launched firstGiven
+      pub start-bad : b ≡ true → refusedWith m badDelay ≡ start n fs es qs os m t d
+      unfolding start firstGiven
       start-bad h = rw (ne-eqb (m .core .runner) noRank busy, lt-leb n t some, ← from, ← smallest, sym test ∙ h)
 
       module _ (good : b ≡ false) {a : Bool} (on : a ≡ isOn (getD (m .on) f 0)) where
-        pub start-runs : a ≡ true → refusedWith m alreadyRuns ≡ launched n fs es qs os m t d
-        unfolding launched firstGiven
+        pub start-runs : a ≡ true → refusedWith m alreadyRuns ≡ start n fs es qs os m t d
+        unfolding start firstGiven
         start-runs h =
             rw (ne-eqb (m .core .runner) noRank busy, lt-leb n t some, ← from, ← smallest, sym test ∙ good, sym on ∙ h)
 
         pub start-done : a ≡ false → {k : ℕ} → k ≡ getD es t 0 → {P : ℕ} → P ≡ getD qs t 0
             → {w : Bool} → w ≡ m .turning || someLong k f d os
             → {ns : List ℕ} → ns ≡ countersStarted k f P d os (m .counter) → {xs : List ℕ} → xs ≡ switchesStarted k f d os (m .on)
-            → doneWith (withCells m ns xs w) false ≡ launched n fs es qs os m t d
-        unfolding launched firstGiven
+            → doneWith (withCells m ns xs w) false ≡ start n fs es qs os m t d
+        unfolding start firstGiven
         start-done h many period turns counted switches =
             rw (
               ne-eqb (m .core .runner) noRank busy,
@@ -107,23 +107,23 @@ module _ (n : ℕ) (fs es qs os : List ℕ) (m : Model) (t d : ℕ) where
 
 -- Stop t
 module _ (n : ℕ) (fs es : List ℕ) (m : Model) (t : ℕ) where
-  pub stop-idle : m .core .runner ≡ noRank → refusedWith m callLevel ≡ halted n fs es m t
-  unfolding halted firstGiven
+  pub stop-idle : m .core .runner ≡ noRank → refusedWith m callLevel ≡ stop n fs es m t
+  unfolding stop firstGiven
   stop-idle h = rw (eq-eqb (m .core .runner) noRank h)
 
   module _ (busy : m .core .runner ≡ noRank → ⊥) where
-    pub stop-none : n ≤ t → refusedWith m noSuch ≡ halted n fs es m t
-    unfolding halted firstGiven
+    pub stop-none : n ≤ t → refusedWith m noSuch ≡ stop n fs es m t
+    unfolding stop firstGiven
     stop-none h = rw (ne-eqb (m .core .runner) noRank busy, le-leb n t h)
 
     module _ (some : t < n) {f : ℕ} (from : f ≡ getD fs t 0) {a : Bool} (on : a ≡ isOn (getD (m .on) f 0)) where
-      pub stop-stopped : a ≡ false → refusedWith m noFunction ≡ halted n fs es m t
-      unfolding halted firstGiven
+      pub stop-stopped : a ≡ false → refusedWith m noFunction ≡ stop n fs es m t
+      unfolding stop firstGiven
       stop-stopped h = rw (ne-eqb (m .core .runner) noRank busy, lt-leb n t some, ← from, sym on ∙ h)
 
       pub stop-done : a ≡ true → {k : ℕ} → k ≡ getD es t 0
           → {ns : List ℕ} → ns ≡ countersStopped k f (m .counter) → {xs : List ℕ} → xs ≡ switched k f switchOff (m .on)
-          → doneWith (withCells m ns xs (m .turning)) false ≡ halted n fs es m t
-      unfolding halted firstGiven
+          → doneWith (withCells m ns xs (m .turning)) false ≡ stop n fs es m t
+      unfolding stop firstGiven
       stop-done h many counted switches =
           rw (ne-eqb (m .core .runner) noRank busy, lt-leb n t some, ← from, sym on ∙ h, counted, switches, many)

@@ -6,7 +6,7 @@ ghost use lib.Dec.{ltb, eqb};
 ghost use lib.ListN.{getD};
 ghost use Rattle.scheduler.specs.Call.{longestDelay};
 ghost use Rattle.machine.specs.Cells.{isOn};
-ghost use Rattle.machine.specs.Events.{tickedOnce, launched, halted};
+ghost use Rattle.machine.specs.Events.{tick, start, stop};
 ghost use Rattle.kernel.specs.Methods.{Laid};
 ghost use Rattle.kernel.specs.View.{view, outcomeOf};
 use super::ALREADY_RUNS;
@@ -37,7 +37,7 @@ impl Model {
         entry_rank: &'a [u8; 64],
         priority: &'a [u8; 32],
     ) -> Outcome
-        ensures { λ r. ⌜ r ≡ outcomeOf (tickedOnce (now (compare .entry)) (now («entry_rank» .entry)) (now (priority .entry)) (view self)) ⌝ }
+        ensures { λ r. ⌜ r ≡ outcomeOf (tick (now (compare .entry)) (now («entry_rank» .entry)) (now (priority .entry)) (view self)) ⌝ }
     {
         let started = self.started;
         let asked = self.request;
@@ -72,7 +72,7 @@ impl Model {
         d: u32,
     ) -> Outcome
         requires { ⌜ Laid tables (now first) (now entries) ⌝ }
-        ensures { λ r. ⌜ r ≡ outcomeOf (launched tables (now (first .entry)) (now (entries .entry)) (now (period .entry)) (now (offset .entry)) (view self) t d) ⌝ }
+        ensures { λ r. ⌜ r ≡ outcomeOf (start tables (now (first .entry)) (now (entries .entry)) (now (period .entry)) (now (offset .entry)) (view self) t d) ⌝ }
     {
         if self.runner == NO_RANK {
             return self.with_status(CALL_LEVEL);
@@ -115,7 +115,7 @@ impl Model {
         t: u32,
     ) -> Outcome
         requires { ⌜ Laid tables (now first) (now entries) ⌝ }
-        ensures { λ r. ⌜ r ≡ outcomeOf (halted tables (now (first .entry)) (now (entries .entry)) (view self) t) ⌝ }
+        ensures { λ r. ⌜ r ≡ outcomeOf (stop tables (now (first .entry)) (now (entries .entry)) (view self) t) ⌝ }
     {
         if self.runner == NO_RANK {
             return self.with_status(CALL_LEVEL);

@@ -25,8 +25,8 @@ use Rattle.scheduler.proofs.Effects.{tables-ticked}
 use Rattle.machine.specs.Model.{Model, withCore, withRequest, withRest}
 use Rattle.machine.specs.Arbiter.{settled}
 use Rattle.machine.specs.Cells.{Due, oneMore, matchAt, requestsDue, countersTicked, someTurn}
-use Rattle.machine.specs.Events.{marksOf, dueOf, switchesOf, ticking, tickedOnce}
-use Rattle.machine.specs.Machine.{machineStep, matched}
+use Rattle.machine.specs.Events.{marksOf, dueOf, switchesOf, ticking, tick}
+use Rattle.machine.specs.Machine.{statusOf, effectOf}
 use Rattle.machine.proofs.Relation.Fitted.{Fitted}
 use Rattle.machine.proofs.Relation.Words.{at, busy-is}
 use Rattle.machine.proofs.Relation.Losses.{Lost, lost-same}
@@ -157,7 +157,7 @@ module _ {c : Config} {p : Plan} {rk : ℕ → ℕ} (fit : Fitted c p rk) {m : M
       (m .turning && someTurn maxEntries 0 (switchesOf (p .compare) m)) (requestsDue (m .core .started) ms (p .entry) (record { request = m .core .request; losses = m .losses }) .losses))
 
   pub agrees-tick : Agrees c p rk m s Tick
-  unfolding machineStep tickedOnce step matched firstGiven
+  unfolding statusOf effectOf tick step firstGiven
   agrees-tick =
       agrees fit Tick (settled (p .priority) (ticking (p .compare) (p .entry) m)) done ms (Plain.ticked c s) refl refl refl marks-are
       (settled-tied fit (Plain.ticked c s) ticked-tied)
