@@ -57,7 +57,7 @@ extern "C" {
 
 /* The first number changes when a program has to be compiled or linked anew, the second with what the calls answer or
  * offer, the last with everything else. CHANGELOG.md says what each one brought. */
-#define OSEK_VERSION "1.0.0"
+#define OSEK_VERSION "1.1.0"
 
 /* Sizes in bytes. Longer inputs are refused; an output of OSEK_OUTPUT_MAX suffices for every run, which is proved as
  * `room-enough` in crates/run/proofs/Theorems.antt. */
@@ -110,8 +110,9 @@ enum {
 };
 
 /* Refusals. The place is the offset of the first byte of the number at fault, where nothing else is said; of a number
- * that can't be read it is the byte that decides it, whatever follows. Checked in this order: OSEK_CONFIG_TOO_LONG, the configuration number by number, OSEK_TRACE_TOO_LONG, the trace number by
- * number, OSEK_OUTPUT_TOO_SHORT. Only the first one found is given. */
+ * that can't be read it is the byte that decides it, whatever follows. Checked in this order: OSEK_CONFIG_TOO_LONG, the
+ * configuration number by number, OSEK_TRACE_TOO_LONG, the trace number by number, OSEK_OUTPUT_TOO_SHORT. Only the first
+ * one found is given. */
 enum {
     OSEK_CONFIG_CUT = 1,           /* the configuration ends where a number, or the rest of one, is missing; place: its
                                       end, config_len */
@@ -161,7 +162,7 @@ uint64_t osek_run(const uint8_t *config, size_t config_len,
  *                                 byte in the trace and its length, as two numbers. A stretch is as long as it goes, so
  *                                 at least one byte is kept between two of them.
  *
- * The outputs must not overlap each other or the trace. No pointer may be null, as above.
+ * The outputs must not overlap each other or the trace. A pointer whose length is 0 may be null, as above.
  *
  * Result: refusal * 2^32 + place, or, with refusal 0, the list's length * 65,536 + the events' length. Checked in this
  * order: OSEK_TRACE_TOO_LONG; OSEK_OUTPUT_TOO_SHORT for the events; OSEK_OUTPUT_TOO_SHORT for the list, each time with

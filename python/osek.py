@@ -1,18 +1,22 @@
 """The OSEK reference from Python: a trace of events run over a configuration, by libosek.so.
 
     run(config, trace)     the answers and the losses, or the exception Refused
-    osek_run(..)           the C call itself, for a buffer of one's own
+    salvage(trace)         what is kept of a damaged trace, and where something was dropped
+    osek_run(..)           the C calls themselves, for buffers of one's own
+    osek_salvage(..)
 
-Both inputs are bytes, as docs/RULES.md has them. The library is the file that OSEK_LIBRARY names, or the one that `make lib`
+All inputs are bytes, as docs/RULES.md has them. The library is the file that OSEK_LIBRARY names, or the one that `make lib`
 left in the clone, or the one that is installed.
 """
 
 import ctypes
 import os
 from pathlib import Path
-from typing import List, NamedTuple, Optional
+from typing import List, NamedTuple, Optional, Tuple
 
 OUTPUT_MAX = 32832  # suffices for every run
+TRACE_MAX = 8192  # suffices for what is kept of every trace
+STRETCHES_MAX = 12224  # suffices for every list of dropped stretches
 ANSWER_SIZE = 4
 LOSS_SIZE = 2
 IDLE = 255
@@ -52,8 +56,15 @@ class Run(NamedTuple):
     losses: List[int]  # one for each body: its lost activations
 
 
+class Salvaged(NamedTuple):
+    """What was made of a damaged trace."""
+
+    events: bytes  # a readable trace
+    dropped: List[Tuple[int, int]]  # each dropped stretch: its offset in the damaged trace, and its length
+
+
 class Refused(Exception):
-    """A run that was refused: its code, the place in the input, and the code in words."""
+    """A call that was refused: its code, the place in the input, and the code in words."""
 
     def __init__(self, code: int, place: int):
         self.code, self.place = code, place
@@ -66,8 +77,9 @@ def _library() -> ctypes.CDLL:
     named = os.environ.get("OSEK_LIBRARY")
     library = ctypes.CDLL(named or (str(built) if built.exists() else "libosek.so.1"))
     # Without these a result would be cut to 32 bits, and every refusal lost.
-    library.osek_run.restype = ctypes.c_uint64
-    library.osek_run.argtypes = 3 * [ctypes.c_void_p, ctypes.c_size_t]
+    for function in (library.osek_run, library.osek_salvage):
+        function.restype = ctypes.c_uint64
+        function.argtypes = 3 * [ctypes.c_void_p, ctypes.c_size_t]
     return library
 
 
@@ -76,23 +88,57 @@ _LIBRARY = _library()
 
 def osek_run(config, trace, out) -> int:
     """The C call: writes the output into the writable buffer `out`; refusal * 2**32 + place, or the number of events."""
-    inputs = [ctypes.create_string_buffer(data, len(data)) for data in (_bytes(config), _bytes(trace))]
-    output = (ctypes.c_uint8 * len(out)).from_buffer(out)
-    return _LIBRARY.osek_run(inputs[0], len(inputs[0]), inputs[1], len(inputs[1]), output, len(out))
+    return _LIBRARY.osek_run(*_lent(config), *_lent(trace), *_taken(out))
+
+
+def osek_salvage(trace, events, stretches) -> int:
+    """The C call: writes into the writable buffers; refusal * 2**32 + place, or the list's length * 65,536 + the events'."""
+    return _LIBRARY.osek_salvage(*_lent(trace), *_taken(events), *_taken(stretches))
 
 
 def run(config, trace) -> Run:
     """Runs the trace from the configuration's fresh start."""
     out = bytearray(OUTPUT_MAX)
-    result = osek_run(config, trace, out)
-    code, low = divmod(result, 1 << 32)
-    if code:
-        raise Refused(code, low)
+    low = _accepted(osek_run(config, trace, out))
     answers = [_answer(out[at : at + ANSWER_SIZE]) for at in range(0, ANSWER_SIZE * low, ANSWER_SIZE)]
     bodies = _bytes(config)[1]
     first = ANSWER_SIZE * low
     losses = [int.from_bytes(out[at : at + LOSS_SIZE], "little") for at in range(first, first + LOSS_SIZE * bodies, LOSS_SIZE)]
     return Run(answers, losses)
+
+
+def salvage(trace) -> Salvaged:
+    """Reads the trace event by event; where none can be read a byte is dropped, and the next is tried."""
+    events, stretches = bytearray(TRACE_MAX), bytearray(STRETCHES_MAX)
+    listed, kept = divmod(_accepted(osek_salvage(trace, events, stretches)), 1 << 16)
+    numbers = _numbers(stretches[:listed])
+    return Salvaged(bytes(events[:kept]), list(zip(numbers[::2], numbers[1::2])))
+
+
+def _lent(data):
+    data = _bytes(data)
+    return ctypes.create_string_buffer(data, len(data)), len(data)
+
+
+def _taken(out):
+    return (ctypes.c_uint8 * len(out)).from_buffer(out), len(out)
+
+
+def _accepted(result) -> int:
+    code, low = divmod(result, 1 << 32)
+    if code:
+        raise Refused(code, low)
+    return low
+
+
+def _numbers(data) -> List[int]:
+    numbers, value, shift = [], 0, 0
+    for byte in data:
+        value, shift = value | (byte & 127) << shift, shift + 7
+        if byte < 128:
+            numbers.append(value)
+            value, shift = 0, 0
+    return numbers
 
 
 def _answer(four) -> Answer:

@@ -44,7 +44,7 @@ MANY = bytes([1, 1, 0, 1, 1, 0, 5]) + 5 * (bytes([16, 16]) + bytes(b for offset 
 
 REFUSED = [
     (b"", b"", 1, 0),
-    (b"\x81\x00", b"", 2, 0),
+    (b"\x81\x00", b"", 2, 1),
     (config_with(0, 2), b"", 3, 0),
     (config_with(1, 33), b"", 4, 1),
     (config_with(2, 2), b"", 5, 2),
@@ -55,7 +55,7 @@ REFUSED = [
     (4097 * b"\x01", b"", 10, 0),
     (CONFIG, 8193 * b"\x06", 20, 0),
     (CONFIG, b"\x06\x01", 21, 2),
-    (CONFIG, b"\x06\x01\x80\x00", 22, 2),
+    (CONFIG, b"\x06\x01\x80\x00", 22, 3),
     (CONFIG, b"\x06\x0a", 23, 1),
 ]
 
@@ -82,9 +82,19 @@ class OsekTest(unittest.TestCase):
         self.assertEqual(out, bytes(73))
         self.assertEqual({code for _, _, code, _ in REFUSED} | {30}, set(osek.REFUSALS))
 
+    def test_a_damaged_trace_is_salvaged(self):
+        # Get 0; FF; 200 times 00; Tick; Start 0 without its delay.
+        damaged = b"\x04\x00\xff" + bytes(200) + b"\x06\x08\x00"
+        self.assertEqual(osek.salvage(damaged), (b"\x04\x00\x06", [(2, 201), (204, 2)]))
+        self.assertEqual(osek.salvage(TRACE), (TRACE, []))
+        with self.assertRaises(osek.Refused) as raised:
+            osek.salvage(bytes(8193))
+        self.assertEqual((raised.exception.code, raised.exception.place), (20, 0))
+
     def test_only_bytes_are_taken(self):
         for wrong in (7, "text", None):
             self.assertRaises(TypeError, osek.run, CONFIG, wrong)
+            self.assertRaises(TypeError, osek.salvage, wrong)
         self.assertEqual(osek.run(bytearray(CONFIG), memoryview(TRACE)), osek.run(CONFIG, TRACE))
 
     @unittest.skipUnless("OSEK_CASES" in os.environ, "OSEK_CASES names no file")

@@ -3,7 +3,7 @@
 --
 -- An input that ends after a number which is in order is refused with 1 at its end, so that (1, n) says: the n bytes are in order.
 -- Assumes nothing.
-use Prim.Native.Nat.{ℕ}
+use Prim.Native.Nat.{ℕ, zero, suc}
 use mathlib.Core.Path.{_≡_, refl}
 use mathlib.Core.List.{List, [], _∷_, _++_, map}
 use lib.ListN.{replicate}
@@ -25,6 +25,11 @@ oneTask = 0x01 ∷ 0x01 ∷ 0x00 ∷ 0x05 ∷ 0x00 ∷ []
 
 abbrev noResource : List ℕ
 noResource = oneTask ++ 0x00 ∷ []
+
+-- so many tasks, each of a priority of its own
+abbrev tasks : ℕ → List ℕ
+tasks zero = []
+tasks (suc n) = 0x00 ∷ suc n ∷ 0x00 ∷ tasks n
 
 -- tasks 0 and 2 and ISR 1, and a table of period 4 up to its entry count
 abbrev threeBodies : List ℕ
@@ -55,6 +60,9 @@ pub record ReaderRows : Type 0 where
   pub resource-count : answers oneTask ((0x10 ∷ []) ∷ (0x11 ∷ []) ∷ []) ≡ (1, 6) ∷ (4, 5) ∷ []
   -- the masks of one body
   pub users : answers (oneTask ++ 0x01 ∷ []) ((0x00 ∷ []) ∷ (0x01 ∷ []) ∷ (0x02 ∷ []) ∷ (0x03 ∷ []) ∷ []) ≡ (5, 6) ∷ (1, 7) ∷ (5, 6) ∷ (5, 6) ∷ []
+  -- the masks of 31 bodies and of 32: bits 30 and 31 of the first, all bits of the second
+  pub users-of-many : (answers (0x01 ∷ 31 ∷ (tasks 31 ++ 0x01 ∷ [])) ((0x80 ∷ 0x80 ∷ 0x80 ∷ 0x80 ∷ 0x04 ∷ []) ∷ (0x80 ∷ 0x80 ∷ 0x80 ∷ 0x80 ∷ 0x08 ∷ []) ∷ []) ≡ (1, 101) ∷ (5, 96) ∷ [])
+      × (answers (0x01 ∷ 32 ∷ (tasks 32 ++ 0x01 ∷ [])) ((0xFF ∷ 0xFF ∷ 0xFF ∷ 0xFF ∷ 0x0F ∷ []) ∷ []) ≡ (1, 104) ∷ [])
   pub table-count : answers noResource ((0x08 ∷ []) ∷ (0x09 ∷ []) ∷ []) ≡ (1, 7) ∷ (4, 6) ∷ []
   pub period : answers (noResource ++ 0x01 ∷ []) ((0x00 ∷ []) ∷ (0x01 ∷ []) ∷ (0xFF ∷ 0xFF ∷ 0x03 ∷ []) ∷ (0x80 ∷ 0x80 ∷ 0x04 ∷ []) ∷ [])
       ≡ (5, 7) ∷ (1, 8) ∷ (1, 10) ∷ (5, 7) ∷ []
@@ -89,6 +97,7 @@ reader-rows =
       autostart-isr = refl;
       resource-count = refl;
       users = refl;
+      users-of-many = (refl, refl);
       table-count = refl;
       period = refl;
       entry-count = refl;

@@ -1,14 +1,13 @@
 -- What the crate shows beyond its contracts. Each law stands here in full, over specs/ alone; the modules it cites prove it.
 --
--- In order: demand 3, `agreement`; that a refused event leaves the machine's model as it was.
--- That the scheduler's d and n are the Ticks counted from a table's last accepted Start until its next accepted Stop stands in the crate
--- `scheduler` (`table-history` of its Theorems), over the list of events itself. Assumes nothing.
-use Prim.Native.Nat.{ℕ, max}
+-- In order: demand 3, `agreement` and `demand-3`; what Start and Stop make of the cells; that a refused event leaves the model as it was.
+-- Assumes nothing.
+use Prim.Native.Nat.{ℕ, suc, _+_, _≤_, _<_}
 use mathlib.Core.Path.{_≡_, refl}
-use mathlib.Core.Logic.{_≢_}
-use mathlib.Core.Bool.{false}
+use mathlib.Core.Logic.{_≢_, _↔_}
+use mathlib.Core.Bool.{true}
 use mathlib.Core.List.{List}
-use lib.ListN.{getD}
+use lib.ListN.{length, getD, take}
 use borrow.Author.Tests.{eq-eqb, ne-eqb}
 use Rattle.number.specs.Refusal.{none}
 use Rattle.number.proofs.Cases.{by-eq}
@@ -16,31 +15,82 @@ use Rattle.config.specs.declared.Config.{Config}
 use Rattle.config.specs.Accepted.{Accepted, Shaped}
 use Rattle.config.specs.Reader.{readConfig}
 use Rattle.config.proofs.Theorems.{accepted-ranges, reading}
+use Rattle.config.specs.Meaning.{firstOf}
 use Rattle.plan.specs.declared.Plan.{Plan}
+use Rattle.plan.specs.Rank.{rankOf}
 use Rattle.plan.specs.Plan.{planOf}
+use Rattle.cell.specs.Cell.{startCell, stopped}
 use Rattle.scheduler.specs.Status.{done}
-use Rattle.scheduler.specs.Scheduler.{Event, Activate, Finish, Chain, Get, Release, Tick, Line, Start, Stop, fresh, seen}
-use Rattle.machine.specs.Model.{Model, Outcome, noRank, doneWith}
-use Rattle.machine.specs.Arbiter.{settled, leaving, requesting}
-use Rattle.machine.specs.Resources.{taking, freeing}
-use Rattle.machine.specs.Events.{activateStatus, finishStatus, chainStatus, getStatus, releaseStatus, lineStatus, startStatus, starting, stopStatus, stopping}
-use Rattle.machine.specs.Events.{attempt, activated, finished, chained, got, released, tickedOnce, lined, launched, halted}
-use Rattle.machine.specs.Machine.{freshModel, machineStep, machineSeen}
+use Rattle.scheduler.specs.Tick.{dues}
+use Rattle.scheduler.specs.Entries.{entriesOf, entryAt}
+use Rattle.scheduler.specs.Scheduler.{Event, Activate, Finish, Chain, Get, Release, Tick, Line, Start, Stop, fresh, seen, after}
+use Rattle.scheduler.specs.History.{dueMark, DueAt}
+use Rattle.scheduler.proofs.Theorems.{due-exactly}
+use Rattle.machine.specs.Model.{Model, Outcome}
+use Rattle.machine.specs.Events.{attempt, tick}
+use Rattle.machine.specs.Machine.{freshModel, statusOf, effectOf, machineStep, cellIn, machineSeen, machineAfter}
+use Rattle.machine.proofs.Relation.Whole.{Sim}
+use Rattle.machine.proofs.Change.Ticks.{dues-long}
+use Rattle.machine.proofs.Event.Tables as Tables
 use Rattle.machine.proofs.Whole.Plan.{fitted}
 use Rattle.machine.proofs.Whole.Fresh.{fresh-sim}
-use Rattle.machine.proofs.Whole.Lists.{agreement-from}
+use Rattle.machine.proofs.Whole.Lists.{agreement-from, after-sim}
 
--- Demand 3: for every accepted configuration and every list of events, from the fresh start, the machine and the plain scheduler are seen to do
+-- For every accepted configuration and every list of events, from the fresh start, the machine and the plain scheduler are seen to do
 -- the same: status, runner, level and begun mark of every event, the losses of all bodies after it, and a cell's match where its entry is due.
 pub agreement : (c : Config) → Accepted c → Shaped c → (es : List Event)
     → machineSeen c (planOf c) (freshModel (planOf c)) es ≡ seen c (fresh c) es
 agreement c ok shaped es = agreement-from (fitted c ok shaped) es (fresh-sim (fitted c ok shaped))
 
+-- Demand 3, undivided: the equation, and for the i-th event and the k-th entry that its cell matches exactly if that event is a Tick at which
+-- the entry is due "by the table's arithmetic, counted from the table's last accepted start until its next accepted stop": the events before
+-- it are `before ++ Start t d ∷ rest`, that Start is accepted where it stands, no Stop of t in rest is, and `due P (d + o) (suc (tickCount rest))`.
+pub record Demand3 (c : Config) (es : List Event) : Type 0 where
+  pub same : machineSeen c (planOf c) (freshModel (planOf c)) es ≡ seen c (fresh c) es
+  pub on-time : (i k : ℕ) → i < length es → k < length (entriesOf c)
+      → (dueMark (machineSeen c (planOf c) (freshModel (planOf c)) es) i k ≡ true) ↔ DueAt c (take i es) (getD es i Tick) (entryAt c k)
+
+pub demand-3 : (c : Config) → Accepted c → Shaped c → (es : List Event) → Demand3 c es
+demand-3 c ok shaped es =
+    record { same = agreement c ok shaped es; on-time = λ i k h f. rw (agreement c ok shaped es) (due-exactly c es i k h f) }
+
 -- the same of every configuration that the reader accepts
-pub agreement-read : (bs : List ℕ) → readConfig bs .refusal ≡ none → (es : List Event)
-    → machineSeen (readConfig bs .config) (planOf (readConfig bs .config)) (freshModel (planOf (readConfig bs .config))) es
-    ≡ seen (readConfig bs .config) (fresh (readConfig bs .config)) es
-agreement-read bs e = agreement (readConfig bs .config) (accepted-ranges bs e) (reading bs .shaped)
+pub demand-3-read : (bs : List ℕ) → readConfig bs .refusal ≡ none → (es : List Event) → Demand3 (readConfig bs .config) es
+demand-3-read bs e = demand-3 (readConfig bs .config) (accepted-ranges bs e) (reading bs .shaped)
+
+-- the model after a list of events
+abbrev pub reached : Config → List Event → Model
+reached c es = machineAfter c (planOf c) (freshModel (planOf c)) es
+
+-- Start and Stop are the cell's own, for each cell of the table, and leave every other cell as it was: wherever they are accepted
+module _ (c : Config) (ok : Accepted c) (shaped : Shaped c) (es : List Event) (t : ℕ) (t< : t < c .tables) (e : ℕ) where
+  sim : Sim c (planOf c) (rankOf c) (reached c es) (after c (fresh c) es)
+  sim = after-sim (fitted c ok shaped) es (fresh-sim (fitted c ok shaped))
+
+  long : length (dues c (after c (fresh c) es)) ≡ planOf c .count
+  long = dues-long c (planOf c) (rankOf c) (fitted c ok shaped) (after c (fresh c) es) (sim .timed .tables-long)
+
+  -- "an entry at offset o has first delay D = d + o; its counter becomes (P − 1 − D) modulo 65,536 and its switch goes on"
+  pub start-cell : (d : ℕ) → firstOf c t ≤ e → e < firstOf c (suc t)
+      → cellIn (planOf c) (effectOf c (planOf c) (reached c es) (Start t d) .model) e ≡ startCell (getD (c .period) t 0) (d + getD (c .offset) e 0)
+  unfolding effectOf
+  start-cell d = Tables.start-cell (fitted c ok shaped) sim long t d e t<
+
+  pub start-other : (d u : ℕ) → u < c .tables → u ≢ t → firstOf c u ≤ e → e < firstOf c (suc u)
+      → cellIn (planOf c) (effectOf c (planOf c) (reached c es) (Start t d) .model) e ≡ cellIn (planOf c) (reached c es) e
+  unfolding effectOf
+  start-other d = Tables.start-other (fitted c ok shaped) sim long t d e t<
+
+  -- "Stop switches the table's cells off and sets their counters to 0"
+  pub stop-cell : firstOf c t ≤ e → e < firstOf c (suc t)
+      → cellIn (planOf c) (effectOf c (planOf c) (reached c es) (Stop t) .model) e ≡ stopped (cellIn (planOf c) (reached c es) e)
+  unfolding effectOf
+  stop-cell = Tables.stop-cell (fitted c ok shaped) sim long t e t<
+
+  pub stop-other : (u : ℕ) → u < c .tables → u ≢ t → firstOf c u ≤ e → e < firstOf c (suc u)
+      → cellIn (planOf c) (effectOf c (planOf c) (reached c es) (Stop t) .model) e ≡ cellIn (planOf c) (reached c es) e
+  unfolding effectOf
+  stop-other = Tables.stop-other (fitted c ok shaped) sim long t e t<
 
 attempt-same : (m : Model) (st : ℕ) (o : Outcome) → o .status ≡ done → attempt m st o .status ≢ done → attempt m st o .model ≡ m
 attempt-same m st o e n =
@@ -48,24 +98,19 @@ attempt-same m st o e n =
     (λ z. absurd (n (rw (eq-eqb st done z) e)))
     (λ z. rw (ne-eqb st done z))
 
+-- what an event does where it is accepted has status 0
+effect-done : (c : Config) (p : Plan) (m : Model) (e : Event) → effectOf c p m e .status ≡ done
+unfolding effectOf tick
+effect-done c p m (Activate t) = refl
+effect-done c p m Finish = refl
+effect-done c p m (Chain t) = refl
+effect-done c p m (Get r) = refl
+effect-done c p m (Release r) = refl
+effect-done c p m Tick = refl
+effect-done c p m (Line i) = refl
+effect-done c p m (Start t d) = refl
+effect-done c p m (Stop t) = refl
+
 -- "A status other than 0 changes nothing", whatever the model
 pub refused-same : (c : Config) (p : Plan) (m : Model) (e : Event) → machineStep c p m e .status ≢ done → machineStep c p m e .model ≡ m
-unfolding machineStep activated finished chained got released tickedOnce lined launched halted
-refused-same c p m (Activate t) n =
-    attempt-same m (activateStatus (p .task) m t) (settled (p .priority) (requesting (getD (p .task) t noRank) m)) refl n
-refused-same c p m Finish n = attempt-same m (finishStatus m) (settled (p .priority) (leaving m)) refl n
-refused-same c p m (Chain t) n =
-    attempt-same m (chainStatus (p .isrs) (p .task) m t) (settled (p .priority) (requesting (getD (p .task) t noRank) (leaving m))) refl n
-refused-same c p m (Get r) n =
-    attempt-same m (getStatus (c .resources) (p .ceiling) (p .priority) m r)
-    (doneWith (taking r (max (getD (p .ceiling) r 0) (m .core .level)) m) false) refl n
-refused-same c p m (Release r) n =
-    attempt-same m (releaseStatus (c .resources) m r) (settled (p .priority) (freeing (p .priority) r m)) refl n
-refused-same c p m Tick n = absurd (n refl)
-refused-same c p m (Line i) n =
-    attempt-same m (lineStatus (p .line) m i) (settled (p .priority) (requesting (getD (p .line) i noRank) m)) refl n
-refused-same c p m (Start t d) n =
-    attempt-same m (startStatus (c .tables) (p .first) (c .offset) m t d)
-    (doneWith (starting (getD (c .entries) t 0) (getD (p .first) t 0) (getD (c .period) t 0) (c .offset) d m) false) refl n
-refused-same c p m (Stop t) n =
-    attempt-same m (stopStatus (c .tables) (p .first) m t) (doneWith (stopping (getD (c .entries) t 0) (getD (p .first) t 0) m) false) refl n
+refused-same c p m e = attempt-same m (statusOf c p m e) (effectOf c p m e) (effect-done c p m e)

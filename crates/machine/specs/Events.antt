@@ -1,4 +1,4 @@
--- The machine's nine events: each one's status "in order", and the next model with its answer.
+-- The machine's nine events: each one's status "in order", its effect where that is 0, and the two put together.
 --
 -- ps are the priorities by rank, trs and lrs the ranks of tasks and of ISRs by body, as the plan has them. Assumes nothing.
 use Prim.Native.Nat.{ℕ, _+_, max}
@@ -12,7 +12,7 @@ use Rattle.scheduler.specs.Call.{longestDelay}
 use Rattle.word.specs.Word.{has}
 use Rattle.machine.specs.Model.{Model, Outcome, noRank, withCore, withRequest, withRest, withCells, doneWith, refusedWith}
 use Rattle.machine.specs.Arbiter.{settled, leaving, requesting}
-use Rattle.machine.specs.Resources.{holding, latest, taking, freeing}
+use Rattle.machine.specs.Resources.{holding, latest, getting, releasing}
 use Rattle.machine.specs.Cells.{switchOff, isOn, countersTicked, switchesTicked, someTurn, marks, countersStarted, switchesStarted, someLong, countersStopped, switched, Due, requestsDue}
 
 -- "nobody runs"
@@ -32,15 +32,21 @@ abbrev pub activateStatus : List ℕ → Model → ℕ → ℕ
 activateStatus trs m t =
     firstGiven ((idles m gives callLevel) ∷ (eqb (getD trs t noRank) noRank gives noSuch) ∷ (busy m (getD trs t noRank) gives limitReached) ∷ [])
 
-unfoldable pub activated : List ℕ → List ℕ → Model → ℕ → Outcome
-activated trs ps m t = attempt m (activateStatus trs m t) (settled ps (requesting (getD trs t noRank) m))
+abbrev pub activateEffect : List ℕ → List ℕ → Model → ℕ → Outcome
+activateEffect trs ps m t = settled ps (requesting (getD trs t noRank) m)
+
+unfoldable pub activate : List ℕ → List ℕ → Model → ℕ → Outcome
+activate trs ps m t = attempt m (activateStatus trs m t) (activateEffect trs ps m t)
 
 -- Finish
 abbrev pub finishStatus : Model → ℕ
 finishStatus m = firstGiven ((idles m gives callLevel) ∷ (holding m gives holdsResource) ∷ [])
 
-unfoldable pub finished : List ℕ → Model → Outcome
-finished ps m = attempt m (finishStatus m) (settled ps (leaving m))
+abbrev pub finishEffect : List ℕ → Model → Outcome
+finishEffect ps m = settled ps (leaving m)
+
+unfoldable pub finish : List ℕ → Model → Outcome
+finish ps m = attempt m (finishStatus m) (finishEffect ps m)
 
 -- Chain t; ws: the ranks that are ISRs
 abbrev pub chainStatus : ℕ → List ℕ → Model → ℕ → ℕ
@@ -52,8 +58,11 @@ chainStatus ws trs m t =
     (busy m (getD trs t noRank) && not (eqb (getD trs t noRank) (m .core .runner)) gives limitReached) ∷
     [])
 
-unfoldable pub chained : ℕ → List ℕ → List ℕ → Model → ℕ → Outcome
-chained ws trs ps m t = attempt m (chainStatus ws trs m t) (settled ps (requesting (getD trs t noRank) (leaving m)))
+abbrev pub chainEffect : List ℕ → List ℕ → Model → ℕ → Outcome
+chainEffect trs ps m t = settled ps (requesting (getD trs t noRank) (leaving m))
+
+unfoldable pub chain : ℕ → List ℕ → List ℕ → Model → ℕ → Outcome
+chain ws trs ps m t = attempt m (chainStatus ws trs m t) (chainEffect trs ps m t)
 
 -- Get r, of n resources with the ceilings cs
 abbrev pub getStatus : ℕ → List ℕ → List ℕ → Model → ℕ → ℕ
@@ -65,24 +74,33 @@ getStatus n cs ps m r =
     [])
 
 -- the level rises to the ceiling, or stays where it is above it
-unfoldable pub got : ℕ → List ℕ → List ℕ → Model → ℕ → Outcome
-got n cs ps m r = attempt m (getStatus n cs ps m r) (doneWith (taking r (max (getD cs r 0) (m .core .level)) m) false)
+abbrev pub getEffect : List ℕ → Model → ℕ → Outcome
+getEffect cs m r = doneWith (getting r (max (getD cs r 0) (m .core .level)) m) false
+
+unfoldable pub get : ℕ → List ℕ → List ℕ → Model → ℕ → Outcome
+get n cs ps m r = attempt m (getStatus n cs ps m r) (getEffect cs m r)
 
 -- Release r
 abbrev pub releaseStatus : ℕ → Model → ℕ → ℕ
 releaseStatus n m r =
     firstGiven ((idles m gives callLevel) ∷ (leb n r gives noSuch) ∷ (not (latest m r) gives noFunction) ∷ [])
 
-unfoldable pub released : ℕ → List ℕ → Model → ℕ → Outcome
-released n ps m r = attempt m (releaseStatus n m r) (settled ps (freeing ps r m))
+abbrev pub releaseEffect : List ℕ → Model → ℕ → Outcome
+releaseEffect ps m r = settled ps (releasing ps r m)
+
+unfoldable pub release : ℕ → List ℕ → Model → ℕ → Outcome
+release n ps m r = attempt m (releaseStatus n m r) (releaseEffect ps m r)
 
 -- Line i
 abbrev pub lineStatus : List ℕ → Model → ℕ → ℕ
 lineStatus lrs m i =
     firstGiven ((eqb (getD lrs i noRank) noRank gives noSuch) ∷ (has (m .core .request) (getD lrs i noRank) gives limitReached) ∷ [])
 
-unfoldable pub lined : List ℕ → List ℕ → Model → ℕ → Outcome
-lined lrs ps m i = attempt m (lineStatus lrs m i) (settled ps (requesting (getD lrs i noRank) m))
+abbrev pub lineEffect : List ℕ → List ℕ → Model → ℕ → Outcome
+lineEffect lrs ps m i = settled ps (requesting (getD lrs i noRank) m)
+
+unfoldable pub line : List ℕ → List ℕ → Model → ℕ → Outcome
+line lrs ps m i = attempt m (lineStatus lrs m i) (lineEffect lrs ps m i)
 
 -- Tick: every cell of the row is ticked, with the compare values ks; rs are the ranks of their entries' tasks. marksOf n: which of the
 -- first n match
@@ -105,8 +123,8 @@ ticking ks rs m =
     (m .turning && someTurn maxEntries 0 (switchesOf ks m))
     (dueOf ks rs m .losses)
 
-unfoldable pub tickedOnce : List ℕ → List ℕ → List ℕ → Model → Outcome
-tickedOnce ks rs ps m = settled ps (ticking ks rs m)
+unfoldable pub tick : List ℕ → List ℕ → List ℕ → Model → Outcome
+tick ks rs ps m = settled ps (ticking ks rs m)
 
 -- a table "runs" where its first cell is on; fs: the tables' first entries
 abbrev pub runs : List ℕ → Model → ℕ → Bool
@@ -128,9 +146,11 @@ starting k e P os d m =
     withCells m (countersStarted k e P d os (m .counter)) (switchesStarted k e d os (m .on)) (m .turning || someLong k e d os)
 
 -- es: the tables' entry counts, qs: their periods
-unfoldable pub launched : ℕ → List ℕ → List ℕ → List ℕ → List ℕ → Model → ℕ → ℕ → Outcome
-launched n fs es qs os m t d =
-    attempt m (startStatus n fs os m t d) (doneWith (starting (getD es t 0) (getD fs t 0) (getD qs t 0) os d m) false)
+abbrev pub startEffect : List ℕ → List ℕ → List ℕ → List ℕ → Model → ℕ → ℕ → Outcome
+startEffect fs es qs os m t d = doneWith (starting (getD es t 0) (getD fs t 0) (getD qs t 0) os d m) false
+
+unfoldable pub start : ℕ → List ℕ → List ℕ → List ℕ → List ℕ → Model → ℕ → ℕ → Outcome
+start n fs es qs os m t d = attempt m (startStatus n fs os m t d) (startEffect fs es qs os m t d)
 
 -- Stop t
 abbrev pub stopStatus : ℕ → List ℕ → Model → ℕ → ℕ
@@ -139,5 +159,8 @@ stopStatus n fs m t = firstGiven ((idles m gives callLevel) ∷ (leb n t gives n
 abbrev pub stopping : ℕ → ℕ → Model → Model
 stopping k e m = withCells m (countersStopped k e (m .counter)) (switched k e switchOff (m .on)) (m .turning)
 
-unfoldable pub halted : ℕ → List ℕ → List ℕ → Model → ℕ → Outcome
-halted n fs es m t = attempt m (stopStatus n fs m t) (doneWith (stopping (getD es t 0) (getD fs t 0) m) false)
+abbrev pub stopEffect : List ℕ → List ℕ → Model → ℕ → Outcome
+stopEffect fs es m t = doneWith (stopping (getD es t 0) (getD fs t 0) m) false
+
+unfoldable pub stop : ℕ → List ℕ → List ℕ → Model → ℕ → Outcome
+stop n fs es m t = attempt m (stopStatus n fs m t) (stopEffect fs es m t)

@@ -1,7 +1,7 @@
 -- The machine from the fresh start on, and what is seen of it.
 --
 --   freshModel p      the model before the first event
---   machineStep c p   one event: the next model with its answer
+--   statusOf, effectOf   document 01's table of events; machineStep c p: one event, the next model with its answer
 --   machineSeen       what is seen of a list of events, each of which meets the model that the one before it handed back
 --   machineAfter      the model after a list of events
 --
@@ -14,11 +14,15 @@ use lib.ListN.{getD, take, replicate}
 use Rattle.config.specs.declared.Config.{Config}
 use Rattle.plan.specs.declared.Plan.{Plan}
 use Rattle.stack.specs.Stack.{emptyRow}
+use Rattle.cell.specs.declared.Cell.{Cell}
+use Rattle.scheduler.specs.Status.{done}
+use Rattle.scheduler.specs.Event.{isTick}
 use Rattle.scheduler.specs.Scheduler.{Event, Activate, Finish, Chain, Get, Release, Tick, Line, Start, Stop, Seen, markOf}
 use Rattle.machine.specs.Model.{Model, Outcome, noRank}
 use Rattle.machine.specs.Arbiter.{settled}
-use Rattle.machine.specs.Cells.{switchOff}
-use Rattle.machine.specs.Events.{activated, finished, chained, got, released, tickedOnce, lined, launched, halted, marksOf}
+use Rattle.machine.specs.Cells.{switchOff, cellAt}
+use Rattle.machine.specs.Events.{attempt, activateStatus, activateEffect, finishStatus, finishEffect, chainStatus, chainEffect, getStatus, getEffect}
+use Rattle.machine.specs.Events.{releaseStatus, releaseEffect, marksOf, tick, lineStatus, lineEffect, startStatus, startEffect, stopStatus, stopEffect}
 
 -- "autostart tasks are ready .. all losses are 0, tables stopped"; w: the ranks of the autostart tasks
 abbrev pub unstarted : ℕ → Model
@@ -42,16 +46,36 @@ freshWith w ps = settled ps (unstarted w) .model
 abbrev pub freshModel : Plan → Model
 freshModel p = freshWith (p .autostart) (p .priority)
 
-unfoldable pub machineStep : Config → Plan → Model → Event → Outcome
-machineStep c p m (Activate t) = activated (p .task) (p .priority) m t
-machineStep c p m Finish = finished (p .priority) m
-machineStep c p m (Chain t) = chained (p .isrs) (p .task) (p .priority) m t
-machineStep c p m (Get r) = got (c .resources) (p .ceiling) (p .priority) m r
-machineStep c p m (Release r) = released (c .resources) (p .priority) m r
-machineStep c p m Tick = tickedOnce (p .compare) (p .entry) (p .priority) m
-machineStep c p m (Line i) = lined (p .line) (p .priority) m i
-machineStep c p m (Start t d) = launched (c .tables) (p .first) (c .entries) (c .period) (c .offset) m t d
-machineStep c p m (Stop t) = halted (c .tables) (p .first) (c .entries) m t
+-- document 01's table of events, its statuses: "the first status that applies is given"
+unfoldable pub statusOf : Config → Plan → Model → Event → ℕ
+statusOf c p m (Activate t) = activateStatus (p .task) m t
+statusOf c p m Finish = finishStatus m
+statusOf c p m (Chain t) = chainStatus (p .isrs) (p .task) m t
+statusOf c p m (Get r) = getStatus (c .resources) (p .ceiling) (p .priority) m r
+statusOf c p m (Release r) = releaseStatus (c .resources) m r
+statusOf c p m Tick = done
+statusOf c p m (Line i) = lineStatus (p .line) m i
+statusOf c p m (Start t d) = startStatus (c .tables) (p .first) (c .offset) m t d
+statusOf c p m (Stop t) = stopStatus (c .tables) (p .first) m t
+
+-- and its effects
+unfoldable pub effectOf : Config → Plan → Model → Event → Outcome
+effectOf c p m (Activate t) = activateEffect (p .task) (p .priority) m t
+effectOf c p m Finish = finishEffect (p .priority) m
+effectOf c p m (Chain t) = chainEffect (p .task) (p .priority) m t
+effectOf c p m (Get r) = getEffect (p .ceiling) m r
+effectOf c p m (Release r) = releaseEffect (p .priority) m r
+effectOf c p m Tick = tick (p .compare) (p .entry) (p .priority) m
+effectOf c p m (Line i) = lineEffect (p .line) (p .priority) m i
+effectOf c p m (Start t d) = startEffect (p .first) (c .entries) (c .period) (c .offset) m t d
+effectOf c p m (Stop t) = stopEffect (p .first) (c .entries) m t
+
+abbrev pub machineStep : Config → Plan → Model → Event → Outcome
+machineStep c p m e = attempt m (statusOf c p m e) (effectOf c p m e)
+
+-- the cell of entry e
+abbrev pub cellIn : Plan → Model → ℕ → Cell
+cellIn p m e = cellAt (m .turning) (p .compare) (m .on) (m .counter) e
 
 -- the number of the body that runs
 abbrev pub runnerOf : Plan → Model → ℕ
@@ -62,16 +86,8 @@ abbrev pub lossesOf : Config → Plan → Model → List ℕ
 lossesOf c p m = map (λ r. getD (m .losses) r 0) (take (c .bodies) (p .task))
 
 -- which cells matched at the event e, which met the model m
-unfoldable pub matched : Plan → Model → Event → List Bool
-matched p m (Activate t) = replicate (p .count) false
-matched p m Finish = replicate (p .count) false
-matched p m (Chain t) = replicate (p .count) false
-matched p m (Get r) = replicate (p .count) false
-matched p m (Release r) = replicate (p .count) false
-matched p m Tick = marksOf (p .count) (p .compare) m
-matched p m (Line i) = replicate (p .count) false
-matched p m (Start t d) = replicate (p .count) false
-matched p m (Stop t) = replicate (p .count) false
+abbrev pub matched : Plan → Model → Event → List Bool
+matched p m e = cond (isTick e) (marksOf (p .count) (p .compare) m) (replicate (p .count) false)
 
 -- what is seen of the event e, which met m and handed o back
 abbrev pub observed : Config → Plan → Model → Event → Outcome → Seen

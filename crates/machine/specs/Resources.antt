@@ -1,8 +1,8 @@
 -- The held resources in one row, in the order taken, the latest on top: each slot has its resource, its holder's rank and the level
 -- after its Get. Past the bottom of the row there is no holder. Which resources are held stands in a word, too.
 --
---   taking r l m   the runner takes r, and its level becomes l
---   freeing ps r m the runner gives its latest resource r back: "the level .. is what it is without that resource"
+--   getting r l m   the runner takes r, and its level becomes l
+--   releasing ps r m the runner gives its latest resource r back: "the level .. is what it is without that resource"
 --
 -- Assumes nothing.
 use Prim.Native.Nat.{ℕ}
@@ -22,8 +22,8 @@ holding m = eqb (topRow (m .holder)) (m .core .runner)
 abbrev pub latest : Model → ℕ → Bool
 latest m r = holding m && eqb (topRow (m .resource)) r
 
-abbrev pub taking : ℕ → ℕ → Model → Model
-taking r l m =
+abbrev pub getting : ℕ → ℕ → Model → Model
+getting r l m =
     withSlots m l (with (m .held) r) (pushRow (m .resource) r) (pushRow (m .holder) (m .core .runner)) (pushRow (m .raised) l)
 
 -- the level of the runner without its latest resource: that of the slot below if it is its own, else its own priority
@@ -31,6 +31,6 @@ abbrev pub levelWithout : List ℕ → Model → ℕ
 levelWithout ps m =
     cond (eqb (secondRow (m .holder)) (m .core .runner)) (secondRow (m .raised)) (getD ps (m .core .runner) 0)
 
-abbrev pub freeing : List ℕ → ℕ → Model → Model
-freeing ps r m =
+abbrev pub releasing : List ℕ → ℕ → Model → Model
+releasing ps r m =
     withSlots m (levelWithout ps m) (without (m .held) r) (popRow (m .resource)) (popRow (m .holder)) (popRow (m .raised))

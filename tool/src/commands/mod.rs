@@ -7,6 +7,7 @@ mod dump;
 mod explain;
 mod oil;
 mod run;
+mod salvage;
 mod timeline;
 
 use std::fmt::Write;
@@ -33,13 +34,15 @@ const COMMANDS: [&Command; 8] = [
     &asm::COMMAND,
     &oil::COMMAND,
     &dump::COMMAND,
+    &salvage::COMMAND,
     &cases::COMMAND,
     &compare::COMMAND,
+    &salvage::COMMAND,
 ];
 
 const INPUTS: &str = "\
-CONFIG and TRACE are files of bytes or of the text form, told apart by their content. One text that holds both, with
-a line `trace` between, may stand for the two. docs/TEXT.md has the text form.
+CONFIG and TRACE are files of bytes or of the text form, told apart by their content. LOGGER is one text that holds
+both, with a line `trace` between. docs/TEXT.md has the text form.
 ";
 
 impl Command {

@@ -14,100 +14,100 @@ use Rattle.stack.specs.Stack.{topRow, pushRow, popRow}
 use Rattle.machine.specs.Model.{Picked, Model, noRank, withCore, withRequest, withLevel, withSlots, doneWith, refusedWith}
 use Rattle.machine.specs.Arbiter.{arbitrated, settled, vacated, leaving}
 use Rattle.machine.specs.Resources.{latest, levelWithout}
-use Rattle.machine.specs.Events.{idles, busy, activated, finished, chained, got, released, lined}
+use Rattle.machine.specs.Events.{idles, busy, activate, finish, chain, get, release, line}
 
 -- Finish
 module _ (ps : List ℕ) (m : Model) where
-  pub finish-idle : m .core .runner ≡ noRank → refusedWith m callLevel ≡ finished ps m
-  unfolding finished firstGiven
+  pub finish-idle : m .core .runner ≡ noRank → refusedWith m callLevel ≡ finish ps m
+  unfolding finish firstGiven
   finish-idle h = rw (eq-eqb (m .core .runner) noRank h)
 
   module _ (runs : m .core .runner ≡ noRank → ⊥) {h : ℕ} (holder : h ≡ topRow (m .holder)) where
-    pub finish-holding : h ≡ m .core .runner → refusedWith m holdsResource ≡ finished ps m
-    unfolding finished firstGiven
+    pub finish-holding : h ≡ m .core .runner → refusedWith m holdsResource ≡ finish ps m
+    unfolding finish firstGiven
     finish-holding own = rw (ne-eqb (m .core .runner) noRank runs, ← holder, eq-eqb h (m .core .runner) own)
 
-    pub finish-done : (h ≡ m .core .runner → ⊥) → settled ps (leaving m) ≡ finished ps m
-    unfolding finished firstGiven
+    pub finish-done : (h ≡ m .core .runner → ⊥) → settled ps (leaving m) ≡ finish ps m
+    unfolding finish firstGiven
     finish-done free = rw (ne-eqb (m .core .runner) noRank runs, ← holder, ne-eqb h (m .core .runner) free)
 
 -- Activate t
 module _ (trs ps : List ℕ) (m : Model) (t : ℕ) where
-  pub activate-idle : m .core .runner ≡ noRank → refusedWith m callLevel ≡ activated trs ps m t
-  unfolding activated firstGiven
+  pub activate-idle : m .core .runner ≡ noRank → refusedWith m callLevel ≡ activate trs ps m t
+  unfolding activate firstGiven
   activate-idle h = rw (eq-eqb (m .core .runner) noRank h)
 
   module _ (runs : m .core .runner ≡ noRank → ⊥) {r : ℕ} (rank : r ≡ getD trs t noRank) where
-    pub activate-none : r ≡ noRank → refusedWith m noSuch ≡ activated trs ps m t
-    unfolding activated firstGiven
+    pub activate-none : r ≡ noRank → refusedWith m noSuch ≡ activate trs ps m t
+    unfolding activate firstGiven
     activate-none h = rw (ne-eqb (m .core .runner) noRank runs, ← rank, eq-eqb r noRank h)
 
     module _ (some : r ≡ noRank → ⊥) {b : Bool} (test : b ≡ busy m r) where
-      pub activate-busy : b ≡ true → refusedWith m limitReached ≡ activated trs ps m t
-      unfolding activated firstGiven
+      pub activate-busy : b ≡ true → refusedWith m limitReached ≡ activate trs ps m t
+      unfolding activate firstGiven
       activate-busy h = rw (ne-eqb (m .core .runner) noRank runs, ← rank, ne-eqb r noRank some, sym test ∙ h)
 
-      pub activate-done : b ≡ false → {q : ℕ} → q ≡ with (m .core .request) r → settled ps (withCore m (withRequest (m .core) q)) ≡ activated trs ps m t
-      unfolding activated firstGiven
+      pub activate-done : b ≡ false → {q : ℕ} → q ≡ with (m .core .request) r → settled ps (withCore m (withRequest (m .core) q)) ≡ activate trs ps m t
+      unfolding activate firstGiven
       activate-done h asked = rw (ne-eqb (m .core .runner) noRank runs, ← rank, ne-eqb r noRank some, sym test ∙ h, asked)
 
 -- Line i
 module _ (lrs ps : List ℕ) (m : Model) (i : ℕ) {r : ℕ} (rank : r ≡ getD lrs i noRank) where
-  pub line-none : r ≡ noRank → refusedWith m noSuch ≡ lined lrs ps m i
-  unfolding lined firstGiven
+  pub line-none : r ≡ noRank → refusedWith m noSuch ≡ line lrs ps m i
+  unfolding line firstGiven
   line-none h = rw (← rank, eq-eqb r noRank h)
 
   module _ (some : r ≡ noRank → ⊥) {b : Bool} (test : b ≡ has (m .core .request) r) where
-    pub line-waits : b ≡ true → refusedWith m limitReached ≡ lined lrs ps m i
-    unfolding lined firstGiven
+    pub line-waits : b ≡ true → refusedWith m limitReached ≡ line lrs ps m i
+    unfolding line firstGiven
     line-waits h = rw (← rank, ne-eqb r noRank some, sym test ∙ h)
 
-    pub line-done : b ≡ false → {q : ℕ} → q ≡ with (m .core .request) r → settled ps (withCore m (withRequest (m .core) q)) ≡ lined lrs ps m i
-    unfolding lined firstGiven
+    pub line-done : b ≡ false → {q : ℕ} → q ≡ with (m .core .request) r → settled ps (withCore m (withRequest (m .core) q)) ≡ line lrs ps m i
+    unfolding line firstGiven
     line-done h asked = rw (← rank, ne-eqb r noRank some, sym test ∙ h, asked)
 
 -- Chain t
 module _ (ws : ℕ) (trs ps : List ℕ) (m : Model) (t : ℕ) {a : Bool} (calls : a ≡ idles m || has ws (m .core .runner)) where
-  pub chain-idle : a ≡ true → refusedWith m callLevel ≡ chained ws trs ps m t
-  unfolding chained firstGiven
+  pub chain-idle : a ≡ true → refusedWith m callLevel ≡ chain ws trs ps m t
+  unfolding chain firstGiven
   chain-idle h = rw (sym calls ∙ h)
 
   module _ (runs : a ≡ false) {r : ℕ} (rank : r ≡ getD trs t noRank) where
-    pub chain-none : r ≡ noRank → refusedWith m noSuch ≡ chained ws trs ps m t
-    unfolding chained firstGiven
+    pub chain-none : r ≡ noRank → refusedWith m noSuch ≡ chain ws trs ps m t
+    unfolding chain firstGiven
     chain-none h = rw (sym calls ∙ runs, ← rank, eq-eqb r noRank h)
 
     module _ (some : r ≡ noRank → ⊥) {h : ℕ} (holder : h ≡ topRow (m .holder)) where
-      pub chain-holding : h ≡ m .core .runner → refusedWith m holdsResource ≡ chained ws trs ps m t
-      unfolding chained firstGiven
+      pub chain-holding : h ≡ m .core .runner → refusedWith m holdsResource ≡ chain ws trs ps m t
+      unfolding chain firstGiven
       chain-holding own = rw (sym calls ∙ runs, ← rank, ne-eqb r noRank some, ← holder, eq-eqb h (m .core .runner) own)
 
       module _ (free : h ≡ m .core .runner → ⊥) {d : Bool} (test : d ≡ busy m r && not (eqb r (m .core .runner))) where
-        pub chain-busy : d ≡ true → refusedWith m limitReached ≡ chained ws trs ps m t
-        unfolding chained firstGiven
+        pub chain-busy : d ≡ true → refusedWith m limitReached ≡ chain ws trs ps m t
+        unfolding chain firstGiven
         chain-busy e = rw (sym calls ∙ runs, ← rank, ne-eqb r noRank some, ← holder, ne-eqb h (m .core .runner) free, sym test ∙ e)
 
         pub chain-done : d ≡ false → {q : ℕ} → q ≡ with (m .core .request) r
-            → settled ps (withCore m (withRequest (vacated m) q)) ≡ chained ws trs ps m t
-        unfolding chained firstGiven
+            → settled ps (withCore m (withRequest (vacated m) q)) ≡ chain ws trs ps m t
+        unfolding chain firstGiven
         chain-done e asked =
             rw (sym calls ∙ runs, ← rank, ne-eqb r noRank some, ← holder, ne-eqb h (m .core .runner) free, sym test ∙ e, asked)
 
 -- Get r
 module _ (n : ℕ) (cs ps : List ℕ) (m : Model) (r : ℕ) where
-  pub get-idle : m .core .runner ≡ noRank → refusedWith m callLevel ≡ got n cs ps m r
-  unfolding got firstGiven
+  pub get-idle : m .core .runner ≡ noRank → refusedWith m callLevel ≡ get n cs ps m r
+  unfolding get firstGiven
   get-idle h = rw (eq-eqb (m .core .runner) noRank h)
 
   module _ (runs : m .core .runner ≡ noRank → ⊥) where
-    pub get-none : n ≤ r → refusedWith m noSuch ≡ got n cs ps m r
-    unfolding got firstGiven
+    pub get-none : n ≤ r → refusedWith m noSuch ≡ get n cs ps m r
+    unfolding get firstGiven
     get-none h = rw (ne-eqb (m .core .runner) noRank runs, le-leb n r h)
 
     module _ (some : r < n) {l q : ℕ} (ceil : l ≡ getD cs r 0) (own : q ≡ getD ps (m .core .runner) 0)
         {b : Bool} (test : b ≡ has (m .held) r || ltb l q) where
-      pub get-withheld : b ≡ true → refusedWith m access ≡ got n cs ps m r
-      unfolding got firstGiven
+      pub get-withheld : b ≡ true → refusedWith m access ≡ get n cs ps m r
+      unfolding get firstGiven
       get-withheld h = rw (ne-eqb (m .core .runner) noRank runs, lt-leb n r some, ← ceil, ← own, sym test ∙ h)
 
       pub get-done : b ≡ false → {v : ℕ} → v ≡ max l (m .core .level)
@@ -115,25 +115,25 @@ module _ (n : ℕ) (cs ps : List ℕ) (m : Model) (r : ℕ) where
           → {xs : Row} → xs ≡ pushRow (m .resource) r
           → {hs : Row} → hs ≡ pushRow (m .holder) (m .core .runner)
           → {vs : Row} → vs ≡ pushRow (m .raised) v
-          → doneWith (withSlots m v w xs hs vs) false ≡ got n cs ps m r
-      unfolding got firstGiven
+          → doneWith (withSlots m v w xs hs vs) false ≡ get n cs ps m r
+      unfolding get firstGiven
       get-done h level x₁ x₂ x₃ x₄ =
           rw (ne-eqb (m .core .runner) noRank runs, lt-leb n r some, ← ceil, ← own, sym test ∙ h, x₁, x₂, x₃, x₄, level)
 
 -- Release r
 module _ (n : ℕ) (ps : List ℕ) (m : Model) (r : ℕ) where
-  pub release-idle : m .core .runner ≡ noRank → refusedWith m callLevel ≡ released n ps m r
-  unfolding released firstGiven
+  pub release-idle : m .core .runner ≡ noRank → refusedWith m callLevel ≡ release n ps m r
+  unfolding release firstGiven
   release-idle h = rw (eq-eqb (m .core .runner) noRank h)
 
   module _ (runs : m .core .runner ≡ noRank → ⊥) where
-    pub release-none : n ≤ r → refusedWith m noSuch ≡ released n ps m r
-    unfolding released firstGiven
+    pub release-none : n ≤ r → refusedWith m noSuch ≡ release n ps m r
+    unfolding release firstGiven
     release-none h = rw (ne-eqb (m .core .runner) noRank runs, le-leb n r h)
 
     module _ (some : r < n) {b : Bool} (test : b ≡ latest m r) where
-      pub release-other : b ≡ false → refusedWith m noFunction ≡ released n ps m r
-      unfolding released firstGiven
+      pub release-other : b ≡ false → refusedWith m noFunction ≡ release n ps m r
+      unfolding release firstGiven
       release-other h = rw (ne-eqb (m .core .runner) noRank runs, lt-leb n r some, sym test ∙ h)
 
       pub release-done : b ≡ true → {l : ℕ} → l ≡ levelWithout ps m
@@ -142,7 +142,7 @@ module _ (n : ℕ) (ps : List ℕ) (m : Model) (r : ℕ) where
           → {hs : Row} → hs ≡ popRow (m .holder)
           → {vs : Row} → vs ≡ popRow (m .raised)
           → {p : Picked} → p ≡ arbitrated ps (withLevel (m .core) l)
-          → doneWith (withCore (withSlots m l w xs hs vs) (p .core)) (p .begun) ≡ released n ps m r
-      unfolding released firstGiven
+          → doneWith (withCore (withSlots m l w xs hs vs) (p .core)) (p .begun) ≡ release n ps m r
+      unfolding release firstGiven
       release-done h level x₁ x₂ x₃ x₄ picked =
           rw (ne-eqb (m .core .runner) noRank runs, lt-leb n r some, sym test ∙ h, picked, x₁, x₂, x₃, x₄, level)

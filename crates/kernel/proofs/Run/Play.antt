@@ -29,8 +29,8 @@ use Rattle.scheduler.specs.Scheduler as Plain
 use Rattle.scheduler.specs.Scheduler.{fresh, step, markOf}
 use Rattle.machine.specs.Model.{Model, Outcome}
 use Rattle.kernel.specs.Methods.{Laid}
-use Rattle.machine.specs.Events.{activated, finished, chained, got, released, tickedOnce, lined, launched, halted}
-use Rattle.machine.specs.Machine.{machineStep, runnerOf, machineSeen, machineAfter}
+use Rattle.machine.specs.Events.{activate, finish, chain, get, release, tick, line, start, stop}
+use Rattle.machine.specs.Machine.{statusOf, effectOf, machineStep, runnerOf, machineSeen, machineAfter}
 use Rattle.run.specs.Run.{callOf, answerBytes}
 use Rattle.kernel.specs.Passes.{Playable}
 use Rattle.machine.proofs.Relation.Fitted.{Fitted}
@@ -42,40 +42,40 @@ use Rattle.kernel.proofs.Run.Bytes.{laid-none}
 
 -- what an arm's method hands back is the step of the event that was read
 module _ (c : Config) (p : Plan) (m : Model) (e : Event) where
-  pub step-1 : e .code ≡ 1 → machineStep c p m (callOf e) ≡ activated (p .task) (p .priority) m (e .first)
-  unfolding callOf machineStep
+  pub step-1 : e .code ≡ 1 → machineStep c p m (callOf e) ≡ activate (p .task) (p .priority) m (e .first)
+  unfolding callOf statusOf effectOf activate
   step-1 h = rw h
 
-  pub step-2 : e .code ≡ 2 → machineStep c p m (callOf e) ≡ finished (p .priority) m
-  unfolding callOf machineStep
+  pub step-2 : e .code ≡ 2 → machineStep c p m (callOf e) ≡ finish (p .priority) m
+  unfolding callOf statusOf effectOf finish
   step-2 h = rw h
 
-  pub step-3 : e .code ≡ 3 → machineStep c p m (callOf e) ≡ chained (p .isrs) (p .task) (p .priority) m (e .first)
-  unfolding callOf machineStep
+  pub step-3 : e .code ≡ 3 → machineStep c p m (callOf e) ≡ chain (p .isrs) (p .task) (p .priority) m (e .first)
+  unfolding callOf statusOf effectOf chain
   step-3 h = rw h
 
-  pub step-4 : e .code ≡ 4 → machineStep c p m (callOf e) ≡ got (c .resources) (p .ceiling) (p .priority) m (e .first)
-  unfolding callOf machineStep
+  pub step-4 : e .code ≡ 4 → machineStep c p m (callOf e) ≡ get (c .resources) (p .ceiling) (p .priority) m (e .first)
+  unfolding callOf statusOf effectOf get
   step-4 h = rw h
 
-  pub step-5 : e .code ≡ 5 → machineStep c p m (callOf e) ≡ released (c .resources) (p .priority) m (e .first)
-  unfolding callOf machineStep
+  pub step-5 : e .code ≡ 5 → machineStep c p m (callOf e) ≡ release (c .resources) (p .priority) m (e .first)
+  unfolding callOf statusOf effectOf release
   step-5 h = rw h
 
-  pub step-6 : e .code ≡ 6 → machineStep c p m (callOf e) ≡ tickedOnce (p .compare) (p .entry) (p .priority) m
-  unfolding callOf machineStep
+  pub step-6 : e .code ≡ 6 → machineStep c p m (callOf e) ≡ tick (p .compare) (p .entry) (p .priority) m
+  unfolding callOf statusOf effectOf tick
   step-6 h = rw h
 
-  pub step-7 : e .code ≡ 7 → machineStep c p m (callOf e) ≡ lined (p .line) (p .priority) m (e .first)
-  unfolding callOf machineStep
+  pub step-7 : e .code ≡ 7 → machineStep c p m (callOf e) ≡ line (p .line) (p .priority) m (e .first)
+  unfolding callOf statusOf effectOf line
   step-7 h = rw h
 
-  pub step-8 : e .code ≡ 8 → machineStep c p m (callOf e) ≡ launched (c .tables) (p .first) (c .entries) (c .period) (c .offset) m (e .first) (e .second)
-  unfolding callOf machineStep
+  pub step-8 : e .code ≡ 8 → machineStep c p m (callOf e) ≡ start (c .tables) (p .first) (c .entries) (c .period) (c .offset) m (e .first) (e .second)
+  unfolding callOf statusOf effectOf start
   step-8 h = rw h
 
-  pub step-9 : e .code ≡ 9 → machineStep c p m (callOf e) ≡ halted (c .tables) (p .first) (c .entries) m (e .first)
-  unfolding callOf machineStep
+  pub step-9 : e .code ≡ 9 → machineStep c p m (callOf e) ≡ stop (c .tables) (p .first) (c .entries) m (e .first)
+  unfolding callOf statusOf effectOf stop
   step-9 h = rw h
 
 past : (n : ℕ) {k : ℕ} → n ≤ k → (k ≡ n → ⊥) → n < k

@@ -4,7 +4,7 @@ ghost use mathlib.Core.Bool.{not, _&&_, _||_};
 ghost use lib.Dec.{eqb};
 ghost use Rattle.word.specs.Word.{has};
 ghost use Rattle.machine.specs.Model.{noRank};
-ghost use Rattle.machine.specs.Events.{activated, finished, chained, lined};
+ghost use Rattle.machine.specs.Events.{activate, finish, chain, line};
 ghost use Rattle.kernel.specs.View.{view, outcomeOf};
 use super::CALL_LEVEL;
 use super::HOLDS_RESOURCE;
@@ -19,7 +19,7 @@ use word::with;
 
 impl Model {
     pub fn activate<'a>(self, task_rank: &'a [u8; 32], priority: &'a [u8; 32], t: u32) -> Outcome
-        ensures { λ r. ⌜ r ≡ outcomeOf (activated (now («task_rank» .entry)) (now (priority .entry)) (view self) t) ⌝ }
+        ensures { λ r. ⌜ r ≡ outcomeOf (activate (now («task_rank» .entry)) (now (priority .entry)) (view self) t) ⌝ }
     {
         if self.runner == NO_RANK {
             return self.with_status(CALL_LEVEL);
@@ -35,7 +35,7 @@ impl Model {
     }
 
     pub fn finish(self, priority: &[u8; 32]) -> Outcome
-        ensures { λ r. ⌜ r ≡ outcomeOf (finished (now (priority .entry)) (view self)) ⌝ }
+        ensures { λ r. ⌜ r ≡ outcomeOf (finish (now (priority .entry)) (view self)) ⌝ }
     {
         if self.runner == NO_RANK {
             return self.with_status(CALL_LEVEL);
@@ -53,7 +53,7 @@ impl Model {
         priority: &'a [u8; 32],
         t: u32,
     ) -> Outcome
-        ensures { λ r. ⌜ r ≡ outcomeOf (chained isrs (now («task_rank» .entry)) (now (priority .entry)) (view self) t) ⌝ }
+        ensures { λ r. ⌜ r ≡ outcomeOf (chain isrs (now («task_rank» .entry)) (now (priority .entry)) (view self) t) ⌝ }
     {
         if no_task_runs(isrs, self.runner) {
             return self.with_status(CALL_LEVEL);
@@ -72,7 +72,7 @@ impl Model {
     }
 
     pub fn line<'a>(self, line_rank: &'a [u8; 32], priority: &'a [u8; 32], i: u32) -> Outcome
-        ensures { λ r. ⌜ r ≡ outcomeOf (lined (now («line_rank» .entry)) (now (priority .entry)) (view self) i) ⌝ }
+        ensures { λ r. ⌜ r ≡ outcomeOf (line (now («line_rank» .entry)) (now (priority .entry)) (view self) i) ⌝ }
     {
         let rank = byte_at(line_rank, i as usize, NO_RANK);
         if rank == NO_RANK {

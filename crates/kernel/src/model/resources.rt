@@ -6,7 +6,7 @@ ghost use lib.Dec.{ltb, eqb};
 ghost use lib.ListN.{getD};
 ghost use Rattle.word.specs.Word.{has};
 ghost use Rattle.stack.specs.Stack.{topRow, secondRow};
-ghost use Rattle.machine.specs.Events.{got, released};
+ghost use Rattle.machine.specs.Events.{get, release};
 ghost use Rattle.kernel.specs.View.{view, outcomeOf};
 use super::ACCESS;
 use super::CALL_LEVEL;
@@ -31,7 +31,7 @@ impl Model {
         priority: &'a [u8; 32],
         r: u32,
     ) -> Outcome
-        ensures { λ o. ⌜ o ≡ outcomeOf (got resources (now (ceiling .entry)) (now (priority .entry)) (view self) r) ⌝ }
+        ensures { λ o. ⌜ o ≡ outcomeOf (get resources (now (ceiling .entry)) (now (priority .entry)) (view self) r) ⌝ }
     {
         if self.runner == NO_RANK {
             return self.with_status(CALL_LEVEL);
@@ -54,7 +54,7 @@ impl Model {
     }
 
     pub fn release(mut self, resources: u8, priority: &[u8; 32], r: u32) -> Outcome
-        ensures { λ o. ⌜ o ≡ outcomeOf (released resources (now (priority .entry)) (view self) r) ⌝ }
+        ensures { λ o. ⌜ o ≡ outcomeOf (release resources (now (priority .entry)) (view self) r) ⌝ }
     {
         if self.runner == NO_RANK {
             return self.with_status(CALL_LEVEL);

@@ -17,7 +17,7 @@ use Rattle.stack.specs.Stack.{pushRow}
 use Rattle.scheduler.specs.Body.{Body, isStarted, current, gets}
 use Rattle.scheduler.specs.State.{among}
 use Rattle.machine.specs.Model.{Model}
-use Rattle.machine.specs.Resources.{taking}
+use Rattle.machine.specs.Resources.{getting}
 use Rattle.machine.proofs.Relation.Fitted.{Fitted}
 use Rattle.machine.proofs.Relation.Rows.{row-shows-pushed}
 use Rattle.machine.proofs.Relation.Words.{at}
@@ -88,7 +88,7 @@ module _ {c : Config} {p : Plan} {rk : ℕ → ℕ} (fit : Fitted c p rk) {m : M
       began : isStarted (at bs b .phase) ≡ true
       began = nest-started c bs b (b ∷ ns) (t .nested) (among-head b ns)
 
-  pub get-tied : Tied c rk (taking r level′ m) (set bs b (gets r (at bs b))) (b ∷ ns)
+  pub get-tied : Tied c rk (getting r level′ m) (set bs b (gets r (at bs b))) (b ∷ ns)
   unfolding slotsFor
   get-tied =
       held-tied fit t (gets r (at bs b)) refl refl level′ raised-level

@@ -19,7 +19,7 @@ use Rattle.scheduler.specs.Body.{Body, isStarted, current, releases}
 use Rattle.scheduler.specs.State.{among}
 use Rattle.scheduler.specs.Call.{holds}
 use Rattle.machine.specs.Model.{Model}
-use Rattle.machine.specs.Resources.{levelWithout, freeing}
+use Rattle.machine.specs.Resources.{levelWithout, releasing}
 use Rattle.machine.proofs.Relation.Fitted.{Fitted}
 use Rattle.machine.proofs.Relation.Rows.{Shows, row-shows-popped, row-shows-second}
 use Rattle.machine.proofs.Relation.Words.{at}
@@ -81,7 +81,7 @@ module _ {c : Config} {p : Plan} {rk : ℕ → ℕ} (fit : Fitted c p rk) {m : M
         counted = omega (arith, old .counted, one-more);
       }
 
-  pub release-tied : Tied c rk (freeing (p .priority) r m) (set bs b (releases (at bs b))) (b ∷ ns)
+  pub release-tied : Tied c rk (releasing (p .priority) r m) (set bs b (releases (at bs b))) (b ∷ ns)
   release-tied =
       held-tied fit t y refl refl (levelWithout (p .priority) m) level-is
       (without (m .held) r) (popRow (m .resource)) (popRow (m .holder)) (popRow (m .raised)) (rw held-y slots′)

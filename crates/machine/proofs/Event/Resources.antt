@@ -21,10 +21,10 @@ use Rattle.scheduler.specs.Scheduler.{Get, Release, step}
 use Rattle.scheduler.proofs.Checks.{get-passed, release-passed}
 use Rattle.machine.specs.Model.{Model, doneWith}
 use Rattle.machine.specs.Arbiter.{settled}
-use Rattle.machine.specs.Resources.{latest, taking, freeing}
+use Rattle.machine.specs.Resources.{latest, getting, releasing}
 use Rattle.machine.specs.Events as Machine
-use Rattle.machine.specs.Events.{idles, got, released}
-use Rattle.machine.specs.Machine.{machineStep, matched}
+use Rattle.machine.specs.Events.{idles}
+use Rattle.machine.specs.Machine.{statusOf, effectOf}
 use Rattle.machine.proofs.Relation.Fitted.{Fitted}
 use Rattle.machine.proofs.Relation.Words.{at}
 use Rattle.machine.proofs.Relation.Slots.{Slot, slotsFor, slotsAlong, resourcesIn}
@@ -160,16 +160,16 @@ module _ {c : Config} {p : Plan} {rk : ℕ → ℕ} (fit : Fitted c p rk) {m : M
   get-phase f keeps r = kept f (gets r) (λ x. keeps x r) bs (caller c s)
 
   pub agrees-get : (r : ℕ) → Agrees c p rk m s (Get r)
-  unfolding machineStep got step matched
+  unfolding statusOf effectOf step
   agrees-get r =
       agrees-attempt fit sim (Get r) (Machine.getStatus (c .resources) (p .ceiling) (p .priority) m r) (getStatus c s r)
-      (doneWith (taking r (max (getD (p .ceiling) r 0) (m .core .level)) m) false) (get c r s) refl refl
+      (doneWith (getting r (max (getD (p .ceiling) r 0) (m .core .level)) m) false) (get c r s) refl refl
       (no-match fit sim long) (get-status r)
       (λ z. let a = get-passed c s r z in
       by-runner fit sim
       (λ i n. absurd (true≢false (sym n ∙ a .0)))
       (λ b ns k.
-      let t : Tied c rk (taking r (max (getD (p .ceiling) r 0) (m .core .level)) m) (get c r s .bodies) (b ∷ ns) =
+      let t : Tied c rk (getting r (max (getD (p .ceiling) r 0) (m .core .level)) m) (get c r s .bodies) (b ∷ ns) =
       rw (k .calls) (get-tied fit (k .tied) (sim .calm) r (a .1) (flag-is (sim .tied) r ∙ a .2)) in
       record {
         status = refl;
@@ -193,17 +193,17 @@ module _ {c : Config} {p : Plan} {rk : ℕ → ℕ} (fit : Fitted c p rk) {m : M
       (λ _. refl))))
 
   pub agrees-release : (r : ℕ) → Agrees c p rk m s (Release r)
-  unfolding machineStep released step matched
+  unfolding statusOf effectOf step
   agrees-release r =
       agrees-attempt fit sim (Release r) (Machine.releaseStatus (c .resources) m r) (releaseStatus c s r)
-      (settled (p .priority) (freeing (p .priority) r m)) (release c s) refl refl
+      (settled (p .priority) (releasing (p .priority) r m)) (release c s) refl refl
       (no-match fit sim long) (release-status r)
       (λ z. let a = release-passed c s r z in
       by-runner fit sim
       (λ i n. absurd (true≢false (sym n ∙ a .0)))
       (λ b ns k.
       let h = latest-split r (at bs b .held) (ap (λ (i : ℕ). latestIs r (bodyOf s i .held)) (sym (k .calls)) ∙ a .2) in
-      let t : Tied c rk (freeing (p .priority) r m) (release c s .bodies) (b ∷ ns) = rw (k .calls) (release-tied fit (k .tied) r (a .1) (h .0) (h .1)) in
+      let t : Tied c rk (releasing (p .priority) r m) (release c s .bodies) (b ∷ ns) = rw (k .calls) (release-tied fit (k .tied) r (a .1) (h .0) (h .1)) in
       record {
         status = refl;
         arb = settled-tied fit (release c s) t;

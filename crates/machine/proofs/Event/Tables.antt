@@ -1,4 +1,5 @@
--- Start and Stop do the same to the model as to the state: the cells of one table are switched, and no other table's.
+-- Start and Stop do the same to the model as to the state: the cells of one table are started or stopped as a cell by itself is, and no other
+-- table's.
 -- Assumes nothing.
 use Prim.Native.Nat.{ℕ, suc, _+_, _-_, _≤_, _<_}
 use mathlib.Core.Path.{_≡_, refl, sym, ap, _∙_}
@@ -15,6 +16,7 @@ use Rattle.config.specs.declared.Config.{Config}
 use Rattle.config.specs.Meaning.{firstOf, smallestOffset}
 use Rattle.config.proofs.Tables.{firstOf-step, firstOf-rises}
 use Rattle.plan.specs.declared.Plan.{Plan}
+use Rattle.cell.specs.Cell as Cell
 use Rattle.cell.specs.Cell.{unmarked, compareIn, long as isLong, startCell, modulus}
 use Rattle.cell.specs.Due.{OnTime}
 use Rattle.cell.proofs.Theorems.{on-time-start}
@@ -27,8 +29,8 @@ use Rattle.scheduler.proofs.Checks.{start-passed, stop-passed}
 use Rattle.machine.specs.Model.{Model, withCells, doneWith}
 use Rattle.machine.specs.Cells.{switchOff, isOn, hasTurn, switchFor, cellAt, someLong}
 use Rattle.machine.specs.Events as Machine
-use Rattle.machine.specs.Events.{idles, runs, starting, stopping, launched, halted}
-use Rattle.machine.specs.Machine.{machineStep, matched}
+use Rattle.machine.specs.Events.{idles, runs, starting, stopping}
+use Rattle.machine.specs.Machine.{statusOf, effectOf, cellIn}
 use Rattle.machine.proofs.Relation.Fitted.{Fitted}
 use Rattle.machine.proofs.Relation.Cells.{CellFits, Timed}
 use Rattle.machine.proofs.Relation.Whole.{Sim}
@@ -67,11 +69,9 @@ module _ {c : Config} {p : Plan} {rk : ℕ → ℕ} (fit : Fitted c p rk) where
     abbrev P : ℕ
     P = getD (c .period) t 0
 
-    -- table t becomes x, its cells get the counters f and the switches g, and w′ says whether any cell has a turn to pass
-    module _ (ns os : List ℕ) (w : Bool) (ts : List Table) (timed : Timed c p ns os w ts) (f g : ℕ → ℕ) (w′ : Bool) (x : Table)
-        (keeps : w ≡ true → w′ ≡ true) (none : w′ ≡ false → (e : ℕ) → firstOf c t ≤ e → e < firstOf c (suc t) → hasTurn (g e) ≡ false)
-        (fits : (e : ℕ) → firstOf c t ≤ e → e < firstOf c (suc t)
-        → CellFits P (getD (c .offset) e 0) (unmarked (f e) (P - 1) (isOn (g e)) (w′ && hasTurn (g e))) x) where
+    -- the cells of table t get the counters f and the switches g, and w′ says whether any cell has a turn to pass
+    module _ (ns os : List ℕ) (w : Bool) (ts : List Table) (timed : Timed c p ns os w ts) (f g : ℕ → ℕ) (w′ : Bool)
+        (keeps : w ≡ true → w′ ≡ true) where
       abbrev ns′ : List ℕ
       ns′ = laid f count (firstOf c t) ns
 
@@ -101,31 +101,35 @@ module _ {c : Config} {p : Plan} {rk : ℕ → ℕ} (fit : Fitted c p rk) where
               (λ b. laid-after h count (firstOf c t) l e 0
               (omega (arith, firstOf-rises c (suc t) u (omega (arith, n)), firstOf-step c t)))
 
-      none-left : w′ ≡ false → (e : ℕ) → hasTurn (getD os′ e 0) ≡ false
-      none-left z e =
-          by-lt e (firstOf c t)
-          (λ b. ap hasTurn (laid-before g count (firstOf c t) os e 0 b) ∙ before)
-          (λ low. by-lt e (firstOf c (suc t))
-          (λ high. ap hasTurn (own-at g os (timed .switches-long) e low high) ∙ none z e low high)
-          (λ h. ap hasTurn (laid-after g count (firstOf c t) os e 0 (omega (arith, firstOf-step c t))) ∙ before))
-        where
-          before : hasTurn (getD os e 0) ≡ false
-          before = timed .unturned (was-false w w′ keeps z) e
+      -- and the table becomes x
+      module _ (x : Table) (none : w′ ≡ false → (e : ℕ) → firstOf c t ≤ e → e < firstOf c (suc t) → hasTurn (g e) ≡ false)
+          (fits : (e : ℕ) → firstOf c t ≤ e → e < firstOf c (suc t)
+          → CellFits P (getD (c .offset) e 0) (unmarked (f e) (P - 1) (isOn (g e)) (w′ && hasTurn (g e))) x) where
+        none-left : w′ ≡ false → (e : ℕ) → hasTurn (getD os′ e 0) ≡ false
+        none-left z e =
+            by-lt e (firstOf c t)
+            (λ b. ap hasTurn (laid-before g count (firstOf c t) os e 0 b) ∙ before)
+            (λ low. by-lt e (firstOf c (suc t))
+            (λ high. ap hasTurn (own-at g os (timed .switches-long) e low high) ∙ none z e low high)
+            (λ h. ap hasTurn (laid-after g count (firstOf c t) os e 0 (omega (arith, firstOf-step c t))) ∙ before))
+          where
+            before : hasTurn (getD os e 0) ≡ false
+            before = timed .unturned (was-false w w′ keeps z) e
 
-      table-timed : Timed c p ns′ os′ w′ (set ts t x)
-      table-timed =
-          record {
-            tables-long = length-set ts t x ∙ timed .tables-long;
-            counters-long = length-laid f count (firstOf c t) ns ∙ timed .counters-long;
-            switches-long = length-laid g count (firstOf c t) os ∙ timed .switches-long;
-            cells = λ u e u< low high. by-eq u t
-                (λ q. rw (q, getD-set-same ts t x stopped (rw (timed .tables-long) t<), own-cell e (rw q at low) (rw q at high))
-                (fits e (rw q at low) (rw q at high)))
-                (λ n. rw (getD-set-other ts t u x stopped n, other-cell u e u< n low high) (timed .cells u e u< low high));
-            spare = λ e h. ap isOn (laid-after g count (firstOf c t) os e 0 (omega (arith, firstOf-rises c (suc t) (c .tables) t<, firstOf-step c t)))
-                ∙ timed .spare e h;
-            unturned = none-left;
-          }
+        table-timed : Timed c p ns′ os′ w′ (set ts t x)
+        table-timed =
+            record {
+              tables-long = length-set ts t x ∙ timed .tables-long;
+              counters-long = length-laid f count (firstOf c t) ns ∙ timed .counters-long;
+              switches-long = length-laid g count (firstOf c t) os ∙ timed .switches-long;
+              cells = λ u e u< low high. by-eq u t
+                  (λ q. rw (q, getD-set-same ts t x stopped (rw (timed .tables-long) t<), own-cell e (rw q at low) (rw q at high))
+                  (fits e (rw q at low) (rw q at high)))
+                  (λ n. rw (getD-set-other ts t u x stopped n, other-cell u e u< n low high) (timed .cells u e u< low high));
+              spare = λ e h. ap isOn (laid-after g count (firstOf c t) os e 0 (omega (arith, firstOf-rises c (suc t) (c .tables) t<, firstOf-step c t)))
+                  ∙ timed .spare e h;
+              unturned = none-left;
+            }
 
 module _ {c : Config} {p : Plan} {rk : ℕ → ℕ} (fit : Fitted c p rk) {m : Model} {s : State} (sim : Sim c p rk m s)
     (long : length (dues c s) ≡ p .count) where
@@ -193,14 +197,33 @@ module _ {c : Config} {p : Plan} {rk : ℕ → ℕ} (fit : Fitted c p rk) {m : M
   start-timed t d t< some fits =
       rw (fit .first-at t t<, started-laid, switches-laid)
       (table-timed fit t t< (m .counter) (m .on) (m .turning) (s .tables) (sim .timed)
-      (λ i. startCell (getD (c .period) t 0) (delayed d i) .counter) (λ i. switchFor true (isLong (delayed d i))) (m .turning || anyLong t d) (running d 0)
-      (λ w. rw w) (λ z e low high. none-long t d e low high z)
+      (λ i. startCell (getD (c .period) t 0) (delayed d i) .counter) (λ i. switchFor true (isLong (delayed d i))) (m .turning || anyLong t d)
+      (λ w. rw w) (running d 0) (λ z e low high. none-long t d e low high z)
       (λ e low high. rw (switch-on true (isLong (delayed d e)) (λ _. refl), turn-said t d e low high)
       (started-on-time (getD (c .period) t 0) (delayed d e) (fit .period-low t t<) (fit .period-high t t<) (omega (arith, some))
       (omega (arith, fit .offset-lt t e t< low high, fit .period-high t t<)))))
 
+  -- "On an accepted Start": each cell of the table is the cell's own start, and no other table's changes
+  module _ (t d e : ℕ) (t< : t < c .tables) where
+    pub start-cell : firstOf c t ≤ e → e < firstOf c (suc t) → cellIn p (launching t d) e ≡ startCell (getD (c .period) t 0) (delayed d e)
+    start-cell low high =
+        rw (fit .first-at t t<, started-laid, switches-laid)
+        (own-cell fit t t< (m .counter) (m .on) (m .turning) (s .tables) (sim .timed) (λ i. startCell (getD (c .period) t 0) (delayed d i) .counter)
+        (λ i. switchFor true (isLong (delayed d i))) (m .turning || anyLong t d) (λ w. rw w) e low high
+        ∙ rw (switch-on true (isLong (delayed d e)) (λ _. refl), turn-said t d e low high)
+        (ap (λ (k : ℕ). unmarked (startCell (getD (c .period) t 0) (delayed d e) .counter) k true (isLong (delayed d e))) compare))
+      where
+        compare : getD (c .period) t 0 - 1 ≡ compareIn modulus (getD (c .period) t 0)
+        compare = omega (arith, fit .period-low t t<, fit .period-high t t<)
+
+    pub start-other : (u : ℕ) → u < c .tables → u ≢ t → firstOf c u ≤ e → e < firstOf c (suc u) → cellIn p (launching t d) e ≡ cellIn p m e
+    start-other u u< n low high =
+        rw (fit .first-at t t<, started-laid, switches-laid)
+        (other-cell fit t t< (m .counter) (m .on) (m .turning) (s .tables) (sim .timed) (λ i. startCell (getD (c .period) t 0) (delayed d i) .counter)
+        (λ i. switchFor true (isLong (delayed d i))) (m .turning || anyLong t d) (λ w. rw w) u e u< n low high)
+
   pub agrees-start : (t d : ℕ) → Agrees c p rk m s (Start t d)
-  unfolding machineStep launched step matched
+  unfolding statusOf effectOf step
   agrees-start t d =
       agrees-attempt fit sim (Start t d) (Machine.startStatus (c .tables) (p .first) (c .offset) m t d) (startStatus c s t d)
       (doneWith (launching t d) false) (start t d s) refl refl
@@ -223,11 +246,24 @@ module _ {c : Config} {p : Plan} {rk : ℕ → ℕ} (fit : Fitted c p rk) {m : M
   unfolding CellFits
   stop-timed t t< =
       rw (fit .first-at t t<, stopped-laid, switched-laid)
-      (table-timed fit t t< (m .counter) (m .on) (m .turning) (s .tables) (sim .timed) (λ _. 0) (λ _. switchOff) (m .turning) stopped
-      (λ w. w) (λ _ e low high. refl) (λ e low high. refl))
+      (table-timed fit t t< (m .counter) (m .on) (m .turning) (s .tables) (sim .timed) (λ _. 0) (λ _. switchOff) (m .turning)
+      (λ w. w) stopped (λ _ e low high. refl) (λ e low high. refl))
+
+  -- "Stop switches the table's cells off and sets their counters to 0"
+  module _ (t e : ℕ) (t< : t < c .tables) where
+    pub stop-cell : firstOf c t ≤ e → e < firstOf c (suc t) → cellIn p (halting t) e ≡ Cell.stopped (cellIn p m e)
+    stop-cell low high =
+        rw (fit .first-at t t<, stopped-laid, switched-laid)
+        (own-cell fit t t< (m .counter) (m .on) (m .turning) (s .tables) (sim .timed) (λ _. 0) (λ _. switchOff) (m .turning) (λ w. w) e low high
+        ∙ rw (fit .compare-at t e t< low high, and-false (m .turning)))
+
+    pub stop-other : (u : ℕ) → u < c .tables → u ≢ t → firstOf c u ≤ e → e < firstOf c (suc u) → cellIn p (halting t) e ≡ cellIn p m e
+    stop-other u u< n low high =
+        rw (fit .first-at t t<, stopped-laid, switched-laid)
+        (other-cell fit t t< (m .counter) (m .on) (m .turning) (s .tables) (sim .timed) (λ _. 0) (λ _. switchOff) (m .turning) (λ w. w) u e u< n low high)
 
   pub agrees-stop : (t : ℕ) → Agrees c p rk m s (Stop t)
-  unfolding machineStep halted step matched
+  unfolding statusOf effectOf step
   agrees-stop t =
       agrees-attempt fit sim (Stop t) (Machine.stopStatus (c .tables) (p .first) m t) (stopStatus c s t)
       (doneWith (halting t) false) (stop t s) refl refl
