@@ -27,7 +27,7 @@ pub struct Command {
     pub run: fn(&Options) -> Result<Ending, Failure>,
 }
 
-const COMMANDS: [&Command; 8] = [
+const COMMANDS: [&Command; 9] = [
     &run::COMMAND,
     &explain::COMMAND,
     &timeline::COMMAND,
@@ -37,7 +37,6 @@ const COMMANDS: [&Command; 8] = [
     &salvage::COMMAND,
     &cases::COMMAND,
     &compare::COMMAND,
-    &salvage::COMMAND,
 ];
 
 const INPUTS: &str = "\
