@@ -1,13 +1,12 @@
 -- What a writer that is lent no byte tells of a configuration: its first fault, or 30, since it takes a byte at least.
 -- Assumes nothing.
-use Prim.Native.Nat.{ℕ, zero, suc, _+_, _≤_, _<_}
+use Prim.Native.Nat.{ℕ, suc, _<_}
 use mathlib.Core.Path.{_≡_, refl, sym, ap, _∙_}
 use mathlib.Core.Bool.{false}
-use mathlib.Core.List.{List, [], _∷_, _++_}
 use native.Mathlib.Omega.{arith}
 use lib.Dec.{leb}
 use lib.ListN.{length, length-append}
-use borrow.Author.Tests.{eq-eqb, ne-eqb, lt-leb}
+use borrow.Author.Tests.{eq-eqb, ne-eqb}
 use Rattle.number.specs.Refusal.{none, noRoom}
 use Rattle.number.specs.Number.{numberBytes}
 use Rattle.number.specs.Output.{writing, unwritten}
@@ -19,7 +18,7 @@ use Rattle.config.specs.declared.Draft.{Draft}
 use Rattle.config.specs.Draft.{start, put, asked, ended}
 use Rattle.config.proofs.Theorems.{length-configBytes}
 use Rattle.oil_grammar.proofs.Spelling.{by-test}
-use Rattle.config.specs.Writer.{firstFault, faultFrom, bytesFrom, configBytes, writeConfig, maxNumbers}
+use Rattle.config.specs.Writer.{firstFault, bytesFrom, configBytes, writeConfig}
 
 -- a configuration takes a byte at least: its version's
 some-from : (k : ℕ) (c : Config) (d : Draft) → ended (d .field) ≡ false → 0 < length (bytesFrom (suc k) c d)

@@ -1,28 +1,25 @@
 -- The walks over a text's words, a turn of each loop at a time. i of n words are passed, `at` is the place after them.
 -- Assumes nothing.
-use Prim.Native.Nat.{ℕ, zero, suc, _+_, _-_, _≤_, _<_}
-use mathlib.Core.Path.{_≡_, refl, sym, ap, _∙_}
-use mathlib.Core.Bool.{Bool, true, false, cond, _&&_}
+use Prim.Native.Nat.{ℕ, suc, _+_, _-_, _≤_, _<_}
+use mathlib.Core.Path.{_≡_, sym, ap, _∙_}
+use mathlib.Core.Bool.{Bool, true, false, _&&_}
 use mathlib.Core.List.{List}
 use native.Mathlib.Omega.{arith}
 use native.Mathlib.Nat.{sub-zero}
 use native.Mathlib.Numerals.{add-one}
-use lib.Dec.{leb, eqb}
 use lib.ListN.{length}
-use borrow.Author.Tests.{eq-eqb, ne-eqb, le-leb, lt-leb}
+use borrow.Author.Tests.{eq-eqb, ne-eqb}
 use Rattle.number.specs.Refusal.{none}
 use Rattle.config.specs.declared.Config.{Config}
 use Rattle.oil_grammar.specs.declared.Word.{Word}
 use Rattle.oil_grammar.specs.declared.Progress.{Progress}
 use Rattle.oil_grammar.specs.declared.Want.{Want}
-use Rattle.oil_grammar.specs.declared.Found.{Found}
 use Rattle.oil_grammar.specs.Refusal.{noResource}
 use Rattle.oil_grammar.specs.Word.{same, endSort}
 use Rattle.oil_grammar.specs.Next.{nextWord, spelling}
-use Rattle.oil_grammar.specs.Machine.{fault, after, fresh}
+use Rattle.oil_grammar.specs.Machine.{after, fresh}
 use Rattle.oil_grammar.specs.Walk.{bears, borne, faultIn, refusedAt, found, walk, unborneAt, unborne, numbered, marked, mask, putAt, put, fill}
-use Rattle.oil_grammar.specs.Reader.{walked, filled}
-use Rattle.oil_grammar.specs.Meaning.{empty}
+use Rattle.oil_grammar.specs.Reader.{walked}
 use Rattle.oil_grammar.proofs.Bounds.{next-inside}
 use Rattle.oil_grammar.proofs.Sorts.{going}
 

@@ -1,16 +1,16 @@
 -- The word at a place, by the byte there, as the code makes it.
 -- Assumes nothing.
 use Prim.Native.Nat.{ℕ, suc, _+_, _-_, _≤_, _<_}
-use mathlib.Core.Path.{_≡_, refl, sym, ap, _∙_}
+use mathlib.Core.Path.{_≡_, ap, _∙_}
 use mathlib.Core.Bool.{true, false}
-use mathlib.Core.List.{List, [], _∷_}
+use mathlib.Core.List.{List, _∷_}
 use native.Mathlib.Omega.{arith}
 use native.Mathlib.Nat.{add-zero}
 use lib.ListN.{length, take, drop, getD, drop-of-length-le}
 use Rattle.oil_grammar.specs.declared.Word.{Word}
 use Rattle.oil_grammar.specs.Byte.{isLetter, isDigit, isNameByte, span}
 use Rattle.oil_grammar.specs.Word.{spelledSort, signOf, endSort, numberSort}
-use Rattle.oil_grammar.specs.Next.{wordAt, signAt, wordOf}
+use Rattle.oil_grammar.specs.Next.{wordAt, signAt}
 use Rattle.oil_grammar.proofs.Span.{drop-next}
 
 module _ (t : List ℕ) (i : ℕ) where

@@ -1,12 +1,12 @@
 -- Words that are in order are those of objects: what is left of the words, by what is wanted.
 -- Assumes nothing.
-use Prim.Native.Nat.{ℕ, zero, suc, _+_, _≤_, _<_}
+use Prim.Native.Nat.{ℕ, suc, _+_, _≤_}
 use mathlib.Core.Path.{_≡_, refl, sym, ap, _∙_}
 use mathlib.Core.Bool.{Bool, true, false, cond, _&&_, _||_}
 use mathlib.Core.List.{List, [], _∷_, _++_, append-assoc}
 use native.Mathlib.Omega.{arith}
 use lib.Dec.{leb, eqb}
-use borrow.Author.Tests.{eq-eqb, ne-eqb, le-leb, lt-leb, leb-true, leb-false, eqb-true, eqb-false}
+use borrow.Author.Tests.{eq-eqb, ne-eqb, lt-leb, eqb-true}
 use Rattle.number.proofs.Cases.{by-eq, by-lt}
 use Rattle.oil_grammar.specs.declared.Progress.{Progress}
 use Rattle.oil_grammar.specs.declared.Want.{Want}
@@ -14,11 +14,11 @@ use Rattle.oil_grammar.specs.declared.Want.the-variants.{Object, Name, O
 use Rattle.oil_grammar.specs.Word as W
 use Rattle.oil_grammar.specs.Word.{mark, name, number, sortOf, same, taskSort, isrSort, resourceSort, prioritySort, autostartSort, trueSort, falseSort, openSort, closeSort, equalsSort, semicolonSort, nameSort, numberSort, endSort}
 use Rattle.oil_grammar.specs.Object as O
-use Rattle.oil_grammar.specs.Object.{priority, autostart, uses, isResource, attributeWords, attributesWords, objectWords, written, priorities, autostarts, Fits, task, isr, resource, among}
+use Rattle.oil_grammar.specs.Object.{priority, autostart, uses, isResource, attributeWords, attributesWords, written, priorities, autostarts, Fits, task, isr, resource, among}
 use Rattle.oil_grammar.specs.Grammar.{AllFit, fit-nil, fit-cons, Fresh, fresh-nil, fresh-cons}
-use Rattle.oil_grammar.specs.Machine.{fault, faultAt, only, unexpected, unknown, objectFault, bodyFault, attributeFault, valueFault, after, afterAt, attributeBegun, fresh, namesAt, namesObject}
+use Rattle.oil_grammar.specs.Machine.{faultAt, only, unexpected, unknown, objectFault, bodyFault, attributeFault, valueFault, afterAt, attributeBegun, fresh, namesAt}
 use Rattle.oil_grammar.proofs.Spelling.{by-test, false-true}
-use Rattle.oil_grammar.proofs.Accepting.{Proper, proper-mark, proper-name, proper-number, bytesOf, seenAfter, Accepts, stops, goes, only-that}
+use Rattle.oil_grammar.proofs.Accepting.{Proper, proper-mark, proper-name, proper-number, bytesOf, Accepts, stops, goes, only-that}
 use Rattle.oil_grammar.proofs.Objects.{at, once, Left, Sees, sees-name, object-words}
 
 -- the words are those of objects that fit and have new names

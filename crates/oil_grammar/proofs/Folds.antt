@@ -4,14 +4,14 @@
 --   maskIn, fillIn                  as `mask` and `fill`, of words
 --
 -- Assumes nothing.
-use Prim.Native.Nat.{ℕ, zero, suc, _+_, _≤_, _<_}
+use Prim.Native.Nat.{ℕ, _<_}
 use mathlib.Core.Path.{_≡_, refl, sym, ap, _∙_}
-use mathlib.Core.Bool.{Bool, true, false, cond, not, _&&_, _||_}
-use mathlib.Core.List.{List, [], _∷_, _++_, append-assoc}
+use mathlib.Core.Bool.{Bool, true, false, cond, _&&_, _||_}
+use mathlib.Core.List.{List, [], _∷_, _++_}
 use native.Mathlib.Omega.{arith}
 use lib.Dec.{leb, eqb}
 use lib.ListN.{length}
-use borrow.Author.Tests.{eq-eqb, ne-eqb, le-leb, lt-leb, leb-false}
+use borrow.Author.Tests.{leb-false}
 use Rattle.word.specs.Word.{with}
 use Rattle.config.specs.declared.Config.{Config}
 use Rattle.config.specs.Value.{withKind, withPriority, withAutostart, withUsers}
@@ -19,18 +19,18 @@ use Rattle.oil_grammar.specs.declared.Progress.{Progress}
 use Rattle.oil_grammar.specs.declared.Want.{Want}
 use Rattle.oil_grammar.specs.declared.Want.the-variants.{Object, Name, Open, Attribute, PriorityEquals, PriorityNumber, AutostartEquals, AutostartValue, UseEquals, Use, AttributeEnd, ObjectEnd}
 use Rattle.oil_grammar.specs.Word as W
-use Rattle.oil_grammar.specs.Word.{mark, name, number, sortOf, same, decimal, taskSort, resourceSort, trueSort, falseSort, openSort, closeSort, semicolonSort, nameSort, numberSort, endSort}
+use Rattle.oil_grammar.specs.Word.{mark, name, number, sortOf, same, decimal, trueSort, openSort, closeSort, semicolonSort, nameSort, numberSort, endSort}
 use Rattle.oil_grammar.specs.Object as O
 use Rattle.oil_grammar.specs.Object.{priority, autostart, uses, isResource, attributeWords, attributesWords, written, among, resources, attributeUses, objectUses}
 use Rattle.oil_grammar.specs.Meaning.{held, numberAfter, usersWith, usersFrom, kindOf, startOf, attributed, attributedAll, begun, placed}
 use Rattle.oil_grammar.specs.Meaning as Meaning
 use Rattle.oil_grammar.specs.Grammar.{Borne, borne-nil, borne-cons}
 use Rattle.oil_grammar.specs.Next.{nextWord, spelling, wordOfBytes, wordIn}
-use Rattle.oil_grammar.specs.Machine.{fault, faultAt, only, after, afterAt, attributeBegun, fresh, namesAt, namesObject, namesResource, usesAt, usesResource}
+use Rattle.oil_grammar.specs.Machine.{fault, faultAt, after, afterAt, attributeBegun, fresh, namesAt, namesObject, namesResource, usesAt, usesResource}
 use Rattle.oil_grammar.specs.Walk.{bears, borne, found, unborneAt, unborne, numberedAt, numbered, marked, mask, putAt, put, fill}
 use Rattle.oil_grammar.proofs.Spelling.{by-test, false-true}
 use Rattle.oil_grammar.proofs.Lexing.{Reads, ended, reads}
-use Rattle.oil_grammar.proofs.Accepting.{bytesOf, Accepts, stops, goes, only-that, name-wanted, sort-back, bytes-back, cond-or}
+use Rattle.oil_grammar.proofs.Accepting.{bytesOf, Accepts, goes, only-that, name-wanted, sort-back, bytes-back, cond-or}
 use Rattle.oil_grammar.proofs.Objects.{at, object-words}
 
 pub resourcesIn : Progress → List W.Word → List (List ℕ)

@@ -3,27 +3,25 @@
 --   Reads t at ws   from the place on the next words of t are ws, and then its end comes
 --
 -- In order: the classes of a byte shut each other out; spaces and comments; one word; a whole text, both ways. Assumes nothing.
-use Prim.Native.Nat.{ℕ, zero, suc, _+_, _-_, _≤_, _<_}
+use Prim.Native.Nat.{ℕ, zero, suc, _+_, _-_, _≤_}
 use mathlib.Core.Path.{_≡_, refl, sym, ap, _∙_}
-use mathlib.Core.Bool.{Bool, true, false, cond, _&&_, _||_}
+use mathlib.Core.Bool.{Bool, true, false, _&&_, _||_}
 use mathlib.Core.List.{List, [], _∷_}
 use native.Mathlib.Omega.{arith}
-use native.Mathlib.Nat.{add-zero}
-use native.Mathlib.Numerals.{add-one}
 use lib.Dec.{leb, eqb}
 use lib.ListN.{length, take, drop, length-drop}
 use lib.Seq.{drop-drop}
-use borrow.Author.Tests.{eq-eqb, ne-eqb, le-leb, lt-leb, leb-true, leb-false, eqb-true, eqb-false}
+use borrow.Author.Tests.{eq-eqb, ne-eqb, le-leb, lt-leb, leb-true, eqb-true}
 use Rattle.number.proofs.Cases.{by-eq, by-lt}
 use Rattle.oil_grammar.specs.declared.Word.{Word}
-use Rattle.oil_grammar.specs.Byte.{slash, star, isSpace, isLetter, isDigit, isNameByte, isLineByte, span, Longest}
+use Rattle.oil_grammar.specs.Byte.{slash, star, isSpace, isLetter, isDigit, isNameByte, isLineByte, span}
 use Rattle.oil_grammar.specs.Word as W
-use Rattle.oil_grammar.specs.Word.{mark, name, number, spelledSort, wordOfSort, spelled, signOf, decimal, numberSort, endSort}
+use Rattle.oil_grammar.specs.Word.{mark, number, spelledSort, wordOfSort, spelled, signOf, decimal, numberSort, endSort}
 use Rattle.oil_grammar.specs.Text.{Closes, here, later, Spells, nothing, space, lineComment, blockComment, sign, letters, digits}
-use Rattle.oil_grammar.specs.Next.{closing, closed, comment, blank, blanks, wordAt, signAt, skipped, nextWord, spelling, wordOfBytes, wordIn}
+use Rattle.oil_grammar.specs.Next.{closing, comment, blank, blanks, wordAt, skipped, nextWord, wordOfBytes, wordIn}
 use Rattle.oil_grammar.proofs.Spelling.{by-test, false-true}
 use Rattle.oil_grammar.proofs.Span.{span-le, longest, longest-span}
-use Rattle.oil_grammar.proofs.Blank.{blank-le, blanks-none, blanks-some, skip-more, skip-stopped, skipped-le}
+use Rattle.oil_grammar.proofs.Blank.{blank-le, blanks-none, blanks-some, skip-more, skip-stopped}
 use Rattle.oil_grammar.proofs.Bounds.{next-inside, word-lies}
 use Rattle.oil_grammar.proofs.Sorts.{spelledSort-le, signOf-le}
 

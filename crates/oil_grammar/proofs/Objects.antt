@@ -1,25 +1,22 @@
 -- The words of objects are in order, and words that are in order are those of objects.
 -- Assumes nothing.
-use Prim.Native.Nat.{ℕ, zero, suc, _+_, _≤_, _<_}
-use mathlib.Core.Path.{_≡_, refl, sym, ap, _∙_}
-use mathlib.Core.Bool.{Bool, true, false, cond, _&&_, _||_}
+use Prim.Native.Nat.{ℕ, _+_, _≤_}
+use mathlib.Core.Path.{_≡_, refl, ap, _∙_}
+use mathlib.Core.Bool.{Bool, true, false, cond, _||_}
 use mathlib.Core.List.{List, [], _∷_, _++_, append-assoc}
-use mathlib.Core.Logic.{_⊎_, ⊎-elim}
 use native.Mathlib.Omega.{arith}
-use lib.Dec.{leb, eqb}
-use borrow.Author.Tests.{eq-eqb, ne-eqb, leb-true, leb-false, eqb-true, eqb-false}
+use borrow.Author.Tests.{eq-eqb, ne-eqb}
 use Rattle.number.proofs.Cases.{by-eq}
 use Rattle.oil_grammar.specs.declared.Progress.{Progress}
 use Rattle.oil_grammar.specs.declared.Want.{Want}
-use Rattle.oil_grammar.specs.declared.Want.the-variants.{Object, Name, Open, Attribute, PriorityEquals, PriorityNumber, AutostartEquals, AutostartValue, UseEquals, Use, AttributeEnd, ObjectEnd}
+use Rattle.oil_grammar.specs.declared.Want.the-variants.{Object, Attribute, PriorityEquals, AutostartEquals, UseEquals, AttributeEnd, ObjectEnd}
 use Rattle.oil_grammar.specs.Word as W
-use Rattle.oil_grammar.specs.Word.{mark, name, number, sortOf, same, taskSort, isrSort, resourceSort, prioritySort, autostartSort, trueSort, falseSort, openSort, closeSort, equalsSort, semicolonSort, nameSort, numberSort, endSort}
+use Rattle.oil_grammar.specs.Word.{mark, name, number, sortOf, same, taskSort, isrSort, resourceSort, prioritySort, autostartSort, trueSort, falseSort, openSort, closeSort, equalsSort, semicolonSort}
 use Rattle.oil_grammar.specs.Object as O
-use Rattle.oil_grammar.specs.Object.{priority, autostart, uses, isResource, attributeWords, attributesWords, objectWords, written, priorities, autostarts, Fits, task, isr, resource, among}
+use Rattle.oil_grammar.specs.Object.{priority, autostart, uses, attributeWords, attributesWords, objectWords, written, priorities, autostarts, Fits, task, isr, resource, among}
 use Rattle.oil_grammar.specs.Grammar.{AllFit, fit-nil, fit-cons, Fresh, fresh-nil, fresh-cons}
-use Rattle.oil_grammar.specs.Machine.{fault, faultAt, only, unexpected, unknown, objectFault, bodyFault, attributeFault, valueFault, after, afterAt, attributeBegun, fresh, namesAt, namesObject}
-use Rattle.oil_grammar.proofs.Spelling.{by-test, false-true}
-use Rattle.oil_grammar.proofs.Accepting.{Proper, proper-mark, proper-name, proper-number, bytesOf, seenAfter, Accepts, stops, goes, only-that}
+use Rattle.oil_grammar.specs.Machine.{fault, faultAt, only, objectFault, bodyFault, attributeFault, valueFault, after, afterAt, attributeBegun, namesAt, namesObject}
+use Rattle.oil_grammar.proofs.Accepting.{proper-mark, proper-name, proper-number, Accepts, stops, goes}
 
 -- how far a text has come, by its parts
 abbrev pub at : Want → ℕ → Bool → Bool → Progress

@@ -1,8 +1,8 @@
 -- Lines and columns, byte by byte.
 -- Assumes nothing.
-use Prim.Native.Nat.{ℕ, suc, _+_, _≤_, _<_}
-use mathlib.Core.Path.{_≡_, refl, sym, ap, _∙_}
-use mathlib.Core.Bool.{Bool, true, false, cond}
+use Prim.Native.Nat.{ℕ, _+_, _≤_, _<_}
+use mathlib.Core.Path.{_≡_, refl, _∙_}
+use mathlib.Core.Bool.{cond}
 use mathlib.Core.List.{List, [], _∷_}
 use native.Mathlib.Omega.{arith}
 use native.Mathlib.Numerals.{add-one}
@@ -10,7 +10,7 @@ use lib.Dec.{eqb}
 use lib.ListN.{length, take, drop, getD, length-take, drop-of-length-le}
 use lib.Seq.{drop-cons, getD-take}
 use Rattle.oil_grammar.specs.Byte.{lineFeed}
-use Rattle.oil_grammar.specs.Reader.{lineAfter, columnAfter, lineOf, columnOf}
+use Rattle.oil_grammar.specs.Reader.{lineAfter, columnAfter, lineOf}
 use Rattle.oil_grammar.proofs.Spelling.{by-test}
 
 module _ (t : List ℕ) (at : ℕ) (all : at ≤ length t) where

@@ -1,13 +1,13 @@
 -- The sorts of words: a word that is in order and not the end is a word of the grammar.
 -- Assumes nothing.
-use Prim.Native.Nat.{ℕ, suc, _≤_, _<_}
-use mathlib.Core.Path.{_≡_, refl, sym, ap, _∙_}
+use Prim.Native.Nat.{ℕ, suc, _≤_}
+use mathlib.Core.Path.{_≡_}
 use mathlib.Core.Bool.{Bool, true, false, cond}
 use mathlib.Core.List.{List, [], _∷_}
 use native.Mathlib.Omega.{arith}
 use lib.Dec.{leb, eqb}
-use lib.ListN.{length, take, drop}
-use borrow.Author.Tests.{eq-eqb, ne-eqb, lt-leb, eqb-true, eqb-false}
+use lib.ListN.{take, drop}
+use borrow.Author.Tests.{lt-leb, eqb-true}
 use Rattle.number.proofs.Cases.{by-eq}
 use Rattle.oil_grammar.specs.declared.Word.{Word}
 use Rattle.oil_grammar.specs.declared.Progress.{Progress}
@@ -15,9 +15,9 @@ use Rattle.oil_grammar.specs.declared.Want.{Want}
 use Rattle.oil_grammar.specs.declared.Want.the-variants.{Object, Name, Open, Attribute, PriorityEquals, PriorityNumber, AutostartEquals, AutostartValue, UseEquals, Use, AttributeEnd, ObjectEnd}
 use Rattle.oil_grammar.specs.Byte.{isLetter, isDigit, isNameByte, span}
 use Rattle.oil_grammar.specs.Word.{same, spelledSort, taskWord, isrWord, resourceWord, priorityWord, autostartWord, trueWord, falseWord, signOf, endSort, unreadableSort}
-use Rattle.oil_grammar.specs.Next.{wordAt, signAt, skipped, nextWord}
+use Rattle.oil_grammar.specs.Next.{wordAt, skipped, nextWord}
 use Rattle.oil_grammar.specs.Machine.{fault, faultAt, unexpected, unknown, only, objectFault, bodyFault, attributeFault, valueFault}
-use Rattle.oil_grammar.specs.Walk.{nameFault, faultIn}
+use Rattle.oil_grammar.specs.Walk.{faultIn}
 use Rattle.oil_grammar.specs.Object.{isResource}
 use Rattle.oil_grammar.proofs.Spelling.{by-test}
 

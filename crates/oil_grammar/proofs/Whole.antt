@@ -1,11 +1,10 @@
 -- The reading of a text that is OIL of objects, and the objects of a text that is read.
 -- Assumes nothing.
-use Prim.Native.Nat.{ℕ, suc, _+_, _≤_, _<_}
-use mathlib.Core.Path.{_≡_, refl, sym, ap, _∙_}
-use mathlib.Core.Bool.{Bool, true, false, cond}
+use Prim.Native.Nat.{ℕ, suc}
+use mathlib.Core.Path.{_≡_, refl, ap, _∙_}
+use mathlib.Core.Bool.{true, false}
 use mathlib.Core.List.{List, [], _∷_}
 use native.Mathlib.Omega.{arith}
-use lib.Dec.{eqb}
 use lib.ListN.{length}
 use borrow.Author.Tests.{eq-eqb, ne-eqb}
 use Rattle.number.specs.Refusal.{none}
@@ -18,13 +17,13 @@ use Rattle.oil_grammar.specs.Object.{written, resources, objectUses, amo
 use Rattle.oil_grammar.specs.Grammar.{Oil, Borne, Describes}
 use Rattle.oil_grammar.specs.Meaning.{usersOf, attributedAll, begun, ended, empty, configOf, placed}
 use Rattle.oil_grammar.specs.Machine.{fresh}
-use Rattle.oil_grammar.specs.Walk.{borne, walk, found, unborne, mask, fill}
-use Rattle.oil_grammar.specs.Reader.{walked, filled, ranged, afterUses, afterWalk, readOil}
+use Rattle.oil_grammar.specs.Walk.{borne, found, unborne, mask}
+use Rattle.oil_grammar.specs.Reader.{walked, filled, ranged, readOil}
 use Rattle.oil_grammar.proofs.Lexing.{Reads, reads-spells, spells-reads}
 use Rattle.oil_grammar.proofs.Accepting.{Accepts, Accepted, none-seen, walked-accepts, accepts-walked, reads-few}
 use Rattle.oil_grammar.proofs.Objects.{objects-accepted}
 use Rattle.oil_grammar.proofs.Back.{AsObjects, as-objects}
-use Rattle.oil_grammar.proofs.Folds.{borne-resources, mask-words, fill-words, unborne-none, none-unborne, resources-written, uses-written, mask-written, fill-written, fillIn}
+use Rattle.oil_grammar.proofs.Folds.{borne-resources, mask-words, fill-words, unborne-none, none-unborne, resources-written, uses-written, mask-written, fill-written}
 
 -- functions of a name that agree at each give the same configuration
 placed-same : (u v : List ℕ → ℕ) → ((x : List ℕ) → u x ≡ v x) → (os : List O.Object) (c : Config) → placed u c os ≡ placed v c os

@@ -6,7 +6,7 @@
 -- A count or a priority above 255 is held as 255, the most that its field holds: it is out of range all the same, and the writer refuses it.
 -- Assumes nothing.
 use Prim.Native.Nat.{ℕ, _+_, _-_, min}
-use mathlib.Core.Bool.{Bool, true, false, cond}
+use mathlib.Core.Bool.{Bool, cond}
 use mathlib.Core.List.{List, [], _∷_}
 use Rattle.word.specs.Word.{with}
 use Rattle.config.specs.declared.Config.{Config}

@@ -11,7 +11,7 @@ use Prim.Native.Nat.{ℕ, zero, suc, _+_, _-_}
 use mathlib.Core.Bool.{cond, _&&_}
 use mathlib.Core.List.{List, [], _∷_}
 use lib.Dec.{leb, eqb}
-use lib.ListN.{length, take, drop, getD}
+use lib.ListN.{length, take, drop}
 use Rattle.oil_grammar.specs.declared.Word.{Word}
 use Rattle.oil_grammar.specs.Byte.{slash, star, isSpace, isLetter, isDigit, isNameByte, isLineByte, span}
 use Rattle.oil_grammar.specs.Word as W

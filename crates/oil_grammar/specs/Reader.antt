@@ -17,7 +17,6 @@ use Rattle.config.specs.Writer.{firstFault, writeConfig, wroteConfig}
 use Rattle.oil_grammar.specs.declared.Found.{Found}
 use Rattle.oil_grammar.specs.declared.OilRead.{OilRead}
 use Rattle.oil_grammar.specs.Byte.{lineFeed}
-use Rattle.oil_grammar.specs.Refusal.{noResource}
 use Rattle.oil_grammar.specs.Meaning.{empty}
 use Rattle.oil_grammar.specs.Machine.{fresh}
 use Rattle.oil_grammar.specs.Walk.{walk, unborne, mask, fill}

@@ -11,7 +11,6 @@ use Prim.Native.Nat.{ℕ, zero, suc}
 use mathlib.Core.Bool.{Bool, true, false, cond, not, _&&_}
 use mathlib.Core.List.{List}
 use lib.Dec.{eqb}
-use lib.ListN.{length}
 use Rattle.number.specs.Refusal.{none}
 use Rattle.word.specs.Word.{with}
 use Rattle.config.specs.declared.Config.{Config}

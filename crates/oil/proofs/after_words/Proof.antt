@@ -1,14 +1,9 @@
 -- `after_words` meets its contract: the uses come before the ranges.
 -- Assumes nothing.
-use mathlib.Core.Path.{sym, ap, _∙_}
-use Prim.Native.Nat.{ℕ}
-use native.Mathlib.Omega.{arith}
-use borrow.Author.Tests.{eq-eqb, ne-eqb}
+use mathlib.Core.Path.{ap, _∙_}
 use Rattle.config.specs.declared.Config.{Config}
-use Rattle.oil_grammar.specs.declared.Found.{Found}
-use Rattle.oil_grammar.specs.Machine.{fresh}
 use Rattle.oil_grammar.specs.Walk.{unborne}
-use Rattle.oil_grammar.specs.Reader.{ranged, afterUses}
+use Rattle.oil_grammar.specs.Reader.{ranged}
 use Rattle.oil_grammar.proofs.Places.{unborne-place}
 use Rattle.oil.proofs.Answer.{uses-in-order, uses-refused}
 use borrow.Author.Needs.{needs}

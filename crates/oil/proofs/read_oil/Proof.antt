@@ -1,7 +1,5 @@
 -- `read_oil` meets its contract: the words come before the uses.
 -- Assumes nothing.
-use mathlib.Core.Path.{sym, ap, _∙_}
-use native.Mathlib.Omega.{arith}
 use Rattle.oil_grammar.proofs.Places.{walked-place}
 use Rattle.oil.proofs.Answer.{words-in-order, words-refused}
 use borrow.Author.Needs.{needs}

@@ -1,6 +1,6 @@
 -- `marked` meets its contract: a use of the name sets the body's bit.
 -- Assumes nothing.
-use mathlib.Core.Path.{refl, sym, _∙_}
+use mathlib.Core.Path.{sym, _∙_}
 use Prim.Native.Nat.{_-_}
 use lib.ListN.{take, drop}
 use borrow.Author.Tests.{not-true, not-false}

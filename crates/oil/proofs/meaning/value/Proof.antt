@@ -1,9 +1,9 @@
 -- `value` meets its contract: the digits passed and those left make the number, held as a byte.
 -- Assumes nothing.
-use Prim.Native.Nat.{ℕ, _-_, _≤_}
-use mathlib.Core.Path.{_≡_, refl, sym, _∙_, ap}
+use Prim.Native.Nat.{_-_, _≤_}
+use mathlib.Core.Path.{_≡_, refl, _∙_}
 use native.Mathlib.Omega.{arith}
-use lib.ListN.{length, take, drop}
+use lib.ListN.{take, drop}
 use Rattle.oil_grammar.specs.Word.{decimal}
 use Rattle.oil_grammar.specs.Meaning.{held}
 use borrow.Author.Needs.{needs}

@@ -1,12 +1,9 @@
 -- `with_users` meets its contract: past the array nothing is stored.
 -- Assumes nothing.
-use mathlib.Core.Path.{_≡_, sym, ap}
+use mathlib.Core.Path.{_≡_, sym}
 use native.Mathlib.Omega.{arith}
-use Prim.Native.Nat.{ℕ}
-use mathlib.Core.List.{List}
 use lib.ListN.{length}
 use lib.Seq.{set-out}
-use Rattle.config.specs.declared.Config.{Config}
 use borrow.Author.Needs.{needs}
 use Rattle.oil.proofs.meaning.with_users.Statement.{statement}
 use Rattle.oil.proofs.meaning.with_users.Tie as tie

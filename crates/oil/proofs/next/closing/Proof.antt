@@ -1,9 +1,9 @@
 -- `closing` meets its contract: the end from `at` on is the end from `i` on, told from earlier.
 -- Assumes nothing.
-use Prim.Native.Nat.{_+_, _-_, _≤_}
-use mathlib.Core.Path.{_≡_, refl, sym, ap, _∙_}
+use Prim.Native.Nat.{_-_, _≤_}
+use mathlib.Core.Path.{sym, _∙_}
 use native.Mathlib.Omega.{arith}
-use lib.ListN.{length, drop}
+use lib.ListN.{length}
 use Rattle.oil_grammar.specs.Next.{closing}
 use borrow.Author.Needs.{needs}
 use Rattle.oil.proofs.Comment.{Seeks, seeks-start, seeks-here, seeks-later, seeks-last, seeks-past}

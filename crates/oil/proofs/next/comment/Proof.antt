@@ -3,7 +3,6 @@
 use mathlib.Core.Path.{sym, _∙_}
 use native.Mathlib.Omega.{arith}
 use Prim.Native.Nat.{_+_}
-use lib.ListN.{length, drop}
 use Rattle.oil_grammar.specs.Byte.{isLineByte}
 use Rattle.oil_grammar.proofs.Span.{run-inside}
 use Rattle.oil_grammar.proofs.Blank.{closing-inside, comment-past, line-comment, open-comment, block-comment, comment-none}

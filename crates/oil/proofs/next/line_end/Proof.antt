@@ -1,7 +1,7 @@
 -- `line_end` meets its contract: the run has come as far as `i`.
 -- Assumes nothing.
 use Prim.Native.Nat.{_+_, _-_, _≤_}
-use mathlib.Core.Path.{_≡_, refl, sym, _∙_}
+use mathlib.Core.Path.{_≡_, refl}
 use native.Mathlib.Omega.{arith}
 use lib.ListN.{length, drop}
 use Rattle.oil_grammar.specs.Byte.{isLineByte, span}

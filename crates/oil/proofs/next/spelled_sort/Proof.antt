@@ -1,9 +1,6 @@
 -- `spelled_sort` meets its contract: the first of OIL's words that is the same.
 -- Assumes nothing.
-use Prim.Native.Nat.{ℕ}
-use mathlib.Core.Path.{_≡_, sym, _∙_}
-use mathlib.Core.Bool.{true, false}
-use mathlib.Core.List.{List}
+use mathlib.Core.Path.{sym, _∙_}
 use Rattle.oil_grammar.specs.Word.{same, spelledSort, taskWord, isrWord, resourceWord, priorityWord, autostartWord, trueWord, falseWord}
 use Rattle.oil_grammar.proofs.Spelling.{same-result}
 use borrow.Author.Needs.{needs}

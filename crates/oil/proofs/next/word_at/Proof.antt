@@ -3,7 +3,7 @@
 use mathlib.Core.Path.{sym, _∙_}
 use Prim.Native.Nat.{_+_}
 use native.Mathlib.Omega.{arith}
-use Rattle.oil_grammar.specs.Byte.{isNameByte, isDigit}
+use Rattle.oil_grammar.specs.Byte.{isNameByte}
 use Rattle.oil_grammar.proofs.Span.{run-inside}
 use Rattle.oil.proofs.Words.{word-past, word-letters, word-digits, word-sign}
 use borrow.Author.Needs.{needs}

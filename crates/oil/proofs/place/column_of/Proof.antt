@@ -3,7 +3,7 @@
 use Prim.Native.Nat.{_+_, _-_, _≤_}
 use mathlib.Core.Path.{_≡_, refl, sym, _∙_}
 use native.Mathlib.Omega.{arith}
-use lib.ListN.{length, take, drop, getD}
+use lib.ListN.{take, drop, getD}
 use Rattle.oil_grammar.specs.Reader.{columnAfter, columnOf}
 use Rattle.oil_grammar.proofs.Place.{column-step, column-end, column-le}
 use borrow.Author.Needs.{needs}

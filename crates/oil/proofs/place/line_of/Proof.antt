@@ -3,7 +3,7 @@
 use Prim.Native.Nat.{_+_, _-_, _≤_}
 use mathlib.Core.Path.{_≡_, refl, sym, _∙_}
 use native.Mathlib.Omega.{arith}
-use lib.ListN.{length, take, drop, getD}
+use lib.ListN.{take, drop, getD}
 use Rattle.oil_grammar.specs.Reader.{lineAfter, lineOf}
 use Rattle.oil_grammar.proofs.Place.{line-step, line-end, line-le}
 use borrow.Author.Needs.{needs}

@@ -1,7 +1,6 @@
 -- `fault_in` meets its contract: the sort's refusal comes before the name's.
 -- Assumes nothing.
 use mathlib.Core.Path.{sym, _∙_}
-use Prim.Native.Nat.{ℕ}
 use borrow.Author.Tests.{eq-eqb, ne-eqb}
 use Rattle.oil_grammar.specs.Machine.{fault}
 use Rattle.oil_grammar.specs.Walk.{faultIn}
