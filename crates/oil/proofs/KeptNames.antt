@@ -41,7 +41,12 @@ module _ (t : List ℕ) (n : ℕ) where
         → (i : ℕ) → i < k .count + 1 → P (getD (set (k .from) (k .count) a) i 0) (getD (set (k .to) (k .count) e) i 0)
     each P h old new i l =
         by-eq i (k .count)
-        (λ q. rw (q, getD-set-same (k .from) (k .count) a 0 (omega (arith, s .from-room)), getD-set-same (k .to) (k .count) e 0 (omega (arith, s .to-room))) new)
+        (λ q. rw (
+          q,
+          getD-set-same (k .from) (k .count) a 0 (omega (arith, s .from-room)),
+          getD-set-same (k .to) (k .count) e 0 (omega
+              (arith, s .to-room)),
+        ) new)
         (λ d. rw (getD-set-other (k .from) (k .count) i a 0 d, getD-set-other (k .to) (k .count) i e 0 d) (old i (omega arith)))
 
     more : k .count < room → Sound t n (kept k a e)

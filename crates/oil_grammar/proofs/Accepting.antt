@@ -156,7 +156,8 @@ module _ (t : List ℕ) where
       ap (λ (z : Bool). cond (bears r s₀ && same (spelling t (nextWord t a)) x) true z) h
       ∙ cond-or (bears r s₀ && same (spelling t (nextWord t a)) x) _
       ∙ sym (or-assoc (bears r s₀ && same (spelling t (nextWord t a)) x) (borne n t (nextWord t a .end) (after s₀ (nextWord t a .sort)) r x) _)
-      ∙ ap (λ (z : Bool). z || (bears r s && same (spelling t (nextWord t at)) x)) (sym (cond-or (bears r s₀ && same (spelling t (nextWord t a)) x) _))
+      ∙ ap (λ (z : Bool). z || (bears r s && same (spelling t (nextWord t at)) x)) (sym (cond-or (bears r s₀ && same (spelling t
+      (nextWord t a)) x) _))
 
   -- the names that are seen are those that the words before bear
   abbrev Same : ℕ → (List ℕ → Bool) → Type 0
@@ -223,13 +224,15 @@ module _ (t : List ℕ) where
         words = wordIn t (nextWord t at) ∷ i .words;
         read = reads {at = at} l (i .read);
         accepts =
-            goes {s = s} {seen = seen} {w = wordIn t (nextWord t at)} {ws = i .words} (proper-back (nextWord t at .sort) (spelling t (nextWord t at)) (next-ge t at)) (rw b g)
+            goes {s = s} {seen = seen} {w = wordIn t (nextWord t at)} {ws = i .words} (proper-back (nextWord t at .sort) (spelling t
+            (nextWord t at)) (next-ge t at)) (rw b g)
             (sym (same-test n at s seen q g) ∙ new-name s n (nextWord t at) f) (rw b (i .accepts));
         count = let z = i .count in omega arith;
       })))
       (λ d. absurd (d (rw (ne-eqb (faultIn t s n (nextWord t at)) 0 d) at e)))
 
-  accepts-walk : (k : ℕ) {at : ℕ} {ws : List W.Word} → Reads t at ws → (s : Progress) (n : ℕ) (seen : List ℕ → Bool) → Accepts s seen ws → length ws < k
+  accepts-walk : (k : ℕ) {at : ℕ} {ws : List W.Word} → Reads t at ws → (s : Progress) (n : ℕ) (seen : List ℕ → Bool) → Accepts s seen ws
+      → length ws < k
       → at ≤ length t → Came 0 fresh n at s → Same n seen → walk k t at s n ≡ found (n + length ws)
   unfolding walk
   accepts-walk zero r s n seen a h i c q = absurd (omega arith)

@@ -123,7 +123,8 @@ object {E} {ws} k lo hi n =
           ap (λ (l : List W.Word). mark k ∷ l) (n .is)
           ∙ ap (λ (l : List W.Word). mark k ∷ name (n .called) ∷ mark openSort ∷ l) (b .is)
           ∙ ap (λ (l : List W.Word). mark k ∷ name (n .called) ∷ mark openSort ∷ (attributesWords (b .attributes) ++ (mark closeSort ∷ l))) (e .is)
-          ∙ ap (λ (l : List W.Word). mark k ∷ name (n .called) ∷ mark openSort ∷ (attributesWords (b .attributes) ++ (mark closeSort ∷ mark semicolonSort ∷ l))) (e .follows .is)
+          ∙ ap (λ (l : List W.Word). mark k ∷ name (n .called) ∷ mark openSort ∷ (attributesWords (b .attributes) ++
+          (mark closeSort ∷ mark semicolonSort ∷ l))) (e .follows .is)
           ∙ sym (object-words (record { kind = k; called = n .called; attributes = b .attributes }) (e .follows .objects));
       fit = fit-cons (fits-of k (n .called) (b .attributes) lo hi (b .fitting)) (e .follows .fit);
       new = fresh-cons (n .new) (e .follows .new);
@@ -169,7 +170,8 @@ Further s seen ws = (v : Want) (k : ℕ) (p a : Bool) → s ≡ at v k p a → (
 
 -- a mark where an attribute or the closing brace is wanted
 module _ (k : ℕ) (p a : Bool) (m : ℕ) (lo : 1 ≤ m) (hi : m ≤ semicolonSort) (ws : List W.Word) (seen : List ℕ → Bool)
-    (f : attributeFault (at Attribute k p a) m ≡ 0) (ih : Further (attributeBegun (at Attribute k p a) m) seen ws) (E : List (List ℕ)) (q : Sees seen E) where
+    (f : attributeFault (at Attribute k p a) m ≡ 0) (ih : Further (attributeBegun (at Attribute k p a) m) seen ws) (E : List (List ℕ))
+    (q : Sees seen E) where
   closed : m ≡ closeSort → Attributes k p a E (mark m ∷ ws)
   unfolding attributeBegun attributeFault bodyFault attributesWords priorities autostarts
   closed e =
@@ -252,7 +254,8 @@ module _ (k : ℕ) (p a : Bool) (m : ℕ) (lo : 1 ≤ m) (hi : m ≤ semicolonSo
     where
       new : (eqb m autostartSort && eqb k taskSort) ≡ true → (z : Bool) → a ≡ z → (i : ℕ) → i + 1 ≤ 1 → suc i + once a ≤ 1
       new e true h i l =
-          absurd (let g : _≡_ {A = ℕ} 63 0 = rw (ne-eqb m closeSort d, ne-eqb m prioritySort n, ne-eqb m resourceSort u, e, h) at (body-fault d) in omega arith)
+          absurd (let g : _≡_ {A = ℕ} 63 0 = rw (ne-eqb m closeSort d, ne-eqb m prioritySort n, ne-eqb m resourceSort u, e, h) at
+          (body-fault d) in omega arith)
       new e false h i l = rw h (omega arith)
 
   mark-attribute : Attributes k p a E (mark m ∷ ws)
@@ -262,7 +265,8 @@ module _ (k : ℕ) (p a : Bool) (m : ℕ) (lo : 1 ≤ m) (hi : m ≤ semicolonSo
 
 -- one word
 step : (v : Want) (k : ℕ) (p a : Bool) {w : W.Word} → Proper w → (ws : List W.Word) (seen : List ℕ → Bool) → faultAt v (at v k p a) (sortOf w) ≡ 0
-    → (namesAt v && seen (bytesOf w)) ≡ false → Further (afterAt v (at v k p a) (sortOf w)) (cond (namesAt v) (λ x. seen x || same (bytesOf w) x) seen) ws
+    → (namesAt v && seen (bytesOf w)) ≡ false → Further (afterAt v (at v k p a) (sortOf w)) (cond (namesAt v) (λ x. seen x || same
+    (bytesOf w) x) seen) ws
     → (E : List (List ℕ)) → Sees seen E → Rest v k p a E (w ∷ ws)
 unfolding faultAt afterAt sortOf only unexpected objectFault attributeFault bodyFault valueFault unknown attributeBegun namesAt
 step Object k p a (proper-mark {m = m} lo hi) ws seen f b ih E q = object m lo (object-mark m hi f) (ih Name m false false refl E q)
@@ -279,9 +283,11 @@ step Open k p a proper-name ws seen f b ih E q = absurd (omega arith)
 step Open k p a proper-number ws seen f b ih E q = absurd (omega arith)
 step Attribute k p a (proper-mark {m = m} lo hi) ws seen f b ih E q = mark-attribute k p a m lo hi ws seen f ih E q
 step Attribute k p a proper-name ws seen f b ih E q =
-    absurd (by-test (isResource k) (λ e. let h : _≡_ {A = ℕ} 62 0 = rw e at f in omega arith) (λ e. let h : _≡_ {A = ℕ} 62 0 = rw e at f in omega arith))
+    absurd (by-test (isResource k) (λ e. let h : _≡_ {A = ℕ} 62 0 = rw e at f in omega arith)
+    (λ e. let h : _≡_ {A = ℕ} 62 0 = rw e at f in omega arith))
 step Attribute k p a proper-number ws seen f b ih E q =
-    absurd (by-test (isResource k) (λ e. let h : _≡_ {A = ℕ} 61 0 = rw e at f in omega arith) (λ e. let h : _≡_ {A = ℕ} 61 0 = rw e at f in omega arith))
+    absurd (by-test (isResource k) (λ e. let h : _≡_ {A = ℕ} 61 0 = rw e at f in omega arith)
+    (λ e. let h : _≡_ {A = ℕ} 61 0 = rw e at f in omega arith))
 step PriorityEquals k p a (proper-mark {m = m} lo hi) ws seen f b ih E q =
     let r = ih PriorityNumber k p a refl E q in
     before r (r .value) (ap (λ (n : ℕ). mark n ∷ number (r .value) ∷ mark semicolonSort ∷ []) (only-that equalsSort m f))
@@ -324,7 +330,8 @@ last Object k p a E f = record { objects = []; is = refl; fit = fit-nil; new = f
 last Name k p a E f = absurd (omega arith)
 last Open k p a E f = absurd (omega arith)
 last Attribute k p a E f =
-    absurd (by-test (isResource k) (λ e. let h : _≡_ {A = ℕ} 61 0 = rw e at f in omega arith) (λ e. let h : _≡_ {A = ℕ} 61 0 = rw e at f in omega arith))
+    absurd (by-test (isResource k) (λ e. let h : _≡_ {A = ℕ} 61 0 = rw e at f in omega arith)
+    (λ e. let h : _≡_ {A = ℕ} 61 0 = rw e at f in omega arith))
 last PriorityEquals k p a E f = absurd (omega arith)
 last PriorityNumber k p a E f = absurd (omega arith)
 last AutostartEquals k p a E f = absurd (omega arith)

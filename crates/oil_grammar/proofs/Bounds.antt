@@ -39,7 +39,8 @@ unfolding wordAt
 word-lies p [] = lies endSort p 0 0 (omega arith) (λ f. let z : _≡_ {A = ℕ} 0 1 = cc in absurd (omega arith))
 word-lies p (b ∷ bs) =
     by-test (isLetter b)
-    (λ e. rw e (lies (spelledSort (b ∷ take (span isNameByte bs) bs)) p (suc (span isNameByte bs)) (suc (length bs)) (let h = span-le isNameByte bs in omega arith) (λ f. omega arith)))
+    (λ e. rw e (lies (spelledSort (b ∷ take (span isNameByte bs) bs)) p (suc (span isNameByte bs)) (suc (length bs))
+    (let h = span-le isNameByte bs in omega arith) (λ f. omega arith)))
     (λ e. by-test (isDigit b)
     (λ f. rw (e, f) (lies 13 p (suc (span isDigit bs)) (suc (length bs)) (let h = span-le isDigit bs in omega arith) (λ g. omega arith)))
     (λ f. rw (e, f) (sign-lies p (length bs) (signOf b))))

@@ -128,7 +128,8 @@ module _ (t : List ℕ) where
       let i = borne-resources r (after s (nextWord t a .sort)) _ (rw (o .0) at acc) x in
       by-test (namesResource s)
       (λ e.
-      let y = bytes-back (nextWord t a .sort) (spelling t (nextWord t a)) (name-wanted (s .want) s (nextWord t a .sort) (left-true (namesObject s) _ e) (o .1)) in
+      let y = bytes-back (nextWord t a .sort) (spelling t (nextWord t a)) (name-wanted (s .want) s (nextWord t a .sort) (left-true
+      (namesObject s) _ e) (o .1)) in
       rw (e, o .0, y) (cond-or (same (spelling t (nextWord t a)) x) _ ∙ ap (λ (z : Bool). same (spelling t (nextWord t a)) x || z) i))
       (λ e. rw (e, o .0) i)
 
@@ -147,7 +148,8 @@ module _ (t : List ℕ) where
       ∙ ap (λ (k : ℕ). maskIn (after s (nextWord t a .sort)) x (numbered s b) k ws) y
       ∙ ap (λ (k : ℕ). maskIn (after s k) x (numbered s b) (marked s (bytesOf (wordIn t (nextWord t a))) x b m) ws) (sym (o .0))
 
-  pub fill-words : {a : ℕ} {ws : List W.Word} → Reads t a ws → (s : Progress) (seen : List ℕ → Bool) → Accepts s seen ws → (u : List ℕ → ℕ) (c : Config)
+  pub fill-words : {a : ℕ} {ws : List W.Word} → Reads t a ws → (s : Progress) (seen : List ℕ → Bool) → Accepts s seen ws → (u : List ℕ → ℕ)
+      (c : Config)
       → fill (length ws) t a s u c ≡ fillIn s u c ws
   unfolding fill fillIn
   fill-words (ended e) s seen acc u c = refl
@@ -231,7 +233,8 @@ pub resources-written : (os : List O.Object) (k : ℕ) (p a : Bool) → resource
 unfolding resources resourcesIn written afterAt attributeBegun namesAt sortOf
 resources-written [] k p a = refl
 resources-written (o ∷ os) k p a =
-    let r : resourcesIn (at Attribute (o .kind) false false) (attributesWords (o .attributes) ++ (mark closeSort ∷ mark semicolonSort ∷ written os)) ≡ resources os =
+    let r : resourcesIn (at Attribute (o .kind) false false) (attributesWords (o .attributes) ++
+    (mark closeSort ∷ mark semicolonSort ∷ written os)) ≡ resources os =
     resources-attributes (o .kind) (mark closeSort ∷ mark semicolonSort ∷ written os) (resources os)
     (λ p′ a′. resources-written os (o .kind) p′ a′) (o .attributes) false false in
     ap (resourcesIn (at Object k p a)) (object-words o os)
@@ -262,11 +265,15 @@ fill-written (o ∷ os) u c k p a =
     ∙ fill-attributes (o .kind) (mark closeSort ∷ mark semicolonSort ∷ written os) u (λ d. placed u (Meaning.ended (o .kind) d) os)
     (λ p′ a′ d. fill-written os u (Meaning.ended (o .kind) d) (o .kind) p′ a′) (o .attributes) false false (begun u c o)
   where
-    begun-words : (o : O.Object) → putWord Name u (at Name (o .kind) false false) (putWord Object u (at Object k p a) c (mark (o .kind))) (name (o .called)) ≡ begun u c o
+    begun-words : (o : O.Object) → putWord Name u (at Name (o .kind) false false) (putWord Object u (at Object k p a) c (mark (o .kind)))
+        (name (o .called)) ≡ begun u c o
     begun-words o = by-test (isResource (o .kind)) (λ e. rw e) (λ e. rw e)
 
-    begins : (o : O.Object) → fillIn (at Object k p a) u c (mark (o .kind) ∷ name (o .called) ∷ mark openSort ∷ (attributesWords (o .attributes) ++ (mark closeSort ∷ mark semicolonSort ∷ written os)))
-        ≡ fillIn (at Attribute (o .kind) false false) u (begun u c o) (attributesWords (o .attributes) ++ (mark closeSort ∷ mark semicolonSort ∷ written os))
+    begins : (o : O.Object) → fillIn (at Object k p a) u c (mark (o .kind) ∷ name (o .called) ∷ mark openSort ∷ (attributesWords
+        (o .attributes) ++ (mark closeSort ∷ mark semicolonSort ∷ written os)))
+        ≡ fillIn (at Attribute (o .kind) false false) u (begun u c o) (attributesWords (o .attributes) ++
+        (mark closeSort ∷ mark semicolonSort ∷ written os))
     begins o =
-        ap (λ (d : Config). fillIn (at Attribute (o .kind) false false) u d (attributesWords (o .attributes) ++ (mark closeSort ∷ mark semicolonSort ∷ written os)))
+        ap (λ (d : Config). fillIn (at Attribute (o .kind) false false) u d (attributesWords (o .attributes) ++
+        (mark closeSort ∷ mark semicolonSort ∷ written os)))
         (begun-words o)

@@ -82,7 +82,8 @@ slash-no-space b e = not-so (isSpace b) (λ f. let l = space-le b f in absurd (o
 
 -- a sign is no space, slash, letter or digit
 sign-range : (b : ℕ) → (signOf b ≡ 0 → ⊥) → (33 ≤ b) × (b ≡ slash → ⊥) × (isLetter b ≡ false) × (isDigit b ≡ false)
-sign-range b d = sign-byte b d _ (λ e. facts (λ h. omega arith) (omega arith) (omega arith)) (λ e. facts (λ h. omega arith) (omega arith) (omega arith)) (λ e. facts (λ h. omega arith) (omega arith) (omega arith)) (λ e. facts (λ h. omega arith) (omega arith) (omega arith))
+sign-range b d = sign-byte b d _ (λ e. facts (λ h. omega arith) (omega arith) (omega arith)) (λ e. facts (λ h. omega arith) (omega arith)
+    (omega arith)) (λ e. facts (λ h. omega arith) (omega arith) (omega arith)) (λ e. facts (λ h. omega arith) (omega arith) (omega arith))
   where
     facts : ((65 ≤ b) × (b ≤ 122) → ⊥) → 58 ≤ b → 58 ≤ b → (33 ≤ b) × (b ≡ slash → ⊥) × (isLetter b ≡ false) × (isDigit b ≡ false)
     facts n h k = (
@@ -141,7 +142,15 @@ blank-spells (b ∷ c ∷ bs) ws d s =
     (λ g. by-test (eqb c star)
     (λ h. by-eq (closing bs) 0
     (λ z. absurd (d (rw (e, f, g, h, eq-eqb (closing bs) 0 z))))
-    (λ n. blockComment (eqb-true b slash f) (eqb-true c star h) (closes bs n) (rw (e, f, g, h, ne-eqb (closing bs) 0 n, drop-two (closing bs) b c bs) at s)))
+    (λ n. blockComment (eqb-true b slash f) (eqb-true c star h) (closes bs n) (rw (
+      e,
+      f,
+      g,
+      h,
+      ne-eqb (closing bs) 0 n,
+      drop-two
+          (closing bs) b c bs,
+    ) at s)))
     (λ h. absurd (d (rw (e, f, g, h))))))
     (λ f. absurd (d (rw (e, f)))))
 

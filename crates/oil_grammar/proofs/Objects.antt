@@ -114,7 +114,8 @@ closing seen k p a ws rest = marked semicolonSort (omega arith) (omega arith) re
 
 -- an object that fits, with its words bracketed as the walk meets them
 pub object-words : (o : O.Object) (os : List O.Object)
-    → written (o ∷ os) ≡ mark (o .kind) ∷ name (o .called) ∷ mark openSort ∷ (attributesWords (o .attributes) ++ (mark closeSort ∷ mark semicolonSort ∷ written os))
+    → written (o ∷ os) ≡ mark (o .kind) ∷ name (o .called) ∷ mark openSort ∷ (attributesWords (o .attributes) ++
+    (mark closeSort ∷ mark semicolonSort ∷ written os))
 unfolding written objectWords
 object-words o os =
     ap (λ (l : List W.Word). mark (o .kind) ∷ name (o .called) ∷ mark openSort ∷ l)

@@ -20,13 +20,22 @@ ranged-requires : tie.Need-ranged-requires
 ranged-requires c κs = search needs
 
 refused-requires : tie.Need-refused-requires
-refused-requires c κs = rw (c .before .before .unborne .ensures) (unborne-place (c .before .before .before .before .args .words) (c .before .before .before .before .args .text .now) (c .before .before .before .before .args .words))
+refused-requires c κs =
+    let a = c .before .before .before .before .args in
+    rw (c .before .before .unborne .ensures) (unborne-place (a .words) (a .text .now) (a .words))
 
 returns : tie.Need-returns
-returns c = uses-in-order (c .before .before .before .before .before .before .args .text .now) (c .before .before .before .before .before .before .args .words) (c .before .before .before .before .unborne .result) (c .before .before .before .before .unborne .ensures) (c .before .before .if1 .taken) _ (c .ranged .ensures ∙ ap (λ (c : Config). ranged c) (c .before .fill .ensures))
+returns c =
+    let a = c .before .before .before .before .before .before .args in
+    let u = c .before .before .before .before .unborne in
+    uses-in-order (a .text .now) (a .words) (u .result) (u .ensures) (c .before .before .if1 .taken) _ (c .ranged .ensures ∙ ap (λ
+    (c : Config). ranged c) (c .before .fill .ensures))
 
 returns-2 : tie.Need-returns-2
-returns-2 c = uses-refused (c .before .before .before .before .before .args .text .now) (c .before .before .before .before .before .args .words) (c .before .before .before .unborne .result) (c .before .before .before .unborne .ensures) (c .before .if1 .left) _ (c .refused .ensures)
+returns-2 c =
+    let a = c .before .before .before .before .before .args in
+    let u = c .before .before .before .unborne in
+    uses-refused (a .text .now) (a .words) (u .result) (u .ensures) (c .before .if1 .left) _ (c .refused .ensures)
 
 pub after-words-spec : {M : Type 1} → statement M
 after-words-spec =

@@ -13,19 +13,30 @@ packed-requires : tie.Need-packed-requires
 packed-requires c κs = search needs
 
 returns : tie.Need-returns
-returns c = refused-answer (c .before .before .before .before .before .before .before .args .text .now) (c .before .before .before .before .before .before .before .args .config .now) (c .before .before .before .before .read-oil .result) (c .before .before .before .before .read-oil .ensures) (c .packed .result) (c .packed .ensures) (c .before .if1 .taken)
+returns c =
+    let a = c .before .before .before .before .before .before .before .args in
+    let r = c .before .before .before .before .read-oil in
+    refused-answer (a .text .now) (a .config .now) (r .result) (r .ensures) (c .packed .result) (c .packed .ensures) (c .before .if1 .taken)
 
 write-config-requires : tie.Need-write-config-requires
 write-config-requires c κs = search needs
 
 packed-requires-2 : tie.Need-packed-requires-2
-packed-requires-2 c κs = place-lt (c .before .before .before .before .before .before .before .before .read-oil .result .config) _ (c .before .before .write-config .result) (c .before .before .write-config .ensures .0)
+packed-requires-2 c κs =
+    let o = c .before .before .write-config in
+    place-lt (c .before .before .before .before .before .before .before .before .read-oil .result .config) _ (o .result) (o .ensures .0)
 
 same-length : tie.Need-same-length
 same-length c = search needs
 
 returns-2 : tie.Need-returns-2
-returns-2 c = written-answer (c .before .before .before .before .before .before .before .before .before .before .before .before .args .text .now) (c .before .before .before .before .before .before .before .before .before .before .before .before .args .config .now) (c .before .before .before .before .before .before .before .before .before .read-oil .result) (c .before .before .before .before .before .before .before .before .before .read-oil .ensures) (c .packed2 .result) (c .before .before .before .before .before .before .if1 .left) (c .before .before .before .write-config .result) (c .before .before .before .write-config .ensures .0) (c .packed2 .ensures) (c .before .before .before .write-config .last .1 .0) (c .before .before .before .write-config .ensures .1)
+returns-2 c =
+    let a = c .before .before .before .before .before .before .before .before .before .before .before .before .args in
+    let r = c .before .before .before .before .before .before .before .before .before .read-oil in
+    let o = c .before .before .before .write-config in
+    written-answer (a .text .now) (a .config .now) (r .result) (r .ensures) (c .packed2 .result)
+    (c .before .before .before .before .before .before .if1 .left) (o .result) (o .ensures .0) (c .packed2 .ensures) (o .last .1 .0)
+    (o .ensures .1)
 
 pub osek-oil-spec : {M : Type 1} → statement M
 osek-oil-spec =

@@ -12,10 +12,14 @@ write-config-requires : tie.Need-write-config-requires
 write-config-requires c κs = search needs
 
 returns : tie.Need-returns
-returns c = fault-told (c .before .before .before .before .before .args .config) (c .before .before .before .write-config .result) (c .before .before .before .write-config .ensures .0) (c .if1 .taken)
+returns c =
+    let o = c .before .before .before .write-config in
+    fault-told (c .before .before .before .before .before .args .config) (o .result) (o .ensures .0) (c .if1 .taken)
 
 returns-2 : tie.Need-returns-2
-returns-2 c = room-told (c .before .before .before .before .before .args .config) (c .before .before .before .write-config .result) (c .before .before .before .write-config .ensures .0) (c .if1 .left)
+returns-2 c =
+    let o = c .before .before .before .write-config in
+    room-told (c .before .before .before .before .before .args .config) (o .result) (o .ensures .0) (c .if1 .left)
 
 pub range-fault-spec : {M : Type 1} → statement M
 range-fault-spec =

@@ -17,7 +17,12 @@ returns : tie.Need-returns
 returns c = rw (eq-eqb (firstFault (c .before .before .args .config)) 0 (sym (c .before .range-fault .ensures) ∙ c .if1 .taken))
 
 returns-2 : tie.Need-returns-2
-returns-2 c = rw (ne-eqb (firstFault (c .before .before .before .args .config)) 0 (λ z. c .before .if1 .left (c .before .before .range-fault .ensures ∙ z)), c .empty .ensures, c .before .before .range-fault .ensures)
+returns-2 c = rw (
+  ne-eqb (firstFault (c .before .before .before .args .config)) 0 (λ z. c .before .if1 .left
+      (c .before .before .range-fault .ensures ∙ z)),
+  c .empty .ensures,
+  c .before .before .range-fault .ensures,
+)
 
 pub ranged-spec : {M : Type 1} → statement M
 ranged-spec = tie.close (tie.spec range-fault-requires empty-requires returns returns-2)

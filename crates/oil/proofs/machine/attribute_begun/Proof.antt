@@ -22,7 +22,12 @@ to-requires-2 c κs = search needs
 
 returns-3 : tie.Need-returns-3
 unfolding attributeBegun
-returns-3 c = rw (c .to2 .ensures) (simp (ne-eqb _ _ (c .before .before .before .if1 .left), ne-eqb _ _ (c .before .before .if2 .left), eq-eqb _ _ (c .before .if3 .taken)))
+returns-3 c = rw (c .to2 .ensures) (simp (
+  ne-eqb _ _ (c .before .before .before .if1 .left),
+  ne-eqb _ _
+      (c .before .before .if2 .left),
+  eq-eqb _ _ (c .before .if3 .taken),
+))
 
 returns-4 : tie.Need-returns-4
 unfolding attributeBegun

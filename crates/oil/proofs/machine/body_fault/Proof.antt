@@ -30,21 +30,43 @@ unknown-requires c κs = search needs
 
 returns-5 : tie.Need-returns-5
 unfolding bodyFault
-returns-5 c = rw (c .unknown .ensures) (simp (ne-eqb _ _ (c .before .before .before .before .if1 .left), ne-eqb _ _ (c .before .before .before .if3 .left), ne-eqb _ _ (c .before .before .if4 .left), ne-eqb _ _ (c .before .if5 .taken)))
+returns-5 c = rw (c .unknown .ensures) (simp (
+  ne-eqb _ _ (c .before .before .before .before .if1 .left),
+  ne-eqb _ _
+      (c .before .before .before .if3 .left),
+  ne-eqb _ _ (c .before .before .if4 .left),
+  ne-eqb _ _ (c .before .if5 .taken),
+))
 
 once-requires-2 : tie.Need-once-requires-2
 once-requires-2 c κs = search needs
 
 returns-6 : tie.Need-returns-6
 unfolding bodyFault
-returns-6 c = rw (c .once2 .ensures) (simp (ne-eqb _ _ (c .before .before .before .before .before .before .if1 .left), ne-eqb _ _ (c .before .before .before .before .before .if3 .left), ne-eqb _ _ (c .before .before .before .before .if4 .left), eq-eqb _ _ (c .before .before .before .if5 .left), eq-eqb _ _ (c .before .if6 .taken)))
+returns-6 c = rw (c .once2 .ensures) (simp (
+  ne-eqb _ _ (c .before .before .before .before .before .before .if1 .left),
+  ne-eqb _ _
+      (c .before .before .before .before .before .if3 .left),
+  ne-eqb _ _ (c .before .before .before .before .if4 .left),
+  eq-eqb _ _
+      (c .before .before .before .if5 .left),
+  eq-eqb _ _ (c .before .if6 .taken),
+))
 
 unknown-requires-2 : tie.Need-unknown-requires-2
 unknown-requires-2 c κs = search needs
 
 returns-7 : tie.Need-returns-7
 unfolding bodyFault
-returns-7 c = rw (c .unknown2 .ensures) (simp (ne-eqb _ _ (c .before .before .before .before .before .before .if1 .left), ne-eqb _ _ (c .before .before .before .before .before .if3 .left), ne-eqb _ _ (c .before .before .before .before .if4 .left), eq-eqb _ _ (c .before .before .before .if5 .left), ne-eqb _ _ (c .before .if6 .left)))
+returns-7 c = rw (c .unknown2 .ensures) (simp (
+  ne-eqb _ _ (c .before .before .before .before .before .before .if1 .left),
+  ne-eqb _ _
+      (c .before .before .before .before .before .if3 .left),
+  ne-eqb _ _ (c .before .before .before .before .if4 .left),
+  eq-eqb _ _
+      (c .before .before .before .if5 .left),
+  ne-eqb _ _ (c .before .if6 .left),
+))
 
 pub body-fault-spec : {M : Type 1} → statement M
 body-fault-spec =

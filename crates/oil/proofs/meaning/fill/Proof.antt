@@ -15,7 +15,8 @@ use Rattle.oil.proofs.meaning.fill.Statement.{statement}
 use Rattle.oil.proofs.meaning.fill.Tie as tie
 
 abbrev Inv-loop : tie.InvT-loop
-Inv-loop text words c₀ s₀ at₀ i₀ c s at i = (at ≤ length text) × (fill (words - i) text at s (λ x. mask words text 0 fresh x 0 0) c ≡ filled text words)
+Inv-loop text words c₀ s₀ at₀ i₀ c s at i = (at ≤ length text) × (fill (words - i) text at s
+    (λ x. mask words text 0 fresh x 0 0) c ≡ filled text words)
 
 abbrev μ-loop : tie.MeasureT-loop
 μ-loop text words c₀ s₀ at₀ i₀ c s at i = words - i
@@ -33,7 +34,10 @@ next-word-requires : tie.Need-next-word-requires Inv-loop μ-loop
 next-word-requires c κs = search needs
 
 put-requires : tie.Need-put-requires Inv-loop μ-loop
-put-requires c κs = word-inside (c .before .before .before .before .before .before .args .text .now) (c .before .before .loop .at) (c .before .before .loop .inv .0) (c .next-word .result) (c .next-word .ensures)
+put-requires c κs =
+    let l = c .before .before .loop in
+    let w = c .next-word in
+    word-inside (c .before .before .before .before .before .before .args .text .now) (l .at) (l .inv .0) (w .result) (w .ensures)
 
 after-requires : tie.Need-after-requires Inv-loop μ-loop
 after-requires c κs = search needs
@@ -45,10 +49,23 @@ loop-less : tie.Need-loop-less Inv-loop μ-loop
 loop-less c = search needs
 
 loop-again : tie.Need-loop-again Inv-loop μ-loop
-loop-again c = (word-inside (c .before .before .before .before .before .before .before .before .args .text .now) (c .before .before .before .before .loop .at) (c .before .before .before .before .loop .inv .0) (c .before .before .next-word .result) (c .before .before .next-word .ensures) .1, fill-turn (c .before .before .before .before .before .before .before .before .args .text .now) (c .before .before .before .before .before .before .before .before .args .words) (c .before .before .before .before .loop .i) (c .before .before .before .before .loop .at) (c .before .before .before .before .loop .s) (λ (x : List ℕ). mask (c .before .before .before .before .before .before .before .before .args .words) (c .before .before .before .before .before .before .before .before .args .text .now) 0 fresh x 0 0) (c .before .before .before .before .loop .c) (c .before .before .next-word .result) (c .before .before .next-word .ensures) (c .before .before .before .loop-test .taken) (c .after .result) (c .after .ensures) (c .before .put .result) (c .before .put .ensures) ∙ c .before .before .before .before .loop .inv .1)
+loop-again c =
+    let a = c .before .before .before .before .before .before .before .before .args in
+    let l = c .before .before .before .before .loop in
+    let w = c .before .before .next-word in (
+      word-inside (a .text .now) (l .at) (l .inv .0) (w .result) (w .ensures) .1,
+      fill-turn (a .text .now) (a .words) (l .i) (l .at) (l .s) (λ
+          (x : List ℕ). mask (a .words) (a .text .now) 0 fresh x 0 0) (l .c) (w .result) (w .ensures)
+          (c .before .before .before .loop-test .taken) (c .after .result) (c .after .ensures) (c .before .put .result)
+          (c .before .put .ensures) ∙ l .inv .1,
+    )
 
 returns : tie.Need-returns Inv-loop μ-loop
-returns c = fill-done (c .before .before .before .before .before .args .text .now) (c .before .before .before .before .before .args .words) (c .before .loop .i) (c .before .loop .at) (c .before .loop .s) (λ (x : List ℕ). mask (c .before .before .before .before .before .args .words) (c .before .before .before .before .before .args .text .now) 0 fresh x 0 0) (c .before .loop .c) (c .loop-test .left) ∙ c .before .loop .inv .1
+returns c =
+    let a = c .before .before .before .before .before .args in
+    let l = c .before .loop in
+    fill-done (a .text .now) (a .words) (l .i) (l .at) (l .s) (λ (x : List ℕ). mask (a .words) (a .text .now) 0 fresh x 0 0) (l .c)
+    (c .loop-test .left) ∙ l .inv .1
 
 pub fill-spec : {M : Type 1} → statement M
 fill-spec =

@@ -44,11 +44,27 @@ with-requires c κs = search needs
 
 returns-2 : tie.Need-returns-2
 unfolding marked
-returns-2 c = rw (sym (c .before .before .before .before .before .before .uses-resource .ensures) ∙ not-false _ (c .before .before .before .before .before .if1 .left), sym (same-result (c .before .before .same .result) (spelling (c .before .before .before .before .before .before .before .before .args .text .now) (c .before .before .before .before .before .before .before .before .args .w)) (take (c .before .before .before .before .before .before .before .before .args .end - c .before .before .before .before .before .before .before .before .args .start) (drop (c .before .before .before .before .before .before .before .before .args .start) (c .before .before .before .before .before .before .before .before .args .text .now))) (c .before .before .same .ensures)) ∙ c .before .if2 .taken) (c .with .ensures)
+returns-2 c =
+    let a = c .before .before .before .before .before .before .before .before .args in
+    let m = c .before .before .same in
+    rw (
+      sym (c .before .before .before .before .before .before .uses-resource .ensures) ∙ not-false _
+          (c .before .before .before .before .before .if1 .left),
+      sym (same-result (m .result) (spelling (a .text .now) (a .w)) (take
+          (a .end - a .start) (drop (a .start) (a .text .now))) (m .ensures)) ∙ c .before .if2 .taken,
+    ) (c .with .ensures)
 
 returns-3 : tie.Need-returns-3
 unfolding marked
-returns-3 c = rw (sym (c .before .before .before .before .before .uses-resource .ensures) ∙ not-false _ (c .before .before .before .before .if1 .left), sym (same-result (c .before .same .result) (spelling (c .before .before .before .before .before .before .before .args .text .now) (c .before .before .before .before .before .before .before .args .w)) (take (c .before .before .before .before .before .before .before .args .end - c .before .before .before .before .before .before .before .args .start) (drop (c .before .before .before .before .before .before .before .args .start) (c .before .before .before .before .before .before .before .args .text .now))) (c .before .same .ensures)) ∙ c .if2 .left)
+returns-3 c =
+    let a = c .before .before .before .before .before .before .before .args in
+    let m = c .before .same in
+    rw (
+      sym (c .before .before .before .before .before .uses-resource .ensures) ∙ not-false _
+          (c .before .before .before .before .if1 .left),
+      sym (same-result (m .result) (spelling (a .text .now) (a .w)) (take
+          (a .end - a .start) (drop (a .start) (a .text .now))) (m .ensures)) ∙ c .if2 .left,
+    )
 
 pub marked-spec : {M : Type 1} → statement M
 marked-spec =

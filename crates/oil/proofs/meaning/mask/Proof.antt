@@ -13,7 +13,8 @@ use Rattle.oil.proofs.meaning.mask.Statement.{statement}
 use Rattle.oil.proofs.meaning.mask.Tie as tie
 
 abbrev Inv-loop : tie.InvT-loop
-Inv-loop text words start end s₀ at₀ b₀ m₀ i₀ s at b m i = (at ≤ length text) × (mask (words - i) text at s (take (end - start) (drop start text)) b m ≡ mask words text 0 fresh (take (end - start) (drop start text)) 0 0)
+Inv-loop text words start end s₀ at₀ b₀ m₀ i₀ s at b m i = (at ≤ length text) × (mask (words - i) text at s (take (end - start)
+    (drop start text)) b m ≡ mask words text 0 fresh (take (end - start) (drop start text)) 0 0)
 
 abbrev μ-loop : tie.MeasureT-loop
 μ-loop text words start end s₀ at₀ b₀ m₀ i₀ s at b m i = words - i
@@ -28,7 +29,13 @@ next-word-requires : tie.Need-next-word-requires Inv-loop μ-loop
 next-word-requires c κs = search needs
 
 marked-requires : tie.Need-marked-requires Inv-loop μ-loop
-marked-requires c κs = (word-inside (c .before .before .before .before .before .args .text .now) (c .before .before .loop .at) (c .before .before .loop .inv .0) (c .next-word .result) (c .next-word .ensures), c .before .before .before .before .before .pre)
+marked-requires c κs =
+    let l = c .before .before .loop in
+    let w = c .next-word in (
+      word-inside (c .before .before .before .before .before .args .text .now) (l .at) (l .inv .0) (w .result)
+          (w .ensures),
+      c .before .before .before .before .before .pre,
+    )
 
 numbered-requires : tie.Need-numbered-requires Inv-loop μ-loop
 numbered-requires c κs = search needs
@@ -43,10 +50,23 @@ loop-less : tie.Need-loop-less Inv-loop μ-loop
 loop-less c = search needs
 
 loop-again : tie.Need-loop-again Inv-loop μ-loop
-loop-again c = (word-inside (c .before .before .before .before .before .before .before .before .args .text .now) (c .before .before .before .before .before .loop .at) (c .before .before .before .before .before .loop .inv .0) (c .before .before .before .next-word .result) (c .before .before .before .next-word .ensures) .1, mask-turn (c .before .before .before .before .before .before .before .before .args .text .now) (c .before .before .before .before .before .before .before .before .args .words) (c .before .before .before .before .before .loop .i) (c .before .before .before .before .before .loop .at) (c .before .before .before .before .before .loop .s) (take (c .before .before .before .before .before .before .before .before .args .end - c .before .before .before .before .before .before .before .before .args .start) (drop (c .before .before .before .before .before .before .before .before .args .start) (c .before .before .before .before .before .before .before .before .args .text .now))) (c .before .before .before .before .before .loop .b) (c .before .before .before .before .before .loop .m) (c .before .before .before .next-word .result) (c .before .before .before .next-word .ensures) (c .before .before .before .before .loop-test .taken) (c .after .result) (c .after .ensures) (c .before .numbered .result) (c .before .numbered .ensures) (c .before .before .marked .result) (c .before .before .marked .ensures) ∙ c .before .before .before .before .before .loop .inv .1)
+loop-again c =
+    let a = c .before .before .before .before .before .before .before .before .args in
+    let l = c .before .before .before .before .before .loop in
+    let w = c .before .before .before .next-word in (
+      word-inside (a .text .now) (l .at) (l .inv .0) (w .result) (w .ensures) .1,
+      mask-turn (a .text .now) (a .words) (l .i) (l .at) (l .s)
+          (take (a .end - a .start) (drop (a .start) (a .text .now))) (l .b) (l .m) (w .result) (w .ensures)
+          (c .before .before .before .before .loop-test .taken) (c .after .result) (c .after .ensures) (c .before .numbered .result)
+          (c .before .numbered .ensures) (c .before .before .marked .result) (c .before .before .marked .ensures) ∙ l .inv .1,
+    )
 
 returns : tie.Need-returns Inv-loop μ-loop
-returns c = mask-done (c .before .before .before .before .args .text .now) (c .before .before .before .before .args .words) (c .before .loop .i) (c .before .loop .at) (c .before .loop .s) (take (c .before .before .before .before .args .end - c .before .before .before .before .args .start) (drop (c .before .before .before .before .args .start) (c .before .before .before .before .args .text .now))) (c .before .loop .b) (c .before .loop .m) (c .loop-test .left) ∙ c .before .loop .inv .1
+returns c =
+    let a = c .before .before .before .before .args in
+    let l = c .before .loop in
+    mask-done (a .text .now) (a .words) (l .i) (l .at) (l .s) (take (a .end - a .start) (drop (a .start) (a .text .now))) (l .b) (l .m)
+    (c .loop-test .left) ∙ l .inv .1
 
 pub mask-spec : {M : Type 1} → statement M
 mask-spec =

@@ -46,13 +46,18 @@ returns : tie.Need-returns
 returns c = elsewhere (c .before .args .s .want) (c .before .args .s) (c .before .args .b) (c .match .keys2)
 
 returns-2 : tie.Need-returns-2
-returns-2 c = over (c .before .before .before .before .args .s) (c .before .before .before .before .args .b) _ (c .before .before .enum-told .given .1) (rw (eq-eqb (c .before .before .before .before .args .s .kind) 3 (c .if1 .taken)))
+returns-2 c =
+    let a = c .before .before .before .before .args in
+    over (a .s) (a .b) _ (c .before .before .enum-told .given .1) (rw (eq-eqb (a .s .kind) 3 (c .if1 .taken)))
 
 counted-requires : tie.Need-counted-requires
 counted-requires c κs = search needs
 
 returns-3 : tie.Need-returns-3
-returns-3 c = over (c .before .before .before .before .before .args .s) (c .before .before .before .before .before .args .b) (c .counted .result) (c .before .before .before .enum-told .given .1) (rw (ne-eqb (c .before .before .before .before .before .args .s .kind) 3 (c .before .if1 .left)) (c .counted .ensures))
+returns-3 c =
+    let a = c .before .before .before .before .before .args in
+    over (a .s) (a .b) (c .counted .result) (c .before .before .before .enum-told .given .1) (rw (ne-eqb (a .s .kind) 3
+    (c .before .if1 .left)) (c .counted .ensures))
 
 pub numbered-spec : {M : Type 1} → statement M
 numbered-spec = tie.close (tie.spec enum-told returns returns-2 counted-requires returns-3)

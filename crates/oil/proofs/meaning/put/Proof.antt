@@ -72,51 +72,89 @@ ended-requires c κs = search needs
 
 returns : tie.Need-returns
 unfolding putAt
-returns c = put-at (λ (x : List ℕ). mask (c .before .before .before .before .args .words) (c .before .before .before .before .args .text .now) 0 fresh x 0 0) (c .before .before .before .before .args .s) (c .before .before .before .before .args .c) (c .before .before .before .before .args .w .sort) (spelling (c .before .before .before .before .args .text .now) (c .before .before .before .before .args .w)) Object (c .before .enum-told .given .1) _ (c .put-object .ensures)
+returns c =
+    let a = c .before .before .before .before .args in
+    put-at (λ (x : List ℕ). mask (a .words) (a .text .now) 0 fresh x 0 0) (a .s) (a .c) (a .w .sort) (spelling (a .text .now) (a .w)) Object
+    (c .before .enum-told .given .1) _ (c .put-object .ensures)
 
 returns-2 : tie.Need-returns-2
 unfolding putAt
-returns-2 c = put-at (λ (x : List ℕ). mask (c .before .before .before .before .args .words) (c .before .before .before .before .args .text .now) 0 fresh x 0 0) (c .before .before .before .before .args .s) (c .before .before .before .before .args .c) (c .before .before .before .before .args .w .sort) (spelling (c .before .before .before .before .args .text .now) (c .before .before .before .before .args .w)) Name (c .before .enum-told2 .given .1) _ (c .put-name .ensures)
+returns-2 c =
+    let a = c .before .before .before .before .args in
+    put-at (λ (x : List ℕ). mask (a .words) (a .text .now) 0 fresh x 0 0) (a .s) (a .c) (a .w .sort) (spelling (a .text .now) (a .w)) Name
+    (c .before .enum-told2 .given .1) _ (c .put-name .ensures)
 
 returns-3 : tie.Need-returns-3
 unfolding putAt
-returns-3 c = put-at (λ (x : List ℕ). mask (c .before .before .before .args .words) (c .before .before .before .args .text .now) 0 fresh x 0 0) (c .before .before .before .args .s) (c .before .before .before .args .c) (c .before .before .before .args .w .sort) (spelling (c .before .before .before .args .text .now) (c .before .before .before .args .w)) Open (c .enum-told3 .given .1) _ (refl)
+returns-3 c =
+    let a = c .before .before .before .args in
+    put-at (λ (x : List ℕ). mask (a .words) (a .text .now) 0 fresh x 0 0) (a .s) (a .c) (a .w .sort) (spelling (a .text .now) (a .w)) Open
+    (c .enum-told3 .given .1) _ (refl)
 
 returns-4 : tie.Need-returns-4
 unfolding putAt
-returns-4 c = put-at (λ (x : List ℕ). mask (c .before .before .before .args .words) (c .before .before .before .args .text .now) 0 fresh x 0 0) (c .before .before .before .args .s) (c .before .before .before .args .c) (c .before .before .before .args .w .sort) (spelling (c .before .before .before .args .text .now) (c .before .before .before .args .w)) Attribute (c .enum-told4 .given .1) _ (refl)
+returns-4 c =
+    let a = c .before .before .before .args in
+    put-at (λ (x : List ℕ). mask (a .words) (a .text .now) 0 fresh x 0 0) (a .s) (a .c) (a .w .sort) (spelling (a .text .now)
+    (a .w)) Attribute (c .enum-told4 .given .1) _ (refl)
 
 returns-5 : tie.Need-returns-5
 unfolding putAt
-returns-5 c = put-at (λ (x : List ℕ). mask (c .before .before .before .args .words) (c .before .before .before .args .text .now) 0 fresh x 0 0) (c .before .before .before .args .s) (c .before .before .before .args .c) (c .before .before .before .args .w .sort) (spelling (c .before .before .before .args .text .now) (c .before .before .before .args .w)) PriorityEquals (c .enum-told5 .given .1) _ (refl)
+returns-5 c =
+    let a = c .before .before .before .args in
+    put-at (λ (x : List ℕ). mask (a .words) (a .text .now) 0 fresh x 0 0) (a .s) (a .c) (a .w .sort) (spelling (a .text .now)
+    (a .w)) PriorityEquals (c .enum-told5 .given .1) _ (refl)
 
 returns-6 : tie.Need-returns-6
 unfolding putAt
-returns-6 c = put-at (λ (x : List ℕ). mask (c .before .before .before .before .before .args .words) (c .before .before .before .before .before .args .text .now) 0 fresh x 0 0) (c .before .before .before .before .before .args .s) (c .before .before .before .before .before .args .c) (c .before .before .before .before .before .args .w .sort) (spelling (c .before .before .before .before .before .args .text .now) (c .before .before .before .before .before .args .w)) PriorityNumber (c .before .before .enum-told6 .given .1) _ (c .with-priority .ensures ∙ ap (λ (p : ℕ). withPriority (c .before .before .before .before .before .args .c) (c .before .before .before .before .before .args .c .bodies) p) (c .before .value .ensures))
+returns-6 c =
+    let a = c .before .before .before .before .before .args in
+    put-at (λ (x : List ℕ). mask (a .words) (a .text .now) 0 fresh x 0 0) (a .s) (a .c) (a .w .sort) (spelling (a .text .now)
+    (a .w)) PriorityNumber (c .before .before .enum-told6 .given .1) _ (c .with-priority .ensures ∙ ap (λ (p : ℕ). withPriority (a .c)
+    (a .c .bodies) p) (c .before .value .ensures))
 
 returns-7 : tie.Need-returns-7
 unfolding putAt
-returns-7 c = put-at (λ (x : List ℕ). mask (c .before .before .before .args .words) (c .before .before .before .args .text .now) 0 fresh x 0 0) (c .before .before .before .args .s) (c .before .before .before .args .c) (c .before .before .before .args .w .sort) (spelling (c .before .before .before .args .text .now) (c .before .before .before .args .w)) AutostartEquals (c .enum-told7 .given .1) _ (refl)
+returns-7 c =
+    let a = c .before .before .before .args in
+    put-at (λ (x : List ℕ). mask (a .words) (a .text .now) 0 fresh x 0 0) (a .s) (a .c) (a .w .sort) (spelling (a .text .now)
+    (a .w)) AutostartEquals (c .enum-told7 .given .1) _ (refl)
 
 returns-8 : tie.Need-returns-8
 unfolding putAt
-returns-8 c = put-at (λ (x : List ℕ). mask (c .before .before .before .before .before .args .words) (c .before .before .before .before .before .args .text .now) 0 fresh x 0 0) (c .before .before .before .before .before .args .s) (c .before .before .before .before .before .args .c) (c .before .before .before .before .before .args .w .sort) (spelling (c .before .before .before .before .before .args .text .now) (c .before .before .before .before .before .args .w)) AutostartValue (c .before .before .enum-told8 .given .1) _ (c .with-autostart .ensures ∙ ap (λ (p : ℕ). withAutostart (c .before .before .before .before .before .args .c) (c .before .before .before .before .before .args .c .bodies) p) (c .before .start-of .ensures))
+returns-8 c =
+    let a = c .before .before .before .before .before .args in
+    put-at (λ (x : List ℕ). mask (a .words) (a .text .now) 0 fresh x 0 0) (a .s) (a .c) (a .w .sort) (spelling (a .text .now)
+    (a .w)) AutostartValue (c .before .before .enum-told8 .given .1) _ (c .with-autostart .ensures ∙ ap (λ (p : ℕ). withAutostart (a .c)
+    (a .c .bodies) p) (c .before .start-of .ensures))
 
 returns-9 : tie.Need-returns-9
 unfolding putAt
-returns-9 c = put-at (λ (x : List ℕ). mask (c .before .before .before .args .words) (c .before .before .before .args .text .now) 0 fresh x 0 0) (c .before .before .before .args .s) (c .before .before .before .args .c) (c .before .before .before .args .w .sort) (spelling (c .before .before .before .args .text .now) (c .before .before .before .args .w)) UseEquals (c .enum-told9 .given .1) _ (refl)
+returns-9 c =
+    let a = c .before .before .before .args in
+    put-at (λ (x : List ℕ). mask (a .words) (a .text .now) 0 fresh x 0 0) (a .s) (a .c) (a .w .sort) (spelling (a .text .now)
+    (a .w)) UseEquals (c .enum-told9 .given .1) _ (refl)
 
 returns-10 : tie.Need-returns-10
 unfolding putAt
-returns-10 c = put-at (λ (x : List ℕ). mask (c .before .before .before .args .words) (c .before .before .before .args .text .now) 0 fresh x 0 0) (c .before .before .before .args .s) (c .before .before .before .args .c) (c .before .before .before .args .w .sort) (spelling (c .before .before .before .args .text .now) (c .before .before .before .args .w)) Use (c .enum-told10 .given .1) _ (refl)
+returns-10 c =
+    let a = c .before .before .before .args in
+    put-at (λ (x : List ℕ). mask (a .words) (a .text .now) 0 fresh x 0 0) (a .s) (a .c) (a .w .sort) (spelling (a .text .now) (a .w)) Use
+    (c .enum-told10 .given .1) _ (refl)
 
 returns-11 : tie.Need-returns-11
 unfolding putAt
-returns-11 c = put-at (λ (x : List ℕ). mask (c .before .before .before .args .words) (c .before .before .before .args .text .now) 0 fresh x 0 0) (c .before .before .before .args .s) (c .before .before .before .args .c) (c .before .before .before .args .w .sort) (spelling (c .before .before .before .args .text .now) (c .before .before .before .args .w)) AttributeEnd (c .enum-told11 .given .1) _ (refl)
+returns-11 c =
+    let a = c .before .before .before .args in
+    put-at (λ (x : List ℕ). mask (a .words) (a .text .now) 0 fresh x 0 0) (a .s) (a .c) (a .w .sort) (spelling (a .text .now)
+    (a .w)) AttributeEnd (c .enum-told11 .given .1) _ (refl)
 
 returns-12 : tie.Need-returns-12
 unfolding putAt
-returns-12 c = put-at (λ (x : List ℕ). mask (c .before .before .before .before .args .words) (c .before .before .before .before .args .text .now) 0 fresh x 0 0) (c .before .before .before .before .args .s) (c .before .before .before .before .args .c) (c .before .before .before .before .args .w .sort) (spelling (c .before .before .before .before .args .text .now) (c .before .before .before .before .args .w)) ObjectEnd (c .before .enum-told12 .given .1) _ (c .ended .ensures)
+returns-12 c =
+    let a = c .before .before .before .before .args in
+    put-at (λ (x : List ℕ). mask (a .words) (a .text .now) 0 fresh x 0 0) (a .s) (a .c) (a .w .sort) (spelling (a .text .now)
+    (a .w)) ObjectEnd (c .before .enum-told12 .given .1) _ (c .ended .ensures)
 
 pub put-spec : {M : Type 1} → statement M
 put-spec =

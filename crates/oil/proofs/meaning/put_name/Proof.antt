@@ -15,7 +15,10 @@ with-users-requires : tie.Need-with-users-requires
 with-users-requires c κs = search needs
 
 returns : tie.Need-returns
-returns c = rw (eq-eqb (c .before .before .before .before .args .kind) 3 (c .before .before .if1 .taken)) (c .with-users .ensures ∙ ap (λ (m : ℕ). withUsers (c .before .before .before .before .args .c) (c .before .before .before .before .args .c .resources) m) (c .before .mask .ensures))
+returns c =
+    let a = c .before .before .before .before .args in
+    rw (eq-eqb (a .kind) 3 (c .before .before .if1 .taken)) (c .with-users .ensures ∙ ap (λ (m : ℕ). withUsers (a .c) (a .c .resources) m)
+    (c .before .mask .ensures))
 
 returns-2 : tie.Need-returns-2
 returns-2 c = rw (ne-eqb (c .before .before .args .kind) 3 (c .if1 .left))

@@ -18,7 +18,10 @@ with-kind-requires : tie.Need-with-kind-requires
 with-kind-requires c κs = search needs
 
 returns-2 : tie.Need-returns-2
-returns-2 c = rw (ne-eqb (c .before .before .before .args .w) 3 (c .before .before .if1 .left)) (c .with-kind .ensures ∙ ap (λ (k : ℕ). withKind (c .before .before .before .args .c) (c .before .before .before .args .c .bodies) k) (c .before .kind-of .ensures))
+returns-2 c =
+    let a = c .before .before .before .args in
+    rw (ne-eqb (a .w) 3 (c .before .before .if1 .left)) (c .with-kind .ensures ∙ ap (λ (k : ℕ). withKind (a .c) (a .c .bodies) k)
+    (c .before .kind-of .ensures))
 
 pub put-object-spec : {M : Type 1} → statement M
 put-object-spec = tie.close (tie.spec returns kind-of-requires with-kind-requires returns-2)

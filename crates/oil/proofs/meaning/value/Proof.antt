@@ -12,7 +12,8 @@ use Rattle.oil.proofs.meaning.value.Statement.{statement}
 use Rattle.oil.proofs.meaning.value.Tie as tie
 
 abbrev Inv-loop : tie.InvT-loop
-Inv-loop text start end v₀ i₀ v i = ((start ≤ i) × (i ≤ end)) × ((v ≤ 255) × (held (decimal v (take (end - i) (drop i text))) ≡ held (decimal 0 (take (end - start) (drop start text)))))
+Inv-loop text start end v₀ i₀ v i = ((start ≤ i) × (i ≤ end)) × ((v ≤ 255) × (held (decimal v (take (end - i) (drop i text))) ≡ held
+    (decimal 0 (take (end - start) (drop start text)))))
 
 abbrev μ-loop : tie.MeasureT-loop
 μ-loop text start end v₀ i₀ v i = end - i
@@ -33,13 +34,26 @@ loop-less : tie.Need-loop-less Inv-loop μ-loop
 loop-less c = search needs
 
 loop-again : tie.Need-loop-again Inv-loop μ-loop
-loop-again c = ((omega arith, omega arith), (let e = c .value-after .ensures in omega arith, digits-turn (c .before .before .before .before .before .args .text .now) (c .before .before .before .before .before .args .end) (c .before .before .before .loop .i) (c .before .before .before .loop .v) (let p = c .before .before .before .before .before .pre in omega arith) (c .before .before .loop-test .taken) (c .value-after .result) (c .value-after .ensures) ∙ c .before .before .before .loop .inv .1 .1))
+loop-again c =
+    let a = c .before .before .before .before .before .args in
+    let l = c .before .before .before .loop in (
+      (omega arith, omega arith),
+      (
+        let e = c .value-after .ensures in omega arith,
+        digits-turn (a .text .now) (a .end) (l .i) (l .v)
+            (let p = c .before .before .before .before .before .pre in omega arith) (c .before .before .loop-test .taken) (c .value-after .result)
+            (c .value-after .ensures) ∙ l .inv .1 .1,
+      ),
+    )
 
 cast-result : tie.Need-cast-result Inv-loop μ-loop
 cast-result c = let h = c .before .loop .inv .1 .0 in search needs
 
 returns : tie.Need-returns Inv-loop μ-loop
-returns c = digits-done (c .before .before .before .args .text .now) (c .before .before .before .args .end) (c .before .loop .i) (c .before .loop .v) (c .before .loop .inv .1 .0) (c .loop-test .left) ∙ c .before .loop .inv .1 .1
+returns c =
+    let a = c .before .before .before .args in
+    let l = c .before .loop in
+    digits-done (a .text .now) (a .end) (l .i) (l .v) (l .inv .1 .0) (c .loop-test .left) ∙ l .inv .1 .1
 
 pub value-spec : {M : Type 1} → statement M
 value-spec =

@@ -17,7 +17,9 @@ is-space-requires : tie.Need-is-space-requires
 is-space-requires c κs = search needs
 
 returns-2 : tie.Need-returns-2
-returns-2 c = sym (blank-space (c .before .before .before .before .before .args .text .now) (c .before .before .before .before .before .args .at) (omega arith) (sym (c .before .is-space .ensures) ∙ c .if2 .taken))
+returns-2 c =
+    let a = c .before .before .before .before .before .args in
+    sym (blank-space (a .text .now) (a .at) (omega arith) (sym (c .before .is-space .ensures) ∙ c .if2 .taken))
 
 add-comment : tie.Need-add-comment
 add-comment c = search needs
@@ -26,10 +28,15 @@ comment-requires : tie.Need-comment-requires
 comment-requires c κs = search needs
 
 returns-3 : tie.Need-returns-3
-returns-3 c = c .comment .ensures ∙ sym (blank-comment (c .before .before .before .before .before .before .before .args .text .now) (c .before .before .before .before .before .before .before .args .at) (omega arith) (sym (c .before .before .before .is-space .ensures) ∙ c .before .before .if2 .left) (c .before .if3 .taken))
+returns-3 c =
+    let a = c .before .before .before .before .before .before .before .args in
+    c .comment .ensures ∙ sym (blank-comment (a .text .now) (a .at) (omega arith) (sym (c .before .before .before .is-space .ensures)
+    ∙ c .before .before .if2 .left) (c .before .if3 .taken))
 
 returns-4 : tie.Need-returns-4
-returns-4 c = sym (blank-none (c .before .before .before .before .before .before .args .text .now) (c .before .before .before .before .before .before .args .at) (omega arith) (sym (c .before .before .is-space .ensures) ∙ c .before .if2 .left) (c .if3 .left))
+returns-4 c =
+    let a = c .before .before .before .before .before .before .args in
+    sym (blank-none (a .text .now) (a .at) (omega arith) (sym (c .before .before .is-space .ensures) ∙ c .before .if2 .left) (c .if3 .left))
 
 pub blank-spec : {M : Type 1} → statement M
 blank-spec =

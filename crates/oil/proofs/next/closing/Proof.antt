@@ -23,7 +23,10 @@ add-next : tie.Need-add-next Inv-loop μ-loop
 add-next c = search needs
 
 returns : tie.Need-returns Inv-loop μ-loop
-returns c = seeks-last (c .before .before .before .before .args .text .now) (c .before .before .before .before .args .at) (c .before .before .loop .i) (c .before .before .loop .inv .1) (c .if1 .taken)
+returns c =
+    let a = c .before .before .before .before .args in
+    let l = c .before .before .loop in
+    seeks-last (a .text .now) (a .at) (l .i) (l .inv .1) (c .if1 .taken)
 
 shared-slice-read-closes : tie.Need-shared-slice-read-closes Inv-loop μ-loop
 shared-slice-read-closes c = search needs
@@ -41,16 +44,29 @@ add-result : tie.Need-add-result Inv-loop μ-loop
 add-result c = search needs
 
 returns-2 : tie.Need-returns-2 Inv-loop μ-loop
-returns-2 c = seeks-here (c .before .before .before .before .before .before .before .before .args .text .now) (c .before .before .before .before .before .before .before .before .args .at) (c .before .before .before .before .before .before .loop .i) (c .before .before .before .before .before .before .loop .inv .1) (let h = c .before .before .before .before .if1 .left in omega arith) (sym (c .before .closes .ensures) ∙ c .if2 .taken)
+returns-2 c =
+    let a = c .before .before .before .before .before .before .before .before .args in
+    let l = c .before .before .before .before .before .before .loop in
+    seeks-here (a .text .now) (a .at) (l .i) (l .inv .1) (let h = c .before .before .before .before .if1 .left in omega arith) (sym
+    (c .before .closes .ensures) ∙ c .if2 .taken)
 
 loop-less : tie.Need-loop-less Inv-loop μ-loop
 loop-less c = search needs
 
 loop-again : tie.Need-loop-again Inv-loop μ-loop
-loop-again c = (omega arith, seeks-later (c .before .before .before .before .before .before .before .before .args .text .now) (c .before .before .before .before .before .before .before .before .args .at) (c .before .before .before .before .before .before .loop .i) (c .before .before .before .before .before .before .loop .inv .1) (let h = c .before .before .before .before .if1 .left in omega arith) (sym (c .before .closes .ensures) ∙ c .if2 .left))
+loop-again c =
+    let a = c .before .before .before .before .before .before .before .before .args in
+    let l = c .before .before .before .before .before .before .loop in (
+      omega arith,
+      seeks-later (a .text .now) (a .at) (l .i) (l .inv .1) (let h = c .before .before .before .before .if1 .left in omega arith)
+          (sym (c .before .closes .ensures) ∙ c .if2 .left),
+    )
 
 returns-3 : tie.Need-returns-3 Inv-loop μ-loop
-returns-3 c = seeks-past (c .before .before .before .args .text .now) (c .before .before .before .args .at) (c .before .loop .i) (c .before .loop .inv .1) (c .loop-test .left)
+returns-3 c =
+    let a = c .before .before .before .args in
+    let l = c .before .loop in
+    seeks-past (a .text .now) (a .at) (l .i) (l .inv .1) (c .loop-test .left)
 
 pub closing-spec : {M : Type 1} → statement M
 closing-spec =

@@ -26,25 +26,39 @@ sub-result : tie.Need-sub-result
 sub-result c = search needs
 
 add-result : tie.Need-add-result
-add-result c = omega (arith, c .line-end .ensures, run-inside isLineByte (c .before .before .before .before .before .args .text .now) (c .before .before .before .before .before .args .at + 1) (omega arith))
+add-result c =
+    let a = c .before .before .before .before .before .args in
+    omega (arith, c .line-end .ensures, run-inside isLineByte (a .text .now) (a .at + 1) (omega arith))
 
 returns-2 : tie.Need-returns-2
-returns-2 c = line-comment (c .before .before .before .before .before .args .text .now) (c .before .before .before .before .before .args .at) (omega arith) (c .before .if2 .taken) (c .line-end .result) (c .line-end .ensures)
+returns-2 c =
+    let a = c .before .before .before .before .before .args in
+    line-comment (a .text .now) (a .at) (omega arith) (c .before .if2 .taken) (c .line-end .result) (c .line-end .ensures)
 
 closing-requires : tie.Need-closing-requires
 closing-requires c κs = search needs
 
 returns-3 : tie.Need-returns-3
-returns-3 c = open-comment (c .before .before .before .before .before .before .before .args .text .now) (c .before .before .before .before .before .before .before .args .at) (omega arith) (c .before .before .before .if2 .left) (c .before .before .if3 .taken) (sym (c .before .closing .ensures) ∙ c .if4 .taken)
+returns-3 c =
+    let a = c .before .before .before .before .before .before .before .args in
+    open-comment (a .text .now) (a .at) (omega arith) (c .before .before .before .if2 .left) (c .before .before .if3 .taken) (sym
+    (c .before .closing .ensures) ∙ c .if4 .taken)
 
 add-result-2 : tie.Need-add-result-2
-add-result-2 c = omega (arith, c .before .closing .ensures, closing-inside (c .before .before .before .before .before .before .before .args .text .now) (c .before .before .before .before .before .before .before .args .at + 1))
+add-result-2 c =
+    let a = c .before .before .before .before .before .before .before .args in
+    omega (arith, c .before .closing .ensures, closing-inside (a .text .now) (a .at + 1))
 
 returns-4 : tie.Need-returns-4
-returns-4 c = rw (c .before .closing .ensures) (block-comment (c .before .before .before .before .before .before .before .args .text .now) (c .before .before .before .before .before .before .before .args .at) (omega arith) (c .before .before .before .if2 .left) (c .before .before .if3 .taken) (λ e. c .if4 .left (c .before .closing .ensures ∙ e)))
+returns-4 c =
+    let a = c .before .before .before .before .before .before .before .args in
+    rw (c .before .closing .ensures) (block-comment (a .text .now) (a .at) (omega arith) (c .before .before .before .if2 .left)
+    (c .before .before .if3 .taken) (λ e. c .if4 .left (c .before .closing .ensures ∙ e)))
 
 returns-5 : tie.Need-returns-5
-returns-5 c = sym (comment-none (c .before .before .before .before .before .args .text .now) (c .before .before .before .before .before .args .at) (omega arith) (c .before .if2 .left) (c .if3 .left))
+returns-5 c =
+    let a = c .before .before .before .before .before .args in
+    sym (comment-none (a .text .now) (a .at) (omega arith) (c .before .if2 .left) (c .if3 .left))
 
 pub comment-spec : {M : Type 1} → statement M
 comment-spec =

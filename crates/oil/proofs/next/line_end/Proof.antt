@@ -24,7 +24,10 @@ shared-slice-read-if1 : tie.Need-shared-slice-read-if1 Inv-loop μ-loop
 shared-slice-read-if1 c = search needs
 
 returns : tie.Need-returns Inv-loop μ-loop
-returns c = run-stopped isLineByte (c .before .before .before .before .args .text .now) (c .before .before .before .before .args .at) (c .before .before .before .loop .i) (c .before .before .before .loop .inv .1) (c .before .before .loop-test .taken) (line-feed _ (c .if1 .taken))
+returns c =
+    let a = c .before .before .before .before .args in
+    let l = c .before .before .before .loop in
+    run-stopped isLineByte (a .text .now) (a .at) (l .i) (l .inv .1) (c .before .before .loop-test .taken) (line-feed _ (c .if1 .taken))
 
 add-i : tie.Need-add-i Inv-loop μ-loop
 add-i c = search needs
@@ -33,10 +36,16 @@ loop-less : tie.Need-loop-less Inv-loop μ-loop
 loop-less c = search needs
 
 loop-again : tie.Need-loop-again Inv-loop μ-loop
-loop-again c = (omega arith, run-more isLineByte (c .before .before .before .before .args .text .now) (c .before .before .before .before .args .at) (c .before .before .before .loop .i) (c .before .before .before .loop .inv .1) (c .before .before .loop-test .taken) (line-byte _ (c .if1 .left)))
+loop-again c =
+    let a = c .before .before .before .before .args in
+    let l = c .before .before .before .loop in
+    (omega arith, run-more isLineByte (a .text .now) (a .at) (l .i) (l .inv .1) (c .before .before .loop-test .taken) (line-byte _ (c .if1 .left)))
 
 returns-2 : tie.Need-returns-2 Inv-loop μ-loop
-returns-2 c = run-ended isLineByte (c .before .before .args .text .now) (c .before .before .args .at) (c .before .loop .i) (c .before .loop .inv .1) (c .loop-test .left)
+returns-2 c =
+    let a = c .before .before .args in
+    let l = c .before .loop in
+    run-ended isLineByte (a .text .now) (a .at) (l .i) (l .inv .1) (c .loop-test .left)
 
 pub line-end-spec : {M : Type 1} → statement M
 line-end-spec =

@@ -23,16 +23,33 @@ blank-requires : tie.Need-blank-requires Inv-loop μ-loop
 blank-requires c κs = search needs
 
 returns : tie.Need-returns Inv-loop μ-loop
-returns c = sym (skip-stopped (c .before .before .before .before .args .text .now) (c .before .before .loop .i) (sym (c .before .blank .ensures) ∙ c .if1 .taken)) ∙ c .before .before .loop .inv .1
+returns c =
+    let l = c .before .before .loop in
+    sym (skip-stopped (c .before .before .before .before .args .text .now) (l .i) (sym (c .before .blank .ensures) ∙ c .if1 .taken)) ∙ l .inv .1
 
 add-i : tie.Need-add-i Inv-loop μ-loop
-add-i c = omega (arith, c .before .blank .ensures, blank-inside (c .before .before .before .before .args .text .now) (c .before .before .loop .i) (c .before .before .loop .inv .0))
+add-i c =
+    let l = c .before .before .loop in
+    omega (arith, c .before .blank .ensures, blank-inside (c .before .before .before .before .args .text .now) (l .i) (l .inv .0))
 
 loop-less : tie.Need-loop-less Inv-loop μ-loop
-loop-less c = let h = c .if1 .left in omega (arith, c .before .blank .ensures, blank-inside (c .before .before .before .before .args .text .now) (c .before .before .loop .i) (c .before .before .loop .inv .0))
+loop-less c =
+    let l = c .before .before .loop in
+    let h = c .if1 .left in omega (
+      arith,
+      c .before .blank .ensures,
+      blank-inside (c .before .before .before .before .args .text .now) (l .i)
+          (l .inv .0),
+    )
 
 loop-again : tie.Need-loop-again Inv-loop μ-loop
-loop-again c = (omega (arith, c .before .blank .ensures, blank-inside (c .before .before .before .before .args .text .now) (c .before .before .loop .i) (c .before .before .loop .inv .0)), rw (c .before .blank .ensures) (sym (skip-more (c .before .before .before .before .args .text .now) (c .before .before .loop .i) (c .before .before .loop .inv .0) (λ e. c .if1 .left (c .before .blank .ensures ∙ e))) ∙ c .before .before .loop .inv .1))
+loop-again c =
+    let a = c .before .before .before .before .args in
+    let l = c .before .before .loop in (
+      omega (arith, c .before .blank .ensures, blank-inside (a .text .now) (l .i) (l .inv .0)),
+      rw (c .before .blank .ensures) (sym (skip-more
+          (a .text .now) (l .i) (l .inv .0) (λ e. c .if1 .left (c .before .blank .ensures ∙ e))) ∙ l .inv .1),
+    )
 
 pub skip-spec : {M : Type 1} → statement M
 skip-spec =

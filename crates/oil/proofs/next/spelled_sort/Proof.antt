@@ -25,7 +25,11 @@ same-requires-2 c κs = search needs
 
 returns-2 : tie.Need-returns-2
 unfolding spelledSort
-returns-2 c = simp (sym (same-result _ _ taskWord (c .before .before .before .before .same .ensures)) ∙ c .before .before .before .if1 .left, sym (same-result _ _ isrWord (c .before .same2 .ensures)) ∙ c .if2 .taken)
+returns-2 c = simp (
+  sym (same-result _ _ taskWord (c .before .before .before .before .same .ensures))
+      ∙ c .before .before .before .if1 .left,
+  sym (same-result _ _ isrWord (c .before .same2 .ensures)) ∙ c .if2 .taken,
+)
 
 slice-aggregate-same-3 : tie.Need-slice-aggregate-same-3
 slice-aggregate-same-3 c = search needs
@@ -35,7 +39,14 @@ same-requires-3 c κs = search needs
 
 returns-3 : tie.Need-returns-3
 unfolding spelledSort
-returns-3 c = simp (sym (same-result _ _ taskWord (c .before .before .before .before .before .before .before .same .ensures)) ∙ c .before .before .before .before .before .before .if1 .left, sym (same-result _ _ isrWord (c .before .before .before .before .same2 .ensures)) ∙ c .before .before .before .if2 .left, sym (same-result _ _ resourceWord (c .before .same3 .ensures)) ∙ c .if3 .taken)
+returns-3 c = simp (
+  sym (same-result _ _ taskWord (c .before .before .before .before .before .before .before .same .ensures))
+      ∙ c .before .before .before .before .before .before .if1 .left,
+  sym (same-result _ _ isrWord
+      (c .before .before .before .before .same2 .ensures)) ∙ c .before .before .before .if2 .left,
+  sym (same-result _ _ resourceWord
+      (c .before .same3 .ensures)) ∙ c .if3 .taken,
+)
 
 slice-aggregate-same-4 : tie.Need-slice-aggregate-same-4
 slice-aggregate-same-4 c = search needs
@@ -45,7 +56,18 @@ same-requires-4 c κs = search needs
 
 returns-4 : tie.Need-returns-4
 unfolding spelledSort
-returns-4 c = simp (sym (same-result _ _ taskWord (c .before .before .before .before .before .before .before .before .before .before .same .ensures)) ∙ c .before .before .before .before .before .before .before .before .before .if1 .left, sym (same-result _ _ isrWord (c .before .before .before .before .before .before .before .same2 .ensures)) ∙ c .before .before .before .before .before .before .if2 .left, sym (same-result _ _ resourceWord (c .before .before .before .before .same3 .ensures)) ∙ c .before .before .before .if3 .left, sym (same-result _ _ priorityWord (c .before .same4 .ensures)) ∙ c .if4 .taken)
+returns-4 c = simp (
+  sym (same-result _ _ taskWord
+      (c .before .before .before .before .before .before .before .before .before .before .same .ensures))
+      ∙ c .before .before .before .before .before .before .before .before .before .if1 .left,
+  sym (same-result _ _ isrWord
+      (c .before .before .before .before .before .before .before .same2 .ensures))
+      ∙ c .before .before .before .before .before .before .if2 .left,
+  sym (same-result _ _ resourceWord
+      (c .before .before .before .before .same3 .ensures)) ∙ c .before .before .before .if3 .left,
+  sym (same-result _ _ priorityWord
+      (c .before .same4 .ensures)) ∙ c .if4 .taken,
+)
 
 slice-aggregate-same-5 : tie.Need-slice-aggregate-same-5
 slice-aggregate-same-5 c = search needs
@@ -55,7 +77,21 @@ same-requires-5 c κs = search needs
 
 returns-5 : tie.Need-returns-5
 unfolding spelledSort
-returns-5 c = simp (sym (same-result _ _ taskWord (c .before .before .before .before .before .before .before .before .before .before .before .before .before .same .ensures)) ∙ c .before .before .before .before .before .before .before .before .before .before .before .before .if1 .left, sym (same-result _ _ isrWord (c .before .before .before .before .before .before .before .before .before .before .same2 .ensures)) ∙ c .before .before .before .before .before .before .before .before .before .if2 .left, sym (same-result _ _ resourceWord (c .before .before .before .before .before .before .before .same3 .ensures)) ∙ c .before .before .before .before .before .before .if3 .left, sym (same-result _ _ priorityWord (c .before .before .before .before .same4 .ensures)) ∙ c .before .before .before .if4 .left, sym (same-result _ _ autostartWord (c .before .same5 .ensures)) ∙ c .if5 .taken)
+returns-5 c = simp (
+  sym (same-result _ _ taskWord
+      (c .before .before .before .before .before .before .before .before .before .before .before .before .before .same .ensures))
+      ∙ c .before .before .before .before .before .before .before .before .before .before .before .before .if1 .left,
+  sym
+      (same-result _ _ isrWord (c .before .before .before .before .before .before .before .before .before .before .same2 .ensures))
+      ∙ c .before .before .before .before .before .before .before .before .before .if2 .left,
+  sym (same-result _ _ resourceWord
+      (c .before .before .before .before .before .before .before .same3 .ensures))
+      ∙ c .before .before .before .before .before .before .if3 .left,
+  sym (same-result _ _ priorityWord
+      (c .before .before .before .before .same4 .ensures)) ∙ c .before .before .before .if4 .left,
+  sym (same-result _ _ autostartWord
+      (c .before .same5 .ensures)) ∙ c .if5 .taken,
+)
 
 slice-aggregate-same-6 : tie.Need-slice-aggregate-same-6
 slice-aggregate-same-6 c = search needs
@@ -65,7 +101,15 @@ same-requires-6 c κs = search needs
 
 returns-6 : tie.Need-returns-6
 unfolding spelledSort
-returns-6 c = simp (sym (same-result _ _ taskWord (c .before .before .before .before .before .before .before .before .before .before .before .before .before .before .before .before .same .ensures)) ∙ c .before .before .before .before .before .before .before .before .before .before .before .before .before .before .before .if1 .left, sym (same-result _ _ isrWord (c .before .before .before .before .before .before .before .before .before .before .before .before .before .same2 .ensures)) ∙ c .before .before .before .before .before .before .before .before .before .before .before .before .if2 .left, sym (same-result _ _ resourceWord (c .before .before .before .before .before .before .before .before .before .before .same3 .ensures)) ∙ c .before .before .before .before .before .before .before .before .before .if3 .left, sym (same-result _ _ priorityWord (c .before .before .before .before .before .before .before .same4 .ensures)) ∙ c .before .before .before .before .before .before .if4 .left, sym (same-result _ _ autostartWord (c .before .before .before .before .same5 .ensures)) ∙ c .before .before .before .if5 .left, sym (same-result _ _ trueWord (c .before .same6 .ensures)) ∙ c .if6 .taken)
+returns-6 c = simp (
+  sym (same-result _ _ taskWord
+      (c .before .before .before .before .before .before .before .before .before .before .before .before .before .before .before .before .same .ensures)) ∙ c .before .before .before .before .before .before .before .before .before .before .before .before .before .before .before .if1 .left,
+  sym (same-result _ _ isrWord (c .before .before .before .before .before .before .before .before .before .before .before .before .before .same2 .ensures)) ∙ c .before .before .before .before .before .before .before .before .before .before .before .before .if2 .left,
+  sym (same-result _ _ resourceWord (c .before .before .before .before .before .before .before .before .before .before .same3 .ensures)) ∙ c .before .before .before .before .before .before .before .before .before .if3 .left,
+  sym (same-result _ _ priorityWord (c .before .before .before .before .before .before .before .same4 .ensures)) ∙ c .before .before .before .before .before .before .if4 .left,
+  sym (same-result _ _ autostartWord (c .before .before .before .before .same5 .ensures)) ∙ c .before .before .before .if5 .left,
+  sym (same-result _ _ trueWord (c .before .same6 .ensures)) ∙ c .if6 .taken,
+)
 
 slice-aggregate-same-7 : tie.Need-slice-aggregate-same-7
 slice-aggregate-same-7 c = search needs
@@ -75,11 +119,29 @@ same-requires-7 c κs = search needs
 
 returns-7 : tie.Need-returns-7
 unfolding spelledSort
-returns-7 c = simp (sym (same-result _ _ taskWord (c .before .before .before .before .before .before .before .before .before .before .before .before .before .before .before .before .before .before .before .same .ensures)) ∙ c .before .before .before .before .before .before .before .before .before .before .before .before .before .before .before .before .before .before .if1 .left, sym (same-result _ _ isrWord (c .before .before .before .before .before .before .before .before .before .before .before .before .before .before .before .before .same2 .ensures)) ∙ c .before .before .before .before .before .before .before .before .before .before .before .before .before .before .before .if2 .left, sym (same-result _ _ resourceWord (c .before .before .before .before .before .before .before .before .before .before .before .before .before .same3 .ensures)) ∙ c .before .before .before .before .before .before .before .before .before .before .before .before .if3 .left, sym (same-result _ _ priorityWord (c .before .before .before .before .before .before .before .before .before .before .same4 .ensures)) ∙ c .before .before .before .before .before .before .before .before .before .if4 .left, sym (same-result _ _ autostartWord (c .before .before .before .before .before .before .before .same5 .ensures)) ∙ c .before .before .before .before .before .before .if5 .left, sym (same-result _ _ trueWord (c .before .before .before .before .same6 .ensures)) ∙ c .before .before .before .if6 .left, sym (same-result _ _ falseWord (c .before .same7 .ensures)) ∙ c .if7 .taken)
+returns-7 c = simp (
+  sym (same-result _ _ taskWord
+      (c .before .before .before .before .before .before .before .before .before .before .before .before .before .before .before .before .before .before .before .same .ensures)) ∙ c .before .before .before .before .before .before .before .before .before .before .before .before .before .before .before .before .before .before .if1 .left,
+  sym (same-result _ _ isrWord (c .before .before .before .before .before .before .before .before .before .before .before .before .before .before .before .before .same2 .ensures)) ∙ c .before .before .before .before .before .before .before .before .before .before .before .before .before .before .before .if2 .left,
+  sym (same-result _ _ resourceWord (c .before .before .before .before .before .before .before .before .before .before .before .before .before .same3 .ensures)) ∙ c .before .before .before .before .before .before .before .before .before .before .before .before .if3 .left,
+  sym (same-result _ _ priorityWord (c .before .before .before .before .before .before .before .before .before .before .same4 .ensures)) ∙ c .before .before .before .before .before .before .before .before .before .if4 .left,
+  sym (same-result _ _ autostartWord (c .before .before .before .before .before .before .before .same5 .ensures)) ∙ c .before .before .before .before .before .before .if5 .left,
+  sym (same-result _ _ trueWord (c .before .before .before .before .same6 .ensures)) ∙ c .before .before .before .if6 .left,
+  sym (same-result _ _ falseWord (c .before .same7 .ensures)) ∙ c .if7 .taken,
+)
 
 returns-8 : tie.Need-returns-8
 unfolding spelledSort
-returns-8 c = simp (sym (same-result _ _ taskWord (c .before .before .before .before .before .before .before .before .before .before .before .before .before .before .before .before .before .before .before .same .ensures)) ∙ c .before .before .before .before .before .before .before .before .before .before .before .before .before .before .before .before .before .before .if1 .left, sym (same-result _ _ isrWord (c .before .before .before .before .before .before .before .before .before .before .before .before .before .before .before .before .same2 .ensures)) ∙ c .before .before .before .before .before .before .before .before .before .before .before .before .before .before .before .if2 .left, sym (same-result _ _ resourceWord (c .before .before .before .before .before .before .before .before .before .before .before .before .before .same3 .ensures)) ∙ c .before .before .before .before .before .before .before .before .before .before .before .before .if3 .left, sym (same-result _ _ priorityWord (c .before .before .before .before .before .before .before .before .before .before .same4 .ensures)) ∙ c .before .before .before .before .before .before .before .before .before .if4 .left, sym (same-result _ _ autostartWord (c .before .before .before .before .before .before .before .same5 .ensures)) ∙ c .before .before .before .before .before .before .if5 .left, sym (same-result _ _ trueWord (c .before .before .before .before .same6 .ensures)) ∙ c .before .before .before .if6 .left, sym (same-result _ _ falseWord (c .before .same7 .ensures)) ∙ c .if7 .left)
+returns-8 c = simp (
+  sym (same-result _ _ taskWord
+      (c .before .before .before .before .before .before .before .before .before .before .before .before .before .before .before .before .before .before .before .same .ensures)) ∙ c .before .before .before .before .before .before .before .before .before .before .before .before .before .before .before .before .before .before .if1 .left,
+  sym (same-result _ _ isrWord (c .before .before .before .before .before .before .before .before .before .before .before .before .before .before .before .before .same2 .ensures)) ∙ c .before .before .before .before .before .before .before .before .before .before .before .before .before .before .before .if2 .left,
+  sym (same-result _ _ resourceWord (c .before .before .before .before .before .before .before .before .before .before .before .before .before .same3 .ensures)) ∙ c .before .before .before .before .before .before .before .before .before .before .before .before .if3 .left,
+  sym (same-result _ _ priorityWord (c .before .before .before .before .before .before .before .before .before .before .same4 .ensures)) ∙ c .before .before .before .before .before .before .before .before .before .if4 .left,
+  sym (same-result _ _ autostartWord (c .before .before .before .before .before .before .before .same5 .ensures)) ∙ c .before .before .before .before .before .before .if5 .left,
+  sym (same-result _ _ trueWord (c .before .before .before .before .same6 .ensures)) ∙ c .before .before .before .if6 .left,
+  sym (same-result _ _ falseWord (c .before .same7 .ensures)) ∙ c .if7 .left,
+)
 
 pub spelled-sort-spec : {M : Type 1} → statement M
 spelled-sort-spec =

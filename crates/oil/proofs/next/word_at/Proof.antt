@@ -32,13 +32,19 @@ part-spelled-sort-start : tie.Need-part-spelled-sort-start
 part-spelled-sort-start c = search needs
 
 part-spelled-sort-end : tie.Need-part-spelled-sort-end
-part-spelled-sort-end c = omega (arith, c .name-end .ensures, run-inside isNameByte (c .before .before .before .before .before .before .args .text .now) (c .before .before .before .before .before .before .args .at + 1) (omega arith))
+part-spelled-sort-end c =
+    let a = c .before .before .before .before .before .before .args in
+    omega (arith, c .name-end .ensures, run-inside isNameByte (a .text .now) (a .at + 1) (omega arith))
 
 spelled-sort-requires : tie.Need-spelled-sort-requires
 spelled-sort-requires c κs = search needs
 
 returns-2 : tie.Need-returns-2
-returns-2 c = word-letters (c .before .before .before .before .before .before .before .before .args .text .now) (c .before .before .before .before .before .before .before .before .args .at) (omega arith) (sym (c .before .before .before .before .is-letter .ensures) ∙ c .before .before .before .if2 .taken) (c .before .before .name-end .result) (c .before .before .name-end .ensures) (c .spelled-sort .result) (c .spelled-sort .ensures)
+returns-2 c =
+    let a = c .before .before .before .before .before .before .before .before .args in
+    word-letters (a .text .now) (a .at) (omega arith) (sym (c .before .before .before .before .is-letter .ensures)
+    ∙ c .before .before .before .if2 .taken) (c .before .before .name-end .result) (c .before .before .name-end .ensures)
+    (c .spelled-sort .result) (c .spelled-sort .ensures)
 
 is-digit-requires : tie.Need-is-digit-requires
 is-digit-requires c κs = search needs
@@ -50,7 +56,11 @@ number-end-requires : tie.Need-number-end-requires
 number-end-requires c κs = search needs
 
 returns-3 : tie.Need-returns-3
-returns-3 c = word-digits (c .before .before .before .before .before .before .before .before .args .text .now) (c .before .before .before .before .before .before .before .before .args .at) (omega arith) (sym (c .before .before .before .before .is-letter .ensures) ∙ c .before .before .before .if2 .left) (sym (c .before .before .is-digit .ensures) ∙ c .before .if3 .taken) (c .number-end .result) (c .number-end .ensures)
+returns-3 c =
+    let a = c .before .before .before .before .before .before .before .before .args in
+    word-digits (a .text .now) (a .at) (omega arith) (sym (c .before .before .before .before .is-letter .ensures)
+    ∙ c .before .before .before .if2 .left) (sym (c .before .before .is-digit .ensures) ∙ c .before .if3 .taken) (c .number-end .result)
+    (c .number-end .ensures)
 
 sign-requires : tie.Need-sign-requires
 sign-requires c κs = search needs
@@ -59,7 +69,11 @@ sign-at-requires : tie.Need-sign-at-requires
 sign-at-requires c κs = search needs
 
 returns-4 : tie.Need-returns-4
-returns-4 c = word-sign (c .before .before .before .before .before .before .before .before .before .args .text .now) (c .before .before .before .before .before .before .before .before .before .args .at) (omega arith) (sym (c .before .before .before .before .before .is-letter .ensures) ∙ c .before .before .before .before .if2 .left) (sym (c .before .before .before .is-digit .ensures) ∙ c .before .before .if3 .left) (c .before .sign .result) (c .before .sign .ensures) (c .sign-at .result) (c .sign-at .ensures)
+returns-4 c =
+    let a = c .before .before .before .before .before .before .before .before .before .args in
+    word-sign (a .text .now) (a .at) (omega arith) (sym (c .before .before .before .before .before .is-letter .ensures)
+    ∙ c .before .before .before .before .if2 .left) (sym (c .before .before .before .is-digit .ensures) ∙ c .before .before .if3 .left)
+    (c .before .sign .result) (c .before .sign .ensures) (c .sign-at .result) (c .sign-at .ensures)
 
 pub word-at-spec : {M : Type 1} → statement M
 word-at-spec =

@@ -32,10 +32,23 @@ loop-less : tie.Need-loop-less Inv-loop μ-loop
 loop-less c = search needs
 
 loop-again : tie.Need-loop-again Inv-loop μ-loop
-loop-again c = (omega arith, (rw (c .column-after .ensures) (column-le (getD (c .before .before .before .before .before .args .text .now) (c .before .before .before .loop .i) 0) (c .before .before .before .loop .column) (c .before .before .before .loop .i) (c .before .before .before .loop .inv .1 .0)), rw (c .column-after .ensures) (sym (column-step (c .before .before .before .before .before .args .text .now) (c .before .before .before .before .before .args .at) (c .before .before .before .before .before .pre) (c .before .before .before .loop .column) (c .before .before .before .loop .i) (c .before .before .loop-test .taken)) ∙ c .before .before .before .loop .inv .1 .1)))
+loop-again c =
+    let a = c .before .before .before .before .before .args in
+    let l = c .before .before .before .loop in (
+      omega arith,
+      (
+        rw (c .column-after .ensures) (column-le (getD (a .text .now) (l .i) 0) (l .column) (l .i) (l .inv .1 .0)),
+        rw
+            (c .column-after .ensures) (sym (column-step (a .text .now) (a .at) (c .before .before .before .before .before .pre) (l .column)
+            (l .i) (c .before .before .loop-test .taken)) ∙ l .inv .1 .1),
+      ),
+    )
 
 returns : tie.Need-returns Inv-loop μ-loop
-returns c = sym (column-end (c .before .before .before .args .text .now) (c .before .before .before .args .at) (c .before .before .before .pre) (c .before .loop .column) (c .before .loop .i) (c .loop-test .left)) ∙ c .before .loop .inv .1 .1
+returns c =
+    let a = c .before .before .before .args in
+    let l = c .before .loop in
+    sym (column-end (a .text .now) (a .at) (c .before .before .before .pre) (l .column) (l .i) (c .loop-test .left)) ∙ l .inv .1 .1
 
 pub column-of-spec : {M : Type 1} → statement M
 column-of-spec =

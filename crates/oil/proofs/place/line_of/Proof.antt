@@ -32,10 +32,23 @@ loop-less : tie.Need-loop-less Inv-loop μ-loop
 loop-less c = search needs
 
 loop-again : tie.Need-loop-again Inv-loop μ-loop
-loop-again c = (omega arith, (rw (c .line-after .ensures) (line-le (getD (c .before .before .before .before .before .args .text .now) (c .before .before .before .loop .i) 0) (c .before .before .before .loop .line) (c .before .before .before .loop .i) (c .before .before .before .loop .inv .1 .0)), rw (c .line-after .ensures) (sym (line-step (c .before .before .before .before .before .args .text .now) (c .before .before .before .before .before .args .at) (c .before .before .before .before .before .pre) (c .before .before .before .loop .line) (c .before .before .before .loop .i) (c .before .before .loop-test .taken)) ∙ c .before .before .before .loop .inv .1 .1)))
+loop-again c =
+    let a = c .before .before .before .before .before .args in
+    let l = c .before .before .before .loop in (
+      omega arith,
+      (
+        rw (c .line-after .ensures) (line-le (getD (a .text .now) (l .i) 0) (l .line) (l .i) (l .inv .1 .0)),
+        rw
+            (c .line-after .ensures) (sym (line-step (a .text .now) (a .at) (c .before .before .before .before .before .pre) (l .line) (l .i)
+            (c .before .before .loop-test .taken)) ∙ l .inv .1 .1),
+      ),
+    )
 
 returns : tie.Need-returns Inv-loop μ-loop
-returns c = sym (line-end (c .before .before .before .args .text .now) (c .before .before .before .args .at) (c .before .before .before .pre) (c .before .loop .line) (c .before .loop .i) (c .loop-test .left)) ∙ c .before .loop .inv .1 .1
+returns c =
+    let a = c .before .before .before .args in
+    let l = c .before .loop in
+    sym (line-end (a .text .now) (a .at) (c .before .before .before .pre) (l .line) (l .i) (c .loop-test .left)) ∙ l .inv .1 .1
 
 pub line-of-spec : {M : Type 1} → statement M
 line-of-spec =

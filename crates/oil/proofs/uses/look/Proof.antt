@@ -20,18 +20,47 @@ search-requires c κs = search needs
 
 returns-2 : tie.Need-returns-2
 unfolding unborneAt
-returns-2 c = (c .before .before .before .before .before .before .pre .0, rw (sym (c .before .before .before .before .uses-resource .ensures) ∙ not-false _ (c .before .before .before .if1 .left), sym (c .before .before .search .ensures) ∙ not-true _ (c .if2 .taken)))
+returns-2 c = (
+  c .before .before .before .before .before .before .pre .0,
+  rw (
+    sym (c .before .before .before .before .uses-resource .ensures)
+        ∙ not-false _ (c .before .before .before .if1 .left),
+    sym (c .before .before .search .ensures) ∙ not-true _ (c .if2 .taken),
+  ),
+)
 
 returns-3 : tie.Need-returns-3
 unfolding unborneAt
-returns-3 c = (c .before .before .before .before .before .before .before .pre .0, rw (sym (c .before .before .before .before .before .uses-resource .ensures) ∙ not-false _ (c .before .before .before .before .if1 .left), sym (c .before .before .before .search .ensures) ∙ not-false _ (c .before .if2 .left)))
+returns-3 c = (
+  c .before .before .before .before .before .before .before .pre .0,
+  rw (
+    sym
+        (c .before .before .before .before .before .uses-resource .ensures) ∙ not-false _ (c .before .before .before .before .if1 .left),
+    sym
+        (c .before .before .before .search .ensures) ∙ not-false _ (c .before .if2 .left),
+  ),
+)
 
 keep-requires : tie.Need-keep-requires
 keep-requires c κs = search needs
 
 returns-4 : tie.Need-returns-4
 unfolding unborneAt
-returns-4 c = (rw (c .keep .ensures) (kept-sound (c .before .before .before .before .before .before .before .before .args .text .now) (c .before .before .before .before .before .before .before .before .args .words) (c .before .before .before .before .before .before .before .before .args .k) (c .before .before .before .before .before .before .before .before .pre .0) (c .before .before .before .before .before .before .before .before .args .w .start) (c .before .before .before .before .before .before .before .before .args .w .end) (c .before .before .before .before .before .before .before .before .pre .1 .0) (c .before .before .before .before .before .before .before .before .pre .1 .1) (sym (c .before .before .before .before .search .ensures) ∙ not-false _ (c .before .before .if2 .left))), rw (sym (c .before .before .before .before .before .before .uses-resource .ensures) ∙ not-false _ (c .before .before .before .before .before .if1 .left), sym (c .before .before .before .before .search .ensures) ∙ not-false _ (c .before .before .if2 .left)))
+returns-4 c =
+    let a = c .before .before .before .before .before .before .before .before .args in (
+      rw (c .keep .ensures) (kept-sound (a .text .now) (a .words) (a .k)
+          (c .before .before .before .before .before .before .before .before .pre .0) (a .w .start) (a .w .end)
+          (c .before .before .before .before .before .before .before .before .pre .1 .0)
+          (c .before .before .before .before .before .before .before .before .pre .1 .1) (sym
+          (c .before .before .before .before .search .ensures) ∙ not-false _ (c .before .before .if2 .left))),
+      rw (
+        sym
+            (c .before .before .before .before .before .before .uses-resource .ensures) ∙ not-false _
+            (c .before .before .before .before .before .if1 .left),
+        sym (c .before .before .before .before .search .ensures) ∙ not-false _
+            (c .before .before .if2 .left),
+      ),
+    )
 
 pub look-spec : {M : Type 1} → statement M
 look-spec =

@@ -33,10 +33,16 @@ sub-same : tie.Need-sub-same Inv-loop μ-loop
 sub-same c = let f = c .before .before .before .before .before .pre .0 .forward (c .before .loop .i) (c .loop-test .taken) in search needs
 
 part-same-start : tie.Need-part-same-start Inv-loop μ-loop
-part-same-start c = let f = c .before .before .before .before .before .pre .0 .forward (c .before .loop .i) (c .loop-test .taken) in let g = c .before .before .before .before .before .pre .0 .inside (c .before .loop .i) (c .loop-test .taken) in omega arith
+part-same-start c =
+    let l = c .before .loop in
+    let f = c .before .before .before .before .before .pre .0 .forward (l .i)
+    (c .loop-test .taken) in let g = c .before .before .before .before .before .pre .0 .inside (l .i) (c .loop-test .taken) in omega arith
 
 part-same-end : tie.Need-part-same-end Inv-loop μ-loop
-part-same-end c = let f = c .before .before .before .before .before .pre .0 .forward (c .before .loop .i) (c .loop-test .taken) in let g = c .before .before .before .before .before .pre .0 .inside (c .before .loop .i) (c .loop-test .taken) in omega arith
+part-same-end c =
+    let l = c .before .loop in
+    let f = c .before .before .before .before .before .pre .0 .forward (l .i)
+    (c .loop-test .taken) in let g = c .before .before .before .before .before .pre .0 .inside (l .i) (c .loop-test .taken) in omega arith
 
 sub-same-2 : tie.Need-sub-same-2 Inv-loop μ-loop
 sub-same-2 c = search needs
@@ -51,7 +57,11 @@ same-requires : tie.Need-same-requires Inv-loop μ-loop
 same-requires c κs = search needs
 
 returns : tie.Need-returns Inv-loop μ-loop
-returns c = kept-borne (c .before .before .before .before .before .before .before .before .before .args .text .now) (c .before .before .before .before .before .before .before .before .before .args .words) (c .before .before .before .before .before .before .before .before .before .args .k) (c .before .before .before .before .before .before .before .before .before .pre .0) (c .before .before .before .before .before .loop .i) (c .before .before .before .before .loop-test .taken) (take (c .before .before .before .before .before .before .before .before .before .args .end - c .before .before .before .before .before .before .before .before .before .args .start) (drop (c .before .before .before .before .before .before .before .before .before .args .start) (c .before .before .before .before .before .before .before .before .before .args .text .now))) (c .before .same .ensures .0 (c .if1 .taken))
+returns c =
+    let a = c .before .before .before .before .before .before .before .before .before .args in
+    kept-borne (a .text .now) (a .words) (a .k) (c .before .before .before .before .before .before .before .before .before .pre .0)
+    (c .before .before .before .before .before .loop .i) (c .before .before .before .before .loop-test .taken) (take (a .end - a .start)
+    (drop (a .start) (a .text .now))) (c .before .same .ensures .0 (c .if1 .taken))
 
 add-i : tie.Need-add-i Inv-loop μ-loop
 add-i c = search needs

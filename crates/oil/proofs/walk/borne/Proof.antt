@@ -13,7 +13,8 @@ use Rattle.oil.proofs.walk.borne.Statement.{statement}
 use Rattle.oil.proofs.walk.borne.Tie as tie
 
 abbrev Inv-loop : tie.InvT-loop
-Inv-loop text count resource start end s₀ at₀ i₀ s at i = (at ≤ length text) × (borne (count - i) text at s resource (take (end - start) (drop start text)) ≡ borne count text 0 fresh resource (take (end - start) (drop start text)))
+Inv-loop text count resource start end s₀ at₀ i₀ s at i = (at ≤ length text) × (borne (count - i) text at s resource (take (end - start)
+    (drop start text)) ≡ borne count text 0 fresh resource (take (end - start) (drop start text)))
 
 abbrev μ-loop : tie.MeasureT-loop
 μ-loop text count resource start end s₀ at₀ i₀ s at i = count - i
@@ -28,10 +29,21 @@ next-word-requires : tie.Need-next-word-requires Inv-loop μ-loop
 next-word-requires c κs = search needs
 
 borne-here-requires : tie.Need-borne-here-requires Inv-loop μ-loop
-borne-here-requires c κs = (word-inside (c .before .before .before .before .before .args .text .now) (c .before .before .loop .at) (c .before .before .loop .inv .0) (c .next-word .result) (c .next-word .ensures), c .before .before .before .before .before .pre)
+borne-here-requires c κs =
+    let l = c .before .before .loop in
+    let w = c .next-word in (
+      word-inside (c .before .before .before .before .before .args .text .now) (l .at) (l .inv .0) (w .result)
+          (w .ensures),
+      c .before .before .before .before .before .pre,
+    )
 
 returns : tie.Need-returns Inv-loop μ-loop
-returns c = borne-found (c .before .before .before .before .before .before .before .args .text .now) (c .before .before .before .before .before .before .before .args .count) (c .before .before .before .before .loop .i) (c .before .before .before .before .loop .at) (c .before .before .before .before .loop .s) (c .before .before .before .before .before .before .before .args .resource) (take (c .before .before .before .before .before .before .before .args .end - c .before .before .before .before .before .before .before .args .start) (drop (c .before .before .before .before .before .before .before .args .start) (c .before .before .before .before .before .before .before .args .text .now))) (c .before .before .next-word .result) (c .before .before .next-word .ensures) (c .before .before .before .loop-test .taken) (sym (c .before .borne-here .ensures) ∙ c .if1 .taken) ∙ c .before .before .before .before .loop .inv .1
+returns c =
+    let a = c .before .before .before .before .before .before .before .args in
+    let l = c .before .before .before .before .loop in
+    let w = c .before .before .next-word in
+    borne-found (a .text .now) (a .count) (l .i) (l .at) (l .s) (a .resource) (take (a .end - a .start) (drop (a .start) (a .text .now)))
+    (w .result) (w .ensures) (c .before .before .before .loop-test .taken) (sym (c .before .borne-here .ensures) ∙ c .if1 .taken) ∙ l .inv .1
 
 after-requires : tie.Need-after-requires Inv-loop μ-loop
 after-requires c κs = search needs
@@ -43,10 +55,23 @@ loop-less : tie.Need-loop-less Inv-loop μ-loop
 loop-less c = search needs
 
 loop-again : tie.Need-loop-again Inv-loop μ-loop
-loop-again c = (word-inside (c .before .before .before .before .before .before .before .before .args .text .now) (c .before .before .before .before .before .loop .at) (c .before .before .before .before .before .loop .inv .0) (c .before .before .before .next-word .result) (c .before .before .before .next-word .ensures) .1, borne-turn (c .before .before .before .before .before .before .before .before .args .text .now) (c .before .before .before .before .before .before .before .before .args .count) (c .before .before .before .before .before .loop .i) (c .before .before .before .before .before .loop .at) (c .before .before .before .before .before .loop .s) (c .before .before .before .before .before .before .before .before .args .resource) (take (c .before .before .before .before .before .before .before .before .args .end - c .before .before .before .before .before .before .before .before .args .start) (drop (c .before .before .before .before .before .before .before .before .args .start) (c .before .before .before .before .before .before .before .before .args .text .now))) (c .before .before .before .next-word .result) (c .before .before .before .next-word .ensures) (c .before .before .before .before .loop-test .taken) (sym (c .before .before .borne-here .ensures) ∙ c .before .if1 .left) (c .after .result) (c .after .ensures) ∙ c .before .before .before .before .before .loop .inv .1)
+loop-again c =
+    let a = c .before .before .before .before .before .before .before .before .args in
+    let l = c .before .before .before .before .before .loop in
+    let w = c .before .before .before .next-word in (
+      word-inside (a .text .now) (l .at) (l .inv .0) (w .result) (w .ensures) .1,
+      borne-turn (a .text .now) (a .count) (l .i) (l .at) (l .s)
+          (a .resource) (take (a .end - a .start) (drop (a .start) (a .text .now))) (w .result) (w .ensures)
+          (c .before .before .before .before .loop-test .taken) (sym (c .before .before .borne-here .ensures) ∙ c .before .if1 .left)
+          (c .after .result) (c .after .ensures) ∙ l .inv .1,
+    )
 
 returns-2 : tie.Need-returns-2 Inv-loop μ-loop
-returns-2 c = borne-done (c .before .before .before .before .args .text .now) (c .before .before .before .before .args .count) (c .before .loop .i) (c .before .loop .at) (c .before .loop .s) (c .before .before .before .before .args .resource) (take (c .before .before .before .before .args .end - c .before .before .before .before .args .start) (drop (c .before .before .before .before .args .start) (c .before .before .before .before .args .text .now))) (c .loop-test .left) ∙ c .before .loop .inv .1
+returns-2 c =
+    let a = c .before .before .before .before .args in
+    let l = c .before .loop in
+    borne-done (a .text .now) (a .count) (l .i) (l .at) (l .s) (a .resource) (take (a .end - a .start) (drop (a .start) (a .text .now)))
+    (c .loop-test .left) ∙ l .inv .1
 
 pub borne-spec : {M : Type 1} → statement M
 borne-spec =

@@ -38,7 +38,11 @@ same-requires : tie.Need-same-requires
 same-requires c κs = search needs
 
 returns-2 : tie.Need-returns-2
-returns-2 c = rw (sym (c .before .before .before .before .bears .ensures) ∙ not-false _ (c .before .before .before .if1 .left)) (same-result (c .same .result) (spelling (c .before .before .before .before .before .before .args .text .now) (c .before .before .before .before .before .before .args .w)) (take (c .before .before .before .before .before .before .args .end - c .before .before .before .before .before .before .args .start) (drop (c .before .before .before .before .before .before .args .start) (c .before .before .before .before .before .before .args .text .now))) (c .same .ensures))
+returns-2 c =
+    let a = c .before .before .before .before .before .before .args in
+    let m = c .same in
+    rw (sym (c .before .before .before .before .bears .ensures) ∙ not-false _ (c .before .before .before .if1 .left)) (same-result (m .result)
+    (spelling (a .text .now) (a .w)) (take (a .end - a .start) (drop (a .start) (a .text .now))) (m .ensures))
 
 pub borne-here-spec : {M : Type 1} → statement M
 borne-here-spec =

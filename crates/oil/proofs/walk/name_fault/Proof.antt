@@ -19,11 +19,19 @@ borne-requires c κs = search needs
 
 returns-2 : tie.Need-returns-2
 unfolding nameFault
-returns-2 c = rw (sym (c .before .before .before .names-object .ensures) ∙ not-false _ (c .before .before .if1 .left), sym (c .before .borne .ensures) ∙ c .if2 .taken)
+returns-2 c = rw (
+  sym (c .before .before .before .names-object .ensures) ∙ not-false _ (c .before .before .if1 .left),
+  sym
+      (c .before .borne .ensures) ∙ c .if2 .taken,
+)
 
 returns-3 : tie.Need-returns-3
 unfolding nameFault
-returns-3 c = rw (sym (c .before .before .before .names-object .ensures) ∙ not-false _ (c .before .before .if1 .left), sym (c .before .borne .ensures) ∙ c .if2 .left)
+returns-3 c = rw (
+  sym (c .before .before .before .names-object .ensures) ∙ not-false _ (c .before .before .if1 .left),
+  sym
+      (c .before .borne .ensures) ∙ c .if2 .left,
+)
 
 pub name-fault-spec : {M : Type 1} → statement M
 name-fault-spec =

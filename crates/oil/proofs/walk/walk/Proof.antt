@@ -25,28 +25,58 @@ next-word-requires : tie.Need-next-word-requires Inv-loop μ-loop
 next-word-requires c κs = c .loop .inv .inside
 
 fault-in-requires : tie.Need-fault-in-requires Inv-loop μ-loop
-fault-in-requires c κs = word-inside (c .before .before .before .before .args .text .now) (c .before .loop .at) (c .before .loop .inv .inside) (c .next-word .result) (c .next-word .ensures)
+fault-in-requires c κs =
+    let l = c .before .loop in
+    let w = c .next-word in
+    word-inside (c .before .before .before .before .args .text .now) (l .at) (l .inv .inside) (w .result) (w .ensures)
 
 refused-at-requires : tie.Need-refused-at-requires Inv-loop μ-loop
 refused-at-requires c κs = search needs
 
 returns : tie.Need-returns Inv-loop μ-loop
-returns c = c .refused-at .ensures ∙ walk-refused (c .before .before .before .before .before .before .before .args .text .now) (c .before .before .before .before .loop .at) (c .before .before .before .before .loop .s) (c .before .before .before .before .loop .words) (c .before .before .before .before .loop .inv) (c .before .before .before .next-word .result) (c .before .before .before .next-word .ensures) (c .before .before .fault-in .result) (c .before .before .fault-in .ensures) (c .before .if1 .taken)
+returns c =
+    let l = c .before .before .before .before .loop in
+    let w = c .before .before .before .next-word in
+    let f = c .before .before .fault-in in
+    c .refused-at .ensures ∙ walk-refused (c .before .before .before .before .before .before .before .args .text .now) (l .at) (l .s)
+    (l .words) (l .inv) (w .result) (w .ensures) (f .result) (f .ensures) (c .before .if1 .taken)
 
 returns-2 : tie.Need-returns-2 Inv-loop μ-loop
-returns-2 c = walk-ended (c .before .before .before .before .before .before .before .before .args .text .now) (c .before .before .before .before .before .loop .at) (c .before .before .before .before .before .loop .s) (c .before .before .before .before .before .loop .words) (c .before .before .before .before .before .loop .inv) (c .before .before .before .before .next-word .result) (c .before .before .before .before .next-word .ensures) (c .before .before .before .fault-in .result) (c .before .before .before .fault-in .ensures) (c .before .before .if1 .left) (c .if2 .taken)
+returns-2 c =
+    let l = c .before .before .before .before .before .loop in
+    let w = c .before .before .before .before .next-word in
+    let f = c .before .before .before .fault-in in
+    walk-ended (c .before .before .before .before .before .before .before .before .args .text .now) (l .at) (l .s) (l .words) (l .inv)
+    (w .result) (w .ensures) (f .result) (f .ensures) (c .before .before .if1 .left) (c .if2 .taken)
 
 after-requires : tie.Need-after-requires Inv-loop μ-loop
 after-requires c κs = search needs
 
 add-words : tie.Need-add-words Inv-loop μ-loop
-add-words c = let f = walk-further (c .before .before .before .before .before .before .before .before .before .args .text .now) (c .before .before .before .before .before .before .loop .at) (c .before .before .before .before .before .before .loop .s) (c .before .before .before .before .before .before .loop .words) (c .before .before .before .before .before .before .loop .inv) (c .before .before .before .before .before .next-word .result) (c .before .before .before .before .before .next-word .ensures) (c .before .before .before .before .fault-in .result) (c .before .before .before .before .fault-in .ensures) (c .before .before .before .if1 .left) (c .before .if2 .left) in omega (arith, c .before .before .before .before .before .before .loop .inv .few)
+add-words c =
+    let l = c .before .before .before .before .before .before .loop in
+    let w = c .before .before .before .before .before .next-word in
+    let f = walk-further (c .before .before .before .before .before .before .before .before .before .args .text .now) (l .at) (l .s)
+    (l .words) (l .inv) (w .result) (w .ensures) (c .before .before .before .before .fault-in .result)
+    (c .before .before .before .before .fault-in .ensures) (c .before .before .before .if1 .left) (c .before .if2 .left) in omega
+    (arith, l .inv .few)
 
 loop-less : tie.Need-loop-less Inv-loop μ-loop
-loop-less c = let f = walk-further (c .before .before .before .before .before .before .before .before .before .args .text .now) (c .before .before .before .before .before .before .loop .at) (c .before .before .before .before .before .before .loop .s) (c .before .before .before .before .before .before .loop .words) (c .before .before .before .before .before .before .loop .inv) (c .before .before .before .before .before .next-word .result) (c .before .before .before .before .before .next-word .ensures) (c .before .before .before .before .fault-in .result) (c .before .before .before .before .fault-in .ensures) (c .before .before .before .if1 .left) (c .before .if2 .left) in omega arith
+loop-less c =
+    let l = c .before .before .before .before .before .before .loop in
+    let w = c .before .before .before .before .before .next-word in
+    let f = walk-further (c .before .before .before .before .before .before .before .before .before .args .text .now) (l .at) (l .s)
+    (l .words) (l .inv) (w .result) (w .ensures) (c .before .before .before .before .fault-in .result)
+    (c .before .before .before .before .fault-in .ensures) (c .before .before .before .if1 .left) (c .before .if2 .left) in omega arith
 
 loop-again : tie.Need-loop-again Inv-loop μ-loop
-loop-again c = walk-next (c .before .before .before .before .before .before .before .before .before .args .text .now) (c .before .before .before .before .before .before .loop .at) (c .before .before .before .before .before .before .loop .s) (c .before .before .before .before .before .before .loop .words) (c .before .before .before .before .before .before .loop .inv) (c .before .before .before .before .before .next-word .result) (c .before .before .before .before .before .next-word .ensures) (c .before .before .before .before .fault-in .result) (c .before .before .before .before .fault-in .ensures) (c .before .before .before .if1 .left) (c .before .if2 .left) (c .after .result) (c .after .ensures)
+loop-again c =
+    let l = c .before .before .before .before .before .before .loop in
+    let w = c .before .before .before .before .before .next-word in
+    let f = c .before .before .before .before .fault-in in
+    walk-next (c .before .before .before .before .before .before .before .before .before .args .text .now) (l .at) (l .s) (l .words) (l .inv)
+    (w .result) (w .ensures) (f .result) (f .ensures) (c .before .before .before .if1 .left) (c .before .if2 .left) (c .after .result)
+    (c .after .ensures)
 
 pub walk-spec : {M : Type 1} → statement M
 walk-spec =
