@@ -44,7 +44,7 @@ MANY = bytes([1, 1, 0, 1, 1, 0, 5]) + 5 * (bytes([16, 16]) + bytes(b for offset 
 
 REFUSED = [
     (b"", b"", 1, 0),
-    (b"\x81\x00", b"", 2, 0),
+    (b"\x81\x00", b"", 2, 1),
     (config_with(0, 2), b"", 3, 0),
     (config_with(1, 33), b"", 4, 1),
     (config_with(2, 2), b"", 5, 2),
@@ -55,7 +55,7 @@ REFUSED = [
     (4097 * b"\x01", b"", 10, 0),
     (CONFIG, 8193 * b"\x06", 20, 0),
     (CONFIG, b"\x06\x01", 21, 2),
-    (CONFIG, b"\x06\x01\x80\x00", 22, 2),
+    (CONFIG, b"\x06\x01\x80\x00", 22, 3),
     (CONFIG, b"\x06\x0a", 23, 1),
 ]
 

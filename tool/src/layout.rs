@@ -1,7 +1,7 @@
 //! Which number of a configuration or a trace means what, and where it stands. Nothing is judged here: counts and
 //! fields are taken as they are, as far as numbers can be read. Whether they are accepted is for the library to say.
 
-use osek_tests::fast::{read_number, NumberFault};
+use osek_tests::fast::{read_number, CUT};
 
 use crate::words::{self, EventWord, Sort};
 
@@ -33,9 +33,9 @@ pub struct Number {
 /// Why the reading broke off.
 #[derive(Clone, Copy, PartialEq, Eq, Debug)]
 pub enum Break {
-    /// The input ends where this number, or the rest of it, is missing.
+    /// The input ends where the number that begins here, or the rest of it, is missing.
     Cut(usize),
-    /// The number here is too large or not in its shortest form.
+    /// The number that begins here is too large or not in its shortest form.
     Malformed(usize),
     /// The event code here is unknown.
     UnknownEvent(Number),
@@ -53,8 +53,8 @@ impl Break {
 fn number_at(bytes: &[u8], offset: usize) -> Result<Number, Break> {
     match read_number(bytes, offset) {
         Ok((value, end)) => Ok(Number { value, offset, end }),
-        Err(NumberFault::Cut) => Err(Break::Cut(offset)),
-        Err(NumberFault::Malformed) => Err(Break::Malformed(offset)),
+        Err(refusal) if refusal.code == CUT => Err(Break::Cut(offset)),
+        Err(_) => Err(Break::Malformed(offset)),
     }
 }
 
