@@ -3,7 +3,7 @@
 //! In order: random numbers, configurations biased to contention, traces that look at the kernel's state so that
 //! about half of the calls succeed, damage, the mix of all of them in [`case`], and long traces for timing.
 
-use crate::fast::{self, Config, Event, Kernel, NextDue, CONFIG_MAX, OUTPUT_MAX, TRACE_MAX};
+use crate::fast::{self, Config, Event, Kernel, NextDue, CONFIG_MAX, OUTPUT_MAX, TRACE_MAX, TURN};
 
 // Random numbers
 
@@ -292,16 +292,24 @@ fn any_id(random: &mut Random, count: usize) -> u32 {
     }
 }
 
-fn any_delay(random: &mut Random, largest_offset: u32) -> u32 {
-    match random.below(12) {
+/// A delay for a table with these smallest and largest offsets.
+fn any_delay(random: &mut Random, smallest: u32, largest: u32) -> u32 {
+    match random.below(14) {
         0 => 0,
-        1 => 65_535 - largest_offset,
-        2 => 65_536 - largest_offset,
-        3 => random.pick(&[65_535, 65_536, u32::MAX, u32::MAX - largest_offset, 1 << 16, 1 << 31]),
+        1 => 65_535 - smallest,
+        2 => 65_536 - smallest,
+        3 => random.pick(&[65_535, 65_536, u32::MAX, u32::MAX - smallest, 1 << 16, 1 << 31]),
         4 => random.between(1, 65_535) as u32,
+        // The last entry's first delay is a turn of the counter, or some ticks more.
+        12 | 13 => TURN - largest + random.below(12) as u32,
         5 => random.between(1, 300) as u32,
         _ => random.between(1, 6) as u32,
     }
+}
+
+/// A table's smallest and largest offset.
+fn offsets(config: &Config, table: u32) -> (u32, u32) {
+    (config.smallest_offset(table as usize), config.largest_offset(table as usize))
 }
 
 /// Activate or Line of the lowest suspended body above the level.
@@ -350,8 +358,9 @@ fn good_event(random: &mut Random, config: &Config, kernel: &Kernel<NextDue>, co
         }
         8 => {
             let table = random.pick_where(config.tables(), |table| !kernel.is_on(table))?;
-            let most = 65_535 - config.largest_offset(table as usize);
-            let delay = any_delay(random, config.largest_offset(table as usize));
+            let (smallest, largest) = offsets(config, table);
+            let most = 65_535 - smallest;
+            let delay = any_delay(random, smallest, largest);
             Some(Event::Start(table, if (1..=most).contains(&delay) { delay } else { 1 }))
         }
         _ => random.pick_where(config.tables(), |table| kernel.is_on(table)).map(Event::Stop),
@@ -369,8 +378,8 @@ fn any_event(random: &mut Random, config: &Config, code: usize) -> Event {
         7 => Event::Line(any_id(random, config.bodies())),
         8 => {
             let table = any_id(random, config.tables());
-            let largest = if (table as usize) < config.tables() { config.largest_offset(table as usize) } else { 0 };
-            Event::Start(table, any_delay(random, largest))
+            let (smallest, largest) = if (table as usize) < config.tables() { offsets(config, table) } else { (0, 0) };
+            Event::Start(table, any_delay(random, smallest, largest))
         }
         _ => Event::Stop(any_id(random, config.tables())),
     }

@@ -1,10 +1,10 @@
 //! What a set of runs has shown: every refusal of the run, every status of every event, every body begun at once, every
-//! resource held at once.
+//! resource held at once, turns of a counter that passed unmatched.
 
 use std::fmt;
 
 use crate::cases::Case;
-use crate::fast::{self, Kernel, NextDue, BODIES_MAX, IDLE, RESOURCES_MAX};
+use crate::fast::{self, Config, Event, Kernel, NextDue, BODIES_MAX, IDLE, RESOURCES_MAX, TABLES_MAX, TURN};
 
 /// The run's refusals.
 pub const REFUSALS: [u32; 15] = [1, 2, 3, 4, 5, 6, 7, 8, 9, 10, 20, 21, 22, 23, 30];
@@ -41,6 +41,36 @@ pub struct Coverage {
     /// The most bodies that had begun at once, and the most resources held at once.
     most_begun: usize,
     most_held: usize,
+    /// Turns of a counter that passed unmatched.
+    turns: u64,
+}
+
+/// By table: the ticks until a counter first comes to its compare value with a turn to pass.
+#[derive(Default)]
+struct Turns([Option<u32>; TABLES_MAX]);
+
+impl Turns {
+    /// An event that was done; true where a turn passes at it.
+    fn step(&mut self, config: &Config, event: Event) -> bool {
+        match event {
+            Event::Start(table, delay) => {
+                let long = config.offsets(table as usize).filter_map(|offset| (delay + offset).checked_sub(TURN));
+                self.0[table as usize] = long.filter(|left| *left > 0).min();
+                false
+            }
+            Event::Stop(table) => {
+                self.0[table as usize] = None;
+                false
+            }
+            Event::Tick => {
+                self.0.iter_mut().for_each(|left| *left = left.map(|left| left - 1));
+                let passed = self.0.contains(&Some(0));
+                self.0.iter_mut().for_each(|left| *left = left.filter(|left| *left > 0));
+                passed
+            }
+            _ => false,
+        }
+    }
 }
 
 impl Coverage {
@@ -58,12 +88,16 @@ impl Coverage {
         self.events += events as u64;
         let config = fast::read_config(&case.config).expect("the run accepted the configuration");
         let mut kernel = Kernel::<NextDue>::fresh(&config);
+        let mut turns = Turns::default();
         let mut at = 0;
         for answer in out.chunks_exact(4).take(events) {
             let code = usize::from(case.trace[at]);
             let (event, next) = fast::read_event(&case.trace, at).expect("the run accepted the trace");
             at = next;
             kernel.step(event);
+            if answer[0] == 0 {
+                self.turns += u64::from(turns.step(&config, event));
+            }
             self.most_begun = self.most_begun.max(kernel.begun_bodies());
             self.most_held = self.most_held.max(kernel.held_resources());
             self.statuses[code][usize::from(answer[0])] += 1;
@@ -99,6 +133,7 @@ impl Coverage {
         self.longest_trace = self.longest_trace.max(other.longest_trace);
         self.most_begun = self.most_begun.max(other.most_begun);
         self.most_held = self.most_held.max(other.most_held);
+        self.turns += other.turns;
     }
 
     /// What has not occurred and should have; empty if nothing is missing.
@@ -115,6 +150,9 @@ impl Coverage {
                     missing.push(format!("status {status} of {name}"));
                 }
             }
+        }
+        if self.turns == 0 {
+            missing.push("a turn of a counter that passes unmatched".to_string());
         }
         if self.most_begun < BODIES_MAX {
             missing.push(format!("more than {} bodies begun at once", self.most_begun));
@@ -166,6 +204,10 @@ impl fmt::Display for Coverage {
             "longest accepted trace: {} bytes, outputs of exactly the needed length: {}",
             self.longest_trace, self.exact_output
         )?;
-        write!(f, "most bodies begun at once: {}, most resources held at once: {}", self.most_begun, self.most_held)
+        write!(
+            f,
+            "most bodies begun at once: {}, most resources held at once: {}, turns that passed unmatched: {}",
+            self.most_begun, self.most_held, self.turns
+        )
     }
 }

@@ -18,6 +18,8 @@ pub const TABLE_ENTRIES_MAX: usize = 16;
 pub const ENTRIES_MAX: usize = 64;
 pub const PRIORITY_MAX: u32 = 200;
 pub const TICKS_MAX: u32 = 65_535;
+/// The ticks in which a cell's counter comes round.
+pub const TURN: u32 = 65_536;
 
 /// The runner's number when nobody runs.
 pub const IDLE: u8 = 255;
@@ -265,9 +267,19 @@ impl Config {
         self.ceiling[resource]
     }
 
+    /// Entries rise, so the first one has the smallest offset.
+    pub fn smallest_offset(&self, table: usize) -> u32 {
+        u32::from(self.entry[usize::from(self.table[table].first)].offset)
+    }
+
     /// Entries rise, so the last one has the largest offset.
     pub fn largest_offset(&self, table: usize) -> u32 {
         u32::from(self.entry[usize::from(self.table[table].end) - 1].offset)
+    }
+
+    pub fn offsets(&self, table: usize) -> impl Iterator<Item = u32> + '_ {
+        let Table { first, end, .. } = self.table[table];
+        self.entry[usize::from(first)..usize::from(end)].iter().map(|entry| u32::from(entry.offset))
     }
 }
 
@@ -332,21 +344,24 @@ pub fn count_events(trace: &[u8]) -> Result<usize, Refusal> {
 pub trait Timers {
     fn stopped(config: &Config) -> Self;
     fn is_on(&self, table: usize) -> bool;
-    /// Starts a stopped table; `delay` is positive and `delay` plus the largest offset at most 65,535.
+    /// Starts a stopped table; `delay` is positive and `delay` plus the smallest offset at most 65,535.
     fn start(&mut self, config: &Config, table: usize, delay: u16);
     fn stop(&mut self, config: &Config, table: usize);
     /// Counts one tick and hands the rank of each due entry's task to `due`, by table, then in table order.
     fn tick(&mut self, config: &Config, due: impl FnMut(u8));
 }
 
-/// Document 01's timer cells: for each entry a 16-bit counter, a compare value and a switch. A tick counts all of them
-/// alike, without a branch, so that the compiler counts several at once.
+/// Document 01's timer cells: for each entry a 16-bit counter, a compare value, a switch, and whether a turn of the
+/// counter must pass unmatched. A tick counts all of them alike, without a branch, so that the compiler counts several at
+/// once.
 pub struct Cells {
     on: u8,
     counter: [u16; ENTRIES_MAX],
     compare: [u16; ENTRIES_MAX],
     /// 1 for on, 0 for off: what a tick adds.
     switch: [u16; ENTRIES_MAX],
+    /// 1 where a turn must pass.
+    turn: [u16; ENTRIES_MAX],
 }
 
 impl Timers for Cells {
@@ -355,7 +370,7 @@ impl Timers for Cells {
         for Table { period, first, end } in &config.table[..config.tables] {
             compare[usize::from(*first)..usize::from(*end)].fill(period - 1);
         }
-        Cells { on: 0, counter: [0; ENTRIES_MAX], compare, switch: [0; ENTRIES_MAX] }
+        Cells { on: 0, counter: [0; ENTRIES_MAX], compare, switch: [0; ENTRIES_MAX], turn: [0; ENTRIES_MAX] }
     }
 
     fn is_on(&self, table: usize) -> bool {
@@ -366,9 +381,10 @@ impl Timers for Cells {
         self.on |= 1 << table;
         let Table { period, first, end } = config.table[table];
         for cell in usize::from(first)..usize::from(end) {
-            let first_delay = delay + config.entry[cell].offset;
-            self.counter[cell] = (period - 1).wrapping_sub(first_delay);
+            let first_delay = u32::from(delay) + u32::from(config.entry[cell].offset);
+            self.counter[cell] = (period - 1).wrapping_sub(first_delay as u16);
             self.switch[cell] = 1;
+            self.turn[cell] = u16::from(first_delay > TURN);
         }
     }
 
@@ -377,7 +393,8 @@ impl Timers for Cells {
         let Table { first, end, .. } = config.table[table];
         let cells = usize::from(first)..usize::from(end);
         self.counter[cells.clone()].fill(0);
-        self.switch[cells].fill(0);
+        self.switch[cells.clone()].fill(0);
+        self.turn[cells].fill(0);
     }
 
     #[inline(always)]
@@ -389,7 +406,9 @@ impl Timers for Cells {
         #[allow(clippy::needless_range_loop)]
         for cell in 0..ENTRIES_MAX {
             let count = self.counter[cell].wrapping_add(self.switch[cell]);
-            let matches = u16::from(count == self.compare[cell]) & self.switch[cell];
+            let reached = u16::from(count == self.compare[cell]) & self.switch[cell];
+            let matches = reached & !self.turn[cell];
+            self.turn[cell] &= !reached;
             // A match sets the counter to 65,535 and not to 0: the next tick wraps it, so that no period is a tick
             // short.
             self.counter[cell] = count | matches.wrapping_neg();
@@ -696,7 +715,7 @@ impl<'c, T: Timers> Kernel<'c, T> {
             return 3;
         }
         let table = table as usize;
-        if delay == 0 || delay > TICKS_MAX - self.config.largest_offset(table) {
+        if delay == 0 || delay > TICKS_MAX - self.config.smallest_offset(table) {
             return 8;
         }
         if self.timers.is_on(table) {
@@ -882,6 +901,65 @@ mod tests {
                 assert_eq!(due_ticks::<NextDue>(&config, delay as u16, 200_000), by_arithmetic, "{period} {delay}");
             }
         }
+    }
+
+    /// Two tasks, and a table of the given period with an entry at offset 0 for the first and one at `offset` for the second.
+    fn two_entries(period: u32, offset: u32) -> Config {
+        let mut bytes = vec![1, 2, 0, 1, 1, 0, 2, 0, 0, 1];
+        crate::cases::push_number(&mut bytes, period);
+        bytes.extend([2, 0, 0]);
+        crate::cases::push_number(&mut bytes, offset);
+        bytes.push(1);
+        read_config(&bytes).expect("the configuration is accepted")
+    }
+
+    /// The ticks, up to `last`, at which an entry is due, each with the entry's task.
+    fn due_entries<T: Timers>(config: &Config, delay: u16, last: u32) -> Vec<(u32, u8)> {
+        let mut timers = T::stopped(config);
+        timers.start(config, 0, delay);
+        let mut all = Vec::new();
+        for n in 1..=last {
+            timers.tick(config, |rank| all.push((n, rank)));
+        }
+        all
+    }
+
+    fn is_due(period: u32, first_delay: u32, n: u32) -> bool {
+        n >= first_delay && (n - first_delay) % period == 0
+    }
+
+    #[test]
+    fn first_delays_beyond_a_turn_agree_with_the_arithmetic() {
+        const DELAY: u32 = 30_000;
+        let mut starts: Vec<(u32, u32, u32)> =
+            [65_535, 65_536, 65_537, 70_000, 73_000].map(|d| (65_535, d - DELAY, DELAY)).to_vec();
+        starts.extend([(60_000, 50_000, DELAY), (65_535, 65_534, 65_535), (3, 1, 65_535), (3, 2, 65_535)]);
+        for (period, offset, delay) in starts {
+            let config = two_entries(period, offset);
+            let by_arithmetic: Vec<(u32, u8)> = (1..=300_000)
+                .flat_map(|n| [(n, 0, delay), (n, 1, delay + offset)])
+                .filter(|(n, _, first_delay)| is_due(period, *first_delay, *n))
+                .map(|(n, task, _)| (n, task))
+                .collect();
+            assert_eq!(
+                due_entries::<Cells>(&config, delay as u16, 300_000),
+                by_arithmetic,
+                "{period} {offset} {delay}"
+            );
+            assert_eq!(
+                due_entries::<NextDue>(&config, delay as u16, 300_000),
+                by_arithmetic,
+                "{period} {offset} {delay}"
+            );
+        }
+    }
+
+    #[test]
+    fn the_makers_table_is_due_at_30_000_and_80_000_then_every_60_000() {
+        let config = two_entries(60_000, 50_000);
+        let due = [(30_000, 0), (80_000, 1), (90_000, 0), (140_000, 1), (150_000, 0), (200_000, 1)];
+        assert_eq!(due_entries::<Cells>(&config, 30_000, 200_000), due);
+        assert_eq!(due_entries::<NextDue>(&config, 30_000, 200_000), due);
     }
 
     #[test]

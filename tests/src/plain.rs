@@ -307,10 +307,10 @@ impl Scheduler {
         }
     }
 
-    /// Status 8: "d is 0, or d plus the table's largest offset is above 65,535".
+    /// Status 8: "d is 0, or d plus the smallest offset is above 65,535".
     fn bad_delay(&self, table: usize, d: u64) -> bool {
-        let largest = self.tables[table].entries.iter().map(|(offset, _)| *offset).max().expect("a table has entries");
-        d == 0 || d + largest > 65535
+        let smallest = self.tables[table].entries.iter().map(|(offset, _)| *offset).min().expect("a table has entries");
+        d == 0 || d + smallest > 65535
     }
 
     /// The first status that applies, in the order that document 01's table gives for the event.

@@ -97,9 +97,9 @@ fn edge_p5_period_4_delay_3_is_due_at_3_and_7() {
 }
 
 #[test]
-fn edge_p7_delay_and_largest_offset_reach_65_535_together() {
-    // Period 3, entries at offsets 0 and 2.
-    let config = [1, 1, 0, 1, 1, 0, 1, 3, 2, 0, 0, 2, 0];
+fn edge_p7_delay_and_smallest_offset_reach_65_535_together() {
+    // Period 4, entries at offsets 2 and 3.
+    let config = [1, 1, 0, 1, 1, 0, 1, 4, 2, 2, 0, 3, 0];
     // 65,533 is FD FF 03, 65,534 is FE FF 03.
     assert_rows(
         &config,
@@ -109,6 +109,54 @@ fn edge_p7_delay_and_largest_offset_reach_65_535_together() {
          2 8 0 0 1 0
          3 8 8 0 1 0
          4 8 7 0 1 0",
+    );
+}
+
+/// Task 0 of priority 1 runs; a table of this period activates it at offset 0 and task 1 of priority 2 at `offset`.
+fn late_entry(period: u32, offset: u32) -> Vec<u8> {
+    let mut config = vec![1, 2, 0, 1, 1, 0, 2, 0, 0, 1];
+    push_number(&mut config, period);
+    config.extend([2, 0, 0]);
+    push_number(&mut config, offset);
+    config.push(1);
+    config
+}
+
+#[test]
+fn the_makers_long_start_is_accepted() {
+    // 30,000 is B0 EA 01.
+    assert_rows(&late_entry(60_000, 50_000), &[8, 0, 0xb0, 0xea, 0x01, 6], "0 8 0 0 1 0\n1 6 0 0 1 0");
+}
+
+#[test]
+fn a_first_delay_beyond_a_turn_does_not_match_a_turn_early() {
+    const DELAY: u32 = 30_000;
+    for first_delay in [65_535, 65_536, 65_537, 70_000, 73_000] {
+        let mut trace = vec![8, 0];
+        push_number(&mut trace, DELAY);
+        trace.resize(8_192, 6);
+        // No entry is due so soon: task 0 goes on, and nothing is lost.
+        let ticks: String = (1..trace.len() - 4).map(|step| format!("\n{step} 6 0 0 1 0")).collect();
+        assert_rows(&late_entry(65_535, first_delay - DELAY), &trace, &format!("0 8 0 0 1 0{ticks}"));
+    }
+}
+
+#[test]
+fn a_stop_clears_the_turn() {
+    // Delay 65,535 (FF FF 03) gives the entry at offset 2 a first delay of 65,537. Stopped and started with delay 1, it is due
+    // at the third tick, and the entry at offset 0, whose task runs, is lost at the first.
+    assert_rows(
+        &late_entry(4, 2),
+        &[8, 0, 0xff, 0xff, 0x03, 6, 6, 9, 0, 8, 0, 1, 6, 6, 6],
+        "0 8 0 0 1 0
+         1 6 0 0 1 0
+         2 6 0 0 1 0
+         3 9 0 0 1 0
+         4 8 0 0 1 0
+         5 6 0 0 1 0
+         6 6 0 0 1 0
+         7 6 0 1 2 1
+         lost 0 1",
     );
 }
 

@@ -1,6 +1,7 @@
 //! A simulator with one planted fault, for the tests of `osek compare`: `stand_in FAULT CONFIG TRACE`.
 //!
-//! It plays the events on the tests' fast Rust version and spoils what the fault says; `none` spoils nothing.
+//! It plays the events on the tests' fast Rust version and spoils what the fault says; `none` spoils nothing. A fault
+//! that begins with `output` makes it print the output's bytes, others the listing.
 
 use std::fmt::Write as _;
 use std::io::Write as _;
@@ -54,11 +55,14 @@ fn played(fault: &str, config_bytes: &[u8], trace: &[u8]) -> Vec<u8> {
         at = next;
     }
     let losses: Vec<u16> = match fault {
-        "losses_high_byte_first" => kernel.losses().iter().map(|loss| loss.swap_bytes()).collect(),
+        "losses_high_byte_first" | "output_losses_high_byte_first" => {
+            kernel.losses().iter().map(|loss| loss.swap_bytes()).collect()
+        }
         _ => kernel.losses().to_vec(),
     };
-    if fault == "output_without_losses" || fault == "output" {
-        let losses = losses.iter().flat_map(|loss| loss.to_le_bytes()).take(if fault == "output" { 64 } else { 0 });
+    if fault.starts_with("output") {
+        let shown = if fault == "output_without_losses" { &[][..] } else { &losses };
+        let losses = shown.iter().flat_map(|loss| loss.to_le_bytes());
         return answers.iter().flat_map(|(_, a)| [a.status, a.runner, a.level, a.begun]).chain(losses).collect();
     }
     listed(fault, &answers, &losses)

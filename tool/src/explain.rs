@@ -109,31 +109,23 @@ fn unread_event(bytes: &[u8]) -> Option<Told> {
     Some(Told { sentence, from: code.offset, to: code.end })
 }
 
-/// The most bytes of a number, and the greatest that the last of them may be.
-const NUMBER_MAX: usize = 5;
-const FIFTH_MAX: u8 = 15;
-
-/// A number that can't be read.
+/// A number that can't be read, by the byte that decides it.
 fn unread(bytes: &[u8], name: &str, why: Break) -> Told {
-    let from = why.offset().min(bytes.len());
-    let rest = &bytes[from..];
-    let groups = rest.iter().take(NUMBER_MAX - 1).take_while(|byte| **byte >= 0x80).count() + 1;
-    let number = &rest[..groups.min(rest.len())];
-    let shown = hex(number);
-    let sentence = match (why, number) {
-        (_, []) => format!("{name} is missing: the input ends here."),
-        (Break::Cut(_), _) => {
-            format!("{name} is not complete: after {shown} the input ends, and the last byte of a number is below 80.")
+    let begin = why.offset().min(bytes.len());
+    let (sentence, from) = match why {
+        Break::Malformed { place, .. } => {
+            let shown = hex(&bytes[begin..=place]);
+            let sentence = if bytes[place] == 0 {
+                format!("{name} is not in its shortest form: of {shown} the 00 is superfluous.")
+            } else {
+                format!("{name} is above 4,294,967,295: the fifth byte of {shown} may be at most 0F.")
+            };
+            (sentence, place)
         }
-        (_, [_, _, _, _, fifth]) if *fifth > FIFTH_MAX => {
-            format!("{name} is above 4,294,967,295: {shown} is refused, a fifth byte may be at most {FIFTH_MAX:02X}.")
-        }
-        _ => format!(
-            "{name} is not a number in its shortest form: {shown} is refused, its last byte is 00, so it would be \
-             shorter without it."
-        ),
+        _ if begin == bytes.len() => (format!("{name} is missing: the input ends here."), begin),
+        _ => (format!("{name} is not complete: the input ends after {}.", hex(&bytes[begin..])), bytes.len()),
     };
-    Told { sentence, from, to: from + number.len() }
+    Told { sentence, from, to: from + 1 }
 }
 
 /// Bytes in a row of the excerpt.

@@ -1,7 +1,7 @@
 //! Which number of a configuration or a trace means what, and where it stands. Nothing is judged here: counts and
 //! fields are taken as they are, as far as numbers can be read. Whether they are accepted is for the library to say.
 
-use osek_tests::fast::{read_number, CUT};
+use osek_tests::fast::read_number;
 
 use crate::words::{self, EventWord, Sort};
 
@@ -33,18 +33,19 @@ pub struct Number {
 /// Why the reading broke off.
 #[derive(Clone, Copy, PartialEq, Eq, Debug)]
 pub enum Break {
-    /// The input ends where the number that begins here, or the rest of it, is missing.
-    Cut(usize),
-    /// The number that begins here is too large or not in its shortest form.
-    Malformed(usize),
+    /// The input ends where the number that begins at `offset`, or the rest of it, is missing.
+    Cut { offset: usize },
+    /// The number that begins at `offset` is too large or not in its shortest form: the byte at `place` decides it.
+    Malformed { offset: usize, place: usize },
     /// The event code here is unknown.
     UnknownEvent(Number),
 }
 
 impl Break {
+    /// Where the number begins.
     pub fn offset(self) -> usize {
         match self {
-            Break::Cut(offset) | Break::Malformed(offset) => offset,
+            Break::Cut { offset } | Break::Malformed { offset, .. } => offset,
             Break::UnknownEvent(code) => code.offset,
         }
     }
@@ -53,9 +54,20 @@ impl Break {
 fn number_at(bytes: &[u8], offset: usize) -> Result<Number, Break> {
     match read_number(bytes, offset) {
         Ok((value, end)) => Ok(Number { value, offset, end }),
-        Err(refusal) if refusal.code == CUT => Err(Break::Cut(offset)),
-        Err(_) => Err(Break::Malformed(offset)),
+        Err(refusal) if refusal.place >= bytes.len() => Err(Break::Cut { offset }),
+        Err(refusal) => Err(Break::Malformed { offset, place: refusal.place }),
     }
+}
+
+/// The numbers of a list, as far as they can be read.
+pub fn numbers(bytes: &[u8]) -> Vec<u32> {
+    let mut numbers = Vec::new();
+    let mut at = 0;
+    while let Ok(number) = number_at(bytes, at) {
+        numbers.push(number.value);
+        at = number.end;
+    }
+    numbers
 }
 
 /// A body's numbers.
@@ -241,10 +253,12 @@ mod tests {
 
     #[test]
     fn a_reading_breaks_off_at_the_field_that_is_missing() {
-        assert_eq!(config(&DOCUMENT_CONFIG[..6]).broken, Some((Field::Priority(1), Break::Cut(6))));
+        assert_eq!(config(&DOCUMENT_CONFIG[..6]).broken, Some((Field::Priority(1), Break::Cut { offset: 6 })));
         let (field, why) = trace(&[6, 8, 0, 0x80]).broken.expect("the delay is cut");
-        assert_eq!(why, Break::Cut(3));
+        assert_eq!(why, Break::Cut { offset: 3 });
         assert!(matches!(field, TraceField::Argument(word, Sort::Delay) if word.name == "Start"));
+        let (_, why) = trace(&[6, 1, 0x80, 0x80, 0]).broken.expect("the body is malformed");
+        assert_eq!(why, Break::Malformed { offset: 2, place: 4 });
         assert_eq!(trace(&[6, 77]).broken.map(|(_, why)| why.offset()), Some(1));
     }
 }

@@ -1,7 +1,10 @@
-//! The proved run: what it says of a configuration and a trace.
+//! The proved functions: what the run says of a configuration and a trace, and what is salvaged of a damaged one.
 
-use osek_tests::fast::{IDLE, OUTPUT_MAX};
+use osek_tests::fast::{IDLE, OUTPUT_MAX, TRACE_MAX};
+use osek_tests::salvage::STRETCHES_MAX;
 use osek_tests::{listing, subject};
+
+use crate::layout;
 
 /// Bytes of an answer and of a loss count in the output.
 pub const ANSWER_SIZE: usize = 4;
@@ -105,6 +108,27 @@ pub fn trace_refusal(trace: &[u8]) -> Option<Refused> {
 pub fn fresh_start(config: &[u8]) -> Option<Answer> {
     const LINE_OF_NOBODY: [u8; 6] = [7, 0xff, 0xff, 0xff, 0xff, 0x0f];
     run(config, &LINE_OF_NOBODY).ok()?.answers.first().copied()
+}
+
+/// What is kept of a damaged trace, and what is dropped.
+pub struct Salvaged {
+    pub events: Vec<u8>,
+    /// The dropped stretches, in bytes, and as offset and length.
+    pub list: Vec<u8>,
+    pub stretches: Vec<(usize, usize)>,
+}
+
+pub fn salvage(trace: &[u8]) -> Result<Salvaged, Refused> {
+    let (mut events, mut list) = (vec![0; TRACE_MAX], vec![0; STRETCHES_MAX]);
+    let result = subject::salvage(trace, &mut events, &mut list);
+    if let Some(refused) = Refused::of(result) {
+        return Err(refused);
+    }
+    events.truncate(result as usize & 0xffff);
+    list.truncate(result as usize >> 16);
+    let pair = |pair: &[u32]| (pair[0] as usize, pair[1] as usize);
+    let stretches = layout::numbers(&list).chunks_exact(2).map(pair).collect();
+    Ok(Salvaged { events, list, stretches })
 }
 
 /// The bench program's listing.

@@ -6,7 +6,7 @@ use mathlib.Core.List.{List, [], _∷_}
 use lib.ListN.{length}
 use Rattle.number.specs.Number.{continued, fifthGroup, groups, readNumber, groupBytes, numberBytes}
 use Rattle.event.specs.Event.{known, arguments, afterNumber, readArguments, readEvent}
-use Rattle.recording.specs.Fate.{covered, belonging, fateOf, fatesFrom, chosen, keptBytes}
+use Rattle.recording.specs.Fate.{covered, belonging, fateOf, fatesFrom, selected, keptBytes}
 use Rattle.recording.specs.Stretch.{closed, stretchesFrom, stretchBytes, listBytes}
 
 -- Get 0; FF, with which 06 would be code 895; Tick; two bytes 0, a code of no event; Line 2; Start 0, whose delay is cut off
@@ -14,7 +14,7 @@ abbrev pub damaged : List ℕ
 damaged = 0x04 ∷ 0x00 ∷ 0xff ∷ 0x06 ∷ 0x00 ∷ 0x00 ∷ 0x07 ∷ 0x02 ∷ 0x08 ∷ 0x00 ∷ []
 
 pub damaged-kept : keptBytes damaged ≡ 0x04 ∷ 0x00 ∷ 0x06 ∷ 0x07 ∷ 0x02 ∷ []
-unfolding continued fifthGroup groups readNumber known arguments afterNumber readArguments readEvent covered belonging fateOf fatesFrom chosen
+unfolding continued fifthGroup groups readNumber known arguments afterNumber readArguments readEvent covered belonging fateOf fatesFrom selected
 damaged-kept = refl
 
 -- one byte from place 2 on, two from 4 and two from 8

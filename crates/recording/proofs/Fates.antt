@@ -19,7 +19,7 @@ use Rattle.event.specs.declared.EventRead.{EventRead}
 use Rattle.event.specs.Event.{accepted, readEvent, eventBytes, Writable}
 use Rattle.event.specs.Trace.{traceBytes, AllWritable}
 use Rattle.event.proofs.Theorems.{event-reading, read-at, written-read, place-read, length-eventBytes}
-use Rattle.recording.specs.Fate.{Fate, kept, dropped, covered, belonging, fateOf, fatesFrom, fates, chosen, keptBytes}
+use Rattle.recording.specs.Fate.{Fate, kept, dropped, covered, belonging, fateOf, fatesFrom, fates, selected, keptBytes}
 
 pub covered-none : (bs : List ℕ) → (readEvent bs 0 .refusal ≡ none → ⊥) → covered bs ≡ 0
 unfolding covered
@@ -133,15 +133,15 @@ module _ (P : List ℕ → Type 0)
     pub recording-elim : (bs : List ℕ) → Bytes bs → P bs
     recording-elim bs b = bounded (length bs) bs (omega arith) b
 
-chosen-kept : (xs rest : List ℕ) (fs : List Fate) → chosen (replicate (length xs) kept ++ fs) (xs ++ rest) ≡ xs ++ chosen fs rest
-unfolding chosen
-chosen-kept [] rest fs = refl
-chosen-kept (x ∷ xs) rest fs = ap (λ (l : List ℕ). x ∷ l) (chosen-kept xs rest fs)
+selected-kept : (xs rest : List ℕ) (fs : List Fate) → selected (replicate (length xs) kept ++ fs) (xs ++ rest) ≡ xs ++ selected fs rest
+unfolding selected
+selected-kept [] rest fs = refl
+selected-kept (x ∷ xs) rest fs = ap (λ (l : List ℕ). x ∷ l) (selected-kept xs rest fs)
 
-pub chosen-all : (bs : List ℕ) → chosen (replicate (length bs) kept) bs ≡ bs
-unfolding chosen
-chosen-all [] = refl
-chosen-all (b ∷ bs) = ap (λ (l : List ℕ). b ∷ l) (chosen-all bs)
+pub selected-all : (bs : List ℕ) → selected (replicate (length bs) kept) bs ≡ bs
+unfolding selected
+selected-all [] = refl
+selected-all (b ∷ bs) = ap (λ (l : List ℕ). b ∷ l) (selected-all bs)
 
 -- every byte of events in a row is kept
 pub fates-trace : (es : List Event) → AllWritable es → fates (traceBytes es) ≡ replicate (length (traceBytes es)) kept
@@ -158,31 +158,31 @@ pub record Events (ks : List ℕ) : Type 0 where
   pub bytes : ks ≡ traceBytes events
 
 pub kept-events : (bs : List ℕ) → Bytes bs → Events (keptBytes bs)
-unfolding traceBytes AllWritable chosen fatesFrom
+unfolding traceBytes AllWritable selected fatesFrom
 kept-events =
     recording-elim (λ bs. Events (keptBytes bs))
     (record { events = []; writable = tt; bytes = refl })
     (λ b bs z p. rw (fates-dropped b bs z) p)
-    (λ e rest w p. rw (fates-bytes e rest w, chosen-kept (eventBytes e) rest (fates rest))
+    (λ e rest w p. rw (fates-bytes e rest w, selected-kept (eventBytes e) rest (fates rest))
     (record { events = e ∷ p .events; writable = (w, p .writable); bytes = ap (λ (l : List ℕ). eventBytes e ++ l) (p .bytes) }))
 
 -- a kept byte is one of the recording
-pub chosen-bytes : (fs : List Fate) (bs : List ℕ) → Bytes bs → Bytes (chosen fs bs)
-unfolding chosen
-chosen-bytes [] bs b i = lit< tt
-chosen-bytes (f ∷ fs) [] b i = lit< tt
-chosen-bytes (kept ∷ fs) (x ∷ bs) b zero = b zero
-chosen-bytes (kept ∷ fs) (x ∷ bs) b (suc i) = chosen-bytes fs bs (λ j. b (suc j)) i
-chosen-bytes (dropped ∷ fs) (x ∷ bs) b i = chosen-bytes fs bs (λ j. b (suc j)) i
+pub selected-bytes : (fs : List Fate) (bs : List ℕ) → Bytes bs → Bytes (selected fs bs)
+unfolding selected
+selected-bytes [] bs b i = lit< tt
+selected-bytes (f ∷ fs) [] b i = lit< tt
+selected-bytes (kept ∷ fs) (x ∷ bs) b zero = b zero
+selected-bytes (kept ∷ fs) (x ∷ bs) b (suc i) = selected-bytes fs bs (λ j. b (suc j)) i
+selected-bytes (dropped ∷ fs) (x ∷ bs) b i = selected-bytes fs bs (λ j. b (suc j)) i
 
 pub length-fates : (left : ℕ) (bs : List ℕ) → length (fatesFrom left bs) ≡ length bs
 unfolding fatesFrom
 length-fates left [] = refl
 length-fates left (b ∷ bs) = ap suc (length-fates (belonging left (b ∷ bs) - 1) bs)
 
-pub length-chosen-le : (fs : List Fate) (bs : List ℕ) → length (chosen fs bs) ≤ length bs
-unfolding chosen
-length-chosen-le [] bs = omega arith
-length-chosen-le (f ∷ fs) [] = omega arith
-length-chosen-le (kept ∷ fs) (b ∷ bs) = let h = length-chosen-le fs bs in omega arith
-length-chosen-le (dropped ∷ fs) (b ∷ bs) = let h = length-chosen-le fs bs in omega arith
+pub length-selected-le : (fs : List Fate) (bs : List ℕ) → length (selected fs bs) ≤ length bs
+unfolding selected
+length-selected-le [] bs = omega arith
+length-selected-le (f ∷ fs) [] = omega arith
+length-selected-le (kept ∷ fs) (b ∷ bs) = let h = length-selected-le fs bs in omega arith
+length-selected-le (dropped ∷ fs) (b ∷ bs) = let h = length-selected-le fs bs in omega arith

@@ -13,7 +13,7 @@ use lib.Dec.{leb, ltb}
 use lib.ListN.{length, drop, getD, replicate, take-append-drop, drop-of-length-le}
 use lib.Seq.{drop-drop, drop-cons}
 use Rattle.number.proofs.Cases.{by-lt}
-use Rattle.recording.specs.Fate.{Fate, kept, dropped, chosen}
+use Rattle.recording.specs.Fate.{Fate, kept, dropped, selected}
 use Rattle.recording.specs.Stretch.{Stretch, closed, stretchesFrom, within, rebuilt, Apart}
 
 -- stretches that lie apart do so from every earlier place on
@@ -63,8 +63,8 @@ rebuilt-closed from (suc n) ss ks bs h = rw (none from) (rw h (rw (← drop-drop
 
 -- a kept byte that ends a stretch
 put-kept : (from n : ℕ) (fs : List Fate) (bs : List ℕ) → from + n + suc (length fs) ≡ length bs
-    → rebuilt (suc (from + n)) (stretchesFrom (suc (from + n)) 0 fs) (chosen fs (drop (suc (from + n)) bs)) bs ≡ drop (suc (from + n)) bs
-    → rebuilt from (closed from n (stretchesFrom (suc (from + n)) 0 fs)) (getD bs (from + n) 0 ∷ chosen fs (drop (suc (from + n)) bs)) bs ≡ drop from bs
+    → rebuilt (suc (from + n)) (stretchesFrom (suc (from + n)) 0 fs) (selected fs (drop (suc (from + n)) bs)) bs ≡ drop (suc (from + n)) bs
+    → rebuilt from (closed from n (stretchesFrom (suc (from + n)) 0 fs)) (getD bs (from + n) 0 ∷ selected fs (drop (suc (from + n)) bs)) bs ≡ drop from bs
 put-kept from n fs bs h rest =
     rebuilt-closed from n later (getD bs (from + n) 0 ∷ ks) bs
     (rebuilt-kept (from + n) (getD bs (from + n) 0) (length bs) later ks bs apart
@@ -75,15 +75,15 @@ put-kept from n fs bs h rest =
     later = stretchesFrom (suc (from + n)) 0 fs
 
     ks : List ℕ
-    ks = chosen fs (drop (suc (from + n)) bs)
+    ks = selected fs (drop (suc (from + n)) bs)
 
     apart : Apart (suc (from + n)) (length bs) later
     apart = rw (← h, past (from + n) (length fs)) (stretches-apart (suc (from + n)) 0 fs)
 
 -- the bytes from a place on are put together from what was kept of them and the stretches in them
 pub rebuilt-stretches : (from n : ℕ) (fs : List Fate) (bs : List ℕ) → from + n + length fs ≡ length bs
-    → rebuilt from (stretchesFrom from n fs) (chosen fs (drop (from + n) bs)) bs ≡ drop from bs
-unfolding stretchesFrom chosen rebuilt
+    → rebuilt from (stretchesFrom from n fs) (selected fs (drop (from + n) bs)) bs ≡ drop from bs
+unfolding stretchesFrom selected rebuilt
 rebuilt-stretches from n [] bs h =
     rebuilt-closed from n [] [] bs (sym (drop-of-length-le bs {i = from + n} (omega arith)))
 rebuilt-stretches from n (dropped ∷ fs) bs h =

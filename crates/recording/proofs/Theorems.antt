@@ -47,7 +47,7 @@ kept-readable bs b = let es = Fates.kept-events bs b in
 
 -- "a readable trace comes back unchanged", and nothing of it is listed
 pub readable-same : (bs : List ℕ) → Bytes bs → readTrace bs .refusal ≡ none → (keptBytes bs ≡ bs) × (stretches bs ≡ [])
-readable-same bs b h = (rw all (Fates.chosen-all bs), rw all (Stretches.stretches-none 0 (length bs)))
+readable-same bs b h = (rw all (Fates.selected-all bs), rw all (Stretches.stretches-none 0 (length bs)))
   where
     all : fates bs ≡ replicate (length bs) kept
     all = rw (trace-written-read bs b h) (Fates.fates-trace (readTrace bs .events) (trace-reading bs 0 (omega arith) .writable))
@@ -67,11 +67,11 @@ stretches-apart bs = simp (length-fates, zero-add) at (Stretches.stretches-apart
 
 -- salvaging what was kept changes nothing
 pub salvaged-again : (bs : List ℕ) → Bytes bs → (keptBytes (keptBytes bs) ≡ keptBytes bs) × (stretches (keptBytes bs) ≡ [])
-salvaged-again bs b = readable-same (keptBytes bs) (Fates.chosen-bytes (fates bs) bs b) (kept-readable bs b)
+salvaged-again bs b = readable-same (keptBytes bs) (Fates.selected-bytes (fates bs) bs b) (kept-readable bs b)
 
 -- the kept bytes are no more than there were
 pub kept-fit : (bs : List ℕ) → length (keptBytes bs) ≤ length bs
-kept-fit bs = Fates.length-chosen-le (fates bs) bs
+kept-fit bs = Fates.length-selected-le (fates bs) bs
 
 -- a trace of at most 8,192 bytes has a list of at most 12,224
 pub list-fits : (bs : List ℕ) → length bs ≤ 8192 → length (listBytes bs) ≤ 12224

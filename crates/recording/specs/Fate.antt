@@ -39,12 +39,12 @@ abbrev pub fates : List ℕ → List Fate
 fates bs = fatesFrom 0 bs
 
 -- the bytes whose fate is to be kept
-unfoldable pub chosen : List Fate → List ℕ → List ℕ
-chosen [] bs = []
-chosen (f ∷ fs) [] = []
-chosen (kept ∷ fs) (b ∷ bs) = b ∷ chosen fs bs
-chosen (dropped ∷ fs) (b ∷ bs) = chosen fs bs
+unfoldable pub selected : List Fate → List ℕ → List ℕ
+selected [] bs = []
+selected (f ∷ fs) [] = []
+selected (kept ∷ fs) (b ∷ bs) = b ∷ selected fs bs
+selected (dropped ∷ fs) (b ∷ bs) = selected fs bs
 
 -- "the kept events"
 abbrev pub keptBytes : List ℕ → List ℕ
-keptBytes bs = chosen (fates bs) bs
+keptBytes bs = selected (fates bs) bs

@@ -17,7 +17,7 @@ use Rattle.number.specs.Number.{Bytes, numberBytes}
 use Rattle.event.specs.declared.EventRead.{EventRead}
 use Rattle.event.specs.Event.{readEvent}
 use Rattle.event.proofs.Theorems.{event-reading}
-use Rattle.recording.specs.Fate.{kept, dropped, covered, belonging, fateOf, fatesFrom, chosen}
+use Rattle.recording.specs.Fate.{kept, dropped, covered, belonging, fateOf, fatesFrom, selected}
 use Rattle.recording.specs.Stretch.{Stretch, closed, stretchesFrom, stretchBytes}
 use Rattle.recording.proofs.Theorems.{covered-at, uncovered-at}
 
@@ -70,7 +70,7 @@ closed-some from (suc n) s = rw append-nil
 
 -- the events that are left to write, and the list of stretches
 abbrev pub eventsLeft : List ℕ → ℕ → ℕ → List ℕ
-eventsLeft bs at left = chosen (fatesFrom left (drop at bs)) (drop at bs)
+eventsLeft bs at left = selected (fatesFrom left (drop at bs)) (drop at bs)
 
 abbrev pub listLeft : List ℕ → ℕ → ℕ → ℕ → List ℕ
 listLeft bs at left gap = stretchBytes (stretchesFrom (at - gap) gap (fatesFrom left (drop at bs)))
@@ -98,11 +98,11 @@ module _ (bs : List ℕ) (at left here : ℕ) (within : at < length bs) (same : 
   turn-dropped z = turn ∙ rw (z, belonging-none left (drop at bs) (sym same ∙ z))
 
   pub events-kept : (here ≡ 0 → ⊥) → eventsLeft bs at left ≡ getD bs at 0 ∷ eventsLeft bs (at + 1) (here - 1)
-  unfolding chosen
+  unfolding selected
   events-kept n = rw (turn-kept n, byte)
 
   pub events-dropped : here ≡ 0 → eventsLeft bs at left ≡ eventsLeft bs (at + 1) left
-  unfolding chosen
+  unfolding selected
   events-dropped z = rw (turn-dropped z, byte)
 
   module _ (gap : ℕ) (few : gap ≤ at) where
@@ -123,7 +123,7 @@ module _ (bs : List ℕ) (at left here : ℕ) (within : at < length bs) (same : 
 -- at the end nothing is left but the stretch before it
 module _ (bs : List ℕ) (at left : ℕ) (past : length bs ≤ at) where
   pub events-end : eventsLeft bs at left ≡ []
-  unfolding chosen fatesFrom
+  unfolding selected fatesFrom
   events-end = rw (drop-of-length-le bs past)
 
   pub list-end : (gap : ℕ) → at ≤ length bs → listLeft bs at left gap ≡ gapBytes (length bs) gap

@@ -12,7 +12,8 @@ ghost use Rattle.recording.specs.Fate.{keptBytes};
 ghost use Rattle.recording.specs.Stretch.{closed, stretchBytes, listBytes};
 ghost use Rattle.salvage.specs.Salvage.{Fitting};
 
-// Writes the kept bytes and the list of stretches. `gap` bytes before `at` are dropped and not yet listed.
+// Writes the kept bytes and the list of stretches. `kept` and `listed` bytes are written so far, and
+// `gap` bytes before `at` are dropped and not yet listed.
 pub fn write_both(trace: &[u8], events: &mut [u8], stretches: &mut [u8])
     requires { ⌜ Fitting (now trace) (length (now events)) (length (now stretches)) ⌝ }
     ensures events { λ _. ⌜ now (events .exit) ≡ written (keptBytes (now (trace .entry))) (now (events .entry)) ⌝ }
@@ -20,21 +21,21 @@ pub fn write_both(trace: &[u8], events: &mut [u8], stretches: &mut [u8])
 {
     let mut left: usize = 0;
     let mut gap: usize = 0;
-    let mut n: usize = 0;
-    let mut m: usize = 0;
+    let mut kept: usize = 0;
+    let mut listed: usize = 0;
     for at in 0..trace.len() {
         let here = belonging(trace, at, left);
         if here == 0 {
             gap += 1;
             continue;
         }
-        events[n] = trace[at];
-        n += 1;
-        m = write_stretch(at - gap, gap, m, stretches);
+        events[kept] = trace[at];
+        kept += 1;
+        listed = write_stretch(at - gap, gap, listed, stretches);
         gap = 0;
         left = here - 1;
     }
-    write_stretch(trace.len() - gap, gap, m, stretches);
+    write_stretch(trace.len() - gap, gap, listed, stretches);
 }
 
 // Writes a stretch at a place of the list and returns the place after it; one without bytes is none.

@@ -28,7 +28,7 @@ pub const COMMAND: Command = Command {
     usage: &[
         "--sim 'COMMAND' [--seed S] [--first K] [--count N] [-o DIR]",
         "--lib FILE.so ..",
-        "--sim 'COMMAND' CONFIG TRACE [-o DIR]",
+        "--sim 'COMMAND' CONFIG TRACE | LOGGER [-o DIR]",
     ],
     summary: "a simulator of one's own beside the reference",
     details: "\

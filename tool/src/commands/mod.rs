@@ -6,6 +6,7 @@ mod compare;
 mod dump;
 mod explain;
 mod run;
+mod salvage;
 mod timeline;
 
 use std::fmt::Write;
@@ -25,19 +26,21 @@ pub struct Command {
     pub run: fn(&Options) -> Result<Ending, Failure>,
 }
 
-const COMMANDS: [&Command; 7] = [
+const COMMANDS: [&Command; 8] = [
     &run::COMMAND,
     &explain::COMMAND,
     &timeline::COMMAND,
     &asm::COMMAND,
     &dump::COMMAND,
+    &salvage::COMMAND,
     &cases::COMMAND,
     &compare::COMMAND,
+    &salvage::COMMAND,
 ];
 
 const INPUTS: &str = "\
-CONFIG and TRACE are files of bytes or of the text form, told apart by their content. One text that holds both, with
-a line `trace` between, may stand for the two. docs/TEXT.md has the text form.
+CONFIG and TRACE are files of bytes or of the text form, told apart by their content. LOGGER is one text that holds
+both, with a line `trace` between. docs/TEXT.md has the text form.
 ";
 
 impl Command {

@@ -1,7 +1,7 @@
 //! Runs a simulator as a process on a case.
 
 use std::fs;
-use std::io::{ErrorKind, Read};
+use std::io::{self, ErrorKind, Read};
 use std::os::unix::process::{CommandExt, ExitStatusExt};
 use std::path::{Path, PathBuf};
 use std::process::{Child, Command, ExitStatus, Stdio};
@@ -127,16 +127,14 @@ struct Said {
 /// Reads what a process says until it ends, or ends it when its time is up.
 fn listen(mut child: Child, timeout: Duration) -> Said {
     let begin = Instant::now();
-    let (sender, out) = mpsc::channel();
-    let pipe = child.stdout.take();
-    thread::spawn(move || sender.send(read_some(pipe, REPLY_MAX)));
-    let (sender, complaint) = mpsc::channel();
-    let pipe = child.stderr.take();
-    thread::spawn(move || sender.send(read_some(pipe, COMPLAINT_MAX)));
+    let out = read_beside(child.stdout.take(), REPLY_MAX + 1);
+    let complaint = read_beside(child.stderr.take(), COMPLAINT_MAX);
     let out = out.recv_timeout(timeout).ok();
     let exit = if out.is_some() { ended(&mut child, begin, timeout) } else { None };
-    end_group(&child);
-    let _ = child.wait();
+    if exit.is_none() {
+        end_group(&child);
+        let _ = child.wait();
+    }
     let complaint = complaint.recv_timeout(Duration::from_secs(1)).unwrap_or_default();
     let complaint = String::from_utf8_lossy(&complaint).into_owned();
     let failed = match (&out, exit) {
@@ -154,13 +152,19 @@ fn listen(mut child: Child, timeout: Duration) -> Said {
     Said { out: out.unwrap_or_default(), complaint, exit, failed }
 }
 
-/// At most one byte more than `most`.
-fn read_some(pipe: Option<impl Read>, most: u64) -> Vec<u8> {
-    let mut bytes = Vec::new();
-    if let Some(pipe) = pipe {
-        // What was read before an error is what there is.
-        let _ = pipe.take(most + 1).read_to_end(&mut bytes);
-    }
+/// Reads a pipe to its end in a thread of its own, and keeps the first `most` bytes.
+fn read_beside(pipe: Option<impl Read + Send + 'static>, most: u64) -> mpsc::Receiver<Vec<u8>> {
+    let (sender, bytes) = mpsc::channel();
+    thread::spawn(move || {
+        let mut first = Vec::new();
+        if let Some(mut pipe) = pipe {
+            // What was read before an error is what there is; a closed pipe would end the process.
+            let _ = pipe.by_ref().take(most).read_to_end(&mut first);
+            let _ = io::copy(&mut pipe, &mut io::sink());
+        }
+        // Nobody waits for it any more where the time is up.
+        let _ = sender.send(first);
+    });
     bytes
 }
 
@@ -180,7 +184,7 @@ fn end_group(child: &Child) {
         fn kill(process: i32, signal: i32) -> i32;
     }
     const SIGKILL: i32 = 9;
-    // The group was made for this child alone; where it has ended already nothing happens.
+    // The group was made for this child, which has not been waited for, so that its number is still its own.
     unsafe { kill(-(child.id() as i32), SIGKILL) };
 }
 

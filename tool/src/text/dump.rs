@@ -65,7 +65,7 @@ pub fn config(bytes: &[u8], names: &Names) -> String {
     };
     let mut text = format!("# configuration, {}\n", words::counted(bytes.len(), "byte"));
     write_rows(&mut text, &rows);
-    if let Some((field, Break::Cut(offset))) = read.broken.filter(|(_, why)| why.offset() == bytes.len()) {
+    if let Some((field, Break::Cut { offset })) = read.broken.filter(|(_, why)| why.offset() == bytes.len()) {
         let _ = writeln!(text, "# it ends at offset {offset}, where {} is missing", fields::name(field, names));
     }
     text
@@ -143,8 +143,8 @@ fn event_rows(bytes: &[u8], event: &layout::Event, step: usize, times: usize, na
 
 fn break_words(why: Break) -> String {
     match why {
-        Break::Cut(offset) => format!("the number at {offset} is cut off"),
-        Break::Malformed(offset) => format!("the number at {offset} is too large or not in its shortest form"),
+        Break::Cut { offset } => format!("the number at {offset} is cut off"),
+        Break::Malformed { offset, .. } => format!("the number at {offset} is too large or not in its shortest form"),
         Break::UnknownEvent(code) => format!("no event has the code {}", code.value),
     }
 }

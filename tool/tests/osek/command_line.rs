@@ -8,15 +8,16 @@ use osek_tests::cases::Random;
 
 use super::common::*;
 
-const COMMANDS: [&str; 7] = ["run", "explain", "timeline", "asm", "dump", "cases", "compare"];
+const COMMANDS: [&str; 8] = ["run", "explain", "timeline", "asm", "dump", "salvage", "cases", "compare"];
 
 /// A command line of each command that prints something, in a folder with `both.txt` and `trace.txt`.
-const PRINTING: [&[&str]; 6] = [
+const PRINTING: [&[&str]; 7] = [
     &["run", "both.txt", "--json"],
     &["explain", "both.txt"],
     &["timeline", "both.txt", "--svg", "-"],
     &["asm", "trace.txt", "-o", "-"],
     &["dump", "both.txt"],
+    &["salvage", "trace.txt", "-o", "x"],
     &["compare", "--sim", "true", "both.txt"],
 ];
 
@@ -79,6 +80,7 @@ fn a_missing_file_is_named() {
         &["asm", "no.bin", "-o", "out"],
         &["asm", "config.bin", "-o", "out", "--config", "no.bin"],
         &["dump", "no.bin"],
+        &["salvage", "no.bin", "-o", "out"],
         &["dump", "trace.bin", "--config", "no.bin"],
         &["compare", "--sim", "true", "config.bin", "no.bin"],
     ] {
@@ -98,6 +100,7 @@ fn empty_files_are_bytes_of_length_0() {
         folder.osek(&["asm", file, "-o", "out"]).prints("", 0);
         assert_eq!(folder.read("out"), b"");
     }
+    folder.osek(&["salvage", "empty", "-o", "out"]).prints("kept 0 events in 0 bytes, dropped 0 bytes\n", 0);
     folder.osek(&["dump", "empty", "--as", "trace"]).prints("# trace, 0 bytes\ntrace\n", 0);
     folder
         .osek(&["dump", "empty", "--as", "config"])
@@ -124,6 +127,7 @@ fn huge_files_are_judged_or_refused() {
         &["timeline", "config.bin", "huge.bin", "--svg", "x"],
         &["asm", "huge.bin", "-o", "x"],
         &["dump", "huge.bin"],
+        &["salvage", "huge.bin", "-o", "x"],
         &["compare", "--sim", "true", "huge.bin", "trace.bin"],
     ] {
         folder.osek(arguments).fails(4, "huge.bin is longer than 16777216 bytes");
@@ -156,6 +160,7 @@ fn noise_never_breaks_a_command() {
             &["timeline", "a", "b", "--svg", "x"],
             &["asm", "a", "-o", "x"],
             &["dump", "a"],
+            &["salvage", "a", "-o", "x"],
             &["dump", "a", "--as", "config", "--config", "b"],
         ] {
             let said = folder.osek(arguments);

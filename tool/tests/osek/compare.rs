@@ -2,7 +2,6 @@
 
 use std::path::{Path, PathBuf};
 use std::process::Command;
-use std::time::{Duration, Instant};
 
 use osek_tests::subject::LIBRARY;
 
@@ -24,7 +23,7 @@ type Planted = (&'static str, usize, usize, &'static str);
 
 #[test]
 fn planted_faults_are_found_made_small_and_told() {
-    let faults: [Planted; 12] = [
+    let faults: [Planted; 13] = [
         ("limit_is_id", 7, 2, "event 0 Activate task0: status 4 E_OS_LIMIT expected, 3 E_OS_ID given"),
         ("ceiling_not_shown", 11, 3, "Get resource0: level 2 expected, 1 given"),
         ("second_request_lost", 7, 4, "event 1 Line isr0: status 0 E_OK expected, 4 E_OS_LIMIT given"),
@@ -36,6 +35,7 @@ fn planted_faults_are_found_made_small_and_told() {
         ("unknown_code_one_later", 7, 2, "refusal 23 at place 0 expected, refusal 23 at place 1 given"),
         ("left_over_accepted", 8, 0, "refusal 9 at place 7 expected, 0 events given"),
         ("last_line_end_missing", 7, 0, "the listings have the same lines, but not the same line ends"),
+        ("output_losses_high_byte_first", 14, 8, "losses of body"),
         ("output_without_losses", 7, 0, "0 events expected, no answer given: it printed nothing"),
     ];
     let folder = Folder::new();
@@ -77,6 +77,8 @@ fn a_right_simulator_is_equal_with_the_listing_or_the_output() {
     }
     let own = format!("{OSEK} run");
     folder.osek(&["compare", "--sim", &own, "--count", "50"]).done();
+    let chatty = format!("f() {{ head -c 1000000 /dev/zero >&2; {OSEK} run \"$@\"; }}; f");
+    folder.osek(&["compare", "--sim", &chatty, "config.bin", "trace.bin"]).prints("equal\n", 0);
     assert!(!folder.0.join("difference").exists());
 }
 
@@ -90,12 +92,14 @@ fn a_simulator_that_breaks_down_differs() {
     assert_eq!(folder.read("a/trace.bin").len(), 2, "{}", said.out);
     let said = folder.osek(&["compare", "--sim", &simulator("silent"), "-o", "b"]);
     assert!(said.out.contains("no answer given: it printed nothing"), "{}", said.out);
-    let begin = Instant::now();
     let hangs = simulator("stop_hangs");
     folder.write("stop.txt", "version 1\ntask a priority 1 autostart\ntrace\nstop 0\n");
-    let said = folder.osek(&["compare", "--sim", &hangs, "--timeout", "1", "-o", "c", "stop.txt"]);
-    assert!(said.out.contains("no answer given: it did not end within 1 s"), "{}{}", said.out, said.err);
-    assert!(begin.elapsed() < Duration::from_secs(30));
+    for endless in [hangs.as_str(), "yes #"] {
+        let arguments = ["compare", "--sim", endless, "--timeout", "1", "-o", "c", "stop.txt"];
+        let output = Command::new("timeout").args(["60", OSEK]).args(arguments).current_dir(&folder.0).output();
+        let said = Said::of(&arguments, output.expect("timeout runs"));
+        assert!(said.out.contains("no answer given: it did not end within 1 s"), "{}{}", said.out, said.err);
+    }
 }
 
 #[test]

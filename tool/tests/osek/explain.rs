@@ -28,12 +28,12 @@ fn each_refusal_of_the_configuration_is_a_sentence() {
         (
             [&DOCUMENT_CONFIG[..3], &[0x80]].concat(),
             "1 4",
-            "offset 3: the priority of body 0 is not complete: after 80 the input ends, and the last byte of a number is below 80.",
+            "offset 4: the priority of body 0 is not complete: the input ends after 80.",
         ),
         (
             damaged(3, &[0x82, 0]),
             "2 4",
-            "offset 3: the priority of body 0 is not a number in its shortest form: 82 00 is refused, its last byte is 00, so it would be shorter without it.",
+            "offset 4: the priority of body 0 is not in its shortest form: of 82 00 the 00 is superfluous.",
         ),
         (damaged(0, &[2]), "3 0", "offset 0: the version is 2. Allowed: 1."),
         (damaged(1, &[33]), "4 1", "offset 1: the body count is 33. Allowed: 1 to 32."),
@@ -87,13 +87,17 @@ fn each_refusal_of_the_configuration_is_a_sentence() {
 fn each_refusal_of_the_trace_is_a_sentence() {
     let cases: [(&[u8], &str, &str); 7] = [
         (&[6, 1], "21 2", "offset 2: the body of event 1 Activate is missing: the input ends here."),
-        (&[8, 0, 0x80], "21 3", "offset 2: the delay of event 0 Start is not complete: after 80 the input ends, and the last byte of a number is below 80."),
-        (&[0x80], "21 1", "offset 0: the code of event 0 is not complete: after 80 the input ends, and the last byte of a number is below 80."),
-        (&[4, 0x80, 0], "22 2", "offset 1: the resource of event 0 Get is not a number in its shortest form: 80 00 is refused, its last byte is 00, so it would be shorter without it."),
+        (&[8, 0, 0x80], "21 3", "offset 3: the delay of event 0 Start is not complete: the input ends after 80."),
+        (&[0x80], "21 1", "offset 1: the code of event 0 is not complete: the input ends after 80."),
+        (
+            &[4, 0x80, 0x80, 0],
+            "22 3",
+            "offset 3: the resource of event 0 Get is not in its shortest form: of 80 80 00 the 00 is superfluous.",
+        ),
         (
             &[9, 0xff, 0xff, 0xff, 0xff, 0x10],
             "22 5",
-            "offset 1: the table of event 0 Stop is above 4,294,967,295: FF FF FF FF 10 is refused, a fifth byte may be at most 0F.",
+            "offset 5: the table of event 0 Stop is above 4,294,967,295: the fifth byte of FF FF FF FF 10 may be at most 0F.",
         ),
         (&[6, 0x80, 1], "23 1", "offset 1: the code of event 1 is 128. Allowed: 1 to 9."),
         (&[0], "23 0", "offset 0: the code of event 0 is 0. Allowed: 1 to 9."),

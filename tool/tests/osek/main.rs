@@ -7,5 +7,6 @@ mod compare;
 mod documents;
 mod explain;
 mod run;
+mod salvage;
 mod text;
 mod timeline;

@@ -1,7 +1,7 @@
 -- The events of tables, case by case in the order of their checks, as the code goes through them. Assumes nothing.
 use Prim.Native.Nat.{ℕ, zero, suc, _+_, _≤_, _<_}
 use mathlib.Core.Path.{_≡_, refl, sym, ap, _∙_}
-use mathlib.Core.Bool.{Bool, true, false, _&&_, _||_}
+use mathlib.Core.Bool.{Bool, true, false, _||_}
 use mathlib.Core.List.{List}
 use native.Mathlib.Omega.{arith}
 use lib.Dec.{ltb, eqb}
@@ -11,9 +11,9 @@ use Rattle.config.specs.Value.{maxEntries}
 use Rattle.scheduler.specs.Status.{callLevel, noSuch, badDelay, alreadyRuns, noFunction, firstGiven}
 use Rattle.scheduler.specs.Call.{longestDelay}
 use Rattle.machine.specs.Model.{Picked, Model, noRank, withCore, withRequest, withRest, withCells, doneWith, refusedWith}
-use Rattle.machine.specs.Arbiter.{arbitrated}
+use Rattle.machine.specs.Arbiter.{arbitrated, settled}
 use Rattle.machine.specs.Cells.{switchOff, isOn, countersTicked, switchesTicked, someTurn, marks, countersStarted, switchesStarted, someLong, countersStopped, switched, Due, requestsDue}
-use Rattle.machine.specs.Events.{marksOf, switchesOf, tick, start, stop}
+use Rattle.machine.specs.Events.{tick, start, stop}
 use Rattle.kernel.specs.Methods.{dueWith, Laid}
 
 pub length-marks : (k e : ℕ) (w : Bool) (ks os ns : List ℕ) → length (marks k e w ks os ns) ≡ k
@@ -21,33 +21,26 @@ unfolding marks
 length-marks zero e w ks os ns = refl
 length-marks (suc k) e w ks os ns = ap suc (length-marks k (suc e) w ks os ns)
 
--- the switches after a tick, and whether a turn is left to pass: where one was, and where none was
-module _ (ks : List ℕ) (m : Model) where
-  module _ (turning : m .turning ≡ true) {os : List ℕ} (switches : os ≡ switchesTicked maxEntries 0 ks (m .counter) (m .on)) where
-    pub turning-switches : os ≡ switchesOf ks m
-    turning-switches = rw turning switches
-
-    pub turning-turns : {z : Bool} → z ≡ someTurn maxEntries 0 os → z ≡ m .turning && someTurn maxEntries 0 (switchesOf ks m)
-    turning-turns is = rw turning (is ∙ ap (someTurn maxEntries 0) switches)
-
-  module _ (still : m .turning ≡ false) where
-    pub still-switches : m .on ≡ switchesOf ks m
-    still-switches = rw still
-
-    pub still-turns : m .turning ≡ m .turning && someTurn maxEntries 0 (switchesOf ks m)
-    still-turns = rw still
-
 -- Tick
 module _ (ks rs ps : List ℕ) (m : Model) where
-  pub tick-done : {ms : List Bool} → ms ≡ marksOf maxEntries ks m
-      → {ns : List ℕ} → ns ≡ countersTicked maxEntries 0 (m .turning) ks (m .on) (m .counter)
-      → {os : List ℕ} {z : Bool} → os ≡ switchesOf ks m → z ≡ m .turning && someTurn maxEntries 0 (switchesOf ks m)
+  pub tick-done : m .turning ≡ false → {ms : List Bool} → ms ≡ marks maxEntries 0 false ks (m .on) (m .counter)
+      → {ns : List ℕ} → ns ≡ countersTicked maxEntries 0 false ks (m .on) (m .counter)
       → {w : ℕ} {ls : List ℕ} → dueWith w ls ≡ requestsDue (m .core .started) ms rs (dueWith (m .core .request) (m .losses))
       → {p : Picked} → p ≡ arbitrated ps (withRequest (m .core) w)
-      → doneWith (withCore (withRest m ns os z ls) (p .core)) (p .begun) ≡ tick ks rs ps m
+      → doneWith (withCore (withRest m ns (m .on) (m .turning) ls) (p .core)) (p .begun) ≡ tick ks rs ps m
   unfolding tick
-  tick-done marked counted switches turns due picked =
-      rw (picked, counted, switches, turns, ap (λ (x : Due). x .request) due, ap (λ (x : Due). x .losses) due, marked)
+  tick-done still marked counted due picked =
+      rw (picked, counted, ap (λ (x : Due). x .request) due, ap (λ (x : Due). x .losses) due, marked, still)
+
+  -- where a cell may have a turn to pass
+  pub turning-done : m .turning ≡ true → {ms : List Bool} → ms ≡ marks maxEntries 0 true ks (m .on) (m .counter)
+      → {ns : List ℕ} → ns ≡ countersTicked maxEntries 0 true ks (m .on) (m .counter)
+      → {os : List ℕ} → os ≡ switchesTicked maxEntries 0 ks (m .counter) (m .on) → {z : Bool} → z ≡ someTurn maxEntries 0 os
+      → {w : ℕ} {ls : List ℕ} → dueWith w ls ≡ requestsDue (m .core .started) ms rs (dueWith (m .core .request) (m .losses))
+      → settled ps (withCore (withRest m ns os z ls) (withRequest (m .core) w)) ≡ tick ks rs ps m
+  unfolding tick
+  turning-done turning marked counted switches turns due =
+      rw (counted, turns, switches, ap (λ (x : Due). x .request) due, ap (λ (x : Due). x .losses) due, marked, turning)
 
 -- a delay that is not refused
 pub short-sum : (d g : ℕ) → eqb d 0 || ltb longestDelay (d + g) ≡ false → d + g ≤ longestDelay

@@ -26,24 +26,8 @@ const TURN: u16 = 2;
 // How many match marks are looked at in one go.
 const GROUP: usize = 8;
 
-// Ticks every cell's counter, and gives their match marks. Turns to pass are rare, and a loop that need not look at them is shorter.
+// Ticks every cell's counter, and gives their match marks, where no cell has a turn to pass.
 pub fn tick_cells<'a, 'b>(
-    turning: bool,
-    compare: &'a [u16; 64],
-    on: &'a [u16; 64],
-    counter: &'b mut [u16; 64],
-) -> [bool; 64]
-    ensures { λ r. ⌜ r ≡ marks maxEntries 0 turning (now (compare .entry)) (now (on .entry)) (now (counter .entry)) ⌝ }
-    ensures { λ _. ⌜ now (counter .exit) ≡ countersTicked maxEntries 0 turning (now (compare .entry)) (now (on .entry)) (now (counter .entry)) ⌝ }
-{
-    if turning {
-        return tick_turning(compare, on, counter);
-    }
-    tick_plain(compare, on, counter)
-}
-
-// The same where no cell has a turn to pass.
-fn tick_plain<'a, 'b>(
     compare: &'a [u16; 64],
     on: &'a [u16; 64],
     counter: &'b mut [u16; 64],
@@ -63,7 +47,7 @@ fn tick_plain<'a, 'b>(
 }
 
 // The same where a cell may have one.
-fn tick_turning<'a, 'b>(
+pub fn tick_turns<'a, 'b>(
     compare: &'a [u16; 64],
     on: &'a [u16; 64],
     counter: &'b mut [u16; 64],
@@ -135,6 +119,28 @@ pub fn take_matches<'a, 'b>(
     while e < CELLS {
         word = take_group(e, matched, ranks, started, word, losses);
         e += GROUP;
+    }
+    word
+}
+
+// The same, one by one: for ticks with a turn to pass, which are rare. The loop above then has one caller, and stays inlined there.
+pub fn take_each<'a, 'b>(
+    matched: &'a [bool; 64],
+    ranks: &'a [u8; 64],
+    started: u32,
+    request: u32,
+    losses: &'b mut [u16; 32],
+) -> u32
+    requires { ⌜ length (now matched) ≡ maxEntries ⌝ }
+    ensures { λ r. ⌜ dueWith r (now (losses .exit)) ≡ requestsDue started (now (matched .entry)) (now (ranks .entry)) (dueWith request (now (losses .entry))) ⌝ }
+{
+    let mut word = request;
+    let mut e = 0;
+    while e < CELLS {
+        if matched[e] {
+            word = take_match(byte_at(ranks, e, NO_RANK), started, word, losses);
+        }
+        e += 1;
     }
     word
 }

@@ -1,6 +1,6 @@
 // The events of tables: Tick, Start and Stop.
 ghost use mathlib.Core.Path.{_≡_};
-ghost use mathlib.Core.Bool.{_||_};
+ghost use mathlib.Core.Bool.{true, _||_};
 ghost use Prim.Native.Nat.{_+_};
 ghost use lib.Dec.{ltb, eqb};
 ghost use lib.ListN.{getD};
@@ -24,9 +24,11 @@ use super::cells::some_turn;
 use super::cells::start_cells;
 use super::cells::stop_counters;
 use super::cells::switch;
+use super::cells::take_each;
 use super::cells::take_matches;
 use super::cells::tick_cells;
 use super::cells::tick_switches;
+use super::cells::tick_turns;
 use super::lookup::byte_at;
 use super::lookup::short_at;
 
@@ -39,26 +41,48 @@ impl Model {
     ) -> Outcome
         ensures { λ r. ⌜ r ≡ outcomeOf (tick (now (compare .entry)) (now («entry_rank» .entry)) (now (priority .entry)) (view self)) ⌝ }
     {
+        if self.turning {
+            return self.tick_turning(compare, entry_rank, priority);
+        }
         let started = self.started;
         let asked = self.request;
         let runner = self.runner;
         let level = self.level;
-        let turning = self.turning;
         let mut losses = self.losses;
         let on = self.on;
         let mut counter = self.counter;
-        if turning {
-            let mut next = on;
-            tick_switches(compare, &counter, &mut next);
-            self.turning = some_turn(&next);
-            self.on = next;
-        }
-        let matched = tick_cells(turning, compare, &on, &mut counter);
+        let matched = tick_cells(compare, &on, &mut counter);
         let request = take_matches(&matched, entry_rank, started, asked, &mut losses);
         let picked = arbitrated(request, started, runner, level, priority);
         self.counter = counter;
         self.losses = losses;
         self.seated(picked)
+    }
+
+    // A tick where a cell may have a turn to pass. It shares no array with the other, so that the compiler keeps that one's in registers.
+    fn tick_turning<'a>(
+        mut self,
+        compare: &'a [u16; 64],
+        entry_rank: &'a [u8; 64],
+        priority: &'a [u8; 32],
+    ) -> Outcome
+        requires { ⌜ self .turning ≡ true ⌝ }
+        ensures { λ r. ⌜ r ≡ outcomeOf (tick (now (compare .entry)) (now («entry_rank» .entry)) (now (priority .entry)) (view self)) ⌝ }
+    {
+        let started = self.started;
+        let asked = self.request;
+        let mut losses = self.losses;
+        let on = self.on;
+        let mut next = on;
+        let mut counter = self.counter;
+        tick_switches(compare, &counter, &mut next);
+        let matched = tick_turns(compare, &on, &mut counter);
+        let request = take_each(&matched, entry_rank, started, asked, &mut losses);
+        self.turning = some_turn(&next);
+        self.counter = counter;
+        self.on = next;
+        self.losses = losses;
+        self.settled(request, priority)
     }
 
     pub fn start<'a>(

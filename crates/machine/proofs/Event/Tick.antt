@@ -3,14 +3,13 @@
 use Prim.Native.Nat.{ℕ, suc, _+_, _≤_, _<_}
 use mathlib.Core.Path.{_≡_, refl, sym, ap, ap₂, _∙_}
 use mathlib.Core.Logic.{_≢_}
-use mathlib.Core.Bool.{Bool, true, false, true≢false, not, _&&_, _||_}
+use mathlib.Core.Bool.{Bool, true, false, true≢false, not, _||_}
 use mathlib.Core.List.{List, [], _∷_, map}
 use native.Mathlib.Omega.{arith}
 use lib.ListN.{length, getD, set, drop, length-set, length-map}
 use lib.Seq.{getD-set-same, getD-set-other, drop-cons}
 use Rattle.number.proofs.Cases.{by-eq}
 use Rattle.config.specs.declared.Config.{Config}
-use Rattle.config.specs.Value.{maxEntries}
 use Rattle.config.specs.Meaning.{isTask}
 use Rattle.plan.specs.declared.Plan.{Plan}
 use Rattle.word.specs.Word.{has}
@@ -24,8 +23,8 @@ use Rattle.scheduler.specs.Scheduler.{Tick, step}
 use Rattle.scheduler.proofs.Effects.{tables-ticked}
 use Rattle.machine.specs.Model.{Model, withCore, withRequest, withRest}
 use Rattle.machine.specs.Arbiter.{settled}
-use Rattle.machine.specs.Cells.{Due, oneMore, matchAt, requestsDue, countersTicked, someTurn}
-use Rattle.machine.specs.Events.{marksOf, dueOf, switchesOf, ticking, tick}
+use Rattle.machine.specs.Cells.{Due, oneMore, matchAt, requestsDue}
+use Rattle.machine.specs.Events.{marksOf, dueOf, ticking, tick}
 use Rattle.machine.specs.Machine.{statusOf, effectOf}
 use Rattle.machine.proofs.Relation.Fitted.{Fitted}
 use Rattle.machine.proofs.Relation.Words.{at, busy-is}
@@ -153,8 +152,8 @@ module _ {c : Config} {p : Plan} {rk : ℕ → ℕ} (fit : Fitted c p rk) {m : M
   ticked-tied =
       rw due-is
       (elsewhere (owed .tied)
-      (countersTicked maxEntries 0 (m .turning) (p .compare) (m .on) (m .counter)) (switchesOf (p .compare) m)
-      (m .turning && someTurn maxEntries 0 (switchesOf (p .compare) m)) (requestsDue (m .core .started) ms (p .entry) (record { request = m .core .request; losses = m .losses }) .losses))
+      (ticking (p .compare) (p .entry) m .counter) (ticking (p .compare) (p .entry) m .on) (ticking (p .compare) (p .entry) m .turning)
+      (requestsDue (m .core .started) ms (p .entry) (record { request = m .core .request; losses = m .losses }) .losses))
 
   pub agrees-tick : Agrees c p rk m s Tick
   unfolding statusOf effectOf tick step firstGiven

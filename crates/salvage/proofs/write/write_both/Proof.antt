@@ -13,11 +13,11 @@ use Rattle.salvage.proofs.write.write_both.Statement.{statement}
 use Rattle.salvage.proofs.write.write_both.Tie as tie
 
 abbrev Inv-loop : tie.InvT-loop
-Inv-loop trace events₀ stretches₀ left₀ gap₀ n₀ m₀ at₀ at-end events stretches left gap n m at =
-    EventsOn trace events₀ at left n events × ListOn trace stretches₀ at left gap m stretches
+Inv-loop trace events₀ stretches₀ left₀ gap₀ kept₀ listed₀ at₀ at-end events stretches left gap kept listed at =
+    EventsOn trace events₀ at left kept events × ListOn trace stretches₀ at left gap listed stretches
 
 abbrev μ-loop : tie.MeasureT-loop
-μ-loop trace events₀ stretches₀ left₀ gap₀ n₀ m₀ at₀ at-end events stretches left gap n m at = at-end - at
+μ-loop trace events₀ stretches₀ left₀ gap₀ kept₀ listed₀ at₀ at-end events stretches left gap kept listed at = at-end - at
 
 loop-holds : tie.Need-loop-holds Inv-loop μ-loop
 loop-holds c = let s = c .before .before .before in let a = s .args in
@@ -37,8 +37,8 @@ loop-less c = omega (arith, c .before .before .loop-test .taken)
 
 loop-again : tie.Need-loop-again Inv-loop μ-loop
 loop-again c = let b = c .before in let o = b .before .before in let l = o .loop in let a = o .before .before .before .before .args in (
-  events-turn-dropped (a .trace .now) (a .events .now) (l .at) (l .left) (l .n) (l .events) (l .inv .0) (b .belonging .result) (b .before .loop-test .taken) (b .belonging .ensures) (c .if1 .taken),
-  list-turn-dropped (a .trace .now) (a .stretches .now) (l .at) (l .left) (l .gap) (l .m) (l .stretches) (l .inv .1) (b .belonging .result) (b .before .loop-test .taken) (b .belonging .ensures) (c .if1 .taken),
+  events-turn-dropped (a .trace .now) (a .events .now) (l .at) (l .left) (l .kept) (l .events) (l .inv .0) (b .belonging .result) (b .before .loop-test .taken) (b .belonging .ensures) (c .if1 .taken),
+  list-turn-dropped (a .trace .now) (a .stretches .now) (l .at) (l .left) (l .gap) (l .listed) (l .stretches) (l .inv .1) (b .belonging .result) (b .before .loop-test .taken) (b .belonging .ensures) (c .if1 .taken),
 )
 
 shared-slice-read-events : tie.Need-shared-slice-read-events Inv-loop μ-loop
@@ -46,10 +46,10 @@ shared-slice-read-events c = c .before .before .before .loop-test .taken
 
 slice-write-events : tie.Need-slice-write-events Inv-loop μ-loop
 slice-write-events c = let e = c .before in let b = e .before in let o = b .before .before in let l = o .loop in let a = o .before .before .before .before .args in
-    events-room (a .trace .now) (a .events .now) (l .at) (l .left) (l .n) (l .events) (l .inv .0) (b .belonging .result) (b .before .loop-test .taken) (b .belonging .ensures) (e .if1 .left)
+    events-room (a .trace .now) (a .events .now) (l .at) (l .left) (l .kept) (l .events) (l .inv .0) (b .belonging .result) (b .before .loop-test .taken) (b .belonging .ensures) (e .if1 .left)
 
-add-n : tie.Need-add-n Inv-loop μ-loop
-add-n c = let o = c .before .before .before .before in
+add-kept : tie.Need-add-kept Inv-loop μ-loop
+add-kept c = let o = c .before .before .before .before in
     let h = slice-write-events c in
     omega (arith, progress-length _ _ _ _ _ (o .loop .inv .0 .progress))
 
@@ -60,7 +60,7 @@ write-stretch-requires : tie.Need-write-stretch-requires Inv-loop μ-loop
 write-stretch-requires c κs = let e = c .before .before in let b = e .before in let o = b .before .before in let l = o .loop in
     let s = o .before .before .before .before in (
       omega (arith, l .inv .1 .gap-le, l .inv .1 .at-le, s .pre .short),
-      list-room (s .args .trace .now) (s .args .stretches .now) (l .at) (l .left) (l .gap) (l .m) (l .stretches) (l .inv .1) (b .belonging .result) (b .before .loop-test .taken) (b .belonging .ensures) (e .if1 .left),
+      list-room (s .args .trace .now) (s .args .stretches .now) (l .at) (l .left) (l .gap) (l .listed) (l .stretches) (l .inv .1) (b .belonging .result) (b .before .loop-test .taken) (b .belonging .ensures) (e .if1 .left),
     )
 
 sub-left : tie.Need-sub-left Inv-loop μ-loop
@@ -76,9 +76,9 @@ loop-again-2 : tie.Need-loop-again-2 Inv-loop μ-loop
 loop-again-2 c = let w = c .before .before .write-stretch in
     let e = c .before .before .before .before .before in let b = e .before in let o = b .before .before in let l = o .loop in
     let a = o .before .before .before .before .args in (
-      events-turn-kept (a .trace .now) (a .events .now) (l .at) (l .left) (l .n) (l .events) (l .inv .0) (b .belonging .result) (b .before .loop-test .taken) (b .belonging .ensures) (e .if1 .left),
+      events-turn-kept (a .trace .now) (a .events .now) (l .at) (l .left) (l .kept) (l .events) (l .inv .0) (b .belonging .result) (b .before .loop-test .taken) (b .belonging .ensures) (e .if1 .left),
       rw (w .ensures .0, w .ensures .1)
-          (list-turn-kept (a .trace .now) (a .stretches .now) (l .at) (l .left) (l .gap) (l .m) (l .stretches) (l .inv .1) (b .belonging .result) (b .before .loop-test .taken) (b .belonging .ensures) (e .if1 .left)),
+          (list-turn-kept (a .trace .now) (a .stretches .now) (l .at) (l .left) (l .gap) (l .listed) (l .stretches) (l .inv .1) (b .belonging .result) (b .before .loop-test .taken) (b .belonging .ensures) (e .if1 .left)),
     )
 
 sub-write-stretch-2 : tie.Need-sub-write-stretch-2 Inv-loop μ-loop
@@ -87,14 +87,14 @@ sub-write-stretch-2 c = let l = c .before .loop in omega (arith, l .inv .1 .gap-
 write-stretch-requires-2 : tie.Need-write-stretch-requires-2 Inv-loop μ-loop
 write-stretch-requires-2 c κs = let o = c .before .before in let l = o .loop in let s = o .before .before .before .before in (
   omega (arith, l .inv .1 .gap-le, l .inv .1 .at-le, s .pre .short),
-  list-last-room (s .args .trace .now) (s .args .stretches .now) (l .at) (l .left) (l .gap) (l .m) (l .stretches) (l .inv .1) (c .before .loop-test .left),
+  list-last-room (s .args .trace .now) (s .args .stretches .now) (l .at) (l .left) (l .gap) (l .listed) (l .stretches) (l .inv .1) (c .before .loop-test .left),
 )
 
 returns : tie.Need-returns Inv-loop μ-loop
 returns c = let w = c .before .before .write-stretch2 in
     let t = c .before .before .before .before in let o = t .before in let l = o .loop in let a = o .before .before .before .before .args in (
-      events-written (a .trace .now) (a .events .now) (l .at) (l .left) (l .n) (l .events) (l .inv .0) (t .loop-test .left),
-      w .ensures .1 ∙ list-written (a .trace .now) (a .stretches .now) (l .at) (l .left) (l .gap) (l .m) (l .stretches) (l .inv .1) (t .loop-test .left),
+      events-written (a .trace .now) (a .events .now) (l .at) (l .left) (l .kept) (l .events) (l .inv .0) (t .loop-test .left),
+      w .ensures .1 ∙ list-written (a .trace .now) (a .stretches .now) (l .at) (l .left) (l .gap) (l .listed) (l .stretches) (l .inv .1) (t .loop-test .left),
     )
 
 same-length : tie.Need-same-length Inv-loop μ-loop
@@ -119,7 +119,7 @@ write-both-spec =
     loop-again
     shared-slice-read-events
     slice-write-events
-    add-n
+    add-kept
     sub-write-stretch
     write-stretch-requires
     sub-left

@@ -1,19 +1,19 @@
--- `tick` meets its contract: the switches where a turn may pass, the cells, then the matches in table order, then arbitration.
+-- `tick` meets its contract: the cells, then the matches in table order, then arbitration; with a turn to pass `tick_turning` does.
 -- Assumes nothing.
-use mathlib.Core.Logic.{⊎-elim}
+use mathlib.Core.Bool.{false}
 use mathlib.Core.Path.{ap, _∙_}
 use Rattle.config.specs.Value.{maxEntries}
 use Rattle.kernel.specs.View.{view, viewPicked, outcomeOf}
-use Rattle.kernel.proofs.Methods.Tables.{length-marks, turning-switches, turning-turns, still-switches, still-turns, tick-done}
+use Rattle.kernel.proofs.Methods.Tables.{length-marks, tick-done}
 use borrow.Author.Needs.{needs}
 use Rattle.kernel.proofs.model.Model.tick.Statement.{statement}
 use Rattle.kernel.proofs.model.Model.tick.Tie as tie
 
-tick-switches-requires : tie.Need-tick-switches-requires
-tick-switches-requires c κs = search needs
+tick-turning-requires : tie.Need-tick-turning-requires
+tick-turning-requires c κs = c .if1 .taken
 
-some-turn-requires : tie.Need-some-turn-requires
-some-turn-requires c κs = search needs
+returns : tie.Need-returns
+returns c = c .tick-turning .ensures
 
 tick-cells-requires : tie.Need-tick-cells-requires
 tick-cells-requires c κs = search needs
@@ -22,7 +22,7 @@ take-matches-requires : tie.Need-take-matches-requires
 take-matches-requires c κs =
     let c₁ = c .before .before in let c₂ = c₁ .before .before .before .before .before .before .before in
     let a = c₂ .args in
-    rw (c₁ .tick-cells .ensures .0) (length-marks maxEntries 0 (a .self .turning) (a .compare .now) (a .self .on) (a .self .counter))
+    rw (c₁ .tick-cells .ensures .0) (length-marks maxEntries 0 false (a .compare .now) (a .self .on) (a .self .counter))
 
 arbitrated-requires : tie.Need-arbitrated-requires
 arbitrated-requires c κs = search needs
@@ -30,22 +30,13 @@ arbitrated-requires c κs = search needs
 seated-requires : tie.Need-seated-requires
 seated-requires c κs = search needs
 
-returns : tie.Need-returns
-returns c =
+returns-2 : tie.Need-returns-2
+returns-2 c =
     let c₁ = c .before in let c₂ = c₁ .before in let c₃ = c₂ .before .before .before in
-    let c₄ = c₃ .before .before .before in let c₅ = c₄ .before .before .before .before in let a = c₅ .args in
-    ⊎-elim
-    (λ w.
-    (rw (w .6) at (c .seated .ensures))
-    ∙ ap outcomeOf (tick-done (a .compare .now) (a .entry-rank .now) (a .priority .now) (view (a .self)) (c₃ .tick-cells .ensures .0) (c₃ .tick-cells .ensures .1)
-    (turning-switches (a .compare .now) (view (a .self)) (w .0 .taken) (w .3 .ensures)) (turning-turns (a .compare .now) (view (a .self)) (w .0 .taken) (w .3 .ensures) (w .5 .ensures))
-    (c₂ .take-matches .ensures) (ap viewPicked (c₁ .arbitrated .ensures))))
-    (λ w.
-    (rw (w .1) at (c .seated .ensures))
-    ∙ ap outcomeOf (tick-done (a .compare .now) (a .entry-rank .now) (a .priority .now) (view (a .self)) (c₃ .tick-cells .ensures .0) (c₃ .tick-cells .ensures .1)
-    (still-switches (a .compare .now) (view (a .self)) (w .0 .left)) (still-turns (a .compare .now) (view (a .self)) (w .0 .left))
-    (c₂ .take-matches .ensures) (ap viewPicked (c₁ .arbitrated .ensures))))
-    (c₄ .if1 .came)
+    let c₄ = c₃ .before .before .before .before .before .before in let c₅ = c₄ .before in let a = c₅ .args in
+    (c .seated .ensures)
+    ∙ ap outcomeOf (tick-done (a .compare .now) (a .entry-rank .now) (a .priority .now) (view (a .self)) (c₄ .if1 .left) (c₃ .tick-cells .ensures .0) (c₃ .tick-cells .ensures .1)
+    (c₂ .take-matches .ensures) (ap viewPicked (c₁ .arbitrated .ensures)))
 
 pub tick-spec : {M : Type 1} → statement M
-tick-spec = tie.close (tie.spec tick-switches-requires some-turn-requires tick-cells-requires take-matches-requires arbitrated-requires seated-requires returns)
+tick-spec = tie.close (tie.spec tick-turning-requires returns tick-cells-requires take-matches-requires arbitrated-requires seated-requires returns-2)

@@ -1,24 +1,30 @@
--- `tick_plain` meets its contract: the invariant is `Ticking`, with no turn to pass.
+-- `tick_turns` meets its contract: the invariant is `Ticking`, with turns to pass.
 -- Assumes nothing.
 use Prim.Native.Nat.{_-_}
-use mathlib.Core.Bool.{false}
+use mathlib.Core.Bool.{true}
 use mathlib.Core.Path.{ap, _∙_}
 use native.Mathlib.Omega.{arith}
 use Rattle.config.specs.Value.{maxEntries}
 use Rattle.cell.specs.Cell.{ticked}
 use Rattle.kernel.proofs.Methods.Cells.{Ticking, ticking-start, ticking-turn, ticking-end}
 use borrow.Author.Needs.{needs}
-use Rattle.kernel.proofs.model.cells.tick_plain.Statement.{statement}
-use Rattle.kernel.proofs.model.cells.tick_plain.Tie as tie
+use Rattle.kernel.proofs.model.cells.tick_turns.Statement.{statement}
+use Rattle.kernel.proofs.model.cells.tick_turns.Tie as tie
 
 abbrev Inv-loop : tie.InvT-loop
-Inv-loop compare on counter₀ matched₀ e₀ counter matched e = Ticking false compare on counter₀ counter matched e
+Inv-loop compare on counter₀ matched₀ e₀ counter matched e = Ticking true compare on counter₀ counter matched e
 
 abbrev μ-loop : tie.MeasureT-loop
 μ-loop compare on counter₀ matched₀ e₀ counter matched e = maxEntries - e
 
 loop-holds : tie.Need-loop-holds Inv-loop μ-loop
-loop-holds c = let a = c .args in ticking-start false (a .compare .now) (a .on .now) (a .counter .now)
+loop-holds c = let a = c .args in ticking-start true (a .compare .now) (a .on .now) (a .counter .now)
+
+mul-switch : tie.Need-mul-switch Inv-loop μ-loop
+mul-switch c = omega arith
+
+element-copy-out-switch : tie.Need-element-copy-out-switch Inv-loop μ-loop
+element-copy-out-switch c = omega arith
 
 mul-of : tie.Need-mul-of Inv-loop μ-loop
 mul-of c = omega arith
@@ -31,12 +37,6 @@ mul-of-2 c = omega arith
 
 element-copy-out-of-2 : tie.Need-element-copy-out-of-2 Inv-loop μ-loop
 element-copy-out-of-2 c = omega arith
-
-mul-of-3 : tie.Need-mul-of-3 Inv-loop μ-loop
-mul-of-3 c = omega arith
-
-element-copy-out-of-3 : tie.Need-element-copy-out-of-3 Inv-loop μ-loop
-element-copy-out-of-3 c = omega arith
 
 of-requires : tie.Need-of-requires Inv-loop μ-loop
 of-requires c κs = search needs
@@ -64,26 +64,26 @@ loop-again c =
     let c₁ = c .before in let c₂ = c₁ .before .before .before .before in let c₃ = c₂ .before in
     let c₄ = c₃ .before in
     let a = c₄ .args in let l = c₃ .loop in
-    ticking-turn false (a .compare .now) (a .on .now) (a .counter .now) (l .counter) (l .matched) (l .e) (l .inv)
+    ticking-turn true (a .compare .now) (a .on .now) (a .counter .now) (l .counter) (l .matched) (l .e) (l .inv)
     (c₂ .loop-test .taken) (c .tick .ensures ∙ ap ticked (c₁ .of .ensures))
 
 returns : tie.Need-returns Inv-loop μ-loop
 returns c = let a = c .before .before .args in let l = c .before .loop in
-    ticking-end false (a .compare .now) (a .on .now) (a .counter .now) (l .counter) (l .matched) (l .e) (l .inv) (c .loop-test .left)
+    ticking-end true (a .compare .now) (a .on .now) (a .counter .now) (l .counter) (l .matched) (l .e) (l .inv) (c .loop-test .left)
 
-pub tick-plain-spec : {M : Type 1} → statement M
-tick-plain-spec =
+pub tick-turns-spec : {M : Type 1} → statement M
+tick-turns-spec =
     tie.close
     (tie.spec
     Inv-loop
     μ-loop
     loop-holds
+    mul-switch
+    element-copy-out-switch
     mul-of
     element-copy-out-of
     mul-of-2
     element-copy-out-of-2
-    mul-of-3
-    element-copy-out-of-3
     of-requires
     tick-requires
     mul-counter
