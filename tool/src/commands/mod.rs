@@ -35,7 +35,6 @@ const COMMANDS: [&Command; 8] = [
     &salvage::COMMAND,
     &cases::COMMAND,
     &compare::COMMAND,
-    &salvage::COMMAND,
 ];
 
 const INPUTS: &str = "\
