@@ -20,7 +20,7 @@ use Rattle.scheduler.specs.State.{noBody, among}
 use Rattle.scheduler.specs.Call.{requestWaits, holds}
 use Rattle.machine.specs.Model.{Model, noRank}
 use Rattle.machine.specs.Arbiter.{vacated, leaving}
-use Rattle.machine.proofs.Relation.Fitted.{Fitted}
+use Rattle.plan.proofs.Fitted.{Fitted}
 use Rattle.machine.proofs.Relation.Rows.{row-shows-top}
 use Rattle.machine.proofs.Relation.Words.{at, Words, words-changed}
 use Rattle.machine.proofs.Relation.Slots.{slotsFor, slotsAlong, Slots}

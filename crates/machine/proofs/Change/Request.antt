@@ -22,7 +22,7 @@ use Rattle.scheduler.specs.State.{noBody}
 use Rattle.scheduler.specs.Call.{requestWaits}
 use Rattle.machine.specs.Model.{Model, withCore, withRequest, withRest}
 use Rattle.machine.specs.Arbiter.{requesting}
-use Rattle.machine.proofs.Relation.Fitted.{Fitted}
+use Rattle.plan.proofs.Fitted.{Fitted}
 use Rattle.machine.proofs.Relation.Words.{at, wants, words-changed}
 use Rattle.machine.proofs.Relation.Nest.{Alike, alike-same, current-alike, nested-alike, seats-alike, slotsAlong-alike}
 use Rattle.machine.proofs.Relation.Whole.{Tied}

@@ -22,7 +22,7 @@ use Rattle.scheduler.specs.State.{noBody}
 use Rattle.scheduler.specs.Call.{requestWaits}
 use Rattle.machine.specs.Model.{Core}
 use Rattle.machine.specs.Arbiter.{bids}
-use Rattle.machine.proofs.Relation.Fitted.{Fitted}
+use Rattle.plan.proofs.Fitted.{Fitted}
 
 -- body b of a list of bodies
 abbrev pub at : List Body → ℕ → Body
