@@ -106,7 +106,7 @@ enum {
     OSEK_E_OS_NOFUNC = 5,   /* Release: not the running body's most recently taken resource; Stop: table is stopped */
     OSEK_E_OS_RESOURCE = 6, /* Finish, Chain: the running body holds a resource */
     OSEK_E_OS_STATE = 7,    /* Start: the table is started already */
-    OSEK_E_OS_VALUE = 8     /* Start: the delay is 0, or delay + the table's largest offset is above 65,535 */
+    OSEK_E_OS_VALUE = 8     /* Start: the delay is 0, or delay + the table's smallest offset is above 65,535 */
 };
 
 /* Refusals. The place is the offset of the first byte of the number at fault, where nothing else is said; of a number

@@ -45,9 +45,9 @@ fn refuse<T>(code: u32, place: usize) -> Result<T, Refusal> {
 // Numbers
 
 /// The input ends before a last or fifth group; the place is its end.
-const CUT: u32 = 1;
+pub const CUT: u32 = 1;
 /// The fifth byte is above 15, or the last one superfluous; the place is that byte.
-const MALFORMED: u32 = 2;
+pub const MALFORMED: u32 = 2;
 
 /// The number at `at`, and the offset after it.
 #[inline(always)]

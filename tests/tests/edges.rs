@@ -142,7 +142,7 @@ fn a_first_delay_beyond_a_turn_does_not_match_a_turn_early() {
 }
 
 #[test]
-fn a_stop_clears_the_turn() {
+fn a_restart_has_no_turn_of_the_start_before_to_pass() {
     // Delay 65,535 (FF FF 03) gives the entry at offset 2 a first delay of 65,537. Stopped and started with delay 1, it is due
     // at the third tick, and the entry at offset 0, whose task runs, is lost at the first.
     assert_rows(

@@ -174,11 +174,6 @@ fn no_configuration(file: &str) -> InputFault {
     InputFault::Wrong(format!("{file} holds a trace alone, no configuration"))
 }
 
-/// A trace from a file of it alone.
-pub fn read_trace(file: &str, names: &Names) -> Result<Source, InputFault> {
-    trace_of(file, read(file, Part::Trace)?, names)
-}
-
 fn trace_of(file: &str, content: Content, names: &Names) -> Result<Source, InputFault> {
     let text = match content {
         Content::Bytes(bytes) => return Ok(Source::of_bytes(file, bytes)),

@@ -104,7 +104,7 @@ pub const EVENTS: [EventWord; 9] = [
         statuses: &[
             NOBODY_RUNS,
             NO_TABLE,
-            (8, "the delay is 0, or with the table's largest offset above 65,535"),
+            (8, "the delay is 0, or with the table's smallest offset above 65,535"),
             (7, "the table already runs"),
         ],
     },

@@ -15,14 +15,14 @@ use Rattle.config.specs.declared.Field.{Field}
 use Rattle.config.specs.declared.Field.the-variants.{Version, Bodies, Kind, Priority, Autostart, Resources, Users, Tables, Period, Entries, Offset, Task, End}
 use Rattle.config.specs.Refusal.{badVersion, badCount, badField, usedPriority, unsorted, tooManyEntries}
 use Rattle.config.specs.Meaning.{isr, isTask}
-use Rattle.config.specs.Value.{maxBodies, maxResources, maxTables, maxEntries}
+use Rattle.config.specs.Value.{maxPriority, maxBodies, maxResources, maxTables, maxEntries}
 use Rattle.config.specs.Draft.{occurs, unless, outside, andThen, sorted, mostAutostart, faultAt}
 
 abbrev pub InRange : Field → Draft → ℕ → Type 0
 InRange Version d v = v ≡ 1
 InRange Bodies d v = (1 ≤ v) × (v ≤ maxBodies)
 InRange Kind d v = v ≤ isr
-InRange Priority d v = (1 ≤ v) × (v ≤ 200) × (occurs v (take (d .index) (d .config .priority)) ≡ false)
+InRange Priority d v = (1 ≤ v) × (v ≤ maxPriority) × (occurs v (take (d .index) (d .config .priority)) ≡ false)
 InRange Autostart d v = v ≤ mostAutostart (getD (d .config .kind) (d .index) 0)
 InRange Resources d v = v ≤ maxResources
 InRange Users d v = (1 ≤ v) × (v < 2 ^ d .config .bodies)
@@ -62,8 +62,8 @@ in-range Bodies d v e = not-outside 1 maxBodies v badCount (lit< tt) e
 in-range Kind d v e = not-outside 0 isr v badField (lit< tt) e .1
 in-range Priority d v e =
     let used = occurs v (take (d .index) (d .config .priority)) in
-    let h = neither (outside 1 200 v badField) (unless (not used) usedPriority) e in
-    let r = not-outside 1 200 v badField (lit< tt) (h .0) in
+    let h = neither (outside 1 maxPriority v badField) (unless (not used) usedPriority) e in
+    let r = not-outside 1 maxPriority v badField (lit< tt) (h .0) in
     (r .0, r .1, not-true used (passed (not used) usedPriority (lit< tt) (h .1)))
 in-range Autostart d v e = not-outside 0 (mostAutostart (getD (d .config .kind) (d .index) 0)) v badField (lit< tt) e .1
 in-range Resources d v e = not-outside 0 maxResources v badCount (lit< tt) e .1
@@ -89,8 +89,8 @@ no-fault Version d v h = inside 1 1 v badVersion (omega arith) (omega arith)
 no-fault Bodies d v h = inside 1 maxBodies v badCount (h .0) (h .1)
 no-fault Kind d v h = inside 0 isr v badField (omega arith) h
 no-fault Priority d v h =
-    both (outside 1 200 v badField) (unless (not (occurs v (take (d .index) (d .config .priority)))) usedPriority)
-    (inside 1 200 v badField (h .0) (h .1))
+    both (outside 1 maxPriority v badField) (unless (not (occurs v (take (d .index) (d .config .priority)))) usedPriority)
+    (inside 1 maxPriority v badField (h .0) (h .1))
     (rw (h .2))
 no-fault Autostart d v h = inside 0 (mostAutostart (getD (d .config .kind) (d .index) 0)) v badField (omega arith) h
 no-fault Resources d v h = inside 0 maxResources v badCount (omega arith) h

@@ -19,7 +19,7 @@ use Rattle.config.specs.declared.Field.{Field}
 use Rattle.config.specs.declared.Field.the-variants.{Version, Bodies, Kind, Priority, Autostart, Resources, Users, Tables, Period, Entries, Offset, Task, End}
 use Rattle.config.specs.Refusal.{badVersion, badCount, badField, usedPriority, unsorted, tooManyEntries, leftOver, tooLong}
 use Rattle.config.specs.Meaning.{isr, isTask}
-use Rattle.config.specs.Value.{maxBodies, maxResources, maxTables, maxEntries, noConfig}
+use Rattle.config.specs.Value.{maxPriority, maxBodies, maxResources, maxTables, maxEntries, noConfig}
 use Rattle.config.specs.Draft.{occurs, unless, outside, andThen, sorted, mostAutostart, fault, faultAt, put, ended, start}
 use Rattle.config.specs.Reader.{numberFault, faultPlace, finished, refused, readFrom, maxLength, readConfig}
 use Rattle.config.proofs.Walk.{number-fine, read-end, read-zero, read-step, read-stop, readFrom-elim}
@@ -47,8 +47,8 @@ fault-tested Version d v = outside-tested 1 1 v badVersion (lit≤ tt) (lit≤ t
 fault-tested Bodies d v = outside-tested 1 maxBodies v badCount (lit≤ tt) (lit≤ tt)
 fault-tested Kind d v = outside-tested 0 isr v badField (lit≤ tt) (lit≤ tt)
 fault-tested Priority d v =
-    andThen-tested (outside 1 200 v badField) (unless (not (occurs v (take (d .index) (d .config .priority)))) usedPriority)
-    (outside-tested 1 200 v badField (lit≤ tt) (lit≤ tt))
+    andThen-tested (outside 1 maxPriority v badField) (unless (not (occurs v (take (d .index) (d .config .priority)))) usedPriority)
+    (outside-tested 1 maxPriority v badField (lit≤ tt) (lit≤ tt))
     (unless-tested (not (occurs v (take (d .index) (d .config .priority)))) usedPriority (lit≤ tt) (lit≤ tt))
 fault-tested Autostart d v = outside-tested 0 (mostAutostart (getD (d .config .kind) (d .index) 0)) v badField (lit≤ tt) (lit≤ tt)
 fault-tested Resources d v = outside-tested 0 maxResources v badCount (lit≤ tt) (lit≤ tt)

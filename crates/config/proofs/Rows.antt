@@ -18,7 +18,7 @@ use Rattle.config.specs.declared.Draft.{Draft}
 use Rattle.config.specs.declared.Field.{Field}
 use Rattle.config.specs.declared.Field.the-variants.{Version, Bodies, Kind, Priority, Autostart, Resources, Users, Tables, Period, Entries, Offset, Task, End}
 use Rattle.config.specs.Meaning.{isr, isTask, priorityOf, firstOf}
-use Rattle.config.specs.Value.{maxBodies, maxResources, maxTables, maxEntries}
+use Rattle.config.specs.Value.{maxPriority, maxBodies, maxResources, maxTables, maxEntries}
 use Rattle.config.specs.Draft.{rises, sorted, mostAutostart, putAt, askedAt, ended}
 use Rattle.config.specs.Accepted.{Shaped, Accepted}
 use Rattle.config.proofs.Padded.{length-padded, getD-padded, occurs-none, none-occurs}
@@ -85,7 +85,7 @@ abbrev pub KindFits : Config → ℕ → Type 0
 KindFits c b = getD (c .kind) b 0 ≤ isr
 
 abbrev pub PriorityFits : Config → ℕ → Type 0
-PriorityFits c b = (1 ≤ priorityOf c b) × (priorityOf c b ≤ 200) × ((a : ℕ) → a < b → priorityOf c a ≡ priorityOf c b → ⊥)
+PriorityFits c b = (1 ≤ priorityOf c b) × (priorityOf c b ≤ maxPriority) × ((a : ℕ) → a < b → priorityOf c a ≡ priorityOf c b → ⊥)
 
 abbrev pub AutostartFits : Config → ℕ → Type 0
 AutostartFits c b = (getD (c .autostart) b 0 ≤ 1) × (getD (c .kind) b 0 ≡ isr → getD (c .autostart) b 0 ≡ 0)

@@ -6,7 +6,7 @@ use mathlib.Core.List.{List, _++_}
 use mathlib.Core.Bool.{true}
 use lib.ListN.{length, getD, take, replicate}
 use Rattle.config.specs.declared.Config.{Config}
-use Rattle.config.specs.Value.{maxBodies, maxResources, maxTables, maxEntries}
+use Rattle.config.specs.Value.{maxPriority, maxBodies, maxResources, maxTables, maxEntries}
 use Rattle.config.specs.Meaning.{isr, isTask, firstOf, priorityOf}
 use Rattle.config.specs.Draft.{rises}
 
@@ -28,7 +28,7 @@ pub record Accepted (c : Config) : Type 0 where
   pub few-bodies : c .bodies ≤ maxBodies
   pub kind-known : (b : ℕ) → b < c .bodies → getD (c .kind) b 0 ≤ isr
   pub priority-low : (b : ℕ) → b < c .bodies → 1 ≤ priorityOf c b
-  pub priority-high : (b : ℕ) → b < c .bodies → priorityOf c b ≤ 200
+  pub priority-high : (b : ℕ) → b < c .bodies → priorityOf c b ≤ maxPriority
   pub priorities-differ : (a b : ℕ) → a < b → b < c .bodies → priorityOf c a ≡ priorityOf c b → ⊥
   pub autostart-known : (b : ℕ) → b < c .bodies → getD (c .autostart) b 0 ≤ 1
   pub autostart-task : (b : ℕ) → b < c .bodies → getD (c .kind) b 0 ≡ isr → getD (c .autostart) b 0 ≡ 0

@@ -8,6 +8,10 @@ use Rattle.config.specs.declared.Config.{Config}
 abbrev pub maxBodies : ℕ
 maxBodies = 32
 
+-- "Each has its own priority, 1 to 200"
+abbrev pub maxPriority : ℕ
+maxPriority = 200
+
 -- "resource count 0 to 16"
 abbrev pub maxResources : ℕ
 maxResources = 16

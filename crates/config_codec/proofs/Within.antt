@@ -15,7 +15,7 @@ use Rattle.config.specs.declared.Field.{Field}
 use Rattle.config.specs.declared.Field.the-variants.{Version, Bodies, Kind, Priority, Autostart, Resources, Users, Tables, Period, Entries, Offset, Task, End}
 use Rattle.config.specs.Refusal.{badVersion, badCount, badField, tooManyEntries}
 use Rattle.config.specs.Meaning.{isr, isTask}
-use Rattle.config.specs.Value.{maxEntries}
+use Rattle.config.specs.Value.{maxPriority, maxEntries}
 use Rattle.config.specs.Draft.{unless, outside, andThen, mostAutostart, fault, faultAt, Inside, Within}
 
 -- tests that give no refusal
@@ -53,7 +53,7 @@ unfoldable pub Small : Field → Draft → ℕ → Type 0
 Small Version d v = v ≤ 1
 Small Bodies d v = (1 ≤ v) × (v ≤ 32)
 Small Kind d v = v ≤ 1
-Small Priority d v = v ≤ 200
+Small Priority d v = v ≤ maxPriority
 Small Autostart d v = v ≤ 1
 Small Resources d v = v ≤ 16
 Small Users d v = v ≤ 2 ^ d .config .bodies - 1
@@ -69,7 +69,7 @@ unfolding faultAt Small
 small-at Version d v e = outside-none 1 1 v badVersion (lit< tt) e .1
 small-at Bodies d v e = outside-none 1 32 v badCount (lit< tt) e
 small-at Kind d v e = outside-none 0 isr v badField (lit< tt) e .1
-small-at Priority d v e = outside-none 1 200 v badField (lit< tt) (andThen-first _ _ e) .1
+small-at Priority d v e = outside-none 1 maxPriority v badField (lit< tt) (andThen-first _ _ e) .1
 small-at Autostart d v e = autostart (getD (d .config .kind) (d .index) 0) (outside-none 0 _ v badField (lit< tt) e .1)
   where
     autostart : (k : ℕ) → v ≤ mostAutostart k → v ≤ 1

@@ -57,7 +57,12 @@ pub fn play<'a, 'b>(
                 o = o.model.release(config.resources, &plan.priority, e.first);
             }
             6 => {
-                o = o.model.tick(&plan.compare, &plan.entry, &plan.priority);
+                let m = o.model;
+                if m.turning {
+                    o = m.tick_turning(&plan.compare, &plan.entry, &plan.priority);
+                } else {
+                    o = m.tick(&plan.compare, &plan.entry, &plan.priority);
+                }
             }
             7 => {
                 o = o.model.line(&plan.line, &plan.priority, e.first);

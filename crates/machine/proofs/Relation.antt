@@ -1,5 +1,4 @@
 -- How a model of the machine stands for a state of the plain scheduler, in named parts, and `Whole`.
-pub mod Fitted
 pub mod Rows
 pub mod Words
 pub mod Slots

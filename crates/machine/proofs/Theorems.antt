@@ -32,7 +32,7 @@ use Rattle.machine.specs.Machine.{freshModel, statusOf, effectOf, machin
 use Rattle.machine.proofs.Relation.Whole.{Sim}
 use Rattle.machine.proofs.Change.Ticks.{dues-long}
 use Rattle.machine.proofs.Event.Tables as Tables
-use Rattle.machine.proofs.Whole.Plan.{fitted}
+use Rattle.plan.proofs.Fitted.{fitted}
 use Rattle.machine.proofs.Whole.Fresh.{fresh-sim}
 use Rattle.machine.proofs.Whole.Lists.{agreement-from, after-sim}
 

@@ -1,4 +1,3 @@
--- The plan of an accepted configuration, the fresh start, and lists of events.
-pub mod Plan
+-- The fresh start, and lists of events.
 pub mod Fresh
 pub mod Lists

@@ -1,5 +1,6 @@
 -- The laws of the plan. `Theorems` states them; the others prove them.
 pub mod Theorems
+pub mod Fitted
 pub mod Stored
 pub mod Words
 pub mod Below

@@ -16,7 +16,7 @@ use Rattle.number.proofs.Cases.{by-lt}
 use Rattle.word.specs.Word as Word
 use Rattle.word.specs.Word.{has}
 use Rattle.config.specs.declared.Config.{Config}
-use Rattle.config.specs.Value.{maxBodies, maxResources, maxTables, maxEntries}
+use Rattle.config.specs.Value.{maxPriority, maxBodies, maxResources, maxTables, maxEntries}
 use Rattle.config.specs.Meaning.{isTask, isIsr, priorityOf, ceiling, firstOf}
 use Rattle.config.specs.Accepted.{Accepted, Shaped}
 use Rattle.plan.specs.declared.Plan.{Plan}
@@ -153,10 +153,10 @@ module _ (c : Config) (accepted : Accepted c) (shaped : Shaped c) where
   resource-ceiling r h =
       listed-at (ceiling c) (resourceCount c) maxResources 0 r 0 (omega (arith, accepted .few-resources)) (omega (arith, accepted .few-resources))
 
-  pub ceiling-le : (r : ℕ) → ceiling c r ≤ 200
-  ceiling-le r = greatestIn-le (getD (c .users) r 0) 200 (take (c .bodies) (c .priority)) each
+  pub ceiling-le : (r : ℕ) → ceiling c r ≤ maxPriority
+  ceiling-le r = greatestIn-le (getD (c .users) r 0) maxPriority (take (c .bodies) (c .priority)) each
     where
-      each : (b : ℕ) → b < length (take (c .bodies) (c .priority)) → getD (take (c .bodies) (c .priority)) b 0 ≤ 200
+      each : (b : ℕ) → b < length (take (c .bodies) (c .priority)) → getD (take (c .bodies) (c .priority)) b 0 ≤ maxPriority
       each b h =
           let l : b < c .bodies = omega (arith, length-take (c .bodies) (c .priority)) in
           rw (getD-take (c .bodies) (c .priority) b 0 l) (accepted .priority-high b l)

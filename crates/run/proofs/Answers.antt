@@ -18,11 +18,10 @@ use Rattle.plan.specs.Plan.{planOf}
 use Rattle.scheduler.specs.Scheduler.{Event, Seen, fresh, after}
 use Rattle.machine.specs.Model.{Model}
 use Rattle.machine.specs.Machine.{freshModel, machineStep, lossesOf, machineSeen, machineAfter}
-use Rattle.machine.proofs.Relation.Fitted.{Fitted}
+use Rattle.plan.proofs.Fitted.{Fitted, fitted}
 use Rattle.machine.proofs.Event.Agrees.{losses-seen}
 use Rattle.machine.proofs.Whole.Lists.{agreement-from, after-sim}
 use Rattle.machine.proofs.Whole.Fresh.{fresh-sim}
-use Rattle.machine.proofs.Whole.Plan.{fitted}
 use Rattle.run.specs.Run.{answerBytes, lossBytes, answers}
 use Rattle.run.specs.Steps.{machineAnswers}
 

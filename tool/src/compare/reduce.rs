@@ -8,7 +8,9 @@ use crate::words::{EventWord, Sort};
 
 /// A case that `differs`, as small as can be found.
 pub fn reduce(case: &Case, differs: impl Fn(&Case) -> bool) -> Case {
-    let mut best = shrink(case, &differs);
+    // An output that is too short stays so however small the case becomes.
+    let no_output = Case { out_len: 0, ..case.clone() };
+    let mut best = if differs(&no_output) { shrink(&no_output, &differs) } else { shrink(case, &differs) };
     loop {
         let before = best.clone();
         if let Some(pieces) = Pieces::of(&best) {

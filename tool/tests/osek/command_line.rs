@@ -100,7 +100,7 @@ fn empty_files_are_bytes_of_length_0() {
         folder.osek(&["asm", file, "-o", "out"]).prints("", 0);
         assert_eq!(folder.read("out"), b"");
     }
-    folder.osek(&["salvage", "empty", "-o", "out"]).prints("kept 0 events in 0 bytes, dropped 0 bytes\n", 0);
+    folder.osek(&["salvage", "empty", "-o", "out"]).prints("kept 0 of 0 bytes\n", 0);
     folder.osek(&["dump", "empty", "--as", "trace"]).prints("# trace, 0 bytes\ntrace\n", 0);
     folder
         .osek(&["dump", "empty", "--as", "config"])

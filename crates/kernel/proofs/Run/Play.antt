@@ -33,11 +33,10 @@ use Rattle.machine.specs.Events.{activate, finish, chain, get, release, tick, l
 use Rattle.machine.specs.Machine.{statusOf, effectOf, machineStep, runnerOf, machineSeen, machineAfter}
 use Rattle.run.specs.Run.{callOf, answerBytes}
 use Rattle.kernel.specs.Passes.{Playable}
-use Rattle.machine.proofs.Relation.Fitted.{Fitted}
+use Rattle.plan.proofs.Fitted.{Fitted, fitted}
 use Rattle.machine.proofs.Relation.Whole.{Sim}
 use Rattle.machine.proofs.Whole.Lists.{event-agrees}
 use Rattle.machine.proofs.Whole.Fresh.{fresh-sim}
-use Rattle.machine.proofs.Whole.Plan.{fitted}
 use Rattle.kernel.proofs.Run.Bytes.{laid-none}
 
 -- what an arm's method hands back is the step of the event that was read

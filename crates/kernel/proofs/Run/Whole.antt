@@ -26,8 +26,7 @@ use Rattle.plan.specs.Plan.{planOf}
 use Rattle.scheduler.specs.Scheduler.{Event}
 use Rattle.machine.specs.Model.{Model}
 use Rattle.machine.specs.Machine.{freshModel, lossesOf, machineSeen, machineAfter}
-use Rattle.machine.proofs.Relation.Fitted.{Fitted}
-use Rattle.machine.proofs.Whole.Plan.{fitted}
+use Rattle.plan.proofs.Fitted.{Fitted, fitted}
 use Rattle.run.specs.Run.{callOf, callsOf, played, readRun, answerBytes, lossBytes}
 use Rattle.run.specs.Steps.{machineAnswers}
 use Rattle.run.proofs.Answers.{events, length-events, length-losses}

@@ -1,6 +1,6 @@
 // The events of tables: Tick, Start and Stop.
 ghost use mathlib.Core.Path.{_≡_};
-ghost use mathlib.Core.Bool.{true, _||_};
+ghost use mathlib.Core.Bool.{true, false, _||_};
 ghost use Prim.Native.Nat.{_+_};
 ghost use lib.Dec.{ltb, eqb};
 ghost use lib.ListN.{getD};
@@ -33,17 +33,16 @@ use super::lookup::byte_at;
 use super::lookup::short_at;
 
 impl Model {
+    // A tick where no cell has a turn to pass.
     pub fn tick<'a>(
         mut self,
         compare: &'a [u16; 64],
         entry_rank: &'a [u8; 64],
         priority: &'a [u8; 32],
     ) -> Outcome
+        requires { ⌜ self .turning ≡ false ⌝ }
         ensures { λ r. ⌜ r ≡ outcomeOf (tick (now (compare .entry)) (now («entry_rank» .entry)) (now (priority .entry)) (view self)) ⌝ }
     {
-        if self.turning {
-            return self.tick_turning(compare, entry_rank, priority);
-        }
         let started = self.started;
         let asked = self.request;
         let runner = self.runner;
@@ -59,8 +58,9 @@ impl Model {
         self.seated(picked)
     }
 
-    // A tick where a cell may have a turn to pass. It shares no array with the other, so that the compiler keeps that one's in registers.
-    fn tick_turning<'a>(
+    // A tick where a cell may have a turn to pass. It shares nothing with the other, so that the compiler keeps that one's arrays in
+    // registers.
+    pub fn tick_turning<'a>(
         mut self,
         compare: &'a [u16; 64],
         entry_rank: &'a [u8; 64],

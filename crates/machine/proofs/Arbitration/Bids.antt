@@ -23,7 +23,7 @@ use Rattle.word.proofs.Theorems.{empty, has-union, union-lt, winner-has, winner
 use Rattle.scheduler.specs.Body.{isSuspended, Body}
 use Rattle.machine.specs.Model.{Core}
 use Rattle.machine.specs.Arbiter.{bids, winning}
-use Rattle.machine.proofs.Relation.Fitted.{Fitted}
+use Rattle.plan.proofs.Fitted.{Fitted}
 use Rattle.machine.proofs.Relation.Words.{at, Words, busy-is}
 use Rattle.machine.proofs.Relation.Whole.{Calm}
 

@@ -23,7 +23,7 @@ use Rattle.scheduler.specs.State.{among}
 use Rattle.scheduler.specs.Scheduler.{markOf}
 use Rattle.scheduler.proofs.Choice.{contender, weight, weight-before, chosen-best, chosen-nobody, current-own, current-free, candidate-active}
 use Rattle.machine.specs.Model.{Model}
-use Rattle.machine.proofs.Relation.Fitted.{Fitted}
+use Rattle.plan.proofs.Fitted.{Fitted}
 use Rattle.machine.proofs.Relation.Words.{at}
 use Rattle.machine.proofs.Relation.Nest.{levelAt, Nested, Seats, by-among, nest-level, among-head}
 use Rattle.machine.proofs.Relation.Whole.{Tied, Calm}

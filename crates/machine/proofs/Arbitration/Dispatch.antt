@@ -30,7 +30,7 @@ use Rattle.scheduler.proofs.Choice.{current-own}
 use Rattle.machine.specs.Model.{Core, Picked, Model, Outcome, noRank, withCore}
 use Rattle.machine.specs.Arbiter.{bids, winning, beginning, dispatching, arbitrated, settled}
 use Rattle.machine.specs.Machine.{runnerOf}
-use Rattle.machine.proofs.Relation.Fitted.{Fitted}
+use Rattle.plan.proofs.Fitted.{Fitted}
 use Rattle.machine.proofs.Relation.Words.{at, wants, Words, words-changed}
 use Rattle.machine.proofs.Relation.Slots.{slotsFor, slotsAlong}
 use Rattle.machine.proofs.Relation.Nest.{levelAt, Nested, AllHold, Seats, Alike, alike-same, among-tail-false, nest-level, levelAt-alike, nested-alike, slotsAlong-alike, hold-alike}
@@ -148,13 +148,13 @@ module _ {c : Config} {p : Plan} {rk : ℕ → ℕ} (fit : Fitted c p rk) where
     words′ : Words c rk k′ bs′
     words′ =
         words-changed fit (t .words) (t .size) w (v .exists) (become started (at bs w)) k′
-        (request-lt (beginning (m .core)))
-        (with-lt (m .core .started) (winner (bids (m .core))) (t .words .started-lt))
         (rw beginning-is (asked (isStarted (at bs w .phase)) refl))
         (rw (v .rank) (has-with-same (m .core .started) (winner (bids (m .core))) winner-lt))
         (λ r n. other (beginning (m .core)) r (rw (v .rank) at n))
         (λ r n. has-with-other (m .core .started) (winner (bids (m .core))) r (rw (v .rank) at n))
         (λ h. absurd (true≢false h))
+        (request-lt (beginning (m .core)))
+        (with-lt (m .core .started) (winner (bids (m .core))) (t .words .started-lt))
       where
         q : ℕ
         q = m .core .request

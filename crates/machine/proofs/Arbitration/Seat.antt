@@ -22,7 +22,7 @@ use Rattle.scheduler.specs.State.{among}
 use Rattle.scheduler.specs.Call.{holds}
 use Rattle.scheduler.proofs.Choice.{current-own}
 use Rattle.machine.specs.Model.{Model, noRank}
-use Rattle.machine.proofs.Relation.Fitted.{Fitted}
+use Rattle.plan.proofs.Fitted.{Fitted}
 use Rattle.machine.proofs.Relation.Rows.{row-shows-top}
 use Rattle.machine.proofs.Relation.Words.{at}
 use Rattle.machine.proofs.Relation.Slots.{Slot, slotsFor, slotsAlong, Slots}

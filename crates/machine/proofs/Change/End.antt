@@ -20,7 +20,7 @@ use Rattle.scheduler.specs.State.{noBody, among}
 use Rattle.scheduler.specs.Call.{requestWaits, holds}
 use Rattle.machine.specs.Model.{Model, noRank}
 use Rattle.machine.specs.Arbiter.{vacated, leaving}
-use Rattle.machine.proofs.Relation.Fitted.{Fitted}
+use Rattle.plan.proofs.Fitted.{Fitted}
 use Rattle.machine.proofs.Relation.Rows.{row-shows-top}
 use Rattle.machine.proofs.Relation.Words.{at, Words, words-changed}
 use Rattle.machine.proofs.Relation.Slots.{slotsFor, slotsAlong, Slots}
@@ -91,13 +91,14 @@ module _ {c : Config} {p : Plan} {rk : ℕ → ℕ} (fit : Fitted c p rk) {m : M
 
   words′ : Words c rk (vacated m) bs′
   words′ =
-      words-changed fit (t .words) (t .size) b exists (finished (at bs b)) (vacated m) (t .words .request-lt)
-      (without-lt (m .core .started) (m .core .runner) (t .words .started-lt))
+      words-changed fit (t .words) (t .size) b exists (finished (at bs b)) (vacated m)
       (t .words .asks b exists ∙ kept (at bs b) (at bs b .phase) was-started)
       (rw (runner-rank, ended (at bs b .pending)) (has-without-same (m .core .started) (rk b)))
       (λ r n. refl)
       (λ r n. rw runner-rank (has-without-other (m .core .started) (rk b) r n))
       (λ _. refl)
+      (t .words .request-lt)
+      (without-lt (m .core .started) (m .core .runner) (t .words .started-lt))
     where
       -- a request that waited makes the body ready, which wants to begin
       kept : (x : Body) (q : Phase) → isStarted q ≡ true → requestWaits x q ≡ requestWaits (finished x) (cond (x .pending) ready suspended)

@@ -9,6 +9,7 @@ use borrow.Author.Tests.{eq-eqb, ne-eqb}
 use lib.ListN.{length, getD, set, length-map}
 use Rattle.number.proofs.Cases.{by-eq}
 use Rattle.config.specs.declared.Config.{Config}
+use Rattle.config.specs.Value.{maxPriority}
 use Rattle.config.specs.Meaning.{priorityOf, ceiling}
 use Rattle.plan.specs.declared.Plan.{Plan}
 use Rattle.word.specs.Word.{has, with}
@@ -18,7 +19,7 @@ use Rattle.scheduler.specs.Body.{Body, isStarted, current, gets}
 use Rattle.scheduler.specs.State.{among}
 use Rattle.machine.specs.Model.{Model}
 use Rattle.machine.specs.Resources.{getting}
-use Rattle.machine.proofs.Relation.Fitted.{Fitted}
+use Rattle.plan.proofs.Fitted.{Fitted}
 use Rattle.machine.proofs.Relation.Rows.{row-shows-pushed}
 use Rattle.machine.proofs.Relation.Words.{at}
 use Rattle.machine.proofs.Relation.Slots.{Slot, slot, slotsFor, slotsAlong, Distinct, resourcesIn, holdersIn, levelsIn, missing, Slots}
@@ -40,10 +41,10 @@ module _ {c : Config} {p : Plan} {rk : ℕ → ℕ} (fit : Fitted c p rk) {m : M
   level-lt : level′ < 256
   level-lt = omega (arith, current-few, fit .ceiling-at r r<, fit .ceiling-few r, level-was fit t)
     where
-      current-few : current c b (at bs b) ≤ 200
+      current-few : current c b (at bs b) ≤ maxPriority
       current-few = go (at bs b .held)
         where
-          go : (rs : List ℕ) → foldr max (priorityOf c b) (map (ceiling c) rs) ≤ 200
+          go : (rs : List ℕ) → foldr max (priorityOf c b) (map (ceiling c) rs) ≤ maxPriority
           go [] = fit .own-few b (exists fit t)
           go (x ∷ rs) = omega (arith, fit .ceiling-few x, go rs)
 

@@ -25,7 +25,7 @@ use Rattle.scheduler.specs.State.{noBody, among}
 use Rattle.scheduler.specs.Call.{requestWaits, holds, latestIs}
 use Rattle.machine.specs.Model.{Model, noRank, withLevel, withSlots}
 use Rattle.machine.specs.Resources.{holding, latest}
-use Rattle.machine.proofs.Relation.Fitted.{Fitted}
+use Rattle.plan.proofs.Fitted.{Fitted}
 use Rattle.machine.proofs.Relation.Rows.{row-shows-top}
 use Rattle.machine.proofs.Relation.Words.{at, words-changed}
 use Rattle.machine.proofs.Relation.Slots.{Slot, slot, slotsFor, slotsAlong, holdersIn, Slots}
@@ -130,10 +130,10 @@ module _ {c : Config} {p : Plan} {rk : ℕ → ℕ} (fit : Fitted c p rk) {m : M
     held-tied =
         record {
           size = length-set bs b y ∙ t .size;
-          words = words-changed fit (t .words) (t .size) b exists y (withLevel (m .core) l) (t .words .request-lt) (t .words .started-lt)
+          words = words-changed fit (t .words) (t .size) b exists y (withLevel (m .core) l)
               (t .words .asks b exists ∙ waits-same (at bs b) y (at bs b .phase) (sym second) ∙ ap (requestWaits y) (sym phase))
               (t .words .begun b exists ∙ ap isStarted (sym phase)) (λ r n. refl) (λ r n. refl)
-              (λ h. second ∙ t .words .quiet b (sym (ap isStarted phase) ∙ h));
+              (λ h. second ∙ t .words .quiet b (sym (ap isStarted phase) ∙ h)) (t .words .request-lt) (t .words .started-lt);
           nested = (exists, (begun-same b ∙ t .nested .1 .0, (rw (sym (levelAt-alike c rk bs bs′ ns alike)) (t .nested .1 .1 .0), nested-alike c rk bs bs′ ns alike below)));
           seats = (runner-rank, (rw at-b level, hold-alike c rk bs bs′ ns alike (t .seats .1 .1)));
           slots = rw (at-b, sym (slotsAlong-alike c rk bs bs′ ns alike)) slots;

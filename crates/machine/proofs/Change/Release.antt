@@ -20,7 +20,7 @@ use Rattle.scheduler.specs.State.{among}
 use Rattle.scheduler.specs.Call.{holds}
 use Rattle.machine.specs.Model.{Model}
 use Rattle.machine.specs.Resources.{levelWithout, releasing}
-use Rattle.machine.proofs.Relation.Fitted.{Fitted}
+use Rattle.plan.proofs.Fitted.{Fitted}
 use Rattle.machine.proofs.Relation.Rows.{Shows, row-shows-popped, row-shows-second}
 use Rattle.machine.proofs.Relation.Words.{at}
 use Rattle.machine.proofs.Relation.Slots.{Slot, slot, slotsFor, slotsAlong, Distinct, levelsIn, missing, Slots}

@@ -22,7 +22,7 @@ use Rattle.scheduler.specs.State.{noBody}
 use Rattle.scheduler.specs.Call.{requestWaits}
 use Rattle.machine.specs.Model.{Model, withCore, withRequest, withRest}
 use Rattle.machine.specs.Arbiter.{requesting}
-use Rattle.machine.proofs.Relation.Fitted.{Fitted}
+use Rattle.plan.proofs.Fitted.{Fitted}
 use Rattle.machine.proofs.Relation.Words.{at, wants, words-changed}
 use Rattle.machine.proofs.Relation.Nest.{Alike, alike-same, current-alike, nested-alike, seats-alike, slotsAlong-alike}
 use Rattle.machine.proofs.Relation.Whole.{Tied}
@@ -56,8 +56,8 @@ module _ {c : Config} {rk : ℕ → ℕ} {m : Model} {bs : List Body} {ns : List
       touched-tied =
           record {
             size = length-set bs b y ∙ t .size;
-            words = words-changed fit (t .words) (t .size) b b< y (withRequest (m .core) q) q-lt (t .words .started-lt) asked
-                (t .words .begun b b< ∙ like .phase) others (λ r n. refl) still;
+            words = words-changed fit (t .words) (t .size) b b< y (withRequest (m .core) q) asked
+                (t .words .begun b b< ∙ like .phase) others (λ r n. refl) still q-lt (t .words .started-lt);
             nested = nested-alike c rk bs bs′ ns (λ i _. alike i) (t .nested);
             seats = seats-alike c rk bs bs′ (m .core .runner) (m .core .level) ns (λ i _. alike i) (t .seats);
             slots = rw (sym (slotsAlong-alike c rk bs bs′ ns (λ i _. alike i))) (t .slots);

@@ -26,7 +26,7 @@ use Rattle.cell.proofs.Theorems.{off-ticked-same, on-time-matched, on-time-numb
 use Rattle.scheduler.specs.State.{Table, stopped, running, State}
 use Rattle.scheduler.specs.Tick.{counting, entryDue, duesFrom, dues}
 use Rattle.machine.specs.Cells.{isOn, hasTurn, cellAt, countersTicked, marks, Due, requestsDue}
-use Rattle.machine.proofs.Relation.Fitted.{Fitted}
+use Rattle.plan.proofs.Fitted.{Fitted}
 use Rattle.machine.proofs.Relation.Cells.{CellFits, Timed}
 use Rattle.machine.proofs.Change.Matches.{due-append, due-quiet}
 use Rattle.machine.proofs.Change.Turns.{switchesAfter, turningAfter, length-after, on-after, turn-after, off-after, none-after}

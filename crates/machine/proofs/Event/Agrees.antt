@@ -32,7 +32,7 @@ use Rattle.machine.specs.Model.{Model, Outcome, noRank, refusedWith}
 use Rattle.machine.specs.Events as Machine
 use Rattle.machine.specs.Events.{idles}
 use Rattle.machine.specs.Machine.{machineStep, lossesOf, matched, observed}
-use Rattle.machine.proofs.Relation.Fitted.{Fitted}
+use Rattle.plan.proofs.Fitted.{Fitted}
 use Rattle.machine.proofs.Relation.Words.{at}
 use Rattle.machine.proofs.Relation.Nest.{Nested, Seats}
 use Rattle.machine.proofs.Relation.Cells.{Timed}

@@ -28,7 +28,7 @@ use Rattle.machine.specs.Resources.{holding}
 use Rattle.machine.specs.Events as Machine
 use Rattle.machine.specs.Events.{idles, busy}
 use Rattle.machine.specs.Machine.{statusOf, effectOf}
-use Rattle.machine.proofs.Relation.Fitted.{Fitted}
+use Rattle.plan.proofs.Fitted.{Fitted}
 use Rattle.machine.proofs.Relation.Words.{at, wants, busy-is}
 use Rattle.machine.proofs.Relation.Losses.{lost-same}
 use Rattle.machine.proofs.Relation.Whole.{Tied, Sim}

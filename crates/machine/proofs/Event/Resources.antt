@@ -25,7 +25,7 @@ use Rattle.machine.specs.Resources.{latest, getting, releasing}
 use Rattle.machine.specs.Events as Machine
 use Rattle.machine.specs.Events.{idles}
 use Rattle.machine.specs.Machine.{statusOf, effectOf}
-use Rattle.machine.proofs.Relation.Fitted.{Fitted}
+use Rattle.plan.proofs.Fitted.{Fitted}
 use Rattle.machine.proofs.Relation.Words.{at}
 use Rattle.machine.proofs.Relation.Slots.{Slot, slotsFor, slotsAlong, resourcesIn}
 use Rattle.machine.proofs.Relation.Nest.{Nested, by-among, among-tail, among-nil}

@@ -31,7 +31,7 @@ use Rattle.machine.specs.Cells.{switchOff, isOn, hasTurn, switchFor, cel
 use Rattle.machine.specs.Events as Machine
 use Rattle.machine.specs.Events.{idles, runs, starting, stopping}
 use Rattle.machine.specs.Machine.{statusOf, effectOf, cellIn}
-use Rattle.machine.proofs.Relation.Fitted.{Fitted}
+use Rattle.plan.proofs.Fitted.{Fitted}
 use Rattle.machine.proofs.Relation.Cells.{CellFits, Timed}
 use Rattle.machine.proofs.Relation.Whole.{Sim}
 use Rattle.machine.proofs.Arbitration.Dispatch.{calm-arbitrated}

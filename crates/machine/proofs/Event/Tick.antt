@@ -26,7 +26,7 @@ use Rattle.machine.specs.Arbiter.{settled}
 use Rattle.machine.specs.Cells.{Due, oneMore, matchAt, requestsDue}
 use Rattle.machine.specs.Events.{marksOf, dueOf, ticking, tick}
 use Rattle.machine.specs.Machine.{statusOf, effectOf}
-use Rattle.machine.proofs.Relation.Fitted.{Fitted}
+use Rattle.plan.proofs.Fitted.{Fitted}
 use Rattle.machine.proofs.Relation.Words.{at, busy-is}
 use Rattle.machine.proofs.Relation.Losses.{Lost, lost-same}
 use Rattle.machine.proofs.Relation.Whole.{Tied, Sim}

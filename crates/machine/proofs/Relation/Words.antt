@@ -22,7 +22,7 @@ use Rattle.scheduler.specs.State.{noBody}
 use Rattle.scheduler.specs.Call.{requestWaits}
 use Rattle.machine.specs.Model.{Core}
 use Rattle.machine.specs.Arbiter.{bids}
-use Rattle.machine.proofs.Relation.Fitted.{Fitted}
+use Rattle.plan.proofs.Fitted.{Fitted}
 
 -- body b of a list of bodies
 abbrev pub at : List Body → ℕ → Body
@@ -45,10 +45,10 @@ pub record Words (c : Config) (rk : ℕ → ℕ) (k : Core) (bs : List Body) : T
 -- body b becomes y, the words agree with y at its rank, and are as before elsewhere
 module _ {c : Config} {p : Plan} {rk : ℕ → ℕ} (fit : Fitted c p rk) {k : Core} {bs : List Body} (w : Words c rk k bs) (size : length bs ≡ c .bodies)
     (b : ℕ) (b< : b < c .bodies) (y : Body) (k′ : Core) where
-  pub words-changed : k′ .request < 2 ^ 32 → k′ .started < 2 ^ 32 → has (k′ .request) (rk b) ≡ wants y → has (k′ .started) (rk b) ≡ isStarted (y .phase)
+  pub words-changed : has (k′ .request) (rk b) ≡ wants y → has (k′ .started) (rk b) ≡ isStarted (y .phase)
       → ((r : ℕ) → r ≢ rk b → has (k′ .request) r ≡ has (k .request) r) → ((r : ℕ) → r ≢ rk b → has (k′ .started) r ≡ has (k .started) r)
-      → (isStarted (y .phase) ≡ false → y .pending ≡ false) → Words c rk k′ (set bs b y)
-  words-changed q-lt s-lt asked began other-asks other-begun still =
+      → (isStarted (y .phase) ≡ false → y .pending ≡ false) → k′ .request < 2 ^ 32 → k′ .started < 2 ^ 32 → Words c rk k′ (set bs b y)
+  words-changed asked began other-asks other-begun still q-lt s-lt =
       record {
         request-lt = q-lt;
         started-lt = s-lt;

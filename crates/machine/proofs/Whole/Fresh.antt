@@ -19,7 +19,7 @@ use Rattle.scheduler.proofs.Effects.{tables-dispatched}
 use Rattle.machine.specs.Machine.{unstarted, freshModel}
 use Rattle.machine.proofs.Relation.Rows.{same-everywhere, row-empty-shows}
 use Rattle.machine.specs.Cells.{switchOff, isOn, hasTurn}
-use Rattle.machine.proofs.Relation.Fitted.{Fitted}
+use Rattle.plan.proofs.Fitted.{Fitted}
 use Rattle.machine.proofs.Relation.Words.{at, wants}
 use Rattle.machine.proofs.Relation.Slots.{slotsAlong, Distinct}
 use Rattle.machine.proofs.Relation.Free.{missing-empty}

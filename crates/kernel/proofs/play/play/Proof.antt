@@ -44,8 +44,11 @@ get-requires c κs = tt
 release-requires : tie.Need-release-requires Inv-loop μ-loop
 release-requires c κs = tt
 
+tick-turning-requires : tie.Need-tick-turning-requires Inv-loop μ-loop
+tick-turning-requires c κs = c .before .before .before .before .if1 .taken
+
 tick-requires : tie.Need-tick-requires Inv-loop μ-loop
-tick-requires c κs = tt
+tick-requires c κs = c .before .before .before .before .if1 .left
 
 line-requires : tie.Need-line-requires Inv-loop μ-loop
 line-requires c κs = tt
@@ -103,8 +106,10 @@ stepped j =
     (λ z4.
     ⊎-elim (λ w. ap viewOutcome (w .4 ∙ w .3 .ensures) ∙ sym (step-5 (a .t1) (a .t2) m e (w .0 .keys5)))
     (λ z5.
-    ⊎-elim (λ w. ap viewOutcome (w .6 ∙ w .5 .ensures) ∙ sym (step-6 (a .t1) (a .t2) m e (w .0 .keys6)))
+    ⊎-elim (λ w. ap viewOutcome (w .8 ∙ w .7 .ensures) ∙ sym (step-6 (a .t1) (a .t2) m e (w .0 .keys6)))
     (λ z6.
+    ⊎-elim (λ w. ap viewOutcome (w .8 ∙ w .7 .ensures) ∙ sym (step-6 (a .t1) (a .t2) m e (w .0 .keys6)))
+    (λ y6.
     ⊎-elim (λ w. ap viewOutcome (w .5 ∙ w .4 .ensures) ∙ sym (step-7 (a .t1) (a .t2) m e (w .0 .keys7)))
     (λ z7.
     ⊎-elim (λ w. ap viewOutcome (w .8 ∙ w .7 .ensures) ∙ sym (step-8 (a .t1) (a .t2) m e (w .0 .keys8)))
@@ -114,7 +119,7 @@ stepped j =
     ⊎-elim
     (λ w. absurd (omega (arith, w .0 .keys10, known (j .before .before))))
     (λ w. absurd
-    (one-of-nine (e .code) (known (j .before .before) .0) (known (j .before .before) .1) (λ h. w .0 .rest .0 .0 .0 .0 .0 .0 .0 .0 .0 .1 h) (λ h. w .0 .rest .0 .0 .0 .0 .0 .0 .0 .0 .1 h) (λ h. w .0 .rest .0 .0 .0 .0 .0 .0 .0 .1 h) (λ h. w .0 .rest .0 .0 .0 .0 .0 .0 .1 h) (λ h. w .0 .rest .0 .0 .0 .0 .0 .1 h) (λ h. w .0 .rest .0 .0 .0 .0 .1 h) (λ h. w .0 .rest .0 .0 .0 .1 h) (λ h. w .0 .rest .0 .0 .1 h) (λ h. w .0 .rest .0 .1 h))) z9) z8) z7) z6) z5) z4) z3) z2) z1) (j .match .came)
+    (one-of-nine (e .code) (known (j .before .before) .0) (known (j .before .before) .1) (λ h. w .0 .rest .0 .0 .0 .0 .0 .0 .0 .0 .0 .1 h) (λ h. w .0 .rest .0 .0 .0 .0 .0 .0 .0 .0 .1 h) (λ h. w .0 .rest .0 .0 .0 .0 .0 .0 .0 .1 h) (λ h. w .0 .rest .0 .0 .0 .0 .0 .0 .1 h) (λ h. w .0 .rest .0 .0 .0 .0 .0 .1 h) (λ h. w .0 .rest .0 .0 .0 .0 .1 h) (λ h. w .0 .rest .0 .0 .0 .1 h) (λ h. w .0 .rest .0 .0 .1 h) (λ h. w .0 .rest .0 .1 h))) z9) z8) z7) y6) z6) z5) z4) z3) z2) z1) (j .match .came)
 
 runner-requires : tie.Need-runner-requires Inv-loop μ-loop
 runner-requires c κs = tt
@@ -166,6 +171,7 @@ play-spec =
     chain-requires
     get-requires
     release-requires
+    tick-turning-requires
     tick-requires
     line-requires
     start-requires
