@@ -1,7 +1,10 @@
--- The laws of the grammar and of its reading. `Theorems` is the file to read. The others are in the order of the proofs; the code's proofs cite them too.
+-- The laws of the grammar and of its reading. `Theorems` is the file to read, `Examples` has texts worked by hand. Then the laws that the proofs of
+-- `oil` cite too: spellings, runs of bytes, spaces and comments, where a word lies, lines and columns, sorts, places. Last, in the order of the proof:
+-- the words of a text are those that it spells; the walk accepts words that are in order; these are the words of objects, both ways; what the later
+-- walks come to; the whole.
 pub mod Theorems
-pub mod Ascii
 pub mod Examples
+mod Ascii
 pub mod Spelling
 pub mod Span
 pub mod Blank
@@ -9,9 +12,9 @@ pub mod Bounds
 pub mod Place
 pub mod Sorts
 pub mod Places
-pub mod Lexing
-pub mod Accepting
-pub mod Objects
-pub mod Back
-pub mod Folds
-pub mod Whole
+mod Lexing
+mod Accepting
+mod Objects
+mod Back
+mod Folds
+mod Whole
