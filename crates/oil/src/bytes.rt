@@ -7,6 +7,9 @@ ghost use mathlib.Core.Path.{_≡_};
 ghost use Rattle.oil_grammar.specs.Byte.{isSpace, isDigit, isLetter, isNameByte};
 ghost use Rattle.oil_grammar.specs.Word.{signOf};
 
+// A line ends after it.
+pub const LINE_FEED: u8 = 10;
+
 // Space, HT, LF, VT, FF or CR.
 pub fn is_space(b: u8) -> bool
     ensures { λ r. ⌜ r ≡ isSpace b ⌝ }

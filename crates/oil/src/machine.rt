@@ -24,7 +24,7 @@ const UNEXPECTED_WORD: u8 = 61;
 
 const UNKNOWN_THERE: u8 = 62;
 
-const GIVEN_TWICE: u8 = 63;
+pub const GIVEN_TWICE: u8 = 63;
 
 // The refusal of a word that may not stand where it does.
 fn unexpected(w: u8) -> u8

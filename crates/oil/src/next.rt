@@ -1,4 +1,5 @@
 // The next word of a text, from a place on. A comment ends with its line, or with the first */.
+use crate::bytes::LINE_FEED;
 use crate::bytes::is_digit;
 use crate::bytes::is_letter;
 use crate::bytes::is_name_byte;
@@ -29,8 +30,6 @@ ghost use Rattle.oil_grammar.specs.Next.{closing, comment, blank, skipped, word
 const SLASH: u8 = 47;
 
 const STAR: u8 = 42;
-
-const LINE_FEED: u8 = 10;
 
 // Where the name that has come as far as `at` ends.
 fn name_end(text: &[u8], at: usize) -> usize

@@ -1,4 +1,5 @@
 // Lines and columns of places.
+use crate::bytes::LINE_FEED;
 ghost use mathlib.Core.Path.{_≡_};
 ghost use Prim.Native.Nat.{_+_, _-_, _≤_, _^_, _<_};
 ghost use mathlib.Core.Bool.{cond};
@@ -6,8 +7,6 @@ ghost use lib.Dec.{eqb};
 ghost use lib.ListN.{length};
 ghost use Rattle.oil_grammar.specs.Byte.{lineFeed};
 ghost use Rattle.oil_grammar.specs.Reader.{lineOf, columnOf};
-
-const LINE_FEED: u8 = 10;
 
 // The line after a byte of this line.
 fn line_after(line: u64, b: u8) -> u64

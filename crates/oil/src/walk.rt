@@ -1,4 +1,5 @@
 // The first walk over a text: the refusals 60 to 63 in reading order, and how many words there are.
+use crate::machine::GIVEN_TWICE;
 use crate::machine::after;
 use crate::machine::fault;
 use crate::machine::fresh;
@@ -19,8 +20,6 @@ ghost use Rattle.oil_grammar.specs.Next.{spelling};
 ghost use Rattle.oil_grammar.specs.Machine.{fresh};
 ghost use Rattle.oil_grammar.specs.Walk.{bears, borne, nameFault, faultIn, refusedAt};
 ghost use Rattle.oil_grammar.specs.Reader.{walked};
-
-const GIVEN_TWICE: u8 = 63;
 
 // Whether a name is wanted that an object, or only a RESOURCE, will bear.
 fn bears(resource: bool, s: Progress) -> bool
