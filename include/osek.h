@@ -1,7 +1,7 @@
 /*
  * OSEK OS reference, class BCC1: from a configuration and a trace of events to who runs after each event.
  *
- * Two functions: osek_run, and osek_salvage for damaged traces. They allocate nothing, keep nothing between calls and
+ * Three functions: osek_run, osek_salvage for damaged traces, and osek_oil for configurations in OIL. They allocate nothing, keep nothing between calls and
  * never fail in another way than by the refusals below: any bytes may be handed to them. They may be called from several
  * threads at once, each with outputs of its own; they may share their inputs.
  *
@@ -173,7 +173,43 @@ uint64_t osek_salvage(const uint8_t *trace, size_t trace_len,
                       uint8_t *events, size_t events_len,
                       uint8_t *stretches, size_t stretches_len);
 
-/* The refusal in a result: one of OSEK_CONFIG_CUT to OSEK_OUTPUT_TOO_SHORT, or 0 if the call is accepted. */
+/* Refusals of an OIL text, with line and column. Given in reading order; OSEK_OIL_NO_RESOURCE after the whole text; then
+ * OSEK_CONFIG_COUNT, OSEK_CONFIG_FIELD and OSEK_CONFIG_PRIORITY_USED in the order of a configuration's numbers, at line 0,
+ * column 0; then OSEK_OUTPUT_TOO_SHORT. */
+enum {
+    OSEK_OIL_UNREADABLE = 60,  /* a sign that no word has; an unclosed comment, where it opens */
+    OSEK_OIL_UNEXPECTED = 61,  /* a word that may not stand there; the closing brace where PRIORITY is missing; just past
+                                  the last byte where the text breaks off */
+    OSEK_OIL_UNKNOWN = 62,     /* a word of letters that is no object or attribute there */
+    OSEK_OIL_TWICE = 63,       /* an earlier object's name; PRIORITY or AUTOSTART given twice */
+    OSEK_OIL_NO_RESOURCE = 64  /* a RESOURCE attribute whose name no RESOURCE object bears */
+};
+
+/*
+ * Reads a text in OSEK's Implementation Language and writes its configuration, version 1 and without tables:
+ *     TASK name { PRIORITY = 2; AUTOSTART = TRUE; RESOURCE = r; };
+ *     ISR name { PRIORITY = 9; };
+ *     RESOURCE r { };
+ * A body has one PRIORITY; AUTOSTART is for tasks, FALSE if absent; RESOURCE may stand any number of times, before or after
+ * its object. Names, spaces and comments are C's, numbers are decimal digits. Bodies and resources are numbered as they stand.
+ *
+ *     text, text_len        the text's bytes, any number of them; only read
+ *     config, config_len    where the configuration goes; OSEK_CONFIG_MAX bytes suffice
+ *     place                 two numbers: line and column of the refusal, in bytes from 1, a line ending after its LF; 0 and 0
+ *                           where no place is at fault, and where the text is accepted
+ *
+ * The outputs must not overlap each other or the text. No pointer may be null, as above.
+ *
+ * Result: refusal * 2^32, for OSEK_OUTPUT_TOO_SHORT with the bytes needed added, or, with refusal 0, the configuration's
+ * length. A refused call leaves config untouched; an accepted one leaves the bytes behind what it wrote.
+ *
+ * A text with at most 48 objects takes time in proportion to its length.
+ */
+uint64_t osek_oil(const uint8_t *text, size_t text_len,
+                  uint8_t *config, size_t config_len,
+                  uint64_t place[2]);
+
+/* The refusal in a result: one of OSEK_CONFIG_CUT to OSEK_OIL_NO_RESOURCE, or 0 if the call is accepted. */
 static inline uint32_t osek_refusal(uint64_t result) { return (uint32_t)(result >> 32); }
 
 /* The place of a refusal. */
@@ -181,6 +217,9 @@ static inline uint32_t osek_place(uint64_t result) { return (uint32_t)result; }
 
 /* The number of events of an accepted run. */
 static inline uint32_t osek_events(uint64_t result) { return (uint32_t)result; }
+
+/* The length of an accepted text's configuration. */
+static inline uint32_t osek_config_length(uint64_t result) { return (uint32_t)result; }
 
 /* The lengths of the events and of the list of an accepted salvage. */
 static inline uint32_t osek_kept_length(uint64_t result) { return (uint32_t)(result & 65535); }

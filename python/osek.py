@@ -2,8 +2,9 @@
 
     run(config, trace)     the answers and the losses, or the exception Refused
     salvage(trace)         what is kept of a damaged trace, and where something was dropped
+    oil(text)              the configuration that an OIL text describes, or the exception RefusedText
     osek_run(..)           the C calls themselves, for buffers of one's own
-    osek_salvage(..)
+    osek_salvage(..), osek_oil(..)
 
 All inputs are bytes, as docs/RULES.md has them. The library is the file that OSEK_LIBRARY names, or the one that `make lib`
 left in the clone, or the one that is installed.
@@ -15,6 +16,7 @@ from pathlib import Path
 from typing import List, NamedTuple, Optional, Tuple
 
 OUTPUT_MAX = 32832  # suffices for every run
+CONFIG_MAX = 4096  # suffices for every configuration
 TRACE_MAX = 8192  # suffices for what is kept of every trace
 STRETCHES_MAX = 12224  # suffices for every list of dropped stretches
 ANSWER_SIZE = 4
@@ -37,6 +39,11 @@ REFUSALS = {
     22: "a number of the trace is too large or not in its shortest form",
     23: "an event code is not 1 to 9",
     30: "the output is too short",
+    60: "a sign that no word has, or a comment that is not closed",
+    61: "a word that may not stand there",
+    62: "no object or attribute that may stand there",
+    63: "an earlier object's name, or an attribute given twice",
+    64: "no RESOURCE object bears this name",
 }
 
 
@@ -72,6 +79,15 @@ class Refused(Exception):
         super().__init__(f"refused {code} {place}: {self.words}")
 
 
+class RefusedText(Exception):
+    """An OIL text that was refused: its code, line and column (0 where no place is at fault), and the code in words."""
+
+    def __init__(self, code: int, line: int, column: int):
+        self.code, self.line, self.column = code, line, column
+        self.words = REFUSALS.get(code, "refused")
+        super().__init__(f"refused {code} at {line}:{column}: {self.words}")
+
+
 def _library() -> ctypes.CDLL:
     built = Path(__file__).resolve().parent.parent / "build" / "libosek.so"
     named = os.environ.get("OSEK_LIBRARY")
@@ -80,6 +96,8 @@ def _library() -> ctypes.CDLL:
     for function in (library.osek_run, library.osek_salvage):
         function.restype = ctypes.c_uint64
         function.argtypes = 3 * [ctypes.c_void_p, ctypes.c_size_t]
+    library.osek_oil.restype = ctypes.c_uint64
+    library.osek_oil.argtypes = 2 * [ctypes.c_void_p, ctypes.c_size_t] + [ctypes.c_void_p]
     return library
 
 
@@ -94,6 +112,11 @@ def osek_run(config, trace, out) -> int:
 def osek_salvage(trace, events, stretches) -> int:
     """The C call: writes into the writable buffers; refusal * 2**32 + place, or the list's length * 65,536 + the events'."""
     return _LIBRARY.osek_salvage(*_lent(trace), *_taken(events), *_taken(stretches))
+
+
+def osek_oil(text, config, place) -> int:
+    """The C call: writes the configuration, and line and column into an array of two `c_uint64`; refusal * 2**32, or the length."""
+    return _LIBRARY.osek_oil(*_lent(text), *_taken(config), place)
 
 
 def run(config, trace) -> Run:
@@ -113,6 +136,15 @@ def salvage(trace) -> Salvaged:
     listed, kept = divmod(_accepted(osek_salvage(trace, events, stretches)), 1 << 16)
     numbers = _numbers(stretches[:listed])
     return Salvaged(bytes(events[:kept]), list(zip(numbers[::2], numbers[1::2])))
+
+
+def oil(text) -> bytes:
+    """The configuration of the TASK, ISR and RESOURCE objects in an OIL text, which is bytes."""
+    config, place = bytearray(CONFIG_MAX), (ctypes.c_uint64 * 2)()
+    code, low = divmod(osek_oil(text, config, place), 1 << 32)
+    if code != 0:
+        raise RefusedText(code, place[0], place[1])
+    return bytes(config[:low])
 
 
 def _lent(data):

@@ -7,6 +7,7 @@ use std::cell::Cell;
 use std::ffi::{c_int, c_long, c_void};
 
 use crate::cases::Case;
+use crate::oil::Source;
 use crate::salvage::Recording;
 
 extern "C" {
@@ -34,6 +35,9 @@ pub type Run = fn(&[u8], &[u8], &mut [u8]) -> u64;
 
 /// The salvage, in the same way.
 pub type Salvage = fn(&[u8], &mut [u8], &mut [u8]) -> u64;
+
+/// The reading of an OIL text, in the same way.
+pub type Oil = fn(&[u8], &mut [u8], &mut [u64; 2]) -> u64;
 
 /// The page against which slices are flush.
 #[derive(Clone, Copy, PartialEq, Eq, Debug)]
@@ -197,6 +201,43 @@ impl GuardedSalvage {
             stretches.len()
         );
         (result, events, stretches)
+    }
+}
+
+/// Guarded pages for the text, the configuration and the place of an OIL reading.
+pub struct GuardedOil {
+    text: Pages,
+    config: Pages,
+    place: Pages,
+}
+
+impl Default for GuardedOil {
+    fn default() -> Self {
+        GuardedOil { text: Pages::new(1 << 20), config: Pages::new(4_096), place: Pages::new(16) }
+    }
+}
+
+impl GuardedOil {
+    /// The result, the whole configuration buffer and the place. Ends the test if anything outside was touched.
+    pub fn run(&mut self, oil: Oil, source: &Source, side: Side) -> (u64, Vec<u8>, [u64; 2]) {
+        let before: Vec<u8> = source.place().iter().flat_map(|number| number.to_ne_bytes()).collect();
+        self.text.place(&source.text, side);
+        self.config.place(&source.prefilled(), side);
+        self.place.place(&before, side);
+        self.text.protect(PROT_READ);
+        let (result, config, place) = unsafe {
+            let config = self.config.lent(source.config_len, side);
+            let place = &mut *self.place.lent(16, side).as_mut_ptr().cast::<[u64; 2]>();
+            (oil(self.text.lent(source.text.len(), side), config, place), config.to_vec(), *place)
+        };
+        self.text.protect(PROT_READ | PROT_WRITE);
+        let (seed, number) = CURRENT.get();
+        assert!(
+            self.config.surroundings_untouched(config.len(), side) && self.place.surroundings_untouched(16, side),
+            "the reading wrote outside its output of {} bytes or its place: seed {seed} case {number}",
+            config.len()
+        );
+        (result, config, place)
     }
 }
 

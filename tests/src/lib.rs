@@ -7,6 +7,7 @@ pub mod coverage;
 pub mod fast;
 pub mod guard;
 pub mod listing;
+pub mod oil;
 pub mod plain;
 pub mod salvage;
 pub mod shrink;

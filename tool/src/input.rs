@@ -76,17 +76,22 @@ fn plain(text: &str) -> &str {
 const SHOWN_BEFORE: usize = 80;
 const SHOWN: usize = 120;
 
-/// A fault of a text as a message: file, line and column, what was expected, and the line with the fault marked.
-fn fault_words(file: &str, text: &str, fault: &Fault) -> String {
-    let Fault { position: Position { line, column }, width, message } = fault;
-    let skipped = (column - 1).saturating_sub(SHOWN_BEFORE);
-    let whole = plain(text).lines().nth(line - 1).unwrap_or_default().trim_end().replace('\t', " ");
+/// A message at a place, with the line marked there: so many signs stand before the mark, which is so wide.
+pub fn marked(place: &str, line: usize, whole: &str, before: usize, width: usize, message: &str) -> String {
+    let skipped = before.saturating_sub(SHOWN_BEFORE);
     let shown: String = whole.chars().skip(skipped).take(SHOWN).collect();
     let margin = line.to_string();
     let gap = " ".repeat(margin.len());
-    let spaces = " ".repeat(column - 1 - skipped);
-    let marks = "^".repeat((*width).clamp(1, SHOWN - SHOWN_BEFORE));
-    format!("{file}:{line}:{column}: {message}\n  {margin} | {shown}\n  {gap} | {spaces}{marks}")
+    let spaces = " ".repeat(before - skipped);
+    let marks = "^".repeat(width.clamp(1, SHOWN - SHOWN_BEFORE));
+    format!("{place}: {message}\n  {margin} | {shown}\n  {gap} | {spaces}{marks}")
+}
+
+/// A fault of a text as a message: file, line and column, what was expected, and the line with the fault marked.
+fn fault_words(file: &str, text: &str, fault: &Fault) -> String {
+    let Fault { position: Position { line, column }, width, message } = fault;
+    let whole = plain(text).lines().nth(line - 1).unwrap_or_default().trim_end().replace('\t', " ");
+    marked(&format!("{file}:{line}:{column}"), *line, &whole, column - 1, *width, message)
 }
 
 /// A configuration or a trace: its file, its bytes and, made from a text, where in it each number stands.

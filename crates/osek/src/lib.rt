@@ -4,6 +4,7 @@ ghost use mathlib.Core.Path.{_≡_};
 ghost use lib.ListN.{length};
 ghost use Rattle.run.specs.Run.{runResult, runOutput};
 ghost use Rattle.run.specs.Steps.{machineOutput};
+ghost use Rattle.oil_grammar.specs.Reader.{oilResult, oilOutput, oilPlace};
 ghost use Rattle.salvage.specs.Salvage.{salvaged, eventsAfter, stretchesAfter, resultOf};
 
 #[no_mangle]
@@ -22,4 +23,13 @@ pub extern "C" fn osek_salvage(trace: &[u8], events: &mut [u8], stretches: &mut 
     ensures stretches { λ _. ⌜ now (stretches .exit) ≡ stretchesAfter (now (trace .entry)) (now (events .entry)) (now (stretches .entry)) ⌝ }
 {
     salvage::osek_salvage(trace, events, stretches)
+}
+
+#[no_mangle]
+pub extern "C" fn osek_oil(text: &[u8], config: &mut [u8], place: &mut [u64; 2]) -> u64
+    ensures result { λ r. ⌜ r ≡ oilResult (now (text .entry)) (length (now (config .entry))) ⌝ }
+    ensures output { λ _. ⌜ now (config .exit) ≡ oilOutput (now (text .entry)) (now (config .entry)) ⌝ }
+    ensures place { λ _. ⌜ now (place .exit) ≡ oilPlace (now (text .entry)) ⌝ }
+{
+    oil::osek_oil(text, config, place)
 }

@@ -5,6 +5,7 @@ mod cases;
 mod compare;
 mod dump;
 mod explain;
+mod oil;
 mod run;
 mod salvage;
 mod timeline;
@@ -26,11 +27,12 @@ pub struct Command {
     pub run: fn(&Options) -> Result<Ending, Failure>,
 }
 
-const COMMANDS: [&Command; 8] = [
+const COMMANDS: [&Command; 9] = [
     &run::COMMAND,
     &explain::COMMAND,
     &timeline::COMMAND,
     &asm::COMMAND,
+    &oil::COMMAND,
     &dump::COMMAND,
     &salvage::COMMAND,
     &cases::COMMAND,

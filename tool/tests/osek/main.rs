@@ -6,6 +6,7 @@ mod common;
 mod compare;
 mod documents;
 mod explain;
+mod oil;
 mod run;
 mod salvage;
 mod text;

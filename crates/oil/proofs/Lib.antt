@@ -1,0 +1,9 @@
+-- The laws that the functions' own proofs cite.
+mod Classes
+mod Comment
+mod Words
+mod Walks
+mod Digits
+mod Ranges
+mod KeptNames
+mod Answer

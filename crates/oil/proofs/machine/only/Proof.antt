@@ -1,0 +1,21 @@
+-- `only` meets its contract: by the word's sort.
+-- Assumes nothing.
+use borrow.Author.Tests.{eq-eqb, ne-eqb}
+use Rattle.oil_grammar.specs.Machine.{only}
+use borrow.Author.Needs.{needs}
+use Rattle.oil.proofs.machine.only.Statement.{statement}
+use Rattle.oil.proofs.machine.only.Tie as tie
+
+returns : tie.Need-returns
+unfolding only
+returns c = simp (eq-eqb _ _ (c .if1 .taken))
+
+unexpected-requires : tie.Need-unexpected-requires
+unexpected-requires c κs = search needs
+
+returns-2 : tie.Need-returns-2
+unfolding only
+returns-2 c = rw (c .unexpected .ensures) (simp (ne-eqb _ _ (c .before .if1 .left)))
+
+pub only-spec : {M : Type 1} → statement M
+only-spec = tie.close (tie.spec returns unexpected-requires returns-2)

@@ -1,0 +1,88 @@
+-- `closing` meets its contract: the end from `at` on is the end from `i` on, told from earlier.
+-- Assumes nothing.
+use Prim.Native.Nat.{_-_, _≤_}
+use mathlib.Core.Path.{sym, _∙_}
+use native.Mathlib.Omega.{arith}
+use lib.ListN.{length}
+use Rattle.oil_grammar.specs.Next.{closing}
+use borrow.Author.Needs.{needs}
+use Rattle.oil.proofs.Comment.{Seeks, seeks-start, seeks-here, seeks-later, seeks-last, seeks-past}
+use Rattle.oil.proofs.next.closing.Statement.{statement}
+use Rattle.oil.proofs.next.closing.Tie as tie
+
+abbrev Inv-loop : tie.InvT-loop
+Inv-loop text at i₀ i = (i ≤ length text) × Seeks text at i
+
+abbrev μ-loop : tie.MeasureT-loop
+μ-loop text at i₀ i = length text - i
+
+loop-holds : tie.Need-loop-holds Inv-loop μ-loop
+loop-holds c = (omega arith, seeks-start _ _)
+
+add-next : tie.Need-add-next Inv-loop μ-loop
+add-next c = search needs
+
+returns : tie.Need-returns Inv-loop μ-loop
+returns c =
+    let a = c .before .before .before .before .args in
+    let l = c .before .before .loop in
+    seeks-last (a .text .now) (a .at) (l .i) (l .inv .1) (c .if1 .taken)
+
+shared-slice-read-closes : tie.Need-shared-slice-read-closes Inv-loop μ-loop
+shared-slice-read-closes c = search needs
+
+shared-slice-read-closes-2 : tie.Need-shared-slice-read-closes-2 Inv-loop μ-loop
+shared-slice-read-closes-2 c = search needs
+
+closes-requires : tie.Need-closes-requires Inv-loop μ-loop
+closes-requires c κs = search needs
+
+sub-result : tie.Need-sub-result Inv-loop μ-loop
+sub-result c = search needs
+
+add-result : tie.Need-add-result Inv-loop μ-loop
+add-result c = search needs
+
+returns-2 : tie.Need-returns-2 Inv-loop μ-loop
+returns-2 c =
+    let a = c .before .before .before .before .before .before .before .before .args in
+    let l = c .before .before .before .before .before .before .loop in
+    seeks-here (a .text .now) (a .at) (l .i) (l .inv .1) (let h = c .before .before .before .before .if1 .left in omega arith) (sym
+    (c .before .closes .ensures) ∙ c .if2 .taken)
+
+loop-less : tie.Need-loop-less Inv-loop μ-loop
+loop-less c = search needs
+
+loop-again : tie.Need-loop-again Inv-loop μ-loop
+loop-again c =
+    let a = c .before .before .before .before .before .before .before .before .args in
+    let l = c .before .before .before .before .before .before .loop in (
+      omega arith,
+      seeks-later (a .text .now) (a .at) (l .i) (l .inv .1) (let h = c .before .before .before .before .if1 .left in omega arith)
+          (sym (c .before .closes .ensures) ∙ c .if2 .left),
+    )
+
+returns-3 : tie.Need-returns-3 Inv-loop μ-loop
+returns-3 c =
+    let a = c .before .before .before .args in
+    let l = c .before .loop in
+    seeks-past (a .text .now) (a .at) (l .i) (l .inv .1) (c .loop-test .left)
+
+pub closing-spec : {M : Type 1} → statement M
+closing-spec =
+    tie.close
+    (tie.spec
+    Inv-loop
+    μ-loop
+    loop-holds
+    add-next
+    returns
+    shared-slice-read-closes
+    shared-slice-read-closes-2
+    closes-requires
+    sub-result
+    add-result
+    returns-2
+    loop-less
+    loop-again
+    returns-3)

@@ -1,0 +1,104 @@
+-- `search` meets its contract: a name that is kept is borne, and any other is looked for.
+-- Assumes nothing.
+use Prim.Native.Nat.{_-_, _≤_}
+use native.Mathlib.Omega.{arith}
+use lib.ListN.{take, drop}
+use borrow.Author.Needs.{needs}
+use Rattle.oil.proofs.KeptNames.{kept-borne}
+use Rattle.oil.proofs.uses.search.Statement.{statement}
+use Rattle.oil.proofs.uses.search.Tie as tie
+
+abbrev Inv-loop : tie.InvT-loop
+Inv-loop text words start end n from to i₀ i = i ≤ n
+
+abbrev μ-loop : tie.MeasureT-loop
+μ-loop text words start end n from to i₀ i = n - i
+
+loop-holds : tie.Need-loop-holds Inv-loop μ-loop
+loop-holds c = omega arith
+
+mul-a : tie.Need-mul-a Inv-loop μ-loop
+mul-a c = let s = c .before .before .before .before .before .pre .0 .few in search needs
+
+array-read-a : tie.Need-array-read-a Inv-loop μ-loop
+array-read-a c = let s = c .before .before .before .before .before .pre .0 .few in omega arith
+
+mul-b : tie.Need-mul-b Inv-loop μ-loop
+mul-b c = let s = c .before .before .before .before .before .pre .0 .few in search needs
+
+array-read-b : tie.Need-array-read-b Inv-loop μ-loop
+array-read-b c = let s = c .before .before .before .before .before .pre .0 .few in omega arith
+
+sub-same : tie.Need-sub-same Inv-loop μ-loop
+sub-same c = let f = c .before .before .before .before .before .pre .0 .forward (c .before .loop .i) (c .loop-test .taken) in search needs
+
+part-same-start : tie.Need-part-same-start Inv-loop μ-loop
+part-same-start c =
+    let l = c .before .loop in
+    let f = c .before .before .before .before .before .pre .0 .forward (l .i)
+    (c .loop-test .taken) in let g = c .before .before .before .before .before .pre .0 .inside (l .i) (c .loop-test .taken) in omega arith
+
+part-same-end : tie.Need-part-same-end Inv-loop μ-loop
+part-same-end c =
+    let l = c .before .loop in
+    let f = c .before .before .before .before .before .pre .0 .forward (l .i)
+    (c .loop-test .taken) in let g = c .before .before .before .before .before .pre .0 .inside (l .i) (c .loop-test .taken) in omega arith
+
+sub-same-2 : tie.Need-sub-same-2 Inv-loop μ-loop
+sub-same-2 c = search needs
+
+part-same-start-2 : tie.Need-part-same-start-2 Inv-loop μ-loop
+part-same-start-2 c = search needs
+
+part-same-end-2 : tie.Need-part-same-end-2 Inv-loop μ-loop
+part-same-end-2 c = search needs
+
+same-requires : tie.Need-same-requires Inv-loop μ-loop
+same-requires c κs = search needs
+
+returns : tie.Need-returns Inv-loop μ-loop
+returns c =
+    let a = c .before .before .before .before .before .before .before .before .before .args in
+    kept-borne (a .text .now) (a .words) (a .k) (c .before .before .before .before .before .before .before .before .before .pre .0)
+    (c .before .before .before .before .before .loop .i) (c .before .before .before .before .loop-test .taken) (take (a .end - a .start)
+    (drop (a .start) (a .text .now))) (c .before .same .ensures .0 (c .if1 .taken))
+
+add-i : tie.Need-add-i Inv-loop μ-loop
+add-i c = search needs
+
+loop-less : tie.Need-loop-less Inv-loop μ-loop
+loop-less c = search needs
+
+loop-again : tie.Need-loop-again Inv-loop μ-loop
+loop-again c = search needs
+
+borne-requires : tie.Need-borne-requires Inv-loop μ-loop
+borne-requires c κs = search needs
+
+returns-2 : tie.Need-returns-2 Inv-loop μ-loop
+returns-2 c = c .borne .ensures
+
+pub search-spec : {M : Type 1} → statement M
+search-spec =
+    tie.close
+    (tie.spec
+    Inv-loop
+    μ-loop
+    loop-holds
+    mul-a
+    array-read-a
+    mul-b
+    array-read-b
+    sub-same
+    part-same-start
+    part-same-end
+    sub-same-2
+    part-same-start-2
+    part-same-end-2
+    same-requires
+    returns
+    add-i
+    loop-less
+    loop-again
+    borne-requires
+    returns-2)

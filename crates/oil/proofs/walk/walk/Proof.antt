@@ -1,0 +1,97 @@
+-- `walk` meets its contract: the loop keeps `WalksOn`. The measure is what is left of the text.
+-- Assumes nothing.
+use Prim.Native.Nat.{_-_}
+use mathlib.Core.Path.{_∙_}
+use native.Mathlib.Omega.{arith}
+use lib.ListN.{length}
+use borrow.Author.Needs.{needs}
+use Rattle.oil.proofs.Walks.{word-inside, WalksOn, walk-start, walk-refused, walk-ended, walk-further, walk-next}
+use Rattle.oil.proofs.walk.walk.Statement.{statement}
+use Rattle.oil.proofs.walk.walk.Tie as tie
+
+abbrev Inv-loop : tie.InvT-loop
+Inv-loop text s₀ at₀ words₀ s at words = WalksOn text at s words
+
+abbrev μ-loop : tie.MeasureT-loop
+μ-loop text s₀ at₀ words₀ s at words = length text - at
+
+fresh-requires : tie.Need-fresh-requires Inv-loop μ-loop
+fresh-requires c κs = search needs
+
+loop-holds : tie.Need-loop-holds Inv-loop μ-loop
+loop-holds c = walk-start (c .before .before .args .text .now) (c .fresh .result) (c .fresh .ensures)
+
+next-word-requires : tie.Need-next-word-requires Inv-loop μ-loop
+next-word-requires c κs = c .loop .inv .inside
+
+fault-in-requires : tie.Need-fault-in-requires Inv-loop μ-loop
+fault-in-requires c κs =
+    let l = c .before .loop in
+    let w = c .next-word in
+    word-inside (c .before .before .before .before .args .text .now) (l .at) (l .inv .inside) (w .result) (w .ensures)
+
+refused-at-requires : tie.Need-refused-at-requires Inv-loop μ-loop
+refused-at-requires c κs = search needs
+
+returns : tie.Need-returns Inv-loop μ-loop
+returns c =
+    let l = c .before .before .before .before .loop in
+    let w = c .before .before .before .next-word in
+    let f = c .before .before .fault-in in
+    c .refused-at .ensures ∙ walk-refused (c .before .before .before .before .before .before .before .args .text .now) (l .at) (l .s)
+    (l .words) (l .inv) (w .result) (w .ensures) (f .result) (f .ensures) (c .before .if1 .taken)
+
+returns-2 : tie.Need-returns-2 Inv-loop μ-loop
+returns-2 c =
+    let l = c .before .before .before .before .before .loop in
+    let w = c .before .before .before .before .next-word in
+    let f = c .before .before .before .fault-in in
+    walk-ended (c .before .before .before .before .before .before .before .before .args .text .now) (l .at) (l .s) (l .words) (l .inv)
+    (w .result) (w .ensures) (f .result) (f .ensures) (c .before .before .if1 .left) (c .if2 .taken)
+
+after-requires : tie.Need-after-requires Inv-loop μ-loop
+after-requires c κs = search needs
+
+add-words : tie.Need-add-words Inv-loop μ-loop
+add-words c =
+    let l = c .before .before .before .before .before .before .loop in
+    let w = c .before .before .before .before .before .next-word in
+    let f = walk-further (c .before .before .before .before .before .before .before .before .before .args .text .now) (l .at) (l .s)
+    (l .words) (l .inv) (w .result) (w .ensures) (c .before .before .before .before .fault-in .result)
+    (c .before .before .before .before .fault-in .ensures) (c .before .before .before .if1 .left) (c .before .if2 .left) in omega
+    (arith, l .inv .few)
+
+loop-less : tie.Need-loop-less Inv-loop μ-loop
+loop-less c =
+    let l = c .before .before .before .before .before .before .loop in
+    let w = c .before .before .before .before .before .next-word in
+    let f = walk-further (c .before .before .before .before .before .before .before .before .before .args .text .now) (l .at) (l .s)
+    (l .words) (l .inv) (w .result) (w .ensures) (c .before .before .before .before .fault-in .result)
+    (c .before .before .before .before .fault-in .ensures) (c .before .before .before .if1 .left) (c .before .if2 .left) in omega arith
+
+loop-again : tie.Need-loop-again Inv-loop μ-loop
+loop-again c =
+    let l = c .before .before .before .before .before .before .loop in
+    let w = c .before .before .before .before .before .next-word in
+    let f = c .before .before .before .before .fault-in in
+    walk-next (c .before .before .before .before .before .before .before .before .before .args .text .now) (l .at) (l .s) (l .words) (l .inv)
+    (w .result) (w .ensures) (f .result) (f .ensures) (c .before .before .before .if1 .left) (c .before .if2 .left) (c .after .result)
+    (c .after .ensures)
+
+pub walk-spec : {M : Type 1} → statement M
+walk-spec =
+    tie.close
+    (tie.spec
+    Inv-loop
+    μ-loop
+    fresh-requires
+    loop-holds
+    next-word-requires
+    fault-in-requires
+    refused-at-requires
+    returns
+    returns-2
+    after-requires
+    add-words
+    loop-less
+    loop-again)

@@ -1,0 +1,3 @@
+-- What the contracts of `oil` cite beside the grammar's definitions.
+-- Assumes nothing.
+pub mod Kept

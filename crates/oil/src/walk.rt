@@ -1,0 +1,133 @@
+// The first walk over a text: the refusals 60 to 63 in reading order, and how many words there are.
+use crate::machine::after;
+use crate::machine::fault;
+use crate::machine::fresh;
+use crate::machine::names_object;
+use crate::next::next_word;
+use crate::sorts::END;
+use crate::sorts::RESOURCE;
+use check::same;
+use oil_grammar::Found;
+use oil_grammar::Progress;
+use oil_grammar::Word;
+ghost use mathlib.Core.Path.{_≡_};
+ghost use Prim.Native.Nat.{_-_, _≤_};
+ghost use mathlib.Core.Bool.{_&&_};
+ghost use lib.ListN.{length, take, drop};
+ghost use Rattle.oil_grammar.specs.Word.{same};
+ghost use Rattle.oil_grammar.specs.Next.{spelling};
+ghost use Rattle.oil_grammar.specs.Machine.{fresh};
+ghost use Rattle.oil_grammar.specs.Walk.{bears, borne, nameFault, faultIn, refusedAt};
+ghost use Rattle.oil_grammar.specs.Reader.{walked};
+
+const GIVEN_TWICE: u8 = 63;
+
+// Whether a name is wanted that an object, or only a RESOURCE, will bear.
+fn bears(resource: bool, s: Progress) -> bool
+    ensures { λ r. ⌜ r ≡ bears resource s ⌝ }
+{
+    let names = names_object(s);
+    if !resource {
+        return names;
+    }
+    if !names {
+        return false;
+    }
+    s.kind == RESOURCE
+}
+
+// Whether the word is such a name, and is spelled as the bytes from `start` to `end`.
+fn borne_here(text: &[u8], resource: bool, s: Progress, w: Word, start: usize, end: usize) -> bool
+    requires { ⌜ ((w .start ≤ w .end) × (w .end ≤ length (now text))) × ((start ≤ end) × (end ≤ length (now text))) ⌝ }
+    ensures { λ r. ⌜ r ≡ bears resource s && same (spelling (now (text .entry)) w) (take (end - start) (drop start (now (text .entry)))) ⌝ }
+{
+    if !bears(resource, s) {
+        return false;
+    }
+    let from = w.start;
+    let to = w.end;
+    same(&text[from..to], &text[start..end])
+}
+
+// Whether one of the first `count` words is such a name, and is spelled as the bytes from `start` to `end`.
+pub fn borne(text: &[u8], count: usize, resource: bool, start: usize, end: usize) -> bool
+    requires { ⌜ (start ≤ end) × (end ≤ length (now text)) ⌝ }
+    ensures { λ r. ⌜ r ≡ borne count (now (text .entry)) 0 fresh resource (take (end - start) (drop start (now (text .entry)))) ⌝ }
+{
+    let mut s = fresh();
+    let mut at = 0;
+    let mut i = 0;
+    while i < count {
+        let w = next_word(text, at);
+        if borne_here(text, resource, s, w, start, end) {
+            return true;
+        }
+        s = after(s, w.sort);
+        at = w.end;
+        i += 1;
+    }
+    false
+}
+
+// The refusal of an earlier object's name.
+fn name_fault(text: &[u8], s: Progress, words: usize, w: Word) -> u8
+    requires { ⌜ (w .start ≤ w .end) × (w .end ≤ length (now text)) ⌝ }
+    ensures { λ r. ⌜ r ≡ nameFault (now (text .entry)) s words w ⌝ }
+{
+    if !names_object(s) {
+        return 0;
+    }
+    if borne(text, words, false, w.start, w.end) {
+        return GIVEN_TWICE;
+    }
+    0
+}
+
+// The refusal of a word where the text has come as far as `s` and `words` words stand before.
+fn fault_in(text: &[u8], s: Progress, words: usize, w: Word) -> u8
+    requires { ⌜ (w .start ≤ w .end) × (w .end ≤ length (now text)) ⌝ }
+    ensures { λ r. ⌜ r ≡ faultIn (now (text .entry)) s words w ⌝ }
+{
+    let refusal = fault(s, w.sort);
+    if refusal != 0 {
+        return refusal;
+    }
+    name_fault(text, s, words, w)
+}
+
+// A refusal and its place.
+pub fn refused_at(refusal: u8, place: usize) -> Found
+    ensures { λ r. ⌜ r ≡ refusedAt refusal place ⌝ }
+{
+    Found {
+        refusal: refusal,
+        place: place,
+        words: 0,
+    }
+}
+
+// The first refusal, or the number of words.
+pub fn walk(text: &[u8]) -> Found
+    ensures { λ r. ⌜ r ≡ walked (now (text .entry)) ⌝ }
+{
+    let mut s = fresh();
+    let mut at = 0;
+    let mut words = 0;
+    loop {
+        let w = next_word(text, at);
+        let refusal = fault_in(text, s, words, w);
+        if refusal != 0 {
+            return refused_at(refusal, w.start);
+        }
+        if w.sort == END {
+            return Found {
+                refusal: 0,
+                place: 0,
+                words: words,
+            };
+        }
+        s = after(s, w.sort);
+        at = w.end;
+        words += 1;
+    }
+}

@@ -1,0 +1,56 @@
+-- What the crate shows: the reading and the grammar accept the same texts, with the same configurations. Each law stands here in full, over specs/
+-- alone; the modules it cites prove it.
+-- Assumes nothing.
+use Prim.Native.Nat.{ℕ}
+use mathlib.Core.Path.{_≡_, sym, ap, _∙_}
+use mathlib.Core.List.{List}
+use mathlib.Core.Logic.{_↔_}
+use borrow.Author.Tests.{eq-eqb, ne-eqb}
+use Rattle.number.specs.Refusal.{none}
+use Rattle.config.specs.declared.Config.{Config}
+use Rattle.config.specs.Value.{noConfig}
+use Rattle.config.specs.Writer.{firstFault}
+use Rattle.oil_grammar.specs.declared.OilRead.{OilRead}
+use Rattle.oil_grammar.specs.Object.{Object}
+use Rattle.oil_grammar.specs.Meaning.{configOf}
+use Rattle.oil_grammar.specs.Grammar.{Oil, Describes}
+use Rattle.oil_grammar.specs.Reader.{ranged, readOil}
+use Rattle.oil_grammar.proofs.Whole as Whole
+
+abbrev accepted : Config → OilRead
+accepted c = record { config = c; refusal = none; line = 0; column = 0 }
+
+-- a text that is OIL of objects is read as their configuration, unless its ranges refuse it
+pub oil-read : (t : List ℕ) (os : List Object) → Oil t os → readOil t ≡ ranged (configOf os)
+oil-read = Whole.oil-read
+
+-- whatever the grammar relates to a configuration is read as that one
+pub described-read : (t : List ℕ) (c : Config) → Describes t c → readOil t ≡ accepted c
+described-read t c d =
+    let e : firstFault (configOf (d .objects)) ≡ none = rw (d .meant) at (d .in-range) in
+    oil-read t (d .objects) (d .oil) ∙ rw (eq-eqb (firstFault (configOf (d .objects))) none e) (ap accepted (sym (d .meant)))
+
+-- whatever is accepted is related by the grammar to what it is read as
+pub read-described : (t : List ℕ) → readOil t .refusal ≡ none → Describes t (readOil t .config)
+read-described = Whole.read-described
+
+-- "The accepted grammar .. accepts exactly the same texts"
+pub accepted-exactly : (t : List ℕ) (c : Config) → Describes t c ↔ (readOil t ≡ accepted c)
+accepted-exactly t c = (described-read t c, λ e. rw (ap (λ (r : OilRead). r .config) e) at (read-described t (ap (λ (r : OilRead). r .refusal) e)))
+
+-- a text describes at most one configuration
+pub one-meaning : (t : List ℕ) (b c : Config) → Describes t b → Describes t c → b ≡ c
+one-meaning t b c d e = ap (λ (r : OilRead). r .config) (sym (described-read t b d) ∙ described-read t c e)
+
+-- a text is refused exactly if it describes none
+pub refused-exactly : (t : List ℕ) → (readOil t .refusal ≡ none → ⊥) ↔ ((c : Config) → Describes t c → ⊥)
+refused-exactly t = ((λ n c d. n (ap (λ (r : OilRead). r .refusal) (described-read t c d))), λ f e. f (readOil t .config) (read-described t e))
+
+-- whatever is accepted has a configuration that the writer takes
+pub writer-takes : (t : List ℕ) → readOil t .refusal ≡ none → firstFault (readOil t .config) ≡ none
+writer-takes t e = read-described t e .in-range
+
+-- OIL whose fields are out of their ranges gets "4 to 6 in the reader's order, at line 0, column 0"
+pub out-of-range : (t : List ℕ) (os : List Object) → Oil t os → (firstFault (configOf os) ≡ none → ⊥)
+    → readOil t ≡ record { config = noConfig; refusal = firstFault (configOf os); line = 0; column = 0 }
+out-of-range t os o d = oil-read t os o ∙ rw (ne-eqb (firstFault (configOf os)) none d)

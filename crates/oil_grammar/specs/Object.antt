@@ -1,0 +1,94 @@
+-- Objects with their attributes, and how each is written in words.
+--
+--   written os     the words of the objects, one after the other
+--   Fits o         its attributes are those that its kind has
+--   names, uses, resources   what the objects are called, which names their RESOURCE attributes have, which RESOURCE objects there are
+--
+-- Assumes nothing.
+use Prim.Native.Nat.{ℕ, suc, _≤_}
+use mathlib.Core.Path.{_≡_}
+use mathlib.Core.Bool.{Bool, false, cond, _||_}
+use mathlib.Core.List.{List, [], _∷_, _++_}
+use lib.Dec.{eqb}
+use Rattle.oil_grammar.specs.Word.{Word, mark, name, number, same, taskSort, isrSort, resourceSort, prioritySort, autostartSort, trueSort, falseSort, openSort, closeSort, equalsSort, semicolonSort}
+
+pub data Attribute : Type 0 where
+  priority : ℕ → Attribute
+  autostart : Bool → Attribute
+  uses : List ℕ → Attribute
+
+-- the kind is the word that the object begins with: TASK, ISR or RESOURCE
+pub record Object : Type 0 where
+  pub kind : ℕ
+  pub called : List ℕ
+  pub attributes : List Attribute
+
+abbrev pub isResource : ℕ → Bool
+isResource kind = eqb kind resourceSort
+
+-- `PRIORITY = 2;`, `AUTOSTART = TRUE;`, `RESOURCE = r;`
+unfoldable pub attributeWords : Attribute → List Word
+attributeWords (priority n) = mark prioritySort ∷ mark equalsSort ∷ number n ∷ mark semicolonSort ∷ []
+attributeWords (autostart b) = mark autostartSort ∷ mark equalsSort ∷ mark (cond b trueSort falseSort) ∷ mark semicolonSort ∷ []
+attributeWords (uses x) = mark resourceSort ∷ mark equalsSort ∷ name x ∷ mark semicolonSort ∷ []
+
+unfoldable pub attributesWords : List Attribute → List Word
+attributesWords [] = []
+attributesWords (a ∷ rest) = attributeWords a ++ attributesWords rest
+
+-- `TASK name { .. };`
+unfoldable pub objectWords : Object → List Word
+objectWords o =
+    mark (o .kind)
+    ∷ name (o .called)
+    ∷ mark openSort
+    ∷ (attributesWords (o .attributes) ++ (mark closeSort ∷ mark semicolonSort ∷ []))
+
+-- "The text is only objects"
+unfoldable pub written : List Object → List Word
+written [] = []
+written (o ∷ os) = objectWords o ++ written os
+
+unfoldable pub priorities : List Attribute → ℕ
+priorities [] = 0
+priorities (priority n ∷ rest) = suc (priorities rest)
+priorities (autostart b ∷ rest) = priorities rest
+priorities (uses x ∷ rest) = priorities rest
+
+unfoldable pub autostarts : List Attribute → ℕ
+autostarts [] = 0
+autostarts (priority n ∷ rest) = autostarts rest
+autostarts (autostart b ∷ rest) = suc (autostarts rest)
+autostarts (uses x ∷ rest) = autostarts rest
+
+-- "PRIORITY (for an ISR a maker's own attribute), AUTOSTART (tasks only, FALSE if absent) and RESOURCE attributes"; a task and an ISR
+-- have one PRIORITY, and AUTOSTART stands once at most; "without attributes, `RESOURCE r { };`"
+pub data Fits : Object → Type 0 where
+  task : {x : List ℕ} {rest : List Attribute} → priorities rest ≡ 1 → autostarts rest ≤ 1
+      → Fits (record { kind = taskSort; called = x; attributes = rest })
+  isr : {x : List ℕ} {rest : List Attribute} → priorities rest ≡ 1 → autostarts rest ≡ 0
+      → Fits (record { kind = isrSort; called = x; attributes = rest })
+  resource : {x : List ℕ} → Fits (record { kind = resourceSort; called = x; attributes = [] })
+
+-- x is one of the names
+unfoldable pub among : List ℕ → List (List ℕ) → Bool
+among x [] = false
+among x (y ∷ ys) = same y x || among x ys
+
+unfoldable pub names : List Object → List (List ℕ)
+names [] = []
+names (o ∷ os) = o .called ∷ names os
+
+unfoldable pub resources : List Object → List (List ℕ)
+resources [] = []
+resources (o ∷ os) = cond (isResource (o .kind)) (o .called ∷ resources os) (resources os)
+
+unfoldable pub attributeUses : List Attribute → List (List ℕ)
+attributeUses [] = []
+attributeUses (priority n ∷ rest) = attributeUses rest
+attributeUses (autostart b ∷ rest) = attributeUses rest
+attributeUses (uses x ∷ rest) = x ∷ attributeUses rest
+
+unfoldable pub objectUses : List Object → List (List ℕ)
+objectUses [] = []
+objectUses (o ∷ os) = attributeUses (o .attributes) ++ objectUses os
