@@ -59,6 +59,18 @@ REFUSED = [
     (CONFIG, b"\x06\x0a", 23, 1),
 ]
 
+# OIL texts with their refusal, line and column.
+REFUSED_TEXTS = [
+    (b"", 4, 0, 0),
+    (b"TASK a { PRIORITY = 201; };", 5, 0, 0),
+    (b"TASK a { PRIORITY = 1; }; ISR b { PRIORITY = 1; };", 6, 0, 0),
+    (b"TASK a {\n  PRIORITY # 1; };", 60, 2, 12),
+    (b"TASK a { };", 61, 1, 10),
+    (b"TASK a { SPEED = 1; };", 62, 1, 10),
+    (b"TASK a { PRIORITY = 1; };\nRESOURCE a { };", 63, 2, 10),
+    (b"TASK a { PRIORITY = 1; RESOURCE = r; };", 64, 1, 35),
+]
+
 
 class OsekTest(unittest.TestCase):
     def test_the_listing(self):
@@ -80,7 +92,18 @@ class OsekTest(unittest.TestCase):
         out = bytearray(73)
         self.assertEqual(osek.osek_run(CONFIG, TRACE, out), 30 << 32 | 74)
         self.assertEqual(out, bytes(73))
-        self.assertEqual({code for _, _, code, _ in REFUSED} | {30}, set(osek.REFUSALS))
+        texts = {code for _, code, _, _ in REFUSED_TEXTS}
+        self.assertEqual({code for _, _, code, _ in REFUSED} | {30} | texts, set(osek.REFUSALS))
+
+    def test_an_oil_text_is_read_or_refused_at_its_place(self):
+        text = b"ISR wake { PRIORITY = 9; }; // first\nTASK log { AUTOSTART = TRUE; PRIORITY = 2; RESOURCE = r; }; RESOURCE r { };"
+        self.assertEqual(osek.oil(text), bytes.fromhex("0102 010900 000201 01 02 00"))
+        for text, code, line, column in REFUSED_TEXTS:
+            with self.subTest(text=text), self.assertRaises(osek.RefusedText) as raised:
+                osek.oil(text)
+            refused = raised.exception
+            self.assertEqual((refused.code, refused.line, refused.column), (code, line, column))
+            self.assertEqual(refused.words, osek.REFUSALS[code])
 
     def test_a_damaged_trace_is_salvaged(self):
         # Get 0; FF; 200 times 00; Tick; Start 0 without its delay.
@@ -95,6 +118,7 @@ class OsekTest(unittest.TestCase):
         for wrong in (7, "text", None):
             self.assertRaises(TypeError, osek.run, CONFIG, wrong)
             self.assertRaises(TypeError, osek.salvage, wrong)
+            self.assertRaises(TypeError, osek.oil, wrong)
         self.assertEqual(osek.run(bytearray(CONFIG), memoryview(TRACE)), osek.run(CONFIG, TRACE))
 
     @unittest.skipUnless("OSEK_CASES" in os.environ, "OSEK_CASES names no file")
