@@ -1,6 +1,6 @@
 -- What the crate shows beyond its contracts. Each law stands here in full, over specs/ alone; the module it cites proves it.
 --
--- In order: the start counter, by additions alone; one tick, field by field; a cell that is off; the main law, `matches-when-due`; and what
+-- In order: the start counter, by additions alone; one tick, field by field; a cell that is off, a stopped cell; the main law, `matches-when-due`; and what
 -- a caller needs who keeps for a cell the ticks since its start (`OnTime`) or the ticks left to its next match (`Left`); a row of cells.
 -- Assumes nothing.
 use Prim.Native.Nat.{ℕ, suc, _+_, _-_, _%_, _≤_, _<_}
@@ -12,7 +12,7 @@ use native.Mathlib.Omega.{arith}
 use lib.Dec.{eqb}
 use lib.ListN.{length, getD}
 use Rattle.cell.specs.declared.Cell.{Cell}
-use Rattle.cell.specs.Cell.{modulus, unmarked, startCounterIn, sumsIn, startCellIn, tickedIn, ticksIn, startCounter, sums, startCell, ticked, ticks}
+use Rattle.cell.specs.Cell.{modulus, unmarked, startCounterIn, sumsIn, startCellIn, tickedIn, ticksIn, startCounter, sums, startCell, ticked, ticks, stopped}
 use Rattle.cell.specs.Due.{due, untilDue, OnTime, Left, Periodic}
 use Rattle.cell.specs.Rows.{rowTicks}
 use Rattle.cell.proofs.Reach as Reach
@@ -60,6 +60,10 @@ module _ (c : Cell) where
   -- a cell that is off never matches and keeps its counter and its turn, however many ticks there are
   pub off-ticks-same : c .on ≡ false → (n : ℕ) → ticks (suc n) c ≡ unmarked (c .counter) (c .compare) false (c .turn)
   off-ticks-same off n = Tick.off-ticks modulus n c off
+
+  -- "Stop switches the table's cells off and sets their counters to 0": with numbers, whatever stood there before
+  pub stopped-zero : (stopped c .counter ≡ 0) × (stopped c .on ≡ false) × (stopped c .turn ≡ false) × (stopped c .compare ≡ c .compare)
+  stopped-zero = (refl, refl, refl, refl)
 
 -- a started cell matches at exactly the ticks at which its entry is due, however many ticks there are: for a counter of any modulus M and a
 -- first delay of up to two turns
