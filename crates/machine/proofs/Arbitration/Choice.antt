@@ -12,7 +12,6 @@ use mathlib.Core.Bool.{Bool, true, false, true≢false}
 use mathlib.Core.List.{List, [], _∷_}
 use native.Mathlib.Omega.{arith}
 use borrow.Author.Tests.{ne-eqb}
-use lib.ListN.{length}
 use Rattle.number.proofs.Cases.{by-lt}
 use Rattle.config.specs.declared.Config.{Config}
 use Rattle.config.specs.Meaning.{priorityOf}
@@ -25,7 +24,7 @@ use Rattle.scheduler.proofs.Choice.{contender, weight, weight-before, chosen-be
 use Rattle.machine.specs.Model.{Model}
 use Rattle.plan.proofs.Fitted.{Fitted}
 use Rattle.machine.proofs.Relation.Words.{at}
-use Rattle.machine.proofs.Relation.Nest.{levelAt, Nested, Seats, by-among, nest-level, among-head}
+use Rattle.machine.proofs.Relation.Nest.{levelAt, Nested, Seats, by-among, nest-level}
 use Rattle.machine.proofs.Relation.Whole.{Tied, Calm}
 
 -- a body is suspended, ready or started

@@ -6,34 +6,33 @@
 -- Assumes nothing.
 use Prim.Native.Nat.{ℕ, _^_, _≤_, _<_}
 use mathlib.Core.Path.{_≡_, refl, sym, ap, _∙_}
-use mathlib.Core.Logic.{_≢_, ⊎-elim}
-use mathlib.Core.Bool.{Bool, true, false, true≢false, cond, not, _&&_, _||_}
+use mathlib.Core.Logic.{_≢_}
+use mathlib.Core.Bool.{Bool, true, false, true≢false, cond, not, _&&_}
 use mathlib.Core.List.{List, [], _∷_, _++_}
-use native.Mathlib.Nat.{eq-zero-or-pos}
 use native.Mathlib.Omega.{arith}
 use borrow.Author.Tests.{lt-ltb, le-ltb, ne-eqb}
 use lib.Dec.{eqb}
-use lib.ListN.{length, getD, set, length-set}
+use lib.ListN.{set, length-set}
 use lib.Seq.{getD-set-same, getD-set-other, set-getD}
 use Rattle.number.proofs.Cases.{by-lt, by-eq}
 use Rattle.config.specs.declared.Config.{Config}
 use Rattle.config.specs.Meaning.{priorityOf}
 use Rattle.plan.specs.declared.Plan.{Plan}
-use Rattle.word.specs.Word.{has, with, without, winner}
-use Rattle.word.proofs.Theorems.{empty, has-with-same, has-with-other, with-lt, has-without-same, has-without-other, without-lt, has-union, union-lt, winner-has, winner-highest, winner-empty}
+use Rattle.word.specs.Word.{has, without, winner}
+use Rattle.word.proofs.Theorems.{has-with-same, has-with-other, with-lt, has-without-same, has-without-other, without-lt}
 use Rattle.scheduler.specs.Body.{Phase, suspended, ready, started, isSuspended, isStarted, Body, current, become}
 use Rattle.scheduler.specs.Choice.{chosen, nobody}
 use Rattle.scheduler.specs.State.{State, noBody, among, changing}
-use Rattle.scheduler.specs.Call.{requestWaits, holds}
+use Rattle.scheduler.specs.Call.{requestWaits}
 use Rattle.scheduler.specs.Scheduler.{begins, dispatched}
 use Rattle.scheduler.proofs.Choice.{current-own}
-use Rattle.machine.specs.Model.{Core, Picked, Model, Outcome, noRank, withCore}
+use Rattle.machine.specs.Model.{Core, Model, Outcome, withCore}
 use Rattle.machine.specs.Arbiter.{bids, winning, beginning, dispatching, arbitrated, settled}
 use Rattle.machine.specs.Machine.{runnerOf}
 use Rattle.plan.proofs.Fitted.{Fitted}
-use Rattle.machine.proofs.Relation.Words.{at, wants, Words, words-changed}
+use Rattle.machine.proofs.Relation.Words.{at, Words, words-changed}
 use Rattle.machine.proofs.Relation.Slots.{slotsFor, slotsAlong}
-use Rattle.machine.proofs.Relation.Nest.{levelAt, Nested, AllHold, Seats, Alike, alike-same, among-tail-false, nest-level, levelAt-alike, nested-alike, slotsAlong-alike, hold-alike}
+use Rattle.machine.proofs.Relation.Nest.{levelAt, Nested, Seats, Alike, alike-same, among-tail-false, nest-level, levelAt-alike, nested-alike, slotsAlong-alike, hold-alike}
 use Rattle.machine.proofs.Relation.Whole.{Apart, Tied, Calm}
 use Rattle.machine.proofs.Arbitration.Seat.{Holders, holders}
 use Rattle.machine.proofs.Arbitration.Bids.{Winner, winning-is, calm-below, winner-above, winner-best}

@@ -2,31 +2,22 @@
 --
 --   Holders c rk m bs   the bodies that hold a resource, nested, with a level at most the model's
 --   holders             of every model there are such
---   seated-last         the one that took the latest resource takes the seat, or nobody does
 --
 -- Assumes nothing.
-use Prim.Native.Nat.{ℕ, _≤_, _<_}
-use mathlib.Core.Path.{_≡_, refl, sym, ap, _∙_}
-use mathlib.Core.Bool.{Bool, true, false, true≢false, cond}
-use mathlib.Core.List.{List, [], _∷_, _++_}
+use Prim.Native.Nat.{ℕ, _≤_}
+use mathlib.Core.Path.{_≡_, refl, sym, _∙_}
+use mathlib.Core.Bool.{false, true≢false}
+use mathlib.Core.List.{List, [], _∷_}
 use native.Mathlib.Omega.{arith}
-use borrow.Author.Tests.{eq-eqb, ne-eqb}
-use lib.Dec.{eqb}
 use Rattle.number.proofs.Cases.{by-eq}
 use Rattle.config.specs.declared.Config.{Config}
-use Rattle.config.specs.Meaning.{priorityOf}
-use Rattle.plan.specs.declared.Plan.{Plan}
-use Rattle.stack.specs.Stack.{topRow}
-use Rattle.scheduler.specs.Body.{Body, current}
+use Rattle.scheduler.specs.Body.{Body}
 use Rattle.scheduler.specs.State.{among}
-use Rattle.scheduler.specs.Call.{holds}
 use Rattle.scheduler.proofs.Choice.{current-own}
-use Rattle.machine.specs.Model.{Model, noRank}
-use Rattle.plan.proofs.Fitted.{Fitted}
-use Rattle.machine.proofs.Relation.Rows.{row-shows-top}
+use Rattle.machine.specs.Model.{Model}
 use Rattle.machine.proofs.Relation.Words.{at}
-use Rattle.machine.proofs.Relation.Slots.{Slot, slotsFor, slotsAlong, Slots}
-use Rattle.machine.proofs.Relation.Nest.{levelAt, Nested, AllHold, Seats, by-among, among-head, among-tail, not-among, among-nil}
+use Rattle.machine.proofs.Relation.Slots.{slotsFor, slotsAlong, Slots}
+use Rattle.machine.proofs.Relation.Nest.{levelAt, Nested, AllHold, Seats, by-among, not-among, among-nil}
 use Rattle.machine.proofs.Relation.Whole.{Tied}
 
 pub record Holders (c : Config) (rk : ℕ → ℕ) (m : Model) (bs : List Body) : Type 0 where

@@ -25,7 +25,7 @@ use Rattle.machine.proofs.Relation.Rows.{row-shows-top}
 use Rattle.machine.proofs.Relation.Words.{at, Words, words-changed}
 use Rattle.machine.proofs.Relation.Slots.{slotsFor, slotsAlong, Slots}
 use Rattle.machine.proofs.Relation.Nest.{Nested, AllHold, Seats, Alike, alike-same, among-head, among-tail, not-among, nest-other, nested-alike, hold-alike, slotsAlong-alike}
-use Rattle.machine.proofs.Relation.Whole.{Apart, Tied}
+use Rattle.machine.proofs.Relation.Whole.{Tied}
 use Rattle.machine.proofs.Arbitration.Dispatch.{rank-below}
 
 -- the last slot's holder takes the seat, at its level

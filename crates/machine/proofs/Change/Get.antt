@@ -1,7 +1,7 @@
 -- Get: the runner takes a resource that nobody holds, and runs at its ceiling.
 -- Assumes nothing.
 use Prim.Native.Nat.{ℕ, _+_, max, _≤_, _<_}
-use mathlib.Core.Path.{_≡_, refl, sym, ap, ap₂, _∙_}
+use mathlib.Core.Path.{_≡_, refl, sym, ap₂, _∙_}
 use mathlib.Core.Bool.{true, false}
 use mathlib.Core.List.{List, [], _∷_, _++_, foldr, map}
 use native.Mathlib.Omega.{arith}

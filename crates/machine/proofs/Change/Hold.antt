@@ -6,9 +6,9 @@
 --
 -- Assumes nothing.
 use Prim.Native.Nat.{ℕ, max, _<_}
-use mathlib.Core.Path.{_≡_, refl, sym, ap, ap₂, _∙_}
+use mathlib.Core.Path.{_≡_, refl, sym, ap, _∙_}
 use mathlib.Core.Logic.{_≢_}
-use mathlib.Core.Bool.{Bool, true, false, true≢false}
+use mathlib.Core.Bool.{true, false, true≢false}
 use mathlib.Core.List.{List, [], _∷_, _++_, map, foldr}
 use native.Mathlib.Omega.{arith}
 use borrow.Author.Tests.{eq-eqb, ne-eqb}
@@ -29,7 +29,7 @@ use Rattle.plan.proofs.Fitted.{Fitted}
 use Rattle.machine.proofs.Relation.Rows.{row-shows-top}
 use Rattle.machine.proofs.Relation.Words.{at, words-changed}
 use Rattle.machine.proofs.Relation.Slots.{Slot, slot, slotsFor, slotsAlong, holdersIn, Slots}
-use Rattle.machine.proofs.Relation.Nest.{levelAt, Nested, AllHold, Seats, Alike, alike-same, among-head, among-tail, among-tail-false, nest-other, nest-exists, levelAt-alike, nested-alike, hold-alike, slotsAlong-alike}
+use Rattle.machine.proofs.Relation.Nest.{Nested, Seats, Alike, alike-same, among-head, among-tail, nest-other, nest-exists, levelAt-alike, nested-alike, hold-alike, slotsAlong-alike}
 use Rattle.machine.proofs.Relation.Whole.{Tied}
 use Rattle.machine.proofs.Arbitration.Dispatch.{rank-below}
 use Rattle.machine.proofs.Change.Request.{waits-same}

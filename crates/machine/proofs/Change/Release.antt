@@ -2,7 +2,7 @@
 -- Assumes nothing.
 use Prim.Native.Nat.{ℕ, _+_, max, _<_}
 use mathlib.Core.Path.{_≡_, refl, sym, ap, _∙_}
-use mathlib.Core.Bool.{true, false}
+use mathlib.Core.Bool.{true}
 use mathlib.Core.List.{List, [], _∷_, _++_, map, foldr}
 use native.Mathlib.Omega.{arith}
 use borrow.Author.Tests.{eq-eqb, ne-eqb}
@@ -15,7 +15,7 @@ use Rattle.plan.specs.declared.Plan.{Plan}
 use Rattle.word.specs.Word.{has, without}
 use Rattle.word.proofs.Theorems.{has-without-same, has-without-other}
 use Rattle.stack.specs.Stack.{secondRow, popRow, rowBytes}
-use Rattle.scheduler.specs.Body.{Body, isStarted, current, releases}
+use Rattle.scheduler.specs.Body.{Body, current, releases}
 use Rattle.scheduler.specs.State.{among}
 use Rattle.scheduler.specs.Call.{holds}
 use Rattle.machine.specs.Model.{Model}

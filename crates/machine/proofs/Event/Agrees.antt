@@ -37,7 +37,7 @@ use Rattle.machine.proofs.Relation.Words.{at}
 use Rattle.machine.proofs.Relation.Nest.{Nested, Seats}
 use Rattle.machine.proofs.Relation.Cells.{Timed}
 use Rattle.machine.proofs.Relation.Losses.{Lost, lost-same}
-use Rattle.machine.proofs.Relation.Whole.{Tied, Calm, Sim}
+use Rattle.machine.proofs.Relation.Whole.{Tied, Sim}
 use Rattle.machine.proofs.Arbitration.Choice.{chosen-seated, chosen-none}
 use Rattle.machine.proofs.Arbitration.Dispatch.{Arbitrated, rank-below, calm-arbitrated}
 

@@ -1,9 +1,9 @@
 -- Tick does the same to the model as to the state: a match is a due entry, and what it asks for or loses is the same.
 -- Assumes nothing.
 use Prim.Native.Nat.{ℕ, suc, _+_, _≤_, _<_}
-use mathlib.Core.Path.{_≡_, refl, sym, ap, ap₂, _∙_}
+use mathlib.Core.Path.{_≡_, refl, sym, ap, _∙_}
 use mathlib.Core.Logic.{_≢_}
-use mathlib.Core.Bool.{Bool, true, false, true≢false, not, _||_}
+use mathlib.Core.Bool.{Bool, true, false, true≢false}
 use mathlib.Core.List.{List, [], _∷_, map}
 use native.Mathlib.Omega.{arith}
 use lib.ListN.{length, getD, set, drop, length-set, length-map}
@@ -12,11 +12,9 @@ use Rattle.number.proofs.Cases.{by-eq}
 use Rattle.config.specs.declared.Config.{Config}
 use Rattle.config.specs.Meaning.{isTask}
 use Rattle.plan.specs.declared.Plan.{Plan}
-use Rattle.word.specs.Word.{has}
 use Rattle.scheduler.specs.Status.{done, firstGiven}
-use Rattle.scheduler.specs.Body.{Phase, suspended, ready, started, isSuspended, isStarted, Body, become, loses, activatedByEntry}
+use Rattle.scheduler.specs.Body.{ready, started, isSuspended, Body, become, loses, activatedByEntry}
 use Rattle.scheduler.specs.State.{State, noBody, changing}
-use Rattle.scheduler.specs.Call.{requestWaits}
 use Rattle.scheduler.specs.Tick.{counting, counted, dues, activatingDue}
 use Rattle.scheduler.specs.Tick as Plain
 use Rattle.scheduler.specs.Scheduler.{Tick, step}

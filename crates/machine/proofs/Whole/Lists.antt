@@ -16,7 +16,7 @@ use Rattle.config.specs.declared.Config.{Config}
 use Rattle.plan.specs.declared.Plan.{Plan}
 use Rattle.scheduler.specs.State.{State}
 use Rattle.scheduler.specs.Tick.{dues}
-use Rattle.scheduler.specs.Scheduler.{Event, Activate, Finish, Chain, Get, Release, Tick, Line, Start, Stop, Seen, step, seen, after}
+use Rattle.scheduler.specs.Scheduler.{Event, Activate, Finish, Chain, Get, Release, Tick, Line, Start, Stop, Seen, seen, after}
 use Rattle.machine.specs.Model.{Model}
 use Rattle.machine.specs.Machine.{machineSeen, machineAfter}
 use Rattle.plan.proofs.Fitted.{Fitted}
