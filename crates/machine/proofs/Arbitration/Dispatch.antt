@@ -147,7 +147,7 @@ module _ {c : Config} {p : Plan} {rk : ℕ → ℕ} (fit : Fitted c p rk) where
     words′ : Words c rk k′ bs′
     words′ =
         words-changed fit (t .words) (t .size) w (v .exists) (become started (at bs w)) k′
-        (rw beginning-is (asked (isStarted (at bs w .phase)) refl))
+        asked
         (rw (v .rank) (has-with-same (m .core .started) (winner (bids (m .core))) winner-lt))
         (λ r n. other (beginning (m .core)) r (rw (v .rank) at n))
         (λ r n. has-with-other (m .core .started) (winner (bids (m .core))) r (rw (v .rank) at n))
@@ -174,9 +174,12 @@ module _ {c : Config} {p : Plan} {rk : ℕ → ℕ} (fit : Fitted c p rk) where
         second x ready h = absurd (true≢false (sym h))
         second x started h = refl
 
-        asked : (b : Bool) → isStarted (at bs w .phase) ≡ b → has (cond (not b) (without q W) q) (rk w) ≡ at bs w .pending
-        asked true e = t .words .asks w (v .exists) ∙ second (at bs w) (at bs w .phase) e
-        asked false e = rw (v .rank) (has-without-same q W) ∙ sym (t .words .quiet w e)
+        waiting : (b : Bool) → isStarted (at bs w .phase) ≡ b → has (cond (not b) (without q W) q) (rk w) ≡ at bs w .pending
+        waiting true e = t .words .asks w (v .exists) ∙ second (at bs w) (at bs w .phase) e
+        waiting false e = rw (v .rank) (has-without-same q W) ∙ sym (t .words .quiet w e)
+
+        asked : has (cond (beginning (m .core)) (without q W) q) (rk w) ≡ at bs w .pending
+        asked = rw beginning-is (waiting (isStarted (at bs w .phase)) refl)
 
     -- the nest below the winner
     abbrev below : Holders c rk m bs
