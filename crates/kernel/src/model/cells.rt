@@ -123,6 +123,28 @@ pub fn take_matches<'a, 'b>(
     word
 }
 
+// The same, one by one: for ticks with a turn to pass, which are rare. The loop above then has one caller, and stays inlined there.
+pub fn take_each<'a, 'b>(
+    matched: &'a [bool; 64],
+    ranks: &'a [u8; 64],
+    started: u32,
+    request: u32,
+    losses: &'b mut [u16; 32],
+) -> u32
+    requires { ⌜ length (now matched) ≡ maxEntries ⌝ }
+    ensures { λ r. ⌜ dueWith r (now (losses .exit)) ≡ requestsDue started (now (matched .entry)) (now (ranks .entry)) (dueWith request (now (losses .entry))) ⌝ }
+{
+    let mut word = request;
+    let mut e = 0;
+    while e < CELLS {
+        if matched[e] {
+            word = take_match(byte_at(ranks, e, NO_RANK), started, word, losses);
+        }
+        e += 1;
+    }
+    word
+}
+
 // Takes the matches of the group of cells from `from` on. A mark that is set is found by the zeros below it, and not by a branch for each
 // mark, which the processor could not foresee.
 fn take_group<'a, 'b>(

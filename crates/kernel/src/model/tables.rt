@@ -24,6 +24,7 @@ use super::cells::some_turn;
 use super::cells::start_cells;
 use super::cells::stop_counters;
 use super::cells::switch;
+use super::cells::take_each;
 use super::cells::take_matches;
 use super::cells::tick_cells;
 use super::cells::tick_switches;
@@ -76,7 +77,7 @@ impl Model {
         let mut counter = self.counter;
         tick_switches(compare, &counter, &mut next);
         let matched = tick_turns(compare, &on, &mut counter);
-        let request = take_matches(&matched, entry_rank, started, asked, &mut losses);
+        let request = take_each(&matched, entry_rank, started, asked, &mut losses);
         self.turning = some_turn(&next);
         self.counter = counter;
         self.on = next;

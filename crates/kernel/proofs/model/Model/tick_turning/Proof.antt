@@ -15,8 +15,8 @@ tick-switches-requires c κs = search needs
 tick-turns-requires : tie.Need-tick-turns-requires
 tick-turns-requires c κs = search needs
 
-take-matches-requires : tie.Need-take-matches-requires
-take-matches-requires c κs =
+take-each-requires : tie.Need-take-each-requires
+take-each-requires c κs =
     let c₁ = c .before .before in let c₂ = c₁ .before .before .before .before .before .before .before .before .before in
     let a = c₂ .args in
     rw (c₁ .tick-turns .ensures .0) (length-marks maxEntries 0 true (a .compare .now) (a .self .on) (a .self .counter))
@@ -33,9 +33,9 @@ returns c =
     let c₅ = c₄ .before .before .before .before .before .before in let a = c₅ .args in
     (c .settled .ensures)
     ∙ ap outcomeOf (turning-done (a .compare .now) (a .entry-rank .now) (a .priority .now) (view (a .self)) (c₅ .pre) (c₃ .tick-turns .ensures .0) (c₃ .tick-turns .ensures .1)
-    (c₄ .tick-switches .ensures) (c₁ .some-turn .ensures) (c₂ .take-matches .ensures))
+    (c₄ .tick-switches .ensures) (c₁ .some-turn .ensures) (c₂ .take-each .ensures))
 
 pub tick-turning-spec : {M : Type 1} → statement M
 tick-turning-spec =
     tie.close
-    (tie.spec tick-switches-requires tick-turns-requires take-matches-requires some-turn-requires settled-requires returns)
+    (tie.spec tick-switches-requires tick-turns-requires take-each-requires some-turn-requires settled-requires returns)
