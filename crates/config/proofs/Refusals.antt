@@ -50,13 +50,15 @@ pub record ReaderRows : Type 0 where
   pub unreadable : answers [] ((0x80 ∷ []) ∷ (0x80 ∷ 0x00 ∷ 0x07 ∷ []) ∷ []) ≡ (1, 1) ∷ (2, 1) ∷ []
   pub version : answers [] ((0x00 ∷ []) ∷ (0x01 ∷ []) ∷ (0x02 ∷ []) ∷ []) ≡ (3, 0) ∷ (1, 1) ∷ (3, 0) ∷ []
   pub body-count : answers (0x01 ∷ []) ((0x00 ∷ []) ∷ (0x01 ∷ []) ∷ (0x20 ∷ []) ∷ (0x21 ∷ []) ∷ []) ≡ (4, 1) ∷ (1, 2) ∷ (1, 2) ∷ (4, 1) ∷ []
-  pub kind : answers (0x01 ∷ 0x01 ∷ []) ((0x00 ∷ []) ∷ (0x01 ∷ []) ∷ (0x02 ∷ []) ∷ []) ≡ (1, 3) ∷ (1, 3) ∷ (5, 2) ∷ []
+  pub kind : answers (0x01 ∷ 0x01 ∷ []) ((0x00 ∷ []) ∷ (0x01 ∷ []) ∷ (0x02 ∷ []) ∷ (0x03 ∷ []) ∷ []) ≡ (1, 3) ∷ (1, 3) ∷ (1, 3) ∷ (5, 2) ∷ []
   pub priority : answers (0x01 ∷ 0x01 ∷ 0x00 ∷ []) ((0x00 ∷ []) ∷ (0x01 ∷ []) ∷ (0xC8 ∷ 0x01 ∷ []) ∷ (0xC9 ∷ 0x01 ∷ []) ∷ [])
       ≡ (5, 3) ∷ (1, 4) ∷ (1, 5) ∷ (5, 3) ∷ []
   -- 6 before the autostart is read
   pub priority-used : answers (0x01 ∷ 0x02 ∷ 0x00 ∷ 0x05 ∷ 0x00 ∷ 0x00 ∷ []) ((0x04 ∷ []) ∷ (0x05 ∷ []) ∷ (0x05 ∷ 0x02 ∷ []) ∷ []) ≡ (1, 7) ∷ (6, 6) ∷ (6, 6) ∷ []
   pub autostart-task : answers (0x01 ∷ 0x01 ∷ 0x00 ∷ 0x05 ∷ []) ((0x00 ∷ []) ∷ (0x01 ∷ []) ∷ (0x02 ∷ []) ∷ []) ≡ (1, 5) ∷ (1, 5) ∷ (5, 4) ∷ []
   pub autostart-isr : answers (0x01 ∷ 0x01 ∷ 0x01 ∷ 0x05 ∷ []) ((0x00 ∷ []) ∷ (0x01 ∷ []) ∷ []) ≡ (1, 5) ∷ (5, 4) ∷ []
+  -- an extended task may be autostart
+  pub autostart-extended : answers (0x01 ∷ 0x01 ∷ 0x02 ∷ 0x05 ∷ []) ((0x00 ∷ []) ∷ (0x01 ∷ []) ∷ (0x02 ∷ []) ∷ []) ≡ (1, 5) ∷ (1, 5) ∷ (5, 4) ∷ []
   pub resource-count : answers oneTask ((0x10 ∷ []) ∷ (0x11 ∷ []) ∷ []) ≡ (1, 6) ∷ (4, 5) ∷ []
   -- the masks of one body
   pub users : answers (oneTask ++ 0x01 ∷ []) ((0x00 ∷ []) ∷ (0x01 ∷ []) ∷ (0x02 ∷ []) ∷ (0x03 ∷ []) ∷ []) ≡ (5, 6) ∷ (1, 7) ∷ (5, 6) ∷ (5, 6) ∷ []
@@ -73,6 +75,8 @@ pub record ReaderRows : Type 0 where
   pub offset : answers (threeBodies ++ 0x01 ∷ []) ((0x03 ∷ []) ∷ (0x04 ∷ []) ∷ []) ≡ (1, 16) ∷ (5, 15) ∷ []
   -- a task, an ISR, no body
   pub task : answers (threeBodies ++ 0x01 ∷ 0x03 ∷ []) ((0x02 ∷ []) ∷ (0x01 ∷ []) ∷ (0x03 ∷ []) ∷ []) ≡ (0, 17) ∷ (5, 16) ∷ (5, 16) ∷ []
+  -- an extended one
+  pub task-extended : answers (0x01 ∷ 0x01 ∷ 0x02 ∷ 0x05 ∷ 0x00 ∷ 0x00 ∷ 0x01 ∷ 0x04 ∷ 0x01 ∷ 0x03 ∷ []) ((0x00 ∷ []) ∷ []) ≡ (0, 11) ∷ []
   -- after offset 1 and task 0: the same, an offset that falls, a task that rises; 5 before 7; and task 2 before task 0
   pub entry-order : answers (threeBodies ++ 0x02 ∷ 0x01 ∷ []) (
       (0x00 ∷ 0x01 ∷ 0x00 ∷ []) ∷ (0x00 ∷ 0x00 ∷ 0x02 ∷ []) ∷ (0x00 ∷ 0x01 ∷ 0x02 ∷ []) ∷ (0x00 ∷ 0x00 ∷ 0x01 ∷ []) ∷ (0x02 ∷ 0x01 ∷ 0x00 ∷ []) ∷ []
@@ -95,6 +99,7 @@ reader-rows =
       priority-used = refl;
       autostart-task = refl;
       autostart-isr = refl;
+      autostart-extended = refl;
       resource-count = refl;
       users = refl;
       users-of-many = (refl, refl);
@@ -104,6 +109,7 @@ reader-rows =
       entry-total = refl;
       offset = refl;
       task = refl;
+      task-extended = refl;
       entry-order = refl;
       next-table = refl;
       left-over = refl;
@@ -130,7 +136,7 @@ pub record WriterRows : Type 0 where
   pub room : (answer 21 value ≡ (0, 20)) × (answer 20 value ≡ (0, 20)) × (answer 19 value ≡ (30, 20))
   -- 3 to 8 at place 0, before 30, and the first in the reader's order
   pub refused : map (answer 0) (
-      withVersion value 2 ∷ withBodies value 33 ∷ withKind value 1 2 ∷ withPriority value 2 5 ∷ withAutostart value 2 1 ∷ withUsers value 0 8
+      withVersion value 2 ∷ withBodies value 33 ∷ withKind value 1 3 ∷ withPriority value 2 5 ∷ withAutostart value 2 1 ∷ withUsers value 0 8
       ∷ withPeriod value 0 0 ∷ withEntries value 0 17 ∷ withOffset value 1 0 ∷ withTask value 1 2
       ∷ withEntries (withPeriod (withTables full 5) 4 1) 4 1 ∷ withVersion (withBodies value 33) 2 ∷ []
       )

@@ -17,7 +17,7 @@ use Rattle.config.specs.declared.Config.{Config}
 use Rattle.config.specs.declared.Draft.{Draft}
 use Rattle.config.specs.declared.Field.{Field}
 use Rattle.config.specs.declared.Field.the-variants.{Version, Bodies, Kind, Priority, Autostart, Resources, Users, Tables, Period, Entries, Offset, Task, End}
-use Rattle.config.specs.Meaning.{isr, isTask, priorityOf, firstOf}
+use Rattle.config.specs.Meaning.{isr, lastKind, isTask, priorityOf, firstOf}
 use Rattle.config.specs.Value.{maxPriority, maxBodies, maxResources, maxTables, maxEntries}
 use Rattle.config.specs.Draft.{rises, sorted, mostAutostart, putAt, askedAt, ended}
 use Rattle.config.specs.Accepted.{Shaped, Accepted}
@@ -82,7 +82,7 @@ place-put Task c d t x h p = rw (ap (λ (y : Config). y .tables) x)
 place-put End c d t x h p = absurd (true≢false t)
 
 abbrev pub KindFits : Config → ℕ → Type 0
-KindFits c b = getD (c .kind) b 0 ≤ isr
+KindFits c b = getD (c .kind) b 0 ≤ lastKind
 
 abbrev pub PriorityFits : Config → ℕ → Type 0
 PriorityFits c b = (1 ≤ priorityOf c b) × (priorityOf c b ≤ maxPriority) × ((a : ℕ) → a < b → priorityOf c a ≡ priorityOf c b → ⊥)

@@ -4,9 +4,9 @@
 -- that the fuel of the definitions is enough.
 -- Assumes nothing.
 use Prim.Native.Nat.{ℕ, zero, suc, _+_, _-_, _≤_, _<_}
-use mathlib.Core.Path.{_≡_}
+use mathlib.Core.Path.{_≡_, refl}
 use mathlib.Core.List.{List}
-use mathlib.Core.Logic.{_↔_, _⊎_, ⊎-elim}
+use mathlib.Core.Logic.{_↔_, _⊎_, inl, inr, ⊎-elim}
 use native.Mathlib.Omega.{arith}
 use lib.ListN.{length, getD}
 use Rattle.number.specs.Refusal.{none, cut}
@@ -15,7 +15,7 @@ use Rattle.config.specs.declared.Config.{Config}
 use Rattle.config.specs.declared.ConfigRead.{ConfigRead}
 use Rattle.config.specs.Refusal.{tooLong}
 use Rattle.config.specs.Value.{noConfig}
-use Rattle.config.specs.Meaning.{firstOf, smallestOffset}
+use Rattle.config.specs.Meaning.{isr, lastKind, firstOf, smallestOffset}
 use Rattle.config.specs.Draft.{start}
 use Rattle.config.specs.Reader.{accepted, readFrom, readConfig}
 use Rattle.config.specs.Writer.{maxNumbers, faultFrom, firstFault, bytesFrom, configBytes, writeConfig, wroteConfig}
@@ -79,10 +79,16 @@ smallest-least c a t e t< low high = let q : firstOf c t + (e - firstOf c t) ≡
         (entries-in-order c a t (firstOf c t + k) t< (omega arith) (omega arith)))
 
 pub entry-of-task : (c : Config) → Accepted c → (e : ℕ) → e < firstOf c (c .tables)
-    → (getD (c .task) e 0 < c .bodies) × (getD (c .kind) (getD (c .task) e 0) 0 ≡ 0)
+    → (getD (c .task) e 0 < c .bodies) × ((getD (c .kind) (getD (c .task) e 0) 0 ≡ 0) ⊎ (getD (c .kind) (getD (c .task) e 0) 0 ≡ 2))
 entry-of-task c a e h =
     let p = Tables.isTask-true c (getD (c .task) e 0) (a .entry-task e h) in
-    (p .0, omega (arith, a .kind-known (getD (c .task) e 0) (p .0), p .1))
+    (p .0, task-kind (getD (c .kind) (getD (c .task) e 0) 0) (a .kind-known (getD (c .task) e 0) (p .0)) (p .1))
+  where
+    task-kind : (k : ℕ) → k ≤ lastKind → (k ≡ isr → ⊥) → (k ≡ 0) ⊎ (k ≡ 2)
+    task-kind zero l n = inl refl
+    task-kind (suc zero) l n = absurd (n refl)
+    task-kind (suc (suc zero)) l n = inr refl
+    task-kind (suc (suc (suc k))) l n = absurd (omega arith)
 
 -- what is written reads back the same, as far as the counts reach
 pub read-written : (c : Config) → Shaped c → firstFault c ≡ none → readConfig (configBytes c) ≡ accepted (trimmed c) (length (configBytes c))

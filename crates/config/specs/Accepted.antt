@@ -7,7 +7,7 @@ use mathlib.Core.Bool.{true}
 use lib.ListN.{length, getD, take, replicate}
 use Rattle.config.specs.declared.Config.{Config}
 use Rattle.config.specs.Value.{maxPriority, maxBodies, maxResources, maxTables, maxEntries}
-use Rattle.config.specs.Meaning.{isr, isTask, firstOf, priorityOf}
+use Rattle.config.specs.Meaning.{isr, lastKind, isTask, firstOf, priorityOf}
 use Rattle.config.specs.Draft.{rises}
 
 -- the arrays have the lengths of the type's own
@@ -26,7 +26,7 @@ pub record Accepted (c : Config) : Type 0 where
   pub version-one : c .version ≡ 1
   pub some-body : 1 ≤ c .bodies
   pub few-bodies : c .bodies ≤ maxBodies
-  pub kind-known : (b : ℕ) → b < c .bodies → getD (c .kind) b 0 ≤ isr
+  pub kind-known : (b : ℕ) → b < c .bodies → getD (c .kind) b 0 ≤ lastKind
   pub priority-low : (b : ℕ) → b < c .bodies → 1 ≤ priorityOf c b
   pub priority-high : (b : ℕ) → b < c .bodies → priorityOf c b ≤ maxPriority
   pub priorities-differ : (a b : ℕ) → a < b → b < c .bodies → priorityOf c a ≡ priorityOf c b → ⊥

@@ -17,7 +17,7 @@ use Rattle.config.specs.declared.Draft.{Draft}
 use Rattle.config.specs.declared.Field.{Field}
 use Rattle.config.specs.declared.Field.the-variants.{Version, Bodies, Kind, Priority, Autostart, Resources, Users, Tables, Period, Entries, Offset, Task, End}
 use Rattle.config.specs.Refusal.{badVersion, badCount, badField, usedPriority, unsorted, tooManyEntries}
-use Rattle.config.specs.Meaning.{isr, isTask}
+use Rattle.config.specs.Meaning.{isr, lastKind, isTask}
 use Rattle.config.specs.Value.{maxPriority, maxBodies, maxResources, maxTables, maxEntries, noConfig, withVersion, withBodies, withKind, withPriority, withAutostart, withResources, withUsers, withTables, withPeriod, withEntries, withOffset, withTask}
 
 -- v stands in the list
@@ -57,7 +57,7 @@ mostAutostart kind = cond (eqb kind isr) 0 1
 unfoldable pub faultAt : Field → Draft → ℕ → ℕ
 faultAt Version d v = outside 1 1 v badVersion
 faultAt Bodies d v = outside 1 maxBodies v badCount
-faultAt Kind d v = outside 0 isr v badField
+faultAt Kind d v = outside 0 lastKind v badField
 faultAt Priority d v =
     andThen (outside 1 maxPriority v badField) (unless (not (occurs v (take (d .index) (d .config .priority)))) usedPriority)
 faultAt Autostart d v = outside 0 (mostAutostart (getD (d .config .kind) (d .index) 0)) v badField

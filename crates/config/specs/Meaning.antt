@@ -1,4 +1,5 @@
--- What the rules ask of a configuration: which bodies are tasks and which ISRs, a resource's ceiling, a table's entries.
+-- What the rules ask of a configuration: which bodies are tasks, extended ones, and which ISRs, a resource's ceiling, a table's entries.
+-- A kind is a number in the bytes alone: whatever else needs it asks one of these questions.
 -- Assumes nothing.
 use Prim.Native.Nat.{ℕ, zero, suc, _+_, _/_, _%_, max}
 use mathlib.Core.Bool.{Bool, cond, not, _&&_}
@@ -11,13 +12,25 @@ use Rattle.config.specs.declared.Config.{Config}
 abbrev pub isr : ℕ
 isr = 1
 
--- b is the number of a body that is a task; "an ISR's number is no task"
+-- "Kind 2 is an extended task"
+abbrev pub extended : ℕ
+extended = 2
+
+-- the last kind that there is
+abbrev pub lastKind : ℕ
+lastKind = extended
+
+-- b is the number of a body that is a task; "an ISR's number is no task", and an extended task is one
 abbrev pub isTask : Config → ℕ → Bool
 isTask c b = ltb b (c .bodies) && not (eqb (getD (c .kind) b 0) isr)
 
 -- b is the number of an ISR
 abbrev pub isIsr : Config → ℕ → Bool
 isIsr c b = ltb b (c .bodies) && eqb (getD (c .kind) b 0) isr
+
+-- b is the number of an extended task
+abbrev pub isExtended : Config → ℕ → Bool
+isExtended c b = ltb b (c .bodies) && eqb (getD (c .kind) b 0) extended
 
 -- a body's own priority
 abbrev pub priorityOf : Config → ℕ → ℕ

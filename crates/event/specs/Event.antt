@@ -48,13 +48,27 @@ start = 8
 abbrev pub stop : ℕ
 stop = 9
 
--- "event codes 1 to 9"
-unfoldable pub known : ℕ → Bool
-known code = leb activate code && leb code stop
+-- "10 Wait mask, 11 Set task mask, 12 Clear mask"; an event bit is what OSEK calls an event
+abbrev pub wait : ℕ
+wait = 10
 
--- "Each event code has its own arguments": Finish and Tick have none, Start a table and a delay, each other one the number of what it is about
+abbrev pub set : ℕ
+set = 11
+
+abbrev pub clear : ℕ
+clear = 12
+
+-- "codes not 1 to 12" are unknown
+abbrev pub lastCode : ℕ
+lastCode = clear
+
+unfoldable pub known : ℕ → Bool
+known code = leb activate code && leb code lastCode
+
+-- "Each event code has its own arguments": Finish and Tick have none, Start a table and a delay, Set a task and a mask, each other one the
+-- number of what it is about, or a mask
 unfoldable pub arguments : ℕ → ℕ
-arguments code = cond (eqb code finish || eqb code tick) 0 (cond (eqb code start) 2 1)
+arguments code = cond (eqb code finish || eqb code tick) 0 (cond (eqb code start || eqb code set) 2 1)
 
 -- in the place of a count of arguments, of which no event has three: the code is unknown
 abbrev pub noEvent : ℕ
@@ -129,7 +143,7 @@ eventWritten e d = cond (eqb (writerRefusal e) none) (written (eventBytes e) d) 
 -- an event that the writer takes and the reader can give
 pub record Writable (e : Event) : Type 0 where
   pub at-least : activate ≤ e .code
-  pub at-most : e .code ≤ stop
+  pub at-most : e .code ≤ lastCode
   pub first-lt : e .first < numberBound
   pub second-lt : e .second < numberBound
   pub lacks-first : arguments (e .code) < 1 → e .first ≡ 0

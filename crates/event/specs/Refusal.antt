@@ -14,7 +14,7 @@ inTrace r = 20 + r
 abbrev pub traceCut : ℕ
 traceCut = inTrace cut
 
--- "event code not 1 to 9"
+-- "23 now for codes not 1 to 12"
 abbrev pub unknownEvent : ℕ
 unknownEvent = 23
 

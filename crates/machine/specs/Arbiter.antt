@@ -1,5 +1,5 @@
--- Who runs, as the interrupt controller does it: of those that wait to begin or have begun the highest wins, and is dispatched only strictly
--- above the level.
+-- Who runs, as the interrupt controller does it: of those that wait to begin or have begun, and do not wait for an event bit, the highest
+-- wins, and is dispatched only strictly above the level.
 --
 --   arbitrated ps k   the core k after arbitration, and whether a body began; ps: the priorities by rank
 --   settled ps m      the model after arbitration, which ends every event that may let another body run
@@ -12,13 +12,13 @@ use mathlib.Core.Bool.{Bool, false, cond, not}
 use mathlib.Core.List.{List}
 use lib.Dec.{ltb, eqb}
 use lib.ListN.{getD}
-use Rattle.word.specs.Word.{has, with, without, union, winner}
+use Rattle.word.specs.Word.{has, with, without, union, intersection, winner}
 use Rattle.stack.specs.Stack.{topRow}
 use Rattle.machine.specs.Model.{Core, Picked, Model, Outcome, noRank, withCore, withRequest, doneWith}
 
--- the ranks that ask for the processor: they wait to begin, or have begun and not ended
+-- the ranks that ask for the processor: they wait to begin, or have begun and not ended, and their bodies do not wait
 abbrev pub bids : Core → ℕ
-bids k = union (k .request) (k .started)
+bids k = intersection (union (k .request) (k .started)) (k .enabled)
 
 -- "the arbiter's winner is the highest bit set in that word": its priority, 0 where no bit is set
 abbrev pub winning : List ℕ → Core → ℕ
@@ -34,6 +34,8 @@ dispatching ps k =
     record {
       request = cond (beginning k) (without (k .request) (winner (bids k))) (k .request);
       started = with (k .started) (winner (bids k));
+      enabled = k .enabled;
+      cleared = k .cleared;
       runner = winner (bids k);
       level = winning ps k;
     }
@@ -46,15 +48,26 @@ arbitrated ps k =
 abbrev pub settled : List ℕ → Model → Outcome
 settled ps m = doneWith (withCore m (arbitrated ps (m .core) .core)) (arbitrated ps (m .core) .begun)
 
--- the runner has ended: the level is left to whoever took the latest resource that is held, or to nobody; arbitration follows
-abbrev pub vacated : Model → Core
-vacated m =
+-- the runner leaves, by its end or by a Wait: the level is left to whoever took the latest resource that is held, or to nobody; arbitration
+-- follows. s, e and x: the words `started`, `enabled` and `cleared` then
+abbrev pub leftWith : Model → ℕ → ℕ → ℕ → Core
+leftWith m s e x =
     record {
       request = m .core .request;
-      started = without (m .core .started) (m .core .runner);
+      started = s;
+      enabled = e;
+      cleared = x;
       runner = topRow (m .holder);
       level = cond (eqb (topRow (m .holder)) noRank) 0 (topRow (m .raised));
     }
+
+-- the runner has ended; its event bits count as 0 until they are set again
+abbrev pub vacated : Model → Core
+vacated m = leftWith m (without (m .core .started) (m .core .runner)) (m .core .enabled) (with (m .core .cleared) (m .core .runner))
+
+-- the runner waits
+abbrev pub paused : Model → Core
+paused m = leftWith m (m .core .started) (without (m .core .enabled) (m .core .runner)) (m .core .cleared)
 
 abbrev pub leaving : Model → Model
 leaving m = withCore m (vacated m)

@@ -1,17 +1,19 @@
--- The machine's nine events: each one's status "in order", its effect where that is 0, and the two put together.
+-- The machine's twelve events: each one's status "in order", its effect where that is 0, and the two put together.
 --
--- ps are the priorities by rank, trs and lrs the ranks of tasks and of ISRs by body, as the plan has them. Assumes nothing.
+-- ps are the priorities by rank, trs and lrs the ranks of tasks and of ISRs by body, as the plan has them, xs the word of the ranks that are extended tasks. Assumes nothing.
 use Prim.Native.Nat.{ℕ, _+_, max}
 use mathlib.Core.Bool.{Bool, false, cond, not, _&&_, _||_}
 use mathlib.Core.List.{List, [], _∷_}
 use lib.Dec.{ltb, leb, eqb}
-use lib.ListN.{getD}
+use lib.ListN.{getD, set}
 use Rattle.config.specs.Value.{maxEntries}
-use Rattle.scheduler.specs.Status.{done, callLevel, noSuch, limitReached, access, noFunction, holdsResource, alreadyRuns, badDelay, _gives_, firstGiven}
+use Rattle.scheduler.specs.Status.{done, callLevel, noSuch, limitReached, access, noFunction, holdsResource, wrongState, badDelay, _gives_, firstGiven}
+use Rattle.scheduler.specs.Bits.{anySet, withBits, withoutBits}
 use Rattle.scheduler.specs.Call.{longestDelay}
-use Rattle.word.specs.Word.{has}
-use Rattle.machine.specs.Model.{Model, Outcome, noRank, withCore, withRequest, withRest, withCells, doneWith, refusedWith}
-use Rattle.machine.specs.Arbiter.{settled, leaving, requesting}
+use Rattle.word.specs.Word.{has, with, without}
+use Rattle.machine.specs.Model.{Model, Outcome, noRank, withCore, withRequest, withEnabled, withRest, withCells, doneWith, refusedWith}
+use Rattle.machine.specs.Model as Model
+use Rattle.machine.specs.Arbiter.{settled, leaving, paused, requesting}
 use Rattle.machine.specs.Resources.{holding, latest, getting, releasing}
 use Rattle.machine.specs.Cells.{switchOff, isOn, countersTicked, switchesTicked, someTurn, marks, countersStarted, switchesStarted, someLong, countersStopped, switched, Due, requestsDue}
 
@@ -137,7 +139,7 @@ startStatus n fs os m t d =
     ((idles m gives callLevel) ∷
     (leb n t gives noSuch) ∷
     (eqb d 0 || ltb longestDelay (d + getD os (getD fs t 0) 0) gives badDelay) ∷
-    (runs fs m t gives alreadyRuns) ∷
+    (runs fs m t gives wrongState) ∷
     [])
 
 -- k entries from e on, with period P and offsets os
@@ -164,3 +166,64 @@ stopEffect fs es m t = doneWith (stopping (getD es t 0) (getD fs t 0) m) false
 
 unfoldable pub stop : ℕ → List ℕ → List ℕ → Model → ℕ → Outcome
 stop n fs es m t = attempt m (stopStatus n fs m t) (stopEffect fs es m t)
+
+-- the event bits of the body of rank r
+abbrev pub bitsAt : Model → ℕ → ℕ
+bitsAt m r = cond (has (m .core .cleared) r) 0 (getD (m .bits) r 0)
+
+-- the event bits of the body of rank r become b, and e the word of those that do not wait
+abbrev pub storing : ℕ → ℕ → ℕ → Model → Model
+storing r b e m =
+    Model.withBits m (withEnabled (m .core) e (without (m .core .cleared) r)) (set (m .bits) r b) (m .waited)
+
+-- Wait w
+abbrev pub waitStatus : ℕ → Model → ℕ
+waitStatus xs m =
+    firstGiven ((idles m gives callLevel) ∷ (not (has xs (m .core .runner)) gives access) ∷ (holding m gives holdsResource) ∷ [])
+
+-- the runner waits for a bit of w
+abbrev pub pausing : ℕ → Model → Model
+pausing w m = Model.withBits m (paused m) (m .bits) (set (m .waited) (m .core .runner) w)
+
+-- "Wait on a bit already set goes on at once"
+abbrev pub waitEffect : List ℕ → Model → ℕ → Outcome
+waitEffect ps m w = cond (anySet (bitsAt m (m .core .runner)) w) (doneWith m false) (settled ps (pausing w m))
+
+unfoldable pub wait : ℕ → List ℕ → Model → ℕ → Outcome
+wait xs ps m w = attempt m (waitStatus xs m) (waitEffect ps m w)
+
+-- Set t w
+abbrev pub setStatus : ℕ → List ℕ → Model → ℕ → ℕ
+setStatus xs trs m t =
+    firstGiven
+    ((idles m gives callLevel) ∷
+    (eqb (getD trs t noRank) noRank gives noSuch) ∷
+    (not (has xs (getD trs t noRank)) gives access) ∷
+    (not (busy m (getD trs t noRank)) gives wrongState) ∷
+    [])
+
+-- the event bits b of rank r: "once a waited bit is set" its body does not wait; one that does not wait stays so
+abbrev pub enabledBy : ℕ → ℕ → Model → ℕ
+enabledBy r b m = cond (anySet b (getD (m .waited) r 0)) (with (m .core .enabled) r) (m .core .enabled)
+
+abbrev pub receiving : ℕ → ℕ → Model → Model
+receiving r w m = storing r (withBits (bitsAt m r) w) (enabledBy r (withBits (bitsAt m r) w) m) m
+
+abbrev pub setEffect : List ℕ → List ℕ → Model → ℕ → ℕ → Outcome
+setEffect trs ps m t w = settled ps (receiving (getD trs t noRank) w m)
+
+unfoldable pub setEvent : ℕ → List ℕ → List ℕ → Model → ℕ → ℕ → Outcome
+setEvent xs trs ps m t w = attempt m (setStatus xs trs m t) (setEffect trs ps m t w)
+
+-- Clear w
+abbrev pub clearStatus : ℕ → Model → ℕ
+clearStatus xs m = firstGiven ((idles m gives callLevel) ∷ (not (has xs (m .core .runner)) gives access) ∷ [])
+
+abbrev pub clearing : ℕ → Model → Model
+clearing w m = storing (m .core .runner) (withoutBits (bitsAt m (m .core .runner)) w) (m .core .enabled) m
+
+abbrev pub clearEffect : Model → ℕ → Outcome
+clearEffect m w = doneWith (clearing w m) false
+
+unfoldable pub clear : ℕ → Model → ℕ → Outcome
+clear xs m w = attempt m (clearStatus xs m) (clearEffect m w)

@@ -1,11 +1,11 @@
--- The machine of document 01, in reading order: the model, the arbiter, the held resources, the cells, the nine events, and the whole from the
+-- The machine of document 01, in reading order: the model, the arbiter, the held resources, the cells, the twelve events, and the whole from the
 -- fresh start on. It is the other side of demand 3: what the plain scheduler (crate `scheduler`) does with a set of bodies, this does as the
 -- chip does it. Assumes nothing.
 --
 -- Letters: c a configuration, p its plan, m a model, k a core, or how many cells are left; r a rank or a resource; ps priorities by rank, trs and
 -- lrs the ranks of tasks and of ISRs by body, cs ceilings by resource; e an entry or an event, t a table or a task, d a delay, P a period; of the
 -- cells ks are compare values, ns counters, os switches, w whether a turn may have to pass; where a table is started os are offsets, fs the
--- tables' first entries, es their counts, qs their periods; ms match marks, rs the ranks of entries' tasks; ws a word of ranks.
+-- tables' first entries, es their counts, qs their periods; ms match marks, rs the ranks of entries' tasks; ws and xs words of ranks, w a mask of event bits.
 pub mod Model
 pub mod Arbiter
 pub mod Resources

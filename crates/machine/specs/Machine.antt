@@ -13,22 +13,24 @@ use lib.Dec.{ltb}
 use lib.ListN.{getD, take, replicate}
 use Rattle.config.specs.declared.Config.{Config}
 use Rattle.plan.specs.declared.Plan.{Plan}
+use Rattle.word.specs.Word.{full}
 use Rattle.stack.specs.Stack.{emptyRow}
 use Rattle.cell.specs.declared.Cell.{Cell}
 use Rattle.scheduler.specs.Status.{done}
 use Rattle.scheduler.specs.Event.{isTick}
-use Rattle.scheduler.specs.Scheduler.{Event, Activate, Finish, Chain, Get, Release, Tick, Line, Start, Stop, Seen, markOf}
+use Rattle.scheduler.specs.Scheduler.{Event, Activate, Finish, Chain, Get, Release, Tick, Line, Start, Stop, Wait, Set, Clear, Seen, markOf}
 use Rattle.machine.specs.Model.{Model, Outcome, noRank}
 use Rattle.machine.specs.Arbiter.{settled}
 use Rattle.machine.specs.Cells.{switchOff, cellAt}
 use Rattle.machine.specs.Events.{attempt, activateStatus, activateEffect, finishStatus, finishEffect, chainStatus, chainEffect, getStatus, getEffect}
 use Rattle.machine.specs.Events.{releaseStatus, releaseEffect, marksOf, tick, lineStatus, lineEffect, startStatus, startEffect, stopStatus, stopEffect}
+use Rattle.machine.specs.Events.{waitStatus, waitEffect, setStatus, setEffect, clearStatus, clearEffect}
 
 -- "autostart tasks are ready .. all losses are 0, tables stopped"; w: the ranks of the autostart tasks
 abbrev pub unstarted : ℕ → Model
 unstarted w =
     record {
-      core = record { request = w; started = 0; runner = noRank; level = 0 };
+      core = record { request = w; started = 0; enabled = full; cleared = 0; runner = noRank; level = 0 };
       held = 0;
       resource = emptyRow;
       holder = emptyRow;
@@ -37,6 +39,8 @@ unstarted w =
       on = replicate 64 switchOff;
       turning = false;
       losses = replicate 32 0;
+      bits = replicate 32 0;
+      waited = replicate 32 0;
     }
 
 -- "the best one begins"
@@ -57,6 +61,9 @@ statusOf c p m Tick = done
 statusOf c p m (Line i) = lineStatus (p .line) m i
 statusOf c p m (Start t d) = startStatus (c .tables) (p .first) (c .offset) m t d
 statusOf c p m (Stop t) = stopStatus (c .tables) (p .first) m t
+statusOf c p m (Wait w) = waitStatus (p .extended) m
+statusOf c p m (Set t w) = setStatus (p .extended) (p .task) m t
+statusOf c p m (Clear w) = clearStatus (p .extended) m
 
 -- and its effects
 unfoldable pub effectOf : Config → Plan → Model → Event → Outcome
@@ -69,6 +76,9 @@ effectOf c p m Tick = tick (p .compare) (p .entry) (p .priority) m
 effectOf c p m (Line i) = lineEffect (p .line) (p .priority) m i
 effectOf c p m (Start t d) = startEffect (p .first) (c .entries) (c .period) (c .offset) m t d
 effectOf c p m (Stop t) = stopEffect (p .first) (c .entries) m t
+effectOf c p m (Wait w) = waitEffect (p .priority) m w
+effectOf c p m (Set t w) = setEffect (p .task) (p .priority) m t w
+effectOf c p m (Clear w) = clearEffect m w
 
 abbrev pub machineStep : Config → Plan → Model → Event → Outcome
 machineStep c p m e = attempt m (statusOf c p m e) (effectOf c p m e)

@@ -8,10 +8,13 @@ use mathlib.Core.List.{List}
 use Rattle.stack.specs.declared.Row.{Row}
 use Rattle.stack.specs.Stack.{none}
 
--- The words, who runs and at which level: `request` has the ranks that wait to begin, `started` those that began and have not ended.
+-- The words, who runs and at which level: `request` has the ranks that wait to begin, `started` those that began and have not ended, `enabled`
+-- those that do not wait for an event bit, `cleared` those whose event bits count as 0, whatever stands in the row of bits.
 pub record Core : Type 0 where
   pub request : ℕ
   pub started : ℕ
+  pub enabled : ℕ
+  pub cleared : ℕ
   pub runner : ℕ
   pub level : ℕ
 
@@ -22,7 +25,8 @@ pub record Picked : Type 0 where
 
 -- What the machine keeps between events. `held`: the held resources as a word; `resource`, `holder`, `raised`: in the order taken, the
 -- latest on top, each with its holder's rank and the level after its Get. `counter` and `on` are the cells, and `turning` says whether any of
--- them has a turn of its counter to pass; `losses` are the lost activations by rank.
+-- them has a turn of its counter to pass; `losses` are the lost activations by rank; `bits` and `waited` the event bits by rank, and the
+-- mask of the latest Wait that did not go on at once.
 pub record Model : Type 0 where
   pub core : Core
   pub held : ℕ
@@ -33,6 +37,8 @@ pub record Model : Type 0 where
   pub on : List ℕ
   pub turning : Bool
   pub losses : List ℕ
+  pub bits : List ℕ
+  pub waited : List ℕ
 
 -- the next model with its answer
 pub record Outcome : Type 0 where
@@ -56,14 +62,22 @@ withCore m k =
       on = m .on;
       turning = m .turning;
       losses = m .losses;
+      bits = m .bits;
+      waited = m .waited;
     }
 
 -- the core with other requests
 abbrev pub withRequest : Core → ℕ → Core
-withRequest k w = record { request = w; started = k .started; runner = k .runner; level = k .level }
+withRequest k w =
+    record { request = w; started = k .started; enabled = k .enabled; cleared = k .cleared; runner = k .runner; level = k .level }
 
 abbrev pub withLevel : Core → ℕ → Core
-withLevel k l = record { request = k .request; started = k .started; runner = k .runner; level = l }
+withLevel k l =
+    record { request = k .request; started = k .started; enabled = k .enabled; cleared = k .cleared; runner = k .runner; level = l }
+
+-- the core where the bodies of other ranks wait for event bits, and the event bits of other ranks count as 0
+abbrev pub withEnabled : Core → ℕ → ℕ → Core
+withEnabled k e x = record { request = k .request; started = k .started; enabled = e; cleared = x; runner = k .runner; level = k .level }
 
 -- another level, and other held resources: w as a word, the rows rs, hs and ls with their holders and levels
 abbrev pub withSlots : Model → ℕ → ℕ → Row → Row → Row → Model
@@ -78,6 +92,8 @@ withSlots m l w rs hs ls =
       on = m .on;
       turning = m .turning;
       losses = m .losses;
+      bits = m .bits;
+      waited = m .waited;
     }
 
 -- other counters, switches with or without a turn to pass, and losses
@@ -93,10 +109,29 @@ withRest m ns os w ls =
       on = os;
       turning = w;
       losses = ls;
+      bits = m .bits;
+      waited = m .waited;
     }
 
 abbrev pub withCells : Model → List ℕ → List ℕ → Bool → Model
 withCells m ns os w = withRest m ns os w (m .losses)
+
+-- another core, and other event bits and masks by rank
+abbrev pub withBits : Model → Core → List ℕ → List ℕ → Model
+withBits m k bs ws =
+    record {
+      core = k;
+      held = m .held;
+      resource = m .resource;
+      holder = m .holder;
+      raised = m .raised;
+      counter = m .counter;
+      on = m .on;
+      turning = m .turning;
+      losses = m .losses;
+      bits = bs;
+      waited = ws;
+    }
 
 -- an event that is done, and one that is refused with a status
 abbrev pub doneWith : Model → Bool → Outcome

@@ -10,7 +10,7 @@ use Rattle.number.proofs.Cases.{by-lt}
 use Rattle.word.specs.Word.{ranks, has}
 use Rattle.config.specs.declared.Config.{Config}
 use Rattle.config.specs.Value.{maxBodies, maxResources, maxEntries, maxPriority}
-use Rattle.config.specs.Meaning.{isTask, isIsr, priorityOf, ceiling, firstOf}
+use Rattle.config.specs.Meaning.{isTask, isIsr, isExtended, priorityOf, ceiling, firstOf}
 use Rattle.config.specs.Accepted.{Accepted, Shaped}
 use Rattle.plan.specs.declared.Plan.{Plan}
 use Rattle.plan.specs.Rank.{noRank, rankOf}
@@ -31,6 +31,7 @@ pub record Fitted (c : Config) (p : Plan) (rk : ℕ → ℕ) : Type 0 where
   pub priority-none : getD (p .priority) maxBodies 0 ≡ 0
   pub body-at : (b : ℕ) → b < c .bodies → getD (p .body) (rk b) 0 ≡ b
   pub isr-at : (b : ℕ) → b < c .bodies → has (p .isrs) (rk b) ≡ isIsr c b
+  pub extended-at : (b : ℕ) → b < c .bodies → has (p .extended) (rk b) ≡ isExtended c b
   pub autostart-at : (b : ℕ) → b < c .bodies → has (p .autostart) (rk b) ≡ eqb (getD (c .autostart) b 0) 1
   pub autostart-real : (r : ℕ) → has (p .autostart) r ≡ true → (b : ℕ) × ((b < c .bodies) × (rk b ≡ r))
   pub autostart-lt : p .autostart < 2 ^ ranks
@@ -69,6 +70,7 @@ fitted c ok shaped =
       priority-none = List·getD-eq-default (planOf c .priority) 0 (omega (arith, Plan.plan-sized c .priorities));
       body-at = Plan.rank-body c ok shaped;
       isr-at = Plan.rank-isr c ok shaped;
+      extended-at = Plan.rank-extended c ok shaped;
       autostart-at = Plan.rank-autostart c ok shaped;
       autostart-real = λ r h. let x = Plan.autostart-body c ok shaped r h in (x .0, (x .1, x .2));
       autostart-lt = Plan.plan-sized c .autostart-lt;

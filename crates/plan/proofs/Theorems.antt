@@ -17,7 +17,7 @@ use Rattle.word.specs.Word as Word
 use Rattle.word.specs.Word.{has}
 use Rattle.config.specs.declared.Config.{Config}
 use Rattle.config.specs.Value.{maxPriority, maxBodies, maxResources, maxTables, maxEntries}
-use Rattle.config.specs.Meaning.{isTask, isIsr, priorityOf, ceiling, firstOf}
+use Rattle.config.specs.Meaning.{isTask, isr, extended, isIsr, isExtended, priorityOf, ceiling, firstOf}
 use Rattle.config.specs.Accepted.{Accepted, Shaped}
 use Rattle.plan.specs.declared.Plan.{Plan}
 use Rattle.plan.specs.Stored.{stored, listed}
@@ -37,6 +37,7 @@ pub record Sized (p : Plan) : Type 0 where
   pub priorities : length (p .priority) ≡ maxBodies
   pub bodies : length (p .body) ≡ maxBodies
   pub isrs-lt : p .isrs < 2 ^ Word.ranks
+  pub extended-lt : p .extended < 2 ^ Word.ranks
   pub autostart-lt : p .autostart < 2 ^ Word.ranks
   pub ceilings : length (p .ceiling) ≡ maxResources
   pub firsts : length (p .first) ≡ maxTables
@@ -52,8 +53,9 @@ plan-sized c =
       lines = simp length-stored;
       priorities = simp length-stored;
       bodies = simp length-stored;
-      isrs-lt = marked-lt (rankOf c) (λ b. getD (c .kind) b 0) (bodyCount c);
-      autostart-lt = marked-lt (rankOf c) (λ b. getD (c .autostart) b 0) (bodyCount c);
+      isrs-lt = marked-lt (rankOf c) (λ b. getD (c .kind) b 0) isr (bodyCount c);
+      extended-lt = marked-lt (rankOf c) (λ b. getD (c .kind) b 0) extended (bodyCount c);
+      autostart-lt = marked-lt (rankOf c) (λ b. getD (c .autostart) b 0) 1 (bodyCount c);
       ceilings = simp length-stored;
       firsts = simp length-stored;
       compares = simp length-stored;
@@ -125,27 +127,37 @@ module _ (c : Config) (accepted : Accepted c) (shaped : Shaped c) where
   rank-small : (b : ℕ) → b < c .bodies → rankOf c b < Word.ranks
   rank-small b h = omega (arith, rank-lt b h, accepted .few-bodies)
 
-  -- the word of the ISRs, and that of the tasks that are ready at the fresh start
+  -- the word of the ISRs, that of the extended tasks, and that of the tasks that are ready at the fresh start
   pub rank-isr : (b : ℕ) → b < c .bodies → has (planOf c .isrs) (rankOf c b) ≡ isIsr c b
   unfolding planOf
   rank-isr b h =
       rw (Order.all-bodies c accepted shaped, lt-ltb b (c .bodies) h)
-      (marked-has (rankOf c) (λ i. getD (c .kind) i 0) (c .bodies) rank-inj rank-small b h)
+      (marked-has (rankOf c) (λ i. getD (c .kind) i 0) isr (c .bodies) rank-inj rank-small b h)
+
+  pub rank-extended : (b : ℕ) → b < c .bodies → has (planOf c .extended) (rankOf c b) ≡ isExtended c b
+  unfolding planOf
+  rank-extended b h =
+      rw (Order.all-bodies c accepted shaped, lt-ltb b (c .bodies) h)
+      (marked-has (rankOf c) (λ i. getD (c .kind) i 0) extended (c .bodies) rank-inj rank-small b h)
 
   pub rank-autostart : (b : ℕ) → b < c .bodies → has (planOf c .autostart) (rankOf c b) ≡ eqb (getD (c .autostart) b 0) 1
   unfolding planOf
   rank-autostart b h =
       rw (Order.all-bodies c accepted shaped)
-      (marked-has (rankOf c) (λ i. getD (c .autostart) i 0) (c .bodies) rank-inj rank-small b h)
+      (marked-has (rankOf c) (λ i. getD (c .autostart) i 0) 1 (c .bodies) rank-inj rank-small b h)
 
   -- every rank in them is some body's
   pub isrs-body : (r : ℕ) → has (planOf c .isrs) r ≡ true → (b : ℕ) × (b < c .bodies) × (rankOf c b ≡ r)
   unfolding planOf
-  isrs-body r e = marked-some (rankOf c) (λ i. getD (c .kind) i 0) (c .bodies) r (rw (Order.all-bodies c accepted shaped) at e)
+  isrs-body r e = marked-some (rankOf c) (λ i. getD (c .kind) i 0) isr (c .bodies) r (rw (Order.all-bodies c accepted shaped) at e)
+
+  pub extended-body : (r : ℕ) → has (planOf c .extended) r ≡ true → (b : ℕ) × (b < c .bodies) × (rankOf c b ≡ r)
+  unfolding planOf
+  extended-body r e = marked-some (rankOf c) (λ i. getD (c .kind) i 0) extended (c .bodies) r (rw (Order.all-bodies c accepted shaped) at e)
 
   pub autostart-body : (r : ℕ) → has (planOf c .autostart) r ≡ true → (b : ℕ) × (b < c .bodies) × (rankOf c b ≡ r)
   unfolding planOf
-  autostart-body r e = marked-some (rankOf c) (λ i. getD (c .autostart) i 0) (c .bodies) r (rw (Order.all-bodies c accepted shaped) at e)
+  autostart-body r e = marked-some (rankOf c) (λ i. getD (c .autostart) i 0) 1 (c .bodies) r (rw (Order.all-bodies c accepted shaped) at e)
 
   -- a resource's ceiling
   pub resource-ceiling : (r : ℕ) → r < c .resources → getD (planOf c .ceiling) r 0 ≡ ceiling c r

@@ -6,7 +6,7 @@ use lib.ListN.{getD, replicate}
 use mathlib.Core.List.{List}
 use Rattle.config.specs.declared.Config.{Config}
 use Rattle.config.specs.Value.{maxBodies, maxResources, maxTables, maxEntries}
-use Rattle.config.specs.Meaning.{priorityOf, ceiling}
+use Rattle.config.specs.Meaning.{isr, extended, priorityOf, ceiling}
 use Rattle.plan.specs.declared.Plan.{Plan}
 use Rattle.plan.specs.Stored.{stored, listed}
 use Rattle.plan.specs.Marked.{marked}
@@ -20,12 +20,18 @@ priorities c = stored (rankOf c) (priorityOf c) (bodyCount c) (replicate maxBodi
 abbrev pub bodiesByRank : Config → List ℕ
 bodiesByRank c = stored (rankOf c) (λ b. b) (bodyCount c) (replicate maxBodies 0)
 
--- the words of the ranks that are ISRs, and of those that "autostart tasks" have
+-- the words of the ranks that are ISRs, of those that are extended tasks, and of those that "autostart tasks" have
+abbrev pub ofKind : Config → ℕ → ℕ
+ofKind c kind = marked (rankOf c) (λ b. getD (c .kind) b 0) kind (bodyCount c)
+
 abbrev pub isrs : Config → ℕ
-isrs c = marked (rankOf c) (λ b. getD (c .kind) b 0) (bodyCount c)
+isrs c = ofKind c isr
+
+abbrev pub extendeds : Config → ℕ
+extendeds c = ofKind c extended
 
 abbrev pub autostarts : Config → ℕ
-autostarts c = marked (rankOf c) (λ b. getD (c .autostart) b 0) (bodyCount c)
+autostarts c = marked (rankOf c) (λ b. getD (c .autostart) b 0) 1 (bodyCount c)
 
 -- by resource: its ceiling
 abbrev pub resourceCount : Config → ℕ
@@ -53,6 +59,7 @@ planOf c =
       priority = priorities c;
       body = bodiesByRank c;
       isrs = isrs c;
+      extended = extendeds c;
       autostart = autostarts c;
       ceiling = ceilings c;
       first = firsts c;

@@ -11,6 +11,13 @@ ghost use Rattle.plan.specs.Plan.{planOf};
 // The rank of whatever has none.
 pub const NO_RANK: u8 = 255;
 
+// The kinds that are asked for, and the flag of an autostart task.
+const ISR: u8 = 1;
+
+const EXTENDED: u8 = 2;
+
+const AUTOSTART: u8 = 1;
+
 const MAX_BODIES: usize = 32;
 
 const MAX_RESOURCES: usize = 16;
@@ -28,8 +35,9 @@ pub struct Plan {
     // By rank the priority and the body's number.
     pub priority: [u8; 32],
     pub body: [u8; 32],
-    // The words of the ranks that are ISRs, and of those of autostart tasks.
+    // The words of the ranks that are ISRs, of those that are extended tasks, and of those of autostart tasks.
     pub isrs: u32,
+    pub extended: u32,
     pub autostart: u32,
     // By resource.
     pub ceiling: [u8; 16],
@@ -57,8 +65,9 @@ impl Plan {
         let by = bodies::ranks(priority, n);
         let kinds = bodies::by_kind(kind, by, n);
         let ranked = bodies::by_rank(priority, by, n);
-        let isrs = bodies::marked(kind, by, n);
-        let autostart = bodies::marked(flags, by, n);
+        let isrs = bodies::marked(kind, ISR, by, n);
+        let extended = bodies::marked(kind, EXTENDED, by, n);
+        let autostart = bodies::marked(flags, AUTOSTART, by, n);
         let some = at_most(config.resources as usize, MAX_RESOURCES);
         let ceiling = resources::ceilings(users, some, priority, n);
         let tables = at_most(config.tables as usize, MAX_TABLES);
@@ -77,6 +86,7 @@ impl Plan {
             priority: level,
             body,
             isrs,
+            extended,
             autostart,
             ceiling,
             first,

@@ -19,7 +19,7 @@ use Rattle.scheduler.specs.Body.{Body, started, loses}
 use Rattle.scheduler.specs.Choice.{candidate, chosenFrom}
 use Rattle.scheduler.specs.State.{among, heldIn}
 use Rattle.scheduler.specs.Tick.{counting, entryDue, duesFrom, activatingDue}
-use Rattle.scheduler.specs.Scheduler.{Event, Chain, Get, Release, Tick, Line, Start, step, fresh, seen}
+use Rattle.scheduler.specs.Scheduler.{Event, Chain, Get, Release, Tick, Line, Start, stepBy, fresh, seen, seenBy}
 use Rattle.scheduler.proofs.Listing.{Row, row, rowOf, listing}
 use Rattle.machine.specs.Cells.{oneMore}
 
@@ -80,7 +80,7 @@ unfolding due
 each-tick n = simp (leb·suc-suc 0 n, leb·zero n, mod-one (suc n - 1))
 
 pub edges : Edges
-unfolding listing numberBytes groupBytes readNumber groups continued fifthGroup readConfig readFrom faultAt putAt ended occurs greatestIn entriesBefore due firstGiven candidate chosenFrom among heldIn counting entryDue duesFrom activatingDue step seen
+unfolding listing numberBytes groupBytes readNumber groups continued fifthGroup readConfig readFrom faultAt putAt ended occurs greatestIn entriesBefore due firstGiven candidate chosenFrom among heldIn counting entryDue duesFrom activatingDue stepBy seenBy
 edges =
     record {
       p1 = (refl, refl);

@@ -16,7 +16,7 @@ use Rattle.scheduler.specs.Status.{firstGiven}
 use Rattle.scheduler.specs.Choice.{candidate, chosenFrom}
 use Rattle.scheduler.specs.State.{among, heldIn}
 use Rattle.scheduler.specs.Tick.{counting, entryDue, duesFrom, activatingDue}
-use Rattle.scheduler.specs.Scheduler.{step, seen, after}
+use Rattle.scheduler.specs.Scheduler.{stepBy, seenBy, afterBy}
 use Rattle.run.specs.Run.{callOf, readRun, answerBytes, lossBytes, answers, resultOf, outputOf, runResult, runOutput}
 
 -- "Configuration (hex)"
@@ -73,7 +73,7 @@ pub record Worked : Type 0 where
   pub low-first : lossBytes (258 ∷ 65535 ∷ []) ≡ 2 ∷ 1 ∷ 255 ∷ 255 ∷ []
 
 pub worked : Worked
-unfolding written readNumber groups continued fifthGroup faultAt putAt ended occurs readFrom readConfig greatestIn entriesBefore known arguments afterNumber readArguments readEvent eventsFrom readRest due firstGiven candidate chosenFrom among heldIn counting entryDue duesFrom activatingDue step seen after callOf readRun answerBytes lossBytes answers resultOf outputOf
+unfolding written readNumber groups continued fifthGroup faultAt putAt ended occurs readFrom readConfig greatestIn entriesBefore known arguments afterNumber readArguments readEvent eventsFrom readRest due firstGiven candidate chosenFrom among heldIn counting entryDue duesFrom activatingDue stepBy seenBy afterBy callOf readRun answerBytes lossBytes answers resultOf outputOf
 worked =
     record {
       listing = (refl, refl);

@@ -15,13 +15,13 @@ use Rattle.number.specs.Output.{written, packed}
 use Rattle.config.specs.declared.Config.{Config}
 use Rattle.config.specs.Reader.{readConfig}
 use Rattle.event.specs.declared.Event.{Event}
-use Rattle.event.specs.Event.{activate, finish, chain, get, release, tick, line, start}
+use Rattle.event.specs.Event.{activate, finish, chain, get, release, tick, line, start, stop, wait, set}
 use Rattle.event.specs.Refusal.{traceTooLong}
 use Rattle.event.specs.Trace.{maxTrace, readTrace}
 use Rattle.scheduler.specs.Scheduler as Plain
-use Rattle.scheduler.specs.Scheduler.{Activate, Finish, Chain, Get, Release, Tick, Line, Start, Stop, Seen, fresh, seen, after, lossesOf}
+use Rattle.scheduler.specs.Scheduler.{Activate, Finish, Chain, Get, Release, Tick, Line, Start, Stop, Wait, Set, Clear, Seen, fresh, seen, after, lossesOf}
 
--- the event that a code with two arguments stands for; of the nine codes that a readable event has, the last needs no test
+-- the event that a code with two arguments stands for; of the twelve codes that a readable event has, the last needs no test
 unfoldable pub callOf : Event → Plain.Event
 callOf e =
     cond (eqb (e .code) activate) (Activate (e .first))
@@ -32,7 +32,10 @@ callOf e =
     (cond (eqb (e .code) tick) Tick
     (cond (eqb (e .code) line) (Line (e .first))
     (cond (eqb (e .code) start) (Start (e .first) (e .second))
-    (Stop (e .first)))))))))
+    (cond (eqb (e .code) stop) (Stop (e .first))
+    (cond (eqb (e .code) wait) (Wait (e .first))
+    (cond (eqb (e .code) set) (Set (e .first) (e .second))
+    (Clear (e .first))))))))))))
 
 -- the events of a trace
 abbrev pub callsOf : List ℕ → List Plain.Event

@@ -16,7 +16,7 @@ use Rattle.scheduler.specs.Body.{Phase, suspended, ready, started, isSus
 use Rattle.scheduler.specs.State.{State, isRunning, bodyOf, tableOf, heldIn}
 use Rattle.scheduler.specs.Event.{Event, Activate, Finish, Chain, Get, Release, Tick, Line, Start, Stop}
 use Rattle.scheduler.specs.Call.{nobodyRuns, caller, calling, holds, active, latestIs, requestWaits, checksOf, activateStatus, finishStatus, chainStatus, getStatus, releaseStatus, lineStatus, longestDelay, startStatus, stopStatus}
-use Rattle.scheduler.specs.Scheduler.{step}
+use Rattle.scheduler.specs.Scheduler.{step, stepBy}
 use Rattle.scheduler.specs.History.{AcceptedIn}
 use Rattle.scheduler.proofs.Effects.{clash}
 
@@ -71,7 +71,7 @@ refusing c s (Start t d) = omega arith
 refusing c s (Stop t) = omega arith
 
 pub accepted-none-fails : (c : Config) (s : State) (e : Event) → AcceptedIn c s e ↔ NoneFails (checksOf c s e)
-unfolding step
+unfolding stepBy
 accepted-none-fails c s e =
     (λ a. none-fails (checksOf c s e) (all-passed (checksOf c s e) (refusing c s e) a), λ none. passed-done (checksOf c s e) (none-passed (checksOf c s e) none))
 
@@ -79,7 +79,7 @@ pub first-given : (c : Config) (s : State) (e : Event) (before : List Check) (k 
     → NoneFails before
     → k .fails ≡ true
     → step c s e .seen .status ≡ k .status
-unfolding step
+unfolding stepBy
 first-given c s e before k rest q none f = ap firstGiven q ∙ first-fails before k rest (none-passed before none) f
 
 neither : (a b : Bool) → (a || b) ≡ false → (a ≡ false) × (b ≡ false)

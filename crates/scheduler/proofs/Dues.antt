@@ -16,7 +16,7 @@ use Rattle.config.specs.Meaning.{offsets}
 use Rattle.scheduler.specs.State.{State, Table, stopped, tableOf}
 use Rattle.scheduler.specs.Event.{Event, Tick}
 use Rattle.scheduler.specs.Tick.{counting, counted, entryDue, duesFrom, dues}
-use Rattle.scheduler.specs.Scheduler.{step, fresh, seen, after}
+use Rattle.scheduler.specs.Scheduler.{step, stepBy, fresh, seen, seenBy, after, afterBy}
 use Rattle.scheduler.specs.Entries.{Entry, entryOf, entriesFrom, entriesOf, entryAt}
 use Rattle.scheduler.specs.History.{History, never-started, since-start, since-stop, dueMark, DueAt}
 use Rattle.scheduler.proofs.Effects.{by-tick, no-tick, length-tables-fresh}
@@ -26,7 +26,7 @@ use Rattle.scheduler.proofs.Tables.{table-history, history-of-table, fi
 -- the marks of the i-th event
 seen-at : (c : Config) (es : List Event) (i : ℕ) (s : State) → i < length es
     → getD (map (λ x. x .due) (seen c s es)) i [] ≡ step c (after c s (take i es)) (getD es i Tick) .seen .due
-unfolding seen after
+unfolding seenBy afterBy
 seen-at c [] i s h = absurd (omega arith)
 seen-at c (e ∷ es) zero s h = refl
 seen-at c (e ∷ es) (suc i) s h = seen-at c es i (step c s e .state) (omega arith)
@@ -86,7 +86,7 @@ module _ (c : Config) where
   -- one event, after the events es
   event-due : (es : List Event) (e : Event) (k : ℕ) → k < length (entriesOf c)
       → (getD (step c (after c (fresh c) es) e .seen .due) k false ≡ true) ↔ DueAt c es e (entryAt c k)
-  unfolding step
+  unfolding stepBy
   event-due es e k h =
       by-tick e
       (λ q. rw q (

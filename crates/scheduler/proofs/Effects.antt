@@ -18,7 +18,7 @@ use Rattle.scheduler.specs.State.{State, Table, stopped, noBody, bodyOf,
 use Rattle.scheduler.specs.Call.{caller, finish, statusOf, effectOf}
 use Rattle.scheduler.specs.Tick.{counting, counted, activatingDue, dues, ticked}
 use Rattle.scheduler.specs.Event.{Event, Activate, Finish, Chain, Get, Release, Tick, Line, Start, Stop, isTick}
-use Rattle.scheduler.specs.Scheduler.{begins, dispatched, lossesOf, newBody, step, fresh, after}
+use Rattle.scheduler.specs.Scheduler.{begins, dispatched, lossesOf, newBody, step, stepBy, fresh, after, afterBy}
 
 module _ (i : ℕ) (f : Body → Body) (s : State) where
   pub bodyOf-changing-same : i < length (s .bodies) → bodyOf (changing i f s) i ≡ f (bodyOf s i)
@@ -107,7 +107,7 @@ module _ (P : State → Type 0) (on-body : (i : ℕ) (f : Body → Body) (s : St
       → P s
       → (e : Event)
       → P (step c s e .state)
-  unfolding step
+  unfolding stepBy
   step-keeps on-table on-counted c s p e =
       dispatched-keeps c _
       (cond-either P (eqb (statusOf c s e) done) (effectOf c s e) s
@@ -161,7 +161,7 @@ module _ (c : Config) where
       refl
 
   pub losses-call : (s : State) (e : Event) → e ≢ Tick → lossesOf (step c s e .state) ≡ lossesOf s
-  unfolding step
+  unfolding stepBy
   losses-call s e d =
       losses-dispatched (cond (eqb (statusOf c s e) done) (effectOf c s e) s)
       ∙ cond-either (λ x. lossesOf x ≡ lossesOf s) (eqb (statusOf c s e) done) (effectOf c s e) s
@@ -170,11 +170,11 @@ module _ (c : Config) where
 
   -- the losses that are seen are those of the state after the event
   pub losses-seen : (s : State) (e : Event) → step c s e .seen .losses ≡ lossesOf (step c s e .state)
-  unfolding step
+  unfolding stepBy
   losses-seen s e = sym (losses-dispatched (cond (eqb (statusOf c s e) done) (effectOf c s e) s))
 
 -- the state after two lists of events, one after the other
 pub after-append : (c : Config) (es fs : List Event) (s : State) → after c s (es ++ fs) ≡ after c (after c s es) fs
-unfolding after
+unfolding afterBy
 after-append c [] fs s = refl
 after-append c (e ∷ es) fs s = after-append c es fs (step c s e .state)

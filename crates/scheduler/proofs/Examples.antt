@@ -12,12 +12,14 @@ use Rattle.config.specs.Draft.{faultAt, putAt, ended, occurs}
 use Rattle.config.specs.Reader.{readConfig, readFrom}
 use Rattle.config.specs.Meaning.{greatestIn, entriesBefore}
 use Rattle.cell.specs.Due.{due}
+use lib.Bits.{bitAnd, bitOr}
 use Rattle.scheduler.specs.Status.{firstGiven}
+use Rattle.scheduler.specs.Bits.{anySet, withBits, withoutBits}
 use Rattle.scheduler.specs.Choice.{candidate, chosenFrom}
 use Rattle.scheduler.specs.State.{among, heldIn}
-use Rattle.scheduler.specs.Event.{Event, Activate, Finish, Chain, Get, Release, Tick, Line, Start, Stop}
+use Rattle.scheduler.specs.Event.{Event, Activate, Finish, Chain, Get, Release, Tick, Line, Start, Stop, Wait, Set, Clear}
 use Rattle.scheduler.specs.Tick.{counting, entryDue, duesFrom, activatingDue}
-use Rattle.scheduler.specs.Scheduler.{step, fresh, seen}
+use Rattle.scheduler.specs.Scheduler.{stepBy, fresh, seen, seenBy, after, afterBy, lossesOf}
 use Rattle.scheduler.proofs.Listing.{Row, row, rowOf}
 
 -- Bodies: tasks 0, 1, 2 of priority 4, 2, 6, of which 0 is autostart; ISRs 3 and 4 of priority 9 and 3. Resources 0 to 3 with the users
@@ -108,7 +110,7 @@ pub record Examples : Type 0 where
       ∷ (false ∷ true ∷ true ∷ []) ∷ []
 
 pub examples : Examples
-unfolding sample twoAutostart readConfig readFrom readNumber groups continued fifthGroup faultAt putAt ended occurs greatestIn entriesBefore due firstGiven candidate chosenFrom among heldIn counting entryDue duesFrom activatingDue step seen
+unfolding sample twoAutostart readConfig readFrom readNumber groups continued fifthGroup faultAt putAt ended occurs greatestIn entriesBefore due firstGiven candidate chosenFrom among heldIn counting entryDue duesFrom activatingDue stepBy seenBy
 examples =
     record {
       activate-higher = refl;
@@ -132,4 +134,85 @@ examples =
       several-due = refl;
       several-due-losses = refl;
       several-due-due = refl;
+    }
+
+-- Tasks 0 and 1 are extended, of priority 6 and 4, and 1 is autostart; 2 is a basic task of priority 2, 3 an ISR of priority 9. Resources 0 to
+-- 3 have the users 0 and 1, 1, 0 and 2, 3, so the ceilings 6, 4, 6, 9. Table 0 has period 4, and task 0 at offset 0.
+unfoldable pub extendedTasks : Config
+extendedTasks =
+    readConfig (1 ∷ 4 ∷ 2 ∷ 6 ∷ 0 ∷ 2 ∷ 4 ∷ 1 ∷ 0 ∷ 2 ∷ 0 ∷ 1 ∷ 9 ∷ 0 ∷ 4 ∷ 3 ∷ 2 ∷ 5 ∷ 8 ∷ 1 ∷ 4 ∷ 1 ∷ 0 ∷ 0 ∷ []) .config
+
+-- task 0 is due at the first Tick and at the fifth
+abbrev lostWaiting : List Event
+lostWaiting = Start 0 1 ∷ Tick ∷ Wait 1 ∷ Tick ∷ Tick ∷ Tick ∷ Tick ∷ []
+
+pub record ExtendedExamples : Type 0 where
+  -- nobody runs: 2, whatever else applies. An ISR may neither wait nor clear: 1. Set: no such task, an ISR's number, a task that is not
+  -- extended though it is suspended too, a suspended one. A bit that is not waited for resumes nobody, and a resumed task need not run
+  -- at once: begun mark 0 when it does
+  pub wait-statuses : rows extendedTasks (Wait 1 ∷ Wait 1 ∷ Set 9 1 ∷ Clear 1 ∷ Line 3 ∷ Wait 1 ∷ Clear 1 ∷ Set 9 1 ∷ Set 3 1 ∷ Set 2 1 ∷ Set 0 1 ∷ Set 1 2 ∷ Set 1 1 ∷ Finish ∷ [])
+      ≡ row 0 255 0 0 ∷ row 2 255 0 0 ∷ row 2 255 0 0 ∷ row 2 255 0 0 ∷ row 0 3 9 1 ∷ row 1 3 9 0 ∷ row 1 3 9 0 ∷ row 3 3 9 0 ∷ row 3 3 9 0 ∷ row 1 3 9 0 ∷ row 7 3 9 0 ∷ row 0 3 9 0 ∷ row 0 3 9 0 ∷ row 0 1 4 0 ∷ []
+  -- a basic task may neither wait nor clear, nor be named by Set: 1 before 6
+  pub basic-task : rows extendedTasks (Activate 2 ∷ Finish ∷ Wait 1 ∷ Clear 1 ∷ Get 2 ∷ Wait 1 ∷ Set 2 1 ∷ [])
+      ≡ row 0 1 4 0 ∷ row 0 2 2 1 ∷ row 1 2 2 0 ∷ row 1 2 2 0 ∷ row 0 2 6 0 ∷ row 1 2 6 0 ∷ row 1 2 6 0 ∷ []
+  -- so for an ISR
+  pub isr-holding : rows extendedTasks (Line 3 ∷ Get 3 ∷ Wait 1 ∷ [])
+      ≡ row 0 3 9 1 ∷ row 0 3 9 0 ∷ row 1 3 9 0 ∷ []
+  -- 6 while a resource is held, also where the bit is set already; then Wait goes on at once, and again, since no Wait clears a bit
+  pub wait-holding : rows extendedTasks (Get 0 ∷ Wait 1 ∷ Set 1 1 ∷ Wait 1 ∷ Release 0 ∷ Wait 1 ∷ Wait 1 ∷ Clear 1 ∷ Wait 1 ∷ [])
+      ≡ row 0 1 6 0 ∷ row 6 1 6 0 ∷ row 0 1 6 0 ∷ row 6 1 6 0 ∷ row 0 1 4 0 ∷ row 0 1 4 0 ∷ row 0 1 4 0 ∷ row 0 1 4 0 ∷ row 0 255 0 0 ∷ []
+  -- one of two waited bits suffices, and the resumed task runs at once, begun mark 0; its bits stay, those that it did not wait for too
+  pub resumed-at-once : rows extendedTasks (Activate 0 ∷ Wait 3 ∷ Set 0 4 ∷ Set 0 2 ∷ Wait 2 ∷ Wait 4 ∷ Clear 6 ∷ Wait 2 ∷ [])
+      ≡ row 0 0 6 1 ∷ row 0 1 4 0 ∷ row 0 1 4 0 ∷ row 0 0 6 0 ∷ row 0 0 6 0 ∷ row 0 0 6 0 ∷ row 0 0 6 0 ∷ row 0 1 4 0 ∷ []
+  -- Wait on mask 0 is never resumed, and goes on at no bit; a waiting task is not suspended, so Activate and Chain to it are 4
+  pub mask-zero : rows extendedTasks (Activate 0 ∷ Wait 0 ∷ Set 0 4294967295 ∷ Activate 0 ∷ Chain 0 ∷ Set 1 1 ∷ Wait 0 ∷ [])
+      ≡ row 0 0 6 1 ∷ row 0 1 4 0 ∷ row 0 1 4 0 ∷ row 4 1 4 0 ∷ row 4 1 4 0 ∷ row 0 1 4 0 ∷ row 0 255 0 0 ∷ []
+  -- bit 31, and all the others
+  pub highest-bit : rows extendedTasks (Wait 2147483648 ∷ Line 3 ∷ Set 1 2147483647 ∷ Finish ∷ Line 3 ∷ Set 1 2147483648 ∷ Finish ∷ [])
+      ≡ row 0 255 0 0 ∷ row 0 3 9 1 ∷ row 0 3 9 0 ∷ row 0 255 0 0 ∷ row 0 3 9 1 ∷ row 0 3 9 0 ∷ row 0 1 4 0 ∷ []
+  -- the bits are cleared when the task is activated, and kept while it is ready: what was set then is there when it begins
+  pub bits-of-ready : rows extendedTasks (Get 0 ∷ Activate 0 ∷ Set 0 1 ∷ Release 0 ∷ Wait 1 ∷ Finish ∷ Activate 0 ∷ Wait 1 ∷ [])
+      ≡ row 0 1 6 0 ∷ row 0 1 6 0 ∷ row 0 1 6 0 ∷ row 0 0 6 1 ∷ row 0 0 6 0 ∷ row 0 1 4 0 ∷ row 0 0 6 1 ∷ row 0 1 4 0 ∷ []
+  -- a due entry clears them, too
+  pub bits-by-entry : rows extendedTasks (Activate 0 ∷ Set 0 1 ∷ Finish ∷ Start 0 1 ∷ Tick ∷ Wait 1 ∷ [])
+      ≡ row 0 0 6 1 ∷ row 0 0 6 0 ∷ row 0 1 4 0 ∷ row 0 1 4 0 ∷ row 0 0 6 1 ∷ row 0 1 4 0 ∷ []
+  -- and so does Chain, to another and to the caller itself
+  pub bits-by-chain : rows extendedTasks (Activate 0 ∷ Set 0 1 ∷ Finish ∷ Chain 0 ∷ Wait 1 ∷ [])
+      ≡ row 0 0 6 1 ∷ row 0 0 6 0 ∷ row 0 1 4 0 ∷ row 0 0 6 1 ∷ row 0 255 0 0 ∷ []
+  pub bits-by-chain-itself : rows extendedTasks (Set 1 1 ∷ Wait 1 ∷ Chain 1 ∷ Wait 1 ∷ [])
+      ≡ row 0 1 4 0 ∷ row 0 1 4 0 ∷ row 0 1 4 1 ∷ row 0 255 0 0 ∷ []
+  -- Set to a task that is started and preempted
+  pub bits-of-preempted : rows extendedTasks (Activate 0 ∷ Set 1 1 ∷ Finish ∷ Wait 1 ∷ [])
+      ≡ row 0 0 6 1 ∷ row 0 0 6 0 ∷ row 0 1 4 0 ∷ row 0 1 4 0 ∷ []
+  -- task 0 waits while task 1 takes resource 0: resumed, it ties with the holder, which goes first though both have begun and 0 is lower
+  pub holder-first : rows extendedTasks (Activate 0 ∷ Wait 1 ∷ Get 0 ∷ Set 0 1 ∷ Release 0 ∷ [])
+      ≡ row 0 0 6 1 ∷ row 0 1 4 0 ∷ row 0 1 6 0 ∷ row 0 1 6 0 ∷ row 0 0 6 0 ∷ []
+  -- a runner that waits leaves the level to a preempted holder
+  pub wait-to-holder : rows extendedTasks (Get 1 ∷ Activate 0 ∷ Wait 1 ∷ Finish ∷ [])
+      ≡ row 0 1 4 0 ∷ row 0 0 6 1 ∷ row 0 1 4 0 ∷ row 6 1 4 0 ∷ []
+  -- a due entry of a waiting task is a loss
+  pub due-while-waiting : rows extendedTasks lostWaiting
+      ≡ row 0 1 4 0 ∷ row 0 0 6 1 ∷ row 0 1 4 0 ∷ row 0 1 4 0 ∷ row 0 1 4 0 ∷ row 0 1 4 0 ∷ row 0 1 4 0 ∷ []
+  pub due-while-waiting-losses : lossesOf (after extendedTasks (fresh extendedTasks) lostWaiting) ≡ 1 ∷ 0 ∷ 0 ∷ 0 ∷ []
+
+pub extended-examples : ExtendedExamples
+unfolding extendedTasks readConfig readFrom readNumber groups continued fifthGroup faultAt putAt ended occurs greatestIn entriesBefore due firstGiven candidate chosenFrom among heldIn counting entryDue duesFrom activatingDue anySet withBits withoutBits stepBy seenBy afterBy
+extended-examples =
+    record {
+      wait-statuses = refl;
+      basic-task = refl;
+      isr-holding = refl;
+      wait-holding = refl;
+      resumed-at-once = refl;
+      mask-zero = refl;
+      highest-bit = refl;
+      bits-of-ready = refl;
+      bits-by-entry = refl;
+      bits-by-chain = refl;
+      bits-by-chain-itself = refl;
+      bits-of-preempted = refl;
+      holder-first = refl;
+      wait-to-holder = refl;
+      due-while-waiting = refl;
+      due-while-waiting-losses = refl;
     }

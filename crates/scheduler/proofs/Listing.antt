@@ -13,7 +13,7 @@ use Rattle.scheduler.specs.Status.{firstGiven}
 use Rattle.scheduler.specs.Choice.{candidate, chosenFrom}
 use Rattle.scheduler.specs.State.{among, heldIn}
 use Rattle.scheduler.specs.Tick.{counting, entryDue, duesFrom, activatingDue}
-use Rattle.scheduler.specs.Scheduler.{Event, Finish, Chain, Get, Release, Tick, Line, Start, Stop, Seen, step, fresh, seen, after, lossesOf}
+use Rattle.scheduler.specs.Scheduler.{Event, Finish, Chain, Get, Release, Tick, Line, Start, Stop, Seen, stepBy, fresh, seen, seenBy, after, afterBy, lossesOf}
 
 -- "Configuration (hex)"
 unfoldable pub listing : Config
@@ -42,9 +42,9 @@ rowOf x = row (x .status) (x .runner) (x .level) (x .begun)
 rows : map rowOf (seen listing (fresh listing) events)
     ≡ row 0 0 2 0 ∷ row 0 0 5 0 ∷ row 0 0 5 0 ∷ row 0 2 9 1 ∷ row 2 2 9 0 ∷ row 0 0 5 0 ∷ row 6 0 5 0 ∷ row 0 1 5 1 ∷ row 0 1 5 0 ∷ row 0 1 5 0
     ∷ row 0 0 2 0 ∷ row 0 255 0 0 ∷ row 0 255 0 0 ∷ row 0 1 5 1 ∷ row 0 1 5 0 ∷ row 0 255 0 0 ∷ row 2 255 0 0 ∷ []
-unfolding listing events readConfig readFrom readNumber groups continued fifthGroup faultAt putAt ended occurs greatestIn entriesBefore due firstGiven candidate chosenFrom among heldIn counting entryDue duesFrom activatingDue step seen
+unfolding listing events readConfig readFrom readNumber groups continued fifthGroup faultAt putAt ended occurs greatestIn entriesBefore due firstGiven candidate chosenFrom among heldIn counting entryDue duesFrom activatingDue stepBy seenBy
 rows = refl
 
 losses : lossesOf (after listing (fresh listing) events) ≡ 1 ∷ 0 ∷ 0 ∷ []
-unfolding listing events readConfig readFrom readNumber groups continued fifthGroup faultAt putAt ended occurs greatestIn entriesBefore due firstGiven candidate chosenFrom among heldIn counting entryDue duesFrom activatingDue step after
+unfolding listing events readConfig readFrom readNumber groups continued fifthGroup faultAt putAt ended occurs greatestIn entriesBefore due firstGiven candidate chosenFrom among heldIn counting entryDue duesFrom activatingDue stepBy afterBy
 losses = refl

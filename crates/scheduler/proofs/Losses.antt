@@ -17,7 +17,7 @@ use Rattle.scheduler.specs.Body.{Body, ready, suspended, isSuspended, be
 use Rattle.scheduler.specs.State.{State, stopped, noBody, bodyOf, changing}
 use Rattle.scheduler.specs.Event.{Event}
 use Rattle.scheduler.specs.Tick.{counted, dues, activatingDue, ticked, naming, dueFor}
-use Rattle.scheduler.specs.Scheduler.{newBody, dispatched, lossesOf, step, fresh, after}
+use Rattle.scheduler.specs.Scheduler.{newBody, dispatched, lossesOf, step, stepBy, fresh, after, afterBy}
 use Rattle.scheduler.proofs.Effects.{bodyOf-changing-same, bodyOf-changing-other, length-changing, activatingDue-keeps, by-tick, no-tick, losses-dispatched, losses-call}
 
 -- n entries that name the body b, one after the other
@@ -87,7 +87,7 @@ module _ (c : Config) where
       rw same (few i)
 
   few-step : (s : State) (e : Event) → FewLosses s → FewLosses (step c s e .state)
-  unfolding step firstGiven
+  unfolding stepBy firstGiven
   few-step s e few =
       by-tick e
       (λ q. rw q
@@ -108,7 +108,7 @@ module _ (c : Config) where
       none false = lit≤ tt
 
   pub few-after : (es : List Event) (s : State) → FewLosses s → FewLosses (after c s es)
-  unfolding after
+  unfolding afterBy
   few-after [] s few = few
   few-after (e ∷ es) s few = few-after es (step c s e .state) (few-step s e few)
 

@@ -18,12 +18,12 @@ use Rattle.scheduler.specs.Choice.{Candidate, isNobody, candidate}
 use Rattle.scheduler.specs.State.{State, stopped, bodyOf, changing, runner}
 use Rattle.scheduler.specs.Event.{Event}
 use Rattle.scheduler.specs.Call.{statusOf, effectOf}
-use Rattle.scheduler.specs.Scheduler.{begins, dispatched, markOf, newBody, step, fresh, after}
+use Rattle.scheduler.specs.Scheduler.{begins, dispatched, markOf, newBody, step, stepBy, fresh, after, afterBy}
 use Rattle.scheduler.proofs.Choice.{contender, weight, weight-before, chosen-weight, candidate-active, chosen-best, Taken, no-one, body, chosen-from}
 use Rattle.scheduler.proofs.Effects.{bodyOf-changing-same, bodyOf-changing-other}
 
 pub refused-dispatched : (c : Config) (s : State) (e : Event) → step c s e .seen .status ≢ done → step c s e .state ≡ dispatched c s
-unfolding step
+unfolding stepBy
 refused-dispatched c s e refused = rw (ne-eqb (statusOf c s e) done refused)
 
 pub dispatched-same : (c : Config) (s : State) → begins (runner c s) ≡ false → dispatched c s ≡ s
@@ -120,11 +120,11 @@ module _ (c : Config) where
   settled-fresh = dispatched-settled c (record { bodies = map newBody (take (c .bodies) (c .autostart)); tables = replicate (c .tables) stopped })
 
   pub settled-step : (s : State) (e : Event) → begins (runner c (step c s e .state)) ≡ false
-  unfolding step
+  unfolding stepBy
   settled-step s e = dispatched-settled c (cond (eqb (statusOf c s e) done) (effectOf c s e) s)
 
   pub settled-after : (es : List Event) (s : State) → begins (runner c s) ≡ false → begins (runner c (after c s es)) ≡ false
-  unfolding after
+  unfolding afterBy
   settled-after [] s h = h
   settled-after (e ∷ es) s h = settled-after es (step c s e .state) (settled-step s e)
 

@@ -18,7 +18,7 @@ use Rattle.scheduler.specs.State.{State, noBody, bodyOf, changing, runne
 use Rattle.scheduler.specs.Event.{Event, Activate, Finish, Chain, Get, Release, Tick, Line, Start, Stop}
 use Rattle.scheduler.specs.Tick.{dues, counted}
 use Rattle.scheduler.specs.Call.{caller, finish, stop, statusOf, effectOf}
-use Rattle.scheduler.specs.Scheduler.{begins, markOf, step}
+use Rattle.scheduler.specs.Scheduler.{begins, markOf, step, stepBy}
 use Rattle.scheduler.specs.History.{AcceptedIn}
 use Rattle.scheduler.proofs.Choice.{Taken, no-one, body, chosen-from, candidate-active}
 use Rattle.scheduler.proofs.Checks.{activate-passed, chain-passed}
@@ -75,7 +75,7 @@ module _ (c : Config) (s : State) (i : ℕ) (isr : isIsr c i ≡ true) (begun : 
   other t h e = true≢false (sym begun ∙ ap (λ k. isStarted (bodyOf s k .phase)) (sym e) ∙ ap isStarted h)
 
   started-stays : (e : Event) → AcceptedIn c s e → ((e ≡ Finish) × (caller c s ≡ i)) ⊎ (isStarted (bodyOf (effectOf c s e) i .phase) ≡ true)
-  unfolding step
+  unfolding stepBy
   started-stays (Activate t) a = inr (started-other i t (become ready) s (other t (activate-passed c s t a .2)) begun)
   started-stays Finish a =
       by-eq (caller c s) i
@@ -98,7 +98,7 @@ module _ (c : Config) (s : State) (i : ℕ) (isr : isIsr c i ≡ true) (begun : 
 
   pub begins-after-finish : (e : Event) → step c s e .seen .begun ≡ 1 → step c s e .seen .runner ≡ i
       → (e ≡ Finish) × (caller c s ≡ i) × AcceptedIn c s e
-  unfolding step
+  unfolding stepBy
   begins-after-finish e b r =
       by-eq (statusOf c s e) done
       (λ ok. ⊎-elim
@@ -112,7 +112,7 @@ module _ (c : Config) (s : State) (i : ℕ) (isr : isIsr c i ≡ true) (begun : 
 
 -- a Stop changes no body, so whatever waits to begin still waits
 pub stop-bodies : (c : Config) (s : State) (t : ℕ) → begins (runner c s) ≡ false → step c s (Stop t) .state .bodies ≡ s .bodies
-unfolding step
+unfolding stepBy
 stop-bodies c s t settled =
     ap (λ x. x .bodies) (dispatched-same c (cond (eqb (statusOf c s (Stop t)) done) (stop t s) s) (rw same settled)) ∙ same
   where

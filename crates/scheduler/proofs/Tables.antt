@@ -19,7 +19,7 @@ use Rattle.scheduler.specs.State.{State, Table, stopped, running, tableO
 use Rattle.scheduler.specs.Event.{Event, Activate, Finish, Chain, Get, Release, Tick, Line, Start, Stop, isTick}
 use Rattle.scheduler.specs.Tick.{counting}
 use Rattle.scheduler.specs.Call.{statusOf, effectOf}
-use Rattle.scheduler.specs.Scheduler.{step, fresh, after}
+use Rattle.scheduler.specs.Scheduler.{stepBy, fresh, after, afterBy}
 use Rattle.scheduler.specs.History.{AcceptedIn, next, NoneAccepted, StartOf, StopOf, NoStart, NoStop, tickCount, History, never-started, since-start, since-stop}
 use Rattle.scheduler.proofs.Checks.{start-passed, stop-passed}
 use Rattle.scheduler.proofs.Effects.{clash, after-append, cond-either, tables-dispatched, tables-ticked, tables-fresh, length-tables-step, length-tables-fresh}
@@ -35,15 +35,15 @@ data Turn (c : Config) (t : ℕ) (s : State) (e : Event) : Type 0 where
 module _ (c : Config) (t : ℕ) (s : State) where
   -- the table after the event e: its effect's where the status is 0
   table-next : (e : Event) → tableOf (next c s e) t ≡ tableOf (cond (eqb (statusOf c s e) done) (effectOf c s e) s) t
-  unfolding step
+  unfolding stepBy
   table-next e = ap (λ l. getD l t stopped) (tables-dispatched c (cond (eqb (statusOf c s e) done) (effectOf c s e) s))
 
   table-done : (e : Event) → AcceptedIn c s e → tableOf (next c s e) t ≡ tableOf (effectOf c s e) t
-  unfolding step
+  unfolding stepBy
   table-done e a = table-next e ∙ rw (eq-eqb (statusOf c s e) done a)
 
   table-refused : (e : Event) → (AcceptedIn c s e → ⊥) → tableOf (next c s e) t ≡ tableOf s t
-  unfolding step
+  unfolding stepBy
   table-refused e r = table-next e ∙ rw (ne-eqb (statusOf c s e) done r)
 
   table-kept : (e : Event) → tableOf (effectOf c s e) t ≡ tableOf s t → tableOf (next c s e) t ≡ tableOf s t
@@ -53,23 +53,23 @@ module _ (c : Config) (t : ℕ) (s : State) where
   withTable-other u x d = getD-set-other (s .tables) u t x stopped (λ e. d (sym e))
 
   table-started : (d : ℕ) → length (s .tables) ≡ c .tables → AcceptedIn c s (Start t d) → tableOf (next c s (Start t d)) t ≡ running d 0
-  unfolding step
+  unfolding stepBy
   table-started d n a =
       table-done (Start t d) a
       ∙ getD-set-same (s .tables) t (running d 0) stopped (omega (arith, start-passed c s t d a .1))
 
   table-stopped : length (s .tables) ≡ c .tables → AcceptedIn c s (Stop t) → tableOf (next c s (Stop t)) t ≡ stopped
-  unfolding step
+  unfolding stepBy
   table-stopped n a =
       table-done (Stop t) a
       ∙ getD-set-same (s .tables) t stopped stopped (omega (arith, stop-passed c s t a .1))
 
   table-ticked : tableOf (next c s Tick) t ≡ counting (tableOf s t)
-  unfolding step firstGiven counting
+  unfolding stepBy firstGiven counting
   table-ticked = table-done Tick refl ∙ ap (λ l. getD l t stopped) (tables-ticked c s) ∙ List·getD-map counting (s .tables) t stopped
 
   turn-start : (u d : ℕ) → length (s .tables) ≡ c .tables → Turn c t s (Start u d)
-  unfolding step
+  unfolding stepBy
   turn-start u d n =
       by-eq (statusOf c s (Start u d)) done
       (λ ok. by-eq u t
@@ -78,7 +78,7 @@ module _ (c : Config) (t : ℕ) (s : State) where
       (λ bad. passes (λ p a. bad a) (λ q a. clash (cc)) (table-refused (Start u d) bad))
 
   turn-stop : (u : ℕ) → length (s .tables) ≡ c .tables → Turn c t s (Stop u)
-  unfolding step
+  unfolding stepBy
   turn-stop u n =
       by-eq (statusOf c s (Stop u)) done
       (λ ok. by-eq u t
@@ -100,15 +100,15 @@ module _ (c : Config) (t : ℕ) (s : State) where
 -- none of e and es: neither e nor any of es
 module _ (P : Event → Type 0) (c : Config) (s : State) (e : Event) (es : List Event) where
   none-head : NoneAccepted P c s (e ∷ es) → P e → AcceptedIn c s e → ⊥
-  unfolding after
+  unfolding afterBy
   none-head none = none e [] es refl
 
   none-tail : NoneAccepted P c s (e ∷ es) → NoneAccepted P c (next c s e) es
-  unfolding after
+  unfolding afterBy
   none-tail none x before rest q = none x (e ∷ before) rest (ap (λ l. e ∷ l) q)
 
   none-cons : (P e → AcceptedIn c s e → ⊥) → NoneAccepted P c (next c s e) es → NoneAccepted P c s (e ∷ es)
-  unfolding after
+  unfolding afterBy
   none-cons head tail x [] rest q p a = let h : e ≡ x = cc in head (rw h p) (rw h a)
   none-cons head tail x (y ∷ before) rest q p a = let h : e ≡ y = cc in tail x before rest (cc) p (rw h a)
 
@@ -128,7 +128,7 @@ module _ (c : Config) where
   fits-step s e n = length-tables-step c s e ∙ n
 
   pub fits-after : (es : List Event) (s : State) → length (s .tables) ≡ c .tables → length (after c s es .tables) ≡ c .tables
-  unfolding after
+  unfolding afterBy
   fits-after [] s n = n
   fits-after (e ∷ es) s n = fits-after es (next c s e) (fits-step s e n)
 
@@ -136,7 +136,7 @@ module _ (c : Config) (t : ℕ) where
   -- a table that runs counts the Ticks until an accepted Stop
   runs-on : (es : List Event) (s : State) (d n : ℕ) → length (s .tables) ≡ c .tables → tableOf s t ≡ running d n → NoStop c t s es
       → tableOf (after c s es) t ≡ running d (n + tickCount es)
-  unfolding step after tickCount counting
+  unfolding stepBy afterBy tickCount counting
   runs-on [] s d n fits r none = r ∙ ap (running d) (sym (add-zero n))
   runs-on (e ∷ es) s d n fits r none =
       go (turn c t s e fits) (λ m r′. runs-on es (next c s e) d m (fits-step c s e fits) r′ (none-tail (StopOf t) c s e es none))
@@ -159,7 +159,7 @@ module _ (c : Config) (t : ℕ) where
   -- a table that is stopped stays so until an accepted Start
   stays-stopped : (es : List Event) (s : State) → length (s .tables) ≡ c .tables → tableOf s t ≡ stopped → NoStart c t s es
       → tableOf (after c s es) t ≡ stopped
-  unfolding after counting
+  unfolding afterBy counting
   stays-stopped [] s fits r none = r
   stays-stopped (e ∷ es) s fits r none =
       stays-stopped es (next c s e) (fits-step c s e fits) (go (turn c t s e fits)) (none-tail (StartOf t) c s e es none)
@@ -177,7 +177,7 @@ module _ (c : Config) (t : ℕ) where
   pub counted-from-start : (d : ℕ) (before rest : List Event) → AcceptedIn c (after c (fresh c) before) (Start t d)
       → NoStop c t (next c (after c (fresh c) before) (Start t d)) rest
       → tableOf (after c (fresh c) (before ++ Start t d ∷ rest)) t ≡ running d (tickCount rest)
-  unfolding after
+  unfolding afterBy
   counted-from-start d before rest a none =
       ap (λ x. tableOf x t) (after-append c before (Start t d ∷ rest) (fresh c))
       ∙ runs-on rest (next c s (Start t d)) d 0 (fits-step c s (Start t d) fits) (table-started c t s d fits a) none
@@ -201,7 +201,7 @@ module _ (c : Config) (t : ℕ) where
   pub stopped-since-stop : (before rest : List Event) → AcceptedIn c (after c (fresh c) before) (Stop t)
       → NoStart c t (next c (after c (fresh c) before) (Stop t)) rest
       → tableOf (after c (fresh c) (before ++ Stop t ∷ rest)) t ≡ stopped
-  unfolding after
+  unfolding afterBy
   stopped-since-stop before rest a none =
       ap (λ x. tableOf x t) (after-append c before (Stop t ∷ rest) (fresh c))
       ∙ stays-stopped rest (next c s (Stop t)) (fits-step c s (Stop t) fits) (table-stopped c t s fits a) none
@@ -216,7 +216,7 @@ module _ (c : Config) (t : ℕ) where
   no-restart : (d : ℕ) (s : State) (rest : List Event) → length (s .tables) ≡ c .tables → AcceptedIn c s (Start t d)
       → NoStop c t (next c s (Start t d)) rest
       → NoStart c t (next c s (Start t d)) rest
-  unfolding step
+  unfolding stepBy
   no-restart d s rest fits a none e before later q p a′ =
       true≢false
       (rw (runs-on before (next c s (Start t d)) d 0 (fits-step c s (Start t d) fits) (table-started c t s d fits a) fewer)
@@ -241,7 +241,7 @@ module _ (c : Config) (t : ℕ) where
         → Last s es
 
   last : (es : List Event) (s : State) → length (s .tables) ≡ c .tables → Last s es
-  unfolding after
+  unfolding afterBy
   last [] s fits = neither (none-nil (StartOf t) c s) (none-nil (StopOf t) c s)
   last (e ∷ es) s fits = go (turn c t s e fits) (last es (next c s e) (fits-step c s e fits))
     where

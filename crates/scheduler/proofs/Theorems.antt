@@ -20,7 +20,7 @@ use Rattle.scheduler.specs.State.{State, Table, stopped, running, bodyOf
 use Rattle.scheduler.specs.Event.{Event, Activate, Finish, Chain, Get, Release, Tick, Line, Start, Stop}
 use Rattle.scheduler.specs.Tick.{ticked, dueFor}
 use Rattle.scheduler.specs.Call.{caller, checksOf}
-use Rattle.scheduler.specs.Scheduler.{begins, dispatched, lossesOf, step, fresh, seen, after}
+use Rattle.scheduler.specs.Scheduler.{begins, dispatched, lossesOf, step, stepBy, fresh, seen, after}
 use Rattle.scheduler.specs.Entries.{entryOf, entriesOf, entryAt}
 use Rattle.scheduler.specs.History.{AcceptedIn, next, NoStart, NoStop, tickCount, History, dueMark, DueAt}
 use Rattle.scheduler.proofs.Choice as Choice
@@ -127,7 +127,7 @@ settled = Refusals.settled-step
 
 -- "the task isn't suspended": an accepted Activate finds its task suspended, so a started one is never requested again
 pub activated-suspended : (c : Config) (s : State) (t : ℕ) → AcceptedIn c s (Activate t) → bodyOf s t .phase ≡ suspended
-unfolding step
+unfolding stepBy
 activated-suspended c s t a = Checks.activate-passed c s t a .2
 
 -- "A started ISR's second request .. begins only after it has finished": where a started ISR begins, the event is its own accepted Finish

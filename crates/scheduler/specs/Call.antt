@@ -1,23 +1,145 @@
--- Document 01's table of events.
+-- Document 01's table of events, with document 02's three more.
 --
---   checksOf c s e   the column "statuses in order": the tests that the event e has to pass, each with the status that it gives
---   statusOf c s e   "the first status that applies is given"
---   effectOf c s e   the column "effect": the state that e leaves where its status is 0
+--   checksFor c k s e   the column "statuses in order": the tests that the event e has to pass while k runs, each with the status that it gives
+--   effectFor c k s e   the column "effect": the state that e leaves where its status is 0
+--   checksOf, statusOf, effectOf c s e   the same while whoever is chosen runs; "the first status that applies is given"
 --
--- In order: the tests, the first column, each event's effect, the second. `event-table` (proofs/Theorems.antt) is the first column with its
+-- In order: the tests, the first column, each event's effect, the second, both while the chosen one runs. `event-table` (proofs/Theorems.antt) is the first column with its
 -- numbers written out. Assumes nothing.
 use Prim.Native.Nat.{ℕ, _+_}
 use mathlib.Core.Bool.{Bool, true, false, not, _&&_, _||_}
 use mathlib.Core.List.{List, [], _∷_}
 use lib.Dec.{ltb, leb, eqb}
 use Rattle.config.specs.declared.Config.{Config}
-use Rattle.config.specs.Meaning.{isTask, isIsr, priorityOf, ceiling, smallestOffset}
-use Rattle.scheduler.specs.Status.{Check, callLevel, noSuch, limitReached, access, noFunction, holdsResource, alreadyRuns, badDelay, _gives_, firstGiven}
-use Rattle.scheduler.specs.Body.{Phase, suspended, ready, started, isSuspended, Body, become, finished, requested, gets, releases}
-use Rattle.scheduler.specs.Choice.{isNobody}
+use Rattle.config.specs.Meaning.{isTask, isIsr, isExtended, priorityOf, ceiling, smallestOffset}
+use Rattle.scheduler.specs.Status.{Check, callLevel, noSuch, limitReached, access, noFunction, holdsResource, wrongState, badDelay, _gives_, firstGiven}
+use Rattle.scheduler.specs.Body.{Phase, suspended, ready, started, waiting, isSuspended, Body, holds, activated, finished, requested, gets, releases, waits, receives, clears}
+use Rattle.scheduler.specs.Choice.{Candidate, isNobody}
 use Rattle.scheduler.specs.State.{State, stopped, running, isRunning, bodyOf, tableOf, changing, withTable, runner, heldIn}
-use Rattle.scheduler.specs.Event.{Event, Activate, Finish, Chain, Get, Release, Tick, Line, Start, Stop}
+use Rattle.scheduler.specs.Event.{Event, Activate, Finish, Chain, Get, Release, Tick, Line, Start, Stop, Wait, Set, Clear}
 use Rattle.scheduler.specs.Tick.{ticked}
+
+-- "the task isn't suspended"
+abbrev pub active : State → ℕ → Bool
+active s t = not (isSuspended (bodyOf s t .phase))
+
+-- r is "the runner's most recently taken one still held"
+abbrev pub latestIs : ℕ → List ℕ → Bool
+latestIs r [] = false
+latestIs r (x ∷ xs) = eqb r x
+
+-- "a request already waits (the ISR is ready, or started with one waiting)"
+abbrev pub requestWaits : Body → Phase → Bool
+requestWaits b suspended = false
+requestWaits b ready = true
+requestWaits b started = b .pending
+requestWaits b (waiting w) = b .pending
+
+-- the largest sum of the delay and the smallest offset
+abbrev pub longestDelay : ℕ
+longestDelay = 65535
+
+-- "statuses in order", while k runs. Line is document 01's word for an interrupt request.
+abbrev pub checksFor : Config → Candidate → State → Event → List Check
+checksFor c k s (Activate t) = (isNobody k gives callLevel) ∷ (not (isTask c t) gives noSuch) ∷ (active s t gives limitReached) ∷ []
+checksFor c k s Finish = (isNobody k gives callLevel) ∷ (holds (bodyOf s (k .number) .held) gives holdsResource) ∷ []
+checksFor c k s (Chain t) =
+    (isNobody k || isIsr c (k .number) gives callLevel) ∷
+    (not (isTask c t) gives noSuch) ∷
+    (holds (bodyOf s (k .number) .held) gives holdsResource) ∷
+    (active s t && not (eqb t (k .number)) gives limitReached) ∷
+    []
+checksFor c k s (Get r) =
+    (isNobody k gives callLevel) ∷
+    (leb (c .resources) r gives noSuch) ∷
+    (heldIn r (s .bodies) || ltb (ceiling c r) (priorityOf c (k .number)) gives access) ∷
+    []
+checksFor c k s (Release r) =
+    (isNobody k gives callLevel) ∷
+    (leb (c .resources) r gives noSuch) ∷
+    (not (latestIs r (bodyOf s (k .number) .held)) gives noFunction) ∷
+    []
+checksFor c k s Tick = []
+checksFor c k s (Line i) = (not (isIsr c i) gives noSuch) ∷ (requestWaits (bodyOf s i) (bodyOf s i .phase) gives limitReached) ∷ []
+checksFor c k s (Start t d) =
+    (isNobody k gives callLevel) ∷
+    (leb (c .tables) t gives noSuch) ∷
+    (eqb d 0 || ltb longestDelay (d + smallestOffset c t) gives badDelay) ∷
+    (isRunning (tableOf s t) gives wrongState) ∷
+    []
+checksFor c k s (Stop t) =
+    (isNobody k gives callLevel) ∷
+    (leb (c .tables) t gives noSuch) ∷
+    (not (isRunning (tableOf s t)) gives noFunction) ∷
+    []
+checksFor c k s (Wait w) =
+    (isNobody k gives callLevel) ∷
+    (not (isExtended c (k .number)) gives access) ∷
+    (holds (bodyOf s (k .number) .held) gives holdsResource) ∷
+    []
+checksFor c k s (Set t w) =
+    (isNobody k gives callLevel) ∷
+    (not (isTask c t) gives noSuch) ∷
+    (not (isExtended c t) gives access) ∷
+    (not (active s t) gives wrongState) ∷
+    []
+checksFor c k s (Clear w) = (isNobody k gives callLevel) ∷ (not (isExtended c (k .number)) gives access) ∷ []
+
+-- "t ready"
+abbrev pub activate : ℕ → State → State
+activate t s = changing t activated s
+
+-- "the runner suspended, but ready if a request waits"; i: the runner, here and below
+abbrev pub finish : ℕ → State → State
+finish i s = changing i finished s
+
+-- "as Finish, then as Activate"
+abbrev pub chain : ℕ → ℕ → State → State
+chain i t s = activate t (finish i s)
+
+-- "r last in the runner's order"
+abbrev pub get : ℕ → ℕ → State → State
+get i r s = changing i (gets r) s
+
+-- "r out"
+abbrev pub release : ℕ → State → State
+release i s = changing i releases s
+
+-- "i ready, or if started a request waits"
+abbrev pub line : ℕ → State → State
+line i s = changing i requested s
+
+-- "d kept, n = 0"
+abbrev pub start : ℕ → ℕ → State → State
+start t d s = withTable t (running d 0) s
+
+-- "stopped"
+abbrev pub stop : ℕ → State → State
+stop t s = withTable t stopped s
+
+-- Wait, Set and Clear: the runner waits for a bit of w, the task t gets the bits of w, the runner's are cleared
+abbrev pub wait : ℕ → ℕ → State → State
+wait i w s = changing i (waits w) s
+
+abbrev pub setEvent : ℕ → ℕ → State → State
+setEvent t w s = changing t (receives w) s
+
+abbrev pub clear : ℕ → ℕ → State → State
+clear i w s = changing i (clears w) s
+
+abbrev pub effectFor : Config → Candidate → State → Event → State
+effectFor c k s (Activate t) = activate t s
+effectFor c k s Finish = finish (k .number) s
+effectFor c k s (Chain t) = chain (k .number) t s
+effectFor c k s (Get r) = get (k .number) r s
+effectFor c k s (Release r) = release (k .number) s
+effectFor c k s Tick = ticked c s
+effectFor c k s (Line i) = line i s
+effectFor c k s (Start t d) = start t d s
+effectFor c k s (Stop t) = stop t s
+effectFor c k s (Wait w) = wait (k .number) w s
+effectFor c k s (Set t w) = setEvent t w s
+effectFor c k s (Clear w) = clear (k .number) w s
 
 -- "nobody runs"
 abbrev pub nobodyRuns : Config → State → Bool
@@ -30,69 +152,17 @@ caller c s = runner c s .number
 abbrev pub calling : Config → State → Body
 calling c s = bodyOf s (caller c s)
 
--- "the task isn't suspended"
-abbrev pub active : State → ℕ → Bool
-active s t = not (isSuspended (bodyOf s t .phase))
-
--- "the runner holds a resource"
-abbrev pub holds : List ℕ → Bool
-holds [] = false
-holds (r ∷ rs) = true
-
--- r is "the runner's most recently taken one still held"
-abbrev pub latestIs : ℕ → List ℕ → Bool
-latestIs r [] = false
-latestIs r (x ∷ xs) = eqb r x
-
--- "a request already waits (the ISR is ready, or started with one waiting)"
-abbrev pub requestWaits : Body → Phase → Bool
-requestWaits b suspended = false
-requestWaits b ready = true
-requestWaits b started = b .pending
-
--- the largest sum of the delay and the smallest offset
-abbrev pub longestDelay : ℕ
-longestDelay = 65535
-
--- "statuses in order". Line is document 01's word for an interrupt request.
 abbrev pub checksOf : Config → State → Event → List Check
-checksOf c s (Activate t) = (nobodyRuns c s gives callLevel) ∷ (not (isTask c t) gives noSuch) ∷ (active s t gives limitReached) ∷ []
-checksOf c s Finish = (nobodyRuns c s gives callLevel) ∷ (holds (calling c s .held) gives holdsResource) ∷ []
-checksOf c s (Chain t) =
-    (nobodyRuns c s || isIsr c (caller c s) gives callLevel) ∷
-    (not (isTask c t) gives noSuch) ∷
-    (holds (calling c s .held) gives holdsResource) ∷
-    (active s t && not (eqb t (caller c s)) gives limitReached) ∷
-    []
-checksOf c s (Get r) =
-    (nobodyRuns c s gives callLevel) ∷
-    (leb (c .resources) r gives noSuch) ∷
-    (heldIn r (s .bodies) || ltb (ceiling c r) (priorityOf c (caller c s)) gives access) ∷
-    []
-checksOf c s (Release r) =
-    (nobodyRuns c s gives callLevel) ∷
-    (leb (c .resources) r gives noSuch) ∷
-    (not (latestIs r (calling c s .held)) gives noFunction) ∷
-    []
-checksOf c s Tick = []
-checksOf c s (Line i) = (not (isIsr c i) gives noSuch) ∷ (requestWaits (bodyOf s i) (bodyOf s i .phase) gives limitReached) ∷ []
-checksOf c s (Start t d) =
-    (nobodyRuns c s gives callLevel) ∷
-    (leb (c .tables) t gives noSuch) ∷
-    (eqb d 0 || ltb longestDelay (d + smallestOffset c t) gives badDelay) ∷
-    (isRunning (tableOf s t) gives alreadyRuns) ∷
-    []
-checksOf c s (Stop t) =
-    (nobodyRuns c s gives callLevel) ∷
-    (leb (c .tables) t gives noSuch) ∷
-    (not (isRunning (tableOf s t)) gives noFunction) ∷
-    []
+checksOf c s e = checksFor c (runner c s) s e
 
 -- "At an event the first status that applies is given"
 abbrev pub statusOf : Config → State → Event → ℕ
 statusOf c s e = firstGiven (checksOf c s e)
 
--- the same, event by event
+abbrev pub effectOf : Config → State → Event → State
+effectOf c s e = effectFor c (runner c s) s e
+
+-- the statuses, event by event
 abbrev pub activateStatus : Config → State → ℕ → ℕ
 activateStatus c s t = statusOf c s (Activate t)
 
@@ -117,45 +187,11 @@ startStatus c s t d = statusOf c s (Start t d)
 abbrev pub stopStatus : Config → State → ℕ → ℕ
 stopStatus c s t = statusOf c s (Stop t)
 
--- "t ready"
-abbrev pub activate : ℕ → State → State
-activate t s = changing t (become ready) s
+abbrev pub waitStatus : Config → State → ℕ → ℕ
+waitStatus c s w = statusOf c s (Wait w)
 
--- "the runner suspended, but ready if a request waits"
-abbrev pub finish : Config → State → State
-finish c s = changing (caller c s) finished s
+abbrev pub setStatus : Config → State → ℕ → ℕ → ℕ
+setStatus c s t w = statusOf c s (Set t w)
 
--- "as Finish, then as Activate"
-abbrev pub chain : Config → ℕ → State → State
-chain c t s = activate t (finish c s)
-
--- "r last in the runner's order"
-abbrev pub get : Config → ℕ → State → State
-get c r s = changing (caller c s) (gets r) s
-
--- "r out"
-abbrev pub release : Config → State → State
-release c s = changing (caller c s) releases s
-
--- "i ready, or if started a request waits"
-abbrev pub line : ℕ → State → State
-line i s = changing i requested s
-
--- "d kept, n = 0"
-abbrev pub start : ℕ → ℕ → State → State
-start t d s = withTable t (running d 0) s
-
--- "stopped"
-abbrev pub stop : ℕ → State → State
-stop t s = withTable t stopped s
-
-abbrev pub effectOf : Config → State → Event → State
-effectOf c s (Activate t) = activate t s
-effectOf c s Finish = finish c s
-effectOf c s (Chain t) = chain c t s
-effectOf c s (Get r) = get c r s
-effectOf c s (Release r) = release c s
-effectOf c s Tick = ticked c s
-effectOf c s (Line i) = line i s
-effectOf c s (Start t d) = start t d s
-effectOf c s (Stop t) = stop t s
+abbrev pub clearStatus : Config → State → ℕ → ℕ
+clearStatus c s w = statusOf c s (Clear w)

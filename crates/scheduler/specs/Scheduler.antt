@@ -2,7 +2,8 @@
 --
 --   fresh c        the state before the first event
 --   step c s e     the state after the event e, with what is seen of it
---   seen c s es    what is seen of a list of events, one after the other
+--   seen c s es    what is seen of a list of events, one after the other; after c s es: the state after them
+--   freshBy, stepBy, seenBy, afterBy q   the same by another rule for ties
 --
 -- Assumes nothing.
 use Prim.Native.Nat.{ℕ}
@@ -11,13 +12,13 @@ use mathlib.Core.List.{List, [], _∷_, map}
 use lib.Dec.{eqb}
 use lib.ListN.{length, take, replicate}
 use Rattle.config.specs.declared.Config.{Config}
-use Rattle.scheduler.specs.Status.{done}
-use Rattle.scheduler.specs.Body.{ready, started, Body, become}
-use Rattle.scheduler.specs.Choice.{Candidate, isNobody}
-use Rattle.scheduler.specs.State.{stopped, State, noBody, changing, runner}
-pub use Rattle.scheduler.specs.Event.{Event, Activate, Finish, Chain, Get, Release, Tick, Line, Start, Stop}
+use Rattle.scheduler.specs.Status.{done, firstGiven}
+use Rattle.scheduler.specs.Body.{started, Body, become, activated}
+use Rattle.scheduler.specs.Choice.{Candidate, Tie, byHolding, isNobody}
+use Rattle.scheduler.specs.State.{stopped, State, noBody, changing, runnerBy, runner}
+pub use Rattle.scheduler.specs.Event.{Event, Activate, Finish, Chain, Get, Release, Tick, Line, Start, Stop, Wait, Set, Clear}
 use Rattle.scheduler.specs.Event.{isTick}
-use Rattle.scheduler.specs.Call.{statusOf, effectOf}
+use Rattle.scheduler.specs.Call.{checksFor, effectFor}
 use Rattle.scheduler.specs.Tick.{counted, dues}
 
 -- what is seen of an event: its answer, every body's losses after it, and for each entry whether it was due at it
@@ -37,9 +38,12 @@ pub record Stepped : Type 0 where
 abbrev pub begins : Candidate → Bool
 begins k = not (isNobody k) && not (k .began)
 
--- "Last, the runner is chosen by the rule for who runs; a ready one becomes started, begun mark 1"
+-- "Last, the runner is chosen by the rule for who runs; a ready one becomes started, begun mark 1"; k: the chosen one
+abbrev pub dispatchedTo : Candidate → State → State
+dispatchedTo k s = cond (begins k) (changing (k .number) (become started) s) s
+
 abbrev pub dispatched : Config → State → State
-dispatched c s = cond (begins (runner c s)) (changing (runner c s .number) (become started) s) s
+dispatched c s = dispatchedTo (runner c s) s
 
 abbrev pub markOf : Bool → ℕ
 markOf b = cond b 1 0
@@ -47,20 +51,23 @@ markOf b = cond b 1 0
 abbrev pub lossesOf : State → List ℕ
 lossesOf s = map (λ b. b .losses) (s .bodies)
 
--- the end of every event: st is its status, ds its due entries, s the state that it left
-abbrev pub ending : Config → ℕ → List Bool → State → Stepped
-ending c st ds s =
+-- the end of every event: st is its status, ds its due entries, s the state that it left, k the one that is chosen then
+abbrev pub endingTo : Candidate → ℕ → List Bool → State → Stepped
+endingTo k st ds s =
     record {
-      state = dispatched c s;
+      state = dispatchedTo k s;
       seen = record {
         status = st;
-        runner = runner c s .number;
-        level = runner c s .level;
-        begun = markOf (begins (runner c s));
+        runner = k .number;
+        level = k .level;
+        begun = markOf (begins k);
         losses = lossesOf s;
         due = ds;
       };
     }
+
+abbrev pub ending : Config → ℕ → List Bool → State → Stepped
+ending c st ds s = endingTo (runner c s) st ds s
 
 -- the due entries of an event: only a Tick has any
 abbrev pub noneDue : Config → State → List Bool
@@ -69,27 +76,45 @@ noneDue c s = replicate (length (dues c s)) false
 abbrev pub duesAt : Config → State → Event → List Bool
 duesAt c s e = cond (isTick e) (dues c (counted s)) (noneDue c s)
 
--- "only 0 changes anything": st is the event's status, ds its due entries, s′ the state that it leaves where st is 0, s that before it
-abbrev pub attempt : Config → State → ℕ → List Bool → State → Stepped
-attempt c s st ds s′ = ending c st ds (cond (eqb st done) s′ s)
+-- "only 0 changes anything": st is the event's status, s′ the state that it leaves where st is 0, s that before it
+abbrev pub attempted : State → ℕ → State → State
+attempted s st s′ = cond (eqb st done) s′ s
 
-unfoldable pub step : Config → State → Event → Stepped
-step c s e = attempt c s (statusOf c s e) (duesAt c s e) (effectOf c s e)
+unfoldable pub stepBy : Tie → Config → State → Event → Stepped
+stepBy q c s e =
+    let k = runnerBy q c s in
+    let st = firstGiven (checksFor c k s e) in
+    let x = attempted s st (effectFor c k s e) in
+    endingTo (runnerBy q c x) st (duesAt c s e) x
+
+abbrev pub step : Config → State → Event → Stepped
+step = stepBy byHolding
 
 -- "Fresh start: autostart tasks are ready, the best one begins, all losses are 0, tables stopped"
 abbrev pub newBody : ℕ → Body
-newBody autostart = cond (eqb autostart 1) (become ready noBody) noBody
+newBody autostart = cond (eqb autostart 1) (activated noBody) noBody
+
+abbrev pub unstarted : Config → State
+unstarted c = record { bodies = map newBody (take (c .bodies) (c .autostart)); tables = replicate (c .tables) stopped }
+
+abbrev pub freshBy : Tie → Config → State
+freshBy q c = dispatchedTo (runnerBy q c (unstarted c)) (unstarted c)
 
 abbrev pub fresh : Config → State
-fresh c =
-    dispatched c (record { bodies = map newBody (take (c .bodies) (c .autostart)); tables = replicate (c .tables) stopped })
+fresh = freshBy byHolding
 
 -- each event meets the state that the one before it left
-unfoldable pub seen : Config → State → List Event → List Seen
-seen c s [] = []
-seen c s (e ∷ es) = let x = step c s e in x .seen ∷ seen c (x .state) es
+unfoldable pub seenBy : Tie → Config → State → List Event → List Seen
+seenBy q c s [] = []
+seenBy q c s (e ∷ es) = let x = stepBy q c s e in x .seen ∷ seenBy q c (x .state) es
+
+abbrev pub seen : Config → State → List Event → List Seen
+seen = seenBy byHolding
 
 -- the state after a list of events
-unfoldable pub after : Config → State → List Event → State
-after c s [] = s
-after c s (e ∷ es) = after c (step c s e .state) es
+unfoldable pub afterBy : Tie → Config → State → List Event → State
+afterBy q c s [] = s
+afterBy q c s (e ∷ es) = afterBy q c (stepBy q c s e .state) es
+
+abbrev pub after : Config → State → List Event → State
+after = afterBy byHolding

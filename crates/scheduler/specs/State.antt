@@ -7,7 +7,7 @@ use lib.Dec.{eqb}
 use lib.ListN.{getD, set}
 use Rattle.config.specs.declared.Config.{Config}
 use Rattle.scheduler.specs.Body.{suspended, Body}
-use Rattle.scheduler.specs.Choice.{Candidate, chosen}
+use Rattle.scheduler.specs.Choice.{Candidate, Tie, byHolding, chosenBy}
 
 -- "each table is stopped or has d and n, the Ticks since its start": AUTOSAR's stopped and running
 pub data Table : Type 0 where
@@ -24,7 +24,7 @@ pub record State : Type 0 where
 
 -- a body that was never asked for; what stands past the list's end
 abbrev pub noBody : Body
-noBody = record { phase = suspended; pending = false; held = []; losses = 0 }
+noBody = record { phase = suspended; pending = false; held = []; losses = 0; bits = 0 }
 
 abbrev pub bodyOf : State → ℕ → Body
 bodyOf s i = getD (s .bodies) i noBody
@@ -39,9 +39,12 @@ changing i f s = record { bodies = set (s .bodies) i (f (bodyOf s i)); tables = 
 abbrev pub withTable : ℕ → Table → State → State
 withTable t x s = record { bodies = s .bodies; tables = set (s .tables) t x }
 
--- who runs now
+-- who runs now, by a rule for ties, and by the one that holds
+abbrev pub runnerBy : Tie → Config → State → Candidate
+runnerBy q c s = chosenBy q c (s .bodies)
+
 abbrev pub runner : Config → State → Candidate
-runner c s = chosen c (s .bodies)
+runner = runnerBy byHolding
 
 -- r stands in the list
 unfoldable pub among : ℕ → List ℕ → Bool

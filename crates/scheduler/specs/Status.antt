@@ -9,7 +9,7 @@ use mathlib.Core.List.{List, [], _∷_, _++_}
 abbrev pub done : ℕ
 done = 0
 
--- E_OS_ACCESS: "r is held by anyone, or the runner's own priority is above the ceiling"
+-- E_OS_ACCESS: "r is held by anyone, or the runner's own priority is above the ceiling"; for Wait, Clear and Set "not extended"
 abbrev pub access : ℕ
 access = 1
 
@@ -33,9 +33,9 @@ noFunction = 5
 abbrev pub holdsResource : ℕ
 holdsResource = 6
 
--- E_OS_STATE: "the table already runs"
-abbrev pub alreadyRuns : ℕ
-alreadyRuns = 7
+-- E_OS_STATE: "the table already runs"; for Set "suspended"
+abbrev pub wrongState : ℕ
+wrongState = 7
 
 -- E_OS_VALUE: "d is 0, or d plus the smallest offset is above 65,535"
 abbrev pub badDelay : ℕ

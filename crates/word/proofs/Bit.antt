@@ -1,13 +1,13 @@
 -- One bit of a number, at any place: what adding its worth and taking it away do to it and to the other bits.
 --
--- In order: the lowest bit and those above it; a clear bit added; the highest bit; a set bit taken away; numbers with the same bits.
+-- In order: the lowest bit and those above it; a clear bit added; the highest bit; a set bit taken away; numbers with the same bits; a number all of whose bits are set.
 -- Each law goes by halving, so that omega sees the lowest bit only. Assumes nothing.
 use Prim.Native.Nat.{ℕ, zero, suc, _+_, _-_, _/_, _%_, _^_, _≤_, _<_}
 use mathlib.Core.Path.{_≡_, refl, sym, ap, _∙_}
 use native.Mathlib.Nat.{pow-suc, div-one}
 use native.Mathlib.Numerals.{one-add}
 use native.Mathlib.Omega.{arith}
-use lib.Pow.{shr-shr}
+use lib.Pow.{shr-shr, suc-ones}
 
 -- 1 where the bit of w at place i is set, else 0
 abbrev pub bit : ℕ → ℕ → ℕ
@@ -73,3 +73,12 @@ bits-same (suc k) w v hw hv e =
       e 0 (omega arith),
       bits-same k (w / 2) (v / 2) (omega (arith, pow-suc 2 k)) (omega (arith, pow-suc 2 k)) (λ i l. sym (bit-suc w i) ∙ e (suc i) (omega arith) ∙ bit-suc v i),
     )
+
+-- every bit of the greatest number of k bits is set
+pub ones-bit : (k i : ℕ) → i < k → bit (2 ^ k - 1) i ≡ 1
+ones-bit zero i l = absurd (omega arith)
+ones-bit (suc k) zero l = rw bit-zero (omega (arith, pow-suc 2 k, suc-ones k))
+ones-bit (suc k) (suc i) l = rw (bit-suc, half) (ones-bit k i (omega arith))
+  where
+    half : (2 ^ suc k - 1) / 2 ≡ 2 ^ k - 1
+    half = omega (arith, pow-suc 2 k)

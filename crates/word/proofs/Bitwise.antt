@@ -1,13 +1,13 @@
--- What the code's `|`, `&` and `!` make of one bit: `or-with` and `and-without`; and what `|` makes of every bit: `or-bit`.
+-- What the code's `|`, `&` and `!` make of one bit: `or-with` and `and-without`; and what `|` and `&` make of every bit: `or-bit`, `and-bits`.
 -- Assumes nothing.
-use Prim.Native.Nat.{ℕ, zero, suc, _+_, _-_, _*_, _/_, _%_, _^_, max, _≤_, _<_}
+use Prim.Native.Nat.{ℕ, zero, suc, _+_, _-_, _*_, _/_, _%_, _^_, max, min, _≤_, _<_}
 use mathlib.Core.Path.{_≡_, refl, ap, _∙_}
-use mathlib.Core.Bool.{_||_}
+use mathlib.Core.Bool.{_&&_, _||_}
 use native.Mathlib.Nat.{pow-suc, one-mul}
 use native.Mathlib.Numerals.{one-add}
 use native.Mathlib.Omega.{arith}
 use lib.Arith.{lt-one}
-use lib.Bits.{bitAnd, bitOr, and-step, and-high, or-step, or-shr, or-add-and}
+use lib.Bits.{bitAnd, bitOr, and-step, and-shr, and-high, or-step, or-shr, or-add-and}
 use lib.Dec.{eqb, lit<}
 use lib.Pow.{pow-lt, shl-exact}
 use Rattle.word.specs.Word.{ranks, with, without}
@@ -66,6 +66,24 @@ or-bit w v i =
     low n = let e : (n * 2 + max (w / 2 ^ i % 2) (v / 2 ^ i % 2)) % 2 ≡ max (w / 2 ^ i % 2) (v / 2 ^ i % 2) = omega arith in ap (λ (x : ℕ). eqb x 1) e
 
     each : (x y : ℕ) → x ≤ 1 → y ≤ 1 → eqb (max x y) 1 ≡ eqb x 1 || eqb y 1
+    each zero zero h k = refl
+    each zero (suc zero) h k = refl
+    each (suc zero) zero h k = refl
+    each (suc zero) (suc zero) h k = refl
+    each (suc (suc x)) y h k = absurd (omega arith)
+    each zero (suc (suc y)) h k = absurd (omega arith)
+    each (suc zero) (suc (suc y)) h k = absurd (omega arith)
+
+-- and of an `&` exactly if both are
+pub and-bits : (w v i : ℕ) → eqb (bitAnd w v / 2 ^ i % 2) 1 ≡ eqb (w / 2 ^ i % 2) 1 && eqb (v / 2 ^ i % 2) 1
+and-bits w v i =
+    ap (λ (n : ℕ). eqb (n % 2) 1) (and-shr w v i ∙ and-step (w / 2 ^ i) (v / 2 ^ i)) ∙ low (bitAnd (w / 2 ^ i / 2) (v / 2 ^ i / 2))
+    ∙ each (w / 2 ^ i % 2) (v / 2 ^ i % 2) (omega arith) (omega arith)
+  where
+    low : (n : ℕ) → eqb ((n * 2 + min (w / 2 ^ i % 2) (v / 2 ^ i % 2)) % 2) 1 ≡ eqb (min (w / 2 ^ i % 2) (v / 2 ^ i % 2)) 1
+    low n = let e : (n * 2 + min (w / 2 ^ i % 2) (v / 2 ^ i % 2)) % 2 ≡ min (w / 2 ^ i % 2) (v / 2 ^ i % 2) = omega arith in ap (λ (x : ℕ). eqb x 1) e
+
+    each : (x y : ℕ) → x ≤ 1 → y ≤ 1 → eqb (min x y) 1 ≡ eqb x 1 && eqb y 1
     each zero zero h k = refl
     each zero (suc zero) h k = refl
     each (suc zero) zero h k = refl

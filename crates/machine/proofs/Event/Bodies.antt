@@ -20,7 +20,7 @@ use Rattle.scheduler.specs.Body.{Phase, suspended, ready, started, isStarted, B
 use Rattle.scheduler.specs.State.{State, noBody, bodyOf}
 use Rattle.scheduler.specs.Call.{nobodyRuns, caller, calling, holds, active, activateStatus, finishStatus, chainStatus, lineStatus, activate, finish, chain, line}
 use Rattle.scheduler.specs.Tick.{dues}
-use Rattle.scheduler.specs.Scheduler.{Activate, Finish, Chain, Line, step}
+use Rattle.scheduler.specs.Scheduler.{Activate, Finish, Chain, Line, stepBy}
 use Rattle.scheduler.proofs.Checks.{activate-passed, finish-passed, chain-passed, line-passed}
 use Rattle.machine.specs.Model.{Model, noRank}
 use Rattle.machine.specs.Arbiter.{settled, leaving, requesting}
@@ -78,7 +78,7 @@ module _ {c : Config} {p : Plan} {rk : ℕ → ℕ} (fit : Fitted c p rk) where
 
     -- Activate
     pub agrees-activate : (t : ℕ) → Agrees c p rk m s (Activate t)
-    unfolding statusOf effectOf step
+    unfolding statusOf effectOf stepBy
     agrees-activate t =
         agrees-attempt fit sim (Activate t) (Machine.activateStatus (p .task) m t) (activateStatus c s t)
         (settled (p .priority) (requesting (getD (p .task) t noRank) m)) (activate t s) refl refl (no-match fit sim long)
@@ -98,7 +98,7 @@ module _ {c : Config} {p : Plan} {rk : ℕ → ℕ} (fit : Fitted c p rk) where
 
     -- Line
     pub agrees-line : (i : ℕ) → Agrees c p rk m s (Line i)
-    unfolding statusOf effectOf step
+    unfolding statusOf effectOf stepBy
     agrees-line i =
         agrees-attempt fit sim (Line i) (Machine.lineStatus (p .line) m i) (lineStatus c s i)
         (settled (p .priority) (requesting (getD (p .line) i noRank) m)) (line i s) refl refl (no-match fit sim long)
@@ -140,7 +140,7 @@ module _ {c : Config} {p : Plan} {rk : ℕ → ℕ} (fit : Fitted c p rk) where
     finish-losses = kept (λ x. x .losses) finished (λ x. refl) bs (caller c s)
 
     pub agrees-finish : Agrees c p rk m s Finish
-    unfolding statusOf effectOf step
+    unfolding statusOf effectOf stepBy
     agrees-finish =
         agrees-attempt fit sim Finish (Machine.finishStatus m) (finishStatus c s) (settled (p .priority) (leaving m)) (finish c s) refl refl
         (no-match fit sim long) finish-status
@@ -191,7 +191,7 @@ module _ {c : Config} {p : Plan} {rk : ℕ → ℕ} (fit : Fitted c p rk) where
         out false = refl
 
     pub agrees-chain : (t : ℕ) → Agrees c p rk m s (Chain t)
-    unfolding statusOf effectOf step
+    unfolding statusOf effectOf stepBy
     agrees-chain t =
         agrees-attempt fit sim (Chain t) (Machine.chainStatus (p .isrs) (p .task) m t) (chainStatus c s t)
         (settled (p .priority) (requesting (getD (p .task) t noRank) (leaving m))) (chain c t s) refl refl

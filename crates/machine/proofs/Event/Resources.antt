@@ -17,7 +17,7 @@ use Rattle.scheduler.specs.Body.{Body, isSuspended, gets, releases}
 use Rattle.scheduler.specs.State.{State, among, heldIn, bodyOf}
 use Rattle.scheduler.specs.Call.{nobodyRuns, caller, calling, latestIs, getStatus, releaseStatus, get, release}
 use Rattle.scheduler.specs.Tick.{dues}
-use Rattle.scheduler.specs.Scheduler.{Get, Release, step}
+use Rattle.scheduler.specs.Scheduler.{Get, Release, stepBy}
 use Rattle.scheduler.proofs.Checks.{get-passed, release-passed}
 use Rattle.machine.specs.Model.{Model, doneWith}
 use Rattle.machine.specs.Arbiter.{settled}
@@ -160,7 +160,7 @@ module _ {c : Config} {p : Plan} {rk : ℕ → ℕ} (fit : Fitted c p rk) {m : M
   get-phase f keeps r = kept f (gets r) (λ x. keeps x r) bs (caller c s)
 
   pub agrees-get : (r : ℕ) → Agrees c p rk m s (Get r)
-  unfolding statusOf effectOf step
+  unfolding statusOf effectOf stepBy
   agrees-get r =
       agrees-attempt fit sim (Get r) (Machine.getStatus (c .resources) (p .ceiling) (p .priority) m r) (getStatus c s r)
       (doneWith (getting r (max (getD (p .ceiling) r 0) (m .core .level)) m) false) (get c r s) refl refl
@@ -193,7 +193,7 @@ module _ {c : Config} {p : Plan} {rk : ℕ → ℕ} (fit : Fitted c p rk) {m : M
       (λ _. refl))))
 
   pub agrees-release : (r : ℕ) → Agrees c p rk m s (Release r)
-  unfolding statusOf effectOf step
+  unfolding statusOf effectOf stepBy
   agrees-release r =
       agrees-attempt fit sim (Release r) (Machine.releaseStatus (c .resources) m r) (releaseStatus c s r)
       (settled (p .priority) (releasing (p .priority) r m)) (release c s) refl refl

@@ -20,11 +20,11 @@ use Rattle.cell.specs.Cell as Cell
 use Rattle.cell.specs.Cell.{unmarked, compareIn, long as isLong, startCell, modulus}
 use Rattle.cell.specs.Due.{OnTime}
 use Rattle.cell.proofs.Theorems.{on-time-start}
-use Rattle.scheduler.specs.Status.{done, callLevel, noSuch, noFunction, alreadyRuns, badDelay}
+use Rattle.scheduler.specs.Status.{done, callLevel, noSuch, noFunction, wrongState, badDelay}
 use Rattle.scheduler.specs.State.{Table, stopped, running, isRunning, State, tableOf}
 use Rattle.scheduler.specs.Call.{nobodyRuns, longestDelay, startStatus, stopStatus, start, stop}
 use Rattle.scheduler.specs.Tick.{dues}
-use Rattle.scheduler.specs.Scheduler.{Start, Stop, step}
+use Rattle.scheduler.specs.Scheduler.{Start, Stop, stepBy}
 use Rattle.scheduler.proofs.Checks.{start-passed, stop-passed}
 use Rattle.machine.specs.Model.{Model, withCells, doneWith}
 use Rattle.machine.specs.Cells.{switchOff, isOn, hasTurn, switchFor, cellAt, someLong}
@@ -168,7 +168,7 @@ module _ {c : Config} {p : Plan} {rk : ℕ → ℕ} (fit : Fitted c p rk) {m : M
       (λ h. let t< = leb-false (c .tables) t h in
       first-same (eqb d 0 || ltb longestDelay (d + getD (c .offset) (getD (p .first) t 0) 0)) (eqb d 0 || ltb longestDelay (d + smallestOffset c t)) badDelay _ _
       (ap (λ (e : ℕ). eqb d 0 || ltb longestDelay (d + getD (c .offset) e 0)) (fit .first-at t t<))
-      (λ _. first-same (runs (p .first) m t) (isRunning (tableOf s t)) alreadyRuns _ _ (runs-is t t<) (λ _. refl))))
+      (λ _. first-same (runs (p .first) m t) (isRunning (tableOf s t)) wrongState _ _ (runs-is t t<) (λ _. refl))))
 
   -- an entry's first delay, and whether one of table t's is more than a turn of the counter
   abbrev delayed : ℕ → ℕ → ℕ
@@ -223,7 +223,7 @@ module _ {c : Config} {p : Plan} {rk : ℕ → ℕ} (fit : Fitted c p rk) {m : M
         (λ i. switchFor true (isLong (delayed d i))) (m .turning || anyLong t d) (λ w. rw w) u e u< n low high)
 
   pub agrees-start : (t d : ℕ) → Agrees c p rk m s (Start t d)
-  unfolding statusOf effectOf step
+  unfolding statusOf effectOf stepBy
   agrees-start t d =
       agrees-attempt fit sim (Start t d) (Machine.startStatus (c .tables) (p .first) (c .offset) m t d) (startStatus c s t d)
       (doneWith (launching t d) false) (start t d s) refl refl
@@ -263,7 +263,7 @@ module _ {c : Config} {p : Plan} {rk : ℕ → ℕ} (fit : Fitted c p rk) {m : M
         (other-cell fit t t< (m .counter) (m .on) (m .turning) (s .tables) (sim .timed) (λ _. 0) (λ _. switchOff) (m .turning) (λ w. w) u e u< n low high)
 
   pub agrees-stop : (t : ℕ) → Agrees c p rk m s (Stop t)
-  unfolding statusOf effectOf step
+  unfolding statusOf effectOf stepBy
   agrees-stop t =
       agrees-attempt fit sim (Stop t) (Machine.stopStatus (c .tables) (p .first) m t) (stopStatus c s t)
       (doneWith (halting t) false) (stop t s) refl refl

@@ -17,7 +17,7 @@ use Rattle.scheduler.specs.Body.{ready, started, isSuspended, Body, become, los
 use Rattle.scheduler.specs.State.{State, noBody, changing}
 use Rattle.scheduler.specs.Tick.{counting, counted, dues, activatingDue}
 use Rattle.scheduler.specs.Tick as Plain
-use Rattle.scheduler.specs.Scheduler.{Tick, step}
+use Rattle.scheduler.specs.Scheduler.{Tick, stepBy}
 use Rattle.scheduler.proofs.Effects.{tables-ticked}
 use Rattle.machine.specs.Model.{Model, withCore, withRequest, withRest}
 use Rattle.machine.specs.Arbiter.{settled}
@@ -154,7 +154,7 @@ module _ {c : Config} {p : Plan} {rk : ℕ → ℕ} (fit : Fitted c p rk) {m : M
       (requestsDue (m .core .started) ms (p .entry) (record { request = m .core .request; losses = m .losses }) .losses))
 
   pub agrees-tick : Agrees c p rk m s Tick
-  unfolding statusOf effectOf tick step firstGiven
+  unfolding statusOf effectOf tick stepBy firstGiven
   agrees-tick =
       agrees fit Tick (settled (p .priority) (ticking (p .compare) (p .entry) m)) done ms (Plain.ticked c s) refl refl refl marks-are
       (settled-tied fit (Plain.ticked c s) ticked-tied)

@@ -16,7 +16,7 @@ use Rattle.config.specs.declared.Config.{Config}
 use Rattle.plan.specs.declared.Plan.{Plan}
 use Rattle.scheduler.specs.State.{State}
 use Rattle.scheduler.specs.Tick.{dues}
-use Rattle.scheduler.specs.Scheduler.{Event, Activate, Finish, Chain, Get, Release, Tick, Line, Start, Stop, Seen, seen, after}
+use Rattle.scheduler.specs.Scheduler.{Event, Activate, Finish, Chain, Get, Release, Tick, Line, Start, Stop, Seen, seen, seenBy, after, afterBy}
 use Rattle.machine.specs.Model.{Model}
 use Rattle.machine.specs.Machine.{machineSeen, machineAfter}
 use Rattle.plan.proofs.Fitted.{Fitted}
@@ -44,7 +44,7 @@ module _ {c : Config} {p : Plan} {rk : ℕ → ℕ} (fit : Fitted c p rk) where
       by (Stop t) long = agrees-stop fit sim long t
 
   pub agreement-from : (es : List Event) {m : Model} {s : State} → Sim c p rk m s → machineSeen c p m es ≡ seen c s es
-  unfolding machineSeen seen
+  unfolding machineSeen seenBy
   agreement-from [] sim = refl
   agreement-from (e ∷ es) sim =
       let a = event-agrees e sim in
@@ -52,6 +52,6 @@ module _ {c : Config} {p : Plan} {rk : ℕ → ℕ} (fit : Fitted c p rk) where
 
   -- after every list of events the model stands for the state
   pub after-sim : (es : List Event) {m : Model} {s : State} → Sim c p rk m s → Sim c p rk (machineAfter c p m es) (after c s es)
-  unfolding machineAfter after
+  unfolding machineAfter afterBy
   after-sim [] sim = sim
   after-sim (e ∷ es) sim = after-sim es (event-agrees e sim .sim)
