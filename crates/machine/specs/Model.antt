@@ -25,8 +25,8 @@ pub record Picked : Type 0 where
 
 -- What the machine keeps between events. `held`: the held resources as a word; `resource`, `holder`, `raised`: in the order taken, the
 -- latest on top, each with its holder's rank and the level after its Get. `counter` and `on` are the cells, and `turning` says whether any of
--- them has a turn of its counter to pass; `losses` are the lost activations by rank; `bits` and `waited` the event bits by rank, and the
--- mask of the latest Wait that did not go on at once.
+-- them has a turn of its counter to pass; `losses` are the lost activations, and the lost lines that are counted, by rank; `bits` and
+-- `waited` the event bits by rank, and the mask of the latest Wait that did not go on at once.
 pub record Model : Type 0 where
   pub core : Core
   pub held : ℕ
@@ -115,6 +115,9 @@ withRest m ns os w ls =
 
 abbrev pub withCells : Model → List ℕ → List ℕ → Bool → Model
 withCells m ns os w = withRest m ns os w (m .losses)
+
+abbrev pub withLosses : Model → List ℕ → Model
+withLosses m ls = withRest m (m .counter) (m .on) (m .turning) ls
 
 -- another core, and other event bits and masks by rank
 abbrev pub withBits : Model → Core → List ℕ → List ℕ → Model

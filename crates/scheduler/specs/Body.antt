@@ -46,7 +46,7 @@ competes started = true
 competes (waiting w) = false
 
 -- `pending`: for a started ISR, whether a request waits. `held`: the resources it holds, the most recently taken first.
--- `losses`: lost activations. `bits`: the event bits of an extended task.
+-- `losses`: lost activations, and where they are counted lost lines. `bits`: the event bits of an extended task.
 pub record Body : Type 0 where
   pub phase : Phase
   pub pending : Bool

@@ -2,18 +2,20 @@
 --
 --   checksFor c k s e   the column "statuses in order": the tests that the event e has to pass while k runs, each with the status that it gives
 --   effectFor c k s e   the column "effect": the state that e leaves where its status is 0
+--   refusalOf c s st e  the state that it leaves where its status is another, st
 --   checksOf, statusOf, effectOf c s e   the same while whoever is chosen runs; "the first status that applies is given"
 --
--- In order: the tests, the first column, each event's effect, the second, both while the chosen one runs. `event-table` (proofs/Theorems.antt) is the first column with its
+-- In order: the tests, the first column, each event's effect, the second, what a refused event leaves, and both columns while the chosen one
+-- runs. `event-table` (proofs/Theorems.antt) is the first column with its
 -- numbers written out. Assumes nothing.
 use Prim.Native.Nat.{ℕ, _+_}
-use mathlib.Core.Bool.{Bool, true, false, not, _&&_, _||_}
+use mathlib.Core.Bool.{Bool, true, false, cond, not, _&&_, _||_}
 use mathlib.Core.List.{List, [], _∷_}
 use lib.Dec.{ltb, leb, eqb}
 use Rattle.config.specs.declared.Config.{Config}
-use Rattle.config.specs.Meaning.{isTask, isIsr, isExtended, priorityOf, ceiling, smallestOffset}
+use Rattle.config.specs.Meaning.{countsLines, isTask, isIsr, isExtended, priorityOf, ceiling, smallestOffset}
 use Rattle.scheduler.specs.Status.{Check, callLevel, noSuch, limitReached, access, noFunction, holdsResource, wrongState, badDelay, _gives_, firstGiven}
-use Rattle.scheduler.specs.Body.{Phase, suspended, ready, started, waiting, isSuspended, Body, holds, activated, finished, requested, gets, releases, waits, receives, clears}
+use Rattle.scheduler.specs.Body.{Phase, suspended, ready, started, waiting, isSuspended, Body, holds, activated, finished, requested, gets, releases, loses, waits, receives, clears}
 use Rattle.scheduler.specs.Choice.{Candidate, isNobody}
 use Rattle.scheduler.specs.State.{State, stopped, running, isRunning, bodyOf, tableOf, changing, withTable, runner, heldIn}
 use Rattle.scheduler.specs.Event.{Event, Activate, Finish, Chain, Get, Release, Tick, Line, Start, Stop, Wait, Set, Clear}
@@ -140,6 +142,22 @@ effectFor c k s (Stop t) = stop t s
 effectFor c k s (Wait w) = wait (k .number) w s
 effectFor c k s (Set t w) = setEvent t w s
 effectFor c k s (Clear w) = clear (k .number) w s
+
+-- "A status other than 0 changes nothing", but "From edition two a Line that meets a waiting request adds to that ISR's loss count .. besides
+-- giving status 4"
+abbrev pub refusalOf : Config → State → ℕ → Event → State
+refusalOf c s st (Activate t) = s
+refusalOf c s st Finish = s
+refusalOf c s st (Chain t) = s
+refusalOf c s st (Get r) = s
+refusalOf c s st (Release r) = s
+refusalOf c s st Tick = s
+refusalOf c s st (Line i) = cond (countsLines c && eqb st limitReached) (changing i loses s) s
+refusalOf c s st (Start t d) = s
+refusalOf c s st (Stop t) = s
+refusalOf c s st (Wait w) = s
+refusalOf c s st (Set t w) = s
+refusalOf c s st (Clear w) = s
 
 -- "nobody runs"
 abbrev pub nobodyRuns : Config → State → Bool

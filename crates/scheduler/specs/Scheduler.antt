@@ -7,18 +7,20 @@
 --
 -- Assumes nothing.
 use Prim.Native.Nat.{ℕ}
-use mathlib.Core.Bool.{Bool, false, cond, not, _&&_}
+use mathlib.Core.Path.{_≡_}
+use mathlib.Core.Bool.{Bool, true, false, cond, not, _&&_}
 use mathlib.Core.List.{List, [], _∷_, map}
 use lib.Dec.{eqb}
 use lib.ListN.{length, take, replicate}
 use Rattle.config.specs.declared.Config.{Config}
-use Rattle.scheduler.specs.Status.{done, firstGiven}
+use Rattle.config.specs.Meaning.{countsLines}
+use Rattle.scheduler.specs.Status.{done, limitReached, firstGiven}
 use Rattle.scheduler.specs.Body.{started, Body, become, activated}
 use Rattle.scheduler.specs.Choice.{Candidate, Tie, byHolding, isNobody}
 use Rattle.scheduler.specs.State.{stopped, State, noBody, changing, runnerBy, runner}
 pub use Rattle.scheduler.specs.Event.{Event, Activate, Finish, Chain, Get, Release, Tick, Line, Start, Stop, Wait, Set, Clear}
 use Rattle.scheduler.specs.Event.{isTick}
-use Rattle.scheduler.specs.Call.{checksFor, effectFor}
+use Rattle.scheduler.specs.Call.{checksFor, effectFor, refusalOf}
 use Rattle.scheduler.specs.Tick.{counted, dues}
 
 -- what is seen of an event: its answer, every body's losses after it, and for each entry whether it was due at it
@@ -76,19 +78,28 @@ noneDue c s = replicate (length (dues c s)) false
 abbrev pub duesAt : Config → State → Event → List Bool
 duesAt c s e = cond (isTick e) (dues c (counted s)) (noneDue c s)
 
--- "only 0 changes anything": st is the event's status, s′ the state that it leaves where st is 0, s that before it
-abbrev pub attempted : State → ℕ → State → State
-attempted s st s′ = cond (eqb st done) s′ s
+-- while k runs: "the first status that applies is given", and the state that an event leaves before the dispatch
+abbrev pub statusFor : Config → Candidate → State → Event → ℕ
+statusFor c k s e = firstGiven (checksFor c k s e)
+
+abbrev pub leavesFor : Config → Candidate → State → Event → State
+leavesFor c k s e = cond (eqb (statusFor c k s e) done) (effectFor c k s e) (refusalOf c s (statusFor c k s e) e)
+
+abbrev pub leaves : Config → State → Event → State
+leaves c s e = leavesFor c (runner c s) s e
 
 unfoldable pub stepBy : Tie → Config → State → Event → Stepped
 stepBy q c s e =
     let k = runnerBy q c s in
-    let st = firstGiven (checksFor c k s e) in
-    let x = attempted s st (effectFor c k s e) in
-    endingTo (runnerBy q c x) st (duesAt c s e) x
+    let x = leavesFor c k s e in
+    endingTo (runnerBy q c x) (statusFor c k s e) (duesAt c s e) x
 
 abbrev pub step : Config → State → Event → Stepped
 step = stepBy byHolding
+
+-- the event e, met in the state s, is a Line of the ISR i that is lost and counted
+abbrev pub LostLine : Config → State → Event → ℕ → Type 0
+LostLine c s e i = (countsLines c ≡ true) × (e ≡ Line i) × (step c s e .seen .status ≡ limitReached)
 
 -- "Fresh start: autostart tasks are ready, the best one begins, all losses are 0, tables stopped"
 abbrev pub newBody : ℕ → Body
