@@ -10,12 +10,12 @@ use native.Mathlib.Omega.{arith}
 use borrow.Author.Tests.{leb-false, ltb-false, eqb-false, ne-eqb, not-false}
 use lib.Dec.{ltb, eqb}
 use Rattle.config.specs.declared.Config.{Config}
-use Rattle.config.specs.Meaning.{isTask, isIsr, priorityOf, ceiling, smallestOffset}
+use Rattle.config.specs.Meaning.{isTask, isIsr, isExtended, priorityOf, ceiling, smallestOffset}
 use Rattle.scheduler.specs.Status.{Check, done, firstGiven, NoneFails}
-use Rattle.scheduler.specs.Body.{Phase, suspended, ready, started, isSuspended}
+use Rattle.scheduler.specs.Body.{Phase, suspended, ready, started, waiting, isSuspended, holds}
 use Rattle.scheduler.specs.State.{State, isRunning, bodyOf, tableOf, heldIn}
-use Rattle.scheduler.specs.Event.{Event, Activate, Finish, Chain, Get, Release, Tick, Line, Start, Stop}
-use Rattle.scheduler.specs.Call.{nobodyRuns, caller, calling, holds, active, latestIs, requestWaits, checksOf, activateStatus, finishStatus, chainStatus, getStatus, releaseStatus, lineStatus, longestDelay, startStatus, stopStatus}
+use Rattle.scheduler.specs.Event.{Event, Activate, Finish, Chain, Get, Release, Tick, Line, Start, Stop, Wait, Set, Clear}
+use Rattle.scheduler.specs.Call.{nobodyRuns, caller, calling, active, latestIs, requestWaits, checksOf, activateStatus, finishStatus, chainStatus, getStatus, releaseStatus, lineStatus, longestDelay, startStatus, stopStatus, waitStatus, setStatus, clearStatus}
 use Rattle.scheduler.specs.Scheduler.{step, stepBy}
 use Rattle.scheduler.specs.History.{AcceptedIn}
 use Rattle.scheduler.proofs.Effects.{clash}
@@ -69,6 +69,9 @@ refusing c s Tick = tt
 refusing c s (Line i) = omega arith
 refusing c s (Start t d) = omega arith
 refusing c s (Stop t) = omega arith
+refusing c s (Wait w) = omega arith
+refusing c s (Set t w) = omega arith
+refusing c s (Clear w) = omega arith
 
 pub accepted-none-fails : (c : Config) (s : State) (e : Event) → AcceptedIn c s e ↔ NoneFails (checksOf c s e)
 unfolding stepBy
@@ -93,6 +96,7 @@ inactive s t e = go (bodyOf s t .phase) e
     go suspended e = refl
     go ready e = absurd (true≢false e)
     go started e = absurd (true≢false e)
+    go (waiting w) e = absurd (true≢false e)
 
 module _ (c : Config) (s : State) where
   -- somebody runs, and t is a suspended task
@@ -153,3 +157,23 @@ module _ (c : Config) (s : State) where
   stop-passed t e =
       let p = all-passed _ (omega arith) e in
       (p .0, leb-false (c .tables) t (p .1 .0), not-false (isRunning (tableOf s t)) (p .1 .1 .0))
+
+  -- the runner is an extended task that holds no resource
+  pub wait-passed : (w : ℕ) → waitStatus c s w ≡ done
+      → (nobodyRuns c s ≡ false) × (isExtended c (caller c s) ≡ true) × (holds (calling c s .held) ≡ false)
+  wait-passed w e =
+      let p = all-passed _ (omega arith) e in
+      (p .0, not-false (isExtended c (caller c s)) (p .1 .0), p .1 .1 .0)
+
+  -- t is an extended task that isn't suspended
+  pub set-passed : (t w : ℕ) → setStatus c s t w ≡ done
+      → (nobodyRuns c s ≡ false) × (isTask c t ≡ true) × (isExtended c t ≡ true) × (active s t ≡ true)
+  set-passed t w e =
+      let p = all-passed _ (omega arith) e in
+      (p .0, not-false (isTask c t) (p .1 .0), not-false (isExtended c t) (p .1 .1 .0), not-false (active s t) (p .1 .1 .1 .0))
+
+  -- the runner is an extended task
+  pub clear-passed : (w : ℕ) → clearStatus c s w ≡ done → (nobodyRuns c s ≡ false) × (isExtended c (caller c s) ≡ true)
+  clear-passed w e =
+      let p = all-passed _ (omega arith) e in
+      (p .0, not-false (isExtended c (caller c s)) (p .1 .0))

@@ -15,12 +15,13 @@ use lib.Seq.{getD-set-same, getD-set-other, map-set-same}
 use Rattle.number.proofs.Cases.{by-eq}
 use Rattle.config.specs.declared.Config.{Config}
 use Rattle.config.specs.Meaning.{countsLines}
+use Rattle.scheduler.specs.Bits.{anySet}
 use Rattle.scheduler.specs.Status.{done, limitReached}
-use Rattle.scheduler.specs.Body.{isStarted, Body, ready, started, become, finished, requested, gets, releases, activatedByEntry, loses}
+use Rattle.scheduler.specs.Body.{hasBegun, Body, started, waiting, become, activated, ended, finished, requested, gets, releases, activatedByEntry, loses, waits, receives, clears}
 use Rattle.scheduler.specs.State.{State, Table, stopped, noBody, bodyOf, changing, withTable, runner}
 use Rattle.scheduler.specs.Call.{caller, finish, statusOf, effectOf, refusalOf}
 use Rattle.scheduler.specs.Tick.{counting, counted, activatingDue, dues, ticked}
-use Rattle.scheduler.specs.Event.{Event, Activate, Finish, Chain, Get, Release, Tick, Line, Start, Stop, isTick}
+use Rattle.scheduler.specs.Event.{Event, Activate, Finish, Chain, Get, Release, Tick, Line, Start, Stop, Wait, Set, Clear, isTick}
 use Rattle.scheduler.specs.Scheduler.{begins, dispatched, lossesOf, newBody, leaves, step, stepBy, LostLine, fresh, after, afterBy}
 
 module _ (i : ℕ) (f : Body → Body) (s : State) where
@@ -43,14 +44,19 @@ clash e = omega arith
 abbrev pub KeepsLosses : (Body → Body) → Type 0
 KeepsLosses f = (b : Body) → f b .losses ≡ b .losses
 
+-- of two bodies with the same losses whichever
+cond-losses : (p : Bool) (x y : Body) (n : ℕ) → x .losses ≡ n → y .losses ≡ n → cond p x y .losses ≡ n
+cond-losses true x y n h k = h
+cond-losses false x y n h k = k
+
+pub finished-losses : KeepsLosses finished
+finished-losses b = cond-losses (b .pending) (activated (ended b)) (ended b) (b .losses) refl refl
+
 requested-losses : KeepsLosses requested
-requested-losses b = go (isStarted (b .phase))
-  where
-    go : (p : Bool)
-        → cond p (record { phase = started; pending = true; held = b .held; losses = b .losses }) (become ready b) .losses
-        ≡ b .losses
-    go true = refl
-    go false = refl
+requested-losses b = cond-losses (hasBegun (b .phase)) _ (activated b) (b .losses) refl refl
+
+waits-losses : (w : ℕ) → KeepsLosses (waits w)
+waits-losses w b = cond-losses (anySet (b .bits) w) b (become (waiting w) b) (b .losses) refl refl
 
 -- what the effects keep: each changes bodies and leaves their losses, or changes a table, or is that of a Tick
 pub effectOf-keeps : (c : Config) (s : State) (P : State → Type 0)
@@ -60,16 +66,19 @@ pub effectOf-keeps : (c : Config) (s : State) (P : State → Type 0)
     → (e : Event)
     → (e ≡ Tick → P (ticked c s))
     → P (effectOf c s e)
-effectOf-keeps c s P on-body on-table p (Activate t) tick = on-body t (become ready) s (λ b. refl) p
-effectOf-keeps c s P on-body on-table p Finish tick = on-body (caller c s) finished s (λ b. refl) p
+effectOf-keeps c s P on-body on-table p (Activate t) tick = on-body t activated s (λ b. refl) p
+effectOf-keeps c s P on-body on-table p Finish tick = on-body (caller c s) finished s finished-losses p
 effectOf-keeps c s P on-body on-table p (Chain t) tick =
-    on-body t (become ready) (finish c s) (λ b. refl) (on-body (caller c s) finished s (λ b. refl) p)
+    on-body t activated (finish (caller c s) s) (λ b. refl) (on-body (caller c s) finished s finished-losses p)
 effectOf-keeps c s P on-body on-table p (Get r) tick = on-body (caller c s) (gets r) s (λ b. refl) p
 effectOf-keeps c s P on-body on-table p (Release r) tick = on-body (caller c s) releases s (λ b. refl) p
 effectOf-keeps c s P on-body on-table p Tick tick = tick refl
 effectOf-keeps c s P on-body on-table p (Line i) tick = on-body i requested s requested-losses p
 effectOf-keeps c s P on-body on-table p (Start t d) tick = on-table t _
 effectOf-keeps c s P on-body on-table p (Stop t) tick = on-table t _
+effectOf-keeps c s P on-body on-table p (Wait w) tick = on-body (caller c s) (waits w) s (waits-losses w) p
+effectOf-keeps c s P on-body on-table p (Set t w) tick = on-body t (receives w) s (λ b. refl) p
+effectOf-keeps c s P on-body on-table p (Clear w) tick = on-body (caller c s) (clears w) s (λ b. refl) p
 
 -- what a refusal keeps: it leaves the state, or is that of a lost line that is counted
 pub refusalOf-keeps : (c : Config) (s : State) (P : State → Type 0) → P s → (st : ℕ) (e : Event)
@@ -91,6 +100,9 @@ refusalOf-keeps c s P p st (Line i) lost = go (countsLines c) refl
     go false e = p
 refusalOf-keeps c s P p st (Start t d) lost = p
 refusalOf-keeps c s P p st (Stop t) lost = p
+refusalOf-keeps c s P p st (Wait w) lost = p
+refusalOf-keeps c s P p st (Set t w) lost = p
+refusalOf-keeps c s P p st (Clear w) lost = p
 
 -- an event is a Tick or not
 pub by-tick : {C : Type 0} (e : Event) → (e ≡ Tick → C) → (isTick e ≡ false → C) → C
@@ -103,6 +115,9 @@ by-tick Tick f g = f refl
 by-tick (Line i) f g = g refl
 by-tick (Start t d) f g = g refl
 by-tick (Stop t) f g = g refl
+by-tick (Wait w) f g = g refl
+by-tick (Set t w) f g = g refl
+by-tick (Clear w) f g = g refl
 
 pub no-tick : (e : Event) → isTick e ≡ false → e ≢ Tick
 no-tick e h q = true≢false (sym (ap isTick q) ∙ h)

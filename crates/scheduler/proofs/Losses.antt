@@ -13,7 +13,7 @@ use lib.ListN.{length, getD, List·getD-eq-default, List·getD-map, take, replic
 use Rattle.number.proofs.Cases.{by-lt, by-eq}
 use Rattle.config.specs.declared.Config.{Config}
 use Rattle.scheduler.specs.Status.{done}
-use Rattle.scheduler.specs.Body.{Body, ready, suspended, isSuspended, become, mostLosses, losing, loses, activatedByEntry}
+use Rattle.scheduler.specs.Body.{Body, suspended, isSuspended, activated, mostLosses, losing, loses, activatedByEntry}
 use Rattle.scheduler.specs.State.{State, stopped, noBody, bodyOf, changing}
 use Rattle.scheduler.specs.Event.{Event}
 use Rattle.scheduler.specs.Tick.{counted, dues, activatingDue, ticked, naming, dueFor}
@@ -40,7 +40,7 @@ activatingDue-times t (true ∷ ds) (u ∷ us) s fits =
 activatingDue-times t (false ∷ ds) (u ∷ us) s fits = activatingDue-times t ds us s fits
 
 withLosses : Body → ℕ → Body
-withLosses b n = record { phase = b .phase; pending = b .pending; held = b .held; losses = n }
+withLosses b n = record { phase = b .phase; pending = b .pending; held = b .held; losses = n; bits = b .bits }
 
 -- a body that isn't suspended loses them all
 times-active : (n : ℕ) (b : Body) → isSuspended (b .phase) ≡ false → b .losses ≤ mostLosses → times n b ≡ losing n b
@@ -53,11 +53,11 @@ times-active (suc n) b h few =
     rw h (times-active n (loses b) h (omega arith) ∙ ap (withLosses b) one-more)
 
 -- a suspended one is ready after the first, and loses the others
-times-suspended : (n : ℕ) (b : Body) → b .phase ≡ suspended → b .losses ≤ mostLosses → times (suc n) b ≡ losing n (become ready b)
+times-suspended : (n : ℕ) (b : Body) → b .phase ≡ suspended → b .losses ≤ mostLosses → times (suc n) b ≡ losing n (activated b)
 unfolding times
 times-suspended n b h few =
-    let first : activatedByEntry b ≡ become ready b = rw h in
-    ap (times n) first ∙ times-active n (become ready b) refl few
+    let first : activatedByEntry b ≡ activated b = rw h in
+    ap (times n) first ∙ times-active n (activated b) refl few
 
 -- no count is above 65,535
 abbrev FewLosses : State → Type 0
@@ -66,7 +66,7 @@ FewLosses s = (i : ℕ) → bodyOf s i .losses ≤ mostLosses
 entry-few : (b : Body) → b .losses ≤ mostLosses → activatedByEntry b .losses ≤ mostLosses
 entry-few b few = go (isSuspended (b .phase))
   where
-    go : (p : Bool) → cond p (become ready b) (loses b) .losses ≤ mostLosses
+    go : (p : Bool) → cond p (activated b) (loses b) .losses ≤ mostLosses
     go true = few
     go false = omega arith
 
@@ -105,7 +105,7 @@ module _ (c : Config) where
       new : State
       new = record { bodies = map newBody (take (c .bodies) (c .autostart)); tables = replicate (c .tables) stopped }
 
-      none : (a : Bool) → cond a (become ready noBody) noBody .losses ≤ mostLosses
+      none : (a : Bool) → cond a (activated noBody) noBody .losses ≤ mostLosses
       none true = lit≤ tt
       none false = lit≤ tt
 
@@ -118,7 +118,7 @@ module _ (c : Config) where
   pub tick-suspended : (es : List Event) (t k : ℕ) → t < length (after c (fresh c) es .bodies)
       → bodyOf (after c (fresh c) es) t .phase ≡ suspended
       → dueFor c (after c (fresh c) es) t ≡ suc k
-      → bodyOf (ticked c (after c (fresh c) es)) t ≡ losing k (become ready (bodyOf (after c (fresh c) es) t))
+      → bodyOf (ticked c (after c (fresh c) es)) t ≡ losing k (activated (bodyOf (after c (fresh c) es) t))
   tick-suspended es t k fits h n =
       activatingDue-times t (dues c (counted s)) (c .task) (counted s) fits
       ∙ ap (λ m. times m (bodyOf s t)) n

@@ -2,26 +2,26 @@
 --
 -- In order: after a refusal comes the dispatch alone; after a dispatch the chosen body has begun, and is chosen again; so the next dispatch
 -- does nothing; and a loss has no part in who runs. Assumes nothing.
-use Prim.Native.Nat.{ℕ, _+_, _<_, min}
+use Prim.Native.Nat.{ℕ, _+_, min}
 use mathlib.Core.Path.{_≡_, refl, sym, ap, _∙_}
-use mathlib.Core.Bool.{Bool, true, false, true≢false, not, _&&_, _||_, or-false}
-use mathlib.Core.List.{List, [], _∷_, map}
+use mathlib.Core.Bool.{Bool, true, false, true≢false, cond, not, _&&_, _||_, or-false}
+use mathlib.Core.List.{List, [], _∷_}
 use mathlib.Core.Logic.{_≢_}
 use native.Mathlib.Omega.{arith}
-use borrow.Author.Tests.{eq-eqb, ne-eqb, eqb-false}
+use borrow.Author.Tests.{eq-eqb, ne-eqb}
 use lib.Dec.{eqb}
-use lib.ListN.{length, set, take, replicate}
+use lib.ListN.{set}
 use lib.Seq.{set-getD}
 use Rattle.config.specs.declared.Config.{Config}
 use Rattle.scheduler.specs.Status.{done, limitReached}
-use Rattle.scheduler.specs.Body.{Phase, suspended, ready, started, isSuspended, isStarted, Body, current, become, mostLosses, loses}
-use Rattle.scheduler.specs.Choice.{Candidate, isNobody, candidate}
-use Rattle.scheduler.specs.State.{State, stopped, noBody, bodyOf, changing, runner}
+use Rattle.scheduler.specs.Body.{Phase, suspended, ready, started, waiting, isStarted, competes, Body, holds, current, become, mostLosses, loses}
+use Rattle.scheduler.specs.Choice.{Candidate, isNobody, candidate, byHolding, goesBefore, preferred}
+use Rattle.scheduler.specs.State.{State, noBody, bodyOf, changing, runner}
 use Rattle.scheduler.specs.Event.{Event, Line}
 use Rattle.scheduler.specs.Call.{statusOf, refusalOf}
-use Rattle.scheduler.specs.Scheduler.{begins, dispatched, markOf, newBody, leaves, step, stepBy, LostLine, fresh, after, afterBy}
-use Rattle.scheduler.proofs.Choice.{contender, weight, weight-before, chosen-weight, candidate-active, chosen-best, chosen-alike, Taken, no-one, body, chosen-from}
-use Rattle.scheduler.proofs.Effects.{bodyOf-changing-same, bodyOf-changing-other, refusalOf-keeps}
+use Rattle.scheduler.specs.Scheduler.{begins, dispatched, leaves, step, stepBy, LostLine, unstarted, fresh, after, afterBy}
+use Rattle.scheduler.proofs.Choice.{contender, candidate-active, chosen-mapped, chosen-alike, Taken, no-one, body, chosen-from}
+use Rattle.scheduler.proofs.Effects.{refusalOf-keeps}
 
 pub refused-leaves : (c : Config) (s : State) (e : Event) → statusOf c s e ≢ done → leaves c s e ≡ refusalOf c s (statusOf c s e) e
 refused-leaves c s e refused = rw (ne-eqb (statusOf c s e) done refused)
@@ -39,7 +39,7 @@ dispatched-same c s h = rw h
 
 -- the candidate x, begun
 abbrev pub onceBegun : Candidate → Candidate
-onceBegun x = record { number = x .number; level = x .level; began = x .began || begins x }
+onceBegun x = record { number = x .number; level = x .level; began = x .began || begins x; holder = x .holder }
 
 pub begins-some : (x : Candidate) → begins x ≡ true → (isNobody x ≡ false) × (x .began ≡ false)
 begins-some x h = both (isNobody x) (x .began) h
@@ -57,55 +57,75 @@ begins-onceBegun x = both (isNobody x) (x .began)
     both false true = refl
     both false false = refl
 
+-- A body that begins is to the choice what it was but for `began`, on which the choice does not rest: x begun, where it is the body k
+abbrev beginning : ℕ → Candidate → Candidate
+beginning k x = record { number = x .number; level = x .level; began = x .began || (not (isNobody x) && eqb (x .number) k); holder = x .holder }
+
+beginning-preferred : (k : ℕ) (x y : Candidate) → preferred byHolding (beginning k x) (beginning k y) ≡ beginning k (preferred byHolding x y)
+beginning-preferred k x y = go (goesBefore byHolding y x)
+  where
+    go : (b : Bool) → cond b (beginning k y) (beginning k x) ≡ beginning k (cond b y x)
+    go true = refl
+    go false = refl
+
+began-same : (x : Candidate) (b : Bool) → b ≡ x .began → record { number = x .number; level = x .level; began = b; holder = x .holder } ≡ x
+began-same x b e i = record { number = x .number; level = x .level; began = e i; holder = x .holder }
+
+-- another body stays what it is
+beginning-other : (c : Config) (k j : ℕ) (b : Body) → j ≢ k → beginning k (candidate c j b (b .phase)) ≡ candidate c j b (b .phase)
+unfolding candidate
+beginning-other c k j b d = go (b .phase)
+  where
+    never : (p q : Bool) → q ≡ false → p && q ≡ false
+    never true q e = e
+    never false q e = refl
+
+    go : (p : Phase) → beginning k (candidate c j b p) ≡ candidate c j b p
+    go suspended = refl
+    go ready = began-same (candidate c j b ready) (not (eqb (current c j b) 0) && eqb j k) (never (not (eqb (current c j b) 0)) (eqb j k) (ne-eqb j k d))
+    go started = refl
+    go (waiting w) = refl
+
 -- the runner of s is the body k, which begins
-module _ (c : Config) (s : State) (k : ℕ) (fits : k < length (s .bodies)) (active : isSuspended (bodyOf s k .phase) ≡ false)
+module _ (c : Config) (s : State) (k : ℕ) (active : competes (bodyOf s k .phase) ≡ true)
     (taken : runner c s ≡ contender c (s .bodies) k) (begin : begins (runner c s) ≡ true)
   where
-    begun : Candidate
-    begun = record { number = k; level = current c k (bodyOf s k); began = true }
-
-    now : State
-    now = changing k (become started) s
-
-    runner-is : runner c s ≡ record { number = k; level = current c k (bodyOf s k); began = isStarted (bodyOf s k .phase) }
+    runner-is : runner c s ≡ record { number = k; level = current c k (bodyOf s k); began = isStarted (bodyOf s k .phase); holder = holds (bodyOf s k .held) }
     runner-is = taken ∙ candidate-active c k (bodyOf s k) (bodyOf s k .phase) active
 
-    same-level : runner c s .level ≡ current c k (bodyOf s k)
-    same-level = ap (λ x. x .level) runner-is
+    number-is : runner c s .number ≡ k
+    number-is = ap (λ x. x .number) runner-is
 
-    contends : contender c (now .bodies) k ≡ begun
-    unfolding candidate now begun
-    contends = ap (λ b. candidate c k b (b .phase)) (bodyOf-changing-same k (become started) s fits)
+    dispatched-now : dispatched c s ≡ changing k (become started) s
+    dispatched-now = rw begin (ap (λ j. changing j (become started) s) number-is)
 
-    someone : current c k (bodyOf s k) ≢ 0
-    someone = omega (arith, eqb-false (runner c s .level) 0 (begins-some (runner c s) begin .0), same-level)
+    -- the runner, begun
+    onceBegun-is : beginning k (runner c s) ≡ onceBegun (runner c s)
+    onceBegun-is =
+        ap (λ (b : Bool). record { number = runner c s .number; level = runner c s .level; began = runner c s .began || b; holder = runner c s .holder })
+        (ap (λ a. not a && eqb (runner c s .number) k) (begins-some (runner c s) begin .0) ∙ eq-eqb (runner c s .number) k number-is ∙ sym begin)
 
-    others-after : (i : ℕ) → i ≢ k → weight (contender c (now .bodies) i) < weight begun
-    unfolding now begun
-    others-after i other =
-        let w : weight (contender c (now .bodies) i) ≡ weight (contender c (s .bodies) i) = ap (λ b. weight (candidate c i b (b .phase))) (bodyOf-changing-other k (become started) s i other) in
-        let m : markOf (runner c s .began) ≡ 0 = ap markOf (begins-some (runner c s) begin .1) in
-        omega (arith, chosen-weight c (s .bodies) i, same-level)
+    begins-so : candidate c k (become started (bodyOf s k)) started ≡ beginning k (contender c (s .bodies) k)
+    unfolding candidate
+    begins-so =
+        sym (
+        ap (beginning k) (sym taken) ∙ onceBegun-is
+        ∙ ap onceBegun runner-is
+        ∙ ap (λ (b : Bool). record { number = k; level = current c k (bodyOf s k); began = b; holder = holds (bodyOf s k .held) })
+        (ap (λ x. x .began || begins x) (sym runner-is) ∙ rw begin or-true)
+        )
+      where
+        or-true : runner c s .began || true ≡ true
+        or-true = go (runner c s .began)
+          where
+            go : (b : Bool) → b || true ≡ true
+            go true = refl
+            go false = refl
 
-    chosen-again : runner c now ≡ begun
-    unfolding now begun
+    chosen-again : runner c (changing k (become started) s) ≡ onceBegun (runner c s)
     chosen-again =
-        chosen-best c (now .bodies) k (rw contends (ne-eqb (current c k (bodyOf s k)) 0 someone))
-        (λ i h other p. rw contends (weight-before begun (contender c (now .bodies) i) (others-after i other)))
-        ∙ contends
-
-    dispatched-now : dispatched c s ≡ now
-    unfolding now
-    dispatched-now = rw begin (ap (λ j. changing j (become started) s) (ap (λ x. x .number) runner-is))
-
-    onceBegun-is : onceBegun (runner c s) ≡ begun
-    unfolding begun
-    onceBegun-is i =
-        record {
-          number = runner-is i .number;
-          level = same-level i;
-          began = (ap (λ b. b || begins (runner c s)) (begins-some (runner c s) begin .1) ∙ begin) i;
-        }
+        chosen-mapped byHolding c (beginning k) (beginning-preferred k) refl k (beginning-other c k) (become started (bodyOf s k)) (s .bodies) begins-so
+        ∙ onceBegun-is
 
 -- the dispatch makes the chosen body begin, and it is chosen again
 pub runner-dispatched : (c : Config) (s : State) → runner c (dispatched c s) ≡ onceBegun (runner c s)
@@ -113,10 +133,10 @@ runner-dispatched c s = go (begins (runner c s)) refl
   where
     chosen-begins : Taken c (s .bodies) (runner c s) → begins (runner c s) ≡ true → runner c (dispatched c s) ≡ onceBegun (runner c s)
     chosen-begins (no-one z) e = absurd (true≢false (rw z at (begins-some (runner c s) e .0)))
-    chosen-begins (body k h p z) e = ap (runner c) (dispatched-now c s k h p z e) ∙ chosen-again c s k h p z e ∙ sym (onceBegun-is c s k h p z e)
+    chosen-begins (body k h p z) e = ap (runner c) (dispatched-now c s k p z e) ∙ chosen-again c s k p z e
 
     go : (b : Bool) → begins (runner c s) ≡ b → runner c (dispatched c s) ≡ onceBegun (runner c s)
-    go true e = chosen-begins (chosen-from c (s .bodies)) e
+    go true e = chosen-begins (chosen-from byHolding refl c (s .bodies)) e
     go false e = rw (e, or-false)
 
 -- nobody is left to begin
@@ -125,7 +145,7 @@ dispatched-settled c s = ap begins (runner-dispatched c s) ∙ begins-onceBegun 
 
 module _ (c : Config) where
   pub settled-fresh : begins (runner c (fresh c)) ≡ false
-  settled-fresh = dispatched-settled c (record { bodies = map newBody (take (c .bodies) (c .autostart)); tables = replicate (c .tables) stopped })
+  settled-fresh = dispatched-settled c (unstarted c)
 
   pub settled-step : (s : State) (e : Event) → begins (runner c (step c s e .state)) ≡ false
   unfolding stepBy
@@ -148,12 +168,13 @@ module _ (c : Config) where
   -- a loss has no part in who runs
   runner-loses : (i : ℕ) (s : State) → runner c (changing i loses s) ≡ runner c s
   unfolding candidate
-  runner-loses i s = chosen-alike c loses (λ j b. same j b (b .phase)) (s .bodies) i
+  runner-loses i s = chosen-alike byHolding c loses (λ j b. same j b (b .phase)) (s .bodies) i
     where
       same : (j : ℕ) (b : Body) (p : Phase) → candidate c j (loses b) p ≡ candidate c j b p
       same j b suspended = refl
       same j b ready = refl
       same j b started = refl
+      same j b (waiting w) = refl
 
   pub lost-line : (s : State) (i : ℕ) → begins (runner c s) ≡ false → LostLine c s (Line i) i → step c s (Line i) .state ≡ changing i loses s
   unfolding stepBy
@@ -173,4 +194,4 @@ module _ (c : Config) where
       same : loses (bodyOf s i) ≡ bodyOf s i
       same =
           let n : min (bodyOf s i .losses + 1) mostLosses ≡ bodyOf s i .losses = omega (arith, full) in
-          ap (λ k. record { phase = bodyOf s i .phase; pending = bodyOf s i .pending; held = bodyOf s i .held; losses = k }) n
+          ap (λ k. record { phase = bodyOf s i .phase; pending = bodyOf s i .pending; held = bodyOf s i .held; losses = k; bits = bodyOf s i .bits }) n

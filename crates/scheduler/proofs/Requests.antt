@@ -3,31 +3,33 @@
 -- In order: who begins is not started; what ends a started ISR (`started-stays`); the two laws. Assumes nothing.
 use Prim.Native.Nat.{ℕ}
 use mathlib.Core.Path.{_≡_, refl, sym, ap, _∙_}
-use mathlib.Core.Bool.{Bool, true, false, true≢false, cond}
+use mathlib.Core.Bool.{Bool, true, false, true≢false, cond, _&&_}
 use mathlib.Core.Logic.{_≢_, _⊎_, inl, inr, ⊎-elim}
 use native.Mathlib.Omega.{arith}
-use borrow.Author.Tests.{eq-eqb, ne-eqb}
-use lib.Dec.{eqb}
-use lib.ListN.{length, List·getD-eq-default}
+use borrow.Author.Tests.{eqb-true, eq-eqb, ne-eqb}
+use lib.Dec.{ltb, eqb}
+use lib.ListN.{length, getD, List·getD-eq-default}
 use Rattle.number.proofs.Cases.{by-lt, by-eq}
 use Rattle.config.specs.declared.Config.{Config}
-use Rattle.config.specs.Meaning.{isIsr}
+use Rattle.config.specs.Meaning.{isr, extended, isIsr, isExtended}
 use Rattle.scheduler.specs.Status.{done}
-use Rattle.scheduler.specs.Body.{Body, Phase, suspended, ready, started, isSuspended, isStarted, become, loses, requested, gets, releases, activatedByEntry, finished}
+use Rattle.scheduler.specs.Body.{Body, Phase, suspended, ready, started, waiting, isSuspended, isStarted, hasBegun, activated, loses, requested, gets, releases, activatedByEntry, finished, waits, resumed, receives, clears}
+use Rattle.scheduler.specs.Bits.{withBits}
+use Rattle.scheduler.specs.Choice.{byHolding}
 use Rattle.scheduler.specs.State.{State, noBody, bodyOf, changing, runner}
-use Rattle.scheduler.specs.Event.{Event, Activate, Finish, Chain, Get, Release, Tick, Line, Start, Stop}
+use Rattle.scheduler.specs.Event.{Event, Activate, Finish, Chain, Get, Release, Tick, Line, Start, Stop, Wait, Set, Clear}
 use Rattle.scheduler.specs.Tick.{dues, counted}
 use Rattle.scheduler.specs.Call.{caller, finish, stop, statusOf, effectOf, refusalOf}
 use Rattle.scheduler.specs.Scheduler.{begins, markOf, leaves, step, stepBy}
 use Rattle.scheduler.specs.History.{AcceptedIn}
 use Rattle.scheduler.proofs.Choice.{Taken, no-one, body, chosen-from, candidate-active}
-use Rattle.scheduler.proofs.Checks.{activate-passed, chain-passed}
+use Rattle.scheduler.proofs.Checks.{activate-passed, chain-passed, wait-passed}
 use Rattle.scheduler.proofs.Effects.{bodyOf-changing-same, bodyOf-changing-other, refusalOf-keeps, activatingDue-keeps, cond-either}
 use Rattle.scheduler.proofs.Refusals.{begins-some, dispatched-same}
 
 -- the body that begins was not started
 begins-unstarted : (c : Config) (s : State) → begins (runner c s) ≡ true → isStarted (bodyOf s (runner c s .number) .phase) ≡ false
-begins-unstarted c s b = go (chosen-from c (s .bodies))
+begins-unstarted c s b = go (chosen-from byHolding refl c (s .bodies))
   where
     go : Taken c (s .bodies) (runner c s) → isStarted (bodyOf s (runner c s .number) .phase) ≡ false
     go (no-one z) = absurd (true≢false (rw z at (begins-some (runner c s) b .0)))
@@ -39,20 +41,47 @@ marked : (b : Bool) → markOf b ≡ 1 → b ≡ true
 marked true e = refl
 marked false e = absurd (omega arith)
 
+-- an ISR is no extended task
+isr-basic : (c : Config) (i : ℕ) → isIsr c i ≡ true → isExtended c i ≡ false
+isr-basic c i h = go (ltb i (c .bodies)) h
+  where
+    go : (b : Bool) → b && eqb (getD (c .kind) i 0) isr ≡ true → b && eqb (getD (c .kind) i 0) extended ≡ false
+    go true e =
+        let q = eqb-true (getD (c .kind) i 0) isr e in
+        ne-eqb (getD (c .kind) i 0) extended (λ z. absurd (omega (arith, q, z)))
+    go false e = refl
+
 -- a change that leaves a started body started
 abbrev KeepsStarted : (Body → Body) → Type 0
 KeepsStarted f = (b : Body) → isStarted (b .phase) ≡ true → isStarted (f b .phase) ≡ true
 
 requested-started : KeepsStarted requested
-requested-started b h = rw h
+requested-started b h = go (b .phase) h
+  where
+    go : (p : Phase) → isStarted p ≡ true
+        → isStarted (cond (hasBegun p) (record { phase = p; pending = true; held = b .held; losses = b .losses; bits = b .bits }) (activated b) .phase) ≡ true
+    go suspended e = absurd (true≢false (sym e))
+    go ready e = absurd (true≢false (sym e))
+    go started e = refl
+    go (waiting w) e = absurd (true≢false (sym e))
+
+receives-started : (w : ℕ) → KeepsStarted (receives w)
+receives-started w b h = go (b .phase) h
+  where
+    go : (p : Phase) → isStarted p ≡ true → isStarted (resumed (withBits (b .bits) w) p) ≡ true
+    go suspended e = absurd (true≢false (sym e))
+    go ready e = absurd (true≢false (sym e))
+    go started e = refl
+    go (waiting v) e = absurd (true≢false (sym e))
 
 entry-started : KeepsStarted activatedByEntry
 entry-started b h = go (b .phase) h
   where
-    go : (p : Phase) → isStarted p ≡ true → isStarted (cond (isSuspended p) (become ready b) (loses b) .phase) ≡ true
+    go : (p : Phase) → isStarted p ≡ true → isStarted (cond (isSuspended p) (activated b) (loses b) .phase) ≡ true
     go suspended e = absurd (true≢false (sym e))
     go ready e = absurd (true≢false (sym e))
     go started e = h
+    go (waiting w) e = absurd (true≢false (sym e))
 
 module _ (i : ℕ) where
   started-changing : (k : ℕ) (f : Body → Body) (s : State) → KeepsStarted f → isStarted (bodyOf s i .phase) ≡ true
@@ -69,23 +98,23 @@ module _ (i : ℕ) where
   started-other k f s other h = rw (bodyOf-changing-other k f s i (λ e. other (sym e))) h
 
 -- the ISR i is started, and stays so but for its own Finish
-module _ (c : Config) (s : State) (i : ℕ) (isr : isIsr c i ≡ true) (begun : isStarted (bodyOf s i .phase) ≡ true) where
+module _ (c : Config) (s : State) (i : ℕ) (irq : isIsr c i ≡ true) (begun : isStarted (bodyOf s i .phase) ≡ true) where
   -- a suspended body is another
   other : (t : ℕ) → bodyOf s t .phase ≡ suspended → t ≢ i
   other t h e = true≢false (sym begun ∙ ap (λ k. isStarted (bodyOf s k .phase)) (sym e) ∙ ap isStarted h)
 
   started-stays : (e : Event) → AcceptedIn c s e → ((e ≡ Finish) × (caller c s ≡ i)) ⊎ (isStarted (bodyOf (effectOf c s e) i .phase) ≡ true)
   unfolding stepBy
-  started-stays (Activate t) a = inr (started-other i t (become ready) s (other t (activate-passed c s t a .2)) begun)
+  started-stays (Activate t) a = inr (started-other i t activated s (other t (activate-passed c s t a .2)) begun)
   started-stays Finish a =
       by-eq (caller c s) i
       (λ same. inl (refl, same))
       (λ d. inr (started-other i (caller c s) finished s d begun))
   started-stays (Chain t) a =
       let p = chain-passed c s t a in
-      let not-caller : caller c s ≢ i = λ e. true≢false (sym isr ∙ ap (isIsr c) (sym e) ∙ p .1) in
+      let not-caller : caller c s ≢ i = λ e. true≢false (sym irq ∙ ap (isIsr c) (sym e) ∙ p .1) in
       let not-t : t ≢ i = by-eq t (caller c s) (λ same e. not-caller (sym same ∙ e)) (λ d. other t (p .4 d)) in
-      inr (started-other i t (become ready) (finish c s) not-t (started-other i (caller c s) finished s not-caller begun))
+      inr (started-other i t activated (finish (caller c s) s) not-t (started-other i (caller c s) finished s not-caller begun))
   started-stays (Get r) a = inr (started-changing i (caller c s) (gets r) s (λ b h. h) begun)
   started-stays (Release r) a = inr (started-changing i (caller c s) releases s (λ b h. h) begun)
   started-stays Tick a =
@@ -95,6 +124,11 @@ module _ (c : Config) (s : State) (i : ℕ) (isr : isIsr c i ≡ true) (begun : 
   started-stays (Line j) a = inr (started-changing i j requested s requested-started begun)
   started-stays (Start t d) a = inr begun
   started-stays (Stop t) a = inr begun
+  started-stays (Wait w) a =
+      let not-caller : caller c s ≢ i = λ e. true≢false (sym (wait-passed c s w a .1) ∙ ap (isExtended c) e ∙ isr-basic c i irq) in
+      inr (started-other i (caller c s) (waits w) s not-caller begun)
+  started-stays (Set t w) a = inr (started-changing i t (receives w) s (receives-started w) begun)
+  started-stays (Clear w) a = inr (started-changing i (caller c s) (clears w) s (λ b h. h) begun)
 
   pub begins-after-finish : (e : Event) → step c s e .seen .begun ≡ 1 → step c s e .seen .runner ≡ i
       → (e ≡ Finish) × (caller c s ≡ i) × AcceptedIn c s e

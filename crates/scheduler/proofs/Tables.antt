@@ -16,7 +16,7 @@ use Rattle.number.proofs.Cases.{by-eq}
 use Rattle.config.specs.declared.Config.{Config}
 use Rattle.scheduler.specs.Status.{done, firstGiven}
 use Rattle.scheduler.specs.State.{State, Table, stopped, running, tableOf, withTable}
-use Rattle.scheduler.specs.Event.{Event, Activate, Finish, Chain, Get, Release, Tick, Line, Start, Stop, isTick}
+use Rattle.scheduler.specs.Event.{Event, Activate, Finish, Chain, Get, Release, Tick, Line, Start, Stop, Wait, Set, Clear, isTick}
 use Rattle.scheduler.specs.Tick.{counting}
 use Rattle.scheduler.specs.Call.{statusOf, effectOf, refusalOf}
 use Rattle.scheduler.specs.Scheduler.{leaves, stepBy, fresh, after, afterBy}
@@ -100,6 +100,9 @@ module _ (c : Config) (t : ℕ) (s : State) where
   turn (Line i) n = passes (λ p a. clash (cc)) (λ q a. clash (cc)) (table-kept (Line i) refl)
   turn (Start u d) n = turn-start u d n
   turn (Stop u) n = turn-stop u n
+  turn (Wait w) n = passes (λ p a. clash (cc)) (λ q a. clash (cc)) (table-kept (Wait w) refl)
+  turn (Set u w) n = passes (λ p a. clash (cc)) (λ q a. clash (cc)) (table-kept (Set u w) refl)
+  turn (Clear w) n = passes (λ p a. clash (cc)) (λ q a. clash (cc)) (table-kept (Clear w) refl)
 
 -- none of e and es: neither e nor any of es
 module _ (P : Event → Type 0) (c : Config) (s : State) (e : Event) (es : List Event) where

@@ -4,7 +4,7 @@
 -- where losses come from; that d and n are counted, and entries due, as demand 3 says. `Choice` and `Checks` have more of who is chosen and
 -- of what an accepted call finds; `Examples` are worked lists of events. Assumes nothing.
 use Prim.Native.Nat.{ℕ, suc, _+_, _≤_, _<_, max}
-use mathlib.Core.Path.{_≡_, refl, ap}
+use mathlib.Core.Path.{_≡_, refl, ap, _∙_}
 use mathlib.Core.Bool.{true, false}
 use mathlib.Core.List.{List, [], _∷_, _++_, map}
 use mathlib.Core.Logic.{_≢_, _↔_}
@@ -14,10 +14,10 @@ use Rattle.config.specs.declared.Config.{Config}
 use Rattle.config.specs.Meaning.{isIsr, priorityOf, ceiling, firstOf}
 use Rattle.config.specs.Accepted as Configuration
 use Rattle.scheduler.specs.Status.{Check, done, NoneFails}
-use Rattle.scheduler.specs.Body.{Body, suspended, ready, isSuspended, isStarted, current, become, losing, loses, gets, releases}
-use Rattle.scheduler.specs.Choice.{Candidate, nobody, isNobody, candidate, goesBefore}
+use Rattle.scheduler.specs.Body.{Body, suspended, isSuspended, isStarted, competes, holds, current, activated, losing, loses, gets, releases}
+use Rattle.scheduler.specs.Choice.{Candidate, nobody, isNobody, candidate, byHolding, goesBefore}
 use Rattle.scheduler.specs.State.{State, Table, stopped, running, bodyOf, tableOf, changing, runner}
-use Rattle.scheduler.specs.Event.{Event, Activate, Finish, Chain, Get, Release, Tick, Line, Start, Stop}
+use Rattle.scheduler.specs.Event.{Event, Activate, Finish, Chain, Get, Release, Tick, Line, Start, Stop, Wait, Set, Clear}
 use Rattle.scheduler.specs.Tick.{ticked, dueFor}
 use Rattle.scheduler.specs.Call.{caller, checksOf}
 use Rattle.scheduler.specs.Scheduler.{begins, dispatched, lossesOf, step, stepBy, LostLine, fresh, seen, after}
@@ -37,27 +37,31 @@ use Rattle.scheduler.proofs.Entries as Entries
 abbrev pub candidateOf : Config → State → ℕ → Candidate
 candidateOf c s k = candidate c k (bodyOf s k) (bodyOf s k .phase)
 
--- "the body with the greatest current priority among ready and started ones runs; on equal priorities the one that already began"
-pub runner-greatest : (c : Config) (s : State) (k : ℕ) → isSuspended (bodyOf s k .phase) ≡ false → current c k (bodyOf s k) ≤ runner c s .level
-runner-greatest c s = Choice.chosen-greatest c (s .bodies)
+-- "the body with the greatest current priority among ready and started ones runs"
+pub runner-greatest : (c : Config) (s : State) (k : ℕ) → competes (bodyOf s k .phase) ≡ true → current c k (bodyOf s k) ≤ runner c s .level
+runner-greatest c s = Choice.chosen-greatest byHolding refl c (s .bodies)
 
-pub runner-began : (c : Config) (s : State) (k : ℕ) → isSuspended (bodyOf s k .phase) ≡ false → isStarted (bodyOf s k .phase) ≡ true
+-- "On equal current priority the body holding a resource goes first"
+pub runner-holder : (c : Config) (s : State) (k : ℕ) → competes (bodyOf s k .phase) ≡ true → holds (bodyOf s k .held) ≡ true
     → current c k (bodyOf s k) ≡ runner c s .level
-    → runner c s .began ≡ true
-runner-began c s = Choice.chosen-began c (s .bodies)
+    → runner c s .holder ≡ true
+runner-holder c s k active held =
+    Choice.chosen-tie byHolding refl c (s .bodies) k active
+    (ap (λ x. x .holder) (Choice.candidate-active c k (bodyOf s k) (bodyOf s k .phase) active) ∙ held)
 
 -- so one that goes before every other runs
 pub runner-best : (c : Config) (s : State) (k : ℕ) → isNobody (candidateOf c s k) ≡ false
-    → ((i : ℕ) → i < length (s .bodies) → i ≢ k → isSuspended (bodyOf s i .phase) ≡ false → goesBefore (candidateOf c s k) (candidateOf c s i) ≡ true)
+    → ((i : ℕ) → i < length (s .bodies) → i ≢ k → competes (bodyOf s i .phase) ≡ true
+    → goesBefore byHolding (candidateOf c s k) (candidateOf c s i) ≡ true)
     → runner c s ≡ candidateOf c s k
-runner-best c s = Choice.chosen-best c (s .bodies)
+runner-best c s = Choice.chosen-best byHolding refl c (s .bodies)
 
--- and nobody runs exactly where every body is suspended
-pub runner-nobody : (c : Config) (s : State) → ((i : ℕ) → i < length (s .bodies) → bodyOf s i .phase ≡ suspended) → runner c s ≡ nobody
-runner-nobody c s = Choice.chosen-nobody c (s .bodies)
+-- and nobody runs exactly where every body is suspended or waits
+pub runner-nobody : (c : Config) (s : State) → ((i : ℕ) → i < length (s .bodies) → competes (bodyOf s i .phase) ≡ false) → runner c s ≡ nobody
+runner-nobody c s = Choice.chosen-nobody byHolding refl c (s .bodies)
 
-pub runner-someone : (c : Config) (s : State) (k : ℕ) → isSuspended (bodyOf s k .phase) ≡ false → 1 ≤ priorityOf c k → isNobody (runner c s) ≡ false
-runner-someone c s = Choice.chosen-someone c (s .bodies)
+pub runner-someone : (c : Config) (s : State) (k : ℕ) → competes (bodyOf s k .phase) ≡ true → 1 ≤ priorityOf c k → isNobody (runner c s) ≡ false
+runner-someone c s = Choice.chosen-someone byHolding refl c (s .bodies)
 
 -- a Get raises the current priority to the ceiling, and the Release of the same resource undoes it
 pub current-gets : (c : Config) (i r : ℕ) (b : Body) → current c i (gets r b) ≡ max (ceiling c r) (current c i b)
@@ -70,7 +74,7 @@ releases-gets = Choice.releases-gets
 abbrev pub statuses : Config → State → Event → List ℕ
 statuses c s e = map (λ k. k .status) (checksOf c s e)
 
--- document 01's table of events, whole
+-- document 01's table of events, whole, with document 02's three more
 pub record EventTable (c : Config) (s : State) : Type 0 where
   pub one-activate : (t : ℕ) → statuses c s (Activate t) ≡ 2 ∷ 3 ∷ 4 ∷ []
   pub two-finish : statuses c s Finish ≡ 2 ∷ 6 ∷ []
@@ -81,6 +85,9 @@ pub record EventTable (c : Config) (s : State) : Type 0 where
   pub seven-line : (i : ℕ) → statuses c s (Line i) ≡ 3 ∷ 4 ∷ []
   pub eight-start : (t d : ℕ) → statuses c s (Start t d) ≡ 2 ∷ 3 ∷ 8 ∷ 7 ∷ []
   pub nine-stop : (t : ℕ) → statuses c s (Stop t) ≡ 2 ∷ 3 ∷ 5 ∷ []
+  pub ten-wait : (w : ℕ) → statuses c s (Wait w) ≡ 2 ∷ 1 ∷ 6 ∷ []
+  pub eleven-set : (t w : ℕ) → statuses c s (Set t w) ≡ 2 ∷ 3 ∷ 1 ∷ 7 ∷ []
+  pub twelve-clear : (w : ℕ) → statuses c s (Clear w) ≡ 2 ∷ 1 ∷ []
 
 pub event-table : (c : Config) (s : State) → EventTable c s
 event-table c s =
@@ -94,6 +101,9 @@ event-table c s =
       seven-line = λ i. refl;
       eight-start = λ t d. refl;
       nine-stop = λ t. refl;
+      ten-wait = λ w. refl;
+      eleven-set = λ t w. refl;
+      twelve-clear = λ w. refl;
     }
 
 -- an event is accepted exactly if none of its checks fails, and "the first status that applies is given"
@@ -172,7 +182,7 @@ losses-seen = Effects.losses-seen
 pub tick-suspended : (c : Config) (es : List Event) (t k : ℕ) → t < length (after c (fresh c) es .bodies)
     → bodyOf (after c (fresh c) es) t .phase ≡ suspended
     → dueFor c (after c (fresh c) es) t ≡ suc k
-    → bodyOf (ticked c (after c (fresh c) es)) t ≡ losing k (become ready (bodyOf (after c (fresh c) es) t))
+    → bodyOf (ticked c (after c (fresh c) es)) t ≡ losing k (activated (bodyOf (after c (fresh c) es) t))
 tick-suspended = Losses.tick-suspended
 
 pub tick-active : (c : Config) (es : List Event) (t : ℕ) → t < length (after c (fresh c) es .bodies)
