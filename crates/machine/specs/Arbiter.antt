@@ -14,7 +14,7 @@ use lib.Dec.{ltb, eqb}
 use lib.ListN.{getD}
 use Rattle.word.specs.Word.{has, with, without, union, intersection, winner}
 use Rattle.stack.specs.Stack.{topRow}
-use Rattle.machine.specs.Model.{Core, Picked, Model, Outcome, noRank, withCore, withRequest, doneWith}
+use Rattle.machine.specs.Model.{Core, Picked, Model, Outcome, noRank, withCore, withRequest, withEvents, doneWith}
 
 -- the ranks that ask for the processor: they wait to begin, or have begun and not ended, and their bodies do not wait
 abbrev pub bids : Core → ℕ
@@ -35,7 +35,6 @@ dispatching ps k =
       request = cond (beginning k) (without (k .request) (winner (bids k))) (k .request);
       started = with (k .started) (winner (bids k));
       enabled = k .enabled;
-      cleared = k .cleared;
       runner = winner (bids k);
       level = winning ps k;
     }
@@ -49,28 +48,27 @@ abbrev pub settled : List ℕ → Model → Outcome
 settled ps m = doneWith (withCore m (arbitrated ps (m .core) .core)) (arbitrated ps (m .core) .begun)
 
 -- the runner leaves, by its end or by a Wait: the level is left to whoever took the latest resource that is held, or to nobody; arbitration
--- follows. s, e and x: the words `started`, `enabled` and `cleared` then
-abbrev pub leftWith : Model → ℕ → ℕ → ℕ → Core
-leftWith m s e x =
+-- follows. s and e: the words `started` and `enabled` then
+abbrev pub leftWith : Model → ℕ → ℕ → Core
+leftWith m s e =
     record {
       request = m .core .request;
       started = s;
       enabled = e;
-      cleared = x;
       runner = topRow (m .holder);
       level = cond (eqb (topRow (m .holder)) noRank) 0 (topRow (m .raised));
     }
 
--- the runner has ended; its event bits count as 0 until they are set again
+-- the runner has ended, and its event bits count as 0 until they are set again: at its next activation none is set
 abbrev pub vacated : Model → Core
-vacated m = leftWith m (without (m .core .started) (m .core .runner)) (m .core .enabled) (with (m .core .cleared) (m .core .runner))
+vacated m = leftWith m (without (m .core .started) (m .core .runner)) (m .core .enabled)
+
+abbrev pub leaving : Model → Model
+leaving m = withEvents m (vacated m) (with (m .cleared) (m .core .runner)) (m .bits) (m .waited)
 
 -- the runner waits
 abbrev pub paused : Model → Core
-paused m = leftWith m (m .core .started) (without (m .core .enabled) (m .core .runner)) (m .core .cleared)
-
-abbrev pub leaving : Model → Model
-leaving m = withCore m (vacated m)
+paused m = leftWith m (m .core .started) (without (m .core .enabled) (m .core .runner))
 
 -- the body of rank r asked for
 abbrev pub requesting : ℕ → Model → Model

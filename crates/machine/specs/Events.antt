@@ -11,8 +11,7 @@ use Rattle.scheduler.specs.Status.{done, callLevel, noSuch, limitReached, acces
 use Rattle.scheduler.specs.Bits.{anySet, withBits, withoutBits}
 use Rattle.scheduler.specs.Call.{longestDelay}
 use Rattle.word.specs.Word.{has, with, without}
-use Rattle.machine.specs.Model.{Model, Outcome, noRank, withCore, withRequest, withEnabled, withRest, withCells, withLosses, doneWith, refusedWith}
-use Rattle.machine.specs.Model as Model
+use Rattle.machine.specs.Model.{Model, Outcome, noRank, withCore, withRequest, withEnabled, withRest, withCells, withLosses, withEvents, doneWith, refusedWith}
 use Rattle.machine.specs.Arbiter.{settled, leaving, paused, requesting}
 use Rattle.machine.specs.Resources.{holding, latest, getting, releasing}
 use Rattle.machine.specs.Cells.{switchOff, isOn, countersTicked, switchesTicked, someTurn, marks, countersStarted, switchesStarted, someLong, countersStopped, switched, Due, oneLost, requestsDue}
@@ -173,12 +172,11 @@ stop n fs es m t = attempt m (stopStatus n fs m t) (stopEffect fs es m t)
 
 -- the event bits of the body of rank r
 abbrev pub bitsAt : Model → ℕ → ℕ
-bitsAt m r = cond (has (m .core .cleared) r) 0 (getD (m .bits) r 0)
+bitsAt m r = cond (has (m .cleared) r) 0 (getD (m .bits) r 0)
 
 -- the event bits of the body of rank r become b, and e the word of those that do not wait
 abbrev pub storing : ℕ → ℕ → ℕ → Model → Model
-storing r b e m =
-    Model.withBits m (withEnabled (m .core) e (without (m .core .cleared) r)) (set (m .bits) r b) (m .waited)
+storing r b e m = withEvents m (withEnabled (m .core) e) (without (m .cleared) r) (set (m .bits) r b) (m .waited)
 
 -- Wait w
 abbrev pub waitStatus : ℕ → Model → ℕ
@@ -187,7 +185,7 @@ waitStatus xs m =
 
 -- the runner waits for a bit of w
 abbrev pub pausing : ℕ → Model → Model
-pausing w m = Model.withBits m (paused m) (m .bits) (set (m .waited) (m .core .runner) w)
+pausing w m = withEvents m (paused m) (m .cleared) (m .bits) (set (m .waited) (m .core .runner) w)
 
 -- "Wait on a bit already set goes on at once"
 abbrev pub waitEffect : List ℕ → Model → ℕ → Outcome

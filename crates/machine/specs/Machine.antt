@@ -33,7 +33,7 @@ use Rattle.machine.specs.Events.{waitStatus, waitEffect, setStatus, setE
 abbrev pub unstarted : ℕ → Model
 unstarted w =
     record {
-      core = record { request = w; started = 0; enabled = full; cleared = 0; runner = noRank; level = 0 };
+      core = record { request = w; started = 0; enabled = full; runner = noRank; level = 0 };
       held = 0;
       resource = emptyRow;
       holder = emptyRow;
@@ -42,6 +42,7 @@ unstarted w =
       on = replicate 64 switchOff;
       turning = false;
       losses = replicate 32 0;
+      cleared = 0;
       bits = replicate 32 0;
       waited = replicate 32 0;
     }

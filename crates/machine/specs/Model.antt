@@ -9,12 +9,11 @@ use Rattle.stack.specs.declared.Row.{Row}
 use Rattle.stack.specs.Stack.{none}
 
 -- The words, who runs and at which level: `request` has the ranks that wait to begin, `started` those that began and have not ended, `enabled`
--- those that do not wait for an event bit, `cleared` those whose event bits count as 0, whatever stands in the row of bits.
+-- those that do not wait for an event bit.
 pub record Core : Type 0 where
   pub request : ℕ
   pub started : ℕ
   pub enabled : ℕ
-  pub cleared : ℕ
   pub runner : ℕ
   pub level : ℕ
 
@@ -25,8 +24,9 @@ pub record Picked : Type 0 where
 
 -- What the machine keeps between events. `held`: the held resources as a word; `resource`, `holder`, `raised`: in the order taken, the
 -- latest on top, each with its holder's rank and the level after its Get. `counter` and `on` are the cells, and `turning` says whether any of
--- them has a turn of its counter to pass; `losses` are the lost activations, and the lost lines that are counted, by rank; `bits` and
--- `waited` the event bits by rank, and the mask of the latest Wait that did not go on at once.
+-- them has a turn of its counter to pass; `losses` are the lost activations, and the lost lines that are counted, by rank. `bits` are the
+-- event bits by rank, but of the ranks in the word `cleared` they count as 0; `waited` has by rank the mask of the latest Wait that did not go
+-- on at once.
 pub record Model : Type 0 where
   pub core : Core
   pub held : ℕ
@@ -37,6 +37,7 @@ pub record Model : Type 0 where
   pub on : List ℕ
   pub turning : Bool
   pub losses : List ℕ
+  pub cleared : ℕ
   pub bits : List ℕ
   pub waited : List ℕ
 
@@ -62,6 +63,7 @@ withCore m k =
       on = m .on;
       turning = m .turning;
       losses = m .losses;
+      cleared = m .cleared;
       bits = m .bits;
       waited = m .waited;
     }
@@ -69,15 +71,14 @@ withCore m k =
 -- the core with other requests
 abbrev pub withRequest : Core → ℕ → Core
 withRequest k w =
-    record { request = w; started = k .started; enabled = k .enabled; cleared = k .cleared; runner = k .runner; level = k .level }
+    record { request = w; started = k .started; enabled = k .enabled; runner = k .runner; level = k .level }
 
 abbrev pub withLevel : Core → ℕ → Core
 withLevel k l =
-    record { request = k .request; started = k .started; enabled = k .enabled; cleared = k .cleared; runner = k .runner; level = l }
+    record { request = k .request; started = k .started; enabled = k .enabled; runner = k .runner; level = l }
 
--- the core where the bodies of other ranks wait for event bits, and the event bits of other ranks count as 0
-abbrev pub withEnabled : Core → ℕ → ℕ → Core
-withEnabled k e x = record { request = k .request; started = k .started; enabled = e; cleared = x; runner = k .runner; level = k .level }
+abbrev pub withEnabled : Core → ℕ → Core
+withEnabled k w = record { request = k .request; started = k .started; enabled = w; runner = k .runner; level = k .level }
 
 -- another level, and other held resources: w as a word, the rows rs, hs and ls with their holders and levels
 abbrev pub withSlots : Model → ℕ → ℕ → Row → Row → Row → Model
@@ -92,6 +93,7 @@ withSlots m l w rs hs ls =
       on = m .on;
       turning = m .turning;
       losses = m .losses;
+      cleared = m .cleared;
       bits = m .bits;
       waited = m .waited;
     }
@@ -109,6 +111,7 @@ withRest m ns os w ls =
       on = os;
       turning = w;
       losses = ls;
+      cleared = m .cleared;
       bits = m .bits;
       waited = m .waited;
     }
@@ -119,9 +122,9 @@ withCells m ns os w = withRest m ns os w (m .losses)
 abbrev pub withLosses : Model → List ℕ → Model
 withLosses m ls = withRest m (m .counter) (m .on) (m .turning) ls
 
--- another core, and other event bits and masks by rank
-abbrev pub withBits : Model → Core → List ℕ → List ℕ → Model
-withBits m k bs ws =
+-- another core, and other event bits bs of which those of the ranks in x count as 0, and masks ws
+abbrev pub withEvents : Model → Core → ℕ → List ℕ → List ℕ → Model
+withEvents m k x bs ws =
     record {
       core = k;
       held = m .held;
@@ -132,6 +135,7 @@ withBits m k bs ws =
       on = m .on;
       turning = m .turning;
       losses = m .losses;
+      cleared = x;
       bits = bs;
       waited = ws;
     }
