@@ -6,4 +6,5 @@ pub mod Free
 pub mod Nest
 pub mod Cells
 pub mod Losses
+pub mod Bits
 pub mod Whole

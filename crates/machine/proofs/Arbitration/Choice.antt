@@ -16,26 +16,22 @@ use Rattle.number.proofs.Cases.{by-lt}
 use Rattle.config.specs.declared.Config.{Config}
 use Rattle.config.specs.Meaning.{priorityOf}
 use Rattle.plan.specs.declared.Plan.{Plan}
-use Rattle.scheduler.specs.Body.{Phase, suspended, ready, started, isSuspended, isStarted, Body, current}
-use Rattle.scheduler.specs.Choice.{nobody, chosen}
+use Rattle.scheduler.specs.Body.{Phase, suspended, ready, started, waiting, isStarted, competes, Body, holds, current}
+use Rattle.scheduler.specs.Choice.{byHolding, nobody, chosen}
 use Rattle.scheduler.specs.State.{among}
 use Rattle.scheduler.specs.Scheduler.{markOf}
-use Rattle.scheduler.proofs.Choice.{contender, weight, weight-before, chosen-best, chosen-nobody, current-own, current-free, candidate-active}
+use Rattle.scheduler.proofs.Choice.{contender, weight, markOf-le, weight-before, chosen-best, chosen-nobody, current-own, current-free, candidate-active}
 use Rattle.machine.specs.Model.{Model}
 use Rattle.plan.proofs.Fitted.{Fitted}
 use Rattle.machine.proofs.Relation.Words.{at}
 use Rattle.machine.proofs.Relation.Nest.{levelAt, Nested, Seats, by-among, nest-level}
 use Rattle.machine.proofs.Relation.Whole.{Tied, Calm}
 
--- a body is suspended, ready or started
-pub by-phase {ℓ} : {C : Type ℓ} (q : Phase) → (isSuspended q ≡ true → isStarted q ≡ false → C)
-    → (isSuspended q ≡ false → isStarted q ≡ false → C) → (isSuspended q ≡ false → isStarted q ≡ true → C) → C
-by-phase suspended f g h = f refl refl
-by-phase ready f g h = g refl refl
-by-phase started f g h = h refl refl
-
-pub active-of-started : (q : Phase) → isStarted q ≡ true → isSuspended q ≡ false
-active-of-started q s = by-phase q (λ _ n. absurd (true≢false (sym s ∙ n))) (λ a _. a) (λ a _. a)
+pub active-of-started : (q : Phase) → isStarted q ≡ true → competes q ≡ true
+active-of-started suspended s = absurd (true≢false (sym s))
+active-of-started ready s = absurd (true≢false (sym s))
+active-of-started started s = refl
+active-of-started (waiting w) s = absurd (true≢false (sym s))
 
 -- a body is in a list, or not
 by-in {ℓ} : {C : Type ℓ} (i : ℕ) (ns : List ℕ) → (among i ns ≡ true → C) → (among i ns ≡ false → C) → C
@@ -45,18 +41,15 @@ by-in {C = C} i ns f g = go (among i ns) refl
     go true e = f e
     go false e = g e
 
-mark-le : (b : Bool) → markOf b ≤ 1
-mark-le true = omega arith
-mark-le false = omega arith
-
 module _ {c : Config} {p : Plan} {rk : ℕ → ℕ} (fit : Fitted c p rk) {m : Model} {bs : List Body} {ns : List ℕ} (t : Tied c rk m bs ns) where
-  -- what a body that isn't suspended is to the choice
-  contends : (i : ℕ) → isSuspended (at bs i .phase) ≡ false
-      → contender c bs i ≡ record { number = i; level = current c i (at bs i); began = isStarted (at bs i .phase) }
+  -- what a body that is ready or started is to the choice
+  contends : (i : ℕ) → competes (at bs i .phase) ≡ true
+      → contender c bs i ≡ record { number = i; level = current c i (at bs i); began = isStarted (at bs i .phase); holder = holds (at bs i .held) }
   contends i a = candidate-active c i (at bs i) (at bs i .phase) a
 
-  weighs : (i : ℕ) → isSuspended (at bs i .phase) ≡ false → weight (contender c bs i) ≡ 2 * current c i (at bs i) + markOf (isStarted (at bs i .phase))
-  weighs i a = ap weight (contends i a)
+  weighs : (i : ℕ) → competes (at bs i .phase) ≡ true
+      → weight byHolding (contender c bs i) ≡ 2 * current c i (at bs i) + markOf (holds (at bs i .held))
+  weighs i a = ap (weight byHolding) (contends i a)
 
   -- the current priority of a body outside the nest is its own
   pub own-outside : (i : ℕ) → among i ns ≡ false → current c i (at bs i) ≡ priorityOf c i
@@ -71,29 +64,19 @@ module _ {c : Config} {p : Plan} {rk : ℕ → ℕ} (fit : Fitted c p rk) {m : M
       go [] k = k .1
       go (b ∷ ns) k = k .1 .0
 
-  -- of two started bodies that differ the one whose own priority is lower is below the other's
-  apart-from : (i b : ℕ) → i < c .bodies → b < c .bodies → i ≢ b → isStarted (at bs i .phase) ≡ true → isStarted (at bs b .phase) ≡ true
-      → priorityOf c i ≤ current c b (at bs b) → current c i (at bs i) < current c b (at bs b)
-  apart-from i b i< b< other s u le =
-      by-lt (priorityOf c i) (priorityOf c b)
-      (λ l. omega (arith, t .apart i b i< b< s u l, current-own c b (at bs b)))
-      (λ l. let ne : priorityOf c i ≢ priorityOf c b = λ e. other (fit .own-inj i b i< b< e) in
-      let below : priorityOf c b < priorityOf c i = omega arith in
-      absurd (omega (arith, t .apart b i b< i< u s below)))
-
   module _ (calm : Calm c (m .core .level) bs) where
     -- no body is above the level, so the first of the nest is chosen
-    pub chosen-seated : (b : ℕ) (rest : List ℕ) → ns ≡ b ∷ rest → chosen c bs ≡ record { number = b; level = current c b (at bs b); began = true }
+    pub chosen-seated : (b : ℕ) (rest : List ℕ) → ns ≡ b ∷ rest → chosen c bs ≡ record { number = b; level = current c b (at bs b); began = true; holder = holds (at bs b .held) }
     unfolding Nested levelAt
     chosen-seated b rest e =
-        chosen-best c bs b (rw (contends b act) (ne-eqb (current c b (at bs b)) 0 (λ z. absurd (omega (arith, z, own-some, current-own c b (at bs b))))))
-        (λ i i< other a. weight-before (contender c bs b) (contender c bs i) (lighter i (rw (t .size) at i<) other a))
+        chosen-best byHolding refl c bs b (rw (contends b act) (ne-eqb (current c b (at bs b)) 0 (λ z. absurd (omega (arith, z, own-some, current-own c b (at bs b))))))
+        (λ i i< other a. weight-before byHolding (contender c bs b) (contender c bs i) (lighter i (rw (t .size) at i<) other a))
         ∙ contends b act ∙ rw (k .1 .0)
       where
         k : Nested c bs (b ∷ rest)
         k = rw e at (t .nested)
 
-        act : isSuspended (at bs b .phase) ≡ false
+        act : competes (at bs b .phase) ≡ true
         act = active-of-started (at bs b .phase) (k .1 .0)
 
         own-some : 1 ≤ priorityOf c b
@@ -102,37 +85,41 @@ module _ {c : Config} {p : Plan} {rk : ℕ → ℕ} (fit : Fitted c p rk) {m : M
         level : m .core .level ≡ current c b (at bs b)
         level = level-is ∙ ap (levelAt c bs) e
 
-        heaviest : weight (contender c bs b) ≡ 2 * current c b (at bs b) + 1
-        heaviest = weighs b act ∙ rw (k .1 .0)
+        -- a body outside the nest holds nothing: it is below the level, or the first of the nest was raised to it and holds
+        loose-lighter : (i : ℕ) → i < c .bodies → i ≢ b → priorityOf c i ≤ current c b (at bs b) → (rs : List ℕ) → at bs b .held ≡ rs
+            → 2 * priorityOf c i + 0 < 2 * current c b (at bs b) + markOf (holds rs)
+        loose-lighter i i< other le [] h =
+            let ne : priorityOf c i ≢ priorityOf c b = λ z. other (fit .own-inj i b i< (k .0) z) in
+            omega (arith, current-free c b (at bs b) h)
+        loose-lighter i i< other le (r ∷ rs) h = omega arith
 
-        lighter : (i : ℕ) → i < c .bodies → i ≢ b → isSuspended (at bs i .phase) ≡ false → weight (contender c bs i) < weight (contender c bs b)
+        lighter : (i : ℕ) → i < c .bodies → i ≢ b → competes (at bs i .phase) ≡ true → weight byHolding (contender c bs i) < weight byHolding (contender c bs b)
         lighter i i< other a =
-            rw (heaviest, weighs i a)
-            (by-phase (at bs i .phase)
-            (λ s _. absurd (true≢false (sym s ∙ a)))
-            (λ _ n. rw n (by-in i ns
+            rw (weighs b act, weighs i a)
+            (by-in i ns
             (λ h. by-among i b rest (rw e at h)
             (λ same. absurd (other same))
-            (λ _ w. omega (arith, nest-level c bs i rest (k .1 .1 .1) w, k .1 .1 .0, current-own c b (at bs b))))
-            (λ h. omega (arith, own-outside i h, calm i i< a, level))))
-            (λ _ s. rw s (omega (arith, apart-from i b i< (k .0) other s (k .1 .0) (omega (arith, calm i i< a, level))))))
+            (λ _ w. omega (arith, nest-level c bs i rest (k .1 .1 .1) w, k .1 .1 .0, current-own c b (at bs b), markOf-le (holds (at bs i .held)))))
+            (λ h. rw (own-outside i h, ap holds (t .loose i h))
+            (loose-lighter i i< other (omega (arith, calm i i< a, level)) (at bs b .held) refl)))
 
     -- nobody is chosen where the nest is empty
     pub chosen-none : ns ≡ [] → chosen c bs ≡ nobody
     unfolding levelAt
-    chosen-none e = chosen-nobody c bs (λ i i<. asleep i (rw (t .size) at i<) (at bs i .phase) refl)
+    chosen-none e = chosen-nobody byHolding refl c bs (λ i i<. asleep i (rw (t .size) at i<) (at bs i .phase) refl)
       where
         idle : m .core .level ≡ 0
         idle = level-is ∙ ap (levelAt c bs) e
 
-        asleep : (i : ℕ) → i < c .bodies → (q : Phase) → at bs i .phase ≡ q → q ≡ suspended
+        asleep : (i : ℕ) → i < c .bodies → (q : Phase) → at bs i .phase ≡ q → competes q ≡ false
         asleep i i< suspended e = refl
         asleep i i< ready e = absurd (omega (arith, fit .own-some i i<, calm i i< (rw e), idle))
         asleep i i< started e = absurd (omega (arith, fit .own-some i i<, calm i i< (rw e), idle))
+        asleep i i< (waiting w) e = refl
 
   -- a body above the level that is above every other one is chosen
-  module _ (w : ℕ) (w< : w < c .bodies) (act : isSuspended (at bs w .phase) ≡ false) (above : m .core .level < priorityOf c w)
-      (best : (i : ℕ) → i < c .bodies → i ≢ w → isSuspended (at bs i .phase) ≡ false → priorityOf c i < priorityOf c w) where
+  module _ (w : ℕ) (w< : w < c .bodies) (act : competes (at bs w .phase) ≡ true) (above : m .core .level < priorityOf c w)
+      (best : (i : ℕ) → i < c .bodies → i ≢ w → competes (at bs i .phase) ≡ true → priorityOf c i < priorityOf c w) where
     -- it is in no nest
     pub outside : among w ns ≡ false
     outside =
@@ -141,19 +128,19 @@ module _ {c : Config} {p : Plan} {rk : ℕ → ℕ} (fit : Fitted c p rk) {m : M
         (λ h. h)
 
     -- every other one runs below its own priority
-    pub current-below : (i : ℕ) → i < c .bodies → i ≢ w → isSuspended (at bs i .phase) ≡ false → current c i (at bs i) < priorityOf c w
+    pub current-below : (i : ℕ) → i < c .bodies → i ≢ w → competes (at bs i .phase) ≡ true → current c i (at bs i) < priorityOf c w
     current-below i i< other a =
         by-in i ns
         (λ h. omega (arith, nest-level c bs i ns (t .nested) h, level-is))
         (λ h. omega (arith, own-outside i h, best i i< other a))
 
-    pub chosen-above : chosen c bs ≡ record { number = w; level = priorityOf c w; began = isStarted (at bs w .phase) }
+    pub chosen-above : chosen c bs ≡ record { number = w; level = priorityOf c w; began = isStarted (at bs w .phase); holder = false }
     chosen-above =
-        chosen-best c bs w (rw (contends w act, own-outside w outside) (ne-eqb (priorityOf c w) 0 (λ z. absurd (omega (arith, z, fit .own-some w w<)))))
-        (λ i i< other a. weight-before (contender c bs w) (contender c bs i) (lighter i (rw (t .size) at i<) other a))
-        ∙ contends w act ∙ rw (own-outside w outside)
+        chosen-best byHolding refl c bs w (rw (contends w act, own-outside w outside) (ne-eqb (priorityOf c w) 0 (λ z. absurd (omega (arith, z, fit .own-some w w<)))))
+        (λ i i< other a. weight-before byHolding (contender c bs w) (contender c bs i) (lighter i (rw (t .size) at i<) other a))
+        ∙ contends w act ∙ rw (own-outside w outside, t .loose w outside)
       where
-        lighter : (i : ℕ) → i < c .bodies → i ≢ w → isSuspended (at bs i .phase) ≡ false → weight (contender c bs i) < weight (contender c bs w)
+        lighter : (i : ℕ) → i < c .bodies → i ≢ w → competes (at bs i .phase) ≡ true → weight byHolding (contender c bs i) < weight byHolding (contender c bs w)
         lighter i i< other a =
             rw (weighs i a, weighs w act, own-outside w outside)
-            (omega (arith, current-below i i< other a, mark-le (isStarted (at bs i .phase))))
+            (omega (arith, current-below i i< other a, markOf-le (holds (at bs i .held))))

@@ -20,7 +20,7 @@ use Rattle.config.specs.Meaning.{priorityOf}
 use Rattle.plan.specs.declared.Plan.{Plan}
 use Rattle.word.specs.Word.{has, without, winner}
 use Rattle.word.proofs.Theorems.{has-with-same, has-with-other, with-lt, has-without-same, has-without-other, without-lt}
-use Rattle.scheduler.specs.Body.{Phase, suspended, ready, started, isSuspended, isStarted, Body, current, become}
+use Rattle.scheduler.specs.Body.{Phase, suspended, ready, started, waiting, isStarted, isWaiting, hasBegun, competes, Body, current, become}
 use Rattle.scheduler.specs.Choice.{chosen, nobody}
 use Rattle.scheduler.specs.State.{State, noBody, among, changing}
 use Rattle.scheduler.specs.Call.{requestWaits}
@@ -33,10 +33,10 @@ use Rattle.plan.proofs.Fitted.{Fitted}
 use Rattle.machine.proofs.Relation.Words.{at, Words, words-changed}
 use Rattle.machine.proofs.Relation.Slots.{slotsFor, slotsAlong}
 use Rattle.machine.proofs.Relation.Nest.{levelAt, Nested, Seats, Alike, alike-same, among-tail-false, nest-level, levelAt-alike, nested-alike, slotsAlong-alike, hold-alike}
-use Rattle.machine.proofs.Relation.Whole.{Apart, Tied, Calm}
+use Rattle.machine.proofs.Relation.Whole.{Tied, Calm}
 use Rattle.machine.proofs.Arbitration.Seat.{Holders, holders}
 use Rattle.machine.proofs.Arbitration.Bids.{Winner, winning-is, calm-below, winner-above, winner-best}
-use Rattle.machine.proofs.Arbitration.Choice.{active-of-started, chosen-seated, chosen-none, outside, current-below, chosen-above}
+use Rattle.machine.proofs.Arbitration.Choice.{chosen-seated, chosen-none, outside, chosen-above}
 
 and-false : (b : Bool) → b && false ≡ false
 and-false true = refl
@@ -99,10 +99,10 @@ module _ {c : Config} {p : Plan} {rk : ℕ → ℕ} (fit : Fitted c p rk) where
     abbrev bs′ : List Body
     bs′ = set bs w (become started (at bs w))
 
-    best : (i : ℕ) → i < c .bodies → i ≢ w → isSuspended (at bs i .phase) ≡ false → priorityOf c i < priorityOf c w
+    best : (i : ℕ) → i < c .bodies → i ≢ w → competes (at bs i .phase) ≡ true → priorityOf c i < priorityOf c w
     best = winner-best fit (t .words) v
 
-    chosen-w : chosen c bs ≡ record { number = w; level = priorityOf c w; began = isStarted (at bs w .phase) }
+    chosen-w : chosen c bs ≡ record { number = w; level = priorityOf c w; began = isStarted (at bs w .phase); holder = false }
     chosen-w = chosen-above fit t w (v .exists) (v .awake) above best
 
     free : at bs w .held ≡ []
@@ -121,7 +121,8 @@ module _ {c : Config} {p : Plan} {rk : ℕ → ℕ} (fit : Fitted c p rk) where
         go : (x : Body) (q : Phase) → x .phase ≡ q → isStarted q ≡ true → become started x ≡ x
         go x suspended e h = absurd (true≢false (sym h))
         go x ready e h = absurd (true≢false (sym h))
-        go x started e h = λ i. record { phase = sym e i; pending = x .pending; held = x .held; losses = x .losses }
+        go x started e h = λ i. record { phase = sym e i; pending = x .pending; held = x .held; losses = x .losses; bits = x .bits }
+        go x (waiting n) e h = absurd (true≢false (sym h))
 
     dispatched-is : dispatched c s .bodies ≡ bs′
     dispatched-is = rw chosen-w (go (isStarted (at bs w .phase)) refl)
@@ -138,8 +139,18 @@ module _ {c : Config} {p : Plan} {rk : ℕ → ℕ} (fit : Fitted c p rk) where
     winner-lt : winner (bids (m .core)) < 32
     winner-lt = rw (sym (v .rank)) (rank-below w (v .exists))
 
+    -- of those that may run, the ones that have begun are started
+    began-started : (q : Phase) → competes q ≡ true → hasBegun q ≡ isStarted q
+    began-started suspended h = refl
+    began-started ready h = refl
+    began-started started h = refl
+    began-started (waiting n) h = absurd (true≢false (sym h))
+
+    begun-is : hasBegun (at bs w .phase) ≡ isStarted (at bs w .phase)
+    begun-is = began-started (at bs w .phase) (v .awake)
+
     began-is : has (m .core .started) (winner (bids (m .core))) ≡ isStarted (at bs w .phase)
-    began-is = rw (sym (v .rank)) (t .words .begun w (v .exists))
+    began-is = rw (sym (v .rank)) (t .words .begun w (v .exists)) ∙ begun-is
 
     beginning-is : beginning (m .core) ≡ not (isStarted (at bs w .phase))
     beginning-is = ap not began-is
@@ -147,13 +158,20 @@ module _ {c : Config} {p : Plan} {rk : ℕ → ℕ} (fit : Fitted c p rk) where
     words′ : Words c rk k′ bs′
     words′ =
         words-changed fit (t .words) (t .size) w (v .exists) (become started (at bs w)) k′
-        asked
-        (rw (v .rank) (has-with-same (m .core .started) (winner (bids (m .core))) winner-lt))
-        (λ r n. other (beginning (m .core)) r (rw (v .rank) at n))
-        (λ r n. has-with-other (m .core .started) (winner (bids (m .core))) r (rw (v .rank) at n))
-        (λ h. absurd (true≢false h))
-        (request-lt (beginning (m .core)))
-        (with-lt (m .core .started) (winner (bids (m .core))) (t .words .started-lt))
+        (record {
+          asks = asked;
+          begun = rw (v .rank) (has-with-same (m .core .started) W winner-lt);
+          awake = t .words .awake w (v .exists) ∙ enabled (at bs w .phase) (v .awake);
+          quiet = λ h. absurd (true≢false h);
+        })
+        (record {
+          request-lt = request-lt (beginning (m .core));
+          started-lt = with-lt (m .core .started) W (t .words .started-lt);
+          enabled-lt = t .words .enabled-lt;
+          asks = λ r n. other (beginning (m .core)) r (rw (v .rank) at n);
+          begun = λ r n. has-with-other (m .core .started) W r (rw (v .rank) at n);
+          awake = λ r n. refl;
+        })
       where
         q : ℕ
         q = m .core .request
@@ -169,17 +187,25 @@ module _ {c : Config} {p : Plan} {rk : ℕ → ℕ} (fit : Fitted c p rk) where
         other true r n = has-without-other q W r n
         other false r n = refl
 
+        -- it does not wait for an event bit
+        enabled : (f : Phase) → competes f ≡ true → not (isWaiting f) ≡ true
+        enabled suspended h = refl
+        enabled ready h = refl
+        enabled started h = refl
+        enabled (waiting n) h = absurd (true≢false (sym h))
+
         second : (x : Body) (f : Phase) → isStarted f ≡ true → requestWaits x f ≡ x .pending
         second x suspended h = absurd (true≢false (sym h))
         second x ready h = absurd (true≢false (sym h))
         second x started h = refl
+        second x (waiting n) h = absurd (true≢false (sym h))
 
-        waiting : (b : Bool) → isStarted (at bs w .phase) ≡ b → has (cond (not b) (without q W) q) (rk w) ≡ at bs w .pending
-        waiting true e = t .words .asks w (v .exists) ∙ second (at bs w) (at bs w .phase) e
-        waiting false e = rw (v .rank) (has-without-same q W) ∙ sym (t .words .quiet w e)
+        left : (b : Bool) → isStarted (at bs w .phase) ≡ b → has (cond (not b) (without q W) q) (rk w) ≡ at bs w .pending
+        left true e = t .words .asks w (v .exists) ∙ second (at bs w) (at bs w .phase) e
+        left false e = rw (v .rank) (has-without-same q W) ∙ sym (t .words .quiet w (begun-is ∙ e))
 
         asked : has (cond (beginning (m .core)) (without q W) q) (rk w) ≡ at bs w .pending
-        asked = rw beginning-is (waiting (isStarted (at bs w .phase)) refl)
+        asked = rw beginning-is (left (isStarted (at bs w .phase)) refl)
 
     -- the nest below the winner
     abbrev below : Holders c rk m bs
@@ -214,23 +240,6 @@ module _ {c : Config} {p : Plan} {rk : ℕ → ℕ} (fit : Fitted c p rk) where
         slotsAlong-alike c rk bs bs′ ks alike
         ∙ sym (ap (λ (rs : List ℕ). slotsFor c rk w rs ++ slotsAlong c rk bs′ ks) (ap (λ (b : Body). b .held) at-w ∙ free))
 
-    -- a body that has begun now had begun, or is the winner
-    apart′ : Apart c bs′
-    apart′ a b a< b< sa sb l =
-        by-eq a w
-        (λ e. by-eq b w
-        (λ f. absurd (omega (arith, l, ap (priorityOf c) (e ∙ sym f))))
-        (λ n. absurd (omega (arith, l, ap (priorityOf c) e, best b b< n (active b n sb)))))
-        (λ n. rw (at-other a n) (by-eq b w
-        (λ f. rw f (current-below fit t w (v .exists) (v .awake) above best a a< n (active a n sa)))
-        (λ o. t .apart a b a< b< (before a n sa) (before b o sb) l)))
-      where
-        before : (i : ℕ) → i ≢ w → isStarted (at bs′ i .phase) ≡ true → isStarted (at bs i .phase) ≡ true
-        before i n h = sym (ap (λ (x : Body). isStarted (x .phase)) (at-other i n)) ∙ h
-
-        active : (i : ℕ) → i ≢ w → isStarted (at bs′ i .phase) ≡ true → isSuspended (at bs i .phase) ≡ false
-        active i n h = active-of-started (at bs i .phase) (before i n h)
-
     tied′ : Tied c rk (withCore m k′) bs′ (w ∷ ks)
     unfolding Seats
     tied′ =
@@ -243,14 +252,13 @@ module _ {c : Config} {p : Plan} {rk : ℕ → ℕ} (fit : Fitted c p rk) where
           loose = λ i h. by-eq i w
               (λ e. rw (e, at-w) free)
               (λ n. rw (at-other i n) (below .loose i (among-tail-false i w ks h)));
-          apart = apart′;
         }
 
     calm′ : Calm c (winning (p .priority) (m .core)) bs′
     calm′ i i< a =
         by-eq i w
         (λ e. omega (arith, winning-is fit (t .words) v, ap (priorityOf c) e))
-        (λ n. omega (arith, winning-is fit (t .words) v, best i i< n (sym (ap (λ (x : Body). isSuspended (x .phase)) (at-other i n)) ∙ a)))
+        (λ n. omega (arith, winning-is fit (t .words) v, best i i< n (sym (ap (λ (x : Body). competes (x .phase)) (at-other i n)) ∙ a)))
 
     settled-above : Arbitrated c p rk (settled (p .priority) m) bs (dispatched c s .bodies)
     unfolding arbitrated

@@ -1,9 +1,13 @@
--- The runner ends: whoever took the latest resource that is held takes its seat, at the level of that resource, or nobody does.
+-- The runner leaves: whoever took the latest resource that is held takes its seat, at the level of that resource, or nobody does.
+--
+--   end-tied     the runner ends
+--   pause-tied   the runner waits for an event bit
+--
 -- Assumes nothing.
 use Prim.Native.Nat.{ℕ, _<_}
 use mathlib.Core.Path.{_≡_, refl, sym, ap, _∙_}
 use mathlib.Core.Logic.{_≢_}
-use mathlib.Core.Bool.{Bool, true, false, true≢false, cond}
+use mathlib.Core.Bool.{Bool, true, false, true≢false, cond, not}
 use mathlib.Core.List.{List, [], _∷_, _++_}
 use native.Mathlib.Omega.{arith}
 use borrow.Author.Tests.{eq-eqb, ne-eqb}
@@ -13,20 +17,23 @@ use lib.Seq.{getD-set-same, getD-set-other}
 use Rattle.number.proofs.Cases.{by-eq}
 use Rattle.config.specs.declared.Config.{Config}
 use Rattle.plan.specs.declared.Plan.{Plan}
+use Rattle.word.specs.Word.{with, without}
 use Rattle.word.proofs.Theorems.{has-without-same, has-without-other, without-lt}
 use Rattle.stack.specs.Stack.{topRow}
-use Rattle.scheduler.specs.Body.{Body, isStarted, Phase, suspended, ready, started, finished, current}
+use Rattle.scheduler.specs.Body.{Body, isStarted, isWaiting, hasBegun, Phase, suspended, ready, started, waiting, become, activated, ended, finished, holds, current}
 use Rattle.scheduler.specs.State.{noBody, among}
-use Rattle.scheduler.specs.Call.{requestWaits, holds}
-use Rattle.machine.specs.Model.{Model, noRank}
-use Rattle.machine.specs.Arbiter.{vacated, leaving}
+use Rattle.scheduler.specs.Call.{requestWaits}
+use Rattle.machine.specs.Model.{Model, noRank, withCore}
+use Rattle.machine.specs.Arbiter.{leftWith, vacated, leaving, paused}
+use Rattle.machine.specs.Events.{pausing}
 use Rattle.plan.proofs.Fitted.{Fitted}
 use Rattle.machine.proofs.Relation.Rows.{row-shows-top}
-use Rattle.machine.proofs.Relation.Words.{at, Words, words-changed}
+use Rattle.machine.proofs.Relation.Words.{at, wants, Words, words-changed}
 use Rattle.machine.proofs.Relation.Slots.{slotsFor, slotsAlong, Slots}
 use Rattle.machine.proofs.Relation.Nest.{Nested, AllHold, Seats, Alike, alike-same, among-head, among-tail, not-among, nest-other, nested-alike, hold-alike, slotsAlong-alike}
 use Rattle.machine.proofs.Relation.Whole.{Tied}
 use Rattle.machine.proofs.Arbitration.Dispatch.{rank-below}
+use Rattle.machine.proofs.Change.Request.{events-tied}
 
 -- the last slot's holder takes the seat, at its level
 module _ {c : Config} {p : Plan} {rk : ℕ → ℕ} (fit : Fitted c p rk) (m : Model) (bs : List Body) where
@@ -47,11 +54,9 @@ module _ {c : Config} {p : Plan} {rk : ℕ → ℕ} (fit : Fitted c p rk) (m : M
           let level : topRow (m .raised) ≡ current c b (at bs b) = row-shows-top (m .raised) _ ((rw e at q) .levels) ∙ sym (rw e) in
           (first, (rw (ne-eqb (topRow (m .holder)) noRank (λ z. absurd (omega (arith, z, first, rank-below fit b (k .0))))) level, λ i a. h i (among-tail i b ns a)))
 
+-- the runner b, which holds nothing, becomes y, and leaves the level; the words are s and e then
 module _ {c : Config} {p : Plan} {rk : ℕ → ℕ} (fit : Fitted c p rk) {m : Model} {bs : List Body} {b : ℕ} {ns : List ℕ}
     (t : Tied c rk m bs (b ∷ ns)) (free : at bs b .held ≡ []) where
-  abbrev bs′ : List Body
-  bs′ = set bs b (finished (at bs b))
-
   exists : b < c .bodies
   unfolding Nested
   exists = t .nested .0
@@ -72,65 +77,132 @@ module _ {c : Config} {p : Plan} {rk : ℕ → ℕ} (fit : Fitted c p rk) {m : M
   unfolding Seats
   hold = t .seats .1 .1
 
-  at-b : at bs′ b ≡ finished (at bs b)
-  at-b = getD-set-same bs b (finished (at bs b)) noBody (rw (t .size) exists)
+  module _ (y : Body) (held : y .held ≡ []) (s e : ℕ) (words : Words c rk (leftWith m s e) (set bs b y)) where
+    abbrev bs′ : List Body
+    bs′ = set bs b y
 
-  at-other : (i : ℕ) → i ≢ b → at bs′ i ≡ at bs i
-  at-other i n = getD-set-other bs b i (finished (at bs b)) noBody n
+    at-b : at bs′ b ≡ y
+    at-b = getD-set-same bs b y noBody (rw (t .size) exists)
 
-  -- it has not begun now
-  ended : (w : Bool) → isStarted (cond w ready suspended) ≡ false
-  ended true = refl
-  ended false = refl
+    at-other : (i : ℕ) → i ≢ b → at bs′ i ≡ at bs i
+    at-other i n = getD-set-other bs b i y noBody n
 
-  other : (i : ℕ) → isStarted (at bs′ i .phase) ≡ true → i ≢ b
-  other i h e = true≢false (sym h ∙ rw (e, at-b) (ended (at bs b .pending)))
+    alike : (i : ℕ) → among i ns ≡ true → Alike (at bs i) (at bs′ i)
+    alike i h = alike-same (sym (at-other i (nest-other c bs b i ns (t .nested) h)))
 
-  alike : (i : ℕ) → among i ns ≡ true → Alike (at bs i) (at bs′ i)
-  alike i h = alike-same (sym (at-other i (nest-other c bs b i ns (t .nested) h)))
+    slots-same : slotsAlong c rk bs (b ∷ ns) ≡ slotsAlong c rk bs′ ns
+    unfolding slotsAlong slotsFor
+    slots-same = ap (λ (rs : List ℕ). slotsFor c rk b rs ++ slotsAlong c rk bs ns) free ∙ slotsAlong-alike c rk bs bs′ ns alike
 
-  words′ : Words c rk (vacated m) bs′
-  words′ =
-      words-changed fit (t .words) (t .size) b exists (finished (at bs b)) (vacated m)
-      (t .words .asks b exists ∙ kept (at bs b) (at bs b .phase) was-started)
-      (rw (runner-rank, ended (at bs b .pending)) (has-without-same (m .core .started) (rk b)))
-      (λ r n. refl)
-      (λ r n. rw runner-rank (has-without-other (m .core .started) (rk b) r n))
-      (λ _. refl)
-      (t .words .request-lt)
-      (without-lt (m .core .started) (m .core .runner) (t .words .started-lt))
-    where
-      -- a request that waited makes the body ready, which wants to begin
-      kept : (x : Body) (q : Phase) → isStarted q ≡ true → requestWaits x q ≡ requestWaits (finished x) (cond (x .pending) ready suspended)
-      kept x suspended h = absurd (true≢false (sym h))
-      kept x ready h = absurd (true≢false (sym h))
-      kept x started h = wait (x .pending)
-        where
-          wait : (w : Bool) → w ≡ requestWaits (finished x) (cond w ready suspended)
-          wait true = refl
-          wait false = refl
+    slots′ : Slots (m .held) (m .resource) (m .holder) (m .raised) (slotsAlong c rk bs′ ns)
+    slots′ = rw (sym slots-same) (t .slots)
 
-  slots-same : slotsAlong c rk bs (b ∷ ns) ≡ slotsAlong c rk bs′ ns
-  unfolding slotsAlong slotsFor
-  slots-same = ap (λ (rs : List ℕ). slotsFor c rk b rs ++ slotsAlong c rk bs ns) free ∙ slotsAlong-alike c rk bs bs′ ns alike
+    left-tied : Tied c rk (withCore m (leftWith m s e)) bs′ ns
+    left-tied =
+        let nested′ = nested-alike c rk bs bs′ ns alike below in
+        record {
+          size = length-set bs b y ∙ t .size;
+          words = words;
+          nested = nested′;
+          seats = last-seated fit m bs′ ns nested′ (hold-alike c rk bs bs′ ns alike hold) slots′;
+          slots = slots′;
+          loose = λ i h. by-eq i b
+              (λ z. rw (z, at-b) held)
+              (λ n. rw (at-other i n) (t .loose i (not-among i b ns n h)));
+        }
 
-  slots′ : Slots (m .held) (m .resource) (m .holder) (m .raised) (slotsAlong c rk bs′ ns)
-  slots′ = rw (sym slots-same) (t .slots)
+  -- the ended runner, by whether a request waits
+  abbrev out : Bool → Body
+  out w = cond w (activated (ended (at bs b))) (ended (at bs b))
 
-  before : (i : ℕ) → isStarted (at bs′ i .phase) ≡ true → isStarted (at bs i .phase) ≡ true
-  before i h = sym (ap (λ (x : Body). isStarted (x .phase)) (at-other i (other i h))) ∙ h
-
+  -- the runner ends: ready where a request waited, which is then used up, else suspended
   pub end-tied : Tied c rk (leaving m) (set bs b (finished (at bs b))) ns
   end-tied =
-      let nested′ = nested-alike c rk bs bs′ ns alike below in
-      record {
-        size = length-set bs b (finished (at bs b)) ∙ t .size;
-        words = words′;
-        nested = nested′;
-        seats = last-seated fit m bs′ ns nested′ (hold-alike c rk bs bs′ ns alike hold) slots′;
-        slots = slots′;
-        loose = λ i h. by-eq i b
-            (λ e. rw (e, at-b) free)
-            (λ n. rw (at-other i n) (t .loose i (not-among i b ns n h)));
-        apart = λ i j i< j< si sj l. rw (at-other i (other i si)) (t .apart i j i< j< (before i si) (before j sj) l);
-      }
+      events-tied
+      (left-tied (finished (at bs b)) (held-none (at bs b .pending)) (without (m .core .started) (m .core .runner)) (m .core .enabled)
+      (words-changed fit (t .words) (t .size) b exists (finished (at bs b)) (vacated m)
+      (record {
+        asks = t .words .asks b exists ∙ kept (at bs b .phase) was-started ∙ wants-then (at bs b .pending);
+        begun = rw (runner-rank, unbegun (at bs b .pending)) (has-without-same (m .core .started) (rk b));
+        awake = t .words .awake b exists ∙ ap not (woken (at bs b .phase) was-started) ∙ sym (ap not (awake-then (at bs b .pending)));
+        quiet = λ _. used-up (at bs b .pending);
+      })
+      (record {
+        request-lt = t .words .request-lt;
+        started-lt = without-lt (m .core .started) (m .core .runner) (t .words .started-lt);
+        enabled-lt = t .words .enabled-lt;
+        asks = λ r n. refl;
+        begun = λ r n. rw runner-rank (has-without-other (m .core .started) (rk b) r n);
+        awake = λ r n. refl;
+      })))
+      (with (m .cleared) (m .core .runner))
+      (m .bits)
+      (m .waited)
+    where
+      held-none : (w : Bool) → out w .held ≡ []
+      held-none true = free
+      held-none false = free
+
+      kept : (q : Phase) → isStarted q ≡ true → requestWaits (at bs b) q ≡ at bs b .pending
+      kept suspended h = absurd (true≢false (sym h))
+      kept ready h = absurd (true≢false (sym h))
+      kept started h = refl
+      kept (waiting w) h = absurd (true≢false (sym h))
+
+      wants-then : (w : Bool) → w ≡ wants (out w)
+      wants-then true = refl
+      wants-then false = refl
+
+      unbegun : (w : Bool) → hasBegun (out w .phase) ≡ false
+      unbegun true = refl
+      unbegun false = refl
+
+      woken : (q : Phase) → isStarted q ≡ true → isWaiting q ≡ false
+      woken suspended h = refl
+      woken ready h = refl
+      woken started h = refl
+      woken (waiting w) h = absurd (true≢false (sym h))
+
+      awake-then : (w : Bool) → isWaiting (out w .phase) ≡ false
+      awake-then true = refl
+      awake-then false = refl
+
+      used-up : (w : Bool) → out w .pending ≡ false
+      used-up true = refl
+      used-up false = refl
+
+  -- the runner waits for an event bit, and has begun as before
+  pub pause-tied : (w : ℕ) → Tied c rk (pausing w m) (set bs b (become (waiting w) (at bs b))) ns
+  pause-tied w =
+      events-tied
+      (left-tied (become (waiting w) (at bs b)) free (m .core .started) (without (m .core .enabled) (m .core .runner))
+      (words-changed fit (t .words) (t .size) b exists (become (waiting w) (at bs b)) (paused m)
+      (record {
+        asks = t .words .asks b exists ∙ same (at bs b .phase) was-started;
+        begun = t .words .begun b exists ∙ began (at bs b .phase) was-started;
+        awake = rw runner-rank (has-without-same (m .core .enabled) (rk b));
+        quiet = λ h. absurd (true≢false h);
+      })
+      (record {
+        request-lt = t .words .request-lt;
+        started-lt = t .words .started-lt;
+        enabled-lt = without-lt (m .core .enabled) (m .core .runner) (t .words .enabled-lt);
+        asks = λ r n. refl;
+        begun = λ r n. refl;
+        awake = λ r n. rw runner-rank (has-without-other (m .core .enabled) (rk b) r n);
+      })))
+      (m .cleared)
+      (m .bits)
+      (set (m .waited) (m .core .runner) w)
+    where
+      same : (q : Phase) → isStarted q ≡ true → requestWaits (at bs b) q ≡ at bs b .pending
+      same suspended h = absurd (true≢false (sym h))
+      same ready h = absurd (true≢false (sym h))
+      same started h = refl
+      same (waiting v) h = absurd (true≢false (sym h))
+
+      began : (q : Phase) → isStarted q ≡ true → hasBegun q ≡ true
+      began suspended h = absurd (true≢false (sym h))
+      began ready h = absurd (true≢false (sym h))
+      began started h = refl
+      began (waiting v) h = absurd (true≢false (sym h))

@@ -15,7 +15,7 @@ use Rattle.plan.specs.declared.Plan.{Plan}
 use Rattle.word.specs.Word.{has, with}
 use Rattle.word.proofs.Theorems.{has-with-same, has-with-other}
 use Rattle.stack.specs.Stack.{pushRow}
-use Rattle.scheduler.specs.Body.{Body, isStarted, current, gets}
+use Rattle.scheduler.specs.Body.{Body, current, gets}
 use Rattle.scheduler.specs.State.{among}
 use Rattle.machine.specs.Model.{Model}
 use Rattle.machine.specs.Resources.{getting}
@@ -24,14 +24,12 @@ use Rattle.machine.proofs.Relation.Rows.{row-shows-pushed}
 use Rattle.machine.proofs.Relation.Words.{at}
 use Rattle.machine.proofs.Relation.Slots.{Slot, slot, slotsFor, slotsAlong, Distinct, resourcesIn, holdersIn, levelsIn, missing, Slots}
 use Rattle.machine.proofs.Relation.Free.{missing-one}
-use Rattle.machine.proofs.Relation.Nest.{among-head, nest-started}
-use Rattle.machine.proofs.Relation.Whole.{Tied, Calm}
-use Rattle.machine.proofs.Arbitration.Choice.{active-of-started}
+use Rattle.machine.proofs.Relation.Whole.{Tied}
 use Rattle.machine.proofs.Arbitration.Dispatch.{rank-below}
 use Rattle.machine.proofs.Change.Hold.{exists, runner-rank, level-was, slots-are, held-tied}
 
 module _ {c : Config} {p : Plan} {rk : ℕ → ℕ} (fit : Fitted c p rk) {m : Model} {bs : List Body} {b : ℕ} {ns : List ℕ}
-    (t : Tied c rk m bs (b ∷ ns)) (calm : Calm c (m .core .level) bs) (r : ℕ) (r< : r < c .resources) (free : has (m .held) r ≡ false) where
+    (t : Tied c rk m bs (b ∷ ns)) (r : ℕ) (r< : r < c .resources) (free : has (m .held) r ≡ false) where
   abbrev level′ : ℕ
   level′ = max (getD (p .ceiling) r 0) (m .core .level)
 
@@ -81,16 +79,8 @@ module _ {c : Config} {p : Plan} {rk : ℕ → ℕ} (fit : Fitted c p rk) {m : M
         counted = omega (arith, old .counted, one-less);
       }
 
-  -- no other body that has begun is above the level
-  none-above : (j : ℕ) → j < c .bodies → isStarted (at bs j .phase) ≡ true → priorityOf c b < priorityOf c j → current c b (gets r (at bs b)) < priorityOf c j
-  none-above j j< s l =
-      absurd (omega (arith, calm j j< (active-of-started (at bs j .phase) s), level-was fit t, t .apart b j (exists fit t) j< began s l))
-    where
-      began : isStarted (at bs b .phase) ≡ true
-      began = nest-started c bs b (b ∷ ns) (t .nested) (among-head b ns)
-
   pub get-tied : Tied c rk (getting r level′ m) (set bs b (gets r (at bs b))) (b ∷ ns)
   unfolding slotsFor
   get-tied =
       held-tied fit t (gets r (at bs b)) refl refl level′ raised-level
-      (with (m .held) r) (pushRow (m .resource) r) (pushRow (m .holder) (m .core .runner)) (pushRow (m .raised) level′) slots′ none-above
+      (with (m .held) r) (pushRow (m .resource) r) (pushRow (m .holder) (m .core .runner)) (pushRow (m .raised) level′) slots′

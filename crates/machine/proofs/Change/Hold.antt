@@ -20,19 +20,18 @@ use Rattle.config.specs.declared.Config.{Config}
 use Rattle.config.specs.Meaning.{priorityOf, ceiling}
 use Rattle.plan.specs.declared.Plan.{Plan}
 use Rattle.stack.specs.declared.Row.{Row}
-use Rattle.scheduler.specs.Body.{Body, isStarted, current}
+use Rattle.scheduler.specs.Body.{Body, isStarted, holds, current}
 use Rattle.scheduler.specs.State.{noBody, among}
-use Rattle.scheduler.specs.Call.{requestWaits, holds, latestIs}
+use Rattle.scheduler.specs.Call.{latestIs}
 use Rattle.machine.specs.Model.{Model, noRank, withLevel, withSlots}
 use Rattle.machine.specs.Resources.{holding, latest}
 use Rattle.plan.proofs.Fitted.{Fitted}
 use Rattle.machine.proofs.Relation.Rows.{row-shows-top}
-use Rattle.machine.proofs.Relation.Words.{at, words-changed}
+use Rattle.machine.proofs.Relation.Words.{at, words-changed, marks-same, elsewhere-same}
 use Rattle.machine.proofs.Relation.Slots.{Slot, slot, slotsFor, slotsAlong, holdersIn, Slots}
 use Rattle.machine.proofs.Relation.Nest.{Nested, Seats, Alike, alike-same, among-head, among-tail, nest-other, nest-exists, levelAt-alike, nested-alike, hold-alike, slotsAlong-alike}
 use Rattle.machine.proofs.Relation.Whole.{Tied}
 use Rattle.machine.proofs.Arbitration.Dispatch.{rank-below}
-use Rattle.machine.proofs.Change.Request.{waits-same}
 
 -- the slots of a nest: none, or the first is that of a body of the nest
 data Held (rk : ℕ → ℕ) (ns : List ℕ) : List Slot → Type 0 where
@@ -108,8 +107,7 @@ module _ {c : Config} {p : Plan} {rk : ℕ → ℕ} (fit : Fitted c p rk) {m : M
 
   -- the runner becomes y, which is as it was but for what it holds
   module _ (y : Body) (phase : y .phase ≡ at bs b .phase) (second : y .pending ≡ at bs b .pending)
-      (l : ℕ) (level : l ≡ current c b y) (w : ℕ) (rs hs ls : Row) (slots : Slots w rs hs ls (slotsFor c rk b (y .held) ++ slotsAlong c rk bs ns))
-      (apart-b : (j : ℕ) → j < c .bodies → isStarted (at bs j .phase) ≡ true → priorityOf c b < priorityOf c j → current c b y < priorityOf c j) where
+      (l : ℕ) (level : l ≡ current c b y) (w : ℕ) (rs hs ls : Row) (slots : Slots w rs hs ls (slotsFor c rk b (y .held) ++ slotsAlong c rk bs ns)) where
     abbrev bs′ : List Body
     bs′ = set bs b y
 
@@ -131,16 +129,11 @@ module _ {c : Config} {p : Plan} {rk : ℕ → ℕ} (fit : Fitted c p rk) {m : M
         record {
           size = length-set bs b y ∙ t .size;
           words = words-changed fit (t .words) (t .size) b exists y (withLevel (m .core) l)
-              (t .words .asks b exists ∙ waits-same (at bs b) y (at bs b .phase) (sym second) ∙ ap (requestWaits y) (sym phase))
-              (t .words .begun b exists ∙ ap isStarted (sym phase)) (λ r n. refl) (λ r n. refl)
-              (λ h. second ∙ t .words .quiet b (sym (ap isStarted phase) ∙ h)) (t .words .request-lt) (t .words .started-lt);
+              (marks-same (t .words) b exists y phase second (m .core .runner) l) (elsewhere-same (t .words) (m .core .runner) l (rk b));
           nested = (exists, (begun-same b ∙ t .nested .1 .0, (rw (sym (levelAt-alike c rk bs bs′ ns alike)) (t .nested .1 .1 .0), nested-alike c rk bs bs′ ns alike below)));
           seats = (runner-rank, (rw at-b level, hold-alike c rk bs bs′ ns alike (t .seats .1 .1)));
           slots = rw (at-b, sym (slotsAlong-alike c rk bs bs′ ns alike)) slots;
           loose = λ i h. by-eq i b
               (λ e. absurd (true≢false (sym (among-head b ns) ∙ ap (λ (j : ℕ). among j (b ∷ ns)) (sym e) ∙ h)))
               (λ n. rw (at-other i n) (t .loose i h));
-          apart = λ i j i< j< si sj o. by-eq i b
-              (λ e. rw (e, at-b) (apart-b j j< (sym (begun-same j) ∙ sj) (rw e at o)))
-              (λ n. rw (at-other i n) (t .apart i j i< j< (sym (begun-same i) ∙ si) (sym (begun-same j) ∙ sj) o));
         }

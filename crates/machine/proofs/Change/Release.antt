@@ -15,9 +15,8 @@ use Rattle.plan.specs.declared.Plan.{Plan}
 use Rattle.word.specs.Word.{has, without}
 use Rattle.word.proofs.Theorems.{has-without-same, has-without-other}
 use Rattle.stack.specs.Stack.{secondRow, popRow, rowBytes}
-use Rattle.scheduler.specs.Body.{Body, current, releases}
+use Rattle.scheduler.specs.Body.{Body, holds, current, releases}
 use Rattle.scheduler.specs.State.{among}
-use Rattle.scheduler.specs.Call.{holds}
 use Rattle.machine.specs.Model.{Model}
 use Rattle.machine.specs.Resources.{levelWithout, releasing}
 use Rattle.plan.proofs.Fitted.{Fitted}
@@ -25,7 +24,6 @@ use Rattle.machine.proofs.Relation.Rows.{Shows, row-shows-popped, row-s
 use Rattle.machine.proofs.Relation.Words.{at}
 use Rattle.machine.proofs.Relation.Slots.{Slot, slot, slotsFor, slotsAlong, Distinct, levelsIn, missing, Slots}
 use Rattle.machine.proofs.Relation.Free.{missing-one}
-use Rattle.machine.proofs.Relation.Nest.{among-head, nest-started}
 use Rattle.machine.proofs.Relation.Whole.{Tied}
 use Rattle.machine.proofs.Change.Hold.{exists, runner-rank, first-own, slots-are, held-tied}
 
@@ -85,8 +83,3 @@ module _ {c : Config} {p : Plan} {rk : ℕ → ℕ} (fit : Fitted c p rk) {m : M
   release-tied =
       held-tied fit t y refl refl (levelWithout (p .priority) m) level-is
       (without (m .held) r) (popRow (m .resource)) (popRow (m .holder)) (popRow (m .raised)) (rw held-y slots′)
-      (λ j j< s l. omega (arith, t .apart b j (exists fit t) j< (nest-started c bs b (b ∷ ns) (t .nested) (among-head b ns)) s l, less))
-    where
-      less : current c b (at bs b) ≡ max (ceiling c r) (current c b y)
-      less = ap (λ (q : List ℕ). foldr max (priorityOf c b) (map (ceiling c) q)) held-is
-          ∙ ap (λ (q : List ℕ). max (ceiling c r) (foldr max (priorityOf c b) (map (ceiling c) q))) (sym held-y)

@@ -8,26 +8,27 @@
 -- Assumes nothing.
 use Prim.Native.Nat.{ℕ, zero, suc, _<_}
 use mathlib.Core.Path.{_≡_, refl, sym, ap, _∙_}
-use mathlib.Core.Bool.{Bool, true, false, cond}
+use mathlib.Core.Bool.{Bool, true, false, true≢false, cond}
 use mathlib.Core.Logic.{_≢_}
 use mathlib.Core.List.{List, [], _∷_, map}
 use native.Mathlib.Omega.{arith}
 use borrow.Author.Tests.{eq-eqb, ne-eqb}
 use lib.Dec.{eqb}
 use lib.ListN.{length, getD, set, take, replicate, length-map, List·getD-map, List·getD-eq-default}
-use lib.Seq.{getD-take, ext-getD, length-take-le}
+use lib.Seq.{getD-set-same, getD-set-other, getD-take, ext-getD, length-take-le}
 use Rattle.number.proofs.Cases.{by-eq}
 use Rattle.config.specs.declared.Config.{Config}
 use Rattle.plan.specs.declared.Plan.{Plan}
 use Rattle.scheduler.specs.Status.{done, Check, _gives_, firstGiven}
-use Rattle.scheduler.specs.Body.{started, Body, current, become}
-use Rattle.scheduler.specs.Choice.{Candidate}
+use Rattle.scheduler.specs.Body.{Phase, suspended, ready, started, waiting, isSuspended, isWaiting, competes, Body, current, become}
+use Rattle.scheduler.specs.Choice.{Candidate, byHolding}
 use Rattle.scheduler.specs.State.{State, noBody, runner, changing}
 use Rattle.scheduler.specs.Call.{nobodyRuns, caller}
 use Rattle.scheduler.specs.Tick.{dues}
 use Rattle.scheduler.specs.Scheduler as Plain
 use Rattle.scheduler.specs.Scheduler.{Event, step, begins, dispatched, ending, noneDue, markOf}
-use Rattle.scheduler.proofs.Choice.{current-own}
+use Rattle.scheduler.proofs.Choice.{current-own, candidate-active, Taken, no-one, body, chosen-from}
+use Rattle.scheduler.proofs.Refusals.{begins-some}
 use Rattle.scheduler.proofs.Effects.{tables-dispatched}
 use Rattle.machine.specs.Model.{Model, Outcome, noRank, refusedWith}
 use Rattle.machine.specs.Events as Machine
@@ -38,6 +39,7 @@ use Rattle.machine.proofs.Relation.Words.{at}
 use Rattle.machine.proofs.Relation.Nest.{Nested, Seats}
 use Rattle.machine.proofs.Relation.Cells.{Timed}
 use Rattle.machine.proofs.Relation.Losses.{Lost, lost-same}
+use Rattle.machine.proofs.Relation.Bits.{eventBits, Noted, noted-same}
 use Rattle.machine.proofs.Relation.Whole.{Tied, Sim}
 use Rattle.machine.proofs.Arbitration.Choice.{chosen-seated, chosen-none}
 use Rattle.machine.proofs.Arbitration.Dispatch.{Arbitrated, rank-below, calm-arbitrated}
@@ -51,6 +53,23 @@ kept g f k (b ∷ bs) zero (suc j) = refl
 kept g f k (b ∷ bs) (suc i) zero = refl
 kept g f k (b ∷ bs) (suc i) (suc j) = kept g f k bs i j
 
+-- who begins is a body that isn't suspended
+begins-unsuspended : (c : Config) (s : State) → begins (runner c s) ≡ true
+    → (runner c s .number < length (s .bodies)) × (isSuspended (at (s .bodies) (runner c s .number) .phase) ≡ false)
+begins-unsuspended c s b = go (chosen-from byHolding refl c (s .bodies))
+  where
+    active : (q : Phase) → competes q ≡ true → isSuspended q ≡ false
+    active suspended h = absurd (true≢false (sym h))
+    active ready h = refl
+    active started h = refl
+    active (waiting w) h = refl
+
+    go : Taken c (s .bodies) (runner c s) → (runner c s .number < length (s .bodies)) × (isSuspended (at (s .bodies) (runner c s .number) .phase) ≡ false)
+    go (no-one z) = absurd (true≢false (rw z at (begins-some (runner c s) b .0)))
+    go (body k h p z) =
+        let n : runner c s .number ≡ k = ap (λ (x : Candidate). x .number) (z ∙ candidate-active c k (at (s .bodies) k) (at (s .bodies) k .phase) p) in
+        rw n (h, active (at (s .bodies) k .phase) p)
+
 -- a dispatch changes no losses
 pub dispatched-losses : (c : Config) (s : State) (i : ℕ) → at (dispatched c s .bodies) i .losses ≡ at (s .bodies) i .losses
 dispatched-losses c s i = go (begins (runner c s))
@@ -58,6 +77,29 @@ dispatched-losses c s i = go (begins (runner c s))
     go : (b : Bool) → at ((cond b (changing (runner c s .number) (become started) s) s) .bodies) i .losses ≡ at (s .bodies) i .losses
     go true = kept (λ x. x .losses) (become started) (λ x. refl) (s .bodies) (runner c s .number) i
     go false = refl
+
+-- nor event bits: who begins was not suspended, and does not wait
+pub dispatched-bits : (c : Config) (s : State) (i : ℕ) → eventBits (at (dispatched c s .bodies) i) ≡ eventBits (at (s .bodies) i)
+dispatched-bits c s i = go (begins (runner c s)) refl
+  where
+    go : (b : Bool) → begins (runner c s) ≡ b → eventBits (at ((cond b (changing (runner c s .number) (become started) s) s) .bodies) i) ≡ eventBits (at (s .bodies) i)
+    go false e = refl
+    go true e =
+        by-eq i (runner c s .number)
+        (λ z. let x = begins-unsuspended c s e in
+        rw z (ap eventBits (getD-set-same (s .bodies) (runner c s .number) (become started (at (s .bodies) (runner c s .number))) noBody (x .0)) ∙ sym (rw (x .1))))
+        (λ n. ap eventBits (getD-set-other (s .bodies) (runner c s .number) i (become started (at (s .bodies) (runner c s .number))) noBody n))
+
+pub dispatched-masks : (c : Config) (s : State) (i w : ℕ) → at (dispatched c s .bodies) i .phase ≡ waiting w → at (s .bodies) i .phase ≡ waiting w
+dispatched-masks c s i w = go (begins (runner c s)) refl
+  where
+    go : (b : Bool) → begins (runner c s) ≡ b → at ((cond b (changing (runner c s .number) (become started) s) s) .bodies) i .phase ≡ waiting w → at (s .bodies) i .phase ≡ waiting w
+    go false e h = h
+    go true e h =
+        by-eq i (runner c s .number)
+        (λ z. absurd (true≢false (sym (ap isWaiting h) ∙ ap (λ (j : ℕ). isWaiting (at (changing (runner c s .number) (become started) s .bodies) j .phase)) z
+        ∙ ap (λ (x : Body). isWaiting (x .phase)) (getD-set-same (s .bodies) (runner c s .number) (become started (at (s .bodies) (runner c s .number))) noBody (begins-unsuspended c s e .0)))))
+        (λ n. ap (λ (x : Body). x .phase) (sym (getD-set-other (s .bodies) (runner c s .number) i (become started (at (s .bodies) (runner c s .number))) noBody n)) ∙ h)
 
 -- the same tests in the same order give the same status
 pub first-same : (a a′ : Bool) (st : ℕ) (ks ks′ : List Check) → a ≡ a′ → (a′ ≡ false → firstGiven ks ≡ firstGiven ks′)
@@ -78,6 +120,7 @@ pub record Accepted (c : Config) (p : Plan) (rk : ℕ → ℕ) (o : Outcome) (s�
   pub size : length (s′ .bodies) ≡ c .bodies
   pub timed : Timed c p (o .model .counter) (o .model .on) (o .model .turning) (s′ .tables)
   pub lost : Lost c rk (o .model .losses) (s′ .bodies)
+  pub noted : Noted c rk (o .model .cleared) (o .model .bits) (o .model .waited) (s′ .bodies)
 
 -- the runner, body b of the nest, as both sides see it
 pub record Runs (c : Config) (rk : ℕ → ℕ) (m : Model) (s : State) (b : ℕ) (ns : List ℕ) : Type 0 where
@@ -139,7 +182,8 @@ module _ {c : Config} {p : Plan} {rk : ℕ → ℕ} (fit : Fitted c p rk) where
   module _ {m : Model} {s : State} (e : Event) (o : Outcome) (st : ℕ) (ds : List Bool) (s″ : State)
       (machine : machineStep c p m e ≡ o) (plain : step c s e ≡ ending c st ds s″) (status : o .status ≡ st) (due : matched p m e ≡ ds)
       (arb : Arbitrated c p rk o (s″ .bodies) (dispatched c s″ .bodies)) (size : length (s″ .bodies) ≡ c .bodies)
-      (timed : Timed c p (o .model .counter) (o .model .on) (o .model .turning) (s″ .tables)) (lost : Lost c rk (o .model .losses) (s″ .bodies)) where
+      (timed : Timed c p (o .model .counter) (o .model .on) (o .model .turning) (s″ .tables)) (lost : Lost c rk (o .model .losses) (s″ .bodies))
+      (noted : Noted c rk (o .model .cleared) (o .model .bits) (o .model .waited) (s″ .bodies)) where
     pub agrees : Agrees c p rk m s e
     agrees =
         record {
@@ -151,6 +195,7 @@ module _ {c : Config} {p : Plan} {rk : ℕ → ℕ} (fit : Fitted c p rk) where
                 calm = arb .calm;
                 timed = rw (tables-dispatched c s″) timed;
                 lost = lost-same (dispatched-losses c s″) lost;
+                noted = noted-same (dispatched-bits c s″) (dispatched-masks c s″) noted;
               });
         }
       where
@@ -176,11 +221,11 @@ module _ {c : Config} {p : Plan} {rk : ℕ → ℕ} (fit : Fitted c p rk) where
         by-eq stP done
         (λ z. let a = acc z in
         agrees e o stP (noneDue c s) s′
-        (machine ∙ rw (same, eq-eqb stP done z)) (plain ∙ rw (eq-eqb stP done z)) (a .status ∙ sym z) due (a .arb) (a .size) (a .timed) (a .lost))
+        (machine ∙ rw (same, eq-eqb stP done z)) (plain ∙ rw (eq-eqb stP done z)) (a .status ∙ sym z) due (a .arb) (a .size) (a .timed) (a .lost) (a .noted))
         (λ n. let k = ref n in
         agrees e (refusedWith m′ stM) stP (noneDue c s) s″
         (machine ∙ rw (same, ne-eqb stP done n)) (plain ∙ rw (ne-eqb stP done n)) same due
-        (calm-arbitrated fit s″ stM (k .tied) (k .calm)) (k .tied .size) (k .timed) (k .lost))
+        (calm-arbitrated fit s″ stM (k .tied) (k .calm)) (k .tied .size) (k .timed) (k .lost) (k .noted))
 
   module _ {m : Model} {s : State} (sim : Sim c p rk m s) where
     pub agrees-attempt : (e : Event) (stM stP : ℕ) (o : Outcome) (s′ : State)

@@ -8,20 +8,22 @@ use mathlib.Core.List.{List, [], _∷_}
 use native.Mathlib.Omega.{arith}
 use borrow.Author.Tests.{eq-eqb, ne-eqb, ltb-true, not-false}
 use lib.Dec.{ltb, eqb}
-use lib.ListN.{length, getD, length-set}
+use lib.ListN.{length, getD, set, length-set}
 use lib.Seq.{getD-set-same, getD-set-other}
 use Rattle.number.proofs.Cases.{by-eq}
 use Rattle.config.specs.declared.Config.{Config}
 use Rattle.config.specs.Meaning.{countsLines, isTask, isIsr}
 use Rattle.plan.specs.declared.Plan.{Plan}
-use Rattle.word.specs.Word.{has}
+use Rattle.word.specs.Word.{has, with}
+use Rattle.word.proofs.Theorems.{has-with-same, has-with-other}
 use Rattle.scheduler.specs.Status.{firstGiven, callLevel, noSuch, limitReached, holdsResource}
-use Rattle.scheduler.specs.Body.{Phase, suspended, ready, started, isSuspended, isStarted, Body, become, finished, requested, loses}
+use Rattle.scheduler.specs.Body.{Phase, suspended, ready, started, waiting, isWaiting, hasBegun, competes, Body, holds, activated, ended, finished, requested, loses}
 use Rattle.scheduler.specs.State.{State, noBody, bodyOf, changing}
-use Rattle.scheduler.specs.Call.{nobodyRuns, caller, calling, holds, active, activateStatus, finishStatus, chainStatus, lineStatus, activate, finish, chain, line}
+use Rattle.scheduler.specs.Call.{nobodyRuns, caller, calling, active, activateStatus, finishStatus, chainStatus, lineStatus, activate, finish, chain, line}
 use Rattle.scheduler.specs.Call as Plain
 use Rattle.scheduler.specs.Tick.{dues}
 use Rattle.scheduler.specs.Scheduler.{Activate, Finish, Chain, Line, stepBy}
+use Rattle.scheduler.proofs.Effects.{finished-losses}
 use Rattle.scheduler.proofs.Checks.{activate-passed, finish-passed, chain-passed, line-passed}
 use Rattle.machine.specs.Model.{Model, noRank, withLosses}
 use Rattle.machine.specs.Arbiter.{settled, leaving, requesting}
@@ -33,6 +35,7 @@ use Rattle.machine.specs.Machine.{statusOf, effectOf, refusalOf}
 use Rattle.plan.proofs.Fitted.{Fitted}
 use Rattle.machine.proofs.Relation.Words.{at, wants, busy-is}
 use Rattle.machine.proofs.Relation.Losses.{lost-same, lost-one}
+use Rattle.machine.proofs.Relation.Bits.{eventBits, Noted, noted-touched, noted-changed}
 use Rattle.machine.proofs.Relation.Whole.{Tied, Sim}
 use Rattle.machine.proofs.Arbitration.Dispatch.{rank-below, settled-tied}
 use Rattle.machine.proofs.Change.Request.{elsewhere, activate-tied, loss-tied, line-tied}
@@ -74,6 +77,12 @@ module _ {c : Config} {p : Plan} {rk : ℕ → ℕ} (fit : Fitted c p rk) where
   line-rank-is : (i : ℕ) → isIsr c i ≡ true → getD (p .line) i noRank ≡ rk i
   line-rank-is i h = fit .line-rank i ∙ rw h
 
+  -- a body that is activated has no event bits afterwards, and had none that count
+  activated-noted : {x : ℕ} {es ws : List ℕ} {bs : List Body} → Noted c rk x es ws bs → length bs ≡ c .bodies → (b : ℕ) → b < c .bodies
+      → eventBits (at bs b) ≡ 0 → Noted c rk x es ws (set bs b (activated (at bs b)))
+  activated-noted {bs = bs} n size b b< none =
+      noted-touched fit n size b b< (activated (at bs b)) none (λ w h. absurd (true≢false (sym (ap isWaiting h))))
+
   module _ {m : Model} {s : State} (sim : Sim c p rk m s) (long : length (dues c s) ≡ p .count) where
     abbrev bs : List Body
     bs = s .bodies
@@ -93,9 +102,10 @@ module _ {c : Config} {p : Plan} {rk : ℕ → ℕ} (fit : Fitted c p rk) where
         (record {
           status = refl;
           arb = settled-tied fit (activate t s) (activate-tied (sim .tied) fit t (task-exists c t (a .1)) (rw (a .2)));
-          size = length-set bs t (become ready (bodyOf s t)) ∙ sim .tied .size;
+          size = length-set bs t (activated (bodyOf s t)) ∙ sim .tied .size;
           timed = sim .timed;
-          lost = lost-same (kept (λ x. x .losses) (become ready) (λ x. refl) bs t) (sim .lost);
+          lost = lost-same (kept (λ x. x .losses) activated (λ x. refl) bs t) (sim .lost);
+          noted = activated-noted (sim .noted) (sim .tied .size) t (task-exists c t (a .1)) (rw (a .2));
         }))
 
     -- Line
@@ -111,9 +121,10 @@ module _ {c : Config} {p : Plan} {rk : ℕ → ℕ} (fit : Fitted c p rk) where
         record {
           nest = sim .nest;
           tied = elsewhere (loss-tied (sim .tied) fit i i<) (m .counter) (m .on) (m .turning) (oneLost (rk i) (m .losses));
-          calm = λ b b< h. sim .calm b b< (sym (kept (λ x. isSuspended (x .phase)) loses (λ x. refl) bs i b) ∙ h);
+          calm = λ b b< h. sim .calm b b< (sym (kept (λ x. competes (x .phase)) loses (λ x. refl) bs i b) ∙ h);
           timed = sim .timed;
           lost = lost-one fit (sim .tied .size) (sim .lost) i i<;
+          noted = noted-touched fit (sim .noted) (sim .tied .size) i i< (loses (at bs i)) refl (λ w h. h);
         }
 
     -- who is no ISR has no line to lose
@@ -136,6 +147,14 @@ module _ {c : Config} {p : Plan} {rk : ℕ → ℕ} (fit : Fitted c p rk) where
         by-kind true e = rw (line-rank-is i e) (counted (countsLines c && eqb (lineStatus c s i) limitReached) (isr-exists c i e))
         by-kind false e = rw (no-line i e) (rw (and-false (countsLines c)) sim)
 
+    -- a Line that is accepted finds no body ready
+    line-noted : (i : ℕ) → i < c .bodies → (q : Phase) → at bs i .phase ≡ q → wants (at bs i) ≡ false
+        → Noted c rk (m .cleared) (m .bits) (m .waited) (line i s .bodies)
+    line-noted i i< suspended e h = rw (ap hasBegun e) (activated-noted (sim .noted) (sim .tied .size) i i< (rw e))
+    line-noted i i< ready e h = absurd (true≢false (rw e at h))
+    line-noted i i< started e h = rw (ap hasBegun e) (noted-touched fit (sim .noted) (sim .tied .size) i i< _ refl (λ w z. z))
+    line-noted i i< (waiting v) e h = rw (ap hasBegun e) (noted-touched fit (sim .noted) (sim .tied .size) i i< _ refl (λ w z. z))
+
     pub agrees-line : (i : ℕ) → Agrees c p rk m s (Line i)
     unfolding statusOf effectOf refusalOf stepBy
     agrees-line i =
@@ -151,13 +170,16 @@ module _ {c : Config} {p : Plan} {rk : ℕ → ℕ} (fit : Fitted c p rk) where
           size = length-set bs i (requested (bodyOf s i)) ∙ sim .tied .size;
           timed = sim .timed;
           lost = lost-same (kept (λ x. x .losses) requested (λ x. same-losses x (x .phase)) bs i) (sim .lost);
+          noted = line-noted i (isr-exists c i (a .0)) (at bs i .phase) refl (a .1);
         }))
         (λ _. rw (line-status i) (line-refused i))
       where
-        same-losses : (x : Body) (q : Phase) → (cond (isStarted q) (record { phase = started; pending = true; held = x .held; losses = x .losses }) (become ready x)) .losses ≡ x .losses
+        same-losses : (x : Body) (q : Phase)
+            → cond (hasBegun q) (record { phase = x .phase; pending = true; held = x .held; losses = x .losses; bits = x .bits }) (activated x) .losses ≡ x .losses
         same-losses x suspended = refl
         same-losses x ready = refl
         same-losses x started = refl
+        same-losses x (waiting w) = refl
 
     -- "the runner holds a resource"
     holding-same : {b : ℕ} {ns : List ℕ} → Runs c rk m s b ns → holding m ≡ holds (calling c s .held)
@@ -171,27 +193,48 @@ module _ {c : Config} {p : Plan} {rk : ℕ → ℕ} (fit : Fitted c p rk) where
         (λ i n. rw (i, n))
         (λ b ns k. rw (k .not-idle, k .somebody) (rw (holding-same k)))
 
-    finish-accepted : {b : ℕ} {ns : List ℕ} → Runs c rk m s b ns → holds (calling c s .held) ≡ false → Tied c rk (leaving m) (finish c s .bodies) ns
+    finish-accepted : {b : ℕ} {ns : List ℕ} → Runs c rk m s b ns → holds (calling c s .held) ≡ false → Tied c rk (leaving m) (finish (caller c s) s .bodies) ns
     finish-accepted {b} k h =
         rw (k .calls) (end-tied fit (k .tied) (nothing-held (at bs b .held) (sym (ap (λ (i : ℕ). holds (bodyOf s i .held)) (k .calls)) ∙ h)))
 
-    finish-losses : (i : ℕ) → at (finish c s .bodies) i .losses ≡ at bs i .losses
-    finish-losses = kept (λ x. x .losses) finished (λ x. refl) bs (caller c s)
+    finish-losses : (i : ℕ) → at (finish (caller c s) s .bodies) i .losses ≡ at bs i .losses
+    finish-losses = kept (λ x. x .losses) finished finished-losses bs (caller c s)
+
+    -- the bits of the one that ended count as 0
+    finish-noted : {b : ℕ} {ns : List ℕ} → Runs c rk m s b ns
+        → Noted c rk (leaving m .cleared) (leaving m .bits) (leaving m .waited) (finish (caller c s) s .bodies)
+    finish-noted {b} k =
+        rw (k .calls, k .rank)
+        (noted-changed fit (sim .noted) (sim .tied .size) b (k .exists) (finished (at bs b)) (with (m .cleared) (rk b)) (m .bits) (m .waited)
+        (sim .noted .bits-long) (sim .noted .masks-long)
+        (rw (has-with-same (m .cleared) (rk b) (rank-below fit b (k .exists))) (sym (none (at bs b .pending))))
+        (λ w h. absurd (true≢false (sym (ap isWaiting h) ∙ awake (at bs b .pending))))
+        (λ r n. rw (has-with-other (m .cleared) (rk b) r n))
+        (λ r n. refl))
+      where
+        none : (w : Bool) → eventBits (cond w (activated (ended (at bs b))) (ended (at bs b))) ≡ 0
+        none true = refl
+        none false = refl
+
+        awake : (w : Bool) → isWaiting (cond w (activated (ended (at bs b))) (ended (at bs b)) .phase) ≡ false
+        awake true = refl
+        awake false = refl
 
     pub agrees-finish : Agrees c p rk m s Finish
     unfolding statusOf effectOf refusalOf stepBy
     agrees-finish =
-        agrees-attempt fit sim Finish (Machine.finishStatus m) (finishStatus c s) (settled (p .priority) (leaving m)) (finish c s) refl refl
+        agrees-attempt fit sim Finish (Machine.finishStatus m) (finishStatus c s) (settled (p .priority) (leaving m)) (finish (caller c s) s) refl refl
         (no-match fit sim long) finish-status
         (λ z. let a = finish-passed c s z in
         by-runner fit sim
         (λ i n. absurd (true≢false (sym n ∙ a .0)))
         (λ b ns k. record {
           status = refl;
-          arb = settled-tied fit (finish c s) (finish-accepted k (a .1));
+          arb = settled-tied fit (finish (caller c s) s) (finish-accepted k (a .1));
           size = length-set bs (caller c s) (finished (calling c s)) ∙ sim .tied .size;
           timed = sim .timed;
           lost = lost-same finish-losses (sim .lost);
+          noted = finish-noted k;
         }))
 
     -- Chain
@@ -217,15 +260,27 @@ module _ {c : Config} {p : Plan} {rk : ℕ → ℕ} (fit : Fitted c p rk) where
         (ap₂ (λ (x y : Bool). x && not y) (busy-is (sim .tied .words) t (task-exists c t q)) (same-task k t (task-exists c t q))))
         (λ _. refl)))))
 
-    -- after the runner's end the chained task has not begun
+    -- after the runner's end the chained task is suspended
     chained-asleep : {b : ℕ} {ns : List ℕ} → Runs c rk m s b ns → (t : ℕ) → (t ≢ caller c s → bodyOf s t .phase ≡ suspended)
-        → isStarted (at (finish c s .bodies) t .phase) ≡ false
+        → hasBegun (at (finish (caller c s) s .bodies) t .phase) ≡ false
     chained-asleep k t asleep =
         by-eq t (caller c s)
-        (λ e. rw e (ap (λ (x : Body). isStarted (x .phase)) (getD-set-same bs (caller c s) (finished (calling c s)) noBody (rw (k .calls, sim .tied .size) (k .exists))) ∙ out (calling c s .pending)))
-        (λ n. ap (λ (x : Body). isStarted (x .phase)) (getD-set-other bs (caller c s) t (finished (calling c s)) noBody n) ∙ rw (asleep n))
+        (λ e. rw e (ap (λ (x : Body). hasBegun (x .phase)) (getD-set-same bs (caller c s) (finished (calling c s)) noBody (rw (k .calls, sim .tied .size) (k .exists))) ∙ out (calling c s .pending)))
+        (λ n. ap (λ (x : Body). hasBegun (x .phase)) (getD-set-other bs (caller c s) t (finished (calling c s)) noBody n) ∙ rw (asleep n))
       where
-        out : (w : Bool) → isStarted (cond w ready suspended) ≡ false
+        out : (w : Bool) → hasBegun (cond w (activated (ended (calling c s))) (ended (calling c s)) .phase) ≡ false
+        out true = refl
+        out false = refl
+
+    -- and has no event bits that count
+    chained-none : {b : ℕ} {ns : List ℕ} → Runs c rk m s b ns → (t : ℕ) → (t ≢ caller c s → bodyOf s t .phase ≡ suspended)
+        → eventBits (at (finish (caller c s) s .bodies) t) ≡ 0
+    chained-none k t asleep =
+        by-eq t (caller c s)
+        (λ e. rw e (ap eventBits (getD-set-same bs (caller c s) (finished (calling c s)) noBody (rw (k .calls, sim .tied .size) (k .exists))) ∙ out (calling c s .pending)))
+        (λ n. ap eventBits (getD-set-other bs (caller c s) t (finished (calling c s)) noBody n) ∙ rw (asleep n))
+      where
+        out : (w : Bool) → eventBits (cond w (activated (ended (calling c s))) (ended (calling c s))) ≡ 0
         out true = refl
         out false = refl
 
@@ -233,7 +288,7 @@ module _ {c : Config} {p : Plan} {rk : ℕ → ℕ} (fit : Fitted c p rk) where
     unfolding statusOf effectOf refusalOf stepBy
     agrees-chain t =
         agrees-attempt fit sim (Chain t) (Machine.chainStatus (p .isrs) (p .task) m t) (chainStatus c s t)
-        (settled (p .priority) (requesting (getD (p .task) t noRank) (leaving m))) (chain c t s) refl refl
+        (settled (p .priority) (requesting (getD (p .task) t noRank) (leaving m))) (chain (caller c s) t s) refl refl
         (no-match fit sim long) (chain-status t)
         (λ z. let a = chain-passed c s t z in
         by-runner fit sim
@@ -241,8 +296,9 @@ module _ {c : Config} {p : Plan} {rk : ℕ → ℕ} (fit : Fitted c p rk) where
         (λ b ns k. rw (task-rank-is t (a .2))
         (record {
           status = refl;
-          arb = settled-tied fit (chain c t s) (activate-tied (finish-accepted k (a .3)) fit t (task-exists c t (a .2)) (chained-asleep k t (a .4)));
-          size = length-set (finish c s .bodies) t (become ready (at (finish c s .bodies) t)) ∙ length-set bs (caller c s) (finished (calling c s)) ∙ sim .tied .size;
+          arb = settled-tied fit (chain (caller c s) t s) (activate-tied (finish-accepted k (a .3)) fit t (task-exists c t (a .2)) (chained-asleep k t (a .4)));
+          size = length-set (finish (caller c s) s .bodies) t (activated (at (finish (caller c s) s .bodies) t)) ∙ length-set bs (caller c s) (finished (calling c s)) ∙ sim .tied .size;
           timed = sim .timed;
-          lost = lost-same (λ i. kept (λ x. x .losses) (become ready) (λ x. refl) (finish c s .bodies) t i ∙ finish-losses i) (sim .lost);
+          lost = lost-same (λ i. kept (λ x. x .losses) activated (λ x. refl) (finish (caller c s) s .bodies) t i ∙ finish-losses i) (sim .lost);
+          noted = activated-noted (finish-noted k) (length-set bs (caller c s) (finished (calling c s)) ∙ sim .tied .size) t (task-exists c t (a .2)) (chained-none k t (a .4));
         })))

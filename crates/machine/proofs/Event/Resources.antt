@@ -13,7 +13,7 @@ use Rattle.config.specs.Meaning.{priorityOf, ceiling}
 use Rattle.plan.specs.declared.Plan.{Plan}
 use Rattle.word.specs.Word.{has}
 use Rattle.scheduler.specs.Status.{done, callLevel, noSuch, access, noFunction}
-use Rattle.scheduler.specs.Body.{Body, isSuspended, gets, releases}
+use Rattle.scheduler.specs.Body.{Body, competes, gets, releases}
 use Rattle.scheduler.specs.State.{State, among, heldIn, bodyOf}
 use Rattle.scheduler.specs.Call.{nobodyRuns, caller, calling, latestIs, getStatus, releaseStatus, get, release}
 use Rattle.scheduler.specs.Tick.{dues}
@@ -30,6 +30,7 @@ use Rattle.machine.proofs.Relation.Words.{at}
 use Rattle.machine.proofs.Relation.Slots.{Slot, slotsFor, slotsAlong, resourcesIn}
 use Rattle.machine.proofs.Relation.Nest.{Nested, by-among, among-tail, among-nil}
 use Rattle.machine.proofs.Relation.Losses.{lost-same}
+use Rattle.machine.proofs.Relation.Bits.{eventBits, noted-same}
 use Rattle.machine.proofs.Relation.Whole.{Tied, Sim}
 use Rattle.machine.proofs.Arbitration.Dispatch.{settled-tied, calm-arbitrated}
 use Rattle.machine.proofs.Change.Hold.{latest-is}
@@ -156,28 +157,29 @@ module _ {c : Config} {p : Plan} {rk : ℕ → ℕ} (fit : Fitted c p rk) {m : M
       (λ _. refl))))
 
   -- Get changes no phase
-  get-phase {ℓ} : {A : Type ℓ} (f : Body → A) → ((x : Body) (r : ℕ) → f (gets r x) ≡ f x) → (r i : ℕ) → f (at (get c r s .bodies) i) ≡ f (at bs i)
+  get-phase {ℓ} : {A : Type ℓ} (f : Body → A) → ((x : Body) (r : ℕ) → f (gets r x) ≡ f x) → (r i : ℕ) → f (at (get (caller c s) r s .bodies) i) ≡ f (at bs i)
   get-phase f keeps r = kept f (gets r) (λ x. keeps x r) bs (caller c s)
 
   pub agrees-get : (r : ℕ) → Agrees c p rk m s (Get r)
   unfolding statusOf effectOf refusalOf stepBy
   agrees-get r =
       agrees-attempt fit sim (Get r) (Machine.getStatus (c .resources) (p .ceiling) (p .priority) m r) (getStatus c s r)
-      (doneWith (getting r (max (getD (p .ceiling) r 0) (m .core .level)) m) false) (get c r s) refl refl
+      (doneWith (getting r (max (getD (p .ceiling) r 0) (m .core .level)) m) false) (get (caller c s) r s) refl refl
       (no-match fit sim long) (get-status r)
       (λ z. let a = get-passed c s r z in
       by-runner fit sim
       (λ i n. absurd (true≢false (sym n ∙ a .0)))
       (λ b ns k.
-      let t : Tied c rk (getting r (max (getD (p .ceiling) r 0) (m .core .level)) m) (get c r s .bodies) (b ∷ ns) =
-      rw (k .calls) (get-tied fit (k .tied) (sim .calm) r (a .1) (flag-is (sim .tied) r ∙ a .2)) in
+      let t : Tied c rk (getting r (max (getD (p .ceiling) r 0) (m .core .level)) m) (get (caller c s) r s .bodies) (b ∷ ns) =
+      rw (k .calls) (get-tied fit (k .tied) r (a .1) (flag-is (sim .tied) r ∙ a .2)) in
       record {
         status = refl;
-        arb = calm-arbitrated fit (get c r s) done t
-            (λ i i< u. let q = sim .calm i i< (sym (get-phase (λ x. isSuspended (x .phase)) (λ x _. refl) r i) ∙ u) in omega arith);
+        arb = calm-arbitrated fit (get (caller c s) r s) done t
+            (λ i i< u. let q = sim .calm i i< (sym (get-phase (λ x. competes (x .phase)) (λ x _. refl) r i) ∙ u) in omega arith);
         size = length-set bs (caller c s) (gets r (calling c s)) ∙ sim .tied .size;
         timed = sim .timed;
         lost = lost-same (get-phase (λ x. x .losses) (λ x _. refl) r) (sim .lost);
+        noted = noted-same (get-phase eventBits (λ x _. refl) r) (λ i w h. sym (get-phase (λ x. x .phase) (λ x _. refl) r i) ∙ h) (sim .noted);
       }))
 
   -- Release
@@ -196,18 +198,20 @@ module _ {c : Config} {p : Plan} {rk : ℕ → ℕ} (fit : Fitted c p rk) {m : M
   unfolding statusOf effectOf refusalOf stepBy
   agrees-release r =
       agrees-attempt fit sim (Release r) (Machine.releaseStatus (c .resources) m r) (releaseStatus c s r)
-      (settled (p .priority) (releasing (p .priority) r m)) (release c s) refl refl
+      (settled (p .priority) (releasing (p .priority) r m)) (release (caller c s) s) refl refl
       (no-match fit sim long) (release-status r)
       (λ z. let a = release-passed c s r z in
       by-runner fit sim
       (λ i n. absurd (true≢false (sym n ∙ a .0)))
       (λ b ns k.
       let h = latest-split r (at bs b .held) (ap (λ (i : ℕ). latestIs r (bodyOf s i .held)) (sym (k .calls)) ∙ a .2) in
-      let t : Tied c rk (releasing (p .priority) r m) (release c s .bodies) (b ∷ ns) = rw (k .calls) (release-tied fit (k .tied) r (a .1) (h .0) (h .1)) in
+      let t : Tied c rk (releasing (p .priority) r m) (release (caller c s) s .bodies) (b ∷ ns) = rw (k .calls) (release-tied fit (k .tied) r (a .1) (h .0) (h .1)) in
       record {
         status = refl;
-        arb = settled-tied fit (release c s) t;
+        arb = settled-tied fit (release (caller c s) s) t;
         size = length-set bs (caller c s) (releases (calling c s)) ∙ sim .tied .size;
         timed = sim .timed;
         lost = lost-same (kept (λ x. x .losses) releases (λ x. refl) bs (caller c s)) (sim .lost);
+        noted = noted-same (kept eventBits releases (λ x. refl) bs (caller c s))
+            (λ i w h. sym (kept (λ x. x .phase) releases (λ x. refl) bs (caller c s) i) ∙ h) (sim .noted);
       }))

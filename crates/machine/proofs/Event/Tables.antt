@@ -155,6 +155,7 @@ module _ {c : Config} {p : Plan} {rk : ℕ → ℕ} (fit : Fitted c p rk) {m : M
         size = sim .tied .size;
         timed = timed;
         lost = sim .lost;
+        noted = sim .noted;
       }
 
   -- Start

@@ -13,7 +13,7 @@ use Rattle.config.specs.declared.Config.{Config}
 use Rattle.config.specs.Meaning.{isTask}
 use Rattle.plan.specs.declared.Plan.{Plan}
 use Rattle.scheduler.specs.Status.{done, firstGiven}
-use Rattle.scheduler.specs.Body.{ready, started, isSuspended, Body, become, loses, activatedByEntry}
+use Rattle.scheduler.specs.Body.{Phase, suspended, ready, started, waiting, isSuspended, isWaiting, hasBegun, Body, activated, loses, activatedByEntry}
 use Rattle.scheduler.specs.State.{State, noBody, changing}
 use Rattle.scheduler.specs.Tick.{counting, counted, dues, activatingDue}
 use Rattle.scheduler.specs.Tick as Plain
@@ -27,8 +27,8 @@ use Rattle.machine.specs.Machine.{statusOf, effectOf, refusalOf}
 use Rattle.plan.proofs.Fitted.{Fitted}
 use Rattle.machine.proofs.Relation.Words.{at, busy-is}
 use Rattle.machine.proofs.Relation.Losses.{Lost, lost-same, lost-one}
+use Rattle.machine.proofs.Relation.Bits.{Noted, noted-touched}
 use Rattle.machine.proofs.Relation.Whole.{Tied, Sim}
-use Rattle.machine.proofs.Arbitration.Choice.{by-phase}
 use Rattle.machine.proofs.Arbitration.Dispatch.{rank-below, settled-tied}
 use Rattle.machine.proofs.Change.Request.{elsewhere, activate-tied, loss-tied}
 use Rattle.machine.proofs.Change.Ticks.{dues-long, marks-due, due-first-cells, ticked-timed}
@@ -60,6 +60,7 @@ module _ {c : Config} {p : Plan} {rk : ℕ → ℕ} (fit : Fitted c p rk) (ns : 
   record Owed (m : Model) (x : Due) (s : State) : Type 0 where
     tied : Tied c rk (withDue m x) (s .bodies) ns
     lost : Lost c rk (x .losses) (s .bodies)
+    noted : Noted c rk (m .cleared) (m .bits) (m .waited) (s .bodies)
 
   -- a match at the rank of a task
   module _ (m : Model) (x : Due) (s : State) (owed : Owed m x s) (t : ℕ) (task : isTask c t ≡ true) where
@@ -71,19 +72,24 @@ module _ {c : Config} {p : Plan} {rk : ℕ → ℕ} (fit : Fitted c p rk) (ns : 
 
     match-owed : Owed m (matchAt (m .core .started) (rk t) x) (changing t activatedByEntry s)
     match-owed =
-        by-phase (at bs t .phase)
-        (λ a n. rw (busy-is (owed .tied .words) t exists, a) (record {
-          tied = elsewhere (activate-tied (owed .tied) fit t exists n) (m .counter) (m .on) (m .turning) (x .losses);
-          lost = lost-same (kept (λ y. y .losses) (become ready) (λ y. refl) bs t) (owed .lost);
-        }))
-        (λ a n. loss a)
-        (λ a n. loss a)
+        go (at bs t .phase) refl
       where
         loss : isSuspended (at bs t .phase) ≡ false → Owed m (matchAt (m .core .started) (rk t) x) (changing t activatedByEntry s)
         loss a = rw (busy-is (owed .tied .words) t exists, a) (record {
           tied = elsewhere (loss-tied (owed .tied) fit t exists) (m .counter) (m .on) (m .turning) (oneLost (rk t) (x .losses));
           lost = lost-one fit (owed .tied .size) (owed .lost) t exists;
+          noted = noted-touched fit (owed .noted) (owed .tied .size) t exists (loses (at bs t)) refl (λ w h. h);
         })
+
+        go : (q : Phase) → at bs t .phase ≡ q → Owed m (matchAt (m .core .started) (rk t) x) (changing t activatedByEntry s)
+        go suspended e = rw (busy-is (owed .tied .words) t exists, ap isSuspended e) (record {
+          tied = elsewhere (activate-tied (owed .tied) fit t exists (ap hasBegun e)) (m .counter) (m .on) (m .turning) (x .losses);
+          lost = lost-same (kept (λ y. y .losses) activated (λ y. refl) bs t) (owed .lost);
+          noted = noted-touched fit (owed .noted) (owed .tied .size) t exists (activated (at bs t)) (rw e) (λ w h. absurd (true≢false (sym (ap isWaiting h))));
+        })
+        go ready e = loss (ap isSuspended e)
+        go started e = loss (ap isSuspended e)
+        go (waiting w) e = loss (ap isSuspended e)
 
   due-owed : (m : Model) (ms : List Bool) (rs ts : List ℕ) → Entries c rk ms rs ts → (x : Due) (s : State) → Owed m x s
       → Owed m (requestsDue (m .core .started) ms rs x) (activatingDue ms ts s)
@@ -120,7 +126,7 @@ module _ {c : Config} {p : Plan} {rk : ℕ → ℕ} (fit : Fitted c p rk) {m : M
   owed : Owed fit (sim .nest) m (requestsDue (m .core .started) ms (p .entry) (record { request = m .core .request; losses = m .losses })) (Plain.ticked c s)
   owed =
       due-owed fit (sim .nest) m ms (p .entry) (c .task) entries (record { request = m .core .request; losses = m .losses }) (counted s)
-      (record { tied = elsewhere (sim .tied) (m .counter) (m .on) (m .turning) (m .losses); lost = sim .lost })
+      (record { tied = elsewhere (sim .tied) (m .counter) (m .on) (m .turning) (m .losses); lost = sim .lost; noted = sim .noted })
 
   due-is : dueOf (p .compare) (p .entry) m ≡ requestsDue (m .core .started) ms (p .entry) (record { request = m .core .request; losses = m .losses })
   due-is =
@@ -144,3 +150,4 @@ module _ {c : Config} {p : Plan} {rk : ℕ → ℕ} (fit : Fitted c p rk) {m : M
       (ticked-tied .size)
       (rw (tables-ticked c s) (ticked-timed c p rk fit (m .turning) (m .counter) (m .on) (s .tables) (sim .timed)))
       (rw due-is (owed .lost))
+      (owed .noted)

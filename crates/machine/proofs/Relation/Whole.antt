@@ -2,7 +2,7 @@
 --
 --   Tied   the words, who runs and the held resources are those of the bodies; another body may still be above the level
 --   Calm   none is
---   Sim    the whole: tied, calm, with the cells and the losses
+--   Sim    the whole: tied, calm, with the cells, the losses and the event bits
 --
 -- Assumes nothing.
 use Prim.Native.Nat.{ℕ, _≤_, _<_}
@@ -13,7 +13,7 @@ use lib.ListN.{length}
 use Rattle.config.specs.declared.Config.{Config}
 use Rattle.config.specs.Meaning.{priorityOf}
 use Rattle.plan.specs.declared.Plan.{Plan}
-use Rattle.scheduler.specs.Body.{Body, isSuspended, isStarted, current}
+use Rattle.scheduler.specs.Body.{Body, competes}
 use Rattle.scheduler.specs.State.{State, among}
 use Rattle.machine.specs.Model.{Model}
 use Rattle.machine.proofs.Relation.Words.{at, Words}
@@ -21,13 +21,7 @@ use Rattle.machine.proofs.Relation.Slots.{slotsAlong, Slots}
 use Rattle.machine.proofs.Relation.Nest.{Nested, Seats}
 use Rattle.machine.proofs.Relation.Cells.{Timed}
 use Rattle.machine.proofs.Relation.Losses.{Lost}
-
--- of two started bodies the lower one, its held resources counted, is below the other's own priority
-abbrev pub Apart : Config → List Body → Type 0
-Apart c bs =
-    (a b : ℕ) → a < c .bodies → b < c .bodies → isStarted (at bs a .phase) ≡ true → isStarted (at bs b .phase) ≡ true
-    → priorityOf c a < priorityOf c b
-    → current c a (at bs a) < priorityOf c b
+use Rattle.machine.proofs.Relation.Bits.{Noted}
 
 pub record Tied (c : Config) (rk : ℕ → ℕ) (m : Model) (bs : List Body) (ns : List ℕ) : Type 0 where
   pub size : length bs ≡ c .bodies
@@ -37,11 +31,10 @@ pub record Tied (c : Config) (rk : ℕ → ℕ) (m : Model) (bs : List Body) (ns
   pub slots : Slots (m .held) (m .resource) (m .holder) (m .raised) (slotsAlong c rk bs ns)
   -- who is in no nest holds nothing
   pub loose : (b : ℕ) → among b ns ≡ false → at bs b .held ≡ []
-  pub apart : Apart c bs
 
 -- no body that is ready or started has an own priority above the level
 abbrev pub Calm : Config → ℕ → List Body → Type 0
-Calm c l bs = (b : ℕ) → b < c .bodies → isSuspended (at bs b .phase) ≡ false → priorityOf c b ≤ l
+Calm c l bs = (b : ℕ) → b < c .bodies → competes (at bs b .phase) ≡ true → priorityOf c b ≤ l
 
 -- the model m of the machine stands for the state s of the plain scheduler
 pub record Sim (c : Config) (p : Plan) (rk : ℕ → ℕ) (m : Model) (s : State) : Type 0 where
@@ -50,3 +43,4 @@ pub record Sim (c : Config) (p : Plan) (rk : ℕ → ℕ) (m : Model) (s : State
   pub calm : Calm c (m .core .level) (s .bodies)
   pub timed : Timed c p (m .counter) (m .on) (m .turning) (s .tables)
   pub lost : Lost c rk (m .losses) (s .bodies)
+  pub noted : Noted c rk (m .cleared) (m .bits) (m .waited) (s .bodies)

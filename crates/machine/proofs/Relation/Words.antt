@@ -1,4 +1,4 @@
--- How the words stand for the bodies: which wait to begin, and which have begun.
+-- How the words stand for the bodies: which wait to begin, which have begun, and which wait for an event bit.
 --
 --   Words c rk k bs   the words of the core k are those of the bodies bs
 --   words-changed     one body is changed, and the words follow it
@@ -15,55 +15,74 @@ use lib.Seq.{getD-set-same, getD-set-other}
 use Rattle.number.proofs.Cases.{by-eq}
 use Rattle.config.specs.declared.Config.{Config}
 use Rattle.plan.specs.declared.Plan.{Plan}
-use Rattle.word.specs.Word.{has}
+use Rattle.word.specs.Word.{has, union}
 use Rattle.word.proofs.Theorems.{has-union}
-use Rattle.scheduler.specs.Body.{Phase, suspended, ready, started, isSuspended, isStarted, Body}
+use Rattle.scheduler.specs.Body.{Phase, suspended, ready, started, waiting, isSuspended, isWaiting, hasBegun, Body}
 use Rattle.scheduler.specs.State.{noBody}
 use Rattle.scheduler.specs.Call.{requestWaits}
 use Rattle.machine.specs.Model.{Core}
-use Rattle.machine.specs.Arbiter.{bids}
 use Rattle.plan.proofs.Fitted.{Fitted}
 
 -- body b of a list of bodies
 abbrev pub at : List Body → ℕ → Body
 at bs b = getD bs b noBody
 
--- a request of the body waits: it is ready, or started with one waiting
+-- a request of the body waits: it is ready, or has begun with one waiting
 abbrev pub wants : Body → Bool
 wants b = requestWaits b (b .phase)
 
 pub record Words (c : Config) (rk : ℕ → ℕ) (k : Core) (bs : List Body) : Type 0 where
   pub request-lt : k .request < 2 ^ 32
   pub started-lt : k .started < 2 ^ 32
+  pub enabled-lt : k .enabled < 2 ^ 32
   pub asks : (b : ℕ) → b < c .bodies → has (k .request) (rk b) ≡ wants (at bs b)
-  pub begun : (b : ℕ) → b < c .bodies → has (k .started) (rk b) ≡ isStarted (at bs b .phase)
-  -- a bit that bids is some body's
-  pub real : (r : ℕ) → has (bids k) r ≡ true → (b : ℕ) × ((b < c .bodies) × (rk b ≡ r))
+  pub begun : (b : ℕ) → b < c .bodies → has (k .started) (rk b) ≡ hasBegun (at bs b .phase)
+  pub awake : (b : ℕ) → b < c .bodies → has (k .enabled) (rk b) ≡ not (isWaiting (at bs b .phase))
+  -- a bit of one that wants to begin, or has begun, is some body's
+  pub real : (r : ℕ) → has (union (k .request) (k .started)) r ≡ true → (b : ℕ) × ((b < c .bodies) × (rk b ≡ r))
   -- who has not begun has no second request
-  pub quiet : (b : ℕ) → isStarted (at bs b .phase) ≡ false → at bs b .pending ≡ false
+  pub quiet : (b : ℕ) → hasBegun (at bs b .phase) ≡ false → at bs b .pending ≡ false
+
+-- the words of k agree with the body y at the rank r
+pub record Marks (k : Core) (r : ℕ) (y : Body) : Type 0 where
+  pub asks : has (k .request) r ≡ wants y
+  pub begun : has (k .started) r ≡ hasBegun (y .phase)
+  pub awake : has (k .enabled) r ≡ not (isWaiting (y .phase))
+  pub quiet : hasBegun (y .phase) ≡ false → y .pending ≡ false
+
+-- the words of k′ are those of k but for the rank r
+pub record Elsewhere (k′ k : Core) (r : ℕ) : Type 0 where
+  pub request-lt : k′ .request < 2 ^ 32
+  pub started-lt : k′ .started < 2 ^ 32
+  pub enabled-lt : k′ .enabled < 2 ^ 32
+  pub asks : (i : ℕ) → i ≢ r → has (k′ .request) i ≡ has (k .request) i
+  pub begun : (i : ℕ) → i ≢ r → has (k′ .started) i ≡ has (k .started) i
+  pub awake : (i : ℕ) → i ≢ r → has (k′ .enabled) i ≡ has (k .enabled) i
 
 -- body b becomes y, the words agree with y at its rank, and are as before elsewhere
 module _ {c : Config} {p : Plan} {rk : ℕ → ℕ} (fit : Fitted c p rk) {k : Core} {bs : List Body} (w : Words c rk k bs) (size : length bs ≡ c .bodies)
     (b : ℕ) (b< : b < c .bodies) (y : Body) (k′ : Core) where
-  pub words-changed : has (k′ .request) (rk b) ≡ wants y → has (k′ .started) (rk b) ≡ isStarted (y .phase)
-      → ((r : ℕ) → r ≢ rk b → has (k′ .request) r ≡ has (k .request) r) → ((r : ℕ) → r ≢ rk b → has (k′ .started) r ≡ has (k .started) r)
-      → (isStarted (y .phase) ≡ false → y .pending ≡ false) → k′ .request < 2 ^ 32 → k′ .started < 2 ^ 32 → Words c rk k′ (set bs b y)
-  words-changed asked began other-asks other-begun still q-lt s-lt =
+  pub words-changed : Marks k′ (rk b) y → Elsewhere k′ k (rk b) → Words c rk k′ (set bs b y)
+  words-changed here there =
       record {
-        request-lt = q-lt;
-        started-lt = s-lt;
+        request-lt = there .request-lt;
+        started-lt = there .started-lt;
+        enabled-lt = there .enabled-lt;
         asks = λ i i<. by-eq i b
-            (λ e. rw (e, at-b) asked)
-            (λ n. rw (at-other i n) (other-asks (rk i) (other-rank i i< n) ∙ w .asks i i<));
+            (λ e. rw (e, at-b) (here .asks))
+            (λ n. rw (at-other i n) (there .asks (rk i) (other-rank i i< n) ∙ w .asks i i<));
         begun = λ i i<. by-eq i b
-            (λ e. rw (e, at-b) began)
-            (λ n. rw (at-other i n) (other-begun (rk i) (other-rank i i< n) ∙ w .begun i i<));
+            (λ e. rw (e, at-b) (here .begun))
+            (λ n. rw (at-other i n) (there .begun (rk i) (other-rank i i< n) ∙ w .begun i i<));
+        awake = λ i i<. by-eq i b
+            (λ e. rw (e, at-b) (here .awake))
+            (λ n. rw (at-other i n) (there .awake (rk i) (other-rank i i< n) ∙ w .awake i i<));
         real = λ r h. by-eq r (rk b)
             (λ e. (b, (b<, sym e)))
-            (λ n. w .real r (has-union (k .request) (k .started) r ∙ sym (ap₂ (λ (x z : Bool). x || z) (other-asks r n) (other-begun r n)) ∙ sym (has-union (k′ .request) (k′ .started) r) ∙ h));
+            (λ n. w .real r (has-union (k .request) (k .started) r ∙ sym (ap₂ (λ (x z : Bool). x || z) (there .asks r n) (there .begun r n)) ∙ sym (has-union (k′ .request) (k′ .started) r) ∙ h));
         quiet = λ i h. by-eq i b
-            (λ e. rw (e, at-b) (still (sym (ap (λ (z : Body). isStarted (z .phase)) at-b) ∙ sym (ap (λ (j : ℕ). isStarted (at (set bs b y) j .phase)) e) ∙ h)))
-            (λ n. rw (at-other i n) (w .quiet i (sym (ap (λ (z : Body). isStarted (z .phase)) (at-other i n)) ∙ h)));
+            (λ e. rw (e, at-b) (here .quiet (sym (ap (λ (z : Body). hasBegun (z .phase)) at-b) ∙ sym (ap (λ (j : ℕ). hasBegun (at (set bs b y) j .phase)) e) ∙ h)))
+            (λ n. rw (at-other i n) (w .quiet i (sym (ap (λ (z : Body). hasBegun (z .phase)) (at-other i n)) ∙ h)));
       }
     where
       at-b : at (set bs b y) b ≡ y
@@ -75,6 +94,31 @@ module _ {c : Config} {p : Plan} {rk : ℕ → ℕ} (fit : Fitted c p rk) {k : C
       other-rank : (i : ℕ) → i < c .bodies → i ≢ b → rk i ≢ rk b
       other-rank i i< n e = n (fit .rank-inj i b i< b< e)
 
+-- whether a request waits goes by the phase and the mark alone
+pub waits-same : (x y : Body) (q : Phase) → x .pending ≡ y .pending → requestWaits x q ≡ requestWaits y q
+waits-same x y suspended e = refl
+waits-same x y ready e = refl
+waits-same x y started e = e
+waits-same x y (waiting w) e = e
+
+-- a body of the same phase and with the same second request has the same marks
+module _ {c : Config} {rk : ℕ → ℕ} {k : Core} {bs : List Body} (w : Words c rk k bs) (b : ℕ) (b< : b < c .bodies) (y : Body)
+    (phase : y .phase ≡ at bs b .phase) (second : y .pending ≡ at bs b .pending) (r l : ℕ) where
+  pub marks-same : Marks (record { request = k .request; started = k .started; enabled = k .enabled; runner = r; level = l }) (rk b) y
+  marks-same =
+      record {
+        asks = w .asks b b< ∙ waits-same (at bs b) y (at bs b .phase) (sym second) ∙ ap (requestWaits y) (sym phase);
+        begun = w .begun b b< ∙ ap hasBegun (sym phase);
+        awake = w .awake b b< ∙ ap (λ (q : Phase). not (isWaiting q)) (sym phase);
+        quiet = λ h. second ∙ w .quiet b (sym (ap hasBegun phase) ∙ h);
+      }
+
+-- words that stay as they are
+pub elsewhere-same : {c : Config} {rk : ℕ → ℕ} {k : Core} {bs : List Body} (w : Words c rk k bs) (r l : ℕ) (i : ℕ)
+    → Elsewhere (record { request = k .request; started = k .started; enabled = k .enabled; runner = r; level = l }) k i
+elsewhere-same w r l i =
+    record { request-lt = w .request-lt; started-lt = w .started-lt; enabled-lt = w .enabled-lt; asks = λ j n. refl; begun = λ j n. refl; awake = λ j n. refl }
+
 -- a body has a bit in one of the two words exactly if it isn't suspended
 pub busy-is : {c : Config} {rk : ℕ → ℕ} {k : Core} {bs : List Body} → Words c rk k bs → (t : ℕ) → t < c .bodies
     → has (k .request) (rk t) || has (k .started) (rk t) ≡ not (isSuspended (at bs t .phase))
@@ -84,7 +128,8 @@ busy-is {bs = bs} w t h = ap₂ (λ (x y : Bool). x || y) (w .asks t h) (w .begu
     or-true true = refl
     or-true false = refl
 
-    go : (b : Body) (q : Phase) → requestWaits b q || isStarted q ≡ not (isSuspended q)
+    go : (b : Body) (q : Phase) → requestWaits b q || hasBegun q ≡ not (isSuspended q)
     go b suspended = refl
     go b ready = refl
     go b started = or-true (b .pending)
+    go b (waiting w) = or-true (b .pending)

@@ -2,7 +2,7 @@
 -- Assumes nothing.
 use Prim.Native.Nat.{ℕ, _<_}
 use mathlib.Core.Path.{_≡_, refl, sym, ap, _∙_}
-use mathlib.Core.Bool.{Bool, true, false, true≢false, cond, _||_}
+use mathlib.Core.Bool.{Bool, true, false, true≢false, cond, not, _||_}
 use mathlib.Core.List.{[], map}
 use native.Mathlib.Omega.{arith}
 use lib.Dec.{eqb}
@@ -11,9 +11,10 @@ use lib.Seq.{getD-take, length-take-le}
 use Rattle.config.specs.declared.Config.{Config}
 use Rattle.plan.specs.declared.Plan.{Plan}
 use Rattle.word.specs.Word.{has}
-use Rattle.word.proofs.Theorems.{empty, has-union}
-use Rattle.scheduler.specs.Body.{Body, isStarted, ready, become}
+use Rattle.word.proofs.Theorems.{empty, has-union, has-full}
+use Rattle.scheduler.specs.Body.{Body, isWaiting, hasBegun, activated}
 use Rattle.scheduler.specs.State.{stopped, State, noBody, among}
+use Rattle.scheduler.specs.Scheduler as Plain
 use Rattle.scheduler.specs.Scheduler.{newBody, fresh}
 use Rattle.scheduler.proofs.Effects.{tables-dispatched}
 use Rattle.machine.specs.Machine.{unstarted, freshModel}
@@ -26,28 +27,29 @@ use Rattle.machine.proofs.Relation.Free.{missing-empty}
 use Rattle.machine.proofs.Relation.Nest.{Nested, Seats}
 use Rattle.machine.proofs.Relation.Cells.{CellFits, Timed}
 use Rattle.machine.proofs.Relation.Losses.{Lost, lost-same}
+use Rattle.machine.proofs.Relation.Bits.{eventBits, Noted, noted-same}
 use Rattle.machine.proofs.Relation.Whole.{Tied, Sim}
-use Rattle.machine.proofs.Arbitration.Dispatch.{settled-tied}
-use Rattle.machine.proofs.Event.Agrees.{dispatched-losses}
+use Rattle.machine.proofs.Arbitration.Dispatch.{rank-below, settled-tied}
+use Rattle.machine.proofs.Event.Agrees.{dispatched-losses, dispatched-bits, dispatched-masks}
 
 -- whatever a new body is, it has not begun, holds nothing and lost nothing
 new-wants : (a : ℕ) → wants (newBody a) ≡ eqb a 1
 new-wants a = go (eqb a 1)
   where
-    go : (b : Bool) → wants (cond b (become ready noBody) noBody) ≡ b
+    go : (b : Bool) → wants (cond b (activated noBody) noBody) ≡ b
     go true = refl
     go false = refl
 
-new-same {ℓ} : {A : Type ℓ} (f : Body → A) → f (become ready noBody) ≡ f noBody → (a : ℕ) → f (newBody a) ≡ f noBody
+new-same {ℓ} : {A : Type ℓ} (f : Body → A) → f (activated noBody) ≡ f noBody → (a : ℕ) → f (newBody a) ≡ f noBody
 new-same f e a = go (eqb a 1)
   where
-    go : (b : Bool) → f (cond b (become ready noBody) noBody) ≡ f noBody
+    go : (b : Bool) → f (cond b (activated noBody) noBody) ≡ f noBody
     go true = e
     go false = refl
 
 module _ {c : Config} {p : Plan} {rk : ℕ → ℕ} (fit : Fitted c p rk) where
   abbrev unbegun : State
-  unbegun = record { bodies = map newBody (take (c .bodies) (c .autostart)); tables = replicate (c .tables) stopped }
+  unbegun = Plain.unstarted c
 
   size : length (unbegun .bodies) ≡ c .bodies
   size = length-map (take (c .bodies) (c .autostart)) newBody ∙ length-take-le (c .bodies) (c .autostart) (omega (arith, fit .few, fit .autostarts-long))
@@ -59,7 +61,7 @@ module _ {c : Config} {p : Plan} {rk : ℕ → ℕ} (fit : Fitted c p rk) where
   at-known : (b : ℕ) → b < c .bodies → at (unbegun .bodies) b ≡ newBody (getD (c .autostart) b 0)
   at-known b h = at-new b ∙ ap newBody (getD-take (c .bodies) (c .autostart) b 0 h)
 
-  at-same {ℓ} : {A : Type ℓ} (f : Body → A) → f (become ready noBody) ≡ f noBody → (b : ℕ) → f (at (unbegun .bodies) b) ≡ f noBody
+  at-same {ℓ} : {A : Type ℓ} (f : Body → A) → f (activated noBody) ≡ f noBody → (b : ℕ) → f (at (unbegun .bodies) b) ≡ f noBody
   at-same f e b = ap f (at-new b) ∙ new-same f e (getD (take (c .bodies) (c .autostart)) b 0)
 
   unbegun-tied : Tied c rk (unstarted (p .autostart)) (unbegun .bodies) []
@@ -70,8 +72,10 @@ module _ {c : Config} {p : Plan} {rk : ℕ → ℕ} (fit : Fitted c p rk) where
         words = record {
           request-lt = fit .autostart-lt;
           started-lt = omega arith;
+          enabled-lt = omega arith;
           asks = λ b b<. fit .autostart-at b b< ∙ sym (ap wants (at-known b b<) ∙ new-wants (getD (c .autostart) b 0));
-          begun = λ b b<. empty (rk b) ∙ sym (at-same (λ x. isStarted (x .phase)) refl b);
+          begun = λ b b<. empty (rk b) ∙ sym (at-same (λ x. hasBegun (x .phase)) refl b);
+          awake = λ b b<. has-full (rk b) (rank-below fit b b<) ∙ sym (at-same (λ x. not (isWaiting (x .phase))) refl b);
           real = λ r h. fit .autostart-real r (or-false (has (p .autostart) r) ∙ ap (λ (b : Bool). has (p .autostart) r || b) (sym (empty r)) ∙ sym (has-union (p .autostart) 0 r) ∙ h);
           quiet = λ b h. at-same (λ x. x .pending) refl b;
         };
@@ -86,7 +90,6 @@ module _ {c : Config} {p : Plan} {rk : ℕ → ℕ} (fit : Fitted c p rk) where
           counted = omega (arith, missing-empty 16);
         };
         loose = λ b h. at-same (λ x. x .held) refl b;
-        apart = λ a b a< b< sa sb l. absurd (true≢false (sym sa ∙ at-same (λ x. isStarted (x .phase)) refl a));
       }
     where
       or-false : (b : Bool) → b ≡ b || false
@@ -105,6 +108,15 @@ module _ {c : Config} {p : Plan} {rk : ℕ → ℕ} (fit : Fitted c p rk) where
         unturned = λ _ e. ap hasTurn (same-everywhere 64 switchOff e);
       }
 
+  unbegun-noted : Noted c rk 0 (replicate 32 0) (replicate 32 0) (unbegun .bodies)
+  unbegun-noted =
+      record {
+        bits-long = refl;
+        masks-long = refl;
+        bits-are = λ b b<. rw (empty (rk b)) (same-everywhere 32 0 (rk b)) ∙ sym (at-same eventBits refl b);
+        mask-is = λ b w b< h. absurd (true≢false (sym (ap isWaiting h) ∙ at-same (λ x. isWaiting (x .phase)) refl b));
+      }
+
   unbegun-lost : Lost c rk (replicate 32 0) (unbegun .bodies)
   unbegun-lost =
       record {
@@ -121,4 +133,5 @@ module _ {c : Config} {p : Plan} {rk : ℕ → ℕ} (fit : Fitted c p rk) where
         calm = arb .calm;
         timed = rw (tables-dispatched c unbegun) unbegun-timed;
         lost = lost-same (dispatched-losses c unbegun) unbegun-lost;
+        noted = noted-same (dispatched-bits c unbegun) (dispatched-masks c unbegun) unbegun-noted;
       }
