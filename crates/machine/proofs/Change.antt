@@ -1,6 +1,7 @@
 -- What one change leaves of the relation.
 pub mod Request
 pub mod End
+pub mod Bits
 pub mod Hold
 pub mod Get
 pub mod Release

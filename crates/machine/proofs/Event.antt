@@ -1,6 +1,7 @@
--- The nine events, each of which does the same to the model as to the state.
+-- The twelve events, each of which does the same to the model as to the state.
 pub mod Agrees
 pub mod Bodies
 pub mod Resources
 pub mod Tick
 pub mod Tables
+pub mod Bits

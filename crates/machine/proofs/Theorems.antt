@@ -24,14 +24,16 @@ use Rattle.plan.specs.Rank.{rankOf}
 use Rattle.plan.specs.Plan.{planOf}
 use Rattle.cell.specs.Cell.{startCell, stopped}
 use Rattle.scheduler.specs.Status.{done, limitReached}
+use Rattle.scheduler.specs.Bits.{anySet}
 use Rattle.scheduler.specs.Tick.{dues}
 use Rattle.scheduler.specs.Entries.{entriesOf, entryAt}
-use Rattle.scheduler.specs.Scheduler.{Event, Activate, Finish, Chain, Get, Release, Tick, Line, Start, Stop, fresh, seen, after}
+use Rattle.scheduler.specs.Scheduler.{Event, Activate, Finish, Chain, Get, Release, Tick, Line, Start, Stop, Wait, Set, Clear, fresh, seen, after}
 use Rattle.scheduler.specs.History.{dueMark, DueAt}
 use Rattle.scheduler.proofs.Theorems.{due-exactly}
-use Rattle.machine.specs.Model.{Model, Outcome, noRank, withLosses}
+use Rattle.machine.specs.Model.{Model, Outcome, noRank, withLosses, doneWith}
+use Rattle.machine.specs.Arbiter.{settled}
 use Rattle.machine.specs.Cells.{oneLost}
-use Rattle.machine.specs.Events.{attempt, tick}
+use Rattle.machine.specs.Events.{attempt, tick, bitsAt, pausing}
 use Rattle.machine.specs.Machine.{freshModel, statusOf, effectOf, refusalOf, machineStep, LostLine, cellIn, machineSeen, machineAfter}
 use Rattle.machine.proofs.Relation.Whole.{Sim}
 use Rattle.machine.proofs.Change.Ticks.{dues-long}
@@ -115,6 +117,13 @@ effect-done c p m Tick = refl
 effect-done c p m (Line i) = refl
 effect-done c p m (Start t d) = refl
 effect-done c p m (Stop t) = refl
+effect-done c p m (Wait w) = go (anySet (bitsAt m (m .core .runner)) w)
+  where
+    go : (b : Bool) → cond b (doneWith m false) (settled (p .priority) (pausing w m)) .status ≡ done
+    go true = refl
+    go false = refl
+effect-done c p m (Set t w) = refl
+effect-done c p m (Clear w) = refl
 
 attempt-status : (m : Model) (st : ℕ) (o : Outcome) → o .status ≡ done → attempt m st o .status ≡ st
 attempt-status m st o e =
@@ -151,6 +160,9 @@ module _ (c : Config) (p : Plan) (m : Model) where
       go false e = refl
   refusal-same (Start t d) kept = refl
   refusal-same (Stop t) kept = refl
+  refusal-same (Wait w) kept = refl
+  refusal-same (Set t w) kept = refl
+  refusal-same (Clear w) kept = refl
 
   -- "A status other than 0 changes nothing", whatever the model; "For version 2, demand 1's "changes nothing" excepts that count": a Line
   -- refused with 4 changes the losses at the ISR's rank, up to 65,535, and nothing else

@@ -55,7 +55,7 @@ module _ (c : Config) where
   isr-exists i e = ltb-true i (c .bodies) (both (ltb i (c .bodies)) _ e .0)
 
 -- a runner that holds nothing
-nothing-held : (rs : List ℕ) → holds rs ≡ false → rs ≡ []
+pub nothing-held : (rs : List ℕ) → holds rs ≡ false → rs ≡ []
 nothing-held [] h = refl
 nothing-held (r ∷ rs) h = absurd (true≢false h)
 
@@ -68,10 +68,10 @@ module _ {c : Config} {p : Plan} {rk : ℕ → ℕ} (fit : Fitted c p rk) where
       go true h = ne-eqb (rk t) noRank (λ z. absurd (omega (arith, z, rank-below fit t (real t h))))
       go false h = refl
 
-  no-task : (t : ℕ) → eqb (getD (p .task) t noRank) noRank ≡ not (isTask c t)
+  pub no-task : (t : ℕ) → eqb (getD (p .task) t noRank) noRank ≡ not (isTask c t)
   no-task t = missing-rank (isTask c) (task-exists c) t (getD (p .task) t noRank) (fit .task-rank t)
 
-  task-rank-is : (t : ℕ) → isTask c t ≡ true → getD (p .task) t noRank ≡ rk t
+  pub task-rank-is : (t : ℕ) → isTask c t ≡ true → getD (p .task) t noRank ≡ rk t
   task-rank-is t h = fit .task-rank t ∙ rw h
 
   line-rank-is : (i : ℕ) → isIsr c i ≡ true → getD (p .line) i noRank ≡ rk i
@@ -182,7 +182,7 @@ module _ {c : Config} {p : Plan} {rk : ℕ → ℕ} (fit : Fitted c p rk) where
         same-losses x (waiting w) = refl
 
     -- "the runner holds a resource"
-    holding-same : {b : ℕ} {ns : List ℕ} → Runs c rk m s b ns → holding m ≡ holds (calling c s .held)
+    pub holding-same : {b : ℕ} {ns : List ℕ} → Runs c rk m s b ns → holding m ≡ holds (calling c s .held)
     holding-same k = holding-is fit (k .tied) ∙ ap (λ (i : ℕ). holds (bodyOf s i .held)) (sym (k .calls))
 
     -- Finish

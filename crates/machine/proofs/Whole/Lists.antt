@@ -1,5 +1,5 @@
--- Demand 3. Take any accepted configuration and any list of events: Activate, Finish, Chain, Get, Release, Tick, Line, Start and Stop in any
--- order, refused ones included, without limit. Put it through the machine, from its fresh start, where each event gets the model that the one
+-- Demand 3. Take any accepted configuration and any list of events: Activate, Finish, Chain, Get, Release, Tick, Line, Start, Stop, Wait, Set and
+-- Clear in any order, refused ones included, without limit. Put it through the machine, from its fresh start, where each event gets the model that the one
 -- before it handed back; and put it through the plain scheduler, which has no request word or cell. What is seen of the two is the same
 -- list: for every event the status, the running body, the level and the begun mark, every body's losses, and for every entry whether its cell
 -- matched (machine) or whether it is due by the table's arithmetic (scheduler).
@@ -16,7 +16,7 @@ use Rattle.config.specs.declared.Config.{Config}
 use Rattle.plan.specs.declared.Plan.{Plan}
 use Rattle.scheduler.specs.State.{State}
 use Rattle.scheduler.specs.Tick.{dues}
-use Rattle.scheduler.specs.Scheduler.{Event, Activate, Finish, Chain, Get, Release, Tick, Line, Start, Stop, Seen, seen, seenBy, after, afterBy}
+use Rattle.scheduler.specs.Scheduler.{Event, Activate, Finish, Chain, Get, Release, Tick, Line, Start, Stop, Wait, Set, Clear, Seen, seen, seenBy, after, afterBy}
 use Rattle.machine.specs.Model.{Model}
 use Rattle.machine.specs.Machine.{machineSeen, machineAfter}
 use Rattle.plan.proofs.Fitted.{Fitted}
@@ -27,6 +27,7 @@ use Rattle.machine.proofs.Event.Bodies.{agrees-activate, agrees-line, a
 use Rattle.machine.proofs.Event.Resources.{agrees-get, agrees-release}
 use Rattle.machine.proofs.Event.Tick.{agrees-tick}
 use Rattle.machine.proofs.Event.Tables.{agrees-start, agrees-stop}
+use Rattle.machine.proofs.Event.Bits.{agrees-wait, agrees-set, agrees-clear}
 
 module _ {c : Config} {p : Plan} {rk : ℕ → ℕ} (fit : Fitted c p rk) where
   pub event-agrees : {m : Model} {s : State} (e : Event) → Sim c p rk m s → Agrees c p rk m s e
@@ -42,6 +43,9 @@ module _ {c : Config} {p : Plan} {rk : ℕ → ℕ} (fit : Fitted c p rk) where
       by (Line i) long = agrees-line fit sim long i
       by (Start t d) long = agrees-start fit sim long t d
       by (Stop t) long = agrees-stop fit sim long t
+      by (Wait w) long = agrees-wait fit sim long w
+      by (Set t w) long = agrees-set fit sim long t w
+      by (Clear w) long = agrees-clear fit sim long w
 
   pub agreement-from : (es : List Event) {m : Model} {s : State} → Sim c p rk m s → machineSeen c p m es ≡ seen c s es
   unfolding machineSeen seenBy

@@ -1,0 +1,194 @@
+-- Wait, Set and Clear do the same to the model as to the state.
+-- Assumes nothing.
+use Prim.Native.Nat.{ℕ, _<_}
+use mathlib.Core.Path.{_≡_, refl, sym, ap, _∙_}
+use mathlib.Core.Bool.{Bool, true, false, true≢false, cond, not}
+use mathlib.Core.List.{List, [], _∷_}
+use native.Mathlib.Omega.{arith}
+use borrow.Author.Tests.{not-false, not-true}
+use lib.Dec.{eqb}
+use lib.ListN.{length, getD, set, length-set}
+use lib.Seq.{getD-set-same, getD-set-other, set-getD}
+use Rattle.config.specs.declared.Config.{Config}
+use Rattle.config.specs.Meaning.{isTask, isExtended}
+use Rattle.plan.specs.declared.Plan.{Plan}
+use Rattle.word.specs.Word.{has, without}
+use Rattle.scheduler.specs.Status.{done, callLevel, noSuch, access, holdsResource, wrongState}
+use Rattle.scheduler.specs.Bits.{anySet, withoutBits}
+use Rattle.scheduler.specs.Body.{Phase, suspended, ready, started, waiting, isSuspended, isStarted, competes, Body, holds, become, waits, receives, clears}
+use Rattle.scheduler.specs.State.{State, noBody, bodyOf}
+use Rattle.scheduler.specs.Call.{nobodyRuns, caller, calling, active, waitStatus, setStatus, clearStatus, wait, setEvent, clear}
+use Rattle.scheduler.specs.Tick.{dues}
+use Rattle.scheduler.specs.Scheduler.{Wait, Set, Clear, stepBy}
+use Rattle.scheduler.proofs.Checks.{wait-passed, set-passed, clear-passed}
+use Rattle.machine.specs.Model.{Model, Outcome, noRank, withEnabled, doneWith}
+use Rattle.machine.specs.Arbiter.{settled}
+use Rattle.machine.specs.Resources.{holding}
+use Rattle.machine.specs.Events as Machine
+use Rattle.machine.specs.Events.{idles, busy, bitsAt, pausing, receiving, clearing}
+use Rattle.machine.specs.Machine.{statusOf, effectOf, refusalOf}
+use Rattle.plan.proofs.Fitted.{Fitted}
+use Rattle.machine.proofs.Relation.Words.{at, busy-is, words-changed, marks-same, elsewhere-same}
+use Rattle.machine.proofs.Relation.Nest.{Nested}
+use Rattle.machine.proofs.Relation.Losses.{lost-same}
+use Rattle.machine.proofs.Relation.Bits.{Noted, noted-changed}
+use Rattle.machine.proofs.Relation.Whole.{Tied, Sim}
+use Rattle.machine.proofs.Arbitration.Dispatch.{rank-below, settled-tied, calm-arbitrated}
+use Rattle.machine.proofs.Change.Request.{touched-tied, events-tied}
+use Rattle.machine.proofs.Change.End.{pause-tied}
+use Rattle.machine.proofs.Change.Bits.{bits-of, receive-tied, receive-noted, clear-noted}
+use Rattle.machine.proofs.Event.Agrees.{kept, first-same, Agrees, Accepted, Runs, by-runner, idle-same, agrees-attempt, no-match}
+use Rattle.machine.proofs.Event.Bodies.{task-exists, nothing-held, no-task, task-rank-is, holding-same}
+
+-- a body that is started isn't suspended
+started-active : (q : Phase) → isStarted q ≡ true → isSuspended q ≡ false
+started-active suspended h = absurd (true≢false (sym h))
+started-active ready h = refl
+started-active started h = refl
+started-active (waiting w) h = refl
+
+module _ {c : Config} {p : Plan} {rk : ℕ → ℕ} (fit : Fitted c p rk) {m : Model} {s : State} (sim : Sim c p rk m s)
+    (long : length (dues c s) ≡ p .count) where
+  abbrev bs : List Body
+  bs = s .bodies
+
+  -- "not extended", of the runner
+  extended-same : {b : ℕ} {ns : List ℕ} → Runs c rk m s b ns → has (p .extended) (m .core .runner) ≡ isExtended c (caller c s)
+  extended-same {b} k = rw (k .rank) (fit .extended-at b (k .exists)) ∙ ap (isExtended c) (sym (k .calls))
+
+  runner-active : {b : ℕ} {ns : List ℕ} → Runs c rk m s b ns → isSuspended (at bs b .phase) ≡ false
+  unfolding Nested
+  runner-active {b} k = started-active (at bs b .phase) (k .tied .nested .1 .0)
+
+  -- Wait
+  wait-status : (w : ℕ) → Machine.waitStatus (p .extended) m ≡ waitStatus c s w
+  wait-status w =
+      by-runner fit sim
+      (λ i n. first-same (idles m) (nobodyRuns c s) callLevel _ _ (i ∙ sym n) (λ h. absurd (true≢false (sym n ∙ h))))
+      (λ b ns k.
+      first-same (idles m) (nobodyRuns c s) callLevel _ _ (k .not-idle ∙ sym (k .somebody))
+      (λ _. first-same (not (has (p .extended) (m .core .runner))) (not (isExtended c (caller c s))) access _ _ (ap not (extended-same k))
+      (λ _. first-same (holding m) (holds (calling c s .held)) holdsResource _ _ (holding-same fit sim long k) (λ _. refl))))
+
+  -- where no waited bit is set the runner waits
+  paused-noted : {b : ℕ} {ns : List ℕ} → Runs c rk m s b ns → (w : ℕ)
+      → Noted c rk (pausing w m .cleared) (pausing w m .bits) (pausing w m .waited) (set bs b (become (waiting w) (at bs b)))
+  paused-noted {b} k w =
+      rw (k .rank)
+      (noted-changed fit (sim .noted) (sim .tied .size) b (k .exists) (become (waiting w) (at bs b)) (m .cleared) (m .bits) (set (m .waited) (rk b) w)
+      (sim .noted .bits-long)
+      (length-set (m .waited) (rk b) w ∙ sim .noted .masks-long)
+      (bits-of m (sim .noted) b (k .exists) (runner-active k))
+      (λ v h. getD-set-same (m .waited) (rk b) w 0 (omega (arith, sim .noted .masks-long, rank-below fit b (k .exists))) ∙ mask w v h)
+      (λ r d. refl)
+      (λ r d. getD-set-other (m .waited) (rk b) r w 0 d))
+    where
+      mask : (u v : ℕ) → waiting u ≡ waiting v → u ≡ v
+      mask u v h = cc
+
+  wait-accepted : {b : ℕ} {ns : List ℕ} → Runs c rk m s b ns → (w : ℕ) → at bs b .held ≡ [] → (z : Bool)
+      → Accepted c p rk (cond z (doneWith m false) (settled (p .priority) (pausing w m)))
+      (record { bodies = set bs b (cond z (at bs b) (become (waiting w) (at bs b))); tables = s .tables })
+  wait-accepted {b} k w free true =
+      rw (set-getD bs b noBody)
+      (record {
+        status = refl;
+        arb = calm-arbitrated fit s done (sim .tied) (sim .calm);
+        size = sim .tied .size;
+        timed = sim .timed;
+        lost = sim .lost;
+        noted = sim .noted;
+      })
+  wait-accepted {b} k w free false =
+      record {
+        status = refl;
+        arb = settled-tied fit (record { bodies = set bs b (become (waiting w) (at bs b)); tables = s .tables }) (pause-tied fit (k .tied) free w);
+        size = length-set bs b (become (waiting w) (at bs b)) ∙ sim .tied .size;
+        timed = sim .timed;
+        lost = lost-same (kept (λ x. x .losses) (become (waiting w)) (λ x. refl) bs b) (sim .lost);
+        noted = paused-noted k w;
+      }
+
+  pub agrees-wait : (w : ℕ) → Agrees c p rk m s (Wait w)
+  unfolding statusOf effectOf refusalOf stepBy
+  agrees-wait w =
+      agrees-attempt fit sim (Wait w) (Machine.waitStatus (p .extended) m) (waitStatus c s w) (Machine.waitEffect (p .priority) m w) (wait (caller c s) w s)
+      refl refl (no-match fit sim long) (wait-status w)
+      (λ z. let a = wait-passed c s w z in
+      by-runner fit sim
+      (λ i n. absurd (true≢false (sym n ∙ a .0)))
+      (λ b ns k.
+      let free : at bs b .held ≡ [] = nothing-held (at bs b .held) (sym (ap (λ (i : ℕ). holds (bodyOf s i .held)) (k .calls)) ∙ a .2) in
+      rw (k .calls)
+      (rw (ap (bitsAt m) (k .rank) ∙ bits-of m (sim .noted) b (k .exists) (runner-active k)) (wait-accepted k w free (anySet (at bs b .bits) w)))))
+
+  -- Set
+  set-status : (t w : ℕ) → Machine.setStatus (p .extended) (p .task) m t ≡ setStatus c s t w
+  set-status t w =
+      first-same (idles m) (nobodyRuns c s) callLevel _ _ (idle-same fit sim)
+      (λ _. first-same (eqb (getD (p .task) t noRank) noRank) (not (isTask c t)) noSuch _ _ (no-task fit t)
+      (λ h. let q = not-false (isTask c t) h in
+      first-same (not (has (p .extended) (getD (p .task) t noRank))) (not (isExtended c t)) access _ _
+      (rw (task-rank-is fit t q) (ap not (fit .extended-at t (task-exists c t q))))
+      (λ _. first-same (not (busy m (getD (p .task) t noRank))) (not (active s t)) wrongState _ _
+      (rw (task-rank-is fit t q) (ap not (busy-is (sim .tied .words) t (task-exists c t q))))
+      (λ _. refl))))
+
+  pub agrees-set : (t w : ℕ) → Agrees c p rk m s (Set t w)
+  unfolding statusOf effectOf refusalOf stepBy
+  agrees-set t w =
+      agrees-attempt fit sim (Set t w) (Machine.setStatus (p .extended) (p .task) m t) (setStatus c s t w)
+      (settled (p .priority) (receiving (getD (p .task) t noRank) w m)) (setEvent t w s) refl refl (no-match fit sim long) (set-status t w)
+      (λ z. let a = set-passed c s t w z in
+      let t< = task-exists c t (a .1) in
+      let act : isSuspended (at bs t .phase) ≡ false = not-true (isSuspended (at bs t .phase)) (a .3) in
+      rw (task-rank-is fit t (a .1))
+      (record {
+        status = refl;
+        arb = settled-tied fit (setEvent t w s) (receive-tied fit m t t< (sim .noted) act w (sim .tied));
+        size = length-set bs t (receives w (bodyOf s t)) ∙ sim .tied .size;
+        timed = sim .timed;
+        lost = lost-same (kept (λ x. x .losses) (receives w) (λ x. refl) bs t) (sim .lost);
+        noted = receive-noted fit m t t< (sim .noted) act w (sim .tied .size);
+      }))
+
+  -- Clear
+  clear-status : (w : ℕ) → Machine.clearStatus (p .extended) m ≡ clearStatus c s w
+  clear-status w =
+      by-runner fit sim
+      (λ i n. first-same (idles m) (nobodyRuns c s) callLevel _ _ (i ∙ sym n) (λ h. absurd (true≢false (sym n ∙ h))))
+      (λ b ns k.
+      first-same (idles m) (nobodyRuns c s) callLevel _ _ (k .not-idle ∙ sym (k .somebody))
+      (λ _. first-same (not (has (p .extended) (m .core .runner))) (not (isExtended c (caller c s))) access _ _ (ap not (extended-same k)) (λ _. refl)))
+
+  clear-tied : {b : ℕ} {ns : List ℕ} → Runs c rk m s b ns → (w : ℕ) → Tied c rk (clearing w m) (set bs b (clears w (at bs b))) (b ∷ ns)
+  clear-tied {b} k w =
+      events-tied
+      (touched-tied (k .tied) fit b (k .exists) (clears w (at bs b)) refl (λ _. refl) (withEnabled (m .core) (m .core .enabled))
+      (words-changed fit (k .tied .words) (k .tied .size) b (k .exists) (clears w (at bs b)) (withEnabled (m .core) (m .core .enabled))
+      (marks-same (k .tied .words) b (k .exists) (clears w (at bs b)) refl refl (m .core .runner) (m .core .level))
+      (elsewhere-same (k .tied .words) (m .core .runner) (m .core .level) (rk b)))
+      refl
+      refl)
+      (without (m .cleared) (m .core .runner))
+      (set (m .bits) (m .core .runner) (withoutBits (bitsAt m (m .core .runner)) w))
+      (m .waited)
+
+  pub agrees-clear : (w : ℕ) → Agrees c p rk m s (Clear w)
+  unfolding statusOf effectOf refusalOf stepBy
+  agrees-clear w =
+      agrees-attempt fit sim (Clear w) (Machine.clearStatus (p .extended) m) (clearStatus c s w) (doneWith (clearing w m) false) (clear (caller c s) w s)
+      refl refl (no-match fit sim long) (clear-status w)
+      (λ z. let a = clear-passed c s w z in
+      by-runner fit sim
+      (λ i n. absurd (true≢false (sym n ∙ a .0)))
+      (λ b ns k. rw (k .calls)
+      (record {
+        status = refl;
+        arb = calm-arbitrated fit (clear b w s) done (clear-tied k w)
+            (λ i i< u. sim .calm i i< (sym (kept (λ x. competes (x .phase)) (clears w) (λ x. refl) bs b i) ∙ u));
+        size = length-set bs b (clears w (at bs b)) ∙ sim .tied .size;
+        timed = sim .timed;
+        lost = lost-same (kept (λ x. x .losses) (clears w) (λ x. refl) bs b) (sim .lost);
+        noted = rw (k .rank) (clear-noted fit m b (k .exists) (sim .noted) (runner-active k) w (sim .tied .size));
+      })))
