@@ -53,7 +53,7 @@ latestStart = read (1 ∷ 1 ∷ 0 ∷ 1 ∷ 1 ∷ 0 ∷ 1 ∷ 4 ∷ 2 ∷ 2 ∷ 
 
 -- a task that has lost as many activations as are counted
 abbrev fullyLost : Body
-fullyLost = record { phase = started; pending = false; held = []; losses = 65535 }
+fullyLost = record { phase = started; pending = false; held = []; losses = 65535; bits = 0 }
 
 pub record Edges : Type 0 where
   pub p1 : (numberBytes 127 ≡ 0x7F ∷ []) × (numberBytes 128 ≡ 0x80 ∷ 0x01 ∷ [])
