@@ -1,7 +1,7 @@
 -- Activate, Line, Finish and Chain do the same to the model as to the state.
 -- Assumes nothing.
 use Prim.Native.Nat.{ℕ, _<_}
-use mathlib.Core.Path.{_≡_, refl, sym, ap, ap₂, _∙_}
+use mathlib.Core.Path.{_≡_, refl, sym, ap, ap₂, subst, _∙_}
 use mathlib.Core.Logic.{_≢_}
 use mathlib.Core.Bool.{Bool, true, false, true≢false, cond, not, _&&_, _||_}
 use mathlib.Core.List.{List, [], _∷_}
@@ -144,7 +144,10 @@ module _ {c : Config} {p : Plan} {rk : ℕ → ℕ} (fit : Fitted c p rk) where
         and-false false = refl
 
         by-kind : (b : Bool) → isIsr c i ≡ b → Sim c p rk (Machine.lineRefusal (countsLines c) (p .line) m i (lineStatus c s i)) (Plain.refusalOf c s (lineStatus c s i) (Line i))
-        by-kind true e = rw (line-rank-is i e) (counted (countsLines c && eqb (lineStatus c s i) limitReached) (isr-exists c i e))
+        by-kind true e =
+            subst (λ (r : ℕ). Sim c p rk (cond (countsLines c && eqb (lineStatus c s i) limitReached) (withLosses m (oneLost r (m .losses))) m) (Plain.refusalOf c s (lineStatus c s i) (Line i)))
+            (sym (line-rank-is i e))
+            (counted (countsLines c && eqb (lineStatus c s i) limitReached) (isr-exists c i e))
         by-kind false e = rw (no-line i e) (rw (and-false (countsLines c)) sim)
 
     -- a Line that is accepted finds no body ready
