@@ -7,11 +7,11 @@ use Rattle.kernel.specs.declared.model.Outcome.{Outcome}
 use Rattle.machine.specs.Model as Machine
 
 -- the words, who runs and at which level
-abbrev pub core : ℕ → ℕ → ℕ → ℕ → Machine.Core
-core w v r l = record { request = w; started = v; runner = r; level = l }
+abbrev pub core : ℕ → ℕ → ℕ → ℕ → ℕ → Machine.Core
+core w v e r l = record { request = w; started = v; enabled = e; runner = r; level = l }
 
 abbrev pub coreOf : Picked → Machine.Core
-coreOf p = core (p .request) (p .started) (p .runner) (p .level)
+coreOf p = core (p .request) (p .started) (p .enabled) (p .runner) (p .level)
 
 abbrev pub viewPicked : Picked → Machine.Picked
 viewPicked p = record { core = coreOf p; begun = p .begun }
@@ -21,6 +21,7 @@ pickedOf p =
     record {
       request = p .core .request;
       started = p .core .started;
+      enabled = p .core .enabled;
       runner = p .core .runner;
       level = p .core .level;
       begun = p .begun;
@@ -29,7 +30,7 @@ pickedOf p =
 abbrev pub view : Model → Machine.Model
 view m =
     record {
-      core = core (m .request) (m .started) (m .runner) (m .level);
+      core = core (m .request) (m .started) (m .enabled) (m .runner) (m .level);
       held = m .held;
       resource = m .resource;
       holder = m .holder;
@@ -38,6 +39,9 @@ view m =
       on = m .on;
       turning = m .turning;
       losses = m .losses;
+      cleared = m .cleared;
+      bits = m .bits;
+      waited = m .waited;
     }
 
 abbrev pub modelOf : Machine.Model → Model
@@ -45,6 +49,7 @@ modelOf m =
     record {
       request = m .core .request;
       started = m .core .started;
+      enabled = m .core .enabled;
       held = m .held;
       runner = m .core .runner;
       level = m .core .level;
@@ -55,6 +60,9 @@ modelOf m =
       on = m .on;
       turning = m .turning;
       losses = m .losses;
+      cleared = m .cleared;
+      bits = m .bits;
+      waited = m .waited;
     }
 
 abbrev pub viewOutcome : Outcome → Machine.Outcome

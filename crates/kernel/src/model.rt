@@ -8,6 +8,7 @@ ghost use Rattle.kernel.specs.View.{view, outcomeOf};
 mod arbiter;
 mod bodies;
 mod cells;
+mod events;
 mod fresh;
 mod lookup;
 mod resources;
@@ -36,7 +37,7 @@ const NO_FUNCTION: u8 = 5;
 
 const HOLDS_RESOURCE: u8 = 6;
 
-const ALREADY_RUNS: u8 = 7;
+const WRONG_STATE: u8 = 7;
 
 const BAD_DELAY: u8 = 8;
 
@@ -44,6 +45,7 @@ const BAD_DELAY: u8 = 8;
 pub struct Picked {
     pub request: u32,
     pub started: u32,
+    pub enabled: u32,
     pub runner: u8,
     pub level: u8,
     pub begun: bool,
@@ -52,9 +54,10 @@ pub struct Picked {
 // What the machine keeps between events. It goes by value. Its fields are flat, the row of held resources is in words that shift, and a
 // method takes an array that it indexes out into a variable and puts it back: otherwise the compiler copies the whole model at every event.
 pub struct Model {
-    // The ranks that wait to begin, and those that began and have not ended, as words.
+    // The ranks that wait to begin, those that began and have not ended, and those that do not wait for an event bit, as words.
     pub request: u32,
     pub started: u32,
+    pub enabled: u32,
     // The held resources, as a word.
     pub held: u32,
     pub runner: u8,
@@ -68,6 +71,10 @@ pub struct Model {
     pub on: [u16; 64],
     pub turning: bool,
     pub losses: [u16; 32],
+    // By rank: the event bits, which of the ranks in the word `cleared` count as 0, and the mask of the latest Wait that did not go on.
+    pub cleared: u32,
+    pub bits: [u32; 32],
+    pub waited: [u32; 32],
 }
 
 // The next model with its answer.

@@ -84,7 +84,22 @@ pub fn play<'a, 'b>(
                 o = o.model
                     .stop(config.tables, &plan.first, &config.entries, e.first);
             }
-            0 | 10..=255 => {
+            10 => {
+                o = o.model.wait(plan.extended, &plan.priority, e.first);
+            }
+            11 => {
+                o = o.model.set_event(
+                    plan.extended,
+                    &plan.task,
+                    &plan.priority,
+                    e.first,
+                    e.second,
+                );
+            }
+            12 => {
+                o = o.model.clear(plan.extended, e.first);
+            }
+            0 | 13..=255 => {
                 o.status = DONE;
                 o.begun = false;
             }

@@ -1,4 +1,5 @@
-// Who runs: of those that wait to begin or have begun the highest wins, and is dispatched only strictly above the level.
+// Who runs: of those that wait to begin or have begun, and do not wait for an event bit, the highest wins, and is dispatched only strictly
+// above the level.
 ghost use mathlib.Core.Path.{_≡_};
 ghost use mathlib.Core.Bool.{cond};
 ghost use lib.Dec.{eqb};
@@ -15,6 +16,7 @@ use super::Picked;
 use super::lookup::byte_at;
 use stack::Row;
 use word::has;
+use word::intersection;
 use word::union;
 use word::winner;
 use word::with;
@@ -25,18 +27,33 @@ impl Model {
     pub fn settled(self, request: u32, priority: &[u8; 32]) -> Outcome
         ensures { λ r. ⌜ r ≡ outcomeOf (settled (now (priority .entry)) (withCore (view self) (withRequest (view self .core) request))) ⌝ }
     {
-        let picked = arbitrated(request, self.started, self.runner, self.level, priority);
+        let picked = arbitrated(
+            request,
+            self.started,
+            self.enabled,
+            self.runner,
+            self.level,
+            priority,
+        );
         self.seated(picked)
     }
 
     // The same once the runner has ended: whoever took the latest resource that is held takes its seat, or nobody does.
-    pub fn ended(self, request: u32, priority: &[u8; 32]) -> Outcome
-        ensures { λ r. ⌜ r ≡ outcomeOf (settled (now (priority .entry)) (withCore (view self) (withRequest (leaving (view self) .core) request))) ⌝ }
+    pub fn ended(mut self, request: u32, priority: &[u8; 32]) -> Outcome
+        ensures { λ r. ⌜ r ≡ outcomeOf (settled (now (priority .entry)) (withCore (leaving (view self)) (withRequest (leaving (view self) .core) request))) ⌝ }
     {
         let started = without(self.started, self.runner as u32);
+        self.cleared = with(self.cleared, self.runner as u32);
         let holder = self.holder;
         let level = latest_level(holder, self.raised);
-        let picked = arbitrated(request, started, holder.top(), level, priority);
+        let picked = arbitrated(
+            request,
+            started,
+            self.enabled,
+            holder.top(),
+            level,
+            priority,
+        );
         self.seated(picked)
     }
 
@@ -46,6 +63,7 @@ impl Model {
     {
         self.request = picked.request;
         self.started = picked.started;
+        self.enabled = picked.enabled;
         self.runner = picked.runner;
         self.level = picked.level;
         Outcome {
@@ -57,15 +75,23 @@ impl Model {
 }
 
 // Who runs after arbitration.
-pub fn arbitrated(request: u32, started: u32, runner: u8, level: u8, priority: &[u8; 32]) -> Picked
-    ensures { λ r. ⌜ r ≡ pickedOf (arbitrated (now (priority .entry)) (core request started runner level)) ⌝ }
+pub fn arbitrated(
+    request: u32,
+    started: u32,
+    enabled: u32,
+    runner: u8,
+    level: u8,
+    priority: &[u8; 32],
+) -> Picked
+    ensures { λ r. ⌜ r ≡ pickedOf (arbitrated (now (priority .entry)) (core request started enabled runner level)) ⌝ }
 {
-    let rank = winner(union(request, started));
+    let rank = winner(intersection(union(request, started), enabled));
     let own = byte_at(priority, rank as usize, 0);
     if own <= level {
         return Picked {
             request,
             started,
+            enabled,
             runner,
             level,
             begun: false,
@@ -75,6 +101,7 @@ pub fn arbitrated(request: u32, started: u32, runner: u8, level: u8, priority: &
     Picked {
         request: used_up(begun, request, rank),
         started: with(started, rank),
+        enabled,
         runner: rank as u8,
         level: own,
         begun,
@@ -90,7 +117,7 @@ fn used_up(begun: bool, request: u32, rank: u32) -> u32
 }
 
 // The level of whoever took the latest resource that is held, 0 where none is.
-fn latest_level(holder: Row, raised: Row) -> u8
+pub fn latest_level(holder: Row, raised: Row) -> u8
     ensures { λ r. ⌜ r ≡ cond (eqb (topRow holder) noRank) 0 (topRow raised) ⌝ }
 {
     let level = raised.top();

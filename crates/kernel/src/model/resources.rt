@@ -66,7 +66,14 @@ impl Model {
             return self.with_status(NO_FUNCTION);
         }
         let level = level_without(self.holder, self.raised, self.runner, priority);
-        let picked = arbitrated(self.request, self.started, self.runner, level, priority);
+        let picked = arbitrated(
+            self.request,
+            self.started,
+            self.enabled,
+            self.runner,
+            level,
+            priority,
+        );
         self.held = without(self.held, r);
         self.resource = self.resource.pop();
         self.holder = self.holder.pop();

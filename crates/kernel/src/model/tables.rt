@@ -9,7 +9,6 @@ ghost use Rattle.machine.specs.Cells.{isOn};
 ghost use Rattle.machine.specs.Events.{tick, start, stop};
 ghost use Rattle.kernel.specs.Methods.{Laid};
 ghost use Rattle.kernel.specs.View.{view, outcomeOf};
-use super::ALREADY_RUNS;
 use super::BAD_DELAY;
 use super::CALL_LEVEL;
 use super::DONE;
@@ -18,6 +17,7 @@ use super::NO_FUNCTION;
 use super::NO_RANK;
 use super::NO_SUCH;
 use super::Outcome;
+use super::WRONG_STATE;
 use super::arbiter::arbitrated;
 use super::cells::OFF;
 use super::cells::some_turn;
@@ -45,6 +45,7 @@ impl Model {
     {
         let started = self.started;
         let asked = self.request;
+        let enabled = self.enabled;
         let runner = self.runner;
         let level = self.level;
         let mut losses = self.losses;
@@ -52,7 +53,7 @@ impl Model {
         let mut counter = self.counter;
         let matched = tick_cells(compare, &on, &mut counter);
         let request = take_matches(&matched, entry_rank, started, asked, &mut losses);
-        let picked = arbitrated(request, started, runner, level, priority);
+        let picked = arbitrated(request, started, enabled, runner, level, priority);
         self.counter = counter;
         self.losses = losses;
         self.seated(picked)
@@ -111,7 +112,7 @@ impl Model {
         }
         let mut on = self.on;
         if is_on(&on, from) {
-            return self.with_status(ALREADY_RUNS);
+            return self.with_status(WRONG_STATE);
         }
         let n = byte_at(entries, i, 0) as usize;
         let mut counter = self.counter;
