@@ -24,7 +24,8 @@
  * CONFIGURATION, in this order:
  *     version            1, or 2, which also counts lost lines
  *     body count         1 to 32
- *     per body           kind (0 task, 1 ISR), priority (1 to 200, each used once), autostart (0 or 1; an ISR: 0)
+ *     per body           kind (0 task, 1 ISR, 2 extended task), priority (1 to 200, each used once), autostart (0 or 1;
+ *                        an ISR: 0)
  *     resource count     0 to 16
  *     per resource       its users, bit b for body b; not 0. The ceiling is their greatest priority.
  *     table count        0 to 8
@@ -44,6 +45,9 @@
  *     8 Start table, delay    its entry at offset o is due at tick delay + o, then  2, 3, 8, 7
  *                             every period
  *     9 Stop table            no entry of it is due any more                        2, 3, 5
+ *    10 Wait mask             the running task waits for one of these event bits    2, 1, 6
+ *    11 Set task, mask        the task gets these event bits                        2, 3, 1, 7
+ *    12 Clear mask            the running task loses these event bits               2, 1
  */
 #ifndef OSEK_H
 #define OSEK_H
@@ -92,7 +96,10 @@ enum {
     OSEK_EVENT_TICK = 6,
     OSEK_EVENT_LINE = 7,
     OSEK_EVENT_START = 8,
-    OSEK_EVENT_STOP = 9
+    OSEK_EVENT_STOP = 9,
+    OSEK_EVENT_WAIT = 10,
+    OSEK_EVENT_SET = 11,
+    OSEK_EVENT_CLEAR = 12
 };
 
 /* Statuses, with OSEK's names and numbers. An event with a status other than 0 changes nothing, but that in version 2 a
@@ -130,7 +137,7 @@ enum {
     OSEK_TRACE_TOO_LONG = 20,      /* the trace is over OSEK_TRACE_MAX bytes; place: 0 */
     OSEK_TRACE_CUT = 21,           /* as OSEK_CONFIG_CUT, in the trace; place: trace_len */
     OSEK_TRACE_NUMBER = 22,        /* as OSEK_CONFIG_NUMBER, in the trace, with the same places */
-    OSEK_TRACE_EVENT = 23,         /* an event code that is not 1 to 9 */
+    OSEK_TRACE_EVENT = 23,         /* an event code that is not 1 to 12 */
     OSEK_OUTPUT_TOO_SHORT = 30     /* out_len is too small; place: the bytes needed */
 };
 
