@@ -22,9 +22,10 @@
  * 7F, 128 is 80 01.
  *
  * CONFIGURATION, in this order:
- *     version            1
+ *     version            1, or 2, which also counts lost lines
  *     body count         1 to 32
- *     per body           kind (0 task, 1 ISR), priority (1 to 200, each used once), autostart (0 or 1; an ISR: 0)
+ *     per body           kind (0 task, 1 ISR, 2 extended task), priority (1 to 200, each used once), autostart (0 or 1;
+ *                        an ISR: 0)
  *     resource count     0 to 16
  *     per resource       its users, bit b for body b; not 0. The ceiling is their greatest priority.
  *     table count        0 to 8
@@ -44,6 +45,9 @@
  *     8 Start table, delay    its entry at offset o is due at tick delay + o, then  2, 3, 8, 7
  *                             every period
  *     9 Stop table            no entry of it is due any more                        2, 3, 5
+ *    10 Wait mask             the running task waits for one of these event bits    2, 1, 6
+ *    11 Set task, mask        the task gets these event bits                        2, 3, 1, 7
+ *    12 Clear mask            the running task loses these event bits               2, 1
  */
 #ifndef OSEK_H
 #define OSEK_H
@@ -57,7 +61,7 @@ extern "C" {
 
 /* The first number changes when a program has to be compiled or linked anew, the second with what the calls answer or
  * offer, the last with everything else. CHANGELOG.md says what each one brought. */
-#define OSEK_VERSION "1.1.0"
+#define OSEK_VERSION "1.2.0"
 
 /* Sizes in bytes. Longer inputs are refused; an output of OSEK_OUTPUT_MAX suffices for every run, which is proved as
  * `room-enough` in crates/run/proofs/Theorems.antt. */
@@ -75,8 +79,8 @@ extern "C" {
  *     byte 4 i + 2    the level: the running body's current priority, 0 when idle
  *     byte 4 i + 3    1 if the event made a body begin from its start, otherwise 0 (a resumed body: 0)
  *     byte 4 e + 2 j, 4 e + 2 j + 1
- *                     low and high byte of the lost activations of body j: how often an entry was due while its task
- *                     was not suspended; stays at 65,535 once there
+ *                     low and high byte of the losses of body j: how often an entry was due while its task was not
+ *                     suspended; in version 2 also how often a Line got OSEK_E_OS_LIMIT; stays at 65,535 once there
  */
 #define OSEK_ANSWER_SIZE 4
 #define OSEK_LOSS_SIZE 2
@@ -92,10 +96,14 @@ enum {
     OSEK_EVENT_TICK = 6,
     OSEK_EVENT_LINE = 7,
     OSEK_EVENT_START = 8,
-    OSEK_EVENT_STOP = 9
+    OSEK_EVENT_STOP = 9,
+    OSEK_EVENT_WAIT = 10,
+    OSEK_EVENT_SET = 11,
+    OSEK_EVENT_CLEAR = 12
 };
 
-/* Statuses, with OSEK's names and numbers. An event with a status other than 0 changes nothing. */
+/* Statuses, with OSEK's names and numbers. An event with a status other than 0 changes nothing, but that in version 2 a
+ * Line with OSEK_E_OS_LIMIT adds 1 to the losses of its ISR. */
 enum {
     OSEK_E_OK = 0,          /* done */
     OSEK_E_OS_ACCESS = 1,   /* Get: the resource is held, or the running body's own priority is above its ceiling */
@@ -118,7 +126,7 @@ enum {
                                       end, config_len */
     OSEK_CONFIG_NUMBER = 2,        /* a number above 4,294,967,295, place: its fifth byte; or not in its shortest form,
                                       place: its last byte, the superfluous 00 */
-    OSEK_CONFIG_VERSION = 3,       /* the version is not 1 */
+    OSEK_CONFIG_VERSION = 3,       /* the version is neither 1 nor 2 */
     OSEK_CONFIG_COUNT = 4,         /* a count of bodies, resources, tables or entries outside its range */
     OSEK_CONFIG_FIELD = 5,         /* another field outside its range; an entry's task that is no task */
     OSEK_CONFIG_PRIORITY_USED = 6, /* a priority that a body before has */
@@ -129,7 +137,7 @@ enum {
     OSEK_TRACE_TOO_LONG = 20,      /* the trace is over OSEK_TRACE_MAX bytes; place: 0 */
     OSEK_TRACE_CUT = 21,           /* as OSEK_CONFIG_CUT, in the trace; place: trace_len */
     OSEK_TRACE_NUMBER = 22,        /* as OSEK_CONFIG_NUMBER, in the trace, with the same places */
-    OSEK_TRACE_EVENT = 23,         /* an event code that is not 1 to 9 */
+    OSEK_TRACE_EVENT = 23,         /* an event code that is not 1 to 12 */
     OSEK_OUTPUT_TOO_SHORT = 30     /* out_len is too small; place: the bytes needed */
 };
 

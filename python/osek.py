@@ -37,7 +37,7 @@ REFUSALS = {
     20: "the trace is longer than 8,192 bytes",
     21: "the trace ends inside a number, or where one is missing",
     22: "a number of the trace is too large or not in its shortest form",
-    23: "an event code is not 1 to 9",
+    23: "an event code is not 1 to 12",
     30: "the output is too short",
     60: "a sign that no word has, or a comment that is not closed",
     61: "a word that may not stand there",

@@ -34,8 +34,11 @@ const MAX_TABLES: u32 = 8;
 
 const MAX_ENTRIES: usize = 64;
 
-// An ISR's kind; a task's is 0.
+// An ISR's kind; whatever is no ISR is a task.
 const ISR: u8 = 1;
+
+// The last kind that there is: an extended task's.
+const LAST_KIND: u32 = 2;
 
 // The refusal, unless the test holds.
 fn unless(ok: bool, refusal: u8) -> u8
@@ -223,7 +226,7 @@ pub fn fault(d: Draft, v: u32) -> u8
     match f {
         Field::Version => outside(1, NEWEST_VERSION, v, BAD_VERSION),
         Field::Bodies => outside(1, MAX_BODIES, v, BAD_COUNT),
-        Field::Kind => outside(0, ISR as u32, v, BAD_FIELD),
+        Field::Kind => outside(0, LAST_KIND, v, BAD_FIELD),
         Field::Priority => priority_fault(d, v),
         Field::Autostart => autostart_fault(d, v),
         Field::Resources => outside(0, MAX_RESOURCES, v, BAD_COUNT),

@@ -1,33 +1,30 @@
 -- Which codes are known, as the arms of a `match` on a code and the count of its arguments show it.
 -- Assumes nothing.
-use Prim.Native.Nat.{ℕ, suc, _≤_, _<_}
+use Prim.Native.Nat.{ℕ, zero, suc, _≤_, _<_}
 use mathlib.Core.Path.{_≡_, refl, sym}
 use mathlib.Core.Bool.{Bool, true, false, cond}
 use lib.Dec.{leb}
 use native.Mathlib.Omega.{arith}
 use borrow.Author.Tests.{leb-true, le-leb, lt-leb}
-use Rattle.event.specs.Event.{activate, stop, known, arguments, noEvent}
+use Rattle.event.specs.Event.{activate, lastCode, known, arguments, noEvent}
 use Rattle.number.proofs.Cases.{by-test}
 use Rattle.event.proofs.Codes.{known-le}
 
-known-above : (code : ℕ) → stop < code → known code ≡ false
+-- a code that is none of 1 to n, as a `match` with an arm for each of them tells it
+unfoldable pub NoneUpTo : ℕ → ℕ → Type 0
+NoneUpTo code zero = Unit
+NoneUpTo code (suc n) = NoneUpTo code n × (code ≡ suc n → ⊥)
+
+above : (code n : ℕ) → 0 < code → NoneUpTo code n → n < code
+unfolding NoneUpTo
+above code zero some r = some
+above code (suc n) some r = omega (arith, above code n some (r .0), r .1)
+
+-- a code that is none of these arms, nor 0
+pub known-no-arm : (code : ℕ) → NoneUpTo code lastCode × (code ≡ 0 → ⊥) → known code ≡ false
 unfolding known
-known-above code h = simp (le-leb activate code (omega arith), lt-leb code stop h)
-
--- a code that is none of the arms 1 to 9, nor 0: what a `match` on a code knows in its range
-abbrev pub NoArm : ℕ → Type 0
-NoArm code =
-    (((((((((Unit × (code ≡ 1 → ⊥)) × (code ≡ 2 → ⊥)) × (code ≡ 3 → ⊥)) × (code ≡ 4 → ⊥)) × (code ≡ 5 → ⊥)) × (code ≡ 6 → ⊥)) × (code ≡ 7 → ⊥)) × (code ≡ 8 → ⊥)) × (code ≡ 9 → ⊥)) × (code ≡ 0 → ⊥)
-
-pub known-no-arm : (code : ℕ) → NoArm code → known code ≡ false
-known-no-arm code r = known-above code
-    (up 9 (r .0 .1) (up 8 (r .0 .0 .1) (up 7 (r .0 .0 .0 .1) (up 6 (r .0 .0 .0 .0 .1) (up 5 (r .0 .0 .0 .0 .0 .1) (up 4 (r .0 .0 .0 .0 .0 .0 .1) (up 3 (r .0 .0 .0 .0 .0 .0 .0 .1) (up 2 (r .0 .0 .0 .0 .0 .0 .0 .0 .1) (up 1 (r .0 .0 .0 .0 .0 .0 .0 .0 .0 .1) (above-zero (r .1)))))))))))
-  where
-    above-zero : (code ≡ 0 → ⊥) → 0 < code
-    above-zero h = omega arith
-
-    up : (k : ℕ) → (code ≡ k → ⊥) → k ≤ code → suc k ≤ code
-    up k h le = omega arith
+known-no-arm code r = let h : lastCode < code = above code lastCode (omega (arith, r .1)) (r .0) in
+    simp (le-leb activate code (omega arith), lt-leb code lastCode h)
 
 -- no event has three arguments, so that a count tells a known code from an unknown one
 arguments-le : (code : ℕ) → arguments code ≤ 2
@@ -45,7 +42,7 @@ arguments-le code = leb-true (arguments code) 2 (simp (leb-cond, cond-same))
 -- n arguments follow a known code
 pub record Counted (code n : ℕ) : Type 0 where
   pub is-known : known code ≡ true
-  pub code-le : code ≤ stop
+  pub code-le : code ≤ lastCode
   pub counts : arguments code ≡ n
   pub few : n ≤ 2
 

@@ -17,7 +17,7 @@ ghost use Rattle.number.specs.Output.{unwritten, writing, written};
 ghost use Rattle.event.specs.Event.{known, arguments, noEvent, event, accepted, refused, unreadable, readOne, readSecond, readTwo, readEvent, writeEvent, eventWritten};
 ghost use Rattle.event.specs.Refusal.{strayArgument};
 
-// The code is none of 1 to 9.
+// The code is none of 1 to 12.
 pub const UNKNOWN_EVENT: u8 = 23;
 // The writer's: an argument that the event lacks is not 0.
 pub const STRAY_ARGUMENT: u8 = 24;
@@ -86,7 +86,10 @@ fn arguments(code: u32) -> u8
         7 => 1, // Line
         8 => 2, // Start
         9 => 1, // Stop
-        0 | 10..=4294967295 => NO_EVENT,
+        10 => 1, // Wait
+        11 => 2, // Set
+        12 => 1, // Clear
+        0 | 13..=4294967295 => NO_EVENT,
     }
 }
 
@@ -177,7 +180,10 @@ pub fn write_event(event: Event, out: &mut [u8]) -> Written
         7 => write_one(event, out), // Line
         8 => write_two(event, out), // Start
         9 => write_one(event, out), // Stop
-        0 | 10..=255 => Written {
+        10 => write_one(event, out), // Wait
+        11 => write_two(event, out), // Set
+        12 => write_one(event, out), // Clear
+        0 | 13..=255 => Written {
             refusal: UNKNOWN_EVENT,
             place: 0,
         },

@@ -1,5 +1,6 @@
-// Events read and written, and printed: document 01's listing trace, and a case for each refusal
-// and place. The file `stdout` is worked out by hand from document 01 and not from this program.
+// Events read and written, and printed: document 01's listing trace, Wait, Set and Clear, and a case
+// for each refusal and place. The file `stdout` is worked out by hand from documents 01 and 02 and
+// not from this program.
 use event::Event;
 use event::EventRead;
 use event_codec::read_event;
@@ -10,6 +11,7 @@ fn main() {
     read_all(
         b"\x08\x00\x01\x04\x00\x06\x07\x02\x03\x01\x02\x02\x05\x00\x06\x06\x02\x02\x06\x06\x09\x00\x02\x02",
     );
+    read_all(b"\x0a\xff\xff\xff\xff\x0f\x0b\x02\x80\x02\x0c\x00");
     read_accepted();
     read_cut();
     read_malformed();
@@ -33,6 +35,7 @@ fn read_cut() {
     read(b"no argument", b"\x01", 0);
     read(b"argument cut", b"\x01\x80", 0);
     read(b"no second argument", b"\x08\x05", 0);
+    read(b"Set without mask", b"\x0b\x05", 0);
     read(b"second argument cut", b"\x08\x85\x01\xff\xff\xff\xff", 0);
 }
 
@@ -49,8 +52,8 @@ fn read_malformed() {
 
 fn read_unknown() {
     read(b"code 0", b"\x00", 0);
-    read(b"code 10", b"\x06\x06\x0a", 2);
-    read(b"code 10, argument cut", b"\x0a\x80", 0);
+    read(b"code 13", b"\x06\x06\x0d", 2);
+    read(b"code 13, argument cut", b"\x0d\x80", 0);
     read(b"code 257", b"\x81\x02\x00", 0);
     read(b"five-byte code", b"\xff\xff\xff\xff\x0f", 0);
 }
@@ -60,6 +63,10 @@ fn write_accepted() {
     write(b"no arguments, exact room", 2, 0, 0, &mut one);
     let mut five = [0xaau8; 5];
     write(b"one argument, bytes beyond", 1, 300, 0, &mut five);
+    write(b"Wait, bytes beyond", 10, 128, 0, &mut five);
+    write(b"Clear, mask 0", 12, 0, 0, &mut five);
+    let mut seven = [0xaau8; 7];
+    write(b"Set, exact room", 11, 2, 4294967295, &mut seven);
     let mut eight = [0xaau8; 8];
     write(b"two arguments, exact room", 8, 4294967295, 128, &mut eight);
 }
@@ -67,22 +74,25 @@ fn write_accepted() {
 fn write_refused() {
     let mut five = [0xaau8; 5];
     write(b"code 0", 0, 0, 0, &mut five);
-    write(b"code 10", 10, 0, 0, &mut five);
-    write(b"code 10 before stray", 10, 1, 1, &mut five);
+    write(b"code 13", 13, 0, 0, &mut five);
+    write(b"code 13 before stray", 13, 1, 1, &mut five);
     write(b"stray first", 2, 1, 0, &mut five);
     write(b"stray second of none", 6, 0, 1, &mut five);
     write(b"stray second of one", 3, 1, 7, &mut five);
+    write(b"stray second of Wait", 10, 1, 7, &mut five);
+    write(b"stray second of Clear", 12, 1, 7, &mut five);
 }
 
 fn write_without_room() {
     let mut none = [0xaau8; 0];
-    write(b"code 10 before no room", 10, 0, 0, &mut none);
+    write(b"code 13 before no room", 13, 0, 0, &mut none);
     write(b"stray before no room", 2, 1, 0, &mut none);
     write(b"no room for none", 6, 0, 0, &mut none);
     let mut two = [0xaau8; 2];
     write(b"no room for one", 1, 300, 0, &mut two);
     let mut three = [0xaau8; 3];
     write(b"no room for two", 8, 0, 128, &mut three);
+    write(b"no room for Set", 11, 0, 128, &mut three);
 }
 
 // Reads event by event, up to the end or a refusal.

@@ -1,7 +1,7 @@
 -- `arguments` meets its contract: an arm for each code, which fixes how many arguments follow.
 -- Assumes nothing.
 use Rattle.event.specs.Event.{known, arguments}
-use Rattle.event_codec.proofs.Arms.{known-no-arm}
+use Rattle.event_codec.proofs.Arms.{NoneUpTo, known-no-arm}
 use Rattle.event_codec.proofs.arguments.Statement.{statement}
 use Rattle.event_codec.proofs.arguments.Tie as tie
 
@@ -46,7 +46,20 @@ unfolding known arguments
 returns-10 c = rw (c .match .keys10)
 
 returns-11 : tie.Need-returns-11
-returns-11 c = rw (known-no-arm (c .before .args .code) (c .match .rest))
+unfolding known arguments
+returns-11 c = rw (c .match .keys11)
+
+returns-12 : tie.Need-returns-12
+unfolding known arguments
+returns-12 c = rw (c .match .keys12)
+
+returns-13 : tie.Need-returns-13
+unfolding known arguments
+returns-13 c = rw (c .match .keys13)
+
+returns-14 : tie.Need-returns-14
+unfolding NoneUpTo
+returns-14 c = rw (known-no-arm (c .before .args .code) (c .match .rest))
 
 pub arguments-spec : {M : Type 1} → statement M
 arguments-spec =
@@ -62,4 +75,7 @@ arguments-spec =
     returns-8
     returns-9
     returns-10
-    returns-11)
+    returns-11
+    returns-12
+    returns-13
+    returns-14)

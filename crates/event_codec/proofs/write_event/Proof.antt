@@ -2,7 +2,7 @@
 -- Assumes nothing.
 use mathlib.Core.Path.{refl}
 use Rattle.event.specs.Event.{known, arguments}
-use Rattle.event_codec.proofs.Arms.{known-no-arm}
+use Rattle.event_codec.proofs.Arms.{NoneUpTo, known-no-arm}
 use Rattle.event.proofs.Writing.{writes-unknown}
 use borrow.Author.Needs.{needs}
 use Rattle.event_codec.proofs.write_event.Statement.{statement}
@@ -43,6 +43,18 @@ write-two-requires c κs = rw (c .before .match .keys8) (refl, refl)
 write-one-requires-6 : tie.Need-write-one-requires-6
 unfolding known arguments
 write-one-requires-6 c κs = rw (c .before .match .keys9) (refl, refl)
+
+write-one-requires-7 : tie.Need-write-one-requires-7
+unfolding known arguments
+write-one-requires-7 c κs = rw (c .before .match .keys10) (refl, refl)
+
+write-two-requires-2 : tie.Need-write-two-requires-2
+unfolding known arguments
+write-two-requires-2 c κs = rw (c .before .match .keys11) (refl, refl)
+
+write-one-requires-8 : tie.Need-write-one-requires-8
+unfolding known arguments
+write-one-requires-8 c κs = rw (c .before .match .keys12) (refl, refl)
 
 same-length : tie.Need-same-length
 same-length c = search needs
@@ -98,13 +110,32 @@ same-length-9 c = search needs
 returns-9 : tie.Need-returns-9
 returns-9 c = search needs
 
+same-length-10 : tie.Need-same-length-10
+same-length-10 c = search needs
+
 returns-10 : tie.Need-returns-10
-unfolding known
-returns-10 c = let s = c .before .before in
-    writes-unknown (s .args .event) (s .args .out .now) _ (rw (c .match .keys10)) refl
+returns-10 c = search needs
+
+same-length-11 : tie.Need-same-length-11
+same-length-11 c = search needs
 
 returns-11 : tie.Need-returns-11
-returns-11 c = let s = c .before .before in
+returns-11 c = search needs
+
+same-length-12 : tie.Need-same-length-12
+same-length-12 c = search needs
+
+returns-12 : tie.Need-returns-12
+returns-12 c = search needs
+
+returns-13 : tie.Need-returns-13
+unfolding known
+returns-13 c = let s = c .before .before in
+    writes-unknown (s .args .event) (s .args .out .now) _ (rw (c .match .keys13)) refl
+
+returns-14 : tie.Need-returns-14
+unfolding NoneUpTo
+returns-14 c = let s = c .before .before in
     writes-unknown (s .args .event) (s .args .out .now) _ (known-no-arm (s .args .event .code) (c .match .rest)) refl
 
 pub write-event-spec : {M : Type 1} → statement M
@@ -120,6 +151,9 @@ write-event-spec =
     write-one-requires-5
     write-two-requires
     write-one-requires-6
+    write-one-requires-7
+    write-two-requires-2
+    write-one-requires-8
     same-length
     returns
     same-length-2
@@ -138,5 +172,11 @@ write-event-spec =
     returns-8
     same-length-9
     returns-9
+    same-length-10
     returns-10
-    returns-11)
+    same-length-11
+    returns-11
+    same-length-12
+    returns-12
+    returns-13
+    returns-14)

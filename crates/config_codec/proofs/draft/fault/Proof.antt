@@ -23,9 +23,6 @@ outside-requires-2 c κs = search needs
 enum-told-3 : tie.Need-enum-told-3
 enum-told-3 c = search needs
 
-cast-outside : tie.Need-cast-outside
-cast-outside c = search needs
-
 outside-requires-3 : tie.Need-outside-requires-3
 outside-requires-3 c κs = search needs
 
@@ -151,7 +148,6 @@ fault-spec =
     enum-told-2
     outside-requires-2
     enum-told-3
-    cast-outside
     outside-requires-3
     enum-told-4
     priority-fault-requires
