@@ -2,6 +2,7 @@
 pub mod Core
 pub mod Tests
 pub mod Events
+pub mod Waits
 pub mod Cells
 pub mod Losses
 pub mod Marks

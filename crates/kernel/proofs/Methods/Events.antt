@@ -13,7 +13,7 @@ use Rattle.stack.specs.declared.Row.{Row}
 use Rattle.stack.specs.Stack.{topRow, pushRow, popRow}
 use Rattle.machine.specs.Model.{Picked, Model, noRank, withCore, withRequest, withLevel, withSlots, withLosses, doneWith, refusedWith}
 use Rattle.machine.specs.Cells.{oneLost}
-use Rattle.machine.specs.Arbiter.{arbitrated, settled, vacated, leaving}
+use Rattle.machine.specs.Arbiter.{arbitrated, settled, leaving}
 use Rattle.machine.specs.Resources.{latest, levelWithout}
 use Rattle.machine.specs.Events.{idles, busy, activate, finish, chain, get, release, line}
 
@@ -106,7 +106,7 @@ module _ (ws : ℕ) (trs ps : List ℕ) (m : Model) (t : ℕ) {a : Bool} (calls 
         chain-busy e = rw (sym calls ∙ runs, ← rank, ne-eqb r noRank some, ← holder, ne-eqb h (m .core .runner) free, sym test ∙ e)
 
         pub chain-done : d ≡ false → {q : ℕ} → q ≡ with (m .core .request) r
-            → settled ps (withCore m (withRequest (vacated m) q)) ≡ chain ws trs ps m t
+            → settled ps (withCore (leaving m) (withRequest (leaving m .core) q)) ≡ chain ws trs ps m t
         unfolding chain firstGiven
         chain-done e asked =
             rw (sym calls ∙ runs, ← rank, ne-eqb r noRank some, ← holder, ne-eqb h (m .core .runner) free, sym test ∙ e, asked)

@@ -8,7 +8,7 @@ use lib.Dec.{ltb, eqb}
 use lib.ListN.{length, getD}
 use borrow.Author.Tests.{ltb-false, le-leb, lt-leb, eq-eqb, ne-eqb}
 use Rattle.config.specs.Value.{maxEntries}
-use Rattle.scheduler.specs.Status.{callLevel, noSuch, badDelay, alreadyRuns, noFunction, firstGiven}
+use Rattle.scheduler.specs.Status.{callLevel, noSuch, badDelay, wrongState, noFunction, firstGiven}
 use Rattle.scheduler.specs.Call.{longestDelay}
 use Rattle.machine.specs.Model.{Picked, Model, noRank, withCore, withRequest, withRest, withCells, doneWith, refusedWith}
 use Rattle.machine.specs.Arbiter.{arbitrated, settled}
@@ -73,7 +73,7 @@ module _ (n : ℕ) (fs es qs os : List ℕ) (m : Model) (t d : ℕ) where
       start-bad h = rw (ne-eqb (m .core .runner) noRank busy, lt-leb n t some, ← from, ← smallest, sym test ∙ h)
 
       module _ (good : b ≡ false) {a : Bool} (on : a ≡ isOn (getD (m .on) f 0)) where
-        pub start-runs : a ≡ true → refusedWith m alreadyRuns ≡ start n fs es qs os m t d
+        pub start-runs : a ≡ true → refusedWith m wrongState ≡ start n fs es qs os m t d
         unfolding start firstGiven
         start-runs h =
             rw (ne-eqb (m .core .runner) noRank busy, lt-leb n t some, ← from, ← smallest, sym test ∙ good, sym on ∙ h)

@@ -20,7 +20,7 @@ use Rattle.config.specs.Meaning.{countsLines}
 use Rattle.config.proofs.Tables.{firstOf-step, firstOf-rises}
 use Rattle.event.specs.declared.Event.{Event}
 use Rattle.event.specs.declared.EventRead.{EventRead}
-use Rattle.event.specs.Event.{readEvent}
+use Rattle.event.specs.Event.{lastCode, readEvent}
 use Rattle.event.specs.Trace.{TraceRead, before, readRest, readTrace}
 use Rattle.event.proofs.Theorems.{event-reading, rest-end, rest-step, rest-refused}
 use Rattle.plan.specs.declared.Plan.{Plan}
@@ -30,7 +30,7 @@ use Rattle.scheduler.specs.Scheduler as Plain
 use Rattle.scheduler.specs.Scheduler.{fresh, step, markOf}
 use Rattle.machine.specs.Model.{Model, Outcome}
 use Rattle.kernel.specs.Methods.{Laid}
-use Rattle.machine.specs.Events.{activate, finish, chain, get, release, tick, line, start, stop}
+use Rattle.machine.specs.Events.{activate, finish, chain, get, release, tick, line, start, stop, wait, setEvent, clear}
 use Rattle.machine.specs.Machine.{statusOf, effectOf, refusalOf, machineStep, runnerOf, machineSeen, machineAfter}
 use Rattle.run.specs.Run.{callOf, answerBytes}
 use Rattle.kernel.specs.Passes.{Playable}
@@ -78,14 +78,27 @@ module _ (c : Config) (p : Plan) (m : Model) (e : Event) where
   unfolding callOf statusOf effectOf refusalOf stop
   step-9 h = rw h
 
+  pub step-10 : e .code ≡ 10 → machineStep c p m (callOf e) ≡ wait (p .extended) (p .priority) m (e .first)
+  unfolding callOf statusOf effectOf refusalOf wait
+  step-10 h = rw h
+
+  pub step-11 : e .code ≡ 11 → machineStep c p m (callOf e) ≡ setEvent (p .extended) (p .task) (p .priority) m (e .first) (e .second)
+  unfolding callOf statusOf effectOf refusalOf setEvent
+  step-11 h = rw h
+
+  pub step-12 : e .code ≡ 12 → machineStep c p m (callOf e) ≡ clear (p .extended) m (e .first)
+  unfolding callOf statusOf effectOf refusalOf clear
+  step-12 h = rw h
+
 past : (n : ℕ) {k : ℕ} → n ≤ k → (k ≡ n → ⊥) → n < k
 past n h d = omega arith
 
 -- no other code is left
-pub one-of-nine : (k : ℕ) → 1 ≤ k → k ≤ 9 → (k ≡ 1 → ⊥) → (k ≡ 2 → ⊥) → (k ≡ 3 → ⊥) → (k ≡ 4 → ⊥) → (k ≡ 5 → ⊥)
-    → (k ≡ 6 → ⊥) → (k ≡ 7 → ⊥) → (k ≡ 8 → ⊥) → (k ≡ 9 → ⊥) → ⊥
-one-of-nine k low high n1 n2 n3 n4 n5 n6 n7 n8 n9 =
-    not-le-of-lt (past 9 (past 8 (past 7 (past 6 (past 5 (past 4 (past 3 (past 2 (past 1 low n1) n2) n3) n4) n5) n6) n7) n8) n9) high
+pub one-of-twelve : (k : ℕ) → 1 ≤ k → k ≤ lastCode → (k ≡ 1 → ⊥) → (k ≡ 2 → ⊥) → (k ≡ 3 → ⊥) → (k ≡ 4 → ⊥) → (k ≡ 5 → ⊥)
+    → (k ≡ 6 → ⊥) → (k ≡ 7 → ⊥) → (k ≡ 8 → ⊥) → (k ≡ 9 → ⊥) → (k ≡ 10 → ⊥) → (k ≡ 11 → ⊥) → (k ≡ 12 → ⊥) → ⊥
+one-of-twelve k low high n1 n2 n3 n4 n5 n6 n7 n8 n9 n10 n11 n12 =
+    let low9 = past 9 (past 8 (past 7 (past 6 (past 5 (past 4 (past 3 (past 2 (past 1 low n1) n2) n3) n4) n5) n6) n7) n8) n9 in
+    not-le-of-lt (past 12 (past 11 (past 10 low9 n10) n11) n12) high
 
 module _ (c : Config) (p : Plan) (rk : ℕ → ℕ) (fit : Fitted c p rk) where
   -- what the methods count on of their tables
@@ -169,7 +182,7 @@ module _ (c : Config) (p : Plan) (ts d : List ℕ) (m₀ : Model) where
       pub playing-later : at < r .place
       playing-later = rw read (event-reading ts at .after fine)
 
-      pub playing-known : (1 ≤ r .event .code) × (r .event .code ≤ 9)
+      pub playing-known : (1 ≤ r .event .code) × (r .event .code ≤ lastCode)
       playing-known = let w = event-reading ts at .writable fine in rw read (w .at-least, w .at-most)
 
       pub playing-room : to + 4 ≤ length out

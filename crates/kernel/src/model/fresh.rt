@@ -31,7 +31,7 @@ impl Model {
             on: [OFF; 64],
             turning: false,
             losses: [0u16; 32],
-            cleared: ALL_RANKS,
+            cleared: 0,
             bits: [0u32; 32],
             waited: [0u32; 32],
         }

@@ -12,7 +12,8 @@ use Rattle.scheduler.specs.Scheduler.{markOf}
 use Rattle.machine.specs.Machine.{machineStep}
 use Rattle.run.specs.Run.{callOf}
 use Rattle.kernel.specs.View.{view, modelOf, viewOutcome}
-use Rattle.kernel.proofs.Run.Play.{step-1, step-2, step-3, step-4, step-5, step-6, step-7, step-8, step-9, one-of-nine, tables-laid}
+use Rattle.event.specs.Event.{lastCode}
+use Rattle.kernel.proofs.Run.Play.{step-1, step-2, step-3, step-4, step-5, step-6, step-7, step-8, step-9, step-10, step-11, step-12, one-of-twelve, tables-laid}
 use Rattle.kernel.proofs.Run.Play.{Playing, playable-start, length-out, playing-end, playing-later, playing-known, playing-room, playing-turn}
 use Rattle.kernel.proofs.play.play.Statement.{statement}
 use Rattle.kernel.proofs.play.play.Tie as tie
@@ -66,6 +67,15 @@ stop-requires c κs = let k = c .before .before .before .before .before .before 
     let a = k .before .before .before .args in
     tables-laid (a .t1) (a .t2) (rankOf (a .t1)) (k .loop .inv .fit)
 
+wait-requires : tie.Need-wait-requires Inv-loop μ-loop
+wait-requires c κs = tt
+
+set-event-requires : tie.Need-set-event-requires Inv-loop μ-loop
+set-event-requires c κs = tt
+
+clear-requires : tie.Need-clear-requires Inv-loop μ-loop
+clear-requires c κs = tt
+
 -- a turn has room for its answer, and goes on behind its event
 room : (r : tie.After-read-event Inv-loop μ-loop) → r .before .before .loop .to + 4 ≤ length (r .before .before .loop .out)
 room r =
@@ -79,7 +89,7 @@ later r =
     let a = k .before .before .before .args in
     playing-later (a .t1) (a .t2) (a .trace .now) (a .out .now) (view (a .fresh)) (k .loop .at) (k .loop .to) (view (k .loop .o .model)) (k .loop .out) (k .loop .inv) (r .before .loop-test .taken) (r .read-event .result) (r .read-event .ensures)
 
-known : (r : tie.After-read-event Inv-loop μ-loop) → (1 ≤ r .read-event .result .event .code) × (r .read-event .result .event .code ≤ 9)
+known : (r : tie.After-read-event Inv-loop μ-loop) → (1 ≤ r .read-event .result .event .code) × (r .read-event .result .event .code ≤ lastCode)
 known r =
     let k = r .before .before in
     let a = k .before .before .before .args in
@@ -119,10 +129,16 @@ stepped j =
     (λ z8.
     ⊎-elim (λ w. ap viewOutcome (w .6 ∙ w .5 .ensures) ∙ sym (step-9 (a .t1) (a .t2) m e (w .0 .keys9)))
     (λ z9.
+    ⊎-elim (λ w. ap viewOutcome (w .4 ∙ w .3 .ensures) ∙ sym (step-10 (a .t1) (a .t2) m e (w .0 .keys10)))
+    (λ z10.
+    ⊎-elim (λ w. ap viewOutcome (w .5 ∙ w .4 .ensures) ∙ sym (step-11 (a .t1) (a .t2) m e (w .0 .keys11)))
+    (λ z11.
+    ⊎-elim (λ w. ap viewOutcome (w .2 ∙ w .1 .ensures) ∙ sym (step-12 (a .t1) (a .t2) m e (w .0 .keys12)))
+    (λ z12.
     ⊎-elim
-    (λ w. absurd (omega (arith, w .0 .keys10, known (j .before .before))))
+    (λ w. absurd (omega (arith, w .0 .keys13, known (j .before .before))))
     (λ w. absurd
-    (one-of-nine (e .code) (known (j .before .before) .0) (known (j .before .before) .1) (λ h. w .0 .rest .0 .0 .0 .0 .0 .0 .0 .0 .0 .1 h) (λ h. w .0 .rest .0 .0 .0 .0 .0 .0 .0 .0 .1 h) (λ h. w .0 .rest .0 .0 .0 .0 .0 .0 .0 .1 h) (λ h. w .0 .rest .0 .0 .0 .0 .0 .0 .1 h) (λ h. w .0 .rest .0 .0 .0 .0 .0 .1 h) (λ h. w .0 .rest .0 .0 .0 .0 .1 h) (λ h. w .0 .rest .0 .0 .0 .1 h) (λ h. w .0 .rest .0 .0 .1 h) (λ h. w .0 .rest .0 .1 h))) z9) z8) z7) y6) z6) z5) z4) z3) z2) z1) (j .match .came)
+    (one-of-twelve (e .code) (known (j .before .before) .0) (known (j .before .before) .1) (λ h. w .0 .rest .0 .0 .0 .0 .0 .0 .0 .0 .0 .0 .0 .0 .1 h) (λ h. w .0 .rest .0 .0 .0 .0 .0 .0 .0 .0 .0 .0 .0 .1 h) (λ h. w .0 .rest .0 .0 .0 .0 .0 .0 .0 .0 .0 .0 .1 h) (λ h. w .0 .rest .0 .0 .0 .0 .0 .0 .0 .0 .0 .1 h) (λ h. w .0 .rest .0 .0 .0 .0 .0 .0 .0 .0 .1 h) (λ h. w .0 .rest .0 .0 .0 .0 .0 .0 .0 .1 h) (λ h. w .0 .rest .0 .0 .0 .0 .0 .0 .1 h) (λ h. w .0 .rest .0 .0 .0 .0 .0 .1 h) (λ h. w .0 .rest .0 .0 .0 .0 .1 h) (λ h. w .0 .rest .0 .0 .0 .1 h) (λ h. w .0 .rest .0 .0 .1 h) (λ h. w .0 .rest .0 .1 h))) z12) z11) z10) z9) z8) z7) y6) z6) z5) z4) z3) z2) z1) (j .match .came)
 
 runner-requires : tie.Need-runner-requires Inv-loop μ-loop
 runner-requires c κs = tt
@@ -180,6 +196,9 @@ play-spec =
     line-requires
     start-requires
     stop-requires
+    wait-requires
+    set-event-requires
+    clear-requires
     runner-requires
     put-answer-requires
     add-to

@@ -1,9 +1,10 @@
 -- `arbitrated` meets its contract: the winner is dispatched where its priority is above the level, and else nothing changes.
 -- Assumes nothing.
-use mathlib.Core.Path.{ap, _∙_}
+use Prim.Native.Nat.{ℕ}
+use mathlib.Core.Path.{_≡_, ap}
 use mathlib.Core.Bool.{not}
 use native.Mathlib.Omega.{arith}
-use Rattle.word.specs.Word.{union, winner}
+use Rattle.word.specs.Word.{intersection, winner}
 use Rattle.word.proofs.Theorems.{winner-le}
 use Rattle.kernel.specs.View.{core, pickedOf}
 use Rattle.kernel.proofs.Methods.Core.{arbitrated-same, arbitrated-above}
@@ -11,8 +12,15 @@ use borrow.Author.Needs.{needs}
 use Rattle.kernel.proofs.model.arbiter.arbitrated.Statement.{statement}
 use Rattle.kernel.proofs.model.arbiter.arbitrated.Tie as tie
 
+-- the winner of those who bid, as the code finds it
+bid : {u v r x : ℕ} (e : ℕ) → u ≡ x → v ≡ intersection u e → r ≡ winner v → r ≡ winner (intersection x e)
+bid e all some won = rw (won, some, all)
+
 union-requires : tie.Need-union-requires
 union-requires c κs = search needs
+
+intersection-requires : tie.Need-intersection-requires
+intersection-requires c κs = search needs
 
 winner-requires : tie.Need-winner-requires
 winner-requires c κs = search needs
@@ -25,11 +33,11 @@ byte-at-requires c κs = search needs
 
 returns : tie.Need-returns
 returns c =
-    let c₁ = c .before in let c₂ = c₁ .before .before in let c₃ = c₂ .before in let c₄ = c₃ .before in
-    let a = c₄ .args in
+    let c₁ = c .before in let c₂ = c₁ .before .before in let c₃ = c₂ .before in let c₄ = c₃ .before in let c₅ = c₄ .before in
+    let a = c₅ .args in
     ap pickedOf
-    (arbitrated-same (a .priority .now) (core (a .request) (a .started) (a .runner) (a .level))
-    ((c₂ .winner .ensures) ∙ ap winner (c₃ .union .ensures)) (c₁ .byte-at .ensures) (c .if1 .taken))
+    (arbitrated-same (a .priority .now) (core (a .request) (a .started) (a .enabled) (a .runner) (a .level))
+    (bid (a .enabled) (c₄ .union .ensures) (c₃ .intersection .ensures) (c₂ .winner .ensures)) (c₁ .byte-at .ensures) (c .if1 .taken))
 
 has-requires : tie.Need-has-requires
 has-requires c κs = search needs
@@ -43,15 +51,15 @@ with-requires c κs = search needs
 cast-t15 : tie.Need-cast-t15
 cast-t15 c =
     let c₁ = c .before .before .before .before .before .before in let c₂ = c₁ .before in
-    omega (arith, winner-le (c₂ .union .result), (c₁ .winner .ensures))
+    omega (arith, winner-le (c₂ .intersection .result), (c₁ .winner .ensures))
 
 returns-2 : tie.Need-returns-2
 returns-2 c =
     let c₁ = c .before in let c₂ = c₁ .before in let c₃ = c₂ .before in let c₄ = c₃ .before in
-    let c₅ = c₄ .before .before in let c₆ = c₅ .before in let c₇ = c₆ .before in let a = c₇ .args in
+    let c₅ = c₄ .before .before in let c₆ = c₅ .before in let c₇ = c₆ .before in let c₈ = c₇ .before in let a = c₈ .args in
     ap pickedOf
-    (arbitrated-above (a .priority .now) (core (a .request) (a .started) (a .runner) (a .level))
-    ((c₅ .winner .ensures) ∙ ap winner (c₆ .union .ensures)) (c₄ .byte-at .ensures) (c₃ .if1 .left) (ap not (c₂ .has .ensures)) (c₁ .used-up .ensures) (c .with .ensures))
+    (arbitrated-above (a .priority .now) (core (a .request) (a .started) (a .enabled) (a .runner) (a .level))
+    (bid (a .enabled) (c₇ .union .ensures) (c₆ .intersection .ensures) (c₅ .winner .ensures)) (c₄ .byte-at .ensures) (c₃ .if1 .left) (ap not (c₂ .has .ensures)) (c₁ .used-up .ensures) (c .with .ensures))
 
 pub arbitrated-spec : {M : Type 1} → statement M
-arbitrated-spec = tie.close (tie.spec union-requires winner-requires cast-byte-at byte-at-requires returns has-requires used-up-requires with-requires cast-t15 returns-2)
+arbitrated-spec = tie.close (tie.spec union-requires intersection-requires winner-requires cast-byte-at byte-at-requires returns has-requires used-up-requires with-requires cast-t15 returns-2)
