@@ -10,5 +10,6 @@ pub mod Refusals
 pub mod Tables
 pub mod Requests
 pub mod Losses
+pub mod Ties
 pub mod Dues
 pub mod Entries
