@@ -1,26 +1,26 @@
 -- What holds of the plain scheduler. Each law stands here in full, over specs/ alone; the modules it cites prove it.
 --
--- In order: who runs; document 01's table of events; that a refused event changes nothing but the count of a lost line; what an accepted Activate finds; requests that wait;
+-- In order: who runs, and ties; document 01's table of events; that a refused event changes nothing but the count of a lost line; what an accepted Activate finds; requests that wait;
 -- where losses come from; that d and n are counted, and entries due, as demand 3 says. `Choice` and `Checks` have more of who is chosen and
 -- of what an accepted call finds; `Examples` are worked lists of events. Assumes nothing.
 use Prim.Native.Nat.{ℕ, suc, _+_, _≤_, _<_, max}
 use mathlib.Core.Path.{_≡_, refl, ap, _∙_}
 use mathlib.Core.Bool.{true, false}
 use mathlib.Core.List.{List, [], _∷_, _++_, map}
-use mathlib.Core.Logic.{_≢_, _↔_}
+use mathlib.Core.Logic.{_≢_, _↔_, _⊎_}
 use native.Mathlib.Omega.{arith}
 use lib.ListN.{length, getD, take}
 use Rattle.config.specs.declared.Config.{Config}
-use Rattle.config.specs.Meaning.{isIsr, priorityOf, ceiling, firstOf}
+use Rattle.config.specs.Meaning.{isIsr, isExtended, priorityOf, ceiling, firstOf}
 use Rattle.config.specs.Accepted as Configuration
 use Rattle.scheduler.specs.Status.{Check, done, NoneFails}
 use Rattle.scheduler.specs.Body.{Body, suspended, isSuspended, isStarted, competes, holds, current, activated, losing, loses, gets, releases}
-use Rattle.scheduler.specs.Choice.{Candidate, nobody, isNobody, candidate, byHolding, goesBefore}
+use Rattle.scheduler.specs.Choice.{Candidate, nobody, isNobody, candidate, byHolding, byBegun, goesBefore}
 use Rattle.scheduler.specs.State.{State, Table, stopped, running, bodyOf, tableOf, changing, runner}
 use Rattle.scheduler.specs.Event.{Event, Activate, Finish, Chain, Get, Release, Tick, Line, Start, Stop, Wait, Set, Clear}
 use Rattle.scheduler.specs.Tick.{ticked, dueFor}
 use Rattle.scheduler.specs.Call.{caller, checksOf}
-use Rattle.scheduler.specs.Scheduler.{begins, dispatched, lossesOf, step, stepBy, LostLine, fresh, seen, after}
+use Rattle.scheduler.specs.Scheduler.{begins, dispatched, lossesOf, step, stepBy, LostLine, fresh, seen, after, leaves, freshBy, seenBy, afterBy}
 use Rattle.scheduler.specs.Entries.{entryOf, entriesOf, entryAt}
 use Rattle.scheduler.specs.History.{AcceptedIn, next, NoStart, NoStop, tickCount, History, dueMark, DueAt}
 use Rattle.scheduler.proofs.Choice as Choice
@@ -29,6 +29,7 @@ use Rattle.scheduler.proofs.Effects as Effects
 use Rattle.scheduler.proofs.Refusals as Refusals
 use Rattle.scheduler.proofs.Requests as Requests
 use Rattle.scheduler.proofs.Losses as Losses
+use Rattle.scheduler.proofs.Ties as Ties
 use Rattle.scheduler.proofs.Tables as Tables
 use Rattle.scheduler.proofs.Dues as Dues
 use Rattle.scheduler.proofs.Entries as Entries
@@ -62,6 +63,36 @@ runner-nobody c s = Choice.chosen-nobody byHolding refl c (s .bodies)
 
 pub runner-someone : (c : Config) (s : State) (k : ℕ) → competes (bodyOf s k .phase) ≡ true → 1 ≤ priorityOf c k → isNobody (runner c s) ≡ false
 runner-someone c s = Choice.chosen-someone byHolding refl c (s .bodies)
+
+-- The rule always decides: of two that may run one goes before the other, after every list of events, and where the choice after the next
+-- event is made
+pub always-decided : (c : Config) → Configuration.Accepted c → Configuration.Shaped c → (es : List Event) (i j : ℕ) → i < c .bodies → j < c .bodies → i ≢ j
+    → competes (bodyOf (after c (fresh c) es) i .phase) ≡ true
+    → competes (bodyOf (after c (fresh c) es) j .phase) ≡ true
+    → (goesBefore byHolding (candidateOf c (after c (fresh c) es) i) (candidateOf c (after c (fresh c) es) j) ≡ true)
+    ⊎ (goesBefore byHolding (candidateOf c (after c (fresh c) es) j) (candidateOf c (after c (fresh c) es) i) ≡ true)
+always-decided = Ties.decided-after
+
+pub next-decided : (c : Config) → Configuration.Accepted c → Configuration.Shaped c → (es : List Event) (e : Event) (i j : ℕ) → i < c .bodies → j < c .bodies
+    → i ≢ j
+    → competes (bodyOf (leaves c (after c (fresh c) es) e) i .phase) ≡ true
+    → competes (bodyOf (leaves c (after c (fresh c) es) e) j .phase) ≡ true
+    → (goesBefore byHolding (candidateOf c (leaves c (after c (fresh c) es) e) i) (candidateOf c (leaves c (after c (fresh c) es) e) j) ≡ true)
+    ⊎ (goesBefore byHolding (candidateOf c (leaves c (after c (fresh c) es) e) j) (candidateOf c (leaves c (after c (fresh c) es) e) i) ≡ true)
+next-decided = Ties.decided-at
+
+-- Where no task is extended, document 01's rule for ties, "on equal priorities the one that already began goes first", gives the same: all that
+-- is seen of every list of events, and the state after it. So nothing that was right before has moved.
+pub old-rule : (c : Config) → Configuration.Accepted c → Configuration.Shaped c → ((b : ℕ) → isExtended c b ≡ false) → (es : List Event)
+    → (seenBy byBegun c (freshBy byBegun c) es ≡ seen c (fresh c) es) × (afterBy byBegun c (freshBy byBegun c) es ≡ after c (fresh c) es)
+old-rule = Ties.old-rule
+
+pub runner-began : (c : Config) → Configuration.Accepted c → Configuration.Shaped c → ((b : ℕ) → isExtended c b ≡ false) → (es : List Event) (k : ℕ)
+    → competes (bodyOf (after c (fresh c) es) k .phase) ≡ true
+    → isStarted (bodyOf (after c (fresh c) es) k .phase) ≡ true
+    → current c k (bodyOf (after c (fresh c) es) k) ≡ runner c (after c (fresh c) es) .level
+    → runner c (after c (fresh c) es) .began ≡ true
+runner-began = Ties.runner-began
 
 -- a Get raises the current priority to the ceiling, and the Release of the same resource undoes it
 pub current-gets : (c : Config) (i r : ℕ) (b : Body) → current c i (gets r b) ≡ max (ceiling c r) (current c i b)

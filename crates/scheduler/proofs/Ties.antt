@@ -26,12 +26,12 @@ use Rattle.scheduler.specs.State.{State, noBody, bodyOf, changing, runne
 use Rattle.scheduler.specs.Event.{Event, Activate, Finish, Chain, Get, Release, Tick, Line, Start, Stop, Wait, Set, Clear}
 use Rattle.scheduler.specs.Tick.{counted, dues}
 use Rattle.scheduler.specs.Call.{caller, finish, statusOf, effectOf, refusalOf}
-use Rattle.scheduler.specs.Scheduler.{begins, markOf, dispatched, newBody, leaves, unstarted, fresh, freshBy, step, stepBy, seen, seenBy, after, afterBy}
+use Rattle.scheduler.specs.Scheduler.{Seen, begins, markOf, dispatchedTo, dispatched, endingTo, duesAt, newBody, statusFor, leavesFor, leaves, unstarted, fresh, freshBy, step, stepBy, seen, seenBy, after, afterBy}
 use Rattle.scheduler.specs.History.{AcceptedIn}
-use Rattle.scheduler.proofs.Choice.{contender, weight, chosen-weight, chosen-same, chosen-from, candidate-active, current-own, current-free, Taken, no-one, body}
+use Rattle.scheduler.proofs.Choice.{contender, weight, weight-before, chosen-weight, chosen-tie, chosen-same, chosen-from, candidate-active, current-own, current-free, Taken, no-one, body}
 use Rattle.scheduler.proofs.Checks.{activate-passed, finish-passed, chain-passed, get-passed, release-passed, wait-passed, set-passed}
 use Rattle.scheduler.proofs.Effects.{activatingDue-keeps, refusalOf-keeps, cond-either}
-use Rattle.scheduler.proofs.Refusals.{begins-some, settled-fresh, settled-step}
+use Rattle.scheduler.proofs.Refusals.{begins-some, settled-fresh, settled-step, settled-after}
 
 -- a body of a list
 abbrev at : List Body → ℕ → Body
@@ -414,3 +414,193 @@ module _ (c : Config) (ok : Configuration.Accepted c) where
 
     reached-kept : Configuration.Shaped c → (es : List Event) → Kept c In (after c (fresh c) es .bodies)
     reached-kept shaped es = after-kept es (fresh c) (fresh-kept shaped) (settled-fresh c)
+
+  -- the level of one that may run
+  level-is : (bs : List Body) (i : ℕ) → competes (at bs i .phase) ≡ true → contender c bs i .level ≡ current c i (at bs i)
+  level-is bs i a = ap (λ (x : Candidate). x .level) (candidate-active c i (at bs i) (at bs i .phase) a)
+
+  -- two that tie: not both hold, and one does
+  module _ {In : Body → Bool} (K : Question In) {bs : List Body} (a : Kept c In bs) (i j : ℕ) (i< : i < c .bodies) (j< : j < c .bodies) (d : i ≢ j)
+      (equal : current c i (at bs i) ≡ current c j (at bs j)) where
+    not-apart : In (at bs i) ≡ true → In (at bs j) ≡ true → ⊥
+    not-apart hi hj =
+        ⊎-elim
+        (λ (l : current c i (at bs i) < priorityOf c j). omega (arith, current-own c j (at bs j)))
+        (λ (l : current c j (at bs j) < priorityOf c i). omega (arith, current-own c i (at bs i)))
+        (a .apart i j i< j< d hi hj)
+
+    one-holds : holds (at bs i .held) ≡ not (holds (at bs j .held))
+    one-holds = go (at bs i .held) (at bs j .held) refl refl
+      where
+        go : (rs qs : List ℕ) → at bs i .held ≡ rs → at bs j .held ≡ qs → holds rs ≡ not (holds qs)
+        go [] [] e f = absurd (d (own-inj i j i< j< (sym (current-free c i (at bs i) e) ∙ equal ∙ current-free c j (at bs j) f)))
+        go [] (q ∷ qs) e f = refl
+        go (r ∷ rs) [] e f = refl
+        go (r ∷ rs) (q ∷ qs) e f =
+            absurd (not-apart (K .holding (at bs i) (a .steady i) (rw e)) (K .holding (at bs j) (a .steady j) (rw f)))
+
+  -- of two that may run one goes before the other
+  decided : {bs : List Body} → Kept c holder bs → (i j : ℕ) → i < c .bodies → j < c .bodies → i ≢ j → competes (at bs i .phase) ≡ true
+      → competes (at bs j .phase) ≡ true
+      → (goesBefore byHolding (contender c bs i) (contender c bs j) ≡ true) ⊎ (goesBefore byHolding (contender c bs j) (contender c bs i) ≡ true)
+  decided {bs} a i j i< j< d p q =
+      by-lt (weight byHolding (contender c bs i)) (weight byHolding (contender c bs j))
+      (λ l. inr (weight-before byHolding (contender c bs j) (contender c bs i) l))
+      (λ l. by-lt (weight byHolding (contender c bs j)) (weight byHolding (contender c bs i))
+      (λ m. inl (weight-before byHolding (contender c bs i) (contender c bs j) m))
+      (λ m. absurd (differ (holds (at bs i .held)) (holds (at bs j .held)) refl refl
+      (omega (arith, weighs bs i p, weighs bs j q)))))
+    where
+      same-level : (x y : Bool) → 2 * current c i (at bs i) + markOf x ≡ 2 * current c j (at bs j) + markOf y
+          → current c i (at bs i) ≡ current c j (at bs j)
+      same-level true true e = omega arith
+      same-level true false e = absurd (omega arith)
+      same-level false true e = absurd (omega arith)
+      same-level false false e = omega arith
+
+      differ : (x y : Bool) → holds (at bs i .held) ≡ x → holds (at bs j .held) ≡ y
+          → 2 * current c i (at bs i) + markOf (holds (at bs i .held)) ≡ 2 * current c j (at bs j) + markOf (holds (at bs j .held)) → ⊥
+      differ x y e f w =
+          let l = same-level (holds (at bs i .held)) (holds (at bs j .held)) w in
+          let o = one-holds holders a i j i< j< d l in
+          go x y (sym e ∙ o ∙ ap not f) (sym (ap markOf e) ∙ marks l ∙ ap markOf f)
+        where
+          marks : current c i (at bs i) ≡ current c j (at bs j) → markOf (holds (at bs i .held)) ≡ markOf (holds (at bs j .held))
+          marks l = omega arith
+
+          go : (x y : Bool) → x ≡ not y → markOf x ≡ markOf y → ⊥
+          go true true e m = true≢false e
+          go true false e m = omega arith
+          go false true e m = omega arith
+          go false false e m = true≢false (sym e)
+
+  -- where the started bodies are apart the old rule and the new one agree
+  module _ {bs : List Body} (a : Kept c begunBody bs) where
+    -- in a tie, who holds has begun and who does not hold has not
+    begun-holds : (i j : ℕ) → i < c .bodies → j < c .bodies → i ≢ j → current c i (at bs i) ≡ current c j (at bs j)
+        → isStarted (at bs i .phase) ≡ holds (at bs i .held)
+    begun-holds i j i< j< d equal = go (holds (at bs i .held)) refl
+      where
+        other : holds (at bs i .held) ≡ false → holds (at bs j .held) ≡ true
+        other e = flip (holds (at bs j .held)) (sym e ∙ one-holds begunBodies a i j i< j< d equal)
+          where
+            flip : (b : Bool) → false ≡ not b → b ≡ true
+            flip true h = refl
+            flip false h = absurd (true≢false (sym h))
+
+        unstarted-of : (b : Bool) → (b ≡ true → ⊥) → b ≡ false
+        unstarted-of true n = absurd (n refl)
+        unstarted-of false n = refl
+
+        go : (b : Bool) → holds (at bs i .held) ≡ b → isStarted (at bs i .phase) ≡ b
+        go true e = a .steady i e
+        go false e =
+            unstarted-of (isStarted (at bs i .phase))
+            (λ h. not-apart begunBodies a i j i< j< d equal h (a .steady j (other e)))
+
+    agree : (x y : Candidate) → Taken c bs x → Taken c bs y → goesBefore byBegun x y ≡ goesBefore byHolding x y
+    agree x y (no-one e) (no-one f) = rw (e, f)
+    agree x y (no-one e) (body j h p f) = rw e
+    agree x y (body i h p e) (no-one f) =
+        let l : 0 < x .level = omega (arith, ap (λ (z : Candidate). z .level) e, level-is bs i p, current-own c i (at bs i), ok .priority-low i (rw (a .size) at h)) in
+        rw f (rw (lt-ltb 0 (x .level) l))
+    agree x y (body i hi p e) (body j hj q f) =
+        rw (e, f)
+        (by-eq i j
+        (λ z. rw z (self (contender c bs j)))
+        (λ d. by-eq (contender c bs i .level) (contender c bs j .level)
+        (λ l. let k = sym (level-is bs i p) ∙ l ∙ level-is bs j q in
+        ap₂ (λ (u v : Bool). ltb (contender c bs j .level) (contender c bs i .level) || (eqb (contender c bs j .level) (contender c bs i .level) && (u && not v)))
+        (answers i p (begun-holds i j i< j< d k))
+        (answers j q (begun-holds j i j< i< (λ z. d (sym z)) (sym k))))
+        (λ n. rw (ne-eqb (contender c bs j .level) (contender c bs i .level) (λ z. n (sym z))))))
+      where
+        i< : i < c .bodies
+        i< = rw (a .size) at hi
+
+        j< : j < c .bodies
+        j< = rw (a .size) at hj
+
+        never : (b : Bool) → b && not b ≡ false
+        never true = refl
+        never false = refl
+
+        self : (z : Candidate) → goesBefore byBegun z z ≡ goesBefore byHolding z z
+        self z = rw (never (z .began), never (z .holder))
+
+        answers : (k : ℕ) → competes (at bs k .phase) ≡ true → isStarted (at bs k .phase) ≡ holds (at bs k .held)
+            → contender c bs k .began ≡ contender c bs k .holder
+        answers k r h =
+            let is = candidate-active c k (at bs k) (at bs k .phase) r in
+            ap (λ (z : Candidate). z .began) is ∙ h ∙ sym (ap (λ (z : Candidate). z .holder) is)
+
+    same-choice : chosenBy byBegun c bs ≡ chosenBy byHolding c bs
+    same-choice = chosen-same byBegun byHolding c bs agree
+
+  -- no task is extended
+  module _ (shaped : Configuration.Shaped c) (basic : (b : ℕ) → isExtended c b ≡ false) where
+    no-set : (s : State) (t w : ℕ) → AcceptedIn c s (Set t w) → (b : Body) → begunBody (receives w b) ≡ true → begunBody b ≡ true
+    unfolding stepBy
+    no-set s t w z b h = absurd (true≢false (sym (set-passed c s t w z .2) ∙ basic t))
+
+    old-step : (s : State) → Kept c begunBody (s .bodies) → begins (runner c s) ≡ false → (e : Event) → stepBy byBegun c s e ≡ step c s e
+    unfolding stepBy
+    old-step s a settled e =
+        ap (λ (k : Candidate). endingTo (runnerBy byBegun c (leavesFor c k s e)) (statusFor c k s e) (duesAt c s e) (leavesFor c k s e)) (same-choice a)
+        ∙ ap (λ (k : Candidate). endingTo k (statusOf c s e) (duesAt c s e) (leaves c s e)) (same-choice (leaves-kept begunBodies no-set s a settled e))
+
+    old-from : (es : List Event) (s : State) → Kept c begunBody (s .bodies) → begins (runner c s) ≡ false
+        → (seenBy byBegun c s es ≡ seen c s es) × (afterBy byBegun c s es ≡ after c s es)
+    unfolding seenBy afterBy
+    old-from [] s a settled = (refl, refl)
+    old-from (e ∷ es) s a settled =
+        let rest = old-from es (step c s e .state) (step-kept begunBodies no-set s a settled e) (settled-step c s e) in
+        rw (old-step s a settled e) (ap (λ (xs : List Seen). step c s e .seen ∷ xs) (rest .0), rest .1)
+
+    old-fresh : freshBy byBegun c ≡ fresh c
+    old-fresh = ap (λ (k : Candidate). dispatchedTo k (unstarted c)) (same-choice (unstarted-kept begunBodies no-set shaped))
+
+    pub old-rule : (es : List Event)
+        → (seenBy byBegun c (freshBy byBegun c) es ≡ seen c (fresh c) es) × (afterBy byBegun c (freshBy byBegun c) es ≡ after c (fresh c) es)
+    old-rule es = rw old-fresh (old-from es (fresh c) (fresh-kept begunBodies no-set shaped) (settled-fresh c))
+
+    -- "on equal priorities the one that already began goes first"
+    pub runner-began : (es : List Event) (k : ℕ) → competes (bodyOf (after c (fresh c) es) k .phase) ≡ true
+        → isStarted (bodyOf (after c (fresh c) es) k .phase) ≡ true
+        → current c k (bodyOf (after c (fresh c) es) k) ≡ runner c (after c (fresh c) es) .level
+        → runner c (after c (fresh c) es) .began ≡ true
+    runner-began es k active begun equal =
+        sym (ap (λ (x : Candidate). x .began) same)
+        ∙ chosen-tie byBegun refl c (s .bodies) k active
+        (ap (λ (x : Candidate). x .began) (candidate-active c k (bodyOf s k) (bodyOf s k .phase) active) ∙ begun)
+        (equal ∙ sym (ap (λ (x : Candidate). x .level) same))
+      where
+        s : State
+        s = after c (fresh c) es
+
+        same : chosenBy byBegun c (s .bodies) ≡ chosenBy byHolding c (s .bodies)
+        same = same-choice (reached-kept begunBodies no-set shaped es)
+
+  -- after every list of events, and where the choice is made after the next one
+  module _ (shaped : Configuration.Shaped c) (es : List Event) where
+    set-holds : (s : State) (t w : ℕ) → AcceptedIn c s (Set t w) → (b : Body) → holder (receives w b) ≡ true → holder b ≡ true
+    set-holds s t w z b h = h
+
+    kept : Kept c holder (after c (fresh c) es .bodies)
+    kept = reached-kept holders set-holds shaped es
+
+    pub decided-after : (i j : ℕ) → i < c .bodies → j < c .bodies → i ≢ j
+        → competes (bodyOf (after c (fresh c) es) i .phase) ≡ true
+        → competes (bodyOf (after c (fresh c) es) j .phase) ≡ true
+        → (goesBefore byHolding (contender c (after c (fresh c) es .bodies) i) (contender c (after c (fresh c) es .bodies) j) ≡ true)
+        ⊎ (goesBefore byHolding (contender c (after c (fresh c) es .bodies) j) (contender c (after c (fresh c) es .bodies) i) ≡ true)
+    decided-after = decided kept
+
+    pub decided-at : (e : Event) (i j : ℕ) → i < c .bodies → j < c .bodies → i ≢ j
+        → competes (bodyOf (leaves c (after c (fresh c) es) e) i .phase) ≡ true
+        → competes (bodyOf (leaves c (after c (fresh c) es) e) j .phase) ≡ true
+        → (goesBefore byHolding (contender c (leaves c (after c (fresh c) es) e .bodies) i) (contender c (leaves c (after c (fresh c) es) e .bodies) j) ≡ true)
+        ⊎ (goesBefore byHolding (contender c (leaves c (after c (fresh c) es) e .bodies) j) (contender c (leaves c (after c (fresh c) es) e .bodies) i) ≡ true)
+    decided-at e =
+        decided
+        (leaves-kept holders set-holds (after c (fresh c) es) kept (settled-after c es (fresh c) (settled-fresh c)) e)
