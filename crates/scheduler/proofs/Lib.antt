@@ -3,6 +3,7 @@
 pub mod Theorems
 pub mod Listing
 pub mod Examples
+pub mod Bits
 pub mod Choice
 pub mod Checks
 pub mod Effects
