@@ -5,7 +5,7 @@
 -- of what an accepted call finds; `Examples` are worked lists of events. Assumes nothing.
 use Prim.Native.Nat.{ℕ, suc, _+_, _≤_, _<_, max}
 use mathlib.Core.Path.{_≡_, refl, ap, _∙_}
-use mathlib.Core.Bool.{true, false}
+use mathlib.Core.Bool.{true, false, not, _&&_, _||_}
 use mathlib.Core.List.{List, [], _∷_, _++_, map}
 use mathlib.Core.Logic.{_≢_, _↔_, _⊎_}
 use native.Mathlib.Omega.{arith}
@@ -14,7 +14,8 @@ use Rattle.config.specs.declared.Config.{Config}
 use Rattle.config.specs.Meaning.{isIsr, isExtended, priorityOf, ceiling, firstOf}
 use Rattle.config.specs.Accepted as Configuration
 use Rattle.scheduler.specs.Status.{Check, done, NoneFails}
-use Rattle.scheduler.specs.Body.{Body, suspended, isSuspended, isStarted, competes, holds, current, activated, losing, loses, gets, releases}
+use Rattle.scheduler.specs.Body.{Body, suspended, waiting, isSuspended, isStarted, hasBegun, competes, resumed, holds, current, activated, losing, loses, gets, releases}
+use Rattle.scheduler.specs.Bits.{bitSet, anySet, withBits, withoutBits}
 use Rattle.scheduler.specs.Choice.{Candidate, nobody, isNobody, candidate, byHolding, byBegun, goesBefore}
 use Rattle.scheduler.specs.State.{State, Table, stopped, running, bodyOf, tableOf, changing, runner}
 use Rattle.scheduler.specs.Event.{Event, Activate, Finish, Chain, Get, Release, Tick, Line, Start, Stop, Wait, Set, Clear}
@@ -22,7 +23,8 @@ use Rattle.scheduler.specs.Tick.{ticked, dueFor}
 use Rattle.scheduler.specs.Call.{caller, checksOf}
 use Rattle.scheduler.specs.Scheduler.{begins, dispatched, lossesOf, step, stepBy, LostLine, fresh, seen, after, leaves, freshBy, seenBy, afterBy}
 use Rattle.scheduler.specs.Entries.{entryOf, entriesOf, entryAt}
-use Rattle.scheduler.specs.History.{AcceptedIn, next, NoStart, NoStop, tickCount, History, dueMark, DueAt}
+use Rattle.scheduler.specs.History.{AcceptedIn, Ends, next, NoStart, NoStop, tickCount, History, dueMark, DueAt}
+use Rattle.scheduler.proofs.Bits as Bits
 use Rattle.scheduler.proofs.Choice as Choice
 use Rattle.scheduler.proofs.Checks as Checks
 use Rattle.scheduler.proofs.Effects as Effects
@@ -188,8 +190,17 @@ pub activated-suspended : (c : Config) (s : State) (t : ℕ) → AcceptedIn c s 
 unfolding stepBy
 activated-suspended c s t a = Checks.activate-passed c s t a .2
 
+-- "The begun mark is 1 exactly if this event made a body begin from its start; a resumed body gives 0": a body that has begun, waiting or not,
+-- begins again only where the event is its own accepted Finish or Chain
+pub begins-after-end : (c : Config) (s : State) (i : ℕ) → hasBegun (bodyOf s i .phase) ≡ true
+    → (e : Event)
+    → step c s e .seen .begun ≡ 1
+    → step c s e .seen .runner ≡ i
+    → Ends e × (caller c s ≡ i) × AcceptedIn c s e
+begins-after-end = Requests.begins-after-end
+
 -- "A started ISR's second request .. begins only after it has finished": where a started ISR begins, the event is its own accepted Finish
-pub begins-after-finish : (c : Config) (s : State) (i : ℕ) → isIsr c i ≡ true → isStarted (bodyOf s i .phase) ≡ true
+pub begins-after-finish : (c : Config) (s : State) (i : ℕ) → hasBegun (bodyOf s i .phase) ≡ true → isIsr c i ≡ true
     → (e : Event)
     → step c s e .seen .begun ≡ 1
     → step c s e .seen .runner ≡ i
@@ -199,6 +210,20 @@ begins-after-finish = Requests.begins-after-finish
 -- "requests already waiting stay": a Stop changes no body
 pub stop-bodies : (c : Config) (es : List Event) (t : ℕ) → step c (after c (fresh c) es) (Stop t) .state .bodies ≡ after c (fresh c) es .bodies
 stop-bodies c es t = Requests.stop-bodies c (after c (fresh c) es) t (Refusals.settled-after c es (fresh c) (Refusals.settled-fresh c))
+
+-- event bits, each bit by itself: a Set sets those of its mask, a Clear clears them, and one waited bit that is set suffices
+pub with-bit : (bits w i : ℕ) → bitSet (withBits bits w) i ≡ bitSet bits i || bitSet w i
+with-bit = Bits.with-bit
+
+pub without-bit : (bits w i : ℕ) → bitSet (withoutBits bits w) i ≡ bitSet bits i && not (bitSet w i)
+without-bit = Bits.without-bit
+
+pub any-set : (bits w : ℕ) → (anySet bits w ≡ false) ↔ ((i : ℕ) → bitSet bits i && bitSet w i ≡ false)
+any-set = Bits.any-set
+
+-- "Wait on mask 0 is never resumed"
+pub mask-zero-waits : (bits : ℕ) → resumed bits (waiting 0) ≡ waiting 0
+mask-zero-waits = Bits.mask-zero-waits
 
 -- losses come from due entries and counted lost lines: no other event changes one, and what is seen of them is the state after the event
 pub losses-call : (c : Config) (s : State) (e : Event) → e ≢ Tick → ((i : ℕ) → LostLine c s e i → ⊥)
