@@ -75,10 +75,7 @@ checksFor c k s (Stop t) =
     (not (isRunning (tableOf s t)) gives noFunction) ∷
     []
 checksFor c k s (Wait w) =
-    (isNobody k gives callLevel) ∷
-    (not (isExtended c (k .number)) gives access) ∷
-    (holds (bodyOf s (k .number) .held) gives holdsResource) ∷
-    []
+    (isNobody k gives callLevel) ∷ (not (isExtended c (k .number)) gives access) ∷ (holds (bodyOf s (k .number) .held) gives holdsResource) ∷ []
 checksFor c k s (Set t w) =
     (isNobody k gives callLevel) ∷
     (not (isTask c t) gives noSuch) ∷
