@@ -1,6 +1,6 @@
--- What the rules ask of a configuration: which bodies are tasks and which ISRs, a resource's ceiling, a table's entries.
+-- What the rules ask of a configuration: which bodies are tasks and which ISRs, a resource's users and its ceiling, a table's entries.
 -- Assumes nothing.
-use Prim.Native.Nat.{ℕ, zero, suc, _+_, _/_, _%_, max}
+use Prim.Native.Nat.{ℕ, zero, suc, _+_, _/_, _%_, _^_, max}
 use mathlib.Core.Bool.{Bool, cond, not, _&&_}
 use mathlib.Core.List.{List, [], _∷_}
 use lib.Dec.{ltb, eqb}
@@ -22,6 +22,10 @@ isIsr c b = ltb b (c .bodies) && eqb (getD (c .kind) b 0) isr
 -- a body's own priority
 abbrev pub priorityOf : Config → ℕ → ℕ
 priorityOf c b = getD (c .priority) b 0
+
+-- "per resource its users as a mask": b is one of its declared users where the bit that is worth 2 ^ b is set
+abbrev pub isUser : Config → ℕ → ℕ → Bool
+isUser c r b = eqb (getD (c .users) r 0 / 2 ^ b % 2) 1
 
 -- the greatest of the priorities whose bits are set in the mask, lowest bit first
 unfoldable pub greatestIn : ℕ → List ℕ → ℕ

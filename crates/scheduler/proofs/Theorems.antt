@@ -75,7 +75,7 @@ pub record EventTable (c : Config) (s : State) : Type 0 where
   pub one-activate : (t : ℕ) → statuses c s (Activate t) ≡ 2 ∷ 3 ∷ 4 ∷ []
   pub two-finish : statuses c s Finish ≡ 2 ∷ 6 ∷ []
   pub three-chain : (t : ℕ) → statuses c s (Chain t) ≡ 2 ∷ 3 ∷ 6 ∷ 4 ∷ []
-  pub four-get : (r : ℕ) → statuses c s (Get r) ≡ 2 ∷ 3 ∷ 1 ∷ []
+  pub four-get : (r : ℕ) → statuses c s (Get r) ≡ 2 ∷ 3 ∷ 33 ∷ 1 ∷ []
   pub five-release : (r : ℕ) → statuses c s (Release r) ≡ 2 ∷ 3 ∷ 5 ∷ []
   pub six-tick : statuses c s Tick ≡ []
   pub seven-line : (i : ℕ) → statuses c s (Line i) ≡ 3 ∷ 4 ∷ []

@@ -11,8 +11,8 @@ use mathlib.Core.Bool.{Bool, true, false, not, _&&_, _||_}
 use mathlib.Core.List.{List, [], _∷_}
 use lib.Dec.{ltb, leb, eqb}
 use Rattle.config.specs.declared.Config.{Config}
-use Rattle.config.specs.Meaning.{isTask, isIsr, priorityOf, ceiling, smallestOffset}
-use Rattle.scheduler.specs.Status.{Check, callLevel, noSuch, limitReached, access, noFunction, holdsResource, alreadyRuns, badDelay, _gives_, firstGiven}
+use Rattle.config.specs.Meaning.{isTask, isIsr, isUser, smallestOffset}
+use Rattle.scheduler.specs.Status.{Check, callLevel, noSuch, limitReached, access, noFunction, holdsResource, alreadyRuns, badDelay, notUser, _gives_, firstGiven}
 use Rattle.scheduler.specs.Body.{Phase, suspended, ready, started, isSuspended, Body, become, finished, requested, gets, releases}
 use Rattle.scheduler.specs.Choice.{isNobody}
 use Rattle.scheduler.specs.State.{State, stopped, running, isRunning, bodyOf, tableOf, changing, withTable, runner, heldIn}
@@ -67,7 +67,8 @@ checksOf c s (Chain t) =
 checksOf c s (Get r) =
     (nobodyRuns c s gives callLevel) ∷
     (leb (c .resources) r gives noSuch) ∷
-    (heldIn r (s .bodies) || ltb (ceiling c r) (priorityOf c (caller c s)) gives access) ∷
+    (not (isUser c r (caller c s)) gives notUser) ∷
+    (heldIn r (s .bodies) gives access) ∷
     []
 checksOf c s (Release r) =
     (nobodyRuns c s gives callLevel) ∷
