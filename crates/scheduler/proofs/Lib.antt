@@ -12,3 +12,4 @@ pub mod Requests
 pub mod Losses
 pub mod Dues
 pub mod Entries
+pub mod Users

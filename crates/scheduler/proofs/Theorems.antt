@@ -1,7 +1,7 @@
 -- What holds of the plain scheduler. Each law stands here in full, over specs/ alone; the modules it cites prove it.
 --
 -- In order: who runs; document 01's table of events; that a refused call changes nothing; what an accepted Activate finds; requests that wait;
--- where losses come from; that d and n are counted, and entries due, as demand 3 says. `Choice` and `Checks` have more of who is chosen and
+-- who holds a resource; where losses come from; that d and n are counted, and entries due, as demand 3 says. `Choice` and `Checks` have more of who is chosen and
 -- of what an accepted call finds; `Examples` are worked lists of events. Assumes nothing.
 use Prim.Native.Nat.{ℕ, suc, _+_, _≤_, _<_, max}
 use mathlib.Core.Path.{_≡_, refl, ap}
@@ -11,12 +11,12 @@ use mathlib.Core.Logic.{_≢_, _↔_}
 use native.Mathlib.Omega.{arith}
 use lib.ListN.{length, getD, take}
 use Rattle.config.specs.declared.Config.{Config}
-use Rattle.config.specs.Meaning.{isIsr, priorityOf, ceiling, firstOf}
+use Rattle.config.specs.Meaning.{isIsr, isUser, priorityOf, ceiling, firstOf}
 use Rattle.config.specs.Accepted as Configuration
 use Rattle.scheduler.specs.Status.{Check, done, NoneFails}
 use Rattle.scheduler.specs.Body.{Body, suspended, ready, isSuspended, isStarted, current, become, losing, gets, releases}
 use Rattle.scheduler.specs.Choice.{Candidate, nobody, isNobody, candidate, goesBefore}
-use Rattle.scheduler.specs.State.{State, Table, stopped, running, bodyOf, tableOf, runner}
+use Rattle.scheduler.specs.State.{State, Table, stopped, running, bodyOf, tableOf, runner, among}
 use Rattle.scheduler.specs.Event.{Event, Activate, Finish, Chain, Get, Release, Tick, Line, Start, Stop}
 use Rattle.scheduler.specs.Tick.{ticked, dueFor}
 use Rattle.scheduler.specs.Call.{caller, checksOf}
@@ -28,6 +28,7 @@ use Rattle.scheduler.proofs.Checks as Checks
 use Rattle.scheduler.proofs.Effects as Effects
 use Rattle.scheduler.proofs.Refusals as Refusals
 use Rattle.scheduler.proofs.Requests as Requests
+use Rattle.scheduler.proofs.Users as Users
 use Rattle.scheduler.proofs.Losses as Losses
 use Rattle.scheduler.proofs.Tables as Tables
 use Rattle.scheduler.proofs.Dues as Dues
@@ -141,6 +142,10 @@ begins-after-finish = Requests.begins-after-finish
 -- "requests already waiting stay": a Stop changes no body
 pub stop-bodies : (c : Config) (es : List Event) (t : ℕ) → step c (after c (fresh c) es) (Stop t) .state .bodies ≡ after c (fresh c) es .bodies
 stop-bodies c es t = Requests.stop-bodies c (after c (fresh c) es) t (Refusals.settled-after c es (fresh c) (Refusals.settled-fresh c))
+
+-- in every state that the fresh start leads to, whoever holds a resource is one of its declared users: Release needs no status for it
+pub held-by-user : (c : Config) (es : List Event) (i r : ℕ) → among r (bodyOf (after c (fresh c) es) i .held) ≡ true → isUser c r i ≡ true
+held-by-user c es = Users.declared-after c es (fresh c) (Users.declared-fresh c)
 
 -- losses come from due entries: no event but a Tick changes one, and what is seen of them is the state after the event
 pub losses-call : (c : Config) (s : State) (e : Event) → e ≢ Tick → lossesOf (step c s e .state) ≡ lossesOf s

@@ -1,0 +1,133 @@
+-- Who holds a resource is one of its declared users: after every list of events, by `declared-after`.
+--
+-- Only a Get adds to what a body holds, and it is accepted of a declared user alone. Assumes nothing.
+use Prim.Native.Nat.{ℕ}
+use mathlib.Core.Path.{_≡_, refl, sym, ap, _∙_}
+use mathlib.Core.Bool.{Bool, true, false, true≢false, cond, _||_}
+use mathlib.Core.List.{List, [], _∷_, map}
+use borrow.Author.Tests.{eqb-true, eq-eqb, ne-eqb}
+use lib.Dec.{eqb}
+use lib.ListN.{length, getD, List·getD-eq-default, List·getD-map, take, replicate}
+use Rattle.number.proofs.Cases.{by-lt, by-eq}
+use Rattle.config.specs.declared.Config.{Config}
+use Rattle.config.specs.Meaning.{isUser}
+use Rattle.scheduler.specs.Status.{done}
+use Rattle.scheduler.specs.Body.{Body, ready, started, isSuspended, isStarted, become, finished, requested, gets, rest, releases, loses, activatedByEntry}
+use Rattle.scheduler.specs.State.{State, stopped, noBody, bodyOf, changing, runner, among}
+use Rattle.scheduler.specs.Event.{Event, Activate, Finish, Chain, Get, Release, Tick, Line, Start, Stop}
+use Rattle.scheduler.specs.Tick.{dues, counted}
+use Rattle.scheduler.specs.Call.{caller, finish, statusOf, effectOf}
+use Rattle.scheduler.specs.Scheduler.{begins, dispatched, newBody, step, fresh, after}
+use Rattle.scheduler.specs.History.{AcceptedIn}
+use Rattle.scheduler.proofs.Checks.{get-passed}
+use Rattle.scheduler.proofs.Effects.{bodyOf-changing-same, bodyOf-changing-other, length-changing, activatingDue-keeps, cond-either}
+
+-- nothing is held of an empty list
+none-held : {C : Type 0} (r : ℕ) → among r [] ≡ true → C
+unfolding among
+none-held r h = absurd (true≢false (sym h))
+
+module _ (c : Config) where
+  abbrev pub Declared : State → Type 0
+  Declared s = (i r : ℕ) → among r (bodyOf s i .held) ≡ true → isUser c r i ≡ true
+
+  -- a body k that is changed holds no resource of which it is no declared user
+  declared-changing : (k : ℕ) (f : Body → Body) (s : State) → ((r : ℕ) → among r (f (bodyOf s k) .held) ≡ true → isUser c r k ≡ true) → Declared s
+      → Declared (changing k f s)
+  declared-changing k f s fine d i r h =
+      by-eq i k
+      (λ same. by-lt i (length (s .bodies))
+      (λ fits. rw same (fine r (rw (same, bodyOf-changing-same k f s (rw same at fits)) at h)))
+      (λ past.
+      let beyond : bodyOf (changing k f s) i ≡ noBody = List·getD-eq-default (changing k f s .bodies) noBody (rw (length-changing k f s) past) in
+      none-held r (rw beyond at h)))
+      (λ other. d i r (rw (bodyOf-changing-other k f s i other) at h))
+
+  -- a change that takes no resource
+  abbrev TakesNone : (Body → Body) → Type 0
+  TakesNone f = (b : Body) (r : ℕ) → among r (f b .held) ≡ true → among r (b .held) ≡ true
+
+  declared-taking-none : (k : ℕ) (f : Body → Body) → TakesNone f → (s : State) → Declared s → Declared (changing k f s)
+  declared-taking-none k f none s d = declared-changing k f s (λ r h. d k r (none (bodyOf s k) r h)) d
+
+  requested-none : TakesNone requested
+  requested-none b r = go (isStarted (b .phase))
+    where
+      go : (p : Bool) → among r (cond p (record { phase = started; pending = true; held = b .held; losses = b .losses }) (become ready b) .held) ≡ true
+          → among r (b .held) ≡ true
+      go true h = h
+      go false h = h
+
+  entry-none : TakesNone activatedByEntry
+  entry-none b r = go (isSuspended (b .phase))
+    where
+      go : (p : Bool) → among r (cond p (become ready b) (loses b) .held) ≡ true → among r (b .held) ≡ true
+      go true h = h
+      go false h = h
+
+  releases-none : TakesNone releases
+  unfolding among
+  releases-none b r = go (b .held)
+    where
+      or-true : (x : Bool) → x || true ≡ true
+      or-true true = refl
+      or-true false = refl
+
+      go : (rs : List ℕ) → among r (rest rs) ≡ true → among r rs ≡ true
+      go [] h = h
+      go (x ∷ xs) h = rw h (or-true (eqb r x))
+
+  -- what is held after a Get
+  gets-declared : (s : State) (r : ℕ) → isUser c r (caller c s) ≡ true → Declared s
+      → (q : ℕ) → among q (gets r (bodyOf s (caller c s)) .held) ≡ true → isUser c q (caller c s) ≡ true
+  unfolding among
+  gets-declared s r user d q h =
+      by-eq q r
+      (λ same. rw same user)
+      (λ other. d (caller c s) q (rw (ne-eqb q r other) at h))
+
+  declared-effect : (s : State) (e : Event) → AcceptedIn c s e → Declared s → Declared (effectOf c s e)
+  unfolding step
+  declared-effect s (Activate t) a d = declared-taking-none t (become ready) (λ b r h. h) s d
+  declared-effect s Finish a d = declared-taking-none (caller c s) finished (λ b r h. h) s d
+  declared-effect s (Chain t) a d =
+      declared-taking-none t (become ready) (λ b r h. h) (finish c s) (declared-taking-none (caller c s) finished (λ b r h. h) s d)
+  declared-effect s (Get r) a d = declared-changing (caller c s) (gets r) s (gets-declared s r (get-passed c s r a .2) d) d
+  declared-effect s (Release r) a d = declared-taking-none (caller c s) releases releases-none s d
+  declared-effect s Tick a d =
+      activatingDue-keeps Declared (λ t. declared-taking-none t activatedByEntry entry-none) (dues c (counted s)) (c .task) (counted s) d
+  declared-effect s (Line i) a d = declared-taking-none i requested requested-none s d
+  declared-effect s (Start t x) a d = d
+  declared-effect s (Stop t) a d = d
+
+  declared-dispatched : (s : State) → Declared s → Declared (dispatched c s)
+  declared-dispatched s d =
+      cond-either Declared (begins (runner c s)) _ s (declared-taking-none (runner c s .number) (become started) (λ b r h. h) s d) d
+
+  declared-step : (s : State) (e : Event) → Declared s → Declared (step c s e .state)
+  unfolding step
+  declared-step s e d =
+      declared-dispatched (cond (eqb (statusOf c s e) done) (effectOf c s e) s)
+      (by-eq (statusOf c s e) done
+      (λ ok. rw (eq-eqb (statusOf c s e) done ok) (declared-effect s e ok d))
+      (λ bad. rw (ne-eqb (statusOf c s e) done bad) d))
+
+  pub declared-fresh : Declared (fresh c)
+  declared-fresh = declared-dispatched new (λ i r h. none-held r (rw (nothing i) at h))
+    where
+      new : State
+      new = record { bodies = map newBody (take (c .bodies) (c .autostart)); tables = replicate (c .tables) stopped }
+
+      none : (a : Bool) → cond a (become ready noBody) noBody .held ≡ []
+      none true = refl
+      none false = refl
+
+      nothing : (i : ℕ) → bodyOf new i .held ≡ []
+      nothing i =
+          ap (λ (b : Body). b .held) (List·getD-map newBody (take (c .bodies) (c .autostart)) i 0)
+          ∙ none (eqb (getD (take (c .bodies) (c .autostart)) i 0) 1)
+
+  pub declared-after : (es : List Event) (s : State) → Declared s → Declared (after c s es)
+  unfolding after
+  declared-after [] s d = d
+  declared-after (e ∷ es) s d = declared-after es (step c s e .state) (declared-step s e d)
