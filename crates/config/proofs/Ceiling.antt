@@ -3,13 +3,13 @@
 -- In order: the elements of a list that a mask chooses, bit by bit; a resource's users. Assumes nothing.
 use Prim.Native.Nat.{ℕ, zero, suc, _/_, _%_, _^_, _≤_, _<_}
 use mathlib.Core.Path.{_≡_, refl, sym, ap, _∙_}
-use mathlib.Core.Bool.{true}
+use mathlib.Core.Bool.{Bool, true, false, true≢false, _&&_}
 use mathlib.Core.List.{List, [], _∷_}
 use native.Mathlib.Nat.{pow-suc, div-one}
 use native.Mathlib.Numerals.{one-add}
 use native.Mathlib.Omega.{arith}
-use borrow.Author.Tests.{eq-eqb, ne-eqb, eqb-true}
-use lib.Dec.{eqb}
+use borrow.Author.Tests.{lt-ltb, eq-eqb, ne-eqb, eqb-true}
+use lib.Dec.{ltb, eqb}
 use lib.ListN.{length, getD, take}
 use lib.Seq.{getD-take, length-take-le}
 use lib.Pow.{shr-shr}
@@ -78,10 +78,14 @@ module _ (c : Config) (accepted : Accepted c) (shaped : Shaped c) (r : ℕ) wher
   pub user-le : (b : ℕ) → b < c .bodies → isUser c r b ≡ true → priorityOf c b ≤ ceiling c r
   user-le b h u =
       rw (← own b h)
-      (chosen-le (getD (c .users) r 0) (take (c .bodies) (c .priority)) b (rw long h) (eqb-true (getD (c .users) r 0 / 2 ^ b % 2) 1 u))
+      (chosen-le (getD (c .users) r 0) (take (c .bodies) (c .priority)) b (rw long h) (both (ltb r (c .resources)) (getD (c .users) r 0 / 2 ^ b % 2) u))
+    where
+      both : (x : Bool) (n : ℕ) → x && eqb n 1 ≡ true → n ≡ 1
+      both true n e = eqb-true n 1 e
+      both false n e = absurd (true≢false (sym e))
 
   pub ceiling-reached : r < c .resources → (b : ℕ) × (b < c .bodies) × (isUser c r b ≡ true) × (priorityOf c b ≡ ceiling c r)
   ceiling-reached h =
       let x = chosen-reached (getD (c .users) r 0) (take (c .bodies) (c .priority)) (accepted .some-user r h) (rw long (accepted .users-exist r h)) in
       let l : x .0 < c .bodies = omega (arith, x .1, long) in
-      (x .0, l, eq-eqb (getD (c .users) r 0 / 2 ^ x .0 % 2) 1 (x .2), sym (own (x .0) l) ∙ x .3)
+      (x .0, l, rw (lt-ltb r (c .resources) h) (eq-eqb (getD (c .users) r 0 / 2 ^ x .0 % 2) 1 (x .2)), sym (own (x .0) l) ∙ x .3)

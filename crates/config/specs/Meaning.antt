@@ -23,9 +23,9 @@ isIsr c b = ltb b (c .bodies) && eqb (getD (c .kind) b 0) isr
 abbrev pub priorityOf : Config → ℕ → ℕ
 priorityOf c b = getD (c .priority) b 0
 
--- "per resource its users as a mask": b is one of its declared users where the bit that is worth 2 ^ b is set
+-- b is a declared user of the resource r: "its users as a mask", in which the bit of body b is worth 2 ^ b
 abbrev pub isUser : Config → ℕ → ℕ → Bool
-isUser c r b = eqb (getD (c .users) r 0 / 2 ^ b % 2) 1
+isUser c r b = ltb r (c .resources) && eqb (getD (c .users) r 0 / 2 ^ b % 2) 1
 
 -- the greatest of the priorities whose bits are set in the mask, lowest bit first
 unfoldable pub greatestIn : ℕ → List ℕ → ℕ

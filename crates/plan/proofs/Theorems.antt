@@ -159,7 +159,7 @@ module _ (c : Config) (accepted : Accepted c) (shaped : Shaped c) where
   pub resource-users : (r b : ℕ) → r < c .resources → b < c .bodies → has (getD (planOf c .users) r 0) (rankOf c b) ≡ isUser c r b
   unfolding planOf
   resource-users r b h l =
-      rw (listed-at (usersOf c) (resourceCount c) maxResources 0 r 0 (omega (arith, accepted .few-resources)) (omega (arith, accepted .few-resources)), Order.all-bodies c accepted shaped)
+      rw (listed-at (usersOf c) (resourceCount c) maxResources 0 r 0 (omega (arith, accepted .few-resources)) (omega (arith, accepted .few-resources)), Order.all-bodies c accepted shaped, lt-ltb r (c .resources) h)
       (marked-has (rankOf c) (λ i. getD (c .users) r 0 / 2 ^ i % 2) (c .bodies) rank-inj rank-small b l)
 
   pub ceiling-le : (r : ℕ) → ceiling c r ≤ maxPriority
