@@ -1,18 +1,18 @@
 -- Get and Release do the same to the model as to the state.
 -- Assumes nothing.
 use Prim.Native.Nat.{ℕ, zero, suc, max, _<_}
-use mathlib.Core.Path.{_≡_, refl, sym, ap, ap₂, _∙_}
+use mathlib.Core.Path.{_≡_, refl, sym, ap, _∙_}
 use mathlib.Core.Bool.{Bool, true, false, true≢false, not, _||_}
 use mathlib.Core.List.{List, [], _∷_, _++_}
 use native.Mathlib.Omega.{arith}
 use borrow.Author.Tests.{eqb-true, leb-false}
-use lib.Dec.{ltb, leb, eqb}
+use lib.Dec.{leb, eqb}
 use lib.ListN.{length, getD, length-set}
 use Rattle.config.specs.declared.Config.{Config}
-use Rattle.config.specs.Meaning.{priorityOf, ceiling}
+use Rattle.config.specs.Meaning.{isUser}
 use Rattle.plan.specs.declared.Plan.{Plan}
 use Rattle.word.specs.Word.{has}
-use Rattle.scheduler.specs.Status.{done, callLevel, noSuch, access, noFunction}
+use Rattle.scheduler.specs.Status.{done, callLevel, noSuch, access, noFunction, notUser}
 use Rattle.scheduler.specs.Body.{Body, isSuspended, gets, releases}
 use Rattle.scheduler.specs.State.{State, among, heldIn, bodyOf}
 use Rattle.scheduler.specs.Call.{nobodyRuns, caller, calling, latestIs, getStatus, releaseStatus, get, release}
@@ -143,17 +143,16 @@ module _ {c : Config} {p : Plan} {rk : ℕ → ℕ} (fit : Fitted c p rk) {m : M
   bs = s .bodies
 
   -- Get
-  get-status : (r : ℕ) → Machine.getStatus (c .resources) (p .ceiling) (p .priority) m r ≡ getStatus c s r
+  get-status : (r : ℕ) → Machine.getStatus (c .resources) (p .users) m r ≡ getStatus c s r
   get-status r =
       by-runner fit sim
       (λ i n. first-same (idles m) (nobodyRuns c s) callLevel _ _ (i ∙ sym n) (λ h. absurd (true≢false (sym n ∙ h))))
       (λ b ns k.
       first-same (idles m) (nobodyRuns c s) callLevel _ _ (k .not-idle ∙ sym (k .somebody))
       (λ _. first-same (leb (c .resources) r) (leb (c .resources) r) noSuch _ _ refl
-      (λ h. first-same (has (m .held) r || ltb (getD (p .ceiling) r 0) (getD (p .priority) (m .core .runner) 0)) (heldIn r bs || ltb (ceiling c r) (priorityOf c (caller c s))) access _ _
-      (ap₂ (λ (x y : Bool). x || y) (flag-is (sim .tied) r)
-      (ap₂ ltb (fit .ceiling-at r (leb-false (c .resources) r h)) (rw (k .rank) (fit .priority-at b (k .exists)) ∙ ap (priorityOf c) (sym (k .calls)))))
-      (λ _. refl))))
+      (λ h. first-same (not (has (getD (p .users) r 0) (m .core .runner))) (not (isUser c r (caller c s))) notUser _ _
+      (ap not (ap (has (getD (p .users) r 0)) (k .rank) ∙ fit .users-at r b (leb-false (c .resources) r h) (k .exists) ∙ ap (isUser c r) (sym (k .calls))))
+      (λ _. first-same (has (m .held) r) (heldIn r bs) access _ _ (flag-is (sim .tied) r) (λ _. refl)))))
 
   -- Get changes no phase
   get-phase {ℓ} : {A : Type ℓ} (f : Body → A) → ((x : Body) (r : ℕ) → f (gets r x) ≡ f x) → (r i : ℕ) → f (at (get c r s .bodies) i) ≡ f (at bs i)
@@ -162,7 +161,7 @@ module _ {c : Config} {p : Plan} {rk : ℕ → ℕ} (fit : Fitted c p rk) {m : M
   pub agrees-get : (r : ℕ) → Agrees c p rk m s (Get r)
   unfolding statusOf effectOf step
   agrees-get r =
-      agrees-attempt fit sim (Get r) (Machine.getStatus (c .resources) (p .ceiling) (p .priority) m r) (getStatus c s r)
+      agrees-attempt fit sim (Get r) (Machine.getStatus (c .resources) (p .users) m r) (getStatus c s r)
       (doneWith (getting r (max (getD (p .ceiling) r 0) (m .core .level)) m) false) (get c r s) refl refl
       (no-match fit sim long) (get-status r)
       (λ z. let a = get-passed c s r z in
@@ -170,7 +169,7 @@ module _ {c : Config} {p : Plan} {rk : ℕ → ℕ} (fit : Fitted c p rk) {m : M
       (λ i n. absurd (true≢false (sym n ∙ a .0)))
       (λ b ns k.
       let t : Tied c rk (getting r (max (getD (p .ceiling) r 0) (m .core .level)) m) (get c r s .bodies) (b ∷ ns) =
-      rw (k .calls) (get-tied fit (k .tied) (sim .calm) r (a .1) (flag-is (sim .tied) r ∙ a .2)) in
+      rw (k .calls) (get-tied fit (k .tied) (sim .calm) r (a .1) (flag-is (sim .tied) r ∙ a .3)) in
       record {
         status = refl;
         arb = calm-arbitrated fit (get c r s) done t
