@@ -79,7 +79,7 @@ held-at r [] i h a = absurd (omega arith)
 held-at r (b ∷ bs) zero h a = or-left (among r (b .held)) _ a
 held-at r (b ∷ bs) (suc i) h a = or-right (among r (b .held)) _ (held-at r bs i (omega arith) a)
 
-held-by : (r : ℕ) (bs : List Body) → heldIn r bs ≡ true → (i : ℕ) × ((i < length bs) × (among r (at bs i .held) ≡ true))
+pub held-by : (r : ℕ) (bs : List Body) → heldIn r bs ≡ true → (i : ℕ) × ((i < length bs) × (among r (at bs i .held) ≡ true))
 unfolding heldIn
 held-by r [] h = absurd (true≢false (sym h))
 held-by r (b ∷ bs) h =
@@ -119,18 +119,22 @@ module _ (c : Config) (rk : ℕ → ℕ) (bs : List Body) where
       (λ a. (b, (k .0, a)))
       (λ q. slot-by r ns (k .1 .1 .1) q)
 
+-- who holds a resource is in the nest
+pub holder-nested : {c : Config} {rk : ℕ → ℕ} {m : Model} {bs : List Body} {ns : List ℕ} → Tied c rk m bs ns → (r i : ℕ)
+    → among r (at bs i .held) ≡ true → among i ns ≡ true
+holder-nested {bs = bs} {ns = ns} t r i a = go (among i ns) refl
+  where
+    go : (b : Bool) → among i ns ≡ b → among i ns ≡ true
+    go true e = e
+    go false e = absurd (true≢false (sym (rw (t .loose i e) at a) ∙ among-nil r))
+
 -- the machine's flag of a resource says whether anybody holds it
 pub flag-is : {c : Config} {rk : ℕ → ℕ} {m : Model} {bs : List Body} {ns : List ℕ} → Tied c rk m bs ns → (r : ℕ) → has (m .held) r ≡ heldIn r bs
 flag-is {c} {rk} {m} {bs} {ns} t r =
     t .slots .flags r
     ∙ iff-bool (among r (resourcesIn (slotsAlong c rk bs ns))) (heldIn r bs)
     (λ h. let x = slot-by c rk bs r ns (t .nested) h in held-at r bs (x .0) (rw (t .size) (x .1 .0)) (x .1 .1))
-    (λ h. let x = held-by r bs h in slot-of c rk bs r (x .0) ns (inside (x .0) (among (x .0) ns) refl (x .1 .1)) (x .1 .1))
-  where
-    -- who holds something is in the nest
-    inside : (i : ℕ) (b : Bool) → among i ns ≡ b → among r (at bs i .held) ≡ true → among i ns ≡ true
-    inside i true e a = e
-    inside i false e a = absurd (true≢false (sym (rw (t .loose i e) at a) ∙ among-nil r))
+    (λ h. let x = held-by r bs h in slot-of c rk bs r (x .0) ns (holder-nested t r (x .0) (x .1 .1)) (x .1 .1))
 
 -- the latest of a list of held resources
 latest-split : (r : ℕ) (rs : List ℕ) → latestIs r rs ≡ true → (q : List ℕ) × (rs ≡ r ∷ q)
