@@ -3,7 +3,7 @@
 --   holder-below      the runner's own priority is above the level of every other body that holds a resource
 --   declared-refused  so a declared user is refused a resource only where it holds it itself
 --
--- and the same of the machine's slots: `slot-below`, `machine-refused`. All for a model that stands for a state, whatever the kinds of its
+-- and the same of the machine's slots: `slot-below`, `slot-user`, `machine-refused`. All for a model that stands for a state, whatever the kinds of its
 -- bodies. Assumes nothing.
 use Prim.Native.Nat.{ℕ, zero, suc, max, _≤_, _<_}
 use mathlib.Core.Path.{_≡_, refl, sym, ap, _∙_}
@@ -19,6 +19,7 @@ use Rattle.config.specs.declared.Config.{Config}
 use Rattle.config.specs.Meaning.{isUser, priorityOf, ceiling}
 use Rattle.plan.specs.declared.Plan.{Plan}
 use Rattle.plan.proofs.Fitted.{Fitted}
+use Rattle.word.specs.Word.{has}
 use Rattle.stack.specs.Stack.{none, rowBytes}
 use Rattle.scheduler.specs.Status.{done, access, firstGiven}
 use Rattle.scheduler.specs.Body.{Body, current}
@@ -32,7 +33,7 @@ use Rattle.machine.specs.Events.{idles}
 use Rattle.machine.specs.Machine.{machineStep, runnerOf}
 use Rattle.machine.proofs.Relation.Words.{at}
 use Rattle.machine.proofs.Relation.Slots.{Slot, slotsFor, slotsAlong, resourcesIn, holdersIn, levelsIn}
-use Rattle.machine.proofs.Relation.Nest.{Nested, Seats, by-among, among-head, among-tail, nest-level}
+use Rattle.machine.proofs.Relation.Nest.{Nested, Seats, by-among, among-head, among-tail, nest-level, nest-exists}
 use Rattle.machine.proofs.Relation.Whole.{Tied, Sim}
 use Rattle.machine.proofs.Arbitration.Choice.{chosen-seated}
 use Rattle.machine.proofs.Arbitration.Dispatch.{runnerOf-is}
@@ -61,25 +62,27 @@ module _ (c : Config) (rk : ℕ → ℕ) where
       (λ _ q. let k = slot-at b r rs ys q in (suc (k .0), k .1, k .2))
 
   module _ (bs : List Body) where
-    -- the k-th of the slots ss is none, or that of a body of the nest, with a level that is at most that body's
+    -- the k-th of the slots ss is none, or that of a body of the nest, which holds its resource and whose level is not below the slot's
     abbrev SlotOf : List ℕ → List Slot → ℕ → Type 0
     SlotOf ns ss k =
         (getD (holdersIn ss) k none ≡ none)
-        ⊎ ((i : ℕ) × (among i ns ≡ true) × (getD (holdersIn ss) k none ≡ rk i) × (getD (levelsIn ss) k none ≤ current c i (at bs i)))
+        ⊎ ((i : ℕ) × (among i ns ≡ true) × (getD (holdersIn ss) k none ≡ rk i) × (getD (levelsIn ss) k none ≤ current c i (at bs i))
+        × (among (getD (resourcesIn ss) k none) (at bs i .held) ≡ true))
 
     along-slot : (ns : List ℕ) (k : ℕ) → SlotOf ns (slotsAlong c rk bs ns) k
     unfolding slotsAlong slotsFor
     along-slot [] k = inl refl
-    along-slot (b ∷ ns) k = go (along-slot ns) (at bs b .held) k (omega arith)
+    along-slot (b ∷ ns) k = go (along-slot ns) (at bs b .held) k (omega arith) (λ _ h. h)
       where
         wider : (j : ℕ) → SlotOf ns (slotsAlong c rk bs ns) j → SlotOf (b ∷ ns) (slotsAlong c rk bs ns) j
-        wider j s = ⊎-elim (λ e. inl e) (λ x. inr (x .0, among-tail (x .0) b ns (x .1), x .2, x .3)) s
+        wider j s = ⊎-elim (λ e. inl e) (λ x. inr (x .0, among-tail (x .0) b ns (x .1), x .2, x .3, x .4)) s
 
         go : ((j : ℕ) → SlotOf ns (slotsAlong c rk bs ns) j) → (rs : List ℕ) (j : ℕ) → foldr max (priorityOf c b) (map (ceiling c) rs) ≤ current c b (at bs b)
+            → ((q : ℕ) → among q rs ≡ true → among q (at bs b .held) ≡ true)
             → SlotOf (b ∷ ns) (slotsFor c rk b rs ++ slotsAlong c rk bs ns) j
-        go below [] j h = wider j (below j)
-        go below (r ∷ rs) zero h = inr (b, among-head b ns, refl, h)
-        go below (r ∷ rs) (suc j) h = go below rs j (omega arith)
+        go below [] j low own = wider j (below j)
+        go below (r ∷ rs) zero low own = inr (b, among-head b ns, refl, low, own r (among-head r rs))
+        go below (r ∷ rs) (suc j) low own = go below rs j (omega arith) (λ q h. own q (among-tail q r rs h))
 
 module _ {c : Config} {p : Plan} {rk : ℕ → ℕ} (fit : Fitted c p rk) {m : Model} {s : State} (sim : Sim c p rk m s) where
   -- of the nest all but the first are below the first one's own priority
@@ -146,6 +149,18 @@ module _ {c : Config} {p : Plan} {rk : ℕ → ℕ} (fit : Fitted c p rk) {m : M
           let low = nest-below b ns (t .nested) (x .0) (x .1) (λ e. other (t .slots .holders .at k ∙ x .2 ∙ ap rk e ∙ sym (t .seats .0))) in
           rw (t .slots .levels .at k, t .seats .0, fit .priority-at b (t .nested .0)) (omega (arith, low, x .3)))
           (along-slot c rk (s .bodies) (b ∷ ns) k)
+
+  -- and where only declared users hold resources, the rank of a slot's holder is in the word of its resource
+  pub slot-user : ((i r : ℕ) → among r (bodyOf s i .held) ≡ true → isUser c r i ≡ true) → (k : ℕ) → getD (rowBytes (m .holder)) k none ≢ none
+      → has (getD (p .users) (getD (rowBytes (m .resource)) k none) 0) (getD (rowBytes (m .holder)) k none) ≡ true
+  slot-user declared k some =
+      ⊎-elim
+      (λ e. absurd (some (sim .tied .slots .holders .at k ∙ e)))
+      (λ x.
+      let u = declared (x .0) _ (x .4) in
+      rw (sim .tied .slots .holders .at k, sim .tied .slots .resources .at k, x .2)
+      (fit .users-at _ (x .0) (user-exists c _ (x .0) u) (nest-exists c (s .bodies) (x .0) (sim .nest) (sim .tied .nested) (x .1)) ∙ u))
+      (along-slot c rk (s .bodies) (sim .nest) k)
 
   -- a Get by a declared user is refused with 1, and a slot of that resource has the runner's rank
   pub machine-refused : (r : ℕ) → idles m ≡ false → isUser c r (runnerOf p m) ≡ true → machineStep c p m (Get r) .status ≢ done
