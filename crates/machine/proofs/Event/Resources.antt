@@ -147,7 +147,8 @@ module _ {c : Config} {p : Plan} {rk : ℕ → ℕ} (fit : Fitted c p rk) {m : M
   bs = s .bodies
 
   -- Get
-  get-status : (r : ℕ) → Machine.getStatus (c .resources) (p .users) m r ≡ getStatus c s r
+  get-status : (r : ℕ) → statusOf c p m (Get r) ≡ getStatus c s r
+  unfolding statusOf
   get-status r =
       by-runner fit sim
       (λ i n. first-same (idles m) (nobodyRuns c s) callLevel _ _ (i ∙ sym n) (λ h. absurd (true≢false (sym n ∙ h))))
@@ -165,7 +166,7 @@ module _ {c : Config} {p : Plan} {rk : ℕ → ℕ} (fit : Fitted c p rk) {m : M
   pub agrees-get : (r : ℕ) → Agrees c p rk m s (Get r)
   unfolding statusOf effectOf step
   agrees-get r =
-      agrees-attempt fit sim (Get r) (Machine.getStatus (c .resources) (p .users) m r) (getStatus c s r)
+      agrees-attempt fit sim (Get r) (statusOf c p m (Get r)) (getStatus c s r)
       (doneWith (getting r (max (getD (p .ceiling) r 0) (m .core .level)) m) false) (get c r s) refl refl
       (no-match fit sim long) (get-status r)
       (λ z. let a = get-passed c s r z in
