@@ -12,7 +12,7 @@ use mathlib.Core.Bool.{Bool, true, false, true≢false, cond, _&&_}
 use mathlib.Core.List.{List, [], _∷_, _++_, foldr, map}
 use native.Mathlib.Omega.{arith}
 use borrow.Author.Tests.{lt-leb, ltb-true}
-use lib.Dec.{ltb, eqb}
+use lib.Dec.{ltb}
 use lib.ListN.{getD}
 use Rattle.number.proofs.Cases.{by-eq}
 use Rattle.config.specs.declared.Config.{Config}
@@ -28,7 +28,7 @@ use Rattle.scheduler.specs.State.{State, bodyOf, among, heldIn}
 use Rattle.scheduler.specs.Call.{nobodyRuns, caller, calling, getStatus}
 use Rattle.scheduler.specs.Scheduler.{Get, Seen, step}
 use Rattle.scheduler.proofs.Choice.{current-held}
-use Rattle.machine.specs.Model.{Model, noRank}
+use Rattle.machine.specs.Model.{Model}
 use Rattle.machine.specs.Events.{idles}
 use Rattle.machine.specs.Machine.{machineStep, runnerOf}
 use Rattle.machine.proofs.Relation.Words.{at}
