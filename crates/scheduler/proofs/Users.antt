@@ -17,10 +17,10 @@ use Rattle.scheduler.specs.State.{State, stopped, noBody, bodyOf, changi
 use Rattle.scheduler.specs.Event.{Event, Activate, Finish, Chain, Get, Release, Tick, Line, Start, Stop}
 use Rattle.scheduler.specs.Tick.{dues, counted}
 use Rattle.scheduler.specs.Call.{caller, finish, statusOf, effectOf}
-use Rattle.scheduler.specs.Scheduler.{begins, dispatched, newBody, step, fresh, after}
+use Rattle.scheduler.specs.Scheduler.{begins, dispatched, newBody, leaves, step, fresh, after}
 use Rattle.scheduler.specs.History.{AcceptedIn}
 use Rattle.scheduler.proofs.Checks.{get-passed}
-use Rattle.scheduler.proofs.Effects.{bodyOf-changing-same, bodyOf-changing-other, length-changing, activatingDue-keeps, cond-either}
+use Rattle.scheduler.proofs.Effects.{bodyOf-changing-same, bodyOf-changing-other, length-changing, refusalOf-keeps, activatingDue-keeps, cond-either}
 
 -- nothing is held of an empty list
 none-held : {C : Type 0} (r : ℕ) → among r [] ≡ true → C
@@ -107,10 +107,12 @@ module _ (c : Config) where
   declared-step : (s : State) (e : Event) → Declared s → Declared (step c s e .state)
   unfolding step
   declared-step s e d =
-      declared-dispatched (cond (eqb (statusOf c s e) done) (effectOf c s e) s)
+      declared-dispatched (leaves c s e)
       (by-eq (statusOf c s e) done
       (λ ok. rw (eq-eqb (statusOf c s e) done ok) (declared-effect s e ok d))
-      (λ bad. rw (ne-eqb (statusOf c s e) done bad) d))
+      (λ bad.
+      rw (ne-eqb (statusOf c s e) done bad)
+      (refusalOf-keeps c s Declared d (statusOf c s e) e (λ i _ _ _. declared-taking-none i loses (λ b r h. h) s d))))
 
   pub declared-fresh : Declared (fresh c)
   declared-fresh = declared-dispatched new (λ i r h. none-held r (rw (nothing i) at h))

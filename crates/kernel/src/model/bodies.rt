@@ -1,9 +1,11 @@
 // The events of bodies: Activate, Finish, Chain and Line.
 ghost use mathlib.Core.Path.{_≡_};
-ghost use mathlib.Core.Bool.{not, _&&_, _||_};
-ghost use lib.Dec.{eqb};
+ghost use mathlib.Core.Bool.{cond, not, _&&_, _||_};
+ghost use lib.Dec.{leb, eqb};
+ghost use Rattle.scheduler.specs.Status.{limitReached};
 ghost use Rattle.word.specs.Word.{has};
-ghost use Rattle.machine.specs.Model.{noRank};
+ghost use Rattle.machine.specs.Model.{noRank, withLosses, refusedWith};
+ghost use Rattle.machine.specs.Cells.{oneLost};
 ghost use Rattle.machine.specs.Events.{activate, finish, chain, line};
 ghost use Rattle.kernel.specs.View.{view, outcomeOf};
 use super::CALL_LEVEL;
@@ -13,6 +15,7 @@ use super::Model;
 use super::NO_RANK;
 use super::NO_SUCH;
 use super::Outcome;
+use super::cells::lose;
 use super::lookup::byte_at;
 use word::has;
 use word::with;
@@ -71,18 +74,45 @@ impl Model {
         self.ended(with(self.request, rank as u32), priority)
     }
 
-    pub fn line<'a>(self, line_rank: &'a [u8; 32], priority: &'a [u8; 32], i: u32) -> Outcome
-        ensures { λ r. ⌜ r ≡ outcomeOf (line (now («line_rank» .entry)) (now (priority .entry)) (view self) i) ⌝ }
+    // `counts`: whether a line that is lost counts as a loss.
+    pub fn line<'a>(
+        self,
+        counts: bool,
+        line_rank: &'a [u8; 32],
+        priority: &'a [u8; 32],
+        i: u32,
+    ) -> Outcome
+        ensures { λ r. ⌜ r ≡ outcomeOf (line counts (now («line_rank» .entry)) (now (priority .entry)) (view self) i) ⌝ }
     {
         let rank = byte_at(line_rank, i as usize, NO_RANK);
         if rank == NO_RANK {
             return self.with_status(NO_SUCH);
         }
         if has(self.request, rank as u32) {
-            return self.with_status(LIMIT);
+            return self.line_lost(counts, rank);
         }
         self.settled(with(self.request, rank as u32), priority)
     }
+
+    // The request of an ISR of this rank that found one waiting.
+    fn line_lost(mut self, counts: bool, rank: u8) -> Outcome
+        ensures { λ r. ⌜ r ≡ outcomeOf (refusedWith (cond counts (withLosses (view self) (oneLost rank (view self .losses))) (view self)) limitReached) ⌝ }
+    {
+        if !counts {
+            return self.with_status(LIMIT);
+        }
+        let mut losses = self.losses;
+        lose(&mut losses, rank as usize);
+        self.losses = losses;
+        self.with_status(LIMIT)
+    }
+}
+
+// Whether a configuration of this version counts the lines that are lost.
+pub fn counts_lines(version: u8) -> bool
+    ensures { λ r. ⌜ r ≡ leb 2 version ⌝ }
+{
+    2 <= version
 }
 
 // Whether the body of this rank is ready or started.

@@ -4,7 +4,7 @@ ghost use mathlib.Core.Bool.{true, false, _||_};
 ghost use Prim.Native.Nat.{_+_, _≤_};
 ghost use lib.ListN.{length, getD, set, take, drop};
 ghost use Rattle.config.specs.Value.{maxEntries};
-ghost use Rattle.machine.specs.Cells.{countersTicked, switchFor, switchesTicked, someTurn, marks, countersStarted, switchesStarted, someLong, countersStopped, switched, oneMore, matchAt, requestsDue};
+ghost use Rattle.machine.specs.Cells.{countersTicked, switchFor, switchesTicked, someTurn, marks, countersStarted, switchesStarted, someLong, countersStopped, switched, oneMore, oneLost, matchAt, requestsDue};
 ghost use Rattle.kernel.specs.Methods.{dueWith, group, marksWord};
 use super::NO_RANK;
 use super::bodies::busy;
@@ -198,8 +198,9 @@ fn take_match(rank: u8, started: u32, request: u32, losses: &mut [u16; 32]) -> u
     with(request, rank as u32)
 }
 
-fn lose(losses: &mut [u16], i: usize)
-    ensures { λ _. ⌜ now (losses .exit) ≡ set (now (losses .entry)) i (oneMore (getD (now (losses .entry)) i 0)) ⌝ }
+// One more is lost at this rank.
+pub fn lose(losses: &mut [u16], i: usize)
+    ensures { λ _. ⌜ now (losses .exit) ≡ oneLost i (now (losses .entry)) ⌝ }
 {
     if i < losses.len() {
         losses[i] = one_more(losses[i]);

@@ -16,7 +16,7 @@ with-status-requires c κs = search needs
 returns : tie.Need-returns
 returns c =
     let c₁ = c .before in let c₂ = c₁ .before in let c₃ = c₂ .before .before in let a = c₃ .args in
-    (c .with-status .ensures) ∙ ap outcomeOf (line-none (a .line-rank .now) (a .priority .now) (view (a .self)) (a .i) (c₂ .byte-at .ensures) (c₁ .if1 .taken))
+    (c .with-status .ensures) ∙ ap outcomeOf (line-none (a .counts) (a .line-rank .now) (a .priority .now) (view (a .self)) (a .i) (c₂ .byte-at .ensures) (c₁ .if1 .taken))
 
 cast-has : tie.Need-cast-has
 cast-has c = search needs
@@ -24,15 +24,15 @@ cast-has c = search needs
 has-requires : tie.Need-has-requires
 has-requires c κs = search needs
 
-with-status-requires-2 : tie.Need-with-status-requires-2
-with-status-requires-2 c κs = search needs
+line-lost-requires : tie.Need-line-lost-requires
+line-lost-requires c κs = search needs
 
 returns-2 : tie.Need-returns-2
 returns-2 c =
     let c₁ = c .before in let c₂ = c₁ .before in let c₃ = c₂ .before in let c₄ = c₃ .before in
     let c₅ = c₄ .before .before in let a = c₅ .args in
-    (c .with-status2 .ensures)
-    ∙ ap outcomeOf (line-waits (a .line-rank .now) (a .priority .now) (view (a .self)) (a .i) (c₄ .byte-at .ensures) (c₃ .if1 .left) (c₂ .has .ensures) (c₁ .if2 .taken))
+    (c .line-lost .ensures)
+    ∙ ap outcomeOf (line-waits (a .counts) (a .line-rank .now) (a .priority .now) (view (a .self)) (a .i) (c₄ .byte-at .ensures) (c₃ .if1 .left) (c₂ .has .ensures) (c₁ .if2 .taken))
 
 cast-with : tie.Need-cast-with
 cast-with c = search needs
@@ -48,7 +48,7 @@ returns-3 c =
     let c₁ = c .before in let c₂ = c₁ .before in let c₃ = c₂ .before in let c₄ = c₃ .before in let c₅ = c₄ .before in
     let c₆ = c₅ .before .before in let a = c₆ .args in
     (c .settled .ensures)
-    ∙ ap outcomeOf (line-done (a .line-rank .now) (a .priority .now) (view (a .self)) (a .i) (c₅ .byte-at .ensures) (c₄ .if1 .left) (c₃ .has .ensures) (c₂ .if2 .left) (c₁ .with .ensures))
+    ∙ ap outcomeOf (line-done (a .counts) (a .line-rank .now) (a .priority .now) (view (a .self)) (a .i) (c₅ .byte-at .ensures) (c₄ .if1 .left) (c₃ .has .ensures) (c₂ .if2 .left) (c₁ .with .ensures))
 
 pub line-spec : {M : Type 1} → statement M
-line-spec = tie.close (tie.spec byte-at-requires with-status-requires returns cast-has has-requires with-status-requires-2 returns-2 cast-with with-requires settled-requires returns-3)
+line-spec = tie.close (tie.spec byte-at-requires with-status-requires returns cast-has has-requires line-lost-requires returns-2 cast-with with-requires settled-requires returns-3)
