@@ -52,15 +52,6 @@ module _ (trs ps : List ℕ) (m : Model) (t : ℕ) where
       unfolding activate firstGiven
       activate-done h asked = rw (ne-eqb (m .core .runner) noRank runs, ← rank, ne-eqb r noRank some, sym test ∙ h, asked)
 
--- a line that is lost, at rank r: counted or not
-module _ (m : Model) (w : Bool) (r : ℕ) where
-  pub lost-uncounted : w ≡ false → refusedWith m limitReached ≡ refusedWith (cond w (withLosses m (oneLost r (m .losses))) m) limitReached
-  lost-uncounted h = rw h
-
-  pub lost-counted : w ≡ true → {ls : List ℕ} → ls ≡ oneLost r (m .losses)
-      → refusedWith (withLosses m ls) limitReached ≡ refusedWith (cond w (withLosses m (oneLost r (m .losses))) m) limitReached
-  lost-counted h e = rw (h, e)
-
 -- Line i
 module _ (w : Bool) (lrs ps : List ℕ) (m : Model) (i : ℕ) {r : ℕ} (rank : r ≡ getD lrs i noRank) where
   pub line-none : r ≡ noRank → refusedWith m noSuch ≡ line w lrs ps m i
@@ -71,20 +62,27 @@ module _ (w : Bool) (lrs ps : List ℕ) (m : Model) (i : ℕ) {r : ℕ} (rank : 
       uncounted true = refl
       uncounted false = refl
 
-  module _ (some : r ≡ noRank → ⊥) {b : Bool} (test : b ≡ has (m .core .request) r) where
-    pub line-waits : b ≡ true → refusedWith (cond w (withLosses m (oneLost r (m .losses))) m) limitReached ≡ line w lrs ps m i
+  -- ls: the losses after it, d: whether one more is counted
+  module _ (some : r ≡ noRank → ⊥) {b : Bool} (test : b ≡ has (m .core .request) r) {d : Bool} (counted : d ≡ w && b)
+      {ls : List ℕ} (lost : ls ≡ cond d (oneLost r (m .losses)) (m .losses)) where
+    pub line-waits : b ≡ true → refusedWith (withLosses m ls) limitReached ≡ line w lrs ps m i
     unfolding line firstGiven
-    line-waits h = rw (← rank, ne-eqb r noRank some, sym test ∙ h) (counted w)
+    line-waits h = rw (lost, counted, h, ← rank, ne-eqb r noRank some, sym test ∙ h) (either (w && true))
       where
-        counted : (b : Bool)
-            → refusedWith (cond b (withLosses m (oneLost r (m .losses))) m) limitReached
-            ≡ refusedWith (cond (b && true) (withLosses m (oneLost r (m .losses))) m) limitReached
-        counted true = refl
-        counted false = refl
+        either : (x : Bool)
+            → refusedWith (withLosses m (cond x (oneLost r (m .losses)) (m .losses))) limitReached
+            ≡ refusedWith (cond x (withLosses m (oneLost r (m .losses))) m) limitReached
+        either true = refl
+        either false = refl
 
-    pub line-done : b ≡ false → {q : ℕ} → q ≡ with (m .core .request) r → settled ps (withCore m (withRequest (m .core) q)) ≡ line w lrs ps m i
+    pub line-done : b ≡ false → {q : ℕ} → q ≡ with (m .core .request) r
+        → settled ps (withCore (withLosses m ls) (withRequest (m .core) q)) ≡ line w lrs ps m i
     unfolding line firstGiven
-    line-done h asked = rw (← rank, ne-eqb r noRank some, sym test ∙ h, asked)
+    line-done h asked = rw (lost, counted, h, and-false w, ← rank, ne-eqb r noRank some, sym test ∙ h, asked)
+      where
+        and-false : (x : Bool) → x && false ≡ false
+        and-false true = refl
+        and-false false = refl
 
 -- Chain t
 module _ (ws : ℕ) (trs ps : List ℕ) (m : Model) (t : ℕ) {a : Bool} (calls : a ≡ idles m || has ws (m .core .runner)) where
