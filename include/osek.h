@@ -22,7 +22,7 @@
  * 7F, 128 is 80 01.
  *
  * CONFIGURATION, in this order:
- *     version            1
+ *     version            1, or 2, which also counts lost lines
  *     body count         1 to 32
  *     per body           kind (0 task, 1 ISR), priority (1 to 200, each used once), autostart (0 or 1; an ISR: 0)
  *     resource count     0 to 16
@@ -37,7 +37,7 @@
  *     1 Activate task         makes the task ready                                  2, 3, 4
  *     2 Finish                the running body ends                                 2, 6
  *     3 Chain task            the running task ends and the named one is ready      2, 3, 6, 4
- *     4 Get resource          the running body takes it                             2, 3, 1
+ *     4 Get resource          the running body takes it                             2, 3, 33, 1
  *     5 Release resource      the running body gives it back                        2, 3, 5
  *     6 Tick                  every started table counts one tick                   -
  *     7 Line isr              the interrupt is requested                            3, 4
@@ -57,7 +57,7 @@ extern "C" {
 
 /* The first number changes when a program has to be compiled or linked anew, the second with what the calls answer or
  * offer, the last with everything else. CHANGELOG.md says what each one brought. */
-#define OSEK_VERSION "1.1.0"
+#define OSEK_VERSION "1.2.0"
 
 /* Sizes in bytes. Longer inputs are refused; an output of OSEK_OUTPUT_MAX suffices for every run, which is proved as
  * `room-enough` in crates/run/proofs/Theorems.antt. */
@@ -75,8 +75,8 @@ extern "C" {
  *     byte 4 i + 2    the level: the running body's current priority, 0 when idle
  *     byte 4 i + 3    1 if the event made a body begin from its start, otherwise 0 (a resumed body: 0)
  *     byte 4 e + 2 j, 4 e + 2 j + 1
- *                     low and high byte of the lost activations of body j: how often an entry was due while its task
- *                     was not suspended; stays at 65,535 once there
+ *                     low and high byte of the losses of body j: how often an entry was due while its task was not
+ *                     suspended; in version 2 also how often a Line got OSEK_E_OS_LIMIT; stays at 65,535 once there
  */
 #define OSEK_ANSWER_SIZE 4
 #define OSEK_LOSS_SIZE 2
@@ -95,10 +95,11 @@ enum {
     OSEK_EVENT_STOP = 9
 };
 
-/* Statuses, with OSEK's names and numbers. An event with a status other than 0 changes nothing. */
+/* Statuses, with OSEK's names and numbers; the last one's are ours. An event with a status other than 0 changes nothing,
+ * but that in version 2 a Line with OSEK_E_OS_LIMIT adds 1 to the losses of its ISR. */
 enum {
     OSEK_E_OK = 0,          /* done */
-    OSEK_E_OS_ACCESS = 1,   /* Get: the resource is held, or the running body's own priority is above its ceiling */
+    OSEK_E_OS_ACCESS = 1,   /* Get: the resource is held: by the running body itself, since 33 comes first */
     OSEK_E_OS_CALLEVEL = 2, /* no body runs; Chain: nor when an ISR runs */
     OSEK_E_OS_ID = 3,       /* no such task, resource, table or (Line) ISR; an ISR's number is no task */
     OSEK_E_OS_LIMIT = 4,    /* Activate, Chain: the task is not suspended (a task may chain itself);
@@ -106,7 +107,8 @@ enum {
     OSEK_E_OS_NOFUNC = 5,   /* Release: not the running body's most recently taken resource; Stop: table is stopped */
     OSEK_E_OS_RESOURCE = 6, /* Finish, Chain: the running body holds a resource */
     OSEK_E_OS_STATE = 7,    /* Start: the table is started already */
-    OSEK_E_OS_VALUE = 8     /* Start: the delay is 0, or delay + the table's smallest offset is above 65,535 */
+    OSEK_E_OS_VALUE = 8,    /* Start: the delay is 0, or delay + the table's smallest offset is above 65,535 */
+    OSEK_E_USER = 33        /* Get: the running body is not one of the resource's users; OSEK has no number for it */
 };
 
 /* Refusals. The place is the offset of the first byte of the number at fault, where nothing else is said; of a number
@@ -118,7 +120,7 @@ enum {
                                       end, config_len */
     OSEK_CONFIG_NUMBER = 2,        /* a number above 4,294,967,295, place: its fifth byte; or not in its shortest form,
                                       place: its last byte, the superfluous 00 */
-    OSEK_CONFIG_VERSION = 3,       /* the version is not 1 */
+    OSEK_CONFIG_VERSION = 3,       /* the version is neither 1 nor 2 */
     OSEK_CONFIG_COUNT = 4,         /* a count of bodies, resources, tables or entries outside its range */
     OSEK_CONFIG_FIELD = 5,         /* another field outside its range; an entry's task that is no task */
     OSEK_CONFIG_PRIORITY_USED = 6, /* a priority that a body before has */

@@ -14,3 +14,4 @@ pub mod Losses
 pub mod Ties
 pub mod Dues
 pub mod Entries
+pub mod Users

@@ -1,7 +1,7 @@
 -- What holds of the plain scheduler. Each law stands here in full, over specs/ alone; the modules it cites prove it.
 --
 -- In order: who runs, and ties; document 01's table of events; that a refused event changes nothing but the count of a lost line; what an accepted Activate finds; requests that wait;
--- where losses come from; that d and n are counted, and entries due, as demand 3 says. `Choice` and `Checks` have more of who is chosen and
+-- event bits; who holds a resource; where losses come from; that d and n are counted, and entries due, as demand 3 says. `Choice` and `Checks` have more of who is chosen and
 -- of what an accepted call finds; `Examples` are worked lists of events. Assumes nothing.
 use Prim.Native.Nat.{ℕ, suc, _+_, _≤_, _<_, max}
 use mathlib.Core.Path.{_≡_, refl, ap, _∙_}
@@ -11,13 +11,13 @@ use mathlib.Core.Logic.{_≢_, _↔_, _⊎_}
 use native.Mathlib.Omega.{arith}
 use lib.ListN.{length, getD, take}
 use Rattle.config.specs.declared.Config.{Config}
-use Rattle.config.specs.Meaning.{isIsr, isExtended, priorityOf, ceiling, firstOf}
+use Rattle.config.specs.Meaning.{isIsr, isExtended, isUser, priorityOf, ceiling, firstOf}
 use Rattle.config.specs.Accepted as Configuration
 use Rattle.scheduler.specs.Status.{Check, done, NoneFails}
 use Rattle.scheduler.specs.Body.{Body, suspended, waiting, isSuspended, isStarted, hasBegun, competes, resumed, holds, current, activated, losing, loses, gets, releases}
 use Rattle.scheduler.specs.Bits.{bitSet, anySet, withBits, withoutBits}
 use Rattle.scheduler.specs.Choice.{Candidate, nobody, isNobody, candidate, byHolding, byBegun, goesBefore}
-use Rattle.scheduler.specs.State.{State, Table, stopped, running, bodyOf, tableOf, changing, runner}
+use Rattle.scheduler.specs.State.{State, Table, stopped, running, bodyOf, tableOf, changing, runner, among}
 use Rattle.scheduler.specs.Event.{Event, Activate, Finish, Chain, Get, Release, Tick, Line, Start, Stop, Wait, Set, Clear}
 use Rattle.scheduler.specs.Tick.{ticked, dueFor}
 use Rattle.scheduler.specs.Call.{caller, checksOf}
@@ -30,6 +30,7 @@ use Rattle.scheduler.proofs.Checks as Checks
 use Rattle.scheduler.proofs.Effects as Effects
 use Rattle.scheduler.proofs.Refusals as Refusals
 use Rattle.scheduler.proofs.Requests as Requests
+use Rattle.scheduler.proofs.Users as Users
 use Rattle.scheduler.proofs.Losses as Losses
 use Rattle.scheduler.proofs.Ties as Ties
 use Rattle.scheduler.proofs.Tables as Tables
@@ -112,7 +113,7 @@ pub record EventTable (c : Config) (s : State) : Type 0 where
   pub one-activate : (t : ℕ) → statuses c s (Activate t) ≡ 2 ∷ 3 ∷ 4 ∷ []
   pub two-finish : statuses c s Finish ≡ 2 ∷ 6 ∷ []
   pub three-chain : (t : ℕ) → statuses c s (Chain t) ≡ 2 ∷ 3 ∷ 6 ∷ 4 ∷ []
-  pub four-get : (r : ℕ) → statuses c s (Get r) ≡ 2 ∷ 3 ∷ 1 ∷ []
+  pub four-get : (r : ℕ) → statuses c s (Get r) ≡ 2 ∷ 3 ∷ 33 ∷ 1 ∷ []
   pub five-release : (r : ℕ) → statuses c s (Release r) ≡ 2 ∷ 3 ∷ 5 ∷ []
   pub six-tick : statuses c s Tick ≡ []
   pub seven-line : (i : ℕ) → statuses c s (Line i) ≡ 3 ∷ 4 ∷ []
@@ -224,6 +225,10 @@ any-set = Bits.any-set
 -- "Wait on mask 0 is never resumed"
 pub mask-zero-waits : (bits : ℕ) → resumed bits (waiting 0) ≡ waiting 0
 mask-zero-waits = Bits.mask-zero-waits
+
+-- in every state that the fresh start leads to, whoever holds a resource is one of its declared users: Release needs no status for it
+pub held-by-user : (c : Config) (es : List Event) (i r : ℕ) → among r (bodyOf (after c (fresh c) es) i .held) ≡ true → isUser c r i ≡ true
+held-by-user c es = Users.declared-after c es (fresh c) (Users.declared-fresh c)
 
 -- losses come from due entries and counted lost lines: no other event changes one, and what is seen of them is the state after the event
 pub losses-call : (c : Config) (s : State) (e : Event) → e ≢ Tick → ((i : ℕ) → LostLine c s e i → ⊥)

@@ -1,11 +1,9 @@
 // The events of bodies: Activate, Finish, Chain and Line.
 ghost use mathlib.Core.Path.{_≡_};
-ghost use mathlib.Core.Bool.{cond, not, _&&_, _||_};
+ghost use mathlib.Core.Bool.{not, _&&_, _||_};
 ghost use lib.Dec.{leb, eqb};
-ghost use Rattle.scheduler.specs.Status.{limitReached};
 ghost use Rattle.word.specs.Word.{has};
-ghost use Rattle.machine.specs.Model.{noRank, withLosses, refusedWith};
-ghost use Rattle.machine.specs.Cells.{oneLost};
+ghost use Rattle.machine.specs.Model.{noRank};
 ghost use Rattle.machine.specs.Events.{activate, finish, chain, line};
 ghost use Rattle.kernel.specs.View.{view, outcomeOf};
 use super::CALL_LEVEL;
@@ -15,7 +13,7 @@ use super::Model;
 use super::NO_RANK;
 use super::NO_SUCH;
 use super::Outcome;
-use super::cells::lose;
+use super::cells::lose_where;
 use super::lookup::byte_at;
 use word::has;
 use word::with;
@@ -74,9 +72,10 @@ impl Model {
         self.ended(with(self.request, rank as u32), priority)
     }
 
-    // `counts`: whether a line that is lost counts as a loss.
+    // `counts`: whether a line that is lost counts as a loss. The losses are put back on every path: where only a lost line did so, the
+    // compiler would copy the model at every event.
     pub fn line<'a>(
-        self,
+        mut self,
         counts: bool,
         line_rank: &'a [u8; 32],
         priority: &'a [u8; 32],
@@ -88,23 +87,14 @@ impl Model {
         if rank == NO_RANK {
             return self.with_status(NO_SUCH);
         }
-        if has(self.request, rank as u32) {
-            return self.line_lost(counts, rank);
-        }
-        self.settled(with(self.request, rank as u32), priority)
-    }
-
-    // The request of an ISR of this rank that found one waiting.
-    fn line_lost(mut self, counts: bool, rank: u8) -> Outcome
-        ensures { λ r. ⌜ r ≡ outcomeOf (refusedWith (cond counts (withLosses (view self) (oneLost rank (view self .losses))) (view self)) limitReached) ⌝ }
-    {
-        if !counts {
+        let waits = has(self.request, rank as u32);
+        let mut losses = self.losses;
+        lose_where(counts & waits, &mut losses, rank as usize);
+        self.losses = losses;
+        if waits {
             return self.with_status(LIMIT);
         }
-        let mut losses = self.losses;
-        lose(&mut losses, rank as usize);
-        self.losses = losses;
-        self.with_status(LIMIT)
+        self.settled(with(self.request, rank as u32), priority)
     }
 }
 
