@@ -10,11 +10,11 @@ use native.Mathlib.Nat.{zero-div, eq-zero-or-pos}
 use native.Mathlib.Omega.{arith}
 use lib.Dec.{ltb, eqb}
 use lib.Bits.{and-lt, or-lt}
+use Rattle.number.proofs.Bits.{or-bit, and-bits}
 use Rattle.word.specs.Word.{ranks, noRank, has, with, without, union, intersection, full, highestBelow, winner}
 use Rattle.word.proofs.Bit.{add-same, add-other, add-lt, sub-same, sub-other, bits-same, ones-bit}
 use Rattle.word.proofs.Rank as Rank
 use Rattle.word.proofs.Rank.{with-elim, without-elim, has-bit}
-use Rattle.word.proofs.Bitwise.{or-bit, and-bits}
 use Rattle.word.proofs.Highest as Highest
 
 -- only ranks are in a word
