@@ -38,7 +38,7 @@
  *     1 Activate task         makes the task ready                                  2, 3, 4
  *     2 Finish                the running body ends                                 2, 6
  *     3 Chain task            the running task ends and the named one is ready      2, 3, 6, 4
- *     4 Get resource          the running body takes it                             2, 3, 1
+ *     4 Get resource          the running body takes it                             2, 3, 33, 1
  *     5 Release resource      the running body gives it back                        2, 3, 5
  *     6 Tick                  every started table counts one tick                   -
  *     7 Line isr              the interrupt is requested                            3, 4
@@ -102,11 +102,11 @@ enum {
     OSEK_EVENT_CLEAR = 12
 };
 
-/* Statuses, with OSEK's names and numbers. An event with a status other than 0 changes nothing, but that in version 2 a
- * Line with OSEK_E_OS_LIMIT adds 1 to the losses of its ISR. */
+/* Statuses, with OSEK's names and numbers; the last one's are ours. An event with a status other than 0 changes nothing,
+ * but that in version 2 a Line with OSEK_E_OS_LIMIT adds 1 to the losses of its ISR. */
 enum {
     OSEK_E_OK = 0,          /* done */
-    OSEK_E_OS_ACCESS = 1,   /* Get: the resource is held, or the running body's own priority is above its ceiling */
+    OSEK_E_OS_ACCESS = 1,   /* Get: the resource is held: by the running body itself, since 33 comes first */
     OSEK_E_OS_CALLEVEL = 2, /* no body runs; Chain: nor when an ISR runs */
     OSEK_E_OS_ID = 3,       /* no such task, resource, table or (Line) ISR; an ISR's number is no task */
     OSEK_E_OS_LIMIT = 4,    /* Activate, Chain: the task is not suspended (a task may chain itself);
@@ -114,7 +114,8 @@ enum {
     OSEK_E_OS_NOFUNC = 5,   /* Release: not the running body's most recently taken resource; Stop: table is stopped */
     OSEK_E_OS_RESOURCE = 6, /* Finish, Chain: the running body holds a resource */
     OSEK_E_OS_STATE = 7,    /* Start: the table is started already */
-    OSEK_E_OS_VALUE = 8     /* Start: the delay is 0, or delay + the table's smallest offset is above 65,535 */
+    OSEK_E_OS_VALUE = 8,    /* Start: the delay is 0, or delay + the table's smallest offset is above 65,535 */
+    OSEK_E_USER = 33        /* Get: the running body is not one of the resource's users; OSEK has no number for it */
 };
 
 /* Refusals. The place is the offset of the first byte of the number at fault, where nothing else is said; of a number

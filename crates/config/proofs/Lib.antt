@@ -16,3 +16,4 @@ mod Reading
 mod RoundTrip
 mod Past
 mod Fuel
+mod Ceiling

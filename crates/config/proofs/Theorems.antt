@@ -1,10 +1,11 @@
 -- What the crate shows beyond its contracts. Each law stands here in full, over specs/ alone; the modules it cites prove it.
 --
--- In order: what every reading satisfies, and every accepted value; both round trips; which values the writer accepts; what stands past the counts;
+-- In order: what every reading satisfies, and every accepted value; a resource's ceiling and its users; both round trips; which values the writer accepts; what stands past the counts;
 -- that the fuel of the definitions is enough.
 -- Assumes nothing.
 use Prim.Native.Nat.{ℕ, zero, suc, _+_, _-_, _≤_, _<_}
 use mathlib.Core.Path.{_≡_, refl}
+use mathlib.Core.Bool.{true}
 use mathlib.Core.List.{List}
 use mathlib.Core.Logic.{_↔_, _⊎_, inl, inr, ⊎-elim}
 use native.Mathlib.Omega.{arith}
@@ -15,12 +16,13 @@ use Rattle.config.specs.declared.Config.{Config}
 use Rattle.config.specs.declared.ConfigRead.{ConfigRead}
 use Rattle.config.specs.Refusal.{tooLong}
 use Rattle.config.specs.Value.{noConfig}
-use Rattle.config.specs.Meaning.{isr, lastKind, firstOf, smallestOffset}
+use Rattle.config.specs.Meaning.{isr, lastKind, isUser, priorityOf, ceiling, firstOf, smallestOffset}
 use Rattle.config.specs.Draft.{start}
 use Rattle.config.specs.Reader.{accepted, readFrom, readConfig}
 use Rattle.config.specs.Writer.{maxNumbers, faultFrom, firstFault, bytesFrom, configBytes, writeConfig, wroteConfig}
 use Rattle.config.specs.Accepted.{Shaped, Accepted, trimmed}
 use Rattle.config.proofs.Tables as Tables
+use Rattle.config.proofs.Ceiling as Ceiling
 use Rattle.config.proofs.Reading as Reading
 use Rattle.config.proofs.RoundTrip as RoundTrip
 use Rattle.config.proofs.Sound as Sound
@@ -89,6 +91,14 @@ entry-of-task c a e h =
     task-kind (suc zero) l n = absurd (n refl)
     task-kind (suc (suc zero)) l n = inr refl
     task-kind (suc (suc (suc k))) l n = absurd (omega arith)
+
+-- "its ceiling is the greatest priority among" its users: none is above it, and one has it
+pub user-ceiling : (c : Config) → Accepted c → Shaped c → (r b : ℕ) → b < c .bodies → isUser c r b ≡ true → priorityOf c b ≤ ceiling c r
+user-ceiling = Ceiling.user-le
+
+pub ceiling-reached : (c : Config) → Accepted c → Shaped c → (r : ℕ) → r < c .resources
+    → (b : ℕ) × (b < c .bodies) × (isUser c r b ≡ true) × (priorityOf c b ≡ ceiling c r)
+ceiling-reached = Ceiling.ceiling-reached
 
 -- what is written reads back the same, as far as the counts reach
 pub read-written : (c : Config) → Shaped c → firstFault c ≡ none → readConfig (configBytes c) ≡ accepted (trimmed c) (length (configBytes c))

@@ -1,8 +1,8 @@
--- What the rules ask of a configuration: whether it counts lost lines, which bodies are tasks, extended ones and ISRs, a resource's ceiling, a
--- table's entries.
+-- What the rules ask of a configuration: whether it counts lost lines, which bodies are tasks, extended ones and ISRs, a resource's users and its
+-- ceiling, a table's entries.
 -- A kind is a number in the bytes alone: whatever else needs it asks one of these questions.
 -- Assumes nothing.
-use Prim.Native.Nat.{ℕ, zero, suc, _+_, _/_, _%_, max}
+use Prim.Native.Nat.{ℕ, zero, suc, _+_, _/_, _%_, _^_, max}
 use mathlib.Core.Bool.{Bool, cond, not, _&&_}
 use mathlib.Core.List.{List, [], _∷_}
 use lib.Dec.{ltb, leb, eqb}
@@ -40,6 +40,10 @@ isExtended c b = ltb b (c .bodies) && eqb (getD (c .kind) b 0) extended
 -- a body's own priority
 abbrev pub priorityOf : Config → ℕ → ℕ
 priorityOf c b = getD (c .priority) b 0
+
+-- b is a declared user of the resource r: "its users as a mask", in which the bit of body b is worth 2 ^ b
+abbrev pub isUser : Config → ℕ → ℕ → Bool
+isUser c r b = ltb r (c .resources) && eqb (getD (c .users) r 0 / 2 ^ b % 2) 1
 
 -- the greatest of the priorities whose bits are set in the mask, lowest bit first
 unfoldable pub greatestIn : ℕ → List ℕ → ℕ

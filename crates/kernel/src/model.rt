@@ -41,6 +41,8 @@ const WRONG_STATE: u8 = 7;
 
 const BAD_DELAY: u8 = 8;
 
+const NOT_USER: u8 = 33;
+
 // Who runs after arbitration, with the words that it leaves, and whether a body began.
 pub struct Picked {
     pub request: u32,

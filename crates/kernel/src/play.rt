@@ -52,7 +52,7 @@ pub fn play<'a, 'b>(
             }
             4 => {
                 o = o.model
-                    .get(config.resources, &plan.ceiling, &plan.priority, e.first);
+                    .get(config.resources, &plan.users, &plan.ceiling, e.first);
             }
             5 => {
                 o = o.model.release(config.resources, &plan.priority, e.first);

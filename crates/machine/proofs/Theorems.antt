@@ -1,7 +1,7 @@
 -- What the crate shows beyond its contracts. Each law stands here in full, over specs/ alone; the modules it cites prove it.
 --
--- In order: demand 3, `agreement` and `demand-3`; what Start and Stop make of the cells; that a refused event leaves the model as it was, but for the count of
--- a lost line.
+-- In order: demand 3, `agreement` and `demand-3`; who holds a resource, and what a declared user is refused; what Start and Stop make of the
+-- cells; that a refused event leaves the model as it was, but for the count of a lost line.
 -- Assumes nothing.
 use Prim.Native.Nat.{ℕ, suc, _+_, _≤_, _<_}
 use mathlib.Core.Path.{_≡_, refl, sym, _∙_}
@@ -18,29 +18,35 @@ use Rattle.config.specs.declared.Config.{Config}
 use Rattle.config.specs.Accepted.{Accepted, Shaped}
 use Rattle.config.specs.Reader.{readConfig}
 use Rattle.config.proofs.Theorems.{accepted-ranges, reading}
-use Rattle.config.specs.Meaning.{countsLines, firstOf}
+use Rattle.config.specs.Meaning.{countsLines, isUser, priorityOf, ceiling, firstOf}
 use Rattle.plan.specs.declared.Plan.{Plan}
 use Rattle.plan.specs.Rank.{rankOf}
 use Rattle.plan.specs.Plan.{planOf}
 use Rattle.cell.specs.Cell.{startCell, stopped}
 use Rattle.scheduler.specs.Status.{done, limitReached}
 use Rattle.scheduler.specs.Bits.{anySet}
+use Rattle.scheduler.specs.Body.{current}
+use Rattle.scheduler.specs.State.{bodyOf, among}
 use Rattle.scheduler.specs.Tick.{dues}
+use Rattle.scheduler.specs.Call.{nobodyRuns, caller, calling}
 use Rattle.scheduler.specs.Entries.{entriesOf, entryAt}
-use Rattle.scheduler.specs.Scheduler.{Event, Activate, Finish, Chain, Get, Release, Tick, Line, Start, Stop, Wait, Set, Clear, fresh, seen, after}
+use Rattle.scheduler.specs.Scheduler.{Event, Activate, Finish, Chain, Get, Release, Tick, Line, Start, Stop, Wait, Set, Clear, step, stepBy, fresh, seen, after}
 use Rattle.scheduler.specs.History.{dueMark, DueAt}
-use Rattle.scheduler.proofs.Theorems.{due-exactly}
+use Rattle.scheduler.proofs.Theorems.{held-by-user, due-exactly}
+use Rattle.word.specs.Word.{has}
+use Rattle.stack.specs.Stack.{rowBytes}
 use Rattle.machine.specs.Model.{Model, Outcome, noRank, withLosses, doneWith}
 use Rattle.machine.specs.Arbiter.{settled}
 use Rattle.machine.specs.Cells.{oneLost}
-use Rattle.machine.specs.Events.{attempt, tick, bitsAt, pausing}
-use Rattle.machine.specs.Machine.{freshModel, statusOf, effectOf, refusalOf, machineStep, LostLine, cellIn, machineSeen, machineAfter}
+use Rattle.machine.specs.Events.{attempt, idles, tick, bitsAt, pausing}
+use Rattle.machine.specs.Machine.{freshModel, statusOf, effectOf, refusalOf, machineStep, LostLine, cellIn, runnerOf, machineSeen, machineAfter}
 use Rattle.machine.proofs.Relation.Whole.{Sim}
 use Rattle.machine.proofs.Change.Ticks.{dues-long}
 use Rattle.machine.proofs.Event.Tables as Tables
 use Rattle.plan.proofs.Fitted.{fitted}
 use Rattle.machine.proofs.Whole.Fresh.{fresh-sim}
 use Rattle.machine.proofs.Whole.Lists.{agreement-from, after-sim}
+use Rattle.machine.proofs.Whole.Holders as Holders
 
 -- For every accepted configuration and every list of events, from the fresh start, the machine and the plain scheduler are seen to do
 -- the same: status, runner, level and begun mark of every event, the losses of all bodies after it, and a cell's match where its entry is due.
@@ -68,10 +74,49 @@ demand-3-read bs e = demand-3 (readConfig bs .config) (accepted-ranges bs e) (re
 abbrev pub reached : Config → List Event → Model
 reached c es = machineAfter c (planOf c) (freshModel (planOf c)) es
 
+-- Who holds what, after every list of events and whatever the kinds of the bodies. The runner's own priority is above the level of every other
+-- body that holds a resource, and so above that resource's ceiling. (Where nobody runs, nothing is held.)
+module _ (c : Config) (ok : Accepted c) (shaped : Shaped c) (es : List Event) where
+  standing : Sim c (planOf c) (rankOf c) (reached c es) (after c (fresh c) es)
+  standing = after-sim (fitted c ok shaped) es (fresh-sim (fitted c ok shaped))
+
+  pub holder-below : (i r : ℕ) → i ≢ caller c (after c (fresh c) es) → among r (bodyOf (after c (fresh c) es) i .held) ≡ true
+      → current c i (bodyOf (after c (fresh c) es) i) < priorityOf c (caller c (after c (fresh c) es))
+  holder-below = Holders.holder-below (fitted c ok shaped) standing
+
+  pub ceiling-below : (i r : ℕ) → i ≢ caller c (after c (fresh c) es) → among r (bodyOf (after c (fresh c) es) i .held) ≡ true
+      → ceiling c r < priorityOf c (caller c (after c (fresh c) es))
+  ceiling-below = Holders.ceiling-below (fitted c ok shaped) standing
+
+  -- "a declared basic task or ISR is refused a resource only when it holds that resource itself": with status 1
+  pub declared-refused : (r : ℕ) → nobodyRuns c (after c (fresh c) es) ≡ false → isUser c r (caller c (after c (fresh c) es)) ≡ true
+      → step c (after c (fresh c) es) (Get r) .seen .status ≢ 0
+      → (step c (after c (fresh c) es) (Get r) .seen .status ≡ 1) × (among r (calling c (after c (fresh c) es) .held) ≡ true)
+  unfolding stepBy
+  declared-refused = Holders.declared-refused (fitted c ok shaped) standing
+
+  -- The same of the machine: the k-th slot from the top has a resource, its holder's rank and its level, and past the last one there is no
+  -- holder. A slot of another holder is below the runner's own priority; every holder is a declared user of what it holds; and where a
+  -- Get by a declared user is refused, its status is 1 and a slot of the resource is the runner's.
+  pub slot-below : (k : ℕ) → getD (rowBytes (reached c es .holder)) k noRank ≢ noRank
+      → getD (rowBytes (reached c es .holder)) k noRank ≢ reached c es .core .runner
+      → getD (rowBytes (reached c es .raised)) k noRank < getD (planOf c .priority) (reached c es .core .runner) 0
+  slot-below = Holders.slot-below (fitted c ok shaped) standing
+
+  pub slot-user : (k : ℕ) → getD (rowBytes (reached c es .holder)) k noRank ≢ noRank
+      → has (getD (planOf c .users) (getD (rowBytes (reached c es .resource)) k noRank) 0) (getD (rowBytes (reached c es .holder)) k noRank) ≡ true
+  slot-user = Holders.slot-user (fitted c ok shaped) standing (held-by-user c es)
+
+  pub machine-refused : (r : ℕ) → idles (reached c es) ≡ false → isUser c r (runnerOf (planOf c) (reached c es)) ≡ true
+      → machineStep c (planOf c) (reached c es) (Get r) .status ≢ 0
+      → (machineStep c (planOf c) (reached c es) (Get r) .status ≡ 1)
+      × ((k : ℕ) × (getD (rowBytes (reached c es .resource)) k noRank ≡ r) × (getD (rowBytes (reached c es .holder)) k noRank ≡ reached c es .core .runner))
+  machine-refused = Holders.machine-refused (fitted c ok shaped) standing
+
 -- Start and Stop are the cell's own, for each cell of the table, and leave every other cell as it was: wherever they are accepted
 module _ (c : Config) (ok : Accepted c) (shaped : Shaped c) (es : List Event) (t : ℕ) (t< : t < c .tables) (e : ℕ) where
   sim : Sim c (planOf c) (rankOf c) (reached c es) (after c (fresh c) es)
-  sim = after-sim (fitted c ok shaped) es (fresh-sim (fitted c ok shaped))
+  sim = standing c ok shaped es
 
   long : length (dues c (after c (fresh c) es)) ≡ planOf c .count
   long = dues-long c (planOf c) (rankOf c) (fitted c ok shaped) (after c (fresh c) es) (sim .timed .tables-long)

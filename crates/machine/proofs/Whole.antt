@@ -1,3 +1,4 @@
--- The fresh start, and lists of events.
+-- The fresh start, lists of events, and who holds what after them.
 pub mod Fresh
 pub mod Lists
+pub mod Holders

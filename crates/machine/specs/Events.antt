@@ -7,7 +7,7 @@ use mathlib.Core.List.{List, [], _∷_}
 use lib.Dec.{ltb, leb, eqb}
 use lib.ListN.{getD, set}
 use Rattle.config.specs.Value.{maxEntries}
-use Rattle.scheduler.specs.Status.{done, callLevel, noSuch, limitReached, access, noFunction, holdsResource, wrongState, badDelay, _gives_, firstGiven}
+use Rattle.scheduler.specs.Status.{done, callLevel, noSuch, limitReached, access, noFunction, holdsResource, wrongState, badDelay, notUser, _gives_, firstGiven}
 use Rattle.scheduler.specs.Bits.{anySet, withBits, withoutBits}
 use Rattle.scheduler.specs.Call.{longestDelay}
 use Rattle.word.specs.Word.{has, with, without}
@@ -65,13 +65,14 @@ chainEffect trs ps m t = settled ps (requesting (getD trs t noRank) (leaving m))
 unfoldable pub chain : ℕ → List ℕ → List ℕ → Model → ℕ → Outcome
 chain ws trs ps m t = attempt m (chainStatus ws trs m t) (chainEffect trs ps m t)
 
--- Get r, of n resources with the ceilings cs
-abbrev pub getStatus : ℕ → List ℕ → List ℕ → Model → ℕ → ℕ
-getStatus n cs ps m r =
+-- Get r, of n resources; us: the words of their declared users' ranks, cs: their ceilings
+abbrev pub getStatus : ℕ → List ℕ → Model → ℕ → ℕ
+getStatus n us m r =
     firstGiven
     ((idles m gives callLevel) ∷
     (leb n r gives noSuch) ∷
-    (has (m .held) r || ltb (getD cs r 0) (getD ps (m .core .runner) 0) gives access) ∷
+    (not (has (getD us r 0) (m .core .runner)) gives notUser) ∷
+    (has (m .held) r gives access) ∷
     [])
 
 -- the level rises to the ceiling, or stays where it is above it
@@ -79,7 +80,7 @@ abbrev pub getEffect : List ℕ → Model → ℕ → Outcome
 getEffect cs m r = doneWith (getting r (max (getD cs r 0) (m .core .level)) m) false
 
 unfoldable pub get : ℕ → List ℕ → List ℕ → Model → ℕ → Outcome
-get n cs ps m r = attempt m (getStatus n cs ps m r) (getEffect cs m r)
+get n us cs m r = attempt m (getStatus n us m r) (getEffect cs m r)
 
 -- Release r
 abbrev pub releaseStatus : ℕ → Model → ℕ → ℕ

@@ -59,7 +59,7 @@ unfoldable pub statusOf : Config → Plan → Model → Event → ℕ
 statusOf c p m (Activate t) = activateStatus (p .task) m t
 statusOf c p m Finish = finishStatus m
 statusOf c p m (Chain t) = chainStatus (p .isrs) (p .task) m t
-statusOf c p m (Get r) = getStatus (c .resources) (p .ceiling) (p .priority) m r
+statusOf c p m (Get r) = getStatus (c .resources) (p .users) m r
 statusOf c p m (Release r) = releaseStatus (c .resources) m r
 statusOf c p m Tick = done
 statusOf c p m (Line i) = lineStatus (p .line) m i

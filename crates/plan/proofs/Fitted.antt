@@ -10,11 +10,12 @@ use Rattle.number.proofs.Cases.{by-lt}
 use Rattle.word.specs.Word.{ranks, has}
 use Rattle.config.specs.declared.Config.{Config}
 use Rattle.config.specs.Value.{maxBodies, maxResources, maxEntries, maxPriority}
-use Rattle.config.specs.Meaning.{isTask, isIsr, isExtended, priorityOf, ceiling, firstOf}
+use Rattle.config.specs.Meaning.{isTask, isIsr, isExtended, isUser, priorityOf, ceiling, firstOf}
 use Rattle.config.specs.Accepted.{Accepted, Shaped}
 use Rattle.plan.specs.declared.Plan.{Plan}
 use Rattle.plan.specs.Rank.{noRank, rankOf}
 use Rattle.plan.specs.Plan.{planOf}
+use Rattle.config.proofs.Theorems as Configuration
 use Rattle.plan.proofs.Theorems as Plan
 
 pub record Fitted (c : Config) (p : Plan) (rk : ℕ → ℕ) : Type 0 where
@@ -54,6 +55,8 @@ pub record Fitted (c : Config) (p : Plan) (rk : ℕ → ℕ) : Type 0 where
   pub entry-ranks-long : length (p .entry) ≡ maxEntries
   pub ceiling-few : (r : ℕ) → ceiling c r ≤ maxPriority
   pub ceiling-at : (r : ℕ) → r < c .resources → getD (p .ceiling) r 0 ≡ ceiling c r
+  pub users-at : (r b : ℕ) → r < c .resources → b < c .bodies → has (getD (p .users) r 0) (rk b) ≡ isUser c r b
+  pub user-ceiling : (r b : ℕ) → b < c .bodies → isUser c r b ≡ true → priorityOf c b ≤ ceiling c r
 
 pub fitted : (c : Config) → Accepted c → Shaped c → Fitted c (planOf c) (rankOf c)
 fitted c ok shaped =
@@ -94,6 +97,8 @@ fitted c ok shaped =
       entry-ranks-long = Plan.plan-sized c .entries;
       ceiling-few = Plan.ceiling-le c ok shaped;
       ceiling-at = Plan.resource-ceiling c ok shaped;
+      users-at = Plan.resource-users c ok shaped;
+      user-ceiling = Configuration.user-ceiling c ok shaped;
     }
   where
     -- of two bodies with one priority neither comes first

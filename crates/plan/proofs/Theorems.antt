@@ -2,7 +2,7 @@
 --
 -- In order: lengths, of whatever configuration; then of every accepted one ranks, ranks by body, bodies by rank, the words, ceilings,
 -- tables, entries. Assumes nothing.
-use Prim.Native.Nat.{ℕ, suc, _-_, _^_, _≤_, _<_}
+use Prim.Native.Nat.{ℕ, suc, _-_, _/_, _%_, _^_, _≤_, _<_}
 use mathlib.Core.Path.{_≡_, ap, _∙_}
 use mathlib.Core.Bool.{true, cond}
 use mathlib.Core.Logic.{_↔_}
@@ -17,13 +17,13 @@ use Rattle.word.specs.Word as Word
 use Rattle.word.specs.Word.{has}
 use Rattle.config.specs.declared.Config.{Config}
 use Rattle.config.specs.Value.{maxPriority, maxBodies, maxResources, maxTables, maxEntries}
-use Rattle.config.specs.Meaning.{isTask, isr, extended, isIsr, isExtended, priorityOf, ceiling, firstOf}
+use Rattle.config.specs.Meaning.{isTask, isr, extended, isIsr, isExtended, isUser, priorityOf, ceiling, firstOf}
 use Rattle.config.specs.Accepted.{Accepted, Shaped}
 use Rattle.plan.specs.declared.Plan.{Plan}
 use Rattle.plan.specs.Stored.{stored, listed}
 use Rattle.plan.specs.Rank.{noRank, rankOf, bodyCount, taskRank, lineRank}
 use Rattle.plan.specs.Entry.{entryTable, tableCount, entryCount, firstEntry, compareOf, entryRank}
-use Rattle.plan.specs.Plan.{resourceCount, planOf}
+use Rattle.plan.specs.Plan.{resourceCount, usersOf, planOf}
 use Rattle.plan.proofs.Stored.{length-stored, stored-at, stored-past, getD-any}
 use Rattle.plan.proofs.Words.{marked-has, marked-some, marked-lt}
 use Rattle.plan.proofs.Greatest.{greatestIn-le}
@@ -42,6 +42,7 @@ pub record Sized (p : Plan) : Type 0 where
   pub extended-lt : p .extended < 2 ^ Word.ranks
   pub autostart-lt : p .autostart < 2 ^ Word.ranks
   pub ceilings : length (p .ceiling) ≡ maxResources
+  pub users : length (p .users) ≡ maxResources
   pub firsts : length (p .first) ≡ maxTables
   pub compares : length (p .compare) ≡ maxEntries
   pub entries : length (p .entry) ≡ maxEntries
@@ -60,6 +61,7 @@ plan-sized c =
       extended-lt = marked-lt (rankOf c) (λ b. getD (c .kind) b 0) extended (bodyCount c);
       autostart-lt = marked-lt (rankOf c) (λ b. getD (c .autostart) b 0) 1 (bodyCount c);
       ceilings = simp length-stored;
+      users = simp length-stored;
       firsts = simp length-stored;
       compares = simp length-stored;
       entries = simp length-stored;
@@ -171,6 +173,13 @@ module _ (c : Config) (accepted : Accepted c) (shaped : Shaped c) where
   unfolding planOf
   resource-ceiling r h =
       listed-at (ceiling c) (resourceCount c) maxResources 0 r 0 (omega (arith, accepted .few-resources)) (omega (arith, accepted .few-resources))
+
+  -- its users: a body's rank is in the word exactly if the body is one of them
+  pub resource-users : (r b : ℕ) → r < c .resources → b < c .bodies → has (getD (planOf c .users) r 0) (rankOf c b) ≡ isUser c r b
+  unfolding planOf
+  resource-users r b h l =
+      rw (listed-at (usersOf c) (resourceCount c) maxResources 0 r 0 (omega (arith, accepted .few-resources)) (omega (arith, accepted .few-resources)), Order.all-bodies c accepted shaped, lt-ltb r (c .resources) h)
+      (marked-has (rankOf c) (λ i. getD (c .users) r 0 / 2 ^ i % 2) 1 (c .bodies) rank-inj rank-small b l)
 
   pub ceiling-le : (r : ℕ) → ceiling c r ≤ maxPriority
   ceiling-le r = greatestIn-le (getD (c .users) r 0) maxPriority (take (c .bodies) (c .priority)) each

@@ -1,7 +1,7 @@
 -- The static tables that the machine's events look up, derived once from a configuration: `planOf`.
 --
 -- Each is a list that is filled as far as the counts reach. Main laws: what a lookup gives (proofs/Theorems.antt). Assumes nothing.
-use Prim.Native.Nat.{ℕ, min}
+use Prim.Native.Nat.{ℕ, _/_, _%_, _^_, min}
 use lib.ListN.{getD, replicate}
 use mathlib.Core.List.{List}
 use Rattle.config.specs.declared.Config.{Config}
@@ -33,12 +33,18 @@ extendeds c = ofKind c extended
 abbrev pub autostarts : Config → ℕ
 autostarts c = marked (rankOf c) (λ b. getD (c .autostart) b 0) 1 (bodyCount c)
 
--- by resource: its ceiling
+-- by resource: its ceiling, and the word of the ranks that its declared users have
 abbrev pub resourceCount : Config → ℕ
 resourceCount c = min (c .resources) maxResources
 
 abbrev pub ceilings : Config → List ℕ
 ceilings c = listed (ceiling c) (resourceCount c) (replicate maxResources 0)
+
+abbrev pub usersOf : Config → ℕ → ℕ
+usersOf c r = marked (rankOf c) (λ b. getD (c .users) r 0 / 2 ^ b % 2) 1 (bodyCount c)
+
+abbrev pub userWords : Config → List ℕ
+userWords c = listed (usersOf c) (resourceCount c) (replicate maxResources 0)
 
 -- by table: its first entry
 abbrev pub firsts : Config → List ℕ
@@ -63,6 +69,7 @@ planOf c =
       extended = extendeds c;
       autostart = autostarts c;
       ceiling = ceilings c;
+      users = userWords c;
       first = firsts c;
       compare = compares c;
       entry = entryRanks c;

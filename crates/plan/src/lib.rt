@@ -40,8 +40,9 @@ pub struct Plan {
     pub isrs: u32,
     pub extended: u32,
     pub autostart: u32,
-    // By resource.
+    // By resource its ceiling, and the word of the ranks of its declared users.
     pub ceiling: [u8; 16],
+    pub users: [u32; 16],
     // By table its first entry.
     pub first: [u8; 8],
     // By entry its cell's compare value and the rank of its task.
@@ -58,7 +59,7 @@ impl Plan {
         let kind = config.kind;
         let priority = config.priority;
         let flags = config.autostart;
-        let users = config.users;
+        let masks = config.users;
         let counts = config.entries;
         let period = config.period;
         let tasks = config.task;
@@ -70,7 +71,7 @@ impl Plan {
         let extended = bodies::marked(kind, EXTENDED, by, n);
         let autostart = bodies::marked(flags, AUTOSTART, by, n);
         let some = at_most(config.resources as usize, MAX_RESOURCES);
-        let ceiling = resources::ceilings(users, some, priority, n);
+        let resource = resources::by_resource(masks, some, priority, by, n);
         let tables = at_most(config.tables as usize, MAX_TABLES);
         let table = entries::by_table(counts, tables);
         let count = table.count;
@@ -80,6 +81,8 @@ impl Plan {
         let line = kinds.line;
         let level = ranked.priority;
         let body = ranked.body;
+        let ceiling = resource.ceiling;
+        let users = resource.users;
         let first = table.first;
         Plan {
             rank: by,
@@ -91,6 +94,7 @@ impl Plan {
             extended,
             autostart,
             ceiling,
+            users,
             first,
             compare,
             entry,

@@ -10,7 +10,7 @@ use native.Mathlib.Omega.{arith}
 use borrow.Author.Tests.{leb-false, ltb-false, eqb-false, ne-eqb, not-false}
 use lib.Dec.{ltb, eqb}
 use Rattle.config.specs.declared.Config.{Config}
-use Rattle.config.specs.Meaning.{isTask, isIsr, isExtended, priorityOf, ceiling, smallestOffset}
+use Rattle.config.specs.Meaning.{isTask, isIsr, isExtended, isUser, smallestOffset}
 use Rattle.scheduler.specs.Status.{Check, done, firstGiven, NoneFails}
 use Rattle.scheduler.specs.Body.{Phase, suspended, ready, started, waiting, isSuspended, holds}
 use Rattle.scheduler.specs.State.{State, isRunning, bodyOf, tableOf, heldIn}
@@ -123,13 +123,12 @@ module _ (c : Config) (s : State) where
       other : t ≢ caller c s → (active s t && not (eqb t (caller c s))) ≡ false → active s t ≡ false
       other d h = rw (ne-eqb t (caller c s) d, and-true) at h
 
-  -- nobody holds r, and the runner's own priority is at most its ceiling
+  -- the runner is a declared user of r, and nobody holds it
   pub get-passed : (r : ℕ) → getStatus c s r ≡ done
-      → (nobodyRuns c s ≡ false) × (r < c .resources) × (heldIn r (s .bodies) ≡ false) × (priorityOf c (caller c s) ≤ ceiling c r)
+      → (nobodyRuns c s ≡ false) × (r < c .resources) × (isUser c r (caller c s) ≡ true) × (heldIn r (s .bodies) ≡ false)
   get-passed r e =
       let p = all-passed _ (omega arith) e in
-      let q = neither (heldIn r (s .bodies)) (ltb (ceiling c r) (priorityOf c (caller c s))) (p .1 .1 .0) in
-      (p .0, leb-false (c .resources) r (p .1 .0), q .0, ltb-false (ceiling c r) (priorityOf c (caller c s)) (q .1))
+      (p .0, leb-false (c .resources) r (p .1 .0), not-false (isUser c r (caller c s)) (p .1 .1 .0), p .1 .1 .1 .0)
 
   -- r is the one that the runner took last
   pub release-passed : (r : ℕ) → releaseStatus c s r ≡ done

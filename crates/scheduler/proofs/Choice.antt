@@ -19,7 +19,7 @@ use Rattle.config.specs.declared.Config.{Config}
 use Rattle.config.specs.Meaning.{priorityOf, ceiling}
 use Rattle.scheduler.specs.Body.{Phase, suspended, ready, started, waiting, isStarted, competes, Body, holds, current, gets, releases}
 use Rattle.scheduler.specs.Choice.{Candidate, nobody, isNobody, candidate, Tie, goesBefore, preferred, chosenFrom, chosenBy}
-use Rattle.scheduler.specs.State.{noBody}
+use Rattle.scheduler.specs.State.{noBody, among}
 use Rattle.scheduler.specs.Scheduler.{markOf}
 
 -- what the k-th of the bodies bs is to the choice
@@ -231,6 +231,18 @@ module _ (c : Config) (i : ℕ) where
       least : (rs : List ℕ) → priorityOf c i ≤ foldr max (priorityOf c i) (map (ceiling c) rs)
       least [] = omega arith
       least (r ∷ rs) = omega (arith, least rs)
+
+  -- whoever holds a resource runs at its ceiling at least
+  pub current-held : (b : Body) (r : ℕ) → among r (b .held) ≡ true → ceiling c r ≤ current c i b
+  unfolding among
+  current-held b r = go (b .held)
+    where
+      go : (rs : List ℕ) → among r rs ≡ true → ceiling c r ≤ foldr max (priorityOf c i) (map (ceiling c) rs)
+      go [] h = absurd (true≢false (sym h))
+      go (x ∷ rs) h =
+          by-eq r x
+          (λ same. rw same (omega arith))
+          (λ other. omega (arith, go rs (rw (ne-eqb r x other) at h)))
 
   pub current-free : (b : Body) → b .held ≡ [] → current c i b ≡ priorityOf c i
   current-free b e = rw e

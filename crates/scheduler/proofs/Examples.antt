@@ -40,6 +40,10 @@ secondEdition = withVersion sample 2
 unfoldable pub twoAutostart : Config
 twoAutostart = readConfig (1 ∷ 2 ∷ 0 ∷ 2 ∷ 1 ∷ 0 ∷ 5 ∷ 1 ∷ 0 ∷ 0 ∷ []) .config
 
+-- tasks 0, 1, 2 of priority 2, 5, 3, of which 0 is autostart; resources 0, 1, 2 with the users 0 and 1, 1, 0 and 2, so with the ceilings 5, 5, 3
+unfoldable pub threeTasks : Config
+threeTasks = readConfig (1 ∷ 3 ∷ 0 ∷ 2 ∷ 1 ∷ 0 ∷ 5 ∷ 0 ∷ 0 ∷ 3 ∷ 0 ∷ 3 ∷ 3 ∷ 2 ∷ 5 ∷ 0 ∷ []) .config
+
 abbrev rows : Config → List Event → List Row
 rows c es = map rowOf (seen c (fresh c) es)
 
@@ -82,18 +86,26 @@ pub record Examples : Type 0 where
   -- Chain while a resource is held: to no task 3, to one that is ready 6; and 4 to that one afterwards
   pub chain-order : rows sample (Activate 1 ∷ Get 0 ∷ Chain 9 ∷ Chain 1 ∷ Release 0 ∷ Chain 1 ∷ [])
       ≡ row 0 0 4 0 ∷ row 0 0 6 0 ∷ row 3 0 6 0 ∷ row 6 0 6 0 ∷ row 0 0 4 0 ∷ row 4 0 4 0 ∷ []
-  -- no such resource and table: 3 before 1, 5 and 8; 5 for a resource that nobody holds; and 8 before 7
+  -- no such resource and table: 3 before 33, 5 and 8; 5 for a resource that nobody holds; and 8 before 7
   pub id-before-others : rows sample (Get 9 ∷ Release 9 ∷ Release 0 ∷ Start 9 0 ∷ Stop 9 ∷ Start 0 1 ∷ Start 0 0 ∷ [])
       ≡ row 3 0 4 0 ∷ row 3 0 4 0 ∷ row 5 0 4 0 ∷ row 3 0 4 0 ∷ row 3 0 4 0 ∷ row 0 0 4 0 ∷ row 8 0 4 0 ∷ []
   -- delay and smallest offset, 0, are 65,535 together, or one more; the offset 2 of table 0 has no part in it
   pub longest-delay : rows sample (Start 0 65536 ∷ Start 0 65535 ∷ Start 1 65536 ∷ Start 1 65535 ∷ [])
       ≡ row 8 0 4 0 ∷ row 0 0 4 0 ∷ row 8 0 4 0 ∷ row 0 0 4 0 ∷ []
-  -- own priority 4 at level 9: below, at and above the ceilings 6, 4 and 2; then one that it holds already, and Release in the order taken
-  pub get-by-own-priority : rows sample (Get 3 ∷ Get 0 ∷ Get 2 ∷ Get 1 ∷ Get 0 ∷ Release 0 ∷ Release 2 ∷ Release 0 ∷ Release 3 ∷ [])
-      ≡ row 0 0 9 0 ∷ row 0 0 9 0 ∷ row 0 0 9 0 ∷ row 1 0 9 0 ∷ row 1 0 9 0 ∷ row 5 0 9 0 ∷ row 0 0 9 0 ∷ row 0 0 9 0 ∷ row 0 0 4 0 ∷ []
-  -- an ISR makes every call but Chain, which is 2 whatever else applies
+  -- at level 9 a declared user takes resources of the ceilings 6 and 4; one of which it is no user, then one that it holds already, and
+  -- Release in the order taken
+  pub get-at-a-level : rows sample (Get 3 ∷ Get 0 ∷ Get 2 ∷ Get 1 ∷ Get 0 ∷ Release 0 ∷ Release 2 ∷ Release 0 ∷ Release 3 ∷ [])
+      ≡ row 0 0 9 0 ∷ row 0 0 9 0 ∷ row 0 0 9 0 ∷ row 33 0 9 0 ∷ row 1 0 9 0 ∷ row 5 0 9 0 ∷ row 0 0 9 0 ∷ row 0 0 9 0 ∷ row 0 0 4 0 ∷ []
+  -- task 0 is no user of resource 1, below its ceiling and with its level at it: 33, and 3 before that; 1 for the one that it holds itself
+  pub get-undeclared : rows threeTasks (Get 1 ∷ Get 0 ∷ Get 1 ∷ Get 3 ∷ Get 0 ∷ [])
+      ≡ row 33 0 2 0 ∷ row 0 0 5 0 ∷ row 33 0 5 0 ∷ row 3 0 5 0 ∷ row 1 0 5 0 ∷ []
+  -- task 1 is above the ceiling of resource 2 and no user of it: 33 where task 0 holds it, and where it is free. Its Release is 5
+  pub get-undeclared-held : rows threeTasks (Get 2 ∷ Activate 1 ∷ Get 2 ∷ Release 2 ∷ Get 1 ∷ Get 1 ∷ Release 1 ∷ Finish ∷ Release 2 ∷ Activate 1 ∷ Get 2 ∷ [])
+      ≡ row 0 0 3 0 ∷ row 0 1 5 1 ∷ row 33 1 5 0 ∷ row 5 1 5 0 ∷ row 0 1 5 0 ∷ row 1 1 5 0 ∷ row 0 1 5 0 ∷ row 0 0 3 0 ∷ row 0 0 2 0
+      ∷ row 0 1 5 1 ∷ row 33 1 5 0 ∷ []
+  -- an ISR makes every call but Chain, which is 2 whatever else applies; 33 for a resource that only tasks use
   pub isr-calls : rows sample (Line 3 ∷ Activate 2 ∷ Start 0 1 ∷ Stop 0 ∷ Get 0 ∷ Get 3 ∷ Chain 9 ∷ Chain 0 ∷ Finish ∷ Release 3 ∷ Finish ∷ [])
-      ≡ row 0 3 9 1 ∷ row 0 3 9 0 ∷ row 0 3 9 0 ∷ row 0 3 9 0 ∷ row 1 3 9 0 ∷ row 0 3 9 0 ∷ row 2 3 9 0 ∷ row 2 3 9 0 ∷ row 6 3 9 0
+      ≡ row 0 3 9 1 ∷ row 0 3 9 0 ∷ row 0 3 9 0 ∷ row 0 3 9 0 ∷ row 33 3 9 0 ∷ row 0 3 9 0 ∷ row 2 3 9 0 ∷ row 2 3 9 0 ∷ row 6 3 9 0
       ∷ row 0 3 9 0 ∷ row 0 2 6 1 ∷ []
   -- a waiting request begins when its ISR ends, and once
   pub begins-again : rows sample (Line 3 ∷ Line 3 ∷ Line 3 ∷ Finish ∷ Finish ∷ [])
@@ -128,7 +140,7 @@ pub record Examples : Type 0 where
       ∷ (false ∷ true ∷ true ∷ []) ∷ []
 
 pub examples : Examples
-unfolding sample secondEdition twoAutostart readConfig readFrom readNumber groups continued fifthGroup faultAt putAt ended occurs greatestIn entriesBefore due firstGiven candidate chosenFrom among heldIn counting entryDue duesFrom activatingDue stepBy seenBy
+unfolding sample secondEdition twoAutostart threeTasks readConfig readFrom readNumber groups continued fifthGroup faultAt putAt ended occurs greatestIn entriesBefore due firstGiven candidate chosenFrom among heldIn counting entryDue duesFrom activatingDue stepBy seenBy
 examples =
     record {
       activate-higher = refl;
@@ -141,7 +153,9 @@ examples =
       chain-order = refl;
       id-before-others = refl;
       longest-delay = refl;
-      get-by-own-priority = refl;
+      get-at-a-level = refl;
+      get-undeclared = refl;
+      get-undeclared-held = refl;
       isr-calls = refl;
       begins-again = refl;
       lost-lines = refl;

@@ -3,6 +3,7 @@
 pub mod Theorems
 pub mod Listing
 pub mod Examples
+pub mod Bits
 pub mod Choice
 pub mod Checks
 pub mod Effects
@@ -10,5 +11,7 @@ pub mod Refusals
 pub mod Tables
 pub mod Requests
 pub mod Losses
+pub mod Ties
 pub mod Dues
 pub mod Entries
+pub mod Users

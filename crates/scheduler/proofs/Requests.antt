@@ -1,153 +1,163 @@
--- Requests that wait: a started ISR's second one begins only after that ISR has finished, and a Stop leaves them all.
+-- Requests that wait: a body that has begun begins again only after its end, a started ISR's second request too, and a Stop leaves them all.
 --
--- In order: who begins is not started; what ends a started ISR (`started-stays`); the two laws. Assumes nothing.
+-- In order: who begins had not begun; what ends a body that has begun (`begun-stays`); the laws. Assumes nothing.
 use Prim.Native.Nat.{ℕ}
 use mathlib.Core.Path.{_≡_, refl, sym, ap, _∙_}
-use mathlib.Core.Bool.{Bool, true, false, true≢false, cond, _&&_}
+use mathlib.Core.Bool.{Bool, true, false, true≢false, cond}
 use mathlib.Core.Logic.{_≢_, _⊎_, inl, inr, ⊎-elim}
 use native.Mathlib.Omega.{arith}
-use borrow.Author.Tests.{eqb-true, eq-eqb, ne-eqb}
-use lib.Dec.{ltb, eqb}
-use lib.ListN.{length, getD, List·getD-eq-default}
+use borrow.Author.Tests.{eq-eqb, ne-eqb}
+use lib.Dec.{eqb}
+use lib.ListN.{length, List·getD-eq-default}
 use Rattle.number.proofs.Cases.{by-lt, by-eq}
 use Rattle.config.specs.declared.Config.{Config}
-use Rattle.config.specs.Meaning.{isr, extended, isIsr, isExtended}
+use Rattle.config.specs.Meaning.{isIsr}
 use Rattle.scheduler.specs.Status.{done}
-use Rattle.scheduler.specs.Body.{Body, Phase, suspended, ready, started, waiting, isSuspended, isStarted, hasBegun, activated, loses, requested, gets, releases, activatedByEntry, finished, waits, resumed, receives, clears}
-use Rattle.scheduler.specs.Bits.{withBits}
+use Rattle.scheduler.specs.Body.{Body, Phase, suspended, ready, started, waiting, isSuspended, isStarted, hasBegun, competes, become, activated, loses, requested, gets, releases, activatedByEntry, finished, waits, resumed, receives, clears}
+use Rattle.scheduler.specs.Bits.{anySet, withBits}
 use Rattle.scheduler.specs.Choice.{byHolding}
 use Rattle.scheduler.specs.State.{State, noBody, bodyOf, changing, runner}
 use Rattle.scheduler.specs.Event.{Event, Activate, Finish, Chain, Get, Release, Tick, Line, Start, Stop, Wait, Set, Clear}
 use Rattle.scheduler.specs.Tick.{dues, counted}
 use Rattle.scheduler.specs.Call.{caller, finish, stop, statusOf, effectOf, refusalOf}
 use Rattle.scheduler.specs.Scheduler.{begins, markOf, leaves, step, stepBy}
-use Rattle.scheduler.specs.History.{AcceptedIn}
+use Rattle.scheduler.specs.History.{AcceptedIn, Ends}
 use Rattle.scheduler.proofs.Choice.{Taken, no-one, body, chosen-from, candidate-active}
-use Rattle.scheduler.proofs.Checks.{activate-passed, chain-passed, wait-passed}
+use Rattle.scheduler.proofs.Checks.{activate-passed, chain-passed}
 use Rattle.scheduler.proofs.Effects.{bodyOf-changing-same, bodyOf-changing-other, refusalOf-keeps, activatingDue-keeps, cond-either}
 use Rattle.scheduler.proofs.Refusals.{begins-some, dispatched-same}
 
--- the body that begins was not started
-begins-unstarted : (c : Config) (s : State) → begins (runner c s) ≡ true → isStarted (bodyOf s (runner c s .number) .phase) ≡ false
-begins-unstarted c s b = go (chosen-from byHolding refl c (s .bodies))
+-- the body that begins had not begun
+begins-unbegun : (c : Config) (s : State) → begins (runner c s) ≡ true → hasBegun (bodyOf s (runner c s .number) .phase) ≡ false
+begins-unbegun c s b = go (chosen-from byHolding refl c (s .bodies))
   where
-    go : Taken c (s .bodies) (runner c s) → isStarted (bodyOf s (runner c s .number) .phase) ≡ false
+    unbegun : (p : Phase) → competes p ≡ true → isStarted p ≡ false → hasBegun p ≡ false
+    unbegun suspended h e = refl
+    unbegun ready h e = refl
+    unbegun started h e = e
+    unbegun (waiting w) h e = absurd (true≢false (sym h))
+
+    go : Taken c (s .bodies) (runner c s) → hasBegun (bodyOf s (runner c s .number) .phase) ≡ false
     go (no-one z) = absurd (true≢false (rw z at (begins-some (runner c s) b .0)))
     go (body k h p z) =
         let is = z ∙ candidate-active c k (bodyOf s k) (bodyOf s k .phase) p in
-        ap (λ n. isStarted (bodyOf s n .phase)) (ap (λ x. x .number) is) ∙ sym (ap (λ x. x .began) is) ∙ begins-some (runner c s) b .1
+        ap (λ n. hasBegun (bodyOf s n .phase)) (ap (λ x. x .number) is)
+        ∙ unbegun (bodyOf s k .phase) p (sym (ap (λ x. x .began) is) ∙ begins-some (runner c s) b .1)
 
 marked : (b : Bool) → markOf b ≡ 1 → b ≡ true
 marked true e = refl
 marked false e = absurd (omega arith)
 
--- an ISR is no extended task
-isr-basic : (c : Config) (i : ℕ) → isIsr c i ≡ true → isExtended c i ≡ false
-isr-basic c i h = go (ltb i (c .bodies)) h
-  where
-    go : (b : Bool) → b && eqb (getD (c .kind) i 0) isr ≡ true → b && eqb (getD (c .kind) i 0) extended ≡ false
-    go true e =
-        let q = eqb-true (getD (c .kind) i 0) isr e in
-        ne-eqb (getD (c .kind) i 0) extended (λ z. absurd (omega (arith, q, z)))
-    go false e = refl
+-- a change that leaves a body begun
+abbrev KeepsBegun : (Body → Body) → Type 0
+KeepsBegun f = (b : Body) → hasBegun (b .phase) ≡ true → hasBegun (f b .phase) ≡ true
 
--- a change that leaves a started body started
-abbrev KeepsStarted : (Body → Body) → Type 0
-KeepsStarted f = (b : Body) → isStarted (b .phase) ≡ true → isStarted (f b .phase) ≡ true
+requested-begun : KeepsBegun requested
+requested-begun b h = rw h h
 
-requested-started : KeepsStarted requested
-requested-started b h = go (b .phase) h
+cond-begun : (t : Bool) (x y : Body) → hasBegun (x .phase) ≡ true → hasBegun (y .phase) ≡ true → hasBegun (cond t x y .phase) ≡ true
+cond-begun true x y h k = h
+cond-begun false x y h k = k
+
+waits-begun : (w : ℕ) → KeepsBegun (waits w)
+waits-begun w b h = cond-begun (anySet (b .bits) w) b (become (waiting w) b) h refl
+
+receives-begun : (w : ℕ) → KeepsBegun (receives w)
+receives-begun w b h = go (b .phase) h
   where
-    go : (p : Phase) → isStarted p ≡ true
-        → isStarted (cond (hasBegun p) (record { phase = p; pending = true; held = b .held; losses = b .losses; bits = b .bits }) (activated b) .phase) ≡ true
+    go : (p : Phase) → hasBegun p ≡ true → hasBegun (resumed (withBits (b .bits) w) p) ≡ true
     go suspended e = absurd (true≢false (sym e))
     go ready e = absurd (true≢false (sym e))
     go started e = refl
-    go (waiting w) e = absurd (true≢false (sym e))
+    go (waiting v) e = cond-phase (anySet (withBits (b .bits) w) v)
+      where
+        cond-phase : (t : Bool) → hasBegun (cond t started (waiting v)) ≡ true
+        cond-phase true = refl
+        cond-phase false = refl
 
-receives-started : (w : ℕ) → KeepsStarted (receives w)
-receives-started w b h = go (b .phase) h
+entry-begun : KeepsBegun activatedByEntry
+entry-begun b h = go (b .phase) h
   where
-    go : (p : Phase) → isStarted p ≡ true → isStarted (resumed (withBits (b .bits) w) p) ≡ true
-    go suspended e = absurd (true≢false (sym e))
-    go ready e = absurd (true≢false (sym e))
-    go started e = refl
-    go (waiting v) e = absurd (true≢false (sym e))
-
-entry-started : KeepsStarted activatedByEntry
-entry-started b h = go (b .phase) h
-  where
-    go : (p : Phase) → isStarted p ≡ true → isStarted (cond (isSuspended p) (activated b) (loses b) .phase) ≡ true
+    go : (p : Phase) → hasBegun p ≡ true → hasBegun (cond (isSuspended p) (activated b) (loses b) .phase) ≡ true
     go suspended e = absurd (true≢false (sym e))
     go ready e = absurd (true≢false (sym e))
     go started e = h
-    go (waiting w) e = absurd (true≢false (sym e))
+    go (waiting w) e = h
 
 module _ (i : ℕ) where
-  started-changing : (k : ℕ) (f : Body → Body) (s : State) → KeepsStarted f → isStarted (bodyOf s i .phase) ≡ true
-      → isStarted (bodyOf (changing k f s) i .phase) ≡ true
-  started-changing k f s keeps h =
+  begun-changing : (k : ℕ) (f : Body → Body) (s : State) → KeepsBegun f → hasBegun (bodyOf s i .phase) ≡ true
+      → hasBegun (bodyOf (changing k f s) i .phase) ≡ true
+  begun-changing k f s keeps h =
       by-eq i k
       (λ same. by-lt i (length (s .bodies))
       (λ fits. rw (← same, bodyOf-changing-same i f s fits) (keeps (bodyOf s i) h))
-      (λ past. absurd (true≢false (sym h ∙ ap (λ b. isStarted (b .phase)) (List·getD-eq-default (s .bodies) noBody past)))))
+      (λ past. absurd (true≢false (sym h ∙ ap (λ b. hasBegun (b .phase)) (List·getD-eq-default (s .bodies) noBody past)))))
       (λ other. rw (bodyOf-changing-other k f s i other) h)
 
-  started-other : (k : ℕ) (f : Body → Body) (s : State) → k ≢ i → isStarted (bodyOf s i .phase) ≡ true
-      → isStarted (bodyOf (changing k f s) i .phase) ≡ true
-  started-other k f s other h = rw (bodyOf-changing-other k f s i (λ e. other (sym e))) h
+  begun-other : (k : ℕ) (f : Body → Body) (s : State) → k ≢ i → hasBegun (bodyOf s i .phase) ≡ true
+      → hasBegun (bodyOf (changing k f s) i .phase) ≡ true
+  begun-other k f s other h = rw (bodyOf-changing-other k f s i (λ e. other (sym e))) h
 
--- the ISR i is started, and stays so but for its own Finish
-module _ (c : Config) (s : State) (i : ℕ) (irq : isIsr c i ≡ true) (begun : isStarted (bodyOf s i .phase) ≡ true) where
+-- the body i has begun, and stays so but for its own end
+module _ (c : Config) (s : State) (i : ℕ) (begun : hasBegun (bodyOf s i .phase) ≡ true) where
   -- a suspended body is another
   other : (t : ℕ) → bodyOf s t .phase ≡ suspended → t ≢ i
-  other t h e = true≢false (sym begun ∙ ap (λ k. isStarted (bodyOf s k .phase)) (sym e) ∙ ap isStarted h)
+  other t h e = true≢false (sym begun ∙ ap (λ k. hasBegun (bodyOf s k .phase)) (sym e) ∙ ap hasBegun h)
 
-  started-stays : (e : Event) → AcceptedIn c s e → ((e ≡ Finish) × (caller c s ≡ i)) ⊎ (isStarted (bodyOf (effectOf c s e) i .phase) ≡ true)
+  begun-stays : (e : Event) → AcceptedIn c s e → (Ends e × (caller c s ≡ i)) ⊎ (hasBegun (bodyOf (effectOf c s e) i .phase) ≡ true)
   unfolding stepBy
-  started-stays (Activate t) a = inr (started-other i t activated s (other t (activate-passed c s t a .2)) begun)
-  started-stays Finish a =
+  begun-stays (Activate t) a = inr (begun-other i t activated s (other t (activate-passed c s t a .2)) begun)
+  begun-stays Finish a =
       by-eq (caller c s) i
-      (λ same. inl (refl, same))
-      (λ d. inr (started-other i (caller c s) finished s d begun))
-  started-stays (Chain t) a =
+      (λ same. inl (inl refl, same))
+      (λ d. inr (begun-other i (caller c s) finished s d begun))
+  begun-stays (Chain t) a =
       let p = chain-passed c s t a in
-      let not-caller : caller c s ≢ i = λ e. true≢false (sym irq ∙ ap (isIsr c) (sym e) ∙ p .1) in
-      let not-t : t ≢ i = by-eq t (caller c s) (λ same e. not-caller (sym same ∙ e)) (λ d. other t (p .4 d)) in
-      inr (started-other i t activated (finish (caller c s) s) not-t (started-other i (caller c s) finished s not-caller begun))
-  started-stays (Get r) a = inr (started-changing i (caller c s) (gets r) s (λ b h. h) begun)
-  started-stays (Release r) a = inr (started-changing i (caller c s) releases s (λ b h. h) begun)
-  started-stays Tick a =
+      by-eq (caller c s) i
+      (λ same. inl (inr (t, refl), same))
+      (λ d. let not-t : t ≢ i = by-eq t (caller c s) (λ same e. d (sym same ∙ e)) (λ n. other t (p .4 n)) in
+      inr (begun-other i t activated (finish (caller c s) s) not-t (begun-other i (caller c s) finished s d begun)))
+  begun-stays (Get r) a = inr (begun-changing i (caller c s) (gets r) s (λ b h. h) begun)
+  begun-stays (Release r) a = inr (begun-changing i (caller c s) releases s (λ b h. h) begun)
+  begun-stays Tick a =
       inr
-      (activatingDue-keeps (λ x. isStarted (bodyOf x i .phase) ≡ true) (λ t x. started-changing i t activatedByEntry x entry-started)
+      (activatingDue-keeps (λ x. hasBegun (bodyOf x i .phase) ≡ true) (λ t x. begun-changing i t activatedByEntry x entry-begun)
       (dues c (counted s)) (c .task) (counted s) begun)
-  started-stays (Line j) a = inr (started-changing i j requested s requested-started begun)
-  started-stays (Start t d) a = inr begun
-  started-stays (Stop t) a = inr begun
-  started-stays (Wait w) a =
-      let not-caller : caller c s ≢ i = λ e. true≢false (sym (wait-passed c s w a .1) ∙ ap (isExtended c) e ∙ isr-basic c i irq) in
-      inr (started-other i (caller c s) (waits w) s not-caller begun)
-  started-stays (Set t w) a = inr (started-changing i t (receives w) s (receives-started w) begun)
-  started-stays (Clear w) a = inr (started-changing i (caller c s) (clears w) s (λ b h. h) begun)
+  begun-stays (Line j) a = inr (begun-changing i j requested s requested-begun begun)
+  begun-stays (Start t d) a = inr begun
+  begun-stays (Stop t) a = inr begun
+  begun-stays (Wait w) a = inr (begun-changing i (caller c s) (waits w) s (waits-begun w) begun)
+  begun-stays (Set t w) a = inr (begun-changing i t (receives w) s (receives-begun w) begun)
+  begun-stays (Clear w) a = inr (begun-changing i (caller c s) (clears w) s (λ b h. h) begun)
 
-  pub begins-after-finish : (e : Event) → step c s e .seen .begun ≡ 1 → step c s e .seen .runner ≡ i
-      → (e ≡ Finish) × (caller c s ≡ i) × AcceptedIn c s e
+  pub begins-after-end : (e : Event) → step c s e .seen .begun ≡ 1 → step c s e .seen .runner ≡ i → Ends e × (caller c s ≡ i) × AcceptedIn c s e
   unfolding stepBy
-  begins-after-finish e b r =
+  begins-after-end e b r =
       by-eq (statusOf c s e) done
       (λ ok. ⊎-elim
       (λ p. (p .0, p .1, ok))
-      (λ h. absurd (true≢false (sym h ∙ rw (eq-eqb (statusOf c s e) done ok) at unstarted)))
-      (started-stays e ok))
-      (λ bad. absurd (true≢false (sym refused-stays ∙ rw (ne-eqb (statusOf c s e) done bad) at unstarted)))
+      (λ h. absurd (true≢false (sym h ∙ rw (eq-eqb (statusOf c s e) done ok) at unbegun)))
+      (begun-stays e ok))
+      (λ bad. absurd (true≢false (sym refused-stays ∙ rw (ne-eqb (statusOf c s e) done bad) at unbegun)))
     where
-      unstarted : isStarted (bodyOf (leaves c s e) i .phase) ≡ false
-      unstarted = rw r at (begins-unstarted c (leaves c s e) (marked _ b))
+      unbegun : hasBegun (bodyOf (leaves c s e) i .phase) ≡ false
+      unbegun = rw r at (begins-unbegun c (leaves c s e) (marked _ b))
 
-      refused-stays : isStarted (bodyOf (refusalOf c s (statusOf c s e) e) i .phase) ≡ true
+      refused-stays : hasBegun (bodyOf (refusalOf c s (statusOf c s e) e) i .phase) ≡ true
       refused-stays =
-          refusalOf-keeps c s (λ x. isStarted (bodyOf x i .phase) ≡ true) begun (statusOf c s e) e
-          (λ j _ _ _. started-changing i j loses s (λ x h. h) begun)
+          refusalOf-keeps c s (λ x. hasBegun (bodyOf x i .phase) ≡ true) begun (statusOf c s e) e
+          (λ j _ _ _. begun-changing i j loses s (λ x h. h) begun)
+
+  -- an ISR may not chain
+  pub begins-after-finish : isIsr c i ≡ true → (e : Event) → step c s e .seen .begun ≡ 1 → step c s e .seen .runner ≡ i
+      → (e ≡ Finish) × (caller c s ≡ i) × AcceptedIn c s e
+  unfolding stepBy
+  begins-after-finish irq e b r =
+      let p = begins-after-end e b r in
+      ⊎-elim
+      (λ f. (f, p .1, p .2))
+      (λ f. absurd (true≢false (sym irq ∙ ap (isIsr c) (sym (p .1)) ∙ chain-passed c s (f .0) (rw (f .1) at (p .2)) .1)))
+      (p .0)
 
 -- a Stop changes no body, so whatever waits to begin still waits
 pub stop-bodies : (c : Config) (s : State) (t : ℕ) → begins (runner c s) ≡ false → step c s (Stop t) .state .bodies ≡ s .bodies

@@ -1,34 +1,38 @@
 -- What holds of the plain scheduler. Each law stands here in full, over specs/ alone; the modules it cites prove it.
 --
--- In order: who runs; document 01's table of events; that a refused event changes nothing but the count of a lost line; what an accepted Activate finds; requests that wait;
--- where losses come from; that d and n are counted, and entries due, as demand 3 says. `Choice` and `Checks` have more of who is chosen and
+-- In order: who runs, and ties; document 01's table of events; that a refused event changes nothing but the count of a lost line; what an accepted Activate finds; requests that wait;
+-- event bits; who holds a resource; where losses come from; that d and n are counted, and entries due, as demand 3 says. `Choice` and `Checks` have more of who is chosen and
 -- of what an accepted call finds; `Examples` are worked lists of events. Assumes nothing.
 use Prim.Native.Nat.{ℕ, suc, _+_, _≤_, _<_, max}
 use mathlib.Core.Path.{_≡_, refl, ap, _∙_}
-use mathlib.Core.Bool.{true, false}
+use mathlib.Core.Bool.{true, false, not, _&&_, _||_}
 use mathlib.Core.List.{List, [], _∷_, _++_, map}
-use mathlib.Core.Logic.{_≢_, _↔_}
+use mathlib.Core.Logic.{_≢_, _↔_, _⊎_}
 use native.Mathlib.Omega.{arith}
 use lib.ListN.{length, getD, take}
 use Rattle.config.specs.declared.Config.{Config}
-use Rattle.config.specs.Meaning.{isIsr, priorityOf, ceiling, firstOf}
+use Rattle.config.specs.Meaning.{isIsr, isExtended, isUser, priorityOf, ceiling, firstOf}
 use Rattle.config.specs.Accepted as Configuration
 use Rattle.scheduler.specs.Status.{Check, done, NoneFails}
-use Rattle.scheduler.specs.Body.{Body, suspended, isSuspended, isStarted, competes, holds, current, activated, losing, loses, gets, releases}
-use Rattle.scheduler.specs.Choice.{Candidate, nobody, isNobody, candidate, byHolding, goesBefore}
-use Rattle.scheduler.specs.State.{State, Table, stopped, running, bodyOf, tableOf, changing, runner}
+use Rattle.scheduler.specs.Body.{Body, suspended, waiting, isSuspended, isStarted, hasBegun, competes, resumed, holds, current, activated, losing, loses, gets, releases}
+use Rattle.scheduler.specs.Bits.{bitSet, anySet, withBits, withoutBits}
+use Rattle.scheduler.specs.Choice.{Candidate, nobody, isNobody, candidate, byHolding, byBegun, goesBefore}
+use Rattle.scheduler.specs.State.{State, Table, stopped, running, bodyOf, tableOf, changing, runner, among}
 use Rattle.scheduler.specs.Event.{Event, Activate, Finish, Chain, Get, Release, Tick, Line, Start, Stop, Wait, Set, Clear}
 use Rattle.scheduler.specs.Tick.{ticked, dueFor}
 use Rattle.scheduler.specs.Call.{caller, checksOf}
-use Rattle.scheduler.specs.Scheduler.{begins, dispatched, lossesOf, step, stepBy, LostLine, fresh, seen, after}
+use Rattle.scheduler.specs.Scheduler.{begins, dispatched, lossesOf, step, stepBy, LostLine, fresh, seen, after, leaves, freshBy, seenBy, afterBy}
 use Rattle.scheduler.specs.Entries.{entryOf, entriesOf, entryAt}
-use Rattle.scheduler.specs.History.{AcceptedIn, next, NoStart, NoStop, tickCount, History, dueMark, DueAt}
+use Rattle.scheduler.specs.History.{AcceptedIn, Ends, next, NoStart, NoStop, tickCount, History, dueMark, DueAt}
+use Rattle.scheduler.proofs.Bits as Bits
 use Rattle.scheduler.proofs.Choice as Choice
 use Rattle.scheduler.proofs.Checks as Checks
 use Rattle.scheduler.proofs.Effects as Effects
 use Rattle.scheduler.proofs.Refusals as Refusals
 use Rattle.scheduler.proofs.Requests as Requests
+use Rattle.scheduler.proofs.Users as Users
 use Rattle.scheduler.proofs.Losses as Losses
+use Rattle.scheduler.proofs.Ties as Ties
 use Rattle.scheduler.proofs.Tables as Tables
 use Rattle.scheduler.proofs.Dues as Dues
 use Rattle.scheduler.proofs.Entries as Entries
@@ -63,6 +67,36 @@ runner-nobody c s = Choice.chosen-nobody byHolding refl c (s .bodies)
 pub runner-someone : (c : Config) (s : State) (k : ℕ) → competes (bodyOf s k .phase) ≡ true → 1 ≤ priorityOf c k → isNobody (runner c s) ≡ false
 runner-someone c s = Choice.chosen-someone byHolding refl c (s .bodies)
 
+-- The rule always decides: of two that may run one goes before the other, after every list of events, and where the choice after the next
+-- event is made
+pub always-decided : (c : Config) → Configuration.Accepted c → Configuration.Shaped c → (es : List Event) (i j : ℕ) → i < c .bodies → j < c .bodies → i ≢ j
+    → competes (bodyOf (after c (fresh c) es) i .phase) ≡ true
+    → competes (bodyOf (after c (fresh c) es) j .phase) ≡ true
+    → (goesBefore byHolding (candidateOf c (after c (fresh c) es) i) (candidateOf c (after c (fresh c) es) j) ≡ true)
+    ⊎ (goesBefore byHolding (candidateOf c (after c (fresh c) es) j) (candidateOf c (after c (fresh c) es) i) ≡ true)
+always-decided = Ties.decided-after
+
+pub next-decided : (c : Config) → Configuration.Accepted c → Configuration.Shaped c → (es : List Event) (e : Event) (i j : ℕ) → i < c .bodies → j < c .bodies
+    → i ≢ j
+    → competes (bodyOf (leaves c (after c (fresh c) es) e) i .phase) ≡ true
+    → competes (bodyOf (leaves c (after c (fresh c) es) e) j .phase) ≡ true
+    → (goesBefore byHolding (candidateOf c (leaves c (after c (fresh c) es) e) i) (candidateOf c (leaves c (after c (fresh c) es) e) j) ≡ true)
+    ⊎ (goesBefore byHolding (candidateOf c (leaves c (after c (fresh c) es) e) j) (candidateOf c (leaves c (after c (fresh c) es) e) i) ≡ true)
+next-decided = Ties.decided-at
+
+-- Where no task is extended, document 01's rule for ties, "on equal priorities the one that already began goes first", gives the same: all that
+-- is seen of every list of events, and the state after it. So nothing that was right before has moved.
+pub old-rule : (c : Config) → Configuration.Accepted c → Configuration.Shaped c → ((b : ℕ) → isExtended c b ≡ false) → (es : List Event)
+    → (seenBy byBegun c (freshBy byBegun c) es ≡ seen c (fresh c) es) × (afterBy byBegun c (freshBy byBegun c) es ≡ after c (fresh c) es)
+old-rule = Ties.old-rule
+
+pub runner-began : (c : Config) → Configuration.Accepted c → Configuration.Shaped c → ((b : ℕ) → isExtended c b ≡ false) → (es : List Event) (k : ℕ)
+    → competes (bodyOf (after c (fresh c) es) k .phase) ≡ true
+    → isStarted (bodyOf (after c (fresh c) es) k .phase) ≡ true
+    → current c k (bodyOf (after c (fresh c) es) k) ≡ runner c (after c (fresh c) es) .level
+    → runner c (after c (fresh c) es) .began ≡ true
+runner-began = Ties.runner-began
+
 -- a Get raises the current priority to the ceiling, and the Release of the same resource undoes it
 pub current-gets : (c : Config) (i r : ℕ) (b : Body) → current c i (gets r b) ≡ max (ceiling c r) (current c i b)
 current-gets = Choice.current-gets
@@ -79,7 +113,7 @@ pub record EventTable (c : Config) (s : State) : Type 0 where
   pub one-activate : (t : ℕ) → statuses c s (Activate t) ≡ 2 ∷ 3 ∷ 4 ∷ []
   pub two-finish : statuses c s Finish ≡ 2 ∷ 6 ∷ []
   pub three-chain : (t : ℕ) → statuses c s (Chain t) ≡ 2 ∷ 3 ∷ 6 ∷ 4 ∷ []
-  pub four-get : (r : ℕ) → statuses c s (Get r) ≡ 2 ∷ 3 ∷ 1 ∷ []
+  pub four-get : (r : ℕ) → statuses c s (Get r) ≡ 2 ∷ 3 ∷ 33 ∷ 1 ∷ []
   pub five-release : (r : ℕ) → statuses c s (Release r) ≡ 2 ∷ 3 ∷ 5 ∷ []
   pub six-tick : statuses c s Tick ≡ []
   pub seven-line : (i : ℕ) → statuses c s (Line i) ≡ 3 ∷ 4 ∷ []
@@ -157,8 +191,17 @@ pub activated-suspended : (c : Config) (s : State) (t : ℕ) → AcceptedIn c s 
 unfolding stepBy
 activated-suspended c s t a = Checks.activate-passed c s t a .2
 
+-- "The begun mark is 1 exactly if this event made a body begin from its start; a resumed body gives 0": a body that has begun, waiting or not,
+-- begins again only where the event is its own accepted Finish or Chain
+pub begins-after-end : (c : Config) (s : State) (i : ℕ) → hasBegun (bodyOf s i .phase) ≡ true
+    → (e : Event)
+    → step c s e .seen .begun ≡ 1
+    → step c s e .seen .runner ≡ i
+    → Ends e × (caller c s ≡ i) × AcceptedIn c s e
+begins-after-end = Requests.begins-after-end
+
 -- "A started ISR's second request .. begins only after it has finished": where a started ISR begins, the event is its own accepted Finish
-pub begins-after-finish : (c : Config) (s : State) (i : ℕ) → isIsr c i ≡ true → isStarted (bodyOf s i .phase) ≡ true
+pub begins-after-finish : (c : Config) (s : State) (i : ℕ) → hasBegun (bodyOf s i .phase) ≡ true → isIsr c i ≡ true
     → (e : Event)
     → step c s e .seen .begun ≡ 1
     → step c s e .seen .runner ≡ i
@@ -168,6 +211,24 @@ begins-after-finish = Requests.begins-after-finish
 -- "requests already waiting stay": a Stop changes no body
 pub stop-bodies : (c : Config) (es : List Event) (t : ℕ) → step c (after c (fresh c) es) (Stop t) .state .bodies ≡ after c (fresh c) es .bodies
 stop-bodies c es t = Requests.stop-bodies c (after c (fresh c) es) t (Refusals.settled-after c es (fresh c) (Refusals.settled-fresh c))
+
+-- event bits, each bit by itself: a Set sets those of its mask, a Clear clears them, and one waited bit that is set suffices
+pub with-bit : (bits w i : ℕ) → bitSet (withBits bits w) i ≡ bitSet bits i || bitSet w i
+with-bit = Bits.with-bit
+
+pub without-bit : (bits w i : ℕ) → bitSet (withoutBits bits w) i ≡ bitSet bits i && not (bitSet w i)
+without-bit = Bits.without-bit
+
+pub any-set : (bits w : ℕ) → (anySet bits w ≡ false) ↔ ((i : ℕ) → bitSet bits i && bitSet w i ≡ false)
+any-set = Bits.any-set
+
+-- "Wait on mask 0 is never resumed"
+pub mask-zero-waits : (bits : ℕ) → resumed bits (waiting 0) ≡ waiting 0
+mask-zero-waits = Bits.mask-zero-waits
+
+-- in every state that the fresh start leads to, whoever holds a resource is one of its declared users: Release needs no status for it
+pub held-by-user : (c : Config) (es : List Event) (i r : ℕ) → among r (bodyOf (after c (fresh c) es) i .held) ≡ true → isUser c r i ≡ true
+held-by-user c es = Users.declared-after c es (fresh c) (Users.declared-fresh c)
 
 -- losses come from due entries and counted lost lines: no other event changes one, and what is seen of them is the state after the event
 pub losses-call : (c : Config) (s : State) (e : Event) → e ≢ Tick → ((i : ℕ) → LostLine c s e i → ⊥)

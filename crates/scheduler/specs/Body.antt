@@ -113,6 +113,10 @@ loses b = losing 1 b
 abbrev pub activatedByEntry : Body → Body
 activatedByEntry b = cond (isSuspended (b .phase)) (activated b) (loses b)
 
+-- Clear: those of w are cleared
+abbrev pub clears : ℕ → Body → Body
+clears w b = record { phase = b .phase; pending = b .pending; held = b .held; losses = b .losses; bits = withoutBits (b .bits) w }
+
 -- "Wait on a bit already set goes on at once"; else the runner waits for one of the bits of w
 abbrev pub waits : ℕ → Body → Body
 waits w b = cond (anySet (b .bits) w) b (become (waiting w) b)
@@ -134,7 +138,3 @@ receives w b =
       losses = b .losses;
       bits = withBits (b .bits) w;
     }
-
--- Clear: those of w are cleared
-abbrev pub clears : ℕ → Body → Body
-clears w b = record { phase = b .phase; pending = b .pending; held = b .held; losses = b .losses; bits = withoutBits (b .bits) w }

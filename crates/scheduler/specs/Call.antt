@@ -13,8 +13,8 @@ use mathlib.Core.Bool.{Bool, true, false, cond, not, _&&_, _||_}
 use mathlib.Core.List.{List, [], _∷_}
 use lib.Dec.{ltb, leb, eqb}
 use Rattle.config.specs.declared.Config.{Config}
-use Rattle.config.specs.Meaning.{countsLines, isTask, isIsr, isExtended, priorityOf, ceiling, smallestOffset}
-use Rattle.scheduler.specs.Status.{Check, callLevel, noSuch, limitReached, access, noFunction, holdsResource, wrongState, badDelay, _gives_, firstGiven}
+use Rattle.config.specs.Meaning.{countsLines, isTask, isIsr, isExtended, isUser, smallestOffset}
+use Rattle.scheduler.specs.Status.{Check, callLevel, noSuch, limitReached, access, noFunction, holdsResource, wrongState, badDelay, notUser, _gives_, firstGiven}
 use Rattle.scheduler.specs.Body.{Phase, suspended, ready, started, waiting, isSuspended, Body, holds, activated, finished, requested, gets, releases, loses, waits, receives, clears}
 use Rattle.scheduler.specs.Choice.{Candidate, isNobody}
 use Rattle.scheduler.specs.State.{State, stopped, running, isRunning, bodyOf, tableOf, changing, withTable, runner, heldIn}
@@ -54,7 +54,8 @@ checksFor c k s (Chain t) =
 checksFor c k s (Get r) =
     (isNobody k gives callLevel) ∷
     (leb (c .resources) r gives noSuch) ∷
-    (heldIn r (s .bodies) || ltb (ceiling c r) (priorityOf c (k .number)) gives access) ∷
+    (not (isUser c r (k .number)) gives notUser) ∷
+    (heldIn r (s .bodies) gives access) ∷
     []
 checksFor c k s (Release r) =
     (isNobody k gives callLevel) ∷
@@ -75,10 +76,7 @@ checksFor c k s (Stop t) =
     (not (isRunning (tableOf s t)) gives noFunction) ∷
     []
 checksFor c k s (Wait w) =
-    (isNobody k gives callLevel) ∷
-    (not (isExtended c (k .number)) gives access) ∷
-    (holds (bodyOf s (k .number) .held) gives holdsResource) ∷
-    []
+    (isNobody k gives callLevel) ∷ (not (isExtended c (k .number)) gives access) ∷ (holds (bodyOf s (k .number) .held) gives holdsResource) ∷ []
 checksFor c k s (Set t w) =
     (isNobody k gives callLevel) ∷
     (not (isTask c t) gives noSuch) ∷

@@ -1,6 +1,6 @@
 -- A table's d and n as demand 3 words them: "counted from the table's last accepted start until its next accepted stop".
 --
---   AcceptedIn c s e        the event e, met in the state s, is accepted
+--   AcceptedIn c s e        the event e, met in the state s, is accepted; Ends e: it ends its caller
 --   NoStart c t s es      of the events es from the state s on, none is an accepted Start of the table t; NoStop: Stop
 --   tickCount es            how many of es are Ticks
 --   History c t es x      what the events es from the fresh start say of the table t is x
@@ -10,6 +10,7 @@
 -- Main laws: `table-history`, `due-exactly` (proofs/Theorems.antt). Assumes nothing.
 use Prim.Native.Nat.{ℕ, suc, _+_}
 use mathlib.Core.Path.{_≡_}
+use mathlib.Core.Logic.{_⊎_}
 use mathlib.Core.Bool.{Bool, true, false, cond}
 use mathlib.Core.List.{List, [], _∷_, _++_, map}
 use lib.ListN.{getD}
@@ -17,12 +18,16 @@ use Rattle.config.specs.declared.Config.{Config}
 use Rattle.cell.specs.Due.{due}
 use Rattle.scheduler.specs.Status.{done}
 use Rattle.scheduler.specs.State.{Table, stopped, running, State}
-use Rattle.scheduler.specs.Event.{Event, Tick, Start, Stop, isTick}
+use Rattle.scheduler.specs.Event.{Event, Finish, Chain, Tick, Start, Stop, isTick}
 use Rattle.scheduler.specs.Scheduler.{Seen, step, fresh, after}
 use Rattle.scheduler.specs.Entries.{Entry}
 
 abbrev pub AcceptedIn : Config → State → Event → Type 0
 AcceptedIn c s e = step c s e .seen .status ≡ done
+
+-- the event ends its caller's body
+abbrev pub Ends : Event → Type 0
+Ends e = (e ≡ Finish) ⊎ ((t : ℕ) × (e ≡ Chain t))
 
 -- the state that the event e leaves
 abbrev pub next : Config → State → Event → State

@@ -9,7 +9,7 @@ use mathlib.Core.List.{List, [], _∷_, _++_}
 abbrev pub done : ℕ
 done = 0
 
--- E_OS_ACCESS: "r is held by anyone, or the runner's own priority is above the ceiling"; for Wait, Clear and Set "not extended"
+-- E_OS_ACCESS: "r is held by anyone"; for Wait, Clear and Set "not extended"
 abbrev pub access : ℕ
 access = 1
 
@@ -40,6 +40,10 @@ wrongState = 7
 -- E_OS_VALUE: "d is 0, or d plus the smallest offset is above 65,535"
 abbrev pub badDelay : ℕ
 badDelay = 8
+
+-- "not a declared user": a number of document 02's own, OSEK has none for it
+abbrev pub notUser : ℕ
+notUser = 33
 
 -- a status with the test that gives it
 pub record Check : Type 0 where

@@ -1,4 +1,4 @@
--- What the code's `|`, `&` and `!` make of one bit: `or-with` and `and-without`; and what `|` and `&` make of every bit: `or-bit`, `and-bits`.
+-- What the code's `|`, `&` and `!` make of one bit: `or-with` and `and-without`.
 -- Assumes nothing.
 use Prim.Native.Nat.{ℕ, zero, suc, _+_, _-_, _*_, _/_, _%_, _^_, max, min, _≤_, _<_}
 use mathlib.Core.Path.{_≡_, refl, ap, _∙_}
@@ -10,6 +10,7 @@ use lib.Arith.{lt-one}
 use lib.Bits.{bitAnd, bitOr, and-step, and-shr, and-high, or-step, or-shr, or-add-and}
 use lib.Dec.{eqb, lit<}
 use lib.Pow.{pow-lt, shl-exact}
+use Rattle.number.proofs.Bits.{and-not}
 use Rattle.word.specs.Word.{ranks, with, without}
 use Rattle.word.proofs.Bit.{bit}
 use Rattle.word.proofs.Rank.{has-set, has-clear, with-elim, without-elim}
@@ -20,19 +21,6 @@ and-bit w r = ap (bitAnd w) worth ∙ and-high w 1 r
   where
     worth : 2 ^ r ≡ 2 ^ (1 + r) - 2 ^ r
     worth = rw one-add (omega (arith, pow-suc 2 r))
-
--- a number of k bits is what it shares with another, and what it shares with that one's complement
-and-not : (k w a : ℕ) → w < 2 ^ k → a < 2 ^ k → bitAnd w (2 ^ k - 1 - a) + bitAnd w a ≡ w
-and-not zero w a hw ha = simp (lt-one hw)
-and-not (suc k) w a hw ha =
-    rw (and-step w (2 ^ suc k - 1 - a), and-step w a, half, low)
-    (omega (arith, and-not k (w / 2) (a / 2) (omega (arith, pow-suc 2 k)) (omega (arith, pow-suc 2 k))))
-  where
-    half : (2 ^ suc k - 1 - a) / 2 ≡ 2 ^ k - 1 - a / 2
-    half = omega (arith, pow-suc 2 k)
-
-    low : (2 ^ suc k - 1 - a) % 2 ≡ 1 - a % 2
-    low = omega (arith, pow-suc 2 k)
 
 module _ (w r : ℕ) (rank : r < ranks) where
   -- 1 shifted to a rank stays in the word
@@ -55,39 +43,3 @@ module _ (w r : ℕ) (rank : r < ranks) where
     where
       whole : bitAnd w (2 ^ ranks - 1 - 2 ^ r) + bitAnd w (2 ^ r) ≡ w
       whole = and-not ranks w (2 ^ r) h (pow-lt rank)
-
--- a bit of an `|` is set exactly if one of the two is
-pub or-bit : (w v i : ℕ) → eqb (bitOr w v / 2 ^ i % 2) 1 ≡ eqb (w / 2 ^ i % 2) 1 || eqb (v / 2 ^ i % 2) 1
-or-bit w v i =
-    ap (λ (n : ℕ). eqb (n % 2) 1) (or-shr w v i ∙ or-step (w / 2 ^ i) (v / 2 ^ i)) ∙ low (bitOr (w / 2 ^ i / 2) (v / 2 ^ i / 2))
-    ∙ each (w / 2 ^ i % 2) (v / 2 ^ i % 2) (omega arith) (omega arith)
-  where
-    low : (n : ℕ) → eqb ((n * 2 + max (w / 2 ^ i % 2) (v / 2 ^ i % 2)) % 2) 1 ≡ eqb (max (w / 2 ^ i % 2) (v / 2 ^ i % 2)) 1
-    low n = let e : (n * 2 + max (w / 2 ^ i % 2) (v / 2 ^ i % 2)) % 2 ≡ max (w / 2 ^ i % 2) (v / 2 ^ i % 2) = omega arith in ap (λ (x : ℕ). eqb x 1) e
-
-    each : (x y : ℕ) → x ≤ 1 → y ≤ 1 → eqb (max x y) 1 ≡ eqb x 1 || eqb y 1
-    each zero zero h k = refl
-    each zero (suc zero) h k = refl
-    each (suc zero) zero h k = refl
-    each (suc zero) (suc zero) h k = refl
-    each (suc (suc x)) y h k = absurd (omega arith)
-    each zero (suc (suc y)) h k = absurd (omega arith)
-    each (suc zero) (suc (suc y)) h k = absurd (omega arith)
-
--- and of an `&` exactly if both are
-pub and-bits : (w v i : ℕ) → eqb (bitAnd w v / 2 ^ i % 2) 1 ≡ eqb (w / 2 ^ i % 2) 1 && eqb (v / 2 ^ i % 2) 1
-and-bits w v i =
-    ap (λ (n : ℕ). eqb (n % 2) 1) (and-shr w v i ∙ and-step (w / 2 ^ i) (v / 2 ^ i)) ∙ low (bitAnd (w / 2 ^ i / 2) (v / 2 ^ i / 2))
-    ∙ each (w / 2 ^ i % 2) (v / 2 ^ i % 2) (omega arith) (omega arith)
-  where
-    low : (n : ℕ) → eqb ((n * 2 + min (w / 2 ^ i % 2) (v / 2 ^ i % 2)) % 2) 1 ≡ eqb (min (w / 2 ^ i % 2) (v / 2 ^ i % 2)) 1
-    low n = let e : (n * 2 + min (w / 2 ^ i % 2) (v / 2 ^ i % 2)) % 2 ≡ min (w / 2 ^ i % 2) (v / 2 ^ i % 2) = omega arith in ap (λ (x : ℕ). eqb x 1) e
-
-    each : (x y : ℕ) → x ≤ 1 → y ≤ 1 → eqb (min x y) 1 ≡ eqb x 1 && eqb y 1
-    each zero zero h k = refl
-    each zero (suc zero) h k = refl
-    each (suc zero) zero h k = refl
-    each (suc zero) (suc zero) h k = refl
-    each (suc (suc x)) y h k = absurd (omega arith)
-    each zero (suc (suc y)) h k = absurd (omega arith)
-    each (suc zero) (suc (suc y)) h k = absurd (omega arith)

@@ -4,10 +4,10 @@ use Prim.Native.Nat.{ℕ, _≤_, _<_, max}
 use mathlib.Core.Path.{_≡_, refl, sym, _∙_}
 use mathlib.Core.Bool.{Bool, true, false, cond, not, _&&_, _||_}
 use mathlib.Core.List.{List}
-use lib.Dec.{ltb, eqb}
+use lib.Dec.{eqb}
 use lib.ListN.{getD}
 use borrow.Author.Tests.{le-leb, lt-leb, eq-eqb, ne-eqb}
-use Rattle.scheduler.specs.Status.{callLevel, noSuch, limitReached, access, noFunction, holdsResource, firstGiven}
+use Rattle.scheduler.specs.Status.{callLevel, noSuch, limitReached, access, noFunction, holdsResource, notUser, firstGiven}
 use Rattle.word.specs.Word.{has, with, without}
 use Rattle.stack.specs.declared.Row.{Row}
 use Rattle.stack.specs.Stack.{topRow, pushRow, popRow}
@@ -112,31 +112,36 @@ module _ (ws : ℕ) (trs ps : List ℕ) (m : Model) (t : ℕ) {a : Bool} (calls 
             rw (sym calls ∙ runs, ← rank, ne-eqb r noRank some, ← holder, ne-eqb h (m .core .runner) free, sym test ∙ e, asked)
 
 -- Get r
-module _ (n : ℕ) (cs ps : List ℕ) (m : Model) (r : ℕ) where
-  pub get-idle : m .core .runner ≡ noRank → refusedWith m callLevel ≡ get n cs ps m r
+module _ (n : ℕ) (us cs : List ℕ) (m : Model) (r : ℕ) where
+  pub get-idle : m .core .runner ≡ noRank → refusedWith m callLevel ≡ get n us cs m r
   unfolding get firstGiven
   get-idle h = rw (eq-eqb (m .core .runner) noRank h)
 
   module _ (runs : m .core .runner ≡ noRank → ⊥) where
-    pub get-none : n ≤ r → refusedWith m noSuch ≡ get n cs ps m r
+    pub get-none : n ≤ r → refusedWith m noSuch ≡ get n us cs m r
     unfolding get firstGiven
     get-none h = rw (ne-eqb (m .core .runner) noRank runs, le-leb n r h)
 
-    module _ (some : r < n) {l q : ℕ} (ceil : l ≡ getD cs r 0) (own : q ≡ getD ps (m .core .runner) 0)
-        {b : Bool} (test : b ≡ has (m .held) r || ltb l q) where
-      pub get-withheld : b ≡ true → refusedWith m access ≡ get n cs ps m r
+    module _ (some : r < n) {w : ℕ} (word : w ≡ getD us r 0) {a : Bool} (user : a ≡ has w (m .core .runner)) where
+      pub get-undeclared : a ≡ false → refusedWith m notUser ≡ get n us cs m r
       unfolding get firstGiven
-      get-withheld h = rw (ne-eqb (m .core .runner) noRank runs, lt-leb n r some, ← ceil, ← own, sym test ∙ h)
+      get-undeclared e = rw (ne-eqb (m .core .runner) noRank runs, lt-leb n r some, ← word, sym user ∙ e)
 
-      pub get-done : b ≡ false → {v : ℕ} → v ≡ max l (m .core .level)
-          → {w : ℕ} → w ≡ with (m .held) r
-          → {xs : Row} → xs ≡ pushRow (m .resource) r
-          → {hs : Row} → hs ≡ pushRow (m .holder) (m .core .runner)
-          → {vs : Row} → vs ≡ pushRow (m .raised) v
-          → doneWith (withSlots m v w xs hs vs) false ≡ get n cs ps m r
-      unfolding get firstGiven
-      get-done h level x₁ x₂ x₃ x₄ =
-          rw (ne-eqb (m .core .runner) noRank runs, lt-leb n r some, ← ceil, ← own, sym test ∙ h, x₁, x₂, x₃, x₄, level)
+      module _ (declared : a ≡ true) {b : Bool} (test : b ≡ has (m .held) r) where
+        pub get-held : b ≡ true → refusedWith m access ≡ get n us cs m r
+        unfolding get firstGiven
+        get-held h = rw (ne-eqb (m .core .runner) noRank runs, lt-leb n r some, ← word, sym user ∙ declared, sym test ∙ h)
+
+        pub get-done : b ≡ false → {l : ℕ} → l ≡ getD cs r 0
+            → {v : ℕ} → v ≡ max l (m .core .level)
+            → {q : ℕ} → q ≡ with (m .held) r
+            → {xs : Row} → xs ≡ pushRow (m .resource) r
+            → {hs : Row} → hs ≡ pushRow (m .holder) (m .core .runner)
+            → {vs : Row} → vs ≡ pushRow (m .raised) v
+            → doneWith (withSlots m v q xs hs vs) false ≡ get n us cs m r
+        unfolding get firstGiven
+        get-done h ceil level x₁ x₂ x₃ x₄ =
+            rw (ne-eqb (m .core .runner) noRank runs, lt-leb n r some, ← word, sym user ∙ declared, sym test ∙ h, x₁, x₂, x₃, x₄, level, ceil)
 
 -- Release r
 module _ (n : ℕ) (ps : List ℕ) (m : Model) (r : ℕ) where

@@ -54,7 +54,7 @@ module _ (c : Config) (p : Plan) (m : Model) (e : Event) where
   unfolding callOf statusOf effectOf refusalOf chain
   step-3 h = rw h
 
-  pub step-4 : e .code ≡ 4 → machineStep c p m (callOf e) ≡ get (c .resources) (p .ceiling) (p .priority) m (e .first)
+  pub step-4 : e .code ≡ 4 → machineStep c p m (callOf e) ≡ get (c .resources) (p .users) (p .ceiling) m (e .first)
   unfolding callOf statusOf effectOf refusalOf get
   step-4 h = rw h
 

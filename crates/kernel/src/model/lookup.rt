@@ -19,3 +19,9 @@ pub fn short_at(row: &[u16], i: usize) -> u16
 {
     if i < row.len() { row[i] } else { 0 }
 }
+
+pub fn word_at(row: &[u32], i: usize) -> u32
+    ensures { λ r. ⌜ r ≡ getD (now (row .entry)) i 0 ⌝ }
+{
+    if i < row.len() { row[i] } else { 0 }
+}

@@ -1,10 +1,9 @@
 // The held resources, in the order taken: Get and Release.
 ghost use mathlib.Core.Path.{_≡_};
-ghost use mathlib.Core.Bool.{cond, _&&_, _||_};
+ghost use mathlib.Core.Bool.{cond, _&&_};
 ghost use Prim.Native.Nat.{max};
-ghost use lib.Dec.{ltb, eqb};
+ghost use lib.Dec.{eqb};
 ghost use lib.ListN.{getD};
-ghost use Rattle.word.specs.Word.{has};
 ghost use Rattle.stack.specs.Stack.{topRow, secondRow};
 ghost use Rattle.machine.specs.Events.{get, release};
 ghost use Rattle.kernel.specs.View.{view, outcomeOf};
@@ -15,9 +14,11 @@ use super::Model;
 use super::NO_FUNCTION;
 use super::NO_RANK;
 use super::NO_SUCH;
+use super::NOT_USER;
 use super::Outcome;
 use super::arbiter::arbitrated;
 use super::lookup::byte_at;
+use super::lookup::word_at;
 use stack::Row;
 use word::has;
 use word::with;
@@ -27,11 +28,11 @@ impl Model {
     pub fn get<'a>(
         mut self,
         resources: u8,
+        users: &'a [u32; 16],
         ceiling: &'a [u8; 16],
-        priority: &'a [u8; 32],
         r: u32,
     ) -> Outcome
-        ensures { λ o. ⌜ o ≡ outcomeOf (get resources (now (ceiling .entry)) (now (priority .entry)) (view self) r) ⌝ }
+        ensures { λ o. ⌜ o ≡ outcomeOf (get resources (now (users .entry)) (now (ceiling .entry)) (view self) r) ⌝ }
     {
         if self.runner == NO_RANK {
             return self.with_status(CALL_LEVEL);
@@ -39,12 +40,13 @@ impl Model {
         if resources as u32 <= r {
             return self.with_status(NO_SUCH);
         }
-        let top = byte_at(ceiling, r as usize, 0);
-        let own = byte_at(priority, self.runner as usize, 0);
-        if withheld(self.held, r, top, own) {
+        if !has(word_at(users, r as usize), self.runner as u32) {
+            return self.with_status(NOT_USER);
+        }
+        if has(self.held, r) {
             return self.with_status(ACCESS);
         }
-        let level = higher(top, self.level);
+        let level = higher(byte_at(ceiling, r as usize, 0), self.level);
         self.held = with(self.held, r);
         self.resource = self.resource.push(r as u8);
         self.holder = self.holder.push(self.runner);
@@ -87,13 +89,6 @@ fn is_latest(resource: Row, holder: Row, rank: u8, r: u32) -> bool
     ensures { λ b. ⌜ b ≡ eqb (topRow holder) rank && eqb (topRow resource) r ⌝ }
 {
     holder.top() == rank && resource.top() as u32 == r
-}
-
-// Whether the resource is held, or its ceiling is below the own priority of who wants it.
-fn withheld(held: u32, r: u32, ceiling: u8, own: u8) -> bool
-    ensures { λ b. ⌜ b ≡ has held r || ltb ceiling own ⌝ }
-{
-    has(held, r) || ceiling < own
 }
 
 // The level of a body without its latest slot: that of the slot below if it is its own, else its own priority.

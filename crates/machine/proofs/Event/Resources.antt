@@ -1,18 +1,18 @@
 -- Get and Release do the same to the model as to the state.
 -- Assumes nothing.
 use Prim.Native.Nat.{ℕ, zero, suc, max, _<_}
-use mathlib.Core.Path.{_≡_, refl, sym, ap, ap₂, _∙_}
+use mathlib.Core.Path.{_≡_, refl, sym, ap, _∙_}
 use mathlib.Core.Bool.{Bool, true, false, true≢false, not, _||_}
 use mathlib.Core.List.{List, [], _∷_, _++_}
 use native.Mathlib.Omega.{arith}
 use borrow.Author.Tests.{eqb-true, leb-false}
-use lib.Dec.{ltb, leb, eqb}
+use lib.Dec.{leb, eqb}
 use lib.ListN.{length, getD, length-set}
 use Rattle.config.specs.declared.Config.{Config}
-use Rattle.config.specs.Meaning.{priorityOf, ceiling}
+use Rattle.config.specs.Meaning.{isUser}
 use Rattle.plan.specs.declared.Plan.{Plan}
 use Rattle.word.specs.Word.{has}
-use Rattle.scheduler.specs.Status.{done, callLevel, noSuch, access, noFunction}
+use Rattle.scheduler.specs.Status.{done, callLevel, noSuch, access, noFunction, notUser}
 use Rattle.scheduler.specs.Body.{Body, competes, gets, releases}
 use Rattle.scheduler.specs.State.{State, among, heldIn, bodyOf}
 use Rattle.scheduler.specs.Call.{nobodyRuns, caller, calling, latestIs, getStatus, releaseStatus, get, release}
@@ -80,7 +80,7 @@ held-at r [] i h a = absurd (omega arith)
 held-at r (b ∷ bs) zero h a = or-left (among r (b .held)) _ a
 held-at r (b ∷ bs) (suc i) h a = or-right (among r (b .held)) _ (held-at r bs i (omega arith) a)
 
-held-by : (r : ℕ) (bs : List Body) → heldIn r bs ≡ true → (i : ℕ) × ((i < length bs) × (among r (at bs i .held) ≡ true))
+pub held-by : (r : ℕ) (bs : List Body) → heldIn r bs ≡ true → (i : ℕ) × ((i < length bs) × (among r (at bs i .held) ≡ true))
 unfolding heldIn
 held-by r [] h = absurd (true≢false (sym h))
 held-by r (b ∷ bs) h =
@@ -120,18 +120,22 @@ module _ (c : Config) (rk : ℕ → ℕ) (bs : List Body) where
       (λ a. (b, (k .0, a)))
       (λ q. slot-by r ns (k .1 .1 .1) q)
 
+-- who holds a resource is in the nest
+pub holder-nested : {c : Config} {rk : ℕ → ℕ} {m : Model} {bs : List Body} {ns : List ℕ} → Tied c rk m bs ns → (r i : ℕ)
+    → among r (at bs i .held) ≡ true → among i ns ≡ true
+holder-nested {bs = bs} {ns = ns} t r i a = go (among i ns) refl
+  where
+    go : (b : Bool) → among i ns ≡ b → among i ns ≡ true
+    go true e = e
+    go false e = absurd (true≢false (sym (rw (t .loose i e) at a) ∙ among-nil r))
+
 -- the machine's flag of a resource says whether anybody holds it
 pub flag-is : {c : Config} {rk : ℕ → ℕ} {m : Model} {bs : List Body} {ns : List ℕ} → Tied c rk m bs ns → (r : ℕ) → has (m .held) r ≡ heldIn r bs
 flag-is {c} {rk} {m} {bs} {ns} t r =
     t .slots .flags r
     ∙ iff-bool (among r (resourcesIn (slotsAlong c rk bs ns))) (heldIn r bs)
     (λ h. let x = slot-by c rk bs r ns (t .nested) h in held-at r bs (x .0) (rw (t .size) (x .1 .0)) (x .1 .1))
-    (λ h. let x = held-by r bs h in slot-of c rk bs r (x .0) ns (inside (x .0) (among (x .0) ns) refl (x .1 .1)) (x .1 .1))
-  where
-    -- who holds something is in the nest
-    inside : (i : ℕ) (b : Bool) → among i ns ≡ b → among r (at bs i .held) ≡ true → among i ns ≡ true
-    inside i true e a = e
-    inside i false e a = absurd (true≢false (sym (rw (t .loose i e) at a) ∙ among-nil r))
+    (λ h. let x = held-by r bs h in slot-of c rk bs r (x .0) ns (holder-nested t r (x .0) (x .1 .1)) (x .1 .1))
 
 -- the latest of a list of held resources
 latest-split : (r : ℕ) (rs : List ℕ) → latestIs r rs ≡ true → (q : List ℕ) × (rs ≡ r ∷ q)
@@ -144,17 +148,17 @@ module _ {c : Config} {p : Plan} {rk : ℕ → ℕ} (fit : Fitted c p rk) {m : M
   bs = s .bodies
 
   -- Get
-  get-status : (r : ℕ) → Machine.getStatus (c .resources) (p .ceiling) (p .priority) m r ≡ getStatus c s r
+  get-status : (r : ℕ) → statusOf c p m (Get r) ≡ getStatus c s r
+  unfolding statusOf
   get-status r =
       by-runner fit sim
       (λ i n. first-same (idles m) (nobodyRuns c s) callLevel _ _ (i ∙ sym n) (λ h. absurd (true≢false (sym n ∙ h))))
       (λ b ns k.
       first-same (idles m) (nobodyRuns c s) callLevel _ _ (k .not-idle ∙ sym (k .somebody))
       (λ _. first-same (leb (c .resources) r) (leb (c .resources) r) noSuch _ _ refl
-      (λ h. first-same (has (m .held) r || ltb (getD (p .ceiling) r 0) (getD (p .priority) (m .core .runner) 0)) (heldIn r bs || ltb (ceiling c r) (priorityOf c (caller c s))) access _ _
-      (ap₂ (λ (x y : Bool). x || y) (flag-is (sim .tied) r)
-      (ap₂ ltb (fit .ceiling-at r (leb-false (c .resources) r h)) (rw (k .rank) (fit .priority-at b (k .exists)) ∙ ap (priorityOf c) (sym (k .calls)))))
-      (λ _. refl))))
+      (λ h. first-same (not (has (getD (p .users) r 0) (m .core .runner))) (not (isUser c r (caller c s))) notUser _ _
+      (ap not (ap (has (getD (p .users) r 0)) (k .rank) ∙ fit .users-at r b (leb-false (c .resources) r h) (k .exists) ∙ ap (isUser c r) (sym (k .calls))))
+      (λ _. first-same (has (m .held) r) (heldIn r bs) access _ _ (flag-is (sim .tied) r) (λ _. refl)))))
 
   -- Get changes no phase
   get-phase {ℓ} : {A : Type ℓ} (f : Body → A) → ((x : Body) (r : ℕ) → f (gets r x) ≡ f x) → (r i : ℕ) → f (at (get (caller c s) r s .bodies) i) ≡ f (at bs i)
@@ -163,7 +167,7 @@ module _ {c : Config} {p : Plan} {rk : ℕ → ℕ} (fit : Fitted c p rk) {m : M
   pub agrees-get : (r : ℕ) → Agrees c p rk m s (Get r)
   unfolding statusOf effectOf refusalOf stepBy
   agrees-get r =
-      agrees-attempt fit sim (Get r) (Machine.getStatus (c .resources) (p .ceiling) (p .priority) m r) (getStatus c s r)
+      agrees-attempt fit sim (Get r) (statusOf c p m (Get r)) (getStatus c s r)
       (doneWith (getting r (max (getD (p .ceiling) r 0) (m .core .level)) m) false) (get (caller c s) r s) refl refl
       (no-match fit sim long) (get-status r)
       (λ z. let a = get-passed c s r z in
@@ -171,7 +175,7 @@ module _ {c : Config} {p : Plan} {rk : ℕ → ℕ} (fit : Fitted c p rk) {m : M
       (λ i n. absurd (true≢false (sym n ∙ a .0)))
       (λ b ns k.
       let t : Tied c rk (getting r (max (getD (p .ceiling) r 0) (m .core .level)) m) (get (caller c s) r s .bodies) (b ∷ ns) =
-      rw (k .calls) (get-tied fit (k .tied) r (a .1) (flag-is (sim .tied) r ∙ a .2)) in
+      rw (k .calls) (get-tied fit (k .tied) r (a .1) (flag-is (sim .tied) r ∙ a .3)) in
       record {
         status = refl;
         arb = calm-arbitrated fit (get (caller c s) r s) done t

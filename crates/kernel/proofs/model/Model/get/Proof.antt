@@ -1,8 +1,9 @@
 -- `get` meets its contract, case by case in the order of its checks.
 -- Assumes nothing.
 use mathlib.Core.Path.{ap, _∙_}
+use borrow.Author.Tests.{not-true, not-false}
 use Rattle.kernel.specs.View.{view, outcomeOf}
-use Rattle.kernel.proofs.Methods.Events.{get-idle, get-none, get-withheld, get-done}
+use Rattle.kernel.proofs.Methods.Events.{get-idle, get-none, get-undeclared, get-held, get-done}
 use borrow.Author.Needs.{needs}
 use Rattle.kernel.proofs.model.Model.get.Statement.{statement}
 use Rattle.kernel.proofs.model.Model.get.Tie as tie
@@ -13,7 +14,7 @@ with-status-requires c κs = search needs
 returns : tie.Need-returns
 returns c =
     let c₁ = c .before in let c₂ = c₁ .before .before in let a = c₂ .args in
-    (c .with-status .ensures) ∙ ap outcomeOf (get-idle (a .resources) (a .ceiling .now) (a .priority .now) (view (a .self)) (a .r) (c₁ .if1 .taken))
+    (c .with-status .ensures) ∙ ap outcomeOf (get-idle (a .resources) (a .users .now) (a .ceiling .now) (view (a .self)) (a .r) (c₁ .if1 .taken))
 
 with-status-requires-2 : tie.Need-with-status-requires-2
 with-status-requires-2 c κs = search needs
@@ -21,30 +22,44 @@ with-status-requires-2 c κs = search needs
 returns-2 : tie.Need-returns-2
 returns-2 c =
     let c₁ = c .before in let c₂ = c₁ .before in let c₃ = c₂ .before .before in let a = c₃ .args in
-    (c .with-status2 .ensures) ∙ ap outcomeOf (get-none (a .resources) (a .ceiling .now) (a .priority .now) (view (a .self)) (a .r) (c₂ .if1 .left) (c₁ .if2 .taken))
+    (c .with-status2 .ensures) ∙ ap outcomeOf (get-none (a .resources) (a .users .now) (a .ceiling .now) (view (a .self)) (a .r) (c₂ .if1 .left) (c₁ .if2 .taken))
 
-byte-at-requires : tie.Need-byte-at-requires
-byte-at-requires c κs = search needs
+word-at-requires : tie.Need-word-at-requires
+word-at-requires c κs = search needs
 
-cast-byte-at : tie.Need-cast-byte-at
-cast-byte-at c = search needs
+cast-has : tie.Need-cast-has
+cast-has c = search needs
 
-byte-at-requires-2 : tie.Need-byte-at-requires-2
-byte-at-requires-2 c κs = search needs
-
-withheld-requires : tie.Need-withheld-requires
-withheld-requires c κs = search needs
+has-requires : tie.Need-has-requires
+has-requires c κs = search needs
 
 with-status-requires-3 : tie.Need-with-status-requires-3
 with-status-requires-3 c κs = search needs
 
 returns-3 : tie.Need-returns-3
 returns-3 c =
-    let c₁ = c .before in let c₂ = c₁ .before in let c₃ = c₂ .before in let c₄ = c₃ .before .before .before in
-    let c₅ = c₄ .before .before in let c₆ = c₅ .before in let c₇ = c₆ .before .before in let a = c₇ .args in
+    let c₁ = c .before in let c₂ = c₁ .before in let c₃ = c₂ .before .before in
+    let c₄ = c₃ .before .before in let c₅ = c₄ .before in let c₆ = c₅ .before .before in let a = c₆ .args in
     (c .with-status3 .ensures)
-    ∙ ap outcomeOf (get-withheld (a .resources) (a .ceiling .now) (a .priority .now) (view (a .self)) (a .r) (c₆ .if1 .left) (c₅ .if2 .left)
-    (c₄ .byte-at .ensures) (c₃ .byte-at2 .ensures) (c₂ .withheld .ensures) (c₁ .if3 .taken))
+    ∙ ap outcomeOf (get-undeclared (a .resources) (a .users .now) (a .ceiling .now) (view (a .self)) (a .r) (c₅ .if1 .left) (c₄ .if2 .left)
+    (c₃ .word-at .ensures) (c₂ .has .ensures) (not-true _ (c₁ .if3 .taken)))
+
+has-requires-2 : tie.Need-has-requires-2
+has-requires-2 c κs = search needs
+
+with-status-requires-4 : tie.Need-with-status-requires-4
+with-status-requires-4 c κs = search needs
+
+returns-4 : tie.Need-returns-4
+returns-4 c =
+    let c₁ = c .before in let c₂ = c₁ .before in let c₃ = c₂ .before in let c₄ = c₃ .before in let c₅ = c₄ .before .before in
+    let c₆ = c₅ .before .before in let c₇ = c₆ .before in let c₈ = c₇ .before .before in let a = c₈ .args in
+    (c .with-status4 .ensures)
+    ∙ ap outcomeOf (get-held (a .resources) (a .users .now) (a .ceiling .now) (view (a .self)) (a .r) (c₇ .if1 .left) (c₆ .if2 .left)
+    (c₅ .word-at .ensures) (c₄ .has .ensures) (not-false _ (c₃ .if3 .left)) (c₂ .has2 .ensures) (c₁ .if4 .taken))
+
+byte-at-requires : tie.Need-byte-at-requires
+byte-at-requires c κs = search needs
 
 higher-requires : tie.Need-higher-requires
 higher-requires c κs = search needs
@@ -64,18 +79,18 @@ push-requires-2 c κs = search needs
 push-requires-3 : tie.Need-push-requires-3
 push-requires-3 c κs = search needs
 
-with-status-requires-4 : tie.Need-with-status-requires-4
-with-status-requires-4 c κs = search needs
+with-status-requires-5 : tie.Need-with-status-requires-5
+with-status-requires-5 c κs = search needs
 
-returns-4 : tie.Need-returns-4
-returns-4 c =
+returns-5 : tie.Need-returns-5
+returns-5 c =
     let c₁ = c .before in let c₂ = c₁ .before in let c₃ = c₂ .before in let c₄ = c₃ .before in let c₅ = c₄ .before in
-    let c₆ = c₅ .before in let c₇ = c₆ .before in let c₈ = c₇ .before in let c₉ = c₈ .before .before .before in
-    let c₁₀ = c₉ .before .before in let c₁₁ = c₁₀ .before in let c₁₂ = c₁₁ .before .before in let a = c₁₂ .args in
-    (c .with-status4 .ensures)
-    ∙ ap outcomeOf (get-done (a .resources) (a .ceiling .now) (a .priority .now) (view (a .self)) (a .r) (c₁₁ .if1 .left) (c₁₀ .if2 .left)
-    (c₉ .byte-at .ensures) (c₈ .byte-at2 .ensures) (c₇ .withheld .ensures) (c₆ .if3 .left)
-    (c₅ .higher .ensures) (c₄ .with .ensures) (c₃ .push .ensures) (c₂ .push2 .ensures) (c₁ .push3 .ensures))
+    let c₆ = c₅ .before in let c₇ = c₆ .before .before in let c₈ = c₇ .before in let c₉ = c₈ .before in let c₁₀ = c₉ .before in
+    let c₁₁ = c₁₀ .before .before in let c₁₂ = c₁₁ .before .before in let c₁₃ = c₁₂ .before in let c₁₄ = c₁₃ .before .before in let a = c₁₄ .args in
+    (c .with-status5 .ensures)
+    ∙ ap outcomeOf (get-done (a .resources) (a .users .now) (a .ceiling .now) (view (a .self)) (a .r) (c₁₃ .if1 .left) (c₁₂ .if2 .left)
+    (c₁₁ .word-at .ensures) (c₁₀ .has .ensures) (not-false _ (c₉ .if3 .left)) (c₈ .has2 .ensures) (c₇ .if4 .left)
+    (c₆ .byte-at .ensures) (c₅ .higher .ensures) (c₄ .with .ensures) (c₃ .push .ensures) (c₂ .push2 .ensures) (c₁ .push3 .ensures))
 
 pub get-spec : {M : Type 1} → statement M
-get-spec = tie.close (tie.spec with-status-requires returns with-status-requires-2 returns-2 byte-at-requires cast-byte-at byte-at-requires-2 withheld-requires with-status-requires-3 returns-3 higher-requires with-requires cast-push push-requires push-requires-2 push-requires-3 with-status-requires-4 returns-4)
+get-spec = tie.close (tie.spec with-status-requires returns with-status-requires-2 returns-2 word-at-requires cast-has has-requires with-status-requires-3 returns-3 has-requires-2 with-status-requires-4 returns-4 byte-at-requires higher-requires with-requires cast-push push-requires push-requires-2 push-requires-3 with-status-requires-5 returns-5)

@@ -1,0 +1,179 @@
+-- Who holds a resource while another body runs, and what a Get by a declared user is refused for.
+--
+--   holder-below      the runner's own priority is above the level of every other body that holds a resource
+--   declared-refused  so a declared user is refused a resource only where it holds it itself
+--
+-- and the same of the machine's slots: `slot-below`, `slot-user`, `machine-refused`. All for a model that stands for a state, whatever the kinds of its
+-- bodies. Assumes nothing.
+use Prim.Native.Nat.{ℕ, zero, suc, max, _≤_, _<_}
+use mathlib.Core.Path.{_≡_, refl, sym, ap, _∙_}
+use mathlib.Core.Logic.{_≢_, _⊎_, inl, inr, ⊎-elim}
+use mathlib.Core.Bool.{Bool, true, false, true≢false, cond, _&&_}
+use mathlib.Core.List.{List, [], _∷_, _++_, foldr, map}
+use native.Mathlib.Omega.{arith}
+use borrow.Author.Tests.{lt-leb, ltb-true}
+use lib.Dec.{ltb}
+use lib.ListN.{getD}
+use Rattle.number.proofs.Cases.{by-eq}
+use Rattle.config.specs.declared.Config.{Config}
+use Rattle.config.specs.Meaning.{isUser, priorityOf, ceiling}
+use Rattle.plan.specs.declared.Plan.{Plan}
+use Rattle.plan.proofs.Fitted.{Fitted}
+use Rattle.word.specs.Word.{has}
+use Rattle.stack.specs.Stack.{none, rowBytes}
+use Rattle.scheduler.specs.Status.{done, access, firstGiven}
+use Rattle.scheduler.specs.Body.{Body, current}
+use Rattle.scheduler.specs.Choice.{Candidate}
+use Rattle.scheduler.specs.State.{State, bodyOf, among, heldIn}
+use Rattle.scheduler.specs.Call.{nobodyRuns, caller, calling, getStatus}
+use Rattle.scheduler.specs.Scheduler.{Get, Seen, stepBy}
+use Rattle.scheduler.proofs.Choice.{current-held}
+use Rattle.machine.specs.Model.{Model}
+use Rattle.machine.specs.Events.{idles}
+use Rattle.machine.specs.Machine.{machineStep, runnerOf}
+use Rattle.machine.proofs.Relation.Words.{at}
+use Rattle.machine.proofs.Relation.Slots.{Slot, slotsFor, slotsAlong, resourcesIn, holdersIn, levelsIn}
+use Rattle.machine.proofs.Relation.Nest.{Nested, Seats, by-among, among-head, among-tail, nest-level, nest-exists}
+use Rattle.machine.proofs.Relation.Whole.{Tied, Sim}
+use Rattle.machine.proofs.Arbitration.Choice.{chosen-seated}
+use Rattle.machine.proofs.Arbitration.Dispatch.{runnerOf-is}
+use Rattle.machine.proofs.Change.Hold.{slots-are}
+use Rattle.machine.proofs.Event.Agrees.{by-runner}
+use Rattle.machine.proofs.Event.Resources.{held-by, holder-nested}
+use Rattle.machine.proofs.Whole.Lists.{event-agrees}
+
+-- a declared user's resource exists
+user-exists : (c : Config) (r b : ℕ) → isUser c r b ≡ true → r < c .resources
+user-exists c r b u = ltb-true r (c .resources) (first (ltb r (c .resources)) _ u)
+  where
+    first : (x y : Bool) → x && y ≡ true → x ≡ true
+    first true y e = refl
+    first false y e = absurd (true≢false (sym e))
+
+module _ (c : Config) (rk : ℕ → ℕ) where
+  -- the slot of a resource that body b holds; ys: the slots below its own
+  slot-at : (b r : ℕ) (rs : List ℕ) (ys : List Slot) → among r rs ≡ true
+      → (k : ℕ) × (getD (resourcesIn (slotsFor c rk b rs ++ ys)) k none ≡ r) × (getD (holdersIn (slotsFor c rk b rs ++ ys)) k none ≡ rk b)
+  unfolding slotsFor among
+  slot-at b r [] ys h = absurd (true≢false (sym h))
+  slot-at b r (x ∷ rs) ys h =
+      by-among r x rs h
+      (λ e. (0, sym e, refl))
+      (λ _ q. let k = slot-at b r rs ys q in (suc (k .0), k .1, k .2))
+
+  module _ (bs : List Body) where
+    -- the k-th of the slots ss is none, or that of a body of the nest, which holds its resource and whose level is not below the slot's
+    abbrev SlotOf : List ℕ → List Slot → ℕ → Type 0
+    SlotOf ns ss k =
+        (getD (holdersIn ss) k none ≡ none)
+        ⊎ ((i : ℕ) × (among i ns ≡ true) × (getD (holdersIn ss) k none ≡ rk i) × (getD (levelsIn ss) k none ≤ current c i (at bs i))
+        × (among (getD (resourcesIn ss) k none) (at bs i .held) ≡ true))
+
+    along-slot : (ns : List ℕ) (k : ℕ) → SlotOf ns (slotsAlong c rk bs ns) k
+    unfolding slotsAlong slotsFor
+    along-slot [] k = inl refl
+    along-slot (b ∷ ns) k = go (along-slot ns) (at bs b .held) k (omega arith) (λ _ h. h)
+      where
+        wider : (j : ℕ) → SlotOf ns (slotsAlong c rk bs ns) j → SlotOf (b ∷ ns) (slotsAlong c rk bs ns) j
+        wider j s = ⊎-elim (λ e. inl e) (λ x. inr (x .0, among-tail (x .0) b ns (x .1), x .2, x .3, x .4)) s
+
+        go : ((j : ℕ) → SlotOf ns (slotsAlong c rk bs ns) j) → (rs : List ℕ) (j : ℕ) → foldr max (priorityOf c b) (map (ceiling c) rs) ≤ current c b (at bs b)
+            → ((q : ℕ) → among q rs ≡ true → among q (at bs b .held) ≡ true)
+            → SlotOf (b ∷ ns) (slotsFor c rk b rs ++ slotsAlong c rk bs ns) j
+        go below [] j low own = wider j (below j)
+        go below (r ∷ rs) zero low own = inr (b, among-head b ns, refl, low, own r (among-head r rs))
+        go below (r ∷ rs) (suc j) low own = go below rs j (omega arith) (λ q h. own q (among-tail q r rs h))
+
+module _ {c : Config} {p : Plan} {rk : ℕ → ℕ} (fit : Fitted c p rk) {m : Model} {s : State} (sim : Sim c p rk m s) where
+  -- of the nest all but the first are below the first one's own priority
+  nest-below : (b : ℕ) (ns : List ℕ) → Nested c (s .bodies) (b ∷ ns) → (i : ℕ) → among i (b ∷ ns) ≡ true → i ≢ b
+      → current c i (bodyOf s i) < priorityOf c b
+  unfolding Nested
+  nest-below b ns k i h other =
+      by-among i b ns h
+      (λ e. absurd (other e))
+      (λ _ q. omega (arith, nest-level c (s .bodies) i ns (k .1 .1 .1) q, k .1 .1 .0))
+
+  -- where nobody runs nothing is held, so the law has no case for it
+  pub holder-below : (i r : ℕ) → i ≢ caller c s → among r (bodyOf s i .held) ≡ true → current c i (bodyOf s i) < priorityOf c (caller c s)
+  unfolding among
+  holder-below i r other h = go (sim .nest) (sim .tied)
+    where
+      go : (ns : List ℕ) → Tied c rk m (s .bodies) ns → current c i (bodyOf s i) < priorityOf c (caller c s)
+      go [] t = absurd (true≢false (sym (holder-nested t r i h)))
+      go (b ∷ ns) t =
+          let calls : caller c s ≡ b = ap (λ (x : Candidate). x .number) (chosen-seated fit t (sim .calm) b ns refl) in
+          rw calls (nest-below b ns (t .nested) i (holder-nested t r i h) (λ e. other (e ∙ sym calls)))
+
+  pub ceiling-below : (i r : ℕ) → i ≢ caller c s → among r (bodyOf s i .held) ≡ true → ceiling c r < priorityOf c (caller c s)
+  ceiling-below i r other h = omega (arith, holder-below i r other h, current-held c i (bodyOf s i) r h)
+
+  -- the runner itself holds what a declared user is refused
+  own-held : (r : ℕ) → caller c s < c .bodies → isUser c r (caller c s) ≡ true → heldIn r (s .bodies) ≡ true → among r (calling c s .held) ≡ true
+  own-held r exists user h =
+      let x = held-by r (s .bodies) h in
+      by-eq (x .0) (caller c s)
+      (λ same. rw same at (x .1 .1))
+      (λ other. absurd (omega (arith, ceiling-below (x .0) r other (x .1 .1), fit .user-ceiling r (caller c s) exists user)))
+
+  pub declared-refused : (r : ℕ) → nobodyRuns c s ≡ false → isUser c r (caller c s) ≡ true → getStatus c s r ≢ done
+      → (getStatus c s r ≡ access) × (among r (calling c s .held) ≡ true)
+  unfolding firstGiven
+  declared-refused r somebody user refused = go (heldIn r (s .bodies)) refl
+    where
+      exists : caller c s < c .bodies
+      exists =
+          by-runner fit sim
+          (λ _ n. absurd (true≢false (sym n ∙ somebody)))
+          (λ b ns k. rw (k .calls) (k .exists))
+
+      checked : (b : Bool) → heldIn r (s .bodies) ≡ b → getStatus c s r ≡ cond b access done
+      checked b e = rw (somebody, lt-leb (c .resources) r (user-exists c r (caller c s) user), user, e)
+
+      go : (b : Bool) → heldIn r (s .bodies) ≡ b → (getStatus c s r ≡ access) × (among r (calling c s .held) ≡ true)
+      go true e = (checked true e, own-held r exists user e)
+      go false e = absurd (refused (checked false e))
+
+  -- the machine in its own words: a slot of another holder has a level below the runner's own priority
+  pub slot-below : (k : ℕ) → getD (rowBytes (m .holder)) k none ≢ none → getD (rowBytes (m .holder)) k none ≢ m .core .runner
+      → getD (rowBytes (m .raised)) k none < getD (p .priority) (m .core .runner) 0
+  unfolding slotsAlong Nested Seats
+  slot-below k some other = go (sim .nest) (sim .tied)
+    where
+      go : (ns : List ℕ) → Tied c rk m (s .bodies) ns → getD (rowBytes (m .raised)) k none < getD (p .priority) (m .core .runner) 0
+      go [] t = absurd (some (t .slots .holders .at k))
+      go (b ∷ ns) t =
+          ⊎-elim
+          (λ e. absurd (some (t .slots .holders .at k ∙ e)))
+          (λ x.
+          let low = nest-below b ns (t .nested) (x .0) (x .1) (λ e. other (t .slots .holders .at k ∙ x .2 ∙ ap rk e ∙ sym (t .seats .0))) in
+          rw (t .slots .levels .at k, t .seats .0, fit .priority-at b (t .nested .0)) (omega (arith, low, x .3)))
+          (along-slot c rk (s .bodies) (b ∷ ns) k)
+
+  -- and where only declared users hold resources, the rank of a slot's holder is in the word of its resource
+  pub slot-user : ((i r : ℕ) → among r (bodyOf s i .held) ≡ true → isUser c r i ≡ true) → (k : ℕ) → getD (rowBytes (m .holder)) k none ≢ none
+      → has (getD (p .users) (getD (rowBytes (m .resource)) k none) 0) (getD (rowBytes (m .holder)) k none) ≡ true
+  slot-user declared k some =
+      ⊎-elim
+      (λ e. absurd (some (sim .tied .slots .holders .at k ∙ e)))
+      (λ x.
+      let u = declared (x .0) _ (x .4) in
+      rw (sim .tied .slots .holders .at k, sim .tied .slots .resources .at k, x .2)
+      (fit .users-at _ (x .0) (user-exists c _ (x .0) u) (nest-exists c (s .bodies) (x .0) (sim .nest) (sim .tied .nested) (x .1)) ∙ u))
+      (along-slot c rk (s .bodies) (sim .nest) k)
+
+  -- a Get by a declared user is refused with 1, and a slot of that resource has the runner's rank
+  pub machine-refused : (r : ℕ) → idles m ≡ false → isUser c r (runnerOf p m) ≡ true → machineStep c p m (Get r) .status ≢ done
+      → (machineStep c p m (Get r) .status ≡ access)
+      × ((k : ℕ) × (getD (rowBytes (m .resource)) k none ≡ r) × (getD (rowBytes (m .holder)) k none ≡ m .core .runner))
+  unfolding stepBy
+  machine-refused r somebody user refused =
+      by-runner fit sim
+      (λ i _. absurd (true≢false (sym i ∙ somebody)))
+      (λ b ns k.
+      let same : machineStep c p m (Get r) .status ≡ getStatus c s r = ap (λ (x : Seen). x .status) (event-agrees fit (Get r) sim .seen) in
+      let shown : runnerOf p m ≡ caller c s = runnerOf-is fit m b (k .exists) (k .rank) ∙ sym (k .calls) in
+      let x = declared-refused r (k .somebody) (ap (isUser c r) (sym shown) ∙ user) (λ e. refused (same ∙ e)) in
+      let y = slot-at c rk b r (at (s .bodies) b .held) (slotsAlong c rk (s .bodies) ns) (ap (λ (i : ℕ). among r (bodyOf s i .held)) (sym (k .calls)) ∙ x .1) in
+      let z = slots-are fit (k .tied) in
+      (same ∙ x .0, (y .0, z .resources .at (y .0) ∙ y .1, z .holders .at (y .0) ∙ y .2 ∙ sym (k .rank))))
