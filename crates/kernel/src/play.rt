@@ -88,13 +88,7 @@ pub fn play<'a, 'b>(
                 o = o.model.wait(plan.extended, &plan.priority, e.first);
             }
             11 => {
-                o = o.model.set_event(
-                    plan.extended,
-                    &plan.task,
-                    &plan.priority,
-                    e.first,
-                    e.second,
-                );
+                o = o.model.set_event(plan.extended, &plan.task, &plan.priority, e.first, e.second);
             }
             12 => {
                 o = o.model.clear(plan.extended, e.first);

@@ -33,7 +33,7 @@ seated-requires c κs = search needs
 
 returns : tie.Need-returns
 returns c =
-    let c₁ = c .before in let c₂ = c₁ .before in let c₃ = c₂ .before in let c₄ = c₃ .before .before in let c₅ = c₄ .before in
+    let c₁ = c .before in let c₂ = c₁ .before in let c₃ = c₂ .before in let c₄ = c₃ .before .before in let c₅ = c₄ .before .before in
     let c₆ = c₅ .before .before in let a = c₆ .args in
     (c .seated .ensures)
     ∙ ap outcomeOf (ended-made (a .priority .now) (view (a .self)) (a .request) (c₅ .without .ensures) (c₄ .with .ensures) (c₂ .top .ensures) (c₃ .latest-level .ensures)

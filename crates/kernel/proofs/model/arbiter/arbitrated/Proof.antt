@@ -48,8 +48,8 @@ used-up-requires c κs = search needs
 with-requires : tie.Need-with-requires
 with-requires c κs = search needs
 
-cast-t15 : tie.Need-cast-t15
-cast-t15 c =
+cast-t16 : tie.Need-cast-t16
+cast-t16 c =
     let c₁ = c .before .before .before .before .before .before in let c₂ = c₁ .before in
     omega (arith, winner-le (c₂ .intersection .result), (c₁ .winner .ensures))
 
@@ -62,4 +62,4 @@ returns-2 c =
     (bid (a .enabled) (c₇ .union .ensures) (c₆ .intersection .ensures) (c₅ .winner .ensures)) (c₄ .byte-at .ensures) (c₃ .if1 .left) (ap not (c₂ .has .ensures)) (c₁ .used-up .ensures) (c .with .ensures))
 
 pub arbitrated-spec : {M : Type 1} → statement M
-arbitrated-spec = tie.close (tie.spec union-requires intersection-requires winner-requires cast-byte-at byte-at-requires returns has-requires used-up-requires with-requires cast-t15 returns-2)
+arbitrated-spec = tie.close (tie.spec union-requires intersection-requires winner-requires cast-byte-at byte-at-requires returns has-requires used-up-requires with-requires cast-t16 returns-2)

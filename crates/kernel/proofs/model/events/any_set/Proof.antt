@@ -1,0 +1,13 @@
+-- `any_set` meets its contract.
+-- Assumes nothing.
+use Rattle.scheduler.specs.Bits.{anySet}
+use borrow.Author.Needs.{needs}
+use Rattle.kernel.proofs.model.events.any_set.Statement.{statement}
+use Rattle.kernel.proofs.model.events.any_set.Tie as tie
+
+returns : tie.Need-returns
+unfolding anySet
+returns c = search needs
+
+pub any-set-spec : {M : Type 1} → statement M
+any-set-spec = tie.close (tie.spec returns)

@@ -1,0 +1,13 @@
+-- `with_bits` meets its contract.
+-- Assumes nothing.
+use Rattle.scheduler.specs.Bits.{withBits}
+use borrow.Author.Needs.{needs}
+use Rattle.kernel.proofs.model.events.with_bits.Statement.{statement}
+use Rattle.kernel.proofs.model.events.with_bits.Tie as tie
+
+returns : tie.Need-returns
+unfolding withBits
+returns c = search needs
+
+pub with-bits-spec : {M : Type 1} → statement M
+with-bits-spec = tie.close (tie.spec returns)
