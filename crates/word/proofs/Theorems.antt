@@ -3,7 +3,7 @@
 -- In order: `has`; `with`; `without`; `union` and `intersection`; words with the same ranks; the winner. Callers lean on these laws, not on the definitions.
 -- Assumes nothing.
 use Prim.Native.Nat.{ℕ, _+_, _-_, _/_, _%_, _^_, _≤_, _<_}
-use mathlib.Core.Path.{_≡_, refl, sym, _∙_}
+use mathlib.Core.Path.{_≡_, refl, sym, ap, _∙_}
 use mathlib.Core.Logic.{⊎-elim}
 use mathlib.Core.Bool.{Bool, true, false, _&&_, _||_}
 use native.Mathlib.Nat.{zero-div, eq-zero-or-pos}
@@ -58,7 +58,7 @@ without-no-rank w r h = without-elim (λ (v : ℕ). v ≡ w) w r (λ _. refl) (�
 -- a rank is in the union exactly if it is in one of the two words
 pub has-union : (w v i : ℕ) → has (union w v) i ≡ has w i || has v i
 unfolding has union
-has-union w v i = rw (or-bit w v i) (go (ltb i ranks) (eqb (w / 2 ^ i % 2) 1) (eqb (v / 2 ^ i % 2) 1))
+has-union w v i = ap (λ (b : Bool). ltb i ranks && b) (or-bit w v i) ∙ go (ltb i ranks) (eqb (w / 2 ^ i % 2) 1) (eqb (v / 2 ^ i % 2) 1)
   where
     go : (a b c : Bool) → a && (b || c) ≡ (a && b) || (a && c)
     go true b c = refl
@@ -71,7 +71,7 @@ union-lt w v = or-lt ranks w v
 -- and in the intersection exactly if it is in both
 pub has-intersection : (w v i : ℕ) → has (intersection w v) i ≡ has w i && has v i
 unfolding has intersection
-has-intersection w v i = rw (and-bits w v i) (go (ltb i ranks) (eqb (w / 2 ^ i % 2) 1) (eqb (v / 2 ^ i % 2) 1))
+has-intersection w v i = ap (λ (b : Bool). ltb i ranks && b) (and-bits w v i) ∙ go (ltb i ranks) (eqb (w / 2 ^ i % 2) 1) (eqb (v / 2 ^ i % 2) 1)
   where
     go : (a b c : Bool) → a && (b && c) ≡ (a && b) && (a && c)
     go true b c = refl
