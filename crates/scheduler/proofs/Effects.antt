@@ -10,14 +10,14 @@ use mathlib.Core.Logic.{_≢_}
 use native.Mathlib.Omega.{arith}
 use borrow.Author.Tests.{eq-eqb, ne-eqb}
 use lib.Dec.{eqb}
-use lib.ListN.{length, length-set, length-map, length-replicate, take, replicate}
+use lib.ListN.{length, length-set, length-map, length-replicate, replicate}
 use lib.Seq.{getD-set-same, getD-set-other, map-set-same}
 use Rattle.number.proofs.Cases.{by-eq}
 use Rattle.config.specs.declared.Config.{Config}
 use Rattle.config.specs.Meaning.{countsLines}
 use Rattle.scheduler.specs.Bits.{anySet}
 use Rattle.scheduler.specs.Status.{done, limitReached}
-use Rattle.scheduler.specs.Body.{hasBegun, Body, started, waiting, become, activated, ended, finished, requested, gets, releases, activatedByEntry, loses, waits, receives, clears}
+use Rattle.scheduler.specs.Body.{hasBegun, Body, started, become, activated, finished, requested, gets, releases, activatedByEntry, loses, waits, receives, clears}
 use Rattle.scheduler.specs.State.{State, Table, stopped, noBody, bodyOf, changing, withTable, runner}
 use Rattle.scheduler.specs.Call.{caller, finish, statusOf, effectOf, refusalOf}
 use Rattle.scheduler.specs.Tick.{counting, counted, activatingDue, dues, ticked}

@@ -18,13 +18,12 @@ use Rattle.word.specs.Word.{has, with, without}
 use Rattle.word.proofs.Theorems.{has-with-same, has-with-other, with-lt, has-without-same, has-without-other}
 use Rattle.scheduler.specs.Bits.{anySet, withBits, withoutBits}
 use Rattle.scheduler.specs.Body.{Phase, suspended, ready, started, waiting, isSuspended, isStarted, isWaiting, hasBegun, Body, resumed, receives, clears}
-use Rattle.scheduler.specs.State.{among}
 use Rattle.scheduler.specs.Call.{requestWaits}
 use Rattle.machine.specs.Model.{Core, Model, withEnabled}
 use Rattle.machine.specs.Events.{bitsAt, enabledBy, receiving}
 use Rattle.plan.proofs.Fitted.{Fitted}
-use Rattle.machine.proofs.Relation.Words.{at, wants, Words, words-changed}
-use Rattle.machine.proofs.Relation.Bits.{noted, eventBits, Noted, noted-changed}
+use Rattle.machine.proofs.Relation.Words.{at, Words, words-changed}
+use Rattle.machine.proofs.Relation.Bits.{noted, Noted, noted-changed}
 use Rattle.machine.proofs.Relation.Nest.{nest-started}
 use Rattle.machine.proofs.Relation.Whole.{Tied}
 use Rattle.machine.proofs.Arbitration.Dispatch.{rank-below}

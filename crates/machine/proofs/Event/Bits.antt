@@ -15,13 +15,13 @@ use Rattle.plan.specs.declared.Plan.{Plan}
 use Rattle.word.specs.Word.{has, without}
 use Rattle.scheduler.specs.Status.{done, callLevel, noSuch, access, holdsResource, wrongState}
 use Rattle.scheduler.specs.Bits.{anySet, withoutBits}
-use Rattle.scheduler.specs.Body.{Phase, suspended, ready, started, waiting, isSuspended, isStarted, competes, Body, holds, become, waits, receives, clears}
+use Rattle.scheduler.specs.Body.{Phase, suspended, ready, started, waiting, isSuspended, isStarted, competes, Body, holds, become, receives, clears}
 use Rattle.scheduler.specs.State.{State, noBody, bodyOf}
 use Rattle.scheduler.specs.Call.{nobodyRuns, caller, calling, active, waitStatus, setStatus, clearStatus, wait, setEvent, clear}
 use Rattle.scheduler.specs.Tick.{dues}
 use Rattle.scheduler.specs.Scheduler.{Wait, Set, Clear, stepBy}
 use Rattle.scheduler.proofs.Checks.{wait-passed, set-passed, clear-passed}
-use Rattle.machine.specs.Model.{Model, Outcome, noRank, withEnabled, doneWith}
+use Rattle.machine.specs.Model.{Model, noRank, withEnabled, doneWith}
 use Rattle.machine.specs.Arbiter.{settled}
 use Rattle.machine.specs.Resources.{holding}
 use Rattle.machine.specs.Events as Machine
