@@ -194,7 +194,7 @@ fn draw_resources(random: &mut Random, bodies: &[Body]) -> Vec<u32> {
             let users = match random.below(5) {
                 0 => all,
                 1 => 1 << random.below(bodies.len()),
-                // Few users, so that bodies above the ceiling occur.
+                // Few users, so that bodies that are none, above the ceiling too, occur.
                 2 => random.word() as u32 & random.word() as u32 & random.word() as u32,
                 _ => random.word() as u32,
             };

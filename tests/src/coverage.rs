@@ -9,12 +9,12 @@ use crate::fast::{self, Config, Event, Kernel, NextDue, BODIES_MAX, IDLE, RESOUR
 /// The run's refusals.
 pub const REFUSALS: [u32; 15] = [1, 2, 3, 4, 5, 6, 7, 8, 9, 10, 20, 21, 22, 23, 30];
 
-/// Event codes with their names and the statuses document 01 gives them.
+/// Event codes with their names and the statuses the documents give them.
 pub const STATUSES: [(u8, &str, &[u8]); 9] = [
     (1, "Activate", &[0, 2, 3, 4]),
     (2, "Finish", &[0, 2, 6]),
     (3, "Chain", &[0, 2, 3, 6, 4]),
-    (4, "Get", &[0, 2, 3, 1]),
+    (4, "Get", &[0, 2, 3, 33, 1]),
     (5, "Release", &[0, 2, 3, 5]),
     (6, "Tick", &[0]),
     (7, "Line", &[0, 3, 4]),
@@ -30,10 +30,10 @@ pub struct Coverage {
     pub versions: [u64; 2],
     pub events: u64,
     refusals: [u64; 31],
-    /// By event code and status.
-    statuses: [[u64; 9]; 10],
-    /// By event code: how often a body began.
-    begun: [u64; 10],
+    /// By event and place of the status in its row of [`STATUSES`].
+    statuses: [[u64; 5]; STATUSES.len()],
+    /// By event: how often a body began.
+    begun: [u64; STATUSES.len()],
     idle: u64,
     /// Losses in all accepted runs, and the greatest one.
     losses: u64,
@@ -45,8 +45,30 @@ pub struct Coverage {
     most_held: usize,
     /// Turns of a counter that passed unmatched.
     turns: u64,
+    /// Gets with status 33, as in [`UNDECLARED`].
+    undeclared: [u64; UNDECLARED.len()],
     /// Lines with status 4, by version 1 or 2, then by whether the ISR is ready or started with a request waiting.
     lines_lost: [[u64; 2]; 2],
+}
+
+/// How the runner stands to a resource of which it is no declared user. One that another body holds has a ceiling below the
+/// runner's own priority; one that the runner holds it is a user of.
+const UNDECLARED: [&str; 4] = [
+    "Get of a free resource by a body that is no user of it, its level below the ceiling",
+    "Get of a free resource by a body that is no user of it, raised to the ceiling by another resource",
+    "Get of a free resource by a body that is no user of it, its own priority above the ceiling",
+    "Get of a held resource by a body that is no user of it",
+];
+
+fn undeclared(config: &Config, kernel: &Kernel<NextDue>, resource: u32) -> usize {
+    let ceiling = config.ceiling(resource as usize);
+    let own = kernel.runner().map_or(0, |runner| config.priority(runner));
+    match kernel.level().cmp(&ceiling) {
+        _ if kernel.is_taken(resource) => 3,
+        _ if own > ceiling => 2,
+        std::cmp::Ordering::Less => 0,
+        _ => 1,
+    }
 }
 
 const LINES_LOST: [[&str; 2]; 2] = [
@@ -101,11 +123,14 @@ impl Coverage {
         let mut turns = Turns::default();
         let mut at = 0;
         for answer in out.chunks_exact(4).take(events) {
-            let code = usize::from(case.trace[at]);
+            let row = usize::from(case.trace[at]) - 1;
             let (event, next) = fast::read_event(&case.trace, at).expect("the run accepted the trace");
             at = next;
             if let (Event::Line(isr), 4) = (event, answer[0]) {
                 self.lines_lost[usize::from(config.counts_lines())][usize::from(kernel.is_started(isr))] += 1;
+            }
+            if let (Event::Get(resource), 33) = (event, answer[0]) {
+                self.undeclared[undeclared(&config, &kernel, resource)] += 1;
             }
             kernel.step(event);
             if answer[0] == 0 {
@@ -113,8 +138,9 @@ impl Coverage {
             }
             self.most_begun = self.most_begun.max(kernel.begun_bodies());
             self.most_held = self.most_held.max(kernel.held_resources());
-            self.statuses[code][usize::from(answer[0])] += 1;
-            self.begun[code] += u64::from(answer[3]);
+            let place = STATUSES[row].2.iter().position(|status| *status == answer[0]);
+            self.statuses[row][place.expect("the event has this status")] += 1;
+            self.begun[row] += u64::from(answer[3]);
             self.idle += u64::from(answer[1] == IDLE);
         }
         let bodies = usize::from(case.config[1]);
@@ -150,9 +176,21 @@ impl Coverage {
         self.most_begun = self.most_begun.max(other.most_begun);
         self.most_held = self.most_held.max(other.most_held);
         self.turns += other.turns;
+        for (mine, others) in self.undeclared.iter_mut().zip(other.undeclared) {
+            *mine += others;
+        }
         for (mine, others) in self.lines_lost.iter_mut().flatten().zip(other.lines_lost.iter().flatten()) {
             *mine += others;
         }
+    }
+
+    /// How often an event gave a status.
+    pub fn count(&self, event: &str, status: u8) -> u64 {
+        let seen = STATUSES.iter().zip(&self.statuses).filter(|((_, name, _), _)| *name == event);
+        let of_status = |((_, _, statuses), counts): (&(u8, &str, &[u8]), &[u64; 5])| {
+            statuses.iter().zip(counts).filter(|(other, _)| **other == status).map(|(_, count)| *count).sum::<u64>()
+        };
+        seen.map(of_status).sum()
     }
 
     /// What has not occurred and should have; empty if nothing is missing.
@@ -163,11 +201,16 @@ impl Coverage {
                 missing.push(format!("refusal {refusal}"));
             }
         }
-        for (code, name, statuses) in STATUSES {
-            for status in statuses {
-                if self.statuses[usize::from(code)][usize::from(*status)] == 0 {
+        for ((_, name, statuses), counts) in STATUSES.iter().zip(&self.statuses) {
+            for (status, count) in statuses.iter().zip(counts) {
+                if *count == 0 {
                     missing.push(format!("status {status} of {name}"));
                 }
+            }
+        }
+        for (count, name) in self.undeclared.iter().zip(UNDECLARED) {
+            if *count == 0 {
+                missing.push(name.to_string());
             }
         }
         for (count, name) in self.lines_lost.iter().flatten().zip(LINES_LOST.iter().flatten()) {
@@ -189,11 +232,11 @@ impl Coverage {
 
     /// Calls that succeed, in percent of all events that can fail.
     pub fn success_percent(&self) -> u64 {
-        let fallible = STATUSES.iter().filter(|(code, ..)| *code != 6);
+        let fallible = STATUSES.iter().zip(&self.statuses).filter(|((_, _, statuses), _)| statuses.len() > 1);
         let (mut done, mut all) = (0, 0);
-        for (code, ..) in fallible {
-            done += self.statuses[usize::from(*code)][0];
-            all += self.statuses[usize::from(*code)].iter().sum::<u64>();
+        for (_, counts) in fallible {
+            done += counts[0];
+            all += counts.iter().sum::<u64>();
         }
         100 * done / all.max(1)
     }
@@ -212,13 +255,15 @@ impl fmt::Display for Coverage {
             write!(f, "  {refusal}: {}", self.refusals[refusal as usize])?;
         }
         writeln!(f)?;
-        for (code, name, statuses) in STATUSES {
-            let code = usize::from(code);
+        for (row, (_, name, statuses)) in STATUSES.iter().enumerate() {
             write!(f, "{name:<9}")?;
-            for status in statuses {
-                write!(f, "  {status}: {}", self.statuses[code][usize::from(*status)])?;
+            for (status, count) in statuses.iter().zip(self.statuses[row]) {
+                write!(f, "  {status}: {count}")?;
             }
-            writeln!(f, "  begun: {}", self.begun[code])?;
+            writeln!(f, "  begun: {}", self.begun[row])?;
+        }
+        for (count, name) in self.undeclared.iter().zip(UNDECLARED) {
+            writeln!(f, "{name}: {count}")?;
         }
         writeln!(
             f,

@@ -97,6 +97,8 @@ pub struct Config {
     /// By rank.
     priority: [u8; BODIES_MAX],
     ceiling: [u8; RESOURCES_MAX],
+    /// Body numbers of each resource's users, one bit each.
+    users: [u32; RESOURCES_MAX],
     table: [Table; TABLES_MAX],
     entry: [Entry; ENTRIES_MAX],
 }
@@ -187,6 +189,7 @@ pub fn read_config(bytes: &[u8]) -> Result<Config, Refusal> {
         number: [0; BODIES_MAX],
         priority: [0; BODIES_MAX],
         ceiling: [0; RESOURCES_MAX],
+        users: [0; RESOURCES_MAX],
         table: [Table::default(); TABLES_MAX],
         entry: [Entry::default(); ENTRIES_MAX],
     };
@@ -201,6 +204,7 @@ pub fn read_config(bytes: &[u8]) -> Result<Config, Refusal> {
     config.resources = fields.count(0, RESOURCES_MAX)?;
     for resource in 0..config.resources {
         let users = fields.field(1, all_bodies)?;
+        config.users[resource] = users;
         config.ceiling[resource] =
             (0..bodies).filter(|body| users >> body & 1 == 1).map(|body| priority_of[body]).max().unwrap_or(0);
     }
@@ -272,6 +276,10 @@ impl Config {
 
     pub fn ceiling(&self, resource: usize) -> u8 {
         self.ceiling[resource]
+    }
+
+    pub fn is_user(&self, body: u32, resource: u32) -> bool {
+        self.users[resource as usize] >> body & 1 == 1
     }
 
     /// Entries rise, so the first one has the smallest offset.
@@ -487,13 +495,12 @@ impl Timers for NextDue {
 struct Frame {
     number: u8,
     rank: u8,
-    own: u8,
     level: u8,
     /// How many resources the bodies below hold; those above are this one's.
     held_below: u8,
 }
 
-const IDLE_FRAME: Frame = Frame { number: IDLE, rank: 0, own: 0, level: 0, held_below: 0 };
+const IDLE_FRAME: Frame = Frame { number: IDLE, rank: 0, level: 0, held_below: 0 };
 
 #[derive(Clone, Copy, Default)]
 struct Held {
@@ -586,7 +593,7 @@ impl<'c, T: Timers> Kernel<'c, T> {
         self.preempted[self.depth] = self.running;
         self.depth += 1;
         let number = self.config.number[usize::from(rank)];
-        self.running = Frame { number, rank, own, level: own, held_below: self.held_count };
+        self.running = Frame { number, rank, level: own, held_below: self.held_count };
         1
     }
 
@@ -603,6 +610,11 @@ impl<'c, T: Timers> Kernel<'c, T> {
 
     fn holds_any(&self) -> bool {
         self.held_count > self.running.held_below
+    }
+
+    /// Whether anyone holds the resource.
+    pub fn is_taken(&self, resource: u32) -> bool {
+        self.taken >> resource & 1 == 1
     }
 
     fn rank_bit(&self, number: u32) -> u32 {
@@ -661,10 +673,13 @@ impl<'c, T: Timers> Kernel<'c, T> {
         if resource >= self.config.resources as u32 {
             return 3;
         }
-        let ceiling = self.config.ceiling[resource as usize];
-        if self.taken >> resource & 1 == 1 || self.running.own > ceiling {
+        if !self.config.is_user(u32::from(self.running.number), resource) {
+            return 33;
+        }
+        if self.is_taken(resource) {
             return 1;
         }
+        let ceiling = self.config.ceiling[resource as usize];
         self.held[usize::from(self.held_count)] = Held { resource: resource as u8, level_before: self.running.level };
         self.held_count += 1;
         self.taken |= 1 << resource;
@@ -787,7 +802,7 @@ impl<'c, T: Timers> Kernel<'c, T> {
 
     /// The running body could take the resource now.
     pub fn may_get(&self, resource: u32) -> bool {
-        self.taken >> resource & 1 == 0 && self.running.own <= self.config.ceiling[resource as usize]
+        !self.is_taken(resource) && self.runner().is_some_and(|runner| self.config.is_user(runner, resource))
     }
 
     /// The running body's most recently taken resource.

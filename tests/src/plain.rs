@@ -293,10 +293,14 @@ impl Scheduler {
         self.runner.is_some_and(|runner| !self.bodies[runner].held.is_empty())
     }
 
-    /// Status 1: "r is held by anyone, or the runner's own priority is above the ceiling".
+    /// Status 1: "r is held by anyone".
     fn no_access(&self, resource: usize) -> bool {
-        let held = self.bodies.iter().any(|body| body.held.contains(&resource));
-        held || self.runner.is_some_and(|runner| self.bodies[runner].priority > self.ceiling(resource))
+        self.bodies.iter().any(|body| body.held.contains(&resource))
+    }
+
+    /// Status 33: "not a declared user".
+    fn no_user(&self, resource: usize) -> bool {
+        self.runner.is_none_or(|runner| !self.resources[resource].contains(&runner))
     }
 
     /// Status 5: "r is not the runner's most recently taken one still held; the table is stopped".
@@ -314,13 +318,13 @@ impl Scheduler {
         d == 0 || d + smallest > 65535
     }
 
-    /// The first status that applies, in the order that document 01's table gives for the event.
+    /// The first status that applies, in the order that the documents give for the event.
     fn status(&self, code: u64, arguments: &[u64]) -> u8 {
         let order: &[u8] = match code {
             1 => &[2, 3, 4],
             2 => &[2, 6],
             3 => &[2, 3, 6, 4],
-            4 => &[2, 3, 1],
+            4 => &[2, 3, 33, 1],
             5 => &[2, 3, 5],
             6 => &[],
             7 => &[3, 4],
@@ -339,7 +343,8 @@ impl Scheduler {
                 6 => self.holds(),
                 7 => self.tables[id()].progress != Progress::Stopped,
                 8 => self.bad_delay(id(), arguments[1]),
-                _ => unreachable!("statuses are 0 to 8"),
+                33 => self.no_user(id()),
+                _ => unreachable!("the event has no such status"),
             };
             if applies {
                 return *status;

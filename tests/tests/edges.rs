@@ -348,21 +348,82 @@ fn release_falls_back_to_the_resource_still_held() {
     );
 }
 
+/// Task 0 of priority 1 runs, tasks 1 and 2 have 4 and 6; resource 0 of task 1, resource 1 of tasks 0 and 1, both with the
+/// ceiling 4; resource 2 of tasks 0 and 2, ceiling 6.
+const THREE_RESOURCES: [u8; 16] = [1, 3, 0, 1, 1, 0, 4, 0, 0, 6, 0, 3, 2, 3, 5, 0];
+
 #[test]
-fn get_looks_at_the_own_priority_and_not_at_users_or_level() {
-    // Priorities 1, 4 and 6; resource 0 of body 1, resource 1 of body 2: task 0 uses neither and may take both.
-    let config = [1, 3, 0, 1, 1, 0, 4, 0, 0, 6, 0, 2, 2, 4, 0];
+fn a_body_that_is_no_user_does_not_get_a_free_resource() {
+    // Below the ceiling, at it by resource 1, above it by resource 2, and by its own priority.
+    assert_rows(
+        &THREE_RESOURCES,
+        &[4, 0, 4, 1, 4, 0, 5, 1, 4, 2, 4, 0, 5, 2, 1, 2, 4, 0, 4, 1, 4, 2],
+        "0 4 33 0 1 0
+         1 4 0 0 4 0
+         2 4 33 0 4 0
+         3 5 0 0 1 0
+         4 4 0 0 6 0
+         5 4 33 0 6 0
+         6 5 0 0 1 0
+         7 1 0 2 6 1
+         8 4 33 2 6 0
+         9 4 33 2 6 0
+         10 4 0 2 6 0",
+    );
+}
+
+#[test]
+fn a_body_that_is_no_user_gets_33_where_the_resource_is_held() {
+    // Task 0 holds resource 1; task 2, which is no user of it, preempts. Release knows no 33.
+    assert_rows(
+        &THREE_RESOURCES,
+        &[4, 1, 1, 2, 4, 1, 5, 1, 4, 3, 2, 4, 1, 5, 1],
+        "0 4 0 0 4 0
+         1 1 0 2 6 1
+         2 4 33 2 6 0
+         3 5 5 2 6 0
+         4 4 3 2 6 0
+         5 2 0 0 4 0
+         6 4 1 0 4 0
+         7 5 0 0 1 0",
+    );
+}
+
+#[test]
+fn a_user_is_refused_only_what_it_holds_itself() {
+    // Tasks 1 and 2 take what is theirs, once, whatever the bodies below them hold.
+    assert_rows(
+        &THREE_RESOURCES,
+        &[1, 1, 4, 0, 4, 0, 4, 1, 4, 1, 1, 2, 4, 2, 4, 2, 5, 2, 2, 5, 1, 5, 0],
+        "0 1 0 1 4 1
+         1 4 0 1 4 0
+         2 4 1 1 4 0
+         3 4 0 1 4 0
+         4 4 1 1 4 0
+         5 1 0 2 6 1
+         6 4 0 2 6 0
+         7 4 1 2 6 0
+         8 5 0 2 6 0
+         9 2 0 1 4 0
+         10 5 0 1 4 0
+         11 5 0 1 4 0",
+    );
+}
+
+#[test]
+fn users_are_bodies_by_number_and_not_by_priority() {
+    // Task 0 (9), task 1 (2, runs), ISR 2 (4); the resource is task 1's alone, whose priority is the lowest.
+    let config = [1, 3, 0, 9, 0, 0, 2, 1, 1, 4, 0, 1, 2, 0];
     assert_rows(
         &config,
-        &[4, 1, 4, 0, 4, 0, 5, 0, 5, 1, 1, 2, 4, 0, 4, 1],
-        "0 4 0 0 6 0
-         1 4 0 0 6 0
-         2 4 1 0 6 0
-         3 5 0 0 6 0
-         4 5 0 0 1 0
-         5 1 0 2 6 1
-         6 4 1 2 6 0
-         7 4 0 2 6 0",
+        &[4, 0, 5, 0, 7, 2, 4, 0, 2, 1, 0, 4, 0],
+        "0 4 0 1 2 0
+         1 5 0 1 2 0
+         2 7 0 2 4 1
+         3 4 33 2 4 0
+         4 2 0 1 2 0
+         5 1 0 0 9 1
+         6 4 33 0 9 0",
     );
 }
 
@@ -376,7 +437,7 @@ fn a_preempting_body_releases_nothing_of_the_one_below() {
         "0 4 0 0 1 0
          1 1 0 1 4 1
          2 5 5 1 4 0
-         3 4 1 1 4 0
+         3 4 33 1 4 0
          4 2 0 0 1 0
          5 2 6 0 1 0
          6 5 0 0 1 0",

@@ -1,5 +1,5 @@
-//! include/osek.h compiles as C and as C++ of every standard since C99 and C++98 without a warning, its constants are document
-//! 01's, and CHANGELOG.md has its version.
+//! include/osek.h compiles as C and as C++ of every standard since C99 and C++98 without a warning, its constants are the
+//! documents', and CHANGELOG.md has its version.
 
 use std::fs;
 use std::path::{Path, PathBuf};
@@ -33,7 +33,7 @@ fn constants() -> Vec<(String, u64)> {
 }
 
 #[test]
-fn constants_are_those_of_document_01() {
+fn constants_are_those_of_the_documents() {
     let constants = constants();
     let value =
         |name: &str| constants.iter().find(|(other, _)| other == name).unwrap_or_else(|| panic!("{name} is missing")).1;
@@ -48,7 +48,7 @@ fn constants_are_those_of_document_01() {
         constants.iter().filter(|(name, _)| has(name)).map(|(_, value)| *value).collect()
     };
     assert_eq!(group(&["OSEK_EVENT_"], "-"), [1, 2, 3, 4, 5, 6, 7, 8, 9]);
-    assert_eq!(group(&["OSEK_E_"], "-"), [0, 1, 2, 3, 4, 5, 6, 7, 8]);
+    assert_eq!(group(&["OSEK_E_"], "-"), [0, 1, 2, 3, 4, 5, 6, 7, 8, 33]);
     let refusals = group(&["OSEK_CONFIG_", "OSEK_TRACE_", "OSEK_OUTPUT_"], "_MAX");
     assert_eq!(refusals, REFUSALS.map(u64::from));
     assert_eq!(group(&["OSEK_OIL_"], "-"), [60, 61, 62, 63, 64]);

@@ -86,7 +86,8 @@ pub const EVENTS: [EventWord; 9] = [
         statuses: &[
             NOBODY_RUNS,
             NO_RESOURCE,
-            (1, "the resource is held, or the running body's own priority is above its ceiling"),
+            (33, "the running body is no declared user of the resource"),
+            (1, "the resource is held already"),
         ],
     },
     EventWord {
@@ -133,8 +134,8 @@ pub fn event_named(word: &str) -> Option<&'static EventWord> {
     EVENTS.iter().find(|event| event.word == word)
 }
 
-/// OSEK's name of each status.
-pub const STATUSES: [(u8, &str); 9] = [
+/// OSEK's name of each status; 33 has no number in OSEK, and its name is the reference's own.
+pub const STATUSES: [(u8, &str); 10] = [
     (0, "E_OK"),
     (1, "E_OS_ACCESS"),
     (2, "E_OS_CALLEVEL"),
@@ -144,9 +145,10 @@ pub const STATUSES: [(u8, &str); 9] = [
     (6, "E_OS_RESOURCE"),
     (7, "E_OS_STATE"),
     (8, "E_OS_VALUE"),
+    (33, "E_USER"),
 ];
 
-/// OSEK's name of a status; none if no event gives it.
+/// The name of a status; none if no event gives it.
 pub fn status(number: u8) -> Option<&'static str> {
     STATUSES.iter().find(|(status, _)| *status == number).map(|(_, name)| *name)
 }

@@ -159,6 +159,20 @@ event 16 Finish while nobody runs: status 2 E_OS_CALLEVEL: nobody runs
 }
 
 #[test]
+fn a_body_that_is_no_user_is_told_so() {
+    let text = "version 1\ntask low priority 2 autostart\ntask high priority 5\nresource flash users high\n\
+                resource own users low\ntrace\nget flash\nget own\nget own\n";
+    Folder::new().with("both.txt", text).osek(&["explain", "both.txt"]).prints(
+        "\
+accepted: 3 events, 2 with a status other than 0
+event 0 Get flash while low runs: status 33 E_USER: the running body is no declared user of the resource
+event 2 Get own while low runs: status 1 E_OS_ACCESS: the resource is held already
+",
+        0,
+    );
+}
+
+#[test]
 fn a_lost_line_is_said_to_be_counted_in_version_2_alone() {
     let bounces = "isr door priority 9\ntrace\nline door\nline door\nline door\nline 1\nline door\n";
     let folder = Folder::new();
