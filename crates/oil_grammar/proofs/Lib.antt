@@ -4,6 +4,7 @@
 -- it spells; the walk accepts words that are in order; these are the words of objects, both ways; what the later walks come to; the whole.
 pub mod Answers
 pub mod Theorems
+pub mod Counts
 mod Ascii
 pub mod Spelling
 pub mod Span

@@ -1,0 +1,162 @@
+-- Texts with as many bodies and resources as a configuration holds, and with one more: accepted, and refused with 4 at line 0, column 0.
+--
+--   wordsFrom k t at, endsFrom k t at   up to k words of t from a place on, and whether the text's end comes after them
+--   oil-of                              a text is OIL of objects where its words are theirs and they pass the tests
+--   bodies n, resources n               the texts, of n ISRs and of a task that uses n resources
+--
+-- The checker computes words and objects, and `oil-read` gives the reading: the walks of a reading look every name up again and would take far longer.
+-- Assumes nothing.
+use Prim.Native.Nat.{ℕ, zero, suc, _+_, _/_, _%_}
+use mathlib.Core.Path.{_≡_, refl, ap, _∙_}
+use mathlib.Core.Bool.{Bool, true, false, cond}
+use mathlib.Core.List.{List, [], _∷_, _++_}
+use native.Mathlib.Omega.{arith}
+use lib.Dec.{leb, eqb}
+use borrow.Author.Tests.{eqb-true}
+use Rattle.number.specs.Refusal.{none}
+use Rattle.word.specs.Word.{has, with}
+use Rattle.config.specs.Draft.{occurs, faultAt, putAt, askedAt, ended as numbersEnded}
+use Rattle.config.specs.Writer.{faultFrom, firstFault}
+use Rattle.oil_grammar.specs.declared.OilRead.{OilRead}
+use Rattle.oil_grammar.specs.Byte.{isSpace, isDigit, isLetter, isNameByte, isLineByte, span}
+use Rattle.oil_grammar.specs.Word as W
+use Rattle.oil_grammar.specs.Word.{same, spelledSort, signOf, decimal, taskSort, isrSort, resourceSort, endSort}
+use Rattle.oil_grammar.specs.Object as O
+use Rattle.oil_grammar.specs.Object.{Object, Attribute, priority, uses, attributeWords, attributesWords, objectWords, written, priorities, autostarts, Fits, task, isr, resource, among, attributeUses, objectUses}
+use Rattle.oil_grammar.specs.Meaning.{usersWith, usersFrom, attributed, attributedAll, begun, ended, placed, configOf}
+use Rattle.oil_grammar.specs.Grammar.{AllFit, fit-nil, fit-cons, Fresh, fresh-nil, fresh-cons, Borne, borne-nil, borne-cons, Oil}
+use Rattle.oil_grammar.specs.Next.{closing, comment, blank, blanks, wordAt, nextWord, wordOfBytes, wordIn}
+use Rattle.oil_grammar.specs.Reader.{readOil, ranged}
+use Rattle.oil_grammar.proofs.Ascii.{ascii}
+use Rattle.oil_grammar.proofs.Spelling.{by-test, false-true}
+use Rattle.oil_grammar.proofs.Lexing.{Reads, ended as stops, reads, reads-spells}
+use Rattle.oil_grammar.proofs.Whole.{oil-read}
+
+unfoldable wordsFrom : ℕ → List ℕ → ℕ → List W.Word
+wordsFrom zero t at = []
+wordsFrom (suc k) t at =
+    let w = nextWord t at in
+    let rest = wordsFrom k t (w .end) in
+    cond (leb endSort (w .sort)) [] (wordIn t w ∷ rest)
+
+unfoldable endsFrom : ℕ → List ℕ → ℕ → Bool
+endsFrom zero t at = false
+endsFrom (suc k) t at =
+    let w = nextWord t at in
+    let rest = endsFrom k t (w .end) in
+    cond (leb endSort (w .sort)) (eqb (w .sort) endSort) rest
+
+words-read : (t : List ℕ) (k at : ℕ) → endsFrom k t at ≡ true → Reads t at (wordsFrom k t at)
+unfolding wordsFrom endsFrom
+words-read t zero at e = absurd (false-true e)
+words-read t (suc k) at e =
+    by-test (leb endSort (nextWord t at .sort))
+    (λ f. rw f (stops (eqb-true (nextWord t at .sort) endSort (rw f at e))))
+    (λ f. rw f (reads f (words-read t k (nextWord t at .end) (rw f at e))))
+
+-- no object has the name of an earlier one, as a test
+unfoldable new : List (List ℕ) → List Object → Bool
+new earlier [] = true
+new earlier (o ∷ os) = cond (among (o .called) earlier) false (new (o .called ∷ earlier) os)
+
+is-fresh : (earlier : List (List ℕ)) (os : List Object) → new earlier os ≡ true → Fresh earlier os
+unfolding new
+is-fresh earlier [] e = fresh-nil
+is-fresh earlier (o ∷ os) e =
+    by-test (among (o .called) earlier)
+    (λ f. absurd (false-true (rw f at e)))
+    (λ f. fresh-cons f (is-fresh (o .called ∷ earlier) os (rw f at e)))
+
+-- each of the names is one of the others, as a test
+unfoldable allAmong : List (List ℕ) → List (List ℕ) → Bool
+allAmong rs [] = true
+allAmong rs (x ∷ xs) = cond (among x rs) (allAmong rs xs) false
+
+is-borne : (rs xs : List (List ℕ)) → allAmong rs xs ≡ true → Borne rs xs
+unfolding allAmong
+is-borne rs [] e = borne-nil
+is-borne rs (x ∷ xs) e =
+    by-test (among x rs)
+    (λ f. borne-cons f (is-borne rs xs (rw f at e)))
+    (λ f. absurd (false-true (rw f at e)))
+
+oil-of : (t : List ℕ) (os : List Object) (k : ℕ) → endsFrom k t 0 ≡ true → wordsFrom k t 0 ≡ written os → AllFit os → new [] os ≡ true
+    → allAmong (O.resources os) (objectUses os) ≡ true → Oil t os
+oil-of t os k e w f n b =
+    record {
+      spells = reads-spells t (rw w at (words-read t k 0 e)) (omega arith);
+      fits = f;
+      fresh = is-fresh [] os n;
+      borne = is-borne (O.resources os) (objectUses os) b;
+    }
+
+-- a number below 100, in two digits
+unfoldable pub digits : ℕ → List ℕ
+digits i = (48 + i / 10) ∷ (48 + i % 10) ∷ []
+
+-- `ISR b07{PRIORITY=07;};`, from n down to 1
+unfoldable pub bodies : ℕ → List ℕ
+bodies zero = []
+bodies (suc i) = ascii "ISR b" ++ (digits (suc i) ++ (ascii "{PRIORITY=" ++ (digits (suc i) ++ (ascii ";};" ++ bodies i))))
+
+unfoldable isrs : ℕ → List Object
+isrs zero = []
+isrs (suc i) = record { kind = isrSort; called = 98 ∷ digits (suc i); attributes = priority (suc i) ∷ [] } ∷ isrs i
+
+isrs-fit : (n : ℕ) → AllFit (isrs n)
+unfolding isrs priorities autostarts
+isrs-fit zero = fit-nil
+isrs-fit (suc i) = fit-cons (isr refl refl) (isrs-fit i)
+
+-- `RESOURCE=r07;` and `RESOURCE r07{};`, from n down to 1
+unfoldable pub attributes : ℕ → List ℕ
+attributes zero = []
+attributes (suc i) = ascii "RESOURCE=r" ++ (digits (suc i) ++ (ascii ";" ++ attributes i))
+
+unfoldable pub objects : ℕ → List ℕ
+objects zero = []
+objects (suc i) = ascii "RESOURCE r" ++ (digits (suc i) ++ (ascii "{};" ++ objects i))
+
+-- a task that uses n resources
+unfoldable pub resources : ℕ → List ℕ
+resources n = ascii "TASK t{PRIORITY=1;" ++ (attributes n ++ (ascii "};" ++ objects n))
+
+unfoldable usesOf : ℕ → List Attribute
+usesOf zero = []
+usesOf (suc i) = uses (114 ∷ digits (suc i)) ∷ usesOf i
+
+unfoldable used : ℕ → List Object
+used zero = []
+used (suc i) = record { kind = resourceSort; called = 114 ∷ digits (suc i); attributes = [] } ∷ used i
+
+unfoldable taskAndUsed : ℕ → List Object
+taskAndUsed n = record { kind = taskSort; called = 116 ∷ []; attributes = priority 1 ∷ usesOf n } ∷ used n
+
+used-fit : (n : ℕ) → AllFit (used n)
+unfolding used
+used-fit zero = fit-nil
+used-fit (suc i) = fit-cons resource (used-fit i)
+
+-- the refusal of a text, its line and its column
+abbrev told : OilRead → List ℕ
+told r = r .refusal ∷ r .line ∷ r .column ∷ []
+
+-- 32 bodies are accepted, and 33 are too many
+pub bodies-limit : (told (readOil (bodies 32)) ≡ 0 ∷ 0 ∷ 0 ∷ []) × (told (readOil (bodies 33)) ≡ 4 ∷ 0 ∷ 0 ∷ [])
+unfolding digits bodies isrs attributes objects resources usesOf used taskAndUsed new allAmong wordsFrom endsFrom priorities autostarts ascii isSpace isDigit isLetter isNameByte isLineByte span same spelledSort signOf decimal closing comment blank blanks wordAt nextWord wordOfBytes attributeWords attributesWords objectWords written among attributeUses objectUses O.resources has with usersWith usersFrom attributed attributedAll begun ended placed configOf occurs faultAt putAt askedAt numbersEnded faultFrom
+bodies-limit = (ap told (read 32 refl refl refl refl) ∙ refl, ap told (read 33 refl refl refl refl) ∙ refl)
+  where
+    read : (n : ℕ) → endsFrom 300 (bodies n) 0 ≡ true → wordsFrom 300 (bodies n) 0 ≡ written (isrs n) → new [] (isrs n) ≡ true
+        → allAmong (O.resources (isrs n)) (objectUses (isrs n)) ≡ true → readOil (bodies n) ≡ ranged (configOf (isrs n))
+    read n e w f b = oil-read (bodies n) (isrs n) (oil-of (bodies n) (isrs n) 300 e w (isrs-fit n) f b)
+
+-- 16 resources are accepted, and 17 are too many
+pub resources-limit : (told (readOil (resources 16)) ≡ 0 ∷ 0 ∷ 0 ∷ []) × (told (readOil (resources 17)) ≡ 4 ∷ 0 ∷ 0 ∷ [])
+unfolding digits bodies isrs attributes objects resources usesOf used taskAndUsed new allAmong wordsFrom endsFrom priorities autostarts ascii isSpace isDigit isLetter isNameByte isLineByte span same spelledSort signOf decimal closing comment blank blanks wordAt nextWord wordOfBytes attributeWords attributesWords objectWords written among attributeUses objectUses O.resources has with usersWith usersFrom attributed attributedAll begun ended placed configOf occurs faultAt putAt askedAt numbersEnded faultFrom
+resources-limit = (ap told (read 16 refl refl (task refl (omega arith)) refl refl) ∙ refl, ap told (read 17 refl refl (task refl (omega arith)) refl refl) ∙ refl)
+  where
+    read : (n : ℕ) → endsFrom 300 (resources n) 0 ≡ true → wordsFrom 300 (resources n) 0 ≡ written (taskAndUsed n)
+        → Fits (record { kind = taskSort; called = 116 ∷ []; attributes = priority 1 ∷ usesOf n })
+        → new [] (taskAndUsed n) ≡ true → allAmong (O.resources (taskAndUsed n)) (objectUses (taskAndUsed n)) ≡ true
+        → readOil (resources n) ≡ ranged (configOf (taskAndUsed n))
+    read n e w t f b = oil-read (resources n) (taskAndUsed n) (oil-of (resources n) (taskAndUsed n) 300 e w (fit-cons t (used-fit n)) f b)
