@@ -1,8 +1,8 @@
 -- Texts with as many bodies and resources as a configuration holds, and with one more: accepted, and refused with 4 at line 0, column 0.
 --
---   wordsFrom k t at, endsFrom k t at   up to k words of t from a place on, and whether the text's end comes after them
---   oil-of                              a text is OIL of objects where its words are theirs and they pass the tests
---   bodies n, resources n               the texts, of n ISRs and of a task that uses n resources
+--   wordsFrom k t at        up to k words of t from a place on, and whether its end comes after them
+--   oil-of                  a text is OIL of objects where its words are theirs and they pass the tests
+--   bodies n, resources n   the texts: n ISRs, and a task that uses n resources
 --
 -- The checker computes words and objects, and `oil-read` gives the reading: the walks of a reading look every name up again and would take far longer.
 -- Assumes nothing.
@@ -32,22 +32,15 @@ use Rattle.oil_grammar.proofs.Spelling.{by-test, false-true}
 use Rattle.oil_grammar.proofs.Lexing.{Reads, ended as stops, reads, reads-spells}
 use Rattle.oil_grammar.proofs.Whole.{oil-read}
 
-unfoldable wordsFrom : ℕ → List ℕ → ℕ → List W.Word
-wordsFrom zero t at = []
+unfoldable wordsFrom : ℕ → List ℕ → ℕ → Bool × List W.Word
+wordsFrom zero t at = (false, [])
 wordsFrom (suc k) t at =
     let w = nextWord t at in
     let rest = wordsFrom k t (w .end) in
-    cond (leb endSort (w .sort)) [] (wordIn t w ∷ rest)
+    cond (leb endSort (w .sort)) (eqb (w .sort) endSort, []) (rest .0, wordIn t w ∷ rest .1)
 
-unfoldable endsFrom : ℕ → List ℕ → ℕ → Bool
-endsFrom zero t at = false
-endsFrom (suc k) t at =
-    let w = nextWord t at in
-    let rest = endsFrom k t (w .end) in
-    cond (leb endSort (w .sort)) (eqb (w .sort) endSort) rest
-
-words-read : (t : List ℕ) (k at : ℕ) → endsFrom k t at ≡ true → Reads t at (wordsFrom k t at)
-unfolding wordsFrom endsFrom
+words-read : (t : List ℕ) (k at : ℕ) → wordsFrom k t at .0 ≡ true → Reads t at (wordsFrom k t at .1)
+unfolding wordsFrom
 words-read t zero at e = absurd (false-true e)
 words-read t (suc k) at e =
     by-test (leb endSort (nextWord t at .sort))
@@ -80,11 +73,11 @@ is-borne rs (x ∷ xs) e =
     (λ f. borne-cons f (is-borne rs xs (rw f at e)))
     (λ f. absurd (false-true (rw f at e)))
 
-oil-of : (t : List ℕ) (os : List Object) (k : ℕ) → endsFrom k t 0 ≡ true → wordsFrom k t 0 ≡ written os → AllFit os → new [] os ≡ true
+oil-of : (t : List ℕ) (os : List Object) (k : ℕ) → wordsFrom k t 0 ≡ (true, written os) → AllFit os → new [] os ≡ true
     → allAmong (O.resources os) (objectUses os) ≡ true → Oil t os
-oil-of t os k e w f n b =
+oil-of t os k w f n b =
     record {
-      spells = reads-spells t (rw w at (words-read t k 0 e)) (omega arith);
+      spells = reads-spells t (rw (ap (λ (r : Bool × List W.Word). r .1) w) at (words-read t k 0 (ap (λ (r : Bool × List W.Word). r .0) w))) (omega arith);
       fits = f;
       fresh = is-fresh [] os n;
       borne = is-borne (O.resources os) (objectUses os) b;
@@ -143,20 +136,20 @@ told r = r .refusal ∷ r .line ∷ r .column ∷ []
 
 -- 32 bodies are accepted, and 33 are too many
 pub bodies-limit : (told (readOil (bodies 32)) ≡ 0 ∷ 0 ∷ 0 ∷ []) × (told (readOil (bodies 33)) ≡ 4 ∷ 0 ∷ 0 ∷ [])
-unfolding digits bodies isrs attributes objects resources usesOf used taskAndUsed new allAmong wordsFrom endsFrom priorities autostarts ascii isSpace isDigit isLetter isNameByte isLineByte span same spelledSort signOf decimal closing comment blank blanks wordAt nextWord wordOfBytes attributeWords attributesWords objectWords written among attributeUses objectUses O.resources has with usersWith usersFrom attributed attributedAll begun ended placed configOf occurs faultAt putAt askedAt numbersEnded faultFrom
-bodies-limit = (ap told (read 32 refl refl refl refl) ∙ refl, ap told (read 33 refl refl refl refl) ∙ refl)
+unfolding digits bodies isrs attributes objects resources usesOf used taskAndUsed new allAmong wordsFrom priorities autostarts ascii isSpace isDigit isLetter isNameByte isLineByte span same spelledSort signOf decimal closing comment blank blanks wordAt nextWord wordOfBytes attributeWords attributesWords objectWords written among attributeUses objectUses O.resources has with usersWith usersFrom attributed attributedAll begun ended placed configOf occurs faultAt putAt askedAt numbersEnded faultFrom
+bodies-limit = (ap told (read 32 refl refl refl) ∙ refl, ap told (read 33 refl refl refl) ∙ refl)
   where
-    read : (n : ℕ) → endsFrom 300 (bodies n) 0 ≡ true → wordsFrom 300 (bodies n) 0 ≡ written (isrs n) → new [] (isrs n) ≡ true
+    read : (n : ℕ) → wordsFrom 300 (bodies n) 0 ≡ (true, written (isrs n)) → new [] (isrs n) ≡ true
         → allAmong (O.resources (isrs n)) (objectUses (isrs n)) ≡ true → readOil (bodies n) ≡ ranged (configOf (isrs n))
-    read n e w f b = oil-read (bodies n) (isrs n) (oil-of (bodies n) (isrs n) 300 e w (isrs-fit n) f b)
+    read n w f b = oil-read (bodies n) (isrs n) (oil-of (bodies n) (isrs n) 300 w (isrs-fit n) f b)
 
 -- 16 resources are accepted, and 17 are too many
 pub resources-limit : (told (readOil (resources 16)) ≡ 0 ∷ 0 ∷ 0 ∷ []) × (told (readOil (resources 17)) ≡ 4 ∷ 0 ∷ 0 ∷ [])
-unfolding digits bodies isrs attributes objects resources usesOf used taskAndUsed new allAmong wordsFrom endsFrom priorities autostarts ascii isSpace isDigit isLetter isNameByte isLineByte span same spelledSort signOf decimal closing comment blank blanks wordAt nextWord wordOfBytes attributeWords attributesWords objectWords written among attributeUses objectUses O.resources has with usersWith usersFrom attributed attributedAll begun ended placed configOf occurs faultAt putAt askedAt numbersEnded faultFrom
-resources-limit = (ap told (read 16 refl refl (task refl (omega arith)) refl refl) ∙ refl, ap told (read 17 refl refl (task refl (omega arith)) refl refl) ∙ refl)
+unfolding digits bodies isrs attributes objects resources usesOf used taskAndUsed new allAmong wordsFrom priorities autostarts ascii isSpace isDigit isLetter isNameByte isLineByte span same spelledSort signOf decimal closing comment blank blanks wordAt nextWord wordOfBytes attributeWords attributesWords objectWords written among attributeUses objectUses O.resources has with usersWith usersFrom attributed attributedAll begun ended placed configOf occurs faultAt putAt askedAt numbersEnded faultFrom
+resources-limit = (ap told (read 16 refl (task refl (omega arith)) refl refl) ∙ refl, ap told (read 17 refl (task refl (omega arith)) refl refl) ∙ refl)
   where
-    read : (n : ℕ) → endsFrom 300 (resources n) 0 ≡ true → wordsFrom 300 (resources n) 0 ≡ written (taskAndUsed n)
+    read : (n : ℕ) → wordsFrom 300 (resources n) 0 ≡ (true, written (taskAndUsed n))
         → Fits (record { kind = taskSort; called = 116 ∷ []; attributes = priority 1 ∷ usesOf n })
         → new [] (taskAndUsed n) ≡ true → allAmong (O.resources (taskAndUsed n)) (objectUses (taskAndUsed n)) ≡ true
         → readOil (resources n) ≡ ranged (configOf (taskAndUsed n))
-    read n e w t f b = oil-read (resources n) (taskAndUsed n) (oil-of (resources n) (taskAndUsed n) 300 e w (fit-cons t (used-fit n)) f b)
+    read n w t f b = oil-read (resources n) (taskAndUsed n) (oil-of (resources n) (taskAndUsed n) 300 w (fit-cons t (used-fit n)) f b)
