@@ -15,4 +15,5 @@ mod Sound
 mod Reading
 mod RoundTrip
 mod Past
+mod Counts
 mod Fuel

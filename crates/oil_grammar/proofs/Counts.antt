@@ -1,10 +1,11 @@
 -- Texts with as many bodies and resources as a configuration holds, and with one more: accepted, and refused with 4 at line 0, column 0.
 --
+--   version-one             the configuration of objects has version 1
 --   wordsFrom k t at        up to k words of t from a place on, and whether its end comes after them
 --   oil-of                  a text is OIL of objects where its words are theirs and they pass the tests
 --   bodies n, resources n   the texts: n ISRs, and a task that uses n resources
 --
--- The checker computes words and objects, and `oil-read` gives the reading: the walks of a reading look every name up again and would take far longer.
+-- The checker computes words and objects, and `oil-read` gives the reading: computed whole, its walks look every name up again and take far longer.
 -- Assumes nothing.
 use Prim.Native.Nat.{ℕ, zero, suc, _+_, _/_, _%_}
 use mathlib.Core.Path.{_≡_, refl, ap, _∙_}
@@ -13,17 +14,17 @@ use mathlib.Core.List.{List, [], _∷_, _++_}
 use native.Mathlib.Omega.{arith}
 use lib.Dec.{leb, eqb}
 use borrow.Author.Tests.{eqb-true}
-use Rattle.number.specs.Refusal.{none}
 use Rattle.word.specs.Word.{has, with}
+use Rattle.config.specs.declared.Config.{Config}
 use Rattle.config.specs.Draft.{occurs, faultAt, putAt, askedAt, ended as numbersEnded}
-use Rattle.config.specs.Writer.{faultFrom, firstFault}
+use Rattle.config.specs.Writer.{faultFrom}
 use Rattle.oil_grammar.specs.declared.OilRead.{OilRead}
 use Rattle.oil_grammar.specs.Byte.{isSpace, isDigit, isLetter, isNameByte, isLineByte, span}
 use Rattle.oil_grammar.specs.Word as W
 use Rattle.oil_grammar.specs.Word.{same, spelledSort, signOf, decimal, taskSort, isrSort, resourceSort, endSort}
 use Rattle.oil_grammar.specs.Object as O
-use Rattle.oil_grammar.specs.Object.{Object, Attribute, priority, uses, attributeWords, attributesWords, objectWords, written, priorities, autostarts, Fits, task, isr, resource, among, attributeUses, objectUses}
-use Rattle.oil_grammar.specs.Meaning.{usersWith, usersFrom, attributed, attributedAll, begun, ended, placed, configOf}
+use Rattle.oil_grammar.specs.Object.{Object, Attribute, priority, autostart, uses, isResource, attributeWords, attributesWords, objectWords, written, priorities, autostarts, Fits, task, isr, resource, among, attributeUses, objectUses}
+use Rattle.oil_grammar.specs.Meaning.{empty, usersOf, usersWith, usersFrom, attributed, attributedAll, begun, ended, placed, configOf}
 use Rattle.oil_grammar.specs.Grammar.{AllFit, fit-nil, fit-cons, Fresh, fresh-nil, fresh-cons, Borne, borne-nil, borne-cons, Oil}
 use Rattle.oil_grammar.specs.Next.{closing, comment, blank, blanks, wordAt, nextWord, wordOfBytes, wordIn}
 use Rattle.oil_grammar.specs.Reader.{readOil, ranged}
@@ -31,6 +32,30 @@ use Rattle.oil_grammar.proofs.Ascii.{ascii}
 use Rattle.oil_grammar.proofs.Spelling.{by-test, false-true}
 use Rattle.oil_grammar.proofs.Lexing.{Reads, ended as stops, reads, reads-spells}
 use Rattle.oil_grammar.proofs.Whole.{oil-read}
+
+-- the version of a configuration is not an object's to change
+placed-version : (u : List ℕ → ℕ) (os : List Object) (c : Config) → placed u c os .version ≡ c .version
+unfolding placed begun ended attributedAll attributed
+placed-version u [] c = refl
+placed-version u (o ∷ os) c =
+    placed-version u os (ended (o .kind) (attributedAll (begun u c o) (o .attributes)))
+    ∙ ended-version (o .kind) (attributedAll (begun u c o) (o .attributes)) ∙ attributes-version (o .attributes) (begun u c o) ∙ begun-version c o
+  where
+    ended-version : (k : ℕ) (d : Config) → ended k d .version ≡ d .version
+    ended-version k d = by-test (isResource k) (λ e. rw e refl) (λ e. rw e refl)
+
+    begun-version : (d : Config) (o : Object) → begun u d o .version ≡ d .version
+    begun-version d o = by-test (isResource (o .kind)) (λ e. rw e refl) (λ e. rw e refl)
+
+    attributes-version : (al : List Attribute) (d : Config) → attributedAll d al .version ≡ d .version
+    attributes-version [] d = refl
+    attributes-version (priority v ∷ al) d = attributes-version al (attributed d (priority v))
+    attributes-version (autostart b ∷ al) d = attributes-version al (attributed d (autostart b))
+    attributes-version (uses x ∷ al) d = attributes-version al d
+
+pub version-one : (os : List Object) → configOf os .version ≡ 1
+unfolding configOf
+version-one os = placed-version (λ x. usersOf x os) os empty
 
 unfoldable wordsFrom : ℕ → List ℕ → ℕ → Bool × List W.Word
 wordsFrom zero t at = (false, [])
@@ -130,23 +155,24 @@ unfolding used
 used-fit zero = fit-nil
 used-fit (suc i) = fit-cons resource (used-fit i)
 
--- the refusal of a text, its line and its column
-abbrev told : OilRead → List ℕ
-told r = r .refusal ∷ r .line ∷ r .column ∷ []
+-- the refusal of a text, its line and its column; it unfolds what the checker computes
+pub answer : OilRead → List ℕ
+unfolding digits bodies isrs attributes objects resources usesOf used taskAndUsed new allAmong wordsFrom priorities autostarts ascii isSpace isDigit isLetter isNameByte isLineByte span same spelledSort signOf decimal closing comment blank blanks wordAt nextWord wordOfBytes attributeWords attributesWords objectWords written among attributeUses objectUses O.resources has with usersWith usersFrom attributed attributedAll begun ended placed configOf occurs faultAt putAt askedAt numbersEnded faultFrom
+answer r = r .refusal ∷ r .line ∷ r .column ∷ []
 
 -- 32 bodies are accepted, and 33 are too many
-pub bodies-limit : (told (readOil (bodies 32)) ≡ 0 ∷ 0 ∷ 0 ∷ []) × (told (readOil (bodies 33)) ≡ 4 ∷ 0 ∷ 0 ∷ [])
-unfolding digits bodies isrs attributes objects resources usesOf used taskAndUsed new allAmong wordsFrom priorities autostarts ascii isSpace isDigit isLetter isNameByte isLineByte span same spelledSort signOf decimal closing comment blank blanks wordAt nextWord wordOfBytes attributeWords attributesWords objectWords written among attributeUses objectUses O.resources has with usersWith usersFrom attributed attributedAll begun ended placed configOf occurs faultAt putAt askedAt numbersEnded faultFrom
-bodies-limit = (ap told (read 32 refl refl refl) ∙ refl, ap told (read 33 refl refl refl) ∙ refl)
+pub bodies-limit : (answer (readOil (bodies 32)) ≡ 0 ∷ 0 ∷ 0 ∷ []) × (answer (readOil (bodies 33)) ≡ 4 ∷ 0 ∷ 0 ∷ [])
+unfolding answer
+bodies-limit = (ap answer (read 32 refl refl refl) ∙ refl, ap answer (read 33 refl refl refl) ∙ refl)
   where
     read : (n : ℕ) → wordsFrom 300 (bodies n) 0 ≡ (true, written (isrs n)) → new [] (isrs n) ≡ true
         → allAmong (O.resources (isrs n)) (objectUses (isrs n)) ≡ true → readOil (bodies n) ≡ ranged (configOf (isrs n))
     read n w f b = oil-read (bodies n) (isrs n) (oil-of (bodies n) (isrs n) 300 w (isrs-fit n) f b)
 
 -- 16 resources are accepted, and 17 are too many
-pub resources-limit : (told (readOil (resources 16)) ≡ 0 ∷ 0 ∷ 0 ∷ []) × (told (readOil (resources 17)) ≡ 4 ∷ 0 ∷ 0 ∷ [])
-unfolding digits bodies isrs attributes objects resources usesOf used taskAndUsed new allAmong wordsFrom priorities autostarts ascii isSpace isDigit isLetter isNameByte isLineByte span same spelledSort signOf decimal closing comment blank blanks wordAt nextWord wordOfBytes attributeWords attributesWords objectWords written among attributeUses objectUses O.resources has with usersWith usersFrom attributed attributedAll begun ended placed configOf occurs faultAt putAt askedAt numbersEnded faultFrom
-resources-limit = (ap told (read 16 refl (task refl (omega arith)) refl refl) ∙ refl, ap told (read 17 refl (task refl (omega arith)) refl refl) ∙ refl)
+pub resources-limit : (answer (readOil (resources 16)) ≡ 0 ∷ 0 ∷ 0 ∷ []) × (answer (readOil (resources 17)) ≡ 4 ∷ 0 ∷ 0 ∷ [])
+unfolding answer
+resources-limit = (ap answer (read 16 refl (task refl (omega arith)) refl refl) ∙ refl, ap answer (read 17 refl (task refl (omega arith)) refl refl) ∙ refl)
   where
     read : (n : ℕ) → wordsFrom 300 (resources n) 0 ≡ (true, written (taskAndUsed n))
         → Fits (record { kind = taskSort; called = 116 ∷ []; attributes = priority 1 ∷ usesOf n })
