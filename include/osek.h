@@ -22,7 +22,7 @@
  * 7F, 128 is 80 01.
  *
  * CONFIGURATION, in this order:
- *     version            1
+ *     version            1, or 2, which also counts lost lines
  *     body count         1 to 32
  *     per body           kind (0 task, 1 ISR), priority (1 to 200, each used once), autostart (0 or 1; an ISR: 0)
  *     resource count     0 to 16
@@ -57,7 +57,7 @@ extern "C" {
 
 /* The first number changes when a program has to be compiled or linked anew, the second with what the calls answer or
  * offer, the last with everything else. CHANGELOG.md says what each one brought. */
-#define OSEK_VERSION "1.1.0"
+#define OSEK_VERSION "1.2.0"
 
 /* Sizes in bytes. Longer inputs are refused; an output of OSEK_OUTPUT_MAX suffices for every run, which is proved as
  * `room-enough` in crates/run/proofs/Theorems.antt. */
@@ -75,8 +75,8 @@ extern "C" {
  *     byte 4 i + 2    the level: the running body's current priority, 0 when idle
  *     byte 4 i + 3    1 if the event made a body begin from its start, otherwise 0 (a resumed body: 0)
  *     byte 4 e + 2 j, 4 e + 2 j + 1
- *                     low and high byte of the lost activations of body j: how often an entry was due while its task
- *                     was not suspended; stays at 65,535 once there
+ *                     low and high byte of the losses of body j: how often an entry was due while its task was not
+ *                     suspended; in version 2 also how often a Line got OSEK_E_OS_LIMIT; stays at 65,535 once there
  */
 #define OSEK_ANSWER_SIZE 4
 #define OSEK_LOSS_SIZE 2
@@ -95,7 +95,8 @@ enum {
     OSEK_EVENT_STOP = 9
 };
 
-/* Statuses, with OSEK's names and numbers. An event with a status other than 0 changes nothing. */
+/* Statuses, with OSEK's names and numbers. An event with a status other than 0 changes nothing, but that in version 2 a
+ * Line with OSEK_E_OS_LIMIT adds 1 to the losses of its ISR. */
 enum {
     OSEK_E_OK = 0,          /* done */
     OSEK_E_OS_ACCESS = 1,   /* Get: the resource is held, or the running body's own priority is above its ceiling */
@@ -118,7 +119,7 @@ enum {
                                       end, config_len */
     OSEK_CONFIG_NUMBER = 2,        /* a number above 4,294,967,295, place: its fifth byte; or not in its shortest form,
                                       place: its last byte, the superfluous 00 */
-    OSEK_CONFIG_VERSION = 3,       /* the version is not 1 */
+    OSEK_CONFIG_VERSION = 3,       /* the version is neither 1 nor 2 */
     OSEK_CONFIG_COUNT = 4,         /* a count of bodies, resources, tables or entries outside its range */
     OSEK_CONFIG_FIELD = 5,         /* another field outside its range; an entry's task that is no task */
     OSEK_CONFIG_PRIORITY_USED = 6, /* a priority that a body before has */

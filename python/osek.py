@@ -26,7 +26,7 @@ IDLE = 255
 REFUSALS = {
     1: "the configuration ends inside a number, or where one is missing",
     2: "a number of the configuration is too large or not in its shortest form",
-    3: "the version is not 1",
+    3: "the version is not 1 or 2",
     4: "a count is outside its range",
     5: "a field is outside its range, or an entry's task is an ISR",
     6: "a priority is used already",
@@ -60,7 +60,7 @@ class Run(NamedTuple):
     """An accepted run."""
 
     answers: List[Answer]  # one for each event
-    losses: List[int]  # one for each body: its lost activations
+    losses: List[int]  # one for each body: its lost activations; in version 2 an ISR's lost lines, too
 
 
 class Salvaged(NamedTuple):

@@ -45,7 +45,7 @@ MANY = bytes([1, 1, 0, 1, 1, 0, 5]) + 5 * (bytes([16, 16]) + bytes(b for offset 
 REFUSED = [
     (b"", b"", 1, 0),
     (b"\x81\x00", b"", 2, 1),
-    (config_with(0, 2), b"", 3, 0),
+    (config_with(0, 3), b"", 3, 0),
     (config_with(1, 33), b"", 4, 1),
     (config_with(2, 2), b"", 5, 2),
     (config_with(6, 2), b"", 6, 6),
@@ -79,6 +79,13 @@ class OsekTest(unittest.TestCase):
         shown = [[str(a.status), "-" if a.runner is None else str(a.runner), str(a.level), str(int(a.begun))] for a in answers]
         self.assertEqual(shown, rows)
         self.assertEqual(losses, [1, 0, 0])
+
+    def test_lost_lines_are_counted_in_version_2(self):
+        # ISR 2 begins, one request more waits, two are refused.
+        for version, lost in ((1, 0), (2, 2)):
+            answers, losses = osek.run(config_with(0, version), b"\x07\x02\x07\x02\x07\x02\x07\x02")
+            self.assertEqual([answer.status for answer in answers], [0, 0, 4, 4])
+            self.assertEqual(losses, [0, 0, lost])
 
     def test_an_empty_trace_has_no_answers(self):
         self.assertEqual(osek.run(CONFIG, b""), ([], [0, 0, 0]))

@@ -75,6 +75,7 @@ struct Table {
 }
 
 struct Plan {
+    version: u32,
     bodies: Vec<Body>,
     /// Masks of users.
     resources: Vec<u32>,
@@ -100,7 +101,7 @@ enum Role {
 
 impl Plan {
     fn numbers(&self) -> Vec<(Role, u32)> {
-        let mut numbers = vec![(Role::Version, 1), (Role::BodyCount, self.bodies.len() as u32)];
+        let mut numbers = vec![(Role::Version, self.version), (Role::BodyCount, self.bodies.len() as u32)];
         for body in &self.bodies {
             numbers.push((Role::Kind, u32::from(body.is_isr)));
             numbers.push((Role::Priority, body.priority));
@@ -138,11 +139,12 @@ fn number_bytes(numbers: &[(Role, u32)]) -> Vec<u8> {
 }
 
 fn draw_plan(random: &mut Random) -> Plan {
+    let version = random.pick(&[1, 2]);
     let bodies = draw_bodies(random);
     let resources = draw_resources(random, &bodies);
     let tasks: Vec<u32> = (0..bodies.len() as u32).filter(|body| !bodies[*body as usize].is_isr).collect();
     let tables = if tasks.is_empty() { Vec::new() } else { draw_tables(random, &tasks) };
-    Plan { bodies, resources, tables }
+    Plan { version, bodies, resources, tables }
 }
 
 fn draw_bodies(random: &mut Random) -> Vec<Body> {
@@ -511,7 +513,7 @@ fn out_of_range(random: &mut Random, plan: &Plan, role: Role, value: u32) -> u32
     let bodies = plan.bodies.len() as u32;
     let isr = plan.bodies.iter().position(|body| body.is_isr).map_or(bodies, |isr| isr as u32);
     match role {
-        Role::Version => random.pick(&[0, 2, 3, 128, 257]),
+        Role::Version => random.pick(&[0, 3 - value.min(2), 3, 4, 128, 257, 258]),
         Role::BodyCount => random.pick(&[0, 33, 34, bodies + 1, bodies - 1, u32::MAX]),
         Role::Kind => random.pick(&[2, 3, 1 - value.min(1), 128, 256]),
         Role::Priority => random.pick(&[0, 201, 255, 256, 257, plan.bodies[0].priority]),
@@ -723,7 +725,7 @@ pub fn case(seed: u64, number: u64) -> Case {
             };
             config = noise(&mut random, 60);
             if random.chance(70) && config.len() >= 2 {
-                config[0] = 1;
+                config[0] = random.pick(&[1, 2]);
                 config[1] = 1 + config[1] % 4;
             }
             trace = noise(&mut random, 60);
@@ -776,7 +778,7 @@ fn timed_plan(random: &mut Random) -> Plan {
             Table { period, entries }
         })
         .collect();
-    Plan { bodies, resources, tables }
+    Plan { version: 1, bodies, resources, tables }
 }
 
 fn timed_trace(random: &mut Random, config: &Config, shape: Shape, length: usize) -> Vec<u8> {

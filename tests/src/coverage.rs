@@ -1,5 +1,5 @@
 //! What a set of runs has shown: every refusal of the run, every status of every event, every body begun at once, every
-//! resource held at once, turns of a counter that passed unmatched.
+//! resource held at once, turns of a counter that passed unmatched, lines lost in both versions.
 
 use std::fmt;
 
@@ -26,6 +26,8 @@ pub const STATUSES: [(u8, &str, &[u8]); 9] = [
 pub struct Coverage {
     pub cases: u64,
     pub accepted: u64,
+    /// Accepted cases of version 1 and of version 2.
+    pub versions: [u64; 2],
     pub events: u64,
     refusals: [u64; 31],
     /// By event code and status.
@@ -43,7 +45,14 @@ pub struct Coverage {
     most_held: usize,
     /// Turns of a counter that passed unmatched.
     turns: u64,
+    /// Lines with status 4, by version 1 or 2, then by whether the ISR is ready or started with a request waiting.
+    lines_lost: [[u64; 2]; 2],
 }
+
+const LINES_LOST: [[&str; 2]; 2] = [
+    ["a line of a ready ISR lost in version 1", "a line of a started ISR lost in version 1"],
+    ["a line of a ready ISR lost in version 2", "a line of a started ISR lost in version 2"],
+];
 
 /// By table: the ticks until a counter first comes to its compare value with a turn to pass.
 #[derive(Default)]
@@ -87,6 +96,7 @@ impl Coverage {
         let events = result as usize;
         self.events += events as u64;
         let config = fast::read_config(&case.config).expect("the run accepted the configuration");
+        self.versions[usize::from(config.counts_lines())] += 1;
         let mut kernel = Kernel::<NextDue>::fresh(&config);
         let mut turns = Turns::default();
         let mut at = 0;
@@ -94,6 +104,9 @@ impl Coverage {
             let code = usize::from(case.trace[at]);
             let (event, next) = fast::read_event(&case.trace, at).expect("the run accepted the trace");
             at = next;
+            if let (Event::Line(isr), 4) = (event, answer[0]) {
+                self.lines_lost[usize::from(config.counts_lines())][usize::from(kernel.is_started(isr))] += 1;
+            }
             kernel.step(event);
             if answer[0] == 0 {
                 self.turns += u64::from(turns.step(&config, event));
@@ -116,6 +129,9 @@ impl Coverage {
     pub fn merge(&mut self, other: &Coverage) {
         self.cases += other.cases;
         self.accepted += other.accepted;
+        for (mine, others) in self.versions.iter_mut().zip(other.versions) {
+            *mine += others;
+        }
         self.events += other.events;
         for (mine, others) in self.refusals.iter_mut().zip(other.refusals) {
             *mine += others;
@@ -134,6 +150,9 @@ impl Coverage {
         self.most_begun = self.most_begun.max(other.most_begun);
         self.most_held = self.most_held.max(other.most_held);
         self.turns += other.turns;
+        for (mine, others) in self.lines_lost.iter_mut().flatten().zip(other.lines_lost.iter().flatten()) {
+            *mine += others;
+        }
     }
 
     /// What has not occurred and should have; empty if nothing is missing.
@@ -149,6 +168,11 @@ impl Coverage {
                 if self.statuses[usize::from(code)][usize::from(*status)] == 0 {
                     missing.push(format!("status {status} of {name}"));
                 }
+            }
+        }
+        for (count, name) in self.lines_lost.iter().flatten().zip(LINES_LOST.iter().flatten()) {
+            if *count == 0 {
+                missing.push(name.to_string());
             }
         }
         if self.turns == 0 {
@@ -177,7 +201,12 @@ impl Coverage {
 
 impl fmt::Display for Coverage {
     fn fmt(&self, f: &mut fmt::Formatter) -> fmt::Result {
-        writeln!(f, "{} cases, {} accepted, {} events", self.cases, self.accepted, self.events)?;
+        let [version1, version2] = self.versions;
+        writeln!(
+            f,
+            "{} cases, {} accepted ({version1} of version 1, {version2} of version 2), {} events",
+            self.cases, self.accepted, self.events
+        )?;
         write!(f, "refusals")?;
         for refusal in REFUSALS {
             write!(f, "  {refusal}: {}", self.refusals[refusal as usize])?;
@@ -203,6 +232,11 @@ impl fmt::Display for Coverage {
             f,
             "longest accepted trace: {} bytes, outputs of exactly the needed length: {}",
             self.longest_trace, self.exact_output
+        )?;
+        let [[ready1, started1], [ready2, started2]] = self.lines_lost;
+        writeln!(
+            f,
+            "lines lost of a ready and of a started ISR: version 1 {ready1} and {started1}, version 2 {ready2} and {started2}",
         )?;
         write!(
             f,

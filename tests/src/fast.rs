@@ -1,5 +1,5 @@
-//! Document 01 in Rust, written for speed: a ready list of one word, the started bodies on a stack, everything
-//! changed in place. It follows document 01 and shares nothing with the Rattle code.
+//! Document 01 with document 02's requests in Rust, written for speed: a ready list of one word, the started bodies on a stack, everything
+//! changed in place. It follows the documents and shares nothing with the Rattle code.
 //!
 //! In order: numbers, the configuration, events, the two kinds of timers, the kernel, the run.
 //!
@@ -81,6 +81,8 @@ fn read_long_number(bytes: &[u8], mut at: usize, mut value: u32) -> Result<(u32,
 /// callers' ids and the answers bear body numbers.
 #[derive(Clone, Debug)]
 pub struct Config {
+    /// Version 2: a Line refused because a request waits is a loss of its ISR.
+    counts_lines: bool,
     bodies: usize,
     resources: usize,
     tables: usize,
@@ -150,7 +152,7 @@ pub fn read_config(bytes: &[u8]) -> Result<Config, Refusal> {
         return refuse(10, 0);
     }
     let mut fields = Fields { bytes, place: 0, next: 0 };
-    fields.number(1..=1, 3)?;
+    let counts_lines = fields.number(1..=2, 3)? == 2;
 
     let bodies = fields.count(1, BODIES_MAX)?;
     let mut priority_of = [0u8; BODIES_MAX];
@@ -173,6 +175,7 @@ pub fn read_config(bytes: &[u8]) -> Result<Config, Refusal> {
     let all_bodies = u32::MAX >> (BODIES_MAX - bodies);
 
     let mut config = Config {
+        counts_lines,
         bodies,
         resources: 0,
         tables: 0,
@@ -239,6 +242,10 @@ pub fn read_config(bytes: &[u8]) -> Result<Config, Refusal> {
 }
 
 impl Config {
+    pub fn counts_lines(&self) -> bool {
+        self.counts_lines
+    }
+
     pub fn bodies(&self) -> usize {
         self.bodies
     }
@@ -519,8 +526,12 @@ pub struct Kernel<'c, T> {
     held_count: u8,
     taken: u16,
     timers: T,
-    /// Lost activations, by body number.
+    /// Lost activations and, in version 2, lost lines, by body number.
     losses: [u16; BODIES_MAX],
+}
+
+fn lose(losses: &mut u16) {
+    *losses = losses.saturating_add(1);
 }
 
 impl<'c, T: Timers> Kernel<'c, T> {
@@ -688,8 +699,7 @@ impl<'c, T: Timers> Kernel<'c, T> {
             if (*ready | *started) & bit == 0 {
                 *ready |= bit;
             } else {
-                let loss = &mut losses[usize::from(config.number[usize::from(rank)])];
-                *loss = loss.saturating_add(1);
+                lose(&mut losses[usize::from(config.number[usize::from(rank)])]);
             }
         });
         0
@@ -701,6 +711,9 @@ impl<'c, T: Timers> Kernel<'c, T> {
         }
         let bit = self.rank_bit(isr);
         if self.ready & bit != 0 {
+            if self.config.counts_lines {
+                lose(&mut self.losses[isr as usize]);
+            }
             return 4;
         }
         self.ready |= bit;
@@ -975,5 +988,17 @@ mod tests {
         assert_eq!(kernel.losses(), [65_535]);
         kernel.step(Event::Tick);
         assert_eq!(kernel.losses(), [65_535]);
+    }
+
+    #[test]
+    fn lost_lines_stay_at_65_535() {
+        // ISR 0 is started, and a request of it waits.
+        let config = read_config(&[2, 1, 1, 1, 0, 0, 0]).expect("the configuration is accepted");
+        let mut kernel = Kernel::<NextDue>::fresh(&config);
+        assert_eq!([Event::Line(0), Event::Line(0)].map(|line| kernel.step(line).status), [0, 0]);
+        for lost in 1..=65_537u32 {
+            assert_eq!(kernel.step(Event::Line(0)).status, 4);
+            assert_eq!(u32::from(kernel.losses()[0]), lost.min(65_535));
+        }
     }
 }

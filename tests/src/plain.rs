@@ -1,4 +1,4 @@
-//! Document 01's plain scheduler, as slow and as near to its words as can be: a set of bodies, the runner chosen
+//! Document 01's plain scheduler with document 02's requests, as slow and as near to their words as can be: a set of bodies, the runner chosen
 //! afresh after every event, tables with d and n. No rank, ready list, stack, kept level or cell; nothing here is
 //! shared with `fast`, so that a misreading in one of the two shows as a difference.
 
@@ -111,6 +111,7 @@ struct Table {
 
 #[derive(Clone, Debug)]
 pub struct Scheduler {
+    version: u64,
     bodies: Vec<Body>,
     /// The users of each resource.
     resources: Vec<BTreeSet<usize>>,
@@ -122,7 +123,7 @@ fn read_configuration(input: &[u8]) -> Result<Scheduler, Refused> {
     ensure(input.len() <= 4096, 10, 0)?;
     let mut cursor = Cursor { input, base: 0, next: 0 };
     let (version, at) = cursor.take()?;
-    ensure(version == 1, 3, at)?;
+    ensure(version == 1 || version == 2, 3, at)?;
 
     let (body_count, at) = cursor.take()?;
     ensure((1..=32).contains(&body_count), 4, at)?;
@@ -179,7 +180,7 @@ fn read_configuration(input: &[u8]) -> Result<Scheduler, Refused> {
         tables.push(Table { period, entries, progress: Progress::Stopped });
     }
     ensure(cursor.next == input.len(), 9, cursor.next)?;
-    Ok(Scheduler { bodies, resources, tables, runner: None })
+    Ok(Scheduler { version, bodies, resources, tables, runner: None })
 }
 
 /// A code and its arguments.
@@ -377,9 +378,14 @@ impl Scheduler {
             if self.suspended(task) {
                 self.bodies[task].state = State::Ready;
             } else {
-                self.bodies[task].losses = (self.bodies[task].losses + 1).min(65535);
+                self.lose(task);
             }
         }
+    }
+
+    /// "its loss count rises by 1 and stays at 65,535 once there"
+    fn lose(&mut self, body: usize) {
+        self.bodies[body].losses = (self.bodies[body].losses + 1).min(65535);
     }
 
     fn take_effect(&mut self, code: u64, arguments: &[u64]) {
@@ -420,6 +426,10 @@ impl Scheduler {
         if status == 0 {
             self.take_effect(code, arguments);
         }
+        // "From edition two a Line that meets a waiting request adds to that ISR's loss count .. besides giving status 4."
+        if self.version == 2 && code == 7 && status == 4 {
+            self.lose(arguments[0] as usize);
+        }
         let begun = self.choose();
         match self.runner {
             Some(runner) => [status, runner as u8, self.current_priority(runner) as u8, u8::from(begun)],
@@ -452,5 +462,25 @@ pub fn run(config: &[u8], trace: &[u8], out: &mut [u8]) -> u64 {
             events
         }
         Err((refusal, place)) => refusal * 4_294_967_296 + place as u64,
+    }
+}
+
+#[cfg(test)]
+mod tests {
+    //! What no run is long enough to reach.
+
+    use super::*;
+
+    #[test]
+    fn lost_lines_stay_at_65_535() {
+        // ISR 0 is started, and a request of it waits.
+        let mut scheduler = read_configuration(&[2, 1, 1, 1, 0, 0, 0]).expect("the configuration is accepted");
+        scheduler.fresh_start();
+        assert_eq!(scheduler.answer(7, &[0]), [0, 0, 1, 1]);
+        assert_eq!(scheduler.answer(7, &[0]), [0, 0, 1, 0]);
+        for lost in 1..=65_537 {
+            assert_eq!(scheduler.answer(7, &[0]), [4, 0, 1, 0]);
+            assert_eq!(scheduler.bodies[0].losses, lost.min(65_535));
+        }
     }
 }

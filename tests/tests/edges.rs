@@ -202,6 +202,80 @@ fn edge_p12_a_started_isr_takes_one_more_request() {
     );
 }
 
+/// A configuration with another version.
+fn of_version(version: u8, config: &[u8]) -> Vec<u8> {
+    let mut config = config.to_vec();
+    config[0] = version;
+    config
+}
+
+#[test]
+fn a_line_lost_on_a_started_isr_counts_in_version_2() {
+    let rows = "0 7 0 0 5 1
+                1 7 0 0 5 0
+                2 7 4 0 5 0
+                3 7 4 0 5 0
+                4 2 0 0 5 1
+                5 7 0 0 5 0
+                6 7 4 0 5 0";
+    let trace = [7, 0, 7, 0, 7, 0, 7, 0, 2, 7, 0, 7, 0];
+    assert_rows(&of_version(1, &TWO_ISRS), &trace, rows);
+    assert_rows(&of_version(2, &TWO_ISRS), &trace, &format!("{rows}\nlost 0 3"));
+}
+
+#[test]
+fn a_line_lost_on_a_ready_isr_counts_in_version_2() {
+    // ISR 0 runs at the ceiling 9, so that ISR 1 waits to begin.
+    let rows = "0 7 0 0 5 1
+                1 4 0 0 9 0
+                2 7 0 0 9 0
+                3 7 4 0 9 0
+                4 7 4 0 9 0
+                5 5 0 1 9 1
+                6 7 0 1 9 0";
+    let trace = [7, 0, 4, 0, 7, 1, 7, 1, 7, 1, 5, 0, 7, 1];
+    assert_rows(&of_version(1, &TWO_ISRS), &trace, rows);
+    assert_rows(&of_version(2, &TWO_ISRS), &trace, &format!("{rows}\nlost 1 2"));
+}
+
+#[test]
+fn no_other_refusal_is_a_loss_in_version_2() {
+    // Task 0 (4, runs), task 1 (1), ISR 2 (9). A Line to a task or to nobody is 3; a refused Activate or Chain is no loss.
+    let config = [2, 3, 0, 4, 1, 0, 1, 0, 1, 9, 0, 0, 0];
+    assert_rows(
+        &config,
+        &[7, 0, 7, 1, 7, 3, 1, 0, 1, 1, 1, 1, 3, 1, 7, 2, 7, 2, 3, 1, 1, 1, 7, 2],
+        "0 7 3 0 4 0
+         1 7 3 0 4 0
+         2 7 3 0 4 0
+         3 1 4 0 4 0
+         4 1 0 0 4 0
+         5 1 4 0 4 0
+         6 3 4 0 4 0
+         7 7 0 2 9 1
+         8 7 0 2 9 0
+         9 3 2 2 9 0
+         10 1 4 2 9 0
+         11 7 4 2 9 0
+         lost 2 1",
+    );
+}
+
+#[test]
+fn lost_activations_count_alike_in_both_versions() {
+    for version in [1, 2] {
+        assert_rows(
+            &of_version(version, &TWO_TABLES),
+            &[8, 0, 1, 6, 6, 6],
+            "0 8 0 0 1 0
+             1 6 0 1 2 1
+             2 6 0 1 2 0
+             3 6 0 1 2 0
+             lost 1 2",
+        );
+    }
+}
+
 #[test]
 fn edge_p13_resources_are_released_in_the_order_last_taken_first() {
     // Resources 0 and 1, both of the one task.

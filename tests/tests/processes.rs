@@ -126,7 +126,7 @@ fn each_refusal_is_printed_with_its_place() {
         (DOCUMENT_CONFIG[..19].to_vec(), &[], "refused 1 19\n"),
         (vec![1, 0x81, 0x80], &[], "refused 1 3\n"),
         (vec![0x81, 0], &[], "refused 2 1\n"),
-        (config(0, 2), &[], "refused 3 0\n"),
+        (config(0, 3), &[], "refused 3 0\n"),
         (config(1, 33), &[], "refused 4 1\n"),
         (config(2, 2), &[], "refused 5 2\n"),
         (config(6, 2), &[], "refused 6 6\n"),

@@ -112,8 +112,9 @@ fn a_number_too_large_or_not_shortest_is_2_at_the_byte_that_decides() {
 }
 
 #[test]
-fn a_version_other_than_1_is_3() {
-    for version in [&[0][..], &[2], &[0x81, 1]] {
+fn a_version_other_than_1_and_2_is_3() {
+    assert_eq!(result(&with(0, 1, &[2]), &[], 6), (0, 0));
+    for version in [&[0][..], &[3], &[4], &[0x81, 1], &[0x82, 1], &[0xff, 0xff, 0xff, 0xff, 0x0f]] {
         assert_config(&with(0, 1, version), 3, 0);
     }
 }

@@ -7,7 +7,7 @@ use osek_tests::fast::{
 
 use crate::layout::{Field, Objects};
 use crate::names::Names;
-use crate::words::{self, grouped, KINDS};
+use crate::words::{self, grouped, KINDS, VERSIONS};
 
 /// A field as a sentence calls it.
 pub fn name(field: Field, names: &Names) -> String {
@@ -37,7 +37,11 @@ fn numbered(thing: &str, number: usize, name: Option<&String>) -> String {
 /// A field and its value, for a dump.
 pub fn meaning(field: Field, value: u32, names: &Names) -> String {
     match field {
-        Field::Version => format!("version {value}"),
+        Field::Version => {
+            let counts = words::version(value).is_some_and(|version| version.counts_lines);
+            let said = if counts { format!(", {}", words::LINES_COUNTED) } else { String::new() };
+            format!("version {value}{said}")
+        }
         Field::BodyCount => format!("body count {value}"),
         Field::Kind(body) => {
             let kind = words::kind(value).map_or_else(|| "unknown kind".into(), |kind| kind.name.to_string());
@@ -62,7 +66,7 @@ pub fn meaning(field: Field, value: u32, names: &Names) -> String {
 /// What a field may be, given the objects before it.
 pub fn allowed(field: Field, objects: &Objects, names: &Names) -> String {
     match field {
-        Field::Version => "1".into(),
+        Field::Version => words::either(&VERSIONS.map(|version| version.number.to_string())),
         Field::BodyCount => format!("1 to {BODIES_MAX}"),
         Field::Kind(_) => {
             let kinds: Vec<String> = KINDS.iter().map(|kind| format!("{} ({})", kind.number, kind.name)).collect();

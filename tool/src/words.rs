@@ -1,4 +1,5 @@
-//! The words of document 01: events, kinds, statuses and refusals, each in one table, and nowhere else in the tool.
+//! The words of documents 01 and 02: events, kinds, versions, statuses and refusals, each in one table, and nowhere else
+//! in the tool.
 
 /// What a file holds, and a refusal is about.
 #[derive(Clone, Copy, PartialEq, Eq, Debug)]
@@ -43,9 +44,15 @@ impl EventWord {
     pub fn is_tick(&self) -> bool {
         self.code == TICK
     }
+
+    /// Whether an answer to this event says that a line is lost.
+    pub fn loses_a_line(&self, status: u8) -> bool {
+        self.code == LINE && status == REQUEST_WAITS.0
+    }
 }
 
 const TICK: u32 = 6;
+const LINE: u32 = 7;
 
 const NOBODY_RUNS: (u8, &str) = (2, "nobody runs");
 const NO_TASK: (u8, &str) = (3, "no task has this number");
@@ -53,6 +60,7 @@ const NO_RESOURCE: (u8, &str) = (3, "no resource has this number");
 const NO_TABLE: (u8, &str) = (3, "no table has this number");
 const NOT_SUSPENDED: (u8, &str) = (4, "the task is not suspended");
 const HOLDS: (u8, &str) = (6, "the running body holds a resource");
+const REQUEST_WAITS: (u8, &str) = (4, "a request of this ISR waits already");
 
 pub const EVENTS: [EventWord; 9] = [
     EventWord {
@@ -90,11 +98,11 @@ pub const EVENTS: [EventWord; 9] = [
     },
     EventWord { code: TICK, name: "Tick", word: "tick", arguments: &[], statuses: &[] },
     EventWord {
-        code: 7,
+        code: LINE,
         name: "Line",
         word: "line",
         arguments: &[Sort::Body],
-        statuses: &[(3, "no ISR has this number"), (4, "a request of this ISR waits already")],
+        statuses: &[(3, "no ISR has this number"), REQUEST_WAITS],
     },
     EventWord {
         code: 8,
@@ -153,19 +161,39 @@ pub fn status_meaning(event: &EventWord, status: u8) -> &'static str {
     event.statuses.iter().find(|(number, _)| *number == status).map_or("done", |(_, meaning)| meaning)
 }
 
+/// A version of the configuration.
+pub struct VersionWord {
+    pub number: u32,
+    /// Whether a lost line adds to its ISR's losses.
+    pub counts_lines: bool,
+}
+
+pub const VERSIONS: [VersionWord; 2] =
+    [VersionWord { number: 1, counts_lines: false }, VersionWord { number: 2, counts_lines: true }];
+
+pub fn version(number: u32) -> Option<&'static VersionWord> {
+    VERSIONS.iter().find(|version| version.number == number)
+}
+
+/// What a version that counts lost lines says of itself, and of such a line.
+pub const LINES_COUNTED: &str = "lost lines are counted";
+pub const LINE_COUNTED: &str = "the line is counted as lost";
+
 /// A kind of body: its number in a configuration, its word in the text form and its name in sentences.
 pub struct KindWord {
     pub number: u32,
     pub word: &'static str,
     pub name: &'static str,
+    /// What it is asked for by, and loses.
+    pub request: &'static str,
     /// Whether it may be ready at the fresh start, and whether an entry of a table may name it.
     pub autostarts: bool,
     pub in_tables: bool,
 }
 
 pub const KINDS: [KindWord; 2] = [
-    KindWord { number: 0, word: "task", name: "task", autostarts: true, in_tables: true },
-    KindWord { number: 1, word: "isr", name: "ISR", autostarts: false, in_tables: false },
+    KindWord { number: 0, word: "task", name: "task", request: "activation", autostarts: true, in_tables: true },
+    KindWord { number: 1, word: "isr", name: "ISR", request: "line", autostarts: false, in_tables: false },
 ];
 
 pub fn kind(number: u32) -> Option<&'static KindWord> {

@@ -15,11 +15,11 @@ use Rattle.config.specs.declared.Field.{Field}
 use Rattle.config.specs.declared.Field.the-variants.{Version, Bodies, Kind, Priority, Autostart, Resources, Users, Tables, Period, Entries, Offset, Task, End}
 use Rattle.config.specs.Refusal.{badVersion, badCount, badField, usedPriority, unsorted, tooManyEntries}
 use Rattle.config.specs.Meaning.{isr, isTask}
-use Rattle.config.specs.Value.{maxPriority, maxBodies, maxResources, maxTables, maxEntries}
+use Rattle.config.specs.Value.{newestVersion, maxPriority, maxBodies, maxResources, maxTables, maxEntries}
 use Rattle.config.specs.Draft.{occurs, unless, outside, andThen, sorted, mostAutostart, faultAt}
 
 abbrev pub InRange : Field → Draft → ℕ → Type 0
-InRange Version d v = v ≡ 1
+InRange Version d v = (1 ≤ v) × (v ≤ newestVersion)
 InRange Bodies d v = (1 ≤ v) × (v ≤ maxBodies)
 InRange Kind d v = v ≤ isr
 InRange Priority d v = (1 ≤ v) × (v ≤ maxPriority) × (occurs v (take (d .index) (d .config .priority)) ≡ false)
@@ -57,7 +57,7 @@ both r s p q = simp (eq-eqb r none p) q
 
 pub in-range : (f : Field) (d : Draft) (v : ℕ) → faultAt f d v ≡ none → InRange f d v
 unfolding faultAt
-in-range Version d v e = let h = not-outside 1 1 v badVersion (lit< tt) e in omega arith
+in-range Version d v e = not-outside 1 newestVersion v badVersion (lit< tt) e
 in-range Bodies d v e = not-outside 1 maxBodies v badCount (lit< tt) e
 in-range Kind d v e = not-outside 0 isr v badField (lit< tt) e .1
 in-range Priority d v e =
@@ -85,7 +85,7 @@ in-range End d v e = tt
 
 pub no-fault : (f : Field) (d : Draft) (v : ℕ) → InRange f d v → faultAt f d v ≡ none
 unfolding faultAt
-no-fault Version d v h = inside 1 1 v badVersion (omega arith) (omega arith)
+no-fault Version d v h = inside 1 newestVersion v badVersion (h .0) (h .1)
 no-fault Bodies d v h = inside 1 maxBodies v badCount (h .0) (h .1)
 no-fault Kind d v h = inside 0 isr v badField (omega arith) h
 no-fault Priority d v h =

@@ -19,7 +19,7 @@ use Rattle.config.specs.declared.Field.{Field}
 use Rattle.config.specs.declared.Field.the-variants.{Version, Bodies, Kind, Priority, Autostart, Resources, Users, Tables, Period, Entries, Offset, Task, End}
 use Rattle.config.specs.Refusal.{badVersion, badCount, badField, usedPriority, unsorted, tooManyEntries, leftOver, tooLong}
 use Rattle.config.specs.Meaning.{isr, isTask}
-use Rattle.config.specs.Value.{maxPriority, maxBodies, maxResources, maxTables, maxEntries, noConfig}
+use Rattle.config.specs.Value.{newestVersion, maxPriority, maxBodies, maxResources, maxTables, maxEntries, noConfig}
 use Rattle.config.specs.Draft.{occurs, unless, outside, andThen, sorted, mostAutostart, fault, faultAt, put, ended, start}
 use Rattle.config.specs.Reader.{numberFault, faultPlace, finished, refused, readFrom, maxLength, readConfig}
 use Rattle.config.proofs.Walk.{number-fine, read-end, read-zero, read-step, read-stop, readFrom-elim}
@@ -43,7 +43,7 @@ outside-tested lo hi v r low high = unless-tested (leb lo v && leb v hi) r low h
 
 fault-tested : (f : Field) (d : Draft) (v : ℕ) → Tested (faultAt f d v)
 unfolding faultAt
-fault-tested Version d v = outside-tested 1 1 v badVersion (lit≤ tt) (lit≤ tt)
+fault-tested Version d v = outside-tested 1 newestVersion v badVersion (lit≤ tt) (lit≤ tt)
 fault-tested Bodies d v = outside-tested 1 maxBodies v badCount (lit≤ tt) (lit≤ tt)
 fault-tested Kind d v = outside-tested 0 isr v badField (lit≤ tt) (lit≤ tt)
 fault-tested Priority d v =

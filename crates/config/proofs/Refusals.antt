@@ -6,7 +6,7 @@
 use Prim.Native.Nat.{ℕ, zero, suc}
 use mathlib.Core.Path.{_≡_, refl}
 use mathlib.Core.List.{List, [], _∷_, _++_, map}
-use lib.ListN.{replicate}
+use lib.ListN.{drop, replicate}
 use Rattle.number.specs.Number.{readNumber, groups, continued, fifthGroup, numberBytes, groupBytes}
 use Rattle.number.specs.Output.{writing, written}
 use Rattle.config.specs.declared.Config.{Config}
@@ -48,7 +48,7 @@ pub record ReaderRows : Type 0 where
   pub lengths : answers [] ([] ∷ replicate 4096 0x00 ∷ replicate 4097 0x00 ∷ []) ≡ (1, 0) ∷ (3, 0) ∷ (10, 0) ∷ []
   -- readable before in range; cut at the end, malformed at the byte that decides it
   pub unreadable : answers [] ((0x80 ∷ []) ∷ (0x80 ∷ 0x00 ∷ 0x07 ∷ []) ∷ []) ≡ (1, 1) ∷ (2, 1) ∷ []
-  pub version : answers [] ((0x00 ∷ []) ∷ (0x01 ∷ []) ∷ (0x02 ∷ []) ∷ []) ≡ (3, 0) ∷ (1, 1) ∷ (3, 0) ∷ []
+  pub version : answers [] ((0x00 ∷ []) ∷ (0x01 ∷ []) ∷ (0x02 ∷ []) ∷ (0x03 ∷ []) ∷ []) ≡ (3, 0) ∷ (1, 1) ∷ (1, 1) ∷ (3, 0) ∷ []
   pub body-count : answers (0x01 ∷ []) ((0x00 ∷ []) ∷ (0x01 ∷ []) ∷ (0x20 ∷ []) ∷ (0x21 ∷ []) ∷ []) ≡ (4, 1) ∷ (1, 2) ∷ (1, 2) ∷ (4, 1) ∷ []
   pub kind : answers (0x01 ∷ 0x01 ∷ []) ((0x00 ∷ []) ∷ (0x01 ∷ []) ∷ (0x02 ∷ []) ∷ []) ≡ (1, 3) ∷ (1, 3) ∷ (5, 2) ∷ []
   pub priority : answers (0x01 ∷ 0x01 ∷ 0x00 ∷ []) ((0x00 ∷ []) ∷ (0x01 ∷ []) ∷ (0xC8 ∷ 0x01 ∷ []) ∷ (0xC9 ∷ 0x01 ∷ []) ∷ [])
@@ -130,15 +130,17 @@ pub record WriterRows : Type 0 where
   pub room : (answer 21 value ≡ (0, 20)) × (answer 20 value ≡ (0, 20)) × (answer 19 value ≡ (30, 20))
   -- 3 to 8 at place 0, before 30, and the first in the reader's order
   pub refused : map (answer 0) (
-      withVersion value 2 ∷ withBodies value 33 ∷ withKind value 1 2 ∷ withPriority value 2 5 ∷ withAutostart value 2 1 ∷ withUsers value 0 8
+      withVersion value 0 ∷ withVersion value 3 ∷ withBodies value 33 ∷ withKind value 1 2 ∷ withPriority value 2 5 ∷ withAutostart value 2 1 ∷ withUsers value 0 8
       ∷ withPeriod value 0 0 ∷ withEntries value 0 17 ∷ withOffset value 1 0 ∷ withTask value 1 2
-      ∷ withEntries (withPeriod (withTables full 5) 4 1) 4 1 ∷ withVersion (withBodies value 33) 2 ∷ []
+      ∷ withEntries (withPeriod (withTables full 5) 4 1) 4 1 ∷ withVersion (withBodies value 33) 3 ∷ []
       )
-      ≡ (3, 0) ∷ (4, 0) ∷ (5, 0) ∷ (6, 0) ∷ (5, 0) ∷ (5, 0) ∷ (5, 0) ∷ (4, 0) ∷ (7, 0) ∷ (5, 0) ∷ (8, 0) ∷ (3, 0) ∷ []
+      ≡ (3, 0) ∷ (3, 0) ∷ (4, 0) ∷ (5, 0) ∷ (6, 0) ∷ (5, 0) ∷ (5, 0) ∷ (5, 0) ∷ (4, 0) ∷ (7, 0) ∷ (5, 0) ∷ (8, 0) ∷ (3, 0) ∷ []
   -- bytes beyond the length stay; too short or refused, all stay
   pub output : (wroteConfig value (replicate 22 0xFF) ≡ listing ++ 0xFF ∷ 0xFF ∷ [])
       × (wroteConfig value (replicate 19 0xFF) ≡ replicate 19 0xFF)
-      × (wroteConfig (withVersion value 2) (replicate 22 0xFF) ≡ replicate 22 0xFF)
+      × (wroteConfig (withVersion value 3) (replicate 22 0xFF) ≡ replicate 22 0xFF)
+  -- version 2 is written as it is
+  pub second : wroteConfig (withVersion value 2) (replicate 20 0xFF) ≡ 0x02 ∷ drop 1 listing
   -- entries past the counts are ignored
   pub past : answer 20 (withKind (withUsers (withTask value 2 200) 1 77) 3 9) ≡ (0, 20)
 
@@ -149,5 +151,6 @@ writer-rows =
       room = (refl, refl, refl);
       refused = refl;
       output = (refl, refl, refl);
+      second = refl;
       past = refl;
     }

@@ -18,7 +18,7 @@ use Rattle.config.specs.declared.Draft.{Draft}
 use Rattle.config.specs.declared.Field.{Field}
 use Rattle.config.specs.declared.Field.the-variants.{Version, Bodies, Kind, Priority, Autostart, Resources, Users, Tables, Period, Entries, Offset, Task, End}
 use Rattle.config.specs.Meaning.{isr, isTask, priorityOf, firstOf}
-use Rattle.config.specs.Value.{maxPriority, maxBodies, maxResources, maxTables, maxEntries}
+use Rattle.config.specs.Value.{newestVersion, maxPriority, maxBodies, maxResources, maxTables, maxEntries}
 use Rattle.config.specs.Draft.{rises, sorted, mostAutostart, putAt, askedAt, ended}
 use Rattle.config.specs.Accepted.{Shaped, Accepted}
 use Rattle.config.proofs.Padded.{length-padded, getD-padded, occurs-none, none-occurs}
@@ -110,7 +110,7 @@ abbrev pub TaskFits : Config → ℕ → ℕ → Type 0
 TaskFits c t e = (isTask c (getD (c .task) e 0) ≡ true) × (firstOf c t < e → risesAt c e ≡ true)
 
 abbrev pub Fits : Field → Config → ℕ → ℕ → Type 0
-Fits Version c i e = c .version ≡ 1
+Fits Version c i e = (1 ≤ c .version) × (c .version ≤ newestVersion)
 Fits Bodies c i e = (1 ≤ c .bodies) × (c .bodies ≤ maxBodies)
 Fits Kind c i e = KindFits c i
 Fits Priority c i e = PriorityFits c i
@@ -223,7 +223,7 @@ fits-back End c d s x p h = tt
 
 -- what is accepted fits everywhere
 pub accepted-fits : (f : Field) (c : Config) (d : Draft) → Accepted c → Place f c d → Fits f c (d .index) (d .entry)
-accepted-fits Version c d a p = a .version-one
+accepted-fits Version c d a p = (a .version-low, a .version-high)
 accepted-fits Bodies c d a p = (a .some-body, a .few-bodies)
 accepted-fits Kind c d a p = a .kind-known (d .index) (p .1)
 accepted-fits Priority c d a p =

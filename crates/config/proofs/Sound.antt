@@ -17,7 +17,7 @@ use Rattle.config.specs.declared.Draft.{Draft}
 use Rattle.config.specs.declared.Field.{Field}
 use Rattle.config.specs.declared.Field.the-variants.{Version, Bodies, Kind, Priority, Autostart, Resources, Users, Tables, Period, Entries, Offset, Task, End}
 use Rattle.config.specs.Meaning.{isTask, firstOf}
-use Rattle.config.specs.Value.{maxBodies, maxResources, maxTables, maxEntries}
+use Rattle.config.specs.Value.{newestVersion, maxBodies, maxResources, maxTables, maxEntries}
 use Rattle.config.specs.Draft.{put, putAt, asked, askedAt, ended, start}
 use Rattle.config.specs.Accepted.{Shaped, Accepted, trimmed}
 use Rattle.config.specs.Writer.{faultFrom}
@@ -52,7 +52,7 @@ record EntryFits (c : Config) (e : ℕ) : Type 0 where
   rising : (t : ℕ) → t < c .tables → firstOf c t < e → e < firstOf c (suc t) → risesAt c e ≡ true
 
 record Head (c : Config) : Type 0 where
-  version-one : c .version ≡ 1
+  version : (1 ≤ c .version) × (c .version ≤ newestVersion)
   some-body : 1 ≤ c .bodies
   few-bodies : c .bodies ≤ maxBodies
 
@@ -74,7 +74,7 @@ record TablesFit (c : Config) (t e : ℕ) : Type 0 where
 
 abbrev SoFar : Field → Config → ℕ → ℕ → Type 0
 SoFar Version c i e = Unit {0}
-SoFar Bodies c i e = c .version ≡ 1
+SoFar Bodies c i e = (1 ≤ c .version) × (c .version ≤ newestVersion)
 SoFar Kind c i e = BodiesFit c i
 SoFar Priority c i e = BodiesFit c i × KindFits c i
 SoFar Autostart c i e = BodiesFit c i × KindFits c i × PriorityFits c i
@@ -121,7 +121,7 @@ so-far-put : (f : Field) (c : Config) (d : Draft) → ended f ≡ false → Exte
     → SoFar (putAt f d (askedAt f c d) .field) c (putAt f d (askedAt f c d) .index) (putAt f d (askedAt f c d) .entry)
 unfolding putAt askedAt ended
 so-far-put Version c d t x p h s = h
-so-far-put Bodies c d t x p h s = record { head = record { version-one = s; some-body = h .0; few-bodies = h .1 }; each = upto-zero (BodyFits c) }
+so-far-put Bodies c d t x p h s = record { head = record { version = s; some-body = h .0; few-bodies = h .1 }; each = upto-zero (BodyFits c) }
 so-far-put Kind c d t x p h s = (s, h)
 so-far-put Priority c d t x p h s = (s .0, s .1, h)
 so-far-put Autostart c d t x p h s = rw (ap (λ (y : Config). y .bodies) x)
@@ -161,7 +161,8 @@ so-far-put End c d t x p h s = absurd (true≢false t)
 at-end : (c : Config) (e : ℕ) → e ≡ firstOf c (c .tables) → TablesFit c (c .tables) e → Accepted c
 at-end c e p s =
     record {
-      version-one = h .version-one;
+      version-low = h .version .0;
+      version-high = h .version .1;
       some-body = h .some-body;
       few-bodies = h .few-bodies;
       kind-known = λ b q. bodies b q .kind;

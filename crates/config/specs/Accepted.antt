@@ -6,7 +6,7 @@ use mathlib.Core.List.{List, _++_}
 use mathlib.Core.Bool.{true}
 use lib.ListN.{length, getD, take, replicate}
 use Rattle.config.specs.declared.Config.{Config}
-use Rattle.config.specs.Value.{maxPriority, maxBodies, maxResources, maxTables, maxEntries}
+use Rattle.config.specs.Value.{newestVersion, maxPriority, maxBodies, maxResources, maxTables, maxEntries}
 use Rattle.config.specs.Meaning.{isr, isTask, firstOf, priorityOf}
 use Rattle.config.specs.Draft.{rises}
 
@@ -23,7 +23,8 @@ pub record Shaped (c : Config) : Type 0 where
 
 -- the ranges of a configuration's fields, as far as its counts reach
 pub record Accepted (c : Config) : Type 0 where
-  pub version-one : c .version ≡ 1
+  pub version-low : 1 ≤ c .version
+  pub version-high : c .version ≤ newestVersion
   pub some-body : 1 ≤ c .bodies
   pub few-bodies : c .bodies ≤ maxBodies
   pub kind-known : (b : ℕ) → b < c .bodies → getD (c .kind) b 0 ≤ isr

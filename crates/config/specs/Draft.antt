@@ -18,7 +18,7 @@ use Rattle.config.specs.declared.Field.{Field}
 use Rattle.config.specs.declared.Field.the-variants.{Version, Bodies, Kind, Priority, Autostart, Resources, Users, Tables, Period, Entries, Offset, Task, End}
 use Rattle.config.specs.Refusal.{badVersion, badCount, badField, usedPriority, unsorted, tooManyEntries}
 use Rattle.config.specs.Meaning.{isr, isTask}
-use Rattle.config.specs.Value.{maxPriority, maxBodies, maxResources, maxTables, maxEntries, noConfig, withVersion, withBodies, withKind, withPriority, withAutostart, withResources, withUsers, withTables, withPeriod, withEntries, withOffset, withTask}
+use Rattle.config.specs.Value.{newestVersion, maxPriority, maxBodies, maxResources, maxTables, maxEntries, noConfig, withVersion, withBodies, withKind, withPriority, withAutostart, withResources, withUsers, withTables, withPeriod, withEntries, withOffset, withTask}
 
 -- v stands in the list
 unfoldable pub occurs : ℕ → List ℕ → Bool
@@ -55,7 +55,7 @@ abbrev pub mostAutostart : ℕ → ℕ
 mostAutostart kind = cond (eqb kind isr) 0 1
 
 unfoldable pub faultAt : Field → Draft → ℕ → ℕ
-faultAt Version d v = outside 1 1 v badVersion
+faultAt Version d v = outside 1 newestVersion v badVersion
 faultAt Bodies d v = outside 1 maxBodies v badCount
 faultAt Kind d v = outside 0 isr v badField
 faultAt Priority d v =

@@ -1,11 +1,16 @@
--- What the rules ask of a configuration: which bodies are tasks and which ISRs, a resource's ceiling, a table's entries.
+-- What the rules ask of a configuration: whether it counts lost lines, which bodies are tasks and which ISRs, a resource's ceiling, a table's
+-- entries.
 -- Assumes nothing.
 use Prim.Native.Nat.{ℕ, zero, suc, _+_, _/_, _%_, max}
 use mathlib.Core.Bool.{Bool, cond, not, _&&_}
 use mathlib.Core.List.{List, [], _∷_}
-use lib.Dec.{ltb, eqb}
+use lib.Dec.{ltb, leb, eqb}
 use lib.ListN.{getD, take, drop}
 use Rattle.config.specs.declared.Config.{Config}
+
+-- "From edition two a Line that meets a waiting request adds to that ISR's loss count"; the version is the edition of the procedure
+abbrev pub countsLines : Config → Bool
+countsLines c = leb 2 (c .version)
 
 -- "kind (0 task, 1 ISR)"
 abbrev pub isr : ℕ

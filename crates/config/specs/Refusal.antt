@@ -2,7 +2,7 @@
 -- Assumes nothing.
 use Prim.Native.Nat.{ℕ}
 
--- "version not 1"
+-- "for versions other than 1 and 2"
 abbrev pub badVersion : ℕ
 badVersion = 3
 

@@ -4,6 +4,10 @@ use Prim.Native.Nat.{ℕ}
 use lib.ListN.{set, replicate}
 use Rattle.config.specs.declared.Config.{Config}
 
+-- "Version 1 or 2 at the head of the configuration"
+abbrev pub newestVersion : ℕ
+newestVersion = 2
+
 -- "There are 1 to 32" bodies
 abbrev pub maxBodies : ℕ
 maxBodies = 32

@@ -15,7 +15,7 @@ use Rattle.config.specs.declared.Field.{Field}
 use Rattle.config.specs.declared.Field.the-variants.{Version, Bodies, Kind, Priority, Autostart, Resources, Users, Tables, Period, Entries, Offset, Task, End}
 use Rattle.config.specs.Refusal.{badVersion, badCount, badField, tooManyEntries}
 use Rattle.config.specs.Meaning.{isr, isTask}
-use Rattle.config.specs.Value.{maxPriority, maxEntries}
+use Rattle.config.specs.Value.{newestVersion, maxPriority, maxEntries}
 use Rattle.config.specs.Draft.{unless, outside, andThen, mostAutostart, fault, faultAt, Inside, Within}
 
 -- tests that give no refusal
@@ -50,7 +50,7 @@ andThen-second r s e = sym (cond-true (andThen-first r s e)) ∙ e
 
 -- how great a number that is in order can be
 unfoldable pub Small : Field → Draft → ℕ → Type 0
-Small Version d v = v ≤ 1
+Small Version d v = v ≤ newestVersion
 Small Bodies d v = (1 ≤ v) × (v ≤ 32)
 Small Kind d v = v ≤ 1
 Small Priority d v = v ≤ maxPriority
@@ -66,7 +66,7 @@ Small End d v = Unit {0}
 
 small-at : (f : Field) (d : Draft) (v : ℕ) → faultAt f d v ≡ none → Small f d v
 unfolding faultAt Small
-small-at Version d v e = outside-none 1 1 v badVersion (lit< tt) e .1
+small-at Version d v e = outside-none 1 newestVersion v badVersion (lit< tt) e .1
 small-at Bodies d v e = outside-none 1 32 v badCount (lit< tt) e
 small-at Kind d v e = outside-none 0 isr v badField (lit< tt) e .1
 small-at Priority d v e = outside-none 1 maxPriority v badField (lit< tt) (andThen-first _ _ e) .1

@@ -10,7 +10,7 @@ ghost use Rattle.config.specs.Meaning.{isTask};
 ghost use Rattle.config.specs.Value.{noConfig};
 ghost use Rattle.config.specs.Draft.{Within, unless, outside, andThen, occurs, mostAutostart, rises, sorted, fault, faultAt, put, asked, ended, orOn, onTo, row, start};
 
-// The version is not 1.
+// The version is neither 1 nor 2.
 const BAD_VERSION: u8 = 3;
 // A count is outside its range.
 const BAD_COUNT: u8 = 4;
@@ -22,6 +22,8 @@ const USED_PRIORITY: u8 = 6;
 const UNSORTED: u8 = 7;
 // This entry count takes the total over 64.
 const TOO_MANY_ENTRIES: u8 = 8;
+
+const NEWEST_VERSION: u32 = 2;
 
 // How many there may be of each.
 const MAX_BODIES: u32 = 32;
@@ -219,7 +221,7 @@ pub fn fault(d: Draft, v: u32) -> u8
 {
     let f = d.field;
     match f {
-        Field::Version => outside(1, 1, v, BAD_VERSION),
+        Field::Version => outside(1, NEWEST_VERSION, v, BAD_VERSION),
         Field::Bodies => outside(1, MAX_BODIES, v, BAD_COUNT),
         Field::Kind => outside(0, ISR as u32, v, BAD_FIELD),
         Field::Priority => priority_fault(d, v),

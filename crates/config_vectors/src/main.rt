@@ -67,8 +67,9 @@ fn numbers() {
 // The version and the bodies.
 fn bodies() {
     title(b"bodies");
-    read(b"\x02");
     read(b"\x00");
+    read(b"\x02");
+    read(b"\x03");
     read(b"\x01\x00");
     read(b"\x01\x21");
     read(b"\x01\x01\x02");
@@ -188,12 +189,15 @@ fn written() {
     b.users[1] = 77;
     b.task[2] = 200;
     write(b);
+    let mut c = a;
+    c.version = 2;
+    write(c);
 }
 
 fn refused_bodies() {
     title(b"refused bodies");
     let mut a = listing();
-    a.version = 2;
+    a.version = 3;
     write_tight(a);
     let mut b = listing();
     b.bodies = 33;

@@ -3,5 +3,6 @@ pub mod Core
 pub mod Tests
 pub mod Events
 pub mod Cells
+pub mod Losses
 pub mod Marks
 pub mod Tables

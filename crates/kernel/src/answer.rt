@@ -22,7 +22,7 @@ pub fn answer<'a, 'b>(config: Config, trace: &'a [u8], events: usize, out: &'b m
     let last = play(config, plan, fresh, trace, out);
     put_losses(
         &last.losses,
-        &plan.task,
+        &plan.rank,
         config.bodies as usize,
         4 * events,
         out,

@@ -13,6 +13,7 @@ mod lookup;
 mod resources;
 mod tables;
 
+pub use bodies::counts_lines;
 use stack::NONE;
 use stack::Row;
 

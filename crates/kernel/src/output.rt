@@ -31,25 +31,25 @@ pub fn put_answer(status: u8, runner: u8, level: u8, begun: bool, at: usize, out
     out[at + 3] = begun as u8;
 }
 
-// Writes the losses of the first `bodies` bodies, which stand in `losses` by rank; `task` has the ranks of the tasks.
+// Writes the losses of the first `bodies` bodies, which stand in `losses` by rank; `ranks` are those of the bodies.
 pub fn put_losses<'a, 'b>(
     losses: &'a [u16; 32],
-    task: &'a [u8; 32],
+    ranks: &'a [u8; 32],
     bodies: usize,
     at: usize,
     out: &'b mut [u8],
 )
-    requires { ⌜ (bodies ≤ 32) × (bodies ≤ length (now task)) × (at + 2 * bodies ≤ length (now out)) ⌝ }
-    ensures { λ _. ⌜ now (out .exit) ≡ laid at (lossBytes (map (λ r. getD (now (losses .entry)) r 0) (take bodies (now (task .entry))))) (now (out .entry)) ⌝ }
+    requires { ⌜ (bodies ≤ 32) × (bodies ≤ length (now ranks)) × (at + 2 * bodies ≤ length (now out)) ⌝ }
+    ensures { λ _. ⌜ now (out .exit) ≡ laid at (lossBytes (map (λ r. getD (now (losses .entry)) r 0) (take bodies (now (ranks .entry))))) (now (out .entry)) ⌝ }
 {
     let mut b = 0;
     while b < bodies {
-        put_loss(loss(losses, task[b]), at + 2 * b, out);
+        put_loss(loss(losses, ranks[b]), at + 2 * b, out);
         b += 1;
     }
 }
 
-// The losses of the task of this rank; an ISR has none.
+// The losses of the body of this rank.
 fn loss(losses: &[u16], rank: u8) -> u16
     ensures { λ r. ⌜ r ≡ getD (now (losses .entry)) rank 0 ⌝ }
 {

@@ -9,6 +9,7 @@ ghost use Rattle.kernel.specs.Passes.{Playable};
 use crate::model::DONE;
 use crate::model::Model;
 use crate::model::Outcome;
+use crate::model::counts_lines;
 use crate::output::put_answer;
 use crate::output::runner;
 use config::Config;
@@ -65,7 +66,8 @@ pub fn play<'a, 'b>(
                 }
             }
             7 => {
-                o = o.model.line(&plan.line, &plan.priority, e.first);
+                let counts = counts_lines(config.version);
+                o = o.model.line(counts, &plan.line, &plan.priority, e.first);
             }
             8 => {
                 o = o.model.start(

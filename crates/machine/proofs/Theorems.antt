@@ -1,13 +1,16 @@
 -- What the crate shows beyond its contracts. Each law stands here in full, over specs/ alone; the modules it cites prove it.
 --
--- In order: demand 3, `agreement` and `demand-3`; what Start and Stop make of the cells; that a refused event leaves the model as it was.
+-- In order: demand 3, `agreement` and `demand-3`; what Start and Stop make of the cells; that a refused event leaves the model as it was, but for the count of
+-- a lost line.
 -- Assumes nothing.
 use Prim.Native.Nat.{ℕ, suc, _+_, _≤_, _<_}
-use mathlib.Core.Path.{_≡_, refl}
+use mathlib.Core.Path.{_≡_, refl, sym, _∙_}
 use mathlib.Core.Logic.{_≢_, _↔_}
-use mathlib.Core.Bool.{true}
+use mathlib.Core.Bool.{Bool, true, false, true≢false, cond, _&&_}
 use mathlib.Core.List.{List}
 use lib.ListN.{length, getD, take}
+use native.Mathlib.Omega.{arith}
+use lib.Dec.{eqb}
 use borrow.Author.Tests.{eq-eqb, ne-eqb}
 use Rattle.number.specs.Refusal.{none}
 use Rattle.number.proofs.Cases.{by-eq}
@@ -15,20 +18,21 @@ use Rattle.config.specs.declared.Config.{Config}
 use Rattle.config.specs.Accepted.{Accepted, Shaped}
 use Rattle.config.specs.Reader.{readConfig}
 use Rattle.config.proofs.Theorems.{accepted-ranges, reading}
-use Rattle.config.specs.Meaning.{firstOf}
+use Rattle.config.specs.Meaning.{countsLines, firstOf}
 use Rattle.plan.specs.declared.Plan.{Plan}
 use Rattle.plan.specs.Rank.{rankOf}
 use Rattle.plan.specs.Plan.{planOf}
 use Rattle.cell.specs.Cell.{startCell, stopped}
-use Rattle.scheduler.specs.Status.{done}
+use Rattle.scheduler.specs.Status.{done, limitReached}
 use Rattle.scheduler.specs.Tick.{dues}
 use Rattle.scheduler.specs.Entries.{entriesOf, entryAt}
 use Rattle.scheduler.specs.Scheduler.{Event, Activate, Finish, Chain, Get, Release, Tick, Line, Start, Stop, fresh, seen, after}
 use Rattle.scheduler.specs.History.{dueMark, DueAt}
 use Rattle.scheduler.proofs.Theorems.{due-exactly}
-use Rattle.machine.specs.Model.{Model, Outcome}
+use Rattle.machine.specs.Model.{Model, Outcome, noRank, withLosses}
+use Rattle.machine.specs.Cells.{oneLost}
 use Rattle.machine.specs.Events.{attempt, tick}
-use Rattle.machine.specs.Machine.{freshModel, statusOf, effectOf, machineStep, cellIn, machineSeen, machineAfter}
+use Rattle.machine.specs.Machine.{freshModel, statusOf, effectOf, refusalOf, machineStep, LostLine, cellIn, machineSeen, machineAfter}
 use Rattle.machine.proofs.Relation.Whole.{Sim}
 use Rattle.machine.proofs.Change.Ticks.{dues-long}
 use Rattle.machine.proofs.Event.Tables as Tables
@@ -92,6 +96,7 @@ module _ (c : Config) (ok : Accepted c) (shaped : Shaped c) (es : List Event) (t
   unfolding effectOf
   stop-other = Tables.stop-other (fitted c ok shaped) sim long t e t<
 
+-- a refused event leaves m
 attempt-same : (m : Model) (st : ℕ) (o : Outcome) → o .status ≡ done → attempt m st o .status ≢ done → attempt m st o .model ≡ m
 attempt-same m st o e n =
     by-eq st done
@@ -111,6 +116,54 @@ effect-done c p m (Line i) = refl
 effect-done c p m (Start t d) = refl
 effect-done c p m (Stop t) = refl
 
--- "A status other than 0 changes nothing", whatever the model
-pub refused-same : (c : Config) (p : Plan) (m : Model) (e : Event) → machineStep c p m e .status ≢ done → machineStep c p m e .model ≡ m
-refused-same c p m e = attempt-same m (statusOf c p m e) (effectOf c p m e) (effect-done c p m e)
+attempt-status : (m : Model) (st : ℕ) (o : Outcome) → o .status ≡ done → attempt m st o .status ≡ st
+attempt-status m st o e =
+    by-eq st done
+    (λ z. rw (eq-eqb st done z) (e ∙ sym z))
+    (λ z. rw (ne-eqb st done z))
+
+module _ (c : Config) (p : Plan) (m : Model) where
+  left : (e : Event) → machineStep c p m e .status ≢ done → machineStep c p m e .model ≡ refusalOf c p m (statusOf c p m e) e
+  left e = attempt-same (refusalOf c p m (statusOf c p m e) e) (statusOf c p m e) (effectOf c p m e) (effect-done c p m e)
+
+  status-is : (e : Event) → machineStep c p m e .status ≡ statusOf c p m e
+  status-is e = attempt-status (refusalOf c p m (statusOf c p m e) e) (statusOf c p m e) (effectOf c p m e) (effect-done c p m e)
+
+  -- what a refused event leaves
+  refusal-same : (e : Event) → ((i : ℕ) → LostLine c p m e i → ⊥) → refusalOf c p m (statusOf c p m e) e ≡ m
+  unfolding refusalOf
+  refusal-same (Activate t) kept = refl
+  refusal-same Finish kept = refl
+  refusal-same (Chain t) kept = refl
+  refusal-same (Get r) kept = refl
+  refusal-same (Release r) kept = refl
+  refusal-same Tick kept = refl
+  refusal-same (Line i) kept = go (countsLines c) refl
+    where
+      st : ℕ
+      st = statusOf c p m (Line i)
+
+      go : (b : Bool) → countsLines c ≡ b → cond (b && eqb st limitReached) (withLosses m (oneLost (getD (p .line) i noRank) (m .losses))) m ≡ m
+      go true e =
+          by-eq st limitReached
+          (λ q. absurd (kept i (e, refl, status-is (Line i) ∙ q)))
+          (λ q. rw (ne-eqb st limitReached q))
+      go false e = refl
+  refusal-same (Start t d) kept = refl
+  refusal-same (Stop t) kept = refl
+
+  -- "A status other than 0 changes nothing", whatever the model; "For version 2, demand 1's "changes nothing" excepts that count": a Line
+  -- refused with 4 changes the losses at the ISR's rank, up to 65,535, and nothing else
+  pub refused-same : (e : Event) → machineStep c p m e .status ≢ done → ((i : ℕ) → LostLine c p m e i → ⊥) → machineStep c p m e .model ≡ m
+  refused-same e refused kept = left e refused ∙ refusal-same e kept
+
+  pub lost-line : (i : ℕ) → LostLine c p m (Line i) i
+      → machineStep c p m (Line i) .model ≡ withLosses m (oneLost (getD (p .line) i noRank) (m .losses))
+  unfolding refusalOf
+  lost-line i lost =
+      left (Line i) (λ z. absurd (omega (arith, lost .2, z)))
+      ∙ rw (lost .0) (rw (eq-eqb (statusOf c p m (Line i)) limitReached (sym (status-is (Line i)) ∙ lost .2)))
+
+  -- in version 1 there is none, so a refused event changes nothing at all
+  pub refused-same-one : c .version ≡ 1 → (e : Event) → machineStep c p m e .status ≢ done → machineStep c p m e .model ≡ m
+  refused-same-one v e refused = refused-same e refused (λ i lost. true≢false (sym (lost .0) ∙ rw v))

@@ -99,11 +99,15 @@ pub record Due : Type 0 where
 abbrev pub oneMore : ℕ → ℕ
 oneMore n = min (n + 1) mostLosses
 
+-- the losses ls with one more at rank r
+abbrev pub oneLost : ℕ → List ℕ → List ℕ
+oneLost r ls = set ls r (oneMore (getD ls r 0))
+
 -- a match of an entry whose task has rank r: a request where the task is suspended, else a loss; w: the started bodies
 abbrev pub matchAt : ℕ → ℕ → Due → Due
 matchAt w r x =
     cond (has (x .request) r || has w r)
-    (record { request = x .request; losses = set (x .losses) r (oneMore (getD (x .losses) r 0)) })
+    (record { request = x .request; losses = oneLost r (x .losses) })
     (record { request = with (x .request) r; losses = x .losses })
 
 unfoldable pub requestsDue : ℕ → List Bool → List ℕ → Due → Due

@@ -10,10 +10,10 @@ use Rattle.config.specs.Value.{maxEntries}
 use Rattle.scheduler.specs.Status.{done, callLevel, noSuch, limitReached, access, noFunction, holdsResource, alreadyRuns, badDelay, _gives_, firstGiven}
 use Rattle.scheduler.specs.Call.{longestDelay}
 use Rattle.word.specs.Word.{has}
-use Rattle.machine.specs.Model.{Model, Outcome, noRank, withCore, withRequest, withRest, withCells, doneWith, refusedWith}
+use Rattle.machine.specs.Model.{Model, Outcome, noRank, withCore, withRequest, withRest, withCells, withLosses, doneWith, refusedWith}
 use Rattle.machine.specs.Arbiter.{settled, leaving, requesting}
 use Rattle.machine.specs.Resources.{holding, latest, getting, releasing}
-use Rattle.machine.specs.Cells.{switchOff, isOn, countersTicked, switchesTicked, someTurn, marks, countersStarted, switchesStarted, someLong, countersStopped, switched, Due, requestsDue}
+use Rattle.machine.specs.Cells.{switchOff, isOn, countersTicked, switchesTicked, someTurn, marks, countersStarted, switchesStarted, someLong, countersStopped, switched, Due, oneLost, requestsDue}
 
 -- "nobody runs"
 abbrev pub idles : Model → Bool
@@ -23,7 +23,7 @@ idles m = eqb (m .core .runner) noRank
 abbrev pub busy : Model → ℕ → Bool
 busy m r = has (m .core .request) r || has (m .core .started) r
 
--- "A status other than 0 changes nothing"
+-- "A status other than 0 changes nothing"; m: the model that a refused event leaves
 abbrev pub attempt : Model → ℕ → Outcome → Outcome
 attempt m st o = cond (eqb st done) o (refusedWith m st)
 
@@ -99,8 +99,12 @@ lineStatus lrs m i =
 abbrev pub lineEffect : List ℕ → List ℕ → Model → ℕ → Outcome
 lineEffect lrs ps m i = settled ps (requesting (getD lrs i noRank) m)
 
-unfoldable pub line : List ℕ → List ℕ → Model → ℕ → Outcome
-line lrs ps m i = attempt m (lineStatus lrs m i) (lineEffect lrs ps m i)
+-- "a Line that meets a waiting request adds to that ISR's loss count"; w: whether the configuration counts lines, st: the status
+abbrev pub lineRefusal : Bool → List ℕ → Model → ℕ → ℕ → Model
+lineRefusal w lrs m i st = cond (w && eqb st limitReached) (withLosses m (oneLost (getD lrs i noRank) (m .losses))) m
+
+unfoldable pub line : Bool → List ℕ → List ℕ → Model → ℕ → Outcome
+line w lrs ps m i = attempt (lineRefusal w lrs m i (lineStatus lrs m i)) (lineStatus lrs m i) (lineEffect lrs ps m i)
 
 -- Tick: every cell of the row is ticked, with the compare values ks; rs are the ranks of their entries' tasks. marksOf n: which of the
 -- first n match

@@ -1,28 +1,31 @@
 -- The machine from the fresh start on, and what is seen of it.
 --
 --   freshModel p      the model before the first event
---   statusOf, effectOf   document 01's table of events; machineStep c p: one event, the next model with its answer
+--   statusOf, effectOf   document 01's table of events; refusalOf: what a refused event leaves
+--   machineStep c p   one event, the next model with its answer
 --   machineSeen       what is seen of a list of events, each of which meets the model that the one before it handed back
 --   machineAfter      the model after a list of events
 --
 -- Assumes nothing.
 use Prim.Native.Nat.{ℕ}
-use mathlib.Core.Bool.{Bool, false, cond}
+use mathlib.Core.Path.{_≡_}
+use mathlib.Core.Bool.{Bool, true, false, cond}
 use mathlib.Core.List.{List, [], _∷_, map}
 use lib.Dec.{ltb}
 use lib.ListN.{getD, take, replicate}
 use Rattle.config.specs.declared.Config.{Config}
+use Rattle.config.specs.Meaning.{countsLines}
 use Rattle.plan.specs.declared.Plan.{Plan}
 use Rattle.stack.specs.Stack.{emptyRow}
 use Rattle.cell.specs.declared.Cell.{Cell}
-use Rattle.scheduler.specs.Status.{done}
+use Rattle.scheduler.specs.Status.{done, limitReached}
 use Rattle.scheduler.specs.Event.{isTick}
 use Rattle.scheduler.specs.Scheduler.{Event, Activate, Finish, Chain, Get, Release, Tick, Line, Start, Stop, Seen, markOf}
 use Rattle.machine.specs.Model.{Model, Outcome, noRank}
 use Rattle.machine.specs.Arbiter.{settled}
 use Rattle.machine.specs.Cells.{switchOff, cellAt}
 use Rattle.machine.specs.Events.{attempt, activateStatus, activateEffect, finishStatus, finishEffect, chainStatus, chainEffect, getStatus, getEffect}
-use Rattle.machine.specs.Events.{releaseStatus, releaseEffect, marksOf, tick, lineStatus, lineEffect, startStatus, startEffect, stopStatus, stopEffect}
+use Rattle.machine.specs.Events.{releaseStatus, releaseEffect, marksOf, tick, lineStatus, lineEffect, lineRefusal, startStatus, startEffect, stopStatus, stopEffect}
 
 -- "autostart tasks are ready .. all losses are 0, tables stopped"; w: the ranks of the autostart tasks
 abbrev pub unstarted : ℕ → Model
@@ -70,8 +73,24 @@ effectOf c p m (Line i) = lineEffect (p .line) (p .priority) m i
 effectOf c p m (Start t d) = startEffect (p .first) (c .entries) (c .period) (c .offset) m t d
 effectOf c p m (Stop t) = stopEffect (p .first) (c .entries) m t
 
+-- the model that an event leaves whose status st is not 0
+unfoldable pub refusalOf : Config → Plan → Model → ℕ → Event → Model
+refusalOf c p m st (Activate t) = m
+refusalOf c p m st Finish = m
+refusalOf c p m st (Chain t) = m
+refusalOf c p m st (Get r) = m
+refusalOf c p m st (Release r) = m
+refusalOf c p m st Tick = m
+refusalOf c p m st (Line i) = lineRefusal (countsLines c) (p .line) m i st
+refusalOf c p m st (Start t d) = m
+refusalOf c p m st (Stop t) = m
+
 abbrev pub machineStep : Config → Plan → Model → Event → Outcome
-machineStep c p m e = attempt m (statusOf c p m e) (effectOf c p m e)
+machineStep c p m e = attempt (refusalOf c p m (statusOf c p m e) e) (statusOf c p m e) (effectOf c p m e)
+
+-- the event e, which met the model m, is a Line of the ISR i that is lost and counted
+abbrev pub LostLine : Config → Plan → Model → Event → ℕ → Type 0
+LostLine c p m e i = (countsLines c ≡ true) × (e ≡ Line i) × (machineStep c p m e .status ≡ limitReached)
 
 -- the cell of entry e
 abbrev pub cellIn : Plan → Model → ℕ → Cell
@@ -81,9 +100,9 @@ cellIn p m e = cellAt (m .turning) (p .compare) (m .on) (m .counter) e
 abbrev pub runnerOf : Plan → Model → ℕ
 runnerOf p m = cond (ltb (m .core .runner) 32) (getD (p .body) (m .core .runner) 0) noRank
 
--- the losses in body order: a task's stand at its rank, an ISR has none
+-- the losses in body order: they stand at the bodies' ranks
 abbrev pub lossesOf : Config → Plan → Model → List ℕ
-lossesOf c p m = map (λ r. getD (m .losses) r 0) (take (c .bodies) (p .task))
+lossesOf c p m = map (λ r. getD (m .losses) r 0) (take (c .bodies) (p .rank))
 
 -- which cells matched at the event e, which met the model m
 abbrev pub matched : Plan → Model → Event → List Bool

@@ -22,7 +22,7 @@ pub record Picked : Type 0 where
 
 -- What the machine keeps between events. `held`: the held resources as a word; `resource`, `holder`, `raised`: in the order taken, the
 -- latest on top, each with its holder's rank and the level after its Get. `counter` and `on` are the cells, and `turning` says whether any of
--- them has a turn of its counter to pass; `losses` are the lost activations by rank.
+-- them has a turn of its counter to pass; `losses` are the lost activations, and the lost lines that are counted, by rank.
 pub record Model : Type 0 where
   pub core : Core
   pub held : ℕ
@@ -97,6 +97,9 @@ withRest m ns os w ls =
 
 abbrev pub withCells : Model → List ℕ → List ℕ → Bool → Model
 withCells m ns os w = withRest m ns os w (m .losses)
+
+abbrev pub withLosses : Model → List ℕ → Model
+withLosses m ls = withRest m (m .counter) (m .on) (m .turning) ls
 
 -- an event that is done, and one that is refused with a status
 abbrev pub doneWith : Model → Bool → Outcome

@@ -19,6 +19,7 @@ use Rattle.plan.proofs.Theorems as Plan
 
 pub record Fitted (c : Config) (p : Plan) (rk : ℕ → ℕ) : Type 0 where
   pub few : c .bodies ≤ maxBodies
+  pub body-rank : (b : ℕ) → b < c .bodies → getD (p .rank) b noRank ≡ rk b
   pub task-rank : (b : ℕ) → getD (p .task) b noRank ≡ cond (isTask c b) (rk b) noRank
   pub line-rank : (b : ℕ) → getD (p .line) b noRank ≡ cond (isIsr c b) (rk b) noRank
   pub rank-lt : (b : ℕ) → b < c .bodies → rk b < c .bodies
@@ -35,7 +36,7 @@ pub record Fitted (c : Config) (p : Plan) (rk : ℕ → ℕ) : Type 0 where
   pub autostart-real : (r : ℕ) → has (p .autostart) r ≡ true → (b : ℕ) × ((b < c .bodies) × (rk b ≡ r))
   pub autostart-lt : p .autostart < 2 ^ ranks
   pub few-resources : c .resources ≤ maxResources
-  pub task-ranks-long : length (p .task) ≡ maxBodies
+  pub ranks-long : length (p .rank) ≡ maxBodies
   pub count-is : p .count ≡ firstOf c (c .tables)
   pub few-entries : firstOf c (c .tables) ≤ maxEntries
   pub some-entry : (t : ℕ) → t < c .tables → 1 ≤ getD (c .entries) t 0
@@ -57,6 +58,7 @@ pub fitted : (c : Config) → Accepted c → Shaped c → Fitted c (planOf c) (r
 fitted c ok shaped =
     record {
       few = ok .few-bodies;
+      body-rank = Plan.body-rank c ok shaped;
       task-rank = Plan.task-rank c ok shaped;
       line-rank = Plan.line-rank c ok shaped;
       rank-lt = Plan.rank-lt c ok shaped;
@@ -73,7 +75,7 @@ fitted c ok shaped =
       autostart-real = λ r h. let x = Plan.autostart-body c ok shaped r h in (x .0, (x .1, x .2));
       autostart-lt = Plan.plan-sized c .autostart-lt;
       few-resources = ok .few-resources;
-      task-ranks-long = Plan.plan-sized c .tasks;
+      ranks-long = Plan.plan-sized c .ranks;
       count-is = Plan.entry-count c ok shaped;
       few-entries = ok .few-entries;
       some-entry = ok .some-entry;

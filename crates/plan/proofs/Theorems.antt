@@ -29,9 +29,11 @@ use Rattle.plan.proofs.Words.{marked-has, marked-some, marked-lt}
 use Rattle.plan.proofs.Greatest.{greatestIn-le}
 use Rattle.plan.proofs.Entry.{entriesBefore-le, table-found, table-among}
 use Rattle.plan.proofs.Order as Order
+use Rattle.plan.proofs.Ranking.{ranks-at}
 
 -- the lengths of the lists, and the size of the words, of whatever configuration
 pub record Sized (p : Plan) : Type 0 where
+  pub ranks : length (p .rank) ≡ maxBodies
   pub tasks : length (p .task) ≡ maxBodies
   pub lines : length (p .line) ≡ maxBodies
   pub priorities : length (p .priority) ≡ maxBodies
@@ -48,6 +50,7 @@ pub plan-sized : (c : Config) → Sized (planOf c)
 unfolding planOf
 plan-sized c =
     record {
+      ranks = simp length-stored;
       tasks = simp length-stored;
       lines = simp length-stored;
       priorities = simp length-stored;
@@ -86,7 +89,11 @@ module _ (c : Config) (accepted : Accepted c) (shaped : Shaped c) where
   pub rank-order : (a b : ℕ) → a < c .bodies → b < c .bodies → (priorityOf c a < priorityOf c b) ↔ (rankOf c a < rankOf c b)
   rank-order a b ha hb = (Order.rank-rises c accepted shaped a b ha, Order.rank-order c accepted shaped a b hb)
 
-  -- a body's rank, where it is a task and where it is an ISR; nothing else has one
+  -- a body's rank; the same where it is a task and where it is an ISR, and nothing else has one
+  pub body-rank : (b : ℕ) → b < c .bodies → getD (planOf c .rank) b noRank ≡ rankOf c b
+  unfolding planOf
+  body-rank b h = ranks-at c b noRank (rw (Order.all-bodies c accepted shaped) h)
+
   pub task-rank : (b : ℕ) → getD (planOf c .task) b noRank ≡ cond (isTask c b) (rankOf c b) noRank
   unfolding planOf
   task-rank b =

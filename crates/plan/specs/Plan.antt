@@ -10,7 +10,7 @@ use Rattle.config.specs.Meaning.{priorityOf, ceiling}
 use Rattle.plan.specs.declared.Plan.{Plan}
 use Rattle.plan.specs.Stored.{stored, listed}
 use Rattle.plan.specs.Marked.{marked}
-use Rattle.plan.specs.Rank.{bodyCount, rankOf, taskRanks, lineRanks}
+use Rattle.plan.specs.Rank.{bodyCount, rankOf, ranks, taskRanks, lineRanks}
 use Rattle.plan.specs.Entry.{tableCount, entryCount, firstEntry, compareOf, entryRank}
 
 -- by rank: the priority, and the body's number
@@ -48,6 +48,7 @@ entryRanks c = listed (entryRank c) (entryCount c) (replicate maxEntries 0)
 unfoldable pub planOf : Config → Plan
 planOf c =
     record {
+      rank = ranks c;
       task = taskRanks c;
       line = lineRanks c;
       priority = priorities c;

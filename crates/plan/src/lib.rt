@@ -22,7 +22,8 @@ const MAX_ENTRIES: usize = 64;
 // What the machine looks up: bodies by rank, ranks by body, and what is fixed of resources, tables and entries.
 // A rank is a body's place in the order of priorities, 0 the lowest.
 pub struct Plan {
-    // By body its rank where it is a task, and where it is an ISR; else NO_RANK.
+    // By body its rank; the same where it is a task, and where it is an ISR, else NO_RANK.
+    pub rank: [u8; 32],
     pub task: [u8; 32],
     pub line: [u8; 32],
     // By rank the priority and the body's number.
@@ -72,6 +73,7 @@ impl Plan {
         let body = ranked.body;
         let first = table.first;
         Plan {
+            rank: by,
             task,
             line,
             priority: level,

@@ -46,8 +46,8 @@ module _ (c : Config) (p : Plan) (fit : Fitted c p (rankOf c)) where
   length-losses m =
       length-lossBytes (lossesOf c p m)
       ∙ ap (λ (n : ℕ). 2 * n)
-      (length-map (take (c .bodies) (p .task)) (λ r. getD (m .losses) r 0)
-      ∙ length-take-le (c .bodies) (p .task) (omega (arith, fit .task-ranks-long, fit .few)))
+      (length-map (take (c .bodies) (p .rank)) (λ r. getD (m .losses) r 0)
+      ∙ length-take-le (c .bodies) (p .rank) (omega (arith, fit .ranks-long, fit .few)))
 
   module _ (es : List Event) where
     abbrev pub events : List ℕ

@@ -12,7 +12,7 @@ use native.Mathlib.Nat.{zero-add, add-zero, le-trans}
 use native.Mathlib.Omega.{arith}
 use borrow.Author.Tests.{ltb-true, lt-ltb, le-ltb, eq-eqb, ne-eqb, eqb-false}
 use lib.Dec.{ltb, eqb, lit≤}
-use lib.ListN.{length, getD}
+use lib.ListN.{length, getD, set}
 use Rattle.number.proofs.Cases.{by-lt, by-eq}
 use Rattle.config.specs.declared.Config.{Config}
 use Rattle.config.specs.Meaning.{priorityOf, ceiling}
@@ -110,6 +110,18 @@ chosenFrom-from c i (b ∷ bs) =
     first suspended e = none refl
     first ready e = one zero (omega arith) (rw e refl) (rw (e, add-zero) refl)
     first started e = one zero (omega arith) (rw e refl) (rw (e, add-zero) refl)
+
+-- a change of one body that the choice does not see
+pub chosen-alike : (c : Config) (f : Body → Body) → ((j : ℕ) (b : Body) → candidate c j (f b) (f b .phase) ≡ candidate c j b (b .phase))
+    → (bs : List Body) (i : ℕ)
+    → chosen c (set bs i (f (getD bs i noBody))) ≡ chosen c bs
+unfolding chosenFrom
+chosen-alike c f same bs i = from 0 bs i
+  where
+    from : (j : ℕ) (bs : List Body) (i : ℕ) → chosenFrom c j (set bs i (f (getD bs i noBody))) ≡ chosenFrom c j bs
+    from j [] i = refl
+    from j (b ∷ bs) zero = ap (λ x. preferred x (chosenFrom c (suc j) bs)) (same j b)
+    from j (b ∷ bs) (suc i) = ap (preferred (candidate c j b (b .phase))) (from (suc j) bs i)
 
 -- whom the choice x takes: nobody, or a body that isn't suspended
 pub data Taken (c : Config) (bs : List Body) (x : Candidate) : Type 0 where

@@ -1,24 +1,27 @@
 -- What an event leaves as it was.
 --
--- In order: a change of one body leaves the others and the tables; what every effect keeps (`effectOf-keeps`); no event adds a body or a
--- table; no call changes a loss. Assumes nothing.
+-- In order: a change of one body leaves the others and the tables; what every effect (`effectOf-keeps`) and every refusal (`refusalOf-keeps`)
+-- keeps; no event adds a body or a table; no call but a lost line that is counted changes a loss. Assumes nothing.
 use Prim.Native.Nat.{ℕ, _<_}
 use mathlib.Core.Path.{_≡_, refl, sym, ap, _∙_}
-use mathlib.Core.Bool.{Bool, true, false, true≢false, cond}
+use mathlib.Core.Bool.{Bool, true, false, true≢false, cond, _&&_}
 use mathlib.Core.List.{List, [], _∷_, _++_, map}
 use mathlib.Core.Logic.{_≢_}
 use native.Mathlib.Omega.{arith}
+use borrow.Author.Tests.{eq-eqb, ne-eqb}
 use lib.Dec.{eqb}
 use lib.ListN.{length, length-set, length-map, length-replicate, take, replicate}
 use lib.Seq.{getD-set-same, getD-set-other, map-set-same}
+use Rattle.number.proofs.Cases.{by-eq}
 use Rattle.config.specs.declared.Config.{Config}
-use Rattle.scheduler.specs.Status.{done}
-use Rattle.scheduler.specs.Body.{isStarted, Body, ready, started, become, finished, requested, gets, releases, activatedByEntry}
+use Rattle.config.specs.Meaning.{countsLines}
+use Rattle.scheduler.specs.Status.{done, limitReached}
+use Rattle.scheduler.specs.Body.{isStarted, Body, ready, started, become, finished, requested, gets, releases, activatedByEntry, loses}
 use Rattle.scheduler.specs.State.{State, Table, stopped, noBody, bodyOf, changing, withTable, runner}
-use Rattle.scheduler.specs.Call.{caller, finish, statusOf, effectOf}
+use Rattle.scheduler.specs.Call.{caller, finish, statusOf, effectOf, refusalOf}
 use Rattle.scheduler.specs.Tick.{counting, counted, activatingDue, dues, ticked}
 use Rattle.scheduler.specs.Event.{Event, Activate, Finish, Chain, Get, Release, Tick, Line, Start, Stop, isTick}
-use Rattle.scheduler.specs.Scheduler.{begins, dispatched, lossesOf, newBody, step, fresh, after}
+use Rattle.scheduler.specs.Scheduler.{begins, dispatched, lossesOf, newBody, leaves, step, LostLine, fresh, after}
 
 module _ (i : ℕ) (f : Body → Body) (s : State) where
   pub bodyOf-changing-same : i < length (s .bodies) → bodyOf (changing i f s) i ≡ f (bodyOf s i)
@@ -68,6 +71,27 @@ effectOf-keeps c s P on-body on-table p (Line i) tick = on-body i requested s re
 effectOf-keeps c s P on-body on-table p (Start t d) tick = on-table t _
 effectOf-keeps c s P on-body on-table p (Stop t) tick = on-table t _
 
+-- what a refusal keeps: it leaves the state, or is that of a lost line that is counted
+pub refusalOf-keeps : (c : Config) (s : State) (P : State → Type 0) → P s → (st : ℕ) (e : Event)
+    → ((i : ℕ) → countsLines c ≡ true → e ≡ Line i → st ≡ limitReached → P (changing i loses s))
+    → P (refusalOf c s st e)
+refusalOf-keeps c s P p st (Activate t) lost = p
+refusalOf-keeps c s P p st Finish lost = p
+refusalOf-keeps c s P p st (Chain t) lost = p
+refusalOf-keeps c s P p st (Get r) lost = p
+refusalOf-keeps c s P p st (Release r) lost = p
+refusalOf-keeps c s P p st Tick lost = p
+refusalOf-keeps c s P p st (Line i) lost = go (countsLines c) refl
+  where
+    go : (b : Bool) → countsLines c ≡ b → P (cond (b && eqb st limitReached) (changing i loses s) s)
+    go true e =
+        by-eq st limitReached
+        (λ q. rw (eq-eqb st limitReached q) (lost i e refl q))
+        (λ q. rw (ne-eqb st limitReached q) p)
+    go false e = p
+refusalOf-keeps c s P p st (Start t d) lost = p
+refusalOf-keeps c s P p st (Stop t) lost = p
+
 -- an event is a Tick or not
 pub by-tick : {C : Type 0} (e : Event) → (e ≡ Tick → C) → (isTick e ≡ false → C) → C
 by-tick (Activate t) f g = g refl
@@ -110,9 +134,9 @@ module _ (P : State → Type 0) (on-body : (i : ℕ) (f : Body → Body) (s : St
   unfolding step
   step-keeps on-table on-counted c s p e =
       dispatched-keeps c _
-      (cond-either P (eqb (statusOf c s e) done) (effectOf c s e) s
+      (cond-either P (eqb (statusOf c s e) done) (effectOf c s e) (refusalOf c s (statusOf c s e) e)
       (effectOf-keeps c s P (λ i f x k. on-body i f x) (λ t y. on-table t y s p) p e (λ q. activatingDue-keeps P (λ t. on-body t activatedByEntry) (dues c (counted s)) (c .task) (counted s) (on-counted s p)))
-      p)
+      (refusalOf-keeps c s P p (statusOf c s e) e (λ i _ _ _. on-body i loses s p)))
 
 -- no event adds or takes away a body or a table
 module _ (c : Config) where
@@ -149,7 +173,7 @@ module _ (c : Config) where
   pub length-tables-fresh : length (fresh c .tables) ≡ c .tables
   length-tables-fresh = ap length tables-fresh ∙ length-replicate (c .tables) stopped
 
--- losses come from due entries only: no call changes one
+-- losses come from due entries, and where they are counted from lost lines: no other event changes one
 module _ (c : Config) where
   losses-changing : (i : ℕ) (f : Body → Body) (s : State) → KeepsLosses f → lossesOf (changing i f s) ≡ lossesOf s
   losses-changing i f s k = map-set-same (λ b. b .losses) (s .bodies) i (f (bodyOf s i)) noBody (k (bodyOf s i))
@@ -160,18 +184,18 @@ module _ (c : Config) where
       (losses-changing (runner c s .number) (become started) s (λ b. refl))
       refl
 
-  pub losses-call : (s : State) (e : Event) → e ≢ Tick → lossesOf (step c s e .state) ≡ lossesOf s
+  pub losses-call : (s : State) (e : Event) → e ≢ Tick → ((i : ℕ) → LostLine c s e i → ⊥) → lossesOf (step c s e .state) ≡ lossesOf s
   unfolding step
-  losses-call s e d =
-      losses-dispatched (cond (eqb (statusOf c s e) done) (effectOf c s e) s)
-      ∙ cond-either (λ x. lossesOf x ≡ lossesOf s) (eqb (statusOf c s e) done) (effectOf c s e) s
+  losses-call s e d kept =
+      losses-dispatched (leaves c s e)
+      ∙ cond-either (λ x. lossesOf x ≡ lossesOf s) (eqb (statusOf c s e) done) (effectOf c s e) (refusalOf c s (statusOf c s e) e)
       (effectOf-keeps c s (λ x. lossesOf x ≡ lossesOf s) (λ i f x k h. losses-changing i f x k ∙ h) (λ t y. refl) refl e (λ q. absurd (d q)))
-      refl
+      (refusalOf-keeps c s (λ x. lossesOf x ≡ lossesOf s) refl (statusOf c s e) e (λ i w q h. absurd (kept i (w, q, h))))
 
   -- the losses that are seen are those of the state after the event
   pub losses-seen : (s : State) (e : Event) → step c s e .seen .losses ≡ lossesOf (step c s e .state)
   unfolding step
-  losses-seen s e = sym (losses-dispatched (cond (eqb (statusOf c s e) done) (effectOf c s e) s))
+  losses-seen s e = sym (losses-dispatched (leaves c s e))
 
 -- the state after two lists of events, one after the other
 pub after-append : (c : Config) (es fs : List Event) (s : State) → after c s (es ++ fs) ≡ after c (after c s es) fs

@@ -5,9 +5,11 @@
 use Prim.Native.Nat.{ℕ}
 use mathlib.Core.Path.{_≡_, refl}
 use mathlib.Core.Bool.{Bool, true, false}
-use mathlib.Core.List.{List, [], _∷_, map}
+use mathlib.Core.List.{List, [], _∷_, _++_, map}
+use lib.ListN.{replicate}
 use Rattle.number.specs.Number.{readNumber, groups, continued, fifthGroup}
 use Rattle.config.specs.declared.Config.{Config}
+use Rattle.config.specs.Value.{withVersion}
 use Rattle.config.specs.Draft.{faultAt, putAt, ended, occurs}
 use Rattle.config.specs.Reader.{readConfig, readFrom}
 use Rattle.config.specs.Meaning.{greatestIn, entriesBefore}
@@ -27,6 +29,10 @@ unfoldable pub sample : Config
 sample =
     readConfig (1 ∷ 5 ∷ 0 ∷ 4 ∷ 1 ∷ 0 ∷ 2 ∷ 0 ∷ 0 ∷ 6 ∷ 0 ∷ 1 ∷ 9 ∷ 0 ∷ 1 ∷ 3 ∷ 0 ∷ 4 ∷ 5 ∷ 2 ∷ 1 ∷ 9 ∷ 2 ∷ 4 ∷ 2 ∷ 0 ∷ 2 ∷ 2 ∷ 1 ∷ 2 ∷ 1 ∷ 0 ∷ 2 ∷ [])
     .config
+
+-- the same by edition two of the procedure, which counts lost lines
+unfoldable pub secondEdition : Config
+secondEdition = withVersion sample 2
 
 -- two autostart tasks, of priority 2 and 5
 unfoldable pub twoAutostart : Config
@@ -48,6 +54,10 @@ severalDue = Start 0 1 ∷ Start 1 1 ∷ Tick ∷ Tick ∷ Tick ∷ []
 -- task 2 is made ready by table 1 at the ceiling of resource 0, and begins after that table has stopped
 abbrev outliving : List Event
 outliving = Get 0 ∷ Start 1 1 ∷ Tick ∷ Stop 1 ∷ Tick ∷ Tick ∷ Release 0 ∷ []
+
+-- an Activate and a Chain that are refused with 4; a second request of an ISR that waits, and a third of one that runs; no such ISR, a task
+abbrev lostLines : List Event
+lostLines = Activate 1 ∷ Activate 1 ∷ Chain 1 ∷ Line 4 ∷ Line 4 ∷ Line 3 ∷ Line 3 ∷ Line 3 ∷ Line 9 ∷ Line 1 ∷ Line 3 ∷ []
 
 pub record Examples : Type 0 where
   -- a higher task begins at once, and the lower one is resumed
@@ -86,6 +96,14 @@ pub record Examples : Type 0 where
   -- a waiting request begins when its ISR ends, and once
   pub begins-again : rows sample (Line 3 ∷ Line 3 ∷ Line 3 ∷ Finish ∷ Finish ∷ [])
       ≡ row 0 3 9 1 ∷ row 0 3 9 0 ∷ row 4 3 9 0 ∷ row 0 3 9 1 ∷ row 0 0 4 0 ∷ []
+  -- both editions answer a lost line alike
+  pub lost-lines : map (λ c. rows c lostLines) (sample ∷ secondEdition ∷ [])
+      ≡ replicate 2
+      (row 0 0 4 0 ∷ row 4 0 4 0 ∷ row 4 0 4 0 ∷ row 0 0 4 0 ∷ row 4 0 4 0 ∷ row 0 3 9 1 ∷ row 0 3 9 0 ∷ row 4 3 9 0 ∷ row 3 3 9 0 ∷ row 3 3 9 0 ∷ row 4 3 9 0 ∷ [])
+  -- and only the second counts it, for each Line with status 4 and for nothing else
+  pub lost-lines-counted : (lossesSeen sample lostLines ≡ replicate 11 (0 ∷ 0 ∷ 0 ∷ 0 ∷ 0 ∷ []))
+      × (lossesSeen secondEdition lostLines
+      ≡ replicate 4 (0 ∷ 0 ∷ 0 ∷ 0 ∷ 0 ∷ []) ++ (replicate 3 (0 ∷ 0 ∷ 0 ∷ 0 ∷ 1 ∷ []) ++ (replicate 3 (0 ∷ 0 ∷ 0 ∷ 1 ∷ 1 ∷ []) ++ (0 ∷ 0 ∷ 0 ∷ 2 ∷ 1 ∷ []) ∷ [])))
   -- also where the ISR was preempted: it is resumed first
   pub resumed-then-again : rows sample (Finish ∷ Line 4 ∷ Line 4 ∷ Line 3 ∷ Finish ∷ Finish ∷ Finish ∷ [])
       ≡ row 0 255 0 0 ∷ row 0 4 3 1 ∷ row 0 4 3 0 ∷ row 0 3 9 1 ∷ row 0 4 3 0 ∷ row 0 4 3 1 ∷ row 0 255 0 0 ∷ []
@@ -108,7 +126,7 @@ pub record Examples : Type 0 where
       ∷ (false ∷ true ∷ true ∷ []) ∷ []
 
 pub examples : Examples
-unfolding sample twoAutostart readConfig readFrom readNumber groups continued fifthGroup faultAt putAt ended occurs greatestIn entriesBefore due firstGiven candidate chosenFrom among heldIn counting entryDue duesFrom activatingDue step seen
+unfolding sample secondEdition twoAutostart readConfig readFrom readNumber groups continued fifthGroup faultAt putAt ended occurs greatestIn entriesBefore due firstGiven candidate chosenFrom among heldIn counting entryDue duesFrom activatingDue step seen
 examples =
     record {
       activate-higher = refl;
@@ -124,6 +142,8 @@ examples =
       get-by-own-priority = refl;
       isr-calls = refl;
       begins-again = refl;
+      lost-lines = refl;
+      lost-lines-counted = (refl, refl);
       resumed-then-again = refl;
       two-autostart = refl;
       stop-stopped = refl;

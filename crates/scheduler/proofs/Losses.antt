@@ -12,13 +12,14 @@ use lib.Dec.{eqb, lit≤}
 use lib.ListN.{length, getD, List·getD-eq-default, List·getD-map, take, replicate}
 use Rattle.number.proofs.Cases.{by-lt, by-eq}
 use Rattle.config.specs.declared.Config.{Config}
-use Rattle.scheduler.specs.Status.{firstGiven}
+use Rattle.scheduler.specs.Status.{done}
 use Rattle.scheduler.specs.Body.{Body, ready, suspended, isSuspended, become, mostLosses, losing, loses, activatedByEntry}
 use Rattle.scheduler.specs.State.{State, stopped, noBody, bodyOf, changing}
 use Rattle.scheduler.specs.Event.{Event}
 use Rattle.scheduler.specs.Tick.{counted, dues, activatingDue, ticked, naming, dueFor}
-use Rattle.scheduler.specs.Scheduler.{newBody, dispatched, lossesOf, step, fresh, after}
-use Rattle.scheduler.proofs.Effects.{bodyOf-changing-same, bodyOf-changing-other, length-changing, activatingDue-keeps, by-tick, no-tick, losses-dispatched, losses-call}
+use Rattle.scheduler.specs.Call.{statusOf, effectOf, refusalOf}
+use Rattle.scheduler.specs.Scheduler.{newBody, dispatched, lossesOf, leaves, step, fresh, after}
+use Rattle.scheduler.proofs.Effects.{bodyOf-changing-same, bodyOf-changing-other, length-changing, effectOf-keeps, refusalOf-keeps, activatingDue-keeps, cond-either, losses-dispatched}
 
 -- n entries that name the body b, one after the other
 times : ℕ → Body → Body
@@ -70,15 +71,16 @@ entry-few b few = go (isSuspended (b .phase))
     go false = omega arith
 
 module _ (c : Config) where
-  few-entry : (t : ℕ) (s : State) → FewLosses s → FewLosses (changing t activatedByEntry s)
-  few-entry t s few i =
+  few-changing : (t : ℕ) (f : Body → Body) (s : State) → ((b : Body) → b .losses ≤ mostLosses → f b .losses ≤ mostLosses) → FewLosses s
+      → FewLosses (changing t f s)
+  few-changing t f s keeps few i =
       by-eq i t
       (λ same. by-lt i (length (s .bodies))
-      (λ fits. rw (← same, bodyOf-changing-same i activatedByEntry s fits) (entry-few (bodyOf s i) (few i)))
+      (λ fits. rw (← same, bodyOf-changing-same i f s fits) (keeps (bodyOf s i) (few i)))
       (λ past.
-      let beyond : length (changing t activatedByEntry s .bodies) ≤ i = rw (length-changing t activatedByEntry s) past in
-      rw (List·getD-eq-default (changing t activatedByEntry s .bodies) noBody beyond) (lit≤ tt)))
-      (λ other. rw (bodyOf-changing-other t activatedByEntry s i other) (few i))
+      let beyond : length (changing t f s .bodies) ≤ i = rw (length-changing t f s) past in
+      rw (List·getD-eq-default (changing t f s .bodies) noBody beyond) (lit≤ tt)))
+      (λ other. rw (bodyOf-changing-other t f s i other) (few i))
 
   -- the counts as a list
   few-losses : (s s′ : State) → lossesOf s′ ≡ lossesOf s → FewLosses s → FewLosses s′
@@ -87,13 +89,13 @@ module _ (c : Config) where
       rw same (few i)
 
   few-step : (s : State) (e : Event) → FewLosses s → FewLosses (step c s e .state)
-  unfolding step firstGiven
+  unfolding step
   few-step s e few =
-      by-tick e
-      (λ q. rw q
-      (few-losses (ticked c s) (dispatched c (ticked c s)) (losses-dispatched c (ticked c s))
-      (activatingDue-keeps FewLosses few-entry (dues c (counted s)) (c .task) (counted s) few)))
-      (λ d. few-losses s (step c s e .state) (losses-call c s e (no-tick e d)) few)
+      few-losses (leaves c s e) (dispatched c (leaves c s e)) (losses-dispatched c (leaves c s e))
+      (cond-either FewLosses (eqb (statusOf c s e) done) (effectOf c s e) (refusalOf c s (statusOf c s e) e)
+      (effectOf-keeps c s FewLosses (λ i f x k. few-changing i f x (λ b h. rw (k b) h)) (λ t y. few) few e
+      (λ q. activatingDue-keeps FewLosses (λ t x. few-changing t activatedByEntry x entry-few) (dues c (counted s)) (c .task) (counted s) few))
+      (refusalOf-keeps c s FewLosses few (statusOf c s e) e (λ i _ _ _. few-changing i loses s (λ b h. omega arith) few)))
 
   pub few-fresh : FewLosses (fresh c)
   few-fresh =

@@ -1,30 +1,38 @@
--- A refused call changes nothing: `refused-same`, at the end of the file.
+-- A refused event changes nothing (`refused-same`), but for the count of a lost line (`lost-line`): at the end of the file.
 --
--- In order: a refused call is followed by the dispatch alone; after a dispatch the chosen body has begun, and is chosen again; so the next
--- dispatch does nothing. Assumes nothing.
-use Prim.Native.Nat.{ℕ, _<_}
+-- In order: after a refusal comes the dispatch alone; after a dispatch the chosen body has begun, and is chosen again; so the next dispatch
+-- does nothing; and a loss has no part in who runs. Assumes nothing.
+use Prim.Native.Nat.{ℕ, _+_, _<_, min}
 use mathlib.Core.Path.{_≡_, refl, sym, ap, _∙_}
-use mathlib.Core.Bool.{Bool, true, false, true≢false, cond, not, _&&_, _||_, or-false}
+use mathlib.Core.Bool.{Bool, true, false, true≢false, not, _&&_, _||_, or-false}
 use mathlib.Core.List.{List, [], _∷_, map}
 use mathlib.Core.Logic.{_≢_}
 use native.Mathlib.Omega.{arith}
-use borrow.Author.Tests.{ne-eqb, eqb-false}
+use borrow.Author.Tests.{eq-eqb, ne-eqb, eqb-false}
 use lib.Dec.{eqb}
-use lib.ListN.{length, take, replicate}
+use lib.ListN.{length, set, take, replicate}
+use lib.Seq.{set-getD}
 use Rattle.config.specs.declared.Config.{Config}
-use Rattle.scheduler.specs.Status.{done}
-use Rattle.scheduler.specs.Body.{started, isSuspended, isStarted, current, become}
+use Rattle.scheduler.specs.Status.{done, limitReached}
+use Rattle.scheduler.specs.Body.{Phase, suspended, ready, started, isSuspended, isStarted, Body, current, become, mostLosses, loses}
 use Rattle.scheduler.specs.Choice.{Candidate, isNobody, candidate}
-use Rattle.scheduler.specs.State.{State, stopped, bodyOf, changing, runner}
-use Rattle.scheduler.specs.Event.{Event}
-use Rattle.scheduler.specs.Call.{statusOf, effectOf}
-use Rattle.scheduler.specs.Scheduler.{begins, dispatched, markOf, newBody, step, fresh, after}
-use Rattle.scheduler.proofs.Choice.{contender, weight, weight-before, chosen-weight, candidate-active, chosen-best, Taken, no-one, body, chosen-from}
-use Rattle.scheduler.proofs.Effects.{bodyOf-changing-same, bodyOf-changing-other}
+use Rattle.scheduler.specs.State.{State, stopped, noBody, bodyOf, changing, runner}
+use Rattle.scheduler.specs.Event.{Event, Line}
+use Rattle.scheduler.specs.Call.{statusOf, refusalOf}
+use Rattle.scheduler.specs.Scheduler.{begins, dispatched, markOf, newBody, leaves, step, LostLine, fresh, after}
+use Rattle.scheduler.proofs.Choice.{contender, weight, weight-before, chosen-weight, candidate-active, chosen-best, chosen-alike, Taken, no-one, body, chosen-from}
+use Rattle.scheduler.proofs.Effects.{bodyOf-changing-same, bodyOf-changing-other, refusalOf-keeps}
 
-pub refused-dispatched : (c : Config) (s : State) (e : Event) → step c s e .seen .status ≢ done → step c s e .state ≡ dispatched c s
+pub refused-leaves : (c : Config) (s : State) (e : Event) → statusOf c s e ≢ done → leaves c s e ≡ refusalOf c s (statusOf c s e) e
+refused-leaves c s e refused = rw (ne-eqb (statusOf c s e) done refused)
+
+pub refused-dispatched : (c : Config) (s : State) (e : Event) → step c s e .seen .status ≢ done → ((i : ℕ) → LostLine c s e i → ⊥)
+    → step c s e .state ≡ dispatched c s
 unfolding step
-refused-dispatched c s e refused = rw (ne-eqb (statusOf c s e) done refused)
+refused-dispatched c s e refused kept =
+    ap (dispatched c)
+    (refused-leaves c s e refused
+    ∙ refusalOf-keeps c s (λ x. x ≡ s) refl (statusOf c s e) e (λ i w q h. absurd (kept i (w, q, h))))
 
 pub dispatched-same : (c : Config) (s : State) → begins (runner c s) ≡ false → dispatched c s ≡ s
 dispatched-same c s h = rw h
@@ -121,12 +129,48 @@ module _ (c : Config) where
 
   pub settled-step : (s : State) (e : Event) → begins (runner c (step c s e .state)) ≡ false
   unfolding step
-  settled-step s e = dispatched-settled c (cond (eqb (statusOf c s e) done) (effectOf c s e) s)
+  settled-step s e = dispatched-settled c (leaves c s e)
 
   pub settled-after : (es : List Event) (s : State) → begins (runner c s) ≡ false → begins (runner c (after c s es)) ≡ false
   unfolding after
   settled-after [] s h = h
   settled-after (e ∷ es) s h = settled-after es (step c s e .state) (settled-step s e)
 
-  pub refused-same : (s : State) (e : Event) → begins (runner c s) ≡ false → step c s e .seen .status ≢ done → step c s e .state ≡ s
-  refused-same s e settled refused = refused-dispatched c s e refused ∙ dispatched-same c s settled
+  pub refused-same : (s : State) (e : Event) → begins (runner c s) ≡ false → step c s e .seen .status ≢ done
+      → ((i : ℕ) → LostLine c s e i → ⊥)
+      → step c s e .state ≡ s
+  refused-same s e settled refused kept = refused-dispatched c s e refused kept ∙ dispatched-same c s settled
+
+  -- "Version 1 .. at the head of the configuration": no line is counted
+  pub first-edition : c .version ≡ 1 → (s : State) (e : Event) (i : ℕ) → LostLine c s e i → ⊥
+  first-edition v s e i lost = true≢false (sym (lost .0) ∙ rw v)
+
+  -- a loss has no part in who runs
+  runner-loses : (i : ℕ) (s : State) → runner c (changing i loses s) ≡ runner c s
+  unfolding candidate
+  runner-loses i s = chosen-alike c loses (λ j b. same j b (b .phase)) (s .bodies) i
+    where
+      same : (j : ℕ) (b : Body) (p : Phase) → candidate c j (loses b) p ≡ candidate c j b p
+      same j b suspended = refl
+      same j b ready = refl
+      same j b started = refl
+
+  pub lost-line : (s : State) (i : ℕ) → begins (runner c s) ≡ false → LostLine c s (Line i) i → step c s (Line i) .state ≡ changing i loses s
+  unfolding step
+  lost-line s i settled lost =
+      ap (dispatched c)
+      (refused-leaves c s (Line i) (λ z. absurd (omega (arith, lost .2, z)))
+      ∙ rw (lost .0) (rw (eq-eqb (statusOf c s (Line i)) limitReached (lost .2))))
+      ∙ dispatched-same c (changing i loses s) (rw (runner-loses i s) settled)
+
+  -- "up to 65,535"
+  pub lost-line-full : (s : State) (i : ℕ) → begins (runner c s) ≡ false → LostLine c s (Line i) i → bodyOf s i .losses ≡ mostLosses
+      → step c s (Line i) .state ≡ s
+  lost-line-full s i settled lost full =
+      lost-line s i settled lost
+      ∙ ap (λ bs. record { bodies = bs; tables = s .tables }) (ap (set (s .bodies) i) same ∙ set-getD (s .bodies) i noBody)
+    where
+      same : loses (bodyOf s i) ≡ bodyOf s i
+      same =
+          let n : min (bodyOf s i .losses + 1) mostLosses ≡ bodyOf s i .losses = omega (arith, full) in
+          ap (λ k. record { phase = bodyOf s i .phase; pending = bodyOf s i .pending; held = bodyOf s i .held; losses = k }) n

@@ -17,12 +17,12 @@ use Rattle.scheduler.specs.Body.{Body, Phase, suspended, ready, started,
 use Rattle.scheduler.specs.State.{State, noBody, bodyOf, changing, runner}
 use Rattle.scheduler.specs.Event.{Event, Activate, Finish, Chain, Get, Release, Tick, Line, Start, Stop}
 use Rattle.scheduler.specs.Tick.{dues, counted}
-use Rattle.scheduler.specs.Call.{caller, finish, stop, statusOf, effectOf}
-use Rattle.scheduler.specs.Scheduler.{begins, markOf, step}
+use Rattle.scheduler.specs.Call.{caller, finish, stop, statusOf, effectOf, refusalOf}
+use Rattle.scheduler.specs.Scheduler.{begins, markOf, leaves, step}
 use Rattle.scheduler.specs.History.{AcceptedIn}
 use Rattle.scheduler.proofs.Choice.{Taken, no-one, body, chosen-from, candidate-active}
 use Rattle.scheduler.proofs.Checks.{activate-passed, chain-passed}
-use Rattle.scheduler.proofs.Effects.{bodyOf-changing-same, bodyOf-changing-other, activatingDue-keeps, cond-either}
+use Rattle.scheduler.proofs.Effects.{bodyOf-changing-same, bodyOf-changing-other, refusalOf-keeps, activatingDue-keeps, cond-either}
 use Rattle.scheduler.proofs.Refusals.{begins-some, dispatched-same}
 
 -- the body that begins was not started
@@ -105,16 +105,21 @@ module _ (c : Config) (s : State) (i : ℕ) (isr : isIsr c i ≡ true) (begun : 
       (λ p. (p .0, p .1, ok))
       (λ h. absurd (true≢false (sym h ∙ rw (eq-eqb (statusOf c s e) done ok) at unstarted)))
       (started-stays e ok))
-      (λ bad. absurd (true≢false (sym begun ∙ rw (ne-eqb (statusOf c s e) done bad) at unstarted)))
+      (λ bad. absurd (true≢false (sym refused-stays ∙ rw (ne-eqb (statusOf c s e) done bad) at unstarted)))
     where
-      unstarted : isStarted (bodyOf (cond (eqb (statusOf c s e) done) (effectOf c s e) s) i .phase) ≡ false
-      unstarted = rw r at (begins-unstarted c (cond (eqb (statusOf c s e) done) (effectOf c s e) s) (marked _ b))
+      unstarted : isStarted (bodyOf (leaves c s e) i .phase) ≡ false
+      unstarted = rw r at (begins-unstarted c (leaves c s e) (marked _ b))
+
+      refused-stays : isStarted (bodyOf (refusalOf c s (statusOf c s e) e) i .phase) ≡ true
+      refused-stays =
+          refusalOf-keeps c s (λ x. isStarted (bodyOf x i .phase) ≡ true) begun (statusOf c s e) e
+          (λ j _ _ _. started-changing i j loses s (λ x h. h) begun)
 
 -- a Stop changes no body, so whatever waits to begin still waits
 pub stop-bodies : (c : Config) (s : State) (t : ℕ) → begins (runner c s) ≡ false → step c s (Stop t) .state .bodies ≡ s .bodies
 unfolding step
 stop-bodies c s t settled =
-    ap (λ x. x .bodies) (dispatched-same c (cond (eqb (statusOf c s (Stop t)) done) (stop t s) s) (rw same settled)) ∙ same
+    ap (λ x. x .bodies) (dispatched-same c (leaves c s (Stop t)) (rw same settled)) ∙ same
   where
-    same : cond (eqb (statusOf c s (Stop t)) done) (stop t s) s .bodies ≡ s .bodies
+    same : leaves c s (Stop t) .bodies ≡ s .bodies
     same = cond-either (λ x. x .bodies ≡ s .bodies) (eqb (statusOf c s (Stop t)) done) (stop t s) s refl refl

@@ -18,11 +18,11 @@ use Rattle.scheduler.specs.Status.{done, firstGiven}
 use Rattle.scheduler.specs.State.{State, Table, stopped, running, tableOf, withTable}
 use Rattle.scheduler.specs.Event.{Event, Activate, Finish, Chain, Get, Release, Tick, Line, Start, Stop, isTick}
 use Rattle.scheduler.specs.Tick.{counting}
-use Rattle.scheduler.specs.Call.{statusOf, effectOf}
-use Rattle.scheduler.specs.Scheduler.{step, fresh, after}
+use Rattle.scheduler.specs.Call.{statusOf, effectOf, refusalOf}
+use Rattle.scheduler.specs.Scheduler.{leaves, step, fresh, after}
 use Rattle.scheduler.specs.History.{AcceptedIn, next, NoneAccepted, StartOf, StopOf, NoStart, NoStop, tickCount, History, never-started, since-start, since-stop}
 use Rattle.scheduler.proofs.Checks.{start-passed, stop-passed}
-use Rattle.scheduler.proofs.Effects.{clash, after-append, cond-either, tables-dispatched, tables-ticked, tables-fresh, length-tables-step, length-tables-fresh}
+use Rattle.scheduler.proofs.Effects.{clash, after-append, refusalOf-keeps, cond-either, tables-dispatched, tables-ticked, tables-fresh, length-tables-step, length-tables-fresh}
 
 -- what the event e, met in the state s, does to the table t
 data Turn (c : Config) (t : ℕ) (s : State) (e : Event) : Type 0 where
@@ -34,9 +34,13 @@ data Turn (c : Config) (t : ℕ) (s : State) (e : Event) : Type 0 where
 
 module _ (c : Config) (t : ℕ) (s : State) where
   -- the table after the event e: its effect's where the status is 0
-  table-next : (e : Event) → tableOf (next c s e) t ≡ tableOf (cond (eqb (statusOf c s e) done) (effectOf c s e) s) t
+  table-next : (e : Event) → tableOf (next c s e) t ≡ tableOf (leaves c s e) t
   unfolding step
-  table-next e = ap (λ l. getD l t stopped) (tables-dispatched c (cond (eqb (statusOf c s e) done) (effectOf c s e) s))
+  table-next e = ap (λ l. getD l t stopped) (tables-dispatched c (leaves c s e))
+
+  -- no refusal changes a table
+  table-same : (e : Event) → tableOf (refusalOf c s (statusOf c s e) e) t ≡ tableOf s t
+  table-same e = refusalOf-keeps c s (λ x. tableOf x t ≡ tableOf s t) refl (statusOf c s e) e (λ i _ _ _. refl)
 
   table-done : (e : Event) → AcceptedIn c s e → tableOf (next c s e) t ≡ tableOf (effectOf c s e) t
   unfolding step
@@ -44,10 +48,10 @@ module _ (c : Config) (t : ℕ) (s : State) where
 
   table-refused : (e : Event) → (AcceptedIn c s e → ⊥) → tableOf (next c s e) t ≡ tableOf s t
   unfolding step
-  table-refused e r = table-next e ∙ rw (ne-eqb (statusOf c s e) done r)
+  table-refused e r = table-next e ∙ rw (ne-eqb (statusOf c s e) done r) (table-same e)
 
   table-kept : (e : Event) → tableOf (effectOf c s e) t ≡ tableOf s t → tableOf (next c s e) t ≡ tableOf s t
-  table-kept e k = table-next e ∙ cond-either (λ x. tableOf x t ≡ tableOf s t) (eqb (statusOf c s e) done) (effectOf c s e) s k refl
+  table-kept e k = table-next e ∙ cond-either (λ x. tableOf x t ≡ tableOf s t) (eqb (statusOf c s e) done) (effectOf c s e) (refusalOf c s (statusOf c s e) e) k (table-same e)
 
   withTable-other : (u : ℕ) (x : Table) → (u ≡ t → ⊥) → tableOf (withTable u x s) t ≡ tableOf s t
   withTable-other u x d = getD-set-other (s .tables) u t x stopped (λ e. d (sym e))

@@ -1,6 +1,6 @@
 -- What holds of the plain scheduler. Each law stands here in full, over specs/ alone; the modules it cites prove it.
 --
--- In order: who runs; document 01's table of events; that a refused call changes nothing; what an accepted Activate finds; requests that wait;
+-- In order: who runs; document 01's table of events; that a refused event changes nothing but the count of a lost line; what an accepted Activate finds; requests that wait;
 -- where losses come from; that d and n are counted, and entries due, as demand 3 says. `Choice` and `Checks` have more of who is chosen and
 -- of what an accepted call finds; `Examples` are worked lists of events. Assumes nothing.
 use Prim.Native.Nat.{ℕ, suc, _+_, _≤_, _<_, max}
@@ -14,13 +14,13 @@ use Rattle.config.specs.declared.Config.{Config}
 use Rattle.config.specs.Meaning.{isIsr, priorityOf, ceiling, firstOf}
 use Rattle.config.specs.Accepted as Configuration
 use Rattle.scheduler.specs.Status.{Check, done, NoneFails}
-use Rattle.scheduler.specs.Body.{Body, suspended, ready, isSuspended, isStarted, current, become, losing, gets, releases}
+use Rattle.scheduler.specs.Body.{Body, suspended, ready, isSuspended, isStarted, current, become, losing, loses, gets, releases}
 use Rattle.scheduler.specs.Choice.{Candidate, nobody, isNobody, candidate, goesBefore}
-use Rattle.scheduler.specs.State.{State, Table, stopped, running, bodyOf, tableOf, runner}
+use Rattle.scheduler.specs.State.{State, Table, stopped, running, bodyOf, tableOf, changing, runner}
 use Rattle.scheduler.specs.Event.{Event, Activate, Finish, Chain, Get, Release, Tick, Line, Start, Stop}
 use Rattle.scheduler.specs.Tick.{ticked, dueFor}
 use Rattle.scheduler.specs.Call.{caller, checksOf}
-use Rattle.scheduler.specs.Scheduler.{begins, dispatched, lossesOf, step, fresh, seen, after}
+use Rattle.scheduler.specs.Scheduler.{begins, dispatched, lossesOf, step, LostLine, fresh, seen, after}
 use Rattle.scheduler.specs.Entries.{entryOf, entriesOf, entryAt}
 use Rattle.scheduler.specs.History.{AcceptedIn, next, NoStart, NoStop, tickCount, History, dueMark, DueAt}
 use Rattle.scheduler.proofs.Choice as Choice
@@ -106,13 +106,30 @@ pub first-given : (c : Config) (s : State) (e : Event) (before : List Check) (k 
     → step c s e .seen .status ≡ k .status
 first-given = Checks.first-given
 
--- "A status other than 0 changes nothing", after every list of events
+-- "A status other than 0 changes nothing", after every list of events; "For version 2, demand 1's "changes nothing" excepts that count": a Line
+-- refused with 4 changes the ISR's losses, up to 65,535, and nothing else
 pub refused-same : (c : Config) (es : List Event) (e : Event) → step c (after c (fresh c) es) e .seen .status ≢ done
+    → ((i : ℕ) → LostLine c (after c (fresh c) es) e i → ⊥)
     → step c (after c (fresh c) es) e .state ≡ after c (fresh c) es
 refused-same c es e = Refusals.refused-same c (after c (fresh c) es) e (Refusals.settled-after c es (fresh c) (Refusals.settled-fresh c))
 
--- whatever the state, only the dispatch follows a refused call
-pub refused-dispatched : (c : Config) (s : State) (e : Event) → step c s e .seen .status ≢ done → step c s e .state ≡ dispatched c s
+pub lost-line : (c : Config) (es : List Event) (i : ℕ) → LostLine c (after c (fresh c) es) (Line i) i
+    → step c (after c (fresh c) es) (Line i) .state ≡ changing i loses (after c (fresh c) es)
+lost-line c es i = Refusals.lost-line c (after c (fresh c) es) i (Refusals.settled-after c es (fresh c) (Refusals.settled-fresh c))
+
+pub lost-line-full : (c : Config) (es : List Event) (i : ℕ) → LostLine c (after c (fresh c) es) (Line i) i
+    → bodyOf (after c (fresh c) es) i .losses ≡ 65535
+    → step c (after c (fresh c) es) (Line i) .state ≡ after c (fresh c) es
+lost-line-full c es i = Refusals.lost-line-full c (after c (fresh c) es) i (Refusals.settled-after c es (fresh c) (Refusals.settled-fresh c))
+
+-- in version 1 there is none, so a refused event changes nothing at all
+pub refused-same-one : (c : Config) → c .version ≡ 1 → (es : List Event) (e : Event) → step c (after c (fresh c) es) e .seen .status ≢ done
+    → step c (after c (fresh c) es) e .state ≡ after c (fresh c) es
+refused-same-one c v es e refused = refused-same c es e refused (Refusals.first-edition c v (after c (fresh c) es) e)
+
+-- whatever the state, only the dispatch follows such a refusal
+pub refused-dispatched : (c : Config) (s : State) (e : Event) → step c s e .seen .status ≢ done → ((i : ℕ) → LostLine c s e i → ⊥)
+    → step c s e .state ≡ dispatched c s
 refused-dispatched = Refusals.refused-dispatched
 
 -- "At most one body begins in an event": the one that a dispatch chose is chosen again, and after an event nobody is left to begin
@@ -142,8 +159,9 @@ begins-after-finish = Requests.begins-after-finish
 pub stop-bodies : (c : Config) (es : List Event) (t : ℕ) → step c (after c (fresh c) es) (Stop t) .state .bodies ≡ after c (fresh c) es .bodies
 stop-bodies c es t = Requests.stop-bodies c (after c (fresh c) es) t (Refusals.settled-after c es (fresh c) (Refusals.settled-fresh c))
 
--- losses come from due entries: no event but a Tick changes one, and what is seen of them is the state after the event
-pub losses-call : (c : Config) (s : State) (e : Event) → e ≢ Tick → lossesOf (step c s e .state) ≡ lossesOf s
+-- losses come from due entries and counted lost lines: no other event changes one, and what is seen of them is the state after the event
+pub losses-call : (c : Config) (s : State) (e : Event) → e ≢ Tick → ((i : ℕ) → LostLine c s e i → ⊥)
+    → lossesOf (step c s e .state) ≡ lossesOf s
 losses-call = Effects.losses-call
 
 pub losses-seen : (c : Config) (s : State) (e : Event) → step c s e .seen .losses ≡ lossesOf (step c s e .state)

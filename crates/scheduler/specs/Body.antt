@@ -21,7 +21,7 @@ isStarted ready = false
 isStarted started = true
 
 -- `pending`: for a started ISR, whether a request waits. `held`: the resources it holds, the most recently taken first.
--- `losses`: lost activations.
+-- `losses`: lost activations, and where they are counted lost lines.
 pub record Body : Type 0 where
   pub phase : Phase
   pub pending : Bool

@@ -3,17 +3,18 @@
 --   checksOf c s e   the column "statuses in order": the tests that the event e has to pass, each with the status that it gives
 --   statusOf c s e   "the first status that applies is given"
 --   effectOf c s e   the column "effect": the state that e leaves where its status is 0
+--   refusalOf c s st e   the state that it leaves where its status is another, st
 --
--- In order: the tests, the first column, each event's effect, the second. `event-table` (proofs/Theorems.antt) is the first column with its
+-- In order: the tests, the first column, each event's effect, the second, and what a refused event leaves. `event-table` (proofs/Theorems.antt) is the first column with its
 -- numbers written out. Assumes nothing.
 use Prim.Native.Nat.{ℕ, _+_}
-use mathlib.Core.Bool.{Bool, true, false, not, _&&_, _||_}
+use mathlib.Core.Bool.{Bool, true, false, cond, not, _&&_, _||_}
 use mathlib.Core.List.{List, [], _∷_}
 use lib.Dec.{ltb, leb, eqb}
 use Rattle.config.specs.declared.Config.{Config}
-use Rattle.config.specs.Meaning.{isTask, isIsr, priorityOf, ceiling, smallestOffset}
+use Rattle.config.specs.Meaning.{countsLines, isTask, isIsr, priorityOf, ceiling, smallestOffset}
 use Rattle.scheduler.specs.Status.{Check, callLevel, noSuch, limitReached, access, noFunction, holdsResource, alreadyRuns, badDelay, _gives_, firstGiven}
-use Rattle.scheduler.specs.Body.{Phase, suspended, ready, started, isSuspended, Body, become, finished, requested, gets, releases}
+use Rattle.scheduler.specs.Body.{Phase, suspended, ready, started, isSuspended, Body, become, finished, requested, gets, releases, loses}
 use Rattle.scheduler.specs.Choice.{isNobody}
 use Rattle.scheduler.specs.State.{State, stopped, running, isRunning, bodyOf, tableOf, changing, withTable, runner, heldIn}
 use Rattle.scheduler.specs.Event.{Event, Activate, Finish, Chain, Get, Release, Tick, Line, Start, Stop}
@@ -159,3 +160,16 @@ effectOf c s Tick = ticked c s
 effectOf c s (Line i) = line i s
 effectOf c s (Start t d) = start t d s
 effectOf c s (Stop t) = stop t s
+
+-- "A status other than 0 changes nothing", but "From edition two a Line that meets a waiting request adds to that ISR's loss count .. besides
+-- giving status 4"
+abbrev pub refusalOf : Config → State → ℕ → Event → State
+refusalOf c s st (Activate t) = s
+refusalOf c s st Finish = s
+refusalOf c s st (Chain t) = s
+refusalOf c s st (Get r) = s
+refusalOf c s st (Release r) = s
+refusalOf c s st Tick = s
+refusalOf c s st (Line i) = cond (countsLines c && eqb st limitReached) (changing i loses s) s
+refusalOf c s st (Start t d) = s
+refusalOf c s st (Stop t) = s

@@ -6,18 +6,20 @@
 --
 -- Assumes nothing.
 use Prim.Native.Nat.{ℕ}
-use mathlib.Core.Bool.{Bool, false, cond, not, _&&_}
+use mathlib.Core.Path.{_≡_}
+use mathlib.Core.Bool.{Bool, true, false, cond, not, _&&_}
 use mathlib.Core.List.{List, [], _∷_, map}
 use lib.Dec.{eqb}
 use lib.ListN.{length, take, replicate}
 use Rattle.config.specs.declared.Config.{Config}
-use Rattle.scheduler.specs.Status.{done}
+use Rattle.config.specs.Meaning.{countsLines}
+use Rattle.scheduler.specs.Status.{done, limitReached}
 use Rattle.scheduler.specs.Body.{ready, started, Body, become}
 use Rattle.scheduler.specs.Choice.{Candidate, isNobody}
 use Rattle.scheduler.specs.State.{stopped, State, noBody, changing, runner}
 pub use Rattle.scheduler.specs.Event.{Event, Activate, Finish, Chain, Get, Release, Tick, Line, Start, Stop}
 use Rattle.scheduler.specs.Event.{isTick}
-use Rattle.scheduler.specs.Call.{statusOf, effectOf}
+use Rattle.scheduler.specs.Call.{statusOf, effectOf, refusalOf}
 use Rattle.scheduler.specs.Tick.{counted, dues}
 
 -- what is seen of an event: its answer, every body's losses after it, and for each entry whether it was due at it
@@ -69,12 +71,16 @@ noneDue c s = replicate (length (dues c s)) false
 abbrev pub duesAt : Config → State → Event → List Bool
 duesAt c s e = cond (isTick e) (dues c (counted s)) (noneDue c s)
 
--- "only 0 changes anything": st is the event's status, ds its due entries, s′ the state that it leaves where st is 0, s that before it
-abbrev pub attempt : Config → State → ℕ → List Bool → State → Stepped
-attempt c s st ds s′ = ending c st ds (cond (eqb st done) s′ s)
+-- the state that an event leaves before the dispatch
+abbrev pub leaves : Config → State → Event → State
+leaves c s e = cond (eqb (statusOf c s e) done) (effectOf c s e) (refusalOf c s (statusOf c s e) e)
 
 unfoldable pub step : Config → State → Event → Stepped
-step c s e = attempt c s (statusOf c s e) (duesAt c s e) (effectOf c s e)
+step c s e = ending c (statusOf c s e) (duesAt c s e) (leaves c s e)
+
+-- the event e, met in the state s, is a Line of the ISR i that is lost and counted
+abbrev pub LostLine : Config → State → Event → ℕ → Type 0
+LostLine c s e i = (countsLines c ≡ true) × (e ≡ Line i) × (step c s e .seen .status ≡ limitReached)
 
 -- "Fresh start: autostart tasks are ready, the best one begins, all losses are 0, tables stopped"
 abbrev pub newBody : ℕ → Body

@@ -18,13 +18,14 @@ pub const COMMAND: Command = Command {
     summary: "the listing of a run",
     details: "\
 Runs a trace over a configuration and prints the listing: per event its index, code, status, the running body (- when
-idle), the level and the begun mark, then `lost BODY COUNT` for every body with lost activations. A refused run prints
-`refused CODE PLACE` alone; `osek explain` says it in a sentence. 40 and 41: CONFIG or TRACE can't be read.
+idle), the level and the begun mark, then `lost BODY COUNT` for every body that lost activations or (in version 2)
+lines. A refused run prints `refused CODE PLACE` alone; `osek explain` says it in a sentence. 40 and 41: CONFIG or
+TRACE can't be read.
 
   --names    the same in words: names, OSEK's status names, ticks with equal answers in one line
   --json     one object: `events` and `bodies`, or `refused`
   --csv      a row for each event, with a header
-  --losses   with --csv: a row for each body instead, with its lost activations
+  --losses   with --csv: a row for each body instead, with its losses
 ",
     accepts: Accepts {
         flags: &["--names", "--json", "--csv", "--losses"],

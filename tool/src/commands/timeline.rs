@@ -15,7 +15,7 @@ pub const COMMAND: Command = Command {
     summary: "who runs when: VCD, SVG or trace events",
     details: "\
 Draws an accepted run: for each body whether it is suspended, ready, running or preempted, the runner, the level, the
-statuses, and the losses at the tick at which they happen. At least one of the three is needed; OUT may be - for
+statuses, and the losses at the event at which they happen. At least one of the three is needed; OUT may be - for
 standard output.
 
   --vcd OUT    a value change dump, for GTKWave; a tick is 1 ms, and the events between two ticks are spread evenly

@@ -142,7 +142,8 @@ fn losses(timeline: &Timeline) -> Vec<String> {
             let args = json::object(&[("tick", step.tick.to_string()), ("count", count.to_string())]);
             let rest =
                 [("cat", json::string("loss")), ("ts", micro(times[index])), ("s", json::string("t")), ("args", args)];
-            events.push(event("i", "lost activation", BODIES, body, &rest));
+            let request = words::kind(timeline.bodies[body].kind).map_or("request", |kind| kind.request);
+            events.push(event("i", &format!("lost {request}"), BODIES, body, &rest));
         }
     }
     events

@@ -35,7 +35,7 @@ fn each_refusal_of_the_configuration_is_a_sentence() {
             "2 4",
             "offset 4: the priority of body 0 is not in its shortest form: of 82 00 the 00 is superfluous.",
         ),
-        (damaged(0, &[2]), "3 0", "offset 0: the version is 2. Allowed: 1."),
+        (damaged(0, &[3]), "3 0", "offset 0: the version is 3. Allowed: 1 or 2."),
         (damaged(1, &[33]), "4 1", "offset 1: the body count is 33. Allowed: 1 to 32."),
         (damaged(11, &[17]), "4 11", "offset 11: the resource count is 17. Allowed: 0 to 16."),
         (damaged(13, &[9]), "4 13", "offset 13: the table count is 9. Allowed: 0 to 8."),
@@ -159,10 +159,56 @@ event 16 Finish while nobody runs: status 2 E_OS_CALLEVEL: nobody runs
 }
 
 #[test]
+fn a_lost_line_is_said_to_be_counted_in_version_2_alone() {
+    let bounces = "isr door priority 9\ntrace\nline door\nline door\nline door\nline 1\nline door\n";
+    let folder = Folder::new();
+    for (version, lost) in [(1, ""), (2, "; the line is counted as lost")] {
+        folder.write("bounces.txt", format!("version {version}\n{bounces}"));
+        let waits = "while door runs: status 4 E_OS_LIMIT: a request of this ISR waits already";
+        folder.osek(&["explain", "bounces.txt"]).prints(
+            &format!(
+                "\
+accepted: 5 events, 3 with a status other than 0
+event 2 Line door {waits}{lost}
+event 3 Line 1 while door runs: status 3 E_OS_ID: no ISR has this number
+event 4 Line door {waits}{lost}
+"
+            ),
+            0,
+        );
+    }
+}
+
+#[test]
+fn the_lines_that_are_said_to_be_counted_are_the_library_s_losses() {
+    let folder = Folder::new();
+    let mut counted = 0;
+    for number in 0..150 {
+        let case = cases::case(6, number);
+        folder.write("config.bin", &case.config);
+        folder.write("trace.bin", &case.trace);
+        let listing = folder.osek(&["run", "config.bin", "trace.bin", "--names"]).out;
+        let said = folder.osek(&["explain", "config.bin", "trace.bin"]).out;
+        for (name, lost) in listing.lines().filter_map(|line| line.strip_prefix("lost isr")?.split_once(' ')) {
+            let of_it = |line: &&str| line.contains(&format!(" Line isr{name} ")) && line.ends_with("counted as lost");
+            assert_eq!(said.lines().filter(of_it).count().to_string(), lost, "case {number}, isr{name}");
+            counted += 1;
+        }
+        assert_eq!(said.contains("counted as lost"), listing.contains("lost isr"), "case {number}");
+    }
+    assert!(counted > 20, "{counted}");
+}
+
+#[test]
 fn every_drawn_refusal_is_explained_at_its_place() {
     let folder = Folder::new();
     let mut seen = Vec::new();
-    for number in 0..400 {
+    let missing = |seen: &[u32]| REFUSALS.into_iter().find(|code| *code != 30 && !seen.contains(code));
+    // Some refusals are rare.
+    for number in 0..4_000 {
+        if number >= 400 && missing(&seen).is_none() {
+            break;
+        }
         let case = cases::case(5, number);
         folder.write("config.bin", &case.config);
         folder.write("trace.bin", &case.trace);
@@ -177,7 +223,5 @@ fn every_drawn_refusal_is_explained_at_its_place() {
         }
         assert_eq!(said.err, "");
     }
-    for code in REFUSALS.into_iter().filter(|code| *code != 30) {
-        assert!(seen.contains(&code), "refusal {code} was not drawn");
-    }
+    assert_eq!(missing(&seen), None, "not drawn");
 }

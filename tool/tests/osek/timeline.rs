@@ -123,6 +123,20 @@ fn losses_show_at_the_tick_at_which_they_happen() {
 }
 
 #[test]
+fn a_lost_line_shows_where_it_is_counted() {
+    let folder = Folder::new();
+    for (version, expected) in [(1, 0), (2, 2)] {
+        let text =
+            format!("version {version}\nisr door priority 9\ntrace\nline door\nline door\nline door\nline door\n");
+        folder.write("bounces.txt", text);
+        let json = folder.osek(&["timeline", "bounces.txt", "--json", "-"]).done();
+        let lost: Vec<&str> = json.lines().filter(|line| line.contains("\"lost line\"")).collect();
+        assert_eq!(lost.len(), expected, "{lost:?}");
+        assert!(lost.iter().zip(1..).all(|(line, count)| line.contains(&format!("\"count\": {count}"))), "{lost:?}");
+    }
+}
+
+#[test]
 fn a_timeline_needs_a_run_that_is_accepted_and_somewhere_to_go() {
     let folder = Folder::document();
     folder

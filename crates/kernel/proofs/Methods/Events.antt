@@ -1,8 +1,8 @@
 -- The events of bodies and of resources, case by case in the order of their checks, as the code goes through them: refused with each
 -- status, and done. A variable before an equation is what the code has in its place. Assumes nothing.
 use Prim.Native.Nat.{ℕ, _≤_, _<_, max}
-use mathlib.Core.Path.{_≡_, sym, _∙_}
-use mathlib.Core.Bool.{Bool, true, false, not, _&&_, _||_}
+use mathlib.Core.Path.{_≡_, refl, sym, _∙_}
+use mathlib.Core.Bool.{Bool, true, false, cond, not, _&&_, _||_}
 use mathlib.Core.List.{List}
 use lib.Dec.{ltb, eqb}
 use lib.ListN.{getD}
@@ -11,7 +11,8 @@ use Rattle.scheduler.specs.Status.{callLevel, noSuch, limitReached, access, noF
 use Rattle.word.specs.Word.{has, with, without}
 use Rattle.stack.specs.declared.Row.{Row}
 use Rattle.stack.specs.Stack.{topRow, pushRow, popRow}
-use Rattle.machine.specs.Model.{Picked, Model, noRank, withCore, withRequest, withLevel, withSlots, doneWith, refusedWith}
+use Rattle.machine.specs.Model.{Picked, Model, noRank, withCore, withRequest, withLevel, withSlots, withLosses, doneWith, refusedWith}
+use Rattle.machine.specs.Cells.{oneLost}
 use Rattle.machine.specs.Arbiter.{arbitrated, settled, vacated, leaving}
 use Rattle.machine.specs.Resources.{latest, levelWithout}
 use Rattle.machine.specs.Events.{idles, busy, activate, finish, chain, get, release, line}
@@ -52,19 +53,36 @@ module _ (trs ps : List ℕ) (m : Model) (t : ℕ) where
       activate-done h asked = rw (ne-eqb (m .core .runner) noRank runs, ← rank, ne-eqb r noRank some, sym test ∙ h, asked)
 
 -- Line i
-module _ (lrs ps : List ℕ) (m : Model) (i : ℕ) {r : ℕ} (rank : r ≡ getD lrs i noRank) where
-  pub line-none : r ≡ noRank → refusedWith m noSuch ≡ line lrs ps m i
+module _ (w : Bool) (lrs ps : List ℕ) (m : Model) (i : ℕ) {r : ℕ} (rank : r ≡ getD lrs i noRank) where
+  pub line-none : r ≡ noRank → refusedWith m noSuch ≡ line w lrs ps m i
   unfolding line firstGiven
-  line-none h = rw (← rank, eq-eqb r noRank h)
+  line-none h = rw (← rank, eq-eqb r noRank h) (uncounted w)
+    where
+      uncounted : (b : Bool) → refusedWith m noSuch ≡ refusedWith (cond (b && false) (withLosses m (oneLost r (m .losses))) m) noSuch
+      uncounted true = refl
+      uncounted false = refl
 
-  module _ (some : r ≡ noRank → ⊥) {b : Bool} (test : b ≡ has (m .core .request) r) where
-    pub line-waits : b ≡ true → refusedWith m limitReached ≡ line lrs ps m i
+  -- ls: the losses after it, d: whether one more is counted
+  module _ (some : r ≡ noRank → ⊥) {b : Bool} (test : b ≡ has (m .core .request) r) {d : Bool} (counted : d ≡ w && b)
+      {ls : List ℕ} (lost : ls ≡ cond d (oneLost r (m .losses)) (m .losses)) where
+    pub line-waits : b ≡ true → refusedWith (withLosses m ls) limitReached ≡ line w lrs ps m i
     unfolding line firstGiven
-    line-waits h = rw (← rank, ne-eqb r noRank some, sym test ∙ h)
+    line-waits h = rw (lost, counted, h, ← rank, ne-eqb r noRank some, sym test ∙ h) (either (w && true))
+      where
+        either : (x : Bool)
+            → refusedWith (withLosses m (cond x (oneLost r (m .losses)) (m .losses))) limitReached
+            ≡ refusedWith (cond x (withLosses m (oneLost r (m .losses))) m) limitReached
+        either true = refl
+        either false = refl
 
-    pub line-done : b ≡ false → {q : ℕ} → q ≡ with (m .core .request) r → settled ps (withCore m (withRequest (m .core) q)) ≡ line lrs ps m i
+    pub line-done : b ≡ false → {q : ℕ} → q ≡ with (m .core .request) r
+        → settled ps (withCore (withLosses m ls) (withRequest (m .core) q)) ≡ line w lrs ps m i
     unfolding line firstGiven
-    line-done h asked = rw (← rank, ne-eqb r noRank some, sym test ∙ h, asked)
+    line-done h asked = rw (lost, counted, h, and-false w, ← rank, ne-eqb r noRank some, sym test ∙ h, asked)
+      where
+        and-false : (x : Bool) → x && false ≡ false
+        and-false true = refl
+        and-false false = refl
 
 -- Chain t
 module _ (ws : ℕ) (trs ps : List ℕ) (m : Model) (t : ℕ) {a : Bool} (calls : a ≡ idles m || has ws (m .core .runner)) where

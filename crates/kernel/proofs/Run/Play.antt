@@ -16,6 +16,7 @@ use Rattle.number.specs.Output.{laid}
 use Rattle.number.proofs.Cases.{by-eq}
 use Rattle.number.proofs.Laying.{laid-laid, length-laid}
 use Rattle.config.specs.declared.Config.{Config}
+use Rattle.config.specs.Meaning.{countsLines}
 use Rattle.config.proofs.Tables.{firstOf-step, firstOf-rises}
 use Rattle.event.specs.declared.Event.{Event}
 use Rattle.event.specs.declared.EventRead.{EventRead}
@@ -30,7 +31,7 @@ use Rattle.scheduler.specs.Scheduler.{fresh, step, markOf}
 use Rattle.machine.specs.Model.{Model, Outcome}
 use Rattle.kernel.specs.Methods.{Laid}
 use Rattle.machine.specs.Events.{activate, finish, chain, get, release, tick, line, start, stop}
-use Rattle.machine.specs.Machine.{statusOf, effectOf, machineStep, runnerOf, machineSeen, machineAfter}
+use Rattle.machine.specs.Machine.{statusOf, effectOf, refusalOf, machineStep, runnerOf, machineSeen, machineAfter}
 use Rattle.run.specs.Run.{callOf, answerBytes}
 use Rattle.kernel.specs.Passes.{Playable}
 use Rattle.plan.proofs.Fitted.{Fitted, fitted}
@@ -42,39 +43,39 @@ use Rattle.kernel.proofs.Run.Bytes.{laid-none}
 -- what an arm's method hands back is the step of the event that was read
 module _ (c : Config) (p : Plan) (m : Model) (e : Event) where
   pub step-1 : e .code ≡ 1 → machineStep c p m (callOf e) ≡ activate (p .task) (p .priority) m (e .first)
-  unfolding callOf statusOf effectOf activate
+  unfolding callOf statusOf effectOf refusalOf activate
   step-1 h = rw h
 
   pub step-2 : e .code ≡ 2 → machineStep c p m (callOf e) ≡ finish (p .priority) m
-  unfolding callOf statusOf effectOf finish
+  unfolding callOf statusOf effectOf refusalOf finish
   step-2 h = rw h
 
   pub step-3 : e .code ≡ 3 → machineStep c p m (callOf e) ≡ chain (p .isrs) (p .task) (p .priority) m (e .first)
-  unfolding callOf statusOf effectOf chain
+  unfolding callOf statusOf effectOf refusalOf chain
   step-3 h = rw h
 
   pub step-4 : e .code ≡ 4 → machineStep c p m (callOf e) ≡ get (c .resources) (p .ceiling) (p .priority) m (e .first)
-  unfolding callOf statusOf effectOf get
+  unfolding callOf statusOf effectOf refusalOf get
   step-4 h = rw h
 
   pub step-5 : e .code ≡ 5 → machineStep c p m (callOf e) ≡ release (c .resources) (p .priority) m (e .first)
-  unfolding callOf statusOf effectOf release
+  unfolding callOf statusOf effectOf refusalOf release
   step-5 h = rw h
 
   pub step-6 : e .code ≡ 6 → machineStep c p m (callOf e) ≡ tick (p .compare) (p .entry) (p .priority) m
-  unfolding callOf statusOf effectOf tick
+  unfolding callOf statusOf effectOf refusalOf tick
   step-6 h = rw h
 
-  pub step-7 : e .code ≡ 7 → machineStep c p m (callOf e) ≡ line (p .line) (p .priority) m (e .first)
-  unfolding callOf statusOf effectOf line
+  pub step-7 : e .code ≡ 7 → machineStep c p m (callOf e) ≡ line (countsLines c) (p .line) (p .priority) m (e .first)
+  unfolding callOf statusOf effectOf refusalOf line
   step-7 h = rw h
 
   pub step-8 : e .code ≡ 8 → machineStep c p m (callOf e) ≡ start (c .tables) (p .first) (c .entries) (c .period) (c .offset) m (e .first) (e .second)
-  unfolding callOf statusOf effectOf start
+  unfolding callOf statusOf effectOf refusalOf start
   step-8 h = rw h
 
   pub step-9 : e .code ≡ 9 → machineStep c p m (callOf e) ≡ stop (c .tables) (p .first) (c .entries) m (e .first)
-  unfolding callOf statusOf effectOf stop
+  unfolding callOf statusOf effectOf refusalOf stop
   step-9 h = rw h
 
 past : (n : ℕ) {k : ℕ} → n ≤ k → (k ≡ n → ⊥) → n < k

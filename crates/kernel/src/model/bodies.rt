@@ -1,7 +1,7 @@
 // The events of bodies: Activate, Finish, Chain and Line.
 ghost use mathlib.Core.Path.{_≡_};
 ghost use mathlib.Core.Bool.{not, _&&_, _||_};
-ghost use lib.Dec.{eqb};
+ghost use lib.Dec.{leb, eqb};
 ghost use Rattle.word.specs.Word.{has};
 ghost use Rattle.machine.specs.Model.{noRank};
 ghost use Rattle.machine.specs.Events.{activate, finish, chain, line};
@@ -13,6 +13,7 @@ use super::Model;
 use super::NO_RANK;
 use super::NO_SUCH;
 use super::Outcome;
+use super::cells::lose_where;
 use super::lookup::byte_at;
 use word::has;
 use word::with;
@@ -71,18 +72,37 @@ impl Model {
         self.ended(with(self.request, rank as u32), priority)
     }
 
-    pub fn line<'a>(self, line_rank: &'a [u8; 32], priority: &'a [u8; 32], i: u32) -> Outcome
-        ensures { λ r. ⌜ r ≡ outcomeOf (line (now («line_rank» .entry)) (now (priority .entry)) (view self) i) ⌝ }
+    // `counts`: whether a line that is lost counts as a loss. The losses are put back on every path: where only a lost line did so, the
+    // compiler would copy the model at every event.
+    pub fn line<'a>(
+        mut self,
+        counts: bool,
+        line_rank: &'a [u8; 32],
+        priority: &'a [u8; 32],
+        i: u32,
+    ) -> Outcome
+        ensures { λ r. ⌜ r ≡ outcomeOf (line counts (now («line_rank» .entry)) (now (priority .entry)) (view self) i) ⌝ }
     {
         let rank = byte_at(line_rank, i as usize, NO_RANK);
         if rank == NO_RANK {
             return self.with_status(NO_SUCH);
         }
-        if has(self.request, rank as u32) {
+        let waits = has(self.request, rank as u32);
+        let mut losses = self.losses;
+        lose_where(counts & waits, &mut losses, rank as usize);
+        self.losses = losses;
+        if waits {
             return self.with_status(LIMIT);
         }
         self.settled(with(self.request, rank as u32), priority)
     }
+}
+
+// Whether a configuration of this version counts the lines that are lost.
+pub fn counts_lines(version: u8) -> bool
+    ensures { λ r. ⌜ r ≡ leb 2 version ⌝ }
+{
+    2 <= version
 }
 
 // Whether the body of this rank is ready or started.

@@ -1,10 +1,10 @@
 // The cells of the entries, as parallel arrays: what a tick, a start and a stop make of them.
 ghost use mathlib.Core.Path.{_≡_};
-ghost use mathlib.Core.Bool.{true, false, _||_};
+ghost use mathlib.Core.Bool.{true, false, cond, _||_};
 ghost use Prim.Native.Nat.{_+_, _≤_};
 ghost use lib.ListN.{length, getD, set, take, drop};
 ghost use Rattle.config.specs.Value.{maxEntries};
-ghost use Rattle.machine.specs.Cells.{countersTicked, switchFor, switchesTicked, someTurn, marks, countersStarted, switchesStarted, someLong, countersStopped, switched, oneMore, matchAt, requestsDue};
+ghost use Rattle.machine.specs.Cells.{countersTicked, switchFor, switchesTicked, someTurn, marks, countersStarted, switchesStarted, someLong, countersStopped, switched, oneMore, oneLost, matchAt, requestsDue};
 ghost use Rattle.kernel.specs.Methods.{dueWith, group, marksWord};
 use super::NO_RANK;
 use super::bodies::busy;
@@ -198,8 +198,24 @@ fn take_match(rank: u8, started: u32, request: u32, losses: &mut [u16; 32]) -> u
     with(request, rank as u32)
 }
 
+// One more is lost at this rank, where the test holds.
+pub fn lose_where(test: bool, losses: &mut [u16], i: usize)
+    ensures { λ _. ⌜ now (losses .exit) ≡ cond test (oneLost i (now (losses .entry))) (now (losses .entry)) ⌝ }
+{
+    if i < losses.len() {
+        losses[i] = one_more_where(test, losses[i]);
+    }
+}
+
+fn one_more_where(test: bool, n: u16) -> u16
+    ensures { λ r. ⌜ r ≡ cond test (oneMore n) n ⌝ }
+{
+    if test { one_more(n) } else { n }
+}
+
+// One more is lost at this rank.
 fn lose(losses: &mut [u16], i: usize)
-    ensures { λ _. ⌜ now (losses .exit) ≡ set (now (losses .entry)) i (oneMore (getD (now (losses .entry)) i 0)) ⌝ }
+    ensures { λ _. ⌜ now (losses .exit) ≡ oneLost i (now (losses .entry)) ⌝ }
 {
     if i < losses.len() {
         losses[i] = one_more(losses[i]);

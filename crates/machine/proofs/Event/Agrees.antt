@@ -2,21 +2,22 @@
 --
 --   Agrees c p rk m s e   the event e does the same to the model m and to the state s
 --   agrees                an event that ends in an arbitrated model
---   agrees-attempt        a call with the same status on both sides
+--   agrees-either         an event with the same status on both sides; agrees-attempt: one that changes nothing where it is refused
 --   by-runner             either nobody runs on both sides, or one body on both
 --
 -- Assumes nothing.
 use Prim.Native.Nat.{ℕ, zero, suc, _<_}
 use mathlib.Core.Path.{_≡_, refl, sym, ap, _∙_}
 use mathlib.Core.Bool.{Bool, true, false, cond}
+use mathlib.Core.Logic.{_≢_}
 use mathlib.Core.List.{List, [], _∷_, map}
 use native.Mathlib.Omega.{arith}
 use borrow.Author.Tests.{eq-eqb, ne-eqb}
+use lib.Dec.{eqb}
 use lib.ListN.{length, getD, set, take, replicate, length-map, List·getD-map, List·getD-eq-default}
 use lib.Seq.{getD-take, ext-getD, length-take-le}
 use Rattle.number.proofs.Cases.{by-eq}
 use Rattle.config.specs.declared.Config.{Config}
-use Rattle.config.specs.Meaning.{isTask}
 use Rattle.plan.specs.declared.Plan.{Plan}
 use Rattle.scheduler.specs.Status.{done, Check, _gives_, firstGiven}
 use Rattle.scheduler.specs.Body.{started, Body, current, become}
@@ -96,23 +97,19 @@ module _ {c : Config} {p : Plan} {rk : ℕ → ℕ} (fit : Fitted c p rk) where
     where
       long : length (lossesOf c p m) ≡ length (map (λ b. b .losses) bs)
       long =
-          length-map (take (c .bodies) (p .task)) (λ r. getD (m .losses) r 0)
-          ∙ length-take-le (c .bodies) (p .task) (omega (arith, fit .task-ranks-long, fit .few))
+          length-map (take (c .bodies) (p .rank)) (λ r. getD (m .losses) r 0)
+          ∙ length-take-le (c .bodies) (p .rank) (omega (arith, fit .ranks-long, fit .few))
           ∙ sym (length-map bs (λ b. b .losses) ∙ size)
 
       past : getD (m .losses) noRank 0 ≡ 0
       past = List·getD-eq-default (m .losses) 0 (omega (arith, l .losses-long))
 
-      own : (i : ℕ) → i < c .bodies → (b : Bool) → isTask c i ≡ b → getD (m .losses) (cond b (rk i) noRank) 0 ≡ at bs i .losses
-      own i h true e = l .of-task i h e
-      own i h false e = past ∙ sym (l .of-isr i h e)
-
       each : (i : ℕ) → i < c .bodies → getD (lossesOf c p m) i 0 ≡ getD (map (λ b. b .losses) bs) i 0
       each i h =
           ap (λ (d : ℕ). getD (lossesOf c p m) i d) (sym past)
-          ∙ List·getD-map (λ r. getD (m .losses) r 0) (take (c .bodies) (p .task)) i noRank
-          ∙ ap (λ (r : ℕ). getD (m .losses) r 0) (getD-take (c .bodies) (p .task) i noRank h ∙ fit .task-rank i)
-          ∙ own i h (isTask c i) refl
+          ∙ List·getD-map (λ r. getD (m .losses) r 0) (take (c .bodies) (p .rank)) i noRank
+          ∙ ap (λ (r : ℕ). getD (m .losses) r 0) (getD-take (c .bodies) (p .rank) i noRank h ∙ fit .body-rank i h)
+          ∙ l .of-body i h
           ∙ sym (List·getD-map (λ b. b .losses) bs i noBody)
 
   -- either nobody runs on both sides, or body b on both
@@ -168,18 +165,30 @@ module _ {c : Config} {p : Plan} {rk : ℕ → ℕ} (fit : Fitted c p rk) where
               due = due i;
             }
 
-  module _ {m : Model} {s : State} (sim : Sim c p rk m s) where
-    pub agrees-attempt : (e : Event) (stM stP : ℕ) (o : Outcome) (s′ : State)
-        → machineStep c p m e ≡ Machine.attempt m stM o → step c s e ≡ Plain.attempt c s stP (noneDue c s) s′ → matched p m e ≡ noneDue c s
-        → stM ≡ stP → (stP ≡ done → Accepted c p rk o s′) → Agrees c p rk m s e
-    agrees-attempt e stM stP o s′ machine plain due same acc =
+  module _ {m : Model} {s : State} where
+    -- m′ and s″: what the two sides leave where the event is refused
+    pub agrees-either : (e : Event) (stM stP : ℕ) (o : Outcome) (m′ : Model) (s′ s″ : State)
+        → machineStep c p m e ≡ Machine.attempt m′ stM o
+        → step c s e ≡ ending c stP (noneDue c s) (cond (eqb stP done) s′ s″)
+        → matched p m e ≡ noneDue c s
+        → stM ≡ stP → (stP ≡ done → Accepted c p rk o s′) → (stP ≢ done → Sim c p rk m′ s″) → Agrees c p rk m s e
+    agrees-either e stM stP o m′ s′ s″ machine plain due same acc ref =
         by-eq stP done
         (λ z. let a = acc z in
         agrees e o stP (noneDue c s) s′
         (machine ∙ rw (same, eq-eqb stP done z)) (plain ∙ rw (eq-eqb stP done z)) (a .status ∙ sym z) due (a .arb) (a .size) (a .timed) (a .lost))
-        (λ n. agrees e (refusedWith m stM) stP (noneDue c s) s
+        (λ n. let k = ref n in
+        agrees e (refusedWith m′ stM) stP (noneDue c s) s″
         (machine ∙ rw (same, ne-eqb stP done n)) (plain ∙ rw (ne-eqb stP done n)) same due
-        (calm-arbitrated fit s stM (sim .tied) (sim .calm)) (sim .tied .size) (sim .timed) (sim .lost))
+        (calm-arbitrated fit s″ stM (k .tied) (k .calm)) (k .tied .size) (k .timed) (k .lost))
+
+  module _ {m : Model} {s : State} (sim : Sim c p rk m s) where
+    pub agrees-attempt : (e : Event) (stM stP : ℕ) (o : Outcome) (s′ : State)
+        → machineStep c p m e ≡ Machine.attempt m stM o
+        → step c s e ≡ ending c stP (noneDue c s) (cond (eqb stP done) s′ s)
+        → matched p m e ≡ noneDue c s
+        → stM ≡ stP → (stP ≡ done → Accepted c p rk o s′) → Agrees c p rk m s e
+    agrees-attempt e stM stP o s′ machine plain due same acc = agrees-either e stM stP o m s′ s machine plain due same acc (λ _. sim)
 
     -- an event that is no Tick has no match
     pub no-match : length (dues c s) ≡ p .count → replicate (p .count) false ≡ noneDue c s

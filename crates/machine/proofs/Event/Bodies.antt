@@ -1,7 +1,7 @@
 -- Activate, Line, Finish and Chain do the same to the model as to the state.
 -- Assumes nothing.
 use Prim.Native.Nat.{ℕ, _<_}
-use mathlib.Core.Path.{_≡_, refl, sym, ap, ap₂, _∙_}
+use mathlib.Core.Path.{_≡_, refl, sym, ap, ap₂, subst, _∙_}
 use mathlib.Core.Logic.{_≢_}
 use mathlib.Core.Bool.{Bool, true, false, true≢false, cond, not, _&&_, _||_}
 use mathlib.Core.List.{List, [], _∷_}
@@ -12,31 +12,33 @@ use lib.ListN.{length, getD, length-set}
 use lib.Seq.{getD-set-same, getD-set-other}
 use Rattle.number.proofs.Cases.{by-eq}
 use Rattle.config.specs.declared.Config.{Config}
-use Rattle.config.specs.Meaning.{isTask, isIsr}
+use Rattle.config.specs.Meaning.{countsLines, isTask, isIsr}
 use Rattle.plan.specs.declared.Plan.{Plan}
 use Rattle.word.specs.Word.{has}
 use Rattle.scheduler.specs.Status.{firstGiven, callLevel, noSuch, limitReached, holdsResource}
-use Rattle.scheduler.specs.Body.{Phase, suspended, ready, started, isStarted, Body, become, finished, requested}
-use Rattle.scheduler.specs.State.{State, noBody, bodyOf}
+use Rattle.scheduler.specs.Body.{Phase, suspended, ready, started, isSuspended, isStarted, Body, become, finished, requested, loses}
+use Rattle.scheduler.specs.State.{State, noBody, bodyOf, changing}
 use Rattle.scheduler.specs.Call.{nobodyRuns, caller, calling, holds, active, activateStatus, finishStatus, chainStatus, lineStatus, activate, finish, chain, line}
+use Rattle.scheduler.specs.Call as Plain
 use Rattle.scheduler.specs.Tick.{dues}
 use Rattle.scheduler.specs.Scheduler.{Activate, Finish, Chain, Line, step}
 use Rattle.scheduler.proofs.Checks.{activate-passed, finish-passed, chain-passed, line-passed}
-use Rattle.machine.specs.Model.{Model, noRank}
+use Rattle.machine.specs.Model.{Model, noRank, withLosses}
 use Rattle.machine.specs.Arbiter.{settled, leaving, requesting}
 use Rattle.machine.specs.Resources.{holding}
+use Rattle.machine.specs.Cells.{oneLost}
 use Rattle.machine.specs.Events as Machine
 use Rattle.machine.specs.Events.{idles, busy}
-use Rattle.machine.specs.Machine.{statusOf, effectOf}
+use Rattle.machine.specs.Machine.{statusOf, effectOf, refusalOf}
 use Rattle.plan.proofs.Fitted.{Fitted}
 use Rattle.machine.proofs.Relation.Words.{at, wants, busy-is}
-use Rattle.machine.proofs.Relation.Losses.{lost-same}
+use Rattle.machine.proofs.Relation.Losses.{lost-same, lost-one}
 use Rattle.machine.proofs.Relation.Whole.{Tied, Sim}
 use Rattle.machine.proofs.Arbitration.Dispatch.{rank-below, settled-tied}
-use Rattle.machine.proofs.Change.Request.{activate-tied, line-tied}
+use Rattle.machine.proofs.Change.Request.{elsewhere, activate-tied, loss-tied, line-tied}
 use Rattle.machine.proofs.Change.End.{end-tied}
 use Rattle.machine.proofs.Change.Hold.{holding-is}
-use Rattle.machine.proofs.Event.Agrees.{kept, first-same, Agrees, Runs, by-runner, idle-same, agrees-attempt, no-match}
+use Rattle.machine.proofs.Event.Agrees.{kept, first-same, Agrees, Runs, by-runner, idle-same, agrees-either, agrees-attempt, no-match}
 
 both : (a b : Bool) → a && b ≡ true → (a ≡ true) × (b ≡ true)
 both true b e = (refl, e)
@@ -78,7 +80,7 @@ module _ {c : Config} {p : Plan} {rk : ℕ → ℕ} (fit : Fitted c p rk) where
 
     -- Activate
     pub agrees-activate : (t : ℕ) → Agrees c p rk m s (Activate t)
-    unfolding statusOf effectOf step
+    unfolding statusOf effectOf refusalOf step
     agrees-activate t =
         agrees-attempt fit sim (Activate t) (Machine.activateStatus (p .task) m t) (activateStatus c s t)
         (settled (p .priority) (requesting (getD (p .task) t noRank) m)) (activate t s) refl refl (no-match fit sim long)
@@ -97,14 +99,53 @@ module _ {c : Config} {p : Plan} {rk : ℕ → ℕ} (fit : Fitted c p rk) where
         }))
 
     -- Line
-    pub agrees-line : (i : ℕ) → Agrees c p rk m s (Line i)
-    unfolding statusOf effectOf step
-    agrees-line i =
-        agrees-attempt fit sim (Line i) (Machine.lineStatus (p .line) m i) (lineStatus c s i)
-        (settled (p .priority) (requesting (getD (p .line) i noRank) m)) (line i s) refl refl (no-match fit sim long)
-        (first-same (eqb (getD (p .line) i noRank) noRank) (not (isIsr c i)) noSuch _ _ (missing-rank (isIsr c) (isr-exists c) i (getD (p .line) i noRank) (fit .line-rank i))
+    line-status : (i : ℕ) → Machine.lineStatus (p .line) m i ≡ lineStatus c s i
+    line-status i =
+        first-same (eqb (getD (p .line) i noRank) noRank) (not (isIsr c i)) noSuch _ _ (missing-rank (isIsr c) (isr-exists c) i (getD (p .line) i noRank) (fit .line-rank i))
         (λ h. let k = not-false (isIsr c i) h in
-        first-same (has (m .core .request) (getD (p .line) i noRank)) (wants (at bs i)) limitReached _ _ (rw (line-rank-is i k) (sim .tied .words .asks i (isr-exists c i k))) (λ _. refl)))
+        first-same (has (m .core .request) (getD (p .line) i noRank)) (wants (at bs i)) limitReached _ _ (rw (line-rank-is i k) (sim .tied .words .asks i (isr-exists c i k))) (λ _. refl))
+
+    -- a body loses one more, on both sides
+    lost-sim : (i : ℕ) → i < c .bodies → Sim c p rk (withLosses m (oneLost (rk i) (m .losses))) (changing i loses s)
+    lost-sim i i< =
+        record {
+          nest = sim .nest;
+          tied = elsewhere (loss-tied (sim .tied) fit i i<) (m .counter) (m .on) (m .turning) (oneLost (rk i) (m .losses));
+          calm = λ b b< h. sim .calm b b< (sym (kept (λ x. isSuspended (x .phase)) loses (λ x. refl) bs i b) ∙ h);
+          timed = sim .timed;
+          lost = lost-one fit (sim .tied .size) (sim .lost) i i<;
+        }
+
+    -- who is no ISR has no line to lose
+    no-line : (i : ℕ) → isIsr c i ≡ false → lineStatus c s i ≡ noSuch
+    unfolding firstGiven
+    no-line i e = rw e
+
+    line-refused : (i : ℕ) → Sim c p rk (Machine.lineRefusal (countsLines c) (p .line) m i (lineStatus c s i)) (Plain.refusalOf c s (lineStatus c s i) (Line i))
+    line-refused i = by-kind (isIsr c i) refl
+      where
+        counted : (b : Bool) → i < c .bodies → Sim c p rk (cond b (withLosses m (oneLost (rk i) (m .losses))) m) (cond b (changing i loses s) s)
+        counted true i< = lost-sim i i<
+        counted false i< = sim
+
+        and-false : (b : Bool) → b && false ≡ false
+        and-false true = refl
+        and-false false = refl
+
+        by-kind : (b : Bool) → isIsr c i ≡ b → Sim c p rk (Machine.lineRefusal (countsLines c) (p .line) m i (lineStatus c s i)) (Plain.refusalOf c s (lineStatus c s i) (Line i))
+        by-kind true e =
+            subst (λ (r : ℕ). Sim c p rk (cond (countsLines c && eqb (lineStatus c s i) limitReached) (withLosses m (oneLost r (m .losses))) m) (Plain.refusalOf c s (lineStatus c s i) (Line i)))
+            (sym (line-rank-is i e))
+            (counted (countsLines c && eqb (lineStatus c s i) limitReached) (isr-exists c i e))
+        by-kind false e = rw (no-line i e) (rw (and-false (countsLines c)) sim)
+
+    pub agrees-line : (i : ℕ) → Agrees c p rk m s (Line i)
+    unfolding statusOf effectOf refusalOf step
+    agrees-line i =
+        agrees-either fit (Line i) (Machine.lineStatus (p .line) m i) (lineStatus c s i)
+        (settled (p .priority) (requesting (getD (p .line) i noRank) m))
+        (Machine.lineRefusal (countsLines c) (p .line) m i (Machine.lineStatus (p .line) m i)) (line i s) (Plain.refusalOf c s (lineStatus c s i) (Line i))
+        refl refl (no-match fit sim long) (line-status i)
         (λ z. let a = line-passed c s i z in
         rw (line-rank-is i (a .0))
         (record {
@@ -114,6 +155,7 @@ module _ {c : Config} {p : Plan} {rk : ℕ → ℕ} (fit : Fitted c p rk) where
           timed = sim .timed;
           lost = lost-same (kept (λ x. x .losses) requested (λ x. same-losses x (x .phase)) bs i) (sim .lost);
         }))
+        (λ _. rw (line-status i) (line-refused i))
       where
         same-losses : (x : Body) (q : Phase) → (cond (isStarted q) (record { phase = started; pending = true; held = x .held; losses = x .losses }) (become ready x)) .losses ≡ x .losses
         same-losses x suspended = refl
@@ -140,7 +182,7 @@ module _ {c : Config} {p : Plan} {rk : ℕ → ℕ} (fit : Fitted c p rk) where
     finish-losses = kept (λ x. x .losses) finished (λ x. refl) bs (caller c s)
 
     pub agrees-finish : Agrees c p rk m s Finish
-    unfolding statusOf effectOf step
+    unfolding statusOf effectOf refusalOf step
     agrees-finish =
         agrees-attempt fit sim Finish (Machine.finishStatus m) (finishStatus c s) (settled (p .priority) (leaving m)) (finish c s) refl refl
         (no-match fit sim long) finish-status
@@ -191,7 +233,7 @@ module _ {c : Config} {p : Plan} {rk : ℕ → ℕ} (fit : Fitted c p rk) where
         out false = refl
 
     pub agrees-chain : (t : ℕ) → Agrees c p rk m s (Chain t)
-    unfolding statusOf effectOf step
+    unfolding statusOf effectOf refusalOf step
     agrees-chain t =
         agrees-attempt fit sim (Chain t) (Machine.chainStatus (p .isrs) (p .task) m t) (chainStatus c s t)
         (settled (p .priority) (requesting (getD (p .task) t noRank) (leaving m))) (chain c t s) refl refl

@@ -24,7 +24,7 @@ use Rattle.machine.specs.Arbiter.{settled}
 use Rattle.machine.specs.Resources.{latest, getting, releasing}
 use Rattle.machine.specs.Events as Machine
 use Rattle.machine.specs.Events.{idles}
-use Rattle.machine.specs.Machine.{statusOf, effectOf}
+use Rattle.machine.specs.Machine.{statusOf, effectOf, refusalOf}
 use Rattle.plan.proofs.Fitted.{Fitted}
 use Rattle.machine.proofs.Relation.Words.{at}
 use Rattle.machine.proofs.Relation.Slots.{Slot, slotsFor, slotsAlong, resourcesIn}
@@ -160,7 +160,7 @@ module _ {c : Config} {p : Plan} {rk : ℕ → ℕ} (fit : Fitted c p rk) {m : M
   get-phase f keeps r = kept f (gets r) (λ x. keeps x r) bs (caller c s)
 
   pub agrees-get : (r : ℕ) → Agrees c p rk m s (Get r)
-  unfolding statusOf effectOf step
+  unfolding statusOf effectOf refusalOf step
   agrees-get r =
       agrees-attempt fit sim (Get r) (Machine.getStatus (c .resources) (p .ceiling) (p .priority) m r) (getStatus c s r)
       (doneWith (getting r (max (getD (p .ceiling) r 0) (m .core .level)) m) false) (get c r s) refl refl
@@ -193,7 +193,7 @@ module _ {c : Config} {p : Plan} {rk : ℕ → ℕ} (fit : Fitted c p rk) {m : M
       (λ _. refl))))
 
   pub agrees-release : (r : ℕ) → Agrees c p rk m s (Release r)
-  unfolding statusOf effectOf step
+  unfolding statusOf effectOf refusalOf step
   agrees-release r =
       agrees-attempt fit sim (Release r) (Machine.releaseStatus (c .resources) m r) (releaseStatus c s r)
       (settled (p .priority) (releasing (p .priority) r m)) (release c s) refl refl

@@ -30,7 +30,7 @@ use Rattle.machine.specs.Model.{Model, withCells, doneWith}
 use Rattle.machine.specs.Cells.{switchOff, isOn, hasTurn, switchFor, cellAt, someLong}
 use Rattle.machine.specs.Events as Machine
 use Rattle.machine.specs.Events.{idles, runs, starting, stopping}
-use Rattle.machine.specs.Machine.{statusOf, effectOf, cellIn}
+use Rattle.machine.specs.Machine.{statusOf, effectOf, refusalOf, cellIn}
 use Rattle.plan.proofs.Fitted.{Fitted}
 use Rattle.machine.proofs.Relation.Cells.{CellFits, Timed}
 use Rattle.machine.proofs.Relation.Whole.{Sim}
@@ -223,7 +223,7 @@ module _ {c : Config} {p : Plan} {rk : ℕ → ℕ} (fit : Fitted c p rk) {m : M
         (λ i. switchFor true (isLong (delayed d i))) (m .turning || anyLong t d) (λ w. rw w) u e u< n low high)
 
   pub agrees-start : (t d : ℕ) → Agrees c p rk m s (Start t d)
-  unfolding statusOf effectOf step
+  unfolding statusOf effectOf refusalOf step
   agrees-start t d =
       agrees-attempt fit sim (Start t d) (Machine.startStatus (c .tables) (p .first) (c .offset) m t d) (startStatus c s t d)
       (doneWith (launching t d) false) (start t d s) refl refl
@@ -263,7 +263,7 @@ module _ {c : Config} {p : Plan} {rk : ℕ → ℕ} (fit : Fitted c p rk) {m : M
         (other-cell fit t t< (m .counter) (m .on) (m .turning) (s .tables) (sim .timed) (λ _. 0) (λ _. switchOff) (m .turning) (λ w. w) u e u< n low high)
 
   pub agrees-stop : (t : ℕ) → Agrees c p rk m s (Stop t)
-  unfolding statusOf effectOf step
+  unfolding statusOf effectOf refusalOf step
   agrees-stop t =
       agrees-attempt fit sim (Stop t) (Machine.stopStatus (c .tables) (p .first) m t) (stopStatus c s t)
       (doneWith (halting t) false) (stop t s) refl refl

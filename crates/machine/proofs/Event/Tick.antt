@@ -21,12 +21,12 @@ use Rattle.scheduler.specs.Scheduler.{Tick, step}
 use Rattle.scheduler.proofs.Effects.{tables-ticked}
 use Rattle.machine.specs.Model.{Model, withCore, withRequest, withRest}
 use Rattle.machine.specs.Arbiter.{settled}
-use Rattle.machine.specs.Cells.{Due, oneMore, matchAt, requestsDue}
+use Rattle.machine.specs.Cells.{Due, oneLost, matchAt, requestsDue}
 use Rattle.machine.specs.Events.{marksOf, dueOf, ticking, tick}
-use Rattle.machine.specs.Machine.{statusOf, effectOf}
+use Rattle.machine.specs.Machine.{statusOf, effectOf, refusalOf}
 use Rattle.plan.proofs.Fitted.{Fitted}
 use Rattle.machine.proofs.Relation.Words.{at, busy-is}
-use Rattle.machine.proofs.Relation.Losses.{Lost, lost-same}
+use Rattle.machine.proofs.Relation.Losses.{Lost, lost-same, lost-one}
 use Rattle.machine.proofs.Relation.Whole.{Tied, Sim}
 use Rattle.machine.proofs.Arbitration.Choice.{by-phase}
 use Rattle.machine.proofs.Arbitration.Dispatch.{rank-below, settled-tied}
@@ -69,23 +69,6 @@ module _ {c : Config} {p : Plan} {rk : ℕ → ℕ} (fit : Fitted c p rk) (ns : 
     exists : t < c .bodies
     exists = task-exists c t task
 
-    -- another body's losses stand at another rank
-    lost-other : (b : ℕ) → b < c .bodies → b ≢ t → getD (set (x .losses) (rk t) (oneMore (getD (x .losses) (rk t) 0))) (rk b) 0 ≡ getD (x .losses) (rk b) 0
-    lost-other b b< n = getD-set-other (x .losses) (rk t) (rk b) (oneMore (getD (x .losses) (rk t) 0)) 0 (λ e. n (fit .rank-inj b t b< exists e))
-
-    losing : Lost c rk (set (x .losses) (rk t) (oneMore (getD (x .losses) (rk t) 0))) (set bs t (loses (at bs t)))
-    losing =
-        record {
-          losses-long = length-set (x .losses) (rk t) (oneMore (getD (x .losses) (rk t) 0)) ∙ owed .lost .losses-long;
-          of-task = λ b b< h. by-eq b t
-              (λ e. rw (e, getD-set-same (x .losses) (rk t) (oneMore (getD (x .losses) (rk t) 0)) 0 (omega (arith, owed .lost .losses-long, rank-below fit t exists)), getD-set-same bs t (loses (at bs t)) noBody (rw (owed .tied .size) exists))
-              (ap oneMore (owed .lost .of-task t exists task)))
-              (λ n. lost-other b b< n ∙ owed .lost .of-task b b< h ∙ sym (ap (λ (y : Body). y .losses) (getD-set-other bs t b (loses (at bs t)) noBody n)));
-          of-isr = λ b b< h. by-eq b t
-              (λ e. absurd (true≢false (sym task ∙ sym (ap (isTask c) e) ∙ h)))
-              (λ n. ap (λ (y : Body). y .losses) (getD-set-other bs t b (loses (at bs t)) noBody n) ∙ owed .lost .of-isr b b< h);
-        }
-
     match-owed : Owed m (matchAt (m .core .started) (rk t) x) (changing t activatedByEntry s)
     match-owed =
         by-phase (at bs t .phase)
@@ -98,8 +81,8 @@ module _ {c : Config} {p : Plan} {rk : ℕ → ℕ} (fit : Fitted c p rk) (ns : 
       where
         loss : isSuspended (at bs t .phase) ≡ false → Owed m (matchAt (m .core .started) (rk t) x) (changing t activatedByEntry s)
         loss a = rw (busy-is (owed .tied .words) t exists, a) (record {
-          tied = elsewhere (loss-tied (owed .tied) fit t exists) (m .counter) (m .on) (m .turning) (set (x .losses) (rk t) (oneMore (getD (x .losses) (rk t) 0)));
-          lost = losing;
+          tied = elsewhere (loss-tied (owed .tied) fit t exists) (m .counter) (m .on) (m .turning) (oneLost (rk t) (x .losses));
+          lost = lost-one fit (owed .tied .size) (owed .lost) t exists;
         })
 
   due-owed : (m : Model) (ms : List Bool) (rs ts : List ℕ) → Entries c rk ms rs ts → (x : Due) (s : State) → Owed m x s
@@ -154,7 +137,7 @@ module _ {c : Config} {p : Plan} {rk : ℕ → ℕ} (fit : Fitted c p rk) {m : M
       (requestsDue (m .core .started) ms (p .entry) (record { request = m .core .request; losses = m .losses }) .losses))
 
   pub agrees-tick : Agrees c p rk m s Tick
-  unfolding statusOf effectOf tick step firstGiven
+  unfolding statusOf effectOf refusalOf tick step firstGiven
   agrees-tick =
       agrees fit Tick (settled (p .priority) (ticking (p .compare) (p .entry) m)) done ms (Plain.ticked c s) refl refl refl marks-are
       (settled-tied fit (Plain.ticked c s) ticked-tied)

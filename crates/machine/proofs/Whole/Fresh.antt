@@ -109,8 +109,7 @@ module _ {c : Config} {p : Plan} {rk : ℕ → ℕ} (fit : Fitted c p rk) where
   unbegun-lost =
       record {
         losses-long = refl;
-        of-task = λ b b< h. same-everywhere 32 0 (rk b) ∙ sym (at-same (λ x. x .losses) refl b);
-        of-isr = λ b b< h. at-same (λ x. x .losses) refl b;
+        of-body = λ b b<. same-everywhere 32 0 (rk b) ∙ sym (at-same (λ x. x .losses) refl b);
       }
 
   pub fresh-sim : Sim c p rk (freshModel p) (fresh c)

@@ -27,7 +27,7 @@ const MARGIN: f64 = 14.0;
 /// About the width of a letter.
 const LETTER: f64 = 6.7;
 /// The room of the legend.
-const LEGEND: f64 = 640.0;
+const LEGEND: f64 = 720.0;
 
 const STYLE: &str = "\
 text { font-family: 'DejaVu Sans', Verdana, Arial, sans-serif; font-size: 11px; fill: #1f2937; }
@@ -304,7 +304,7 @@ impl<'t> Picture<'t> {
         };
         named(canvas, &begin, "begins");
         named(canvas, &|canvas, x| canvas.dot("request", x + 9.0, y), "a second request waits");
-        named(canvas, &|canvas, x| canvas.cross("loss", x + 9.0, y), "activation lost");
+        named(canvas, &|canvas, x| canvas.cross("loss", x + 9.0, y), "activation or line lost");
     }
 }
 

@@ -41,7 +41,7 @@ put-losses-requires : tie.Need-put-losses-requires
 put-losses-requires c κs =
     let p = c .before .before .before .before .before .before .before .before in
     let s = p .before .before .before .before .before .before .before .before in
-    let long : length (p .before .before .before .before .before .of .result .task) ≡ 32 = ap (λ (q : Plan). length (q .task)) (p .before .before .before .before .before .of .ensures) ∙ plan-sized (s .args .config) .tasks in
+    let long : length (p .before .before .before .before .before .of .result .rank) ≡ 32 = ap (λ (q : Plan). length (q .rank)) (p .before .before .before .before .before .of .ensures) ∙ plan-sized (s .args .config) .ranks in
     (s .pre .accepted .few-bodies, omega (arith, s .pre .accepted .few-bodies), omega (arith, s .pre .room, p .play .kept .1 .1 .1 .1 .0))
 
 same-length : tie.Need-same-length

@@ -12,11 +12,11 @@ use Rattle.kernel.proofs.output.put_losses.Statement.{statement}
 use Rattle.kernel.proofs.output.put_losses.Tie as tie
 
 abbrev Inv-loop : tie.InvT-loop
-Inv-loop losses task bodies at out₀ b₀ out b =
-    (b ≤ bodies) × (length out ≡ length out₀) × (out ≡ laid at (lossBytes (map (λ r. getD losses r 0) (take b task))) out₀)
+Inv-loop losses ranks bodies at out₀ b₀ out b =
+    (b ≤ bodies) × (length out ≡ length out₀) × (out ≡ laid at (lossBytes (map (λ r. getD losses r 0) (take b ranks))) out₀)
 
 abbrev μ-loop : tie.MeasureT-loop
-μ-loop losses task bodies at out₀ b₀ out b = bodies - b
+μ-loop losses ranks bodies at out₀ b₀ out b = bodies - b
 
 loop-holds : tie.Need-loop-holds Inv-loop μ-loop
 unfolding lossBytes
@@ -51,7 +51,7 @@ loop-again c =
       c .before .before .put-loss .kept .1 .1 .0 ∙ l .inv .1,
       c .before .before .put-loss .ensures
           ∙ ap (laid (a .at + 2 * l .b) (c .before .before .before .before .loss .result % 256 ∷ c .before .before .before .before .loss .result / 256 ∷ [])) (l .inv .2)
-          ∙ losses-turn (λ r. getD (a .losses .now) r 0) (a .task .now) (a .at) (a .out .now) (l .b) (c .before .before .before .before .loss .result) (omega arith) (omega arith) (c .before .before .before .before .loss .ensures),
+          ∙ losses-turn (λ r. getD (a .losses .now) r 0) (a .ranks .now) (a .at) (a .out .now) (l .b) (c .before .before .before .before .loss .result) (omega arith) (omega arith) (c .before .before .before .before .loss .ensures),
     )
 
 same-length : tie.Need-same-length Inv-loop μ-loop

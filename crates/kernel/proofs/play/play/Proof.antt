@@ -50,6 +50,9 @@ tick-turning-requires c κs = c .before .before .before .before .if1 .taken
 tick-requires : tie.Need-tick-requires Inv-loop μ-loop
 tick-requires c κs = c .before .before .before .before .if1 .left
 
+counts-lines-requires : tie.Need-counts-lines-requires Inv-loop μ-loop
+counts-lines-requires c κs = tt
+
 line-requires : tie.Need-line-requires Inv-loop μ-loop
 line-requires c κs = tt
 
@@ -110,7 +113,7 @@ stepped j =
     (λ z6.
     ⊎-elim (λ w. ap viewOutcome (w .8 ∙ w .7 .ensures) ∙ sym (step-6 (a .t1) (a .t2) m e (w .0 .keys6)))
     (λ y6.
-    ⊎-elim (λ w. ap viewOutcome (w .5 ∙ w .4 .ensures) ∙ sym (step-7 (a .t1) (a .t2) m e (w .0 .keys7)))
+    ⊎-elim (λ w. ap viewOutcome (w .6 ∙ w .5 .ensures ∙ rw (w .1 .ensures)) ∙ sym (step-7 (a .t1) (a .t2) m e (w .0 .keys7)))
     (λ z7.
     ⊎-elim (λ w. ap viewOutcome (w .8 ∙ w .7 .ensures) ∙ sym (step-8 (a .t1) (a .t2) m e (w .0 .keys8)))
     (λ z8.
@@ -173,6 +176,7 @@ play-spec =
     release-requires
     tick-turning-requires
     tick-requires
+    counts-lines-requires
     line-requires
     start-requires
     stop-requires
