@@ -23,6 +23,7 @@ use Rattle.oil_grammar.proofs.Counts.{version-one}
 abbrev accepted : Config → OilRead
 accepted c = record { config = c; refusal = none; line = 0; column = 0 }
 
+-- refused by the ranges
 abbrev unranged : ℕ → OilRead
 unranged r = record { config = noConfig; refusal = r; line = 0; column = 0 }
 
