@@ -15,5 +15,6 @@ mod Sound
 mod Reading
 mod RoundTrip
 mod Past
+mod Counts
 mod Fuel
 mod Ceiling

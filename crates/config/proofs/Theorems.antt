@@ -1,7 +1,7 @@
 -- What the crate shows beyond its contracts. Each law stands here in full, over specs/ alone; the modules it cites prove it.
 --
--- In order: what every reading satisfies, and every accepted value; a resource's ceiling and its users; both round trips; which values the writer accepts; what stands past the counts;
--- that the fuel of the definitions is enough.
+-- In order: what every reading satisfies, and every accepted value; a resource's ceiling and its users; both round trips; which values the
+-- writer accepts; counts that are too great; what stands past the counts; that the fuel of the definitions is enough.
 -- Assumes nothing.
 use Prim.Native.Nat.{ℕ, zero, suc, _+_, _-_, _≤_, _<_}
 use mathlib.Core.Path.{_≡_, refl}
@@ -14,8 +14,8 @@ use Rattle.number.specs.Refusal.{none, cut}
 use Rattle.number.specs.Number.{Bytes}
 use Rattle.config.specs.declared.Config.{Config}
 use Rattle.config.specs.declared.ConfigRead.{ConfigRead}
-use Rattle.config.specs.Refusal.{tooLong}
-use Rattle.config.specs.Value.{noConfig}
+use Rattle.config.specs.Refusal.{badCount, tooLong}
+use Rattle.config.specs.Value.{maxBodies, maxResources, noConfig, withResources}
 use Rattle.config.specs.Meaning.{isr, lastKind, isUser, priorityOf, ceiling, firstOf, smallestOffset}
 use Rattle.config.specs.Draft.{start}
 use Rattle.config.specs.Reader.{accepted, readFrom, readConfig}
@@ -26,6 +26,7 @@ use Rattle.config.proofs.Ceiling as Ceiling
 use Rattle.config.proofs.Reading as Reading
 use Rattle.config.proofs.RoundTrip as RoundTrip
 use Rattle.config.proofs.Sound as Sound
+use Rattle.config.proofs.Counts as Counts
 use Rattle.config.proofs.Past as Past
 use Rattle.config.proofs.Fuel as Fuel
 
@@ -120,6 +121,13 @@ configBytes-are-bytes = RoundTrip.configBytes-are-bytes
 -- the writer accepts exactly the values whose fields are in their ranges
 pub writer-accepts : (c : Config) → Shaped c → (firstFault c ≡ none) ↔ Accepted c
 writer-accepts c s = (RoundTrip.faultless-accepted c s, Sound.accepted-faultless maxNumbers c s)
+
+-- a count that is too great is the first fault: of the bodies, and of the resources where the value without them has none
+pub too-many-bodies : (c : Config) → c .version ≡ 1 → maxBodies < c .bodies → firstFault c ≡ badCount
+too-many-bodies = Counts.too-many-bodies
+
+pub too-many-resources : (c : Config) → maxResources < c .resources → firstFault (withResources c 0) ≡ none → firstFault c ≡ badCount
+too-many-resources = Counts.too-many-resources
 
 -- "entries past the counts are .. ignored by the writer": values that differ only there get the same answer and leave the same output,
 -- refused ones too

@@ -1,7 +1,7 @@
 -- The reader's definition, number by number.
 -- Assumes nothing.
 use Prim.Native.Nat.{ℕ}
-use mathlib.Core.Path.{_≡_, _∙_}
+use mathlib.Core.Path.{_≡_, refl, _∙_}
 use mathlib.Core.Bool.{true, false}
 use mathlib.Core.List.{List}
 use borrow.Author.Tests.{eq-eqb, ne-eqb}
@@ -30,4 +30,4 @@ module _ (n : NumberRead) (bs : List ℕ) (at : ℕ) (same : n ≡ readNumber bs
 
   pub read-unknown : known (n .value) ≡ false → readEvent bs at ≡ refused unknownEvent at
   unfolding readEvent
-  read-unknown k = goes-on n (readNumber bs at) _ same read ∙ rw k
+  read-unknown k = goes-on n (readNumber bs at) _ same read ∙ rw k refl

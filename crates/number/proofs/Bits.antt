@@ -3,8 +3,8 @@
 -- In order: `|`; `&`; what a number shares with a complement; the bits of one number without those of another; a number without bits.
 -- Each law goes by halving, so that omega sees the lowest bit only. Assumes nothing.
 use Prim.Native.Nat.{ℕ, zero, suc, _+_, _-_, _*_, _/_, _%_, _^_, max, min, _≤_, _<_}
-use mathlib.Core.Path.{_≡_, refl, sym, ap, ap₂, _∙_}
-use mathlib.Core.Bool.{Bool, true, false, true≢false, not, _&&_, _||_}
+use mathlib.Core.Path.{_≡_, refl, sym, ap, _∙_}
+use mathlib.Core.Bool.{true, false, true≢false, not, _&&_, _||_}
 use native.Mathlib.Nat.{pow-suc, div-one}
 use native.Mathlib.Numerals.{one-add}
 use native.Mathlib.Omega.{arith}

@@ -1,24 +1,31 @@
 -- What the crate shows: the reading and the grammar accept the same texts, with the same configurations. Each law stands here in full, over specs/
 -- alone; the modules it cites prove it.
 -- Assumes nothing.
-use Prim.Native.Nat.{ℕ}
+use Prim.Native.Nat.{ℕ, _<_}
 use mathlib.Core.Path.{_≡_, sym, ap, _∙_}
 use mathlib.Core.List.{List}
 use mathlib.Core.Logic.{_↔_}
+use native.Mathlib.Omega.{arith}
 use borrow.Author.Tests.{eq-eqb, ne-eqb}
 use Rattle.number.specs.Refusal.{none}
 use Rattle.config.specs.declared.Config.{Config}
-use Rattle.config.specs.Value.{noConfig}
+use Rattle.config.specs.Value.{noConfig, withResources}
 use Rattle.config.specs.Writer.{firstFault}
+use Rattle.config.proofs.Theorems as Config
 use Rattle.oil_grammar.specs.declared.OilRead.{OilRead}
 use Rattle.oil_grammar.specs.Object.{Object}
 use Rattle.oil_grammar.specs.Meaning.{configOf}
 use Rattle.oil_grammar.specs.Grammar.{Oil, Describes}
 use Rattle.oil_grammar.specs.Reader.{ranged, readOil}
 use Rattle.oil_grammar.proofs.Whole as Whole
+use Rattle.oil_grammar.proofs.Counts.{version-one}
 
 abbrev accepted : Config → OilRead
 accepted c = record { config = c; refusal = none; line = 0; column = 0 }
+
+-- refused by the ranges
+abbrev unranged : ℕ → OilRead
+unranged r = record { config = noConfig; refusal = r; line = 0; column = 0 }
 
 -- a text that is OIL of objects is read as their configuration, unless its ranges refuse it
 pub oil-read : (t : List ℕ) (os : List Object) → Oil t os → readOil t ≡ ranged (configOf os)
@@ -51,6 +58,17 @@ pub writer-takes : (t : List ℕ) → readOil t .refusal ≡ none → firstFault
 writer-takes t e = read-described t e .in-range
 
 -- OIL whose fields are out of their ranges gets "4 to 6 in the reader's order, at line 0, column 0"
-pub out-of-range : (t : List ℕ) (os : List Object) → Oil t os → (firstFault (configOf os) ≡ none → ⊥)
-    → readOil t ≡ record { config = noConfig; refusal = firstFault (configOf os); line = 0; column = 0 }
+pub out-of-range : (t : List ℕ) (os : List Object) → Oil t os → (firstFault (configOf os) ≡ none → ⊥) → readOil t ≡ unranged (firstFault (configOf os))
 out-of-range t os o d = oil-read t os o ∙ rw (ne-eqb (firstFault (configOf os)) none d)
+
+counted : (t : List ℕ) (os : List Object) → Oil t os → firstFault (configOf os) ≡ 4 → readOil t ≡ unranged 4
+counted t os o e = out-of-range t os o (λ f. omega arith) ∙ ap unranged e
+
+-- "There are 1 to 32" bodies: with more, a text gets 4
+pub too-many-bodies : (t : List ℕ) (os : List Object) → Oil t os → 32 < configOf os .bodies → readOil t ≡ unranged 4
+too-many-bodies t os o h = counted t os o (Config.too-many-bodies (configOf os) (version-one os) h)
+
+-- "resource count 0 to 16": with more, where the bodies are in order, a text gets 4
+pub too-many-resources : (t : List ℕ) (os : List Object) → Oil t os → firstFault (withResources (configOf os) 0) ≡ none → 16 < configOf os .resources
+    → readOil t ≡ unranged 4
+too-many-resources t os o e h = counted t os o (Config.too-many-resources (configOf os) h e)

@@ -6,10 +6,12 @@
 --
 -- Assumes nothing.
 use Prim.Native.Nat.{ℕ, _+_, _*_, _≤_, _<_}
-use mathlib.Core.Path.{_≡_, sym, ap, _∙_}
+use mathlib.Core.Path.{_≡_, refl, sym, ap, _∙_}
+use mathlib.Core.Bool.{cond}
 use mathlib.Core.List.{List}
 use native.Mathlib.Omega.{arith}
 use borrow.Author.Tests.{le-leb, lt-leb, eq-eqb, ne-eqb}
+use lib.Dec.{leb, eqb}
 use lib.ListN.{length}
 use Rattle.number.specs.Refusal.{none, noRoom}
 use Rattle.number.specs.Output.{written, packed}
@@ -31,18 +33,23 @@ module _ (cs ts : List ℕ) where
   config-refused n = rw (ne-eqb (readConfig cs .refusal) none n)
 
   module _ (ok : readConfig cs .refusal ≡ none) where
-    pub trace-too-long : maxTrace < length ts → readRun cs ts ≡ refused traceTooLong 0
+    -- then the trace's length decides, and then what it holds
+    length-decides : readRun cs ts
+        ≡ cond (leb (length ts) maxTrace)
+        (cond (eqb (readTrace ts .refusal) none) (played (readConfig cs .config) (callsOf ts)) (refused (readTrace ts .refusal) (readTrace ts .place)))
+        (refused traceTooLong 0)
     unfolding readRun
-    trace-too-long h = rw (eq-eqb (readConfig cs .refusal) none ok, lt-leb (length ts) maxTrace h)
+    length-decides = rw (eq-eqb (readConfig cs .refusal) none ok) refl
+
+    pub trace-too-long : maxTrace < length ts → readRun cs ts ≡ refused traceTooLong 0
+    trace-too-long h = length-decides ∙ rw (lt-leb (length ts) maxTrace h)
 
     module _ (short : length ts ≤ maxTrace) where
       pub trace-refused : (readTrace ts .refusal ≡ none → ⊥) → readRun cs ts ≡ refused (readTrace ts .refusal) (readTrace ts .place)
-      unfolding readRun
-      trace-refused n = rw (eq-eqb (readConfig cs .refusal) none ok, le-leb (length ts) maxTrace short, ne-eqb (readTrace ts .refusal) none n)
+      trace-refused n = length-decides ∙ rw (le-leb (length ts) maxTrace short, ne-eqb (readTrace ts .refusal) none n)
 
       pub all-readable : readTrace ts .refusal ≡ none → readRun cs ts ≡ played (readConfig cs .config) (callsOf ts)
-      unfolding readRun
-      all-readable e = rw (eq-eqb (readConfig cs .refusal) none ok, le-leb (length ts) maxTrace short, eq-eqb (readTrace ts .refusal) none e)
+      all-readable e = length-decides ∙ rw (le-leb (length ts) maxTrace short, eq-eqb (readTrace ts .refusal) none e)
 
 -- the run's contract: r is what it returns, and d₁ what it leaves where d was
 pub record Ran (cs ts d : List ℕ) (r : ℕ) (d₁ : List ℕ) : Type 0 where

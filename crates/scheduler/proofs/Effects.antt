@@ -10,19 +10,19 @@ use mathlib.Core.Logic.{_≢_}
 use native.Mathlib.Omega.{arith}
 use borrow.Author.Tests.{eq-eqb, ne-eqb}
 use lib.Dec.{eqb}
-use lib.ListN.{length, length-set, length-map, length-replicate, take, replicate}
+use lib.ListN.{length, length-set, length-map, length-replicate, replicate}
 use lib.Seq.{getD-set-same, getD-set-other, map-set-same}
 use Rattle.number.proofs.Cases.{by-eq}
 use Rattle.config.specs.declared.Config.{Config}
 use Rattle.config.specs.Meaning.{countsLines}
 use Rattle.scheduler.specs.Bits.{anySet}
 use Rattle.scheduler.specs.Status.{done, limitReached}
-use Rattle.scheduler.specs.Body.{hasBegun, Body, started, waiting, become, activated, ended, finished, requested, gets, releases, activatedByEntry, loses, waits, receives, clears}
+use Rattle.scheduler.specs.Body.{hasBegun, Body, started, become, activated, finished, requested, gets, releases, activatedByEntry, loses, waits, receives, clears}
 use Rattle.scheduler.specs.State.{State, Table, stopped, noBody, bodyOf, changing, withTable, runner}
 use Rattle.scheduler.specs.Call.{caller, finish, statusOf, effectOf, refusalOf}
 use Rattle.scheduler.specs.Tick.{counting, counted, activatingDue, dues, ticked}
 use Rattle.scheduler.specs.Event.{Event, Activate, Finish, Chain, Get, Release, Tick, Line, Start, Stop, Wait, Set, Clear, isTick}
-use Rattle.scheduler.specs.Scheduler.{begins, dispatched, lossesOf, newBody, leaves, step, stepBy, LostLine, fresh, after, afterBy}
+use Rattle.scheduler.specs.Scheduler.{begins, dispatched, lossesOf, unstarted, leaves, step, stepBy, LostLine, fresh, after, afterBy}
 
 module _ (i : ℕ) (f : Body → Body) (s : State) where
   pub bodyOf-changing-same : i < length (s .bodies) → bodyOf (changing i f s) i ≡ f (bodyOf s i)
@@ -50,13 +50,13 @@ cond-losses true x y n h k = h
 cond-losses false x y n h k = k
 
 pub finished-losses : KeepsLosses finished
-finished-losses b = cond-losses (b .pending) (activated (ended b)) (ended b) (b .losses) refl refl
+finished-losses b = cond-losses (b .pending) _ _ (b .losses) refl refl
 
 requested-losses : KeepsLosses requested
-requested-losses b = cond-losses (hasBegun (b .phase)) _ (activated b) (b .losses) refl refl
+requested-losses b = cond-losses (hasBegun (b .phase)) _ _ (b .losses) refl refl
 
 waits-losses : (w : ℕ) → KeepsLosses (waits w)
-waits-losses w b = cond-losses (anySet (b .bits) w) b (become (waiting w) b) (b .losses) refl refl
+waits-losses w b = cond-losses (anySet (b .bits) w) _ _ (b .losses) refl refl
 
 -- what the effects keep: each changes bodies and leaves their losses, or changes a table, or is that of a Tick
 pub effectOf-keeps : (c : Config) (s : State) (P : State → Type 0)
@@ -183,7 +183,7 @@ module _ (c : Config) where
       activatingDue-keeps (λ x. x .tables ≡ map counting (s .tables)) (λ t x h. h) (dues c (counted s)) (c .task) (counted s) refl
 
   pub tables-fresh : fresh c .tables ≡ replicate (c .tables) stopped
-  tables-fresh = tables-dispatched (record { bodies = map newBody (take (c .bodies) (c .autostart)); tables = replicate (c .tables) stopped })
+  tables-fresh = tables-dispatched (unstarted c)
 
   pub length-tables-fresh : length (fresh c .tables) ≡ c .tables
   length-tables-fresh = ap length tables-fresh ∙ length-replicate (c .tables) stopped

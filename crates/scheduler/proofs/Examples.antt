@@ -14,7 +14,6 @@ use Rattle.config.specs.Draft.{faultAt, putAt, ended, occurs}
 use Rattle.config.specs.Reader.{readConfig, readFrom}
 use Rattle.config.specs.Meaning.{greatestIn, entriesBefore}
 use Rattle.cell.specs.Due.{due}
-use lib.Bits.{bitAnd, bitOr}
 use Rattle.scheduler.specs.Status.{firstGiven}
 use Rattle.scheduler.specs.Bits.{anySet, withBits, withoutBits}
 use Rattle.scheduler.specs.Choice.{candidate, chosenFrom}

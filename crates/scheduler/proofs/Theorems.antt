@@ -224,7 +224,7 @@ any-set = Bits.any-set
 
 -- "Wait on mask 0 is never resumed"
 pub mask-zero-waits : (bits : ℕ) → resumed bits (waiting 0) ≡ waiting 0
-mask-zero-waits = Bits.mask-zero-waits
+mask-zero-waits bits = rw (Bits.mask-zero bits)
 
 -- in every state that the fresh start leads to, whoever holds a resource is one of its declared users: Release needs no status for it
 pub held-by-user : (c : Config) (es : List Event) (i r : ℕ) → among r (bodyOf (after c (fresh c) es) i .held) ≡ true → isUser c r i ≡ true

@@ -10,27 +10,27 @@ use mathlib.Core.Bool.{Bool, true, false, true≢false, cond, not, _&&_, _||_}
 use mathlib.Core.List.{List, [], _∷_, foldr, map}
 use mathlib.Core.Logic.{_≢_, _⊎_, inl, inr, ⊎-elim}
 use native.Mathlib.Omega.{arith}
-use borrow.Author.Tests.{ltb-true, lt-ltb, le-ltb, eq-eqb, ne-eqb, eqb-false}
+use borrow.Author.Tests.{lt-ltb, eq-eqb, ne-eqb}
 use lib.Dec.{ltb, eqb}
 use lib.ListN.{length, getD, set, length-set, take, length-map, List·getD-map, List·getD-eq-default}
 use lib.Seq.{getD-set-same, getD-set-other, set-out, length-take-le}
 use Rattle.number.proofs.Cases.{by-lt, by-eq}
 use Rattle.config.specs.declared.Config.{Config}
-use Rattle.config.specs.Meaning.{isTask, isExtended, priorityOf, ceiling}
+use Rattle.config.specs.Meaning.{isExtended, priorityOf, ceiling}
 use Rattle.config.specs.Accepted as Configuration
 use Rattle.scheduler.specs.Status.{done}
 use Rattle.scheduler.specs.Bits.{anySet, withBits}
 use Rattle.scheduler.specs.Body.{Phase, suspended, ready, started, waiting, isSuspended, isStarted, hasBegun, competes, Body, holds, current, become, activated, ended, finished, requested, gets, rest, releases, loses, activatedByEntry, waits, resumed, receives, clears}
-use Rattle.scheduler.specs.Choice.{Candidate, nobody, isNobody, candidate, byHolding, byBegun, goesBefore, chosenBy}
+use Rattle.scheduler.specs.Choice.{Candidate, isNobody, byHolding, byBegun, goesBefore, chosenBy}
 use Rattle.scheduler.specs.State.{State, noBody, bodyOf, changing, runnerBy, runner}
 use Rattle.scheduler.specs.Event.{Event, Activate, Finish, Chain, Get, Release, Tick, Line, Start, Stop, Wait, Set, Clear}
 use Rattle.scheduler.specs.Tick.{counted, dues}
-use Rattle.scheduler.specs.Call.{caller, finish, statusOf, effectOf, refusalOf}
+use Rattle.scheduler.specs.Call.{caller, finish, statusOf, effectOf}
 use Rattle.scheduler.specs.Scheduler.{Seen, begins, markOf, dispatchedTo, dispatched, endingTo, duesAt, newBody, statusFor, leavesFor, leaves, unstarted, fresh, freshBy, step, stepBy, seen, seenBy, after, afterBy}
 use Rattle.scheduler.specs.History.{AcceptedIn}
 use Rattle.scheduler.proofs.Choice.{contender, weight, weight-before, chosen-weight, chosen-tie, chosen-same, chosen-from, candidate-active, current-own, current-free, Taken, no-one, body}
 use Rattle.scheduler.proofs.Checks.{activate-passed, finish-passed, chain-passed, get-passed, release-passed, wait-passed, set-passed}
-use Rattle.scheduler.proofs.Effects.{activatingDue-keeps, refusalOf-keeps, cond-either}
+use Rattle.scheduler.proofs.Effects.{activatingDue-keeps, refusalOf-keeps}
 use Rattle.scheduler.proofs.Refusals.{begins-some, settled-fresh, settled-step, settled-after}
 
 -- a body of a list

@@ -1,14 +1,12 @@
 -- What the code's `|`, `&` and `!` make of one bit: `or-with` and `and-without`.
 -- Assumes nothing.
-use Prim.Native.Nat.{ℕ, zero, suc, _+_, _-_, _*_, _/_, _%_, _^_, max, min, _≤_, _<_}
-use mathlib.Core.Path.{_≡_, refl, ap, _∙_}
-use mathlib.Core.Bool.{_&&_, _||_}
+use Prim.Native.Nat.{ℕ, _+_, _-_, _*_, _%_, _^_, _<_}
+use mathlib.Core.Path.{_≡_, ap, _∙_}
 use native.Mathlib.Nat.{pow-suc, one-mul}
 use native.Mathlib.Numerals.{one-add}
 use native.Mathlib.Omega.{arith}
-use lib.Arith.{lt-one}
-use lib.Bits.{bitAnd, bitOr, and-step, and-shr, and-high, or-step, or-shr, or-add-and}
-use lib.Dec.{eqb, lit<}
+use lib.Bits.{bitAnd, bitOr, and-high, or-add-and}
+use lib.Dec.{lit<}
 use lib.Pow.{pow-lt, shl-exact}
 use Rattle.number.proofs.Bits.{and-not}
 use Rattle.word.specs.Word.{ranks, with, without}

@@ -5,7 +5,7 @@
 --
 -- Assumes nothing.
 use Prim.Native.Nat.{ℕ, _^_, _<_}
-use mathlib.Core.Path.{_≡_, refl, sym, ap, _∙_}
+use mathlib.Core.Path.{_≡_, refl, sym, ap, ap₂, _∙_}
 use mathlib.Core.Logic.{_≢_}
 use mathlib.Core.Bool.{Bool, true, false, true≢false, cond, not}
 use mathlib.Core.List.{List}
@@ -18,29 +18,16 @@ use Rattle.word.specs.Word.{has, with, without}
 use Rattle.word.proofs.Theorems.{has-with-same, has-with-other, with-lt, has-without-same, has-without-other}
 use Rattle.scheduler.specs.Bits.{anySet, withBits, withoutBits}
 use Rattle.scheduler.specs.Body.{Phase, suspended, ready, started, waiting, isSuspended, isStarted, isWaiting, hasBegun, Body, resumed, receives, clears}
-use Rattle.scheduler.specs.State.{among}
 use Rattle.scheduler.specs.Call.{requestWaits}
 use Rattle.machine.specs.Model.{Core, Model, withEnabled}
 use Rattle.machine.specs.Events.{bitsAt, enabledBy, receiving}
 use Rattle.plan.proofs.Fitted.{Fitted}
-use Rattle.machine.proofs.Relation.Words.{at, wants, Words, words-changed}
-use Rattle.machine.proofs.Relation.Bits.{noted, eventBits, Noted, noted-changed}
+use Rattle.machine.proofs.Relation.Words.{at, Words, words-changed}
+use Rattle.machine.proofs.Relation.Bits.{noted, Noted, noted-changed}
 use Rattle.machine.proofs.Relation.Nest.{nest-started}
 use Rattle.machine.proofs.Relation.Whole.{Tied}
 use Rattle.machine.proofs.Arbitration.Dispatch.{rank-below}
 use Rattle.machine.proofs.Change.Request.{touched-tied, events-tied}
-
--- other event bits of one rank
-module _ {c : Config} {p : Plan} {rk : ℕ → ℕ} (fit : Fitted c p rk) {x : ℕ} {es ws : List ℕ} {bs : List Body} (n : Noted c rk x es ws bs)
-    (size : length bs ≡ c .bodies) (b : ℕ) (b< : b < c .bodies) (y : Body) (active : isSuspended (y .phase) ≡ false)
-    (masks : (w : ℕ) → y .phase ≡ waiting w → at bs b .phase ≡ waiting w) (e : ℕ) (bits : e ≡ y .bits) where
-  stored-noted : Noted c rk (without x (rk b)) (set es (rk b) e) ws (set bs b y)
-  stored-noted =
-      noted-changed fit n size b b< y (without x (rk b)) (set es (rk b) e) ws (length-set es (rk b) e ∙ n .bits-long) (n .masks-long)
-      (rw (has-without-same x (rk b), getD-set-same es (rk b) e 0 (omega (arith, n .bits-long, rank-below fit b b<)), active) bits)
-      (λ w h. n .mask-is b w b< (masks w h))
-      (λ r d. rw (has-without-other x (rk b) r d, getD-set-other es (rk b) r e 0 d))
-      (λ r d. refl)
 
 -- the bits that count of a body that isn't suspended are its bits
 module _ {c : Config} {rk : ℕ → ℕ} (m : Model) {bs : List Body} (n : Noted c rk (m .cleared) (m .bits) (m .waited) bs) (b : ℕ) (b< : b < c .bodies)
@@ -77,11 +64,30 @@ module _ {c : Config} {p : Plan} {rk : ℕ → ℕ} (fit : Fitted c p rk) (m : M
       go true h = absurd (true≢false (sym (ap isWaiting h)))
       go false h = h
 
+  -- the bits stored at its rank, and no others, are other bits, which count from now on
+  module _ (v : ℕ) where
+    stored-here : noted (without (m .cleared) (rk b)) (set (m .bits) (rk b) v) (rk b) ≡ v
+    stored-here =
+        ap (λ (z : Bool). cond z 0 (getD (set (m .bits) (rk b) v) (rk b) 0)) (has-without-same (m .cleared) (rk b))
+        ∙ getD-set-same (m .bits) (rk b) v 0 (omega (arith, n .bits-long, rank-below fit b b<))
+
+    stored-other : (r : ℕ) → r ≢ rk b → noted (without (m .cleared) (rk b)) (set (m .bits) (rk b) v) r ≡ noted (m .cleared) (m .bits) r
+    stored-other r d = ap₂ (λ (z : Bool) (u : ℕ). cond z 0 u) (has-without-other (m .cleared) (rk b) r d) (getD-set-other (m .bits) (rk b) r v 0 d)
+
+  -- after a Set they are those that the body had and those of w
+  received : bitsAt (receiving (rk b) w m) (rk b) ≡ e
+  received = stored-here (withBits (bitsAt m (rk b)) w) ∙ bits-after
+
   pub receive-noted : length bs ≡ c .bodies
       → Noted c rk (receiving (rk b) w m .cleared) (receiving (rk b) w m .bits) (receiving (rk b) w m .waited) (set bs b (receives w (at bs b)))
   receive-noted size =
-      stored-noted fit n size b b< (receives w (at bs b)) (resumed-active (at bs b .phase) active)
-      (λ v h. resumed-waits (at bs b .phase) v h) (withBits (bitsAt m (rk b)) w) bits-after
+      noted-changed fit n size b b< (receives w (at bs b)) (receiving (rk b) w m .cleared) (receiving (rk b) w m .bits) (receiving (rk b) w m .waited)
+      (length-set (m .bits) (rk b) _ ∙ n .bits-long)
+      (n .masks-long)
+      (received ∙ sym (ap (λ (z : Bool). cond z 0 e) (resumed-active (at bs b .phase) active)))
+      (λ v h. n .mask-is b v b< (resumed-waits (at bs b .phase) v h))
+      (stored-other (withBits (bitsAt m (rk b)) w))
+      (λ r d. refl)
 
   module _ {ns : List ℕ} (t : Tied c rk m bs ns) where
     abbrev y : Body
@@ -171,5 +177,11 @@ module _ {c : Config} {p : Plan} {rk : ℕ → ℕ} (fit : Fitted c p rk) (m : M
   pub clear-noted : length bs ≡ c .bodies
       → Noted c rk (without (m .cleared) (rk b)) (set (m .bits) (rk b) (withoutBits (bitsAt m (rk b)) w)) (m .waited) (set bs b (clears w (at bs b)))
   clear-noted size =
-      stored-noted fit n size b b< (clears w (at bs b)) active (λ v h. h) (withoutBits (bitsAt m (rk b)) w)
-      (ap (λ (v : ℕ). withoutBits v w) (bits-of m n b b< active))
+      noted-changed fit n size b b< (clears w (at bs b)) (without (m .cleared) (rk b)) (set (m .bits) (rk b) (withoutBits (bitsAt m (rk b)) w)) (m .waited)
+      (length-set (m .bits) (rk b) (withoutBits (bitsAt m (rk b)) w) ∙ n .bits-long)
+      (n .masks-long)
+      (stored-here (withoutBits (bitsAt m (rk b)) w) ∙ ap (λ (v : ℕ). withoutBits v w) (bits-of m n b b< active)
+      ∙ sym (ap (λ (z : Bool). cond z 0 (withoutBits (at bs b .bits) w)) active))
+      (λ v h. n .mask-is b v b< h)
+      (stored-other (withoutBits (bitsAt m (rk b)) w))
+      (λ r d. refl)

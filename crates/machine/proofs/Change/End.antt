@@ -17,7 +17,7 @@ use lib.Seq.{getD-set-same, getD-set-other}
 use Rattle.number.proofs.Cases.{by-eq}
 use Rattle.config.specs.declared.Config.{Config}
 use Rattle.plan.specs.declared.Plan.{Plan}
-use Rattle.word.specs.Word.{with, without}
+use Rattle.word.specs.Word.{without}
 use Rattle.word.proofs.Theorems.{has-without-same, has-without-other, without-lt}
 use Rattle.stack.specs.Stack.{topRow}
 use Rattle.scheduler.specs.Body.{Body, isStarted, isWaiting, hasBegun, Phase, suspended, ready, started, waiting, become, activated, ended, finished, holds, current}
@@ -135,9 +135,9 @@ module _ {c : Config} {p : Plan} {rk : ℕ → ℕ} (fit : Fitted c p rk) {m : M
         begun = λ r n. rw runner-rank (has-without-other (m .core .started) (rk b) r n);
         awake = λ r n. refl;
       })))
-      (with (m .cleared) (m .core .runner))
-      (m .bits)
-      (m .waited)
+      (leaving m .cleared)
+      (leaving m .bits)
+      (leaving m .waited)
     where
       held-none : (w : Bool) → out w .held ≡ []
       held-none true = free
@@ -191,9 +191,9 @@ module _ {c : Config} {p : Plan} {rk : ℕ → ℕ} (fit : Fitted c p rk) {m : M
         begun = λ r n. refl;
         awake = λ r n. rw runner-rank (has-without-other (m .core .enabled) (rk b) r n);
       })))
-      (m .cleared)
-      (m .bits)
-      (set (m .waited) (m .core .runner) w)
+      (pausing w m .cleared)
+      (pausing w m .bits)
+      (pausing w m .waited)
     where
       same : (q : Phase) → isStarted q ≡ true → requestWaits (at bs b) q ≡ at bs b .pending
       same suspended h = absurd (true≢false (sym h))

@@ -15,13 +15,13 @@ use Rattle.plan.specs.declared.Plan.{Plan}
 use Rattle.word.specs.Word.{has, without}
 use Rattle.scheduler.specs.Status.{done, callLevel, noSuch, access, holdsResource, wrongState}
 use Rattle.scheduler.specs.Bits.{anySet, withoutBits}
-use Rattle.scheduler.specs.Body.{Phase, suspended, ready, started, waiting, isSuspended, isStarted, competes, Body, holds, become, waits, receives, clears}
+use Rattle.scheduler.specs.Body.{Phase, suspended, ready, started, waiting, isSuspended, isStarted, competes, Body, holds, become, receives, clears}
 use Rattle.scheduler.specs.State.{State, noBody, bodyOf}
 use Rattle.scheduler.specs.Call.{nobodyRuns, caller, calling, active, waitStatus, setStatus, clearStatus, wait, setEvent, clear}
 use Rattle.scheduler.specs.Tick.{dues}
 use Rattle.scheduler.specs.Scheduler.{Wait, Set, Clear, stepBy}
 use Rattle.scheduler.proofs.Checks.{wait-passed, set-passed, clear-passed}
-use Rattle.machine.specs.Model.{Model, Outcome, noRank, withEnabled, doneWith}
+use Rattle.machine.specs.Model.{Model, noRank, withEnabled, doneWith}
 use Rattle.machine.specs.Arbiter.{settled}
 use Rattle.machine.specs.Resources.{holding}
 use Rattle.machine.specs.Events as Machine
@@ -74,15 +74,20 @@ module _ {c : Config} {p : Plan} {rk : ℕ → ℕ} (fit : Fitted c p rk) {m : M
   paused-noted : {b : ℕ} {ns : List ℕ} → Runs c rk m s b ns → (w : ℕ)
       → Noted c rk (pausing w m .cleared) (pausing w m .bits) (pausing w m .waited) (set bs b (become (waiting w) (at bs b)))
   paused-noted {b} k w =
-      rw (k .rank)
-      (noted-changed fit (sim .noted) (sim .tied .size) b (k .exists) (become (waiting w) (at bs b)) (m .cleared) (m .bits) (set (m .waited) (rk b) w)
+      noted-changed fit (sim .noted) (sim .tied .size) b (k .exists) (become (waiting w) (at bs b)) (pausing w m .cleared) (pausing w m .bits) (pausing w m .waited)
       (sim .noted .bits-long)
-      (length-set (m .waited) (rk b) w ∙ sim .noted .masks-long)
+      (length-set (m .waited) (m .core .runner) w ∙ sim .noted .masks-long)
       (bits-of m (sim .noted) b (k .exists) (runner-active k))
-      (λ v h. getD-set-same (m .waited) (rk b) w 0 (omega (arith, sim .noted .masks-long, rank-below fit b (k .exists))) ∙ mask w v h)
+      (λ v h. waits-for ∙ mask w v h)
       (λ r d. refl)
-      (λ r d. getD-set-other (m .waited) (rk b) r w 0 d))
+      (λ r d. getD-set-other (m .waited) (m .core .runner) r w 0 (λ e. d (e ∙ k .rank)))
     where
+      -- the mask at its rank is that of the Wait
+      waits-for : getD (pausing w m .waited) (rk b) 0 ≡ w
+      waits-for =
+          ap (λ (r : ℕ). getD (set (m .waited) r w) (rk b) 0) (k .rank)
+          ∙ getD-set-same (m .waited) (rk b) w 0 (omega (arith, sim .noted .masks-long, rank-below fit b (k .exists)))
+
       mask : (u v : ℕ) → waiting u ≡ waiting v → u ≡ v
       mask u v h = cc
 

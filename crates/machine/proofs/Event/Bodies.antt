@@ -207,14 +207,21 @@ module _ {c : Config} {p : Plan} {rk : ℕ → ℕ} (fit : Fitted c p rk) where
     finish-noted : {b : ℕ} {ns : List ℕ} → Runs c rk m s b ns
         → Noted c rk (leaving m .cleared) (leaving m .bits) (leaving m .waited) (finish (caller c s) s .bodies)
     finish-noted {b} k =
-        rw (k .calls, k .rank)
-        (noted-changed fit (sim .noted) (sim .tied .size) b (k .exists) (finished (at bs b)) (with (m .cleared) (rk b)) (m .bits) (m .waited)
+        rw (k .calls)
+        (noted-changed fit (sim .noted) (sim .tied .size) b (k .exists) (finished (at bs b)) (leaving m .cleared) (leaving m .bits) (leaving m .waited)
         (sim .noted .bits-long) (sim .noted .masks-long)
-        (rw (has-with-same (m .cleared) (rk b) (rank-below fit b (k .exists))) (sym (none (at bs b .pending))))
+        (rw gone (sym (none (at bs b .pending))))
         (λ w h. absurd (true≢false (sym (ap isWaiting h) ∙ awake (at bs b .pending))))
-        (λ r n. rw (has-with-other (m .cleared) (rk b) r n))
+        (λ r n. ap (λ (z : Bool). cond z 0 (getD (m .bits) r 0)) (others r n))
         (λ r n. refl))
       where
+        -- the bits of its rank are cleared, and no others
+        gone : has (leaving m .cleared) (rk b) ≡ true
+        gone = ap (λ (r : ℕ). has (with (m .cleared) r) (rk b)) (k .rank) ∙ has-with-same (m .cleared) (rk b) (rank-below fit b (k .exists))
+
+        others : (r : ℕ) → r ≢ rk b → has (leaving m .cleared) r ≡ has (m .cleared) r
+        others r n = has-with-other (m .cleared) (m .core .runner) r (λ e. n (e ∙ k .rank))
+
         none : (w : Bool) → eventBits (cond w (activated (ended (at bs b))) (ended (at bs b))) ≡ 0
         none true = refl
         none false = refl

@@ -6,15 +6,14 @@ use mathlib.Core.Logic.{_≢_}
 use mathlib.Core.Bool.{Bool, true, false, true≢false}
 use mathlib.Core.List.{List, [], _∷_, map}
 use native.Mathlib.Omega.{arith}
-use lib.ListN.{length, getD, set, drop, length-set, length-map}
-use lib.Seq.{getD-set-same, getD-set-other, drop-cons}
-use Rattle.number.proofs.Cases.{by-eq}
+use lib.ListN.{length, getD, drop, length-map}
+use lib.Seq.{drop-cons}
 use Rattle.config.specs.declared.Config.{Config}
 use Rattle.config.specs.Meaning.{isTask}
 use Rattle.plan.specs.declared.Plan.{Plan}
 use Rattle.scheduler.specs.Status.{done, firstGiven}
 use Rattle.scheduler.specs.Body.{Phase, suspended, ready, started, waiting, isSuspended, isWaiting, hasBegun, Body, activated, loses, activatedByEntry}
-use Rattle.scheduler.specs.State.{State, noBody, changing}
+use Rattle.scheduler.specs.State.{State, changing}
 use Rattle.scheduler.specs.Tick.{counting, counted, dues, activatingDue}
 use Rattle.scheduler.specs.Tick as Plain
 use Rattle.scheduler.specs.Scheduler.{Tick, stepBy}
@@ -29,7 +28,7 @@ use Rattle.machine.proofs.Relation.Words.{at, busy-is}
 use Rattle.machine.proofs.Relation.Losses.{Lost, lost-same, lost-one}
 use Rattle.machine.proofs.Relation.Bits.{Noted, noted-touched}
 use Rattle.machine.proofs.Relation.Whole.{Tied, Sim}
-use Rattle.machine.proofs.Arbitration.Dispatch.{rank-below, settled-tied}
+use Rattle.machine.proofs.Arbitration.Dispatch.{settled-tied}
 use Rattle.machine.proofs.Change.Request.{elsewhere, activate-tied, loss-tied}
 use Rattle.machine.proofs.Change.Ticks.{dues-long, marks-due, due-first-cells, ticked-timed}
 use Rattle.machine.proofs.Event.Agrees.{kept, Agrees, agrees}

@@ -21,225 +21,225 @@ use Rattle.oil_grammar.specs.Walk.{bears, borne, nameFault, faultIn, wal
 use Rattle.oil_grammar.specs.Reader.{lineAfter, columnAfter, readOil}
 use Rattle.oil_grammar.proofs.Ascii.{ascii}
 
-told : List ℕ → List ℕ
+pub told : List ℕ → List ℕ
 unfolding ascii isSpace isDigit isLetter isNameByte isLineByte span same spelledSort signOf decimal ended closing comment blank blanks wordAt nextWord unexpected unknown only objectFault bodyFault attributeFault valueFault faultAt attributeBegun afterAt namesAt usesAt bears borne nameFault faultIn walk unborneAt unborne numberedAt marked mask putAt fill lineAfter columnAfter readOil has with occurs numberFaultAt numberPutAt askedAt numbersEnded faultFrom
 told t = let r = readOil t in r .refusal ∷ r .line ∷ r .column ∷ []
 
-bytes : List ℕ → List ℕ
+pub bytes : List ℕ → List ℕ
 unfolding told bytesFrom numberBytes groupBytes
 bytes t = configBytes (readOil t .config)
 
 -- source document 000, Table 4.1: three tasks, an ISR and two resources, each used by Task1 and Task3
-table-accepted : told (ascii "TASK Task1 { PRIORITY = 1; AUTOSTART = TRUE; RESOURCE = Res1; RESOURCE = Res2; };\nTASK Task3 { PRIORITY = 3; RESOURCE = Res1; RESOURCE = Res2; };\nTASK Task4 { PRIORITY = 4; };\nISR ISR2 { PRIORITY = 2; };\nRESOURCE Res1 { };\nRESOURCE Res2 { };\n") ≡ 0 ∷ 0 ∷ 0 ∷ []
+pub table-accepted : told (ascii "TASK Task1 { PRIORITY = 1; AUTOSTART = TRUE; RESOURCE = Res1; RESOURCE = Res2; };\nTASK Task3 { PRIORITY = 3; RESOURCE = Res1; RESOURCE = Res2; };\nTASK Task4 { PRIORITY = 4; };\nISR ISR2 { PRIORITY = 2; };\nRESOURCE Res1 { };\nRESOURCE Res2 { };\n") ≡ 0 ∷ 0 ∷ 0 ∷ []
 unfolding told
 table-accepted = refl
 
 -- version 1, four bodies, two resources of the users 0 and 1, no table
-table-bytes : bytes (ascii "TASK Task1 { PRIORITY = 1; AUTOSTART = TRUE; RESOURCE = Res1; RESOURCE = Res2; };\nTASK Task3 { PRIORITY = 3; RESOURCE = Res1; RESOURCE = Res2; };\nTASK Task4 { PRIORITY = 4; };\nISR ISR2 { PRIORITY = 2; };\nRESOURCE Res1 { };\nRESOURCE Res2 { };\n") ≡ 1 ∷ 4 ∷ 0 ∷ 1 ∷ 1 ∷ 0 ∷ 3 ∷ 0 ∷ 0 ∷ 4 ∷ 0 ∷ 1 ∷ 2 ∷ 0 ∷ 2 ∷ 3 ∷ 3 ∷ 0 ∷ []
+pub table-bytes : bytes (ascii "TASK Task1 { PRIORITY = 1; AUTOSTART = TRUE; RESOURCE = Res1; RESOURCE = Res2; };\nTASK Task3 { PRIORITY = 3; RESOURCE = Res1; RESOURCE = Res2; };\nTASK Task4 { PRIORITY = 4; };\nISR ISR2 { PRIORITY = 2; };\nRESOURCE Res1 { };\nRESOURCE Res2 { };\n") ≡ 1 ∷ 4 ∷ 0 ∷ 1 ∷ 1 ∷ 0 ∷ 3 ∷ 0 ∷ 0 ∷ 4 ∷ 0 ∷ 1 ∷ 2 ∷ 0 ∷ 2 ∷ 3 ∷ 3 ∷ 0 ∷ []
 unfolding bytes
 table-bytes = refl
 
 -- 60: a sign that no word has
-unreadable-sign : told (ascii "TASK a { PRIORITY = 1; };\n #") ≡ 60 ∷ 2 ∷ 2 ∷ []
+pub unreadable-sign : told (ascii "TASK a { PRIORITY = 1; };\n #") ≡ 60 ∷ 2 ∷ 2 ∷ []
 unfolding told
 unreadable-sign = refl
 
 -- 60: a backslash outside comments
-backslash : told (ascii "TASK a { \\\n") ≡ 60 ∷ 1 ∷ 10 ∷ []
+pub backslash : told (ascii "TASK a { \\\n") ≡ 60 ∷ 1 ∷ 10 ∷ []
 unfolding told
 backslash = refl
 
 -- 60: an unclosed comment, where it opens
-open-comment : told (ascii "TASK a { PRIORITY = 1; }; /* TASK") ≡ 60 ∷ 1 ∷ 27 ∷ []
+pub open-comment : told (ascii "TASK a { PRIORITY = 1; }; /* TASK") ≡ 60 ∷ 1 ∷ 27 ∷ []
 unfolding told
 open-comment = refl
 
 -- 60: a slash that opens no comment
-slash : told (ascii "TASK / a") ≡ 60 ∷ 1 ∷ 6 ∷ []
+pub slash : told (ascii "TASK / a") ≡ 60 ∷ 1 ∷ 6 ∷ []
 unfolding told
 slash = refl
 
 -- 60: the comment ends at its first */
-comments-do-not-nest : told (ascii "/* /* */ */ TASK a { PRIORITY = 1; };") ≡ 60 ∷ 1 ∷ 10 ∷ []
+pub comments-do-not-nest : told (ascii "/* /* */ */ TASK a { PRIORITY = 1; };") ≡ 60 ∷ 1 ∷ 10 ∷ []
 unfolding told
 comments-do-not-nest = refl
 
 -- 61 before a 60 further on
-earlier-refusal-first : told (ascii "TASK = #") ≡ 61 ∷ 1 ∷ 6 ∷ []
+pub earlier-refusal-first : told (ascii "TASK = #") ≡ 61 ∷ 1 ∷ 6 ∷ []
 unfolding told
 earlier-refusal-first = refl
 
 -- 61: OIL's words are no names
-word-for-a-name : told (ascii "TASK TASK { PRIORITY = 1; };") ≡ 61 ∷ 1 ∷ 6 ∷ []
+pub word-for-a-name : told (ascii "TASK TASK { PRIORITY = 1; };") ≡ 61 ∷ 1 ∷ 6 ∷ []
 unfolding told
 word-for-a-name = refl
 
 -- 61: nor names of resources
-word-for-a-resource : told (ascii "TASK a { PRIORITY = 1; RESOURCE = TRUE; };") ≡ 61 ∷ 1 ∷ 35 ∷ []
+pub word-for-a-resource : told (ascii "TASK a { PRIORITY = 1; RESOURCE = TRUE; };") ≡ 61 ∷ 1 ∷ 35 ∷ []
 unfolding told
 word-for-a-resource = refl
 
 -- 61: 2abc is the number 2 and the name abc
-number-and-name : told (ascii "TASK a { PRIORITY = 2abc; };") ≡ 61 ∷ 1 ∷ 22 ∷ []
+pub number-and-name : told (ascii "TASK a { PRIORITY = 2abc; };") ≡ 61 ∷ 1 ∷ 22 ∷ []
 unfolding told
 number-and-name = refl
 
 -- 61: 0x10 is 0 and x10
-hexadecimal : told (ascii "TASK a { PRIORITY = 0x10; };") ≡ 61 ∷ 1 ∷ 22 ∷ []
+pub hexadecimal : told (ascii "TASK a { PRIORITY = 0x10; };") ≡ 61 ∷ 1 ∷ 22 ∷ []
 unfolding told
 hexadecimal = refl
 
 -- 61: a number where a name is wanted
-name-with-a-digit-first : told (ascii "TASK 1a { PRIORITY = 2; };") ≡ 61 ∷ 1 ∷ 6 ∷ []
+pub name-with-a-digit-first : told (ascii "TASK 1a { PRIORITY = 2; };") ≡ 61 ∷ 1 ∷ 6 ∷ []
 unfolding told
 name-with-a-digit-first = refl
 
 -- 61 at the closing brace where PRIORITY is missing
-priority-missing : told (ascii "TASK a { AUTOSTART = TRUE; };") ≡ 61 ∷ 1 ∷ 28 ∷ []
+pub priority-missing : told (ascii "TASK a { AUTOSTART = TRUE; };") ≡ 61 ∷ 1 ∷ 28 ∷ []
 unfolding told
 priority-missing = refl
 
 -- 61 just past the last byte where the text breaks off
-broken-off : told (ascii "TASK a { PRIORITY = 1; }") ≡ 61 ∷ 1 ∷ 25 ∷ []
+pub broken-off : told (ascii "TASK a { PRIORITY = 1; }") ≡ 61 ∷ 1 ∷ 25 ∷ []
 unfolding told
 broken-off = refl
 
 -- 61: after a final LF that is the next line, column 1
-broken-off-after-a-line : told (ascii "TASK a\n") ≡ 61 ∷ 2 ∷ 1 ∷ []
+pub broken-off-after-a-line : told (ascii "TASK a\n") ≡ 61 ∷ 2 ∷ 1 ∷ []
 unfolding told
 broken-off-after-a-line = refl
 
 -- 61: spaces and comments at the end count
-broken-off-in-a-comment : told (ascii "TASK a // x") ≡ 61 ∷ 1 ∷ 12 ∷ []
+pub broken-off-in-a-comment : told (ascii "TASK a // x") ≡ 61 ∷ 1 ∷ 12 ∷ []
 unfolding told
 broken-off-in-a-comment = refl
 
 -- 61: a sign where an object is wanted
-sign-for-an-object : told (ascii ";") ≡ 61 ∷ 1 ∷ 1 ∷ []
+pub sign-for-an-object : told (ascii ";") ≡ 61 ∷ 1 ∷ 1 ∷ []
 unfolding told
 sign-for-an-object = refl
 
 -- 61: a number where an attribute is wanted
-number-for-an-attribute : told (ascii "TASK a { 1") ≡ 61 ∷ 1 ∷ 10 ∷ []
+pub number-for-an-attribute : told (ascii "TASK a { 1") ≡ 61 ∷ 1 ∷ 10 ∷ []
 unfolding told
 number-for-an-attribute = refl
 
 -- 62: an object that is not known
-unknown-object : told (ascii "ALARM a { };") ≡ 62 ∷ 1 ∷ 1 ∷ []
+pub unknown-object : told (ascii "ALARM a { };") ≡ 62 ∷ 1 ∷ 1 ∷ []
 unfolding told
 unknown-object = refl
 
 -- 62: a word of attributes where an object is wanted
-attribute-for-an-object : told (ascii "PRIORITY = 1;") ≡ 62 ∷ 1 ∷ 1 ∷ []
+pub attribute-for-an-object : told (ascii "PRIORITY = 1;") ≡ 62 ∷ 1 ∷ 1 ∷ []
 unfolding told
 attribute-for-an-object = refl
 
 -- 62: case matters
-task-in-capitals-alone : told (ascii "Task a { PRIORITY = 1; };") ≡ 62 ∷ 1 ∷ 1 ∷ []
+pub task-in-capitals-alone : told (ascii "Task a { PRIORITY = 1; };") ≡ 62 ∷ 1 ∷ 1 ∷ []
 unfolding told
 task-in-capitals-alone = refl
 
 -- 62: TASKS is a name
-longer-than-a-word : told (ascii "TASKS a { };") ≡ 62 ∷ 1 ∷ 1 ∷ []
+pub longer-than-a-word : told (ascii "TASKS a { };") ≡ 62 ∷ 1 ∷ 1 ∷ []
 unfolding told
 longer-than-a-word = refl
 
 -- 62: an attribute that is not known
-unknown-attribute : told (ascii "TASK a { SCHEDULE = FULL; };") ≡ 62 ∷ 1 ∷ 10 ∷ []
+pub unknown-attribute : told (ascii "TASK a { SCHEDULE = FULL; };") ≡ 62 ∷ 1 ∷ 10 ∷ []
 unfolding told
 unknown-attribute = refl
 
 -- 62: AUTOSTART in an ISR
-autostart-in-an-isr : told (ascii "ISR i { AUTOSTART = FALSE; };") ≡ 62 ∷ 1 ∷ 9 ∷ []
+pub autostart-in-an-isr : told (ascii "ISR i { AUTOSTART = FALSE; };") ≡ 62 ∷ 1 ∷ 9 ∷ []
 unfolding told
 autostart-in-an-isr = refl
 
 -- 62: a RESOURCE has no attributes
-attribute-in-a-resource : told (ascii "RESOURCE r { PRIORITY = 1; };") ≡ 62 ∷ 1 ∷ 14 ∷ []
+pub attribute-in-a-resource : told (ascii "RESOURCE r { PRIORITY = 1; };") ≡ 62 ∷ 1 ∷ 14 ∷ []
 unfolding told
 attribute-in-a-resource = refl
 
 -- 63 at an earlier object's name, of whatever kind
-name-twice : told (ascii "TASK a { PRIORITY = 1; };\r\nRESOURCE a { };") ≡ 63 ∷ 2 ∷ 10 ∷ []
+pub name-twice : told (ascii "TASK a { PRIORITY = 1; };\r\nRESOURCE a { };") ≡ 63 ∷ 2 ∷ 10 ∷ []
 unfolding told
 name-twice = refl
 
 -- 63 before a 62 further on
-name-twice-first : told (ascii "RESOURCE a { }; RESOURCE a { }; ALARM") ≡ 63 ∷ 1 ∷ 26 ∷ []
+pub name-twice-first : told (ascii "RESOURCE a { }; RESOURCE a { }; ALARM") ≡ 63 ∷ 1 ∷ 26 ∷ []
 unfolding told
 name-twice-first = refl
 
 -- 63 at the second PRIORITY
-priority-twice : told (ascii "TASK a { PRIORITY = 1; PRIORITY = 1; };") ≡ 63 ∷ 1 ∷ 24 ∷ []
+pub priority-twice : told (ascii "TASK a { PRIORITY = 1; PRIORITY = 1; };") ≡ 63 ∷ 1 ∷ 24 ∷ []
 unfolding told
 priority-twice = refl
 
 -- 63 at the second AUTOSTART
-autostart-twice : told (ascii "TASK a { AUTOSTART = TRUE; AUTOSTART = TRUE; };") ≡ 63 ∷ 1 ∷ 28 ∷ []
+pub autostart-twice : told (ascii "TASK a { AUTOSTART = TRUE; AUTOSTART = TRUE; };") ≡ 63 ∷ 1 ∷ 28 ∷ []
 unfolding told
 autostart-twice = refl
 
 -- 64 at the first use in reading order
-no-resource : told (ascii "TASK a { PRIORITY = 1; RESOURCE = b; RESOURCE = c; };") ≡ 64 ∷ 1 ∷ 35 ∷ []
+pub no-resource : told (ascii "TASK a { PRIORITY = 1; RESOURCE = b; RESOURCE = c; };") ≡ 64 ∷ 1 ∷ 35 ∷ []
 unfolding told
 no-resource = refl
 
 -- 64: a task bears the name, and no RESOURCE
-task-is-no-resource : told (ascii "TASK a { PRIORITY = 1; RESOURCE = a; };") ≡ 64 ∷ 1 ∷ 35 ∷ []
+pub task-is-no-resource : told (ascii "TASK a { PRIORITY = 1; RESOURCE = a; };") ≡ 64 ∷ 1 ∷ 35 ∷ []
 unfolding told
 task-is-no-resource = refl
 
 -- 62 before 64, which comes after the whole text
-unknown-before-no-resource : told (ascii "TASK a { PRIORITY = 1; RESOURCE = b; }; X") ≡ 62 ∷ 1 ∷ 41 ∷ []
+pub unknown-before-no-resource : told (ascii "TASK a { PRIORITY = 1; RESOURCE = b; }; X") ≡ 62 ∷ 1 ∷ 41 ∷ []
 unfolding told
 unknown-before-no-resource = refl
 
 -- 64 before 5
-no-resource-before-ranges : told (ascii "TASK a { PRIORITY = 0; RESOURCE = b; };") ≡ 64 ∷ 1 ∷ 35 ∷ []
+pub no-resource-before-ranges : told (ascii "TASK a { PRIORITY = 0; RESOURCE = b; };") ≡ 64 ∷ 1 ∷ 35 ∷ []
 unfolding told
 no-resource-before-ranges = refl
 
 -- 4: a text without bodies
-empty-text : told (ascii "") ≡ 4 ∷ 0 ∷ 0 ∷ []
+pub empty-text : told (ascii "") ≡ 4 ∷ 0 ∷ 0 ∷ []
 unfolding told
 empty-text = refl
 
 -- 5 at line 0, column 0
-priority-zero : told (ascii "TASK a { PRIORITY = 0; };") ≡ 5 ∷ 0 ∷ 0 ∷ []
+pub priority-zero : told (ascii "TASK a { PRIORITY = 0; };") ≡ 5 ∷ 0 ∷ 0 ∷ []
 unfolding told
 priority-zero = refl
 
 -- 5: a priority of many digits does not wrap
-priority-above : told (ascii "TASK a { PRIORITY = 18446744073709551617; };") ≡ 5 ∷ 0 ∷ 0 ∷ []
+pub priority-above : told (ascii "TASK a { PRIORITY = 18446744073709551617; };") ≡ 5 ∷ 0 ∷ 0 ∷ []
 unfolding told
 priority-above = refl
 
 -- 6: the second body's priority
-priority-used : told (ascii "TASK a { PRIORITY = 1; }; ISR b { PRIORITY = 1; };") ≡ 6 ∷ 0 ∷ 0 ∷ []
+pub priority-used : told (ascii "TASK a { PRIORITY = 1; }; ISR b { PRIORITY = 1; };") ≡ 6 ∷ 0 ∷ 0 ∷ []
 unfolding told
 priority-used = refl
 
 -- 5: a resource without users
-resource-without-users : told (ascii "TASK a { PRIORITY = 1; }; RESOURCE r { };") ≡ 5 ∷ 0 ∷ 0 ∷ []
+pub resource-without-users : told (ascii "TASK a { PRIORITY = 1; }; RESOURCE r { };") ≡ 5 ∷ 0 ∷ 0 ∷ []
 unfolding told
 resource-without-users = refl
 
 -- a name used before its RESOURCE, and twice: one bit
-forward-use : bytes (ascii "TASK t { RESOURCE = r; PRIORITY = 00200; RESOURCE = r; }; RESOURCE r { };") ≡ 1 ∷ 1 ∷ 0 ∷ 200 ∷ 1 ∷ 0 ∷ 1 ∷ 1 ∷ 0 ∷ []
+pub forward-use : bytes (ascii "TASK t { RESOURCE = r; PRIORITY = 00200; RESOURCE = r; }; RESOURCE r { };") ≡ 1 ∷ 1 ∷ 0 ∷ 200 ∷ 1 ∷ 0 ∷ 1 ∷ 1 ∷ 0 ∷ []
 unfolding bytes
 forward-use = refl
 
 -- comments at every place, names that begin with OIL's words
-comments-everywhere : bytes (ascii "/*1*/TASK/*2*/TRUE1/**/{/***/PRIORITY/*\n*/=/*5*/7/*6*/;//7\n}/*8*/;/*9*///") ≡ 1 ∷ 1 ∷ 0 ∷ 7 ∷ 0 ∷ 0 ∷ 0 ∷ []
+pub comments-everywhere : bytes (ascii "/*1*/TASK/*2*/TRUE1/**/{/***/PRIORITY/*\n*/=/*5*/7/*6*/;//7\n}/*8*/;/*9*///") ≡ 1 ∷ 1 ∷ 0 ∷ 7 ∷ 0 ∷ 0 ∷ 0 ∷ []
 unfolding bytes
 comments-everywhere = refl
 
 -- 400 zeros before a number
-zeros-before : told (ascii "TASK a { PRIORITY = " ++ (replicate 400 48 ++ ascii "7; };")) ≡ 0 ∷ 0 ∷ 0 ∷ []
+pub zeros-before : told (ascii "TASK a { PRIORITY = " ++ (replicate 400 48 ++ ascii "7; };")) ≡ 0 ∷ 0 ∷ 0 ∷ []
 unfolding told
 zeros-before = refl
 
 -- 400 digits: 5
-many-digits : told (ascii "TASK a { PRIORITY = " ++ (replicate 400 57 ++ ascii "; };")) ≡ 5 ∷ 0 ∷ 0 ∷ []
+pub many-digits : told (ascii "TASK a { PRIORITY = " ++ (replicate 400 57 ++ ascii "; };")) ≡ 5 ∷ 0 ∷ 0 ∷ []
 unfolding told
 many-digits = refl
