@@ -47,7 +47,7 @@ REFUSED = [
     (b"\x81\x00", b"", 2, 1),
     (config_with(0, 3), b"", 3, 0),
     (config_with(1, 33), b"", 4, 1),
-    (config_with(2, 2), b"", 5, 2),
+    (config_with(2, 3), b"", 5, 2),
     (config_with(6, 2), b"", 6, 6),
     (config_with(18, 0), b"", 7, 19),
     (MANY, b"", 8, 144),
@@ -56,7 +56,7 @@ REFUSED = [
     (CONFIG, 8193 * b"\x06", 20, 0),
     (CONFIG, b"\x06\x01", 21, 2),
     (CONFIG, b"\x06\x01\x80\x00", 22, 3),
-    (CONFIG, b"\x06\x0a", 23, 1),
+    (CONFIG, b"\x06\x0d", 23, 1),
 ]
 
 # OIL texts with their refusal, line and column.
@@ -86,6 +86,11 @@ class OsekTest(unittest.TestCase):
             answers, losses = osek.run(config_with(0, version), b"\x07\x02\x07\x02\x07\x02\x07\x02")
             self.assertEqual([answer.status for answer in answers], [0, 0, 4, 4])
             self.assertEqual(losses, [0, 0, lost])
+
+    def test_a_task_waits_until_its_bit_is_set(self):
+        # Extended task 0 (priority 2) waits for bit 7; ISR 1 (5) sets it and ends.
+        answers, _ = osek.run(bytes.fromhex("0102 020201 010500 00 00"), bytes.fromhex("0a8001 0701 0b008001 02"))
+        self.assertEqual(answers, [(0, None, 0, False), (0, 1, 5, True), (0, 1, 5, False), (0, 0, 2, False)])
 
     def test_an_empty_trace_has_no_answers(self):
         self.assertEqual(osek.run(CONFIG, b""), ([], [0, 0, 0]))

@@ -3,7 +3,7 @@
 //! In order: random numbers, configurations biased to contention, traces that look at the kernel's state so that
 //! about half of the calls succeed, damage, the mix of all of them in [`case`], and long traces for timing.
 
-use crate::fast::{self, Config, Event, Kernel, NextDue, CONFIG_MAX, OUTPUT_MAX, TRACE_MAX, TURN};
+use crate::fast::{self, Config, Event, Kernel, NextDue, CONFIG_MAX, EXTENDED, ISR, OUTPUT_MAX, TRACE_MAX, TURN};
 
 // Random numbers
 
@@ -61,11 +61,19 @@ impl Random {
 
 // Configurations
 
+const TASK: u32 = 0;
+
 #[derive(Clone, Copy)]
 struct Body {
-    is_isr: bool,
+    kind: u32,
     priority: u32,
     autostart: u32,
+}
+
+impl Body {
+    fn is_isr(&self) -> bool {
+        self.kind == ISR
+    }
 }
 
 struct Table {
@@ -103,7 +111,7 @@ impl Plan {
     fn numbers(&self) -> Vec<(Role, u32)> {
         let mut numbers = vec![(Role::Version, self.version), (Role::BodyCount, self.bodies.len() as u32)];
         for body in &self.bodies {
-            numbers.push((Role::Kind, u32::from(body.is_isr)));
+            numbers.push((Role::Kind, body.kind));
             numbers.push((Role::Priority, body.priority));
             numbers.push((Role::Autostart, body.autostart));
         }
@@ -142,7 +150,7 @@ fn draw_plan(random: &mut Random) -> Plan {
     let version = random.pick(&[1, 2]);
     let bodies = draw_bodies(random);
     let resources = draw_resources(random, &bodies);
-    let tasks: Vec<u32> = (0..bodies.len() as u32).filter(|body| !bodies[*body as usize].is_isr).collect();
+    let tasks: Vec<u32> = (0..bodies.len() as u32).filter(|body| !bodies[*body as usize].is_isr()).collect();
     let tables = if tasks.is_empty() { Vec::new() } else { draw_tables(random, &tasks) };
     Plan { version, bodies, resources, tables }
 }
@@ -162,20 +170,23 @@ fn draw_bodies(random: &mut Random) -> Vec<Body> {
         let top = 200 - span as u32;
         priorities.iter_mut().for_each(|priority| *priority += top);
     }
-    let isr_percent = random.pick(&[0, 10, 20, 30, 50, 80, 100]);
+    let isr_percent = random.pick(&[0, 3, 10, 20, 30, 50, 80, 100]);
+    // Half of the configurations have no extended task.
+    let extended_percent = random.pick(&[0, 0, 0, 0, 30, 60, 90, 100]);
     let autostart_percent = random.pick(&[10, 30, 60, 100]);
     let mut bodies: Vec<Body> = (0..count)
         .map(|body| {
-            let is_isr = random.chance(isr_percent);
-            Body {
-                is_isr,
-                priority: priorities[body],
-                autostart: u32::from(!is_isr && random.chance(autostart_percent)),
-            }
+            let kind = match () {
+                () if random.chance(isr_percent) => ISR,
+                () if random.chance(extended_percent) => EXTENDED,
+                () => TASK,
+            };
+            let autostart = u32::from(kind != ISR && random.chance(autostart_percent));
+            Body { kind, priority: priorities[body], autostart }
         })
         .collect();
     // A configuration that can never leave idle says little.
-    if bodies.iter().all(|body| !body.is_isr && body.autostart == 0) && random.chance(95) {
+    if bodies.iter().all(|body| !body.is_isr() && body.autostart == 0) && random.chance(95) {
         let first = random.below(count);
         bodies[first].autostart = 1;
     }
@@ -257,32 +268,73 @@ fn draw_tables(random: &mut Random, tasks: &[u32]) -> Vec<Table> {
 struct Habits {
     /// How often the drawer looks at the state for an event that succeeds.
     look: usize,
-    /// Weights of the event codes 1 to 9.
-    weight: [usize; 9],
+    /// Weights of the event codes 1 to 12.
+    weight: [usize; 12],
     /// Whether the body that is woken is the lowest one above the level, so that the stack of preempted bodies grows.
     climb: bool,
+    /// Whether every Wait blocks and no Set resumes, so that more and more tasks wait.
+    gather: bool,
 }
 
-fn draw_habits(random: &mut Random) -> Habits {
+fn draw_habits(random: &mut Random, config: &Config) -> Habits {
+    let extended = (0..config.bodies() as u32).any(|body| config.is_extended(body));
     let climb = random.below(8) == 0;
-    let weight = match random.below(7) {
+    let gather = extended && !climb && random.below(12) == 0;
+    let mut weight = match random.below(if extended { 10 } else { 6 }) {
         // Bodies one above the other.
-        _ if climb => [12, 1, 0, 4, 1, 1, 12, 0, 0],
+        _ if climb => [12, 1, 0, 4, 1, 1, 12, 0, 0, 0, 0, 0],
+        // Tasks that wait, all of them in the end.
+        _ if gather => [8, 0, 0, 0, 1, 1, 2, 1, 0, 20, 1, 2],
         // Activations and ends.
-        0 => [8, 8, 4, 2, 3, 2, 4, 1, 1],
+        0 => [8, 8, 4, 2, 3, 2, 4, 1, 1, 1, 2, 1],
         // Resources, nested.
-        1 => [3, 3, 1, 12, 9, 1, 4, 1, 0],
+        1 => [3, 3, 1, 12, 9, 1, 4, 1, 0, 1, 2, 0],
         // Ticks.
-        2 => [1, 16, 1, 1, 3, 30, 1, 4, 1],
+        2 => [1, 16, 1, 1, 3, 30, 1, 4, 1, 1, 2, 0],
         // Starts and stops.
-        3 => [1, 6, 1, 1, 2, 12, 1, 8, 5],
+        3 => [1, 6, 1, 1, 2, 12, 1, 8, 5, 1, 1, 0],
         // Interrupts.
-        4 => [2, 8, 1, 3, 3, 2, 16, 1, 1],
+        4 => [2, 8, 1, 3, 3, 2, 16, 1, 1, 2, 4, 1],
         // Calls without ticks.
-        5 => [4, 4, 2, 4, 4, 0, 3, 1, 1],
-        _ => [1; 9],
+        5 => [4, 4, 2, 4, 4, 0, 3, 1, 1, 2, 3, 1],
+        // Events, and interrupts that set them.
+        6 | 7 => [5, 4, 1, 1, 3, 3, 6, 1, 0, 12, 14, 3],
+        // Events beside resources: resumed tasks at a ceiling.
+        8 => [4, 3, 1, 9, 6, 1, 4, 1, 0, 7, 12, 2],
+        _ => [1; 12],
     };
-    Habits { look: random.pick(&[30, 40, 50, 50, 60, 80]), weight, climb }
+    // Without an extended task no event of theirs succeeds.
+    if !extended && random.chance(80) {
+        weight[9..].fill(0);
+    }
+    Habits { look: random.pick(&[30, 40, 50, 50, 60, 80]), weight, climb, gather }
+}
+
+/// A mask, mostly of low bits, so that masks meet.
+fn any_mask(random: &mut Random) -> u32 {
+    match random.below(16) {
+        0 => 0,
+        1 => 1 << random.below(32),
+        2 => random.pick(&[1 << 31, u32::MAX, 1 << 31 | 1, 0x7fff_ffff]),
+        3 => random.word() as u32,
+        4..=6 => random.below(16) as u32,
+        _ => 1 << random.below(4),
+    }
+}
+
+/// A mask that has none of these bits; may be 0.
+fn mask_without(random: &mut Random, bits: u32) -> u32 {
+    any_mask(random) & !bits
+}
+
+/// A mask that has one of these bits, which are not 0.
+fn mask_with(random: &mut Random, bits: u32) -> u32 {
+    let bit = random.pick_where(32, |bit| bits >> bit & 1 == 1).map_or(0, |bit| 1 << bit);
+    if random.chance(60) {
+        bit
+    } else {
+        bit | any_mask(random)
+    }
 }
 
 /// A number that is an id, or nearly one, or any.
@@ -326,7 +378,13 @@ fn next_above(config: &Config, kernel: &Kernel<NextDue>) -> Option<Event> {
 }
 
 /// An event that succeeds now, if the code has one.
-fn good_event(random: &mut Random, config: &Config, kernel: &Kernel<NextDue>, code: usize) -> Option<Event> {
+fn good_event(
+    random: &mut Random,
+    config: &Config,
+    kernel: &Kernel<NextDue>,
+    code: usize,
+    gather: bool,
+) -> Option<Event> {
     let bodies = config.bodies();
     let runner = kernel.runner();
     let suspended_task =
@@ -365,8 +423,46 @@ fn good_event(random: &mut Random, config: &Config, kernel: &Kernel<NextDue>, co
             let delay = any_delay(random, smallest, largest);
             Some(Event::Start(table, if (1..=most).contains(&delay) { delay } else { 1 }))
         }
-        _ => random.pick_where(config.tables(), |table| kernel.is_on(table)).map(Event::Stop),
+        9 => random.pick_where(config.tables(), |table| kernel.is_on(table)).map(Event::Stop),
+        10 => {
+            let runner = runner.filter(|runner| config.is_extended(*runner) && kernel.last_held().is_none())?;
+            let set = kernel.events(runner);
+            // It goes on, or blocks.
+            let mask = if set != 0 && !gather && random.chance(35) {
+                mask_with(random, set)
+            } else {
+                mask_without(random, set)
+            };
+            Some(Event::Wait(mask))
+        }
+        11 => good_set(random, config, kernel, gather),
+        _ => runner.filter(|runner| config.is_extended(*runner)).map(|_| Event::Clear(any_mask(random))),
     }
+}
+
+/// A Set of a task that waits, is ready, is started, or runs; of one that waits it mostly sets a waited bit.
+fn good_set(random: &mut Random, config: &Config, kernel: &Kernel<NextDue>, gather: bool) -> Option<Event> {
+    let extended = |body: u32| config.is_extended(body) && !kernel.is_suspended(body);
+    let waiting = |body: u32| extended(body) && kernel.is_waiting(body);
+    let wanted = random.below(10);
+    let task = match wanted {
+        // At or below the level, so that it has to wait for its turn; then any that waits.
+        0 | 1 => random.pick_where(config.bodies(), |body| waiting(body) && config.priority(body) <= kernel.level()),
+        // At a ceiling that somebody holds.
+        2 => random.pick_where(config.bodies(), |body| waiting(body) && config.priority(body) == kernel.level()),
+        3..=6 => random.pick_where(config.bodies(), waiting),
+        7 => random.pick_where(config.bodies(), |body| extended(body) && kernel.is_requested(body)),
+        8 => random.pick_where(config.bodies(), |body| extended(body) && kernel.is_started(body)),
+        _ => None,
+    };
+    let task = task.or_else(|| random.pick_where(config.bodies(), extended))?;
+    let waited = if waiting(task) { kernel.waited(task) } else { 0 };
+    let mask = if waited != 0 && !gather && random.chance(75) {
+        mask_with(random, waited)
+    } else {
+        mask_without(random, waited)
+    };
+    Some(Event::Set(task, mask))
 }
 
 fn any_event(random: &mut Random, config: &Config, code: usize) -> Event {
@@ -383,7 +479,10 @@ fn any_event(random: &mut Random, config: &Config, code: usize) -> Event {
             let (smallest, largest) = if (table as usize) < config.tables() { offsets(config, table) } else { (0, 0) };
             Event::Start(table, any_delay(random, smallest, largest))
         }
-        _ => Event::Stop(any_id(random, config.tables())),
+        9 => Event::Stop(any_id(random, config.tables())),
+        10 => Event::Wait(any_mask(random)),
+        11 => Event::Set(any_id(random, config.bodies()), any_mask(random)),
+        _ => Event::Clear(any_mask(random)),
     }
 }
 
@@ -403,7 +502,11 @@ fn draw_event(random: &mut Random, config: &Config, kernel: &Kernel<NextDue>, ha
         for _ in 0..4 {
             let code = draw_code(random);
             let climbs = habits.climb && (code == 1 || code == 7);
-            let event = if climbs { next_above(config, kernel) } else { good_event(random, config, kernel, code) };
+            let event = if climbs {
+                next_above(config, kernel)
+            } else {
+                good_event(random, config, kernel, code, habits.gather)
+            };
             if let Some(event) = event {
                 return event;
             }
@@ -424,6 +527,9 @@ pub fn push_event(bytes: &mut Vec<u8>, event: Event) {
         Event::Line(isr) => (7, vec![isr]),
         Event::Start(table, delay) => (8, vec![table, delay]),
         Event::Stop(table) => (9, vec![table]),
+        Event::Wait(mask) => (10, vec![mask]),
+        Event::Set(task, mask) => (11, vec![task, mask]),
+        Event::Clear(mask) => (12, vec![mask]),
     };
     bytes.push(code);
     for argument in arguments {
@@ -433,18 +539,19 @@ pub fn push_event(bytes: &mut Vec<u8>, event: Event) {
 
 /// A trace of at most `limit` bytes.
 fn draw_trace(random: &mut Random, config: &Config, limit: usize) -> Vec<u8> {
-    let mut habits = draw_habits(random);
+    let mut habits = draw_habits(random, config);
     let mut kernel = Kernel::<NextDue>::fresh(config);
     let mut trace = Vec::new();
     let has_isr = (0..config.bodies() as u32).any(|body| config.is_isr(body));
     let table_on = |kernel: &Kernel<NextDue>| (0..config.tables() as u32).any(|table| kernel.is_on(table));
     while trace.len() < limit {
         if random.below(300) == 0 {
-            habits = draw_habits(random);
+            habits = draw_habits(random, config);
         }
         let mut event = draw_event(random, config, &kernel, &habits);
         // The last body mostly goes on running if nothing could wake another.
-        if event == Event::Finish && kernel.others() == 0 && !has_isr && !table_on(&kernel) && random.chance(95) {
+        let leaves = matches!(event, Event::Finish | Event::Wait(_));
+        if leaves && kernel.others() == 0 && !has_isr && !table_on(&kernel) && random.chance(95) {
             event = Event::Tick;
         }
         let length = trace.len();
@@ -511,11 +618,11 @@ fn flip_bits(random: &mut Random, bytes: &mut [u8]) {
 /// A value that the role's range leaves out, mostly just beside it.
 fn out_of_range(random: &mut Random, plan: &Plan, role: Role, value: u32) -> u32 {
     let bodies = plan.bodies.len() as u32;
-    let isr = plan.bodies.iter().position(|body| body.is_isr).map_or(bodies, |isr| isr as u32);
+    let isr = plan.bodies.iter().position(Body::is_isr).map_or(bodies, |isr| isr as u32);
     match role {
         Role::Version => random.pick(&[0, 3 - value.min(2), 3, 4, 128, 257, 258]),
         Role::BodyCount => random.pick(&[0, 33, 34, bodies + 1, bodies - 1, u32::MAX]),
-        Role::Kind => random.pick(&[2, 3, 1 - value.min(1), 128, 256]),
+        Role::Kind => random.pick(&[3, 4, (value + 1) % 3, (value + 2) % 3, 128, 256]),
         Role::Priority => random.pick(&[0, 201, 255, 256, 257, plan.bodies[0].priority]),
         Role::Autostart => random.pick(&[2, 1 - value.min(1), 1 - value.min(1), 256]),
         Role::ResourceCount => random.pick(&[17, value + 1, value.saturating_sub(1), 255, 256]),
@@ -530,7 +637,7 @@ fn out_of_range(random: &mut Random, plan: &Plan, role: Role, value: u32) -> u32
 
 /// Tables with 64 entries or just above.
 fn many_entries(random: &mut Random, plan: &mut Plan) {
-    let Some(task) = plan.bodies.iter().position(|body| !body.is_isr) else { return };
+    let Some(task) = plan.bodies.iter().position(|body| !body.is_isr()) else { return };
     let counts: &[u32] = random.pick(&[
         &[16, 16, 16, 16][..],
         &[16, 16, 16, 16, 1],
@@ -634,15 +741,15 @@ fn damage_trace(random: &mut Random, trace: &mut Vec<u8>) {
         0 => trace.truncate(random.below(trace.len() + 1)),
         1 => flip_bits(random, trace),
         2 => {
-            let value = random.pick(&[0, 1, 6, 9, 10, 127, 128]);
+            let value = random.pick(&[0, 1, 6, 12, 13, 127, 128]);
             let bad = bad_number(random, value);
             trace.splice(at..at, bad);
         }
         3 => {
             // A code with an argument that can't be read.
-            let code = random.pick(&[1, 3, 4, 5, 7, 8, 9]);
+            let code = random.pick(&[1, 3, 4, 5, 7, 8, 9, 10, 11, 12]);
             let mut event = vec![code];
-            if code == 8 && random.chance(50) {
+            if matches!(code, 8 | 11) && random.chance(50) {
                 push_number(&mut event, random.below(9) as u32);
             }
             let value = random.word() as u32 >> random.below(32);
@@ -651,14 +758,14 @@ fn damage_trace(random: &mut Random, trace: &mut Vec<u8>) {
         }
         4 => {
             let mut code = Vec::new();
-            push_number(&mut code, random.pick(&[0, 10, 11, 127, 128, 129, 262, 1 << 14, u32::MAX]));
+            push_number(&mut code, random.pick(&[0, 13, 14, 127, 128, 129, 262, 1 << 14, u32::MAX]));
             trace.splice(at..at, code);
         }
         5 => trace.resize(random.pick(&[TRACE_MAX + 1, TRACE_MAX + 2, TRACE_MAX + 5_000]), 6),
         6 => {
             // An event whose arguments are missing.
             trace.truncate(at);
-            trace.push(random.pick(&[1, 3, 4, 5, 7, 8, 9]));
+            trace.push(random.pick(&[1, 3, 4, 5, 7, 8, 9, 10, 11, 12]));
             if random.chance(50) {
                 trace.extend(vec![0x80; random.between(1, 4)]);
             }
@@ -741,7 +848,7 @@ pub fn case(seed: u64, number: u64) -> Case {
 /// A busy configuration and a trace of `length` bytes over it.
 pub fn timed(seed: u64, shape: Shape, length: usize) -> Case {
     let mut random = Random::new(seed);
-    let plan = timed_plan(&mut random);
+    let plan = timed_plan(&mut random, shape);
     let config = number_bytes(&plan.numbers());
     let ready = fast::read_config(&config).expect("the timed configuration is accepted");
     let trace = timed_trace(&mut random, &ready, shape, length);
@@ -757,16 +864,22 @@ pub enum Shape {
     Mixed,
     /// All 64 cells on, then ticks; bodies that begin end at once.
     Ticks,
+    /// Calls and lines, half of them about events; half of the bodies are extended tasks.
+    Waiting,
 }
 
 /// 32 bodies, every fourth an ISR, 8 resources, 8 tables of 8 entries.
-fn timed_plan(random: &mut Random) -> Plan {
+fn timed_plan(random: &mut Random, shape: Shape) -> Plan {
     let mut priorities: Vec<u32> = (1..=32).map(|rank| rank * 6).collect();
     random.shuffle(&mut priorities);
     let bodies: Vec<Body> = (0..32)
         .map(|body| {
-            let is_isr = body % 4 == 3;
-            Body { is_isr, priority: priorities[body], autostart: u32::from(!is_isr && body % 2 == 0) }
+            let kind = match (body % 4, shape) {
+                (3, _) => ISR,
+                (1 | 2, Shape::Waiting) => EXTENDED,
+                _ => TASK,
+            };
+            Body { kind, priority: priorities[body], autostart: u32::from(body % 2 == 0) }
         })
         .collect();
     let resources = (0..8).map(|_| random.word() as u32 | 1).collect();
@@ -785,11 +898,13 @@ fn timed_trace(random: &mut Random, config: &Config, shape: Shape, length: usize
     let habits = Habits {
         look: 75,
         weight: match shape {
-            Shape::NoTicks => [5, 6, 2, 4, 4, 0, 4, 1, 1],
-            Shape::Mixed => [5, 6, 2, 4, 4, 7, 4, 2, 1],
-            Shape::Ticks => [0, 0, 0, 0, 0, 1, 0, 0, 0],
+            Shape::NoTicks => [5, 6, 2, 4, 4, 0, 4, 1, 1, 0, 0, 0],
+            Shape::Mixed => [5, 6, 2, 4, 4, 7, 4, 2, 1, 0, 0, 0],
+            Shape::Ticks => [0, 0, 0, 0, 0, 1, 0, 0, 0, 0, 0, 0],
+            Shape::Waiting => [4, 4, 1, 3, 3, 0, 5, 0, 0, 8, 9, 2],
         },
         climb: false,
+        gather: false,
     };
     let mut kernel = Kernel::<NextDue>::fresh(config);
     let mut trace = Vec::new();
@@ -803,14 +918,16 @@ fn timed_trace(random: &mut Random, config: &Config, shape: Shape, length: usize
     while trace.len() < length {
         let event = match (shape, kernel.runner()) {
             (Shape::Ticks, Some(_)) if kernel.others() > 0 && random.chance(50) => Event::Finish,
-            (Shape::NoTicks | Shape::Mixed, Some(_)) if kernel.others() == 0 => draw_wake(random, config, &kernel),
+            (Shape::NoTicks | Shape::Mixed | Shape::Waiting, Some(_)) if kernel.others() == 0 => {
+                draw_wake(random, config, &kernel)
+            }
             _ => draw_event(random, config, &kernel, &habits),
         };
         let before = trace.len();
         push_event(&mut trace, event);
         if trace.len() > length {
             trace.truncate(before);
-            trace.resize(length, if shape == Shape::NoTicks { 2 } else { 6 });
+            trace.resize(length, if matches!(shape, Shape::NoTicks | Shape::Waiting) { 2 } else { 6 });
             break;
         }
         kernel.step(event);
@@ -821,5 +938,5 @@ fn timed_trace(random: &mut Random, config: &Config, shape: Shape, length: usize
 /// An event that brings a second body in, so that a timed trace never falls idle for good.
 fn draw_wake(random: &mut Random, config: &Config, kernel: &Kernel<NextDue>) -> Event {
     let code = random.pick(&[1, 7]);
-    good_event(random, config, kernel, code).unwrap_or_else(|| any_event(random, config, code))
+    good_event(random, config, kernel, code, false).unwrap_or_else(|| any_event(random, config, code))
 }

@@ -1,16 +1,18 @@
 //! What a set of runs has shown: every refusal of the run, every status of every event, every body begun at once, every
-//! resource held at once, turns of a counter that passed unmatched, lines lost in both versions.
+//! resource held at once, and what [`SIGHTS`] lists.
 
+use std::collections::BTreeMap;
 use std::fmt;
 
 use crate::cases::Case;
-use crate::fast::{self, Config, Event, Kernel, NextDue, BODIES_MAX, IDLE, RESOURCES_MAX, TABLES_MAX, TURN};
+use crate::fast::{self, BODIES_MAX, IDLE, RESOURCES_MAX};
+use crate::sights::{Watch, SIGHTS};
 
 /// The run's refusals.
 pub const REFUSALS: [u32; 15] = [1, 2, 3, 4, 5, 6, 7, 8, 9, 10, 20, 21, 22, 23, 30];
 
 /// Event codes with their names and the statuses the documents give them.
-pub const STATUSES: [(u8, &str, &[u8]); 9] = [
+pub const STATUSES: [(u8, &str, &[u8]); 12] = [
     (1, "Activate", &[0, 2, 3, 4]),
     (2, "Finish", &[0, 2, 6]),
     (3, "Chain", &[0, 2, 3, 6, 4]),
@@ -20,6 +22,9 @@ pub const STATUSES: [(u8, &str, &[u8]); 9] = [
     (7, "Line", &[0, 3, 4]),
     (8, "Start", &[0, 2, 3, 8, 7]),
     (9, "Stop", &[0, 2, 3, 5]),
+    (10, "Wait", &[0, 2, 1, 6]),
+    (11, "Set", &[0, 2, 3, 1, 7]),
+    (12, "Clear", &[0, 2, 1]),
 ];
 
 #[derive(Clone, Default)]
@@ -43,65 +48,8 @@ pub struct Coverage {
     /// The most bodies that had begun at once, and the most resources held at once.
     most_begun: usize,
     most_held: usize,
-    /// Turns of a counter that passed unmatched.
-    turns: u64,
-    /// Gets with status 33, as in [`UNDECLARED`].
-    undeclared: [u64; UNDECLARED.len()],
-    /// Lines with status 4, by version 1 or 2, then by whether the ISR is ready or started with a request waiting.
-    lines_lost: [[u64; 2]; 2],
-}
-
-/// How the runner stands to a resource of which it is no declared user. One that another body holds has a ceiling below the
-/// runner's own priority; one that the runner holds it is a user of.
-const UNDECLARED: [&str; 4] = [
-    "Get of a free resource by a body that is no user of it, its level below the ceiling",
-    "Get of a free resource by a body that is no user of it, raised to the ceiling by another resource",
-    "Get of a free resource by a body that is no user of it, its own priority above the ceiling",
-    "Get of a held resource by a body that is no user of it",
-];
-
-fn undeclared(config: &Config, kernel: &Kernel<NextDue>, resource: u32) -> usize {
-    let ceiling = config.ceiling(resource as usize);
-    let own = kernel.runner().map_or(0, |runner| config.priority(runner));
-    match kernel.level().cmp(&ceiling) {
-        _ if kernel.is_taken(resource) => 3,
-        _ if own > ceiling => 2,
-        std::cmp::Ordering::Less => 0,
-        _ => 1,
-    }
-}
-
-const LINES_LOST: [[&str; 2]; 2] = [
-    ["a line of a ready ISR lost in version 1", "a line of a started ISR lost in version 1"],
-    ["a line of a ready ISR lost in version 2", "a line of a started ISR lost in version 2"],
-];
-
-/// By table: the ticks until a counter first comes to its compare value with a turn to pass.
-#[derive(Default)]
-struct Turns([Option<u32>; TABLES_MAX]);
-
-impl Turns {
-    /// An event that was done; true where a turn passes at it.
-    fn step(&mut self, config: &Config, event: Event) -> bool {
-        match event {
-            Event::Start(table, delay) => {
-                let long = config.offsets(table as usize).filter_map(|offset| (delay + offset).checked_sub(TURN));
-                self.0[table as usize] = long.filter(|left| *left > 0).min();
-                false
-            }
-            Event::Stop(table) => {
-                self.0[table as usize] = None;
-                false
-            }
-            Event::Tick => {
-                self.0.iter_mut().for_each(|left| *left = left.map(|left| left - 1));
-                let passed = self.0.contains(&Some(0));
-                self.0.iter_mut().for_each(|left| *left = left.filter(|left| *left > 0));
-                passed
-            }
-            _ => false,
-        }
-    }
+    /// How often each of [`SIGHTS`] was seen.
+    sights: BTreeMap<&'static str, u64>,
 }
 
 impl Coverage {
@@ -119,25 +67,15 @@ impl Coverage {
         self.events += events as u64;
         let config = fast::read_config(&case.config).expect("the run accepted the configuration");
         self.versions[usize::from(config.counts_lines())] += 1;
-        let mut kernel = Kernel::<NextDue>::fresh(&config);
-        let mut turns = Turns::default();
+        let mut watch = Watch::of(&config);
         let mut at = 0;
         for answer in out.chunks_exact(4).take(events) {
             let row = usize::from(case.trace[at]) - 1;
             let (event, next) = fast::read_event(&case.trace, at).expect("the run accepted the trace");
             at = next;
-            if let (Event::Line(isr), 4) = (event, answer[0]) {
-                self.lines_lost[usize::from(config.counts_lines())][usize::from(kernel.is_started(isr))] += 1;
-            }
-            if let (Event::Get(resource), 33) = (event, answer[0]) {
-                self.undeclared[undeclared(&config, &kernel, resource)] += 1;
-            }
-            kernel.step(event);
-            if answer[0] == 0 {
-                self.turns += u64::from(turns.step(&config, event));
-            }
-            self.most_begun = self.most_begun.max(kernel.begun_bodies());
-            self.most_held = self.most_held.max(kernel.held_resources());
+            watch.step(event, answer[0], |sight| *self.sights.entry(sight).or_default() += 1);
+            self.most_begun = self.most_begun.max(watch.kernel.begun_bodies());
+            self.most_held = self.most_held.max(watch.kernel.held_resources());
             let place = STATUSES[row].2.iter().position(|status| *status == answer[0]);
             self.statuses[row][place.expect("the event has this status")] += 1;
             self.begun[row] += u64::from(answer[3]);
@@ -175,12 +113,8 @@ impl Coverage {
         self.longest_trace = self.longest_trace.max(other.longest_trace);
         self.most_begun = self.most_begun.max(other.most_begun);
         self.most_held = self.most_held.max(other.most_held);
-        self.turns += other.turns;
-        for (mine, others) in self.undeclared.iter_mut().zip(other.undeclared) {
-            *mine += others;
-        }
-        for (mine, others) in self.lines_lost.iter_mut().flatten().zip(other.lines_lost.iter().flatten()) {
-            *mine += others;
+        for (sight, count) in &other.sights {
+            *self.sights.entry(sight).or_default() += count;
         }
     }
 
@@ -208,19 +142,7 @@ impl Coverage {
                 }
             }
         }
-        for (count, name) in self.undeclared.iter().zip(UNDECLARED) {
-            if *count == 0 {
-                missing.push(name.to_string());
-            }
-        }
-        for (count, name) in self.lines_lost.iter().flatten().zip(LINES_LOST.iter().flatten()) {
-            if *count == 0 {
-                missing.push(name.to_string());
-            }
-        }
-        if self.turns == 0 {
-            missing.push("a turn of a counter that passes unmatched".to_string());
-        }
+        missing.extend(SIGHTS.iter().filter(|sight| !self.sights.contains_key(**sight)).map(|sight| sight.to_string()));
         if self.most_begun < BODIES_MAX {
             missing.push(format!("more than {} bodies begun at once", self.most_begun));
         }
@@ -262,8 +184,8 @@ impl fmt::Display for Coverage {
             }
             writeln!(f, "  begun: {}", self.begun[row])?;
         }
-        for (count, name) in self.undeclared.iter().zip(UNDECLARED) {
-            writeln!(f, "{name}: {count}")?;
+        for sight in SIGHTS {
+            writeln!(f, "{sight}: {}", self.sights.get(sight).unwrap_or(&0))?;
         }
         writeln!(
             f,
@@ -278,15 +200,6 @@ impl fmt::Display for Coverage {
             "longest accepted trace: {} bytes, outputs of exactly the needed length: {}",
             self.longest_trace, self.exact_output
         )?;
-        let [[ready1, started1], [ready2, started2]] = self.lines_lost;
-        writeln!(
-            f,
-            "lines lost of a ready and of a started ISR: version 1 {ready1} and {started1}, version 2 {ready2} and {started2}",
-        )?;
-        write!(
-            f,
-            "most bodies begun at once: {}, most resources held at once: {}, turns that passed unmatched: {}",
-            self.most_begun, self.most_held, self.turns
-        )
+        write!(f, "most bodies begun at once: {}, most resources held at once: {}", self.most_begun, self.most_held)
     }
 }

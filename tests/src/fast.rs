@@ -1,5 +1,5 @@
-//! Document 01 with document 02's requests in Rust, written for speed: a ready list of one word, the started bodies on a stack, everything
-//! changed in place. It follows the documents and shares nothing with the Rattle code.
+//! Document 01 with document 02's requests in Rust, written for speed: ready, started and waiting bodies are a word each,
+//! everything is changed in place. It follows the documents and shares nothing with the Rattle code.
 //!
 //! In order: numbers, the configuration, events, the two kinds of timers, the kernel, the run.
 //!
@@ -77,6 +77,10 @@ fn read_long_number(bytes: &[u8], mut at: usize, mut value: u32) -> Result<(u32,
 
 // The configuration
 
+/// The kinds of bodies that are no plain tasks, by number; that of extended tasks is the greatest.
+pub const ISR: u32 = 1;
+pub const EXTENDED: u32 = 2;
+
 /// A configuration made ready for running. Bodies are known by their rank, 0 for the lowest priority; only the
 /// callers' ids and the answers bear body numbers.
 #[derive(Clone, Debug)]
@@ -86,8 +90,9 @@ pub struct Config {
     bodies: usize,
     resources: usize,
     tables: usize,
-    /// Body numbers of tasks and of ISRs, one bit each.
+    /// Body numbers of tasks, of the extended ones among them, and of ISRs, one bit each.
     task_numbers: u32,
+    extended_numbers: u32,
     isr_numbers: u32,
     /// Ranks of ISRs and of autostart tasks, one bit each.
     isr_ranks: u32,
@@ -159,11 +164,13 @@ pub fn read_config(bytes: &[u8]) -> Result<Config, Refusal> {
     let bodies = fields.count(1, BODIES_MAX)?;
     let mut priority_of = [0u8; BODIES_MAX];
     let mut task_numbers = 0u32;
+    let mut extended_numbers = 0u32;
     let mut autostart_numbers = 0u32;
     // The body that has a priority.
     let mut owner = [None::<u8>; PRIORITY_MAX as usize + 1];
     for (body, own) in priority_of.iter_mut().enumerate().take(bodies) {
-        let is_isr = fields.field(0, 1)? == 1;
+        let kind = fields.field(0, EXTENDED)?;
+        let is_isr = kind == ISR;
         let priority = fields.field(1, PRIORITY_MAX)?;
         if owner[priority as usize].is_some() {
             return refuse(6, fields.place);
@@ -172,6 +179,7 @@ pub fn read_config(bytes: &[u8]) -> Result<Config, Refusal> {
         *own = priority as u8;
         let autostart = fields.field(0, if is_isr { 0 } else { 1 })?;
         task_numbers |= u32::from(!is_isr) << body;
+        extended_numbers |= u32::from(kind == EXTENDED) << body;
         autostart_numbers |= autostart << body;
     }
     let all_bodies = u32::MAX >> (BODIES_MAX - bodies);
@@ -182,6 +190,7 @@ pub fn read_config(bytes: &[u8]) -> Result<Config, Refusal> {
         resources: 0,
         tables: 0,
         task_numbers,
+        extended_numbers,
         isr_numbers: all_bodies & !task_numbers,
         isr_ranks: 0,
         autostart_ranks: 0,
@@ -266,6 +275,11 @@ impl Config {
         id < BODIES_MAX as u32 && self.task_numbers >> id & 1 == 1
     }
 
+    /// Of a body's number.
+    pub fn is_extended(&self, body: u32) -> bool {
+        self.extended_numbers >> body & 1 == 1
+    }
+
     pub fn is_isr(&self, id: u32) -> bool {
         id < BODIES_MAX as u32 && self.isr_numbers >> id & 1 == 1
     }
@@ -311,6 +325,9 @@ pub enum Event {
     Line(u32),
     Start(u32, u32),
     Stop(u32),
+    Wait(u32),
+    Set(u32, u32),
+    Clear(u32),
 }
 
 /// The event at `at`, and the offset after it.
@@ -321,7 +338,12 @@ pub fn read_event(trace: &[u8], at: usize) -> Result<(Event, usize), Refusal> {
         read_number(trace, at).or_else(|fault| refuse(20 + fault.code, fault.place))
     }
     let (code, next) = number(trace, at)?;
-    let one = |event: fn(u32) -> Event| number(trace, next).map(|(id, next)| (event(id), next));
+    let one = |event: fn(u32) -> Event| number(trace, next).map(|(first, next)| (event(first), next));
+    let two = |event: fn(u32, u32) -> Event| {
+        let (first, next) = number(trace, next)?;
+        let (second, next) = number(trace, next)?;
+        Ok((event(first, second), next))
+    };
     match code {
         1 => one(Event::Activate),
         2 => Ok((Event::Finish, next)),
@@ -330,12 +352,11 @@ pub fn read_event(trace: &[u8], at: usize) -> Result<(Event, usize), Refusal> {
         5 => one(Event::Release),
         6 => Ok((Event::Tick, next)),
         7 => one(Event::Line),
-        8 => {
-            let (table, next) = number(trace, next)?;
-            let (delay, next) = number(trace, next)?;
-            Ok((Event::Start(table, delay), next))
-        }
+        8 => two(Event::Start),
         9 => one(Event::Stop),
+        10 => one(Event::Wait),
+        11 => two(Event::Set),
+        12 => one(Event::Clear),
         _ => refuse(23, at),
     }
 }
@@ -441,6 +462,7 @@ impl Timers for Cells {
 
 /// For each started table its next entry and the ticks until it is due. Offsets lie below the period, so a table's
 /// entries come round in their order.
+#[derive(Clone)]
 pub struct NextDue {
     on: u8,
     left: [u16; TABLES_MAX],
@@ -490,24 +512,29 @@ impl Timers for NextDue {
 
 // The kernel
 
-/// A started body and its current priority; at the bottom of the stack stands idle.
+/// A body that runs, or held a resource when it last ran, and its current priority; or idle.
 #[derive(Clone, Copy)]
 struct Frame {
     number: u8,
     rank: u8,
     level: u8,
-    /// How many resources the bodies below hold; those above are this one's.
-    held_below: u8,
+    /// The ranks above, one bit each; for idle all of them.
+    above: u32,
 }
 
-const IDLE_FRAME: Frame = Frame { number: IDLE, rank: 0, level: 0, held_below: 0 };
+const IDLE_FRAME: Frame = Frame { number: IDLE, rank: IDLE, level: 0, above: u32::MAX };
 
-#[derive(Clone, Copy, Default)]
+#[derive(Clone, Copy)]
 struct Held {
     resource: u8,
     /// The holder's current priority before it took this one.
     level_before: u8,
+    /// The holder at the level that it has with this one.
+    holder: Frame,
 }
+
+/// Below the first one held.
+const NOTHING_HELD: Held = Held { resource: 0, level_before: 0, holder: IDLE_FRAME };
 
 /// The status of an event, and who runs after it.
 #[derive(Clone, Copy, PartialEq, Eq, Debug)]
@@ -518,21 +545,24 @@ pub struct Answer {
     pub begun: u8,
 }
 
+#[derive(Clone)]
 pub struct Kernel<'c, T> {
     config: &'c Config,
     /// The ready list, one bit per rank: bodies that wait to begin, a started ISR's second request among them.
     ready: u32,
-    /// Started bodies, one bit per rank.
+    /// Started bodies that do not wait, and those that wait for an event, one bit per rank.
     started: u32,
+    waiting: u32,
     running: Frame,
-    /// The frames below the running one.
-    preempted: [Frame; BODIES_MAX],
-    depth: usize,
-    /// Resources held by all bodies in the order taken, and one bit for each of them.
-    held: [Held; RESOURCES_MAX],
-    held_count: u8,
+    /// Resources held by all bodies in the order taken, from place 1 on, and one bit for each of them. Who takes one runs
+    /// above every other holder's level, so the last one's holder has the greatest level of all that hold some.
+    held: [Held; RESOURCES_MAX + 1],
+    held_count: usize,
     taken: u16,
     timers: T,
+    /// Event bits and, while a task waits, the ones it waits for, by rank.
+    events: [u32; BODIES_MAX],
+    waited: [u32; BODIES_MAX],
     /// Lost activations and, in version 2, lost lines, by body number.
     losses: [u16; BODIES_MAX],
 }
@@ -547,13 +577,14 @@ impl<'c, T: Timers> Kernel<'c, T> {
             config,
             ready: config.autostart_ranks,
             started: 0,
+            waiting: 0,
             running: IDLE_FRAME,
-            preempted: [IDLE_FRAME; BODIES_MAX],
-            depth: 0,
-            held: [Held::default(); RESOURCES_MAX],
+            held: [NOTHING_HELD; RESOURCES_MAX + 1],
             held_count: 0,
             taken: 0,
             timers: T::stopped(config),
+            events: [0; BODIES_MAX],
+            waited: [0; BODIES_MAX],
             losses: [0; BODIES_MAX],
         };
         kernel.dispatch();
@@ -572,44 +603,61 @@ impl<'c, T: Timers> Kernel<'c, T> {
             Event::Line(isr) => self.line(isr),
             Event::Start(table, delay) => self.start(table, delay),
             Event::Stop(table) => self.stop(table),
+            Event::Wait(mask) => self.wait(mask),
+            Event::Set(task, mask) => self.set(task, mask),
+            Event::Clear(mask) => self.clear(mask),
         };
         let begun = self.dispatch();
         Answer { status, runner: self.running.number, level: self.running.level, begun }
     }
 
-    /// Lets the best ready body begin if it is above the level. One event never makes two begin.
+    /// Lets the best body run if its own priority is above the level: on an equal one the holder goes first. A body that
+    /// holds a resource has at most the level, so the best one has its own priority. 1 if it begins.
     #[inline(always)]
     fn dispatch(&mut self) -> u8 {
-        if self.ready == 0 {
+        let higher = (self.ready | self.started) & self.running.above;
+        if higher == 0 {
             return 0;
         }
-        let rank = self.ready.ilog2() as u8;
+        let rank = higher.ilog2() as u8;
         let own = self.config.priority[usize::from(rank)];
         if own <= self.running.level {
             return 0;
         }
-        self.ready &= !(1 << rank);
-        self.started |= 1 << rank;
-        self.preempted[self.depth] = self.running;
-        self.depth += 1;
+        let bit = 1 << rank;
+        let begins = bit & !self.started;
+        self.ready &= !begins;
+        self.started |= bit;
         let number = self.config.number[usize::from(rank)];
-        self.running = Frame { number, rank, level: own, held_below: self.held_count };
-        1
+        self.running = Frame { number, rank, level: own, above: (u32::MAX << rank) << 1 };
+        u8::from(begins != 0)
     }
 
+    /// The running body runs no more: the last holder is next, unless `dispatch` finds a better body.
     #[inline(always)]
-    fn end_running(&mut self) {
+    fn leave(&mut self) {
         self.started &= !(1 << self.running.rank);
-        self.depth -= 1;
-        self.running = self.preempted[self.depth];
+        self.running = self.held[self.held_count].holder;
     }
 
     fn is_idle(&self) -> bool {
-        self.depth == 0
+        self.running.number == IDLE
     }
 
+    /// Whether the running body holds a resource.
     fn holds_any(&self) -> bool {
-        self.held_count > self.running.held_below
+        self.held[self.held_count].holder.rank == self.running.rank
+    }
+
+    fn is_free(&self, bit: u32) -> bool {
+        (self.ready | self.started | self.waiting) & bit == 0
+    }
+
+    /// Makes a suspended task ready.
+    fn make_ready(&mut self, task: u32) {
+        let rank = usize::from(self.config.rank[task as usize]);
+        self.ready |= 1 << rank;
+        self.events[rank] = 0;
     }
 
     /// Whether anyone holds the resource.
@@ -628,11 +676,10 @@ impl<'c, T: Timers> Kernel<'c, T> {
         if !self.config.is_task(task) {
             return 3;
         }
-        let bit = self.rank_bit(task);
-        if (self.ready | self.started) & bit != 0 {
+        if !self.is_free(self.rank_bit(task)) {
             return 4;
         }
-        self.ready |= bit;
+        self.make_ready(task);
         0
     }
 
@@ -643,7 +690,7 @@ impl<'c, T: Timers> Kernel<'c, T> {
         if self.holds_any() {
             return 6;
         }
-        self.end_running();
+        self.leave();
         0
     }
 
@@ -657,12 +704,11 @@ impl<'c, T: Timers> Kernel<'c, T> {
         if self.holds_any() {
             return 6;
         }
-        let bit = self.rank_bit(task);
-        if (self.ready | self.started) & bit & !(1 << self.running.rank) != 0 {
+        if !self.is_free(self.rank_bit(task) & !(1 << self.running.rank)) {
             return 4;
         }
-        self.end_running();
-        self.ready |= bit;
+        self.leave();
+        self.make_ready(task);
         0
     }
 
@@ -680,10 +726,11 @@ impl<'c, T: Timers> Kernel<'c, T> {
             return 1;
         }
         let ceiling = self.config.ceiling[resource as usize];
-        self.held[usize::from(self.held_count)] = Held { resource: resource as u8, level_before: self.running.level };
+        let level_before = self.running.level;
+        self.running.level = level_before.max(ceiling);
         self.held_count += 1;
+        self.held[self.held_count] = Held { resource: resource as u8, level_before, holder: self.running };
         self.taken |= 1 << resource;
-        self.running.level = self.running.level.max(ceiling);
         0
     }
 
@@ -697,7 +744,7 @@ impl<'c, T: Timers> Kernel<'c, T> {
         if !self.holds_any() {
             return 5;
         }
-        let last = self.held[usize::from(self.held_count) - 1];
+        let last = self.held[self.held_count];
         if u32::from(last.resource) != resource {
             return 5;
         }
@@ -708,11 +755,12 @@ impl<'c, T: Timers> Kernel<'c, T> {
     }
 
     fn tick(&mut self) -> u8 {
-        let Kernel { config, ready, started, timers, losses, .. } = self;
+        let Kernel { config, ready, started, waiting, events, timers, losses, .. } = self;
         timers.tick(config, |rank| {
             let bit = 1 << rank;
-            if (*ready | *started) & bit == 0 {
+            if (*ready | *started | *waiting) & bit == 0 {
                 *ready |= bit;
+                events[usize::from(rank)] = 0;
             } else {
                 lose(&mut losses[usize::from(config.number[usize::from(rank)])]);
             }
@@ -767,6 +815,60 @@ impl<'c, T: Timers> Kernel<'c, T> {
         0
     }
 
+    fn wait(&mut self, mask: u32) -> u8 {
+        if self.is_idle() {
+            return 2;
+        }
+        if !self.config.is_extended(u32::from(self.running.number)) {
+            return 1;
+        }
+        if self.holds_any() {
+            return 6;
+        }
+        let rank = usize::from(self.running.rank);
+        if self.events[rank] & mask == 0 {
+            self.waiting |= 1 << rank;
+            self.waited[rank] = mask;
+            self.leave();
+        }
+        0
+    }
+
+    fn set(&mut self, task: u32, mask: u32) -> u8 {
+        if self.is_idle() {
+            return 2;
+        }
+        if !self.config.is_task(task) {
+            return 3;
+        }
+        if !self.config.is_extended(task) {
+            return 1;
+        }
+        let bit = self.rank_bit(task);
+        if self.is_free(bit) {
+            return 7;
+        }
+        let rank = usize::from(self.config.rank[task as usize]);
+        self.events[rank] |= mask;
+        // A task that waits has none of its bits, so only the new ones count.
+        if self.waiting & bit != 0 && self.waited[rank] & mask != 0 {
+            self.waiting &= !bit;
+            self.started |= bit;
+        }
+        0
+    }
+
+    fn clear(&mut self, mask: u32) -> u8 {
+        if self.is_idle() {
+            return 2;
+        }
+        if !self.config.is_extended(u32::from(self.running.number)) {
+            return 1;
+        }
+        self.events[usize::from(self.running.rank)] &= !mask;
+        0
+    }
+
     // What a drawer of traces looks at.
 
     /// The running body's number.
@@ -780,19 +882,38 @@ impl<'c, T: Timers> Kernel<'c, T> {
 
     /// How many bodies have begun and not ended.
     pub fn begun_bodies(&self) -> usize {
-        self.depth
+        (self.started | self.waiting).count_ones() as usize
+    }
+
+    pub fn waiting_bodies(&self) -> usize {
+        self.waiting.count_ones() as usize
     }
 
     pub fn held_resources(&self) -> usize {
-        usize::from(self.held_count)
+        self.held_count
     }
 
     pub fn is_suspended(&self, body: u32) -> bool {
-        (self.ready | self.started) & self.rank_bit(body) == 0
+        self.is_free(self.rank_bit(body))
     }
 
+    /// The body has begun and does not wait for an event.
     pub fn is_started(&self, body: u32) -> bool {
         self.started & self.rank_bit(body) != 0
+    }
+
+    /// The body waits for an event.
+    pub fn is_waiting(&self, body: u32) -> bool {
+        self.waiting & self.rank_bit(body) != 0
+    }
+
+    pub fn events(&self, body: u32) -> u32 {
+        self.events[usize::from(self.config.rank[body as usize])]
+    }
+
+    /// What a body that waits waits for.
+    pub fn waited(&self, body: u32) -> u32 {
+        self.waited[usize::from(self.config.rank[body as usize])]
     }
 
     /// A request of the body waits to begin.
@@ -807,16 +928,17 @@ impl<'c, T: Timers> Kernel<'c, T> {
 
     /// The running body's most recently taken resource.
     pub fn last_held(&self) -> Option<u32> {
-        self.holds_any().then(|| u32::from(self.held[usize::from(self.held_count) - 1].resource))
+        (!self.is_idle() && self.holds_any()).then(|| u32::from(self.held[self.held_count].resource))
     }
 
     pub fn is_on(&self, table: u32) -> bool {
         self.timers.is_on(table as usize)
     }
 
-    /// How many bodies would be left, started or ready, if the running one ended.
+    /// How many bodies would be left, ready or started and not waiting, if the running one ended.
     pub fn others(&self) -> u32 {
-        ((self.ready | self.started) & !(1 << self.running.rank)).count_ones()
+        let running = self.runner().map_or(0, |runner| self.rank_bit(runner));
+        ((self.ready | self.started) & !running).count_ones()
     }
 
     pub fn losses(&self) -> &[u16] {

@@ -1,5 +1,5 @@
 //! Document 01's plain scheduler with document 02's requests, as slow and as near to their words as can be: a set of bodies, the runner chosen
-//! afresh after every event, tables with d and n. No rank, ready list, stack, kept level or cell; nothing here is
+//! afresh after every event, tables with d and n. No rank, ready list, kept level or cell; nothing here is
 //! shared with `fast`, so that a misreading in one of the two shows as a difference.
 
 use std::collections::BTreeSet;
@@ -72,6 +72,8 @@ fn ensure(holds: bool, refusal: u64, place: usize) -> Result<(), Refused> {
 enum Kind {
     Task,
     Isr,
+    /// "Kind 2 is an extended task": a task wherever document 01 says task.
+    Extended,
 }
 
 #[derive(Clone, Copy, PartialEq, Eq, Debug)]
@@ -79,6 +81,10 @@ enum State {
     Suspended,
     Ready,
     Started,
+    /// "A waiting task keeps its place in its body and resumes .. once a waited bit is set".
+    Waiting {
+        mask: u64,
+    },
 }
 
 #[derive(Clone, Debug)]
@@ -89,6 +95,8 @@ struct Body {
     state: State,
     /// "for a started ISR also whether a request waits"
     request_waits: bool,
+    /// "32 event bits, cleared when it is activated from suspended"
+    events: u64,
     /// "its held resources in the order taken"
     held: Vec<usize>,
     losses: u64,
@@ -130,18 +138,19 @@ fn read_configuration(input: &[u8]) -> Result<Scheduler, Refused> {
     let mut bodies: Vec<Body> = Vec::new();
     for _ in 0..body_count {
         let (kind, at) = cursor.take()?;
-        ensure(kind <= 1, 5, at)?;
+        ensure(kind <= 2, 5, at)?;
         let (priority, at) = cursor.take()?;
         ensure((1..=200).contains(&priority), 5, at)?;
         ensure(bodies.iter().all(|other| other.priority != priority), 6, at)?;
         let (autostart, at) = cursor.take()?;
-        ensure(autostart == 0 || (autostart == 1 && kind == 0), 5, at)?;
+        ensure(autostart == 0 || (autostart == 1 && kind != 1), 5, at)?;
         bodies.push(Body {
-            kind: if kind == 0 { Kind::Task } else { Kind::Isr },
+            kind: [Kind::Task, Kind::Isr, Kind::Extended][kind as usize],
             priority,
             autostart: autostart == 1,
             state: State::Suspended,
             request_waits: false,
+            events: 0,
             held: Vec::new(),
             losses: 0,
         });
@@ -172,7 +181,7 @@ fn read_configuration(input: &[u8]) -> Result<Scheduler, Refused> {
             let (offset, at) = cursor.take()?;
             ensure(offset < period, 5, at)?;
             let (task, at) = cursor.take()?;
-            ensure(bodies.get(task as usize).is_some_and(|body| body.kind == Kind::Task), 5, at)?;
+            ensure(bodies.get(task as usize).is_some_and(|body| body.kind != Kind::Isr), 5, at)?;
             let entry = (offset, task as usize);
             ensure(entries.iter().all(|earlier| *earlier < entry), 7, at)?;
             entries.push(entry);
@@ -194,8 +203,8 @@ fn read_trace(input: &[u8]) -> Result<Vec<PlainEvent>, Refused> {
         let (code, at) = cursor.take()?;
         let arguments = match code {
             2 | 6 => 0,
-            1 | 3 | 4 | 5 | 7 | 9 => 1,
-            8 => 2,
+            1 | 3 | 4 | 5 | 7 | 9 | 10 | 12 => 1,
+            8 | 11 => 2,
             _ => return Err((23, at)),
         };
         let mut values = Vec::new();
@@ -219,13 +228,16 @@ impl Scheduler {
         ceilings.fold(self.bodies[body].priority, u64::max)
     }
 
-    /// "the body with the greatest current priority among ready and started ones runs; on equal priorities the one
-    /// that already began goes first". A ready one becomes started; true if one did.
+    /// "the body with the greatest current priority among ready and started ones runs"; "On equal current priority the body
+    /// holding a resource goes first, in place of the one that began." A ready one becomes started; true if one did.
     fn choose(&mut self) -> bool {
-        let competes = |body: &usize| self.bodies[*body].state != State::Suspended;
-        let began = |body: usize| self.bodies[body].state == State::Started;
-        self.runner =
-            (0..self.bodies.len()).filter(competes).max_by_key(|body| (self.current_priority(*body), began(*body)));
+        let competes = |body: &usize| matches!(self.bodies[*body].state, State::Ready | State::Started);
+        let place = |body: &usize| (self.current_priority(*body), !self.bodies[*body].held.is_empty());
+        let candidates: Vec<usize> = (0..self.bodies.len()).filter(competes).collect();
+        let first = candidates.iter().map(place).max();
+        let runners: Vec<usize> = candidates.into_iter().filter(|body| Some(place(body)) == first).collect();
+        assert!(runners.len() <= 1, "the rule decides");
+        self.runner = runners.first().copied();
         match self.runner {
             Some(body) if self.bodies[body].state == State::Ready => {
                 self.bodies[body].state = State::Started;
@@ -236,17 +248,23 @@ impl Scheduler {
     }
 
     fn fresh_start(&mut self) {
-        for body in &mut self.bodies {
-            if body.autostart {
-                body.state = State::Ready;
+        for body in 0..self.bodies.len() {
+            if self.bodies[body].autostart {
+                self.activate(body);
             }
         }
         self.choose();
     }
 
+    /// Makes a suspended task ready.
+    fn activate(&mut self, task: usize) {
+        self.bodies[task].state = State::Ready;
+        self.bodies[task].events = 0;
+    }
+
     fn task(&self, id: u64) -> Option<usize> {
         let id = usize::try_from(id).ok()?;
-        (self.bodies.get(id)?.kind == Kind::Task).then_some(id)
+        (self.bodies.get(id)?.kind != Kind::Isr).then_some(id)
     }
 
     fn isr(&self, id: u64) -> Option<usize> {
@@ -269,7 +287,7 @@ impl Scheduler {
     /// Status 3: "no such task, resource, table or, for Line, ISR".
     fn no_such(&self, code: u64, id: u64) -> bool {
         match code {
-            1 | 3 => self.task(id).is_none(),
+            1 | 3 | 11 => self.task(id).is_none(),
             4 | 5 => id >= self.resources.len() as u64,
             7 => self.isr(id).is_none(),
             8 | 9 => id >= self.tables.len() as u64,
@@ -293,9 +311,14 @@ impl Scheduler {
         self.runner.is_some_and(|runner| !self.bodies[runner].held.is_empty())
     }
 
-    /// Status 1: "r is held by anyone".
-    fn no_access(&self, resource: usize) -> bool {
-        self.bodies.iter().any(|body| body.held.contains(&resource))
+    /// Status 1: "r is held by anyone"; for Wait and Clear that the runner, for Set that the named task is "not extended".
+    fn no_access(&self, code: u64, id: usize) -> bool {
+        match code {
+            4 => self.bodies.iter().any(|body| body.held.contains(&id)),
+            10 | 12 => self.runner.is_none_or(|runner| self.bodies[runner].kind != Kind::Extended),
+            11 => self.bodies[id].kind != Kind::Extended,
+            _ => unreachable!("the event has no such status"),
+        }
     }
 
     /// Status 33: "not a declared user".
@@ -308,6 +331,15 @@ impl Scheduler {
         match code {
             5 => self.runner.is_none_or(|runner| self.bodies[runner].held.last() != Some(&id)),
             9 => self.tables[id].progress == Progress::Stopped,
+            _ => unreachable!("the event has no such status"),
+        }
+    }
+
+    /// Status 7: "the table already runs"; for Set that the task is "suspended".
+    fn bad_state(&self, code: u64, id: usize) -> bool {
+        match code {
+            8 => self.tables[id].progress != Progress::Stopped,
+            11 => self.suspended(id),
             _ => unreachable!("the event has no such status"),
         }
     }
@@ -330,18 +362,21 @@ impl Scheduler {
             7 => &[3, 4],
             8 => &[2, 3, 8, 7],
             9 => &[2, 3, 5],
+            10 => &[2, 1, 6],
+            11 => &[2, 3, 1, 7],
+            12 => &[2, 1],
             _ => unreachable!("the trace was read"),
         };
         let id = || arguments[0] as usize;
         for status in order {
             let applies = match status {
-                1 => self.no_access(id()),
+                1 => self.no_access(code, id()),
                 2 => self.call_level(code),
                 3 => self.no_such(code, arguments[0]),
                 4 => self.limit(code, id()),
                 5 => self.no_function(code, id()),
                 6 => self.holds(),
-                7 => self.tables[id()].progress != Progress::Stopped,
+                7 => self.bad_state(code, id()),
                 8 => self.bad_delay(id(), arguments[1]),
                 33 => self.no_user(id()),
                 _ => unreachable!("the event has no such status"),
@@ -381,7 +416,7 @@ impl Scheduler {
         }
         for task in due {
             if self.suspended(task) {
-                self.bodies[task].state = State::Ready;
+                self.activate(task);
             } else {
                 self.lose(task);
             }
@@ -396,11 +431,11 @@ impl Scheduler {
     fn take_effect(&mut self, code: u64, arguments: &[u64]) {
         let id = || arguments[0] as usize;
         match code {
-            1 => self.bodies[id()].state = State::Ready,
+            1 => self.activate(id()),
             2 => self.finish(),
             3 => {
                 self.finish();
-                self.bodies[id()].state = State::Ready;
+                self.activate(id());
             }
             4 => {
                 let runner = self.runner.expect("status 2 was checked");
@@ -421,6 +456,27 @@ impl Scheduler {
             }
             8 => self.tables[id()].progress = Progress::Running { d: arguments[1], n: 0 },
             9 => self.tables[id()].progress = Progress::Stopped,
+            10 => {
+                // "Wait on a bit already set goes on at once".
+                let mask = arguments[0];
+                let body = &mut self.bodies[self.runner.expect("status 2 was checked")];
+                if body.events & mask == 0 {
+                    body.state = State::Waiting { mask };
+                }
+            }
+            11 => {
+                let body = &mut self.bodies[id()];
+                body.events |= arguments[1];
+                if let State::Waiting { mask } = body.state {
+                    if body.events & mask != 0 {
+                        body.state = State::Started;
+                    }
+                }
+            }
+            12 => {
+                let runner = self.runner.expect("status 2 was checked");
+                self.bodies[runner].events &= !arguments[0];
+            }
             _ => unreachable!("the trace was read"),
         }
     }

@@ -10,7 +10,7 @@ const TRACE_TOO_LONG: u64 = 20;
 const TOO_SHORT: u64 = 30;
 
 /// How many arguments follow each code, from 1 on.
-const ARGUMENTS: [usize; 9] = [1, 0, 1, 1, 1, 0, 1, 2, 1];
+const ARGUMENTS: [usize; 12] = [1, 0, 1, 1, 1, 0, 1, 2, 1, 1, 2, 1];
 
 /// The number at the head of `bytes`, if one can be read, and how many bytes it takes.
 fn number(bytes: &[u8]) -> Option<(u64, usize)> {

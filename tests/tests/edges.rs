@@ -1,31 +1,9 @@
 //! Document 01's listing and edges, worked by hand, shown by every implementation. P6 and P11 lie beyond a run's length and
 //! stand with the cells in src/fast.rs.
 
-use osek_tests::cases::{push_number, Case};
-use osek_tests::compare::{check, others};
-use osek_tests::fast::OUTPUT_MAX;
-use osek_tests::guard::GuardedRun;
-use osek_tests::listing::{listing, DOCUMENT_CONFIG, DOCUMENT_LISTING, DOCUMENT_TRACE};
-
-/// What every implementation gives, as a listing.
-fn shown(config: &[u8], trace: &[u8]) -> String {
-    let case = Case { config: config.to_vec(), trace: trace.to_vec(), out_len: OUTPUT_MAX, fill: 77 };
-    match check(&case, &others(), &mut GuardedRun::default()) {
-        Ok((result, out)) => listing(config, trace, result, &out),
-        Err(difference) => panic!("{difference}"),
-    }
-}
-
-#[track_caller]
-fn assert_rows(config: &[u8], trace: &[u8], rows: &str) {
-    let rows: String = rows.lines().map(|row| format!("{}\n", row.trim())).collect();
-    assert_eq!(shown(config, trace), format!("step event status runner level begun\n{rows}"));
-}
-
-#[track_caller]
-fn assert_refused(config: &[u8], trace: &[u8], code: u32, place: usize) {
-    assert_eq!(shown(config, trace), format!("refused {code} {place}\n"));
-}
+use osek_tests::by_hand::{assert_refused, assert_rows, number, shown, Script};
+use osek_tests::cases::push_number;
+use osek_tests::listing::{DOCUMENT_CONFIG, DOCUMENT_LISTING, DOCUMENT_TRACE};
 
 /// One autostart task of priority 1.
 const ONE_TASK: [u8; 7] = [1, 1, 0, 1, 1, 0, 0];
@@ -570,21 +548,6 @@ fn priority(body: u8) -> u8 {
     3 * body + 1
 }
 
-/// A trace and its rows, written side by side.
-#[derive(Default)]
-struct Script {
-    trace: Vec<u8>,
-    rows: Vec<String>,
-}
-
-impl Script {
-    /// An event and what it gives: status, runner, level, begun mark.
-    fn event(&mut self, event: &[u8], status: u8, runner: &str, level: u8, begun: u8) {
-        self.rows.push(format!("{} {} {status} {runner} {level} {begun}", self.rows.len(), event[0]));
-        self.trace.extend(event);
-    }
-}
-
 #[test]
 fn all_32_bodies_are_preempted_in_turn_and_come_back() {
     let config = [rising_tasks(32), vec![0, 0]].concat();
@@ -597,7 +560,7 @@ fn all_32_bodies_are_preempted_in_turn_and_come_back() {
     }
     script.event(&[2], 0, "-", 0, 0);
     script.event(&[2], 2, "-", 0, 0);
-    assert_rows(&config, &script.trace, &script.rows.join("\n"));
+    script.assert(&config);
 }
 
 #[test]
@@ -621,7 +584,7 @@ fn bodies_that_hold_all_16_resources_come_back_at_their_levels() {
             None => script.event(&[2], 0, "-", 0, 0),
         }
     }
-    assert_rows(&config, &script.trace, &script.rows.join("\n"));
+    script.assert(&config);
 }
 
 #[test]
@@ -638,11 +601,5 @@ fn one_body_holds_all_16_resources_and_gives_them_back() {
         script.event(&[5, k], 0, "0", priority(k), 0);
         script.event(&[5, k], 5, "0", priority(k), 0);
     }
-    assert_rows(&config, &script.trace, &script.rows.join("\n"));
-}
-
-fn number(value: u32) -> Vec<u8> {
-    let mut bytes = Vec::new();
-    push_number(&mut bytes, value);
-    bytes
+    script.assert(&config);
 }

@@ -49,7 +49,7 @@ fn names_of_the_index_stand_in_their_files() {
     let rows = rows("docs/READING.md", "Where each event stands");
     let (head, rows) = rows[1..].split_first().expect("the index has rows");
     let (events, parts): (Vec<_>, Vec<_>) = rows.iter().partition(|row| row.len() == head.len());
-    assert_eq!(events.len(), 9);
+    assert_eq!(events.len(), 12);
     for row in events {
         for (folder, cell) in head[1..].iter().zip(&row[1..]) {
             let name = names(cell)[0];

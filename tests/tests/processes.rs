@@ -128,7 +128,7 @@ fn each_refusal_is_printed_with_its_place() {
         (vec![0x81, 0], &[], "refused 2 1\n"),
         (config(0, 3), &[], "refused 3 0\n"),
         (config(1, 33), &[], "refused 4 1\n"),
-        (config(2, 2), &[], "refused 5 2\n"),
+        (config(2, 3), &[], "refused 5 2\n"),
         (config(6, 2), &[], "refused 6 6\n"),
         (config(18, 0), &[], "refused 7 19\n"),
         (many, &[], "refused 8 144\n"),
@@ -138,7 +138,7 @@ fn each_refusal_is_printed_with_its_place() {
         (DOCUMENT_CONFIG.to_vec(), &[6, 1], "refused 21 2\n"),
         (DOCUMENT_CONFIG.to_vec(), &[6, 1, 0x80, 0x80], "refused 21 4\n"),
         (DOCUMENT_CONFIG.to_vec(), &[6, 1, 0x80, 0], "refused 22 3\n"),
-        (DOCUMENT_CONFIG.to_vec(), &[6, 10], "refused 23 1\n"),
+        (DOCUMENT_CONFIG.to_vec(), &[6, 13], "refused 23 1\n"),
         (DOCUMENT_CONFIG.to_vec(), &[0], "refused 23 0\n"),
     ];
     for (config, trace, line) in refused {

@@ -130,7 +130,7 @@ fn a_count_out_of_range_is_4() {
 #[test]
 fn a_field_out_of_range_is_5() {
     let fields: [(usize, usize, &[u8]); 18] = [
-        (2, 1, &[2]),
+        (2, 1, &[3]),
         (3, 1, &[0]),
         (3, 1, &[0xc9, 1]),
         (4, 1, &[2]),
@@ -152,6 +152,15 @@ fn a_field_out_of_range_is_5() {
     for (place, length, bytes) in fields {
         assert_config(&with(place, length, bytes), 5, place as u64);
     }
+}
+
+#[test]
+fn an_extended_task_is_a_task_to_autostart_and_entries() {
+    assert_eq!(result(&with(2, 1, &[2]), &[], 6), (0, 0));
+    assert_eq!(result(&with(8, 1, &[2]), &[], 6), (0, 0));
+    // An autostart of 2 is none, and a mask or an entry of body 3 names nobody.
+    assert_config(&with(2, 3, &[2, 1, 2]), 5, 4);
+    assert_config(&with(8, 1, &[3]), 5, 8);
 }
 
 #[test]
@@ -241,13 +250,15 @@ fn a_trace_over_8_192_bytes_is_20() {
 }
 
 /// What stands before a number of a trace: the first code, a later one, a first and a second argument.
-const BEFORE_NUMBERS: [&[u8]; 6] = [&[], &[6, 1, 0], &[1], &[6, 8], &[8, 0], &[6, 8, 0x80, 1]];
+const BEFORE_NUMBERS: [&[u8]; 10] =
+    [&[], &[6, 1, 0], &[1], &[6, 8], &[8, 0], &[6, 8, 0x80, 1], &[10], &[6, 11], &[11, 0x80, 1], &[12]];
 
 #[test]
 fn a_trace_that_ends_early_is_21_at_its_end() {
-    for code in [1, 3, 4, 5, 7, 8, 9] {
+    for code in [1, 3, 4, 5, 7, 8, 9, 10, 11, 12] {
         assert_trace(&[6, code], 21, 2);
     }
+    assert_trace(&[11, 0], 21, 2);
     assert_trace(&[8, 0], 21, 2);
     assert_trace(&[8, 0x80, 1], 21, 3);
     for before in BEFORE_NUMBERS {
@@ -269,7 +280,7 @@ fn a_bad_number_in_the_trace_is_22_at_the_byte_that_decides() {
 
 #[test]
 fn an_unknown_event_code_is_23_before_its_arguments() {
-    for code in [&[0][..], &[10], &[11], &[0x7f], &[0x81, 1], &[0xff, 0xff, 0xff, 0xff, 0x0f]] {
+    for code in [&[0][..], &[13], &[14], &[0x7f], &[0x81, 1], &[0x8a, 1], &[0xff, 0xff, 0xff, 0xff, 0x0f]] {
         let mut trace = vec![6, 1, 0];
         trace.extend(code);
         assert_trace(&trace, 23, 3);
