@@ -78,6 +78,14 @@ fn step(fault: &str, kernel: &mut Kernel<NextDue>, config: &fast::Config, event:
         }
         ("tenth_tick_lost", Event::Tick) if ticks == 10 => Answer { status: 0, ..looked(kernel) },
         ("delay_one_short", Event::Start(table, delay)) if delay > 1 => kernel.step(Event::Start(table, delay - 1)),
+        ("set_bit_forgotten", Event::Wait(_)) => {
+            kernel.step(Event::Clear(u32::MAX));
+            kernel.step(event)
+        }
+        ("resumed_begins", Event::Set(task, _)) if task < 32 && kernel.is_waiting(task) => {
+            let answer = kernel.step(event);
+            Answer { begun: u8::from(kernel.runner() == Some(task)), ..answer }
+        }
         ("release_ends_the_body", Event::Release(_)) => {
             let answer = kernel.step(event);
             if answer.status == 0 && answer.begun == 0 && kernel.last_held().is_none() {

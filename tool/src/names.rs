@@ -28,7 +28,7 @@ impl Names {
             Sort::Body => &self.bodies,
             Sort::Resource => &self.resources,
             Sort::Table => &self.tables,
-            Sort::Delay => &[],
+            Sort::Delay | Sort::Mask => &[],
         }
     }
 
@@ -38,7 +38,7 @@ impl Names {
             Sort::Body => self.bodies.push(name),
             Sort::Resource => self.resources.push(name),
             Sort::Table => self.tables.push(name),
-            Sort::Delay => {}
+            Sort::Delay | Sort::Mask => {}
         }
     }
 
@@ -47,8 +47,11 @@ impl Names {
         self.list(sort).iter().position(|known| known == name).map(|number| number as u32)
     }
 
-    /// The name of the thing of this sort and number; the number itself if there is no such thing.
+    /// The name of the thing of this sort and number; the number itself if there is no such thing, in hex for a mask.
     pub fn name(&self, sort: Sort, number: u32) -> String {
+        if sort == Sort::Mask {
+            return format!("{number:#x}");
+        }
         self.list(sort).get(number as usize).cloned().unwrap_or_else(|| number.to_string())
     }
 

@@ -15,6 +15,7 @@ pub enum Sort {
     Resource,
     Table,
     Delay,
+    Mask,
 }
 
 impl Sort {
@@ -24,6 +25,7 @@ impl Sort {
             Sort::Resource => "resource",
             Sort::Table => "table",
             Sort::Delay => "delay",
+            Sort::Mask => "mask",
         }
     }
 }
@@ -60,9 +62,10 @@ const NO_RESOURCE: (u8, &str) = (3, "no resource has this number");
 const NO_TABLE: (u8, &str) = (3, "no table has this number");
 const NOT_SUSPENDED: (u8, &str) = (4, "the task is not suspended");
 const HOLDS: (u8, &str) = (6, "the running body holds a resource");
+const RUNNER_NOT_EXTENDED: (u8, &str) = (1, "the running body is no extended task");
 const REQUEST_WAITS: (u8, &str) = (4, "a request of this ISR waits already");
 
-pub const EVENTS: [EventWord; 9] = [
+pub const EVENTS: [EventWord; 12] = [
     EventWord {
         code: 1,
         name: "Activate",
@@ -123,6 +126,27 @@ pub const EVENTS: [EventWord; 9] = [
         word: "stop",
         arguments: &[Sort::Table],
         statuses: &[NOBODY_RUNS, NO_TABLE, (5, "the table is stopped")],
+    },
+    EventWord {
+        code: 10,
+        name: "Wait",
+        word: "wait",
+        arguments: &[Sort::Mask],
+        statuses: &[NOBODY_RUNS, RUNNER_NOT_EXTENDED, HOLDS],
+    },
+    EventWord {
+        code: 11,
+        name: "Set",
+        word: "set",
+        arguments: &[Sort::Body, Sort::Mask],
+        statuses: &[NOBODY_RUNS, NO_TASK, (1, "the task is no extended task"), (7, "the task is suspended")],
+    },
+    EventWord {
+        code: 12,
+        name: "Clear",
+        word: "clear",
+        arguments: &[Sort::Mask],
+        statuses: &[NOBODY_RUNS, RUNNER_NOT_EXTENDED],
     },
 ];
 
@@ -193,9 +217,17 @@ pub struct KindWord {
     pub in_tables: bool,
 }
 
-pub const KINDS: [KindWord; 2] = [
+pub const KINDS: [KindWord; 3] = [
     KindWord { number: 0, word: "task", name: "task", request: "activation", autostarts: true, in_tables: true },
     KindWord { number: 1, word: "isr", name: "ISR", request: "line", autostarts: false, in_tables: false },
+    KindWord {
+        number: 2,
+        word: "extended",
+        name: "extended task",
+        request: "activation",
+        autostarts: true,
+        in_tables: true,
+    },
 ];
 
 pub fn kind(number: u32) -> Option<&'static KindWord> {

@@ -14,9 +14,9 @@ pub const COMMAND: Command = Command {
     usage: &["CONFIG TRACE [--vcd OUT] [--svg OUT] [--json OUT]", "LOGGER [..]"],
     summary: "who runs when: VCD, SVG or trace events",
     details: "\
-Draws an accepted run: for each body whether it is suspended, ready, running or preempted, the runner, the level, the
-statuses, and the losses at the event at which they happen. At least one of the three is needed; OUT may be - for
-standard output.
+Draws an accepted run: for each body whether it is suspended, ready, running, preempted or waiting, the runner, the
+level, the statuses, and the losses at the event at which they happen. At least one of the three is needed; OUT may be
+- for standard output.
 
   --vcd OUT    a value change dump, for GTKWave; a tick is 1 ms, and the events between two ticks are spread evenly
   --svg OUT    a picture: a column for each event, ticks that change nothing taken together

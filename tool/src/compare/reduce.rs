@@ -4,7 +4,7 @@ use osek_tests::cases::{push_number, Case};
 use osek_tests::shrink::{fewest, shrink};
 
 use crate::layout::{self, Objects};
-use crate::words::{EventWord, Sort};
+use crate::words::{self, EventWord, Sort, KINDS};
 
 /// A case that `differs`, as small as can be found.
 pub fn reduce(case: &Case, differs: impl Fn(&Case) -> bool) -> Case {
@@ -160,21 +160,40 @@ impl Pieces {
             }
         };
         changed(&|other| other.rank());
+        changed(&|other| other.shift_masks());
         for body in 0..self.objects.bodies.len() {
             changed(&|other| other.objects.bodies[body].autostart = 0);
+            // Another kind that may stand wherever this one does.
+            let simplest =
+                |kind: u32| words::kind(kind).filter(|kind| kind.in_tables).map_or(kind, |_| KINDS[0].number);
+            changed(&|other| other.objects.bodies[body].kind = simplest(other.objects.bodies[body].kind));
         }
         for table in 0..self.objects.tables.len() {
             changed(&|other| other.objects.tables[table].shorten());
         }
         for (index, (word, arguments)) in self.events.iter().enumerate() {
-            for (place, _) in word.arguments.iter().enumerate().filter(|(_, sort)| **sort == Sort::Delay) {
-                let delay = arguments[place];
-                for less in [1, 2, delay / 2, delay.saturating_sub(1)].into_iter().filter(|less| *less < delay) {
+            for (place, sort) in word.arguments.iter().enumerate() {
+                let number = arguments[place];
+                let tried = match sort {
+                    Sort::Delay => vec![1, 2, number / 2, number.saturating_sub(1)],
+                    // No bit, the first one, one less.
+                    Sort::Mask => vec![0, 1, number & number.wrapping_neg(), number & number.saturating_sub(1)],
+                    _ => vec![],
+                };
+                for less in tried.into_iter().filter(|less| *less < number) {
                     changed(&|other| other.events[index].1[place] = less);
                 }
             }
         }
         all
+    }
+
+    /// Every mask with its bits one place lower: those that meet still do.
+    fn shift_masks(&mut self) {
+        for (word, arguments) in &mut self.events {
+            let masks = arguments.iter_mut().zip(word.arguments).filter(|(_, sort)| **sort == Sort::Mask);
+            masks.for_each(|(mask, _)| *mask >>= 1);
+        }
     }
 
     /// Priorities 1, 2, .. in the order that they have.

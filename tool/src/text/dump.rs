@@ -9,7 +9,7 @@ use super::{BYTES, NUMBER, TRACE};
 use crate::fields;
 use crate::layout::{self, Break, Field, Number};
 use crate::names::Names;
-use crate::words;
+use crate::words::{self, Sort};
 use osek_tests::compare::hex;
 
 /// A statement, or none, beside one number or some bytes.
@@ -135,8 +135,8 @@ fn event_rows(bytes: &[u8], event: &layout::Event, step: usize, times: usize, na
     for (sort, argument) in event.word.arguments.iter().zip(&event.arguments) {
         let name = names.name(*sort, argument.value);
         let number = argument.value.to_string();
-        let known = if name == number { String::new() } else { format!(" {name}") };
-        rows.push(number_row(bytes, String::new(), argument, format!("{} {number}{known}", sort.name())));
+        let value = if *sort == Sort::Mask || name == number { name } else { format!("{number} {name}") };
+        rows.push(number_row(bytes, String::new(), argument, format!("{} {value}", sort.name())));
     }
     rows
 }

@@ -30,6 +30,7 @@ fn event(out: &mut Assembled, line: &mut Line, names: &Names) -> Result<(), Faul
     for sort in word.arguments {
         arguments.push(match sort {
             Sort::Delay => line.number("the delay, a number")?,
+            Sort::Mask => line.number("the mask, a number")?,
             named => {
                 let (reference, at) = line.reference(named.name())?;
                 (resolve(names, *named, &reference, at)?, at)

@@ -15,16 +15,17 @@ use crate::layout::{self, Body, Event};
 use crate::names::Names;
 use crate::reference::{self, Answer, Run};
 
-/// Document 01's states, with OSEK's words for a started body: it runs or is preempted.
+/// The documents' states, with OSEK's words for a started body: it runs or is preempted, or waits for an event.
 #[derive(Clone, Copy, PartialEq, Eq, Debug)]
 pub enum State {
     Suspended,
     Ready,
     Running,
     Preempted,
+    Waiting,
 }
 
-pub const STATES: [State; 4] = [State::Suspended, State::Ready, State::Running, State::Preempted];
+pub const STATES: [State; 5] = [State::Suspended, State::Ready, State::Running, State::Preempted, State::Waiting];
 
 impl State {
     pub fn word(self) -> &'static str {
@@ -33,6 +34,7 @@ impl State {
             State::Ready => "ready",
             State::Running => "running",
             State::Preempted => "preempted",
+            State::Waiting => "waiting",
         }
     }
 }
@@ -143,6 +145,8 @@ fn moment(kernel: &Kernel<NextDue>, bodies: usize) -> Moment {
     let state = |body: u32| {
         if runner == Some(body) {
             State::Running
+        } else if kernel.is_waiting(body) {
+            State::Waiting
         } else if kernel.is_started(body) {
             State::Preempted
         } else if kernel.is_suspended(body) {
@@ -171,7 +175,7 @@ mod tests {
     use crate::input::{Config, Source};
     use crate::words;
     use osek_tests::cases;
-    use std::collections::BTreeSet;
+    use std::collections::{BTreeMap, BTreeSet};
 
     /// Whether a request of the body waits, by what the library answers if the body is asked for after the trace.
     fn refused_at_its_limit(config: &[u8], trace: &[u8], body: usize, kind: u32) -> bool {
@@ -183,11 +187,27 @@ mod tests {
         run.answers.last().expect("it has an event").status == LIMIT
     }
 
-    /// The bodies that have begun and not ended, by the answers alone.
-    fn started_after(started: &mut BTreeSet<usize>, before: Option<u8>, step: &Step) {
-        let ends = matches!(step.event.word.name, "Finish" | "Chain");
-        if let (true, 0, Some(runner)) = (ends, step.answer.status, before) {
-            started.remove(&usize::from(runner));
+    /// The bodies that have begun and not ended, and what those wait for that wait, by the events and answers alone.
+    fn started_after(
+        started: &mut BTreeSet<usize>,
+        waited: &mut BTreeMap<usize, u32>,
+        before: Option<u8>,
+        step: &Step,
+    ) {
+        let arguments: Vec<u32> = step.event.arguments.iter().map(|argument| argument.value).collect();
+        if let (0, Some(runner)) = (step.answer.status, before) {
+            match step.event.word.name {
+                "Finish" | "Chain" => _ = started.remove(&usize::from(runner)),
+                // A Wait that goes on changes nothing.
+                "Wait" if step.answer.runner != before => _ = waited.insert(runner.into(), arguments[0]),
+                "Set" => {
+                    let task = arguments[0] as usize;
+                    if waited.get(&task).is_some_and(|mask| mask & arguments[1] != 0) {
+                        waited.remove(&task);
+                    }
+                }
+                _ => {}
+            }
         }
         if let (1, Some(runner)) = (step.answer.begun, step.answer.runner) {
             started.insert(runner.into());
@@ -197,7 +217,7 @@ mod tests {
     #[test]
     fn states_and_losses_are_what_the_library_answers() {
         let mut seen = [0; STATES.len()];
-        for case in (0..150).map(|number| cases::case(17, number)).filter(|case| case.trace.len() < 150) {
+        for case in (0..400).map(|number| cases::case(17, number)).filter(|case| case.trace.len() < 150) {
             let Ok(run) = reference::run(&case.config, &case.trace) else { continue };
             let pair = Pair {
                 config: Config::of_bytes("config", case.config.clone()),
@@ -206,8 +226,9 @@ mod tests {
             let timeline = Timeline::of(pair, &run).expect("the versions agree");
             let mut before = timeline.fresh.runner;
             let mut started: BTreeSet<usize> = before.into_iter().map(usize::from).collect();
+            let mut waited = BTreeMap::new();
             for step in &timeline.steps {
-                started_after(&mut started, before, step);
+                started_after(&mut started, &mut waited, before, step);
                 before = step.answer.runner;
                 let prefix = &case.trace[..step.event.end];
                 let so_far = reference::run(&case.config, prefix).expect("a prefix of events is accepted");
@@ -215,6 +236,7 @@ mod tests {
                 for (body, state) in step.after.states.iter().enumerate() {
                     let asked = || refused_at_its_limit(&case.config, prefix, body, timeline.bodies[body].kind);
                     let expected = match before {
+                        _ if waited.contains_key(&body) => State::Waiting,
                         None => State::Suspended,
                         Some(runner) if usize::from(runner) == body => State::Running,
                         _ if started.contains(&body) => State::Preempted,

@@ -11,7 +11,7 @@ for row, event in zip(rows, run["events"]):
     runner = "-" if event["runner"] is None else event["runner"]
     values = [event["step"], event["code"], event["status"], runner, event["level"], event["begun"]]
     assert row == " ".join(map(str, values)), (row, event)
-    assert event["event"].split()[0] in ("Activate Finish Chain Get Release Tick Line Start Stop").split()
+    assert event["event"].split()[0] in ("Activate Finish Chain Get Release Tick Line Start Stop Wait Set Clear").split()
     assert len(event["event"].split()) == 1 + len(event["arguments"])
     assert (event["runner"] is None) == (event["runner_name"] is None)
 lost = [f"lost {body['body']} {body['lost']}" for body in run["bodies"] if body["lost"] > 0]

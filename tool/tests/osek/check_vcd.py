@@ -62,6 +62,6 @@ for row, time in zip(rows, times):
     assert now["run/runner"] == "-" if runner is None else number(now["run/runner"]) == runner, (row, now)
     running = [name for name in states if now[name] == "running"]
     assert [number(name.split("/")[1]) for name in running] == ([] if runner is None else [runner]), (row, now)
-    assert all(now[name] in ("suspended", "ready", "running", "preempted") for name in states)
+    assert all(now[name] in ("suspended", "ready", "running", "preempted", "waiting") for name in states)
 lost = {number(name.split("/")[1]): now[name] for name in now if name.startswith("losses/") and now[name]}
 assert lost == losses, (lost, losses)

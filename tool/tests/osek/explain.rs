@@ -40,7 +40,7 @@ fn each_refusal_of_the_configuration_is_a_sentence() {
         (damaged(11, &[17]), "4 11", "offset 11: the resource count is 17. Allowed: 0 to 16."),
         (damaged(13, &[9]), "4 13", "offset 13: the table count is 9. Allowed: 0 to 8."),
         (damaged(15, &[0]), "4 15", "offset 15: the entry count of table 0 table0 is 0. Allowed: 1 to 16."),
-        (damaged(2, &[2]), "5 2", "offset 2: the kind of body 0 body0 is 2. Allowed: 0 (task) or 1 (ISR)."),
+        (damaged(2, &[3]), "5 2", "offset 2: the kind of body 0 body0 is 3. Allowed: 0 (task), 1 (ISR) or 2 (extended task)."),
         (damaged(3, &[0xc9, 1]), "5 3", "offset 3: the priority of body 0 task0 is 201. Allowed: 1 to 200, each used once."),
         (damaged(4, &[2]), "5 4", "offset 4: the autostart of body 0 task0 is 2. Allowed: 0 or 1."),
         (damaged(10, &[1]), "5 10", "offset 10: the autostart of body 2 isr2 is 1. Allowed: 0, because it is an ISR."),
@@ -99,8 +99,8 @@ fn each_refusal_of_the_trace_is_a_sentence() {
             "22 5",
             "offset 5: the table of event 0 Stop is above 4,294,967,295: the fifth byte of FF FF FF FF 10 may be at most 0F.",
         ),
-        (&[6, 0x80, 1], "23 1", "offset 1: the code of event 1 is 128. Allowed: 1 to 9."),
-        (&[0], "23 0", "offset 0: the code of event 0 is 0. Allowed: 1 to 9."),
+        (&[6, 0x80, 1], "23 1", "offset 1: the code of event 1 is 128. Allowed: 1 to 12."),
+        (&[0], "23 0", "offset 0: the code of event 0 is 0. Allowed: 1 to 12."),
     ];
     let folder = Folder::document();
     for (trace, refusal, sentence) in cases {
@@ -153,6 +153,25 @@ accepted: 17 events, 3 with a status other than 0
 event 4 Chain high while door runs: status 2 E_OS_CALLEVEL: nobody runs, or an ISR does
 event 6 Finish while low runs: status 6 E_OS_RESOURCE: the running body holds a resource
 event 16 Finish while nobody runs: status 2 E_OS_CALLEVEL: nobody runs
+",
+        0,
+    );
+}
+
+#[test]
+fn what_is_refused_about_events_is_told() {
+    let text = "version 1\ntask plain priority 2 autostart\nextended radio priority 5\nisr door priority 9\n\
+                resource flash users radio\ntrace\nwait 1\nclear 0x3\nset door 1\nset plain 1\nset radio 1\n\
+                activate radio\nget flash\nwait 0x80000000\n";
+    Folder::new().with("both.txt", text).osek(&["explain", "both.txt"]).prints(
+        "\
+accepted: 8 events, 6 with a status other than 0
+event 0 Wait 0x1 while plain runs: status 1 E_OS_ACCESS: the running body is no extended task
+event 1 Clear 0x3 while plain runs: status 1 E_OS_ACCESS: the running body is no extended task
+event 2 Set door 0x1 while plain runs: status 3 E_OS_ID: no task has this number
+event 3 Set plain 0x1 while plain runs: status 1 E_OS_ACCESS: the task is no extended task
+event 4 Set radio 0x1 while plain runs: status 7 E_OS_STATE: the task is suspended
+event 7 Wait 0x80000000 while radio runs: status 6 E_OS_RESOURCE: the running body holds a resource
 ",
         0,
     );

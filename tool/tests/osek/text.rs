@@ -89,6 +89,46 @@ get 9             # 8  04     event 4: Get
 }
 
 #[test]
+fn extended_tasks_and_masks_have_their_words() {
+    let text = "version 2\nextended radio priority 3 autostart\nisr packet priority 9\n\
+                trace\nwait 0x81\nset radio 1\nclear 4294967295\n";
+    let folder = Folder::new().with("radio.txt", text);
+    folder.osek(&["asm", "radio.txt", "-o", "radio"]).prints("", 0);
+    assert_eq!(folder.read("radio.config.bin"), [2, 2, 2, 3, 1, 1, 9, 0, 0, 0]);
+    assert_eq!(folder.read("radio.trace.bin"), [10, 0x81, 1, 11, 0, 1, 12, 0xff, 0xff, 0xff, 0xff, 0x0f]);
+    folder.osek(&["dump", "radio.config.bin"]).prints(
+        "\
+# configuration, 10 bytes
+version 2                                # 0  02  version 2, lost lines are counted
+                                         # 1  02  body count 2
+extended extended0 priority 3 autostart  # 2  02  body 0: kind 2, extended task
+                                         # 3  03  priority 3
+                                         # 4  01  autostart 1
+isr isr1 priority 9                      # 5  01  body 1: kind 1, ISR
+                                         # 6  09  priority 9
+                                         # 7  00  autostart 0
+                                         # 8  00  resource count 0
+                                         # 9  00  table count 0
+",
+        0,
+    );
+    folder.osek(&["dump", "radio.trace.bin", "--config", "radio.txt"]).prints(
+        "\
+# trace, 12 bytes
+trace
+wait 0x81         # 0  0A              event 0: Wait
+                  # 1  81 01           mask 0x81
+set radio 0x1     # 3  0B              event 1: Set
+                  # 4  00              body 0 radio
+                  # 5  01              mask 0x1
+clear 0xffffffff  # 6  0C              event 2: Clear
+                  # 7  FF FF FF FF 0F  mask 0xffffffff
+",
+        0,
+    );
+}
+
+#[test]
 fn a_damaged_file_is_dumped_as_far_as_it_goes_and_then_as_bytes() {
     let folder = Folder::new().with("cut.bin", [1, 1, 0, 0x80]).with("odd.bin", [6, 1, 0x80, 0, 6]);
     folder.osek(&["dump", "cut.bin", "--as", "config"]).prints(
@@ -129,7 +169,7 @@ fn a_wrong_text_is_refused_at_its_line_and_column() {
         ("version 1 2", "1:11: expected the end of the line, found `2`"),
         (
             "version 1\nversion 1",
-            "2:1: expected `task`, `isr`, `body`, `resource`, `table`, `at`, `number`, `bytes` or `trace`, found `version`",
+            "2:1: expected `task`, `isr`, `extended`, `body`, `resource`, `table`, `at`, `number`, `bytes` or `trace`, found `version`",
         ),
         ("version 1\ntask", "2:5: expected the body's name, found the end of the line"),
         ("version 1\ntask 7up priority 3", "2:6: expected the body's name, found `7up`"),
@@ -166,17 +206,20 @@ fn a_wrong_text_is_refused_at_its_line_and_column() {
         ("bytes 01\nversion 1", "2:1: expected `number` or `bytes` after the first of them, found `version`"),
         ("trace\nactivate", "2:9: expected a body: its name or its number, found the end of the line"),
         ("trace\nstart 0", "2:8: expected the delay, a number, found the end of the line"),
+        ("trace\nwait", "2:5: expected the mask, a number, found the end of the line"),
+        ("trace\nset 0", "2:6: expected the mask, a number, found the end of the line"),
+        ("trace\nclear x", "2:7: expected the mask, a number, found `x`"),
         ("trace\nfinish 1", "2:8: expected the end of the line, found `1`"),
         ("trace\ntick 0", "2:6: expected how often, 1 to 65535, found `0`"),
         ("trace\ntick 65536", "2:6: expected how often, 1 to 65535, found `65536`"),
         (
-            "trace\nwait 1",
-            "2:1: expected `activate`, `finish`, `chain`, `get`, `release`, `tick`, `line`, `start`, `stop`, `number` or \
-             `bytes`, found `wait`",
+            "trace\nsleep 1",
+            "2:1: expected `activate`, `finish`, `chain`, `get`, `release`, `tick`, `line`, `start`, `stop`, `wait`, `set`, `clear`, `number` or \
+             `bytes`, found `sleep`",
         ),
         (
             "trace\ntrace",
-            "2:1: expected `activate`, `finish`, `chain`, `get`, `release`, `tick`, `line`, `start`, `stop`, `number` or \
+            "2:1: expected `activate`, `finish`, `chain`, `get`, `release`, `tick`, `line`, `start`, `stop`, `wait`, `set`, `clear`, `number` or \
              `bytes`, found `trace`",
         ),
     ];

@@ -123,6 +123,26 @@ fn losses_show_at_the_tick_at_which_they_happen() {
 }
 
 #[test]
+fn a_task_that_waits_shows_so() {
+    let text =
+        "version 1\nextended radio priority 5 autostart\nisr packet priority 9\ntrace\nwait 0x1\ntick\nline packet\n\
+                set radio 0x1\nfinish\n";
+    let folder = Folder::new().with("radio.txt", text);
+    let json = folder.osek(&["timeline", "radio.txt", "--json", "-"]).done();
+    let states = |body: u32| -> Vec<String> {
+        let of_body = format!("\"pid\": 2, \"tid\": {body}, \"cat\": \"state\"");
+        let lines = json.lines().filter(|line| line.contains(&of_body));
+        lines.map(|line| line.split('"').nth(7).unwrap_or_default().to_string()).collect()
+    };
+    // It runs from the fresh start on, waits until the ISR sets the bit, and is preempted until the ISR ends.
+    assert_eq!(states(0), ["running", "waiting", "preempted", "running"]);
+    assert_eq!(states(1), ["running"]);
+    let picture = folder.osek(&["timeline", "radio.txt", "--svg", "-"]).done();
+    // The body's bar, and the legend's.
+    assert_eq!(picture.matches("class=\"waiting\"").count(), 2, "{picture}");
+}
+
+#[test]
 fn a_lost_line_shows_where_it_is_counted() {
     let folder = Folder::new();
     for (version, expected) in [(1, 0), (2, 2)] {

@@ -27,7 +27,7 @@ const MARGIN: f64 = 14.0;
 /// About the width of a letter.
 const LETTER: f64 = 6.7;
 /// The room of the legend.
-const LEGEND: f64 = 720.0;
+const LEGEND: f64 = 810.0;
 
 const STYLE: &str = "\
 text { font-family: 'DejaVu Sans', Verdana, Arial, sans-serif; font-size: 11px; fill: #1f2937; }
@@ -41,6 +41,7 @@ text { font-family: 'DejaVu Sans', Verdana, Arial, sans-serif; font-size: 11px; 
 .ready { fill: #fef3c7; stroke: #d97706; }
 .running { fill: #2563eb; stroke: #1d4ed8; }
 .preempted { fill: #bfdbfe; stroke: #1d4ed8; stroke-dasharray: 3 2; }
+.waiting { fill: #f3f4f6; stroke: #6b7280; stroke-dasharray: 1 2; }
 .begin { fill: #ffffff; }
 .request { fill: #d97706; }
 .loss { stroke: #b91c1c; stroke-width: 2.5; fill: none; }
@@ -313,6 +314,6 @@ fn bar(canvas: &mut Canvas, state: State, x: f64, width: f64, middle: f64) {
     match state {
         State::Suspended => {}
         State::Running => canvas.bar(state.word(), x, width, middle, BAR),
-        State::Ready | State::Preempted => canvas.bar(state.word(), x, width, middle, 0.7 * BAR),
+        State::Ready | State::Preempted | State::Waiting => canvas.bar(state.word(), x, width, middle, 0.7 * BAR),
     }
 }
