@@ -57,7 +57,7 @@ static size_t skip_event(size_t at)
     if (code == OSEK_EVENT_FINISH || code == OSEK_EVENT_TICK)
         return at;
     at = skip_number(at);
-    return code == OSEK_EVENT_START ? skip_number(at) : at;
+    return code == OSEK_EVENT_START || code == OSEK_EVENT_SET ? skip_number(at) : at;
 }
 
 static void print_listing(uint32_t events)
