@@ -322,9 +322,12 @@ fn any_mask(random: &mut Random) -> u32 {
     }
 }
 
-/// A mask that has none of these bits; may be 0.
+/// A mask that has none of these bits; rarely 0, since a task that waits for no bit is never resumed.
 fn mask_without(random: &mut Random, bits: u32) -> u32 {
-    any_mask(random) & !bits
+    match any_mask(random) & !bits {
+        0 if random.chance(90) => random.pick_where(32, |bit| bits >> bit & 1 == 0).map_or(0, |bit| 1 << bit),
+        mask => mask,
+    }
 }
 
 /// A mask that has one of these bits, which are not 0.
@@ -864,7 +867,7 @@ pub enum Shape {
     Mixed,
     /// All 64 cells on, then ticks; bodies that begin end at once.
     Ticks,
-    /// Calls and lines, half of them about events; half of the bodies are extended tasks.
+    /// Calls and lines without ticks, most of them about events: half of the bodies are extended tasks, which wait and are woken.
     Waiting,
 }
 
@@ -918,9 +921,8 @@ fn timed_trace(random: &mut Random, config: &Config, shape: Shape, length: usize
     while trace.len() < length {
         let event = match (shape, kernel.runner()) {
             (Shape::Ticks, Some(_)) if kernel.others() > 0 && random.chance(50) => Event::Finish,
-            (Shape::NoTicks | Shape::Mixed | Shape::Waiting, Some(_)) if kernel.others() == 0 => {
-                draw_wake(random, config, &kernel)
-            }
+            (Shape::NoTicks | Shape::Mixed, Some(_)) if kernel.others() == 0 => draw_wake(random, config, &kernel),
+            (Shape::Waiting, runner) if random.chance(80) => wait_or_wake(random, config, &kernel, runner),
             _ => draw_event(random, config, &kernel, &habits),
         };
         let before = trace.len();
@@ -933,6 +935,25 @@ fn timed_trace(random: &mut Random, config: &Config, shape: Shape, length: usize
         kernel.step(event);
     }
     trace
+}
+
+/// An extended task that runs mostly waits for a bit, of those that fit one byte; who else runs wakes one that waits.
+fn wait_or_wake(random: &mut Random, config: &Config, kernel: &Kernel<NextDue>, runner: Option<u32>) -> Event {
+    let Some(runner) = runner else { return draw_wake(random, config, kernel) };
+    if let Some(resource) = kernel.last_held() {
+        return Event::Release(resource);
+    }
+    let waiting = |body: u32| kernel.is_waiting(body) && kernel.waited(body) != 0;
+    let woken = random.pick_where(config.bodies(), waiting).map(|task| Event::Set(task, kernel.waited(task)));
+    let wait = Event::Wait(1 << random.below(7));
+    match (config.is_extended(runner), random.below(8)) {
+        (true, 0..=3) => wait,
+        (true, 4 | 5) => Event::Clear(kernel.events(runner) & 0x7f),
+        (true, 6) => woken.unwrap_or(wait),
+        (false, 0..=3) => woken.unwrap_or(Event::Finish),
+        (false, 4..=6) => Event::Finish,
+        _ => draw_wake(random, config, kernel),
+    }
 }
 
 /// An event that brings a second body in, so that a timed trace never falls idle for good.

@@ -532,6 +532,40 @@ mod tests {
 
     use super::*;
 
+    /// Document 01's choice, before document 02 changed the rule for equal priorities: "the one that already began goes first".
+    fn began_first(scheduler: &Scheduler) -> Option<usize> {
+        let state = |body: &usize| scheduler.bodies[*body].state;
+        let ready_or_started = |body: &usize| matches!(state(body), State::Ready | State::Started);
+        let place = |body: &usize| (scheduler.current_priority(*body), state(body) == State::Started);
+        (0..scheduler.bodies.len()).filter(ready_or_started).max_by_key(place)
+    }
+
+    #[test]
+    fn without_extended_tasks_both_rules_for_equal_priorities_choose_alike() {
+        let mut ties = 0;
+        for case in (0..4_000).map(|number| crate::cases::case(3, number)) {
+            let (Ok(mut scheduler), Ok(events)) = (read_configuration(&case.config), read_trace(&case.trace)) else {
+                continue;
+            };
+            if scheduler.bodies.iter().any(|body| body.kind == Kind::Extended) {
+                continue;
+            }
+            scheduler.fresh_start();
+            for (code, arguments) in events {
+                if scheduler.status(code, &arguments) == 0 {
+                    scheduler.take_effect(code, &arguments);
+                }
+                let expected = began_first(&scheduler);
+                scheduler.choose();
+                assert_eq!(scheduler.runner, expected);
+                let level = scheduler.runner.map(|runner| scheduler.current_priority(runner));
+                let ready = scheduler.bodies.iter().filter(|body| body.state == State::Ready);
+                ties += ready.filter(|body| Some(body.priority) == level).count();
+            }
+        }
+        assert!(ties > 1_000, "only {ties} ties");
+    }
+
     #[test]
     fn lost_lines_stay_at_65_535() {
         // ISR 0 is started, and a request of it waits.

@@ -24,7 +24,7 @@ type Planted = (&'static str, usize, usize, &'static str);
 #[test]
 fn planted_faults_are_found_made_small_and_told() {
     let faults: [Planted; 15] = [
-        ("limit_is_id", 10, 4, ": status 4 E_OS_LIMIT expected, 3 E_OS_ID given"),
+        ("limit_is_id", 10, 6, ": status 4 E_OS_LIMIT expected, 3 E_OS_ID given"),
         ("ceiling_not_shown", 14, 6, "Get resource0: level 2 expected, 1 given"),
         ("second_request_lost", 10, 6, ": status 0 E_OK expected, 4 E_OS_LIMIT given"),
         ("tenth_tick_lost", 20, 20, " expected, "),
