@@ -1,6 +1,7 @@
 -- The machine's twelve events: each one's status "in order", its effect where that is 0, and the two put together.
 --
--- ps are the priorities by rank, trs and lrs the ranks of tasks and of ISRs by body, as the plan has them, xs the word of the ranks that are extended tasks. Assumes nothing.
+-- ps are the priorities by rank, trs and lrs the ranks of tasks and of ISRs by body, as the plan has them, xs the word of the ranks that are
+-- extended tasks. Assumes nothing.
 use Prim.Native.Nat.{ℕ, _+_, max}
 use mathlib.Core.Bool.{Bool, false, cond, not, _&&_, _||_}
 use mathlib.Core.List.{List, [], _∷_}

@@ -21,7 +21,7 @@ use Rattle.scheduler.specs.State.{State, Table, stopped, running, bodyOf
 use Rattle.scheduler.specs.Event.{Event, Activate, Finish, Chain, Get, Release, Tick, Line, Start, Stop, Wait, Set, Clear}
 use Rattle.scheduler.specs.Tick.{ticked, dueFor}
 use Rattle.scheduler.specs.Call.{caller, checksOf}
-use Rattle.scheduler.specs.Scheduler.{begins, dispatched, lossesOf, step, stepBy, LostLine, fresh, seen, after, leaves, freshBy, seenBy, afterBy}
+use Rattle.scheduler.specs.Scheduler.{begins, dispatched, lossesOf, step, stepBy, LostLine, fresh, seen, after, leaves, unstarted, freshBy, seenBy, afterBy}
 use Rattle.scheduler.specs.Entries.{entryOf, entriesOf, entryAt}
 use Rattle.scheduler.specs.History.{AcceptedIn, Ends, next, NoStart, NoStop, tickCount, History, dueMark, DueAt}
 use Rattle.scheduler.proofs.Bits as Bits
@@ -67,8 +67,15 @@ runner-nobody c s = Choice.chosen-nobody byHolding refl c (s .bodies)
 pub runner-someone : (c : Config) (s : State) (k : ℕ) → competes (bodyOf s k .phase) ≡ true → 1 ≤ priorityOf c k → isNobody (runner c s) ≡ false
 runner-someone c s = Choice.chosen-someone byHolding refl c (s .bodies)
 
--- The rule always decides: of two that may run one goes before the other, after every list of events, and where the choice after the next
--- event is made
+-- The rule always decides: of two that may run one goes before the other, where the choice is made at the fresh start, after every list of
+-- events, and where the choice after the next event is made
+pub fresh-decided : (c : Config) → Configuration.Accepted c → Configuration.Shaped c → (i j : ℕ) → i < c .bodies → j < c .bodies → i ≢ j
+    → competes (bodyOf (unstarted c) i .phase) ≡ true
+    → competes (bodyOf (unstarted c) j .phase) ≡ true
+    → (goesBefore byHolding (candidateOf c (unstarted c) i) (candidateOf c (unstarted c) j) ≡ true)
+    ⊎ (goesBefore byHolding (candidateOf c (unstarted c) j) (candidateOf c (unstarted c) i) ≡ true)
+fresh-decided = Ties.decided-fresh
+
 pub always-decided : (c : Config) → Configuration.Accepted c → Configuration.Shaped c → (es : List Event) (i j : ℕ) → i < c .bodies → j < c .bodies → i ≢ j
     → competes (bodyOf (after c (fresh c) es) i .phase) ≡ true
     → competes (bodyOf (after c (fresh c) es) j .phase) ≡ true

@@ -581,26 +581,33 @@ module _ (c : Config) (ok : Configuration.Accepted c) where
         same : chosenBy byBegun c (s .bodies) ≡ chosenBy byHolding c (s .bodies)
         same = same-choice (reached-kept begunBodies no-set shaped es)
 
-  -- after every list of events, and where the choice is made after the next one
-  module _ (shaped : Configuration.Shaped c) (es : List Event) where
+  -- where the choice is made: at the fresh start, after every list of events, and after the event that comes next
+  module _ (shaped : Configuration.Shaped c) where
     set-holds : (s : State) (t w : ℕ) → AcceptedIn c s (Set t w) → (b : Body) → holder (receives w b) ≡ true → holder b ≡ true
     set-holds s t w z b h = h
 
-    kept : Kept c holder (after c (fresh c) es .bodies)
-    kept = reached-kept holders set-holds shaped es
+    pub decided-fresh : (i j : ℕ) → i < c .bodies → j < c .bodies → i ≢ j
+        → competes (bodyOf (unstarted c) i .phase) ≡ true
+        → competes (bodyOf (unstarted c) j .phase) ≡ true
+        → (goesBefore byHolding (contender c (unstarted c .bodies) i) (contender c (unstarted c .bodies) j) ≡ true)
+        ⊎ (goesBefore byHolding (contender c (unstarted c .bodies) j) (contender c (unstarted c .bodies) i) ≡ true)
+    decided-fresh = decided (unstarted-kept holders set-holds shaped)
 
-    pub decided-after : (i j : ℕ) → i < c .bodies → j < c .bodies → i ≢ j
+    kept : (es : List Event) → Kept c holder (after c (fresh c) es .bodies)
+    kept = reached-kept holders set-holds shaped
+
+    pub decided-after : (es : List Event) (i j : ℕ) → i < c .bodies → j < c .bodies → i ≢ j
         → competes (bodyOf (after c (fresh c) es) i .phase) ≡ true
         → competes (bodyOf (after c (fresh c) es) j .phase) ≡ true
         → (goesBefore byHolding (contender c (after c (fresh c) es .bodies) i) (contender c (after c (fresh c) es .bodies) j) ≡ true)
         ⊎ (goesBefore byHolding (contender c (after c (fresh c) es .bodies) j) (contender c (after c (fresh c) es .bodies) i) ≡ true)
-    decided-after = decided kept
+    decided-after es = decided (kept es)
 
-    pub decided-at : (e : Event) (i j : ℕ) → i < c .bodies → j < c .bodies → i ≢ j
+    pub decided-at : (es : List Event) (e : Event) (i j : ℕ) → i < c .bodies → j < c .bodies → i ≢ j
         → competes (bodyOf (leaves c (after c (fresh c) es) e) i .phase) ≡ true
         → competes (bodyOf (leaves c (after c (fresh c) es) e) j .phase) ≡ true
         → (goesBefore byHolding (contender c (leaves c (after c (fresh c) es) e .bodies) i) (contender c (leaves c (after c (fresh c) es) e .bodies) j) ≡ true)
         ⊎ (goesBefore byHolding (contender c (leaves c (after c (fresh c) es) e .bodies) j) (contender c (leaves c (after c (fresh c) es) e .bodies) i) ≡ true)
-    decided-at e =
+    decided-at es e =
         decided
-        (leaves-kept holders set-holds (after c (fresh c) es) kept (settled-after c es (fresh c) (settled-fresh c)) e)
+        (leaves-kept holders set-holds (after c (fresh c) es) (kept es) (settled-after c es (fresh c) (settled-fresh c)) e)

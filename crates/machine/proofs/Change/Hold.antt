@@ -27,7 +27,7 @@ use Rattle.machine.specs.Model.{Model, noRank, withLevel, withSlots}
 use Rattle.machine.specs.Resources.{holding, latest}
 use Rattle.plan.proofs.Fitted.{Fitted}
 use Rattle.machine.proofs.Relation.Rows.{row-shows-top}
-use Rattle.machine.proofs.Relation.Words.{at, words-changed, marks-same, elsewhere-same}
+use Rattle.machine.proofs.Relation.Words.{at, words-changed, marks-same, unmoved-same}
 use Rattle.machine.proofs.Relation.Slots.{Slot, slot, slotsFor, slotsAlong, holdersIn, Slots}
 use Rattle.machine.proofs.Relation.Nest.{Nested, Seats, Alike, alike-same, among-head, among-tail, nest-other, nest-exists, levelAt-alike, nested-alike, hold-alike, slotsAlong-alike}
 use Rattle.machine.proofs.Relation.Whole.{Tied}
@@ -129,7 +129,7 @@ module _ {c : Config} {p : Plan} {rk : ℕ → ℕ} (fit : Fitted c p rk) {m : M
         record {
           size = length-set bs b y ∙ t .size;
           words = words-changed fit (t .words) (t .size) b exists y (withLevel (m .core) l)
-              (marks-same (t .words) b exists y phase second (m .core .runner) l) (elsewhere-same (t .words) (m .core .runner) l (rk b));
+              (marks-same (t .words) b exists y phase second (m .core .runner) l) (unmoved-same (t .words) (m .core .runner) l (rk b));
           nested = (exists, (begun-same b ∙ t .nested .1 .0, (rw (sym (levelAt-alike c rk bs bs′ ns alike)) (t .nested .1 .1 .0), nested-alike c rk bs bs′ ns alike below)));
           seats = (runner-rank, (rw at-b level, hold-alike c rk bs bs′ ns alike (t .seats .1 .1)));
           slots = rw (at-b, sym (slotsAlong-alike c rk bs bs′ ns alike)) slots;

@@ -21,7 +21,7 @@ use Rattle.scheduler.specs.State.{noBody, among}
 use Rattle.machine.specs.Model.{Core, Model, withCore, withRequest, withRest, withEvents}
 use Rattle.machine.specs.Arbiter.{requesting}
 use Rattle.plan.proofs.Fitted.{Fitted}
-use Rattle.machine.proofs.Relation.Words.{at, wants, Words, words-changed, marks-same, elsewhere-same}
+use Rattle.machine.proofs.Relation.Words.{at, wants, Words, words-changed, marks-same, unmoved-same}
 use Rattle.machine.proofs.Relation.Nest.{Alike, alike-same, nested-alike, seats-alike, slotsAlong-alike}
 use Rattle.machine.proofs.Relation.Whole.{Tied}
 use Rattle.machine.proofs.Arbitration.Dispatch.{rank-below}
@@ -111,7 +111,7 @@ module _ {c : Config} {rk : ℕ → ℕ} {m : Model} {bs : List Body} {ns : List
     loss-tied =
         touched-tied (loses (at bs b)) refl (λ _. refl) (m .core)
         (words-changed fit (t .words) (t .size) b b< (loses (at bs b)) (m .core)
-        (marks-same (t .words) b b< (loses (at bs b)) refl refl (m .core .runner) (m .core .level)) (elsewhere-same (t .words) (m .core .runner) (m .core .level) (rk b)))
+        (marks-same (t .words) b b< (loses (at bs b)) refl refl (m .core .runner) (m .core .level)) (unmoved-same (t .words) (m .core .runner) (m .core .level) (rk b)))
         refl
         refl
 

@@ -28,7 +28,7 @@ use Rattle.machine.specs.Events as Machine
 use Rattle.machine.specs.Events.{idles, busy, bitsAt, pausing, receiving, clearing}
 use Rattle.machine.specs.Machine.{statusOf, effectOf, refusalOf}
 use Rattle.plan.proofs.Fitted.{Fitted}
-use Rattle.machine.proofs.Relation.Words.{at, busy-is, words-changed, marks-same, elsewhere-same}
+use Rattle.machine.proofs.Relation.Words.{at, busy-is, words-changed, marks-same, unmoved-same}
 use Rattle.machine.proofs.Relation.Nest.{Nested}
 use Rattle.machine.proofs.Relation.Losses.{lost-same}
 use Rattle.machine.proofs.Relation.Bits.{Noted, noted-changed}
@@ -172,7 +172,7 @@ module _ {c : Config} {p : Plan} {rk : ℕ → ℕ} (fit : Fitted c p rk) {m : M
       (touched-tied (k .tied) fit b (k .exists) (clears w (at bs b)) refl (λ _. refl) (withEnabled (m .core) (m .core .enabled))
       (words-changed fit (k .tied .words) (k .tied .size) b (k .exists) (clears w (at bs b)) (withEnabled (m .core) (m .core .enabled))
       (marks-same (k .tied .words) b (k .exists) (clears w (at bs b)) refl refl (m .core .runner) (m .core .level))
-      (elsewhere-same (k .tied .words) (m .core .runner) (m .core .level) (rk b)))
+      (unmoved-same (k .tied .words) (m .core .runner) (m .core .level) (rk b)))
       refl
       refl)
       (without (m .cleared) (m .core .runner))

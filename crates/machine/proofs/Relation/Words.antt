@@ -51,7 +51,7 @@ pub record Marks (k : Core) (r : ℕ) (y : Body) : Type 0 where
   pub quiet : hasBegun (y .phase) ≡ false → y .pending ≡ false
 
 -- the words of k′ are those of k but for the rank r
-pub record Elsewhere (k′ k : Core) (r : ℕ) : Type 0 where
+pub record Unmoved (k′ k : Core) (r : ℕ) : Type 0 where
   pub request-lt : k′ .request < 2 ^ 32
   pub started-lt : k′ .started < 2 ^ 32
   pub enabled-lt : k′ .enabled < 2 ^ 32
@@ -62,7 +62,7 @@ pub record Elsewhere (k′ k : Core) (r : ℕ) : Type 0 where
 -- body b becomes y, the words agree with y at its rank, and are as before elsewhere
 module _ {c : Config} {p : Plan} {rk : ℕ → ℕ} (fit : Fitted c p rk) {k : Core} {bs : List Body} (w : Words c rk k bs) (size : length bs ≡ c .bodies)
     (b : ℕ) (b< : b < c .bodies) (y : Body) (k′ : Core) where
-  pub words-changed : Marks k′ (rk b) y → Elsewhere k′ k (rk b) → Words c rk k′ (set bs b y)
+  pub words-changed : Marks k′ (rk b) y → Unmoved k′ k (rk b) → Words c rk k′ (set bs b y)
   words-changed here there =
       record {
         request-lt = there .request-lt;
@@ -114,9 +114,9 @@ module _ {c : Config} {rk : ℕ → ℕ} {k : Core} {bs : List Body} (w : Words 
       }
 
 -- words that stay as they are
-pub elsewhere-same : {c : Config} {rk : ℕ → ℕ} {k : Core} {bs : List Body} (w : Words c rk k bs) (r l : ℕ) (i : ℕ)
-    → Elsewhere (record { request = k .request; started = k .started; enabled = k .enabled; runner = r; level = l }) k i
-elsewhere-same w r l i =
+pub unmoved-same : {c : Config} {rk : ℕ → ℕ} {k : Core} {bs : List Body} (w : Words c rk k bs) (r l : ℕ) (i : ℕ)
+    → Unmoved (record { request = k .request; started = k .started; enabled = k .enabled; runner = r; level = l }) k i
+unmoved-same w r l i =
     record { request-lt = w .request-lt; started-lt = w .started-lt; enabled-lt = w .enabled-lt; asks = λ j n. refl; begun = λ j n. refl; awake = λ j n. refl }
 
 -- a body has a bit in one of the two words exactly if it isn't suspended
