@@ -1,7 +1,7 @@
 // The events of extended tasks: Wait, Set and Clear. OSEK's events are the 32 event bits of such a task.
 ghost use mathlib.Core.Path.{_≡_};
 ghost use mathlib.Core.Bool.{cond};
-ghost use lib.ListN.{getD, set};
+ghost use lib.ListN.{getD};
 ghost use Rattle.scheduler.specs.Bits.{anySet, withBits, withoutBits};
 ghost use Rattle.word.specs.Word.{has, with};
 ghost use Rattle.machine.specs.Events.{wait, setEvent, clear};
@@ -40,13 +40,10 @@ impl Model {
         if holder.top() == self.runner {
             return self.with_status(HOLDS_RESOURCE);
         }
-        let bits = self.bits;
-        if any_set(bits_of(self.cleared, &bits, rank), mask) {
+        if any_set(bits_of(self.cleared, &self.bits, rank), mask) {
             return self.with_status(DONE);
         }
-        let mut waited = self.waited;
-        store(&mut waited, rank as usize, mask);
-        self.waited = waited;
+        self.waited[rank as usize] = mask;
         let level = latest_level(holder, self.raised);
         let enabled = without(self.enabled, rank);
         let picked = arbitrated(
@@ -83,13 +80,10 @@ impl Model {
         if !busy(self.request, self.started, rank) {
             return self.with_status(WRONG_STATE);
         }
-        let mut bits = self.bits;
-        let set = with_bits(bits_of(self.cleared, &bits, rank as u32), mask);
-        store(&mut bits, rank as usize, set);
-        self.bits = bits;
+        let set = with_bits(bits_of(self.cleared, &self.bits, rank as u32), mask);
+        self.bits[rank as usize] = set;
         self.cleared = without(self.cleared, rank as u32);
-        let waited = self.waited;
-        let awake = any_set(set, word_at(&waited, rank as usize));
+        let awake = any_set(set, word_at(&self.waited, rank as usize));
         self.enabled = enabled_by(awake, self.enabled, rank as u32);
         let request = self.request;
         self.settled(request, priority)
@@ -105,10 +99,8 @@ impl Model {
         if !has(extended, rank) {
             return self.with_status(ACCESS);
         }
-        let mut bits = self.bits;
-        let left = without_bits(bits_of(self.cleared, &bits, rank), mask);
-        store(&mut bits, rank as usize, left);
-        self.bits = bits;
+        let left = without_bits(bits_of(self.cleared, &self.bits, rank), mask);
+        self.bits[rank as usize] = left;
         self.cleared = without(self.cleared, rank);
         self.with_status(DONE)
     }
@@ -147,12 +139,4 @@ fn enabled_by(awake: bool, enabled: u32, rank: u32) -> u32
 {
     let all = with(enabled, rank);
     if awake { all } else { enabled }
-}
-
-fn store(row: &mut [u32], i: usize, to: u32)
-    ensures { λ _. ⌜ now (row .exit) ≡ set (now (row .entry)) i to ⌝ }
-{
-    if i < row.len() {
-        row[i] = to;
-    }
 }
