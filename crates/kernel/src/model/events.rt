@@ -1,7 +1,7 @@
 // The events of extended tasks: Wait, Set and Clear. OSEK's events are the 32 event bits of such a task.
 ghost use mathlib.Core.Path.{_≡_};
 ghost use mathlib.Core.Bool.{cond};
-ghost use lib.ListN.{getD};
+ghost use lib.ListN.{getD, set};
 ghost use Rattle.scheduler.specs.Bits.{anySet, withBits, withoutBits};
 ghost use Rattle.word.specs.Word.{has, with};
 ghost use Rattle.machine.specs.Events.{wait, setEvent, clear};
@@ -40,10 +40,13 @@ impl Model {
         if holder.top() == self.runner {
             return self.with_status(HOLDS_RESOURCE);
         }
-        if any_set(bits_of(self.cleared, &self.bits, rank), mask) {
+        let bits = self.bits;
+        if any_set(bits_of(self.cleared, &bits, rank), mask) {
             return self.with_status(DONE);
         }
-        self.waited[rank as usize] = mask;
+        let mut waited = self.waited;
+        store(&mut waited, rank as usize, mask);
+        self.waited = waited;
         let level = latest_level(holder, self.raised);
         let enabled = without(self.enabled, rank);
         let picked = arbitrated(
@@ -80,10 +83,13 @@ impl Model {
         if !busy(self.request, self.started, rank) {
             return self.with_status(WRONG_STATE);
         }
-        let set = with_bits(bits_of(self.cleared, &self.bits, rank as u32), mask);
-        self.bits[rank as usize] = set;
+        let mut bits = self.bits;
+        let set = with_bits(bits_of(self.cleared, &bits, rank as u32), mask);
+        store(&mut bits, rank as usize, set);
+        self.bits = bits;
         self.cleared = without(self.cleared, rank as u32);
-        let awake = any_set(set, word_at(&self.waited, rank as usize));
+        let waited = self.waited;
+        let awake = any_set(set, word_at(&waited, rank as usize));
         self.enabled = enabled_by(awake, self.enabled, rank as u32);
         let request = self.request;
         self.settled(request, priority)
@@ -99,8 +105,10 @@ impl Model {
         if !has(extended, rank) {
             return self.with_status(ACCESS);
         }
-        let left = without_bits(bits_of(self.cleared, &self.bits, rank), mask);
-        self.bits[rank as usize] = left;
+        let mut bits = self.bits;
+        let left = without_bits(bits_of(self.cleared, &bits, rank), mask);
+        store(&mut bits, rank as usize, left);
+        self.bits = bits;
         self.cleared = without(self.cleared, rank);
         self.with_status(DONE)
     }
@@ -139,4 +147,12 @@ fn enabled_by(awake: bool, enabled: u32, rank: u32) -> u32
 {
     let all = with(enabled, rank);
     if awake { all } else { enabled }
+}
+
+fn store(row: &mut [u32], i: usize, to: u32)
+    ensures { λ _. ⌜ now (row .exit) ≡ set (now (row .entry)) i to ⌝ }
+{
+    if i < row.len() {
+        row[i] = to;
+    }
 }

@@ -1,8 +1,7 @@
 -- `set_event` meets its contract, case by case in the order of its checks.
 -- Assumes nothing.
-use mathlib.Core.Path.{refl, sym, ap, _∙_}
+use mathlib.Core.Path.{ap, _∙_}
 use borrow.Author.Tests.{not-true, not-false}
-use Rattle.word.proofs.Theorems.{has-lt}
 use Rattle.kernel.specs.View.{view, outcomeOf}
 use Rattle.kernel.proofs.Methods.Waits.{set-idle, set-none, set-basic, set-suspended, set-done}
 use borrow.Author.Needs.{needs}
@@ -14,8 +13,8 @@ with-status-requires c κs = search needs
 
 returns : tie.Need-returns
 returns c =
-    let a = c .before .before .args in
-    (c .with-status .ensures) ∙ ap outcomeOf (set-idle (a .extended) (a .task-rank .now) (a .priority .now) (view (a .t1)) (a .t) (a .mask) (c .before .if1 .taken))
+    let a = c .before .before .before .args in
+    (c .with-status .ensures) ∙ ap outcomeOf (set-idle (a .extended) (a .task-rank .now) (a .priority .now) (view (a .self)) (a .t) (a .mask) (c .before .if1 .taken))
 
 byte-at-requires : tie.Need-byte-at-requires
 byte-at-requires c κs = search needs
@@ -25,9 +24,9 @@ with-status-requires-2 c κs = search needs
 
 returns-2 : tie.Need-returns-2
 returns-2 c =
-    let c₁ = c .before .before in let c₂ = c₁ .before .before in let a = c₂ .before .args in
+    let c₁ = c .before .before in let c₂ = c₁ .before .before in let a = c₂ .before .before .args in
     (c .with-status2 .ensures)
-    ∙ ap outcomeOf (set-none (a .extended) (a .task-rank .now) (a .priority .now) (view (a .t1)) (a .t) (a .mask) (c₂ .if1 .left) (c₁ .byte-at .ensures) (c .before .if2 .taken))
+    ∙ ap outcomeOf (set-none (a .extended) (a .task-rank .now) (a .priority .now) (view (a .self)) (a .t) (a .mask) (c₂ .if1 .left) (c₁ .byte-at .ensures) (c .before .if2 .taken))
 
 cast-has : tie.Need-cast-has
 cast-has c = search needs
@@ -40,9 +39,9 @@ with-status-requires-3 c κs = search needs
 
 returns-3 : tie.Need-returns-3
 returns-3 c =
-    let c₁ = c .before .before in let c₂ = c₁ .before in let c₃ = c₂ .before in let c₄ = c₃ .before .before in let a = c₄ .before .args in
+    let c₁ = c .before .before in let c₂ = c₁ .before in let c₃ = c₂ .before in let c₄ = c₃ .before .before in let a = c₄ .before .before .args in
     (c .with-status3 .ensures)
-    ∙ ap outcomeOf (set-basic (a .extended) (a .task-rank .now) (a .priority .now) (view (a .t1)) (a .t) (a .mask) (c₄ .if1 .left) (c₃ .byte-at .ensures) (c₂ .if2 .left) (c₁ .has .ensures) (not-true _ (c .before .if3 .taken)))
+    ∙ ap outcomeOf (set-basic (a .extended) (a .task-rank .now) (a .priority .now) (view (a .self)) (a .t) (a .mask) (c₄ .if1 .left) (c₃ .byte-at .ensures) (c₂ .if2 .left) (c₁ .has .ensures) (not-true _ (c .before .if3 .taken)))
 
 busy-requires : tie.Need-busy-requires
 busy-requires c κs = search needs
@@ -53,9 +52,9 @@ with-status-requires-4 c κs = search needs
 returns-4 : tie.Need-returns-4
 returns-4 c =
     let c₀ = c .before .before in let c₅ = c₀ .before in let c₁ = c₅ .before in let c₂ = c₁ .before in let c₃ = c₂ .before in
-    let c₄ = c₃ .before .before in let a = c₄ .before .args in
+    let c₄ = c₃ .before .before in let a = c₄ .before .before .args in
     (c .with-status4 .ensures)
-    ∙ ap outcomeOf (set-suspended (a .extended) (a .task-rank .now) (a .priority .now) (view (a .t1)) (a .t) (a .mask) (c₄ .if1 .left) (c₃ .byte-at .ensures) (c₂ .if2 .left) (c₁ .has .ensures) (not-false _ (c₅ .if3 .left)) (c₀ .busy .ensures) (not-true _ (c .before .if4 .taken)))
+    ∙ ap outcomeOf (set-suspended (a .extended) (a .task-rank .now) (a .priority .now) (view (a .self)) (a .t) (a .mask) (c₄ .if1 .left) (c₃ .byte-at .ensures) (c₂ .if2 .left) (c₁ .has .ensures) (not-false _ (c₅ .if3 .left)) (c₀ .busy .ensures) (not-true _ (c .before .if4 .taken)))
 
 cast-bits-of : tie.Need-cast-bits-of
 cast-bits-of c = search needs
@@ -66,22 +65,23 @@ bits-of-requires c κs = search needs
 with-bits-requires : tie.Need-with-bits-requires
 with-bits-requires c κs = search needs
 
-cast-self : tie.Need-cast-self
-cast-self c = search needs
+slice-aggregate-store : tie.Need-slice-aggregate-store
+slice-aggregate-store c = let s = c .before .before .before .before .before .before .before .before .before .before .before .before .before .before in search (needs, s .good .0 .1 .1 .1 .1 .1 .1 .1 .1 .1 .1 .1 .1 .1 .1 .1 .1 .0)
 
-mul-self : tie.Need-mul-self
-mul-self c = search needs
+cast-store : tie.Need-cast-store
+cast-store c = search needs
 
-element-write-self : tie.Need-element-write-self
-element-write-self c =
-    let c₁ = c .before .before .before .before .before .before in let c₂ = c₁ .before in let c₃ = c₂ .before .before in let a = c₃ .before .before .before .args in
-    has-lt (a .extended) (c₃ .byte-at .result) (sym (c₂ .has .ensures) ∙ not-false _ (c₁ .if3 .left))
+store-requires : tie.Need-store-requires
+store-requires c κs = search needs
 
 cast-without : tie.Need-cast-without
 cast-without c = search needs
 
 without-requires : tie.Need-without-requires
 without-requires c κs = search needs
+
+slice-aggregate-word-at : tie.Need-slice-aggregate-word-at
+slice-aggregate-word-at c = let s = c .before .before .before .before .before .before .before .before .before .before .before .before .before .before .before .before .before .before .before in search (needs, s .good .0 .1 .1 .1 .1 .1 .1 .1 .1 .1 .1 .1 .1 .1 .1 .1 .1 .1 .0)
 
 cast-word-at : tie.Need-cast-word-at
 cast-word-at c = search needs
@@ -103,13 +103,13 @@ settled-requires c κs = search needs
 
 returns-5 : tie.Need-returns-5
 returns-5 c =
-    let d₁ = c .before in let d₂ = d₁ .before in let d₃ = d₂ .before in let d₄ = d₃ .before .before .before .before in
-    let d₆ = d₄ .before in let d₇ = d₆ .before in
+    let d₁ = c .before in let d₂ = d₁ .before in let d₃ = d₂ .before in let d₄ = d₃ .before .before .before in let d₅ = d₄ .before .before in
+    let d₆ = d₅ .before .before in let d₇ = d₆ .before in
     let c₆ = d₇ .before .before .before in let c₀ = c₆ .before in let c₅ = c₀ .before in let c₁ = c₅ .before in let c₂ = c₁ .before in let c₃ = c₂ .before in
-    let c₄ = c₃ .before .before in let a = c₄ .before .args in
+    let c₄ = c₃ .before .before in let a = c₄ .before .before .args in
     (c .settled .ensures)
-    ∙ ap outcomeOf (set-done (a .extended) (a .task-rank .now) (a .priority .now) (view (a .t1)) (a .t) (a .mask) (c₄ .if1 .left) (c₃ .byte-at .ensures) (c₂ .if2 .left) (c₁ .has .ensures) (not-false _ (c₅ .if3 .left)) (c₀ .busy .ensures) (not-false _ (c₆ .if4 .left))
-    (d₇ .bits-of .ensures) (d₆ .with-bits .ensures) refl (d₄ .without .ensures) (d₃ .word-at .ensures) (d₂ .any-set .ensures) (d₁ .enabled-by .ensures))
+    ∙ ap outcomeOf (set-done (a .extended) (a .task-rank .now) (a .priority .now) (view (a .self)) (a .t) (a .mask) (c₄ .if1 .left) (c₃ .byte-at .ensures) (c₂ .if2 .left) (c₁ .has .ensures) (not-false _ (c₅ .if3 .left)) (c₀ .busy .ensures) (not-false _ (c₆ .if4 .left))
+    (d₇ .bits-of .ensures) (d₆ .with-bits .ensures) (d₅ .store .ensures) (d₄ .without .ensures) (d₃ .word-at .ensures) (d₂ .any-set .ensures) (d₁ .enabled-by .ensures))
 
 pub set-event-spec : {M : Type 1} → statement M
 set-event-spec =
@@ -130,11 +130,12 @@ set-event-spec =
     cast-bits-of
     bits-of-requires
     with-bits-requires
-    cast-self
-    mul-self
-    element-write-self
+    slice-aggregate-store
+    cast-store
+    store-requires
     cast-without
     without-requires
+    slice-aggregate-word-at
     cast-word-at
     word-at-requires
     any-set-requires

@@ -1,8 +1,7 @@
--- `wait` meets its contract, case by case in the order of its checks. An extended task has a rank, so the row of masks has a place for it.
+-- `wait` meets its contract, case by case in the order of its checks.
 -- Assumes nothing.
-use mathlib.Core.Path.{refl, sym, ap, _∙_}
+use mathlib.Core.Path.{ap, _∙_}
 use borrow.Author.Tests.{not-true, not-false}
-use Rattle.word.proofs.Theorems.{has-lt}
 use Rattle.kernel.specs.View.{view, viewPicked, outcomeOf}
 use Rattle.kernel.proofs.Methods.Waits.{wait-idle, wait-basic, wait-holding, wait-on, wait-pauses}
 use borrow.Author.Needs.{needs}
@@ -14,8 +13,8 @@ with-status-requires c κs = search needs
 
 returns : tie.Need-returns
 returns c =
-    let a = c .before .before .args in
-    (c .with-status .ensures) ∙ ap outcomeOf (wait-idle (a .extended) (a .priority .now) (view (a .t1)) (a .mask) (c .before .if1 .taken))
+    let a = c .before .before .before .args in
+    (c .with-status .ensures) ∙ ap outcomeOf (wait-idle (a .extended) (a .priority .now) (view (a .self)) (a .mask) (c .before .if1 .taken))
 
 cast-rank : tie.Need-cast-rank
 cast-rank c = search needs
@@ -28,9 +27,9 @@ with-status-requires-2 c κs = search needs
 
 returns-2 : tie.Need-returns-2
 returns-2 c =
-    let c₁ = c .before .before in let c₂ = c₁ .before in let a = c₂ .before .args in
+    let c₁ = c .before .before in let c₂ = c₁ .before .before in let a = c₂ .before .before .args in
     (c .with-status2 .ensures)
-    ∙ ap outcomeOf (wait-basic (a .extended) (a .priority .now) (view (a .t1)) (a .mask) (c₂ .if1 .left) (c₁ .has .ensures) (not-true _ (c .before .if2 .taken)))
+    ∙ ap outcomeOf (wait-basic (a .extended) (a .priority .now) (view (a .self)) (a .mask) (c₂ .if1 .left) (c₁ .has .ensures) (not-true _ (c .before .if2 .taken)))
 
 top-requires : tie.Need-top-requires
 top-requires c κs = search needs
@@ -40,9 +39,9 @@ with-status-requires-3 c κs = search needs
 
 returns-3 : tie.Need-returns-3
 returns-3 c =
-    let c₁ = c .before .before in let c₂ = c₁ .before .before in let c₃ = c₂ .before in let c₄ = c₃ .before in let a = c₄ .before .args in
+    let c₁ = c .before .before .before in let c₂ = c₁ .before .before in let c₃ = c₂ .before in let c₄ = c₃ .before .before in let a = c₄ .before .before .args in
     (c .with-status3 .ensures)
-    ∙ ap outcomeOf (wait-holding (a .extended) (a .priority .now) (view (a .t1)) (a .mask) (c₄ .if1 .left) (c₃ .has .ensures) (not-false _ (c₂ .if2 .left)) (c₁ .top .ensures) (c .before .if3 .taken))
+    ∙ ap outcomeOf (wait-holding (a .extended) (a .priority .now) (view (a .self)) (a .mask) (c₄ .if1 .left) (c₃ .has .ensures) (not-false _ (c₂ .if2 .left)) (c₁ .top .ensures) (c .before .if3 .taken))
 
 bits-of-requires : tie.Need-bits-of-requires
 bits-of-requires c κs = search needs
@@ -55,21 +54,19 @@ with-status-requires-4 c κs = search needs
 
 returns-4 : tie.Need-returns-4
 returns-4 c =
-    let c₀ = c .before .before in let c₁ = c₀ .before in let c₂ = c₁ .before .before .before in let c₃ = c₂ .before in
-    let c₄ = c₃ .before .before in let c₅ = c₄ .before in let c₆ = c₅ .before in let a = c₆ .before .args in
+    let c₀ = c .before .before in let c₁ = c₀ .before in let c₂ = c₁ .before .before .before in let c₃ = c₂ .before .before in
+    let c₄ = c₃ .before .before in let c₅ = c₄ .before in let c₆ = c₅ .before .before in let a = c₆ .before .before .args in
     (c .with-status4 .ensures)
-    ∙ ap outcomeOf (wait-on (a .extended) (a .priority .now) (view (a .t1)) (a .mask) (c₆ .if1 .left) (c₅ .has .ensures) (not-false _ (c₄ .if2 .left)) (c₃ .top .ensures) (c₂ .if3 .left) (c₁ .bits-of .ensures) (c₀ .any-set .ensures) (c .before .if4 .taken))
+    ∙ ap outcomeOf (wait-on (a .extended) (a .priority .now) (view (a .self)) (a .mask) (c₆ .if1 .left) (c₅ .has .ensures) (not-false _ (c₄ .if2 .left)) (c₃ .top .ensures) (c₂ .if3 .left) (c₁ .bits-of .ensures) (c₀ .any-set .ensures) (c .before .if4 .taken))
 
-cast-self : tie.Need-cast-self
-cast-self c = search needs
+slice-aggregate-store : tie.Need-slice-aggregate-store
+slice-aggregate-store c = let s = c .before .before .before .before .before .before .before .before .before .before .before .before .before .before .before .before in search (needs, s .good .0 .1 .1 .1 .1 .1 .1 .1 .1 .1 .1 .1 .1 .1 .1 .1 .1 .1 .0)
 
-mul-self : tie.Need-mul-self
-mul-self c = search needs
+cast-store : tie.Need-cast-store
+cast-store c = search needs
 
-element-write-self : tie.Need-element-write-self
-element-write-self c =
-    let c₁ = c .before .before .before .before .before .before .before .before in let c₂ = c₁ .before in let a = c₂ .before .before .args in
-    has-lt (a .extended) (a .t1 .runner) (sym (c₂ .has .ensures) ∙ not-false _ (c₁ .if2 .left))
+store-requires : tie.Need-store-requires
+store-requires c κs = search needs
 
 latest-level-requires : tie.Need-latest-level-requires
 latest-level-requires c κs = search needs
@@ -88,12 +85,12 @@ seated-requires c κs = search needs
 
 returns-5 : tie.Need-returns-5
 returns-5 c =
-    let d₁ = c .before in let d₂ = d₁ .before in let d₃ = d₂ .before in let d₄ = d₃ .before in
-    let c₇ = d₄ .before .before in let c₀ = c₇ .before in let c₁ = c₀ .before in let c₂ = c₁ .before .before .before in let c₃ = c₂ .before in
-    let c₄ = c₃ .before .before in let c₅ = c₄ .before in let c₆ = c₅ .before in let a = c₆ .before .args in
+    let d₁ = c .before in let d₂ = d₁ .before in let d₃ = d₂ .before in let d₄ = d₃ .before in let d₅ = d₄ .before .before in
+    let c₇ = d₅ .before .before .before in let c₀ = c₇ .before in let c₁ = c₀ .before in let c₂ = c₁ .before .before .before in let c₃ = c₂ .before .before in
+    let c₄ = c₃ .before .before in let c₅ = c₄ .before in let c₆ = c₅ .before .before in let a = c₆ .before .before .args in
     (c .seated .ensures)
-    ∙ ap outcomeOf (wait-pauses (a .extended) (a .priority .now) (view (a .t1)) (a .mask) (c₆ .if1 .left) (c₅ .has .ensures) (not-false _ (c₄ .if2 .left)) (c₃ .top .ensures) (c₂ .if3 .left) (c₁ .bits-of .ensures) (c₀ .any-set .ensures) (c₇ .if4 .left)
-    refl (d₄ .latest-level .ensures) (d₃ .without .ensures) (d₂ .top2 .ensures) (ap viewPicked (d₁ .arbitrated .ensures)))
+    ∙ ap outcomeOf (wait-pauses (a .extended) (a .priority .now) (view (a .self)) (a .mask) (c₆ .if1 .left) (c₅ .has .ensures) (not-false _ (c₄ .if2 .left)) (c₃ .top .ensures) (c₂ .if3 .left) (c₁ .bits-of .ensures) (c₀ .any-set .ensures) (c₇ .if4 .left)
+    (d₅ .store .ensures) (d₄ .latest-level .ensures) (d₃ .without .ensures) (d₂ .top2 .ensures) (ap viewPicked (d₁ .arbitrated .ensures)))
 
 pub wait-spec : {M : Type 1} → statement M
 wait-spec =
@@ -112,9 +109,9 @@ wait-spec =
     any-set-requires
     with-status-requires-4
     returns-4
-    cast-self
-    mul-self
-    element-write-self
+    slice-aggregate-store
+    cast-store
+    store-requires
     latest-level-requires
     without-requires
     top-requires-2
