@@ -1,9 +1,9 @@
 /*
- * OSEK OS reference, class BCC1: from a configuration and a trace of events to who runs after each event.
+ * OSEK OS reference, classes BCC1 and ECC1: from a configuration and a trace of events to who runs after each event.
  *
- * Three functions: osek_run, osek_salvage for damaged traces, and osek_oil for configurations in OIL. They allocate nothing, keep nothing between calls and
- * never fail in another way than by the refusals below: any bytes may be handed to them. They may be called from several
- * threads at once, each with outputs of its own; they may share their inputs.
+ * Three functions: osek_run, osek_salvage for damaged traces, and osek_oil for configurations in OIL. They allocate
+ * nothing, keep nothing between calls and never fail in another way than by the refusals below: any bytes may be handed
+ * to them. They may be called from several threads at once, each with outputs of its own; they may share their inputs.
  *
  *     static uint8_t out[OSEK_OUTPUT_MAX];
  *     uint64_t result = osek_run(config, config_len, trace, trace_len, out, sizeof out);
@@ -15,7 +15,10 @@
  * For C99, C++98 and later, on x86-64 Linux. Link with libosek.a or libosek.so (`pkg-config --cflags --libs osek`).
  *
  * Words: a body is a task or a category 2 interrupt routine (ISR); bodies, resources and schedule tables are each
- * numbered from 0 in the order of the configuration. A greater priority wins.
+ * numbered from 0 in the order of the configuration. A greater priority wins; on equal current priority the body that
+ * holds a resource goes first. An extended task has 32 event bits and may wait for some of them; they are cleared
+ * when it is activated from suspended. A waiting task is not suspended, and does not run before one of the bits that
+ * it waits for is set.
  *
  * NUMBERS. Configuration and trace are rows of numbers, 0 to 4,294,967,295, in LEB128: one to five groups of seven
  * bits, lowest group first, the top bit set on every byte but the last. Only the shortest form is accepted: 127 is
@@ -45,9 +48,12 @@
  *     8 Start table, delay    its entry at offset o is due at tick delay + o, then  2, 3, 8, 7
  *                             every period
  *     9 Stop table            no entry of it is due any more                        2, 3, 5
- *    10 Wait mask             the running task waits for one of these event bits    2, 1, 6
- *    11 Set task, mask        the task gets these event bits                        2, 3, 1, 7
+ *    10 Wait mask             the running task waits for one of these event bits;   2, 1, 6
+ *                             it goes on at once if one is set; mask 0: for ever
+ *    11 Set task, mask        the task gets these event bits; one that waits for    2, 3, 1, 7
+ *                             one of them is resumed
  *    12 Clear mask            the running task loses these event bits               2, 1
+ * A mask is a number, bit i being worth 2^i.
  */
 #ifndef OSEK_H
 #define OSEK_H
@@ -61,7 +67,7 @@ extern "C" {
 
 /* The first number changes when a program has to be compiled or linked anew, the second with what the calls answer or
  * offer, the last with everything else. CHANGELOG.md says what each one brought. */
-#define OSEK_VERSION "1.2.0"
+#define OSEK_VERSION "1.3.0"
 
 /* Sizes in bytes. Longer inputs are refused; an output of OSEK_OUTPUT_MAX suffices for every run, which is proved as
  * `room-enough` in crates/run/proofs/Theorems.antt. */
@@ -106,14 +112,15 @@ enum {
  * but that in version 2 a Line with OSEK_E_OS_LIMIT adds 1 to the losses of its ISR. */
 enum {
     OSEK_E_OK = 0,          /* done */
-    OSEK_E_OS_ACCESS = 1,   /* Get: the resource is held: by the running body itself, since 33 comes first */
+    OSEK_E_OS_ACCESS = 1,   /* Get: the resource is held: by the running body itself, since 33 comes first;
+                               Wait, Clear: the running body is not an extended task; Set: the named task is not */
     OSEK_E_OS_CALLEVEL = 2, /* no body runs; Chain: nor when an ISR runs */
     OSEK_E_OS_ID = 3,       /* no such task, resource, table or (Line) ISR; an ISR's number is no task */
-    OSEK_E_OS_LIMIT = 4,    /* Activate, Chain: the task is not suspended (a task may chain itself);
+    OSEK_E_OS_LIMIT = 4,    /* Activate, Chain: the task is ready, started or waiting (a task may chain itself);
                                Line: a request of this ISR waits already */
     OSEK_E_OS_NOFUNC = 5,   /* Release: not the running body's most recently taken resource; Stop: table is stopped */
-    OSEK_E_OS_RESOURCE = 6, /* Finish, Chain: the running body holds a resource */
-    OSEK_E_OS_STATE = 7,    /* Start: the table is started already */
+    OSEK_E_OS_RESOURCE = 6, /* Finish, Chain, Wait: the running body holds a resource */
+    OSEK_E_OS_STATE = 7,    /* Start: the table is started already; Set: the task is suspended */
     OSEK_E_OS_VALUE = 8,    /* Start: the delay is 0, or delay + the table's smallest offset is above 65,535 */
     OSEK_E_USER = 33        /* Get: the running body is not one of the resource's users; OSEK has no number for it */
 };

@@ -21,7 +21,7 @@ use Rattle.machine.specs.Cells.{switchOff, isOn, countersTicked, switche
 abbrev pub idles : Model → Bool
 idles m = eqb (m .core .runner) noRank
 
--- the body of rank r is ready or started
+-- the body of rank r is ready, or has begun and not ended: started or waiting
 abbrev pub busy : Model → ℕ → Bool
 busy m r = has (m .core .request) r || has (m .core .started) r
 

@@ -1,7 +1,7 @@
 -- The machine from the fresh start on, and what is seen of it.
 --
 --   freshModel p      the model before the first event
---   statusOf, effectOf   document 01's table of events; refusalOf: what a refused event leaves
+--   statusOf, effectOf   the documents' table of events; refusalOf: what a refused event leaves
 --   machineStep c p   one event, the next model with its answer
 --   machineSeen       what is seen of a list of events, each of which meets the model that the one before it handed back
 --   machineAfter      the model after a list of events
@@ -54,7 +54,7 @@ freshWith w ps = settled ps (unstarted w) .model
 abbrev pub freshModel : Plan → Model
 freshModel p = freshWith (p .autostart) (p .priority)
 
--- document 01's table of events, its statuses: "the first status that applies is given"
+-- the documents' table of events, its statuses: "the first status that applies is given"
 unfoldable pub statusOf : Config → Plan → Model → Event → ℕ
 statusOf c p m (Activate t) = activateStatus (p .task) m t
 statusOf c p m Finish = finishStatus m

@@ -105,7 +105,7 @@ pub fn counts_lines(version: u8) -> bool
     2 <= version
 }
 
-// Whether the body of this rank is ready or started.
+// Whether the body of this rank is ready, started or waiting.
 pub fn busy(request: u32, started: u32, rank: u8) -> bool
     ensures { λ r. ⌜ r ≡ has request rank || has started rank ⌝ }
 {
