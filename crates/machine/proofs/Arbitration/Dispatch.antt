@@ -26,7 +26,7 @@ use Rattle.scheduler.specs.State.{State, noBody, among, changing}
 use Rattle.scheduler.specs.Call.{requestWaits}
 use Rattle.scheduler.specs.Scheduler.{begins, dispatched}
 use Rattle.scheduler.proofs.Choice.{current-own}
-use Rattle.machine.specs.Model.{Core, Model, Outcome, withCore}
+use Rattle.machine.specs.Model.{Core, Picked, Model, Outcome, withCore}
 use Rattle.machine.specs.Arbiter.{bids, winning, beginning, dispatching, arbitrated, settled}
 use Rattle.machine.specs.Machine.{runnerOf}
 use Rattle.plan.proofs.Fitted.{Fitted}
@@ -260,10 +260,19 @@ module _ {c : Config} {p : Plan} {rk : ℕ → ℕ} (fit : Fitted c p rk) where
         (λ e. omega (arith, winning-is fit (t .words) v, ap (priorityOf c) e))
         (λ n. omega (arith, winning-is fit (t .words) v, best i i< n (sym (ap (λ (x : Body). competes (x .phase)) (at-other i n)) ∙ a)))
 
-    settled-above : Arbitrated c p rk (settled (p .priority) m) bs (dispatched c s .bodies)
+    -- "it is dispatched only if its priority is strictly above the level", which it is
+    dispatches : arbitrated (p .priority) (m .core) ≡ record { core = dispatching (p .priority) (m .core); begun = beginning (m .core) }
     unfolding arbitrated
+    dispatches =
+        ap (λ (b : Bool). cond b (picks (dispatching (p .priority) (m .core)) (beginning (m .core))) (picks (m .core) false))
+        (lt-ltb (m .core .level) (winning (p .priority) (m .core)) (rw (winning-is fit (t .words) v) above))
+      where
+        picks : Core → Bool → Picked
+        picks k b = record { core = k; begun = b }
+
+    settled-above : Arbitrated c p rk (settled (p .priority) m) bs (dispatched c s .bodies)
     settled-above =
-        rw (lt-ltb (m .core .level) (winning (p .priority) (m .core)) (rw (winning-is fit (t .words) v) above), dispatched-is)
+        rw (dispatches, dispatched-is)
         (record {
           nest = w ∷ ks;
           tied = tied′;

@@ -108,6 +108,10 @@ unfolding firstGiven
 first-same a true st ks ks′ e f = rw e
 first-same a false st ks ks′ e f = rw e (f refl)
 
+-- a status other than 0 leaves m
+attempt-refused : (m : Model) (st : ℕ) (o : Outcome) → st ≢ done → Machine.attempt m st o ≡ refusedWith m st
+attempt-refused m st o n = ap (λ (b : Bool). cond b o (refusedWith m st)) (ne-eqb st done n)
+
 -- the event does the same to the model and to the state
 pub record Agrees (c : Config) (p : Plan) (rk : ℕ → ℕ) (m : Model) (s : State) (e : Event) : Type 0 where
   pub seen : observed c p m e (machineStep c p m e) ≡ step c s e .seen
@@ -224,7 +228,7 @@ module _ {c : Config} {p : Plan} {rk : ℕ → ℕ} (fit : Fitted c p rk) where
         (machine ∙ rw (same, eq-eqb stP done z)) (plain ∙ rw (eq-eqb stP done z)) (a .status ∙ sym z) due (a .arb) (a .size) (a .timed) (a .lost) (a .noted))
         (λ n. let k = ref n in
         agrees e (refusedWith m′ stM) stP (noneDue c s) s″
-        (machine ∙ rw (same, ne-eqb stP done n)) (plain ∙ rw (ne-eqb stP done n)) same due
+        (machine ∙ attempt-refused m′ stM o (λ z. n (sym same ∙ z))) (plain ∙ rw (ne-eqb stP done n)) same due
         (calm-arbitrated fit s″ stM (k .tied) (k .calm)) (k .tied .size) (k .timed) (k .lost) (k .noted))
 
   module _ {m : Model} {s : State} (sim : Sim c p rk m s) where
