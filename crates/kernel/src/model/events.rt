@@ -1,7 +1,6 @@
 // The events of extended tasks: Wait, Set and Clear. OSEK's events are the 32 event bits of such a task.
 ghost use mathlib.Core.Path.{_≡_};
 ghost use mathlib.Core.Bool.{cond};
-ghost use lib.ListN.{getD, set};
 ghost use Rattle.scheduler.specs.Bits.{anySet, withBits, withoutBits};
 ghost use Rattle.word.specs.Word.{has, with};
 ghost use Rattle.machine.specs.Events.{wait, setEvent, clear};
@@ -19,7 +18,6 @@ use super::arbiter::arbitrated;
 use super::arbiter::latest_level;
 use super::bodies::busy;
 use super::lookup::byte_at;
-use super::lookup::word_at;
 use word::has;
 use word::with;
 use word::without;
@@ -41,11 +39,12 @@ impl Model {
             return self.with_status(HOLDS_RESOURCE);
         }
         let bits = self.bits;
-        if any_set(bits_of(self.cleared, &bits, rank), mask) {
+        let kept = bits[rank as usize];
+        if any_set(bits_of(self.cleared, kept, rank), mask) {
             return self.with_status(DONE);
         }
         let mut waited = self.waited;
-        store(&mut waited, rank as usize, mask);
+        waited[rank as usize] = mask;
         self.waited = waited;
         let level = latest_level(holder, self.raised);
         let enabled = without(self.enabled, rank);
@@ -84,12 +83,14 @@ impl Model {
             return self.with_status(WRONG_STATE);
         }
         let mut bits = self.bits;
-        let set = with_bits(bits_of(self.cleared, &bits, rank as u32), mask);
-        store(&mut bits, rank as usize, set);
+        let kept = bits[rank as usize];
+        let set = with_bits(bits_of(self.cleared, kept, rank as u32), mask);
+        bits[rank as usize] = set;
         self.bits = bits;
         self.cleared = without(self.cleared, rank as u32);
         let waited = self.waited;
-        let awake = any_set(set, word_at(&waited, rank as usize));
+        let wanted = waited[rank as usize];
+        let awake = any_set(set, wanted);
         self.enabled = enabled_by(awake, self.enabled, rank as u32);
         let request = self.request;
         self.settled(request, priority)
@@ -106,19 +107,19 @@ impl Model {
             return self.with_status(ACCESS);
         }
         let mut bits = self.bits;
-        let left = without_bits(bits_of(self.cleared, &bits, rank), mask);
-        store(&mut bits, rank as usize, left);
+        let kept = bits[rank as usize];
+        let left = without_bits(bits_of(self.cleared, kept, rank), mask);
+        bits[rank as usize] = left;
         self.bits = bits;
         self.cleared = without(self.cleared, rank);
         self.with_status(DONE)
     }
 }
 
-// The event bits of the body of this rank.
-fn bits_of(cleared: u32, bits: &[u32; 32], rank: u32) -> u32
-    ensures { λ r. ⌜ r ≡ cond (has cleared rank) 0 (getD (now (bits .entry)) rank 0) ⌝ }
+// The event bits of the body of this rank, of which the row keeps these.
+fn bits_of(cleared: u32, kept: u32, rank: u32) -> u32
+    ensures { λ r. ⌜ r ≡ cond (has cleared rank) 0 kept ⌝ }
 {
-    let kept = word_at(bits, rank as usize);
     if has(cleared, rank) { 0 } else { kept }
 }
 
@@ -147,12 +148,4 @@ fn enabled_by(awake: bool, enabled: u32, rank: u32) -> u32
 {
     let all = with(enabled, rank);
     if awake { all } else { enabled }
-}
-
-fn store(row: &mut [u32], i: usize, to: u32)
-    ensures { λ _. ⌜ now (row .exit) ≡ set (now (row .entry)) i to ⌝ }
-{
-    if i < row.len() {
-        row[i] = to;
-    }
 }

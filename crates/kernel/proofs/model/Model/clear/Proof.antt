@@ -1,7 +1,8 @@
 -- `clear` meets its contract, case by case in the order of its checks.
 -- Assumes nothing.
-use mathlib.Core.Path.{ap, _∙_}
+use mathlib.Core.Path.{refl, sym, ap, _∙_}
 use borrow.Author.Tests.{not-true, not-false}
+use Rattle.word.proofs.Theorems.{has-lt}
 use Rattle.kernel.specs.View.{view, outcomeOf}
 use Rattle.kernel.proofs.Methods.Waits.{clear-idle, clear-basic, clear-done}
 use borrow.Author.Needs.{needs}
@@ -31,20 +32,33 @@ returns-2 c =
     (c .with-status2 .ensures)
     ∙ ap outcomeOf (clear-basic (a .extended) (view (a .self)) (a .mask) (c₂ .if1 .left) (c₁ .has .ensures) (not-true _ (c .before .if2 .taken)))
 
+cast-kept : tie.Need-cast-kept
+cast-kept c = search needs
+
+mul-kept : tie.Need-mul-kept
+mul-kept c = search needs
+
+array-read-kept : tie.Need-array-read-kept
+array-read-kept c =
+    let c₁ = c .before in let c₂ = c₁ .before in let a = c₂ .before .before .before .before .args in
+    has-lt (a .extended) (a .self .runner) (sym (c₂ .has .ensures) ∙ not-false _ (c₁ .if2 .left))
+
 bits-of-requires : tie.Need-bits-of-requires
 bits-of-requires c κs = search needs
 
 without-bits-requires : tie.Need-without-bits-requires
 without-bits-requires c κs = search needs
 
-slice-aggregate-store : tie.Need-slice-aggregate-store
-slice-aggregate-store c = let s = c .before .before .before .before .before .before .before .before .before .before in search (needs, s .good .0 .1 .1 .1 .1 .1 .1 .1 .1 .1 .1 .1 .1 .1 .1 .1 .1 .0)
+cast-bits : tie.Need-cast-bits
+cast-bits c = search needs
 
-cast-store : tie.Need-cast-store
-cast-store c = search needs
+mul-bits : tie.Need-mul-bits
+mul-bits c = search needs
 
-store-requires : tie.Need-store-requires
-store-requires c κs = search needs
+array-write-bits : tie.Need-array-write-bits
+array-write-bits c =
+    let c₁ = c .before .before .before in let c₂ = c₁ .before in let a = c₂ .before .before .before .before .args in
+    has-lt (a .extended) (a .self .runner) (sym (c₂ .has .ensures) ∙ not-false _ (c₁ .if2 .left))
 
 without-requires : tie.Need-without-requires
 without-requires c κs = search needs
@@ -54,10 +68,10 @@ with-status-requires-3 c κs = search needs
 
 returns-3 : tie.Need-returns-3
 returns-3 c =
-    let d₁ = c .before in let d₂ = d₁ .before .before in let d₃ = d₂ .before .before in let d₄ = d₃ .before in
-    let c₀ = d₄ .before .before .before in let c₁ = c₀ .before in let c₂ = c₁ .before .before in let a = c₂ .before .before .args in
+    let d₁ = c .before in let d₃ = d₁ .before in let d₄ = d₃ .before in
+    let c₀ = d₄ .before .before in let c₁ = c₀ .before in let c₂ = c₁ .before .before in let a = c₂ .before .before .args in
     (c .with-status3 .ensures)
-    ∙ ap outcomeOf (clear-done (a .extended) (view (a .self)) (a .mask) (c₂ .if1 .left) (c₁ .has .ensures) (not-false _ (c₀ .if2 .left)) (d₄ .bits-of .ensures) (d₃ .without-bits .ensures) (d₂ .store .ensures) (d₁ .without .ensures))
+    ∙ ap outcomeOf (clear-done (a .extended) (view (a .self)) (a .mask) (c₂ .if1 .left) (c₁ .has .ensures) (not-false _ (c₀ .if2 .left)) (d₄ .bits-of .ensures) (d₃ .without-bits .ensures) refl (d₁ .without .ensures))
 
 pub clear-spec : {M : Type 1} → statement M
 clear-spec =
@@ -69,11 +83,14 @@ clear-spec =
     has-requires
     with-status-requires-2
     returns-2
+    cast-kept
+    mul-kept
+    array-read-kept
     bits-of-requires
     without-bits-requires
-    slice-aggregate-store
-    cast-store
-    store-requires
+    cast-bits
+    mul-bits
+    array-write-bits
     without-requires
     with-status-requires-3
     returns-3)

@@ -1,7 +1,8 @@
 -- `set_event` meets its contract, case by case in the order of its checks.
 -- Assumes nothing.
-use mathlib.Core.Path.{ap, _∙_}
+use mathlib.Core.Path.{refl, sym, ap, _∙_}
 use borrow.Author.Tests.{not-true, not-false}
+use Rattle.word.proofs.Theorems.{has-lt}
 use Rattle.kernel.specs.View.{view, outcomeOf}
 use Rattle.kernel.proofs.Methods.Waits.{set-idle, set-none, set-basic, set-suspended, set-done}
 use borrow.Author.Needs.{needs}
@@ -56,6 +57,17 @@ returns-4 c =
     (c .with-status4 .ensures)
     ∙ ap outcomeOf (set-suspended (a .extended) (a .task-rank .now) (a .priority .now) (view (a .self)) (a .t) (a .mask) (c₄ .if1 .left) (c₃ .byte-at .ensures) (c₂ .if2 .left) (c₁ .has .ensures) (not-false _ (c₅ .if3 .left)) (c₀ .busy .ensures) (not-true _ (c .before .if4 .taken)))
 
+cast-kept : tie.Need-cast-kept
+cast-kept c = search needs
+
+mul-kept : tie.Need-mul-kept
+mul-kept c = search needs
+
+array-read-kept : tie.Need-array-read-kept
+array-read-kept c =
+    let c₁ = c .before .before .before in let c₂ = c₁ .before in let c₃ = c₂ .before .before in let a = c₃ .before .before .before .before .args in
+    has-lt (a .extended) (c₃ .byte-at .result) (sym (c₂ .has .ensures) ∙ not-false _ (c₁ .if3 .left))
+
 cast-bits-of : tie.Need-cast-bits-of
 cast-bits-of c = search needs
 
@@ -65,14 +77,16 @@ bits-of-requires c κs = search needs
 with-bits-requires : tie.Need-with-bits-requires
 with-bits-requires c κs = search needs
 
-slice-aggregate-store : tie.Need-slice-aggregate-store
-slice-aggregate-store c = let s = c .before .before .before .before .before .before .before .before .before .before .before .before .before .before in search (needs, s .good .0 .1 .1 .1 .1 .1 .1 .1 .1 .1 .1 .1 .1 .1 .1 .1 .1 .0)
+cast-bits : tie.Need-cast-bits
+cast-bits c = search needs
 
-cast-store : tie.Need-cast-store
-cast-store c = search needs
+mul-bits : tie.Need-mul-bits
+mul-bits c = search needs
 
-store-requires : tie.Need-store-requires
-store-requires c κs = search needs
+array-write-bits : tie.Need-array-write-bits
+array-write-bits c =
+    let c₁ = c .before .before .before .before .before in let c₂ = c₁ .before in let c₃ = c₂ .before .before in let a = c₃ .before .before .before .before .args in
+    has-lt (a .extended) (c₃ .byte-at .result) (sym (c₂ .has .ensures) ∙ not-false _ (c₁ .if3 .left))
 
 cast-without : tie.Need-cast-without
 cast-without c = search needs
@@ -80,14 +94,16 @@ cast-without c = search needs
 without-requires : tie.Need-without-requires
 without-requires c κs = search needs
 
-slice-aggregate-word-at : tie.Need-slice-aggregate-word-at
-slice-aggregate-word-at c = let s = c .before .before .before .before .before .before .before .before .before .before .before .before .before .before .before .before .before .before .before in search (needs, s .good .0 .1 .1 .1 .1 .1 .1 .1 .1 .1 .1 .1 .1 .1 .1 .1 .1 .1 .0)
+cast-wanted : tie.Need-cast-wanted
+cast-wanted c = search needs
 
-cast-word-at : tie.Need-cast-word-at
-cast-word-at c = search needs
+mul-wanted : tie.Need-mul-wanted
+mul-wanted c = search needs
 
-word-at-requires : tie.Need-word-at-requires
-word-at-requires c κs = search needs
+array-read-wanted : tie.Need-array-read-wanted
+array-read-wanted c =
+    let c₁ = c .before .before .before .before .before .before .before in let c₂ = c₁ .before in let c₃ = c₂ .before .before in let a = c₃ .before .before .before .before .args in
+    has-lt (a .extended) (c₃ .byte-at .result) (sym (c₂ .has .ensures) ∙ not-false _ (c₁ .if3 .left))
 
 any-set-requires : tie.Need-any-set-requires
 any-set-requires c κs = search needs
@@ -103,13 +119,13 @@ settled-requires c κs = search needs
 
 returns-5 : tie.Need-returns-5
 returns-5 c =
-    let d₁ = c .before in let d₂ = d₁ .before in let d₃ = d₂ .before in let d₄ = d₃ .before .before .before in let d₅ = d₄ .before .before in
-    let d₆ = d₅ .before .before in let d₇ = d₆ .before in
-    let c₆ = d₇ .before .before .before in let c₀ = c₆ .before in let c₅ = c₀ .before in let c₁ = c₅ .before in let c₂ = c₁ .before in let c₃ = c₂ .before in
+    let d₁ = c .before in let d₂ = d₁ .before in let d₄ = d₂ .before .before in
+    let d₆ = d₄ .before in let d₇ = d₆ .before in
+    let c₆ = d₇ .before .before in let c₀ = c₆ .before in let c₅ = c₀ .before in let c₁ = c₅ .before in let c₂ = c₁ .before in let c₃ = c₂ .before in
     let c₄ = c₃ .before .before in let a = c₄ .before .before .args in
     (c .settled .ensures)
     ∙ ap outcomeOf (set-done (a .extended) (a .task-rank .now) (a .priority .now) (view (a .self)) (a .t) (a .mask) (c₄ .if1 .left) (c₃ .byte-at .ensures) (c₂ .if2 .left) (c₁ .has .ensures) (not-false _ (c₅ .if3 .left)) (c₀ .busy .ensures) (not-false _ (c₆ .if4 .left))
-    (d₇ .bits-of .ensures) (d₆ .with-bits .ensures) (d₅ .store .ensures) (d₄ .without .ensures) (d₃ .word-at .ensures) (d₂ .any-set .ensures) (d₁ .enabled-by .ensures))
+    (d₇ .bits-of .ensures) (d₆ .with-bits .ensures) refl (d₄ .without .ensures) refl (d₂ .any-set .ensures) (d₁ .enabled-by .ensures))
 
 pub set-event-spec : {M : Type 1} → statement M
 set-event-spec =
@@ -127,17 +143,20 @@ set-event-spec =
     busy-requires
     with-status-requires-4
     returns-4
+    cast-kept
+    mul-kept
+    array-read-kept
     cast-bits-of
     bits-of-requires
     with-bits-requires
-    slice-aggregate-store
-    cast-store
-    store-requires
+    cast-bits
+    mul-bits
+    array-write-bits
     cast-without
     without-requires
-    slice-aggregate-word-at
-    cast-word-at
-    word-at-requires
+    cast-wanted
+    mul-wanted
+    array-read-wanted
     any-set-requires
     cast-enabled-by
     enabled-by-requires

@@ -1,7 +1,8 @@
--- `wait` meets its contract, case by case in the order of its checks.
+-- `wait` meets its contract, case by case in the order of its checks. An extended task has a rank, so the row of masks has a place for it.
 -- Assumes nothing.
-use mathlib.Core.Path.{ap, _∙_}
+use mathlib.Core.Path.{refl, sym, ap, _∙_}
 use borrow.Author.Tests.{not-true, not-false}
+use Rattle.word.proofs.Theorems.{has-lt}
 use Rattle.kernel.specs.View.{view, viewPicked, outcomeOf}
 use Rattle.kernel.proofs.Methods.Waits.{wait-idle, wait-basic, wait-holding, wait-on, wait-pauses}
 use borrow.Author.Needs.{needs}
@@ -43,6 +44,17 @@ returns-3 c =
     (c .with-status3 .ensures)
     ∙ ap outcomeOf (wait-holding (a .extended) (a .priority .now) (view (a .self)) (a .mask) (c₄ .if1 .left) (c₃ .has .ensures) (not-false _ (c₂ .if2 .left)) (c₁ .top .ensures) (c .before .if3 .taken))
 
+cast-kept : tie.Need-cast-kept
+cast-kept c = search needs
+
+mul-kept : tie.Need-mul-kept
+mul-kept c = search needs
+
+array-read-kept : tie.Need-array-read-kept
+array-read-kept c =
+    let c₁ = c .before .before .before .before .before in let c₂ = c₁ .before in let a = c₂ .before .before .before .before .args in
+    has-lt (a .extended) (a .self .runner) (sym (c₂ .has .ensures) ∙ not-false _ (c₁ .if2 .left))
+
 bits-of-requires : tie.Need-bits-of-requires
 bits-of-requires c κs = search needs
 
@@ -54,19 +66,21 @@ with-status-requires-4 c κs = search needs
 
 returns-4 : tie.Need-returns-4
 returns-4 c =
-    let c₀ = c .before .before in let c₁ = c₀ .before in let c₂ = c₁ .before .before .before in let c₃ = c₂ .before .before in
+    let c₀ = c .before .before in let c₁ = c₀ .before in let c₂ = c₁ .before .before in let c₃ = c₂ .before .before in
     let c₄ = c₃ .before .before in let c₅ = c₄ .before in let c₆ = c₅ .before .before in let a = c₆ .before .before .args in
     (c .with-status4 .ensures)
     ∙ ap outcomeOf (wait-on (a .extended) (a .priority .now) (view (a .self)) (a .mask) (c₆ .if1 .left) (c₅ .has .ensures) (not-false _ (c₄ .if2 .left)) (c₃ .top .ensures) (c₂ .if3 .left) (c₁ .bits-of .ensures) (c₀ .any-set .ensures) (c .before .if4 .taken))
 
-slice-aggregate-store : tie.Need-slice-aggregate-store
-slice-aggregate-store c = let s = c .before .before .before .before .before .before .before .before .before .before .before .before .before .before .before .before in search (needs, s .good .0 .1 .1 .1 .1 .1 .1 .1 .1 .1 .1 .1 .1 .1 .1 .1 .1 .1 .0)
+cast-waited : tie.Need-cast-waited
+cast-waited c = search needs
 
-cast-store : tie.Need-cast-store
-cast-store c = search needs
+mul-waited : tie.Need-mul-waited
+mul-waited c = search needs
 
-store-requires : tie.Need-store-requires
-store-requires c κs = search needs
+array-write-waited : tie.Need-array-write-waited
+array-write-waited c =
+    let c₁ = c .before .before .before .before .before .before .before .before .before in let c₂ = c₁ .before in let a = c₂ .before .before .before .before .args in
+    has-lt (a .extended) (a .self .runner) (sym (c₂ .has .ensures) ∙ not-false _ (c₁ .if2 .left))
 
 latest-level-requires : tie.Need-latest-level-requires
 latest-level-requires c κs = search needs
@@ -85,12 +99,12 @@ seated-requires c κs = search needs
 
 returns-5 : tie.Need-returns-5
 returns-5 c =
-    let d₁ = c .before in let d₂ = d₁ .before in let d₃ = d₂ .before in let d₄ = d₃ .before in let d₅ = d₄ .before .before in
-    let c₇ = d₅ .before .before .before in let c₀ = c₇ .before in let c₁ = c₀ .before in let c₂ = c₁ .before .before .before in let c₃ = c₂ .before .before in
+    let d₁ = c .before in let d₂ = d₁ .before in let d₃ = d₂ .before in let d₄ = d₃ .before in
+    let c₇ = d₄ .before .before in let c₀ = c₇ .before in let c₁ = c₀ .before in let c₂ = c₁ .before .before in let c₃ = c₂ .before .before in
     let c₄ = c₃ .before .before in let c₅ = c₄ .before in let c₆ = c₅ .before .before in let a = c₆ .before .before .args in
     (c .seated .ensures)
     ∙ ap outcomeOf (wait-pauses (a .extended) (a .priority .now) (view (a .self)) (a .mask) (c₆ .if1 .left) (c₅ .has .ensures) (not-false _ (c₄ .if2 .left)) (c₃ .top .ensures) (c₂ .if3 .left) (c₁ .bits-of .ensures) (c₀ .any-set .ensures) (c₇ .if4 .left)
-    (d₅ .store .ensures) (d₄ .latest-level .ensures) (d₃ .without .ensures) (d₂ .top2 .ensures) (ap viewPicked (d₁ .arbitrated .ensures)))
+    refl (d₄ .latest-level .ensures) (d₃ .without .ensures) (d₂ .top2 .ensures) (ap viewPicked (d₁ .arbitrated .ensures)))
 
 pub wait-spec : {M : Type 1} → statement M
 wait-spec =
@@ -105,13 +119,16 @@ wait-spec =
     top-requires
     with-status-requires-3
     returns-3
+    cast-kept
+    mul-kept
+    array-read-kept
     bits-of-requires
     any-set-requires
     with-status-requires-4
     returns-4
-    slice-aggregate-store
-    cast-store
-    store-requires
+    cast-waited
+    mul-waited
+    array-write-waited
     latest-level-requires
     without-requires
     top-requires-2

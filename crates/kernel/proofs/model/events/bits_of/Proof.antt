@@ -5,9 +5,6 @@ use borrow.Author.Needs.{needs}
 use Rattle.kernel.proofs.model.events.bits_of.Statement.{statement}
 use Rattle.kernel.proofs.model.events.bits_of.Tie as tie
 
-word-at-requires : tie.Need-word-at-requires
-word-at-requires c κs = search needs
-
 has-requires : tie.Need-has-requires
 has-requires c κs = search needs
 
@@ -15,7 +12,7 @@ returns : tie.Need-returns
 returns c = rw (sym (c .before .has .ensures) ∙ c .if1 .taken)
 
 returns-2 : tie.Need-returns-2
-returns-2 c = rw (sym (c .before .has .ensures) ∙ c .if1 .left) (c .before .before .word-at .ensures)
+returns-2 c = rw (sym (c .before .has .ensures) ∙ c .if1 .left)
 
 pub bits-of-spec : {M : Type 1} → statement M
-bits-of-spec = tie.close (tie.spec word-at-requires has-requires returns returns-2)
+bits-of-spec = tie.close (tie.spec has-requires returns returns-2)
