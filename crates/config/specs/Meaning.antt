@@ -1,4 +1,5 @@
--- What the rules ask of a configuration: whether it counts lost lines, which bodies are tasks, extended ones and ISRs, a resource's users and its
+-- What the rules ask of a configuration: whether it counts lost lines, which bodies are tasks, extended or
+-- time-triggered ones, and ISRs, a resource's users and its
 -- ceiling, a table's entries.
 -- A kind is a number in the bytes alone: whatever else needs it asks one of these questions.
 -- Assumes nothing.
@@ -21,11 +22,22 @@ isr = 1
 abbrev pub extended : ℕ
 extended = 2
 
+-- "Kind 3 is such a task": OSEKtime's time-triggered task, "started only by entries"
+abbrev pub timeTriggered : ℕ
+timeTriggered = 3
+
 -- the last kind that there is
 abbrev pub lastKind : ℕ
 lastKind = extended
 
--- b is the number of a body that is a task; "an ISR's number is no task", and an extended task is one
+-- "runs at one common execution level 201; the trigger level is 202", both above every priority
+abbrev pub executionLevel : ℕ
+executionLevel = 201
+
+abbrev pub triggerLevel : ℕ
+triggerLevel = 202
+
+-- b is the number of a body that is a task; "an ISR's number is no task", and an extended or a time-triggered task is one
 abbrev pub isTask : Config → ℕ → Bool
 isTask c b = ltb b (c .bodies) && not (eqb (getD (c .kind) b 0) isr)
 
@@ -36,6 +48,14 @@ isIsr c b = ltb b (c .bodies) && eqb (getD (c .kind) b 0) isr
 -- b is the number of an extended task
 abbrev pub isExtended : Config → ℕ → Bool
 isExtended c b = ltb b (c .bodies) && eqb (getD (c .kind) b 0) extended
+
+-- b is the number of a time-triggered task
+abbrev pub isTimed : Config → ℕ → Bool
+isTimed c b = ltb b (c .bodies) && eqb (getD (c .kind) b 0) timeTriggered
+
+-- b is the number of a task that Activate and Chain may name: one of OSEK, and not of OSEKtime
+abbrev pub isOsekTask : Config → ℕ → Bool
+isOsekTask c b = isTask c b && not (isTimed c b)
 
 -- a body's own priority
 abbrev pub priorityOf : Config → ℕ → ℕ
