@@ -8,42 +8,49 @@ use Rattle.config.specs.Meaning.{priorityOf, ceiling}
 use Rattle.scheduler.specs.Bits.{anySet, withBits, withoutBits}
 
 -- "suspended, ready (waiting to begin) or started (begun, not finished)": OSEK's running and preempted are both `started`. An extended task
--- may be OSEK's waiting besides: begun, and waiting for one of the bits of a mask.
+-- may be OSEK's waiting besides: begun, and waiting for one of the bits of a mask. A time-triggered task is suspended or `triggered`, by an
+-- entry: OSEKtime's running and preempted, once it has begun.
 pub data Phase : Type 0 where
   suspended ready started : Phase
   waiting : (mask : ℕ) → Phase
+  triggered : (began : Bool) → Phase
 
 abbrev pub isSuspended : Phase → Bool
 isSuspended suspended = true
 isSuspended ready = false
 isSuspended started = false
 isSuspended (waiting w) = false
+isSuspended (triggered x) = false
 
 abbrev pub isStarted : Phase → Bool
 isStarted suspended = false
 isStarted ready = false
 isStarted started = true
 isStarted (waiting w) = false
+isStarted (triggered x) = false
 
 abbrev pub isWaiting : Phase → Bool
 isWaiting suspended = false
 isWaiting ready = false
 isWaiting started = false
 isWaiting (waiting w) = true
+isWaiting (triggered x) = false
 
--- begun and not finished: started, or waiting
+-- begun and not finished: started, waiting, or triggered and begun
 abbrev pub hasBegun : Phase → Bool
 hasBegun suspended = false
 hasBegun ready = false
 hasBegun started = true
 hasBegun (waiting w) = true
+hasBegun (triggered x) = x
 
--- ready or started: it may run
+-- ready or started: it may run by its priority
 abbrev pub competes : Phase → Bool
 competes suspended = false
 competes ready = true
 competes started = true
 competes (waiting w) = false
+competes (triggered x) = false
 
 -- `pending`: for a started ISR, whether a request waits. `held`: the resources it holds, the most recently taken first.
 -- `losses`: lost activations, and where they are counted lost lines. `bits`: the event bits of an extended task.
@@ -69,6 +76,10 @@ become p b = record { phase = p; pending = b .pending; held = b .held; losses = 
 -- A suspended body becomes ready, and in no other way: "32 event bits, cleared when it is activated from suspended"
 abbrev pub activated : Body → Body
 activated b = record { phase = ready; pending = b .pending; held = b .held; losses = b .losses; bits = 0 }
+
+-- "started only by entries": an entry triggers a suspended time-triggered task
+abbrev pub triggers : Body → Body
+triggers b = become (triggered false) (activated b)
 
 -- the runner has ended
 abbrev pub ended : Body → Body
@@ -127,6 +138,7 @@ resumed bits suspended = suspended
 resumed bits ready = ready
 resumed bits started = started
 resumed bits (waiting w) = cond (anySet bits w) started (waiting w)
+resumed bits (triggered x) = triggered x
 
 -- Set: the bits of w are set too; neither a Wait nor a resumption clears any
 abbrev pub receives : ℕ → Body → Body

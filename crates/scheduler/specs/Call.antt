@@ -13,9 +13,9 @@ use mathlib.Core.Bool.{Bool, true, false, cond, not, _&&_, _||_}
 use mathlib.Core.List.{List, [], _∷_}
 use lib.Dec.{ltb, leb, eqb}
 use Rattle.config.specs.declared.Config.{Config}
-use Rattle.config.specs.Meaning.{countsLines, isTask, isIsr, isExtended, isUser, smallestOffset}
+use Rattle.config.specs.Meaning.{countsLines, isTask, isOsekTask, isIsr, isExtended, isUser, smallestOffset}
 use Rattle.scheduler.specs.Status.{Check, callLevel, noSuch, limitReached, access, noFunction, holdsResource, wrongState, badDelay, notUser, _gives_, firstGiven}
-use Rattle.scheduler.specs.Body.{Phase, suspended, ready, started, waiting, isSuspended, Body, holds, activated, finished, requested, gets, releases, loses, waits, receives, clears}
+use Rattle.scheduler.specs.Body.{Phase, suspended, ready, started, waiting, triggered, isSuspended, Body, holds, activated, finished, rest, requested, gets, releases, loses, waits, receives, clears}
 use Rattle.scheduler.specs.Choice.{Candidate, isNobody}
 use Rattle.scheduler.specs.State.{State, stopped, running, isRunning, bodyOf, tableOf, changing, withTable, runner, heldIn}
 use Rattle.scheduler.specs.Event.{Event, Activate, Finish, Chain, Get, Release, Tick, Line, Start, Stop, Wait, Set, Clear}
@@ -30,60 +30,65 @@ abbrev pub latestIs : ℕ → List ℕ → Bool
 latestIs r [] = false
 latestIs r (x ∷ xs) = eqb r x
 
--- "a request already waits (the ISR is ready, or started with one waiting)"
+-- "a request already waits (the ISR is ready, or started with one waiting)"; that of a triggered body waits until it begins
 abbrev pub requestWaits : Body → Phase → Bool
 requestWaits b suspended = false
 requestWaits b ready = true
 requestWaits b started = b .pending
 requestWaits b (waiting w) = b .pending
+requestWaits b (triggered x) = not x
 
 -- the largest sum of the delay and the smallest offset
 abbrev pub longestDelay : ℕ
 longestDelay = 65535
 
+-- nobody who may call runs: "A body of kind 3 may make no call but Finish", "in the place of nobody running"
+abbrev pub noCaller : Candidate → Bool
+noCaller k = isNobody k || k .timed
+
 -- "statuses in order", while k runs. Line is document 01's word for an interrupt request.
 abbrev pub checksFor : Config → Candidate → State → Event → List Check
-checksFor c k s (Activate t) = (isNobody k gives callLevel) ∷ (not (isTask c t) gives noSuch) ∷ (active s t gives limitReached) ∷ []
+checksFor c k s (Activate t) = (noCaller k gives callLevel) ∷ (not (isOsekTask c t) gives noSuch) ∷ (active s t gives limitReached) ∷ []
 checksFor c k s Finish = (isNobody k gives callLevel) ∷ (holds (bodyOf s (k .number) .held) gives holdsResource) ∷ []
 checksFor c k s (Chain t) =
-    (isNobody k || isIsr c (k .number) gives callLevel) ∷
-    (not (isTask c t) gives noSuch) ∷
+    (noCaller k || isIsr c (k .number) gives callLevel) ∷
+    (not (isOsekTask c t) gives noSuch) ∷
     (holds (bodyOf s (k .number) .held) gives holdsResource) ∷
     (active s t && not (eqb t (k .number)) gives limitReached) ∷
     []
 checksFor c k s (Get r) =
-    (isNobody k gives callLevel) ∷
+    (noCaller k gives callLevel) ∷
     (leb (c .resources) r gives noSuch) ∷
     (not (isUser c r (k .number)) gives notUser) ∷
     (heldIn r (s .bodies) gives access) ∷
     []
 checksFor c k s (Release r) =
-    (isNobody k gives callLevel) ∷
+    (noCaller k gives callLevel) ∷
     (leb (c .resources) r gives noSuch) ∷
     (not (latestIs r (bodyOf s (k .number) .held)) gives noFunction) ∷
     []
 checksFor c k s Tick = []
 checksFor c k s (Line i) = (not (isIsr c i) gives noSuch) ∷ (requestWaits (bodyOf s i) (bodyOf s i .phase) gives limitReached) ∷ []
 checksFor c k s (Start t d) =
-    (isNobody k gives callLevel) ∷
+    (noCaller k gives callLevel) ∷
     (leb (c .tables) t gives noSuch) ∷
     (eqb d 0 || ltb longestDelay (d + smallestOffset c t) gives badDelay) ∷
     (isRunning (tableOf s t) gives wrongState) ∷
     []
 checksFor c k s (Stop t) =
-    (isNobody k gives callLevel) ∷
+    (noCaller k gives callLevel) ∷
     (leb (c .tables) t gives noSuch) ∷
     (not (isRunning (tableOf s t)) gives noFunction) ∷
     []
 checksFor c k s (Wait w) =
-    (isNobody k gives callLevel) ∷ (not (isExtended c (k .number)) gives access) ∷ (holds (bodyOf s (k .number) .held) gives holdsResource) ∷ []
+    (noCaller k gives callLevel) ∷ (not (isExtended c (k .number)) gives access) ∷ (holds (bodyOf s (k .number) .held) gives holdsResource) ∷ []
 checksFor c k s (Set t w) =
-    (isNobody k gives callLevel) ∷
+    (noCaller k gives callLevel) ∷
     (not (isTask c t) gives noSuch) ∷
     (not (isExtended c t) gives access) ∷
     (not (active s t) gives wrongState) ∷
     []
-checksFor c k s (Clear w) = (isNobody k gives callLevel) ∷ (not (isExtended c (k .number)) gives access) ∷ []
+checksFor c k s (Clear w) = (noCaller k gives callLevel) ∷ (not (isExtended c (k .number)) gives access) ∷ []
 
 -- "t ready"
 abbrev pub activate : ℕ → State → State
@@ -92,6 +97,10 @@ activate t s = changing t activated s
 -- "the runner suspended, but ready if a request waits"; i: the runner, here and below
 abbrev pub finish : ℕ → State → State
 finish i s = changing i finished s
+
+-- a time-triggered task ends: it was the latest
+abbrev pub finishTimed : ℕ → State → State
+finishTimed i s = record { bodies = finish i s .bodies; tables = s .tables; order = rest (s .order) }
 
 -- "as Finish, then as Activate"
 abbrev pub chain : ℕ → ℕ → State → State
@@ -129,7 +138,7 @@ clear i w s = changing i (clears w) s
 
 abbrev pub effectFor : Config → Candidate → State → Event → State
 effectFor c k s (Activate t) = activate t s
-effectFor c k s Finish = finish (k .number) s
+effectFor c k s Finish = cond (k .timed) (finishTimed (k .number) s) (finish (k .number) s)
 effectFor c k s (Chain t) = chain (k .number) t s
 effectFor c k s (Get r) = get (k .number) r s
 effectFor c k s (Release r) = release (k .number) s

@@ -1,4 +1,4 @@
--- Who runs: the choice made afresh from the bodies.
+-- Who runs by priority: the choice made afresh from the bodies.
 --
 --   chosen c bs       the body that runs, with its level, or `nobody`
 --   chosenBy q c bs   the same by another rule for ties
@@ -10,32 +10,34 @@ use mathlib.Core.Bool.{Bool, true, false, cond, not, _&&_, _||_}
 use mathlib.Core.List.{List, [], _∷_}
 use lib.Dec.{ltb, eqb}
 use Rattle.config.specs.declared.Config.{Config}
-use Rattle.scheduler.specs.Body.{Phase, suspended, ready, started, waiting, Body, holds, current}
+use Rattle.scheduler.specs.Body.{Phase, suspended, ready, started, waiting, triggered, Body, holds, current}
 
 -- A body that may run. `level` is document 01's word for the current priority of the one that runs, OSEK's current CPU priority; `holder`:
--- whether it holds a resource.
+-- whether it holds a resource; `timed`: whether it is time-triggered.
 pub record Candidate : Type 0 where
   pub number : ℕ
   pub level : ℕ
   pub began : Bool
   pub holder : Bool
+  pub timed : Bool
 
 -- "idle is written 255", and "the level is .. 0 when idle"
 abbrev pub idle : ℕ
 idle = 255
 
 abbrev pub nobody : Candidate
-nobody = record { number = idle; level = 0; began = false; holder = false }
+nobody = record { number = idle; level = 0; began = false; holder = false; timed = false }
 
 abbrev pub isNobody : Candidate → Bool
 isNobody k = eqb (k .level) 0
 
--- what the body with number i is to the choice; a waiting one is no candidate
+-- what the body with number i is to the choice; neither a waiting one nor a triggered one, which goes before all others, is a candidate
 unfoldable pub candidate : Config → ℕ → Body → Phase → Candidate
 candidate c i b suspended = nobody
-candidate c i b ready = record { number = i; level = current c i b; began = false; holder = holds (b .held) }
-candidate c i b started = record { number = i; level = current c i b; began = true; holder = holds (b .held) }
+candidate c i b ready = record { number = i; level = current c i b; began = false; holder = holds (b .held); timed = false }
+candidate c i b started = record { number = i; level = current c i b; began = true; holder = holds (b .held); timed = false }
 candidate c i b (waiting w) = nobody
+candidate c i b (triggered x) = nobody
 
 -- a rule for ties
 abbrev pub Tie : Type 0

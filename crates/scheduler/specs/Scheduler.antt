@@ -15,7 +15,7 @@ use lib.ListN.{length, take, replicate}
 use Rattle.config.specs.declared.Config.{Config}
 use Rattle.config.specs.Meaning.{countsLines}
 use Rattle.scheduler.specs.Status.{done, limitReached, firstGiven}
-use Rattle.scheduler.specs.Body.{started, Body, become, activated}
+use Rattle.scheduler.specs.Body.{Phase, started, triggered, Body, become, activated}
 use Rattle.scheduler.specs.Choice.{Candidate, Tie, byHolding, isNobody}
 use Rattle.scheduler.specs.State.{stopped, State, noBody, changing, runnerBy, runner}
 pub use Rattle.scheduler.specs.Event.{Event, Activate, Finish, Chain, Get, Release, Tick, Line, Start, Stop, Wait, Set, Clear}
@@ -40,9 +40,13 @@ pub record Stepped : Type 0 where
 abbrev pub begins : Candidate → Bool
 begins k = not (isNobody k) && not (k .began)
 
+-- what a body is that has begun
+abbrev pub phaseBegun : Candidate → Phase
+phaseBegun k = cond (k .timed) (triggered true) started
+
 -- "Last, the runner is chosen by the rule for who runs; a ready one becomes started, begun mark 1"; k: the chosen one
 abbrev pub dispatchedTo : Candidate → State → State
-dispatchedTo k s = cond (begins k) (changing (k .number) (become started) s) s
+dispatchedTo k s = cond (begins k) (changing (k .number) (become (phaseBegun k)) s) s
 
 abbrev pub dispatched : Config → State → State
 dispatched c s = dispatchedTo (runner c s) s
@@ -106,7 +110,7 @@ abbrev pub newBody : ℕ → Body
 newBody autostart = cond (eqb autostart 1) (activated noBody) noBody
 
 abbrev pub unstarted : Config → State
-unstarted c = record { bodies = map newBody (take (c .bodies) (c .autostart)); tables = replicate (c .tables) stopped }
+unstarted c = record { bodies = map newBody (take (c .bodies) (c .autostart)); tables = replicate (c .tables) stopped; order = [] }
 
 abbrev pub freshBy : Tie → Config → State
 freshBy q c = dispatchedTo (runnerBy q c (unstarted c)) (unstarted c)

@@ -10,19 +10,19 @@ use Prim.Native.Nat.{ℕ, suc, _+_}
 use mathlib.Core.Bool.{Bool, true, false, cond, _&&_}
 use mathlib.Core.List.{List, [], _∷_, _++_, map}
 use lib.Dec.{eqb}
-use lib.ListN.{getD}
+use lib.ListN.{getD, set}
 use Rattle.config.specs.declared.Config.{Config}
-use Rattle.config.specs.Meaning.{offsets}
+use Rattle.config.specs.Meaning.{isTimed, offsets}
 use Rattle.cell.specs.Due.{due}
-use Rattle.scheduler.specs.Body.{activatedByEntry}
-use Rattle.scheduler.specs.State.{Table, stopped, running, State, changing}
+use Rattle.scheduler.specs.Body.{isSuspended, triggers, loses, activatedByEntry}
+use Rattle.scheduler.specs.State.{Table, stopped, running, State, bodyOf, changing}
 
 unfoldable pub counting : Table → Table
 counting stopped = stopped
 counting (running d n) = running d (suc n)
 
 abbrev pub counted : State → State
-counted s = record { bodies = s .bodies; tables = map counting (s .tables) }
+counted s = record { bodies = s .bodies; tables = map counting (s .tables); order = s .order }
 
 -- the entry at offset o of a table with period P: its first delay is d + o
 unfoldable pub entryDue : ℕ → Table → ℕ → Bool
@@ -37,16 +37,28 @@ duesFrom c t (x ∷ xs) = map (entryDue (getD (c .period) t 0) x) (offsets c t) 
 abbrev pub dues : Config → State → List Bool
 dues c s = duesFrom c 0 (s .tables)
 
--- the entries' tasks, each activated if its entry is due
-unfoldable pub activatingDue : List Bool → List ℕ → State → State
-activatingDue [] ts s = s
-activatingDue (true ∷ ds) [] s = s
-activatingDue (false ∷ ds) [] s = s
-activatingDue (true ∷ ds) (t ∷ ts) s = activatingDue ds ts (changing t activatedByEntry s)
-activatingDue (false ∷ ds) (t ∷ ts) s = activatingDue ds ts s
+-- the time-triggered task t is started: it is the latest
+abbrev pub starting : ℕ → State → State
+starting t s = record { bodies = set (s .bodies) t (triggers (bodyOf s t)); tables = s .tables; order = t ∷ s .order }
+
+-- "An entry due while its body is started counts as a loss"
+abbrev pub trigger : ℕ → State → State
+trigger t s = cond (isSuspended (bodyOf s t .phase)) (starting t s) (changing t loses s)
+
+-- a due entry of the task t
+abbrev pub enter : Config → ℕ → State → State
+enter c t s = cond (isTimed c t) (trigger t s) (changing t activatedByEntry s)
+
+-- the entries' tasks, each activated or started if its entry is due
+unfoldable pub activatingDue : Config → List Bool → List ℕ → State → State
+activatingDue c [] ts s = s
+activatingDue c (true ∷ ds) [] s = s
+activatingDue c (false ∷ ds) [] s = s
+activatingDue c (true ∷ ds) (t ∷ ts) s = activatingDue c ds ts (enter c t s)
+activatingDue c (false ∷ ds) (t ∷ ts) s = activatingDue c ds ts s
 
 abbrev pub ticked : Config → State → State
-ticked c s = activatingDue (dues c (counted s)) (c .task) (counted s)
+ticked c s = activatingDue c (dues c (counted s)) (c .task) (counted s)
 
 -- how many of the due entries name the task t: a number, so their order does not tell
 unfoldable pub naming : ℕ → List Bool → List ℕ → ℕ
