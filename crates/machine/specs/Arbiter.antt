@@ -1,26 +1,29 @@
--- Who runs, as the interrupt controller does it: of those that wait to begin or have begun, and do not wait for an event bit, the highest
--- wins, and is dispatched only strictly above the level.
+-- Who runs, as the interrupt controller does it: of those that wait to begin or go on by their priority the highest wins, and is dispatched
+-- only strictly above the level.
 --
 --   arbitrated ps k   the core k after arbitration, and whether a body began; ps: the priorities by rank
 --   settled ps m      the model after arbitration, which ends every event that may let another body run
 --   leaving m         the model after its runner ended
+--   triggering ps ts m   arbitration after a Tick, which alone may start a time-triggered task; ts: the ranks of these
+--   returning m       the model after a time-triggered task ended
 --
 -- No stack of preempted bodies is kept: one that holds no resource bids for the processor by its bit in `started`, and one that holds some
 -- is found in the row of held resources. Assumes nothing.
 use Prim.Native.Nat.{ℕ}
-use mathlib.Core.Bool.{Bool, false, cond, not}
+use mathlib.Core.Bool.{Bool, true, false, cond, not, _&&_}
 use mathlib.Core.List.{List}
 use lib.Dec.{ltb, eqb}
 use lib.ListN.{getD}
-use Rattle.word.specs.Word.{has, with, without, union, intersection, winner}
-use Rattle.stack.specs.Stack.{topRow}
-use Rattle.machine.specs.Model.{Core, Picked, Model, Outcome, noRank, withCore, withRequest, withEvents, doneWith}
+use Rattle.config.specs.Meaning.{executionLevel}
+use Rattle.word.specs.Word.{has, with, without, union, winner}
+use Rattle.stack.specs.Stack.{topRow, secondRow, pushRow, popRow}
+use Rattle.machine.specs.Model.{Core, Picked, Model, Outcome, noRank, withCore, withRequest, withEvents, withTriggered, doneWith}
 
--- the ranks that ask for the processor: they wait to begin, or have begun and not ended, and their bodies do not wait
+-- the ranks that ask for the processor: they wait to begin, or have begun and go on by their priority
 abbrev pub bids : Core → ℕ
-bids k = intersection (union (k .request) (k .started)) (k .enabled)
+bids k = union (k .request) (k .started)
 
--- "the arbiter's winner is the highest bit set in that word": its priority, 0 where no bit is set
+-- "the arbiter's winner is the highest bit set in that word": its priority, or its trigger level, and 0 where no bit is set
 abbrev pub winning : List ℕ → Core → ℕ
 winning ps k = getD ps (winner (bids k)) 0
 
@@ -34,7 +37,7 @@ dispatching ps k =
     record {
       request = cond (beginning k) (without (k .request) (winner (bids k))) (k .request);
       started = with (k .started) (winner (bids k));
-      enabled = k .enabled;
+      aside = k .aside;
       runner = winner (bids k);
       level = winning ps k;
     }
@@ -48,28 +51,67 @@ abbrev pub settled : List ℕ → Model → Outcome
 settled ps m = doneWith (withCore m (arbitrated ps (m .core) .core)) (arbitrated ps (m .core) .begun)
 
 -- the runner leaves, by its end or by a Wait: the level is left to whoever took the latest resource that is held, or to nobody; arbitration
--- follows. s and e: the words `started` and `enabled` then
+-- follows. s and a: the words `started` and `aside` then
+abbrev pub lastLevel : Model → ℕ
+lastLevel m = cond (eqb (topRow (m .holder)) noRank) 0 (topRow (m .raised))
+
 abbrev pub leftWith : Model → ℕ → ℕ → Core
-leftWith m s e =
-    record {
-      request = m .core .request;
-      started = s;
-      enabled = e;
-      runner = topRow (m .holder);
-      level = cond (eqb (topRow (m .holder)) noRank) 0 (topRow (m .raised));
-    }
+leftWith m s a =
+    record { request = m .core .request; started = s; aside = a; runner = topRow (m .holder); level = lastLevel m }
 
 -- the runner has ended, and its event bits count as 0 until they are set again: at its next activation none is set
 abbrev pub vacated : Model → Core
-vacated m = leftWith m (without (m .core .started) (m .core .runner)) (m .core .enabled)
+vacated m = leftWith m (without (m .core .started) (m .core .runner)) (m .core .aside)
 
 abbrev pub leaving : Model → Model
 leaving m = withEvents m (vacated m) (with (m .cleared) (m .core .runner)) (m .bits) (m .waited)
 
 -- the runner waits
 abbrev pub paused : Model → Core
-paused m = leftWith m (m .core .started) (without (m .core .enabled) (m .core .runner))
+paused m = leftWith m (without (m .core .started) (m .core .runner)) (with (m .core .aside) (m .core .runner))
 
 -- the body of rank r asked for
 abbrev pub requesting : ℕ → Model → Model
 requesting r m = withCore m (withRequest (m .core) (with (m .core .request) r))
+
+-- the winner is a time-triggered task, and its trigger level is above the level
+abbrev pub isTriggered : List ℕ → ℕ → Core → Bool
+isTriggered ps ts k = has ts (winner (bids k)) && ltb (k .level) (winning ps k)
+
+-- it begins, and its wrapper lowers the level from that of the trigger to the common execution level
+abbrev pub entering : Core → Core
+entering k =
+    record {
+      request = without (k .request) (winner (bids k));
+      started = k .started;
+      aside = with (k .aside) (winner (bids k));
+      runner = winner (bids k);
+      level = executionLevel;
+    }
+
+abbrev pub launching : Model → Model
+launching m = withTriggered m (entering (m .core)) (m .cleared) (pushRow (m .triggered) (winner (bids (m .core))))
+
+abbrev pub triggering : List ℕ → ℕ → Model → Outcome
+triggering ps ts m = cond (isTriggered ps ts (m .core)) (doneWith (launching m) true) (settled ps m)
+
+-- a time-triggered task runs: nothing else does at that level
+abbrev pub timed : Model → Bool
+timed m = eqb (m .core .level) executionLevel
+
+-- it has ended: the one that was started before it goes on, at the same level; where there is none, the level is left as by any other runner
+abbrev pub alone : Model → Bool
+alone m = eqb (secondRow (m .triggered)) noRank
+
+abbrev pub returned : Model → Core
+returned m =
+    record {
+      request = m .core .request;
+      started = m .core .started;
+      aside = without (m .core .aside) (m .core .runner);
+      runner = cond (alone m) (topRow (m .holder)) (secondRow (m .triggered));
+      level = cond (alone m) (lastLevel m) executionLevel;
+    }
+
+abbrev pub returning : Model → Model
+returning m = withTriggered m (returned m) (with (m .cleared) (m .core .runner)) (popRow (m .triggered))

@@ -103,7 +103,7 @@ oneMore n = min (n + 1) mostLosses
 abbrev pub oneLost : ℕ → List ℕ → List ℕ
 oneLost r ls = set ls r (oneMore (getD ls r 0))
 
--- a match of an entry whose task has rank r: a request where the task is suspended, else a loss; w: the started bodies
+-- a match of an entry whose task has rank r: a request where the task is suspended, else a loss; w: the bodies that have begun
 abbrev pub matchAt : ℕ → ℕ → Due → Due
 matchAt w r x =
     cond (has (x .request) r || has w r)

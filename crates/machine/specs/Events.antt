@@ -1,7 +1,7 @@
 -- The machine's twelve events: each one's status "in order", its effect where that is 0, and the two put together.
 --
--- ps are the priorities by rank, trs and lrs the ranks of tasks and of ISRs by body, as the plan has them, xs the word of the ranks that are
--- extended tasks. Assumes nothing.
+-- ps are the priorities by rank, trs and lrs the ranks of tasks and of ISRs by body, as the plan has them, ws, xs and ts the
+-- words of the ranks that are ISRs, extended tasks and time-triggered ones. Assumes nothing.
 use Prim.Native.Nat.{ℕ, _+_, max}
 use mathlib.Core.Bool.{Bool, false, cond, not, _&&_, _||_}
 use mathlib.Core.List.{List, [], _∷_}
@@ -11,9 +11,9 @@ use Rattle.config.specs.Value.{maxEntries}
 use Rattle.scheduler.specs.Status.{done, callLevel, noSuch, limitReached, access, noFunction, holdsResource, wrongState, badDelay, notUser, _gives_, firstGiven}
 use Rattle.scheduler.specs.Bits.{anySet, withBits, withoutBits}
 use Rattle.scheduler.specs.Call.{longestDelay}
-use Rattle.word.specs.Word.{has, with, without}
-use Rattle.machine.specs.Model.{Model, Outcome, noRank, withCore, withRequest, withEnabled, withRest, withCells, withLosses, withEvents, doneWith, refusedWith}
-use Rattle.machine.specs.Arbiter.{settled, leaving, paused, requesting}
+use Rattle.word.specs.Word.{has, with, without, union}
+use Rattle.machine.specs.Model.{Model, Outcome, noRank, withCore, withRequest, withBegun, withRest, withCells, withLosses, withEvents, doneWith, refusedWith}
+use Rattle.machine.specs.Arbiter.{settled, leaving, paused, requesting, triggering, timed, returning}
 use Rattle.machine.specs.Resources.{holding, latest, getting, releasing}
 use Rattle.machine.specs.Cells.{switchOff, isOn, countersTicked, switchesTicked, someTurn, marks, countersStarted, switchesStarted, someLong, countersStopped, switched, Due, oneLost, requestsDue}
 
@@ -21,9 +21,17 @@ use Rattle.machine.specs.Cells.{switchOff, isOn, countersTicked, switche
 abbrev pub idles : Model → Bool
 idles m = eqb (m .core .runner) noRank
 
--- the body of rank r is ready, or has begun and not ended: started or waiting
+-- nobody who may call runs: "A body of kind 3 may make no call but Finish", "in the place of nobody running"
+abbrev pub noCaller : Model → Bool
+noCaller m = idles m || timed m
+
+-- the words of the ranks that have begun and not ended
+abbrev pub begunWord : Model → ℕ
+begunWord m = union (m .core .started) (m .core .aside)
+
+-- the body of rank r is ready, or has begun and not ended
 abbrev pub busy : Model → ℕ → Bool
-busy m r = has (m .core .request) r || has (m .core .started) r
+busy m r = has (m .core .request) r || has (begunWord m) r
 
 -- "A status other than 0 changes nothing"; m: the model that a refused event leaves
 abbrev pub attempt : Model → ℕ → Outcome → Outcome
@@ -32,7 +40,7 @@ attempt m st o = cond (eqb st done) o (refusedWith m st)
 -- Activate t
 abbrev pub activateStatus : List ℕ → Model → ℕ → ℕ
 activateStatus trs m t =
-    firstGiven ((idles m gives callLevel) ∷ (eqb (getD trs t noRank) noRank gives noSuch) ∷ (busy m (getD trs t noRank) gives limitReached) ∷ [])
+    firstGiven ((noCaller m gives callLevel) ∷ (eqb (getD trs t noRank) noRank gives noSuch) ∷ (busy m (getD trs t noRank) gives limitReached) ∷ [])
 
 abbrev pub activateEffect : List ℕ → List ℕ → Model → ℕ → Outcome
 activateEffect trs ps m t = settled ps (requesting (getD trs t noRank) m)
@@ -45,7 +53,7 @@ abbrev pub finishStatus : Model → ℕ
 finishStatus m = firstGiven ((idles m gives callLevel) ∷ (holding m gives holdsResource) ∷ [])
 
 abbrev pub finishEffect : List ℕ → Model → Outcome
-finishEffect ps m = settled ps (leaving m)
+finishEffect ps m = settled ps (cond (timed m) (returning m) (leaving m))
 
 unfoldable pub finish : List ℕ → Model → Outcome
 finish ps m = attempt m (finishStatus m) (finishEffect ps m)
@@ -54,7 +62,7 @@ finish ps m = attempt m (finishStatus m) (finishEffect ps m)
 abbrev pub chainStatus : ℕ → List ℕ → Model → ℕ → ℕ
 chainStatus ws trs m t =
     firstGiven
-    ((idles m || has ws (m .core .runner) gives callLevel) ∷
+    ((noCaller m || has ws (m .core .runner) gives callLevel) ∷
     (eqb (getD trs t noRank) noRank gives noSuch) ∷
     (holding m gives holdsResource) ∷
     (busy m (getD trs t noRank) && not (eqb (getD trs t noRank) (m .core .runner)) gives limitReached) ∷
@@ -70,7 +78,7 @@ chain ws trs ps m t = attempt m (chainStatus ws trs m t) (chainEffect trs ps m t
 abbrev pub getStatus : ℕ → List ℕ → Model → ℕ → ℕ
 getStatus n us m r =
     firstGiven
-    ((idles m gives callLevel) ∷
+    ((noCaller m gives callLevel) ∷
     (leb n r gives noSuch) ∷
     (not (has (getD us r 0) (m .core .runner)) gives notUser) ∷
     (has (m .held) r gives access) ∷
@@ -86,7 +94,7 @@ get n us cs m r = attempt m (getStatus n us m r) (getEffect cs m r)
 -- Release r
 abbrev pub releaseStatus : ℕ → Model → ℕ → ℕ
 releaseStatus n m r =
-    firstGiven ((idles m gives callLevel) ∷ (leb n r gives noSuch) ∷ (not (latest m r) gives noFunction) ∷ [])
+    firstGiven ((noCaller m gives callLevel) ∷ (leb n r gives noSuch) ∷ (not (latest m r) gives noFunction) ∷ [])
 
 abbrev pub releaseEffect : List ℕ → Model → ℕ → Outcome
 releaseEffect ps m r = settled ps (releasing ps r m)
@@ -116,7 +124,7 @@ marksOf n ks m = marks n 0 (m .turning) ks (m .on) (m .counter)
 
 abbrev pub dueOf : List ℕ → List ℕ → Model → Due
 dueOf ks rs m =
-    requestsDue (m .core .started) (marksOf maxEntries ks m) rs (record { request = m .core .request; losses = m .losses })
+    requestsDue (begunWord m) (marksOf maxEntries ks m) rs (record { request = m .core .request; losses = m .losses })
 
 -- the switches after a tick: they change only where a turn may have passed
 abbrev pub switchesOf : List ℕ → Model → List ℕ
@@ -130,8 +138,8 @@ ticking ks rs m =
     (m .turning && someTurn maxEntries 0 (switchesOf ks m))
     (dueOf ks rs m .losses)
 
-unfoldable pub tick : List ℕ → List ℕ → List ℕ → Model → Outcome
-tick ks rs ps m = settled ps (ticking ks rs m)
+unfoldable pub tick : List ℕ → List ℕ → List ℕ → ℕ → Model → Outcome
+tick ks rs ps ts m = triggering ps ts (ticking ks rs m)
 
 -- a table "runs" where its first cell is on; fs: the tables' first entries
 abbrev pub runs : List ℕ → Model → ℕ → Bool
@@ -141,7 +149,7 @@ runs fs m t = isOn (getD (m .on) (getD fs t 0) 0)
 abbrev pub startStatus : ℕ → List ℕ → List ℕ → Model → ℕ → ℕ → ℕ
 startStatus n fs os m t d =
     firstGiven
-    ((idles m gives callLevel) ∷
+    ((noCaller m gives callLevel) ∷
     (leb n t gives noSuch) ∷
     (eqb d 0 || ltb longestDelay (d + getD os (getD fs t 0) 0) gives badDelay) ∷
     (runs fs m t gives wrongState) ∷
@@ -161,7 +169,7 @@ start n fs es qs os m t d = attempt m (startStatus n fs os m t d) (startEffect f
 
 -- Stop t
 abbrev pub stopStatus : ℕ → List ℕ → Model → ℕ → ℕ
-stopStatus n fs m t = firstGiven ((idles m gives callLevel) ∷ (leb n t gives noSuch) ∷ (not (runs fs m t) gives noFunction) ∷ [])
+stopStatus n fs m t = firstGiven ((noCaller m gives callLevel) ∷ (leb n t gives noSuch) ∷ (not (runs fs m t) gives noFunction) ∷ [])
 
 abbrev pub stopping : ℕ → ℕ → Model → Model
 stopping k e m = withCells m (countersStopped k e (m .counter)) (switched k e switchOff (m .on)) (m .turning)
@@ -176,14 +184,14 @@ stop n fs es m t = attempt m (stopStatus n fs m t) (stopEffect fs es m t)
 abbrev pub bitsAt : Model → ℕ → ℕ
 bitsAt m r = cond (has (m .cleared) r) 0 (getD (m .bits) r 0)
 
--- the event bits of the body of rank r become b, and e the word of those that do not wait
-abbrev pub storing : ℕ → ℕ → ℕ → Model → Model
-storing r b e m = withEvents m (withEnabled (m .core) e) (without (m .cleared) r) (set (m .bits) r b) (m .waited)
+-- the event bits of the body of rank r become b, and s and a the words of those that have begun
+abbrev pub storing : ℕ → ℕ → ℕ → ℕ → Model → Model
+storing r b s a m = withEvents m (withBegun (m .core) s a) (without (m .cleared) r) (set (m .bits) r b) (m .waited)
 
 -- Wait w
 abbrev pub waitStatus : ℕ → Model → ℕ
 waitStatus xs m =
-    firstGiven ((idles m gives callLevel) ∷ (not (has xs (m .core .runner)) gives access) ∷ (holding m gives holdsResource) ∷ [])
+    firstGiven ((noCaller m gives callLevel) ∷ (not (has xs (m .core .runner)) gives access) ∷ (holding m gives holdsResource) ∷ [])
 
 -- the runner waits for a bit of w
 abbrev pub pausing : ℕ → Model → Model
@@ -196,35 +204,42 @@ waitEffect ps m w = cond (anySet (bitsAt m (m .core .runner)) w) (doneWith m fal
 unfoldable pub wait : ℕ → List ℕ → Model → ℕ → Outcome
 wait xs ps m w = attempt m (waitStatus xs m) (waitEffect ps m w)
 
--- Set t w
-abbrev pub setStatus : ℕ → List ℕ → Model → ℕ → ℕ
-setStatus xs trs m t =
+-- Set t w; rs: the ranks of all bodies
+abbrev pub noTask : ℕ → ℕ → Bool
+noTask ws r = eqb r noRank || has ws r
+
+abbrev pub setStatus : ℕ → ℕ → List ℕ → Model → ℕ → ℕ
+setStatus ws xs rs m t =
     firstGiven
-    ((idles m gives callLevel) ∷
-    (eqb (getD trs t noRank) noRank gives noSuch) ∷
-    (not (has xs (getD trs t noRank)) gives access) ∷
-    (not (busy m (getD trs t noRank)) gives wrongState) ∷
+    ((noCaller m gives callLevel) ∷
+    (noTask ws (getD rs t noRank) gives noSuch) ∷
+    (not (has xs (getD rs t noRank)) gives access) ∷
+    (not (busy m (getD rs t noRank)) gives wrongState) ∷
     [])
 
--- the event bits b of rank r: "once a waited bit is set" its body does not wait; one that does not wait stays so
-abbrev pub enabledBy : ℕ → ℕ → Model → ℕ
-enabledBy r b m = cond (anySet b (getD (m .waited) r 0)) (with (m .core .enabled) r) (m .core .enabled)
+-- with the event bits b "a waited bit is set" of the body of rank r, which waits: it goes on by its priority
+abbrev pub resumes : ℕ → ℕ → Model → Bool
+resumes r b m = has (m .core .aside) r && anySet b (getD (m .waited) r 0)
+
+abbrev pub storingFor : Bool → ℕ → ℕ → Model → Model
+storingFor go r b m =
+    storing r b (cond go (with (m .core .started) r) (m .core .started)) (cond go (without (m .core .aside) r) (m .core .aside)) m
 
 abbrev pub receiving : ℕ → ℕ → Model → Model
-receiving r w m = storing r (withBits (bitsAt m r) w) (enabledBy r (withBits (bitsAt m r) w) m) m
+receiving r w m = storingFor (resumes r (withBits (bitsAt m r) w) m) r (withBits (bitsAt m r) w) m
 
 abbrev pub setEffect : List ℕ → List ℕ → Model → ℕ → ℕ → Outcome
-setEffect trs ps m t w = settled ps (receiving (getD trs t noRank) w m)
+setEffect rs ps m t w = settled ps (receiving (getD rs t noRank) w m)
 
-unfoldable pub setEvent : ℕ → List ℕ → List ℕ → Model → ℕ → ℕ → Outcome
-setEvent xs trs ps m t w = attempt m (setStatus xs trs m t) (setEffect trs ps m t w)
+unfoldable pub setEvent : ℕ → ℕ → List ℕ → List ℕ → Model → ℕ → ℕ → Outcome
+setEvent ws xs rs ps m t w = attempt m (setStatus ws xs rs m t) (setEffect rs ps m t w)
 
 -- Clear w
 abbrev pub clearStatus : ℕ → Model → ℕ
-clearStatus xs m = firstGiven ((idles m gives callLevel) ∷ (not (has xs (m .core .runner)) gives access) ∷ [])
+clearStatus xs m = firstGiven ((noCaller m gives callLevel) ∷ (not (has xs (m .core .runner)) gives access) ∷ [])
 
 abbrev pub clearing : ℕ → Model → Model
-clearing w m = storing (m .core .runner) (withoutBits (bitsAt m (m .core .runner)) w) (m .core .enabled) m
+clearing w m = storing (m .core .runner) (withoutBits (bitsAt m (m .core .runner)) w) (m .core .started) (m .core .aside) m
 
 abbrev pub clearEffect : Model → ℕ → Outcome
 clearEffect m w = doneWith (clearing w m) false

@@ -16,7 +16,6 @@ use lib.ListN.{getD, take, replicate}
 use Rattle.config.specs.declared.Config.{Config}
 use Rattle.config.specs.Meaning.{countsLines}
 use Rattle.plan.specs.declared.Plan.{Plan}
-use Rattle.word.specs.Word.{full}
 use Rattle.stack.specs.Stack.{emptyRow}
 use Rattle.cell.specs.declared.Cell.{Cell}
 use Rattle.scheduler.specs.Status.{done, limitReached}
@@ -33,7 +32,7 @@ use Rattle.machine.specs.Events.{waitStatus, waitEffect, setStatus, setE
 abbrev pub unstarted : ℕ → Model
 unstarted w =
     record {
-      core = record { request = w; started = 0; enabled = full; runner = noRank; level = 0 };
+      core = record { request = w; started = 0; aside = 0; runner = noRank; level = 0 };
       held = 0;
       resource = emptyRow;
       holder = emptyRow;
@@ -45,6 +44,7 @@ unstarted w =
       cleared = 0;
       bits = replicate 32 0;
       waited = replicate 32 0;
+      triggered = emptyRow;
     }
 
 -- "the best one begins"
@@ -66,7 +66,7 @@ statusOf c p m (Line i) = lineStatus (p .line) m i
 statusOf c p m (Start t d) = startStatus (c .tables) (p .first) (c .offset) m t d
 statusOf c p m (Stop t) = stopStatus (c .tables) (p .first) m t
 statusOf c p m (Wait w) = waitStatus (p .extended) m
-statusOf c p m (Set t w) = setStatus (p .extended) (p .task) m t
+statusOf c p m (Set t w) = setStatus (p .isrs) (p .extended) (p .rank) m t
 statusOf c p m (Clear w) = clearStatus (p .extended) m
 
 -- and its effects
@@ -76,12 +76,12 @@ effectOf c p m Finish = finishEffect (p .priority) m
 effectOf c p m (Chain t) = chainEffect (p .task) (p .priority) m t
 effectOf c p m (Get r) = getEffect (p .ceiling) m r
 effectOf c p m (Release r) = releaseEffect (p .priority) m r
-effectOf c p m Tick = tick (p .compare) (p .entry) (p .priority) m
+effectOf c p m Tick = tick (p .compare) (p .entry) (p .priority) (p .timed) m
 effectOf c p m (Line i) = lineEffect (p .line) (p .priority) m i
 effectOf c p m (Start t d) = startEffect (p .first) (c .entries) (c .period) (c .offset) m t d
 effectOf c p m (Stop t) = stopEffect (p .first) (c .entries) m t
 effectOf c p m (Wait w) = waitEffect (p .priority) m w
-effectOf c p m (Set t w) = setEffect (p .task) (p .priority) m t w
+effectOf c p m (Set t w) = setEffect (p .rank) (p .priority) m t w
 effectOf c p m (Clear w) = clearEffect m w
 
 -- the model that an event leaves whose status st is not 0

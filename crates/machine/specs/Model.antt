@@ -8,12 +8,12 @@ use mathlib.Core.List.{List}
 use Rattle.stack.specs.declared.Row.{Row}
 use Rattle.stack.specs.Stack.{none}
 
--- The words, who runs and at which level: `request` has the ranks that wait to begin, `started` those that began and have not ended, `enabled`
--- those that do not wait for an event bit.
+-- The words, who runs and at which level: `request` has the ranks that wait to begin, `started` those that began and go on by their priority,
+-- `aside` those that began and do not: extended tasks that wait for an event bit, and time-triggered tasks.
 pub record Core : Type 0 where
   pub request : ℕ
   pub started : ℕ
-  pub enabled : ℕ
+  pub aside : ℕ
   pub runner : ℕ
   pub level : ℕ
 
@@ -26,7 +26,7 @@ pub record Picked : Type 0 where
 -- latest on top, each with its holder's rank and the level after its Get. `counter` and `on` are the cells, and `turning` says whether any of
 -- them has a turn of its counter to pass; `losses` are the lost activations, and the lost lines that are counted, by rank. `bits` are the
 -- event bits by rank, but of the ranks in the word `cleared` they count as 0; `waited` has by rank the mask of the latest Wait that did not go
--- on at once.
+-- on at once. `triggered` has the ranks of the time-triggered tasks that were started and have not ended, the latest on top.
 pub record Model : Type 0 where
   pub core : Core
   pub held : ℕ
@@ -40,6 +40,7 @@ pub record Model : Type 0 where
   pub cleared : ℕ
   pub bits : List ℕ
   pub waited : List ℕ
+  pub triggered : Row
 
 -- the next model with its answer
 pub record Outcome : Type 0 where
@@ -66,19 +67,21 @@ withCore m k =
       cleared = m .cleared;
       bits = m .bits;
       waited = m .waited;
+      triggered = m .triggered;
     }
 
 -- the core with other requests
 abbrev pub withRequest : Core → ℕ → Core
 withRequest k w =
-    record { request = w; started = k .started; enabled = k .enabled; runner = k .runner; level = k .level }
+    record { request = w; started = k .started; aside = k .aside; runner = k .runner; level = k .level }
 
 abbrev pub withLevel : Core → ℕ → Core
 withLevel k l =
-    record { request = k .request; started = k .started; enabled = k .enabled; runner = k .runner; level = l }
+    record { request = k .request; started = k .started; aside = k .aside; runner = k .runner; level = l }
 
-abbrev pub withEnabled : Core → ℕ → Core
-withEnabled k w = record { request = k .request; started = k .started; enabled = w; runner = k .runner; level = k .level }
+-- the core with other words of those that have begun
+abbrev pub withBegun : Core → ℕ → ℕ → Core
+withBegun k w a = record { request = k .request; started = w; aside = a; runner = k .runner; level = k .level }
 
 -- another level, and other held resources: w as a word, the rows rs, hs and ls with their holders and levels
 abbrev pub withSlots : Model → ℕ → ℕ → Row → Row → Row → Model
@@ -96,6 +99,7 @@ withSlots m l w rs hs ls =
       cleared = m .cleared;
       bits = m .bits;
       waited = m .waited;
+      triggered = m .triggered;
     }
 
 -- other counters, switches with or without a turn to pass, and losses
@@ -114,6 +118,7 @@ withRest m ns os w ls =
       cleared = m .cleared;
       bits = m .bits;
       waited = m .waited;
+      triggered = m .triggered;
     }
 
 abbrev pub withCells : Model → List ℕ → List ℕ → Bool → Model
@@ -138,6 +143,26 @@ withEvents m k x bs ws =
       cleared = x;
       bits = bs;
       waited = ws;
+      triggered = m .triggered;
+    }
+
+-- another core, and other time-triggered tasks, with the ranks in x whose event bits count as 0
+abbrev pub withTriggered : Model → Core → ℕ → Row → Model
+withTriggered m k x r =
+    record {
+      core = k;
+      held = m .held;
+      resource = m .resource;
+      holder = m .holder;
+      raised = m .raised;
+      counter = m .counter;
+      on = m .on;
+      turning = m .turning;
+      losses = m .losses;
+      cleared = x;
+      bits = m .bits;
+      waited = m .waited;
+      triggered = r;
     }
 
 -- an event that is done, and one that is refused with a status

@@ -10,30 +10,33 @@ use Rattle.number.proofs.Cases.{by-lt}
 use Rattle.word.specs.Word.{ranks, has}
 use Rattle.config.specs.declared.Config.{Config}
 use Rattle.config.specs.Value.{maxBodies, maxResources, maxEntries, maxPriority}
-use Rattle.config.specs.Meaning.{isTask, isIsr, isExtended, isUser, priorityOf, ceiling, firstOf}
+use Rattle.config.specs.Meaning.{isTask, isOsekTask, isIsr, isExtended, isTimed, isUser, priorityOf, ceiling, firstOf}
 use Rattle.config.specs.Accepted.{Accepted, Shaped}
 use Rattle.plan.specs.declared.Plan.{Plan}
 use Rattle.plan.specs.Rank.{noRank, rankOf}
-use Rattle.plan.specs.Plan.{planOf}
+use Rattle.plan.specs.Plan.{triggerOf, planOf}
 use Rattle.config.proofs.Theorems as Configuration
 use Rattle.plan.proofs.Theorems as Plan
 
 pub record Fitted (c : Config) (p : Plan) (rk : ℕ → ℕ) : Type 0 where
   pub few : c .bodies ≤ maxBodies
   pub body-rank : (b : ℕ) → b < c .bodies → getD (p .rank) b noRank ≡ rk b
-  pub task-rank : (b : ℕ) → getD (p .task) b noRank ≡ cond (isTask c b) (rk b) noRank
+  pub rank-none : (b : ℕ) → c .bodies ≤ b → getD (p .rank) b noRank ≡ noRank
+  pub task-rank : (b : ℕ) → getD (p .task) b noRank ≡ cond (isOsekTask c b) (rk b) noRank
   pub line-rank : (b : ℕ) → getD (p .line) b noRank ≡ cond (isIsr c b) (rk b) noRank
   pub rank-lt : (b : ℕ) → b < c .bodies → rk b < c .bodies
-  pub rank-order : (a b : ℕ) → a < c .bodies → b < c .bodies → priorityOf c a < priorityOf c b → rk a < rk b
+  -- by priority, and time-triggered tasks above all others
+  pub rank-order : (a b : ℕ) → a < c .bodies → b < c .bodies → triggerOf c a < triggerOf c b → rk a < rk b
   pub rank-inj : (a b : ℕ) → a < c .bodies → b < c .bodies → rk a ≡ rk b → a ≡ b
   pub own-inj : (a b : ℕ) → a < c .bodies → b < c .bodies → priorityOf c a ≡ priorityOf c b → a ≡ b
   pub own-some : (b : ℕ) → b < c .bodies → 1 ≤ priorityOf c b
   pub own-few : (b : ℕ) → b < c .bodies → priorityOf c b ≤ maxPriority
-  pub priority-at : (b : ℕ) → b < c .bodies → getD (p .priority) (rk b) 0 ≡ priorityOf c b
+  pub priority-at : (b : ℕ) → b < c .bodies → getD (p .priority) (rk b) 0 ≡ triggerOf c b
   pub priority-none : getD (p .priority) maxBodies 0 ≡ 0
   pub body-at : (b : ℕ) → b < c .bodies → getD (p .body) (rk b) 0 ≡ b
   pub isr-at : (b : ℕ) → b < c .bodies → has (p .isrs) (rk b) ≡ isIsr c b
   pub extended-at : (b : ℕ) → b < c .bodies → has (p .extended) (rk b) ≡ isExtended c b
+  pub timed-at : (b : ℕ) → b < c .bodies → has (p .timed) (rk b) ≡ isTimed c b
   pub autostart-at : (b : ℕ) → b < c .bodies → has (p .autostart) (rk b) ≡ eqb (getD (c .autostart) b 0) 1
   pub autostart-real : (r : ℕ) → has (p .autostart) r ≡ true → (b : ℕ) × ((b < c .bodies) × (rk b ≡ r))
   pub autostart-lt : p .autostart < 2 ^ ranks

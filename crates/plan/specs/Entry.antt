@@ -13,7 +13,7 @@ use lib.ListN.{getD}
 use Rattle.config.specs.declared.Config.{Config}
 use Rattle.config.specs.Value.{maxTables, maxEntries}
 use Rattle.config.specs.Meaning.{entriesBefore}
-use Rattle.plan.specs.Rank.{noRank, taskRanks}
+use Rattle.plan.specs.Rank.{noRank, ranks}
 
 -- the table of the e-th entry, where the tables have as many entries as the list says
 unfoldable pub tableIn : List ℕ → ℕ → ℕ
@@ -47,4 +47,4 @@ compareOf c = compareIn (c .entries) (c .period)
 
 -- the rank of the entry's task
 abbrev pub entryRank : Config → ℕ → ℕ
-entryRank c e = getD (taskRanks c) (getD (c .task) e 0) noRank
+entryRank c e = getD (ranks c) (getD (c .task) e 0) noRank

@@ -2,25 +2,34 @@
 --
 -- Each is a list that is filled as far as the counts reach. Main laws: what a lookup gives (proofs/Theorems.antt). Assumes nothing.
 use Prim.Native.Nat.{ℕ, _/_, _%_, _^_, min}
+use mathlib.Core.Bool.{cond}
+use lib.Dec.{eqb}
 use lib.ListN.{getD, replicate}
 use mathlib.Core.List.{List}
 use Rattle.config.specs.declared.Config.{Config}
 use Rattle.config.specs.Value.{maxBodies, maxResources, maxTables, maxEntries}
-use Rattle.config.specs.Meaning.{isr, extended, priorityOf, ceiling}
+use Rattle.config.specs.Meaning.{isr, extended, timeTriggered, triggerLevel, ceiling}
 use Rattle.plan.specs.declared.Plan.{Plan}
 use Rattle.plan.specs.Stored.{stored, listed}
 use Rattle.plan.specs.Marked.{marked}
 use Rattle.plan.specs.Rank.{bodyCount, rankOf, ranks, taskRanks, lineRanks}
 use Rattle.plan.specs.Entry.{tableCount, entryCount, firstEntry, compareOf, entryRank}
 
--- by rank: the priority, and the body's number
+-- the level that a request of body b is compared with: its priority; of a time-triggered task "the trigger level is 202"
+abbrev pub triggerIn : List ℕ → List ℕ → ℕ → ℕ
+triggerIn kinds ps b = cond (eqb (getD kinds b 0) timeTriggered) triggerLevel (getD ps b 0)
+
+abbrev pub triggerOf : Config → ℕ → ℕ
+triggerOf c = triggerIn (c .kind) (c .priority)
+
+-- by rank: the level of a request, and the body's number
 abbrev pub priorities : Config → List ℕ
-priorities c = stored (rankOf c) (priorityOf c) (bodyCount c) (replicate maxBodies 0)
+priorities c = stored (rankOf c) (triggerOf c) (bodyCount c) (replicate maxBodies 0)
 
 abbrev pub bodiesByRank : Config → List ℕ
 bodiesByRank c = stored (rankOf c) (λ b. b) (bodyCount c) (replicate maxBodies 0)
 
--- the words of the ranks that are ISRs, of those that are extended tasks, and of those that "autostart tasks" have
+-- the words of the ranks that are ISRs, extended tasks and time-triggered ones, and of those that "autostart tasks" have
 abbrev pub ofKind : Config → ℕ → ℕ
 ofKind c kind = marked (rankOf c) (λ b. getD (c .kind) b 0) kind (bodyCount c)
 
@@ -29,6 +38,9 @@ isrs c = ofKind c isr
 
 abbrev pub extendeds : Config → ℕ
 extendeds c = ofKind c extended
+
+abbrev pub timeds : Config → ℕ
+timeds c = ofKind c timeTriggered
 
 abbrev pub autostarts : Config → ℕ
 autostarts c = marked (rankOf c) (λ b. getD (c .autostart) b 0) 1 (bodyCount c)
@@ -67,6 +79,7 @@ planOf c =
       body = bodiesByRank c;
       isrs = isrs c;
       extended = extendeds c;
+      timed = timeds c;
       autostart = autostarts c;
       ceiling = ceilings c;
       users = userWords c;

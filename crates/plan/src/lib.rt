@@ -29,16 +29,17 @@ const MAX_ENTRIES: usize = 64;
 // What the machine looks up: bodies by rank, ranks by body, and what is fixed of resources, tables and entries.
 // A rank is a body's place in the order of priorities, 0 the lowest.
 pub struct Plan {
-    // By body its rank; the same where it is a task, and where it is an ISR, else NO_RANK.
+    // By body its rank; the same where it is a task that a call may activate, and where it is an ISR, else NO_RANK.
     pub rank: [u8; 32],
     pub task: [u8; 32],
     pub line: [u8; 32],
-    // By rank the priority and the body's number.
+    // By rank the level that a request is compared with, its priority or a time-triggered task's trigger level, and the body's number.
     pub priority: [u8; 32],
     pub body: [u8; 32],
-    // The words of the ranks that are ISRs, of those that are extended tasks, and of those of autostart tasks.
+    // The words of the ranks that are ISRs, extended tasks and time-triggered ones, and of those of autostart tasks.
     pub isrs: u32,
     pub extended: u32,
+    pub timed: u32,
     pub autostart: u32,
     // By resource its ceiling, and the word of the ranks of its declared users.
     pub ceiling: [u8; 16],
