@@ -8,6 +8,7 @@ pub mod Choice
 pub mod Checks
 pub mod Effects
 pub mod Refusals
+pub mod Named
 pub mod Tables
 pub mod Requests
 pub mod Losses
