@@ -3,16 +3,19 @@
 -- In order: a list of checks; that each event's checks give statuses other than 0; the accepted calls one by one. Assumes nothing.
 use Prim.Native.Nat.{ℕ, _+_, _≤_, _<_}
 use mathlib.Core.Path.{_≡_, refl, sym, ap, _∙_}
-use mathlib.Core.Bool.{Bool, true, false, true≢false, not, _&&_, _||_, and-true}
+use mathlib.Core.Bool.{Bool, true, false, true≢false, cond, not, _&&_, _||_, and-true}
 use mathlib.Core.List.{List, [], _∷_, _++_}
 use mathlib.Core.Logic.{_≢_, _↔_}
 use native.Mathlib.Omega.{arith}
-use borrow.Author.Tests.{leb-false, ltb-false, eqb-false, ne-eqb, not-false}
+use borrow.Author.Tests.{leb-false, ltb-false, eqb-true, eqb-false, ne-eqb, not-false}
 use lib.Dec.{ltb, eqb}
+use lib.ListN.{getD}
+use Rattle.number.proofs.Cases as Cases
 use Rattle.config.specs.declared.Config.{Config}
-use Rattle.config.specs.Meaning.{isTask, isOsekTask, isIsr, isExtended, isUser, smallestOffset}
+use Rattle.config.specs.Meaning.{isTask, isOsekTask, isIsr, isExtended, isTimed, isUser, smallestOffset}
 use Rattle.scheduler.specs.Status.{Check, done, firstGiven, NoneFails}
 use Rattle.scheduler.specs.Body.{Phase, suspended, ready, started, waiting, triggered, isSuspended, holds}
+use Rattle.scheduler.specs.Choice.{isNobody}
 use Rattle.scheduler.specs.State.{State, isRunning, bodyOf, tableOf, runner, heldIn}
 use Rattle.scheduler.specs.Event.{Event, Activate, Finish, Chain, Get, Release, Tick, Line, Start, Stop, Wait, Set, Clear}
 use Rattle.scheduler.specs.Call.{noCaller, nobodyRuns, caller, calling, active, latestIs, requestWaits, checksOf, activateStatus, finishStatus, chainStatus, getStatus, releaseStatus, lineStatus, longestDelay, startStatus, stopStatus, waitStatus, setStatus, clearStatus}
@@ -224,3 +227,42 @@ module _ (c : Config) (s : State) where
       go : (js : List ℕ) → s .order ≡ js → js ≡ []
       go [] o = refl
       go (j ∷ js) o = absurd (omega (arith, a, timed-refused j js o e b))
+
+  -- Finish is open to it
+  pub timed-finish : (j : ℕ) (js : List ℕ) → s .order ≡ j ∷ js → step c s Finish .seen .status ≢ 2
+  unfolding stepBy firstGiven
+  timed-finish j js o = rw (ap isNobody (runner-timed c s j js o)) (go (holds (calling c s .held)))
+    where
+      go : (b : Bool) → _≢_ {A = ℕ} (cond b 6 0) 2
+      go true h = omega arith
+      go false h = omega arith
+
+-- what the calls that name a time-triggered task give, where somebody may call
+module _ (c : Config) (s : State) (free : noCaller (runner c s) ≡ false) (t : ℕ) (timed : isTimed c t ≡ true) where
+  no-osek : isOsekTask c t ≡ false
+  no-osek = ap (λ (b : Bool). isTask c t && not b) timed ∙ never (isTask c t)
+    where
+      never : (b : Bool) → b && false ≡ false
+      never true = refl
+      never false = refl
+
+  pub timed-activate : step c s (Activate t) .seen .status ≡ 3
+  unfolding stepBy firstGiven
+  timed-activate = rw (free, no-osek)
+
+  pub timed-chain : isIsr c (caller c s) ≡ false → step c s (Chain t) .seen .status ≡ 3
+  unfolding stepBy firstGiven
+  timed-chain task = rw (free, task, no-osek)
+
+  pub timed-set : (w : ℕ) → step c s (Set t w) .seen .status ≡ 1
+  unfolding stepBy firstGiven
+  timed-set w = rw (free, is-task, no-extended)
+    where
+      here : (ltb t (c .bodies) ≡ true) × (getD (c .kind) t 0 ≡ 3)
+      here = let p = Cases.and-true (ltb t (c .bodies)) (eqb (getD (c .kind) t 0) 3) timed in (p .0, eqb-true (getD (c .kind) t 0) 3 (p .1))
+
+      is-task : isTask c t ≡ true
+      is-task = rw (here .0, here .1)
+
+      no-extended : isExtended c t ≡ false
+      no-extended = rw (here .0, here .1)

@@ -20,7 +20,7 @@ use Rattle.scheduler.specs.Choice.{Candidate, nobody, isNobody, candidat
 use Rattle.scheduler.specs.State.{State, Table, stopped, running, bodyOf, tableOf, changing, runner, among}
 use Rattle.scheduler.specs.Event.{Event, Activate, Finish, Chain, Get, Release, Tick, Line, Start, Stop, Wait, Set, Clear}
 use Rattle.scheduler.specs.Tick.{ticked, dueFor}
-use Rattle.scheduler.specs.Call.{caller, checksOf}
+use Rattle.scheduler.specs.Call.{noCaller, caller, checksOf}
 use Rattle.scheduler.specs.Scheduler.{begins, dispatched, lossesOf, step, stepBy, LostLine, fresh, seen, after, leaves, unstarted, freshBy, seenBy, afterBy}
 use Rattle.scheduler.specs.Entries.{entryOf, entriesOf, entryAt}
 use Rattle.scheduler.specs.History.{AcceptedIn, Ends, next, NoStart, NoStop, tickCount, History, dueMark, DueAt}
@@ -163,6 +163,49 @@ event-table c s =
       eleven-set = λ t w. refl;
       twelve-clear = λ w. refl;
     }
+
+-- the status that an event gives
+abbrev pub statusSeen : Config → State → Event → ℕ
+statusSeen c s e = step c s e .seen .status
+
+-- "A body of kind 3 may make no call but Finish": 2 in the nine others, whatever else applies
+pub record TimedCalls (c : Config) (s : State) : Type 0 where
+  pub one-activate : (t : ℕ) → statusSeen c s (Activate t) ≡ 2
+  pub two-finish : statusSeen c s Finish ≢ 2
+  pub three-chain : (t : ℕ) → statusSeen c s (Chain t) ≡ 2
+  pub four-get : (r : ℕ) → statusSeen c s (Get r) ≡ 2
+  pub five-release : (r : ℕ) → statusSeen c s (Release r) ≡ 2
+  pub eight-start : (t d : ℕ) → statusSeen c s (Start t d) ≡ 2
+  pub nine-stop : (t : ℕ) → statusSeen c s (Stop t) ≡ 2
+  pub ten-wait : (w : ℕ) → statusSeen c s (Wait w) ≡ 2
+  pub eleven-set : (t w : ℕ) → statusSeen c s (Set t w) ≡ 2
+  pub twelve-clear : (w : ℕ) → statusSeen c s (Clear w) ≡ 2
+
+pub timed-calls : (c : Config) (s : State) (j : ℕ) (js : List ℕ) → s .order ≡ j ∷ js → TimedCalls c s
+timed-calls c s j js e =
+    record {
+      one-activate = λ t. Checks.timed-refused c s j js e (Activate t) refl;
+      two-finish = Checks.timed-finish c s j js e;
+      three-chain = λ t. Checks.timed-refused c s j js e (Chain t) refl;
+      four-get = λ r. Checks.timed-refused c s j js e (Get r) refl;
+      five-release = λ r. Checks.timed-refused c s j js e (Release r) refl;
+      eight-start = λ t d. Checks.timed-refused c s j js e (Start t d) refl;
+      nine-stop = λ t. Checks.timed-refused c s j js e (Stop t) refl;
+      ten-wait = λ w. Checks.timed-refused c s j js e (Wait w) refl;
+      eleven-set = λ t w. Checks.timed-refused c s j js e (Set t w) refl;
+      twelve-clear = λ w. Checks.timed-refused c s j js e (Clear w) refl;
+    }
+
+-- where somebody may call: "Activate and Chain naming one give 3; Set naming one gives 1"
+pub timed-activate : (c : Config) (s : State) → noCaller (runner c s) ≡ false → (t : ℕ) → isTimed c t ≡ true → statusSeen c s (Activate t) ≡ 3
+timed-activate = Checks.timed-activate
+
+pub timed-chain : (c : Config) (s : State) → noCaller (runner c s) ≡ false → (t : ℕ) → isTimed c t ≡ true → isIsr c (caller c s) ≡ false
+    → statusSeen c s (Chain t) ≡ 3
+timed-chain = Checks.timed-chain
+
+pub timed-set : (c : Config) (s : State) → noCaller (runner c s) ≡ false → (t : ℕ) → isTimed c t ≡ true → (w : ℕ) → statusSeen c s (Set t w) ≡ 1
+timed-set = Checks.timed-set
 
 -- an event is accepted exactly if none of its checks fails, and "the first status that applies is given"
 pub accepted-none-fails : (c : Config) (s : State) (e : Event) → (step c s e .seen .status ≡ 0) ↔ NoneFails (checksOf c s e)
