@@ -15,4 +15,5 @@ pub mod Losses
 pub mod Ties
 pub mod Dues
 pub mod Entries
+pub mod Timed
 pub mod Users

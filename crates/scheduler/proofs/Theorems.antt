@@ -19,7 +19,7 @@ use Rattle.scheduler.specs.Bits.{bitSet, anySet, withBits, withoutBits}
 use Rattle.scheduler.specs.Choice.{Candidate, nobody, isNobody, candidate, byHolding, byBegun, goesBefore}
 use Rattle.scheduler.specs.State.{State, Table, stopped, running, bodyOf, tableOf, changing, runner, among}
 use Rattle.scheduler.specs.Event.{Event, Activate, Finish, Chain, Get, Release, Tick, Line, Start, Stop, Wait, Set, Clear}
-use Rattle.scheduler.specs.Tick.{ticked, dueFor}
+use Rattle.scheduler.specs.Tick.{dues, ticked, dueFor}
 use Rattle.scheduler.specs.Call.{noCaller, caller, checksOf}
 use Rattle.scheduler.specs.Scheduler.{begins, dispatched, lossesOf, step, stepBy, LostLine, fresh, seen, after, leaves, unstarted, freshBy, seenBy, afterBy}
 use Rattle.scheduler.specs.Entries.{entryOf, entriesOf, entryAt}
@@ -37,6 +37,7 @@ use Rattle.scheduler.proofs.Ties as Ties
 use Rattle.scheduler.proofs.Tables as Tables
 use Rattle.scheduler.proofs.Dues as Dues
 use Rattle.scheduler.proofs.Entries as Entries
+use Rattle.scheduler.proofs.Timed as Timed
 
 -- what the body k is to the choice
 abbrev pub candidateOf : Config → State → ℕ → Candidate
@@ -368,6 +369,18 @@ pub last-start : (c : Config) (t d : ℕ) (before rest : List Event) → Accepte
     → NoStop c t (next c (after c (fresh c) before) (Start t d)) rest
     → NoStart c t (next c (after c (fresh c) before) (Start t d)) rest
 last-start = Tables.last-start
+
+-- Two entries of kind 3 are never due at one tick, in no state at all: they lie in one table, and their offsets differ by less than its period
+pub timed-once : (c : Config) → Configuration.Accepted c → Configuration.Shaped c → (s : State) (e e′ : ℕ)
+    → e < firstOf c (c .tables)
+    → e′ < firstOf c (c .tables)
+    → e ≢ e′
+    → isTimed c (getD (c .task) e 0) ≡ true
+    → isTimed c (getD (c .task) e′ 0) ≡ true
+    → getD (dues c s) e false ≡ true
+    → getD (dues c s) e′ false ≡ true
+    → ⊥
+timed-once = Timed.timed-once
 
 -- Demand 3: an entry is marked due at exactly those events that are Ticks and at which it is due "by the table's arithmetic, counted from the
 -- table's last accepted start until its next accepted stop": the events before are `before ++ Start t d ∷ rest`, that Start is accepted where
