@@ -16,4 +16,6 @@ pub mod Ties
 pub mod Dues
 pub mod Entries
 pub mod Timed
+pub mod Distinct
+pub mod Placed
 pub mod Users
