@@ -84,5 +84,5 @@ distinct-fits (j ∷ js) l d all =
       arith,
       length-removed j l (all j (among-head j js)),
       distinct-fits js (removed j l) (d .1)
-      (λ i h. among-removed i j l (λ e. true≢false (sym h ∙ ap (λ (k : ℕ). among k js) e ∙ d .0)) (all i (among-tail i j js h))),
+          (λ i h. among-removed i j l (λ e. true≢false (sym h ∙ ap (λ (k : ℕ). among k js) e ∙ d .0)) (all i (among-tail i j js h))),
     )

@@ -18,4 +18,6 @@ pub mod Entries
 pub mod Timed
 pub mod Distinct
 pub mod Placed
+pub mod Trigger
+pub mod Order
 pub mod Users

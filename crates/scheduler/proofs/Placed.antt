@@ -109,16 +109,21 @@ osek-untimed c i h = go (isTimed c i) (and-true (isTask c i) (not (isTimed c i))
     go false e = refl
 
 module _ (c : Config) where
-  pub placed-weaken : {late later : ℕ → Type 0} {s : State} → Placed c late s → ((i : ℕ) → late i → later i) → Placed c later s
-  placed-weaken p f =
+  -- the same of those that are still to begin
+  pub placed-with : {late later : ℕ → Type 0} {s : State} → Placed c late s → ((i : ℕ) → bodyOf s i .phase ≡ triggered false → later i)
+      → Placed c later s
+  placed-with p f =
       record {
         bodies-there = p .bodies-there;
         tables-there = p .tables-there;
         none-twice = p .none-twice;
         places = p .places;
-        to-begin = λ i h. f i (p .to-begin i h);
+        to-begin = f;
         has-entry = p .has-entry;
       }
+
+  pub placed-weaken : {late later : ℕ → Type 0} {s : State} → Placed c late s → ((i : ℕ) → late i → later i) → Placed c later s
+  placed-weaken p f = placed-with p (λ i h. f i (p .to-begin i h))
 
   -- who is not time-triggered is not in the order
   pub untimed-place : {i : ℕ} {b : Body} {m : Bool} → isTimed c i ≡ false → Place c i b m → (m ≡ false) × (isTriggered (b .phase) ≡ false)
