@@ -168,10 +168,6 @@ module _ (c : Config) (s : State) (free : noCaller (runner c s) ≡ false) (t : 
   unfolding stepBy firstGiven
   timed-activate = rw (free, no-osek)
 
-  pub timed-chain : isIsr c (caller c s) ≡ false → step c s (Chain t) .seen .status ≡ 3
-  unfolding stepBy firstGiven
-  timed-chain task = rw (free, task, no-osek)
-
   pub timed-set : (w : ℕ) → step c s (Set t w) .seen .status ≡ 1
   unfolding stepBy firstGiven
   timed-set w = rw (free, is-task, no-extended)
@@ -267,3 +263,9 @@ module _ (c : Config) (s : State) where
   clear-passed w e =
       let p = all-passed _ (omega arith) e in
       (someone (p .0), not-false (isExtended c (caller c s)) (p .1 .0))
+
+-- Chain naming a time-triggered task
+module _ (c : Config) (s : State) (free : noCaller (runner c s) ≡ false) (t : ℕ) (timed : isTimed c t ≡ true) where
+  pub timed-chain : isIsr c (caller c s) ≡ false → step c s (Chain t) .seen .status ≡ 3
+  unfolding stepBy firstGiven
+  timed-chain task = rw (free, task, no-osek c s free t timed)
