@@ -1,6 +1,7 @@
 -- How a model of the machine stands for a state of the plain scheduler, in named parts, and `Whole`.
 pub mod Rows
 pub mod Words
+pub mod Kinds
 pub mod Slots
 pub mod Free
 pub mod Nest

@@ -27,7 +27,7 @@ use Rattle.machine.specs.Model.{Model, noRank, withLevel, withSlots}
 use Rattle.machine.specs.Resources.{holding, latest}
 use Rattle.plan.proofs.Fitted.{Fitted}
 use Rattle.machine.proofs.Relation.Rows.{row-shows-top}
-use Rattle.machine.proofs.Relation.Words.{at, words-changed, marks-same, unmoved-same}
+use Rattle.machine.proofs.Relation.Words.{at, words-changed, marks-same, unmoved-same, isAside}
 use Rattle.machine.proofs.Relation.Slots.{Slot, slot, slotsFor, slotsAlong, holdersIn, Slots}
 use Rattle.machine.proofs.Relation.Nest.{Nested, Seats, Alike, alike-same, among-head, among-tail, nest-other, nest-exists, levelAt-alike, nested-alike, hold-alike, slotsAlong-alike}
 use Rattle.machine.proofs.Relation.Whole.{Tied}
@@ -56,7 +56,7 @@ eqb-sym a b = by-eq a b (λ e. rw e) (λ n. ne-eqb a b n ∙ sym (ne-eqb b a (λ
 
 -- the runner is b
 module _ {c : Config} {p : Plan} {rk : ℕ → ℕ} (fit : Fitted c p rk) {m : Model} {bs : List Body} {b : ℕ} {ns : List ℕ}
-    (t : Tied c rk m bs (b ∷ ns)) where
+    (t : Tied c rk m bs [] (b ∷ ns)) where
   pub exists : b < c .bodies
   unfolding Nested
   exists = t .nested .0
@@ -123,12 +123,13 @@ module _ {c : Config} {p : Plan} {rk : ℕ → ℕ} (fit : Fitted c p rk) {m : M
     alike : (i : ℕ) → among i ns ≡ true → Alike (at bs i) (at bs′ i)
     alike i h = alike-same (sym (at-other i (nest-other c bs b i ns (t .nested) h)))
 
-    pub held-tied : Tied c rk (withSlots m l w rs hs ls) bs′ (b ∷ ns)
+    pub held-tied : Tied c rk (withSlots m l w rs hs ls) bs′ [] (b ∷ ns)
     unfolding Nested Seats slotsAlong
     held-tied =
         record {
           size = length-set bs b y ∙ t .size;
           words = words-changed fit (t .words) (t .size) b exists y (withLevel (m .core) l)
+              ((λ h. t .words .suits b .0 (sym second ∙ h)), λ h. t .words .suits b .1 (ap isAside (sym phase) ∙ h))
               (marks-same (t .words) b exists y phase second (m .core .runner) l) (unmoved-same (t .words) (m .core .runner) l (rk b));
           nested = (exists, (begun-same b ∙ t .nested .1 .0, (rw (sym (levelAt-alike c rk bs bs′ ns alike)) (t .nested .1 .1 .0), nested-alike c rk bs bs′ ns alike below)));
           seats = (runner-rank, (rw at-b level, hold-alike c rk bs bs′ ns alike (t .seats .1 .1)));

@@ -28,7 +28,7 @@ use Rattle.scheduler.specs.Tick.{dues}
 use Rattle.scheduler.specs.Scheduler as Plain
 use Rattle.scheduler.specs.Scheduler.{Event, step, begins, dispatched, ending, noneDue, markOf}
 use Rattle.scheduler.proofs.Choice.{current-own, candidate-active, Taken, no-one, body, chosen-from}
-use Rattle.scheduler.proofs.Refusals.{begins-some}
+
 use Rattle.scheduler.proofs.Effects.{tables-dispatched}
 use Rattle.machine.specs.Model.{Model, Outcome, noRank, refusedWith}
 use Rattle.machine.specs.Events as Machine
