@@ -2,31 +2,20 @@
 --
 -- In order: the elements of a list that a mask chooses, bit by bit; a resource's users. Assumes nothing.
 use Prim.Native.Nat.{ℕ, zero, suc, _/_, _%_, _^_, _≤_, _<_}
-use mathlib.Core.Path.{_≡_, refl, sym, ap, _∙_}
+use mathlib.Core.Path.{_≡_, refl, sym, _∙_}
 use mathlib.Core.Bool.{Bool, true, false, true≢false, _&&_}
 use mathlib.Core.List.{List, [], _∷_}
-use native.Mathlib.Nat.{pow-suc, div-one}
-use native.Mathlib.Numerals.{one-add}
+use native.Mathlib.Nat.{pow-suc}
 use native.Mathlib.Omega.{arith}
 use borrow.Author.Tests.{lt-ltb, eq-eqb, ne-eqb, eqb-true}
 use lib.Dec.{ltb, eqb}
 use lib.ListN.{length, getD, take}
 use lib.Seq.{getD-take, length-take-le}
-use lib.Pow.{shr-shr}
 use Rattle.number.proofs.Cases.{by-lt, by-eq}
 use Rattle.config.specs.declared.Config.{Config}
 use Rattle.config.specs.Meaning.{isUser, priorityOf, greatestIn, ceiling}
 use Rattle.config.specs.Accepted.{Shaped, Accepted}
-
--- the bit b of a mask is set
-abbrev Set : ℕ → ℕ → Type 0
-Set m b = m / 2 ^ b % 2 ≡ 1
-
-first-bit : (m : ℕ) → m / 2 ^ 0 % 2 ≡ m % 2
-first-bit m = ap (λ (n : ℕ). n % 2) (div-one m)
-
-next-bit : (m b : ℕ) → m / 2 ^ suc b % 2 ≡ m / 2 / 2 ^ b % 2
-next-bit m b = rw (← one-add b, ← shr-shr m 1 b)
+use Rattle.config.proofs.Mask.{Set, first-bit, next-bit}
 
 -- no chosen element is greater than the greatest
 chosen-le : (m : ℕ) (ps : List ℕ) (b : ℕ) → b < length ps → Set m b → getD ps b 0 ≤ greatestIn m ps

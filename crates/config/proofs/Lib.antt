@@ -18,3 +18,5 @@ mod Past
 mod Counts
 mod Fuel
 mod Ceiling
+mod Mask
+mod Timed

@@ -57,6 +57,15 @@ module _ (m : ℕ) (l : List ℕ) (full : length l ≡ m) where
               (λ p. getD-padded n j p ∙ sym (getD-padded (n + 1) j (omega arith)))
               (λ p. getD-unfilled n j p ∙ sym (getD-unfilled (n + 1) j (omega arith)))
 
+  -- the filled elements are the list's own
+  pub take-padded : (n : ℕ) → take n (padded m n l) ≡ take n l
+  take-padded n = ext-getD 0 (take n (padded m n l)) (take n l) (simp (length-take, length-padded n, full)) same
+    where
+      same : (j : ℕ) → j < length (take n (padded m n l)) → getD (take n (padded m n l)) j 0 ≡ getD (take n l) j 0
+      same j h =
+          let q : j < n = omega (arith, rw length-take at h) in
+          getD-take n (padded m n l) j 0 q ∙ getD-padded n j q ∙ sym (getD-take n l j 0 q)
+
 -- what is filled twice is filled as far as the smaller number says
 pub padded-padded : (m : ℕ) (l : List ℕ) → length l ≡ m → (n k : ℕ) → n ≤ k → padded m n (padded m k l) ≡ padded m n l
 padded-padded m l full n k h =
@@ -76,7 +85,7 @@ pub padded-set : (m : ℕ) (l : List ℕ) (n v : ℕ) → padded m n (set l n v)
 padded-set m l n v = rw (take-set-le n l n v (omega arith))
 
 -- a number that is none of the elements
-or-false : (s t : Bool) → (s || t) ≡ false → (s ≡ false) × (t ≡ false)
+pub or-false : (s t : Bool) → (s || t) ≡ false → (s ≡ false) × (t ≡ false)
 or-false true t e = absurd (true≢false e)
 or-false false t e = (refl, e)
 

@@ -2,7 +2,7 @@
 -- Assumes nothing.
 use Prim.Native.Nat.{ℕ, _+_, _-_, _^_, _≤_, _<_}
 use mathlib.Core.Path.{_≡_, refl, ap}
-use mathlib.Core.Bool.{Bool, true, false, not, _&&_}
+use mathlib.Core.Bool.{Bool, true, false, not, _&&_, _||_}
 use native.Mathlib.Omega.{arith}
 use lib.Dec.{leb, ltb, lit<}
 use lib.ListN.{getD, take}
@@ -13,10 +13,10 @@ use Rattle.number.specs.Refusal.{none}
 use Rattle.config.specs.declared.Draft.{Draft}
 use Rattle.config.specs.declared.Field.{Field}
 use Rattle.config.specs.declared.Field.the-variants.{Version, Bodies, Kind, Priority, Autostart, Resources, Users, Tables, Period, Entries, Offset, Task, End}
-use Rattle.config.specs.Refusal.{badVersion, badCount, badField, usedPriority, unsorted, tooManyEntries}
+use Rattle.config.specs.Refusal.{badVersion, badCount, badField, usedPriority, unsorted, tooManyEntries, sharedOffset, mixedTable}
 use Rattle.config.specs.Meaning.{lastKind, isTask}
 use Rattle.config.specs.Value.{newestVersion, maxPriority, maxBodies, maxResources, maxTables, maxEntries}
-use Rattle.config.specs.Draft.{occurs, unless, outside, andThen, sorted, mostAutostart, faultAt}
+use Rattle.config.specs.Draft.{occurs, unless, outside, andThen, sorted, sharesOffset, mixes, secondTable, mostAutostart, timedUser, faultAt}
 
 abbrev pub InRange : Field → Draft → ℕ → Type 0
 InRange Version d v = (1 ≤ v) × (v ≤ newestVersion)
@@ -25,18 +25,21 @@ InRange Kind d v = v ≤ lastKind
 InRange Priority d v = (1 ≤ v) × (v ≤ maxPriority) × (occurs v (take (d .index) (d .config .priority)) ≡ false)
 InRange Autostart d v = v ≤ mostAutostart (getD (d .config .kind) (d .index) 0)
 InRange Resources d v = v ≤ maxResources
-InRange Users d v = (1 ≤ v) × (v < 2 ^ d .config .bodies)
+InRange Users d v = (1 ≤ v) × (v < 2 ^ d .config .bodies) × (timedUser (d .config) v ≡ false)
 InRange Tables d v = v ≤ maxTables
 InRange Period d v = (1 ≤ v) × (v ≤ 65535)
 InRange Entries d v = (1 ≤ v) × (v ≤ 16) × (d .entry + v ≤ maxEntries)
 InRange Offset d v = v < getD (d .config .period) (d .index) 0
-InRange Task d v = (isTask (d .config) v ≡ true) × (sorted d v ≡ true)
+InRange Task d v = (isTask (d .config) v ≡ true) × (sorted d v ≡ true) × (sharesOffset d v ≡ false) × ((mixes d v || secondTable d v) ≡ false)
 InRange End d v = Unit {0}
 
 -- a test that gives no refusal holds
 passed : (t : Bool) (r : ℕ) → 0 < r → unless t r ≡ none → t ≡ true
 passed true r p e = refl
 passed false r p e = absurd (omega arith)
+
+failed : (t : Bool) (r : ℕ) → 0 < r → unless (not t) r ≡ none → t ≡ false
+failed t r p e = not-true t (passed (not t) r p e)
 
 not-outside : (lo hi v r : ℕ) → 0 < r → outside lo hi v r ≡ none → (lo ≤ v) × (v ≤ hi)
 not-outside lo hi v r p e =
@@ -64,12 +67,14 @@ in-range Priority d v e =
     let used = occurs v (take (d .index) (d .config .priority)) in
     let h = neither (outside 1 maxPriority v badField) (unless (not used) usedPriority) e in
     let r = not-outside 1 maxPriority v badField (lit< tt) (h .0) in
-    (r .0, r .1, not-true used (passed (not used) usedPriority (lit< tt) (h .1)))
+    (r .0, r .1, failed used usedPriority (lit< tt) (h .1))
 in-range Autostart d v e = not-outside 0 (mostAutostart (getD (d .config .kind) (d .index) 0)) v badField (lit< tt) e .1
 in-range Resources d v e = not-outside 0 maxResources v badCount (lit< tt) e .1
 in-range Users d v e =
-    let h = not-outside 1 (2 ^ d .config .bodies - 1) v badField (lit< tt) e in
-    (h .0, omega (arith, pow-pos (d .config .bodies)))
+    let timed = timedUser (d .config) v in
+    let b = neither (outside 1 (2 ^ d .config .bodies - 1) v badField) (unless (not timed) badField) e in
+    let h = not-outside 1 (2 ^ d .config .bodies - 1) v badField (lit< tt) (b .0) in
+    (h .0, omega (arith, h .1, pow-pos (d .config .bodies)), failed timed badField (lit< tt) (b .1))
 in-range Tables d v e = not-outside 0 maxTables v badCount (lit< tt) e .1
 in-range Period d v e = not-outside 1 65535 v badField (lit< tt) e
 in-range Entries d v e =
@@ -79,8 +84,16 @@ in-range Entries d v e =
 in-range Offset d v e =
     ltb-true v (getD (d .config .period) (d .index) 0) (passed (ltb v (getD (d .config .period) (d .index) 0)) badField (lit< tt) e)
 in-range Task d v e =
-    let h = neither (unless (isTask (d .config) v) badField) (unless (sorted d v) unsorted) e in
-    (passed (isTask (d .config) v) badField (lit< tt) (h .0), passed (sorted d v) unsorted (lit< tt) (h .1))
+    let third = unless (not (sharesOffset d v)) sharedOffset in
+    let fourth = unless (not (mixes d v || secondTable d v)) mixedTable in
+    let h = neither (unless (isTask (d .config) v) badField) (andThen (unless (sorted d v) unsorted) (andThen third fourth)) e in
+    let k = neither (unless (sorted d v) unsorted) (andThen third fourth) (h .1) in
+    let n = neither third fourth (k .1) in (
+      passed (isTask (d .config) v) badField (lit< tt) (h .0),
+      passed (sorted d v) unsorted (lit< tt) (k .0),
+      failed (sharesOffset d v) sharedOffset (lit< tt) (n .0),
+      failed (mixes d v || secondTable d v) mixedTable (lit< tt) (n .1),
+    )
 in-range End d v e = tt
 
 pub no-fault : (f : Field) (d : Draft) (v : ℕ) → InRange f d v → faultAt f d v ≡ none
@@ -94,7 +107,10 @@ no-fault Priority d v h =
     (rw (h .2))
 no-fault Autostart d v h = inside 0 (mostAutostart (getD (d .config .kind) (d .index) 0)) v badField (omega arith) h
 no-fault Resources d v h = inside 0 maxResources v badCount (omega arith) h
-no-fault Users d v h = inside 1 (2 ^ d .config .bodies - 1) v badField (h .0) (omega (arith, h .1))
+no-fault Users d v h =
+    both (outside 1 (2 ^ d .config .bodies - 1) v badField) (unless (not (timedUser (d .config) v)) badField)
+    (inside 1 (2 ^ d .config .bodies - 1) v badField (h .0) (omega (arith, h .1)))
+    (ap (λ (t : Bool). unless (not t) badField) (h .2))
 no-fault Tables d v h = inside 0 maxTables v badCount (omega arith) h
 no-fault Period d v h = inside 1 65535 v badField (h .0) (h .1)
 no-fault Entries d v h =
@@ -103,7 +119,13 @@ no-fault Entries d v h =
     (rw (le-leb (d .entry + v) maxEntries (h .2)))
 no-fault Offset d v h = rw (lt-ltb v (getD (d .config .period) (d .index) 0) h)
 no-fault Task d v h =
-    both (unless (isTask (d .config) v) badField) (unless (sorted d v) unsorted)
+    let third = unless (not (sharesOffset d v)) sharedOffset in
+    let fourth = unless (not (mixes d v || secondTable d v)) mixedTable in
+    both (unless (isTask (d .config) v) badField) (andThen (unless (sorted d v) unsorted) (andThen third fourth))
     (ap (λ (t : Bool). unless t badField) (h .0))
+    (both (unless (sorted d v) unsorted) (andThen third fourth)
     (ap (λ (t : Bool). unless t unsorted) (h .1))
+    (both third fourth
+    (ap (λ (t : Bool). unless (not t) sharedOffset) (h .2))
+    (ap (λ (t : Bool). unless (not t) mixedTable) (h .3))))
 no-fault End d v h = refl

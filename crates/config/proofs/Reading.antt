@@ -3,8 +3,9 @@
 -- Assumes nothing.
 use Prim.Native.Nat.{ℕ, zero, suc, _+_, _-_, _^_, _≤_}
 use mathlib.Core.Path.{_≡_, refl}
-use mathlib.Core.Bool.{Bool, true, false, not, _&&_}
+use mathlib.Core.Bool.{Bool, true, false, not, _&&_, _||_}
 use mathlib.Core.List.{List}
+use mathlib.Core.Logic.{_⊎_, inl, inr}
 use native.Mathlib.Omega.{arith}
 use lib.Dec.{leb, ltb, lit≤}
 use lib.ListN.{length, getD, take}
@@ -17,19 +18,23 @@ use Rattle.config.specs.declared.ConfigRead.{ConfigRead}
 use Rattle.config.specs.declared.Draft.{Draft}
 use Rattle.config.specs.declared.Field.{Field}
 use Rattle.config.specs.declared.Field.the-variants.{Version, Bodies, Kind, Priority, Autostart, Resources, Users, Tables, Period, Entries, Offset, Task, End}
-use Rattle.config.specs.Refusal.{badVersion, badCount, badField, usedPriority, unsorted, tooManyEntries, leftOver, tooLong}
+use Rattle.config.specs.Refusal.{badVersion, badCount, badField, usedPriority, unsorted, tooManyEntries, leftOver, tooLong, sharedOffset, mixedTable}
 use Rattle.config.specs.Meaning.{lastKind, isTask}
 use Rattle.config.specs.Value.{newestVersion, maxPriority, maxBodies, maxResources, maxTables, maxEntries, noConfig}
-use Rattle.config.specs.Draft.{occurs, unless, outside, andThen, sorted, mostAutostart, fault, faultAt, put, ended, start}
+use Rattle.config.specs.Draft.{occurs, unless, outside, andThen, sorted, sharesOffset, mixes, secondTable, mostAutostart, timedUser, fault, faultAt, put, ended, start}
 use Rattle.config.specs.Reader.{numberFault, faultPlace, finished, refused, readFrom, maxLength, readConfig}
 use Rattle.config.proofs.Walk.{number-fine, read-end, read-zero, read-step, read-stop, readFrom-elim}
 
--- a test's answer: nothing, or one of 3 to 8
-abbrev Tested : ℕ → Type 0
-Tested r = (r ≤ tooManyEntries) × ((r ≡ none → ⊥) → badVersion ≤ r)
+-- a refusal of the configuration reader's, or none: 0 to 10, 13 or 14
+abbrev pub Known : ℕ → Type 0
+Known r = (r ≤ tooLong) ⊎ ((r ≡ sharedOffset) ⊎ (r ≡ mixedTable))
 
-unless-tested : (t : Bool) (r : ℕ) → badVersion ≤ r → r ≤ tooManyEntries → Tested (unless t r)
-unless-tested true r low high = (lit≤ tt, λ n. absurd (n refl))
+-- a test's answer: nothing, or a refusal from 3 on
+abbrev Tested : ℕ → Type 0
+Tested r = Known r × ((r ≡ none → ⊥) → badVersion ≤ r)
+
+unless-tested : (t : Bool) (r : ℕ) → badVersion ≤ r → Known r → Tested (unless t r)
+unless-tested true r low high = (inl (lit≤ tt), λ n. absurd (n refl))
 unless-tested false r low high = (high, λ n. low)
 
 andThen-tested : (r s : ℕ) → Tested r → Tested s → Tested (andThen r s)
@@ -38,47 +43,56 @@ andThen-tested r s p q =
     (λ e. rw (eq-eqb r none e) q)
     (λ e. rw (ne-eqb r none e) p)
 
-outside-tested : (lo hi v r : ℕ) → badVersion ≤ r → r ≤ tooManyEntries → Tested (outside lo hi v r)
+outside-tested : (lo hi v r : ℕ) → badVersion ≤ r → Known r → Tested (outside lo hi v r)
 outside-tested lo hi v r low high = unless-tested (leb lo v && leb v hi) r low high
 
 fault-tested : (f : Field) (d : Draft) (v : ℕ) → Tested (faultAt f d v)
 unfolding faultAt
-fault-tested Version d v = outside-tested 1 newestVersion v badVersion (lit≤ tt) (lit≤ tt)
-fault-tested Bodies d v = outside-tested 1 maxBodies v badCount (lit≤ tt) (lit≤ tt)
-fault-tested Kind d v = outside-tested 0 lastKind v badField (lit≤ tt) (lit≤ tt)
+fault-tested Version d v = outside-tested 1 newestVersion v badVersion (lit≤ tt) (inl (lit≤ tt))
+fault-tested Bodies d v = outside-tested 1 maxBodies v badCount (lit≤ tt) (inl (lit≤ tt))
+fault-tested Kind d v = outside-tested 0 lastKind v badField (lit≤ tt) (inl (lit≤ tt))
 fault-tested Priority d v =
     andThen-tested (outside 1 maxPriority v badField) (unless (not (occurs v (take (d .index) (d .config .priority)))) usedPriority)
-    (outside-tested 1 maxPriority v badField (lit≤ tt) (lit≤ tt))
-    (unless-tested (not (occurs v (take (d .index) (d .config .priority)))) usedPriority (lit≤ tt) (lit≤ tt))
-fault-tested Autostart d v = outside-tested 0 (mostAutostart (getD (d .config .kind) (d .index) 0)) v badField (lit≤ tt) (lit≤ tt)
-fault-tested Resources d v = outside-tested 0 maxResources v badCount (lit≤ tt) (lit≤ tt)
-fault-tested Users d v = outside-tested 1 (2 ^ d .config .bodies - 1) v badField (lit≤ tt) (lit≤ tt)
-fault-tested Tables d v = outside-tested 0 maxTables v badCount (lit≤ tt) (lit≤ tt)
-fault-tested Period d v = outside-tested 1 65535 v badField (lit≤ tt) (lit≤ tt)
+    (outside-tested 1 maxPriority v badField (lit≤ tt) (inl (lit≤ tt)))
+    (unless-tested (not (occurs v (take (d .index) (d .config .priority)))) usedPriority (lit≤ tt) (inl (lit≤ tt)))
+fault-tested Autostart d v = outside-tested 0 (mostAutostart (getD (d .config .kind) (d .index) 0)) v badField (lit≤ tt) (inl (lit≤ tt))
+fault-tested Resources d v = outside-tested 0 maxResources v badCount (lit≤ tt) (inl (lit≤ tt))
+fault-tested Users d v =
+    andThen-tested (outside 1 (2 ^ d .config .bodies - 1) v badField) (unless (not (timedUser (d .config) v)) badField)
+    (outside-tested 1 (2 ^ d .config .bodies - 1) v badField (lit≤ tt) (inl (lit≤ tt)))
+    (unless-tested (not (timedUser (d .config) v)) badField (lit≤ tt) (inl (lit≤ tt)))
+fault-tested Tables d v = outside-tested 0 maxTables v badCount (lit≤ tt) (inl (lit≤ tt))
+fault-tested Period d v = outside-tested 1 65535 v badField (lit≤ tt) (inl (lit≤ tt))
 fault-tested Entries d v =
     andThen-tested (outside 1 16 v badCount) (unless (leb (d .entry + v) maxEntries) tooManyEntries)
-    (outside-tested 1 16 v badCount (lit≤ tt) (lit≤ tt))
-    (unless-tested (leb (d .entry + v) maxEntries) tooManyEntries (lit≤ tt) (lit≤ tt))
-fault-tested Offset d v = unless-tested (ltb v (getD (d .config .period) (d .index) 0)) badField (lit≤ tt) (lit≤ tt)
+    (outside-tested 1 16 v badCount (lit≤ tt) (inl (lit≤ tt)))
+    (unless-tested (leb (d .entry + v) maxEntries) tooManyEntries (lit≤ tt) (inl (lit≤ tt)))
+fault-tested Offset d v = unless-tested (ltb v (getD (d .config .period) (d .index) 0)) badField (lit≤ tt) (inl (lit≤ tt))
 fault-tested Task d v =
-    andThen-tested (unless (isTask (d .config) v) badField) (unless (sorted d v) unsorted)
-    (unless-tested (isTask (d .config) v) badField (lit≤ tt) (lit≤ tt))
-    (unless-tested (sorted d v) unsorted (lit≤ tt) (lit≤ tt))
-fault-tested End d v = (lit≤ tt, λ n. absurd (n refl))
+    let third = unless (not (sharesOffset d v)) sharedOffset in
+    let fourth = unless (not (mixes d v || secondTable d v)) mixedTable in
+    andThen-tested (unless (isTask (d .config) v) badField) (andThen (unless (sorted d v) unsorted) (andThen third fourth))
+    (unless-tested (isTask (d .config) v) badField (lit≤ tt) (inl (lit≤ tt)))
+    (andThen-tested (unless (sorted d v) unsorted) (andThen third fourth)
+    (unless-tested (sorted d v) unsorted (lit≤ tt) (inl (lit≤ tt)))
+    (andThen-tested third fourth
+    (unless-tested (not (sharesOffset d v)) sharedOffset (lit≤ tt) (inr (inl refl)))
+    (unless-tested (not (mixes d v || secondTable d v)) mixedTable (lit≤ tt) (inr (inr refl)))))
+fault-tested End d v = (inl (lit≤ tt), λ n. absurd (n refl))
 
 pub record Bounded (bs : List ℕ) (r : ConfigRead) : Type 0 where
-  pub refusals : r .refusal ≤ 10
+  pub refusals : Known (r .refusal)
   pub inside : r .place ≤ length bs
   pub zero-value : (r .refusal ≡ none → ⊥) → r .config ≡ noConfig
 
-refused-bounded : (bs : List ℕ) (r p : ℕ) → r ≤ 10 → p ≤ length bs → Bounded bs (refused r p)
+refused-bounded : (bs : List ℕ) (r p : ℕ) → Known r → p ≤ length bs → Bounded bs (refused r p)
 refused-bounded bs r p few h = record { refusals = few; inside = h; zero-value = λ _. refl }
 
 finished-bounded : (bs : List ℕ) (at : ℕ) (d : Draft) → at ≤ length bs → Bounded bs (finished bs at d)
 finished-bounded bs at d h =
     by-eq at (length bs)
-    (λ e. rw (eq-eqb at (length bs) e) (record { refusals = lit≤ tt; inside = h; zero-value = λ n. absurd (n refl) }))
-    (λ e. rw (ne-eqb at (length bs) e) (refused-bounded bs leftOver at (lit≤ tt) h))
+    (λ e. rw (eq-eqb at (length bs) e) (record { refusals = inl (lit≤ tt); inside = h; zero-value = λ n. absurd (n refl) }))
+    (λ e. rw (ne-eqb at (length bs) e) (refused-bounded bs leftOver at (inl (lit≤ tt)) h))
 
 -- the refusal of a number and its place
 number-bounded : (bs : List ℕ) (at : ℕ) (d : Draft) → at ≤ length bs → Bounded bs (refused (numberFault d (readNumber bs at)) (faultPlace at (readNumber bs at)))
@@ -86,14 +100,14 @@ number-bounded bs at d h =
     let n = readNumber bs at in
     let s = Number.reading bs at in
     by-eq (n .refusal) none
-    (λ e. rw (eq-eqb (n .refusal) none e) (refused-bounded bs (fault d (n .value)) at (omega (arith, fault-tested (d .field) d (n .value) .0)) h))
-    (λ e. rw (ne-eqb (n .refusal) none e) (refused-bounded bs (n .refusal) (n .place) (omega (arith, s .refusals)) (s .place-le h)))
+    (λ e. rw (eq-eqb (n .refusal) none e) (refused-bounded bs (fault d (n .value)) at (fault-tested (d .field) d (n .value) .0) h))
+    (λ e. rw (ne-eqb (n .refusal) none e) (refused-bounded bs (n .refusal) (n .place) (inl (omega (arith, s .refusals))) (s .place-le h)))
 
 readFrom-bounded : (bs : List ℕ) (k at : ℕ) (d : Draft) → at ≤ length bs → Bounded bs (readFrom k bs at d)
 readFrom-bounded bs =
     readFrom-elim bs (λ at d r. at ≤ length bs → Bounded bs r)
     (λ at d t h. finished-bounded bs at d h)
-    (λ at d h. refused-bounded bs cut at (lit≤ tt) h)
+    (λ at d h. refused-bounded bs cut at (inl (lit≤ tt)) h)
     (λ at d f h. number-bounded bs at d h)
     (λ at d r t f rest h. rest (Number.reading bs at .inside (number-fine d (readNumber bs at) f .0)))
 
@@ -101,7 +115,7 @@ pub bounded : (bs : List ℕ) → Bounded bs (readConfig bs)
 unfolding readConfig
 bounded bs =
     by-lt maxLength (length bs)
-    (λ h. rw (lt-leb (length bs) maxLength h) (refused-bounded bs tooLong 0 (lit≤ tt) (omega arith)))
+    (λ h. rw (lt-leb (length bs) maxLength h) (refused-bounded bs tooLong 0 (inl (lit≤ tt)) (omega arith)))
     (λ h. rw (le-leb (length bs) maxLength h) (readFrom-bounded bs (length bs) 0 start (omega arith)))
 
 -- after the last number nothing is cut off

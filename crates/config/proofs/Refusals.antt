@@ -11,7 +11,7 @@ use Rattle.number.specs.Number.{readNumber, groups, continued, fifthGroup, numb
 use Rattle.number.specs.Output.{writing, written}
 use Rattle.config.specs.declared.Config.{Config}
 use Rattle.config.specs.Value.{withVersion, withBodies, withKind, withPriority, withAutostart, withUsers, withTables, withPeriod, withEntries, withOffset, withTask}
-use Rattle.config.specs.Draft.{faultAt, putAt, askedAt, ended, occurs}
+use Rattle.config.specs.Draft.{faultAt, putAt, askedAt, ended, occurs, timedIn, someTimed}
 use Rattle.config.specs.Reader.{readFrom, readConfig}
 use Rattle.config.specs.Writer.{faultFrom, bytesFrom, writeConfig, wroteConfig}
 
@@ -50,7 +50,8 @@ pub record ReaderRows : Type 0 where
   pub unreadable : answers [] ((0x80 ∷ []) ∷ (0x80 ∷ 0x00 ∷ 0x07 ∷ []) ∷ []) ≡ (1, 1) ∷ (2, 1) ∷ []
   pub version : answers [] ((0x00 ∷ []) ∷ (0x01 ∷ []) ∷ (0x02 ∷ []) ∷ (0x03 ∷ []) ∷ []) ≡ (3, 0) ∷ (1, 1) ∷ (1, 1) ∷ (3, 0) ∷ []
   pub body-count : answers (0x01 ∷ []) ((0x00 ∷ []) ∷ (0x01 ∷ []) ∷ (0x20 ∷ []) ∷ (0x21 ∷ []) ∷ []) ≡ (4, 1) ∷ (1, 2) ∷ (1, 2) ∷ (4, 1) ∷ []
-  pub kind : answers (0x01 ∷ 0x01 ∷ []) ((0x00 ∷ []) ∷ (0x01 ∷ []) ∷ (0x02 ∷ []) ∷ (0x03 ∷ []) ∷ []) ≡ (1, 3) ∷ (1, 3) ∷ (1, 3) ∷ (5, 2) ∷ []
+  pub kind : answers (0x01 ∷ 0x01 ∷ []) ((0x00 ∷ []) ∷ (0x01 ∷ []) ∷ (0x02 ∷ []) ∷ (0x03 ∷ []) ∷ (0x04 ∷ []) ∷ [])
+      ≡ (1, 3) ∷ (1, 3) ∷ (1, 3) ∷ (1, 3) ∷ (5, 2) ∷ []
   pub priority : answers (0x01 ∷ 0x01 ∷ 0x00 ∷ []) ((0x00 ∷ []) ∷ (0x01 ∷ []) ∷ (0xC8 ∷ 0x01 ∷ []) ∷ (0xC9 ∷ 0x01 ∷ []) ∷ [])
       ≡ (5, 3) ∷ (1, 4) ∷ (1, 5) ∷ (5, 3) ∷ []
   -- 6 before the autostart is read
@@ -87,7 +88,7 @@ pub record ReaderRows : Type 0 where
   pub left-over : answers (noResource ++ 0x00 ∷ []) ([] ∷ (0x00 ∷ []) ∷ (0x80 ∷ 0x80 ∷ []) ∷ []) ≡ (0, 7) ∷ (9, 7) ∷ (9, 7) ∷ []
 
 pub reader-rows : ReaderRows
-unfolding readNumber groups continued fifthGroup readConfig readFrom faultAt putAt ended occurs
+unfolding readNumber groups continued fifthGroup readConfig readFrom faultAt putAt ended occurs timedIn someTimed
 reader-rows =
     record {
       lengths = refl;
@@ -136,7 +137,7 @@ pub record WriterRows : Type 0 where
   pub room : (answer 21 value ≡ (0, 20)) × (answer 20 value ≡ (0, 20)) × (answer 19 value ≡ (30, 20))
   -- 3 to 8 at place 0, before 30, and the first in the reader's order
   pub refused : map (answer 0) (
-      withVersion value 0 ∷ withVersion value 3 ∷ withBodies value 33 ∷ withKind value 1 3 ∷ withPriority value 2 5 ∷ withAutostart value 2 1 ∷ withUsers value 0 8
+      withVersion value 0 ∷ withVersion value 3 ∷ withBodies value 33 ∷ withKind value 1 4 ∷ withPriority value 2 5 ∷ withAutostart value 2 1 ∷ withUsers value 0 8
       ∷ withPeriod value 0 0 ∷ withEntries value 0 17 ∷ withOffset value 1 0 ∷ withTask value 1 2
       ∷ withEntries (withPeriod (withTables full 5) 4 1) 4 1 ∷ withVersion (withBodies value 33) 3 ∷ []
       )
@@ -151,7 +152,7 @@ pub record WriterRows : Type 0 where
   pub past : answer 20 (withKind (withUsers (withTask value 2 200) 1 77) 3 9) ≡ (0, 20)
 
 pub writer-rows : WriterRows
-unfolding readNumber groups continued fifthGroup numberBytes groupBytes writing written readConfig readFrom faultAt putAt askedAt ended occurs faultFrom bytesFrom
+unfolding readNumber groups continued fifthGroup numberBytes groupBytes writing written readConfig readFrom faultAt putAt askedAt ended occurs timedIn someTimed faultFrom bytesFrom
 writer-rows =
     record {
       room = (refl, refl, refl);

@@ -11,21 +11,22 @@ use native.Mathlib.Omega.{arith}
 use lib.ListN.{getD}
 use borrow.Author.Tests.{eq-eqb, ne-eqb}
 use Rattle.number.specs.Refusal.{none}
-use Rattle.number.proofs.Cases.{by-test, by-eq}
+use Rattle.number.proofs.Cases.{by-test, by-lt, by-eq}
 use Rattle.config.specs.declared.Config.{Config}
 use Rattle.config.specs.declared.Draft.{Draft}
 use Rattle.config.specs.declared.Field.{Field}
 use Rattle.config.specs.declared.Field.the-variants.{Version, Bodies, Kind, Priority, Autostart, Resources, Users, Tables, Period, Entries, Offset, Task, End}
-use Rattle.config.specs.Meaning.{isTask, firstOf}
+use Rattle.config.specs.Meaning.{isTask, firstOf, timedEntry}
 use Rattle.config.specs.Value.{newestVersion, maxBodies, maxResources, maxTables, maxEntries}
-use Rattle.config.specs.Draft.{put, putAt, asked, askedAt, ended, start}
+use Rattle.config.specs.Draft.{rises, put, putAt, asked, askedAt, ended, start}
 use Rattle.config.specs.Accepted.{Shaped, Accepted, trimmed}
 use Rattle.config.specs.Writer.{faultFrom}
 use Rattle.config.proofs.Ranges.{InRange, in-range, no-fault}
 use Rattle.config.proofs.Walk.{InOrder, Asks, last, fault-end, fault-step}
 use Rattle.config.proofs.Extends.{Extends, start-extends, extends-put}
 use Rattle.config.proofs.Tables.{firstOf-step, firstOf-zero, firstOf-rises, one-table}
-use Rattle.config.proofs.Rows.{Place, place-put, Fits, KindFits, PriorityFits, AutostartFits, UsersFit, PeriodFits, EntriesFit, OffsetFits, TaskFits, risesAt, fits, fits-back, accepted-fits}
+use Rattle.config.proofs.Rows.{Place, place-put, Fits, KindFits, PriorityFits, AutostartFits, UsersFit, PeriodFits, EntriesFit, OffsetFits, TaskFits, risesAt, sharesAt, mixesAt, FirstTimed, fits, fits-back, accepted-fits}
+use Rattle.config.proofs.Timed as Timed
 
 -- P of each number below n
 abbrev Upto : ℕ → (ℕ → Type 0) → Type 0
@@ -50,6 +51,9 @@ record EntryFits (c : Config) (e : ℕ) : Type 0 where
   task : isTask c (getD (c .task) e 0) ≡ true
   offset : (t : ℕ) → t < c .tables → firstOf c t ≤ e → e < firstOf c (suc t) → OffsetFits c t e
   rising : (t : ℕ) → t < c .tables → firstOf c t < e → e < firstOf c (suc t) → risesAt c e ≡ true
+  apart : (t : ℕ) → t < c .tables → firstOf c t < e → e < firstOf c (suc t) → sharesAt c e ≡ false
+  alike : (t : ℕ) → t < c .tables → firstOf c t < e → e < firstOf c (suc t) → mixesAt c e ≡ false
+  first-timed : (t : ℕ) → t < c .tables → firstOf c t ≤ e → e < firstOf c (suc t) → FirstTimed c t e
 
 record Head (c : Config) : Type 0 where
   version : (1 ≤ c .version) × (c .version ≤ newestVersion)
@@ -107,6 +111,9 @@ one-entry c i d p all o k =
             task = k .0;
             offset = λ t _ q r. rw (table t q r) o;
             rising = λ t _ q r. k .1 (rw (sym (table t (omega arith) r)) q);
+            apart = λ t _ q r. k .2 (rw (sym (table t (omega arith) r)) q);
+            alike = λ t _ q r. k .3 (rw (sym (table t (omega arith) r)) q);
+            first-timed = λ t _ q r. rw (table t q r) (k .4);
           });
     }
   where
@@ -171,9 +178,11 @@ at-end c e p s =
       priorities-differ = λ a b q r. bodies b r .priority .2 a q;
       autostart-known = λ b q. bodies b q .autostart .0;
       autostart-task = λ b q. bodies b q .autostart .1;
+      autostart-osek = λ b q. bodies b q .autostart .2;
       few-resources = s .resources .few;
       some-user = λ r q. s .resources .each r q .0;
       users-exist = λ r q. s .resources .each r q .1;
+      users-osek = λ r b q. s .resources .each r q .2 b;
       few-tables = s .few;
       period-low = λ t q. s .each t q .period .0;
       period-high = λ t q. s .each t q .period .1;
@@ -182,7 +191,10 @@ at-end c e p s =
       few-entries = total (c .tables) (λ t q. s .each t q .entries .2);
       offset-in-period = λ t e q r u. s .entries e (before t e q u) .offset t q r u;
       entry-task = λ e q. s .entries e (omega arith) .task;
-      entries-rise = λ t e q r u. rw (back e) at (s .entries (e + 1) (before t (e + 1) q u) .rising t q (omega arith) u);
+      entries-rise = rise;
+      timed-in-one = in-one;
+      timed-alone = λ t n m q. Timed.alike c t (like t q) n m;
+      timed-distinct = distinct;
     }
   where
     h : Head c
@@ -196,6 +208,36 @@ at-end c e p s =
 
     back : (n : ℕ) → n + 1 - 1 ≡ n
     back n = omega arith
+
+    rise : (t n : ℕ) → t < c .tables → firstOf c t ≤ n → n + 1 < firstOf c (suc t)
+        → rises (getD (c .offset) n 0) (getD (c .task) n 0) (getD (c .offset) (n + 1) 0) (getD (c .task) (n + 1) 0) ≡ true
+    rise t n q r u = rw (back n) at (s .entries (n + 1) (before t (n + 1) q u) .rising t q (omega arith) u)
+
+    like : (t : ℕ) → t < c .tables → (n : ℕ) → firstOf c t ≤ n → n + 1 < firstOf c (suc t) → timedEntry c (n + 1) ≡ timedEntry c n
+    like t q n r u =
+        Timed.differ-none (timedEntry c (n + 1)) (timedEntry c n)
+        (rw (back n) at (s .entries (n + 1) (before t (n + 1) q u) .alike t q (omega arith) u))
+
+    -- an entry of a later table is not of kind 3 where one of an earlier is
+    in-one : (t t′ n n′ : ℕ) → t < c .tables → t′ < c .tables
+        → firstOf c t ≤ n → n < firstOf c (suc t) → firstOf c t′ ≤ n′ → n′ < firstOf c (suc t′)
+        → timedEntry c n ≡ true → timedEntry c n′ ≡ true → t ≡ t′
+    in-one t t′ n n′ q q′ low high low′ high′ k k′ =
+        by-lt t t′
+        (λ h. absurd (true≢false (sym k ∙ s .entries n′ (before t′ n′ q′ high′) .first-timed t′ q′ low′ high′ k′ n (omega (arith, firstOf-rises c (suc t) t′ h)))))
+        (λ h. by-lt t′ t
+        (λ g. absurd (true≢false (sym k′ ∙ s .entries n (before t n q high) .first-timed t q low high k n′ (omega (arith, firstOf-rises c (suc t′) t g)))))
+        (λ g. omega arith))
+
+    distinct : (t n n′ : ℕ) → t < c .tables → firstOf c t ≤ n → n < n′ → n′ < firstOf c (suc t)
+        → timedEntry c n ≡ true → timedEntry c n′ ≡ true → getD (c .offset) n 0 ≡ getD (c .offset) n′ 0 → ⊥
+    distinct t n n′ q low less high k k′ same =
+        let apart : sharesAt c (n + 1) ≡ false = s .entries (n + 1) (before t (n + 1) q (omega arith)) .apart t q (omega arith) (omega arith) in
+        let p = Timed.differ c t (λ m. rise t m q) n n′ low less high (λ e. true≢false (sym (shared n k e) ∙ apart)) in
+        omega (arith, p, same)
+      where
+        shared : (m : ℕ) → timedEntry c m ≡ true → getD (c .offset) m 0 ≡ getD (c .offset) (m + 1) 0 → sharesAt c (m + 1) ≡ true
+        shared m u e = rw (back m, eq-eqb (getD (c .offset) m 0) (getD (c .offset) (m + 1) 0) e, u)
 
     total : (t : ℕ) → Upto t (λ b. firstOf c b + getD (c .entries) b 0 ≤ maxEntries) → firstOf c t ≤ maxEntries
     total zero all = rw (firstOf-zero c) (omega arith)

@@ -48,6 +48,18 @@ one-table c s t e p q u v =
     (λ k. absurd (omega (arith, firstOf-rises c (suc t) s k)))
     (λ k. omega arith))
 
+-- the table of an entry that is there
+pub table-there : (c : Config) (t e : ℕ) → e < firstOf c (c .tables) → firstOf c t ≤ e → t < c .tables
+table-there c t e h low = by-lt t (c .tables) (λ q. q) (λ q. absurd (omega (arith, firstOf-rises c (c .tables) t q)))
+
+-- an entry before table t is of a table before it
+pub table-of : (c : Config) (t e : ℕ) → e < firstOf c t → (s : ℕ) × (s < t) × (firstOf c s ≤ e) × (e < firstOf c (suc s))
+table-of c zero e h = absurd (omega (arith, firstOf-zero c))
+table-of c (suc t) e h =
+    by-lt e (firstOf c t)
+    (λ q. let r = table-of c t e q in (r .0, omega (arith, r .1), r .2, r .3))
+    (λ q. (t, omega arith, q, h))
+
 -- "Entries rise by offset, then by task, none twice"
 pub rises-true : (o t o′ t′ : ℕ) → rises o t o′ t′ ≡ true → (o < o′) ⊎ ((o ≡ o′) × (t < t′))
 rises-true o t o′ t′ =

@@ -1,27 +1,31 @@
 -- What the crate shows beyond its contracts. Each law stands here in full, over specs/ alone; the modules it cites prove it.
 --
--- In order: what every reading satisfies, and every accepted value; a resource's ceiling and its users; both round trips; which values the
+-- In order: what every reading satisfies, and every accepted value; its entries, tables and bodies of kind 3; a resource's ceiling and its users; both round trips; which values the
 -- writer accepts; counts that are too great; what stands past the counts; that the fuel of the definitions is enough.
 -- Assumes nothing.
 use Prim.Native.Nat.{ℕ, zero, suc, _+_, _-_, _≤_, _<_}
-use mathlib.Core.Path.{_≡_, refl}
-use mathlib.Core.Bool.{true}
+use mathlib.Core.Path.{_≡_, refl, sym, _∙_}
+use mathlib.Core.Bool.{true, false}
 use mathlib.Core.List.{List}
 use mathlib.Core.Logic.{_↔_, _⊎_, inl, inr, ⊎-elim}
 use native.Mathlib.Omega.{arith}
 use lib.ListN.{length, getD}
+use borrow.Author.Tests.{le-ltb}
 use Rattle.number.specs.Refusal.{none, cut}
 use Rattle.number.specs.Number.{Bytes}
+use Rattle.number.proofs.Cases.{by-lt}
 use Rattle.config.specs.declared.Config.{Config}
 use Rattle.config.specs.declared.ConfigRead.{ConfigRead}
-use Rattle.config.specs.Refusal.{badCount, tooLong}
+use Rattle.config.specs.Refusal.{badCount, tooLong, sharedOffset, mixedTable}
 use Rattle.config.specs.Value.{maxBodies, maxResources, noConfig, withResources}
-use Rattle.config.specs.Meaning.{isr, lastKind, isUser, priorityOf, ceiling, firstOf, smallestOffset}
+use Rattle.config.specs.Meaning.{isr, lastKind, isTimed, isUser, priorityOf, ceiling, firstOf, timedEntry, smallestOffset}
 use Rattle.config.specs.Draft.{start}
 use Rattle.config.specs.Reader.{accepted, readFrom, readConfig}
 use Rattle.config.specs.Writer.{maxNumbers, faultFrom, firstFault, bytesFrom, configBytes, writeConfig, wroteConfig}
 use Rattle.config.specs.Accepted.{Shaped, Accepted, trimmed}
 use Rattle.config.proofs.Tables as Tables
+use Rattle.config.proofs.Timed as Timed
+use Rattle.config.proofs.Mask as Mask
 use Rattle.config.proofs.Ceiling as Ceiling
 use Rattle.config.proofs.Reading as Reading
 use Rattle.config.proofs.RoundTrip as RoundTrip
@@ -33,7 +37,7 @@ use Rattle.config.proofs.Fuel as Fuel
 -- "A refused reader returns an all-zero value with refusal and place"; "An accepted reading has refusal 0 and the place after it",
 -- which is the input's end, as is that of one "cut off"; "entries past the counts are 0"
 pub record ConfigReading (bs : List ℕ) (r : ConfigRead) : Type 0 where
-  pub refusals : r .refusal ≤ tooLong
+  pub refusals : (r .refusal ≤ tooLong) ⊎ ((r .refusal ≡ sharedOffset) ⊎ (r .refusal ≡ mixedTable))
   pub inside : r .place ≤ length bs
   pub shaped : Shaped (r .config)
   pub whole : r .refusal ≡ none → r .place ≡ length bs
@@ -82,16 +86,48 @@ smallest-least c a t e t< low high = let q : firstOf c t + (e - firstOf c t) ≡
         (entries-in-order c a t (firstOf c t + k) t< (omega arith) (omega arith)))
 
 pub entry-of-task : (c : Config) → Accepted c → (e : ℕ) → e < firstOf c (c .tables)
-    → (getD (c .task) e 0 < c .bodies) × ((getD (c .kind) (getD (c .task) e 0) 0 ≡ 0) ⊎ (getD (c .kind) (getD (c .task) e 0) 0 ≡ 2))
+    → (getD (c .task) e 0 < c .bodies)
+    × ((getD (c .kind) (getD (c .task) e 0) 0 ≡ 0) ⊎ ((getD (c .kind) (getD (c .task) e 0) 0 ≡ 2) ⊎ (getD (c .kind) (getD (c .task) e 0) 0 ≡ 3)))
 entry-of-task c a e h =
     let p = Tables.isTask-true c (getD (c .task) e 0) (a .entry-task e h) in
     (p .0, task-kind (getD (c .kind) (getD (c .task) e 0) 0) (a .kind-known (getD (c .task) e 0) (p .0)) (p .1))
   where
-    task-kind : (k : ℕ) → k ≤ lastKind → (k ≡ isr → ⊥) → (k ≡ 0) ⊎ (k ≡ 2)
+    task-kind : (k : ℕ) → k ≤ lastKind → (k ≡ isr → ⊥) → (k ≡ 0) ⊎ ((k ≡ 2) ⊎ (k ≡ 3))
     task-kind zero l n = inl refl
     task-kind (suc zero) l n = absurd (n refl)
-    task-kind (suc (suc zero)) l n = inr refl
-    task-kind (suc (suc (suc k))) l n = absurd (omega arith)
+    task-kind (suc (suc zero)) l n = inr (inl refl)
+    task-kind (suc (suc (suc zero))) l n = inr (inr refl)
+    task-kind (suc (suc (suc (suc k)))) l n = absurd (omega arith)
+
+-- "One table at most has kind 3 entries, and only those": the tables of two such entries are one, and it has no other
+pub timed-one-table : (c : Config) → Accepted c → (t t′ e e′ : ℕ) → e < firstOf c (c .tables) → e′ < firstOf c (c .tables)
+    → firstOf c t ≤ e → e < firstOf c (suc t) → firstOf c t′ ≤ e′ → e′ < firstOf c (suc t′)
+    → timedEntry c e ≡ true → timedEntry c e′ ≡ true → t ≡ t′
+timed-one-table c a t t′ e e′ h h′ low high low′ high′ =
+    a .timed-in-one t t′ e e′ (Tables.table-there c t e h low) (Tables.table-there c t′ e′ h′ low′) low high low′ high′
+
+pub timed-only-those : (c : Config) → Accepted c → (t e e′ : ℕ) → t < c .tables
+    → firstOf c t ≤ e → e < firstOf c (suc t) → firstOf c t ≤ e′ → e′ < firstOf c (suc t)
+    → timedEntry c e ≡ true → timedEntry c e′ ≡ true
+timed-only-those c a t e e′ t< low high low′ high′ k = sym (a .timed-alone t e e′ t< low high low′ high′) ∙ k
+
+-- "with distinct offsets": they rise, for "Entries rise by offset"
+pub timed-offsets-differ : (c : Config) → Accepted c → (t e e′ : ℕ) → t < c .tables → firstOf c t ≤ e → e < e′ → e′ < firstOf c (suc t)
+    → timedEntry c e ≡ true → timedEntry c e′ ≡ true → getD (c .offset) e 0 < getD (c .offset) e′ 0
+timed-offsets-differ c a t e e′ t< low less high k k′ =
+    let apart = a .timed-distinct t e e′ t< low less high k k′ in
+    let up = Timed.no-fall c t (λ n. a .entries-rise t n t<) e e′ low (omega arith) high in
+    omega (arith, apart, up)
+
+-- no mask has a bit for a body of kind 3, and none is autostart
+pub timed-no-user : (c : Config) → Accepted c → (r b : ℕ) → isTimed c b ≡ true → isUser c r b ≡ false
+timed-no-user c a r b k =
+    by-lt r (c .resources)
+    (λ h. a .users-osek r b h k)
+    (λ h. rw (le-ltb r (c .resources) h))
+
+pub timed-no-autostart : (c : Config) → Accepted c → (b : ℕ) → isTimed c b ≡ true → getD (c .autostart) b 0 ≡ 0
+timed-no-autostart c a b k = let p = Mask.isTimed-true c b k in a .autostart-osek b (p .0) (p .1)
 
 -- "its ceiling is the greatest priority among" its users: none is above it, and one has it
 pub user-ceiling : (c : Config) → Accepted c → Shaped c → (r b : ℕ) → b < c .bodies → isUser c r b ≡ true → priorityOf c b ≤ ceiling c r

@@ -3,11 +3,11 @@
 use Prim.Native.Nat.{ℕ, suc, _+_, _-_, _^_, _≤_, _<_}
 use mathlib.Core.Path.{_≡_}
 use mathlib.Core.List.{List, _++_}
-use mathlib.Core.Bool.{true}
+use mathlib.Core.Bool.{true, false}
 use lib.ListN.{length, getD, take, replicate}
 use Rattle.config.specs.declared.Config.{Config}
 use Rattle.config.specs.Value.{newestVersion, maxPriority, maxBodies, maxResources, maxTables, maxEntries}
-use Rattle.config.specs.Meaning.{isr, lastKind, isTask, firstOf, priorityOf}
+use Rattle.config.specs.Meaning.{isr, timeTriggered, lastKind, isTask, isTimed, isUser, firstOf, timedEntry, priorityOf}
 use Rattle.config.specs.Draft.{rises}
 
 -- the arrays have the lengths of the type's own
@@ -33,9 +33,11 @@ pub record Accepted (c : Config) : Type 0 where
   pub priorities-differ : (a b : ℕ) → a < b → b < c .bodies → priorityOf c a ≡ priorityOf c b → ⊥
   pub autostart-known : (b : ℕ) → b < c .bodies → getD (c .autostart) b 0 ≤ 1
   pub autostart-task : (b : ℕ) → b < c .bodies → getD (c .kind) b 0 ≡ isr → getD (c .autostart) b 0 ≡ 0
+  pub autostart-osek : (b : ℕ) → b < c .bodies → getD (c .kind) b 0 ≡ timeTriggered → getD (c .autostart) b 0 ≡ 0
   pub few-resources : c .resources ≤ maxResources
   pub some-user : (r : ℕ) → r < c .resources → 1 ≤ getD (c .users) r 0
   pub users-exist : (r : ℕ) → r < c .resources → getD (c .users) r 0 < 2 ^ c .bodies
+  pub users-osek : (r b : ℕ) → r < c .resources → isTimed c b ≡ true → isUser c r b ≡ false
   pub few-tables : c .tables ≤ maxTables
   pub period-low : (t : ℕ) → t < c .tables → 1 ≤ getD (c .period) t 0
   pub period-high : (t : ℕ) → t < c .tables → getD (c .period) t 0 ≤ 65535
@@ -46,6 +48,14 @@ pub record Accepted (c : Config) : Type 0 where
   pub entry-task : (e : ℕ) → e < firstOf c (c .tables) → isTask c (getD (c .task) e 0) ≡ true
   pub entries-rise : (t e : ℕ) → t < c .tables → firstOf c t ≤ e → e + 1 < firstOf c (suc t)
       → rises (getD (c .offset) e 0) (getD (c .task) e 0) (getD (c .offset) (e + 1) 0) (getD (c .task) (e + 1) 0) ≡ true
+  -- "One table at most has kind 3 entries, and only those, with distinct offsets"
+  pub timed-in-one : (t t′ e e′ : ℕ) → t < c .tables → t′ < c .tables
+      → firstOf c t ≤ e → e < firstOf c (suc t) → firstOf c t′ ≤ e′ → e′ < firstOf c (suc t′)
+      → timedEntry c e ≡ true → timedEntry c e′ ≡ true → t ≡ t′
+  pub timed-alone : (t e e′ : ℕ) → t < c .tables → firstOf c t ≤ e → e < firstOf c (suc t) → firstOf c t ≤ e′ → e′ < firstOf c (suc t)
+      → timedEntry c e ≡ timedEntry c e′
+  pub timed-distinct : (t e e′ : ℕ) → t < c .tables → firstOf c t ≤ e → e < e′ → e′ < firstOf c (suc t)
+      → timedEntry c e ≡ true → timedEntry c e′ ≡ true → getD (c .offset) e 0 ≡ getD (c .offset) e′ 0 → ⊥
 
 -- the first n elements of l, and zeros up to m
 abbrev pub padded : ℕ → ℕ → List ℕ → List ℕ

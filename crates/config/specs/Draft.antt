@@ -6,7 +6,7 @@
 --
 -- The reader puts the numbers that it reads, the writer those of the value that it writes, so both refuse alike.
 -- Assumes nothing.
-use Prim.Native.Nat.{ℕ, _+_, _-_, _^_, _≤_, _<_}
+use Prim.Native.Nat.{ℕ, _+_, _-_, _/_, _%_, _^_, _≤_, _<_}
 use mathlib.Core.Bool.{Bool, true, false, cond, not, _&&_, _||_}
 use mathlib.Core.List.{List, [], _∷_}
 use lib.Dec.{ltb, leb, eqb}
@@ -16,8 +16,8 @@ use Rattle.config.specs.declared.Config.{Config}
 use Rattle.config.specs.declared.Draft.{Draft}
 use Rattle.config.specs.declared.Field.{Field}
 use Rattle.config.specs.declared.Field.the-variants.{Version, Bodies, Kind, Priority, Autostart, Resources, Users, Tables, Period, Entries, Offset, Task, End}
-use Rattle.config.specs.Refusal.{badVersion, badCount, badField, usedPriority, unsorted, tooManyEntries}
-use Rattle.config.specs.Meaning.{isr, lastKind, isTask}
+use Rattle.config.specs.Refusal.{badVersion, badCount, badField, usedPriority, unsorted, tooManyEntries, sharedOffset, mixedTable}
+use Rattle.config.specs.Meaning.{isr, timeTriggered, lastKind, isTask, isTimed}
 use Rattle.config.specs.Value.{newestVersion, maxPriority, maxBodies, maxResources, maxTables, maxEntries, noConfig, withVersion, withBodies, withKind, withPriority, withAutostart, withResources, withUsers, withTables, withPeriod, withEntries, withOffset, withTask}
 
 -- v stands in the list
@@ -33,7 +33,7 @@ unless ok r = cond ok none r
 abbrev pub outside : ℕ → ℕ → ℕ → ℕ → ℕ
 outside lo hi v r = unless (leb lo v && leb v hi) r
 
--- the first of two refusals: "Each number is tested for .. its range, then for 6, 7 or 8"
+-- the first of two refusals: "Each number is tested for .. its range, then for 6, 7 or 8"; 13 is "after 7", and 14 "after 13"
 abbrev pub andThen : ℕ → ℕ → ℕ
 andThen r s = cond (eqb r none) s r
 
@@ -45,14 +45,54 @@ rises o t o′ t′ = ltb o o′ || (eqb o o′ && ltb t t′)
 abbrev pub firstEntry : Draft → Bool
 firstEntry d = eqb (d .entry + getD (d .config .entries) (d .index) 0) (d .until)
 
+-- the offset of the entry that d is at, and the entry before it
+abbrev pub offsetHere : Draft → ℕ
+offsetHere d = getD (d .config .offset) (d .entry) 0
+
+abbrev pub offsetBefore : Draft → ℕ
+offsetBefore d = getD (d .config .offset) (d .entry - 1) 0
+
+abbrev pub taskBefore : Draft → ℕ
+taskBefore d = getD (d .config .task) (d .entry - 1) 0
+
 -- the entry that d is at, with the task v, comes after the one before it in its table
 abbrev pub sorted : Draft → ℕ → Bool
-sorted d v =
-    firstEntry d || rises (getD (d .config .offset) (d .entry - 1) 0) (getD (d .config .task) (d .entry - 1) 0) (getD (d .config .offset) (d .entry) 0) v
+sorted d v = firstEntry d || rises (offsetBefore d) (taskBefore d) (offsetHere d) v
 
--- "autostart (0 or 1; 0 for an ISR)"
+-- "an offset shared with the entry before where either is kind 3"
+abbrev pub sharesOffset : Draft → ℕ → Bool
+sharesOffset d v =
+    not (firstEntry d) && (eqb (offsetBefore d) (offsetHere d) && (isTimed (d .config) (taskBefore d) || isTimed (d .config) v))
+
+-- "a mixed .. table": of v and the entry before it one is of kind 3. All before them are alike, so the first that differs is found.
+abbrev pub mixes : Draft → ℕ → Bool
+mixes d v = not (firstEntry d) && cond (isTimed (d .config) v) (not (isTimed (d .config) (taskBefore d))) (isTimed (d .config) (taskBefore d))
+
+-- one of the tasks is of kind 3
+unfoldable pub someTimed : Config → List ℕ → Bool
+someTimed c [] = false
+someTimed c (b ∷ bs) = isTimed c b || someTimed c bs
+
+-- the tasks of the tables before the one that d is at
+abbrev pub tasksBefore : Draft → List ℕ
+tasksBefore d = take (d .until - getD (d .config .entries) (d .index) 0) (d .config .task)
+
+-- "or second such table": v is of kind 3, and so is a task of a table before
+abbrev pub secondTable : Draft → ℕ → Bool
+secondTable d v = isTimed (d .config) v && someTimed (d .config) (tasksBefore d)
+
+-- "autostart (0 or 1; 0 for an ISR)", and "5 for its autostart" where the body is of kind 3
 abbrev pub mostAutostart : ℕ → ℕ
-mostAutostart kind = cond (eqb kind isr) 0 1
+mostAutostart kind = cond (eqb kind isr || eqb kind timeTriggered) 0 1
+
+-- the mask has a bit of kind 3, where the list has the bodies' kinds, that of the lowest bit first
+unfoldable pub timedIn : ℕ → List ℕ → Bool
+timedIn m [] = false
+timedIn m (k ∷ ks) = (eqb (m % 2) 1 && eqb k timeTriggered) || timedIn (m / 2) ks
+
+-- "a mask bit for it"
+abbrev pub timedUser : Config → ℕ → Bool
+timedUser c m = timedIn m (take (c .bodies) (c .kind))
 
 unfoldable pub faultAt : Field → Draft → ℕ → ℕ
 faultAt Version d v = outside 1 newestVersion v badVersion
@@ -62,12 +102,16 @@ faultAt Priority d v =
     andThen (outside 1 maxPriority v badField) (unless (not (occurs v (take (d .index) (d .config .priority)))) usedPriority)
 faultAt Autostart d v = outside 0 (mostAutostart (getD (d .config .kind) (d .index) 0)) v badField
 faultAt Resources d v = outside 0 maxResources v badCount
-faultAt Users d v = outside 1 (2 ^ d .config .bodies - 1) v badField
+faultAt Users d v = andThen (outside 1 (2 ^ d .config .bodies - 1) v badField) (unless (not (timedUser (d .config) v)) badField)
 faultAt Tables d v = outside 0 maxTables v badCount
 faultAt Period d v = outside 1 65535 v badField
 faultAt Entries d v = andThen (outside 1 16 v badCount) (unless (leb (d .entry + v) maxEntries) tooManyEntries)
 faultAt Offset d v = unless (ltb v (getD (d .config .period) (d .index) 0)) badField
-faultAt Task d v = andThen (unless (isTask (d .config) v) badField) (unless (sorted d v) unsorted)
+faultAt Task d v =
+    andThen (unless (isTask (d .config) v) badField)
+    (andThen (unless (sorted d v) unsorted)
+    (andThen (unless (not (sharesOffset d v)) sharedOffset)
+    (unless (not (mixes d v || secondTable d v)) mixedTable)))
 faultAt End d v = none
 
 abbrev pub fault : Draft → ℕ → ℕ

@@ -1,6 +1,5 @@
 -- What the rules ask of a configuration: whether it counts lost lines, which bodies are tasks, extended or
--- time-triggered ones, and ISRs, a resource's users and its
--- ceiling, a table's entries.
+-- time-triggered ones, and ISRs, a resource's users and its ceiling, a table's entries.
 -- A kind is a number in the bytes alone: whatever else needs it asks one of these questions.
 -- Assumes nothing.
 use Prim.Native.Nat.{ℕ, zero, suc, _+_, _/_, _%_, _^_, max}
@@ -28,7 +27,7 @@ timeTriggered = 3
 
 -- the last kind that there is
 abbrev pub lastKind : ℕ
-lastKind = extended
+lastKind = timeTriggered
 
 -- "runs at one common execution level 201; the trigger level is 202", both above every priority
 abbrev pub executionLevel : ℕ
@@ -93,6 +92,10 @@ offsets c t = ofTable c t (c .offset)
 
 abbrev pub tasks : Config → ℕ → List ℕ
 tasks c t = ofTable c t (c .task)
+
+-- entry e, counted over all tables, starts a time-triggered task
+abbrev pub timedEntry : Config → ℕ → Bool
+timedEntry c e = isTimed c (getD (c .task) e 0)
 
 -- the table's smallest offset: "Entries rise by offset", so it is that of the first
 abbrev pub smallestOffset : Config → ℕ → ℕ

@@ -10,7 +10,7 @@ badVersion = 3
 abbrev pub badCount : ℕ
 badCount = 4
 
--- "another field outside its range, an entry's task that is an ISR too"
+-- "another field outside its range, an entry's task that is an ISR too"; for kind 3 "its autostart or a mask bit for it"
 abbrev pub badField : ℕ
 badField = 5
 
@@ -33,3 +33,11 @@ leftOver = 9
 -- "configuration over 4,096 bytes"
 abbrev pub tooLong : ℕ
 tooLong = 10
+
+-- "an offset shared with the entry before where either is kind 3"
+abbrev pub sharedOffset : ℕ
+sharedOffset = 13
+
+-- "a mixed or second such table": one that has entries of kind 3 and others, or a second that has entries of kind 3
+abbrev pub mixedTable : ℕ
+mixedTable = 14

@@ -2,22 +2,26 @@
 --
 -- In order: a list of checks; that each event's checks give statuses other than 0; the accepted calls one by one. Assumes nothing.
 use Prim.Native.Nat.{ℕ, _+_, _≤_, _<_}
-use mathlib.Core.Path.{_≡_, refl, ap, _∙_}
-use mathlib.Core.Bool.{Bool, true, false, true≢false, not, _&&_, _||_, and-true}
+use mathlib.Core.Path.{_≡_, refl, sym, ap, _∙_}
+use mathlib.Core.Bool.{Bool, true, false, true≢false, cond, not, _&&_, _||_, and-true}
 use mathlib.Core.List.{List, [], _∷_, _++_}
 use mathlib.Core.Logic.{_≢_, _↔_}
 use native.Mathlib.Omega.{arith}
-use borrow.Author.Tests.{leb-false, ltb-false, eqb-false, ne-eqb, not-false}
+use borrow.Author.Tests.{leb-false, ltb-false, eqb-true, eqb-false, ne-eqb, not-false}
 use lib.Dec.{ltb, eqb}
+use lib.ListN.{getD}
+use Rattle.number.proofs.Cases as Cases
 use Rattle.config.specs.declared.Config.{Config}
-use Rattle.config.specs.Meaning.{isTask, isIsr, isExtended, isUser, smallestOffset}
+use Rattle.config.specs.Meaning.{isTask, isOsekTask, isIsr, isExtended, isTimed, isUser, smallestOffset}
 use Rattle.scheduler.specs.Status.{Check, done, firstGiven, NoneFails}
-use Rattle.scheduler.specs.Body.{Phase, suspended, ready, started, waiting, isSuspended, holds}
-use Rattle.scheduler.specs.State.{State, isRunning, bodyOf, tableOf, heldIn}
+use Rattle.scheduler.specs.Body.{Phase, suspended, ready, started, waiting, triggered, isSuspended, holds}
+use Rattle.scheduler.specs.Choice.{isNobody}
+use Rattle.scheduler.specs.State.{State, isRunning, bodyOf, tableOf, runner, heldIn}
 use Rattle.scheduler.specs.Event.{Event, Activate, Finish, Chain, Get, Release, Tick, Line, Start, Stop, Wait, Set, Clear}
-use Rattle.scheduler.specs.Call.{nobodyRuns, caller, calling, active, latestIs, requestWaits, checksOf, activateStatus, finishStatus, chainStatus, getStatus, releaseStatus, lineStatus, longestDelay, startStatus, stopStatus, waitStatus, setStatus, clearStatus}
+use Rattle.scheduler.specs.Call.{noCaller, nobodyRuns, caller, calling, active, latestIs, requestWaits, checksOf, activateStatus, finishStatus, chainStatus, getStatus, releaseStatus, lineStatus, longestDelay, startStatus, stopStatus, waitStatus, setStatus, clearStatus}
 use Rattle.scheduler.specs.Scheduler.{step, stepBy}
 use Rattle.scheduler.specs.History.{AcceptedIn}
+use Rattle.scheduler.proofs.Choice.{runner-timed}
 use Rattle.scheduler.proofs.Effects.{clash}
 
 -- none of the checks gives status 0; none of them fails
@@ -97,13 +101,18 @@ inactive s t e = go (bodyOf s t .phase) e
     go ready e = absurd (true≢false e)
     go started e = absurd (true≢false e)
     go (waiting w) e = absurd (true≢false e)
+    go (triggered x) e = absurd (true≢false e)
 
 module _ (c : Config) (s : State) where
+  -- somebody runs whom the call is open to
+  someone : noCaller (runner c s) ≡ false → nobodyRuns c s ≡ false
+  someone e = neither (nobodyRuns c s) (runner c s .timed) e .0
+
   -- somebody runs, and t is a suspended task
-  pub activate-passed : (t : ℕ) → activateStatus c s t ≡ done → (nobodyRuns c s ≡ false) × (isTask c t ≡ true) × (bodyOf s t .phase ≡ suspended)
+  pub activate-passed : (t : ℕ) → activateStatus c s t ≡ done → (nobodyRuns c s ≡ false) × (isOsekTask c t ≡ true) × (bodyOf s t .phase ≡ suspended)
   activate-passed t e =
       let p = all-passed _ (omega arith) e in
-      (p .0, not-false (isTask c t) (p .1 .0), inactive s t (p .1 .1 .0))
+      (someone (p .0), not-false (isOsekTask c t) (p .1 .0), inactive s t (p .1 .1 .0))
 
   -- the runner holds no resource
   pub finish-passed : finishStatus c s ≡ done → (nobodyRuns c s ≡ false) × (holds (calling c s .held) ≡ false)
@@ -113,12 +122,12 @@ module _ (c : Config) (s : State) where
 
   -- the runner is a task that holds no resource, and t is a task that is suspended, or the runner itself
   pub chain-passed : (t : ℕ) → chainStatus c s t ≡ done
-      → (nobodyRuns c s ≡ false) × (isIsr c (caller c s) ≡ false) × (isTask c t ≡ true) × (holds (calling c s .held) ≡ false)
+      → (nobodyRuns c s ≡ false) × (isIsr c (caller c s) ≡ false) × (isOsekTask c t ≡ true) × (holds (calling c s .held) ≡ false)
       × (t ≢ caller c s → bodyOf s t .phase ≡ suspended)
   chain-passed t e =
       let p = all-passed _ (omega arith) e in
-      let q = neither (nobodyRuns c s) (isIsr c (caller c s)) (p .0) in
-      (q .0, q .1, not-false (isTask c t) (p .1 .0), p .1 .1 .0, λ d. inactive s t (other d (p .1 .1 .1 .0)))
+      let q = neither (noCaller (runner c s)) (isIsr c (caller c s)) (p .0) in
+      (someone (q .0), q .1, not-false (isOsekTask c t) (p .1 .0), p .1 .1 .0, λ d. inactive s t (other d (p .1 .1 .1 .0)))
     where
       other : t ≢ caller c s → (active s t && not (eqb t (caller c s))) ≡ false → active s t ≡ false
       other d h = rw (ne-eqb t (caller c s) d, and-true) at h
@@ -128,14 +137,14 @@ module _ (c : Config) (s : State) where
       → (nobodyRuns c s ≡ false) × (r < c .resources) × (isUser c r (caller c s) ≡ true) × (heldIn r (s .bodies) ≡ false)
   get-passed r e =
       let p = all-passed _ (omega arith) e in
-      (p .0, leb-false (c .resources) r (p .1 .0), not-false (isUser c r (caller c s)) (p .1 .1 .0), p .1 .1 .1 .0)
+      (someone (p .0), leb-false (c .resources) r (p .1 .0), not-false (isUser c r (caller c s)) (p .1 .1 .0), p .1 .1 .1 .0)
 
   -- r is the one that the runner took last
   pub release-passed : (r : ℕ) → releaseStatus c s r ≡ done
       → (nobodyRuns c s ≡ false) × (r < c .resources) × (latestIs r (calling c s .held) ≡ true)
   release-passed r e =
       let p = all-passed _ (omega arith) e in
-      (p .0, leb-false (c .resources) r (p .1 .0), not-false (latestIs r (calling c s .held)) (p .1 .1 .0))
+      (someone (p .0), leb-false (c .resources) r (p .1 .0), not-false (latestIs r (calling c s .held)) (p .1 .1 .0))
 
   -- i is an ISR of which no request waits
   pub line-passed : (i : ℕ) → lineStatus c s i ≡ done → (isIsr c i ≡ true) × (requestWaits (bodyOf s i) (bodyOf s i .phase) ≡ false)
@@ -149,30 +158,111 @@ module _ (c : Config) (s : State) where
   start-passed t d e =
       let p = all-passed _ (omega arith) e in
       let q = neither (eqb d 0) (ltb longestDelay (d + smallestOffset c t)) (p .1 .1 .0) in
-      (p .0, leb-false (c .tables) t (p .1 .0), eqb-false d 0 (q .0), ltb-false longestDelay (d + smallestOffset c t) (q .1), p .1 .1 .1 .0)
+      (someone (p .0), leb-false (c .tables) t (p .1 .0), eqb-false d 0 (q .0), ltb-false longestDelay (d + smallestOffset c t) (q .1), p .1 .1 .1 .0)
 
   -- t is a table that runs
   pub stop-passed : (t : ℕ) → stopStatus c s t ≡ done → (nobodyRuns c s ≡ false) × (t < c .tables) × (isRunning (tableOf s t) ≡ true)
   stop-passed t e =
       let p = all-passed _ (omega arith) e in
-      (p .0, leb-false (c .tables) t (p .1 .0), not-false (isRunning (tableOf s t)) (p .1 .1 .0))
+      (someone (p .0), leb-false (c .tables) t (p .1 .0), not-false (isRunning (tableOf s t)) (p .1 .1 .0))
 
   -- the runner is an extended task that holds no resource
   pub wait-passed : (w : ℕ) → waitStatus c s w ≡ done
       → (nobodyRuns c s ≡ false) × (isExtended c (caller c s) ≡ true) × (holds (calling c s .held) ≡ false)
   wait-passed w e =
       let p = all-passed _ (omega arith) e in
-      (p .0, not-false (isExtended c (caller c s)) (p .1 .0), p .1 .1 .0)
+      (someone (p .0), not-false (isExtended c (caller c s)) (p .1 .0), p .1 .1 .0)
 
   -- t is an extended task that isn't suspended
   pub set-passed : (t w : ℕ) → setStatus c s t w ≡ done
       → (nobodyRuns c s ≡ false) × (isTask c t ≡ true) × (isExtended c t ≡ true) × (active s t ≡ true)
   set-passed t w e =
       let p = all-passed _ (omega arith) e in
-      (p .0, not-false (isTask c t) (p .1 .0), not-false (isExtended c t) (p .1 .1 .0), not-false (active s t) (p .1 .1 .1 .0))
+      (someone (p .0), not-false (isTask c t) (p .1 .0), not-false (isExtended c t) (p .1 .1 .0), not-false (active s t) (p .1 .1 .1 .0))
 
   -- the runner is an extended task
   pub clear-passed : (w : ℕ) → clearStatus c s w ≡ done → (nobodyRuns c s ≡ false) × (isExtended c (caller c s) ≡ true)
   clear-passed w e =
       let p = all-passed _ (omega arith) e in
-      (p .0, not-false (isExtended c (caller c s)) (p .1 .0))
+      (someone (p .0), not-false (isExtended c (caller c s)) (p .1 .0))
+
+-- the nine calls that a time-triggered task may not make: "no call but Finish"
+abbrev pub isBarred : Event → Bool
+isBarred (Activate t) = true
+isBarred Finish = false
+isBarred (Chain t) = true
+isBarred (Get r) = true
+isBarred (Release r) = true
+isBarred Tick = false
+isBarred (Line i) = false
+isBarred (Start t d) = true
+isBarred (Stop t) = true
+isBarred (Wait w) = true
+isBarred (Set t w) = true
+isBarred (Clear w) = true
+
+module _ (c : Config) (s : State) where
+  timed-bars : (j : ℕ) (js : List ℕ) → s .order ≡ j ∷ js → noCaller (runner c s) ≡ true
+  timed-bars j js e = ap noCaller (runner-timed c s j js e)
+
+  pub timed-refused : (j : ℕ) (js : List ℕ) → s .order ≡ j ∷ js → (e : Event) → isBarred e ≡ true → step c s e .seen .status ≡ 2
+  unfolding stepBy firstGiven
+  timed-refused j js o (Activate t) b = rw (timed-bars j js o)
+  timed-refused j js o Finish b = absurd (true≢false (sym b))
+  timed-refused j js o (Chain t) b = rw (timed-bars j js o)
+  timed-refused j js o (Get r) b = rw (timed-bars j js o)
+  timed-refused j js o (Release r) b = rw (timed-bars j js o)
+  timed-refused j js o Tick b = absurd (true≢false (sym b))
+  timed-refused j js o (Line i) b = absurd (true≢false (sym b))
+  timed-refused j js o (Start t d) b = rw (timed-bars j js o)
+  timed-refused j js o (Stop t) b = rw (timed-bars j js o)
+  timed-refused j js o (Wait w) b = rw (timed-bars j js o)
+  timed-refused j js o (Set t w) b = rw (timed-bars j js o)
+  timed-refused j js o (Clear w) b = rw (timed-bars j js o)
+
+  -- so where one of them is accepted, none is started
+  pub accepted-untimed : (e : Event) → isBarred e ≡ true → AcceptedIn c s e → s .order ≡ []
+  accepted-untimed e b a = go (s .order) refl
+    where
+      go : (js : List ℕ) → s .order ≡ js → js ≡ []
+      go [] o = refl
+      go (j ∷ js) o = absurd (omega (arith, a, timed-refused j js o e b))
+
+  -- Finish is open to it
+  pub timed-finish : (j : ℕ) (js : List ℕ) → s .order ≡ j ∷ js → step c s Finish .seen .status ≢ 2
+  unfolding stepBy firstGiven
+  timed-finish j js o = rw (ap isNobody (runner-timed c s j js o)) (go (holds (calling c s .held)))
+    where
+      go : (b : Bool) → _≢_ {A = ℕ} (cond b 6 0) 2
+      go true h = omega arith
+      go false h = omega arith
+
+-- what the calls that name a time-triggered task give, where somebody may call
+module _ (c : Config) (s : State) (free : noCaller (runner c s) ≡ false) (t : ℕ) (timed : isTimed c t ≡ true) where
+  no-osek : isOsekTask c t ≡ false
+  no-osek = ap (λ (b : Bool). isTask c t && not b) timed ∙ never (isTask c t)
+    where
+      never : (b : Bool) → b && false ≡ false
+      never true = refl
+      never false = refl
+
+  pub timed-activate : step c s (Activate t) .seen .status ≡ 3
+  unfolding stepBy firstGiven
+  timed-activate = rw (free, no-osek)
+
+  pub timed-chain : isIsr c (caller c s) ≡ false → step c s (Chain t) .seen .status ≡ 3
+  unfolding stepBy firstGiven
+  timed-chain task = rw (free, task, no-osek)
+
+  pub timed-set : (w : ℕ) → step c s (Set t w) .seen .status ≡ 1
+  unfolding stepBy firstGiven
+  timed-set w = rw (free, is-task, no-extended)
+    where
+      here : (ltb t (c .bodies) ≡ true) × (getD (c .kind) t 0 ≡ 3)
+      here = let p = Cases.and-true (ltb t (c .bodies)) (eqb (getD (c .kind) t 0) 3) timed in (p .0, eqb-true (getD (c .kind) t 0) 3 (p .1))
+
+      is-task : isTask c t ≡ true
+      is-task = rw (here .0, here .1)
+
+      no-extended : isExtended c t ≡ false
+      no-extended = rw (here .0, here .1)

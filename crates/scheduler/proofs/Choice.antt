@@ -2,7 +2,8 @@
 --
 -- In order: the order of candidates as an order of numbers (`weight`); whom the choice takes, and that nobody goes before him; the choice
 -- where one body is changed (`chosen-mapped`), and by two rules for ties that agree (`chosen-same`); the choice from above (`chosen-best`,
--- `chosen-nobody`); the current priority; that of the chosen one. q is the rule for ties.
+-- `chosen-nobody`); the current priority; that of the chosen one; who runs where a time-triggered task is started, and where none is. q is the
+-- rule for ties.
 -- Assumes nothing.
 use Prim.Native.Nat.{ℕ, zero, suc, _+_, _*_, _≤_, _<_, max}
 use mathlib.Core.Path.{_≡_, refl, sym, ap, ap₂, _∙_}
@@ -17,9 +18,9 @@ use lib.ListN.{length, getD, set}
 use Rattle.number.proofs.Cases.{by-lt, by-eq}
 use Rattle.config.specs.declared.Config.{Config}
 use Rattle.config.specs.Meaning.{priorityOf, ceiling}
-use Rattle.scheduler.specs.Body.{Phase, suspended, ready, started, waiting, isStarted, competes, Body, holds, current, gets, releases}
-use Rattle.scheduler.specs.Choice.{Candidate, nobody, isNobody, candidate, Tie, goesBefore, preferred, chosenFrom, chosenBy}
-use Rattle.scheduler.specs.State.{noBody, among}
+use Rattle.scheduler.specs.Body.{Phase, suspended, ready, started, waiting, triggered, isStarted, competes, Body, holds, current, gets, releases}
+use Rattle.scheduler.specs.Choice.{Candidate, nobody, isNobody, candidate, Tie, goesBefore, preferred, chosenFrom, chosenBy, chosen}
+use Rattle.scheduler.specs.State.{State, noBody, among, latestOf, runner}
 use Rattle.scheduler.specs.Scheduler.{markOf}
 
 -- what the k-th of the bodies bs is to the choice
@@ -101,6 +102,7 @@ from-first c i b bs = go (b .phase) refl
     go ready e = one zero (omega arith) (rw e refl) (rw (e, add-zero) refl)
     go started e = one zero (omega arith) (rw e refl) (rw (e, add-zero) refl)
     go (waiting w) e = none refl
+    go (triggered x) e = none refl
 
 chosenFrom-top : (q : Tie) (c : Config) (i : ℕ) (bs : List Body) (k : ℕ) → weight q (contenderFrom c i bs k) ≤ weight q (chosenFrom q c i bs) + markOf (q nobody)
 unfolding contenderFrom candidate chosenFrom
@@ -249,12 +251,13 @@ module _ (c : Config) (i : ℕ) where
 
   -- what a body that is ready or started is to the choice
   pub candidate-active : (b : Body) (p : Phase) → competes p ≡ true
-      → candidate c i b p ≡ record { number = i; level = current c i b; began = isStarted p; holder = holds (b .held) }
+      → candidate c i b p ≡ record { number = i; level = current c i b; began = isStarted p; holder = holds (b .held); timed = false }
   unfolding candidate
   candidate-active b suspended h = absurd (true≢false (sym h))
   candidate-active b ready h = refl
   candidate-active b started h = refl
   candidate-active b (waiting w) h = absurd (true≢false (sym h))
+  candidate-active b (triggered x) h = absurd (true≢false (sym h))
 
   -- and one that is neither
   pub candidate-none : (b : Body) (p : Phase) → competes p ≡ false → candidate c i b p ≡ nobody
@@ -263,6 +266,7 @@ module _ (c : Config) (i : ℕ) where
   candidate-none b ready h = absurd (true≢false h)
   candidate-none b started h = absurd (true≢false h)
   candidate-none b (waiting w) h = refl
+  candidate-none b (triggered x) h = refl
 
 -- what is given back is what was taken last, and nothing else
 pub releases-gets : (r : ℕ) (b : Body) → releases (gets r b) ≡ b
@@ -289,3 +293,11 @@ module _ (q : Tie) (unasked : q nobody ≡ false) (c : Config) (bs : List Body) 
   -- somebody runs where a body may
   pub chosen-someone : 1 ≤ priorityOf c k → isNobody (chosenBy q c bs) ≡ false
   chosen-someone some = ne-eqb (chosenBy q c bs .level) 0 (omega (arith, current-own c k (getD bs k noBody), chosen-greatest))
+
+-- a started time-triggered task goes before all others, the latest first
+module _ (c : Config) (s : State) where
+  pub runner-timed : (j : ℕ) (js : List ℕ) → s .order ≡ j ∷ js → runner c s ≡ latestOf (s .bodies) (j ∷ js) (chosen c (s .bodies))
+  runner-timed j js e = ap (λ (l : List ℕ). latestOf (s .bodies) l (chosen c (s .bodies))) e
+
+  pub runner-untimed : s .order ≡ [] → runner c s ≡ chosen c (s .bodies)
+  runner-untimed e = ap (λ (l : List ℕ). latestOf (s .bodies) l (chosen c (s .bodies))) e

@@ -14,15 +14,15 @@ use lib.ListN.{length, length-set, length-map, length-replicate, replicate}
 use lib.Seq.{getD-set-same, getD-set-other, map-set-same}
 use Rattle.number.proofs.Cases.{by-eq}
 use Rattle.config.specs.declared.Config.{Config}
-use Rattle.config.specs.Meaning.{countsLines}
+use Rattle.config.specs.Meaning.{countsLines, isTimed}
 use Rattle.scheduler.specs.Bits.{anySet}
 use Rattle.scheduler.specs.Status.{done, limitReached}
-use Rattle.scheduler.specs.Body.{hasBegun, Body, started, become, activated, finished, requested, gets, releases, activatedByEntry, loses, waits, receives, clears}
+use Rattle.scheduler.specs.Body.{isSuspended, hasBegun, Body, become, activated, triggers, rest, finished, requested, gets, releases, activatedByEntry, loses, waits, receives, clears}
 use Rattle.scheduler.specs.State.{State, Table, stopped, noBody, bodyOf, changing, withTable, runner}
-use Rattle.scheduler.specs.Call.{caller, finish, statusOf, effectOf, refusalOf}
-use Rattle.scheduler.specs.Tick.{counting, counted, activatingDue, dues, ticked}
+use Rattle.scheduler.specs.Call.{caller, finish, finishTimed, statusOf, effectOf, refusalOf}
+use Rattle.scheduler.specs.Tick.{counting, counted, starting, trigger, enter, activatingDue, dues, ticked}
 use Rattle.scheduler.specs.Event.{Event, Activate, Finish, Chain, Get, Release, Tick, Line, Start, Stop, Wait, Set, Clear, isTick}
-use Rattle.scheduler.specs.Scheduler.{begins, dispatched, lossesOf, unstarted, leaves, step, stepBy, LostLine, fresh, after, afterBy}
+use Rattle.scheduler.specs.Scheduler.{begins, phaseBegun, dispatched, lossesOf, unstarted, leaves, step, stepBy, LostLine, fresh, after, afterBy}
 
 module _ (i : ℕ) (f : Body → Body) (s : State) where
   pub bodyOf-changing-same : i < length (s .bodies) → bodyOf (changing i f s) i ≡ f (bodyOf s i)
@@ -36,6 +36,10 @@ module _ (i : ℕ) (f : Body → Body) (s : State) where
 
   pub tables-changing : changing i f s .tables ≡ s .tables
   tables-changing = refl
+
+-- the same state but for the order of the started time-triggered tasks
+abbrev pub withOrder : List ℕ → State → State
+withOrder js s = record { bodies = s .bodies; tables = s .tables; order = js }
 
 -- two events of different kinds are not equal
 pub clash : _≡_ {A = ℕ} 0 1 → ⊥
@@ -58,27 +62,37 @@ requested-losses b = cond-losses (hasBegun (b .phase)) _ _ (b .losses) refl refl
 waits-losses : (w : ℕ) → KeepsLosses (waits w)
 waits-losses w b = cond-losses (anySet (b .bits) w) _ _ (b .losses) refl refl
 
--- what the effects keep: each changes bodies and leaves their losses, or changes a table, or is that of a Tick
+pub cond-either : (P : State → Type 0) (b : Bool) (x y : State) → P x → P y → P (cond b x y)
+cond-either P true x y p q = p
+cond-either P false x y p q = q
+
+-- what the effects keep: each changes bodies and leaves their losses, or changes a table, or is that of a Tick; a time-triggered task that
+-- ends leaves the order besides
 pub effectOf-keeps : (c : Config) (s : State) (P : State → Type 0)
     → ((i : ℕ) (f : Body → Body) (x : State) → KeepsLosses f → P x → P (changing i f x))
+    → ((js : List ℕ) (x : State) → P x → P (withOrder js x))
     → ((t : ℕ) (y : Table) → P (withTable t y s))
     → P s
     → (e : Event)
     → (e ≡ Tick → P (ticked c s))
     → P (effectOf c s e)
-effectOf-keeps c s P on-body on-table p (Activate t) tick = on-body t activated s (λ b. refl) p
-effectOf-keeps c s P on-body on-table p Finish tick = on-body (caller c s) finished s finished-losses p
-effectOf-keeps c s P on-body on-table p (Chain t) tick =
+effectOf-keeps c s P on-body on-order on-table p (Activate t) tick = on-body t activated s (λ b. refl) p
+effectOf-keeps c s P on-body on-order on-table p Finish tick =
+    let ends = on-body (caller c s) finished s finished-losses p in
+    cond-either P (runner c s .timed) (finishTimed (caller c s) s) (finish (caller c s) s)
+    (on-order (rest (s .order)) (finish (caller c s) s) ends)
+    ends
+effectOf-keeps c s P on-body on-order on-table p (Chain t) tick =
     on-body t activated (finish (caller c s) s) (λ b. refl) (on-body (caller c s) finished s finished-losses p)
-effectOf-keeps c s P on-body on-table p (Get r) tick = on-body (caller c s) (gets r) s (λ b. refl) p
-effectOf-keeps c s P on-body on-table p (Release r) tick = on-body (caller c s) releases s (λ b. refl) p
-effectOf-keeps c s P on-body on-table p Tick tick = tick refl
-effectOf-keeps c s P on-body on-table p (Line i) tick = on-body i requested s requested-losses p
-effectOf-keeps c s P on-body on-table p (Start t d) tick = on-table t _
-effectOf-keeps c s P on-body on-table p (Stop t) tick = on-table t _
-effectOf-keeps c s P on-body on-table p (Wait w) tick = on-body (caller c s) (waits w) s (waits-losses w) p
-effectOf-keeps c s P on-body on-table p (Set t w) tick = on-body t (receives w) s (λ b. refl) p
-effectOf-keeps c s P on-body on-table p (Clear w) tick = on-body (caller c s) (clears w) s (λ b. refl) p
+effectOf-keeps c s P on-body on-order on-table p (Get r) tick = on-body (caller c s) (gets r) s (λ b. refl) p
+effectOf-keeps c s P on-body on-order on-table p (Release r) tick = on-body (caller c s) releases s (λ b. refl) p
+effectOf-keeps c s P on-body on-order on-table p Tick tick = tick refl
+effectOf-keeps c s P on-body on-order on-table p (Line i) tick = on-body i requested s requested-losses p
+effectOf-keeps c s P on-body on-order on-table p (Start t d) tick = on-table t _
+effectOf-keeps c s P on-body on-order on-table p (Stop t) tick = on-table t _
+effectOf-keeps c s P on-body on-order on-table p (Wait w) tick = on-body (caller c s) (waits w) s (waits-losses w) p
+effectOf-keeps c s P on-body on-order on-table p (Set t w) tick = on-body t (receives w) s (λ b. refl) p
+effectOf-keeps c s P on-body on-order on-table p (Clear w) tick = on-body (caller c s) (clears w) s (λ b. refl) p
 
 -- what a refusal keeps: it leaves the state, or is that of a lost line that is counted
 pub refusalOf-keeps : (c : Config) (s : State) (P : State → Type 0) → P s → (st : ℕ) (e : Event)
@@ -122,35 +136,69 @@ by-tick (Clear w) f g = g refl
 pub no-tick : (e : Event) → isTick e ≡ false → e ≢ Tick
 no-tick e h q = true≢false (sym (ap isTick q) ∙ h)
 
-pub cond-either : (P : State → Type 0) (b : Bool) (x y : State) → P x → P y → P (cond b x y)
-cond-either P true x y p q = p
-cond-either P false x y p q = q
+-- what a due entry makes of its task's body; x: the task is time-triggered
+abbrev pub triggeredByEntry : Body → Body
+triggeredByEntry b = cond (isSuspended (b .phase)) (triggers b) (loses b)
+
+abbrev pub entered : Bool → Body → Body
+entered true = triggeredByEntry
+entered false = activatedByEntry
 
 -- what every due entry keeps
-module _ (P : State → Type 0) (on-entry : (t : ℕ) (s : State) → P s → P (changing t activatedByEntry s)) where
-  pub activatingDue-keeps : (ds : List Bool) (ts : List ℕ) (s : State) → P s → P (activatingDue ds ts s)
+module _ (c : Config) (P : State → Type 0) where
+  pub enters-keep : ((t : ℕ) (s : State) → P s → P (enter c t s)) → (ds : List Bool) (ts : List ℕ) (s : State) → P s
+      → P (activatingDue c ds ts s)
   unfolding activatingDue
-  activatingDue-keeps [] ts s p = p
-  activatingDue-keeps (true ∷ ds) [] s p = p
-  activatingDue-keeps (false ∷ ds) [] s p = p
-  activatingDue-keeps (true ∷ ds) (t ∷ ts) s p = activatingDue-keeps ds ts (changing t activatedByEntry s) (on-entry t s p)
-  activatingDue-keeps (false ∷ ds) (t ∷ ts) s p = activatingDue-keeps ds ts s p
+  enters-keep on-entry [] ts s p = p
+  enters-keep on-entry (true ∷ ds) [] s p = p
+  enters-keep on-entry (false ∷ ds) [] s p = p
+  enters-keep on-entry (true ∷ ds) (t ∷ ts) s p = enters-keep on-entry ds ts (enter c t s) (on-entry t s p)
+  enters-keep on-entry (false ∷ ds) (t ∷ ts) s p = enters-keep on-entry ds ts s p
+
+  -- an entry changes its task's body, and perhaps the order
+  pub enter-keeps : (t : ℕ) (s : State)
+      → ((js : List ℕ) (x : State) → P x → P (withOrder js x))
+      → P (changing t (entered (isTimed c t)) s)
+      → P (enter c t s)
+  enter-keeps t s on-order = go (isTimed c t)
+    where
+      timed : (b : Bool) → P (changing t (λ x. cond b (triggers x) (loses x)) s) → P (cond b (starting t s) (changing t loses s))
+      timed true p = on-order (t ∷ s .order) (changing t triggers s) p
+      timed false p = p
+
+      go : (b : Bool) → P (changing t (entered b) s) → P (cond b (trigger t s) (changing t activatedByEntry s))
+      go true p = timed (isSuspended (bodyOf s t .phase)) p
+      go false p = p
+
+  pub activatingDue-keeps : ((js : List ℕ) (x : State) → P x → P (withOrder js x))
+      → ((t : ℕ) (b : Bool) (s : State) → P s → P (changing t (entered b) s))
+      → (ds : List Bool) (ts : List ℕ) (s : State)
+      → P s
+      → P (activatingDue c ds ts s)
+  activatingDue-keeps on-order on-entry = enters-keep (λ t s p. enter-keeps t s on-order (on-entry t (isTimed c t) s p))
+
+pub enter-bodies : (c : Config) (t : ℕ) (s : State) → enter c t s .bodies ≡ changing t (entered (isTimed c t)) s .bodies
+enter-bodies c t s = enter-keeps c (λ x. x .bodies ≡ changing t (entered (isTimed c t)) s .bodies) t s (λ js x h. h) refl
 
 -- what every change of a body keeps
 module _ (P : State → Type 0) (on-body : (i : ℕ) (f : Body → Body) (s : State) → P s → P (changing i f s)) where
   pub dispatched-keeps : (c : Config) (s : State) → P s → P (dispatched c s)
-  dispatched-keeps c s p = cond-either P (begins (runner c s)) _ s (on-body (runner c s .number) (become started) s p) p
+  dispatched-keeps c s p =
+      cond-either P (begins (runner c s)) _ s (on-body (runner c s .number) (become (phaseBegun (runner c s))) s p) p
 
-  -- what the changes of a table and their counting keep too
-  pub step-keeps : ((t : ℕ) (x : Table) (s : State) → P s → P (withTable t x s)) → ((s : State) → P s → P (counted s)) → (c : Config) (s : State)
+  -- what the changes of the order and of a table, and their counting, keep too
+  pub step-keeps : ((js : List ℕ) (s : State) → P s → P (withOrder js s)) → ((t : ℕ) (x : Table) (s : State) → P s → P (withTable t x s))
+      → ((s : State) → P s → P (counted s))
+      → (c : Config) (s : State)
       → P s
       → (e : Event)
       → P (step c s e .state)
   unfolding stepBy
-  step-keeps on-table on-counted c s p e =
+  step-keeps on-order on-table on-counted c s p e =
       dispatched-keeps c _
       (cond-either P (eqb (statusOf c s e) done) (effectOf c s e) (refusalOf c s (statusOf c s e) e)
-      (effectOf-keeps c s P (λ i f x k. on-body i f x) (λ t y. on-table t y s p) p e (λ q. activatingDue-keeps P (λ t. on-body t activatedByEntry) (dues c (counted s)) (c .task) (counted s) (on-counted s p)))
+      (effectOf-keeps c s P (λ i f x k. on-body i f x) on-order (λ t y. on-table t y s p) p e
+      (λ q. activatingDue-keeps c P on-order (λ t b. on-body t (entered b)) (dues c (counted s)) (c .task) (counted s) (on-counted s p)))
       (refusalOf-keeps c s P p (statusOf c s e) e (λ i _ _ _. on-body i loses s p)))
 
 -- no event adds or takes away a body or a table
@@ -159,6 +207,7 @@ module _ (c : Config) where
   length-bodies-step s =
       step-keeps (λ x. length (x .bodies) ≡ length (s .bodies))
       (λ i f x h. length-changing i f x ∙ h)
+      (λ js x h. h)
       (λ t y x h. h)
       (λ x h. h)
       c
@@ -169,6 +218,7 @@ module _ (c : Config) where
   length-tables-step s =
       step-keeps (λ x. length (x .tables) ≡ length (s .tables))
       (λ i f x h. h)
+      (λ js x h. h)
       (λ t y x h. length-set (x .tables) t y ∙ h)
       (λ x h. length-map (x .tables) counting ∙ h)
       c
@@ -180,7 +230,8 @@ module _ (c : Config) where
 
   pub tables-ticked : (s : State) → ticked c s .tables ≡ map counting (s .tables)
   tables-ticked s =
-      activatingDue-keeps (λ x. x .tables ≡ map counting (s .tables)) (λ t x h. h) (dues c (counted s)) (c .task) (counted s) refl
+      activatingDue-keeps c (λ x. x .tables ≡ map counting (s .tables)) (λ js x h. h) (λ t b x h. h) (dues c (counted s)) (c .task) (counted s)
+      refl
 
   pub tables-fresh : fresh c .tables ≡ replicate (c .tables) stopped
   tables-fresh = tables-dispatched (unstarted c)
@@ -196,7 +247,7 @@ module _ (c : Config) where
   pub losses-dispatched : (s : State) → lossesOf (dispatched c s) ≡ lossesOf s
   losses-dispatched s =
       cond-either (λ x. lossesOf x ≡ lossesOf s) (begins (runner c s)) _ s
-      (losses-changing (runner c s .number) (become started) s (λ b. refl))
+      (losses-changing (runner c s .number) (become (phaseBegun (runner c s))) s (λ b. refl))
       refl
 
   pub losses-call : (s : State) (e : Event) → e ≢ Tick → ((i : ℕ) → LostLine c s e i → ⊥) → lossesOf (step c s e .state) ≡ lossesOf s
@@ -204,7 +255,8 @@ module _ (c : Config) where
   losses-call s e d kept =
       losses-dispatched (leaves c s e)
       ∙ cond-either (λ x. lossesOf x ≡ lossesOf s) (eqb (statusOf c s e) done) (effectOf c s e) (refusalOf c s (statusOf c s e) e)
-      (effectOf-keeps c s (λ x. lossesOf x ≡ lossesOf s) (λ i f x k h. losses-changing i f x k ∙ h) (λ t y. refl) refl e (λ q. absurd (d q)))
+      (effectOf-keeps c s (λ x. lossesOf x ≡ lossesOf s) (λ i f x k h. losses-changing i f x k ∙ h) (λ js x h. h) (λ t y. refl) refl e
+      (λ q. absurd (d q)))
       (refusalOf-keeps c s (λ x. lossesOf x ≡ lossesOf s) refl (statusOf c s e) e (λ i w q h. absurd (kept i (w, q, h))))
 
   -- the losses that are seen are those of the state after the event

@@ -19,7 +19,7 @@ getD-map-in f (x ∷ l) zero a b h = refl
 getD-map-in f (x ∷ l) (suc n) a b h = getD-map-in f l n a b (omega arith)
 
 module _ (c : Config) (fit : firstOf c (c .tables) ≤ length (c .offset)) where
-  length-offsets : (t : ℕ) → t < c .tables → length (offsets c t) ≡ getD (c .entries) t 0
+  pub length-offsets : (t : ℕ) → t < c .tables → length (offsets c t) ≡ getD (c .entries) t 0
   length-offsets t h =
       length-take (getD (c .entries) t 0) (drop (firstOf c t) (c .offset))
       ∙ rw (length-drop (firstOf c t) (c .offset)) (omega (arith, firstOf-step c t, firstOf-rises c (suc t) (c .tables) h))

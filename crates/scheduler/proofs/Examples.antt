@@ -10,7 +10,7 @@ use lib.ListN.{replicate}
 use Rattle.number.specs.Number.{readNumber, groups, continued, fifthGroup}
 use Rattle.config.specs.declared.Config.{Config}
 use Rattle.config.specs.Value.{withVersion}
-use Rattle.config.specs.Draft.{faultAt, putAt, ended, occurs}
+use Rattle.config.specs.Draft.{faultAt, putAt, ended, occurs, timedIn, someTimed}
 use Rattle.config.specs.Reader.{readConfig, readFrom}
 use Rattle.config.specs.Meaning.{greatestIn, entriesBefore}
 use Rattle.cell.specs.Due.{due}
@@ -139,7 +139,7 @@ pub record Examples : Type 0 where
       ∷ (false ∷ true ∷ true ∷ []) ∷ []
 
 pub examples : Examples
-unfolding sample secondEdition twoAutostart threeTasks readConfig readFrom readNumber groups continued fifthGroup faultAt putAt ended occurs greatestIn entriesBefore due firstGiven candidate chosenFrom among heldIn counting entryDue duesFrom activatingDue stepBy seenBy
+unfolding sample secondEdition twoAutostart threeTasks readConfig readFrom readNumber groups continued fifthGroup faultAt putAt ended occurs timedIn someTimed greatestIn entriesBefore due firstGiven candidate chosenFrom among heldIn counting entryDue duesFrom activatingDue stepBy seenBy
 examples =
     record {
       activate-higher = refl;
@@ -229,7 +229,7 @@ pub record ExtendedExamples : Type 0 where
   pub due-while-waiting-losses : lossesOf (after extendedTasks (fresh extendedTasks) lostWaiting) ≡ 1 ∷ 0 ∷ 0 ∷ 0 ∷ []
 
 pub extended-examples : ExtendedExamples
-unfolding extendedTasks readConfig readFrom readNumber groups continued fifthGroup faultAt putAt ended occurs greatestIn entriesBefore due firstGiven candidate chosenFrom among heldIn counting entryDue duesFrom activatingDue anySet withBits withoutBits stepBy seenBy afterBy
+unfolding extendedTasks readConfig readFrom readNumber groups continued fifthGroup faultAt putAt ended occurs timedIn someTimed greatestIn entriesBefore due firstGiven candidate chosenFrom among heldIn counting entryDue duesFrom activatingDue anySet withBits withoutBits stepBy seenBy afterBy
 extended-examples =
     record {
       wait-statuses = refl;

@@ -8,10 +8,12 @@ pub mod Choice
 pub mod Checks
 pub mod Effects
 pub mod Refusals
+pub mod Named
 pub mod Tables
 pub mod Requests
 pub mod Losses
 pub mod Ties
 pub mod Dues
 pub mod Entries
+pub mod Timed
 pub mod Users

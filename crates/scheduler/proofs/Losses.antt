@@ -1,70 +1,90 @@
--- What a Tick does to one task: `tick-suspended` and `tick-active`, at the end of the file.
+-- What a Tick does to one task: `tick-suspended`, `tick-triggered` and `tick-active`, at the end of the file.
 --
 -- In order: the due entries that name the task, one after the other, are so many of them (`activatingDue-times`); what so many do to a task
 -- that isn't suspended; no loss count is above 65,535 after any list of events. Assumes nothing.
 use Prim.Native.Nat.{ℕ, zero, suc, _+_, _≤_, _<_, min}
-use mathlib.Core.Path.{_≡_, refl, sym, ap, _∙_}
+use mathlib.Core.Path.{_≡_, refl, sym, ap, ap₂, _∙_}
 use mathlib.Core.Bool.{Bool, true, false, cond}
-use mathlib.Core.List.{List, [], _∷_, map}
+use mathlib.Core.List.{List, [], _∷_}
 use native.Mathlib.Omega.{arith}
 use borrow.Author.Tests.{eq-eqb, ne-eqb}
 use lib.Dec.{eqb, lit≤}
-use lib.ListN.{length, getD, List·getD-eq-default, List·getD-map, take, replicate}
+use lib.ListN.{length, getD, List·getD-eq-default, List·getD-map, take}
 use Rattle.number.proofs.Cases.{by-lt, by-eq}
 use Rattle.config.specs.declared.Config.{Config}
+use Rattle.config.specs.Meaning.{isTimed}
 use Rattle.scheduler.specs.Status.{done}
-use Rattle.scheduler.specs.Body.{Body, suspended, isSuspended, activated, mostLosses, losing, loses, activatedByEntry}
-use Rattle.scheduler.specs.State.{State, stopped, noBody, bodyOf, changing}
+use Rattle.scheduler.specs.Body.{Body, suspended, isSuspended, activated, triggers, mostLosses, losing, loses}
+use Rattle.scheduler.specs.State.{State, noBody, bodyOf, changing}
 use Rattle.scheduler.specs.Event.{Event}
-use Rattle.scheduler.specs.Tick.{counted, dues, activatingDue, ticked, naming, dueFor}
+use Rattle.scheduler.specs.Tick.{counted, dues, enter, activatingDue, ticked, naming, dueFor}
 use Rattle.scheduler.specs.Call.{statusOf, effectOf, refusalOf}
-use Rattle.scheduler.specs.Scheduler.{newBody, dispatched, lossesOf, leaves, step, stepBy, fresh, after, afterBy}
-use Rattle.scheduler.proofs.Effects.{bodyOf-changing-same, bodyOf-changing-other, length-changing, effectOf-keeps, refusalOf-keeps, activatingDue-keeps, cond-either, losses-dispatched}
+use Rattle.scheduler.specs.Scheduler.{newBody, unstarted, dispatched, lossesOf, leaves, step, stepBy, fresh, after, afterBy}
+use Rattle.scheduler.proofs.Effects.{bodyOf-changing-same, bodyOf-changing-other, length-changing, effectOf-keeps, refusalOf-keeps, entered, enter-bodies, activatingDue-keeps, cond-either, losses-dispatched}
 
--- n entries that name the body b, one after the other
-times : ℕ → Body → Body
-times zero b = b
-times (suc n) b = times n (activatedByEntry b)
+-- n entries that name the body b, one after the other; x: it is time-triggered
+times : Bool → ℕ → Body → Body
+times x zero b = b
+times x (suc n) b = times x n (entered x b)
 
-activatingDue-times : (t : ℕ) (ds : List Bool) (us : List ℕ) (s : State) → t < length (s .bodies)
-    → bodyOf (activatingDue ds us s) t ≡ times (naming t ds us) (bodyOf s t)
+activatingDue-times : (c : Config) (t : ℕ) (ds : List Bool) (us : List ℕ) (s : State) → t < length (s .bodies)
+    → bodyOf (activatingDue c ds us s) t ≡ times (isTimed c t) (naming t ds us) (bodyOf s t)
 unfolding activatingDue naming times
-activatingDue-times t [] us s fits = refl
-activatingDue-times t (true ∷ ds) [] s fits = refl
-activatingDue-times t (false ∷ ds) [] s fits = refl
-activatingDue-times t (true ∷ ds) (u ∷ us) s fits =
-    activatingDue-times t ds us (changing u activatedByEntry s) (rw (length-changing u activatedByEntry s) fits)
+activatingDue-times c t [] us s fits = refl
+activatingDue-times c t (true ∷ ds) [] s fits = refl
+activatingDue-times c t (false ∷ ds) [] s fits = refl
+activatingDue-times c t (true ∷ ds) (u ∷ us) s fits =
+    activatingDue-times c t ds us (enter c u s) (rw (enter-bodies c u s, length-changing u f s) fits)
+    ∙ ap (λ (bs : List Body). times (isTimed c t) (naming t ds us) (getD bs t noBody)) (enter-bodies c u s)
     ∙ by-eq u t
-    (λ same. rw (eq-eqb u t same) (ap (times (naming t ds us)) (rw (← same) (bodyOf-changing-same u activatedByEntry s (rw same fits)))))
-    (λ other. rw (ne-eqb u t other) (ap (times (naming t ds us)) (bodyOf-changing-other u activatedByEntry s t (λ e. other (sym e)))))
-activatingDue-times t (false ∷ ds) (u ∷ us) s fits = activatingDue-times t ds us s fits
+    (λ same. rw (eq-eqb u t same) (ap (times (isTimed c t) (naming t ds us)) (rw (← same) (bodyOf-changing-same u f s (rw same fits)))))
+    (λ other. rw (ne-eqb u t other) (ap (times (isTimed c t) (naming t ds us)) (bodyOf-changing-other u f s t (λ e. other (sym e)))))
+  where
+    f : Body → Body
+    f = entered (isTimed c u)
+activatingDue-times c t (false ∷ ds) (u ∷ us) s fits = activatingDue-times c t ds us s fits
 
 withLosses : Body → ℕ → Body
 withLosses b n = record { phase = b .phase; pending = b .pending; held = b .held; losses = n; bits = b .bits }
 
+pub entered-active : (x : Bool) (b : Body) → isSuspended (b .phase) ≡ false → entered x b ≡ loses b
+entered-active true b h = rw h
+entered-active false b h = rw h
+
 -- a body that isn't suspended loses them all
-times-active : (n : ℕ) (b : Body) → isSuspended (b .phase) ≡ false → b .losses ≤ mostLosses → times n b ≡ losing n b
+times-active : (x : Bool) (n : ℕ) (b : Body) → isSuspended (b .phase) ≡ false → b .losses ≤ mostLosses → times x n b ≡ losing n b
 unfolding times withLosses
-times-active zero b h few =
+times-active x zero b h few =
     let none : b .losses ≡ min (b .losses + 0) mostLosses = omega arith in
     ap (withLosses b) none
-times-active (suc n) b h few =
+times-active x (suc n) b h few =
     let one-more : min (min (b .losses + 1) mostLosses + n) mostLosses ≡ min (b .losses + suc n) mostLosses = omega arith in
-    rw h (times-active n (loses b) h (omega arith) ∙ ap (withLosses b) one-more)
+    ap (times x n) (entered-active x b h) ∙ times-active x n (loses b) h (omega arith) ∙ ap (withLosses b) one-more
 
--- a suspended one is ready after the first, and loses the others
-times-suspended : (n : ℕ) (b : Body) → b .phase ≡ suspended → b .losses ≤ mostLosses → times (suc n) b ≡ losing n (activated b)
+-- a suspended one is ready, or triggered, after the first, and loses the others
+times-suspended : (n : ℕ) (b : Body) → b .phase ≡ suspended → b .losses ≤ mostLosses → times false (suc n) b ≡ losing n (activated b)
 unfolding times
 times-suspended n b h few =
-    let first : activatedByEntry b ≡ activated b = rw h in
-    ap (times n) first ∙ times-active n (activated b) refl few
+    let first : entered false b ≡ activated b = rw h in
+    ap (times false n) first ∙ times-active false n (activated b) refl few
+
+times-triggered : (n : ℕ) (b : Body) → b .phase ≡ suspended → b .losses ≤ mostLosses → times true (suc n) b ≡ losing n (triggers b)
+unfolding times
+times-triggered n b h few =
+    let first : entered true b ≡ triggers b = rw h in
+    ap (times true n) first ∙ times-active true n (triggers b) refl few
 
 -- no count is above 65,535
 abbrev FewLosses : State → Type 0
 FewLosses s = (i : ℕ) → bodyOf s i .losses ≤ mostLosses
 
-entry-few : (b : Body) → b .losses ≤ mostLosses → activatedByEntry b .losses ≤ mostLosses
-entry-few b few = go (isSuspended (b .phase))
+entry-few : (x : Bool) (b : Body) → b .losses ≤ mostLosses → entered x b .losses ≤ mostLosses
+entry-few true b few = go (isSuspended (b .phase))
+  where
+    go : (p : Bool) → cond p (triggers b) (loses b) .losses ≤ mostLosses
+    go true = few
+    go false = omega arith
+entry-few false b few = go (isSuspended (b .phase))
   where
     go : (p : Bool) → cond p (activated b) (loses b) .losses ≤ mostLosses
     go true = few
@@ -93,18 +113,16 @@ module _ (c : Config) where
   few-step s e few =
       few-losses (leaves c s e) (dispatched c (leaves c s e)) (losses-dispatched c (leaves c s e))
       (cond-either FewLosses (eqb (statusOf c s e) done) (effectOf c s e) (refusalOf c s (statusOf c s e) e)
-      (effectOf-keeps c s FewLosses (λ i f x k. few-changing i f x (λ b h. rw (k b) h)) (λ t y. few) few e
-      (λ q. activatingDue-keeps FewLosses (λ t x. few-changing t activatedByEntry x entry-few) (dues c (counted s)) (c .task) (counted s) few))
+      (effectOf-keeps c s FewLosses (λ i f x k. few-changing i f x (λ b h. rw (k b) h)) (λ js x h. h) (λ t y. few) few e
+      (λ q. activatingDue-keeps c FewLosses (λ js x h. h) (λ t b x. few-changing t (entered b) x (entry-few b)) (dues c (counted s)) (c .task)
+      (counted s) few))
       (refusalOf-keeps c s FewLosses few (statusOf c s e) e (λ i _ _ _. few-changing i loses s (λ b h. omega arith) few)))
 
   pub few-fresh : FewLosses (fresh c)
   few-fresh =
-      few-losses new (dispatched c new) (losses-dispatched c new)
+      few-losses (unstarted c) (fresh c) (losses-dispatched c (unstarted c))
       (λ i. rw (List·getD-map newBody (take (c .bodies) (c .autostart)) i 0) (none (eqb (getD (take (c .bodies) (c .autostart)) i 0) 1)))
     where
-      new : State
-      new = record { bodies = map newBody (take (c .bodies) (c .autostart)); tables = replicate (c .tables) stopped }
-
       none : (a : Bool) → cond a (activated noBody) noBody .losses ≤ mostLosses
       none true = lit≤ tt
       none false = lit≤ tt
@@ -115,24 +133,34 @@ module _ (c : Config) where
   few-after (e ∷ es) s few = few-after es (step c s e .state) (few-step s e few)
 
   -- "A due entry makes a suspended task ready": k + 1 of them do so once, and the others are lost
-  pub tick-suspended : (es : List Event) (t k : ℕ) → t < length (after c (fresh c) es .bodies)
-      → bodyOf (after c (fresh c) es) t .phase ≡ suspended
-      → dueFor c (after c (fresh c) es) t ≡ suc k
-      → bodyOf (ticked c (after c (fresh c) es)) t ≡ losing k (activated (bodyOf (after c (fresh c) es) t))
-  tick-suspended es t k fits h n =
-      activatingDue-times t (dues c (counted s)) (c .task) (counted s) fits
-      ∙ ap (λ m. times m (bodyOf s t)) n
-      ∙ times-suspended k (bodyOf s t) h (few-after es (fresh c) few-fresh t)
-    where
-      s : State
-      s = after c (fresh c) es
+  module _ (es : List Event) (t : ℕ) (fits : t < length (after c (fresh c) es .bodies)) where
+    due-times : bodyOf (ticked c (after c (fresh c) es)) t
+        ≡ times (isTimed c t) (dueFor c (after c (fresh c) es) t) (bodyOf (after c (fresh c) es) t)
+    due-times =
+        activatingDue-times c t (dues c (counted (after c (fresh c) es))) (c .task) (counted (after c (fresh c) es)) fits
 
-  -- "If the task isn't suspended, its loss count rises", by one for each
-  pub tick-active : (es : List Event) (t : ℕ) → t < length (after c (fresh c) es .bodies)
-      → isSuspended (bodyOf (after c (fresh c) es) t .phase) ≡ false
-      → bodyOf (ticked c (after c (fresh c) es)) t ≡ losing (dueFor c (after c (fresh c) es) t) (bodyOf (after c (fresh c) es) t)
-  tick-active es t fits h =
-      activatingDue-times t (dues c (counted s)) (c .task) (counted s) fits ∙ times-active (dueFor c s t) (bodyOf s t) h (few-after es (fresh c) few-fresh t)
-    where
-      s : State
-      s = after c (fresh c) es
+    few : bodyOf (after c (fresh c) es) t .losses ≤ mostLosses
+    few = few-after es (fresh c) few-fresh t
+
+    pub tick-suspended : (k : ℕ) → isTimed c t ≡ false → bodyOf (after c (fresh c) es) t .phase ≡ suspended
+        → dueFor c (after c (fresh c) es) t ≡ suc k
+        → bodyOf (ticked c (after c (fresh c) es)) t ≡ losing k (activated (bodyOf (after c (fresh c) es) t))
+    tick-suspended k free h n =
+        due-times
+        ∙ ap₂ (λ (x : Bool) (m : ℕ). times x m (bodyOf (after c (fresh c) es) t)) free n
+        ∙ times-suspended k (bodyOf (after c (fresh c) es) t) h few
+
+    -- a time-triggered one is triggered once
+    pub tick-triggered : (k : ℕ) → isTimed c t ≡ true → bodyOf (after c (fresh c) es) t .phase ≡ suspended
+        → dueFor c (after c (fresh c) es) t ≡ suc k
+        → bodyOf (ticked c (after c (fresh c) es)) t ≡ losing k (triggers (bodyOf (after c (fresh c) es) t))
+    tick-triggered k timed h n =
+        due-times
+        ∙ ap₂ (λ (x : Bool) (m : ℕ). times x m (bodyOf (after c (fresh c) es) t)) timed n
+        ∙ times-triggered k (bodyOf (after c (fresh c) es) t) h few
+
+    -- "If the task isn't suspended, its loss count rises", by one for each
+    pub tick-active : isSuspended (bodyOf (after c (fresh c) es) t .phase) ≡ false
+        → bodyOf (ticked c (after c (fresh c) es)) t ≡ losing (dueFor c (after c (fresh c) es) t) (bodyOf (after c (fresh c) es) t)
+    tick-active h =
+        due-times ∙ times-active (isTimed c t) (dueFor c (after c (fresh c) es) t) (bodyOf (after c (fresh c) es) t) h few

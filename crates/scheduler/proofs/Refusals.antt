@@ -1,8 +1,8 @@
 -- A refused event changes nothing (`refused-same`), but for the count of a lost line (`lost-line`): at the end of the file.
 --
 -- In order: after a refusal comes the dispatch alone; after a dispatch the chosen body has begun, and is chosen again; so the next dispatch
--- does nothing; and a loss has no part in who runs. Assumes nothing.
-use Prim.Native.Nat.{ℕ, _+_, min}
+-- does nothing (`Settled`); and a loss has no part in who runs. Assumes nothing.
+use Prim.Native.Nat.{ℕ, _+_, _≤_, _<_, min}
 use mathlib.Core.Path.{_≡_, refl, sym, ap, _∙_}
 use mathlib.Core.Bool.{Bool, true, false, true≢false, cond, not, _&&_, _||_, or-false}
 use mathlib.Core.List.{List, [], _∷_}
@@ -10,18 +10,19 @@ use mathlib.Core.Logic.{_≢_}
 use native.Mathlib.Omega.{arith}
 use borrow.Author.Tests.{eq-eqb, ne-eqb}
 use lib.Dec.{eqb}
-use lib.ListN.{set}
-use lib.Seq.{set-getD}
+use lib.ListN.{length, getD, set, List·getD-map}
+use lib.Seq.{set-getD, set-out, map-set-same}
+use Rattle.number.proofs.Cases.{by-test, by-lt}
 use Rattle.config.specs.declared.Config.{Config}
 use Rattle.scheduler.specs.Status.{done, limitReached}
-use Rattle.scheduler.specs.Body.{Phase, suspended, ready, started, waiting, isStarted, competes, Body, holds, current, become, mostLosses, loses}
-use Rattle.scheduler.specs.Choice.{Candidate, isNobody, candidate, byHolding, goesBefore, preferred}
-use Rattle.scheduler.specs.State.{State, noBody, bodyOf, changing, runner}
+use Rattle.scheduler.specs.Body.{Phase, suspended, ready, started, waiting, triggered, isStarted, hasBegun, competes, Body, holds, current, become, mostLosses, loses}
+use Rattle.scheduler.specs.Choice.{Candidate, isNobody, candidate, byHolding, goesBefore, preferred, chosen}
+use Rattle.scheduler.specs.State.{State, noBody, bodyOf, changing, latestOf, runner, among}
 use Rattle.scheduler.specs.Event.{Event, Line}
 use Rattle.scheduler.specs.Call.{statusOf, refusalOf}
-use Rattle.scheduler.specs.Scheduler.{begins, dispatched, leaves, step, stepBy, LostLine, unstarted, fresh, after, afterBy}
-use Rattle.scheduler.proofs.Choice.{contender, candidate-active, chosen-mapped, chosen-alike, Taken, no-one, body, chosen-from}
-use Rattle.scheduler.proofs.Effects.{refusalOf-keeps}
+use Rattle.scheduler.specs.Scheduler.{begins, phaseBegun, dispatched, leaves, step, stepBy, LostLine, unstarted, fresh, after, afterBy}
+use Rattle.scheduler.proofs.Choice.{contender, candidate-active, chosen-mapped, chosen-alike, Taken, no-one, body, chosen-from, runner-timed, runner-untimed}
+use Rattle.scheduler.proofs.Effects.{bodyOf-changing-same, length-changing, refusalOf-keeps}
 
 pub refused-leaves : (c : Config) (s : State) (e : Event) → statusOf c s e ≢ done → leaves c s e ≡ refusalOf c s (statusOf c s e) e
 refused-leaves c s e refused = rw (ne-eqb (statusOf c s e) done refused)
@@ -34,12 +35,9 @@ refused-dispatched c s e refused kept =
     (refused-leaves c s e refused
     ∙ refusalOf-keeps c s (λ x. x ≡ s) refl (statusOf c s e) e (λ i w q h. absurd (kept i (w, q, h))))
 
-pub dispatched-same : (c : Config) (s : State) → begins (runner c s) ≡ false → dispatched c s ≡ s
-dispatched-same c s h = rw h
-
 -- the candidate x, begun
 abbrev pub onceBegun : Candidate → Candidate
-onceBegun x = record { number = x .number; level = x .level; began = x .began || begins x; holder = x .holder }
+onceBegun x = record { number = x .number; level = x .level; began = x .began || begins x; holder = x .holder; timed = x .timed }
 
 pub begins-some : (x : Candidate) → begins x ≡ true → (isNobody x ≡ false) × (x .began ≡ false)
 begins-some x h = both (isNobody x) (x .began) h
@@ -48,6 +46,13 @@ begins-some x h = both (isNobody x) (x .began) h
     both true b e = absurd (true≢false (sym e))
     both false true e = absurd (true≢false (sym e))
     both false false e = (refl, refl)
+
+begun-or : (x : Candidate) → begins x ≡ true → x .began || begins x ≡ true
+begun-or x e = ap (λ (b : Bool). x .began || b) e ∙ go (x .began)
+  where
+    go : (b : Bool) → b || true ≡ true
+    go true = refl
+    go false = refl
 
 begins-onceBegun : (x : Candidate) → begins (onceBegun x) ≡ false
 begins-onceBegun x = both (isNobody x) (x .began)
@@ -59,7 +64,7 @@ begins-onceBegun x = both (isNobody x) (x .began)
 
 -- A body that begins is to the choice what it was but for `began`, on which the choice does not rest: x begun, where it is the body k
 abbrev beginning : ℕ → Candidate → Candidate
-beginning k x = record { number = x .number; level = x .level; began = x .began || (not (isNobody x) && eqb (x .number) k); holder = x .holder }
+beginning k x = record { number = x .number; level = x .level; began = x .began || (not (isNobody x) && eqb (x .number) k); holder = x .holder; timed = x .timed }
 
 beginning-preferred : (k : ℕ) (x y : Candidate) → preferred byHolding (beginning k x) (beginning k y) ≡ beginning k (preferred byHolding x y)
 beginning-preferred k x y = go (goesBefore byHolding y x)
@@ -68,8 +73,8 @@ beginning-preferred k x y = go (goesBefore byHolding y x)
     go true = refl
     go false = refl
 
-began-same : (x : Candidate) (b : Bool) → b ≡ x .began → record { number = x .number; level = x .level; began = b; holder = x .holder } ≡ x
-began-same x b e i = record { number = x .number; level = x .level; began = e i; holder = x .holder }
+began-same : (x : Candidate) (b : Bool) → b ≡ x .began → record { number = x .number; level = x .level; began = b; holder = x .holder; timed = x .timed } ≡ x
+began-same x b e i = record { number = x .number; level = x .level; began = e i; holder = x .holder; timed = x .timed }
 
 -- another body stays what it is
 beginning-other : (c : Config) (k j : ℕ) (b : Body) → j ≢ k → beginning k (candidate c j b (b .phase)) ≡ candidate c j b (b .phase)
@@ -85,78 +90,155 @@ beginning-other c k j b d = go (b .phase)
     go ready = began-same (candidate c j b ready) (not (eqb (current c j b) 0) && eqb j k) (never (not (eqb (current c j b) 0)) (eqb j k) (ne-eqb j k d))
     go started = refl
     go (waiting w) = refl
+    go (triggered x) = refl
 
--- the runner of s is the body k, which begins
-module _ (c : Config) (s : State) (k : ℕ) (active : competes (bodyOf s k .phase) ≡ true)
-    (taken : runner c s ≡ contender c (s .bodies) k) (begin : begins (runner c s) ≡ true)
+-- the runner of s is the body k, which begins; no time-triggered task is started
+module _ (c : Config) (s : State) (none : s .order ≡ []) (k : ℕ) (active : competes (bodyOf s k .phase) ≡ true)
+    (taken : chosen c (s .bodies) ≡ contender c (s .bodies) k) (begin : begins (runner c s) ≡ true)
   where
-    runner-is : runner c s ≡ record { number = k; level = current c k (bodyOf s k); began = isStarted (bodyOf s k .phase); holder = holds (bodyOf s k .held) }
-    runner-is = taken ∙ candidate-active c k (bodyOf s k) (bodyOf s k .phase) active
+    abbrev it : Bool → Candidate
+    it b = record { number = k; level = current c k (bodyOf s k); began = b; holder = holds (bodyOf s k .held); timed = false }
 
-    number-is : runner c s .number ≡ k
-    number-is = ap (λ x. x .number) runner-is
+    runner-is : runner c s ≡ it (isStarted (bodyOf s k .phase))
+    runner-is = runner-untimed c s none ∙ taken ∙ candidate-active c k (bodyOf s k) (bodyOf s k .phase) active
 
     dispatched-now : dispatched c s ≡ changing k (become started) s
-    dispatched-now = rw begin (ap (λ j. changing j (become started) s) number-is)
+    dispatched-now = rw begin (ap (λ (x : Candidate). changing (x .number) (become (phaseBegun x)) s) runner-is)
 
     -- the runner, begun
     onceBegun-is : beginning k (runner c s) ≡ onceBegun (runner c s)
     onceBegun-is =
-        ap (λ (b : Bool). record { number = runner c s .number; level = runner c s .level; began = runner c s .began || b; holder = runner c s .holder })
+        ap (λ (b : Bool). record { number = runner c s .number; level = runner c s .level; began = runner c s .began || b; holder = runner c s .holder; timed = runner c s .timed })
         (ap (λ a. not a && eqb (runner c s .number) k) (begins-some (runner c s) begin .0) ∙ eq-eqb (runner c s .number) k number-is ∙ sym begin)
+      where
+        number-is : runner c s .number ≡ k
+        number-is = ap (λ (x : Candidate). x .number) runner-is
 
     begins-so : candidate c k (become started (bodyOf s k)) started ≡ beginning k (contender c (s .bodies) k)
     unfolding candidate
     begins-so =
         sym (
-        ap (beginning k) (sym taken) ∙ onceBegun-is
+        ap (beginning k) (sym (runner-untimed c s none ∙ taken)) ∙ onceBegun-is
         ∙ ap onceBegun runner-is
-        ∙ ap (λ (b : Bool). record { number = k; level = current c k (bodyOf s k); began = b; holder = holds (bodyOf s k .held) })
-        (ap (λ x. x .began || begins x) (sym runner-is) ∙ rw begin or-true)
+        ∙ ap it (ap (λ (x : Candidate). x .began || begins x) (sym runner-is) ∙ begun-or (runner c s) begin)
         )
-      where
-        or-true : runner c s .began || true ≡ true
-        or-true = go (runner c s .began)
-          where
-            go : (b : Bool) → b || true ≡ true
-            go true = refl
-            go false = refl
 
     chosen-again : runner c (changing k (become started) s) ≡ onceBegun (runner c s)
     chosen-again =
-        chosen-mapped byHolding c (beginning k) (beginning-preferred k) refl k (beginning-other c k) (become started (bodyOf s k)) (s .bodies) begins-so
+        runner-untimed c (changing k (become started) s) none
+        ∙ chosen-mapped byHolding c (beginning k) (beginning-preferred k) refl k (beginning-other c k) (become started (bodyOf s k)) (s .bodies) begins-so
+        ∙ ap (beginning k) (sym (runner-untimed c s none))
         ∙ onceBegun-is
 
--- the dispatch makes the chosen body begin, and it is chosen again
-pub runner-dispatched : (c : Config) (s : State) → runner c (dispatched c s) ≡ onceBegun (runner c s)
-runner-dispatched c s = go (begins (runner c s)) refl
+-- the runner of s is the time-triggered task j, which begins
+module _ (c : Config) (s : State) (j : ℕ) (js : List ℕ) (latest : s .order ≡ j ∷ js) (fits : j < length (s .bodies))
+    (begin : begins (runner c s) ≡ true)
   where
-    chosen-begins : Taken c (s .bodies) (runner c s) → begins (runner c s) ≡ true → runner c (dispatched c s) ≡ onceBegun (runner c s)
-    chosen-begins (no-one z) e = absurd (true≢false (rw z at (begins-some (runner c s) e .0)))
-    chosen-begins (body k h p z) e = ap (runner c) (dispatched-now c s k p z e) ∙ chosen-again c s k p z e
+    triggered-now : dispatched c s ≡ changing j (become (triggered true)) s
+    triggered-now = rw begin (ap (λ (x : Candidate). changing (x .number) (become (phaseBegun x)) s) (runner-timed c s j js latest))
 
-    go : (b : Bool) → begins (runner c s) ≡ b → runner c (dispatched c s) ≡ onceBegun (runner c s)
-    go true e = chosen-begins (chosen-from byHolding refl c (s .bodies)) e
-    go false e = rw (e, or-false)
+    triggered-again : runner c (changing j (become (triggered true)) s) ≡ onceBegun (runner c s)
+    triggered-again =
+        runner-timed c (changing j (become (triggered true)) s) j js latest
+        ∙ ap it (ap (λ (b : Body). hasBegun (b .phase)) (bodyOf-changing-same j (become (triggered true)) s fits))
+        ∙ sym (ap onceBegun is ∙ ap it (ap (λ (x : Candidate). x .began || begins x) (sym is) ∙ begun-or (runner c s) begin))
+      where
+        it : Bool → Candidate
+        it b = record { number = j; level = 201; began = b; holder = false; timed = true }
 
--- nobody is left to begin
-pub dispatched-settled : (c : Config) (s : State) → begins (runner c (dispatched c s)) ≡ false
-dispatched-settled c s = ap begins (runner-dispatched c s) ∙ begins-onceBegun (runner c s)
+        is : runner c s ≡ it (hasBegun (bodyOf s j .phase))
+        is = runner-timed c s j js latest
+
+-- the dispatch makes the chosen body begin, and it is chosen again
+pub runner-dispatched : (c : Config) (s : State) → runner c s .number < length (s .bodies) → runner c (dispatched c s) ≡ onceBegun (runner c s)
+runner-dispatched c s fits = by-test (begins (runner c s)) (λ e. go (s .order) refl e) (λ e. rw (e, or-false))
+  where
+    chosen-begins : s .order ≡ [] → Taken c (s .bodies) (chosen c (s .bodies)) → begins (runner c s) ≡ true
+        → runner c (dispatched c s) ≡ onceBegun (runner c s)
+    chosen-begins o (no-one z) e = absurd (true≢false (rw (runner-untimed c s o ∙ z) at (begins-some (runner c s) e .0)))
+    chosen-begins o (body k h p z) e = ap (runner c) (dispatched-now c s o k p z e) ∙ chosen-again c s o k p z e
+
+    go : (js : List ℕ) → s .order ≡ js → begins (runner c s) ≡ true → runner c (dispatched c s) ≡ onceBegun (runner c s)
+    go [] o e = chosen-begins o (chosen-from byHolding refl c (s .bodies)) e
+    go (j ∷ js) o e =
+        let here : j < length (s .bodies) = omega (arith, fits, ap (λ (x : Candidate). x .number) (runner-timed c s j js o)) in
+        ap (runner c) (triggered-now c s j js o here e) ∙ triggered-again c s j js o here e
+
+-- no body that there is not changes
+dispatched-out : (c : Config) (s : State) → length (s .bodies) ≤ runner c s .number → dispatched c s ≡ s
+dispatched-out c s past =
+    by-test (begins (runner c s))
+    (λ e. rw e
+    (ap (λ (bs : List Body). record { bodies = bs; tables = s .tables; order = s .order })
+    (set-out (s .bodies) (runner c s .number) (become (phaseBegun (runner c s)) (bodyOf s (runner c s .number))) past)))
+    (λ e. rw e)
+
+-- nobody is left to begin, of the bodies that there are
+abbrev pub Settled : Config → State → Type 0
+Settled c s = begins (runner c s) ≡ true → length (s .bodies) ≤ runner c s .number
+
+pub dispatched-same : (c : Config) (s : State) → Settled c s → dispatched c s ≡ s
+dispatched-same c s settled = by-test (begins (runner c s)) (λ e. dispatched-out c s (settled e)) (λ e. rw e)
+
+pub dispatched-settled : (c : Config) (s : State) → Settled c (dispatched c s)
+dispatched-settled c s e =
+    by-lt (runner c s .number) (length (s .bodies))
+    (λ fits. absurd (true≢false (sym e ∙ ap begins (runner-dispatched c s fits) ∙ begins-onceBegun (runner c s))))
+    (λ past. rw (dispatched-out c s past) past)
+
+-- whom the dispatch chose is chosen again
+pub runner-same : (c : Config) (s : State)
+    → (runner c (dispatched c s) .number ≡ runner c s .number) × (runner c (dispatched c s) .level ≡ runner c s .level)
+runner-same c s =
+    by-lt (runner c s .number) (length (s .bodies))
+    (λ fits. (
+      ap (λ (x : Candidate). x .number) (runner-dispatched c s fits),
+      ap (λ (x : Candidate). x .level) (runner-dispatched c s fits),
+    ))
+    (λ past. rw (dispatched-out c s past) (refl, refl))
+
+module _ (c : Config) (s : State) (settled : Settled c s) where
+  -- where no time-triggered task is started
+  pub settled-untimed : s .order ≡ [] → begins (runner c s) ≡ false
+  settled-untimed o = by-test (begins (runner c s)) (λ e. go e (chosen-from byHolding refl c (s .bodies))) (λ e. e)
+    where
+      go : begins (runner c s) ≡ true → Taken c (s .bodies) (chosen c (s .bodies)) → begins (runner c s) ≡ false
+      go e (no-one z) = ap begins (runner-untimed c s o ∙ z)
+      go e (body k h p z) =
+          let is = runner-untimed c s o ∙ z ∙ candidate-active c k (bodyOf s k) (bodyOf s k .phase) p in
+          absurd (omega (arith, settled e, ap (λ (x : Candidate). x .number) is))
+
+  -- where all that are started are bodies
+  pub settled-named : ((j : ℕ) → among j (s .order) ≡ true → j < length (s .bodies)) → begins (runner c s) ≡ false
+  unfolding among
+  settled-named named = go (s .order) refl
+    where
+      go : (js : List ℕ) → s .order ≡ js → begins (runner c s) ≡ false
+      go [] o = settled-untimed o
+      go (j ∷ js) o =
+          by-test (begins (runner c s))
+          (λ e. absurd (omega (
+            arith,
+            settled e,
+            named j (rw o (rw (eq-eqb j j refl))),
+            ap (λ (x : Candidate). x .number) (runner-timed c s j js o),
+          )))
+          (λ e. e)
 
 module _ (c : Config) where
-  pub settled-fresh : begins (runner c (fresh c)) ≡ false
+  pub settled-fresh : Settled c (fresh c)
   settled-fresh = dispatched-settled c (unstarted c)
 
-  pub settled-step : (s : State) (e : Event) → begins (runner c (step c s e .state)) ≡ false
+  pub settled-step : (s : State) (e : Event) → Settled c (step c s e .state)
   unfolding stepBy
   settled-step s e = dispatched-settled c (leaves c s e)
 
-  pub settled-after : (es : List Event) (s : State) → begins (runner c s) ≡ false → begins (runner c (after c s es)) ≡ false
+  pub settled-after : (es : List Event) (s : State) → Settled c s → Settled c (after c s es)
   unfolding afterBy
   settled-after [] s h = h
   settled-after (e ∷ es) s h = settled-after es (step c s e .state) (settled-step s e)
 
-  pub refused-same : (s : State) (e : Event) → begins (runner c s) ≡ false → step c s e .seen .status ≢ done
+  pub refused-same : (s : State) (e : Event) → Settled c s → step c s e .seen .status ≢ done
       → ((i : ℕ) → LostLine c s e i → ⊥)
       → step c s e .state ≡ s
   refused-same s e settled refused kept = refused-dispatched c s e refused kept ∙ dispatched-same c s settled
@@ -168,28 +250,47 @@ module _ (c : Config) where
   -- a loss has no part in who runs
   runner-loses : (i : ℕ) (s : State) → runner c (changing i loses s) ≡ runner c s
   unfolding candidate
-  runner-loses i s = chosen-alike byHolding c loses (λ j b. same j b (b .phase)) (s .bodies) i
+  runner-loses i s =
+      ap (latestOf (changing i loses s .bodies) (s .order)) (chosen-alike byHolding c loses (λ j b. same j b (b .phase)) (s .bodies) i)
+      ∙ go (s .order)
     where
       same : (j : ℕ) (b : Body) (p : Phase) → candidate c j (loses b) p ≡ candidate c j b p
       same j b suspended = refl
       same j b ready = refl
       same j b started = refl
       same j b (waiting w) = refl
+      same j b (triggered x) = refl
 
-  pub lost-line : (s : State) (i : ℕ) → begins (runner c s) ≡ false → LostLine c s (Line i) i → step c s (Line i) .state ≡ changing i loses s
+      phase-same : (j : ℕ) → bodyOf (changing i loses s) j .phase ≡ bodyOf s j .phase
+      phase-same j =
+          sym (List·getD-map (λ (b : Body). b .phase) (changing i loses s .bodies) j noBody)
+          ∙ ap (λ l. getD l j suspended) (map-set-same (λ (b : Body). b .phase) (s .bodies) i (loses (bodyOf s i)) noBody refl)
+          ∙ List·getD-map (λ (b : Body). b .phase) (s .bodies) j noBody
+
+      go : (js : List ℕ) → latestOf (changing i loses s .bodies) js (chosen c (s .bodies)) ≡ latestOf (s .bodies) js (chosen c (s .bodies))
+      go [] = refl
+      go (j ∷ js) =
+          ap (λ (p : Phase). record { number = j; level = 201; began = hasBegun p; holder = false; timed = true }) (phase-same j)
+
+  pub lost-line : (s : State) (i : ℕ) → Settled c s → LostLine c s (Line i) i → step c s (Line i) .state ≡ changing i loses s
   unfolding stepBy
   lost-line s i settled lost =
-      ap (dispatched c)
-      (refused-leaves c s (Line i) (λ z. absurd (omega (arith, lost .2, z)))
-      ∙ rw (lost .0) (rw (eq-eqb (statusOf c s (Line i)) limitReached (lost .2))))
-      ∙ dispatched-same c (changing i loses s) (rw (runner-loses i s) settled)
+      ap (dispatched c) left
+      ∙ dispatched-same c (changing i loses s)
+      (λ e. rw (runner-loses i s, length-changing i loses s) (settled (sym (ap begins (runner-loses i s)) ∙ e)))
+    where
+      left : leaves c s (Line i) ≡ changing i loses s
+      left =
+          refused-leaves c s (Line i) (λ z. absurd (omega (arith, lost .2, z)))
+          ∙ rw (lost .0) (rw (eq-eqb (statusOf c s (Line i)) limitReached (lost .2)))
 
   -- "up to 65,535"
-  pub lost-line-full : (s : State) (i : ℕ) → begins (runner c s) ≡ false → LostLine c s (Line i) i → bodyOf s i .losses ≡ mostLosses
+  pub lost-line-full : (s : State) (i : ℕ) → Settled c s → LostLine c s (Line i) i → bodyOf s i .losses ≡ mostLosses
       → step c s (Line i) .state ≡ s
   lost-line-full s i settled lost full =
       lost-line s i settled lost
-      ∙ ap (λ bs. record { bodies = bs; tables = s .tables }) (ap (set (s .bodies) i) same ∙ set-getD (s .bodies) i noBody)
+      ∙ ap (λ (bs : List Body). record { bodies = bs; tables = s .tables; order = s .order })
+      (ap (set (s .bodies) i) same ∙ set-getD (s .bodies) i noBody)
     where
       same : loses (bodyOf s i) ≡ bodyOf s i
       same =

@@ -4,6 +4,7 @@
 use Prim.Native.Nat.{ℕ}
 use mathlib.Core.Path.{_≡_, refl, sym, ap, _∙_}
 use mathlib.Core.Bool.{Bool, true, false, true≢false, cond}
+use mathlib.Core.List.{List, [], _∷_}
 use mathlib.Core.Logic.{_≢_, _⊎_, inl, inr, ⊎-elim}
 use native.Mathlib.Omega.{arith}
 use borrow.Author.Tests.{eq-eqb, ne-eqb}
@@ -13,36 +14,43 @@ use Rattle.number.proofs.Cases.{by-lt, by-eq}
 use Rattle.config.specs.declared.Config.{Config}
 use Rattle.config.specs.Meaning.{isIsr}
 use Rattle.scheduler.specs.Status.{done}
-use Rattle.scheduler.specs.Body.{Body, Phase, suspended, ready, started, waiting, isSuspended, isStarted, hasBegun, competes, become, activated, loses, requested, gets, releases, activatedByEntry, finished, waits, resumed, receives, clears}
+use Rattle.scheduler.specs.Body.{Body, Phase, suspended, ready, started, waiting, triggered, isSuspended, isStarted, hasBegun, competes, become, activated, loses, requested, gets, releases, finished, waits, resumed, receives, clears}
 use Rattle.scheduler.specs.Bits.{anySet, withBits}
-use Rattle.scheduler.specs.Choice.{byHolding}
+use Rattle.scheduler.specs.Choice.{byHolding, chosen}
 use Rattle.scheduler.specs.State.{State, noBody, bodyOf, changing, runner}
 use Rattle.scheduler.specs.Event.{Event, Activate, Finish, Chain, Get, Release, Tick, Line, Start, Stop, Wait, Set, Clear}
 use Rattle.scheduler.specs.Tick.{dues, counted}
-use Rattle.scheduler.specs.Call.{caller, finish, stop, statusOf, effectOf, refusalOf}
+use Rattle.scheduler.specs.Call.{caller, finish, finishTimed, stop, statusOf, effectOf, refusalOf}
 use Rattle.scheduler.specs.Scheduler.{begins, markOf, leaves, step, stepBy}
 use Rattle.scheduler.specs.History.{AcceptedIn, Ends}
-use Rattle.scheduler.proofs.Choice.{Taken, no-one, body, chosen-from, candidate-active}
+use Rattle.scheduler.proofs.Choice.{Taken, no-one, body, chosen-from, candidate-active, runner-timed, runner-untimed}
 use Rattle.scheduler.proofs.Checks.{activate-passed, chain-passed}
-use Rattle.scheduler.proofs.Effects.{bodyOf-changing-same, bodyOf-changing-other, refusalOf-keeps, activatingDue-keeps, cond-either}
-use Rattle.scheduler.proofs.Refusals.{begins-some, dispatched-same}
+use Rattle.scheduler.proofs.Effects.{bodyOf-changing-same, bodyOf-changing-other, refusalOf-keeps, entered, activatingDue-keeps, cond-either}
+use Rattle.scheduler.proofs.Refusals.{begins-some, Settled, dispatched-same}
 
 -- the body that begins had not begun
 begins-unbegun : (c : Config) (s : State) → begins (runner c s) ≡ true → hasBegun (bodyOf s (runner c s .number) .phase) ≡ false
-begins-unbegun c s b = go (chosen-from byHolding refl c (s .bodies))
+begins-unbegun c s b = by-order (s .order) refl
   where
     unbegun : (p : Phase) → competes p ≡ true → isStarted p ≡ false → hasBegun p ≡ false
     unbegun suspended h e = refl
     unbegun ready h e = refl
     unbegun started h e = e
     unbegun (waiting w) h e = absurd (true≢false (sym h))
+    unbegun (triggered x) h e = absurd (true≢false (sym h))
 
-    go : Taken c (s .bodies) (runner c s) → hasBegun (bodyOf s (runner c s .number) .phase) ≡ false
-    go (no-one z) = absurd (true≢false (rw z at (begins-some (runner c s) b .0)))
-    go (body k h p z) =
-        let is = z ∙ candidate-active c k (bodyOf s k) (bodyOf s k .phase) p in
+    go : s .order ≡ [] → Taken c (s .bodies) (chosen c (s .bodies)) → hasBegun (bodyOf s (runner c s .number) .phase) ≡ false
+    go o (no-one z) = absurd (true≢false (rw (runner-untimed c s o ∙ z) at (begins-some (runner c s) b .0)))
+    go o (body k h p z) =
+        let is = runner-untimed c s o ∙ z ∙ candidate-active c k (bodyOf s k) (bodyOf s k .phase) p in
         ap (λ n. hasBegun (bodyOf s n .phase)) (ap (λ x. x .number) is)
         ∙ unbegun (bodyOf s k .phase) p (sym (ap (λ x. x .began) is) ∙ begins-some (runner c s) b .1)
+
+    by-order : (js : List ℕ) → s .order ≡ js → hasBegun (bodyOf s (runner c s .number) .phase) ≡ false
+    by-order [] o = go o (chosen-from byHolding refl c (s .bodies))
+    by-order (j ∷ js) o =
+        let is = runner-timed c s j js o in
+        ap (λ n. hasBegun (bodyOf s n .phase)) (ap (λ x. x .number) is) ∙ sym (ap (λ x. x .began) is) ∙ begins-some (runner c s) b .1
 
 marked : (b : Bool) → markOf b ≡ 1 → b ≡ true
 marked true e = refl
@@ -69,20 +77,24 @@ receives-begun w b h = go (b .phase) h
     go suspended e = absurd (true≢false (sym e))
     go ready e = absurd (true≢false (sym e))
     go started e = refl
+    go (triggered x) e = e
     go (waiting v) e = cond-phase (anySet (withBits (b .bits) w) v)
       where
         cond-phase : (t : Bool) → hasBegun (cond t started (waiting v)) ≡ true
         cond-phase true = refl
         cond-phase false = refl
 
-entry-begun : KeepsBegun activatedByEntry
-entry-begun b h = go (b .phase) h
-  where
-    go : (p : Phase) → hasBegun p ≡ true → hasBegun (cond (isSuspended p) (activated b) (loses b) .phase) ≡ true
-    go suspended e = absurd (true≢false (sym e))
-    go ready e = absurd (true≢false (sym e))
-    go started e = h
-    go (waiting w) e = h
+-- who has begun is not suspended
+begun-active : (p : Phase) → hasBegun p ≡ true → isSuspended p ≡ false
+begun-active suspended h = absurd (true≢false (sym h))
+begun-active ready h = refl
+begun-active started h = refl
+begun-active (waiting w) h = refl
+begun-active (triggered x) h = refl
+
+entry-begun : (x : Bool) → KeepsBegun (entered x)
+entry-begun true b h = rw (begun-active (b .phase) h) h
+entry-begun false b h = rw (begun-active (b .phase) h) h
 
 module _ (i : ℕ) where
   begun-changing : (k : ℕ) (f : Body → Body) (s : State) → KeepsBegun f → hasBegun (bodyOf s i .phase) ≡ true
@@ -110,7 +122,10 @@ module _ (c : Config) (s : State) (i : ℕ) (begun : hasBegun (bodyOf s i .phase
   begun-stays Finish a =
       by-eq (caller c s) i
       (λ same. inl (inl refl, same))
-      (λ d. inr (begun-other i (caller c s) finished s d begun))
+      (λ d.
+      let stays = begun-other i (caller c s) finished s d begun in
+      inr
+      (cond-either (λ x. hasBegun (bodyOf x i .phase) ≡ true) (runner c s .timed) (finishTimed (caller c s) s) (finish (caller c s) s) stays stays))
   begun-stays (Chain t) a =
       let p = chain-passed c s t a in
       by-eq (caller c s) i
@@ -121,7 +136,7 @@ module _ (c : Config) (s : State) (i : ℕ) (begun : hasBegun (bodyOf s i .phase
   begun-stays (Release r) a = inr (begun-changing i (caller c s) releases s (λ b h. h) begun)
   begun-stays Tick a =
       inr
-      (activatingDue-keeps (λ x. hasBegun (bodyOf x i .phase) ≡ true) (λ t x. begun-changing i t activatedByEntry x entry-begun)
+      (activatingDue-keeps c (λ x. hasBegun (bodyOf x i .phase) ≡ true) (λ js x h. h) (λ t b x. begun-changing i t (entered b) x (entry-begun b))
       (dues c (counted s)) (c .task) (counted s) begun)
   begun-stays (Line j) a = inr (begun-changing i j requested s requested-begun begun)
   begun-stays (Start t d) a = inr begun
@@ -160,10 +175,9 @@ module _ (c : Config) (s : State) (i : ℕ) (begun : hasBegun (bodyOf s i .phase
       (p .0)
 
 -- a Stop changes no body, so whatever waits to begin still waits
-pub stop-bodies : (c : Config) (s : State) (t : ℕ) → begins (runner c s) ≡ false → step c s (Stop t) .state .bodies ≡ s .bodies
+pub stop-bodies : (c : Config) (s : State) (t : ℕ) → Settled c s → step c s (Stop t) .state .bodies ≡ s .bodies
 unfolding stepBy
 stop-bodies c s t settled =
-    ap (λ x. x .bodies) (dispatched-same c (leaves c s (Stop t)) (rw same settled)) ∙ same
-  where
-    same : leaves c s (Stop t) .bodies ≡ s .bodies
-    same = cond-either (λ x. x .bodies ≡ s .bodies) (eqb (statusOf c s (Stop t)) done) (stop t s) s refl refl
+    ap (λ x. x .bodies)
+    (dispatched-same c (leaves c s (Stop t)) (cond-either (Settled c) (eqb (statusOf c s (Stop t)) done) (stop t s) s settled settled))
+    ∙ cond-either (λ x. x .bodies ≡ s .bodies) (eqb (statusOf c s (Stop t)) done) (stop t s) s refl refl

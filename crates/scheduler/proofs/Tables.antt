@@ -15,10 +15,10 @@ use lib.Seq.{getD-set-same, getD-set-other}
 use Rattle.number.proofs.Cases.{by-eq}
 use Rattle.config.specs.declared.Config.{Config}
 use Rattle.scheduler.specs.Status.{done, firstGiven}
-use Rattle.scheduler.specs.State.{State, Table, stopped, running, tableOf, withTable}
+use Rattle.scheduler.specs.State.{State, Table, stopped, running, tableOf, withTable, runner}
 use Rattle.scheduler.specs.Event.{Event, Activate, Finish, Chain, Get, Release, Tick, Line, Start, Stop, Wait, Set, Clear, isTick}
 use Rattle.scheduler.specs.Tick.{counting}
-use Rattle.scheduler.specs.Call.{statusOf, effectOf, refusalOf}
+use Rattle.scheduler.specs.Call.{caller, finish, finishTimed, statusOf, effectOf, refusalOf}
 use Rattle.scheduler.specs.Scheduler.{leaves, stepBy, fresh, after, afterBy}
 use Rattle.scheduler.specs.History.{AcceptedIn, next, NoneAccepted, StartOf, StopOf, NoStart, NoStop, tickCount, History, never-started, since-start, since-stop}
 use Rattle.scheduler.proofs.Checks.{start-passed, stop-passed}
@@ -90,9 +90,13 @@ module _ (c : Config) (t : ℕ) (s : State) where
       (λ other. passes (λ p a. clash (cc)) (λ q a. other (cc)) (table-kept (Stop u) (withTable-other u stopped other))))
       (λ bad. passes (λ p a. clash (cc)) (λ q a. bad a) (table-refused (Stop u) bad))
 
+  -- an end changes no table
+  ends : tableOf (effectOf c s Finish) t ≡ tableOf s t
+  ends = cond-either (λ x. tableOf x t ≡ tableOf s t) (runner c s .timed) (finishTimed (caller c s) s) (finish (caller c s) s) refl refl
+
   turn : (e : Event) → length (s .tables) ≡ c .tables → Turn c t s e
   turn (Activate u) n = passes (λ p a. clash (cc)) (λ q a. clash (cc)) (table-kept (Activate u) refl)
-  turn Finish n = passes (λ p a. clash (cc)) (λ q a. clash (cc)) (table-kept Finish refl)
+  turn Finish n = passes (λ p a. clash (cc)) (λ q a. clash (cc)) (table-kept Finish ends)
   turn (Chain u) n = passes (λ p a. clash (cc)) (λ q a. clash (cc)) (table-kept (Chain u) refl)
   turn (Get r) n = passes (λ p a. clash (cc)) (λ q a. clash (cc)) (table-kept (Get r) refl)
   turn (Release r) n = passes (λ p a. clash (cc)) (λ q a. clash (cc)) (table-kept (Release r) refl)

@@ -11,16 +11,16 @@ use mathlib.Core.Logic.{_≢_, _↔_, _⊎_}
 use native.Mathlib.Omega.{arith}
 use lib.ListN.{length, getD, take}
 use Rattle.config.specs.declared.Config.{Config}
-use Rattle.config.specs.Meaning.{isIsr, isExtended, isUser, priorityOf, ceiling, firstOf}
+use Rattle.config.specs.Meaning.{isIsr, isExtended, isTimed, isUser, priorityOf, ceiling, firstOf}
 use Rattle.config.specs.Accepted as Configuration
 use Rattle.scheduler.specs.Status.{Check, done, NoneFails}
-use Rattle.scheduler.specs.Body.{Body, suspended, waiting, isSuspended, isStarted, hasBegun, competes, resumed, holds, current, activated, losing, loses, gets, releases}
+use Rattle.scheduler.specs.Body.{Body, suspended, waiting, isSuspended, isStarted, hasBegun, competes, resumed, holds, current, activated, triggers, losing, loses, gets, releases}
 use Rattle.scheduler.specs.Bits.{bitSet, anySet, withBits, withoutBits}
 use Rattle.scheduler.specs.Choice.{Candidate, nobody, isNobody, candidate, byHolding, byBegun, goesBefore}
 use Rattle.scheduler.specs.State.{State, Table, stopped, running, bodyOf, tableOf, changing, runner, among}
 use Rattle.scheduler.specs.Event.{Event, Activate, Finish, Chain, Get, Release, Tick, Line, Start, Stop, Wait, Set, Clear}
-use Rattle.scheduler.specs.Tick.{ticked, dueFor}
-use Rattle.scheduler.specs.Call.{caller, checksOf}
+use Rattle.scheduler.specs.Tick.{dues, ticked, dueFor}
+use Rattle.scheduler.specs.Call.{noCaller, caller, checksOf}
 use Rattle.scheduler.specs.Scheduler.{begins, dispatched, lossesOf, step, stepBy, LostLine, fresh, seen, after, leaves, unstarted, freshBy, seenBy, afterBy}
 use Rattle.scheduler.specs.Entries.{entryOf, entriesOf, entryAt}
 use Rattle.scheduler.specs.History.{AcceptedIn, Ends, next, NoStart, NoStop, tickCount, History, dueMark, DueAt}
@@ -29,6 +29,7 @@ use Rattle.scheduler.proofs.Choice as Choice
 use Rattle.scheduler.proofs.Checks as Checks
 use Rattle.scheduler.proofs.Effects as Effects
 use Rattle.scheduler.proofs.Refusals as Refusals
+use Rattle.scheduler.proofs.Named as Named
 use Rattle.scheduler.proofs.Requests as Requests
 use Rattle.scheduler.proofs.Users as Users
 use Rattle.scheduler.proofs.Losses as Losses
@@ -36,36 +37,53 @@ use Rattle.scheduler.proofs.Ties as Ties
 use Rattle.scheduler.proofs.Tables as Tables
 use Rattle.scheduler.proofs.Dues as Dues
 use Rattle.scheduler.proofs.Entries as Entries
+use Rattle.scheduler.proofs.Timed as Timed
 
 -- what the body k is to the choice
 abbrev pub candidateOf : Config → State → ℕ → Candidate
 candidateOf c s k = candidate c k (bodyOf s k) (bodyOf s k .phase)
 
--- "the body with the greatest current priority among ready and started ones runs"
-pub runner-greatest : (c : Config) (s : State) (k : ℕ) → competes (bodyOf s k .phase) ≡ true → current c k (bodyOf s k) ≤ runner c s .level
-runner-greatest c s = Choice.chosen-greatest byHolding refl c (s .bodies)
+-- A started time-triggered task "preempts all that runs, another kind 3 body too, and runs at one common execution level 201": the one that
+-- was started last runs, whoever else may
+pub runner-timed : (c : Config) (s : State) (j : ℕ) (js : List ℕ) → s .order ≡ j ∷ js
+    → (runner c s .number ≡ j) × (runner c s .level ≡ 201) × (runner c s .began ≡ hasBegun (bodyOf s j .phase))
+runner-timed c s j js e =
+    let is = Choice.runner-timed c s j js e in
+    (ap (λ (x : Candidate). x .number) is, ap (λ (x : Candidate). x .level) is, ap (λ (x : Candidate). x .began) is)
+
+-- Where none is started: "the body with the greatest current priority among ready and started ones runs"
+pub runner-greatest : (c : Config) (s : State) → s .order ≡ [] → (k : ℕ) → competes (bodyOf s k .phase) ≡ true
+    → current c k (bodyOf s k) ≤ runner c s .level
+runner-greatest c s none k active = rw (Choice.runner-untimed c s none) (Choice.chosen-greatest byHolding refl c (s .bodies) k active)
 
 -- "On equal current priority the body holding a resource goes first"
-pub runner-holder : (c : Config) (s : State) (k : ℕ) → competes (bodyOf s k .phase) ≡ true → holds (bodyOf s k .held) ≡ true
+pub runner-holder : (c : Config) (s : State) → s .order ≡ [] → (k : ℕ) → competes (bodyOf s k .phase) ≡ true → holds (bodyOf s k .held) ≡ true
     → current c k (bodyOf s k) ≡ runner c s .level
     → runner c s .holder ≡ true
-runner-holder c s k active held =
-    Choice.chosen-tie byHolding refl c (s .bodies) k active
+runner-holder c s none k active held equal =
+    rw (Choice.runner-untimed c s none)
+    (Choice.chosen-tie byHolding refl c (s .bodies) k active
     (ap (λ x. x .holder) (Choice.candidate-active c k (bodyOf s k) (bodyOf s k .phase) active) ∙ held)
+    (equal ∙ ap (λ x. x .level) (Choice.runner-untimed c s none)))
 
 -- so one that goes before every other runs
-pub runner-best : (c : Config) (s : State) (k : ℕ) → isNobody (candidateOf c s k) ≡ false
+pub runner-best : (c : Config) (s : State) → s .order ≡ [] → (k : ℕ) → isNobody (candidateOf c s k) ≡ false
     → ((i : ℕ) → i < length (s .bodies) → i ≢ k → competes (bodyOf s i .phase) ≡ true
     → goesBefore byHolding (candidateOf c s k) (candidateOf c s i) ≡ true)
     → runner c s ≡ candidateOf c s k
-runner-best c s = Choice.chosen-best byHolding refl c (s .bodies)
+runner-best c s none k some best = Choice.runner-untimed c s none ∙ Choice.chosen-best byHolding refl c (s .bodies) k some best
 
 -- and nobody runs exactly where every body is suspended or waits
-pub runner-nobody : (c : Config) (s : State) → ((i : ℕ) → i < length (s .bodies) → competes (bodyOf s i .phase) ≡ false) → runner c s ≡ nobody
-runner-nobody c s = Choice.chosen-nobody byHolding refl c (s .bodies)
+pub runner-nobody : (c : Config) (s : State) → s .order ≡ [] → ((i : ℕ) → i < length (s .bodies) → competes (bodyOf s i .phase) ≡ false)
+    → runner c s ≡ nobody
+runner-nobody c s none all = Choice.runner-untimed c s none ∙ Choice.chosen-nobody byHolding refl c (s .bodies) all
 
 pub runner-someone : (c : Config) (s : State) (k : ℕ) → competes (bodyOf s k .phase) ≡ true → 1 ≤ priorityOf c k → isNobody (runner c s) ≡ false
-runner-someone c s = Choice.chosen-someone byHolding refl c (s .bodies)
+runner-someone c s k active some = go (s .order) refl
+  where
+    go : (js : List ℕ) → s .order ≡ js → isNobody (runner c s) ≡ false
+    go [] o = ap isNobody (Choice.runner-untimed c s o) ∙ Choice.chosen-someone byHolding refl c (s .bodies) k active some
+    go (j ∷ js) o = ap isNobody (Choice.runner-timed c s j js o)
 
 -- The rule always decides: of two that may run one goes before the other, where the choice is made at the fresh start, after every list of
 -- events, and where the choice after the next event is made
@@ -147,6 +165,49 @@ event-table c s =
       twelve-clear = λ w. refl;
     }
 
+-- the status that an event gives
+abbrev pub statusSeen : Config → State → Event → ℕ
+statusSeen c s e = step c s e .seen .status
+
+-- "A body of kind 3 may make no call but Finish": 2 in the nine others, whatever else applies
+pub record TimedCalls (c : Config) (s : State) : Type 0 where
+  pub one-activate : (t : ℕ) → statusSeen c s (Activate t) ≡ 2
+  pub two-finish : statusSeen c s Finish ≢ 2
+  pub three-chain : (t : ℕ) → statusSeen c s (Chain t) ≡ 2
+  pub four-get : (r : ℕ) → statusSeen c s (Get r) ≡ 2
+  pub five-release : (r : ℕ) → statusSeen c s (Release r) ≡ 2
+  pub eight-start : (t d : ℕ) → statusSeen c s (Start t d) ≡ 2
+  pub nine-stop : (t : ℕ) → statusSeen c s (Stop t) ≡ 2
+  pub ten-wait : (w : ℕ) → statusSeen c s (Wait w) ≡ 2
+  pub eleven-set : (t w : ℕ) → statusSeen c s (Set t w) ≡ 2
+  pub twelve-clear : (w : ℕ) → statusSeen c s (Clear w) ≡ 2
+
+pub timed-calls : (c : Config) (s : State) (j : ℕ) (js : List ℕ) → s .order ≡ j ∷ js → TimedCalls c s
+timed-calls c s j js e =
+    record {
+      one-activate = λ t. Checks.timed-refused c s j js e (Activate t) refl;
+      two-finish = Checks.timed-finish c s j js e;
+      three-chain = λ t. Checks.timed-refused c s j js e (Chain t) refl;
+      four-get = λ r. Checks.timed-refused c s j js e (Get r) refl;
+      five-release = λ r. Checks.timed-refused c s j js e (Release r) refl;
+      eight-start = λ t d. Checks.timed-refused c s j js e (Start t d) refl;
+      nine-stop = λ t. Checks.timed-refused c s j js e (Stop t) refl;
+      ten-wait = λ w. Checks.timed-refused c s j js e (Wait w) refl;
+      eleven-set = λ t w. Checks.timed-refused c s j js e (Set t w) refl;
+      twelve-clear = λ w. Checks.timed-refused c s j js e (Clear w) refl;
+    }
+
+-- where somebody may call: "Activate and Chain naming one give 3; Set naming one gives 1"
+pub timed-activate : (c : Config) (s : State) → noCaller (runner c s) ≡ false → (t : ℕ) → isTimed c t ≡ true → statusSeen c s (Activate t) ≡ 3
+timed-activate = Checks.timed-activate
+
+pub timed-chain : (c : Config) (s : State) → noCaller (runner c s) ≡ false → (t : ℕ) → isTimed c t ≡ true → isIsr c (caller c s) ≡ false
+    → statusSeen c s (Chain t) ≡ 3
+timed-chain = Checks.timed-chain
+
+pub timed-set : (c : Config) (s : State) → noCaller (runner c s) ≡ false → (t : ℕ) → isTimed c t ≡ true → (w : ℕ) → statusSeen c s (Set t w) ≡ 1
+timed-set = Checks.timed-set
+
 -- an event is accepted exactly if none of its checks fails, and "the first status that applies is given"
 pub accepted-none-fails : (c : Config) (s : State) (e : Event) → (step c s e .seen .status ≡ 0) ↔ NoneFails (checksOf c s e)
 accepted-none-fails = Checks.accepted-none-fails
@@ -183,15 +244,33 @@ pub refused-dispatched : (c : Config) (s : State) (e : Event) → step c s e .se
     → step c s e .state ≡ dispatched c s
 refused-dispatched = Refusals.refused-dispatched
 
--- "At most one body begins in an event": the one that a dispatch chose is chosen again, and after an event nobody is left to begin
+-- "At most one body begins in an event": the one that a dispatch chose is chosen again, and after an event nobody is left to begin; where every
+-- started time-triggered task is one of the state's bodies, which is so after every list of events (`started-named`)
 pub runner-dispatched : (c : Config) (s : State)
     → (runner c (dispatched c s) .number ≡ runner c s .number) × (runner c (dispatched c s) .level ≡ runner c s .level)
-    × (begins (runner c (dispatched c s)) ≡ false)
-runner-dispatched c s =
-    (ap (λ x. x .number) (Refusals.runner-dispatched c s), ap (λ x. x .level) (Refusals.runner-dispatched c s), Refusals.dispatched-settled c s)
+    × (((j : ℕ) → among j (s .order) ≡ true → j < length (s .bodies)) → begins (runner c (dispatched c s)) ≡ false)
+runner-dispatched c s = (
+  Refusals.runner-same c s .0,
+  Refusals.runner-same c s .1,
+  λ named. Refusals.settled-named c (dispatched c s) (Refusals.dispatched-settled c s) (kept named),
+)
+  where
+    kept : ((j : ℕ) → among j (s .order) ≡ true → j < length (s .bodies))
+        → (j : ℕ) → among j (dispatched c s .order) ≡ true → j < length (dispatched c s .bodies)
+    kept named =
+        Effects.dispatched-keeps (λ x. (j : ℕ) → among j (x .order) ≡ true → j < length (x .bodies))
+        (λ i f x h j a. rw (Effects.length-changing i f x) (h j a))
+        c
+        s
+        named
 
-pub settled : (c : Config) (s : State) (e : Event) → begins (runner c (step c s e .state)) ≡ false
-settled = Refusals.settled-step
+pub settled : (c : Config) (s : State) (e : Event)
+    → ((j : ℕ) → among j (step c s e .state .order) ≡ true → j < length (step c s e .state .bodies))
+    → begins (runner c (step c s e .state)) ≡ false
+settled c s e = Refusals.settled-named c (step c s e .state) (Refusals.settled-step c s e)
+
+pub started-named : (c : Config) (es : List Event) (j : ℕ) → among j (after c (fresh c) es .order) ≡ true → j < c .bodies
+started-named c es = Named.named-after c es (fresh c) (Named.named-fresh c)
 
 -- "the task isn't suspended": an accepted Activate finds its task suspended, so a started one is never requested again
 pub activated-suspended : (c : Config) (s : State) (t : ℕ) → AcceptedIn c s (Activate t) → bodyOf s t .phase ≡ suspended
@@ -245,13 +324,19 @@ losses-call = Effects.losses-call
 pub losses-seen : (c : Config) (s : State) (e : Event) → step c s e .seen .losses ≡ lossesOf (step c s e .state)
 losses-seen = Effects.losses-seen
 
--- At one tick a task that several due entries name becomes ready once and loses the rest, whatever their order: only their number counts.
--- One that isn't suspended loses them all.
-pub tick-suspended : (c : Config) (es : List Event) (t k : ℕ) → t < length (after c (fresh c) es .bodies)
+-- At one tick a task that several due entries name becomes ready once and loses the rest, whatever their order: only their number counts. A
+-- time-triggered one is triggered once. One that isn't suspended loses them all.
+pub tick-suspended : (c : Config) (es : List Event) (t k : ℕ) → t < length (after c (fresh c) es .bodies) → isTimed c t ≡ false
     → bodyOf (after c (fresh c) es) t .phase ≡ suspended
     → dueFor c (after c (fresh c) es) t ≡ suc k
     → bodyOf (ticked c (after c (fresh c) es)) t ≡ losing k (activated (bodyOf (after c (fresh c) es) t))
-tick-suspended = Losses.tick-suspended
+tick-suspended c es t k fits = Losses.tick-suspended c es t fits k
+
+pub tick-triggered : (c : Config) (es : List Event) (t k : ℕ) → t < length (after c (fresh c) es .bodies) → isTimed c t ≡ true
+    → bodyOf (after c (fresh c) es) t .phase ≡ suspended
+    → dueFor c (after c (fresh c) es) t ≡ suc k
+    → bodyOf (ticked c (after c (fresh c) es)) t ≡ losing k (triggers (bodyOf (after c (fresh c) es) t))
+tick-triggered c es t k fits = Losses.tick-triggered c es t fits k
 
 pub tick-active : (c : Config) (es : List Event) (t : ℕ) → t < length (after c (fresh c) es .bodies)
     → isSuspended (bodyOf (after c (fresh c) es) t .phase) ≡ false
@@ -284,6 +369,18 @@ pub last-start : (c : Config) (t d : ℕ) (before rest : List Event) → Accepte
     → NoStop c t (next c (after c (fresh c) before) (Start t d)) rest
     → NoStart c t (next c (after c (fresh c) before) (Start t d)) rest
 last-start = Tables.last-start
+
+-- Two entries of kind 3 are never due at one tick, in no state at all: they lie in one table, and their offsets differ by less than its period
+pub timed-once : (c : Config) → Configuration.Accepted c → Configuration.Shaped c → (s : State) (e e′ : ℕ)
+    → e < firstOf c (c .tables)
+    → e′ < firstOf c (c .tables)
+    → e ≢ e′
+    → isTimed c (getD (c .task) e 0) ≡ true
+    → isTimed c (getD (c .task) e′ 0) ≡ true
+    → getD (dues c s) e false ≡ true
+    → getD (dues c s) e′ false ≡ true
+    → ⊥
+timed-once = Timed.timed-once
 
 -- Demand 3: an entry is marked due at exactly those events that are Ticks and at which it is due "by the table's arithmetic, counted from the
 -- table's last accepted start until its next accepted stop": the events before are `before ++ Start t d ∷ rest`, that Start is accepted where

@@ -5,7 +5,7 @@
 -- Which bodies are apart is a question asked of a body, so that all is proved once: of those that hold a resource, always; of those that are
 -- started, where no task is extended. Assumes nothing.
 use Prim.Native.Nat.{ℕ, zero, suc, _+_, _*_, max, _≤_, _<_}
-use mathlib.Core.Path.{_≡_, refl, sym, ap, ap₂, _∙_}
+use mathlib.Core.Path.{_≡_, refl, sym, ap, ap₂, subst⁻¹, _∙_}
 use mathlib.Core.Bool.{Bool, true, false, true≢false, cond, not, _&&_, _||_}
 use mathlib.Core.List.{List, [], _∷_, foldr, map}
 use mathlib.Core.Logic.{_≢_, _⊎_, inl, inr, ⊎-elim}
@@ -14,24 +14,26 @@ use borrow.Author.Tests.{lt-ltb, eq-eqb, ne-eqb}
 use lib.Dec.{ltb, eqb}
 use lib.ListN.{length, getD, set, length-set, take, length-map, List·getD-map, List·getD-eq-default}
 use lib.Seq.{getD-set-same, getD-set-other, set-out, length-take-le}
-use Rattle.number.proofs.Cases.{by-lt, by-eq}
+use Rattle.number.proofs.Cases.{by-test, by-lt, by-eq}
 use Rattle.config.specs.declared.Config.{Config}
 use Rattle.config.specs.Meaning.{isExtended, priorityOf, ceiling}
 use Rattle.config.specs.Accepted as Configuration
 use Rattle.scheduler.specs.Status.{done}
 use Rattle.scheduler.specs.Bits.{anySet, withBits}
-use Rattle.scheduler.specs.Body.{Phase, suspended, ready, started, waiting, isSuspended, isStarted, hasBegun, competes, Body, holds, current, become, activated, ended, finished, requested, gets, rest, releases, loses, activatedByEntry, waits, resumed, receives, clears}
-use Rattle.scheduler.specs.Choice.{Candidate, isNobody, byHolding, byBegun, goesBefore, chosenBy}
-use Rattle.scheduler.specs.State.{State, noBody, bodyOf, changing, runnerBy, runner}
+use Rattle.scheduler.specs.Body.{Phase, suspended, ready, started, waiting, triggered, isSuspended, isStarted, hasBegun, competes, Body, holds, current, become, activated, triggers, ended, finished, requested, gets, rest, releases, loses, waits, resumed, receives, clears}
+use Rattle.scheduler.specs.Choice.{Candidate, isNobody, byHolding, byBegun, goesBefore, chosenBy, chosen}
+use Rattle.scheduler.specs.State.{State, noBody, bodyOf, changing, latestOf, runnerBy, runner}
 use Rattle.scheduler.specs.Event.{Event, Activate, Finish, Chain, Get, Release, Tick, Line, Start, Stop, Wait, Set, Clear}
 use Rattle.scheduler.specs.Tick.{counted, dues}
-use Rattle.scheduler.specs.Call.{caller, finish, statusOf, effectOf}
-use Rattle.scheduler.specs.Scheduler.{Seen, begins, markOf, dispatchedTo, dispatched, endingTo, duesAt, newBody, statusFor, leavesFor, leaves, unstarted, fresh, freshBy, step, stepBy, seen, seenBy, after, afterBy}
+use Rattle.scheduler.specs.Call.{caller, finish, finishTimed, statusOf, effectOf}
+use Rattle.scheduler.specs.Scheduler.{Seen, begins, phaseBegun, markOf, dispatchedTo, dispatched, endingTo, duesAt, newBody, statusFor, leavesFor, leaves, unstarted, fresh, freshBy, step, stepBy, seen, seenBy, after, afterBy}
 use Rattle.scheduler.specs.History.{AcceptedIn}
-use Rattle.scheduler.proofs.Choice.{contender, weight, weight-before, chosen-weight, chosen-tie, chosen-same, chosen-from, candidate-active, current-own, current-free, Taken, no-one, body}
-use Rattle.scheduler.proofs.Checks.{activate-passed, finish-passed, chain-passed, get-passed, release-passed, wait-passed, set-passed}
-use Rattle.scheduler.proofs.Effects.{activatingDue-keeps, refusalOf-keeps}
-use Rattle.scheduler.proofs.Refusals.{begins-some, settled-fresh, settled-step, settled-after}
+use Rattle.scheduler.proofs.Choice.{contender, weight, weight-before, chosen-weight, chosen-tie, chosen-same, chosen-from, candidate-active, current-own, current-free, Taken, no-one, body, runner-timed, runner-untimed}
+use Rattle.scheduler.proofs.Checks.{activate-passed, finish-passed, chain-passed, get-passed, release-passed, wait-passed, set-passed, accepted-untimed}
+use Rattle.scheduler.proofs.Effects.{entered, activatingDue-keeps, refusalOf-keeps, cond-either}
+use Rattle.scheduler.proofs.Refusals.{begins-some, Settled, settled-untimed, settled-named, settled-fresh, settled-step, settled-after}
+use Rattle.scheduler.proofs.Losses.{entered-active}
+use Rattle.scheduler.proofs.Named.{named-fresh, named-after}
 
 -- a body of a list
 abbrev at : List Body → ℕ → Body
@@ -70,6 +72,7 @@ started-competes suspended h = absurd (true≢false (sym h))
 started-competes ready h = absurd (true≢false (sym h))
 started-competes started h = refl
 started-competes (waiting w) h = absurd (true≢false (sym h))
+started-competes (triggered x) h = absurd (true≢false (sym h))
 
 -- which bodies are kept apart: those that hold a resource are among them, all of them are started, and nobody else comes to be one but by a
 -- dispatch, a Get, and for the last one a Set
@@ -81,6 +84,7 @@ record Question (In : Body → Bool) : Type 0 where
   by-loss : (b : Body) → In (loses b) ≡ true → In b ≡ true
   by-request : (b : Body) → In (record { phase = b .phase; pending = true; held = b .held; losses = b .losses; bits = b .bits }) ≡ true → In b ≡ true
   by-wait : (b : Body) (w : ℕ) → In (become (waiting w) b) ≡ true → In b ≡ true
+  by-trigger : (b : Body) (x : Bool) → In (become (triggered x) b) ≡ true → In b ≡ true
   by-clear : (b : Body) (w : ℕ) → In (clears w b) ≡ true → In b ≡ true
   new : In noBody ≡ false
 
@@ -100,6 +104,7 @@ holders =
       by-loss = λ b h. h;
       by-request = λ b h. h;
       by-wait = λ b w h. h;
+      by-trigger = λ b x h. h;
       by-clear = λ b w h. h;
       new = refl;
     }
@@ -114,6 +119,7 @@ begunBodies =
       by-loss = λ b h. h;
       by-request = λ b h. h;
       by-wait = λ b w h. absurd (true≢false (sym h));
+      by-trigger = λ b x h. absurd (true≢false (sym h));
       by-clear = λ b w h. h;
       new = refl;
     }
@@ -181,14 +187,27 @@ module _ {In : Body → Bool} (K : Question In) where
       (then b (ended b) (activated (ended b)) (ended-quiet b free) (activated-quiet (ended b) refl))
       (ended-quiet b free)
 
-  entry-quiet : (b : Body) → Quiet In b (activatedByEntry b)
-  entry-quiet b = go (b .phase) refl
+  -- a body that is not started is triggered: it holds nothing
+  becomes-triggered : (b : Body) (x : Bool) → isStarted (b .phase) ≡ false → Quiet In b (become (triggered x) b)
+  becomes-triggered b x n =
+      record { held = refl; among = K .by-trigger b x; steady = λ s h. absurd (true≢false (sym (s h) ∙ n)) }
+
+  triggers-quiet : (b : Body) → isStarted (b .phase) ≡ false → Quiet In b (triggers b)
+  triggers-quiet b n = then b (activated b) (triggers b) (activated-quiet b n) (becomes-triggered (activated b) false refl)
+
+  entry-quiet : (x : Bool) (b : Body) → Quiet In b (entered x b)
+  entry-quiet x b = by-test (isSuspended (b .phase)) (λ e. first x e) (λ e. rw (entered-active x b e) (loses-quiet b))
     where
-      go : (q : Phase) → b .phase ≡ q → Quiet In b (activatedByEntry b)
-      go suspended e = rw (ap isSuspended e) (activated-quiet b (ap isStarted e))
-      go ready e = rw (ap isSuspended e) (loses-quiet b)
-      go started e = rw (ap isSuspended e) (loses-quiet b)
-      go (waiting w) e = rw (ap isSuspended e) (loses-quiet b)
+      asleep : (p : Phase) → isSuspended p ≡ true → isStarted p ≡ false
+      asleep suspended e = refl
+      asleep ready e = refl
+      asleep started e = absurd (true≢false (sym e))
+      asleep (waiting w) e = refl
+      asleep (triggered y) e = refl
+
+      first : (y : Bool) → isSuspended (b .phase) ≡ true → Quiet In b (entered y b)
+      first true e = rw e (triggers-quiet b (asleep (b .phase) e))
+      first false e = rw e (activated-quiet b (asleep (b .phase) e))
 
   requested-quiet : (b : Body) → Quiet In b (requested b)
   requested-quiet b = go (b .phase) refl
@@ -201,6 +220,11 @@ module _ {In : Body → Bool} (K : Question In) where
       go ready e = rw (ap hasBegun e) (activated-quiet b (ap isStarted e))
       go started e = rw (ap hasBegun e) again
       go (waiting w) e = rw (ap hasBegun e) again
+      go (triggered x) e = asked x e
+        where
+          asked : (y : Bool) → b .phase ≡ triggered y → Quiet In b (requested b)
+          asked true z = rw (ap hasBegun z) again
+          asked false z = rw (ap hasBegun z) (activated-quiet b (ap isStarted z))
 
   waits-quiet : (w : ℕ) (b : Body) → holds (b .held) ≡ false → Quiet In b (waits w b)
   waits-quiet w b free =
@@ -218,6 +242,7 @@ receives-steady w b s h = go (b .phase) (s h)
     go ready e = absurd (true≢false (sym e))
     go started e = refl
     go (waiting v) e = absurd (true≢false (sym e))
+    go (triggered x) e = absurd (true≢false (sym e))
 
 -- of a configuration that the reader accepts
 module _ (c : Config) (ok : Configuration.Accepted c) where
@@ -273,20 +298,20 @@ module _ (c : Config) (ok : Configuration.Accepted c) where
             (λ (l : current c j (at bs j) < priorityOf c k). l)
             (a .apart k j k< j< (λ z. d (sym z)) (K .holding (at bs k) (a .steady k) (rw e)) h)
 
-  -- who runs: nobody, or a body
+  -- who runs where no time-triggered task is started: nobody, or a body
   data Runs (s : State) : Type 0 where
     nobody-runs : isNobody (runner c s) ≡ true → Runs s
-    runs : (k : ℕ) → k < length (s .bodies) → competes (at (s .bodies) k .phase) ≡ true → runner c s ≡ contender c (s .bodies) k → caller c s ≡ k
-        → runner c s .began ≡ isStarted (at (s .bodies) k .phase) → Runs s
+    runs : (k : ℕ) → k < length (s .bodies) → competes (at (s .bodies) k .phase) ≡ true → chosen c (s .bodies) ≡ contender c (s .bodies) k
+        → caller c s ≡ k → runner c s .began ≡ isStarted (at (s .bodies) k .phase) → runner c s .timed ≡ false → Runs s
 
-  who-runs : (s : State) → Runs s
-  who-runs s = go (chosen-from byHolding refl c (s .bodies))
+  who-runs : (s : State) → s .order ≡ [] → Runs s
+  who-runs s o = go (chosen-from byHolding refl c (s .bodies))
     where
-      go : Taken c (s .bodies) (runner c s) → Runs s
-      go (no-one e) = nobody-runs (rw e)
+      go : Taken c (s .bodies) (chosen c (s .bodies)) → Runs s
+      go (no-one e) = nobody-runs (ap isNobody (runner-untimed c s o ∙ e))
       go (body k h p e) =
-          let is = e ∙ candidate-active c k (at (s .bodies) k) (at (s .bodies) k .phase) p in
-          runs k h p e (ap (λ (x : Candidate). x .number) is) (ap (λ (x : Candidate). x .began) is)
+          let is = runner-untimed c s o ∙ e ∙ candidate-active c k (at (s .bodies) k) (at (s .bodies) k .phase) p in
+          runs k h p e (ap (λ (x : Candidate). x .number) is) (ap (λ (x : Candidate). x .began) is) (ap (λ (x : Candidate). x .timed) is)
 
   module _ {In : Body → Bool} (K : Question In)
       (on-set : (s : State) (t w : ℕ) → AcceptedIn c s (Set t w) → (b : Body) → In (receives w b) ≡ true → In b ≡ true) where
@@ -294,21 +319,21 @@ module _ (c : Config) (ok : Configuration.Accepted c) where
     quiet s a k f q = quiet-kept a k (f (bodyOf s k)) q
 
     -- the runner becomes y: its own priority is above the others'
-    runner-becomes : (s : State) → Kept c In (s .bodies) → isNobody (runner c s) ≡ false → (f : Body → Body)
+    runner-becomes : (s : State) → Kept c In (s .bodies) → s .order ≡ [] → isNobody (runner c s) ≡ false → (f : Body → Body)
         → ((k : ℕ) → caller c s ≡ k → runner c s .began ≡ isStarted (at (s .bodies) k .phase) → Steady (f (bodyOf s k)))
         → Kept c In (changing (caller c s) f s .bodies)
-    runner-becomes s a some f steady-f = go (who-runs s)
+    runner-becomes s a none some f steady-f = go (who-runs s none)
       where
         go : Runs s → Kept c In (changing (caller c s) f s .bodies)
         go (nobody-runs n) = absurd (true≢false (sym n ∙ some))
-        go (runs k h p e z b) =
+        go (runs k h p e z b _) =
             let k< : k < c .bodies = rw (a .size) at h in
             rw z (raised-kept a k k< (f (bodyOf s k)) (steady-f k z b) (outranks K a k k< p e))
 
     -- a state whose runner has begun
-    module _ (s : State) (a : Kept c In (s .bodies)) (settled : begins (runner c s) ≡ false) where
-      has-begun : isNobody (runner c s) ≡ false → runner c s .began ≡ true
-      has-begun some = go (runner c s .began) (rw some at settled)
+    module _ (s : State) (a : Kept c In (s .bodies)) (settled : Settled c s) where
+      has-begun : s .order ≡ [] → isNobody (runner c s) ≡ false → runner c s .began ≡ true
+      has-begun none some = go (runner c s .began) (rw some at (settled-untimed c s settled none))
         where
           go : (b : Bool) → not b ≡ false → b ≡ true
           go true e = refl
@@ -318,7 +343,9 @@ module _ (c : Config) (ok : Configuration.Accepted c) where
       unfolding stepBy
       effect-kept (Activate t) z =
           quiet s a t activated (activated-quiet K (bodyOf s t) (ap isStarted (activate-passed c s t z .2)))
-      effect-kept Finish z = quiet s a (caller c s) finished (finished-quiet K (bodyOf s (caller c s)) (finish-passed c s z .1))
+      effect-kept Finish z =
+          let ends = quiet s a (caller c s) finished (finished-quiet K (bodyOf s (caller c s)) (finish-passed c s z .1)) in
+          cond-either (λ x. Kept c In (x .bodies)) (runner c s .timed) (finishTimed (caller c s) s) (finish (caller c s) s) ends ends
       effect-kept (Chain t) z =
           let p = chain-passed c s t z in
           quiet (finish (caller c s) s) (quiet s a (caller c s) finished (finished-quiet K (bodyOf s (caller c s)) (p .3))) t activated
@@ -338,12 +365,14 @@ module _ (c : Config) (ok : Configuration.Accepted c) where
               (λ n. ap (λ (x : Body). isStarted (x .phase)) (getD-set-other (s .bodies) (caller c s) t (finished (bodyOf s (caller c s))) noBody n) ∙ ap isStarted (h n))
       effect-kept (Get r) z =
           let some = get-passed c s r z .0 in
-          runner-becomes s a some (gets r) (λ k e b h. sym b ∙ has-begun some)
+          let none = accepted-untimed c s (Get r) refl z in
+          runner-becomes s a none some (gets r) (λ k e b h. sym b ∙ has-begun none some)
       effect-kept (Release r) z =
           let some = release-passed c s r z .0 in
-          runner-becomes s a some releases (λ k e b h. sym b ∙ has-begun some)
+          let none = accepted-untimed c s (Release r) refl z in
+          runner-becomes s a none some releases (λ k e b h. sym b ∙ has-begun none some)
       effect-kept Tick z =
-          activatingDue-keeps (λ x. Kept c In (x .bodies)) (λ t x k. quiet x k t activatedByEntry (entry-quiet K (bodyOf x t)))
+          activatingDue-keeps c (λ x. Kept c In (x .bodies)) (λ js x h. h) (λ t b x k. quiet x k t (entered b) (entry-quiet K b (bodyOf x t)))
           (dues c (counted s)) (c .task) (counted s) a
       effect-kept (Line i) z = quiet s a i requested (requested-quiet K (bodyOf s i))
       effect-kept (Start t d) z = a
@@ -364,17 +393,35 @@ module _ (c : Config) (ok : Configuration.Accepted c) where
 
     -- the dispatch: who begins held nothing
     dispatched-kept : (s : State) → Kept c In (s .bodies) → Kept c In (dispatched c s .bodies)
-    dispatched-kept s a = go (begins (runner c s)) refl
+    dispatched-kept s a = by-test (begins (runner c s)) (λ e. rw e (by-order e (s .order) refl)) (λ e. rw e a)
       where
-        go : (b : Bool) → begins (runner c s) ≡ b → Kept c In (cond b (changing (caller c s) (become started) s) s .bodies)
-        go true e = runner-becomes s a (begins-some (runner c s) e .0) (become started) (λ k _ _ h. refl)
-        go false e = a
+        by-order : begins (runner c s) ≡ true → (js : List ℕ) → s .order ≡ js
+            → Kept c In (changing (caller c s) (become (phaseBegun (runner c s))) s .bodies)
+        by-order e [] o =
+            runner-becomes s a o (begins-some (runner c s) e .0) (become (phaseBegun (runner c s))) (λ k _ _ h. begun-phase (who-runs s o))
+          where
+            begun-phase : Runs s → isStarted (phaseBegun (runner c s)) ≡ true
+            begun-phase (nobody-runs n) = absurd (true≢false (sym n ∙ begins-some (runner c s) e .0))
+            begun-phase (runs k h p z y b t) = rw t
+        by-order e (j ∷ js) o =
+            let is = runner-timed c s j js o in
+            subst⁻¹ (λ (x : Candidate). Kept c In (changing (x .number) (become (phaseBegun x)) s .bodies)) is
+            (quiet s a j (become (triggered true))
+            (becomes-triggered K (bodyOf s j) true
+            (unbegun (bodyOf s j .phase) (sym (ap (λ (x : Candidate). x .began) is) ∙ begins-some (runner c s) e .1))))
+          where
+            unbegun : (p : Phase) → hasBegun p ≡ false → isStarted p ≡ false
+            unbegun suspended h = refl
+            unbegun ready h = refl
+            unbegun started h = h
+            unbegun (waiting w) h = refl
+            unbegun (triggered x) h = refl
 
-    step-kept : (s : State) → Kept c In (s .bodies) → begins (runner c s) ≡ false → (e : Event) → Kept c In (step c s e .state .bodies)
+    step-kept : (s : State) → Kept c In (s .bodies) → Settled c s → (e : Event) → Kept c In (step c s e .state .bodies)
     unfolding stepBy
     step-kept s a settled e = dispatched-kept (leaves c s e) (leaves-kept s a settled e)
 
-    after-kept : (es : List Event) (s : State) → Kept c In (s .bodies) → begins (runner c s) ≡ false → Kept c In (after c s es .bodies)
+    after-kept : (es : List Event) (s : State) → Kept c In (s .bodies) → Settled c s → Kept c In (after c s es .bodies)
     unfolding afterBy
     after-kept [] s a settled = a
     after-kept (e ∷ es) s a settled = after-kept es (step c s e .state) (step-kept s a settled e) (settled-step c s e)
@@ -537,19 +584,22 @@ module _ (c : Config) (ok : Configuration.Accepted c) where
     same-choice : chosenBy byBegun c bs ≡ chosenBy byHolding c bs
     same-choice = chosen-same byBegun byHolding c bs agree
 
+  same-runner : (s : State) → Kept c begunBody (s .bodies) → runnerBy byBegun c s ≡ runner c s
+  same-runner s a = ap (latestOf (s .bodies) (s .order)) (same-choice a)
+
   -- no task is extended
   module _ (shaped : Configuration.Shaped c) (basic : (b : ℕ) → isExtended c b ≡ false) where
     no-set : (s : State) (t w : ℕ) → AcceptedIn c s (Set t w) → (b : Body) → begunBody (receives w b) ≡ true → begunBody b ≡ true
     unfolding stepBy
     no-set s t w z b h = absurd (true≢false (sym (set-passed c s t w z .2) ∙ basic t))
 
-    old-step : (s : State) → Kept c begunBody (s .bodies) → begins (runner c s) ≡ false → (e : Event) → stepBy byBegun c s e ≡ step c s e
+    old-step : (s : State) → Kept c begunBody (s .bodies) → Settled c s → (e : Event) → stepBy byBegun c s e ≡ step c s e
     unfolding stepBy
     old-step s a settled e =
-        ap (λ (k : Candidate). endingTo (runnerBy byBegun c (leavesFor c k s e)) (statusFor c k s e) (duesAt c s e) (leavesFor c k s e)) (same-choice a)
-        ∙ ap (λ (k : Candidate). endingTo k (statusOf c s e) (duesAt c s e) (leaves c s e)) (same-choice (leaves-kept begunBodies no-set s a settled e))
+        ap (λ (k : Candidate). endingTo (runnerBy byBegun c (leavesFor c k s e)) (statusFor c k s e) (duesAt c s e) (leavesFor c k s e)) (same-runner s a)
+        ∙ ap (λ (k : Candidate). endingTo k (statusOf c s e) (duesAt c s e) (leaves c s e)) (same-runner (leaves c s e) (leaves-kept begunBodies no-set s a settled e))
 
-    old-from : (es : List Event) (s : State) → Kept c begunBody (s .bodies) → begins (runner c s) ≡ false
+    old-from : (es : List Event) (s : State) → Kept c begunBody (s .bodies) → Settled c s
         → (seenBy byBegun c s es ≡ seen c s es) × (afterBy byBegun c s es ≡ after c s es)
     unfolding seenBy afterBy
     old-from [] s a settled = (refl, refl)
@@ -558,7 +608,7 @@ module _ (c : Config) (ok : Configuration.Accepted c) where
         rw (old-step s a settled e) (ap (λ (xs : List Seen). step c s e .seen ∷ xs) (rest .0), rest .1)
 
     old-fresh : freshBy byBegun c ≡ fresh c
-    old-fresh = ap (λ (k : Candidate). dispatchedTo k (unstarted c)) (same-choice (unstarted-kept begunBodies no-set shaped))
+    old-fresh = ap (λ (k : Candidate). dispatchedTo k (unstarted c)) (same-runner (unstarted c) (unstarted-kept begunBodies no-set shaped))
 
     pub old-rule : (es : List Event)
         → (seenBy byBegun c (freshBy byBegun c) es ≡ seen c (fresh c) es) × (afterBy byBegun c (freshBy byBegun c) es ≡ after c (fresh c) es)
@@ -569,17 +619,35 @@ module _ (c : Config) (ok : Configuration.Accepted c) where
         → isStarted (bodyOf (after c (fresh c) es) k .phase) ≡ true
         → current c k (bodyOf (after c (fresh c) es) k) ≡ runner c (after c (fresh c) es) .level
         → runner c (after c (fresh c) es) .began ≡ true
-    runner-began es k active begun equal =
-        sym (ap (λ (x : Candidate). x .began) same)
-        ∙ chosen-tie byBegun refl c (s .bodies) k active
-        (ap (λ (x : Candidate). x .began) (candidate-active c k (bodyOf s k) (bodyOf s k .phase) active) ∙ begun)
-        (equal ∙ sym (ap (λ (x : Candidate). x .level) same))
+    runner-began es k active begun equal = by-order (s .order) refl
       where
         s : State
         s = after c (fresh c) es
 
-        same : chosenBy byBegun c (s .bodies) ≡ chosenBy byHolding c (s .bodies)
-        same = same-choice (reached-kept begunBodies no-set shaped es)
+        a : Kept c begunBody (s .bodies)
+        a = reached-kept begunBodies no-set shaped es
+
+        chosen-began : s .order ≡ [] → runner c s .began ≡ true
+        chosen-began o =
+            let is = sym (same-choice a) in
+            let now = runner-untimed c s o in
+            ap (λ (x : Candidate). x .began) (now ∙ is)
+            ∙ chosen-tie byBegun refl c (s .bodies) k active
+            (ap (λ (x : Candidate). x .began) (candidate-active c k (bodyOf s k) (bodyOf s k .phase) active) ∙ begun)
+            (equal ∙ ap (λ (x : Candidate). x .level) (now ∙ is))
+
+        -- a started time-triggered task has begun
+        by-order : (js : List ℕ) → s .order ≡ js → runner c s .began ≡ true
+        by-order [] o = chosen-began o
+        by-order (j ∷ js) o =
+            let is = runner-timed c s j js o in
+            unbegun (runner c s .began)
+            (sym (ap (λ (n : ℕ). not (eqb n 0) && not (runner c s .began)) (ap (λ (x : Candidate). x .level) is))
+            ∙ settled-named c s (settled-after c es (fresh c) (settled-fresh c)) (λ i h. rw (a .size) (named-after c es (fresh c) (named-fresh c) i h)))
+          where
+            unbegun : (b : Bool) → not b ≡ false → b ≡ true
+            unbegun true h = refl
+            unbegun false h = absurd (true≢false h)
 
   -- where the choice is made: at the fresh start, after every list of events, and after the event that comes next
   module _ (shaped : Configuration.Shaped c) where

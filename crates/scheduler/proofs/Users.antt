@@ -13,15 +13,15 @@ use Rattle.config.specs.declared.Config.{Config}
 use Rattle.config.specs.Meaning.{isUser}
 use Rattle.scheduler.specs.Bits.{anySet}
 use Rattle.scheduler.specs.Status.{done}
-use Rattle.scheduler.specs.Body.{Body, started, waiting, isSuspended, hasBegun, become, activated, ended, finished, requested, gets, rest, releases, loses, activatedByEntry, waits, receives, clears}
+use Rattle.scheduler.specs.Body.{Body, waiting, isSuspended, hasBegun, become, activated, triggers, ended, finished, requested, gets, rest, releases, loses, waits, receives, clears}
 use Rattle.scheduler.specs.State.{State, noBody, bodyOf, changing, runner, among}
 use Rattle.scheduler.specs.Event.{Event, Activate, Finish, Chain, Get, Release, Tick, Line, Start, Stop, Wait, Set, Clear}
 use Rattle.scheduler.specs.Tick.{dues, counted}
-use Rattle.scheduler.specs.Call.{caller, finish, statusOf, effectOf}
-use Rattle.scheduler.specs.Scheduler.{begins, dispatched, newBody, unstarted, leaves, step, stepBy, fresh, after, afterBy}
+use Rattle.scheduler.specs.Call.{caller, finish, finishTimed, statusOf, effectOf}
+use Rattle.scheduler.specs.Scheduler.{begins, phaseBegun, dispatched, newBody, unstarted, leaves, step, stepBy, fresh, after, afterBy}
 use Rattle.scheduler.specs.History.{AcceptedIn}
 use Rattle.scheduler.proofs.Checks.{get-passed}
-use Rattle.scheduler.proofs.Effects.{bodyOf-changing-same, bodyOf-changing-other, length-changing, refusalOf-keeps, activatingDue-keeps, cond-either}
+use Rattle.scheduler.proofs.Effects.{bodyOf-changing-same, bodyOf-changing-other, length-changing, refusalOf-keeps, entered, activatingDue-keeps, cond-either}
 
 -- nothing is held of an empty list
 none-held : {C : Type 0} (r : ℕ) → among r [] ≡ true → C
@@ -59,8 +59,9 @@ module _ (c : Config) where
   requested-none : TakesNone requested
   requested-none b r h = sym (ap (among r) (cond-held (hasBegun (b .phase)) _ (activated b) (b .held) refl refl)) ∙ h
 
-  entry-none : TakesNone activatedByEntry
-  entry-none b r h = sym (ap (among r) (cond-held (isSuspended (b .phase)) (activated b) (loses b) (b .held) refl refl)) ∙ h
+  entry-none : (x : Bool) → TakesNone (entered x)
+  entry-none true b r h = sym (ap (among r) (cond-held (isSuspended (b .phase)) (triggers b) (loses b) (b .held) refl refl)) ∙ h
+  entry-none false b r h = sym (ap (among r) (cond-held (isSuspended (b .phase)) (activated b) (loses b) (b .held) refl refl)) ∙ h
 
   finished-none : TakesNone finished
   finished-none b r h = sym (ap (among r) (cond-held (b .pending) (activated (ended b)) (ended b) (b .held) refl refl)) ∙ h
@@ -92,13 +93,16 @@ module _ (c : Config) where
   declared-effect : (s : State) (e : Event) → AcceptedIn c s e → Declared s → Declared (effectOf c s e)
   unfolding stepBy
   declared-effect s (Activate t) a d = declared-taking-none t activated (λ b r h. h) s d
-  declared-effect s Finish a d = declared-taking-none (caller c s) finished finished-none s d
+  declared-effect s Finish a d =
+      let ends = declared-taking-none (caller c s) finished finished-none s d in
+      cond-either Declared (runner c s .timed) (finishTimed (caller c s) s) (finish (caller c s) s) ends ends
   declared-effect s (Chain t) a d =
       declared-taking-none t activated (λ b r h. h) (finish (caller c s) s) (declared-taking-none (caller c s) finished finished-none s d)
   declared-effect s (Get r) a d = declared-changing (caller c s) (gets r) s (gets-declared s r (get-passed c s r a .2) d) d
   declared-effect s (Release r) a d = declared-taking-none (caller c s) releases releases-none s d
   declared-effect s Tick a d =
-      activatingDue-keeps Declared (λ t. declared-taking-none t activatedByEntry entry-none) (dues c (counted s)) (c .task) (counted s) d
+      activatingDue-keeps c Declared (λ js x h. h) (λ t b. declared-taking-none t (entered b) (entry-none b)) (dues c (counted s)) (c .task)
+      (counted s) d
   declared-effect s (Line i) a d = declared-taking-none i requested requested-none s d
   declared-effect s (Start t x) a d = d
   declared-effect s (Stop t) a d = d
@@ -108,7 +112,9 @@ module _ (c : Config) where
 
   declared-dispatched : (s : State) → Declared s → Declared (dispatched c s)
   declared-dispatched s d =
-      cond-either Declared (begins (runner c s)) _ s (declared-taking-none (runner c s .number) (become started) (λ b r h. h) s d) d
+      cond-either Declared (begins (runner c s)) _ s
+      (declared-taking-none (runner c s .number) (become (phaseBegun (runner c s))) (λ b r h. h) s d)
+      d
 
   declared-step : (s : State) (e : Event) → Declared s → Declared (step c s e .state)
   unfolding stepBy

@@ -1,0 +1,93 @@
+-- Every started time-triggered task is one of the configuration's bodies: `named-after`, at the end of the file.
+--
+-- Only a due entry adds to the order, and only the number of a time-triggered task. Assumes nothing.
+use Prim.Native.Nat.{ℕ, _<_}
+use mathlib.Core.Path.{_≡_, refl, sym, ap, _∙_}
+use mathlib.Core.Bool.{Bool, true, false, true≢false, cond, _||_}
+use mathlib.Core.List.{List, [], _∷_}
+use borrow.Author.Tests.{ltb-true, eq-eqb, ne-eqb}
+use lib.Dec.{ltb, eqb}
+use lib.ListN.{getD}
+use Rattle.number.proofs.Cases.{by-test, by-eq, and-true}
+use Rattle.config.specs.declared.Config.{Config}
+use Rattle.config.specs.Meaning.{isTimed, timeTriggered}
+use Rattle.scheduler.specs.Status.{done}
+use Rattle.scheduler.specs.Body.{isSuspended, rest, loses, activatedByEntry}
+use Rattle.scheduler.specs.State.{State, bodyOf, changing, runner, among}
+use Rattle.scheduler.specs.Event.{Event, Activate, Finish, Chain, Get, Release, Tick, Line, Start, Stop, Wait, Set, Clear}
+use Rattle.scheduler.specs.Tick.{counted, dues, starting, trigger, enter}
+use Rattle.scheduler.specs.Call.{caller, finish, finishTimed, statusOf, effectOf, refusalOf}
+use Rattle.scheduler.specs.Scheduler.{dispatched, unstarted, leaves, step, stepBy, fresh, after, afterBy}
+use Rattle.scheduler.proofs.Effects.{enters-keep, dispatched-keeps, refusalOf-keeps, cond-either}
+
+-- what is left of a list stood in it
+pub among-rest : (j : ℕ) (js : List ℕ) → among j (rest js) ≡ true → among j js ≡ true
+unfolding among
+among-rest j [] h = h
+among-rest j (x ∷ xs) h = rw h (or-true (eqb j x))
+  where
+    or-true : (b : Bool) → b || true ≡ true
+    or-true true = refl
+    or-true false = refl
+
+pub none-among : {C : Type 0} (j : ℕ) → among j [] ≡ true → C
+unfolding among
+none-among j h = absurd (true≢false (sym h))
+
+pub timed-body : (c : Config) (t : ℕ) → isTimed c t ≡ true → t < c .bodies
+timed-body c t h = ltb-true t (c .bodies) (and-true (ltb t (c .bodies)) (eqb (getD (c .kind) t 0) timeTriggered) h .0)
+
+module _ (c : Config) where
+  abbrev pub Named : State → Type 0
+  Named s = (j : ℕ) → among j (s .order) ≡ true → j < c .bodies
+
+  named-starting : (t : ℕ) (s : State) → isTimed c t ≡ true → Named s → Named (starting t s)
+  unfolding among
+  named-starting t s h n j a =
+      by-eq j t
+      (λ same. rw same (timed-body c t h))
+      (λ other. n j (rw (ne-eqb j t other) at a))
+
+  named-enter : (t : ℕ) (s : State) → Named s → Named (enter c t s)
+  named-enter t s n =
+      by-test (isTimed c t)
+      (λ h. rw h
+      (cond-either Named (isSuspended (bodyOf s t .phase)) (starting t s) (changing t loses s) (named-starting t s h n) n))
+      (λ h. rw h n)
+
+  pub named-effect : (s : State) (e : Event) → Named s → Named (effectOf c s e)
+  named-effect s (Activate t) n = n
+  named-effect s Finish n =
+      cond-either Named (runner c s .timed) (finishTimed (caller c s) s) (finish (caller c s) s)
+      (λ j h. n j (among-rest j (s .order) h))
+      n
+  named-effect s (Chain t) n = n
+  named-effect s (Get r) n = n
+  named-effect s (Release r) n = n
+  named-effect s Tick n = enters-keep c Named named-enter (dues c (counted s)) (c .task) (counted s) n
+  named-effect s (Line i) n = n
+  named-effect s (Start t d) n = n
+  named-effect s (Stop t) n = n
+  named-effect s (Wait w) n = n
+  named-effect s (Set t w) n = n
+  named-effect s (Clear w) n = n
+
+  pub named-leaves : (s : State) (e : Event) → Named s → Named (leaves c s e)
+  named-leaves s e n =
+      cond-either Named (eqb (statusOf c s e) done) (effectOf c s e) (refusalOf c s (statusOf c s e) e) (named-effect s e n)
+      (refusalOf-keeps c s Named n (statusOf c s e) e (λ i _ _ _. n))
+
+  pub named-dispatched : (s : State) → Named s → Named (dispatched c s)
+  named-dispatched s n = dispatched-keeps Named (λ i f x h. h) c s n
+
+  pub named-step : (s : State) (e : Event) → Named s → Named (step c s e .state)
+  unfolding stepBy
+  named-step s e n = named-dispatched (leaves c s e) (named-leaves s e n)
+
+  pub named-fresh : Named (fresh c)
+  named-fresh = named-dispatched (unstarted c) (λ j h. none-among j h)
+
+  pub named-after : (es : List Event) (s : State) → Named s → Named (after c s es)
+  unfolding afterBy
+  named-after [] s n = n
+  named-after (e ∷ es) s n = named-after es (step c s e .state) (named-step s e n)
