@@ -66,10 +66,11 @@ fitted c ok shaped =
     record {
       few = ok .few-bodies;
       body-rank = Plan.body-rank c ok shaped;
+      rank-none = Plan.rank-none c ok shaped;
       task-rank = Plan.task-rank c ok shaped;
       line-rank = Plan.line-rank c ok shaped;
       rank-lt = Plan.rank-lt c ok shaped;
-      rank-order = λ a b ha hb. Plan.rank-order c ok shaped a b ha hb .0;
+      rank-order = Plan.rank-trigger c ok shaped;
       rank-inj = Plan.rank-inj c ok shaped;
       own-inj = λ a b ha hb e. differ a b ha hb e;
       own-some = ok .priority-low;
@@ -79,6 +80,7 @@ fitted c ok shaped =
       body-at = Plan.rank-body c ok shaped;
       isr-at = Plan.rank-isr c ok shaped;
       extended-at = Plan.rank-extended c ok shaped;
+      timed-at = Plan.rank-timed c ok shaped;
       autostart-at = Plan.rank-autostart c ok shaped;
       autostart-real = λ r h. let x = Plan.autostart-body c ok shaped r h in (x .0, (x .1, x .2));
       autostart-lt = Plan.plan-sized c .autostart-lt;

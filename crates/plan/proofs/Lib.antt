@@ -6,7 +6,6 @@ pub mod Words
 pub mod Below
 pub mod Greatest
 pub mod Entry
-pub mod KindRank
 pub mod Ranking
 pub mod Order
 pub mod Made

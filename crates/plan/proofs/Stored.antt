@@ -1,12 +1,12 @@
 -- Lists whose elements are stored in turn: one store more, the length, and what stands where.
 -- Assumes nothing.
 use Prim.Native.Nat.{ℕ, zero, suc, _+_, _≤_, _<_}
-use mathlib.Core.Path.{_≡_, refl, sym, _∙_}
+use mathlib.Core.Path.{_≡_, refl, _∙_}
 use mathlib.Core.List.{List, [], _∷_}
 use native.Mathlib.Omega.{arith}
 use native.Mathlib.Numerals.{add-one}
 use lib.ListN.{length, getD, set, take, drop, length-set}
-use lib.Seq.{set-getD, getD-set-same, getD-set-other, drop-cons, getD-take, length-take-le}
+use lib.Seq.{getD-set-same, getD-set-other, drop-cons, getD-take, length-take-le}
 use Rattle.number.proofs.Cases.{by-eq}
 use Rattle.plan.specs.Stored.{stored}
 
@@ -49,12 +49,6 @@ stored-past at f (suc n) l j d ne =
 -- the first of what is left of a list's first n elements
 pub drop-take-cons : (n : ℕ) (l : List ℕ) (b : ℕ) → b < n → n ≤ length l → drop b (take n l) ≡ (getD l b 0 ∷ drop (suc b) (take n l))
 drop-take-cons n l b h w = drop-cons (take n l) b 0 (rw (length-take-le n l w) h) ∙ rw (getD-take n l b 0 h)
-
--- a store that would change nothing
-pub stored-kept : (f : ℕ → ℕ) (n : ℕ) (l : List ℕ) (d : ℕ) → f n ≡ getD l n d → stored (λ i. i) f n l ≡ stored (λ i. i) f (n + 1) l
-unfolding stored
-stored-kept f n l d e =
-    rw (add-one, e, ← stored-past (λ i. i) f n l n d (λ i h g. omega arith)) (sym (set-getD (stored (λ i. i) f n l) n d))
 
 -- a turn of a loop that stores: the value v at the place i
 pub stored-turn : (at f : ℕ → ℕ) (n : ℕ) (l t : List ℕ) (i v : ℕ) → t ≡ stored at f n l → i ≡ at n → v ≡ f n → set t i v ≡ stored at f (n + 1) l

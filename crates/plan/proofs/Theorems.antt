@@ -17,13 +17,15 @@ use Rattle.word.specs.Word as Word
 use Rattle.word.specs.Word.{has}
 use Rattle.config.specs.declared.Config.{Config}
 use Rattle.config.specs.Value.{maxPriority, maxBodies, maxResources, maxTables, maxEntries}
-use Rattle.config.specs.Meaning.{isTask, isr, extended, isIsr, isExtended, isUser, priorityOf, ceiling, firstOf}
+use Rattle.config.specs.Meaning.{isr, extended, timeTriggered, executionLevel, isOsekTask, isIsr, isExtended, isTimed, isUser, ceiling, firstOf}
 use Rattle.config.specs.Accepted.{Accepted, Shaped}
+use Rattle.config.proofs.Tables.{isTask-true}
 use Rattle.plan.specs.declared.Plan.{Plan}
 use Rattle.plan.specs.Stored.{stored, listed}
-use Rattle.plan.specs.Rank.{noRank, rankOf, bodyCount, taskRank, lineRank}
+use Rattle.plan.specs.Marked.{marked}
+use Rattle.plan.specs.Rank.{noRank, keyOf, rankOf, bodyCount, taskRank, lineRank}
 use Rattle.plan.specs.Entry.{entryTable, tableCount, entryCount, firstEntry, compareOf, entryRank}
-use Rattle.plan.specs.Plan.{resourceCount, usersOf, planOf}
+use Rattle.plan.specs.Plan.{triggerOf, resourceCount, usersOf, planOf}
 use Rattle.plan.proofs.Stored.{length-stored, stored-at, stored-past, getD-any}
 use Rattle.plan.proofs.Words.{marked-has, marked-some, marked-lt}
 use Rattle.plan.proofs.Greatest.{greatestIn-le}
@@ -40,6 +42,7 @@ pub record Sized (p : Plan) : Type 0 where
   pub bodies : length (p .body) ≡ maxBodies
   pub isrs-lt : p .isrs < 2 ^ Word.ranks
   pub extended-lt : p .extended < 2 ^ Word.ranks
+  pub timed-lt : p .timed < 2 ^ Word.ranks
   pub autostart-lt : p .autostart < 2 ^ Word.ranks
   pub ceilings : length (p .ceiling) ≡ maxResources
   pub users : length (p .users) ≡ maxResources
@@ -59,6 +62,7 @@ plan-sized c =
       bodies = simp length-stored;
       isrs-lt = marked-lt (rankOf c) (λ b. getD (c .kind) b 0) isr (bodyCount c);
       extended-lt = marked-lt (rankOf c) (λ b. getD (c .kind) b 0) extended (bodyCount c);
+      timed-lt = marked-lt (rankOf c) (λ b. getD (c .kind) b 0) timeTriggered (bodyCount c);
       autostart-lt = marked-lt (rankOf c) (λ b. getD (c .autostart) b 0) 1 (bodyCount c);
       ceilings = simp length-stored;
       users = simp length-stored;
@@ -90,15 +94,23 @@ module _ (c : Config) (accepted : Accepted c) (shaped : Shaped c) where
   pub rank-inj : (a b : ℕ) → a < c .bodies → b < c .bodies → rankOf c a ≡ rankOf c b → a ≡ b
   rank-inj = Order.rank-inj c accepted shaped
 
-  pub rank-order : (a b : ℕ) → a < c .bodies → b < c .bodies → (priorityOf c a < priorityOf c b) ↔ (rankOf c a < rankOf c b)
-  rank-order a b ha hb = (Order.rank-rises c accepted shaped a b ha, Order.rank-order c accepted shaped a b hb)
+  pub rank-order : (a b : ℕ) → a < c .bodies → b < c .bodies → (keyOf c a < keyOf c b) ↔ (rankOf c a < rankOf c b)
+  rank-order a b ha hb = (Order.rank-rises c accepted shaped a b ha hb, Order.rank-order c accepted shaped a b ha hb)
+
+  -- so that of two requests with different levels the one with the higher level has the higher rank: a time-triggered task before all others
+  pub rank-trigger : (a b : ℕ) → a < c .bodies → b < c .bodies → triggerOf c a < triggerOf c b → rankOf c a < rankOf c b
+  rank-trigger a b ha hb l = Order.rank-rises c accepted shaped a b ha hb (Order.key-rises c accepted shaped a b ha hb l)
 
   -- a body's rank; the same where it is a task and where it is an ISR, and nothing else has one
   pub body-rank : (b : ℕ) → b < c .bodies → getD (planOf c .rank) b noRank ≡ rankOf c b
   unfolding planOf
   body-rank b h = ranks-at c b noRank (rw (Order.all-bodies c accepted shaped) h)
 
-  pub task-rank : (b : ℕ) → getD (planOf c .task) b noRank ≡ cond (isTask c b) (rankOf c b) noRank
+  pub rank-none : (b : ℕ) → c .bodies ≤ b → getD (planOf c .rank) b noRank ≡ noRank
+  unfolding planOf
+  rank-none b h = listed-past (rankOf c) (bodyCount c) maxBodies noRank b (rw (Order.all-bodies c accepted shaped) h)
+
+  pub task-rank : (b : ℕ) → getD (planOf c .task) b noRank ≡ cond (isOsekTask c b) (rankOf c b) noRank
   unfolding planOf
   task-rank b =
       by-lt b (c .bodies)
@@ -113,60 +125,76 @@ module _ (c : Config) (accepted : Accepted c) (shaped : Shaped c) where
       (λ h. listed-past (lineRank c) (bodyCount c) maxBodies noRank b (rw (Order.all-bodies c accepted shaped) h) ∙ simp (le-ltb b (c .bodies) h))
 
   -- the same as the code reads it, where the default does not count
-  pub task-rank-read : (b d : ℕ) → b < maxBodies → getD (planOf c .task) b d ≡ cond (isTask c b) (rankOf c b) noRank
+  pub task-rank-read : (b d : ℕ) → b < maxBodies → getD (planOf c .task) b d ≡ cond (isOsekTask c b) (rankOf c b) noRank
   task-rank-read b d h = getD-any (planOf c .task) b d noRank (omega (arith, plan-sized c .tasks)) ∙ task-rank b
 
   pub line-rank-read : (b d : ℕ) → b < maxBodies → getD (planOf c .line) b d ≡ cond (isIsr c b) (rankOf c b) noRank
   line-rank-read b d h = getD-any (planOf c .line) b d noRank (omega (arith, plan-sized c .lines)) ∙ line-rank b
 
+  -- no two of the bodies that are counted have one rank
+  inj : (a b : ℕ) → a < bodyCount c → b < bodyCount c → rankOf c a ≡ rankOf c b → a ≡ b
+  inj a b ha hb = rank-inj a b (omega arith) (omega arith)
+
   -- what is stored by rank
   by-rank : (f : ℕ → ℕ) (b : ℕ) → b < c .bodies → getD (stored (rankOf c) f (bodyCount c) (replicate maxBodies 0)) (rankOf c b) 0 ≡ f b
   by-rank f b h =
-      rw (Order.all-bodies c accepted shaped)
-      (stored-at (rankOf c) f (c .bodies) (replicate maxBodies 0) rank-inj b 0 h (rw length-replicate (omega (arith, rank-lt b h, accepted .few-bodies))))
+      stored-at (rankOf c) f (bodyCount c) (replicate maxBodies 0) inj b 0 (rw (Order.all-bodies c accepted shaped) h)
+      (rw length-replicate (omega (arith, rank-lt b h, accepted .few-bodies)))
 
-  pub rank-priority : (b : ℕ) → b < c .bodies → getD (planOf c .priority) (rankOf c b) 0 ≡ priorityOf c b
+  pub rank-priority : (b : ℕ) → b < c .bodies → getD (planOf c .priority) (rankOf c b) 0 ≡ triggerOf c b
   unfolding planOf
-  rank-priority = by-rank (priorityOf c)
+  rank-priority = by-rank (triggerOf c)
+
+  -- a time-triggered task that is triggered "preempts all that runs": the level of its request is above the one that another of them runs at
+  pub trigger-above : (b : ℕ) → b < c .bodies → getD (c .kind) b 0 ≡ timeTriggered → executionLevel < getD (planOf c .priority) (rankOf c b) 0
+  trigger-above b h e = omega (arith, rank-priority b h, Order.trigger-timed c accepted shaped b e)
 
   pub rank-body : (b : ℕ) → b < c .bodies → getD (planOf c .body) (rankOf c b) 0 ≡ b
   unfolding planOf
   rank-body = by-rank (λ b. b)
 
-  rank-small : (b : ℕ) → b < c .bodies → rankOf c b < Word.ranks
-  rank-small b h = omega (arith, rank-lt b h, accepted .few-bodies)
+  -- a body's rank is in the word of the bodies whose field f is v exactly if its own is, and every rank in it is some body's
+  in-word : (f : ℕ → ℕ) (v b : ℕ) → b < c .bodies → has (marked (rankOf c) f v (bodyCount c)) (rankOf c b) ≡ eqb (f b) v
+  in-word f v b h =
+      marked-has (rankOf c) f v (bodyCount c) inj (λ i l. omega (arith, rank-lt i (omega arith), accepted .few-bodies)) b
+      (rw (Order.all-bodies c accepted shaped) h)
 
-  -- the word of the ISRs, that of the extended tasks, and that of the tasks that are ready at the fresh start
+  of-word : (f : ℕ → ℕ) (v r : ℕ) → has (marked (rankOf c) f v (bodyCount c)) r ≡ true → (b : ℕ) × (b < c .bodies) × (rankOf c b ≡ r)
+  of-word f v r e = let x = marked-some (rankOf c) f v (bodyCount c) r e in (x .0, omega (arith, x .1), x .2)
+
+  -- the word of the ISRs, those of the extended and the time-triggered tasks, and that of the tasks that are ready at the fresh start
   pub rank-isr : (b : ℕ) → b < c .bodies → has (planOf c .isrs) (rankOf c b) ≡ isIsr c b
   unfolding planOf
-  rank-isr b h =
-      rw (Order.all-bodies c accepted shaped, lt-ltb b (c .bodies) h)
-      (marked-has (rankOf c) (λ i. getD (c .kind) i 0) isr (c .bodies) rank-inj rank-small b h)
+  rank-isr b h = rw (lt-ltb b (c .bodies) h) (in-word (λ i. getD (c .kind) i 0) isr b h)
 
   pub rank-extended : (b : ℕ) → b < c .bodies → has (planOf c .extended) (rankOf c b) ≡ isExtended c b
   unfolding planOf
-  rank-extended b h =
-      rw (Order.all-bodies c accepted shaped, lt-ltb b (c .bodies) h)
-      (marked-has (rankOf c) (λ i. getD (c .kind) i 0) extended (c .bodies) rank-inj rank-small b h)
+  rank-extended b h = rw (lt-ltb b (c .bodies) h) (in-word (λ i. getD (c .kind) i 0) extended b h)
+
+  pub rank-timed : (b : ℕ) → b < c .bodies → has (planOf c .timed) (rankOf c b) ≡ isTimed c b
+  unfolding planOf
+  rank-timed b h = rw (lt-ltb b (c .bodies) h) (in-word (λ i. getD (c .kind) i 0) timeTriggered b h)
 
   pub rank-autostart : (b : ℕ) → b < c .bodies → has (planOf c .autostart) (rankOf c b) ≡ eqb (getD (c .autostart) b 0) 1
   unfolding planOf
-  rank-autostart b h =
-      rw (Order.all-bodies c accepted shaped)
-      (marked-has (rankOf c) (λ i. getD (c .autostart) i 0) 1 (c .bodies) rank-inj rank-small b h)
+  rank-autostart = in-word (λ i. getD (c .autostart) i 0) 1
 
   -- every rank in them is some body's
   pub isrs-body : (r : ℕ) → has (planOf c .isrs) r ≡ true → (b : ℕ) × (b < c .bodies) × (rankOf c b ≡ r)
   unfolding planOf
-  isrs-body r e = marked-some (rankOf c) (λ i. getD (c .kind) i 0) isr (c .bodies) r (rw (Order.all-bodies c accepted shaped) at e)
+  isrs-body = of-word (λ i. getD (c .kind) i 0) isr
 
   pub extended-body : (r : ℕ) → has (planOf c .extended) r ≡ true → (b : ℕ) × (b < c .bodies) × (rankOf c b ≡ r)
   unfolding planOf
-  extended-body r e = marked-some (rankOf c) (λ i. getD (c .kind) i 0) extended (c .bodies) r (rw (Order.all-bodies c accepted shaped) at e)
+  extended-body = of-word (λ i. getD (c .kind) i 0) extended
+
+  pub timed-body : (r : ℕ) → has (planOf c .timed) r ≡ true → (b : ℕ) × (b < c .bodies) × (rankOf c b ≡ r)
+  unfolding planOf
+  timed-body = of-word (λ i. getD (c .kind) i 0) timeTriggered
 
   pub autostart-body : (r : ℕ) → has (planOf c .autostart) r ≡ true → (b : ℕ) × (b < c .bodies) × (rankOf c b ≡ r)
   unfolding planOf
-  autostart-body r e = marked-some (rankOf c) (λ i. getD (c .autostart) i 0) 1 (c .bodies) r (rw (Order.all-bodies c accepted shaped) at e)
+  autostart-body = of-word (λ i. getD (c .autostart) i 0) 1
 
   -- a resource's ceiling
   pub resource-ceiling : (r : ℕ) → r < c .resources → getD (planOf c .ceiling) r 0 ≡ ceiling c r
@@ -178,8 +206,8 @@ module _ (c : Config) (accepted : Accepted c) (shaped : Shaped c) where
   pub resource-users : (r b : ℕ) → r < c .resources → b < c .bodies → has (getD (planOf c .users) r 0) (rankOf c b) ≡ isUser c r b
   unfolding planOf
   resource-users r b h l =
-      rw (listed-at (usersOf c) (resourceCount c) maxResources 0 r 0 (omega (arith, accepted .few-resources)) (omega (arith, accepted .few-resources)), Order.all-bodies c accepted shaped, lt-ltb r (c .resources) h)
-      (marked-has (rankOf c) (λ i. getD (c .users) r 0 / 2 ^ i % 2) 1 (c .bodies) rank-inj rank-small b l)
+      rw (listed-at (usersOf c) (resourceCount c) maxResources 0 r 0 (omega (arith, accepted .few-resources)) (omega (arith, accepted .few-resources)), lt-ltb r (c .resources) h)
+      (in-word (λ i. getD (c .users) r 0 / 2 ^ i % 2) 1 b l)
 
   pub ceiling-le : (r : ℕ) → ceiling c r ≤ maxPriority
   ceiling-le r = greatestIn-le (getD (c .users) r 0) maxPriority (take (c .bodies) (c .priority)) each
@@ -224,10 +252,11 @@ module _ (c : Config) (accepted : Accepted c) (shaped : Shaped c) where
       ∙ ap (λ k. getD (c .period) k 0 - 1) (table-found (c .entries) t e (omega (arith, accepted .few-tables, shaped .counts)) lo hi)
 
   -- the rank of an entry's task
-  looked-up : (e : ℕ) → e < planOf c .count → getD (planOf c .entry) e 0 ≡ getD (planOf c .task) (getD (c .task) e 0) noRank
+  looked-up : (e : ℕ) → e < planOf c .count → getD (planOf c .entry) e 0 ≡ getD (planOf c .rank) (getD (c .task) e 0) noRank
   unfolding planOf
   looked-up e h = listed-at (entryRank c) (entryCount c) maxEntries 0 e 0 (counted e h) (omega arith)
 
   pub entry-rank : (e : ℕ) → e < planOf c .count → getD (planOf c .entry) e 0 ≡ rankOf c (getD (c .task) e 0)
   entry-rank e h =
-      looked-up e h ∙ task-rank (getD (c .task) e 0) ∙ rw (accepted .entry-task e (omega (arith, entry-count)))
+      looked-up e h
+      ∙ body-rank (getD (c .task) e 0) (isTask-true c (getD (c .task) e 0) (accepted .entry-task e (omega (arith, entry-count))) .0)

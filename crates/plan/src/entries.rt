@@ -82,22 +82,22 @@ pub fn compares(entries: [u8; 8], period: [u16; 8], count: usize) -> [u16; 64]
     t
 }
 
-// The rank of a task, by its number.
-fn rank_of(tasks: [u8; 32], b: usize) -> u8
-    ensures { λ r. ⌜ r ≡ getD tasks b noRank ⌝ }
+// The rank of a body, by its number.
+fn rank_of(ranks: [u8; 32], b: usize) -> u8
+    ensures { λ r. ⌜ r ≡ getD ranks b noRank ⌝ }
 {
-    if b < MAX_BODIES { tasks[b] } else { NO_RANK }
+    if b < MAX_BODIES { ranks[b] } else { NO_RANK }
 }
 
-pub fn entry_ranks(task: [u8; 64], tasks: [u8; 32], count: usize) -> [u8; 64]
+pub fn entry_ranks(task: [u8; 64], ranks: [u8; 32], count: usize) -> [u8; 64]
     requires { ⌜ count ≤ maxEntries ⌝ }
-    ensures { λ r. ⌜ r ≡ listed (λ e. getD tasks (getD task e 0) noRank) count (replicate maxEntries 0) ⌝ }
+    ensures { λ r. ⌜ r ≡ listed (λ e. getD ranks (getD task e 0) noRank) count (replicate maxEntries 0) ⌝ }
 {
     let mut t = [0u8; 64];
     let mut e = 0;
     while e < count {
         let b = task[e] as usize;
-        t[e] = rank_of(tasks, b);
+        t[e] = rank_of(ranks, b);
         e += 1;
     }
     t

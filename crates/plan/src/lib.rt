@@ -16,7 +16,14 @@ const ISR: u8 = 1;
 
 const EXTENDED: u8 = 2;
 
+const TIME_TRIGGERED: u8 = 3;
+
 const AUTOSTART: u8 = 1;
+
+// The level of a request of a time-triggered task, above the one that it runs at.
+const TRIGGER_LEVEL: u8 = 202;
+
+const MAX_PRIORITY: u16 = 200;
 
 const MAX_BODIES: usize = 32;
 
@@ -27,7 +34,7 @@ const MAX_TABLES: usize = 8;
 const MAX_ENTRIES: usize = 64;
 
 // What the machine looks up: bodies by rank, ranks by body, and what is fixed of resources, tables and entries.
-// A rank is a body's place in the order of priorities, 0 the lowest.
+// A rank is a body's place in the order of priorities, 0 the lowest; time-triggered tasks stand above all others.
 pub struct Plan {
     // By body its rank; the same where it is a task that a call may activate, and where it is an ISR, else NO_RANK.
     pub rank: [u8; 32],
@@ -65,11 +72,13 @@ impl Plan {
         let period = config.period;
         let tasks = config.task;
         let n = at_most(config.bodies as usize, MAX_BODIES);
-        let by = bodies::ranks(priority, n);
+        let keys = bodies::keys(kind, priority, n);
+        let by = bodies::ranks(keys, n);
         let kinds = bodies::by_kind(kind, by, n);
-        let ranked = bodies::by_rank(priority, by, n);
+        let ranked = bodies::by_rank(kind, priority, by, n);
         let isrs = bodies::marked(kind, ISR, by, n);
         let extended = bodies::marked(kind, EXTENDED, by, n);
+        let timed = bodies::marked(kind, TIME_TRIGGERED, by, n);
         let autostart = bodies::marked(flags, AUTOSTART, by, n);
         let some = at_most(config.resources as usize, MAX_RESOURCES);
         let resource = resources::by_resource(masks, some, priority, by, n);
@@ -78,7 +87,7 @@ impl Plan {
         let count = table.count;
         let compare = entries::compares(counts, period, count);
         let task = kinds.task;
-        let entry = entries::entry_ranks(tasks, task, count);
+        let entry = entries::entry_ranks(tasks, by, count);
         let line = kinds.line;
         let level = ranked.priority;
         let body = ranked.body;
@@ -93,6 +102,7 @@ impl Plan {
             body,
             isrs,
             extended,
+            timed,
             autostart,
             ceiling,
             users,
