@@ -8,4 +8,5 @@ pub mod Nest
 pub mod Cells
 pub mod Losses
 pub mod Bits
+pub mod Order
 pub mod Whole

@@ -29,7 +29,7 @@ use Rattle.plan.proofs.Fitted.{Fitted}
 use Rattle.machine.proofs.Relation.Rows.{row-shows-top}
 use Rattle.machine.proofs.Relation.Words.{at, words-changed, marks-same, unmoved-same, isAside}
 use Rattle.machine.proofs.Relation.Slots.{Slot, slot, slotsFor, slotsAlong, holdersIn, Slots}
-use Rattle.machine.proofs.Relation.Nest.{Nested, Seats, Alike, alike-same, among-head, among-tail, nest-other, nest-exists, levelAt-alike, nested-alike, hold-alike, slotsAlong-alike}
+use Rattle.machine.proofs.Relation.Nest.{Nested, Seats, Alike, alike-same, among-head, among-tail, nest-other, nest-exists, nest-started, levelAt-alike, nested-alike, hold-alike, slotsAlong-alike}
 use Rattle.machine.proofs.Relation.Whole.{Tied}
 use Rattle.machine.proofs.Arbitration.Dispatch.{rank-below}
 
@@ -53,6 +53,19 @@ along-held c rk bs (b ∷ ns) = go (at bs b .held) (along-held c rk bs ns)
 
 eqb-sym : (a b : ℕ) → eqb a b ≡ eqb b a
 eqb-sym a b = by-eq a b (λ e. rw e) (λ n. ne-eqb a b n ∙ sym (ne-eqb b a (λ e. n (sym e))))
+
+-- a runner that isn't started, as no time-triggered task is, holds nothing
+pub holding-timed : {c : Config} {p : Plan} {rk : ℕ → ℕ} (fit : Fitted c p rk) {m : Model} {bs : List Body} {js ns : List ℕ} → Tied c rk m bs js ns → {j : ℕ}
+    → m .core .runner ≡ rk j → j < c .bodies → isStarted (at bs j .phase) ≡ false → holding m ≡ false
+holding-timed {c} {p} {rk} fit {m} {bs} {js} {ns} t {j} rank j< unstarted =
+    ap (λ (h : ℕ). eqb h (m .core .runner)) (row-shows-top (m .holder) _ (t .slots .holders)) ∙ go (along-held c rk bs ns)
+  where
+    go : {ss : List Slot} → Held rk ns ss → eqb (getD (holdersIn ss) 0 noRank) (m .core .runner) ≡ false
+    go nothing = ne-eqb noRank (m .core .runner) (λ z. absurd (omega (arith, z, rank, rank-below fit j j<)))
+    go (by a x xs among-a holder) =
+        ne-eqb (x .holder) (m .core .runner)
+        (λ z. let same : a ≡ j = fit .rank-inj a j (nest-exists c bs a ns (t .nested) among-a) j< (sym holder ∙ z ∙ rank) in
+        absurd (true≢false (sym (nest-started c bs a ns (t .nested) among-a) ∙ ap (λ (i : ℕ). isStarted (at bs i .phase)) same ∙ unstarted)))
 
 -- the runner is b
 module _ {c : Config} {p : Plan} {rk : ℕ → ℕ} (fit : Fitted c p rk) {m : Model} {bs : List Body} {b : ℕ} {ns : List ℕ}
