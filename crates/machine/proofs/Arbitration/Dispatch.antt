@@ -114,7 +114,7 @@ module _ {c : Config} {p : Plan} {rk : ℕ → ℕ} (fit : Fitted c p rk) where
     where
       runs : Tied c rk m (s .bodies) (j ∷ js) ns
           → ArbitratedTo c p rk (record { model = m; status = st; begun = false }) (j ∷ js) (latestOf (s .bodies) (j ∷ js) (chosen c (s .bodies)))
-              (dispatchedTo (latestOf (s .bodies) (j ∷ js) (chosen c (s .bodies))) s .bodies)
+          (dispatchedTo (latestOf (s .bodies) (j ∷ js) (chosen c (s .bodies))) s .bodies)
       runs t =
           let seat = timed-seat c rk (s .bodies) j js (m .core .runner) (m .core .level) ns (t .seats) in
           let stays : dispatchedTo (latestOf (s .bodies) (j ∷ js) (chosen c (s .bodies))) s .bodies ≡ s .bodies = rw entered in

@@ -28,11 +28,11 @@ use Rattle.scheduler.specs.Event.{isTick}
 use Rattle.scheduler.specs.Call.{nobodyRuns, nobodyCalls, caller, statusOf, effectOf, refusalOf}
 use Rattle.scheduler.specs.Tick.{dues}
 use Rattle.scheduler.specs.Scheduler as Plain
-use Rattle.scheduler.specs.Scheduler.{Event, step, begins, phaseBegun, dispatched, ending, noneDue, markOf}
+use Rattle.scheduler.specs.Scheduler.{Event, step, stepBy, begins, phaseBegun, dispatched, ending, noneDue, markOf}
 use Rattle.scheduler.proofs.Choice.{current-own, candidate-active, Taken, no-one, body, chosen-from}
 use Rattle.scheduler.proofs.Refusals.{begins-some}
-use Rattle.scheduler.proofs.Order.{Orderly}
-use Rattle.scheduler.proofs.Effects.{tables-dispatched}
+use Rattle.scheduler.proofs.Order.{Orderly, effect-orderly, refusal-orderly, orderly-step}
+use Rattle.scheduler.proofs.Effects.{tables-dispatched, no-tick}
 use Rattle.machine.specs.Model.{Model, Outcome, noRank, refusedWith}
 use Rattle.stack.specs.Stack.{rowBytes}
 use Rattle.machine.specs.Arbiter.{settled, timed}
@@ -306,6 +306,16 @@ module _ {c : Config} {p : Plan} {rk : ℕ → ℕ} (fit : Fitted c p rk) where
 
   pub caller-same : {m : Model} {s : State} → Sim c p rk m s → noCaller m ≡ nobodyCalls c s
   caller-same sim = by-caller sim (λ i n. i ∙ sym n) (λ b ns k. k .may-call ∙ sym (k .calls-there))
+
+  -- every event keeps a state in order
+  pub keeps-of : {s : State} → Orderly c s → Keeps c s
+  unfolding stepBy
+  keeps-of {s} o =
+      record {
+        effect = λ e call z. effect-orderly c o e (no-tick e call) z;
+        refusal = λ e. refusal-orderly c o (statusOf c s e) e;
+        next = orderly-step c (fit .accepted) (fit .shaped) o;
+      }
 
   -- of a state in order the latest time-triggered task has begun
   pub seated-of : {s : State} → Orderly c s → Seated c s
