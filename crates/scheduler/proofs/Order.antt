@@ -349,6 +349,9 @@ module _ (c : Config) where
                 new i
                 ∙ ap newBody (getD-take (c .bodies) (c .autostart) i 0 (timed-body c i t) ∙ timed-no-autostart c ok i t)
 
+    pub orderly-unstarted : Orderly c (unstarted c)
+    orderly-unstarted = orderly unstarted-placed
+
     pub orderly-fresh : Orderly c (fresh c)
     orderly-fresh = orderly-dispatched (placed-weaken c unstarted-placed (λ i f. absurd f))
 
