@@ -306,6 +306,6 @@ fn an_empty_configuration_is_1_at_0() {
 }
 
 #[test]
-fn the_run_has_fifteen_refusals() {
-    assert_eq!(REFUSALS.len(), 15);
+fn the_run_has_seventeen_refusals() {
+    assert_eq!(REFUSALS.len(), 17);
 }
