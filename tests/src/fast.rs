@@ -94,8 +94,10 @@ pub struct Config {
     bodies: usize,
     resources: usize,
     tables: usize,
-    /// Body numbers of tasks, of the extended and of the time-triggered ones among them, and of ISRs, one bit each.
+    /// Body numbers of tasks, of those that Activate and Chain may name, of the extended and of the time-triggered ones among
+    /// them, and of ISRs, one bit each.
     task_numbers: u32,
+    osek_task_numbers: u32,
     extended_numbers: u32,
     timed_numbers: u32,
     isr_numbers: u32,
@@ -197,6 +199,7 @@ pub fn read_config(bytes: &[u8]) -> Result<Config, Refusal> {
         resources: 0,
         tables: 0,
         task_numbers,
+        osek_task_numbers: task_numbers & !timed_numbers,
         extended_numbers,
         timed_numbers,
         isr_numbers: all_bodies & !task_numbers,
@@ -308,7 +311,7 @@ impl Config {
 
     /// A task that Activate and Chain may name.
     pub fn is_osek_task(&self, id: u32) -> bool {
-        id < BODIES_MAX as u32 && (self.task_numbers & !self.timed_numbers) >> id & 1 == 1
+        id < BODIES_MAX as u32 && self.osek_task_numbers >> id & 1 == 1
     }
 
     /// Of a body's number.
@@ -685,15 +688,11 @@ impl<'c, T: Timers> Kernel<'c, T> {
         if own <= self.running.level {
             return 0;
         }
-        let bit = 1 << rank;
         if own == TRIGGER_LEVEL {
-            self.ready &= !bit;
-            self.aside |= bit;
-            self.triggered[self.triggered_count] = rank;
-            self.triggered_count += 1;
-            self.running = self.timed_frame(rank);
+            self.begin_timed(rank);
             return 1;
         }
+        let bit = 1 << rank;
         let begins = bit & !self.started;
         self.ready &= !begins;
         self.started |= bit;
@@ -714,14 +713,30 @@ impl<'c, T: Timers> Kernel<'c, T> {
         Frame { number, rank, level: EXECUTION_LEVEL, above: self.config.timed_ranks }
     }
 
-    /// The time-triggered body that runs ends: the one begun before it goes on, or, below them, the last holder or a better body.
-    fn end_timed(&mut self) {
+    /// A time-triggered body begins, over whoever runs. Out of the way of all that happens more often, as its end is.
+    #[inline(never)]
+    fn begin_timed(&mut self, rank: u8) {
+        self.ready &= !(1 << rank);
+        self.aside |= 1 << rank;
+        self.triggered[self.triggered_count] = rank;
+        self.triggered_count += 1;
+        self.running = self.timed_frame(rank);
+    }
+
+    /// Finish where nobody runs, or a time-triggered body does. The one begun before it goes on, or, below them, the last holder
+    /// or a better body.
+    #[inline(never)]
+    fn end_timed(&mut self) -> u8 {
+        if self.is_idle() {
+            return 2;
+        }
         self.aside &= !(1 << self.running.rank);
         self.triggered_count -= 1;
         self.running = match self.triggered_count.checked_sub(1) {
             Some(last) => self.timed_frame(self.triggered[last]),
             None => self.held[self.held_count].holder,
         };
+        0
     }
 
     fn is_idle(&self) -> bool {
@@ -773,12 +788,8 @@ impl<'c, T: Timers> Kernel<'c, T> {
     }
 
     fn finish(&mut self) -> u8 {
-        if self.is_idle() {
-            return 2;
-        }
-        if self.running.level == EXECUTION_LEVEL {
-            self.end_timed();
-            return 0;
+        if self.no_caller() {
+            return self.end_timed();
         }
         if self.holds_any() {
             return 6;
