@@ -221,3 +221,25 @@ fn sloth_on_time_figure_4_13() {
     trace(&mut autosar, [1, 2], [("2", 2, 0), ("1", 1, 1)]);
     autosar.assert(&two_tasks(0));
 }
+
+/// Source document 002, Figure 4.1: a dispatcher table of 200 ticks with Task1 at offset 60 and Task2 at 170; below it Figure 4.2's
+/// event-triggered ET1 of priority 1. They are bodies 1, 2 and 0.
+const MIXED_THESIS: [u8; 21] = [1, 3, 0, 1, 1, 3, 2, 0, 3, 3, 0, 0, 1, 0xc8, 1, 2, 60, 1, 0xaa, 1, 2];
+
+#[test]
+fn efficient_time_triggered_execution_figures_4_1_and_4_2() {
+    let mut script = Script::default();
+    script.event(&[8, 0, 1], 0, "0", 1, 0);
+    script.ticks(60, "0", 1);
+    for _ in 0..3 {
+        script.event(&[6], 0, "1", 201, 1); // t1, at 60: TT1 preempts ET1
+        script.ticks(109, "1", 201);
+        script.event(&[6], 0, "2", 201, 1); // t2, at 170: TT2 preempts TT1
+        script.ticks(10, "2", 201);
+        script.event(&[2], 0, "1", 201, 0); // t3: TT2 ends, and the priority does not change
+        script.ticks(10, "1", 201);
+        script.event(&[2], 0, "0", 1, 0); // t4: TT1 ends, and it drops
+        script.ticks(69, "0", 1); // from 190 to 259, before 60 of the next round
+    }
+    script.assert(&MIXED_THESIS);
+}
