@@ -785,7 +785,7 @@ fn damage_config(random: &mut Random, plan: &mut Plan) -> Vec<u8> {
     match random.below(8) {
         0 => many_entries(random, plan),
         1 => unsort_entries(random, plan),
-        3 | 4 => mix_entries(random, plan),
+        3..=5 => mix_entries(random, plan),
         2 if plan.bodies.len() >= 2 => {
             let (from, to) = (random.below(plan.bodies.len()), random.below(plan.bodies.len()));
             plan.bodies[to].priority = plan.bodies[from].priority;

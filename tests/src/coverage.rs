@@ -118,6 +118,16 @@ impl Coverage {
         }
     }
 
+    /// How often a case was refused so.
+    pub fn refused(&self, refusal: u32) -> u64 {
+        self.refusals[refusal as usize]
+    }
+
+    /// How often one of [`sights`] was seen.
+    pub fn seen(&self, sight: &str) -> u64 {
+        self.sights.get(sight).copied().unwrap_or(0)
+    }
+
     /// How often an event gave a status.
     pub fn count(&self, event: &str, status: u8) -> u64 {
         let seen = STATUSES.iter().zip(&self.statuses).filter(|((_, name, _), _)| *name == event);
@@ -142,7 +152,7 @@ impl Coverage {
                 }
             }
         }
-        missing.extend(sights().filter(|sight| !self.sights.contains_key(sight)).map(|sight| sight.to_string()));
+        missing.extend(sights().filter(|sight| self.seen(sight) == 0).map(|sight| sight.to_string()));
         if self.most_begun < BODIES_MAX {
             missing.push(format!("more than {} bodies begun at once", self.most_begun));
         }
@@ -185,7 +195,7 @@ impl fmt::Display for Coverage {
             writeln!(f, "  begun: {}", self.begun[row])?;
         }
         for sight in sights() {
-            writeln!(f, "{sight}: {}", self.sights.get(sight).unwrap_or(&0))?;
+            writeln!(f, "{sight}: {}", self.seen(sight))?;
         }
         writeln!(
             f,

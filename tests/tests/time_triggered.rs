@@ -29,7 +29,26 @@ fn a_due_body_begins_at_once_and_the_latest_start_goes_first() {
 }
 
 #[test]
-fn the_priority_number_does_not_count() {
+fn a_number_below_that_of_who_runs_does_not_hold_it_back() {
+    // The ISR of priority 9 runs, with task 1 of priority 5 ready, when body 4 of number 3 is due.
+    assert_rows(
+        &CONFIG,
+        &[8, 0, 1, 6, 2, 6, 7, 2, 1, 1, 6, 2, 2, 2],
+        "0 8 0 0 1 0
+         1 6 0 3 201 1
+         2 2 0 0 1 0
+         3 6 0 0 1 0
+         4 7 0 2 9 1
+         5 1 0 2 9 0
+         6 6 0 4 201 1
+         7 2 0 2 9 0
+         8 2 0 1 5 1
+         9 2 0 0 1 0",
+    );
+}
+
+#[test]
+fn the_latest_start_goes_first_whatever_the_numbers() {
     // Body 3 ends at once; body 4 begins at tick 3 and goes on until body 3 preempts it at tick 11.
     let mut script = Script::default();
     script.event(&[8, 0, 1], 0, "0", 1, 0);
