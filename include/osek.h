@@ -1,5 +1,6 @@
 /*
- * OSEK OS reference, classes BCC1 and ECC1: from a configuration and a trace of events to who runs after each event.
+ * OSEK OS reference, classes BCC1 and ECC1, with OSEKtime's time-triggered tasks above them: from a configuration and a
+ * trace of events to who runs after each event.
  *
  * Three functions: osek_run, osek_salvage for damaged traces, and osek_oil for configurations in OIL. They allocate
  * nothing, keep nothing between calls and never fail in another way than by the refusals below: any bytes may be handed
@@ -18,7 +19,9 @@
  * numbered from 0 in the order of the configuration. A greater priority wins; on equal current priority the body that
  * holds a resource goes first. An extended task has 32 event bits and may wait for some of them; they are cleared
  * when it is activated from suspended. A waiting task is not suspended, and does not run before one of the bits that
- * it waits for is set.
+ * it waits for is set. A time-triggered task is started by the entries of one table alone. It begins at once, preempts
+ * all that runs, another time-triggered task too, and runs at level 201; it makes no call but Finish. Of those that have
+ * begun the latest runs.
  *
  * NUMBERS. Configuration and trace are rows of numbers, 0 to 4,294,967,295, in LEB128: one to five groups of seven
  * bits, lowest group first, the top bit set on every byte but the last. Only the shortest form is accepted: 127 is
@@ -27,14 +30,15 @@
  * CONFIGURATION, in this order:
  *     version            1, or 2, which also counts lost lines
  *     body count         1 to 32
- *     per body           kind (0 task, 1 ISR, 2 extended task), priority (1 to 200, each used once), autostart (0 or 1;
- *                        an ISR: 0)
+ *     per body           kind (0 task, 1 ISR, 2 extended task, 3 time-triggered task), priority (1 to 200, each used
+ *                        once; of kind 3 it has no other use), autostart (0 or 1; kinds 1 and 3: 0)
  *     resource count     0 to 16
- *     per resource       its users, bit b for body b; not 0. The ceiling is their greatest priority.
+ *     per resource       its users, bit b for body b; not 0, none of kind 3. The ceiling is their greatest priority.
  *     table count        0 to 8
  *     per table          period (1 to 65,535), entry count (1 to 16; 64 in all tables together), then
  *       per entry        offset (below the period), task (the number of a body that is a task);
- *                        entries rise by offset, then by task, and none stands twice
+ *                        entries rise by offset, then by task, and none stands twice; one table at most has
+ *                        entries of kind 3, and only those, each at an offset of its own
  *
  * TRACE: events one after the other, each its code and then its arguments. Any number may stand as an argument; one
  * that names nothing gets a status. The events, with the statuses other than 0 in the order in which they are checked:
@@ -67,7 +71,7 @@ extern "C" {
 
 /* The first number changes when a program has to be compiled or linked anew, the second with what the calls answer or
  * offer, the last with everything else. CHANGELOG.md says what each one brought. */
-#define OSEK_VERSION "1.3.0"
+#define OSEK_VERSION "1.4.0"
 
 /* Sizes in bytes. Longer inputs are refused; an output of OSEK_OUTPUT_MAX suffices for every run, which is proved as
  * `room-enough` in crates/run/proofs/Theorems.antt. */
@@ -82,7 +86,7 @@ extern "C" {
 /* The output of an accepted run with e events and b bodies takes 4 e + 2 b bytes:
  *     byte 4 i        status of event i
  *     byte 4 i + 1    the body that runs after it, OSEK_IDLE if none does
- *     byte 4 i + 2    the level: the running body's current priority, 0 when idle
+ *     byte 4 i + 2    the level: the running body's current priority, 201 of a time-triggered task, 0 when idle
  *     byte 4 i + 3    1 if the event made a body begin from its start, otherwise 0 (a resumed body: 0)
  *     byte 4 e + 2 j, 4 e + 2 j + 1
  *                     low and high byte of the losses of body j: how often an entry was due while its task was not
@@ -114,8 +118,10 @@ enum {
     OSEK_E_OK = 0,          /* done */
     OSEK_E_OS_ACCESS = 1,   /* Get: the resource is held: by the running body itself, since 33 comes first;
                                Wait, Clear: the running body is not an extended task; Set: the named task is not */
-    OSEK_E_OS_CALLEVEL = 2, /* no body runs; Chain: nor when an ISR runs */
-    OSEK_E_OS_ID = 3,       /* no such task, resource, table or (Line) ISR; an ISR's number is no task */
+    OSEK_E_OS_CALLEVEL = 2, /* no body runs, or (but for Finish) a time-triggered task does; Chain: nor when an ISR
+                               runs */
+    OSEK_E_OS_ID = 3,       /* no such task, resource, table or (Line) ISR; an ISR's number is no task, and for
+                               Activate and Chain a time-triggered task's is none */
     OSEK_E_OS_LIMIT = 4,    /* Activate, Chain: the task is ready, started or waiting (a task may chain itself);
                                Line: a request of this ISR waits already */
     OSEK_E_OS_NOFUNC = 5,   /* Release: not the running body's most recently taken resource; Stop: table is stopped */
@@ -136,12 +142,17 @@ enum {
                                       place: its last byte, the superfluous 00 */
     OSEK_CONFIG_VERSION = 3,       /* the version is neither 1 nor 2 */
     OSEK_CONFIG_COUNT = 4,         /* a count of bodies, resources, tables or entries outside its range */
-    OSEK_CONFIG_FIELD = 5,         /* another field outside its range; an entry's task that is no task */
+    OSEK_CONFIG_FIELD = 5,         /* another field outside its range; an entry's task that is no task; a mask with a
+                                      bit for a body of kind 3 */
     OSEK_CONFIG_PRIORITY_USED = 6, /* a priority that a body before has */
     OSEK_CONFIG_ENTRY_ORDER = 7,   /* an entry not after the one before it; place: its task's number */
     OSEK_CONFIG_ENTRY_TOTAL = 8,   /* an entry count that makes more than 64 in all */
     OSEK_CONFIG_LEFT_OVER = 9,     /* bytes after the last table; place: the first of them */
     OSEK_CONFIG_TOO_LONG = 10,     /* the configuration is over OSEK_CONFIG_MAX bytes; place: 0 */
+    OSEK_CONFIG_OFFSET_USED = 13,  /* an entry with the offset of the one before it, where the task of either is of
+                                      kind 3; place: its task's number; after 7 */
+    OSEK_CONFIG_TABLE_MIXED = 14,  /* a table with tasks of kind 3 and others, or a second one with tasks of kind 3;
+                                      place: the first task's number that makes it so; after 13 */
     OSEK_TRACE_TOO_LONG = 20,      /* the trace is over OSEK_TRACE_MAX bytes; place: 0 */
     OSEK_TRACE_CUT = 21,           /* as OSEK_CONFIG_CUT, in the trace; place: trace_len */
     OSEK_TRACE_NUMBER = 22,        /* as OSEK_CONFIG_NUMBER, in the trace, with the same places */

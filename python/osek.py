@@ -28,12 +28,14 @@ REFUSALS = {
     2: "a number of the configuration is too large or not in its shortest form",
     3: "the version is not 1 or 2",
     4: "a count is outside its range",
-    5: "a field is outside its range, or an entry's task is an ISR",
+    5: "a field is outside its range, an entry's task is an ISR, or a resource's user is time-triggered",
     6: "a priority is used already",
     7: "an entry does not come after the one before it",
     8: "an entry count takes the total over 64",
     9: "bytes are left over after the configuration",
     10: "the configuration is longer than 4,096 bytes",
+    13: "a time-triggered task shares its offset with another entry of its table",
+    14: "a table has time-triggered tasks beside others, or is the second that has some",
     20: "the trace is longer than 8,192 bytes",
     21: "the trace ends inside a number, or where one is missing",
     22: "a number of the trace is too large or not in its shortest form",
@@ -52,7 +54,7 @@ class Answer(NamedTuple):
 
     status: int
     runner: Optional[int]  # the body that runs after it, None when idle
-    level: int  # the runner's current priority, 0 when idle
+    level: int  # the runner's current priority, 201 of a time-triggered task, 0 when idle
     begun: bool  # the event made a body begin from its start
 
 

@@ -33,8 +33,12 @@ LISTING = """\
 """
 
 
-def config_with(place, byte):
-    changed = bytearray(CONFIG)
+# Task 0 (priority 1) runs; time-triggered tasks 1 and 2, at offsets 0 and 1 of a table of period 5.
+ROUND = bytes.fromhex("0103 000101 030200 030300 00 01 0502 0001 0102")
+
+
+def config_with(place, byte, config=CONFIG):
+    changed = bytearray(config)
     changed[place] = byte
     return bytes(changed)
 
@@ -47,12 +51,14 @@ REFUSED = [
     (b"\x81\x00", b"", 2, 1),
     (config_with(0, 3), b"", 3, 0),
     (config_with(1, 33), b"", 4, 1),
-    (config_with(2, 3), b"", 5, 2),
+    (config_with(2, 4), b"", 5, 2),
     (config_with(6, 2), b"", 6, 6),
     (config_with(18, 0), b"", 7, 19),
     (MANY, b"", 8, 144),
     (CONFIG + b"\x00", b"", 9, 20),
     (4097 * b"\x01", b"", 10, 0),
+    (config_with(17, 0, ROUND), b"", 13, 18),
+    (config_with(18, 0, ROUND), b"", 14, 18),
     (CONFIG, 8193 * b"\x06", 20, 0),
     (CONFIG, b"\x06\x01", 21, 2),
     (CONFIG, b"\x06\x01\x80\x00", 22, 3),
@@ -91,6 +97,13 @@ class OsekTest(unittest.TestCase):
         # Extended task 0 (priority 2) waits for bit 7; ISR 1 (5) sets it and ends.
         answers, _ = osek.run(bytes.fromhex("0102 020201 010500 00 00"), bytes.fromhex("0a8001 0701 0b008001 02"))
         self.assertEqual(answers, [(0, None, 0, False), (0, 1, 5, True), (0, 1, 5, False), (0, 0, 2, False)])
+
+    def test_time_triggered_tasks_preempt_in_the_order_of_their_starts(self):
+        # Start 0, 1; two ticks; Activate 0, which task 2 may not call; two ends.
+        answers, losses = osek.run(ROUND, bytes.fromhex("080001 06 06 0100 02 02"))
+        expected = [(0, 0, 1, False), (0, 1, 201, True), (0, 2, 201, True), (2, 2, 201, False), (0, 1, 201, False), (0, 0, 1, False)]
+        self.assertEqual(answers, expected)
+        self.assertEqual(losses, [0, 0, 0])
 
     def test_an_empty_trace_has_no_answers(self):
         self.assertEqual(osek.run(CONFIG, b""), ([], [0, 0, 0]))

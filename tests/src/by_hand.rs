@@ -48,6 +48,18 @@ impl Script {
         self.trace.extend(event);
     }
 
+    /// Ticks at which nobody begins and the runner stays.
+    pub fn ticks(&mut self, count: usize, runner: &str, level: u8) {
+        for _ in 0..count {
+            self.event(&[6], 0, runner, level, 0);
+        }
+    }
+
+    /// What a body lost, after all events.
+    pub fn lost(&mut self, body: u8, count: u16) {
+        self.rows.push(format!("lost {body} {count}"));
+    }
+
     #[track_caller]
     pub fn assert(&self, config: &[u8]) {
         assert_rows(config, &self.trace, &self.rows.join("\n"));

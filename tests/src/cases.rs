@@ -3,7 +3,10 @@
 //! In order: random numbers, configurations biased to contention, traces that look at the kernel's state so that
 //! about half of the calls succeed, damage, the mix of all of them in [`case`], and long traces for timing.
 
-use crate::fast::{self, Config, Event, Kernel, NextDue, CONFIG_MAX, EXTENDED, ISR, OUTPUT_MAX, TRACE_MAX, TURN};
+use crate::fast::{
+    self, Config, Event, Kernel, NextDue, CONFIG_MAX, ENTRIES_MAX, EXTENDED, ISR, OUTPUT_MAX, TABLES_MAX,
+    TABLE_ENTRIES_MAX, TIME_TRIGGERED, TRACE_MAX, TURN,
+};
 
 // Random numbers
 
@@ -74,6 +77,20 @@ impl Body {
     fn is_isr(&self) -> bool {
         self.kind == ISR
     }
+
+    fn is_timed(&self) -> bool {
+        self.kind == TIME_TRIGGERED
+    }
+
+    /// A task that Activate and Chain may name.
+    fn is_osek_task(&self) -> bool {
+        !self.is_isr() && !self.is_timed()
+    }
+}
+
+/// The numbers of the bodies for which `suits` holds.
+fn numbers_where(bodies: &[Body], suits: impl Fn(&Body) -> bool) -> Vec<u32> {
+    (0..bodies.len() as u32).filter(|body| suits(&bodies[*body as usize])).collect()
 }
 
 struct Table {
@@ -150,8 +167,8 @@ fn draw_plan(random: &mut Random) -> Plan {
     let version = random.pick(&[1, 2]);
     let bodies = draw_bodies(random);
     let resources = draw_resources(random, &bodies);
-    let tasks: Vec<u32> = (0..bodies.len() as u32).filter(|body| !bodies[*body as usize].is_isr()).collect();
-    let tables = if tasks.is_empty() { Vec::new() } else { draw_tables(random, &tasks) };
+    let tables =
+        draw_tables(random, &numbers_where(&bodies, Body::is_osek_task), &numbers_where(&bodies, Body::is_timed));
     Plan { version, bodies, resources, tables }
 }
 
@@ -173,44 +190,54 @@ fn draw_bodies(random: &mut Random) -> Vec<Body> {
     let isr_percent = random.pick(&[0, 3, 10, 20, 30, 50, 80, 100]);
     // Half of the configurations have no extended task.
     let extended_percent = random.pick(&[0, 0, 0, 0, 30, 60, 90, 100]);
+    // Five of eight have no time-triggered body.
+    let timed_percent = random.pick(&[0, 0, 0, 0, 0, 15, 40, 70]);
     let autostart_percent = random.pick(&[10, 30, 60, 100]);
     let mut bodies: Vec<Body> = (0..count)
         .map(|body| {
             let kind = match () {
+                () if timed_percent > 0 && random.chance(timed_percent) => TIME_TRIGGERED,
                 () if random.chance(isr_percent) => ISR,
                 () if random.chance(extended_percent) => EXTENDED,
                 () => TASK,
             };
-            let autostart = u32::from(kind != ISR && random.chance(autostart_percent));
+            let starts = kind == TASK || kind == EXTENDED;
+            let autostart = u32::from(starts && random.chance(autostart_percent));
             Body { kind, priority: priorities[body], autostart }
         })
         .collect();
     // A configuration that can never leave idle says little.
     if bodies.iter().all(|body| !body.is_isr() && body.autostart == 0) && random.chance(95) {
         let first = random.below(count);
+        if bodies[first].is_timed() {
+            bodies[first].kind = TASK;
+        }
         bodies[first].autostart = 1;
     }
     bodies
 }
 
 fn draw_resources(random: &mut Random, bodies: &[Body]) -> Vec<u32> {
+    let users = numbers_where(bodies, |body| !body.is_timed());
     let count = match random.below(8) {
+        _ if users.is_empty() => 0,
         0 => 0,
         1 => 16,
         _ => random.between(1, 8),
     };
-    let all = u32::MAX >> (32 - bodies.len());
+    let all = users.iter().fold(0, |all, user| all | 1 << user);
+    let one = users;
     (0..count)
         .map(|_| {
             let users = match random.below(5) {
                 0 => all,
-                1 => 1 << random.below(bodies.len()),
+                1 => 1 << random.pick(&one),
                 // Few users, so that bodies that are none, above the ceiling too, occur.
                 2 => random.word() as u32 & random.word() as u32 & random.word() as u32,
                 _ => random.word() as u32,
             };
             if users & all == 0 {
-                1 << random.below(bodies.len())
+                1 << random.pick(&one)
             } else {
                 users & all
             }
@@ -218,17 +245,60 @@ fn draw_resources(random: &mut Random, bodies: &[Body]) -> Vec<u32> {
         .collect()
 }
 
-fn draw_tables(random: &mut Random, tasks: &[u32]) -> Vec<Table> {
+/// Tables of the tasks, and mostly one of the time-triggered bodies among them.
+fn draw_tables(random: &mut Random, tasks: &[u32], timed: &[u32]) -> Vec<Table> {
+    let round = (!timed.is_empty() && random.chance(90)).then(|| draw_round(random, timed));
+    let mut tables = draw_task_tables(random, tasks, round.as_ref().map_or(0, |round| round.entries.len()));
+    if let Some(round) = round {
+        tables.truncate(TABLES_MAX - 1);
+        let at = random.below(tables.len() + 1);
+        tables.insert(at, round);
+    }
+    tables
+}
+
+/// A table of time-triggered bodies, which have distinct offsets.
+fn draw_round(random: &mut Random, timed: &[u32]) -> Table {
+    let mut bodies = timed.to_vec();
+    random.shuffle(&mut bodies);
+    bodies.truncate(TABLE_ENTRIES_MAX);
+    if random.chance(30) {
+        bodies.truncate(random.between(1, bodies.len()));
+    }
+    // Each body once, or some of them several times.
+    let entries = match random.below(3) {
+        0 => random.between(1, TABLE_ENTRIES_MAX),
+        _ => bodies.len(),
+    };
+    // Offsets that follow each other let one body begin over the other.
+    let period = match random.below(6) {
+        0 => entries,
+        1 => random.between(entries, 65_535),
+        _ => entries + random.below(60),
+    };
+    let room = if random.chance(50) { entries } else { period.min(3 * entries) };
+    let shift = random.below(period - room + 1);
+    let mut offsets: Vec<usize> = (0..room).collect();
+    random.shuffle(&mut offsets);
+    offsets.truncate(entries);
+    offsets.sort_unstable();
+    let entries = offsets.iter().enumerate().map(|(at, offset)| ((offset + shift) as u32, bodies[at % bodies.len()]));
+    Table { period: period as u32, entries: entries.collect() }
+}
+
+/// Tables of the tasks, beside a table with so many entries.
+fn draw_task_tables(random: &mut Random, tasks: &[u32], beside: usize) -> Vec<Table> {
     let count = match random.below(6) {
+        _ if tasks.is_empty() => return Vec::new(),
         0 => 0,
-        1 | 2 => 8,
+        1 | 2 => TABLES_MAX,
         _ => random.between(1, 4),
     };
     // Tables that share few tasks lose activations.
     let mut shared = tasks.to_vec();
     random.shuffle(&mut shared);
     shared.truncate(random.between(1, tasks.len()));
-    let mut left = 64;
+    let mut left = ENTRIES_MAX - beside;
     (0..count)
         .map(|table| {
             let period = match random.below(9) {
@@ -240,7 +310,7 @@ fn draw_tables(random: &mut Random, tasks: &[u32]) -> Vec<Table> {
                 _ => random.between(3, 40) as u32,
             };
             let others = count - 1 - table;
-            let most = 16.min(left - others);
+            let most = TABLE_ENTRIES_MAX.min(left - others);
             let wanted = if random.chance(50) { most } else { random.between(1, most) };
             let mut entries: Vec<(u32, u32)> = (0..wanted)
                 .map(|_| {
@@ -274,17 +344,22 @@ struct Habits {
     climb: bool,
     /// Whether every Wait blocks and no Set resumes, so that more and more tasks wait.
     gather: bool,
+    /// Whether time-triggered bodies go on until others begin over them.
+    pile: bool,
 }
 
 fn draw_habits(random: &mut Random, config: &Config) -> Habits {
     let extended = (0..config.bodies() as u32).any(|body| config.is_extended(body));
     let climb = random.below(8) == 0;
     let gather = extended && !climb && random.below(12) == 0;
+    let pile = config.timed_table().is_some() && !climb && !gather && random.below(4) == 0;
     let mut weight = match random.below(if extended { 10 } else { 6 }) {
         // Bodies one above the other.
         _ if climb => [12, 1, 0, 4, 1, 1, 12, 0, 0, 0, 0, 0],
         // Tasks that wait, all of them in the end.
         _ if gather => [8, 0, 0, 0, 1, 1, 2, 1, 0, 20, 1, 2],
+        // Time-triggered bodies one above the other.
+        _ if pile => [2, 1, 1, 3, 2, 30, 4, 4, 0, 1, 1, 1],
         // Activations and ends.
         0 => [8, 8, 4, 2, 3, 2, 4, 1, 1, 1, 2, 1],
         // Resources, nested.
@@ -307,7 +382,7 @@ fn draw_habits(random: &mut Random, config: &Config) -> Habits {
     if !extended && random.chance(80) {
         weight[9..].fill(0);
     }
-    Habits { look: random.pick(&[30, 40, 50, 50, 60, 80]), weight, climb, gather }
+    Habits { look: random.pick(&[30, 40, 50, 50, 60, 80]), weight, climb, gather, pile }
 }
 
 /// A mask, mostly of low bits, so that masks meet.
@@ -371,7 +446,8 @@ fn offsets(config: &Config, table: u32) -> (u32, u32) {
 
 /// Activate or Line of the lowest suspended body above the level.
 fn next_above(config: &Config, kernel: &Kernel<NextDue>) -> Option<Event> {
-    let above = |body: &u32| kernel.is_suspended(*body) && config.priority(*body) > kernel.level();
+    let above =
+        |body: &u32| !config.is_timed(*body) && kernel.is_suspended(*body) && config.priority(*body) > kernel.level();
     let body = (0..config.bodies() as u32).filter(above).min_by_key(|body| config.priority(*body))?;
     if config.is_isr(body) {
         Some(Event::Line(body))
@@ -391,8 +467,10 @@ fn good_event(
     let bodies = config.bodies();
     let runner = kernel.runner();
     let suspended_task =
-        |random: &mut Random| random.pick_where(bodies, |body| config.is_task(body) && kernel.is_suspended(body));
-    if runner.is_none() && code != 6 && code != 7 {
+        |random: &mut Random| random.pick_where(bodies, |body| config.is_osek_task(body) && kernel.is_suspended(body));
+    // A time-triggered body makes no call but Finish.
+    let may_call = runner.is_some() && (code == 2 || !kernel.timed_runs());
+    if !may_call && code != 6 && code != 7 {
         return None;
     }
     match code {
@@ -516,6 +594,10 @@ fn draw_event(random: &mut Random, config: &Config, kernel: &Kernel<NextDue>, ha
         }
     }
     let code = draw_code(random);
+    // In a pile no time-triggered body ends by chance.
+    if code == 2 && habits.pile && kernel.timed_runs() {
+        return Event::Tick;
+    }
     any_event(random, config, code)
 }
 
@@ -552,6 +634,12 @@ fn draw_trace(random: &mut Random, config: &Config, limit: usize) -> Vec<u8> {
             habits = draw_habits(random, config);
         }
         let mut event = draw_event(random, config, &kernel, &habits);
+        // A table of time-triggered bodies mostly runs.
+        if let Some(table) = config.timed_table().filter(|table| !kernel.is_on(*table)) {
+            if kernel.runner().is_some() && random.chance(10) {
+                event = Event::Start(table, random.between(1, 6) as u32);
+            }
+        }
         // The last body mostly goes on running if nothing could wake another.
         let leaves = matches!(event, Event::Finish | Event::Wait(_));
         if leaves && kernel.others() == 0 && !has_isr && !table_on(&kernel) && random.chance(95) {
@@ -622,25 +710,26 @@ fn flip_bits(random: &mut Random, bytes: &mut [u8]) {
 fn out_of_range(random: &mut Random, plan: &Plan, role: Role, value: u32) -> u32 {
     let bodies = plan.bodies.len() as u32;
     let isr = plan.bodies.iter().position(Body::is_isr).map_or(bodies, |isr| isr as u32);
+    let timed = plan.bodies.iter().position(Body::is_timed).map_or(bodies, |timed| timed as u32);
     match role {
         Role::Version => random.pick(&[0, 3 - value.min(2), 3, 4, 128, 257, 258]),
         Role::BodyCount => random.pick(&[0, 33, 34, bodies + 1, bodies - 1, u32::MAX]),
-        Role::Kind => random.pick(&[3, 4, (value + 1) % 3, (value + 2) % 3, 128, 256]),
+        Role::Kind => random.pick(&[4, 5, (value + 1) % 4, (value + 2) % 4, (value + 3) % 4, 128, 256]),
         Role::Priority => random.pick(&[0, 201, 255, 256, 257, plan.bodies[0].priority]),
         Role::Autostart => random.pick(&[2, 1 - value.min(1), 1 - value.min(1), 256]),
         Role::ResourceCount => random.pick(&[17, value + 1, value.saturating_sub(1), 255, 256]),
-        Role::Users => random.pick(&[0, 1 << (bodies % 32), u32::MAX, value | 1 << 31]),
+        Role::Users => random.pick(&[0, 1 << (bodies % 32), u32::MAX, value | 1 << 31, value | 1 << (timed % 32)]),
         Role::TableCount => random.pick(&[9, value + 1, value.saturating_sub(1), 256]),
         Role::Period => random.pick(&[0, 65_536, 1, u32::MAX]),
         Role::EntryCount => random.pick(&[0, 17, value + 1, value - 1, 16, u32::MAX]),
         Role::Offset => random.pick(&[65_535, 65_536, value + 1, value.saturating_sub(1), 0, u32::MAX]),
-        Role::Task => random.pick(&[bodies, isr, 32, value + 1, value.saturating_sub(1), u32::MAX]),
+        Role::Task => random.pick(&[bodies, isr, timed, 32, value + 1, value.saturating_sub(1), u32::MAX]),
     }
 }
 
 /// Tables with 64 entries or just above.
 fn many_entries(random: &mut Random, plan: &mut Plan) {
-    let Some(task) = plan.bodies.iter().position(|body| !body.is_isr()) else { return };
+    let Some(task) = plan.bodies.iter().position(Body::is_osek_task) else { return };
     let counts: &[u32] = random.pick(&[
         &[16, 16, 16, 16][..],
         &[16, 16, 16, 16, 1],
@@ -666,11 +755,37 @@ fn unsort_entries(random: &mut Random, plan: &mut Plan) {
     }
 }
 
+/// A time-triggered body beside tasks in one table, sharing an offset or not, or in two tables.
+fn mix_entries(random: &mut Random, plan: &mut Plan) {
+    let timed = numbers_where(&plan.bodies, Body::is_timed);
+    if timed.is_empty() || plan.tables.is_empty() {
+        return;
+    }
+    let at = random.below(plan.tables.len());
+    let Table { period, entries } = &mut plan.tables[at];
+    let (offset, _) = random.pick(entries);
+    match random.below(4) {
+        // A second table of time-triggered bodies.
+        0 => *entries = vec![(offset, random.pick(&timed))],
+        1 => {
+            let kept = random.below(entries.len());
+            entries[kept].1 = random.pick(&timed);
+        }
+        2 if entries.len() < TABLE_ENTRIES_MAX => {
+            entries.push((random.below(*period as usize) as u32, random.pick(&timed)))
+        }
+        _ if entries.len() < TABLE_ENTRIES_MAX => entries.push((offset, random.below(plan.bodies.len()) as u32)),
+        _ => {}
+    }
+    entries.sort_unstable();
+}
+
 /// The bytes of a configuration with something wrong in it.
 fn damage_config(random: &mut Random, plan: &mut Plan) -> Vec<u8> {
     match random.below(8) {
         0 => many_entries(random, plan),
         1 => unsort_entries(random, plan),
+        3..=5 => mix_entries(random, plan),
         2 if plan.bodies.len() >= 2 => {
             let (from, to) = (random.below(plan.bodies.len()), random.below(plan.bodies.len()));
             plan.bodies[to].priority = plan.bodies[from].priority;
@@ -869,6 +984,8 @@ pub enum Shape {
     Ticks,
     /// Calls and lines without ticks, most of them about events: half of the bodies are extended tasks, which wait and are woken.
     Waiting,
+    /// Calls, lines and ticks over a table of eight time-triggered bodies and seven of tasks.
+    TimeTriggered,
 }
 
 /// 32 bodies, every fourth an ISR, 8 resources, 8 tables of 8 entries.
@@ -880,17 +997,23 @@ fn timed_plan(random: &mut Random, shape: Shape) -> Plan {
             let kind = match (body % 4, shape) {
                 (3, _) => ISR,
                 (1 | 2, Shape::Waiting) => EXTENDED,
+                (1, Shape::TimeTriggered) => TIME_TRIGGERED,
                 _ => TASK,
             };
             Body { kind, priority: priorities[body], autostart: u32::from(body % 2 == 0) }
         })
         .collect();
-    let resources = (0..8).map(|_| random.word() as u32 | 1).collect();
-    let tasks: Vec<u32> = (0..32).filter(|body| body % 4 != 3).collect();
+    let timed = numbers_where(&bodies, Body::is_timed);
+    let users = timed.iter().fold(u32::MAX, |users, body| users & !(1 << body));
+    let resources = (0..8).map(|_| random.word() as u32 & users | 1).collect();
+    let tasks = numbers_where(&bodies, Body::is_osek_task);
     let tables = (0..8)
         .map(|table| {
             let period = 40 + 13 * table;
-            let entries = (0..8).map(|entry| (entry * 5 + table % 5, random.pick(&tasks))).collect();
+            let round = table == 0 && shape == Shape::TimeTriggered;
+            let task =
+                |random: &mut Random, entry: u32| if round { timed[entry as usize] } else { random.pick(&tasks) };
+            let entries = (0..8).map(|entry| (entry * 5 + table % 5, task(random, entry))).collect();
             Table { period, entries }
         })
         .collect();
@@ -905,9 +1028,11 @@ fn timed_trace(random: &mut Random, config: &Config, shape: Shape, length: usize
             Shape::Mixed => [5, 6, 2, 4, 4, 7, 4, 2, 1, 0, 0, 0],
             Shape::Ticks => [0, 0, 0, 0, 0, 1, 0, 0, 0, 0, 0, 0],
             Shape::Waiting => [4, 4, 1, 3, 3, 0, 5, 0, 0, 8, 9, 2],
+            Shape::TimeTriggered => [5, 6, 2, 4, 4, 24, 4, 2, 0, 0, 0, 0],
         },
         climb: false,
         gather: false,
+        pile: false,
     };
     let mut kernel = Kernel::<NextDue>::fresh(config);
     let mut trace = Vec::new();
@@ -921,7 +1046,11 @@ fn timed_trace(random: &mut Random, config: &Config, shape: Shape, length: usize
     while trace.len() < length {
         let event = match (shape, kernel.runner()) {
             (Shape::Ticks, Some(_)) if kernel.others() > 0 && random.chance(50) => Event::Finish,
-            (Shape::NoTicks | Shape::Mixed, Some(_)) if kernel.others() == 0 => draw_wake(random, config, &kernel),
+            (Shape::TimeTriggered, Some(_)) if kernel.timed_runs() && random.chance(50) => Event::Finish,
+            (Shape::TimeTriggered, Some(_)) if !kernel.timed_runs() && !kernel.is_on(0) => Event::Start(0, 1),
+            (Shape::NoTicks | Shape::Mixed | Shape::TimeTriggered, Some(_)) if kernel.others() == 0 => {
+                draw_wake(random, config, &kernel)
+            }
             (Shape::Waiting, runner) if random.chance(80) => wait_or_wake(random, config, &kernel, runner),
             _ => draw_event(random, config, &kernel, &habits),
         };

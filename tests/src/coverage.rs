@@ -1,15 +1,15 @@
 //! What a set of runs has shown: every refusal of the run, every status of every event, every body begun at once, every
-//! resource held at once, and what [`SIGHTS`] lists.
+//! resource held at once, and what [`sights`] lists.
 
 use std::collections::BTreeMap;
 use std::fmt;
 
 use crate::cases::Case;
 use crate::fast::{self, BODIES_MAX, IDLE, RESOURCES_MAX};
-use crate::sights::{Watch, SIGHTS};
+use crate::sights::{sights, Watch};
 
 /// The run's refusals.
-pub const REFUSALS: [u32; 15] = [1, 2, 3, 4, 5, 6, 7, 8, 9, 10, 20, 21, 22, 23, 30];
+pub const REFUSALS: [u32; 17] = [1, 2, 3, 4, 5, 6, 7, 8, 9, 10, 13, 14, 20, 21, 22, 23, 30];
 
 /// Event codes with their names and the statuses the documents give them.
 pub const STATUSES: [(u8, &str, &[u8]); 12] = [
@@ -48,7 +48,7 @@ pub struct Coverage {
     /// The most bodies that had begun at once, and the most resources held at once.
     most_begun: usize,
     most_held: usize,
-    /// How often each of [`SIGHTS`] was seen.
+    /// How often each of [`sights`] was seen.
     sights: BTreeMap<&'static str, u64>,
 }
 
@@ -118,6 +118,16 @@ impl Coverage {
         }
     }
 
+    /// How often a case was refused so.
+    pub fn refused(&self, refusal: u32) -> u64 {
+        self.refusals[refusal as usize]
+    }
+
+    /// How often one of [`sights`] was seen.
+    pub fn seen(&self, sight: &str) -> u64 {
+        self.sights.get(sight).copied().unwrap_or(0)
+    }
+
     /// How often an event gave a status.
     pub fn count(&self, event: &str, status: u8) -> u64 {
         let seen = STATUSES.iter().zip(&self.statuses).filter(|((_, name, _), _)| *name == event);
@@ -142,7 +152,7 @@ impl Coverage {
                 }
             }
         }
-        missing.extend(SIGHTS.iter().filter(|sight| !self.sights.contains_key(**sight)).map(|sight| sight.to_string()));
+        missing.extend(sights().filter(|sight| self.seen(sight) == 0).map(|sight| sight.to_string()));
         if self.most_begun < BODIES_MAX {
             missing.push(format!("more than {} bodies begun at once", self.most_begun));
         }
@@ -184,8 +194,8 @@ impl fmt::Display for Coverage {
             }
             writeln!(f, "  begun: {}", self.begun[row])?;
         }
-        for sight in SIGHTS {
-            writeln!(f, "{sight}: {}", self.sights.get(sight).unwrap_or(&0))?;
+        for sight in sights() {
+            writeln!(f, "{sight}: {}", self.seen(sight))?;
         }
         writeln!(
             f,

@@ -1,5 +1,5 @@
-//! Document 01 with document 02's requests in Rust, written for speed: ready, started and waiting bodies are a word each,
-//! everything is changed in place. It follows the documents and shares nothing with the Rattle code.
+//! Document 01 with document 02's requests in Rust, written for speed: ready and started bodies and those that stand aside are
+//! a word each, everything is changed in place. It follows the documents and shares nothing with the Rattle code.
 //!
 //! In order: numbers, the configuration, events, the two kinds of timers, the kernel, the run.
 //!
@@ -17,6 +17,9 @@ pub const TABLES_MAX: usize = 8;
 pub const TABLE_ENTRIES_MAX: usize = 16;
 pub const ENTRIES_MAX: usize = 64;
 pub const PRIORITY_MAX: u32 = 200;
+/// Of time-triggered bodies: at which they run, and at which they are asked for.
+pub const EXECUTION_LEVEL: u8 = 201;
+pub const TRIGGER_LEVEL: u8 = 202;
 pub const TICKS_MAX: u32 = 65_535;
 /// The ticks in which a cell's counter comes round.
 pub const TURN: u32 = 65_536;
@@ -77,12 +80,13 @@ fn read_long_number(bytes: &[u8], mut at: usize, mut value: u32) -> Result<(u32,
 
 // The configuration
 
-/// The kinds of bodies that are no plain tasks, by number; that of extended tasks is the greatest.
+/// The kinds of bodies that are no plain tasks, by number; that of time-triggered ones is the greatest.
 pub const ISR: u32 = 1;
 pub const EXTENDED: u32 = 2;
+pub const TIME_TRIGGERED: u32 = 3;
 
-/// A configuration made ready for running. Bodies are known by their rank, 0 for the lowest priority; only the
-/// callers' ids and the answers bear body numbers.
+/// A configuration made ready for running. Bodies are known by their rank, 0 for the lowest priority, time-triggered ones
+/// above all others; only the callers' ids and the answers bear body numbers.
 #[derive(Clone, Debug)]
 pub struct Config {
     /// Version 2: a Line refused because a request waits is a loss of its ISR.
@@ -90,16 +94,20 @@ pub struct Config {
     bodies: usize,
     resources: usize,
     tables: usize,
-    /// Body numbers of tasks, of the extended ones among them, and of ISRs, one bit each.
+    /// Body numbers of tasks, of those that Activate and Chain may name, of the extended and of the time-triggered ones among
+    /// them, and of ISRs, one bit each.
     task_numbers: u32,
+    osek_task_numbers: u32,
     extended_numbers: u32,
+    timed_numbers: u32,
     isr_numbers: u32,
-    /// Ranks of ISRs and of autostart tasks, one bit each.
+    /// Ranks of ISRs, of autostart tasks and of time-triggered ones, one bit each.
     isr_ranks: u32,
     autostart_ranks: u32,
+    timed_ranks: u32,
     rank: [u8; BODIES_MAX],
     number: [u8; BODIES_MAX],
-    /// By rank.
+    /// By rank; of time-triggered bodies the trigger level.
     priority: [u8; BODIES_MAX],
     ceiling: [u8; RESOURCES_MAX],
     /// Body numbers of each resource's users, one bit each.
@@ -165,21 +173,22 @@ pub fn read_config(bytes: &[u8]) -> Result<Config, Refusal> {
     let mut priority_of = [0u8; BODIES_MAX];
     let mut task_numbers = 0u32;
     let mut extended_numbers = 0u32;
+    let mut timed_numbers = 0u32;
     let mut autostart_numbers = 0u32;
     // The body that has a priority.
     let mut owner = [None::<u8>; PRIORITY_MAX as usize + 1];
     for (body, own) in priority_of.iter_mut().enumerate().take(bodies) {
-        let kind = fields.field(0, EXTENDED)?;
-        let is_isr = kind == ISR;
+        let kind = fields.field(0, TIME_TRIGGERED)?;
         let priority = fields.field(1, PRIORITY_MAX)?;
         if owner[priority as usize].is_some() {
             return refuse(6, fields.place);
         }
         owner[priority as usize] = Some(body as u8);
         *own = priority as u8;
-        let autostart = fields.field(0, if is_isr { 0 } else { 1 })?;
-        task_numbers |= u32::from(!is_isr) << body;
+        let autostart = fields.field(0, if kind == ISR || kind == TIME_TRIGGERED { 0 } else { 1 })?;
+        task_numbers |= u32::from(kind != ISR) << body;
         extended_numbers |= u32::from(kind == EXTENDED) << body;
+        timed_numbers |= u32::from(kind == TIME_TRIGGERED) << body;
         autostart_numbers |= autostart << body;
     }
     let all_bodies = u32::MAX >> (BODIES_MAX - bodies);
@@ -190,10 +199,13 @@ pub fn read_config(bytes: &[u8]) -> Result<Config, Refusal> {
         resources: 0,
         tables: 0,
         task_numbers,
+        osek_task_numbers: task_numbers & !timed_numbers,
         extended_numbers,
+        timed_numbers,
         isr_numbers: all_bodies & !task_numbers,
         isr_ranks: 0,
         autostart_ranks: 0,
+        timed_ranks: 0,
         rank: [0; BODIES_MAX],
         number: [0; BODIES_MAX],
         priority: [0; BODIES_MAX],
@@ -202,17 +214,24 @@ pub fn read_config(bytes: &[u8]) -> Result<Config, Refusal> {
         table: [Table::default(); TABLES_MAX],
         entry: [Entry::default(); ENTRIES_MAX],
     };
-    for (rank, &body) in owner.iter().flatten().enumerate() {
+    let is_timed = |body: u32| timed_numbers >> body & 1 == 1;
+    let ordinary = owner.iter().flatten().filter(|body| !is_timed(u32::from(**body)));
+    let timed = owner.iter().flatten().filter(|body| is_timed(u32::from(**body)));
+    for (rank, &body) in ordinary.chain(timed).enumerate() {
         config.number[rank] = body;
         config.rank[body as usize] = rank as u8;
-        config.priority[rank] = priority_of[body as usize];
+        config.priority[rank] = if is_timed(u32::from(body)) { TRIGGER_LEVEL } else { priority_of[body as usize] };
         config.isr_ranks |= (config.isr_numbers >> body & 1) << rank;
         config.autostart_ranks |= (autostart_numbers >> body & 1) << rank;
+        config.timed_ranks |= (timed_numbers >> body & 1) << rank;
     }
 
     config.resources = fields.count(0, RESOURCES_MAX)?;
     for resource in 0..config.resources {
         let users = fields.field(1, all_bodies)?;
+        if users & timed_numbers != 0 {
+            return refuse(5, fields.place);
+        }
         config.users[resource] = users;
         config.ceiling[resource] =
             (0..bodies).filter(|body| users >> body & 1 == 1).map(|body| priority_of[body]).max().unwrap_or(0);
@@ -220,6 +239,8 @@ pub fn read_config(bytes: &[u8]) -> Result<Config, Refusal> {
 
     config.tables = fields.count(0, TABLES_MAX)?;
     let mut used = 0;
+    // The table of time-triggered bodies.
+    let mut timed_table = None;
     for table in 0..config.tables {
         let period = fields.field(1, TICKS_MAX)?;
         let count = fields.count(1, TABLE_ENTRIES_MAX)?;
@@ -237,6 +258,18 @@ pub fn read_config(bytes: &[u8]) -> Result<Config, Refusal> {
             }
             if before >= Some((offset, task)) {
                 return refuse(7, fields.place);
+            }
+            let timed = is_timed(task);
+            if let Some((offset_before, task_before)) = before {
+                if offset_before == offset && (timed || is_timed(task_before)) {
+                    return refuse(13, fields.place);
+                }
+                if is_timed(task_before) != timed {
+                    return refuse(14, fields.place);
+                }
+            }
+            if timed && *timed_table.get_or_insert(table) != table {
+                return refuse(14, fields.place);
             }
             before = Some((offset, task));
             config.entry[entry] = Entry { offset: offset as u16, gap: 0, rank: config.rank[task as usize] };
@@ -271,8 +304,19 @@ impl Config {
         self.tables
     }
 
+    /// A task of whatever kind, which entries and Set may name.
     pub fn is_task(&self, id: u32) -> bool {
         id < BODIES_MAX as u32 && self.task_numbers >> id & 1 == 1
+    }
+
+    /// A task that Activate and Chain may name.
+    pub fn is_osek_task(&self, id: u32) -> bool {
+        id < BODIES_MAX as u32 && self.osek_task_numbers >> id & 1 == 1
+    }
+
+    /// Of a body's number.
+    pub fn is_timed(&self, body: u32) -> bool {
+        self.timed_numbers >> body & 1 == 1
     }
 
     /// Of a body's number.
@@ -284,6 +328,12 @@ impl Config {
         id < BODIES_MAX as u32 && self.isr_numbers >> id & 1 == 1
     }
 
+    /// Of a body's number: how many bodies it ranks above.
+    pub fn rank(&self, body: u32) -> u8 {
+        self.rank[body as usize]
+    }
+
+    /// Of a time-triggered body the trigger level.
     pub fn priority(&self, body: u32) -> u8 {
         self.priority[usize::from(self.rank[body as usize])]
     }
@@ -304,6 +354,12 @@ impl Config {
     /// Entries rise, so the last one has the largest offset.
     pub fn largest_offset(&self, table: usize) -> u32 {
         u32::from(self.entry[usize::from(self.table[table].end) - 1].offset)
+    }
+
+    /// The table of time-triggered bodies.
+    pub fn timed_table(&self) -> Option<u32> {
+        let first = |table: &u32| self.entry[usize::from(self.table[*table as usize].first)].rank;
+        (0..self.tables as u32).find(|table| self.timed_ranks >> first(table) & 1 == 1)
     }
 
     pub fn offsets(&self, table: usize) -> impl Iterator<Item = u32> + '_ {
@@ -512,13 +568,14 @@ impl Timers for NextDue {
 
 // The kernel
 
-/// A body that runs, or held a resource when it last ran, and its current priority; or idle.
+/// A body that runs, or held a resource when it last ran, and its current priority; or idle. A time-triggered one runs at the
+/// execution level.
 #[derive(Clone, Copy)]
 struct Frame {
     number: u8,
     rank: u8,
     level: u8,
-    /// The ranks above, one bit each; for idle all of them.
+    /// The ranks above, one bit each; for idle all of them, for a time-triggered body those of all such bodies.
     above: u32,
 }
 
@@ -550,10 +607,15 @@ pub struct Kernel<'c, T> {
     config: &'c Config,
     /// The ready list, one bit per rank: bodies that wait to begin, a started ISR's second request among them.
     ready: u32,
-    /// Started bodies that do not wait, and those that wait for an event, one bit per rank.
+    /// Started bodies that compete, one bit per rank.
     started: u32,
-    waiting: u32,
+    /// Bodies that have begun and do not compete: tasks that wait for an event, and time-triggered ones.
+    aside: u32,
     running: Frame,
+    /// Ranks of the time-triggered bodies that have begun and not ended, in the order begun: the last of them runs. One table
+    /// has all of them, so there are no more than it may have entries.
+    triggered: [u8; TABLE_ENTRIES_MAX],
+    triggered_count: usize,
     /// Resources held by all bodies in the order taken, from place 1 on, and one bit for each of them. Who takes one runs
     /// above every other holder's level, so the last one's holder has the greatest level of all that hold some.
     held: [Held; RESOURCES_MAX + 1],
@@ -577,8 +639,10 @@ impl<'c, T: Timers> Kernel<'c, T> {
             config,
             ready: config.autostart_ranks,
             started: 0,
-            waiting: 0,
+            aside: 0,
             running: IDLE_FRAME,
+            triggered: [0; TABLE_ENTRIES_MAX],
+            triggered_count: 0,
             held: [NOTHING_HELD; RESOURCES_MAX + 1],
             held_count: 0,
             taken: 0,
@@ -624,6 +688,10 @@ impl<'c, T: Timers> Kernel<'c, T> {
         if own <= self.running.level {
             return 0;
         }
+        if own == TRIGGER_LEVEL {
+            self.begin_timed(rank);
+            return 1;
+        }
         let bit = 1 << rank;
         let begins = bit & !self.started;
         self.ready &= !begins;
@@ -640,8 +708,44 @@ impl<'c, T: Timers> Kernel<'c, T> {
         self.running = self.held[self.held_count].holder;
     }
 
+    fn timed_frame(&self, rank: u8) -> Frame {
+        let number = self.config.number[usize::from(rank)];
+        Frame { number, rank, level: EXECUTION_LEVEL, above: self.config.timed_ranks }
+    }
+
+    /// A time-triggered body begins, over whoever runs. Out of the way of all that happens more often, as its end is.
+    #[inline(never)]
+    fn begin_timed(&mut self, rank: u8) {
+        self.ready &= !(1 << rank);
+        self.aside |= 1 << rank;
+        self.triggered[self.triggered_count] = rank;
+        self.triggered_count += 1;
+        self.running = self.timed_frame(rank);
+    }
+
+    /// Finish where nobody runs, or a time-triggered body does. The one begun before it goes on, or, below them, the last holder
+    /// or a better body.
+    #[inline(never)]
+    fn end_timed(&mut self) -> u8 {
+        if self.is_idle() {
+            return 2;
+        }
+        self.aside &= !(1 << self.running.rank);
+        self.triggered_count -= 1;
+        self.running = match self.triggered_count.checked_sub(1) {
+            Some(last) => self.timed_frame(self.triggered[last]),
+            None => self.held[self.held_count].holder,
+        };
+        0
+    }
+
     fn is_idle(&self) -> bool {
         self.running.number == IDLE
+    }
+
+    /// Nobody runs whose call would be taken: nobody at all, at level 0, or a time-triggered body.
+    fn no_caller(&self) -> bool {
+        self.running.level.wrapping_sub(1) >= EXECUTION_LEVEL - 1
     }
 
     /// Whether the running body holds a resource.
@@ -650,7 +754,7 @@ impl<'c, T: Timers> Kernel<'c, T> {
     }
 
     fn is_free(&self, bit: u32) -> bool {
-        (self.ready | self.started | self.waiting) & bit == 0
+        (self.ready | self.started | self.aside) & bit == 0
     }
 
     /// Makes a suspended task ready.
@@ -670,10 +774,10 @@ impl<'c, T: Timers> Kernel<'c, T> {
     }
 
     fn activate(&mut self, task: u32) -> u8 {
-        if self.is_idle() {
+        if self.no_caller() {
             return 2;
         }
-        if !self.config.is_task(task) {
+        if !self.config.is_osek_task(task) {
             return 3;
         }
         if !self.is_free(self.rank_bit(task)) {
@@ -684,8 +788,8 @@ impl<'c, T: Timers> Kernel<'c, T> {
     }
 
     fn finish(&mut self) -> u8 {
-        if self.is_idle() {
-            return 2;
+        if self.no_caller() {
+            return self.end_timed();
         }
         if self.holds_any() {
             return 6;
@@ -695,10 +799,10 @@ impl<'c, T: Timers> Kernel<'c, T> {
     }
 
     fn chain(&mut self, task: u32) -> u8 {
-        if self.is_idle() || self.config.isr_ranks >> self.running.rank & 1 == 1 {
+        if self.no_caller() || self.config.isr_ranks >> self.running.rank & 1 == 1 {
             return 2;
         }
-        if !self.config.is_task(task) {
+        if !self.config.is_osek_task(task) {
             return 3;
         }
         if self.holds_any() {
@@ -713,7 +817,7 @@ impl<'c, T: Timers> Kernel<'c, T> {
     }
 
     fn get(&mut self, resource: u32) -> u8 {
-        if self.is_idle() {
+        if self.no_caller() {
             return 2;
         }
         if resource >= self.config.resources as u32 {
@@ -735,7 +839,7 @@ impl<'c, T: Timers> Kernel<'c, T> {
     }
 
     fn release(&mut self, resource: u32) -> u8 {
-        if self.is_idle() {
+        if self.no_caller() {
             return 2;
         }
         if resource >= self.config.resources as u32 {
@@ -755,10 +859,10 @@ impl<'c, T: Timers> Kernel<'c, T> {
     }
 
     fn tick(&mut self) -> u8 {
-        let Kernel { config, ready, started, waiting, events, timers, losses, .. } = self;
+        let Kernel { config, ready, started, aside, events, timers, losses, .. } = self;
         timers.tick(config, |rank| {
             let bit = 1 << rank;
-            if (*ready | *started | *waiting) & bit == 0 {
+            if (*ready | *started | *aside) & bit == 0 {
                 *ready |= bit;
                 events[usize::from(rank)] = 0;
             } else {
@@ -784,7 +888,7 @@ impl<'c, T: Timers> Kernel<'c, T> {
     }
 
     fn start(&mut self, table: u32, delay: u32) -> u8 {
-        if self.is_idle() {
+        if self.no_caller() {
             return 2;
         }
         if table >= self.config.tables as u32 {
@@ -802,7 +906,7 @@ impl<'c, T: Timers> Kernel<'c, T> {
     }
 
     fn stop(&mut self, table: u32) -> u8 {
-        if self.is_idle() {
+        if self.no_caller() {
             return 2;
         }
         if table >= self.config.tables as u32 {
@@ -816,7 +920,7 @@ impl<'c, T: Timers> Kernel<'c, T> {
     }
 
     fn wait(&mut self, mask: u32) -> u8 {
-        if self.is_idle() {
+        if self.no_caller() {
             return 2;
         }
         if !self.config.is_extended(u32::from(self.running.number)) {
@@ -827,7 +931,7 @@ impl<'c, T: Timers> Kernel<'c, T> {
         }
         let rank = usize::from(self.running.rank);
         if self.events[rank] & mask == 0 {
-            self.waiting |= 1 << rank;
+            self.aside |= 1 << rank;
             self.waited[rank] = mask;
             self.leave();
         }
@@ -835,7 +939,7 @@ impl<'c, T: Timers> Kernel<'c, T> {
     }
 
     fn set(&mut self, task: u32, mask: u32) -> u8 {
-        if self.is_idle() {
+        if self.no_caller() {
             return 2;
         }
         if !self.config.is_task(task) {
@@ -851,15 +955,15 @@ impl<'c, T: Timers> Kernel<'c, T> {
         let rank = usize::from(self.config.rank[task as usize]);
         self.events[rank] |= mask;
         // A task that waits has none of its bits, so only the new ones count.
-        if self.waiting & bit != 0 && self.waited[rank] & mask != 0 {
-            self.waiting &= !bit;
+        if self.aside & bit != 0 && self.waited[rank] & mask != 0 {
+            self.aside &= !bit;
             self.started |= bit;
         }
         0
     }
 
     fn clear(&mut self, mask: u32) -> u8 {
-        if self.is_idle() {
+        if self.no_caller() {
             return 2;
         }
         if !self.config.is_extended(u32::from(self.running.number)) {
@@ -882,11 +986,21 @@ impl<'c, T: Timers> Kernel<'c, T> {
 
     /// How many bodies have begun and not ended.
     pub fn begun_bodies(&self) -> usize {
-        (self.started | self.waiting).count_ones() as usize
+        (self.started | self.aside).count_ones() as usize
     }
 
     pub fn waiting_bodies(&self) -> usize {
-        self.waiting.count_ones() as usize
+        (self.aside & !self.config.timed_ranks).count_ones() as usize
+    }
+
+    /// The time-triggered bodies that have begun and not ended, by number, in the order begun.
+    pub fn triggered(&self) -> impl DoubleEndedIterator<Item = u32> + ExactSizeIterator + '_ {
+        self.triggered[..self.triggered_count].iter().map(|rank| u32::from(self.config.number[usize::from(*rank)]))
+    }
+
+    /// A time-triggered body runs.
+    pub fn timed_runs(&self) -> bool {
+        self.triggered_count > 0
     }
 
     pub fn held_resources(&self) -> usize {
@@ -899,12 +1013,12 @@ impl<'c, T: Timers> Kernel<'c, T> {
 
     /// The body has begun and does not wait for an event.
     pub fn is_started(&self, body: u32) -> bool {
-        self.started & self.rank_bit(body) != 0
+        (self.started | self.aside & self.config.timed_ranks) & self.rank_bit(body) != 0
     }
 
     /// The body waits for an event.
     pub fn is_waiting(&self, body: u32) -> bool {
-        self.waiting & self.rank_bit(body) != 0
+        self.aside & !self.config.timed_ranks & self.rank_bit(body) != 0
     }
 
     pub fn events(&self, body: u32) -> u32 {
@@ -938,7 +1052,7 @@ impl<'c, T: Timers> Kernel<'c, T> {
     /// How many bodies would be left, ready or started and not waiting, if the running one ended.
     pub fn others(&self) -> u32 {
         let running = self.runner().map_or(0, |runner| self.rank_bit(runner));
-        ((self.ready | self.started) & !running).count_ones()
+        ((self.ready | self.started | self.aside & self.config.timed_ranks) & !running).count_ones()
     }
 
     pub fn losses(&self) -> &[u16] {

@@ -16,3 +16,4 @@ pub mod sights;
 pub mod stack;
 #[cfg(feature = "linked")]
 pub mod subject;
+pub mod triggered;

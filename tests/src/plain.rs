@@ -74,6 +74,8 @@ enum Kind {
     Isr,
     /// "Kind 2 is an extended task": a task wherever document 01 says task.
     Extended,
+    /// "Kind 3 is such a task: started only by entries".
+    TimeTriggered,
 }
 
 #[derive(Clone, Copy, PartialEq, Eq, Debug)]
@@ -100,7 +102,13 @@ struct Body {
     /// "its held resources in the order taken"
     held: Vec<usize>,
     losses: u64,
+    /// When a time-triggered body last began, by the count of such begins: "latest start first".
+    start: u64,
 }
+
+/// "one common execution level 201; the trigger level is 202"
+const EXECUTION_LEVEL: u64 = 201;
+const TRIGGER_LEVEL: u64 = 202;
 
 /// "each table is stopped or has d and n, the Ticks since its start"
 #[derive(Clone, Copy, PartialEq, Eq, Debug)]
@@ -125,6 +133,8 @@ pub struct Scheduler {
     resources: Vec<BTreeSet<usize>>,
     tables: Vec<Table>,
     runner: Option<usize>,
+    /// How often a time-triggered body has begun.
+    starts: u64,
 }
 
 fn read_configuration(input: &[u8]) -> Result<Scheduler, Refused> {
@@ -138,14 +148,16 @@ fn read_configuration(input: &[u8]) -> Result<Scheduler, Refused> {
     let mut bodies: Vec<Body> = Vec::new();
     for _ in 0..body_count {
         let (kind, at) = cursor.take()?;
-        ensure(kind <= 2, 5, at)?;
+        ensure(kind <= 3, 5, at)?;
         let (priority, at) = cursor.take()?;
         ensure((1..=200).contains(&priority), 5, at)?;
         ensure(bodies.iter().all(|other| other.priority != priority), 6, at)?;
         let (autostart, at) = cursor.take()?;
-        ensure(autostart == 0 || (autostart == 1 && kind != 1), 5, at)?;
+        let kind = [Kind::Task, Kind::Isr, Kind::Extended, Kind::TimeTriggered][kind as usize];
+        let may_autostart = matches!(kind, Kind::Task | Kind::Extended);
+        ensure(autostart == 0 || (autostart == 1 && may_autostart), 5, at)?;
         bodies.push(Body {
-            kind: [Kind::Task, Kind::Isr, Kind::Extended][kind as usize],
+            kind,
             priority,
             autostart: autostart == 1,
             state: State::Suspended,
@@ -153,6 +165,7 @@ fn read_configuration(input: &[u8]) -> Result<Scheduler, Refused> {
             events: 0,
             held: Vec::new(),
             losses: 0,
+            start: 0,
         });
     }
 
@@ -162,13 +175,16 @@ fn read_configuration(input: &[u8]) -> Result<Scheduler, Refused> {
     for _ in 0..resource_count {
         let (mask, at) = cursor.take()?;
         let users: BTreeSet<usize> = (0..32).filter(|bit| (mask >> bit) % 2 == 1).collect();
-        ensure(!users.is_empty() && users.iter().all(|user| *user < bodies.len()), 5, at)?;
+        // "5 for .. a mask bit for it"
+        let may_use = |user: &usize| bodies.get(*user).is_some_and(|body| body.kind != Kind::TimeTriggered);
+        ensure(!users.is_empty() && users.iter().all(may_use), 5, at)?;
         resources.push(users);
     }
 
     let (table_count, at) = cursor.take()?;
     ensure(table_count <= 8, 4, at)?;
     let mut tables: Vec<Table> = Vec::new();
+    let time_triggered = |entry: &(u64, usize)| bodies[entry.1].kind == Kind::TimeTriggered;
     for _ in 0..table_count {
         let (period, at) = cursor.take()?;
         ensure((1..=65535).contains(&period), 5, at)?;
@@ -184,12 +200,20 @@ fn read_configuration(input: &[u8]) -> Result<Scheduler, Refused> {
             ensure(bodies.get(task as usize).is_some_and(|body| body.kind != Kind::Isr), 5, at)?;
             let entry = (offset, task as usize);
             ensure(entries.iter().all(|earlier| *earlier < entry), 7, at)?;
+            // "13 for an offset shared with the entry before where either is kind 3"
+            let shares =
+                |before: &(u64, usize)| before.0 == offset && (time_triggered(before) || time_triggered(&entry));
+            ensure(!entries.last().is_some_and(shares), 13, at)?;
+            // "14 for a mixed or second such table": "One table at most has kind 3 entries, and only those".
+            let mixed = entries.iter().any(|other| time_triggered(other) != time_triggered(&entry));
+            let second = tables.iter().any(|table| table.entries.iter().any(time_triggered)) && time_triggered(&entry);
+            ensure(!mixed && !second, 14, at)?;
             entries.push(entry);
         }
         tables.push(Table { period, entries, progress: Progress::Stopped });
     }
     ensure(cursor.next == input.len(), 9, cursor.next)?;
-    Ok(Scheduler { version, bodies, resources, tables, runner: None })
+    Ok(Scheduler { version, bodies, resources, tables, runner: None, starts: 0 })
 }
 
 /// A code and its arguments.
@@ -222,17 +246,29 @@ impl Scheduler {
         self.resources[resource].iter().map(|user| self.bodies[*user].priority).max().expect("a resource has users")
     }
 
-    /// "the greatest of its own priority and the ceilings of the resources it holds"
+    fn is_time_triggered(&self, body: usize) -> bool {
+        self.bodies[body].kind == Kind::TimeTriggered
+    }
+
+    /// "the greatest of its own priority and the ceilings of the resources it holds"; of a time-triggered body the trigger
+    /// level before it begins and the execution level from then on.
     fn current_priority(&self, body: usize) -> u64 {
+        if self.is_time_triggered(body) {
+            return if self.bodies[body].state == State::Started { EXECUTION_LEVEL } else { TRIGGER_LEVEL };
+        }
         let ceilings = self.bodies[body].held.iter().map(|resource| self.ceiling(*resource));
         ceilings.fold(self.bodies[body].priority, u64::max)
     }
 
     /// "the body with the greatest current priority among ready and started ones runs"; "On equal current priority the body
-    /// holding a resource goes first, in place of the one that began." A ready one becomes started; true if one did.
+    /// holding a resource goes first, in place of the one that began." Among time-triggered ones: "latest start first". A ready
+    /// one becomes started; true if one did.
     fn choose(&mut self) -> bool {
         let competes = |body: &usize| matches!(self.bodies[*body].state, State::Ready | State::Started);
-        let place = |body: &usize| (self.current_priority(*body), !self.bodies[*body].held.is_empty());
+        let place = |body: &usize| {
+            let candidate = &self.bodies[*body];
+            (self.current_priority(*body), !candidate.held.is_empty(), candidate.start)
+        };
         let candidates: Vec<usize> = (0..self.bodies.len()).filter(competes).collect();
         let first = candidates.iter().map(place).max();
         let runners: Vec<usize> = candidates.into_iter().filter(|body| Some(place(body)) == first).collect();
@@ -241,6 +277,10 @@ impl Scheduler {
         match self.runner {
             Some(body) if self.bodies[body].state == State::Ready => {
                 self.bodies[body].state = State::Started;
+                if self.is_time_triggered(body) {
+                    self.starts += 1;
+                    self.bodies[body].start = self.starts;
+                }
                 true
             }
             _ => false,
@@ -276,18 +316,21 @@ impl Scheduler {
         self.bodies[body].state == State::Suspended
     }
 
-    /// Status 2: "nobody runs; for Chain also when an ISR runs".
+    /// Status 2: "nobody runs; for Chain also when an ISR runs"; "2 for other calls by kind 3", all but Finish.
     fn call_level(&self, code: u64) -> bool {
-        match self.runner {
+        match self.runner.map(|runner| self.bodies[runner].kind) {
             None => true,
-            Some(runner) => code == 3 && self.bodies[runner].kind == Kind::Isr,
+            Some(Kind::Isr) => code == 3,
+            Some(Kind::TimeTriggered) => code != 2,
+            Some(Kind::Task | Kind::Extended) => false,
         }
     }
 
-    /// Status 3: "no such task, resource, table or, for Line, ISR".
+    /// Status 3: "no such task, resource, table or, for Line, ISR"; "3 for Activate or Chain naming" a time-triggered body.
     fn no_such(&self, code: u64, id: u64) -> bool {
         match code {
-            1 | 3 | 11 => self.task(id).is_none(),
+            1 | 3 => self.task(id).is_none_or(|task| self.is_time_triggered(task)),
+            11 => self.task(id).is_none(),
             4 | 5 => id >= self.resources.len() as u64,
             7 => self.isr(id).is_none(),
             8 | 9 => id >= self.tables.len() as u64,
@@ -536,7 +579,8 @@ mod tests {
     fn began_first(scheduler: &Scheduler) -> Option<usize> {
         let state = |body: &usize| scheduler.bodies[*body].state;
         let ready_or_started = |body: &usize| matches!(state(body), State::Ready | State::Started);
-        let place = |body: &usize| (scheduler.current_priority(*body), state(body) == State::Started);
+        let start = |body: &usize| scheduler.bodies[*body].start;
+        let place = |body: &usize| (scheduler.current_priority(*body), state(body) == State::Started, start(body));
         (0..scheduler.bodies.len()).filter(ready_or_started).max_by_key(place)
     }
 

@@ -2,6 +2,7 @@
 //! and after it.
 
 use crate::fast::{Config, Event, Kernel, NextDue, BODIES_MAX, TABLES_MAX, TURN};
+use crate::triggered;
 
 const TURN_PASSED: &str = "a turn of a counter that passes unmatched";
 const LINES_LOST: [[&str; 2]; 2] = [
@@ -33,7 +34,7 @@ const CLEARED_BY_CHAIN: &str = "bits cleared by Chain";
 const CLEARED_BY_ITSELF: &str = "bits cleared by Chain to itself";
 const CLEARED_BY_ENTRY: &str = "bits cleared by a due entry";
 
-pub const SIGHTS: [&str; 30] = [
+const OF_TASKS_AND_ISRS: [&str; 30] = [
     TURN_PASSED,
     LINES_LOST[0][0],
     LINES_LOST[0][1],
@@ -66,6 +67,11 @@ pub const SIGHTS: [&str; 30] = [
     CLEARED_BY_ENTRY,
 ];
 
+/// All sights, those of time-triggered bodies last.
+pub fn sights() -> impl Iterator<Item = &'static str> {
+    OF_TASKS_AND_ISRS.into_iter().chain(triggered::SIGHTS)
+}
+
 /// A run, watched event by event.
 pub struct Watch<'c> {
     config: &'c Config,
@@ -76,12 +82,21 @@ pub struct Watch<'c> {
     /// The ISR that a Line began while nobody ran and every task waited, and the task that it resumed.
     alarm: Option<u32>,
     woken: Option<u32>,
+    triggered: triggered::Memory,
 }
 
 impl<'c> Watch<'c> {
     pub fn of(config: &'c Config) -> Self {
         let kernel = Kernel::fresh(config);
-        Watch { config, kernel, turns: Turns::default(), set_ready: [0; BODIES_MAX], alarm: None, woken: None }
+        Watch {
+            config,
+            kernel,
+            turns: Turns::default(),
+            set_ready: [0; BODIES_MAX],
+            alarm: None,
+            woken: None,
+            triggered: triggered::Memory::default(),
+        }
     }
 
     /// Plays an event that gets this status, and calls `see` with each sight.
@@ -112,6 +127,7 @@ impl<'c> Watch<'c> {
         if self.wakes(&before, event) {
             see(WOKEN);
         }
+        self.triggered.step(self.config, (&before, &self.kernel), (event, status), &mut see);
     }
 
     fn bodies(&self) -> std::ops::Range<u32> {
@@ -202,7 +218,7 @@ impl<'c> Watch<'c> {
         let (earlier, now) = (before.runner(), self.kernel.runner());
         match event {
             Event::Line(isr) if earlier.is_none() && now == Some(isr) => {
-                let mut tasks = self.bodies().filter(|body| self.config.is_task(*body));
+                let mut tasks = self.bodies().filter(|body| self.config.is_osek_task(*body));
                 let all_wait = before.waiting_bodies() > 0 && tasks.all(|task| before.is_waiting(task));
                 (self.alarm, self.woken) = (all_wait.then_some(isr), None);
                 false

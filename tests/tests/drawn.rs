@@ -2,6 +2,7 @@
 
 use osek_tests::compare::{compare, others};
 use osek_tests::coverage::Coverage;
+use osek_tests::triggered;
 
 #[test]
 fn drawn_cases_give_equal_answers_and_show_every_refusal_and_status() {
@@ -21,6 +22,12 @@ fn drawn_cases_give_equal_answers_and_show_every_refusal_and_status() {
         let count = coverage.count("Get", status);
         assert!(count >= 20_000, "only {count} times status {status} of Get");
     }
+    for (refusal, least) in [(13, 40), (14, 100)] {
+        let count = coverage.refused(refusal);
+        assert!(count >= least, "only {count} times refusal {refusal}");
+    }
+    let piles = coverage.seen(triggered::MOST);
+    assert!(piles >= 100, "only {piles} times {}", triggered::MOST);
     let success = coverage.success_percent();
     assert!((35..=65).contains(&success), "{success} % of the calls succeed, which is far from half");
 }

@@ -99,7 +99,8 @@ const STACK_LIMIT: usize = 64 * 1024;
 #[test]
 fn a_run_needs_little_stack() {
     let mut cases: Vec<Case> = (0..2_000).map(|number| cases::case(5, number)).collect();
-    cases.extend([Shape::NoTicks, Shape::Mixed, Shape::Ticks].map(|shape| cases::timed(1, shape, 8_192)));
+    let shapes = [Shape::NoTicks, Shape::Mixed, Shape::Ticks, Shape::Waiting, Shape::TimeTriggered];
+    cases.extend(shapes.map(|shape| cases::timed(1, shape, 8_192)));
     let implementations: Vec<Implementation> = [&[compare::FAST][..], &compare::others()].concat();
     for implementation in implementations {
         let used = stack::used(implementation.run, &cases);

@@ -130,7 +130,7 @@ fn a_count_out_of_range_is_4() {
 #[test]
 fn a_field_out_of_range_is_5() {
     let fields: [(usize, usize, &[u8]); 18] = [
-        (2, 1, &[3]),
+        (2, 1, &[4]),
         (3, 1, &[0]),
         (3, 1, &[0xc9, 1]),
         (4, 1, &[2]),
@@ -158,9 +158,103 @@ fn a_field_out_of_range_is_5() {
 fn an_extended_task_is_a_task_to_autostart_and_entries() {
     assert_eq!(result(&with(2, 1, &[2]), &[], 6), (0, 0));
     assert_eq!(result(&with(8, 1, &[2]), &[], 6), (0, 0));
-    // An autostart of 2 is none, and a mask or an entry of body 3 names nobody.
+    // An autostart of 2 is none.
     assert_config(&with(2, 3, &[2, 1, 2]), 5, 4);
-    assert_config(&with(8, 1, &[3]), 5, 8);
+}
+
+/// Task 0 of priority 1 (autostart), time-triggered bodies 1 and 2 of priorities 2 and 3, task 3 of priority 4; one resource of the
+/// tasks; two tables of period 5, the first with entries (0, task 0), (0, task 3), the second with (0, body 1), (1, body 2). The places:
+///
+/// 0 version, 1 body count, 2 kind, 3 priority, 4 autostart, 5 to 7, 8 to 10 and 11 to 13 the same, 14 resource count, 15 users,
+/// 16 table count, 17 period, 18 entry count, 19 offset, 20 task, 21 offset, 22 task, 23 period, 24 entry count, 25 offset, 26 task,
+/// 27 offset, 28 task, 29 end
+const TIMED: [u8; 29] = [1, 4, 0, 1, 1, 3, 2, 0, 3, 3, 0, 0, 4, 0, 1, 9, 2, 5, 2, 0, 0, 0, 3, 5, 2, 0, 1, 1, 2];
+
+/// That configuration with `bytes` in the place of all from `place` on.
+fn timed(place: usize, bytes: &[u8]) -> Vec<u8> {
+    [&TIMED[..place], bytes].concat()
+}
+
+/// That configuration with one number of one byte changed.
+fn timed_with(place: usize, value: u8) -> Vec<u8> {
+    [&TIMED[..place], &[value], &TIMED[place + 1..]].concat()
+}
+
+#[test]
+fn a_table_of_time_triggered_bodies_is_accepted() {
+    let accepted = |config: &[u8]| assert_eq!(result(config, &[], 8), (0, 0));
+    accepted(&TIMED);
+    // In either order of the tables; a body several times; neighbours of one offset in tables of their own.
+    accepted(&timed(17, &[5, 2, 0, 1, 1, 2, 5, 2, 0, 0, 0, 3]));
+    accepted(&timed(23, &[5, 2, 0, 1, 1, 1]));
+    accepted(&timed(23, &[5, 3, 0, 2, 1, 1, 2, 2]));
+    // Without a table of theirs, and without any.
+    accepted(&timed(16, &[1, 5, 1, 0, 0]));
+    accepted(&timed(16, &[0]));
+}
+
+#[test]
+fn the_fields_of_a_time_triggered_body_are_5_or_6() {
+    // Its autostart.
+    assert_config(&timed_with(7, 1), 5, 7);
+    assert_config(&timed_with(7, 2), 5, 7);
+    assert_config(&timed_with(10, 1), 5, 10);
+    // Its bit in a mask, alone or with others.
+    for mask in [0b0010, 0b0100, 0b0011, 0b1101, 0b1111] {
+        assert_config(&timed_with(15, mask), 5, 15);
+    }
+    // Its priority number, out of range or used already; that of a later body.
+    assert_config(&timed_with(6, 0), 5, 6);
+    assert_config(&timed(6, &[0xc9, 1]), 5, 6);
+    assert_config(&timed_with(6, 1), 6, 6);
+    assert_config(&timed_with(9, 2), 6, 9);
+    assert_config(&timed_with(12, 3), 6, 12);
+    // The next kind.
+    assert_config(&timed_with(5, 4), 5, 5);
+}
+
+#[test]
+fn an_offset_shared_with_a_time_triggered_body_is_13_at_its_task() {
+    // Both are time-triggered; the second is; the first is.
+    assert_config(&timed_with(27, 0), 13, 28);
+    assert_config(&timed_with(22, 1), 13, 22);
+    assert_config(&timed(25, &[0, 1, 0, 3]), 13, 28);
+    // The third is, after two tasks that share it; the last two of three such bodies share it.
+    assert_config(&timed(8, &[0, 3, 0, 3, 4, 0, 0, 1, 5, 3, 1, 0, 1, 2, 1, 3]), 13, 23);
+    assert_config(&timed(24, &[3, 0, 1, 4, 1, 4, 2]), 13, 30);
+}
+
+#[test]
+fn a_mixed_or_second_table_of_time_triggered_bodies_is_14_at_the_task() {
+    // A task before one; one before a task; one at the third entry.
+    assert_config(&timed(21, &[1, 1, 0]), 14, 22);
+    assert_config(&timed_with(28, 3), 14, 28);
+    assert_config(&timed_with(28, 0), 14, 28);
+    assert_config(&timed(24, &[3, 0, 1, 1, 2, 4, 0]), 14, 30);
+    assert_config(&timed(24, &[3, 0, 0, 0, 3, 4, 2]), 14, 30);
+    // A second table, next to the first or not, of the same body or another; it is seen before its second entry is read.
+    assert_config(&timed(17, &[5, 1, 0, 1, 5, 1, 0, 1]), 14, 24);
+    assert_config(&timed(17, &[5, 1, 0, 1, 5, 2, 3, 2]), 14, 24);
+    assert_config(&timed(16, &[3, 5, 1, 0, 2, 5, 1, 0, 0, 5, 1, 0, 1]), 14, 28);
+    // A second table that is mixed.
+    assert_config(&timed(17, &[5, 1, 0, 1, 5, 2, 0, 3, 4, 2]), 14, 26);
+}
+
+#[test]
+fn at_an_entrys_task_5_comes_before_7_before_13_before_14() {
+    // Unreadable, then no such body.
+    assert_config(&timed(27, &[0, 0x80, 0]), 2, 29);
+    assert_config(&timed(27, &[0, 4]), 5, 28);
+    // Not after the one before: twice the same, the body falls, the offset falls; shared or mixed it is besides.
+    assert_config(&timed(27, &[0, 1]), 7, 28);
+    assert_config(&timed(25, &[0, 2, 0, 1]), 7, 28);
+    assert_config(&timed(25, &[1, 2, 0, 3]), 7, 28);
+    assert_config(&timed(25, &[1, 2, 1, 0]), 7, 28);
+    // In a second table: not after, and shared, each before 14.
+    assert_config(&timed(17, &[5, 1, 0, 1, 5, 2, 0, 3, 0, 2]), 7, 26);
+    assert_config(&timed(17, &[5, 1, 0, 1, 5, 2, 0, 0, 0, 2]), 13, 26);
+    // A shared offset in a mixed table.
+    assert_config(&timed(21, &[0, 2]), 13, 22);
 }
 
 #[test]
@@ -306,6 +400,6 @@ fn an_empty_configuration_is_1_at_0() {
 }
 
 #[test]
-fn the_run_has_fifteen_refusals() {
-    assert_eq!(REFUSALS.len(), 15);
+fn the_run_has_seventeen_refusals() {
+    assert_eq!(REFUSALS.len(), 17);
 }

@@ -7,7 +7,7 @@ use std::fmt::Write as _;
 use std::io::Write as _;
 use std::{env, fs, process, thread, time};
 
-use osek_tests::fast::{self, Answer, Event, Kernel, NextDue, OUTPUT_MAX};
+use osek_tests::fast::{self, Answer, Event, Kernel, NextDue, OUTPUT_MAX, TRIGGER_LEVEL};
 use osek_tests::listing::listing;
 
 fn main() {
@@ -43,10 +43,17 @@ fn played(fault: &str, config_bytes: &[u8], trace: &[u8]) -> Vec<u8> {
         match (fault, event) {
             ("limit_is_id", Event::Activate(_)) if answer.status == 4 => answer.status = 3,
             ("ceiling_not_shown", _) => {
-                if let Some(runner) = kernel.runner() {
+                if let Some(runner) = kernel.runner().filter(|runner| !config.is_timed(*runner)) {
                     answer.level = config.priority(runner);
                 }
             }
+            // Of all that have begun the first is said to run.
+            ("first_start_first", _) => {
+                if let Some(first) = kernel.triggered().next() {
+                    answer.runner = first as u8;
+                }
+            }
+            ("trigger_level_shown", _) if kernel.timed_runs() => answer.level = TRIGGER_LEVEL,
             ("chain_crashes", Event::Chain(_)) => process::abort(),
             ("stop_hangs", Event::Stop(_)) => thread::sleep(time::Duration::from_secs(3_600)),
             _ => {}
@@ -57,6 +64,10 @@ fn played(fault: &str, config_bytes: &[u8], trace: &[u8]) -> Vec<u8> {
     let losses: Vec<u16> = match fault {
         "losses_high_byte_first" | "output_losses_high_byte_first" => {
             kernel.losses().iter().map(|loss| loss.swap_bytes()).collect()
+        }
+        "triggered_loss_forgotten" => {
+            let kept = |(body, loss): (usize, &u16)| if config.is_timed(body as u32) { 0 } else { *loss };
+            kernel.losses().iter().enumerate().map(kept).collect()
         }
         _ => kernel.losses().to_vec(),
     };

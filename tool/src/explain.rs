@@ -6,7 +6,7 @@ use osek_tests::compare::hex;
 
 use crate::fields;
 use crate::input::{Pair, Source};
-use crate::layout::{self, Break, Field, TraceField};
+use crate::layout::{self, Break, Field, Objects, TraceField};
 use crate::names::Names;
 use crate::reference::Refused;
 use crate::words::{self, counted, grouped, About, Part};
@@ -31,7 +31,12 @@ pub fn refusal(pair: &Pair, refused: Refused) -> String {
     match word.about {
         About::Unread(Part::Config) => tell(&mut text, config, unread_field(&config.bytes, &pair.config.names)),
         About::Unread(Part::Trace) | About::UnknownEvent => tell(&mut text, trace, unread_event(&trace.bytes)),
-        About::Range | About::PriorityUsed | About::EntryOrder | About::EntryTotal => {
+        About::Range
+        | About::PriorityUsed
+        | About::EntryOrder
+        | About::EntryTotal
+        | About::SharedOffset
+        | About::MixedTable => {
             tell(&mut text, config, not_allowed(&config.bytes, word.about, place, &pair.config.names));
         }
         About::LeftOver => tell(&mut text, config, left_over(&config.bytes, place)),
@@ -71,17 +76,45 @@ fn not_allowed(bytes: &[u8], about: About, place: usize, names: &Names) -> Optio
             None => usual,
         },
         (About::EntryOrder, Field::Task(table, entry)) => {
-            let entries = &objects.tables.get(table)?.entries;
-            let (before, this) = (entries.get(entry.checked_sub(1)?)?, entries.get(entry)?);
+            let (before, this) = neighbours(&objects, table, entry)?;
             let words = |entry: &layout::Entry| format!("offset {}, task {}", entry.offset, names.body(entry.task));
             let rule = "an entry after the one before it, rising by offset, then by task, none twice";
             format!("{rule}; {} does not come after {}", words(this), words(before))
         }
+        (About::SharedOffset, Field::Task(table, entry)) => {
+            let (before, this) = neighbours(&objects, table, entry)?;
+            let timed = if fields::is_time_triggered(&objects, this) { this } else { before };
+            let rule = "an offset of its own for each time-triggered task";
+            let (one, other) = (names.body(before.task), names.body(this.task));
+            format!("{rule}; {one} and {other} share {}, and {} is one", this.offset, names.body(timed.task))
+        }
+        (About::MixedTable, Field::Task(table, entry)) => mixed(&objects, table, entry, names)?,
         (About::EntryTotal, Field::EntryCount(table)) => fields::entries_left(&objects, table),
         _ => usual,
     };
     let sentence = format!("{} is {}. Allowed: {allowed}.", fields::name(field, names), grouped(number.value.into()));
     Some(Told { sentence, from: number.offset, to: number.end })
+}
+
+/// An entry of a table, after the one before it.
+fn neighbours(objects: &Objects, table: usize, entry: usize) -> Option<(&layout::Entry, &layout::Entry)> {
+    let entries = &objects.tables.get(table)?.entries;
+    Some((entries.get(entry.checked_sub(1)?)?, entries.get(entry)?))
+}
+
+/// Why an entry of this task may not stand in this table.
+fn mixed(objects: &Objects, table: usize, entry: usize, names: &Names) -> Option<String> {
+    let timed = |entry: &layout::Entry| fields::is_time_triggered(objects, entry);
+    let entries = &objects.tables.get(table)?.entries;
+    let this = entries.get(entry)?;
+    let name = names.body(this.task);
+    let rule = "time-triggered tasks in one table, and nobody else in it";
+    if let Some(other) = entries[..entry].iter().find(|other| timed(other) != timed(this)) {
+        let (one, not) = if timed(this) { (name, names.body(other.task)) } else { (names.body(other.task), name) };
+        return Some(format!("{rule}; {one} is one, and {not} in the same table is not"));
+    }
+    let first = objects.tables.iter().position(|table| table.entries.iter().any(timed))?;
+    Some(format!("{rule}; {name} is one, and table {first} {} has such tasks already", names.tables.get(first)?))
 }
 
 fn left_over(bytes: &[u8], place: usize) -> Option<Told> {

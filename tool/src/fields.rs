@@ -5,7 +5,7 @@ use osek_tests::fast::{
     BODIES_MAX, ENTRIES_MAX, PRIORITY_MAX, RESOURCES_MAX, TABLES_MAX, TABLE_ENTRIES_MAX, TICKS_MAX,
 };
 
-use crate::layout::{Field, Objects};
+use crate::layout::{self, Field, Objects};
 use crate::names::Names;
 use crate::words::{self, grouped, KINDS, VERSIONS};
 
@@ -74,13 +74,15 @@ pub fn allowed(field: Field, objects: &Objects, names: &Names) -> String {
         }
         Field::Priority(_) => format!("1 to {PRIORITY_MAX}, each used once"),
         Field::Autostart(body) => match objects.bodies.get(body).and_then(|body| words::kind(body.kind)) {
-            Some(kind) if !kind.autostarts => format!("0, because it is an {}", kind.name),
+            Some(kind) if !kind.autostarts => format!("0, because it is {}", kind.with_article()),
             _ => "0 or 1".into(),
         },
         Field::ResourceCount => format!("0 to {RESOURCES_MAX}"),
         Field::Users(_) => {
             let last = objects.bodies.len().saturating_sub(1);
-            format!("a mask with bits of the bodies 0 to {last} only, and not 0")
+            let barred = |body: &layout::Body| words::kind(body.kind).is_some_and(|kind| !kind.in_masks);
+            let but = if objects.bodies.iter().any(barred) { ", none of a time-triggered task" } else { "" };
+            format!("a mask with bits of the bodies 0 to {last} only{but}, and not 0")
         }
         Field::TableCount => format!("0 to {TABLES_MAX}"),
         Field::Period(_) => format!("1 to {}", grouped(TICKS_MAX.into())),
@@ -110,6 +112,11 @@ pub fn allowed(field: Field, objects: &Objects, names: &Names) -> String {
 pub fn priority_owner(objects: &Objects, priority: u32, names: &Names) -> Option<String> {
     let owner = objects.bodies.iter().position(|body| body.priority == priority)?;
     Some(numbered("body", owner, names.bodies.get(owner)))
+}
+
+/// Whether an entry of a table names a time-triggered task.
+pub fn is_time_triggered(objects: &Objects, entry: &layout::Entry) -> bool {
+    objects.bodies.get(entry.task as usize).is_some_and(|body| words::is_time_triggered(body.kind))
 }
 
 /// How many entries the tables before this one leave it.

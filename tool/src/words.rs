@@ -57,7 +57,9 @@ const TICK: u32 = 6;
 const LINE: u32 = 7;
 
 const NOBODY_RUNS: (u8, &str) = (2, "nobody runs");
+const NO_CALLER: (u8, &str) = (2, "nobody runs, or a time-triggered task does");
 const NO_TASK: (u8, &str) = (3, "no task has this number");
+const NO_OSEK_TASK: (u8, &str) = (3, "no task has this number, or a time-triggered one has");
 const NO_RESOURCE: (u8, &str) = (3, "no resource has this number");
 const NO_TABLE: (u8, &str) = (3, "no table has this number");
 const NOT_SUSPENDED: (u8, &str) = (4, "the task is not suspended");
@@ -71,7 +73,7 @@ pub const EVENTS: [EventWord; 12] = [
         name: "Activate",
         word: "activate",
         arguments: &[Sort::Body],
-        statuses: &[NOBODY_RUNS, NO_TASK, NOT_SUSPENDED],
+        statuses: &[NO_CALLER, NO_OSEK_TASK, NOT_SUSPENDED],
     },
     EventWord { code: 2, name: "Finish", word: "finish", arguments: &[], statuses: &[NOBODY_RUNS, HOLDS] },
     EventWord {
@@ -79,7 +81,7 @@ pub const EVENTS: [EventWord; 12] = [
         name: "Chain",
         word: "chain",
         arguments: &[Sort::Body],
-        statuses: &[(2, "nobody runs, or an ISR does"), NO_TASK, HOLDS, NOT_SUSPENDED],
+        statuses: &[(2, "nobody runs, or an ISR or a time-triggered task does"), NO_OSEK_TASK, HOLDS, NOT_SUSPENDED],
     },
     EventWord {
         code: 4,
@@ -87,7 +89,7 @@ pub const EVENTS: [EventWord; 12] = [
         word: "get",
         arguments: &[Sort::Resource],
         statuses: &[
-            NOBODY_RUNS,
+            NO_CALLER,
             NO_RESOURCE,
             (33, "the running body is no declared user of the resource"),
             (1, "the resource is held already"),
@@ -98,7 +100,7 @@ pub const EVENTS: [EventWord; 12] = [
         name: "Release",
         word: "release",
         arguments: &[Sort::Resource],
-        statuses: &[NOBODY_RUNS, NO_RESOURCE, (5, "it is not the resource that the running body took last")],
+        statuses: &[NO_CALLER, NO_RESOURCE, (5, "it is not the resource that the running body took last")],
     },
     EventWord { code: TICK, name: "Tick", word: "tick", arguments: &[], statuses: &[] },
     EventWord {
@@ -114,7 +116,7 @@ pub const EVENTS: [EventWord; 12] = [
         word: "start",
         arguments: &[Sort::Table, Sort::Delay],
         statuses: &[
-            NOBODY_RUNS,
+            NO_CALLER,
             NO_TABLE,
             (8, "the delay is 0, or with the table's smallest offset above 65,535"),
             (7, "the table already runs"),
@@ -125,28 +127,28 @@ pub const EVENTS: [EventWord; 12] = [
         name: "Stop",
         word: "stop",
         arguments: &[Sort::Table],
-        statuses: &[NOBODY_RUNS, NO_TABLE, (5, "the table is stopped")],
+        statuses: &[NO_CALLER, NO_TABLE, (5, "the table is stopped")],
     },
     EventWord {
         code: 10,
         name: "Wait",
         word: "wait",
         arguments: &[Sort::Mask],
-        statuses: &[NOBODY_RUNS, RUNNER_NOT_EXTENDED, HOLDS],
+        statuses: &[NO_CALLER, RUNNER_NOT_EXTENDED, HOLDS],
     },
     EventWord {
         code: 11,
         name: "Set",
         word: "set",
         arguments: &[Sort::Body, Sort::Mask],
-        statuses: &[NOBODY_RUNS, NO_TASK, (1, "the task is no extended task"), (7, "the task is suspended")],
+        statuses: &[NO_CALLER, NO_TASK, (1, "the task is no extended task"), (7, "the task is suspended")],
     },
     EventWord {
         code: 12,
         name: "Clear",
         word: "clear",
         arguments: &[Sort::Mask],
-        statuses: &[NOBODY_RUNS, RUNNER_NOT_EXTENDED],
+        statuses: &[NO_CALLER, RUNNER_NOT_EXTENDED],
     },
 ];
 
@@ -212,14 +214,43 @@ pub struct KindWord {
     pub name: &'static str,
     /// What it is asked for by, and loses.
     pub request: &'static str,
-    /// Whether it may be ready at the fresh start, and whether an entry of a table may name it.
+    /// Whether it may be ready at the fresh start, whether an entry of a table may name it, and whether a mask of users may.
     pub autostarts: bool,
     pub in_tables: bool,
+    pub in_masks: bool,
+    /// Whether entries alone start it, and it preempts whoever runs.
+    pub time_triggered: bool,
 }
 
-pub const KINDS: [KindWord; 3] = [
-    KindWord { number: 0, word: "task", name: "task", request: "activation", autostarts: true, in_tables: true },
-    KindWord { number: 1, word: "isr", name: "ISR", request: "line", autostarts: false, in_tables: false },
+impl KindWord {
+    /// `a task`, `an ISR`.
+    pub fn with_article(&self) -> String {
+        let article = if self.name.starts_with(['a', 'e', 'i', 'o', 'u', 'I']) { "an" } else { "a" };
+        format!("{article} {}", self.name)
+    }
+}
+
+pub const KINDS: [KindWord; 4] = [
+    KindWord {
+        number: 0,
+        word: "task",
+        name: "task",
+        request: "activation",
+        autostarts: true,
+        in_tables: true,
+        in_masks: true,
+        time_triggered: false,
+    },
+    KindWord {
+        number: 1,
+        word: "isr",
+        name: "ISR",
+        request: "line",
+        autostarts: false,
+        in_tables: false,
+        in_masks: true,
+        time_triggered: false,
+    },
     KindWord {
         number: 2,
         word: "extended",
@@ -227,11 +258,28 @@ pub const KINDS: [KindWord; 3] = [
         request: "activation",
         autostarts: true,
         in_tables: true,
+        in_masks: true,
+        time_triggered: false,
+    },
+    KindWord {
+        number: 3,
+        word: "timed",
+        name: "time-triggered task",
+        request: "activation",
+        autostarts: false,
+        in_tables: true,
+        in_masks: false,
+        time_triggered: true,
     },
 ];
 
 pub fn kind(number: u32) -> Option<&'static KindWord> {
     KINDS.iter().find(|kind| kind.number == number)
+}
+
+/// Of a kind's number.
+pub fn is_time_triggered(number: u32) -> bool {
+    kind(number).is_some_and(|kind| kind.time_triggered)
 }
 
 /// What a refusal is about, and with it what its place counts.
@@ -244,6 +292,9 @@ pub enum About {
     PriorityUsed,
     EntryOrder,
     EntryTotal,
+    /// An entry beside one of a time-triggered task.
+    SharedOffset,
+    MixedTable,
     /// The bytes after the configuration.
     LeftOver,
     /// An event's code.
@@ -270,7 +321,7 @@ const CUT: &str = "the input ends where a number, or the rest of one, is missing
 const MALFORMED: &str = "a number is above 4,294,967,295 or not in its shortest form";
 
 /// Those of the run, then those of the bench program.
-pub const REFUSALS: [RefusalWord; 17] = [
+pub const REFUSALS: [RefusalWord; 19] = [
     refusal_word(1, About::Unread(Part::Config), CUT),
     refusal_word(2, About::Unread(Part::Config), MALFORMED),
     refusal_word(3, About::Range, "the version is unknown"),
@@ -281,6 +332,8 @@ pub const REFUSALS: [RefusalWord; 17] = [
     refusal_word(8, About::EntryTotal, "an entry count takes the total over 64"),
     refusal_word(9, About::LeftOver, "bytes are left over after the configuration"),
     refusal_word(10, About::TooLong(Part::Config), "the configuration is longer than 4,096 bytes"),
+    refusal_word(13, About::SharedOffset, "a time-triggered task shares its offset"),
+    refusal_word(14, About::MixedTable, "a table is not the one of the time-triggered tasks alone"),
     refusal_word(20, About::TooLong(Part::Trace), "the trace is longer than 8,192 bytes"),
     refusal_word(21, About::Unread(Part::Trace), CUT),
     refusal_word(22, About::Unread(Part::Trace), MALFORMED),

@@ -1,6 +1,8 @@
 -- What one change leaves of the relation.
 pub mod Request
 pub mod End
+pub mod Return
+pub mod Launch
 pub mod Bits
 pub mod Hold
 pub mod Get

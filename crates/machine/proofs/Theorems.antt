@@ -18,10 +18,10 @@ use Rattle.config.specs.declared.Config.{Config}
 use Rattle.config.specs.Accepted.{Accepted, Shaped}
 use Rattle.config.specs.Reader.{readConfig}
 use Rattle.config.proofs.Theorems.{accepted-ranges, reading}
-use Rattle.config.specs.Meaning.{countsLines, isUser, priorityOf, ceiling, firstOf}
+use Rattle.config.specs.Meaning.{countsLines, isUser, ceiling, firstOf}
 use Rattle.plan.specs.declared.Plan.{Plan}
 use Rattle.plan.specs.Rank.{rankOf}
-use Rattle.plan.specs.Plan.{planOf}
+use Rattle.plan.specs.Plan.{triggerOf, planOf}
 use Rattle.cell.specs.Cell.{startCell, stopped}
 use Rattle.scheduler.specs.Status.{done, limitReached}
 use Rattle.scheduler.specs.Bits.{anySet}
@@ -36,12 +36,13 @@ use Rattle.scheduler.proofs.Theorems.{held-by-user, due-exactly}
 use Rattle.word.specs.Word.{has}
 use Rattle.stack.specs.Stack.{rowBytes}
 use Rattle.machine.specs.Model.{Model, Outcome, noRank, withLosses, doneWith}
-use Rattle.machine.specs.Arbiter.{settled}
+use Rattle.machine.specs.Arbiter.{settled, isTriggered, launching}
 use Rattle.machine.specs.Cells.{oneLost}
-use Rattle.machine.specs.Events.{attempt, idles, tick, bitsAt, pausing}
+use Rattle.machine.specs.Events.{attempt, idles, ticking, tick, bitsAt, pausing}
 use Rattle.machine.specs.Machine.{freshModel, statusOf, effectOf, refusalOf, machineStep, LostLine, cellIn, runnerOf, machineSeen, machineAfter}
 use Rattle.machine.proofs.Relation.Whole.{Sim}
 use Rattle.machine.proofs.Change.Ticks.{dues-long}
+use Rattle.machine.proofs.Event.Agrees.{Keeps, keeps-of}
 use Rattle.machine.proofs.Event.Tables as Tables
 use Rattle.plan.proofs.Fitted.{fitted}
 use Rattle.machine.proofs.Whole.Fresh.{fresh-sim}
@@ -74,18 +75,19 @@ demand-3-read bs e = demand-3 (readConfig bs .config) (accepted-ranges bs e) (re
 abbrev pub reached : Config → List Event → Model
 reached c es = machineAfter c (planOf c) (freshModel (planOf c)) es
 
--- Who holds what, after every list of events and whatever the kinds of the bodies. The runner's own priority is above the level of every other
--- body that holds a resource, and so above that resource's ceiling. (Where nobody runs, nothing is held.)
+-- Who holds what, after every list of events and whatever the kinds of the bodies. The runner's own priority, or the trigger level of a
+-- time-triggered task, is above the level of every other body that holds a resource, and so above that resource's ceiling. (Where nobody runs,
+-- nothing is held.)
 module _ (c : Config) (ok : Accepted c) (shaped : Shaped c) (es : List Event) where
   standing : Sim c (planOf c) (rankOf c) (reached c es) (after c (fresh c) es)
   standing = after-sim (fitted c ok shaped) es (fresh-sim (fitted c ok shaped))
 
   pub holder-below : (i r : ℕ) → i ≢ caller c (after c (fresh c) es) → among r (bodyOf (after c (fresh c) es) i .held) ≡ true
-      → current c i (bodyOf (after c (fresh c) es) i) < priorityOf c (caller c (after c (fresh c) es))
+      → current c i (bodyOf (after c (fresh c) es) i) < triggerOf c (caller c (after c (fresh c) es))
   holder-below = Holders.holder-below (fitted c ok shaped) standing
 
   pub ceiling-below : (i r : ℕ) → i ≢ caller c (after c (fresh c) es) → among r (bodyOf (after c (fresh c) es) i .held) ≡ true
-      → ceiling c r < priorityOf c (caller c (after c (fresh c) es))
+      → ceiling c r < triggerOf c (caller c (after c (fresh c) es))
   ceiling-below = Holders.ceiling-below (fitted c ok shaped) standing
 
   -- "a declared basic task or ISR is refused a resource only when it holds that resource itself": with status 1
@@ -121,27 +123,30 @@ module _ (c : Config) (ok : Accepted c) (shaped : Shaped c) (es : List Event) (t
   long : length (dues c (after c (fresh c) es)) ≡ planOf c .count
   long = dues-long c (planOf c) (rankOf c) (fitted c ok shaped) (after c (fresh c) es) (sim .timed .tables-long)
 
+  keeps : Keeps c (after c (fresh c) es)
+  keeps = keeps-of (fitted c ok shaped) (sim .orderly)
+
   -- "an entry at offset o has first delay D = d + o; its counter becomes (P − 1 − D) modulo 65,536 and its switch goes on"
   pub start-cell : (d : ℕ) → firstOf c t ≤ e → e < firstOf c (suc t)
       → cellIn (planOf c) (effectOf c (planOf c) (reached c es) (Start t d) .model) e ≡ startCell (getD (c .period) t 0) (d + getD (c .offset) e 0)
   unfolding effectOf
-  start-cell d = Tables.start-cell (fitted c ok shaped) sim long t d e t<
+  start-cell d = Tables.start-cell (fitted c ok shaped) sim keeps long t d e t<
 
   pub start-other : (d u : ℕ) → u < c .tables → u ≢ t → firstOf c u ≤ e → e < firstOf c (suc u)
       → cellIn (planOf c) (effectOf c (planOf c) (reached c es) (Start t d) .model) e ≡ cellIn (planOf c) (reached c es) e
   unfolding effectOf
-  start-other d = Tables.start-other (fitted c ok shaped) sim long t d e t<
+  start-other d = Tables.start-other (fitted c ok shaped) sim keeps long t d e t<
 
   -- "Stop switches the table's cells off and sets their counters to 0"
   pub stop-cell : firstOf c t ≤ e → e < firstOf c (suc t)
       → cellIn (planOf c) (effectOf c (planOf c) (reached c es) (Stop t) .model) e ≡ stopped (cellIn (planOf c) (reached c es) e)
   unfolding effectOf
-  stop-cell = Tables.stop-cell (fitted c ok shaped) sim long t e t<
+  stop-cell = Tables.stop-cell (fitted c ok shaped) sim keeps long t e t<
 
   pub stop-other : (u : ℕ) → u < c .tables → u ≢ t → firstOf c u ≤ e → e < firstOf c (suc u)
       → cellIn (planOf c) (effectOf c (planOf c) (reached c es) (Stop t) .model) e ≡ cellIn (planOf c) (reached c es) e
   unfolding effectOf
-  stop-other = Tables.stop-other (fitted c ok shaped) sim long t e t<
+  stop-other = Tables.stop-other (fitted c ok shaped) sim keeps long t e t<
 
 -- a refused event leaves m
 attempt-same : (m : Model) (st : ℕ) (o : Outcome) → o .status ≡ done → attempt m st o .status ≢ done → attempt m st o .model ≡ m
@@ -158,7 +163,11 @@ effect-done c p m Finish = refl
 effect-done c p m (Chain t) = refl
 effect-done c p m (Get r) = refl
 effect-done c p m (Release r) = refl
-effect-done c p m Tick = refl
+effect-done c p m Tick = go (isTriggered (p .priority) (p .timed) (ticking (p .compare) (p .entry) m .core))
+  where
+    go : (b : Bool) → cond b (doneWith (launching (ticking (p .compare) (p .entry) m)) true) (settled (p .priority) (ticking (p .compare) (p .entry) m)) .status ≡ done
+    go true = refl
+    go false = refl
 effect-done c p m (Line i) = refl
 effect-done c p m (Start t d) = refl
 effect-done c p m (Stop t) = refl

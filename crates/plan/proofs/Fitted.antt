@@ -19,6 +19,8 @@ use Rattle.config.proofs.Theorems as Configuration
 use Rattle.plan.proofs.Theorems as Plan
 
 pub record Fitted (c : Config) (p : Plan) (rk : ℕ → ℕ) : Type 0 where
+  pub accepted : Accepted c
+  pub shaped : Shaped c
   pub few : c .bodies ≤ maxBodies
   pub body-rank : (b : ℕ) → b < c .bodies → getD (p .rank) b noRank ≡ rk b
   pub rank-none : (b : ℕ) → c .bodies ≤ b → getD (p .rank) b noRank ≡ noRank
@@ -64,6 +66,8 @@ pub record Fitted (c : Config) (p : Plan) (rk : ℕ → ℕ) : Type 0 where
 pub fitted : (c : Config) → Accepted c → Shaped c → Fitted c (planOf c) (rankOf c)
 fitted c ok shaped =
     record {
+      accepted = ok;
+      shaped = shaped;
       few = ok .few-bodies;
       body-rank = Plan.body-rank c ok shaped;
       rank-none = Plan.rank-none c ok shaped;

@@ -1,6 +1,7 @@
 -- An event is accepted exactly if none of its checks fails, and what each accepted call tells of the state that it meets.
 --
--- In order: a list of checks; that each event's checks give statuses other than 0; the accepted calls one by one. Assumes nothing.
+-- In order: a list of checks; that each event's checks give statuses other than 0; what a time-triggered task may call, and the calls that
+-- name one; the accepted calls one by one. Assumes nothing.
 use Prim.Native.Nat.{ℕ, _+_, _≤_, _<_}
 use mathlib.Core.Path.{_≡_, refl, sym, ap, _∙_}
 use mathlib.Core.Bool.{Bool, true, false, true≢false, cond, not, _&&_, _||_, and-true}
@@ -103,6 +104,83 @@ inactive s t e = go (bodyOf s t .phase) e
     go (waiting w) e = absurd (true≢false e)
     go (triggered x) e = absurd (true≢false e)
 
+-- the nine calls that a time-triggered task may not make: "no call but Finish"
+abbrev pub isBarred : Event → Bool
+isBarred (Activate t) = true
+isBarred Finish = false
+isBarred (Chain t) = true
+isBarred (Get r) = true
+isBarred (Release r) = true
+isBarred Tick = false
+isBarred (Line i) = false
+isBarred (Start t d) = true
+isBarred (Stop t) = true
+isBarred (Wait w) = true
+isBarred (Set t w) = true
+isBarred (Clear w) = true
+
+module _ (c : Config) (s : State) where
+  timed-bars : (j : ℕ) (js : List ℕ) → s .order ≡ j ∷ js → noCaller (runner c s) ≡ true
+  timed-bars j js e = ap noCaller (runner-timed c s j js e)
+
+  pub timed-refused : (j : ℕ) (js : List ℕ) → s .order ≡ j ∷ js → (e : Event) → isBarred e ≡ true → step c s e .seen .status ≡ 2
+  unfolding stepBy firstGiven
+  timed-refused j js o (Activate t) b = rw (timed-bars j js o)
+  timed-refused j js o Finish b = absurd (true≢false (sym b))
+  timed-refused j js o (Chain t) b = rw (timed-bars j js o)
+  timed-refused j js o (Get r) b = rw (timed-bars j js o)
+  timed-refused j js o (Release r) b = rw (timed-bars j js o)
+  timed-refused j js o Tick b = absurd (true≢false (sym b))
+  timed-refused j js o (Line i) b = absurd (true≢false (sym b))
+  timed-refused j js o (Start t d) b = rw (timed-bars j js o)
+  timed-refused j js o (Stop t) b = rw (timed-bars j js o)
+  timed-refused j js o (Wait w) b = rw (timed-bars j js o)
+  timed-refused j js o (Set t w) b = rw (timed-bars j js o)
+  timed-refused j js o (Clear w) b = rw (timed-bars j js o)
+
+  -- so where one of them is accepted, none is started
+  pub accepted-untimed : (e : Event) → isBarred e ≡ true → AcceptedIn c s e → s .order ≡ []
+  accepted-untimed e b a = go (s .order) refl
+    where
+      go : (js : List ℕ) → s .order ≡ js → js ≡ []
+      go [] o = refl
+      go (j ∷ js) o = absurd (omega (arith, a, timed-refused j js o e b))
+
+  -- Finish is open to it
+  pub timed-finish : (j : ℕ) (js : List ℕ) → s .order ≡ j ∷ js → step c s Finish .seen .status ≢ 2
+  unfolding stepBy firstGiven
+  timed-finish j js o = rw (ap isNobody (runner-timed c s j js o)) (go (holds (calling c s .held)))
+    where
+      go : (b : Bool) → _≢_ {A = ℕ} (cond b 6 0) 2
+      go true h = omega arith
+      go false h = omega arith
+
+-- what the calls that name a time-triggered task give, where somebody may call
+module _ (c : Config) (s : State) (free : noCaller (runner c s) ≡ false) (t : ℕ) (timed : isTimed c t ≡ true) where
+  no-osek : isOsekTask c t ≡ false
+  no-osek = ap (λ (b : Bool). isTask c t && not b) timed ∙ never (isTask c t)
+    where
+      never : (b : Bool) → b && false ≡ false
+      never true = refl
+      never false = refl
+
+  pub timed-activate : step c s (Activate t) .seen .status ≡ 3
+  unfolding stepBy firstGiven
+  timed-activate = rw (free, no-osek)
+
+  pub timed-set : (w : ℕ) → step c s (Set t w) .seen .status ≡ 1
+  unfolding stepBy firstGiven
+  timed-set w = rw (free, is-task, no-extended)
+    where
+      here : (ltb t (c .bodies) ≡ true) × (getD (c .kind) t 0 ≡ 3)
+      here = let p = Cases.and-true (ltb t (c .bodies)) (eqb (getD (c .kind) t 0) 3) timed in (p .0, eqb-true (getD (c .kind) t 0) 3 (p .1))
+
+      is-task : isTask c t ≡ true
+      is-task = rw (here .0, here .1)
+
+      no-extended : isExtended c t ≡ false
+      no-extended = rw (here .0, here .1)
+
 module _ (c : Config) (s : State) where
   -- somebody runs whom the call is open to
   someone : noCaller (runner c s) ≡ false → nobodyRuns c s ≡ false
@@ -186,83 +264,8 @@ module _ (c : Config) (s : State) where
       let p = all-passed _ (omega arith) e in
       (someone (p .0), not-false (isExtended c (caller c s)) (p .1 .0))
 
--- the nine calls that a time-triggered task may not make: "no call but Finish"
-abbrev pub isBarred : Event → Bool
-isBarred (Activate t) = true
-isBarred Finish = false
-isBarred (Chain t) = true
-isBarred (Get r) = true
-isBarred (Release r) = true
-isBarred Tick = false
-isBarred (Line i) = false
-isBarred (Start t d) = true
-isBarred (Stop t) = true
-isBarred (Wait w) = true
-isBarred (Set t w) = true
-isBarred (Clear w) = true
-
-module _ (c : Config) (s : State) where
-  timed-bars : (j : ℕ) (js : List ℕ) → s .order ≡ j ∷ js → noCaller (runner c s) ≡ true
-  timed-bars j js e = ap noCaller (runner-timed c s j js e)
-
-  pub timed-refused : (j : ℕ) (js : List ℕ) → s .order ≡ j ∷ js → (e : Event) → isBarred e ≡ true → step c s e .seen .status ≡ 2
-  unfolding stepBy firstGiven
-  timed-refused j js o (Activate t) b = rw (timed-bars j js o)
-  timed-refused j js o Finish b = absurd (true≢false (sym b))
-  timed-refused j js o (Chain t) b = rw (timed-bars j js o)
-  timed-refused j js o (Get r) b = rw (timed-bars j js o)
-  timed-refused j js o (Release r) b = rw (timed-bars j js o)
-  timed-refused j js o Tick b = absurd (true≢false (sym b))
-  timed-refused j js o (Line i) b = absurd (true≢false (sym b))
-  timed-refused j js o (Start t d) b = rw (timed-bars j js o)
-  timed-refused j js o (Stop t) b = rw (timed-bars j js o)
-  timed-refused j js o (Wait w) b = rw (timed-bars j js o)
-  timed-refused j js o (Set t w) b = rw (timed-bars j js o)
-  timed-refused j js o (Clear w) b = rw (timed-bars j js o)
-
-  -- so where one of them is accepted, none is started
-  pub accepted-untimed : (e : Event) → isBarred e ≡ true → AcceptedIn c s e → s .order ≡ []
-  accepted-untimed e b a = go (s .order) refl
-    where
-      go : (js : List ℕ) → s .order ≡ js → js ≡ []
-      go [] o = refl
-      go (j ∷ js) o = absurd (omega (arith, a, timed-refused j js o e b))
-
-  -- Finish is open to it
-  pub timed-finish : (j : ℕ) (js : List ℕ) → s .order ≡ j ∷ js → step c s Finish .seen .status ≢ 2
-  unfolding stepBy firstGiven
-  timed-finish j js o = rw (ap isNobody (runner-timed c s j js o)) (go (holds (calling c s .held)))
-    where
-      go : (b : Bool) → _≢_ {A = ℕ} (cond b 6 0) 2
-      go true h = omega arith
-      go false h = omega arith
-
--- what the calls that name a time-triggered task give, where somebody may call
+-- Chain naming a time-triggered task
 module _ (c : Config) (s : State) (free : noCaller (runner c s) ≡ false) (t : ℕ) (timed : isTimed c t ≡ true) where
-  no-osek : isOsekTask c t ≡ false
-  no-osek = ap (λ (b : Bool). isTask c t && not b) timed ∙ never (isTask c t)
-    where
-      never : (b : Bool) → b && false ≡ false
-      never true = refl
-      never false = refl
-
-  pub timed-activate : step c s (Activate t) .seen .status ≡ 3
-  unfolding stepBy firstGiven
-  timed-activate = rw (free, no-osek)
-
   pub timed-chain : isIsr c (caller c s) ≡ false → step c s (Chain t) .seen .status ≡ 3
   unfolding stepBy firstGiven
-  timed-chain task = rw (free, task, no-osek)
-
-  pub timed-set : (w : ℕ) → step c s (Set t w) .seen .status ≡ 1
-  unfolding stepBy firstGiven
-  timed-set w = rw (free, is-task, no-extended)
-    where
-      here : (ltb t (c .bodies) ≡ true) × (getD (c .kind) t 0 ≡ 3)
-      here = let p = Cases.and-true (ltb t (c .bodies)) (eqb (getD (c .kind) t 0) 3) timed in (p .0, eqb-true (getD (c .kind) t 0) 3 (p .1))
-
-      is-task : isTask c t ≡ true
-      is-task = rw (here .0, here .1)
-
-      no-extended : isExtended c t ≡ false
-      no-extended = rw (here .0, here .1)
+  timed-chain task = rw (free, task, no-osek c s free t timed)

@@ -296,6 +296,10 @@ module _ (q : Tie) (unasked : q nobody ≡ false) (c : Config) (bs : List Body) 
 
 -- a started time-triggered task goes before all others, the latest first
 module _ (c : Config) (s : State) where
+  -- "one common execution level 201"
+  pub timed-level : (j : ℕ) (js : List ℕ) → s .order ≡ j ∷ js → runner c s .level ≡ 201
+  timed-level j js e = ap (λ (l : List ℕ). latestOf (s .bodies) l (chosen c (s .bodies)) .level) e
+
   pub runner-timed : (j : ℕ) (js : List ℕ) → s .order ≡ j ∷ js → runner c s ≡ latestOf (s .bodies) (j ∷ js) (chosen c (s .bodies))
   runner-timed j js e = ap (λ (l : List ℕ). latestOf (s .bodies) l (chosen c (s .bodies))) e
 

@@ -55,6 +55,13 @@ none-due zero k = refl
 none-due (suc n) zero = refl
 none-due (suc n) (suc k) = none-due n k
 
+-- each entry has a mark
+pub length-dues : (c : Config) (s : State) → length (s .tables) ≡ c .tables → length (dues c s) ≡ length (entriesOf c)
+length-dues c s fits =
+    ap length (duesFrom-entries c (s .tables) (s .tables) 0 refl)
+    ∙ length-map (entriesFrom c (length (s .tables)) 0) (dueIn (s .tables))
+    ∙ ap (λ n. length (entriesFrom c n 0)) fits
+
 module _ (c : Config) where
   -- the k-th mark of a Tick
   tick-mark : (s : State) (k : ℕ) → length (s .tables) ≡ c .tables → k < length (entriesOf c)

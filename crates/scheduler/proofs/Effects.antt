@@ -41,6 +41,16 @@ module _ (i : ℕ) (f : Body → Body) (s : State) where
 abbrev pub withOrder : List ℕ → State → State
 withOrder js s = record { bodies = s .bodies; tables = s .tables; order = js }
 
+-- a time-triggered task that is started is the latest, and leaves the order at its end; due while it is started it loses
+pub starting-latest : (t : ℕ) (s : State) → starting t s .order ≡ t ∷ s .order
+starting-latest t s = refl
+
+pub finish-latest : (i : ℕ) (s : State) → finishTimed i s .order ≡ rest (s .order)
+finish-latest i s = refl
+
+pub trigger-loses : (t : ℕ) (s : State) → isSuspended (bodyOf s t .phase) ≡ false → trigger t s ≡ changing t loses s
+trigger-loses t s h = rw h
+
 -- two events of different kinds are not equal
 pub clash : _≡_ {A = ℕ} 0 1 → ⊥
 clash e = omega arith

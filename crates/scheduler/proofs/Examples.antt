@@ -249,3 +249,66 @@ extended-examples =
       due-while-waiting = refl;
       due-while-waiting-losses = refl;
     }
+
+-- Task 0 of priority 4, which is autostart; 1 and 2 are time-triggered, 3 an ISR of priority 9, 4 an extended task of priority 6. Resource 0
+-- has the users 0 and 4, so the ceiling 6. Table 0 has period 10, and task 1 at the offsets 1 and 6, task 2 at 3; table 1 has period 10, and
+-- task 4 at 0.
+unfoldable pub timedTasks : Config
+timedTasks =
+    readConfig (1 ∷ 5 ∷ 0 ∷ 4 ∷ 1 ∷ 3 ∷ 1 ∷ 0 ∷ 3 ∷ 2 ∷ 0 ∷ 1 ∷ 9 ∷ 0 ∷ 2 ∷ 6 ∷ 0 ∷ 1 ∷ 17 ∷ 2 ∷ 10 ∷ 3 ∷ 1 ∷ 1 ∷ 3 ∷ 2 ∷ 6 ∷ 1 ∷ 10 ∷ 1 ∷ 0 ∷ 4 ∷ [])
+    .config
+
+-- started with delay 1, the entries of table 0 are due at the Ticks 2, 4 and 7, and 10 later again
+abbrev dispatcherRound : List Event
+dispatcherRound =
+    Start 0 1 ∷ Tick ∷ Tick ∷ Activate 4 ∷ Line 3 ∷ Tick ∷ Tick ∷ Tick ∷ Tick ∷ Tick ∷ Finish ∷ Finish ∷ Finish ∷ Stop 0 ∷ []
+
+-- what a time-triggered task may not call: with wrong arguments, and with such that a task could give
+abbrev calledByTimed : List Event
+calledByTimed =
+    Activate 9 ∷ Chain 9 ∷ Get 9 ∷ Release 9 ∷ Start 9 0 ∷ Stop 9 ∷ Wait 0 ∷ Set 9 0 ∷ Clear 0 ∷ Activate 4 ∷ Chain 4 ∷ Get 0 ∷ Release 0 ∷ Start 1 1
+    ∷ Stop 0 ∷ Wait 1 ∷ Set 4 1 ∷ Clear 1 ∷ []
+
+pub record TimedExamples : Type 0 where
+  -- 1 preempts task 0 at level 201, begun mark 1, and 2 preempts 1; a call is 2; the Line begins after both, and 1 is resumed with mark 0; at
+  -- the seventh Tick 1 is due while it is started
+  pub round : rows timedTasks dispatcherRound
+      ≡ row 0 0 4 0 ∷ row 0 0 4 0 ∷ row 0 1 201 1 ∷ row 2 1 201 0 ∷ row 0 1 201 0 ∷ row 0 1 201 0 ∷ row 0 2 201 1 ∷ row 0 2 201 0 ∷ row 0 2 201 0
+      ∷ row 0 2 201 0 ∷ row 0 1 201 0 ∷ row 0 3 9 1 ∷ row 0 0 4 0 ∷ row 0 0 4 0 ∷ []
+  pub round-losses : lossesSeen timedTasks dispatcherRound
+      ≡ replicate 9 (0 ∷ 0 ∷ 0 ∷ 0 ∷ 0 ∷ []) ++ replicate 5 (0 ∷ 1 ∷ 0 ∷ 0 ∷ 0 ∷ [])
+  -- each begins from its start at each of its entries, and again a period later
+  pub round-again : rows timedTasks (Start 0 1 ∷ Tick ∷ Tick ∷ Finish ∷ Tick ∷ Tick ∷ Finish ∷ Tick ∷ Tick ∷ Tick ∷ Finish ∷ Tick ∷ Tick ∷ Tick ∷ Tick ∷ Tick ∷ [])
+      ≡ row 0 0 4 0 ∷ row 0 0 4 0 ∷ row 0 1 201 1 ∷ row 0 0 4 0 ∷ row 0 0 4 0 ∷ row 0 2 201 1 ∷ row 0 0 4 0 ∷ row 0 0 4 0 ∷ row 0 0 4 0
+      ∷ row 0 1 201 1 ∷ row 0 0 4 0 ∷ row 0 0 4 0 ∷ row 0 0 4 0 ∷ row 0 0 4 0 ∷ row 0 0 4 0 ∷ row 0 1 201 1 ∷ []
+  -- all nine calls are 2, whatever else applies, and Finish is not
+  pub timed-caller : rows timedTasks (Start 0 1 ∷ Tick ∷ Tick ∷ calledByTimed ++ Finish ∷ [])
+      ≡ row 0 0 4 0 ∷ row 0 0 4 0 ∷ row 0 1 201 1 ∷ replicate 18 (row 2 1 201 0) ++ row 0 0 4 0 ∷ []
+  -- Activate and Chain may not name one: 3; Set gives 1, though it is suspended too; it is no ISR: 3. An ISR may not chain: 2 before 3
+  pub timed-named : rows timedTasks (Activate 1 ∷ Chain 1 ∷ Set 1 1 ∷ Line 1 ∷ Line 3 ∷ Activate 2 ∷ Chain 2 ∷ Set 2 1 ∷ Finish ∷ [])
+      ≡ row 3 0 4 0 ∷ row 3 0 4 0 ∷ row 1 0 4 0 ∷ row 3 0 4 0 ∷ row 0 3 9 1 ∷ row 3 3 9 0 ∷ row 2 3 9 0 ∷ row 1 3 9 0 ∷ row 0 0 4 0 ∷ []
+  -- a second Line while 1 runs is 4, and both an ISR and a holder of a resource are preempted
+  pub timed-above : rows timedTasks (Get 0 ∷ Start 0 1 ∷ Line 3 ∷ Tick ∷ Tick ∷ Line 3 ∷ Line 3 ∷ Finish ∷ Finish ∷ Finish ∷ Release 0 ∷ [])
+      ≡ row 0 0 6 0 ∷ row 0 0 6 0 ∷ row 0 3 9 1 ∷ row 0 3 9 0 ∷ row 0 1 201 1 ∷ row 0 1 201 0 ∷ row 4 1 201 0 ∷ row 0 3 9 0 ∷ row 0 3 9 1
+      ∷ row 0 0 6 0 ∷ row 0 0 4 0 ∷ []
+  -- at one Tick task 4 becomes ready and 1 starts, and is alone in beginning; 4 begins after it. A Wait of 4 does not hold 2 up
+  pub mixed-mode : rows timedTasks (Start 1 2 ∷ Start 0 1 ∷ Tick ∷ Tick ∷ Finish ∷ Wait 1 ∷ Tick ∷ Tick ∷ Finish ∷ Set 4 1 ∷ [])
+      ≡ row 0 0 4 0 ∷ row 0 0 4 0 ∷ row 0 0 4 0 ∷ row 0 1 201 1 ∷ row 0 4 6 1 ∷ row 0 0 4 0 ∷ row 0 0 4 0 ∷ row 0 2 201 1 ∷ row 0 0 4 0
+      ∷ row 0 4 6 0 ∷ []
+  -- where nobody runs, and nobody after it
+  pub timed-idle : rows timedTasks (Start 0 1 ∷ Finish ∷ Tick ∷ Tick ∷ Finish ∷ Finish ∷ [])
+      ≡ row 0 0 4 0 ∷ row 0 255 0 0 ∷ row 0 255 0 0 ∷ row 0 1 201 1 ∷ row 0 255 0 0 ∷ row 2 255 0 0 ∷ []
+
+pub timed-examples : TimedExamples
+unfolding timedTasks readConfig readFrom readNumber groups continued fifthGroup faultAt putAt ended occurs timedIn someTimed greatestIn entriesBefore due firstGiven candidate chosenFrom among heldIn counting entryDue duesFrom activatingDue anySet withBits withoutBits stepBy seenBy
+timed-examples =
+    record {
+      round = refl;
+      round-losses = refl;
+      round-again = refl;
+      timed-caller = refl;
+      timed-named = refl;
+      timed-above = refl;
+      mixed-mode = refl;
+      timed-idle = refl;
+    }

@@ -16,4 +16,8 @@ pub mod Ties
 pub mod Dues
 pub mod Entries
 pub mod Timed
+pub mod Distinct
+pub mod Placed
+pub mod Trigger
+pub mod Order
 pub mod Users

@@ -2,37 +2,24 @@
 --
 -- Only a due entry adds to the order, and only the number of a time-triggered task. Assumes nothing.
 use Prim.Native.Nat.{ℕ, _<_}
-use mathlib.Core.Path.{_≡_, refl, sym, ap, _∙_}
-use mathlib.Core.Bool.{Bool, true, false, true≢false, cond, _||_}
+use mathlib.Core.Path.{_≡_}
+use mathlib.Core.Bool.{true}
 use mathlib.Core.List.{List, [], _∷_}
-use borrow.Author.Tests.{ltb-true, eq-eqb, ne-eqb}
+use borrow.Author.Tests.{ltb-true, ne-eqb}
 use lib.Dec.{ltb, eqb}
 use lib.ListN.{getD}
 use Rattle.number.proofs.Cases.{by-test, by-eq, and-true}
 use Rattle.config.specs.declared.Config.{Config}
 use Rattle.config.specs.Meaning.{isTimed, timeTriggered}
 use Rattle.scheduler.specs.Status.{done}
-use Rattle.scheduler.specs.Body.{isSuspended, rest, loses, activatedByEntry}
+use Rattle.scheduler.specs.Body.{isSuspended, loses}
 use Rattle.scheduler.specs.State.{State, bodyOf, changing, runner, among}
 use Rattle.scheduler.specs.Event.{Event, Activate, Finish, Chain, Get, Release, Tick, Line, Start, Stop, Wait, Set, Clear}
-use Rattle.scheduler.specs.Tick.{counted, dues, starting, trigger, enter}
+use Rattle.scheduler.specs.Tick.{counted, dues, starting, enter}
 use Rattle.scheduler.specs.Call.{caller, finish, finishTimed, statusOf, effectOf, refusalOf}
 use Rattle.scheduler.specs.Scheduler.{dispatched, unstarted, leaves, step, stepBy, fresh, after, afterBy}
+use Rattle.scheduler.proofs.Distinct.{none-among, among-rest}
 use Rattle.scheduler.proofs.Effects.{enters-keep, dispatched-keeps, refusalOf-keeps, cond-either}
-
--- what is left of a list stood in it
-pub among-rest : (j : ℕ) (js : List ℕ) → among j (rest js) ≡ true → among j js ≡ true
-unfolding among
-among-rest j [] h = h
-among-rest j (x ∷ xs) h = rw h (or-true (eqb j x))
-  where
-    or-true : (b : Bool) → b || true ≡ true
-    or-true true = refl
-    or-true false = refl
-
-pub none-among : {C : Type 0} (j : ℕ) → among j [] ≡ true → C
-unfolding among
-none-among j h = absurd (true≢false (sym h))
 
 pub timed-body : (c : Config) (t : ℕ) → isTimed c t ≡ true → t < c .bodies
 timed-body c t h = ltb-true t (c .bodies) (and-true (ltb t (c .bodies)) (eqb (getD (c .kind) t 0) timeTriggered) h .0)

@@ -14,6 +14,7 @@ use lib.ListN.{length, getD, set, List·getD-map}
 use lib.Seq.{set-getD, set-out, map-set-same}
 use Rattle.number.proofs.Cases.{by-test, by-lt}
 use Rattle.config.specs.declared.Config.{Config}
+use Rattle.config.specs.Meaning.{executionLevel}
 use Rattle.scheduler.specs.Status.{done, limitReached}
 use Rattle.scheduler.specs.Body.{Phase, suspended, ready, started, waiting, triggered, isStarted, hasBegun, competes, Body, holds, current, become, mostLosses, loses}
 use Rattle.scheduler.specs.Choice.{Candidate, isNobody, candidate, byHolding, goesBefore, preferred, chosen}
@@ -144,7 +145,7 @@ module _ (c : Config) (s : State) (j : ℕ) (js : List ℕ) (latest : s .order �
         ∙ sym (ap onceBegun is ∙ ap it (ap (λ (x : Candidate). x .began || begins x) (sym is) ∙ begun-or (runner c s) begin))
       where
         it : Bool → Candidate
-        it b = record { number = j; level = 201; began = b; holder = false; timed = true }
+        it b = record { number = j; level = executionLevel; began = b; holder = false; timed = true }
 
         is : runner c s ≡ it (hasBegun (bodyOf s j .phase))
         is = runner-timed c s j js latest
@@ -270,7 +271,7 @@ module _ (c : Config) where
       go : (js : List ℕ) → latestOf (changing i loses s .bodies) js (chosen c (s .bodies)) ≡ latestOf (s .bodies) js (chosen c (s .bodies))
       go [] = refl
       go (j ∷ js) =
-          ap (λ (p : Phase). record { number = j; level = 201; began = hasBegun p; holder = false; timed = true }) (phase-same j)
+          ap (λ (p : Phase). record { number = j; level = executionLevel; began = hasBegun p; holder = false; timed = true }) (phase-same j)
 
   pub lost-line : (s : State) (i : ℕ) → Settled c s → LostLine c s (Line i) i → step c s (Line i) .state ≡ changing i loses s
   unfolding stepBy

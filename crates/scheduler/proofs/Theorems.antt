@@ -5,16 +5,16 @@
 -- of what an accepted call finds; `Examples` are worked lists of events. Assumes nothing.
 use Prim.Native.Nat.{ℕ, suc, _+_, _≤_, _<_, max}
 use mathlib.Core.Path.{_≡_, refl, ap, _∙_}
-use mathlib.Core.Bool.{true, false, not, _&&_, _||_}
+use mathlib.Core.Bool.{Bool, true, false, not, _&&_, _||_}
 use mathlib.Core.List.{List, [], _∷_, _++_, map}
-use mathlib.Core.Logic.{_≢_, _↔_, _⊎_}
+use mathlib.Core.Logic.{_≢_, _↔_, _⊎_, inl, inr}
 use native.Mathlib.Omega.{arith}
 use lib.ListN.{length, getD, take}
 use Rattle.config.specs.declared.Config.{Config}
 use Rattle.config.specs.Meaning.{isIsr, isExtended, isTimed, isUser, priorityOf, ceiling, firstOf}
 use Rattle.config.specs.Accepted as Configuration
 use Rattle.scheduler.specs.Status.{Check, done, NoneFails}
-use Rattle.scheduler.specs.Body.{Body, suspended, waiting, isSuspended, isStarted, hasBegun, competes, resumed, holds, current, activated, triggers, losing, loses, gets, releases}
+use Rattle.scheduler.specs.Body.{Body, suspended, waiting, triggered, isSuspended, isStarted, hasBegun, competes, resumed, holds, current, activated, triggers, losing, loses, gets, releases}
 use Rattle.scheduler.specs.Bits.{bitSet, anySet, withBits, withoutBits}
 use Rattle.scheduler.specs.Choice.{Candidate, nobody, isNobody, candidate, byHolding, byBegun, goesBefore}
 use Rattle.scheduler.specs.State.{State, Table, stopped, running, bodyOf, tableOf, changing, runner, among}
@@ -38,6 +38,7 @@ use Rattle.scheduler.proofs.Tables as Tables
 use Rattle.scheduler.proofs.Dues as Dues
 use Rattle.scheduler.proofs.Entries as Entries
 use Rattle.scheduler.proofs.Timed as Timed
+use Rattle.scheduler.proofs.Order as Order
 
 -- what the body k is to the choice
 abbrev pub candidateOf : Config → State → ℕ → Candidate
@@ -271,6 +272,48 @@ settled c s e = Refusals.settled-named c (step c s e .state) (Refusals.settled-s
 
 pub started-named : (c : Config) (es : List Event) (j : ℕ) → among j (after c (fresh c) es .order) ≡ true → j < c .bodies
 started-named c es = Named.named-after c es (fresh c) (Named.named-fresh c)
+
+-- so of a configuration that the reader accepts nobody is left to begin, after every list of events
+pub always-settled : (c : Config) → Configuration.Accepted c → Configuration.Shaped c → (es : List Event)
+    → begins (runner c (after c (fresh c) es)) ≡ false
+always-settled c ok shaped es =
+    Refusals.settled-named c (after c (fresh c) es) (Refusals.settled-after c es (fresh c) (Refusals.settled-fresh c))
+    (λ j h. rw (Order.orderly-after c ok shaped es (Order.orderly-fresh c ok shaped) .bodies-there) (started-named c es j h))
+
+-- The started time-triggered tasks, after every list of events: each is one, and has begun; whoever is triggered is among them, so none is
+-- ever seen that is triggered and has still to begin; there are at most 16
+pub started-timed : (c : Config) → Configuration.Accepted c → Configuration.Shaped c → (es : List Event) (j : ℕ)
+    → among j (after c (fresh c) es .order) ≡ true
+    → (isTimed c j ≡ true) × (bodyOf (after c (fresh c) es) j .phase ≡ triggered true)
+started-timed c ok shaped es j h =
+    let o = Order.orderly-after c ok shaped es (Order.orderly-fresh c ok shaped) in
+    (o .started-timed j h, o .started-begun j h)
+
+pub triggered-started : (c : Config) → Configuration.Accepted c → Configuration.Shaped c → (es : List Event) (i : ℕ) (x : Bool)
+    → bodyOf (after c (fresh c) es) i .phase ≡ triggered x
+    → among i (after c (fresh c) es .order) ≡ true
+triggered-started c ok shaped es = Order.orderly-after c ok shaped es (Order.orderly-fresh c ok shaped) .triggered-started
+
+pub begun-once : (c : Config) → Configuration.Accepted c → Configuration.Shaped c → (es : List Event) (i : ℕ)
+    → bodyOf (after c (fresh c) es) i .phase ≢ triggered false
+begun-once = Order.begun-once
+
+pub few-started : (c : Config) → Configuration.Accepted c → Configuration.Shaped c → (es : List Event) → length (after c (fresh c) es .order) ≤ 16
+few-started c ok shaped es = Order.few-started c ok shaped (Order.orderly-after c ok shaped es (Order.orderly-fresh c ok shaped))
+
+-- a Tick after every list of events starts one that was suspended, which is then the latest, or leaves the order
+pub tick-order : (c : Config) → Configuration.Accepted c → Configuration.Shaped c → (es : List Event)
+    → (ticked c (after c (fresh c) es) .order ≡ after c (fresh c) es .order)
+    ⊎ ((j : ℕ) × (ticked c (after c (fresh c) es) .order ≡ j ∷ after c (fresh c) es .order) × (isTimed c j ≡ true)
+    × (bodyOf (after c (fresh c) es) j .phase ≡ suspended))
+tick-order c ok shaped es = go (Order.tick-order c ok shaped (Order.orderly-after c ok shaped es (Order.orderly-fresh c ok shaped)))
+  where
+    go : Order.TickOrder c (after c (fresh c) es)
+        → (ticked c (after c (fresh c) es) .order ≡ after c (fresh c) es .order)
+        ⊎ ((j : ℕ) × (ticked c (after c (fresh c) es) .order ≡ j ∷ after c (fresh c) es .order) × (isTimed c j ≡ true)
+        × (bodyOf (after c (fresh c) es) j .phase ≡ suspended))
+    go (Order.order-same q o) = inl q
+    go (Order.starts j x) = inr (j, x .order-is, x .timed, x .was-suspended)
 
 -- "the task isn't suspended": an accepted Activate finds its task suspended, so a started one is never requested again
 pub activated-suspended : (c : Config) (s : State) (t : ℕ) → AcceptedIn c s (Activate t) → bodyOf s t .phase ≡ suspended

@@ -170,6 +170,10 @@ refusalOf c s st (Clear w) = s
 abbrev pub nobodyRuns : Config → State → Bool
 nobodyRuns c s = isNobody (runner c s)
 
+-- nobody runs who may call
+abbrev pub nobodyCalls : Config → State → Bool
+nobodyCalls c s = noCaller (runner c s)
+
 -- the number of the body that runs, and the body
 abbrev pub caller : Config → State → ℕ
 caller c s = runner c s .number

@@ -20,11 +20,12 @@ const ROUNDS: usize = 101;
 const CALLS: usize = 7;
 const SEED: u64 = 1;
 
-const SHAPES: [(Shape, &str); 4] = [
+const SHAPES: [(Shape, &str); 5] = [
     (Shape::NoTicks, "no ticks"),
     (Shape::Mixed, "mixed"),
     (Shape::Ticks, "ticks, 64 cells on"),
     (Shape::Waiting, "tasks that wait"),
+    (Shape::TimeTriggered, "time-triggered bodies"),
 ];
 
 /// The proved run first, if it is linked; then what it is held against.

@@ -160,6 +160,11 @@ impl Pieces {
             }
         };
         changed(&|other| other.rank());
+        // All time-triggered tasks at once: some alone would mix their table.
+        changed(&|other| {
+            let timed = other.objects.bodies.iter_mut().filter(|body| words::is_time_triggered(body.kind));
+            timed.for_each(|body| body.kind = KINDS[0].number);
+        });
         changed(&|other| other.shift_masks());
         for body in 0..self.objects.bodies.len() {
             changed(&|other| other.objects.bodies[body].autostart = 0);

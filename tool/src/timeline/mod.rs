@@ -7,13 +7,14 @@ pub mod svg;
 pub mod trace_events;
 pub mod vcd;
 
-use osek_tests::fast::{self, Kernel, NextDue};
+use osek_tests::fast::{self, Kernel, NextDue, EXECUTION_LEVEL};
 
 use crate::failure::Failure;
 use crate::input::Pair;
 use crate::layout::{self, Body, Event};
 use crate::names::Names;
 use crate::reference::{self, Answer, Run};
+use crate::words;
 
 /// The documents' states, with OSEK's words for a started body: it runs or is preempted, or waits for an event.
 #[derive(Clone, Copy, PartialEq, Eq, Debug)]
@@ -113,11 +114,22 @@ impl Timeline {
         step.checked_sub(1).map_or(&self.fresh, |before| &self.steps[before].after)
     }
 
-    /// The bodies, the greatest priority first.
+    /// The bodies, the greatest priority first; above them the time-triggered ones, which preempt all others.
     pub fn by_priority(&self) -> Vec<usize> {
         let mut bodies: Vec<usize> = (0..self.bodies.len()).collect();
-        bodies.sort_by_key(|body| std::cmp::Reverse(self.bodies[*body].priority));
+        let place = |body: &Body| (words::is_time_triggered(body.kind), body.priority);
+        bodies.sort_by_key(|body| std::cmp::Reverse(place(&self.bodies[*body])));
         bodies
+    }
+
+    /// At which priority a body runs that holds no resource: its own, or the level of time-triggered ones.
+    pub fn priority(&self, body: usize) -> u32 {
+        let Body { kind, priority, .. } = self.bodies[body];
+        if words::is_time_triggered(kind) {
+            EXECUTION_LEVEL.into()
+        } else {
+            priority
+        }
     }
 
     /// When each step happens, then the end. The n-th tick is at n times its length; the events between two ticks are
@@ -173,16 +185,17 @@ fn disagreement(place: &str) -> Failure {
 mod tests {
     use super::*;
     use crate::input::{Config, Source};
-    use crate::words;
     use osek_tests::cases;
     use std::collections::{BTreeMap, BTreeSet};
 
-    /// Whether a request of the body waits, by what the library answers if the body is asked for after the trace.
-    fn refused_at_its_limit(config: &[u8], trace: &[u8], body: usize, kind: u32) -> bool {
+    /// Whether a request of the body waits, by what the library answers if the body is asked for after the trace and the ends of
+    /// `timed` time-triggered bodies, which could not ask.
+    fn refused_at_its_limit(config: &[u8], trace: &[u8], timed: usize, body: usize, kind: u32) -> bool {
         const LIMIT: u8 = 4;
         let word = if words::kind(kind).is_some_and(|kind| kind.in_tables) { "activate" } else { "line" };
         let code = words::event_named(word).expect("it is an event").code;
-        let asked = [trace, &[code as u8, body as u8]].concat();
+        let finish = words::event_named("finish").expect("it is an event").code;
+        let asked = [trace, &vec![finish as u8; timed], &[code as u8, body as u8]].concat();
         let run = reference::run(config, &asked).expect("the run is accepted");
         run.answers.last().expect("it has an event").status == LIMIT
     }
@@ -233,8 +246,10 @@ mod tests {
                 let prefix = &case.trace[..step.event.end];
                 let so_far = reference::run(&case.config, prefix).expect("a prefix of events is accepted");
                 assert_eq!(step.after.losses, so_far.losses);
+                let is_timed = |body: &&usize| words::is_time_triggered(timeline.bodies[**body].kind);
+                let timed = started.iter().filter(is_timed).count();
                 for (body, state) in step.after.states.iter().enumerate() {
-                    let asked = || refused_at_its_limit(&case.config, prefix, body, timeline.bodies[body].kind);
+                    let asked = || refused_at_its_limit(&case.config, prefix, timed, body, timeline.bodies[body].kind);
                     let expected = match before {
                         _ if waited.contains_key(&body) => State::Waiting,
                         None => State::Suspended,

@@ -48,7 +48,7 @@ fn names(timeline: &Timeline) -> Vec<String> {
         called("process_name", BODIES, 0, "bodies"),
     ];
     for (place, body) in timeline.by_priority().into_iter().enumerate() {
-        let name = format!("{} (priority {})", timeline.names.body(body as u32), timeline.bodies[body].priority);
+        let name = format!("{} (priority {})", timeline.names.body(body as u32), timeline.priority(body));
         events.push(called("thread_name", BODIES, body, &name));
         let order = json::object(&[("sort_index", place.to_string())]);
         events.push(event("M", "thread_sort_index", BODIES, body, &[("args", order)]));

@@ -23,7 +23,7 @@ type Planted = (&'static str, usize, usize, &'static str);
 
 #[test]
 fn planted_faults_are_found_made_small_and_told() {
-    let faults: [Planted; 15] = [
+    let faults: [Planted; 18] = [
         ("limit_is_id", 14, 8, ": status 4 E_OS_LIMIT expected, 3 E_OS_ID given"),
         ("ceiling_not_shown", 18, 10, "Get resource0: level "),
         ("second_request_lost", 14, 10, ": status 0 E_OK expected, 4 E_OS_LIMIT given"),
@@ -32,6 +32,9 @@ fn planted_faults_are_found_made_small_and_told() {
         ("release_ends_the_body", 16, 10, "Release resource0: runner "),
         ("set_bit_forgotten", 24, 24, "Wait 0x1: runner extended"),
         ("resumed_begins", 16, 10, ": begun 0 expected, 1 given"),
+        ("first_start_first", 24, 12, "Tick: runner timed"),
+        ("trigger_level_shown", 18, 8, "Tick: level 201 expected, 202 given"),
+        ("triggered_loss_forgotten", 18, 12, ": 1 expected, 0 given"),
         ("losses_high_byte_first", 18, 12, "losses of body"),
         ("idle_as_255", 10, 4, ": runner - expected, 255 given"),
         ("unknown_code_one_later", 10, 4, "refusal 23 at place "),

@@ -40,7 +40,11 @@ fn each_refusal_of_the_configuration_is_a_sentence() {
         (damaged(11, &[17]), "4 11", "offset 11: the resource count is 17. Allowed: 0 to 16."),
         (damaged(13, &[9]), "4 13", "offset 13: the table count is 9. Allowed: 0 to 8."),
         (damaged(15, &[0]), "4 15", "offset 15: the entry count of table 0 table0 is 0. Allowed: 1 to 16."),
-        (damaged(2, &[3]), "5 2", "offset 2: the kind of body 0 body0 is 3. Allowed: 0 (task), 1 (ISR) or 2 (extended task)."),
+        (
+            damaged(2, &[4]),
+            "5 2",
+            "offset 2: the kind of body 0 body0 is 4. Allowed: 0 (task), 1 (ISR), 2 (extended task) or 3 (time-triggered task).",
+        ),
         (damaged(3, &[0xc9, 1]), "5 3", "offset 3: the priority of body 0 task0 is 201. Allowed: 1 to 200, each used once."),
         (damaged(4, &[2]), "5 4", "offset 4: the autostart of body 0 task0 is 2. Allowed: 0 or 1."),
         (damaged(10, &[1]), "5 10", "offset 10: the autostart of body 2 isr2 is 1. Allowed: 0, because it is an ISR."),
@@ -81,6 +85,75 @@ fn each_refusal_of_the_configuration_is_a_sentence() {
         assert_eq!((said.code, said.err.as_str()), (Some(1), ""));
         assert_eq!(refusal.starts_with("10 "), lines.len() == 2, "{}", said.out);
     }
+}
+
+#[test]
+fn what_is_refused_of_a_time_triggered_task_is_a_sentence() {
+    let bodies =
+        "version 1\ntask low priority 1 autostart\ntimed one priority 2\ntimed two priority 3\ntask high priority 4\n";
+    let cases = [
+        (
+            bodies.replace("timed one priority 2", "timed one priority 2 autostart"),
+            "5 7",
+            "3:22: the autostart of body 1 one is 1. Allowed: 0, because it is a time-triggered task.",
+        ),
+        (
+            format!("{bodies}resource flash users low two\n"),
+            "5 15",
+            "6:1: the users of resource 0 flash is 5. Allowed: a mask with bits of the bodies 0 to 3 only, none of a time-triggered task, and not 0.",
+        ),
+        (
+            format!("{bodies}table round period 9\nat 3 one\nat 3 two\n"),
+            "13 21",
+            "8:6: the task of entry 1 of table 0 round is 2. Allowed: an offset of its own for each time-triggered task; one and two share 3, and two is one.",
+        ),
+        (
+            format!("{bodies}table round period 9\nat 3 one\nat 3 high\n"),
+            "13 21",
+            "8:6: the task of entry 1 of table 0 round is 3. Allowed: an offset of its own for each time-triggered task; one and high share 3, and one is one.",
+        ),
+        (
+            format!("{bodies}table round period 9\nat 3 one\nat 4 high\n"),
+            "14 21",
+            "8:6: the task of entry 1 of table 0 round is 3. Allowed: time-triggered tasks in one table, and nobody else in it; one is one, and high in the same table is not.",
+        ),
+        (
+            format!("{bodies}table round period 9\nat 3 low\nat 4 two\n"),
+            "14 21",
+            "8:6: the task of entry 1 of table 0 round is 2. Allowed: time-triggered tasks in one table, and nobody else in it; two is one, and low in the same table is not.",
+        ),
+        (
+            format!("{bodies}table round period 9\nat 3 one\ntable other period 9\nat 4 two\n"),
+            "14 23",
+            "9:6: the task of entry 0 of table 1 other is 2. Allowed: time-triggered tasks in one table, and nobody else in it; two is one, and table 0 round has such tasks already.",
+        ),
+    ];
+    for (text, refusal, sentence) in cases {
+        let said = Folder::new().with("config.txt", format!("{text}trace\n")).osek(&["explain", "config.txt"]);
+        let lines: Vec<&str> = said.out.lines().collect();
+        assert!(lines[0].starts_with(&format!("refused {refusal}: ")), "{}", said.out);
+        assert_eq!(lines[1], format!("config.txt:{sentence}"));
+        assert_eq!((said.code, said.err.as_str()), (Some(1), ""));
+    }
+}
+
+#[test]
+fn the_calls_of_a_time_triggered_task_and_those_that_name_it_are_told() {
+    let text = "version 1\ntask low priority 1 autostart\ntimed one priority 2\ntable round period 9\nat 0 one\n\
+                trace\nactivate one\nchain one\nset one 1\nstart round 1\ntick\nactivate low\nchain low\nstop round\nclear 1\nfinish\n";
+    Folder::new().with("both.txt", text).osek(&["explain", "both.txt"]).prints(
+        "\
+accepted: 10 events, 7 with a status other than 0
+event 0 Activate one while low runs: status 3 E_OS_ID: no task has this number, or a time-triggered one has
+event 1 Chain one while low runs: status 3 E_OS_ID: no task has this number, or a time-triggered one has
+event 2 Set one 0x1 while low runs: status 1 E_OS_ACCESS: the task is no extended task
+event 5 Activate low while one runs: status 2 E_OS_CALLEVEL: nobody runs, or a time-triggered task does
+event 6 Chain low while one runs: status 2 E_OS_CALLEVEL: nobody runs, or an ISR or a time-triggered task does
+event 7 Stop round while one runs: status 2 E_OS_CALLEVEL: nobody runs, or a time-triggered task does
+event 8 Clear 0x1 while one runs: status 2 E_OS_CALLEVEL: nobody runs, or a time-triggered task does
+",
+        0,
+    );
 }
 
 #[test]
@@ -150,7 +223,7 @@ fn an_accepted_run_says_which_events_were_refused_and_why() {
     folder.osek(&["explain", "both.txt"]).prints(
         "\
 accepted: 17 events, 3 with a status other than 0
-event 4 Chain high while door runs: status 2 E_OS_CALLEVEL: nobody runs, or an ISR does
+event 4 Chain high while door runs: status 2 E_OS_CALLEVEL: nobody runs, or an ISR or a time-triggered task does
 event 6 Finish while low runs: status 6 E_OS_RESOURCE: the running body holds a resource
 event 16 Finish while nobody runs: status 2 E_OS_CALLEVEL: nobody runs
 ",

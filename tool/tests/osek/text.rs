@@ -169,7 +169,7 @@ fn a_wrong_text_is_refused_at_its_line_and_column() {
         ("version 1 2", "1:11: expected the end of the line, found `2`"),
         (
             "version 1\nversion 1",
-            "2:1: expected `task`, `isr`, `extended`, `body`, `resource`, `table`, `at`, `number`, `bytes` or `trace`, found `version`",
+            "2:1: expected `task`, `isr`, `extended`, `timed`, `body`, `resource`, `table`, `at`, `number`, `bytes` or `trace`, found `version`",
         ),
         ("version 1\ntask", "2:5: expected the body's name, found the end of the line"),
         ("version 1\ntask 7up priority 3", "2:6: expected the body's name, found `7up`"),
@@ -236,6 +236,35 @@ fn a_wrong_text_is_refused_at_its_line_and_column() {
         assert_eq!(mark.find('^'), Some("  1 | ".len() + column - 1), "{}", said.err);
         assert!(!folder.0.join("out").exists(), "{text}");
     }
+}
+
+#[test]
+fn time_triggered_tasks_have_their_word() {
+    let text =
+        "version 1\ntask low priority 1 autostart\ntimed dispatch priority 200\ntable round period 9\nat 3 dispatch\n";
+    let folder = Folder::new().with("round.txt", text);
+    folder.osek(&["asm", "round.txt", "-o", "round.bin"]).prints("", 0);
+    assert_eq!(folder.read("round.bin"), [1, 2, 0, 1, 1, 3, 0xc8, 1, 0, 0, 1, 9, 1, 3, 1]);
+    folder.osek(&["dump", "round.bin"]).prints(
+        "\
+# configuration, 15 bytes
+version 1                        #  0  01     version 1
+                                 #  1  02     body count 2
+task task0 priority 1 autostart  #  2  00     body 0: kind 0, task
+                                 #  3  01     priority 1
+                                 #  4  01     autostart 1
+timed timed1 priority 200        #  5  03     body 1: kind 3, time-triggered task
+                                 #  6  C8 01  priority 200
+                                 #  8  00     autostart 0
+                                 #  9  00     resource count 0
+                                 # 10  01     table count 1
+table table0 period 9            # 11  09     table 0: period 9
+                                 # 12  01     entry count 1
+  at 3 timed1                    # 13  03     entry 0: offset 3
+                                 # 14  01     task 1 timed1
+",
+        0,
+    );
 }
 
 #[test]

@@ -143,6 +143,30 @@ fn a_task_that_waits_shows_so() {
 }
 
 #[test]
+fn time_triggered_tasks_stand_on_top_at_their_level() {
+    // The later one preempts the first, which preempts a task of a greater priority number.
+    let text = "version 1\ntask low priority 9 autostart\ntimed one priority 2\ntimed two priority 1\n\
+                table round period 20\nat 0 one\nat 1 two\ntrace\nstart round 1\ntick 3\nfinish\nfinish\n";
+    let folder = Folder::new().with("round.txt", text);
+    let json = folder.osek(&["timeline", "round.txt", "--json", "-"]).done();
+    let called: Vec<&str> = json.lines().filter(|line| line.contains("(priority ")).collect();
+    let shown = ["one (priority 201)", "two (priority 201)", "low (priority 9)"];
+    assert!(called.len() == 3 && called.iter().zip(shown).all(|(line, name)| line.contains(name)), "{called:?}");
+    let states = |body: u32| -> Vec<String> {
+        let of_body = format!("\"pid\": 2, \"tid\": {body}, \"cat\": \"state\"");
+        let lines = json.lines().filter(|line| line.contains(&of_body));
+        lines.map(|line| line.split('"').nth(7).unwrap_or_default().to_string()).collect()
+    };
+    assert_eq!(states(0), ["running", "preempted", "running"]);
+    assert_eq!(states(1), ["running", "preempted", "running"]);
+    assert_eq!(states(2), ["running"]);
+    let picture = folder.osek(&["timeline", "round.txt", "--svg", "-"]).done();
+    let rows: Vec<usize> = ["one", "two", "low"].iter().filter_map(|name| picture.find(&format!(">{name}<"))).collect();
+    assert!(rows.len() == 3 && rows.is_sorted(), "{picture}");
+    assert!(picture.contains(">201<"), "{picture}");
+}
+
+#[test]
 fn a_lost_line_shows_where_it_is_counted() {
     let folder = Folder::new();
     for (version, expected) in [(1, 0), (2, 2)] {

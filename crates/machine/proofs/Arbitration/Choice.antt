@@ -1,4 +1,5 @@
--- Who is chosen, from how the bodies stand: the first of the nest, nobody, or a body above the level.
+-- Who is chosen by priority, from how the bodies stand: the first of the nest, nobody, or a body above the level; no time-triggered task is
+-- started.
 --
 --   chosen-seated   no body is above the level: the first of the nest is chosen
 --   chosen-none     the same where nobody is in it
@@ -15,7 +16,7 @@ use borrow.Author.Tests.{ne-eqb}
 use Rattle.config.specs.declared.Config.{Config}
 use Rattle.config.specs.Meaning.{priorityOf}
 use Rattle.plan.specs.declared.Plan.{Plan}
-use Rattle.scheduler.specs.Body.{Phase, suspended, ready, started, waiting, isStarted, competes, Body, holds, current}
+use Rattle.scheduler.specs.Body.{Phase, suspended, ready, started, waiting, triggered, isStarted, competes, Body, holds, current}
 use Rattle.scheduler.specs.Choice.{byHolding, nobody, chosen}
 use Rattle.scheduler.specs.State.{among}
 use Rattle.scheduler.specs.Scheduler.{markOf}
@@ -31,6 +32,7 @@ active-of-started suspended s = absurd (true≢false (sym s))
 active-of-started ready s = absurd (true≢false (sym s))
 active-of-started started s = refl
 active-of-started (waiting w) s = absurd (true≢false (sym s))
+active-of-started (triggered x) s = absurd (true≢false (sym s))
 
 -- a body is in a list, or not
 by-in {ℓ} : {C : Type ℓ} (i : ℕ) (ns : List ℕ) → (among i ns ≡ true → C) → (among i ns ≡ false → C) → C
@@ -40,10 +42,10 @@ by-in {C = C} i ns f g = go (among i ns) refl
     go true e = f e
     go false e = g e
 
-module _ {c : Config} {p : Plan} {rk : ℕ → ℕ} (fit : Fitted c p rk) {m : Model} {bs : List Body} {ns : List ℕ} (t : Tied c rk m bs ns) where
+module _ {c : Config} {p : Plan} {rk : ℕ → ℕ} (fit : Fitted c p rk) {m : Model} {bs : List Body} {ns : List ℕ} (t : Tied c rk m bs [] ns) where
   -- what a body that is ready or started is to the choice
   contends : (i : ℕ) → competes (at bs i .phase) ≡ true
-      → contender c bs i ≡ record { number = i; level = current c i (at bs i); began = isStarted (at bs i .phase); holder = holds (at bs i .held) }
+      → contender c bs i ≡ record { number = i; level = current c i (at bs i); began = isStarted (at bs i .phase); holder = holds (at bs i .held); timed = false }
   contends i a = candidate-active c i (at bs i) (at bs i .phase) a
 
   weighs : (i : ℕ) → competes (at bs i .phase) ≡ true
@@ -59,13 +61,13 @@ module _ {c : Config} {p : Plan} {rk : ℕ → ℕ} (fit : Fitted c p rk) {m : M
   unfolding Seats levelAt
   level-is = go ns (t .seats)
     where
-      go : (ns : List ℕ) → Seats c rk bs (m .core .runner) (m .core .level) ns → m .core .level ≡ levelAt c bs ns
+      go : (ns : List ℕ) → Seats c rk bs [] (m .core .runner) (m .core .level) ns → m .core .level ≡ levelAt c bs ns
       go [] k = k .1
       go (b ∷ ns) k = k .1 .0
 
   module _ (calm : Calm c (m .core .level) bs) where
     -- no body is above the level, so the first of the nest is chosen
-    pub chosen-seated : (b : ℕ) (rest : List ℕ) → ns ≡ b ∷ rest → chosen c bs ≡ record { number = b; level = current c b (at bs b); began = true; holder = holds (at bs b .held) }
+    pub chosen-seated : (b : ℕ) (rest : List ℕ) → ns ≡ b ∷ rest → chosen c bs ≡ record { number = b; level = current c b (at bs b); began = true; holder = holds (at bs b .held); timed = false }
     unfolding Nested levelAt
     chosen-seated b rest e =
         chosen-best byHolding refl c bs b (rw (contends b act) (ne-eqb (current c b (at bs b)) 0 (λ z. absurd (omega (arith, z, own-some, current-own c b (at bs b))))))
@@ -115,6 +117,7 @@ module _ {c : Config} {p : Plan} {rk : ℕ → ℕ} (fit : Fitted c p rk) {m : M
         asleep i i< ready e = absurd (omega (arith, fit .own-some i i<, calm i i< (rw e), idle))
         asleep i i< started e = absurd (omega (arith, fit .own-some i i<, calm i i< (rw e), idle))
         asleep i i< (waiting w) e = refl
+        asleep i i< (triggered x) e = refl
 
   -- a body above the level that is above every other one is chosen
   module _ (w : ℕ) (w< : w < c .bodies) (act : competes (at bs w .phase) ≡ true) (above : m .core .level < priorityOf c w)
@@ -133,7 +136,7 @@ module _ {c : Config} {p : Plan} {rk : ℕ → ℕ} (fit : Fitted c p rk) {m : M
         (λ h. omega (arith, nest-level c bs i ns (t .nested) h, level-is))
         (λ h. omega (arith, own-outside i h, best i i< other a))
 
-    pub chosen-above : chosen c bs ≡ record { number = w; level = priorityOf c w; began = isStarted (at bs w .phase); holder = false }
+    pub chosen-above : chosen c bs ≡ record { number = w; level = priorityOf c w; began = isStarted (at bs w .phase); holder = false; timed = false }
     chosen-above =
         chosen-best byHolding refl c bs w (rw (contends w act, own-outside w outside) (ne-eqb (priorityOf c w) 0 (λ z. absurd (omega (arith, z, fit .own-some w w<)))))
         (λ i i< other a. weight-before byHolding (contender c bs w) (contender c bs i) (lighter i (rw (t .size) at i<) other a))

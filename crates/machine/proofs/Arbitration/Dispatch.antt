@@ -1,11 +1,11 @@
 -- After arbitration the model stands for the bodies after the dispatch, and who runs is the one that is chosen.
 --
 --   calm-arbitrated   no body is above the level: nothing changes
---   settled-tied      whatever the model
+--   settled-tied      whatever the model; where a time-triggered task is started it runs on
 --
 -- Assumes nothing.
 use Prim.Native.Nat.{ℕ, _^_, _≤_, _<_}
-use mathlib.Core.Path.{_≡_, refl, sym, ap, _∙_}
+use mathlib.Core.Path.{_≡_, refl, sym, ap, subst, _∙_}
 use mathlib.Core.Logic.{_≢_}
 use mathlib.Core.Bool.{Bool, true, false, true≢false, cond, not, _&&_}
 use mathlib.Core.List.{List, [], _∷_, _++_}
@@ -20,19 +20,20 @@ use Rattle.config.specs.Meaning.{priorityOf}
 use Rattle.plan.specs.declared.Plan.{Plan}
 use Rattle.word.specs.Word.{has, without, winner}
 use Rattle.word.proofs.Theorems.{has-with-same, has-with-other, with-lt, has-without-same, has-without-other, without-lt}
-use Rattle.scheduler.specs.Body.{Phase, suspended, ready, started, waiting, isStarted, isWaiting, hasBegun, competes, Body, current, become}
-use Rattle.scheduler.specs.Choice.{chosen, nobody}
-use Rattle.scheduler.specs.State.{State, noBody, among, changing}
+use Rattle.scheduler.specs.Body.{Phase, suspended, ready, started, waiting, triggered, isStarted, hasBegun, competes, Body, current, become}
+use Rattle.scheduler.specs.Choice.{Candidate, chosen, nobody}
+use Rattle.scheduler.specs.State.{State, noBody, among, changing, latestOf, runner}
 use Rattle.scheduler.specs.Call.{requestWaits}
-use Rattle.scheduler.specs.Scheduler.{begins, dispatched}
+use Rattle.scheduler.specs.Scheduler.{begins, dispatchedTo, dispatched}
 use Rattle.scheduler.proofs.Choice.{current-own}
 use Rattle.machine.specs.Model.{Core, Picked, Model, Outcome, withCore}
 use Rattle.machine.specs.Arbiter.{bids, winning, beginning, dispatching, arbitrated, settled}
 use Rattle.machine.specs.Machine.{runnerOf}
 use Rattle.plan.proofs.Fitted.{Fitted}
-use Rattle.machine.proofs.Relation.Words.{at, Words, words-changed}
+use Rattle.machine.proofs.Relation.Words.{at, isAside, Words, words-changed}
 use Rattle.machine.proofs.Relation.Slots.{slotsFor, slotsAlong}
-use Rattle.machine.proofs.Relation.Nest.{levelAt, Nested, Seats, Alike, alike-same, among-tail-false, nest-level, levelAt-alike, nested-alike, slotsAlong-alike, hold-alike}
+use Rattle.machine.proofs.Relation.Nest.{levelAt, Nested, Seats, timed-seat, Alike, alike-same, among-tail-false, nest-level, levelAt-alike, nested-alike, slotsAlong-alike, hold-alike}
+use Rattle.machine.proofs.Relation.Kinds.{Kinds}
 use Rattle.machine.proofs.Relation.Whole.{Tied, Calm}
 use Rattle.machine.proofs.Arbitration.Seat.{Holders, holders}
 use Rattle.machine.proofs.Arbitration.Bids.{Winner, winning-is, calm-below, winner-above, winner-best}
@@ -42,14 +43,22 @@ and-false : (b : Bool) → b && false ≡ false
 and-false true = refl
 and-false false = refl
 
--- the model that the machine hands back stands for the bodies after the dispatch, and who runs is the one chosen
-pub record Arbitrated (c : Config) (p : Plan) (rk : ℕ → ℕ) (o : Outcome) (before after : List Body) : Type 0 where
+-- the model that the machine hands back stands for the bodies after the dispatch to k, who runs; js: the time-triggered tasks started
+pub record ArbitratedTo (c : Config) (p : Plan) (rk : ℕ → ℕ) (o : Outcome) (js : List ℕ) (k : Candidate) (after : List Body) : Type 0 where
   pub nest : List ℕ
-  pub tied : Tied c rk (o .model) after nest
+  pub tied : Tied c rk (o .model) after js nest
   pub calm : Calm c (o .model .core .level) after
-  pub number : runnerOf p (o .model) ≡ chosen c before .number
-  pub level : o .model .core .level ≡ chosen c before .level
-  pub begun : o .begun ≡ begins (chosen c before)
+  pub number : runnerOf p (o .model) ≡ k .number
+  pub level : o .model .core .level ≡ k .level
+  pub begun : o .begun ≡ begins k
+
+-- the latest time-triggered task that is started exists, and has begun
+abbrev pub Seated : Config → State → Type 0
+Seated c s = (j : ℕ) (js : List ℕ) → s .order ≡ j ∷ js → (j < c .bodies) × (hasBegun (at (s .bodies) j .phase) ≡ true)
+
+-- the same of the state s before the dispatch
+abbrev pub Arbitrated : (c : Config) (p : Plan) (rk : ℕ → ℕ) (o : Outcome) (s : State) → Type 0
+Arbitrated c p rk o s = ArbitratedTo c p rk o (s .order) (runner c s) (dispatched c s .bodies)
 
 module _ {c : Config} {p : Plan} {rk : ℕ → ℕ} (fit : Fitted c p rk) where
   pub rank-below : (b : ℕ) → b < c .bodies → rk b < 32
@@ -65,7 +74,7 @@ module _ {c : Config} {p : Plan} {rk : ℕ → ℕ} (fit : Fitted c p rk) where
     begun : begins (chosen c bs) ≡ false
 
   module _ {m : Model} {bs : List Body} where
-    shown : (ns : List ℕ) → Tied c rk m bs ns → Calm c (m .core .level) bs → Shown m bs
+    shown : (ns : List ℕ) → Tied c rk m bs [] ns → Calm c (m .core .level) bs → Shown m bs
     unfolding Seats Nested
     shown [] t calm =
         let h : chosen c bs ≡ nobody = chosen-none fit t calm refl in
@@ -79,15 +88,47 @@ module _ {c : Config} {p : Plan} {rk : ℕ → ℕ} (fit : Fitted c p rk) where
         }
 
   -- where nobody is above the level the model stays as it is
-  pub calm-arbitrated : {m : Model} {ns : List ℕ} (s : State) (st : ℕ) → Tied c rk m (s .bodies) ns → Calm c (m .core .level) (s .bodies)
-      → Arbitrated c p rk (record { model = m; status = st; begun = false }) (s .bodies) (dispatched c s .bodies)
-  calm-arbitrated {m} {ns} s st t calm =
+  calm-plain : {m : Model} {ns : List ℕ} (s : State) (st : ℕ) → Tied c rk m (s .bodies) [] ns → Calm c (m .core .level) (s .bodies)
+      → ArbitratedTo c p rk (record { model = m; status = st; begun = false }) [] (chosen c (s .bodies)) (dispatchedTo (chosen c (s .bodies)) s .bodies)
+  calm-plain {m} {ns} s st t calm =
       let seat = shown ns t calm in
-      let stays : dispatched c s .bodies ≡ s .bodies = rw (seat .begun) in
+      let stays : dispatchedTo (chosen c (s .bodies)) s .bodies ≡ s .bodies = rw (seat .begun) in
       rw stays (record { nest = ns; tied = t; calm = calm; number = seat .number; level = seat .level; begun = sym (seat .begun) })
 
+  -- where no time-triggered task is started the one chosen by priority runs
+  plainly : {o : Outcome} (s : State) → s .order ≡ []
+      → ArbitratedTo c p rk o [] (chosen c (s .bodies)) (dispatchedTo (chosen c (s .bodies)) s .bodies) → Arbitrated c p rk o s
+  plainly {o} s e a =
+      subst (λ (js : List ℕ). ArbitratedTo c p rk o js (latestOf (s .bodies) js (chosen c (s .bodies))) (dispatchedTo (latestOf (s .bodies) js (chosen c (s .bodies))) s .bodies))
+      (sym e) a
+
+  -- a time-triggered task runs on
+  timed-on : {m : Model} {ns : List ℕ} (s : State) (st j : ℕ) (js : List ℕ) → s .order ≡ j ∷ js → j < c .bodies
+      → hasBegun (at (s .bodies) j .phase) ≡ true → Tied c rk m (s .bodies) (s .order) ns
+      → Arbitrated c p rk (record { model = m; status = st; begun = false }) s
+  timed-on {m} {ns} s st j js e j< entered =
+      subst (λ (os : List ℕ). Tied c rk m (s .bodies) os ns
+      → ArbitratedTo c p rk (record { model = m; status = st; begun = false }) os (latestOf (s .bodies) os (chosen c (s .bodies)))
+      (dispatchedTo (latestOf (s .bodies) os (chosen c (s .bodies))) s .bodies))
+      (sym e) runs
+    where
+      runs : Tied c rk m (s .bodies) (j ∷ js) ns
+          → ArbitratedTo c p rk (record { model = m; status = st; begun = false }) (j ∷ js) (latestOf (s .bodies) (j ∷ js) (chosen c (s .bodies)))
+          (dispatchedTo (latestOf (s .bodies) (j ∷ js) (chosen c (s .bodies))) s .bodies)
+      runs t =
+          let seat = timed-seat c rk (s .bodies) j js (m .core .runner) (m .core .level) ns (t .seats) in
+          let stays : dispatchedTo (latestOf (s .bodies) (j ∷ js) (chosen c (s .bodies))) s .bodies ≡ s .bodies = rw entered in
+          rw stays (record {
+            nest = ns;
+            tied = t;
+            calm = λ b b< _. omega (arith, seat .1 .0, fit .own-few b b<);
+            number = runnerOf-is m j j< (seat .0);
+            level = seat .1 .0;
+            begun = sym (rw entered);
+          })
+
   -- the winner is above the level
-  module _ {m : Model} {ns : List ℕ} (s : State) (t : Tied c rk m (s .bodies) ns) (v : Winner fit (t .words))
+  module _ {m : Model} {ns : List ℕ} (s : State) (t : Tied c rk m (s .bodies) [] ns) (kinds : Kinds c (s .bodies)) (v : Winner fit (t .words) kinds)
       (above : m .core .level < priorityOf c (v .body)) where
     abbrev bs : List Body
     bs = s .bodies
@@ -100,9 +141,9 @@ module _ {c : Config} {p : Plan} {rk : ℕ → ℕ} (fit : Fitted c p rk) where
     bs′ = set bs w (become started (at bs w))
 
     best : (i : ℕ) → i < c .bodies → i ≢ w → competes (at bs i .phase) ≡ true → priorityOf c i < priorityOf c w
-    best = winner-best fit (t .words) v
+    best = winner-best fit (t .words) kinds v
 
-    chosen-w : chosen c bs ≡ record { number = w; level = priorityOf c w; began = isStarted (at bs w .phase); holder = false }
+    chosen-w : chosen c bs ≡ record { number = w; level = priorityOf c w; began = isStarted (at bs w .phase); holder = false; timed = false }
     chosen-w = chosen-above fit t w (v .exists) (v .awake) above best
 
     free : at bs w .held ≡ []
@@ -123,8 +164,9 @@ module _ {c : Config} {p : Plan} {rk : ℕ → ℕ} (fit : Fitted c p rk) where
         go x ready e h = absurd (true≢false (sym h))
         go x started e h = λ i. record { phase = sym e i; pending = x .pending; held = x .held; losses = x .losses; bits = x .bits }
         go x (waiting n) e h = absurd (true≢false (sym h))
+        go x (triggered z) e h = absurd (true≢false (sym h))
 
-    dispatched-is : dispatched c s .bodies ≡ bs′
+    dispatched-is : dispatchedTo (chosen c bs) s .bodies ≡ bs′
     dispatched-is = rw chosen-w (go (isStarted (at bs w .phase)) refl)
       where
         go : (b : Bool) → isStarted (at bs w .phase) ≡ b
@@ -139,38 +181,28 @@ module _ {c : Config} {p : Plan} {rk : ℕ → ℕ} (fit : Fitted c p rk) where
     winner-lt : winner (bids (m .core)) < 32
     winner-lt = rw (sym (v .rank)) (rank-below w (v .exists))
 
-    -- of those that may run, the ones that have begun are started
-    began-started : (q : Phase) → competes q ≡ true → hasBegun q ≡ isStarted q
-    began-started suspended h = refl
-    began-started ready h = refl
-    began-started started h = refl
-    began-started (waiting n) h = absurd (true≢false (sym h))
-
-    begun-is : hasBegun (at bs w .phase) ≡ isStarted (at bs w .phase)
-    begun-is = began-started (at bs w .phase) (v .awake)
-
     began-is : has (m .core .started) (winner (bids (m .core))) ≡ isStarted (at bs w .phase)
-    began-is = rw (sym (v .rank)) (t .words .begun w (v .exists)) ∙ begun-is
+    began-is = rw (sym (v .rank)) (t .words .goes-on w (v .exists))
 
     beginning-is : beginning (m .core) ≡ not (isStarted (at bs w .phase))
     beginning-is = ap not began-is
 
     words′ : Words c rk k′ bs′
     words′ =
-        words-changed fit (t .words) (t .size) w (v .exists) (become started (at bs w)) k′
+        words-changed fit (t .words) (t .size) w (v .exists) (become started (at bs w)) k′ (t .words .suits w .0, λ h. absurd (true≢false (sym h)))
         (record {
           asks = asked;
-          begun = rw (v .rank) (has-with-same (m .core .started) W winner-lt);
-          awake = t .words .awake w (v .exists) ∙ enabled (at bs w .phase) (v .awake);
+          goes-on = rw (v .rank) (has-with-same (m .core .started) W winner-lt);
+          put-aside = t .words .put-aside w (v .exists) ∙ running (at bs w .phase) (v .awake);
           quiet = λ h. absurd (true≢false h);
         })
         (record {
           request-lt = request-lt (beginning (m .core));
           started-lt = with-lt (m .core .started) W (t .words .started-lt);
-          enabled-lt = t .words .enabled-lt;
+          aside-lt = t .words .aside-lt;
           asks = λ r n. other (beginning (m .core)) r (rw (v .rank) at n);
-          begun = λ r n. has-with-other (m .core .started) W r (rw (v .rank) at n);
-          awake = λ r n. refl;
+          goes-on = λ r n. has-with-other (m .core .started) W r (rw (v .rank) at n);
+          put-aside = λ r n. refl;
         })
       where
         q : ℕ
@@ -187,29 +219,31 @@ module _ {c : Config} {p : Plan} {rk : ℕ → ℕ} (fit : Fitted c p rk) where
         other true r n = has-without-other q W r n
         other false r n = refl
 
-        -- it does not wait for an event bit
-        enabled : (f : Phase) → competes f ≡ true → not (isWaiting f) ≡ true
-        enabled suspended h = refl
-        enabled ready h = refl
-        enabled started h = refl
-        enabled (waiting n) h = absurd (true≢false (sym h))
+        -- it goes on by its priority
+        running : (f : Phase) → competes f ≡ true → isAside f ≡ false
+        running suspended h = refl
+        running ready h = refl
+        running started h = refl
+        running (waiting n) h = absurd (true≢false (sym h))
+        running (triggered z) h = absurd (true≢false (sym h))
 
         second : (x : Body) (f : Phase) → isStarted f ≡ true → requestWaits x f ≡ x .pending
         second x suspended h = absurd (true≢false (sym h))
         second x ready h = absurd (true≢false (sym h))
         second x started h = refl
         second x (waiting n) h = absurd (true≢false (sym h))
+        second x (triggered z) h = absurd (true≢false (sym h))
 
         left : (b : Bool) → isStarted (at bs w .phase) ≡ b → has (cond (not b) (without q W) q) (rk w) ≡ at bs w .pending
         left true e = t .words .asks w (v .exists) ∙ second (at bs w) (at bs w .phase) e
-        left false e = rw (v .rank) (has-without-same q W) ∙ sym (t .words .quiet w (begun-is ∙ e))
+        left false e = rw (v .rank) (has-without-same q W) ∙ sym (t .words .quiet w e)
 
         asked : has (cond (beginning (m .core)) (without q W) q) (rk w) ≡ at bs w .pending
         asked = rw beginning-is (left (isStarted (at bs w .phase)) refl)
 
     -- the nest below the winner
     abbrev below : Holders c rk m bs
-    below = holders t
+    below = holders fit [] t
 
     abbrev ks : List ℕ
     ks = below .nest
@@ -232,7 +266,7 @@ module _ {c : Config} {p : Plan} {rk : ℕ → ℕ} (fit : Fitted c p rk) where
         (v .exists, (ap (λ (x : Body). isStarted (x .phase)) at-w, (rw (sym (levelAt-alike c rk bs bs′ ks alike)) low, nested-alike c rk bs bs′ ks alike (below .nested))))
 
     level′ : winning (p .priority) (m .core) ≡ current c w (at bs′ w)
-    level′ = winning-is fit (t .words) v ∙ sym (rw (at-w, free))
+    level′ = winning-is fit (t .words) kinds v ∙ sym (rw (at-w, free))
 
     slots-same : slotsAlong c rk bs ks ≡ slotsAlong c rk bs′ (w ∷ ks)
     unfolding slotsAlong slotsFor
@@ -240,7 +274,7 @@ module _ {c : Config} {p : Plan} {rk : ℕ → ℕ} (fit : Fitted c p rk) where
         slotsAlong-alike c rk bs bs′ ks alike
         ∙ sym (ap (λ (rs : List ℕ). slotsFor c rk w rs ++ slotsAlong c rk bs′ ks) (ap (λ (b : Body). b .held) at-w ∙ free))
 
-    tied′ : Tied c rk (withCore m k′) bs′ (w ∷ ks)
+    tied′ : Tied c rk (withCore m k′) bs′ [] (w ∷ ks)
     unfolding Seats
     tied′ =
         record {
@@ -257,20 +291,20 @@ module _ {c : Config} {p : Plan} {rk : ℕ → ℕ} (fit : Fitted c p rk) where
     calm′ : Calm c (winning (p .priority) (m .core)) bs′
     calm′ i i< a =
         by-eq i w
-        (λ e. omega (arith, winning-is fit (t .words) v, ap (priorityOf c) e))
-        (λ n. omega (arith, winning-is fit (t .words) v, best i i< n (sym (ap (λ (x : Body). competes (x .phase)) (at-other i n)) ∙ a)))
+        (λ e. omega (arith, winning-is fit (t .words) kinds v, ap (priorityOf c) e))
+        (λ n. omega (arith, winning-is fit (t .words) kinds v, best i i< n (sym (ap (λ (x : Body). competes (x .phase)) (at-other i n)) ∙ a)))
 
     -- "it is dispatched only if its priority is strictly above the level", which it is
     dispatches : arbitrated (p .priority) (m .core) ≡ record { core = dispatching (p .priority) (m .core); begun = beginning (m .core) }
     unfolding arbitrated
     dispatches =
         ap (λ (b : Bool). cond b (picks (dispatching (p .priority) (m .core)) (beginning (m .core))) (picks (m .core) false))
-        (lt-ltb (m .core .level) (winning (p .priority) (m .core)) (rw (winning-is fit (t .words) v) above))
+        (lt-ltb (m .core .level) (winning (p .priority) (m .core)) (rw (winning-is fit (t .words) kinds v) above))
       where
         picks : Core → Bool → Picked
         picks k b = record { core = k; begun = b }
 
-    settled-above : Arbitrated c p rk (settled (p .priority) m) bs (dispatched c s .bodies)
+    settled-above : ArbitratedTo c p rk (settled (p .priority) m) [] (chosen c bs) (dispatchedTo (chosen c bs) s .bodies)
     settled-above =
         rw (dispatches, dispatched-is)
         (record {
@@ -278,18 +312,48 @@ module _ {c : Config} {p : Plan} {rk : ℕ → ℕ} (fit : Fitted c p rk) where
           tied = tied′;
           calm = calm′;
           number = rw chosen-w (runnerOf-is (withCore m k′) w (v .exists) (sym (v .rank)));
-          level = rw chosen-w (winning-is fit (t .words) v);
+          level = rw chosen-w (winning-is fit (t .words) kinds v);
           begun = rw chosen-w (beginning-is ∙ begins-is (priorityOf c w) (isStarted (at bs w .phase)) (fit .own-some w (v .exists)));
         })
       where
         begins-is : (n : ℕ) (b : Bool) → 1 ≤ n → not b ≡ not (eqb n 0) && not b
         begins-is n b h = rw (ne-eqb n 0 (λ z. absurd (omega arith)))
 
-  pub settled-tied : {m : Model} {ns : List ℕ} (s : State) → Tied c rk m (s .bodies) ns
-      → Arbitrated c p rk (settled (p .priority) m) (s .bodies) (dispatched c s .bodies)
+  settled-plain : {m : Model} {ns : List ℕ} (s : State) → Kinds c (s .bodies) → Tied c rk m (s .bodies) [] ns
+      → ArbitratedTo c p rk (settled (p .priority) m) [] (chosen c (s .bodies)) (dispatchedTo (chosen c (s .bodies)) s .bodies)
   unfolding arbitrated
-  settled-tied {m} {ns} s t =
+  settled-plain {m} {ns} s kinds t =
       by-lt (m .core .level) (winning (p .priority) (m .core))
-      (λ above. let v = winner-above fit (t .words) above in
-      settled-above s t v (rw (sym (winning-is fit (t .words) v)) above))
-      (λ low. rw (le-ltb (m .core .level) (winning (p .priority) (m .core)) low) (calm-arbitrated s 0 t (calm-below fit (t .words) low)))
+      (λ above. let v = winner-above fit (t .words) kinds above in
+      settled-above s t kinds v (rw (sym (winning-is fit (t .words) kinds v)) above))
+      (λ low. rw (le-ltb (m .core .level) (winning (p .priority) (m .core)) low) (calm-plain s 0 t (calm-below fit (t .words) kinds low)))
+
+  -- no priority is above the level of a time-triggered task
+  timed-settled : {m : Model} {bs : List Body} {ns : List ℕ} (j : ℕ) (js : List ℕ) → Kinds c bs → Tied c rk m bs (j ∷ js) ns
+      → settled (p .priority) m ≡ record { model = m; status = 0; begun = false }
+  unfolding arbitrated
+  timed-settled {m} {bs} {ns} j js kinds t =
+      let seat = timed-seat c rk bs j js (m .core .runner) (m .core .level) ns (t .seats) in
+      by-lt (m .core .level) (winning (p .priority) (m .core))
+      (λ above. let v = winner-above fit (t .words) kinds above in
+      absurd (omega (arith, above, seat .1 .0, winning-is fit (t .words) kinds v, fit .own-few (v .body) (v .exists))))
+      (λ low. rw (le-ltb (m .core .level) (winning (p .priority) (m .core)) low))
+
+  -- whoever runs
+  pub settled-tied : {m : Model} {ns : List ℕ} (s : State) → Seated c s → Kinds c (s .bodies) → Tied c rk m (s .bodies) (s .order) ns
+      → Arbitrated c p rk (settled (p .priority) m) s
+  settled-tied {m} {ns} s seated kinds t = by (s .order) refl
+    where
+      by : (os : List ℕ) → s .order ≡ os → Arbitrated c p rk (settled (p .priority) m) s
+      by [] e = plainly s e (settled-plain s kinds (rw e at t))
+      by (j ∷ js) e =
+          let h = seated j js e in
+          rw (timed-settled j js kinds (rw e at t)) (timed-on s 0 j js e (h .0) (h .1) t)
+
+  pub calm-arbitrated : {m : Model} {ns : List ℕ} (s : State) (st : ℕ) → Seated c s → Tied c rk m (s .bodies) (s .order) ns
+      → Calm c (m .core .level) (s .bodies) → Arbitrated c p rk (record { model = m; status = st; begun = false }) s
+  calm-arbitrated {m} {ns} s st seated t calm = by (s .order) refl
+    where
+      by : (os : List ℕ) → s .order ≡ os → Arbitrated c p rk (record { model = m; status = st; begun = false }) s
+      by [] e = plainly s e (calm-plain s st (rw e at t) calm)
+      by (j ∷ js) e = let h = seated j js e in timed-on s st j js e (h .0) (h .1) t

@@ -5,9 +5,9 @@
 --
 -- Assumes nothing.
 use Prim.Native.Nat.{ℕ, _^_, _<_}
-use mathlib.Core.Path.{_≡_, refl, sym, ap, ap₂, _∙_}
+use mathlib.Core.Path.{_≡_, refl, sym, ap, ap₂, subst, _∙_}
 use mathlib.Core.Logic.{_≢_}
-use mathlib.Core.Bool.{Bool, true, false, true≢false, cond, not}
+use mathlib.Core.Bool.{Bool, true, false, true≢false, cond, _&&_}
 use mathlib.Core.List.{List}
 use native.Mathlib.Omega.{arith}
 use lib.ListN.{length, getD, set, length-set}
@@ -15,14 +15,14 @@ use lib.Seq.{getD-set-same, getD-set-other}
 use Rattle.config.specs.declared.Config.{Config}
 use Rattle.plan.specs.declared.Plan.{Plan}
 use Rattle.word.specs.Word.{has, with, without}
-use Rattle.word.proofs.Theorems.{has-with-same, has-with-other, with-lt, has-without-same, has-without-other}
+use Rattle.word.proofs.Theorems.{has-with-same, has-with-other, with-lt, has-without-same, has-without-other, without-lt}
 use Rattle.scheduler.specs.Bits.{anySet, withBits, withoutBits}
-use Rattle.scheduler.specs.Body.{Phase, suspended, ready, started, waiting, isSuspended, isStarted, isWaiting, hasBegun, Body, resumed, receives, clears}
+use Rattle.scheduler.specs.Body.{Phase, suspended, ready, started, waiting, triggered, isSuspended, isStarted, isWaiting, Body, resumed, receives, clears}
 use Rattle.scheduler.specs.Call.{requestWaits}
-use Rattle.machine.specs.Model.{Core, Model, withEnabled}
-use Rattle.machine.specs.Events.{bitsAt, enabledBy, receiving}
+use Rattle.machine.specs.Model.{Core, Model, withBegun}
+use Rattle.machine.specs.Events.{bitsAt, resumes, receiving}
 use Rattle.plan.proofs.Fitted.{Fitted}
-use Rattle.machine.proofs.Relation.Words.{at, Words, words-changed}
+use Rattle.machine.proofs.Relation.Words.{at, isAside, Words, words-changed}
 use Rattle.machine.proofs.Relation.Bits.{noted, Noted, noted-changed}
 use Rattle.machine.proofs.Relation.Nest.{nest-started}
 use Rattle.machine.proofs.Relation.Whole.{Tied}
@@ -53,6 +53,7 @@ module _ {c : Config} {p : Plan} {rk : ℕ → ℕ} (fit : Fitted c p rk) (m : M
       go : (z : Bool) → isSuspended (cond z started (waiting v)) ≡ false
       go true = refl
       go false = refl
+  resumed-active (triggered x) h = refl
 
   resumed-waits : (q : Phase) (v : ℕ) → resumed e q ≡ waiting v → q ≡ waiting v
   resumed-waits suspended v h = h
@@ -63,6 +64,7 @@ module _ {c : Config} {p : Plan} {rk : ℕ → ℕ} (fit : Fitted c p rk) (m : M
       go : (z : Bool) → cond z started (waiting u) ≡ waiting v → waiting u ≡ waiting v
       go true h = absurd (true≢false (sym (ap isWaiting h)))
       go false h = h
+  resumed-waits (triggered x) v h = h
 
   -- the bits stored at its rank, and no others, are other bits, which count from now on
   module _ (v : ℕ) where
@@ -89,78 +91,116 @@ module _ {c : Config} {p : Plan} {rk : ℕ → ℕ} (fit : Fitted c p rk) (m : M
       (stored-other (withBits (bitsAt m (rk b)) w))
       (λ r d. refl)
 
-  module _ {ns : List ℕ} (t : Tied c rk m bs ns) where
+  -- a body that is not started by time: only it and those that wait may be put aside
+  module _ {js ns : List ℕ} (t : Tied c rk m bs js ns) (plain : (x : Bool) → at bs b .phase ≢ triggered x) where
     abbrev y : Body
     y = receives w (at bs b)
 
+    -- whether it is resumed
+    abbrev go : Bool
+    go = resumes (rk b) (withBits (bitsAt m (rk b)) w) m
+
+    abbrev begins : Bool → ℕ
+    begins x = cond x (with (m .core .started) (rk b)) (m .core .started)
+
+    abbrev leaves : Bool → ℕ
+    leaves x = cond x (without (m .core .aside) (rk b)) (m .core .aside)
+
     abbrev k : Core
-    k = withEnabled (m .core) (enabledBy (rk b) (withBits (bitsAt m (rk b)) w) m)
+    k = withBegun (m .core) (begins go) (leaves go)
 
     -- its second request, if any, waits as before
     wants-same : (q : Phase) → requestWaits (at bs b) q ≡ requestWaits y (resumed e q)
     wants-same suspended = refl
     wants-same ready = refl
     wants-same started = refl
-    wants-same (waiting v) = go (anySet e v)
+    wants-same (waiting v) = same (anySet e v)
       where
-        go : (z : Bool) → at bs b .pending ≡ requestWaits y (cond z started (waiting v))
-        go true = refl
-        go false = refl
+        same : (z : Bool) → at bs b .pending ≡ requestWaits y (cond z started (waiting v))
+        same true = refl
+        same false = refl
+    wants-same (triggered x) = refl
 
-    begun-same : (q : Phase) → hasBegun q ≡ hasBegun (resumed e q)
-    begun-same suspended = refl
-    begun-same ready = refl
-    begun-same started = refl
-    begun-same (waiting v) = go (anySet e v)
+    -- "once a waited bit is set": it goes on, and is no longer put aside, exactly then
+    abbrev Moved : Phase → Bool → Type 0
+    Moved q x = (has (begins x) (rk b) ≡ isStarted (resumed e q)) × (has (leaves x) (rk b) ≡ isAside (resumed e q))
+
+    put-aside : (q : Phase) → at bs b .phase ≡ q → go ≡ isAside q && anySet (withBits (bitsAt m (rk b)) w) (getD (m .waited) (rk b) 0)
+    put-aside q z =
+        ap (λ (x : Bool). x && anySet (withBits (bitsAt m (rk b)) w) (getD (m .waited) (rk b) 0)) (t .words .put-aside b b< ∙ ap isAside z)
+
+    stays : (q : Phase) → at bs b .phase ≡ q → resumed e q ≡ q → isAside q ≡ false → Moved q go
+    stays q z same on =
+        let unmoved : go ≡ false = put-aside q z ∙ ap (λ (x : Bool). x && anySet (withBits (bitsAt m (rk b)) w) (getD (m .waited) (rk b) 0)) on in
+        subst (Moved q) (sym unmoved)
+        (t .words .goes-on b b< ∙ ap isStarted (z ∙ sym same), t .words .put-aside b b< ∙ ap isAside (z ∙ sym same))
+
+    moved : (q : Phase) → at bs b .phase ≡ q → Moved q go
+    moved suspended z = stays suspended z refl refl
+    moved ready z = stays ready z refl refl
+    moved started z = stays started z refl refl
+    moved (triggered x) z = absurd (plain x z)
+    moved (waiting v) z = subst (Moved (waiting v)) (sym go-is) (by (anySet e v))
       where
-        go : (z : Bool) → true ≡ hasBegun (cond z started (waiting v))
-        go true = refl
-        go false = refl
+        go-is : go ≡ anySet e v
+        go-is = put-aside (waiting v) z ∙ rw (bits-after, n .mask-is b v b< z)
 
-    stays-enabled : (a : Bool) → has (m .core .enabled) (rk b) ≡ true → has (cond a (with (m .core .enabled) (rk b)) (m .core .enabled)) (rk b) ≡ true
-    stays-enabled true h = has-with-same (m .core .enabled) (rk b) (rank-below fit b b<)
-    stays-enabled false h = h
+        by : (x : Bool) → (has (begins x) (rk b) ≡ isStarted (cond x started (waiting v))) × (has (leaves x) (rk b) ≡ isAside (cond x started (waiting v)))
+        by true = (has-with-same (m .core .started) (rk b) (rank-below fit b b<), has-without-same (m .core .aside) (rk b))
+        by false = (t .words .goes-on b b< ∙ ap isStarted z, t .words .put-aside b b< ∙ ap isAside z)
 
-    -- "once a waited bit is set": the enabled bit of a body that waits for v
-    enabled-same : (q : Phase) → at bs b .phase ≡ q → has (m .core .enabled) (rk b) ≡ not (isWaiting q)
-        → has (cond (anySet e (getD (m .waited) (rk b) 0)) (with (m .core .enabled) (rk b)) (m .core .enabled)) (rk b) ≡ not (isWaiting (resumed e q))
-    enabled-same suspended z h = stays-enabled (anySet e (getD (m .waited) (rk b) 0)) h
-    enabled-same ready z h = stays-enabled (anySet e (getD (m .waited) (rk b) 0)) h
-    enabled-same started z h = stays-enabled (anySet e (getD (m .waited) (rk b) 0)) h
-    enabled-same (waiting v) z h = rw (n .mask-is b v b< z) (go (anySet e v))
-      where
-        go : (a : Bool) → has (cond a (with (m .core .enabled) (rk b)) (m .core .enabled)) (rk b) ≡ not (isWaiting (cond a started (waiting v)))
-        go true = has-with-same (m .core .enabled) (rk b) (rank-below fit b b<)
-        go false = h
+    -- who is put aside then was so before, and who was started is so
+    aside-before : (q : Phase) → isAside (resumed e q) ≡ true → isAside q ≡ true
+    aside-before suspended h = h
+    aside-before ready h = h
+    aside-before started h = h
+    aside-before (waiting v) h = refl
+    aside-before (triggered x) h = h
+
+    started-before : (q : Phase) → isStarted (resumed e q) ≡ false → isStarted q ≡ false
+    started-before suspended h = h
+    started-before ready h = h
+    started-before started h = h
+    started-before (waiting v) h = refl
+    started-before (triggered x) h = h
 
     words : Words c rk k (set bs b y)
     words =
         words-changed fit (t .words) (t .size) b b< y k
+        (t .words .suits b .0, λ h. t .words .suits b .1 (aside-before (at bs b .phase) h))
         (record {
           asks = t .words .asks b b< ∙ wants-same (at bs b .phase);
-          begun = t .words .begun b b< ∙ begun-same (at bs b .phase);
-          awake = rw bits-after (enabled-same (at bs b .phase) refl (t .words .awake b b<));
-          quiet = λ h. t .words .quiet b (begun-same (at bs b .phase) ∙ h);
+          goes-on = moved (at bs b .phase) refl .0;
+          put-aside = moved (at bs b .phase) refl .1;
+          quiet = λ h. t .words .quiet b (started-before (at bs b .phase) h);
         })
         (record {
           request-lt = t .words .request-lt;
-          started-lt = t .words .started-lt;
-          enabled-lt = lt (anySet (withBits (bitsAt m (rk b)) w) (getD (m .waited) (rk b) 0));
+          started-lt = started-lt go;
+          aside-lt = aside-lt go;
           asks = λ r d. refl;
-          begun = λ r d. refl;
-          awake = λ r d. other (anySet (withBits (bitsAt m (rk b)) w) (getD (m .waited) (rk b) 0)) r d;
+          goes-on = λ r d. started-other go r d;
+          put-aside = λ r d. aside-other go r d;
         })
       where
-        lt : (a : Bool) → cond a (with (m .core .enabled) (rk b)) (m .core .enabled) < 2 ^ 32
-        lt true = with-lt (m .core .enabled) (rk b) (t .words .enabled-lt)
-        lt false = t .words .enabled-lt
+        started-lt : (x : Bool) → begins x < 2 ^ 32
+        started-lt true = with-lt (m .core .started) (rk b) (t .words .started-lt)
+        started-lt false = t .words .started-lt
 
-        other : (a : Bool) (r : ℕ) → r ≢ rk b → has (cond a (with (m .core .enabled) (rk b)) (m .core .enabled)) r ≡ has (m .core .enabled) r
-        other true r d = has-with-other (m .core .enabled) (rk b) r d
-        other false r d = refl
+        aside-lt : (x : Bool) → leaves x < 2 ^ 32
+        aside-lt true = without-lt (m .core .aside) (rk b) (t .words .aside-lt)
+        aside-lt false = t .words .aside-lt
+
+        started-other : (x : Bool) (r : ℕ) → r ≢ rk b → has (begins x) r ≡ has (m .core .started) r
+        started-other true r d = has-with-other (m .core .started) (rk b) r d
+        started-other false r d = refl
+
+        aside-other : (x : Bool) (r : ℕ) → r ≢ rk b → has (leaves x) r ≡ has (m .core .aside) r
+        aside-other true r d = has-without-other (m .core .aside) (rk b) r d
+        aside-other false r d = refl
 
     -- one of the nest is started, and stays so
-    pub receive-tied : Tied c rk (receiving (rk b) w m) (set bs b (receives w (at bs b))) ns
+    pub receive-tied : Tied c rk (receiving (rk b) w m) (set bs b (receives w (at bs b))) js ns
     receive-tied =
         events-tied
         (touched-tied t fit b b< y refl (λ h. like (at bs b .phase) (nest-started c bs b ns (t .nested) h)) k words refl refl)
@@ -173,6 +213,7 @@ module _ {c : Config} {p : Plan} {rk : ℕ → ℕ} (fit : Fitted c p rk) (m : M
         like ready h = refl
         like started h = refl
         like (waiting v) h = absurd (true≢false (sym h))
+        like (triggered x) h = refl
 
   pub clear-noted : length bs ≡ c .bodies
       → Noted c rk (without (m .cleared) (rk b)) (set (m .bits) (rk b) (withoutBits (bitsAt m (rk b)) w)) (m .waited) (set bs b (clears w (at bs b)))

@@ -7,7 +7,7 @@
 use Prim.Native.Nat.{ℕ, _<_}
 use mathlib.Core.Path.{_≡_, refl, sym, ap, _∙_}
 use mathlib.Core.Logic.{_≢_}
-use mathlib.Core.Bool.{Bool, true, false, true≢false, cond, not}
+use mathlib.Core.Bool.{Bool, true, false, true≢false, cond}
 use mathlib.Core.List.{List, [], _∷_, _++_}
 use native.Mathlib.Omega.{arith}
 use borrow.Author.Tests.{eq-eqb, ne-eqb}
@@ -16,19 +16,20 @@ use lib.ListN.{set, length-set}
 use lib.Seq.{getD-set-same, getD-set-other}
 use Rattle.number.proofs.Cases.{by-eq}
 use Rattle.config.specs.declared.Config.{Config}
+use Rattle.config.specs.Meaning.{isIsr}
 use Rattle.plan.specs.declared.Plan.{Plan}
-use Rattle.word.specs.Word.{without}
-use Rattle.word.proofs.Theorems.{has-without-same, has-without-other, without-lt}
+use Rattle.word.specs.Word.{with, without}
+use Rattle.word.proofs.Theorems.{has-with-same, has-with-other, with-lt, has-without-same, has-without-other, without-lt}
 use Rattle.stack.specs.Stack.{topRow}
-use Rattle.scheduler.specs.Body.{Body, isStarted, isWaiting, hasBegun, Phase, suspended, ready, started, waiting, become, activated, ended, finished, holds, current}
+use Rattle.scheduler.specs.Body.{Body, isStarted, Phase, suspended, ready, started, waiting, triggered, become, activated, ended, finished, holds, current}
 use Rattle.scheduler.specs.State.{noBody, among}
 use Rattle.scheduler.specs.Call.{requestWaits}
 use Rattle.machine.specs.Model.{Model, noRank, withCore}
-use Rattle.machine.specs.Arbiter.{leftWith, vacated, leaving, paused}
+use Rattle.machine.specs.Arbiter.{lastLevel, leftWith, vacated, leaving, paused}
 use Rattle.machine.specs.Events.{pausing}
 use Rattle.plan.proofs.Fitted.{Fitted}
 use Rattle.machine.proofs.Relation.Rows.{row-shows-top}
-use Rattle.machine.proofs.Relation.Words.{at, wants, Words, words-changed}
+use Rattle.machine.proofs.Relation.Words.{at, wants, isAside, Words, words-changed}
 use Rattle.machine.proofs.Relation.Slots.{slotsFor, slotsAlong, Slots}
 use Rattle.machine.proofs.Relation.Nest.{Nested, AllHold, Seats, Alike, alike-same, among-head, among-tail, not-among, nest-other, nested-alike, hold-alike, slotsAlong-alike}
 use Rattle.machine.proofs.Relation.Whole.{Tied}
@@ -37,8 +38,8 @@ use Rattle.machine.proofs.Change.Request.{events-tied}
 
 -- the last slot's holder takes the seat, at its level
 module _ {c : Config} {p : Plan} {rk : ℕ → ℕ} (fit : Fitted c p rk) (m : Model) (bs : List Body) where
-  last-seated : (ns : List ℕ) → Nested c bs ns → AllHold bs ns → Slots (m .held) (m .resource) (m .holder) (m .raised) (slotsAlong c rk bs ns)
-      → Seats c rk bs (topRow (m .holder)) (cond (eqb (topRow (m .holder)) noRank) 0 (topRow (m .raised))) ns
+  pub last-seated : (ns : List ℕ) → Nested c bs ns → AllHold bs ns → Slots (m .held) (m .resource) (m .holder) (m .raised) (slotsAlong c rk bs ns)
+      → Seats c rk bs [] (topRow (m .holder)) (lastLevel m) ns
   unfolding Seats slotsAlong slotsFor Nested
   last-seated [] k h q =
       let e : topRow (m .holder) ≡ noRank = row-shows-top (m .holder) [] (q .holders) in
@@ -47,16 +48,16 @@ module _ {c : Config} {p : Plan} {rk : ℕ → ℕ} (fit : Fitted c p rk) (m : M
     where
       go : (rs : List ℕ) → at bs b .held ≡ rs → holds (at bs b .held) ≡ true
           → Slots (m .held) (m .resource) (m .holder) (m .raised) (slotsFor c rk b (at bs b .held) ++ slotsAlong c rk bs ns)
-          → Seats c rk bs (topRow (m .holder)) (cond (eqb (topRow (m .holder)) noRank) 0 (topRow (m .raised))) (b ∷ ns)
+          → Seats c rk bs [] (topRow (m .holder)) (lastLevel m) (b ∷ ns)
       go [] e some q = absurd (true≢false (sym (rw e at some)))
       go (r ∷ rs) e some q =
           let first : topRow (m .holder) ≡ rk b = row-shows-top (m .holder) _ ((rw e at q) .holders) in
           let level : topRow (m .raised) ≡ current c b (at bs b) = row-shows-top (m .raised) _ ((rw e at q) .levels) ∙ sym (rw e) in
           (first, (rw (ne-eqb (topRow (m .holder)) noRank (λ z. absurd (omega (arith, z, first, rank-below fit b (k .0))))) level, λ i a. h i (among-tail i b ns a)))
 
--- the runner b, which holds nothing, becomes y, and leaves the level; the words are s and e then
+-- the runner b, which holds nothing, becomes y, and leaves the level; the words are s and a then
 module _ {c : Config} {p : Plan} {rk : ℕ → ℕ} (fit : Fitted c p rk) {m : Model} {bs : List Body} {b : ℕ} {ns : List ℕ}
-    (t : Tied c rk m bs (b ∷ ns)) (free : at bs b .held ≡ []) where
+    (t : Tied c rk m bs [] (b ∷ ns)) (free : at bs b .held ≡ []) where
   exists : b < c .bodies
   unfolding Nested
   exists = t .nested .0
@@ -77,7 +78,7 @@ module _ {c : Config} {p : Plan} {rk : ℕ → ℕ} (fit : Fitted c p rk) {m : M
   unfolding Seats
   hold = t .seats .1 .1
 
-  module _ (y : Body) (held : y .held ≡ []) (s e : ℕ) (words : Words c rk (leftWith m s e) (set bs b y)) where
+  module _ (y : Body) (held : y .held ≡ []) (s a : ℕ) (words : Words c rk (leftWith m s a) (set bs b y)) where
     abbrev bs′ : List Body
     bs′ = set bs b y
 
@@ -97,7 +98,7 @@ module _ {c : Config} {p : Plan} {rk : ℕ → ℕ} (fit : Fitted c p rk) {m : M
     slots′ : Slots (m .held) (m .resource) (m .holder) (m .raised) (slotsAlong c rk bs′ ns)
     slots′ = rw (sym slots-same) (t .slots)
 
-    left-tied : Tied c rk (withCore m (leftWith m s e)) bs′ ns
+    left-tied : Tied c rk (withCore m (leftWith m s a)) bs′ [] ns
     left-tied =
         let nested′ = nested-alike c rk bs bs′ ns alike below in
         record {
@@ -116,24 +117,25 @@ module _ {c : Config} {p : Plan} {rk : ℕ → ℕ} (fit : Fitted c p rk) {m : M
   out w = cond w (activated (ended (at bs b))) (ended (at bs b))
 
   -- the runner ends: ready where a request waited, which is then used up, else suspended
-  pub end-tied : Tied c rk (leaving m) (set bs b (finished (at bs b))) ns
+  pub end-tied : Tied c rk (leaving m) (set bs b (finished (at bs b))) [] ns
   end-tied =
       events-tied
-      (left-tied (finished (at bs b)) (held-none (at bs b .pending)) (without (m .core .started) (m .core .runner)) (m .core .enabled)
+      (left-tied (finished (at bs b)) (held-none (at bs b .pending)) (without (m .core .started) (m .core .runner)) (m .core .aside)
       (words-changed fit (t .words) (t .size) b exists (finished (at bs b)) (vacated m)
+      ((λ h. absurd (true≢false (sym h ∙ used-up (at bs b .pending)))), λ h. absurd (true≢false (sym h ∙ back (at bs b .pending))))
       (record {
         asks = t .words .asks b exists ∙ kept (at bs b .phase) was-started ∙ wants-then (at bs b .pending);
-        begun = rw (runner-rank, unbegun (at bs b .pending)) (has-without-same (m .core .started) (rk b));
-        awake = t .words .awake b exists ∙ ap not (woken (at bs b .phase) was-started) ∙ sym (ap not (awake-then (at bs b .pending)));
+        goes-on = rw (runner-rank, unstarted (at bs b .pending)) (has-without-same (m .core .started) (rk b));
+        put-aside = t .words .put-aside b exists ∙ on (at bs b .phase) was-started ∙ sym (back (at bs b .pending));
         quiet = λ _. used-up (at bs b .pending);
       })
       (record {
         request-lt = t .words .request-lt;
         started-lt = without-lt (m .core .started) (m .core .runner) (t .words .started-lt);
-        enabled-lt = t .words .enabled-lt;
+        aside-lt = t .words .aside-lt;
         asks = λ r n. refl;
-        begun = λ r n. rw runner-rank (has-without-other (m .core .started) (rk b) r n);
-        awake = λ r n. refl;
+        goes-on = λ r n. rw runner-rank (has-without-other (m .core .started) (rk b) r n);
+        put-aside = λ r n. refl;
       })))
       (leaving m .cleared)
       (leaving m .bits)
@@ -148,48 +150,51 @@ module _ {c : Config} {p : Plan} {rk : ℕ → ℕ} (fit : Fitted c p rk) {m : M
       kept ready h = absurd (true≢false (sym h))
       kept started h = refl
       kept (waiting w) h = absurd (true≢false (sym h))
+      kept (triggered x) h = absurd (true≢false (sym h))
 
       wants-then : (w : Bool) → w ≡ wants (out w)
       wants-then true = refl
       wants-then false = refl
 
-      unbegun : (w : Bool) → hasBegun (out w .phase) ≡ false
-      unbegun true = refl
-      unbegun false = refl
+      unstarted : (w : Bool) → isStarted (out w .phase) ≡ false
+      unstarted true = refl
+      unstarted false = refl
 
-      woken : (q : Phase) → isStarted q ≡ true → isWaiting q ≡ false
-      woken suspended h = refl
-      woken ready h = refl
-      woken started h = refl
-      woken (waiting w) h = absurd (true≢false (sym h))
+      on : (q : Phase) → isStarted q ≡ true → isAside q ≡ false
+      on suspended h = refl
+      on ready h = refl
+      on started h = refl
+      on (waiting w) h = absurd (true≢false (sym h))
+      on (triggered x) h = absurd (true≢false (sym h))
 
-      awake-then : (w : Bool) → isWaiting (out w .phase) ≡ false
-      awake-then true = refl
-      awake-then false = refl
+      back : (w : Bool) → isAside (out w .phase) ≡ false
+      back true = refl
+      back false = refl
 
       used-up : (w : Bool) → out w .pending ≡ false
       used-up true = refl
       used-up false = refl
 
-  -- the runner waits for an event bit, and has begun as before
-  pub pause-tied : (w : ℕ) → Tied c rk (pausing w m) (set bs b (become (waiting w) (at bs b))) ns
-  pause-tied w =
+  -- the runner, which is no ISR, waits for an event bit
+  pub pause-tied : isIsr c b ≡ false → (w : ℕ) → Tied c rk (pausing w m) (set bs b (become (waiting w) (at bs b))) [] ns
+  pause-tied task w =
       events-tied
-      (left-tied (become (waiting w) (at bs b)) free (m .core .started) (without (m .core .enabled) (m .core .runner))
+      (left-tied (become (waiting w) (at bs b)) free (without (m .core .started) (m .core .runner)) (with (m .core .aside) (m .core .runner))
       (words-changed fit (t .words) (t .size) b exists (become (waiting w) (at bs b)) (paused m)
+      (t .words .suits b .0, λ _. task)
       (record {
         asks = t .words .asks b exists ∙ same (at bs b .phase) was-started;
-        begun = t .words .begun b exists ∙ began (at bs b .phase) was-started;
-        awake = rw runner-rank (has-without-same (m .core .enabled) (rk b));
-        quiet = λ h. absurd (true≢false h);
+        goes-on = rw runner-rank (has-without-same (m .core .started) (rk b));
+        put-aside = rw runner-rank (has-with-same (m .core .aside) (rk b) (rank-below fit b exists));
+        quiet = λ _. single (at bs b .pending) refl;
       })
       (record {
         request-lt = t .words .request-lt;
-        started-lt = t .words .started-lt;
-        enabled-lt = without-lt (m .core .enabled) (m .core .runner) (t .words .enabled-lt);
+        started-lt = without-lt (m .core .started) (m .core .runner) (t .words .started-lt);
+        aside-lt = with-lt (m .core .aside) (m .core .runner) (t .words .aside-lt);
         asks = λ r n. refl;
-        begun = λ r n. refl;
-        awake = λ r n. rw runner-rank (has-without-other (m .core .enabled) (rk b) r n);
+        goes-on = λ r n. rw runner-rank (has-without-other (m .core .started) (rk b) r n);
+        put-aside = λ r n. rw runner-rank (has-with-other (m .core .aside) (rk b) r n);
       })))
       (pausing w m .cleared)
       (pausing w m .bits)
@@ -200,9 +205,8 @@ module _ {c : Config} {p : Plan} {rk : ℕ → ℕ} (fit : Fitted c p rk) {m : M
       same ready h = absurd (true≢false (sym h))
       same started h = refl
       same (waiting v) h = absurd (true≢false (sym h))
+      same (triggered x) h = absurd (true≢false (sym h))
 
-      began : (q : Phase) → isStarted q ≡ true → hasBegun q ≡ true
-      began suspended h = absurd (true≢false (sym h))
-      began ready h = absurd (true≢false (sym h))
-      began started h = refl
-      began (waiting v) h = absurd (true≢false (sym h))
+      single : (x : Bool) → at bs b .pending ≡ x → x ≡ false
+      single true e = absurd (true≢false (sym (t .words .suits b .0 e) ∙ task))
+      single false e = refl

@@ -29,7 +29,7 @@ use Rattle.machine.proofs.Arbitration.Dispatch.{rank-below}
 use Rattle.machine.proofs.Change.Hold.{exists, runner-rank, level-was, slots-are, held-tied}
 
 module _ {c : Config} {p : Plan} {rk : ℕ → ℕ} (fit : Fitted c p rk) {m : Model} {bs : List Body} {b : ℕ} {ns : List ℕ}
-    (t : Tied c rk m bs (b ∷ ns)) (r : ℕ) (r< : r < c .resources) (free : has (m .held) r ≡ false) where
+    (t : Tied c rk m bs [] (b ∷ ns)) (r : ℕ) (r< : r < c .resources) (free : has (m .held) r ≡ false) where
   abbrev level′ : ℕ
   level′ = max (getD (p .ceiling) r 0) (m .core .level)
 
@@ -79,7 +79,7 @@ module _ {c : Config} {p : Plan} {rk : ℕ → ℕ} (fit : Fitted c p rk) {m : M
         counted = omega (arith, old .counted, one-less);
       }
 
-  pub get-tied : Tied c rk (getting r level′ m) (set bs b (gets r (at bs b))) (b ∷ ns)
+  pub get-tied : Tied c rk (getting r level′ m) (set bs b (gets r (at bs b))) [] (b ∷ ns)
   unfolding slotsFor
   get-tied =
       held-tied fit t (gets r (at bs b)) refl refl level′ raised-level

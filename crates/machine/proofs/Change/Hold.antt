@@ -27,9 +27,9 @@ use Rattle.machine.specs.Model.{Model, noRank, withLevel, withSlots}
 use Rattle.machine.specs.Resources.{holding, latest}
 use Rattle.plan.proofs.Fitted.{Fitted}
 use Rattle.machine.proofs.Relation.Rows.{row-shows-top}
-use Rattle.machine.proofs.Relation.Words.{at, words-changed, marks-same, unmoved-same}
+use Rattle.machine.proofs.Relation.Words.{at, words-changed, marks-same, unmoved-same, isAside}
 use Rattle.machine.proofs.Relation.Slots.{Slot, slot, slotsFor, slotsAlong, holdersIn, Slots}
-use Rattle.machine.proofs.Relation.Nest.{Nested, Seats, Alike, alike-same, among-head, among-tail, nest-other, nest-exists, levelAt-alike, nested-alike, hold-alike, slotsAlong-alike}
+use Rattle.machine.proofs.Relation.Nest.{Nested, Seats, Alike, alike-same, among-head, among-tail, nest-other, nest-exists, nest-started, levelAt-alike, nested-alike, hold-alike, slotsAlong-alike}
 use Rattle.machine.proofs.Relation.Whole.{Tied}
 use Rattle.machine.proofs.Arbitration.Dispatch.{rank-below}
 
@@ -54,9 +54,22 @@ along-held c rk bs (b ∷ ns) = go (at bs b .held) (along-held c rk bs ns)
 eqb-sym : (a b : ℕ) → eqb a b ≡ eqb b a
 eqb-sym a b = by-eq a b (λ e. rw e) (λ n. ne-eqb a b n ∙ sym (ne-eqb b a (λ e. n (sym e))))
 
+-- a runner that isn't started, as no time-triggered task is, holds nothing
+pub holding-timed : {c : Config} {p : Plan} {rk : ℕ → ℕ} (fit : Fitted c p rk) {m : Model} {bs : List Body} {js ns : List ℕ} → Tied c rk m bs js ns → {j : ℕ}
+    → m .core .runner ≡ rk j → j < c .bodies → isStarted (at bs j .phase) ≡ false → holding m ≡ false
+holding-timed {c} {p} {rk} fit {m} {bs} {js} {ns} t {j} rank j< unstarted =
+    ap (λ (h : ℕ). eqb h (m .core .runner)) (row-shows-top (m .holder) _ (t .slots .holders)) ∙ go (along-held c rk bs ns)
+  where
+    go : {ss : List Slot} → Held rk ns ss → eqb (getD (holdersIn ss) 0 noRank) (m .core .runner) ≡ false
+    go nothing = ne-eqb noRank (m .core .runner) (λ z. absurd (omega (arith, z, rank, rank-below fit j j<)))
+    go (by a x xs among-a holder) =
+        ne-eqb (x .holder) (m .core .runner)
+        (λ z. let same : a ≡ j = fit .rank-inj a j (nest-exists c bs a ns (t .nested) among-a) j< (sym holder ∙ z ∙ rank) in
+        absurd (true≢false (sym (nest-started c bs a ns (t .nested) among-a) ∙ ap (λ (i : ℕ). isStarted (at bs i .phase)) same ∙ unstarted)))
+
 -- the runner is b
 module _ {c : Config} {p : Plan} {rk : ℕ → ℕ} (fit : Fitted c p rk) {m : Model} {bs : List Body} {b : ℕ} {ns : List ℕ}
-    (t : Tied c rk m bs (b ∷ ns)) where
+    (t : Tied c rk m bs [] (b ∷ ns)) where
   pub exists : b < c .bodies
   unfolding Nested
   exists = t .nested .0
@@ -123,12 +136,13 @@ module _ {c : Config} {p : Plan} {rk : ℕ → ℕ} (fit : Fitted c p rk) {m : M
     alike : (i : ℕ) → among i ns ≡ true → Alike (at bs i) (at bs′ i)
     alike i h = alike-same (sym (at-other i (nest-other c bs b i ns (t .nested) h)))
 
-    pub held-tied : Tied c rk (withSlots m l w rs hs ls) bs′ (b ∷ ns)
+    pub held-tied : Tied c rk (withSlots m l w rs hs ls) bs′ [] (b ∷ ns)
     unfolding Nested Seats slotsAlong
     held-tied =
         record {
           size = length-set bs b y ∙ t .size;
           words = words-changed fit (t .words) (t .size) b exists y (withLevel (m .core) l)
+              ((λ h. t .words .suits b .0 (sym second ∙ h)), λ h. t .words .suits b .1 (ap isAside (sym phase) ∙ h))
               (marks-same (t .words) b exists y phase second (m .core .runner) l) (unmoved-same (t .words) (m .core .runner) l (rk b));
           nested = (exists, (begun-same b ∙ t .nested .1 .0, (rw (sym (levelAt-alike c rk bs bs′ ns alike)) (t .nested .1 .1 .0), nested-alike c rk bs bs′ ns alike below)));
           seats = (runner-rank, (rw at-b level, hold-alike c rk bs bs′ ns alike (t .seats .1 .1)));

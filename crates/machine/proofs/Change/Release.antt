@@ -2,7 +2,7 @@
 -- Assumes nothing.
 use Prim.Native.Nat.{ℕ, _+_, max, _<_}
 use mathlib.Core.Path.{_≡_, refl, sym, ap, _∙_}
-use mathlib.Core.Bool.{true}
+use mathlib.Core.Bool.{true, false}
 use mathlib.Core.List.{List, [], _∷_, _++_, map, foldr}
 use native.Mathlib.Omega.{arith}
 use borrow.Author.Tests.{eq-eqb, ne-eqb}
@@ -10,7 +10,7 @@ use lib.Dec.{eqb}
 use lib.ListN.{set}
 use Rattle.number.proofs.Cases.{by-eq}
 use Rattle.config.specs.declared.Config.{Config}
-use Rattle.config.specs.Meaning.{ceiling, priorityOf}
+use Rattle.config.specs.Meaning.{isTimed, ceiling, priorityOf}
 use Rattle.plan.specs.declared.Plan.{Plan}
 use Rattle.word.specs.Word.{has, without}
 use Rattle.word.proofs.Theorems.{has-without-same, has-without-other}
@@ -24,12 +24,13 @@ use Rattle.machine.proofs.Relation.Rows.{Shows, row-shows-popped, row-s
 use Rattle.machine.proofs.Relation.Words.{at}
 use Rattle.machine.proofs.Relation.Slots.{Slot, slot, slotsFor, slotsAlong, Distinct, levelsIn, missing, Slots}
 use Rattle.machine.proofs.Relation.Free.{missing-one}
+use Rattle.machine.proofs.Relation.Kinds.{trigger-plain}
 use Rattle.machine.proofs.Relation.Whole.{Tied}
 use Rattle.machine.proofs.Change.Hold.{exists, runner-rank, first-own, slots-are, held-tied}
 
 -- the runner b holds r, taken after rs
 module _ {c : Config} {p : Plan} {rk : ℕ → ℕ} (fit : Fitted c p rk) {m : Model} {bs : List Body} {b : ℕ} {ns : List ℕ}
-    (t : Tied c rk m bs (b ∷ ns)) (r : ℕ) (r< : r < c .resources) (rs : List ℕ) (held-is : at bs b .held ≡ r ∷ rs) where
+    (t : Tied c rk m bs [] (b ∷ ns)) (untimed : isTimed c b ≡ false) (r : ℕ) (r< : r < c .resources) (rs : List ℕ) (held-is : at bs b .held ≡ r ∷ rs) where
   abbrev y : Body
   y = releases (at bs b)
 
@@ -48,7 +49,7 @@ module _ {c : Config} {p : Plan} {rk : ℕ → ℕ} (fit : Fitted c p rk) {m : M
   second-is : (q : List ℕ) → Shows (rowBytes (m .raised)) (foldr max (priorityOf c b) (map (ceiling c) (r ∷ rs)) ∷ levelsIn (slotsFor c rk b q ++ slotsAlong c rk bs ns))
       → eqb (secondRow (m .holder)) (m .core .runner) ≡ holds q → levelWithout (p .priority) m ≡ foldr max (priorityOf c b) (map (ceiling c) q)
   unfolding slotsFor
-  second-is [] k h = rw h (rw (runner-rank fit t) (fit .priority-at b (exists fit t)))
+  second-is [] k h = rw h (rw (runner-rank fit t) (fit .priority-at b (exists fit t) ∙ trigger-plain c b (exists fit t) untimed))
   second-is (x ∷ q) k h = rw h (row-shows-second (m .raised) _ _ k)
 
   level-is : levelWithout (p .priority) m ≡ current c b y
@@ -79,7 +80,7 @@ module _ {c : Config} {p : Plan} {rk : ℕ → ℕ} (fit : Fitted c p rk) {m : M
         counted = omega (arith, old .counted, one-more);
       }
 
-  pub release-tied : Tied c rk (releasing (p .priority) r m) (set bs b (releases (at bs b))) (b ∷ ns)
+  pub release-tied : Tied c rk (releasing (p .priority) r m) (set bs b (releases (at bs b))) [] (b ∷ ns)
   release-tied =
       held-tied fit t y refl refl (levelWithout (p .priority) m) level-is
       (without (m .held) r) (popRow (m .resource)) (popRow (m .holder)) (popRow (m .raised)) (rw held-y slots′)

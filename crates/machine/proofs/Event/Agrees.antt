@@ -3,11 +3,11 @@
 --   Agrees c p rk m s e   the event e does the same to the model m and to the state s
 --   agrees                an event that ends in an arbitrated model
 --   agrees-either         an event with the same status on both sides; agrees-attempt: one that changes nothing where it is refused
---   by-runner             either nobody runs on both sides, or one body on both
+--   by-caller             either nobody who may call runs on both sides, or one body on both; by-runner: who may not, too
 --
 -- Assumes nothing.
 use Prim.Native.Nat.{ℕ, zero, suc, _<_}
-use mathlib.Core.Path.{_≡_, refl, sym, ap, _∙_}
+use mathlib.Core.Path.{_≡_, refl, sym, ap, subst, _∙_}
 use mathlib.Core.Bool.{Bool, true, false, true≢false, cond}
 use mathlib.Core.Logic.{_≢_}
 use mathlib.Core.List.{List, [], _∷_, map}
@@ -18,31 +18,39 @@ use lib.ListN.{length, getD, set, take, replicate, length-map, List·getD-map, L
 use lib.Seq.{getD-set-same, getD-set-other, getD-take, ext-getD, length-take-le}
 use Rattle.number.proofs.Cases.{by-eq}
 use Rattle.config.specs.declared.Config.{Config}
+use Rattle.config.specs.Meaning.{executionLevel}
 use Rattle.plan.specs.declared.Plan.{Plan}
 use Rattle.scheduler.specs.Status.{done, Check, _gives_, firstGiven}
-use Rattle.scheduler.specs.Body.{Phase, suspended, ready, started, waiting, isSuspended, isWaiting, competes, Body, current, become}
-use Rattle.scheduler.specs.Choice.{Candidate, byHolding}
-use Rattle.scheduler.specs.State.{State, noBody, runner, changing}
-use Rattle.scheduler.specs.Call.{nobodyRuns, caller}
+use Rattle.scheduler.specs.Body.{Phase, suspended, ready, started, waiting, triggered, isSuspended, isWaiting, isStarted, hasBegun, competes, Body, current, become}
+use Rattle.scheduler.specs.Choice.{Candidate, byHolding, chosen}
+use Rattle.scheduler.specs.State.{State, noBody, runner, changing, latestOf}
+use Rattle.scheduler.specs.Event.{isTick}
+use Rattle.scheduler.specs.Call.{nobodyRuns, nobodyCalls, caller, statusOf, effectOf, refusalOf}
 use Rattle.scheduler.specs.Tick.{dues}
 use Rattle.scheduler.specs.Scheduler as Plain
-use Rattle.scheduler.specs.Scheduler.{Event, step, begins, dispatched, ending, noneDue, markOf}
+use Rattle.scheduler.specs.Scheduler.{Event, step, stepBy, begins, phaseBegun, dispatched, ending, noneDue, markOf}
 use Rattle.scheduler.proofs.Choice.{current-own, candidate-active, Taken, no-one, body, chosen-from}
 use Rattle.scheduler.proofs.Refusals.{begins-some}
-use Rattle.scheduler.proofs.Effects.{tables-dispatched}
+use Rattle.scheduler.proofs.Order.{Orderly, effect-orderly, refusal-orderly, orderly-step}
+use Rattle.scheduler.proofs.Effects.{tables-dispatched, no-tick}
 use Rattle.machine.specs.Model.{Model, Outcome, noRank, refusedWith}
+use Rattle.stack.specs.Stack.{rowBytes}
+use Rattle.machine.specs.Arbiter.{settled, timed}
 use Rattle.machine.specs.Events as Machine
-use Rattle.machine.specs.Events.{idles}
+use Rattle.machine.specs.Events.{idles, noCaller}
 use Rattle.machine.specs.Machine.{machineStep, lossesOf, matched, observed}
 use Rattle.plan.proofs.Fitted.{Fitted}
 use Rattle.machine.proofs.Relation.Words.{at}
-use Rattle.machine.proofs.Relation.Nest.{Nested, Seats}
+use Rattle.machine.proofs.Relation.Nest.{Nested, Seats, timed-seat}
+use Rattle.machine.proofs.Relation.Rows.{Shows}
+use Rattle.machine.proofs.Relation.Order.{latest-exists, latest-begun, kinds-of}
 use Rattle.machine.proofs.Relation.Cells.{Timed}
 use Rattle.machine.proofs.Relation.Losses.{Lost, lost-same}
 use Rattle.machine.proofs.Relation.Bits.{eventBits, Noted, noted-same}
-use Rattle.machine.proofs.Relation.Whole.{Tied, Sim}
+use Rattle.machine.proofs.Relation.Whole.{Tied, Calm, Sim}
 use Rattle.machine.proofs.Arbitration.Choice.{chosen-seated, chosen-none}
-use Rattle.machine.proofs.Arbitration.Dispatch.{Arbitrated, rank-below, calm-arbitrated}
+use Rattle.machine.proofs.Arbitration.Seat.{current-few}
+use Rattle.machine.proofs.Arbitration.Dispatch.{Seated, Arbitrated, rank-below, settled-tied, calm-arbitrated}
 
 -- what a change of one body keeps, it keeps of every body
 pub kept {ℓ} : {A : Type ℓ} (g : Body → A) (f : Body → Body) → ((x : Body) → g (f x) ≡ g x) → (bs : List Body) (i j : ℕ)
@@ -53,53 +61,96 @@ kept g f k (b ∷ bs) zero (suc j) = refl
 kept g f k (b ∷ bs) (suc i) zero = refl
 kept g f k (b ∷ bs) (suc i) (suc j) = kept g f k bs i j
 
--- who begins is a body that isn't suspended
-begins-unsuspended : (c : Config) (s : State) → begins (runner c s) ≡ true
+-- the latest time-triggered task that is started is a body that isn't suspended
+abbrev pub LatestActive : State → Type 0
+LatestActive s = (j : ℕ) (js : List ℕ) → s .order ≡ j ∷ js → (j < length (s .bodies)) × (isSuspended (at (s .bodies) j .phase) ≡ false)
+
+-- who begins is one, too
+begins-unsuspended : (c : Config) (s : State) → LatestActive s → begins (runner c s) ≡ true
     → (runner c s .number < length (s .bodies)) × (isSuspended (at (s .bodies) (runner c s .number) .phase) ≡ false)
-begins-unsuspended c s b = go (chosen-from byHolding refl c (s .bodies))
+begins-unsuspended c s top b = by (s .order) refl
   where
     active : (q : Phase) → competes q ≡ true → isSuspended q ≡ false
     active suspended h = absurd (true≢false (sym h))
     active ready h = refl
     active started h = refl
     active (waiting w) h = refl
+    active (triggered x) h = refl
 
-    go : Taken c (s .bodies) (runner c s) → (runner c s .number < length (s .bodies)) × (isSuspended (at (s .bodies) (runner c s .number) .phase) ≡ false)
-    go (no-one z) = absurd (true≢false (rw z at (begins-some (runner c s) b .0)))
-    go (body k h p z) =
-        let n : runner c s .number ≡ k = ap (λ (x : Candidate). x .number) (z ∙ candidate-active c k (at (s .bodies) k) (at (s .bodies) k .phase) p) in
-        rw n (h, active (at (s .bodies) k .phase) p)
+    go : (k : Candidate) → begins k ≡ true → Taken c (s .bodies) k → (k .number < length (s .bodies)) × (isSuspended (at (s .bodies) (k .number) .phase) ≡ false)
+    go k b (no-one z) = absurd (true≢false (rw z at (begins-some k b .0)))
+    go k b (body i h p z) =
+        let n : k .number ≡ i = ap (λ (x : Candidate). x .number) (z ∙ candidate-active c i (at (s .bodies) i) (at (s .bodies) i .phase) p) in
+        rw n (h, active (at (s .bodies) i .phase) p)
+
+    by : (os : List ℕ) → s .order ≡ os → (runner c s .number < length (s .bodies)) × (isSuspended (at (s .bodies) (runner c s .number) .phase) ≡ false)
+    by [] e =
+        let k : runner c s ≡ chosen c (s .bodies) = ap (λ (os : List ℕ). latestOf (s .bodies) os (chosen c (s .bodies))) e in
+        rw k (go (chosen c (s .bodies)) (rw k at b) (chosen-from byHolding refl c (s .bodies)))
+    by (j ∷ js) e =
+        let k : runner c s .number ≡ j = ap (λ (os : List ℕ). latestOf (s .bodies) os (chosen c (s .bodies)) .number) e in
+        rw k (top j js e)
 
 -- a dispatch changes no losses
 pub dispatched-losses : (c : Config) (s : State) (i : ℕ) → at (dispatched c s .bodies) i .losses ≡ at (s .bodies) i .losses
 dispatched-losses c s i = go (begins (runner c s))
   where
-    go : (b : Bool) → at ((cond b (changing (runner c s .number) (become started) s) s) .bodies) i .losses ≡ at (s .bodies) i .losses
-    go true = kept (λ x. x .losses) (become started) (λ x. refl) (s .bodies) (runner c s .number) i
+    go : (b : Bool) → at ((cond b (changing (runner c s .number) (become (phaseBegun (runner c s))) s) s) .bodies) i .losses ≡ at (s .bodies) i .losses
+    go true = kept (λ x. x .losses) (become (phaseBegun (runner c s))) (λ x. refl) (s .bodies) (runner c s .number) i
     go false = refl
 
--- nor event bits: who begins was not suspended, and does not wait
-pub dispatched-bits : (c : Config) (s : State) (i : ℕ) → eventBits (at (dispatched c s .bodies) i) ≡ eventBits (at (s .bodies) i)
-dispatched-bits c s i = go (begins (runner c s)) refl
-  where
-    go : (b : Bool) → begins (runner c s) ≡ b → eventBits (at ((cond b (changing (runner c s .number) (become started) s) s) .bodies) i) ≡ eventBits (at (s .bodies) i)
-    go false e = refl
-    go true e =
-        by-eq i (runner c s .number)
-        (λ z. let x = begins-unsuspended c s e in
-        rw z (ap eventBits (getD-set-same (s .bodies) (runner c s .number) (become started (at (s .bodies) (runner c s .number))) noBody (x .0)) ∙ sym (rw (x .1))))
-        (λ n. ap eventBits (getD-set-other (s .bodies) (runner c s .number) i (become started (at (s .bodies) (runner c s .number))) noBody n))
+-- what has begun neither waits nor is suspended
+begun-awake : (x : Bool) → isWaiting (cond x (triggered true) started) ≡ false
+begun-awake true = refl
+begun-awake false = refl
 
-pub dispatched-masks : (c : Config) (s : State) (i w : ℕ) → at (dispatched c s .bodies) i .phase ≡ waiting w → at (s .bodies) i .phase ≡ waiting w
-dispatched-masks c s i w = go (begins (runner c s)) refl
-  where
-    go : (b : Bool) → begins (runner c s) ≡ b → at ((cond b (changing (runner c s .number) (become started) s) s) .bodies) i .phase ≡ waiting w → at (s .bodies) i .phase ≡ waiting w
-    go false e h = h
-    go true e h =
-        by-eq i (runner c s .number)
-        (λ z. absurd (true≢false (sym (ap isWaiting h) ∙ ap (λ (j : ℕ). isWaiting (at (changing (runner c s .number) (become started) s .bodies) j .phase)) z
-        ∙ ap (λ (x : Body). isWaiting (x .phase)) (getD-set-same (s .bodies) (runner c s .number) (become started (at (s .bodies) (runner c s .number))) noBody (begins-unsuspended c s e .0)))))
-        (λ n. ap (λ (x : Body). x .phase) (sym (getD-set-other (s .bodies) (runner c s .number) i (become started (at (s .bodies) (runner c s .number))) noBody n)) ∙ h)
+begun-active : (x : Bool) → isSuspended (cond x (triggered true) started) ≡ false
+begun-active true = refl
+begun-active false = refl
+
+-- nor does a dispatch change event bits: who begins was not suspended, and does not wait
+module _ (c : Config) (s : State) (top : LatestActive s) where
+  abbrev began : Body → Body
+  began = become (phaseBegun (runner c s))
+
+  abbrev then : Bool → List Body
+  then b = (cond b (changing (runner c s .number) began s) s) .bodies
+
+  at-runner : begins (runner c s) ≡ true → at (then true) (runner c s .number) ≡ began (at (s .bodies) (runner c s .number))
+  at-runner e = getD-set-same (s .bodies) (runner c s .number) (began (at (s .bodies) (runner c s .number))) noBody (begins-unsuspended c s top e .0)
+
+  at-other : (i : ℕ) → i ≢ runner c s .number → at (then true) i ≡ at (s .bodies) i
+  at-other i n = getD-set-other (s .bodies) (runner c s .number) i (began (at (s .bodies) (runner c s .number))) noBody n
+
+  pub dispatched-bits : (i : ℕ) → eventBits (at (dispatched c s .bodies) i) ≡ eventBits (at (s .bodies) i)
+  dispatched-bits i = go (begins (runner c s)) refl
+    where
+      go : (b : Bool) → begins (runner c s) ≡ b → eventBits (at (then b) i) ≡ eventBits (at (s .bodies) i)
+      go false e = refl
+      go true e =
+          by-eq i (runner c s .number)
+          (λ z. rw z
+          (ap eventBits (at-runner e) ∙ rw (begun-active (runner c s .timed))
+          (sym (rw (begins-unsuspended c s top e .1)))))
+          (λ n. ap eventBits (at-other i n))
+
+  pub dispatched-masks : (i w : ℕ) → at (dispatched c s .bodies) i .phase ≡ waiting w → at (s .bodies) i .phase ≡ waiting w
+  dispatched-masks i w = go (begins (runner c s)) refl
+    where
+      go : (b : Bool) → begins (runner c s) ≡ b → at (then b) i .phase ≡ waiting w → at (s .bodies) i .phase ≡ waiting w
+      go false e h = h
+      go true e h =
+          by-eq i (runner c s .number)
+          (λ z. absurd (true≢false (sym (ap isWaiting h) ∙ ap (λ (j : ℕ). isWaiting (at (then true) j .phase)) z
+          ∙ ap (λ (x : Body). isWaiting (x .phase)) (at-runner e) ∙ begun-awake (runner c s .timed))))
+          (λ n. ap (λ (x : Body). x .phase) (sym (at-other i n)) ∙ h)
+
+  pub order-dispatched : dispatched c s .order ≡ s .order
+  order-dispatched = go (begins (runner c s))
+    where
+      go : (b : Bool) → (cond b (changing (runner c s .number) began s) s) .order ≡ s .order
+      go true = refl
+      go false = refl
 
 -- the same tests in the same order give the same status
 pub first-same : (a a′ : Bool) (st : ℕ) (ks ks′ : List Check) → a ≡ a′ → (a′ ≡ false → firstGiven ks ≡ firstGiven ks′)
@@ -107,6 +158,12 @@ pub first-same : (a a′ : Bool) (st : ℕ) (ks ks′ : List Check) → a ≡ a�
 unfolding firstGiven
 first-same a true st ks ks′ e f = rw e
 first-same a false st ks ks′ e f = rw e (f refl)
+
+-- where a status is 0 its first test has passed
+pub first-passed : (a : Bool) (st : ℕ) (ks : List Check) → st ≢ done → firstGiven ((a gives st) ∷ ks) ≡ done → a ≡ false
+unfolding firstGiven
+first-passed true st ks n e = absurd (n e)
+first-passed false st ks n e = refl
 
 -- a status other than 0 leaves m
 attempt-refused : (m : Model) (st : ℕ) (o : Outcome) → st ≢ done → Machine.attempt m st o ≡ refusedWith m st
@@ -120,20 +177,47 @@ pub record Agrees (c : Config) (p : Plan) (rk : ℕ → ℕ) (m : Model) (s : St
 -- what the two sides owe where the call is accepted: o is the machine's outcome, s′ the scheduler's state before the dispatch
 pub record Accepted (c : Config) (p : Plan) (rk : ℕ → ℕ) (o : Outcome) (s′ : State) : Type 0 where
   pub status : o .status ≡ done
-  pub arb : Arbitrated c p rk o (s′ .bodies) (dispatched c s′ .bodies)
+  pub arb : Arbitrated c p rk o s′
+  pub latest : LatestActive s′
+  pub row : Shows (rowBytes (o .model .triggered)) (map rk (s′ .order))
   pub size : length (s′ .bodies) ≡ c .bodies
   pub timed : Timed c p (o .model .counter) (o .model .on) (o .model .turning) (s′ .tables)
   pub lost : Lost c rk (o .model .losses) (s′ .bodies)
   pub noted : Noted c rk (o .model .cleared) (o .model .bits) (o .model .waited) (s′ .bodies)
 
+-- the time-triggered task j runs, as both sides see it
+pub record Enters (c : Config) (rk : ℕ → ℕ) (m : Model) (s : State) (j : ℕ) (js : List ℕ) : Type 0 where
+  pub order-is : s .order ≡ j ∷ js
+  pub runs : timed m ≡ true
+  pub not-idle : idles m ≡ false
+  pub somebody : nobodyRuns c s ≡ false
+  pub calls : caller c s ≡ j
+  pub timed-now : runner c s .timed ≡ true
+  pub rank : m .core .runner ≡ rk j
+  pub exists : j < c .bodies
+  pub phase : at (s .bodies) j .phase ≡ triggered true
+
+-- the state is in order before the dispatch, where the event is accepted and where it is refused, and after it; before the dispatch of a Tick
+-- a task may have been triggered that has still to begin
+pub record Keeps (c : Config) (s : State) : Type 0 where
+  pub effect : (e : Event) → isTick e ≡ false → statusOf c s e ≡ done → Orderly c (effectOf c s e)
+  pub refusal : (e : Event) → Orderly c (refusalOf c s (statusOf c s e) e)
+  pub next : (e : Event) → Orderly c (step c s e .state)
+
 -- the runner, body b of the nest, as both sides see it
 pub record Runs (c : Config) (rk : ℕ → ℕ) (m : Model) (s : State) (b : ℕ) (ns : List ℕ) : Type 0 where
-  pub tied : Tied c rk m (s .bodies) (b ∷ ns)
+  pub tied : Tied c rk m (s .bodies) [] (b ∷ ns)
+  pub none-timed : s .order ≡ []
+  pub may-call : noCaller m ≡ false
   pub not-idle : idles m ≡ false
+  pub calls-there : nobodyCalls c s ≡ false
   pub somebody : nobodyRuns c s ≡ false
   pub calls : caller c s ≡ b
   pub rank : m .core .runner ≡ rk b
   pub exists : b < c .bodies
+  pub started-now : isStarted (at (s .bodies) b .phase) ≡ true
+  pub plainly : timed m ≡ false
+  pub untimed : runner c s .timed ≡ false
 
 module _ {c : Config} {p : Plan} {rk : ℕ → ℕ} (fit : Fitted c p rk) where
   -- the losses by rank, looked up in body order, are the bodies' losses
@@ -159,33 +243,99 @@ module _ {c : Config} {p : Plan} {rk : ℕ → ℕ} (fit : Fitted c p rk) where
           ∙ l .of-body i h
           ∙ sym (List·getD-map (λ b. b .losses) bs i noBody)
 
-  -- either nobody runs on both sides, or body b on both
+  -- nobody runs on both sides, body b does on both, or the time-triggered task j does
   pub by-runner {ℓ} : {C : Type ℓ} {m : Model} {s : State} → Sim c p rk m s → (idles m ≡ true → nobodyRuns c s ≡ true → C)
-      → ((b : ℕ) (ns : List ℕ) → Runs c rk m s b ns → C) → C
+      → ((b : ℕ) (ns : List ℕ) → Runs c rk m s b ns → C) → ((j : ℕ) (js : List ℕ) → Enters c rk m s j js → C) → C
   unfolding Nested Seats
-  by-runner {C = C} {m = m} {s = s} sim f g = go (sim .nest) (sim .tied)
+  by-runner {C = C} {m = m} {s = s} sim f g h = by (s .order) refl (sim .tied)
     where
-      go : (ns : List ℕ) → Tied c rk m (s .bodies) ns → C
-      go [] t = f (eq-eqb (m .core .runner) noRank (t .seats .0)) (rw (chosen-none fit t (sim .calm) refl))
-      go (b ∷ ns) t =
-          let h = chosen-seated fit t (sim .calm) b ns refl in
+      chosen-is : s .order ≡ [] → runner c s ≡ chosen c (s .bodies)
+      chosen-is e = ap (λ (os : List ℕ). latestOf (s .bodies) os (chosen c (s .bodies))) e
+
+      go : s .order ≡ [] → (ns : List ℕ) → Tied c rk m (s .bodies) [] ns → Calm c (m .core .level) (s .bodies) → C
+      go e [] t calm = f (eq-eqb (m .core .runner) noRank (t .seats .0)) (rw (chosen-is e ∙ chosen-none fit t calm refl))
+      go e (b ∷ ns) t calm =
+          let h = chosen-is e ∙ chosen-seated fit t calm b ns refl in
           let low = current-own c b (at (s .bodies) b) in
+          let awake : idles m ≡ false = ne-eqb (m .core .runner) noRank (λ z. absurd (omega (arith, t .seats .0, z, rank-below fit b (t .nested .0)))) in
+          let plain : timed m ≡ false = ne-eqb (m .core .level) executionLevel (λ z. absurd (omega (arith, z, t .seats .1 .0, current-few fit b (at (s .bodies) b) (t .nested .0)))) in
+          let runs : nobodyRuns c s ≡ false = rw h (ne-eqb (current c b (at (s .bodies) b)) 0 (λ z. absurd (omega (arith, z, low, fit .own-some b (t .nested .0))))) in
           g b ns
           (record {
             tied = t;
-            not-idle = ne-eqb (m .core .runner) noRank (λ z. absurd (omega (arith, t .seats .0, z, rank-below fit b (t .nested .0))));
-            somebody = rw h (ne-eqb (current c b (at (s .bodies) b)) 0 (λ z. absurd (omega (arith, z, low, fit .own-some b (t .nested .0)))));
+            none-timed = e;
+            may-call = rw (awake, plain);
+            plainly = plain;
+            not-idle = awake;
+            calls-there = rw runs (ap (λ (x : Candidate). x .timed) h);
+            untimed = ap (λ (x : Candidate). x .timed) h;
+            somebody = runs;
             calls = ap (λ (x : Candidate). x .number) h;
             rank = t .seats .0;
             exists = t .nested .0;
+            started-now = t .nested .1 .0;
           })
 
-  pub idle-same : {m : Model} {s : State} → Sim c p rk m s → idles m ≡ nobodyRuns c s
-  idle-same sim = by-runner sim (λ i n. i ∙ sym n) (λ b ns k. k .not-idle ∙ sym (k .somebody))
+      by : (os : List ℕ) → s .order ≡ os → Tied c rk m (s .bodies) (s .order) (sim .nest) → C
+      by [] e t = go e (sim .nest) (rw e at t) (sim .calm)
+      by (j ∷ js) e t =
+          let seat = timed-seat c rk (s .bodies) j js (m .core .runner) (m .core .level) (sim .nest) (rw e at (t .seats)) in
+          let k : runner c s ≡ latestOf (s .bodies) (j ∷ js) (chosen c (s .bodies)) = ap (λ (os : List ℕ). latestOf (s .bodies) os (chosen c (s .bodies))) e in
+          let level : timed m ≡ true = eq-eqb (m .core .level) executionLevel (seat .1 .0) in
+          h j js
+          (record {
+            order-is = e;
+            runs = level;
+            not-idle = ne-eqb (m .core .runner) noRank (λ z. absurd (omega (arith, seat .0, z, rank-below fit j (latest-exists (sim .orderly) j js e))));
+            somebody = rw k;
+            calls = ap (λ (x : Candidate). x .number) k;
+            timed-now = ap (λ (x : Candidate). x .timed) k;
+            rank = seat .0;
+            exists = latest-exists (sim .orderly) j js e;
+            phase = latest-begun (sim .orderly) j js e;
+          })
+
+  -- nobody who may call runs on both sides, or body b does on both
+  pub by-caller {ℓ} : {C : Type ℓ} {m : Model} {s : State} → Sim c p rk m s → (noCaller m ≡ true → nobodyCalls c s ≡ true → C)
+      → ((b : ℕ) (ns : List ℕ) → Runs c rk m s b ns → C) → C
+  by-caller sim f g =
+      by-runner sim
+      (λ i n. f (rw i) (rw n))
+      g
+      (λ j js k. f (rw (k .not-idle, k .runs)) (rw (k .somebody, k .timed-now)))
+
+  pub caller-same : {m : Model} {s : State} → Sim c p rk m s → noCaller m ≡ nobodyCalls c s
+  caller-same sim = by-caller sim (λ i n. i ∙ sym n) (λ b ns k. k .may-call ∙ sym (k .calls-there))
+
+  -- every event keeps a state in order
+  pub keeps-of : {s : State} → Orderly c s → Keeps c s
+  unfolding stepBy
+  keeps-of {s} o =
+      record {
+        effect = λ e call z. effect-orderly c o e (no-tick e call) z;
+        refusal = λ e. refusal-orderly c o (statusOf c s e) e;
+        next = orderly-step c (fit .accepted) (fit .shaped) o;
+      }
+
+  -- of a state in order the latest time-triggered task has begun
+  pub seated-of : {s : State} → Orderly c s → Seated c s
+  seated-of o j js e = (latest-exists o j js e, ap hasBegun (latest-begun o j js e))
+
+  pub latest-of : {s : State} → Orderly c s → LatestActive s
+  latest-of o j js e = (rw (o .bodies-there) (latest-exists o j js e), ap isSuspended (latest-begun o j js e))
+
+  -- where no time-triggered task is started
+  pub untimed-tied : {m : Model} {bs : List Body} {ns os : List ℕ} → os ≡ [] → Tied c rk m bs [] ns → Tied c rk m bs os ns
+  untimed-tied {m} {bs} {ns} e = subst (λ (js : List ℕ). Tied c rk m bs js ns) (sym e)
+
+  -- an event that leaves a state in order ends in arbitration
+  pub settled-orderly : {m : Model} {ns : List ℕ} (s : State) → Orderly c s → Tied c rk m (s .bodies) (s .order) ns → Arbitrated c p rk (settled (p .priority) m) s
+  settled-orderly s o t = settled-tied fit s (seated-of o) (kinds-of o) t
 
   module _ {m : Model} {s : State} (e : Event) (o : Outcome) (st : ℕ) (ds : List Bool) (s″ : State)
       (machine : machineStep c p m e ≡ o) (plain : step c s e ≡ ending c st ds s″) (status : o .status ≡ st) (due : matched p m e ≡ ds)
-      (arb : Arbitrated c p rk o (s″ .bodies) (dispatched c s″ .bodies)) (size : length (s″ .bodies) ≡ c .bodies)
+      (arb : Arbitrated c p rk o s″) (latest : LatestActive s″) (orderly : Orderly c (step c s e .state))
+      (row : Shows (rowBytes (o .model .triggered)) (map rk (s″ .order))) (size : length (s″ .bodies) ≡ c .bodies)
       (timed : Timed c p (o .model .counter) (o .model .on) (o .model .turning) (s″ .tables)) (lost : Lost c rk (o .model .losses) (s″ .bodies))
       (noted : Noted c rk (o .model .cleared) (o .model .bits) (o .model .waited) (s″ .bodies)) where
     pub agrees : Agrees c p rk m s e
@@ -195,11 +345,13 @@ module _ {c : Config} {p : Plan} {rk : ℕ → ℕ} (fit : Fitted c p rk) where
           sim = rw (machine, plain)
               (record {
                 nest = arb .nest;
-                tied = arb .tied;
+                tied = rw (order-dispatched c s″ latest) (arb .tied);
                 calm = arb .calm;
                 timed = rw (tables-dispatched c s″) timed;
                 lost = lost-same (dispatched-losses c s″) lost;
-                noted = noted-same (dispatched-bits c s″) (dispatched-masks c s″) noted;
+                noted = noted-same (dispatched-bits c s″ latest) (dispatched-masks c s″ latest) noted;
+                orderly = rw plain at orderly;
+                row = rw (order-dispatched c s″ latest) row;
               });
         }
       where
@@ -215,29 +367,30 @@ module _ {c : Config} {p : Plan} {rk : ℕ → ℕ} (fit : Fitted c p rk) where
             }
 
   module _ {m : Model} {s : State} where
-    -- m′ and s″: what the two sides leave where the event is refused
+    -- next: the state after the event is in order; m′ and s″: what the two sides leave where the event is refused
     pub agrees-either : (e : Event) (stM stP : ℕ) (o : Outcome) (m′ : Model) (s′ s″ : State)
         → machineStep c p m e ≡ Machine.attempt m′ stM o
         → step c s e ≡ ending c stP (noneDue c s) (cond (eqb stP done) s′ s″)
         → matched p m e ≡ noneDue c s
-        → stM ≡ stP → (stP ≡ done → Accepted c p rk o s′) → (stP ≢ done → Sim c p rk m′ s″) → Agrees c p rk m s e
-    agrees-either e stM stP o m′ s′ s″ machine plain due same acc ref =
+        → stM ≡ stP → (stP ≡ done → Accepted c p rk o s′) → (stP ≢ done → Sim c p rk m′ s″) → Orderly c (step c s e .state) → Agrees c p rk m s e
+    agrees-either e stM stP o m′ s′ s″ machine plain due same acc ref next =
         by-eq stP done
         (λ z. let a = acc z in
         agrees e o stP (noneDue c s) s′
-        (machine ∙ rw (same, eq-eqb stP done z)) (plain ∙ rw (eq-eqb stP done z)) (a .status ∙ sym z) due (a .arb) (a .size) (a .timed) (a .lost) (a .noted))
+        (machine ∙ rw (same, eq-eqb stP done z)) (plain ∙ rw (eq-eqb stP done z)) (a .status ∙ sym z) due (a .arb) (a .latest) next (a .row) (a .size) (a .timed) (a .lost) (a .noted))
         (λ n. let k = ref n in
         agrees e (refusedWith m′ stM) stP (noneDue c s) s″
         (machine ∙ attempt-refused m′ stM o (λ z. n (sym same ∙ z))) (plain ∙ rw (ne-eqb stP done n)) same due
-        (calm-arbitrated fit s″ stM (k .tied) (k .calm)) (k .tied .size) (k .timed) (k .lost) (k .noted))
+        (calm-arbitrated fit s″ stM (seated-of (k .orderly)) (k .tied) (k .calm)) (latest-of (k .orderly)) next (k .row) (k .tied .size) (k .timed) (k .lost) (k .noted))
 
   module _ {m : Model} {s : State} (sim : Sim c p rk m s) where
     pub agrees-attempt : (e : Event) (stM stP : ℕ) (o : Outcome) (s′ : State)
         → machineStep c p m e ≡ Machine.attempt m stM o
         → step c s e ≡ ending c stP (noneDue c s) (cond (eqb stP done) s′ s)
         → matched p m e ≡ noneDue c s
-        → stM ≡ stP → (stP ≡ done → Accepted c p rk o s′) → Agrees c p rk m s e
-    agrees-attempt e stM stP o s′ machine plain due same acc = agrees-either e stM stP o m s′ s machine plain due same acc (λ _. sim)
+        → stM ≡ stP → (stP ≡ done → Accepted c p rk o s′) → Orderly c (step c s e .state) → Agrees c p rk m s e
+    agrees-attempt e stM stP o s′ machine plain due same acc next =
+        agrees-either e stM stP o m s′ s machine plain due same acc (λ _. sim) next
 
     -- an event that is no Tick has no match
     pub no-match : length (dues c s) ≡ p .count → replicate (p .count) false ≡ noneDue c s

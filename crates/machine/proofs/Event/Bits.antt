@@ -2,30 +2,32 @@
 -- Assumes nothing.
 use Prim.Native.Nat.{ℕ, _<_}
 use mathlib.Core.Path.{_≡_, refl, sym, ap, _∙_}
-use mathlib.Core.Bool.{Bool, true, false, true≢false, cond, not}
+use mathlib.Core.Bool.{Bool, true, false, true≢false, cond, not, _&&_}
 use mathlib.Core.List.{List, [], _∷_}
 use native.Mathlib.Omega.{arith}
-use borrow.Author.Tests.{not-false, not-true}
-use lib.Dec.{eqb}
+use borrow.Author.Tests.{not-false, not-true, eqb-true, ne-eqb, lt-ltb, le-ltb}
+use lib.Dec.{ltb, eqb}
 use lib.ListN.{length, getD, set, length-set}
 use lib.Seq.{getD-set-same, getD-set-other, set-getD}
+use Rattle.number.proofs.Cases.{by-lt}
 use Rattle.config.specs.declared.Config.{Config}
-use Rattle.config.specs.Meaning.{isTask, isExtended}
+use Rattle.config.specs.Meaning.{isr, extended, timeTriggered, isTask, isIsr, isExtended, isTimed}
 use Rattle.plan.specs.declared.Plan.{Plan}
 use Rattle.word.specs.Word.{has, without}
 use Rattle.scheduler.specs.Status.{done, callLevel, noSuch, access, holdsResource, wrongState}
 use Rattle.scheduler.specs.Bits.{anySet, withoutBits}
-use Rattle.scheduler.specs.Body.{Phase, suspended, ready, started, waiting, isSuspended, isStarted, competes, Body, holds, become, receives, clears}
-use Rattle.scheduler.specs.State.{State, noBody, bodyOf}
-use Rattle.scheduler.specs.Call.{nobodyRuns, caller, calling, active, waitStatus, setStatus, clearStatus, wait, setEvent, clear}
+use Rattle.scheduler.specs.Body.{Phase, suspended, ready, started, waiting, triggered, isSuspended, isStarted, competes, Body, holds, become, receives, clears}
+use Rattle.scheduler.specs.State.{State, noBody, bodyOf, changing}
+use Rattle.scheduler.specs.Call.{nobodyCalls, caller, calling, active, waitStatus, setStatus, clearStatus, wait, setEvent, clear}
 use Rattle.scheduler.specs.Tick.{dues}
 use Rattle.scheduler.specs.Scheduler.{Wait, Set, Clear, stepBy}
-use Rattle.scheduler.proofs.Checks.{wait-passed, set-passed, clear-passed}
-use Rattle.machine.specs.Model.{Model, noRank, withEnabled, doneWith}
+use Rattle.scheduler.proofs.Checks.{wait-passed, set-passed}
+use Rattle.scheduler.proofs.Order.{Orderly}
+use Rattle.machine.specs.Model.{Model, noRank, withBegun, doneWith}
 use Rattle.machine.specs.Arbiter.{settled}
 use Rattle.machine.specs.Resources.{holding}
 use Rattle.machine.specs.Events as Machine
-use Rattle.machine.specs.Events.{idles, busy, bitsAt, pausing, receiving, clearing}
+use Rattle.machine.specs.Events.{noCaller, busy, bitsAt, pausing, receiving, clearing}
 use Rattle.machine.specs.Machine.{statusOf, effectOf, refusalOf}
 use Rattle.plan.proofs.Fitted.{Fitted}
 use Rattle.machine.proofs.Relation.Words.{at, busy-is, words-changed, marks-same, unmoved-same}
@@ -33,12 +35,13 @@ use Rattle.machine.proofs.Relation.Nest.{Nested}
 use Rattle.machine.proofs.Relation.Losses.{lost-same}
 use Rattle.machine.proofs.Relation.Bits.{Noted, noted-changed}
 use Rattle.machine.proofs.Relation.Whole.{Tied, Sim}
-use Rattle.machine.proofs.Arbitration.Dispatch.{rank-below, settled-tied, calm-arbitrated}
+use Rattle.machine.proofs.Relation.Order.{both, and-false, untriggered}
+use Rattle.machine.proofs.Arbitration.Dispatch.{rank-below, calm-arbitrated}
 use Rattle.machine.proofs.Change.Request.{touched-tied, events-tied}
 use Rattle.machine.proofs.Change.End.{pause-tied}
 use Rattle.machine.proofs.Change.Bits.{bits-of, receive-tied, receive-noted, clear-noted}
-use Rattle.machine.proofs.Event.Agrees.{kept, first-same, Agrees, Accepted, Runs, by-runner, idle-same, agrees-attempt, no-match}
-use Rattle.machine.proofs.Event.Bodies.{task-exists, nothing-held, no-task, task-rank-is, holding-same}
+use Rattle.machine.proofs.Event.Agrees.{kept, first-same, first-passed, Agrees, Accepted, Keeps, Runs, by-caller, caller-same, seated-of, latest-of, untimed-tied, settled-orderly, agrees-attempt, no-match}
+use Rattle.machine.proofs.Event.Bodies.{task-exists, nothing-held, holding-same}
 
 -- a body that is started isn't suspended
 started-active : (q : Phase) → isStarted q ≡ true → isSuspended q ≡ false
@@ -46,9 +49,10 @@ started-active suspended h = absurd (true≢false (sym h))
 started-active ready h = refl
 started-active started h = refl
 started-active (waiting w) h = refl
+started-active (triggered x) h = refl
 
 module _ {c : Config} {p : Plan} {rk : ℕ → ℕ} (fit : Fitted c p rk) {m : Model} {s : State} (sim : Sim c p rk m s)
-    (long : length (dues c s) ≡ p .count) where
+    (keeps : Keeps c s) (long : length (dues c s) ≡ p .count) where
   abbrev bs : List Body
   bs = s .bodies
 
@@ -63,12 +67,12 @@ module _ {c : Config} {p : Plan} {rk : ℕ → ℕ} (fit : Fitted c p rk) {m : M
   -- Wait
   wait-status : (w : ℕ) → Machine.waitStatus (p .extended) m ≡ waitStatus c s w
   wait-status w =
-      by-runner fit sim
-      (λ i n. first-same (idles m) (nobodyRuns c s) callLevel _ _ (i ∙ sym n) (λ h. absurd (true≢false (sym n ∙ h))))
+      by-caller fit sim
+      (λ i n. first-same (noCaller m) (nobodyCalls c s) callLevel _ _ (i ∙ sym n) (λ h. absurd (true≢false (sym n ∙ h))))
       (λ b ns k.
-      first-same (idles m) (nobodyRuns c s) callLevel _ _ (k .not-idle ∙ sym (k .somebody))
+      first-same (noCaller m) (nobodyCalls c s) callLevel _ _ (k .may-call ∙ sym (k .calls-there))
       (λ _. first-same (not (has (p .extended) (m .core .runner))) (not (isExtended c (caller c s))) access _ _ (ap not (extended-same k))
-      (λ _. first-same (holding m) (holds (calling c s .held)) holdsResource _ _ (holding-same fit sim long k) (λ _. refl))))
+      (λ _. first-same (holding m) (holds (calling c s .held)) holdsResource _ _ (holding-same fit sim keeps long k) (λ _. refl))))
 
   -- where no waited bit is set the runner waits
   paused-noted : {b : ℕ} {ns : List ℕ} → Runs c rk m s b ns → (w : ℕ)
@@ -91,24 +95,41 @@ module _ {c : Config} {p : Plan} {rk : ℕ → ℕ} (fit : Fitted c p rk) {m : M
       mask : (u v : ℕ) → waiting u ≡ waiting v → u ≡ v
       mask u v h = cc
 
-  wait-accepted : {b : ℕ} {ns : List ℕ} → Runs c rk m s b ns → (w : ℕ) → at bs b .held ≡ [] → (z : Bool)
-      → Accepted c p rk (cond z (doneWith m false) (settled (p .priority) (pausing w m)))
-      (record { bodies = set bs b (cond z (at bs b) (become (waiting w) (at bs b))); tables = s .tables })
-  wait-accepted {b} k w free true =
+  -- a task, and no ISR
+  extended-task : (b : ℕ) → isExtended c b ≡ true → isIsr c b ≡ false
+  extended-task b e =
+      let k = both (ltb b (c .bodies)) _ e in
+      ap (λ (x : Bool). ltb b (c .bodies) && x) (ne-eqb (getD (c .kind) b 0) isr (λ z. absurd (omega (arith, z, eqb-true (getD (c .kind) b 0) extended (k .1)))))
+      ∙ and-false (ltb b (c .bodies))
+
+  extended-untimed : (b : ℕ) → isExtended c b ≡ true → isTimed c b ≡ false
+  extended-untimed b e =
+      let k = both (ltb b (c .bodies)) _ e in
+      ap (λ (x : Bool). ltb b (c .bodies) && x) (ne-eqb (getD (c .kind) b 0) timeTriggered (λ z. absurd (omega (arith, z, eqb-true (getD (c .kind) b 0) extended (k .1)))))
+      ∙ and-false (ltb b (c .bodies))
+
+  wait-accepted : {b : ℕ} {ns : List ℕ} → Runs c rk m s b ns → isIsr c b ≡ false → (w : ℕ) → at bs b .held ≡ [] → (z : Bool)
+      → Orderly c (changing b (λ x. cond z x (become (waiting w) x)) s)
+      → Accepted c p rk (cond z (doneWith m false) (settled (p .priority) (pausing w m))) (changing b (λ x. cond z x (become (waiting w) x)) s)
+  wait-accepted {b} k task w free true mid =
       rw (set-getD bs b noBody)
       (record {
         status = refl;
-        arb = calm-arbitrated fit s done (sim .tied) (sim .calm);
+        arb = calm-arbitrated fit s done (seated-of fit (sim .orderly)) (sim .tied) (sim .calm);
+        latest = latest-of fit (sim .orderly);
+        row = sim .row;
         size = sim .tied .size;
         timed = sim .timed;
         lost = sim .lost;
         noted = sim .noted;
       })
-  wait-accepted {b} k w free false =
+  wait-accepted {b} k task w free false mid =
       record {
         status = refl;
-        arb = settled-tied fit (record { bodies = set bs b (become (waiting w) (at bs b)); tables = s .tables }) (pause-tied fit (k .tied) free w);
-        size = length-set bs b (become (waiting w) (at bs b)) ∙ sim .tied .size;
+        arb = settled-orderly fit (changing b (become (waiting w)) s) mid (untimed-tied fit (k .none-timed) (pause-tied fit (k .tied) free task w));
+        latest = latest-of fit mid;
+        row = sim .row;
+        size = mid .bodies-there;
         timed = sim .timed;
         lost = lost-same (kept (λ x. x .losses) (become (waiting w)) (λ x. refl) bs b) (sim .lost);
         noted = paused-noted k w;
@@ -120,57 +141,79 @@ module _ {c : Config} {p : Plan} {rk : ℕ → ℕ} (fit : Fitted c p rk) {m : M
       agrees-attempt fit sim (Wait w) (Machine.waitStatus (p .extended) m) (waitStatus c s w) (Machine.waitEffect (p .priority) m w) (wait (caller c s) w s)
       refl refl (no-match fit sim long) (wait-status w)
       (λ z. let a = wait-passed c s w z in
-      by-runner fit sim
-      (λ i n. absurd (true≢false (sym n ∙ a .0)))
+      let mid = keeps .effect (Wait w) refl z in
+      by-caller fit sim
+      (λ i n. absurd (true≢false (sym n ∙ first-passed (nobodyCalls c s) callLevel _ (λ e. absurd (omega (arith, e))) z)))
       (λ b ns k.
       let free : at bs b .held ≡ [] = nothing-held (at bs b .held) (sym (ap (λ (i : ℕ). holds (bodyOf s i .held)) (k .calls)) ∙ a .2) in
+      let task : isIsr c b ≡ false = extended-task b (ap (isExtended c) (sym (k .calls)) ∙ a .1) in
       rw (k .calls)
-      (rw (ap (bitsAt m) (k .rank) ∙ bits-of m (sim .noted) b (k .exists) (runner-active k)) (wait-accepted k w free (anySet (at bs b .bits) w)))))
+      (rw (ap (bitsAt m) (k .rank) ∙ bits-of m (sim .noted) b (k .exists) (runner-active k))
+      (wait-accepted k task w free (anySet (at bs b .bits) w) (rw (k .calls) at mid)))))
+      (keeps .next (Wait w))
 
   -- Set
-  set-status : (t w : ℕ) → Machine.setStatus (p .extended) (p .task) m t ≡ setStatus c s t w
+  rank-is : (t : ℕ) → t < c .bodies → getD (p .rank) t noRank ≡ rk t
+  rank-is t h = fit .body-rank t h
+
+  no-task-is : (t : ℕ) → Machine.noTask (p .isrs) (getD (p .rank) t noRank) ≡ not (isTask c t)
+  no-task-is t =
+      by-lt t (c .bodies)
+      (λ h. rw (rank-is t h, ne-eqb (rk t) noRank (λ z. absurd (omega (arith, z, rank-below fit t h))), fit .isr-at t h, lt-ltb t (c .bodies) h) (sym (not-not (eqb (getD (c .kind) t 0) isr))))
+      (λ h. rw (fit .rank-none t h, le-ltb t (c .bodies) h))
+    where
+      not-not : (x : Bool) → not (not x) ≡ x
+      not-not true = refl
+      not-not false = refl
+
+  set-status : (t w : ℕ) → Machine.setStatus (p .isrs) (p .extended) (p .rank) m t ≡ setStatus c s t w
   set-status t w =
-      first-same (idles m) (nobodyRuns c s) callLevel _ _ (idle-same fit sim)
-      (λ _. first-same (eqb (getD (p .task) t noRank) noRank) (not (isTask c t)) noSuch _ _ (no-task fit t)
-      (λ h. let q = not-false (isTask c t) h in
-      first-same (not (has (p .extended) (getD (p .task) t noRank))) (not (isExtended c t)) access _ _
-      (rw (task-rank-is fit t q) (ap not (fit .extended-at t (task-exists c t q))))
-      (λ _. first-same (not (busy m (getD (p .task) t noRank))) (not (active s t)) wrongState _ _
-      (rw (task-rank-is fit t q) (ap not (busy-is (sim .tied .words) t (task-exists c t q))))
+      first-same (noCaller m) (nobodyCalls c s) callLevel _ _ (caller-same fit sim)
+      (λ _. first-same (Machine.noTask (p .isrs) (getD (p .rank) t noRank)) (not (isTask c t)) noSuch _ _ (no-task-is t)
+      (λ h. let t< = task-exists c t (not-false (isTask c t) h) in
+      first-same (not (has (p .extended) (getD (p .rank) t noRank))) (not (isExtended c t)) access _ _
+      (rw (rank-is t t<) (ap not (fit .extended-at t t<)))
+      (λ _. first-same (not (busy m (getD (p .rank) t noRank))) (not (active s t)) wrongState _ _
+      (rw (rank-is t t<) (ap not (busy-is (sim .tied .words) t t<)))
       (λ _. refl))))
 
   pub agrees-set : (t w : ℕ) → Agrees c p rk m s (Set t w)
   unfolding statusOf effectOf refusalOf stepBy
   agrees-set t w =
-      agrees-attempt fit sim (Set t w) (Machine.setStatus (p .extended) (p .task) m t) (setStatus c s t w)
-      (settled (p .priority) (receiving (getD (p .task) t noRank) w m)) (setEvent t w s) refl refl (no-match fit sim long) (set-status t w)
+      agrees-attempt fit sim (Set t w) (Machine.setStatus (p .isrs) (p .extended) (p .rank) m t) (setStatus c s t w)
+      (settled (p .priority) (receiving (getD (p .rank) t noRank) w m)) (setEvent t w s) refl refl (no-match fit sim long) (set-status t w)
       (λ z. let a = set-passed c s t w z in
       let t< = task-exists c t (a .1) in
+      let mid = keeps .effect (Set t w) refl z in
       let act : isSuspended (at bs t .phase) ≡ false = not-true (isSuspended (at bs t .phase)) (a .3) in
-      rw (task-rank-is fit t (a .1))
+      rw (rank-is t t<)
       (record {
         status = refl;
-        arb = settled-tied fit (setEvent t w s) (receive-tied fit m t t< (sim .noted) act w (sim .tied));
-        size = length-set bs t (receives w (bodyOf s t)) ∙ sim .tied .size;
+        arb = settled-orderly fit (setEvent t w s) mid (receive-tied fit m t t< (sim .noted) act w (sim .tied) (untriggered (sim .orderly) t (extended-untimed t (a .2))));
+        latest = latest-of fit mid;
+        row = sim .row;
+        size = mid .bodies-there;
         timed = sim .timed;
         lost = lost-same (kept (λ x. x .losses) (receives w) (λ x. refl) bs t) (sim .lost);
         noted = receive-noted fit m t t< (sim .noted) act w (sim .tied .size);
       }))
+      (keeps .next (Set t w))
 
   -- Clear
   clear-status : (w : ℕ) → Machine.clearStatus (p .extended) m ≡ clearStatus c s w
   clear-status w =
-      by-runner fit sim
-      (λ i n. first-same (idles m) (nobodyRuns c s) callLevel _ _ (i ∙ sym n) (λ h. absurd (true≢false (sym n ∙ h))))
+      by-caller fit sim
+      (λ i n. first-same (noCaller m) (nobodyCalls c s) callLevel _ _ (i ∙ sym n) (λ h. absurd (true≢false (sym n ∙ h))))
       (λ b ns k.
-      first-same (idles m) (nobodyRuns c s) callLevel _ _ (k .not-idle ∙ sym (k .somebody))
+      first-same (noCaller m) (nobodyCalls c s) callLevel _ _ (k .may-call ∙ sym (k .calls-there))
       (λ _. first-same (not (has (p .extended) (m .core .runner))) (not (isExtended c (caller c s))) access _ _ (ap not (extended-same k)) (λ _. refl)))
 
-  clear-tied : {b : ℕ} {ns : List ℕ} → Runs c rk m s b ns → (w : ℕ) → Tied c rk (clearing w m) (set bs b (clears w (at bs b))) (b ∷ ns)
+  clear-tied : {b : ℕ} {ns : List ℕ} → Runs c rk m s b ns → (w : ℕ) → Tied c rk (clearing w m) (set bs b (clears w (at bs b))) [] (b ∷ ns)
   clear-tied {b} k w =
       events-tied
-      (touched-tied (k .tied) fit b (k .exists) (clears w (at bs b)) refl (λ _. refl) (withEnabled (m .core) (m .core .enabled))
-      (words-changed fit (k .tied .words) (k .tied .size) b (k .exists) (clears w (at bs b)) (withEnabled (m .core) (m .core .enabled))
+      (touched-tied (k .tied) fit b (k .exists) (clears w (at bs b)) refl (λ _. refl) (withBegun (m .core) (m .core .started) (m .core .aside))
+      (words-changed fit (k .tied .words) (k .tied .size) b (k .exists) (clears w (at bs b)) (withBegun (m .core) (m .core .started) (m .core .aside))
+      (k .tied .words .suits b)
       (marks-same (k .tied .words) b (k .exists) (clears w (at bs b)) refl refl (m .core .runner) (m .core .level))
       (unmoved-same (k .tied .words) (m .core .runner) (m .core .level) (rk b)))
       refl
@@ -184,16 +227,19 @@ module _ {c : Config} {p : Plan} {rk : ℕ → ℕ} (fit : Fitted c p rk) {m : M
   agrees-clear w =
       agrees-attempt fit sim (Clear w) (Machine.clearStatus (p .extended) m) (clearStatus c s w) (doneWith (clearing w m) false) (clear (caller c s) w s)
       refl refl (no-match fit sim long) (clear-status w)
-      (λ z. let a = clear-passed c s w z in
-      by-runner fit sim
-      (λ i n. absurd (true≢false (sym n ∙ a .0)))
+      (λ z. let mid = keeps .effect (Clear w) refl z in
+      by-caller fit sim
+      (λ i n. absurd (true≢false (sym n ∙ first-passed (nobodyCalls c s) callLevel _ (λ e. absurd (omega (arith, e))) z)))
       (λ b ns k. rw (k .calls)
       (record {
         status = refl;
-        arb = calm-arbitrated fit (clear b w s) done (clear-tied k w)
+        latest = latest-of fit (rw (k .calls) at mid);
+        row = sim .row;
+        arb = calm-arbitrated fit (clear b w s) done (seated-of fit (rw (k .calls) at mid)) (untimed-tied fit (k .none-timed) (clear-tied k w))
             (λ i i< u. sim .calm i i< (sym (kept (λ x. competes (x .phase)) (clears w) (λ x. refl) bs b i) ∙ u));
         size = length-set bs b (clears w (at bs b)) ∙ sim .tied .size;
         timed = sim .timed;
         lost = lost-same (kept (λ x. x .losses) (clears w) (λ x. refl) bs b) (sim .lost);
         noted = rw (k .rank) (clear-noted fit m b (k .exists) (sim .noted) (runner-active k) w (sim .tied .size));
       })))
+      (keeps .next (Clear w))

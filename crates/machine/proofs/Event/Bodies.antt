@@ -4,7 +4,7 @@ use Prim.Native.Nat.{ℕ, _<_}
 use mathlib.Core.Path.{_≡_, refl, sym, ap, ap₂, subst, _∙_}
 use mathlib.Core.Logic.{_≢_}
 use mathlib.Core.Bool.{Bool, true, false, true≢false, cond, not, _&&_, _||_}
-use mathlib.Core.List.{List, [], _∷_}
+use mathlib.Core.List.{List, [], _∷_, map}
 use native.Mathlib.Omega.{arith}
 use borrow.Author.Tests.{eq-eqb, ne-eqb, ltb-true, not-false}
 use lib.Dec.{ltb, eqb}
@@ -12,36 +12,42 @@ use lib.ListN.{length, getD, set, length-set}
 use lib.Seq.{getD-set-same, getD-set-other}
 use Rattle.number.proofs.Cases.{by-eq}
 use Rattle.config.specs.declared.Config.{Config}
-use Rattle.config.specs.Meaning.{countsLines, isTask, isIsr}
+use Rattle.config.specs.Meaning.{countsLines, isTask, isOsekTask, isIsr}
 use Rattle.plan.specs.declared.Plan.{Plan}
 use Rattle.word.specs.Word.{has, with}
+use Rattle.stack.specs.Stack.{popRow, rowBytes}
 use Rattle.word.proofs.Theorems.{has-with-same, has-with-other}
 use Rattle.scheduler.specs.Status.{firstGiven, callLevel, noSuch, limitReached, holdsResource}
-use Rattle.scheduler.specs.Body.{Phase, suspended, ready, started, waiting, isWaiting, hasBegun, competes, Body, holds, activated, ended, finished, requested, loses}
-use Rattle.scheduler.specs.State.{State, noBody, bodyOf, changing}
-use Rattle.scheduler.specs.Call.{nobodyRuns, caller, calling, active, activateStatus, finishStatus, chainStatus, lineStatus, activate, finish, chain, line}
+use Rattle.scheduler.specs.Body.{Phase, suspended, ready, started, waiting, triggered, isStarted, isWaiting, hasBegun, competes, Body, holds, activated, ended, finished, rest, requested, loses}
+use Rattle.scheduler.specs.State.{State, noBody, among, bodyOf, changing, runner}
+use Rattle.scheduler.specs.Call.{nobodyRuns, nobodyCalls, caller, calling, active, activateStatus, finishStatus, chainStatus, lineStatus, activate, finish, finishTimed, chain, line}
 use Rattle.scheduler.specs.Call as Plain
 use Rattle.scheduler.specs.Tick.{dues}
 use Rattle.scheduler.specs.Scheduler.{Activate, Finish, Chain, Line, stepBy}
 use Rattle.scheduler.proofs.Effects.{finished-losses}
+use Rattle.scheduler.proofs.Order.{Orderly}
 use Rattle.scheduler.proofs.Checks.{activate-passed, finish-passed, chain-passed, line-passed}
 use Rattle.machine.specs.Model.{Model, noRank, withLosses}
-use Rattle.machine.specs.Arbiter.{settled, leaving, requesting}
+use Rattle.machine.specs.Arbiter.{settled, leaving, requesting, returning}
 use Rattle.machine.specs.Resources.{holding}
 use Rattle.machine.specs.Cells.{oneLost}
 use Rattle.machine.specs.Events as Machine
-use Rattle.machine.specs.Events.{idles, busy}
+use Rattle.machine.specs.Events.{noCaller, busy}
 use Rattle.machine.specs.Machine.{statusOf, effectOf, refusalOf}
 use Rattle.plan.proofs.Fitted.{Fitted}
-use Rattle.machine.proofs.Relation.Words.{at, wants, busy-is}
+use Rattle.machine.proofs.Relation.Words.{at, wants, isAside, busy-is}
+use Rattle.machine.proofs.Relation.Rows.{Shows, row-shows-popped}
+use Rattle.machine.proofs.Relation.Nest.{among-tail}
+use Rattle.machine.proofs.Relation.Order.{timed-exists, latest-free}
 use Rattle.machine.proofs.Relation.Losses.{lost-same, lost-one}
 use Rattle.machine.proofs.Relation.Bits.{eventBits, Noted, noted-touched, noted-changed}
 use Rattle.machine.proofs.Relation.Whole.{Tied, Sim}
-use Rattle.machine.proofs.Arbitration.Dispatch.{rank-below, settled-tied}
+use Rattle.machine.proofs.Arbitration.Dispatch.{rank-below}
 use Rattle.machine.proofs.Change.Request.{elsewhere, activate-tied, loss-tied, line-tied}
 use Rattle.machine.proofs.Change.End.{end-tied}
-use Rattle.machine.proofs.Change.Hold.{holding-is}
-use Rattle.machine.proofs.Event.Agrees.{kept, first-same, Agrees, Runs, by-runner, idle-same, agrees-either, agrees-attempt, no-match}
+use Rattle.machine.proofs.Change.Hold.{holding-is, holding-timed}
+use Rattle.machine.proofs.Change.Return.{return-tied}
+use Rattle.machine.proofs.Event.Agrees.{kept, first-same, first-passed, Agrees, Accepted, Keeps, Runs, Enters, by-runner, by-caller, caller-same, latest-of, untimed-tied, settled-orderly, agrees-either, agrees-attempt, no-match}
 
 both : (a b : Bool) → a && b ≡ true → (a ≡ true) × (b ≡ true)
 both true b e = (refl, e)
@@ -50,6 +56,9 @@ both false b e = absurd (true≢false (sym e))
 module _ (c : Config) where
   pub task-exists : (t : ℕ) → isTask c t ≡ true → t < c .bodies
   task-exists t e = ltb-true t (c .bodies) (both (ltb t (c .bodies)) _ e .0)
+
+  pub osek-exists : (t : ℕ) → isOsekTask c t ≡ true → t < c .bodies
+  osek-exists t e = task-exists t (both (isTask c t) _ e .0)
 
   isr-exists : (i : ℕ) → isIsr c i ≡ true → i < c .bodies
   isr-exists i e = ltb-true i (c .bodies) (both (ltb i (c .bodies)) _ e .0)
@@ -68,10 +77,10 @@ module _ {c : Config} {p : Plan} {rk : ℕ → ℕ} (fit : Fitted c p rk) where
       go true h = ne-eqb (rk t) noRank (λ z. absurd (omega (arith, z, rank-below fit t (real t h))))
       go false h = refl
 
-  pub no-task : (t : ℕ) → eqb (getD (p .task) t noRank) noRank ≡ not (isTask c t)
-  no-task t = missing-rank (isTask c) (task-exists c) t (getD (p .task) t noRank) (fit .task-rank t)
+  pub no-task : (t : ℕ) → eqb (getD (p .task) t noRank) noRank ≡ not (isOsekTask c t)
+  no-task t = missing-rank (isOsekTask c) (osek-exists c) t (getD (p .task) t noRank) (fit .task-rank t)
 
-  pub task-rank-is : (t : ℕ) → isTask c t ≡ true → getD (p .task) t noRank ≡ rk t
+  pub task-rank-is : (t : ℕ) → isOsekTask c t ≡ true → getD (p .task) t noRank ≡ rk t
   task-rank-is t h = fit .task-rank t ∙ rw h
 
   line-rank-is : (i : ℕ) → isIsr c i ≡ true → getD (p .line) i noRank ≡ rk i
@@ -83,7 +92,7 @@ module _ {c : Config} {p : Plan} {rk : ℕ → ℕ} (fit : Fitted c p rk) where
   activated-noted {bs = bs} n size b b< none =
       noted-touched fit n size b b< (activated (at bs b)) none (λ w h. absurd (true≢false (sym (ap isWaiting h))))
 
-  module _ {m : Model} {s : State} (sim : Sim c p rk m s) (long : length (dues c s) ≡ p .count) where
+  module _ {m : Model} {s : State} (sim : Sim c p rk m s) (keeps : Keeps c s) (long : length (dues c s) ≡ p .count) where
     abbrev bs : List Body
     bs = s .bodies
 
@@ -93,20 +102,24 @@ module _ {c : Config} {p : Plan} {rk : ℕ → ℕ} (fit : Fitted c p rk) where
     agrees-activate t =
         agrees-attempt fit sim (Activate t) (Machine.activateStatus (p .task) m t) (activateStatus c s t)
         (settled (p .priority) (requesting (getD (p .task) t noRank) m)) (activate t s) refl refl (no-match fit sim long)
-        (first-same (idles m) (nobodyRuns c s) callLevel _ _ (idle-same fit sim)
-        (λ _. first-same (eqb (getD (p .task) t noRank) noRank) (not (isTask c t)) noSuch _ _ (no-task t)
-        (λ h. let k = not-false (isTask c t) h in
-        first-same (busy m (getD (p .task) t noRank)) (active s t) limitReached _ _ (rw (task-rank-is t k) (busy-is (sim .tied .words) t (task-exists c t k))) (λ _. refl))))
+        (first-same (noCaller m) (nobodyCalls c s) callLevel _ _ (caller-same fit sim)
+        (λ _. first-same (eqb (getD (p .task) t noRank) noRank) (not (isOsekTask c t)) noSuch _ _ (no-task t)
+        (λ h. let k = not-false (isOsekTask c t) h in
+        first-same (busy m (getD (p .task) t noRank)) (active s t) limitReached _ _ (rw (task-rank-is t k) (busy-is (sim .tied .words) t (osek-exists c t k))) (λ _. refl))))
         (λ z. let a = activate-passed c s t z in
+        let mid = keeps .effect (Activate t) refl z in
         rw (task-rank-is t (a .1))
         (record {
           status = refl;
-          arb = settled-tied fit (activate t s) (activate-tied (sim .tied) fit t (task-exists c t (a .1)) (rw (a .2)));
-          size = length-set bs t (activated (bodyOf s t)) ∙ sim .tied .size;
+          arb = settled-orderly fit (activate t s) mid (activate-tied (sim .tied) fit t (osek-exists c t (a .1)) (ap isStarted (a .2)) (ap isAside (a .2)));
+          latest = latest-of fit mid;
+          row = sim .row;
+          size = mid .bodies-there;
           timed = sim .timed;
           lost = lost-same (kept (λ x. x .losses) activated (λ x. refl) bs t) (sim .lost);
-          noted = activated-noted (sim .noted) (sim .tied .size) t (task-exists c t (a .1)) (rw (a .2));
+          noted = activated-noted (sim .noted) (sim .tied .size) t (osek-exists c t (a .1)) (rw (a .2));
         }))
+        (keeps .next (Activate t))
 
     -- Line
     line-status : (i : ℕ) → Machine.lineStatus (p .line) m i ≡ lineStatus c s i
@@ -116,8 +129,8 @@ module _ {c : Config} {p : Plan} {rk : ℕ → ℕ} (fit : Fitted c p rk) where
         first-same (has (m .core .request) (getD (p .line) i noRank)) (wants (at bs i)) limitReached _ _ (rw (line-rank-is i k) (sim .tied .words .asks i (isr-exists c i k))) (λ _. refl))
 
     -- a body loses one more, on both sides
-    lost-sim : (i : ℕ) → i < c .bodies → Sim c p rk (withLosses m (oneLost (rk i) (m .losses))) (changing i loses s)
-    lost-sim i i< =
+    lost-sim : (i : ℕ) → i < c .bodies → Orderly c (changing i loses s) → Sim c p rk (withLosses m (oneLost (rk i) (m .losses))) (changing i loses s)
+    lost-sim i i< mid =
         record {
           nest = sim .nest;
           tied = elsewhere (loss-tied (sim .tied) fit i i<) (m .counter) (m .on) (m .turning) (oneLost (rk i) (m .losses));
@@ -125,6 +138,8 @@ module _ {c : Config} {p : Plan} {rk : ℕ → ℕ} (fit : Fitted c p rk) where
           timed = sim .timed;
           lost = lost-one fit (sim .tied .size) (sim .lost) i i<;
           noted = noted-touched fit (sim .noted) (sim .tied .size) i i< (loses (at bs i)) refl (λ w h. h);
+          orderly = mid;
+          row = sim .row;
         }
 
     -- who is no ISR has no line to lose
@@ -135,9 +150,10 @@ module _ {c : Config} {p : Plan} {rk : ℕ → ℕ} (fit : Fitted c p rk) where
     line-refused : (i : ℕ) → Sim c p rk (Machine.lineRefusal (countsLines c) (p .line) m i (lineStatus c s i)) (Plain.refusalOf c s (lineStatus c s i) (Line i))
     line-refused i = by-kind (isIsr c i) refl
       where
-        counted : (b : Bool) → i < c .bodies → Sim c p rk (cond b (withLosses m (oneLost (rk i) (m .losses))) m) (cond b (changing i loses s) s)
-        counted true i< = lost-sim i i<
-        counted false i< = sim
+        counted : (b : Bool) → i < c .bodies → Orderly c (cond b (changing i loses s) s)
+            → Sim c p rk (cond b (withLosses m (oneLost (rk i) (m .losses))) m) (cond b (changing i loses s) s)
+        counted true i< o = lost-sim i i< o
+        counted false i< o = sim
 
         and-false : (b : Bool) → b && false ≡ false
         and-false true = refl
@@ -147,7 +163,7 @@ module _ {c : Config} {p : Plan} {rk : ℕ → ℕ} (fit : Fitted c p rk) where
         by-kind true e =
             subst (λ (r : ℕ). Sim c p rk (cond (countsLines c && eqb (lineStatus c s i) limitReached) (withLosses m (oneLost r (m .losses))) m) (Plain.refusalOf c s (lineStatus c s i) (Line i)))
             (sym (line-rank-is i e))
-            (counted (countsLines c && eqb (lineStatus c s i) limitReached) (isr-exists c i e))
+            (counted (countsLines c && eqb (lineStatus c s i) limitReached) (isr-exists c i e) (keeps .refusal (Line i)))
         by-kind false e = rw (no-line i e) (rw (and-false (countsLines c)) sim)
 
     -- a Line that is accepted finds no body ready
@@ -157,6 +173,8 @@ module _ {c : Config} {p : Plan} {rk : ℕ → ℕ} (fit : Fitted c p rk) where
     line-noted i i< ready e h = absurd (true≢false (rw e at h))
     line-noted i i< started e h = rw (ap hasBegun e) (noted-touched fit (sim .noted) (sim .tied .size) i i< _ refl (λ w z. z))
     line-noted i i< (waiting v) e h = rw (ap hasBegun e) (noted-touched fit (sim .noted) (sim .tied .size) i i< _ refl (λ w z. z))
+    line-noted i i< (triggered true) e h = rw (ap hasBegun e) (noted-touched fit (sim .noted) (sim .tied .size) i i< _ refl (λ w z. z))
+    line-noted i i< (triggered false) e h = absurd (true≢false (rw e at h))
 
     pub agrees-line : (i : ℕ) → Agrees c p rk m s (Line i)
     unfolding statusOf effectOf refusalOf stepBy
@@ -166,16 +184,20 @@ module _ {c : Config} {p : Plan} {rk : ℕ → ℕ} (fit : Fitted c p rk) where
         (Machine.lineRefusal (countsLines c) (p .line) m i (Machine.lineStatus (p .line) m i)) (line i s) (Plain.refusalOf c s (lineStatus c s i) (Line i))
         refl refl (no-match fit sim long) (line-status i)
         (λ z. let a = line-passed c s i z in
+        let mid = keeps .effect (Line i) refl z in
         rw (line-rank-is i (a .0))
         (record {
           status = refl;
-          arb = settled-tied fit (line i s) (line-tied (sim .tied) fit i (isr-exists c i (a .0)));
-          size = length-set bs i (requested (bodyOf s i)) ∙ sim .tied .size;
+          arb = settled-orderly fit (line i s) mid (line-tied (sim .tied) fit i (isr-exists c i (a .0)) (a .0));
+          latest = latest-of fit mid;
+          row = sim .row;
+          size = mid .bodies-there;
           timed = sim .timed;
           lost = lost-same (kept (λ x. x .losses) requested (λ x. same-losses x (x .phase)) bs i) (sim .lost);
           noted = line-noted i (isr-exists c i (a .0)) (at bs i .phase) refl (a .1);
         }))
         (λ _. rw (line-status i) (line-refused i))
+        (keeps .next (Line i))
       where
         same-losses : (x : Body) (q : Phase)
             → cond (hasBegun q) (record { phase = x .phase; pending = true; held = x .held; losses = x .losses; bits = x .bits }) (activated x) .losses ≡ x .losses
@@ -183,6 +205,8 @@ module _ {c : Config} {p : Plan} {rk : ℕ → ℕ} (fit : Fitted c p rk) where
         same-losses x ready = refl
         same-losses x started = refl
         same-losses x (waiting w) = refl
+        same-losses x (triggered true) = refl
+        same-losses x (triggered false) = refl
 
     -- "the runner holds a resource"
     pub holding-same : {b : ℕ} {ns : List ℕ} → Runs c rk m s b ns → holding m ≡ holds (calling c s .held)
@@ -195,20 +219,27 @@ module _ {c : Config} {p : Plan} {rk : ℕ → ℕ} (fit : Fitted c p rk) where
         by-runner fit sim
         (λ i n. rw (i, n))
         (λ b ns k. rw (k .not-idle, k .somebody) (rw (holding-same k)))
+        (λ j js k. rw (k .not-idle, k .somebody) (rw (timed-holding k, k .calls, latest-free (sim .orderly) j js (k .order-is))))
+      where
+        timed-holding : {j : ℕ} {js : List ℕ} → Enters c rk m s j js → holding m ≡ false
+        timed-holding {j} {js} k =
+            holding-timed fit (sim .tied) (k .rank) (k .exists) (ap isStarted (k .phase))
 
-    finish-accepted : {b : ℕ} {ns : List ℕ} → Runs c rk m s b ns → holds (calling c s .held) ≡ false → Tied c rk (leaving m) (finish (caller c s) s .bodies) ns
+    finish-accepted : {b : ℕ} {ns : List ℕ} → Runs c rk m s b ns → holds (calling c s .held) ≡ false
+        → Tied c rk (leaving m) (finish (caller c s) s .bodies) (s .order) ns
     finish-accepted {b} k h =
-        rw (k .calls) (end-tied fit (k .tied) (nothing-held (at bs b .held) (sym (ap (λ (i : ℕ). holds (bodyOf s i .held)) (k .calls)) ∙ h)))
+        untimed-tied fit (k .none-timed)
+        (rw (k .calls) (end-tied fit (k .tied) (nothing-held (at bs b .held) (sym (ap (λ (i : ℕ). holds (bodyOf s i .held)) (k .calls)) ∙ h))))
 
     finish-losses : (i : ℕ) → at (finish (caller c s) s .bodies) i .losses ≡ at bs i .losses
     finish-losses = kept (λ x. x .losses) finished finished-losses bs (caller c s)
 
     -- the bits of the one that ended count as 0
-    finish-noted : {b : ℕ} {ns : List ℕ} → Runs c rk m s b ns
+    finish-noted : (b : ℕ) → caller c s ≡ b → m .core .runner ≡ rk b → b < c .bodies
         → Noted c rk (leaving m .cleared) (leaving m .bits) (leaving m .waited) (finish (caller c s) s .bodies)
-    finish-noted {b} k =
-        rw (k .calls)
-        (noted-changed fit (sim .noted) (sim .tied .size) b (k .exists) (finished (at bs b)) (leaving m .cleared) (leaving m .bits) (leaving m .waited)
+    finish-noted b calls rank exists =
+        rw calls
+        (noted-changed fit (sim .noted) (sim .tied .size) b exists (finished (at bs b)) (leaving m .cleared) (leaving m .bits) (leaving m .waited)
         (sim .noted .bits-long) (sim .noted .masks-long)
         (rw gone (sym (none (at bs b .pending))))
         (λ w h. absurd (true≢false (sym (ap isWaiting h) ∙ awake (at bs b .pending))))
@@ -217,10 +248,10 @@ module _ {c : Config} {p : Plan} {rk : ℕ → ℕ} (fit : Fitted c p rk) where
       where
         -- the bits of its rank are cleared, and no others
         gone : has (leaving m .cleared) (rk b) ≡ true
-        gone = ap (λ (r : ℕ). has (with (m .cleared) r) (rk b)) (k .rank) ∙ has-with-same (m .cleared) (rk b) (rank-below fit b (k .exists))
+        gone = ap (λ (r : ℕ). has (with (m .cleared) r) (rk b)) rank ∙ has-with-same (m .cleared) (rk b) (rank-below fit b exists)
 
         others : (r : ℕ) → r ≢ rk b → has (leaving m .cleared) r ≡ has (m .cleared) r
-        others r n = has-with-other (m .cleared) (m .core .runner) r (λ e. n (e ∙ k .rank))
+        others r n = has-with-other (m .cleared) (m .core .runner) r (λ e. n (e ∙ rank))
 
         none : (w : Bool) → eventBits (cond w (activated (ended (at bs b))) (ended (at bs b))) ≡ 0
         none true = refl
@@ -230,22 +261,66 @@ module _ {c : Config} {p : Plan} {rk : ℕ → ℕ} (fit : Fitted c p rk) where
         awake true = refl
         awake false = refl
 
+    -- a runner of OSEK's ends
+    ended-accepted : {b : ℕ} {ns : List ℕ} → Runs c rk m s b ns → holds (calling c s .held) ≡ false → Orderly c (finish (caller c s) s)
+        → Accepted c p rk (settled (p .priority) (leaving m)) (finish (caller c s) s)
+    ended-accepted {b} k free mid =
+        record {
+          status = refl;
+          arb = settled-orderly fit (finish (caller c s) s) mid (finish-accepted k free);
+          latest = latest-of fit mid;
+          row = sim .row;
+          size = mid .bodies-there;
+          timed = sim .timed;
+          lost = lost-same finish-losses (sim .lost);
+          noted = finish-noted b (k .calls) (k .rank) (k .exists);
+        }
+
+    -- a time-triggered task ends
+    returned-accepted : {j : ℕ} {js : List ℕ} → Enters c rk m s j js → Orderly c (finishTimed (caller c s) s)
+        → Accepted c p rk (settled (p .priority) (returning m)) (finishTimed (caller c s) s)
+    returned-accepted {j} {js} k mid =
+        record {
+          status = refl;
+          arb = settled-orderly fit (finishTimed (caller c s) s) mid left;
+          latest = latest-of fit mid;
+          row = subst (λ (os : List ℕ). Shows (rowBytes (popRow (m .triggered))) (map rk (rest os))) (sym (k .order-is))
+              (row-shows-popped (m .triggered) (rk j) (map rk js) row);
+          size = mid .bodies-there;
+          timed = sim .timed;
+          lost = lost-same finish-losses (sim .lost);
+          noted = finish-noted j (k .calls) (k .rank) (k .exists);
+        }
+      where
+        row : Shows (rowBytes (m .triggered)) (rk j ∷ map rk js)
+        row = subst (λ (os : List ℕ). Shows (rowBytes (m .triggered)) (map rk os)) (k .order-is) (sim .row)
+
+        exist : (i : ℕ) → among i js ≡ true → i < c .bodies
+        exist i h =
+            timed-exists c i (sim .orderly .started-timed i (subst (λ (os : List ℕ). among i os ≡ true) (sym (k .order-is)) (among-tail i j js h)))
+
+        left : Tied c rk (returning m) (finishTimed (caller c s) s .bodies) (rest (s .order)) (sim .nest)
+        left =
+            subst (λ (os : List ℕ). Tied c rk (returning m) (finishTimed (caller c s) s .bodies) (rest os) (sim .nest)) (sym (k .order-is))
+            (rw (k .calls)
+            (return-tied fit js (subst (λ (os : List ℕ). Tied c rk m bs os (sim .nest)) (k .order-is) (sim .tied)) (k .exists) (k .phase)
+            (latest-free (sim .orderly) j js (k .order-is)) row exist))
+
     pub agrees-finish : Agrees c p rk m s Finish
     unfolding statusOf effectOf refusalOf stepBy
     agrees-finish =
-        agrees-attempt fit sim Finish (Machine.finishStatus m) (finishStatus c s) (settled (p .priority) (leaving m)) (finish (caller c s) s) refl refl
+        agrees-attempt fit sim Finish (Machine.finishStatus m) (finishStatus c s) (Machine.finishEffect (p .priority) m) (effect (runner c s .timed)) refl refl
         (no-match fit sim long) finish-status
         (λ z. let a = finish-passed c s z in
+        let mid = keeps .effect Finish refl z in
         by-runner fit sim
         (λ i n. absurd (true≢false (sym n ∙ a .0)))
-        (λ b ns k. record {
-          status = refl;
-          arb = settled-tied fit (finish (caller c s) s) (finish-accepted k (a .1));
-          size = length-set bs (caller c s) (finished (calling c s)) ∙ sim .tied .size;
-          timed = sim .timed;
-          lost = lost-same finish-losses (sim .lost);
-          noted = finish-noted k;
-        }))
+        (λ b ns k. rw (k .plainly, k .untimed) (ended-accepted k (a .1) (subst (λ (x : Bool). Orderly c (effect x)) (k .untimed) mid)))
+        (λ j js k. rw (k .runs, k .timed-now) (returned-accepted k (subst (λ (x : Bool). Orderly c (effect x)) (k .timed-now) mid))))
+        (keeps .next Finish)
+      where
+        effect : Bool → State
+        effect x = cond x (finishTimed (caller c s) s) (finish (caller c s) s)
 
     -- Chain
     same-task : {b : ℕ} {ns : List ℕ} → Runs c rk m s b ns → (t : ℕ) → t < c .bodies → eqb (rk t) (m .core .runner) ≡ eqb t (caller c s)
@@ -257,30 +332,31 @@ module _ {c : Config} {p : Plan} {rk : ℕ → ℕ} (fit : Fitted c p rk) where
 
     chain-status : (t : ℕ) → Machine.chainStatus (p .isrs) (p .task) m t ≡ chainStatus c s t
     chain-status t =
-        by-runner fit sim
-        (λ i n. first-same (idles m || has (p .isrs) (m .core .runner)) (nobodyRuns c s || isIsr c (caller c s)) callLevel _ _ (rw (i, n)) (λ h. absurd (true≢false (rw n at h))))
+        by-caller fit sim
+        (λ i n. first-same (noCaller m || has (p .isrs) (m .core .runner)) (nobodyCalls c s || isIsr c (caller c s)) callLevel _ _ (rw (i, n)) (λ h. absurd (true≢false (rw n at h))))
         (λ b ns k.
-        first-same (idles m || has (p .isrs) (m .core .runner)) (nobodyRuns c s || isIsr c (caller c s)) callLevel _ _
-        (rw (k .not-idle, k .somebody) (rw (k .rank) (fit .isr-at b (k .exists)) ∙ ap (isIsr c) (sym (k .calls))))
-        (λ _. first-same (eqb (getD (p .task) t noRank) noRank) (not (isTask c t)) noSuch _ _ (no-task t)
-        (λ h. let q = not-false (isTask c t) h in
+        first-same (noCaller m || has (p .isrs) (m .core .runner)) (nobodyCalls c s || isIsr c (caller c s)) callLevel _ _
+        (rw (k .may-call, k .calls-there) (rw (k .rank) (fit .isr-at b (k .exists)) ∙ ap (isIsr c) (sym (k .calls))))
+        (λ _. first-same (eqb (getD (p .task) t noRank) noRank) (not (isOsekTask c t)) noSuch _ _ (no-task t)
+        (λ h. let q = not-false (isOsekTask c t) h in
         first-same (holding m) (holds (calling c s .held)) holdsResource _ _ (holding-same k)
         (λ _. first-same (busy m (getD (p .task) t noRank) && not (eqb (getD (p .task) t noRank) (m .core .runner))) (active s t && not (eqb t (caller c s))) limitReached _ _
         (rw (task-rank-is t q)
-        (ap₂ (λ (x y : Bool). x && not y) (busy-is (sim .tied .words) t (task-exists c t q)) (same-task k t (task-exists c t q))))
+        (ap₂ (λ (x y : Bool). x && not y) (busy-is (sim .tied .words) t (osek-exists c t q)) (same-task k t (osek-exists c t q))))
         (λ _. refl)))))
 
     -- after the runner's end the chained task is suspended
     chained-asleep : {b : ℕ} {ns : List ℕ} → Runs c rk m s b ns → (t : ℕ) → (t ≢ caller c s → bodyOf s t .phase ≡ suspended)
-        → hasBegun (at (finish (caller c s) s .bodies) t .phase) ≡ false
+        → (isStarted (at (finish (caller c s) s .bodies) t .phase) ≡ false) × (isAside (at (finish (caller c s) s .bodies) t .phase) ≡ false)
     chained-asleep k t asleep =
         by-eq t (caller c s)
-        (λ e. rw e (ap (λ (x : Body). hasBegun (x .phase)) (getD-set-same bs (caller c s) (finished (calling c s)) noBody (rw (k .calls, sim .tied .size) (k .exists))) ∙ out (calling c s .pending)))
-        (λ n. ap (λ (x : Body). hasBegun (x .phase)) (getD-set-other bs (caller c s) t (finished (calling c s)) noBody n) ∙ rw (asleep n))
+        (λ e. rw e (rw (getD-set-same bs (caller c s) (finished (calling c s)) noBody (rw (k .calls, sim .tied .size) (k .exists))) (out (calling c s .pending))))
+        (λ n. rw (getD-set-other bs (caller c s) t (finished (calling c s)) noBody n) (ap isStarted (asleep n), ap isAside (asleep n)))
       where
-        out : (w : Bool) → hasBegun (cond w (activated (ended (calling c s))) (ended (calling c s)) .phase) ≡ false
-        out true = refl
-        out false = refl
+        out : (w : Bool) → (isStarted (cond w (activated (ended (calling c s))) (ended (calling c s)) .phase) ≡ false)
+            × (isAside (cond w (activated (ended (calling c s))) (ended (calling c s)) .phase) ≡ false)
+        out true = (refl, refl)
+        out false = (refl, refl)
 
     -- and has no event bits that count
     chained-none : {b : ℕ} {ns : List ℕ} → Runs c rk m s b ns → (t : ℕ) → (t ≢ caller c s → bodyOf s t .phase ≡ suspended)
@@ -301,14 +377,23 @@ module _ {c : Config} {p : Plan} {rk : ℕ → ℕ} (fit : Fitted c p rk) where
         (settled (p .priority) (requesting (getD (p .task) t noRank) (leaving m))) (chain (caller c s) t s) refl refl
         (no-match fit sim long) (chain-status t)
         (λ z. let a = chain-passed c s t z in
-        by-runner fit sim
-        (λ i n. absurd (true≢false (sym n ∙ a .0)))
+        let mid = keeps .effect (Chain t) refl z in
+        by-caller fit sim
+        (λ i n. absurd (true≢false (sym n ∙ either (nobodyCalls c s) (isIsr c (caller c s)) (first-passed _ callLevel _ (λ e. absurd (omega (arith, e))) z))))
         (λ b ns k. rw (task-rank-is t (a .2))
         (record {
           status = refl;
-          arb = settled-tied fit (chain (caller c s) t s) (activate-tied (finish-accepted k (a .3)) fit t (task-exists c t (a .2)) (chained-asleep k t (a .4)));
-          size = length-set (finish (caller c s) s .bodies) t (activated (at (finish (caller c s) s .bodies) t)) ∙ length-set bs (caller c s) (finished (calling c s)) ∙ sim .tied .size;
+          arb = let q = chained-asleep k t (a .4) in
+              settled-orderly fit (chain (caller c s) t s) mid (activate-tied (finish-accepted k (a .3)) fit t (osek-exists c t (a .2)) (q .0) (q .1));
+          latest = latest-of fit mid;
+          row = sim .row;
+          size = mid .bodies-there;
           timed = sim .timed;
           lost = lost-same (λ i. kept (λ x. x .losses) activated (λ x. refl) (finish (caller c s) s .bodies) t i ∙ finish-losses i) (sim .lost);
-          noted = activated-noted (finish-noted k) (length-set bs (caller c s) (finished (calling c s)) ∙ sim .tied .size) t (task-exists c t (a .2)) (chained-none k t (a .4));
+          noted = activated-noted (finish-noted b (k .calls) (k .rank) (k .exists)) (length-set bs (caller c s) (finished (calling c s)) ∙ sim .tied .size) t (osek-exists c t (a .2)) (chained-none k t (a .4));
         })))
+        (keeps .next (Chain t))
+      where
+        either : (x y : Bool) → x || y ≡ false → x ≡ false
+        either true y e = absurd (true≢false e)
+        either false y e = refl

@@ -15,7 +15,7 @@ use Rattle.word.specs.Word.{has}
 use Rattle.scheduler.specs.Status.{done, callLevel, noSuch, access, noFunction, notUser}
 use Rattle.scheduler.specs.Body.{Body, competes, gets, releases}
 use Rattle.scheduler.specs.State.{State, among, heldIn, bodyOf}
-use Rattle.scheduler.specs.Call.{nobodyRuns, caller, calling, latestIs, getStatus, releaseStatus, get, release}
+use Rattle.scheduler.specs.Call.{nobodyCalls, caller, calling, latestIs, getStatus, releaseStatus, get, release}
 use Rattle.scheduler.specs.Tick.{dues}
 use Rattle.scheduler.specs.Scheduler.{Get, Release, stepBy}
 use Rattle.scheduler.proofs.Checks.{get-passed, release-passed}
@@ -23,7 +23,7 @@ use Rattle.machine.specs.Model.{Model, doneWith}
 use Rattle.machine.specs.Arbiter.{settled}
 use Rattle.machine.specs.Resources.{latest, getting, releasing}
 use Rattle.machine.specs.Events as Machine
-use Rattle.machine.specs.Events.{idles}
+use Rattle.machine.specs.Events.{noCaller}
 use Rattle.machine.specs.Machine.{statusOf, effectOf, refusalOf}
 use Rattle.plan.proofs.Fitted.{Fitted}
 use Rattle.machine.proofs.Relation.Words.{at}
@@ -32,11 +32,13 @@ use Rattle.machine.proofs.Relation.Nest.{Nested, by-among, among-tail, 
 use Rattle.machine.proofs.Relation.Losses.{lost-same}
 use Rattle.machine.proofs.Relation.Bits.{eventBits, noted-same}
 use Rattle.machine.proofs.Relation.Whole.{Tied, Sim}
-use Rattle.machine.proofs.Arbitration.Dispatch.{settled-tied, calm-arbitrated}
+use Rattle.machine.proofs.Relation.Order.{plain-competes}
+use Rattle.machine.proofs.Arbitration.Choice.{active-of-started}
+use Rattle.machine.proofs.Arbitration.Dispatch.{calm-arbitrated}
 use Rattle.machine.proofs.Change.Hold.{latest-is}
 use Rattle.machine.proofs.Change.Get.{get-tied}
 use Rattle.machine.proofs.Change.Release.{release-tied}
-use Rattle.machine.proofs.Event.Agrees.{kept, first-same, Agrees, by-runner, agrees-attempt, no-match}
+use Rattle.machine.proofs.Event.Agrees.{kept, first-same, first-passed, Agrees, Keeps, by-caller, seated-of, latest-of, untimed-tied, settled-orderly, agrees-attempt, no-match}
 
 -- a Bool is what another is if each follows from the other
 iff-bool : (a b : Bool) → (a ≡ true → b ≡ true) → (b ≡ true → a ≡ true) → a ≡ b
@@ -121,7 +123,7 @@ module _ (c : Config) (rk : ℕ → ℕ) (bs : List Body) where
       (λ q. slot-by r ns (k .1 .1 .1) q)
 
 -- who holds a resource is in the nest
-pub holder-nested : {c : Config} {rk : ℕ → ℕ} {m : Model} {bs : List Body} {ns : List ℕ} → Tied c rk m bs ns → (r i : ℕ)
+pub holder-nested : {c : Config} {rk : ℕ → ℕ} {m : Model} {bs : List Body} {js ns : List ℕ} → Tied c rk m bs js ns → (r i : ℕ)
     → among r (at bs i .held) ≡ true → among i ns ≡ true
 holder-nested {bs = bs} {ns = ns} t r i a = go (among i ns) refl
   where
@@ -130,8 +132,8 @@ holder-nested {bs = bs} {ns = ns} t r i a = go (among i ns) refl
     go false e = absurd (true≢false (sym (rw (t .loose i e) at a) ∙ among-nil r))
 
 -- the machine's flag of a resource says whether anybody holds it
-pub flag-is : {c : Config} {rk : ℕ → ℕ} {m : Model} {bs : List Body} {ns : List ℕ} → Tied c rk m bs ns → (r : ℕ) → has (m .held) r ≡ heldIn r bs
-flag-is {c} {rk} {m} {bs} {ns} t r =
+pub flag-is : {c : Config} {rk : ℕ → ℕ} {m : Model} {bs : List Body} {js ns : List ℕ} → Tied c rk m bs js ns → (r : ℕ) → has (m .held) r ≡ heldIn r bs
+flag-is {c} {rk} {m} {bs} {js} {ns} t r =
     t .slots .flags r
     ∙ iff-bool (among r (resourcesIn (slotsAlong c rk bs ns))) (heldIn r bs)
     (λ h. let x = slot-by c rk bs r ns (t .nested) h in held-at r bs (x .0) (rw (t .size) (x .1 .0)) (x .1 .1))
@@ -143,7 +145,7 @@ latest-split r [] h = absurd (true≢false (sym h))
 latest-split r (x ∷ xs) h = (xs, ap (λ (y : ℕ). y ∷ xs) (sym (eqb-true r x h)))
 
 module _ {c : Config} {p : Plan} {rk : ℕ → ℕ} (fit : Fitted c p rk) {m : Model} {s : State} (sim : Sim c p rk m s)
-    (long : length (dues c s) ≡ p .count) where
+    (keeps : Keeps c s) (long : length (dues c s) ≡ p .count) where
   abbrev bs : List Body
   bs = s .bodies
 
@@ -151,10 +153,10 @@ module _ {c : Config} {p : Plan} {rk : ℕ → ℕ} (fit : Fitted c p rk) {m : M
   get-status : (r : ℕ) → statusOf c p m (Get r) ≡ getStatus c s r
   unfolding statusOf
   get-status r =
-      by-runner fit sim
-      (λ i n. first-same (idles m) (nobodyRuns c s) callLevel _ _ (i ∙ sym n) (λ h. absurd (true≢false (sym n ∙ h))))
+      by-caller fit sim
+      (λ i n. first-same (noCaller m) (nobodyCalls c s) callLevel _ _ (i ∙ sym n) (λ h. absurd (true≢false (sym n ∙ h))))
       (λ b ns k.
-      first-same (idles m) (nobodyRuns c s) callLevel _ _ (k .not-idle ∙ sym (k .somebody))
+      first-same (noCaller m) (nobodyCalls c s) callLevel _ _ (k .may-call ∙ sym (k .calls-there))
       (λ _. first-same (leb (c .resources) r) (leb (c .resources) r) noSuch _ _ refl
       (λ h. first-same (not (has (getD (p .users) r 0) (m .core .runner))) (not (isUser c r (caller c s))) notUser _ _
       (ap not (ap (has (getD (p .users) r 0)) (k .rank) ∙ fit .users-at r b (leb-false (c .resources) r h) (k .exists) ∙ ap (isUser c r) (sym (k .calls))))
@@ -171,28 +173,32 @@ module _ {c : Config} {p : Plan} {rk : ℕ → ℕ} (fit : Fitted c p rk) {m : M
       (doneWith (getting r (max (getD (p .ceiling) r 0) (m .core .level)) m) false) (get (caller c s) r s) refl refl
       (no-match fit sim long) (get-status r)
       (λ z. let a = get-passed c s r z in
-      by-runner fit sim
-      (λ i n. absurd (true≢false (sym n ∙ a .0)))
+      let mid = keeps .effect (Get r) refl z in
+      by-caller fit sim
+      (λ i n. absurd (true≢false (sym n ∙ first-passed (nobodyCalls c s) callLevel _ (λ e. absurd (omega (arith, e))) z)))
       (λ b ns k.
-      let t : Tied c rk (getting r (max (getD (p .ceiling) r 0) (m .core .level)) m) (get (caller c s) r s .bodies) (b ∷ ns) =
-      rw (k .calls) (get-tied fit (k .tied) r (a .1) (flag-is (sim .tied) r ∙ a .3)) in
+      let t : Tied c rk (getting r (max (getD (p .ceiling) r 0) (m .core .level)) m) (get (caller c s) r s .bodies) (s .order) (b ∷ ns) =
+      untimed-tied fit (k .none-timed) (rw (k .calls) (get-tied fit (k .tied) r (a .1) (flag-is (sim .tied) r ∙ a .3))) in
       record {
         status = refl;
-        arb = calm-arbitrated fit (get (caller c s) r s) done t
+        latest = latest-of fit mid;
+        row = sim .row;
+        arb = calm-arbitrated fit (get (caller c s) r s) done (seated-of fit mid) t
             (λ i i< u. let q = sim .calm i i< (sym (get-phase (λ x. competes (x .phase)) (λ x _. refl) r i) ∙ u) in omega arith);
-        size = length-set bs (caller c s) (gets r (calling c s)) ∙ sim .tied .size;
+        size = mid .bodies-there;
         timed = sim .timed;
         lost = lost-same (get-phase (λ x. x .losses) (λ x _. refl) r) (sim .lost);
         noted = noted-same (get-phase eventBits (λ x _. refl) r) (λ i w h. sym (get-phase (λ x. x .phase) (λ x _. refl) r i) ∙ h) (sim .noted);
       }))
+      (keeps .next (Get r))
 
   -- Release
   release-status : (r : ℕ) → Machine.releaseStatus (c .resources) m r ≡ releaseStatus c s r
   release-status r =
-      by-runner fit sim
-      (λ i n. first-same (idles m) (nobodyRuns c s) callLevel _ _ (i ∙ sym n) (λ h. absurd (true≢false (sym n ∙ h))))
+      by-caller fit sim
+      (λ i n. first-same (noCaller m) (nobodyCalls c s) callLevel _ _ (i ∙ sym n) (λ h. absurd (true≢false (sym n ∙ h))))
       (λ b ns k.
-      first-same (idles m) (nobodyRuns c s) callLevel _ _ (k .not-idle ∙ sym (k .somebody))
+      first-same (noCaller m) (nobodyCalls c s) callLevel _ _ (k .may-call ∙ sym (k .calls-there))
       (λ _. first-same (leb (c .resources) r) (leb (c .resources) r) noSuch _ _ refl
       (λ _. first-same (not (latest m r)) (not (latestIs r (calling c s .held))) noFunction _ _
       (ap not (latest-is fit (k .tied) r ∙ ap (λ (i : ℕ). latestIs r (bodyOf s i .held)) (sym (k .calls))))
@@ -205,17 +211,22 @@ module _ {c : Config} {p : Plan} {rk : ℕ → ℕ} (fit : Fitted c p rk) {m : M
       (settled (p .priority) (releasing (p .priority) r m)) (release (caller c s) s) refl refl
       (no-match fit sim long) (release-status r)
       (λ z. let a = release-passed c s r z in
-      by-runner fit sim
-      (λ i n. absurd (true≢false (sym n ∙ a .0)))
+      let mid = keeps .effect (Release r) refl z in
+      by-caller fit sim
+      (λ i n. absurd (true≢false (sym n ∙ first-passed (nobodyCalls c s) callLevel _ (λ e. absurd (omega (arith, e))) z)))
       (λ b ns k.
       let h = latest-split r (at bs b .held) (ap (λ (i : ℕ). latestIs r (bodyOf s i .held)) (sym (k .calls)) ∙ a .2) in
-      let t : Tied c rk (releasing (p .priority) r m) (release (caller c s) s .bodies) (b ∷ ns) = rw (k .calls) (release-tied fit (k .tied) r (a .1) (h .0) (h .1)) in
+      let t : Tied c rk (releasing (p .priority) r m) (release (caller c s) s .bodies) (s .order) (b ∷ ns) =
+      untimed-tied fit (k .none-timed) (rw (k .calls) (release-tied fit (k .tied) (plain-competes (sim .orderly) b (active-of-started (at bs b .phase) (k .started-now))) r (a .1) (h .0) (h .1))) in
       record {
         status = refl;
-        arb = settled-tied fit (release (caller c s) s) t;
-        size = length-set bs (caller c s) (releases (calling c s)) ∙ sim .tied .size;
+        arb = settled-orderly fit (release (caller c s) s) mid t;
+        latest = latest-of fit mid;
+        row = sim .row;
+        size = mid .bodies-there;
         timed = sim .timed;
         lost = lost-same (kept (λ x. x .losses) releases (λ x. refl) bs (caller c s)) (sim .lost);
         noted = noted-same (kept eventBits releases (λ x. refl) bs (caller c s))
             (λ i w h. sym (kept (λ x. x .phase) releases (λ x. refl) bs (caller c s) i) ∙ h) (sim .noted);
       }))
+      (keeps .next (Release r))

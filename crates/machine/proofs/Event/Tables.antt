@@ -22,21 +22,21 @@ use Rattle.cell.specs.Due.{OnTime}
 use Rattle.cell.proofs.Theorems.{on-time-start}
 use Rattle.scheduler.specs.Status.{done, callLevel, noSuch, noFunction, wrongState, badDelay}
 use Rattle.scheduler.specs.State.{Table, stopped, running, isRunning, State, tableOf}
-use Rattle.scheduler.specs.Call.{nobodyRuns, longestDelay, startStatus, stopStatus, start, stop}
+use Rattle.scheduler.specs.Call.{nobodyCalls, longestDelay, startStatus, stopStatus, start, stop}
 use Rattle.scheduler.specs.Tick.{dues}
 use Rattle.scheduler.specs.Scheduler.{Start, Stop, stepBy}
 use Rattle.scheduler.proofs.Checks.{start-passed, stop-passed}
 use Rattle.machine.specs.Model.{Model, withCells, doneWith}
 use Rattle.machine.specs.Cells.{switchOff, isOn, hasTurn, switchFor, cellAt, someLong}
 use Rattle.machine.specs.Events as Machine
-use Rattle.machine.specs.Events.{idles, runs, starting, stopping}
+use Rattle.machine.specs.Events.{noCaller, runs, starting, stopping}
 use Rattle.machine.specs.Machine.{statusOf, effectOf, refusalOf, cellIn}
 use Rattle.plan.proofs.Fitted.{Fitted}
 use Rattle.machine.proofs.Relation.Cells.{CellFits, Timed}
 use Rattle.machine.proofs.Relation.Whole.{Sim}
 use Rattle.machine.proofs.Arbitration.Dispatch.{calm-arbitrated}
 use Rattle.machine.proofs.Change.Request.{elsewhere}
-use Rattle.machine.proofs.Event.Agrees.{first-same, Agrees, Accepted, idle-same, agrees-attempt, no-match}
+use Rattle.machine.proofs.Event.Agrees.{first-same, Agrees, Accepted, Keeps, caller-same, seated-of, latest-of, agrees-attempt, no-match}
 use Rattle.machine.proofs.Change.Cells.{laid, length-laid, laid-before, laid-after, laid-inside, started-laid, switches-laid, stopped-laid, switched-laid}
 use Rattle.machine.proofs.Change.Turns.{switch-on, switch-turn, some-holds, some-none}
 
@@ -132,7 +132,7 @@ module _ {c : Config} {p : Plan} {rk : ℕ → ℕ} (fit : Fitted c p rk) where
             }
 
 module _ {c : Config} {p : Plan} {rk : ℕ → ℕ} (fit : Fitted c p rk) {m : Model} {s : State} (sim : Sim c p rk m s)
-    (long : length (dues c s) ≡ p .count) where
+    (keeps : Keeps c s) (long : length (dues c s) ≡ p .count) where
   -- the first cell of a table is on exactly if the table runs
   runs-is : (t : ℕ) → t < c .tables → runs (p .first) m t ≡ isRunning (tableOf s t)
   unfolding CellFits
@@ -147,11 +147,14 @@ module _ {c : Config} {p : Plan} {rk : ℕ → ℕ} (fit : Fitted c p rk) {m : M
 
   -- a call that changes the cells and one table alone
   cells-accepted : (ns os : List ℕ) (w : Bool) (ts : List Table) → Timed c p ns os w ts
-      → Accepted c p rk (doneWith (withCells m ns os w) false) (record { bodies = s .bodies; tables = ts })
+      → Accepted c p rk (doneWith (withCells m ns os w) false) (record { bodies = s .bodies; tables = ts; order = s .order })
   cells-accepted ns os w ts timed =
       record {
         status = refl;
-        arb = calm-arbitrated fit (record { bodies = s .bodies; tables = ts }) done (elsewhere (sim .tied) ns os w (m .losses)) (sim .calm);
+        arb = calm-arbitrated fit (record { bodies = s .bodies; tables = ts; order = s .order }) done (seated-of fit (sim .orderly))
+            (elsewhere (sim .tied) ns os w (m .losses)) (sim .calm);
+        latest = latest-of fit (sim .orderly);
+        row = sim .row;
         size = sim .tied .size;
         timed = timed;
         lost = sim .lost;
@@ -164,7 +167,7 @@ module _ {c : Config} {p : Plan} {rk : ℕ → ℕ} (fit : Fitted c p rk) {m : M
 
   start-status : (t d : ℕ) → Machine.startStatus (c .tables) (p .first) (c .offset) m t d ≡ startStatus c s t d
   start-status t d =
-      first-same (idles m) (nobodyRuns c s) callLevel _ _ (idle-same fit sim)
+      first-same (noCaller m) (nobodyCalls c s) callLevel _ _ (caller-same fit sim)
       (λ _. first-same (leb (c .tables) t) (leb (c .tables) t) noSuch _ _ refl
       (λ h. let t< = leb-false (c .tables) t h in
       first-same (eqb d 0 || ltb longestDelay (d + getD (c .offset) (getD (p .first) t 0) 0)) (eqb d 0 || ltb longestDelay (d + smallestOffset c t)) badDelay _ _
@@ -231,6 +234,7 @@ module _ {c : Config} {p : Plan} {rk : ℕ → ℕ} (fit : Fitted c p rk) {m : M
       (no-match fit sim long) (start-status t d)
       (λ z. let a = start-passed c s t d z in
       cells-accepted _ _ _ _ (start-timed t d (a .1) (a .2) (a .3)))
+      (keeps .next (Start t d))
 
   -- Stop
   abbrev halting : ℕ → Model
@@ -238,7 +242,7 @@ module _ {c : Config} {p : Plan} {rk : ℕ → ℕ} (fit : Fitted c p rk) {m : M
 
   stop-status : (t : ℕ) → Machine.stopStatus (c .tables) (p .first) m t ≡ stopStatus c s t
   stop-status t =
-      first-same (idles m) (nobodyRuns c s) callLevel _ _ (idle-same fit sim)
+      first-same (noCaller m) (nobodyCalls c s) callLevel _ _ (caller-same fit sim)
       (λ _. first-same (leb (c .tables) t) (leb (c .tables) t) noSuch _ _ refl
       (λ h. first-same (not (runs (p .first) m t)) (not (isRunning (tableOf s t))) noFunction _ _
       (ap not (runs-is t (leb-false (c .tables) t h))) (λ _. refl)))
@@ -271,3 +275,4 @@ module _ {c : Config} {p : Plan} {rk : ℕ → ℕ} (fit : Fitted c p rk) {m : M
       (no-match fit sim long) (stop-status t)
       (λ z. let a = stop-passed c s t z in
       cells-accepted _ _ _ _ (stop-timed t (a .1)))
+      (keeps .next (Stop t))

@@ -1,37 +1,48 @@
--- Tick does the same to the model as to the state: a match is a due entry, and what it asks for or loses is the same.
+-- Tick does the same to the model as to the state: a match is a due entry, and what it asks for or loses is the same. At most one
+-- time-triggered task is started, and it is dispatched.
 -- Assumes nothing.
 use Prim.Native.Nat.{ℕ, suc, _+_, _≤_, _<_}
-use mathlib.Core.Path.{_≡_, refl, sym, ap, _∙_}
+use mathlib.Core.Path.{_≡_, refl, sym, ap, subst, _∙_}
 use mathlib.Core.Logic.{_≢_}
-use mathlib.Core.Bool.{Bool, true, false, true≢false}
+use mathlib.Core.Bool.{Bool, true, false, true≢false, cond}
 use mathlib.Core.List.{List, [], _∷_, map}
 use native.Mathlib.Omega.{arith}
-use lib.ListN.{length, getD, drop, length-map}
+use lib.ListN.{length, getD, set, drop, length-map}
 use lib.Seq.{drop-cons}
 use Rattle.config.specs.declared.Config.{Config}
-use Rattle.config.specs.Meaning.{isTask}
+use Rattle.config.specs.Meaning.{isr, executionLevel, isTask, isIsr, isTimed}
 use Rattle.plan.specs.declared.Plan.{Plan}
+use Rattle.word.specs.Word.{winner}
+use Rattle.stack.specs.Stack.{pushRow, rowBytes}
 use Rattle.scheduler.specs.Status.{done, firstGiven}
-use Rattle.scheduler.specs.Body.{Phase, suspended, ready, started, waiting, isSuspended, isWaiting, hasBegun, Body, activated, loses, activatedByEntry}
-use Rattle.scheduler.specs.State.{State, changing}
-use Rattle.scheduler.specs.Tick.{counting, counted, dues, activatingDue}
+use Rattle.scheduler.specs.Body.{Phase, suspended, ready, started, waiting, triggered, isSuspended, isStarted, isWaiting, hasBegun, Body, become, activated, triggers, loses, activatedByEntry}
+use Rattle.scheduler.specs.Choice.{chosen}
+use Rattle.scheduler.specs.State.{State, among, bodyOf, changing, latestOf, runner}
+use Rattle.scheduler.specs.Tick.{counting, counted, dues, starting, trigger, enter, activatingDue}
 use Rattle.scheduler.specs.Tick as Plain
 use Rattle.scheduler.specs.Scheduler.{Tick, stepBy}
 use Rattle.scheduler.proofs.Effects.{tables-ticked}
-use Rattle.machine.specs.Model.{Model, withCore, withRequest, withRest}
-use Rattle.machine.specs.Arbiter.{settled}
+use Rattle.scheduler.proofs.Placed.{Place, other, asleep, awake}
+use Rattle.scheduler.proofs.Order.{Orderly, Started, TickOrder, order-same, starts, tick-order}
+use Rattle.machine.specs.Model.{Model, Outcome, withCore, withRequest, withRest, doneWith}
+use Rattle.machine.specs.Arbiter.{bids, settled, launching, triggering}
 use Rattle.machine.specs.Cells.{Due, oneLost, matchAt, requestsDue}
-use Rattle.machine.specs.Events.{marksOf, dueOf, ticking, tick}
+use Rattle.machine.specs.Events.{begunWord, marksOf, dueOf, ticking, tick}
 use Rattle.machine.specs.Machine.{statusOf, effectOf, refusalOf}
 use Rattle.plan.proofs.Fitted.{Fitted}
-use Rattle.machine.proofs.Relation.Words.{at, busy-is}
+use Rattle.machine.proofs.Relation.Rows.{Shows, row-shows-pushed}
+use Rattle.machine.proofs.Relation.Words.{at, isAside, busy-is}
 use Rattle.machine.proofs.Relation.Losses.{Lost, lost-same, lost-one}
 use Rattle.machine.proofs.Relation.Bits.{Noted, noted-touched}
+use Rattle.machine.proofs.Relation.Kinds.{isBidding}
+use Rattle.machine.proofs.Relation.Order.{timed-other, kinds-of}
 use Rattle.machine.proofs.Relation.Whole.{Tied, Sim}
-use Rattle.machine.proofs.Arbitration.Dispatch.{settled-tied}
-use Rattle.machine.proofs.Change.Request.{elsewhere, activate-tied, loss-tied}
+use Rattle.machine.proofs.Arbitration.Seat.{holders}
+use Rattle.machine.proofs.Arbitration.Dispatch.{Arbitrated, rank-below, runnerOf-is}
+use Rattle.machine.proofs.Change.Request.{elsewhere, activate-tied, trigger-tied, loss-tied}
+use Rattle.machine.proofs.Change.Launch.{plain-triggering, wins, launches, launch-tied}
 use Rattle.machine.proofs.Change.Ticks.{dues-long, marks-due, due-first-cells, ticked-timed}
-use Rattle.machine.proofs.Event.Agrees.{kept, Agrees, agrees}
+use Rattle.machine.proofs.Event.Agrees.{kept, Agrees, Keeps, LatestActive, latest-of, settled-orderly, agrees}
 use Rattle.machine.proofs.Event.Bodies.{task-exists}
 
 -- the entries of a list of marks have the ranks rs and the tasks ts
@@ -54,10 +65,10 @@ entries-from c rk rs ts (b ∷ ms) e h k each =
 abbrev withDue : Model → Due → Model
 withDue m x = withRest (withCore m (withRequest (m .core) (x .request))) (m .counter) (m .on) (m .turning) (x .losses)
 
-module _ {c : Config} {p : Plan} {rk : ℕ → ℕ} (fit : Fitted c p rk) (ns : List ℕ) where
-  -- what is owed after some entries
+module _ {c : Config} {p : Plan} {rk : ℕ → ℕ} (fit : Fitted c p rk) (js ns : List ℕ) where
+  -- what is owed after some entries; js: the time-triggered tasks that were started before them
   record Owed (m : Model) (x : Due) (s : State) : Type 0 where
-    tied : Tied c rk (withDue m x) (s .bodies) ns
+    tied : Tied c rk (withDue m x) (s .bodies) js ns
     lost : Lost c rk (x .losses) (s .bodies)
     noted : Noted c rk (m .cleared) (m .bits) (m .waited) (s .bodies)
 
@@ -69,29 +80,53 @@ module _ {c : Config} {p : Plan} {rk : ℕ → ℕ} (fit : Fitted c p rk) (ns : 
     exists : t < c .bodies
     exists = task-exists c t task
 
-    match-owed : Owed m (matchAt (m .core .started) (rk t) x) (changing t activatedByEntry s)
-    match-owed =
-        go (at bs t .phase) refl
-      where
-        loss : isSuspended (at bs t .phase) ≡ false → Owed m (matchAt (m .core .started) (rk t) x) (changing t activatedByEntry s)
-        loss a = rw (busy-is (owed .tied .words) t exists, a) (record {
+    abbrev next : Due
+    next = matchAt (begunWord m) (rk t) x
+
+    loss : isSuspended (at bs t .phase) ≡ false → Owed m next (changing t loses s)
+    loss a =
+        rw (busy-is (owed .tied .words) t exists, a)
+        (record {
           tied = elsewhere (loss-tied (owed .tied) fit t exists) (m .counter) (m .on) (m .turning) (oneLost (rk t) (x .losses));
           lost = lost-one fit (owed .tied .size) (owed .lost) t exists;
           noted = noted-touched fit (owed .noted) (owed .tied .size) t exists (loses (at bs t)) refl (λ w h. h);
         })
 
-        go : (q : Phase) → at bs t .phase ≡ q → Owed m (matchAt (m .core .started) (rk t) x) (changing t activatedByEntry s)
-        go suspended e = rw (busy-is (owed .tied .words) t exists, ap isSuspended e) (record {
-          tied = elsewhere (activate-tied (owed .tied) fit t exists (ap hasBegun e)) (m .counter) (m .on) (m .turning) (x .losses);
+    activation : at bs t .phase ≡ suspended → Owed m next (changing t activated s)
+    activation e =
+        rw (busy-is (owed .tied .words) t exists, ap isSuspended e)
+        (record {
+          tied = elsewhere (activate-tied (owed .tied) fit t exists (ap isStarted e) (ap isAside e)) (m .counter) (m .on) (m .turning) (x .losses);
           lost = lost-same (kept (λ y. y .losses) activated (λ y. refl) bs t) (owed .lost);
           noted = noted-touched fit (owed .noted) (owed .tied .size) t exists (activated (at bs t)) (rw e) (λ w h. absurd (true≢false (sym (ap isWaiting h))));
         })
-        go ready e = loss (ap isSuspended e)
-        go started e = loss (ap isSuspended e)
-        go (waiting w) e = loss (ap isSuspended e)
+
+    trigger-owed : at bs t .phase ≡ suspended → Owed m next (starting t s)
+    trigger-owed e =
+        rw (busy-is (owed .tied .words) t exists, ap isSuspended e)
+        (record {
+          tied = elsewhere (trigger-tied (owed .tied) fit t exists (ap isStarted e) (ap isAside e)) (m .counter) (m .on) (m .turning) (x .losses);
+          lost = lost-same (kept (λ y. y .losses) triggers (λ y. refl) bs t) (owed .lost);
+          noted = noted-touched fit (owed .noted) (owed .tied .size) t exists (triggers (at bs t)) (rw e) (λ w h. absurd (true≢false (sym (ap isWaiting h))));
+        })
+
+    match-owed : Owed m next (enter c t s)
+    match-owed = by-kind (isTimed c t) (at bs t .phase) refl
+      where
+        by-kind : (k : Bool) (q : Phase) → at bs t .phase ≡ q → Owed m next (cond k (trigger t s) (changing t activatedByEntry s))
+        by-kind true suspended e = rw (ap isSuspended e) (trigger-owed e)
+        by-kind true ready e = rw (ap isSuspended e) (loss (ap isSuspended e))
+        by-kind true started e = rw (ap isSuspended e) (loss (ap isSuspended e))
+        by-kind true (waiting w) e = rw (ap isSuspended e) (loss (ap isSuspended e))
+        by-kind true (triggered z) e = rw (ap isSuspended e) (loss (ap isSuspended e))
+        by-kind false suspended e = rw (ap isSuspended e) (activation e)
+        by-kind false ready e = rw (ap isSuspended e) (loss (ap isSuspended e))
+        by-kind false started e = rw (ap isSuspended e) (loss (ap isSuspended e))
+        by-kind false (waiting w) e = rw (ap isSuspended e) (loss (ap isSuspended e))
+        by-kind false (triggered z) e = rw (ap isSuspended e) (loss (ap isSuspended e))
 
   due-owed : (m : Model) (ms : List Bool) (rs ts : List ℕ) → Entries c rk ms rs ts → (x : Due) (s : State) → Owed m x s
-      → Owed m (requestsDue (m .core .started) ms rs x) (activatingDue ms ts s)
+      → Owed m (requestsDue (begunWord m) ms rs x) (activatingDue c ms ts s)
   unfolding Entries requestsDue activatingDue
   due-owed m [] rs ts k x s o = o
   due-owed m (true ∷ ms) [] ts k x s o = absurd k
@@ -99,10 +134,10 @@ module _ {c : Config} {p : Plan} {rk : ℕ → ℕ} (fit : Fitted c p rk) (ns : 
   due-owed m (true ∷ ms) (r ∷ rs) [] k x s o = absurd k
   due-owed m (false ∷ ms) (r ∷ rs) [] k x s o = absurd k
   due-owed m (true ∷ ms) (r ∷ rs) (t ∷ ts) k x s o =
-      due-owed m ms rs ts (k .1 .1) (matchAt (m .core .started) r x) (changing t activatedByEntry s) (rw (k .0) (match-owed m x s o t (k .1 .0)))
+      due-owed m ms rs ts (k .1 .1) (matchAt (begunWord m) r x) (enter c t s) (rw (k .0) (match-owed m x s o t (k .1 .0)))
   due-owed m (false ∷ ms) (r ∷ rs) (t ∷ ts) k x s o = due-owed m ms rs ts (k .1 .1) x s o
 
-module _ {c : Config} {p : Plan} {rk : ℕ → ℕ} (fit : Fitted c p rk) {m : Model} {s : State} (sim : Sim c p rk m s) where
+module _ {c : Config} {p : Plan} {rk : ℕ → ℕ} (fit : Fitted c p rk) {m : Model} {s : State} (sim : Sim c p rk m s) (keeps : Keeps c s) where
   abbrev ms : List Bool
   ms = dues c (counted s)
 
@@ -122,31 +157,113 @@ module _ {c : Config} {p : Plan} {rk : ℕ → ℕ} (fit : Fitted c p rk) {m : M
       (omega (arith, long, fit .tasks-long, fit .count-is, fit .few-entries))
       (λ i _ l. (fit .entry-rank-at i (omega (arith, long)), fit .entry-task i (omega (arith, long, fit .count-is))))
 
-  owed : Owed fit (sim .nest) m (requestsDue (m .core .started) ms (p .entry) (record { request = m .core .request; losses = m .losses })) (Plain.ticked c s)
+  abbrev asked : Due
+  asked = record { request = m .core .request; losses = m .losses }
+
+  owed : Owed fit (s .order) (sim .nest) m (requestsDue (begunWord m) ms (p .entry) asked) (Plain.ticked c s)
   owed =
-      due-owed fit (sim .nest) m ms (p .entry) (c .task) entries (record { request = m .core .request; losses = m .losses }) (counted s)
+      due-owed fit (s .order) (sim .nest) m ms (p .entry) (c .task) entries asked (counted s)
       (record { tied = elsewhere (sim .tied) (m .counter) (m .on) (m .turning) (m .losses); lost = sim .lost; noted = sim .noted })
 
-  due-is : dueOf (p .compare) (p .entry) m ≡ requestsDue (m .core .started) ms (p .entry) (record { request = m .core .request; losses = m .losses })
+  due-is : dueOf (p .compare) (p .entry) m ≡ requestsDue (begunWord m) ms (p .entry) asked
   due-is =
       due-first-cells (m .turning) (p .compare) (m .on) (p .count) (omega (arith, fit .count-is, fit .few-entries))
       (λ i h. sim .timed .spare i (omega (arith, fit .count-is)))
-      (m .core .started) (m .counter) (p .entry) (record { request = m .core .request; losses = m .losses })
-      ∙ ap (λ (l : List Bool). requestsDue (m .core .started) l (p .entry) (record { request = m .core .request; losses = m .losses })) marks-are
+      (begunWord m) (m .counter) (p .entry) asked
+      ∙ ap (λ (l : List Bool). requestsDue (begunWord m) l (p .entry) asked) marks-are
 
-  ticked-tied : Tied c rk (ticking (p .compare) (p .entry) m) (Plain.ticked c s .bodies) (sim .nest)
+  -- the model and the bodies before the dispatch
+  abbrev now : Model
+  now = ticking (p .compare) (p .entry) m
+
+  abbrev then : State
+  then = Plain.ticked c s
+
+  ticked-tied : Tied c rk now (then .bodies) (s .order) (sim .nest)
   ticked-tied =
       rw due-is
-      (elsewhere (owed .tied)
-      (ticking (p .compare) (p .entry) m .counter) (ticking (p .compare) (p .entry) m .on) (ticking (p .compare) (p .entry) m .turning)
-      (requestsDue (m .core .started) ms (p .entry) (record { request = m .core .request; losses = m .losses }) .losses))
+      (elsewhere (owed .tied) (now .counter) (now .on) (now .turning) (requestsDue (begunWord m) ms (p .entry) asked .losses))
+
+  -- the outcome o of it, however it was arbitrated
+  ended : (o : Outcome) → triggering (p .priority) (p .timed) now ≡ o → o .status ≡ done → o .model .counter ≡ now .counter → o .model .on ≡ now .on
+      → o .model .turning ≡ now .turning → o .model .losses ≡ now .losses → o .model .cleared ≡ m .cleared → o .model .bits ≡ m .bits
+      → o .model .waited ≡ m .waited
+      → Arbitrated c p rk o then → LatestActive then → Shows (rowBytes (o .model .triggered)) (map rk (then .order)) → Agrees c p rk m s Tick
+  unfolding statusOf effectOf refusalOf tick stepBy firstGiven
+  ended o is st counters switches turns losses cleared bits waited arb latest row =
+      agrees fit Tick o done ms then is refl st marks-are arb latest (keeps .next Tick) row
+      (ticked-tied .size)
+      (rw (counters, switches, turns) (rw (tables-ticked c s) (ticked-timed c p rk fit (m .turning) (m .counter) (m .on) (s .tables) (sim .timed))))
+      (rw losses (rw due-is (owed .lost)))
+      (rw (cleared, bits, waited) (owed .noted))
+
+  -- no time-triggered task is started: the highest by priority is dispatched
+  plain-tick : then .order ≡ s .order → Orderly c then → Agrees c p rk m s Tick
+  plain-tick same o =
+      ended (settled (p .priority) now) (plain-triggering fit ticked-tied (kinds-of o)) refl refl refl refl refl refl refl refl
+      (settled-orderly fit then o (subst (λ (js : List ℕ). Tied c rk now (then .bodies) js (sim .nest)) (sym same) ticked-tied))
+      (latest-of fit o)
+      (subst (λ (js : List ℕ). Shows (rowBytes (m .triggered)) (map rk js)) (sym same) (sim .row))
+
+  -- one is
+  timed-tick : (j : ℕ) → Started c s j → Agrees c p rk m s Tick
+  timed-tick j y =
+      ended (doneWith (launching now) true) (launches fit ticked-tied j (y .in-range) (y .timed) (y .to-begin) task others) refl refl refl refl refl refl refl refl
+      arb
+      latest
+      row
+    where
+      task : isIsr c j ≡ false
+      task = timed-other c j (y .timed) isr (λ e. absurd (omega (arith, e)))
+
+      -- no other that bids for the processor is time-triggered
+      others : (i : ℕ) → i < c .bodies → i ≢ j → isBidding (at (then .bodies) i .phase) ≡ true → isTimed c i ≡ false
+      others i i< n h = by (y .placed .places i)
+        where
+          by : Place c i (bodyOf then i) (among i (then .order)) → isTimed c i ≡ false
+          by (other k _ _) = k
+          by (asleep k _ e _ _) = absurd (true≢false (sym h ∙ ap isBidding e))
+          by (awake k _ true e _ _) = absurd (true≢false (sym h ∙ ap isBidding e))
+          by (awake k _ false e _ _) = absurd (y .others-begun i n e)
+
+      wins-is : winner (bids (now .core)) ≡ rk j
+      wins-is = wins fit ticked-tied j (y .in-range) (y .timed) (y .to-begin) task others
+
+      runner-is : runner c then ≡ record { number = j; level = executionLevel; began = false; holder = false; timed = true }
+      runner-is =
+          ap (λ (os : List ℕ). latestOf (then .bodies) os (chosen c (then .bodies))) (y .order-is)
+          ∙ ap (λ (x : Bool). record { number = j; level = executionLevel; began = x; holder = false; timed = true }) (ap hasBegun (y .to-begin))
+
+      tied : Tied c rk (launching now) (set (then .bodies) j (become (triggered true) (at (then .bodies) j))) (j ∷ s .order)
+          (holders fit (s .order) ticked-tied .nest)
+      tied = launch-tied fit ticked-tied j (y .in-range) (y .timed) (y .to-begin) task others
+
+      arb : Arbitrated c p rk (doneWith (launching now) true) then
+      arb =
+          rw (runner-is, y .order-is)
+          (record {
+            nest = holders fit (s .order) ticked-tied .nest;
+            tied = tied;
+            calm = λ b b< _. omega (arith, fit .own-few b b<);
+            number = runnerOf-is fit (launching now) j (y .in-range) wins-is;
+            level = refl;
+            begun = refl;
+          })
+
+      latest : LatestActive then
+      latest i is e =
+          let same : i ≡ j = ap (λ (os : List ℕ). getD os 0 0) (sym e ∙ y .order-is) in
+          rw same (rw (ticked-tied .size) (y .in-range), ap isSuspended (y .to-begin))
+
+      row : Shows (rowBytes (pushRow (m .triggered) (winner (bids (now .core))))) (map rk (then .order))
+      row =
+          rw (y .order-is, wins-is)
+          (row-shows-pushed (m .triggered) (rk j) (map rk (s .order)) (omega (arith, rank-below fit j (y .in-range)))
+          (omega (arith, length-map (s .order) rk, y .few, ap (λ (os : List ℕ). length os) (y .order-is))) (sim .row))
 
   pub agrees-tick : Agrees c p rk m s Tick
-  unfolding statusOf effectOf refusalOf tick stepBy firstGiven
-  agrees-tick =
-      agrees fit Tick (settled (p .priority) (ticking (p .compare) (p .entry) m)) done ms (Plain.ticked c s) refl refl refl marks-are
-      (settled-tied fit (Plain.ticked c s) ticked-tied)
-      (ticked-tied .size)
-      (rw (tables-ticked c s) (ticked-timed c p rk fit (m .turning) (m .counter) (m .on) (s .tables) (sim .timed)))
-      (rw due-is (owed .lost))
-      (owed .noted)
+  agrees-tick = by (tick-order c (fit .accepted) (fit .shaped) (sim .orderly))
+    where
+      by : TickOrder c s → Agrees c p rk m s Tick
+      by (order-same e o) = plain-tick e o
+      by (starts j y) = timed-tick j y

@@ -2,7 +2,8 @@
 --
 --   levelAt c bs ns      the level at which a nest runs
 --   Nested c bs ns       "each one's own priority above the level of the rest"
---   Seats c rk bs r l ns the runner r and the level l are those of the nest, and whoever is below holds a resource
+--   Seats c rk bs js r l ns  the runner r and the level l are those of the nest, and whoever is below holds a resource; where time-triggered
+--                        tasks js are started the latest of them runs, and all of the nest hold a resource
 --
 -- A preempted body that holds nothing is in no nest: its bit in `started` brings it back. Assumes nothing.
 use Prim.Native.Nat.{ℕ, max, _≤_, _<_}
@@ -14,7 +15,7 @@ use borrow.Author.Tests.{eq-eqb, ne-eqb}
 use lib.Dec.{eqb}
 use Rattle.number.proofs.Cases.{by-eq}
 use Rattle.config.specs.declared.Config.{Config}
-use Rattle.config.specs.Meaning.{priorityOf, ceiling}
+use Rattle.config.specs.Meaning.{executionLevel, priorityOf, ceiling}
 use Rattle.scheduler.specs.Body.{Body, isStarted, holds, current}
 use Rattle.scheduler.specs.State.{among}
 use Rattle.scheduler.proofs.Choice.{current-own}
@@ -35,9 +36,11 @@ Nested c bs (b ∷ ns) =
 abbrev pub AllHold : List Body → List ℕ → Type 0
 AllHold bs ns = (i : ℕ) → among i ns ≡ true → holds (at bs i .held) ≡ true
 
-unfoldable pub Seats : Config → (ℕ → ℕ) → List Body → ℕ → ℕ → List ℕ → Type 0
-Seats c rk bs r l [] = (r ≡ noRank) × (l ≡ 0)
-Seats c rk bs r l (b ∷ ns) = (r ≡ rk b) × ((l ≡ current c b (at bs b)) × AllHold bs ns)
+unfoldable pub Seats : Config → (ℕ → ℕ) → List Body → List ℕ → ℕ → ℕ → List ℕ → Type 0
+Seats c rk bs [] r l [] = (r ≡ noRank) × (l ≡ 0)
+Seats c rk bs [] r l (b ∷ ns) = (r ≡ rk b) × ((l ≡ current c b (at bs b)) × AllHold bs ns)
+Seats c rk bs (j ∷ js) r l [] = (r ≡ rk j) × ((l ≡ executionLevel) × AllHold bs [])
+Seats c rk bs (j ∷ js) r l (b ∷ ns) = (r ≡ rk j) × ((l ≡ executionLevel) × AllHold bs (b ∷ ns))
 
 -- b is the first of the list, or stands further on
 pub by-among {ℓ} : {C : Type ℓ} (i b : ℕ) (ns : List ℕ) → among i (b ∷ ns) ≡ true → (i ≡ b → C) → ((i ≡ b → ⊥) → among i ns ≡ true → C) → C
@@ -136,7 +139,21 @@ module _ (c : Config) (rk : ℕ → ℕ) (bs bs′ : List Body) where
   pub hold-alike : (ns : List ℕ) → AlikeAlong ns → AllHold bs ns → AllHold bs′ ns
   hold-alike ns a h i m = sym (ap holds (a i m .held)) ∙ h i m
 
-  pub seats-alike : (r l : ℕ) (ns : List ℕ) → AlikeAlong ns → Seats c rk bs r l ns → Seats c rk bs′ r l ns
+  pub seats-alike : (js : List ℕ) (r l : ℕ) (ns : List ℕ) → AlikeAlong ns → Seats c rk bs js r l ns → Seats c rk bs′ js r l ns
   unfolding Seats
-  seats-alike r l [] a k = k
-  seats-alike r l (b ∷ ns) a k = (k .0, (k .1 .0 ∙ current-alike b (a b (among-head b ns)), hold-alike ns (tail-alike b ns a) (k .1 .1)))
+  seats-alike [] r l [] a k = k
+  seats-alike [] r l (b ∷ ns) a k = (k .0, (k .1 .0 ∙ current-alike b (a b (among-head b ns)), hold-alike ns (tail-alike b ns a) (k .1 .1)))
+  seats-alike (j ∷ js) r l [] a k = (k .0, (k .1 .0, hold-alike [] a (k .1 .1)))
+  seats-alike (j ∷ js) r l (b ∷ ns) a k = (k .0, (k .1 .0, hold-alike (b ∷ ns) a (k .1 .1)))
+
+-- a time-triggered task takes the seat, above a nest of which all hold a resource; and back
+module _ (c : Config) (rk : ℕ → ℕ) (bs : List Body) (j : ℕ) (js : List ℕ) (r l : ℕ) where
+  pub timed-seats : (ns : List ℕ) → r ≡ rk j → l ≡ executionLevel → AllHold bs ns → Seats c rk bs (j ∷ js) r l ns
+  unfolding Seats
+  timed-seats [] e f h = (e, (f, h))
+  timed-seats (b ∷ ns) e f h = (e, (f, h))
+
+  pub timed-seat : (ns : List ℕ) → Seats c rk bs (j ∷ js) r l ns → (r ≡ rk j) × ((l ≡ executionLevel) × AllHold bs ns)
+  unfolding Seats
+  timed-seat [] k = k
+  timed-seat (b ∷ ns) k = k

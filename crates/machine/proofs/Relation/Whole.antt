@@ -2,20 +2,23 @@
 --
 --   Tied   the words, who runs and the held resources are those of the bodies; another body may still be above the level
 --   Calm   none is
---   Sim    the whole: tied, calm, with the cells, the losses and the event bits
+--   Sim    the whole: tied, calm, with the cells, the losses, the event bits and the order of the time-triggered tasks
 --
 -- Assumes nothing.
 use Prim.Native.Nat.{ℕ, _≤_, _<_}
 use mathlib.Core.Path.{_≡_}
 use mathlib.Core.Bool.{true, false}
-use mathlib.Core.List.{List, []}
+use mathlib.Core.List.{List, [], map}
 use lib.ListN.{length}
 use Rattle.config.specs.declared.Config.{Config}
 use Rattle.config.specs.Meaning.{priorityOf}
 use Rattle.plan.specs.declared.Plan.{Plan}
 use Rattle.scheduler.specs.Body.{Body, competes}
+use Rattle.stack.specs.Stack.{rowBytes}
 use Rattle.scheduler.specs.State.{State, among}
+use Rattle.scheduler.proofs.Order.{Orderly}
 use Rattle.machine.specs.Model.{Model}
+use Rattle.machine.proofs.Relation.Rows.{Shows}
 use Rattle.machine.proofs.Relation.Words.{at, Words}
 use Rattle.machine.proofs.Relation.Slots.{slotsAlong, Slots}
 use Rattle.machine.proofs.Relation.Nest.{Nested, Seats}
@@ -23,11 +26,12 @@ use Rattle.machine.proofs.Relation.Cells.{Timed}
 use Rattle.machine.proofs.Relation.Losses.{Lost}
 use Rattle.machine.proofs.Relation.Bits.{Noted}
 
-pub record Tied (c : Config) (rk : ℕ → ℕ) (m : Model) (bs : List Body) (ns : List ℕ) : Type 0 where
+-- js: the time-triggered tasks that are started
+pub record Tied (c : Config) (rk : ℕ → ℕ) (m : Model) (bs : List Body) (js ns : List ℕ) : Type 0 where
   pub size : length bs ≡ c .bodies
   pub words : Words c rk (m .core) bs
   pub nested : Nested c bs ns
-  pub seats : Seats c rk bs (m .core .runner) (m .core .level) ns
+  pub seats : Seats c rk bs js (m .core .runner) (m .core .level) ns
   pub slots : Slots (m .held) (m .resource) (m .holder) (m .raised) (slotsAlong c rk bs ns)
   -- who is in no nest holds nothing
   pub loose : (b : ℕ) → among b ns ≡ false → at bs b .held ≡ []
@@ -39,8 +43,10 @@ Calm c l bs = (b : ℕ) → b < c .bodies → competes (at bs b .phase) ≡ true
 -- the model m of the machine stands for the state s of the plain scheduler
 pub record Sim (c : Config) (p : Plan) (rk : ℕ → ℕ) (m : Model) (s : State) : Type 0 where
   pub nest : List ℕ
-  pub tied : Tied c rk m (s .bodies) nest
+  pub tied : Tied c rk m (s .bodies) (s .order) nest
   pub calm : Calm c (m .core .level) (s .bodies)
   pub timed : Timed c p (m .counter) (m .on) (m .turning) (s .tables)
   pub lost : Lost c rk (m .losses) (s .bodies)
   pub noted : Noted c rk (m .cleared) (m .bits) (m .waited) (s .bodies)
+  pub orderly : Orderly c s
+  pub row : Shows (rowBytes (m .triggered)) (map rk (s .order))

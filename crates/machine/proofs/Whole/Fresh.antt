@@ -2,7 +2,7 @@
 -- Assumes nothing.
 use Prim.Native.Nat.{ℕ, _<_}
 use mathlib.Core.Path.{_≡_, refl, sym, ap, _∙_}
-use mathlib.Core.Bool.{Bool, true, false, true≢false, cond, not, _||_}
+use mathlib.Core.Bool.{Bool, true, false, true≢false, cond, _||_}
 use mathlib.Core.List.{[]}
 use native.Mathlib.Omega.{arith}
 use lib.Dec.{eqb}
@@ -11,17 +11,18 @@ use lib.Seq.{getD-take, length-take-le}
 use Rattle.config.specs.declared.Config.{Config}
 use Rattle.plan.specs.declared.Plan.{Plan}
 use Rattle.word.specs.Word.{has}
-use Rattle.word.proofs.Theorems.{empty, has-union, has-full}
-use Rattle.scheduler.specs.Body.{Body, isWaiting, hasBegun, activated}
+use Rattle.word.proofs.Theorems.{empty, has-union}
+use Rattle.scheduler.specs.Body.{Body, isStarted, isWaiting, activated}
 use Rattle.scheduler.specs.State.{stopped, State, noBody, among}
 use Rattle.scheduler.specs.Scheduler as Plain
 use Rattle.scheduler.specs.Scheduler.{newBody, fresh}
 use Rattle.scheduler.proofs.Effects.{tables-dispatched}
+use Rattle.scheduler.proofs.Order.{orderly-unstarted, orderly-fresh}
 use Rattle.machine.specs.Machine.{unstarted, freshModel}
 use Rattle.machine.proofs.Relation.Rows.{same-everywhere, row-empty-shows}
 use Rattle.machine.specs.Cells.{switchOff, isOn, hasTurn}
 use Rattle.plan.proofs.Fitted.{Fitted}
-use Rattle.machine.proofs.Relation.Words.{at, wants}
+use Rattle.machine.proofs.Relation.Words.{at, wants, isAside}
 use Rattle.machine.proofs.Relation.Slots.{slotsAlong, Distinct}
 use Rattle.machine.proofs.Relation.Free.{missing-empty}
 use Rattle.machine.proofs.Relation.Nest.{Nested, Seats}
@@ -29,8 +30,7 @@ use Rattle.machine.proofs.Relation.Cells.{CellFits, Timed}
 use Rattle.machine.proofs.Relation.Losses.{Lost, lost-same}
 use Rattle.machine.proofs.Relation.Bits.{eventBits, Noted, noted-same}
 use Rattle.machine.proofs.Relation.Whole.{Tied, Sim}
-use Rattle.machine.proofs.Arbitration.Dispatch.{rank-below, settled-tied}
-use Rattle.machine.proofs.Event.Agrees.{dispatched-losses, dispatched-bits, dispatched-masks}
+use Rattle.machine.proofs.Event.Agrees.{dispatched-losses, dispatched-bits, dispatched-masks, order-dispatched, latest-of, settled-orderly}
 
 -- whatever a new body is, it has not begun, holds nothing and lost nothing
 new-wants : (a : ℕ) → wants (newBody a) ≡ eqb a 1
@@ -64,7 +64,7 @@ module _ {c : Config} {p : Plan} {rk : ℕ → ℕ} (fit : Fitted c p rk) where
   at-same {ℓ} : {A : Type ℓ} (f : Body → A) → f (activated noBody) ≡ f noBody → (b : ℕ) → f (at (unbegun .bodies) b) ≡ f noBody
   at-same f e b = ap f (at-new b) ∙ new-same f e (getD (take (c .bodies) (c .autostart)) b 0)
 
-  unbegun-tied : Tied c rk (unstarted (p .autostart)) (unbegun .bodies) []
+  unbegun-tied : Tied c rk (unstarted (p .autostart)) (unbegun .bodies) [] []
   unfolding Nested Seats slotsAlong Distinct among
   unbegun-tied =
       record {
@@ -72,12 +72,16 @@ module _ {c : Config} {p : Plan} {rk : ℕ → ℕ} (fit : Fitted c p rk) where
         words = record {
           request-lt = fit .autostart-lt;
           started-lt = omega arith;
-          enabled-lt = omega arith;
+          aside-lt = omega arith;
           asks = λ b b<. fit .autostart-at b b< ∙ sym (ap wants (at-known b b<) ∙ new-wants (getD (c .autostart) b 0));
-          begun = λ b b<. empty (rk b) ∙ sym (at-same (λ x. hasBegun (x .phase)) refl b);
-          awake = λ b b<. has-full (rk b) (rank-below fit b b<) ∙ sym (at-same (λ x. not (isWaiting (x .phase))) refl b);
+          goes-on = λ b b<. empty (rk b) ∙ sym (at-same (λ x. isStarted (x .phase)) refl b);
+          put-aside = λ b b<. empty (rk b) ∙ sym (at-same (λ x. isAside (x .phase)) refl b);
           real = λ r h. fit .autostart-real r (or-false (has (p .autostart) r) ∙ ap (λ (b : Bool). has (p .autostart) r || b) (sym (empty r)) ∙ sym (has-union (p .autostart) 0 r) ∙ h);
           quiet = λ b h. at-same (λ x. x .pending) refl b;
+          suits = λ b. (
+            (λ h. absurd (true≢false (sym h ∙ at-same (λ x. x .pending) refl b))),
+            λ h. absurd (true≢false (sym h ∙ at-same (λ x. isAside (x .phase)) refl b)),
+          );
         };
         nested = tt;
         seats = (refl, refl);
@@ -126,12 +130,16 @@ module _ {c : Config} {p : Plan} {rk : ℕ → ℕ} (fit : Fitted c p rk) where
 
   pub fresh-sim : Sim c p rk (freshModel p) (fresh c)
   fresh-sim =
-      let arb = settled-tied fit unbegun unbegun-tied in
+      let ready = orderly-unstarted c (fit .accepted) (fit .shaped) in
+      let arb = settled-orderly fit unbegun ready unbegun-tied in
+      let top = latest-of fit ready in
       record {
         nest = arb .nest;
-        tied = arb .tied;
+        tied = rw (order-dispatched c unbegun top) (arb .tied);
         calm = arb .calm;
         timed = rw (tables-dispatched c unbegun) unbegun-timed;
         lost = lost-same (dispatched-losses c unbegun) unbegun-lost;
-        noted = noted-same (dispatched-bits c unbegun) (dispatched-masks c unbegun) unbegun-noted;
+        noted = noted-same (dispatched-bits c unbegun top) (dispatched-masks c unbegun top) unbegun-noted;
+        orderly = orderly-fresh c (fit .accepted) (fit .shaped);
+        row = rw (order-dispatched c unbegun top) row-empty-shows;
       }

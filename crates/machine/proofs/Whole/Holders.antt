@@ -1,6 +1,7 @@
 -- Who holds a resource while another body runs, and what a Get by a declared user is refused for.
 --
---   holder-below      the runner's own priority is above the level of every other body that holds a resource
+--   holder-below      the runner's own priority, or a time-triggered task's trigger level, is above the level of every other body that holds
+--                     a resource
 --   declared-refused  so a declared user is refused a resource only where it holds it itself
 --
 -- and the same of the machine's slots: `slot-below`, `slot-user`, `machine-refused`. All for a model that stands for a state, whatever the kinds of its
@@ -16,16 +17,19 @@ use lib.Dec.{ltb}
 use lib.ListN.{getD}
 use Rattle.number.proofs.Cases.{by-eq}
 use Rattle.config.specs.declared.Config.{Config}
-use Rattle.config.specs.Meaning.{isUser, priorityOf, ceiling}
+use Rattle.config.specs.Value.{maxPriority}
+use Rattle.config.specs.Meaning.{triggerLevel, isTimed, isUser, priorityOf, ceiling}
+use Rattle.config.proofs.Theorems.{timed-no-user}
 use Rattle.plan.specs.declared.Plan.{Plan}
+use Rattle.plan.specs.Plan.{triggerOf}
 use Rattle.plan.proofs.Fitted.{Fitted}
 use Rattle.word.specs.Word.{has}
 use Rattle.stack.specs.Stack.{none, rowBytes}
 use Rattle.scheduler.specs.Status.{done, access, firstGiven}
 use Rattle.scheduler.specs.Body.{Body, current}
-use Rattle.scheduler.specs.Choice.{Candidate}
-use Rattle.scheduler.specs.State.{State, bodyOf, among, heldIn}
-use Rattle.scheduler.specs.Call.{nobodyRuns, caller, calling, getStatus}
+use Rattle.scheduler.specs.Choice.{Candidate, chosen}
+use Rattle.scheduler.specs.State.{State, bodyOf, among, heldIn, latestOf}
+use Rattle.scheduler.specs.Call.{nobodyRuns, nobodyCalls, caller, calling, getStatus}
 use Rattle.scheduler.specs.Scheduler.{Get, Seen, stepBy}
 use Rattle.scheduler.proofs.Choice.{current-held}
 use Rattle.machine.specs.Model.{Model}
@@ -33,9 +37,12 @@ use Rattle.machine.specs.Events.{idles}
 use Rattle.machine.specs.Machine.{machineStep, runnerOf}
 use Rattle.machine.proofs.Relation.Words.{at}
 use Rattle.machine.proofs.Relation.Slots.{Slot, slotsFor, slotsAlong, resourcesIn, holdersIn, levelsIn}
-use Rattle.machine.proofs.Relation.Nest.{Nested, Seats, by-among, among-head, among-tail, nest-level, nest-exists}
+use Rattle.machine.proofs.Relation.Nest.{Nested, Seats, timed-seat, by-among, among-head, among-tail, nest-level, nest-exists}
+use Rattle.machine.proofs.Relation.Kinds.{trigger-plain, trigger-timed}
+use Rattle.machine.proofs.Relation.Order.{latest-timed, latest-exists, plain-competes}
 use Rattle.machine.proofs.Relation.Whole.{Tied, Sim}
-use Rattle.machine.proofs.Arbitration.Choice.{chosen-seated}
+use Rattle.machine.proofs.Arbitration.Seat.{current-few}
+use Rattle.machine.proofs.Arbitration.Choice.{active-of-started, chosen-seated}
 use Rattle.machine.proofs.Arbitration.Dispatch.{runnerOf-is}
 use Rattle.machine.proofs.Change.Hold.{slots-are}
 use Rattle.machine.proofs.Event.Agrees.{by-runner}
@@ -94,19 +101,50 @@ module _ {c : Config} {p : Plan} {rk : ℕ → ℕ} (fit : Fitted c p rk) {m : M
       (λ e. absurd (other e))
       (λ _ q. omega (arith, nest-level c (s .bodies) i ns (k .1 .1 .1) q, k .1 .1 .0))
 
-  -- where nobody runs nothing is held, so the law has no case for it
-  pub holder-below : (i r : ℕ) → i ≢ caller c s → among r (bodyOf s i .held) ≡ true → current c i (bodyOf s i) < priorityOf c (caller c s)
-  unfolding among
-  holder-below i r other h = go (sim .nest) (sim .tied)
-    where
-      go : (ns : List ℕ) → Tied c rk m (s .bodies) ns → current c i (bodyOf s i) < priorityOf c (caller c s)
-      go [] t = absurd (true≢false (sym (holder-nested t r i h)))
-      go (b ∷ ns) t =
-          let calls : caller c s ≡ b = ap (λ (x : Candidate). x .number) (chosen-seated fit t (sim .calm) b ns refl) in
-          rw calls (nest-below b ns (t .nested) i (holder-nested t r i h) (λ e. other (e ∙ sym calls)))
+  -- the first of a nest is started, so that its own priority is what it is compared by
+  nested-plain : (b : ℕ) (ns : List ℕ) → Nested c (s .bodies) (b ∷ ns) → triggerOf c b ≡ priorityOf c b
+  unfolding Nested
+  nested-plain b ns k = trigger-plain c b (k .0) (plain-competes (sim .orderly) b (active-of-started (bodyOf s b .phase) (k .1 .0)))
 
-  pub ceiling-below : (i r : ℕ) → i ≢ caller c s → among r (bodyOf s i .held) ≡ true → ceiling c r < priorityOf c (caller c s)
+  -- whoever holds a resource is a body of the nest
+  holder-few : (i r : ℕ) → among r (bodyOf s i .held) ≡ true → current c i (bodyOf s i) ≤ maxPriority
+  holder-few i r h =
+      current-few fit i (bodyOf s i) (nest-exists c (s .bodies) i (sim .nest) (sim .tied .nested) (holder-nested (sim .tied) r i h))
+
+  -- a time-triggered task that runs is compared by its trigger level
+  module _ (j : ℕ) (js : List ℕ) (e : s .order ≡ j ∷ js) where
+    timed-caller : caller c s ≡ j
+    timed-caller = ap (λ (os : List ℕ). latestOf (s .bodies) os (chosen c (s .bodies)) .number) e
+
+    timed-trigger : triggerOf c j ≡ triggerLevel
+    timed-trigger = trigger-timed c j (latest-exists (sim .orderly) j js e) (latest-timed (sim .orderly) j js e)
+
+  -- where nobody runs nothing is held, so the law has no case for it
+  pub holder-below : (i r : ℕ) → i ≢ caller c s → among r (bodyOf s i .held) ≡ true → current c i (bodyOf s i) < triggerOf c (caller c s)
+  unfolding among
+  holder-below i r other h = by (s .order) refl
+    where
+      go : s .order ≡ [] → (ns : List ℕ) → Tied c rk m (s .bodies) [] ns → current c i (bodyOf s i) < triggerOf c (caller c s)
+      go e [] t = absurd (true≢false (sym (holder-nested t r i h)))
+      go e (b ∷ ns) t =
+          let runs = ap (λ (os : List ℕ). latestOf (s .bodies) os (chosen c (s .bodies))) e ∙ chosen-seated fit t (sim .calm) b ns refl in
+          let calls : caller c s ≡ b = ap (λ (x : Candidate). x .number) runs in
+          rw (calls, nested-plain b ns (t .nested)) (nest-below b ns (t .nested) i (holder-nested t r i h) (λ e. other (e ∙ sym calls)))
+
+      by : (os : List ℕ) → s .order ≡ os → current c i (bodyOf s i) < triggerOf c (caller c s)
+      by [] e = go e (sim .nest) (rw e at (sim .tied))
+      by (j ∷ js) e = rw (timed-caller j js e) (omega (arith, holder-few i r h, timed-trigger j js e))
+
+  pub ceiling-below : (i r : ℕ) → i ≢ caller c s → among r (bodyOf s i .held) ≡ true → ceiling c r < triggerOf c (caller c s)
   ceiling-below i r other h = omega (arith, holder-below i r other h, current-held c i (bodyOf s i) r h)
+
+  -- a declared user is no time-triggered task
+  user-untimed : (r b : ℕ) → isUser c r b ≡ true → isTimed c b ≡ false
+  user-untimed r b u = go (isTimed c b) refl
+    where
+      go : (x : Bool) → isTimed c b ≡ x → x ≡ false
+      go true e = absurd (true≢false (sym u ∙ timed-no-user c (fit .accepted) r b e))
+      go false e = refl
 
   -- the runner itself holds what a declared user is refused
   own-held : (r : ℕ) → caller c s < c .bodies → isUser c r (caller c s) ≡ true → heldIn r (s .bodies) ≡ true → among r (calling c s .held) ≡ true
@@ -114,7 +152,12 @@ module _ {c : Config} {p : Plan} {rk : ℕ → ℕ} (fit : Fitted c p rk) {m : M
       let x = held-by r (s .bodies) h in
       by-eq (x .0) (caller c s)
       (λ same. rw same at (x .1 .1))
-      (λ other. absurd (omega (arith, ceiling-below (x .0) r other (x .1 .1), fit .user-ceiling r (caller c s) exists user)))
+      (λ other. absurd (omega (
+        arith,
+        ceiling-below (x .0) r other (x .1 .1),
+        fit .user-ceiling r (caller c s) exists user,
+        trigger-plain c (caller c s) exists (user-untimed r (caller c s) user),
+      )))
 
   pub declared-refused : (r : ℕ) → nobodyRuns c s ≡ false → isUser c r (caller c s) ≡ true → getStatus c s r ≢ done
       → (getStatus c s r ≡ access) × (among r (calling c s .held) ≡ true)
@@ -126,9 +169,18 @@ module _ {c : Config} {p : Plan} {rk : ℕ → ℕ} (fit : Fitted c p rk) {m : M
           by-runner fit sim
           (λ _ n. absurd (true≢false (sym n ∙ somebody)))
           (λ b ns k. rw (k .calls) (k .exists))
+          (λ j js k. rw (k .calls) (k .exists))
+
+      -- a declared user may call
+      calls : nobodyCalls c s ≡ false
+      calls =
+          by-runner fit sim
+          (λ _ n. absurd (true≢false (sym n ∙ somebody)))
+          (λ b ns k. k .calls-there)
+          (λ j js k. absurd (true≢false (sym (latest-timed (sim .orderly) j js (k .order-is)) ∙ user-untimed r j (ap (isUser c r) (sym (k .calls)) ∙ user))))
 
       checked : (b : Bool) → heldIn r (s .bodies) ≡ b → getStatus c s r ≡ cond b access done
-      checked b e = rw (somebody, lt-leb (c .resources) r (user-exists c r (caller c s) user), user, e)
+      checked b e = rw (calls, lt-leb (c .resources) r (user-exists c r (caller c s) user), user, e)
 
       go : (b : Bool) → heldIn r (s .bodies) ≡ b → (getStatus c s r ≡ access) × (among r (calling c s .held) ≡ true)
       go true e = (checked true e, own-held r exists user e)
@@ -138,17 +190,29 @@ module _ {c : Config} {p : Plan} {rk : ℕ → ℕ} (fit : Fitted c p rk) {m : M
   pub slot-below : (k : ℕ) → getD (rowBytes (m .holder)) k none ≢ none → getD (rowBytes (m .holder)) k none ≢ m .core .runner
       → getD (rowBytes (m .raised)) k none < getD (p .priority) (m .core .runner) 0
   unfolding slotsAlong Nested Seats
-  slot-below k some other = go (sim .nest) (sim .tied)
+  slot-below k some other = by (s .order) refl
     where
-      go : (ns : List ℕ) → Tied c rk m (s .bodies) ns → getD (rowBytes (m .raised)) k none < getD (p .priority) (m .core .runner) 0
+      go : (ns : List ℕ) → Tied c rk m (s .bodies) [] ns → getD (rowBytes (m .raised)) k none < getD (p .priority) (m .core .runner) 0
       go [] t = absurd (some (t .slots .holders .at k))
       go (b ∷ ns) t =
           ⊎-elim
           (λ e. absurd (some (t .slots .holders .at k ∙ e)))
           (λ x.
           let low = nest-below b ns (t .nested) (x .0) (x .1) (λ e. other (t .slots .holders .at k ∙ x .2 ∙ ap rk e ∙ sym (t .seats .0))) in
-          rw (t .slots .levels .at k, t .seats .0, fit .priority-at b (t .nested .0)) (omega (arith, low, x .3)))
+          rw (t .slots .levels .at k, t .seats .0, fit .priority-at b (t .nested .0), nested-plain b ns (t .nested)) (omega (arith, low, x .3)))
           (along-slot c rk (s .bodies) (b ∷ ns) k)
+
+      by : (os : List ℕ) → s .order ≡ os → getD (rowBytes (m .raised)) k none < getD (p .priority) (m .core .runner) 0
+      by [] e = go (sim .nest) (rw e at (sim .tied))
+      by (j ∷ js) e =
+          ⊎-elim
+          (λ z. absurd (some (sim .tied .slots .holders .at k ∙ z)))
+          (λ x.
+          let seat = timed-seat c rk (s .bodies) j js (m .core .runner) (m .core .level) (sim .nest) (rw e at (sim .tied .seats)) in
+          let i< = nest-exists c (s .bodies) (x .0) (sim .nest) (sim .tied .nested) (x .1) in
+          rw (sim .tied .slots .levels .at k, seat .0, fit .priority-at j (latest-exists (sim .orderly) j js e), timed-trigger j js e)
+          (omega (arith, x .3, current-few fit (x .0) (bodyOf s (x .0)) i<)))
+          (along-slot c rk (s .bodies) (sim .nest) k)
 
   -- and where only declared users hold resources, the rank of a slot's holder is in the word of its resource
   pub slot-user : ((i r : ℕ) → among r (bodyOf s i .held) ≡ true → isUser c r i ≡ true) → (k : ℕ) → getD (rowBytes (m .holder)) k none ≢ none
@@ -177,3 +241,6 @@ module _ {c : Config} {p : Plan} {rk : ℕ → ℕ} (fit : Fitted c p rk) {m : M
       let y = slot-at c rk b r (at (s .bodies) b .held) (slotsAlong c rk (s .bodies) ns) (ap (λ (i : ℕ). among r (bodyOf s i .held)) (sym (k .calls)) ∙ x .1) in
       let z = slots-are fit (k .tied) in
       (same ∙ x .0, (y .0, z .resources .at (y .0) ∙ y .1, z .holders .at (y .0) ∙ y .2 ∙ sym (k .rank))))
+      (λ j js k.
+      let shown : runnerOf p m ≡ j = runnerOf-is fit m j (k .exists) (k .rank) in
+      absurd (true≢false (sym (latest-timed (sim .orderly) j js (k .order-is)) ∙ user-untimed r j (ap (isUser c r) (sym shown) ∙ user))))

@@ -22,7 +22,7 @@ use Rattle.machine.specs.Machine.{machineSeen, machineAfter}
 use Rattle.plan.proofs.Fitted.{Fitted}
 use Rattle.machine.proofs.Relation.Whole.{Sim}
 use Rattle.machine.proofs.Change.Ticks.{dues-long}
-use Rattle.machine.proofs.Event.Agrees.{Agrees}
+use Rattle.machine.proofs.Event.Agrees.{Agrees, Keeps, keeps-of}
 use Rattle.machine.proofs.Event.Bodies.{agrees-activate, agrees-line, agrees-finish, agrees-chain}
 use Rattle.machine.proofs.Event.Resources.{agrees-get, agrees-release}
 use Rattle.machine.proofs.Event.Tick.{agrees-tick}
@@ -33,19 +33,22 @@ module _ {c : Config} {p : Plan} {rk : ℕ → ℕ} (fit : Fitted c p rk) where
   pub event-agrees : {m : Model} {s : State} (e : Event) → Sim c p rk m s → Agrees c p rk m s e
   event-agrees {m} {s} e sim = by e (dues-long c p rk fit s (sim .timed .tables-long))
     where
+      keeps : Keeps c s
+      keeps = keeps-of fit (sim .orderly)
+
       by : (e : Event) → length (dues c s) ≡ p .count → Agrees c p rk m s e
-      by (Activate t) long = agrees-activate fit sim long t
-      by Finish long = agrees-finish fit sim long
-      by (Chain t) long = agrees-chain fit sim long t
-      by (Get r) long = agrees-get fit sim long r
-      by (Release r) long = agrees-release fit sim long r
-      by Tick long = agrees-tick fit sim
-      by (Line i) long = agrees-line fit sim long i
-      by (Start t d) long = agrees-start fit sim long t d
-      by (Stop t) long = agrees-stop fit sim long t
-      by (Wait w) long = agrees-wait fit sim long w
-      by (Set t w) long = agrees-set fit sim long t w
-      by (Clear w) long = agrees-clear fit sim long w
+      by (Activate t) long = agrees-activate fit sim keeps long t
+      by Finish long = agrees-finish fit sim keeps long
+      by (Chain t) long = agrees-chain fit sim keeps long t
+      by (Get r) long = agrees-get fit sim keeps long r
+      by (Release r) long = agrees-release fit sim keeps long r
+      by Tick long = agrees-tick fit sim keeps
+      by (Line i) long = agrees-line fit sim keeps long i
+      by (Start t d) long = agrees-start fit sim keeps long t d
+      by (Stop t) long = agrees-stop fit sim keeps long t
+      by (Wait w) long = agrees-wait fit sim keeps long w
+      by (Set t w) long = agrees-set fit sim keeps long t w
+      by (Clear w) long = agrees-clear fit sim keeps long w
 
   pub agreement-from : (es : List Event) {m : Model} {s : State} → Sim c p rk m s → machineSeen c p m es ≡ seen c s es
   unfolding machineSeen seenBy

@@ -207,7 +207,7 @@ impl<'t> Picture<'t> {
         for (row, body) in self.rows.clone().into_iter().enumerate() {
             let middle = self.top + ROW * (row as f64 + 0.5);
             let name = self.timeline.names.body(body as u32);
-            let priority = self.timeline.bodies[body].priority.to_string();
+            let priority = self.timeline.priority(body).to_string();
             self.canvas.text("name", MARGIN, middle + 4.0, Anchor::Start, &name);
             self.canvas.text("small", self.left - 10.0, middle + 4.0, Anchor::End, &priority);
             self.canvas.line("base", (self.left, middle), (self.right, middle));

@@ -1,0 +1,115 @@
+-- A time-triggered task ends: the one that was started before it goes on, or whoever took the latest resource that is held, or nobody.
+-- Assumes nothing.
+use Prim.Native.Nat.{ℕ, _<_}
+use mathlib.Core.Path.{_≡_, refl, sym, ap, _∙_}
+use mathlib.Core.Logic.{_≢_}
+use mathlib.Core.Bool.{true, false, true≢false}
+use mathlib.Core.List.{List, [], _∷_, map}
+use native.Mathlib.Omega.{arith}
+use borrow.Author.Tests.{eq-eqb, ne-eqb}
+use lib.ListN.{getD, set, length-set}
+use lib.Seq.{getD-set-same, getD-set-other}
+use Rattle.number.proofs.Cases.{by-eq}
+use Rattle.config.specs.declared.Config.{Config}
+use Rattle.config.specs.Meaning.{executionLevel}
+use Rattle.plan.specs.declared.Plan.{Plan}
+use Rattle.word.proofs.Theorems.{has-without-same, has-without-other, without-lt}
+use Rattle.stack.specs.Stack.{secondRow, rowBytes}
+use Rattle.scheduler.specs.Body.{Body, isStarted, triggered, ended, finished}
+use Rattle.scheduler.specs.State.{noBody, among}
+use Rattle.scheduler.specs.Call.{requestWaits}
+use Rattle.machine.specs.Model.{Model, noRank}
+use Rattle.machine.specs.Arbiter.{alone, returned, returning}
+use Rattle.plan.proofs.Fitted.{Fitted}
+use Rattle.machine.proofs.Relation.Rows.{Shows, row-shows-second}
+use Rattle.machine.proofs.Relation.Words.{at, wants, isAside, Words, words-changed}
+use Rattle.machine.proofs.Relation.Slots.{slotsAlong, Slots}
+use Rattle.machine.proofs.Relation.Nest.{Nested, AllHold, Seats, Alike, alike-same, among-head, nest-started, timed-seats, timed-seat, nested-alike, hold-alike, slotsAlong-alike}
+use Rattle.machine.proofs.Relation.Whole.{Tied}
+use Rattle.machine.proofs.Arbitration.Dispatch.{rank-below}
+use Rattle.machine.proofs.Change.End.{last-seated}
+
+-- the time-triggered task j, the latest of those started, ends
+module _ {c : Config} {p : Plan} {rk : ℕ → ℕ} (fit : Fitted c p rk) {m : Model} {bs : List Body} {j : ℕ} (js : List ℕ) {ns : List ℕ}
+    (t : Tied c rk m bs (j ∷ js) ns) (j< : j < c .bodies) (phase : at bs j .phase ≡ triggered true) (held : at bs j .held ≡ [])
+    (row : Shows (rowBytes (m .triggered)) (map rk (j ∷ js))) (exist : (i : ℕ) → among i js ≡ true → i < c .bodies) where
+  seat : (m .core .runner ≡ rk j) × ((m .core .level ≡ executionLevel) × AllHold bs ns)
+  seat = timed-seat c rk bs j js (m .core .runner) (m .core .level) ns (t .seats)
+
+  pending : at bs j .pending ≡ false
+  pending = t .words .quiet j (ap isStarted phase)
+
+  -- it is suspended then
+  abbrev y : Body
+  y = finished (at bs j)
+
+  abbrev bs′ : List Body
+  bs′ = set bs j y
+
+  y-is : y ≡ ended (at bs j)
+  y-is = rw pending
+
+  at-j : at bs′ j ≡ y
+  at-j = getD-set-same bs j y noBody (rw (t .size) j<)
+
+  at-other : (i : ℕ) → i ≢ j → at bs′ i ≡ at bs i
+  at-other i n = getD-set-other bs j i y noBody n
+
+  -- whoever is in the nest is started
+  other : (i : ℕ) → among i ns ≡ true → i ≢ j
+  other i h e = true≢false (sym (nest-started c bs i ns (t .nested) h) ∙ ap (λ (k : ℕ). isStarted (at bs k .phase)) e ∙ ap isStarted phase)
+
+  alike : (i : ℕ) → among i ns ≡ true → Alike (at bs i) (at bs′ i)
+  alike i h = alike-same (sym (at-other i (other i h)))
+
+  words : Words c rk (returned m) bs′
+  words =
+      words-changed fit (t .words) (t .size) j j< y (returned m)
+      ((λ h. absurd (true≢false (sym h ∙ rw y-is refl))), λ h. absurd (true≢false (sym h ∙ rw y-is refl)))
+      (record {
+        asks = t .words .asks j j< ∙ ap (requestWaits (at bs j)) phase ∙ sym (ap wants y-is);
+        goes-on = t .words .goes-on j j< ∙ ap isStarted phase ∙ sym (ap (λ (x : Body). isStarted (x .phase)) y-is);
+        put-aside = rw (seat .0) (has-without-same (m .core .aside) (rk j)) ∙ sym (ap (λ (x : Body). isAside (x .phase)) y-is);
+        quiet = λ _. ap (λ (x : Body). x .pending) y-is;
+      })
+      (record {
+        request-lt = t .words .request-lt;
+        started-lt = t .words .started-lt;
+        aside-lt = without-lt (m .core .aside) (m .core .runner) (t .words .aside-lt);
+        asks = λ r n. refl;
+        goes-on = λ r n. refl;
+        put-aside = λ r n. rw (seat .0) (has-without-other (m .core .aside) (rk j) r n);
+      })
+
+  slots′ : Slots (m .held) (m .resource) (m .holder) (m .raised) (slotsAlong c rk bs′ ns)
+  slots′ = rw (sym (slotsAlong-alike c rk bs bs′ ns alike)) (t .slots)
+
+  nested′ : Nested c bs′ ns
+  nested′ = nested-alike c rk bs bs′ ns alike (t .nested)
+
+  hold′ : AllHold bs′ ns
+  hold′ = hold-alike c rk bs bs′ ns alike (seat .1 .1)
+
+  -- who runs then
+  seats′ : (os : List ℕ) → js ≡ os → Seats c rk bs′ os (returned m .runner) (returned m .level) ns
+  seats′ [] e =
+      let none : alone m ≡ true = eq-eqb (secondRow (m .triggered)) noRank (row-shows-second (m .triggered) (rk j) (map rk js) row ∙ ap (λ (os : List ℕ). getD (map rk os) 0 noRank) e) in
+      rw none (last-seated fit m bs′ ns nested′ hold′ slots′)
+  seats′ (i ∷ os) e =
+      let next : secondRow (m .triggered) ≡ rk i = row-shows-second (m .triggered) (rk j) (map rk js) row ∙ ap (λ (os : List ℕ). getD (map rk os) 0 noRank) e in
+      let i< : i < c .bodies = exist i (rw e (among-head i os)) in
+      let some : alone m ≡ false = ne-eqb (secondRow (m .triggered)) noRank (λ z. absurd (omega (arith, z, next, rank-below fit i i<))) in
+      rw some (timed-seats c rk bs′ i os (secondRow (m .triggered)) executionLevel ns next refl hold′)
+
+  pub return-tied : Tied c rk (returning m) (set bs j (finished (at bs j))) js ns
+  return-tied =
+      record {
+        size = length-set bs j (finished (at bs j)) ∙ t .size;
+        words = words;
+        nested = nested′;
+        seats = seats′ js refl;
+        slots = slots′;
+        loose = λ i h. by-eq i j
+            (λ e. rw (e, at-j) (ap (λ (x : Body). x .held) y-is ∙ held))
+            (λ n. rw (at-other i n) (t .loose i h));
+      }

@@ -1,0 +1,87 @@
+-- What a state in order (crate scheduler, `Orderly`) says of its bodies, in the words of the relation.
+--
+--   timed-exists, timed-task   a time-triggered task is a body, and no ISR
+--   untriggered                no other body is triggered
+--   kinds-of                   who bids for the processor by priority is no time-triggered task
+--
+-- Assumes nothing.
+use Prim.Native.Nat.{ℕ, _<_}
+use mathlib.Core.Path.{_≡_, refl, sym, ap, _∙_}
+use mathlib.Core.Logic.{_≢_}
+use mathlib.Core.Bool.{Bool, true, false, true≢false, _&&_}
+use mathlib.Core.List.{List, [], _∷_}
+use borrow.Author.Tests.{ltb-true, eqb-true, ne-eqb}
+use lib.Dec.{ltb, eqb}
+use lib.ListN.{length, getD}
+use Rattle.config.specs.declared.Config.{Config}
+use Rattle.config.specs.Meaning.{isr, timeTriggered, isTimed, isIsr}
+use Rattle.scheduler.specs.Body.{Phase, suspended, ready, started, waiting, triggered, isSuspended, hasBegun, competes}
+use Rattle.scheduler.specs.State.{State, among}
+use Rattle.scheduler.proofs.Order.{Orderly}
+use Rattle.machine.proofs.Relation.Words.{at}
+use Rattle.machine.proofs.Relation.Nest.{among-head}
+use Rattle.machine.proofs.Relation.Kinds.{isBidding, Kinds}
+
+pub both : (a b : Bool) → a && b ≡ true → (a ≡ true) × (b ≡ true)
+both true b e = (refl, e)
+both false b e = absurd (true≢false (sym e))
+
+pub and-false : (a : Bool) → a && false ≡ false
+and-false true = refl
+and-false false = refl
+
+module _ (c : Config) (j : ℕ) (timed : isTimed c j ≡ true) where
+  pub timed-exists : j < c .bodies
+  timed-exists = ltb-true j (c .bodies) (both (ltb j (c .bodies)) _ timed .0)
+
+  -- its kind is not that of another
+  pub timed-other : (kind : ℕ) → timeTriggered ≢ kind → ltb j (c .bodies) && eqb (getD (c .kind) j 0) kind ≡ false
+  timed-other kind n =
+      ap (λ (x : Bool). ltb j (c .bodies) && x)
+      (ne-eqb (getD (c .kind) j 0) kind (λ e. n (sym (eqb-true (getD (c .kind) j 0) timeTriggered (both (ltb j (c .bodies)) _ timed .1)) ∙ e)))
+      ∙ and-false (ltb j (c .bodies))
+
+module _ {c : Config} {s : State} (o : Orderly c s) where
+  -- the latest time-triggered task that is started
+  module _ (j : ℕ) (js : List ℕ) (e : s .order ≡ j ∷ js) where
+    first : among j (s .order) ≡ true
+    first = rw e (among-head j js)
+
+    pub latest-timed : isTimed c j ≡ true
+    latest-timed = o .started-timed j first
+
+    pub latest-exists : j < c .bodies
+    latest-exists = timed-exists c j latest-timed
+
+    pub latest-begun : at (s .bodies) j .phase ≡ triggered true
+    latest-begun = o .started-begun j first
+
+    pub latest-free : at (s .bodies) j .held ≡ []
+    latest-free = o .timed-free j latest-timed
+
+  -- who is not time-triggered is not triggered
+  pub untriggered : (i : ℕ) → isTimed c i ≡ false → (x : Bool) → at (s .bodies) i .phase ≢ triggered x
+  untriggered i plain x e = true≢false (sym (o .started-timed i (o .triggered-started i x e)) ∙ plain)
+
+  -- who may run by priority is not time-triggered
+  pub plain-competes : (i : ℕ) → competes (at (s .bodies) i .phase) ≡ true → isTimed c i ≡ false
+  plain-competes i h = by-kind (isTimed c i) refl
+    where
+      by-place : isTimed c i ≡ true → (m : Bool) → among i (s .order) ≡ m → competes (at (s .bodies) i .phase) ≡ false
+      by-place t true e = ap competes (o .started-begun i e)
+      by-place t false e = ap competes (o .timed-suspended i t e)
+
+      by-kind : (b : Bool) → isTimed c i ≡ b → b ≡ false
+      by-kind true e = absurd (true≢false (sym h ∙ by-place e (among i (s .order)) refl))
+      by-kind false e = refl
+
+  pub kinds-of : Kinds c (s .bodies)
+  kinds-of = record { entered = λ b _ h. go b (at (s .bodies) b .phase) refl h; untimed = λ b _ h. plain-competes b h }
+    where
+      go : (b : ℕ) (q : Phase) → at (s .bodies) b .phase ≡ q → isBidding q ≡ true → competes q ≡ true
+      go b suspended e h = h
+      go b ready e h = h
+      go b started e h = h
+      go b (waiting w) e h = h
+      go b (triggered true) e h = h
+      go b (triggered false) e h = absurd (true≢false (sym (ap hasBegun (o .started-begun b (o .triggered-started b false e))) ∙ ap hasBegun e))
