@@ -8,10 +8,10 @@ use Rattle.machine.specs.Model as Machine
 
 -- the words, who runs and at which level
 abbrev pub core : ℕ → ℕ → ℕ → ℕ → ℕ → Machine.Core
-core w v e r l = record { request = w; started = v; enabled = e; runner = r; level = l }
+core w v a r l = record { request = w; started = v; aside = a; runner = r; level = l }
 
 abbrev pub coreOf : Picked → Machine.Core
-coreOf p = core (p .request) (p .started) (p .enabled) (p .runner) (p .level)
+coreOf p = core (p .request) (p .started) (p .aside) (p .runner) (p .level)
 
 abbrev pub viewPicked : Picked → Machine.Picked
 viewPicked p = record { core = coreOf p; begun = p .begun }
@@ -21,7 +21,7 @@ pickedOf p =
     record {
       request = p .core .request;
       started = p .core .started;
-      enabled = p .core .enabled;
+      aside = p .core .aside;
       runner = p .core .runner;
       level = p .core .level;
       begun = p .begun;
@@ -30,7 +30,7 @@ pickedOf p =
 abbrev pub view : Model → Machine.Model
 view m =
     record {
-      core = core (m .request) (m .started) (m .enabled) (m .runner) (m .level);
+      core = core (m .request) (m .started) (m .aside) (m .runner) (m .level);
       held = m .held;
       resource = m .resource;
       holder = m .holder;
@@ -42,6 +42,7 @@ view m =
       cleared = m .cleared;
       bits = m .bits;
       waited = m .waited;
+      triggered = m .triggered;
     }
 
 abbrev pub modelOf : Machine.Model → Model
@@ -49,7 +50,7 @@ modelOf m =
     record {
       request = m .core .request;
       started = m .core .started;
-      enabled = m .core .enabled;
+      aside = m .core .aside;
       held = m .held;
       runner = m .core .runner;
       level = m .core .level;
@@ -63,6 +64,7 @@ modelOf m =
       cleared = m .cleared;
       bits = m .bits;
       waited = m .waited;
+      triggered = m .triggered;
     }
 
 abbrev pub viewOutcome : Outcome → Machine.Outcome

@@ -22,6 +22,9 @@ use stack::Row;
 // the row of held resources.
 const NO_RANK: u8 = NONE;
 
+// The level that a time-triggered task runs at, and nobody else.
+const EXECUTION_LEVEL: u8 = 201;
+
 // The statuses (OSEK's status codes) of an event. One that is refused changes nothing.
 pub const DONE: u8 = 0;
 
@@ -47,7 +50,7 @@ const NOT_USER: u8 = 33;
 pub struct Picked {
     pub request: u32,
     pub started: u32,
-    pub enabled: u32,
+    pub aside: u32,
     pub runner: u8,
     pub level: u8,
     pub begun: bool,
@@ -56,10 +59,11 @@ pub struct Picked {
 // What the machine keeps between events. It goes by value. Its fields are flat, the row of held resources is in words that shift, and a
 // method takes an array that it indexes out into a variable and puts it back: otherwise the compiler copies the whole model at every event.
 pub struct Model {
-    // The ranks that wait to begin, those that began and have not ended, and those that do not wait for an event bit, as words.
+    // The ranks that wait to begin, those that began and go on by their priority, and those that began and do not: extended tasks that wait
+    // for an event bit, and time-triggered tasks. Each as a word.
     pub request: u32,
     pub started: u32,
-    pub enabled: u32,
+    pub aside: u32,
     // The held resources, as a word.
     pub held: u32,
     pub runner: u8,
@@ -77,6 +81,8 @@ pub struct Model {
     pub cleared: u32,
     pub bits: [u32; 32],
     pub waited: [u32; 32],
+    // The ranks of the time-triggered tasks that were started and have not ended, the latest on top.
+    pub triggered: Row,
 }
 
 // The next model with its answer.

@@ -60,9 +60,9 @@ pub fn play<'a, 'b>(
             6 => {
                 let m = o.model;
                 if m.turning {
-                    o = m.tick_turning(&plan.compare, &plan.entry, &plan.priority);
+                    o = m.tick_turning(&plan.compare, &plan.entry, &plan.priority, plan.timed);
                 } else {
-                    o = m.tick(&plan.compare, &plan.entry, &plan.priority);
+                    o = m.tick(&plan.compare, &plan.entry, &plan.priority, plan.timed);
                 }
             }
             7 => {
@@ -88,7 +88,14 @@ pub fn play<'a, 'b>(
                 o = o.model.wait(plan.extended, &plan.priority, e.first);
             }
             11 => {
-                o = o.model.set_event(plan.extended, &plan.task, &plan.priority, e.first, e.second);
+                o = o.model.set_event(
+                    plan.isrs,
+                    plan.extended,
+                    &plan.rank,
+                    &plan.priority,
+                    e.first,
+                    e.second,
+                );
             }
             12 => {
                 o = o.model.clear(plan.extended, e.first);

@@ -1,16 +1,21 @@
 -- What the code of the arbiter computes.
 -- Assumes nothing.
 use Prim.Native.Nat.{ℕ, _≤_, _<_}
-use mathlib.Core.Path.{_≡_}
-use mathlib.Core.Bool.{Bool, false, cond, not}
+use mathlib.Core.Path.{_≡_, sym, _∙_}
+use mathlib.Core.Bool.{Bool, true, false, cond, not, _&&_, and-true, and-false}
 use mathlib.Core.List.{List}
+use native.Mathlib.Omega.{arith}
 use borrow.Author.Tests.{lt-ltb, le-ltb}
-use lib.Dec.{eqb}
+use lib.Dec.{ltb, eqb}
 use lib.ListN.{getD}
 use Rattle.word.specs.Word.{has, with, without, winner}
-use Rattle.stack.specs.Stack.{topRow}
-use Rattle.machine.specs.Model.{Core, Picked, Model, noRank, withCore, withRequest, withEvents, doneWith}
-use Rattle.machine.specs.Arbiter.{bids, winning, arbitrated, settled, leaving}
+use Rattle.number.proofs.Cases.{by-lt}
+use Rattle.config.specs.Meaning.{executionLevel}
+use Rattle.stack.specs.declared.Row.{Row}
+use Rattle.stack.specs.Stack.{topRow, secondRow, pushRow, popRow}
+use Rattle.machine.specs.Model.{Core, Picked, Model, noRank, withCore, withRequest, withEvents, withTriggered, doneWith}
+use Rattle.machine.specs.Arbiter.{bids, winning, arbitrated, settled, leaving, isTriggered, triggering, returning}
+use Rattle.kernel.specs.View.{core}
 
 -- the winner r has the priority l
 module _ (ps : List ℕ) (k : Core) {r l : ℕ} (won : r ≡ winner (bids k)) (worth : l ≡ getD ps r 0) where
@@ -20,7 +25,7 @@ module _ (ps : List ℕ) (k : Core) {r l : ℕ} (won : r ≡ winner (bids k)) (w
 
   pub arbitrated-above : k .level < l → {b : Bool} → b ≡ not (has (k .started) r)
       → {w : ℕ} → w ≡ cond b (without (k .request) r) (k .request) → {s : ℕ} → s ≡ with (k .started) r
-      → _≡_ {A = Picked} (record { core = record { request = w; started = s; enabled = k .enabled; runner = r; level = l }; begun = b }) (arbitrated ps k)
+      → _≡_ {A = Picked} (record { core = record { request = w; started = s; aside = k .aside; runner = r; level = l }; begun = b }) (arbitrated ps k)
   unfolding arbitrated
   arbitrated-above h begun used runs =
       rw (used, runs, begun, worth, won, lt-ltb (k .level) (winning ps k) (rw (worth, won) at h))
@@ -33,7 +38,51 @@ settled-made ps m k picked = rw picked
 pub ended-made : (ps : List ℕ) (m : Model) (q : ℕ) {v : ℕ} → v ≡ without (m .core .started) (m .core .runner)
     → {z : ℕ} → z ≡ with (m .cleared) (m .core .runner)
     → {r : ℕ} → r ≡ topRow (m .holder) → {l : ℕ} → l ≡ cond (eqb (topRow (m .holder)) noRank) 0 (topRow (m .raised))
-    → {p : Picked} → p ≡ arbitrated ps (record { request = q; started = v; enabled = m .core .enabled; runner = r; level = l })
+    → {p : Picked} → p ≡ arbitrated ps (record { request = q; started = v; aside = m .core .aside; runner = r; level = l })
     → doneWith (withCore (withEvents m (m .core) z (m .bits) (m .waited)) (p .core)) (p .begun)
     ≡ settled ps (withCore (leaving m) (withRequest (leaving m .core) q))
 ended-made ps m q ended unset seat level picked = rw (picked, ended, unset, seat, level)
+
+-- the model that a time-triggered task which ended leaves, after arbitration
+pub returned-made : (ps : List ℕ) (m : Model) {a : ℕ} → a ≡ without (m .core .aside) (m .core .runner)
+    → {z : ℕ} → z ≡ with (m .cleared) (m .core .runner)
+    → {e : ℕ} → e ≡ secondRow (m .triggered)
+    → {t : ℕ} → t ≡ topRow (m .holder)
+    → {r : ℕ} → r ≡ cond (eqb e noRank) t e
+    → {v : ℕ} → v ≡ cond (eqb (topRow (m .holder)) noRank) 0 (topRow (m .raised))
+    → {l : ℕ} → l ≡ cond (eqb e noRank) v executionLevel
+    → {x : Row} → x ≡ popRow (m .triggered)
+    → {p : Picked} → p ≡ arbitrated ps (core (m .core .request) (m .core .started) a r l)
+    → doneWith (withCore (withTriggered m (m .core) z x) (p .core)) (p .begun) ≡ settled ps (returning m)
+returned-made ps m ended unset earlier seat next level last left picked =
+    rw (picked, ended, unset, next, last, left, level, seat, earlier)
+
+-- Arbitration after a Tick of a model m: p is whom it picked, and b whether that is a time-triggered task that it dispatched.
+module _ (ps : List ℕ) (ts : ℕ) (m : Model) {p : Picked} (picked : p ≡ arbitrated ps (m .core))
+    {b : Bool} (test : b ≡ ltb (m .core .level) (p .core .level) && has ts (p .core .runner)) where
+  -- the test looks at whom it picked, and the definition at the winner
+  same-test : isTriggered ps ts (m .core) ≡ b
+  unfolding arbitrated
+  same-test =
+      by-lt (m .core .level) (winning ps (m .core))
+      (λ h. rw (test, picked, lt-ltb (m .core .level) (winning ps (m .core)) h, and-true, lt-ltb (m .core .level) (winning ps (m .core)) h))
+      (λ h. rw (test, picked, le-ltb (m .core .level) (winning ps (m .core)) h, le-ltb (m .core .level) (m .core .level) (omega arith), and-false))
+
+  lowered : winning ps (m .core) ≤ m .core .level → b ≡ false
+  unfolding arbitrated
+  lowered l = rw (test, picked, le-ltb (m .core .level) (winning ps (m .core)) l, le-ltb (m .core .level) (m .core .level) (omega arith))
+
+  same-winner : b ≡ true → p .core .runner ≡ winner (bids (m .core))
+  unfolding arbitrated
+  same-winner h =
+      by-lt (m .core .level) (winning ps (m .core))
+      (λ l. rw (picked, lt-ltb (m .core .level) (winning ps (m .core)) l))
+      (λ l. absurd (let z : _≡_ {A = Bool} false true = sym (lowered l) ∙ h in let o : _≡_ {A = ℕ} 0 1 = cc in omega arith))
+
+  pub triggering-launched : b ≡ true
+      → doneWith (withTriggered m (core (without (m .core .request) (p .core .runner)) (m .core .started) (with (m .core .aside) (p .core .runner)) (p .core .runner) executionLevel) (m .cleared) (pushRow (m .triggered) (p .core .runner))) true
+      ≡ triggering ps ts m
+  triggering-launched h = rw (same-winner h, same-test, h)
+
+  pub triggering-settled : b ≡ false → doneWith (withCore m (p .core)) (p .begun) ≡ triggering ps ts m
+  triggering-settled h = rw (same-test, h, picked)

@@ -1,46 +1,76 @@
 -- The events of tables, case by case in the order of their checks, as the code goes through them. Assumes nothing.
 use Prim.Native.Nat.{ℕ, zero, suc, _+_, _≤_, _<_}
 use mathlib.Core.Path.{_≡_, refl, sym, ap, _∙_}
-use mathlib.Core.Bool.{Bool, true, false, _||_}
+use mathlib.Core.Bool.{Bool, true, false, _&&_, _||_}
 use mathlib.Core.List.{List}
 use native.Mathlib.Omega.{arith}
 use lib.Dec.{ltb, eqb}
 use lib.ListN.{length, getD}
-use borrow.Author.Tests.{ltb-false, le-leb, lt-leb, eq-eqb, ne-eqb}
+use borrow.Author.Tests.{ltb-false, le-leb, lt-leb}
 use Rattle.config.specs.Value.{maxEntries}
+use Rattle.config.specs.Meaning.{executionLevel}
+use Rattle.word.specs.Word.{has, with, without}
+use Rattle.stack.specs.Stack.{pushRow}
 use Rattle.scheduler.specs.Status.{callLevel, noSuch, badDelay, wrongState, noFunction, firstGiven}
 use Rattle.scheduler.specs.Call.{longestDelay}
-use Rattle.machine.specs.Model.{Picked, Model, noRank, withCore, withRequest, withRest, withCells, doneWith, refusedWith}
-use Rattle.machine.specs.Arbiter.{arbitrated, settled}
+use Rattle.machine.specs.Model.{Picked, Model, withCore, withRequest, withRest, withCells, withTriggered, doneWith, refusedWith}
+use Rattle.machine.specs.Arbiter.{arbitrated, triggering}
 use Rattle.machine.specs.Cells.{switchOff, isOn, countersTicked, switchesTicked, someTurn, marks, countersStarted, switchesStarted, someLong, countersStopped, switched, Due, requestsDue}
-use Rattle.machine.specs.Events.{tick, start, stop}
+use Rattle.machine.specs.Events.{noCaller, begunWord, tick, start, stop}
 use Rattle.kernel.specs.Methods.{dueWith, Laid}
+use Rattle.kernel.specs.View.{core}
+use Rattle.kernel.proofs.Methods.Core.{triggering-launched, triggering-settled}
 
 pub length-marks : (k e : ℕ) (w : Bool) (ks os ns : List ℕ) → length (marks k e w ks os ns) ≡ k
 unfolding marks
 length-marks zero e w ks os ns = refl
 length-marks (suc k) e w ks os ns = ap suc (length-marks k (suc e) w ks os ns)
 
--- Tick
-module _ (ks rs ps : List ℕ) (m : Model) where
-  pub tick-done : m .turning ≡ false → {ms : List Bool} → ms ≡ marks maxEntries 0 false ks (m .on) (m .counter)
-      → {ns : List ℕ} → ns ≡ countersTicked maxEntries 0 false ks (m .on) (m .counter)
-      → {w : ℕ} {ls : List ℕ} → dueWith w ls ≡ requestsDue (m .core .started) ms rs (dueWith (m .core .request) (m .losses))
-      → {p : Picked} → p ≡ arbitrated ps (withRequest (m .core) w)
-      → doneWith (withCore (withRest m ns (m .on) (m .turning) ls) (p .core)) (p .begun) ≡ tick ks rs ps m
-  unfolding tick
-  tick-done still marked counted due picked =
-      rw (picked, counted, ap (λ (x : Due). x .request) due, ap (λ (x : Due). x .losses) due, marked, still)
+-- Tick. v has who has begun, ms are the match marks, ns, os and z the cells after it, w and ls the requests and losses, p whom arbitration
+-- picks, and b says whether that is a time-triggered task that it dispatches.
+module _ (ks rs ps : List ℕ) (ts : ℕ) (m : Model) {v : ℕ} (begun : v ≡ begunWord m) where
+  -- where no cell has a turn to pass
+  module _ (still : m .turning ≡ false) {ms : List Bool} (marked : ms ≡ marks maxEntries 0 false ks (m .on) (m .counter))
+      {ns : List ℕ} (counted : ns ≡ countersTicked maxEntries 0 false ks (m .on) (m .counter))
+      {w : ℕ} {ls : List ℕ} (due : dueWith w ls ≡ requestsDue v ms rs (dueWith (m .core .request) (m .losses)))
+      {p : Picked} (picked : p ≡ arbitrated ps (withRequest (m .core) w))
+      {b : Bool} (test : b ≡ ltb (m .core .level) (p .core .level) && has ts (p .core .runner)) where
+    abbrev unsettled : Model
+    unsettled = withCore (withRest m ns (m .on) (m .turning) ls) (withRequest (m .core) w)
 
-  -- where a cell may have a turn to pass
-  pub turning-done : m .turning ≡ true → {ms : List Bool} → ms ≡ marks maxEntries 0 true ks (m .on) (m .counter)
-      → {ns : List ℕ} → ns ≡ countersTicked maxEntries 0 true ks (m .on) (m .counter)
-      → {os : List ℕ} → os ≡ switchesTicked maxEntries 0 ks (m .counter) (m .on) → {z : Bool} → z ≡ someTurn maxEntries 0 os
-      → {w : ℕ} {ls : List ℕ} → dueWith w ls ≡ requestsDue (m .core .started) ms rs (dueWith (m .core .request) (m .losses))
-      → settled ps (withCore (withRest m ns os z ls) (withRequest (m .core) w)) ≡ tick ks rs ps m
-  unfolding tick
-  turning-done turning marked counted switches turns due =
-      rw (counted, turns, switches, ap (λ (x : Due). x .request) due, ap (λ (x : Due). x .losses) due, marked, turning)
+    made : triggering ps ts unsettled ≡ tick ks rs ps ts m
+    unfolding tick
+    made = rw (counted, ap (λ (x : Due). x .request) due, ap (λ (x : Due). x .losses) due, marked, begun, still)
+
+    pub tick-launched : b ≡ true
+        → doneWith (withTriggered (withRest m ns (m .on) (m .turning) ls) (core (without w (p .core .runner)) (m .core .started) (with (m .core .aside) (p .core .runner)) (p .core .runner) executionLevel) (m .cleared) (pushRow (m .triggered) (p .core .runner))) true
+        ≡ tick ks rs ps ts m
+    tick-launched h = triggering-launched ps ts unsettled picked test h ∙ made
+
+    pub tick-done : b ≡ false → doneWith (withCore (withRest m ns (m .on) (m .turning) ls) (p .core)) (p .begun) ≡ tick ks rs ps ts m
+    tick-done h = triggering-settled ps ts unsettled picked test h ∙ made
+
+  -- where a cell may have one
+  module _ (turning : m .turning ≡ true) {ms : List Bool} (marked : ms ≡ marks maxEntries 0 true ks (m .on) (m .counter))
+      {ns : List ℕ} (counted : ns ≡ countersTicked maxEntries 0 true ks (m .on) (m .counter))
+      {os : List ℕ} (switches : os ≡ switchesTicked maxEntries 0 ks (m .counter) (m .on)) {z : Bool} (turns : z ≡ someTurn maxEntries 0 os)
+      {w : ℕ} {ls : List ℕ} (due : dueWith w ls ≡ requestsDue v ms rs (dueWith (m .core .request) (m .losses)))
+      {p : Picked} (picked : p ≡ arbitrated ps (withRequest (m .core) w))
+      {b : Bool} (test : b ≡ ltb (m .core .level) (p .core .level) && has ts (p .core .runner)) where
+    abbrev unturned : Model
+    unturned = withCore (withRest m ns os z ls) (withRequest (m .core) w)
+
+    turned : triggering ps ts unturned ≡ tick ks rs ps ts m
+    unfolding tick
+    turned = rw (counted, turns, switches, ap (λ (x : Due). x .request) due, ap (λ (x : Due). x .losses) due, marked, begun, turning)
+
+    pub turning-launched : b ≡ true
+        → doneWith (withTriggered (withRest m ns os z ls) (core (without w (p .core .runner)) (m .core .started) (with (m .core .aside) (p .core .runner)) (p .core .runner) executionLevel) (m .cleared) (pushRow (m .triggered) (p .core .runner))) true
+        ≡ tick ks rs ps ts m
+    turning-launched h = triggering-launched ps ts unturned picked test h ∙ turned
+
+    pub turning-done : b ≡ false → doneWith (withCore (withRest m ns os z ls) (p .core)) (p .begun) ≡ tick ks rs ps ts m
+    turning-done h = triggering-settled ps ts unturned picked test h ∙ turned
 
 -- a delay that is not refused
 pub short-sum : (d g : ℕ) → eqb d 0 || ltb longestDelay (d + g) ≡ false → d + g ≤ longestDelay
@@ -57,35 +87,35 @@ module _ (n : ℕ) (fs es : List ℕ) (laid : Laid n fs es) (t : ℕ) (some : t 
   entries-within = rw (from, many) (laid .within t some)
 
 -- Start t, d
-module _ (n : ℕ) (fs es qs os : List ℕ) (m : Model) (t d : ℕ) where
-  pub start-idle : m .core .runner ≡ noRank → refusedWith m callLevel ≡ start n fs es qs os m t d
+module _ (n : ℕ) (fs es qs os : List ℕ) (m : Model) (t d : ℕ) {a : Bool} (calls : a ≡ noCaller m) where
+  pub start-idle : a ≡ true → refusedWith m callLevel ≡ start n fs es qs os m t d
   unfolding start firstGiven
-  start-idle h = rw (eq-eqb (m .core .runner) noRank h)
+  start-idle h = rw (sym calls ∙ h)
 
-  module _ (busy : m .core .runner ≡ noRank → ⊥) where
+  module _ (runs : a ≡ false) where
     pub start-none : n ≤ t → refusedWith m noSuch ≡ start n fs es qs os m t d
     unfolding start firstGiven
-    start-none h = rw (ne-eqb (m .core .runner) noRank busy, le-leb n t h)
+    start-none h = rw (sym calls ∙ runs, le-leb n t h)
 
     module _ (some : t < n) {f : ℕ} (from : f ≡ getD fs t 0) {g : ℕ} (smallest : g ≡ getD os f 0) {b : Bool} (test : b ≡ eqb d 0 || ltb longestDelay (d + g)) where
       pub start-bad : b ≡ true → refusedWith m badDelay ≡ start n fs es qs os m t d
       unfolding start firstGiven
-      start-bad h = rw (ne-eqb (m .core .runner) noRank busy, lt-leb n t some, ← from, ← smallest, sym test ∙ h)
+      start-bad h = rw (sym calls ∙ runs, lt-leb n t some, ← from, ← smallest, sym test ∙ h)
 
-      module _ (good : b ≡ false) {a : Bool} (on : a ≡ isOn (getD (m .on) f 0)) where
-        pub start-runs : a ≡ true → refusedWith m wrongState ≡ start n fs es qs os m t d
+      module _ (good : b ≡ false) {o : Bool} (on : o ≡ isOn (getD (m .on) f 0)) where
+        pub start-runs : o ≡ true → refusedWith m wrongState ≡ start n fs es qs os m t d
         unfolding start firstGiven
         start-runs h =
-            rw (ne-eqb (m .core .runner) noRank busy, lt-leb n t some, ← from, ← smallest, sym test ∙ good, sym on ∙ h)
+            rw (sym calls ∙ runs, lt-leb n t some, ← from, ← smallest, sym test ∙ good, sym on ∙ h)
 
-        pub start-done : a ≡ false → {k : ℕ} → k ≡ getD es t 0 → {P : ℕ} → P ≡ getD qs t 0
+        pub start-done : o ≡ false → {k : ℕ} → k ≡ getD es t 0 → {P : ℕ} → P ≡ getD qs t 0
             → {w : Bool} → w ≡ m .turning || someLong k f d os
             → {ns : List ℕ} → ns ≡ countersStarted k f P d os (m .counter) → {xs : List ℕ} → xs ≡ switchesStarted k f d os (m .on)
             → doneWith (withCells m ns xs w) false ≡ start n fs es qs os m t d
         unfolding start firstGiven
         start-done h many period turns counted switches =
             rw (
-              ne-eqb (m .core .runner) noRank busy,
+              sym calls ∙ runs,
               lt-leb n t some,
               ← from,
               ← smallest,
@@ -99,24 +129,24 @@ module _ (n : ℕ) (fs es qs os : List ℕ) (m : Model) (t d : ℕ) where
             )
 
 -- Stop t
-module _ (n : ℕ) (fs es : List ℕ) (m : Model) (t : ℕ) where
-  pub stop-idle : m .core .runner ≡ noRank → refusedWith m callLevel ≡ stop n fs es m t
+module _ (n : ℕ) (fs es : List ℕ) (m : Model) (t : ℕ) {a : Bool} (calls : a ≡ noCaller m) where
+  pub stop-idle : a ≡ true → refusedWith m callLevel ≡ stop n fs es m t
   unfolding stop firstGiven
-  stop-idle h = rw (eq-eqb (m .core .runner) noRank h)
+  stop-idle h = rw (sym calls ∙ h)
 
-  module _ (busy : m .core .runner ≡ noRank → ⊥) where
+  module _ (runs : a ≡ false) where
     pub stop-none : n ≤ t → refusedWith m noSuch ≡ stop n fs es m t
     unfolding stop firstGiven
-    stop-none h = rw (ne-eqb (m .core .runner) noRank busy, le-leb n t h)
+    stop-none h = rw (sym calls ∙ runs, le-leb n t h)
 
-    module _ (some : t < n) {f : ℕ} (from : f ≡ getD fs t 0) {a : Bool} (on : a ≡ isOn (getD (m .on) f 0)) where
-      pub stop-stopped : a ≡ false → refusedWith m noFunction ≡ stop n fs es m t
+    module _ (some : t < n) {f : ℕ} (from : f ≡ getD fs t 0) {o : Bool} (on : o ≡ isOn (getD (m .on) f 0)) where
+      pub stop-stopped : o ≡ false → refusedWith m noFunction ≡ stop n fs es m t
       unfolding stop firstGiven
-      stop-stopped h = rw (ne-eqb (m .core .runner) noRank busy, lt-leb n t some, ← from, sym on ∙ h)
+      stop-stopped h = rw (sym calls ∙ runs, lt-leb n t some, ← from, sym on ∙ h)
 
-      pub stop-done : a ≡ true → {k : ℕ} → k ≡ getD es t 0
+      pub stop-done : o ≡ true → {k : ℕ} → k ≡ getD es t 0
           → {ns : List ℕ} → ns ≡ countersStopped k f (m .counter) → {xs : List ℕ} → xs ≡ switched k f switchOff (m .on)
           → doneWith (withCells m ns xs (m .turning)) false ≡ stop n fs es m t
       unfolding stop firstGiven
       stop-done h many counted switches =
-          rw (ne-eqb (m .core .runner) noRank busy, lt-leb n t some, ← from, sym on ∙ h, counted, switches, many)
+          rw (sym calls ∙ runs, lt-leb n t some, ← from, sym on ∙ h, counted, switches, many)

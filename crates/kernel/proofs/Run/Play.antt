@@ -25,9 +25,8 @@ use Rattle.event.specs.Trace.{TraceRead, before, readRest, readTrace}
 use Rattle.event.proofs.Theorems.{event-reading, rest-end, rest-step, rest-refused}
 use Rattle.plan.specs.declared.Plan.{Plan}
 use Rattle.plan.specs.Rank.{rankOf}
-use Rattle.scheduler.specs.State.{State}
 use Rattle.scheduler.specs.Scheduler as Plain
-use Rattle.scheduler.specs.Scheduler.{fresh, step, markOf}
+use Rattle.scheduler.specs.Scheduler.{markOf}
 use Rattle.machine.specs.Model.{Model, Outcome}
 use Rattle.kernel.specs.Methods.{Laid}
 use Rattle.machine.specs.Events.{activate, finish, chain, get, release, tick, line, start, stop, wait, setEvent, clear}
@@ -35,9 +34,6 @@ use Rattle.machine.specs.Machine.{statusOf, effectOf, refusalOf, machineStep, r
 use Rattle.run.specs.Run.{callOf, answerBytes}
 use Rattle.kernel.specs.Passes.{Playable}
 use Rattle.plan.proofs.Fitted.{Fitted, fitted}
-use Rattle.machine.proofs.Relation.Whole.{Sim}
-use Rattle.machine.proofs.Whole.Lists.{event-agrees}
-use Rattle.machine.proofs.Whole.Fresh.{fresh-sim}
 use Rattle.kernel.proofs.Run.Bytes.{laid-none}
 
 -- what an arm's method hands back is the step of the event that was read
@@ -62,7 +58,7 @@ module _ (c : Config) (p : Plan) (m : Model) (e : Event) where
   unfolding callOf statusOf effectOf refusalOf release
   step-5 h = rw h
 
-  pub step-6 : e .code ≡ 6 → machineStep c p m (callOf e) ≡ tick (p .compare) (p .entry) (p .priority) m
+  pub step-6 : e .code ≡ 6 → machineStep c p m (callOf e) ≡ tick (p .compare) (p .entry) (p .priority) (p .timed) m
   unfolding callOf statusOf effectOf refusalOf tick
   step-6 h = rw h
 
@@ -82,7 +78,7 @@ module _ (c : Config) (p : Plan) (m : Model) (e : Event) where
   unfolding callOf statusOf effectOf refusalOf wait
   step-10 h = rw h
 
-  pub step-11 : e .code ≡ 11 → machineStep c p m (callOf e) ≡ setEvent (p .extended) (p .task) (p .priority) m (e .first) (e .second)
+  pub step-11 : e .code ≡ 11 → machineStep c p m (callOf e) ≡ setEvent (p .isrs) (p .extended) (p .rank) (p .priority) m (e .first) (e .second)
   unfolding callOf statusOf effectOf refusalOf setEvent
   step-11 h = rw h
 
@@ -119,8 +115,6 @@ answerOf p o = o .status ∷ runnerOf p (o .model) ∷ o .model .core .level ∷
 -- the trace ts is played up to the place at: the model is m and the output out, whose first `to` bytes are written; it was m₀ and d
 pub record Playing (c : Config) (p : Plan) (ts d : List ℕ) (m₀ : Model) (at to : ℕ) (m : Model) (out : List ℕ) : Type 0 where
   pub fit : Fitted c p (rankOf c)
-  pub state : State
-  pub sim : Sim c p (rankOf c) m state
   pub bytes : List ℕ
   pub output : out ≡ laid 0 bytes d
   pub long : length bytes ≡ to
@@ -130,13 +124,10 @@ pub record Playing (c : Config) (p : Plan) (ts d : List ℕ) (m₀ : Model) (at 
   pub last : machineAfter c p m (callsFrom ts at) ≡ machineAfter c p m₀ (callsFrom ts 0)
 
 module _ (c : Config) (p : Plan) (ts d : List ℕ) (m₀ : Model) where
-  playing-start : Fitted c p (rankOf c) → (s : State) → Sim c p (rankOf c) m₀ s → readTrace ts .refusal ≡ none
-      → 4 * length (readTrace ts .events) ≤ length d → Playing c p ts d m₀ 0 0 m₀ d
-  playing-start fit s sim readable room =
+  playing-start : Fitted c p (rankOf c) → readTrace ts .refusal ≡ none → 4 * length (readTrace ts .events) ≤ length d → Playing c p ts d m₀ 0 0 m₀ d
+  playing-start fit readable room =
       record {
         fit = fit;
-        state = s;
-        sim = sim;
         bytes = [];
         output = laid-none 0 d;
         long = refl;
@@ -149,7 +140,7 @@ module _ (c : Config) (p : Plan) (ts d : List ℕ) (m₀ : Model) where
   pub playable-start : Playable c p m₀ ts (length d) → Playing c p ts d m₀ 0 0 m₀ d
   playable-start given =
       let fit : Fitted c p (rankOf c) = rw (given .planned) (fitted c (given .accepted) (given .shaped)) in
-      playing-start fit (fresh c) (rw (given .fresh) (fresh-sim fit)) (given .readable) (given .room)
+      playing-start fit (given .readable) (given .room)
 
   module _ (at to : ℕ) (m : Model) (out : List ℕ) (g : Playing c p ts d m₀ at to m out) where
     pub length-out : length out ≡ length d
@@ -194,8 +185,6 @@ module _ (c : Config) (p : Plan) (ts d : List ℕ) (m₀ : Model) where
       playing-turn o stepped out′ wrote =
           record {
             fit = g .fit;
-            state = step c (g .state) (callOf (r .event)) .state;
-            sim = rw stepped (event-agrees (g .fit) (callOf (r .event)) (g .sim) .sim);
             bytes = g .bytes ++ answerOf p o;
             output =
                 wrote ∙ ap (laid to (answerOf p o)) (g .output) ∙ ap (λ (k : ℕ). laid k (answerOf p o) (laid 0 (g .bytes) d)) shift

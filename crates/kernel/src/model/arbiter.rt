@@ -1,14 +1,15 @@
-// Who runs: of those that wait to begin or have begun, and do not wait for an event bit, the highest wins, and is dispatched only strictly
-// above the level.
+// Who runs: of those that wait to begin or go on by their priority the highest wins, and is dispatched only strictly above the level.
 ghost use mathlib.Core.Path.{_≡_};
-ghost use mathlib.Core.Bool.{cond};
-ghost use lib.Dec.{eqb};
-ghost use Rattle.word.specs.Word.{without};
-ghost use Rattle.stack.specs.Stack.{topRow};
-ghost use Rattle.machine.specs.Model.{noRank, withCore, withRequest, doneWith};
-ghost use Rattle.machine.specs.Arbiter.{arbitrated, settled, leaving};
+ghost use mathlib.Core.Bool.{true, cond, _&&_};
+ghost use lib.Dec.{ltb, eqb};
+ghost use Rattle.config.specs.Meaning.{executionLevel};
+ghost use Rattle.word.specs.Word.{has, with, without};
+ghost use Rattle.stack.specs.Stack.{topRow, pushRow};
+ghost use Rattle.machine.specs.Model.{noRank, withCore, withRequest, withTriggered, doneWith};
+ghost use Rattle.machine.specs.Arbiter.{arbitrated, settled, leaving, returning};
 ghost use Rattle.kernel.specs.View.{core, coreOf, view, pickedOf, outcomeOf};
 use super::DONE;
+use super::EXECUTION_LEVEL;
 use super::Model;
 use super::NO_RANK;
 use super::Outcome;
@@ -16,7 +17,6 @@ use super::Picked;
 use super::lookup::byte_at;
 use stack::Row;
 use word::has;
-use word::intersection;
 use word::union;
 use word::winner;
 use word::with;
@@ -30,7 +30,7 @@ impl Model {
         let picked = arbitrated(
             request,
             self.started,
-            self.enabled,
+            self.aside,
             self.runner,
             self.level,
             priority,
@@ -46,15 +46,40 @@ impl Model {
         self.cleared = with(self.cleared, self.runner as u32);
         let holder = self.holder;
         let level = latest_level(holder, self.raised);
-        let picked = arbitrated(
-            request,
-            started,
-            self.enabled,
-            holder.top(),
-            level,
-            priority,
-        );
+        let picked = arbitrated(request, started, self.aside, holder.top(), level, priority);
         self.seated(picked)
+    }
+
+    // The same once a time-triggered task has ended: the one that was started before it goes on, and where there is none, the seat is left
+    // as by any other runner.
+    pub fn returned(mut self, priority: &[u8; 32]) -> Outcome
+        ensures { λ r. ⌜ r ≡ outcomeOf (settled (now (priority .entry)) (returning (view self))) ⌝ }
+    {
+        let aside = without(self.aside, self.runner as u32);
+        self.cleared = with(self.cleared, self.runner as u32);
+        let earlier = self.triggered.second();
+        let holder = self.holder;
+        let runner = earlier_or(earlier, holder.top());
+        let level = execution_or(earlier, latest_level(holder, self.raised));
+        self.triggered = self.triggered.pop();
+        let picked = arbitrated(self.request, self.started, aside, runner, level, priority);
+        self.seated(picked)
+    }
+
+    // The model in which the time-triggered task of this rank begins, with these requests.
+    pub fn launched(mut self, request: u32, rank: u8) -> Outcome
+        ensures { λ r. ⌜ r ≡ outcomeOf (doneWith (withTriggered (view self) (core (without request rank) (self .started) (with (self .aside) rank) rank executionLevel) (self .cleared) (pushRow (self .triggered) rank)) true) ⌝ }
+    {
+        self.request = without(request, rank as u32);
+        self.aside = with(self.aside, rank as u32);
+        self.runner = rank;
+        self.level = EXECUTION_LEVEL;
+        self.triggered = self.triggered.push(rank);
+        Outcome {
+            model: self,
+            status: DONE,
+            begun: true,
+        }
     }
 
     // The model with whom arbitration picked.
@@ -63,7 +88,7 @@ impl Model {
     {
         self.request = picked.request;
         self.started = picked.started;
-        self.enabled = picked.enabled;
+        self.aside = picked.aside;
         self.runner = picked.runner;
         self.level = picked.level;
         Outcome {
@@ -78,20 +103,20 @@ impl Model {
 pub fn arbitrated(
     request: u32,
     started: u32,
-    enabled: u32,
+    aside: u32,
     runner: u8,
     level: u8,
     priority: &[u8; 32],
 ) -> Picked
-    ensures { λ r. ⌜ r ≡ pickedOf (arbitrated (now (priority .entry)) (core request started enabled runner level)) ⌝ }
+    ensures { λ r. ⌜ r ≡ pickedOf (arbitrated (now (priority .entry)) (core request started aside runner level)) ⌝ }
 {
-    let rank = winner(intersection(union(request, started), enabled));
+    let rank = winner(union(request, started));
     let own = byte_at(priority, rank as usize, 0);
     if own <= level {
         return Picked {
             request,
             started,
-            enabled,
+            aside,
             runner,
             level,
             begun: false,
@@ -99,21 +124,29 @@ pub fn arbitrated(
     }
     let begun = !has(started, rank);
     Picked {
-        request: used_up(begun, request, rank),
+        request: without_where(begun, request, rank),
         started: with(started, rank),
-        enabled,
+        aside,
         runner: rank as u8,
         level: own,
         begun,
     }
 }
 
-// The requests once a body has begun by its own; where it is resumed, a second one waits on.
-fn used_up(begun: bool, request: u32, rank: u32) -> u32
-    ensures { λ r. ⌜ r ≡ cond begun (without request rank) request ⌝ }
+// Whether the body that arbitration picked is a time-triggered task that it dispatched: the level rises only by a dispatch.
+pub fn is_triggered(level: u8, next: u8, timed: u32, rank: u8) -> bool
+    ensures { λ r. ⌜ r ≡ ltb level next && has timed rank ⌝ }
 {
-    let rest = without(request, rank);
-    if begun { rest } else { request }
+    level < next && has(timed, rank as u32)
+}
+
+// The word without this rank where the test holds. Of the requests the one by which a body begins is used up; where it is resumed, a second
+// one waits on.
+pub fn without_where(test: bool, word: u32, rank: u32) -> u32
+    ensures { λ r. ⌜ r ≡ cond test (without word rank) word ⌝ }
+{
+    let rest = without(word, rank);
+    if test { rest } else { word }
 }
 
 // The level of whoever took the latest resource that is held, 0 where none is.
@@ -122,4 +155,22 @@ pub fn latest_level(holder: Row, raised: Row) -> u8
 {
     let level = raised.top();
     if holder.top() == NO_RANK { 0 } else { level }
+}
+
+// Who goes on after a time-triggered task: the one that was started before it, or where there is none this one.
+fn earlier_or(earlier: u8, rank: u8) -> u8
+    ensures { λ r. ⌜ r ≡ cond (eqb earlier noRank) rank earlier ⌝ }
+{
+    if earlier == NO_RANK { rank } else { earlier }
+}
+
+// The level of it.
+fn execution_or(earlier: u8, level: u8) -> u8
+    ensures { λ r. ⌜ r ≡ cond (eqb earlier noRank) level executionLevel ⌝ }
+{
+    if earlier == NO_RANK {
+        level
+    } else {
+        EXECUTION_LEVEL
+    }
 }

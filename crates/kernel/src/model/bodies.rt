@@ -2,11 +2,13 @@
 ghost use mathlib.Core.Path.{_≡_};
 ghost use mathlib.Core.Bool.{not, _&&_, _||_};
 ghost use lib.Dec.{leb, eqb};
+ghost use Rattle.config.specs.Meaning.{executionLevel};
 ghost use Rattle.word.specs.Word.{has};
 ghost use Rattle.machine.specs.Model.{noRank};
 ghost use Rattle.machine.specs.Events.{activate, finish, chain, line};
 ghost use Rattle.kernel.specs.View.{view, outcomeOf};
 use super::CALL_LEVEL;
+use super::EXECUTION_LEVEL;
 use super::HOLDS_RESOURCE;
 use super::LIMIT;
 use super::Model;
@@ -16,20 +18,21 @@ use super::Outcome;
 use super::cells::lose_where;
 use super::lookup::byte_at;
 use word::has;
+use word::union;
 use word::with;
 
 impl Model {
     pub fn activate<'a>(self, task_rank: &'a [u8; 32], priority: &'a [u8; 32], t: u32) -> Outcome
         ensures { λ r. ⌜ r ≡ outcomeOf (activate (now («task_rank» .entry)) (now (priority .entry)) (view self) t) ⌝ }
     {
-        if self.runner == NO_RANK {
+        if no_caller(self.runner, self.level) {
             return self.with_status(CALL_LEVEL);
         }
         let rank = byte_at(task_rank, t as usize, NO_RANK);
         if rank == NO_RANK {
             return self.with_status(NO_SUCH);
         }
-        if busy(self.request, self.started, rank) {
+        if busy(self.request, union(self.started, self.aside), rank) {
             return self.with_status(LIMIT);
         }
         self.settled(with(self.request, rank as u32), priority)
@@ -44,6 +47,9 @@ impl Model {
         if self.holder.top() == self.runner {
             return self.with_status(HOLDS_RESOURCE);
         }
+        if self.level == EXECUTION_LEVEL {
+            return self.returned(priority);
+        }
         self.ended(self.request, priority)
     }
 
@@ -56,7 +62,7 @@ impl Model {
     ) -> Outcome
         ensures { λ r. ⌜ r ≡ outcomeOf (chain isrs (now («task_rank» .entry)) (now (priority .entry)) (view self) t) ⌝ }
     {
-        if no_task_runs(isrs, self.runner) {
+        if no_task_calls(isrs, self.runner, self.level) {
             return self.with_status(CALL_LEVEL);
         }
         let rank = byte_at(task_rank, t as usize, NO_RANK);
@@ -66,7 +72,12 @@ impl Model {
         if self.holder.top() == self.runner {
             return self.with_status(HOLDS_RESOURCE);
         }
-        if busy_beside(self.request, self.started, self.runner, rank) {
+        if busy_beside(
+            self.request,
+            union(self.started, self.aside),
+            self.runner,
+            rank,
+        ) {
             return self.with_status(LIMIT);
         }
         self.ended(with(self.request, rank as u32), priority)
@@ -105,23 +116,30 @@ pub fn counts_lines(version: u8) -> bool
     2 <= version
 }
 
-// Whether the body of this rank is ready, started or waiting.
-pub fn busy(request: u32, started: u32, rank: u8) -> bool
-    ensures { λ r. ⌜ r ≡ has request rank || has started rank ⌝ }
+// Whether the body of this rank is ready, or has begun and not ended.
+pub fn busy(request: u32, begun: u32, rank: u8) -> bool
+    ensures { λ r. ⌜ r ≡ has request rank || has begun rank ⌝ }
 {
-    has(request, rank as u32) || has(started, rank as u32)
+    has(request, rank as u32) || has(begun, rank as u32)
 }
 
 // The same, of any body but the runner.
-fn busy_beside(request: u32, started: u32, runner: u8, rank: u8) -> bool
-    ensures { λ r. ⌜ r ≡ (has request rank || has started rank) && not (eqb rank runner) ⌝ }
+fn busy_beside(request: u32, begun: u32, runner: u8, rank: u8) -> bool
+    ensures { λ r. ⌜ r ≡ (has request rank || has begun rank) && not (eqb rank runner) ⌝ }
 {
-    rank != runner && busy(request, started, rank)
+    rank != runner && busy(request, begun, rank)
 }
 
-// Whether nobody runs, or an ISR does.
-fn no_task_runs(isrs: u32, runner: u8) -> bool
-    ensures { λ r. ⌜ r ≡ eqb runner noRank || has isrs runner ⌝ }
+// Whether nobody runs who may call: nobody at all, or a time-triggered task. Both are tested at once, so that one branch suffices.
+pub fn no_caller(runner: u8, level: u8) -> bool
+    ensures { λ r. ⌜ r ≡ eqb runner noRank || eqb level executionLevel ⌝ }
 {
-    runner == NO_RANK || has(isrs, runner as u32)
+    (runner == NO_RANK) | (level == EXECUTION_LEVEL)
+}
+
+// The same, or an ISR runs.
+fn no_task_calls(isrs: u32, runner: u8, level: u8) -> bool
+    ensures { λ r. ⌜ r ≡ (eqb runner noRank || eqb level executionLevel) || has isrs runner ⌝ }
+{
+    no_caller(runner, level) || has(isrs, runner as u32)
 }

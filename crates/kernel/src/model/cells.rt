@@ -107,17 +107,17 @@ pub fn some_turn(on: &[u16; 64]) -> bool
 pub fn take_matches<'a, 'b>(
     matched: &'a [bool; 64],
     ranks: &'a [u8; 64],
-    started: u32,
+    begun: u32,
     request: u32,
     losses: &'b mut [u16; 32],
 ) -> u32
     requires { ⌜ length (now matched) ≡ maxEntries ⌝ }
-    ensures { λ r. ⌜ dueWith r (now (losses .exit)) ≡ requestsDue started (now (matched .entry)) (now (ranks .entry)) (dueWith request (now (losses .entry))) ⌝ }
+    ensures { λ r. ⌜ dueWith r (now (losses .exit)) ≡ requestsDue begun (now (matched .entry)) (now (ranks .entry)) (dueWith request (now (losses .entry))) ⌝ }
 {
     let mut word = request;
     let mut e = 0;
     while e < CELLS {
-        word = take_group(e, matched, ranks, started, word, losses);
+        word = take_group(e, matched, ranks, begun, word, losses);
         e += GROUP;
     }
     word
@@ -127,18 +127,18 @@ pub fn take_matches<'a, 'b>(
 pub fn take_each<'a, 'b>(
     matched: &'a [bool; 64],
     ranks: &'a [u8; 64],
-    started: u32,
+    begun: u32,
     request: u32,
     losses: &'b mut [u16; 32],
 ) -> u32
     requires { ⌜ length (now matched) ≡ maxEntries ⌝ }
-    ensures { λ r. ⌜ dueWith r (now (losses .exit)) ≡ requestsDue started (now (matched .entry)) (now (ranks .entry)) (dueWith request (now (losses .entry))) ⌝ }
+    ensures { λ r. ⌜ dueWith r (now (losses .exit)) ≡ requestsDue begun (now (matched .entry)) (now (ranks .entry)) (dueWith request (now (losses .entry))) ⌝ }
 {
     let mut word = request;
     let mut e = 0;
     while e < CELLS {
         if matched[e] {
-            word = take_match(byte_at(ranks, e, NO_RANK), started, word, losses);
+            word = take_match(byte_at(ranks, e, NO_RANK), begun, word, losses);
         }
         e += 1;
     }
@@ -151,12 +151,12 @@ fn take_group<'a, 'b>(
     from: usize,
     matched: &'a [bool; 64],
     ranks: &'a [u8; 64],
-    started: u32,
+    begun: u32,
     request: u32,
     losses: &'b mut [u16; 32],
 ) -> u32
     requires { ⌜ (from + group ≤ maxEntries) × (from + group ≤ length (now matched)) ⌝ }
-    ensures { λ r. ⌜ dueWith r (now (losses .exit)) ≡ requestsDue started (take group (drop from (now (matched .entry)))) (drop from (now (ranks .entry))) (dueWith request (now (losses .entry))) ⌝ }
+    ensures { λ r. ⌜ dueWith r (now (losses .exit)) ≡ requestsDue begun (take group (drop from (now (matched .entry)))) (drop from (now (ranks .entry))) (dueWith request (now (losses .entry))) ⌝ }
 {
     let mut word = request;
     let mut e = from;
@@ -165,7 +165,7 @@ fn take_group<'a, 'b>(
         let zeros = u64::trailing_zeros(marks);
         e += (zeros / 8) as usize;
         let rank = byte_at(ranks, e, NO_RANK);
-        word = take_match(rank, started, word, losses);
+        word = take_match(rank, begun, word, losses);
         e += 1;
         marks = (marks >> zeros) / 256;
     }
@@ -188,10 +188,10 @@ fn group_word(matched: &[bool; 64], e: usize) -> u64
 }
 
 // A match of an entry whose task has this rank: a request where the task is suspended, else a loss.
-fn take_match(rank: u8, started: u32, request: u32, losses: &mut [u16; 32]) -> u32
-    ensures { λ r. ⌜ dueWith r (now (losses .exit)) ≡ matchAt started rank (dueWith request (now (losses .entry))) ⌝ }
+fn take_match(rank: u8, begun: u32, request: u32, losses: &mut [u16; 32]) -> u32
+    ensures { λ r. ⌜ dueWith r (now (losses .exit)) ≡ matchAt begun rank (dueWith request (now (losses .entry))) ⌝ }
 {
-    if busy(request, started, rank) {
+    if busy(request, begun, rank) {
         lose(losses, rank as usize);
         return request;
     }

@@ -1,8 +1,10 @@
 // The events of extended tasks: Wait, Set and Clear. OSEK's events are the 32 event bits of such a task.
 ghost use mathlib.Core.Path.{_≡_};
-ghost use mathlib.Core.Bool.{cond};
+ghost use mathlib.Core.Bool.{cond, _&&_, _||_};
+ghost use lib.Dec.{eqb};
 ghost use Rattle.scheduler.specs.Bits.{anySet, withBits, withoutBits};
 ghost use Rattle.word.specs.Word.{has, with};
+ghost use Rattle.machine.specs.Model.{noRank};
 ghost use Rattle.machine.specs.Events.{wait, setEvent, clear};
 ghost use Rattle.kernel.specs.View.{view, outcomeOf};
 use super::ACCESS;
@@ -16,9 +18,12 @@ use super::Outcome;
 use super::WRONG_STATE;
 use super::arbiter::arbitrated;
 use super::arbiter::latest_level;
+use super::arbiter::without_where;
 use super::bodies::busy;
+use super::bodies::no_caller;
 use super::lookup::byte_at;
 use word::has;
+use word::union;
 use word::with;
 use word::without;
 
@@ -27,7 +32,7 @@ impl Model {
     pub fn wait(mut self, extended: u32, priority: &[u8; 32], mask: u32) -> Outcome
         ensures { λ r. ⌜ r ≡ outcomeOf (wait extended (now (priority .entry)) (view self) mask) ⌝ }
     {
-        if self.runner == NO_RANK {
+        if no_caller(self.runner, self.level) {
             return self.with_status(CALL_LEVEL);
         }
         let rank = self.runner as u32;
@@ -47,39 +52,35 @@ impl Model {
         waited[rank as usize] = mask;
         self.waited = waited;
         let level = latest_level(holder, self.raised);
-        let enabled = without(self.enabled, rank);
-        let picked = arbitrated(
-            self.request,
-            self.started,
-            enabled,
-            holder.top(),
-            level,
-            priority,
-        );
+        let started = without(self.started, rank);
+        let aside = with(self.aside, rank);
+        let picked = arbitrated(self.request, started, aside, holder.top(), level, priority);
         self.seated(picked)
     }
 
+    // `isrs`: the ranks that are ISRs; `body_rank`: those of all bodies.
     pub fn set_event<'a>(
         mut self,
+        isrs: u32,
         extended: u32,
-        task_rank: &'a [u8; 32],
+        body_rank: &'a [u8; 32],
         priority: &'a [u8; 32],
         t: u32,
         mask: u32,
     ) -> Outcome
-        ensures { λ r. ⌜ r ≡ outcomeOf (setEvent extended (now («task_rank» .entry)) (now (priority .entry)) (view self) t mask) ⌝ }
+        ensures { λ r. ⌜ r ≡ outcomeOf (setEvent isrs extended (now («body_rank» .entry)) (now (priority .entry)) (view self) t mask) ⌝ }
     {
-        if self.runner == NO_RANK {
+        if no_caller(self.runner, self.level) {
             return self.with_status(CALL_LEVEL);
         }
-        let rank = byte_at(task_rank, t as usize, NO_RANK);
-        if rank == NO_RANK {
+        let rank = byte_at(body_rank, t as usize, NO_RANK);
+        if no_task(isrs, rank) {
             return self.with_status(NO_SUCH);
         }
         if !has(extended, rank as u32) {
             return self.with_status(ACCESS);
         }
-        if !busy(self.request, self.started, rank) {
+        if !busy(self.request, union(self.started, self.aside), rank) {
             return self.with_status(WRONG_STATE);
         }
         let mut bits = self.bits;
@@ -90,8 +91,9 @@ impl Model {
         self.cleared = without(self.cleared, rank as u32);
         let waited = self.waited;
         let wanted = waited[rank as usize];
-        let awake = any_set(set, wanted);
-        self.enabled = enabled_by(awake, self.enabled, rank as u32);
+        let resumed = resumes(self.aside, rank as u32, set, wanted);
+        self.started = with_where(resumed, self.started, rank as u32);
+        self.aside = without_where(resumed, self.aside, rank as u32);
         let request = self.request;
         self.settled(request, priority)
     }
@@ -99,7 +101,7 @@ impl Model {
     pub fn clear(mut self, extended: u32, mask: u32) -> Outcome
         ensures { λ r. ⌜ r ≡ outcomeOf (clear extended (view self) mask) ⌝ }
     {
-        if self.runner == NO_RANK {
+        if no_caller(self.runner, self.level) {
             return self.with_status(CALL_LEVEL);
         }
         let rank = self.runner as u32;
@@ -142,10 +144,24 @@ fn without_bits(bits: u32, mask: u32) -> u32
     bits - (bits & mask)
 }
 
-// Which bodies do not wait, once a bit that this one waits for is set or not.
-fn enabled_by(awake: bool, enabled: u32, rank: u32) -> u32
-    ensures { λ r. ⌜ r ≡ cond awake (with enabled rank) enabled ⌝ }
+// Whether this is no task's rank: nobody's, or an ISR's.
+fn no_task(isrs: u32, rank: u8) -> bool
+    ensures { λ r. ⌜ r ≡ eqb rank noRank || has isrs rank ⌝ }
 {
-    let all = with(enabled, rank);
-    if awake { all } else { enabled }
+    rank == NO_RANK || has(isrs, rank as u32)
+}
+
+// Whether the body of this rank waits, and with these event bits one that it waits for is set.
+fn resumes(aside: u32, rank: u32, bits: u32, mask: u32) -> bool
+    ensures { λ r. ⌜ r ≡ has aside rank && anySet bits mask ⌝ }
+{
+    has(aside, rank) && any_set(bits, mask)
+}
+
+// The word with this rank where the test holds.
+fn with_where(test: bool, word: u32, rank: u32) -> u32
+    ensures { λ r. ⌜ r ≡ cond test (with word rank) word ⌝ }
+{
+    let all = with(word, rank);
+    if test { all } else { word }
 }

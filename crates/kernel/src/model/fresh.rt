@@ -8,19 +8,16 @@ use super::arbiter::arbitrated;
 use super::cells::OFF;
 use stack::Row;
 
-// The word of all ranks.
-const ALL_RANKS: u32 = u32::MAX;
-
 impl Model {
     // Autostart tasks are ready, the best one begins, all losses are 0, tables stopped.
     pub fn fresh(autostart: u32, priority: &[u8; 32]) -> Model
         ensures { λ r. ⌜ r ≡ modelOf (freshWith autostart (now (priority .entry))) ⌝ }
     {
-        let picked = arbitrated(autostart, 0, ALL_RANKS, NO_RANK, 0, priority);
+        let picked = arbitrated(autostart, 0, 0, NO_RANK, 0, priority);
         Model {
             request: picked.request,
             started: picked.started,
-            enabled: picked.enabled,
+            aside: picked.aside,
             held: 0,
             runner: picked.runner,
             level: picked.level,
@@ -34,6 +31,7 @@ impl Model {
             cleared: 0,
             bits: [0u32; 32],
             waited: [0u32; 32],
+            triggered: Row::empty(),
         }
     }
 }

@@ -12,11 +12,11 @@ use super::CALL_LEVEL;
 use super::DONE;
 use super::Model;
 use super::NO_FUNCTION;
-use super::NO_RANK;
 use super::NO_SUCH;
 use super::NOT_USER;
 use super::Outcome;
 use super::arbiter::arbitrated;
+use super::bodies::no_caller;
 use super::lookup::byte_at;
 use super::lookup::word_at;
 use stack::Row;
@@ -34,7 +34,7 @@ impl Model {
     ) -> Outcome
         ensures { λ o. ⌜ o ≡ outcomeOf (get resources (now (users .entry)) (now (ceiling .entry)) (view self) r) ⌝ }
     {
-        if self.runner == NO_RANK {
+        if no_caller(self.runner, self.level) {
             return self.with_status(CALL_LEVEL);
         }
         if resources as u32 <= r {
@@ -58,7 +58,7 @@ impl Model {
     pub fn release(mut self, resources: u8, priority: &[u8; 32], r: u32) -> Outcome
         ensures { λ o. ⌜ o ≡ outcomeOf (release resources (now (priority .entry)) (view self) r) ⌝ }
     {
-        if self.runner == NO_RANK {
+        if no_caller(self.runner, self.level) {
             return self.with_status(CALL_LEVEL);
         }
         if resources as u32 <= r {
@@ -71,7 +71,7 @@ impl Model {
         let picked = arbitrated(
             self.request,
             self.started,
-            self.enabled,
+            self.aside,
             self.runner,
             level,
             priority,

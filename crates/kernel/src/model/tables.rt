@@ -14,11 +14,12 @@ use super::CALL_LEVEL;
 use super::DONE;
 use super::Model;
 use super::NO_FUNCTION;
-use super::NO_RANK;
 use super::NO_SUCH;
 use super::Outcome;
 use super::WRONG_STATE;
 use super::arbiter::arbitrated;
+use super::arbiter::is_triggered;
+use super::bodies::no_caller;
 use super::cells::OFF;
 use super::cells::some_turn;
 use super::cells::start_cells;
@@ -31,31 +32,37 @@ use super::cells::tick_switches;
 use super::cells::tick_turns;
 use super::lookup::byte_at;
 use super::lookup::short_at;
+use word::union;
 
 impl Model {
-    // A tick where no cell has a turn to pass.
+    // A tick where no cell has a turn to pass. `timed`: the ranks that are time-triggered tasks.
     pub fn tick<'a>(
         mut self,
         compare: &'a [u16; 64],
         entry_rank: &'a [u8; 64],
         priority: &'a [u8; 32],
+        timed: u32,
     ) -> Outcome
         requires { ⌜ self .turning ≡ false ⌝ }
-        ensures { λ r. ⌜ r ≡ outcomeOf (tick (now (compare .entry)) (now («entry_rank» .entry)) (now (priority .entry)) (view self)) ⌝ }
+        ensures { λ r. ⌜ r ≡ outcomeOf (tick (now (compare .entry)) (now («entry_rank» .entry)) (now (priority .entry)) timed (view self)) ⌝ }
     {
         let started = self.started;
         let asked = self.request;
-        let enabled = self.enabled;
+        let aside = self.aside;
         let runner = self.runner;
         let level = self.level;
         let mut losses = self.losses;
         let on = self.on;
         let mut counter = self.counter;
         let matched = tick_cells(compare, &on, &mut counter);
-        let request = take_matches(&matched, entry_rank, started, asked, &mut losses);
-        let picked = arbitrated(request, started, enabled, runner, level, priority);
+        let begun = union(started, aside);
+        let request = take_matches(&matched, entry_rank, begun, asked, &mut losses);
+        let picked = arbitrated(request, started, aside, runner, level, priority);
         self.counter = counter;
         self.losses = losses;
+        if is_triggered(level, picked.level, timed, picked.runner) {
+            return self.launched(request, picked.runner);
+        }
         self.seated(picked)
     }
 
@@ -66,24 +73,33 @@ impl Model {
         compare: &'a [u16; 64],
         entry_rank: &'a [u8; 64],
         priority: &'a [u8; 32],
+        timed: u32,
     ) -> Outcome
         requires { ⌜ self .turning ≡ true ⌝ }
-        ensures { λ r. ⌜ r ≡ outcomeOf (tick (now (compare .entry)) (now («entry_rank» .entry)) (now (priority .entry)) (view self)) ⌝ }
+        ensures { λ r. ⌜ r ≡ outcomeOf (tick (now (compare .entry)) (now («entry_rank» .entry)) (now (priority .entry)) timed (view self)) ⌝ }
     {
         let started = self.started;
         let asked = self.request;
+        let aside = self.aside;
+        let runner = self.runner;
+        let level = self.level;
         let mut losses = self.losses;
         let on = self.on;
         let mut next = on;
         let mut counter = self.counter;
         tick_switches(compare, &counter, &mut next);
         let matched = tick_turns(compare, &on, &mut counter);
-        let request = take_each(&matched, entry_rank, started, asked, &mut losses);
+        let begun = union(started, aside);
+        let request = take_each(&matched, entry_rank, begun, asked, &mut losses);
+        let picked = arbitrated(request, started, aside, runner, level, priority);
         self.turning = some_turn(&next);
         self.counter = counter;
         self.on = next;
         self.losses = losses;
-        self.settled(request, priority)
+        if is_triggered(level, picked.level, timed, picked.runner) {
+            return self.launched(request, picked.runner);
+        }
+        self.seated(picked)
     }
 
     pub fn start<'a>(
@@ -99,7 +115,7 @@ impl Model {
         requires { ⌜ Laid tables (now first) (now entries) ⌝ }
         ensures { λ r. ⌜ r ≡ outcomeOf (start tables (now (first .entry)) (now (entries .entry)) (now (period .entry)) (now (offset .entry)) (view self) t d) ⌝ }
     {
-        if self.runner == NO_RANK {
+        if no_caller(self.runner, self.level) {
             return self.with_status(CALL_LEVEL);
         }
         if tables as u32 <= t {
@@ -142,7 +158,7 @@ impl Model {
         requires { ⌜ Laid tables (now first) (now entries) ⌝ }
         ensures { λ r. ⌜ r ≡ outcomeOf (stop tables (now (first .entry)) (now (entries .entry)) (view self) t) ⌝ }
     {
-        if self.runner == NO_RANK {
+        if no_caller(self.runner, self.level) {
             return self.with_status(CALL_LEVEL);
         }
         if tables as u32 <= t {

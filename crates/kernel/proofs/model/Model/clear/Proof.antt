@@ -9,13 +9,16 @@ use borrow.Author.Needs.{needs}
 use Rattle.kernel.proofs.model.Model.clear.Statement.{statement}
 use Rattle.kernel.proofs.model.Model.clear.Tie as tie
 
+no-caller-requires : tie.Need-no-caller-requires
+no-caller-requires c κs = search needs
+
 with-status-requires : tie.Need-with-status-requires
 with-status-requires c κs = search needs
 
 returns : tie.Need-returns
 returns c =
     let a = c .before .before .before .args in
-    (c .with-status .ensures) ∙ ap outcomeOf (clear-idle (a .extended) (view (a .self)) (a .mask) (c .before .if1 .taken))
+    (c .with-status .ensures) ∙ ap outcomeOf (clear-idle (a .extended) (view (a .self)) (a .mask) (c .before .before .no-caller .ensures) (c .before .if1 .taken))
 
 cast-rank : tie.Need-cast-rank
 cast-rank c = search needs
@@ -30,7 +33,7 @@ returns-2 : tie.Need-returns-2
 returns-2 c =
     let c₁ = c .before .before in let c₂ = c₁ .before .before in let a = c₂ .before .before .args in
     (c .with-status2 .ensures)
-    ∙ ap outcomeOf (clear-basic (a .extended) (view (a .self)) (a .mask) (c₂ .if1 .left) (c₁ .has .ensures) (not-true _ (c .before .if2 .taken)))
+    ∙ ap outcomeOf (clear-basic (a .extended) (view (a .self)) (a .mask) (c₂ .before .no-caller .ensures) (c₂ .if1 .left) (c₁ .has .ensures) (not-true _ (c .before .if2 .taken)))
 
 cast-kept : tie.Need-cast-kept
 cast-kept c = search needs
@@ -71,12 +74,13 @@ returns-3 c =
     let d₁ = c .before in let d₃ = d₁ .before in let d₄ = d₃ .before in
     let c₀ = d₄ .before .before in let c₁ = c₀ .before in let c₂ = c₁ .before .before in let a = c₂ .before .before .args in
     (c .with-status3 .ensures)
-    ∙ ap outcomeOf (clear-done (a .extended) (view (a .self)) (a .mask) (c₂ .if1 .left) (c₁ .has .ensures) (not-false _ (c₀ .if2 .left)) (d₄ .bits-of .ensures) (d₃ .without-bits .ensures) refl (d₁ .without .ensures))
+    ∙ ap outcomeOf (clear-done (a .extended) (view (a .self)) (a .mask) (c₂ .before .no-caller .ensures) (c₂ .if1 .left) (c₁ .has .ensures) (not-false _ (c₀ .if2 .left)) (d₄ .bits-of .ensures) (d₃ .without-bits .ensures) refl (d₁ .without .ensures))
 
 pub clear-spec : {M : Type 1} → statement M
 clear-spec =
     tie.close
     (tie.spec
+    no-caller-requires
     with-status-requires
     returns
     cast-rank

@@ -2,7 +2,7 @@
 -- Assumes nothing.
 use mathlib.Core.Path.{ap, _∙_}
 use Rattle.kernel.specs.View.{view, outcomeOf}
-use Rattle.kernel.proofs.Methods.Events.{finish-idle, finish-holding, finish-done}
+use Rattle.kernel.proofs.Methods.Events.{finish-idle, finish-holding, finish-timed, finish-done}
 use borrow.Author.Needs.{needs}
 use Rattle.kernel.proofs.model.Model.finish.Statement.{statement}
 use Rattle.kernel.proofs.model.Model.finish.Tie as tie
@@ -27,14 +27,25 @@ returns-2 c =
     let a = c₄ .args in
     (c .with-status2 .ensures) ∙ ap outcomeOf (finish-holding (a .priority .now) (view (a .self)) (c₃ .if1 .left) (c₂ .top .ensures) (c₁ .if2 .taken))
 
-ended-requires : tie.Need-ended-requires
-ended-requires c κs = search needs
+returned-requires : tie.Need-returned-requires
+returned-requires c κs = search needs
 
 returns-3 : tie.Need-returns-3
 returns-3 c =
-    let c₁ = c .before in let c₂ = c₁ .before .before in let c₃ = c₂ .before in let c₄ = c₃ .before .before in
-    let a = c₄ .args in
-    (c .ended .ensures) ∙ ap outcomeOf (finish-done (a .priority .now) (view (a .self)) (c₃ .if1 .left) (c₂ .top .ensures) (c₁ .if2 .left))
+    let c₁ = c .before in let c₂ = c₁ .before .before in let c₃ = c₂ .before .before in let c₄ = c₃ .before in let c₅ = c₄ .before .before in
+    let a = c₅ .args in
+    (c .returned .ensures)
+    ∙ ap outcomeOf (finish-timed (a .priority .now) (view (a .self)) (c₄ .if1 .left) (c₃ .top .ensures) (c₂ .if2 .left) (c₁ .if3 .taken))
+
+ended-requires : tie.Need-ended-requires
+ended-requires c κs = search needs
+
+returns-4 : tie.Need-returns-4
+returns-4 c =
+    let c₁ = c .before in let c₂ = c₁ .before .before in let c₃ = c₂ .before .before in let c₄ = c₃ .before in let c₅ = c₄ .before .before in
+    let a = c₅ .args in
+    (c .ended .ensures)
+    ∙ ap outcomeOf (finish-done (a .priority .now) (view (a .self)) (c₄ .if1 .left) (c₃ .top .ensures) (c₂ .if2 .left) (c₁ .if3 .left))
 
 pub finish-spec : {M : Type 1} → statement M
-finish-spec = tie.close (tie.spec with-status-requires returns top-requires with-status-requires-2 returns-2 ended-requires returns-3)
+finish-spec = tie.close (tie.spec with-status-requires returns top-requires with-status-requires-2 returns-2 returned-requires returns-3 ended-requires returns-4)

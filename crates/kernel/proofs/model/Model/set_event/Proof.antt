@@ -1,5 +1,5 @@
--- `set_event` meets its contract, case by case in the order of its checks.
--- Assumes nothing.
+-- `set_event` meets its contract, case by case in the order of its checks. An extended task has a rank, so the rows of bits and masks have a
+-- place for it. Assumes nothing.
 use mathlib.Core.Path.{refl, sym, ap, _∙_}
 use borrow.Author.Tests.{not-true, not-false}
 use Rattle.word.proofs.Theorems.{has-lt}
@@ -9,25 +9,31 @@ use borrow.Author.Needs.{needs}
 use Rattle.kernel.proofs.model.Model.set_event.Statement.{statement}
 use Rattle.kernel.proofs.model.Model.set_event.Tie as tie
 
+no-caller-requires : tie.Need-no-caller-requires
+no-caller-requires c κs = search needs
+
 with-status-requires : tie.Need-with-status-requires
 with-status-requires c κs = search needs
 
 returns : tie.Need-returns
 returns c =
-    let a = c .before .before .before .args in
-    (c .with-status .ensures) ∙ ap outcomeOf (set-idle (a .extended) (a .task-rank .now) (a .priority .now) (view (a .self)) (a .t) (a .mask) (c .before .if1 .taken))
+    let c₁ = c .before in let c₂ = c₁ .before in let a = c₂ .before .args in
+    (c .with-status .ensures) ∙ ap outcomeOf (set-idle (a .isrs) (a .extended) (a .body-rank .now) (a .priority .now) (view (a .self)) (a .t) (a .mask) (c₂ .no-caller .ensures) (c₁ .if1 .taken))
 
 byte-at-requires : tie.Need-byte-at-requires
 byte-at-requires c κs = search needs
+
+no-task-requires : tie.Need-no-task-requires
+no-task-requires c κs = search needs
 
 with-status-requires-2 : tie.Need-with-status-requires-2
 with-status-requires-2 c κs = search needs
 
 returns-2 : tie.Need-returns-2
 returns-2 c =
-    let c₁ = c .before .before in let c₂ = c₁ .before .before in let a = c₂ .before .before .args in
+    let c₁ = c .before in let c₂ = c₁ .before in let c₃ = c₂ .before in let c₄ = c₃ .before .before in let c₅ = c₄ .before in let a = c₅ .before .args in
     (c .with-status2 .ensures)
-    ∙ ap outcomeOf (set-none (a .extended) (a .task-rank .now) (a .priority .now) (view (a .self)) (a .t) (a .mask) (c₂ .if1 .left) (c₁ .byte-at .ensures) (c .before .if2 .taken))
+    ∙ ap outcomeOf (set-none (a .isrs) (a .extended) (a .body-rank .now) (a .priority .now) (view (a .self)) (a .t) (a .mask) (c₅ .no-caller .ensures) (c₄ .if1 .left) (c₃ .byte-at .ensures) (c₂ .no-task .ensures) (c₁ .if2 .taken))
 
 cast-has : tie.Need-cast-has
 cast-has c = search needs
@@ -40,9 +46,14 @@ with-status-requires-3 c κs = search needs
 
 returns-3 : tie.Need-returns-3
 returns-3 c =
-    let c₁ = c .before .before in let c₂ = c₁ .before in let c₃ = c₂ .before in let c₄ = c₃ .before .before in let a = c₄ .before .before .args in
+    let c₁ = c .before in let c₂ = c₁ .before in let c₃ = c₂ .before in let c₄ = c₃ .before in let c₅ = c₄ .before in let c₆ = c₅ .before .before in
+    let c₇ = c₆ .before in let a = c₇ .before .args in
     (c .with-status3 .ensures)
-    ∙ ap outcomeOf (set-basic (a .extended) (a .task-rank .now) (a .priority .now) (view (a .self)) (a .t) (a .mask) (c₄ .if1 .left) (c₃ .byte-at .ensures) (c₂ .if2 .left) (c₁ .has .ensures) (not-true _ (c .before .if3 .taken)))
+    ∙ ap outcomeOf (set-basic (a .isrs) (a .extended) (a .body-rank .now) (a .priority .now) (view (a .self)) (a .t) (a .mask) (c₇ .no-caller .ensures) (c₆ .if1 .left) (c₅ .byte-at .ensures) (c₄ .no-task .ensures) (c₃ .if2 .left)
+    (c₂ .has .ensures) (not-true _ (c₁ .if3 .taken)))
+
+union-requires : tie.Need-union-requires
+union-requires c κs = search needs
 
 busy-requires : tie.Need-busy-requires
 busy-requires c κs = search needs
@@ -52,11 +63,13 @@ with-status-requires-4 c κs = search needs
 
 returns-4 : tie.Need-returns-4
 returns-4 c =
-    let c₀ = c .before .before in let c₅ = c₀ .before in let c₁ = c₅ .before in let c₂ = c₁ .before in let c₃ = c₂ .before in
-    let c₄ = c₃ .before .before in let a = c₄ .before .before .args in
+    let c₁ = c .before in let c₂ = c₁ .before in let c₃ = c₂ .before in let c₄ = c₃ .before in let c₅ = c₄ .before in let c₆ = c₅ .before in
+    let c₇ = c₆ .before in let c₈ = c₇ .before in let c₉ = c₈ .before .before in let c₁₀ = c₉ .before in let a = c₁₀ .before .args in
     (c .with-status4 .ensures)
-    ∙ ap outcomeOf (set-suspended (a .extended) (a .task-rank .now) (a .priority .now) (view (a .self)) (a .t) (a .mask) (c₄ .if1 .left) (c₃ .byte-at .ensures) (c₂ .if2 .left) (c₁ .has .ensures) (not-false _ (c₅ .if3 .left)) (c₀ .busy .ensures) (not-true _ (c .before .if4 .taken)))
+    ∙ ap outcomeOf (set-suspended (a .isrs) (a .extended) (a .body-rank .now) (a .priority .now) (view (a .self)) (a .t) (a .mask) (c₁₀ .no-caller .ensures) (c₉ .if1 .left) (c₈ .byte-at .ensures) (c₇ .no-task .ensures) (c₆ .if2 .left)
+    (c₅ .has .ensures) (not-false _ (c₄ .if3 .left)) (c₃ .union .ensures) (c₂ .busy .ensures) (not-true _ (c₁ .if4 .taken)))
 
+-- the rank that was looked up is in the word of the extended tasks
 cast-kept : tie.Need-cast-kept
 cast-kept c = search needs
 
@@ -65,7 +78,7 @@ mul-kept c = search needs
 
 array-read-kept : tie.Need-array-read-kept
 array-read-kept c =
-    let c₁ = c .before .before .before in let c₂ = c₁ .before in let c₃ = c₂ .before .before in let a = c₃ .before .before .before .before .args in
+    let c₁ = c .before .before .before .before in let c₂ = c₁ .before in let c₃ = c₂ .before .before .before in let a = c₃ .before .before .before .before .args in
     has-lt (a .extended) (c₃ .byte-at .result) (sym (c₂ .has .ensures) ∙ not-false _ (c₁ .if3 .left))
 
 cast-bits-of : tie.Need-cast-bits-of
@@ -85,7 +98,7 @@ mul-bits c = search needs
 
 array-write-bits : tie.Need-array-write-bits
 array-write-bits c =
-    let c₁ = c .before .before .before .before .before in let c₂ = c₁ .before in let c₃ = c₂ .before .before in let a = c₃ .before .before .before .before .args in
+    let c₁ = c .before .before .before .before .before .before in let c₂ = c₁ .before in let c₃ = c₂ .before .before .before in let a = c₃ .before .before .before .before .args in
     has-lt (a .extended) (c₃ .byte-at .result) (sym (c₂ .has .ensures) ∙ not-false _ (c₁ .if3 .left))
 
 cast-without : tie.Need-cast-without
@@ -102,44 +115,57 @@ mul-wanted c = search needs
 
 array-read-wanted : tie.Need-array-read-wanted
 array-read-wanted c =
-    let c₁ = c .before .before .before .before .before .before .before in let c₂ = c₁ .before in let c₃ = c₂ .before .before in let a = c₃ .before .before .before .before .args in
+    let c₁ = c .before .before .before .before .before .before .before .before in let c₂ = c₁ .before in let c₃ = c₂ .before .before .before in
+    let a = c₃ .before .before .before .before .args in
     has-lt (a .extended) (c₃ .byte-at .result) (sym (c₂ .has .ensures) ∙ not-false _ (c₁ .if3 .left))
 
-any-set-requires : tie.Need-any-set-requires
-any-set-requires c κs = search needs
+cast-resumes : tie.Need-cast-resumes
+cast-resumes c = search needs
 
-cast-enabled-by : tie.Need-cast-enabled-by
-cast-enabled-by c = search needs
+resumes-requires : tie.Need-resumes-requires
+resumes-requires c κs = search needs
 
-enabled-by-requires : tie.Need-enabled-by-requires
-enabled-by-requires c κs = search needs
+cast-with-where : tie.Need-cast-with-where
+cast-with-where c = search needs
+
+with-where-requires : tie.Need-with-where-requires
+with-where-requires c κs = search needs
+
+cast-without-where : tie.Need-cast-without-where
+cast-without-where c = search needs
+
+without-where-requires : tie.Need-without-where-requires
+without-where-requires c κs = search needs
 
 settled-requires : tie.Need-settled-requires
 settled-requires c κs = search needs
 
 returns-5 : tie.Need-returns-5
 returns-5 c =
-    let d₁ = c .before in let d₂ = d₁ .before in let d₄ = d₂ .before .before in
-    let d₆ = d₄ .before in let d₇ = d₆ .before in
-    let c₆ = d₇ .before .before in let c₀ = c₆ .before in let c₅ = c₀ .before in let c₁ = c₅ .before in let c₂ = c₁ .before in let c₃ = c₂ .before in
-    let c₄ = c₃ .before .before in let a = c₄ .before .before .args in
+    let d₁ = c .before in let d₂ = d₁ .before in let d₃ = d₂ .before in let d₄ = d₃ .before .before in let d₅ = d₄ .before in let d₆ = d₅ .before in
+    let c₁ = d₆ .before .before in let c₂ = c₁ .before in let c₃ = c₂ .before in let c₄ = c₃ .before in let c₅ = c₄ .before in let c₆ = c₅ .before in
+    let c₇ = c₆ .before in let c₈ = c₇ .before in let c₉ = c₈ .before .before in let c₁₀ = c₉ .before in let a = c₁₀ .before .args in
     (c .settled .ensures)
-    ∙ ap outcomeOf (set-done (a .extended) (a .task-rank .now) (a .priority .now) (view (a .self)) (a .t) (a .mask) (c₄ .if1 .left) (c₃ .byte-at .ensures) (c₂ .if2 .left) (c₁ .has .ensures) (not-false _ (c₅ .if3 .left)) (c₀ .busy .ensures) (not-false _ (c₆ .if4 .left))
-    (d₇ .bits-of .ensures) (d₆ .with-bits .ensures) refl (d₄ .without .ensures) refl (d₂ .any-set .ensures) (d₁ .enabled-by .ensures))
+    ∙ ap outcomeOf (set-done (a .isrs) (a .extended) (a .body-rank .now) (a .priority .now) (view (a .self)) (a .t) (a .mask) (c₁₀ .no-caller .ensures) (c₉ .if1 .left) (c₈ .byte-at .ensures) (c₇ .no-task .ensures) (c₆ .if2 .left)
+    (c₅ .has .ensures) (not-false _ (c₄ .if3 .left)) (c₃ .union .ensures) (c₂ .busy .ensures) (not-false _ (c₁ .if4 .left))
+    (d₆ .bits-of .ensures) (d₅ .with-bits .ensures) refl (d₄ .without .ensures) refl (d₃ .resumes .ensures) (d₂ .with-where .ensures) (d₁ .without-where .ensures))
 
 pub set-event-spec : {M : Type 1} → statement M
 set-event-spec =
     tie.close
     (tie.spec
+    no-caller-requires
     with-status-requires
     returns
     byte-at-requires
+    no-task-requires
     with-status-requires-2
     returns-2
     cast-has
     has-requires
     with-status-requires-3
     returns-3
+    union-requires
     busy-requires
     with-status-requires-4
     returns-4
@@ -157,8 +183,11 @@ set-event-spec =
     cast-wanted
     mul-wanted
     array-read-wanted
-    any-set-requires
-    cast-enabled-by
-    enabled-by-requires
+    cast-resumes
+    resumes-requires
+    cast-with-where
+    with-where-requires
+    cast-without-where
+    without-where-requires
     settled-requires
     returns-5)

@@ -8,6 +8,9 @@ use borrow.Author.Needs.{needs}
 use Rattle.kernel.proofs.model.Model.start.Statement.{statement}
 use Rattle.kernel.proofs.model.Model.start.Tie as tie
 
+no-caller-requires : tie.Need-no-caller-requires
+no-caller-requires c κs = search needs
+
 with-status-requires : tie.Need-with-status-requires
 with-status-requires c κs = search needs
 
@@ -15,7 +18,7 @@ returns : tie.Need-returns
 returns c =
     let c₁ = c .before in let c₂ = c₁ .before .before in let a = c₂ .args in
     (c .with-status .ensures)
-    ∙ ap outcomeOf (start-idle (a .tables) (a .first .now) (a .entries .now) (a .period .now) (a .offset .now) (view (a .self)) (a .t) (a .d) (c₁ .if1 .taken))
+    ∙ ap outcomeOf (start-idle (a .tables) (a .first .now) (a .entries .now) (a .period .now) (a .offset .now) (view (a .self)) (a .t) (a .d) (c₁ .before .no-caller .ensures) (c₁ .if1 .taken))
 
 with-status-requires-2 : tie.Need-with-status-requires-2
 with-status-requires-2 c κs = search needs
@@ -24,7 +27,7 @@ returns-2 : tie.Need-returns-2
 returns-2 c =
     let c₁ = c .before in let c₂ = c₁ .before in let c₃ = c₂ .before .before in let a = c₃ .args in
     (c .with-status2 .ensures)
-    ∙ ap outcomeOf (start-none (a .tables) (a .first .now) (a .entries .now) (a .period .now) (a .offset .now) (view (a .self)) (a .t) (a .d) (c₂ .if1 .left) (c₁ .if2 .taken))
+    ∙ ap outcomeOf (start-none (a .tables) (a .first .now) (a .entries .now) (a .period .now) (a .offset .now) (view (a .self)) (a .t) (a .d) (c₂ .before .no-caller .ensures) (c₂ .if1 .left) (c₁ .if2 .taken))
 
 byte-at-requires : tie.Need-byte-at-requires
 byte-at-requires c κs = search needs
@@ -47,7 +50,7 @@ returns-3 c =
     let c₅ = c₄ .before .before in let c₆ = c₅ .before in let c₇ = c₆ .before .before in let a = c₇ .args in
     (c .with-status3 .ensures)
     ∙ ap outcomeOf (start-bad (a .tables) (a .first .now) (a .entries .now) (a .period .now) (a .offset .now) (view (a .self)) (a .t) (a .d)
-    (c₆ .if1 .left) (c₅ .if2 .left) (c₄ .byte-at .ensures) (c₃ .short-at .ensures) (c₂ .is-bad-delay .ensures) (c₁ .if3 .taken))
+    (c₆ .before .no-caller .ensures) (c₆ .if1 .left) (c₅ .if2 .left) (c₄ .byte-at .ensures) (c₃ .short-at .ensures) (c₂ .is-bad-delay .ensures) (c₁ .if3 .taken))
 
 is-on-requires : tie.Need-is-on-requires
 is-on-requires c κs = search needs
@@ -62,7 +65,7 @@ returns-4 c =
     let c₉ = c₈ .before .before in let a = c₉ .args in
     (c .with-status4 .ensures)
     ∙ ap outcomeOf (start-runs (a .tables) (a .first .now) (a .entries .now) (a .period .now) (a .offset .now) (view (a .self)) (a .t) (a .d)
-    (c₈ .if1 .left) (c₇ .if2 .left) (c₆ .byte-at .ensures) (c₅ .short-at .ensures) (c₄ .is-bad-delay .ensures) (c₃ .if3 .left) (c₂ .is-on .ensures) (c₁ .if4 .taken))
+    (c₈ .before .no-caller .ensures) (c₈ .if1 .left) (c₇ .if2 .left) (c₆ .byte-at .ensures) (c₅ .short-at .ensures) (c₄ .is-bad-delay .ensures) (c₃ .if3 .left) (c₂ .is-on .ensures) (c₁ .if4 .taken))
 
 byte-at-requires-2 : tie.Need-byte-at-requires-2
 byte-at-requires-2 c κs = search needs
@@ -97,8 +100,8 @@ returns-5 c =
     let c₁₁ = c₁₀ .before in let c₁₂ = c₁₁ .before .before in let a = c₁₂ .args in
     (c .with-status5 .ensures)
     ∙ ap outcomeOf (start-done (a .tables) (a .first .now) (a .entries .now) (a .period .now) (a .offset .now) (view (a .self)) (a .t) (a .d)
-    (c₁₁ .if1 .left) (c₁₀ .if2 .left) (c₉ .byte-at .ensures) (c₈ .short-at .ensures) (c₇ .is-bad-delay .ensures) (c₆ .if3 .left) (c₅ .is-on .ensures) (c₄ .if4 .left)
+    (c₁₁ .before .no-caller .ensures) (c₁₁ .if1 .left) (c₁₀ .if2 .left) (c₉ .byte-at .ensures) (c₈ .short-at .ensures) (c₇ .is-bad-delay .ensures) (c₆ .if3 .left) (c₅ .is-on .ensures) (c₄ .if4 .left)
     (c₃ .byte-at2 .ensures) (c₂ .short-at2 .ensures) (c₁ .start-cells .ensures .0) (c₁ .start-cells .ensures .1 .0) (c₁ .start-cells .ensures .1 .1))
 
 pub start-spec : {M : Type 1} → statement M
-start-spec = tie.close (tie.spec with-status-requires returns with-status-requires-2 returns-2 byte-at-requires cast-from short-at-requires is-bad-delay-requires with-status-requires-3 returns-3 is-on-requires with-status-requires-4 returns-4 byte-at-requires-2 cast-n short-at-requires-2 cast-start-cells start-cells-requires with-status-requires-5 returns-5)
+start-spec = tie.close (tie.spec no-caller-requires with-status-requires returns with-status-requires-2 returns-2 byte-at-requires cast-from short-at-requires is-bad-delay-requires with-status-requires-3 returns-3 is-on-requires with-status-requires-4 returns-4 byte-at-requires-2 cast-n short-at-requires-2 cast-start-cells start-cells-requires with-status-requires-5 returns-5)

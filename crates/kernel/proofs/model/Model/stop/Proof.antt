@@ -8,13 +8,16 @@ use borrow.Author.Needs.{needs}
 use Rattle.kernel.proofs.model.Model.stop.Statement.{statement}
 use Rattle.kernel.proofs.model.Model.stop.Tie as tie
 
+no-caller-requires : tie.Need-no-caller-requires
+no-caller-requires c κs = search needs
+
 with-status-requires : tie.Need-with-status-requires
 with-status-requires c κs = search needs
 
 returns : tie.Need-returns
 returns c =
     let c₁ = c .before in let c₂ = c₁ .before .before in let a = c₂ .args in
-    (c .with-status .ensures) ∙ ap outcomeOf (stop-idle (a .tables) (a .first .now) (a .entries .now) (view (a .self)) (a .t) (c₁ .if1 .taken))
+    (c .with-status .ensures) ∙ ap outcomeOf (stop-idle (a .tables) (a .first .now) (a .entries .now) (view (a .self)) (a .t) (c₁ .before .no-caller .ensures) (c₁ .if1 .taken))
 
 with-status-requires-2 : tie.Need-with-status-requires-2
 with-status-requires-2 c κs = search needs
@@ -22,7 +25,7 @@ with-status-requires-2 c κs = search needs
 returns-2 : tie.Need-returns-2
 returns-2 c =
     let c₁ = c .before in let c₂ = c₁ .before in let c₃ = c₂ .before .before in let a = c₃ .args in
-    (c .with-status2 .ensures) ∙ ap outcomeOf (stop-none (a .tables) (a .first .now) (a .entries .now) (view (a .self)) (a .t) (c₂ .if1 .left) (c₁ .if2 .taken))
+    (c .with-status2 .ensures) ∙ ap outcomeOf (stop-none (a .tables) (a .first .now) (a .entries .now) (view (a .self)) (a .t) (c₂ .before .no-caller .ensures) (c₂ .if1 .left) (c₁ .if2 .taken))
 
 byte-at-requires : tie.Need-byte-at-requires
 byte-at-requires c κs = search needs
@@ -41,7 +44,7 @@ returns-3 c =
     let c₁ = c .before in let c₂ = c₁ .before in let c₃ = c₂ .before .before in let c₄ = c₃ .before .before .before in
     let c₅ = c₄ .before in let c₆ = c₅ .before .before in let a = c₆ .args in
     (c .with-status3 .ensures)
-    ∙ ap outcomeOf (stop-stopped (a .tables) (a .first .now) (a .entries .now) (view (a .self)) (a .t) (c₅ .if1 .left) (c₄ .if2 .left) (c₃ .byte-at .ensures) (c₂ .is-on .ensures) (not-true _ (c₁ .if3 .taken)))
+    ∙ ap outcomeOf (stop-stopped (a .tables) (a .first .now) (a .entries .now) (view (a .self)) (a .t) (c₅ .before .no-caller .ensures) (c₅ .if1 .left) (c₄ .if2 .left) (c₃ .byte-at .ensures) (c₂ .is-on .ensures) (not-true _ (c₁ .if3 .taken)))
 
 byte-at-requires-2 : tie.Need-byte-at-requires-2
 byte-at-requires-2 c κs = search needs
@@ -70,8 +73,8 @@ returns-4 c =
     let c₄ = c₃ .before .before in let c₅ = c₄ .before in let c₆ = c₅ .before .before in
     let c₇ = c₆ .before .before .before in let c₈ = c₇ .before in let c₉ = c₈ .before .before in let a = c₉ .args in
     (c .with-status4 .ensures)
-    ∙ ap outcomeOf (stop-done (a .tables) (a .first .now) (a .entries .now) (view (a .self)) (a .t) (c₈ .if1 .left) (c₇ .if2 .left) (c₆ .byte-at .ensures) (c₅ .is-on .ensures) (not-false _ (c₄ .if3 .left))
+    ∙ ap outcomeOf (stop-done (a .tables) (a .first .now) (a .entries .now) (view (a .self)) (a .t) (c₈ .before .no-caller .ensures) (c₈ .if1 .left) (c₇ .if2 .left) (c₆ .byte-at .ensures) (c₅ .is-on .ensures) (not-false _ (c₄ .if3 .left))
     (c₃ .byte-at2 .ensures) (c₂ .stop-counters .ensures) (c₁ .switch .ensures))
 
 pub stop-spec : {M : Type 1} → statement M
-stop-spec = tie.close (tie.spec with-status-requires returns with-status-requires-2 returns-2 byte-at-requires cast-from is-on-requires with-status-requires-3 returns-3 byte-at-requires-2 cast-n stop-counters-requires switch-requires with-status-requires-4 returns-4)
+stop-spec = tie.close (tie.spec no-caller-requires with-status-requires returns with-status-requires-2 returns-2 byte-at-requires cast-from is-on-requires with-status-requires-3 returns-3 byte-at-requires-2 cast-n stop-counters-requires switch-requires with-status-requires-4 returns-4)

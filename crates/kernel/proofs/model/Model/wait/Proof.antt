@@ -9,13 +9,16 @@ use borrow.Author.Needs.{needs}
 use Rattle.kernel.proofs.model.Model.wait.Statement.{statement}
 use Rattle.kernel.proofs.model.Model.wait.Tie as tie
 
+no-caller-requires : tie.Need-no-caller-requires
+no-caller-requires c κs = search needs
+
 with-status-requires : tie.Need-with-status-requires
 with-status-requires c κs = search needs
 
 returns : tie.Need-returns
 returns c =
     let a = c .before .before .before .args in
-    (c .with-status .ensures) ∙ ap outcomeOf (wait-idle (a .extended) (a .priority .now) (view (a .self)) (a .mask) (c .before .if1 .taken))
+    (c .with-status .ensures) ∙ ap outcomeOf (wait-idle (a .extended) (a .priority .now) (view (a .self)) (a .mask) (c .before .before .no-caller .ensures) (c .before .if1 .taken))
 
 cast-rank : tie.Need-cast-rank
 cast-rank c = search needs
@@ -30,7 +33,7 @@ returns-2 : tie.Need-returns-2
 returns-2 c =
     let c₁ = c .before .before in let c₂ = c₁ .before .before in let a = c₂ .before .before .args in
     (c .with-status2 .ensures)
-    ∙ ap outcomeOf (wait-basic (a .extended) (a .priority .now) (view (a .self)) (a .mask) (c₂ .if1 .left) (c₁ .has .ensures) (not-true _ (c .before .if2 .taken)))
+    ∙ ap outcomeOf (wait-basic (a .extended) (a .priority .now) (view (a .self)) (a .mask) (c₂ .before .no-caller .ensures) (c₂ .if1 .left) (c₁ .has .ensures) (not-true _ (c .before .if2 .taken)))
 
 top-requires : tie.Need-top-requires
 top-requires c κs = search needs
@@ -42,7 +45,7 @@ returns-3 : tie.Need-returns-3
 returns-3 c =
     let c₁ = c .before .before .before in let c₂ = c₁ .before .before in let c₃ = c₂ .before in let c₄ = c₃ .before .before in let a = c₄ .before .before .args in
     (c .with-status3 .ensures)
-    ∙ ap outcomeOf (wait-holding (a .extended) (a .priority .now) (view (a .self)) (a .mask) (c₄ .if1 .left) (c₃ .has .ensures) (not-false _ (c₂ .if2 .left)) (c₁ .top .ensures) (c .before .if3 .taken))
+    ∙ ap outcomeOf (wait-holding (a .extended) (a .priority .now) (view (a .self)) (a .mask) (c₄ .before .no-caller .ensures) (c₄ .if1 .left) (c₃ .has .ensures) (not-false _ (c₂ .if2 .left)) (c₁ .top .ensures) (c .before .if3 .taken))
 
 cast-kept : tie.Need-cast-kept
 cast-kept c = search needs
@@ -69,7 +72,7 @@ returns-4 c =
     let c₀ = c .before .before in let c₁ = c₀ .before in let c₂ = c₁ .before .before in let c₃ = c₂ .before .before in
     let c₄ = c₃ .before .before in let c₅ = c₄ .before in let c₆ = c₅ .before .before in let a = c₆ .before .before .args in
     (c .with-status4 .ensures)
-    ∙ ap outcomeOf (wait-on (a .extended) (a .priority .now) (view (a .self)) (a .mask) (c₆ .if1 .left) (c₅ .has .ensures) (not-false _ (c₄ .if2 .left)) (c₃ .top .ensures) (c₂ .if3 .left) (c₁ .bits-of .ensures) (c₀ .any-set .ensures) (c .before .if4 .taken))
+    ∙ ap outcomeOf (wait-on (a .extended) (a .priority .now) (view (a .self)) (a .mask) (c₆ .before .no-caller .ensures) (c₆ .if1 .left) (c₅ .has .ensures) (not-false _ (c₄ .if2 .left)) (c₃ .top .ensures) (c₂ .if3 .left) (c₁ .bits-of .ensures) (c₀ .any-set .ensures) (c .before .if4 .taken))
 
 cast-waited : tie.Need-cast-waited
 cast-waited c = search needs
@@ -88,6 +91,9 @@ latest-level-requires c κs = search needs
 without-requires : tie.Need-without-requires
 without-requires c κs = search needs
 
+with-requires : tie.Need-with-requires
+with-requires c κs = search needs
+
 top-requires-2 : tie.Need-top-requires-2
 top-requires-2 c κs = search needs
 
@@ -99,17 +105,18 @@ seated-requires c κs = search needs
 
 returns-5 : tie.Need-returns-5
 returns-5 c =
-    let d₁ = c .before in let d₂ = d₁ .before in let d₃ = d₂ .before in let d₄ = d₃ .before in
-    let c₇ = d₄ .before .before in let c₀ = c₇ .before in let c₁ = c₀ .before in let c₂ = c₁ .before .before in let c₃ = c₂ .before .before in
+    let d₁ = c .before in let d₂ = d₁ .before in let d₃ = d₂ .before in let d₄ = d₃ .before in let d₅ = d₄ .before in
+    let c₇ = d₅ .before .before in let c₀ = c₇ .before in let c₁ = c₀ .before in let c₂ = c₁ .before .before in let c₃ = c₂ .before .before in
     let c₄ = c₃ .before .before in let c₅ = c₄ .before in let c₆ = c₅ .before .before in let a = c₆ .before .before .args in
     (c .seated .ensures)
-    ∙ ap outcomeOf (wait-pauses (a .extended) (a .priority .now) (view (a .self)) (a .mask) (c₆ .if1 .left) (c₅ .has .ensures) (not-false _ (c₄ .if2 .left)) (c₃ .top .ensures) (c₂ .if3 .left) (c₁ .bits-of .ensures) (c₀ .any-set .ensures) (c₇ .if4 .left)
-    refl (d₄ .latest-level .ensures) (d₃ .without .ensures) (d₂ .top2 .ensures) (ap viewPicked (d₁ .arbitrated .ensures)))
+    ∙ ap outcomeOf (wait-pauses (a .extended) (a .priority .now) (view (a .self)) (a .mask) (c₆ .before .no-caller .ensures) (c₆ .if1 .left) (c₅ .has .ensures) (not-false _ (c₄ .if2 .left)) (c₃ .top .ensures) (c₂ .if3 .left) (c₁ .bits-of .ensures) (c₀ .any-set .ensures) (c₇ .if4 .left)
+    refl (d₅ .latest-level .ensures) (d₄ .without .ensures) (d₃ .with .ensures) (d₂ .top2 .ensures) (ap viewPicked (d₁ .arbitrated .ensures)))
 
 pub wait-spec : {M : Type 1} → statement M
 wait-spec =
     tie.close
     (tie.spec
+    no-caller-requires
     with-status-requires
     returns
     cast-rank
@@ -131,6 +138,7 @@ wait-spec =
     array-write-waited
     latest-level-requires
     without-requires
+    with-requires
     top-requires-2
     arbitrated-requires
     seated-requires

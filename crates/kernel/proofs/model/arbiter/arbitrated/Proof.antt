@@ -4,7 +4,7 @@ use Prim.Native.Nat.{ℕ}
 use mathlib.Core.Path.{_≡_, ap}
 use mathlib.Core.Bool.{not}
 use native.Mathlib.Omega.{arith}
-use Rattle.word.specs.Word.{intersection, winner}
+use Rattle.word.specs.Word.{winner}
 use Rattle.word.proofs.Theorems.{winner-le}
 use Rattle.kernel.specs.View.{core, pickedOf}
 use Rattle.kernel.proofs.Methods.Core.{arbitrated-same, arbitrated-above}
@@ -13,14 +13,11 @@ use Rattle.kernel.proofs.model.arbiter.arbitrated.Statement.{statement}
 use Rattle.kernel.proofs.model.arbiter.arbitrated.Tie as tie
 
 -- the winner of those who bid, as the code finds it
-bid : {u v r x : ℕ} (e : ℕ) → u ≡ x → v ≡ intersection u e → r ≡ winner v → r ≡ winner (intersection x e)
-bid e all some won = rw (won, some, all)
+bid : {u r x : ℕ} → u ≡ x → r ≡ winner u → r ≡ winner x
+bid all won = rw (won, all)
 
 union-requires : tie.Need-union-requires
 union-requires c κs = search needs
-
-intersection-requires : tie.Need-intersection-requires
-intersection-requires c κs = search needs
 
 winner-requires : tie.Need-winner-requires
 winner-requires c κs = search needs
@@ -33,17 +30,17 @@ byte-at-requires c κs = search needs
 
 returns : tie.Need-returns
 returns c =
-    let c₁ = c .before in let c₂ = c₁ .before .before in let c₃ = c₂ .before in let c₄ = c₃ .before in let c₅ = c₄ .before in
-    let a = c₅ .args in
+    let c₁ = c .before in let c₂ = c₁ .before .before in let c₃ = c₂ .before in let c₄ = c₃ .before in
+    let a = c₄ .args in
     ap pickedOf
-    (arbitrated-same (a .priority .now) (core (a .request) (a .started) (a .enabled) (a .runner) (a .level))
-    (bid (a .enabled) (c₄ .union .ensures) (c₃ .intersection .ensures) (c₂ .winner .ensures)) (c₁ .byte-at .ensures) (c .if1 .taken))
+    (arbitrated-same (a .priority .now) (core (a .request) (a .started) (a .aside) (a .runner) (a .level))
+    (bid (c₃ .union .ensures) (c₂ .winner .ensures)) (c₁ .byte-at .ensures) (c .if1 .taken))
 
 has-requires : tie.Need-has-requires
 has-requires c κs = search needs
 
-used-up-requires : tie.Need-used-up-requires
-used-up-requires c κs = search needs
+without-where-requires : tie.Need-without-where-requires
+without-where-requires c κs = search needs
 
 with-requires : tie.Need-with-requires
 with-requires c κs = search needs
@@ -51,15 +48,15 @@ with-requires c κs = search needs
 cast-t16 : tie.Need-cast-t16
 cast-t16 c =
     let c₁ = c .before .before .before .before .before .before in let c₂ = c₁ .before in
-    omega (arith, winner-le (c₂ .intersection .result), (c₁ .winner .ensures))
+    omega (arith, winner-le (c₂ .union .result), (c₁ .winner .ensures))
 
 returns-2 : tie.Need-returns-2
 returns-2 c =
     let c₁ = c .before in let c₂ = c₁ .before in let c₃ = c₂ .before in let c₄ = c₃ .before in
-    let c₅ = c₄ .before .before in let c₆ = c₅ .before in let c₇ = c₆ .before in let c₈ = c₇ .before in let a = c₈ .args in
+    let c₅ = c₄ .before .before in let c₆ = c₅ .before in let c₇ = c₆ .before in let a = c₇ .args in
     ap pickedOf
-    (arbitrated-above (a .priority .now) (core (a .request) (a .started) (a .enabled) (a .runner) (a .level))
-    (bid (a .enabled) (c₇ .union .ensures) (c₆ .intersection .ensures) (c₅ .winner .ensures)) (c₄ .byte-at .ensures) (c₃ .if1 .left) (ap not (c₂ .has .ensures)) (c₁ .used-up .ensures) (c .with .ensures))
+    (arbitrated-above (a .priority .now) (core (a .request) (a .started) (a .aside) (a .runner) (a .level))
+    (bid (c₆ .union .ensures) (c₅ .winner .ensures)) (c₄ .byte-at .ensures) (c₃ .if1 .left) (ap not (c₂ .has .ensures)) (c₁ .without-where .ensures) (c .with .ensures))
 
 pub arbitrated-spec : {M : Type 1} → statement M
-arbitrated-spec = tie.close (tie.spec union-requires intersection-requires winner-requires cast-byte-at byte-at-requires returns has-requires used-up-requires with-requires cast-t16 returns-2)
+arbitrated-spec = tie.close (tie.spec union-requires winner-requires cast-byte-at byte-at-requires returns has-requires without-where-requires with-requires cast-t16 returns-2)

@@ -15,12 +15,12 @@ use Rattle.kernel.proofs.model.cells.take_each.Statement.{statement}
 use Rattle.kernel.proofs.model.cells.take_each.Tie as tie
 
 abbrev Inv-loop : tie.InvT-loop
-Inv-loop matched ranks started request losses₀ word₀ e₀ losses word e =
+Inv-loop matched ranks begun request losses₀ word₀ e₀ losses word e =
     (e ≤ maxEntries)
-    × (requestsDue started (drop e matched) (drop e ranks) (dueWith word losses) ≡ requestsDue started matched ranks (dueWith request losses₀))
+    × (requestsDue begun (drop e matched) (drop e ranks) (dueWith word losses) ≡ requestsDue begun matched ranks (dueWith request losses₀))
 
 abbrev μ-loop : tie.MeasureT-loop
-μ-loop matched ranks started request losses₀ word₀ e₀ losses word e = maxEntries - e
+μ-loop matched ranks begun request losses₀ word₀ e₀ losses word e = maxEntries - e
 
 loop-holds : tie.Need-loop-holds Inv-loop μ-loop
 loop-holds c = (omega arith, refl)
@@ -47,8 +47,8 @@ loop-again c =
       omega arith,
       ⊎-elim
           (λ w. rw (w .5, w .6)
-          (each-taken (a .started) (a .matched .now) (a .ranks .now) (l .e) (omega (arith, s .pre)) (dueWith (l .word) (l .losses)) (w .0 .taken) (w .2 .ensures) (w .4 .ensures)))
-          (λ w. rw (w .1, w .2) (each-left (a .started) (a .matched .now) (a .ranks .now) (l .e) (omega (arith, s .pre)) (dueWith (l .word) (l .losses)) (w .0 .left)))
+          (each-taken (a .begun) (a .matched .now) (a .ranks .now) (l .e) (omega (arith, s .pre)) (dueWith (l .word) (l .losses)) (w .0 .taken) (w .2 .ensures) (w .4 .ensures)))
+          (λ w. rw (w .1, w .2) (each-left (a .begun) (a .matched .now) (a .ranks .now) (l .e) (omega (arith, s .pre)) (dueWith (l .word) (l .losses)) (w .0 .left)))
           (c .if1 .came)
           ∙ l .inv .1,
     )
@@ -57,7 +57,7 @@ returns : tie.Need-returns Inv-loop μ-loop
 returns c = let s = c .before .before in
     let a = s .args in
     let l = c .before .loop in
-    sym (groups-end (a .started) (a .matched .now) (a .ranks .now) (l .e) (omega (arith, s .pre, c .loop-test .left)) (dueWith (l .word) (l .losses)))
+    sym (groups-end (a .begun) (a .matched .now) (a .ranks .now) (l .e) (omega (arith, s .pre, c .loop-test .left)) (dueWith (l .word) (l .losses)))
     ∙ l .inv .1
 
 pub take-each-spec : {M : Type 1} → statement M

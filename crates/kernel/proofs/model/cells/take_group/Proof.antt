@@ -15,13 +15,13 @@ use Rattle.kernel.proofs.model.cells.take_group.Statement.{statement}
 use Rattle.kernel.proofs.model.cells.take_group.Tie as tie
 
 abbrev Inv-loop : tie.InvT-loop
-Inv-loop from matched ranks started request losses₀ word₀ e₀ marks₀ losses word e marks =
-    (bs : List Bool) × Left started ranks (from + group)
-    (requestsDue started (take group (drop from matched)) (drop from ranks) (dueWith request losses₀))
+Inv-loop from matched ranks begun request losses₀ word₀ e₀ marks₀ losses word e marks =
+    (bs : List Bool) × Left begun ranks (from + group)
+    (requestsDue begun (take group (drop from matched)) (drop from ranks) (dueWith request losses₀))
     e marks (dueWith word losses) bs
 
 abbrev μ-loop : tie.MeasureT-loop
-μ-loop from matched ranks started request losses₀ word₀ e₀ marks₀ losses word e marks = from + group - e
+μ-loop from matched ranks begun request losses₀ word₀ e₀ marks₀ losses word e marks = from + group - e
 
 group-word-requires : tie.Need-group-word-requires Inv-loop μ-loop
 group-word-requires c κs = c .pre .0
@@ -29,7 +29,7 @@ group-word-requires c κs = c .pre .0
 loop-holds : tie.Need-loop-holds Inv-loop μ-loop
 loop-holds c = let s = c .before in let a = s .args in (
   take group (drop (a .from) (a .matched .now)),
-  left-start (a .started) (a .ranks .now) (a .from) (a .matched .now) (dueWith (a .request) (a .losses .now)) (s .pre .1) (c .group-word .ensures),
+  left-start (a .begun) (a .ranks .now) (a .from) (a .matched .now) (dueWith (a .request) (a .losses .now)) (s .pre .1) (c .group-word .ensures),
 )
 
 cast-e : tie.Need-cast-e Inv-loop μ-loop
@@ -63,7 +63,7 @@ loop-again c = let k = c .before .before .before .before in
 
 returns : tie.Need-returns Inv-loop μ-loop
 returns c = let a = c .before .before .before .args in let l = c .before .loop in
-    sym (due-unmarked (a .started) (l .inv .0) (drop (l .e) (a .ranks .now)) (dueWith (l .word) (l .losses)) (omega (arith, l .inv .1 .word, c .loop-test .left)))
+    sym (due-unmarked (a .begun) (l .inv .0) (drop (l .e) (a .ranks .now)) (dueWith (l .word) (l .losses)) (omega (arith, l .inv .1 .word, c .loop-test .left)))
     ∙ l .inv .1 .due
 
 pub take-group-spec : {M : Type 1} → statement M

@@ -18,13 +18,13 @@ record Taken (k e : ℕ) : Type 0 where
   reached : e ≤ maxEntries
 
 abbrev Inv-loop : tie.InvT-loop
-Inv-loop matched ranks started request losses₀ word₀ e₀ losses word e =
+Inv-loop matched ranks begun request losses₀ word₀ e₀ losses word e =
     ((k : ℕ) × Taken k e)
-    × (requestsDue started (drop e matched) (drop e ranks) (dueWith word losses)
-    ≡ requestsDue started matched ranks (dueWith request losses₀))
+    × (requestsDue begun (drop e matched) (drop e ranks) (dueWith word losses)
+    ≡ requestsDue begun matched ranks (dueWith request losses₀))
 
 abbrev μ-loop : tie.MeasureT-loop
-μ-loop matched ranks started request losses₀ word₀ e₀ losses word e = maxEntries - e
+μ-loop matched ranks begun request losses₀ word₀ e₀ losses word e = maxEntries - e
 
 loop-holds : tie.Need-loop-holds Inv-loop μ-loop
 loop-holds c = ((0, record { at = refl; reached = omega arith }), refl)
@@ -48,7 +48,7 @@ loop-again c =
     let l = k .loop in
     let g = l .inv .0 in (
       (g .0 + 1, record { at = omega (arith, g .1 .at); reached = omega (arith, g .1 .at) }),
-      group-turn (a .started) (a .matched .now) (a .ranks .now) (l .e) (omega (arith, g .1 .at, s .pre)) (dueWith (l .word) (l .losses)) (c .take-group .ensures)
+      group-turn (a .begun) (a .matched .now) (a .ranks .now) (l .e) (omega (arith, g .1 .at, s .pre)) (dueWith (l .word) (l .losses)) (c .take-group .ensures)
           ∙ l .inv .1,
     )
 
@@ -56,7 +56,7 @@ returns : tie.Need-returns Inv-loop μ-loop
 returns c = let s = c .before .before in
     let a = s .args in
     let l = c .before .loop in
-    sym (groups-end (a .started) (a .matched .now) (a .ranks .now) (l .e) (omega (arith, s .pre, c .loop-test .left)) (dueWith (l .word) (l .losses)))
+    sym (groups-end (a .begun) (a .matched .now) (a .ranks .now) (l .e) (omega (arith, s .pre, c .loop-test .left)) (dueWith (l .word) (l .losses)))
     ∙ l .inv .1
 
 pub take-matches-spec : {M : Type 1} → statement M

@@ -1,0 +1,25 @@
+-- `resumes` meets its contract, by the two cases of its first test.
+-- Assumes nothing.
+use mathlib.Core.Path.{sym, _∙_}
+use Rattle.scheduler.specs.Bits.{anySet}
+use Rattle.word.specs.Word.{has}
+use Rattle.kernel.proofs.Methods.Tests.{and-first}
+use borrow.Author.Needs.{needs}
+use Rattle.kernel.proofs.model.events.resumes.Statement.{statement}
+use Rattle.kernel.proofs.model.events.resumes.Tie as tie
+
+has-requires : tie.Need-has-requires
+has-requires c κs = search needs
+
+any-set-requires : tie.Need-any-set-requires
+any-set-requires c κs = search needs
+
+returns : tie.Need-returns
+returns c = rw (sym (c .before .before .has .ensures) ∙ c .before .if1 .taken) (c .any-set .ensures)
+
+returns-2 : tie.Need-returns-2
+returns-2 c = let a = c .before .before .args in
+    and-first (has (a .aside) (a .rank)) (anySet (a .bits) (a .mask)) (c .before .has .ensures) (c .if1 .left)
+
+pub resumes-spec : {M : Type 1} → statement M
+resumes-spec = tie.close (tie.spec has-requires any-set-requires returns returns-2)
