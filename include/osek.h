@@ -136,12 +136,17 @@ enum {
                                       place: its last byte, the superfluous 00 */
     OSEK_CONFIG_VERSION = 3,       /* the version is neither 1 nor 2 */
     OSEK_CONFIG_COUNT = 4,         /* a count of bodies, resources, tables or entries outside its range */
-    OSEK_CONFIG_FIELD = 5,         /* another field outside its range; an entry's task that is no task */
+    OSEK_CONFIG_FIELD = 5,         /* another field outside its range; an entry's task that is no task; a mask with a
+                                      bit for a body of kind 3 */
     OSEK_CONFIG_PRIORITY_USED = 6, /* a priority that a body before has */
     OSEK_CONFIG_ENTRY_ORDER = 7,   /* an entry not after the one before it; place: its task's number */
     OSEK_CONFIG_ENTRY_TOTAL = 8,   /* an entry count that makes more than 64 in all */
     OSEK_CONFIG_LEFT_OVER = 9,     /* bytes after the last table; place: the first of them */
     OSEK_CONFIG_TOO_LONG = 10,     /* the configuration is over OSEK_CONFIG_MAX bytes; place: 0 */
+    OSEK_CONFIG_OFFSET_USED = 13,  /* an entry with the offset of the one before it, where the task of either is of
+                                      kind 3; place: its task's number; after 7 */
+    OSEK_CONFIG_TABLE_MIXED = 14,  /* a table with tasks of kind 3 and others, or a second one with tasks of kind 3;
+                                      place: the first task's number that makes it so; after 13 */
     OSEK_TRACE_TOO_LONG = 20,      /* the trace is over OSEK_TRACE_MAX bytes; place: 0 */
     OSEK_TRACE_CUT = 21,           /* as OSEK_CONFIG_CUT, in the trace; place: trace_len */
     OSEK_TRACE_NUMBER = 22,        /* as OSEK_CONFIG_NUMBER, in the trace, with the same places */

@@ -270,7 +270,7 @@ const CUT: &str = "the input ends where a number, or the rest of one, is missing
 const MALFORMED: &str = "a number is above 4,294,967,295 or not in its shortest form";
 
 /// Those of the run, then those of the bench program.
-pub const REFUSALS: [RefusalWord; 17] = [
+pub const REFUSALS: [RefusalWord; 19] = [
     refusal_word(1, About::Unread(Part::Config), CUT),
     refusal_word(2, About::Unread(Part::Config), MALFORMED),
     refusal_word(3, About::Range, "the version is unknown"),
@@ -281,6 +281,8 @@ pub const REFUSALS: [RefusalWord; 17] = [
     refusal_word(8, About::EntryTotal, "an entry count takes the total over 64"),
     refusal_word(9, About::LeftOver, "bytes are left over after the configuration"),
     refusal_word(10, About::TooLong(Part::Config), "the configuration is longer than 4,096 bytes"),
+    refusal_word(13, About::Range, "an entry has the offset of the one before it, and the task of either is of kind 3"),
+    refusal_word(14, About::Range, "a table has tasks of kind 3 and others, or is the second that has tasks of kind 3"),
     refusal_word(20, About::TooLong(Part::Trace), "the trace is longer than 8,192 bytes"),
     refusal_word(21, About::Unread(Part::Trace), CUT),
     refusal_word(22, About::Unread(Part::Trace), MALFORMED),

@@ -3,7 +3,7 @@
 -- Assumes nothing.
 use Prim.Native.Nat.{ℕ, zero, suc, _+_, _*_, _-_, _≤_, _<_}
 use mathlib.Core.Path.{_≡_}
-use mathlib.Core.Bool.{false, not, _||_, true≢false}
+use mathlib.Core.Bool.{Bool, true, false, cond, not, true≢false}
 use mathlib.Core.List.{List, [], _∷_}
 use native.Mathlib.Omega.{arith}
 use lib.Dec.{ltb, eqb}
@@ -12,13 +12,13 @@ use lib.Pow.{pow-mono}
 use borrow.Author.Tests.{eq-eqb, ne-eqb, ltb-true}
 use Rattle.number.specs.Refusal.{none}
 use Rattle.number.specs.Number.{numberBound}
-use Rattle.number.proofs.Cases.{by-test, by-eq, and-true}
+use Rattle.number.proofs.Cases.{by-eq, and-true}
 use Rattle.config.specs.declared.Draft.{Draft}
 use Rattle.config.specs.declared.Field.{Field}
 use Rattle.config.specs.declared.Field.the-variants.{Version, Bodies, Kind, Priority, Autostart, Resources, Users, Tables, Period, Entries, Offset, Task, End}
-use Rattle.config.specs.Meaning.{isr, timeTriggered}
+use Rattle.config.specs.Meaning.{isr}
 use Rattle.config.specs.Value.{maxBodies, maxResources, maxTables, maxEntries}
-use Rattle.config.specs.Draft.{mostAutostart, fault, put, putAt, ended, start, Inside, Within}
+use Rattle.config.specs.Draft.{startable, mostAutostart, fault, put, putAt, ended, start, Inside, Within}
 use Rattle.config.proofs.Padded.{getD-zeros}
 use Rattle.config.proofs.Ranges.{InRange, in-range}
 
@@ -144,10 +144,11 @@ pub start-paced : Paced start
 start-paced t = rw (getD-zeros maxTables t) (omega arith)
 
 most-le : (k : ℕ) → mostAutostart k ≤ 1
-most-le k =
-    by-test (eqb k isr || eqb k timeTriggered)
-    (λ p. rw p (omega arith))
-    (λ p. rw p (omega arith))
+most-le k = at-most (startable k)
+  where
+    at-most : (b : Bool) → cond b 1 0 ≤ 1
+    at-most true = omega arith
+    at-most false = omega arith
 
 -- a number in order is a number of the format
 small-at : (f : Field) (d : Draft) (v : ℕ) → ended f ≡ false → Standing f d → Paced d → InRange f d v → v < numberBound

@@ -1,5 +1,5 @@
--- Document 01's refusals of a configuration with their places, row by row and with the numbers written out: the reader's on both sides of each
--- limit, the order of two faults, then the writer's. Each is computed from the definitions that the contracts cite.
+-- Document 01's refusals of a configuration with their places, row by row and with the numbers written out, and document 02's for kind 3: the
+-- reader's on both sides of each limit, the order of two faults, then the writer's. Each is computed from the definitions that the contracts cite.
 --
 -- An input that ends after a number which is in order is refused with 1 at its end, so that (1, n) says: the n bytes are in order.
 -- Assumes nothing.
@@ -34,6 +34,14 @@ tasks (suc n) = 0x00 ∷ suc n ∷ 0x00 ∷ tasks n
 -- tasks 0 and 2 and ISR 1, and a table of period 4 up to its entry count
 abbrev threeBodies : List ℕ
 threeBodies = 0x01 ∷ 0x03 ∷ 0x00 ∷ 0x05 ∷ 0x00 ∷ 0x01 ∷ 0x06 ∷ 0x00 ∷ 0x00 ∷ 0x07 ∷ 0x00 ∷ 0x00 ∷ 0x01 ∷ 0x04 ∷ []
+
+-- tasks 0 and 3 of kind 0, tasks 1 and 2 of kind 3, up to the resource count
+abbrev timedBodies : List ℕ
+timedBodies = 0x01 ∷ 0x04 ∷ 0x00 ∷ 0x05 ∷ 0x00 ∷ 0x03 ∷ 0x06 ∷ 0x00 ∷ 0x03 ∷ 0x07 ∷ 0x00 ∷ 0x00 ∷ 0x08 ∷ 0x00 ∷ []
+
+-- the same with a table of period 4 and two entries, up to the first of them
+abbrev twoEntries : List ℕ
+twoEntries = timedBodies ++ 0x00 ∷ 0x01 ∷ 0x04 ∷ 0x02 ∷ []
 
 -- a table of 16 entries
 abbrev sixteen : List ℕ
@@ -85,6 +93,49 @@ pub record ReaderRows : Type 0 where
       ≡ (7, 18) ∷ (7, 18) ∷ (0, 19) ∷ (5, 18) ∷ (7, 18) ∷ []
   -- the entries of another table need not come after those of the one before
   pub next-table : answers (noResource ++ 0x02 ∷ 0x04 ∷ 0x01 ∷ 0x03 ∷ 0x00 ∷ []) ((0x04 ∷ 0x01 ∷ 0x00 ∷ 0x00 ∷ []) ∷ []) ≡ (0, 15) ∷ []
+  -- a body of kind 3: its priority has the range of the others and is its own, and it may not be autostart
+  pub priority-timed : answers (0x01 ∷ 0x02 ∷ 0x03 ∷ 0x05 ∷ 0x00 ∷ 0x03 ∷ []) ((0x00 ∷ []) ∷ (0x04 ∷ []) ∷ (0x05 ∷ []) ∷ (0xC9 ∷ 0x01 ∷ []) ∷ [])
+      ≡ (5, 6) ∷ (1, 7) ∷ (6, 6) ∷ (5, 6) ∷ []
+  pub autostart-timed : answers (0x01 ∷ 0x01 ∷ 0x03 ∷ 0x05 ∷ []) ((0x00 ∷ []) ∷ (0x01 ∷ []) ∷ (0x02 ∷ []) ∷ []) ≡ (1, 5) ∷ (5, 4) ∷ (5, 4) ∷ []
+  -- the masks of bodies 0, 3, both; then those with the bit of body 1, of body 2, or of a body that is not there
+  pub users-timed : answers (timedBodies ++ 0x01 ∷ []) (
+      (0x01 ∷ []) ∷ (0x08 ∷ []) ∷ (0x09 ∷ []) ∷ (0x02 ∷ []) ∷ (0x04 ∷ []) ∷ (0x03 ∷ []) ∷ (0x0D ∷ []) ∷ (0x0F ∷ []) ∷ (0x12 ∷ []) ∷ []
+      )
+      ≡ (1, 16) ∷ (1, 16) ∷ (1, 16) ∷ (5, 15) ∷ (5, 15) ∷ (5, 15) ∷ (5, 15) ∷ (5, 15) ∷ (5, 15) ∷ []
+  -- no table has it; a table has it alone
+  pub task-timed : answers (timedBodies ++ 0x00 ∷ []) ((0x00 ∷ []) ∷ (0x01 ∷ 0x04 ∷ 0x01 ∷ 0x03 ∷ 0x01 ∷ []) ∷ []) ≡ (0, 16) ∷ (0, 20) ∷ []
+  -- after offset 1: the same offset where the second is of kind 3, the first, both, none; another offset where both are
+  pub offset-shared : answers (twoEntries ++ 0x01 ∷ []) (
+      (0x00 ∷ 0x01 ∷ 0x01 ∷ []) ∷ (0x01 ∷ 0x01 ∷ 0x03 ∷ []) ∷ (0x01 ∷ 0x01 ∷ 0x02 ∷ []) ∷ (0x00 ∷ 0x01 ∷ 0x03 ∷ []) ∷ (0x01 ∷ 0x02 ∷ 0x02 ∷ []) ∷ []
+      )
+      ≡ (13, 21) ∷ (13, 21) ∷ (13, 21) ∷ (0, 22) ∷ (0, 22) ∷ []
+  -- 5 before 13, and 7 before 13: no body 4; tasks 2 and 1, tasks 3 and 1, task 1 twice
+  pub shared-later : answers (twoEntries ++ 0x01 ∷ []) (
+      (0x01 ∷ 0x01 ∷ 0x04 ∷ []) ∷ (0x02 ∷ 0x01 ∷ 0x01 ∷ []) ∷ (0x03 ∷ 0x01 ∷ 0x01 ∷ []) ∷ (0x01 ∷ 0x01 ∷ 0x01 ∷ []) ∷ []
+      )
+      ≡ (5, 21) ∷ (7, 21) ∷ (7, 21) ∷ (7, 21) ∷ []
+  -- kind 3 after kind 0, and kind 0 after kind 3; 7 before 14
+  pub table-mixed : answers (twoEntries ++ 0x01 ∷ []) ((0x00 ∷ 0x02 ∷ 0x01 ∷ []) ∷ (0x01 ∷ 0x02 ∷ 0x00 ∷ []) ∷ (0x01 ∷ 0x00 ∷ 0x00 ∷ []) ∷ [])
+      ≡ (14, 21) ∷ (14, 21) ∷ (7, 21) ∷ []
+  -- the same at the third of three entries
+  pub mixed-later : answers (timedBodies ++ 0x00 ∷ 0x01 ∷ 0x04 ∷ 0x03 ∷ []) (
+      (0x00 ∷ 0x00 ∷ 0x01 ∷ 0x03 ∷ 0x02 ∷ 0x01 ∷ []) ∷ (0x00 ∷ 0x01 ∷ 0x01 ∷ 0x02 ∷ 0x02 ∷ 0x00 ∷ [])
+      ∷ (0x00 ∷ 0x01 ∷ 0x01 ∷ 0x02 ∷ 0x02 ∷ 0x01 ∷ []) ∷ []
+      )
+      ≡ (14, 23) ∷ (14, 23) ∷ (0, 24) ∷ []
+  -- after a table with offset 1 and task 1: tasks 0, 1 and 2 at the same offset; task 2 and then task 1; task 0 and then task 1, at another
+  -- offset and at the same
+  pub table-second : answers (timedBodies ++ 0x00 ∷ 0x02 ∷ 0x04 ∷ 0x01 ∷ 0x01 ∷ 0x01 ∷ 0x04 ∷ []) (
+      (0x01 ∷ 0x01 ∷ 0x00 ∷ []) ∷ (0x01 ∷ 0x01 ∷ 0x01 ∷ []) ∷ (0x01 ∷ 0x01 ∷ 0x02 ∷ []) ∷ (0x02 ∷ 0x00 ∷ 0x02 ∷ 0x01 ∷ 0x01 ∷ [])
+      ∷ (0x02 ∷ 0x00 ∷ 0x00 ∷ 0x01 ∷ 0x01 ∷ []) ∷ (0x02 ∷ 0x01 ∷ 0x00 ∷ 0x01 ∷ 0x01 ∷ []) ∷ []
+      )
+      ≡ (0, 24) ∷ (14, 23) ∷ (14, 23) ∷ (14, 23) ∷ (14, 25) ∷ (13, 25) ∷ []
+  -- three tables of an entry: of kind 3 the second alone, the last two, the first and the last
+  pub table-third : answers (timedBodies ++ 0x00 ∷ 0x03 ∷ 0x04 ∷ 0x01 ∷ 0x00 ∷ []) (
+      (0x00 ∷ 0x04 ∷ 0x01 ∷ 0x00 ∷ 0x01 ∷ 0x04 ∷ 0x01 ∷ 0x00 ∷ 0x00 ∷ []) ∷ (0x00 ∷ 0x04 ∷ 0x01 ∷ 0x00 ∷ 0x01 ∷ 0x04 ∷ 0x01 ∷ 0x00 ∷ 0x02 ∷ [])
+      ∷ (0x01 ∷ 0x04 ∷ 0x01 ∷ 0x00 ∷ 0x00 ∷ 0x04 ∷ 0x01 ∷ 0x00 ∷ 0x02 ∷ []) ∷ []
+      )
+      ≡ (0, 28) ∷ (14, 27) ∷ (14, 27) ∷ []
   pub left-over : answers (noResource ++ 0x00 ∷ []) ([] ∷ (0x00 ∷ []) ∷ (0x80 ∷ 0x80 ∷ []) ∷ []) ≡ (0, 7) ∷ (9, 7) ∷ (9, 7) ∷ []
 
 pub reader-rows : ReaderRows
@@ -113,6 +164,16 @@ reader-rows =
       task-extended = refl;
       entry-order = refl;
       next-table = refl;
+      priority-timed = refl;
+      autostart-timed = refl;
+      users-timed = refl;
+      task-timed = refl;
+      offset-shared = refl;
+      shared-later = refl;
+      table-mixed = refl;
+      mixed-later = refl;
+      table-second = refl;
+      table-third = refl;
       left-over = refl;
     }
 
@@ -127,6 +188,13 @@ value = readConfig listing .config
 -- a value with 64 entries
 abbrev full : Config
 full = readConfig (noResource ++ 0x04 ∷ sixtyFour) .config
+
+-- a resource of tasks 0 and 3, and a table with tasks 1 and 2 of kind 3
+abbrev timedListing : List ℕ
+timedListing = timedBodies ++ 0x01 ∷ 0x09 ∷ 0x01 ∷ 0x04 ∷ 0x02 ∷ 0x01 ∷ 0x01 ∷ 0x02 ∷ 0x02 ∷ []
+
+abbrev timed : Config
+timed = readConfig timedListing .config
 
 -- the writer's refusal and place, with room for n bytes
 abbrev answer : ℕ → Config → ℕ × ℕ
@@ -148,6 +216,15 @@ pub record WriterRows : Type 0 where
       × (wroteConfig (withVersion value 3) (replicate 22 0xFF) ≡ replicate 22 0xFF)
   -- version 2 is written as it is
   pub second : wroteConfig (withVersion value 2) (replicate 20 0xFF) ≡ 0x02 ∷ drop 1 listing
+  -- kind 3: its autostart, a mask bit for it; offset 1 for both entries, with a task of kind 0 as the second too, and with task 2 for both;
+  -- task 0 as the first, task 3 as the second; a second table; kind 4
+  pub refused-timed : map (answer 0) (
+      withAutostart timed 1 1 ∷ withUsers timed 0 3 ∷ withOffset timed 1 1 ∷ withOffset (withTask timed 1 3) 1 1 ∷ withOffset (withTask timed 0 2) 1 1
+      ∷ withTask timed 0 0 ∷ withTask timed 1 3 ∷ withTask (withEntries (withPeriod (withTables timed 2) 1 4) 1 1) 2 1 ∷ withKind timed 1 4 ∷ []
+      )
+      ≡ (5, 0) ∷ (5, 0) ∷ (13, 0) ∷ (13, 0) ∷ (7, 0) ∷ (14, 0) ∷ (14, 0) ∷ (14, 0) ∷ (5, 0) ∷ []
+  -- and in order
+  pub written-timed : (answer 22 timed ≡ (30, 23)) × (wroteConfig timed (replicate 24 0xFF) ≡ timedListing ++ 0xFF ∷ [])
   -- entries past the counts are ignored
   pub past : answer 20 (withKind (withUsers (withTask value 2 200) 1 77) 3 9) ≡ (0, 20)
 
@@ -159,5 +236,7 @@ writer-rows =
       refused = refl;
       output = (refl, refl, refl);
       second = refl;
+      refused-timed = refl;
+      written-timed = (refl, refl);
       past = refl;
     }

@@ -66,7 +66,8 @@ sharesOffset d v =
 
 -- "a mixed .. table": of v and the entry before it one is of kind 3. All before them are alike, so the first that differs is found.
 abbrev pub mixes : Draft → ℕ → Bool
-mixes d v = not (firstEntry d) && cond (isTimed (d .config) v) (not (isTimed (d .config) (taskBefore d))) (isTimed (d .config) (taskBefore d))
+mixes d v =
+    not (firstEntry d) && cond (isTimed (d .config) v) (not (isTimed (d .config) (taskBefore d))) (isTimed (d .config) (taskBefore d))
 
 -- one of the tasks is of kind 3
 unfoldable pub someTimed : Config → List ℕ → Bool
@@ -81,9 +82,12 @@ tasksBefore d = take (d .until - getD (d .config .entries) (d .index) 0) (d .con
 abbrev pub secondTable : Draft → ℕ → Bool
 secondTable d v = isTimed (d .config) v && someTimed (d .config) (tasksBefore d)
 
--- "autostart (0 or 1; 0 for an ISR)", and "5 for its autostart" where the body is of kind 3
+-- "autostart (0 or 1; 0 for an ISR)", and 0 for a body of kind 3 too: "5 for its autostart"
+abbrev pub startable : ℕ → Bool
+startable kind = not (eqb kind isr || eqb kind timeTriggered)
+
 abbrev pub mostAutostart : ℕ → ℕ
-mostAutostart kind = cond (eqb kind isr || eqb kind timeTriggered) 0 1
+mostAutostart kind = cond (startable kind) 1 0
 
 -- the mask has a bit of kind 3, where the list has the bodies' kinds, that of the lowest bit first
 unfoldable pub timedIn : ℕ → List ℕ → Bool
@@ -110,8 +114,7 @@ faultAt Offset d v = unless (ltb v (getD (d .config .period) (d .index) 0)) badF
 faultAt Task d v =
     andThen (unless (isTask (d .config) v) badField)
     (andThen (unless (sorted d v) unsorted)
-    (andThen (unless (not (sharesOffset d v)) sharedOffset)
-    (unless (not (mixes d v || secondTable d v)) mixedTable)))
+    (andThen (unless (not (sharesOffset d v)) sharedOffset) (unless (not (mixes d v || secondTable d v)) mixedTable)))
 faultAt End d v = none
 
 abbrev pub fault : Draft → ℕ → ℕ

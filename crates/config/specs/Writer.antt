@@ -45,7 +45,7 @@ configBytes c = bytesFrom maxNumbers c start
 abbrev pub measured : Config → Written
 measured c = cond (eqb (firstFault c) none) (record { refusal = none; place = length (configBytes c) }) (unwritten (firstFault c) 0)
 
--- "refuse with 3 to 8 in the reader's order .. all at place 0, then 30"
+-- "refuse with 3 to 8 in the reader's order .. all at place 0, then 30"; 13 and 14 too: "(writer: 0)"
 abbrev pub writeConfig : Config → ℕ → Written
 writeConfig c n = cond (eqb (firstFault c) none) (writing (configBytes c) n) (unwritten (firstFault c) 0)
 

@@ -1,6 +1,7 @@
 -- What the proofs of the functions share: over a draft, in the reader, in the writer. The laws of configurations are those of `config`.
 mod Within
 mod Used
+mod Timed
 mod ReaderWalk
 mod WriterWalk
 mod Measure

@@ -6,7 +6,7 @@ use mathlib.Core.Path.{_≡_, refl, sym, subst, _∙_}
 use mathlib.Core.Bool.{Bool, true, false, cond, _&&_}
 use native.Mathlib.Omega.{arith}
 use borrow.Author.Tests.{eq-eqb, ne-eqb, leb-true, ltb-true}
-use lib.Dec.{lit<, leb, eqb}
+use lib.Dec.{lit<, leb}
 use lib.ListN.{getD}
 use Rattle.number.specs.Refusal.{none}
 use Rattle.number.proofs.Cases.{by-eq}
@@ -14,9 +14,9 @@ use Rattle.config.specs.declared.Draft.{Draft}
 use Rattle.config.specs.declared.Field.{Field}
 use Rattle.config.specs.declared.Field.the-variants.{Version, Bodies, Kind, Priority, Autostart, Resources, Users, Tables, Period, Entries, Offset, Task, End}
 use Rattle.config.specs.Refusal.{badVersion, badCount, badField, tooManyEntries}
-use Rattle.config.specs.Meaning.{isr, lastKind, isTask}
+use Rattle.config.specs.Meaning.{lastKind, isTask}
 use Rattle.config.specs.Value.{newestVersion, maxPriority, maxEntries}
-use Rattle.config.specs.Draft.{unless, outside, andThen, mostAutostart, fault, faultAt, Inside, Within}
+use Rattle.config.specs.Draft.{unless, outside, andThen, startable, mostAutostart, fault, faultAt, Inside, Within}
 
 -- tests that give no refusal
 unless-none : (ok : Bool) (r : ℕ) → 0 < r → unless ok r ≡ none → ok ≡ true
@@ -73,13 +73,13 @@ small-at Priority d v e = outside-none 1 maxPriority v badField (lit< tt) (andTh
 small-at Autostart d v e = autostart (getD (d .config .kind) (d .index) 0) (outside-none 0 _ v badField (lit< tt) e .1)
   where
     autostart : (k : ℕ) → v ≤ mostAutostart k → v ≤ 1
-    autostart k = go (eqb k isr)
+    autostart k = go (startable k)
       where
-        go : (b : Bool) → v ≤ cond b 0 1 → v ≤ 1
-        go true h = omega arith
-        go false h = h
+        go : (b : Bool) → v ≤ cond b 1 0 → v ≤ 1
+        go true h = h
+        go false h = omega arith
 small-at Resources d v e = outside-none 0 16 v badCount (lit< tt) e .1
-small-at Users d v e = outside-none 1 (2 ^ d .config .bodies - 1) v badField (lit< tt) e .1
+small-at Users d v e = outside-none 1 (2 ^ d .config .bodies - 1) v badField (lit< tt) (andThen-first _ _ e) .1
 small-at Tables d v e = outside-none 0 8 v badCount (lit< tt) e .1
 small-at Period d v e = outside-none 1 65535 v badField (lit< tt) e .1
 small-at Entries d v e = (

@@ -3,18 +3,21 @@ use config::Config;
 use config::Draft;
 use config::Field;
 ghost use mathlib.Core.Path.{_≡_};
-ghost use Prim.Native.Nat.{_+_, _-_, _^_, _<_, _≤_};
+ghost use mathlib.Core.Bool.{not, _&&_, _||_};
+ghost use Prim.Native.Nat.{_+_, _-_, _%_, _^_, _<_, _≤_};
+ghost use lib.Dec.{eqb};
 ghost use lib.ListN.{take};
 ghost use Rattle.number.specs.Refusal.{none};
-ghost use Rattle.config.specs.Meaning.{isTask};
+ghost use Rattle.config.specs.Refusal.{sharedOffset, mixedTable};
+ghost use Rattle.config.specs.Meaning.{timeTriggered, isTask, isTimed};
 ghost use Rattle.config.specs.Value.{noConfig};
-ghost use Rattle.config.specs.Draft.{Within, unless, outside, andThen, occurs, mostAutostart, rises, sorted, fault, faultAt, put, asked, ended, orOn, onTo, row, start};
+ghost use Rattle.config.specs.Draft.{Within, unless, outside, andThen, occurs, mostAutostart, timedIn, rises, firstEntry, sorted, sharesOffset, mixes, someTimed, secondTable, fault, faultAt, put, asked, ended, orOn, onTo, row, start};
 
 // The version is neither 1 nor 2.
 const BAD_VERSION: u8 = 3;
 // A count is outside its range.
 const BAD_COUNT: u8 = 4;
-// Another field is outside its range, or an entry's task is an ISR.
+// Another field is outside its range, an entry's task is an ISR, or a mask has a bit for a body of kind 3.
 const BAD_FIELD: u8 = 5;
 // A body before has this priority.
 const USED_PRIORITY: u8 = 6;
@@ -22,6 +25,10 @@ const USED_PRIORITY: u8 = 6;
 const UNSORTED: u8 = 7;
 // This entry count takes the total over 64.
 const TOO_MANY_ENTRIES: u8 = 8;
+// An entry has the offset of the one before it, and either is of kind 3.
+const SHARED_OFFSET: u8 = 13;
+// A table has entries of kind 3 and others, or is the second that has entries of kind 3.
+const MIXED_TABLE: u8 = 14;
 
 const NEWEST_VERSION: u32 = 2;
 
@@ -37,8 +44,10 @@ const MAX_ENTRIES: usize = 64;
 // An ISR's kind; whatever is no ISR is a task.
 const ISR: u8 = 1;
 
-// The last kind that there is: an extended task's.
-const LAST_KIND: u32 = 2;
+// A time-triggered task's kind, the last that there is.
+const TIME_TRIGGERED: u8 = 3;
+
+const LAST_KIND: u32 = 3;
 
 // The refusal, unless the test holds.
 fn unless(ok: bool, refusal: u8) -> u8
@@ -97,7 +106,10 @@ fn priority_fault(d: Draft, v: u32) -> u8
 fn most_autostart(kind: u8) -> u32
     ensures { λ r. ⌜ r ≡ mostAutostart kind ⌝ }
 {
-    if kind == ISR { 0 } else { 1 }
+    if kind == ISR {
+        return 0;
+    }
+    if kind == TIME_TRIGGERED { 0 } else { 1 }
 }
 
 // The refusal of an autostart.
@@ -123,13 +135,46 @@ fn all_bodies(bodies: u8) -> u32
     }
 }
 
+// Whether the mask's lowest bit is set, and the kind is 3.
+fn timed_bit(mask: u32, kind: u8) -> bool
+    ensures { λ r. ⌜ r ≡ (eqb (mask % 2) 1 && eqb kind timeTriggered) ⌝ }
+{
+    if mask % 2 == 1 {
+        kind == TIME_TRIGGERED
+    } else {
+        false
+    }
+}
+
+// Whether the mask has a bit for one of the first `n` bodies that is of kind 3.
+fn timed_in(mask: u32, n: usize, kind: [u8; 32]) -> bool
+    requires { ⌜ n ≤ 32 ⌝ }
+    ensures { λ r. ⌜ r ≡ timedIn mask (take n kind) ⌝ }
+{
+    let mut m = mask;
+    let mut i = 0;
+    while i < n {
+        if timed_bit(m, kind[i]) {
+            return true;
+        }
+        m /= 2;
+        i += 1;
+    }
+    false
+}
+
 // The refusal of a mask of users.
 fn users_fault(d: Draft, v: u32) -> u8
     requires { ⌜ d .config .bodies ≤ 32 ⌝ }
     ensures { λ r. ⌜ r ≡ faultAt Field.Users d v ⌝ }
 {
     let c = d.config;
-    outside(1, all_bodies(c.bodies), v, BAD_FIELD)
+    let kind = c.kind;
+    let timed = timed_in(v, c.bodies as usize, kind);
+    and_then(
+        outside(1, all_bodies(c.bodies), v, BAD_FIELD),
+        unless(!timed, BAD_FIELD),
+    )
 }
 
 // The refusal of a table's number of entries.
@@ -169,6 +214,20 @@ fn is_task(c: Config, v: u32) -> bool
     }
 }
 
+// Whether `v` is the number of a time-triggered task.
+fn is_timed(c: Config, v: u32) -> bool
+    requires { ⌜ c .bodies ≤ 32 ⌝ }
+    ensures { λ r. ⌜ r ≡ isTimed c v ⌝ }
+{
+    if v < c.bodies as u32 {
+        let i = v as usize;
+        let kind = c.kind;
+        kind[i] == TIME_TRIGGERED
+    } else {
+        false
+    }
+}
+
 // Whether an entry comes after the one before it.
 fn rises(offset: u16, task: u8, next: u16, v: u32) -> bool
     ensures { λ r. ⌜ r ≡ rises offset task next v ⌝ }
@@ -189,32 +248,138 @@ fn before(e: usize) -> usize
     if e == 0 { 0 } else { e - 1 }
 }
 
+// The difference, 0 where there is none.
+fn less(a: usize, b: usize) -> usize
+    ensures { λ r. ⌜ r ≡ a - b ⌝ }
+{
+    if a < b { 0 } else { a - b }
+}
+
+// Whether the entry is the first of its table.
+fn first_entry(d: Draft) -> bool
+    requires { ⌜ (d .index < 8) × (d .entry < 64) ⌝ }
+    ensures { λ r. ⌜ r ≡ firstEntry d ⌝ }
+{
+    let c = d.config;
+    let i = d.index;
+    let entries = c.entries;
+    d.entry + entries[i] as usize == d.until
+}
+
 // Whether the entry, with the task `v`, is the first of its table or comes after the one before it.
 fn sorted(d: Draft, v: u32) -> bool
     requires { ⌜ (d .index < 8) × (d .entry < 64) ⌝ }
     ensures { λ r. ⌜ r ≡ sorted d v ⌝ }
 {
-    let c = d.config;
-    let i = d.index;
-    let e = d.entry;
-    let entries = c.entries;
-    let offset = c.offset;
-    let task = c.task;
-    if e + entries[i] as usize == d.until {
+    if first_entry(d) {
         return true;
     }
+    let c = d.config;
+    let e = d.entry;
+    let offset = c.offset;
+    let task = c.task;
     let b = before(e);
     rises(offset[b], task[b], offset[e], v)
 }
 
+// Whether the entry, with the task `v`, has the offset of the one before it in its table, and either is of kind 3.
+fn shares_offset(d: Draft, v: u32) -> bool
+    requires { ⌜ (d .config .bodies ≤ 32) × ((d .index < 8) × (d .entry < 64)) ⌝ }
+    ensures { λ r. ⌜ r ≡ sharesOffset d v ⌝ }
+{
+    if first_entry(d) {
+        return false;
+    }
+    let c = d.config;
+    let e = d.entry;
+    let offset = c.offset;
+    let task = c.task;
+    let b = before(e);
+    if offset[b] != offset[e] {
+        return false;
+    }
+    if is_timed(c, task[b] as u32) {
+        return true;
+    }
+    is_timed(c, v)
+}
+
+// Whether of the entry, with the task `v`, and the one before it in its table one is of kind 3.
+fn mixes(d: Draft, v: u32) -> bool
+    requires { ⌜ (d .config .bodies ≤ 32) × ((d .index < 8) × (d .entry < 64)) ⌝ }
+    ensures { λ r. ⌜ r ≡ mixes d v ⌝ }
+{
+    if first_entry(d) {
+        return false;
+    }
+    let c = d.config;
+    let task = c.task;
+    let b = before(d.entry);
+    let was = is_timed(c, task[b] as u32);
+    if is_timed(c, v) { !was } else { was }
+}
+
+// Whether one of the first `n` entries is of kind 3.
+fn some_timed(c: Config, n: usize) -> bool
+    requires { ⌜ (c .bodies ≤ 32) × (n ≤ 64) ⌝ }
+    ensures { λ r. ⌜ r ≡ someTimed c (take n (c .task)) ⌝ }
+{
+    let task = c.task;
+    let mut i = 0;
+    while i < n {
+        if is_timed(c, task[i] as u32) {
+            return true;
+        }
+        i += 1;
+    }
+    false
+}
+
+// Whether `v` is of kind 3, and a table before has an entry of kind 3.
+fn second_table(d: Draft, v: u32) -> bool
+    requires { ⌜ (d .config .bodies ≤ 32) × ((d .index < 8) × (d .until ≤ 64)) ⌝ }
+    ensures { λ r. ⌜ r ≡ secondTable d v ⌝ }
+{
+    let c = d.config;
+    if is_timed(c, v) {
+        let i = d.index;
+        let entries = c.entries;
+        some_timed(c, less(d.until, entries[i] as usize))
+    } else {
+        false
+    }
+}
+
+// The refusal of an entry's task by its table's kind.
+fn table_fault(d: Draft, v: u32) -> u8
+    requires { ⌜ (d .config .bodies ≤ 32) × ((d .index < 8) × ((d .entry < 64) × (d .until ≤ 64))) ⌝ }
+    ensures { λ r. ⌜ r ≡ andThen (unless (not (sharesOffset d v)) sharedOffset) (unless (not (mixes d v || secondTable d v)) mixedTable) ⌝ }
+{
+    if shares_offset(d, v) {
+        return SHARED_OFFSET;
+    }
+    if mixes(d, v) {
+        return MIXED_TABLE;
+    }
+    if second_table(d, v) {
+        return MIXED_TABLE;
+    }
+    0
+}
+
 // The refusal of an entry's task.
 fn task_fault(d: Draft, v: u32) -> u8
-    requires { ⌜ (d .config .bodies ≤ 32) × ((d .index < 8) × (d .entry < 64)) ⌝ }
+    requires { ⌜ (d .config .bodies ≤ 32) × ((d .index < 8) × ((d .entry < 64) × (d .until ≤ 64))) ⌝ }
     ensures { λ r. ⌜ r ≡ faultAt Field.Task d v ⌝ }
 {
-    let after = sorted(d, v);
     let c = d.config;
-    and_then(unless(is_task(c, v), BAD_FIELD), unless(after, UNSORTED))
+    if !is_task(c, v) {
+        return BAD_FIELD;
+    }
+    if !sorted(d, v) {
+        return UNSORTED;
+    }
+    table_fault(d, v)
 }
 
 // The refusal of the number `v` where `d` is, 0 where it is in order.
