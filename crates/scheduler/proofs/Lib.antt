@@ -12,6 +12,7 @@ pub mod Named
 pub mod Tables
 pub mod Requests
 pub mod Losses
+pub mod Apart
 pub mod Ties
 pub mod Dues
 pub mod Entries
