@@ -66,7 +66,7 @@ record Quiet (In : Body → Bool) (x y : Body) : Type 0 where
   among : In y ≡ true → In x ≡ true
   steady : Steady x → Steady y
 
-started-competes : (q : Phase) → isStarted q ≡ true → competes q ≡ true
+pub started-competes : (q : Phase) → isStarted q ≡ true → competes q ≡ true
 started-competes suspended h = absurd (true≢false (sym h))
 started-competes ready h = absurd (true≢false (sym h))
 started-competes started h = refl
@@ -460,3 +460,7 @@ module _ (c : Config) (ok : Configuration.Accepted c) where
 
     pub reached-kept : Configuration.Shaped c → (es : List Event) → Kept c In (after c (fresh c) es .bodies)
     reached-kept shaped es = after-kept es (fresh c) (fresh-kept shaped) (settled-fresh c)
+
+-- a Set makes nobody hold
+pub set-holds : (c : Config) (s : State) (t w : ℕ) → AcceptedIn c s (Set t w) → (b : Body) → holder (receives w b) ≡ true → holder b ≡ true
+set-holds c s t w z b h = h

@@ -22,3 +22,4 @@ pub mod Placed
 pub mod Trigger
 pub mod Order
 pub mod Users
+pub mod Declared

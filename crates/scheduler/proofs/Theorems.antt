@@ -20,7 +20,7 @@ use Rattle.scheduler.specs.Choice.{Candidate, nobody, isNobody, candidat
 use Rattle.scheduler.specs.State.{State, Table, stopped, running, bodyOf, tableOf, changing, runner, among}
 use Rattle.scheduler.specs.Event.{Event, Activate, Finish, Chain, Get, Release, Tick, Line, Start, Stop, Wait, Set, Clear}
 use Rattle.scheduler.specs.Tick.{dues, ticked, dueFor}
-use Rattle.scheduler.specs.Call.{noCaller, caller, checksOf}
+use Rattle.scheduler.specs.Call.{noCaller, nobodyRuns, caller, calling, checksOf}
 use Rattle.scheduler.specs.Scheduler.{begins, dispatched, lossesOf, step, stepBy, LostLine, fresh, seen, after, leaves, unstarted, freshBy, seenBy, afterBy}
 use Rattle.scheduler.specs.Entries.{entryOf, entriesOf, entryAt}
 use Rattle.scheduler.specs.History.{AcceptedIn, Ends, next, NoStart, NoStop, tickCount, History, dueMark, DueAt}
@@ -32,6 +32,7 @@ use Rattle.scheduler.proofs.Refusals as Refusals
 use Rattle.scheduler.proofs.Named as Named
 use Rattle.scheduler.proofs.Requests as Requests
 use Rattle.scheduler.proofs.Users as Users
+use Rattle.scheduler.proofs.Declared as Declared
 use Rattle.scheduler.proofs.Losses as Losses
 use Rattle.scheduler.proofs.Ties as Ties
 use Rattle.scheduler.proofs.Tables as Tables
@@ -358,6 +359,23 @@ mask-zero-waits bits = rw (Bits.mask-zero bits)
 -- in every state that the fresh start leads to, whoever holds a resource is one of its declared users: Release needs no status for it
 pub held-by-user : (c : Config) (es : List Event) (i r : ℕ) → among r (bodyOf (after c (fresh c) es) i .held) ≡ true → isUser c r i ≡ true
 held-by-user c es = Users.declared-after c es (fresh c) (Users.declared-fresh c)
+
+-- Where no time-triggered task is started, the runner's own priority is above the current priority of every other body that holds a resource,
+-- and so above that resource's ceiling: after every list of events, whatever the kinds of the bodies
+pub holder-below : (c : Config) → Configuration.Accepted c → Configuration.Shaped c → (es : List Event) → after c (fresh c) es .order ≡ []
+    → (i r : ℕ)
+    → i ≢ caller c (after c (fresh c) es)
+    → among r (bodyOf (after c (fresh c) es) i .held) ≡ true
+    → current c i (bodyOf (after c (fresh c) es) i) < priorityOf c (caller c (after c (fresh c) es))
+holder-below = Declared.holder-below
+
+-- "a declared basic task or ISR is refused a resource only when it holds that resource itself": with status 1, over all kinds
+pub declared-refused : (c : Config) → Configuration.Accepted c → Configuration.Shaped c → (es : List Event) (r : ℕ)
+    → nobodyRuns c (after c (fresh c) es) ≡ false
+    → isUser c r (caller c (after c (fresh c) es)) ≡ true
+    → step c (after c (fresh c) es) (Get r) .seen .status ≢ 0
+    → (step c (after c (fresh c) es) (Get r) .seen .status ≡ 1) × (among r (calling c (after c (fresh c) es) .held) ≡ true)
+declared-refused = Declared.declared-refused
 
 -- losses come from due entries and counted lost lines: no other event changes one, and what is seen of them is the state after the event
 pub losses-call : (c : Config) (s : State) (e : Event) → e ≢ Tick → ((i : ℕ) → LostLine c s e i → ⊥)

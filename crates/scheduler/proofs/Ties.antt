@@ -26,7 +26,7 @@ use Rattle.scheduler.proofs.Choice.{contender, weight, weight-before, c
 use Rattle.scheduler.proofs.Checks.{set-passed}
 use Rattle.scheduler.proofs.Refusals.{Settled, settled-named, settled-fresh, settled-step, settled-after}
 use Rattle.scheduler.proofs.Named.{named-fresh, named-after}
-use Rattle.scheduler.proofs.Apart.{at, Kept, Question, holder, begunBody, holders, begunBodies, own-inj, weighs, leaves-kept, step-kept, unstarted-kept, fresh-kept, reached-kept}
+use Rattle.scheduler.proofs.Apart.{at, Kept, Question, holder, begunBody, holders, begunBodies, own-inj, weighs, set-holds, leaves-kept, step-kept, unstarted-kept, fresh-kept, reached-kept}
 
 -- of a configuration that the reader accepts
 module _ (c : Config) (ok : Configuration.Accepted c) where
@@ -219,18 +219,15 @@ module _ (c : Config) (ok : Configuration.Accepted c) where
 
   -- where the choice is made: at the fresh start, after every list of events, and after the event that comes next
   module _ (shaped : Configuration.Shaped c) where
-    set-holds : (s : State) (t w : ℕ) → AcceptedIn c s (Set t w) → (b : Body) → holder (receives w b) ≡ true → holder b ≡ true
-    set-holds s t w z b h = h
-
     pub decided-fresh : (i j : ℕ) → i < c .bodies → j < c .bodies → i ≢ j
         → competes (bodyOf (unstarted c) i .phase) ≡ true
         → competes (bodyOf (unstarted c) j .phase) ≡ true
         → (goesBefore byHolding (contender c (unstarted c .bodies) i) (contender c (unstarted c .bodies) j) ≡ true)
         ⊎ (goesBefore byHolding (contender c (unstarted c .bodies) j) (contender c (unstarted c .bodies) i) ≡ true)
-    decided-fresh = decided (unstarted-kept c ok holders set-holds shaped)
+    decided-fresh = decided (unstarted-kept c ok holders (set-holds c) shaped)
 
     kept : (es : List Event) → Kept c holder (after c (fresh c) es .bodies)
-    kept = reached-kept c ok holders set-holds shaped
+    kept = reached-kept c ok holders (set-holds c) shaped
 
     pub decided-after : (es : List Event) (i j : ℕ) → i < c .bodies → j < c .bodies → i ≢ j
         → competes (bodyOf (after c (fresh c) es) i .phase) ≡ true
@@ -246,4 +243,4 @@ module _ (c : Config) (ok : Configuration.Accepted c) where
         ⊎ (goesBefore byHolding (contender c (leaves c (after c (fresh c) es) e .bodies) j) (contender c (leaves c (after c (fresh c) es) e .bodies) i) ≡ true)
     decided-at es e =
         decided
-        (leaves-kept c ok holders set-holds (after c (fresh c) es) (kept es) (settled-after c es (fresh c) (settled-fresh c)) e)
+        (leaves-kept c ok holders (set-holds c) (after c (fresh c) es) (kept es) (settled-after c es (fresh c) (settled-fresh c)) e)
