@@ -170,15 +170,42 @@ module _ (c : Config) where
 
             stands : (i : ℕ) → among i (s .order) ≡ true → among i (tasks c table) ≡ true
             stands i h =
-                let e = p .has-entry i h in
-                let t = table-of c (c .tables) (e .0) (e .1) in
-                let same = timed-one-table c ok table (t .0) (entry .0) (e .0) (entry .1) (e .1) (at .2) (at .3) (t .2) (t .3) (rw (entry .2) (started j head)) (rw (e .2) (started i h)) in
-                let low : firstOf c table ≤ e .0 = rw same (t .2) in
-                let high : e .0 < firstOf c (suc table) = rw same (t .3) in
-                let k : firstOf c table + (e .0 - firstOf c table) ≡ e .0 = omega arith in
-                let fits : e .0 - firstOf c table < getD (c .entries) table 0 = omega (arith, firstOf-step c table) in
-                let is : getD (tasks c table) (e .0 - firstOf c table) 0 ≡ i = getD-take (getD (c .entries) table 0) (drop (firstOf c table) (c .task)) (e .0 - firstOf c table) 0 fits ∙ getD-drop (firstOf c table) (c .task) (e .0 - firstOf c table) 0 ∙ ap (λ (n : ℕ). getD (c .task) n 0) k ∙ e .2 in
-                subst (λ (n : ℕ). among n (tasks c table) ≡ true) is (among-place (tasks c table) (e .0 - firstOf c table) (omega (arith, there, fits)))
+                subst (λ (n : ℕ). among n (tasks c table) ≡ true) is (among-place (tasks c table) k (omega (arith, there, fits)))
+              where
+                own : (e : ℕ) × (e < firstOf c (c .tables)) × (getD (c .task) e 0 ≡ i)
+                own = p .has-entry i h
+
+                its : (t : ℕ) × (t < c .tables) × (firstOf c t ≤ own .0) × (own .0 < firstOf c (suc t))
+                its = table-of c (c .tables) (own .0) (own .1)
+
+                same : table ≡ its .0
+                same =
+                    timed-one-table c ok table (its .0) (entry .0) (own .0) (entry .1) (own .1) (at .2) (at .3) (its .2) (its .3)
+                    (rw (entry .2) (started j head))
+                    (rw (own .2) (started i h))
+
+                low : firstOf c table ≤ own .0
+                low = rw same (its .2)
+
+                high : own .0 < firstOf c (suc table)
+                high = rw same (its .3)
+
+                -- its place among the entries of the table
+                k : ℕ
+                k = own .0 - firstOf c table
+
+                back : firstOf c table + k ≡ own .0
+                back = omega (arith, low)
+
+                fits : k < getD (c .entries) table 0
+                fits = omega (arith, low, high, firstOf-step c table)
+
+                is : getD (tasks c table) k 0 ≡ i
+                is =
+                    getD-take (getD (c .entries) table 0) (drop (firstOf c table) (c .task)) k 0 fits
+                    ∙ getD-drop (firstOf c table) (c .task) k 0
+                    ∙ ap (λ (n : ℕ). getD (c .task) n 0) back
+                    ∙ own .2
 
     pub few-started : {s : State} → Orderly c s → length (s .order) ≤ 16
     few-started o = placed-few (placed o)

@@ -91,16 +91,36 @@ module _ (c : Config) (ok : Accepted c) (shaped : Shaped c) (s : State) where
       → getD (dues c s) e false ≡ true
       → getD (dues c s) e′ false ≡ true
       → ⊥
-  rising e e′ less h′ k k′ m m′ =
-      let h : e < firstOf c (c .tables) = omega arith in
-      let p = table-of c (c .tables) e h in
-      let p′ = table-of c (c .tables) e′ h′ in
-      let same = timed-one-table c ok (p .0) (p′ .0) e e′ h h′ (p .2) (p .3) (p′ .2) (p′ .3) k k′ in
-      let high : e′ < firstOf c (suc (p .0)) = rw same (p′ .3) in
-      let low : firstOf c (p .0) ≤ e′ = rw same (p′ .2) in
-      let apart = timed-offsets-differ c ok (p .0) e e′ (p .1) (p .2) less high k k′ in
-      let equal = entryDue-apart (getD (c .period) (p .0) 0) (tableOf s (p .0)) (getD (c .offset) e 0) (getD (c .offset) e′ 0) (ok .offset-in-period (p .0) e (p .1) (p .2) (p .3)) (ok .offset-in-period (p .0) e′ (p .1) low high) (sym (dues-at c fit s (p .0) e (p .1) (p .2) (p .3)) ∙ m) (sym (dues-at c fit s (p .0) e′ (p .1) low high) ∙ m′) in
-      omega (arith, apart, equal)
+  rising e e′ less h′ k k′ m m′ = omega (arith, apart, equal)
+    where
+      h : e < firstOf c (c .tables)
+      h = omega arith
+
+      p : (t : ℕ) × (t < c .tables) × (firstOf c t ≤ e) × (e < firstOf c (suc t))
+      p = table-of c (c .tables) e h
+
+      p′ : (t : ℕ) × (t < c .tables) × (firstOf c t ≤ e′) × (e′ < firstOf c (suc t))
+      p′ = table-of c (c .tables) e′ h′
+
+      same : p .0 ≡ p′ .0
+      same = timed-one-table c ok (p .0) (p′ .0) e e′ h h′ (p .2) (p .3) (p′ .2) (p′ .3) k k′
+
+      low : firstOf c (p .0) ≤ e′
+      low = rw same (p′ .2)
+
+      high : e′ < firstOf c (suc (p .0))
+      high = rw same (p′ .3)
+
+      apart : getD (c .offset) e 0 < getD (c .offset) e′ 0
+      apart = timed-offsets-differ c ok (p .0) e e′ (p .1) (p .2) less high k k′
+
+      equal : getD (c .offset) e 0 ≡ getD (c .offset) e′ 0
+      equal =
+          entryDue-apart (getD (c .period) (p .0) 0) (tableOf s (p .0)) (getD (c .offset) e 0) (getD (c .offset) e′ 0)
+          (ok .offset-in-period (p .0) e (p .1) (p .2) (p .3))
+          (ok .offset-in-period (p .0) e′ (p .1) low high)
+          (sym (dues-at c fit s (p .0) e (p .1) (p .2) (p .3)) ∙ m)
+          (sym (dues-at c fit s (p .0) e′ (p .1) low high) ∙ m′)
 
   pub timed-once : (e e′ : ℕ) → e < firstOf c (c .tables) → e′ < firstOf c (c .tables) → e ≢ e′
       → timedEntry c e ≡ true
