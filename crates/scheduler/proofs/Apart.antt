@@ -1,8 +1,9 @@
--- Bodies that are apart, one's current priority being below the other's own: so after every list of events, by `reached-kept`.
+-- Bodies that are apart, one's current priority being below the other's own: so after every list of events, by
+-- `reached-kept`.
 --
--- In order: bodies that are apart; what a change of one body leaves of it; the runner's own priority is above the current priority of the others
--- (`outranks`); every event keeps it, from the fresh start on.
--- Which bodies are apart is a question asked of a body, so that all is proved once: of those that hold a resource, always; of those that are
+-- In order: bodies that are apart; what a change of one body leaves of it; the runner's own priority is above the
+-- current priority of the others (`outranks`); every event keeps it, from the fresh start on. Which bodies are apart is
+-- a question asked of a body, so that all is proved once: of those that hold a resource, always; of those that are
 -- started, where no task is extended. Assumes nothing.
 use Prim.Native.Nat.{ℕ, zero, suc, _+_, _*_, max, _≤_, _<_}
 use mathlib.Core.Path.{_≡_, refl, sym, ap, subst⁻¹, _∙_}
@@ -38,8 +39,10 @@ use Rattle.scheduler.proofs.Losses.{entered-active}
 abbrev pub at : List Body → ℕ → Body
 at bs i = getD bs i noBody
 
--- what holds between each body and itself, and between body k and y, holds between each body and what it is after body k became y
-each : (P : Body → Body → Type 0) → ((x : Body) → P x x) → (bs : List Body) (k : ℕ) (y : Body) → P (at bs k) y → (i : ℕ) → P (at bs i) (at (set bs k y) i)
+-- what holds between each body and itself, and between body k and y, holds between each body and what it is after body
+-- k became y
+each : (P : Body → Body → Type 0) → ((x : Body) → P x x) → (bs : List Body) (k : ℕ) (y : Body) → P (at bs k) y → (i : ℕ)
+    → P (at bs i) (at (set bs k y) i)
 each P same [] k y h i = same noBody
 each P same (b ∷ bs) zero y h zero = h
 each P same (b ∷ bs) zero y h (suc i) = same (at bs i)
@@ -73,15 +76,17 @@ started-competes started h = refl
 started-competes (waiting w) h = absurd (true≢false (sym h))
 started-competes (triggered x) h = absurd (true≢false (sym h))
 
--- which bodies are kept apart: those that hold a resource are among them, all of them are started, and nobody else comes to be one but by a
--- dispatch, a Get, and for the last one a Set
+-- which bodies are kept apart: those that hold a resource are among them, all of them are started, and nobody else
+-- comes to be one but by a dispatch, a Get, and for the last one a Set
 pub record Question (In : Body → Bool) : Type 0 where
   pub holding : (b : Body) → Steady b → holds (b .held) ≡ true → In b ≡ true
   pub begun : (b : Body) → Steady b → In b ≡ true → isStarted (b .phase) ≡ true
   pub by-activation : (b : Body) → isStarted (b .phase) ≡ false → In (activated b) ≡ true → In b ≡ true
   pub by-end : (b : Body) → In (ended b) ≡ true → In b ≡ true
   pub by-loss : (b : Body) → In (loses b) ≡ true → In b ≡ true
-  pub by-request : (b : Body) → In (record { phase = b .phase; pending = true; held = b .held; losses = b .losses; bits = b .bits }) ≡ true → In b ≡ true
+  pub by-request : (b : Body)
+      → In (record { phase = b .phase; pending = true; held = b .held; losses = b .losses; bits = b .bits }) ≡ true
+      → In b ≡ true
   pub by-wait : (b : Body) (w : ℕ) → In (become (waiting w) b) ≡ true → In b ≡ true
   pub by-trigger : (b : Body) (x : Bool) → In (become (triggered x) b) ≡ true → In b ≡ true
   pub by-clear : (b : Body) (w : ℕ) → In (clears w b) ≡ true → In b ≡ true
@@ -141,7 +146,8 @@ module _ {c : Config} {In : Body → Bool} where
 
   -- a body whose own priority is above the others' becomes y
   raised-kept : {bs : List Body} → Kept c In bs → (k : ℕ) → k < c .bodies → (y : Body) → Steady y
-      → ((j : ℕ) → j < c .bodies → j ≢ k → In (at bs j) ≡ true → current c j (at bs j) < priorityOf c k) → Kept c In (set bs k y)
+      → ((j : ℕ) → j < c .bodies → j ≢ k → In (at bs j) ≡ true → current c j (at bs j) < priorityOf c k)
+      → Kept c In (set bs k y)
   raised-kept {bs} a k k< y steady-y below =
       record {
         size = length-set bs k y ∙ a .size;
@@ -152,7 +158,8 @@ module _ {c : Config} {In : Body → Bool} where
             (λ n. rw (at-other j n, e) (inr (below j j< n (sym (ap In (at-other j n)) ∙ hj)))))
             (λ n. by-eq j k
             (λ f. rw (at-other i n, f) (inl (below i i< n (sym (ap In (at-other i n)) ∙ hi))))
-            (λ m. rw (at-other i n, at-other j m) (a .apart i j i< j< d (sym (ap In (at-other i n)) ∙ hi) (sym (ap In (at-other j m)) ∙ hj))));
+            (λ m. rw (at-other i n, at-other j m)
+            (a .apart i j i< j< d (sym (ap In (at-other i n)) ∙ hi) (sym (ap In (at-other j m)) ∙ hj))));
       }
     where
       at-k : at (set bs k y) k ≡ y
@@ -174,7 +181,8 @@ module _ {In : Body → Bool} (K : Question In) where
   ended-quiet b free = record { held = refl; among = K .by-end b; steady = λ s h. absurd (true≢false (sym h ∙ free)) }
 
   then : (x y z : Body) → Quiet In x y → Quiet In y z → Quiet In x z
-  then x y z p q = record { held = p .held ∙ q .held; among = λ h. p .among (q .among h); steady = λ s. q .steady (p .steady s) }
+  then x y z p q =
+      record { held = p .held ∙ q .held; among = λ h. p .among (q .among h); steady = λ s. q .steady (p .steady s) }
 
   cond-quiet : (b : Bool) (x y z : Body) → Quiet In x y → Quiet In x z → Quiet In x (cond b y z)
   cond-quiet true x y z p q = p
@@ -192,7 +200,8 @@ module _ {In : Body → Bool} (K : Question In) where
       record { held = refl; among = K .by-trigger b x; steady = λ s h. absurd (true≢false (sym (s h) ∙ n)) }
 
   triggers-quiet : (b : Body) → isStarted (b .phase) ≡ false → Quiet In b (triggers b)
-  triggers-quiet b n = then b (activated b) (triggers b) (activated-quiet b n) (becomes-triggered (activated b) false refl)
+  triggers-quiet b n =
+      then b (activated b) (triggers b) (activated-quiet b n) (becomes-triggered (activated b) false refl)
 
   entry-quiet : (x : Bool) (b : Body) → Quiet In b (entered x b)
   entry-quiet x b = by-test (isSuspended (b .phase)) (λ e. first x e) (λ e. rw (entered-active x b e) (loses-quiet b))
@@ -211,7 +220,8 @@ module _ {In : Body → Bool} (K : Question In) where
   requested-quiet : (b : Body) → Quiet In b (requested b)
   requested-quiet b = go (b .phase) refl
     where
-      again : Quiet In b (record { phase = b .phase; pending = true; held = b .held; losses = b .losses; bits = b .bits })
+      again : Quiet In b
+          (record { phase = b .phase; pending = true; held = b .held; losses = b .losses; bits = b .bits })
       again = record { held = refl; among = K .by-request b; steady = λ s. s }
 
       go : (q : Phase) → b .phase ≡ q → Quiet In b (requested b)
@@ -227,7 +237,8 @@ module _ {In : Body → Bool} (K : Question In) where
 
   waits-quiet : (w : ℕ) (b : Body) → holds (b .held) ≡ false → Quiet In b (waits w b)
   waits-quiet w b free =
-      cond-quiet (anySet (b .bits) w) b b (become (waiting w) b) (record { held = refl; among = λ h. h; steady = λ s. s })
+      cond-quiet (anySet (b .bits) w) b b (become (waiting w) b)
+      (record { held = refl; among = λ h. h; steady = λ s. s })
       (record { held = refl; among = K .by-wait b w; steady = λ s h. absurd (true≢false (sym h ∙ free)) })
 
   clears-quiet : (w : ℕ) (b : Body) → Quiet In b (clears w b)
@@ -258,7 +269,8 @@ module _ (c : Config) (ok : Configuration.Accepted c) where
   module _ {In : Body → Bool} (K : Question In) {bs : List Body} (a : Kept c In bs) (k : ℕ) (k< : k < c .bodies)
       (active : competes (at bs k .phase) ≡ true) (taken : chosenBy byHolding c bs ≡ contender c bs k) where
     heaviest : (j : ℕ) → competes (at bs j .phase) ≡ true
-        → 2 * current c j (at bs j) + markOf (holds (at bs j .held)) ≤ 2 * current c k (at bs k) + markOf (holds (at bs k .held))
+        → 2 * current c j (at bs j) + markOf (holds (at bs j .held)) ≤ 2 * current c k (at bs k) + markOf
+        (holds (at bs k .held))
     heaviest j h =
         let w : weight byHolding (chosenBy byHolding c bs) ≡ weight byHolding (contender c bs k) = ap (weight byHolding) taken in
         omega (arith, weighs bs j h, weighs bs k active, chosen-weight byHolding refl c bs j)
@@ -270,7 +282,8 @@ module _ (c : Config) (ok : Configuration.Accepted c) where
         up : competes (at bs j .phase) ≡ true
         up = started-competes (at bs j .phase) (K .begun (at bs j) (a .steady j) h)
 
-        le : (r q : Bool) → 2 * current c j (at bs j) + markOf r ≤ 2 * current c k (at bs k) + markOf q → current c j (at bs j) ≤ current c k (at bs k)
+        le : (r q : Bool) → 2 * current c j (at bs j) + markOf r ≤ 2 * current c k (at bs k) + markOf q
+            → current c j (at bs j) ≤ current c k (at bs k)
         le true true e = omega arith
         le true false e = omega arith
         le false true e = omega arith
@@ -300,7 +313,8 @@ module _ (c : Config) (ok : Configuration.Accepted c) where
   -- who runs where no time-triggered task is started: nobody, or a body
   data Runs (s : State) : Type 0 where
     nobody-runs : isNobody (runner c s) ≡ true → Runs s
-    runs : (k : ℕ) → k < length (s .bodies) → competes (at (s .bodies) k .phase) ≡ true → chosen c (s .bodies) ≡ contender c (s .bodies) k
+    runs : (k : ℕ) → k < length (s .bodies) → competes (at (s .bodies) k .phase) ≡ true
+        → chosen c (s .bodies) ≡ contender c (s .bodies) k
         → caller c s ≡ k → runner c s .began ≡ isStarted (at (s .bodies) k .phase) → runner c s .timed ≡ false → Runs s
 
   who-runs : (s : State) → s .order ≡ [] → Runs s
@@ -310,15 +324,19 @@ module _ (c : Config) (ok : Configuration.Accepted c) where
       go (no-one e) = nobody-runs (ap isNobody (runner-untimed c s o ∙ e))
       go (body k h p e) =
           let is = runner-untimed c s o ∙ e ∙ candidate-active c k (at (s .bodies) k) (at (s .bodies) k .phase) p in
-          runs k h p e (ap (λ (x : Candidate). x .number) is) (ap (λ (x : Candidate). x .began) is) (ap (λ (x : Candidate). x .timed) is)
+          runs k h p e (ap (λ (x : Candidate). x .number) is) (ap (λ (x : Candidate). x .began) is)
+          (ap (λ (x : Candidate). x .timed) is)
 
   module _ {In : Body → Bool} (K : Question In)
-      (on-set : (s : State) (t w : ℕ) → AcceptedIn c s (Set t w) → (b : Body) → In (receives w b) ≡ true → In b ≡ true) where
-    quiet : (s : State) → Kept c In (s .bodies) → (k : ℕ) (f : Body → Body) → Quiet In (bodyOf s k) (f (bodyOf s k)) → Kept c In (changing k f s .bodies)
+      (on-set : (s : State) (t w : ℕ) → AcceptedIn c s (Set t w) → (b : Body) → In (receives w b) ≡ true
+      → In b ≡ true) where
+    quiet : (s : State) → Kept c In (s .bodies) → (k : ℕ) (f : Body → Body) → Quiet In (bodyOf s k) (f (bodyOf s k))
+        → Kept c In (changing k f s .bodies)
     quiet s a k f q = quiet-kept a k (f (bodyOf s k)) q
 
     -- the runner becomes y: its own priority is above the others'
-    runner-becomes : (s : State) → Kept c In (s .bodies) → s .order ≡ [] → isNobody (runner c s) ≡ false → (f : Body → Body)
+    runner-becomes : (s : State) → Kept c In (s .bodies) → s .order ≡ [] → isNobody (runner c s) ≡ false
+        → (f : Body → Body)
         → ((k : ℕ) → caller c s ≡ k → runner c s .began ≡ isStarted (at (s .bodies) k .phase) → Steady (f (bodyOf s k)))
         → Kept c In (changing (caller c s) f s .bodies)
     runner-becomes s a none some f steady-f = go (who-runs s none)
@@ -344,24 +362,39 @@ module _ (c : Config) (ok : Configuration.Accepted c) where
           quiet s a t activated (activated-quiet K (bodyOf s t) (ap isStarted (activate-passed c s t z .2)))
       effect-kept Finish z =
           let ends = quiet s a (caller c s) finished (finished-quiet K (bodyOf s (caller c s)) (finish-passed c s z .1)) in
-          cond-either (λ x. Kept c In (x .bodies)) (runner c s .timed) (finishTimed (caller c s) s) (finish (caller c s) s) ends ends
+          cond-either (λ x. Kept c In (x .bodies)) (runner c s .timed) (finishTimed (caller c s) s)
+          (finish (caller c s) s) ends ends
       effect-kept (Chain t) z =
           let p = chain-passed c s t z in
-          quiet (finish (caller c s) s) (quiet s a (caller c s) finished (finished-quiet K (bodyOf s (caller c s)) (p .3))) t activated
+          quiet (finish (caller c s) s)
+          (quiet s a (caller c s) finished (finished-quiet K (bodyOf s (caller c s)) (p .3))) t activated
           (activated-quiet K (bodyOf (finish (caller c s) s) t) (asleep t (p .4)))
         where
-          out : (b : Bool) → isStarted (cond b (activated (ended (bodyOf s (caller c s)))) (ended (bodyOf s (caller c s))) .phase) ≡ false
+          out : (b : Bool)
+              → isStarted (cond b (activated (ended (bodyOf s (caller c s)))) (ended (bodyOf s (caller c s))) .phase)
+              ≡ false
           out true = refl
           out false = refl
 
           -- the chained task is suspended, or has just ended
-          asleep : (t : ℕ) → (t ≢ caller c s → bodyOf s t .phase ≡ suspended) → isStarted (bodyOf (finish (caller c s) s) t .phase) ≡ false
+          asleep : (t : ℕ) → (t ≢ caller c s → bodyOf s t .phase ≡ suspended)
+              → isStarted (bodyOf (finish (caller c s) s) t .phase) ≡ false
           asleep t h =
               by-eq t (caller c s)
               (λ e. by-lt (caller c s) (length (s .bodies))
-              (λ l. rw e (ap (λ (x : Body). isStarted (x .phase)) (getD-set-same (s .bodies) (caller c s) (finished (bodyOf s (caller c s))) noBody l) ∙ out (bodyOf s (caller c s) .pending)))
-              (λ l. rw (e, set-out (s .bodies) (caller c s) (finished (bodyOf s (caller c s))) l, List·getD-eq-default (s .bodies) noBody {n = caller c s} l) refl))
-              (λ n. ap (λ (x : Body). isStarted (x .phase)) (getD-set-other (s .bodies) (caller c s) t (finished (bodyOf s (caller c s))) noBody n) ∙ ap isStarted (h n))
+              (λ l. rw e
+              (ap (λ (x : Body). isStarted (x .phase))
+              (getD-set-same (s .bodies) (caller c s) (finished (bodyOf s (caller c s))) noBody l)
+              ∙ out (bodyOf s (caller c s) .pending)))
+              (λ l. rw (
+                e,
+                set-out (s .bodies) (caller c s) (finished (bodyOf s (caller c s))) l,
+                List·getD-eq-default
+                    (s .bodies) noBody {n = caller c s} l,
+              ) refl))
+              (λ n. ap (λ (x : Body). isStarted (x .phase))
+              (getD-set-other (s .bodies) (caller c s) t (finished (bodyOf s (caller c s))) noBody n)
+              ∙ ap isStarted (h n))
       effect-kept (Get r) z =
           let some = get-passed c s r z .0 in
           let none = accepted-untimed c s (Get r) refl z in
@@ -371,12 +404,14 @@ module _ (c : Config) (ok : Configuration.Accepted c) where
           let none = accepted-untimed c s (Release r) refl z in
           runner-becomes s a none some releases (λ k e b h. sym b ∙ has-begun none some)
       effect-kept Tick z =
-          activatingDue-keeps c (λ x. Kept c In (x .bodies)) (λ js x h. h) (λ t b x k. quiet x k t (entered b) (entry-quiet K b (bodyOf x t)))
+          activatingDue-keeps c (λ x. Kept c In (x .bodies)) (λ js x h. h)
+          (λ t b x k. quiet x k t (entered b) (entry-quiet K b (bodyOf x t)))
           (dues c (counted s)) (c .task) (counted s) a
       effect-kept (Line i) z = quiet s a i requested (requested-quiet K (bodyOf s i))
       effect-kept (Start t d) z = a
       effect-kept (Stop t) z = a
-      effect-kept (Wait w) z = quiet s a (caller c s) (waits w) (waits-quiet K w (bodyOf s (caller c s)) (wait-passed c s w z .2))
+      effect-kept (Wait w) z =
+          quiet s a (caller c s) (waits w) (waits-quiet K w (bodyOf s (caller c s)) (wait-passed c s w z .2))
       effect-kept (Set t w) z =
           quiet s a t (receives w)
           (record { held = refl; among = on-set s t w z (bodyOf s t); steady = receives-steady w (bodyOf s t) })
@@ -388,7 +423,8 @@ module _ (c : Config) (ok : Configuration.Accepted c) where
           by-eq (statusOf c s e) done
           (λ z. rw (eq-eqb (statusOf c s e) done z) (effect-kept e z))
           (λ n. rw (ne-eqb (statusOf c s e) done n)
-          (refusalOf-keeps c s (λ x. Kept c In (x .bodies)) a (statusOf c s e) e (λ i _ _ _. quiet s a i loses (loses-quiet K (bodyOf s i)))))
+          (refusalOf-keeps c s (λ x. Kept c In (x .bodies)) a (statusOf c s e) e
+          (λ i _ _ _. quiet s a i loses (loses-quiet K (bodyOf s i)))))
 
     -- the dispatch: who begins held nothing
     dispatched-kept : (s : State) → Kept c In (s .bodies) → Kept c In (dispatched c s .bodies)
@@ -397,7 +433,8 @@ module _ (c : Config) (ok : Configuration.Accepted c) where
         by-order : begins (runner c s) ≡ true → (js : List ℕ) → s .order ≡ js
             → Kept c In (changing (caller c s) (become (phaseBegun (runner c s))) s .bodies)
         by-order e [] o =
-            runner-becomes s a o (begins-some (runner c s) e .0) (become (phaseBegun (runner c s))) (λ k _ _ h. begun-phase (who-runs s o))
+            runner-becomes s a o (begins-some (runner c s) e .0) (become (phaseBegun (runner c s)))
+            (λ k _ _ h. begun-phase (who-runs s o))
           where
             begun-phase : Runs s → isStarted (phaseBegun (runner c s)) ≡ true
             begun-phase (nobody-runs n) = absurd (true≢false (sym n ∙ begins-some (runner c s) e .0))
@@ -416,7 +453,8 @@ module _ (c : Config) (ok : Configuration.Accepted c) where
             unbegun (waiting w) h = refl
             unbegun (triggered x) h = refl
 
-    pub step-kept : (s : State) → Kept c In (s .bodies) → Settled c s → (e : Event) → Kept c In (step c s e .state .bodies)
+    pub step-kept : (s : State) → Kept c In (s .bodies) → Settled c s → (e : Event)
+        → Kept c In (step c s e .state .bodies)
     unfolding stepBy
     step-kept s a settled e = dispatched-kept (leaves c s e) (leaves-kept s a settled e)
 
@@ -428,7 +466,8 @@ module _ (c : Config) (ok : Configuration.Accepted c) where
     pub unstarted-kept : Configuration.Shaped c → Kept c In (unstarted c .bodies)
     unstarted-kept shaped =
         record {
-          size = length-map (take (c .bodies) (c .autostart)) newBody ∙ length-take-le (c .bodies) (c .autostart) (omega (arith, ok .few-bodies, shaped .autostarts));
+          size = length-map (take (c .bodies) (c .autostart)) newBody
+              ∙ length-take-le (c .bodies) (c .autostart) (omega (arith, ok .few-bodies, shaped .autostarts));
           steady = λ i h. absurd (true≢false (sym h ∙ empty i));
           apart = λ i j i< j< d hi hj. absurd (true≢false (sym hi ∙ out i));
         }
@@ -441,7 +480,8 @@ module _ (c : Config) (ok : Configuration.Accepted c) where
         none false = refl
 
         empty : (i : ℕ) → holds (at (unstarted c .bodies) i .held) ≡ false
-        empty i = ap (λ (b : Body). holds (b .held)) (at-new i) ∙ none (eqb (getD (take (c .bodies) (c .autostart)) i 0) 1)
+        empty i =
+            ap (λ (b : Body). holds (b .held)) (at-new i) ∙ none (eqb (getD (take (c .bodies) (c .autostart)) i 0) 1)
 
         -- a new body is none of those that are apart
         false-of : (b : Bool) → (b ≡ true → ⊥) → b ≡ false
@@ -449,7 +489,8 @@ module _ (c : Config) (ok : Configuration.Accepted c) where
         false-of false n = refl
 
         outside : (x : Bool) → In (cond x (activated noBody) noBody) ≡ false
-        outside true = false-of (In (activated noBody)) (λ h. true≢false (sym (K .by-activation noBody refl h) ∙ K .new))
+        outside true =
+            false-of (In (activated noBody)) (λ h. true≢false (sym (K .by-activation noBody refl h) ∙ K .new))
         outside false = K .new
 
         out : (i : ℕ) → In (at (unstarted c .bodies) i) ≡ false
@@ -462,5 +503,6 @@ module _ (c : Config) (ok : Configuration.Accepted c) where
     reached-kept shaped es = after-kept es (fresh c) (fresh-kept shaped) (settled-fresh c)
 
 -- a Set makes nobody hold
-pub set-holds : (c : Config) (s : State) (t w : ℕ) → AcceptedIn c s (Set t w) → (b : Body) → holder (receives w b) ≡ true → holder b ≡ true
+pub set-holds : (c : Config) (s : State) (t w : ℕ) → AcceptedIn c s (Set t w) → (b : Body)
+    → holder (receives w b) ≡ true → holder b ≡ true
 set-holds c s t w z b h = h

@@ -15,7 +15,8 @@ module _ (bits w : ℕ) where
   pub any-set : (anySet bits w ≡ false) ↔ ((i : ℕ) → bitSet bits i && bitSet w i ≡ false)
   unfolding anySet
   any-set = (
-    λ e i. sym (and-bits bits w i) ∙ ap (λ (n : ℕ). bitSet n i) (eqb-true (bitAnd bits w) 0 (negated (eqb (bitAnd bits w) 0) e)) ∙ none i,
+    λ e i. sym (and-bits bits w i)
+        ∙ ap (λ (n : ℕ). bitSet n i) (eqb-true (bitAnd bits w) 0 (negated (eqb (bitAnd bits w) 0) e)) ∙ none i,
     λ h. ap not (eq-eqb (bitAnd bits w) 0 (no-bit (bitAnd bits w) (λ i. and-bits bits w i ∙ h i))),
   )
     where

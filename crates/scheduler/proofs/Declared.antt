@@ -1,7 +1,8 @@
 -- A declared user is refused a resource only where it holds it itself: `declared-refused`, at the end of the file.
 --
--- In order: the runner's own priority is above the current priority of every other body that holds a resource (`holder-below`), where no
--- time-triggered task is started; so above that resource's ceiling, and no user's is. Assumes nothing.
+-- In order: the runner's own priority is above the current priority of every other body that holds a resource
+-- (`holder-below`), where no time-triggered task is started; so above that resource's ceiling, and no user's is.
+-- Assumes nothing.
 use Prim.Native.Nat.{ℕ, zero, suc, _≤_, _<_}
 use mathlib.Core.Path.{_≡_, refl, sym, ap, _∙_}
 use mathlib.Core.Bool.{Bool, true, false, true≢false, cond, not, _||_}
@@ -35,7 +36,8 @@ among-holds r [] h = h
 among-holds r (x ∷ xs) h = refl
 
 -- one of them holds it
-held-by : (r : ℕ) (bs : List Body) → heldIn r bs ≡ true → (i : ℕ) × (i < length bs) × (among r (getD bs i noBody .held) ≡ true)
+held-by : (r : ℕ) (bs : List Body) → heldIn r bs ≡ true
+    → (i : ℕ) × (i < length bs) × (among r (getD bs i noBody .held) ≡ true)
 unfolding heldIn
 held-by r [] h = absurd (true≢false (sym h))
 held-by r (b ∷ bs) h =
@@ -52,11 +54,13 @@ module _ (c : Config) (ok : Accepted c) (shaped : Shaped c) (es : List Event) wh
 
   -- who runs where no time-triggered task is started
   runs : now .order ≡ [] → nobodyRuns c now ≡ false → (caller c now < c .bodies)
-      × ((j : ℕ) → j < c .bodies → j ≢ caller c now → holds (bodyOf now j .held) ≡ true → current c j (bodyOf now j) < priorityOf c (caller c now))
+      × ((j : ℕ) → j < c .bodies → j ≢ caller c now → holds (bodyOf now j .held) ≡ true
+      → current c j (bodyOf now j) < priorityOf c (caller c now))
   runs o some = go (chosen-from byHolding refl c (now .bodies))
     where
       go : Taken c (now .bodies) (chosen c (now .bodies)) → (caller c now < c .bodies)
-          × ((j : ℕ) → j < c .bodies → j ≢ caller c now → holds (bodyOf now j .held) ≡ true → current c j (bodyOf now j) < priorityOf c (caller c now))
+          × ((j : ℕ) → j < c .bodies → j ≢ caller c now → holds (bodyOf now j .held) ≡ true
+          → current c j (bodyOf now j) < priorityOf c (caller c now))
       go (no-one z) = absurd (true≢false (sym (ap isNobody (runner-untimed c now o ∙ z)) ∙ some))
       go (body k h p z) =
           let is = runner-untimed c now o ∙ z ∙ candidate-active c k (bodyOf now k) (bodyOf now k .phase) p in
@@ -65,20 +69,27 @@ module _ (c : Config) (ok : Accepted c) (shaped : Shaped c) (es : List Event) wh
           rw at (k<, outranks c ok holders kept k k< p z)
 
   -- who holds a resource is one of the bodies, and may run
-  holder-there : (i r : ℕ) → among r (bodyOf now i .held) ≡ true → (i < c .bodies) × (competes (bodyOf now i .phase) ≡ true)
+  holder-there : (i r : ℕ) → among r (bodyOf now i .held) ≡ true
+      → (i < c .bodies) × (competes (bodyOf now i .phase) ≡ true)
   holder-there i r h = (
     by-lt i (length (now .bodies))
         (λ l. rw (kept .size) at l)
-        (λ l. none-among r (sym (ap (λ (b : Body). among r (b .held)) (List·getD-eq-default (now .bodies) noBody l)) ∙ h)),
+        (λ l. none-among r
+        (sym (ap (λ (b : Body). among r (b .held)) (List·getD-eq-default (now .bodies) noBody l)) ∙ h)),
     started-competes (bodyOf now i .phase) (kept .steady i (among-holds r (bodyOf now i .held) h)),
   )
 
   pub holder-below : now .order ≡ [] → (i r : ℕ) → i ≢ caller c now → among r (bodyOf now i .held) ≡ true
       → current c i (bodyOf now i) < priorityOf c (caller c now)
-  holder-below o i r d h =
-      let t = holder-there i r h in
-      let some = ap isNobody (runner-untimed c now o) ∙ chosen-someone byHolding refl c (now .bodies) i (t .1) (ok .priority-low i (t .0)) in
-      runs o some .1 i (t .0) d (among-holds r (bodyOf now i .held) h)
+  holder-below o i r d h = runs o some .1 i (there .0) d (among-holds r (bodyOf now i .held) h)
+    where
+      there : (i < c .bodies) × (competes (bodyOf now i .phase) ≡ true)
+      there = holder-there i r h
+
+      some : nobodyRuns c now ≡ false
+      some =
+          ap isNobody (runner-untimed c now o)
+          ∙ chosen-someone byHolding refl c (now .bodies) i (there .1) (ok .priority-low i (there .0))
 
   pub ceiling-below : now .order ≡ [] → (i r : ℕ) → i ≢ caller c now → among r (bodyOf now i .held) ≡ true
       → ceiling c r < priorityOf c (caller c now)
@@ -92,10 +103,12 @@ module _ (c : Config) (ok : Accepted c) (shaped : Shaped c) (es : List Event) wh
       go [] o = refl
       go (j ∷ js) o =
           let at : caller c now ≡ j = ap (λ (x : Candidate). x .number) (runner-timed c now j js o) in
-          let timed = orderly-after c ok shaped es (orderly-fresh c ok shaped) .started-timed j (rw o (among-head j js)) in
+          let order = orderly-after c ok shaped es (orderly-fresh c ok shaped) in
+          let timed = order .started-timed j (rw o (among-head j js)) in
           absurd (true≢false (sym user ∙ ap (isUser c r) at ∙ timed-no-user c ok r j timed))
 
-  pub declared-refused : (r : ℕ) → nobodyRuns c now ≡ false → isUser c r (caller c now) ≡ true → step c now (Get r) .seen .status ≢ 0
+  pub declared-refused : (r : ℕ) → nobodyRuns c now ≡ false → isUser c r (caller c now) ≡ true
+      → step c now (Get r) .seen .status ≢ 0
       → (step c now (Get r) .seen .status ≡ 1) × (among r (calling c now .held) ≡ true)
   unfolding stepBy firstGiven
   declared-refused r some user refused =

@@ -1,5 +1,5 @@
--- The laws of the plain scheduler. `Theorems` is the file to read; the agreement of machine and scheduler also cites the modules below it.
--- `Listing` is document 01's listing, `Examples` are worked lists of events.
+-- The laws of the plain scheduler. `Theorems` is the file to read; the agreement of machine and scheduler also cites
+-- the modules below it. `Listing` is document 01's listing, `Examples` are worked lists of events.
 pub mod Theorems
 pub mod Listing
 pub mod Examples

@@ -1,8 +1,8 @@
--- Ties: no two candidates are equal to the choice (`decided`), and without an extended task the old rule for ties chooses the same
--- (`old-rule`).
+-- Ties: no two candidates are equal to the choice (`decided`), and without an extended task the old rule for ties
+-- chooses the same (`old-rule`).
 --
--- In order: two that tie; of two that may run one goes before the other; the old rule and the new one agree where the started bodies are apart,
--- from the fresh start on. Assumes nothing.
+-- In order: two that tie; of two that may run one goes before the other; the old rule and the new one agree where the
+-- started bodies are apart, from the fresh start on. Assumes nothing.
 use Prim.Native.Nat.{ℕ, _+_, _*_, _<_}
 use mathlib.Core.Path.{_≡_, refl, sym, ap, ap₂, _∙_}
 use mathlib.Core.Bool.{Bool, true, false, true≢false, not, _&&_, _||_}
@@ -31,11 +31,13 @@ use Rattle.scheduler.proofs.Apart.{at, Kept, Question, holder, begunBod
 -- of a configuration that the reader accepts
 module _ (c : Config) (ok : Configuration.Accepted c) where
   -- the level of one that may run
-  level-is : (bs : List Body) (i : ℕ) → competes (at bs i .phase) ≡ true → contender c bs i .level ≡ current c i (at bs i)
+  level-is : (bs : List Body) (i : ℕ) → competes (at bs i .phase) ≡ true
+      → contender c bs i .level ≡ current c i (at bs i)
   level-is bs i a = ap (λ (x : Candidate). x .level) (candidate-active c i (at bs i) (at bs i .phase) a)
 
   -- two that tie: not both hold, and one does
-  module _ {In : Body → Bool} (K : Question In) {bs : List Body} (a : Kept c In bs) (i j : ℕ) (i< : i < c .bodies) (j< : j < c .bodies) (d : i ≢ j)
+  module _ {In : Body → Bool} (K : Question In) {bs : List Body} (a : Kept c In bs) (i j : ℕ)
+      (i< : i < c .bodies) (j< : j < c .bodies) (d : i ≢ j)
       (equal : current c i (at bs i) ≡ current c j (at bs j)) where
     not-apart : In (at bs i) ≡ true → In (at bs j) ≡ true → ⊥
     not-apart hi hj =
@@ -48,16 +50,20 @@ module _ (c : Config) (ok : Configuration.Accepted c) where
     one-holds = go (at bs i .held) (at bs j .held) refl refl
       where
         go : (rs qs : List ℕ) → at bs i .held ≡ rs → at bs j .held ≡ qs → holds rs ≡ not (holds qs)
-        go [] [] e f = absurd (d (own-inj c ok i j i< j< (sym (current-free c i (at bs i) e) ∙ equal ∙ current-free c j (at bs j) f)))
+        go [] [] e f =
+            absurd (d
+            (own-inj c ok i j i< j< (sym (current-free c i (at bs i) e) ∙ equal ∙ current-free c j (at bs j) f)))
         go [] (q ∷ qs) e f = refl
         go (r ∷ rs) [] e f = refl
         go (r ∷ rs) (q ∷ qs) e f =
             absurd (not-apart (K .holding (at bs i) (a .steady i) (rw e)) (K .holding (at bs j) (a .steady j) (rw f)))
 
   -- of two that may run one goes before the other
-  decided : {bs : List Body} → Kept c holder bs → (i j : ℕ) → i < c .bodies → j < c .bodies → i ≢ j → competes (at bs i .phase) ≡ true
+  decided : {bs : List Body} → Kept c holder bs → (i j : ℕ) → i < c .bodies → j < c .bodies → i ≢ j
+      → competes (at bs i .phase) ≡ true
       → competes (at bs j .phase) ≡ true
-      → (goesBefore byHolding (contender c bs i) (contender c bs j) ≡ true) ⊎ (goesBefore byHolding (contender c bs j) (contender c bs i) ≡ true)
+      → (goesBefore byHolding (contender c bs i) (contender c bs j) ≡ true)
+      ⊎ (goesBefore byHolding (contender c bs j) (contender c bs i) ≡ true)
   decided {bs} a i j i< j< d p q =
       by-lt (weight byHolding (contender c bs i)) (weight byHolding (contender c bs j))
       (λ l. inr (weight-before byHolding (contender c bs j) (contender c bs i) l))
@@ -74,13 +80,15 @@ module _ (c : Config) (ok : Configuration.Accepted c) where
       same-level false false e = omega arith
 
       differ : (x y : Bool) → holds (at bs i .held) ≡ x → holds (at bs j .held) ≡ y
-          → 2 * current c i (at bs i) + markOf (holds (at bs i .held)) ≡ 2 * current c j (at bs j) + markOf (holds (at bs j .held)) → ⊥
+          → 2 * current c i (at bs i) + markOf (holds (at bs i .held))
+          ≡ 2 * current c j (at bs j) + markOf (holds (at bs j .held)) → ⊥
       differ x y e f w =
           let l = same-level (holds (at bs i .held)) (holds (at bs j .held)) w in
           let o = one-holds holders a i j i< j< d l in
           go x y (sym e ∙ o ∙ ap not f) (sym (ap markOf e) ∙ marks l ∙ ap markOf f)
         where
-          marks : current c i (at bs i) ≡ current c j (at bs j) → markOf (holds (at bs i .held)) ≡ markOf (holds (at bs j .held))
+          marks : current c i (at bs i) ≡ current c j (at bs j)
+              → markOf (holds (at bs i .held)) ≡ markOf (holds (at bs j .held))
           marks l = omega arith
 
           go : (x y : Bool) → x ≡ not y → markOf x ≡ markOf y → ⊥
@@ -125,7 +133,8 @@ module _ (c : Config) (ok : Configuration.Accepted c) where
         (λ z. rw z (self (contender c bs j)))
         (λ d. by-eq (contender c bs i .level) (contender c bs j .level)
         (λ l. let k = sym (level-is bs i p) ∙ l ∙ level-is bs j q in
-        ap₂ (λ (u v : Bool). ltb (contender c bs j .level) (contender c bs i .level) || (eqb (contender c bs j .level) (contender c bs i .level) && (u && not v)))
+        ap₂ (λ (u v : Bool). ltb (contender c bs j .level) (contender c bs i .level) ||
+        (eqb (contender c bs j .level) (contender c bs i .level) && (u && not v)))
         (answers i p (begun-holds i j i< j< d k))
         (answers j q (begun-holds j i j< i< (λ z. d (sym z)) (sym k))))
         (λ n. rw (ne-eqb (contender c bs j .level) (contender c bs i .level) (λ z. n (sym z))))))
@@ -157,15 +166,19 @@ module _ (c : Config) (ok : Configuration.Accepted c) where
 
   -- no task is extended
   module _ (shaped : Configuration.Shaped c) (basic : (b : ℕ) → isExtended c b ≡ false) where
-    no-set : (s : State) (t w : ℕ) → AcceptedIn c s (Set t w) → (b : Body) → begunBody (receives w b) ≡ true → begunBody b ≡ true
+    no-set : (s : State) (t w : ℕ) → AcceptedIn c s (Set t w) → (b : Body) → begunBody (receives w b) ≡ true
+        → begunBody b ≡ true
     unfolding stepBy
     no-set s t w z b h = absurd (true≢false (sym (set-passed c s t w z .2) ∙ basic t))
 
-    old-step : (s : State) → Kept c begunBody (s .bodies) → Settled c s → (e : Event) → stepBy byBegun c s e ≡ step c s e
+    old-step : (s : State) → Kept c begunBody (s .bodies) → Settled c s → (e : Event)
+        → stepBy byBegun c s e ≡ step c s e
     unfolding stepBy
     old-step s a settled e =
-        ap (λ (k : Candidate). endingTo (runnerBy byBegun c (leavesFor c k s e)) (statusFor c k s e) (duesAt c s e) (leavesFor c k s e)) (same-runner s a)
-        ∙ ap (λ (k : Candidate). endingTo k (statusOf c s e) (duesAt c s e) (leaves c s e)) (same-runner (leaves c s e) (leaves-kept c ok begunBodies no-set s a settled e))
+        ap (λ (k : Candidate). endingTo (runnerBy byBegun c (leavesFor c k s e)) (statusFor c k s e) (duesAt c s e)
+        (leavesFor c k s e)) (same-runner s a)
+        ∙ ap (λ (k : Candidate). endingTo k (statusOf c s e) (duesAt c s e) (leaves c s e))
+        (same-runner (leaves c s e) (leaves-kept c ok begunBodies no-set s a settled e))
 
     old-from : (es : List Event) (s : State) → Kept c begunBody (s .bodies) → Settled c s
         → (seenBy byBegun c s es ≡ seen c s es) × (afterBy byBegun c s es ≡ after c s es)
@@ -176,10 +189,13 @@ module _ (c : Config) (ok : Configuration.Accepted c) where
         rw (old-step s a settled e) (ap (λ (xs : List Seen). step c s e .seen ∷ xs) (rest .0), rest .1)
 
     old-fresh : freshBy byBegun c ≡ fresh c
-    old-fresh = ap (λ (k : Candidate). dispatchedTo k (unstarted c)) (same-runner (unstarted c) (unstarted-kept c ok begunBodies no-set shaped))
+    old-fresh =
+        ap (λ (k : Candidate). dispatchedTo k (unstarted c))
+        (same-runner (unstarted c) (unstarted-kept c ok begunBodies no-set shaped))
 
     pub old-rule : (es : List Event)
-        → (seenBy byBegun c (freshBy byBegun c) es ≡ seen c (fresh c) es) × (afterBy byBegun c (freshBy byBegun c) es ≡ after c (fresh c) es)
+        → (seenBy byBegun c (freshBy byBegun c) es ≡ seen c (fresh c) es)
+        × (afterBy byBegun c (freshBy byBegun c) es ≡ after c (fresh c) es)
     old-rule es = rw old-fresh (old-from es (fresh c) (fresh-kept c ok begunBodies no-set shaped) (settled-fresh c))
 
     -- "on equal priorities the one that already began goes first"
@@ -211,7 +227,8 @@ module _ (c : Config) (ok : Configuration.Accepted c) where
             let is = runner-timed c s j js o in
             unbegun (runner c s .began)
             (sym (ap (λ (n : ℕ). not (eqb n 0) && not (runner c s .began)) (ap (λ (x : Candidate). x .level) is))
-            ∙ settled-named c s (settled-after c es (fresh c) (settled-fresh c)) (λ i h. rw (a .size) (named-after c es (fresh c) (named-fresh c) i h)))
+            ∙ settled-named c s (settled-after c es (fresh c) (settled-fresh c))
+            (λ i h. rw (a .size) (named-after c es (fresh c) (named-fresh c) i h)))
           where
             unbegun : (b : Bool) → not b ≡ false → b ≡ true
             unbegun true h = refl
@@ -232,15 +249,20 @@ module _ (c : Config) (ok : Configuration.Accepted c) where
     pub decided-after : (es : List Event) (i j : ℕ) → i < c .bodies → j < c .bodies → i ≢ j
         → competes (bodyOf (after c (fresh c) es) i .phase) ≡ true
         → competes (bodyOf (after c (fresh c) es) j .phase) ≡ true
-        → (goesBefore byHolding (contender c (after c (fresh c) es .bodies) i) (contender c (after c (fresh c) es .bodies) j) ≡ true)
-        ⊎ (goesBefore byHolding (contender c (after c (fresh c) es .bodies) j) (contender c (after c (fresh c) es .bodies) i) ≡ true)
+        → (goesBefore byHolding (contender c (after c (fresh c) es .bodies) i)
+        (contender c (after c (fresh c) es .bodies) j) ≡ true)
+        ⊎ (goesBefore byHolding (contender c (after c (fresh c) es .bodies) j)
+        (contender c (after c (fresh c) es .bodies) i) ≡ true)
     decided-after es = decided (kept es)
 
     pub decided-at : (es : List Event) (e : Event) (i j : ℕ) → i < c .bodies → j < c .bodies → i ≢ j
         → competes (bodyOf (leaves c (after c (fresh c) es) e) i .phase) ≡ true
         → competes (bodyOf (leaves c (after c (fresh c) es) e) j .phase) ≡ true
-        → (goesBefore byHolding (contender c (leaves c (after c (fresh c) es) e .bodies) i) (contender c (leaves c (after c (fresh c) es) e .bodies) j) ≡ true)
-        ⊎ (goesBefore byHolding (contender c (leaves c (after c (fresh c) es) e .bodies) j) (contender c (leaves c (after c (fresh c) es) e .bodies) i) ≡ true)
+        → (goesBefore byHolding (contender c (leaves c (after c (fresh c) es) e .bodies) i)
+        (contender c (leaves c (after c (fresh c) es) e .bodies) j) ≡ true)
+        ⊎ (goesBefore byHolding (contender c (leaves c (after c (fresh c) es) e .bodies) j)
+        (contender c (leaves c (after c (fresh c) es) e .bodies) i) ≡ true)
     decided-at es e =
         decided
-        (leaves-kept c ok holders (set-holds c) (after c (fresh c) es) (kept es) (settled-after c es (fresh c) (settled-fresh c)) e)
+        (leaves-kept c ok holders (set-holds c) (after c (fresh c) es) (kept es)
+        (settled-after c es (fresh c) (settled-fresh c)) e)
