@@ -10,6 +10,7 @@ use lib.Dec.{eqb}
 use Rattle.number.proofs.Bits.{or-bit, and-bits, and-not, no-bit}
 use Rattle.number.proofs.Bits as Number
 use Rattle.scheduler.specs.Bits.{bitSet, anySet, withBits, withoutBits}
+use Rattle.scheduler.specs.Body.{waiting, resumed}
 
 module _ (bits w : ℕ) where
   pub any-set : (anySet bits w ≡ false) ↔ ((i : ℕ) → bitSet bits i && bitSet w i ≡ false)
@@ -48,3 +49,7 @@ module _ (bits w : ℕ) where
 pub mask-zero : (bits : ℕ) → anySet bits 0 ≡ false
 unfolding anySet
 mask-zero bits = ap (λ (n : ℕ). not (eqb n 0)) (and-zero-r bits)
+
+-- "Wait on mask 0 is never resumed"
+pub mask-zero-waits : (bits : ℕ) → resumed bits (waiting 0) ≡ waiting 0
+mask-zero-waits bits = rw (mask-zero bits)

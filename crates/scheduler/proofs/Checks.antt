@@ -234,13 +234,9 @@ module _ (c : Config) (s : State) where
       → (nobodyRuns c s ≡ false) × (r < c .resources) × (isUser c r (caller c s) ≡ true)
       × (heldIn r (s .bodies) ≡ false)
   get-passed r e =
-      let p = all-passed _ (omega arith) e in (
-        someone (p .0),
-        leb-false (c .resources) r (p .1 .0),
-        not-false (isUser c r (caller c s))
-            (p .1 .1 .0),
-        p .1 .1 .1 .0,
-      )
+      let p = all-passed _ (omega arith) e in
+      let user = not-false (isUser c r (caller c s)) in
+      (someone (p .0), leb-false (c .resources) r (p .1 .0), user (p .1 .1 .0), p .1 .1 .1 .0)
 
   -- r is the one that the runner took last
   pub release-passed : (r : ℕ) → releaseStatus c s r ≡ done

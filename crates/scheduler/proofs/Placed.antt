@@ -77,15 +77,15 @@ waits-plain w b h = cond-plain (anySet (b .bits) w) b (become (waiting w) b) h r
 receives-plain : (w : ℕ) → KeepsPlain (receives w)
 receives-plain w b h = go (b .phase) h
   where
-    resumes : (p : Bool) (v : ℕ) → isTriggered (cond p started (waiting v)) ≡ false
-    resumes true v = refl
-    resumes false v = refl
+    resumes : (p : Bool) (x y : Phase) → isTriggered x ≡ false → isTriggered y ≡ false → isTriggered (cond p x y) ≡ false
+    resumes true x y n m = n
+    resumes false x y n m = m
 
     go : (p : Phase) → isTriggered p ≡ false → isTriggered (resumed (withBits (b .bits) w) p) ≡ false
     go suspended e = refl
     go ready e = refl
     go started e = refl
-    go (waiting v) e = resumes (anySet (withBits (b .bits) w) v) v
+    go (waiting v) e = resumes (anySet (withBits (b .bits) w) v) started (waiting v) refl refl
     go (triggered x) e = e
 
 -- an ISR, an extended task and one of OSEK are not time-triggered

@@ -395,7 +395,7 @@ any-set = Bits.any-set
 
 -- "Wait on mask 0 is never resumed"
 pub mask-zero-waits : (bits : ℕ) → resumed bits (waiting 0) ≡ waiting 0
-mask-zero-waits bits = rw (Bits.mask-zero bits)
+mask-zero-waits = Bits.mask-zero-waits
 
 -- in every state that the fresh start leads to, whoever holds a resource is one of its declared users: Release needs no
 -- status for it
