@@ -18,7 +18,7 @@ use Rattle.config.specs.declared.Config.{Config}
 use Rattle.config.specs.Meaning.{countsLines, isTimed}
 use Rattle.scheduler.specs.Bits.{anySet}
 use Rattle.scheduler.specs.Status.{done, limitReached}
-use Rattle.scheduler.specs.Body.{Phase, suspended, ready, started, waiting, triggered, isSuspended, hasBegun, resumed, Body, become, activated, triggers, rest, finished, requested, gets, releases, activatedByEntry, loses, waits, receives, clears}
+use Rattle.scheduler.specs.Body.{ready, waiting, isSuspended, hasBegun, Body, become, activated, triggers, rest, finished, requested, gets, releases, activatedByEntry, loses, waits, receives, clears}
 use Rattle.scheduler.specs.State.{State, Table, stopped, noBody, bodyOf, changing, withTable, runner}
 use Rattle.scheduler.specs.Call.{caller, finish, finishTimed, statusOf, effectOf, refusalOf}
 use Rattle.scheduler.specs.Tick.{counting, counted, starting, trigger, enter, activatingDue, dues, ticked}
@@ -74,7 +74,7 @@ requested-losses b = cond-losses (hasBegun (b .phase)) _ _ (b .losses) refl refl
 waits-losses : (w : ℕ) → KeepsLosses (waits w)
 waits-losses w b = cond-losses (anySet (b .bits) w) _ _ (b .losses) refl refl
 
--- a Wait clears no bit, and who is resumed has begun as before
+-- a Wait clears no bit, and a request that waits at the end of its body makes it ready
 pub waits-bits : (w : ℕ) (b : Body) → waits w b .bits ≡ b .bits
 waits-bits w b = go (anySet (b .bits) w)
   where
@@ -82,16 +82,8 @@ waits-bits w b = go (anySet (b .bits) w)
     go true = refl
     go false = refl
 
-pub resumed-begun : (bits : ℕ) (p : Phase) → hasBegun (resumed bits p) ≡ hasBegun p
-resumed-begun bits suspended = refl
-resumed-begun bits ready = refl
-resumed-begun bits started = refl
-resumed-begun bits (waiting w) = go (anySet bits w)
-  where
-    go : (p : Bool) → hasBegun (cond p started (waiting w)) ≡ true
-    go true = refl
-    go false = refl
-resumed-begun bits (triggered x) = refl
+pub finished-waiting : (b : Body) → b .pending ≡ true → finished b .phase ≡ ready
+finished-waiting b h = rw h
 
 pub cond-either : (P : State → Type 0) (b : Bool) (x y : State) → P x → P y → P (cond b x y)
 cond-either P true x y p q = p

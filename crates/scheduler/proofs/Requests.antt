@@ -24,6 +24,7 @@ use Rattle.scheduler.specs.Tick.{dues, counted}
 use Rattle.scheduler.specs.Call.{caller, finish, finishTimed, stop, statusOf, effectOf, refusalOf}
 use Rattle.scheduler.specs.Scheduler.{begins, markOf, leaves, step, stepBy}
 use Rattle.scheduler.specs.History.{AcceptedIn, Ends}
+use Rattle.scheduler.proofs.Bits.{resumed-begun}
 use Rattle.scheduler.proofs.Choice.{Taken, no-one, body, chosen-from, candidate-active, runner-timed, runner-untimed}
 use Rattle.scheduler.proofs.Checks.{activate-passed, chain-passed}
 use Rattle.scheduler.proofs.Effects.{bodyOf-changing-same, bodyOf-changing-other, refusalOf-keeps, entered, activatingDue-keeps, cond-either}
@@ -76,18 +77,7 @@ waits-begun : (w : ℕ) → KeepsBegun (waits w)
 waits-begun w b h = cond-begun (anySet (b .bits) w) b (become (waiting w) b) h refl
 
 receives-begun : (w : ℕ) → KeepsBegun (receives w)
-receives-begun w b h = go (b .phase) h
-  where
-    go : (p : Phase) → hasBegun p ≡ true → hasBegun (resumed (withBits (b .bits) w) p) ≡ true
-    go suspended e = absurd (true≢false (sym e))
-    go ready e = absurd (true≢false (sym e))
-    go started e = refl
-    go (triggered x) e = e
-    go (waiting v) e = cond-phase (anySet (withBits (b .bits) w) v)
-      where
-        cond-phase : (t : Bool) → hasBegun (cond t started (waiting v)) ≡ true
-        cond-phase true = refl
-        cond-phase false = refl
+receives-begun w b h = resumed-begun (withBits (b .bits) w) (b .phase) ∙ h
 
 -- who has begun is not suspended
 begun-active : (p : Phase) → hasBegun p ≡ true → isSuspended p ≡ false
