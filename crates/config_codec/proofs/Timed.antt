@@ -1,4 +1,5 @@
--- The searches for kind 3, step by step: among the bodies of a mask, and among tasks. Then the tests of an entry and the one before it.
+-- The searches for kind 3, step by step: among the bodies of a mask, and among tasks. Then the tests of an entry and the
+-- one before it.
 -- Assumes nothing.
 use Prim.Native.Nat.{ℕ, _+_, _-_, _/_, _%_, _≤_, _<_}
 use mathlib.Core.Path.{_≡_, refl}

@@ -1,4 +1,5 @@
--- `table_fault` meets its contract: where kind 3 is not near no test finds it, and else the three tests are those of the definition.
+-- `table_fault` meets its contract: where neither entry is of kind 3 no test finds anything, and else the three tests are
+-- those of the definition.
 -- Assumes nothing.
 use mathlib.Core.Path.{sym, _∙_}
 use borrow.Author.Tests.{not-true}
