@@ -35,6 +35,12 @@ abbrev Passed : List Check → Type 0
 Passed [] = Unit {0}
 Passed (k ∷ ks) = (k .fails ≡ false) × Passed ks
 
+first-fails : (before : List Check) (k : Check) (rest : List Check) → Passed before → k .fails ≡ true
+    → firstGiven (before ++ k ∷ rest) ≡ k .status
+unfolding firstGiven
+first-fails [] k rest p q = rw q
+first-fails (x ∷ before) k rest p q = rw (p .0) (first-fails before k rest (p .1) q)
+
 all-passed : (ks : List Check) → Refusing ks → firstGiven ks ≡ done → Passed ks
 unfolding firstGiven
 all-passed [] r e = tt
@@ -59,12 +65,6 @@ none-passed : (ks : List Check) → NoneFails ks → Passed ks
 none-passed [] none = tt
 none-passed (k ∷ ks) none =
     (none k [] ks refl, none-passed ks (λ x before rest q. none x (k ∷ before) rest (ap (λ l. k ∷ l) q)))
-
-first-fails : (before : List Check) (k : Check) (rest : List Check) → Passed before → k .fails ≡ true
-    → firstGiven (before ++ k ∷ rest) ≡ k .status
-unfolding firstGiven
-first-fails [] k rest p q = rw q
-first-fails (x ∷ before) k rest p q = rw (p .0) (first-fails before k rest (p .1) q)
 
 -- every check of the table gives a status other than 0
 refusing : (c : Config) (s : State) (e : Event) → Refusing (checksOf c s e)
