@@ -13,7 +13,6 @@ mod fresh;
 mod lookup;
 mod resources;
 mod tables;
-mod turning;
 
 pub use bodies::counts_lines;
 use stack::NONE;
