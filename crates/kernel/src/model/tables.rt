@@ -35,16 +35,15 @@ use super::lookup::short_at;
 use word::union;
 
 impl Model {
-    // A tick where no cell has a turn to pass. `timed`: the ranks that are time-triggered tasks.
+    // A tick where no cell has a turn to pass.
     pub fn tick<'a>(
         mut self,
         compare: &'a [u16; 64],
         entry_rank: &'a [u8; 64],
         priority: &'a [u8; 32],
-        timed: u32,
     ) -> Outcome
         requires { ⌜ self .turning ≡ false ⌝ }
-        ensures { λ r. ⌜ r ≡ outcomeOf (tick (now (compare .entry)) (now («entry_rank» .entry)) (now (priority .entry)) timed (view self)) ⌝ }
+        ensures { λ r. ⌜ r ≡ outcomeOf (tick (now (compare .entry)) (now («entry_rank» .entry)) (now (priority .entry)) (view self)) ⌝ }
     {
         let started = self.started;
         let asked = self.request;
@@ -60,7 +59,7 @@ impl Model {
         let picked = arbitrated(request, started, aside, runner, level, priority);
         self.counter = counter;
         self.losses = losses;
-        if is_triggered(level, picked.level, timed, picked.runner) {
+        if is_triggered(level, picked.level) {
             return self.launched(request, picked.runner);
         }
         self.seated(picked)
@@ -73,10 +72,9 @@ impl Model {
         compare: &'a [u16; 64],
         entry_rank: &'a [u8; 64],
         priority: &'a [u8; 32],
-        timed: u32,
     ) -> Outcome
         requires { ⌜ self .turning ≡ true ⌝ }
-        ensures { λ r. ⌜ r ≡ outcomeOf (tick (now (compare .entry)) (now («entry_rank» .entry)) (now (priority .entry)) timed (view self)) ⌝ }
+        ensures { λ r. ⌜ r ≡ outcomeOf (tick (now (compare .entry)) (now («entry_rank» .entry)) (now (priority .entry)) (view self)) ⌝ }
     {
         let started = self.started;
         let asked = self.request;
@@ -96,7 +94,7 @@ impl Model {
         self.counter = counter;
         self.on = next;
         self.losses = losses;
-        if is_triggered(level, picked.level, timed, picked.runner) {
+        if is_triggered(level, picked.level) {
             return self.launched(request, picked.runner);
         }
         self.seated(picked)

@@ -42,7 +42,7 @@ returns c =
     let c₆ = c₅ .before .before .before in let c₇ = c₆ .before in let c₈ = c₇ .before .before .before in
     let c₉ = c₈ .before .before .before .before .before .before in let a = c₉ .args in
     (c .launched .ensures)
-    ∙ ap outcomeOf (turning-launched (a .compare .now) (a .entry-rank .now) (a .priority .now) (a .timed) (view (a .self)) (c₆ .union .ensures) (c₉ .pre)
+    ∙ ap outcomeOf (turning-launched (a .compare .now) (a .entry-rank .now) (a .priority .now) (view (a .self)) (c₆ .union .ensures) (c₉ .pre)
     (c₇ .tick-turns .ensures .0) (c₇ .tick-turns .ensures .1) (c₈ .tick-switches .ensures) (c₃ .some-turn .ensures) (c₅ .take-each .ensures)
     (ap viewPicked (c₄ .arbitrated .ensures)) (c₂ .is-triggered .ensures) (c₁ .if1 .taken))
 
@@ -55,7 +55,7 @@ returns-2 c =
     let c₆ = c₅ .before .before .before in let c₇ = c₆ .before in let c₈ = c₇ .before .before .before in
     let c₉ = c₈ .before .before .before .before .before .before in let a = c₉ .args in
     (c .seated .ensures)
-    ∙ ap outcomeOf (turning-done (a .compare .now) (a .entry-rank .now) (a .priority .now) (a .timed) (view (a .self)) (c₆ .union .ensures) (c₉ .pre)
+    ∙ ap outcomeOf (turning-done (a .compare .now) (a .entry-rank .now) (a .priority .now) (view (a .self)) (c₆ .union .ensures) (c₉ .pre)
     (c₇ .tick-turns .ensures .0) (c₇ .tick-turns .ensures .1) (c₈ .tick-switches .ensures) (c₃ .some-turn .ensures) (c₅ .take-each .ensures)
     (ap viewPicked (c₄ .arbitrated .ensures)) (c₂ .is-triggered .ensures) (c₁ .if1 .left))
 
