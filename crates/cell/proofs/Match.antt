@@ -9,7 +9,7 @@ use mathlib.Core.Path.{_≡_, refl, sym, ap, _∙_}
 use native.Mathlib.Omega.{arith}
 use borrow.Author.Tests.{lt-ltb, le-ltb}
 use Rattle.cell.specs.declared.Cell.{Cell}
-use Rattle.cell.specs.Cell.{compareIn, startCounterIn, startCellIn, resetIn, tickedIn, ticksIn}
+use Rattle.cell.specs.Cell.{compareIn, startCounterIn, startCellIn, resetIn, tickCellIn, ticksIn}
 use Rattle.cell.specs.Due.{due}
 use Rattle.cell.proofs.Order.{lt-or-le}
 use Rattle.cell.proofs.Modulo.{minus-unique}
@@ -69,11 +69,11 @@ module _ (M P : ℕ) (one-le : 1 ≤ P) (P-fits : P ≤ M) where
       (lt-or-le M D)
 
   -- the compare value is not reached, or reached and a turn has passed: no match, and one tick less
-  counting-passes : {c : Cell} {u : ℕ} → Counting c (suc (suc u)) → (tickedIn M c .matched ≡ false) × Counting (tickedIn M c) (suc u)
+  counting-passes : {c : Cell} {u : ℕ} → Counting c (suc (suc u)) → (tickCellIn M c .matched ≡ false) × Counting (tickCellIn M c) (suc u)
   counting-passes {c} {u} k = go (k .ahead) (c .turn) refl (k .reaches) (k .left)
     where
       go : (v : ℕ) (t : Bool) → c .turn ≡ t → Reaches M (P - 1) (c .counter) v → suc (suc u) ≡ v + cond t M 0
-          → (tickedIn M c .matched ≡ false) × Counting (tickedIn M c) (suc u)
+          → (tickCellIn M c .matched ≡ false) × Counting (tickCellIn M c) (suc u)
       go zero t turn r left = absurd (omega (arith, r .some))
       go (suc zero) false turn r left = absurd (omega arith)
       go (suc zero) true turn r left =
@@ -92,11 +92,11 @@ module _ (M P : ℕ) (one-le : 1 ≤ P) (P-fits : P ≤ M) where
           rw (ticked-passed M c (k .on) refl (λ here. p .0 (here ∙ k .compares)))
           (refl, record { on = refl; compares = k .compares; ahead = suc v; reaches = p .1; left = rw turn (omega arith) })
 
-  counting-matches : {c : Cell} → Counting c 1 → (tickedIn M c .matched ≡ true) × Counting (tickedIn M c) P
+  counting-matches : {c : Cell} → Counting c 1 → (tickCellIn M c .matched ≡ true) × Counting (tickCellIn M c) P
   counting-matches {c} k = go (k .ahead) (c .turn) refl (k .reaches) (k .left)
     where
       go : (v : ℕ) (t : Bool) → c .turn ≡ t → Reaches M (P - 1) (c .counter) v → 1 ≡ v + cond t M 0
-          → (tickedIn M c .matched ≡ true) × Counting (tickedIn M c) P
+          → (tickCellIn M c .matched ≡ true) × Counting (tickCellIn M c) P
       go zero t turn r left = absurd (omega (arith, r .some))
       go (suc v) true turn r left = absurd (omega arith)
       go (suc (suc v)) false turn r left = absurd (omega arith)

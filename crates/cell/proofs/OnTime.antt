@@ -6,7 +6,7 @@ use mathlib.Core.Bool.{Bool, true, false}
 use mathlib.Core.Path.{_≡_, refl, sym, ap, _∙_}
 use native.Mathlib.Omega.{arith}
 use Rattle.cell.specs.declared.Cell.{Cell}
-use Rattle.cell.specs.Cell.{modulus, unmarked, startCell, tickedIn, ticksIn, ticked, ticks}
+use Rattle.cell.specs.Cell.{modulus, unmarked, startCell, tickCellIn, ticksIn, tickCell, ticks}
 use Rattle.cell.specs.Due.{due, untilDue, OnTime, Left, Periodic}
 use Rattle.cell.proofs.Due as Due
 use Rattle.cell.proofs.Match as Match
@@ -28,17 +28,17 @@ module _ (P D : ℕ) where
       when-due n = Match.matches-when-due modulus P one-le P-fits D n some D-fits
 
   module _ (c : Cell) (n : ℕ) (on-time : OnTime c P D n) where
-    pub on-time-matched : ticked c .matched ≡ due P D (suc n)
+    pub on-time-matched : tickCell c .matched ≡ due P D (suc n)
     unfolding ticksIn
     on-time-matched = let e : n + 1 ≡ suc n = omega arith in rw e at (on-time .matches 0)
 
-    pub on-time-tick : OnTime (ticked c) P D (suc n)
-    unfolding ticksIn tickedIn
+    pub on-time-tick : OnTime (tickCell c) P D (suc n)
+    unfolding ticksIn tickCellIn
     on-time-tick =
         record { on = on-time .on; matches = λ k. let e : suc n + suc k ≡ n + suc (suc k) = omega arith in rw e (on-time .matches (suc k)) }
 
     pub on-time-unmarked : OnTime (unmarked (c .counter) (c .compare) (c .on) (c .turn)) P D n
-    unfolding ticksIn tickedIn
+    unfolding ticksIn tickCellIn
     on-time-unmarked = record { on = on-time .on; matches = on-time .matches }
 
     pub on-time-left : 1 ≤ P → Left c P (untilDue P D n)
@@ -46,19 +46,19 @@ module _ (P D : ℕ) where
         record { on = on-time .on; matches = λ k. let e : 0 + suc k ≡ suc k = omega arith in rw e (on-time .matches k ∙ Due.due-from P one-le D n k) }
 
 pub on-time-numbers : (P D n i k : ℕ) (on t : Bool) → OnTime (unmarked i k on t) P D n
-    → OnTime (unmarked (ticked (unmarked i k on t) .counter) k on (ticked (unmarked i k on t) .turn)) P D (suc n)
-unfolding tickedIn
-on-time-numbers P D n i k on t on-time = on-time-unmarked P D (ticked (unmarked i k on t)) (suc n) (on-time-tick P D (unmarked i k on t) n on-time)
+    → OnTime (unmarked (tickCell (unmarked i k on t) .counter) k on (tickCell (unmarked i k on t) .turn)) P D (suc n)
+unfolding tickCellIn
+on-time-numbers P D n i k on t on-time = on-time-unmarked P D (tickCell (unmarked i k on t)) (suc n) (on-time-tick P D (unmarked i k on t) n on-time)
 
 module _ (P : ℕ) (one-le : 1 ≤ P) (c : Cell) where
-  pub left-above-one : (u : ℕ) → 1 < u → Left c P u → (ticked c .matched ≡ false) × Left (ticked c) P (u - 1)
+  pub left-above-one : (u : ℕ) → 1 < u → Left c P u → (tickCell c .matched ≡ false) × Left (tickCell c) P (u - 1)
   left-above-one u more left = (
     on-time-matched P u c 0 left ∙ Due.due-before P more,
-    rw (Due.until-before P more) at (on-time-left P u (ticked c) 1 (on-time-tick P u c 0 left) one-le),
+    rw (Due.until-before P more) at (on-time-left P u (tickCell c) 1 (on-time-tick P u c 0 left) one-le),
   )
 
-  pub left-one : Left c P 1 → (ticked c .matched ≡ true) × Left (ticked c) P P
+  pub left-one : Left c P 1 → (tickCell c .matched ≡ true) × Left (tickCell c) P P
   left-one left = (
     on-time-matched P 1 c 0 left ∙ Due.due-first P 1,
-    rw (Due.until-due P 1) at (on-time-left P 1 (ticked c) 1 (on-time-tick P 1 c 0 left) one-le),
+    rw (Due.until-due P 1) at (on-time-left P 1 (tickCell c) 1 (on-time-tick P 1 c 0 left) one-le),
   )

@@ -6,13 +6,13 @@ use native.Mathlib.Nat.{le-of-suc-le-suc}
 use native.Mathlib.Omega.{arith}
 use lib.ListN.{length, getD, length-map}
 use Rattle.cell.specs.declared.Cell.{Cell}
-use Rattle.cell.specs.Cell.{ticked, ticks, ticksIn}
+use Rattle.cell.specs.Cell.{tickCell, ticks, ticksIn}
 use Rattle.cell.specs.Rows.{tickedRow, rowTicks}
 
 pub row-ticks : (n : ℕ) (cs : List Cell) → rowTicks n cs ≡ map (ticks n) cs
 unfolding rowTicks ticksIn
 row-ticks zero cs = sym (map-id cs)
-row-ticks (suc n) cs = row-ticks n (tickedRow cs) ∙ map-map (ticks n) ticked cs
+row-ticks (suc n) cs = row-ticks n (tickedRow cs) ∙ map-map (ticks n) tickCell cs
 
 pub row-length-same : (n : ℕ) (cs : List Cell) → length (rowTicks n cs) ≡ length cs
 row-length-same n cs = ap length (row-ticks n cs) ∙ length-map cs (ticks n)

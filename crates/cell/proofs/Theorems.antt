@@ -12,7 +12,7 @@ use native.Mathlib.Omega.{arith}
 use lib.Dec.{eqb}
 use lib.ListN.{length, getD}
 use Rattle.cell.specs.declared.Cell.{Cell}
-use Rattle.cell.specs.Cell.{modulus, unmarked, startCounterIn, sumsIn, startCellIn, tickedIn, ticksIn, startCounter, sums, startCell, ticked, ticks, stopped}
+use Rattle.cell.specs.Cell.{modulus, unmarked, startCounterIn, sumsIn, startCellIn, tickCellIn, ticksIn, startCounter, sums, startCell, tickCell, ticks, stopCell}
 use Rattle.cell.specs.Due.{due, untilDue, OnTime, Left, Periodic}
 use Rattle.cell.specs.Rows.{rowTicks}
 use Rattle.cell.proofs.Reach as Reach
@@ -34,27 +34,27 @@ compare-reached = compare-reached-in modulus
 
 -- a tick of a cell of any content
 module _ (c : Cell) where
-  pub ticked-compare-same : ticked c .compare ≡ c .compare
-  unfolding tickedIn
+  pub ticked-compare-same : tickCell c .compare ≡ c .compare
+  unfolding tickCellIn
   ticked-compare-same = refl
 
-  pub ticked-on-same : ticked c .on ≡ c .on
-  unfolding tickedIn
+  pub ticked-on-same : tickCell c .on ≡ c .on
+  unfolding tickCellIn
   ticked-on-same = refl
 
-  pub ticked-mark : ticked c .matched ≡ (c .on && eqb ((c .counter + 1) % modulus) (c .compare)) && not (c .turn)
-  unfolding tickedIn
+  pub ticked-mark : tickCell c .matched ≡ (c .on && eqb ((c .counter + 1) % modulus) (c .compare)) && not (c .turn)
+  unfolding tickCellIn
   ticked-mark = refl
 
-  pub ticked-turn : ticked c .turn ≡ c .turn && not (c .on && eqb ((c .counter + 1) % modulus) (c .compare))
-  unfolding tickedIn
+  pub ticked-turn : tickCell c .turn ≡ c .turn && not (c .on && eqb ((c .counter + 1) % modulus) (c .compare))
+  unfolding tickCellIn
   ticked-turn = refl
 
-  pub ticked-counter : ticked c .counter ≡ cond (ticked c .matched) 65535 (cond (c .on) ((c .counter + 1) % modulus) (c .counter))
-  unfolding tickedIn
+  pub ticked-counter : tickCell c .counter ≡ cond (tickCell c .matched) 65535 (cond (c .on) ((c .counter + 1) % modulus) (c .counter))
+  unfolding tickCellIn
   ticked-counter = refl
 
-  pub off-ticked-same : c .on ≡ false → ticked c ≡ unmarked (c .counter) (c .compare) false (c .turn)
+  pub off-ticked-same : c .on ≡ false → tickCell c ≡ unmarked (c .counter) (c .compare) false (c .turn)
   off-ticked-same = Tick.ticked-off modulus c
 
   -- a cell that is off never matches and keeps its counter and its turn, however many ticks there are
@@ -62,7 +62,7 @@ module _ (c : Cell) where
   off-ticks-same off n = Tick.off-ticks modulus n c off
 
   -- "Stop switches the table's cells off and sets their counters to 0": with numbers, whatever stood there before
-  pub stopped-zero : (stopped c .counter ≡ 0) × (stopped c .on ≡ false) × (stopped c .turn ≡ false) × (stopped c .compare ≡ c .compare)
+  pub stopped-zero : (stopCell c .counter ≡ 0) × (stopCell c .on ≡ false) × (stopCell c .turn ≡ false) × (stopCell c .compare ≡ c .compare)
   stopped-zero = (refl, refl, refl, refl)
 
 -- a started cell matches at exactly the ticks at which its entry is due, however many ticks there are: for a counter of any modulus M and a
@@ -94,10 +94,10 @@ on-time-start = OnTime.on-time-start
 -- a cell that is on time n ticks after its start
 module _ (P D n : ℕ) (c : Cell) (on-time : OnTime c P D n) where
   -- at the next tick it matches exactly if its entry is due, and stays on time
-  pub on-time-matched : ticked c .matched ≡ due P D (suc n)
+  pub on-time-matched : tickCell c .matched ≡ due P D (suc n)
   on-time-matched = OnTime.on-time-matched P D c n on-time
 
-  pub on-time-tick : OnTime (ticked c) P D (suc n)
+  pub on-time-tick : OnTime (tickCell c) P D (suc n)
   on-time-tick = OnTime.on-time-tick P D c n on-time
 
   -- as many ticks are left to its next match as to the next due one
@@ -106,7 +106,7 @@ module _ (P D n : ℕ) (c : Cell) (on-time : OnTime c P D n) where
 
 -- for whoever keeps a cell as plain numbers: its mark does not count, and of the rest a tick changes the counter and the turn alone
 pub on-time-numbers : (P D n i k : ℕ) (on t : Bool) → OnTime (unmarked i k on t) P D n
-    → OnTime (unmarked (ticked (unmarked i k on t) .counter) k on (ticked (unmarked i k on t) .turn)) P D (suc n)
+    → OnTime (unmarked (tickCell (unmarked i k on t) .counter) k on (tickCell (unmarked i k on t) .turn)) P D (suc n)
 on-time-numbers = OnTime.on-time-numbers
 
 -- one tick left is what makes the next tick a due one
@@ -118,11 +118,11 @@ pub left-start : (P D : ℕ) → 1 ≤ P → P ≤ modulus → 1 ≤ D → D ≤
 left-start = on-time-start
 
 -- above one, a tick takes one away and is no match
-pub left-above-one : (P u : ℕ) (c : Cell) → 1 ≤ P → 1 < u → Left c P u → (ticked c .matched ≡ false) × Left (ticked c) P (u - 1)
+pub left-above-one : (P u : ℕ) (c : Cell) → 1 ≤ P → 1 < u → Left c P u → (tickCell c .matched ≡ false) × Left (tickCell c) P (u - 1)
 left-above-one P u c one-le = OnTime.left-above-one P one-le c u
 
 -- at one, a tick is a match, and the next is a period ahead
-pub left-one : (P : ℕ) (c : Cell) → 1 ≤ P → Left c P 1 → (ticked c .matched ≡ true) × Left (ticked c) P P
+pub left-one : (P : ℕ) (c : Cell) → 1 ≤ P → Left c P 1 → (tickCell c .matched ≡ true) × Left (tickCell c) P P
 left-one P c one-le = OnTime.left-one P one-le c
 
 -- a row keeps its length, and its cells their places: each is ticked for itself

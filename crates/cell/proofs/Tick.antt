@@ -6,26 +6,26 @@ use mathlib.Core.Path.{_≡_, refl, ap, _∙_}
 use lib.Dec.{eqb}
 use borrow.Author.Tests.{eq-eqb, ne-eqb}
 use Rattle.cell.specs.declared.Cell.{Cell}
-use Rattle.cell.specs.Cell.{cellOf, unmarked, sumIn, resetIn, tickedIn, ticksIn}
+use Rattle.cell.specs.Cell.{cellOf, unmarked, sumIn, resetIn, tickCellIn, ticksIn}
 
 module _ (M : ℕ) (c : Cell) where
-  pub ticked-off : c .on ≡ false → tickedIn M c ≡ unmarked (c .counter) (c .compare) false (c .turn)
-  unfolding tickedIn
+  pub ticked-off : c .on ≡ false → tickCellIn M c ≡ unmarked (c .counter) (c .compare) false (c .turn)
+  unfolding tickCellIn
   ticked-off off = simp (off, and-true)
 
   -- n is what the addition gives
   module _ {n : ℕ} (on : c .on ≡ true) (sum : n ≡ sumIn M (c .counter)) where
-    pub ticked-matched : c .turn ≡ false → n ≡ c .compare → tickedIn M c ≡ cellOf (resetIn M) (c .compare) true true false
-    unfolding tickedIn
+    pub ticked-matched : c .turn ≡ false → n ≡ c .compare → tickCellIn M c ≡ cellOf (resetIn M) (c .compare) true true false
+    unfolding tickCellIn
     ticked-matched none meets = simp (on, none, ← sum, eq-eqb _ _ meets)
 
     -- a turn has passed
-    pub ticked-turned : c .turn ≡ true → n ≡ c .compare → tickedIn M c ≡ unmarked n (c .compare) true false
-    unfolding tickedIn
+    pub ticked-turned : c .turn ≡ true → n ≡ c .compare → tickCellIn M c ≡ unmarked n (c .compare) true false
+    unfolding tickCellIn
     ticked-turned some meets = simp (on, some, ← sum, eq-eqb _ _ meets)
 
-    pub ticked-passed : (n ≡ c .compare → ⊥) → tickedIn M c ≡ unmarked n (c .compare) true (c .turn)
-    unfolding tickedIn
+    pub ticked-passed : (n ≡ c .compare → ⊥) → tickCellIn M c ≡ unmarked n (c .compare) true (c .turn)
+    unfolding tickCellIn
     ticked-passed misses = simp (on, ← sum, ne-eqb _ _ misses, and-true)
 
 -- the steps of the code, for a cell that is on or off: n is the count, r whether it is the compare value, m the mark, next the counter that
@@ -33,8 +33,8 @@ module _ (M : ℕ) (c : Cell) where
 pub ticked-made : (M : ℕ) (c : Cell) (n : ℕ) (r m : Bool) (next : ℕ) (t : Bool)
     → n ≡ cond (c .on) (sumIn M (c .counter)) (c .counter) → r ≡ c .on && eqb n (c .compare) → m ≡ r && not (c .turn)
     → next ≡ cond m (resetIn M) n → t ≡ c .turn && not r
-    → cellOf next (c .compare) (c .on) m t ≡ tickedIn M c
-unfolding tickedIn
+    → cellOf next (c .compare) (c .on) m t ≡ tickCellIn M c
+unfolding tickCellIn
 ticked-made M c n r m next t counts reaches marks sets turns =
     rw (sets, turns, marks, reaches, counts, compares (c .on) (sumIn M (c .counter)) (c .counter) (c .compare))
   where

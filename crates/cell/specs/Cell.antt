@@ -76,12 +76,12 @@ countedIn M c = cond (matchesIn M c) (resetIn M) (cond (c .on) (sumIn M (c .coun
 
 -- "each record keeps its compare value and switch, gets the counter above .., and its match mark tells of this tick only"; "The row tick
 -- keeps or clears that field by the same rule"
-unfoldable pub tickedIn : ℕ → Cell → Cell
-tickedIn M c = cellOf (countedIn M c) (c .compare) (c .on) (matchesIn M c) (turnIn M c)
+unfoldable pub tickCellIn : ℕ → Cell → Cell
+tickCellIn M c = cellOf (countedIn M c) (c .compare) (c .on) (matchesIn M c) (turnIn M c)
 
 unfoldable pub ticksIn : ℕ → ℕ → Cell → Cell
 ticksIn M zero c = c
-ticksIn M (suc n) c = ticksIn M n (tickedIn M c)
+ticksIn M (suc n) c = ticksIn M n (tickCellIn M c)
 
 abbrev pub startCounter : ℕ → ℕ → ℕ
 startCounter = startCounterIn modulus
@@ -95,12 +95,12 @@ long = longIn modulus
 abbrev pub startCell : ℕ → ℕ → Cell
 startCell = startCellIn modulus
 
-abbrev pub ticked : Cell → Cell
-ticked = tickedIn modulus
+abbrev pub tickCell : Cell → Cell
+tickCell = tickCellIn modulus
 
 abbrev pub ticks : ℕ → Cell → Cell
 ticks = ticksIn modulus
 
 -- "Stop switches the table's cells off and sets their counters to 0"; "Stop clears it"
-abbrev pub stopped : Cell → Cell
-stopped c = unmarked 0 (c .compare) false false
+abbrev pub stopCell : Cell → Cell
+stopCell c = unmarked 0 (c .compare) false false

@@ -6,11 +6,11 @@
 use Prim.Native.Nat.{ℕ, zero, suc}
 use mathlib.Core.List.{List, map}
 use Rattle.cell.specs.declared.Cell.{Cell}
-use Rattle.cell.specs.Cell.{ticked}
+use Rattle.cell.specs.Cell.{tickCell}
 
 -- "For every row length and content each record keeps its compare value and switch, gets the counter above .."
 abbrev pub tickedRow : List Cell → List Cell
-tickedRow cs = map ticked cs
+tickedRow cs = map tickCell cs
 
 unfoldable pub rowTicks : ℕ → List Cell → List Cell
 rowTicks zero cs = cs

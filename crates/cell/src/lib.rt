@@ -6,7 +6,7 @@
 ghost use mathlib.Core.Path.{_≡_};
 ghost use mathlib.Core.Bool.{true, false};
 ghost use Prim.Native.Nat.{_+_};
-ghost use Rattle.cell.specs.Cell.{cellOf, unmarked, startCounter, long, startCell, ticked, stopped};
+ghost use Rattle.cell.specs.Cell.{cellOf, unmarked, startCounter, long, startCell, tickCell, stopCell};
 
 pub mod row;
 
@@ -73,7 +73,7 @@ impl Cell {
     }
 
     pub fn tick(self) -> Cell
-        ensures { λ r. ⌜ r ≡ ticked self ⌝ }
+        ensures { λ r. ⌜ r ≡ tickCell self ⌝ }
     {
         let compare = self.compare;
         let counter = if self.on {
@@ -89,7 +89,7 @@ impl Cell {
     }
 
     pub fn stop(self) -> Cell
-        ensures { λ r. ⌜ r ≡ stopped self ⌝ }
+        ensures { λ r. ⌜ r ≡ stopCell self ⌝ }
     {
         Cell::of(0, self.compare, false, false)
     }

@@ -22,5 +22,5 @@ marksWord [] = 0
 marksWord (b ∷ bs) = cond b 1 0 + 256 * marksWord bs
 
 -- the entries of n tables, es of them from fs on, lie in the row of cells
-pub record Laid (n : ℕ) (fs es : List ℕ) : Type 0 where
+pub record RowsHold (n : ℕ) (fs es : List ℕ) : Type 0 where
   pub within : (t : ℕ) → t < n → getD fs t 0 + getD es t 0 ≤ maxEntries

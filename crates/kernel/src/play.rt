@@ -41,14 +41,14 @@ pub fn play<'a, 'b>(
         let code = e.code;
         match code {
             1 => {
-                o = o.model.activate(&plan.task, &plan.priority, e.first);
+                o = o.model.activate(&plan.callable, &plan.priority, e.first);
             }
             2 => {
                 o = o.model.finish(&plan.priority);
             }
             3 => {
                 o = o.model
-                    .chain(plan.isrs, &plan.task, &plan.priority, e.first);
+                    .chain(plan.isrs, &plan.callable, &plan.priority, e.first);
             }
             4 => {
                 o = o.model

@@ -22,7 +22,7 @@ use Rattle.config.specs.Meaning.{countsLines, isUser, ceiling, firstOf}
 use Rattle.plan.specs.declared.Plan.{Plan}
 use Rattle.plan.specs.Rank.{rankOf}
 use Rattle.plan.specs.Plan.{triggerOf, planOf}
-use Rattle.cell.specs.Cell.{startCell, stopped}
+use Rattle.cell.specs.Cell.{startCell, stopCell}
 use Rattle.scheduler.specs.Status.{done, limitReached}
 use Rattle.scheduler.specs.Bits.{anySet}
 use Rattle.scheduler.specs.Body.{current}
@@ -139,7 +139,7 @@ module _ (c : Config) (ok : Accepted c) (shaped : Shaped c) (es : List Event) (t
 
   -- "Stop switches the table's cells off and sets their counters to 0"
   pub stop-cell : firstOf c t ≤ e → e < firstOf c (suc t)
-      → cellIn (planOf c) (effectOf c (planOf c) (reached c es) (Stop t) .model) e ≡ stopped (cellIn (planOf c) (reached c es) e)
+      → cellIn (planOf c) (effectOf c (planOf c) (reached c es) (Stop t) .model) e ≡ stopCell (cellIn (planOf c) (reached c es) e)
   unfolding effectOf
   stop-cell = Tables.stop-cell (fitted c ok shaped) sim keeps long t e t<
 

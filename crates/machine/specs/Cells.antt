@@ -12,7 +12,7 @@ use mathlib.Core.List.{List, [], _∷_}
 use lib.Dec.{eqb}
 use lib.ListN.{getD, set}
 use Rattle.cell.specs.declared.Cell.{Cell}
-use Rattle.cell.specs.Cell.{unmarked, long, startCell, ticked}
+use Rattle.cell.specs.Cell.{unmarked, long, startCell, tickCell}
 use Rattle.word.specs.Word.{has, with}
 use Rattle.scheduler.specs.Body.{mostLosses}
 
@@ -43,15 +43,15 @@ cellAt w ks os ns e = unmarked (getD ns e 0) (getD ks e 0) (isOn (getD os e 0)) 
 
 unfoldable pub countersTicked : ℕ → ℕ → Bool → List ℕ → List ℕ → List ℕ → List ℕ
 countersTicked zero e w ks os ns = ns
-countersTicked (suc k) e w ks os ns = countersTicked k (suc e) w ks os (set ns e (ticked (cellAt w ks os ns e) .counter))
+countersTicked (suc k) e w ks os ns = countersTicked k (suc e) w ks os (set ns e (tickCell (cellAt w ks os ns e) .counter))
 
 unfoldable pub marks : ℕ → ℕ → Bool → List ℕ → List ℕ → List ℕ → List Bool
 marks zero e w ks os ns = []
-marks (suc k) e w ks os ns = ticked (cellAt w ks os ns e) .matched ∷ marks k (suc e) w ks os ns
+marks (suc k) e w ks os ns = tickCell (cellAt w ks os ns e) .matched ∷ marks k (suc e) w ks os ns
 
 -- the switch of entry e after a tick
 abbrev pub switchTicked : List ℕ → List ℕ → List ℕ → ℕ → ℕ
-switchTicked ks ns os e = switchFor (isOn (getD os e 0)) (ticked (cellAt true ks os ns e) .turn)
+switchTicked ks ns os e = switchFor (isOn (getD os e 0)) (tickCell (cellAt true ks os ns e) .turn)
 
 unfoldable pub switchesTicked : ℕ → ℕ → List ℕ → List ℕ → List ℕ → List ℕ
 switchesTicked zero e ks ns os = os

@@ -56,9 +56,9 @@ freshModel p = freshWith (p .autostart) (p .priority)
 
 -- the documents' table of events, its statuses: "the first status that applies is given"
 unfoldable pub statusOf : Config → Plan → Model → Event → ℕ
-statusOf c p m (Activate t) = activateStatus (p .task) m t
+statusOf c p m (Activate t) = activateStatus (p .callable) m t
 statusOf c p m Finish = finishStatus m
-statusOf c p m (Chain t) = chainStatus (p .isrs) (p .task) m t
+statusOf c p m (Chain t) = chainStatus (p .isrs) (p .callable) m t
 statusOf c p m (Get r) = getStatus (c .resources) (p .users) m r
 statusOf c p m (Release r) = releaseStatus (c .resources) m r
 statusOf c p m Tick = done
@@ -71,9 +71,9 @@ statusOf c p m (Clear w) = clearStatus (p .extended) m
 
 -- and its effects
 unfoldable pub effectOf : Config → Plan → Model → Event → Outcome
-effectOf c p m (Activate t) = activateEffect (p .task) (p .priority) m t
+effectOf c p m (Activate t) = activateEffect (p .callable) (p .priority) m t
 effectOf c p m Finish = finishEffect (p .priority) m
-effectOf c p m (Chain t) = chainEffect (p .task) (p .priority) m t
+effectOf c p m (Chain t) = chainEffect (p .callable) (p .priority) m t
 effectOf c p m (Get r) = getEffect (p .ceiling) m r
 effectOf c p m (Release r) = releaseEffect (p .priority) m r
 effectOf c p m Tick = tick (p .compare) (p .entry) (p .priority) m

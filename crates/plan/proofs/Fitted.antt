@@ -24,7 +24,7 @@ pub record Fitted (c : Config) (p : Plan) (rk : ℕ → ℕ) : Type 0 where
   pub few : c .bodies ≤ maxBodies
   pub body-rank : (b : ℕ) → b < c .bodies → getD (p .rank) b noRank ≡ rk b
   pub rank-none : (b : ℕ) → c .bodies ≤ b → getD (p .rank) b noRank ≡ noRank
-  pub task-rank : (b : ℕ) → getD (p .task) b noRank ≡ cond (isOsekTask c b) (rk b) noRank
+  pub callable-rank : (b : ℕ) → getD (p .callable) b noRank ≡ cond (isOsekTask c b) (rk b) noRank
   pub line-rank : (b : ℕ) → getD (p .line) b noRank ≡ cond (isIsr c b) (rk b) noRank
   pub rank-lt : (b : ℕ) → b < c .bodies → rk b < c .bodies
   -- by priority, and time-triggered tasks above all others
@@ -70,7 +70,7 @@ fitted c ok shaped =
       few = ok .few-bodies;
       body-rank = Plan.body-rank c ok shaped;
       rank-none = Plan.rank-none c ok shaped;
-      task-rank = Plan.task-rank c ok shaped;
+      callable-rank = Plan.callable-rank c ok shaped;
       line-rank = Plan.line-rank c ok shaped;
       rank-lt = Plan.rank-lt c ok shaped;
       rank-order = Plan.rank-trigger c ok shaped;

@@ -23,7 +23,7 @@ use Rattle.config.proofs.Tables.{isTask-true}
 use Rattle.plan.specs.declared.Plan.{Plan}
 use Rattle.plan.specs.Stored.{stored, listed}
 use Rattle.plan.specs.Marked.{marked}
-use Rattle.plan.specs.Rank.{noRank, keyOf, rankOf, bodyCount, taskRank, lineRank}
+use Rattle.plan.specs.Rank.{noRank, keyOf, rankOf, bodyCount, callableRank, lineRank}
 use Rattle.plan.specs.Entry.{entryTable, tableCount, entryCount, firstEntry, compareOf, entryRank}
 use Rattle.plan.specs.Plan.{triggerOf, resourceCount, usersOf, planOf}
 use Rattle.plan.proofs.Stored.{length-stored, stored-at, stored-past, getD-any}
@@ -36,7 +36,7 @@ use Rattle.plan.proofs.Ranking.{ranks-at}
 -- the lengths of the lists, and the size of the words, of whatever configuration
 pub record Sized (p : Plan) : Type 0 where
   pub ranks : length (p .rank) ≡ maxBodies
-  pub tasks : length (p .task) ≡ maxBodies
+  pub tasks : length (p .callable) ≡ maxBodies
   pub lines : length (p .line) ≡ maxBodies
   pub priorities : length (p .priority) ≡ maxBodies
   pub bodies : length (p .body) ≡ maxBodies
@@ -108,12 +108,12 @@ module _ (c : Config) (accepted : Accepted c) (shaped : Shaped c) where
   unfolding planOf
   rank-none b h = listed-past (rankOf c) (bodyCount c) maxBodies noRank b (rw (Order.all-bodies c accepted shaped) h)
 
-  pub task-rank : (b : ℕ) → getD (planOf c .task) b noRank ≡ cond (isOsekTask c b) (rankOf c b) noRank
+  pub callable-rank : (b : ℕ) → getD (planOf c .callable) b noRank ≡ cond (isOsekTask c b) (rankOf c b) noRank
   unfolding planOf
-  task-rank b =
+  callable-rank b =
       by-lt b (c .bodies)
-      (λ h. listed-at (taskRank c) (bodyCount c) maxBodies noRank b noRank (rw (Order.all-bodies c accepted shaped) h) (omega (arith, accepted .few-bodies)))
-      (λ h. listed-past (taskRank c) (bodyCount c) maxBodies noRank b (rw (Order.all-bodies c accepted shaped) h) ∙ simp (le-ltb b (c .bodies) h))
+      (λ h. listed-at (callableRank c) (bodyCount c) maxBodies noRank b noRank (rw (Order.all-bodies c accepted shaped) h) (omega (arith, accepted .few-bodies)))
+      (λ h. listed-past (callableRank c) (bodyCount c) maxBodies noRank b (rw (Order.all-bodies c accepted shaped) h) ∙ simp (le-ltb b (c .bodies) h))
 
   pub line-rank : (b : ℕ) → getD (planOf c .line) b noRank ≡ cond (isIsr c b) (rankOf c b) noRank
   unfolding planOf
@@ -123,8 +123,8 @@ module _ (c : Config) (accepted : Accepted c) (shaped : Shaped c) where
       (λ h. listed-past (lineRank c) (bodyCount c) maxBodies noRank b (rw (Order.all-bodies c accepted shaped) h) ∙ simp (le-ltb b (c .bodies) h))
 
   -- the same as the code reads it, where the default does not count
-  pub task-rank-read : (b d : ℕ) → b < maxBodies → getD (planOf c .task) b d ≡ cond (isOsekTask c b) (rankOf c b) noRank
-  task-rank-read b d h = getD-any (planOf c .task) b d noRank (omega (arith, plan-sized c .tasks)) ∙ task-rank b
+  pub callable-rank-read : (b d : ℕ) → b < maxBodies → getD (planOf c .callable) b d ≡ cond (isOsekTask c b) (rankOf c b) noRank
+  callable-rank-read b d h = getD-any (planOf c .callable) b d noRank (omega (arith, plan-sized c .tasks)) ∙ callable-rank b
 
   pub line-rank-read : (b d : ℕ) → b < maxBodies → getD (planOf c .line) b d ≡ cond (isIsr c b) (rankOf c b) noRank
   line-rank-read b d h = getD-any (planOf c .line) b d noRank (omega (arith, plan-sized c .lines)) ∙ line-rank b

@@ -12,7 +12,7 @@ use Rattle.config.specs.Meaning.{isr, extended, timeTriggered, triggerLevel, ce
 use Rattle.plan.specs.declared.Plan.{Plan}
 use Rattle.plan.specs.Stored.{stored, listed}
 use Rattle.plan.specs.Marked.{marked}
-use Rattle.plan.specs.Rank.{bodyCount, rankOf, ranks, taskRanks, lineRanks}
+use Rattle.plan.specs.Rank.{bodyCount, rankOf, ranks, callableRanks, lineRanks}
 use Rattle.plan.specs.Entry.{tableCount, entryCount, firstEntry, compareOf, entryRank}
 
 -- the level that a request of body b is compared with: its priority; of a time-triggered task "the trigger level is 202"
@@ -70,7 +70,7 @@ unfoldable pub planOf : Config → Plan
 planOf c =
     record {
       rank = ranks c;
-      task = taskRanks c;
+      callable = callableRanks c;
       line = lineRanks c;
       priority = priorities c;
       body = bodiesByRank c;

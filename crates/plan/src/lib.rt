@@ -38,7 +38,7 @@ const MAX_ENTRIES: usize = 64;
 pub struct Plan {
     // By body its rank; the same where it is a task that a call may activate, and where it is an ISR, else NO_RANK.
     pub rank: [u8; 32],
-    pub task: [u8; 32],
+    pub callable: [u8; 32],
     pub line: [u8; 32],
     // By rank the level that a request is compared with, its priority or a time-triggered task's trigger level, and the body's number.
     pub priority: [u8; 32],
@@ -84,7 +84,7 @@ impl Plan {
         let table = entries::by_table(counts, tables);
         let count = table.count;
         let compare = entries::compares(counts, period, count);
-        let task = kinds.task;
+        let callable = kinds.callable;
         let entry = entries::entry_ranks(tasks, by, count);
         let line = kinds.line;
         let level = ranked.priority;
@@ -94,7 +94,7 @@ impl Plan {
         let first = table.first;
         Plan {
             rank: by,
-            task,
+            callable,
             line,
             priority: level,
             body,

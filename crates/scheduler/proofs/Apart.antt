@@ -32,7 +32,7 @@ use Rattle.scheduler.specs.History.{AcceptedIn}
 use Rattle.scheduler.proofs.Choice.{contender, weight, chosen-weight, chosen-from, candidate-active, current-own, current-free, Taken, no-one, body, runner-timed, runner-untimed}
 use Rattle.scheduler.proofs.Checks.{activate-passed, finish-passed, chain-passed, get-passed, release-passed, wait-passed, accepted-untimed}
 use Rattle.scheduler.proofs.Effects.{entered, activatingDue-keeps, refusalOf-keeps, cond-either}
-use Rattle.scheduler.proofs.Refusals.{begins-some, Settled, settled-untimed, settled-fresh, settled-step}
+use Rattle.scheduler.proofs.Refusals.{begins-some, Underway, underway-untimed, underway-fresh, underway-step}
 use Rattle.scheduler.proofs.Losses.{entered-active}
 
 -- a body of a list
@@ -348,9 +348,9 @@ module _ (c : Config) (ok : Configuration.Accepted c) where
             rw z (raised-kept a k k< (f (bodyOf s k)) (steady-f k z b) (outranks K a k k< p e))
 
     -- a state whose runner has begun
-    module _ (s : State) (a : Kept c In (s .bodies)) (settled : Settled c s) where
+    module _ (s : State) (a : Kept c In (s .bodies)) (underway : Underway c s) where
       has-begun : s .order ≡ [] → isNobody (runner c s) ≡ false → runner c s .began ≡ true
-      has-begun none some = go (runner c s .began) (rw some at (settled-untimed c s settled none))
+      has-begun none some = go (runner c s .began) (rw some at (underway-untimed c s underway none))
         where
           go : (b : Bool) → not b ≡ false → b ≡ true
           go true e = refl
@@ -453,15 +453,15 @@ module _ (c : Config) (ok : Configuration.Accepted c) where
             unbegun (waiting w) h = refl
             unbegun (triggered x) h = refl
 
-    pub step-kept : (s : State) → Kept c In (s .bodies) → Settled c s → (e : Event)
+    pub step-kept : (s : State) → Kept c In (s .bodies) → Underway c s → (e : Event)
         → Kept c In (step c s e .state .bodies)
     unfolding stepBy
-    step-kept s a settled e = dispatched-kept (leaves c s e) (leaves-kept s a settled e)
+    step-kept s a underway e = dispatched-kept (leaves c s e) (leaves-kept s a underway e)
 
-    after-kept : (es : List Event) (s : State) → Kept c In (s .bodies) → Settled c s → Kept c In (after c s es .bodies)
+    after-kept : (es : List Event) (s : State) → Kept c In (s .bodies) → Underway c s → Kept c In (after c s es .bodies)
     unfolding afterBy
-    after-kept [] s a settled = a
-    after-kept (e ∷ es) s a settled = after-kept es (step c s e .state) (step-kept s a settled e) (settled-step c s e)
+    after-kept [] s a underway = a
+    after-kept (e ∷ es) s a underway = after-kept es (step c s e .state) (step-kept s a underway e) (underway-step c s e)
 
     pub unstarted-kept : Configuration.Shaped c → Kept c In (unstarted c .bodies)
     unstarted-kept shaped =
@@ -500,7 +500,7 @@ module _ (c : Config) (ok : Configuration.Accepted c) where
     fresh-kept shaped = dispatched-kept (unstarted c) (unstarted-kept shaped)
 
     pub reached-kept : Configuration.Shaped c → (es : List Event) → Kept c In (after c (fresh c) es .bodies)
-    reached-kept shaped es = after-kept es (fresh c) (fresh-kept shaped) (settled-fresh c)
+    reached-kept shaped es = after-kept es (fresh c) (fresh-kept shaped) (underway-fresh c)
 
 -- a Set makes nobody hold
 pub set-holds : (c : Config) (s : State) (t w : ℕ) → AcceptedIn c s (Set t w) → (b : Body)

@@ -2,7 +2,7 @@
 -- file.
 --
 -- In order: after a refusal comes the dispatch alone; after a dispatch the chosen body has begun, and is chosen again;
--- so the next dispatch does nothing (`Settled`); and a loss has no part in who runs. Assumes nothing.
+-- so the next dispatch does nothing (`Underway`); and a loss has no part in who runs. Assumes nothing.
 use Prim.Native.Nat.{ℕ, _+_, _≤_, _<_, min}
 use mathlib.Core.Path.{_≡_, refl, sym, ap, _∙_}
 use mathlib.Core.Bool.{Bool, true, false, true≢false, cond, not, _&&_, _||_, or-false}
@@ -208,14 +208,14 @@ dispatched-out c s past =
     (λ e. rw e)
 
 -- nobody is left to begin, of the bodies that there are
-abbrev pub Settled : Config → State → Type 0
-Settled c s = begins (runner c s) ≡ true → length (s .bodies) ≤ runner c s .number
+abbrev pub Underway : Config → State → Type 0
+Underway c s = begins (runner c s) ≡ true → length (s .bodies) ≤ runner c s .number
 
-pub dispatched-same : (c : Config) (s : State) → Settled c s → dispatched c s ≡ s
-dispatched-same c s settled = by-test (begins (runner c s)) (λ e. dispatched-out c s (settled e)) (λ e. rw e)
+pub dispatched-same : (c : Config) (s : State) → Underway c s → dispatched c s ≡ s
+dispatched-same c s underway = by-test (begins (runner c s)) (λ e. dispatched-out c s (underway e)) (λ e. rw e)
 
-pub dispatched-settled : (c : Config) (s : State) → Settled c (dispatched c s)
-dispatched-settled c s e =
+pub dispatched-underway : (c : Config) (s : State) → Underway c (dispatched c s)
+dispatched-underway c s e =
     by-lt (runner c s .number) (length (s .bodies))
     (λ fits. absurd (true≢false (sym e ∙ ap begins (runner-dispatched c s fits) ∙ begins-onceBegun (runner c s))))
     (λ past. rw (dispatched-out c s past) past)
@@ -231,51 +231,51 @@ runner-same c s =
     ))
     (λ past. rw (dispatched-out c s past) (refl, refl))
 
-module _ (c : Config) (s : State) (settled : Settled c s) where
+module _ (c : Config) (s : State) (underway : Underway c s) where
   -- where no time-triggered task is started
-  pub settled-untimed : s .order ≡ [] → begins (runner c s) ≡ false
-  settled-untimed o = by-test (begins (runner c s)) (λ e. go e (chosen-from byHolding refl c (s .bodies))) (λ e. e)
+  pub underway-untimed : s .order ≡ [] → begins (runner c s) ≡ false
+  underway-untimed o = by-test (begins (runner c s)) (λ e. go e (chosen-from byHolding refl c (s .bodies))) (λ e. e)
     where
       go : begins (runner c s) ≡ true → Taken c (s .bodies) (chosen c (s .bodies)) → begins (runner c s) ≡ false
       go e (no-one z) = ap begins (runner-untimed c s o ∙ z)
       go e (body k h p z) =
           let is = runner-untimed c s o ∙ z ∙ candidate-active c k (bodyOf s k) (bodyOf s k .phase) p in
-          absurd (omega (arith, settled e, ap (λ (x : Candidate). x .number) is))
+          absurd (omega (arith, underway e, ap (λ (x : Candidate). x .number) is))
 
   -- where all that are started are bodies
-  pub settled-named : ((j : ℕ) → among j (s .order) ≡ true → j < length (s .bodies)) → begins (runner c s) ≡ false
+  pub underway-named : ((j : ℕ) → among j (s .order) ≡ true → j < length (s .bodies)) → begins (runner c s) ≡ false
   unfolding among
-  settled-named named = go (s .order) refl
+  underway-named named = go (s .order) refl
     where
       go : (js : List ℕ) → s .order ≡ js → begins (runner c s) ≡ false
-      go [] o = settled-untimed o
+      go [] o = underway-untimed o
       go (j ∷ js) o =
           by-test (begins (runner c s))
           (λ e. absurd (omega (
             arith,
-            settled e,
+            underway e,
             named j (rw o (rw (eq-eqb j j refl))),
             ap (λ (x : Candidate). x .number) (runner-timed c s j js o),
           )))
           (λ e. e)
 
 module _ (c : Config) where
-  pub settled-fresh : Settled c (fresh c)
-  settled-fresh = dispatched-settled c (unstarted c)
+  pub underway-fresh : Underway c (fresh c)
+  underway-fresh = dispatched-underway c (unstarted c)
 
-  pub settled-step : (s : State) (e : Event) → Settled c (step c s e .state)
+  pub underway-step : (s : State) (e : Event) → Underway c (step c s e .state)
   unfolding stepBy
-  settled-step s e = dispatched-settled c (leaves c s e)
+  underway-step s e = dispatched-underway c (leaves c s e)
 
-  pub settled-after : (es : List Event) (s : State) → Settled c s → Settled c (after c s es)
+  pub underway-after : (es : List Event) (s : State) → Underway c s → Underway c (after c s es)
   unfolding afterBy
-  settled-after [] s h = h
-  settled-after (e ∷ es) s h = settled-after es (step c s e .state) (settled-step s e)
+  underway-after [] s h = h
+  underway-after (e ∷ es) s h = underway-after es (step c s e .state) (underway-step s e)
 
-  pub refused-same : (s : State) (e : Event) → Settled c s → step c s e .seen .status ≢ done
+  pub refused-same : (s : State) (e : Event) → Underway c s → step c s e .seen .status ≢ done
       → ((i : ℕ) → LostLine c s e i → ⊥)
       → step c s e .state ≡ s
-  refused-same s e settled refused kept = refused-dispatched c s e refused kept ∙ dispatched-same c s settled
+  refused-same s e underway refused kept = refused-dispatched c s e refused kept ∙ dispatched-same c s underway
 
   -- "Version 1 .. at the head of the configuration": no line is counted
   pub first-edition : c .version ≡ 1 → (s : State) (e : Event) (i : ℕ) → LostLine c s e i → ⊥
@@ -312,13 +312,13 @@ module _ (c : Config) where
           record { number = j; level = executionLevel; began = hasBegun p; holder = false; timed = true })
           (phase-same j)
 
-  pub lost-line : (s : State) (i : ℕ) → Settled c s → LostLine c s (Line i) i
+  pub lost-line : (s : State) (i : ℕ) → Underway c s → LostLine c s (Line i) i
       → step c s (Line i) .state ≡ changing i loses s
   unfolding stepBy
-  lost-line s i settled lost =
+  lost-line s i underway lost =
       ap (dispatched c) left
       ∙ dispatched-same c (changing i loses s)
-      (λ e. rw (runner-loses i s, length-changing i loses s) (settled (sym (ap begins (runner-loses i s)) ∙ e)))
+      (λ e. rw (runner-loses i s, length-changing i loses s) (underway (sym (ap begins (runner-loses i s)) ∙ e)))
     where
       left : leaves c s (Line i) ≡ changing i loses s
       left =
@@ -326,10 +326,10 @@ module _ (c : Config) where
           ∙ rw (lost .0) (rw (eq-eqb (statusOf c s (Line i)) limitReached (lost .2)))
 
   -- "up to 65,535"
-  pub lost-line-full : (s : State) (i : ℕ) → Settled c s → LostLine c s (Line i) i → bodyOf s i .losses ≡ mostLosses
+  pub lost-line-full : (s : State) (i : ℕ) → Underway c s → LostLine c s (Line i) i → bodyOf s i .losses ≡ mostLosses
       → step c s (Line i) .state ≡ s
-  lost-line-full s i settled lost full =
-      lost-line s i settled lost
+  lost-line-full s i underway lost full =
+      lost-line s i underway lost
       ∙ ap (λ (bs : List Body). record { bodies = bs; tables = s .tables; order = s .order })
       (ap (set (s .bodies) i) same ∙ set-getD (s .bodies) i noBody)
     where

@@ -28,7 +28,7 @@ use Rattle.scheduler.proofs.Bits.{resumed-begun}
 use Rattle.scheduler.proofs.Choice.{Taken, no-one, body, chosen-from, candidate-active, runner-timed, runner-untimed}
 use Rattle.scheduler.proofs.Checks.{activate-passed, chain-passed}
 use Rattle.scheduler.proofs.Effects.{bodyOf-changing-same, bodyOf-changing-other, refusalOf-keeps, entered, activatingDue-keeps, cond-either}
-use Rattle.scheduler.proofs.Refusals.{begins-some, Settled, dispatched-same}
+use Rattle.scheduler.proofs.Refusals.{begins-some, Underway, dispatched-same}
 
 -- the body that begins had not begun
 begins-unbegun : (c : Config) (s : State) → begins (runner c s) ≡ true
@@ -176,10 +176,10 @@ module _ (c : Config) (s : State) (i : ℕ) (begun : hasBegun (bodyOf s i .phase
       (p .0)
 
 -- a Stop changes no body, so whatever waits to begin still waits
-pub stop-bodies : (c : Config) (s : State) (t : ℕ) → Settled c s → step c s (Stop t) .state .bodies ≡ s .bodies
+pub stop-bodies : (c : Config) (s : State) (t : ℕ) → Underway c s → step c s (Stop t) .state .bodies ≡ s .bodies
 unfolding stepBy
-stop-bodies c s t settled =
+stop-bodies c s t underway =
     ap (λ x. x .bodies)
     (dispatched-same c (leaves c s (Stop t))
-    (cond-either (Settled c) (eqb (statusOf c s (Stop t)) done) (stop t s) s settled settled))
+    (cond-either (Underway c) (eqb (statusOf c s (Stop t)) done) (stop t s) s underway underway))
     ∙ cond-either (λ x. x .bodies ≡ s .bodies) (eqb (statusOf c s (Stop t)) done) (stop t s) s refl refl

@@ -249,19 +249,19 @@ pub refused-same : (c : Config) (es : List Event) (e : Event) → step c (after 
     → ((i : ℕ) → LostLine c (after c (fresh c) es) e i → ⊥)
     → step c (after c (fresh c) es) e .state ≡ after c (fresh c) es
 refused-same c es e =
-    Refusals.refused-same c (after c (fresh c) es) e (Refusals.settled-after c es (fresh c) (Refusals.settled-fresh c))
+    Refusals.refused-same c (after c (fresh c) es) e (Refusals.underway-after c es (fresh c) (Refusals.underway-fresh c))
 
 pub lost-line : (c : Config) (es : List Event) (i : ℕ) → LostLine c (after c (fresh c) es) (Line i) i
     → step c (after c (fresh c) es) (Line i) .state ≡ changing i loses (after c (fresh c) es)
 lost-line c es i =
-    Refusals.lost-line c (after c (fresh c) es) i (Refusals.settled-after c es (fresh c) (Refusals.settled-fresh c))
+    Refusals.lost-line c (after c (fresh c) es) i (Refusals.underway-after c es (fresh c) (Refusals.underway-fresh c))
 
 pub lost-line-full : (c : Config) (es : List Event) (i : ℕ) → LostLine c (after c (fresh c) es) (Line i) i
     → bodyOf (after c (fresh c) es) i .losses ≡ 65535
     → step c (after c (fresh c) es) (Line i) .state ≡ after c (fresh c) es
 lost-line-full c es i =
     Refusals.lost-line-full c (after c (fresh c) es) i
-    (Refusals.settled-after c es (fresh c) (Refusals.settled-fresh c))
+    (Refusals.underway-after c es (fresh c) (Refusals.underway-fresh c))
 
 -- in version 1 there is none, so a refused event changes nothing at all
 pub refused-same-one : (c : Config) → c .version ≡ 1 → (es : List Event) (e : Event)
@@ -284,7 +284,7 @@ pub runner-dispatched : (c : Config) (s : State)
 runner-dispatched c s = (
   Refusals.runner-same c s .0,
   Refusals.runner-same c s .1,
-  λ named. Refusals.settled-named c (dispatched c s) (Refusals.dispatched-settled c s) (kept named),
+  λ named. Refusals.underway-named c (dispatched c s) (Refusals.dispatched-underway c s) (kept named),
 )
   where
     kept : ((j : ℕ) → among j (s .order) ≡ true → j < length (s .bodies))
@@ -296,20 +296,20 @@ runner-dispatched c s = (
         s
         named
 
-pub settled : (c : Config) (s : State) (e : Event)
+pub underway : (c : Config) (s : State) (e : Event)
     → ((j : ℕ) → among j (step c s e .state .order) ≡ true → j < length (step c s e .state .bodies))
     → begins (runner c (step c s e .state)) ≡ false
-settled c s e = Refusals.settled-named c (step c s e .state) (Refusals.settled-step c s e)
+underway c s e = Refusals.underway-named c (step c s e .state) (Refusals.underway-step c s e)
 
 pub started-named : (c : Config) (es : List Event) (j : ℕ) → among j (after c (fresh c) es .order) ≡ true
     → j < c .bodies
 started-named c es = Named.named-after c es (fresh c) (Named.named-fresh c)
 
 -- so of a configuration that the reader accepts nobody is left to begin, after every list of events
-pub always-settled : (c : Config) → Configuration.Accepted c → Configuration.Shaped c → (es : List Event)
+pub always-underway : (c : Config) → Configuration.Accepted c → Configuration.Shaped c → (es : List Event)
     → begins (runner c (after c (fresh c) es)) ≡ false
-always-settled c ok shaped es =
-    Refusals.settled-named c (after c (fresh c) es) (Refusals.settled-after c es (fresh c) (Refusals.settled-fresh c))
+always-underway c ok shaped es =
+    Refusals.underway-named c (after c (fresh c) es) (Refusals.underway-after c es (fresh c) (Refusals.underway-fresh c))
     (λ j h. rw (Order.orderly-after c ok shaped es (Order.orderly-fresh c ok shaped) .bodies-there)
     (started-named c es j h))
 
@@ -380,7 +380,7 @@ begins-after-finish = Requests.begins-after-finish
 pub stop-bodies : (c : Config) (es : List Event) (t : ℕ)
     → step c (after c (fresh c) es) (Stop t) .state .bodies ≡ after c (fresh c) es .bodies
 stop-bodies c es t =
-    Requests.stop-bodies c (after c (fresh c) es) t (Refusals.settled-after c es (fresh c) (Refusals.settled-fresh c))
+    Requests.stop-bodies c (after c (fresh c) es) t (Refusals.underway-after c es (fresh c) (Refusals.underway-fresh c))
 
 -- event bits, each bit by itself: a Set sets those of its mask, a Clear clears them, and one waited bit that is set
 -- suffices

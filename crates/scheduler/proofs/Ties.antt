@@ -24,7 +24,7 @@ use Rattle.scheduler.specs.Scheduler.{Seen, markOf, dispatchedTo, ending
 use Rattle.scheduler.specs.History.{AcceptedIn}
 use Rattle.scheduler.proofs.Choice.{contender, weight, weight-before, chosen-tie, chosen-same, candidate-active, current-own, current-free, Taken, no-one, body, runner-timed, runner-untimed}
 use Rattle.scheduler.proofs.Checks.{set-passed}
-use Rattle.scheduler.proofs.Refusals.{Settled, settled-named, settled-fresh, settled-step, settled-after}
+use Rattle.scheduler.proofs.Refusals.{Underway, underway-named, underway-fresh, underway-step, underway-after}
 use Rattle.scheduler.proofs.Named.{named-fresh, named-after}
 use Rattle.scheduler.proofs.Apart.{at, Kept, Question, holder, begunBody, holders, begunBodies, own-inj, weighs, set-holds, leaves-kept, step-kept, unstarted-kept, fresh-kept, reached-kept}
 
@@ -171,22 +171,22 @@ module _ (c : Config) (ok : Configuration.Accepted c) where
     unfolding stepBy
     no-set s t w z b h = absurd (true≢false (sym (set-passed c s t w z .2) ∙ basic t))
 
-    old-step : (s : State) → Kept c begunBody (s .bodies) → Settled c s → (e : Event)
+    old-step : (s : State) → Kept c begunBody (s .bodies) → Underway c s → (e : Event)
         → stepBy byBegun c s e ≡ step c s e
     unfolding stepBy
-    old-step s a settled e =
+    old-step s a underway e =
         ap (λ (k : Candidate). endingTo (runnerBy byBegun c (leavesFor c k s e)) (statusFor c k s e) (duesAt c s e)
         (leavesFor c k s e)) (same-runner s a)
         ∙ ap (λ (k : Candidate). endingTo k (statusOf c s e) (duesAt c s e) (leaves c s e))
-        (same-runner (leaves c s e) (leaves-kept c ok begunBodies no-set s a settled e))
+        (same-runner (leaves c s e) (leaves-kept c ok begunBodies no-set s a underway e))
 
-    old-from : (es : List Event) (s : State) → Kept c begunBody (s .bodies) → Settled c s
+    old-from : (es : List Event) (s : State) → Kept c begunBody (s .bodies) → Underway c s
         → (seenBy byBegun c s es ≡ seen c s es) × (afterBy byBegun c s es ≡ after c s es)
     unfolding seenBy afterBy
-    old-from [] s a settled = (refl, refl)
-    old-from (e ∷ es) s a settled =
-        let rest = old-from es (step c s e .state) (step-kept c ok begunBodies no-set s a settled e) (settled-step c s e) in
-        rw (old-step s a settled e) (ap (λ (xs : List Seen). step c s e .seen ∷ xs) (rest .0), rest .1)
+    old-from [] s a underway = (refl, refl)
+    old-from (e ∷ es) s a underway =
+        let rest = old-from es (step c s e .state) (step-kept c ok begunBodies no-set s a underway e) (underway-step c s e) in
+        rw (old-step s a underway e) (ap (λ (xs : List Seen). step c s e .seen ∷ xs) (rest .0), rest .1)
 
     old-fresh : freshBy byBegun c ≡ fresh c
     old-fresh =
@@ -196,7 +196,7 @@ module _ (c : Config) (ok : Configuration.Accepted c) where
     pub old-rule : (es : List Event)
         → (seenBy byBegun c (freshBy byBegun c) es ≡ seen c (fresh c) es)
         × (afterBy byBegun c (freshBy byBegun c) es ≡ after c (fresh c) es)
-    old-rule es = rw old-fresh (old-from es (fresh c) (fresh-kept c ok begunBodies no-set shaped) (settled-fresh c))
+    old-rule es = rw old-fresh (old-from es (fresh c) (fresh-kept c ok begunBodies no-set shaped) (underway-fresh c))
 
     -- "on equal priorities the one that already began goes first"
     pub runner-began : (es : List Event) (k : ℕ) → competes (bodyOf (after c (fresh c) es) k .phase) ≡ true
@@ -227,7 +227,7 @@ module _ (c : Config) (ok : Configuration.Accepted c) where
             let is = runner-timed c s j js o in
             unbegun (runner c s .began)
             (sym (ap (λ (n : ℕ). not (eqb n 0) && not (runner c s .began)) (ap (λ (x : Candidate). x .level) is))
-            ∙ settled-named c s (settled-after c es (fresh c) (settled-fresh c))
+            ∙ underway-named c s (underway-after c es (fresh c) (underway-fresh c))
             (λ i h. rw (a .size) (named-after c es (fresh c) (named-fresh c) i h)))
           where
             unbegun : (b : Bool) → not b ≡ false → b ≡ true
@@ -265,4 +265,4 @@ module _ (c : Config) (ok : Configuration.Accepted c) where
     decided-at es e =
         decided
         (leaves-kept c ok holders (set-holds c) (after c (fresh c) es) (kept es)
-        (settled-after c es (fresh c) (settled-fresh c)) e)
+        (underway-after c es (fresh c) (underway-fresh c)) e)

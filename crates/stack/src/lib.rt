@@ -9,7 +9,7 @@ ghost use Rattle.stack.specs.Stack.{pushWord, popWord, firstByte, lastBy
 pub const NONE: u8 = 255;
 
 // What seven bytes hold: the worth of a word's highest byte.
-const SEVEN: u64 = 72057594037927936;
+const HIGHEST: u64 = 72057594037927936;
 
 // Eight times NONE.
 const EMPTY: u64 = 18446744073709551615;
@@ -25,14 +25,14 @@ pub struct Row {
 fn push_word(w: u64, x: u8) -> u64
     ensures { λ r. ⌜ r ≡ pushWord w x ⌝ }
 {
-    w % SEVEN * 256 + x as u64
+    w % HIGHEST * 256 + x as u64
 }
 
 // The word without its lowest byte, y above the rest.
 fn pop_word(w: u64, y: u8) -> u64
     ensures { λ r. ⌜ r ≡ popWord w y ⌝ }
 {
-    w / 256 + y as u64 * SEVEN
+    w / 256 + y as u64 * HIGHEST
 }
 
 fn first_byte(w: u64) -> u8
@@ -44,7 +44,7 @@ fn first_byte(w: u64) -> u8
 fn last_byte(w: u64) -> u8
     ensures { λ r. ⌜ r ≡ lastByte w ⌝ }
 {
-    (w / SEVEN) as u8
+    (w / HIGHEST) as u8
 }
 
 impl Row {

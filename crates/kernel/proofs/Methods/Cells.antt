@@ -11,7 +11,7 @@ use lib.ListN.{length, getD, set, take, drop, replicate, length-set, length-drop
 use lib.Seq.{take-suc-set, take-all, length-take-le, drop-drop, getD-set-other}
 use Rattle.config.specs.Value.{maxEntries}
 use Rattle.cell.specs.declared.Cell.{Cell}
-use Rattle.cell.specs.Cell.{unmarked, long, startCell, ticked}
+use Rattle.cell.specs.Cell.{unmarked, long, startCell, tickCell}
 use Rattle.kernel.specs.Methods.{group}
 use Rattle.machine.specs.Cells.{isOn, hasTurn, switchFor, cellAt, countersTicked, switchTicked, switchesTicked, some, marks, countersStarted, switchesStarted, countersStopped, switched, Due, requestsDue}
 use Rattle.machine.proofs.Change.Matches.{due-append}
@@ -32,7 +32,7 @@ module _ (w : Bool) (ks os : List ℕ) where
   unfolding marks
   marks-set zero e i x ns h = refl
   marks-set (suc k) e i x ns h =
-      ap₂ (λ (n : ℕ) (bs : List Bool). ticked (unmarked n (getD ks e 0) (isOn (getD os e 0)) (w && hasTurn (getD os e 0))) .matched ∷ bs)
+      ap₂ (λ (n : ℕ) (bs : List Bool). tickCell (unmarked n (getD ks e 0) (isOn (getD os e 0)) (w && hasTurn (getD os e 0))) .matched ∷ bs)
       (getD-set-other ns i e x 0 (λ q. absurd (omega arith)))
       (marks-set k (suc e) i x ns (omega arith))
 
@@ -48,7 +48,7 @@ module _ (w : Bool) (ks os : List ℕ) where
     ticking-start = record { reached = omega arith; long = refl; counters = refl; matches = refl }
 
     module _ (ns : List ℕ) (ms : List Bool) (e : ℕ) (so-far : Ticking ns ms e) where
-      pub ticking-turn : e < maxEntries → {c : Cell} → c ≡ ticked (cellAt w ks os ns e)
+      pub ticking-turn : e < maxEntries → {c : Cell} → c ≡ tickCell (cellAt w ks os ns e)
           → Ticking (set ns e (c .counter)) (set ms e (c .matched)) (e + 1)
       unfolding countersTicked marks
       ticking-turn more {c} is =

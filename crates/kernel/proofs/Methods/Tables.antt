@@ -17,7 +17,7 @@ use Rattle.machine.specs.Model.{Picked, Model, withCore, withRequest, withRest,
 use Rattle.machine.specs.Arbiter.{arbitrated, triggering}
 use Rattle.machine.specs.Cells.{switchOff, isOn, countersTicked, switchesTicked, someTurn, marks, countersStarted, switchesStarted, someLong, countersStopped, switched, Due, requestsDue}
 use Rattle.machine.specs.Events.{noCaller, begunWord, tick, start, stop}
-use Rattle.kernel.specs.Methods.{dueWith, Laid}
+use Rattle.kernel.specs.Methods.{dueWith, RowsHold}
 use Rattle.kernel.specs.View.{core}
 use Rattle.kernel.proofs.Methods.Core.{triggering-launched, triggering-settled}
 
@@ -81,7 +81,7 @@ short-sum d g e = ltb-false longestDelay (d + g) (second (eqb d 0) _ e)
     second false b e = e
 
 -- what the tables give each of them
-module _ (n : ℕ) (fs es : List ℕ) (laid : Laid n fs es) (t : ℕ) (some : t < n)
+module _ (n : ℕ) (fs es : List ℕ) (laid : RowsHold n fs es) (t : ℕ) (some : t < n)
     {f k : ℕ} (from : f ≡ getD fs t 0) (many : k ≡ getD es t 0) where
   pub entries-within : f + k ≤ 64
   entries-within = rw (from, many) (laid .within t some)

@@ -28,7 +28,7 @@ use Rattle.plan.specs.Rank.{rankOf}
 use Rattle.scheduler.specs.Scheduler as Plain
 use Rattle.scheduler.specs.Scheduler.{markOf}
 use Rattle.machine.specs.Model.{Model, Outcome}
-use Rattle.kernel.specs.Methods.{Laid}
+use Rattle.kernel.specs.Methods.{RowsHold}
 use Rattle.machine.specs.Events.{activate, finish, chain, get, release, tick, line, start, stop, wait, setEvent, clear}
 use Rattle.machine.specs.Machine.{statusOf, effectOf, refusalOf, machineStep, runnerOf, machineSeen, machineAfter}
 use Rattle.run.specs.Run.{callOf, answerBytes}
@@ -38,7 +38,7 @@ use Rattle.kernel.proofs.Run.Bytes.{laid-none}
 
 -- what an arm's method hands back is the step of the event that was read
 module _ (c : Config) (p : Plan) (m : Model) (e : Event) where
-  pub step-1 : e .code ≡ 1 → machineStep c p m (callOf e) ≡ activate (p .task) (p .priority) m (e .first)
+  pub step-1 : e .code ≡ 1 → machineStep c p m (callOf e) ≡ activate (p .callable) (p .priority) m (e .first)
   unfolding callOf statusOf effectOf refusalOf activate
   step-1 h = rw h
 
@@ -46,7 +46,7 @@ module _ (c : Config) (p : Plan) (m : Model) (e : Event) where
   unfolding callOf statusOf effectOf refusalOf finish
   step-2 h = rw h
 
-  pub step-3 : e .code ≡ 3 → machineStep c p m (callOf e) ≡ chain (p .isrs) (p .task) (p .priority) m (e .first)
+  pub step-3 : e .code ≡ 3 → machineStep c p m (callOf e) ≡ chain (p .isrs) (p .callable) (p .priority) m (e .first)
   unfolding callOf statusOf effectOf refusalOf chain
   step-3 h = rw h
 
@@ -98,7 +98,7 @@ one-of-twelve k low high n1 n2 n3 n4 n5 n6 n7 n8 n9 n10 n11 n12 =
 
 module _ (c : Config) (p : Plan) (rk : ℕ → ℕ) (fit : Fitted c p rk) where
   -- what the methods count on of their tables
-  pub tables-laid : Laid (c .tables) (p .first) (c .entries)
+  pub tables-laid : RowsHold (c .tables) (p .first) (c .entries)
   tables-laid =
       record {
         within = λ t h. rw (fit .first-at t h) (omega (arith, firstOf-step c t, firstOf-rises c (suc t) (c .tables) h, fit .few-entries));

@@ -22,13 +22,18 @@ use word::union;
 use word::with;
 
 impl Model {
-    pub fn activate<'a>(self, task_rank: &'a [u8; 32], priority: &'a [u8; 32], t: u32) -> Outcome
-        ensures { λ r. ⌜ r ≡ outcomeOf (activate (now («task_rank» .entry)) (now (priority .entry)) (view self) t) ⌝ }
+    pub fn activate<'a>(
+        self,
+        callable_rank: &'a [u8; 32],
+        priority: &'a [u8; 32],
+        t: u32,
+    ) -> Outcome
+        ensures { λ r. ⌜ r ≡ outcomeOf (activate (now («callable_rank» .entry)) (now (priority .entry)) (view self) t) ⌝ }
     {
         if no_caller(self.runner, self.level) {
             return self.with_status(CALL_LEVEL);
         }
-        let rank = byte_at(task_rank, t as usize, NO_RANK);
+        let rank = byte_at(callable_rank, t as usize, NO_RANK);
         if rank == NO_RANK {
             return self.with_status(NO_SUCH);
         }
@@ -56,16 +61,16 @@ impl Model {
     pub fn chain<'a>(
         self,
         isrs: u32,
-        task_rank: &'a [u8; 32],
+        callable_rank: &'a [u8; 32],
         priority: &'a [u8; 32],
         t: u32,
     ) -> Outcome
-        ensures { λ r. ⌜ r ≡ outcomeOf (chain isrs (now («task_rank» .entry)) (now (priority .entry)) (view self) t) ⌝ }
+        ensures { λ r. ⌜ r ≡ outcomeOf (chain isrs (now («callable_rank» .entry)) (now (priority .entry)) (view self) t) ⌝ }
     {
         if no_task_calls(isrs, self.runner, self.level) {
             return self.with_status(CALL_LEVEL);
         }
-        let rank = byte_at(task_rank, t as usize, NO_RANK);
+        let rank = byte_at(callable_rank, t as usize, NO_RANK);
         if rank == NO_RANK {
             return self.with_status(NO_SUCH);
         }

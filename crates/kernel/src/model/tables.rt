@@ -7,7 +7,7 @@ ghost use lib.ListN.{getD};
 ghost use Rattle.scheduler.specs.Call.{longestDelay};
 ghost use Rattle.machine.specs.Cells.{isOn};
 ghost use Rattle.machine.specs.Events.{tick, start, stop};
-ghost use Rattle.kernel.specs.Methods.{Laid};
+ghost use Rattle.kernel.specs.Methods.{RowsHold};
 ghost use Rattle.kernel.specs.View.{view, outcomeOf};
 use super::BAD_DELAY;
 use super::CALL_LEVEL;
@@ -110,7 +110,7 @@ impl Model {
         t: u32,
         d: u32,
     ) -> Outcome
-        requires { ⌜ Laid tables (now first) (now entries) ⌝ }
+        requires { ⌜ RowsHold tables (now first) (now entries) ⌝ }
         ensures { λ r. ⌜ r ≡ outcomeOf (start tables (now (first .entry)) (now (entries .entry)) (now (period .entry)) (now (offset .entry)) (view self) t d) ⌝ }
     {
         if no_caller(self.runner, self.level) {
@@ -153,7 +153,7 @@ impl Model {
         entries: &'a [u8; 8],
         t: u32,
     ) -> Outcome
-        requires { ⌜ Laid tables (now first) (now entries) ⌝ }
+        requires { ⌜ RowsHold tables (now first) (now entries) ⌝ }
         ensures { λ r. ⌜ r ≡ outcomeOf (stop tables (now (first .entry)) (now (entries .entry)) (view self) t) ⌝ }
     {
         if no_caller(self.runner, self.level) {

@@ -21,7 +21,7 @@ use Rattle.config.specs.Meaning.{firstOf, offsets}
 use Rattle.config.proofs.Tables.{firstOf-step, firstOf-rises, firstOf-zero}
 use Rattle.plan.specs.declared.Plan.{Plan}
 use Rattle.cell.specs.declared.Cell.{Cell}
-use Rattle.cell.specs.Cell.{unmarked, ticked}
+use Rattle.cell.specs.Cell.{unmarked, tickCell}
 use Rattle.cell.proofs.Theorems.{off-ticked-same, on-time-matched, on-time-numbers}
 use Rattle.scheduler.specs.State.{Table, stopped, running, State}
 use Rattle.scheduler.specs.Tick.{counting, entryDue, duesFrom, dues}
@@ -44,24 +44,24 @@ module _ (w : Bool) (ks os : List ℕ) where
   ticked-before (suc k) e i ns h =
       ticked-before k (suc e) i _ (omega arith) ∙ getD-set-other ns e i _ 0 (λ z. absurd (omega arith))
 
-  pub ticked-at : (k e i : ℕ) (ns : List ℕ) → e ≤ i → i < e + k → i < length ns → getD (countersTicked k e w ks os ns) i 0 ≡ ticked (cellAt w ks os ns i) .counter
+  pub ticked-at : (k e i : ℕ) (ns : List ℕ) → e ≤ i → i < e + k → i < length ns → getD (countersTicked k e w ks os ns) i 0 ≡ tickCell (cellAt w ks os ns i) .counter
   unfolding countersTicked
   ticked-at zero e i ns h l len = absurd (omega arith)
   ticked-at (suc k) e i ns h l len =
       by-eq i e
       (λ z. rw z (ticked-before k (suc e) e (set ns e x) (omega arith) ∙ getD-set-same ns e x 0 (omega arith)))
       (λ n. ticked-at k (suc e) i (set ns e x) (omega arith) (omega arith) (rw (length-set ns e x) len)
-      ∙ ap (λ (v : ℕ). ticked (unmarked v (getD ks i 0) (isOn (getD os i 0)) (w && hasTurn (getD os i 0))) .counter) (getD-set-other ns e i x 0 n))
+      ∙ ap (λ (v : ℕ). tickCell (unmarked v (getD ks i 0) (isOn (getD os i 0)) (w && hasTurn (getD os i 0))) .counter) (getD-set-other ns e i x 0 n))
     where
       x : ℕ
-      x = ticked (cellAt w ks os ns e) .counter
+      x = tickCell (cellAt w ks os ns e) .counter
 
   marks-append : (j k e : ℕ) (ns : List ℕ) → marks (j + k) e w ks os ns ≡ marks j e w ks os ns ++ marks k (e + j) w ks os ns
   unfolding marks
   marks-append zero k e ns = rw (zero-add, add-zero)
   marks-append (suc j) k e ns =
       ap (λ (n : ℕ). marks n e w ks os ns) (sum j k)
-      ∙ ap (λ (l : List Bool). ticked (cellAt w ks os ns e) .matched ∷ l)
+      ∙ ap (λ (l : List Bool). tickCell (cellAt w ks os ns e) .matched ∷ l)
       (marks-append j k (suc e) ns ∙ ap (λ (n : ℕ). marks j (suc e) w ks os ns ++ marks k n w ks os ns) (shift e j))
     where
       sum : (j k : ℕ) → suc j + k ≡ suc (j + k)
@@ -95,7 +95,7 @@ module _ (w : Bool) (ks os : List ℕ) where
 
   -- the marks of one table's cells
   table-marks : (n e : ℕ) (ns qs : List ℕ) (f : ℕ → Bool) → e + n ≤ length qs
-      → ((i : ℕ) → e ≤ i → i < e + n → ticked (cellAt w ks os ns i) .matched ≡ f (getD qs i 0))
+      → ((i : ℕ) → e ≤ i → i < e + n → tickCell (cellAt w ks os ns i) .matched ≡ f (getD qs i 0))
       → marks n e w ks os ns ≡ map f (take n (drop e qs))
   unfolding marks
   table-marks zero e ns qs f h each = refl
@@ -124,14 +124,14 @@ module _ (c : Config) (p : Plan) (rk : ℕ → ℕ) (fit : Fitted c p rk) where
   dues-long s h = omega (arith, dues-from-long (s .tables) 0 (omega arith), firstOf-zero c, fit .count-is)
 
 -- a cell matches exactly if its entry is due at this tick
-cell-due : (P o : ℕ) (x : Cell) (t : Table) → CellFits P o x t → ticked x .matched ≡ entryDue P (counting t) o
+cell-due : (P o : ℕ) (x : Cell) (t : Table) → CellFits P o x t → tickCell x .matched ≡ entryDue P (counting t) o
 unfolding CellFits counting entryDue
 cell-due P o x stopped h = ap (λ (y : Cell). y .matched) (off-ticked-same x h)
 cell-due P o x (running d n) h = on-time-matched P (d + o) n x h
 
 -- and then it still fits
 cell-counted : (P o i k : ℕ) (on turn : Bool) (t : Table) → CellFits P o (unmarked i k on turn) t
-    → CellFits P o (unmarked (ticked (unmarked i k on turn) .counter) k on (ticked (unmarked i k on turn) .turn)) (counting t)
+    → CellFits P o (unmarked (tickCell (unmarked i k on turn) .counter) k on (tickCell (unmarked i k on turn) .turn)) (counting t)
 unfolding CellFits counting
 cell-counted P o i k on turn stopped h = h
 cell-counted P o i k on turn (running d n) h = on-time-numbers P (d + o) n i k on turn h

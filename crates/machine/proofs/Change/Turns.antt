@@ -15,7 +15,7 @@ use lib.ListN.{length, getD, set, length-set, List·getD-eq-default}
 use lib.Seq.{getD-set-same, getD-set-other}
 use Rattle.number.proofs.Cases.{by-eq, by-lt}
 use Rattle.config.specs.Value.{maxEntries}
-use Rattle.cell.specs.Cell.{unmarked, ticked}
+use Rattle.cell.specs.Cell.{unmarked, tickCell}
 use Rattle.cell.proofs.Theorems.{ticked-turn}
 use Rattle.machine.specs.Cells.{switchTurn, isOn, hasTurn, switchFor, cellAt, switchTicked, switchesTicked, some, someTurn}
 
@@ -74,7 +74,7 @@ module _ (ks ns : List ℕ) where
       by-eq i e
       (λ z. rw z (switches-before k (suc e) e (set os e x) (omega arith) ∙ getD-set-same os e x 0 (omega arith)))
       (λ n. switches-at k (suc e) i (set os e x) (omega (arith, n)) (omega arith) (rw (length-set os e x) within)
-      ∙ ap (λ (y : ℕ). switchFor (isOn y) (ticked (unmarked (getD ns i 0) (getD ks i 0) (isOn y) (hasTurn y)) .turn)) (getD-set-other os e i x 0 n))
+      ∙ ap (λ (y : ℕ). switchFor (isOn y) (tickCell (unmarked (getD ns i 0) (getD ks i 0) (isOn y) (hasTurn y)) .turn)) (getD-set-other os e i x 0 n))
     where
       x : ℕ
       x = switchTicked ks ns os e
@@ -94,7 +94,7 @@ past : (os : List ℕ) (e : ℕ) → length os ≡ maxEntries → maxEntries ≤
 past os e long h = List·getD-eq-default os 0 (omega arith)
 
 module _ (ks ns os : List ℕ) (e : ℕ) where
-  turn-of-on : ticked (cellAt true ks os ns e) .turn ≡ true → isOn (getD os e 0) ≡ true
+  turn-of-on : tickCell (cellAt true ks os ns e) .turn ≡ true → isOn (getD os e 0) ≡ true
   turn-of-on h = turn-on (getD os e 0) (first-true _ _ (sym (ticked-turn (cellAt true ks os ns e)) ∙ h))
 
   module _ (inside : e < maxEntries) (long : length os ≡ maxEntries) where
@@ -102,10 +102,10 @@ module _ (ks ns os : List ℕ) (e : ℕ) where
     switch-after = switches-at ks ns maxEntries 0 e os (omega arith) (omega arith) (omega arith)
 
     on-ticked : isOn (getD (switchesTicked maxEntries 0 ks ns os) e 0) ≡ isOn (getD os e 0)
-    on-ticked = ap isOn switch-after ∙ switch-on (isOn (getD os e 0)) (ticked (cellAt true ks os ns e) .turn) turn-of-on
+    on-ticked = ap isOn switch-after ∙ switch-on (isOn (getD os e 0)) (tickCell (cellAt true ks os ns e) .turn) turn-of-on
 
-    turn-ticked : hasTurn (getD (switchesTicked maxEntries 0 ks ns os) e 0) ≡ ticked (cellAt true ks os ns e) .turn
-    turn-ticked = ap hasTurn switch-after ∙ switch-turn (isOn (getD os e 0)) (ticked (cellAt true ks os ns e) .turn)
+    turn-ticked : hasTurn (getD (switchesTicked maxEntries 0 ks ns os) e 0) ≡ tickCell (cellAt true ks os ns e) .turn
+    turn-ticked = ap hasTurn switch-after ∙ switch-turn (isOn (getD os e 0)) (tickCell (cellAt true ks os ns e) .turn)
 
 module _ (w : Bool) (ks ns os : List ℕ) where
   pub on-after : (e : ℕ) → e < maxEntries → length os ≡ maxEntries → isOn (getD (switchesAfter w ks ns os) e 0) ≡ isOn (getD os e 0)
@@ -116,7 +116,7 @@ module _ (w : Bool) (ks ns os : List ℕ) where
       go false = refl
 
   pub turn-after : (e : ℕ) → e < maxEntries → length os ≡ maxEntries
-      → turningAfter w ks ns os && hasTurn (getD (switchesAfter w ks ns os) e 0) ≡ ticked (cellAt w ks os ns e) .turn
+      → turningAfter w ks ns os && hasTurn (getD (switchesAfter w ks ns os) e 0) ≡ tickCell (cellAt w ks os ns e) .turn
   turn-after e inside long = go w
     where
       left : (t : Bool) → hasTurn (getD (switchesTicked maxEntries 0 ks ns os) e 0) ≡ t
@@ -124,8 +124,8 @@ module _ (w : Bool) (ks ns os : List ℕ) where
       left true h = ap₂ (λ (a b : Bool). a && b) (some-holds _ maxEntries 0 e (omega arith) (omega arith) h) h
       left false h = rw h (and-false (someTurn maxEntries 0 (switchesTicked maxEntries 0 ks ns os)))
 
-      go : (w : Bool) → turningAfter w ks ns os && hasTurn (getD (switchesAfter w ks ns os) e 0) ≡ ticked (cellAt w ks os ns e) .turn
-      go true = left (ticked (cellAt true ks os ns e) .turn) (turn-ticked ks ns os e inside long)
+      go : (w : Bool) → turningAfter w ks ns os && hasTurn (getD (switchesAfter w ks ns os) e 0) ≡ tickCell (cellAt w ks os ns e) .turn
+      go true = left (tickCell (cellAt true ks os ns e) .turn) (turn-ticked ks ns os e inside long)
       go false = sym (ticked-turn (cellAt false ks os ns e))
 
   pub off-after : (e : ℕ) → length os ≡ maxEntries → isOn (getD os e 0) ≡ false → isOn (getD (switchesAfter w ks ns os) e 0) ≡ false

@@ -77,11 +77,11 @@ module _ {c : Config} {p : Plan} {rk : ℕ → ℕ} (fit : Fitted c p rk) where
       go true h = ne-eqb (rk t) noRank (λ z. absurd (omega (arith, z, rank-below fit t (real t h))))
       go false h = refl
 
-  pub no-task : (t : ℕ) → eqb (getD (p .task) t noRank) noRank ≡ not (isOsekTask c t)
-  no-task t = missing-rank (isOsekTask c) (osek-exists c) t (getD (p .task) t noRank) (fit .task-rank t)
+  pub no-task : (t : ℕ) → eqb (getD (p .callable) t noRank) noRank ≡ not (isOsekTask c t)
+  no-task t = missing-rank (isOsekTask c) (osek-exists c) t (getD (p .callable) t noRank) (fit .callable-rank t)
 
-  pub task-rank-is : (t : ℕ) → isOsekTask c t ≡ true → getD (p .task) t noRank ≡ rk t
-  task-rank-is t h = fit .task-rank t ∙ rw h
+  pub callable-rank-is : (t : ℕ) → isOsekTask c t ≡ true → getD (p .callable) t noRank ≡ rk t
+  callable-rank-is t h = fit .callable-rank t ∙ rw h
 
   line-rank-is : (i : ℕ) → isIsr c i ≡ true → getD (p .line) i noRank ≡ rk i
   line-rank-is i h = fit .line-rank i ∙ rw h
@@ -100,15 +100,15 @@ module _ {c : Config} {p : Plan} {rk : ℕ → ℕ} (fit : Fitted c p rk) where
     pub agrees-activate : (t : ℕ) → Agrees c p rk m s (Activate t)
     unfolding statusOf effectOf refusalOf stepBy
     agrees-activate t =
-        agrees-attempt fit sim (Activate t) (Machine.activateStatus (p .task) m t) (activateStatus c s t)
-        (settled (p .priority) (requesting (getD (p .task) t noRank) m)) (activate t s) refl refl (no-match fit sim long)
+        agrees-attempt fit sim (Activate t) (Machine.activateStatus (p .callable) m t) (activateStatus c s t)
+        (settled (p .priority) (requesting (getD (p .callable) t noRank) m)) (activate t s) refl refl (no-match fit sim long)
         (first-same (noCaller m) (nobodyCalls c s) callLevel _ _ (caller-same fit sim)
-        (λ _. first-same (eqb (getD (p .task) t noRank) noRank) (not (isOsekTask c t)) noSuch _ _ (no-task t)
+        (λ _. first-same (eqb (getD (p .callable) t noRank) noRank) (not (isOsekTask c t)) noSuch _ _ (no-task t)
         (λ h. let k = not-false (isOsekTask c t) h in
-        first-same (busy m (getD (p .task) t noRank)) (active s t) limitReached _ _ (rw (task-rank-is t k) (busy-is (sim .tied .words) t (osek-exists c t k))) (λ _. refl))))
+        first-same (busy m (getD (p .callable) t noRank)) (active s t) limitReached _ _ (rw (callable-rank-is t k) (busy-is (sim .tied .words) t (osek-exists c t k))) (λ _. refl))))
         (λ z. let a = activate-passed c s t z in
         let mid = keeps .effect (Activate t) refl z in
-        rw (task-rank-is t (a .1))
+        rw (callable-rank-is t (a .1))
         (record {
           status = refl;
           arb = settled-orderly fit (activate t s) mid (activate-tied (sim .tied) fit t (osek-exists c t (a .1)) (ap isStarted (a .2)) (ap isAside (a .2)));
@@ -340,18 +340,18 @@ module _ {c : Config} {p : Plan} {rk : ℕ → ℕ} (fit : Fitted c p rk) where
         (λ e. eq-eqb (rk t) (rk b) (ap rk e) ∙ sym (eq-eqb t b e))
         (λ n. ne-eqb (rk t) (rk b) (λ e. n (fit .rank-inj t b h (k .exists) e)) ∙ sym (ne-eqb t b n)))
 
-    chain-status : (t : ℕ) → Machine.chainStatus (p .isrs) (p .task) m t ≡ chainStatus c s t
+    chain-status : (t : ℕ) → Machine.chainStatus (p .isrs) (p .callable) m t ≡ chainStatus c s t
     chain-status t =
         by-caller fit sim
         (λ i n. first-same (noCaller m || has (p .isrs) (m .core .runner)) (nobodyCalls c s || isIsr c (caller c s)) callLevel _ _ (rw (i, n)) (λ h. absurd (true≢false (rw n at h))))
         (λ b ns k.
         first-same (noCaller m || has (p .isrs) (m .core .runner)) (nobodyCalls c s || isIsr c (caller c s)) callLevel _ _
         (rw (k .may-call, k .calls-there) (rw (k .rank) (fit .isr-at b (k .exists)) ∙ ap (isIsr c) (sym (k .calls))))
-        (λ _. first-same (eqb (getD (p .task) t noRank) noRank) (not (isOsekTask c t)) noSuch _ _ (no-task t)
+        (λ _. first-same (eqb (getD (p .callable) t noRank) noRank) (not (isOsekTask c t)) noSuch _ _ (no-task t)
         (λ h. let q = not-false (isOsekTask c t) h in
         first-same (holding m) (holds (calling c s .held)) holdsResource _ _ (holding-same k)
-        (λ _. first-same (busy m (getD (p .task) t noRank) && not (eqb (getD (p .task) t noRank) (m .core .runner))) (active s t && not (eqb t (caller c s))) limitReached _ _
-        (rw (task-rank-is t q)
+        (λ _. first-same (busy m (getD (p .callable) t noRank) && not (eqb (getD (p .callable) t noRank) (m .core .runner))) (active s t && not (eqb t (caller c s))) limitReached _ _
+        (rw (callable-rank-is t q)
         (ap₂ (λ (x y : Bool). x && not y) (busy-is (sim .tied .words) t (osek-exists c t q)) (same-task k t (osek-exists c t q))))
         (λ _. refl)))))
 
@@ -383,14 +383,14 @@ module _ {c : Config} {p : Plan} {rk : ℕ → ℕ} (fit : Fitted c p rk) where
     pub agrees-chain : (t : ℕ) → Agrees c p rk m s (Chain t)
     unfolding statusOf effectOf refusalOf stepBy
     agrees-chain t =
-        agrees-attempt fit sim (Chain t) (Machine.chainStatus (p .isrs) (p .task) m t) (chainStatus c s t)
-        (settled (p .priority) (requesting (getD (p .task) t noRank) (leaving m))) (chain (caller c s) t s) refl refl
+        agrees-attempt fit sim (Chain t) (Machine.chainStatus (p .isrs) (p .callable) m t) (chainStatus c s t)
+        (settled (p .priority) (requesting (getD (p .callable) t noRank) (leaving m))) (chain (caller c s) t s) refl refl
         (no-match fit sim long) (chain-status t)
         (λ z. let a = chain-passed c s t z in
         let mid = keeps .effect (Chain t) refl z in
         by-caller fit sim
         (λ i n. absurd (true≢false (sym n ∙ either (nobodyCalls c s) (isIsr c (caller c s)) (first-passed _ callLevel _ (λ e. absurd (omega (arith, e))) z))))
-        (λ b ns k. rw (task-rank-is t (a .2))
+        (λ b ns k. rw (callable-rank-is t (a .2))
         (record {
           status = refl;
           arb = let q = chained-asleep k t (a .4) in

@@ -37,7 +37,7 @@ use Rattle.machine.proofs.Relation.Whole.{Sim}
 use Rattle.machine.proofs.Arbitration.Dispatch.{calm-arbitrated}
 use Rattle.machine.proofs.Change.Request.{elsewhere}
 use Rattle.machine.proofs.Event.Agrees.{first-same, Agrees, Accepted, Keeps, caller-same, seated-of, latest-of, agrees-attempt, no-match}
-use Rattle.machine.proofs.Change.Cells.{laid, length-laid, laid-before, laid-after, laid-inside, started-laid, switches-laid, stopped-laid, switched-laid}
+use Rattle.machine.proofs.Change.Cells.{spread, length-spread, spread-before, spread-after, spread-inside, started-spread, switches-spread, stopped-spread, switched-spread}
 use Rattle.machine.proofs.Change.Turns.{switch-on, switch-turn, some-holds, some-none}
 
 -- a started cell, kept as plain numbers, is on time
@@ -73,14 +73,14 @@ module _ {c : Config} {p : Plan} {rk : ℕ → ℕ} (fit : Fitted c p rk) where
     module _ (ns os : List ℕ) (w : Bool) (ts : List Table) (timed : Timed c p ns os w ts) (f g : ℕ → ℕ) (w′ : Bool)
         (keeps : w ≡ true → w′ ≡ true) where
       abbrev ns′ : List ℕ
-      ns′ = laid f count (firstOf c t) ns
+      ns′ = spread f count (firstOf c t) ns
 
       abbrev os′ : List ℕ
-      os′ = laid g count (firstOf c t) os
+      os′ = spread g count (firstOf c t) os
 
-      own-at : (h : ℕ → ℕ) (l : List ℕ) → length l ≡ 64 → (e : ℕ) → firstOf c t ≤ e → e < firstOf c (suc t) → getD (laid h count (firstOf c t) l) e 0 ≡ h e
+      own-at : (h : ℕ → ℕ) (l : List ℕ) → length l ≡ 64 → (e : ℕ) → firstOf c t ≤ e → e < firstOf c (suc t) → getD (spread h count (firstOf c t) l) e 0 ≡ h e
       own-at h l long e low high =
-          laid-inside h count (firstOf c t) l e 0 low (omega (arith, firstOf-step c t))
+          spread-inside h count (firstOf c t) l e 0 low (omega (arith, firstOf-step c t))
           (omega (arith, firstOf-rises c (suc t) (c .tables) t<, fit .few-entries))
 
       -- the cells of table t are those that it gets, and the other tables' stay
@@ -94,11 +94,11 @@ module _ {c : Config} {p : Plan} {rk : ℕ → ℕ} (fit : Fitted c p rk) where
       other-cell u e u< n low high =
           rw (stays f ns, stays g os, same-turn w w′ (hasTurn (getD os e 0)) keeps (λ z. timed .unturned z e))
         where
-          stays : (h : ℕ → ℕ) (l : List ℕ) → getD (laid h count (firstOf c t) l) e 0 ≡ getD l e 0
+          stays : (h : ℕ → ℕ) (l : List ℕ) → getD (spread h count (firstOf c t) l) e 0 ≡ getD l e 0
           stays h l =
               by-lt u t
-              (λ b. laid-before h count (firstOf c t) l e 0 (omega (arith, firstOf-rises c (suc u) t (omega arith))))
-              (λ b. laid-after h count (firstOf c t) l e 0
+              (λ b. spread-before h count (firstOf c t) l e 0 (omega (arith, firstOf-rises c (suc u) t (omega arith))))
+              (λ b. spread-after h count (firstOf c t) l e 0
               (omega (arith, firstOf-rises c (suc t) u (omega (arith, n)), firstOf-step c t)))
 
       -- and the table becomes x
@@ -108,10 +108,10 @@ module _ {c : Config} {p : Plan} {rk : ℕ → ℕ} (fit : Fitted c p rk) where
         none-left : w′ ≡ false → (e : ℕ) → hasTurn (getD os′ e 0) ≡ false
         none-left z e =
             by-lt e (firstOf c t)
-            (λ b. ap hasTurn (laid-before g count (firstOf c t) os e 0 b) ∙ before)
+            (λ b. ap hasTurn (spread-before g count (firstOf c t) os e 0 b) ∙ before)
             (λ low. by-lt e (firstOf c (suc t))
             (λ high. ap hasTurn (own-at g os (timed .switches-long) e low high) ∙ none z e low high)
-            (λ h. ap hasTurn (laid-after g count (firstOf c t) os e 0 (omega (arith, firstOf-step c t))) ∙ before))
+            (λ h. ap hasTurn (spread-after g count (firstOf c t) os e 0 (omega (arith, firstOf-step c t))) ∙ before))
           where
             before : hasTurn (getD os e 0) ≡ false
             before = timed .unturned (was-false w w′ keeps z) e
@@ -120,13 +120,13 @@ module _ {c : Config} {p : Plan} {rk : ℕ → ℕ} (fit : Fitted c p rk) where
         table-timed =
             record {
               tables-long = length-set ts t x ∙ timed .tables-long;
-              counters-long = length-laid f count (firstOf c t) ns ∙ timed .counters-long;
-              switches-long = length-laid g count (firstOf c t) os ∙ timed .switches-long;
+              counters-long = length-spread f count (firstOf c t) ns ∙ timed .counters-long;
+              switches-long = length-spread g count (firstOf c t) os ∙ timed .switches-long;
               cells = λ u e u< low high. by-eq u t
                   (λ q. rw (q, getD-set-same ts t x stopped (rw (timed .tables-long) t<), own-cell e (rw q at low) (rw q at high))
                   (fits e (rw q at low) (rw q at high)))
                   (λ n. rw (getD-set-other ts t u x stopped n, other-cell u e u< n low high) (timed .cells u e u< low high));
-              spare = λ e h. ap isOn (laid-after g count (firstOf c t) os e 0 (omega (arith, firstOf-rises c (suc t) (c .tables) t<, firstOf-step c t)))
+              spare = λ e h. ap isOn (spread-after g count (firstOf c t) os e 0 (omega (arith, firstOf-rises c (suc t) (c .tables) t<, firstOf-step c t)))
                   ∙ timed .spare e h;
               unturned = none-left;
             }
@@ -199,7 +199,7 @@ module _ {c : Config} {p : Plan} {rk : ℕ → ℕ} (fit : Fitted c p rk) {m : M
       → Timed c p (launching t d .counter) (launching t d .on) (launching t d .turning) (start t d s .tables)
   unfolding CellFits
   start-timed t d t< some fits =
-      rw (fit .first-at t t<, started-laid, switches-laid)
+      rw (fit .first-at t t<, started-spread, switches-spread)
       (table-timed fit t t< (m .counter) (m .on) (m .turning) (s .tables) (sim .timed)
       (λ i. startCell (getD (c .period) t 0) (delayed d i) .counter) (λ i. switchFor true (isLong (delayed d i))) (m .turning || anyLong t d)
       (λ w. rw w) (running d 0) (λ z e low high. none-long t d e low high z)
@@ -211,7 +211,7 @@ module _ {c : Config} {p : Plan} {rk : ℕ → ℕ} (fit : Fitted c p rk) {m : M
   module _ (t d e : ℕ) (t< : t < c .tables) where
     pub start-cell : firstOf c t ≤ e → e < firstOf c (suc t) → cellIn p (launching t d) e ≡ startCell (getD (c .period) t 0) (delayed d e)
     start-cell low high =
-        rw (fit .first-at t t<, started-laid, switches-laid)
+        rw (fit .first-at t t<, started-spread, switches-spread)
         (own-cell fit t t< (m .counter) (m .on) (m .turning) (s .tables) (sim .timed) (λ i. startCell (getD (c .period) t 0) (delayed d i) .counter)
         (λ i. switchFor true (isLong (delayed d i))) (m .turning || anyLong t d) (λ w. rw w) e low high
         ∙ rw (switch-on true (isLong (delayed d e)) (λ _. refl), turn-said t d e low high)
@@ -222,7 +222,7 @@ module _ {c : Config} {p : Plan} {rk : ℕ → ℕ} (fit : Fitted c p rk) {m : M
 
     pub start-other : (u : ℕ) → u < c .tables → u ≢ t → firstOf c u ≤ e → e < firstOf c (suc u) → cellIn p (launching t d) e ≡ cellIn p m e
     start-other u u< n low high =
-        rw (fit .first-at t t<, started-laid, switches-laid)
+        rw (fit .first-at t t<, started-spread, switches-spread)
         (other-cell fit t t< (m .counter) (m .on) (m .turning) (s .tables) (sim .timed) (λ i. startCell (getD (c .period) t 0) (delayed d i) .counter)
         (λ i. switchFor true (isLong (delayed d i))) (m .turning || anyLong t d) (λ w. rw w) u e u< n low high)
 
@@ -250,21 +250,21 @@ module _ {c : Config} {p : Plan} {rk : ℕ → ℕ} (fit : Fitted c p rk) {m : M
   stop-timed : (t : ℕ) → t < c .tables → Timed c p (halting t .counter) (halting t .on) (halting t .turning) (stop t s .tables)
   unfolding CellFits
   stop-timed t t< =
-      rw (fit .first-at t t<, stopped-laid, switched-laid)
+      rw (fit .first-at t t<, stopped-spread, switched-spread)
       (table-timed fit t t< (m .counter) (m .on) (m .turning) (s .tables) (sim .timed) (λ _. 0) (λ _. switchOff) (m .turning)
       (λ w. w) stopped (λ _ e low high. refl) (λ e low high. refl))
 
   -- "Stop switches the table's cells off and sets their counters to 0"
   module _ (t e : ℕ) (t< : t < c .tables) where
-    pub stop-cell : firstOf c t ≤ e → e < firstOf c (suc t) → cellIn p (halting t) e ≡ Cell.stopped (cellIn p m e)
+    pub stop-cell : firstOf c t ≤ e → e < firstOf c (suc t) → cellIn p (halting t) e ≡ Cell.stopCell (cellIn p m e)
     stop-cell low high =
-        rw (fit .first-at t t<, stopped-laid, switched-laid)
+        rw (fit .first-at t t<, stopped-spread, switched-spread)
         (own-cell fit t t< (m .counter) (m .on) (m .turning) (s .tables) (sim .timed) (λ _. 0) (λ _. switchOff) (m .turning) (λ w. w) e low high
         ∙ rw (fit .compare-at t e t< low high, and-false (m .turning)))
 
     pub stop-other : (u : ℕ) → u < c .tables → u ≢ t → firstOf c u ≤ e → e < firstOf c (suc u) → cellIn p (halting t) e ≡ cellIn p m e
     stop-other u u< n low high =
-        rw (fit .first-at t t<, stopped-laid, switched-laid)
+        rw (fit .first-at t t<, stopped-spread, switched-spread)
         (other-cell fit t t< (m .counter) (m .on) (m .turning) (s .tables) (sim .timed) (λ _. 0) (λ _. switchOff) (m .turning) (λ w. w) u e u< n low high)
 
   pub agrees-stop : (t : ℕ) → Agrees c p rk m s (Stop t)

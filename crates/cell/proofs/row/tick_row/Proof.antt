@@ -42,7 +42,7 @@ use denote.Triple.Table.{entered, cited}
 use denote.Triple.Walked.{says, Stays, stay-slice, walkOf, goes-slice, Walks, ends-at, walked, walk-meets}
 use denote.Triple.Clauses.{ensured, lasts}
 use Rattle.cell.specs.declared.Cell.{Cell}
-use Rattle.cell.specs.Cell.{ticked}
+use Rattle.cell.specs.Cell.{tickCell}
 use Rattle.cell.specs.Rows.{tickedRow}
 use Rattle.cell.proofs.Progress.{Progress, Nearer, nearer-wf, start, here, next, next-nearer, behind-lt, next-length, end, end-done, end-length}
 use Rattle.cell.proofs.Lent.{sliceAt, Opened, opens-row, takes-next, puts-next, closes-row}
@@ -77,8 +77,8 @@ module _ {M : Type 1} (𝓤 : URA M) (H : Heap 𝓤) (A : Atoms 𝓤) (W : Given
   Tick = tripleOf 𝓤 H A tick.signature (tick.spec 𝓤 H A mem-of run)
 
   -- of what `tick` leaves, its clause alone
-  ticked-of : (c r : Cell) → ent 𝓤 (ensured 𝓤 H A tick.ended (tick.clauses 𝓤 H A mem-of run) tt (c, tt) tt r) (fact 𝓤 (r ≡ ticked c))
-  ticked-of c r = exE 𝓤 _ (λ ws. snd∗ 𝓤 (sem 𝓤 H A (lasts tick.ended tt (c, tt) ws)) (fact 𝓤 (r ≡ ticked c)))
+  ticked-of : (c r : Cell) → ent 𝓤 (ensured 𝓤 H A tick.ended (tick.clauses 𝓤 H A mem-of run) tt (c, tt) tt r) (fact 𝓤 (r ≡ tickCell c))
+  ticked-of c r = exE 𝓤 _ (λ ws. snd∗ 𝓤 (sem 𝓤 H A (lasts tick.ended tt (c, tt) ws)) (fact 𝓤 (r ≡ tickCell c)))
 
   abbrev to-tick : (c : Cell) → Tick .Ghost
   to-tick c = ((tt, tt, tt, (c, tt), (machine c ∷ [], tt)), tt)
@@ -125,7 +125,7 @@ module _ {M : Type 1} (𝓤 : URA M) (H : Heap 𝓤) (A : Atoms 𝓤) (W : Given
       En = (tyUnit, l₀) ∷ (slice, l₁) ∷ (word, l₂) ∷ (word, l₃) ∷ (tyBool, l₄) ∷ (T′.mir, l₅) ∷ (tyPtr, l₆) ∷ (T′.mir, l₇) ∷ (word, l₈) ∷ (tyPtr, l₉) ∷ []
 
       -- the loop's invariant: [the row; local k at 1 + 2 · k, and that it dies; the open slice]
-      abbrev At : Progress ticked xs → List (Item 𝓤)
+      abbrev At : Progress tickCell xs → List (Item 𝓤)
       At p = ‵ (row T.the-row fullShare (p .behind ++ p .ahead) b o)
           ∷ ‵ (froom tyUnit l₀ 0) ∷ ‵ (fdies tyUnit l₀)
           ∷ ‵ (fat fullShare slice l₁ 0 (sliceVal (b, o) n)) ∷ ‵ (fdies slice l₁)
@@ -140,14 +140,14 @@ module _ {M : Type 1} (𝓤 : URA M) (H : Heap 𝓤) (A : Atoms 𝓤) (W : Given
           ∷ Opened T.the-row κ q b o γ xs ∷ []
 
       -- after a turn the walk is nearer to the end, or the loop is left and the rest of the body runs
-      abbrev Turned : Progress ticked xs → Out → SProp 𝓤
-      Turned p = afterTurn 𝓤 H (Below 𝓤 H A (Nearer ticked xs) At p) (afterBlock 𝓤 H (afterSeq 𝓤 H (Wp 𝓤 H C Λ En mir-of.t-3 (atReturn 𝓤 H En Post)) (atReturn 𝓤 H En Post)))
+      abbrev Turned : Progress tickCell xs → Out → SProp 𝓤
+      Turned p = afterTurn 𝓤 H (Below 𝓤 H A (Nearer tickCell xs) At p) (afterBlock 𝓤 H (afterSeq 𝓤 H (Wp 𝓤 H C Λ En mir-of.t-3 (atReturn 𝓤 H En Post)) (atReturn 𝓤 H En Post)))
 
-      abbrev Turn : Progress ticked xs → Type 1
+      abbrev Turn : Progress tickCell xs → Type 1
       Turn p = Sq W (At p) (runs C Λ En mir-of.turn-1 (anyQ (Turned p)))
 
       -- a turn that ticks one cell
-      more : (bs : List Cell) (z : Cell) (zs : List Cell) (in-all : bs ++ tickedRow (z ∷ zs) ≡ tickedRow xs) → Turn (here ticked xs bs z zs in-all)
+      more : (bs : List Cell) (z : Cell) (zs : List Cell) (in-all : bs ++ tickedRow (z ∷ zs) ≡ tickedRow xs) → Turn (here tickCell xs bs z zs in-all)
       unfolding afterTurn
       more bs z zs in-all =
           -- i < row.len()
@@ -164,23 +164,23 @@ module _ {M : Type 1} (𝓤 : URA M) (H : Heap 𝓤) (A : Atoms 𝓤) (W : Given
           move ! (1 ∷ []) $ use1 W (raw (Tick .pre (to-tick z))) (goes-tick z) $
           calls-at ! fm Tick known (to-tick z) (and-then ! (load ! (from ! (stop !)) (look ! 17 refl)) (no-more !)) (λ v.
           use1 W (later (some (λ (r : Cell). (‵ ftrue ⊛ ‵ (T.the-row .own r (v ∷ []))) ⊛ raw (ensured 𝓤 H A tick.ended (tick.clauses 𝓤 H A mem-of run) tt (z, tt) tt r)))) (id⊢ 𝓤 _) $ await ! tt $ pick ! (λ r.
-          split ! $ move ! (1 ∷ []) $ use1 W (raw (fact 𝓤 (r ≡ ticked z))) (ticked-of z r) $ heard ! (r ≡ ticked z) (λ e. split ! $ drop ! $
-          rewrite ! 0 (λ (c : Cell). ‵ (T.the-row .own c (v ∷ []))) e refl $ peeks ! T.the-row (Is T.the-row) (shows 𝓤 H A T.the-row) (ticked z) (v ∷ []) (λ is′.
-          land ! (from ! (stop !)) (init ! 13 refl (typed (ticked z) v is′)) $
+          split ! $ move ! (1 ∷ []) $ use1 W (raw (fact 𝓤 (r ≡ tickCell z))) (ticked-of z r) $ heard ! (r ≡ tickCell z) (λ e. split ! $ drop ! $
+          rewrite ! 0 (λ (c : Cell). ‵ (T.the-row .own c (v ∷ []))) e refl $ peeks ! T.the-row (Is T.the-row) (shows 𝓤 H A T.the-row) (tickCell z) (v ∷ []) (λ is′.
+          land ! (from ! (stop !)) (init ! 13 refl (typed (tickCell z) v is′)) $
           -- row[i] is stored to, and put back. The places are the invariant's again
           assigns ! (bin ! (load ! (from ! (stop !)) (look ! 7 refl)) (lit ! tt) (record { fits = place-fits })) (from ! (stop !)) (init ! 19 refl (tt, record { fits = place-fits })) $
           assigns ! (bin ! (load ! (from ! (fld ! refl (stop !))) (look-in ! 5 (sub ! 0 refl (whole !)))) (load ! (from ! (stop !)) (look ! 19 refl)) tt) (from ! (stop !)) (init ! 21 refl (tt, tt)) $
-          assigns ! (of-opd ! (load ! (from ! (stop !)) (look ! 13 refl))) (from ! (hop ! (look ! 21 refl) (stop !))) (store-raw ! 1 refl (typed (ticked z) v is′)) $
-          move ! (1 ∷ 0 ∷ []) $ puts-next ! T.the-row b o bs z zs (ticked z) (v ∷ []) $
+          assigns ! (of-opd ! (load ! (from ! (stop !)) (look ! 13 refl))) (from ! (hop ! (look ! 21 refl) (stop !))) (store-raw ! 1 refl (typed (tickCell z) v is′)) $
+          move ! (1 ∷ 0 ∷ []) $ puts-next ! T.the-row b o bs z zs (tickCell z) (v ∷ []) $
           -- i += 1
           assigns-last ! (bin ! (load ! (from ! (stop !)) (look ! 5 refl)) (lit ! tt) (record { fits = next-fits })) (from ! (stop !)) (store ! 5 refl (tt, record { fits = next-fits })) $
           forget ! 7 refl $ forget ! 9 refl $ forget ! 11 refl $ forget ! 13 refl $ forget ! 15 refl $ forget ! 17 refl $ forget ! 19 refl $
-          rewrite ! 5 (λ (i : ℕ). ‵ (fat fullShare word l₂ 0 (vint w64 i))) (sym (next-length ticked xs bs z zs in-all)) refl $
-          rewrite ! 0 (λ (ys : List Cell). ‵ (row T.the-row fullShare ys b o)) (sym (append-assoc bs (ticked z ∷ []) zs)) refl $
-          again ! (Nearer ticked xs) At (here ticked xs bs z zs in-all) (next ticked xs bs z zs in-all) (next-nearer ticked xs bs z zs in-all))))))
+          rewrite ! 5 (λ (i : ℕ). ‵ (fat fullShare word l₂ 0 (vint w64 i))) (sym (next-length tickCell xs bs z zs in-all)) refl $
+          rewrite ! 0 (λ (ys : List Cell). ‵ (row T.the-row fullShare ys b o)) (sym (append-assoc bs (tickCell z ∷ []) zs)) refl $
+          again ! (Nearer tickCell xs) At (here tickCell xs bs z zs in-all) (next tickCell xs bs z zs in-all) (next-nearer tickCell xs bs z zs in-all))))))
         where
           within : length bs < n
-          within = behind-lt ticked xs bs z zs in-all
+          within = behind-lt tickCell xs bs z zs in-all
 
           place-fits : length bs * mem T.the-row .size < 2 ^ 64
           place-fits = omega (arith, within, g .1)
@@ -189,7 +189,7 @@ module _ {M : Type 1} (𝓤 : URA M) (H : Heap 𝓤) (A : Atoms 𝓤) (W : Given
           next-fits = omega (arith, within, g .0)
 
       -- the turn that leaves the loop, and the rest of the body: the slice is closed at the ticked row
-      ends : (bs : List Cell) (in-all : bs ++ [] ≡ tickedRow xs) → Turn (end ticked xs bs in-all)
+      ends : (bs : List Cell) (in-all : bs ++ [] ≡ tickedRow xs) → Turn (end tickCell xs bs in-all)
       unfolding afterTurn
       ends bs in-all =
           assigns ! (of-opd ! (load ! (from ! (fld ! refl (stop !))) (look-in ! 3 (sub ! 1 refl (whole !))))) (from ! (stop !)) (init ! 7 refl (tt, record { fits = g .0 })) $
@@ -203,16 +203,16 @@ module _ {M : Type 1} (𝓤 : URA M) (H : Heap 𝓤) (A : Atoms 𝓤) (W : Given
           returns ! (look ! 2 refl) $ forget ! 2 refl $ forget ! 4 refl $ forget ! 6 refl $ forget ! 8 refl $ forget ! 10 refl $
           move ! (2 ∷ 3 ∷ []) $ free1 ! $ move ! (2 ∷ 3 ∷ []) $ free1 ! $ move ! (2 ∷ 3 ∷ []) $ free1 ! $ move ! (2 ∷ 3 ∷ []) $ free1 ! $ move ! (2 ∷ 3 ∷ []) $ free1 ! $
           move ! (2 ∷ 3 ∷ []) $ free1 ! $ move ! (2 ∷ 3 ∷ []) $ free1 ! $ move ! (2 ∷ 3 ∷ []) $ free1 ! $ move ! (2 ∷ 3 ∷ []) $ free1 ! $ move ! (2 ∷ 3 ∷ []) $ free1 ! $ free0 ! $
-          by ! (exits bs long (end-done ticked xs bs in-all))
+          by ! (exits bs long (end-done tickCell xs bs in-all))
         where
           long : length bs ≡ n
-          long = end-length ticked xs bs in-all
+          long = end-length tickCell xs bs in-all
 
       turn-at : (bs zs : List Cell) (in-all : bs ++ tickedRow zs ≡ tickedRow xs) → Turn (record { behind = bs; ahead = zs; in-all = in-all })
       turn-at bs [] in-all = ends bs in-all
       turn-at bs (z ∷ zs) in-all = more bs z zs in-all
 
-      turns : (p : Progress ticked xs) → Turn p
+      turns : (p : Progress tickCell xs) → Turn p
       turns p = turn-at (p .behind) (p .ahead) (p .in-all)
 
     -- the body up to the loop
@@ -227,7 +227,7 @@ module _ {M : Type 1} (𝓤 : URA M) (H : Heap 𝓤) (A : Atoms 𝓤) (W : Given
         move ! (21 ∷ []) $ fsplit ! $ move ! (22 ∷ []) $ split ! $ move ! (2 ∷ 0 ∷ []) $ opens-row ! T.the-row b o tt (named 0) κ q γ xs $
         -- [the row; the open slice; true; true; local k at 4 + 2 · (9 - k)]
         keep ! (0 ∷ 22 ∷ 23 ∷ 20 ∷ 21 ∷ 18 ∷ 19 ∷ 16 ∷ 17 ∷ 14 ∷ 15 ∷ 12 ∷ 13 ∷ 10 ∷ 11 ∷ 8 ∷ 9 ∷ 6 ∷ 7 ∷ 4 ∷ 5 ∷ 1 ∷ []) $
-        first ! $ blocks ! $ loops ! 𝓣 (Nearer ticked xs) (nearer-wf ticked xs) (At 𝓣 fm known g l₀ l₁ l₂ l₃ l₄ l₅ l₆ l₇ l₈ l₉) (turns 𝓣 fm known g l₀ l₁ l₂ l₃ l₄ l₅ l₆ l₇ l₈ l₉) (start ticked xs)))))))))))
+        first ! $ blocks ! $ loops ! 𝓣 (Nearer tickCell xs) (nearer-wf tickCell xs) (At 𝓣 fm known g l₀ l₁ l₂ l₃ l₄ l₅ l₆ l₇ l₈ l₉) (turns 𝓣 fm known g l₀ l₁ l₂ l₃ l₄ l₅ l₆ l₇ l₈ l₉) (start tickCell xs)))))))))))
 
   tick-row-walks : (𝓣 : Tables 𝓤 H) → FmC 𝓤 H (W .laws) (𝓣 .C) → Triple 𝓤 (𝓣 .C #tick) Tick
       → Walks 𝓤 H A tick-row.ended stayed (WpFn 𝓤 H (𝓣 .C) (𝓣 .Λ) code.function) (tick-row.clauses 𝓤 H A mem-of run)

@@ -16,7 +16,7 @@ with-status-requires c κs = search needs
 returns : tie.Need-returns
 returns c =
     let c₁ = c .before in let c₂ = c₁ .before .before in let a = c₂ .args in
-    (c .with-status .ensures) ∙ ap outcomeOf (activate-idle (a .task-rank .now) (a .priority .now) (view (a .self)) (a .t) (c₁ .before .no-caller .ensures) (c₁ .if1 .taken))
+    (c .with-status .ensures) ∙ ap outcomeOf (activate-idle (a .callable-rank .now) (a .priority .now) (view (a .self)) (a .t) (c₁ .before .no-caller .ensures) (c₁ .if1 .taken))
 
 byte-at-requires : tie.Need-byte-at-requires
 byte-at-requires c κs = search needs
@@ -29,7 +29,7 @@ returns-2 c =
     let c₁ = c .before in let c₂ = c₁ .before in let c₃ = c₂ .before .before in let c₄ = c₃ .before .before in
     let a = c₄ .args in
     (c .with-status2 .ensures)
-    ∙ ap outcomeOf (activate-none (a .task-rank .now) (a .priority .now) (view (a .self)) (a .t) (c₃ .before .no-caller .ensures) (c₃ .if1 .left) (c₂ .byte-at .ensures) (c₁ .if2 .taken))
+    ∙ ap outcomeOf (activate-none (a .callable-rank .now) (a .priority .now) (view (a .self)) (a .t) (c₃ .before .no-caller .ensures) (c₃ .if1 .left) (c₂ .byte-at .ensures) (c₁ .if2 .taken))
 
 union-requires : tie.Need-union-requires
 union-requires c κs = search needs
@@ -45,7 +45,7 @@ returns-3 c =
     let c₁ = c .before in let c₂ = c₁ .before in let c₃ = c₂ .before in let c₄ = c₃ .before in let c₅ = c₄ .before in
     let c₆ = c₅ .before .before in let c₇ = c₆ .before .before in let a = c₇ .args in
     (c .with-status3 .ensures)
-    ∙ ap outcomeOf (activate-busy (a .task-rank .now) (a .priority .now) (view (a .self)) (a .t) (c₆ .before .no-caller .ensures) (c₆ .if1 .left) (c₅ .byte-at .ensures) (c₄ .if2 .left)
+    ∙ ap outcomeOf (activate-busy (a .callable-rank .now) (a .priority .now) (view (a .self)) (a .t) (c₆ .before .no-caller .ensures) (c₆ .if1 .left) (c₅ .byte-at .ensures) (c₄ .if2 .left)
     (c₃ .union .ensures) (c₂ .busy .ensures) (c₁ .if3 .taken))
 
 cast-with : tie.Need-cast-with
@@ -62,7 +62,7 @@ returns-4 c =
     let c₁ = c .before in let c₂ = c₁ .before in let c₃ = c₂ .before in let c₄ = c₃ .before in let c₅ = c₄ .before in let c₆ = c₅ .before in
     let c₇ = c₆ .before .before in let c₈ = c₇ .before .before in let a = c₈ .args in
     (c .settled .ensures)
-    ∙ ap outcomeOf (activate-done (a .task-rank .now) (a .priority .now) (view (a .self)) (a .t) (c₇ .before .no-caller .ensures) (c₇ .if1 .left) (c₆ .byte-at .ensures) (c₅ .if2 .left)
+    ∙ ap outcomeOf (activate-done (a .callable-rank .now) (a .priority .now) (view (a .self)) (a .t) (c₇ .before .no-caller .ensures) (c₇ .if1 .left) (c₆ .byte-at .ensures) (c₅ .if2 .left)
     (c₄ .union .ensures) (c₃ .busy .ensures) (c₂ .if3 .left) (c₁ .with .ensures))
 
 pub activate-spec : {M : Type 1} → statement M

@@ -6,7 +6,7 @@ use native.Mathlib.Omega.{arith}
 use lib.ListN.{getD}
 use Rattle.config.specs.Value.{maxEntries}
 use Rattle.cell.specs.declared.Cell.{Cell}
-use Rattle.cell.specs.Cell.{ticked}
+use Rattle.cell.specs.Cell.{tickCell}
 use Rattle.machine.specs.Cells.{isOn, switchFor, switchesTicked}
 use Rattle.kernel.proofs.Methods.Cells.{switches-turn, switches-end}
 use borrow.Author.Needs.{needs}
@@ -69,7 +69,7 @@ loop-again c =
     let a = c₄ .before .args in let l = c₄ .loop in (
       omega arith,
       switches-turn maxEntries (l .e) (a .compare .now) (a .counter .now) (l .on) (c₃ .loop-test .taken)
-          (c .switch-for .ensures ∙ ap (λ (k : Cell). switchFor (isOn (getD (l .on) (l .e) 0)) (k .turn)) (c₁ .tick .ensures ∙ ap ticked (c₂ .of .ensures)))
+          (c .switch-for .ensures ∙ ap (λ (k : Cell). switchFor (isOn (getD (l .on) (l .e) 0)) (k .turn)) (c₁ .tick .ensures ∙ ap tickCell (c₂ .of .ensures)))
           ∙ l .inv .1,
     )
 

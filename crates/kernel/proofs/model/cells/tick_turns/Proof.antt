@@ -5,7 +5,7 @@ use mathlib.Core.Bool.{true}
 use mathlib.Core.Path.{ap, _∙_}
 use native.Mathlib.Omega.{arith}
 use Rattle.config.specs.Value.{maxEntries}
-use Rattle.cell.specs.Cell.{ticked}
+use Rattle.cell.specs.Cell.{tickCell}
 use Rattle.kernel.proofs.Methods.Cells.{Ticking, ticking-start, ticking-turn, ticking-end}
 use borrow.Author.Needs.{needs}
 use Rattle.kernel.proofs.model.cells.tick_turns.Statement.{statement}
@@ -65,7 +65,7 @@ loop-again c =
     let c₄ = c₃ .before in
     let a = c₄ .args in let l = c₃ .loop in
     ticking-turn true (a .compare .now) (a .on .now) (a .counter .now) (l .counter) (l .matched) (l .e) (l .inv)
-    (c₂ .loop-test .taken) (c .tick .ensures ∙ ap ticked (c₁ .of .ensures))
+    (c₂ .loop-test .taken) (c .tick .ensures ∙ ap tickCell (c₁ .of .ensures))
 
 returns : tie.Need-returns Inv-loop μ-loop
 returns c = let a = c .before .before .args in let l = c .before .loop in
