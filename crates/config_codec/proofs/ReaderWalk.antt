@@ -16,14 +16,7 @@ use Rattle.config.specs.declared.Draft.{Draft}
 use Rattle.config.specs.Draft.{Within, fault, put, ended, start}
 use Rattle.config.specs.Reader.{refused, numberFault, faultPlace, finished, readFrom}
 use Rattle.config.proofs.Position.{start-within, moved}
-
--- at the place `at` with the draft d: as many numbers as there are bytes left are enough, and what they give is the whole answer
-pub record ReadsOn (bs : List ℕ) (at : ℕ) (d : Draft) : Type 0 where
-  pub left : ℕ
-  pub enough : length bs ≤ at + left
-  pub inside : at ≤ length bs
-  pub within : Within d
-  pub rest : readFrom left bs at d ≡ readFrom (length bs) bs 0 start
+use Rattle.config_codec.specs.Reading.{ReadsOn}
 
 pub reads-start : (bs : List ℕ) → ReadsOn bs 0 start
 reads-start bs = record { left = length bs; enough = omega arith; inside = omega arith; within = start-within; rest = refl }

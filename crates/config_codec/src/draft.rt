@@ -3,15 +3,16 @@ use config::Config;
 use config::Draft;
 use config::Field;
 ghost use mathlib.Core.Path.{_≡_};
-ghost use mathlib.Core.Bool.{not, _&&_, _||_};
+ghost use mathlib.Core.Bool.{true, false, not, _&&_, _||_};
 ghost use Prim.Native.Nat.{_+_, _-_, _%_, _^_, _<_, _≤_};
-ghost use lib.Dec.{ltb, eqb};
+ghost use lib.Dec.{ltb, leb, eqb};
 ghost use lib.ListN.{getD, take};
 ghost use Rattle.number.specs.Refusal.{none};
-ghost use Rattle.config.specs.Refusal.{sharedOffset, mixedTable};
-ghost use Rattle.config.specs.Meaning.{timeTriggered, isTask, isTimed};
-ghost use Rattle.config.specs.Value.{noConfig};
-ghost use Rattle.config.specs.Draft.{Within, unless, outside, andThen, occurs, mostAutostart, timedIn, rises, firstEntry, taskBefore, sorted, sharesOffset, mixes, someTimed, secondTable, fault, faultAt, put, asked, ended, orOn, onTo, row, start};
+ghost use Rattle.config.specs.Refusal.{badCount, badField, usedPriority, tooManyEntries};
+ghost use Rattle.config.specs.Meaning.{isr, timeTriggered};
+ghost use Rattle.config.specs.Value.{maxPriority, maxEntries, noConfig};
+ghost use Rattle.config.specs.Draft.{Within, unless, outside, andThen, occurs, mostAutostart, timedIn, rises, someTimed, fault, faultAt, put, asked, ended, orOn, onTo, row, start};
+ghost use Rattle.config_codec.specs.Parts.{kindsOf, kindFault, taskAt};
 
 // The version is neither 1 nor 2.
 const BAD_VERSION: u8 = 3;
@@ -57,7 +58,7 @@ fn unless(ok: bool, refusal: u8) -> u8
 }
 
 // The refusal of a number that is not from `lo` to `hi`.
-fn outside(lo: u32, hi: u32, v: u32, refusal: u8) -> u8
+pub fn outside(lo: u32, hi: u32, v: u32, refusal: u8) -> u8
     ensures { λ r. ⌜ r ≡ outside lo hi v refusal ⌝ }
 {
     if v < lo {
@@ -77,7 +78,7 @@ fn and_then(first: u8, second: u8) -> u8
 }
 
 // Whether one of the first `n` priorities is `v`.
-fn used(v: u32, n: usize, priority: [u8; 32]) -> bool
+pub fn used(v: u32, n: usize, priority: [u8; 32]) -> bool
     requires { ⌜ n ≤ 32 ⌝ }
     ensures { λ r. ⌜ r ≡ occurs v (take n priority) ⌝ }
 {
@@ -91,19 +92,27 @@ fn used(v: u32, n: usize, priority: [u8; 32]) -> bool
     false
 }
 
-// The refusal of a priority, which no body before has.
+// The refusal of a priority, which none of the `n` bodies before has.
+pub fn priority_in(v: u32, n: usize, priority: [u8; 32]) -> u8
+    requires { ⌜ n ≤ 32 ⌝ }
+    ensures { λ r. ⌜ r ≡ andThen (outside 1 maxPriority v badField) (unless (not (occurs v (take n priority))) usedPriority) ⌝ }
+{
+    let again = used(v, n, priority);
+    and_then(outside(1, 200, v, BAD_FIELD), unless(!again, USED_PRIORITY))
+}
+
+// The same of a draft.
 fn priority_fault(d: Draft, v: u32) -> u8
     requires { ⌜ d .index ≤ 32 ⌝ }
     ensures { λ r. ⌜ r ≡ faultAt Field.Priority d v ⌝ }
 {
     let c = d.config;
     let p = c.priority;
-    let again = used(v, d.index, p);
-    and_then(outside(1, 200, v, BAD_FIELD), unless(!again, USED_PRIORITY))
+    priority_in(v, d.index, p)
 }
 
 // The most that the autostart of a body of this kind may be.
-fn most_autostart(kind: u8) -> u32
+pub fn most_autostart(kind: u8) -> u32
     ensures { λ r. ⌜ r ≡ mostAutostart kind ⌝ }
 {
     if kind == ISR {
@@ -163,33 +172,59 @@ fn timed_in(mask: u32, n: usize, kind: [u8; 32]) -> bool
     false
 }
 
-// The refusal of a mask of users.
+// The refusal of a mask of users; `timed`: whether a body is of kind 3.
+pub fn users_in(v: u32, bodies: u8, timed: bool, kind: [u8; 32]) -> u8
+    requires { ⌜ (bodies ≤ 32) × (timed ≡ occurs timeTriggered (take bodies kind)) ⌝ }
+    ensures { λ r. ⌜ r ≡ andThen (outside 1 (2 ^ bodies - 1) v badField) (unless (not (timedIn v (take bodies kind))) badField) ⌝ }
+{
+    let range = outside(1, all_bodies(bodies), v, BAD_FIELD);
+    if !timed {
+        return range;
+    }
+    let bit = timed_in(v, bodies as usize, kind);
+    and_then(range, unless(!bit, BAD_FIELD))
+}
+
+// The same of a draft.
 fn users_fault(d: Draft, v: u32) -> u8
     requires { ⌜ d .config .bodies ≤ 32 ⌝ }
     ensures { λ r. ⌜ r ≡ faultAt Field.Users d v ⌝ }
 {
     let c = d.config;
     let kind = c.kind;
-    let timed = timed_in(v, c.bodies as usize, kind);
-    and_then(
-        outside(1, all_bodies(c.bodies), v, BAD_FIELD),
-        unless(!timed, BAD_FIELD),
-    )
+    let timed = used(TIME_TRIGGERED as u32, c.bodies as usize, kind);
+    users_in(v, c.bodies, timed, kind)
 }
 
-// The refusal of a table's number of entries.
-fn entries_fault(d: Draft, v: u32) -> u8
-    requires { ⌜ d .entry ≤ 64 ⌝ }
-    ensures { λ r. ⌜ r ≡ faultAt Field.Entries d v ⌝ }
+// The refusal of a table's number of entries, where the tables before have `n`.
+pub fn entries_in(v: u32, n: usize) -> u8
+    requires { ⌜ n ≤ 64 ⌝ }
+    ensures { λ r. ⌜ r ≡ andThen (outside 1 16 v badCount) (unless (leb (n + v) maxEntries) tooManyEntries) ⌝ }
 {
-    let total = d.entry + v as usize;
+    let total = n + v as usize;
     and_then(
         outside(1, 16, v, BAD_COUNT),
         unless(total <= MAX_ENTRIES, TOO_MANY_ENTRIES),
     )
 }
 
-// The refusal of an entry's offset.
+// The refusal of an entry's offset, which is less than its table's period.
+pub fn offset_in(v: u32, period: u16) -> u8
+    ensures refusal { λ r. ⌜ r ≡ unless (ltb v period) badField ⌝ }
+    ensures small { λ r. ⌜ (r ≡ none → v ≤ 65535) ⌝ }
+{
+    unless(v < period as u32, BAD_FIELD)
+}
+
+// The same of a draft.
+fn entries_fault(d: Draft, v: u32) -> u8
+    requires { ⌜ d .entry ≤ 64 ⌝ }
+    ensures { λ r. ⌜ r ≡ faultAt Field.Entries d v ⌝ }
+{
+    entries_in(v, d.entry)
+}
+
+// The same of a draft.
 fn offset_fault(d: Draft, v: u32) -> u8
     requires { ⌜ d .index < 8 ⌝ }
     ensures { λ r. ⌜ r ≡ faultAt Field.Offset d v ⌝ }
@@ -197,27 +232,26 @@ fn offset_fault(d: Draft, v: u32) -> u8
     let c = d.config;
     let period = c.period;
     let i = d.index;
-    unless(v < period[i] as u32, BAD_FIELD)
+    offset_in(v, period[i])
 }
 
-// Whether `v` is the number of a task.
-fn is_task(c: Config, v: u32) -> bool
-    requires { ⌜ c .bodies ≤ 32 ⌝ }
-    ensures { λ r. ⌜ r ≡ isTask c v ⌝ }
+// Whether `v` is the number of a task, where `kind` has the kinds of `bodies` bodies.
+fn is_task(bodies: u8, kind: &[u8; 32], v: u32) -> bool
+    requires { ⌜ bodies ≤ 32 ⌝ }
+    ensures { λ r. ⌜ r ≡ (ltb v bodies && not (eqb (getD (now (kind .entry)) v 0) isr)) ⌝ }
 {
-    if v < c.bodies as u32 {
+    if v < bodies as u32 {
         let i = v as usize;
-        let kind = c.kind;
         kind[i] != ISR
     } else {
         false
     }
 }
 
-// Whether `v` is the number of a time-triggered task, where `kind` has the kinds of `bodies` bodies.
-fn is_timed(bodies: u8, kind: [u8; 32], v: u32) -> bool
+// Whether `v` is the number of a time-triggered task.
+fn is_timed(bodies: u8, kind: &[u8; 32], v: u32) -> bool
     requires { ⌜ bodies ≤ 32 ⌝ }
-    ensures { λ r. ⌜ r ≡ (ltb v bodies && eqb (getD kind v 0) timeTriggered) ⌝ }
+    ensures { λ r. ⌜ r ≡ (ltb v bodies && eqb (getD (now (kind .entry)) v 0) timeTriggered) ⌝ }
 {
     if v < bodies as u32 {
         let i = v as usize;
@@ -225,6 +259,29 @@ fn is_timed(bodies: u8, kind: [u8; 32], v: u32) -> bool
     } else {
         false
     }
+}
+
+// The same of the task of an entry.
+fn entry_timed(bodies: u8, kind: &[u8; 32], task: u8) -> bool
+    requires { ⌜ bodies ≤ 32 ⌝ }
+    ensures { λ r. ⌜ r ≡ (ltb task bodies && eqb (getD (now (kind .entry)) task 0) timeTriggered) ⌝ }
+{
+    is_timed(bodies, kind, task as u32)
+}
+
+// Whether one of the first `n` entries is of kind 3.
+fn some_timed(bodies: u8, kind: [u8; 32], n: usize, task: [u8; 64]) -> bool
+    requires { ⌜ (bodies ≤ 32) × (n ≤ 64) ⌝ }
+    ensures { λ r. ⌜ r ≡ someTimed (kindsOf bodies kind) (take n task) ⌝ }
+{
+    let mut i = 0;
+    while i < n {
+        if entry_timed(bodies, &kind, task[i]) {
+            return true;
+        }
+        i += 1;
+    }
+    false
 }
 
 // Whether an entry comes after the one before it.
@@ -240,6 +297,23 @@ fn rises(offset: u16, task: u8, next: u16, v: u32) -> bool
     false
 }
 
+// Whether the entry is the first of its table or comes after the one before it.
+fn sorted(first: bool, offset: u16, task: u8, next: u16, v: u32) -> bool
+    ensures { λ r. ⌜ r ≡ (first || rises offset task next v) ⌝ }
+{
+    if first {
+        return true;
+    }
+    rises(offset, task, next, v)
+}
+
+// Whether two offsets are the same.
+fn same_offset(a: u16, b: u16) -> bool
+    ensures { λ r. ⌜ r ≡ eqb a b ⌝ }
+{
+    a == b
+}
+
 // The number before; 0 has none and stays.
 fn before(e: usize) -> usize
     ensures { λ r. ⌜ r ≡ e - 1 ⌝ }
@@ -247,11 +321,15 @@ fn before(e: usize) -> usize
     if e == 0 { 0 } else { e - 1 }
 }
 
-// The difference, 0 where there is none.
-fn less(a: usize, b: usize) -> usize
-    ensures { λ r. ⌜ r ≡ a - b ⌝ }
+// How many entries stand before a table's own, which are `count` and end before the entry `until`.
+fn entries_before(until: usize, count: u8) -> usize
+    ensures { λ r. ⌜ r ≡ until - count ⌝ }
 {
-    if a < b { 0 } else { a - b }
+    if until < count as usize {
+        0
+    } else {
+        until - count as usize
+    }
 }
 
 // Whether the entry is the first of its table, which has `count` entries and ends before the entry `until`.
@@ -262,162 +340,117 @@ fn first_entry(entry: usize, count: u8, until: usize) -> bool
     entry + count as usize == until
 }
 
-// Whether the entry, with the task `v`, is the first of its table or comes after the one before it.
-fn sorted(d: Draft, v: u32) -> bool
-    requires { ⌜ (d .index < 8) × (d .entry < 64) ⌝ }
-    ensures { λ r. ⌜ r ≡ sorted d v ⌝ }
+// The refusal of an entry of another kind; `was`: whether the one before it is of kind 3.
+fn after_timed(first: bool, same: bool, was: bool) -> u8
+    ensures { λ r. ⌜ r ≡ kindFault first same was false false ⌝ }
 {
-    let c = d.config;
-    let i = d.index;
-    let e = d.entry;
-    let entries = c.entries;
-    if first_entry(e, entries[i], d.until) {
-        return true;
-    }
-    let offset = c.offset;
-    let task = c.task;
-    let b = before(e);
-    rises(offset[b], task[b], offset[e], v)
-}
-
-// Whether the entry has one before it in its table, and that is of kind 3.
-fn timed_before(d: Draft) -> bool
-    requires { ⌜ (d .config .bodies ≤ 32) × ((d .index < 8) × (d .entry < 64)) ⌝ }
-    ensures { λ r. ⌜ r ≡ (not (firstEntry d) && isTimed (d .config) (taskBefore d)) ⌝ }
-{
-    let c = d.config;
-    let i = d.index;
-    let e = d.entry;
-    let entries = c.entries;
-    if first_entry(e, entries[i], d.until) {
-        return false;
-    }
-    let kind = c.kind;
-    let task = c.task;
-    let b = before(e);
-    is_timed(c.bodies, kind, task[b] as u32)
-}
-
-// Whether the entry, with the task `v`, or the one before it in its table is of kind 3.
-fn timed_here(d: Draft, v: u32) -> bool
-    requires { ⌜ (d .config .bodies ≤ 32) × ((d .index < 8) × (d .entry < 64)) ⌝ }
-    ensures { λ r. ⌜ r ≡ (isTimed (d .config) v || (not (firstEntry d) && isTimed (d .config) (taskBefore d))) ⌝ }
-{
-    let c = d.config;
-    let kind = c.kind;
-    if is_timed(c.bodies, kind, v) {
-        return true;
-    }
-    timed_before(d)
-}
-
-// Whether the entry, with the task `v`, has the offset of the one before it in its table, and either is of kind 3.
-fn shares_offset(d: Draft, v: u32) -> bool
-    requires { ⌜ (d .config .bodies ≤ 32) × ((d .index < 8) × (d .entry < 64)) ⌝ }
-    ensures { λ r. ⌜ r ≡ sharesOffset d v ⌝ }
-{
-    let c = d.config;
-    let i = d.index;
-    let e = d.entry;
-    let entries = c.entries;
-    if first_entry(e, entries[i], d.until) {
-        return false;
-    }
-    let offset = c.offset;
-    let b = before(e);
-    if offset[b] != offset[e] {
-        return false;
-    }
-    timed_here(d, v)
-}
-
-// Whether of the entry, with the task `v`, and the one before it in its table one is of kind 3.
-fn mixes(d: Draft, v: u32) -> bool
-    requires { ⌜ (d .config .bodies ≤ 32) × ((d .index < 8) × (d .entry < 64)) ⌝ }
-    ensures { λ r. ⌜ r ≡ mixes d v ⌝ }
-{
-    let c = d.config;
-    let i = d.index;
-    let e = d.entry;
-    let entries = c.entries;
-    if first_entry(e, entries[i], d.until) {
-        return false;
-    }
-    let was = timed_before(d);
-    let kind = c.kind;
-    if is_timed(c.bodies, kind, v) {
-        !was
-    } else {
-        was
-    }
-}
-
-// Whether one of the first `n` entries is of kind 3.
-fn some_timed(c: Config, n: usize) -> bool
-    requires { ⌜ (c .bodies ≤ 32) × (n ≤ 64) ⌝ }
-    ensures { λ r. ⌜ r ≡ someTimed c (take n (c .task)) ⌝ }
-{
-    let kind = c.kind;
-    let task = c.task;
-    let mut i = 0;
-    while i < n {
-        if is_timed(c.bodies, kind, task[i] as u32) {
-            return true;
-        }
-        i += 1;
-    }
-    false
-}
-
-// Whether `v` is of kind 3, and a table before has an entry of kind 3.
-fn second_table(d: Draft, v: u32) -> bool
-    requires { ⌜ (d .config .bodies ≤ 32) × ((d .index < 8) × (d .until ≤ 64)) ⌝ }
-    ensures { λ r. ⌜ r ≡ secondTable d v ⌝ }
-{
-    let c = d.config;
-    let kind = c.kind;
-    if is_timed(c.bodies, kind, v) {
-        let i = d.index;
-        let entries = c.entries;
-        some_timed(c, less(d.until, entries[i] as usize))
-    } else {
-        false
-    }
-}
-
-// The refusal of an entry's task by its table's kind. Entries of other kinds are passed over by one test.
-fn table_fault(d: Draft, v: u32) -> u8
-    requires { ⌜ (d .config .bodies ≤ 32) × ((d .index < 8) × ((d .entry < 64) × (d .until ≤ 64))) ⌝ }
-    ensures { λ r. ⌜ r ≡ andThen (unless (not (sharesOffset d v)) sharedOffset) (unless (not (mixes d v || secondTable d v)) mixedTable) ⌝ }
-{
-    if !timed_here(d, v) {
+    if first {
         return 0;
     }
-    if shares_offset(d, v) {
-        return SHARED_OFFSET;
+    if !was {
+        return 0;
     }
-    if mixes(d, v) {
-        return MIXED_TABLE;
-    }
-    if second_table(d, v) {
-        return MIXED_TABLE;
-    }
-    0
+    if same { SHARED_OFFSET } else { MIXED_TABLE }
 }
 
-// The refusal of an entry's task.
+// The refusal of an entry of kind 3; `second`: whether a table before has one.
+fn timed_after(first: bool, same: bool, was: bool, second: bool) -> u8
+    ensures { λ r. ⌜ r ≡ kindFault first same was true second ⌝ }
+{
+    if first {
+        return unless(!second, MIXED_TABLE);
+    }
+    if same {
+        return SHARED_OFFSET;
+    }
+    if !was {
+        return MIXED_TABLE;
+    }
+    unless(!second, MIXED_TABLE)
+}
+
+// The refusal of an entry with the task `v` by the kind of its table: `n` entries stand in the tables before, and `same` and `was`
+// say of the one before it whether it has the offset, and whether it is of kind 3.
+fn kind_fault<'a, 'b>(
+    first: bool,
+    same: bool,
+    was: bool,
+    v: u32,
+    bodies: u8,
+    kind: &'a [u8; 32],
+    n: usize,
+    task: &'b [u8; 64],
+) -> u8
+    requires { ⌜ (bodies ≤ 32) × (n ≤ 64) ⌝ }
+    ensures { λ r. ⌜ r ≡ kindFault first same was (ltb v bodies && eqb (getD (now (kind .entry)) v 0) timeTriggered) (someTimed (kindsOf bodies (now (kind .entry))) (take n (now (task .entry)))) ⌝ }
+{
+    if !is_timed(bodies, kind, v) {
+        return after_timed(first, same, was);
+    }
+    timed_after(first, same, was, some_timed(bodies, *kind, n, *task))
+}
+
+// The same, where `b` is the entry before the entry `e`.
+fn table_fault<'a, 'b, 'c>(
+    first: bool,
+    v: u32,
+    bodies: u8,
+    kind: &'a [u8; 32],
+    n: usize,
+    b: usize,
+    e: usize,
+    offset: &'b [u16; 64],
+    task: &'c [u8; 64],
+) -> u8
+    requires { ⌜ (bodies ≤ 32) × ((n ≤ 64) × ((b < 64) × (e < 64))) ⌝ }
+    ensures { λ r. ⌜ r ≡ kindFault first (eqb (getD (now (offset .entry)) b 0) (getD (now (offset .entry)) e 0))
+        (ltb (getD (now (task .entry)) b 0) bodies && eqb (getD (now (kind .entry)) (getD (now (task .entry)) b 0) 0) timeTriggered)
+        (ltb v bodies && eqb (getD (now (kind .entry)) v 0) timeTriggered)
+        (someTimed (kindsOf bodies (now (kind .entry))) (take n (now (task .entry)))) ⌝ }
+{
+    let same = same_offset(offset[b], offset[e]);
+    let was = entry_timed(bodies, kind, task[b]);
+    kind_fault(first, same, was, v, bodies, kind, n, task)
+}
+
+// The refusal of an entry's task: entry `e` of table `i`.
+pub fn task_in<'a, 'b, 'c, 'd>(
+    v: u32,
+    bodies: u8,
+    kind: &'a [u8; 32],
+    entries: &'b [u8; 8],
+    i: usize,
+    e: usize,
+    until: usize,
+    offset: &'c [u16; 64],
+    task: &'d [u8; 64],
+) -> u8
+    requires { ⌜ (bodies ≤ 32) × ((i < 8) × ((e < 64) × (until ≤ 64))) ⌝ }
+    ensures { λ r. ⌜ r ≡ faultAt Field.Task (taskAt bodies (now (kind .entry)) (now (entries .entry)) i e until (now (offset .entry)) (now (task .entry))) v ⌝ }
+{
+    if !is_task(bodies, kind, v) {
+        return BAD_FIELD;
+    }
+    let first = first_entry(e, entries[i], until);
+    let b = before(e);
+    if !sorted(first, offset[b], task[b], offset[e], v) {
+        return UNSORTED;
+    }
+    let n = entries_before(until, entries[i]);
+    table_fault(first, v, bodies, kind, n, b, e, offset, task)
+}
+
+// The same of a draft.
 fn task_fault(d: Draft, v: u32) -> u8
     requires { ⌜ (d .config .bodies ≤ 32) × ((d .index < 8) × ((d .entry < 64) × (d .until ≤ 64))) ⌝ }
     ensures { λ r. ⌜ r ≡ faultAt Field.Task d v ⌝ }
 {
     let c = d.config;
-    if !is_task(c, v) {
-        return BAD_FIELD;
-    }
-    if !sorted(d, v) {
-        return UNSORTED;
-    }
-    table_fault(d, v)
+    let kind = c.kind;
+    let entries = c.entries;
+    let offset = c.offset;
+    let task = c.task;
+    task_in(v, c.bodies, &kind, &entries, d.index, d.entry, d.until, &offset, &task)
 }
 
 // The refusal of the number `v` where `d` is, 0 where it is in order.

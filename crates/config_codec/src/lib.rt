@@ -1,6 +1,10 @@
 // A configuration as bytes: read, written, and refused by document 01's rules.
+mod bodies;
 mod draft;
+mod masks;
+mod part;
 mod reader;
+mod tables;
 mod writer;
 
 use config::Config;

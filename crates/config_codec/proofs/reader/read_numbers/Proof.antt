@@ -9,7 +9,8 @@ use lib.ListN.{length}
 use Rattle.number.specs.Refusal.{none}
 use Rattle.config.specs.Draft.{put, ended}
 use Rattle.config.specs.Reader.{refused, numberFault}
-use Rattle.config_codec.proofs.ReaderWalk.{ReadsOn, reads-start, reads-refused, reads-next, reads-forward, reads-end, faultless}
+use Rattle.config_codec.specs.Reading.{ReadsOn}
+use Rattle.config_codec.proofs.ReaderWalk.{reads-start, reads-refused, reads-next, reads-forward, reads-end, faultless}
 use Rattle.config_codec.proofs.reader.read_numbers.Statement.{statement}
 use Rattle.config_codec.proofs.reader.read_numbers.Tie as tie
 
