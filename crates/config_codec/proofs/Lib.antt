@@ -8,6 +8,7 @@ mod BodyParts
 mod MaskParts
 mod TableKinds
 mod TableParts
+mod ReaderParts
 mod WriterWalk
 mod Measure
 mod Written

@@ -1,16 +1,19 @@
 -- The draft that the reader's variables make in each part: the fields that the part does not know are those of c.
 -- Assumes nothing.
 use Prim.Native.Nat.{ℕ, _+_}
+use mathlib.Core.Path.{_≡_}
 use mathlib.Core.Bool.{Bool, cond, not, _&&_, _||_}
 use mathlib.Core.List.{List, []}
 use lib.Dec.{eqb}
 use Rattle.config.specs.declared.Config.{Config}
+use Rattle.config.specs.declared.ConfigRead.{ConfigRead}
 use Rattle.config.specs.declared.Draft.{Draft}
 use Rattle.config.specs.declared.Field.{Field}
-use Rattle.config.specs.declared.Field.the-variants.{Kind, Resources, Users, Tables, Period, Offset, Task, End}
+use Rattle.config.specs.declared.Field.the-variants.{Bodies, Kind, Resources, Users, Tables, Period, Offset, Task, End}
+use Rattle.config.specs.Value.{noConfig, withVersion}
 use Rattle.config.specs.Refusal.{sharedOffset, mixedTable}
 use Rattle.config.specs.Draft.{unless, andThen, orOn}
-use Rattle.config_codec.specs.Reading.{ReadsOn, Goes}
+use Rattle.config_codec.specs.Reading.{ReadsOn, Goes, whole}
 
 -- at a number of body i of n
 abbrev pub bodyAt : Config → ℕ → Field → ℕ → List ℕ → List ℕ → List ℕ → Draft
@@ -112,3 +115,22 @@ TableRead bs at b ks i e ps es os ts r p u ps′ es′ os′ ts′ =
 abbrev pub TablesRead : List ℕ → ℕ → ℕ → ℕ → List ℕ → List ℕ → List ℕ → List ℕ → List ℕ → ℕ → ℕ → ℕ → List ℕ → List ℕ → List ℕ → List ℕ → Type 0
 TablesRead bs at n b ks ps es os ts r p u ps′ es′ os′ ts′ =
     (c : Config) → ReadsOn bs at (tableOn c n b ks 0 0 ps es os ts) → Goes bs r p (tableOn c n b ks n u ps′ es′ os′ ts′)
+
+-- What is left to read after a part, with the fields that are known by then, gives the whole answer r.
+abbrev pub headAt : ℕ → Draft
+headAt ver = record { config = withVersion noConfig ver; field = Bodies; index = 0; entry = 0; until = 0 }
+
+abbrev pub WithBodies : List ℕ → ℕ → ℕ → ConfigRead → Type 0
+WithBodies bs at ver r = ReadsOn bs at (headAt ver) → r ≡ whole bs
+
+abbrev pub afterBodies : ℕ → ℕ → List ℕ → List ℕ → List ℕ → Draft
+afterBodies ver b ks ps qs = bodyAt (withVersion noConfig ver) b Resources b ks ps qs
+
+abbrev pub WithMasks : List ℕ → ℕ → ℕ → ℕ → List ℕ → List ℕ → List ℕ → ConfigRead → Type 0
+WithMasks bs at ver b ks ps qs r = ReadsOn bs at (afterBodies ver b ks ps qs) → r ≡ whole bs
+
+abbrev pub afterMasks : ℕ → ℕ → List ℕ → List ℕ → List ℕ → ℕ → List ℕ → Draft
+afterMasks ver b ks ps qs n us = usersAt (afterBodies ver b ks ps qs .config) n b ks Tables n us
+
+abbrev pub WithTables : List ℕ → ℕ → ℕ → ℕ → List ℕ → List ℕ → List ℕ → ℕ → List ℕ → ConfigRead → Type 0
+WithTables bs at ver b ks ps qs n us r = ReadsOn bs at (afterMasks ver b ks ps qs n us) → r ≡ whole bs
