@@ -1,4 +1,4 @@
--- The reader's walk over the numbers: where it stands (`ReadsOn`), and what a number that is in order, one that is not and the last one make of it.
+-- The reader's walk over the numbers, which keeps `ReadsOn`: what a number that is in order, one that is not and the last one make of it.
 -- Assumes nothing.
 use Prim.Native.Nat.{ℕ, zero, suc, _+_, _≤_, _<_}
 use mathlib.Core.Path.{_≡_, refl, sym, ap, _∙_}
@@ -28,7 +28,7 @@ readable d r e = by-eq (r .refusal) none (λ h. h) (λ n. absurd (n (sym (unread
     unread : (r .refusal ≡ none → ⊥) → numberFault d r ≡ r .refusal
     unread n = simp (ne-eqb (r .refusal) none n)
 
-pub faultless : (d : Draft) (r : NumberRead) → numberFault d r ≡ none → fault d (r .value) ≡ none
+faultless : (d : Draft) (r : NumberRead) → numberFault d r ≡ none → fault d (r .value) ≡ none
 faultless d r e = sym (read (readable d r e)) ∙ e
   where
     read : r .refusal ≡ none → numberFault d r ≡ fault d (r .value)
@@ -82,6 +82,3 @@ module _ (bs : List ℕ) (at : ℕ) (d : Draft) (o : ReadsOn bs at d) (more : en
 
   pub reads-next : (r : NumberRead) → r ≡ readNumber bs at → numberFault d r ≡ none → ReadsOn bs (r .place) (put d (r .value))
   reads-next r e = rw e (λ (n : numberFault d (readNumber bs at) ≡ none). next n (o .left) refl)
-
-  pub reads-forward : (r : NumberRead) → r ≡ readNumber bs at → numberFault d r ≡ none → (at < r .place) × (r .place ≤ length bs)
-  reads-forward r e = rw e (λ (n : numberFault d (readNumber bs at) ≡ none). let h = readable d (readNumber bs at) n in (reading bs at .after h, reading bs at .inside h))

@@ -1,6 +1,8 @@
 // The bodies of the input: kind, priority and autostart of each.
-use crate::draft::most_autostart;
-use crate::draft::priority_in;
+use crate::limits::most_autostart;
+use crate::limits::priority_in;
+use crate::limits::BAD_FIELD;
+use crate::limits::LAST_KIND;
 use crate::part::read_within;
 use crate::part::tested;
 use crate::part::Part;
@@ -15,10 +17,6 @@ ghost use Rattle.config.specs.Refusal.{badField, usedPriority};
 ghost use Rattle.config.specs.Draft.{outside, unless, andThen, occurs};
 ghost use Rattle.config_codec.specs.Reading.{checked};
 ghost use Rattle.config_codec.specs.Parts.{BodyRead, BodiesRead};
-
-const BAD_FIELD: u8 = 5;
-
-const LAST_KIND: u32 = 3;
 
 // A body's priority, where the bodies before are the first `n`.
 fn read_priority<'a, 'b>(bytes: &'a [u8], at: usize, n: usize, priority: &'b [u8; 32]) -> NumberRead

@@ -1,6 +1,7 @@
 // A configuration as bytes: read, written, and refused by document 01's rules.
 mod bodies;
 mod draft;
+mod limits;
 mod masks;
 mod part;
 mod reader;

@@ -1,6 +1,6 @@
 // The resources of the input: the mask of the users of each.
-use crate::draft::used;
-use crate::draft::users_in;
+use crate::limits::timed_body;
+use crate::limits::users_in;
 use crate::part::tested;
 use crate::part::Part;
 use number_codec::read_number;
@@ -10,8 +10,6 @@ ghost use lib.ListN.{take};
 ghost use Rattle.config.specs.Meaning.{timeTriggered};
 ghost use Rattle.config.specs.Draft.{occurs};
 ghost use Rattle.config_codec.specs.Parts.{MaskRead, MasksRead};
-
-const TIME_TRIGGERED: u32 = 3;
 
 // The mask of resource `i`; `timed`: whether a body is of kind 3.
 fn read_mask<'a, 'b, 'c>(
@@ -47,7 +45,7 @@ pub fn read_masks<'a, 'b, 'c>(
     requires { ⌜ (n ≤ 16) × (bodies ≤ 32) ⌝ }
     ensures { λ r. ⌜ MasksRead (now (bytes .entry)) from n bodies (now (kind .entry)) (now (users .entry)) (r .refusal) (r .place) (now (users .exit)) ⌝ }
 {
-    let timed = used(TIME_TRIGGERED, bodies as usize, *kind);
+    let timed = timed_body(bodies as usize, *kind);
     let mut at = from;
     let mut i = 0;
     while i < n {

@@ -1,5 +1,5 @@
 // A number of the input, read and tested, and what a part of the reading comes to.
-use crate::draft::outside;
+use crate::limits::outside;
 use number::NumberRead;
 use number_codec::read_number;
 ghost use mathlib.Core.Path.{_≡_};

@@ -1,6 +1,12 @@
 // The configuration reader: version and bodies, then resources, then tables, number after number, each part in variables of its own.
 use crate::bodies::read_bodies;
 use crate::draft::no_config;
+use crate::limits::BAD_COUNT;
+use crate::limits::BAD_VERSION;
+use crate::limits::MAX_BODIES;
+use crate::limits::MAX_RESOURCES;
+use crate::limits::MAX_TABLES;
+use crate::limits::NEWEST_VERSION;
 use crate::masks::read_masks;
 use crate::part::read_within;
 use crate::tables::read_tables;
@@ -16,10 +22,6 @@ ghost use Rattle.config.specs.Draft.{start};
 ghost use Rattle.config.specs.Reader.{accepted, refused, readFrom};
 ghost use Rattle.config_codec.specs.Parts.{WithBodies, WithMasks, WithTables};
 
-// The version is neither 1 nor 2.
-const BAD_VERSION: u8 = 3;
-// A count is outside its range.
-const BAD_COUNT: u8 = 4;
 // Bytes are left over.
 const LEFT_OVER: u8 = 9;
 
@@ -63,7 +65,7 @@ fn with_tables(
     requires { ⌜ bodies ≤ 32 ⌝ }
     ensures { λ r. ⌜ WithTables (now (bytes .entry)) at version bodies kind priority autostart resources users r ⌝ }
 {
-    let t = read_within(bytes, at, 0, 8, BAD_COUNT);
+    let t = read_within(bytes, at, 0, MAX_TABLES, BAD_COUNT);
     if t.refusal != 0 {
         return refused(t.refusal, t.place);
     }
@@ -108,7 +110,7 @@ fn with_masks(
     requires { ⌜ bodies ≤ 32 ⌝ }
     ensures { λ r. ⌜ WithMasks (now (bytes .entry)) at version bodies kind priority autostart r ⌝ }
 {
-    let n = read_within(bytes, at, 0, 16, BAD_COUNT);
+    let n = read_within(bytes, at, 0, MAX_RESOURCES, BAD_COUNT);
     if n.refusal != 0 {
         return refused(n.refusal, n.place);
     }
@@ -124,7 +126,7 @@ fn with_masks(
 fn with_bodies(bytes: &[u8], at: usize, version: u8) -> ConfigRead
     ensures { λ r. ⌜ WithBodies (now (bytes .entry)) at version r ⌝ }
 {
-    let n = read_within(bytes, at, 1, 32, BAD_COUNT);
+    let n = read_within(bytes, at, 1, MAX_BODIES, BAD_COUNT);
     if n.refusal != 0 {
         return refused(n.refusal, n.place);
     }
@@ -142,7 +144,7 @@ fn with_bodies(bytes: &[u8], at: usize, version: u8) -> ConfigRead
 pub fn read_numbers(bytes: &[u8]) -> ConfigRead
     ensures { λ r. ⌜ r ≡ readFrom (length (now (bytes .entry))) (now (bytes .entry)) 0 start ⌝ }
 {
-    let v = read_within(bytes, 0, 1, 2, BAD_VERSION);
+    let v = read_within(bytes, 0, 1, NEWEST_VERSION, BAD_VERSION);
     if v.refusal != 0 {
         return refused(v.refusal, v.place);
     }

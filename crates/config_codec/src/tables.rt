@@ -1,7 +1,8 @@
 // The tables of the input: period and entries of each, and offset and task of each entry.
-use crate::draft::entries_in;
-use crate::draft::offset_in;
-use crate::draft::task_in;
+use crate::limits::entries_in;
+use crate::limits::offset_in;
+use crate::limits::task_in;
+use crate::limits::BAD_FIELD;
 use crate::part::read_within;
 use crate::part::tested;
 use crate::part::Part;
@@ -18,8 +19,6 @@ ghost use Rattle.config.specs.Refusal.{badField, badCount, tooManyEntries};
 ghost use Rattle.config.specs.Draft.{outside, unless, andThen, faultAt};
 ghost use Rattle.config_codec.specs.Reading.{checked};
 ghost use Rattle.config_codec.specs.Parts.{taskAt, EntryRead, EntriesRead, TableRead, TablesRead};
-
-const BAD_FIELD: u8 = 5;
 
 // What a table comes to: a refusal and its place, or 0, the place after the table and the entry after its last.
 pub struct TablePart {

@@ -5,14 +5,11 @@ use borrow.Author.Needs.{needs}
 use Rattle.config_codec.proofs.draft.users_fault.Statement.{statement}
 use Rattle.config_codec.proofs.draft.users_fault.Tie as tie
 
-cast-used : tie.Need-cast-used
-cast-used c = search needs
+cast-timed-body : tie.Need-cast-timed-body
+cast-timed-body c = search needs
 
-cast-used-2 : tie.Need-cast-used-2
-cast-used-2 c = search needs
-
-used-requires : tie.Need-used-requires
-used-requires c κs = search needs
+timed-body-requires : tie.Need-timed-body-requires
+timed-body-requires c κs = search needs
 
 users-in-requires : tie.Need-users-in-requires
 users-in-requires c κs = search needs
@@ -23,4 +20,4 @@ returns c = c .users-in .ensures
 
 pub users-fault-spec : {M : Type 1} → statement M
 users-fault-spec =
-    tie.close (tie.spec cast-used cast-used-2 used-requires users-in-requires returns)
+    tie.close (tie.spec cast-timed-body timed-body-requires users-in-requires returns)

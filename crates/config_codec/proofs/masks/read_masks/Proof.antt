@@ -18,14 +18,14 @@ Inv-loop bytes from n bodies kind users₀ timed at₀ i₀ users at i =
 abbrev μ-loop : tie.MeasureT-loop
 μ-loop bytes from n bodies kind users₀ timed at₀ i₀ users at i = n - i
 
-used-requires : tie.Need-used-requires Inv-loop μ-loop
-used-requires c κs = search needs
+timed-body-requires : tie.Need-timed-body-requires Inv-loop μ-loop
+timed-body-requires c κs = search needs
 
 loop-holds : tie.Need-loop-holds Inv-loop μ-loop
 loop-holds c = (omega arith, λ g o. o)
 
 read-mask-requires : tie.Need-read-mask-requires Inv-loop μ-loop
-read-mask-requires c κs = (omega (arith, c .before .loop-test .taken, c .before .before .before .before .before .before .pre .0), (c .before .before .before .before .before .before .pre .1, c .before .before .before .used .ensures))
+read-mask-requires c κs = (omega (arith, c .before .loop-test .taken, c .before .before .before .before .before .before .pre .0), (c .before .before .before .before .before .before .pre .1, c .before .before .before .timed-body .ensures))
 
 returns : tie.Need-returns Inv-loop μ-loop
 returns c =
@@ -61,7 +61,7 @@ read-masks-spec =
     (tie.spec
     Inv-loop
     μ-loop
-    used-requires
+    timed-body-requires
     loop-holds
     read-mask-requires
     returns
