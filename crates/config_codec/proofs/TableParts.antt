@@ -26,13 +26,13 @@ use Rattle.config_codec.proofs.Within.{Small, small}
 -- entry e of table i
 module _ (c : Config) (bs : List ℕ) (n at b : ℕ) (ks : List ℕ) (i e u : ℕ) (ps es os ts : List ℕ) where
   module _ (o : ReadsOn bs at (tableAt c n b ks Offset i e u ps es os ts)) (x : NumberRead)
-    (ex : x ≡ checked bs at (λ (v : ℕ). unless (ltb v (getD ps i 0)) badField)) where
+      (ex : x ≡ checked bs at (λ (v : ℕ). unless (ltb v (getD ps i 0)) badField)) where
     pub offset-goes : Goes bs (x .refusal) (x .place) (tableAt c n b ks Task i e u ps es (set os e (x .value)) ts)
     unfolding faultAt putAt ended
     offset-goes = one bs at (tableAt c n b ks Offset i e u ps es os ts) o refl x ex
 
     module _ (hx : x .refusal ≡ none) (t : NumberRead)
-      (et : t ≡ checked bs (x .place) (faultAt Task (taskAt b ks es i e u (set os e (x .value)) ts))) where
+        (et : t ≡ checked bs (x .place) (faultAt Task (taskAt b ks es i e u (set os e (x .value)) ts))) where
       same : t ≡ checked bs (x .place) (faultAt Task (tableAt c n b ks Task i e u ps es (set os e (x .value)) ts))
       same =
           et
@@ -68,13 +68,13 @@ task-small bs at b ks es i e u os ts t et h =
 -- table i, whose first entry is e
 module _ (c : Config) (bs : List ℕ) (n at b : ℕ) (ks : List ℕ) (i e : ℕ) (ps es os ts : List ℕ) where
   module _ (o : ReadsOn bs at (tableAt c n b ks Period i e e ps es os ts)) (x : NumberRead)
-    (ex : x ≡ checked bs at (λ (v : ℕ). outside 1 65535 v badField)) where
+      (ex : x ≡ checked bs at (λ (v : ℕ). outside 1 65535 v badField)) where
     pub period-goes : Goes bs (x .refusal) (x .place) (tableAt c n b ks Entries i e e (set ps i (x .value)) es os ts)
     unfolding faultAt putAt ended
     period-goes = one bs at (tableAt c n b ks Period i e e ps es os ts) o refl x ex
 
     module _ (hx : x .refusal ≡ none) (y : NumberRead)
-      (ey : y ≡ checked bs (x .place) (λ (v : ℕ). andThen (outside 1 16 v badCount) (unless (leb (e + v) maxEntries) tooManyEntries))) where
+        (ey : y ≡ checked bs (x .place) (λ (v : ℕ). andThen (outside 1 16 v badCount) (unless (leb (e + v) maxEntries) tooManyEntries))) where
       pub count-goes : Goes bs (y .refusal) (y .place) (tableAt c n b ks Offset i e (e + y .value) (set ps i (x .value)) (set es i (y .value)) os ts)
       unfolding faultAt putAt ended
       count-goes = one bs (x .place) (tableAt c n b ks Entries i e e (set ps i (x .value)) es os ts) (period-goes .0 hx) refl y ey

@@ -1,11 +1,11 @@
 // The bodies of the input: kind, priority and autostart of each.
-use crate::limits::most_autostart;
-use crate::limits::priority_in;
 use crate::limits::BAD_FIELD;
 use crate::limits::LAST_KIND;
+use crate::limits::most_autostart;
+use crate::limits::priority_in;
+use crate::part::Part;
 use crate::part::read_within;
 use crate::part::tested;
-use crate::part::Part;
 use number::NumberRead;
 use number_codec::read_number;
 ghost use mathlib.Core.Path.{_≡_};
@@ -42,20 +42,32 @@ fn read_body<'a, 'b, 'c, 'd>(
 {
     let k = read_within(bytes, at, 0, LAST_KIND, BAD_FIELD);
     if k.refusal != 0 {
-        return Part { refusal: k.refusal, place: k.place };
+        return Part {
+            refusal: k.refusal,
+            place: k.place,
+        };
     }
     kind[i] = k.value as u8;
     let p = read_priority(bytes, k.place, i, priority);
     if p.refusal != 0 {
-        return Part { refusal: p.refusal, place: p.place };
+        return Part {
+            refusal: p.refusal,
+            place: p.place,
+        };
     }
     priority[i] = p.value as u8;
     let a = read_within(bytes, p.place, 0, most_autostart(kind[i]), BAD_FIELD);
     if a.refusal != 0 {
-        return Part { refusal: a.refusal, place: a.place };
+        return Part {
+            refusal: a.refusal,
+            place: a.place,
+        };
     }
     autostart[i] = a.value as u8;
-    Part { refusal: 0, place: a.place }
+    Part {
+        refusal: 0,
+        place: a.place,
+    }
 }
 
 // All `n` bodies.
@@ -81,5 +93,8 @@ pub fn read_bodies<'a, 'b, 'c, 'd>(
         at = b.place;
         i += 1;
     }
-    Part { refusal: 0, place: at }
+    Part {
+        refusal: 0,
+        place: at,
+    }
 }

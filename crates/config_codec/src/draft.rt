@@ -1,12 +1,4 @@
 // A draft's numbers one by one: what the next one may be, where it goes and which one follows. The writer walks by drafts.
-use crate::limits::entries_in;
-use crate::limits::most_autostart;
-use crate::limits::offset_in;
-use crate::limits::outside;
-use crate::limits::priority_in;
-use crate::limits::task_in;
-use crate::limits::timed_body;
-use crate::limits::users_in;
 use crate::limits::BAD_COUNT;
 use crate::limits::BAD_FIELD;
 use crate::limits::BAD_VERSION;
@@ -15,6 +7,14 @@ use crate::limits::MAX_BODIES;
 use crate::limits::MAX_RESOURCES;
 use crate::limits::MAX_TABLES;
 use crate::limits::NEWEST_VERSION;
+use crate::limits::entries_in;
+use crate::limits::most_autostart;
+use crate::limits::offset_in;
+use crate::limits::outside;
+use crate::limits::priority_in;
+use crate::limits::task_in;
+use crate::limits::timed_body;
+use crate::limits::users_in;
 use config::Config;
 use config::Draft;
 use config::Field;
@@ -85,7 +85,17 @@ fn task_fault(d: Draft, v: u32) -> u8
     let entries = c.entries;
     let offset = c.offset;
     let task = c.task;
-    task_in(v, c.bodies, &kind, &entries, d.index, d.entry, d.until, &offset, &task)
+    task_in(
+        v,
+        c.bodies,
+        &kind,
+        &entries,
+        d.index,
+        d.entry,
+        d.until,
+        &offset,
+        &task,
+    )
 }
 
 // The refusal of the number `v` where `d` is, 0 where it is in order.

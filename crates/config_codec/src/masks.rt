@@ -1,8 +1,8 @@
 // The resources of the input: the mask of the users of each.
 use crate::limits::timed_body;
 use crate::limits::users_in;
-use crate::part::tested;
 use crate::part::Part;
+use crate::part::tested;
 use number_codec::read_number;
 ghost use mathlib.Core.Path.{_≡_};
 ghost use Prim.Native.Nat.{_≤_, _<_};
@@ -27,10 +27,16 @@ fn read_mask<'a, 'b, 'c>(
     let r = read_number(bytes, at);
     let m = tested(at, r, users_in(r.value, bodies, timed, *kind));
     if m.refusal != 0 {
-        return Part { refusal: m.refusal, place: m.place };
+        return Part {
+            refusal: m.refusal,
+            place: m.place,
+        };
     }
     users[i] = m.value;
-    Part { refusal: 0, place: m.place }
+    Part {
+        refusal: 0,
+        place: m.place,
+    }
 }
 
 // The masks of all `n` resources.
@@ -56,5 +62,8 @@ pub fn read_masks<'a, 'b, 'c>(
         at = m.place;
         i += 1;
     }
-    Part { refusal: 0, place: at }
+    Part {
+        refusal: 0,
+        place: at,
+    }
 }

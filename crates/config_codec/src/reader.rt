@@ -73,7 +73,17 @@ fn with_tables(
     let mut entries = [0u8; 8];
     let mut offset = [0u16; 64];
     let mut task = [0u8; 64];
-    let p = read_tables(bytes, t.place, t.value as usize, bodies, &kind, &mut period, &mut entries, &mut offset, &mut task);
+    let p = read_tables(
+        bytes,
+        t.place,
+        t.value as usize,
+        bodies,
+        &kind,
+        &mut period,
+        &mut entries,
+        &mut offset,
+        &mut task,
+    );
     if p.refusal != 0 {
         return refused(p.refusal, p.place);
     }
@@ -119,7 +129,17 @@ fn with_masks(
     if p.refusal != 0 {
         return refused(p.refusal, p.place);
     }
-    with_tables(bytes, p.place, version, bodies, kind, priority, autostart, n.value as u8, users)
+    with_tables(
+        bytes,
+        p.place,
+        version,
+        bodies,
+        kind,
+        priority,
+        autostart,
+        n.value as u8,
+        users,
+    )
 }
 
 // The bodies and what follows, where the version has been read.
@@ -133,11 +153,26 @@ fn with_bodies(bytes: &[u8], at: usize, version: u8) -> ConfigRead
     let mut kind = [0u8; 32];
     let mut priority = [0u8; 32];
     let mut autostart = [0u8; 32];
-    let p = read_bodies(bytes, n.place, n.value as usize, &mut kind, &mut priority, &mut autostart);
+    let p = read_bodies(
+        bytes,
+        n.place,
+        n.value as usize,
+        &mut kind,
+        &mut priority,
+        &mut autostart,
+    );
     if p.refusal != 0 {
         return refused(p.refusal, p.place);
     }
-    with_masks(bytes, p.place, version, n.value as u8, kind, priority, autostart)
+    with_masks(
+        bytes,
+        p.place,
+        version,
+        n.value as u8,
+        kind,
+        priority,
+        autostart,
+    )
 }
 
 // All numbers of the input.

@@ -1,11 +1,11 @@
 // The tables of the input: period and entries of each, and offset and task of each entry.
+use crate::limits::BAD_FIELD;
 use crate::limits::entries_in;
 use crate::limits::offset_in;
 use crate::limits::task_in;
-use crate::limits::BAD_FIELD;
+use crate::part::Part;
 use crate::part::read_within;
 use crate::part::tested;
-use crate::part::Part;
 use number::NumberRead;
 use number_codec::read_number;
 ghost use mathlib.Core.Path.{_≡_};
@@ -54,7 +54,11 @@ fn read_task<'a, 'b, 'c, 'd, 'e>(
     ensures { λ s. ⌜ s ≡ checked (now (bytes .entry)) at (faultAt Task (taskAt bodies (now (kind .entry)) (now (entries .entry)) i e until (now (offset .entry)) (now (task .entry)))) ⌝ }
 {
     let r = read_number(bytes, at);
-    tested(at, r, task_in(r.value, bodies, kind, entries, i, e, until, offset, task))
+    tested(
+        at,
+        r,
+        task_in(r.value, bodies, kind, entries, i, e, until, offset, task),
+    )
 }
 
 // Entry `e` of table `i`.
@@ -77,15 +81,35 @@ fn read_entry<'a, 'b, 'c, 'd, 'e, 'f>(
 {
     let o = read_offset(bytes, at, i, period);
     if o.refusal != 0 {
-        return Part { refusal: o.refusal, place: o.place };
+        return Part {
+            refusal: o.refusal,
+            place: o.place,
+        };
     }
     offset[e] = o.value as u16;
-    let t = read_task(bytes, o.place, bodies, kind, entries, i, e, until, offset, task);
+    let t = read_task(
+        bytes,
+        o.place,
+        bodies,
+        kind,
+        entries,
+        i,
+        e,
+        until,
+        offset,
+        task,
+    );
     if t.refusal != 0 {
-        return Part { refusal: t.refusal, place: t.place };
+        return Part {
+            refusal: t.refusal,
+            place: t.place,
+        };
     }
     task[e] = t.value as u8;
-    Part { refusal: 0, place: t.place }
+    Part {
+        refusal: 0,
+        place: t.place,
+    }
 }
 
 // The entries of table `i`, from the entry `first` on.
@@ -109,14 +133,29 @@ fn read_entries<'a, 'b, 'c, 'd, 'e, 'f>(
     let mut at = from;
     let mut e = first;
     while e < until {
-        let r = read_entry(bytes, at, bodies, kind, i, e, until, period, entries, offset, task);
+        let r = read_entry(
+            bytes,
+            at,
+            bodies,
+            kind,
+            i,
+            e,
+            until,
+            period,
+            entries,
+            offset,
+            task,
+        );
         if r.refusal != 0 {
             return r;
         }
         at = r.place;
         e += 1;
     }
-    Part { refusal: 0, place: at }
+    Part {
+        refusal: 0,
+        place: at,
+    }
 }
 
 // A table's number of entries, where the tables before have `n`.
@@ -148,17 +187,41 @@ fn read_table<'a, 'b, 'c, 'd, 'e, 'f>(
 {
     let p = read_within(bytes, at, 1, 65_535, BAD_FIELD);
     if p.refusal != 0 {
-        return TablePart { refusal: p.refusal, place: p.place, until: e };
+        return TablePart {
+            refusal: p.refusal,
+            place: p.place,
+            until: e,
+        };
     }
     period[i] = p.value as u16;
     let n = read_count(bytes, p.place, e);
     if n.refusal != 0 {
-        return TablePart { refusal: n.refusal, place: n.place, until: e };
+        return TablePart {
+            refusal: n.refusal,
+            place: n.place,
+            until: e,
+        };
     }
     entries[i] = n.value as u8;
     let until = e + n.value as usize;
-    let r = read_entries(bytes, n.place, bodies, kind, i, e, until, period, entries, offset, task);
-    TablePart { refusal: r.refusal, place: r.place, until: until }
+    let r = read_entries(
+        bytes,
+        n.place,
+        bodies,
+        kind,
+        i,
+        e,
+        until,
+        period,
+        entries,
+        offset,
+        task,
+    );
+    TablePart {
+        refusal: r.refusal,
+        place: r.place,
+        until: until,
+    }
 }
 
 // All `n` tables.
@@ -189,5 +252,9 @@ pub fn read_tables<'a, 'b, 'c, 'd, 'e, 'f>(
         e = t.until;
         i += 1;
     }
-    TablePart { refusal: 0, place: at, until: e }
+    TablePart {
+        refusal: 0,
+        place: at,
+        until: e,
+    }
 }

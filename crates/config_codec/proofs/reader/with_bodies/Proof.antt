@@ -35,7 +35,7 @@ refused-requires-2 c κs = search needs
 returns-2 : tie.Need-returns-2
 returns-2 c =
     let a = c .before .before .before .before .before .before .before .before .before .before .before .before .args in let n = c .before .before .before .before .before .before .before .before .before .before .read-within in let p = c .before .before .before .read-bodies in
-    let h = in-range (c .before .before .before .before .before .before .before .before .before .before .before .before .args .bytes .now) (c .before .before .before .before .before .before .before .before .before .before .before .before .args .at) 1 maxBodies badCount (lit< tt) (c .before .before .before .before .before .before .before .before .before .before .read-within .result) (c .before .before .before .before .before .before .before .before .before .before .read-within .ensures) (c .before .before .before .before .before .before .before .before .if1 .left) in 
+    let h = in-range (c .before .before .before .before .before .before .before .before .before .before .before .before .args .bytes .now) (c .before .before .before .before .before .before .before .before .before .before .before .before .args .at) 1 maxBodies badCount (lit< tt) (c .before .before .before .before .before .before .before .before .before .before .read-within .result) (c .before .before .before .before .before .before .before .before .before .before .read-within .ensures) (c .before .before .before .before .before .before .before .before .if1 .left) in
     λ w. c .refused2 .ensures ∙ p .ensures (withVersion noConfig (a .version)) (body-first (a .bytes .now) (n .result .place) (a .version) (n .result .value) (h .0) _ _ _ (bodies-goes (a .bytes .now) (a .at) (a .version) w (n .result) (n .ensures) .0 (c .before .before .before .before .before .before .before .before .if1 .left))) .1 (c .before .if2 .taken)
 
 cast-with-masks : tie.Need-cast-with-masks
@@ -49,7 +49,7 @@ with-masks-requires c κs =
 returns-3 : tie.Need-returns-3
 returns-3 c =
     let a = c .before .before .before .before .before .before .before .before .before .before .before .before .before .args in let n = c .before .before .before .before .before .before .before .before .before .before .before .read-within in let p = c .before .before .before .before .read-bodies in
-    let h = in-range (c .before .before .before .before .before .before .before .before .before .before .before .before .before .args .bytes .now) (c .before .before .before .before .before .before .before .before .before .before .before .before .before .args .at) 1 maxBodies badCount (lit< tt) (c .before .before .before .before .before .before .before .before .before .before .before .read-within .result) (c .before .before .before .before .before .before .before .before .before .before .before .read-within .ensures) (c .before .before .before .before .before .before .before .before .before .if1 .left) in 
+    let h = in-range (c .before .before .before .before .before .before .before .before .before .before .before .before .before .args .bytes .now) (c .before .before .before .before .before .before .before .before .before .before .before .before .before .args .at) 1 maxBodies badCount (lit< tt) (c .before .before .before .before .before .before .before .before .before .before .before .read-within .result) (c .before .before .before .before .before .before .before .before .before .before .before .read-within .ensures) (c .before .before .before .before .before .before .before .before .before .if1 .left) in
     λ w. c .with-masks .ensures (bodies-read (a .bytes .now) (p .result .place) (a .version) (n .result .value) _ _ _ (p .ensures (withVersion noConfig (a .version)) (body-first (a .bytes .now) (n .result .place) (a .version) (n .result .value) (h .0) _ _ _ (bodies-goes (a .bytes .now) (a .at) (a .version) w (n .result) (n .ensures) .0 (c .before .before .before .before .before .before .before .before .before .if1 .left))) .0 (c .before .before .if2 .left)))
 
 pub with-bodies-spec : {M : Type 1} → statement M

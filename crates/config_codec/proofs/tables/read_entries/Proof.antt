@@ -23,9 +23,10 @@ abbrev μ-loop : tie.MeasureT-loop
 
 loop-holds : tie.Need-loop-holds Inv-loop μ-loop
 loop-holds c =
-    let s = c .before in let a = s .args in
-    ((omega arith, omega (arith, s .pre .1 .1 .0)),
-    λ g n w. entry-first g (a .bytes .now) n (a .from) (a .bodies) (a .kind .now) (a .i) (a .first) (a .until) (a .period .now) (a .entries .now) (a .offset .now) (a .task .now) (s .pre .1 .1 .0) w)
+    let s = c .before in let a = s .args in (
+      (omega arith, omega (arith, s .pre .1 .1 .0)),
+      λ g n w. entry-first g (a .bytes .now) n (a .from) (a .bodies) (a .kind .now) (a .i) (a .first) (a .until) (a .period .now) (a .entries .now) (a .offset .now) (a .task .now) (s .pre .1 .1 .0) w,
+    )
 
 read-entry-requires : tie.Need-read-entry-requires Inv-loop μ-loop
 read-entry-requires c κs =

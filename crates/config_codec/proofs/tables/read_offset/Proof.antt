@@ -28,7 +28,7 @@ returns c =
     let f = c .before .offset-in in let r = c .before .before .before .read-number in let t = c .tested in (
       t .ensures ∙ rw (f .ensures .0, r .ensures),
       λ h. let p = passed (c .before .before .before .before .before .args .at) (r .result) (f .result) (t .result) (t .ensures) h in
-      subst (λ (x : NumberRead). x .value ≤ 65535) (sym (p .1)) (f .ensures .1 (p .0)),
+          subst (λ (x : NumberRead). x .value ≤ 65535) (sym (p .1)) (f .ensures .1 (p .0)),
     )
 
 pub read-offset-spec : {M : Type 1} → statement M

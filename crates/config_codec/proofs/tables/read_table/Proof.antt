@@ -37,10 +37,12 @@ returns-2 : tie.Need-returns-2
 returns-2 c =
     let s = c .before .before .before .before .before .before .before .before in let a = s .args in
     let p = c .before .before .before .before .before .before .read-within in
-    let y = c .before .before .read-count in
-    (λ g n w. stopped (a .bytes .now) (y .result .refusal) (y .result .place) _ _ (c .if2 .taken)
-    (count-goes g (a .bytes .now) n (a .at) (a .bodies) (a .kind .now) (a .i) (a .e) (a .period .now) (a .entries .now) (a .offset .now) (a .task .now) w (p .result) (p .ensures)
-    (c .before .before .before .before .if1 .left) (y .result) (y .ensures)), s .pre .1 .1)
+    let y = c .before .before .read-count in (
+      λ g n w. stopped (a .bytes .now) (y .result .refusal) (y .result .place) _ _ (c .if2 .taken)
+          (count-goes g (a .bytes .now) n (a .at) (a .bodies) (a .kind .now) (a .i) (a .e) (a .period .now) (a .entries .now) (a .offset .now) (a .task .now) w (p .result) (p .ensures)
+          (c .before .before .before .before .if1 .left) (y .result) (y .ensures)),
+      s .pre .1 .1,
+    )
 
 cast-entries : tie.Need-cast-entries
 cast-entries c =
@@ -70,10 +72,11 @@ returns-3 : tie.Need-returns-3
 returns-3 c =
     let s = c .before .before .before .before .before .before .before .before .before .before .before .before .before .before .before in let a = s .args in
     let p = c .before .before .before .before .before .before .before .before .before .before .before .before .before .read-within in
-    let y = c .before .before .before .before .before .before .before .before .before .read-count in
-    (λ g n w. c .read-entries .ensures g n (count-goes g (a .bytes .now) n (a .at) (a .bodies) (a .kind .now) (a .i) (a .e) (a .period .now) (a .entries .now) (a .offset .now) (a .task .now) w (p .result) (p .ensures)
-    (c .before .before .before .before .before .before .before .before .before .before .before .if1 .left) (y .result) (y .ensures) .0 (c .before .before .before .before .before .before .before .if2 .left)),
-    count-small (a .bytes .now) (p .result .place) (a .e) (y .result) (y .ensures) (c .before .before .before .before .before .before .before .if2 .left) .1)
+    let y = c .before .before .before .before .before .before .before .before .before .read-count in (
+      λ g n w. c .read-entries .ensures g n (count-goes g (a .bytes .now) n (a .at) (a .bodies) (a .kind .now) (a .i) (a .e) (a .period .now) (a .entries .now) (a .offset .now) (a .task .now) w (p .result) (p .ensures)
+          (c .before .before .before .before .before .before .before .before .before .before .before .if1 .left) (y .result) (y .ensures) .0 (c .before .before .before .before .before .before .before .if2 .left)),
+      count-small (a .bytes .now) (p .result .place) (a .e) (y .result) (y .ensures) (c .before .before .before .before .before .before .before .if2 .left) .1,
+    )
 
 pub read-table-spec : {M : Type 1} → statement M
 read-table-spec =
