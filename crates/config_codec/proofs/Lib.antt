@@ -3,6 +3,12 @@ mod Within
 mod Used
 mod Timed
 mod ReaderWalk
+mod OneNumber
+mod BodyParts
+mod MaskParts
+mod TableKinds
+mod TableParts
+mod ReaderParts
 mod WriterWalk
 mod Measure
 mod Written

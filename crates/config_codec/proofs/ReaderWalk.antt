@@ -1,4 +1,4 @@
--- The reader's walk over the numbers: where it stands (`ReadsOn`), and what a number that is in order, one that is not and the last one make of it.
+-- The reader's walk over the numbers, which keeps `ReadsOn`: what a number that is in order, one that is not and the last one make of it.
 -- Assumes nothing.
 use Prim.Native.Nat.{ℕ, zero, suc, _+_, _≤_, _<_}
 use mathlib.Core.Path.{_≡_, refl, sym, ap, _∙_}
@@ -16,14 +16,7 @@ use Rattle.config.specs.declared.Draft.{Draft}
 use Rattle.config.specs.Draft.{Within, fault, put, ended, start}
 use Rattle.config.specs.Reader.{refused, numberFault, faultPlace, finished, readFrom}
 use Rattle.config.proofs.Position.{start-within, moved}
-
--- at the place `at` with the draft d: as many numbers as there are bytes left are enough, and what they give is the whole answer
-pub record ReadsOn (bs : List ℕ) (at : ℕ) (d : Draft) : Type 0 where
-  pub left : ℕ
-  pub enough : length bs ≤ at + left
-  pub inside : at ≤ length bs
-  pub within : Within d
-  pub rest : readFrom left bs at d ≡ readFrom (length bs) bs 0 start
+use Rattle.config_codec.specs.Reading.{ReadsOn}
 
 pub reads-start : (bs : List ℕ) → ReadsOn bs 0 start
 reads-start bs = record { left = length bs; enough = omega arith; inside = omega arith; within = start-within; rest = refl }
@@ -35,7 +28,7 @@ readable d r e = by-eq (r .refusal) none (λ h. h) (λ n. absurd (n (sym (unread
     unread : (r .refusal ≡ none → ⊥) → numberFault d r ≡ r .refusal
     unread n = simp (ne-eqb (r .refusal) none n)
 
-pub faultless : (d : Draft) (r : NumberRead) → numberFault d r ≡ none → fault d (r .value) ≡ none
+faultless : (d : Draft) (r : NumberRead) → numberFault d r ≡ none → fault d (r .value) ≡ none
 faultless d r e = sym (read (readable d r e)) ∙ e
   where
     read : r .refusal ≡ none → numberFault d r ≡ fault d (r .value)
@@ -89,6 +82,3 @@ module _ (bs : List ℕ) (at : ℕ) (d : Draft) (o : ReadsOn bs at d) (more : en
 
   pub reads-next : (r : NumberRead) → r ≡ readNumber bs at → numberFault d r ≡ none → ReadsOn bs (r .place) (put d (r .value))
   reads-next r e = rw e (λ (n : numberFault d (readNumber bs at) ≡ none). next n (o .left) refl)
-
-  pub reads-forward : (r : NumberRead) → r ≡ readNumber bs at → numberFault d r ≡ none → (at < r .place) × (r .place ≤ length bs)
-  reads-forward r e = rw e (λ (n : numberFault d (readNumber bs at) ≡ none). let h = readable d (readNumber bs at) n in (reading bs at .after h, reading bs at .inside h))

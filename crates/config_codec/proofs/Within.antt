@@ -19,11 +19,11 @@ use Rattle.config.specs.Value.{newestVersion, maxPriority, maxEntries}
 use Rattle.config.specs.Draft.{unless, outside, andThen, startable, mostAutostart, fault, faultAt, Inside, Within}
 
 -- tests that give no refusal
-unless-none : (ok : Bool) (r : ℕ) → 0 < r → unless ok r ≡ none → ok ≡ true
+pub unless-none : (ok : Bool) (r : ℕ) → 0 < r → unless ok r ≡ none → ok ≡ true
 unless-none true r p e = refl
 unless-none false r p e = absurd (omega arith)
 
-and-first : (a b : Bool) → a && b ≡ true → a ≡ true
+pub and-first : (a b : Bool) → a && b ≡ true → a ≡ true
 and-first true b e = refl
 and-first false b e = e
 
@@ -32,17 +32,17 @@ and-second true b e = e
 and-second false true e = refl
 and-second false false e = e
 
-outside-none : (lo hi v r : ℕ) → 0 < r → outside lo hi v r ≡ none → (lo ≤ v) × (v ≤ hi)
+pub outside-none : (lo hi v r : ℕ) → 0 < r → outside lo hi v r ≡ none → (lo ≤ v) × (v ≤ hi)
 outside-none lo hi v r p e = let both = unless-none (leb lo v && leb v hi) r p e in
     (leb-true lo v (and-first (leb lo v) (leb v hi) both), leb-true v hi (and-second (leb lo v) (leb v hi) both))
 
-andThen-first : (r s : ℕ) → andThen r s ≡ none → r ≡ none
+pub andThen-first : (r s : ℕ) → andThen r s ≡ none → r ≡ none
 andThen-first r s e = by-eq r none (λ h. h) (λ n. absurd (n (sym (cond-false n) ∙ e)))
   where
     cond-false : (r ≡ none → ⊥) → andThen r s ≡ r
     cond-false n = simp (ne-eqb r none n)
 
-andThen-second : (r s : ℕ) → andThen r s ≡ none → s ≡ none
+pub andThen-second : (r s : ℕ) → andThen r s ≡ none → s ≡ none
 andThen-second r s e = sym (cond-true (andThen-first r s e)) ∙ e
   where
     cond-true : r ≡ none → andThen r s ≡ s

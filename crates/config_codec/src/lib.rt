@@ -1,6 +1,11 @@
 // A configuration as bytes: read, written, and refused by document 01's rules.
+mod bodies;
 mod draft;
+mod limits;
+mod masks;
+mod part;
 mod reader;
+mod tables;
 mod writer;
 
 use config::Config;

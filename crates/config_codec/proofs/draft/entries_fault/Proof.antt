@@ -1,26 +1,16 @@
--- `entries_fault` meets its contract, by those of its callees.
+-- `entries_fault` meets its contract.
 -- Assumes nothing.
 use Rattle.config.specs.Draft.{faultAt}
 use borrow.Author.Needs.{needs}
 use Rattle.config_codec.proofs.draft.entries_fault.Statement.{statement}
 use Rattle.config_codec.proofs.draft.entries_fault.Tie as tie
 
-add-total : tie.Need-add-total
-add-total c = search needs
-
-outside-requires : tie.Need-outside-requires
-outside-requires c κs = search needs
-
-unless-requires : tie.Need-unless-requires
-unless-requires c κs = search needs
-
-and-then-requires : tie.Need-and-then-requires
-and-then-requires c κs = search needs
+entries-in-requires : tie.Need-entries-in-requires
+entries-in-requires c κs = search needs
 
 returns : tie.Need-returns
 unfolding faultAt
-returns c = rw (c .and-then .ensures, c .before .unless .ensures, c .before .before .outside .ensures)
+returns c = c .entries-in .ensures
 
 pub entries-fault-spec : {M : Type 1} → statement M
-entries-fault-spec =
-    tie.close (tie.spec add-total outside-requires unless-requires and-then-requires returns)
+entries-fault-spec = tie.close (tie.spec entries-in-requires returns)

@@ -1,4 +1,4 @@
--- `finished` meets its contract, by its test.
+-- `finished` meets its contract.
 -- Assumes nothing.
 use borrow.Author.Tests.{eq-eqb, ne-eqb}
 use lib.ListN.{length}
@@ -10,10 +10,12 @@ refused-requires : tie.Need-refused-requires
 refused-requires c κs = search needs
 
 returns : tie.Need-returns
-returns c = let a = c .before .before .before .args in rw (ne-eqb (a .at) (length (a .bytes .now)) (c .before .if1 .taken)) (c .refused .ensures)
+returns c =
+    let a = c .before .before .before .args in rw (ne-eqb (a .at) (length (a .bytes .now)) (c .before .if1 .taken)) (c .refused .ensures)
 
 returns-2 : tie.Need-returns-2
-returns-2 c = let a = c .before .before .before .args in rw (eq-eqb (a .at) (length (a .bytes .now)) (c .before .if1 .left))
+returns-2 c =
+    let a = c .before .before .args in rw (eq-eqb (a .at) (length (a .bytes .now)) (c .if1 .left))
 
 pub finished-spec : {M : Type 1} → statement M
 finished-spec = tie.close (tie.spec refused-requires returns returns-2)

@@ -1,0 +1,113 @@
+-- `read_body` meets its contract: three numbers, one after the other.
+-- Assumes nothing.
+use Prim.Native.Nat.{ℕ, _≤_}
+use mathlib.Core.Path.{subst, sym}
+use mathlib.Core.Path.{ap, _∙_}
+use native.Mathlib.Omega.{arith}
+use lib.Dec.{lit<}
+use lib.ListN.{getD, set}
+use Rattle.config.specs.Draft.{outside}
+use Rattle.config.specs.Meaning.{lastKind}
+use Rattle.config.specs.Refusal.{badField}
+use Rattle.config_codec.specs.Reading.{checked}
+use Rattle.config_codec.proofs.BodyParts.{kind-goes, priority-goes, autostart-goes, priority-small, most-le}
+use Rattle.config_codec.proofs.OneNumber.{in-range, arrived, stopped}
+use borrow.Author.Needs.{needs}
+use Rattle.config_codec.proofs.bodies.read_body.Statement.{statement}
+use Rattle.config_codec.proofs.bodies.read_body.Tie as tie
+
+read-within-requires : tie.Need-read-within-requires
+read-within-requires c κs = search needs
+
+returns : tie.Need-returns
+returns c =
+    let a = c .before .before .before .before .args in
+    let k = c .before .before .read-within in
+    λ g n o. stopped (a .bytes .now) (k .result .refusal) (k .result .place) _ _ (c .if1 .taken) (kind-goes g (a .bytes .now) n (a .at) (a .i) (a .kind .now) (a .priority .now) (a .autostart .now) o (k .result) (k .ensures))
+
+cast-kind : tie.Need-cast-kind
+cast-kind c =
+    let a = c .before .before .before .before .before .args in
+    let k = c .before .before .before .read-within in
+    let h = in-range (a .bytes .now) (a .at) 0 lastKind badField (lit< tt) (k .result) (k .ensures) (c .before .if1 .left) in omega arith
+
+element-write-kind : tie.Need-element-write-kind
+element-write-kind c = search needs
+
+read-priority-requires : tie.Need-read-priority-requires
+read-priority-requires c κs = search needs
+
+returns-2 : tie.Need-returns-2
+returns-2 c =
+    let a = c .before .before .before .before .before .before .before .before .before .args in
+    let k = c .before .before .before .before .before .before .before .read-within in
+    let p = c .before .before .read-priority in
+    λ g n o. stopped (a .bytes .now) (p .result .refusal) (p .result .place) _ _ (c .if2 .taken)
+    (priority-goes g (a .bytes .now) n (a .at) (a .i) (a .kind .now) (a .priority .now) (a .autostart .now) o (k .result) (k .ensures) (c .before .before .before .before .before .if1 .left) (p .result) (p .ensures))
+
+cast-priority : tie.Need-cast-priority
+cast-priority c =
+    let a = c .before .before .before .before .before .before .before .before .before .before .args in
+    let p = c .before .before .before .read-priority in
+    let h = priority-small (a .bytes .now) (c .before .before .before .before .before .before .before .before .read-within .result .place) (a .i) (a .priority .now) (p .result) (p .ensures) (c .before .if2 .left) in omega arith
+
+element-write-priority : tie.Need-element-write-priority
+element-write-priority c = search needs
+
+element-copy-out-most-autostart : tie.Need-element-copy-out-most-autostart
+element-copy-out-most-autostart c = search needs
+
+most-autostart-requires : tie.Need-most-autostart-requires
+most-autostart-requires c κs = search needs
+
+read-within-requires-2 : tie.Need-read-within-requires-2
+read-within-requires-2 c κs = search needs
+
+returns-3 : tie.Need-returns-3
+returns-3 c =
+    let a = c .before .before .before .before .before .before .before .before .before .before .before .before .before .before .before .args in
+    let k = c .before .before .before .before .before .before .before .before .before .before .before .before .before .read-within in
+    let p = c .before .before .before .before .before .before .before .before .read-priority in
+    let q = c .before .before .read-within2 in
+    λ g n o. stopped (a .bytes .now) (q .result .refusal) (q .result .place) _ _ (c .if3 .taken)
+    (autostart-goes g (a .bytes .now) n (a .at) (a .i) (a .kind .now) (a .priority .now) (a .autostart .now) o (k .result) (k .ensures) (c .before .before .before .before .before .before .before .before .before .before .before .if1 .left) (p .result) (p .ensures) (c .before .before .before .before .before .before .if2 .left) (q .result) (q .ensures ∙ ap (λ (m : ℕ). checked (a .bytes .now) (p .result .place) (λ (v : ℕ). outside 0 m v badField)) (c .before .before .before .most-autostart .ensures)))
+
+cast-autostart : tie.Need-cast-autostart
+cast-autostart c =
+    let a = c .before .before .before .before .before .before .before .before .before .before .before .before .before .before .before .before .args in
+    let q = c .before .before .before .read-within2 in
+    let m = c .before .before .before .before .most-autostart in
+    let h = in-range (a .bytes .now) (c .before .before .before .before .before .before .before .before .before .read-priority .result .place) 0 (m .result) badField (lit< tt) (q .result) (q .ensures) (c .before .if3 .left) in
+    omega (arith, h .1, subst (λ (x : ℕ). x ≤ 1) (sym (m .ensures)) (most-le (getD (set (a .kind .now) (a .i) (c .before .before .before .before .before .before .before .before .before .before .before .before .before .before .read-within .result .value)) (a .i) 0)))
+
+element-write-autostart : tie.Need-element-write-autostart
+element-write-autostart c = search needs
+
+returns-4 : tie.Need-returns-4
+returns-4 c =
+    let a = c .before .before .before .before .before .before .before .before .before .before .before .before .before .before .before .before .args in
+    let k = c .before .before .before .before .before .before .before .before .before .before .before .before .before .before .read-within in
+    let p = c .before .before .before .before .before .before .before .before .before .read-priority in
+    let q = c .before .before .before .read-within2 in
+    λ g n o. arrived (a .bytes .now) (q .result .place) _
+    (autostart-goes g (a .bytes .now) n (a .at) (a .i) (a .kind .now) (a .priority .now) (a .autostart .now) o (k .result) (k .ensures) (c .before .before .before .before .before .before .before .before .before .before .before .before .if1 .left) (p .result) (p .ensures) (c .before .before .before .before .before .before .before .if2 .left) (q .result) (q .ensures ∙ ap (λ (m : ℕ). checked (a .bytes .now) (p .result .place) (λ (v : ℕ). outside 0 m v badField)) (c .before .before .before .before .most-autostart .ensures)) .0 (c .before .if3 .left))
+
+pub read-body-spec : {M : Type 1} → statement M
+read-body-spec =
+    tie.close
+    (tie.spec
+    read-within-requires
+    returns
+    cast-kind
+    element-write-kind
+    read-priority-requires
+    returns-2
+    cast-priority
+    element-write-priority
+    element-copy-out-most-autostart
+    most-autostart-requires
+    read-within-requires-2
+    returns-3
+    cast-autostart
+    element-write-autostart
+    returns-4)

@@ -1,0 +1,24 @@
+-- `offset_in` meets its contract.
+-- Assumes nothing.
+use mathlib.Core.Path.{sym, _∙_}
+use native.Mathlib.Omega.{arith}
+use lib.Dec.{ltb, lit<}
+use borrow.Author.Tests.{ltb-true}
+use Rattle.config.specs.Refusal.{badField}
+use Rattle.config_codec.proofs.Within.{unless-none}
+use borrow.Author.Needs.{needs}
+use Rattle.config_codec.proofs.limits.offset_in.Statement.{statement}
+use Rattle.config_codec.proofs.limits.offset_in.Tie as tie
+
+unless-requires : tie.Need-unless-requires
+unless-requires c κs = search needs
+
+returns : tie.Need-returns
+returns c =
+    let s = c .before in let a = s .args in (
+      c .unless .ensures,
+      λ h. let l = ltb-true (a .v) (a .period) (unless-none (ltb (a .v) (a .period)) badField (lit< tt) (sym (c .unless .ensures) ∙ h)) in omega (arith, s .fits .period),
+    )
+
+pub offset-in-spec : {M : Type 1} → statement M
+offset-in-spec = tie.close (tie.spec unless-requires returns)

@@ -1,0 +1,66 @@
+-- `some_timed` meets its contract.
+-- Assumes nothing.
+use Prim.Native.Nat.{_-_, _≤_}
+use mathlib.Core.Path.{_≡_, refl, sym, _∙_}
+use native.Mathlib.Omega.{arith}
+use lib.ListN.{length, take, drop}
+use Rattle.config.specs.Draft.{someTimed}
+use Rattle.config_codec.specs.Parts.{kindsOf}
+use Rattle.config_codec.proofs.Timed.{some-here, some-next, some-done}
+use borrow.Author.Needs.{needs}
+use Rattle.config_codec.proofs.limits.some_timed.Statement.{statement}
+use Rattle.config_codec.proofs.limits.some_timed.Tie as tie
+
+abbrev Inv-loop : tie.InvT-loop
+Inv-loop bodies n kind task i₀ i = someTimed (kindsOf bodies kind) (drop i (take n task)) ≡ someTimed (kindsOf bodies kind) (take n task)
+
+abbrev μ-loop : tie.MeasureT-loop
+μ-loop bodies n kind task i₀ i = n - i
+
+long : (c : tie.Start Inv-loop μ-loop) → c .args .n ≤ length (c .args .t4)
+long c = let l : length (c .args .t4) ≡ 64 = search needs in omega arith
+
+loop-holds : tie.Need-loop-holds Inv-loop μ-loop
+loop-holds c = refl
+
+array-read-entry-timed : tie.Need-array-read-entry-timed Inv-loop μ-loop
+array-read-entry-timed c = omega arith
+
+entry-timed-requires : tie.Need-entry-timed-requires Inv-loop μ-loop
+entry-timed-requires c κs = search needs
+
+returns : tie.Need-returns Inv-loop μ-loop
+returns c =
+    let s = c .before .before .before .before .before in let a = s .args in let g = kindsOf (a .bodies) (a .t2) in
+    some-here g (a .n) (a .t4) (long s) (c .before .before .before .before .loop .i) (c .before .before .before .loop-test .taken) (sym (c .before .entry-timed .ensures) ∙ c .if1 .taken) ∙ c .before .before .before .before .loop .inv
+
+add-i : tie.Need-add-i Inv-loop μ-loop
+add-i c = omega arith
+
+loop-less : tie.Need-loop-less Inv-loop μ-loop
+loop-less c = omega arith
+
+loop-again : tie.Need-loop-again Inv-loop μ-loop
+loop-again c =
+    let s = c .before .before .before .before .before in let a = s .args in let g = kindsOf (a .bodies) (a .t2) in
+    sym (some-next g (a .n) (a .t4) (long s) (c .before .before .before .before .loop .i) (c .before .before .before .loop-test .taken) (sym (c .before .entry-timed .ensures) ∙ c .if1 .left)) ∙ c .before .before .before .before .loop .inv
+
+returns-2 : tie.Need-returns-2 Inv-loop μ-loop
+returns-2 c =
+    let s = c .before .before in let a = s .args in let g = kindsOf (a .bodies) (a .t2) in
+    some-done g (a .n) (a .t4) (long s) (c .before .loop .i) (c .loop-test .left) ∙ c .before .loop .inv
+
+pub some-timed-spec : {M : Type 1} → statement M
+some-timed-spec =
+    tie.close
+    (tie.spec
+    Inv-loop
+    μ-loop
+    loop-holds
+    array-read-entry-timed
+    entry-timed-requires
+    returns
+    add-i
+    loop-less
+    loop-again
+    returns-2)

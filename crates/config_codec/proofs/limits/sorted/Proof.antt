@@ -1,0 +1,18 @@
+-- `sorted` meets its contract.
+-- Assumes nothing.
+use borrow.Author.Needs.{needs}
+use Rattle.config_codec.proofs.limits.sorted.Statement.{statement}
+use Rattle.config_codec.proofs.limits.sorted.Tie as tie
+
+returns : tie.Need-returns
+returns c = search needs
+
+rises-requires : tie.Need-rises-requires
+rises-requires c κs = search needs
+
+returns-2 : tie.Need-returns-2
+returns-2 c =
+    rw (c .before .if1 .left) (c .rises .ensures)
+
+pub sorted-spec : {M : Type 1} → statement M
+sorted-spec = tie.close (tie.spec returns rises-requires returns-2)

@@ -1,0 +1,71 @@
+-- `read_masks` meets its contract: the loop goes on from resource to resource.
+-- Assumes nothing.
+use Prim.Native.Nat.{_-_, _≤_}
+use native.Mathlib.Omega.{arith}
+use Rattle.config.specs.declared.Config.{Config}
+use Rattle.config_codec.specs.Reading.{ReadsOn}
+use Rattle.config_codec.specs.Parts.{usersOn}
+use Rattle.config_codec.proofs.OneNumber.{arrived, stopped}
+use Rattle.config_codec.proofs.MaskParts.{mask-more, mask-last}
+use borrow.Author.Needs.{needs}
+use Rattle.config_codec.proofs.masks.read_masks.Statement.{statement}
+use Rattle.config_codec.proofs.masks.read_masks.Tie as tie
+
+abbrev Inv-loop : tie.InvT-loop
+Inv-loop bytes from n bodies kind users₀ timed at₀ i₀ users at i =
+    (i ≤ n) × ((g : Config) → ReadsOn bytes from (usersOn g n bodies kind 0 users₀) → ReadsOn bytes at (usersOn g n bodies kind i users))
+
+abbrev μ-loop : tie.MeasureT-loop
+μ-loop bytes from n bodies kind users₀ timed at₀ i₀ users at i = n - i
+
+timed-body-requires : tie.Need-timed-body-requires Inv-loop μ-loop
+timed-body-requires c κs = search needs
+
+loop-holds : tie.Need-loop-holds Inv-loop μ-loop
+loop-holds c = (omega arith, λ g o. o)
+
+read-mask-requires : tie.Need-read-mask-requires Inv-loop μ-loop
+read-mask-requires c κs = (omega (arith, c .before .loop-test .taken, c .before .before .before .before .before .before .pre .0), (c .before .before .before .before .before .before .pre .1, c .before .before .before .timed-body .ensures))
+
+returns : tie.Need-returns Inv-loop μ-loop
+returns c =
+    let a = c .before .before .before .before .before .before .before .before .before .args in
+    let l = c .before .before .before .before .before .loop in
+    let m = c .before .before .read-mask in
+    λ g o. stopped (a .bytes .now) (m .result .refusal) (m .result .place) _ _ (c .if1 .taken)
+    (m .ensures g (a .n) (mask-more g (a .bytes .now) (a .n) (l .at) (a .bodies) (a .kind .now) (l .i) (l .users) (l .inv .1 g o) (c .before .before .before .before .loop-test .taken)))
+
+add-i : tie.Need-add-i Inv-loop μ-loop
+add-i c = omega (arith, c .before .before .before .before .loop-test .taken, c .before .before .before .before .before .before .before .before .before .pre .0)
+
+loop-less : tie.Need-loop-less Inv-loop μ-loop
+loop-less c = omega arith
+
+loop-again : tie.Need-loop-again Inv-loop μ-loop
+loop-again c =
+    let a = c .before .before .before .before .before .before .before .before .before .args in
+    let l = c .before .before .before .before .before .loop in
+    let m = c .before .before .read-mask in
+    (omega (arith, c .before .before .before .before .loop-test .taken), λ g o. (m .ensures g (a .n) (mask-more g (a .bytes .now) (a .n) (l .at) (a .bodies) (a .kind .now) (l .i) (l .users) (l .inv .1 g o) (c .before .before .before .before .loop-test .taken))) .0 (c .if1 .left))
+
+returns-2 : tie.Need-returns-2 Inv-loop μ-loop
+returns-2 c =
+    let a = c .before .before .before .before .before .args in
+    let l = c .before .loop in
+    λ g o. arrived (a .bytes .now) (l .at) _
+    (mask-last g (a .bytes .now) (a .n) (l .at) (a .bodies) (a .kind .now) (l .i) (l .users) (l .inv .1 g o) (l .inv .0) (c .loop-test .left))
+
+pub read-masks-spec : {M : Type 1} → statement M
+read-masks-spec =
+    tie.close
+    (tie.spec
+    Inv-loop
+    μ-loop
+    timed-body-requires
+    loop-holds
+    read-mask-requires
+    returns
+    add-i
+    loop-less
+    loop-again
+    returns-2)

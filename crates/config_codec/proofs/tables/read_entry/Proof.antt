@@ -1,0 +1,75 @@
+-- `read_entry` meets its contract.
+-- Assumes nothing.
+use native.Mathlib.Omega.{arith}
+use lib.ListN.{set}
+use Rattle.config_codec.proofs.OneNumber.{arrived, stopped}
+use Rattle.config_codec.proofs.TableParts.{offset-goes, task-goes, task-small}
+use borrow.Author.Needs.{needs}
+use Rattle.config_codec.proofs.tables.read_entry.Statement.{statement}
+use Rattle.config_codec.proofs.tables.read_entry.Tie as tie
+
+read-offset-requires : tie.Need-read-offset-requires
+read-offset-requires c κs = search needs
+
+returns : tie.Need-returns
+returns c =
+    let a = c .before .before .before .before .args in
+    let o = c .before .before .read-offset in
+    λ g n w. stopped (a .bytes .now) (o .result .refusal) (o .result .place) _ _ (c .if1 .taken) (offset-goes g (a .bytes .now) n (a .at) (a .bodies) (a .kind .now) (a .i) (a .e) (a .until) (a .period .now) (a .entries .now) (a .offset .now) (a .task .now) w (o .result) (o .ensures .0))
+
+cast-offset : tie.Need-cast-offset
+cast-offset c =
+    let o = c .before .before .before .read-offset in omega (arith, o .ensures .1 (c .before .if1 .left))
+
+mul-offset : tie.Need-mul-offset
+mul-offset c = search needs
+
+element-write-offset : tie.Need-element-write-offset
+element-write-offset c = search needs
+
+read-task-requires : tie.Need-read-task-requires
+read-task-requires c κs = search needs
+
+returns-2 : tie.Need-returns-2
+returns-2 c =
+    let a = c .before .before .before .before .before .before .before .before .before .before .args in
+    let o = c .before .before .before .before .before .before .before .before .read-offset in
+    let t = c .before .before .read-task in
+    λ g n w. stopped (a .bytes .now) (t .result .refusal) (t .result .place) _ _ (c .if2 .taken)
+    (task-goes g (a .bytes .now) n (a .at) (a .bodies) (a .kind .now) (a .i) (a .e) (a .until) (a .period .now) (a .entries .now) (a .offset .now) (a .task .now) w (o .result) (o .ensures .0)
+    (c .before .before .before .before .before .before .if1 .left) (t .result) (t .ensures))
+
+cast-task : tie.Need-cast-task
+cast-task c =
+    let a = c .before .before .before .before .before .before .before .before .before .before .before .args in
+    let o = c .before .before .before .before .before .before .before .before .before .read-offset in
+    let t = c .before .before .before .read-task in
+    let h = task-small (a .bytes .now) (o .result .place) (a .bodies) (a .kind .now) (a .entries .now) (a .i) (a .e) (a .until) (set (a .offset .now) (a .e) (o .result .value)) (a .task .now) (t .result) (t .ensures) (c .before .if2 .left) in
+    omega (arith, h, c .before .before .before .before .before .before .before .before .before .before .before .pre .0)
+
+element-write-task : tie.Need-element-write-task
+element-write-task c = search needs
+
+returns-3 : tie.Need-returns-3
+returns-3 c =
+    let a = c .before .before .before .before .before .before .before .before .before .before .before .args in
+    let o = c .before .before .before .before .before .before .before .before .before .read-offset in
+    let t = c .before .before .before .read-task in
+    λ g n w. arrived (a .bytes .now) (t .result .place) _
+    (task-goes g (a .bytes .now) n (a .at) (a .bodies) (a .kind .now) (a .i) (a .e) (a .until) (a .period .now) (a .entries .now) (a .offset .now) (a .task .now) w (o .result) (o .ensures .0)
+    (c .before .before .before .before .before .before .before .if1 .left) (t .result) (t .ensures) .0 (c .before .if2 .left))
+
+pub read-entry-spec : {M : Type 1} → statement M
+read-entry-spec =
+    tie.close
+    (tie.spec
+    read-offset-requires
+    returns
+    cast-offset
+    mul-offset
+    element-write-offset
+    read-task-requires
+    returns-2
+    cast-task
+    element-write-task
+    returns-3)

@@ -1,0 +1,43 @@
+-- `read_offset` meets its contract.
+-- Assumes nothing.
+use Prim.Native.Nat.{_≤_}
+use mathlib.Core.Path.{sym, subst, _∙_}
+use Rattle.number.specs.declared.NumberRead.{NumberRead}
+use Rattle.config_codec.proofs.OneNumber.{passed}
+use borrow.Author.Needs.{needs}
+use Rattle.config_codec.proofs.tables.read_offset.Statement.{statement}
+use Rattle.config_codec.proofs.tables.read_offset.Tie as tie
+
+read-number-requires : tie.Need-read-number-requires
+read-number-requires c κs = search needs
+
+mul-offset-in : tie.Need-mul-offset-in
+mul-offset-in c = search needs
+
+element-copy-out-offset-in : tie.Need-element-copy-out-offset-in
+element-copy-out-offset-in c = search needs
+
+offset-in-requires : tie.Need-offset-in-requires
+offset-in-requires c κs = search needs
+
+tested-requires : tie.Need-tested-requires
+tested-requires c κs = search needs
+
+returns : tie.Need-returns
+returns c =
+    let f = c .before .offset-in in let r = c .before .before .before .read-number in let t = c .tested in (
+      t .ensures ∙ rw (f .ensures .0, r .ensures),
+      λ h. let p = passed (c .before .before .before .before .before .args .at) (r .result) (f .result) (t .result) (t .ensures) h in
+          subst (λ (x : NumberRead). x .value ≤ 65535) (sym (p .1)) (f .ensures .1 (p .0)),
+    )
+
+pub read-offset-spec : {M : Type 1} → statement M
+read-offset-spec =
+    tie.close
+    (tie.spec
+    read-number-requires
+    mul-offset-in
+    element-copy-out-offset-in
+    offset-in-requires
+    tested-requires
+    returns)
