@@ -18,7 +18,8 @@ use Rattle.config.specs.Value.{newestVersion, maxBodies, maxResources, maxTable
 use Rattle.config.specs.Draft.{outside, faultAt, putAt, ended, start}
 use Rattle.config.specs.Reader.{accepted, refused}
 use Rattle.config_codec.specs.Reading.{ReadsOn, Goes, whole, checked}
-use Rattle.config_codec.specs.Drafts.{headAt, bodyAt, bodyOn, afterBodies, usersAt, usersOn, afterMasks, tableAt, tableOn}
+use Rattle.config_codec.specs.Drafts.{headAt, bodyAt, bodyOn, afterBodies, usersAt, usersOn, afterMasks}
+use Rattle.config_codec.specs.Drafts.{tableAt, tableOn}
 use Rattle.config_codec.proofs.ReaderWalk.{reads-start, reads-end}
 use Rattle.config_codec.proofs.OneNumber.{one}
 

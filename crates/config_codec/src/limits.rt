@@ -328,8 +328,8 @@ fn timed_after(first: bool, same: bool, was: bool, second: bool) -> u8
     unless(!second, MIXED_TABLE)
 }
 
-// The refusal of an entry with the task `v` by the kind of its table: `n` entries stand in the tables before, and `same`
-// and `was` say of the one before it whether it has the offset, and whether it is of kind 3.
+// The refusal of an entry with the task `v` by the kind of its table: `n` entries stand in the tables before, and
+// `same` and `was` say of the one before it whether it has the offset, and whether it is of kind 3.
 fn kind_fault<'a, 'b>(
     first: bool,
     same: bool,
