@@ -18,7 +18,7 @@ use Rattle.config.specs.Meaning.{lastKind}
 use Rattle.config.specs.Value.{maxPriority}
 use Rattle.config.specs.Draft.{unless, outside, andThen, occurs, startable, mostAutostart, orOn, faultAt, putAt, ended}
 use Rattle.config_codec.specs.Reading.{ReadsOn, Goes, checked}
-use Rattle.config_codec.specs.Parts.{bodyAt, bodyOn}
+use Rattle.config_codec.specs.Drafts.{bodyAt, bodyOn}
 use Rattle.config_codec.proofs.OneNumber.{one, in-order}
 use Rattle.config_codec.proofs.Within.{outside-none, andThen-first}
 
@@ -29,16 +29,21 @@ module _ (c : Config) (bs : List ℕ) (n at i : ℕ) (ks ps qs : List ℕ) (o : 
   kind-goes = one bs at (bodyAt c n Kind i ks ps qs) o refl k ek
 
   module _ (hk : k .refusal ≡ none) (p : NumberRead)
-      (ep : p ≡ checked bs (k .place) (λ (v : ℕ). andThen (outside 1 maxPriority v badField) (unless (not (occurs v (take i ps))) usedPriority))) where
-    pub priority-goes : Goes bs (p .refusal) (p .place) (bodyAt c n Autostart i (set ks i (k .value)) (set ps i (p .value)) qs)
+      (ep : p ≡ checked bs (k .place) (λ (v : ℕ). andThen (outside 1 maxPriority v badField)
+      (unless (not (occurs v (take i ps))) usedPriority))) where
+    pub priority-goes : Goes bs (p .refusal) (p .place)
+        (bodyAt c n Autostart i (set ks i (k .value)) (set ps i (p .value)) qs)
     unfolding faultAt putAt ended
     priority-goes = one bs (k .place) (bodyAt c n Priority i (set ks i (k .value)) ps qs) (kind-goes .0 hk) refl p ep
 
     module _ (hp : p .refusal ≡ none) (a : NumberRead)
-        (ea : a ≡ checked bs (p .place) (λ (v : ℕ). outside 0 (mostAutostart (getD (set ks i (k .value)) i 0)) v badField)) where
-      pub autostart-goes : Goes bs (a .refusal) (a .place) (bodyOn c n (i + 1) (set ks i (k .value)) (set ps i (p .value)) (set qs i (a .value)))
+        (ea : a ≡ checked bs (p .place) (λ (v : ℕ). outside 0
+        (mostAutostart (getD (set ks i (k .value)) i 0)) v badField)) where
+      pub autostart-goes : Goes bs (a .refusal) (a .place)
+          (bodyOn c n (i + 1) (set ks i (k .value)) (set ps i (p .value)) (set qs i (a .value)))
       unfolding faultAt putAt ended
-      autostart-goes = one bs (p .place) (bodyAt c n Autostart i (set ks i (k .value)) (set ps i (p .value)) qs) (priority-goes .0 hp) refl a ea
+      autostart-goes = one bs (p .place) (bodyAt c n Autostart i (set ks i (k .value)) (set ps i (p .value)) qs)
+          (priority-goes .0 hp) refl a ea
 
 -- an autostart is at most 1, whatever the kind
 pub most-le : (k : ℕ) → mostAutostart k ≤ 1
@@ -50,12 +55,15 @@ most-le k = at-most (startable k)
 
 -- a priority that is in order is at most 200
 pub priority-small : (bs : List ℕ) (at i : ℕ) (ps : List ℕ) (p : NumberRead)
-    → p ≡ checked bs at (λ (v : ℕ). andThen (outside 1 maxPriority v badField) (unless (not (occurs v (take i ps))) usedPriority))
+    → p ≡ checked bs at (λ (v : ℕ). andThen (outside 1 maxPriority v badField)
+    (unless (not (occurs v (take i ps))) usedPriority))
     → p .refusal ≡ none → p .value ≤ maxPriority
 priority-small bs at i ps p e h =
     outside-none 1 maxPriority (p .value) badField (lit< tt)
-    (andThen-first (outside 1 maxPriority (p .value) badField) (unless (not (occurs (p .value) (take i ps))) usedPriority)
-    (in-order bs at (λ (v : ℕ). andThen (outside 1 maxPriority v badField) (unless (not (occurs v (take i ps))) usedPriority)) p e h)) .1
+    (andThen-first (outside 1 maxPriority (p .value) badField)
+    (unless (not (occurs (p .value) (take i ps))) usedPriority)
+    (in-order bs at (λ (v : ℕ). andThen (outside 1 maxPriority v badField)
+    (unless (not (occurs v (take i ps))) usedPriority)) p e h)) .1
 
 -- before the last body there is a kind to read; after it the resource count
 module _ (c : Config) (bs : List ℕ) (n at i : ℕ) (ks ps qs : List ℕ) (o : ReadsOn bs at (bodyOn c n i ks ps qs)) where

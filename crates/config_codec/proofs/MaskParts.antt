@@ -18,12 +18,13 @@ use Rattle.config.specs.Refusal.{badField}
 use Rattle.config.specs.Meaning.{timeTriggered}
 use Rattle.config.specs.Draft.{unless, outside, andThen, occurs, timedIn, orOn, faultAt, putAt, ended}
 use Rattle.config_codec.specs.Reading.{ReadsOn, Goes, checked}
-use Rattle.config_codec.specs.Parts.{usersAt, usersOn}
+use Rattle.config_codec.specs.Drafts.{usersAt, usersOn}
 use Rattle.config_codec.proofs.OneNumber.{one}
 
 module _ (c : Config) (bs : List ℕ) (n at b : ℕ) (ks : List ℕ) (i : ℕ) (us : List ℕ) where
   pub mask-goes : ReadsOn bs at (usersAt c n b ks Users i us) → (m : NumberRead)
-      → m ≡ checked bs at (λ (v : ℕ). andThen (outside 1 (2 ^ b - 1) v badField) (unless (not (timedIn v (take b ks))) badField))
+      → m ≡ checked bs at (λ (v : ℕ). andThen (outside 1 (2 ^ b - 1) v badField)
+      (unless (not (timedIn v (take b ks))) badField))
       → Goes bs (m .refusal) (m .place) (usersOn c n b ks (i + 1) (set us i (m .value)))
   unfolding faultAt putAt ended
   mask-goes o m e = one bs at (usersAt c n b ks Users i us) o refl m e
@@ -51,8 +52,10 @@ unfolding occurs timedIn
 none-timed m [] e = refl
 none-timed m (k ∷ ks) e =
     by-eq k timeTriggered
-    (λ h. absurd (true≢false (sym (ap (λ (b : Bool). b || occurs timeTriggered ks) (eq-eqb timeTriggered k (sym h))) ∙ e)))
-    (λ h. rw (ne-eqb k timeTriggered h, and-false (eqb (m % 2) 1)) (none-timed (m / 2) ks (or-second (eqb timeTriggered k) (occurs timeTriggered ks) e)))
+    (λ h. absurd (true≢false (sym (ap (λ (b : Bool). b || occurs timeTriggered ks) (eq-eqb timeTriggered k (sym h)))
+    ∙ e)))
+    (λ h. rw (ne-eqb k timeTriggered h, and-false (eqb (m % 2) 1))
+    (none-timed (m / 2) ks (or-second (eqb timeTriggered k) (occurs timeTriggered ks) e)))
 
 -- a refusal after which nothing more is tested
 pub nothing-more : (r : ℕ) → r ≡ andThen r none

@@ -24,7 +24,8 @@ record Given (r : NumberRead) (f : ℕ) (s : NumberRead) : Type 0 where
   same : s ≡ r
 
 module _ (at : ℕ) (r : NumberRead) (f : ℕ) where
-  tested-faulty : r .refusal ≡ none → (f ≡ none → ⊥) → tested at r f ≡ record { value = r .value; refusal = f; place = at }
+  tested-faulty : r .refusal ≡ none → (f ≡ none → ⊥) → tested at r f
+      ≡ record { value = r .value; refusal = f; place = at }
   tested-faulty h k = simp (eq-eqb (r .refusal) none h, ne-eqb f none k)
 
   tested-unread : (r .refusal ≡ none → ⊥) → tested at r f ≡ r
@@ -41,17 +42,20 @@ module _ (at : ℕ) (r : NumberRead) (f : ℕ) where
       (λ k. absurd (k (sym (ap (λ (s : NumberRead). s .refusal) (tested-faulty h k)) ∙ e))))
       (λ h. absurd (h (sym (ap (λ (s : NumberRead). s .refusal) (tested-unread h)) ∙ e)))
 
-pub passed : (at : ℕ) (r : NumberRead) (f : ℕ) (s : NumberRead) → s ≡ tested at r f → s .refusal ≡ none → (f ≡ none) × (s ≡ r)
+pub passed : (at : ℕ) (r : NumberRead) (f : ℕ) (s : NumberRead) → s ≡ tested at r f → s .refusal ≡ none → (f ≡ none) ×
+    (s ≡ r)
 passed at r f s e = rw e (λ (h : tested at r f .refusal ≡ none). (given at r f h .faultless, given at r f h .same))
 
 -- its value is in order
-pub in-order : (bs : List ℕ) (at : ℕ) (f : ℕ → ℕ) (s : NumberRead) → s ≡ checked bs at f → s .refusal ≡ none → f (s .value) ≡ none
+pub in-order : (bs : List ℕ) (at : ℕ) (f : ℕ → ℕ) (s : NumberRead) → s ≡ checked bs at f → s .refusal ≡ none → f
+    (s .value) ≡ none
 in-order bs at f s e =
     rw e (λ (h : checked bs at f .refusal ≡ none).
     let g = given at (readNumber bs at) (f (readNumber bs at .value)) h in
     ap (λ (x : NumberRead). f (x .value)) (g .same) ∙ g .faultless)
 
-pub in-range : (bs : List ℕ) (at lo hi r : ℕ) → 0 < r → (s : NumberRead) → s ≡ checked bs at (λ (v : ℕ). outside lo hi v r) → s .refusal ≡ none → (lo ≤ s .value) × (s .value ≤ hi)
+pub in-range : (bs : List ℕ) (at lo hi r : ℕ) → 0 < r → (s : NumberRead) → s ≡ checked bs at
+    (λ (v : ℕ). outside lo hi v r) → s .refusal ≡ none → (lo ≤ s .value) × (s .value ≤ hi)
 in-range bs at lo hi r p s e h = outside-none lo hi (s .value) r p (in-order bs at (λ (v : ℕ). outside lo hi v r) s e h)
 
 module _ (bs : List ℕ) (at : ℕ) (d : Draft) (o : ReadsOn bs at d) (more : ended (d .field) ≡ false) where
@@ -84,7 +88,8 @@ module _ (bs : List ℕ) (at : ℕ) (d : Draft) (o : ReadsOn bs at d) (more : en
   unread h =
       let e : numberFault d r ≡ r .refusal = simp (ne-eqb (r .refusal) none h) in
       let p : faultPlace at r ≡ r .place = simp (ne-eqb (r .refusal) none h) in
-      ap told (tested-unread at r f h) ∙ ap (λ (x : ℕ). refused x (r .place)) (sym e) ∙ ap (refused (numberFault d r)) (sym p)
+      ap told (tested-unread at r f h) ∙ ap (λ (x : ℕ). refused x (r .place)) (sym e) ∙ ap (refused (numberFault d r))
+      (sym p)
       ∙ answer (λ z. h (sym e ∙ z))
 
   stops : (tested at r f .refusal ≡ none → ⊥) → told (tested at r f) ≡ whole bs

@@ -13,7 +13,8 @@ use Rattle.config.specs.declared.Field.the-variants.{Task}
 use Rattle.config.specs.Refusal.{badField, unsorted, sharedOffset}
 use Rattle.config.specs.Meaning.{isTask, isTimed}
 use Rattle.config.specs.Draft.{rises, firstEntry, sorted, someTimed, tasksBefore, faultAt}
-use Rattle.config_codec.specs.Parts.{kindsOf, kindFault, taskAt}
+use Rattle.config_codec.specs.Drafts.{taskAt}
+use Rattle.config_codec.specs.TableKind.{kindsOf, kindFault}
 
 -- neither is of kind 3
 pub calm : (f s : Bool) → none ≡ kindFault f s false false false
@@ -33,12 +34,14 @@ some-same c (b ∷ bs) = rw (some-same c bs)
 
 -- a draft's task is tested by what `taskAt` has of it
 pub task-same : (d : Draft) (v : ℕ)
-    → faultAt Task (taskAt (d .config .bodies) (d .config .kind) (d .config .entries) (d .index) (d .entry) (d .until) (d .config .offset) (d .config .task)) v
+    → faultAt Task (taskAt (d .config .bodies) (d .config .kind) (d .config .entries) (d .index) (d .entry) (d .until)
+    (d .config .offset) (d .config .task)) v
     ≡ faultAt Task d v
 unfolding faultAt
 task-same d v =
     rw (
-      ← some-same (taskAt (d .config .bodies) (d .config .kind) (d .config .entries) (d .index) (d .entry) (d .until) (d .config .offset) (d .config .task) .config)
+      ← some-same (taskAt (d .config .bodies) (d .config .kind) (d .config .entries) (d .index) (d .entry) (d .until)
+          (d .config .offset) (d .config .task) .config)
           (tasksBefore d),
       some-same (d .config) (tasksBefore d),
     )
@@ -57,9 +60,11 @@ module _ (b : ℕ) (ks es : List ℕ) (i e u : ℕ) (os ts : List ℕ) (v : ℕ)
   unfolding faultAt
   task-unsorted t f hf p hp = rw (hf, hp) (λ (s : sorted d v ≡ false). rw (t, s))
 
-  pub task-kind : isTask (d .config) v ≡ true → (f : Bool) → f ≡ firstEntry d → (p : ℕ) → p ≡ e - 1 → (n : ℕ) → n ≡ u - getD es i 0
+  pub task-kind : isTask (d .config) v ≡ true → (f : Bool) → f ≡ firstEntry d → (p : ℕ) → p ≡ e - 1 → (n : ℕ) → n
+      ≡ u - getD es i 0
       → f || rises (getD os p 0) (getD ts p 0) (getD os e 0) v ≡ true
-      → kindFault f (eqb (getD os p 0) (getD os e 0)) (isTimed (d .config) (getD ts p 0)) (isTimed (d .config) v) (someTimed (kindsOf b ks) (take n ts)) ≡ faultAt Task d v
+      → kindFault f (eqb (getD os p 0) (getD os e 0)) (isTimed (d .config) (getD ts p 0)) (isTimed (d .config) v)
+      (someTimed (kindsOf b ks) (take n ts)) ≡ faultAt Task d v
   unfolding faultAt
   task-kind t f hf p hp n hn =
       rw (hf, hp, hn) (λ (s : sorted d v ≡ true). rw (t, s, some-same (d .config) (tasksBefore d)))

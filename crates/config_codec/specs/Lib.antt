@@ -1,3 +1,5 @@
--- What the contracts of the reader's private functions cite beside the definitions of `config`. Assumes nothing.
+-- What the contracts of the private functions cite beside the definitions of `config`. Assumes nothing.
 pub mod Reading
+pub mod Drafts
+pub mod TableKind
 pub mod Parts

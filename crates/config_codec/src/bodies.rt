@@ -21,7 +21,9 @@ ghost use Rattle.config_codec.specs.Parts.{BodyRead, BodiesRead};
 // A body's priority, where the bodies before are the first `n`.
 fn read_priority<'a, 'b>(bytes: &'a [u8], at: usize, n: usize, priority: &'b [u8; 32]) -> NumberRead
     requires { ⌜ n ≤ 32 ⌝ }
-    ensures { λ s. ⌜ s ≡ checked (now (bytes .entry)) at (λ (v : ℕ). andThen (outside 1 maxPriority v badField) (unless (not (occurs v (take n (now (priority .entry))))) usedPriority)) ⌝ }
+    ensures { λ s. ⌜ s ≡ checked (now (bytes .entry)) at
+        (λ (v : ℕ). andThen (outside 1 maxPriority v badField)
+        (unless (not (occurs v (take n (now (priority .entry))))) usedPriority)) ⌝ }
 {
     let r = read_number(bytes, at);
     tested(at, r, priority_in(r.value, n, *priority))
@@ -37,7 +39,8 @@ fn read_body<'a, 'b, 'c, 'd>(
     autostart: &'d mut [u8; 32],
 ) -> Part
     requires { ⌜ i < 32 ⌝ }
-    ensures { λ r. ⌜ BodyRead (now (bytes .entry)) at i (now (kind .entry)) (now (priority .entry)) (now (autostart .entry))
+    ensures { λ r. ⌜ BodyRead (now (bytes .entry)) at i (now (kind .entry)) (now (priority .entry))
+        (now (autostart .entry))
         (r .refusal) (r .place) (now (kind .exit)) (now (priority .exit)) (now (autostart .exit)) ⌝ }
 {
     let k = read_within(bytes, at, 0, LAST_KIND, BAD_FIELD);
@@ -80,7 +83,8 @@ pub fn read_bodies<'a, 'b, 'c, 'd>(
     autostart: &'d mut [u8; 32],
 ) -> Part
     requires { ⌜ n ≤ 32 ⌝ }
-    ensures { λ r. ⌜ BodiesRead (now (bytes .entry)) from n (now (kind .entry)) (now (priority .entry)) (now (autostart .entry))
+    ensures { λ r. ⌜ BodiesRead (now (bytes .entry)) from n (now (kind .entry)) (now (priority .entry))
+        (now (autostart .entry))
         (r .refusal) (r .place) (now (kind .exit)) (now (priority .exit)) (now (autostart .exit)) ⌝ }
 {
     let mut at = from;

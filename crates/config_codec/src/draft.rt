@@ -1,4 +1,4 @@
-// A draft's numbers one by one: what the next one may be, where it goes and which one follows. The writer walks by drafts.
+// A draft's numbers one by one: what the next one may be, where it goes and which one follows. The writer goes by it.
 use crate::limits::BAD_COUNT;
 use crate::limits::BAD_FIELD;
 use crate::limits::BAD_VERSION;

@@ -1,4 +1,4 @@
-// What each number of a configuration may be: its refusal, 0 where it is in order, from numbers and from arrays of numbers before it.
+// What each number of a configuration may be: its refusal, 0 where it is in order, from the numbers before it.
 ghost use mathlib.Core.Path.{_≡_};
 ghost use mathlib.Core.Bool.{true, false, not, _&&_, _||_};
 ghost use Prim.Native.Nat.{_+_, _-_, _%_, _^_, _<_, _≤_};
@@ -9,8 +9,10 @@ ghost use Rattle.config.specs.declared.Field.the-variants.{Task};
 ghost use Rattle.config.specs.Refusal.{badCount, badField, usedPriority, tooManyEntries};
 ghost use Rattle.config.specs.Meaning.{isr, timeTriggered};
 ghost use Rattle.config.specs.Value.{maxPriority, maxEntries};
-ghost use Rattle.config.specs.Draft.{unless, outside, andThen, occurs, mostAutostart, timedIn, rises, someTimed, faultAt};
-ghost use Rattle.config_codec.specs.Parts.{kindsOf, kindFault, taskAt};
+ghost use Rattle.config.specs.Draft.{unless, outside, andThen, occurs, mostAutostart, timedIn};
+ghost use Rattle.config.specs.Draft.{rises, someTimed, faultAt};
+ghost use Rattle.config_codec.specs.Drafts.{taskAt};
+ghost use Rattle.config_codec.specs.TableKind.{kindsOf, kindFault};
 
 // The version is neither 1 nor 2.
 pub const BAD_VERSION: u8 = 3;
@@ -93,7 +95,8 @@ fn used(v: u32, n: usize, priority: [u8; 32]) -> bool
 // The refusal of a priority, which none of the `n` bodies before has.
 pub fn priority_in(v: u32, n: usize, priority: [u8; 32]) -> u8
     requires { ⌜ n ≤ 32 ⌝ }
-    ensures { λ r. ⌜ r ≡ andThen (outside 1 maxPriority v badField) (unless (not (occurs v (take n priority))) usedPriority) ⌝ }
+    ensures { λ r. ⌜ r ≡ andThen (outside 1 maxPriority v badField)
+        (unless (not (occurs v (take n priority))) usedPriority) ⌝ }
 {
     let again = used(v, n, priority);
     and_then(outside(1, 200, v, BAD_FIELD), unless(!again, USED_PRIORITY))
@@ -160,7 +163,8 @@ pub fn timed_body(n: usize, kind: [u8; 32]) -> bool
 // The refusal of a mask of users; `timed`: whether a body is of kind 3.
 pub fn users_in(v: u32, bodies: u8, timed: bool, kind: [u8; 32]) -> u8
     requires { ⌜ (bodies ≤ 32) × (timed ≡ occurs timeTriggered (take bodies kind)) ⌝ }
-    ensures { λ r. ⌜ r ≡ andThen (outside 1 (2 ^ bodies - 1) v badField) (unless (not (timedIn v (take bodies kind))) badField) ⌝ }
+    ensures { λ r. ⌜ r ≡ andThen (outside 1 (2 ^ bodies - 1) v badField)
+        (unless (not (timedIn v (take bodies kind))) badField) ⌝ }
 {
     let range = outside(1, all_bodies(bodies), v, BAD_FIELD);
     if !timed {
@@ -324,8 +328,8 @@ fn timed_after(first: bool, same: bool, was: bool, second: bool) -> u8
     unless(!second, MIXED_TABLE)
 }
 
-// The refusal of an entry with the task `v` by the kind of its table: `n` entries stand in the tables before, and `same` and `was`
-// say of the one before it whether it has the offset, and whether it is of kind 3.
+// The refusal of an entry with the task `v` by the kind of its table: `n` entries stand in the tables before, and
+// `same` and `was` say of the one before it whether it has the offset, and whether it is of kind 3.
 fn kind_fault<'a, 'b>(
     first: bool,
     same: bool,
@@ -337,7 +341,8 @@ fn kind_fault<'a, 'b>(
     task: &'b [u8; 64],
 ) -> u8
     requires { ⌜ (bodies ≤ 32) × (n ≤ 64) ⌝ }
-    ensures { λ r. ⌜ r ≡ kindFault first same was (ltb v bodies && eqb (getD (now (kind .entry)) v 0) timeTriggered) (someTimed (kindsOf bodies (now (kind .entry))) (take n (now (task .entry)))) ⌝ }
+    ensures { λ r. ⌜ r ≡ kindFault first same was (ltb v bodies && eqb (getD (now (kind .entry)) v 0) timeTriggered)
+        (someTimed (kindsOf bodies (now (kind .entry))) (take n (now (task .entry)))) ⌝ }
 {
     if !is_timed(bodies, kind, v) {
         return after_timed(first, same, was);
@@ -359,7 +364,8 @@ fn table_fault<'a, 'b, 'c>(
 ) -> u8
     requires { ⌜ (bodies ≤ 32) × ((n ≤ 64) × ((b < 64) × (e < 64))) ⌝ }
     ensures { λ r. ⌜ r ≡ kindFault first (eqb (getD (now (offset .entry)) b 0) (getD (now (offset .entry)) e 0))
-        (ltb (getD (now (task .entry)) b 0) bodies && eqb (getD (now (kind .entry)) (getD (now (task .entry)) b 0) 0) timeTriggered)
+        (ltb (getD (now (task .entry)) b 0) bodies && eqb
+        (getD (now (kind .entry)) (getD (now (task .entry)) b 0) 0) timeTriggered)
         (ltb v bodies && eqb (getD (now (kind .entry)) v 0) timeTriggered)
         (someTimed (kindsOf bodies (now (kind .entry))) (take n (now (task .entry)))) ⌝ }
 {
@@ -381,7 +387,8 @@ pub fn task_in<'a, 'b, 'c, 'd>(
     task: &'d [u8; 64],
 ) -> u8
     requires { ⌜ (bodies ≤ 32) × ((i < 8) × ((e < 64) × (until ≤ 64))) ⌝ }
-    ensures { λ r. ⌜ r ≡ faultAt Task (taskAt bodies (now (kind .entry)) (now (entries .entry)) i e until (now (offset .entry)) (now (task .entry))) v ⌝ }
+    ensures { λ r. ⌜ r ≡ faultAt Task (taskAt bodies (now (kind .entry)) (now (entries .entry)) i e until
+        (now (offset .entry)) (now (task .entry))) v ⌝ }
 {
     if !is_task(bodies, kind, v) {
         return BAD_FIELD;

@@ -22,7 +22,8 @@ fn read_mask<'a, 'b, 'c>(
     users: &'c mut [u32; 16],
 ) -> Part
     requires { ⌜ (i < 16) × ((bodies ≤ 32) × (timed ≡ occurs timeTriggered (take bodies (now kind)))) ⌝ }
-    ensures { λ r. ⌜ MaskRead (now (bytes .entry)) at i bodies (now (kind .entry)) (now (users .entry)) (r .refusal) (r .place) (now (users .exit)) ⌝ }
+    ensures { λ r. ⌜ MaskRead (now (bytes .entry)) at i bodies (now (kind .entry)) (now (users .entry)) (r .refusal)
+        (r .place) (now (users .exit)) ⌝ }
 {
     let r = read_number(bytes, at);
     let m = tested(at, r, users_in(r.value, bodies, timed, *kind));
@@ -49,7 +50,8 @@ pub fn read_masks<'a, 'b, 'c>(
     users: &'c mut [u32; 16],
 ) -> Part
     requires { ⌜ (n ≤ 16) × (bodies ≤ 32) ⌝ }
-    ensures { λ r. ⌜ MasksRead (now (bytes .entry)) from n bodies (now (kind .entry)) (now (users .entry)) (r .refusal) (r .place) (now (users .exit)) ⌝ }
+    ensures { λ r. ⌜ MasksRead (now (bytes .entry)) from n bodies (now (kind .entry)) (now (users .entry))
+        (r .refusal) (r .place) (now (users .exit)) ⌝ }
 {
     let timed = timed_body(bodies as usize, *kind);
     let mut at = from;

@@ -1,4 +1,4 @@
-// The configuration reader: version and bodies, then resources, then tables, number after number, each part in variables of its own.
+// The configuration reader: version, bodies, resources, tables, number after number, each part into arrays of its own.
 use crate::bodies::read_bodies;
 use crate::draft::no_config;
 use crate::limits::BAD_COUNT;

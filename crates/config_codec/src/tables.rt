@@ -18,7 +18,8 @@ ghost use Rattle.config.specs.Value.{maxEntries};
 ghost use Rattle.config.specs.Refusal.{badField, badCount, tooManyEntries};
 ghost use Rattle.config.specs.Draft.{outside, unless, andThen, faultAt};
 ghost use Rattle.config_codec.specs.Reading.{checked};
-ghost use Rattle.config_codec.specs.Parts.{taskAt, EntryRead, EntriesRead, TableRead, TablesRead};
+ghost use Rattle.config_codec.specs.Drafts.{taskAt};
+ghost use Rattle.config_codec.specs.Parts.{EntryRead, EntriesRead, TableRead, TablesRead};
 
 // What a table comes to: a refusal and its place, or 0, the place after the table and the entry after its last.
 pub struct TablePart {
@@ -30,7 +31,8 @@ pub struct TablePart {
 // An entry's offset in table `i`.
 fn read_offset<'a, 'b>(bytes: &'a [u8], at: usize, i: usize, period: &'b [u16; 8]) -> NumberRead
     requires { ⌜ i < 8 ⌝ }
-    ensures number { λ s. ⌜ s ≡ checked (now (bytes .entry)) at (λ (v : ℕ). unless (ltb v (getD (now (period .entry)) i 0)) badField) ⌝ }
+    ensures number { λ s. ⌜ s ≡ checked (now (bytes .entry)) at
+        (λ (v : ℕ). unless (ltb v (getD (now (period .entry)) i 0)) badField) ⌝ }
     ensures small { λ s. ⌜ (s .refusal ≡ none → s .value ≤ 65535) ⌝ }
 {
     let r = read_number(bytes, at);
@@ -51,7 +53,9 @@ fn read_task<'a, 'b, 'c, 'd, 'e>(
     task: &'e [u8; 64],
 ) -> NumberRead
     requires { ⌜ (bodies ≤ 32) × ((i < 8) × ((e < 64) × (until ≤ 64))) ⌝ }
-    ensures { λ s. ⌜ s ≡ checked (now (bytes .entry)) at (faultAt Task (taskAt bodies (now (kind .entry)) (now (entries .entry)) i e until (now (offset .entry)) (now (task .entry)))) ⌝ }
+    ensures { λ s. ⌜ s ≡ checked (now (bytes .entry)) at
+        (faultAt Task (taskAt bodies (now (kind .entry)) (now (entries .entry)) i e until (now (offset .entry))
+        (now (task .entry)))) ⌝ }
 {
     let r = read_number(bytes, at);
     tested(
@@ -76,7 +80,8 @@ fn read_entry<'a, 'b, 'c, 'd, 'e, 'f>(
     task: &'f mut [u8; 64],
 ) -> Part
     requires { ⌜ (bodies ≤ 32) × ((i < 8) × ((e < 64) × (until ≤ 64))) ⌝ }
-    ensures { λ r. ⌜ EntryRead (now (bytes .entry)) at bodies (now (kind .entry)) i e until (now (period .entry)) (now (entries .entry)) (now (offset .entry)) (now (task .entry))
+    ensures { λ r. ⌜ EntryRead (now (bytes .entry)) at bodies (now (kind .entry)) i e until (now (period .entry))
+        (now (entries .entry)) (now (offset .entry)) (now (task .entry))
         (r .refusal) (r .place) (now (offset .exit)) (now (task .exit)) ⌝ }
 {
     let o = read_offset(bytes, at, i, period);
@@ -127,7 +132,8 @@ fn read_entries<'a, 'b, 'c, 'd, 'e, 'f>(
     task: &'f mut [u8; 64],
 ) -> Part
     requires { ⌜ (bodies ≤ 32) × ((i < 8) × ((first < until) × (until ≤ 64))) ⌝ }
-    ensures { λ r. ⌜ EntriesRead (now (bytes .entry)) from bodies (now (kind .entry)) i first until (now (period .entry)) (now (entries .entry)) (now (offset .entry)) (now (task .entry))
+    ensures { λ r. ⌜ EntriesRead (now (bytes .entry)) from bodies (now (kind .entry)) i first until
+        (now (period .entry)) (now (entries .entry)) (now (offset .entry)) (now (task .entry))
         (r .refusal) (r .place) (now (offset .exit)) (now (task .exit)) ⌝ }
 {
     let mut at = from;
@@ -161,7 +167,8 @@ fn read_entries<'a, 'b, 'c, 'd, 'e, 'f>(
 // A table's number of entries, where the tables before have `n`.
 fn read_count(bytes: &[u8], at: usize, n: usize) -> NumberRead
     requires { ⌜ n ≤ 64 ⌝ }
-    ensures { λ s. ⌜ s ≡ checked (now (bytes .entry)) at (λ (v : ℕ). andThen (outside 1 16 v badCount) (unless (leb (n + v) maxEntries) tooManyEntries)) ⌝ }
+    ensures { λ s. ⌜ s ≡ checked (now (bytes .entry)) at
+        (λ (v : ℕ). andThen (outside 1 16 v badCount) (unless (leb (n + v) maxEntries) tooManyEntries)) ⌝ }
 {
     let r = read_number(bytes, at);
     tested(at, r, entries_in(r.value, n))
@@ -181,8 +188,10 @@ fn read_table<'a, 'b, 'c, 'd, 'e, 'f>(
     task: &'f mut [u8; 64],
 ) -> TablePart
     requires { ⌜ (bodies ≤ 32) × ((i < 8) × (e ≤ 64)) ⌝ }
-    ensures part { λ r. ⌜ TableRead (now (bytes .entry)) at bodies (now (kind .entry)) i e (now (period .entry)) (now (entries .entry)) (now (offset .entry)) (now (task .entry))
-        (r .refusal) (r .place) (r .until) (now (period .exit)) (now (entries .exit)) (now (offset .exit)) (now (task .exit)) ⌝ }
+    ensures part { λ r. ⌜ TableRead (now (bytes .entry)) at bodies (now (kind .entry)) i e (now (period .entry))
+        (now (entries .entry)) (now (offset .entry)) (now (task .entry))
+        (r .refusal) (r .place) (r .until) (now (period .exit)) (now (entries .exit)) (now (offset .exit))
+        (now (task .exit)) ⌝ }
     ensures until { λ r. ⌜ r .until ≤ 64 ⌝ }
 {
     let p = read_within(bytes, at, 1, 65_535, BAD_FIELD);
@@ -237,8 +246,10 @@ pub fn read_tables<'a, 'b, 'c, 'd, 'e, 'f>(
     task: &'f mut [u8; 64],
 ) -> TablePart
     requires { ⌜ (n ≤ 8) × (bodies ≤ 32) ⌝ }
-    ensures { λ r. ⌜ TablesRead (now (bytes .entry)) from n bodies (now (kind .entry)) (now (period .entry)) (now (entries .entry)) (now (offset .entry)) (now (task .entry))
-        (r .refusal) (r .place) (r .until) (now (period .exit)) (now (entries .exit)) (now (offset .exit)) (now (task .exit)) ⌝ }
+    ensures { λ r. ⌜ TablesRead (now (bytes .entry)) from n bodies (now (kind .entry)) (now (period .entry))
+        (now (entries .entry)) (now (offset .entry)) (now (task .entry))
+        (r .refusal) (r .place) (r .until) (now (period .exit)) (now (entries .exit)) (now (offset .exit))
+        (now (task .exit)) ⌝ }
 {
     let mut at = from;
     let mut e = 0;

@@ -1,4 +1,4 @@
--- `entries_fault` meets its contract.
+-- `entries_fault` meets its contract, by that of its callee.
 -- Assumes nothing.
 use Rattle.config.specs.Draft.{faultAt}
 use borrow.Author.Needs.{needs}

@@ -1,4 +1,4 @@
--- `offset_fault` meets its contract.
+-- `offset_fault` meets its contract, by that of its callee.
 -- Assumes nothing.
 use Rattle.config.specs.Draft.{faultAt}
 use borrow.Author.Needs.{needs}

@@ -1,4 +1,4 @@
--- `priority_fault` meets its contract.
+-- `priority_fault` meets its contract, by that of its callee.
 -- Assumes nothing.
 use Rattle.config.specs.Draft.{faultAt}
 use borrow.Author.Needs.{needs}

@@ -1,4 +1,4 @@
--- `task_fault` meets its contract.
+-- `task_fault` meets its contract: the test of a task looks at no other field.
 -- Assumes nothing.
 use mathlib.Core.Path.{_∙_}
 use Rattle.config_codec.proofs.TableKinds.{task-same}
@@ -11,7 +11,8 @@ task-in-requires c κs = search needs
 
 returns : tie.Need-returns
 returns c =
-    let a = c .before .before .before .before .before .before .before .before .before .before .args in c .task-in .ensures ∙ task-same (a .d) (a .v)
+    let c₁₀ = c .before .before .before .before .before .before .before .before .before .before in
+    let a = c₁₀ .args in c .task-in .ensures ∙ task-same (a .d) (a .v)
 
 pub task-fault-spec : {M : Type 1} → statement M
 task-fault-spec = tie.close (tie.spec task-in-requires returns)

@@ -1,4 +1,4 @@
--- `after_timed` meets its contract.
+-- `after_timed` meets its contract, by its tests.
 -- Assumes nothing.
 use mathlib.Core.Bool.{false}
 use borrow.Author.Tests.{not-true, not-false}

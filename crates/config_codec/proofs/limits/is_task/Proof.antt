@@ -1,4 +1,4 @@
--- `is_task` meets its contract.
+-- `is_task` meets its contract, by its test.
 -- Assumes nothing.
 use borrow.Author.Tests.{lt-ltb, le-ltb}
 use borrow.Author.Needs.{needs}

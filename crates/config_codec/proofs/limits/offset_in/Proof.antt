@@ -1,4 +1,4 @@
--- `offset_in` meets its contract.
+-- `offset_in` meets its contract: an offset that is in order is less than a period.
 -- Assumes nothing.
 use mathlib.Core.Path.{sym, _∙_}
 use native.Mathlib.Omega.{arith}
@@ -17,7 +17,8 @@ returns : tie.Need-returns
 returns c =
     let s = c .before in let a = s .args in (
       c .unless .ensures,
-      λ h. let l = ltb-true (a .v) (a .period) (unless-none (ltb (a .v) (a .period)) badField (lit< tt) (sym (c .unless .ensures) ∙ h)) in omega (arith, s .fits .period),
+      λ h. let l = ltb-true (a .v) (a .period) (unless-none (ltb (a .v) (a .period)) badField (lit< tt)
+          (sym (c .unless .ensures) ∙ h)) in omega (arith, s .fits .period),
     )
 
 pub offset-in-spec : {M : Type 1} → statement M

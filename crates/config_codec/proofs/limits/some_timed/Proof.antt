@@ -1,18 +1,19 @@
--- `some_timed` meets its contract.
+-- `some_timed` meets its contract: what is left to search says whether one is of kind 3.
 -- Assumes nothing.
 use Prim.Native.Nat.{_-_, _≤_}
 use mathlib.Core.Path.{_≡_, refl, sym, _∙_}
 use native.Mathlib.Omega.{arith}
 use lib.ListN.{length, take, drop}
 use Rattle.config.specs.Draft.{someTimed}
-use Rattle.config_codec.specs.Parts.{kindsOf}
+use Rattle.config_codec.specs.TableKind.{kindsOf}
 use Rattle.config_codec.proofs.Timed.{some-here, some-next, some-done}
 use borrow.Author.Needs.{needs}
 use Rattle.config_codec.proofs.limits.some_timed.Statement.{statement}
 use Rattle.config_codec.proofs.limits.some_timed.Tie as tie
 
 abbrev Inv-loop : tie.InvT-loop
-Inv-loop bodies n kind task i₀ i = someTimed (kindsOf bodies kind) (drop i (take n task)) ≡ someTimed (kindsOf bodies kind) (take n task)
+Inv-loop bodies n kind task i₀ i = someTimed (kindsOf bodies kind) (drop i (take n task)) ≡ someTimed
+    (kindsOf bodies kind) (take n task)
 
 abbrev μ-loop : tie.MeasureT-loop
 μ-loop bodies n kind task i₀ i = n - i
@@ -31,8 +32,10 @@ entry-timed-requires c κs = search needs
 
 returns : tie.Need-returns Inv-loop μ-loop
 returns c =
-    let s = c .before .before .before .before .before in let a = s .args in let g = kindsOf (a .bodies) (a .t2) in
-    some-here g (a .n) (a .t4) (long s) (c .before .before .before .before .loop .i) (c .before .before .before .loop-test .taken) (sym (c .before .entry-timed .ensures) ∙ c .if1 .taken) ∙ c .before .before .before .before .loop .inv
+    let c₃ = c .before .before .before in let c₄ = c₃ .before in let c₅ = c₄ .before in
+    let s = c₅ in let a = s .args in let g = kindsOf (a .bodies) (a .t2) in
+    some-here g (a .n) (a .t4) (long s) (c₄ .loop .i) (c₃ .loop-test .taken)
+    (sym (c .before .entry-timed .ensures) ∙ c .if1 .taken) ∙ c₄ .loop .inv
 
 add-i : tie.Need-add-i Inv-loop μ-loop
 add-i c = omega arith
@@ -42,8 +45,10 @@ loop-less c = omega arith
 
 loop-again : tie.Need-loop-again Inv-loop μ-loop
 loop-again c =
-    let s = c .before .before .before .before .before in let a = s .args in let g = kindsOf (a .bodies) (a .t2) in
-    sym (some-next g (a .n) (a .t4) (long s) (c .before .before .before .before .loop .i) (c .before .before .before .loop-test .taken) (sym (c .before .entry-timed .ensures) ∙ c .if1 .left)) ∙ c .before .before .before .before .loop .inv
+    let c₃ = c .before .before .before in let c₄ = c₃ .before in let c₅ = c₄ .before in
+    let s = c₅ in let a = s .args in let g = kindsOf (a .bodies) (a .t2) in
+    sym (some-next g (a .n) (a .t4) (long s) (c₄ .loop .i) (c₃ .loop-test .taken)
+    (sym (c .before .entry-timed .ensures) ∙ c .if1 .left)) ∙ c₄ .loop .inv
 
 returns-2 : tie.Need-returns-2 Inv-loop μ-loop
 returns-2 c =

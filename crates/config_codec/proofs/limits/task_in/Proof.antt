@@ -1,4 +1,4 @@
--- `task_in` meets its contract.
+-- `task_in` meets its contract: each test where those before it hold.
 -- Assumes nothing.
 use mathlib.Core.Path.{sym, _∙_}
 use borrow.Author.Tests.{not-true, not-false}
@@ -12,8 +12,10 @@ is-task-requires c κs = search needs
 
 returns : tie.Need-returns
 returns c =
-    let a = c .before .before .args in
-    task-none (a .bodies) (a .kind .now) (a .entries .now) (a .i) (a .e) (a .until) (a .offset .now) (a .task .now) (a .v) (sym (c .before .is-task .ensures) ∙ not-true (c .before .is-task .result) (c .if1 .taken))
+    let c₂ = c .before .before in
+    let a = c₂ .args in
+    task-none (a .bodies) (a .kind .now) (a .entries .now) (a .i) (a .e) (a .until) (a .offset .now) (a .task .now)
+    (a .v) (sym (c .before .is-task .ensures) ∙ not-true (c .before .is-task .result) (c .if1 .taken))
 
 element-copy-out-first-entry : tie.Need-element-copy-out-first-entry
 element-copy-out-first-entry c = search needs
@@ -44,9 +46,12 @@ sorted-requires c κs = search needs
 
 returns-2 : tie.Need-returns-2
 returns-2 c =
-    let a = c .before .before .before .before .before .before .before .before .before .before .args in
-    task-unsorted (a .bodies) (a .kind .now) (a .entries .now) (a .i) (a .e) (a .until) (a .offset .now) (a .task .now) (a .v) (sym (c .before .before .before .before .before .before .before .before .before .is-task .ensures) ∙ not-false (c .before .before .before .before .before .before .before .before .before .is-task .result) (c .before .before .before .before .before .before .before .before .if1 .left))
-    (c .before .before .before .before .before .before .first-entry .result) (c .before .before .before .before .before .before .first-entry .ensures) (c .before .before .before .before .before .before2 .result) (c .before .before .before .before .before .before2 .ensures)
+    let c₅ = c .before .before .before .before .before in let c₆ = c₅ .before in let c₈ = c₆ .before .before in
+    let c₉ = c₈ .before in let c₁₀ = c₉ .before in
+    let a = c₁₀ .args in
+    task-unsorted (a .bodies) (a .kind .now) (a .entries .now) (a .i) (a .e) (a .until) (a .offset .now)
+    (a .task .now) (a .v) (sym (c₉ .is-task .ensures) ∙ not-false (c₉ .is-task .result) (c₈ .if1 .left))
+    (c₆ .first-entry .result) (c₆ .first-entry .ensures) (c₅ .before2 .result) (c₅ .before2 .ensures)
     (sym (c .before .sorted .ensures) ∙ not-true (c .before .sorted .result) (c .if2 .taken))
 
 element-copy-out-entries-before : tie.Need-element-copy-out-entries-before
@@ -60,12 +65,15 @@ table-fault-requires c κs = search needs
 
 returns-3 : tie.Need-returns-3
 returns-3 c =
-    let a = c .before .before .before .before .before .before .before .before .before .before .before .before .before .args in
+    let c₃ = c .before .before .before in let c₄ = c₃ .before in let c₈ = c₄ .before .before .before .before in
+    let c₉ = c₈ .before in let c₁₁ = c₉ .before .before in let c₁₂ = c₁₁ .before in let c₁₃ = c₁₂ .before in
+    let a = c₁₃ .args in
     c .table-fault .ensures
-    ∙ task-kind (a .bodies) (a .kind .now) (a .entries .now) (a .i) (a .e) (a .until) (a .offset .now) (a .task .now) (a .v) (sym (c .before .before .before .before .before .before .before .before .before .before .before .before .is-task .ensures) ∙ not-false (c .before .before .before .before .before .before .before .before .before .before .before .before .is-task .result) (c .before .before .before .before .before .before .before .before .before .before .before .if1 .left))
-    (c .before .before .before .before .before .before .before .before .before .first-entry .result) (c .before .before .before .before .before .before .before .before .before .first-entry .ensures) (c .before .before .before .before .before .before .before .before .before2 .result) (c .before .before .before .before .before .before .before .before .before2 .ensures)
+    ∙ task-kind (a .bodies) (a .kind .now) (a .entries .now) (a .i) (a .e) (a .until) (a .offset .now) (a .task .now)
+    (a .v) (sym (c₁₂ .is-task .ensures) ∙ not-false (c₁₂ .is-task .result) (c₁₁ .if1 .left))
+    (c₉ .first-entry .result) (c₉ .first-entry .ensures) (c₈ .before2 .result) (c₈ .before2 .ensures)
     (c .before .entries-before .result) (c .before .entries-before .ensures)
-    (sym (c .before .before .before .before .sorted .ensures) ∙ not-false (c .before .before .before .before .sorted .result) (c .before .before .before .if2 .left))
+    (sym (c₄ .sorted .ensures) ∙ not-false (c₄ .sorted .result) (c₃ .if2 .left))
 
 pub task-in-spec : {M : Type 1} → statement M
 task-in-spec =

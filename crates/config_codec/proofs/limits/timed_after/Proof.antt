@@ -1,4 +1,4 @@
--- `timed_after` meets its contract.
+-- `timed_after` meets its contract, by its tests.
 -- Assumes nothing.
 use borrow.Author.Tests.{not-true, not-false}
 use Rattle.config_codec.proofs.TableKinds.{shared}
@@ -28,8 +28,9 @@ unless-requires-2 c κs = search needs
 
 returns-4 : tie.Need-returns-4
 returns-4 c =
-    let a = c .before .before .before .before .args in
-    rw (c .before .before .before .if1 .left, c .before .before .if2 .left, not-false (a .was) (c .before .if3 .left)) (c .unless2 .ensures)
+    let c₂ = c .before .before in let c₃ = c₂ .before in let c₄ = c₃ .before in
+    let a = c₄ .args in
+    rw (c₃ .if1 .left, c₂ .if2 .left, not-false (a .was) (c .before .if3 .left)) (c .unless2 .ensures)
 
 pub timed-after-spec : {M : Type 1} → statement M
 timed-after-spec =

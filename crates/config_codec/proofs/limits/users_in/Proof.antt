@@ -20,7 +20,13 @@ outside-requires c κs = search needs
 returns : tie.Need-returns
 returns c =
     let c₁ = c .before in let a = c₁ .before .before .args in
-    rw (none-timed (a .v) (take (a .bodies) (a .kind)) (sym (c₁ .before .before .pre .1) ∙ not-true (a .timed) (c .if1 .taken)), c₁ .outside .ensures, c₁ .before .all-bodies .ensures)
+    rw (
+      none-timed (a .v) (take (a .bodies) (a .kind))
+          (sym (c₁ .before .before .pre .1) ∙ not-true (a .timed) (c .if1 .taken)),
+      c₁ .outside .ensures,
+      c₁ .before
+          .all-bodies .ensures,
+    )
     (nothing-more (outside 1 (2 ^ a .bodies - 1) (a .v) badField))
 
 timed-in-requires : tie.Need-timed-in-requires
@@ -35,7 +41,14 @@ and-then-requires c κs = search needs
 returns-2 : tie.Need-returns-2
 returns-2 c =
     let c₁ = c .before in let c₂ = c₁ .before in let c₃ = c₂ .before .before in
-    rw (c .and-then .ensures, c₁ .unless .ensures, c₂ .timed-in .ensures, c₃ .outside .ensures, c₃ .before .all-bodies .ensures)
+    rw (
+      c .and-then .ensures,
+      c₁ .unless .ensures,
+      c₂ .timed-in .ensures,
+      c₃ .outside .ensures,
+      c₃ .before .all-bodies
+          .ensures,
+    )
 
 pub users-in-spec : {M : Type 1} → statement M
 users-in-spec =

@@ -1,4 +1,4 @@
--- `finished` meets its contract.
+-- `finished` meets its contract, by its test.
 -- Assumes nothing.
 use borrow.Author.Tests.{eq-eqb, ne-eqb}
 use lib.ListN.{length}
@@ -11,7 +11,8 @@ refused-requires c κs = search needs
 
 returns : tie.Need-returns
 returns c =
-    let a = c .before .before .before .args in rw (ne-eqb (a .at) (length (a .bytes .now)) (c .before .if1 .taken)) (c .refused .ensures)
+    let c₃ = c .before .before .before in
+    let a = c₃ .args in rw (ne-eqb (a .at) (length (a .bytes .now)) (c .before .if1 .taken)) (c .refused .ensures)
 
 returns-2 : tie.Need-returns-2
 returns-2 c =

@@ -1,4 +1,4 @@
--- `read_numbers` meets its contract.
+-- `read_numbers` meets its contract: the version, and what follows.
 -- Assumes nothing.
 use mathlib.Core.Path.{_∙_}
 use native.Mathlib.Omega.{arith}
@@ -19,19 +19,25 @@ refused-requires c κs = search needs
 
 returns : tie.Need-returns
 returns c =
-    c .refused .ensures ∙ version-goes (c .before .before .before .before .before .args .bytes .now) (c .before .before .before .read-within .result) (c .before .before .before .read-within .ensures) .1 (c .before .if1 .taken)
+    let c₃ = c .before .before .before in let c₅ = c₃ .before .before in
+    c .refused .ensures ∙ version-goes (c₅ .args .bytes .now) (c₃ .read-within .result) (c₃ .read-within .ensures) .1
+    (c .before .if1 .taken)
 
 cast-with-bodies : tie.Need-cast-with-bodies
 cast-with-bodies c =
-    let v = c .before .before .before .read-within in
-    let h = in-range (c .before .before .before .before .before .args .bytes .now) 0 1 newestVersion badVersion (lit< tt) (v .result) (v .ensures) (c .before .if1 .left) in omega (arith, h .1)
+    let c₃ = c .before .before .before in let c₅ = c₃ .before .before in
+    let v = c₃ .read-within in
+    let h = in-range (c₅ .args .bytes .now) 0 1 newestVersion badVersion (lit< tt) (v .result) (v .ensures)
+    (c .before .if1 .left) in omega (arith, h .1)
 
 with-bodies-requires : tie.Need-with-bodies-requires
 with-bodies-requires c κs = search needs
 
 returns-2 : tie.Need-returns-2
 returns-2 c =
-    c .with-bodies .ensures (version-goes (c .before .before .before .before .before .before .args .bytes .now) (c .before .before .before .before .read-within .result) (c .before .before .before .before .read-within .ensures) .0 (c .before .before .if1 .left))
+    let c₂ = c .before .before in let c₄ = c₂ .before .before in let c₆ = c₄ .before .before in
+    c .with-bodies .ensures (version-goes (c₆ .args .bytes .now) (c₄ .read-within .result)
+    (c₄ .read-within .ensures) .0 (c₂ .if1 .left))
 
 pub read-numbers-spec : {M : Type 1} → statement M
 read-numbers-spec =

@@ -1,4 +1,4 @@
--- `with_bodies` meets its contract.
+-- `with_bodies` meets its contract: the body count, the bodies, and what follows.
 -- Assumes nothing.
 use mathlib.Core.Path.{_∙_}
 use native.Mathlib.Omega.{arith}
@@ -19,38 +19,61 @@ refused-requires c κs = search needs
 
 returns : tie.Need-returns
 returns c =
-    let a = c .before .before .before .before .before .args in let n = c .before .before .before .read-within in
-    λ w. c .refused .ensures ∙ bodies-goes (a .bytes .now) (a .at) (a .version) w (n .result) (n .ensures) .1 (c .before .if1 .taken)
+    let c₃ = c .before .before .before in let c₅ = c₃ .before .before in
+    let a = c₅ .args in let n = c₃ .read-within in
+    λ w. c .refused .ensures ∙ bodies-goes (a .bytes .now) (a .at) (a .version) w (n .result) (n .ensures) .1
+    (c .before .if1 .taken)
 
 cast-read-bodies : tie.Need-cast-read-bodies
 cast-read-bodies c = search needs
 
 read-bodies-requires : tie.Need-read-bodies-requires
 read-bodies-requires c κs =
-    let h = in-range (c .before .before .before .before .before .before .before .before .args .bytes .now) (c .before .before .before .before .before .before .before .before .args .at) 1 maxBodies badCount (lit< tt) (c .before .before .before .before .before .before .read-within .result) (c .before .before .before .before .before .before .read-within .ensures) (c .before .before .before .before .if1 .left) in h .1
+    let c₄ = c .before .before .before .before in let c₆ = c₄ .before .before in let c₈ = c₆ .before .before in
+    let h = in-range (c₈ .args .bytes .now) (c₈ .args .at) 1 maxBodies badCount (lit< tt) (c₆ .read-within .result)
+    (c₆ .read-within .ensures) (c₄ .if1 .left) in h .1
 
 refused-requires-2 : tie.Need-refused-requires-2
 refused-requires-2 c κs = search needs
 
 returns-2 : tie.Need-returns-2
 returns-2 c =
-    let a = c .before .before .before .before .before .before .before .before .before .before .before .before .args in let n = c .before .before .before .before .before .before .before .before .before .before .read-within in let p = c .before .before .before .read-bodies in
-    let h = in-range (c .before .before .before .before .before .before .before .before .before .before .before .before .args .bytes .now) (c .before .before .before .before .before .before .before .before .before .before .before .before .args .at) 1 maxBodies badCount (lit< tt) (c .before .before .before .before .before .before .before .before .before .before .read-within .result) (c .before .before .before .before .before .before .before .before .before .before .read-within .ensures) (c .before .before .before .before .before .before .before .before .if1 .left) in
-    λ w. c .refused2 .ensures ∙ p .ensures (withVersion noConfig (a .version)) (body-first (a .bytes .now) (n .result .place) (a .version) (n .result .value) (h .0) _ _ _ (bodies-goes (a .bytes .now) (a .at) (a .version) w (n .result) (n .ensures) .0 (c .before .before .before .before .before .before .before .before .if1 .left))) .1 (c .before .if2 .taken)
+    let c₃ = c .before .before .before in let c₈ = c₃ .before .before .before .before .before in
+    let c₁₀ = c₈ .before .before in let c₁₂ = c₁₀ .before .before in
+    let a = c₁₂ .args in let n = c₁₀ .read-within in let p = c₃ .read-bodies in
+    let h = in-range (c₁₂ .args .bytes .now) (c₁₂ .args .at) 1 maxBodies badCount (lit< tt) (c₁₀ .read-within .result)
+    (c₁₀ .read-within .ensures) (c₈ .if1 .left) in
+    λ w. c .refused2 .ensures ∙ p .ensures (withVersion noConfig (a .version))
+    (body-first (a .bytes .now) (n .result .place) (a .version) (n .result .value) (h .0) _ _ _
+    (bodies-goes (a .bytes .now) (a .at) (a .version) w (n .result) (n .ensures) .0 (c₈ .if1 .left))) .1
+    (c .before .if2 .taken)
 
 cast-with-masks : tie.Need-cast-with-masks
 cast-with-masks c =
-    let h = in-range (c .before .before .before .before .before .before .before .before .before .before .before .before .args .bytes .now) (c .before .before .before .before .before .before .before .before .before .before .before .before .args .at) 1 maxBodies badCount (lit< tt) (c .before .before .before .before .before .before .before .before .before .before .read-within .result) (c .before .before .before .before .before .before .before .before .before .before .read-within .ensures) (c .before .before .before .before .before .before .before .before .if1 .left) in omega (arith, h .1)
+    let c₈ = c .before .before .before .before .before .before .before .before in let c₁₀ = c₈ .before .before in
+    let c₁₂ = c₁₀ .before .before in
+    let h = in-range (c₁₂ .args .bytes .now) (c₁₂ .args .at) 1 maxBodies badCount (lit< tt) (c₁₀ .read-within .result)
+    (c₁₀ .read-within .ensures) (c₈ .if1 .left) in omega (arith, h .1)
 
 with-masks-requires : tie.Need-with-masks-requires
 with-masks-requires c κs =
-    let h = in-range (c .before .before .before .before .before .before .before .before .before .before .before .before .args .bytes .now) (c .before .before .before .before .before .before .before .before .before .before .before .before .args .at) 1 maxBodies badCount (lit< tt) (c .before .before .before .before .before .before .before .before .before .before .read-within .result) (c .before .before .before .before .before .before .before .before .before .before .read-within .ensures) (c .before .before .before .before .before .before .before .before .if1 .left) in h .1
+    let c₈ = c .before .before .before .before .before .before .before .before in let c₁₀ = c₈ .before .before in
+    let c₁₂ = c₁₀ .before .before in
+    let h = in-range (c₁₂ .args .bytes .now) (c₁₂ .args .at) 1 maxBodies badCount (lit< tt) (c₁₀ .read-within .result)
+    (c₁₀ .read-within .ensures) (c₈ .if1 .left) in h .1
 
 returns-3 : tie.Need-returns-3
 returns-3 c =
-    let a = c .before .before .before .before .before .before .before .before .before .before .before .before .before .args in let n = c .before .before .before .before .before .before .before .before .before .before .before .read-within in let p = c .before .before .before .before .read-bodies in
-    let h = in-range (c .before .before .before .before .before .before .before .before .before .before .before .before .before .args .bytes .now) (c .before .before .before .before .before .before .before .before .before .before .before .before .before .args .at) 1 maxBodies badCount (lit< tt) (c .before .before .before .before .before .before .before .before .before .before .before .read-within .result) (c .before .before .before .before .before .before .before .before .before .before .before .read-within .ensures) (c .before .before .before .before .before .before .before .before .before .if1 .left) in
-    λ w. c .with-masks .ensures (bodies-read (a .bytes .now) (p .result .place) (a .version) (n .result .value) _ _ _ (p .ensures (withVersion noConfig (a .version)) (body-first (a .bytes .now) (n .result .place) (a .version) (n .result .value) (h .0) _ _ _ (bodies-goes (a .bytes .now) (a .at) (a .version) w (n .result) (n .ensures) .0 (c .before .before .before .before .before .before .before .before .before .if1 .left))) .0 (c .before .before .if2 .left)))
+    let c₂ = c .before .before in let c₄ = c₂ .before .before in
+    let c₉ = c₄ .before .before .before .before .before in let c₁₁ = c₉ .before .before in
+    let c₁₃ = c₁₁ .before .before in
+    let a = c₁₃ .args in let n = c₁₁ .read-within in let p = c₄ .read-bodies in
+    let h = in-range (c₁₃ .args .bytes .now) (c₁₃ .args .at) 1 maxBodies badCount (lit< tt) (c₁₁ .read-within .result)
+    (c₁₁ .read-within .ensures) (c₉ .if1 .left) in
+    λ w. c .with-masks .ensures (bodies-read (a .bytes .now) (p .result .place) (a .version) (n .result .value) _ _ _
+    (p .ensures (withVersion noConfig (a .version)) (body-first (a .bytes .now) (n .result .place) (a .version)
+    (n .result .value) (h .0) _ _ _ (bodies-goes (a .bytes .now) (a .at) (a .version) w (n .result) (n .ensures) .0
+    (c₉ .if1 .left))) .0 (c₂ .if2 .left)))
 
 pub with-bodies-spec : {M : Type 1} → statement M
 with-bodies-spec =

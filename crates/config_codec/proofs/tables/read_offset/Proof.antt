@@ -1,4 +1,4 @@
--- `read_offset` meets its contract.
+-- `read_offset` meets its contract, by those of its callees; an offset that is given fits its place.
 -- Assumes nothing.
 use Prim.Native.Nat.{_≤_}
 use mathlib.Core.Path.{sym, subst, _∙_}
@@ -25,9 +25,10 @@ tested-requires c κs = search needs
 
 returns : tie.Need-returns
 returns c =
-    let f = c .before .offset-in in let r = c .before .before .before .read-number in let t = c .tested in (
+    let c₃ = c .before .before .before in let c₅ = c₃ .before .before in
+    let f = c .before .offset-in in let r = c₃ .read-number in let t = c .tested in (
       t .ensures ∙ rw (f .ensures .0, r .ensures),
-      λ h. let p = passed (c .before .before .before .before .before .args .at) (r .result) (f .result) (t .result) (t .ensures) h in
+      λ h. let p = passed (c₅ .args .at) (r .result) (f .result) (t .result) (t .ensures) h in
           subst (λ (x : NumberRead). x .value ≤ 65535) (sym (p .1)) (f .ensures .1 (p .0)),
     )
 
