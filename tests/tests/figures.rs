@@ -1,5 +1,6 @@
 //! The control flows that the source documents show, worked out from their text, as traces: bodies, times and levels are those
-//! of the figures, every step stands beside the event that makes it.
+//! of the figures, every step stands beside the event that makes it. Of the time-triggered ones the text gives rounds, offsets,
+//! deadlines and who preempts whom, and not when a task ends: each test says which times are ours.
 
 use osek_tests::by_hand::{assert_rows, Script};
 
@@ -108,6 +109,7 @@ fn sleepy_sloth_figure_4_7_with_et3_at_the_ceiling() {
 /// bodies 1 and 2; body 0 is a task that starts the round. An entry at offset o is due at tick 1 + o after a Start with delay 1.
 const ROUND: [u8; 24] = [1, 3, 0, 1, 1, 3, 2, 0, 3, 3, 0, 0, 1, 0xe8, 7, 3, 100, 1, 0xc8, 1, 2, 0xd8, 4, 1];
 
+/// The ends are ours, before the deadlines that the table gives.
 #[test]
 fn sloth_on_time_figure_4_8() {
     let mut script = Script::default();
@@ -132,6 +134,7 @@ fn sloth_on_time_figure_4_8() {
     script.assert(&ROUND);
 }
 
+/// Beyond the figure.
 #[test]
 fn sloth_on_time_figure_4_8_without_an_end() {
     // TTTask1 is at work from 100 on and never ends: at 600, and twice in every round from then on, it is lost.
@@ -156,6 +159,8 @@ const MIXED: [u8; 39] = [
     5, 0xd8, 4, 4,
 ];
 
+/// The text says that the application of Table 4.1 runs in the background time of that of Table 4.5, which may interrupt it at any
+/// time. Where in Figure 4.1's flow it does so, and the ends, are ours.
 #[test]
 fn sloth_on_time_figure_4_12() {
     let mut script = Script::default();
@@ -193,6 +198,7 @@ fn two_tasks(kind: u8) -> Vec<u8> {
     vec![1, 3, 0, 3, 1, kind, 1, 0, kind, 2, 0, 0, 1, 100, 4, 10, 1, 20, 2, 30, 2, 40, 1]
 }
 
+/// The offsets are ours: the text gives the order of the activations in both parts.
 #[test]
 fn sloth_on_time_figure_4_13() {
     // Left part: Task1, then Task2. Right part: Task1 after Task2, which it preempts in an OSEKtime system alone.
@@ -226,6 +232,7 @@ fn sloth_on_time_figure_4_13() {
 /// event-triggered ET1 of priority 1. They are bodies 1, 2 and 0.
 const MIXED_THESIS: [u8; 21] = [1, 3, 0, 1, 1, 3, 2, 0, 3, 3, 0, 0, 1, 0xc8, 1, 2, 60, 1, 0xaa, 1, 2];
 
+/// Figure 4.2's flow at the times of Figure 4.1's table: bringing the two together, and t3 and t4, are ours.
 #[test]
 fn efficient_time_triggered_execution_figures_4_1_and_4_2() {
     let mut script = Script::default();

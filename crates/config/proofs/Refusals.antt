@@ -1,5 +1,6 @@
--- Document 01's refusals of a configuration with their places, row by row and with the numbers written out, and document 02's for kind 3: the
--- reader's on both sides of each limit, the order of two faults, then the writer's. Each is computed from the definitions that the contracts cite.
+-- Document 01's refusals of a configuration with their places, and document 02's for kind 3, row by row and with the
+-- numbers written out: the reader's on both sides of each limit, the order of two faults, then the writer's. Each is
+-- computed from the definitions that the contracts cite.
 --
 -- An input that ends after a number which is in order is refused with 1 at its end, so that (1, n) says: the n bytes are in order.
 -- Assumes nothing.
@@ -123,8 +124,8 @@ pub record ReaderRows : Type 0 where
       ∷ (0x00 ∷ 0x01 ∷ 0x01 ∷ 0x02 ∷ 0x02 ∷ 0x01 ∷ []) ∷ []
       )
       ≡ (14, 23) ∷ (14, 23) ∷ (0, 24) ∷ []
-  -- after a table with offset 1 and task 1: tasks 0, 1 and 2 at the same offset; task 2 and then task 1; task 0 and then task 1, at another
-  -- offset and at the same
+  -- after a table with offset 1 and task 1: tasks 0, 1 and 2 at the same offset; task 2 and then task 1; task 0 and
+  -- then task 1, at another offset and at the same
   pub table-second : answers (timedBodies ++ 0x00 ∷ 0x02 ∷ 0x04 ∷ 0x01 ∷ 0x01 ∷ 0x01 ∷ 0x04 ∷ []) (
       (0x01 ∷ 0x01 ∷ 0x00 ∷ []) ∷ (0x01 ∷ 0x01 ∷ 0x01 ∷ []) ∷ (0x01 ∷ 0x01 ∷ 0x02 ∷ []) ∷ (0x02 ∷ 0x00 ∷ 0x02 ∷ 0x01 ∷ 0x01 ∷ [])
       ∷ (0x02 ∷ 0x00 ∷ 0x00 ∷ 0x01 ∷ 0x01 ∷ []) ∷ (0x02 ∷ 0x01 ∷ 0x00 ∷ 0x01 ∷ 0x01 ∷ []) ∷ []
@@ -216,8 +217,8 @@ pub record WriterRows : Type 0 where
       × (wroteConfig (withVersion value 3) (replicate 22 0xFF) ≡ replicate 22 0xFF)
   -- version 2 is written as it is
   pub second : wroteConfig (withVersion value 2) (replicate 20 0xFF) ≡ 0x02 ∷ drop 1 listing
-  -- kind 3: its autostart, a mask bit for it; offset 1 for both entries, with a task of kind 0 as the second too, and with task 2 for both;
-  -- task 0 as the first, task 3 as the second; a second table; kind 4
+  -- kind 3: its autostart, a mask bit for it; offset 1 for both entries, with task 3 as the second too, and with task 2
+  -- for both; task 0 as the first, task 3 as the second; a second table; kind 4
   pub refused-timed : map (answer 0) (
       withAutostart timed 1 1 ∷ withUsers timed 0 3 ∷ withOffset timed 1 1 ∷ withOffset (withTask timed 1 3) 1 1 ∷ withOffset (withTask timed 0 2) 1 1
       ∷ withTask timed 0 0 ∷ withTask timed 1 3 ∷ withTask (withEntries (withPeriod (withTables timed 2) 1 4) 1 1) 2 1 ∷ withKind timed 1 4 ∷ []

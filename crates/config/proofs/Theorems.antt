@@ -1,7 +1,8 @@
 -- What the crate shows beyond its contracts. Each law stands here in full, over specs/ alone; the modules it cites prove it.
 --
--- In order: what every reading satisfies, and every accepted value; its entries, tables and bodies of kind 3; a resource's ceiling and its users; both round trips; which values the
--- writer accepts; counts that are too great; what stands past the counts; that the fuel of the definitions is enough.
+-- In order: what every reading satisfies, and every accepted value; its entries, tables and bodies of kind 3; a
+-- resource's ceiling and its users; both round trips; which values the writer accepts; counts that are too great; what
+-- stands past the counts; that the fuel of the definitions is enough.
 -- Assumes nothing.
 use Prim.Native.Nat.{ℕ, zero, suc, _+_, _-_, _≤_, _<_}
 use mathlib.Core.Path.{_≡_, refl, sym, _∙_}
@@ -87,7 +88,8 @@ smallest-least c a t e t< low high = let q : firstOf c t + (e - firstOf c t) ≡
 
 pub entry-of-task : (c : Config) → Accepted c → (e : ℕ) → e < firstOf c (c .tables)
     → (getD (c .task) e 0 < c .bodies)
-    × ((getD (c .kind) (getD (c .task) e 0) 0 ≡ 0) ⊎ ((getD (c .kind) (getD (c .task) e 0) 0 ≡ 2) ⊎ (getD (c .kind) (getD (c .task) e 0) 0 ≡ 3)))
+    × ((getD (c .kind) (getD (c .task) e 0) 0 ≡ 0)
+    ⊎ ((getD (c .kind) (getD (c .task) e 0) 0 ≡ 2) ⊎ (getD (c .kind) (getD (c .task) e 0) 0 ≡ 3)))
 entry-of-task c a e h =
     let p = Tables.isTask-true c (getD (c .task) e 0) (a .entry-task e h) in
     (p .0, task-kind (getD (c .kind) (getD (c .task) e 0) 0) (a .kind-known (getD (c .task) e 0) (p .0)) (p .1))
@@ -100,7 +102,8 @@ entry-of-task c a e h =
     task-kind (suc (suc (suc (suc k)))) l n = absurd (omega arith)
 
 -- "One table at most has kind 3 entries, and only those": the tables of two such entries are one, and it has no other
-pub timed-one-table : (c : Config) → Accepted c → (t t′ e e′ : ℕ) → e < firstOf c (c .tables) → e′ < firstOf c (c .tables)
+pub timed-one-table : (c : Config) → Accepted c → (t t′ e e′ : ℕ)
+    → e < firstOf c (c .tables) → e′ < firstOf c (c .tables)
     → firstOf c t ≤ e → e < firstOf c (suc t) → firstOf c t′ ≤ e′ → e′ < firstOf c (suc t′)
     → timedEntry c e ≡ true → timedEntry c e′ ≡ true → t ≡ t′
 timed-one-table c a t t′ e e′ h h′ low high low′ high′ =
@@ -112,7 +115,8 @@ pub timed-only-those : (c : Config) → Accepted c → (t e e′ : ℕ) → t < 
 timed-only-those c a t e e′ t< low high low′ high′ k = sym (a .timed-alone t e e′ t< low high low′ high′) ∙ k
 
 -- "with distinct offsets": they rise, for "Entries rise by offset"
-pub timed-offsets-differ : (c : Config) → Accepted c → (t e e′ : ℕ) → t < c .tables → firstOf c t ≤ e → e < e′ → e′ < firstOf c (suc t)
+pub timed-offsets-differ : (c : Config) → Accepted c → (t e e′ : ℕ) → t < c .tables
+    → firstOf c t ≤ e → e < e′ → e′ < firstOf c (suc t)
     → timedEntry c e ≡ true → timedEntry c e′ ≡ true → getD (c .offset) e 0 < getD (c .offset) e′ 0
 timed-offsets-differ c a t e e′ t< low less high k k′ =
     let apart = a .timed-distinct t e e′ t< low less high k k′ in

@@ -52,7 +52,8 @@ pub record Accepted (c : Config) : Type 0 where
   pub timed-in-one : (t t′ e e′ : ℕ) → t < c .tables → t′ < c .tables
       → firstOf c t ≤ e → e < firstOf c (suc t) → firstOf c t′ ≤ e′ → e′ < firstOf c (suc t′)
       → timedEntry c e ≡ true → timedEntry c e′ ≡ true → t ≡ t′
-  pub timed-alone : (t e e′ : ℕ) → t < c .tables → firstOf c t ≤ e → e < firstOf c (suc t) → firstOf c t ≤ e′ → e′ < firstOf c (suc t)
+  pub timed-alone : (t e e′ : ℕ) → t < c .tables
+      → firstOf c t ≤ e → e < firstOf c (suc t) → firstOf c t ≤ e′ → e′ < firstOf c (suc t)
       → timedEntry c e ≡ timedEntry c e′
   pub timed-distinct : (t e e′ : ℕ) → t < c .tables → firstOf c t ≤ e → e < e′ → e′ < firstOf c (suc t)
       → timedEntry c e ≡ true → timedEntry c e′ ≡ true → getD (c .offset) e 0 ≡ getD (c .offset) e′ 0 → ⊥

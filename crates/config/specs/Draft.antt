@@ -33,7 +33,7 @@ unless ok r = cond ok none r
 abbrev pub outside : ℕ → ℕ → ℕ → ℕ → ℕ
 outside lo hi v r = unless (leb lo v && leb v hi) r
 
--- the first of two refusals: "Each number is tested for .. its range, then for 6, 7 or 8"; 13 is "after 7", and 14 "after 13"
+-- the first of two refusals: "Each number is tested for .. its range, then for 6, 7 or 8"; 13 is "after 7", 14 "after 13"
 abbrev pub andThen : ℕ → ℕ → ℕ
 andThen r s = cond (eqb r none) s r
 
@@ -62,12 +62,15 @@ sorted d v = firstEntry d || rises (offsetBefore d) (taskBefore d) (offsetHere d
 -- "an offset shared with the entry before where either is kind 3"
 abbrev pub sharesOffset : Draft → ℕ → Bool
 sharesOffset d v =
-    not (firstEntry d) && (eqb (offsetBefore d) (offsetHere d) && (isTimed (d .config) (taskBefore d) || isTimed (d .config) v))
+    not (firstEntry d) && (eqb (offsetBefore d) (offsetHere d)
+    && (isTimed (d .config) (taskBefore d) || isTimed (d .config) v))
 
--- "a mixed .. table": of v and the entry before it one is of kind 3. All before them are alike, so the first that differs is found.
+-- "a mixed .. table": of v and the entry before it one is of kind 3. Those before them are alike, so that the first that
+-- differs is found.
 abbrev pub mixes : Draft → ℕ → Bool
 mixes d v =
-    not (firstEntry d) && cond (isTimed (d .config) v) (not (isTimed (d .config) (taskBefore d))) (isTimed (d .config) (taskBefore d))
+    not (firstEntry d) && cond (isTimed (d .config) v)
+    (not (isTimed (d .config) (taskBefore d))) (isTimed (d .config) (taskBefore d))
 
 -- one of the tasks is of kind 3
 unfoldable pub someTimed : Config → List ℕ → Bool
@@ -106,7 +109,8 @@ faultAt Priority d v =
     andThen (outside 1 maxPriority v badField) (unless (not (occurs v (take (d .index) (d .config .priority)))) usedPriority)
 faultAt Autostart d v = outside 0 (mostAutostart (getD (d .config .kind) (d .index) 0)) v badField
 faultAt Resources d v = outside 0 maxResources v badCount
-faultAt Users d v = andThen (outside 1 (2 ^ d .config .bodies - 1) v badField) (unless (not (timedUser (d .config) v)) badField)
+faultAt Users d v = andThen (outside 1 (2 ^ d .config .bodies - 1) v badField)
+    (unless (not (timedUser (d .config) v)) badField)
 faultAt Tables d v = outside 0 maxTables v badCount
 faultAt Period d v = outside 1 65535 v badField
 faultAt Entries d v = andThen (outside 1 16 v badCount) (unless (leb (d .entry + v) maxEntries) tooManyEntries)

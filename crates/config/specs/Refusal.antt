@@ -10,7 +10,7 @@ badVersion = 3
 abbrev pub badCount : ℕ
 badCount = 4
 
--- "another field outside its range, an entry's task that is an ISR too"; for kind 3 "its autostart or a mask bit for it"
+-- "another field outside its range, an entry's task that is an ISR too"; "5 for its autostart or a mask bit for it", kind 3
 abbrev pub badField : ℕ
 badField = 5
 

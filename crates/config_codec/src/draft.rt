@@ -5,13 +5,13 @@ use config::Field;
 ghost use mathlib.Core.Path.{_≡_};
 ghost use mathlib.Core.Bool.{not, _&&_, _||_};
 ghost use Prim.Native.Nat.{_+_, _-_, _%_, _^_, _<_, _≤_};
-ghost use lib.Dec.{eqb};
-ghost use lib.ListN.{take};
+ghost use lib.Dec.{ltb, eqb};
+ghost use lib.ListN.{getD, take};
 ghost use Rattle.number.specs.Refusal.{none};
 ghost use Rattle.config.specs.Refusal.{sharedOffset, mixedTable};
 ghost use Rattle.config.specs.Meaning.{timeTriggered, isTask, isTimed};
 ghost use Rattle.config.specs.Value.{noConfig};
-ghost use Rattle.config.specs.Draft.{Within, unless, outside, andThen, occurs, mostAutostart, timedIn, rises, firstEntry, sorted, sharesOffset, mixes, someTimed, secondTable, fault, faultAt, put, asked, ended, orOn, onTo, row, start};
+ghost use Rattle.config.specs.Draft.{Within, unless, outside, andThen, occurs, mostAutostart, timedIn, rises, firstEntry, taskBefore, sorted, sharesOffset, mixes, someTimed, secondTable, fault, faultAt, put, asked, ended, orOn, onTo, row, start};
 
 // The version is neither 1 nor 2.
 const BAD_VERSION: u8 = 3;
@@ -139,8 +139,8 @@ fn all_bodies(bodies: u8) -> u32
 fn timed_bit(mask: u32, kind: u8) -> bool
     ensures { λ r. ⌜ r ≡ (eqb (mask % 2) 1 && eqb kind timeTriggered) ⌝ }
 {
-    if mask % 2 == 1 {
-        kind == TIME_TRIGGERED
+    if kind == TIME_TRIGGERED {
+        mask % 2 == 1
     } else {
         false
     }
@@ -214,14 +214,13 @@ fn is_task(c: Config, v: u32) -> bool
     }
 }
 
-// Whether `v` is the number of a time-triggered task.
-fn is_timed(c: Config, v: u32) -> bool
-    requires { ⌜ c .bodies ≤ 32 ⌝ }
-    ensures { λ r. ⌜ r ≡ isTimed c v ⌝ }
+// Whether `v` is the number of a time-triggered task, where `kind` has the kinds of `bodies` bodies.
+fn is_timed(bodies: u8, kind: [u8; 32], v: u32) -> bool
+    requires { ⌜ bodies ≤ 32 ⌝ }
+    ensures { λ r. ⌜ r ≡ (ltb v bodies && eqb (getD kind v 0) timeTriggered) ⌝ }
 {
-    if v < c.bodies as u32 {
+    if v < bodies as u32 {
         let i = v as usize;
-        let kind = c.kind;
         kind[i] == TIME_TRIGGERED
     } else {
         false
@@ -255,15 +254,12 @@ fn less(a: usize, b: usize) -> usize
     if a < b { 0 } else { a - b }
 }
 
-// Whether the entry is the first of its table.
-fn first_entry(d: Draft) -> bool
-    requires { ⌜ (d .index < 8) × (d .entry < 64) ⌝ }
-    ensures { λ r. ⌜ r ≡ firstEntry d ⌝ }
+// Whether the entry is the first of its table, which has `count` entries and ends before the entry `until`.
+fn first_entry(entry: usize, count: u8, until: usize) -> bool
+    requires { ⌜ entry < 64 ⌝ }
+    ensures { λ r. ⌜ r ≡ eqb (entry + count) until ⌝ }
 {
-    let c = d.config;
-    let i = d.index;
-    let entries = c.entries;
-    d.entry + entries[i] as usize == d.until
+    entry + count as usize == until
 }
 
 // Whether the entry, with the task `v`, is the first of its table or comes after the one before it.
@@ -271,15 +267,48 @@ fn sorted(d: Draft, v: u32) -> bool
     requires { ⌜ (d .index < 8) × (d .entry < 64) ⌝ }
     ensures { λ r. ⌜ r ≡ sorted d v ⌝ }
 {
-    if first_entry(d) {
+    let c = d.config;
+    let i = d.index;
+    let e = d.entry;
+    let entries = c.entries;
+    if first_entry(e, entries[i], d.until) {
         return true;
     }
-    let c = d.config;
-    let e = d.entry;
     let offset = c.offset;
     let task = c.task;
     let b = before(e);
     rises(offset[b], task[b], offset[e], v)
+}
+
+// Whether the entry has one before it in its table, and that is of kind 3.
+fn timed_before(d: Draft) -> bool
+    requires { ⌜ (d .config .bodies ≤ 32) × ((d .index < 8) × (d .entry < 64)) ⌝ }
+    ensures { λ r. ⌜ r ≡ (not (firstEntry d) && isTimed (d .config) (taskBefore d)) ⌝ }
+{
+    let c = d.config;
+    let i = d.index;
+    let e = d.entry;
+    let entries = c.entries;
+    if first_entry(e, entries[i], d.until) {
+        return false;
+    }
+    let kind = c.kind;
+    let task = c.task;
+    let b = before(e);
+    is_timed(c.bodies, kind, task[b] as u32)
+}
+
+// Whether the entry, with the task `v`, or the one before it in its table is of kind 3.
+fn timed_here(d: Draft, v: u32) -> bool
+    requires { ⌜ (d .config .bodies ≤ 32) × ((d .index < 8) × (d .entry < 64)) ⌝ }
+    ensures { λ r. ⌜ r ≡ (isTimed (d .config) v || (not (firstEntry d) && isTimed (d .config) (taskBefore d))) ⌝ }
+{
+    let c = d.config;
+    let kind = c.kind;
+    if is_timed(c.bodies, kind, v) {
+        return true;
+    }
+    timed_before(d)
 }
 
 // Whether the entry, with the task `v`, has the offset of the one before it in its table, and either is of kind 3.
@@ -287,21 +316,19 @@ fn shares_offset(d: Draft, v: u32) -> bool
     requires { ⌜ (d .config .bodies ≤ 32) × ((d .index < 8) × (d .entry < 64)) ⌝ }
     ensures { λ r. ⌜ r ≡ sharesOffset d v ⌝ }
 {
-    if first_entry(d) {
+    let c = d.config;
+    let i = d.index;
+    let e = d.entry;
+    let entries = c.entries;
+    if first_entry(e, entries[i], d.until) {
         return false;
     }
-    let c = d.config;
-    let e = d.entry;
     let offset = c.offset;
-    let task = c.task;
     let b = before(e);
     if offset[b] != offset[e] {
         return false;
     }
-    if is_timed(c, task[b] as u32) {
-        return true;
-    }
-    is_timed(c, v)
+    timed_here(d, v)
 }
 
 // Whether of the entry, with the task `v`, and the one before it in its table one is of kind 3.
@@ -309,14 +336,20 @@ fn mixes(d: Draft, v: u32) -> bool
     requires { ⌜ (d .config .bodies ≤ 32) × ((d .index < 8) × (d .entry < 64)) ⌝ }
     ensures { λ r. ⌜ r ≡ mixes d v ⌝ }
 {
-    if first_entry(d) {
+    let c = d.config;
+    let i = d.index;
+    let e = d.entry;
+    let entries = c.entries;
+    if first_entry(e, entries[i], d.until) {
         return false;
     }
-    let c = d.config;
-    let task = c.task;
-    let b = before(d.entry);
-    let was = is_timed(c, task[b] as u32);
-    if is_timed(c, v) { !was } else { was }
+    let was = timed_before(d);
+    let kind = c.kind;
+    if is_timed(c.bodies, kind, v) {
+        !was
+    } else {
+        was
+    }
 }
 
 // Whether one of the first `n` entries is of kind 3.
@@ -324,10 +357,11 @@ fn some_timed(c: Config, n: usize) -> bool
     requires { ⌜ (c .bodies ≤ 32) × (n ≤ 64) ⌝ }
     ensures { λ r. ⌜ r ≡ someTimed c (take n (c .task)) ⌝ }
 {
+    let kind = c.kind;
     let task = c.task;
     let mut i = 0;
     while i < n {
-        if is_timed(c, task[i] as u32) {
+        if is_timed(c.bodies, kind, task[i] as u32) {
             return true;
         }
         i += 1;
@@ -341,7 +375,8 @@ fn second_table(d: Draft, v: u32) -> bool
     ensures { λ r. ⌜ r ≡ secondTable d v ⌝ }
 {
     let c = d.config;
-    if is_timed(c, v) {
+    let kind = c.kind;
+    if is_timed(c.bodies, kind, v) {
         let i = d.index;
         let entries = c.entries;
         some_timed(c, less(d.until, entries[i] as usize))
@@ -350,11 +385,14 @@ fn second_table(d: Draft, v: u32) -> bool
     }
 }
 
-// The refusal of an entry's task by its table's kind.
+// The refusal of an entry's task by its table's kind. Entries of other kinds are passed over by one test.
 fn table_fault(d: Draft, v: u32) -> u8
     requires { ⌜ (d .config .bodies ≤ 32) × ((d .index < 8) × ((d .entry < 64) × (d .until ≤ 64))) ⌝ }
     ensures { λ r. ⌜ r ≡ andThen (unless (not (sharesOffset d v)) sharedOffset) (unless (not (mixes d v || secondTable d v)) mixedTable) ⌝ }
 {
+    if !timed_here(d, v) {
+        return 0;
+    }
     if shares_offset(d, v) {
         return SHARED_OFFSET;
     }

@@ -1,7 +1,7 @@
--- Event bits, each bit by itself. Assumes nothing.
+-- Event bits, each bit by itself; and what a resumption leaves. Assumes nothing.
 use Prim.Native.Nat.{ℕ, _-_, _^_, _<_}
 use mathlib.Core.Path.{_≡_, refl, sym, ap, _∙_}
-use mathlib.Core.Bool.{Bool, true, false, true≢false, not, _&&_, _||_}
+use mathlib.Core.Bool.{Bool, true, false, true≢false, cond, not, _&&_, _||_}
 use mathlib.Core.Logic.{_↔_}
 use native.Mathlib.Omega.{arith}
 use borrow.Author.Tests.{eqb-true, eq-eqb}
@@ -10,12 +10,14 @@ use lib.Dec.{eqb}
 use Rattle.number.proofs.Bits.{or-bit, and-bits, and-not, no-bit}
 use Rattle.number.proofs.Bits as Number
 use Rattle.scheduler.specs.Bits.{bitSet, anySet, withBits, withoutBits}
+use Rattle.scheduler.specs.Body.{Phase, suspended, ready, started, waiting, triggered, hasBegun, resumed}
 
 module _ (bits w : ℕ) where
   pub any-set : (anySet bits w ≡ false) ↔ ((i : ℕ) → bitSet bits i && bitSet w i ≡ false)
   unfolding anySet
   any-set = (
-    λ e i. sym (and-bits bits w i) ∙ ap (λ (n : ℕ). bitSet n i) (eqb-true (bitAnd bits w) 0 (negated (eqb (bitAnd bits w) 0) e)) ∙ none i,
+    λ e i. sym (and-bits bits w i)
+        ∙ ap (λ (n : ℕ). bitSet n i) (eqb-true (bitAnd bits w) 0 (negated (eqb (bitAnd bits w) 0) e)) ∙ none i,
     λ h. ap not (eq-eqb (bitAnd bits w) 0 (no-bit (bitAnd bits w) (λ i. and-bits bits w i ∙ h i))),
   )
     where
@@ -47,3 +49,19 @@ module _ (bits w : ℕ) where
 pub mask-zero : (bits : ℕ) → anySet bits 0 ≡ false
 unfolding anySet
 mask-zero bits = ap (λ (n : ℕ). not (eqb n 0)) (and-zero-r bits)
+
+-- "Wait on mask 0 is never resumed"
+pub mask-zero-waits : (bits : ℕ) → resumed bits (waiting 0) ≡ waiting 0
+mask-zero-waits bits = rw (mask-zero bits)
+
+-- who is resumed has begun as before
+pub resumed-begun : (bits : ℕ) (p : Phase) → hasBegun (resumed bits p) ≡ hasBegun p
+resumed-begun bits suspended = refl
+resumed-begun bits ready = refl
+resumed-begun bits started = refl
+resumed-begun bits (waiting w) = go (anySet bits w)
+  where
+    go : (p : Bool) → hasBegun (cond p started (waiting w)) ≡ true
+    go true = refl
+    go false = refl
+resumed-begun bits (triggered x) = refl

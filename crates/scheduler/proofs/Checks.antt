@@ -1,7 +1,8 @@
--- An event is accepted exactly if none of its checks fails, and what each accepted call tells of the state that it meets.
+-- An event is accepted exactly if none of its checks fails, and what each accepted call tells of the state that it
+-- meets.
 --
--- In order: a list of checks; that each event's checks give statuses other than 0; what a time-triggered task may call, and the calls that
--- name one; the accepted calls one by one. Assumes nothing.
+-- In order: a list of checks; that each event's checks give statuses other than 0; what a time-triggered task may call,
+-- and the calls that name one; the accepted calls one by one. Assumes nothing.
 use Prim.Native.Nat.{ℕ, _+_, _≤_, _<_}
 use mathlib.Core.Path.{_≡_, refl, sym, ap, _∙_}
 use mathlib.Core.Bool.{Bool, true, false, true≢false, cond, not, _&&_, _||_, and-true}
@@ -56,9 +57,11 @@ none-fails (x ∷ ks) p k (y ∷ before) rest q = none-fails ks (p .1) k before 
 
 none-passed : (ks : List Check) → NoneFails ks → Passed ks
 none-passed [] none = tt
-none-passed (k ∷ ks) none = (none k [] ks refl, none-passed ks (λ x before rest q. none x (k ∷ before) rest (ap (λ l. k ∷ l) q)))
+none-passed (k ∷ ks) none =
+    (none k [] ks refl, none-passed ks (λ x before rest q. none x (k ∷ before) rest (ap (λ l. k ∷ l) q)))
 
-first-fails : (before : List Check) (k : Check) (rest : List Check) → Passed before → k .fails ≡ true → firstGiven (before ++ k ∷ rest) ≡ k .status
+first-fails : (before : List Check) (k : Check) (rest : List Check) → Passed before → k .fails ≡ true
+    → firstGiven (before ++ k ∷ rest) ≡ k .status
 unfolding firstGiven
 first-fails [] k rest p q = rw q
 first-fails (x ∷ before) k rest p q = rw (p .0) (first-fails before k rest (p .1) q)
@@ -80,10 +83,14 @@ refusing c s (Clear w) = omega arith
 
 pub accepted-none-fails : (c : Config) (s : State) (e : Event) → AcceptedIn c s e ↔ NoneFails (checksOf c s e)
 unfolding stepBy
-accepted-none-fails c s e =
-    (λ a. none-fails (checksOf c s e) (all-passed (checksOf c s e) (refusing c s e) a), λ none. passed-done (checksOf c s e) (none-passed (checksOf c s e) none))
+accepted-none-fails c s e = (
+  λ a. none-fails (checksOf c s e) (all-passed (checksOf c s e) (refusing c s e) a),
+  λ none. passed-done
+      (checksOf c s e) (none-passed (checksOf c s e) none),
+)
 
-pub first-given : (c : Config) (s : State) (e : Event) (before : List Check) (k : Check) (rest : List Check) → checksOf c s e ≡ before ++ k ∷ rest
+pub first-given : (c : Config) (s : State) (e : Event) (before : List Check) (k : Check) (rest : List Check)
+    → checksOf c s e ≡ before ++ k ∷ rest
     → NoneFails before
     → k .fails ≡ true
     → step c s e .seen .status ≡ k .status
@@ -123,7 +130,8 @@ module _ (c : Config) (s : State) where
   timed-bars : (j : ℕ) (js : List ℕ) → s .order ≡ j ∷ js → noCaller (runner c s) ≡ true
   timed-bars j js e = ap noCaller (runner-timed c s j js e)
 
-  pub timed-refused : (j : ℕ) (js : List ℕ) → s .order ≡ j ∷ js → (e : Event) → isBarred e ≡ true → step c s e .seen .status ≡ 2
+  pub timed-refused : (j : ℕ) (js : List ℕ) → s .order ≡ j ∷ js → (e : Event) → isBarred e ≡ true
+      → step c s e .seen .status ≡ 2
   unfolding stepBy firstGiven
   timed-refused j js o (Activate t) b = rw (timed-bars j js o)
   timed-refused j js o Finish b = absurd (true≢false (sym b))
@@ -172,14 +180,17 @@ module _ (c : Config) (s : State) (free : noCaller (runner c s) ≡ false) (t : 
   unfolding stepBy firstGiven
   timed-set w = rw (free, is-task, no-extended)
     where
-      here : (ltb t (c .bodies) ≡ true) × (getD (c .kind) t 0 ≡ 3)
-      here = let p = Cases.and-true (ltb t (c .bodies)) (eqb (getD (c .kind) t 0) 3) timed in (p .0, eqb-true (getD (c .kind) t 0) 3 (p .1))
+      both : (ltb t (c .bodies) ≡ true) × (eqb (getD (c .kind) t 0) 3 ≡ true)
+      both = Cases.and-true (ltb t (c .bodies)) (eqb (getD (c .kind) t 0) 3) timed
+
+      third : getD (c .kind) t 0 ≡ 3
+      third = eqb-true (getD (c .kind) t 0) 3 (both .1)
 
       is-task : isTask c t ≡ true
-      is-task = rw (here .0, here .1)
+      is-task = rw (both .0, third)
 
       no-extended : isExtended c t ≡ false
-      no-extended = rw (here .0, here .1)
+      no-extended = rw (both .0, third)
 
 module _ (c : Config) (s : State) where
   -- somebody runs whom the call is open to
@@ -187,7 +198,8 @@ module _ (c : Config) (s : State) where
   someone e = neither (nobodyRuns c s) (runner c s .timed) e .0
 
   -- somebody runs, and t is a suspended task
-  pub activate-passed : (t : ℕ) → activateStatus c s t ≡ done → (nobodyRuns c s ≡ false) × (isOsekTask c t ≡ true) × (bodyOf s t .phase ≡ suspended)
+  pub activate-passed : (t : ℕ) → activateStatus c s t ≡ done
+      → (nobodyRuns c s ≡ false) × (isOsekTask c t ≡ true) × (bodyOf s t .phase ≡ suspended)
   activate-passed t e =
       let p = all-passed _ (omega arith) e in
       (someone (p .0), not-false (isOsekTask c t) (p .1 .0), inactive s t (p .1 .1 .0))
@@ -200,22 +212,31 @@ module _ (c : Config) (s : State) where
 
   -- the runner is a task that holds no resource, and t is a task that is suspended, or the runner itself
   pub chain-passed : (t : ℕ) → chainStatus c s t ≡ done
-      → (nobodyRuns c s ≡ false) × (isIsr c (caller c s) ≡ false) × (isOsekTask c t ≡ true) × (holds (calling c s .held) ≡ false)
+      → (nobodyRuns c s ≡ false) × (isIsr c (caller c s) ≡ false) × (isOsekTask c t ≡ true)
+      × (holds (calling c s .held) ≡ false)
       × (t ≢ caller c s → bodyOf s t .phase ≡ suspended)
   chain-passed t e =
       let p = all-passed _ (omega arith) e in
-      let q = neither (noCaller (runner c s)) (isIsr c (caller c s)) (p .0) in
-      (someone (q .0), q .1, not-false (isOsekTask c t) (p .1 .0), p .1 .1 .0, λ d. inactive s t (other d (p .1 .1 .1 .0)))
+      let q = neither (noCaller (runner c s)) (isIsr c (caller c s)) (p .0) in (
+        someone (q .0),
+        q .1,
+        not-false (isOsekTask c t) (p .1 .0),
+        p .1 .1 .0,
+        λ d. inactive s t
+            (other d (p .1 .1 .1 .0)),
+      )
     where
       other : t ≢ caller c s → (active s t && not (eqb t (caller c s))) ≡ false → active s t ≡ false
       other d h = rw (ne-eqb t (caller c s) d, and-true) at h
 
   -- the runner is a declared user of r, and nobody holds it
   pub get-passed : (r : ℕ) → getStatus c s r ≡ done
-      → (nobodyRuns c s ≡ false) × (r < c .resources) × (isUser c r (caller c s) ≡ true) × (heldIn r (s .bodies) ≡ false)
+      → (nobodyRuns c s ≡ false) × (r < c .resources) × (isUser c r (caller c s) ≡ true)
+      × (heldIn r (s .bodies) ≡ false)
   get-passed r e =
       let p = all-passed _ (omega arith) e in
-      (someone (p .0), leb-false (c .resources) r (p .1 .0), not-false (isUser c r (caller c s)) (p .1 .1 .0), p .1 .1 .1 .0)
+      let user = not-false (isUser c r (caller c s)) in
+      (someone (p .0), leb-false (c .resources) r (p .1 .0), user (p .1 .1 .0), p .1 .1 .1 .0)
 
   -- r is the one that the runner took last
   pub release-passed : (r : ℕ) → releaseStatus c s r ≡ done
@@ -225,21 +246,30 @@ module _ (c : Config) (s : State) where
       (someone (p .0), leb-false (c .resources) r (p .1 .0), not-false (latestIs r (calling c s .held)) (p .1 .1 .0))
 
   -- i is an ISR of which no request waits
-  pub line-passed : (i : ℕ) → lineStatus c s i ≡ done → (isIsr c i ≡ true) × (requestWaits (bodyOf s i) (bodyOf s i .phase) ≡ false)
+  pub line-passed : (i : ℕ) → lineStatus c s i ≡ done
+      → (isIsr c i ≡ true) × (requestWaits (bodyOf s i) (bodyOf s i .phase) ≡ false)
   line-passed i e =
       let p = all-passed _ (omega arith) e in
       (not-false (isIsr c i) (p .0), p .1 .0)
 
   -- t is a table that doesn't run, and the delays fit
   pub start-passed : (t d : ℕ) → startStatus c s t d ≡ done
-      → (nobodyRuns c s ≡ false) × (t < c .tables) × (d ≢ 0) × (d + smallestOffset c t ≤ longestDelay) × (isRunning (tableOf s t) ≡ false)
+      → (nobodyRuns c s ≡ false) × (t < c .tables) × (d ≢ 0) × (d + smallestOffset c t ≤ longestDelay)
+      × (isRunning (tableOf s t) ≡ false)
   start-passed t d e =
       let p = all-passed _ (omega arith) e in
-      let q = neither (eqb d 0) (ltb longestDelay (d + smallestOffset c t)) (p .1 .1 .0) in
-      (someone (p .0), leb-false (c .tables) t (p .1 .0), eqb-false d 0 (q .0), ltb-false longestDelay (d + smallestOffset c t) (q .1), p .1 .1 .1 .0)
+      let q = neither (eqb d 0) (ltb longestDelay (d + smallestOffset c t)) (p .1 .1 .0) in (
+        someone (p .0),
+        leb-false (c .tables) t (p .1 .0),
+        eqb-false d 0 (q .0),
+        ltb-false longestDelay
+            (d + smallestOffset c t) (q .1),
+        p .1 .1 .1 .0,
+      )
 
   -- t is a table that runs
-  pub stop-passed : (t : ℕ) → stopStatus c s t ≡ done → (nobodyRuns c s ≡ false) × (t < c .tables) × (isRunning (tableOf s t) ≡ true)
+  pub stop-passed : (t : ℕ) → stopStatus c s t ≡ done
+      → (nobodyRuns c s ≡ false) × (t < c .tables) × (isRunning (tableOf s t) ≡ true)
   stop-passed t e =
       let p = all-passed _ (omega arith) e in
       (someone (p .0), leb-false (c .tables) t (p .1 .0), not-false (isRunning (tableOf s t)) (p .1 .1 .0))
@@ -255,8 +285,13 @@ module _ (c : Config) (s : State) where
   pub set-passed : (t w : ℕ) → setStatus c s t w ≡ done
       → (nobodyRuns c s ≡ false) × (isTask c t ≡ true) × (isExtended c t ≡ true) × (active s t ≡ true)
   set-passed t w e =
-      let p = all-passed _ (omega arith) e in
-      (someone (p .0), not-false (isTask c t) (p .1 .0), not-false (isExtended c t) (p .1 .1 .0), not-false (active s t) (p .1 .1 .1 .0))
+      let p = all-passed _ (omega arith) e in (
+        someone (p .0),
+        not-false (isTask c t) (p .1 .0),
+        not-false (isExtended c t) (p .1 .1 .0),
+        not-false (active s t)
+            (p .1 .1 .1 .0),
+      )
 
   -- the runner is an extended task
   pub clear-passed : (w : ℕ) → clearStatus c s w ≡ done → (nobodyRuns c s ≡ false) × (isExtended c (caller c s) ≡ true)

@@ -1,9 +1,9 @@
 -- Who is chosen, from facts that are known body by body.
 --
--- In order: the order of candidates as an order of numbers (`weight`); whom the choice takes, and that nobody goes before him; the choice
--- where one body is changed (`chosen-mapped`), and by two rules for ties that agree (`chosen-same`); the choice from above (`chosen-best`,
--- `chosen-nobody`); the current priority; that of the chosen one; who runs where a time-triggered task is started, and where none is. q is the
--- rule for ties.
+-- In order: the order of candidates as an order of numbers (`weight`); whom the choice takes, and that nobody goes
+-- before him; the choice where one body is changed (`chosen-mapped`), and by two rules for ties that agree
+-- (`chosen-same`); the choice from above (`chosen-best`, `chosen-nobody`); the current priority; that of the chosen
+-- one; who runs where a time-triggered task is started, and where none is. q is the rule for ties.
 -- Assumes nothing.
 use Prim.Native.Nat.{ℕ, zero, suc, _+_, _*_, _≤_, _<_, max}
 use mathlib.Core.Path.{_≡_, refl, sym, ap, ap₂, _∙_}
@@ -27,7 +27,8 @@ use Rattle.scheduler.specs.Scheduler.{markOf}
 abbrev pub contender : Config → List Body → ℕ → Candidate
 contender c bs k = candidate c k (getD bs k noBody) (getD bs k noBody .phase)
 
--- "the greatest current priority .. on equal current priority" the one of which the rule's question holds: the greatest of these numbers
+-- "the greatest current priority .. on equal current priority" the one of which the rule's question holds: the greatest
+-- of these numbers
 abbrev pub weight : Tie → Candidate → ℕ
 weight q k = 2 * k .level + markOf (q k)
 
@@ -44,13 +45,20 @@ goesBefore-weight q j k = by-level (j .level) (k .level) (q j) (q k)
     tie m false true = sym (le-ltb (2 * m + 1) (2 * m + 0) (omega arith))
     tie m false false = sym (le-ltb (2 * m + 0) (2 * m + 0) (omega arith))
 
-    by-level : (m n : ℕ) (p q : Bool) → (ltb n m || (eqb n m && (p && not q))) ≡ ltb (2 * n + markOf q) (2 * m + markOf p)
+    by-level : (m n : ℕ) (p q : Bool)
+        → (ltb n m || (eqb n m && (p && not q))) ≡ ltb (2 * n + markOf q) (2 * m + markOf p)
     by-level m n p q =
         by-lt n m
-        (λ h. simp (lt-ltb n m h, lt-ltb (2 * n + markOf q) (2 * m + markOf p) (omega (arith, markOf-le p, markOf-le q))))
+        (λ h. simp
+        (lt-ltb n m h, lt-ltb (2 * n + markOf q) (2 * m + markOf p) (omega (arith, markOf-le p, markOf-le q))))
         (λ h. by-eq n m
         (λ e. rw e (simp (le-ltb m m (omega arith), eq-eqb m m refl) (tie m p q)))
-        (λ d. simp (le-ltb n m h, ne-eqb n m d, le-ltb (2 * n + markOf q) (2 * m + markOf p) (omega (arith, markOf-le p, markOf-le q)))))
+        (λ d. simp (
+          le-ltb n m h,
+          ne-eqb n m d,
+          le-ltb (2 * n + markOf q) (2 * m + markOf p)
+              (omega (arith, markOf-le p, markOf-le q)),
+        )))
 
 pub before-weight : (q : Tie) (j k : Candidate) → goesBefore q j k ≡ true → weight q k < weight q j
 before-weight q j k e = ltb-true (weight q k) (weight q j) (sym (goesBefore-weight q j k) ∙ e)
@@ -88,7 +96,8 @@ data From (c : Config) (i : ℕ) (bs : List Body) (x : Candidate) : Type 0 where
 shift : (i k : ℕ) → i + suc k ≡ suc i + k
 shift i k = omega arith
 
-from-later : {c : Config} {i : ℕ} {b : Body} {bs : List Body} {x : Candidate} → From c (suc i) bs x → From c i (b ∷ bs) x
+from-later : {c : Config} {i : ℕ} {b : Body} {bs : List Body} {x : Candidate} → From c (suc i) bs x
+    → From c i (b ∷ bs) x
 unfolding contenderFrom
 from-later (none e) = none e
 from-later {i = i} (one k h p e) = one (suc k) (omega arith) p (rw (shift i k) e)
@@ -104,24 +113,34 @@ from-first c i b bs = go (b .phase) refl
     go (waiting w) e = none refl
     go (triggered x) e = none refl
 
-chosenFrom-top : (q : Tie) (c : Config) (i : ℕ) (bs : List Body) (k : ℕ) → weight q (contenderFrom c i bs k) ≤ weight q (chosenFrom q c i bs) + markOf (q nobody)
+chosenFrom-top : (q : Tie) (c : Config) (i : ℕ) (bs : List Body) (k : ℕ)
+    → weight q (contenderFrom c i bs k) ≤ weight q (chosenFrom q c i bs) + markOf (q nobody)
 unfolding contenderFrom candidate chosenFrom
 chosenFrom-top q c i [] k = omega arith
-chosenFrom-top q c i (b ∷ bs) zero = rw add-zero (omega (arith, preferred-left q (candidate c i b (b .phase)) (chosenFrom q c (suc i) bs)))
+chosenFrom-top q c i (b ∷ bs) zero =
+    rw add-zero (omega (arith, preferred-left q (candidate c i b (b .phase)) (chosenFrom q c (suc i) bs)))
 chosenFrom-top q c i (b ∷ bs) (suc k) =
     rw (shift i k)
-    (omega (arith, chosenFrom-top q c (suc i) bs k, preferred-right q (candidate c i b (b .phase)) (chosenFrom q c (suc i) bs)))
+    (omega (
+      arith,
+      chosenFrom-top q c (suc i) bs k,
+      preferred-right q (candidate c i b (b .phase))
+          (chosenFrom q c (suc i) bs),
+    ))
 
 chosenFrom-from : (q : Tie) (c : Config) (i : ℕ) (bs : List Body) → From c i bs (chosenFrom q c i bs)
 unfolding chosenFrom
 chosenFrom-from q c i [] = none refl
 chosenFrom-from q c i (b ∷ bs) =
-    either (From c i (b ∷ bs)) (goesBefore q (chosenFrom q c (suc i) bs) (candidate c i b (b .phase))) (chosenFrom q c (suc i) bs) (candidate c i b (b .phase))
+    either (From c i (b ∷ bs)) (goesBefore q (chosenFrom q c (suc i) bs) (candidate c i b (b .phase)))
+    (chosenFrom q c (suc i) bs) (candidate c i b (b .phase))
     (from-later (chosenFrom-from q c (suc i) bs))
     (from-first c i b bs)
 
--- The body i becomes y, which changes what it is to the choice by g, and g leaves the others and the preferences: the choice is changed by g.
-module _ (q : Tie) (c : Config) (g : Candidate → Candidate) (respects : (x y : Candidate) → preferred q (g x) (g y) ≡ g (preferred q x y))
+-- The body i becomes y, which changes what it is to the choice by g, and g leaves the others and the preferences: the
+-- choice is changed by g.
+module _ (q : Tie) (c : Config) (g : Candidate → Candidate) (respects : (x y : Candidate)
+    → preferred q (g x) (g y) ≡ g (preferred q x y))
     (on-nobody : g nobody ≡ nobody) (i : ℕ)
     (others : (j : ℕ) (b : Body) → j ≢ i → g (candidate c j b (b .phase)) ≡ candidate c j b (b .phase)) (y : Body)
   where
@@ -145,15 +164,18 @@ module _ (q : Tie) (c : Config) (g : Candidate → Candidate) (respects : (x y :
         ap₂ (preferred q) (sym (others j b (λ z. absurd (omega arith)))) (mappedFrom (suc j) bs k (omega arith) h)
         ∙ respects (candidate c j b (b .phase)) (chosenFrom q c (suc j) bs)
 
-    pub chosen-mapped : (bs : List Body) → candidate c i y (y .phase) ≡ g (contender c bs i) → chosenBy q c (set bs i y) ≡ g (chosenBy q c bs)
+    pub chosen-mapped : (bs : List Body) → candidate c i y (y .phase) ≡ g (contender c bs i)
+        → chosenBy q c (set bs i y) ≡ g (chosenBy q c bs)
     chosen-mapped bs h = mappedFrom 0 bs i (zero-add i) h
 
 -- a body that is to the choice what it was leaves the choice
-pub chosen-alike : (q : Tie) (c : Config) (f : Body → Body) → ((j : ℕ) (b : Body) → candidate c j (f b) (f b .phase) ≡ candidate c j b (b .phase))
+pub chosen-alike : (q : Tie) (c : Config) (f : Body → Body)
+    → ((j : ℕ) (b : Body) → candidate c j (f b) (f b .phase) ≡ candidate c j b (b .phase))
     → (bs : List Body) (i : ℕ)
     → chosenBy q c (set bs i (f (getD bs i noBody))) ≡ chosenBy q c bs
 chosen-alike q c f same bs i =
-    chosen-mapped q c (λ x. x) (λ x y. refl) refl i (λ j b d. refl) (f (getD bs i noBody)) bs (same i (getD bs i noBody))
+    chosen-mapped q c (λ x. x) (λ x y. refl) refl i (λ j b d. refl) (f (getD bs i noBody)) bs
+    (same i (getD bs i noBody))
 
 -- whom the choice x takes: nobody, or a body that is ready or started
 pub data Taken (c : Config) (bs : List Body) (x : Candidate) : Type 0 where
@@ -167,7 +189,8 @@ from-taken (one k h p e) = body k h p (rw zero-add at e)
 
 -- two rules for ties that agree on everyone who may run choose alike
 module _ (q q′ : Tie) (c : Config) where
-  sameFrom : (i : ℕ) (bs : List Body) → ((x y : Candidate) → From c i bs x → From c i bs y → goesBefore q x y ≡ goesBefore q′ x y)
+  sameFrom : (i : ℕ) (bs : List Body)
+      → ((x y : Candidate) → From c i bs x → From c i bs y → goesBefore q x y ≡ goesBefore q′ x y)
       → chosenFrom q c i bs ≡ chosenFrom q′ c i bs
   unfolding chosenFrom
   sameFrom i [] agree = refl
@@ -175,9 +198,11 @@ module _ (q q′ : Tie) (c : Config) where
       let tail = sameFrom (suc i) bs (λ x y f g. agree x y (from-later f) (from-later g)) in
       rw tail
       (ap (λ t. cond t (chosenFrom q′ c (suc i) bs) (candidate c i b (b .phase)))
-      (agree (chosenFrom q′ c (suc i) bs) (candidate c i b (b .phase)) (from-later (chosenFrom-from q′ c (suc i) bs)) (from-first c i b bs)))
+      (agree (chosenFrom q′ c (suc i) bs) (candidate c i b (b .phase)) (from-later (chosenFrom-from q′ c (suc i) bs))
+      (from-first c i b bs)))
 
-  pub chosen-same : (bs : List Body) → ((x y : Candidate) → Taken c bs x → Taken c bs y → goesBefore q x y ≡ goesBefore q′ x y)
+  pub chosen-same : (bs : List Body)
+      → ((x y : Candidate) → Taken c bs x → Taken c bs y → goesBefore q x y ≡ goesBefore q′ x y)
       → chosenBy q c bs ≡ chosenBy q′ c bs
   chosen-same bs agree = sameFrom 0 bs (λ x y f g. agree x y (from-taken f) (from-taken g))
 
@@ -198,7 +223,8 @@ module _ (q : Tie) (unasked : q nobody ≡ false) (c : Config) (bs : List Body) 
 
   -- a body that goes before every other one that may run is chosen
   pub chosen-best : (k : ℕ) → isNobody (contender c bs k) ≡ false
-      → ((i : ℕ) → i < length bs → i ≢ k → competes (getD bs i noBody .phase) ≡ true → goesBefore q (contender c bs k) (contender c bs i) ≡ true)
+      → ((i : ℕ) → i < length bs → i ≢ k → competes (getD bs i noBody .phase) ≡ true
+      → goesBefore q (contender c bs k) (contender c bs i) ≡ true)
       → chosenBy q c bs ≡ contender c bs k
   chosen-best k some best = settle chosen-from
     where
@@ -212,7 +238,8 @@ module _ (q : Tie) (unasked : q nobody ≡ false) (c : Config) (bs : List Body) 
           (λ same. e ∙ ap (contender c bs) same)
           (λ other.
           let w : weight q (chosenBy q c bs) ≡ weight q (contender c bs i) = ap (weight q) e in
-          absurd (omega (arith, chosen-weight k, before-weight q (contender c bs k) (contender c bs i) (best i h other p))))
+          absurd (omega
+          (arith, chosen-weight k, before-weight q (contender c bs k) (contender c bs i) (best i h other p))))
 
   -- nobody runs where every body is suspended or waits
   pub chosen-nobody : ((i : ℕ) → i < length bs → competes (getD bs i noBody .phase) ≡ false) → chosenBy q c bs ≡ nobody
@@ -251,7 +278,8 @@ module _ (c : Config) (i : ℕ) where
 
   -- what a body that is ready or started is to the choice
   pub candidate-active : (b : Body) (p : Phase) → competes p ≡ true
-      → candidate c i b p ≡ record { number = i; level = current c i b; began = isStarted p; holder = holds (b .held); timed = false }
+      → candidate c i b p
+      ≡ record { number = i; level = current c i b; began = isStarted p; holder = holds (b .held); timed = false }
   unfolding candidate
   candidate-active b suspended h = absurd (true≢false (sym h))
   candidate-active b ready h = refl
@@ -273,7 +301,8 @@ pub releases-gets : (r : ℕ) (b : Body) → releases (gets r b) ≡ b
 releases-gets r b = refl
 
 -- "After each event the body with the greatest current priority among ready and started ones runs"
-module _ (q : Tie) (unasked : q nobody ≡ false) (c : Config) (bs : List Body) (k : ℕ) (active : competes (getD bs k noBody .phase) ≡ true) where
+module _ (q : Tie) (unasked : q nobody
+    ≡ false) (c : Config) (bs : List Body) (k : ℕ) (active : competes (getD bs k noBody .phase) ≡ true) where
   pub level-active : contender c bs k .level ≡ current c k (getD bs k noBody)
   level-active = ap (λ x. x .level) (candidate-active c k (getD bs k noBody) (getD bs k noBody .phase) active)
 
@@ -281,7 +310,8 @@ module _ (q : Tie) (unasked : q nobody ≡ false) (c : Config) (bs : List Body) 
   chosen-greatest = omega (arith, level-active, chosen-weight q unasked c bs k, markOf-le (q (chosenBy q c bs)))
 
   -- on equal priorities the one of which the rule's question holds goes first
-  pub chosen-tie : q (contender c bs k) ≡ true → current c k (getD bs k noBody) ≡ chosenBy q c bs .level → q (chosenBy q c bs) ≡ true
+  pub chosen-tie : q (contender c bs k) ≡ true → current c k (getD bs k noBody) ≡ chosenBy q c bs .level
+      → q (chosenBy q c bs) ≡ true
   chosen-tie asked equal =
       let m : markOf (q (contender c bs k)) ≡ 1 = ap markOf asked in
       marked (q (chosenBy q c bs)) (omega (arith, level-active, chosen-weight q unasked c bs k))
@@ -292,7 +322,8 @@ module _ (q : Tie) (unasked : q nobody ≡ false) (c : Config) (bs : List Body) 
 
   -- somebody runs where a body may
   pub chosen-someone : 1 ≤ priorityOf c k → isNobody (chosenBy q c bs) ≡ false
-  chosen-someone some = ne-eqb (chosenBy q c bs .level) 0 (omega (arith, current-own c k (getD bs k noBody), chosen-greatest))
+  chosen-someone some =
+      ne-eqb (chosenBy q c bs .level) 0 (omega (arith, current-own c k (getD bs k noBody), chosen-greatest))
 
 -- a started time-triggered task goes before all others, the latest first
 module _ (c : Config) (s : State) where
@@ -300,7 +331,8 @@ module _ (c : Config) (s : State) where
   pub timed-level : (j : ℕ) (js : List ℕ) → s .order ≡ j ∷ js → runner c s .level ≡ 201
   timed-level j js e = ap (λ (l : List ℕ). latestOf (s .bodies) l (chosen c (s .bodies)) .level) e
 
-  pub runner-timed : (j : ℕ) (js : List ℕ) → s .order ≡ j ∷ js → runner c s ≡ latestOf (s .bodies) (j ∷ js) (chosen c (s .bodies))
+  pub runner-timed : (j : ℕ) (js : List ℕ) → s .order ≡ j ∷ js
+      → runner c s ≡ latestOf (s .bodies) (j ∷ js) (chosen c (s .bodies))
   runner-timed j js e = ap (λ (l : List ℕ). latestOf (s .bodies) l (chosen c (s .bodies))) e
 
   pub runner-untimed : s .order ≡ [] → runner c s ≡ chosen c (s .bodies)

@@ -1,6 +1,7 @@
 -- Lists in which no number stands twice: such a list is no longer than one that has all its numbers (`distinct-fits`).
 --
--- In order: a list without one of its numbers; the law; what `among` says of a head, a tail and a place. Assumes nothing.
+-- In order: a list without one of its numbers; the law; what `among` says of a head, a tail and a place. Assumes
+-- nothing.
 use Prim.Native.Nat.{ℕ, zero, suc, _≤_, _<_}
 use mathlib.Core.Path.{_≡_, refl, sym, ap, _∙_}
 use mathlib.Core.Bool.{Bool, true, false, true≢false, cond, _||_}
@@ -77,12 +78,14 @@ among-removed i j (x ∷ xs) d h =
     (λ here. rw here (among-head x (removed j xs)))
     (λ n. among-tail i x (removed j xs) (among-removed i j xs d (sym (among-other i x xs n) ∙ h)))))
 
-pub distinct-fits : (js l : List ℕ) → Distinct js → ((i : ℕ) → among i js ≡ true → among i l ≡ true) → length js ≤ length l
+pub distinct-fits : (js l : List ℕ) → Distinct js → ((i : ℕ) → among i js ≡ true → among i l ≡ true)
+    → length js ≤ length l
 distinct-fits [] l d all = omega arith
 distinct-fits (j ∷ js) l d all =
     omega (
       arith,
       length-removed j l (all j (among-head j js)),
       distinct-fits js (removed j l) (d .1)
-          (λ i h. among-removed i j l (λ e. true≢false (sym h ∙ ap (λ (k : ℕ). among k js) e ∙ d .0)) (all i (among-tail i j js h))),
+          (λ i h. among-removed i j l (λ e. true≢false (sym h ∙ ap (λ (k : ℕ). among k js) e ∙ d .0))
+          (all i (among-tail i j js h))),
     )

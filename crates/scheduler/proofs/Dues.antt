@@ -1,6 +1,7 @@
 -- An entry's mark in what is seen is what the events say of it: `due-exactly`, at the end of the file.
 --
--- In order: what is seen of the i-th event; the marks of a Tick, entry by entry; both directions, by the table's history. Assumes nothing.
+-- In order: what is seen of the i-th event; the marks of a Tick, entry by entry; both directions, by the table's
+-- history. Assumes nothing.
 use Prim.Native.Nat.{ℕ, zero, suc, _<_}
 use mathlib.Core.Path.{_≡_, refl, sym, ap, ap₂, _∙_}
 use mathlib.Core.Bool.{Bool, true, false, true≢false}
@@ -35,17 +36,20 @@ seen-at c (e ∷ es) (suc i) s h = seen-at c es i (step c s e .state) (omega ari
 abbrev dueIn : List Table → Entry → Bool
 dueIn ys x = entryDue (x .period) (getD ys (x .table) stopped) (x .offset)
 
-duesFrom-entries : (c : Config) (ys xs : List Table) (t : ℕ) → drop t ys ≡ xs → duesFrom c t xs ≡ map (dueIn ys) (entriesFrom c (length xs) t)
+duesFrom-entries : (c : Config) (ys xs : List Table) (t : ℕ) → drop t ys ≡ xs
+    → duesFrom c t xs ≡ map (dueIn ys) (entriesFrom c (length xs) t)
 unfolding duesFrom entriesFrom
 duesFrom-entries c ys [] t e = refl
 duesFrom-entries c ys (x ∷ xs) t e =
     ap₂ (λ (a b : List Bool). a ++ b)
-    (ap (λ y. map (entryDue (getD (c .period) t 0) y) (offsets c t)) (sym head) ∙ sym (map-map (dueIn ys) (entryOf c t) (offsets c t)))
+    (ap (λ y. map (entryDue (getD (c .period) t 0) y) (offsets c t)) (sym head)
+    ∙ sym (map-map (dueIn ys) (entryOf c t) (offsets c t)))
     (duesFrom-entries c ys xs (suc t) tail)
     ∙ sym (map-append (dueIn ys) (map (entryOf c t) (offsets c t)) (entriesFrom c (length xs) (suc t)))
   where
     head : getD ys t stopped ≡ x
-    head = ap (λ n. getD ys n stopped) (sym (add-zero t)) ∙ sym (getD-drop t ys 0 stopped) ∙ ap (λ l. getD l 0 stopped) e
+    head =
+        ap (λ n. getD ys n stopped) (sym (add-zero t)) ∙ sym (getD-drop t ys 0 stopped) ∙ ap (λ l. getD l 0 stopped) e
 
     tail : drop (suc t) ys ≡ xs
     tail = ap (λ n. drop n ys) (sym (add-one t)) ∙ sym (drop-drop 1 t ys) ∙ ap (drop 1) e
@@ -65,16 +69,20 @@ length-dues c s fits =
 module _ (c : Config) where
   -- the k-th mark of a Tick
   tick-mark : (s : State) (k : ℕ) → length (s .tables) ≡ c .tables → k < length (entriesOf c)
-      → getD (dues c (counted s)) k false ≡ entryDue (entryAt c k .period) (counting (tableOf s (entryAt c k .table))) (entryAt c k .offset)
+      → getD (dues c (counted s)) k false
+      ≡ entryDue (entryAt c k .period) (counting (tableOf s (entryAt c k .table))) (entryAt c k .offset)
   unfolding counting
   tick-mark s k fits h =
       ap (λ l. getD l k false) (duesFrom-entries c (counted s .tables) (counted s .tables) 0 refl)
-      ∙ ap (λ n. getD (map (dueIn (counted s .tables)) (entriesFrom c n 0)) k false) (length-map (s .tables) counting ∙ fits)
+      ∙ ap (λ n. getD (map (dueIn (counted s .tables)) (entriesFrom c n 0)) k false)
+      (length-map (s .tables) counting ∙ fits)
       ∙ getD-map-in (dueIn (counted s .tables)) (entriesOf c) k (entryOf c 0 0) false h
-      ∙ ap (λ y. entryDue (entryAt c k .period) y (entryAt c k .offset)) (List·getD-map counting (s .tables) (entryAt c k .table) stopped)
+      ∙ ap (λ y. entryDue (entryAt c k .period) y (entryAt c k .offset))
+      (List·getD-map counting (s .tables) (entryAt c k .table) stopped)
 
   -- the table's history tells whether its entry is due at a Tick after the events es
-  due-history : (es : List Event) (x : Entry) (y : Table) → History c (x .table) es y → entryDue (x .period) (counting y) (x .offset) ≡ true
+  due-history : (es : List Event) (x : Entry) (y : Table) → History c (x .table) es y
+      → entryDue (x .period) (counting y) (x .offset) ≡ true
       → DueAt c es Tick x
   unfolding counting entryDue
   due-history es x y (never-started none) h = absurd (true≢false (sym h))

@@ -1,7 +1,8 @@
 -- What an event leaves as it was.
 --
--- In order: a change of one body leaves the others and the tables; what every effect (`effectOf-keeps`) and every refusal (`refusalOf-keeps`)
--- keeps; no event adds a body or a table; no call but a lost line that is counted changes a loss. Assumes nothing.
+-- In order: a change of one body leaves the others and the tables; what every effect (`effectOf-keeps`) and every
+-- refusal (`refusalOf-keeps`) keeps; no event adds a body or a table; no call but a lost line that is counted changes a
+-- loss. Assumes nothing.
 use Prim.Native.Nat.{ℕ, _<_}
 use mathlib.Core.Path.{_≡_, refl, sym, ap, _∙_}
 use mathlib.Core.Bool.{Bool, true, false, true≢false, cond, _&&_}
@@ -17,7 +18,7 @@ use Rattle.config.specs.declared.Config.{Config}
 use Rattle.config.specs.Meaning.{countsLines, isTimed}
 use Rattle.scheduler.specs.Bits.{anySet}
 use Rattle.scheduler.specs.Status.{done, limitReached}
-use Rattle.scheduler.specs.Body.{isSuspended, hasBegun, Body, become, activated, triggers, rest, finished, requested, gets, releases, activatedByEntry, loses, waits, receives, clears}
+use Rattle.scheduler.specs.Body.{ready, waiting, isSuspended, hasBegun, Body, become, activated, triggers, rest, finished, requested, gets, releases, activatedByEntry, loses, waits, receives, clears}
 use Rattle.scheduler.specs.State.{State, Table, stopped, noBody, bodyOf, changing, withTable, runner}
 use Rattle.scheduler.specs.Call.{caller, finish, finishTimed, statusOf, effectOf, refusalOf}
 use Rattle.scheduler.specs.Tick.{counting, counted, starting, trigger, enter, activatingDue, dues, ticked}
@@ -41,7 +42,8 @@ module _ (i : ℕ) (f : Body → Body) (s : State) where
 abbrev pub withOrder : List ℕ → State → State
 withOrder js s = record { bodies = s .bodies; tables = s .tables; order = js }
 
--- a time-triggered task that is started is the latest, and leaves the order at its end; due while it is started it loses
+-- a time-triggered task that is started is the latest, and leaves the order at its end; due while it is started it
+-- loses
 pub starting-latest : (t : ℕ) (s : State) → starting t s .order ≡ t ∷ s .order
 starting-latest t s = refl
 
@@ -72,12 +74,23 @@ requested-losses b = cond-losses (hasBegun (b .phase)) _ _ (b .losses) refl refl
 waits-losses : (w : ℕ) → KeepsLosses (waits w)
 waits-losses w b = cond-losses (anySet (b .bits) w) _ _ (b .losses) refl refl
 
+-- a Wait clears no bit, and a request that waits at the end of its body makes it ready
+pub waits-bits : (w : ℕ) (b : Body) → waits w b .bits ≡ b .bits
+waits-bits w b = go (anySet (b .bits) w)
+  where
+    go : (p : Bool) → cond p b (become (waiting w) b) .bits ≡ b .bits
+    go true = refl
+    go false = refl
+
+pub finished-waiting : (b : Body) → b .pending ≡ true → finished b .phase ≡ ready
+finished-waiting b h = rw h
+
 pub cond-either : (P : State → Type 0) (b : Bool) (x y : State) → P x → P y → P (cond b x y)
 cond-either P true x y p q = p
 cond-either P false x y p q = q
 
--- what the effects keep: each changes bodies and leaves their losses, or changes a table, or is that of a Tick; a time-triggered task that
--- ends leaves the order besides
+-- what the effects keep: each changes bodies and leaves their losses, or changes a table, or is that of a Tick; a
+-- time-triggered task that ends leaves the order besides
 pub effectOf-keeps : (c : Config) (s : State) (P : State → Type 0)
     → ((i : ℕ) (f : Body → Body) (x : State) → KeepsLosses f → P x → P (changing i f x))
     → ((js : List ℕ) (x : State) → P x → P (withOrder js x))
@@ -172,7 +185,8 @@ module _ (c : Config) (P : State → Type 0) where
       → P (enter c t s)
   enter-keeps t s on-order = go (isTimed c t)
     where
-      timed : (b : Bool) → P (changing t (λ x. cond b (triggers x) (loses x)) s) → P (cond b (starting t s) (changing t loses s))
+      timed : (b : Bool) → P (changing t (λ x. cond b (triggers x) (loses x)) s)
+          → P (cond b (starting t s) (changing t loses s))
       timed true p = on-order (t ∷ s .order) (changing t triggers s) p
       timed false p = p
 
@@ -188,7 +202,8 @@ module _ (c : Config) (P : State → Type 0) where
   activatingDue-keeps on-order on-entry = enters-keep (λ t s p. enter-keeps t s on-order (on-entry t (isTimed c t) s p))
 
 pub enter-bodies : (c : Config) (t : ℕ) (s : State) → enter c t s .bodies ≡ changing t (entered (isTimed c t)) s .bodies
-enter-bodies c t s = enter-keeps c (λ x. x .bodies ≡ changing t (entered (isTimed c t)) s .bodies) t s (λ js x h. h) refl
+enter-bodies c t s =
+    enter-keeps c (λ x. x .bodies ≡ changing t (entered (isTimed c t)) s .bodies) t s (λ js x h. h) refl
 
 -- what every change of a body keeps
 module _ (P : State → Type 0) (on-body : (i : ℕ) (f : Body → Body) (s : State) → P s → P (changing i f s)) where
@@ -197,7 +212,8 @@ module _ (P : State → Type 0) (on-body : (i : ℕ) (f : Body → Body) (s : St
       cond-either P (begins (runner c s)) _ s (on-body (runner c s .number) (become (phaseBegun (runner c s))) s p) p
 
   -- what the changes of the order and of a table, and their counting, keep too
-  pub step-keeps : ((js : List ℕ) (s : State) → P s → P (withOrder js s)) → ((t : ℕ) (x : Table) (s : State) → P s → P (withTable t x s))
+  pub step-keeps : ((js : List ℕ) (s : State) → P s → P (withOrder js s))
+      → ((t : ℕ) (x : Table) (s : State) → P s → P (withTable t x s))
       → ((s : State) → P s → P (counted s))
       → (c : Config) (s : State)
       → P s
@@ -208,7 +224,8 @@ module _ (P : State → Type 0) (on-body : (i : ℕ) (f : Body → Body) (s : St
       dispatched-keeps c _
       (cond-either P (eqb (statusOf c s e) done) (effectOf c s e) (refusalOf c s (statusOf c s e) e)
       (effectOf-keeps c s P (λ i f x k. on-body i f x) on-order (λ t y. on-table t y s p) p e
-      (λ q. activatingDue-keeps c P on-order (λ t b. on-body t (entered b)) (dues c (counted s)) (c .task) (counted s) (on-counted s p)))
+      (λ q. activatingDue-keeps c P on-order (λ t b. on-body t (entered b)) (dues c (counted s)) (c .task) (counted s)
+      (on-counted s p)))
       (refusalOf-keeps c s P p (statusOf c s e) e (λ i _ _ _. on-body i loses s p)))
 
 -- no event adds or takes away a body or a table
@@ -240,7 +257,8 @@ module _ (c : Config) where
 
   pub tables-ticked : (s : State) → ticked c s .tables ≡ map counting (s .tables)
   tables-ticked s =
-      activatingDue-keeps c (λ x. x .tables ≡ map counting (s .tables)) (λ js x h. h) (λ t b x h. h) (dues c (counted s)) (c .task) (counted s)
+      activatingDue-keeps c (λ x. x .tables ≡ map counting (s .tables)) (λ js x h. h) (λ t b x h. h)
+      (dues c (counted s)) (c .task) (counted s)
       refl
 
   pub tables-fresh : fresh c .tables ≡ replicate (c .tables) stopped
@@ -260,14 +278,18 @@ module _ (c : Config) where
       (losses-changing (runner c s .number) (become (phaseBegun (runner c s))) s (λ b. refl))
       refl
 
-  pub losses-call : (s : State) (e : Event) → e ≢ Tick → ((i : ℕ) → LostLine c s e i → ⊥) → lossesOf (step c s e .state) ≡ lossesOf s
+  pub losses-call : (s : State) (e : Event) → e ≢ Tick → ((i : ℕ) → LostLine c s e i → ⊥)
+      → lossesOf (step c s e .state) ≡ lossesOf s
   unfolding stepBy
   losses-call s e d kept =
       losses-dispatched (leaves c s e)
-      ∙ cond-either (λ x. lossesOf x ≡ lossesOf s) (eqb (statusOf c s e) done) (effectOf c s e) (refusalOf c s (statusOf c s e) e)
-      (effectOf-keeps c s (λ x. lossesOf x ≡ lossesOf s) (λ i f x k h. losses-changing i f x k ∙ h) (λ js x h. h) (λ t y. refl) refl e
+      ∙ cond-either (λ x. lossesOf x ≡ lossesOf s) (eqb (statusOf c s e) done) (effectOf c s e)
+      (refusalOf c s (statusOf c s e) e)
+      (effectOf-keeps c s (λ x. lossesOf x ≡ lossesOf s) (λ i f x k h. losses-changing i f x k ∙ h) (λ js x h. h)
+      (λ t y. refl) refl e
       (λ q. absurd (d q)))
-      (refusalOf-keeps c s (λ x. lossesOf x ≡ lossesOf s) refl (statusOf c s e) e (λ i w q h. absurd (kept i (w, q, h))))
+      (refusalOf-keeps c s (λ x. lossesOf x ≡ lossesOf s) refl (statusOf c s e) e
+      (λ i w q h. absurd (kept i (w, q, h))))
 
   -- the losses that are seen are those of the state after the event
   pub losses-seen : (s : State) (e : Event) → step c s e .seen .losses ≡ lossesOf (step c s e .state)

@@ -18,13 +18,16 @@ use Rattle.scheduler.specs.Scheduler.{Event, Finish, Chain, Get, Release
 -- "Configuration (hex)"
 unfoldable pub listing : Config
 listing =
-    readConfig (0x01 ∷ 0x03 ∷ 0x00 ∷ 0x02 ∷ 0x01 ∷ 0x00 ∷ 0x05 ∷ 0x00 ∷ 0x01 ∷ 0x09 ∷ 0x00 ∷ 0x01 ∷ 0x03 ∷ 0x01 ∷ 0x04 ∷ 0x02 ∷ 0x00 ∷ 0x01 ∷ 0x02 ∷ 0x00 ∷ [])
+    readConfig
+    (0x01 ∷ 0x03 ∷ 0x00 ∷ 0x02 ∷ 0x01 ∷ 0x00 ∷ 0x05 ∷ 0x00 ∷ 0x01 ∷ 0x09 ∷ 0x00 ∷ 0x01 ∷ 0x03 ∷ 0x01 ∷ 0x04 ∷ 0x02
+    ∷ 0x00 ∷ 0x01 ∷ 0x02 ∷ 0x00 ∷ [])
     .config
 
 -- "Trace"
 pub events : List Event
 events =
-    Start 0 1 ∷ Get 0 ∷ Tick ∷ Line 2 ∷ Chain 1 ∷ Finish ∷ Finish ∷ Release 0 ∷ Tick ∷ Tick ∷ Finish ∷ Finish ∷ Tick ∷ Tick ∷ Stop 0 ∷ Finish ∷ Finish ∷ []
+    Start 0 1 ∷ Get 0 ∷ Tick ∷ Line 2 ∷ Chain 1 ∷ Finish ∷ Finish ∷ Release 0 ∷ Tick ∷ Tick ∷ Finish ∷ Finish ∷ Tick
+    ∷ Tick ∷ Stop 0 ∷ Finish ∷ Finish ∷ []
 
 -- status, runner, level and begun mark of a row
 pub record Row : Type 0 where
@@ -40,7 +43,8 @@ abbrev pub rowOf : Seen → Row
 rowOf x = row (x .status) (x .runner) (x .level) (x .begun)
 
 rows : map rowOf (seen listing (fresh listing) events)
-    ≡ row 0 0 2 0 ∷ row 0 0 5 0 ∷ row 0 0 5 0 ∷ row 0 2 9 1 ∷ row 2 2 9 0 ∷ row 0 0 5 0 ∷ row 6 0 5 0 ∷ row 0 1 5 1 ∷ row 0 1 5 0 ∷ row 0 1 5 0
+    ≡ row 0 0 2 0 ∷ row 0 0 5 0 ∷ row 0 0 5 0 ∷ row 0 2 9 1 ∷ row 2 2 9 0 ∷ row 0 0 5 0 ∷ row 6 0 5 0 ∷ row 0 1 5 1
+    ∷ row 0 1 5 0 ∷ row 0 1 5 0
     ∷ row 0 0 2 0 ∷ row 0 255 0 0 ∷ row 0 255 0 0 ∷ row 0 1 5 1 ∷ row 0 1 5 0 ∷ row 0 255 0 0 ∷ row 2 255 0 0 ∷ []
 unfolding listing events readConfig readFrom readNumber groups continued fifthGroup faultAt putAt ended occurs timedIn someTimed greatestIn entriesBefore due firstGiven candidate chosenFrom among heldIn counting entryDue duesFrom activatingDue stepBy seenBy
 rows = refl

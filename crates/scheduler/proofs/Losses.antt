@@ -1,7 +1,7 @@
 -- What a Tick does to one task: `tick-suspended`, `tick-triggered` and `tick-active`, at the end of the file.
 --
--- In order: the due entries that name the task, one after the other, are so many of them (`activatingDue-times`); what so many do to a task
--- that isn't suspended; no loss count is above 65,535 after any list of events. Assumes nothing.
+-- In order: the due entries that name the task, one after the other, are so many of them (`activatingDue-times`); what
+-- so many do to a task that isn't suspended; no loss count is above 65,535 after any list of events. Assumes nothing.
 use Prim.Native.Nat.{ℕ, zero, suc, _+_, _≤_, _<_, min}
 use mathlib.Core.Path.{_≡_, refl, sym, ap, ap₂, _∙_}
 use mathlib.Core.Bool.{Bool, true, false, cond}
@@ -37,8 +37,10 @@ activatingDue-times c t (true ∷ ds) (u ∷ us) s fits =
     activatingDue-times c t ds us (enter c u s) (rw (enter-bodies c u s, length-changing u f s) fits)
     ∙ ap (λ (bs : List Body). times (isTimed c t) (naming t ds us) (getD bs t noBody)) (enter-bodies c u s)
     ∙ by-eq u t
-    (λ same. rw (eq-eqb u t same) (ap (times (isTimed c t) (naming t ds us)) (rw (← same) (bodyOf-changing-same u f s (rw same fits)))))
-    (λ other. rw (ne-eqb u t other) (ap (times (isTimed c t) (naming t ds us)) (bodyOf-changing-other u f s t (λ e. other (sym e)))))
+    (λ same. rw (eq-eqb u t same)
+    (ap (times (isTimed c t) (naming t ds us)) (rw (← same) (bodyOf-changing-same u f s (rw same fits)))))
+    (λ other. rw (ne-eqb u t other)
+    (ap (times (isTimed c t) (naming t ds us)) (bodyOf-changing-other u f s t (λ e. other (sym e)))))
   where
     f : Body → Body
     f = entered (isTimed c u)
@@ -52,7 +54,8 @@ entered-active true b h = rw h
 entered-active false b h = rw h
 
 -- a body that isn't suspended loses them all
-times-active : (x : Bool) (n : ℕ) (b : Body) → isSuspended (b .phase) ≡ false → b .losses ≤ mostLosses → times x n b ≡ losing n b
+times-active : (x : Bool) (n : ℕ) (b : Body) → isSuspended (b .phase) ≡ false → b .losses ≤ mostLosses
+    → times x n b ≡ losing n b
 unfolding times withLosses
 times-active x zero b h few =
     let none : b .losses ≡ min (b .losses + 0) mostLosses = omega arith in
@@ -62,13 +65,15 @@ times-active x (suc n) b h few =
     ap (times x n) (entered-active x b h) ∙ times-active x n (loses b) h (omega arith) ∙ ap (withLosses b) one-more
 
 -- a suspended one is ready, or triggered, after the first, and loses the others
-times-suspended : (n : ℕ) (b : Body) → b .phase ≡ suspended → b .losses ≤ mostLosses → times false (suc n) b ≡ losing n (activated b)
+times-suspended : (n : ℕ) (b : Body) → b .phase ≡ suspended → b .losses ≤ mostLosses
+    → times false (suc n) b ≡ losing n (activated b)
 unfolding times
 times-suspended n b h few =
     let first : entered false b ≡ activated b = rw h in
     ap (times false n) first ∙ times-active false n (activated b) refl few
 
-times-triggered : (n : ℕ) (b : Body) → b .phase ≡ suspended → b .losses ≤ mostLosses → times true (suc n) b ≡ losing n (triggers b)
+times-triggered : (n : ℕ) (b : Body) → b .phase ≡ suspended → b .losses ≤ mostLosses
+    → times true (suc n) b ≡ losing n (triggers b)
 unfolding times
 times-triggered n b h few =
     let first : entered true b ≡ triggers b = rw h in
@@ -91,7 +96,8 @@ entry-few false b few = go (isSuspended (b .phase))
     go false = omega arith
 
 module _ (c : Config) where
-  few-changing : (t : ℕ) (f : Body → Body) (s : State) → ((b : Body) → b .losses ≤ mostLosses → f b .losses ≤ mostLosses) → FewLosses s
+  few-changing : (t : ℕ) (f : Body → Body) (s : State)
+      → ((b : Body) → b .losses ≤ mostLosses → f b .losses ≤ mostLosses) → FewLosses s
       → FewLosses (changing t f s)
   few-changing t f s keeps few i =
       by-eq i t
@@ -114,14 +120,17 @@ module _ (c : Config) where
       few-losses (leaves c s e) (dispatched c (leaves c s e)) (losses-dispatched c (leaves c s e))
       (cond-either FewLosses (eqb (statusOf c s e) done) (effectOf c s e) (refusalOf c s (statusOf c s e) e)
       (effectOf-keeps c s FewLosses (λ i f x k. few-changing i f x (λ b h. rw (k b) h)) (λ js x h. h) (λ t y. few) few e
-      (λ q. activatingDue-keeps c FewLosses (λ js x h. h) (λ t b x. few-changing t (entered b) x (entry-few b)) (dues c (counted s)) (c .task)
+      (λ q. activatingDue-keeps c FewLosses (λ js x h. h) (λ t b x. few-changing t (entered b) x (entry-few b))
+      (dues c (counted s)) (c .task)
       (counted s) few))
-      (refusalOf-keeps c s FewLosses few (statusOf c s e) e (λ i _ _ _. few-changing i loses s (λ b h. omega arith) few)))
+      (refusalOf-keeps c s FewLosses few (statusOf c s e) e
+      (λ i _ _ _. few-changing i loses s (λ b h. omega arith) few)))
 
   pub few-fresh : FewLosses (fresh c)
   few-fresh =
       few-losses (unstarted c) (fresh c) (losses-dispatched c (unstarted c))
-      (λ i. rw (List·getD-map newBody (take (c .bodies) (c .autostart)) i 0) (none (eqb (getD (take (c .bodies) (c .autostart)) i 0) 1)))
+      (λ i. rw (List·getD-map newBody (take (c .bodies) (c .autostart)) i 0)
+      (none (eqb (getD (take (c .bodies) (c .autostart)) i 0) 1)))
     where
       none : (a : Bool) → cond a (activated noBody) noBody .losses ≤ mostLosses
       none true = lit≤ tt
@@ -137,7 +146,8 @@ module _ (c : Config) where
     due-times : bodyOf (ticked c (after c (fresh c) es)) t
         ≡ times (isTimed c t) (dueFor c (after c (fresh c) es) t) (bodyOf (after c (fresh c) es) t)
     due-times =
-        activatingDue-times c t (dues c (counted (after c (fresh c) es))) (c .task) (counted (after c (fresh c) es)) fits
+        activatingDue-times c t (dues c (counted (after c (fresh c) es))) (c .task)
+        (counted (after c (fresh c) es)) fits
 
     few : bodyOf (after c (fresh c) es) t .losses ≤ mostLosses
     few = few-after es (fresh c) few-fresh t
@@ -161,6 +171,8 @@ module _ (c : Config) where
 
     -- "If the task isn't suspended, its loss count rises", by one for each
     pub tick-active : isSuspended (bodyOf (after c (fresh c) es) t .phase) ≡ false
-        → bodyOf (ticked c (after c (fresh c) es)) t ≡ losing (dueFor c (after c (fresh c) es) t) (bodyOf (after c (fresh c) es) t)
+        → bodyOf (ticked c (after c (fresh c) es)) t
+        ≡ losing (dueFor c (after c (fresh c) es) t) (bodyOf (after c (fresh c) es) t)
     tick-active h =
-        due-times ∙ times-active (isTimed c t) (dueFor c (after c (fresh c) es) t) (bodyOf (after c (fresh c) es) t) h few
+        due-times
+        ∙ times-active (isTimed c t) (dueFor c (after c (fresh c) es) t) (bodyOf (after c (fresh c) es) t) h few

@@ -39,7 +39,8 @@ module _ (c : Config) where
   named-enter t s n =
       by-test (isTimed c t)
       (λ h. rw h
-      (cond-either Named (isSuspended (bodyOf s t .phase)) (starting t s) (changing t loses s) (named-starting t s h n) n))
+      (cond-either Named (isSuspended (bodyOf s t .phase)) (starting t s) (changing t loses s)
+      (named-starting t s h n) n))
       (λ h. rw h n)
 
   pub named-effect : (s : State) (e : Event) → Named s → Named (effectOf c s e)
@@ -61,7 +62,8 @@ module _ (c : Config) where
 
   pub named-leaves : (s : State) (e : Event) → Named s → Named (leaves c s e)
   named-leaves s e n =
-      cond-either Named (eqb (statusOf c s e) done) (effectOf c s e) (refusalOf c s (statusOf c s e) e) (named-effect s e n)
+      cond-either Named (eqb (statusOf c s e) done) (effectOf c s e) (refusalOf c s (statusOf c s e) e)
+      (named-effect s e n)
       (refusalOf-keeps c s Named n (statusOf c s e) e (λ i _ _ _. n))
 
   pub named-dispatched : (s : State) → Named s → Named (dispatched c s)

@@ -1,7 +1,8 @@
--- The order of the started time-triggered tasks: what holds of it after every list of events (`Orderly`), and what a Tick does before its
--- dispatch (`tick-order`).
+-- The order of the started time-triggered tasks: what holds of it after every list of events (`Orderly`), and what a
+-- Tick does before its dispatch (`tick-order`).
 --
--- In order: the invariant; as a place for each body; at most 16 are started; a Tick; the other events; the dispatch; from the fresh start on.
+-- In order: the invariant; as a place for each body; at most 16 are started; a Tick; the other events; the dispatch;
+-- from the fresh start on.
 -- Assumes nothing.
 use Prim.Native.Nat.{ℕ, _+_, _-_, _≤_, _<_, suc}
 use mathlib.Core.Path.{_≡_, refl, sym, ap, subst, subst⁻¹, _∙_}
@@ -108,7 +109,8 @@ module _ (c : Config) where
       begun j true h = h
       begun j false h = absurd (p .to-begin j h)
 
-      at-rest : (i : ℕ) → isTimed c i ≡ true → among i (s .order) ≡ false → Place c i (bodyOf s i) (among i (s .order)) → bodyOf s i .phase ≡ suspended
+      at-rest : (i : ℕ) → isTimed c i ≡ true → among i (s .order) ≡ false → Place c i (bodyOf s i) (among i (s .order))
+          → bodyOf s i .phase ≡ suspended
       at-rest i t m (other n _ h) = absurd (true≢false (sym t ∙ n))
       at-rest i t m (asleep n _ q h r) = q
       at-rest i t m (awake n k x q h r) = absurd (true≢false (sym k ∙ m))
@@ -133,7 +135,8 @@ module _ (c : Config) where
         go (j ∷ js) o =
             omega (
               arith,
-              distinct-fits (j ∷ js) (tasks c table) (subst Distinct o (p .none-twice)) (λ i h. stands i (subst⁻¹ (λ (l : List ℕ). among i l ≡ true) o h)),
+              distinct-fits (j ∷ js) (tasks c table) (subst Distinct o (p .none-twice))
+                  (λ i h. stands i (subst⁻¹ (λ (l : List ℕ). among i l ≡ true) o h)),
               long,
               ok .few-of-table table (at .1),
             )
@@ -170,15 +173,44 @@ module _ (c : Config) where
 
             stands : (i : ℕ) → among i (s .order) ≡ true → among i (tasks c table) ≡ true
             stands i h =
-                let e = p .has-entry i h in
-                let t = table-of c (c .tables) (e .0) (e .1) in
-                let same = timed-one-table c ok table (t .0) (entry .0) (e .0) (entry .1) (e .1) (at .2) (at .3) (t .2) (t .3) (rw (entry .2) (started j head)) (rw (e .2) (started i h)) in
-                let low : firstOf c table ≤ e .0 = rw same (t .2) in
-                let high : e .0 < firstOf c (suc table) = rw same (t .3) in
-                let k : firstOf c table + (e .0 - firstOf c table) ≡ e .0 = omega arith in
-                let fits : e .0 - firstOf c table < getD (c .entries) table 0 = omega (arith, firstOf-step c table) in
-                let is : getD (tasks c table) (e .0 - firstOf c table) 0 ≡ i = getD-take (getD (c .entries) table 0) (drop (firstOf c table) (c .task)) (e .0 - firstOf c table) 0 fits ∙ getD-drop (firstOf c table) (c .task) (e .0 - firstOf c table) 0 ∙ ap (λ (n : ℕ). getD (c .task) n 0) k ∙ e .2 in
-                subst (λ (n : ℕ). among n (tasks c table) ≡ true) is (among-place (tasks c table) (e .0 - firstOf c table) (omega (arith, there, fits)))
+                subst (λ (n : ℕ). among n (tasks c table) ≡ true) is
+                (among-place (tasks c table) k (omega (arith, there, fits)))
+              where
+                own : (e : ℕ) × (e < firstOf c (c .tables)) × (getD (c .task) e 0 ≡ i)
+                own = p .has-entry i h
+
+                its : (t : ℕ) × (t < c .tables) × (firstOf c t ≤ own .0) × (own .0 < firstOf c (suc t))
+                its = table-of c (c .tables) (own .0) (own .1)
+
+                same : table ≡ its .0
+                same =
+                    timed-one-table c ok table (its .0) (entry .0) (own .0) (entry .1) (own .1) (at .2) (at .3) (its .2)
+                    (its .3)
+                    (rw (entry .2) (started j head))
+                    (rw (own .2) (started i h))
+
+                low : firstOf c table ≤ own .0
+                low = rw same (its .2)
+
+                high : own .0 < firstOf c (suc table)
+                high = rw same (its .3)
+
+                -- its place among the entries of the table
+                k : ℕ
+                k = own .0 - firstOf c table
+
+                back : firstOf c table + k ≡ own .0
+                back = omega (arith, low)
+
+                fits : k < getD (c .entries) table 0
+                fits = omega (arith, low, high, firstOf-step c table)
+
+                is : getD (tasks c table) k 0 ≡ i
+                is =
+                    getD-take (getD (c .entries) table 0) (drop (firstOf c table) (c .task)) k 0 fits
+                    ∙ getD-drop (firstOf c table) (c .task) k 0
+                    ∙ ap (λ (n : ℕ). getD (c .task) n 0) back
+                    ∙ own .2
 
     pub few-started : {s : State} → Orderly c s → length (s .order) ≤ 16
     few-started o = placed-few (placed o)
@@ -237,7 +269,10 @@ module _ (c : Config) where
           by-test (begins (runner c s))
           (λ e.
           let is = runner-placed c p o (begins-some (runner c s) e .0) in
-          rw e (rw (is .1) (orderly (plain-placed c (placed-weaken c p (none-late o)) (runner c s .number) (is .0) (become started) (λ b h. refl)))))
+          rw e (rw (is .1)
+          (orderly
+          (plain-placed c (placed-weaken c p (none-late o)) (runner c s .number) (is .0) (become started)
+          (λ b h. refl)))))
           (λ e. rw e (orderly (placed-weaken c p (none-late o))))
 
       latest-is : (i j : ℕ) (js : List ℕ) → s .order ≡ j ∷ js → Latest s i → i ≡ j
@@ -246,16 +281,25 @@ module _ (c : Config) where
           cc
 
       -- the latest is j, in the phase triggered x
-      latest-begins : (j : ℕ) (js : List ℕ) → s .order ≡ j ∷ js → (x : Bool) → bodyOf s j .phase ≡ triggered x → Orderly c (dispatched c s)
+      latest-begins : (j : ℕ) (js : List ℕ) → s .order ≡ j ∷ js → (x : Bool) → bodyOf s j .phase ≡ triggered x
+          → Orderly c (dispatched c s)
       latest-begins j js o true h =
-          rw begun (orderly (placed-with c p (λ i q. phase-clash (sym q ∙ ap (λ (k : ℕ). bodyOf s k .phase) (latest-is i j js o (p .to-begin i q)) ∙ h))))
+          rw begun
+          (orderly
+          (placed-with c p
+          (λ i q. phase-clash
+          (sym q ∙ ap (λ (k : ℕ). bodyOf s k .phase) (latest-is i j js o (p .to-begin i q)) ∙ h))))
         where
           begun : begins (runner c s) ≡ false
           begun = ap begins (runner-timed c s j js o) ∙ ap (λ (q : Phase). not (hasBegun q)) h
       latest-begins j js o false h =
           rw begun
-          (subst⁻¹ (λ (k : Candidate). Orderly c (changing (k .number) (become (phaseBegun k)) s)) (runner-timed c s j js o)
-          (orderly (placed-with c now (λ i q. by-eq i j (λ e. phase-clash (sym q ∙ here i e)) (λ d. d (latest-is i j js o (p .to-begin i (sym (there i d) ∙ q))))))))
+          (subst⁻¹ (λ (k : Candidate). Orderly c (changing (k .number) (become (phaseBegun k)) s))
+          (runner-timed c s j js o)
+          (orderly
+          (placed-with c now
+          (λ i q. by-eq i j (λ e. phase-clash (sym q ∙ here i e))
+          (λ d. d (latest-is i j js o (p .to-begin i (sym (there i d) ∙ q))))))))
         where
           begun : begins (runner c s) ≡ true
           begun = ap begins (runner-timed c s j js o) ∙ ap (λ (q : Phase). not (hasBegun q)) h
@@ -269,7 +313,8 @@ module _ (c : Config) where
           now : Placed c (Latest s) (changing j (become (triggered true)) s)
           now =
               let a = awake-place c head (p .places j) in
-              becomes-placed c p j (become (triggered true) (bodyOf s j)) (λ _. awake (a .0) head true refl (a .2) (a .3)) (λ _. (js, o))
+              becomes-placed c p j (become (triggered true) (bodyOf s j))
+              (λ _. awake (a .0) head true refl (a .2) (a .3)) (λ _. (js, o))
 
           here : (i : ℕ) → i ≡ j → bodyOf (changing j (become (triggered true)) s) i .phase ≡ triggered true
           here i e =
@@ -288,7 +333,8 @@ module _ (c : Config) where
           latest-begins j js o (a .1 .0) (a .1 .1)
 
   -- every effect but a Tick's, and every refusal, leaves the order in order
-  pub effect-orderly : {s : State} → Orderly c s → (e : Event) → e ≢ Tick → AcceptedIn c s e → Orderly c (effectOf c s e)
+  pub effect-orderly : {s : State} → Orderly c s → (e : Event) → e ≢ Tick → AcceptedIn c s e
+      → Orderly c (effectOf c s e)
   effect-orderly o e n a = orderly (effect-placed c (placed o) e n a)
 
   pub refusal-orderly : {s : State} → Orderly c s → (st : ℕ) (e : Event) → Orderly c (refusalOf c s st e)
@@ -311,7 +357,8 @@ module _ (c : Config) where
 
         ticks : TickOrder s → Placed c (Latest (ticked c s)) (ticked c s)
         ticks (order-same q y) = none y
-        ticks (starts j y) = placed-weaken c (y .placed) (λ i h. (s .order, y .order-is ∙ ap (λ (k : ℕ). k ∷ s .order) (sym h)))
+        ticks (starts j y) =
+            placed-weaken c (y .placed) (λ i h. (s .order, y .order-is ∙ ap (λ (k : ℕ). k ∷ s .order) (sym h)))
 
     pub orderly-step : {s : State} → Orderly c s → (e : Event) → Orderly c (step c s e .state)
     unfolding stepBy
@@ -334,7 +381,8 @@ module _ (c : Config) where
         new i = List·getD-map newBody (take (c .bodies) (c .autostart)) i 0
 
         plain : (i : ℕ) → isTriggered (bodyOf (unstarted c) i .phase) ≡ false
-        plain i = ap (λ (b : Body). isTriggered (b .phase)) (new i) ∙ go (eqb (getD (take (c .bodies) (c .autostart)) i 0) 1)
+        plain i =
+            ap (λ (b : Body). isTriggered (b .phase)) (new i) ∙ go (eqb (getD (take (c .bodies) (c .autostart)) i 0) 1)
           where
             go : (x : Bool) → isTriggered (cond x (activated noBody) noBody .phase) ≡ false
             go true = refl

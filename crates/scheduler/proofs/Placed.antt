@@ -1,8 +1,9 @@
--- Where each body stands to the order of the started time-triggered tasks (`Placed`), and that every effect but a Tick's leaves it so
--- (`effect-placed`, at the end of the file).
+-- Where each body stands to the order of the started time-triggered tasks (`Placed`), and that every effect but a
+-- Tick's leaves it so (`effect-placed`, at the end of the file).
 --
--- In order: one body's place; what a change of one body, an end and the runner are to it; the effects. `late i` says that body i may be
--- triggered and still have to begin: nobody after an event, the latest before a dispatch. Assumes nothing.
+-- In order: one body's place; what a change of one body, an end and the runner are to it; the effects. `late i` says
+-- that body i may be triggered and still have to begin: nobody after an event, the latest before a dispatch. Assumes
+-- nothing.
 use Prim.Native.Nat.{ℕ, _≤_, _<_}
 use mathlib.Core.Path.{_≡_, refl, sym, ap, subst, subst⁻¹, _∙_}
 use mathlib.Core.Bool.{Bool, true, false, true≢false, cond, not, _&&_}
@@ -44,7 +45,8 @@ never-triggered p x n e = absurd (true≢false (sym (ap isTriggered e) ∙ n))
 pub data Place (c : Config) (i : ℕ) (b : Body) (m : Bool) : Type 0 where
   other : isTimed c i ≡ false → m ≡ false → isTriggered (b .phase) ≡ false → Place c i b m
   asleep : isTimed c i ≡ true → m ≡ false → b .phase ≡ suspended → b .held ≡ [] → b .pending ≡ false → Place c i b m
-  awake : isTimed c i ≡ true → m ≡ true → (x : Bool) → b .phase ≡ triggered x → b .held ≡ [] → b .pending ≡ false → Place c i b m
+  awake : isTimed c i ≡ true → m ≡ true → (x : Bool) → b .phase ≡ triggered x → b .held ≡ [] → b .pending ≡ false
+      → Place c i b m
 
 pub record Placed (c : Config) (late : ℕ → Type 0) (s : State) : Type 0 where
   pub bodies-there : length (s .bodies) ≡ c .bodies
@@ -58,7 +60,8 @@ pub record Placed (c : Config) (late : ℕ → Type 0) (s : State) : Type 0 wher
 abbrev KeepsPlain : (Body → Body) → Type 0
 KeepsPlain f = (b : Body) → isTriggered (b .phase) ≡ false → isTriggered (f b .phase) ≡ false
 
-cond-plain : (p : Bool) (x y : Body) → isTriggered (x .phase) ≡ false → isTriggered (y .phase) ≡ false → isTriggered (cond p x y .phase) ≡ false
+cond-plain : (p : Bool) (x y : Body) → isTriggered (x .phase) ≡ false → isTriggered (y .phase) ≡ false
+    → isTriggered (cond p x y .phase) ≡ false
 cond-plain true x y h k = h
 cond-plain false x y h k = k
 
@@ -74,19 +77,20 @@ waits-plain w b h = cond-plain (anySet (b .bits) w) b (become (waiting w) b) h r
 receives-plain : (w : ℕ) → KeepsPlain (receives w)
 receives-plain w b h = go (b .phase) h
   where
-    resumes : (p : Bool) (v : ℕ) → isTriggered (cond p started (waiting v)) ≡ false
-    resumes true v = refl
-    resumes false v = refl
+    resumes : (p : Bool) (x y : Phase) → isTriggered x ≡ false → isTriggered y ≡ false → isTriggered (cond p x y) ≡ false
+    resumes true x y n m = n
+    resumes false x y n m = m
 
     go : (p : Phase) → isTriggered p ≡ false → isTriggered (resumed (withBits (b .bits) w) p) ≡ false
     go suspended e = refl
     go ready e = refl
     go started e = refl
-    go (waiting v) e = resumes (anySet (withBits (b .bits) w) v) v
+    go (waiting v) e = resumes (anySet (withBits (b .bits) w) v) started (waiting v) refl refl
     go (triggered x) e = e
 
 -- an ISR, an extended task and one of OSEK are not time-triggered
-not-timed : (c : Config) (i k : ℕ) → k ≢ 3 → ltb i (c .bodies) && eqb (getD (c .kind) i 0) k ≡ true → isTimed c i ≡ false
+not-timed : (c : Config) (i k : ℕ) → k ≢ 3 → ltb i (c .bodies) && eqb (getD (c .kind) i 0) k ≡ true
+    → isTimed c i ≡ false
 not-timed c i k d h =
     let p = and-true (ltb i (c .bodies)) (eqb (getD (c .kind) i 0) k) h in
     by-test (isTimed c i)
@@ -110,7 +114,8 @@ osek-untimed c i h = go (isTimed c i) (and-true (isTask c i) (not (isTimed c i))
 
 module _ (c : Config) where
   -- the same of those that are still to begin
-  pub placed-with : {late later : ℕ → Type 0} {s : State} → Placed c late s → ((i : ℕ) → bodyOf s i .phase ≡ triggered false → later i)
+  pub placed-with : {late later : ℕ → Type 0} {s : State} → Placed c late s
+      → ((i : ℕ) → bodyOf s i .phase ≡ triggered false → later i)
       → Placed c later s
   placed-with p f =
       record {
@@ -122,11 +127,13 @@ module _ (c : Config) where
         has-entry = p .has-entry;
       }
 
-  pub placed-weaken : {late later : ℕ → Type 0} {s : State} → Placed c late s → ((i : ℕ) → late i → later i) → Placed c later s
+  pub placed-weaken : {late later : ℕ → Type 0} {s : State} → Placed c late s → ((i : ℕ) → late i → later i)
+      → Placed c later s
   placed-weaken p f = placed-with p (λ i h. f i (p .to-begin i h))
 
   -- who is not time-triggered is not in the order
-  pub untimed-place : {i : ℕ} {b : Body} {m : Bool} → isTimed c i ≡ false → Place c i b m → (m ≡ false) × (isTriggered (b .phase) ≡ false)
+  pub untimed-place : {i : ℕ} {b : Body} {m : Bool} → isTimed c i ≡ false → Place c i b m
+      → (m ≡ false) × (isTriggered (b .phase) ≡ false)
   untimed-place t (other n m h) = (m, h)
   untimed-place t (asleep n m p h q) = absurd (true≢false (sym n ∙ t))
   untimed-place t (awake n m x p h q) = absurd (true≢false (sym n ∙ t))
@@ -146,7 +153,8 @@ module _ (c : Config) where
 
   module _ {late : ℕ → Type 0} where
     -- body k becomes y
-    pub becomes-placed : {s : State} → Placed c late s → (k : ℕ) (y : Body) → (Place c k (bodyOf s k) (among k (s .order)) → Place c k y (among k (s .order)))
+    pub becomes-placed : {s : State} → Placed c late s → (k : ℕ) (y : Body)
+        → (Place c k (bodyOf s k) (among k (s .order)) → Place c k y (among k (s .order)))
         → (y .phase ≡ triggered false → late k)
         → Placed c late (record { bodies = set (s .bodies) k y; tables = s .tables; order = s .order })
     becomes-placed {s} p k y stands begin =
@@ -176,7 +184,8 @@ module _ (c : Config) where
     plain-placed {s} p k t f keeps =
         let now = untimed-place t (p .places k) in
         let still = keeps (bodyOf s k) (now .1) in
-        becomes-placed p k (f (bodyOf s k)) (λ _. other t (now .0) still) (λ e. never-triggered (f (bodyOf s k) .phase) false still e)
+        becomes-placed p k (f (bodyOf s k)) (λ _. other t (now .0) still)
+        (λ e. never-triggered (f (bodyOf s k) .phase) false still e)
 
     pub loses-placed : {s : State} → Placed c late s → (k : ℕ) → Placed c late (changing k loses s)
     loses-placed {s} p k = becomes-placed p k (loses (bodyOf s k)) go (p .to-begin k)
@@ -227,14 +236,17 @@ module _ (c : Config) where
           where
             -- it is one of the bodies
             past-last : {C : Type 0} → length (s .bodies) ≤ j → C
-            past-last past = absurd (omega (arith, past, p .bodies-there, timed-body c j (awake-place (among-head j js) (stood j) .0)))
+            past-last past =
+                absurd (omega
+                (arith, past, p .bodies-there, timed-body c j (awake-place (among-head j js) (stood j) .0)))
 
     -- the runner, where no time-triggered task is started
     pub runner-placed : {s : State} → Placed c late s → s .order ≡ [] → nobodyRuns c s ≡ false
         → (isTimed c (caller c s) ≡ false) × (runner c s .timed ≡ false)
     runner-placed {s} p o some = go (chosen-from byHolding refl c (s .bodies))
       where
-        up : (k : ℕ) → competes (bodyOf s k .phase) ≡ true → Place c k (bodyOf s k) (among k (s .order)) → isTimed c k ≡ false
+        up : (k : ℕ) → competes (bodyOf s k .phase) ≡ true → Place c k (bodyOf s k) (among k (s .order))
+            → isTimed c k ≡ false
         up k h (other n m t) = n
         up k h (asleep n m q r t) = absurd (true≢false (sym h ∙ ap competes q))
         up k h (awake n m x q r t) = absurd (true≢false (sym h ∙ ap competes q))
@@ -242,8 +254,11 @@ module _ (c : Config) where
         go : Taken c (s .bodies) (chosen c (s .bodies)) → (isTimed c (caller c s) ≡ false) × (runner c s .timed ≡ false)
         go (no-one z) = absurd (true≢false (sym (rw (runner-untimed c s o ∙ z)) ∙ some))
         go (body k h q z) =
-            let is = runner-untimed c s o ∙ z ∙ candidate-active c k (bodyOf s k) (bodyOf s k .phase) q in
-            (ap (λ (x : Candidate). isTimed c (x .number)) is ∙ up k q (p .places k), ap (λ (x : Candidate). x .timed) is)
+            let is = runner-untimed c s o ∙ z ∙ candidate-active c k (bodyOf s k) (bodyOf s k .phase) q in (
+              ap (λ (x : Candidate). isTimed c (x .number)) is
+                  ∙ up k q (p .places k),
+              ap (λ (x : Candidate). x .timed) is,
+            )
 
     module _ {s : State} (p : Placed c late s) where
       tabled : (t : ℕ) (x : Table) → Placed c late (withTable t x s)
@@ -258,7 +273,8 @@ module _ (c : Config) where
           }
 
       -- a call of a body that is not time-triggered
-      call : (f : Body → Body) → KeepsPlain f → s .order ≡ [] → nobodyRuns c s ≡ false → Placed c late (changing (caller c s) f s)
+      call : (f : Body → Body) → KeepsPlain f → s .order ≡ [] → nobodyRuns c s ≡ false
+          → Placed c late (changing (caller c s) f s)
       call f keeps o some = plain-placed p (caller c s) (runner-placed p o some .0) f keeps
 
       ends : AcceptedIn c s Finish → Placed c late (effectOf c s Finish)
@@ -270,27 +286,35 @@ module _ (c : Config) where
               let some = finish-passed c s a .0 in
               rw (runner-placed p o some .1) (call finished finished-plain o some)
           go (j ∷ js) o =
-              subst⁻¹ (λ (x : Candidate). Placed c late (cond (x .timed) (finishTimed (x .number) s) (finish (x .number) s)))
+              subst⁻¹ (λ (x : Candidate). Placed c late
+              (cond (x .timed) (finishTimed (x .number) s) (finish (x .number) s)))
               (runner-timed c s j js o)
               (subst⁻¹
-              (λ (l : List ℕ). Placed c late (record { bodies = finish j s .bodies; tables = s .tables; order = rest l }))
+              (λ (l : List ℕ). Placed c late
+              (record { bodies = finish j s .bodies; tables = s .tables; order = rest l }))
               o
               (ended-placed p j js o))
 
       pub effect-placed : (e : Event) → e ≢ Tick → AcceptedIn c s e → Placed c late (effectOf c s e)
       unfolding stepBy
-      effect-placed (Activate t) n a = plain-placed p t (osek-untimed c t (activate-passed c s t a .1)) activated (λ b h. refl)
+      effect-placed (Activate t) n a =
+          plain-placed p t (osek-untimed c t (activate-passed c s t a .1)) activated (λ b h. refl)
       effect-placed Finish n a = ends a
       effect-placed (Chain t) n a =
           let q = chain-passed c s t a in
-          plain-placed (call finished finished-plain (accepted-untimed c s (Chain t) refl a) (q .0)) t (osek-untimed c t (q .2)) activated
+          plain-placed (call finished finished-plain (accepted-untimed c s (Chain t) refl a) (q .0)) t
+          (osek-untimed c t (q .2)) activated
           (λ b h. refl)
       effect-placed (Get r) n a = call (gets r) (λ b h. h) (accepted-untimed c s (Get r) refl a) (get-passed c s r a .0)
-      effect-placed (Release r) n a = call releases (λ b h. h) (accepted-untimed c s (Release r) refl a) (release-passed c s r a .0)
+      effect-placed (Release r) n a =
+          call releases (λ b h. h) (accepted-untimed c s (Release r) refl a) (release-passed c s r a .0)
       effect-placed Tick n a = absurd (n refl)
       effect-placed (Line i) n a = plain-placed p i (isr-untimed c i (line-passed c s i a .0)) requested requested-plain
       effect-placed (Start t d) n a = tabled t _
       effect-placed (Stop t) n a = tabled t _
-      effect-placed (Wait w) n a = call (waits w) (waits-plain w) (accepted-untimed c s (Wait w) refl a) (wait-passed c s w a .0)
-      effect-placed (Set t w) n a = plain-placed p t (extended-untimed c t (set-passed c s t w a .2)) (receives w) (receives-plain w)
-      effect-placed (Clear w) n a = call (clears w) (λ b h. h) (accepted-untimed c s (Clear w) refl a) (clear-passed c s w a .0)
+      effect-placed (Wait w) n a =
+          call (waits w) (waits-plain w) (accepted-untimed c s (Wait w) refl a) (wait-passed c s w a .0)
+      effect-placed (Set t w) n a =
+          plain-placed p t (extended-untimed c t (set-passed c s t w a .2)) (receives w) (receives-plain w)
+      effect-placed (Clear w) n a =
+          call (clears w) (λ b h. h) (accepted-untimed c s (Clear w) refl a) (clear-passed c s w a .0)

@@ -1,7 +1,8 @@
--- A refused event changes nothing (`refused-same`), but for the count of a lost line (`lost-line`): at the end of the file.
+-- A refused event changes nothing (`refused-same`), but for the count of a lost line (`lost-line`): at the end of the
+-- file.
 --
--- In order: after a refusal comes the dispatch alone; after a dispatch the chosen body has begun, and is chosen again; so the next dispatch
--- does nothing (`Settled`); and a loss has no part in who runs. Assumes nothing.
+-- In order: after a refusal comes the dispatch alone; after a dispatch the chosen body has begun, and is chosen again;
+-- so the next dispatch does nothing (`Settled`); and a loss has no part in who runs. Assumes nothing.
 use Prim.Native.Nat.{ℕ, _+_, _≤_, _<_, min}
 use mathlib.Core.Path.{_≡_, refl, sym, ap, _∙_}
 use mathlib.Core.Bool.{Bool, true, false, true≢false, cond, not, _&&_, _||_, or-false}
@@ -25,10 +26,12 @@ use Rattle.scheduler.specs.Scheduler.{begins, phaseBegun, dispatched, le
 use Rattle.scheduler.proofs.Choice.{contender, candidate-active, chosen-mapped, chosen-alike, Taken, no-one, body, chosen-from, runner-timed, runner-untimed}
 use Rattle.scheduler.proofs.Effects.{bodyOf-changing-same, length-changing, refusalOf-keeps}
 
-pub refused-leaves : (c : Config) (s : State) (e : Event) → statusOf c s e ≢ done → leaves c s e ≡ refusalOf c s (statusOf c s e) e
+pub refused-leaves : (c : Config) (s : State) (e : Event) → statusOf c s e ≢ done
+    → leaves c s e ≡ refusalOf c s (statusOf c s e) e
 refused-leaves c s e refused = rw (ne-eqb (statusOf c s e) done refused)
 
-pub refused-dispatched : (c : Config) (s : State) (e : Event) → step c s e .seen .status ≢ done → ((i : ℕ) → LostLine c s e i → ⊥)
+pub refused-dispatched : (c : Config) (s : State) (e : Event) → step c s e .seen .status ≢ done
+    → ((i : ℕ) → LostLine c s e i → ⊥)
     → step c s e .state ≡ dispatched c s
 unfolding stepBy
 refused-dispatched c s e refused kept =
@@ -38,7 +41,8 @@ refused-dispatched c s e refused kept =
 
 -- the candidate x, begun
 abbrev pub onceBegun : Candidate → Candidate
-onceBegun x = record { number = x .number; level = x .level; began = x .began || begins x; holder = x .holder; timed = x .timed }
+onceBegun x =
+    record { number = x .number; level = x .level; began = x .began || begins x; holder = x .holder; timed = x .timed }
 
 pub begins-some : (x : Candidate) → begins x ≡ true → (isNobody x ≡ false) × (x .began ≡ false)
 begins-some x h = both (isNobody x) (x .began) h
@@ -63,22 +67,34 @@ begins-onceBegun x = both (isNobody x) (x .began)
     both false true = refl
     both false false = refl
 
--- A body that begins is to the choice what it was but for `began`, on which the choice does not rest: x begun, where it is the body k
+-- A body that begins is to the choice what it was but for `began`, on which the choice does not rest: x begun, where it
+-- is the body k
 abbrev beginning : ℕ → Candidate → Candidate
-beginning k x = record { number = x .number; level = x .level; began = x .began || (not (isNobody x) && eqb (x .number) k); holder = x .holder; timed = x .timed }
+beginning k x =
+    record {
+      number = x .number;
+      level = x .level;
+      began = x .began ||
+          (not (isNobody x) && eqb (x .number) k);
+      holder = x .holder;
+      timed = x .timed;
+    }
 
-beginning-preferred : (k : ℕ) (x y : Candidate) → preferred byHolding (beginning k x) (beginning k y) ≡ beginning k (preferred byHolding x y)
+beginning-preferred : (k : ℕ) (x y : Candidate)
+    → preferred byHolding (beginning k x) (beginning k y) ≡ beginning k (preferred byHolding x y)
 beginning-preferred k x y = go (goesBefore byHolding y x)
   where
     go : (b : Bool) → cond b (beginning k y) (beginning k x) ≡ beginning k (cond b y x)
     go true = refl
     go false = refl
 
-began-same : (x : Candidate) (b : Bool) → b ≡ x .began → record { number = x .number; level = x .level; began = b; holder = x .holder; timed = x .timed } ≡ x
+began-same : (x : Candidate) (b : Bool) → b ≡ x .began
+    → record { number = x .number; level = x .level; began = b; holder = x .holder; timed = x .timed } ≡ x
 began-same x b e i = record { number = x .number; level = x .level; began = e i; holder = x .holder; timed = x .timed }
 
 -- another body stays what it is
-beginning-other : (c : Config) (k j : ℕ) (b : Body) → j ≢ k → beginning k (candidate c j b (b .phase)) ≡ candidate c j b (b .phase)
+beginning-other : (c : Config) (k j : ℕ) (b : Body) → j ≢ k
+    → beginning k (candidate c j b (b .phase)) ≡ candidate c j b (b .phase)
 unfolding candidate
 beginning-other c k j b d = go (b .phase)
   where
@@ -88,7 +104,9 @@ beginning-other c k j b d = go (b .phase)
 
     go : (p : Phase) → beginning k (candidate c j b p) ≡ candidate c j b p
     go suspended = refl
-    go ready = began-same (candidate c j b ready) (not (eqb (current c j b) 0) && eqb j k) (never (not (eqb (current c j b) 0)) (eqb j k) (ne-eqb j k d))
+    go ready =
+        began-same (candidate c j b ready) (not (eqb (current c j b) 0) && eqb j k)
+        (never (not (eqb (current c j b) 0)) (eqb j k) (ne-eqb j k d))
     go started = refl
     go (waiting w) = refl
     go (triggered x) = refl
@@ -98,7 +116,15 @@ module _ (c : Config) (s : State) (none : s .order ≡ []) (k : ℕ) (active : c
     (taken : chosen c (s .bodies) ≡ contender c (s .bodies) k) (begin : begins (runner c s) ≡ true)
   where
     abbrev it : Bool → Candidate
-    it b = record { number = k; level = current c k (bodyOf s k); began = b; holder = holds (bodyOf s k .held); timed = false }
+    it b =
+        record {
+          number = k;
+          level = current c k (bodyOf s k);
+          began = b;
+          holder = holds
+              (bodyOf s k .held);
+          timed = false;
+        }
 
     runner-is : runner c s ≡ it (isStarted (bodyOf s k .phase))
     runner-is = runner-untimed c s none ∙ taken ∙ candidate-active c k (bodyOf s k) (bodyOf s k .phase) active
@@ -109,8 +135,10 @@ module _ (c : Config) (s : State) (none : s .order ≡ []) (k : ℕ) (active : c
     -- the runner, begun
     onceBegun-is : beginning k (runner c s) ≡ onceBegun (runner c s)
     onceBegun-is =
-        ap (λ (b : Bool). record { number = runner c s .number; level = runner c s .level; began = runner c s .began || b; holder = runner c s .holder; timed = runner c s .timed })
-        (ap (λ a. not a && eqb (runner c s .number) k) (begins-some (runner c s) begin .0) ∙ eq-eqb (runner c s .number) k number-is ∙ sym begin)
+        ap (λ (b : Bool).
+        record { number = runner c s .number; level = runner c s .level; began = runner c s .began || b; holder = runner c s .holder; timed = runner c s .timed })
+        (ap (λ a. not a && eqb (runner c s .number) k) (begins-some (runner c s) begin .0)
+        ∙ eq-eqb (runner c s .number) k number-is ∙ sym begin)
       where
         number-is : runner c s .number ≡ k
         number-is = ap (λ (x : Candidate). x .number) runner-is
@@ -127,7 +155,8 @@ module _ (c : Config) (s : State) (none : s .order ≡ []) (k : ℕ) (active : c
     chosen-again : runner c (changing k (become started) s) ≡ onceBegun (runner c s)
     chosen-again =
         runner-untimed c (changing k (become started) s) none
-        ∙ chosen-mapped byHolding c (beginning k) (beginning-preferred k) refl k (beginning-other c k) (become started (bodyOf s k)) (s .bodies) begins-so
+        ∙ chosen-mapped byHolding c (beginning k) (beginning-preferred k) refl k (beginning-other c k)
+        (become started (bodyOf s k)) (s .bodies) begins-so
         ∙ ap (beginning k) (sym (runner-untimed c s none))
         ∙ onceBegun-is
 
@@ -136,13 +165,15 @@ module _ (c : Config) (s : State) (j : ℕ) (js : List ℕ) (latest : s .order �
     (begin : begins (runner c s) ≡ true)
   where
     triggered-now : dispatched c s ≡ changing j (become (triggered true)) s
-    triggered-now = rw begin (ap (λ (x : Candidate). changing (x .number) (become (phaseBegun x)) s) (runner-timed c s j js latest))
+    triggered-now =
+        rw begin (ap (λ (x : Candidate). changing (x .number) (become (phaseBegun x)) s) (runner-timed c s j js latest))
 
     triggered-again : runner c (changing j (become (triggered true)) s) ≡ onceBegun (runner c s)
     triggered-again =
         runner-timed c (changing j (become (triggered true)) s) j js latest
         ∙ ap it (ap (λ (b : Body). hasBegun (b .phase)) (bodyOf-changing-same j (become (triggered true)) s fits))
-        ∙ sym (ap onceBegun is ∙ ap it (ap (λ (x : Candidate). x .began || begins x) (sym is) ∙ begun-or (runner c s) begin))
+        ∙ sym (ap onceBegun is
+        ∙ ap it (ap (λ (x : Candidate). x .began || begins x) (sym is) ∙ begun-or (runner c s) begin))
       where
         it : Bool → Candidate
         it b = record { number = j; level = executionLevel; began = b; holder = false; timed = true }
@@ -151,12 +182,14 @@ module _ (c : Config) (s : State) (j : ℕ) (js : List ℕ) (latest : s .order �
         is = runner-timed c s j js latest
 
 -- the dispatch makes the chosen body begin, and it is chosen again
-pub runner-dispatched : (c : Config) (s : State) → runner c s .number < length (s .bodies) → runner c (dispatched c s) ≡ onceBegun (runner c s)
+pub runner-dispatched : (c : Config) (s : State) → runner c s .number < length (s .bodies)
+    → runner c (dispatched c s) ≡ onceBegun (runner c s)
 runner-dispatched c s fits = by-test (begins (runner c s)) (λ e. go (s .order) refl e) (λ e. rw (e, or-false))
   where
     chosen-begins : s .order ≡ [] → Taken c (s .bodies) (chosen c (s .bodies)) → begins (runner c s) ≡ true
         → runner c (dispatched c s) ≡ onceBegun (runner c s)
-    chosen-begins o (no-one z) e = absurd (true≢false (rw (runner-untimed c s o ∙ z) at (begins-some (runner c s) e .0)))
+    chosen-begins o (no-one z) e =
+        absurd (true≢false (rw (runner-untimed c s o ∙ z) at (begins-some (runner c s) e .0)))
     chosen-begins o (body k h p z) e = ap (runner c) (dispatched-now c s o k p z e) ∙ chosen-again c s o k p z e
 
     go : (js : List ℕ) → s .order ≡ js → begins (runner c s) ≡ true → runner c (dispatched c s) ≡ onceBegun (runner c s)
@@ -252,7 +285,8 @@ module _ (c : Config) where
   runner-loses : (i : ℕ) (s : State) → runner c (changing i loses s) ≡ runner c s
   unfolding candidate
   runner-loses i s =
-      ap (latestOf (changing i loses s .bodies) (s .order)) (chosen-alike byHolding c loses (λ j b. same j b (b .phase)) (s .bodies) i)
+      ap (latestOf (changing i loses s .bodies) (s .order))
+      (chosen-alike byHolding c loses (λ j b. same j b (b .phase)) (s .bodies) i)
       ∙ go (s .order)
     where
       same : (j : ℕ) (b : Body) (p : Phase) → candidate c j (loses b) p ≡ candidate c j b p
@@ -265,15 +299,21 @@ module _ (c : Config) where
       phase-same : (j : ℕ) → bodyOf (changing i loses s) j .phase ≡ bodyOf s j .phase
       phase-same j =
           sym (List·getD-map (λ (b : Body). b .phase) (changing i loses s .bodies) j noBody)
-          ∙ ap (λ l. getD l j suspended) (map-set-same (λ (b : Body). b .phase) (s .bodies) i (loses (bodyOf s i)) noBody refl)
+          ∙ ap (λ l. getD l j suspended)
+          (map-set-same (λ (b : Body). b .phase) (s .bodies) i (loses (bodyOf s i)) noBody refl)
           ∙ List·getD-map (λ (b : Body). b .phase) (s .bodies) j noBody
 
-      go : (js : List ℕ) → latestOf (changing i loses s .bodies) js (chosen c (s .bodies)) ≡ latestOf (s .bodies) js (chosen c (s .bodies))
+      go : (js : List ℕ)
+          → latestOf (changing i loses s .bodies) js (chosen c (s .bodies))
+          ≡ latestOf (s .bodies) js (chosen c (s .bodies))
       go [] = refl
       go (j ∷ js) =
-          ap (λ (p : Phase). record { number = j; level = executionLevel; began = hasBegun p; holder = false; timed = true }) (phase-same j)
+          ap (λ (p : Phase).
+          record { number = j; level = executionLevel; began = hasBegun p; holder = false; timed = true })
+          (phase-same j)
 
-  pub lost-line : (s : State) (i : ℕ) → Settled c s → LostLine c s (Line i) i → step c s (Line i) .state ≡ changing i loses s
+  pub lost-line : (s : State) (i : ℕ) → Settled c s → LostLine c s (Line i) i
+      → step c s (Line i) .state ≡ changing i loses s
   unfolding stepBy
   lost-line s i settled lost =
       ap (dispatched c) left
@@ -296,4 +336,5 @@ module _ (c : Config) where
       same : loses (bodyOf s i) ≡ bodyOf s i
       same =
           let n : min (bodyOf s i .losses + 1) mostLosses ≡ bodyOf s i .losses = omega (arith, full) in
-          ap (λ k. record { phase = bodyOf s i .phase; pending = bodyOf s i .pending; held = bodyOf s i .held; losses = k; bits = bodyOf s i .bits }) n
+          ap (λ k.
+          record { phase = bodyOf s i .phase; pending = bodyOf s i .pending; held = bodyOf s i .held; losses = k; bits = bodyOf s i .bits }) n

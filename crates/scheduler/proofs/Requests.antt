@@ -1,4 +1,5 @@
--- Requests that wait: a body that has begun begins again only after its end, a started ISR's second request too, and a Stop leaves them all.
+-- Requests that wait: a body that has begun begins again only after its end, a started ISR's second request too, and a
+-- Stop leaves them all.
 --
 -- In order: who begins had not begun; what ends a body that has begun (`begun-stays`); the laws. Assumes nothing.
 use Prim.Native.Nat.{ℕ}
@@ -23,13 +24,15 @@ use Rattle.scheduler.specs.Tick.{dues, counted}
 use Rattle.scheduler.specs.Call.{caller, finish, finishTimed, stop, statusOf, effectOf, refusalOf}
 use Rattle.scheduler.specs.Scheduler.{begins, markOf, leaves, step, stepBy}
 use Rattle.scheduler.specs.History.{AcceptedIn, Ends}
+use Rattle.scheduler.proofs.Bits.{resumed-begun}
 use Rattle.scheduler.proofs.Choice.{Taken, no-one, body, chosen-from, candidate-active, runner-timed, runner-untimed}
 use Rattle.scheduler.proofs.Checks.{activate-passed, chain-passed}
 use Rattle.scheduler.proofs.Effects.{bodyOf-changing-same, bodyOf-changing-other, refusalOf-keeps, entered, activatingDue-keeps, cond-either}
 use Rattle.scheduler.proofs.Refusals.{begins-some, Settled, dispatched-same}
 
 -- the body that begins had not begun
-begins-unbegun : (c : Config) (s : State) → begins (runner c s) ≡ true → hasBegun (bodyOf s (runner c s .number) .phase) ≡ false
+begins-unbegun : (c : Config) (s : State) → begins (runner c s) ≡ true
+    → hasBegun (bodyOf s (runner c s .number) .phase) ≡ false
 begins-unbegun c s b = by-order (s .order) refl
   where
     unbegun : (p : Phase) → competes p ≡ true → isStarted p ≡ false → hasBegun p ≡ false
@@ -39,7 +42,8 @@ begins-unbegun c s b = by-order (s .order) refl
     unbegun (waiting w) h e = absurd (true≢false (sym h))
     unbegun (triggered x) h e = absurd (true≢false (sym h))
 
-    go : s .order ≡ [] → Taken c (s .bodies) (chosen c (s .bodies)) → hasBegun (bodyOf s (runner c s .number) .phase) ≡ false
+    go : s .order ≡ [] → Taken c (s .bodies) (chosen c (s .bodies))
+        → hasBegun (bodyOf s (runner c s .number) .phase) ≡ false
     go o (no-one z) = absurd (true≢false (rw (runner-untimed c s o ∙ z) at (begins-some (runner c s) b .0)))
     go o (body k h p z) =
         let is = runner-untimed c s o ∙ z ∙ candidate-active c k (bodyOf s k) (bodyOf s k .phase) p in
@@ -50,7 +54,8 @@ begins-unbegun c s b = by-order (s .order) refl
     by-order [] o = go o (chosen-from byHolding refl c (s .bodies))
     by-order (j ∷ js) o =
         let is = runner-timed c s j js o in
-        ap (λ n. hasBegun (bodyOf s n .phase)) (ap (λ x. x .number) is) ∙ sym (ap (λ x. x .began) is) ∙ begins-some (runner c s) b .1
+        ap (λ n. hasBegun (bodyOf s n .phase)) (ap (λ x. x .number) is) ∙ sym (ap (λ x. x .began) is)
+        ∙ begins-some (runner c s) b .1
 
 marked : (b : Bool) → markOf b ≡ 1 → b ≡ true
 marked true e = refl
@@ -63,7 +68,8 @@ KeepsBegun f = (b : Body) → hasBegun (b .phase) ≡ true → hasBegun (f b .ph
 requested-begun : KeepsBegun requested
 requested-begun b h = rw h h
 
-cond-begun : (t : Bool) (x y : Body) → hasBegun (x .phase) ≡ true → hasBegun (y .phase) ≡ true → hasBegun (cond t x y .phase) ≡ true
+cond-begun : (t : Bool) (x y : Body) → hasBegun (x .phase) ≡ true → hasBegun (y .phase) ≡ true
+    → hasBegun (cond t x y .phase) ≡ true
 cond-begun true x y h k = h
 cond-begun false x y h k = k
 
@@ -71,18 +77,7 @@ waits-begun : (w : ℕ) → KeepsBegun (waits w)
 waits-begun w b h = cond-begun (anySet (b .bits) w) b (become (waiting w) b) h refl
 
 receives-begun : (w : ℕ) → KeepsBegun (receives w)
-receives-begun w b h = go (b .phase) h
-  where
-    go : (p : Phase) → hasBegun p ≡ true → hasBegun (resumed (withBits (b .bits) w) p) ≡ true
-    go suspended e = absurd (true≢false (sym e))
-    go ready e = absurd (true≢false (sym e))
-    go started e = refl
-    go (triggered x) e = e
-    go (waiting v) e = cond-phase (anySet (withBits (b .bits) w) v)
-      where
-        cond-phase : (t : Bool) → hasBegun (cond t started (waiting v)) ≡ true
-        cond-phase true = refl
-        cond-phase false = refl
+receives-begun w b h = resumed-begun (withBits (b .bits) w) (b .phase) ∙ h
 
 -- who has begun is not suspended
 begun-active : (p : Phase) → hasBegun p ≡ true → isSuspended p ≡ false
@@ -103,7 +98,8 @@ module _ (i : ℕ) where
       by-eq i k
       (λ same. by-lt i (length (s .bodies))
       (λ fits. rw (← same, bodyOf-changing-same i f s fits) (keeps (bodyOf s i) h))
-      (λ past. absurd (true≢false (sym h ∙ ap (λ b. hasBegun (b .phase)) (List·getD-eq-default (s .bodies) noBody past)))))
+      (λ past. absurd
+      (true≢false (sym h ∙ ap (λ b. hasBegun (b .phase)) (List·getD-eq-default (s .bodies) noBody past)))))
       (λ other. rw (bodyOf-changing-other k f s i other) h)
 
   begun-other : (k : ℕ) (f : Body → Body) (s : State) → k ≢ i → hasBegun (bodyOf s i .phase) ≡ true
@@ -116,7 +112,8 @@ module _ (c : Config) (s : State) (i : ℕ) (begun : hasBegun (bodyOf s i .phase
   other : (t : ℕ) → bodyOf s t .phase ≡ suspended → t ≢ i
   other t h e = true≢false (sym begun ∙ ap (λ k. hasBegun (bodyOf s k .phase)) (sym e) ∙ ap hasBegun h)
 
-  begun-stays : (e : Event) → AcceptedIn c s e → (Ends e × (caller c s ≡ i)) ⊎ (hasBegun (bodyOf (effectOf c s e) i .phase) ≡ true)
+  begun-stays : (e : Event) → AcceptedIn c s e
+      → (Ends e × (caller c s ≡ i)) ⊎ (hasBegun (bodyOf (effectOf c s e) i .phase) ≡ true)
   unfolding stepBy
   begun-stays (Activate t) a = inr (begun-other i t activated s (other t (activate-passed c s t a .2)) begun)
   begun-stays Finish a =
@@ -125,7 +122,8 @@ module _ (c : Config) (s : State) (i : ℕ) (begun : hasBegun (bodyOf s i .phase
       (λ d.
       let stays = begun-other i (caller c s) finished s d begun in
       inr
-      (cond-either (λ x. hasBegun (bodyOf x i .phase) ≡ true) (runner c s .timed) (finishTimed (caller c s) s) (finish (caller c s) s) stays stays))
+      (cond-either (λ x. hasBegun (bodyOf x i .phase) ≡ true) (runner c s .timed) (finishTimed (caller c s) s)
+      (finish (caller c s) s) stays stays))
   begun-stays (Chain t) a =
       let p = chain-passed c s t a in
       by-eq (caller c s) i
@@ -136,7 +134,8 @@ module _ (c : Config) (s : State) (i : ℕ) (begun : hasBegun (bodyOf s i .phase
   begun-stays (Release r) a = inr (begun-changing i (caller c s) releases s (λ b h. h) begun)
   begun-stays Tick a =
       inr
-      (activatingDue-keeps c (λ x. hasBegun (bodyOf x i .phase) ≡ true) (λ js x h. h) (λ t b x. begun-changing i t (entered b) x (entry-begun b))
+      (activatingDue-keeps c (λ x. hasBegun (bodyOf x i .phase) ≡ true) (λ js x h. h)
+      (λ t b x. begun-changing i t (entered b) x (entry-begun b))
       (dues c (counted s)) (c .task) (counted s) begun)
   begun-stays (Line j) a = inr (begun-changing i j requested s requested-begun begun)
   begun-stays (Start t d) a = inr begun
@@ -145,7 +144,8 @@ module _ (c : Config) (s : State) (i : ℕ) (begun : hasBegun (bodyOf s i .phase
   begun-stays (Set t w) a = inr (begun-changing i t (receives w) s (receives-begun w) begun)
   begun-stays (Clear w) a = inr (begun-changing i (caller c s) (clears w) s (λ b h. h) begun)
 
-  pub begins-after-end : (e : Event) → step c s e .seen .begun ≡ 1 → step c s e .seen .runner ≡ i → Ends e × (caller c s ≡ i) × AcceptedIn c s e
+  pub begins-after-end : (e : Event) → step c s e .seen .begun ≡ 1 → step c s e .seen .runner ≡ i
+      → Ends e × (caller c s ≡ i) × AcceptedIn c s e
   unfolding stepBy
   begins-after-end e b r =
       by-eq (statusOf c s e) done
@@ -171,7 +171,8 @@ module _ (c : Config) (s : State) (i : ℕ) (begun : hasBegun (bodyOf s i .phase
       let p = begins-after-end e b r in
       ⊎-elim
       (λ f. (f, p .1, p .2))
-      (λ f. absurd (true≢false (sym irq ∙ ap (isIsr c) (sym (p .1)) ∙ chain-passed c s (f .0) (rw (f .1) at (p .2)) .1)))
+      (λ f. absurd
+      (true≢false (sym irq ∙ ap (isIsr c) (sym (p .1)) ∙ chain-passed c s (f .0) (rw (f .1) at (p .2)) .1)))
       (p .0)
 
 -- a Stop changes no body, so whatever waits to begin still waits
@@ -179,5 +180,6 @@ pub stop-bodies : (c : Config) (s : State) (t : ℕ) → Settled c s → step c 
 unfolding stepBy
 stop-bodies c s t settled =
     ap (λ x. x .bodies)
-    (dispatched-same c (leaves c s (Stop t)) (cond-either (Settled c) (eqb (statusOf c s (Stop t)) done) (stop t s) s settled settled))
+    (dispatched-same c (leaves c s (Stop t))
+    (cond-either (Settled c) (eqb (statusOf c s (Stop t)) done) (stop t s) s settled settled))
     ∙ cond-either (λ x. x .bodies ≡ s .bodies) (eqb (statusOf c s (Stop t)) done) (stop t s) s refl refl

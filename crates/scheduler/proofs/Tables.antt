@@ -1,7 +1,7 @@
 -- A table's d and n are what its history says: `table-history` and `history-of-table`, at the end of the file.
 --
--- In order: what one event does to a table (`turn`); a table through a list of events with no accepted Stop, or no accepted Start, of it;
--- every list of events has a last accepted Start or Stop of the table, or none. Assumes nothing.
+-- In order: what one event does to a table (`turn`); a table through a list of events with no accepted Stop, or no
+-- accepted Start, of it; every list of events has a last accepted Start or Stop of the table, or none. Assumes nothing.
 use Prim.Native.Nat.{ℕ, zero, suc, _+_}
 use mathlib.Core.Path.{_≡_, refl, sym, ap, _∙_}
 use mathlib.Core.Bool.{Bool, true, false, true≢false, cond}
@@ -51,12 +51,16 @@ module _ (c : Config) (t : ℕ) (s : State) where
   table-refused e r = table-next e ∙ rw (ne-eqb (statusOf c s e) done r) (table-same e)
 
   table-kept : (e : Event) → tableOf (effectOf c s e) t ≡ tableOf s t → tableOf (next c s e) t ≡ tableOf s t
-  table-kept e k = table-next e ∙ cond-either (λ x. tableOf x t ≡ tableOf s t) (eqb (statusOf c s e) done) (effectOf c s e) (refusalOf c s (statusOf c s e) e) k (table-same e)
+  table-kept e k =
+      table-next e
+      ∙ cond-either (λ x. tableOf x t ≡ tableOf s t) (eqb (statusOf c s e) done) (effectOf c s e)
+      (refusalOf c s (statusOf c s e) e) k (table-same e)
 
   withTable-other : (u : ℕ) (x : Table) → (u ≡ t → ⊥) → tableOf (withTable u x s) t ≡ tableOf s t
   withTable-other u x d = getD-set-other (s .tables) u t x stopped (λ e. d (sym e))
 
-  table-started : (d : ℕ) → length (s .tables) ≡ c .tables → AcceptedIn c s (Start t d) → tableOf (next c s (Start t d)) t ≡ running d 0
+  table-started : (d : ℕ) → length (s .tables) ≡ c .tables → AcceptedIn c s (Start t d)
+      → tableOf (next c s (Start t d)) t ≡ running d 0
   unfolding stepBy
   table-started d n a =
       table-done (Start t d) a
@@ -70,7 +74,9 @@ module _ (c : Config) (t : ℕ) (s : State) where
 
   table-ticked : tableOf (next c s Tick) t ≡ counting (tableOf s t)
   unfolding stepBy firstGiven counting
-  table-ticked = table-done Tick refl ∙ ap (λ l. getD l t stopped) (tables-ticked c s) ∙ List·getD-map counting (s .tables) t stopped
+  table-ticked =
+      table-done Tick refl ∙ ap (λ l. getD l t stopped) (tables-ticked c s)
+      ∙ List·getD-map counting (s .tables) t stopped
 
   turn-start : (u d : ℕ) → length (s .tables) ≡ c .tables → Turn c t s (Start u d)
   unfolding stepBy
@@ -78,7 +84,8 @@ module _ (c : Config) (t : ℕ) (s : State) where
       by-eq (statusOf c s (Start u d)) done
       (λ ok. by-eq u t
       (λ same. rw same (starts d refl (rw same at ok) (table-started d n (rw same at ok))))
-      (λ other. passes (λ p a. other (cc)) (λ q a. clash (cc)) (table-kept (Start u d) (withTable-other u (running d 0) other))))
+      (λ other. passes (λ p a. other (cc)) (λ q a. clash (cc))
+      (table-kept (Start u d) (withTable-other u (running d 0) other))))
       (λ bad. passes (λ p a. bad a) (λ q a. clash (cc)) (table-refused (Start u d) bad))
 
   turn-stop : (u : ℕ) → length (s .tables) ≡ c .tables → Turn c t s (Stop u)
@@ -92,7 +99,9 @@ module _ (c : Config) (t : ℕ) (s : State) where
 
   -- an end changes no table
   ends : tableOf (effectOf c s Finish) t ≡ tableOf s t
-  ends = cond-either (λ x. tableOf x t ≡ tableOf s t) (runner c s .timed) (finishTimed (caller c s) s) (finish (caller c s) s) refl refl
+  ends =
+      cond-either (λ x. tableOf x t ≡ tableOf s t) (runner c s .timed) (finishTimed (caller c s) s)
+      (finish (caller c s) s) refl refl
 
   turn : (e : Event) → length (s .tables) ≡ c .tables → Turn c t s e
   turn (Activate u) n = passes (λ p a. clash (cc)) (λ q a. clash (cc)) (table-kept (Activate u) refl)
@@ -128,7 +137,8 @@ none-nil P c s e [] rest q p a = clash (cc)
 none-nil P c s e (x ∷ before) rest q p a = clash (cc)
 
 -- nor in the part before any of them
-none-before : (P : Event → Type 0) (c : Config) (s : State) (e : Event) (before rest : List Event) → NoneAccepted P c s (before ++ e ∷ rest)
+none-before : (P : Event → Type 0) (c : Config) (s : State) (e : Event) (before rest : List Event)
+    → NoneAccepted P c s (before ++ e ∷ rest)
     → NoneAccepted P c s before
 none-before P c s e before rest none x before′ rest′ q =
     none x before′ (rest′ ++ e ∷ rest) (ap (λ l. l ++ e ∷ rest) q ∙ append-assoc before′ (x ∷ rest′) (e ∷ rest))
@@ -138,22 +148,26 @@ module _ (c : Config) where
   fits-step : (s : State) (e : Event) → length (s .tables) ≡ c .tables → length (next c s e .tables) ≡ c .tables
   fits-step s e n = length-tables-step c s e ∙ n
 
-  pub fits-after : (es : List Event) (s : State) → length (s .tables) ≡ c .tables → length (after c s es .tables) ≡ c .tables
+  pub fits-after : (es : List Event) (s : State) → length (s .tables) ≡ c .tables
+      → length (after c s es .tables) ≡ c .tables
   unfolding afterBy
   fits-after [] s n = n
   fits-after (e ∷ es) s n = fits-after es (next c s e) (fits-step s e n)
 
 module _ (c : Config) (t : ℕ) where
   -- a table that runs counts the Ticks until an accepted Stop
-  runs-on : (es : List Event) (s : State) (d n : ℕ) → length (s .tables) ≡ c .tables → tableOf s t ≡ running d n → NoStop c t s es
+  runs-on : (es : List Event) (s : State) (d n : ℕ) → length (s .tables) ≡ c .tables → tableOf s t ≡ running d n
+      → NoStop c t s es
       → tableOf (after c s es) t ≡ running d (n + tickCount es)
   unfolding stepBy afterBy tickCount counting
   runs-on [] s d n fits r none = r ∙ ap (running d) (sym (add-zero n))
   runs-on (e ∷ es) s d n fits r none =
-      go (turn c t s e fits) (λ m r′. runs-on es (next c s e) d m (fits-step c s e fits) r′ (none-tail (StopOf t) c s e es none))
+      go (turn c t s e fits)
+      (λ m r′. runs-on es (next c s e) d m (fits-step c s e fits) r′ (none-tail (StopOf t) c s e es none))
     where
       Later : ℕ → Type 0
-      Later m = tableOf (next c s e) t ≡ running d m → tableOf (after c (next c s e) es) t ≡ running d (m + tickCount es)
+      Later m =
+          tableOf (next c s e) t ≡ running d m → tableOf (after c (next c s e) es) t ≡ running d (m + tickCount es)
 
       counts : (b : Bool) → tableOf (next c s e) t ≡ cond b (counting (running d n)) (running d n) → ((m : ℕ) → Later m)
           → tableOf (after c (next c s e) es) t ≡ running d (n + cond b (suc (tickCount es)) (tickCount es))
@@ -168,12 +182,14 @@ module _ (c : Config) (t : ℕ) where
       go (passes p q y) later = counts (isTick e) (y ∙ ap (λ x. cond (isTick e) (counting x) x) r) later
 
   -- a table that is stopped stays so until an accepted Start
-  stays-stopped : (es : List Event) (s : State) → length (s .tables) ≡ c .tables → tableOf s t ≡ stopped → NoStart c t s es
+  stays-stopped : (es : List Event) (s : State) → length (s .tables) ≡ c .tables → tableOf s t ≡ stopped
+      → NoStart c t s es
       → tableOf (after c s es) t ≡ stopped
   unfolding afterBy counting
   stays-stopped [] s fits r none = r
   stays-stopped (e ∷ es) s fits r none =
-      stays-stopped es (next c s e) (fits-step c s e fits) (go (turn c t s e fits)) (none-tail (StartOf t) c s e es none)
+      stays-stopped es (next c s e) (fits-step c s e fits) (go (turn c t s e fits))
+      (none-tail (StartOf t) c s e es none)
     where
       still : (b : Bool) → cond b (counting stopped) stopped ≡ stopped
       still true = refl
@@ -202,7 +218,8 @@ module _ (c : Config) (t : ℕ) where
 
   pub stopped-until-start : (es : List Event) → NoStart c t (fresh c) es → tableOf (after c (fresh c) es) t ≡ stopped
   stopped-until-start es none =
-      stays-stopped es (fresh c) (length-tables-fresh c) (ap (λ l. getD l t stopped) (tables-fresh c) ∙ all-stopped (c .tables) t) none
+      stays-stopped es (fresh c) (length-tables-fresh c)
+      (ap (λ l. getD l t stopped) (tables-fresh c) ∙ all-stopped (c .tables) t) none
     where
       all-stopped : (n i : ℕ) → getD (replicate n stopped) i stopped ≡ stopped
       all-stopped zero i = refl
@@ -230,7 +247,8 @@ module _ (c : Config) (t : ℕ) where
   unfolding stepBy
   no-restart d s rest fits a none e before later q p a′ =
       true≢false
-      (rw (runs-on before (next c s (Start t d)) d 0 (fits-step c s (Start t d) fits) (table-started c t s d fits a) fewer)
+      (rw (runs-on before (next c s (Start t d)) d 0 (fits-step c s (Start t d) fits)
+      (table-started c t s d fits a) fewer)
       at (start-passed c (after c (next c s (Start t d)) before) t (p .0) (rw (p .1) at a′) .4))
     where
       fewer : NoStop c t (next c s (Start t d)) before
@@ -239,12 +257,14 @@ module _ (c : Config) (t : ℕ) where
   pub last-start : (d : ℕ) (before rest : List Event) → AcceptedIn c (after c (fresh c) before) (Start t d)
       → NoStop c t (next c (after c (fresh c) before) (Start t d)) rest
       → NoStart c t (next c (after c (fresh c) before) (Start t d)) rest
-  last-start d before rest = no-restart d (after c (fresh c) before) rest (fits-after c before (fresh c) (length-tables-fresh c))
+  last-start d before rest =
+      no-restart d (after c (fresh c) before) rest (fits-after c before (fresh c) (length-tables-fresh c))
 
   -- the last accepted Start or Stop among the events es from the state s on
   data Last (s : State) (es : List Event) : Type 0 where
     neither : NoStart c t s es → NoStop c t s es → Last s es
-    start-last : (d : ℕ) (before rest : List Event) → es ≡ before ++ Start t d ∷ rest → AcceptedIn c (after c s before) (Start t d)
+    start-last : (d : ℕ) (before rest : List Event) → es ≡ before ++ Start t d ∷ rest
+        → AcceptedIn c (after c s before) (Start t d)
         → NoStop c t (next c (after c s before) (Start t d)) rest
         → Last s es
     stop-last : (before rest : List Event) → es ≡ before ++ Stop t ∷ rest → AcceptedIn c (after c s before) (Stop t)
@@ -261,7 +281,8 @@ module _ (c : Config) (t : ℕ) where
       go τ (stop-last before rest q a none) = stop-last (e ∷ before) rest (ap (λ l. e ∷ l) q) a none
       go (starts d q a y) (neither ns np) = start-last d [] es (ap (λ x. x ∷ es) q) (rw q at a) (rw q at np)
       go (stops q a y) (neither ns np) = stop-last [] es (ap (λ x. x ∷ es) q) (rw q at a) (rw q at ns)
-      go (passes p r y) (neither ns np) = neither (none-cons (StartOf t) c s e es p ns) (none-cons (StopOf t) c s e es r np)
+      go (passes p r y) (neither ns np) =
+          neither (none-cons (StartOf t) c s e es p ns) (none-cons (StopOf t) c s e es r np)
 
   pub table-history : {es : List Event} {x : Table} → History c t es x → tableOf (after c (fresh c) es) t ≡ x
   table-history {es} (never-started none) = stopped-until-start es none
@@ -273,5 +294,7 @@ module _ (c : Config) (t : ℕ) where
     where
       go : Last (fresh c) es → History c t es (tableOf (after c (fresh c) es) t)
       go (neither ns np) = rw (stopped-until-start es ns) (never-started ns)
-      go (start-last d before rest q a none) = rw (table-history (since-start d before rest q a none)) (since-start d before rest q a none)
-      go (stop-last before rest q a none) = rw (table-history (since-stop before rest q a none)) (since-stop before rest q a none)
+      go (start-last d before rest q a none) =
+          rw (table-history (since-start d before rest q a none)) (since-start d before rest q a none)
+      go (stop-last before rest q a none) =
+          rw (table-history (since-stop before rest q a none)) (since-stop before rest q a none)

@@ -1,8 +1,11 @@
 -- What holds of the plain scheduler. Each law stands here in full, over specs/ alone; the modules it cites prove it.
 --
--- In order: who runs, and ties; document 01's table of events; that a refused event changes nothing but the count of a lost line; what an accepted Activate finds; requests that wait;
--- event bits; who holds a resource; where losses come from; that d and n are counted, and entries due, as demand 3 says. `Choice` and `Checks` have more of who is chosen and
--- of what an accepted call finds; `Examples` are worked lists of events. Assumes nothing.
+-- In order: who runs, and ties; document 01's table of events, and what a time-triggered task may call; that a refused
+-- event changes nothing but the count of a lost line; at most one body begins in an event; the started time-triggered
+-- tasks; what an accepted Activate finds; requests that wait; event bits; who holds a resource, and whom it is refused;
+-- where losses come from; that d and n are counted, and entries due, as demand 3 says, no two of kind 3 at one tick.
+-- `Choice` and `Checks` have more of who is chosen and of what an accepted call finds, `Order` more of the started
+-- time-triggered tasks; `Examples` are worked lists of events. Assumes nothing.
 use Prim.Native.Nat.{ℕ, suc, _+_, _≤_, _<_, max}
 use mathlib.Core.Path.{_≡_, refl, ap, _∙_}
 use mathlib.Core.Bool.{Bool, true, false, not, _&&_, _||_}
@@ -20,7 +23,7 @@ use Rattle.scheduler.specs.Choice.{Candidate, nobody, isNobody, candidat
 use Rattle.scheduler.specs.State.{State, Table, stopped, running, bodyOf, tableOf, changing, runner, among}
 use Rattle.scheduler.specs.Event.{Event, Activate, Finish, Chain, Get, Release, Tick, Line, Start, Stop, Wait, Set, Clear}
 use Rattle.scheduler.specs.Tick.{dues, ticked, dueFor}
-use Rattle.scheduler.specs.Call.{noCaller, caller, checksOf}
+use Rattle.scheduler.specs.Call.{noCaller, nobodyRuns, caller, calling, checksOf}
 use Rattle.scheduler.specs.Scheduler.{begins, dispatched, lossesOf, step, stepBy, LostLine, fresh, seen, after, leaves, unstarted, freshBy, seenBy, afterBy}
 use Rattle.scheduler.specs.Entries.{entryOf, entriesOf, entryAt}
 use Rattle.scheduler.specs.History.{AcceptedIn, Ends, next, NoStart, NoStop, tickCount, History, dueMark, DueAt}
@@ -32,6 +35,7 @@ use Rattle.scheduler.proofs.Refusals as Refusals
 use Rattle.scheduler.proofs.Named as Named
 use Rattle.scheduler.proofs.Requests as Requests
 use Rattle.scheduler.proofs.Users as Users
+use Rattle.scheduler.proofs.Declared as Declared
 use Rattle.scheduler.proofs.Losses as Losses
 use Rattle.scheduler.proofs.Ties as Ties
 use Rattle.scheduler.proofs.Tables as Tables
@@ -44,8 +48,8 @@ use Rattle.scheduler.proofs.Order as Order
 abbrev pub candidateOf : Config → State → ℕ → Candidate
 candidateOf c s k = candidate c k (bodyOf s k) (bodyOf s k .phase)
 
--- A started time-triggered task "preempts all that runs, another kind 3 body too, and runs at one common execution level 201": the one that
--- was started last runs, whoever else may
+-- A started time-triggered task "preempts all that runs, another kind 3 body too, and runs at one common execution
+-- level 201": the one that was started last runs, whoever else may
 pub runner-timed : (c : Config) (s : State) (j : ℕ) (js : List ℕ) → s .order ≡ j ∷ js
     → (runner c s .number ≡ j) × (runner c s .level ≡ 201) × (runner c s .began ≡ hasBegun (bodyOf s j .phase))
 runner-timed c s j js e =
@@ -55,10 +59,12 @@ runner-timed c s j js e =
 -- Where none is started: "the body with the greatest current priority among ready and started ones runs"
 pub runner-greatest : (c : Config) (s : State) → s .order ≡ [] → (k : ℕ) → competes (bodyOf s k .phase) ≡ true
     → current c k (bodyOf s k) ≤ runner c s .level
-runner-greatest c s none k active = rw (Choice.runner-untimed c s none) (Choice.chosen-greatest byHolding refl c (s .bodies) k active)
+runner-greatest c s none k active =
+    rw (Choice.runner-untimed c s none) (Choice.chosen-greatest byHolding refl c (s .bodies) k active)
 
 -- "On equal current priority the body holding a resource goes first"
-pub runner-holder : (c : Config) (s : State) → s .order ≡ [] → (k : ℕ) → competes (bodyOf s k .phase) ≡ true → holds (bodyOf s k .held) ≡ true
+pub runner-holder : (c : Config) (s : State) → s .order ≡ [] → (k : ℕ) → competes (bodyOf s k .phase) ≡ true
+    → holds (bodyOf s k .held) ≡ true
     → current c k (bodyOf s k) ≡ runner c s .level
     → runner c s .holder ≡ true
 runner-holder c s none k active held equal =
@@ -72,51 +78,64 @@ pub runner-best : (c : Config) (s : State) → s .order ≡ [] → (k : ℕ) →
     → ((i : ℕ) → i < length (s .bodies) → i ≢ k → competes (bodyOf s i .phase) ≡ true
     → goesBefore byHolding (candidateOf c s k) (candidateOf c s i) ≡ true)
     → runner c s ≡ candidateOf c s k
-runner-best c s none k some best = Choice.runner-untimed c s none ∙ Choice.chosen-best byHolding refl c (s .bodies) k some best
+runner-best c s none k some best =
+    Choice.runner-untimed c s none ∙ Choice.chosen-best byHolding refl c (s .bodies) k some best
 
 -- and nobody runs exactly where every body is suspended or waits
-pub runner-nobody : (c : Config) (s : State) → s .order ≡ [] → ((i : ℕ) → i < length (s .bodies) → competes (bodyOf s i .phase) ≡ false)
+pub runner-nobody : (c : Config) (s : State) → s .order ≡ []
+    → ((i : ℕ) → i < length (s .bodies) → competes (bodyOf s i .phase) ≡ false)
     → runner c s ≡ nobody
 runner-nobody c s none all = Choice.runner-untimed c s none ∙ Choice.chosen-nobody byHolding refl c (s .bodies) all
 
-pub runner-someone : (c : Config) (s : State) (k : ℕ) → competes (bodyOf s k .phase) ≡ true → 1 ≤ priorityOf c k → isNobody (runner c s) ≡ false
+pub runner-someone : (c : Config) (s : State) (k : ℕ) → competes (bodyOf s k .phase) ≡ true → 1 ≤ priorityOf c k
+    → isNobody (runner c s) ≡ false
 runner-someone c s k active some = go (s .order) refl
   where
     go : (js : List ℕ) → s .order ≡ js → isNobody (runner c s) ≡ false
-    go [] o = ap isNobody (Choice.runner-untimed c s o) ∙ Choice.chosen-someone byHolding refl c (s .bodies) k active some
+    go [] o =
+        ap isNobody (Choice.runner-untimed c s o) ∙ Choice.chosen-someone byHolding refl c (s .bodies) k active some
     go (j ∷ js) o = ap isNobody (Choice.runner-timed c s j js o)
 
--- The rule always decides: of two that may run one goes before the other, where the choice is made at the fresh start, after every list of
--- events, and where the choice after the next event is made
-pub fresh-decided : (c : Config) → Configuration.Accepted c → Configuration.Shaped c → (i j : ℕ) → i < c .bodies → j < c .bodies → i ≢ j
+-- The rule always decides: of two that may run one goes before the other, where the choice is made at the fresh start,
+-- after every list of events, and where the choice after the next event is made
+pub fresh-decided : (c : Config) → Configuration.Accepted c → Configuration.Shaped c → (i j : ℕ) → i < c .bodies
+    → j < c .bodies → i ≢ j
     → competes (bodyOf (unstarted c) i .phase) ≡ true
     → competes (bodyOf (unstarted c) j .phase) ≡ true
     → (goesBefore byHolding (candidateOf c (unstarted c) i) (candidateOf c (unstarted c) j) ≡ true)
     ⊎ (goesBefore byHolding (candidateOf c (unstarted c) j) (candidateOf c (unstarted c) i) ≡ true)
 fresh-decided = Ties.decided-fresh
 
-pub always-decided : (c : Config) → Configuration.Accepted c → Configuration.Shaped c → (es : List Event) (i j : ℕ) → i < c .bodies → j < c .bodies → i ≢ j
+pub always-decided : (c : Config) → Configuration.Accepted c → Configuration.Shaped c → (es : List Event) (i j : ℕ)
+    → i < c .bodies → j < c .bodies → i ≢ j
     → competes (bodyOf (after c (fresh c) es) i .phase) ≡ true
     → competes (bodyOf (after c (fresh c) es) j .phase) ≡ true
     → (goesBefore byHolding (candidateOf c (after c (fresh c) es) i) (candidateOf c (after c (fresh c) es) j) ≡ true)
     ⊎ (goesBefore byHolding (candidateOf c (after c (fresh c) es) j) (candidateOf c (after c (fresh c) es) i) ≡ true)
 always-decided = Ties.decided-after
 
-pub next-decided : (c : Config) → Configuration.Accepted c → Configuration.Shaped c → (es : List Event) (e : Event) (i j : ℕ) → i < c .bodies → j < c .bodies
+pub next-decided : (c : Config) → Configuration.Accepted c → Configuration.Shaped c
+    → (es : List Event) (e : Event) (i j : ℕ) → i < c .bodies → j < c .bodies
     → i ≢ j
     → competes (bodyOf (leaves c (after c (fresh c) es) e) i .phase) ≡ true
     → competes (bodyOf (leaves c (after c (fresh c) es) e) j .phase) ≡ true
-    → (goesBefore byHolding (candidateOf c (leaves c (after c (fresh c) es) e) i) (candidateOf c (leaves c (after c (fresh c) es) e) j) ≡ true)
-    ⊎ (goesBefore byHolding (candidateOf c (leaves c (after c (fresh c) es) e) j) (candidateOf c (leaves c (after c (fresh c) es) e) i) ≡ true)
+    → (goesBefore byHolding (candidateOf c (leaves c (after c (fresh c) es) e) i)
+    (candidateOf c (leaves c (after c (fresh c) es) e) j) ≡ true)
+    ⊎ (goesBefore byHolding (candidateOf c (leaves c (after c (fresh c) es) e) j)
+    (candidateOf c (leaves c (after c (fresh c) es) e) i) ≡ true)
 next-decided = Ties.decided-at
 
--- Where no task is extended, document 01's rule for ties, "on equal priorities the one that already began goes first", gives the same: all that
--- is seen of every list of events, and the state after it. So nothing that was right before has moved.
-pub old-rule : (c : Config) → Configuration.Accepted c → Configuration.Shaped c → ((b : ℕ) → isExtended c b ≡ false) → (es : List Event)
-    → (seenBy byBegun c (freshBy byBegun c) es ≡ seen c (fresh c) es) × (afterBy byBegun c (freshBy byBegun c) es ≡ after c (fresh c) es)
+-- Where no task is extended, document 01's rule for ties, "on equal priorities the one that already began goes first",
+-- gives the same: all that is seen of every list of events, and the state after it. So nothing that was right before
+-- has moved.
+pub old-rule : (c : Config) → Configuration.Accepted c → Configuration.Shaped c → ((b : ℕ) → isExtended c b ≡ false)
+    → (es : List Event)
+    → (seenBy byBegun c (freshBy byBegun c) es ≡ seen c (fresh c) es)
+    × (afterBy byBegun c (freshBy byBegun c) es ≡ after c (fresh c) es)
 old-rule = Ties.old-rule
 
-pub runner-began : (c : Config) → Configuration.Accepted c → Configuration.Shaped c → ((b : ℕ) → isExtended c b ≡ false) → (es : List Event) (k : ℕ)
+pub runner-began : (c : Config) → Configuration.Accepted c → Configuration.Shaped c → ((b : ℕ) → isExtended c b ≡ false)
+    → (es : List Event) (k : ℕ)
     → competes (bodyOf (after c (fresh c) es) k .phase) ≡ true
     → isStarted (bodyOf (after c (fresh c) es) k .phase) ≡ true
     → current c k (bodyOf (after c (fresh c) es) k) ≡ runner c (after c (fresh c) es) .level
@@ -199,54 +218,66 @@ timed-calls c s j js e =
     }
 
 -- where somebody may call: "Activate and Chain naming one give 3; Set naming one gives 1"
-pub timed-activate : (c : Config) (s : State) → noCaller (runner c s) ≡ false → (t : ℕ) → isTimed c t ≡ true → statusSeen c s (Activate t) ≡ 3
+pub timed-activate : (c : Config) (s : State) → noCaller (runner c s) ≡ false → (t : ℕ) → isTimed c t ≡ true
+    → statusSeen c s (Activate t) ≡ 3
 timed-activate = Checks.timed-activate
 
-pub timed-chain : (c : Config) (s : State) → noCaller (runner c s) ≡ false → (t : ℕ) → isTimed c t ≡ true → isIsr c (caller c s) ≡ false
+pub timed-chain : (c : Config) (s : State) → noCaller (runner c s) ≡ false → (t : ℕ) → isTimed c t ≡ true
+    → isIsr c (caller c s) ≡ false
     → statusSeen c s (Chain t) ≡ 3
 timed-chain = Checks.timed-chain
 
-pub timed-set : (c : Config) (s : State) → noCaller (runner c s) ≡ false → (t : ℕ) → isTimed c t ≡ true → (w : ℕ) → statusSeen c s (Set t w) ≡ 1
+pub timed-set : (c : Config) (s : State) → noCaller (runner c s) ≡ false → (t : ℕ) → isTimed c t ≡ true → (w : ℕ)
+    → statusSeen c s (Set t w) ≡ 1
 timed-set = Checks.timed-set
 
 -- an event is accepted exactly if none of its checks fails, and "the first status that applies is given"
-pub accepted-none-fails : (c : Config) (s : State) (e : Event) → (step c s e .seen .status ≡ 0) ↔ NoneFails (checksOf c s e)
+pub accepted-none-fails : (c : Config) (s : State) (e : Event)
+    → (step c s e .seen .status ≡ 0) ↔ NoneFails (checksOf c s e)
 accepted-none-fails = Checks.accepted-none-fails
 
-pub first-given : (c : Config) (s : State) (e : Event) (before : List Check) (k : Check) (rest : List Check) → checksOf c s e ≡ before ++ k ∷ rest
+pub first-given : (c : Config) (s : State) (e : Event) (before : List Check) (k : Check) (rest : List Check)
+    → checksOf c s e ≡ before ++ k ∷ rest
     → NoneFails before
     → k .fails ≡ true
     → step c s e .seen .status ≡ k .status
 first-given = Checks.first-given
 
--- "A status other than 0 changes nothing", after every list of events; "For version 2, demand 1's "changes nothing" excepts that count": a Line
--- refused with 4 changes the ISR's losses, up to 65,535, and nothing else
+-- "A status other than 0 changes nothing", after every list of events; "For version 2, demand 1's "changes nothing"
+-- excepts that count": a Line refused with 4 changes the ISR's losses, up to 65,535, and nothing else
 pub refused-same : (c : Config) (es : List Event) (e : Event) → step c (after c (fresh c) es) e .seen .status ≢ done
     → ((i : ℕ) → LostLine c (after c (fresh c) es) e i → ⊥)
     → step c (after c (fresh c) es) e .state ≡ after c (fresh c) es
-refused-same c es e = Refusals.refused-same c (after c (fresh c) es) e (Refusals.settled-after c es (fresh c) (Refusals.settled-fresh c))
+refused-same c es e =
+    Refusals.refused-same c (after c (fresh c) es) e (Refusals.settled-after c es (fresh c) (Refusals.settled-fresh c))
 
 pub lost-line : (c : Config) (es : List Event) (i : ℕ) → LostLine c (after c (fresh c) es) (Line i) i
     → step c (after c (fresh c) es) (Line i) .state ≡ changing i loses (after c (fresh c) es)
-lost-line c es i = Refusals.lost-line c (after c (fresh c) es) i (Refusals.settled-after c es (fresh c) (Refusals.settled-fresh c))
+lost-line c es i =
+    Refusals.lost-line c (after c (fresh c) es) i (Refusals.settled-after c es (fresh c) (Refusals.settled-fresh c))
 
 pub lost-line-full : (c : Config) (es : List Event) (i : ℕ) → LostLine c (after c (fresh c) es) (Line i) i
     → bodyOf (after c (fresh c) es) i .losses ≡ 65535
     → step c (after c (fresh c) es) (Line i) .state ≡ after c (fresh c) es
-lost-line-full c es i = Refusals.lost-line-full c (after c (fresh c) es) i (Refusals.settled-after c es (fresh c) (Refusals.settled-fresh c))
+lost-line-full c es i =
+    Refusals.lost-line-full c (after c (fresh c) es) i
+    (Refusals.settled-after c es (fresh c) (Refusals.settled-fresh c))
 
 -- in version 1 there is none, so a refused event changes nothing at all
-pub refused-same-one : (c : Config) → c .version ≡ 1 → (es : List Event) (e : Event) → step c (after c (fresh c) es) e .seen .status ≢ done
+pub refused-same-one : (c : Config) → c .version ≡ 1 → (es : List Event) (e : Event)
+    → step c (after c (fresh c) es) e .seen .status ≢ done
     → step c (after c (fresh c) es) e .state ≡ after c (fresh c) es
 refused-same-one c v es e refused = refused-same c es e refused (Refusals.first-edition c v (after c (fresh c) es) e)
 
 -- whatever the state, only the dispatch follows such a refusal
-pub refused-dispatched : (c : Config) (s : State) (e : Event) → step c s e .seen .status ≢ done → ((i : ℕ) → LostLine c s e i → ⊥)
+pub refused-dispatched : (c : Config) (s : State) (e : Event) → step c s e .seen .status ≢ done
+    → ((i : ℕ) → LostLine c s e i → ⊥)
     → step c s e .state ≡ dispatched c s
 refused-dispatched = Refusals.refused-dispatched
 
--- "At most one body begins in an event": the one that a dispatch chose is chosen again, and after an event nobody is left to begin; where every
--- started time-triggered task is one of the state's bodies, which is so after every list of events (`started-named`)
+-- "At most one body begins in an event": the one that a dispatch chose is chosen again, and after an event nobody is
+-- left to begin; where every started time-triggered task is one of the state's bodies, which is so after every list of
+-- events (`started-named`)
 pub runner-dispatched : (c : Config) (s : State)
     → (runner c (dispatched c s) .number ≡ runner c s .number) × (runner c (dispatched c s) .level ≡ runner c s .level)
     × (((j : ℕ) → among j (s .order) ≡ true → j < length (s .bodies)) → begins (runner c (dispatched c s)) ≡ false)
@@ -270,7 +301,8 @@ pub settled : (c : Config) (s : State) (e : Event)
     → begins (runner c (step c s e .state)) ≡ false
 settled c s e = Refusals.settled-named c (step c s e .state) (Refusals.settled-step c s e)
 
-pub started-named : (c : Config) (es : List Event) (j : ℕ) → among j (after c (fresh c) es .order) ≡ true → j < c .bodies
+pub started-named : (c : Config) (es : List Event) (j : ℕ) → among j (after c (fresh c) es .order) ≡ true
+    → j < c .bodies
 started-named c es = Named.named-after c es (fresh c) (Named.named-fresh c)
 
 -- so of a configuration that the reader accepts nobody is left to begin, after every list of events
@@ -278,10 +310,11 @@ pub always-settled : (c : Config) → Configuration.Accepted c → Configuration
     → begins (runner c (after c (fresh c) es)) ≡ false
 always-settled c ok shaped es =
     Refusals.settled-named c (after c (fresh c) es) (Refusals.settled-after c es (fresh c) (Refusals.settled-fresh c))
-    (λ j h. rw (Order.orderly-after c ok shaped es (Order.orderly-fresh c ok shaped) .bodies-there) (started-named c es j h))
+    (λ j h. rw (Order.orderly-after c ok shaped es (Order.orderly-fresh c ok shaped) .bodies-there)
+    (started-named c es j h))
 
--- The started time-triggered tasks, after every list of events: each is one, and has begun; whoever is triggered is among them, so none is
--- ever seen that is triggered and has still to begin; there are at most 16
+-- The started time-triggered tasks, after every list of events: each is one, and has begun; whoever is triggered is
+-- among them, so none is ever seen that is triggered and has still to begin; there are at most 16
 pub started-timed : (c : Config) → Configuration.Accepted c → Configuration.Shaped c → (es : List Event) (j : ℕ)
     → among j (after c (fresh c) es .order) ≡ true
     → (isTimed c j ≡ true) × (bodyOf (after c (fresh c) es) j .phase ≡ triggered true)
@@ -289,24 +322,29 @@ started-timed c ok shaped es j h =
     let o = Order.orderly-after c ok shaped es (Order.orderly-fresh c ok shaped) in
     (o .started-timed j h, o .started-begun j h)
 
-pub triggered-started : (c : Config) → Configuration.Accepted c → Configuration.Shaped c → (es : List Event) (i : ℕ) (x : Bool)
+pub triggered-started : (c : Config) → Configuration.Accepted c → Configuration.Shaped c
+    → (es : List Event) (i : ℕ) (x : Bool)
     → bodyOf (after c (fresh c) es) i .phase ≡ triggered x
     → among i (after c (fresh c) es .order) ≡ true
-triggered-started c ok shaped es = Order.orderly-after c ok shaped es (Order.orderly-fresh c ok shaped) .triggered-started
+triggered-started c ok shaped es =
+    Order.orderly-after c ok shaped es (Order.orderly-fresh c ok shaped) .triggered-started
 
 pub begun-once : (c : Config) → Configuration.Accepted c → Configuration.Shaped c → (es : List Event) (i : ℕ)
     → bodyOf (after c (fresh c) es) i .phase ≢ triggered false
 begun-once = Order.begun-once
 
-pub few-started : (c : Config) → Configuration.Accepted c → Configuration.Shaped c → (es : List Event) → length (after c (fresh c) es .order) ≤ 16
-few-started c ok shaped es = Order.few-started c ok shaped (Order.orderly-after c ok shaped es (Order.orderly-fresh c ok shaped))
+pub few-started : (c : Config) → Configuration.Accepted c → Configuration.Shaped c → (es : List Event)
+    → length (after c (fresh c) es .order) ≤ 16
+few-started c ok shaped es =
+    Order.few-started c ok shaped (Order.orderly-after c ok shaped es (Order.orderly-fresh c ok shaped))
 
 -- a Tick after every list of events starts one that was suspended, which is then the latest, or leaves the order
 pub tick-order : (c : Config) → Configuration.Accepted c → Configuration.Shaped c → (es : List Event)
     → (ticked c (after c (fresh c) es) .order ≡ after c (fresh c) es .order)
     ⊎ ((j : ℕ) × (ticked c (after c (fresh c) es) .order ≡ j ∷ after c (fresh c) es .order) × (isTimed c j ≡ true)
     × (bodyOf (after c (fresh c) es) j .phase ≡ suspended))
-tick-order c ok shaped es = go (Order.tick-order c ok shaped (Order.orderly-after c ok shaped es (Order.orderly-fresh c ok shaped)))
+tick-order c ok shaped es =
+    go (Order.tick-order c ok shaped (Order.orderly-after c ok shaped es (Order.orderly-fresh c ok shaped)))
   where
     go : Order.TickOrder c (after c (fresh c) es)
         → (ticked c (after c (fresh c) es) .order ≡ after c (fresh c) es .order)
@@ -320,8 +358,8 @@ pub activated-suspended : (c : Config) (s : State) (t : ℕ) → AcceptedIn c s 
 unfolding stepBy
 activated-suspended c s t a = Checks.activate-passed c s t a .2
 
--- "The begun mark is 1 exactly if this event made a body begin from its start; a resumed body gives 0": a body that has begun, waiting or not,
--- begins again only where the event is its own accepted Finish or Chain
+-- "The begun mark is 1 exactly if this event made a body begin from its start; a resumed body gives 0": a body that has
+-- begun, waiting or not, begins again only where the event is its own accepted Finish or Chain
 pub begins-after-end : (c : Config) (s : State) (i : ℕ) → hasBegun (bodyOf s i .phase) ≡ true
     → (e : Event)
     → step c s e .seen .begun ≡ 1
@@ -329,7 +367,8 @@ pub begins-after-end : (c : Config) (s : State) (i : ℕ) → hasBegun (bodyOf s
     → Ends e × (caller c s ≡ i) × AcceptedIn c s e
 begins-after-end = Requests.begins-after-end
 
--- "A started ISR's second request .. begins only after it has finished": where a started ISR begins, the event is its own accepted Finish
+-- "A started ISR's second request .. begins only after it has finished": where a started ISR begins, the event is its
+-- own accepted Finish
 pub begins-after-finish : (c : Config) (s : State) (i : ℕ) → hasBegun (bodyOf s i .phase) ≡ true → isIsr c i ≡ true
     → (e : Event)
     → step c s e .seen .begun ≡ 1
@@ -338,10 +377,13 @@ pub begins-after-finish : (c : Config) (s : State) (i : ℕ) → hasBegun (bodyO
 begins-after-finish = Requests.begins-after-finish
 
 -- "requests already waiting stay": a Stop changes no body
-pub stop-bodies : (c : Config) (es : List Event) (t : ℕ) → step c (after c (fresh c) es) (Stop t) .state .bodies ≡ after c (fresh c) es .bodies
-stop-bodies c es t = Requests.stop-bodies c (after c (fresh c) es) t (Refusals.settled-after c es (fresh c) (Refusals.settled-fresh c))
+pub stop-bodies : (c : Config) (es : List Event) (t : ℕ)
+    → step c (after c (fresh c) es) (Stop t) .state .bodies ≡ after c (fresh c) es .bodies
+stop-bodies c es t =
+    Requests.stop-bodies c (after c (fresh c) es) t (Refusals.settled-after c es (fresh c) (Refusals.settled-fresh c))
 
--- event bits, each bit by itself: a Set sets those of its mask, a Clear clears them, and one waited bit that is set suffices
+-- event bits, each bit by itself: a Set sets those of its mask, a Clear clears them, and one waited bit that is set
+-- suffices
 pub with-bit : (bits w i : ℕ) → bitSet (withBits bits w) i ≡ bitSet bits i || bitSet w i
 with-bit = Bits.with-bit
 
@@ -353,13 +395,37 @@ any-set = Bits.any-set
 
 -- "Wait on mask 0 is never resumed"
 pub mask-zero-waits : (bits : ℕ) → resumed bits (waiting 0) ≡ waiting 0
-mask-zero-waits bits = rw (Bits.mask-zero bits)
+mask-zero-waits = Bits.mask-zero-waits
 
--- in every state that the fresh start leads to, whoever holds a resource is one of its declared users: Release needs no status for it
-pub held-by-user : (c : Config) (es : List Event) (i r : ℕ) → among r (bodyOf (after c (fresh c) es) i .held) ≡ true → isUser c r i ≡ true
+-- in every state that the fresh start leads to, whoever holds a resource is one of its declared users: Release needs no
+-- status for it
+pub held-by-user : (c : Config) (es : List Event) (i r : ℕ) → among r (bodyOf (after c (fresh c) es) i .held) ≡ true
+    → isUser c r i ≡ true
 held-by-user c es = Users.declared-after c es (fresh c) (Users.declared-fresh c)
 
--- losses come from due entries and counted lost lines: no other event changes one, and what is seen of them is the state after the event
+-- Where no time-triggered task is started, the runner's own priority is above the current priority of every other body
+-- that holds a resource, and so above that resource's ceiling: after every list of events, whatever the kinds of the
+-- bodies
+pub holder-below : (c : Config) → Configuration.Accepted c → Configuration.Shaped c → (es : List Event)
+    → after c (fresh c) es .order ≡ []
+    → (i r : ℕ)
+    → i ≢ caller c (after c (fresh c) es)
+    → among r (bodyOf (after c (fresh c) es) i .held) ≡ true
+    → current c i (bodyOf (after c (fresh c) es) i) < priorityOf c (caller c (after c (fresh c) es))
+holder-below = Declared.holder-below
+
+-- "a declared basic task or ISR is refused a resource only when it holds that resource itself": with status 1, over all
+-- kinds
+pub declared-refused : (c : Config) → Configuration.Accepted c → Configuration.Shaped c → (es : List Event) (r : ℕ)
+    → nobodyRuns c (after c (fresh c) es) ≡ false
+    → isUser c r (caller c (after c (fresh c) es)) ≡ true
+    → step c (after c (fresh c) es) (Get r) .seen .status ≢ 0
+    → (step c (after c (fresh c) es) (Get r) .seen .status ≡ 1)
+    × (among r (calling c (after c (fresh c) es) .held) ≡ true)
+declared-refused = Declared.declared-refused
+
+-- losses come from due entries and counted lost lines: no other event changes one, and what is seen of them is the
+-- state after the event
 pub losses-call : (c : Config) (s : State) (e : Event) → e ≢ Tick → ((i : ℕ) → LostLine c s e i → ⊥)
     → lossesOf (step c s e .state) ≡ lossesOf s
 losses-call = Effects.losses-call
@@ -367,15 +433,17 @@ losses-call = Effects.losses-call
 pub losses-seen : (c : Config) (s : State) (e : Event) → step c s e .seen .losses ≡ lossesOf (step c s e .state)
 losses-seen = Effects.losses-seen
 
--- At one tick a task that several due entries name becomes ready once and loses the rest, whatever their order: only their number counts. A
--- time-triggered one is triggered once. One that isn't suspended loses them all.
-pub tick-suspended : (c : Config) (es : List Event) (t k : ℕ) → t < length (after c (fresh c) es .bodies) → isTimed c t ≡ false
+-- At one tick a task that several due entries name becomes ready once and loses the rest, whatever their order: only
+-- their number counts. A time-triggered one is triggered once. One that isn't suspended loses them all.
+pub tick-suspended : (c : Config) (es : List Event) (t k : ℕ) → t < length (after c (fresh c) es .bodies)
+    → isTimed c t ≡ false
     → bodyOf (after c (fresh c) es) t .phase ≡ suspended
     → dueFor c (after c (fresh c) es) t ≡ suc k
     → bodyOf (ticked c (after c (fresh c) es)) t ≡ losing k (activated (bodyOf (after c (fresh c) es) t))
 tick-suspended c es t k fits = Losses.tick-suspended c es t fits k
 
-pub tick-triggered : (c : Config) (es : List Event) (t k : ℕ) → t < length (after c (fresh c) es .bodies) → isTimed c t ≡ true
+pub tick-triggered : (c : Config) (es : List Event) (t k : ℕ) → t < length (after c (fresh c) es .bodies)
+    → isTimed c t ≡ true
     → bodyOf (after c (fresh c) es) t .phase ≡ suspended
     → dueFor c (after c (fresh c) es) t ≡ suc k
     → bodyOf (ticked c (after c (fresh c) es)) t ≡ losing k (triggers (bodyOf (after c (fresh c) es) t))
@@ -383,28 +451,33 @@ tick-triggered c es t k fits = Losses.tick-triggered c es t fits k
 
 pub tick-active : (c : Config) (es : List Event) (t : ℕ) → t < length (after c (fresh c) es .bodies)
     → isSuspended (bodyOf (after c (fresh c) es) t .phase) ≡ false
-    → bodyOf (ticked c (after c (fresh c) es)) t ≡ losing (dueFor c (after c (fresh c) es) t) (bodyOf (after c (fresh c) es) t)
+    → bodyOf (ticked c (after c (fresh c) es)) t
+    ≡ losing (dueFor c (after c (fresh c) es) t) (bodyOf (after c (fresh c) es) t)
 tick-active = Losses.tick-active
 
 pub losses-le : (c : Config) (es : List Event) (i : ℕ) → bodyOf (after c (fresh c) es) i .losses ≤ 65535
 losses-le c es = Losses.few-after c es (fresh c) (Losses.few-fresh c)
 
 -- "n, the Ticks since its start": from an accepted Start on, until an accepted Stop
-pub counted-from-start : (c : Config) (t d : ℕ) (before rest : List Event) → AcceptedIn c (after c (fresh c) before) (Start t d)
+pub counted-from-start : (c : Config) (t d : ℕ) (before rest : List Event)
+    → AcceptedIn c (after c (fresh c) before) (Start t d)
     → NoStop c t (next c (after c (fresh c) before) (Start t d)) rest
     → tableOf (after c (fresh c) (before ++ Start t d ∷ rest)) t ≡ running d (tickCount rest)
 counted-from-start = Tables.counted-from-start
 
-pub stopped-until-start : (c : Config) (t : ℕ) (es : List Event) → NoStart c t (fresh c) es → tableOf (after c (fresh c) es) t ≡ stopped
+pub stopped-until-start : (c : Config) (t : ℕ) (es : List Event) → NoStart c t (fresh c) es
+    → tableOf (after c (fresh c) es) t ≡ stopped
 stopped-until-start = Tables.stopped-until-start
 
-pub stopped-since-stop : (c : Config) (t : ℕ) (before rest : List Event) → AcceptedIn c (after c (fresh c) before) (Stop t)
+pub stopped-since-stop : (c : Config) (t : ℕ) (before rest : List Event)
+    → AcceptedIn c (after c (fresh c) before) (Stop t)
     → NoStart c t (next c (after c (fresh c) before) (Stop t)) rest
     → tableOf (after c (fresh c) (before ++ Stop t ∷ rest)) t ≡ stopped
 stopped-since-stop = Tables.stopped-since-stop
 
 -- no other case is left: each table is what its history says, and nothing else
-pub table-history : (c : Config) (t : ℕ) (es : List Event) (x : Table) → (tableOf (after c (fresh c) es) t ≡ x) ↔ History c t es x
+pub table-history : (c : Config) (t : ℕ) (es : List Event) (x : Table)
+    → (tableOf (after c (fresh c) es) t ≡ x) ↔ History c t es x
 table-history c t es x = (λ e. rw e at (Tables.history-of-table c t es), Tables.table-history c t)
 
 -- the Start in a history is the table's last accepted one
@@ -413,7 +486,8 @@ pub last-start : (c : Config) (t d : ℕ) (before rest : List Event) → Accepte
     → NoStart c t (next c (after c (fresh c) before) (Start t d)) rest
 last-start = Tables.last-start
 
--- Two entries of kind 3 are never due at one tick, in no state at all: they lie in one table, and their offsets differ by less than its period
+-- Two entries of kind 3 are never due at one tick, in no state at all: they lie in one table, and their offsets differ
+-- by less than its period
 pub timed-once : (c : Config) → Configuration.Accepted c → Configuration.Shaped c → (s : State) (e e′ : ℕ)
     → e < firstOf c (c .tables)
     → e′ < firstOf c (c .tables)
@@ -425,17 +499,21 @@ pub timed-once : (c : Config) → Configuration.Accepted c → Configuration.Sha
     → ⊥
 timed-once = Timed.timed-once
 
--- Demand 3: an entry is marked due at exactly those events that are Ticks and at which it is due "by the table's arithmetic, counted from the
--- table's last accepted start until its next accepted stop": the events before are `before ++ Start t d ∷ rest`, that Start is accepted where
--- it stands, no Stop of t in rest is, and `due P (d + o) (suc (tickCount rest))`. For every list of events, the i-th of them and the k-th entry.
+-- Demand 3: an entry is marked due at exactly those events that are Ticks and at which it is due "by the table's
+-- arithmetic, counted from the table's last accepted start until its next accepted stop": the events before are `before
+-- ++ Start t d ∷ rest`, that Start is accepted where it stands, no Stop of t in rest is, and `due P (d + o) (suc
+-- (tickCount rest))`. For every list of events, the i-th of them and the k-th entry.
 pub due-exactly : (c : Config) (es : List Event) (i k : ℕ) → i < length es → k < length (entriesOf c)
     → (dueMark (seen c (fresh c) es) i k ≡ true) ↔ DueAt c (take i es) (getD es i Tick) (entryAt c k)
 due-exactly = Dues.due-exactly
 
--- of a configuration that the reader accepts, the k-th entry is that of the k-th offset, in the table to whose entries k belongs
-pub entries-long : (c : Config) → Configuration.Accepted c → Configuration.Shaped c → length (entriesOf c) ≡ firstOf c (c .tables)
+-- of a configuration that the reader accepts, the k-th entry is that of the k-th offset, in the table to whose entries
+-- k belongs
+pub entries-long : (c : Config) → Configuration.Accepted c → Configuration.Shaped c
+    → length (entriesOf c) ≡ firstOf c (c .tables)
 entries-long c ok shaped = Entries.entries-long c (omega (arith, ok .few-entries, shaped .offsets))
 
-pub entry-at : (c : Config) → Configuration.Accepted c → Configuration.Shaped c → (t j : ℕ) → t < c .tables → j < getD (c .entries) t 0
+pub entry-at : (c : Config) → Configuration.Accepted c → Configuration.Shaped c → (t j : ℕ) → t < c .tables
+    → j < getD (c .entries) t 0
     → entryAt c (firstOf c t + j) ≡ entryOf c t (getD (c .offset) (firstOf c t + j) 0)
 entry-at c ok shaped = Entries.entry-at c (omega (arith, ok .few-entries, shaped .offsets))

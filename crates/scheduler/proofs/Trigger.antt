@@ -1,4 +1,5 @@
--- What a Tick does to the order of the started time-triggered tasks: it leaves it, or starts one (`tick-outcome`, at the end of the file).
+-- What a Tick does to the order of the started time-triggered tasks: it leaves it, or starts one (`tick-outcome`, at
+-- the end of the file).
 --
 -- In order: one due entry; the entries one after the other, of which at most one is of kind 3; a Tick. Assumes nothing.
 use Prim.Native.Nat.{ℕ, zero, suc, _+_, _≤_, _<_}
@@ -105,12 +106,14 @@ module _ (c : Config) where
           (λ d. ap (λ (b : Body). b .phase) (bodyOf-changing-other t loses s i d))
 
   -- a due entry of a task of another kind
-  other-stays : {late : ℕ → Type 0} {s : State} → Placed c late s → (t : ℕ) → isTimed c t ≡ false → Stays late s (enter c t s)
+  other-stays : {late : ℕ → Type 0} {s : State} → Placed c late s → (t : ℕ) → isTimed c t ≡ false
+      → Stays late s (enter c t s)
   other-stays {late} {s} p t n =
       rw n
       (record {
         order-same = refl;
-        phase-same = λ i h. ap (λ (b : Body). b .phase) (bodyOf-changing-other t activatedByEntry s i (λ e. true≢false (sym h ∙ ap (isTimed c) e ∙ n)));
+        phase-same = λ i h. ap (λ (b : Body). b .phase)
+            (bodyOf-changing-other t activatedByEntry s i (λ e. true≢false (sym h ∙ ap (isTimed c) e ∙ n)));
         placed = plain-placed c p t n activatedByEntry entry-plain;
       })
 
@@ -119,7 +122,8 @@ module _ (c : Config) where
   Known t = (e : ℕ) × (e < firstOf c (c .tables)) × (getD (c .task) e 0 ≡ t)
 
   -- a suspended time-triggered task is started
-  starting-starts : {s : State} → Placed c (λ i. ⊥) s → (t : ℕ) → Known t → isTimed c t ≡ true → bodyOf s t .phase ≡ suspended
+  starting-starts : {s : State} → Placed c (λ i. ⊥) s → (t : ℕ) → Known t → isTimed c t ≡ true
+      → bodyOf s t .phase ≡ suspended
       → among t (s .order) ≡ false → bodyOf s t .held ≡ [] → bodyOf s t .pending ≡ false
       → Starts s (starting t s) t
   starting-starts {s} p t known timed h new free single =
@@ -137,7 +141,8 @@ module _ (c : Config) where
           places = λ i. by-eq i t
               (λ e. rw (e, here) (awake timed (among-head t (s .order)) false refl free single))
               (λ d. rw (there i d, among-other i t (s .order) d) (p .places i));
-          to-begin = λ i. by-eq i t (λ e _. e) (λ d q. absurd (p .to-begin i (sym (ap (λ (b : Body). b .phase) (there i d)) ∙ q)));
+          to-begin = λ i. by-eq i t (λ e _. e)
+              (λ d q. absurd (p .to-begin i (sym (ap (λ (b : Body). b .phase) (there i d)) ∙ q)));
           has-entry = λ i. by-eq i t
               (λ e _. subst⁻¹ Known e known)
               (λ d q. p .has-entry i (sym (among-other i t (s .order) d) ∙ q));
@@ -145,7 +150,9 @@ module _ (c : Config) where
       }
     where
       here : bodyOf (starting t s) t ≡ triggers (bodyOf s t)
-      here = getD-set-same (s .bodies) t (triggers (bodyOf s t)) noBody (omega (arith, p .bodies-there, timed-body c t timed))
+      here =
+          getD-set-same (s .bodies) t (triggers (bodyOf s t)) noBody
+          (omega (arith, p .bodies-there, timed-body c t timed))
 
       there : (i : ℕ) → i ≢ t → bodyOf (starting t s) i ≡ bodyOf s i
       there i d = getD-set-other (s .bodies) t i (triggers (bodyOf s t)) noBody d
@@ -165,7 +172,8 @@ module _ (c : Config) where
 
   abbrev OneTimed : List Bool → List ℕ → Type 0
   OneTimed ds ts =
-      (e e′ : ℕ) → e < e′ → getD ds e false ≡ true → getD ds e′ false ≡ true → isTimed c (getD ts e 0) ≡ true → isTimed c (getD ts e′ 0) ≡ false
+      (e e′ : ℕ) → e < e′ → getD ds e false ≡ true → getD ds e′ false ≡ true → isTimed c (getD ts e 0) ≡ true
+      → isTimed c (getD ts e′ 0) ≡ false
 
   others-stay : {late : ℕ → Type 0} (ds : List Bool) (ts : List ℕ) (s : State) → NoneTimed ds ts → Placed c late s
       → Stays late s (activatingDue c ds ts s)
@@ -178,7 +186,8 @@ module _ (c : Config) where
       stays-then first (others-stay ds ts (enter c t s) (λ e. none (suc e)) (first .placed))
   others-stay (false ∷ ds) (t ∷ ts) s none p = others-stay ds ts s (λ e. none (suc e)) p
 
-  entries-outcome : (ds : List Bool) (ts : List ℕ) (s : State) → OneTimed ds ts → ((e : ℕ) → getD ds e false ≡ true → Known (getD ts e 0))
+  entries-outcome : (ds : List Bool) (ts : List ℕ) (s : State) → OneTimed ds ts
+      → ((e : ℕ) → getD ds e false ≡ true → Known (getD ts e 0))
       → Placed c (λ i. ⊥) s
       → Outcome s (activatingDue c ds ts s)
   unfolding activatingDue
@@ -190,12 +199,18 @@ module _ (c : Config) where
       (λ timed. go timed (timed-outcome p t (known zero refl) timed))
       (λ n.
       let first = other-stays p t n in
-      then-outcome first (entries-outcome ds ts (enter c t s) (λ e e′ l. one (suc e) (suc e′) (omega arith)) (λ e. known (suc e)) (first .placed)))
+      then-outcome first
+      (entries-outcome ds ts (enter c t s) (λ e e′ l. one (suc e) (suc e′) (omega arith)) (λ e. known (suc e))
+      (first .placed)))
     where
       go : isTimed c t ≡ true → Outcome s (enter c t s) → Outcome s (activatingDue c ds ts (enter c t s))
-      go timed (same a) = same (stays-then a (others-stay ds ts (enter c t s) (λ e h. one zero (suc e) (omega arith) refl h timed) (a .placed)))
+      go timed (same a) =
+          same (stays-then a
+          (others-stay ds ts (enter c t s) (λ e h. one zero (suc e) (omega arith) refl h timed) (a .placed)))
       go timed (starts j a) =
-          starts j (starts-then a (others-stay ds ts (enter c t s) (λ e h. one zero (suc e) (omega arith) refl h timed) (a .placed)))
+          starts j
+          (starts-then a
+          (others-stay ds ts (enter c t s) (λ e h. one zero (suc e) (omega arith) refl h timed) (a .placed)))
   entries-outcome (false ∷ ds) (t ∷ ts) s one known p =
       entries-outcome ds ts s (λ e e′ l. one (suc e) (suc e′) (omega arith)) (λ e. known (suc e)) p
 
@@ -218,7 +233,9 @@ module _ (c : Config) where
         there : (e : ℕ) → getD (dues c (counted s)) e false ≡ true → e < firstOf c (c .tables)
         there e h =
             by-lt e (length (dues c (counted s)))
-            (λ l. rw (length-dues c (counted s) (counts .tables-there) ∙ entries-long c (omega (arith, ok .few-entries, shaped .offsets))) at l)
+            (λ l. rw
+            (length-dues c (counted s) (counts .tables-there)
+            ∙ entries-long c (omega (arith, ok .few-entries, shaped .offsets))) at l)
             (λ l. absurd (true≢false (sym h ∙ List·getD-eq-default (dues c (counted s)) false l)))
 
         one : OneTimed (dues c (counted s)) (c .task)

@@ -33,7 +33,8 @@ module _ (c : Config) where
   Declared s = (i r : ℕ) → among r (bodyOf s i .held) ≡ true → isUser c r i ≡ true
 
   -- a body k that is changed holds no resource of which it is no declared user
-  declared-changing : (k : ℕ) (f : Body → Body) (s : State) → ((r : ℕ) → among r (f (bodyOf s k) .held) ≡ true → isUser c r k ≡ true) → Declared s
+  declared-changing : (k : ℕ) (f : Body → Body) (s : State)
+      → ((r : ℕ) → among r (f (bodyOf s k) .held) ≡ true → isUser c r k ≡ true) → Declared s
       → Declared (changing k f s)
   declared-changing k f s fine d i r h =
       by-eq i k
@@ -60,14 +61,18 @@ module _ (c : Config) where
   requested-none b r h = sym (ap (among r) (cond-held (hasBegun (b .phase)) _ (activated b) (b .held) refl refl)) ∙ h
 
   entry-none : (x : Bool) → TakesNone (entered x)
-  entry-none true b r h = sym (ap (among r) (cond-held (isSuspended (b .phase)) (triggers b) (loses b) (b .held) refl refl)) ∙ h
-  entry-none false b r h = sym (ap (among r) (cond-held (isSuspended (b .phase)) (activated b) (loses b) (b .held) refl refl)) ∙ h
+  entry-none true b r h =
+      sym (ap (among r) (cond-held (isSuspended (b .phase)) (triggers b) (loses b) (b .held) refl refl)) ∙ h
+  entry-none false b r h =
+      sym (ap (among r) (cond-held (isSuspended (b .phase)) (activated b) (loses b) (b .held) refl refl)) ∙ h
 
   finished-none : TakesNone finished
-  finished-none b r h = sym (ap (among r) (cond-held (b .pending) (activated (ended b)) (ended b) (b .held) refl refl)) ∙ h
+  finished-none b r h =
+      sym (ap (among r) (cond-held (b .pending) (activated (ended b)) (ended b) (b .held) refl refl)) ∙ h
 
   waits-none : (w : ℕ) → TakesNone (waits w)
-  waits-none w b r h = sym (ap (among r) (cond-held (anySet (b .bits) w) b (become (waiting w) b) (b .held) refl refl)) ∙ h
+  waits-none w b r h =
+      sym (ap (among r) (cond-held (anySet (b .bits) w) b (become (waiting w) b) (b .held) refl refl)) ∙ h
 
   releases-none : TakesNone releases
   unfolding among
@@ -97,11 +102,14 @@ module _ (c : Config) where
       let ends = declared-taking-none (caller c s) finished finished-none s d in
       cond-either Declared (runner c s .timed) (finishTimed (caller c s) s) (finish (caller c s) s) ends ends
   declared-effect s (Chain t) a d =
-      declared-taking-none t activated (λ b r h. h) (finish (caller c s) s) (declared-taking-none (caller c s) finished finished-none s d)
-  declared-effect s (Get r) a d = declared-changing (caller c s) (gets r) s (gets-declared s r (get-passed c s r a .2) d) d
+      declared-taking-none t activated (λ b r h. h) (finish (caller c s) s)
+      (declared-taking-none (caller c s) finished finished-none s d)
+  declared-effect s (Get r) a d =
+      declared-changing (caller c s) (gets r) s (gets-declared s r (get-passed c s r a .2) d) d
   declared-effect s (Release r) a d = declared-taking-none (caller c s) releases releases-none s d
   declared-effect s Tick a d =
-      activatingDue-keeps c Declared (λ js x h. h) (λ t b. declared-taking-none t (entered b) (entry-none b)) (dues c (counted s)) (c .task)
+      activatingDue-keeps c Declared (λ js x h. h) (λ t b. declared-taking-none t (entered b) (entry-none b))
+      (dues c (counted s)) (c .task)
       (counted s) d
   declared-effect s (Line i) a d = declared-taking-none i requested requested-none s d
   declared-effect s (Start t x) a d = d

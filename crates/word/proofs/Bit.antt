@@ -7,7 +7,7 @@ use mathlib.Core.Path.{_≡_, refl, sym, ap, _∙_}
 use native.Mathlib.Nat.{pow-suc, div-one}
 use native.Mathlib.Numerals.{one-add}
 use native.Mathlib.Omega.{arith}
-use lib.Pow.{shr-shr, suc-ones}
+use lib.Pow.{shr-shr}
 
 -- 1 where the bit of w at place i is set, else 0
 abbrev pub bit : ℕ → ℕ → ℕ
@@ -73,12 +73,3 @@ bits-same (suc k) w v hw hv e =
       e 0 (omega arith),
       bits-same k (w / 2) (v / 2) (omega (arith, pow-suc 2 k)) (omega (arith, pow-suc 2 k)) (λ i l. sym (bit-suc w i) ∙ e (suc i) (omega arith) ∙ bit-suc v i),
     )
-
--- every bit of the greatest number of k bits is set
-pub ones-bit : (k i : ℕ) → i < k → bit (2 ^ k - 1) i ≡ 1
-ones-bit zero i l = absurd (omega arith)
-ones-bit (suc k) zero l = rw bit-zero (omega (arith, pow-suc 2 k, suc-ones k))
-ones-bit (suc k) (suc i) l = rw (bit-suc, half) (ones-bit k i (omega arith))
-  where
-    half : (2 ^ suc k - 1) / 2 ≡ 2 ^ k - 1
-    half = omega (arith, pow-suc 2 k)

@@ -1,6 +1,6 @@
 -- What the crate shows beyond its contracts, over specs/ alone: which ranks are in a word, and which of them wins.
 --
--- In order: `has`; `with`; `without`; `union` and `intersection`; words with the same ranks; the winner. Callers lean on these laws, not on the definitions.
+-- In order: `has`; `with`; `without`; `union`; words with the same ranks; the winner. Callers lean on these laws, not on the definitions.
 -- Assumes nothing.
 use Prim.Native.Nat.{ℕ, _+_, _-_, _/_, _%_, _^_, _≤_, _<_}
 use mathlib.Core.Path.{_≡_, refl, sym, ap, _∙_}
@@ -9,10 +9,10 @@ use mathlib.Core.Bool.{Bool, true, false, _&&_, _||_}
 use native.Mathlib.Nat.{zero-div, eq-zero-or-pos}
 use native.Mathlib.Omega.{arith}
 use lib.Dec.{ltb, eqb}
-use lib.Bits.{and-lt, or-lt}
-use Rattle.number.proofs.Bits.{or-bit, and-bits}
-use Rattle.word.specs.Word.{ranks, noRank, has, with, without, union, intersection, full, highestBelow, winner}
-use Rattle.word.proofs.Bit.{add-same, add-other, add-lt, sub-same, sub-other, bits-same, ones-bit}
+use lib.Bits.{or-lt}
+use Rattle.number.proofs.Bits.{or-bit}
+use Rattle.word.specs.Word.{ranks, noRank, has, with, without, union, highestBelow, winner}
+use Rattle.word.proofs.Bit.{add-same, add-other, add-lt, sub-same, sub-other, bits-same}
 use Rattle.word.proofs.Rank as Rank
 use Rattle.word.proofs.Rank.{with-elim, without-elim, has-bit}
 use Rattle.word.proofs.Highest as Highest
@@ -67,26 +67,6 @@ has-union w v i = ap (λ (b : Bool). ltb i ranks && b) (or-bit w v i) ∙ go (lt
 pub union-lt : (w v : ℕ) → w < 2 ^ ranks → v < 2 ^ ranks → union w v < 2 ^ ranks
 unfolding union
 union-lt w v = or-lt ranks w v
-
--- and in the intersection exactly if it is in both
-pub has-intersection : (w v i : ℕ) → has (intersection w v) i ≡ has w i && has v i
-unfolding has intersection
-has-intersection w v i = ap (λ (b : Bool). ltb i ranks && b) (and-bits w v i) ∙ go (ltb i ranks) (eqb (w / 2 ^ i % 2) 1) (eqb (v / 2 ^ i % 2) 1)
-  where
-    go : (a b c : Bool) → a && (b && c) ≡ (a && b) && (a && c)
-    go true b c = refl
-    go false b c = refl
-
-pub intersection-lt : (w v : ℕ) → w < 2 ^ ranks → v < 2 ^ ranks → intersection w v < 2 ^ ranks
-unfolding intersection
-intersection-lt w v = and-lt ranks w v
-
--- the full word has every rank
-pub has-full : (i : ℕ) → i < ranks → has full i ≡ true
-has-full i l = Rank.set-has full i l (ones-bit ranks i l)
-
-pub full-lt : full < 2 ^ ranks
-full-lt = omega arith
 
 -- a word is the set of its ranks
 pub same-ranks : (w v : ℕ) → w < 2 ^ ranks → v < 2 ^ ranks → ((i : ℕ) → has w i ≡ has v i) → w ≡ v

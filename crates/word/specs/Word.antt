@@ -2,8 +2,7 @@
 --
 --   has w r        rank r is in w
 --   with w r       w with rank r in it; without w r: with rank r not in it
---   union w v      the ranks of both words; intersection w v: those that both have
---   full           the word of all ranks
+--   union w v      the ranks of both words
 --   winner w       the highest rank in w, or `noRank`
 --
 -- Main laws: `winner-has` and `winner-highest` (proofs/Theorems.antt). Assumes nothing.
@@ -33,12 +32,6 @@ without w r = cond (has w r) (w - 2 ^ r) w
 
 unfoldable pub union : ℕ → ℕ → ℕ
 union w v = bitOr w v
-
-unfoldable pub intersection : ℕ → ℕ → ℕ
-intersection w v = bitAnd w v
-
-abbrev pub full : ℕ
-full = 4294967295
 
 -- the highest rank below n in w
 unfoldable pub highestBelow : ℕ → ℕ → ℕ

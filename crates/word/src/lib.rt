@@ -1,6 +1,6 @@
 // A 32-bit word as a set of ranks: bit r is set where rank r is in the word.
 ghost use mathlib.Core.Path.{_≡_};
-ghost use Rattle.word.specs.Word.{has, with, without, union, intersection, winner};
+ghost use Rattle.word.specs.Word.{has, with, without, union, winner};
 
 // How many ranks there are, 0 the lowest.
 pub const RANKS: u32 = 32;
@@ -41,13 +41,6 @@ pub fn union(word: u32, other: u32) -> u32
     ensures { λ r. ⌜ r ≡ union word other ⌝ }
 {
     word | other
-}
-
-// The ranks that both words have.
-pub fn intersection(word: u32, other: u32) -> u32
-    ensures { λ r. ⌜ r ≡ intersection word other ⌝ }
-{
-    word & other
 }
 
 // The highest rank in the word, or NO_RANK.

@@ -43,7 +43,7 @@ module _ {c : Config} {p : Plan} {rk : ℕ → ℕ} (fit : Fitted c p rk) (m : M
   unfolding Seats slotsAlong slotsFor Nested
   last-seated [] k h q =
       let e : topRow (m .holder) ≡ noRank = row-shows-top (m .holder) [] (q .holders) in
-      (e, rw (eq-eqb (topRow (m .holder)) noRank e))
+      (e, ap (λ (x : Bool). cond x 0 (topRow (m .raised))) (eq-eqb (topRow (m .holder)) noRank e))
   last-seated (b ∷ ns) k h q = go (at bs b .held) refl (h b (among-head b ns)) q
     where
       go : (rs : List ℕ) → at bs b .held ≡ rs → holds (at bs b .held) ≡ true
@@ -53,7 +53,8 @@ module _ {c : Config} {p : Plan} {rk : ℕ → ℕ} (fit : Fitted c p rk) (m : M
       go (r ∷ rs) e some q =
           let first : topRow (m .holder) ≡ rk b = row-shows-top (m .holder) _ ((rw e at q) .holders) in
           let level : topRow (m .raised) ≡ current c b (at bs b) = row-shows-top (m .raised) _ ((rw e at q) .levels) ∙ sym (rw e) in
-          (first, (rw (ne-eqb (topRow (m .holder)) noRank (λ z. absurd (omega (arith, z, first, rank-below fit b (k .0))))) level, λ i a. h i (among-tail i b ns a)))
+          let some : eqb (topRow (m .holder)) noRank ≡ false = ne-eqb (topRow (m .holder)) noRank (λ z. absurd (omega (arith, z, first, rank-below fit b (k .0)))) in
+          (first, (ap (λ (x : Bool). cond x 0 (topRow (m .raised))) some ∙ level, λ i a. h i (among-tail i b ns a)))
 
 -- the runner b, which holds nothing, becomes y, and leaves the level; the words are s and a then
 module _ {c : Config} {p : Plan} {rk : ℕ → ℕ} (fit : Fitted c p rk) {m : Model} {bs : List Body} {b : ℕ} {ns : List ℕ}

@@ -7,8 +7,8 @@
 --
 -- Assumes nothing.
 use Prim.Native.Nat.{ℕ, zero, suc, _<_}
-use mathlib.Core.Path.{_≡_, refl, sym, ap, subst, _∙_}
-use mathlib.Core.Bool.{Bool, true, false, true≢false, cond}
+use mathlib.Core.Path.{_≡_, refl, sym, ap, ap₂, subst, _∙_}
+use mathlib.Core.Bool.{Bool, true, false, true≢false, cond, _||_}
 use mathlib.Core.Logic.{_≢_}
 use mathlib.Core.List.{List, [], _∷_, map}
 use native.Mathlib.Omega.{arith}
@@ -264,7 +264,7 @@ module _ {c : Config} {p : Plan} {rk : ℕ → ℕ} (fit : Fitted c p rk) where
           (record {
             tied = t;
             none-timed = e;
-            may-call = rw (awake, plain);
+            may-call = ap₂ (λ (x y : Bool). x || y) awake plain;
             plainly = plain;
             not-idle = awake;
             calls-there = rw runs (ap (λ (x : Candidate). x .timed) h);
@@ -302,7 +302,7 @@ module _ {c : Config} {p : Plan} {rk : ℕ → ℕ} (fit : Fitted c p rk) where
       by-runner sim
       (λ i n. f (rw i) (rw n))
       g
-      (λ j js k. f (rw (k .not-idle, k .runs)) (rw (k .somebody, k .timed-now)))
+      (λ j js k. f (ap₂ (λ (x y : Bool). x || y) (k .not-idle) (k .runs)) (rw (k .somebody, k .timed-now)))
 
   pub caller-same : {m : Model} {s : State} → Sim c p rk m s → noCaller m ≡ nobodyCalls c s
   caller-same sim = by-caller sim (λ i n. i ∙ sym n) (λ b ns k. k .may-call ∙ sym (k .calls-there))

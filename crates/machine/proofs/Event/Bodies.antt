@@ -28,7 +28,7 @@ use Rattle.scheduler.proofs.Effects.{finished-losses}
 use Rattle.scheduler.proofs.Order.{Orderly}
 use Rattle.scheduler.proofs.Checks.{activate-passed, finish-passed, chain-passed, line-passed}
 use Rattle.machine.specs.Model.{Model, noRank, withLosses}
-use Rattle.machine.specs.Arbiter.{settled, leaving, requesting, returning}
+use Rattle.machine.specs.Arbiter.{settled, leaving, requesting, timed, returning}
 use Rattle.machine.specs.Resources.{holding}
 use Rattle.machine.specs.Cells.{oneLost}
 use Rattle.machine.specs.Events as Machine
@@ -315,12 +315,22 @@ module _ {c : Config} {p : Plan} {rk : ℕ → ℕ} (fit : Fitted c p rk) where
         let mid = keeps .effect Finish refl z in
         by-runner fit sim
         (λ i n. absurd (true≢false (sym n ∙ a .0)))
-        (λ b ns k. rw (k .plainly, k .untimed) (ended-accepted k (a .1) (subst (λ (x : Bool). Orderly c (effect x)) (k .untimed) mid)))
-        (λ j js k. rw (k .runs, k .timed-now) (returned-accepted k (subst (λ (x : Bool). Orderly c (effect x)) (k .timed-now) mid))))
+        (λ b ns k. both-finish (k .plainly) (k .untimed) (ended-accepted k (a .1) (subst (λ (x : Bool). Orderly c (effect x)) (k .untimed) mid)))
+        (λ j js k. both-finish (k .runs) (k .timed-now) (returned-accepted k (subst (λ (x : Bool). Orderly c (effect x)) (k .timed-now) mid))))
         (keeps .next Finish)
       where
         effect : Bool → State
         effect x = cond x (finishTimed (caller c s) s) (finish (caller c s) s)
+
+        leaves : Bool → Model
+        leaves x = cond x (returning m) (leaving m)
+
+        -- both sides ask whether the runner is time-triggered
+        both-finish : {x y : Bool} → timed m ≡ x → runner c s .timed ≡ y → Accepted c p rk (settled (p .priority) (leaves x)) (effect y)
+            → Accepted c p rk (settled (p .priority) (leaves (timed m))) (effect (runner c s .timed))
+        both-finish {x} {y} e f a =
+            subst (λ (z : Bool). Accepted c p rk (settled (p .priority) (leaves (timed m))) (effect z)) (sym f)
+            (subst (λ (z : Bool). Accepted c p rk (settled (p .priority) (leaves z)) (effect y)) (sym e) a)
 
     -- Chain
     same-task : {b : ℕ} {ns : List ℕ} → Runs c rk m s b ns → (t : ℕ) → t < c .bodies → eqb (rk t) (m .core .runner) ≡ eqb t (caller c s)

@@ -11,10 +11,10 @@ use Rattle.config_codec.proofs.draft.some_timed.Statement.{statement}
 use Rattle.config_codec.proofs.draft.some_timed.Tie as tie
 
 abbrev Inv-loop : tie.InvT-loop
-Inv-loop c n task i₀ i = someTimed c (drop i (take n (c .task))) ≡ someTimed c (take n (c .task))
+Inv-loop c n kind task i₀ i = someTimed c (drop i (take n (c .task))) ≡ someTimed c (take n (c .task))
 
 abbrev μ-loop : tie.MeasureT-loop
-μ-loop c n task i₀ i = n - i
+μ-loop c n kind task i₀ i = n - i
 
 long : (c : tie.Start Inv-loop μ-loop) → c .args .n ≤ length (c .args .c .task)
 long c = let l : length (c .args .c .task) ≡ 64 = search needs in omega arith
@@ -34,7 +34,7 @@ is-timed-requires c κs = search needs
 returns : tie.Need-returns Inv-loop μ-loop
 returns c =
     let c₁ = c .before .before .before in
-    let s = c₁ .before .before in
+    let s = c₁ .before .before .before in
     some-here (s .args .c) (s .args .n) (s .args .c .task) (long s) (c₁ .loop .i) (c .before .before .loop-test .taken)
     (sym (c .before .is-timed .ensures) ∙ c .if1 .taken) ∙ c₁ .loop .inv
 
@@ -47,13 +47,13 @@ loop-less c = omega arith
 loop-again : tie.Need-loop-again Inv-loop μ-loop
 loop-again c =
     let c₁ = c .before .before .before in
-    let s = c₁ .before .before in
+    let s = c₁ .before .before .before in
     sym (some-next (s .args .c) (s .args .n) (s .args .c .task) (long s) (c₁ .loop .i) (c .before .before .loop-test .taken)
     (sym (c .before .is-timed .ensures) ∙ c .if1 .left)) ∙ c₁ .loop .inv
 
 returns-2 : tie.Need-returns-2 Inv-loop μ-loop
 returns-2 c =
-    let s = c .before .before .before in
+    let s = c .before .before .before .before in
     some-done (s .args .c) (s .args .n) (s .args .c .task) (long s) (c .before .loop .i) (c .loop-test .left) ∙ c .before .loop .inv
 
 pub some-timed-spec : {M : Type 1} → statement M

@@ -8,6 +8,9 @@ use borrow.Author.Needs.{needs}
 use Rattle.config_codec.proofs.draft.sorted.Statement.{statement}
 use Rattle.config_codec.proofs.draft.sorted.Tie as tie
 
+array-read-first-entry : tie.Need-array-read-first-entry
+array-read-first-entry c = search needs
+
 first-entry-requires : tie.Need-first-entry-requires
 first-entry-requires c κs = search needs
 
@@ -38,8 +41,8 @@ rises-requires c κs = search needs
 returns-2 : tie.Need-returns-2
 returns-2 c =
     let c₁ = c .before in
-    let c₂ = c₁ .before .before .before .before in
-    let a = c₂ .before .before .args in
+    let c₂ = c₁ .before .before .before in
+    let a = c₂ .before .before .before .before .args in
     let d = a .d in
     rw (sym (c₂ .before .first-entry .ensures) ∙ c₂ .if1 .left)
     (c .rises .ensures
@@ -49,6 +52,7 @@ pub sorted-spec : {M : Type 1} → statement M
 sorted-spec =
     tie.close
     (tie.spec
+    array-read-first-entry
     first-entry-requires
     returns
     before-requires

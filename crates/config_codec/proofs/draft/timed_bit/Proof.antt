@@ -1,15 +1,31 @@
 -- `timed_bit` meets its contract, by its test.
 -- Assumes nothing.
 use Prim.Native.Nat.{_%_}
+use mathlib.Core.Path.{_≡_, refl}
+use mathlib.Core.Bool.{Bool, true, false, _&&_}
+use lib.Dec.{eqb}
 use borrow.Author.Tests.{eq-eqb, ne-eqb}
+use Rattle.config.specs.Meaning.{timeTriggered}
 use Rattle.config_codec.proofs.draft.timed_bit.Statement.{statement}
 use Rattle.config_codec.proofs.draft.timed_bit.Tie as tie
 
+and-true : (t : Bool) → t ≡ t && true
+and-true true = refl
+and-true false = refl
+
+and-false : (t : Bool) → false ≡ t && false
+and-false true = refl
+and-false false = refl
+
 returns : tie.Need-returns
-returns c = rw (eq-eqb (c .before .args .mask % 2) 1 (c .if1 .taken))
+returns c =
+    let a = c .before .args in
+    rw (eq-eqb (a .kind) timeTriggered (c .if1 .taken)) (and-true (eqb (a .mask % 2) 1))
 
 returns-2 : tie.Need-returns-2
-returns-2 c = rw (ne-eqb (c .before .args .mask % 2) 1 (c .if1 .left))
+returns-2 c =
+    let a = c .before .args in
+    rw (ne-eqb (a .kind) timeTriggered (c .if1 .left)) (and-false (eqb (a .mask % 2) 1))
 
 pub timed-bit-spec : {M : Type 1} → statement M
 timed-bit-spec = tie.close (tie.spec returns returns-2)
