@@ -6,10 +6,10 @@
 use Prim.Native.Nat.{ℕ, _+_, _≤_, _<_}
 use mathlib.Core.Path.{_≡_, refl, sym, ap, _∙_}
 use mathlib.Core.Bool.{Bool, true, false, true≢false, cond, not, _&&_, _||_, and-true}
-use mathlib.Core.List.{List, [], _∷_, _++_}
+use mathlib.Core.List.{List, [], _∷_, _++_, map}
 use mathlib.Core.Logic.{_≢_, _↔_}
 use native.Mathlib.Omega.{arith}
-use borrow.Author.Tests.{leb-false, ltb-false, eqb-true, eqb-false, ne-eqb, not-false}
+use borrow.Author.Tests.{lt-leb, leb-false, ltb-false, eqb-true, eqb-false, ne-eqb, not-false}
 use lib.Dec.{ltb, eqb}
 use lib.ListN.{getD}
 use Rattle.number.proofs.Cases as Cases
@@ -35,6 +35,12 @@ abbrev Passed : List Check → Type 0
 Passed [] = Unit {0}
 Passed (k ∷ ks) = (k .fails ≡ false) × Passed ks
 
+first-fails : (before : List Check) (k : Check) (rest : List Check) → Passed before → k .fails ≡ true
+    → firstGiven (before ++ k ∷ rest) ≡ k .status
+unfolding firstGiven
+first-fails [] k rest p q = rw q
+first-fails (x ∷ before) k rest p q = rw (p .0) (first-fails before k rest (p .1) q)
+
 all-passed : (ks : List Check) → Refusing ks → firstGiven ks ≡ done → Passed ks
 unfolding firstGiven
 all-passed [] r e = tt
@@ -59,12 +65,6 @@ none-passed : (ks : List Check) → NoneFails ks → Passed ks
 none-passed [] none = tt
 none-passed (k ∷ ks) none =
     (none k [] ks refl, none-passed ks (λ x before rest q. none x (k ∷ before) rest (ap (λ l. k ∷ l) q)))
-
-first-fails : (before : List Check) (k : Check) (rest : List Check) → Passed before → k .fails ≡ true
-    → firstGiven (before ++ k ∷ rest) ≡ k .status
-unfolding firstGiven
-first-fails [] k rest p q = rw q
-first-fails (x ∷ before) k rest p q = rw (p .0) (first-fails before k rest (p .1) q)
 
 -- every check of the table gives a status other than 0
 refusing : (c : Config) (s : State) (e : Event) → Refusing (checksOf c s e)
@@ -192,6 +192,20 @@ module _ (c : Config) (s : State) (free : noCaller (runner c s) ≡ false) (t : 
       no-extended : isExtended c t ≡ false
       no-extended = rw (both .0, third)
 
+-- who gets a resource is a declared user, and gets what nobody holds; Start's statuses come in this order
+pub get-user : (c : Config) (s : State) (r : ℕ) → getStatus c s r ≡ done → isUser c r (caller c s) ≡ true
+get-user c s r e = not-false (isUser c r (caller c s)) (all-passed (checksOf c s (Get r)) (omega arith) e .1 .1 .0)
+
+pub get-accepted : (c : Config) (s : State) (r : ℕ) → noCaller (runner c s) ≡ false → r < c .resources
+    → isUser c r (caller c s) ≡ true
+    → heldIn r (s .bodies) ≡ false
+    → getStatus c s r ≡ done
+unfolding firstGiven
+get-accepted c s r free there user none = rw (free, lt-leb (c .resources) r there, user, none)
+
+pub start-statuses : (c : Config) (s : State) (t d : ℕ) → map (λ k. k .status) (checksOf c s (Start t d)) ≡ 2 ∷ 3 ∷ 8 ∷ 7 ∷ []
+start-statuses c s t d = refl
+
 module _ (c : Config) (s : State) where
   -- somebody runs whom the call is open to
   someone : noCaller (runner c s) ≡ false → nobodyRuns c s ≡ false
@@ -235,8 +249,7 @@ module _ (c : Config) (s : State) where
       × (heldIn r (s .bodies) ≡ false)
   get-passed r e =
       let p = all-passed _ (omega arith) e in
-      let user = not-false (isUser c r (caller c s)) in
-      (someone (p .0), leb-false (c .resources) r (p .1 .0), user (p .1 .1 .0), p .1 .1 .1 .0)
+      (someone (p .0), leb-false (c .resources) r (p .1 .0), get-user c s r e, p .1 .1 .1 .0)
 
   -- r is the one that the runner took last
   pub release-passed : (r : ℕ) → releaseStatus c s r ≡ done

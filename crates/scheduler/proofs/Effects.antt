@@ -42,6 +42,17 @@ module _ (i : ℕ) (f : Body → Body) (s : State) where
 abbrev pub withOrder : List ℕ → State → State
 withOrder js s = record { bodies = s .bodies; tables = s .tables; order = js }
 
+-- what Activate and Chain do, and that the fresh start ends as every event does
+pub activate-effect : (c : Config) (s : State) (t : ℕ) → effectOf c s (Activate t) ≡ changing t activated s
+activate-effect c s t = refl
+
+pub chain-effect : (c : Config) (s : State) (t : ℕ)
+    → effectOf c s (Chain t) ≡ changing t activated (changing (caller c s) finished s)
+chain-effect c s t = refl
+
+pub fresh-dispatched : (c : Config) → fresh c ≡ dispatched c (unstarted c)
+fresh-dispatched c = refl
+
 -- a time-triggered task that is started is the latest, and leaves the order at its end; due while it is started it
 -- loses
 pub starting-latest : (t : ℕ) (s : State) → starting t s .order ≡ t ∷ s .order

@@ -25,13 +25,13 @@ use super::cells::some_turn;
 use super::cells::start_cells;
 use super::cells::stop_counters;
 use super::cells::switch;
-use super::cells::take_each;
 use super::cells::take_matches;
 use super::cells::tick_cells;
 use super::cells::tick_switches;
 use super::cells::tick_turns;
 use super::lookup::byte_at;
 use super::lookup::short_at;
+use super::turning;
 use word::union;
 
 impl Model {
@@ -91,7 +91,7 @@ impl Model {
         tick_switches(compare, &counter, &mut next);
         let matched = tick_turns(compare, &on, &mut counter);
         let begun = union(started, aside);
-        let request = take_each(&matched, entry_rank, begun, asked, &mut losses);
+        let request = turning::take_matches(&matched, entry_rank, begun, asked, &mut losses);
         self.turning = some_turn(&next);
         self.counter = counter;
         self.on = next;
