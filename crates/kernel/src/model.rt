@@ -13,7 +13,6 @@ mod fresh;
 mod lookup;
 mod resources;
 mod tables;
-mod turning;
 
 pub use bodies::counts_lines;
 use stack::NONE;
@@ -25,6 +24,9 @@ const NO_RANK: u8 = NONE;
 
 // The level that a time-triggered task runs at, and nobody else.
 const EXECUTION_LEVEL: u8 = 201;
+
+// The level that a request of one is compared with.
+const TRIGGER_LEVEL: u8 = 202;
 
 // The statuses (OSEK's status codes) of an event. One that is refused changes nothing.
 pub const DONE: u8 = 0;

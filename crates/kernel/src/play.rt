@@ -60,9 +60,9 @@ pub fn play<'a, 'b>(
             6 => {
                 let m = o.model;
                 if m.turning {
-                    o = m.tick_turning(&plan.compare, &plan.entry, &plan.priority, plan.timed);
+                    o = m.tick_turning(&plan.compare, &plan.entry, &plan.priority);
                 } else {
-                    o = m.tick(&plan.compare, &plan.entry, &plan.priority, plan.timed);
+                    o = m.tick(&plan.compare, &plan.entry, &plan.priority);
                 }
             }
             7 => {

@@ -163,7 +163,7 @@ effect-done c p m Finish = refl
 effect-done c p m (Chain t) = refl
 effect-done c p m (Get r) = refl
 effect-done c p m (Release r) = refl
-effect-done c p m Tick = go (isTriggered (p .priority) (p .timed) (ticking (p .compare) (p .entry) m .core))
+effect-done c p m Tick = go (isTriggered (p .priority) (ticking (p .compare) (p .entry) m .core))
   where
     go : (b : Bool) → cond b (doneWith (launching (ticking (p .compare) (p .entry) m)) true) (settled (p .priority) (ticking (p .compare) (p .entry) m)) .status ≡ done
     go true = refl

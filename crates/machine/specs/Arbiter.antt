@@ -4,7 +4,7 @@
 --   arbitrated ps k   the core k after arbitration, and whether a body began; ps: the priorities by rank
 --   settled ps m      the model after arbitration, which ends every event that may let another body run
 --   leaving m         the model after its runner ended
---   triggering ps ts m   arbitration after a Tick, which alone may start a time-triggered task; ts: the ranks of these
+--   triggering ps m   arbitration after a Tick, which alone may start a time-triggered task
 --   returning m       the model after a time-triggered task ended
 --
 -- No stack of preempted bodies is kept: one that holds no resource bids for the processor by its bit in `started`, and one that holds some
@@ -14,7 +14,7 @@ use mathlib.Core.Bool.{Bool, true, false, cond, not, _&&_}
 use mathlib.Core.List.{List}
 use lib.Dec.{ltb, eqb}
 use lib.ListN.{getD}
-use Rattle.config.specs.Meaning.{executionLevel}
+use Rattle.config.specs.Meaning.{executionLevel, triggerLevel}
 use Rattle.word.specs.Word.{has, with, without, union, winner}
 use Rattle.stack.specs.Stack.{topRow, secondRow, pushRow, popRow}
 use Rattle.machine.specs.Model.{Core, Picked, Model, Outcome, noRank, withCore, withRequest, withEvents, withTriggered, doneWith}
@@ -74,9 +74,9 @@ paused m = leftWith m (without (m .core .started) (m .core .runner)) (with (m .c
 abbrev pub requesting : ℕ → Model → Model
 requesting r m = withCore m (withRequest (m .core) (with (m .core .request) r))
 
--- the winner is a time-triggered task, and its trigger level is above the level
-abbrev pub isTriggered : List ℕ → ℕ → Core → Bool
-isTriggered ps ts k = has ts (winner (bids k)) && ltb (k .level) (winning ps k)
+-- the winner is above the level, and that by the trigger level, which a time-triggered task alone has
+abbrev pub isTriggered : List ℕ → Core → Bool
+isTriggered ps k = ltb (k .level) (winning ps k) && eqb (winning ps k) triggerLevel
 
 -- it begins, and its wrapper lowers the level from that of the trigger to the common execution level
 abbrev pub entering : Core → Core
@@ -92,8 +92,8 @@ entering k =
 abbrev pub launching : Model → Model
 launching m = withTriggered m (entering (m .core)) (m .cleared) (pushRow (m .triggered) (winner (bids (m .core))))
 
-abbrev pub triggering : List ℕ → ℕ → Model → Outcome
-triggering ps ts m = cond (isTriggered ps ts (m .core)) (doneWith (launching m) true) (settled ps m)
+abbrev pub triggering : List ℕ → Model → Outcome
+triggering ps m = cond (isTriggered ps (m .core)) (doneWith (launching m) true) (settled ps m)
 
 -- a time-triggered task runs: nothing else does at that level
 abbrev pub timed : Model → Bool

@@ -1,7 +1,7 @@
 -- The machine's twelve events: each one's status "in order", its effect where that is 0, and the two put together.
 --
--- ps are the priorities by rank, trs and lrs the ranks of tasks and of ISRs by body, as the plan has them, ws, xs and ts the
--- words of the ranks that are ISRs, extended tasks and time-triggered ones. Assumes nothing.
+-- ps are the priorities by rank, trs and lrs the ranks of tasks and of ISRs by body, as the plan has them, ws and xs the
+-- words of the ranks that are ISRs and extended tasks. Assumes nothing.
 use Prim.Native.Nat.{ℕ, _+_, max}
 use mathlib.Core.Bool.{Bool, false, cond, not, _&&_, _||_}
 use mathlib.Core.List.{List, [], _∷_}
@@ -138,8 +138,8 @@ ticking ks rs m =
     (m .turning && someTurn maxEntries 0 (switchesOf ks m))
     (dueOf ks rs m .losses)
 
-unfoldable pub tick : List ℕ → List ℕ → List ℕ → ℕ → Model → Outcome
-tick ks rs ps ts m = triggering ps ts (ticking ks rs m)
+unfoldable pub tick : List ℕ → List ℕ → List ℕ → Model → Outcome
+tick ks rs ps m = triggering ps (ticking ks rs m)
 
 -- a table "runs" where its first cell is on; fs: the tables' first entries
 abbrev pub runs : List ℕ → Model → ℕ → Bool

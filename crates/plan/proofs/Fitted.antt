@@ -38,7 +38,6 @@ pub record Fitted (c : Config) (p : Plan) (rk : ℕ → ℕ) : Type 0 where
   pub body-at : (b : ℕ) → b < c .bodies → getD (p .body) (rk b) 0 ≡ b
   pub isr-at : (b : ℕ) → b < c .bodies → has (p .isrs) (rk b) ≡ isIsr c b
   pub extended-at : (b : ℕ) → b < c .bodies → has (p .extended) (rk b) ≡ isExtended c b
-  pub timed-at : (b : ℕ) → b < c .bodies → has (p .timed) (rk b) ≡ isTimed c b
   pub autostart-at : (b : ℕ) → b < c .bodies → has (p .autostart) (rk b) ≡ eqb (getD (c .autostart) b 0) 1
   pub autostart-real : (r : ℕ) → has (p .autostart) r ≡ true → (b : ℕ) × ((b < c .bodies) × (rk b ≡ r))
   pub autostart-lt : p .autostart < 2 ^ ranks
@@ -84,7 +83,6 @@ fitted c ok shaped =
       body-at = Plan.rank-body c ok shaped;
       isr-at = Plan.rank-isr c ok shaped;
       extended-at = Plan.rank-extended c ok shaped;
-      timed-at = Plan.rank-timed c ok shaped;
       autostart-at = Plan.rank-autostart c ok shaped;
       autostart-real = λ r h. let x = Plan.autostart-body c ok shaped r h in (x .0, (x .1, x .2));
       autostart-lt = Plan.plan-sized c .autostart-lt;

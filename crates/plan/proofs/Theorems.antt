@@ -42,7 +42,6 @@ pub record Sized (p : Plan) : Type 0 where
   pub bodies : length (p .body) ≡ maxBodies
   pub isrs-lt : p .isrs < 2 ^ Word.ranks
   pub extended-lt : p .extended < 2 ^ Word.ranks
-  pub timed-lt : p .timed < 2 ^ Word.ranks
   pub autostart-lt : p .autostart < 2 ^ Word.ranks
   pub ceilings : length (p .ceiling) ≡ maxResources
   pub users : length (p .users) ≡ maxResources
@@ -62,7 +61,6 @@ plan-sized c =
       bodies = simp length-stored;
       isrs-lt = marked-lt (rankOf c) (λ b. getD (c .kind) b 0) isr (bodyCount c);
       extended-lt = marked-lt (rankOf c) (λ b. getD (c .kind) b 0) extended (bodyCount c);
-      timed-lt = marked-lt (rankOf c) (λ b. getD (c .kind) b 0) timeTriggered (bodyCount c);
       autostart-lt = marked-lt (rankOf c) (λ b. getD (c .autostart) b 0) 1 (bodyCount c);
       ceilings = simp length-stored;
       users = simp length-stored;
@@ -171,10 +169,6 @@ module _ (c : Config) (accepted : Accepted c) (shaped : Shaped c) where
   unfolding planOf
   rank-extended b h = rw (lt-ltb b (c .bodies) h) (in-word (λ i. getD (c .kind) i 0) extended b h)
 
-  pub rank-timed : (b : ℕ) → b < c .bodies → has (planOf c .timed) (rankOf c b) ≡ isTimed c b
-  unfolding planOf
-  rank-timed b h = rw (lt-ltb b (c .bodies) h) (in-word (λ i. getD (c .kind) i 0) timeTriggered b h)
-
   pub rank-autostart : (b : ℕ) → b < c .bodies → has (planOf c .autostart) (rankOf c b) ≡ eqb (getD (c .autostart) b 0) 1
   unfolding planOf
   rank-autostart = in-word (λ i. getD (c .autostart) i 0) 1
@@ -187,10 +181,6 @@ module _ (c : Config) (accepted : Accepted c) (shaped : Shaped c) where
   pub extended-body : (r : ℕ) → has (planOf c .extended) r ≡ true → (b : ℕ) × (b < c .bodies) × (rankOf c b ≡ r)
   unfolding planOf
   extended-body = of-word (λ i. getD (c .kind) i 0) extended
-
-  pub timed-body : (r : ℕ) → has (planOf c .timed) r ≡ true → (b : ℕ) × (b < c .bodies) × (rankOf c b ≡ r)
-  unfolding planOf
-  timed-body = of-word (λ i. getD (c .kind) i 0) timeTriggered
 
   pub autostart-body : (r : ℕ) → has (planOf c .autostart) r ≡ true → (b : ℕ) × (b < c .bodies) × (rankOf c b ≡ r)
   unfolding planOf

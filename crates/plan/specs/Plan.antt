@@ -29,7 +29,7 @@ priorities c = stored (rankOf c) (triggerOf c) (bodyCount c) (replicate maxBodie
 abbrev pub bodiesByRank : Config → List ℕ
 bodiesByRank c = stored (rankOf c) (λ b. b) (bodyCount c) (replicate maxBodies 0)
 
--- the words of the ranks that are ISRs, extended tasks and time-triggered ones, and of those that "autostart tasks" have
+-- the words of the ranks that are ISRs, of those that are extended tasks, and of those that "autostart tasks" have
 abbrev pub ofKind : Config → ℕ → ℕ
 ofKind c kind = marked (rankOf c) (λ b. getD (c .kind) b 0) kind (bodyCount c)
 
@@ -38,9 +38,6 @@ isrs c = ofKind c isr
 
 abbrev pub extendeds : Config → ℕ
 extendeds c = ofKind c extended
-
-abbrev pub timeds : Config → ℕ
-timeds c = ofKind c timeTriggered
 
 abbrev pub autostarts : Config → ℕ
 autostarts c = marked (rankOf c) (λ b. getD (c .autostart) b 0) 1 (bodyCount c)
@@ -79,7 +76,6 @@ planOf c =
       body = bodiesByRank c;
       isrs = isrs c;
       extended = extendeds c;
-      timed = timeds c;
       autostart = autostarts c;
       ceiling = ceilings c;
       users = userWords c;

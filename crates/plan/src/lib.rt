@@ -43,10 +43,9 @@ pub struct Plan {
     // By rank the level that a request is compared with, its priority or a time-triggered task's trigger level, and the body's number.
     pub priority: [u8; 32],
     pub body: [u8; 32],
-    // The words of the ranks that are ISRs, extended tasks and time-triggered ones, and of those of autostart tasks.
+    // The words of the ranks that are ISRs, of those that are extended tasks, and of those of autostart tasks.
     pub isrs: u32,
     pub extended: u32,
-    pub timed: u32,
     pub autostart: u32,
     // By resource its ceiling, and the word of the ranks of its declared users.
     pub ceiling: [u8; 16],
@@ -78,7 +77,6 @@ impl Plan {
         let ranked = bodies::by_rank(kind, priority, by, n);
         let isrs = bodies::marked(kind, ISR, by, n);
         let extended = bodies::marked(kind, EXTENDED, by, n);
-        let timed = bodies::marked(kind, TIME_TRIGGERED, by, n);
         let autostart = bodies::marked(flags, AUTOSTART, by, n);
         let some = at_most(config.resources as usize, MAX_RESOURCES);
         let resource = resources::by_resource(masks, some, priority, by, n);
@@ -102,7 +100,6 @@ impl Plan {
             body,
             isrs,
             extended,
-            timed,
             autostart,
             ceiling,
             users,

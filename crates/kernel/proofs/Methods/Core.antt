@@ -10,7 +10,7 @@ use lib.Dec.{ltb, eqb}
 use lib.ListN.{getD}
 use Rattle.word.specs.Word.{has, with, without, winner}
 use Rattle.number.proofs.Cases.{by-lt}
-use Rattle.config.specs.Meaning.{executionLevel}
+use Rattle.config.specs.Meaning.{executionLevel, triggerLevel}
 use Rattle.stack.specs.declared.Row.{Row}
 use Rattle.stack.specs.Stack.{topRow, secondRow, pushRow, popRow}
 use Rattle.machine.specs.Model.{Core, Picked, Model, noRank, withCore, withRequest, withEvents, withTriggered, doneWith}
@@ -58,15 +58,15 @@ returned-made ps m ended unset earlier seat next level last left picked =
     rw (picked, ended, unset, next, last, left, level, seat, earlier)
 
 -- Arbitration after a Tick of a model m: p is whom it picked, and b whether that is a time-triggered task that it dispatched.
-module _ (ps : List ℕ) (ts : ℕ) (m : Model) {p : Picked} (picked : p ≡ arbitrated ps (m .core))
-    {b : Bool} (test : b ≡ ltb (m .core .level) (p .core .level) && has ts (p .core .runner)) where
+module _ (ps : List ℕ) (m : Model) {p : Picked} (picked : p ≡ arbitrated ps (m .core))
+    {b : Bool} (test : b ≡ ltb (m .core .level) (p .core .level) && eqb (p .core .level) triggerLevel) where
   -- the test looks at whom it picked, and the definition at the winner
-  same-test : isTriggered ps ts (m .core) ≡ b
+  same-test : isTriggered ps (m .core) ≡ b
   unfolding arbitrated
   same-test =
       by-lt (m .core .level) (winning ps (m .core))
-      (λ h. rw (test, picked, lt-ltb (m .core .level) (winning ps (m .core)) h, and-true, lt-ltb (m .core .level) (winning ps (m .core)) h))
-      (λ h. rw (test, picked, le-ltb (m .core .level) (winning ps (m .core)) h, le-ltb (m .core .level) (m .core .level) (omega arith), and-false))
+      (λ h. rw (test, picked, lt-ltb (m .core .level) (winning ps (m .core)) h, lt-ltb (m .core .level) (winning ps (m .core)) h))
+      (λ h. rw (test, picked, le-ltb (m .core .level) (winning ps (m .core)) h, le-ltb (m .core .level) (m .core .level) (omega arith)))
 
   lowered : winning ps (m .core) ≤ m .core .level → b ≡ false
   unfolding arbitrated
@@ -81,8 +81,8 @@ module _ (ps : List ℕ) (ts : ℕ) (m : Model) {p : Picked} (picked : p ≡ arb
 
   pub triggering-launched : b ≡ true
       → doneWith (withTriggered m (core (without (m .core .request) (p .core .runner)) (m .core .started) (with (m .core .aside) (p .core .runner)) (p .core .runner) executionLevel) (m .cleared) (pushRow (m .triggered) (p .core .runner))) true
-      ≡ triggering ps ts m
+      ≡ triggering ps m
   triggering-launched h = rw (same-winner h, same-test, h)
 
-  pub triggering-settled : b ≡ false → doneWith (withCore m (p .core)) (p .begun) ≡ triggering ps ts m
+  pub triggering-settled : b ≡ false → doneWith (withCore m (p .core)) (p .begun) ≡ triggering ps m
   triggering-settled h = rw (same-test, h, picked)

@@ -8,8 +8,8 @@ use lib.Dec.{ltb, eqb}
 use lib.ListN.{length, getD}
 use borrow.Author.Tests.{ltb-false, le-leb, lt-leb}
 use Rattle.config.specs.Value.{maxEntries}
-use Rattle.config.specs.Meaning.{executionLevel}
-use Rattle.word.specs.Word.{has, with, without}
+use Rattle.config.specs.Meaning.{executionLevel, triggerLevel}
+use Rattle.word.specs.Word.{with, without}
 use Rattle.stack.specs.Stack.{pushRow}
 use Rattle.scheduler.specs.Status.{callLevel, noSuch, badDelay, wrongState, noFunction, firstGiven}
 use Rattle.scheduler.specs.Call.{longestDelay}
@@ -28,27 +28,27 @@ length-marks (suc k) e w ks os ns = ap suc (length-marks k (suc e) w ks os ns)
 
 -- Tick. v has who has begun, ms are the match marks, ns, os and z the cells after it, w and ls the requests and losses, p whom arbitration
 -- picks, and b says whether that is a time-triggered task that it dispatches.
-module _ (ks rs ps : List ℕ) (ts : ℕ) (m : Model) {v : ℕ} (begun : v ≡ begunWord m) where
+module _ (ks rs ps : List ℕ) (m : Model) {v : ℕ} (begun : v ≡ begunWord m) where
   -- where no cell has a turn to pass
   module _ (still : m .turning ≡ false) {ms : List Bool} (marked : ms ≡ marks maxEntries 0 false ks (m .on) (m .counter))
       {ns : List ℕ} (counted : ns ≡ countersTicked maxEntries 0 false ks (m .on) (m .counter))
       {w : ℕ} {ls : List ℕ} (due : dueWith w ls ≡ requestsDue v ms rs (dueWith (m .core .request) (m .losses)))
       {p : Picked} (picked : p ≡ arbitrated ps (withRequest (m .core) w))
-      {b : Bool} (test : b ≡ ltb (m .core .level) (p .core .level) && has ts (p .core .runner)) where
+      {b : Bool} (test : b ≡ ltb (m .core .level) (p .core .level) && eqb (p .core .level) triggerLevel) where
     abbrev unsettled : Model
     unsettled = withCore (withRest m ns (m .on) (m .turning) ls) (withRequest (m .core) w)
 
-    made : triggering ps ts unsettled ≡ tick ks rs ps ts m
+    made : triggering ps unsettled ≡ tick ks rs ps m
     unfolding tick
     made = rw (counted, ap (λ (x : Due). x .request) due, ap (λ (x : Due). x .losses) due, marked, begun, still)
 
     pub tick-launched : b ≡ true
         → doneWith (withTriggered (withRest m ns (m .on) (m .turning) ls) (core (without w (p .core .runner)) (m .core .started) (with (m .core .aside) (p .core .runner)) (p .core .runner) executionLevel) (m .cleared) (pushRow (m .triggered) (p .core .runner))) true
-        ≡ tick ks rs ps ts m
-    tick-launched h = triggering-launched ps ts unsettled picked test h ∙ made
+        ≡ tick ks rs ps m
+    tick-launched h = triggering-launched ps unsettled picked test h ∙ made
 
-    pub tick-done : b ≡ false → doneWith (withCore (withRest m ns (m .on) (m .turning) ls) (p .core)) (p .begun) ≡ tick ks rs ps ts m
-    tick-done h = triggering-settled ps ts unsettled picked test h ∙ made
+    pub tick-done : b ≡ false → doneWith (withCore (withRest m ns (m .on) (m .turning) ls) (p .core)) (p .begun) ≡ tick ks rs ps m
+    tick-done h = triggering-settled ps unsettled picked test h ∙ made
 
   -- where a cell may have one
   module _ (turning : m .turning ≡ true) {ms : List Bool} (marked : ms ≡ marks maxEntries 0 true ks (m .on) (m .counter))
@@ -56,21 +56,21 @@ module _ (ks rs ps : List ℕ) (ts : ℕ) (m : Model) {v : ℕ} (begun : v ≡ b
       {os : List ℕ} (switches : os ≡ switchesTicked maxEntries 0 ks (m .counter) (m .on)) {z : Bool} (turns : z ≡ someTurn maxEntries 0 os)
       {w : ℕ} {ls : List ℕ} (due : dueWith w ls ≡ requestsDue v ms rs (dueWith (m .core .request) (m .losses)))
       {p : Picked} (picked : p ≡ arbitrated ps (withRequest (m .core) w))
-      {b : Bool} (test : b ≡ ltb (m .core .level) (p .core .level) && has ts (p .core .runner)) where
+      {b : Bool} (test : b ≡ ltb (m .core .level) (p .core .level) && eqb (p .core .level) triggerLevel) where
     abbrev unturned : Model
     unturned = withCore (withRest m ns os z ls) (withRequest (m .core) w)
 
-    turned : triggering ps ts unturned ≡ tick ks rs ps ts m
+    turned : triggering ps unturned ≡ tick ks rs ps m
     unfolding tick
     turned = rw (counted, turns, switches, ap (λ (x : Due). x .request) due, ap (λ (x : Due). x .losses) due, marked, begun, turning)
 
     pub turning-launched : b ≡ true
         → doneWith (withTriggered (withRest m ns os z ls) (core (without w (p .core .runner)) (m .core .started) (with (m .core .aside) (p .core .runner)) (p .core .runner) executionLevel) (m .cleared) (pushRow (m .triggered) (p .core .runner))) true
-        ≡ tick ks rs ps ts m
-    turning-launched h = triggering-launched ps ts unturned picked test h ∙ turned
+        ≡ tick ks rs ps m
+    turning-launched h = triggering-launched ps unturned picked test h ∙ turned
 
-    pub turning-done : b ≡ false → doneWith (withCore (withRest m ns os z ls) (p .core)) (p .begun) ≡ tick ks rs ps ts m
-    turning-done h = triggering-settled ps ts unturned picked test h ∙ turned
+    pub turning-done : b ≡ false → doneWith (withCore (withRest m ns os z ls) (p .core)) (p .begun) ≡ tick ks rs ps m
+    turning-done h = triggering-settled ps unturned picked test h ∙ turned
 
 -- a delay that is not refused
 pub short-sum : (d g : ℕ) → eqb d 0 || ltb longestDelay (d + g) ≡ false → d + g ≤ longestDelay

@@ -58,7 +58,7 @@ module _ (c : Config) (p : Plan) (m : Model) (e : Event) where
   unfolding callOf statusOf effectOf refusalOf release
   step-5 h = rw h
 
-  pub step-6 : e .code ≡ 6 → machineStep c p m (callOf e) ≡ tick (p .compare) (p .entry) (p .priority) (p .timed) m
+  pub step-6 : e .code ≡ 6 → machineStep c p m (callOf e) ≡ tick (p .compare) (p .entry) (p .priority) m
   unfolding callOf statusOf effectOf refusalOf tick
   step-6 h = rw h
 

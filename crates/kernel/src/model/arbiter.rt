@@ -2,7 +2,7 @@
 ghost use mathlib.Core.Path.{_≡_};
 ghost use mathlib.Core.Bool.{true, cond, _&&_};
 ghost use lib.Dec.{ltb, eqb};
-ghost use Rattle.config.specs.Meaning.{executionLevel};
+ghost use Rattle.config.specs.Meaning.{executionLevel, triggerLevel};
 ghost use Rattle.word.specs.Word.{has, with, without};
 ghost use Rattle.stack.specs.Stack.{topRow, pushRow};
 ghost use Rattle.machine.specs.Model.{noRank, withCore, withRequest, withTriggered, doneWith};
@@ -14,6 +14,7 @@ use super::Model;
 use super::NO_RANK;
 use super::Outcome;
 use super::Picked;
+use super::TRIGGER_LEVEL;
 use super::lookup::byte_at;
 use stack::Row;
 use word::has;
@@ -134,10 +135,10 @@ pub fn arbitrated(
 }
 
 // Whether the body that arbitration picked is a time-triggered task that it dispatched: the level rises only by a dispatch.
-pub fn is_triggered(level: u8, next: u8, timed: u32, rank: u8) -> bool
-    ensures { λ r. ⌜ r ≡ ltb level next && has timed rank ⌝ }
+pub fn is_triggered(level: u8, next: u8) -> bool
+    ensures { λ r. ⌜ r ≡ ltb level next && eqb next triggerLevel ⌝ }
 {
-    level < next && has(timed, rank as u32)
+    level < next && next == TRIGGER_LEVEL
 }
 
 // The word without this rank where the test holds. Of the requests the one by which a body begins is used up; where it is resumed, a second

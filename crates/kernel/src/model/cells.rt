@@ -13,7 +13,7 @@ use cell::Cell;
 use word::with;
 
 // One cell for each entry that there may be.
-pub const CELLS: usize = 64;
+const CELLS: usize = 64;
 
 // The switch of a cell (its enable): a number as wide as a counter, so that the compiler ticks several cells at once.
 pub const OFF: u16 = 0;
@@ -24,7 +24,7 @@ const ON: u16 = 1;
 const TURN: u16 = 2;
 
 // How many match marks are looked at in one go.
-pub const GROUP: usize = 8;
+const GROUP: usize = 8;
 
 // Ticks every cell's counter, and gives their match marks, where no cell has a turn to pass.
 pub fn tick_cells<'a, 'b>(
@@ -123,6 +123,28 @@ pub fn take_matches<'a, 'b>(
     word
 }
 
+// The same, one by one: for ticks with a turn to pass, which are rare. The loop above then has one caller, and stays inlined there.
+pub fn take_each<'a, 'b>(
+    matched: &'a [bool; 64],
+    ranks: &'a [u8; 64],
+    begun: u32,
+    request: u32,
+    losses: &'b mut [u16; 32],
+) -> u32
+    requires { ⌜ length (now matched) ≡ maxEntries ⌝ }
+    ensures { λ r. ⌜ dueWith r (now (losses .exit)) ≡ requestsDue begun (now (matched .entry)) (now (ranks .entry)) (dueWith request (now (losses .entry))) ⌝ }
+{
+    let mut word = request;
+    let mut e = 0;
+    while e < CELLS {
+        if matched[e] {
+            word = take_match(byte_at(ranks, e, NO_RANK), begun, word, losses);
+        }
+        e += 1;
+    }
+    word
+}
+
 // Takes the matches of the group of cells from `from` on. A mark that is set is found by the zeros below it, and not by a branch for each
 // mark, which the processor could not foresee.
 fn take_group<'a, 'b>(
@@ -151,7 +173,7 @@ fn take_group<'a, 'b>(
 }
 
 // The marks of the group from `e` on as one number, a byte each, the first the lowest: the compiler makes one load of it.
-pub fn group_word(matched: &[bool; 64], e: usize) -> u64
+fn group_word(matched: &[bool; 64], e: usize) -> u64
     requires { ⌜ e + group ≤ maxEntries ⌝ }
     ensures { λ r. ⌜ r ≡ marksWord (take group (drop e (now (matched .entry)))) ⌝ }
 {
@@ -166,7 +188,7 @@ pub fn group_word(matched: &[bool; 64], e: usize) -> u64
 }
 
 // A match of an entry whose task has this rank: a request where the task is suspended, else a loss.
-pub fn take_match(rank: u8, begun: u32, request: u32, losses: &mut [u16; 32]) -> u32
+fn take_match(rank: u8, begun: u32, request: u32, losses: &mut [u16; 32]) -> u32
     ensures { λ r. ⌜ dueWith r (now (losses .exit)) ≡ matchAt begun rank (dueWith request (now (losses .entry))) ⌝ }
 {
     if busy(request, begun, rank) {

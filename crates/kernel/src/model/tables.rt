@@ -25,27 +25,25 @@ use super::cells::some_turn;
 use super::cells::start_cells;
 use super::cells::stop_counters;
 use super::cells::switch;
+use super::cells::take_each;
 use super::cells::take_matches;
 use super::cells::tick_cells;
 use super::cells::tick_switches;
 use super::cells::tick_turns;
 use super::lookup::byte_at;
 use super::lookup::short_at;
-use super::turning;
 use word::union;
 
 impl Model {
-    // A tick where no cell has a turn to pass. `timed`: the ranks that are time-triggered tasks. The arrays are put back before arbitration:
-    // behind its branches the compiler would put them back once for each, and copy the losses once more.
+    // A tick where no cell has a turn to pass.
     pub fn tick<'a>(
         mut self,
         compare: &'a [u16; 64],
         entry_rank: &'a [u8; 64],
         priority: &'a [u8; 32],
-        timed: u32,
     ) -> Outcome
         requires { ⌜ self .turning ≡ false ⌝ }
-        ensures { λ r. ⌜ r ≡ outcomeOf (tick (now (compare .entry)) (now («entry_rank» .entry)) (now (priority .entry)) timed (view self)) ⌝ }
+        ensures { λ r. ⌜ r ≡ outcomeOf (tick (now (compare .entry)) (now («entry_rank» .entry)) (now (priority .entry)) (view self)) ⌝ }
     {
         let started = self.started;
         let asked = self.request;
@@ -60,8 +58,7 @@ impl Model {
         let request = take_matches(&matched, entry_rank, begun, asked, &mut losses);
         self.counter = counter;
         self.losses = losses;
-        let picked = arbitrated(request, started, aside, runner, level, priority);
-        if is_triggered(level, picked.level, timed, picked.runner) {
+        if is_triggered(level, picked.level) {
             return self.launched(request, picked.runner);
         }
         self.seated(picked)
@@ -74,10 +71,9 @@ impl Model {
         compare: &'a [u16; 64],
         entry_rank: &'a [u8; 64],
         priority: &'a [u8; 32],
-        timed: u32,
     ) -> Outcome
         requires { ⌜ self .turning ≡ true ⌝ }
-        ensures { λ r. ⌜ r ≡ outcomeOf (tick (now (compare .entry)) (now («entry_rank» .entry)) (now (priority .entry)) timed (view self)) ⌝ }
+        ensures { λ r. ⌜ r ≡ outcomeOf (tick (now (compare .entry)) (now («entry_rank» .entry)) (now (priority .entry)) (view self)) ⌝ }
     {
         let started = self.started;
         let asked = self.request;
@@ -91,13 +87,13 @@ impl Model {
         tick_switches(compare, &counter, &mut next);
         let matched = tick_turns(compare, &on, &mut counter);
         let begun = union(started, aside);
-        let request = turning::take_matches(&matched, entry_rank, begun, asked, &mut losses);
+        let request = take_each(&matched, entry_rank, begun, asked, &mut losses);
+        let picked = arbitrated(request, started, aside, runner, level, priority);
         self.turning = some_turn(&next);
         self.counter = counter;
         self.on = next;
         self.losses = losses;
-        let picked = arbitrated(request, started, aside, runner, level, priority);
-        if is_triggered(level, picked.level, timed, picked.runner) {
+        if is_triggered(level, picked.level) {
             return self.launched(request, picked.runner);
         }
         self.seated(picked)

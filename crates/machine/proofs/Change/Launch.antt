@@ -6,20 +6,20 @@
 --
 -- Assumes nothing.
 use Prim.Native.Nat.{ℕ, _≤_, _<_}
-use mathlib.Core.Path.{_≡_, refl, sym, ap, _∙_}
+use mathlib.Core.Path.{_≡_, refl, sym, ap, ap₂, _∙_}
 use mathlib.Core.Logic.{_≢_}
 use mathlib.Core.Bool.{Bool, true, false, true≢false, cond, _&&_}
 use mathlib.Core.List.{List, [], _∷_}
 use native.Mathlib.Omega.{arith}
-use borrow.Author.Tests.{lt-ltb, le-ltb}
-use lib.Dec.{ltb}
-use lib.ListN.{set, length-set}
+use borrow.Author.Tests.{lt-ltb, le-ltb, eq-eqb, ne-eqb}
+use lib.Dec.{ltb, eqb}
+use lib.ListN.{getD, set, length-set}
 use lib.Seq.{getD-set-same, getD-set-other}
 use Rattle.number.proofs.Cases.{by-lt, by-eq}
 use Rattle.config.specs.declared.Config.{Config}
-use Rattle.config.specs.Meaning.{executionLevel, isIsr, isTimed}
+use Rattle.config.specs.Meaning.{executionLevel, triggerLevel, isIsr, isTimed}
 use Rattle.plan.specs.declared.Plan.{Plan}
-use Rattle.word.specs.Word.{has, winner}
+use Rattle.word.specs.Word.{winner}
 use Rattle.word.proofs.Theorems.{has-with-same, has-with-other, with-lt, has-without-same, has-without-other, without-lt}
 use Rattle.scheduler.specs.Body.{Body, isStarted, triggered, become}
 use Rattle.scheduler.specs.State.{noBody, among}
@@ -33,7 +33,7 @@ use Rattle.machine.proofs.Relation.Kinds.{isBidding, Kinds, trigger-tim
 use Rattle.machine.proofs.Relation.Order.{and-false}
 use Rattle.machine.proofs.Relation.Whole.{Tied}
 use Rattle.machine.proofs.Arbitration.Seat.{Holders, holders, level-few}
-use Rattle.machine.proofs.Arbitration.Bids.{trigger-wins, Winner, winner-above}
+use Rattle.machine.proofs.Arbitration.Bids.{trigger-wins, Winner, winning-is, winner-above}
 use Rattle.machine.proofs.Arbitration.Choice.{level-is}
 use Rattle.machine.proofs.Arbitration.Dispatch.{rank-below}
 
@@ -47,16 +47,18 @@ level-low {c} {p} {rk} fit {m} {bs} (j ∷ js) {ns} t =
 
 -- who is above the level by priority is no time-triggered task
 pub plain-triggering : {c : Config} {p : Plan} {rk : ℕ → ℕ} (fit : Fitted c p rk) {m : Model} {bs : List Body} {js ns : List ℕ} → Tied c rk m bs js ns
-    → Kinds c bs → triggering (p .priority) (p .timed) m ≡ settled (p .priority) m
+    → Kinds c bs → triggering (p .priority) m ≡ settled (p .priority) m
 plain-triggering {p = p} fit {m} t kinds =
     ap (λ (x : Bool). cond x (doneWith (launching m) true) (settled (p .priority) m))
     (by-lt (m .core .level) (winning (p .priority) (m .core))
-    (λ above. let v = winner-above fit (t .words) kinds above in
-    let plain : has (p .timed) (winner (bids (m .core))) ≡ false =
-    rw (sym (v .rank)) (fit .timed-at (v .body) (v .exists) ∙ kinds .untimed (v .body) (v .exists) (v .awake)) in
-    ap (λ (x : Bool). x && ltb (m .core .level) (winning (p .priority) (m .core))) plain)
-    (λ low. ap (λ (x : Bool). has (p .timed) (winner (bids (m .core))) && x) (le-ltb (m .core .level) (winning (p .priority) (m .core)) low)
-    ∙ and-false (has (p .timed) (winner (bids (m .core))))))
+    (λ above.
+    let v = winner-above fit (t .words) kinds above in
+    let low : winning (p .priority) (m .core) ≢ triggerLevel =
+    λ e. absurd (omega (arith, e, winning-is fit (t .words) kinds v, fit .own-few (v .body) (v .exists))) in
+    ap (λ (x : Bool). ltb (m .core .level) (winning (p .priority) (m .core)) && x) (ne-eqb (winning (p .priority) (m .core)) triggerLevel low)
+    ∙ and-false (ltb (m .core .level) (winning (p .priority) (m .core))))
+    (λ low.
+    ap (λ (x : Bool). x && eqb (winning (p .priority) (m .core)) triggerLevel) (le-ltb (m .core .level) (winning (p .priority) (m .core)) low)))
 
 module _ {c : Config} {p : Plan} {rk : ℕ → ℕ} (fit : Fitted c p rk) {m : Model} {bs : List Body} {js ns : List ℕ} (t : Tied c rk m bs js ns)
     (j : ℕ) (j< : j < c .bodies) (timed : isTimed c j ≡ true) (fresh : at bs j .phase ≡ triggered false) (task : isIsr c j ≡ false)
@@ -71,14 +73,17 @@ module _ {c : Config} {p : Plan} {rk : ℕ → ℕ} (fit : Fitted c p rk) {m : M
   W-lt = rw wins (rank-below fit j j<)
 
   -- its trigger level is above the level
-  pub launches : triggering (p .priority) (p .timed) m ≡ doneWith (launching m) true
+  pub launches : triggering (p .priority) m ≡ doneWith (launching m) true
   launches = ap (λ (x : Bool). cond x (doneWith (launching m) true) (settled (p .priority) m)) is
     where
-      is : isTriggered (p .priority) (p .timed) (m .core) ≡ true
+      level : winning (p .priority) (m .core) ≡ triggerLevel
+      level = ap (λ (r : ℕ). getD (p .priority) r 0) wins ∙ fit .priority-at j j< ∙ trigger-timed c j j< timed
+
+      is : isTriggered (p .priority) (m .core) ≡ true
       is =
-          rw wins
-          (rw (fit .timed-at j j< ∙ timed)
-          (lt-ltb (m .core .level) _ (omega (arith, level-low fit js t, fit .priority-at j j<, trigger-timed c j j< timed))))
+          ap₂ (λ (x y : Bool). x && y)
+          (lt-ltb (m .core .level) (winning (p .priority) (m .core)) (omega (arith, level, level-low fit js t)))
+          (eq-eqb (winning (p .priority) (m .core)) triggerLevel level)
 
   abbrev y : Body
   y = become (triggered true) (at bs j)

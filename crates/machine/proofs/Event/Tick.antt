@@ -185,7 +185,7 @@ module _ {c : Config} {p : Plan} {rk : ℕ → ℕ} (fit : Fitted c p rk) {m : M
       (elsewhere (owed .tied) (now .counter) (now .on) (now .turning) (requestsDue (begunWord m) ms (p .entry) asked .losses))
 
   -- the outcome o of it, however it was arbitrated
-  ended : (o : Outcome) → triggering (p .priority) (p .timed) now ≡ o → o .status ≡ done → o .model .counter ≡ now .counter → o .model .on ≡ now .on
+  ended : (o : Outcome) → triggering (p .priority) now ≡ o → o .status ≡ done → o .model .counter ≡ now .counter → o .model .on ≡ now .on
       → o .model .turning ≡ now .turning → o .model .losses ≡ now .losses → o .model .cleared ≡ m .cleared → o .model .bits ≡ m .bits
       → o .model .waited ≡ m .waited
       → Arbitrated c p rk o then → LatestActive then → Shows (rowBytes (o .model .triggered)) (map rk (then .order)) → Agrees c p rk m s Tick

@@ -35,7 +35,7 @@ returns c =
     let c₁ = c .before in let c₂ = c₁ .before in let c₃ = c₂ .before in let c₄ = c₃ .before in let c₅ = c₄ .before .before .before in
     let c₆ = c₅ .before in let c₇ = c₆ .before .before .before .before .before .before in let a = c₇ .args in
     (c .launched .ensures)
-    ∙ ap outcomeOf (tick-launched (a .compare .now) (a .entry-rank .now) (a .priority .now) (a .timed) (view (a .self)) (c₅ .union .ensures) (c₇ .pre)
+    ∙ ap outcomeOf (tick-launched (a .compare .now) (a .entry-rank .now) (a .priority .now) (view (a .self)) (c₅ .union .ensures) (c₇ .pre)
     (c₆ .tick-cells .ensures .0) (c₆ .tick-cells .ensures .1) (c₄ .take-matches .ensures) (ap viewPicked (c₃ .arbitrated .ensures)) (c₂ .is-triggered .ensures) (c₁ .if1 .taken))
 
 seated-requires : tie.Need-seated-requires
@@ -46,7 +46,7 @@ returns-2 c =
     let c₁ = c .before in let c₂ = c₁ .before in let c₃ = c₂ .before in let c₄ = c₃ .before in let c₅ = c₄ .before .before .before in
     let c₆ = c₅ .before in let c₇ = c₆ .before .before .before .before .before .before in let a = c₇ .args in
     (c .seated .ensures)
-    ∙ ap outcomeOf (tick-done (a .compare .now) (a .entry-rank .now) (a .priority .now) (a .timed) (view (a .self)) (c₅ .union .ensures) (c₇ .pre)
+    ∙ ap outcomeOf (tick-done (a .compare .now) (a .entry-rank .now) (a .priority .now) (view (a .self)) (c₅ .union .ensures) (c₇ .pre)
     (c₆ .tick-cells .ensures .0) (c₆ .tick-cells .ensures .1) (c₄ .take-matches .ensures) (ap viewPicked (c₃ .arbitrated .ensures)) (c₂ .is-triggered .ensures) (c₁ .if1 .left))
 
 pub tick-spec : {M : Type 1} → statement M

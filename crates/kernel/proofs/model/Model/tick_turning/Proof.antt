@@ -18,8 +18,8 @@ tick-turns-requires c κs = search needs
 union-requires : tie.Need-union-requires
 union-requires c κs = search needs
 
-take-matches-requires : tie.Need-take-matches-requires
-take-matches-requires c κs =
+take-each-requires : tie.Need-take-each-requires
+take-each-requires c κs =
     let c₁ = c .before .before .before in let c₂ = c₁ .before .before .before .before .before .before .before .before .before in
     let a = c₂ .args in
     rw (c₁ .tick-turns .ensures .0) (length-marks maxEntries 0 true (a .compare .now) (a .self .on) (a .self .counter))
@@ -42,9 +42,9 @@ returns c =
     let c₆ = c₅ .before .before .before in let c₇ = c₆ .before in let c₈ = c₇ .before .before .before in
     let c₉ = c₈ .before .before .before .before .before .before in let a = c₉ .args in
     (c .launched .ensures)
-    ∙ ap outcomeOf (turning-launched (a .compare .now) (a .entry-rank .now) (a .priority .now) (a .timed) (view (a .self)) (c₆ .union .ensures) (c₉ .pre)
-    (c₇ .tick-turns .ensures .0) (c₇ .tick-turns .ensures .1) (c₈ .tick-switches .ensures) (c₄ .some-turn .ensures) (c₅ .take-matches .ensures)
-    (ap viewPicked (c₃ .arbitrated .ensures)) (c₂ .is-triggered .ensures) (c₁ .if1 .taken))
+    ∙ ap outcomeOf (turning-launched (a .compare .now) (a .entry-rank .now) (a .priority .now) (view (a .self)) (c₆ .union .ensures) (c₉ .pre)
+    (c₇ .tick-turns .ensures .0) (c₇ .tick-turns .ensures .1) (c₈ .tick-switches .ensures) (c₃ .some-turn .ensures) (c₅ .take-each .ensures)
+    (ap viewPicked (c₄ .arbitrated .ensures)) (c₂ .is-triggered .ensures) (c₁ .if1 .taken))
 
 seated-requires : tie.Need-seated-requires
 seated-requires c κs = search needs
@@ -55,9 +55,9 @@ returns-2 c =
     let c₆ = c₅ .before .before .before in let c₇ = c₆ .before in let c₈ = c₇ .before .before .before in
     let c₉ = c₈ .before .before .before .before .before .before in let a = c₉ .args in
     (c .seated .ensures)
-    ∙ ap outcomeOf (turning-done (a .compare .now) (a .entry-rank .now) (a .priority .now) (a .timed) (view (a .self)) (c₆ .union .ensures) (c₉ .pre)
-    (c₇ .tick-turns .ensures .0) (c₇ .tick-turns .ensures .1) (c₈ .tick-switches .ensures) (c₄ .some-turn .ensures) (c₅ .take-matches .ensures)
-    (ap viewPicked (c₃ .arbitrated .ensures)) (c₂ .is-triggered .ensures) (c₁ .if1 .left))
+    ∙ ap outcomeOf (turning-done (a .compare .now) (a .entry-rank .now) (a .priority .now) (view (a .self)) (c₆ .union .ensures) (c₉ .pre)
+    (c₇ .tick-turns .ensures .0) (c₇ .tick-turns .ensures .1) (c₈ .tick-switches .ensures) (c₃ .some-turn .ensures) (c₅ .take-each .ensures)
+    (ap viewPicked (c₄ .arbitrated .ensures)) (c₂ .is-triggered .ensures) (c₁ .if1 .left))
 
 pub tick-turning-spec : {M : Type 1} → statement M
 tick-turning-spec =
@@ -66,7 +66,8 @@ tick-turning-spec =
     tick-switches-requires
     tick-turns-requires
     union-requires
-    take-matches-requires
+    take-each-requires
+    arbitrated-requires
     some-turn-requires
     arbitrated-requires
     is-triggered-requires
