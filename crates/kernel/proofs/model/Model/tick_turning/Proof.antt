@@ -43,8 +43,8 @@ returns c =
     let c₉ = c₈ .before .before .before .before .before .before in let a = c₉ .args in
     (c .launched .ensures)
     ∙ ap outcomeOf (turning-launched (a .compare .now) (a .entry-rank .now) (a .priority .now) (view (a .self)) (c₆ .union .ensures) (c₉ .pre)
-    (c₇ .tick-turns .ensures .0) (c₇ .tick-turns .ensures .1) (c₈ .tick-switches .ensures) (c₃ .some-turn .ensures) (c₅ .take-each .ensures)
-    (ap viewPicked (c₄ .arbitrated .ensures)) (c₂ .is-triggered .ensures) (c₁ .if1 .taken))
+    (c₇ .tick-turns .ensures .0) (c₇ .tick-turns .ensures .1) (c₈ .tick-switches .ensures) (c₄ .some-turn .ensures) (c₅ .take-each .ensures)
+    (ap viewPicked (c₃ .arbitrated .ensures)) (c₂ .is-triggered .ensures) (c₁ .if1 .taken))
 
 seated-requires : tie.Need-seated-requires
 seated-requires c κs = search needs
@@ -56,8 +56,8 @@ returns-2 c =
     let c₉ = c₈ .before .before .before .before .before .before in let a = c₉ .args in
     (c .seated .ensures)
     ∙ ap outcomeOf (turning-done (a .compare .now) (a .entry-rank .now) (a .priority .now) (view (a .self)) (c₆ .union .ensures) (c₉ .pre)
-    (c₇ .tick-turns .ensures .0) (c₇ .tick-turns .ensures .1) (c₈ .tick-switches .ensures) (c₃ .some-turn .ensures) (c₅ .take-each .ensures)
-    (ap viewPicked (c₄ .arbitrated .ensures)) (c₂ .is-triggered .ensures) (c₁ .if1 .left))
+    (c₇ .tick-turns .ensures .0) (c₇ .tick-turns .ensures .1) (c₈ .tick-switches .ensures) (c₄ .some-turn .ensures) (c₅ .take-each .ensures)
+    (ap viewPicked (c₃ .arbitrated .ensures)) (c₂ .is-triggered .ensures) (c₁ .if1 .left))
 
 pub tick-turning-spec : {M : Type 1} → statement M
 tick-turning-spec =
@@ -67,7 +67,6 @@ tick-turning-spec =
     tick-turns-requires
     union-requires
     take-each-requires
-    arbitrated-requires
     some-turn-requires
     arbitrated-requires
     is-triggered-requires
