@@ -1,4 +1,4 @@
--- The machine of document 01, in reading order: the model, the arbiter, the held resources, the cells, the twelve events, and the whole from the
+-- The machine of documents 01 and 02, in reading order: the model, the arbiter, the held resources, the cells, the twelve events, and the whole from the
 -- fresh start on. It is the other side of demand 3: what the plain scheduler (crate `scheduler`) does with a set of bodies, this does as the
 -- chip does it. Assumes nothing.
 --
