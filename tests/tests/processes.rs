@@ -128,7 +128,7 @@ fn each_refusal_is_printed_with_its_place() {
         (vec![0x81, 0], &[], "refused 2 1\n"),
         (config(0, 3), &[], "refused 3 0\n"),
         (config(1, 33), &[], "refused 4 1\n"),
-        (config(2, 3), &[], "refused 5 2\n"),
+        (config(2, 4), &[], "refused 5 2\n"),
         (config(6, 2), &[], "refused 6 6\n"),
         (config(18, 0), &[], "refused 7 19\n"),
         (many, &[], "refused 8 144\n"),

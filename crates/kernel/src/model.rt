@@ -75,10 +75,11 @@ pub struct Model {
     pub resource: Row,
     pub holder: Row,
     pub raised: Row,
-    // The cells by entry: their counters and switches, and whether any of them has a turn of its counter to pass.
+    // The cells by entry: whether any of them has a turn of its counter to pass, and their counters and switches. The flag does not stand
+    // beside the losses: the compiler would take the two for one and copy both at every tick.
+    pub turning: bool,
     pub counter: [u16; 64],
     pub on: [u16; 64],
-    pub turning: bool,
     pub losses: [u16; 32],
     // By rank: the event bits, which of the ranks in the word `cleared` count as 0, and the mask of the latest Wait that did not go on.
     pub cleared: u32,

@@ -35,7 +35,8 @@ use super::lookup::short_at;
 use word::union;
 
 impl Model {
-    // A tick where no cell has a turn to pass.
+    // A tick where no cell has a turn to pass. The arrays are put back before arbitration: behind its branches the compiler would put them
+    // back once for each, and copy the losses once more.
     pub fn tick<'a>(
         mut self,
         compare: &'a [u16; 64],
@@ -56,9 +57,9 @@ impl Model {
         let matched = tick_cells(compare, &on, &mut counter);
         let begun = union(started, aside);
         let request = take_matches(&matched, entry_rank, begun, asked, &mut losses);
-        let picked = arbitrated(request, started, aside, runner, level, priority);
         self.counter = counter;
         self.losses = losses;
+        let picked = arbitrated(request, started, aside, runner, level, priority);
         if is_triggered(level, picked.level) {
             return self.launched(request, picked.runner);
         }
@@ -89,11 +90,11 @@ impl Model {
         let matched = tick_turns(compare, &on, &mut counter);
         let begun = union(started, aside);
         let request = take_each(&matched, entry_rank, begun, asked, &mut losses);
-        let picked = arbitrated(request, started, aside, runner, level, priority);
         self.turning = some_turn(&next);
         self.counter = counter;
         self.on = next;
         self.losses = losses;
+        let picked = arbitrated(request, started, aside, runner, level, priority);
         if is_triggered(level, picked.level) {
             return self.launched(request, picked.runner);
         }

@@ -24,11 +24,11 @@ take-each-requires c κs =
     let a = c₂ .args in
     rw (c₁ .tick-turns .ensures .0) (length-marks maxEntries 0 true (a .compare .now) (a .self .on) (a .self .counter))
 
-arbitrated-requires : tie.Need-arbitrated-requires
-arbitrated-requires c κs = search needs
-
 some-turn-requires : tie.Need-some-turn-requires
 some-turn-requires c κs = search needs
+
+arbitrated-requires : tie.Need-arbitrated-requires
+arbitrated-requires c κs = search needs
 
 is-triggered-requires : tie.Need-is-triggered-requires
 is-triggered-requires c κs = search needs
@@ -38,26 +38,26 @@ launched-requires c κs = search needs
 
 returns : tie.Need-returns
 returns c =
-    let c₁ = c .before in let c₂ = c₁ .before in let c₃ = c₂ .before in let c₄ = c₃ .before .before in let c₅ = c₄ .before in
+    let c₁ = c .before in let c₂ = c₁ .before in let c₃ = c₂ .before in let c₄ = c₃ .before in let c₅ = c₄ .before .before in
     let c₆ = c₅ .before .before .before in let c₇ = c₆ .before in let c₈ = c₇ .before .before .before in
     let c₉ = c₈ .before .before .before .before .before .before in let a = c₉ .args in
     (c .launched .ensures)
     ∙ ap outcomeOf (turning-launched (a .compare .now) (a .entry-rank .now) (a .priority .now) (view (a .self)) (c₆ .union .ensures) (c₉ .pre)
-    (c₇ .tick-turns .ensures .0) (c₇ .tick-turns .ensures .1) (c₈ .tick-switches .ensures) (c₃ .some-turn .ensures) (c₅ .take-each .ensures)
-    (ap viewPicked (c₄ .arbitrated .ensures)) (c₂ .is-triggered .ensures) (c₁ .if1 .taken))
+    (c₇ .tick-turns .ensures .0) (c₇ .tick-turns .ensures .1) (c₈ .tick-switches .ensures) (c₄ .some-turn .ensures) (c₅ .take-each .ensures)
+    (ap viewPicked (c₃ .arbitrated .ensures)) (c₂ .is-triggered .ensures) (c₁ .if1 .taken))
 
 seated-requires : tie.Need-seated-requires
 seated-requires c κs = search needs
 
 returns-2 : tie.Need-returns-2
 returns-2 c =
-    let c₁ = c .before in let c₂ = c₁ .before in let c₃ = c₂ .before in let c₄ = c₃ .before .before in let c₅ = c₄ .before in
+    let c₁ = c .before in let c₂ = c₁ .before in let c₃ = c₂ .before in let c₄ = c₃ .before in let c₅ = c₄ .before .before in
     let c₆ = c₅ .before .before .before in let c₇ = c₆ .before in let c₈ = c₇ .before .before .before in
     let c₉ = c₈ .before .before .before .before .before .before in let a = c₉ .args in
     (c .seated .ensures)
     ∙ ap outcomeOf (turning-done (a .compare .now) (a .entry-rank .now) (a .priority .now) (view (a .self)) (c₆ .union .ensures) (c₉ .pre)
-    (c₇ .tick-turns .ensures .0) (c₇ .tick-turns .ensures .1) (c₈ .tick-switches .ensures) (c₃ .some-turn .ensures) (c₅ .take-each .ensures)
-    (ap viewPicked (c₄ .arbitrated .ensures)) (c₂ .is-triggered .ensures) (c₁ .if1 .left))
+    (c₇ .tick-turns .ensures .0) (c₇ .tick-turns .ensures .1) (c₈ .tick-switches .ensures) (c₄ .some-turn .ensures) (c₅ .take-each .ensures)
+    (ap viewPicked (c₃ .arbitrated .ensures)) (c₂ .is-triggered .ensures) (c₁ .if1 .left))
 
 pub tick-turning-spec : {M : Type 1} → statement M
 tick-turning-spec =
@@ -67,8 +67,8 @@ tick-turning-spec =
     tick-turns-requires
     union-requires
     take-each-requires
-    arbitrated-requires
     some-turn-requires
+    arbitrated-requires
     is-triggered-requires
     launched-requires
     returns
