@@ -10,7 +10,7 @@ use Rattle.number.proofs.Cases.{by-lt}
 use Rattle.word.specs.Word.{ranks, has}
 use Rattle.config.specs.declared.Config.{Config}
 use Rattle.config.specs.Value.{maxBodies, maxResources, maxEntries, maxPriority}
-use Rattle.config.specs.Meaning.{isTask, isOsekTask, isIsr, isExtended, isTimed, isUser, priorityOf, ceiling, firstOf}
+use Rattle.config.specs.Meaning.{isTask, isOsekTask, isIsr, isExtended, isUser, priorityOf, ceiling, firstOf}
 use Rattle.config.specs.Accepted.{Accepted, Shaped}
 use Rattle.plan.specs.declared.Plan.{Plan}
 use Rattle.plan.specs.Rank.{noRank, rankOf}

@@ -17,7 +17,7 @@ use Rattle.word.specs.Word as Word
 use Rattle.word.specs.Word.{has}
 use Rattle.config.specs.declared.Config.{Config}
 use Rattle.config.specs.Value.{maxPriority, maxBodies, maxResources, maxTables, maxEntries}
-use Rattle.config.specs.Meaning.{isr, extended, timeTriggered, executionLevel, isOsekTask, isIsr, isExtended, isTimed, isUser, ceiling, firstOf}
+use Rattle.config.specs.Meaning.{isr, extended, timeTriggered, executionLevel, isOsekTask, isIsr, isExtended, isUser, ceiling, firstOf}
 use Rattle.config.specs.Accepted.{Accepted, Shaped}
 use Rattle.config.proofs.Tables.{isTask-true}
 use Rattle.plan.specs.declared.Plan.{Plan}

@@ -4,7 +4,7 @@
 -- In order: a list of checks; that each event's checks give statuses other than 0; what a time-triggered task may call,
 -- and the calls that name one; the accepted calls one by one. Assumes nothing.
 use Prim.Native.Nat.{ℕ, _+_, _≤_, _<_}
-use mathlib.Core.Path.{_≡_, refl, sym, ap, _∙_}
+use mathlib.Core.Path.{_≡_, refl, sym, ap, ap₂, _∙_}
 use mathlib.Core.Bool.{Bool, true, false, true≢false, cond, not, _&&_, _||_, and-true}
 use mathlib.Core.List.{List, [], _∷_, _++_, map}
 use mathlib.Core.Logic.{_≢_, _↔_}
@@ -15,7 +15,7 @@ use lib.ListN.{getD}
 use Rattle.number.proofs.Cases as Cases
 use Rattle.config.specs.declared.Config.{Config}
 use Rattle.config.specs.Meaning.{isTask, isOsekTask, isIsr, isExtended, isTimed, isUser, smallestOffset}
-use Rattle.scheduler.specs.Status.{Check, done, firstGiven, NoneFails}
+use Rattle.scheduler.specs.Status.{Check, done, callLevel, noSuch, limitReached, _gives_, firstGiven, NoneFails}
 use Rattle.scheduler.specs.Body.{Phase, suspended, ready, started, waiting, triggered, isSuspended, holds}
 use Rattle.scheduler.specs.Choice.{isNobody}
 use Rattle.scheduler.specs.State.{State, isRunning, bodyOf, tableOf, runner, heldIn}
@@ -174,7 +174,9 @@ module _ (c : Config) (s : State) (free : noCaller (runner c s) ≡ false) (t : 
 
   pub timed-activate : step c s (Activate t) .seen .status ≡ 3
   unfolding stepBy firstGiven
-  timed-activate = rw (free, no-osek)
+  timed-activate =
+      ap₂ (λ (x y : Bool). firstGiven ((x gives callLevel) ∷ (not y gives noSuch) ∷ (active s t gives limitReached) ∷ []))
+      free no-osek
 
   pub timed-set : (w : ℕ) → step c s (Set t w) .seen .status ≡ 1
   unfolding stepBy firstGiven

@@ -3,21 +3,21 @@
 -- In order: the runner's own priority is above the current priority of every other body that holds a resource
 -- (`holder-below`), where no time-triggered task is started; so above that resource's ceiling, and no user's is.
 -- Assumes nothing.
-use Prim.Native.Nat.{ℕ, zero, suc, _≤_, _<_}
+use Prim.Native.Nat.{ℕ, zero, suc, _<_}
 use mathlib.Core.Path.{_≡_, refl, sym, ap, _∙_}
-use mathlib.Core.Bool.{Bool, true, false, true≢false, cond, not, _||_}
+use mathlib.Core.Bool.{Bool, true, false, true≢false, cond}
 use mathlib.Core.List.{List, [], _∷_}
 use mathlib.Core.Logic.{_≢_}
 use native.Mathlib.Omega.{arith}
 use borrow.Author.Tests.{ltb-true, lt-leb}
-use lib.Dec.{ltb, leb, eqb}
+use lib.Dec.{ltb}
 use lib.ListN.{length, getD, List·getD-eq-default}
 use Rattle.number.proofs.Cases.{by-test, by-lt, by-eq, and-true}
 use Rattle.config.specs.declared.Config.{Config}
-use Rattle.config.specs.Meaning.{isTimed, isUser, priorityOf, ceiling}
+use Rattle.config.specs.Meaning.{isUser, priorityOf, ceiling}
 use Rattle.config.specs.Accepted.{Accepted, Shaped}
 use Rattle.config.proofs.Theorems.{user-ceiling, timed-no-user}
-use Rattle.scheduler.specs.Status.{done, firstGiven}
+use Rattle.scheduler.specs.Status.{firstGiven}
 use Rattle.scheduler.specs.Body.{Body, competes, holds, current}
 use Rattle.scheduler.specs.Choice.{Candidate, byHolding, chosen, isNobody}
 use Rattle.scheduler.specs.State.{State, noBody, bodyOf, runner, among, heldIn}
@@ -26,7 +26,7 @@ use Rattle.scheduler.specs.Call.{nobodyRuns, caller, calling, noCaller}
 use Rattle.scheduler.specs.Scheduler.{step, stepBy, fresh, after}
 use Rattle.scheduler.proofs.Choice.{Taken, no-one, body, chosen-from, chosen-someone, candidate-active, current-held, runner-timed, runner-untimed}
 use Rattle.scheduler.proofs.Apart.{Kept, started-competes, holder, holders, set-holds, outranks, reached-kept}
-use Rattle.scheduler.proofs.Order.{Orderly, orderly-fresh, orderly-after}
+use Rattle.scheduler.proofs.Order.{orderly-fresh, orderly-after}
 use Rattle.scheduler.proofs.Distinct.{none-among, among-head}
 
 -- who holds a resource holds something

@@ -6,23 +6,23 @@
 -- Assumes nothing.
 use Prim.Native.Nat.{ℕ, _+_, _-_, _≤_, _<_, suc}
 use mathlib.Core.Path.{_≡_, refl, sym, ap, subst, subst⁻¹, _∙_}
-use mathlib.Core.Bool.{Bool, true, false, true≢false, cond, not, _&&_}
-use mathlib.Core.List.{List, [], _∷_, map}
+use mathlib.Core.Bool.{Bool, true, false, true≢false, cond, not}
+use mathlib.Core.List.{List, [], _∷_}
 use mathlib.Core.Logic.{_≢_}
 use native.Mathlib.Omega.{arith}
 use borrow.Author.Tests.{eq-eqb, ne-eqb}
 use lib.Dec.{eqb}
-use lib.ListN.{length, getD, take, drop, length-take, length-drop, length-map, length-replicate, List·getD-map, replicate}
-use lib.Seq.{getD-take, getD-drop, length-take-le, getD-set-same, getD-set-other}
-use Rattle.number.proofs.Cases.{by-test, by-lt, by-eq}
+use lib.ListN.{length, getD, take, drop, length-take, length-drop, length-map, length-replicate, List·getD-map}
+use lib.Seq.{getD-take, getD-drop, length-take-le}
+use Rattle.number.proofs.Cases.{by-test, by-eq}
 use Rattle.config.specs.declared.Config.{Config}
-use Rattle.config.specs.Meaning.{isTimed, firstOf, ofTable, tasks}
+use Rattle.config.specs.Meaning.{isTimed, firstOf, tasks}
 use Rattle.config.specs.Accepted.{Accepted, Shaped}
 use Rattle.config.proofs.Tables.{firstOf-step, firstOf-rises, table-of}
 use Rattle.config.proofs.Theorems.{timed-one-table, timed-no-autostart}
 use Rattle.scheduler.specs.Status.{done}
 use Rattle.scheduler.specs.Body.{Phase, suspended, ready, started, waiting, triggered, hasBegun, Body, become, activated}
-use Rattle.scheduler.specs.Choice.{Candidate, isNobody}
+use Rattle.scheduler.specs.Choice.{Candidate}
 use Rattle.scheduler.specs.State.{State, stopped, noBody, bodyOf, changing, runner, among}
 use Rattle.scheduler.specs.Event.{Event, Tick}
 use Rattle.scheduler.specs.Tick.{ticked}

@@ -10,7 +10,7 @@ use mathlib.Core.Bool.{Bool, true, false, true≢false, cond, not, _&&_}
 use mathlib.Core.List.{List, [], _∷_}
 use mathlib.Core.Logic.{_≢_}
 use native.Mathlib.Omega.{arith}
-use borrow.Author.Tests.{eqb-true, eq-eqb}
+use borrow.Author.Tests.{eqb-true}
 use lib.Dec.{ltb, eqb}
 use lib.ListN.{length, getD, set, length-set}
 use lib.Seq.{set-out, getD-set-same, getD-set-other}
@@ -27,7 +27,6 @@ use Rattle.scheduler.specs.Scheduler.{stepBy}
 use Rattle.scheduler.specs.History.{AcceptedIn}
 use Rattle.scheduler.proofs.Choice.{Taken, no-one, body, chosen-from, candidate-active, runner-timed, runner-untimed}
 use Rattle.scheduler.proofs.Checks.{activate-passed, finish-passed, chain-passed, get-passed, release-passed, line-passed, wait-passed, set-passed, clear-passed, accepted-untimed}
-use Rattle.scheduler.proofs.Effects.{bodyOf-changing-same, bodyOf-changing-other, length-changing, cond-either}
 use Rattle.scheduler.proofs.Named.{timed-body}
 use Rattle.scheduler.proofs.Distinct.{Distinct, among-head, among-other, among-tail}
 

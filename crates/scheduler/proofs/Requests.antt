@@ -15,7 +15,7 @@ use Rattle.number.proofs.Cases.{by-lt, by-eq}
 use Rattle.config.specs.declared.Config.{Config}
 use Rattle.config.specs.Meaning.{isIsr}
 use Rattle.scheduler.specs.Status.{done}
-use Rattle.scheduler.specs.Body.{Body, Phase, suspended, ready, started, waiting, triggered, isSuspended, isStarted, hasBegun, competes, become, activated, loses, requested, gets, releases, finished, waits, resumed, receives, clears}
+use Rattle.scheduler.specs.Body.{Body, Phase, suspended, ready, started, waiting, triggered, isSuspended, isStarted, hasBegun, competes, become, activated, loses, requested, gets, releases, finished, waits, receives, clears}
 use Rattle.scheduler.specs.Bits.{anySet, withBits}
 use Rattle.scheduler.specs.Choice.{byHolding, chosen}
 use Rattle.scheduler.specs.State.{State, noBody, bodyOf, changing, runner}

@@ -15,7 +15,7 @@ use Rattle.number.proofs.Cases.{by-lt, by-eq}
 use Rattle.config.specs.declared.Config.{Config}
 use Rattle.config.specs.Meaning.{isExtended, priorityOf}
 use Rattle.config.specs.Accepted as Configuration
-use Rattle.scheduler.specs.Body.{started, isStarted, competes, Body, holds, current, rest, receives}
+use Rattle.scheduler.specs.Body.{isStarted, competes, Body, holds, current, rest, receives}
 use Rattle.scheduler.specs.Choice.{Candidate, byHolding, byBegun, goesBefore, chosenBy}
 use Rattle.scheduler.specs.State.{State, bodyOf, latestOf, runnerBy, runner}
 use Rattle.scheduler.specs.Event.{Event, Set}

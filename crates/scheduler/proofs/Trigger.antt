@@ -2,28 +2,27 @@
 -- the end of the file).
 --
 -- In order: one due entry; the entries one after the other, of which at most one is of kind 3; a Tick. Assumes nothing.
-use Prim.Native.Nat.{ℕ, zero, suc, _+_, _≤_, _<_}
+use Prim.Native.Nat.{ℕ, zero, suc, _<_}
 use mathlib.Core.Path.{_≡_, refl, sym, ap, subst⁻¹, _∙_}
 use mathlib.Core.Bool.{Bool, true, false, true≢false, cond}
-use mathlib.Core.List.{List, [], _∷_, map}
+use mathlib.Core.List.{List, [], _∷_}
 use mathlib.Core.Logic.{_≢_}
 use native.Mathlib.Omega.{arith}
-use lib.ListN.{length, getD, set, length-set, length-map, List·getD-eq-default}
+use lib.ListN.{length, getD, length-set, length-map, List·getD-eq-default}
 use lib.Seq.{getD-set-same, getD-set-other, set-out}
 use Rattle.number.proofs.Cases.{by-test, by-lt, by-eq}
 use Rattle.config.specs.declared.Config.{Config}
-use Rattle.config.specs.Meaning.{isTimed, firstOf, timedEntry}
+use Rattle.config.specs.Meaning.{isTimed, firstOf}
 use Rattle.config.specs.Accepted.{Accepted, Shaped}
-use Rattle.scheduler.specs.Body.{Phase, suspended, triggered, isSuspended, Body, activated, triggers, loses, activatedByEntry}
+use Rattle.scheduler.specs.Body.{suspended, triggered, isSuspended, Body, activated, triggers, loses, activatedByEntry}
 use Rattle.scheduler.specs.State.{State, noBody, bodyOf, changing, among}
-use Rattle.scheduler.specs.Tick.{counting, counted, dues, duesFrom, starting, trigger, enter, activatingDue, ticked}
-use Rattle.scheduler.specs.Entries.{entriesOf}
+use Rattle.scheduler.specs.Tick.{counting, counted, dues, starting, trigger, enter, activatingDue, ticked}
 use Rattle.scheduler.proofs.Effects.{bodyOf-changing-other}
 use Rattle.scheduler.proofs.Dues.{length-dues}
 use Rattle.scheduler.proofs.Entries.{entries-long}
 use Rattle.scheduler.proofs.Named.{timed-body}
 use Rattle.scheduler.proofs.Distinct.{among-head, among-other}
-use Rattle.scheduler.proofs.Placed.{isTriggered, never-triggered, Place, other, asleep, awake, Placed, placed-weaken, untimed-place, awake-place, becomes-placed, plain-placed, loses-placed}
+use Rattle.scheduler.proofs.Placed.{isTriggered, Place, other, asleep, awake, Placed, plain-placed, loses-placed}
 use Rattle.scheduler.proofs.Timed.{timed-once}
 
 entry-plain : (b : Body) → isTriggered (b .phase) ≡ false → isTriggered (activatedByEntry b .phase) ≡ false

@@ -9,7 +9,7 @@
 use Prim.Native.Nat.{ℕ, zero, suc, _+_, _-_, _/_, _%_, _^_}
 use mathlib.Core.Bool.{Bool, cond, not, _&&_}
 use lib.Dec.{ltb, eqb}
-use lib.Bits.{bitAnd, bitOr}
+use lib.Bits.{bitOr}
 
 -- how many ranks there are, 0 the lowest
 abbrev pub ranks : ℕ

@@ -7,7 +7,7 @@
 use Prim.Native.Nat.{ℕ, _^_, _≤_, _<_}
 use mathlib.Core.Path.{_≡_, refl, sym, ap, subst, _∙_}
 use mathlib.Core.Logic.{_≢_}
-use mathlib.Core.Bool.{Bool, true, false, true≢false, cond, not, _&&_}
+use mathlib.Core.Bool.{Bool, true, false, true≢false, cond, not, _&&_, and-false}
 use mathlib.Core.List.{List, [], _∷_, _++_}
 use native.Mathlib.Omega.{arith}
 use borrow.Author.Tests.{lt-ltb, le-ltb, ne-eqb}
@@ -38,10 +38,6 @@ use Rattle.machine.proofs.Relation.Whole.{Tied, Calm}
 use Rattle.machine.proofs.Arbitration.Seat.{Holders, holders}
 use Rattle.machine.proofs.Arbitration.Bids.{Winner, winning-is, calm-below, winner-above, winner-best}
 use Rattle.machine.proofs.Arbitration.Choice.{chosen-seated, chosen-none, outside, chosen-above}
-
-and-false : (b : Bool) → b && false ≡ false
-and-false true = refl
-and-false false = refl
 
 -- the model that the machine hands back stands for the bodies after the dispatch to k, who runs; js: the time-triggered tasks started
 pub record ArbitratedTo (c : Config) (p : Plan) (rk : ℕ → ℕ) (o : Outcome) (js : List ℕ) (k : Candidate) (after : List Body) : Type 0 where

@@ -8,7 +8,7 @@
 use Prim.Native.Nat.{ℕ, _≤_, _<_}
 use mathlib.Core.Path.{_≡_, refl, sym, ap, ap₂, _∙_}
 use mathlib.Core.Logic.{_≢_}
-use mathlib.Core.Bool.{Bool, true, false, true≢false, cond, _&&_}
+use mathlib.Core.Bool.{Bool, true, false, true≢false, cond, _&&_, and-false}
 use mathlib.Core.List.{List, [], _∷_}
 use native.Mathlib.Omega.{arith}
 use borrow.Author.Tests.{lt-ltb, le-ltb, eq-eqb, ne-eqb}
@@ -27,13 +27,11 @@ use Rattle.machine.specs.Model.{Model, doneWith}
 use Rattle.machine.specs.Arbiter.{bids, winning, isTriggered, entering, launching, triggering, settled}
 use Rattle.plan.proofs.Fitted.{Fitted}
 use Rattle.machine.proofs.Relation.Words.{at, Words, words-changed}
-use Rattle.machine.proofs.Relation.Slots.{slotsAlong}
 use Rattle.machine.proofs.Relation.Nest.{Alike, alike-same, nest-started, timed-seats, timed-seat, nested-alike, hold-alike, slotsAlong-alike}
 use Rattle.machine.proofs.Relation.Kinds.{isBidding, Kinds, trigger-timed}
-use Rattle.machine.proofs.Relation.Order.{and-false}
 use Rattle.machine.proofs.Relation.Whole.{Tied}
 use Rattle.machine.proofs.Arbitration.Seat.{Holders, holders, level-few}
-use Rattle.machine.proofs.Arbitration.Bids.{trigger-wins, Winner, winning-is, winner-above}
+use Rattle.machine.proofs.Arbitration.Bids.{trigger-wins, winning-is, winner-above}
 use Rattle.machine.proofs.Arbitration.Choice.{level-is}
 use Rattle.machine.proofs.Arbitration.Dispatch.{rank-below}
 

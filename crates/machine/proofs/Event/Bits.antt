@@ -2,11 +2,11 @@
 -- Assumes nothing.
 use Prim.Native.Nat.{ℕ, _<_}
 use mathlib.Core.Path.{_≡_, refl, sym, ap, _∙_}
-use mathlib.Core.Bool.{Bool, true, false, true≢false, cond, not, _&&_}
+use mathlib.Core.Bool.{Bool, true, false, true≢false, cond, not}
 use mathlib.Core.List.{List, [], _∷_}
 use native.Mathlib.Omega.{arith}
-use borrow.Author.Tests.{not-false, not-true, eqb-true, ne-eqb, lt-ltb, le-ltb}
-use lib.Dec.{ltb, eqb}
+use borrow.Author.Tests.{not-false, not-true, ne-eqb, lt-ltb, le-ltb}
+use lib.Dec.{eqb}
 use lib.ListN.{length, getD, set, length-set}
 use lib.Seq.{getD-set-same, getD-set-other, set-getD}
 use Rattle.number.proofs.Cases.{by-lt}
@@ -35,7 +35,7 @@ use Rattle.machine.proofs.Relation.Nest.{Nested}
 use Rattle.machine.proofs.Relation.Losses.{lost-same}
 use Rattle.machine.proofs.Relation.Bits.{Noted, noted-changed}
 use Rattle.machine.proofs.Relation.Whole.{Tied, Sim}
-use Rattle.machine.proofs.Relation.Order.{both, and-false, untriggered}
+use Rattle.machine.proofs.Relation.Order.{of-one-kind, untriggered}
 use Rattle.machine.proofs.Arbitration.Dispatch.{rank-below, calm-arbitrated}
 use Rattle.machine.proofs.Change.Request.{touched-tied, events-tied}
 use Rattle.machine.proofs.Change.End.{pause-tied}
@@ -95,19 +95,6 @@ module _ {c : Config} {p : Plan} {rk : ℕ → ℕ} (fit : Fitted c p rk) {m : M
       mask : (u v : ℕ) → waiting u ≡ waiting v → u ≡ v
       mask u v h = cc
 
-  -- a task, and no ISR
-  extended-task : (b : ℕ) → isExtended c b ≡ true → isIsr c b ≡ false
-  extended-task b e =
-      let k = both (ltb b (c .bodies)) _ e in
-      ap (λ (x : Bool). ltb b (c .bodies) && x) (ne-eqb (getD (c .kind) b 0) isr (λ z. absurd (omega (arith, z, eqb-true (getD (c .kind) b 0) extended (k .1)))))
-      ∙ and-false (ltb b (c .bodies))
-
-  extended-untimed : (b : ℕ) → isExtended c b ≡ true → isTimed c b ≡ false
-  extended-untimed b e =
-      let k = both (ltb b (c .bodies)) _ e in
-      ap (λ (x : Bool). ltb b (c .bodies) && x) (ne-eqb (getD (c .kind) b 0) timeTriggered (λ z. absurd (omega (arith, z, eqb-true (getD (c .kind) b 0) extended (k .1)))))
-      ∙ and-false (ltb b (c .bodies))
-
   wait-accepted : {b : ℕ} {ns : List ℕ} → Runs c rk m s b ns → isIsr c b ≡ false → (w : ℕ) → at bs b .held ≡ [] → (z : Bool)
       → Orderly c (changing b (λ x. cond z x (become (waiting w) x)) s)
       → Accepted c p rk (cond z (doneWith m false) (settled (p .priority) (pausing w m))) (changing b (λ x. cond z x (become (waiting w) x)) s)
@@ -146,7 +133,7 @@ module _ {c : Config} {p : Plan} {rk : ℕ → ℕ} (fit : Fitted c p rk) {m : M
       (λ i n. absurd (true≢false (sym n ∙ first-passed (nobodyCalls c s) callLevel _ (λ e. absurd (omega (arith, e))) z)))
       (λ b ns k.
       let free : at bs b .held ≡ [] = nothing-held (at bs b .held) (sym (ap (λ (i : ℕ). holds (bodyOf s i .held)) (k .calls)) ∙ a .2) in
-      let task : isIsr c b ≡ false = extended-task b (ap (isExtended c) (sym (k .calls)) ∙ a .1) in
+      let task : isIsr c b ≡ false = of-one-kind c b extended isr (λ e. absurd (omega (arith, e))) (ap (isExtended c) (sym (k .calls)) ∙ a .1) in
       rw (k .calls)
       (rw (ap (bitsAt m) (k .rank) ∙ bits-of m (sim .noted) b (k .exists) (runner-active k))
       (wait-accepted k task w free (anySet (at bs b .bits) w) (rw (k .calls) at mid)))))
@@ -185,11 +172,12 @@ module _ {c : Config} {p : Plan} {rk : ℕ → ℕ} (fit : Fitted c p rk) {m : M
       (λ z. let a = set-passed c s t w z in
       let t< = task-exists c t (a .1) in
       let mid = keeps .effect (Set t w) refl z in
+      let untimed : isTimed c t ≡ false = of-one-kind c t extended timeTriggered (λ e. absurd (omega (arith, e))) (a .2) in
       let act : isSuspended (at bs t .phase) ≡ false = not-true (isSuspended (at bs t .phase)) (a .3) in
       rw (rank-is t t<)
       (record {
         status = refl;
-        arb = settled-orderly fit (setEvent t w s) mid (receive-tied fit m t t< (sim .noted) act w (sim .tied) (untriggered (sim .orderly) t (extended-untimed t (a .2))));
+        arb = settled-orderly fit (setEvent t w s) mid (receive-tied fit m t t< (sim .noted) act w (sim .tied) (untriggered (sim .orderly) t untimed));
         latest = latest-of fit mid;
         row = sim .row;
         size = mid .bodies-there;

@@ -3,14 +3,14 @@
 use Prim.Native.Nat.{ℕ, _<_}
 use mathlib.Core.Path.{_≡_, refl, sym, ap, ap₂, subst, _∙_}
 use mathlib.Core.Logic.{_≢_}
-use mathlib.Core.Bool.{Bool, true, false, true≢false, cond, not, _&&_, _||_}
+use mathlib.Core.Bool.{Bool, true, false, true≢false, cond, not, _&&_, _||_, and-false}
 use mathlib.Core.List.{List, [], _∷_, map}
 use native.Mathlib.Omega.{arith}
 use borrow.Author.Tests.{eq-eqb, ne-eqb, ltb-true, not-false}
 use lib.Dec.{ltb, eqb}
 use lib.ListN.{length, getD, set, length-set}
 use lib.Seq.{getD-set-same, getD-set-other}
-use Rattle.number.proofs.Cases.{by-eq}
+use Rattle.number.proofs.Cases.{by-eq, and-true}
 use Rattle.config.specs.declared.Config.{Config}
 use Rattle.config.specs.Meaning.{countsLines, isTask, isOsekTask, isIsr}
 use Rattle.plan.specs.declared.Plan.{Plan}
@@ -20,7 +20,7 @@ use Rattle.word.proofs.Theorems.{has-with-same, has-with-other}
 use Rattle.scheduler.specs.Status.{firstGiven, callLevel, noSuch, limitReached, holdsResource}
 use Rattle.scheduler.specs.Body.{Phase, suspended, ready, started, waiting, triggered, isStarted, isWaiting, hasBegun, competes, Body, holds, activated, ended, finished, rest, requested, loses}
 use Rattle.scheduler.specs.State.{State, noBody, among, bodyOf, changing, runner}
-use Rattle.scheduler.specs.Call.{nobodyRuns, nobodyCalls, caller, calling, active, activateStatus, finishStatus, chainStatus, lineStatus, activate, finish, finishTimed, chain, line}
+use Rattle.scheduler.specs.Call.{nobodyCalls, caller, calling, active, activateStatus, finishStatus, chainStatus, lineStatus, activate, finish, finishTimed, chain, line}
 use Rattle.scheduler.specs.Call as Plain
 use Rattle.scheduler.specs.Tick.{dues}
 use Rattle.scheduler.specs.Scheduler.{Activate, Finish, Chain, Line, stepBy}
@@ -49,19 +49,15 @@ use Rattle.machine.proofs.Change.Hold.{holding-is, holding-timed}
 use Rattle.machine.proofs.Change.Return.{return-tied}
 use Rattle.machine.proofs.Event.Agrees.{kept, first-same, first-passed, Agrees, Accepted, Keeps, Runs, Enters, by-runner, by-caller, caller-same, latest-of, untimed-tied, settled-orderly, agrees-either, agrees-attempt, no-match}
 
-both : (a b : Bool) → a && b ≡ true → (a ≡ true) × (b ≡ true)
-both true b e = (refl, e)
-both false b e = absurd (true≢false (sym e))
-
 module _ (c : Config) where
   pub task-exists : (t : ℕ) → isTask c t ≡ true → t < c .bodies
-  task-exists t e = ltb-true t (c .bodies) (both (ltb t (c .bodies)) _ e .0)
+  task-exists t e = ltb-true t (c .bodies) (and-true (ltb t (c .bodies)) _ e .0)
 
   pub osek-exists : (t : ℕ) → isOsekTask c t ≡ true → t < c .bodies
-  osek-exists t e = task-exists t (both (isTask c t) _ e .0)
+  osek-exists t e = task-exists t (and-true (isTask c t) _ e .0)
 
   isr-exists : (i : ℕ) → isIsr c i ≡ true → i < c .bodies
-  isr-exists i e = ltb-true i (c .bodies) (both (ltb i (c .bodies)) _ e .0)
+  isr-exists i e = ltb-true i (c .bodies) (and-true (ltb i (c .bodies)) _ e .0)
 
 -- a runner that holds nothing
 pub nothing-held : (rs : List ℕ) → holds rs ≡ false → rs ≡ []
@@ -154,10 +150,6 @@ module _ {c : Config} {p : Plan} {rk : ℕ → ℕ} (fit : Fitted c p rk) where
             → Sim c p rk (cond b (withLosses m (oneLost (rk i) (m .losses))) m) (cond b (changing i loses s) s)
         counted true i< o = lost-sim i i< o
         counted false i< o = sim
-
-        and-false : (b : Bool) → b && false ≡ false
-        and-false true = refl
-        and-false false = refl
 
         by-kind : (b : Bool) → isIsr c i ≡ b → Sim c p rk (Machine.lineRefusal (countsLines c) (p .line) m i (lineStatus c s i)) (Plain.refusalOf c s (lineStatus c s i) (Line i))
         by-kind true e =

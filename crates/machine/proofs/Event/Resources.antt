@@ -7,7 +7,7 @@ use mathlib.Core.List.{List, [], _∷_, _++_}
 use native.Mathlib.Omega.{arith}
 use borrow.Author.Tests.{eqb-true, leb-false}
 use lib.Dec.{leb, eqb}
-use lib.ListN.{length, getD, length-set}
+use lib.ListN.{length, getD}
 use Rattle.config.specs.declared.Config.{Config}
 use Rattle.config.specs.Meaning.{isUser}
 use Rattle.plan.specs.declared.Plan.{Plan}

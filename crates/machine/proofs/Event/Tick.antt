@@ -10,7 +10,7 @@ use native.Mathlib.Omega.{arith}
 use lib.ListN.{length, getD, set, drop, length-map}
 use lib.Seq.{drop-cons}
 use Rattle.config.specs.declared.Config.{Config}
-use Rattle.config.specs.Meaning.{isr, executionLevel, isTask, isIsr, isTimed}
+use Rattle.config.specs.Meaning.{isr, timeTriggered, executionLevel, isTask, isIsr, isTimed}
 use Rattle.plan.specs.declared.Plan.{Plan}
 use Rattle.word.specs.Word.{winner}
 use Rattle.stack.specs.Stack.{pushRow, rowBytes}
@@ -35,7 +35,7 @@ use Rattle.machine.proofs.Relation.Words.{at, isAside, busy-is}
 use Rattle.machine.proofs.Relation.Losses.{Lost, lost-same, lost-one}
 use Rattle.machine.proofs.Relation.Bits.{Noted, noted-touched}
 use Rattle.machine.proofs.Relation.Kinds.{isBidding}
-use Rattle.machine.proofs.Relation.Order.{timed-other, kinds-of}
+use Rattle.machine.proofs.Relation.Order.{of-one-kind, kinds-of}
 use Rattle.machine.proofs.Relation.Whole.{Tied, Sim}
 use Rattle.machine.proofs.Arbitration.Seat.{holders}
 use Rattle.machine.proofs.Arbitration.Dispatch.{Arbitrated, rank-below, runnerOf-is}
@@ -214,7 +214,7 @@ module _ {c : Config} {p : Plan} {rk : ℕ → ℕ} (fit : Fitted c p rk) {m : M
       row
     where
       task : isIsr c j ≡ false
-      task = timed-other c j (y .timed) isr (λ e. absurd (omega (arith, e)))
+      task = of-one-kind c j timeTriggered isr (λ e. absurd (omega (arith, e))) (y .timed)
 
       -- no other that bids for the processor is time-triggered
       others : (i : ℕ) → i < c .bodies → i ≢ j → isBidding (at (then .bodies) i .phase) ≡ true → isTimed c i ≡ false

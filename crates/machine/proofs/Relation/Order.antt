@@ -1,6 +1,7 @@
 -- What a state in order (crate scheduler, `Orderly`) says of its bodies, in the words of the relation.
 --
---   timed-exists, timed-task   a time-triggered task is a body, and no ISR
+--   of-one-kind                a body of one kind is of no other
+--   timed-exists               a time-triggered task is a body
 --   untriggered                no other body is triggered
 --   kinds-of                   who bids for the processor by priority is no time-triggered task
 --
@@ -8,38 +9,31 @@
 use Prim.Native.Nat.{ℕ, _<_}
 use mathlib.Core.Path.{_≡_, refl, sym, ap, _∙_}
 use mathlib.Core.Logic.{_≢_}
-use mathlib.Core.Bool.{Bool, true, false, true≢false, _&&_}
+use mathlib.Core.Bool.{Bool, true, false, true≢false, _&&_, and-false}
 use mathlib.Core.List.{List, [], _∷_}
 use borrow.Author.Tests.{ltb-true, eqb-true, ne-eqb}
 use lib.Dec.{ltb, eqb}
-use lib.ListN.{length, getD}
+use lib.ListN.{getD}
+use Rattle.number.proofs.Cases.{and-true}
 use Rattle.config.specs.declared.Config.{Config}
-use Rattle.config.specs.Meaning.{isr, timeTriggered, isTimed, isIsr}
-use Rattle.scheduler.specs.Body.{Phase, suspended, ready, started, waiting, triggered, isSuspended, hasBegun, competes}
+use Rattle.config.specs.Meaning.{isTimed}
+use Rattle.scheduler.specs.Body.{Phase, suspended, ready, started, waiting, triggered, hasBegun, competes}
 use Rattle.scheduler.specs.State.{State, among}
 use Rattle.scheduler.proofs.Order.{Orderly}
 use Rattle.machine.proofs.Relation.Words.{at}
 use Rattle.machine.proofs.Relation.Nest.{among-head}
 use Rattle.machine.proofs.Relation.Kinds.{isBidding, Kinds}
 
-pub both : (a b : Bool) → a && b ≡ true → (a ≡ true) × (b ≡ true)
-both true b e = (refl, e)
-both false b e = absurd (true≢false (sym e))
+-- a body of one kind is of no other
+pub of-one-kind : (c : Config) (b k k′ : ℕ) → k ≢ k′ → ltb b (c .bodies) && eqb (getD (c .kind) b 0) k ≡ true
+    → ltb b (c .bodies) && eqb (getD (c .kind) b 0) k′ ≡ false
+of-one-kind c b k k′ n h =
+    ap (λ (x : Bool). ltb b (c .bodies) && x)
+    (ne-eqb (getD (c .kind) b 0) k′ (λ e. n (sym (eqb-true (getD (c .kind) b 0) k (and-true (ltb b (c .bodies)) _ h .1)) ∙ e)))
+    ∙ and-false (ltb b (c .bodies))
 
-pub and-false : (a : Bool) → a && false ≡ false
-and-false true = refl
-and-false false = refl
-
-module _ (c : Config) (j : ℕ) (timed : isTimed c j ≡ true) where
-  pub timed-exists : j < c .bodies
-  timed-exists = ltb-true j (c .bodies) (both (ltb j (c .bodies)) _ timed .0)
-
-  -- its kind is not that of another
-  pub timed-other : (kind : ℕ) → timeTriggered ≢ kind → ltb j (c .bodies) && eqb (getD (c .kind) j 0) kind ≡ false
-  timed-other kind n =
-      ap (λ (x : Bool). ltb j (c .bodies) && x)
-      (ne-eqb (getD (c .kind) j 0) kind (λ e. n (sym (eqb-true (getD (c .kind) j 0) timeTriggered (both (ltb j (c .bodies)) _ timed .1)) ∙ e)))
-      ∙ and-false (ltb j (c .bodies))
+pub timed-exists : (c : Config) (j : ℕ) → isTimed c j ≡ true → j < c .bodies
+timed-exists c j timed = ltb-true j (c .bodies) (and-true (ltb j (c .bodies)) _ timed .0)
 
 module _ {c : Config} {s : State} (o : Orderly c s) where
   -- the latest time-triggered task that is started
