@@ -19,7 +19,7 @@ use Rattle.config.specs.declared.Config.{Config}
 use Rattle.config.specs.declared.ConfigRead.{ConfigRead}
 use Rattle.config.specs.Refusal.{badCount, tooLong, sharedOffset, mixedTable}
 use Rattle.config.specs.Value.{maxBodies, maxResources, noConfig, withResources}
-use Rattle.config.specs.Meaning.{isr, lastKind, isTimed, isUser, priorityOf, ceiling, firstOf, timedEntry, smallestOffset}
+use Rattle.config.specs.Meaning.{isr, lastKind, isTimed, isUser, priorityOf, ceiling, firstOf, timedEntry, smallestOffset, executionLevel, triggerLevel}
 use Rattle.config.specs.Draft.{start}
 use Rattle.config.specs.Reader.{accepted, readFrom, readConfig}
 use Rattle.config.specs.Writer.{maxNumbers, faultFrom, firstFault, bytesFrom, configBytes, writeConfig, wroteConfig}
@@ -132,6 +132,10 @@ timed-no-user c a r b k =
 
 pub timed-no-autostart : (c : Config) → Accepted c → (b : ℕ) → isTimed c b ≡ true → getD (c .autostart) b 0 ≡ 0
 timed-no-autostart c a b k = let p = Mask.isTimed-true c b k in a .autostart-osek b (p .0) (p .1)
+
+-- "runs at one common execution level 201; the trigger level is 202"
+pub timed-levels : (executionLevel ≡ 201) × (triggerLevel ≡ 202)
+timed-levels = (refl, refl)
 
 -- "its ceiling is the greatest priority among" its users: none is above it, and one has it
 pub user-ceiling : (c : Config) → Accepted c → Shaped c → (r b : ℕ) → b < c .bodies → isUser c r b ≡ true → priorityOf c b ≤ ceiling c r
