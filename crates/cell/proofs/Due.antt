@@ -1,5 +1,4 @@
 -- The table's arithmetic: how `due` moves from one tick to the next, and how far it is to the next due tick (`due-from`).
--- Assumes nothing.
 use Prim.Native.Nat.{ℕ, suc, _+_, _*_, _-_, _/_, _%_, _≤_, _<_}
 use mathlib.Core.Bool.{true, false, true≢false}
 use mathlib.Core.Logic.{⊎-elim}

@@ -1,7 +1,7 @@
 -- When a cell matches: `matches-when-due`, at the end of the file.
 --
 -- In order: how many additions of 1 lead a cell's counter to its compare value (`Counting`); what a start and a tick do to that; the ticks at
--- which the cell matches. Of the counter it uses `Reach` alone. Assumes nothing.
+-- which the cell matches. Of the counter it uses `Reach` alone.
 use Prim.Native.Nat.{ℕ, zero, suc, _+_, _-_, _%_, _≤_, _<_}
 use mathlib.Core.Bool.{Bool, true, false, cond}
 use mathlib.Core.Logic.{⊎-elim}

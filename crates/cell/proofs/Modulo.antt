@@ -1,4 +1,4 @@
--- Differences modulo any M: what the start counter of a cell comes to. Assumes nothing.
+-- Differences modulo any M: what the start counter of a cell comes to.
 use Prim.Native.Nat.{ℕ, _+_, _-_, _%_, _≤_, _<_}
 use mathlib.Core.Logic.{⊎-elim, _≢_}
 use mathlib.Core.Path.{_≡_, sym, ap, _∙_}

@@ -1,6 +1,6 @@
 -- What keeps a cell on time: it starts so, a tick keeps it so, and the ticks left to its next match fall one by one.
 --
--- Nothing here knows how a cell counts but `on-time-start`, which rests on `Match`. Assumes nothing.
+-- Nothing here knows how a cell counts but `on-time-start`, which rests on `Match`.
 use Prim.Native.Nat.{ℕ, suc, _+_, _*_, _-_, _≤_, _<_}
 use mathlib.Core.Bool.{Bool, true, false}
 use mathlib.Core.Path.{_≡_, refl, sym, ap, _∙_}

@@ -1,4 +1,4 @@
--- By cases on the order of two numbers. Assumes nothing.
+-- By cases on the order of two numbers.
 use Prim.Native.Nat.{ℕ, zero, suc, _≤_, _<_, zero-le, suc-le-suc}
 use mathlib.Core.Logic.{_⊎_, inl, inr, ⊎-elim}
 

@@ -1,6 +1,5 @@
 -- How far a loop is that goes through a list and puts f x in the place of each x: the elements behind it are done, those ahead are as they
 -- were. It starts with none behind, each turn takes one element from ahead to behind, and with none ahead the list behind is `map f` of the whole.
--- Assumes nothing.
 use Prim.Native.Nat.{_+_, _<_}
 use mathlib.Core.List.{List, [], _∷_, _++_, map, append-assoc, append-nil}
 use mathlib.Core.Path.{_≡_, refl, sym, ap, _∙_}

@@ -1,6 +1,6 @@
 -- How many additions of 1 bring a counter of any modulus M to the compare value k: from the start counter for D it is the D-th, and none
 -- before it, for D from 1 to M (`reaches-start`). So the counter that a match leaves is a period before the next, and one that stands at
--- the compare value a turn. Assumes nothing.
+-- the compare value a turn.
 use Prim.Native.Nat.{ℕ, zero, suc, _+_, _-_, _%_, _≤_, _<_}
 use mathlib.Core.Logic.{_≢_}
 use mathlib.Core.Path.{_≡_, sym, ap, _∙_}

@@ -1,4 +1,4 @@
--- Each cell of a row is ticked for itself: n ticks of the row are n ticks of every cell, in its place. Assumes nothing.
+-- Each cell of a row is ticked for itself: n ticks of the row are n ticks of every cell, in its place.
 use Prim.Native.Nat.{ℕ, zero, suc, _<_}
 use mathlib.Core.List.{List, [], _∷_, map, map-map, map-id}
 use mathlib.Core.Path.{_≡_, refl, sym, ap, _∙_}

@@ -2,7 +2,6 @@
 --
 -- In order: the start counter, by additions alone; one tick, field by field; a cell that is off, a stopped cell; the main law, `matches-when-due`; and what
 -- a caller needs who keeps for a cell the ticks since its start (`OnTime`) or the ticks left to its next match (`Left`); a row of cells.
--- Assumes nothing.
 use Prim.Native.Nat.{ℕ, suc, _+_, _-_, _%_, _≤_, _<_}
 use mathlib.Core.Bool.{Bool, true, false, cond, not, _&&_}
 use mathlib.Core.List.{List}

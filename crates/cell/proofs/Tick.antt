@@ -1,5 +1,4 @@
 -- What one tick makes of a cell, for a counter of any modulus M: its four cases, the steps of the code, and a cell that is off.
--- Assumes nothing.
 use Prim.Native.Nat.{ℕ, zero, suc}
 use mathlib.Core.Bool.{Bool, true, false, cond, not, _&&_, and-true}
 use mathlib.Core.Path.{_≡_, refl, ap, _∙_}

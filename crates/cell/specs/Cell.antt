@@ -8,7 +8,7 @@
 --   stopped c          c after its table was stopped
 --
 -- Each rule is written for a counter of M values (its name ends in `In`) and then taken at 16 bits, so that a fact about the counter is
--- proved once over its width. When the cell's entry is due is in `Due`. Assumes nothing.
+-- proved once over its width. When the cell's entry is due is in `Due`.
 use Prim.Native.Nat.{ℕ, zero, suc, _+_, _-_, _%_}
 use mathlib.Core.Bool.{Bool, true, false, cond, not, _&&_}
 use lib.Dec.{eqb, ltb}

@@ -6,7 +6,7 @@
 --   Left c P u         c is on, its next match is u ticks ahead, and every later one P ticks after the one before
 --   Periodic c P D     c matches D ticks ahead, then every P ticks, and at no other tick
 --
--- Main law: `matches-when-due` (proofs/Theorems.antt). Assumes nothing.
+-- Main law: `matches-when-due` (proofs/Theorems.antt).
 use Prim.Native.Nat.{ℕ, suc, _+_, _*_, _-_, _%_}
 use mathlib.Core.Bool.{Bool, true, cond, _&&_}
 use mathlib.Core.Path.{_≡_}

@@ -2,7 +2,7 @@
 --
 --   tickedRow cs      every cell of the row after a tick, in its place; rowTicks n cs: after n
 --
--- Main law: `row-matches-when-due` (proofs/Theorems.antt). Assumes nothing.
+-- Main law: `row-matches-when-due` (proofs/Theorems.antt).
 use Prim.Native.Nat.{ℕ, zero, suc}
 use mathlib.Core.List.{List, map}
 use Rattle.cell.specs.declared.Cell.{Cell}

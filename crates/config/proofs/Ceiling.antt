@@ -1,6 +1,6 @@
 -- "its ceiling is the greatest priority among them": no user's is above it, and one user's is it.
 --
--- In order: the elements of a list that a mask chooses, bit by bit; a resource's users. Assumes nothing.
+-- In order: the elements of a list that a mask chooses, bit by bit; a resource's users.
 use Prim.Native.Nat.{ℕ, zero, suc, _/_, _%_, _^_, _≤_, _<_}
 use mathlib.Core.Path.{_≡_, refl, sym, _∙_}
 use mathlib.Core.Bool.{Bool, true, false, true≢false, _&&_}

@@ -1,6 +1,5 @@
 -- A count that is too great is the writer's first fault: of the bodies, whatever else the value has, and of the resources where the numbers before it
 -- are in order.
--- Assumes nothing.
 use Prim.Native.Nat.{ℕ, zero, suc, _+_, _≤_, _<_}
 use mathlib.Core.Path.{_≡_, refl, sym, _∙_}
 use mathlib.Core.Bool.{false}

@@ -5,7 +5,6 @@
 --   Extends c f d    the draft d, at the field f, is c cut off there
 --
 -- A number of c put keeps it so (`extends-put`), and whatever is put later leaves the part before it alone (`asks-last`).
--- Assumes nothing.
 use Prim.Native.Nat.{ℕ, zero, suc, _+_, _≤_}
 use mathlib.Core.Path.{_≡_, refl, sym, ap, _∙_}
 use mathlib.Core.Bool.{false, true≢false}

@@ -1,6 +1,5 @@
 -- Lists as far as they are filled: the first n elements, and zeros after them (`padded`, specs/Accepted.antt).
 -- Last, a number that is not among the first n elements.
--- Assumes nothing.
 use Prim.Native.Nat.{ℕ, zero, suc, _+_, _-_, _≤_, _<_}
 use mathlib.Core.Path.{_≡_, refl, sym, _∙_}
 use mathlib.Core.Bool.{Bool, true, false, _||_, true≢false}

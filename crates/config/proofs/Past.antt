@@ -1,5 +1,4 @@
 -- The writer passes over what stands past the counts: it treats a value as it treats `trimmed` of it.
--- Assumes nothing.
 use Prim.Native.Nat.{ℕ, zero, suc}
 use mathlib.Core.Path.{_≡_, refl, sym, ap, _∙_}
 use mathlib.Core.List.{List, [], _∷_}

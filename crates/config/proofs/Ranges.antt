@@ -1,5 +1,4 @@
 -- What it says of a number that it is in order where a draft is: the tests of `fault` (specs/Draft.antt) as facts, both ways.
--- Assumes nothing.
 use Prim.Native.Nat.{ℕ, _+_, _-_, _^_, _≤_, _<_}
 use mathlib.Core.Path.{_≡_, refl, ap}
 use mathlib.Core.Bool.{Bool, true, false, not, _&&_, _||_}

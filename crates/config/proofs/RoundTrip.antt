@@ -1,5 +1,4 @@
 -- Both round trips: the walks of reader and writer put together. Last, that what is written is bytes.
--- Assumes nothing.
 use Prim.Native.Nat.{ℕ, _+_, _-_, _≤_, _<_}
 use mathlib.Core.Path.{_≡_, refl, sym, ap, _∙_}
 use mathlib.Core.List.{List, [], _∷_, _++_}

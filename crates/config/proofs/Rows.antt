@@ -4,7 +4,6 @@
 --   Fits f c i e  the field f of row i and entry e is in range
 --
 -- For a draft of c's own numbers, `Fits` is what `fault` tests (`fits`, `fits-back`), and what `Accepted` says (`accepted-fits`).
--- Assumes nothing.
 use Prim.Native.Nat.{ℕ, suc, _+_, _-_, _^_, _≤_, _<_}
 use mathlib.Core.Path.{_≡_, refl, sym, ap, _∙_}
 use mathlib.Core.Bool.{Bool, true, false, cond, not, _&&_, _||_, true≢false}

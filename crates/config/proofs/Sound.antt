@@ -2,7 +2,7 @@
 --
 --   SoFar f c i e   every field of c before the field f of row i and entry e is in range
 --
--- A number in order takes it on by one field (`so-far-put`); at the end it is `Accepted`. Assumes nothing.
+-- A number in order takes it on by one field (`so-far-put`); at the end it is `Accepted`.
 use Prim.Native.Nat.{ℕ, zero, suc, _+_, _-_, _≤_, _<_}
 use mathlib.Core.Path.{_≡_, refl, sym, ap, subst, _∙_}
 use mathlib.Core.Bool.{true, false, true≢false}

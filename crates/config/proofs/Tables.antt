@@ -1,6 +1,5 @@
 -- The entries of all tables stand one after the other: where each table's begin, and that an entry is of one table.
 -- Last, the tests of an entry as facts: what `rises` says of two entries, and `isTask` of a task.
--- Assumes nothing.
 use Prim.Native.Nat.{ℕ, zero, suc, _+_, _≤_, _<_}
 use mathlib.Core.Path.{_≡_, refl, sym}
 use mathlib.Core.Bool.{true, not, true≢false}

@@ -3,7 +3,6 @@
 -- In order: what every reading satisfies, and every accepted value; its entries, tables and bodies of kind 3; a
 -- resource's ceiling and its users; both round trips; which values the writer accepts; counts that are too great; what
 -- stands past the counts; that the fuel of the definitions is enough.
--- Assumes nothing.
 use Prim.Native.Nat.{ℕ, zero, suc, _+_, _-_, _≤_, _<_}
 use mathlib.Core.Path.{_≡_, refl, sym, _∙_}
 use mathlib.Core.Bool.{true, false}

@@ -5,7 +5,7 @@
 --   Asks c d vs    vs are the numbers of c from d on
 --
 -- In order: the reader's definition by cases (`readFrom-elim`); what an accepted reading has read (`Reads`); the reader on the bytes of a list;
--- the list of a writer without a fault (`Walks`); the writer on a list. Assumes nothing.
+-- the list of a writer without a fault (`Walks`); the writer on a list.
 use Prim.Native.Nat.{ℕ, zero, suc, _+_, _*_, _≤_}
 use mathlib.Core.Path.{_≡_, refl, sym, ap, _∙_}
 use mathlib.Core.Bool.{true, false}

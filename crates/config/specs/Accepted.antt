@@ -1,5 +1,4 @@
 -- What every accepted configuration satisfies, and what a value is as far as its counts reach.
--- Assumes nothing.
 use Prim.Native.Nat.{ℕ, suc, _+_, _-_, _^_, _≤_, _<_}
 use mathlib.Core.Path.{_≡_}
 use mathlib.Core.List.{List, _++_}

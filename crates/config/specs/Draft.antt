@@ -5,7 +5,6 @@
 --   asked c d   the number of the value c that stands where d is
 --
 -- The reader puts the numbers that it reads, the writer those of the value that it writes, so both refuse alike.
--- Assumes nothing.
 use Prim.Native.Nat.{ℕ, _+_, _-_, _/_, _%_, _^_, _≤_, _<_}
 use mathlib.Core.Bool.{Bool, true, false, cond, not, _&&_, _||_}
 use mathlib.Core.List.{List, [], _∷_}

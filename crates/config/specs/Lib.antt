@@ -3,7 +3,6 @@
 --
 -- Letters: c a configuration; d a draft, or a writer's output; f a field; v a number; bs bytes; at, p places; b a body, r a resource or a refusal, t a
 -- table, e an entry, each by its number; k how many numbers are looked at at most.
--- Assumes nothing.
 pub mod Refusal
 pub mod Value
 pub mod Meaning

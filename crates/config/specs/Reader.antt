@@ -1,8 +1,6 @@
 -- The configuration reader: number after number, until none is left to read.
 --
 --   readConfig bs   the configuration that bs is, or the one refusal with its place
---
--- Assumes nothing.
 use Prim.Native.Nat.{ℕ, zero, suc}
 use mathlib.Core.Bool.{cond}
 use mathlib.Core.List.{List}

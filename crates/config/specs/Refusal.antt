@@ -1,5 +1,4 @@
 -- The refusals of a configuration's numbers. Those of `number`, 1, 2 and 30, are given too.
--- Assumes nothing.
 use Prim.Native.Nat.{ℕ}
 
 -- "for versions other than 1 and 2"

@@ -1,5 +1,4 @@
 -- The configuration value, with one field changed at a time, and the value of a refused reading.
--- Assumes nothing.
 use Prim.Native.Nat.{ℕ}
 use lib.ListN.{set, replicate}
 use Rattle.config.specs.declared.Config.{Config}

@@ -3,8 +3,6 @@
 --   firstFault c    the refusal of the first number of c that is not in order, 0 where there is none
 --   configBytes c   the bytes of c, as far as its counts reach
 --   writeConfig c n, wroteConfig c d   what the writer answers, and what it leaves in its output
---
--- Assumes nothing.
 use Prim.Native.Nat.{ℕ, zero, suc}
 use mathlib.Core.Bool.{cond}
 use mathlib.Core.List.{List, [], _++_}

@@ -1,5 +1,4 @@
 -- The writer's three answers, from what its first pass measured: refused, too little room, written.
--- Assumes nothing.
 use Prim.Native.Nat.{ℕ, _≤_, _<_}
 use mathlib.Core.Path.{_≡_, refl, sym, ap, _∙_}
 use mathlib.Core.List.{List}

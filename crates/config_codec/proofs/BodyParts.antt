@@ -1,5 +1,4 @@
 -- The three numbers of a body, one after the other, as steps of the reader's walk.
--- Assumes nothing.
 use Prim.Native.Nat.{ℕ, _+_, _≤_, _<_}
 use mathlib.Core.Path.{_≡_, refl, subst}
 use mathlib.Core.Bool.{Bool, true, false, cond, not}

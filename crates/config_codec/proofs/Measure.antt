@@ -1,5 +1,4 @@
 -- The writer's first pass: the lengths of the numbers so far, while none is refused (`MeasuresOn`), and its answer.
--- Assumes nothing.
 use Prim.Native.Nat.{ℕ, _+_, _*_, _≤_, _<_}
 use mathlib.Core.Path.{_≡_, refl, sym, ap, _∙_}
 use mathlib.Core.Bool.{true, false}

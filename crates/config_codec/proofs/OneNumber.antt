@@ -1,5 +1,4 @@
 -- One number of the input, read and tested (`checked`), as the step of the reader's walk that every part takes.
--- Assumes nothing.
 use Prim.Native.Nat.{ℕ, _≤_, _<_}
 use mathlib.Core.Path.{_≡_, refl, sym, ap, subst, _∙_}
 use mathlib.Core.Bool.{false}

@@ -1,5 +1,4 @@
 -- The counts that stand between the parts, and the end, as steps of the reader's walk.
--- Assumes nothing.
 use Prim.Native.Nat.{ℕ, _≤_}
 use mathlib.Core.Path.{_≡_, refl, sym, subst, _∙_}
 use mathlib.Core.Bool.{Bool, true, cond}

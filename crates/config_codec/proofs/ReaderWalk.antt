@@ -1,5 +1,4 @@
 -- The reader's walk over the numbers, which keeps `ReadsOn`: what a number that is in order, one that is not and the last one make of it.
--- Assumes nothing.
 use Prim.Native.Nat.{ℕ, zero, suc, _+_, _≤_, _<_}
 use mathlib.Core.Path.{_≡_, refl, sym, ap, _∙_}
 use mathlib.Core.Bool.{true, false}

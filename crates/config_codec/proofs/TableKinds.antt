@@ -1,5 +1,4 @@
 -- The refusals of an entry by its table's kind, case by case, and that they look at the kinds of the bodies alone.
--- Assumes nothing.
 use Prim.Native.Nat.{ℕ, _-_}
 use mathlib.Core.Path.{_≡_, refl}
 use mathlib.Core.Bool.{Bool, true, false, _||_}

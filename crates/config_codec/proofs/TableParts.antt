@@ -1,5 +1,4 @@
 -- The numbers of a table and of its entries, one after the other, as steps of the reader's walk.
--- Assumes nothing.
 use Prim.Native.Nat.{ℕ, _+_, _≤_, _<_}
 use mathlib.Core.Path.{_≡_, refl, sym, ap, subst, _∙_}
 use mathlib.Core.Bool.{Bool, true, false, cond}

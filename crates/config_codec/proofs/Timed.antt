@@ -1,5 +1,4 @@
 -- The searches for kind 3, step by step: among the bodies of a mask, and among tasks.
--- Assumes nothing.
 use Prim.Native.Nat.{ℕ, _+_, _/_, _%_, _≤_, _<_}
 use mathlib.Core.Path.{_≡_}
 use mathlib.Core.Bool.{Bool, true, false, _&&_}

@@ -1,6 +1,5 @@
 -- What the code has to know of a number that is in order: it is no greater than its place holds (`Small`), and the draft's position lies inside
 -- the arrays.
--- Assumes nothing.
 use Prim.Native.Nat.{ℕ, _+_, _-_, _^_, _≤_, _<_}
 use mathlib.Core.Path.{_≡_, refl, sym, subst, _∙_}
 use mathlib.Core.Bool.{Bool, true, false, cond, _&&_}

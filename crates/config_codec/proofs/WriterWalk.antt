@@ -1,5 +1,4 @@
 -- The writer's walk over a value's numbers (`Walks`), which both of its passes make: the first adds their lengths up, the second writes them.
--- Assumes nothing.
 use Prim.Native.Nat.{ℕ, zero, suc, _+_, _*_, _-_, _≤_, _<_}
 use mathlib.Core.Path.{_≡_, refl, sym, ap, _∙_}
 use mathlib.Core.Bool.{true, false}

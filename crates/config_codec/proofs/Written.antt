@@ -1,5 +1,4 @@
 -- The writer's second pass: the bytes of the numbers so far lie over the output (`WritesOn`), and at the end all of them.
--- Assumes nothing.
 use Prim.Native.Nat.{ℕ, _+_, _*_, _-_, _≤_, _<_}
 use mathlib.Core.Path.{_≡_, refl, sym, ap, subst, _∙_}
 use mathlib.Core.Bool.{true, false}

@@ -1,5 +1,4 @@
 -- The draft that the reader's variables make in each part: the fields that the part does not know are those of c.
--- Assumes nothing.
 use Prim.Native.Nat.{ℕ, _+_}
 use mathlib.Core.Bool.{cond}
 use mathlib.Core.List.{List, []}

@@ -1,4 +1,4 @@
--- What the contracts of the private functions cite beside the definitions of `config`. Assumes nothing.
+-- What the contracts of the private functions cite beside the definitions of `config`.
 pub mod Reading
 pub mod Drafts
 pub mod TableKind

@@ -1,5 +1,5 @@
 -- What the reading of a part comes to: from its entry at the place `at` to the refusal r or the place p, with the
--- arrays at exit. Assumes nothing.
+-- arrays at exit.
 use Prim.Native.Nat.{ℕ, _+_}
 use mathlib.Core.Path.{_≡_}
 use mathlib.Core.List.{List}

@@ -3,8 +3,6 @@
 --   ReadsOn bs at d     what is read from the place `at` on with the draft d is the whole answer
 --   Goes bs r p d       a part comes to the place p with the draft d, or to the refusal r at p, the whole answer
 --   checked bs at f     the number at `at`, refused where f refuses its value
---
--- Assumes nothing.
 use Prim.Native.Nat.{ℕ, _+_, _≤_}
 use mathlib.Core.Path.{_≡_}
 use mathlib.Core.Bool.{cond}

@@ -1,5 +1,4 @@
 -- Document 01's listing trace, computed: its bytes are read as the seventeen events of the listing.
--- Assumes nothing.
 use Prim.Native.Nat.{ℕ}
 use mathlib.Core.Path.{_≡_, refl}
 use mathlib.Core.List.{List, [], _∷_}

@@ -1,6 +1,5 @@
 -- Document 01's events with their arguments, and its refusals of an event with their places, row by row and with the numbers written out: the
 -- reader's, then the writer's. Each is computed from the definitions that the contracts cite.
--- Assumes nothing.
 use Prim.Native.Nat.{ℕ}
 use mathlib.Core.Path.{_≡_, refl}
 use mathlib.Core.List.{List, [], _∷_, map}

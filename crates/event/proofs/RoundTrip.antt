@@ -1,7 +1,6 @@
 -- Both round trips of one event: what is read was written so (`read-elim`), and what is written reads back (`read-at`).
 --
 -- In order: bytes that stand at a place; every way that a reading can end; the bytes of a writable event, read.
--- Assumes nothing.
 use Prim.Native.Nat.{ℕ, zero, suc, _+_, _≤_, _<_}
 use mathlib.Core.Path.{_≡_, refl, sym, ap, _∙_}
 use mathlib.Core.Bool.{true}

@@ -1,5 +1,4 @@
 -- How long an event's bytes are, and that they are bytes.
--- Assumes nothing.
 use Prim.Native.Nat.{ℕ, zero, suc, _≤_}
 use native.Mathlib.Omega.{arith}
 use lib.ListN.{length, length-append}

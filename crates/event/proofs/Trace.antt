@@ -1,7 +1,6 @@
 -- The trace as a list of events, tied to the reader of one event, and its round trips.
 --
 -- In order: a reading with fuel; more fuel than bytes changes nothing; the same without fuel; what holds of every trace (`rest-elim`); both round trips.
--- Assumes nothing.
 use Prim.Native.Nat.{ℕ, zero, suc, _+_, _-_, _≤_, _<_}
 use mathlib.Core.Path.{_≡_, refl, sym, ap, _∙_}
 use mathlib.Core.List.{List, [], _∷_, _++_}

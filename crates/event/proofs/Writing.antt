@@ -1,5 +1,4 @@
 -- The writer's definition: what is refused, and the bytes of an event by how many arguments it has.
--- Assumes nothing.
 use Prim.Native.Nat.{ℕ, _≤_, _<_}
 use mathlib.Core.Path.{_≡_, sym, _∙_}
 use mathlib.Core.Bool.{true, false, false≢true, or-true, and-false}

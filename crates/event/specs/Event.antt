@@ -5,7 +5,7 @@
 --   eventBytes e        the bytes of e
 --   writeEvent e n      what the writer of e answers that is lent n bytes; eventWritten e d: what d holds afterwards
 --
--- Main laws: `read-written` and `written-read` (proofs/Theorems.antt). Assumes nothing.
+-- Main laws: `read-written` and `written-read` (proofs/Theorems.antt).
 use Prim.Native.Nat.{ℕ, zero, suc, _≤_, _<_}
 use mathlib.Core.Path.{_≡_}
 use mathlib.Core.Bool.{Bool, cond, _&&_, _||_}

@@ -1,5 +1,4 @@
 -- Refusals that the readers and the writer of events give besides none (0) and noRoom (30), which `number` names.
--- Assumes nothing.
 use Prim.Native.Nat.{ℕ, _+_}
 use Rattle.number.specs.Refusal.{cut}
 

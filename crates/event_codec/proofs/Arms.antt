@@ -1,5 +1,4 @@
 -- Which codes are known, as the arms of a `match` on a code and the count of its arguments show it.
--- Assumes nothing.
 use Prim.Native.Nat.{ℕ, zero, suc, _≤_, _<_}
 use mathlib.Core.Path.{_≡_, refl, sym}
 use mathlib.Core.Bool.{Bool, true, false, cond}

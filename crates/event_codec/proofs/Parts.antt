@@ -1,5 +1,4 @@
 -- What is written to a slice in two parts, the second by a callee that is lent the slice after the first.
--- Assumes nothing.
 use Prim.Native.Nat.{ℕ, suc, _+_, _-_, _≤_}
 use mathlib.Core.Path.{_≡_, refl, sym, ap, _∙_}
 use mathlib.Core.List.{List, _∷_, _++_}

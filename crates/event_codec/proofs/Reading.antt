@@ -1,5 +1,4 @@
 -- The reader's definition where the code reads it by the count of a code's arguments, and where the numbers have one byte each.
--- Assumes nothing.
 use Prim.Native.Nat.{ℕ, _+_, _≤_, _<_}
 use mathlib.Core.Path.{_≡_, refl, sym, _∙_}
 use mathlib.Core.List.{List}

@@ -3,7 +3,7 @@
 --   dueWith w ls            the requests w and the losses ls
 --   marksWord bs            the match marks bs as one number, a byte each, the first the lowest; a `group` of them is looked at in one go
 --
--- and what its methods count on of the tables that they are lent, as the plan has them: Laid. Assumes nothing.
+-- and what its methods count on of the tables that they are lent, as the plan has them: Laid.
 use Prim.Native.Nat.{ℕ, _+_, _*_, _≤_, _<_}
 use mathlib.Core.Bool.{Bool, cond}
 use mathlib.Core.List.{List, [], _∷_}

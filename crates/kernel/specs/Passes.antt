@@ -2,8 +2,6 @@
 --
 --   counted r      what is left of a trace that was read, once its events are counted
 --   Playable, Runnable   what playing a trace counts on, and answering it
---
--- Assumes nothing.
 use Prim.Native.Nat.{ℕ, _+_, _*_, _≤_}
 use mathlib.Core.Path.{_≡_}
 use mathlib.Core.List.{List}

@@ -1,5 +1,5 @@
 -- The code's model is the machine's, field by field, and so is an outcome: `view` looks at a struct of the code as the machine's record,
--- the others go back. A contract speaks of the machine's definitions through them. Assumes nothing.
+-- the others go back. A contract speaks of the machine's definitions through them.
 use Prim.Native.Nat.{ℕ}
 use Rattle.kernel.specs.declared.model.Picked.{Picked}
 use Rattle.kernel.specs.declared.model.Model.{Model}

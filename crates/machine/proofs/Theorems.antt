@@ -2,7 +2,6 @@
 --
 -- In order: demand 3, `agreement` and `demand-3`; who holds a resource, and what a declared user is refused; what Start and Stop make of the
 -- cells; that a refused event leaves the model as it was, but for the count of a lost line.
--- Assumes nothing.
 use Prim.Native.Nat.{ℕ, suc, _+_, _≤_, _<_}
 use mathlib.Core.Path.{_≡_, refl, sym, _∙_}
 use mathlib.Core.Logic.{_≢_, _↔_}

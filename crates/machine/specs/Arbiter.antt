@@ -8,7 +8,7 @@
 --   returning m       the model after a time-triggered task ended
 --
 -- No stack of preempted bodies is kept: one that holds no resource bids for the processor by its bit in `started`, and one that holds some
--- is found in the row of held resources. Assumes nothing.
+-- is found in the row of held resources.
 use Prim.Native.Nat.{ℕ}
 use mathlib.Core.Bool.{Bool, true, false, cond, not, _&&_}
 use mathlib.Core.List.{List}

@@ -4,8 +4,6 @@
 --   switchesTicked k e ks ns os     the switches os after it, where a turn may have passed
 --   marks k e w ks os ns            which of those cells match at that tick
 --   requestsDue ms rs x           the requests and losses x after the matches ms of entries whose tasks have the ranks rs
---
--- Assumes nothing.
 use Prim.Native.Nat.{ℕ, zero, suc, _+_, min}
 use mathlib.Core.Bool.{Bool, true, false, cond, not, _&&_, _||_}
 use mathlib.Core.List.{List, [], _∷_}

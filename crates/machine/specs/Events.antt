@@ -1,7 +1,7 @@
 -- The machine's twelve events: each one's status "in order", its effect where that is 0, and the two put together.
 --
 -- ps are the priorities by rank, trs and lrs the ranks of tasks and of ISRs by body, as the plan has them, ws and xs the
--- words of the ranks that are ISRs and extended tasks. Assumes nothing.
+-- words of the ranks that are ISRs and extended tasks.
 use Prim.Native.Nat.{ℕ, _+_, max}
 use mathlib.Core.Bool.{Bool, false, cond, not, _&&_, _||_}
 use mathlib.Core.List.{List, [], _∷_}

@@ -1,6 +1,6 @@
 -- The machine of documents 01 and 02, in reading order: the model, the arbiter, the held resources, the cells, the twelve events, and the whole from the
 -- fresh start on. It is the other side of demand 3: what the plain scheduler (crate `scheduler`) does with a set of bodies, this does as the
--- chip does it. Assumes nothing.
+-- chip does it.
 --
 -- Letters: c a configuration, p its plan, m a model, k a core, or how many cells are left; r a rank or a resource; ps priorities by rank, trs and
 -- lrs the ranks of tasks and of ISRs by body, cs ceilings and us words of users by resource; e an entry or an event, t a table or a task, d a

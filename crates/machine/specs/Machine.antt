@@ -5,8 +5,6 @@
 --   machineStep c p   one event, the next model with its answer
 --   machineSeen       what is seen of a list of events, each of which meets the model that the one before it handed back
 --   machineAfter      the model after a list of events
---
--- Assumes nothing.
 use Prim.Native.Nat.{ℕ}
 use mathlib.Core.Path.{_≡_}
 use mathlib.Core.Bool.{Bool, true, false, cond}

@@ -1,7 +1,7 @@
 -- The machine's model, with one part changed at a time.
 --
 -- Bodies stand in it by their rank among the priorities, so that a greater rank is a greater priority. `noRank` in the place of a runner says
--- that nobody runs. Assumes nothing.
+-- that nobody runs.
 use Prim.Native.Nat.{ℕ}
 use mathlib.Core.Bool.{Bool, false}
 use mathlib.Core.List.{List}

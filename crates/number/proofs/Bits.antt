@@ -1,7 +1,7 @@
 -- What `|`, `&` and taking away make of the bits of numbers, each bit by itself.
 --
 -- In order: `|`; `&`; what a number shares with a complement; the bits of one number without those of another; a number without bits.
--- Each law goes by halving, so that omega sees the lowest bit only. Assumes nothing.
+-- Each law goes by halving, so that omega sees the lowest bit only.
 use Prim.Native.Nat.{ℕ, zero, suc, _+_, _-_, _*_, _/_, _%_, _^_, max, min, _≤_, _<_}
 use mathlib.Core.Path.{_≡_, refl, sym, ap, _∙_}
 use mathlib.Core.Bool.{true, false, true≢false, not, _&&_, _||_}

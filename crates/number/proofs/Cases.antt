@@ -1,5 +1,4 @@
 -- Proofs by cases: on a test, and on how two numbers compare; and what a test of two says of each.
--- Assumes nothing.
 use Prim.Native.Nat.{ℕ, _≤_, _<_}
 use mathlib.Core.Path.{_≡_, refl, sym}
 use mathlib.Core.Bool.{Bool, true, false, _&&_, true≢false}

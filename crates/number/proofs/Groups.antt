@@ -1,5 +1,4 @@
 -- The reader's definition, group by group: what each kind of first byte makes of a reading, and how large and how long a reading can be.
--- Assumes nothing.
 use Prim.Native.Nat.{ℕ, zero, suc, _+_, _*_, _-_, _%_, _≤_, _<_}
 use mathlib.Core.Path.{_≡_}
 use mathlib.Core.List.{List, [], _∷_}

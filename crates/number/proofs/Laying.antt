@@ -1,5 +1,4 @@
 -- Bytes laid over a slice: piece by piece, and by a callee that is lent the slice from a place on.
--- Assumes nothing.
 use Prim.Native.Nat.{ℕ, suc, _+_, _-_, _≤_}
 use mathlib.Core.Path.{_≡_, ap, _∙_}
 use mathlib.Core.List.{List, [], _∷_, _++_, append-assoc, append-nil}

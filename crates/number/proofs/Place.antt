@@ -1,6 +1,5 @@
 -- Which byte decides a refused reading, group by group: no byte after it matters (`decided`), those before it leave the reading open
 -- (`cut-before`), and a reading that breaks off could still have become a number (`completed`).
--- Assumes nothing.
 use Prim.Native.Nat.{ℕ, zero, suc, _+_, _%_, _≤_}
 use mathlib.Core.Path.{_≡_, refl, sym, ap, _∙_}
 use mathlib.Core.List.{List, [], _∷_, _++_}

@@ -5,7 +5,6 @@
 --   numberBytes v      the bytes of v
 --
 -- Main laws: `read-written` and `written-read`; `malformed-decided` and `malformed-cut-before` for a refusal's place (proofs/Theorems.antt).
--- Assumes nothing.
 use Prim.Native.Nat.{ℕ, zero, suc, _+_, _*_, _/_, _%_, _<_}
 use mathlib.Core.Bool.{cond}
 use mathlib.Core.List.{List, [], _∷_}

@@ -5,7 +5,7 @@
 --   packed r p     a refusal and its place as one number
 --   laid at bs d   d with bs over it at a place, for a writer that writes piece by piece
 --
--- They serve every writer of the format. Assumes nothing.
+-- They serve every writer of the format.
 use Prim.Native.Nat.{ℕ, _+_, _*_}
 use mathlib.Core.Bool.{cond}
 use mathlib.Core.List.{List, _++_}

@@ -1,5 +1,4 @@
 -- Refusals that every reader or writer of the format can give. A refusal is document 01's word for an error code.
--- Assumes nothing.
 use Prim.Native.Nat.{ℕ}
 
 -- no refusal: the call did what was asked

@@ -1,5 +1,4 @@
 -- The classes of a byte, by the comparisons that the code makes.
--- Assumes nothing.
 use Prim.Native.Nat.{ℕ, _≤_, _<_}
 use mathlib.Core.Path.{_≡_}
 use mathlib.Core.Bool.{true, false}

@@ -1,5 +1,4 @@
 -- The loop that looks for the end of a comment: the end from `at` on is the end from i on, told from i - at bytes earlier.
--- Assumes nothing.
 use Prim.Native.Nat.{ℕ, _+_, _-_, _≤_, _<_}
 use mathlib.Core.Path.{_≡_, sym, ap, _∙_}
 use mathlib.Core.Bool.{true, false, _&&_}

@@ -1,5 +1,4 @@
 -- A number held as a byte, digit by digit: what is above 255 stays above it.
--- Assumes nothing.
 use Prim.Native.Nat.{ℕ, suc, _+_, _*_, _-_, _≤_, _<_}
 use mathlib.Core.Path.{_≡_}
 use mathlib.Core.List.{List, [], _∷_}

@@ -1,5 +1,4 @@
 -- What a writer that is lent no byte tells of a configuration: its first fault, or 30, since it takes a byte at least.
--- Assumes nothing.
 use Prim.Native.Nat.{ℕ, suc, _<_}
 use mathlib.Core.Path.{_≡_, refl, sym, ap, _∙_}
 use mathlib.Core.Bool.{false}

@@ -1,5 +1,4 @@
 -- The walks over a text's words, a turn of each loop at a time. i of n words are passed, `at` is the place after them.
--- Assumes nothing.
 use Prim.Native.Nat.{ℕ, suc, _+_, _-_, _≤_, _<_}
 use mathlib.Core.Path.{_≡_, sym, ap, _∙_}
 use mathlib.Core.Bool.{Bool, true, false, _&&_}

@@ -1,5 +1,4 @@
 -- The names that are kept because a RESOURCE is known to bear them, so that each is searched for once.
--- Assumes nothing.
 use Prim.Native.Nat.{ℕ, _+_, _-_, _≤_, _<_}
 use mathlib.Core.Path.{_≡_}
 use mathlib.Core.Bool.{Bool, true, cond}

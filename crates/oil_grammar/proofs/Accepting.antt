@@ -1,8 +1,6 @@
 -- The first walk over a text, told of its words alone: it accepts exactly the texts whose words are in order.
 --
 --   Accepts s seen ws   from s on the words are in order; `seen` tells which names earlier objects have
---
--- Assumes nothing.
 use Prim.Native.Nat.{ℕ, zero, suc, _+_, _≤_, _<_}
 use mathlib.Core.Path.{_≡_, refl, sym, ap, _∙_}
 use mathlib.Core.Bool.{Bool, true, false, cond, _&&_, _||_}

@@ -2,8 +2,6 @@
 --
 --   told t     the refusal of a text, its line and its column
 --   bytes t    the bytes of the configuration that it describes
---
--- Assumes nothing.
 use Prim.Native.Nat.{ℕ}
 use mathlib.Core.Path.{_≡_, refl}
 use mathlib.Core.List.{List, [], _∷_, _++_}

@@ -1,5 +1,4 @@
 -- The bytes of a text, for worked examples: each character of them is a byte.
--- Assumes nothing.
 use Prim.Native.Nat.{ℕ}
 use Prim.Native.Char.{code}
 use Prim.Native.String.{String, [], _∷_}

@@ -6,7 +6,6 @@
 --   bodies n, resources n   the texts: n ISRs, and a task that uses n resources
 --
 -- The checker computes words and objects, and `oil-read` gives the reading: computed whole, its walks look every name up again and take far longer.
--- Assumes nothing.
 use Prim.Native.Nat.{ℕ, zero, suc, _+_, _/_, _%_}
 use mathlib.Core.Path.{_≡_, refl, ap, _∙_}
 use mathlib.Core.Bool.{Bool, true, false, cond}

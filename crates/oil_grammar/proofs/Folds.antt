@@ -2,8 +2,6 @@
 --
 --   resourcesIn s ws, usesIn s ws   the names of RESOURCE objects, and those of RESOURCE attributes
 --   maskIn, fillIn                  as `mask` and `fill`, of words
---
--- Assumes nothing.
 use Prim.Native.Nat.{ℕ, _<_}
 use mathlib.Core.Path.{_≡_, refl, sym, ap, _∙_}
 use mathlib.Core.Bool.{Bool, true, false, cond, _&&_, _||_}

@@ -2,7 +2,7 @@
 --
 --   Reads t at ws   from the place on the next words of t are ws, and then its end comes
 --
--- In order: the classes of a byte shut each other out; spaces and comments; one word; a whole text, both ways. Assumes nothing.
+-- In order: the classes of a byte shut each other out; spaces and comments; one word; a whole text, both ways.
 use Prim.Native.Nat.{ℕ, zero, suc, _+_, _-_, _≤_}
 use mathlib.Core.Path.{_≡_, refl, sym, ap, _∙_}
 use mathlib.Core.Bool.{Bool, true, false, _&&_, _||_}

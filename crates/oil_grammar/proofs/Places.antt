@@ -1,5 +1,4 @@
 -- A refusal's place lies in the text, its end included.
--- Assumes nothing.
 use Prim.Native.Nat.{ℕ, zero, suc, _≤_}
 use mathlib.Core.List.{List}
 use native.Mathlib.Omega.{arith}

@@ -1,5 +1,4 @@
 -- The sorts of words: a word that is in order and not the end is a word of the grammar.
--- Assumes nothing.
 use Prim.Native.Nat.{ℕ, suc, _≤_}
 use mathlib.Core.Path.{_≡_}
 use mathlib.Core.Bool.{Bool, true, false, cond}

@@ -1,5 +1,4 @@
 -- Runs of a class of bytes: how a run goes on, and that it is the longest.
--- Assumes nothing.
 use Prim.Native.Nat.{ℕ, suc, _+_, _≤_, _<_}
 use mathlib.Core.Path.{_≡_, refl, ap}
 use mathlib.Core.Bool.{Bool, true, false}

@@ -1,6 +1,5 @@
 -- What the crate shows: the reading and the grammar accept the same texts, with the same configurations. Each law stands here in full, over specs/
 -- alone; the modules it cites prove it.
--- Assumes nothing.
 use Prim.Native.Nat.{ℕ, _<_}
 use mathlib.Core.Path.{_≡_, sym, ap, _∙_}
 use mathlib.Core.List.{List}

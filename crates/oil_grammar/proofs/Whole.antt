@@ -1,5 +1,4 @@
 -- The reading of a text that is OIL of objects, and the objects of a text that is read.
--- Assumes nothing.
 use Prim.Native.Nat.{ℕ, suc}
 use mathlib.Core.Path.{_≡_, refl, ap, _∙_}
 use mathlib.Core.Bool.{true, false}

@@ -2,8 +2,6 @@
 --
 --   span p bs          how many bytes at the head of bs have the class p
 --   Longest p bs xs r  xs is the longest run of the class p at the head of bs, and r is what follows it
---
--- Assumes nothing.
 use Prim.Native.Nat.{ℕ, zero, suc}
 use mathlib.Core.Path.{_≡_}
 use mathlib.Core.Bool.{Bool, true, false, cond, not, _&&_, _||_}

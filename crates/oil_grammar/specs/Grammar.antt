@@ -1,5 +1,5 @@
 -- The grammar: which objects a text is OIL of, and the configuration that it describes.
--- Written without the parser. Main laws: `accepted-exactly` and `one-meaning` (proofs/Theorems.antt). Assumes nothing.
+-- Written without the parser. Main laws: `accepted-exactly` and `one-meaning` (proofs/Theorems.antt).
 use Prim.Native.Nat.{ℕ}
 use mathlib.Core.Path.{_≡_}
 use mathlib.Core.Bool.{true, false}

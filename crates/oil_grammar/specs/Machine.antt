@@ -2,8 +2,6 @@
 --
 --   fault s w     the refusal of a word of the sort w where the text has come as far as s, 0 where it is in order
 --   after s w     how far the text has come after it
---
--- Assumes nothing.
 use Prim.Native.Nat.{ℕ}
 use mathlib.Core.Bool.{Bool, true, false, cond, _&&_, _||_}
 use lib.Dec.{leb, eqb}

@@ -4,7 +4,6 @@
 --   configOf os     the version 1 configuration of os, without tables
 --
 -- A count or a priority above 255 is held as 255, the most that its field holds: it is out of range all the same, and the writer refuses it.
--- Assumes nothing.
 use Prim.Native.Nat.{ℕ, _+_, _-_, min}
 use mathlib.Core.Bool.{Bool, cond}
 use mathlib.Core.List.{List, [], _∷_}

@@ -5,8 +5,6 @@
 --   wordAt p bs       the word at the head of bs, which stand at the place p
 --   nextWord t at     the first word at or after a place
 --   spelling t w      its bytes; `wordIn t w`: the word of the grammar that it is
---
--- Assumes nothing.
 use Prim.Native.Nat.{ℕ, zero, suc, _+_, _-_}
 use mathlib.Core.Bool.{cond, _&&_}
 use mathlib.Core.List.{List, [], _∷_}

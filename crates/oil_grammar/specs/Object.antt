@@ -3,8 +3,6 @@
 --   written os     the words of the objects, one after the other
 --   Fits o         its attributes are those that its kind has
 --   names, uses, resources   what the objects are called, which names their RESOURCE attributes have, which RESOURCE objects there are
---
--- Assumes nothing.
 use Prim.Native.Nat.{ℕ, suc, _≤_}
 use mathlib.Core.Path.{_≡_}
 use mathlib.Core.Bool.{Bool, false, cond, _||_}

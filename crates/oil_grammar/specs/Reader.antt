@@ -2,8 +2,6 @@
 --
 --   readOil t            what the reading gives
 --   oilResult t n, oilOutput t d, oilPlace t n   what the call from C answers, leaves in its output and tells of the place
---
--- Assumes nothing.
 use Prim.Native.Nat.{ℕ, suc, _+_}
 use mathlib.Core.Bool.{cond}
 use mathlib.Core.List.{List, [], _∷_}

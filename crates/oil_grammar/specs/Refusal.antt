@@ -1,5 +1,4 @@
 -- The refusals of an OIL text. Those of the configuration writer, 4 to 6 and 30, are given too.
--- Assumes nothing.
 use Prim.Native.Nat.{ℕ}
 
 -- "60 unreadable sign (an unclosed comment, where it opens)"

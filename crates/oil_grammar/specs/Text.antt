@@ -1,5 +1,5 @@
 -- What a text spells: the words that stand in it, spaces and comments left out.
--- A relation between bytes and words: it has no state, position or fuel. Assumes nothing.
+-- A relation between bytes and words: it has no state, position or fuel.
 use Prim.Native.Nat.{ℕ}
 use mathlib.Core.Path.{_≡_}
 use mathlib.Core.Bool.{true}

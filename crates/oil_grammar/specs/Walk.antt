@@ -6,7 +6,7 @@
 --   mask k t at s x b m   the users of the resource x, added to the mask m; b is the number of the next body
 --   fill k t at s u c     the configuration c with what the words say; u gives a resource's users by its name
 --
--- As many words as there are bytes, and the end, are enough. Assumes nothing.
+-- As many words as there are bytes, and the end, are enough.
 use Prim.Native.Nat.{ℕ, zero, suc}
 use mathlib.Core.Bool.{Bool, true, false, cond, not, _&&_}
 use mathlib.Core.List.{List}

@@ -4,8 +4,6 @@
 --   spelled xs       the word that letters and digits spell: one of OIL's words, or a name
 --   signOf b         the sign that a byte is, 0 where it is none
 --   decimal n ds     the number whose digits are those of n and then ds
---
--- Assumes nothing.
 use Prim.Native.Nat.{ℕ, _+_, _*_, _-_}
 use mathlib.Core.Bool.{Bool, true, false, cond, _&&_}
 use mathlib.Core.List.{List, [], _∷_}

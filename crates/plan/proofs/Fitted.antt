@@ -1,5 +1,5 @@
 -- What the machine's events count on of the tables that they look up, as one record, and that the plan of an accepted configuration has it.
--- rk is the rank of a body. Assumes nothing.
+-- rk is the rank of a body.
 use Prim.Native.Nat.{ℕ, suc, _-_, _^_, _≤_, _<_}
 use mathlib.Core.Path.{_≡_, sym}
 use mathlib.Core.Bool.{true, cond}

@@ -1,5 +1,4 @@
 -- The greatest of the elements whose bits are set in a mask: element by element, and how large it can be.
--- Assumes nothing.
 use Prim.Native.Nat.{ℕ, suc, _/_, _%_, _≤_, _<_, max}
 use mathlib.Core.Path.{_≡_, ap}
 use mathlib.Core.List.{List, [], _∷_}

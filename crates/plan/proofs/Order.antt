@@ -1,5 +1,4 @@
 -- Ranks order the bodies of an accepted configuration as their keys do, and so as the levels of their requests.
--- Assumes nothing.
 use Prim.Native.Nat.{ℕ, _+_, _<_}
 use mathlib.Core.Path.{_≡_, sym}
 use native.Mathlib.Omega.{arith}

@@ -1,5 +1,4 @@
 -- Lists whose elements are stored in turn: one store more, the length, and what stands where.
--- Assumes nothing.
 use Prim.Native.Nat.{ℕ, zero, suc, _+_, _≤_, _<_}
 use mathlib.Core.Path.{_≡_, refl, _∙_}
 use mathlib.Core.List.{List, [], _∷_}

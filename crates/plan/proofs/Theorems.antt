@@ -1,7 +1,7 @@
 -- What the crate shows beyond its contract, over specs/ alone: what the machine's lookups in a plan give. Callers lean on these laws.
 --
 -- In order: lengths, of whatever configuration; then of every accepted one ranks, ranks by body, bodies by rank, the words, ceilings,
--- tables, entries. Assumes nothing.
+-- tables, entries.
 use Prim.Native.Nat.{ℕ, suc, _-_, _/_, _%_, _^_, _≤_, _<_}
 use mathlib.Core.Path.{_≡_, ap, _∙_}
 use mathlib.Core.Bool.{true, cond}

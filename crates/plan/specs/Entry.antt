@@ -3,8 +3,6 @@
 --   entryTable c e      the table of entry e
 --   firstEntry c t   where the entries of table t begin
 --   compareOf c e, entryRank c e   entry e's compare value, and the rank of its task
---
--- Assumes nothing.
 use Prim.Native.Nat.{ℕ, suc, _-_, min}
 use mathlib.Core.Bool.{cond}
 use mathlib.Core.List.{List, [], _∷_}

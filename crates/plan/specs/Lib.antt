@@ -2,7 +2,6 @@
 --
 -- Letters: c a configuration, p a plan; b a body, r a rank or a resource, t a table, e an entry, each by its number; l a list that is filled in n turns, at the
 -- place `at n` with `f n`.
--- Assumes nothing.
 pub mod Stored
 pub mod Marked
 pub mod Rank

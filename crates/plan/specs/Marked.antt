@@ -1,8 +1,6 @@
 -- The word of the ranks of some bodies: those of which a field has one value.
 --
 --   marked at f v n   the word with the rank at b in it, for each b below n whose field f b is v
---
--- Assumes nothing.
 use Prim.Native.Nat.{ℕ, zero, suc}
 use mathlib.Core.Bool.{cond}
 use lib.Dec.{eqb}

@@ -1,6 +1,6 @@
 -- The static tables that the machine's events look up, derived once from a configuration: `planOf`.
 --
--- Each is a list that is filled as far as the counts reach. Main laws: what a lookup gives (proofs/Theorems.antt). Assumes nothing.
+-- Each is a list that is filled as far as the counts reach. Main laws: what a lookup gives (proofs/Theorems.antt).
 use Prim.Native.Nat.{ℕ, _/_, _%_, _^_, min}
 use mathlib.Core.Bool.{cond}
 use lib.Dec.{eqb}

@@ -2,8 +2,6 @@
 --
 --   stored at f n l   l with f i stored at the place at i, for i = 0, .., n - 1 in turn
 --   listed f n l      the same where each i is its own place: f 0, .., f (n - 1), then as l has it
---
--- Assumes nothing.
 use Prim.Native.Nat.{ℕ, zero, suc}
 use mathlib.Core.List.{List}
 use lib.ListN.{set}

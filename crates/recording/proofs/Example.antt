@@ -1,5 +1,4 @@
 -- A damaged trace, worked out by hand and computed; and one whose list of stretches is as long as a list can be.
--- Assumes nothing.
 use Prim.Native.Nat.{ℕ, zero, suc}
 use mathlib.Core.Path.{_≡_, refl}
 use mathlib.Core.List.{List, [], _∷_}

@@ -1,7 +1,6 @@
 -- What becomes of the bytes at the head of a recording, and of all bytes of a readable one.
 --
 -- In order: a byte of each fate; an event at the head; what holds of every recording (`recording-elim`); events in a row.
--- Assumes nothing.
 use Prim.Native.Nat.{ℕ, zero, suc, _+_, _-_, _≤_}
 use mathlib.Core.Path.{_≡_, refl, ap, _∙_}
 use mathlib.Core.List.{List, [], _∷_, _++_}

@@ -1,7 +1,7 @@
 -- How many bytes the list of stretches of a recording takes at most: `near-fits`, at the end of the file.
 --
 -- A stretch and the kept byte after it take up two places or more. Where its offset has one byte a stretch costs two bytes, further on
--- three, and one more where it has 128 bytes or more. Assumes nothing.
+-- three, and one more where it has 128 bytes or more.
 use Prim.Native.Nat.{ℕ, suc, _+_, _*_, _-_, _/_, _≤_, _<_}
 use mathlib.Core.List.{List, [], _∷_}
 use native.Mathlib.Omega.{arith}

@@ -1,7 +1,7 @@
 -- The dropped stretches: they lie apart, the recording is put together from them and the kept bytes, and they tell each byte's fate.
 --
 -- In order: stretches lie apart; the recording is put together; which places lie in a stretch; no stretch where all is kept.
--- Everything holds of any fates, so nothing here knows what an event is. Assumes nothing.
+-- Everything holds of any fates, so nothing here knows what an event is.
 use Prim.Native.Nat.{ℕ, zero, suc, _+_, _-_, _≤_, _<_}
 use mathlib.Core.Path.{_≡_, refl, sym, ap, _∙_}
 use mathlib.Core.Bool.{true, false, cond, _&&_, _||_}

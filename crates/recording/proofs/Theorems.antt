@@ -1,7 +1,7 @@
 -- What holds of every recording. Each law stands here in full, over specs/ alone; the modules it cites prove it.
 --
 -- In order: what becomes of the bytes at the head of a recording, which fixes all of them; document 02's three claims; the stretches; what is
--- salvaged twice; how long both outputs are. Assumes nothing.
+-- salvaged twice; how long both outputs are.
 use Prim.Native.Nat.{ℕ, _-_, _≤_, _<_}
 use mathlib.Core.Path.{_≡_}
 use mathlib.Core.Bool.{cond}

@@ -5,7 +5,7 @@
 --   keptBytes bs      the bytes that are kept, in their order
 --
 -- Main laws: `fates-unreadable` and `fates-event` say what becomes of the bytes at the head; `kept-readable`, `readable-same` and
--- `salvaged-again` are document 02's claims (proofs/Theorems.antt). Assumes nothing.
+-- `salvaged-again` are document 02's claims (proofs/Theorems.antt).
 use Prim.Native.Nat.{ℕ, zero, suc, _-_}
 use mathlib.Core.Bool.{cond}
 use mathlib.Core.List.{List, [], _∷_}

@@ -1,4 +1,3 @@
 -- What is salvaged of a damaged recording, in reading order: which bytes are kept, and the stretches of those that are dropped.
--- Assumes nothing.
 pub mod Fate
 pub mod Stretch

@@ -5,7 +5,7 @@
 --   within ss p        the place p lies in one of the stretches ss
 --   rebuilt 0 ss ks bs the recording put together again from its kept bytes and its dropped stretches
 --
--- Main laws: `put-together`, `fate-told`, `stretches-apart`, `list-fits` (proofs/Theorems.antt). Assumes nothing.
+-- Main laws: `put-together`, `fate-told`, `stretches-apart`, `list-fits` (proofs/Theorems.antt).
 use Prim.Native.Nat.{ℕ, zero, suc, _+_, _-_, _≤_}
 use mathlib.Core.Bool.{Bool, false, _&&_, _||_}
 use mathlib.Core.List.{List, [], _∷_, _++_}

@@ -2,8 +2,6 @@
 --
 --   answers-same     the machine's answers and the plain scheduler's
 --   length-answers   how many bytes they take
---
--- Assumes nothing.
 use Prim.Native.Nat.{ℕ, _+_, _*_}
 use mathlib.Core.Path.{_≡_, refl, sym, ap, ap₂, _∙_}
 use mathlib.Core.List.{List, [], _∷_, _++_}

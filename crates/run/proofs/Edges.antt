@@ -1,5 +1,4 @@
 -- Document 01's edges P1 to P13: one statement, a row for each, computed from the definitions that the contracts cite.
--- Assumes nothing.
 use Prim.Native.Nat.{ℕ, suc, _-_}
 use mathlib.Core.Path.{_≡_, refl}
 use mathlib.Core.Bool.{true, false}

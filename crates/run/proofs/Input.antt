@@ -3,8 +3,6 @@
 --   config-refused .. all-readable   what the input is
 --   Ran cs ts d r d₁                 the run of cs and ts on the slice d returns r and leaves d₁
 --   ran-refused, ran-short, ran-whole   its ways out
---
--- Assumes nothing.
 use Prim.Native.Nat.{ℕ, _+_, _*_, _≤_, _<_}
 use mathlib.Core.Path.{_≡_, refl, sym, ap, _∙_}
 use mathlib.Core.Bool.{cond}

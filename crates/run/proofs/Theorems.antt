@@ -1,7 +1,7 @@
 -- What the crate shows of the run, for every input. Each law stands here in full, over specs/ alone.
 --
 -- In order: how many bytes the answers take; that refusal and place can be split again. `Worked` has the run on bytes, computed, and `Edges`
--- P1 to P13. Assumes nothing.
+-- P1 to P13.
 use Prim.Native.Nat.{ℕ, _/_, _%_, _≤_, _<_}
 use mathlib.Core.Path.{_≡_}
 use mathlib.Core.List.{List}

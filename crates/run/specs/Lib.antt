@@ -2,6 +2,5 @@
 --
 -- Letters: cs and ts the bytes of a configuration and of a trace, c a configuration, es events, d an output, n its length, or a
 -- count of losses; r a refusal, p its place.
--- Assumes nothing.
 pub mod Run
 pub mod Steps

@@ -3,8 +3,6 @@
 --   readRun cs ts      what the input is: refused, or a configuration and its events
 --   answers c es       the output of the plain scheduler, event by event and then the losses
 --   runResult, runOutput   what the run returns, and what it leaves in the slice that it is lent
---
--- Assumes nothing.
 use Prim.Native.Nat.{ℕ, _/_, _%_}
 use mathlib.Core.Bool.{cond}
 use mathlib.Core.List.{List, [], _∷_, _++_, map}

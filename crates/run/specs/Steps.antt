@@ -2,8 +2,6 @@
 --
 --   machineAnswers c p es   the machine's own answers, event by event, and then its losses
 --   machineOutput cs ts d   what the run leaves in the slice d, by them
---
--- Assumes nothing.
 use Prim.Native.Nat.{ℕ}
 use mathlib.Core.List.{List, _++_}
 use Rattle.number.specs.Output.{written}

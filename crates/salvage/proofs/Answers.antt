@@ -1,5 +1,4 @@
 -- The whole call: what it answers and leaves in each of its four cases, in the order of its checks, and that the answer fits one number.
--- Assumes nothing.
 use Prim.Native.Nat.{ℕ, _≤_, _<_}
 use mathlib.Core.Path.{_≡_, sym, ap, _∙_}
 use mathlib.Core.List.{List}

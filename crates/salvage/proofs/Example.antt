@@ -1,5 +1,5 @@
 -- The call on a damaged trace, computed: it keeps five bytes and lists six. With a byte less for the events, or for both, it is refused for the
--- events, and with a byte less for the list it is refused for the list; refused, it writes neither. Assumes nothing.
+-- events, and with a byte less for the list it is refused for the list; refused, it writes neither.
 use Prim.Native.Nat.{ℕ}
 use mathlib.Core.Path.{_≡_, refl}
 use mathlib.Core.List.{List, [], _∷_}

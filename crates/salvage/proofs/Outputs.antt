@@ -1,5 +1,4 @@
 -- Both outputs, written on a walk: what stands in each, and what is left to write.
--- Assumes nothing.
 use Prim.Native.Nat.{ℕ, _+_, _-_, _≤_, _<_}
 use mathlib.Core.Path.{_≡_}
 use mathlib.Core.List.{List, [], _∷_, _++_, append-nil}

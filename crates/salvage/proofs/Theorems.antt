@@ -1,7 +1,6 @@
 -- What the call does beyond its contract. Each law stands here in full, over specs/ alone.
 --
 -- In order: sizes that always suffice; what a refused and an accepted call leave; what C reads from the result.
--- Assumes nothing.
 use Prim.Native.Nat.{ℕ, _/_, _%_, _≤_}
 use mathlib.Core.Path.{_≡_}
 use mathlib.Core.List.{List}

@@ -1,5 +1,4 @@
 -- The lengths of both outputs, counted on a walk: what is counted so far and what is left to write make up the whole.
--- Assumes nothing.
 use Prim.Native.Nat.{ℕ, _+_, _-_, _≤_, _<_}
 use mathlib.Core.Path.{_≡_, ap, _∙_}
 use mathlib.Core.List.{List}

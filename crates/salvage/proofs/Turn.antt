@@ -4,7 +4,7 @@
 -- at the end.
 --
 -- bs: the recording; at: the place; left: how many bytes of an event that began before are still to come; gap: how many bytes before the place
--- are dropped and not yet listed; here: how many bytes from the place on belong to an event. Assumes nothing.
+-- are dropped and not yet listed; here: how many bytes from the place on belong to an event.
 use Prim.Native.Nat.{ℕ, zero, suc, _+_, _-_, _≤_, _<_}
 use mathlib.Core.Path.{_≡_, refl, sym, ap, _∙_}
 use mathlib.Core.List.{List, [], _∷_, _++_, append-assoc, append-nil}

@@ -1,2 +1,2 @@
--- What the contracts of `salvage` cite. Assumes nothing.
+-- What the contracts of `salvage` cite.
 pub mod Salvage

@@ -3,8 +3,6 @@
 --   salvaged bs n m          the answer for the recording bs, where n and m bytes are lent for events and stretches
 --   eventsAfter, stretchesAfter   what the two slices hold afterwards
 --   resultOf r               the answer as one number, for C
---
--- Assumes nothing.
 use Prim.Native.Nat.{ℕ, _+_, _*_, _≤_}
 use mathlib.Core.Bool.{cond}
 use mathlib.Core.List.{List}

@@ -4,7 +4,7 @@
 -- In order: bodies that are apart; what a change of one body leaves of it; the runner's own priority is above the
 -- current priority of the others (`outranks`); every event keeps it, from the fresh start on. Which bodies are apart is
 -- a question asked of a body, so that all is proved once: of those that hold a resource, always; of those that are
--- started, where no task is extended. Assumes nothing.
+-- started, where no task is extended.
 use Prim.Native.Nat.{ℕ, zero, suc, _+_, _*_, max, _≤_, _<_}
 use mathlib.Core.Path.{_≡_, refl, sym, ap, subst⁻¹, _∙_}
 use mathlib.Core.Bool.{Bool, true, false, true≢false, cond, not}

@@ -1,4 +1,4 @@
--- Event bits, each bit by itself; and what a resumption leaves. Assumes nothing.
+-- Event bits, each bit by itself; and what a resumption leaves.
 use Prim.Native.Nat.{ℕ, _-_, _^_, _<_}
 use mathlib.Core.Path.{_≡_, refl, sym, ap, _∙_}
 use mathlib.Core.Bool.{Bool, true, false, true≢false, cond, not, _&&_, _||_}

@@ -2,7 +2,7 @@
 -- meets.
 --
 -- In order: a list of checks; that each event's checks give statuses other than 0; what a time-triggered task may call,
--- and the calls that name one; the accepted calls one by one. Assumes nothing.
+-- and the calls that name one; the accepted calls one by one.
 use Prim.Native.Nat.{ℕ, _+_, _≤_, _<_}
 use mathlib.Core.Path.{_≡_, refl, sym, ap, ap₂, _∙_}
 use mathlib.Core.Bool.{Bool, true, false, true≢false, cond, not, _&&_, _||_, and-true}

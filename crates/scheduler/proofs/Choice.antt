@@ -4,7 +4,6 @@
 -- before him; the choice where one body is changed (`chosen-mapped`), and by two rules for ties that agree
 -- (`chosen-same`); the choice from above (`chosen-best`, `chosen-nobody`); the current priority; that of the chosen
 -- one; who runs where a time-triggered task is started, and where none is. q is the rule for ties.
--- Assumes nothing.
 use Prim.Native.Nat.{ℕ, zero, suc, _+_, _*_, _≤_, _<_, max}
 use mathlib.Core.Path.{_≡_, refl, sym, ap, ap₂, _∙_}
 use mathlib.Core.Logic.{_≢_}

@@ -2,7 +2,6 @@
 --
 -- In order: the runner's own priority is above the current priority of every other body that holds a resource
 -- (`holder-below`), where no time-triggered task is started; so above that resource's ceiling, and no user's is.
--- Assumes nothing.
 use Prim.Native.Nat.{ℕ, zero, suc, _<_}
 use mathlib.Core.Path.{_≡_, refl, sym, ap, _∙_}
 use mathlib.Core.Bool.{Bool, true, false, true≢false, cond}

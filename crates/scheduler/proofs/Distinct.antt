@@ -1,7 +1,6 @@
 -- Lists in which no number stands twice: such a list is no longer than one that has all its numbers (`distinct-fits`).
 --
--- In order: a list without one of its numbers; the law; what `among` says of a head, a tail and a place. Assumes
--- nothing.
+-- In order: a list without one of its numbers; the law; what `among` says of a head, a tail and a place.
 use Prim.Native.Nat.{ℕ, zero, suc, _≤_, _<_}
 use mathlib.Core.Path.{_≡_, refl, sym, ap, _∙_}
 use mathlib.Core.Bool.{Bool, true, false, true≢false, cond, _||_}

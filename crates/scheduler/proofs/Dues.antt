@@ -1,7 +1,7 @@
 -- An entry's mark in what is seen is what the events say of it: `due-exactly`, at the end of the file.
 --
 -- In order: what is seen of the i-th event; the marks of a Tick, entry by entry; both directions, by the table's
--- history. Assumes nothing.
+-- history.
 use Prim.Native.Nat.{ℕ, zero, suc, _<_}
 use mathlib.Core.Path.{_≡_, refl, sym, ap, ap₂, _∙_}
 use mathlib.Core.Bool.{Bool, true, false, true≢false}

@@ -2,7 +2,7 @@
 --
 -- In order: a change of one body leaves the others and the tables; what every effect (`effectOf-keeps`) and every
 -- refusal (`refusalOf-keeps`) keeps; no event adds a body or a table; no call but a lost line that is counted changes a
--- loss. Assumes nothing.
+-- loss.
 use Prim.Native.Nat.{ℕ, _<_}
 use mathlib.Core.Path.{_≡_, refl, sym, ap, _∙_}
 use mathlib.Core.Bool.{Bool, true, false, true≢false, cond, _&&_}

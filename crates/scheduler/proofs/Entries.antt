@@ -1,6 +1,5 @@
 -- The k-th entry of a configuration whose offsets are all there is that of its k-th offset: `entry-at`, at the end of
 -- the file.
--- Assumes nothing.
 use Prim.Native.Nat.{ℕ, zero, suc, _+_, _-_, _≤_, _<_}
 use mathlib.Core.Path.{_≡_, refl, ap, _∙_}
 use mathlib.Core.List.{List, [], _∷_, _++_, map}

@@ -1,7 +1,6 @@
 -- Worked lists of events: what document 01 gives for each, in numbers, and that the definitions compute the same. A row
 -- is status, runner, level and begun mark. They are the cases that the listing and the edges P1 to P13 leave open:
 -- where the scheduler and the machine were wrong alike, these would still refuse.
--- Assumes nothing.
 use Prim.Native.Nat.{ℕ}
 use mathlib.Core.Path.{_≡_, refl}
 use mathlib.Core.Bool.{Bool, true, false}

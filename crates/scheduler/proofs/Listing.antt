@@ -1,5 +1,4 @@
 -- Document 01's whole listing, computed from the definitions: its 17 rows and its losses.
--- Assumes nothing.
 use Prim.Native.Nat.{ℕ}
 use mathlib.Core.Path.{_≡_, refl}
 use mathlib.Core.List.{List, [], _∷_, map}

@@ -1,7 +1,7 @@
 -- What a Tick does to one task: `tick-suspended`, `tick-triggered` and `tick-active`, at the end of the file.
 --
 -- In order: the due entries that name the task, one after the other, are so many of them (`activatingDue-times`); what
--- so many do to a task that isn't suspended; no loss count is above 65,535 after any list of events. Assumes nothing.
+-- so many do to a task that isn't suspended; no loss count is above 65,535 after any list of events.
 use Prim.Native.Nat.{ℕ, zero, suc, _+_, _≤_, _<_, min}
 use mathlib.Core.Path.{_≡_, refl, sym, ap, ap₂, _∙_}
 use mathlib.Core.Bool.{Bool, true, false, cond}

@@ -1,6 +1,6 @@
 -- Every started time-triggered task is one of the configuration's bodies: `named-after`, at the end of the file.
 --
--- Only a due entry adds to the order, and only the number of a time-triggered task. Assumes nothing.
+-- Only a due entry adds to the order, and only the number of a time-triggered task.
 use Prim.Native.Nat.{ℕ, _<_}
 use mathlib.Core.Path.{_≡_}
 use mathlib.Core.Bool.{true}

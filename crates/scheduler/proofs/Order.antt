@@ -3,7 +3,6 @@
 --
 -- In order: the invariant; as a place for each body; at most 16 are started; a Tick; the other events; the dispatch;
 -- from the fresh start on.
--- Assumes nothing.
 use Prim.Native.Nat.{ℕ, _+_, _-_, _≤_, _<_, suc}
 use mathlib.Core.Path.{_≡_, refl, sym, ap, subst, subst⁻¹, _∙_}
 use mathlib.Core.Bool.{Bool, true, false, true≢false, cond, not}

@@ -2,8 +2,7 @@
 -- Tick's leaves it so (`effect-placed`, at the end of the file).
 --
 -- In order: one body's place; what a change of one body, an end and the runner are to it; the effects. `late i` says
--- that body i may be triggered and still have to begin: nobody after an event, the latest before a dispatch. Assumes
--- nothing.
+-- that body i may be triggered and still have to begin: nobody after an event, the latest before a dispatch.
 use Prim.Native.Nat.{ℕ, _≤_, _<_}
 use mathlib.Core.Path.{_≡_, refl, sym, ap, subst, subst⁻¹, _∙_}
 use mathlib.Core.Bool.{Bool, true, false, true≢false, cond, not, _&&_}

@@ -2,7 +2,7 @@
 -- file.
 --
 -- In order: after a refusal comes the dispatch alone; after a dispatch the chosen body has begun, and is chosen again;
--- so the next dispatch does nothing (`Underway`); and a loss has no part in who runs. Assumes nothing.
+-- so the next dispatch does nothing (`Underway`); and a loss has no part in who runs.
 use Prim.Native.Nat.{ℕ, _+_, _≤_, _<_, min}
 use mathlib.Core.Path.{_≡_, refl, sym, ap, _∙_}
 use mathlib.Core.Bool.{Bool, true, false, true≢false, cond, not, _&&_, _||_, or-false}

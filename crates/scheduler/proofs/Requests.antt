@@ -1,7 +1,7 @@
 -- Requests that wait: a body that has begun begins again only after its end, a started ISR's second request too, and a
 -- Stop leaves them all.
 --
--- In order: who begins had not begun; what ends a body that has begun (`begun-stays`); the laws. Assumes nothing.
+-- In order: who begins had not begun; what ends a body that has begun (`begun-stays`); the laws.
 use Prim.Native.Nat.{ℕ}
 use mathlib.Core.Path.{_≡_, refl, sym, ap, _∙_}
 use mathlib.Core.Bool.{Bool, true, false, true≢false, cond}

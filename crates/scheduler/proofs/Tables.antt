@@ -1,7 +1,7 @@
 -- A table's d and n are what its history says: `table-history` and `history-of-table`, at the end of the file.
 --
 -- In order: what one event does to a table (`turn`); a table through a list of events with no accepted Stop, or no
--- accepted Start, of it; every list of events has a last accepted Start or Stop of the table, or none. Assumes nothing.
+-- accepted Start, of it; every list of events has a last accepted Start or Stop of the table, or none.
 use Prim.Native.Nat.{ℕ, zero, suc, _+_}
 use mathlib.Core.Path.{_≡_, refl, sym, ap, _∙_}
 use mathlib.Core.Bool.{Bool, true, false, true≢false, cond}

@@ -5,7 +5,7 @@
 -- tasks; what an accepted Activate finds; requests that wait; event bits; who holds a resource, and whom it is refused;
 -- where losses come from; that d and n are counted, and entries due, as demand 3 says, no two of kind 3 at one tick.
 -- `Choice` and `Checks` have more of who is chosen and of what an accepted call finds, `Order` more of the started
--- time-triggered tasks; `Examples` are worked lists of events. Assumes nothing.
+-- time-triggered tasks; `Examples` are worked lists of events.
 use Prim.Native.Nat.{ℕ, suc, _+_, _≤_, _<_, max}
 use mathlib.Core.Path.{_≡_, refl, ap, _∙_}
 use mathlib.Core.Bool.{Bool, true, false, not, _&&_, _||_}

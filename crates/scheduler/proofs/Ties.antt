@@ -2,7 +2,7 @@
 -- chooses the same (`old-rule`).
 --
 -- In order: two that tie; of two that may run one goes before the other; the old rule and the new one agree where the
--- started bodies are apart, from the fresh start on. Assumes nothing.
+-- started bodies are apart, from the fresh start on.
 use Prim.Native.Nat.{ℕ, _+_, _*_, _<_}
 use mathlib.Core.Path.{_≡_, refl, sym, ap, ap₂, _∙_}
 use mathlib.Core.Bool.{Bool, true, false, true≢false, not, _&&_, _||_}

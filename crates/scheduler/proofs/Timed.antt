@@ -1,7 +1,7 @@
 -- Two entries of kind 3 are never due at one tick: `timed-once`, at the end of the file.
 --
 -- In order: two entries of one table that are due at the same tick have the same offset; the mark of an entry is its
--- table's; the law, for all entries of kind 3 lie in one table, at different offsets. Assumes nothing.
+-- table's; the law, for all entries of kind 3 lie in one table, at different offsets.
 use Prim.Native.Nat.{ℕ, suc, _+_, _*_, _-_, _%_, _≤_, _<_}
 use mathlib.Core.Path.{_≡_, refl, sym, ap, ap₂, _∙_}
 use mathlib.Core.Bool.{Bool, true, false, true≢false}

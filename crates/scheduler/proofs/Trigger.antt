@@ -1,7 +1,7 @@
 -- What a Tick does to the order of the started time-triggered tasks: it leaves it, or starts one (`tick-outcome`, at
 -- the end of the file).
 --
--- In order: one due entry; the entries one after the other, of which at most one is of kind 3; a Tick. Assumes nothing.
+-- In order: one due entry; the entries one after the other, of which at most one is of kind 3; a Tick.
 use Prim.Native.Nat.{ℕ, zero, suc, _<_}
 use mathlib.Core.Path.{_≡_, refl, sym, ap, subst⁻¹, _∙_}
 use mathlib.Core.Bool.{Bool, true, false, true≢false, cond}

@@ -1,6 +1,6 @@
 -- Who holds a resource is one of its declared users: after every list of events, by `declared-after`.
 --
--- Only a Get adds to what a body holds, and it is accepted of a declared user alone. Assumes nothing.
+-- Only a Get adds to what a body holds, and it is accepted of a declared user alone.
 use Prim.Native.Nat.{ℕ}
 use mathlib.Core.Path.{_≡_, refl, sym, ap, _∙_}
 use mathlib.Core.Bool.{Bool, true, false, true≢false, cond, _||_}

@@ -1,5 +1,4 @@
 -- One body. Body is document 01's word for a control flow: a task or a category 2 interrupt routine (ISR).
--- Assumes nothing.
 use Prim.Native.Nat.{ℕ, _+_, max, min}
 use mathlib.Core.Bool.{Bool, true, false, cond}
 use mathlib.Core.List.{List, [], _∷_, foldr, map}

@@ -7,7 +7,7 @@
 --
 -- In order: the tests, the first column, each event's effect, the second, what a refused event leaves, and both columns while the chosen one
 -- runs. `event-table` (proofs/Theorems.antt) is the first column with its
--- numbers written out. Assumes nothing.
+-- numbers written out.
 use Prim.Native.Nat.{ℕ, _+_}
 use mathlib.Core.Bool.{Bool, true, false, cond, not, _&&_, _||_}
 use mathlib.Core.List.{List, [], _∷_}

@@ -4,7 +4,6 @@
 --   chosenBy q c bs   the same by another rule for ties
 --
 -- The rule for ties is a question: of two with equal current priority the one of which it holds goes before the other, of which it does not.
--- Assumes nothing.
 use Prim.Native.Nat.{ℕ, suc}
 use mathlib.Core.Bool.{Bool, true, false, cond, not, _&&_, _||_}
 use mathlib.Core.List.{List, [], _∷_}

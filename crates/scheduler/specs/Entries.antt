@@ -1,5 +1,4 @@
 -- The entries of a configuration's tables, in the order of their cells: "by table, then in table order".
--- Assumes nothing.
 use Prim.Native.Nat.{ℕ, zero, suc}
 use mathlib.Core.List.{List, [], _++_, map}
 use lib.ListN.{getD}

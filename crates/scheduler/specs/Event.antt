@@ -1,5 +1,4 @@
 -- The twelve events, with their arguments.
--- Assumes nothing.
 use Prim.Native.Nat.{ℕ}
 use mathlib.Core.Bool.{Bool, true, false}
 

@@ -7,7 +7,7 @@
 --   DueAt c es e x        they say of the entry x that it is due at the event e, which comes next
 --   dueMark xs i k        the mark of the k-th entry at the i-th event, in what was seen
 --
--- Main laws: `table-history`, `due-exactly` (proofs/Theorems.antt). Assumes nothing.
+-- Main laws: `table-history`, `due-exactly` (proofs/Theorems.antt).
 use Prim.Native.Nat.{ℕ, suc, _+_}
 use mathlib.Core.Path.{_≡_}
 use mathlib.Core.Logic.{_⊎_}

@@ -4,8 +4,6 @@
 --   step c s e     the state after the event e, with what is seen of it
 --   seen c s es    what is seen of a list of events, one after the other; after c s es: the state after them
 --   freshBy, stepBy, seenBy, afterBy q   the same by another rule for ties
---
--- Assumes nothing.
 use Prim.Native.Nat.{ℕ}
 use mathlib.Core.Path.{_≡_}
 use mathlib.Core.Bool.{Bool, true, false, cond, not, _&&_}

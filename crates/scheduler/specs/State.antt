@@ -1,6 +1,5 @@
 -- The scheduler's state: its bodies, its tables and the order in which time-triggered tasks were started; and who runs in it. A table is
 -- document 01's word for a schedule table.
--- Assumes nothing.
 use Prim.Native.Nat.{ℕ}
 use mathlib.Core.Bool.{Bool, true, false, _||_}
 use mathlib.Core.List.{List, [], _∷_}

@@ -1,5 +1,4 @@
 -- What a call answers: OSEK's status codes, by document 01's numbers.
--- Assumes nothing.
 use Prim.Native.Nat.{ℕ}
 use mathlib.Core.Path.{_≡_}
 use mathlib.Core.Bool.{Bool, false, cond}

@@ -5,7 +5,7 @@
 --   ticked c s       "then the due entries", by table, then in table order
 --   dueFor c s t     how many of them name the task t
 --
--- Entry is document 01's word for an expiry point. Assumes nothing.
+-- Entry is document 01's word for an expiry point.
 use Prim.Native.Nat.{ℕ, suc, _+_}
 use mathlib.Core.Bool.{Bool, true, false, cond, _&&_}
 use mathlib.Core.List.{List, [], _∷_, _++_, map}

@@ -1,7 +1,6 @@
 -- The bytes of one word: what a push and a pop make of them.
 --
 -- In order: n bytes of any number, where each law goes by the lowest byte and the rest; the eight bytes of a word.
--- Assumes nothing.
 use Prim.Native.Nat.{ℕ, zero, suc, _+_, _*_, _/_, _%_, _^_, _<_}
 use mathlib.Core.Path.{_≡_, refl, sym, ap, _∙_}
 use mathlib.Core.List.{List, [], _∷_, _++_}

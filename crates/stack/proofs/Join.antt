@@ -1,5 +1,4 @@
 -- Two shift registers joined are one: what drops out of the one comes into the other. A word is one, a row two words.
--- Assumes nothing.
 use Prim.Native.Nat.{ℕ, suc, _+_, _<_}
 use mathlib.Core.Path.{_≡_, sym, ap, _∙_}
 use mathlib.Core.List.{List, [], _∷_, _++_, append-assoc}

@@ -1,7 +1,7 @@
 -- One bit of a number, at any place: what adding its worth and taking it away do to it and to the other bits.
 --
 -- In order: the lowest bit and those above it; a clear bit added; the highest bit; a set bit taken away; numbers with the same bits; a number all of whose bits are set.
--- Each law goes by halving, so that omega sees the lowest bit only. Assumes nothing.
+-- Each law goes by halving, so that omega sees the lowest bit only.
 use Prim.Native.Nat.{ℕ, zero, suc, _+_, _-_, _/_, _%_, _^_, _≤_, _<_}
 use mathlib.Core.Path.{_≡_, refl, sym, ap, _∙_}
 use native.Mathlib.Nat.{pow-suc, div-one}

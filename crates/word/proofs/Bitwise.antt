@@ -1,5 +1,4 @@
 -- What the code's `|`, `&` and `!` make of one bit: `or-with` and `and-without`.
--- Assumes nothing.
 use Prim.Native.Nat.{ℕ, _+_, _-_, _*_, _%_, _^_, _<_}
 use mathlib.Core.Path.{_≡_, ap, _∙_}
 use native.Mathlib.Nat.{pow-suc, one-mul}

@@ -1,5 +1,4 @@
 -- A rank in a word is a bit of it that is set; and what `with` and `without` make of the word, by cases.
--- Assumes nothing.
 use Prim.Native.Nat.{ℕ, _+_, _-_, _^_, _<_}
 use mathlib.Core.Path.{_≡_, refl, sym, ap, _∙_}
 use mathlib.Core.Bool.{Bool, true, false, _&&_, and-false}

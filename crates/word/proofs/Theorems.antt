@@ -1,7 +1,6 @@
 -- What the crate shows beyond its contracts, over specs/ alone: which ranks are in a word, and which of them wins.
 --
 -- In order: `has`; `with`; `without`; `union`; words with the same ranks; the winner. Callers lean on these laws, not on the definitions.
--- Assumes nothing.
 use Prim.Native.Nat.{ℕ, _+_, _-_, _/_, _%_, _^_, _≤_, _<_}
 use mathlib.Core.Path.{_≡_, refl, sym, ap, _∙_}
 use mathlib.Core.Logic.{⊎-elim}

@@ -5,7 +5,7 @@
 --   union w v      the ranks of both words
 --   winner w       the highest rank in w, or `noRank`
 --
--- Main laws: `winner-has` and `winner-highest` (proofs/Theorems.antt). Assumes nothing.
+-- Main laws: `winner-has` and `winner-highest` (proofs/Theorems.antt).
 use Prim.Native.Nat.{ℕ, zero, suc, _+_, _-_, _/_, _%_, _^_}
 use mathlib.Core.Bool.{Bool, cond, not, _&&_}
 use lib.Dec.{ltb, eqb}

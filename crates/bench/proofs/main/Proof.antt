@@ -1,5 +1,4 @@
 -- `main` is safe: what is lent of a buffer is what `load` filled of it.
--- Assumes nothing.
 use mathlib.Core.Path.{sym}
 use lib.Seq.{length-take-le}
 use borrow.Author.Needs.{needs}

@@ -1,5 +1,4 @@
 -- `print_events` is safe and ends: `i` counts the events up.
--- Assumes nothing.
 use Prim.Native.Nat.{_-_, _≤_}
 use borrow.Author.Needs.{needs}
 use Rattle.bench.proofs.print_events.Statement.{statement}

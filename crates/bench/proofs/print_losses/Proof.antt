@@ -1,5 +1,4 @@
 -- `print_losses` is safe and ends: `b` counts the bodies up.
--- Assumes nothing.
 use Prim.Native.Nat.{_-_, _≤_}
 use borrow.Author.Needs.{needs}
 use Rattle.bench.proofs.print_losses.Statement.{statement}

@@ -1,5 +1,4 @@
 -- `read_whole` is safe and ends: each turn fills more of the buffer, and never more than it holds.
--- Assumes nothing.
 use Prim.Native.Nat.{_-_, _≤_}
 use mathlib.Core.Path.{_≡_, refl}
 use native.Mathlib.Omega.{arith}

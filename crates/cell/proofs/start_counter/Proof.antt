@@ -1,5 +1,5 @@
 -- `cell::start_counter` meets its contract: what the two subtractions leave is the one number below 65,536 that delay and offset together
--- take back to the compare value. Assumes nothing.
+-- take back to the compare value.
 use borrow.Author.Needs.{needs}
 use Rattle.cell.specs.Cell.{modulus}
 use Rattle.cell.proofs.Modulo.{minus-twice}

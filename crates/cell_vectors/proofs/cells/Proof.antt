@@ -1,4 +1,4 @@
--- `cell_vectors::cells` is safe: every place that it writes is one of the array's. Assumes nothing.
+-- `cell_vectors::cells` is safe: every place that it writes is one of the array's.
 use Prim.Native.Nat.{_≤_, _-_}
 use borrow.Author.Needs.{needs}
 use Rattle.cell_vectors.proofs.cells.Statement.{statement}

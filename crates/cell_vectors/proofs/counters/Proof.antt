@@ -1,4 +1,4 @@
--- `cell_vectors::counters` is safe: it adds at most 65,535 for each cell passed. Assumes nothing.
+-- `cell_vectors::counters` is safe: it adds at most 65,535 for each cell passed.
 use Prim.Native.Nat.{_≤_, _*_, _-_}
 use borrow.Author.Needs.{needs}
 use Rattle.cell_vectors.proofs.counters.Statement.{statement}

@@ -1,4 +1,4 @@
--- `cell_vectors::matches` is safe: it counts at most one for each cell passed. Assumes nothing.
+-- `cell_vectors::matches` is safe: it counts at most one for each cell passed.
 use Prim.Native.Nat.{_≤_, _-_}
 use native.Mathlib.Omega.{arith}
 use mathlib.Core.Logic.{⊎-elim}

@@ -1,4 +1,4 @@
--- `cell_vectors::show` is safe: it ticks nine times, and the row's length is at most that of the array. Assumes nothing.
+-- `cell_vectors::show` is safe: it ticks nine times, and the row's length is at most that of the array.
 use Prim.Native.Nat.{_≤_, _-_}
 use borrow.Author.Needs.{needs}
 use Rattle.cell_vectors.proofs.show.Statement.{statement}

@@ -1,6 +1,6 @@
 -- `cell_vectors::tick_first` meets its contract: a walk of its MIR, by hand, since the borrow checker covers no reference to an array of structs.
 -- The array in the local is its cells in a row, of which the first n are lent to `tick_row` for a lifetime that is made here and ended after
--- the call. All that the walk knows of `tick_row` is its contract. Assumes nothing.
+-- the call. All that the walk knows of `tick_row` is its contract.
 use Prim.Native.Nat.{ℕ, _≤_, _<_, _^_}
 use mathlib.Core.List.{List, [], _∷_, _++_, map}
 use mathlib.Core.Path.{_≡_, refl, sym, _∙_, ap}

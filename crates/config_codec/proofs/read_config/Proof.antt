@@ -1,5 +1,4 @@
 -- `read_config` meets its contract: the length is tested, and then the numbers are read.
--- Assumes nothing.
 use borrow.Author.Tests.{le-leb, lt-leb}
 use lib.ListN.{length}
 use Rattle.config.specs.Reader.{readConfig, maxLength}

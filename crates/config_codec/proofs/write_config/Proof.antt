@@ -1,5 +1,4 @@
 -- `write_config` meets its contract: it measures, tests the room, and then writes.
--- Assumes nothing.
 use native.Mathlib.Omega.{arith}
 use Rattle.config_codec.proofs.Answer.{faultless, measured-length, refused-answer, no-room-answer, written-answer}
 use borrow.Author.Needs.{needs}

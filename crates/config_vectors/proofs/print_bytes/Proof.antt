@@ -1,5 +1,4 @@
 -- `print_bytes` meets its contract: its index stays in the slice. The measure is what is left of it.
--- Assumes nothing.
 use Prim.Native.Nat.{_-_, _≤_}
 use native.Mathlib.Omega.{arith}
 use lib.ListN.{length}

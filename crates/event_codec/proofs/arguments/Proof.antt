@@ -1,5 +1,4 @@
 -- `arguments` meets its contract: an arm for each code, which fixes how many arguments follow.
--- Assumes nothing.
 use Rattle.event.specs.Event.{known, arguments}
 use Rattle.event_codec.proofs.Arms.{NoneUpTo, known-no-arm}
 use Rattle.event_codec.proofs.arguments.Statement.{statement}

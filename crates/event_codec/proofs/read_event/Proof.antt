@@ -1,5 +1,4 @@
 -- `read_event` meets its contract: an event of one byte or two is a law of `Reading`, and any other is read number by number.
--- Assumes nothing.
 use mathlib.Core.Path.{sym, _∙_}
 use native.Mathlib.Omega.{arith}
 use borrow.Author.Tests.{ltb-true}

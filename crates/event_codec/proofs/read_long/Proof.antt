@@ -1,5 +1,4 @@
 -- `read_long` meets its contract: how many arguments follow the code says which reader goes on.
--- Assumes nothing.
 use mathlib.Core.Path.{sym, _∙_}
 use native.Mathlib.Omega.{arith}
 use Rattle.event.specs.Event.{readArguments, readEvent}

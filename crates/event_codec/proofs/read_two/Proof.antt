@@ -1,5 +1,4 @@
 -- `read_two` meets its contract: the number read leads on, or its refusal ends the reading.
--- Assumes nothing.
 use mathlib.Core.Path.{sym, _∙_}
 use Rattle.event.proofs.Reading.{goes-on, ends}
 use Rattle.event_codec.proofs.Reading.{few-refusals}

@@ -1,5 +1,4 @@
 -- `write_event` meets its contract: an arm for each code, which fixes how many arguments are written.
--- Assumes nothing.
 use mathlib.Core.Path.{refl}
 use Rattle.event.specs.Event.{known, arguments}
 use Rattle.event_codec.proofs.Arms.{NoneUpTo, known-no-arm}

@@ -1,5 +1,4 @@
 -- `write_none` meets its contract: both arguments must be 0, and then the code is all there is to write.
--- Assumes nothing.
 use native.Mathlib.Omega.{arith}
 use Rattle.event.proofs.Writing.{writes-bytes, writes-stray, stray-first, stray-second, stray-none, bytes-none}
 use borrow.Author.Needs.{needs}

@@ -1,5 +1,4 @@
 -- `write_one` meets its contract: the second argument must be 0, and then the code and the first one are written.
--- Assumes nothing.
 use native.Mathlib.Omega.{arith}
 use Rattle.event.proofs.Writing.{writes-bytes, writes-stray, stray-second, stray-none, bytes-one}
 use borrow.Author.Needs.{needs}

@@ -1,5 +1,4 @@
 -- `write_pair` meets its contract: it tests the length, stores the byte, and lends the rest for the number.
--- Assumes nothing.
 use Prim.Native.Nat.{ℕ, _+_, _-_, _≤_, _<_}
 use mathlib.Core.Path.{_≡_, sym, ap, _∙_}
 use mathlib.Core.List.{List, _∷_}

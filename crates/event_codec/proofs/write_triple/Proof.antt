@@ -1,5 +1,4 @@
 -- `write_triple` meets its contract: it tests the length, writes the byte and the first number, and lends the rest for the second.
--- Assumes nothing.
 use Prim.Native.Nat.{ℕ, _+_, _-_, _≤_, _<_}
 use mathlib.Core.Path.{_≡_, sym, ap, _∙_}
 use mathlib.Core.List.{List, _∷_, _++_}

@@ -1,5 +1,4 @@
 -- `write_two` meets its contract: no argument is stray, and the code and both arguments are written.
--- Assumes nothing.
 use native.Mathlib.Omega.{arith}
 use Rattle.event.proofs.Writing.{writes-bytes, stray-none, bytes-two}
 use borrow.Author.Needs.{needs}

@@ -1,5 +1,4 @@
 -- `print_bytes` is safe and ends: the measure is how many bytes are left.
--- Assumes nothing.
 use Prim.Native.Nat.{_-_, _≤_}
 use native.Mathlib.Omega.{arith}
 use lib.ListN.{length}

@@ -1,5 +1,4 @@
 -- `read_all` is safe and ends: an accepted event covers a byte, so that the bytes after the place grow fewer.
--- Assumes nothing.
 use Prim.Native.Nat.{ℕ, _-_, _<_}
 use mathlib.Core.Path.{_≡_}
 use mathlib.Core.List.{List}

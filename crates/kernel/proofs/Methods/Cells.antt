@@ -1,6 +1,6 @@
 -- The loops over the cells: what each has done of its definition before entry e, from its start to its end.
 --
--- In order: a tick's counters and match marks; a tick's requests and losses; its switches; starts and stops; the switches. Assumes nothing.
+-- In order: a tick's counters and match marks; a tick's requests and losses; its switches; starts and stops; the switches.
 use Prim.Native.Nat.{ℕ, zero, suc, _+_, _-_, _≤_, _<_}
 use mathlib.Core.Path.{_≡_, refl, sym, ap, ap₂, _∙_}
 use mathlib.Core.Bool.{Bool, true, false, _&&_, _||_, or-assoc, or-false}

@@ -1,5 +1,5 @@
 -- The events of bodies and of resources, case by case in the order of their checks, as the code goes through them: refused with each
--- status, and done. A variable before an equation is what the code has in its place. Assumes nothing.
+-- status, and done. A variable before an equation is what the code has in its place.
 use Prim.Native.Nat.{ℕ, _≤_, _<_, max}
 use mathlib.Core.Path.{_≡_, refl, sym, _∙_}
 use mathlib.Core.Bool.{Bool, true, false, cond, not, _&&_, _||_}

@@ -1,5 +1,4 @@
 -- One more loss where a test holds: the row with the count or one more stored.
--- Assumes nothing.
 use Prim.Native.Nat.{ℕ, _≤_}
 use mathlib.Core.Path.{_≡_, refl, sym}
 use mathlib.Core.Bool.{Bool, true, false, cond}

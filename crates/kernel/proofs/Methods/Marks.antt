@@ -1,7 +1,7 @@
 -- The match marks of a group as one number: how the code sums it up, and how it finds the marks that are set.
 --
 -- In order: the zeros below a number's lowest set digit; the first mark set (`First`), found by them; the loop, at which matches are left to
--- take (`Left`); the sum. A mark is a byte, so that the zeros below the first mark set are 8 for each mark before it. Assumes nothing.
+-- take (`Left`); the sum. A mark is a byte, so that the zeros below the first mark set are 8 for each mark before it.
 use Prim.Native.Nat.{ℕ, zero, suc, _+_, _-_, _*_, _/_, _%_, _^_, _≤_, _<_}
 use mathlib.Core.Path.{_≡_, refl, sym, ap, ap₂, _∙_}
 use mathlib.Core.Logic.{_≢_}

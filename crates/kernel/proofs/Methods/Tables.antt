@@ -1,4 +1,4 @@
--- The events of tables, case by case in the order of their checks, as the code goes through them. Assumes nothing.
+-- The events of tables, case by case in the order of their checks, as the code goes through them.
 use Prim.Native.Nat.{ℕ, zero, suc, _+_, _≤_, _<_}
 use mathlib.Core.Path.{_≡_, refl, sym, ap, _∙_}
 use mathlib.Core.Bool.{Bool, true, false, _&&_, _||_}

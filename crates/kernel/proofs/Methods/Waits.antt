@@ -1,5 +1,5 @@
 -- The events of extended tasks, case by case in the order of their checks, as the code goes through them: refused with each status, and done.
--- A variable before an equation is what the code has in its place. Assumes nothing.
+-- A variable before an equation is what the code has in its place.
 use Prim.Native.Nat.{ℕ}
 use mathlib.Core.Path.{_≡_, sym, _∙_}
 use mathlib.Core.Bool.{Bool, true, false, cond, _&&_, _||_}

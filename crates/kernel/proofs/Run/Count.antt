@@ -1,5 +1,4 @@
 -- The first pass over a trace: what is left to read, after the events counted so far.
--- Assumes nothing.
 use Prim.Native.Nat.{ℕ, _+_, _≤_, _<_}
 use mathlib.Core.Path.{_≡_, refl, sym, ap, _∙_}
 use mathlib.Core.List.{List}

@@ -3,8 +3,6 @@
 --   tables-laid                               what the machine's methods count on
 --   step-1 .. step-9                          what an arm's method hands back is the step of the event that was read
 --   Playing                                   the invariant: `playable-start`, `playing-turn`, `playing-end`
---
--- Assumes nothing.
 use Prim.Native.Nat.{ℕ, suc, _+_, _*_, _≤_, _<_}
 use mathlib.Core.Path.{_≡_, refl, sym, ap, _∙_}
 use mathlib.Core.List.{List, [], _∷_, _++_, map, append-assoc, append-nil}

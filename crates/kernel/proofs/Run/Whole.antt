@@ -2,8 +2,6 @@
 --
 --   answered          the answers and then the losses, laid one after the other, are the machine's answers
 --   ran-config-refused .. ran-all   the run's ways out, by what the code read
---
--- Assumes nothing.
 use Prim.Native.Nat.{ℕ, _+_, _*_, _≤_, _<_}
 use mathlib.Core.Path.{_≡_, sym, ap, ap₂, _∙_}
 use mathlib.Core.List.{List, _++_}

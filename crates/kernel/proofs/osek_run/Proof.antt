@@ -1,5 +1,4 @@
 -- `osek_run` meets its contract: each way out is one of the run's checks, or the whole run.
--- Assumes nothing.
 use mathlib.Core.Path.{refl}
 use native.Mathlib.Omega.{arith}
 use Rattle.kernel.proofs.Run.Whole.{config-place-le, ran-config-refused, ran-too-long, config-accepted, config-shaped, few-events, trace-place-le, ran-trace-refused, trace-readable, events-counted, ran-no-room, ran-all}

@@ -4,8 +4,6 @@
 --   winner-above   it is above the level: it is a body
 --   winner-best    and its priority is above every other's that bids
 --   trigger-wins   a time-triggered task that has still to begin wins
---
--- Assumes nothing.
 use Prim.Native.Nat.{ℕ, _^_, _≤_, _<_}
 use mathlib.Core.Path.{_≡_, refl, sym, ap, ap₂, _∙_}
 use mathlib.Core.Logic.{_≢_, ⊎-elim}

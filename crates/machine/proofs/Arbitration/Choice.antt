@@ -4,8 +4,6 @@
 --   chosen-seated   no body is above the level: the first of the nest is chosen
 --   chosen-none     the same where nobody is in it
 --   chosen-above    the highest of those above the level is chosen
---
--- Assumes nothing.
 use Prim.Native.Nat.{ℕ, _+_, _*_, _≤_, _<_}
 use mathlib.Core.Path.{_≡_, refl, sym, ap, _∙_}
 use mathlib.Core.Logic.{_≢_}

@@ -2,8 +2,6 @@
 --
 --   calm-arbitrated   no body is above the level: nothing changes
 --   settled-tied      whatever the model; where a time-triggered task is started it runs on
---
--- Assumes nothing.
 use Prim.Native.Nat.{ℕ, _^_, _≤_, _<_}
 use mathlib.Core.Path.{_≡_, refl, sym, ap, subst, _∙_}
 use mathlib.Core.Logic.{_≢_}

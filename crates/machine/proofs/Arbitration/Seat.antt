@@ -2,8 +2,6 @@
 --
 --   Holders c rk m bs   the bodies that hold a resource, nested, with a level at most the model's
 --   holders             of every model there are such
---
--- Assumes nothing.
 use Prim.Native.Nat.{ℕ, max, _≤_, _<_}
 use mathlib.Core.Path.{_≡_, refl, sym, _∙_}
 use mathlib.Core.Bool.{false, true≢false}

@@ -2,8 +2,6 @@
 --
 --   receive-tied, receive-noted   the body b gets the bits of w
 --   clear-noted                   the bits of w of body b are cleared
---
--- Assumes nothing.
 use Prim.Native.Nat.{ℕ, _^_, _<_}
 use mathlib.Core.Path.{_≡_, refl, sym, ap, ap₂, subst, _∙_}
 use mathlib.Core.Logic.{_≢_}

@@ -1,8 +1,6 @@
 -- What starting and stopping a run of cells stores: inside the run each place gets its value, outside it all stays.
 --
 --   laid f k e l   the list l with f i at each of the k places i from e on; the definitions of specs/Cells.antt are such lists
---
--- Assumes nothing.
 use Prim.Native.Nat.{ℕ, zero, suc, _+_, _≤_, _<_}
 use mathlib.Core.Path.{_≡_, refl, _∙_}
 use mathlib.Core.Bool.{true}

@@ -2,8 +2,6 @@
 --
 --   end-tied     the runner ends
 --   pause-tied   the runner waits for an event bit
---
--- Assumes nothing.
 use Prim.Native.Nat.{ℕ, _<_}
 use mathlib.Core.Path.{_≡_, refl, sym, ap, _∙_}
 use mathlib.Core.Logic.{_≢_}

@@ -1,5 +1,4 @@
 -- Get: the runner takes a resource that nobody holds, and runs at its ceiling.
--- Assumes nothing.
 use Prim.Native.Nat.{ℕ, _+_, max, _≤_, _<_}
 use mathlib.Core.Path.{_≡_, refl, sym, ap₂, _∙_}
 use mathlib.Core.Bool.{false}

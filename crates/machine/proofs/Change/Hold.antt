@@ -3,8 +3,6 @@
 --   held-tied     the runner becomes y, its slots are those of what y holds
 --   holding-is    the slot on top is the runner's exactly if it holds a resource
 --   latest-is     and then it is that of the latest of them
---
--- Assumes nothing.
 use Prim.Native.Nat.{ℕ, max, _<_}
 use mathlib.Core.Path.{_≡_, refl, sym, ap, _∙_}
 use mathlib.Core.Logic.{_≢_}

@@ -3,8 +3,6 @@
 --
 --   launch-tied        the model after it
 --   plain-triggering   where none is triggered the highest by priority is dispatched
---
--- Assumes nothing.
 use Prim.Native.Nat.{ℕ, _≤_, _<_}
 use mathlib.Core.Path.{_≡_, refl, sym, ap, ap₂, _∙_}
 use mathlib.Core.Logic.{_≢_}

@@ -3,8 +3,6 @@
 --   due-marked     the first mark is set
 --   due-append     the marks of two rows, one after the other
 --   due-quiet      no mark is set
---
--- Assumes nothing.
 use Prim.Native.Nat.{ℕ, zero, suc}
 use mathlib.Core.Path.{_≡_, refl, sym}
 use mathlib.Core.Bool.{Bool, true, false}

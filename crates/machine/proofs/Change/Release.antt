@@ -1,5 +1,4 @@
 -- Release: the runner gives its latest resource back, and runs at the level that it has without it.
--- Assumes nothing.
 use Prim.Native.Nat.{ℕ, _+_, max, _<_}
 use mathlib.Core.Path.{_≡_, refl, sym, ap, _∙_}
 use mathlib.Core.Bool.{true, false}

@@ -3,8 +3,6 @@
 --   touched-tied   the words follow the body, and the nest does not notice
 --   elsewhere      cells and losses have no part in who runs; events-tied: nor have event bits
 --   asked-tied     a body is asked for: activate-tied, trigger-tied, line-tied
---
--- Assumes nothing.
 use Prim.Native.Nat.{ℕ, _<_}
 use mathlib.Core.Path.{_≡_, refl, sym, ap, _∙_}
 use mathlib.Core.Bool.{Bool, true, false, true≢false}

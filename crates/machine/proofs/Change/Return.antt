@@ -1,5 +1,4 @@
 -- A time-triggered task ends: the one that was started before it goes on, or whoever took the latest resource that is held, or nobody.
--- Assumes nothing.
 use Prim.Native.Nat.{ℕ, _<_}
 use mathlib.Core.Path.{_≡_, refl, sym, ap, _∙_}
 use mathlib.Core.Logic.{_≢_}

@@ -4,8 +4,6 @@
 --   marks-due         the marks of the entries' cells are the due entries
 --   due-first-cells   cells without an entry are off, and ask for nothing
 --   ticked-timed      the cells after the tick stand for the tables after it
---
--- Assumes nothing.
 use Prim.Native.Nat.{ℕ, zero, suc, _+_, _-_, _≤_, _<_}
 use mathlib.Core.Path.{_≡_, refl, sym, ap, ap₂, _∙_}
 use mathlib.Core.Bool.{Bool, false, _&&_}

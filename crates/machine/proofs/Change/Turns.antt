@@ -3,8 +3,6 @@
 --   switch-on, switch-turn   a switch says whether its cell is on, and whether it has a turn to pass
 --   some-holds, some-none    one of the cells from e on
 --   on-after, turn-after     a cell's switch after a tick says what the tick made of the cell
---
--- Assumes nothing.
 use Prim.Native.Nat.{ℕ, zero, suc, _+_, _≤_, _<_}
 use mathlib.Core.Bool.{Bool, true, false, cond, true≢false, _&&_, and-false, or-true}
 use mathlib.Core.List.{List}

@@ -4,8 +4,6 @@
 --   agrees                an event that ends in an arbitrated model
 --   agrees-either         an event with the same status on both sides; agrees-attempt: one that changes nothing where it is refused
 --   by-caller             either nobody who may call runs on both sides, or one body on both; by-runner: who may not, too
---
--- Assumes nothing.
 use Prim.Native.Nat.{ℕ, zero, suc, _<_}
 use mathlib.Core.Path.{_≡_, refl, sym, ap, ap₂, subst, _∙_}
 use mathlib.Core.Bool.{Bool, true, false, true≢false, cond, _||_}

@@ -1,5 +1,4 @@
 -- Activate, Line, Finish and Chain do the same to the model as to the state.
--- Assumes nothing.
 use Prim.Native.Nat.{ℕ, _<_}
 use mathlib.Core.Path.{_≡_, refl, sym, ap, ap₂, subst, _∙_}
 use mathlib.Core.Logic.{_≢_}

@@ -1,5 +1,4 @@
 -- Get and Release do the same to the model as to the state.
--- Assumes nothing.
 use Prim.Native.Nat.{ℕ, zero, suc, max, _<_}
 use mathlib.Core.Path.{_≡_, refl, sym, ap, _∙_}
 use mathlib.Core.Bool.{Bool, true, false, true≢false, not, _||_}

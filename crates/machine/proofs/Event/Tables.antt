@@ -1,6 +1,5 @@
 -- Start and Stop do the same to the model as to the state: the cells of one table are started or stopped as a cell by itself is, and no other
 -- table's.
--- Assumes nothing.
 use Prim.Native.Nat.{ℕ, suc, _+_, _-_, _≤_, _<_}
 use mathlib.Core.Path.{_≡_, refl, sym, ap, _∙_}
 use mathlib.Core.Logic.{_≢_}

@@ -1,6 +1,5 @@
 -- Tick does the same to the model as to the state: a match is a due entry, and what it asks for or loses is the same. At most one
 -- time-triggered task is started, and it is dispatched.
--- Assumes nothing.
 use Prim.Native.Nat.{ℕ, suc, _+_, _≤_, _<_}
 use mathlib.Core.Path.{_≡_, refl, sym, ap, subst, _∙_}
 use mathlib.Core.Logic.{_≢_}

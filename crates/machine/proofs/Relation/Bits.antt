@@ -4,8 +4,6 @@
 --   noted-same              bodies with the same bits and masks
 --   noted-touched           one body is changed, but for its bits and masks
 --   noted-changed           one body is changed, and the rows follow it
---
--- Assumes nothing.
 use Prim.Native.Nat.{ℕ, _<_}
 use mathlib.Core.Path.{_≡_, refl, sym, ap, _∙_}
 use mathlib.Core.Logic.{_≢_}

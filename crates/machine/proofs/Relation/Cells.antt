@@ -1,5 +1,4 @@
 -- How the cells stand for the tables: each keeps its entry's arithmetic.
--- Assumes nothing.
 use Prim.Native.Nat.{ℕ, suc, _+_, _≤_, _<_}
 use mathlib.Core.Path.{_≡_}
 use mathlib.Core.Bool.{Bool, false}

@@ -2,8 +2,6 @@
 --
 --   Kinds c bs       of the bodies bs none is triggered and has still to begin, and none that is ready or started is time-triggered
 --   trigger-plain    the level of a request is the priority of any other body
---
--- Assumes nothing.
 use Prim.Native.Nat.{ℕ, _<_}
 use mathlib.Core.Path.{_≡_, sym, ap, _∙_}
 use mathlib.Core.Bool.{Bool, true, false, cond, not, _&&_}

@@ -3,8 +3,6 @@
 --   Lost c rk ls bs   the losses by rank, ls, are those of the bodies bs
 --   lost-same         bodies with the same losses
 --   lost-one          one more is lost by one body
---
--- Assumes nothing.
 use Prim.Native.Nat.{ℕ, _<_}
 use mathlib.Core.Path.{_≡_, sym, ap, _∙_}
 use mathlib.Core.List.{List}

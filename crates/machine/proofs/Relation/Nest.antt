@@ -5,7 +5,7 @@
 --   Seats c rk bs js r l ns  the runner r and the level l are those of the nest, and whoever is below holds a resource; where time-triggered
 --                        tasks js are started the latest of them runs, and all of the nest hold a resource
 --
--- A preempted body that holds nothing is in no nest: its bit in `started` brings it back. Assumes nothing.
+-- A preempted body that holds nothing is in no nest: its bit in `started` brings it back.
 use Prim.Native.Nat.{ℕ, max, _≤_, _<_}
 use mathlib.Core.Path.{_≡_, refl, sym, ap, ap₂, _∙_}
 use mathlib.Core.Bool.{Bool, true, false, true≢false, _||_}

@@ -4,8 +4,6 @@
 --   timed-exists               a time-triggered task is a body
 --   untriggered                no other body is triggered
 --   kinds-of                   who bids for the processor by priority is no time-triggered task
---
--- Assumes nothing.
 use Prim.Native.Nat.{ℕ, _<_}
 use mathlib.Core.Path.{_≡_, refl, sym, ap, _∙_}
 use mathlib.Core.Logic.{_≢_}

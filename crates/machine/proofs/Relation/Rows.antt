@@ -2,7 +2,7 @@
 --
 --   Shows ys xs      the bytes ys are xs, and `none` from there on
 --
--- and what a push and a pop make of it. Assumes nothing.
+-- and what a push and a pop make of it.
 use Prim.Native.Nat.{ℕ, zero, suc, _≤_, _<_}
 use mathlib.Core.Path.{_≡_, refl, sym, ap, _∙_}
 use mathlib.Core.List.{List, [], _∷_, _++_}

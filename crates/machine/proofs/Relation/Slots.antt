@@ -3,8 +3,6 @@
 --   Slot                a held resource: its number, its holder's rank, and the holder's level after it was taken
 --   slotsAlong c rk bs ns   the slots of the bodies ns, one body after the other
 --   Slots w rs hs ls ss     the row of slots is ss, and the word w has their resources
---
--- Assumes nothing.
 use Prim.Native.Nat.{ℕ, zero, suc, _+_, max}
 use mathlib.Core.Path.{_≡_}
 use mathlib.Core.Bool.{false, cond}

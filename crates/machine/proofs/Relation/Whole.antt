@@ -3,8 +3,6 @@
 --   Tied   the words, who runs and the held resources are those of the bodies; another body may still be above the level
 --   Calm   none is
 --   Sim    the whole: tied, calm, with the cells, the losses, the event bits and the order of the time-triggered tasks
---
--- Assumes nothing.
 use Prim.Native.Nat.{ℕ, _≤_, _<_}
 use mathlib.Core.Path.{_≡_}
 use mathlib.Core.Bool.{true, false}

@@ -3,8 +3,6 @@
 --   Words c rk k bs   the words of the core k are those of the bodies bs
 --   words-changed     one body is changed, and the words follow it
 --   busy-is           which bodies have a bit at all
---
--- Assumes nothing.
 use Prim.Native.Nat.{ℕ, _^_, _<_}
 use mathlib.Core.Path.{_≡_, refl, sym, ap, ap₂, _∙_}
 use mathlib.Core.Logic.{_≢_}

@@ -5,7 +5,7 @@
 --   declared-refused  so a declared user is refused a resource only where it holds it itself
 --
 -- and the same of the machine's slots: `slot-below`, `slot-user`, `machine-refused`. All for a model that stands for a state, whatever the kinds of its
--- bodies. Assumes nothing.
+-- bodies.
 use Prim.Native.Nat.{ℕ, zero, suc, max, _≤_, _<_}
 use mathlib.Core.Path.{_≡_, refl, sym, ap, _∙_}
 use mathlib.Core.Logic.{_≢_, _⊎_, inl, inr, ⊎-elim}

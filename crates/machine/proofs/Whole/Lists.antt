@@ -6,8 +6,6 @@
 --
 --   event-agrees   one event
 --   agreement-from a list of events, from any model that stands for a state; after-sim: what it leaves
---
--- Assumes nothing.
 use Prim.Native.Nat.{ℕ}
 use mathlib.Core.Path.{_≡_, refl, ap₂}
 use mathlib.Core.List.{List, [], _∷_}

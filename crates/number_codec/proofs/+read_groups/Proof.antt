@@ -1,5 +1,4 @@
 -- `read_groups` meets its contract: each answer is the law of `Groups` for that first byte. The measure is `more`.
--- Assumes nothing.
 use Prim.Native.Nat.{ℕ, _%_, _<_}
 use mathlib.Core.Path.{sym, ap, _∙_}
 use native.Mathlib.Omega.{arith}

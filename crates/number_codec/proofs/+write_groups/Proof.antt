@@ -1,5 +1,4 @@
 -- `write_groups` meets its contract: one byte stored, and the rest written to the part after it. The measure is the value.
--- Assumes nothing.
 use Prim.Native.Nat.{ℕ, suc, _+_, _-_, _/_, _%_, _≤_, _<_}
 use mathlib.Core.Path.{_≡_, ap, _∙_}
 use mathlib.Core.List.{List, [], _∷_}

@@ -1,5 +1,4 @@
 -- `continued` meets its contract: each of its three answers is the law of that name.
--- Assumes nothing.
 use mathlib.Core.Path.{sym, _∙_}
 use native.Mathlib.Omega.{arith}
 use borrow.Author.Needs.{needs}

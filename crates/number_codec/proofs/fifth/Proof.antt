@@ -1,5 +1,4 @@
 -- `fifth` meets its contract, by the two cases of its definition.
--- Assumes nothing.
 use mathlib.Core.Path.{sym, _∙_}
 use borrow.Author.Needs.{needs}
 use Rattle.number.proofs.Groups.{fifth-small, fifth-large}

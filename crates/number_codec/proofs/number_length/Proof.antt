@@ -1,5 +1,4 @@
 -- `number_length` meets its contract: each limit is a power of 128, at which one group more is needed.
--- Assumes nothing.
 use Prim.Native.Nat.{_/_}
 use native.Mathlib.Omega.{arith}
 use borrow.Author.Tests.{lt-ltb, le-ltb}

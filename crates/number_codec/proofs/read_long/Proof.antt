@@ -1,5 +1,4 @@
 -- `read_long` meets its contract: the groups at the place, with their place counted from the input's start.
--- Assumes nothing.
 use Prim.Native.Nat.{ℕ, _+_, _^_, _<_}
 use mathlib.Core.Path.{_≡_, ap}
 use mathlib.Core.List.{List}

@@ -1,5 +1,4 @@
 -- `read_number` meets its contract: a number of one byte is the law `read-single`, and any other is read group by group.
--- Assumes nothing.
 use mathlib.Core.Path.{sym}
 use native.Mathlib.Omega.{arith}
 use Rattle.number.proofs.Theorems.{read-single}

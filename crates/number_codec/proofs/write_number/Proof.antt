@@ -1,5 +1,4 @@
 -- `write_number` meets its contract: it tests the length, and then writes the groups.
--- Assumes nothing.
 use mathlib.Core.Path.{sym}
 use native.Mathlib.Omega.{arith}
 use lib.ListN.{length}

@@ -1,5 +1,4 @@
 -- `after_words` meets its contract: the uses come before the ranges.
--- Assumes nothing.
 use mathlib.Core.Path.{ap, _∙_}
 use Rattle.config.specs.declared.Config.{Config}
 use Rattle.oil_grammar.specs.Walk.{unborne}

@@ -1,5 +1,4 @@
 -- `osek_oil` meets its contract: the reading, then the writer.
--- Assumes nothing.
 use Rattle.oil.proofs.Ranges.{place-lt}
 use Rattle.oil.proofs.Answer.{refused-answer, written-answer}
 use borrow.Author.Needs.{needs}

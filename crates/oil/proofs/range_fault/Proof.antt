@@ -1,5 +1,4 @@
 -- `range_fault` meets its contract: no configuration takes 0 bytes, so a writer that is lent none refuses.
--- Assumes nothing.
 use Rattle.oil.proofs.Ranges.{fault-told, room-told}
 use borrow.Author.Needs.{needs}
 use Rattle.oil.proofs.range_fault.Statement.{statement}

@@ -1,5 +1,4 @@
 -- `ranged` meets its contract: by the first refusal of the configuration's numbers.
--- Assumes nothing.
 use mathlib.Core.Path.{sym, _∙_}
 use borrow.Author.Tests.{eq-eqb, ne-eqb}
 use Rattle.config.specs.Writer.{firstFault}

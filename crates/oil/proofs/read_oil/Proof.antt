@@ -1,5 +1,4 @@
 -- `read_oil` meets its contract: the words come before the uses.
--- Assumes nothing.
 use Rattle.oil_grammar.proofs.Places.{walked-place}
 use Rattle.oil.proofs.Answer.{words-in-order, words-refused}
 use borrow.Author.Needs.{needs}

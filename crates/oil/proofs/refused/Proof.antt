@@ -1,5 +1,4 @@
 -- `refused` meets its contract: the all-zero value, with the line and column of the place.
--- Assumes nothing.
 use borrow.Author.Needs.{needs}
 use Rattle.oil.proofs.refused.Statement.{statement}
 use Rattle.oil.proofs.refused.Tie as tie

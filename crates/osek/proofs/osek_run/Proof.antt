@@ -1,5 +1,4 @@
 -- `osek_run` meets its contract: it is the contract of what it calls.
--- Assumes nothing.
 use borrow.Author.Needs.{needs}
 use Rattle.osek.proofs.osek_run.Statement.{statement}
 use Rattle.osek.proofs.osek_run.Tie as tie

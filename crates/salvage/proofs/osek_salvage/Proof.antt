@@ -1,5 +1,4 @@
 -- `osek_salvage` meets its contract: it packs the answer of `salvage`, whose parts are small.
--- Assumes nothing.
 use mathlib.Core.Path.{ap, _∙_}
 use native.Mathlib.Omega.{arith}
 use Rattle.salvage.specs.Salvage.{resultOf}

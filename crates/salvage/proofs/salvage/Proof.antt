@@ -1,5 +1,4 @@
 -- `salvage` meets its contract: each of its four ways out is a law of `Answers`.
--- Assumes nothing.
 use mathlib.Core.Path.{refl}
 use Rattle.salvage.proofs.Answers.{did-too-long, did-no-room, did-no-list, did-whole, fitting}
 use borrow.Author.Needs.{needs}

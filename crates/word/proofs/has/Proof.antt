@@ -1,5 +1,4 @@
 -- `has` meets its contract: a shift and a remainder are the definition's quotient and remainder.
--- Assumes nothing.
 use native.Mathlib.Omega.{arith}
 use borrow.Author.Needs.{needs}
 use borrow.Author.Tests.{lt-ltb, le-ltb}

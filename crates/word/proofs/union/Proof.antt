@@ -1,5 +1,4 @@
 -- `union` meets its contract: it is the code's `|`.
--- Assumes nothing.
 use mathlib.Core.Path.{refl}
 use Rattle.word.specs.Word.{union}
 use Rattle.word.proofs.union.Statement.{statement}

@@ -1,5 +1,4 @@
 -- `winner` meets its contract: the leading zeros, the winner's bit and the bits below it are all there is.
--- Assumes nothing.
 use mathlib.Core.Path.{sym, ap, _∙_}
 use native.Mathlib.Omega.{arith}
 use borrow.Author.Needs.{needs}

@@ -1,5 +1,4 @@
 -- `with` meets its contract: the bit is or-ed in at a rank, and nothing changes elsewhere.
--- Assumes nothing.
 use mathlib.Core.Path.{sym}
 use borrow.Author.Needs.{needs}
 use Rattle.word.proofs.Bitwise.{or-with}

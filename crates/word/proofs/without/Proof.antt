@@ -1,5 +1,4 @@
 -- `without` meets its contract: the bit is masked out at a rank, and nothing changes elsewhere.
--- Assumes nothing.
 use mathlib.Core.Path.{sym}
 use native.Mathlib.Omega.{arith}
 use borrow.Author.Needs.{needs}

@@ -1,5 +1,4 @@
 -- `cell::Cell::start` meets its contract: a wrapping difference is the one number below 65,536 that the definition gives.
--- Assumes nothing.
 use borrow.Author.Needs.{needs}
 use mathlib.Core.Path.{sym, _∙_}
 use native.Mathlib.Nat.{mod-eq-of-lt}

@@ -1,5 +1,5 @@
 -- `cell::Cell::tick` meets its contract: its count, its mark, its counter and its turn are those of `ticked-made`, whichever way each test
--- went. Assumes nothing.
+-- went.
 use borrow.Author.Needs.{needs}
 use mathlib.Core.Logic.{⊎-elim}
 use mathlib.Core.Path.{_∙_}

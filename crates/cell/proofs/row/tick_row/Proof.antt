@@ -1,6 +1,6 @@
 -- `cell::row::tick_row` meets its contract: a walk of its MIR, by hand, since the borrow checker covers no slice of structs.
 -- The borrow is opened once, before the loop, and closed once, after it. Between the two the memory is the function's own: the cells that
--- are ticked, and the rest as they were. All that the walk knows of `tick` is its contract. Assumes nothing.
+-- are ticked, and the rest as they were. All that the walk knows of `tick` is its contract.
 use mathlib.Core.Path.{_≡_, refl, sym}
 use Prim.Native.Nat.{ℕ, _+_, _*_, _<_, _^_}
 use native.Mathlib.Omega.{arith}

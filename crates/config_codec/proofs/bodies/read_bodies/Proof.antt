@@ -1,5 +1,4 @@
 -- `read_bodies` meets its contract: the loop goes on from body to body.
--- Assumes nothing.
 use Prim.Native.Nat.{_-_, _≤_}
 use native.Mathlib.Omega.{arith}
 use Rattle.config.specs.declared.Config.{Config}

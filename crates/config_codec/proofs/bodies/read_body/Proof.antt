@@ -1,5 +1,4 @@
 -- `read_body` meets its contract: three numbers, one after the other.
--- Assumes nothing.
 use Prim.Native.Nat.{ℕ, _≤_}
 use mathlib.Core.Path.{subst, sym}
 use mathlib.Core.Path.{ap, _∙_}

@@ -1,5 +1,4 @@
 -- `read_priority` meets its contract, by those of its callees.
--- Assumes nothing.
 use borrow.Author.Needs.{needs}
 use Rattle.config_codec.proofs.bodies.read_priority.Statement.{statement}
 use Rattle.config_codec.proofs.bodies.read_priority.Tie as tie

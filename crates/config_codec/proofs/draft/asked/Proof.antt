@@ -1,5 +1,4 @@
 -- `asked` meets its contract: each arm is the number of its field.
--- Assumes nothing.
 use native.Mathlib.Omega.{arith}
 use Rattle.config.specs.declared.Field.the-variants.{Kind, Priority, Autostart, Users, Period, Entries, Offset, Task}
 use Rattle.config.specs.Draft.{askedAt, Inside}

@@ -1,5 +1,4 @@
 -- `autostart_fault` meets its contract, by those of its callees.
--- Assumes nothing.
 use Rattle.config.specs.Draft.{faultAt}
 use borrow.Author.Needs.{needs}
 use Rattle.config_codec.proofs.draft.autostart_fault.Statement.{statement}

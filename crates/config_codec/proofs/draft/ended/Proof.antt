@@ -1,5 +1,4 @@
 -- `ended` meets its contract: of the fields only `End` is the last.
--- Assumes nothing.
 use Prim.Native.Nat.{ℕ}
 use mathlib.Core.Path.{_≡_, refl, sym, ap}
 use mathlib.Core.List.{List, [], _∷_}

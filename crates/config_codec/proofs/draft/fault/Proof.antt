@@ -1,5 +1,4 @@
 -- `fault` meets its contract: each arm is the refusal of its field.
--- Assumes nothing.
 use native.Mathlib.Omega.{arith}
 use Rattle.config.specs.declared.Field.the-variants.{Priority, Autostart, Offset, Task}
 use Rattle.config.specs.Draft.{faultAt, Inside}

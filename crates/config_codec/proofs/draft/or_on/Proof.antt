@@ -1,5 +1,4 @@
 -- `or_on` meets its contract, by its test.
--- Assumes nothing.
 use borrow.Author.Tests.{eq-eqb, ne-eqb}
 use Rattle.config_codec.proofs.draft.or_on.Statement.{statement}
 use Rattle.config_codec.proofs.draft.or_on.Tie as tie

@@ -1,5 +1,4 @@
 -- `put` meets its contract: each arm stores its number and goes on to the next.
--- Assumes nothing.
 use Prim.Native.Nat.{_+_}
 use native.Mathlib.Omega.{arith}
 use borrow.Author.Tests.{eq-eqb, ne-eqb}

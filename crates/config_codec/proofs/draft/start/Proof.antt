@@ -1,5 +1,4 @@
 -- `start` meets its contract: the all-zero value, before the version.
--- Assumes nothing.
 use mathlib.Core.Path.{ap}
 use Rattle.config.specs.Draft.{onTo, start}
 use Rattle.config.specs.declared.Config.{Config}

@@ -1,5 +1,4 @@
 -- `task_fault` meets its contract: the test of a task looks at no other field.
--- Assumes nothing.
 use mathlib.Core.Path.{_∙_}
 use Rattle.config_codec.proofs.TableKinds.{task-same}
 use borrow.Author.Needs.{needs}

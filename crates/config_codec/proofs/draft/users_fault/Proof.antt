@@ -1,5 +1,4 @@
 -- `users_fault` meets its contract, by that of its callee.
--- Assumes nothing.
 use Rattle.config.specs.Draft.{faultAt}
 use borrow.Author.Needs.{needs}
 use Rattle.config_codec.proofs.draft.users_fault.Statement.{statement}

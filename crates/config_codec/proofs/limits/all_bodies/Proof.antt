@@ -1,5 +1,4 @@
 -- `all_bodies` meets its contract: a shift by less than the width loses nothing.
--- Assumes nothing.
 use Prim.Native.Nat.{ℕ, _*_, _%_, _^_, _<_}
 use mathlib.Core.Path.{_≡_, _∙_}
 use native.Mathlib.Omega.{arith}

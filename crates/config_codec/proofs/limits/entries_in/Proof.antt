@@ -1,5 +1,4 @@
 -- `entries_in` meets its contract, by those of its callees.
--- Assumes nothing.
 use borrow.Author.Needs.{needs}
 use Rattle.config_codec.proofs.limits.entries_in.Statement.{statement}
 use Rattle.config_codec.proofs.limits.entries_in.Tie as tie

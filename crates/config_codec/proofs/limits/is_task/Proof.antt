@@ -1,5 +1,4 @@
 -- `is_task` meets its contract, by its test.
--- Assumes nothing.
 use borrow.Author.Tests.{lt-ltb, le-ltb}
 use borrow.Author.Needs.{needs}
 use Rattle.config_codec.proofs.limits.is_task.Statement.{statement}

@@ -1,5 +1,4 @@
 -- `kind_fault` meets its contract: an entry of kind 3, or of another.
--- Assumes nothing.
 use mathlib.Core.Path.{sym, ap, _∙_}
 use mathlib.Core.Bool.{true}
 use borrow.Author.Tests.{not-true, not-false}

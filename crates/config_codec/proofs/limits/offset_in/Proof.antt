@@ -1,5 +1,4 @@
 -- `offset_in` meets its contract: an offset that is in order is less than a period.
--- Assumes nothing.
 use mathlib.Core.Path.{sym, _∙_}
 use native.Mathlib.Omega.{arith}
 use lib.Dec.{ltb, lit<}

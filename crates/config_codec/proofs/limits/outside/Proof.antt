@@ -1,5 +1,4 @@
 -- `outside` meets its contract, by its two tests.
--- Assumes nothing.
 use borrow.Author.Tests.{le-leb, lt-leb}
 use Rattle.config_codec.proofs.limits.outside.Statement.{statement}
 use Rattle.config_codec.proofs.limits.outside.Tie as tie

@@ -1,5 +1,4 @@
 -- `rises` meets its contract, by its two tests.
--- Assumes nothing.
 use borrow.Author.Tests.{lt-ltb, le-ltb, eq-eqb, ne-eqb}
 use Rattle.config_codec.proofs.limits.rises.Statement.{statement}
 use Rattle.config_codec.proofs.limits.rises.Tie as tie

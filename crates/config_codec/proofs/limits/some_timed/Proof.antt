@@ -1,5 +1,4 @@
 -- `some_timed` meets its contract: what is left to search says whether one is of kind 3.
--- Assumes nothing.
 use Prim.Native.Nat.{_-_, _≤_}
 use mathlib.Core.Path.{_≡_, refl, sym, _∙_}
 use native.Mathlib.Omega.{arith}

@@ -1,5 +1,4 @@
 -- `sorted` meets its contract: the first entry of a table, or one that rises.
--- Assumes nothing.
 use borrow.Author.Needs.{needs}
 use Rattle.config_codec.proofs.limits.sorted.Statement.{statement}
 use Rattle.config_codec.proofs.limits.sorted.Tie as tie

@@ -1,5 +1,4 @@
 -- `table_fault` meets its contract, by those of its callees.
--- Assumes nothing.
 use borrow.Author.Needs.{needs}
 use Rattle.config_codec.proofs.limits.table_fault.Statement.{statement}
 use Rattle.config_codec.proofs.limits.table_fault.Tie as tie

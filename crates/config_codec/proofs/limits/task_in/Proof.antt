@@ -1,5 +1,4 @@
 -- `task_in` meets its contract: each test where those before it hold.
--- Assumes nothing.
 use mathlib.Core.Path.{sym, _∙_}
 use borrow.Author.Tests.{not-true, not-false}
 use Rattle.config_codec.proofs.TableKinds.{task-none, task-unsorted, task-kind}

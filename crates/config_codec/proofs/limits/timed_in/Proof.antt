@@ -1,5 +1,4 @@
 -- `timed_in` meets its contract: what is left of the mask says whether it has a bit of kind 3.
--- Assumes nothing.
 use Prim.Native.Nat.{_-_, _≤_}
 use mathlib.Core.Path.{_≡_, refl, sym, _∙_}
 use native.Mathlib.Omega.{arith}

@@ -1,5 +1,4 @@
 -- `used` meets its contract: what is left to search says whether `v` occurs.
--- Assumes nothing.
 use Prim.Native.Nat.{_-_, _≤_}
 use mathlib.Core.Path.{_≡_, refl, sym, _∙_}
 use native.Mathlib.Omega.{arith}

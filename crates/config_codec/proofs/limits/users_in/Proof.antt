@@ -1,5 +1,4 @@
 -- `users_in` meets its contract: where no body is of kind 3 the range is all that is tested.
--- Assumes nothing.
 use mathlib.Core.Path.{sym, _∙_}
 use Prim.Native.Nat.{_-_, _^_}
 use lib.ListN.{take}

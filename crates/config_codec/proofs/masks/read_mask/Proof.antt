@@ -1,5 +1,4 @@
 -- `read_mask` meets its contract: one number.
--- Assumes nothing.
 use mathlib.Core.Path.{_∙_}
 use Rattle.config_codec.proofs.OneNumber.{arrived, stopped}
 use Rattle.config_codec.proofs.MaskParts.{mask-goes}

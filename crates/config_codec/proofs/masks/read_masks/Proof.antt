@@ -1,5 +1,4 @@
 -- `read_masks` meets its contract: the loop goes on from resource to resource.
--- Assumes nothing.
 use Prim.Native.Nat.{_-_, _≤_}
 use native.Mathlib.Omega.{arith}
 use Rattle.config.specs.declared.Config.{Config}

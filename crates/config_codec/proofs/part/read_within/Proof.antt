@@ -1,5 +1,4 @@
 -- `read_within` meets its contract, by those of its callees.
--- Assumes nothing.
 use borrow.Author.Needs.{needs}
 use Rattle.config_codec.proofs.part.read_within.Statement.{statement}
 use Rattle.config_codec.proofs.part.read_within.Tie as tie

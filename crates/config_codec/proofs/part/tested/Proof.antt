@@ -1,5 +1,4 @@
 -- `tested` meets its contract, by its tests.
--- Assumes nothing.
 use borrow.Author.Tests.{eq-eqb, ne-eqb}
 use Rattle.number.specs.Refusal.{none}
 use Rattle.config_codec.proofs.part.tested.Statement.{statement}

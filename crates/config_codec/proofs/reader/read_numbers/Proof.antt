@@ -1,5 +1,4 @@
 -- `read_numbers` meets its contract: the version, and what follows.
--- Assumes nothing.
 use mathlib.Core.Path.{_∙_}
 use native.Mathlib.Omega.{arith}
 use lib.Dec.{lit<}

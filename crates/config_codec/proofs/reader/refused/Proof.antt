@@ -1,5 +1,4 @@
 -- `refused` meets its contract: the all-zero value with the reason.
--- Assumes nothing.
 use borrow.Author.Needs.{needs}
 use Rattle.config_codec.proofs.reader.refused.Statement.{statement}
 use Rattle.config_codec.proofs.reader.refused.Tie as tie

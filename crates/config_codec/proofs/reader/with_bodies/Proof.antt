@@ -1,5 +1,4 @@
 -- `with_bodies` meets its contract: the body count, the bodies, and what follows.
--- Assumes nothing.
 use mathlib.Core.Path.{_∙_}
 use native.Mathlib.Omega.{arith}
 use lib.Dec.{lit<}

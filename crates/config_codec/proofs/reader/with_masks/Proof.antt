@@ -1,5 +1,4 @@
 -- `with_masks` meets its contract: the resource count, the masks, and what follows.
--- Assumes nothing.
 use mathlib.Core.Path.{_∙_}
 use native.Mathlib.Omega.{arith}
 use lib.Dec.{lit<}

@@ -1,5 +1,4 @@
 -- `with_tables` meets its contract: the table count, the tables, the end.
--- Assumes nothing.
 use mathlib.Core.Path.{_∙_}
 use native.Mathlib.Omega.{arith}
 use lib.Dec.{lit<}

@@ -1,5 +1,4 @@
 -- `read_entries` meets its contract: the loop goes on from entry to entry.
--- Assumes nothing.
 use Prim.Native.Nat.{ℕ, _-_, _≤_}
 use native.Mathlib.Omega.{arith}
 use Rattle.config.specs.declared.Config.{Config}

@@ -1,5 +1,4 @@
 -- `read_entry` meets its contract: two numbers, one after the other.
--- Assumes nothing.
 use native.Mathlib.Omega.{arith}
 use lib.ListN.{set}
 use Rattle.config_codec.proofs.OneNumber.{arrived, stopped}

@@ -1,5 +1,4 @@
 -- `read_offset` meets its contract, by those of its callees; an offset that is given fits its place.
--- Assumes nothing.
 use Prim.Native.Nat.{_≤_}
 use mathlib.Core.Path.{sym, subst, _∙_}
 use Rattle.number.specs.declared.NumberRead.{NumberRead}

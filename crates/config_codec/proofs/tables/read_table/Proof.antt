@@ -1,5 +1,4 @@
 -- `read_table` meets its contract: two numbers, then the entries.
--- Assumes nothing.
 use native.Mathlib.Omega.{arith}
 use lib.Dec.{lit<}
 use Rattle.config.specs.Refusal.{badField}

@@ -1,5 +1,4 @@
 -- `read_tables` meets its contract: the loop goes on from table to table.
--- Assumes nothing.
 use Prim.Native.Nat.{_-_, _≤_}
 use native.Mathlib.Omega.{arith}
 use Rattle.config.specs.declared.Config.{Config}

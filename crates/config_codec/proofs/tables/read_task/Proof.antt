@@ -1,5 +1,4 @@
 -- `read_task` meets its contract, by those of its callees.
--- Assumes nothing.
 use borrow.Author.Needs.{needs}
 use Rattle.config_codec.proofs.tables.read_task.Statement.{statement}
 use Rattle.config_codec.proofs.tables.read_task.Tie as tie

@@ -1,5 +1,4 @@
 -- `measure` meets its contract: the loop keeps `MeasuresOn`. The measure is the turns left.
--- Assumes nothing.
 use Prim.Native.Nat.{_-_}
 use mathlib.Core.Path.{_≡_, sym, _∙_}
 use mathlib.Core.Bool.{false}

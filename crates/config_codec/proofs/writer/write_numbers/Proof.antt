@@ -1,5 +1,4 @@
 -- `write_numbers` meets its contract: the loop keeps `WritesOn`. The measure is the turns left.
--- Assumes nothing.
 use Prim.Native.Nat.{_-_, _≤_}
 use mathlib.Core.Path.{_≡_, sym, ap, _∙_}
 use mathlib.Core.Bool.{false}

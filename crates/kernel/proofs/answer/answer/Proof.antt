@@ -1,5 +1,4 @@
 -- `answer` meets its contract: the losses are laid after the answers of all events.
--- Assumes nothing.
 use mathlib.Core.Path.{_≡_, sym, ap, _∙_}
 use native.Mathlib.Omega.{arith}
 use lib.ListN.{length, length-map}

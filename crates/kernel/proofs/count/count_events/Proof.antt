@@ -1,5 +1,4 @@
 -- `count_events` meets its contract: whatever is left to read, with the events counted, is the whole trace.
--- Assumes nothing.
 use Prim.Native.Nat.{_-_}
 use native.Mathlib.Omega.{arith}
 use lib.ListN.{length}

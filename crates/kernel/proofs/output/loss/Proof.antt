@@ -1,5 +1,4 @@
 -- `loss` meets its contract: past the end of the losses 0 is read.
--- Assumes nothing.
 use mathlib.Core.Path.{sym}
 use lib.ListN.{List·getD-eq-default}
 use borrow.Author.Needs.{needs}

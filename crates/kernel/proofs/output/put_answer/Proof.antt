@@ -1,5 +1,4 @@
 -- `put_answer` meets its contract: four stores are four bytes laid.
--- Assumes nothing.
 use Prim.Native.Nat.{ℕ}
 use mathlib.Core.Path.{_≡_, refl, ap, _∙_}
 use mathlib.Core.Bool.{Bool, true, false}

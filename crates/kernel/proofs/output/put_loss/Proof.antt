@@ -1,5 +1,4 @@
 -- `put_loss` meets its contract: two stores are two bytes laid.
--- Assumes nothing.
 use native.Mathlib.Omega.{arith}
 use lib.ListN.{length-set}
 use Rattle.kernel.proofs.Run.Bytes.{two-laid}

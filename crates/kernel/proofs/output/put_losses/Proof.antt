@@ -1,5 +1,4 @@
 -- `put_losses` meets its contract: each turn lays the losses of one body more.
--- Assumes nothing.
 use Prim.Native.Nat.{_+_, _*_, _-_, _/_, _%_, _≤_}
 use mathlib.Core.Path.{_≡_, refl, ap, _∙_}
 use mathlib.Core.List.{[], _∷_, map}

@@ -1,5 +1,4 @@
 -- `runner` meets its contract: ranks are below 32.
--- Assumes nothing.
 use mathlib.Core.Path.{refl}
 use borrow.Author.Tests.{lt-ltb, le-ltb}
 use borrow.Author.Needs.{needs}

@@ -1,5 +1,4 @@
 -- `play` meets its contract: each turn's step is that of the event that was read, and its answer is laid after those before it.
--- Assumes nothing.
 use Prim.Native.Nat.{ℕ, _+_, _-_, _≤_, _<_}
 use mathlib.Core.Path.{_≡_, sym, ap, _∙_}
 use mathlib.Core.Logic.{⊎-elim}

@@ -1,5 +1,4 @@
 -- `is_digit` meets its contract: by the two comparisons.
--- Assumes nothing.
 use Rattle.oil.proofs.Classes.{digit-low, digit-rest}
 use Rattle.oil.proofs.bytes.is_digit.Statement.{statement}
 use Rattle.oil.proofs.bytes.is_digit.Tie as tie

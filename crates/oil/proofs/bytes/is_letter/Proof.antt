@@ -1,5 +1,4 @@
 -- `is_letter` meets its contract: by the five comparisons.
--- Assumes nothing.
 use Rattle.oil.proofs.Classes.{letter-underscore, letter-low, letter-upper, letter-gap, letter-rest}
 use Rattle.oil.proofs.bytes.is_letter.Statement.{statement}
 use Rattle.oil.proofs.bytes.is_letter.Tie as tie

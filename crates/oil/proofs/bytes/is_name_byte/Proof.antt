@@ -1,5 +1,4 @@
 -- `is_name_byte` meets its contract: a letter, or else a digit.
--- Assumes nothing.
 use Rattle.oil_grammar.specs.Byte.{isNameByte}
 use mathlib.Core.Path.{sym, _∙_}
 use borrow.Author.Needs.{needs}

@@ -1,5 +1,4 @@
 -- `is_space` meets its contract: by the three comparisons.
--- Assumes nothing.
 use Rattle.oil.proofs.Classes.{space-itself, space-low, space-rest}
 use Rattle.oil.proofs.bytes.is_space.Statement.{statement}
 use Rattle.oil.proofs.bytes.is_space.Tie as tie

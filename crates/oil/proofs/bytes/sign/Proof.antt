@@ -1,5 +1,4 @@
 -- `sign` meets its contract: by the four comparisons.
--- Assumes nothing.
 use borrow.Author.Tests.{eq-eqb, ne-eqb}
 use Rattle.oil_grammar.specs.Word.{signOf}
 use Rattle.oil.proofs.bytes.sign.Statement.{statement}

@@ -1,5 +1,4 @@
 -- `attribute_begun` meets its contract: by the word's sort.
--- Assumes nothing.
 use borrow.Author.Tests.{eq-eqb, ne-eqb}
 use Rattle.oil_grammar.specs.Machine.{attributeBegun}
 use borrow.Author.Needs.{needs}

@@ -1,5 +1,4 @@
 -- `attribute_fault` meets its contract: a RESOURCE has no attributes.
--- Assumes nothing.
 use borrow.Author.Tests.{eq-eqb, ne-eqb}
 use Rattle.oil_grammar.specs.Machine.{attributeFault}
 use borrow.Author.Needs.{needs}

@@ -1,5 +1,4 @@
 -- `body_fault` meets its contract: by the word's sort, what was given before, and the kind.
--- Assumes nothing.
 use borrow.Author.Tests.{eq-eqb, ne-eqb}
 use Rattle.oil_grammar.specs.Machine.{bodyFault}
 use borrow.Author.Needs.{needs}

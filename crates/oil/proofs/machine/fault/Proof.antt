@@ -1,5 +1,4 @@
 -- `fault` meets its contract: each arm is the refusal of its want.
--- Assumes nothing.
 use mathlib.Core.Path.{sym, ap, _∙_}
 use Rattle.oil_grammar.specs.declared.Want.{Want}
 use Rattle.oil_grammar.specs.Machine.{faultAt}

@@ -1,5 +1,4 @@
 -- `names_object` meets its contract: of the wants only `Name` is meant.
--- Assumes nothing.
 use Prim.Native.Nat.{ℕ}
 use mathlib.Core.Path.{_≡_, refl, sym, ap}
 use mathlib.Core.List.{List, [], _∷_}

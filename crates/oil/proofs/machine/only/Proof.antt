@@ -1,5 +1,4 @@
 -- `only` meets its contract: by the word's sort.
--- Assumes nothing.
 use borrow.Author.Tests.{eq-eqb, ne-eqb}
 use Rattle.oil_grammar.specs.Machine.{only}
 use borrow.Author.Needs.{needs}

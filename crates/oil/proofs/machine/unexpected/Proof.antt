@@ -1,5 +1,4 @@
 -- `unexpected` meets its contract: by the word's sort.
--- Assumes nothing.
 use borrow.Author.Tests.{eq-eqb, ne-eqb}
 use Rattle.oil_grammar.specs.Machine.{unexpected}
 use Rattle.oil.proofs.machine.unexpected.Statement.{statement}

@@ -1,5 +1,4 @@
 -- `unknown` meets its contract: by the word's sort.
--- Assumes nothing.
 use borrow.Author.Tests.{le-leb, lt-leb, eq-eqb, ne-eqb}
 use Rattle.oil_grammar.specs.Machine.{unknown}
 use borrow.Author.Needs.{needs}

@@ -1,5 +1,4 @@
 -- `ended` meets its contract: by the kind.
--- Assumes nothing.
 use borrow.Author.Tests.{eq-eqb, ne-eqb}
 use Rattle.oil_grammar.specs.Meaning.{ended}
 use borrow.Author.Needs.{needs}

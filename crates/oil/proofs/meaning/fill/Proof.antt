@@ -1,5 +1,4 @@
 -- `fill` meets its contract: what is left of the words gives the configuration.
--- Assumes nothing.
 use Prim.Native.Nat.{ℕ, _-_, _≤_}
 use mathlib.Core.Path.{_≡_, _∙_}
 use mathlib.Core.List.{List}

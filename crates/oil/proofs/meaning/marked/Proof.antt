@@ -1,5 +1,4 @@
 -- `marked` meets its contract: a use of the name sets the body's bit.
--- Assumes nothing.
 use mathlib.Core.Path.{sym, _∙_}
 use Prim.Native.Nat.{_-_}
 use lib.ListN.{take, drop}

@@ -1,5 +1,4 @@
 -- `mask` meets its contract: what is left of the words gives the mask.
--- Assumes nothing.
 use Prim.Native.Nat.{_-_, _≤_}
 use mathlib.Core.Path.{_≡_, _∙_}
 use native.Mathlib.Omega.{arith}

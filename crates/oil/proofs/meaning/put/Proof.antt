@@ -1,5 +1,4 @@
 -- `put` meets its contract: each arm is what its want puts.
--- Assumes nothing.
 use Prim.Native.Nat.{ℕ}
 use mathlib.Core.Path.{refl, _∙_, ap}
 use mathlib.Core.List.{List}

@@ -1,5 +1,4 @@
 -- `put_name` meets its contract: only a RESOURCE has users.
--- Assumes nothing.
 use Prim.Native.Nat.{ℕ}
 use mathlib.Core.Path.{_∙_, ap}
 use borrow.Author.Tests.{eq-eqb, ne-eqb}

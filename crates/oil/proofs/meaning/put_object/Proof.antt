@@ -1,5 +1,4 @@
 -- `put_object` meets its contract: a RESOURCE has no kind.
--- Assumes nothing.
 use Prim.Native.Nat.{ℕ}
 use mathlib.Core.Path.{_∙_, ap}
 use borrow.Author.Tests.{eq-eqb, ne-eqb}

@@ -1,5 +1,4 @@
 -- `start_of` meets its contract: by the word's sort.
--- Assumes nothing.
 use borrow.Author.Tests.{eq-eqb, ne-eqb}
 use Rattle.oil.proofs.meaning.start_of.Statement.{statement}
 use Rattle.oil.proofs.meaning.start_of.Tie as tie

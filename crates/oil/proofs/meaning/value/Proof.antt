@@ -1,5 +1,4 @@
 -- `value` meets its contract: the digits passed and those left make the number, held as a byte.
--- Assumes nothing.
 use Prim.Native.Nat.{_-_, _≤_}
 use mathlib.Core.Path.{_≡_, refl, _∙_}
 use native.Mathlib.Omega.{arith}

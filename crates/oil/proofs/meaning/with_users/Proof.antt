@@ -1,5 +1,4 @@
 -- `with_users` meets its contract: past the array nothing is stored.
--- Assumes nothing.
 use mathlib.Core.Path.{_≡_, sym}
 use native.Mathlib.Omega.{arith}
 use lib.ListN.{length}

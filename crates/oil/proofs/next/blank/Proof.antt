@@ -1,5 +1,4 @@
 -- `blank` meets its contract: by the byte at the place.
--- Assumes nothing.
 use mathlib.Core.Path.{sym, _∙_}
 use native.Mathlib.Omega.{arith}
 use Rattle.oil_grammar.proofs.Blank.{blank-past, blank-space, blank-comment, blank-none}

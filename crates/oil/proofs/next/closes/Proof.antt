@@ -1,5 +1,4 @@
 -- `closes` meets its contract: by the two comparisons.
--- Assumes nothing.
 use borrow.Author.Tests.{eq-eqb, ne-eqb}
 use Rattle.oil.proofs.next.closes.Statement.{statement}
 use Rattle.oil.proofs.next.closes.Tie as tie

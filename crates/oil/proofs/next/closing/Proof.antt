@@ -1,5 +1,4 @@
 -- `closing` meets its contract: the end from `at` on is the end from `i` on, told from earlier.
--- Assumes nothing.
 use Prim.Native.Nat.{_-_, _≤_}
 use mathlib.Core.Path.{sym, _∙_}
 use native.Mathlib.Omega.{arith}

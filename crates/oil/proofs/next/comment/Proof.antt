@@ -1,5 +1,4 @@
 -- `comment` meets its contract: by the byte after the slash.
--- Assumes nothing.
 use mathlib.Core.Path.{sym, _∙_}
 use native.Mathlib.Omega.{arith}
 use Prim.Native.Nat.{_+_}

@@ -1,5 +1,4 @@
 -- `line_end` meets its contract: the run has come as far as `i`.
--- Assumes nothing.
 use Prim.Native.Nat.{_+_, _-_, _≤_}
 use mathlib.Core.Path.{_≡_, refl}
 use native.Mathlib.Omega.{arith}

@@ -1,5 +1,4 @@
 -- `next_word` meets its contract: the word where the spaces and comments end.
--- Assumes nothing.
 use native.Mathlib.Omega.{arith}
 use mathlib.Core.Path.{_∙_, ap}
 use Prim.Native.Nat.{ℕ}

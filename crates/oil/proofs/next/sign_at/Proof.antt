@@ -1,5 +1,4 @@
 -- `sign_at` meets its contract: by the sort.
--- Assumes nothing.
 use native.Mathlib.Nat.{add-zero}
 use borrow.Author.Tests.{eq-eqb, ne-eqb}
 use borrow.Author.Needs.{needs}

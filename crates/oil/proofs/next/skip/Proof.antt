@@ -1,5 +1,4 @@
 -- `skip` meets its contract: the next word from `at` on begins where that from `i` on does.
--- Assumes nothing.
 use Prim.Native.Nat.{_-_, _≤_}
 use mathlib.Core.Path.{_≡_, refl, sym, _∙_}
 use native.Mathlib.Omega.{arith}

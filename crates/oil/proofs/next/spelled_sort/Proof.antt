@@ -1,5 +1,4 @@
 -- `spelled_sort` meets its contract: the first of OIL's words that is the same.
--- Assumes nothing.
 use mathlib.Core.Path.{sym, _∙_}
 use Rattle.oil_grammar.specs.Word.{same, spelledSort, taskWord, isrWord, resourceWord, priorityWord, autostartWord, trueWord, falseWord}
 use Rattle.oil_grammar.proofs.Spelling.{same-result}

@@ -1,5 +1,4 @@
 -- `word_at` meets its contract: by the byte at the place.
--- Assumes nothing.
 use mathlib.Core.Path.{sym, _∙_}
 use Prim.Native.Nat.{_+_}
 use native.Mathlib.Omega.{arith}

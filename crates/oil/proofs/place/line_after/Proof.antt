@@ -1,5 +1,4 @@
 -- `line_after` meets its contract: by the byte.
--- Assumes nothing.
 use borrow.Author.Tests.{eq-eqb, ne-eqb}
 use borrow.Author.Needs.{needs}
 use Rattle.oil.proofs.place.line_after.Statement.{statement}

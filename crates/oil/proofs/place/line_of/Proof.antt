@@ -1,5 +1,4 @@
 -- `line_of` meets its contract: what is left of the bytes before the place gives the line.
--- Assumes nothing.
 use Prim.Native.Nat.{_+_, _-_, _≤_}
 use mathlib.Core.Path.{_≡_, refl, sym, _∙_}
 use native.Mathlib.Omega.{arith}

@@ -1,5 +1,4 @@
 -- `keep` meets its contract: by the room that is left.
--- Assumes nothing.
 use borrow.Author.Tests.{le-leb, lt-leb}
 use Rattle.oil.specs.Kept.{room, kept}
 use borrow.Author.Needs.{needs}

@@ -1,5 +1,4 @@
 -- `look` meets its contract: a use is searched for, and kept where a RESOURCE bears it.
--- Assumes nothing.
 use mathlib.Core.Path.{sym, _∙_}
 use borrow.Author.Tests.{not-true, not-false}
 use Rattle.oil_grammar.specs.Walk.{unborneAt}

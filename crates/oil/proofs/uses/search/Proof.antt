@@ -1,5 +1,4 @@
 -- `search` meets its contract: a name that is kept is borne, and any other is looked for.
--- Assumes nothing.
 use Prim.Native.Nat.{_-_, _≤_}
 use native.Mathlib.Omega.{arith}
 use lib.ListN.{take, drop}

@@ -1,5 +1,4 @@
 -- `unborne` meets its contract: what is left of the words has the first use that no RESOURCE bears.
--- Assumes nothing.
 use Prim.Native.Nat.{_-_, _≤_}
 use mathlib.Core.Path.{_≡_, sym, _∙_}
 use native.Mathlib.Omega.{arith}

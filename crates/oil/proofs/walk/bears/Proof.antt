@@ -1,5 +1,4 @@
 -- `bears` meets its contract: by the name that is wanted and the kind.
--- Assumes nothing.
 use mathlib.Core.Path.{sym, _∙_}
 use borrow.Author.Tests.{not-true, not-false}
 use Rattle.oil_grammar.specs.Walk.{bears}

@@ -1,5 +1,4 @@
 -- `borne` meets its contract: what is left of the words says whether the name is borne.
--- Assumes nothing.
 use Prim.Native.Nat.{_-_, _≤_}
 use mathlib.Core.Path.{_≡_, sym, _∙_}
 use native.Mathlib.Omega.{arith}

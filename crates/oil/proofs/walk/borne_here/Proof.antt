@@ -1,5 +1,4 @@
 -- `borne_here` meets its contract: the name is wanted, and is spelled the same.
--- Assumes nothing.
 use mathlib.Core.Path.{sym, _∙_}
 use Prim.Native.Nat.{_-_}
 use lib.ListN.{take, drop}

@@ -1,5 +1,4 @@
 -- `fault_in` meets its contract: the sort's refusal comes before the name's.
--- Assumes nothing.
 use mathlib.Core.Path.{sym, _∙_}
 use borrow.Author.Tests.{eq-eqb, ne-eqb}
 use Rattle.oil_grammar.specs.Machine.{fault}

@@ -1,5 +1,4 @@
 -- `name_fault` meets its contract: an object's name is wanted, and an earlier one bears it.
--- Assumes nothing.
 use mathlib.Core.Path.{sym, _∙_}
 use borrow.Author.Tests.{not-true, not-false}
 use Rattle.oil_grammar.specs.Walk.{nameFault}

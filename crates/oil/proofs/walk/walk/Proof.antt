@@ -1,5 +1,4 @@
 -- `walk` meets its contract: the loop keeps `WalksOn`. The measure is what is left of the text.
--- Assumes nothing.
 use Prim.Native.Nat.{_-_}
 use mathlib.Core.Path.{_∙_}
 use native.Mathlib.Omega.{arith}

@@ -1,5 +1,4 @@
 -- `by_table` meets its contract: each turn stores what it says of one table more, and `e` is where that table's entries begin.
--- Assumes nothing.
 use Prim.Native.Nat.{ℕ, _-_, _*_, _≤_, _<_}
 use mathlib.Core.Path.{_≡_, refl}
 use native.Mathlib.Omega.{arith}

@@ -1,5 +1,4 @@
 -- `compare` meets its contract: past the tables, and where a period is 0, it gives 0.
--- Assumes nothing.
 use mathlib.Core.Path.{_≡_}
 use native.Mathlib.Omega.{arith}
 use lib.ListN.{length, List·getD-eq-default}

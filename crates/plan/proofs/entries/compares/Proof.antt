@@ -1,5 +1,4 @@
 -- `compares` meets its contract: each turn stores one compare value more.
--- Assumes nothing.
 use Prim.Native.Nat.{_-_, _≤_}
 use mathlib.Core.Path.{_≡_, refl}
 use native.Mathlib.Omega.{arith}

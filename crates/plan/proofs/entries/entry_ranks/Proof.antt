@@ -1,5 +1,4 @@
 -- `entry_ranks` meets its contract: each turn stores one rank more.
--- Assumes nothing.
 use Prim.Native.Nat.{_-_, _≤_}
 use mathlib.Core.Path.{_≡_, refl}
 use native.Mathlib.Omega.{arith}

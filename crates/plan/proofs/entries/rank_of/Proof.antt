@@ -1,5 +1,4 @@
 -- `rank_of` meets its contract, inside the list and past it.
--- Assumes nothing.
 use mathlib.Core.Path.{_≡_, sym}
 use native.Mathlib.Omega.{arith}
 use lib.ListN.{length, List·getD-eq-default}

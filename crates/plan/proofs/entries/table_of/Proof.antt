@@ -1,5 +1,4 @@
 -- `table_of` meets its contract: the tables passed and the entry's table among those that are left.
--- Assumes nothing.
 use Prim.Native.Nat.{_+_, _-_, _≤_}
 use mathlib.Core.Path.{_≡_}
 use native.Mathlib.Omega.{arith}

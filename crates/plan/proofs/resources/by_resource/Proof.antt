@@ -1,5 +1,4 @@
 -- `by_resource` meets its contract: each turn stores one ceiling and one word of users more.
--- Assumes nothing.
 use Prim.Native.Nat.{_-_, _/_, _%_, _^_, _≤_}
 use mathlib.Core.Path.{_≡_, refl}
 use native.Mathlib.Omega.{arith}

@@ -1,5 +1,4 @@
 -- `ceiling` meets its contract: the greatest so far and what is left to choose from make the whole.
--- Assumes nothing.
 use Prim.Native.Nat.{_-_, _≤_, max}
 use mathlib.Core.Path.{_≡_, sym, _∙_}
 use mathlib.Core.Logic.{⊎-elim}

@@ -1,5 +1,4 @@
 -- `user_ranks` meets its contract: each turn takes in the rank of a body whose bit is set.
--- Assumes nothing.
 use Prim.Native.Nat.{_-_, _/_, _%_, _^_, _≤_}
 use mathlib.Core.Path.{_≡_, refl, _∙_}
 use mathlib.Core.Logic.{⊎-elim}

@@ -1,5 +1,4 @@
 -- `belonging` meets its contract: an event that goes on is known, and one that begins is read.
--- Assumes nothing.
 use native.Mathlib.Omega.{arith}
 use Rattle.salvage.proofs.Turn.{belonging-left, belonging-read, belonging-refused, place-later}
 use borrow.Author.Needs.{needs}

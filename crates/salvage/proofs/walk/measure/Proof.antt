@@ -1,5 +1,4 @@
 -- `measure` meets its contract: what is counted and what is left make up both lengths. The measure is the bytes left.
--- Assumes nothing.
 use Prim.Native.Nat.{_+_, _-_}
 use native.Mathlib.Omega.{arith}
 use lib.ListN.{length}

@@ -1,5 +1,4 @@
 -- `stretch_length` meets its contract: a stretch is two numbers, and one without bytes is none.
--- Assumes nothing.
 use mathlib.Core.Path.{sym, ap, _∙_}
 use native.Mathlib.Omega.{arith}
 use lib.ListN.{length, length-append}

@@ -1,5 +1,4 @@
 -- `put_number` meets its contract: the list is lent from the place on, and the number fits.
--- Assumes nothing.
 use Prim.Native.Nat.{ℕ, _+_, _-_, _≤_}
 use mathlib.Core.Path.{_≡_, refl, sym, ap, _∙_}
 use mathlib.Core.List.{List}

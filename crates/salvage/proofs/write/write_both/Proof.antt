@@ -1,5 +1,4 @@
 -- `write_both` meets its contract: each kept byte and each stretch is written behind those before it. The measure is the bytes left.
--- Assumes nothing.
 use Prim.Native.Nat.{_-_}
 use mathlib.Core.Path.{ap, _∙_}
 use native.Mathlib.Omega.{arith}

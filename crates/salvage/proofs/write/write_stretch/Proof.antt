@@ -1,5 +1,4 @@
 -- `write_stretch` meets its contract: the offset is laid at the place, and the length behind it.
--- Assumes nothing.
 use Prim.Native.Nat.{ℕ, _+_, _≤_}
 use mathlib.Core.Path.{_≡_, sym, ap, _∙_}
 use mathlib.Core.List.{List, []}

@@ -1,5 +1,4 @@
 -- `stack::Row::empty` meets its contract: each of its words is eight times 255.
--- Assumes nothing.
 use borrow.Author.Needs.{needs}
 use Rattle.stack.specs.Stack.{emptyRow}
 use Rattle.stack.proofs.Row.empty.Statement.{statement}

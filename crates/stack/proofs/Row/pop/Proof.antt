@@ -1,5 +1,4 @@
 -- `pop` meets its contract: each word is popped as the definition pops it.
--- Assumes nothing.
 use borrow.Author.Needs.{needs}
 use Rattle.stack.specs.Stack.{popRow}
 use Rattle.stack.proofs.Row.pop.Statement.{statement}

@@ -1,5 +1,4 @@
 -- `stack::Row::push` meets its contract: each word is pushed as the definition pushes it.
--- Assumes nothing.
 use borrow.Author.Needs.{needs}
 use Rattle.stack.specs.Stack.{pushRow}
 use Rattle.stack.proofs.Row.push.Statement.{statement}

@@ -1,5 +1,4 @@
 -- `stack::Row::second` meets its contract: the second lowest byte of the near word lies under the top.
--- Assumes nothing.
 use borrow.Author.Needs.{needs}
 use Rattle.stack.specs.Stack.{secondRow}
 use Rattle.stack.proofs.Row.second.Statement.{statement}

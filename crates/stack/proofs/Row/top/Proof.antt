@@ -1,5 +1,4 @@
 -- `stack::Row::top` meets its contract: the lowest byte of the near word is the top.
--- Assumes nothing.
 use borrow.Author.Needs.{needs}
 use Rattle.stack.specs.Stack.{topRow}
 use Rattle.stack.proofs.Row.top.Statement.{statement}

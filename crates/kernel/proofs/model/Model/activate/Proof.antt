@@ -1,5 +1,4 @@
 -- `activate` meets its contract, case by case in the order of its checks.
--- Assumes nothing.
 use mathlib.Core.Path.{ap, _∙_}
 use Rattle.kernel.specs.View.{view, outcomeOf}
 use Rattle.kernel.proofs.Methods.Events.{activate-idle, activate-none, activate-busy, activate-done}

@@ -1,5 +1,4 @@
 -- `chain` meets its contract, case by case in the order of its checks.
--- Assumes nothing.
 use mathlib.Core.Path.{ap, _∙_}
 use Rattle.kernel.specs.View.{view, outcomeOf}
 use Rattle.kernel.proofs.Methods.Events.{chain-idle, chain-none, chain-holding, chain-busy, chain-done}

@@ -1,5 +1,4 @@
 -- `clear` meets its contract, case by case in the order of its checks.
--- Assumes nothing.
 use mathlib.Core.Path.{refl, sym, ap, _∙_}
 use borrow.Author.Tests.{not-true, not-false}
 use Rattle.word.proofs.Theorems.{has-lt}

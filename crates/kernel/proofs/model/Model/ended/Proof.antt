@@ -1,5 +1,4 @@
 -- `ended` meets its contract: the seat is left to the latest holder, then arbitration with the requests that it is given.
--- Assumes nothing.
 use mathlib.Core.Path.{_≡_, ap, _∙_}
 use Rattle.kernel.specs.View.{view, viewPicked, outcomeOf}
 use Rattle.kernel.proofs.Methods.Core.{ended-made}

@@ -1,5 +1,4 @@
 -- `fresh` meets its contract: arbitration of the core in which the autostart tasks are ready.
--- Assumes nothing.
 use borrow.Author.Needs.{needs}
 use Rattle.kernel.proofs.model.Model.fresh.Statement.{statement}
 use Rattle.kernel.proofs.model.Model.fresh.Tie as tie

@@ -1,5 +1,4 @@
 -- `launched` meets its contract: each part is as its helper ensures.
--- Assumes nothing.
 use borrow.Author.Needs.{needs}
 use Rattle.kernel.proofs.model.Model.launched.Statement.{statement}
 use Rattle.kernel.proofs.model.Model.launched.Tie as tie

@@ -1,5 +1,4 @@
 -- `line` meets its contract, case by case in the order of its checks.
--- Assumes nothing.
 use mathlib.Core.Path.{refl, ap, _∙_}
 use Rattle.kernel.specs.View.{view, outcomeOf}
 use Rattle.kernel.proofs.Methods.Events.{line-none, line-waits, line-done}

@@ -1,5 +1,4 @@
 -- `release` meets its contract, case by case in the order of its checks.
--- Assumes nothing.
 use mathlib.Core.Path.{ap, _∙_}
 use borrow.Author.Tests.{not-true, not-false}
 use Rattle.kernel.specs.View.{view, viewPicked, outcomeOf}

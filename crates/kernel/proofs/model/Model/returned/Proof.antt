@@ -1,5 +1,4 @@
 -- `returned` meets its contract: the seat is left to the time-triggered task that was started before, or to the latest holder, then arbitration.
--- Assumes nothing.
 use mathlib.Core.Path.{ap, _∙_}
 use Rattle.kernel.specs.View.{view, viewPicked, outcomeOf}
 use Rattle.kernel.proofs.Methods.Core.{returned-made}

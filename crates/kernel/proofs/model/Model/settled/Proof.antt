@@ -1,5 +1,4 @@
 -- `settled` meets its contract: arbitration with the requests that it is given.
--- Assumes nothing.
 use mathlib.Core.Path.{ap, _∙_}
 use Rattle.machine.specs.Model.{withRequest}
 use Rattle.kernel.specs.View.{view, viewPicked, outcomeOf}

@@ -1,5 +1,4 @@
 -- `start` meets its contract, case by case in the order of its checks.
--- Assumes nothing.
 use mathlib.Core.Path.{sym, ap, _∙_}
 use native.Mathlib.Omega.{arith}
 use Rattle.kernel.specs.View.{view, outcomeOf}

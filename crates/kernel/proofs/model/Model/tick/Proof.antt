@@ -1,5 +1,4 @@
 -- `tick` meets its contract: the cells, then the matches in table order, then arbitration, which may start a time-triggered task.
--- Assumes nothing.
 use mathlib.Core.Bool.{false}
 use mathlib.Core.Path.{ap, _∙_}
 use Rattle.config.specs.Value.{maxEntries}

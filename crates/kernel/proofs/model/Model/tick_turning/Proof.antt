@@ -1,5 +1,5 @@
 -- `tick_turning` meets its contract: the switches, the cells, the matches in table order, then arbitration, which may start a time-triggered
--- task. Assumes nothing.
+-- task.
 use mathlib.Core.Bool.{true}
 use mathlib.Core.Path.{ap, _∙_}
 use Rattle.config.specs.Value.{maxEntries}

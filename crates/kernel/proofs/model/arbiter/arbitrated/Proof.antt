@@ -1,5 +1,4 @@
 -- `arbitrated` meets its contract: the winner is dispatched where its priority is above the level, and else nothing changes.
--- Assumes nothing.
 use Prim.Native.Nat.{ℕ}
 use mathlib.Core.Path.{_≡_, ap}
 use mathlib.Core.Bool.{not}

@@ -1,5 +1,4 @@
 -- `execution_or` meets its contract, in its two cases.
--- Assumes nothing.
 use borrow.Author.Tests.{eq-eqb, ne-eqb}
 use Rattle.machine.specs.Model.{noRank}
 use Rattle.kernel.proofs.model.arbiter.execution_or.Statement.{statement}

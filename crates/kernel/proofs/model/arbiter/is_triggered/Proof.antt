@@ -1,5 +1,4 @@
 -- `is_triggered` meets its contract, by the cases of its two tests.
--- Assumes nothing.
 use borrow.Author.Tests.{lt-ltb, le-ltb}
 use Rattle.kernel.proofs.model.arbiter.is_triggered.Statement.{statement}
 use Rattle.kernel.proofs.model.arbiter.is_triggered.Tie as tie

@@ -1,5 +1,4 @@
 -- `latest_level` meets its contract: past the bottom of the row there is no holder.
--- Assumes nothing.
 use borrow.Author.Tests.{eq-eqb, ne-eqb}
 use Rattle.stack.specs.Stack.{topRow}
 use Rattle.machine.specs.Model.{noRank}

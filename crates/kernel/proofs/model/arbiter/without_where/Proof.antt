@@ -1,5 +1,4 @@
 -- `without_where` meets its contract, in its two cases.
--- Assumes nothing.
 use borrow.Author.Needs.{needs}
 use Rattle.kernel.proofs.model.arbiter.without_where.Statement.{statement}
 use Rattle.kernel.proofs.model.arbiter.without_where.Tie as tie

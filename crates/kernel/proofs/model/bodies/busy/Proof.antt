@@ -1,5 +1,4 @@
 -- `busy` meets its contract, by the two ways of its test.
--- Assumes nothing.
 use Rattle.word.specs.Word.{has}
 use Rattle.kernel.proofs.Methods.Tests.{or-first, or-second}
 use borrow.Author.Needs.{needs}

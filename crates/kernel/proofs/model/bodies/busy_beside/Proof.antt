@@ -1,5 +1,4 @@
 -- `busy_beside` meets its contract, by the two cases of its first test.
--- Assumes nothing.
 use mathlib.Core.Bool.{and-true, and-false}
 use borrow.Author.Tests.{eq-eqb, ne-eqb}
 use borrow.Author.Needs.{needs}

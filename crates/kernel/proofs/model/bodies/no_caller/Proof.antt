@@ -1,5 +1,4 @@
 -- `no_caller` meets its contract.
--- Assumes nothing.
 use borrow.Author.Needs.{needs}
 use Rattle.kernel.proofs.model.bodies.no_caller.Statement.{statement}
 use Rattle.kernel.proofs.model.bodies.no_caller.Tie as tie

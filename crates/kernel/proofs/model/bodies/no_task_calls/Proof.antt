@@ -1,5 +1,4 @@
 -- `no_task_calls` meets its contract, by the two ways of its test.
--- Assumes nothing.
 use mathlib.Core.Bool.{_||_}
 use lib.Dec.{eqb}
 use Rattle.config.specs.Meaning.{executionLevel}

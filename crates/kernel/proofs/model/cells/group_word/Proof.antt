@@ -1,5 +1,4 @@
 -- `group_word` meets its contract: each mark is 0 or 1, so that the sum fits, and the sum is the group's number.
--- Assumes nothing.
 use native.Mathlib.Omega.{arith}
 use borrow.Author.Needs.{needs}
 use Rattle.kernel.proofs.Methods.Marks.{bits-le, word-sum}

@@ -1,5 +1,4 @@
 -- `lose` meets its contract: past the row's end a store changes nothing.
--- Assumes nothing.
 use mathlib.Core.Path.{sym}
 use lib.Seq.{set-out}
 use Rattle.machine.specs.Cells.{oneMore}

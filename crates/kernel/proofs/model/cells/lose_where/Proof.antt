@@ -1,5 +1,4 @@
 -- `lose_where` meets its contract: what is stored is the count or one more, and past the row's end nothing is.
--- Assumes nothing.
 use Rattle.kernel.proofs.Methods.Losses.{lost-where, lost-past}
 use borrow.Author.Needs.{needs}
 use Rattle.kernel.proofs.model.cells.lose_where.Statement.{statement}

@@ -1,5 +1,4 @@
 -- `some_turn` meets its contract: what was found before entry e, or will be from there on, is what there is.
--- Assumes nothing.
 use Prim.Native.Nat.{_-_, _≤_}
 use mathlib.Core.Bool.{_||_}
 use mathlib.Core.Logic.{⊎-elim}

@@ -1,5 +1,4 @@
 -- `start_cells` meets its contract: what is left to do at entry e is what the definitions do from there on.
--- Assumes nothing.
 use Prim.Native.Nat.{_+_, _-_, _≤_}
 use mathlib.Core.Bool.{true, _||_}
 use mathlib.Core.Logic.{⊎-elim}

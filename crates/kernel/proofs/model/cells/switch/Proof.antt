@@ -1,5 +1,4 @@
 -- `switch` meets its contract: what is left to do at entry e is what the definition does from there on.
--- Assumes nothing.
 use Prim.Native.Nat.{_+_, _-_, _≤_}
 use mathlib.Core.Path.{_≡_, sym, _∙_}
 use native.Mathlib.Omega.{arith}

@@ -1,5 +1,4 @@
 -- `take_each` meets its contract: what is left to take at entry e gives with what was taken before it what the definition gives of all.
--- Assumes nothing.
 use Prim.Native.Nat.{_-_, _≤_}
 use mathlib.Core.Logic.{⊎-elim}
 use mathlib.Core.Path.{_≡_, refl, sym, _∙_}

@@ -1,5 +1,4 @@
 -- `take_group` meets its contract: the marks of the group that are not taken yet are `Left`, and a turn takes the next that is set.
--- Assumes nothing.
 use Prim.Native.Nat.{_+_, _-_}
 use mathlib.Core.Path.{sym, _∙_}
 use mathlib.Core.Bool.{Bool}

@@ -1,5 +1,4 @@
 -- `take_match` meets its contract, case by case: a loss, a request.
--- Assumes nothing.
 use mathlib.Core.Path.{sym, _∙_}
 use borrow.Author.Needs.{needs}
 use Rattle.kernel.proofs.model.cells.take_match.Statement.{statement}

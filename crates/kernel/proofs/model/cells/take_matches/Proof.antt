@@ -1,6 +1,5 @@
 -- `take_matches` meets its contract: what is left to do at the group from e on is what the definition does with the marks and
 -- ranks from there on.
--- Assumes nothing.
 use Prim.Native.Nat.{ℕ, _+_, _*_, _-_, _≤_}
 use mathlib.Core.Path.{_≡_, sym, refl, _∙_}
 use native.Mathlib.Omega.{arith}

@@ -1,5 +1,4 @@
 -- `tick_cells` meets its contract: the invariant is `Ticking`, with no turn to pass.
--- Assumes nothing.
 use Prim.Native.Nat.{_-_}
 use mathlib.Core.Bool.{false}
 use mathlib.Core.Path.{ap, _∙_}

@@ -1,5 +1,4 @@
 -- `tick_turns` meets its contract: the invariant is `Ticking`, with turns to pass.
--- Assumes nothing.
 use Prim.Native.Nat.{_-_}
 use mathlib.Core.Bool.{true}
 use mathlib.Core.Path.{ap, _∙_}

@@ -1,5 +1,4 @@
 -- `any_set` meets its contract.
--- Assumes nothing.
 use Rattle.scheduler.specs.Bits.{anySet}
 use borrow.Author.Needs.{needs}
 use Rattle.kernel.proofs.model.events.any_set.Statement.{statement}

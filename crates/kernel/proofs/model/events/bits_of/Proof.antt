@@ -1,5 +1,4 @@
 -- `bits_of` meets its contract, cleared or not.
--- Assumes nothing.
 use mathlib.Core.Path.{sym, _∙_}
 use borrow.Author.Needs.{needs}
 use Rattle.kernel.proofs.model.events.bits_of.Statement.{statement}

@@ -1,5 +1,4 @@
 -- `no_task` meets its contract, by the two ways of its test.
--- Assumes nothing.
 use borrow.Author.Tests.{eq-eqb, ne-eqb}
 use Rattle.machine.specs.Model.{noRank}
 use borrow.Author.Needs.{needs}

@@ -1,5 +1,4 @@
 -- `resumes` meets its contract, by the two cases of its first test.
--- Assumes nothing.
 use mathlib.Core.Path.{sym, _∙_}
 use Rattle.scheduler.specs.Bits.{anySet}
 use Rattle.word.specs.Word.{has}

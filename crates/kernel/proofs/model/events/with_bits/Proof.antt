@@ -1,5 +1,4 @@
 -- `with_bits` meets its contract.
--- Assumes nothing.
 use Rattle.scheduler.specs.Bits.{withBits}
 use borrow.Author.Needs.{needs}
 use Rattle.kernel.proofs.model.events.with_bits.Statement.{statement}

@@ -1,5 +1,4 @@
 -- `with_where` meets its contract, in its two cases.
--- Assumes nothing.
 use borrow.Author.Needs.{needs}
 use Rattle.kernel.proofs.model.events.with_where.Statement.{statement}
 use Rattle.kernel.proofs.model.events.with_where.Tie as tie

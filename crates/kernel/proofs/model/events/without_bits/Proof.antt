@@ -1,5 +1,4 @@
 -- `without_bits` meets its contract: the bits that both have are no more than those of the first.
--- Assumes nothing.
 use lib.Bits.{and-le-l}
 use Rattle.scheduler.specs.Bits.{withoutBits}
 use borrow.Author.Needs.{needs}

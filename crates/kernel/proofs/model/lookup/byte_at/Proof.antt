@@ -1,5 +1,4 @@
 -- `byte_at` meets its contract: within the row the default does not matter, and past its end it is what is read.
--- Assumes nothing.
 use mathlib.Core.Path.{sym}
 use borrow.Author.Needs.{needs}
 use lib.ListN.{List·getD-eq-default}

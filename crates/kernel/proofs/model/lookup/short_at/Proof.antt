@@ -1,5 +1,4 @@
 -- `short_at` meets its contract: past the row's end the default is read.
--- Assumes nothing.
 use mathlib.Core.Path.{sym}
 use lib.ListN.{List·getD-eq-default}
 use borrow.Author.Needs.{needs}

@@ -1,5 +1,4 @@
 -- `is_latest` meets its contract, by the two cases of its first test.
--- Assumes nothing.
 use Prim.Native.Nat.{ℕ}
 use mathlib.Core.Path.{ap}
 use lib.Dec.{eqb}

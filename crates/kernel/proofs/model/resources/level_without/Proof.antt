@@ -1,5 +1,4 @@
 -- `level_without` meets its contract, by the two cases of its test.
--- Assumes nothing.
 use borrow.Author.Tests.{eq-eqb, ne-eqb}
 use Rattle.stack.specs.Stack.{secondRow}
 use borrow.Author.Needs.{needs}

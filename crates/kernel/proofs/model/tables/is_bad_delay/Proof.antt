@@ -1,5 +1,4 @@
 -- `is_bad_delay` meets its contract, by the two ways of its test.
--- Assumes nothing.
 use borrow.Author.Tests.{eq-eqb, ne-eqb}
 use borrow.Author.Needs.{needs}
 use Rattle.kernel.proofs.model.tables.is_bad_delay.Statement.{statement}

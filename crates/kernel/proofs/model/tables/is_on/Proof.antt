@@ -1,5 +1,4 @@
 -- `is_on` meets its contract: the switch that was read is that of the entry.
--- Assumes nothing.
 use mathlib.Core.Path.{ap}
 use Rattle.machine.specs.Cells.{isOn}
 use borrow.Author.Needs.{needs}
