@@ -1,10 +1,12 @@
--- The code's model is the machine's, field by field, and so is an outcome: `view` looks at a struct of the code as the machine's record,
--- the others go back. A contract speaks of the machine's definitions through them.
+-- The code's model with the arrays beside it is the machine's, field by field, and so is an outcome: `view` looks at both as the machine's
+-- record. A contract speaks of the machine's definitions through it, whatever the arrays hold that the method is not lent.
 use Prim.Native.Nat.{ℕ}
+use mathlib.Core.List.{List}
 use Rattle.kernel.specs.declared.model.Picked.{Picked}
 use Rattle.kernel.specs.declared.model.Model.{Model}
 use Rattle.kernel.specs.declared.model.Outcome.{Outcome}
 use Rattle.machine.specs.Model as Machine
+use Rattle.machine.specs.Machine.{unstarted}
 
 -- the words, who runs and at which level
 abbrev pub core : ℕ → ℕ → ℕ → ℕ → ℕ → Machine.Core
@@ -27,48 +29,53 @@ pickedOf p =
       begun = p .begun;
     }
 
-abbrev pub view : Model → Machine.Model
-view m =
+-- The arrays of the machine, which the code keeps beside its model and lends: counters and switches of the cells, losses, event bits and masks.
+pub record Arrays : Type 0 where
+  pub counter : List ℕ
+  pub on : List ℕ
+  pub losses : List ℕ
+  pub bits : List ℕ
+  pub waited : List ℕ
+
+abbrev pub arrays : List ℕ → List ℕ → List ℕ → List ℕ → List ℕ → Arrays
+arrays ns ws ls bs ms = record { counter = ns; on = ws; losses = ls; bits = bs; waited = ms }
+
+-- other cells, losses, event bits and masks in their place
+abbrev pub putCells : List ℕ → List ℕ → Arrays → Arrays
+putCells ns ws x = arrays ns ws (x .losses) (x .bits) (x .waited)
+
+abbrev pub putLosses : List ℕ → Arrays → Arrays
+putLosses ls x = arrays (x .counter) (x .on) ls (x .bits) (x .waited)
+
+abbrev pub putEvents : List ℕ → List ℕ → Arrays → Arrays
+putEvents bs ms x = arrays (x .counter) (x .on) (x .losses) bs ms
+
+abbrev pub putBits : List ℕ → Arrays → Arrays
+putBits bs x = putEvents bs (x .waited) x
+
+abbrev pub view : Model → Arrays → Machine.Model
+view m x =
     record {
       core = core (m .request) (m .started) (m .aside) (m .runner) (m .level);
       held = m .held;
       resource = m .resource;
       holder = m .holder;
       raised = m .raised;
-      counter = m .counter;
-      on = m .on;
+      counter = x .counter;
+      on = x .on;
       turning = m .turning;
-      losses = m .losses;
+      losses = x .losses;
       cleared = m .cleared;
-      bits = m .bits;
-      waited = m .waited;
+      bits = x .bits;
+      waited = x .waited;
       triggered = m .triggered;
     }
 
-abbrev pub modelOf : Machine.Model → Model
-modelOf m =
-    record {
-      request = m .core .request;
-      started = m .core .started;
-      aside = m .core .aside;
-      held = m .held;
-      runner = m .core .runner;
-      level = m .core .level;
-      resource = m .resource;
-      holder = m .holder;
-      raised = m .raised;
-      counter = m .counter;
-      on = m .on;
-      turning = m .turning;
-      losses = m .losses;
-      cleared = m .cleared;
-      bits = m .bits;
-      waited = m .waited;
-      triggered = m .triggered;
-    }
+abbrev pub viewOutcome : Outcome → Arrays → Machine.Outcome
+viewOutcome o x = record { model = view (o .model) x; status = o .status; begun = o .begun }
 
-abbrev pub viewOutcome : Outcome → Machine.Outcome
-viewOutcome o = record { model = view (o .model); status = o .status; begun = o .begun }
+abbrev pub arraysOf : Machine.Model → Arrays
+arraysOf m = arrays (m .counter) (m .on) (m .losses) (m .bits) (m .waited)
 
-abbrev pub outcomeOf : Machine.Outcome → Outcome
-outcomeOf o = record { model = modelOf (o .model); status = o .status; begun = o .begun }
+abbrev pub freshArrays : Arrays
+freshArrays = arraysOf (unstarted 0)

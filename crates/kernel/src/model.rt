@@ -3,7 +3,7 @@
 // A body stands in the model by its rank among the priorities, so that a greater rank is a greater priority.
 ghost use mathlib.Core.Path.{_≡_};
 ghost use Rattle.machine.specs.Model.{refusedWith};
-ghost use Rattle.kernel.specs.View.{view, outcomeOf};
+ghost use Rattle.kernel.specs.View.{Arrays, view, viewOutcome};
 
 mod arbiter;
 mod bodies;
@@ -59,8 +59,9 @@ pub struct Picked {
     pub begun: bool,
 }
 
-// What the machine keeps between events. It goes by value. Its fields are flat, the row of held resources is in words that shift, and a
-// method takes an array that it indexes out into a variable and puts it back: otherwise the compiler copies the whole model at every event.
+// What the machine keeps between events, but for its arrays: the run keeps those and lends a method the ones that it reads or changes. The
+// model goes by value. Its fields are flat and the row of held resources is in words that shift, so that it stays in registers: an array in it
+// would be copied, and much of the model with it, at every event that may index it.
 pub struct Model {
     // The ranks that wait to begin, those that began and go on by their priority, and those that began and do not: extended tasks that wait
     // for an event bit, and time-triggered tasks. Each as a word.
@@ -75,16 +76,10 @@ pub struct Model {
     pub resource: Row,
     pub holder: Row,
     pub raised: Row,
-    // The cells by entry: whether any of them has a turn of its counter to pass, and their counters and switches. The flag does not stand
-    // beside the losses: the compiler would take the two for one and copy both at every tick.
+    // Whether any cell has a turn of its counter to pass.
     pub turning: bool,
-    pub counter: [u16; 64],
-    pub on: [u16; 64],
-    pub losses: [u16; 32],
-    // By rank: the event bits, which of the ranks in the word `cleared` count as 0, and the mask of the latest Wait that did not go on.
+    // The ranks whose event bits count as 0, as a word.
     pub cleared: u32,
-    pub bits: [u32; 32],
-    pub waited: [u32; 32],
     // The ranks of the time-triggered tasks that were started and have not ended, the latest on top.
     pub triggered: Row,
 }
@@ -99,7 +94,7 @@ pub struct Outcome {
 impl Model {
     // The answer to an event that lets nobody begin.
     fn with_status(self, status: u8) -> Outcome
-        ensures { λ r. ⌜ r ≡ outcomeOf (refusedWith (view self) status) ⌝ }
+        ensures { λ r. ⌜ ((x : Arrays) → viewOutcome r x ≡ refusedWith (view self x) status) ⌝ }
     {
         Outcome {
             model: self,

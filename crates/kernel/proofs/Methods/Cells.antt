@@ -26,53 +26,87 @@ next u e h = omega arith
 none : (u e : ℕ) → u ≤ e → u - e ≡ 0
 none u e h = omega arith
 
-module _ (w : Bool) (ks os : List ℕ) where
-  -- later marks do not see an earlier counter
-  marks-set : (k e i x : ℕ) (ns : List ℕ) → i < e → marks k e w ks os (set ns i x) ≡ marks k e w ks os ns
+-- what a tick makes of later cells does not see an earlier counter or switch
+module _ (w : Bool) (ks : List ℕ) where
+  marks-counted : (k e i x : ℕ) (os ns : List ℕ) → i < e → marks k e w ks os (set ns i x) ≡ marks k e w ks os ns
   unfolding marks
-  marks-set zero e i x ns h = refl
-  marks-set (suc k) e i x ns h =
+  marks-counted zero e i x os ns h = refl
+  marks-counted (suc k) e i x os ns h =
       ap₂ (λ (n : ℕ) (bs : List Bool). tickCell (unmarked n (getD ks e 0) (isOn (getD os e 0)) (w && hasTurn (getD os e 0))) .matched ∷ bs)
       (getD-set-other ns i e x 0 (λ q. absurd (omega arith)))
-      (marks-set k (suc e) i x ns (omega arith))
+      (marks-counted k (suc e) i x os ns (omega arith))
 
-  module _ (ns₀ : List ℕ) where
-    -- the cells before e are ticked: ns are the counters, ms the marks
-    pub record Ticking (ns : List ℕ) (ms : List Bool) (e : ℕ) : Type 0 where
-      pub reached : e ≤ maxEntries
-      pub long : length ms ≡ maxEntries
-      pub counters : countersTicked (maxEntries - e) e w ks os ns ≡ countersTicked maxEntries 0 w ks os ns₀
-      pub matches : take e ms ++ marks (maxEntries - e) e w ks os ns ≡ marks maxEntries 0 w ks os ns₀
+  marks-switched : (k e i x : ℕ) (os ns : List ℕ) → i < e → marks k e w ks (set os i x) ns ≡ marks k e w ks os ns
+  unfolding marks
+  marks-switched zero e i x os ns h = refl
+  marks-switched (suc k) e i x os ns h =
+      ap₂ (λ (o : ℕ) (bs : List Bool). tickCell (unmarked (getD ns e 0) (getD ks e 0) (isOn o) (w && hasTurn o)) .matched ∷ bs)
+      (getD-set-other os i e x 0 (λ q. absurd (omega arith)))
+      (marks-switched k (suc e) i x os ns (omega arith))
 
-    pub ticking-start : Ticking ns₀ (replicate maxEntries false) 0
-    ticking-start = record { reached = omega arith; long = refl; counters = refl; matches = refl }
+  counters-switched : (k e i x : ℕ) (os ns : List ℕ) → i < e → countersTicked k e w ks (set os i x) ns ≡ countersTicked k e w ks os ns
+  unfolding countersTicked
+  counters-switched zero e i x os ns h = refl
+  counters-switched (suc k) e i x os ns h =
+      counters-switched k (suc e) i x os _ (omega arith)
+      ∙ ap (λ (o : ℕ). countersTicked k (suc e) w ks os (set ns e (tickCell (unmarked (getD ns e 0) (getD ks e 0) (isOn o) (w && hasTurn o)) .counter)))
+      (getD-set-other os i e x 0 (λ q. absurd (omega arith)))
 
-    module _ (ns : List ℕ) (ms : List Bool) (e : ℕ) (so-far : Ticking ns ms e) where
-      pub ticking-turn : e < maxEntries → {c : Cell} → c ≡ tickCell (cellAt w ks os ns e)
-          → Ticking (set ns e (c .counter)) (set ms e (c .matched)) (e + 1)
-      unfolding countersTicked marks
-      ticking-turn more {c} is =
-          record {
-            reached = omega arith;
-            long = length-set ms e (c .matched) ∙ so-far .long;
-            counters = rw (is, add-one e) (rw (next maxEntries e more, add-one e) at (so-far .counters));
-            matches =
-                rw (
-                  add-one e,
-                  take-suc-set ms e (c .matched) (omega (arith, so-far .long)),
-                  append-assoc,
-                  marks-set (maxEntries - suc e) (suc e) e (c .counter) ns (omega arith),
-                  is,
-                )
-                (rw (next maxEntries e more, add-one e) at (so-far .matches));
-          }
+switches-counted : (ks : List ℕ) (k e i x : ℕ) (os ns : List ℕ) → i < e → switchesTicked k e ks (set ns i x) os ≡ switchesTicked k e ks ns os
+unfolding switchesTicked
+switches-counted ks zero e i x os ns h = refl
+switches-counted ks (suc k) e i x os ns h =
+    switches-counted ks k (suc e) i x _ ns (omega arith)
+    ∙ ap (λ (n : ℕ). switchesTicked k (suc e) ks ns (set os e (switchFor (isOn (getD os e 0)) (tickCell (unmarked n (getD ks e 0) (isOn (getD os e 0)) (hasTurn (getD os e 0))) .turn))))
+    (getD-set-other ns i e x 0 (λ q. absurd (omega arith)))
 
-      pub ticking-end : maxEntries ≤ e → (ms ≡ marks maxEntries 0 w ks os ns₀) × (ns ≡ countersTicked maxEntries 0 w ks os ns₀)
-      unfolding countersTicked marks
-      ticking-end h = (
-        sym (take-all e ms (omega (arith, so-far .long))) ∙ sym (append-nil (take e ms)) ∙ (rw (none maxEntries e h) at (so-far .matches)),
-        (rw (none maxEntries e h) at (so-far .counters)),
-      )
+module _ (w : Bool) (ks os₀ ns₀ : List ℕ) where
+  -- the cells before e are ticked: os are the switches, ns the counters, ms the marks
+  pub record Ticking (os ns : List ℕ) (ms : List Bool) (e : ℕ) : Type 0 where
+    pub reached : e ≤ maxEntries
+    pub long : length ms ≡ maxEntries
+    pub counters : countersTicked (maxEntries - e) e w ks os ns ≡ countersTicked maxEntries 0 w ks os₀ ns₀
+    pub matches : take e ms ++ marks (maxEntries - e) e w ks os ns ≡ marks maxEntries 0 w ks os₀ ns₀
+
+  pub ticking-start : Ticking os₀ ns₀ (replicate maxEntries false) 0
+  ticking-start = record { reached = omega arith; long = refl; counters = refl; matches = refl }
+
+  module _ (os ns : List ℕ) (ms : List Bool) (e : ℕ) (so-far : Ticking os ns ms e) where
+    pub ticking-turn : e < maxEntries → {c : Cell} → c ≡ tickCell (cellAt w ks os ns e)
+        → Ticking os (set ns e (c .counter)) (set ms e (c .matched)) (e + 1)
+    unfolding countersTicked marks
+    ticking-turn more {c} is =
+        record {
+          reached = omega arith;
+          long = length-set ms e (c .matched) ∙ so-far .long;
+          counters = rw (is, add-one e) (rw (next maxEntries e more, add-one e) at (so-far .counters));
+          matches =
+              rw (
+                add-one e,
+                take-suc-set ms e (c .matched) (omega (arith, so-far .long)),
+                append-assoc,
+                marks-counted w ks (maxEntries - suc e) (suc e) e (c .counter) os ns (omega arith),
+                is,
+              )
+              (rw (next maxEntries e more, add-one e) at (so-far .matches));
+        }
+
+    -- a switch before e may change
+    pub ticking-switched : (i x : ℕ) → i < e → Ticking (set os i x) ns ms e
+    ticking-switched i x h =
+        record {
+          reached = so-far .reached;
+          long = so-far .long;
+          counters = counters-switched w ks (maxEntries - e) e i x os ns h ∙ so-far .counters;
+          matches = ap (λ (bs : List Bool). take e ms ++ bs) (marks-switched w ks (maxEntries - e) e i x os ns h) ∙ so-far .matches;
+        }
+
+    pub ticking-end : maxEntries ≤ e → (ms ≡ marks maxEntries 0 w ks os₀ ns₀) × (ns ≡ countersTicked maxEntries 0 w ks os₀ ns₀)
+    unfolding countersTicked marks
+    ticking-end h = (
+      sym (take-all e ms (omega (arith, so-far .long))) ∙ sym (append-nil (take e ms)) ∙ (rw (none maxEntries e h) at (so-far .matches)),
+      (rw (none maxEntries e h) at (so-far .counters)),
+    )
 
 module _ (w : ℕ) where
   due-over : (rs : List ℕ) (x : Due) → requestsDue w [] rs x ≡ x
@@ -96,12 +130,13 @@ module _ (w : ℕ) where
     pub groups-end : (e : ℕ) → length ms ≤ e → (x : Due) → requestsDue w (drop e ms) (drop e rs) x ≡ x
     groups-end e h x = rw (drop-of-length-le ms {i = e} h) (due-over (drop e rs) x)
 
--- the switches of a tick
+-- the switches of a tick, beside the counters; n is the counter of entry e after it
 module _ (u e : ℕ) (ks ns os : List ℕ) where
-  pub switches-turn : e < u → {x : ℕ} → x ≡ switchTicked ks ns os e
-      → switchesTicked (u - (e + 1)) (e + 1) ks ns (set os e x) ≡ switchesTicked (u - e) e ks ns os
+  pub switches-turn : e < u → {x : ℕ} → x ≡ switchTicked ks ns os e → (n : ℕ)
+      → switchesTicked (u - (e + 1)) (e + 1) ks (set ns e n) (set os e x) ≡ switchesTicked (u - e) e ks ns os
   unfolding switchesTicked
-  switches-turn h is = rw (next u e h, is, add-one e)
+  switches-turn h {x} is n =
+      switches-counted ks (u - (e + 1)) (e + 1) e n (set os e x) ns (omega arith) ∙ rw (next u e h, is, add-one e)
 
   pub switches-end : u ≤ e → switchesTicked (u - e) e ks ns os ≡ os
   unfolding switchesTicked

@@ -71,27 +71,23 @@ module _ (w : Bool) (lrs ps : List ℕ) (m : Model) (i : ℕ) {r : ℕ} (rank : 
       uncounted true = refl
       uncounted false = refl
 
-  -- ls: the losses after it, d: whether one more is counted
-  module _ (some : r ≡ noRank → ⊥) {b : Bool} (test : b ≡ has (m .core .request) r) {d : Bool} (counted : d ≡ w && b)
-      {ls : List ℕ} (lost : ls ≡ cond d (oneLost r (m .losses)) (m .losses)) where
-    pub line-waits : b ≡ true → refusedWith (withLosses m ls) limitReached ≡ line w lrs ps m i
+  module _ (some : r ≡ noRank → ⊥) {b : Bool} (test : b ≡ has (m .core .request) r) where
+    -- ls: the losses after it
+    pub line-waits : b ≡ true → {ls : List ℕ} → ls ≡ cond w (oneLost r (m .losses)) (m .losses)
+        → refusedWith (withLosses m ls) limitReached ≡ line w lrs ps m i
     unfolding line firstGiven
-    line-waits h = rw (lost, counted, h, ← rank, ne-eqb r noRank some, sym test ∙ h) (either (w && true))
+    line-waits h lost = rw (lost, ← rank, ne-eqb r noRank some, sym test ∙ h) (either w)
       where
         either : (x : Bool)
             → refusedWith (withLosses m (cond x (oneLost r (m .losses)) (m .losses))) limitReached
-            ≡ refusedWith (cond x (withLosses m (oneLost r (m .losses))) m) limitReached
+            ≡ refusedWith (cond (x && true) (withLosses m (oneLost r (m .losses))) m) limitReached
         either true = refl
         either false = refl
 
     pub line-done : b ≡ false → {q : ℕ} → q ≡ with (m .core .request) r
-        → settled ps (withCore (withLosses m ls) (withRequest (m .core) q)) ≡ line w lrs ps m i
+        → settled ps (withCore m (withRequest (m .core) q)) ≡ line w lrs ps m i
     unfolding line firstGiven
-    line-done h asked = rw (lost, counted, h, and-false w, ← rank, ne-eqb r noRank some, sym test ∙ h, asked)
-      where
-        and-false : (x : Bool) → x && false ≡ false
-        and-false true = refl
-        and-false false = refl
+    line-done h asked = rw (← rank, ne-eqb r noRank some, sym test ∙ h, asked)
 
 -- Chain t
 module _ (ws : ℕ) (trs ps : List ℕ) (m : Model) (t : ℕ) {a : Bool} (calls : a ≡ noCaller m || has ws (m .core .runner)) where

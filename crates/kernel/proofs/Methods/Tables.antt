@@ -1,7 +1,7 @@
 -- The events of tables, case by case in the order of their checks, as the code goes through them.
 use Prim.Native.Nat.{ℕ, zero, suc, _+_, _≤_, _<_}
 use mathlib.Core.Path.{_≡_, refl, sym, ap, _∙_}
-use mathlib.Core.Bool.{Bool, true, false, _&&_, _||_}
+use mathlib.Core.Bool.{Bool, true, false, cond, _&&_, _||_}
 use mathlib.Core.List.{List}
 use native.Mathlib.Omega.{arith}
 use lib.Dec.{ltb, eqb}
@@ -26,51 +26,36 @@ unfolding marks
 length-marks zero e w ks os ns = refl
 length-marks (suc k) e w ks os ns = ap suc (length-marks k (suc e) w ks os ns)
 
--- Tick. v has who has begun, ms are the match marks, ns, os and z the cells after it, w and ls the requests and losses, p whom arbitration
--- picks, and b says whether that is a time-triggered task that it dispatches.
-module _ (ks rs ps : List ℕ) (m : Model) {v : ℕ} (begun : v ≡ begunWord m) where
-  -- where no cell has a turn to pass
-  module _ (still : m .turning ≡ false) {ms : List Bool} (marked : ms ≡ marks maxEntries 0 false ks (m .on) (m .counter))
-      {ns : List ℕ} (counted : ns ≡ countersTicked maxEntries 0 false ks (m .on) (m .counter))
-      {w : ℕ} {ls : List ℕ} (due : dueWith w ls ≡ requestsDue v ms rs (dueWith (m .core .request) (m .losses)))
-      {p : Picked} (picked : p ≡ arbitrated ps (withRequest (m .core) w))
-      {b : Bool} (test : b ≡ ltb (m .core .level) (p .core .level) && eqb (p .core .level) triggerLevel) where
-    abbrev unsettled : Model
-    unsettled = withCore (withRest m ns (m .on) (m .turning) ls) (withRequest (m .core) w)
+-- Tick. ms are the match marks, ns, ws and z the cells after it, v has who has begun, q and ls are the requests and losses, p whom
+-- arbitration picks, and b says whether that is a time-triggered task that it dispatches.
+module _ (ks rs ps : List ℕ) (m : Model) {ms : List Bool} (marked : ms ≡ marks maxEntries 0 (m .turning) ks (m .on) (m .counter))
+    {ns : List ℕ} (counted : ns ≡ countersTicked maxEntries 0 (m .turning) ks (m .on) (m .counter))
+    {ws : List ℕ} (switches : ws ≡ cond (m .turning) (switchesTicked maxEntries 0 ks (m .counter) (m .on)) (m .on))
+    {z : Bool} (turns : z ≡ m .turning && someTurn maxEntries 0 ws) {v : ℕ} (begun : v ≡ begunWord m)
+    {q : ℕ} {ls : List ℕ} (due : dueWith q ls ≡ requestsDue v ms rs (dueWith (m .core .request) (m .losses)))
+    {p : Picked} (picked : p ≡ arbitrated ps (withRequest (m .core) q))
+    {b : Bool} (test : b ≡ ltb (m .core .level) (p .core .level) && eqb (p .core .level) triggerLevel) where
+  abbrev ticked : Model
+  ticked = withRest m ns ws z ls
 
-    made : triggering ps unsettled ≡ tick ks rs ps m
-    unfolding tick
-    made = rw (counted, ap (λ (x : Due). x .request) due, ap (λ (x : Due). x .losses) due, marked, begun, still)
+  abbrev unsettled : Model
+  unsettled = withCore ticked (withRequest (m .core) q)
 
-    pub tick-launched : b ≡ true
-        → doneWith (withTriggered (withRest m ns (m .on) (m .turning) ls) (core (without w (p .core .runner)) (m .core .started) (with (m .core .aside) (p .core .runner)) (p .core .runner) executionLevel) (m .cleared) (pushRow (m .triggered) (p .core .runner))) true
-        ≡ tick ks rs ps m
-    tick-launched h = triggering-launched ps unsettled picked test h ∙ made
+  made : triggering ps unsettled ≡ tick ks rs ps m
+  unfolding tick
+  made = rw (turns, switches, counted, ap (λ (x : Due). x .request) due, ap (λ (x : Due). x .losses) due, marked, begun)
 
-    pub tick-done : b ≡ false → doneWith (withCore (withRest m ns (m .on) (m .turning) ls) (p .core)) (p .begun) ≡ tick ks rs ps m
-    tick-done h = triggering-settled ps unsettled picked test h ∙ made
+  pub tick-launched : b ≡ true
+      → doneWith
+      (withTriggered ticked
+      (core (without q (p .core .runner)) (m .core .started) (with (m .core .aside) (p .core .runner)) (p .core .runner) executionLevel)
+      (m .cleared) (pushRow (m .triggered) (p .core .runner)))
+      true
+      ≡ tick ks rs ps m
+  tick-launched h = triggering-launched ps unsettled picked test h ∙ made
 
-  -- where a cell may have one
-  module _ (turning : m .turning ≡ true) {ms : List Bool} (marked : ms ≡ marks maxEntries 0 true ks (m .on) (m .counter))
-      {ns : List ℕ} (counted : ns ≡ countersTicked maxEntries 0 true ks (m .on) (m .counter))
-      {os : List ℕ} (switches : os ≡ switchesTicked maxEntries 0 ks (m .counter) (m .on)) {z : Bool} (turns : z ≡ someTurn maxEntries 0 os)
-      {w : ℕ} {ls : List ℕ} (due : dueWith w ls ≡ requestsDue v ms rs (dueWith (m .core .request) (m .losses)))
-      {p : Picked} (picked : p ≡ arbitrated ps (withRequest (m .core) w))
-      {b : Bool} (test : b ≡ ltb (m .core .level) (p .core .level) && eqb (p .core .level) triggerLevel) where
-    abbrev unturned : Model
-    unturned = withCore (withRest m ns os z ls) (withRequest (m .core) w)
-
-    turned : triggering ps unturned ≡ tick ks rs ps m
-    unfolding tick
-    turned = rw (counted, turns, switches, ap (λ (x : Due). x .request) due, ap (λ (x : Due). x .losses) due, marked, begun, turning)
-
-    pub turning-launched : b ≡ true
-        → doneWith (withTriggered (withRest m ns os z ls) (core (without w (p .core .runner)) (m .core .started) (with (m .core .aside) (p .core .runner)) (p .core .runner) executionLevel) (m .cleared) (pushRow (m .triggered) (p .core .runner))) true
-        ≡ tick ks rs ps m
-    turning-launched h = triggering-launched ps unturned picked test h ∙ turned
-
-    pub turning-done : b ≡ false → doneWith (withCore (withRest m ns os z ls) (p .core)) (p .begun) ≡ tick ks rs ps m
-    turning-done h = triggering-settled ps unturned picked test h ∙ turned
+  pub tick-done : b ≡ false → doneWith (withCore ticked (p .core)) (p .begun) ≡ tick ks rs ps m
+  tick-done h = triggering-settled ps unsettled picked test h ∙ made
 
 -- a delay that is not refused
 pub short-sum : (d g : ℕ) → eqb d 0 || ltb longestDelay (d + g) ≡ false → d + g ≤ longestDelay

@@ -7,7 +7,7 @@ ghost use Rattle.word.specs.Word.{has, with, without};
 ghost use Rattle.stack.specs.Stack.{topRow, pushRow};
 ghost use Rattle.machine.specs.Model.{noRank, withCore, withRequest, withTriggered, doneWith};
 ghost use Rattle.machine.specs.Arbiter.{arbitrated, settled, leaving, returning};
-ghost use Rattle.kernel.specs.View.{core, coreOf, view, pickedOf, outcomeOf};
+ghost use Rattle.kernel.specs.View.{Arrays, core, coreOf, view, viewOutcome, pickedOf};
 use super::DONE;
 use super::EXECUTION_LEVEL;
 use super::Model;
@@ -26,7 +26,7 @@ use word::without;
 impl Model {
     // The model after arbitration, with these requests.
     pub fn settled(self, request: u32, priority: &[u8; 32]) -> Outcome
-        ensures { λ r. ⌜ r ≡ outcomeOf (settled (now (priority .entry)) (withCore (view self) (withRequest (view self .core) request))) ⌝ }
+        ensures { λ r. ⌜ ((x : Arrays) → viewOutcome r x ≡ settled (now (priority .entry)) (withCore (view self x) (withRequest (view self x .core) request))) ⌝ }
     {
         let picked = arbitrated(
             request,
@@ -41,7 +41,7 @@ impl Model {
 
     // The same once the runner has ended: whoever took the latest resource that is held takes its seat, or nobody does.
     pub fn ended(mut self, request: u32, priority: &[u8; 32]) -> Outcome
-        ensures { λ r. ⌜ r ≡ outcomeOf (settled (now (priority .entry)) (withCore (leaving (view self)) (withRequest (leaving (view self) .core) request))) ⌝ }
+        ensures { λ r. ⌜ ((x : Arrays) → viewOutcome r x ≡ settled (now (priority .entry)) (withCore (leaving (view self x)) (withRequest (leaving (view self x) .core) request))) ⌝ }
     {
         let started = without(self.started, self.runner as u32);
         self.cleared = with(self.cleared, self.runner as u32);
@@ -54,7 +54,7 @@ impl Model {
     // The same once a time-triggered task has ended: the one that was started before it goes on, and where there is none, the seat is left
     // as by any other runner.
     pub fn returned(mut self, priority: &[u8; 32]) -> Outcome
-        ensures { λ r. ⌜ r ≡ outcomeOf (settled (now (priority .entry)) (returning (view self))) ⌝ }
+        ensures { λ r. ⌜ ((x : Arrays) → viewOutcome r x ≡ settled (now (priority .entry)) (returning (view self x))) ⌝ }
     {
         let aside = without(self.aside, self.runner as u32);
         self.cleared = with(self.cleared, self.runner as u32);
@@ -69,7 +69,7 @@ impl Model {
 
     // The model in which the time-triggered task of this rank begins, with these requests.
     pub fn launched(mut self, request: u32, rank: u8) -> Outcome
-        ensures { λ r. ⌜ r ≡ outcomeOf (doneWith (withTriggered (view self) (core (without request rank) (self .started) (with (self .aside) rank) rank executionLevel) (self .cleared) (pushRow (self .triggered) rank)) true) ⌝ }
+        ensures { λ r. ⌜ ((x : Arrays) → viewOutcome r x ≡ doneWith (withTriggered (view self x) (core (without request rank) (self .started) (with (self .aside) rank) rank executionLevel) (self .cleared) (pushRow (self .triggered) rank)) true) ⌝ }
     {
         self.request = without(request, rank as u32);
         self.aside = with(self.aside, rank as u32);
@@ -85,7 +85,7 @@ impl Model {
 
     // The model with whom arbitration picked.
     pub fn seated(mut self, picked: Picked) -> Outcome
-        ensures { λ r. ⌜ r ≡ outcomeOf (doneWith (withCore (view self) (coreOf picked)) (picked .begun)) ⌝ }
+        ensures { λ r. ⌜ ((x : Arrays) → viewOutcome r x ≡ doneWith (withCore (view self x) (coreOf picked)) (picked .begun)) ⌝ }
     {
         self.request = picked.request;
         self.started = picked.started;

@@ -6,7 +6,7 @@ ghost use Rattle.config.specs.Meaning.{executionLevel};
 ghost use Rattle.word.specs.Word.{has};
 ghost use Rattle.machine.specs.Model.{noRank};
 ghost use Rattle.machine.specs.Events.{activate, finish, chain, line};
-ghost use Rattle.kernel.specs.View.{view, outcomeOf};
+ghost use Rattle.kernel.specs.View.{Arrays, putLosses, view, viewOutcome};
 use super::CALL_LEVEL;
 use super::EXECUTION_LEVEL;
 use super::HOLDS_RESOURCE;
@@ -28,7 +28,7 @@ impl Model {
         priority: &'a [u8; 32],
         t: u32,
     ) -> Outcome
-        ensures { λ r. ⌜ r ≡ outcomeOf (activate (now («callable_rank» .entry)) (now (priority .entry)) (view self) t) ⌝ }
+        ensures { λ r. ⌜ ((x : Arrays) → viewOutcome r x ≡ activate (now («callable_rank» .entry)) (now (priority .entry)) (view self x) t) ⌝ }
     {
         if no_caller(self.runner, self.level) {
             return self.with_status(CALL_LEVEL);
@@ -44,7 +44,7 @@ impl Model {
     }
 
     pub fn finish(self, priority: &[u8; 32]) -> Outcome
-        ensures { λ r. ⌜ r ≡ outcomeOf (finish (now (priority .entry)) (view self)) ⌝ }
+        ensures { λ r. ⌜ ((x : Arrays) → viewOutcome r x ≡ finish (now (priority .entry)) (view self x)) ⌝ }
     {
         if self.runner == NO_RANK {
             return self.with_status(CALL_LEVEL);
@@ -65,7 +65,7 @@ impl Model {
         priority: &'a [u8; 32],
         t: u32,
     ) -> Outcome
-        ensures { λ r. ⌜ r ≡ outcomeOf (chain isrs (now («callable_rank» .entry)) (now (priority .entry)) (view self) t) ⌝ }
+        ensures { λ r. ⌜ ((x : Arrays) → viewOutcome r x ≡ chain isrs (now («callable_rank» .entry)) (now (priority .entry)) (view self x) t) ⌝ }
     {
         if no_task_calls(isrs, self.runner, self.level) {
             return self.with_status(CALL_LEVEL);
@@ -88,26 +88,23 @@ impl Model {
         self.ended(with(self.request, rank as u32), priority)
     }
 
-    // `counts`: whether a line that is lost counts as a loss. The losses are put back on every path: where only a lost line did so, the
-    // compiler would copy the model at every event.
-    pub fn line<'a>(
-        mut self,
+    // `counts`: whether a line that is lost counts as a loss.
+    pub fn line<'a, 'b>(
+        self,
         counts: bool,
         line_rank: &'a [u8; 32],
         priority: &'a [u8; 32],
         i: u32,
+        losses: &'b mut [u16; 32],
     ) -> Outcome
-        ensures { λ r. ⌜ r ≡ outcomeOf (line counts (now («line_rank» .entry)) (now (priority .entry)) (view self) i) ⌝ }
+        ensures { λ r. ⌜ ((x : Arrays) → viewOutcome r (putLosses (now (losses .exit)) x) ≡ line counts (now («line_rank» .entry)) (now (priority .entry)) (view self (putLosses (now (losses .entry)) x)) i) ⌝ }
     {
         let rank = byte_at(line_rank, i as usize, NO_RANK);
         if rank == NO_RANK {
             return self.with_status(NO_SUCH);
         }
-        let waits = has(self.request, rank as u32);
-        let mut losses = self.losses;
-        lose_where(counts & waits, &mut losses, rank as usize);
-        self.losses = losses;
-        if waits {
+        if has(self.request, rank as u32) {
+            lose_where(counts, losses, rank as usize);
             return self.with_status(LIMIT);
         }
         self.settled(with(self.request, rank as u32), priority)

@@ -1,6 +1,6 @@
 // The cells of the entries, as parallel arrays: what a tick, a start and a stop make of them.
 ghost use mathlib.Core.Path.{_≡_};
-ghost use mathlib.Core.Bool.{true, false, cond, _||_};
+ghost use mathlib.Core.Bool.{true, false, cond, _&&_, _||_};
 ghost use Prim.Native.Nat.{_+_, _≤_};
 ghost use lib.ListN.{length, getD, set, take, drop};
 ghost use Rattle.config.specs.Value.{maxEntries};
@@ -26,8 +26,25 @@ const TURN: u16 = 2;
 // How many match marks are looked at in one go.
 const GROUP: usize = 8;
 
-// Ticks every cell's counter, and gives their match marks, where no cell has a turn to pass.
-pub fn tick_cells<'a, 'b>(
+// Ticks every cell, and gives their match marks; `turning`: whether a cell may have a turn to pass.
+pub fn tick_cells<'a, 'b, 'c>(
+    turning: bool,
+    compare: &'a [u16; 64],
+    counter: &'b mut [u16; 64],
+    on: &'c mut [u16; 64],
+) -> [bool; 64]
+    ensures { λ r. ⌜ r ≡ marks maxEntries 0 turning (now (compare .entry)) (now (on .entry)) (now (counter .entry)) ⌝ }
+    ensures { λ _. ⌜ now (counter .exit) ≡ countersTicked maxEntries 0 turning (now (compare .entry)) (now (on .entry)) (now (counter .entry)) ⌝ }
+    ensures { λ _. ⌜ now (on .exit) ≡ cond turning (switchesTicked maxEntries 0 (now (compare .entry)) (now (counter .entry)) (now (on .entry))) (now (on .entry)) ⌝ }
+{
+    if turning {
+        return tick_turns(compare, counter, on);
+    }
+    tick_counters(compare, on, counter)
+}
+
+// The same where none has one: the switches stay.
+fn tick_counters<'a, 'b>(
     compare: &'a [u16; 64],
     on: &'a [u16; 64],
     counter: &'b mut [u16; 64],
@@ -46,14 +63,15 @@ pub fn tick_cells<'a, 'b>(
     matched
 }
 
-// The same where a cell may have one.
-pub fn tick_turns<'a, 'b>(
+// The same where one may: a turn may pass.
+fn tick_turns<'a, 'b, 'c>(
     compare: &'a [u16; 64],
-    on: &'a [u16; 64],
     counter: &'b mut [u16; 64],
+    on: &'c mut [u16; 64],
 ) -> [bool; 64]
     ensures { λ r. ⌜ r ≡ marks maxEntries 0 true (now (compare .entry)) (now (on .entry)) (now (counter .entry)) ⌝ }
     ensures { λ _. ⌜ now (counter .exit) ≡ countersTicked maxEntries 0 true (now (compare .entry)) (now (on .entry)) (now (counter .entry)) ⌝ }
+    ensures { λ _. ⌜ now (on .exit) ≡ switchesTicked maxEntries 0 (now (compare .entry)) (now (counter .entry)) (now (on .entry)) ⌝ }
 {
     let mut matched = [false; 64];
     let mut e = 0;
@@ -61,23 +79,11 @@ pub fn tick_turns<'a, 'b>(
         let switch = on[e];
         let cell = Cell::of(counter[e], compare[e], switch != OFF, switch == TURN).tick();
         counter[e] = cell.counter;
+        on[e] = switch_for(switch != OFF, cell.turn);
         matched[e] = cell.matched;
         e += 1;
     }
     matched
-}
-
-// The switches after a tick that meets these counters: a turn may have passed.
-pub fn tick_switches<'a, 'b>(compare: &'a [u16; 64], counter: &'a [u16; 64], on: &'b mut [u16; 64])
-    ensures { λ _. ⌜ now (on .exit) ≡ switchesTicked maxEntries 0 (now (compare .entry)) (now (counter .entry)) (now (on .entry)) ⌝ }
-{
-    let mut e = 0;
-    while e < CELLS {
-        let switch = on[e];
-        let cell = Cell::of(counter[e], compare[e], switch != OFF, switch == TURN).tick();
-        on[e] = switch_for(switch != OFF, cell.turn);
-        e += 1;
-    }
 }
 
 fn switch_for(on: bool, turn: bool) -> u16
@@ -89,8 +95,15 @@ fn switch_for(on: bool, turn: bool) -> u16
     if on { ON } else { OFF }
 }
 
+// Whether a cell may have a turn to pass after a tick; `turning`: whether one may have had before.
+pub fn still_turning(turning: bool, on: &[u16; 64]) -> bool
+    ensures { λ r. ⌜ r ≡ turning && someTurn maxEntries 0 (now (on .entry)) ⌝ }
+{
+    turning && some_turn(on)
+}
+
 // Whether any cell has a turn to pass.
-pub fn some_turn(on: &[u16; 64]) -> bool
+fn some_turn(on: &[u16; 64]) -> bool
     ensures { λ r. ⌜ r ≡ someTurn maxEntries 0 (now (on .entry)) ⌝ }
 {
     let mut found = false;
@@ -119,28 +132,6 @@ pub fn take_matches<'a, 'b>(
     while e < CELLS {
         word = take_group(e, matched, ranks, begun, word, losses);
         e += GROUP;
-    }
-    word
-}
-
-// The same, one by one: for ticks with a turn to pass, which are rare. The loop above then has one caller, and stays inlined there.
-pub fn take_each<'a, 'b>(
-    matched: &'a [bool; 64],
-    ranks: &'a [u8; 64],
-    begun: u32,
-    request: u32,
-    losses: &'b mut [u16; 32],
-) -> u32
-    requires { ⌜ length (now matched) ≡ maxEntries ⌝ }
-    ensures { λ r. ⌜ dueWith r (now (losses .exit)) ≡ requestsDue begun (now (matched .entry)) (now (ranks .entry)) (dueWith request (now (losses .entry))) ⌝ }
-{
-    let mut word = request;
-    let mut e = 0;
-    while e < CELLS {
-        if matched[e] {
-            word = take_match(byte_at(ranks, e, NO_RANK), begun, word, losses);
-        }
-        e += 1;
     }
     word
 }

@@ -6,7 +6,7 @@ ghost use Rattle.scheduler.specs.Bits.{anySet, withBits, withoutBits};
 ghost use Rattle.word.specs.Word.{has, with};
 ghost use Rattle.machine.specs.Model.{noRank};
 ghost use Rattle.machine.specs.Events.{wait, setEvent, clear};
-ghost use Rattle.kernel.specs.View.{view, outcomeOf};
+ghost use Rattle.kernel.specs.View.{Arrays, putBits, putEvents, view, viewOutcome};
 use super::ACCESS;
 use super::CALL_LEVEL;
 use super::DONE;
@@ -29,8 +29,15 @@ use word::without;
 
 impl Model {
     // `extended`: the ranks that are extended tasks.
-    pub fn wait(mut self, extended: u32, priority: &[u8; 32], mask: u32) -> Outcome
-        ensures { λ r. ⌜ r ≡ outcomeOf (wait extended (now (priority .entry)) (view self) mask) ⌝ }
+    pub fn wait<'a, 'b>(
+        self,
+        extended: u32,
+        priority: &'a [u8; 32],
+        mask: u32,
+        bits: &'a [u32; 32],
+        waited: &'b mut [u32; 32],
+    ) -> Outcome
+        ensures { λ r. ⌜ ((x : Arrays) → viewOutcome r (putEvents (now (bits .entry)) (now (waited .exit)) x) ≡ wait extended (now (priority .entry)) (view self (putEvents (now (bits .entry)) (now (waited .entry)) x)) mask) ⌝ }
     {
         if no_caller(self.runner, self.level) {
             return self.with_status(CALL_LEVEL);
@@ -43,14 +50,11 @@ impl Model {
         if holder.top() == self.runner {
             return self.with_status(HOLDS_RESOURCE);
         }
-        let bits = self.bits;
         let kept = bits[rank as usize];
         if any_set(bits_of(self.cleared, kept, rank), mask) {
             return self.with_status(DONE);
         }
-        let mut waited = self.waited;
         waited[rank as usize] = mask;
-        self.waited = waited;
         let level = latest_level(holder, self.raised);
         let started = without(self.started, rank);
         let aside = with(self.aside, rank);
@@ -59,7 +63,7 @@ impl Model {
     }
 
     // `isrs`: the ranks that are ISRs; `body_rank`: those of all bodies.
-    pub fn set_event<'a>(
+    pub fn set_event<'a, 'b>(
         mut self,
         isrs: u32,
         extended: u32,
@@ -67,8 +71,10 @@ impl Model {
         priority: &'a [u8; 32],
         t: u32,
         mask: u32,
+        waited: &'a [u32; 32],
+        bits: &'b mut [u32; 32],
     ) -> Outcome
-        ensures { λ r. ⌜ r ≡ outcomeOf (setEvent isrs extended (now («body_rank» .entry)) (now (priority .entry)) (view self) t mask) ⌝ }
+        ensures { λ r. ⌜ ((x : Arrays) → viewOutcome r (putEvents (now (bits .exit)) (now (waited .entry)) x) ≡ setEvent isrs extended (now («body_rank» .entry)) (now (priority .entry)) (view self (putEvents (now (bits .entry)) (now (waited .entry)) x)) t mask) ⌝ }
     {
         if no_caller(self.runner, self.level) {
             return self.with_status(CALL_LEVEL);
@@ -83,13 +89,10 @@ impl Model {
         if !busy(self.request, union(self.started, self.aside), rank) {
             return self.with_status(WRONG_STATE);
         }
-        let mut bits = self.bits;
         let kept = bits[rank as usize];
         let set = with_bits(bits_of(self.cleared, kept, rank as u32), mask);
         bits[rank as usize] = set;
-        self.bits = bits;
         self.cleared = without(self.cleared, rank as u32);
-        let waited = self.waited;
         let wanted = waited[rank as usize];
         let resumed = resumes(self.aside, rank as u32, set, wanted);
         self.started = with_where(resumed, self.started, rank as u32);
@@ -98,8 +101,8 @@ impl Model {
         self.settled(request, priority)
     }
 
-    pub fn clear(mut self, extended: u32, mask: u32) -> Outcome
-        ensures { λ r. ⌜ r ≡ outcomeOf (clear extended (view self) mask) ⌝ }
+    pub fn clear(mut self, extended: u32, mask: u32, bits: &mut [u32; 32]) -> Outcome
+        ensures { λ r. ⌜ ((x : Arrays) → viewOutcome r (putBits (now (bits .exit)) x) ≡ clear extended (view self (putBits (now (bits .entry)) x)) mask) ⌝ }
     {
         if no_caller(self.runner, self.level) {
             return self.with_status(CALL_LEVEL);
@@ -108,11 +111,9 @@ impl Model {
         if !has(extended, rank) {
             return self.with_status(ACCESS);
         }
-        let mut bits = self.bits;
         let kept = bits[rank as usize];
         let left = without_bits(bits_of(self.cleared, kept, rank), mask);
         bits[rank as usize] = left;
-        self.bits = bits;
         self.cleared = without(self.cleared, rank);
         self.with_status(DONE)
     }

@@ -6,7 +6,7 @@ ghost use lib.Dec.{eqb};
 ghost use lib.ListN.{getD};
 ghost use Rattle.stack.specs.Stack.{topRow, secondRow};
 ghost use Rattle.machine.specs.Events.{get, release};
-ghost use Rattle.kernel.specs.View.{view, outcomeOf};
+ghost use Rattle.kernel.specs.View.{Arrays, view, viewOutcome};
 use super::ACCESS;
 use super::CALL_LEVEL;
 use super::DONE;
@@ -32,7 +32,7 @@ impl Model {
         ceiling: &'a [u8; 16],
         r: u32,
     ) -> Outcome
-        ensures { λ o. ⌜ o ≡ outcomeOf (get resources (now (users .entry)) (now (ceiling .entry)) (view self) r) ⌝ }
+        ensures { λ o. ⌜ ((x : Arrays) → viewOutcome o x ≡ get resources (now (users .entry)) (now (ceiling .entry)) (view self x) r) ⌝ }
     {
         if no_caller(self.runner, self.level) {
             return self.with_status(CALL_LEVEL);
@@ -56,7 +56,7 @@ impl Model {
     }
 
     pub fn release(mut self, resources: u8, priority: &[u8; 32], r: u32) -> Outcome
-        ensures { λ o. ⌜ o ≡ outcomeOf (release resources (now (priority .entry)) (view self) r) ⌝ }
+        ensures { λ o. ⌜ ((x : Arrays) → viewOutcome o x ≡ release resources (now (priority .entry)) (view self x) r) ⌝ }
     {
         if no_caller(self.runner, self.level) {
             return self.with_status(CALL_LEVEL);

@@ -1,8 +1,8 @@
 -- `clear` meets its contract, case by case in the order of its checks.
-use mathlib.Core.Path.{refl, sym, ap, _∙_}
+use mathlib.Core.Path.{refl, sym, _∙_}
 use borrow.Author.Tests.{not-true, not-false}
 use Rattle.word.proofs.Theorems.{has-lt}
-use Rattle.kernel.specs.View.{view, outcomeOf}
+use Rattle.kernel.specs.View.{putBits, view}
 use Rattle.kernel.proofs.Methods.Waits.{clear-idle, clear-basic, clear-done}
 use borrow.Author.Needs.{needs}
 use Rattle.kernel.proofs.model.Model.clear.Statement.{statement}
@@ -16,8 +16,9 @@ with-status-requires c κs = search needs
 
 returns : tie.Need-returns
 returns c =
-    let a = c .before .before .before .args in
-    (c .with-status .ensures) ∙ ap outcomeOf (clear-idle (a .extended) (view (a .self)) (a .mask) (c .before .before .no-caller .ensures) (c .before .if1 .taken))
+    let c₁ = c .before in let c₂ = c₁ .before in let c₃ = c₂ .before in let a = c₃ .args in
+    λ x. c .with-status .ensures (putBits (a .bits .now) x)
+    ∙ clear-idle (a .extended) (view (a .self) (putBits (a .bits .now) x)) (a .mask) (c₂ .no-caller .ensures) (c₁ .if1 .taken)
 
 cast-rank : tie.Need-cast-rank
 cast-rank c = search needs
@@ -30,9 +31,10 @@ with-status-requires-2 c κs = search needs
 
 returns-2 : tie.Need-returns-2
 returns-2 c =
-    let c₁ = c .before .before in let c₂ = c₁ .before .before in let a = c₂ .before .before .args in
-    (c .with-status2 .ensures)
-    ∙ ap outcomeOf (clear-basic (a .extended) (view (a .self)) (a .mask) (c₂ .before .no-caller .ensures) (c₂ .if1 .left) (c₁ .has .ensures) (not-true _ (c .before .if2 .taken)))
+    let c₁ = c .before in let c₂ = c₁ .before in let c₃ = c₂ .before .before in let c₄ = c₃ .before in
+    let c₅ = c₄ .before in let a = c₅ .args in
+    λ x. c .with-status2 .ensures (putBits (a .bits .now) x)
+    ∙ clear-basic (a .extended) (view (a .self) (putBits (a .bits .now) x)) (a .mask) (c₄ .no-caller .ensures) (c₃ .if1 .left) (c₂ .has .ensures) (not-true _ (c₁ .if2 .taken))
 
 cast-kept : tie.Need-cast-kept
 cast-kept c = search needs
@@ -40,10 +42,10 @@ cast-kept c = search needs
 mul-kept : tie.Need-mul-kept
 mul-kept c = search needs
 
-array-read-kept : tie.Need-array-read-kept
-array-read-kept c =
-    let c₁ = c .before in let c₂ = c₁ .before in let a = c₂ .before .before .before .before .args in
-    has-lt (a .extended) (a .self .runner) (sym (c₂ .has .ensures) ∙ not-false _ (c₁ .if2 .left))
+element-copy-out-kept : tie.Need-element-copy-out-kept
+element-copy-out-kept c =
+    let c₁ = c .before in let c₂ = c₁ .before .before .before .before in let a = c₂ .args in
+    has-lt (a .extended) (a .self .runner) (sym (c₁ .has .ensures) ∙ not-false _ (c .if2 .left))
 
 bits-of-requires : tie.Need-bits-of-requires
 bits-of-requires c κs = search needs
@@ -57,9 +59,10 @@ cast-bits c = search needs
 mul-bits : tie.Need-mul-bits
 mul-bits c = search needs
 
-array-write-bits : tie.Need-array-write-bits
-array-write-bits c =
-    let c₁ = c .before .before .before in let c₂ = c₁ .before in let a = c₂ .before .before .before .before .args in
+element-write-bits : tie.Need-element-write-bits
+element-write-bits c =
+    let c₁ = c .before .before .before in let c₂ = c₁ .before in let c₃ = c₂ .before .before .before .before in
+    let a = c₃ .args in
     has-lt (a .extended) (a .self .runner) (sym (c₂ .has .ensures) ∙ not-false _ (c₁ .if2 .left))
 
 without-requires : tie.Need-without-requires
@@ -70,10 +73,13 @@ with-status-requires-3 c κs = search needs
 
 returns-3 : tie.Need-returns-3
 returns-3 c =
-    let d₁ = c .before in let d₃ = d₁ .before in let d₄ = d₃ .before in
-    let c₀ = d₄ .before .before in let c₁ = c₀ .before in let c₂ = c₁ .before .before in let a = c₂ .before .before .args in
-    (c .with-status3 .ensures)
-    ∙ ap outcomeOf (clear-done (a .extended) (view (a .self)) (a .mask) (c₂ .before .no-caller .ensures) (c₂ .if1 .left) (c₁ .has .ensures) (not-false _ (c₀ .if2 .left)) (d₄ .bits-of .ensures) (d₃ .without-bits .ensures) refl (d₁ .without .ensures))
+    let c₁ = c .before in let c₂ = c₁ .before in let c₃ = c₂ .before in let c₄ = c₃ .before .before in
+    let c₅ = c₄ .before in let c₆ = c₅ .before .before in let c₇ = c₆ .before in let c₈ = c₇ .before in
+    let a = c₈ .args in
+    λ x. c .with-status3 .ensures _
+    ∙ clear-done (a .extended) (view (a .self) (putBits (a .bits .now) x)) (a .mask)
+    (c₇ .no-caller .ensures) (c₆ .if1 .left) (c₅ .has .ensures) (not-false _ (c₄ .if2 .left))
+    (c₃ .bits-of .ensures) (c₂ .without-bits .ensures) refl (c₁ .without .ensures)
 
 pub clear-spec : {M : Type 1} → statement M
 clear-spec =
@@ -88,12 +94,12 @@ clear-spec =
     returns-2
     cast-kept
     mul-kept
-    array-read-kept
+    element-copy-out-kept
     bits-of-requires
     without-bits-requires
     cast-bits
     mul-bits
-    array-write-bits
+    element-write-bits
     without-requires
     with-status-requires-3
     returns-3)

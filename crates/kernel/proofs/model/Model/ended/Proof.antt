@@ -1,6 +1,6 @@
 -- `ended` meets its contract: the seat is left to the latest holder, then arbitration with the requests that it is given.
 use mathlib.Core.Path.{_≡_, ap, _∙_}
-use Rattle.kernel.specs.View.{view, viewPicked, outcomeOf}
+use Rattle.kernel.specs.View.{view, viewPicked}
 use Rattle.kernel.proofs.Methods.Core.{ended-made}
 use borrow.Author.Needs.{needs}
 use Rattle.kernel.proofs.model.Model.ended.Statement.{statement}
@@ -34,9 +34,9 @@ returns : tie.Need-returns
 returns c =
     let c₁ = c .before in let c₂ = c₁ .before in let c₃ = c₂ .before in let c₄ = c₃ .before .before in let c₅ = c₄ .before .before in
     let c₆ = c₅ .before .before in let a = c₆ .args in
-    (c .seated .ensures)
-    ∙ ap outcomeOf (ended-made (a .priority .now) (view (a .self)) (a .request) (c₅ .without .ensures) (c₄ .with .ensures) (c₂ .top .ensures) (c₃ .latest-level .ensures)
-    (ap viewPicked (c₁ .arbitrated .ensures)))
+    λ x. c .seated .ensures x
+    ∙ ended-made (a .priority .now) (view (a .self) x) (a .request) (c₅ .without .ensures) (c₄ .with .ensures) (c₂ .top .ensures) (c₃ .latest-level .ensures)
+    (ap viewPicked (c₁ .arbitrated .ensures))
 
 pub ended-spec : {M : Type 1} → statement M
 ended-spec = tie.close (tie.spec cast-without without-requires cast-with with-requires latest-level-requires top-requires arbitrated-requires seated-requires returns)

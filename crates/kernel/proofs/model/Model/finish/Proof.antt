@@ -1,6 +1,6 @@
 -- `finish` meets its contract, case by case in the order of its checks.
-use mathlib.Core.Path.{ap, _∙_}
-use Rattle.kernel.specs.View.{view, outcomeOf}
+use mathlib.Core.Path.{_∙_}
+use Rattle.kernel.specs.View.{view}
 use Rattle.kernel.proofs.Methods.Events.{finish-idle, finish-holding, finish-timed, finish-done}
 use borrow.Author.Needs.{needs}
 use Rattle.kernel.proofs.model.Model.finish.Statement.{statement}
@@ -12,7 +12,8 @@ with-status-requires c κs = search needs
 returns : tie.Need-returns
 returns c =
     let c₁ = c .before in let c₂ = c₁ .before .before in let a = c₂ .args in
-    (c .with-status .ensures) ∙ ap outcomeOf (finish-idle (a .priority .now) (view (a .self)) (c₁ .if1 .taken))
+    λ x. c .with-status .ensures x
+    ∙ finish-idle (a .priority .now) (view (a .self) x) (c₁ .if1 .taken)
 
 top-requires : tie.Need-top-requires
 top-requires c κs = search needs
@@ -24,7 +25,8 @@ returns-2 : tie.Need-returns-2
 returns-2 c =
     let c₁ = c .before in let c₂ = c₁ .before .before in let c₃ = c₂ .before in let c₄ = c₃ .before .before in
     let a = c₄ .args in
-    (c .with-status2 .ensures) ∙ ap outcomeOf (finish-holding (a .priority .now) (view (a .self)) (c₃ .if1 .left) (c₂ .top .ensures) (c₁ .if2 .taken))
+    λ x. c .with-status2 .ensures x
+    ∙ finish-holding (a .priority .now) (view (a .self) x) (c₃ .if1 .left) (c₂ .top .ensures) (c₁ .if2 .taken)
 
 returned-requires : tie.Need-returned-requires
 returned-requires c κs = search needs
@@ -33,8 +35,8 @@ returns-3 : tie.Need-returns-3
 returns-3 c =
     let c₁ = c .before in let c₂ = c₁ .before .before in let c₃ = c₂ .before .before in let c₄ = c₃ .before in let c₅ = c₄ .before .before in
     let a = c₅ .args in
-    (c .returned .ensures)
-    ∙ ap outcomeOf (finish-timed (a .priority .now) (view (a .self)) (c₄ .if1 .left) (c₃ .top .ensures) (c₂ .if2 .left) (c₁ .if3 .taken))
+    λ x. c .returned .ensures x
+    ∙ finish-timed (a .priority .now) (view (a .self) x) (c₄ .if1 .left) (c₃ .top .ensures) (c₂ .if2 .left) (c₁ .if3 .taken)
 
 ended-requires : tie.Need-ended-requires
 ended-requires c κs = search needs
@@ -43,8 +45,8 @@ returns-4 : tie.Need-returns-4
 returns-4 c =
     let c₁ = c .before in let c₂ = c₁ .before .before in let c₃ = c₂ .before .before in let c₄ = c₃ .before in let c₅ = c₄ .before .before in
     let a = c₅ .args in
-    (c .ended .ensures)
-    ∙ ap outcomeOf (finish-done (a .priority .now) (view (a .self)) (c₄ .if1 .left) (c₃ .top .ensures) (c₂ .if2 .left) (c₁ .if3 .left))
+    λ x. c .ended .ensures x
+    ∙ finish-done (a .priority .now) (view (a .self) x) (c₄ .if1 .left) (c₃ .top .ensures) (c₂ .if2 .left) (c₁ .if3 .left)
 
 pub finish-spec : {M : Type 1} → statement M
 finish-spec = tie.close (tie.spec with-status-requires returns top-requires with-status-requires-2 returns-2 returned-requires returns-3 ended-requires returns-4)

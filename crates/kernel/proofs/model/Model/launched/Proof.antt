@@ -15,7 +15,7 @@ push-requires c κs = search needs
 returns : tie.Need-returns
 returns c =
     let c₁ = c .before in let c₂ = c₁ .before in
-    rw (c₂ .without .ensures, c₁ .with .ensures, c .push .ensures)
+    λ x. rw (c₂ .without .ensures, c₁ .with .ensures, c .push .ensures)
 
 pub launched-spec : {M : Type 1} → statement M
 launched-spec = tie.close (tie.spec without-requires with-requires push-requires returns)

@@ -1,6 +1,6 @@
 -- `line` meets its contract, case by case in the order of its checks.
-use mathlib.Core.Path.{refl, ap, _∙_}
-use Rattle.kernel.specs.View.{view, outcomeOf}
+use mathlib.Core.Path.{_∙_}
+use Rattle.kernel.specs.View.{putLosses, view}
 use Rattle.kernel.proofs.Methods.Events.{line-none, line-waits, line-done}
 use borrow.Author.Needs.{needs}
 use Rattle.kernel.proofs.model.Model.line.Statement.{statement}
@@ -14,17 +14,16 @@ with-status-requires c κs = search needs
 
 returns : tie.Need-returns
 returns c =
-    let c₁ = c .before in let c₂ = c₁ .before in let a = c₂ .before .before .args in
-    (c .with-status .ensures) ∙ ap outcomeOf (line-none (a .counts) (a .line-rank .now) (a .priority .now) (view (a .self)) (a .i) (c₂ .byte-at .ensures) (c₁ .if1 .taken))
+    let c₁ = c .before in let c₂ = c₁ .before in let c₃ = c₂ .before .before in let a = c₃ .args in
+    λ x. c .with-status .ensures (putLosses (a .losses .now) x)
+    ∙ line-none (a .counts) (a .line-rank .now) (a .priority .now) (view (a .self) (putLosses (a .losses .now) x)) (a .i)
+    (c₂ .byte-at .ensures) (c₁ .if1 .taken)
 
 cast-has : tie.Need-cast-has
 cast-has c = search needs
 
 has-requires : tie.Need-has-requires
 has-requires c κs = search needs
-
-slice-aggregate-lose-where : tie.Need-slice-aggregate-lose-where
-slice-aggregate-lose-where c = search needs
 
 cast-lose-where : tie.Need-cast-lose-where
 cast-lose-where c = search needs
@@ -37,10 +36,11 @@ with-status-requires-2 c κs = search needs
 
 returns-2 : tie.Need-returns-2
 returns-2 c =
-    let c₁ = c .before in let c₂ = c₁ .before .before in let c₃ = c₂ .before .before .before in let c₄ = c₃ .before in let c₅ = c₄ .before in
-    let a = c₅ .before .before .args in
-    (c .with-status2 .ensures)
-    ∙ ap outcomeOf (line-waits (a .counts) (a .line-rank .now) (a .priority .now) (view (a .self)) (a .i) (c₅ .byte-at .ensures) (c₄ .if1 .left) (c₃ .has .ensures) refl (c₂ .lose-where .ensures) (c₁ .if2 .taken))
+    let c₁ = c .before in let c₂ = c₁ .before .before in let c₃ = c₂ .before in let c₄ = c₃ .before in
+    let c₅ = c₄ .before in let c₆ = c₅ .before .before in let a = c₆ .args in
+    λ x. c .with-status2 .ensures _
+    ∙ line-waits (a .counts) (a .line-rank .now) (a .priority .now) (view (a .self) (putLosses (a .losses .now) x)) (a .i)
+    (c₅ .byte-at .ensures) (c₄ .if1 .left) (c₃ .has .ensures) (c₂ .if2 .taken) (c₁ .lose-where .ensures)
 
 cast-with : tie.Need-cast-with
 cast-with c = search needs
@@ -53,10 +53,11 @@ settled-requires c κs = search needs
 
 returns-3 : tie.Need-returns-3
 returns-3 c =
-    let c₀ = c .before in let c₁ = c₀ .before in let c₂ = c₁ .before .before in let c₃ = c₂ .before .before .before in let c₄ = c₃ .before in
-    let c₅ = c₄ .before in let a = c₅ .before .before .args in
-    (c .settled .ensures)
-    ∙ ap outcomeOf (line-done (a .counts) (a .line-rank .now) (a .priority .now) (view (a .self)) (a .i) (c₅ .byte-at .ensures) (c₄ .if1 .left) (c₃ .has .ensures) refl (c₂ .lose-where .ensures) (c₁ .if2 .left) (c₀ .with .ensures))
+    let c₁ = c .before in let c₂ = c₁ .before in let c₃ = c₂ .before in let c₄ = c₃ .before in let c₅ = c₄ .before in
+    let c₆ = c₅ .before .before in let a = c₆ .args in
+    λ x. c .settled .ensures (putLosses (a .losses .now) x)
+    ∙ line-done (a .counts) (a .line-rank .now) (a .priority .now) (view (a .self) (putLosses (a .losses .now) x)) (a .i)
+    (c₅ .byte-at .ensures) (c₄ .if1 .left) (c₃ .has .ensures) (c₂ .if2 .left) (c₁ .with .ensures)
 
 pub line-spec : {M : Type 1} → statement M
 line-spec =
@@ -67,7 +68,6 @@ line-spec =
     returns
     cast-has
     has-requires
-    slice-aggregate-lose-where
     cast-lose-where
     lose-where-requires
     with-status-requires-2

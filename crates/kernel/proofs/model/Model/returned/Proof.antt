@@ -1,6 +1,6 @@
 -- `returned` meets its contract: the seat is left to the time-triggered task that was started before, or to the latest holder, then arbitration.
 use mathlib.Core.Path.{ap, _∙_}
-use Rattle.kernel.specs.View.{view, viewPicked, outcomeOf}
+use Rattle.kernel.specs.View.{view, viewPicked}
 use Rattle.kernel.proofs.Methods.Core.{returned-made}
 use borrow.Author.Needs.{needs}
 use Rattle.kernel.proofs.model.Model.returned.Statement.{statement}
@@ -46,9 +46,9 @@ returns : tie.Need-returns
 returns c =
     let c₁ = c .before in let c₂ = c₁ .before in let c₃ = c₂ .before in let c₄ = c₃ .before in let c₅ = c₄ .before in let c₆ = c₅ .before in
     let c₇ = c₆ .before .before in let c₈ = c₇ .before in let c₉ = c₈ .before .before in let a = c₉ .before .before .args in
-    (c .seated .ensures)
-    ∙ ap outcomeOf (returned-made (a .priority .now) (view (a .self)) (c₉ .without .ensures) (c₈ .with .ensures) (c₇ .second .ensures) (c₆ .top .ensures)
-    (c₅ .earlier-or .ensures) (c₄ .latest-level .ensures) (c₃ .execution-or .ensures) (c₂ .pop .ensures) (ap viewPicked (c₁ .arbitrated .ensures)))
+    λ x. c .seated .ensures x
+    ∙ returned-made (a .priority .now) (view (a .self) x) (c₉ .without .ensures) (c₈ .with .ensures) (c₇ .second .ensures) (c₆ .top .ensures)
+    (c₅ .earlier-or .ensures) (c₄ .latest-level .ensures) (c₃ .execution-or .ensures) (c₂ .pop .ensures) (ap viewPicked (c₁ .arbitrated .ensures))
 
 pub returned-spec : {M : Type 1} → statement M
 returned-spec = tie.close (tie.spec cast-without without-requires cast-with with-requires second-requires top-requires earlier-or-requires latest-level-requires execution-or-requires pop-requires arbitrated-requires seated-requires returns)

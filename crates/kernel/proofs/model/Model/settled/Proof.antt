@@ -1,7 +1,7 @@
 -- `settled` meets its contract: arbitration with the requests that it is given.
 use mathlib.Core.Path.{ap, _∙_}
 use Rattle.machine.specs.Model.{withRequest}
-use Rattle.kernel.specs.View.{view, viewPicked, outcomeOf}
+use Rattle.kernel.specs.View.{view, viewPicked}
 use Rattle.kernel.proofs.Methods.Core.{settled-made}
 use borrow.Author.Needs.{needs}
 use Rattle.kernel.proofs.model.Model.settled.Statement.{statement}
@@ -16,8 +16,8 @@ seated-requires c κs = search needs
 returns : tie.Need-returns
 returns c =
     let c₁ = c .before in let c₂ = c₁ .before in let a = c₂ .args in
-    (c .seated .ensures)
-    ∙ ap outcomeOf (settled-made (a .priority .now) (view (a .self)) (withRequest (view (a .self) .core) (a .request)) (ap viewPicked (c₁ .arbitrated .ensures)))
+    λ x. c .seated .ensures x
+    ∙ settled-made (a .priority .now) (view (a .self) x) (withRequest (view (a .self) x .core) (a .request)) (ap viewPicked (c₁ .arbitrated .ensures))
 
 pub settled-spec : {M : Type 1} → statement M
 settled-spec = tie.close (tie.spec arbitrated-requires seated-requires returns)

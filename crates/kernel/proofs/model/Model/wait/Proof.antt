@@ -2,7 +2,7 @@
 use mathlib.Core.Path.{refl, sym, ap, _∙_}
 use borrow.Author.Tests.{not-true, not-false}
 use Rattle.word.proofs.Theorems.{has-lt}
-use Rattle.kernel.specs.View.{view, viewPicked, outcomeOf}
+use Rattle.kernel.specs.View.{putEvents, view, viewPicked}
 use Rattle.kernel.proofs.Methods.Waits.{wait-idle, wait-basic, wait-holding, wait-on, wait-pauses}
 use borrow.Author.Needs.{needs}
 use Rattle.kernel.proofs.model.Model.wait.Statement.{statement}
@@ -16,8 +16,9 @@ with-status-requires c κs = search needs
 
 returns : tie.Need-returns
 returns c =
-    let a = c .before .before .before .args in
-    (c .with-status .ensures) ∙ ap outcomeOf (wait-idle (a .extended) (a .priority .now) (view (a .self)) (a .mask) (c .before .before .no-caller .ensures) (c .before .if1 .taken))
+    let c₁ = c .before in let c₂ = c₁ .before in let c₃ = c₂ .before in let a = c₃ .args in
+    λ x. c .with-status .ensures (putEvents (a .bits .now) (a .waited .now) x)
+    ∙ wait-idle (a .extended) (a .priority .now) (view (a .self) (putEvents (a .bits .now) (a .waited .now) x)) (a .mask) (c₂ .no-caller .ensures) (c₁ .if1 .taken)
 
 cast-rank : tie.Need-cast-rank
 cast-rank c = search needs
@@ -30,9 +31,11 @@ with-status-requires-2 c κs = search needs
 
 returns-2 : tie.Need-returns-2
 returns-2 c =
-    let c₁ = c .before .before in let c₂ = c₁ .before .before in let a = c₂ .before .before .args in
-    (c .with-status2 .ensures)
-    ∙ ap outcomeOf (wait-basic (a .extended) (a .priority .now) (view (a .self)) (a .mask) (c₂ .before .no-caller .ensures) (c₂ .if1 .left) (c₁ .has .ensures) (not-true _ (c .before .if2 .taken)))
+    let c₁ = c .before in let c₂ = c₁ .before in let c₃ = c₂ .before .before in let c₄ = c₃ .before in
+    let c₅ = c₄ .before in let a = c₅ .args in
+    λ x. c .with-status2 .ensures (putEvents (a .bits .now) (a .waited .now) x)
+    ∙ wait-basic (a .extended) (a .priority .now) (view (a .self) (putEvents (a .bits .now) (a .waited .now) x)) (a .mask)
+    (c₄ .no-caller .ensures) (c₃ .if1 .left) (c₂ .has .ensures) (not-true _ (c₁ .if2 .taken))
 
 top-requires : tie.Need-top-requires
 top-requires c κs = search needs
@@ -42,9 +45,11 @@ with-status-requires-3 c κs = search needs
 
 returns-3 : tie.Need-returns-3
 returns-3 c =
-    let c₁ = c .before .before .before in let c₂ = c₁ .before .before in let c₃ = c₂ .before in let c₄ = c₃ .before .before in let a = c₄ .before .before .args in
-    (c .with-status3 .ensures)
-    ∙ ap outcomeOf (wait-holding (a .extended) (a .priority .now) (view (a .self)) (a .mask) (c₄ .before .no-caller .ensures) (c₄ .if1 .left) (c₃ .has .ensures) (not-false _ (c₂ .if2 .left)) (c₁ .top .ensures) (c .before .if3 .taken))
+    let c₁ = c .before in let c₂ = c₁ .before .before in let c₃ = c₂ .before .before in let c₄ = c₃ .before in
+    let c₅ = c₄ .before .before in let c₆ = c₅ .before in let c₇ = c₆ .before in let a = c₇ .args in
+    λ x. c .with-status3 .ensures (putEvents (a .bits .now) (a .waited .now) x)
+    ∙ wait-holding (a .extended) (a .priority .now) (view (a .self) (putEvents (a .bits .now) (a .waited .now) x)) (a .mask)
+    (c₆ .no-caller .ensures) (c₅ .if1 .left) (c₄ .has .ensures) (not-false _ (c₃ .if2 .left)) (c₂ .top .ensures) (c₁ .if3 .taken)
 
 cast-kept : tie.Need-cast-kept
 cast-kept c = search needs
@@ -52,9 +57,10 @@ cast-kept c = search needs
 mul-kept : tie.Need-mul-kept
 mul-kept c = search needs
 
-array-read-kept : tie.Need-array-read-kept
-array-read-kept c =
-    let c₁ = c .before .before .before .before .before in let c₂ = c₁ .before in let a = c₂ .before .before .before .before .args in
+element-copy-out-kept : tie.Need-element-copy-out-kept
+element-copy-out-kept c =
+    let c₁ = c .before .before .before .before in let c₂ = c₁ .before in
+    let c₃ = c₂ .before .before .before .before in let a = c₃ .args in
     has-lt (a .extended) (a .self .runner) (sym (c₂ .has .ensures) ∙ not-false _ (c₁ .if2 .left))
 
 bits-of-requires : tie.Need-bits-of-requires
@@ -68,10 +74,13 @@ with-status-requires-4 c κs = search needs
 
 returns-4 : tie.Need-returns-4
 returns-4 c =
-    let c₀ = c .before .before in let c₁ = c₀ .before in let c₂ = c₁ .before .before in let c₃ = c₂ .before .before in
-    let c₄ = c₃ .before .before in let c₅ = c₄ .before in let c₆ = c₅ .before .before in let a = c₆ .before .before .args in
-    (c .with-status4 .ensures)
-    ∙ ap outcomeOf (wait-on (a .extended) (a .priority .now) (view (a .self)) (a .mask) (c₆ .before .no-caller .ensures) (c₆ .if1 .left) (c₅ .has .ensures) (not-false _ (c₄ .if2 .left)) (c₃ .top .ensures) (c₂ .if3 .left) (c₁ .bits-of .ensures) (c₀ .any-set .ensures) (c .before .if4 .taken))
+    let c₁ = c .before in let c₂ = c₁ .before in let c₃ = c₂ .before in let c₄ = c₃ .before .before in
+    let c₅ = c₄ .before .before in let c₆ = c₅ .before .before in let c₇ = c₆ .before in
+    let c₈ = c₇ .before .before in let c₉ = c₈ .before in let c₁₀ = c₉ .before in let a = c₁₀ .args in
+    λ x. c .with-status4 .ensures (putEvents (a .bits .now) (a .waited .now) x)
+    ∙ wait-on (a .extended) (a .priority .now) (view (a .self) (putEvents (a .bits .now) (a .waited .now) x)) (a .mask)
+    (c₉ .no-caller .ensures) (c₈ .if1 .left) (c₇ .has .ensures) (not-false _ (c₆ .if2 .left)) (c₅ .top .ensures) (c₄ .if3 .left)
+    (c₃ .bits-of .ensures) (c₂ .any-set .ensures) (c₁ .if4 .taken)
 
 cast-waited : tie.Need-cast-waited
 cast-waited c = search needs
@@ -79,9 +88,10 @@ cast-waited c = search needs
 mul-waited : tie.Need-mul-waited
 mul-waited c = search needs
 
-array-write-waited : tie.Need-array-write-waited
-array-write-waited c =
-    let c₁ = c .before .before .before .before .before .before .before .before .before in let c₂ = c₁ .before in let a = c₂ .before .before .before .before .args in
+element-write-waited : tie.Need-element-write-waited
+element-write-waited c =
+    let c₁ = c .before .before .before .before .before .before .before .before in let c₂ = c₁ .before in
+    let c₃ = c₂ .before .before .before .before in let a = c₃ .args in
     has-lt (a .extended) (a .self .runner) (sym (c₂ .has .ensures) ∙ not-false _ (c₁ .if2 .left))
 
 latest-level-requires : tie.Need-latest-level-requires
@@ -104,12 +114,15 @@ seated-requires c κs = search needs
 
 returns-5 : tie.Need-returns-5
 returns-5 c =
-    let d₁ = c .before in let d₂ = d₁ .before in let d₃ = d₂ .before in let d₄ = d₃ .before in let d₅ = d₄ .before in
-    let c₇ = d₅ .before .before in let c₀ = c₇ .before in let c₁ = c₀ .before in let c₂ = c₁ .before .before in let c₃ = c₂ .before .before in
-    let c₄ = c₃ .before .before in let c₅ = c₄ .before in let c₆ = c₅ .before .before in let a = c₆ .before .before .args in
-    (c .seated .ensures)
-    ∙ ap outcomeOf (wait-pauses (a .extended) (a .priority .now) (view (a .self)) (a .mask) (c₆ .before .no-caller .ensures) (c₆ .if1 .left) (c₅ .has .ensures) (not-false _ (c₄ .if2 .left)) (c₃ .top .ensures) (c₂ .if3 .left) (c₁ .bits-of .ensures) (c₀ .any-set .ensures) (c₇ .if4 .left)
-    refl (d₅ .latest-level .ensures) (d₄ .without .ensures) (d₃ .with .ensures) (d₂ .top2 .ensures) (ap viewPicked (d₁ .arbitrated .ensures)))
+    let c₁ = c .before in let c₂ = c₁ .before in let c₃ = c₂ .before in let c₄ = c₃ .before in let c₅ = c₄ .before in
+    let c₆ = c₅ .before in let c₇ = c₆ .before in let c₈ = c₇ .before in let c₉ = c₈ .before .before in
+    let c₁₀ = c₉ .before .before in let c₁₁ = c₁₀ .before .before in let c₁₂ = c₁₁ .before in
+    let c₁₃ = c₁₂ .before .before in let c₁₄ = c₁₃ .before in let c₁₅ = c₁₄ .before in let a = c₁₅ .args in
+    λ x. c .seated .ensures _
+    ∙ wait-pauses (a .extended) (a .priority .now) (view (a .self) (putEvents (a .bits .now) (a .waited .now) x)) (a .mask)
+    (c₁₄ .no-caller .ensures) (c₁₃ .if1 .left) (c₁₂ .has .ensures) (not-false _ (c₁₁ .if2 .left)) (c₁₀ .top .ensures) (c₉ .if3 .left)
+    (c₈ .bits-of .ensures) (c₇ .any-set .ensures) (c₆ .if4 .left)
+    refl (c₅ .latest-level .ensures) (c₄ .without .ensures) (c₃ .with .ensures) (c₂ .top2 .ensures) (ap viewPicked (c₁ .arbitrated .ensures))
 
 pub wait-spec : {M : Type 1} → statement M
 wait-spec =
@@ -127,14 +140,14 @@ wait-spec =
     returns-3
     cast-kept
     mul-kept
-    array-read-kept
+    element-copy-out-kept
     bits-of-requires
     any-set-requires
     with-status-requires-4
     returns-4
     cast-waited
     mul-waited
-    array-write-waited
+    element-write-waited
     latest-level-requires
     without-requires
     with-requires
