@@ -49,7 +49,8 @@ module _ (code n : ℕ) (same : n ≡ cond (known code) (arguments code) noEvent
   pub counted : (n ≡ noEvent → ⊥) → Counted code n
   counted some =
       by-test (known code)
-      (λ k. let e : n ≡ arguments code = rw k at same in record { is-known = k; code-le = known-le code k .1; counts = sym e; few = omega (arith, arguments-le code) })
+      (λ k. let e : n ≡ arguments code = rw k at same in
+      record { is-known = k; code-le = known-le code k .1; counts = sym e; few = omega (arith, arguments-le code) })
       (λ u. absurd (some (rw u at same)))
 
   pub uncounted : n ≡ noEvent → known code ≡ false

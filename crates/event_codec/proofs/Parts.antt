@@ -17,7 +17,9 @@ pub part-fits : (at : ℕ) (cs d : List ℕ) (w : Written) → at + length cs �
     → w ≡ writing cs (length (take (length d - at) (drop at d)))
     → w .refusal ≡ none
 part-fits at cs d w room e =
-    ap (λ (x : Written). x .refusal) (e ∙ sym (writing-fits cs (length (take (length d - at) (drop at d))) (length cs) refl (simp (length-take, length-drop) (omega arith))))
+    ap (λ (x : Written). x .refusal) (e
+    ∙ sym (writing-fits cs (length (take (length d - at) (drop at d))) (length cs) refl
+    (simp (length-take, length-drop) (omega arith))))
 
 -- a byte stored, and cs written after it
 pub written-first : (b : ℕ) (cs d ys : List ℕ) → suc (length cs) ≤ length d

@@ -1,4 +1,5 @@
--- The reader's definition where the code reads it by the count of a code's arguments, and where the numbers have one byte each.
+-- The reader's definition where the code reads it by the count of a code's arguments, and where the numbers have one
+-- byte each.
 use Prim.Native.Nat.{ℕ, _+_, _≤_, _<_}
 use mathlib.Core.Path.{_≡_, refl, sym, _∙_}
 use mathlib.Core.List.{List}
@@ -17,7 +18,8 @@ pub few-refusals : (n : NumberRead) (bs : List ℕ) (at : ℕ) → n ≡ readNum
 few-refusals n bs at e = rw e (reading bs at .refusals)
 
 -- an event whose code was read, and has m arguments
-pub read-counted : (n : NumberRead) (bs : List ℕ) (at : ℕ) → n ≡ readNumber bs at → n .refusal ≡ none → {m k : ℕ} → Counted (n .value) m → m ≡ k
+pub read-counted : (n : NumberRead) (bs : List ℕ) (at : ℕ) → n ≡ readNumber bs at → n .refusal ≡ none → {m k : ℕ}
+    → Counted (n .value) m → m ≡ k
     → readEvent bs at ≡ readArguments k bs (n .value) (n .place)
 read-counted n bs at same read h e = read-known n bs at same read (n .value) refl (h .is-known) ∙ rw (h .counts, e)
 

@@ -238,8 +238,10 @@ fn write_two(event: Event, out: &mut [u8]) -> Written
 
 // Writes a byte and two numbers after it, or nothing where they do not fit.
 fn write_triple(code: u8, first: u32, second: u32, out: &mut [u8]) -> Written
-    ensures result { λ r. ⌜ r ≡ writing (code ∷ (numberBytes first ++ numberBytes second)) (length (now (out .entry))) ⌝ }
-    ensures output { λ _. ⌜ now (out .exit) ≡ written (code ∷ (numberBytes first ++ numberBytes second)) (now (out .entry)) ⌝ }
+    ensures result { λ r. ⌜ r
+        ≡ writing (code ∷ (numberBytes first ++ numberBytes second)) (length (now (out .entry))) ⌝ }
+    ensures output { λ _. ⌜ now (out .exit)
+        ≡ written (code ∷ (numberBytes first ++ numberBytes second)) (now (out .entry)) ⌝ }
 {
     let at = 1 + number_length(first);
     let end = at + number_length(second);

@@ -1,9 +1,11 @@
--- What the contracts of the machine's helpers cite beside the definitions of its events: these, with numbers for the model.
+-- What the contracts of the machine's helpers cite beside the definitions of its events: these, with numbers for the
+-- model.
 --
 --   dueWith w ls            the requests w and the losses ls
---   marksWord bs            the match marks bs as one number, a byte each, the first the lowest; a `group` of them is looked at in one go
+--   marksWord bs            the match marks bs as one number, a byte each, the first the lowest; a `group` of them is
+--                           looked at in one go
 --
--- and what its methods count on of the tables that they are lent, as the plan has them: Laid.
+-- and what its methods count on of the tables that they are lent, as the plan has them: RowsHold.
 use Prim.Native.Nat.{ℕ, _+_, _*_, _≤_, _<_}
 use mathlib.Core.Bool.{Bool, cond}
 use mathlib.Core.List.{List, [], _∷_}

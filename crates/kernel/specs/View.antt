@@ -1,5 +1,6 @@
--- The code's model with the arrays beside it is the machine's, field by field, and so is an outcome: `view` looks at both as the machine's
--- record. A contract speaks of the machine's definitions through it, whatever the arrays hold that the method is not lent.
+-- The code's model with the arrays beside it is the machine's, field by field, and so is an outcome: `view` looks at
+-- both as the machine's record. A contract speaks of the machine's definitions through it, whatever the arrays hold
+-- that the method is not lent.
 use Prim.Native.Nat.{ℕ}
 use mathlib.Core.List.{List}
 use Rattle.kernel.specs.declared.model.Picked.{Picked}
@@ -29,7 +30,8 @@ pickedOf p =
       begun = p .begun;
     }
 
--- The arrays of the machine, which the code keeps beside its model and lends: counters and switches of the cells, losses, event bits and masks.
+-- The arrays of the machine, which the code keeps beside its model and lends: counters and switches of the cells,
+-- losses, event bits and masks.
 pub record Arrays : Type 0 where
   pub counter : List ℕ
   pub on : List ℕ

@@ -15,7 +15,8 @@ use plan::Plan;
 // Writes the answers of all events, and then the losses.
 pub fn answer<'a, 'b>(config: Config, trace: &'a [u8], events: usize, out: &'b mut [u8])
     requires { ⌜ Runnable config (now trace) events (length (now out)) ⌝ }
-    ensures { λ _. ⌜ now (out .exit) ≡ written (machineAnswers config (planOf config) (callsOf (now (trace .entry)))) (now (out .entry)) ⌝ }
+    ensures { λ _. ⌜ now (out .exit)
+        ≡ written (machineAnswers config (planOf config) (callsOf (now (trace .entry)))) (now (out .entry)) ⌝ }
 {
     let plan = Plan::of(config);
     let fresh = Model::fresh(plan.autostart, &plan.priority);

@@ -21,13 +21,15 @@ const MAX_TRACE: usize = 8192;
 // The trace is longer than that.
 const TRACE_TOO_LONG: u8 = 20;
 
-// Runs a trace on a configuration and writes the answers and the losses. The result is the number of events, or a refusal with its
-// place; a refused run writes nothing.
+// Runs a trace on a configuration and writes the answers and the losses. The result is the number of events, or a
+// refusal with its place; a refused run writes nothing.
 #[no_mangle]
 pub extern "C" fn osek_run(config: &[u8], trace: &[u8], out: &mut [u8]) -> u64
     ensures result { λ r. ⌜ r ≡ runResult (now (config .entry)) (now (trace .entry)) (length (now (out .entry))) ⌝ }
-    ensures output { λ _. ⌜ now (out .exit) ≡ runOutput (now (config .entry)) (now (trace .entry)) (now (out .entry)) ⌝ }
-    ensures steps { λ _. ⌜ now (out .exit) ≡ machineOutput (now (config .entry)) (now (trace .entry)) (now (out .entry)) ⌝ }
+    ensures output { λ _. ⌜ now (out .exit)
+        ≡ runOutput (now (config .entry)) (now (trace .entry)) (now (out .entry)) ⌝ }
+    ensures steps { λ _. ⌜ now (out .exit)
+        ≡ machineOutput (now (config .entry)) (now (trace .entry)) (now (out .entry)) ⌝ }
 {
     let read = read_config(config);
     if read.refusal != 0 {

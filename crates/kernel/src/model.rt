@@ -18,8 +18,8 @@ pub use bodies::counts_lines;
 use stack::NONE;
 use stack::Row;
 
-// No body: in the place of a rank it says that nobody runs, or that there is no such task or ISR. It is what lies past the bottom of
-// the row of held resources.
+// No body: in the place of a rank it says that nobody runs, or that there is no such task or ISR. It is what lies
+// past the bottom of the row of held resources.
 const NO_RANK: u8 = NONE;
 
 // The level that a time-triggered task runs at, and nobody else.
@@ -59,12 +59,13 @@ pub struct Picked {
     pub begun: bool,
 }
 
-// What the machine keeps between events, but for its arrays: the run keeps those and lends a method the ones that it reads or changes. The
-// model goes by value. Its fields are flat and the row of held resources is in words that shift, so that it stays in registers: an array in it
-// would be copied, and much of the model with it, at every event that may index it.
+// What the machine keeps between events, but for its arrays: the run keeps those and lends a method the ones that it
+// reads or changes. The model goes by value. Its fields are flat and the row of held resources is in words that
+// shift, so that it stays in registers: an array in it would be copied, and much of the model with it, at every event
+// that may index it.
 pub struct Model {
-    // The ranks that wait to begin, those that began and go on by their priority, and those that began and do not: extended tasks that wait
-    // for an event bit, and time-triggered tasks. Each as a word.
+    // The ranks that wait to begin, those that began and go on by their priority, and those that began and do not:
+    // extended tasks that wait for an event bit, and time-triggered tasks. Each as a word.
     pub request: u32,
     pub started: u32,
     pub aside: u32,

@@ -40,7 +40,9 @@ pub fn put_losses<'a, 'b>(
     out: &'b mut [u8],
 )
     requires { ⌜ (bodies ≤ 32) × (bodies ≤ length (now ranks)) × (at + 2 * bodies ≤ length (now out)) ⌝ }
-    ensures { λ _. ⌜ now (out .exit) ≡ laid at (lossBytes (map (λ r. getD (now (losses .entry)) r 0) (take bodies (now (ranks .entry))))) (now (out .entry)) ⌝ }
+    ensures { λ _. ⌜ now (out .exit)
+        ≡ laid at (lossBytes (map (λ r. getD (now (losses .entry)) r 0) (take bodies (now (ranks .entry)))))
+        (now (out .entry)) ⌝ }
 {
     let mut b = 0;
     while b < bodies {

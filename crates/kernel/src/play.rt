@@ -16,7 +16,8 @@ use config::Config;
 use event_codec::read_event;
 use plan::Plan;
 
-// Each event meets the model that the one before it handed back, and the arrays as it left them; the last one's losses are the result.
+// Each event meets the model that the one before it handed back, and the arrays as it left them; the last one's
+// losses are the result.
 pub fn play<'a, 'b>(
     config: Config,
     plan: Plan,
@@ -26,7 +27,9 @@ pub fn play<'a, 'b>(
 ) -> [u16; 32]
     requires { ⌜ Playable config plan (view fresh freshArrays) (now trace) (length (now out)) ⌝ }
     ensures { λ r. ⌜ r ≡ machineAfter config plan (view fresh freshArrays) (callsOf (now (trace .entry))) .losses ⌝ }
-    ensures { λ _. ⌜ now (out .exit) ≡ laid 0 (answerBytes (machineSeen config plan (view fresh freshArrays) (callsOf (now (trace .entry))))) (now (out .entry)) ⌝ }
+    ensures { λ _. ⌜ now (out .exit)
+        ≡ laid 0 (answerBytes (machineSeen config plan (view fresh freshArrays) (callsOf (now (trace .entry)))))
+        (now (out .entry)) ⌝ }
 {
     let mut o = Outcome {
         model: fresh,

@@ -9,7 +9,8 @@ use Rattle.number.specs.Number.{numberBound, groups, leading}
 use Rattle.number.proofs.Size.{room, room-mono, groups-sized}
 
 -- what comes after a group with its top bit set leaves room for that group
-pub continued-fits : (l : List ℕ) (at k : ℕ) → length l < 2 ^ 63 → 0 < k → k ≤ leading → (r : NumberRead) → r ≡ groups (k - 1) (drop (at + 1) l)
+pub continued-fits : (l : List ℕ) (at k : ℕ) → length l < 2 ^ 63 → 0 < k → k ≤ leading → (r : NumberRead)
+    → r ≡ groups (k - 1) (drop (at + 1) l)
     → (128 * r .value + 128 ≤ numberBound) × (r .place < 2 ^ 63)
 unfolding room
 continued-fits l at zero short p few r e = absurd (omega arith)

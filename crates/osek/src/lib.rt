@@ -1,5 +1,6 @@
-// The library that C links, as include/osek.h declares it: each function is that of the crate that proves it, with the same
-// contract. A crate of its own, so that an archive is built from the proved crates below it and none of them is proved again.
+// The library that C links, as include/osek.h declares it: each function is that of the crate that proves it, with
+// the same contract. A crate of its own, so that an archive is built from the proved crates below it and none of them
+// is proved again.
 ghost use mathlib.Core.Path.{_≡_};
 ghost use lib.ListN.{length};
 ghost use Rattle.run.specs.Run.{runResult, runOutput};
@@ -10,17 +11,22 @@ ghost use Rattle.salvage.specs.Salvage.{salvaged, eventsAfter, stretchesAfter, 
 #[no_mangle]
 pub extern "C" fn osek_run(config: &[u8], trace: &[u8], out: &mut [u8]) -> u64
     ensures result { λ r. ⌜ r ≡ runResult (now (config .entry)) (now (trace .entry)) (length (now (out .entry))) ⌝ }
-    ensures output { λ _. ⌜ now (out .exit) ≡ runOutput (now (config .entry)) (now (trace .entry)) (now (out .entry)) ⌝ }
-    ensures steps { λ _. ⌜ now (out .exit) ≡ machineOutput (now (config .entry)) (now (trace .entry)) (now (out .entry)) ⌝ }
+    ensures output { λ _. ⌜ now (out .exit)
+        ≡ runOutput (now (config .entry)) (now (trace .entry)) (now (out .entry)) ⌝ }
+    ensures steps { λ _. ⌜ now (out .exit)
+        ≡ machineOutput (now (config .entry)) (now (trace .entry)) (now (out .entry)) ⌝ }
 {
     kernel::osek_run(config, trace, out)
 }
 
 #[no_mangle]
 pub extern "C" fn osek_salvage(trace: &[u8], events: &mut [u8], stretches: &mut [u8]) -> u64
-    ensures result { λ r. ⌜ r ≡ resultOf (salvaged (now (trace .entry)) (length (now (events .entry))) (length (now (stretches .entry)))) ⌝ }
-    ensures events { λ _. ⌜ now (events .exit) ≡ eventsAfter (now (trace .entry)) (now (events .entry)) (now (stretches .entry)) ⌝ }
-    ensures stretches { λ _. ⌜ now (stretches .exit) ≡ stretchesAfter (now (trace .entry)) (now (events .entry)) (now (stretches .entry)) ⌝ }
+    ensures result { λ r. ⌜ r
+        ≡ resultOf (salvaged (now (trace .entry)) (length (now (events .entry))) (length (now (stretches .entry)))) ⌝ }
+    ensures events { λ _. ⌜ now (events .exit)
+        ≡ eventsAfter (now (trace .entry)) (now (events .entry)) (now (stretches .entry)) ⌝ }
+    ensures stretches { λ _. ⌜ now (stretches .exit)
+        ≡ stretchesAfter (now (trace .entry)) (now (events .entry)) (now (stretches .entry)) ⌝ }
 {
     salvage::osek_salvage(trace, events, stretches)
 }

@@ -39,13 +39,17 @@ array-share-prefix-config : tie.Need-array-share-prefix-config
 array-share-prefix-config c = search needs
 
 slice-aggregate-report : tie.Need-slice-aggregate-report
-slice-aggregate-report c = let l = c .before .before .before .before .before .before .before .before .before .before .load in sym (length-take-le (l .result .len) (l .last .1 .0) (l .ensures))
+slice-aggregate-report c =
+    let l = c .before .before .before .before .before .before .before .before .before .before .load in
+    sym (length-take-le (l .result .len) (l .last .1 .0) (l .ensures))
 
 array-share-prefix-trace : tie.Need-array-share-prefix-trace
 array-share-prefix-trace c = search needs
 
 slice-aggregate-report-2 : tie.Need-slice-aggregate-report-2
-slice-aggregate-report-2 c = let l = c .before .before .before .before .before .before .before .load2 in sym (length-take-le (l .result .len) (l .last .1 .0) (l .ensures))
+slice-aggregate-report-2 c =
+    let l = c .before .before .before .before .before .before .before .load2 in
+    sym (length-take-le (l .result .len) (l .last .1 .0) (l .ensures))
 
 slice-aggregate-report-3 : tie.Need-slice-aggregate-report-3
 slice-aggregate-report-3 c = search needs

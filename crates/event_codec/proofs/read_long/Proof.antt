@@ -9,82 +9,61 @@ use borrow.Author.Needs.{needs}
 use Rattle.event_codec.proofs.read_long.Statement.{statement}
 use Rattle.event_codec.proofs.read_long.Tie as tie
 
-read-number-requires : tie.Need-read-number-requires
-read-number-requires c κs = search needs
-
 unreadable-requires : tie.Need-unreadable-requires
-unreadable-requires c κs = let n = c .before .before .read-number in let a = c .before .before .before .before .args in few-refusals (n .result) (a .trace .now) (a .at) (n .ensures)
+unreadable-requires c κs =
+    let n = c .before .before .read-number in let a = c .before .before .before .before .args in
+    few-refusals (n .result) (a .trace .now) (a .at) (n .ensures)
 
 returns : tie.Need-returns
 unfolding readEvent
-returns c = c .unreadable .ensures ∙ sym (ends _ _ _ (c .before .before .before .read-number .ensures) (c .before .if1 .taken))
-
-arguments-requires : tie.Need-arguments-requires
-arguments-requires c κs = search needs
-
-refused-requires : tie.Need-refused-requires
-refused-requires c κs = search needs
+returns c =
+    c .unreadable .ensures ∙ sym (ends _ _ _ (c .before .before .before .read-number .ensures) (c .before .if1 .taken))
 
 returns-2 : tie.Need-returns-2
 returns-2 c = let s = c .before .before in
     c .refused .ensures
-    ∙ sym (read-unknown _ _ _ (s .before .before .before .read-number .ensures) (s .before .if1 .left) (uncounted _ _ (s .arguments .ensures) (c .before .if2 .taken)))
+    ∙ sym (read-unknown _ _ _ (s .before .before .before .read-number .ensures) (s .before .if1 .left)
+    (uncounted _ _ (s .arguments .ensures) (c .before .if2 .taken)))
 
 cast-accepted : tie.Need-cast-accepted
 cast-accepted c = let k = counted _ _ (c .before .before .arguments .ensures) (c .before .if2 .left) in omega arith
-
-accepted-requires : tie.Need-accepted-requires
-accepted-requires c κs = search needs
 
 returns-3 : tie.Need-returns-3
 unfolding readArguments
 returns-3 c = let s = c .before .before .before in
     let k = counted _ _ (s .arguments .ensures) (c .before .before .if2 .left) in
     c .accepted .ensures
-    ∙ sym (read-counted _ _ _ (s .before .before .before .read-number .ensures) (s .before .if1 .left) k (c .before .if3 .taken))
+    ∙ sym (read-counted _ _ _ (s .before .before .before .read-number .ensures) (s .before .if1 .left) k
+    (c .before .if3 .taken))
 
 cast-read-one : tie.Need-cast-read-one
-cast-read-one c = let k = counted _ _ (c .before .before .before .arguments .ensures) (c .before .before .if2 .left) in omega arith
-
-read-one-requires : tie.Need-read-one-requires
-read-one-requires c κs = search needs
+cast-read-one c =
+    let k = counted _ _ (c .before .before .before .arguments .ensures) (c .before .before .if2 .left) in omega arith
 
 returns-4 : tie.Need-returns-4
 unfolding readArguments
 returns-4 c = let s = c .before .before .before .before in
     let k = counted _ _ (s .arguments .ensures) (c .before .before .before .if2 .left) in
     c .read-one .ensures
-    ∙ sym (read-counted _ _ _ (s .before .before .before .read-number .ensures) (s .before .if1 .left) k (c .before .if4 .taken))
+    ∙ sym (read-counted _ _ _ (s .before .before .before .read-number .ensures) (s .before .if1 .left) k
+    (c .before .if4 .taken))
 
 cast-read-two : tie.Need-cast-read-two
-cast-read-two c = let k = counted _ _ (c .before .before .before .arguments .ensures) (c .before .before .if2 .left) in omega arith
-
-read-two-requires : tie.Need-read-two-requires
-read-two-requires c κs = search needs
+cast-read-two c =
+    let k = counted _ _ (c .before .before .before .arguments .ensures) (c .before .before .if2 .left) in omega arith
 
 returns-5 : tie.Need-returns-5
 unfolding readArguments
 returns-5 c = let s = c .before .before .before .before in
     let k = counted _ _ (s .arguments .ensures) (c .before .before .before .if2 .left) in
     c .read-two .ensures
-    ∙ sym (read-counted _ _ _ (s .before .before .before .read-number .ensures) (s .before .if1 .left) {k = 2} k (omega arith))
+    ∙ sym (read-counted _ _ _ (s .before .before .before .read-number .ensures) (s .before .if1 .left) {k = 2} k
+    (omega arith))
 
 pub read-long-spec : {M : Type 1} → statement M
 read-long-spec =
     tie.close
     (tie.spec
-    read-number-requires
-    unreadable-requires
-    returns
-    arguments-requires
-    refused-requires
-    returns-2
-    cast-accepted
-    accepted-requires
-    returns-3
-    cast-read-one
-    read-one-requires
-    returns-4
-    cast-read-two
-    read-two-requires
-    returns-5)
+    (λ c κs. search needs) unreadable-requires returns (λ c κs. search needs) (λ c κs. search needs) returns-2
+    cast-accepted (λ c κs. search needs) returns-3 cast-read-one (λ c κs. search needs) returns-4 cast-read-two
+    (λ c κs. search needs) returns-5)

@@ -6,22 +6,21 @@ use borrow.Author.Needs.{needs}
 use Rattle.event_codec.proofs.read_one.Statement.{statement}
 use Rattle.event_codec.proofs.read_one.Tie as tie
 
-read-number-requires : tie.Need-read-number-requires
-read-number-requires c κs = search needs
-
 unreadable-requires : tie.Need-unreadable-requires
-unreadable-requires c κs = let n = c .before .before .read-number in let a = c .before .before .before .before .args in few-refusals (n .result) (a .trace .now) (a .at) (n .ensures)
+unreadable-requires c κs =
+    let n = c .before .before .read-number in let a = c .before .before .before .before .args in
+    few-refusals (n .result) (a .trace .now) (a .at) (n .ensures)
 
 returns : tie.Need-returns
-returns c = c .unreadable .ensures ∙ sym (ends _ _ _ (c .before .before .before .read-number .ensures) (c .before .if1 .taken))
-
-accepted-requires : tie.Need-accepted-requires
-accepted-requires c κs = search needs
+returns c =
+    c .unreadable .ensures ∙ sym (ends _ _ _ (c .before .before .before .read-number .ensures) (c .before .if1 .taken))
 
 returns-2 : tie.Need-returns-2
-returns-2 c = c .accepted .ensures ∙ sym (goes-on _ _ _ (c .before .before .before .read-number .ensures) (c .before .if1 .left))
+returns-2 c =
+    c .accepted .ensures ∙ sym (goes-on _ _ _ (c .before .before .before .read-number .ensures) (c .before .if1 .left))
 
 pub read-one-spec : {M : Type 1} → statement M
 read-one-spec =
     tie.close
-    (tie.spec read-number-requires unreadable-requires returns accepted-requires returns-2)
+    (tie.spec
+    (λ c κs. search needs) unreadable-requires returns (λ c κs. search needs) returns-2)

@@ -5,46 +5,29 @@ use borrow.Author.Needs.{needs}
 use Rattle.event_codec.proofs.write_none.Statement.{statement}
 use Rattle.event_codec.proofs.write_none.Tie as tie
 
-stray-requires : tie.Need-stray-requires
-stray-requires c κs = search needs
-
 returns : tie.Need-returns
 returns c = let s = c .before .before .before .before in
     let e = s .args .event in
-    writes-stray e (s .args .out .now) (c .stray .result) (s .pre .0) (stray-first e (s .pre .1) (omega arith)) (c .stray .ensures)
-
-stray-requires-2 : tie.Need-stray-requires-2
-stray-requires-2 c κs = search needs
+    writes-stray e (s .args .out .now) (c .stray .result) (s .pre .0) (stray-first e (s .pre .1) (omega arith))
+    (c .stray .ensures)
 
 returns-2 : tie.Need-returns-2
 returns-2 c = let s = c .before .before .before .before .before .before in
     let e = s .args .event in
-    writes-stray e (s .args .out .now) (c .stray2 .result) (s .pre .0) (stray-second e (omega arith) (omega arith)) (c .stray2 .ensures)
-
-cast-write-number : tie.Need-cast-write-number
-cast-write-number c = search needs
-
-write-number-requires : tie.Need-write-number-requires
-write-number-requires c κs = search needs
-
-same-length : tie.Need-same-length
-same-length c = search needs
+    writes-stray e (s .args .out .now) (c .stray2 .result) (s .pre .0) (stray-second e (omega arith) (omega arith))
+    (c .stray2 .ensures)
 
 returns-3 : tie.Need-returns-3
 returns-3 c = let s = c .before .before .before .before .before .before .before .before .before .before in
     let e = s .args .event in
     let w = c .before .before .write-number in
-    writes-bytes e (s .args .out .now) (w .result) _ (w .last .1 .0) (s .pre .0) (stray-none e (λ h. omega arith) (λ h. omega arith)) (bytes-none e (s .pre .0) (s .pre .1)) (w .ensures .0) (w .ensures .1)
+    writes-bytes e (s .args .out .now) (w .result) _ (w .last .1 .0) (s .pre .0)
+    (stray-none e (λ h. omega arith) (λ h. omega arith)) (bytes-none e (s .pre .0) (s .pre .1)) (w .ensures .0)
+    (w .ensures .1)
 
 pub write-none-spec : {M : Type 1} → statement M
 write-none-spec =
     tie.close
     (tie.spec
-    stray-requires
-    returns
-    stray-requires-2
-    returns-2
-    cast-write-number
-    write-number-requires
-    same-length
-    returns-3)
+    (λ c κs. search needs) returns (λ c κs. search needs) returns-2 (λ c. search needs) (λ c κs. search needs)
+    (λ c. search needs) returns-3)

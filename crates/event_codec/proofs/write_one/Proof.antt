@@ -5,26 +5,22 @@ use borrow.Author.Needs.{needs}
 use Rattle.event_codec.proofs.write_one.Statement.{statement}
 use Rattle.event_codec.proofs.write_one.Tie as tie
 
-stray-requires : tie.Need-stray-requires
-stray-requires c κs = search needs
-
 returns : tie.Need-returns
 returns c = let s = c .before .before .before .before in
     let e = s .args .event in
-    writes-stray e (s .args .out .now) (c .stray .result) (s .pre .0) (stray-second e (omega arith) (omega arith)) (c .stray .ensures)
-
-write-pair-requires : tie.Need-write-pair-requires
-write-pair-requires c κs = search needs
-
-same-length : tie.Need-same-length
-same-length c = search needs
+    writes-stray e (s .args .out .now) (c .stray .result) (s .pre .0) (stray-second e (omega arith) (omega arith))
+    (c .stray .ensures)
 
 returns-2 : tie.Need-returns-2
 returns-2 c = let s = c .before .before .before .before .before .before .before in
     let e = s .args .event in
     let w = c .before .before .write-pair in
-    writes-bytes e (s .args .out .now) (w .result) _ (w .last .1 .1 .0) (s .pre .0) (stray-none e (λ h. absurd (omega arith)) (λ h. omega arith)) (bytes-one e (s .pre .0) (s .pre .1)) (w .ensures .0) (w .ensures .1)
+    writes-bytes e (s .args .out .now) (w .result) _ (w .last .1 .1 .0) (s .pre .0)
+    (stray-none e (λ h. absurd (omega arith)) (λ h. omega arith)) (bytes-one e (s .pre .0) (s .pre .1))
+    (w .ensures .0) (w .ensures .1)
 
 pub write-one-spec : {M : Type 1} → statement M
 write-one-spec =
-    tie.close (tie.spec stray-requires returns write-pair-requires same-length returns-2)
+    tie.close
+    (tie.spec
+    (λ c κs. search needs) returns (λ c κs. search needs) (λ c. search needs) returns-2)

@@ -26,13 +26,15 @@ module _ (code first n : ℕ) (d : List ℕ) (long : n ≡ length (numberBytes f
   abbrev lent : List ℕ
   lent = take (length (set d 0 code) - 1) (drop 1 (set d 0 code))
 
-  fits : 1 + n ≤ length d → (w : Written) (ys : List ℕ) → w ≡ writing (numberBytes first) (length lent) → ys ≡ written (numberBytes first) lent
-      → (record { refusal = w .refusal; place = 1 + n } ≡ writing bytes (length d)) × (putMid 1 (length (set d 0 code) - 1) (set d 0 code) ys ≡ written bytes d)
-  fits h w ys e f =
-      (rw (part-fits 1 (numberBytes first) (set d 0 code) w (simp length-set (omega arith)) e) (writing-fits bytes (length d) (1 + n) (omega arith) h), written-first code (numberBytes first) d ys (omega arith) f)
-
-number-length-requires : tie.Need-number-length-requires
-number-length-requires c κs = search needs
+  fits : 1 + n ≤ length d → (w : Written) (ys : List ℕ) → w ≡ writing (numberBytes first) (length lent)
+      → ys ≡ written (numberBytes first) lent
+      → (record { refusal = w .refusal; place = 1 + n } ≡ writing bytes (length d))
+      × (putMid 1 (length (set d 0 code) - 1) (set d 0 code) ys ≡ written bytes d)
+  fits h w ys e f = (
+    rw (part-fits 1 (numberBytes first) (set d 0 code) w (simp length-set (omega arith)) e)
+        (writing-fits bytes (length d) (1 + n) (omega arith) h),
+    written-first code (numberBytes first) d ys (omega arith) f,
+  )
 
 add-n : tie.Need-add-n
 add-n c = let s = c .before .before in
@@ -42,26 +44,18 @@ returns : tie.Need-returns
 returns c = let a = c .before .before .before .args in let n = c .before .number-length in
     no-room (a .code) (a .first) (n .result) (a .out .now) (n .ensures) (omega arith)
 
-slice-write-out : tie.Need-slice-write-out
-slice-write-out c = search needs
-
 sub-write-number : tie.Need-sub-write-number
 sub-write-number c = simp length-set (omega (arith, c .before .number-length .ensures))
 
 part-write-number-start : tie.Need-part-write-number-start
 part-write-number-start c = simp length-set (omega (arith, c .before .number-length .ensures))
 
-part-write-number-end : tie.Need-part-write-number-end
-part-write-number-end c = search needs
-
-write-number-requires : tie.Need-write-number-requires
-write-number-requires c κs = search needs
-
 returns-2 : tie.Need-returns-2
 returns-2 c = let a = c .before .before .before .before .before .before .before .args in
     let n = c .before .before .before .before .before .number-length in
     let w = c .before .before .write-number in
-    fits (a .code) (a .first) (n .result) (a .out .now) (n .ensures) (omega arith) (w .result) (w .last .1 .0) (w .ensures .0) (w .ensures .1)
+    fits (a .code) (a .first) (n .result) (a .out .now) (n .ensures) (omega arith) (w .result) (w .last .1 .0)
+    (w .ensures .0) (w .ensures .1)
 
 same-length : tie.Need-same-length
 same-length c = let a = c .before .before .before .before .before .before .before .args in
@@ -71,13 +65,5 @@ pub write-pair-spec : {M : Type 1} → statement M
 write-pair-spec =
     tie.close
     (tie.spec
-    number-length-requires
-    add-n
-    returns
-    slice-write-out
-    sub-write-number
-    part-write-number-start
-    part-write-number-end
-    write-number-requires
-    same-length
-    returns-2)
+    (λ c κs. search needs) add-n returns (λ c. search needs) sub-write-number part-write-number-start
+    (λ c. search needs) (λ c κs. search needs) same-length returns-2)

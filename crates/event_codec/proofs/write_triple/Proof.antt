@@ -1,4 +1,5 @@
--- `write_triple` meets its contract: it tests the length, writes the byte and the first number, and lends the rest for the second.
+-- `write_triple` meets its contract: it tests the length, writes the byte and the first number, and lends the rest
+-- for the second.
 use Prim.Native.Nat.{ℕ, _+_, _-_, _≤_, _<_}
 use mathlib.Core.Path.{_≡_, sym, ap, _∙_}
 use mathlib.Core.List.{List, _∷_, _++_}
@@ -16,7 +17,8 @@ use Rattle.event_codec.proofs.write_triple.Statement.{statement}
 use Rattle.event_codec.proofs.write_triple.Tie as tie
 
 -- both answers, where the two numbers are n and m bytes long
-module _ (code first second n m : ℕ) (d : List ℕ) (first-long : n ≡ length (numberBytes first)) (second-long : m ≡ length (numberBytes second)) where
+module _ (code first second n m : ℕ) (d : List ℕ) (first-long : n ≡ length (numberBytes first))
+    (second-long : m ≡ length (numberBytes second)) where
   abbrev bytes : List ℕ
   bytes = code ∷ (numberBytes first ++ numberBytes second)
 
@@ -26,74 +28,54 @@ module _ (code first second n m : ℕ) (d : List ℕ) (first-long : n ≡ length
   no-room : length d < 1 + n + m → (unwritten noRoom (1 + n + m) ≡ writing bytes (length d)) × (d ≡ written bytes d)
   no-room h = (writing-no-room bytes (length d) (1 + n + m) long h, sym (written-no-room bytes d (omega (arith, long))))
 
-  fits : 1 + n + m ≤ length d → (half : List ℕ) (w : Written) (ys : List ℕ) → half ≡ written (code ∷ numberBytes first) d
+  fits : 1 + n + m ≤ length d → (half : List ℕ) (w : Written) (ys : List ℕ)
+      → half ≡ written (code ∷ numberBytes first) d
       → w ≡ writing (numberBytes second) (length (take (length half - (1 + n)) (drop (1 + n) half)))
       → ys ≡ written (numberBytes second) (take (length half - (1 + n)) (drop (1 + n) half))
-      → (record { refusal = w .refusal; place = 1 + n + m } ≡ writing bytes (length d)) × (putMid (1 + n) (length half - (1 + n)) half ys ≡ written bytes d)
-  fits h half w ys e r f =
-      (rw (part-fits (1 + n) (numberBytes second) half w same r) (writing-fits bytes (length d) (1 + n + m) long h), written-parts (1 + n) (code ∷ numberBytes first) (numberBytes second) d half ys (omega arith) (omega arith) e f)
+      → (record { refusal = w .refusal; place = 1 + n + m } ≡ writing bytes (length d))
+      × (putMid (1 + n) (length half - (1 + n)) half ys ≡ written bytes d)
+  fits h half w ys e r f = (
+    rw (part-fits (1 + n) (numberBytes second) half w same r) (writing-fits bytes (length d) (1 + n + m) long h),
+    written-parts (1 + n) (code ∷ numberBytes first) (numberBytes second) d half ys (omega arith) (omega arith) e f,
+  )
     where
       same : 1 + n + length (numberBytes second) ≤ length half
       same = omega (arith, ap length e ∙ length-written (code ∷ numberBytes first) d)
-
-number-length-requires : tie.Need-number-length-requires
-number-length-requires c κs = search needs
 
 add-at : tie.Need-add-at
 add-at c = let s = c .before .before in
     omega (arith, c .number-length .ensures, length-numberBytes (s .args .first))
 
-number-length-requires-2 : tie.Need-number-length-requires-2
-number-length-requires-2 c κs = search needs
-
 add-end : tie.Need-add-end
 add-end c = let s = c .before .before .before in
-    omega (arith, c .before .number-length .ensures, length-numberBytes (s .args .first), c .number-length2 .ensures, length-numberBytes (s .args .second))
+    omega (
+      arith,
+      c .before .number-length .ensures,
+      length-numberBytes (s .args .first),
+      c .number-length2 .ensures,
+      length-numberBytes (s .args .second),
+    )
 
 returns : tie.Need-returns
 returns c = let s = c .before .before .before .before in let a = s .args in
     let n = c .before .before .number-length in let m = c .before .number-length2 in
-    no-room (a .code) (a .first) (a .second) (n .result) (m .result) (a .out .now) (n .ensures) (m .ensures) (omega arith)
-
-write-pair-requires : tie.Need-write-pair-requires
-write-pair-requires c κs = search needs
-
-sub-write-number : tie.Need-sub-write-number
-sub-write-number c = search needs
-
-part-write-number-start : tie.Need-part-write-number-start
-part-write-number-start c = search needs
-
-part-write-number-end : tie.Need-part-write-number-end
-part-write-number-end c = search needs
-
-write-number-requires : tie.Need-write-number-requires
-write-number-requires c κs = search needs
-
-same-length : tie.Need-same-length
-same-length c = search needs
+    no-room (a .code) (a .first) (a .second) (n .result) (m .result) (a .out .now) (n .ensures) (m .ensures)
+    (omega arith)
 
 returns-2 : tie.Need-returns-2
-returns-2 c = let s = c .before .before .before .before .before .before .before .before .before .before .before .before in let a = s .args in
+returns-2 c =
+    let s = c .before .before .before .before .before .before .before .before .before .before .before .before in
+    let a = s .args in
     let n = c .before .before .before .before .before .before .before .before .before .before .number-length in
     let m = c .before .before .before .before .before .before .before .before .before .number-length2 in
     let p = c .before .before .before .before .before .before .write-pair in
     let w = c .before .before .write-number in
-    fits (a .code) (a .first) (a .second) (n .result) (m .result) (a .out .now) (n .ensures) (m .ensures) (omega arith) (p .last .1 .1 .0) (w .result) (w .last .1 .0) (p .ensures .1) (w .ensures .0) (w .ensures .1)
+    fits (a .code) (a .first) (a .second) (n .result) (m .result) (a .out .now) (n .ensures) (m .ensures)
+    (omega arith) (p .last .1 .1 .0) (w .result) (w .last .1 .0) (p .ensures .1) (w .ensures .0) (w .ensures .1)
 
 pub write-triple-spec : {M : Type 1} → statement M
 write-triple-spec =
     tie.close
     (tie.spec
-    number-length-requires
-    add-at
-    number-length-requires-2
-    add-end
-    returns
-    write-pair-requires
-    sub-write-number
-    part-write-number-start
-    part-write-number-end
-    write-number-requires
-    same-length
-    returns-2)
+    (λ c κs. search needs) add-at (λ c κs. search needs) add-end returns (λ c κs. search needs) (λ c. search needs)
+    (λ c. search needs) (λ c. search needs) (λ c κs. search needs) (λ c. search needs) returns-2)

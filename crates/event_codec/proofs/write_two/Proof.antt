@@ -5,17 +5,13 @@ use borrow.Author.Needs.{needs}
 use Rattle.event_codec.proofs.write_two.Statement.{statement}
 use Rattle.event_codec.proofs.write_two.Tie as tie
 
-write-triple-requires : tie.Need-write-triple-requires
-write-triple-requires c κs = search needs
-
-same-length : tie.Need-same-length
-same-length c = search needs
-
 returns : tie.Need-returns
 returns c = let s = c .before .before .before .before .before in
     let e = s .args .event in
     let w = c .before .before .write-triple in
-    writes-bytes e (s .args .out .now) (w .result) _ (w .last .1 .1 .1 .0) (s .pre .0) (stray-none e (λ h. absurd (omega arith)) (λ h. absurd (omega arith))) (bytes-two e (s .pre .0) (s .pre .1)) (w .ensures .0) (w .ensures .1)
+    writes-bytes e (s .args .out .now) (w .result) _ (w .last .1 .1 .1 .0) (s .pre .0)
+    (stray-none e (λ h. absurd (omega arith)) (λ h. absurd (omega arith))) (bytes-two e (s .pre .0) (s .pre .1))
+    (w .ensures .0) (w .ensures .1)
 
 pub write-two-spec : {M : Type 1} → statement M
-write-two-spec = tie.close (tie.spec write-triple-requires same-length returns)
+write-two-spec = tie.close (tie.spec (λ c κs. search needs) (λ c. search needs) returns)

@@ -1,6 +1,7 @@
 -- The loops over the cells: what each has done of its definition before entry e, from its start to its end.
 --
--- In order: a tick's counters and match marks; a tick's requests and losses; its switches; starts and stops; the switches.
+-- In order: a tick's counters and match marks; a tick's requests and losses; its switches; starts and stops; the
+-- switches.
 use Prim.Native.Nat.{ℕ, zero, suc, _+_, _-_, _≤_, _<_}
 use mathlib.Core.Path.{_≡_, refl, sym, ap, ap₂, _∙_}
 use mathlib.Core.Bool.{Bool, true, false, _&&_, _||_, or-assoc, or-false}
@@ -32,7 +33,8 @@ module _ (w : Bool) (ks : List ℕ) where
   unfolding marks
   marks-counted zero e i x os ns h = refl
   marks-counted (suc k) e i x os ns h =
-      ap₂ (λ (n : ℕ) (bs : List Bool). tickCell (unmarked n (getD ks e 0) (isOn (getD os e 0)) (w && hasTurn (getD os e 0))) .matched ∷ bs)
+      ap₂ (λ (n : ℕ) (bs : List Bool). tickCell
+      (unmarked n (getD ks e 0) (isOn (getD os e 0)) (w && hasTurn (getD os e 0))) .matched ∷ bs)
       (getD-set-other ns i e x 0 (λ q. absurd (omega arith)))
       (marks-counted k (suc e) i x os ns (omega arith))
 
@@ -40,24 +42,30 @@ module _ (w : Bool) (ks : List ℕ) where
   unfolding marks
   marks-switched zero e i x os ns h = refl
   marks-switched (suc k) e i x os ns h =
-      ap₂ (λ (o : ℕ) (bs : List Bool). tickCell (unmarked (getD ns e 0) (getD ks e 0) (isOn o) (w && hasTurn o)) .matched ∷ bs)
+      ap₂ (λ (o : ℕ) (bs : List Bool). tickCell
+      (unmarked (getD ns e 0) (getD ks e 0) (isOn o) (w && hasTurn o)) .matched ∷ bs)
       (getD-set-other os i e x 0 (λ q. absurd (omega arith)))
       (marks-switched k (suc e) i x os ns (omega arith))
 
-  counters-switched : (k e i x : ℕ) (os ns : List ℕ) → i < e → countersTicked k e w ks (set os i x) ns ≡ countersTicked k e w ks os ns
+  counters-switched : (k e i x : ℕ) (os ns : List ℕ) → i < e
+      → countersTicked k e w ks (set os i x) ns ≡ countersTicked k e w ks os ns
   unfolding countersTicked
   counters-switched zero e i x os ns h = refl
   counters-switched (suc k) e i x os ns h =
       counters-switched k (suc e) i x os _ (omega arith)
-      ∙ ap (λ (o : ℕ). countersTicked k (suc e) w ks os (set ns e (tickCell (unmarked (getD ns e 0) (getD ks e 0) (isOn o) (w && hasTurn o)) .counter)))
+      ∙ ap (λ (o : ℕ). countersTicked k (suc e) w ks os
+      (set ns e (tickCell (unmarked (getD ns e 0) (getD ks e 0) (isOn o) (w && hasTurn o)) .counter)))
       (getD-set-other os i e x 0 (λ q. absurd (omega arith)))
 
-switches-counted : (ks : List ℕ) (k e i x : ℕ) (os ns : List ℕ) → i < e → switchesTicked k e ks (set ns i x) os ≡ switchesTicked k e ks ns os
+switches-counted : (ks : List ℕ) (k e i x : ℕ) (os ns : List ℕ) → i < e
+    → switchesTicked k e ks (set ns i x) os ≡ switchesTicked k e ks ns os
 unfolding switchesTicked
 switches-counted ks zero e i x os ns h = refl
 switches-counted ks (suc k) e i x os ns h =
     switches-counted ks k (suc e) i x _ ns (omega arith)
-    ∙ ap (λ (n : ℕ). switchesTicked k (suc e) ks ns (set os e (switchFor (isOn (getD os e 0)) (tickCell (unmarked n (getD ks e 0) (isOn (getD os e 0)) (hasTurn (getD os e 0))) .turn))))
+    ∙ ap (λ (n : ℕ). switchesTicked k (suc e) ks ns
+    (set os e (switchFor (isOn (getD os e 0))
+    (tickCell (unmarked n (getD ks e 0) (isOn (getD os e 0)) (hasTurn (getD os e 0))) .turn))))
     (getD-set-other ns i e x 0 (λ q. absurd (omega arith)))
 
 module _ (w : Bool) (ks os₀ ns₀ : List ℕ) where
@@ -98,13 +106,17 @@ module _ (w : Bool) (ks os₀ ns₀ : List ℕ) where
           reached = so-far .reached;
           long = so-far .long;
           counters = counters-switched w ks (maxEntries - e) e i x os ns h ∙ so-far .counters;
-          matches = ap (λ (bs : List Bool). take e ms ++ bs) (marks-switched w ks (maxEntries - e) e i x os ns h) ∙ so-far .matches;
+          matches =
+              ap (λ (bs : List Bool). take e ms ++ bs) (marks-switched w ks (maxEntries - e) e i x os ns h)
+              ∙ so-far .matches;
         }
 
-    pub ticking-end : maxEntries ≤ e → (ms ≡ marks maxEntries 0 w ks os₀ ns₀) × (ns ≡ countersTicked maxEntries 0 w ks os₀ ns₀)
+    pub ticking-end : maxEntries ≤ e
+        → (ms ≡ marks maxEntries 0 w ks os₀ ns₀) × (ns ≡ countersTicked maxEntries 0 w ks os₀ ns₀)
     unfolding countersTicked marks
     ticking-end h = (
-      sym (take-all e ms (omega (arith, so-far .long))) ∙ sym (append-nil (take e ms)) ∙ (rw (none maxEntries e h) at (so-far .matches)),
+      sym (take-all e ms (omega (arith, so-far .long))) ∙ sym (append-nil (take e ms))
+          ∙ (rw (none maxEntries e h) at (so-far .matches)),
       (rw (none maxEntries e h) at (so-far .counters)),
     )
 
@@ -115,12 +127,15 @@ module _ (w : ℕ) where
 
   module _ (ms : List Bool) (rs : List ℕ) where
     -- the group from e on taken
-    pub group-turn : (e : ℕ) → e + group ≤ length ms → (x : Due) {y : Due} → y ≡ requestsDue w (take group (drop e ms)) (drop e rs) x
+    pub group-turn : (e : ℕ) → e + group ≤ length ms → (x : Due) {y : Due}
+        → y ≡ requestsDue w (take group (drop e ms)) (drop e rs) x
         → requestsDue w (drop (e + group) ms) (drop (e + group) rs) y ≡ requestsDue w (drop e ms) (drop e rs) x
     group-turn e h x {y} is =
-        ap₂ (λ (bs : List Bool) (ls : List ℕ). requestsDue w bs ls y) (sym (drop-drop group e ms)) (sym (drop-drop group e rs))
+        ap₂ (λ (bs : List Bool) (ls : List ℕ). requestsDue w bs ls y) (sym (drop-drop group e ms))
+        (sym (drop-drop group e rs))
         ∙ ap (requestsDue w (drop group (drop e ms)) (drop group (drop e rs))) is
-        ∙ ap (λ (n : ℕ). requestsDue w (drop group (drop e ms)) (drop n (drop e rs)) (requestsDue w (take group (drop e ms)) (drop e rs) x)) (sym whole)
+        ∙ ap (λ (n : ℕ). requestsDue w (drop group (drop e ms)) (drop n (drop e rs))
+        (requestsDue w (take group (drop e ms)) (drop e rs) x)) (sym whole)
         ∙ sym (due-append w (take group (drop e ms)) (drop group (drop e ms)) (drop e rs) x)
         ∙ ap (λ (bs : List Bool). requestsDue w bs (drop e rs) x) (take-append-drop group (drop e ms))
       where

@@ -24,20 +24,26 @@ module _ (ps : List ℕ) (k : Core) {r l : ℕ} (won : r ≡ winner (bids k)) (w
 
   pub arbitrated-above : k .level < l → {b : Bool} → b ≡ not (has (k .started) r)
       → {w : ℕ} → w ≡ cond b (without (k .request) r) (k .request) → {s : ℕ} → s ≡ with (k .started) r
-      → _≡_ {A = Picked} (record { core = record { request = w; started = s; aside = k .aside; runner = r; level = l }; begun = b }) (arbitrated ps k)
+      → _≡_ {A = Picked} (record {
+        core =
+            record { request = w; started = s; aside = k .aside; runner = r; level = l };
+        begun = b;
+      }) (arbitrated ps k)
   unfolding arbitrated
   arbitrated-above h begun used runs =
       rw (used, runs, begun, worth, won, lt-ltb (k .level) (winning ps k) (rw (worth, won) at h))
 
 -- the model m with the core k, after arbitration
-pub settled-made : (ps : List ℕ) (m : Model) (k : Core) {p : Picked} → p ≡ arbitrated ps k → doneWith (withCore m (p .core)) (p .begun) ≡ settled ps (withCore m k)
+pub settled-made : (ps : List ℕ) (m : Model) (k : Core) {p : Picked} → p ≡ arbitrated ps k
+    → doneWith (withCore m (p .core)) (p .begun) ≡ settled ps (withCore m k)
 settled-made ps m k picked = rw picked
 
 -- the model that a runner which ended leaves, after arbitration with the requests q
 pub ended-made : (ps : List ℕ) (m : Model) (q : ℕ) {v : ℕ} → v ≡ without (m .core .started) (m .core .runner)
     → {z : ℕ} → z ≡ with (m .cleared) (m .core .runner)
     → {r : ℕ} → r ≡ topRow (m .holder) → {l : ℕ} → l ≡ cond (eqb (topRow (m .holder)) noRank) 0 (topRow (m .raised))
-    → {p : Picked} → p ≡ arbitrated ps (record { request = q; started = v; aside = m .core .aside; runner = r; level = l })
+    → {p : Picked} → p ≡ arbitrated ps
+    (record { request = q; started = v; aside = m .core .aside; runner = r; level = l })
     → doneWith (withCore (withEvents m (m .core) z (m .bits) (m .waited)) (p .core)) (p .begun)
     ≡ settled ps (withCore (leaving m) (withRequest (leaving m .core) q))
 ended-made ps m q ended unset seat level picked = rw (picked, ended, unset, seat, level)
@@ -56,7 +62,8 @@ pub returned-made : (ps : List ℕ) (m : Model) {a : ℕ} → a ≡ without (m .
 returned-made ps m ended unset earlier seat next level last left picked =
     rw (picked, ended, unset, next, last, left, level, seat, earlier)
 
--- Arbitration after a Tick of a model m: p is whom it picked, and b whether that is a time-triggered task that it dispatched.
+-- Arbitration after a Tick of a model m: p is whom it picked, and b whether that is a time-triggered task that it
+-- dispatched.
 module _ (ps : List ℕ) (m : Model) {p : Picked} (picked : p ≡ arbitrated ps (m .core))
     {b : Bool} (test : b ≡ ltb (m .core .level) (p .core .level) && eqb (p .core .level) triggerLevel) where
   -- the test looks at whom it picked, and the definition at the winner
@@ -64,22 +71,41 @@ module _ (ps : List ℕ) (m : Model) {p : Picked} (picked : p ≡ arbitrated ps 
   unfolding arbitrated
   same-test =
       by-lt (m .core .level) (winning ps (m .core))
-      (λ h. rw (test, picked, lt-ltb (m .core .level) (winning ps (m .core)) h, lt-ltb (m .core .level) (winning ps (m .core)) h))
-      (λ h. rw (test, picked, le-ltb (m .core .level) (winning ps (m .core)) h, le-ltb (m .core .level) (m .core .level) (omega arith)))
+      (λ h. rw (
+        test,
+        picked,
+        lt-ltb (m .core .level) (winning ps (m .core)) h,
+        lt-ltb (m .core .level) (winning ps (m .core)) h,
+      ))
+      (λ h. rw (
+        test,
+        picked,
+        le-ltb (m .core .level) (winning ps (m .core)) h,
+        le-ltb (m .core .level) (m .core .level) (omega arith),
+      ))
 
   lowered : winning ps (m .core) ≤ m .core .level → b ≡ false
   unfolding arbitrated
-  lowered l = rw (test, picked, le-ltb (m .core .level) (winning ps (m .core)) l, le-ltb (m .core .level) (m .core .level) (omega arith))
+  lowered l =
+      rw (
+        test,
+        picked,
+        le-ltb (m .core .level) (winning ps (m .core)) l,
+        le-ltb (m .core .level) (m .core .level) (omega arith),
+      )
 
   same-winner : b ≡ true → p .core .runner ≡ winner (bids (m .core))
   unfolding arbitrated
   same-winner h =
       by-lt (m .core .level) (winning ps (m .core))
       (λ l. rw (picked, lt-ltb (m .core .level) (winning ps (m .core)) l))
-      (λ l. absurd (let z : _≡_ {A = Bool} false true = sym (lowered l) ∙ h in let o : _≡_ {A = ℕ} 0 1 = cc in omega arith))
+      (λ l. absurd (let z : _≡_ {A = Bool} false true = sym (lowered l) ∙ h in let o : _≡_ {A = ℕ} 0 1 = cc in
+      omega arith))
 
   pub triggering-launched : b ≡ true
-      → doneWith (withTriggered m (core (without (m .core .request) (p .core .runner)) (m .core .started) (with (m .core .aside) (p .core .runner)) (p .core .runner) executionLevel) (m .cleared) (pushRow (m .triggered) (p .core .runner))) true
+      → doneWith (withTriggered m (core (without (m .core .request) (p .core .runner)) (m .core .started)
+      (with (m .core .aside) (p .core .runner)) (p .core .runner) executionLevel) (m .cleared)
+      (pushRow (m .triggered) (p .core .runner))) true
       ≡ triggering ps m
   triggering-launched h = rw (same-winner h, same-test, h)
 

@@ -1,5 +1,5 @@
--- The events of bodies and of resources, case by case in the order of their checks, as the code goes through them: refused with each
--- status, and done. A variable before an equation is what the code has in its place.
+-- The events of bodies and of resources, case by case in the order of their checks, as the code goes through them:
+-- refused with each status, and done. A variable before an equation is what the code has in its place.
 use Prim.Native.Nat.{ℕ, _≤_, _<_, max}
 use mathlib.Core.Path.{_≡_, refl, sym, _∙_}
 use mathlib.Core.Bool.{Bool, true, false, cond, not, _&&_, _||_}
@@ -33,7 +33,12 @@ module _ (ps : List ℕ) (m : Model) where
       pub finish-timed : m .core .level ≡ executionLevel → settled ps (returning m) ≡ finish ps m
       unfolding finish firstGiven
       finish-timed e =
-          rw (ne-eqb (m .core .runner) noRank runs, ← holder, ne-eqb h (m .core .runner) free, eq-eqb (m .core .level) executionLevel e)
+          rw (
+            ne-eqb (m .core .runner) noRank runs,
+            ← holder,
+            ne-eqb h (m .core .runner) free,
+            eq-eqb (m .core .level) executionLevel e,
+          )
 
       pub finish-done : (m .core .level ≡ executionLevel → ⊥) → settled ps (leaving m) ≡ finish ps m
       unfolding finish firstGiven
@@ -52,12 +57,14 @@ module _ (trs ps : List ℕ) (m : Model) (t : ℕ) {a : Bool} (calls : a ≡ noC
     unfolding activate firstGiven
     activate-none h = rw (sym calls ∙ runs, ← rank, eq-eqb r noRank h)
 
-    module _ (some : r ≡ noRank → ⊥) {v : ℕ} (begun : v ≡ begunWord m) {b : Bool} (test : b ≡ has (m .core .request) r || has v r) where
+    module _ (some : r ≡ noRank → ⊥) {v : ℕ} (begun : v ≡ begunWord m) {b : Bool}
+        (test : b ≡ has (m .core .request) r || has v r) where
       pub activate-busy : b ≡ true → refusedWith m limitReached ≡ activate trs ps m t
       unfolding activate firstGiven
       activate-busy h = rw (sym calls ∙ runs, ← rank, ne-eqb r noRank some, ← begun, sym test ∙ h)
 
-      pub activate-done : b ≡ false → {q : ℕ} → q ≡ with (m .core .request) r → settled ps (withCore m (withRequest (m .core) q)) ≡ activate trs ps m t
+      pub activate-done : b ≡ false → {q : ℕ} → q ≡ with (m .core .request) r
+          → settled ps (withCore m (withRequest (m .core) q)) ≡ activate trs ps m t
       unfolding activate firstGiven
       activate-done h asked = rw (sym calls ∙ runs, ← rank, ne-eqb r noRank some, ← begun, sym test ∙ h, asked)
 
@@ -67,7 +74,8 @@ module _ (w : Bool) (lrs ps : List ℕ) (m : Model) (i : ℕ) {r : ℕ} (rank : 
   unfolding line firstGiven
   line-none h = rw (← rank, eq-eqb r noRank h) (uncounted w)
     where
-      uncounted : (b : Bool) → refusedWith m noSuch ≡ refusedWith (cond (b && false) (withLosses m (oneLost r (m .losses))) m) noSuch
+      uncounted : (b : Bool)
+          → refusedWith m noSuch ≡ refusedWith (cond (b && false) (withLosses m (oneLost r (m .losses))) m) noSuch
       uncounted true = refl
       uncounted false = refl
 
@@ -90,7 +98,8 @@ module _ (w : Bool) (lrs ps : List ℕ) (m : Model) (i : ℕ) {r : ℕ} (rank : 
     line-done h asked = rw (← rank, ne-eqb r noRank some, sym test ∙ h, asked)
 
 -- Chain t
-module _ (ws : ℕ) (trs ps : List ℕ) (m : Model) (t : ℕ) {a : Bool} (calls : a ≡ noCaller m || has ws (m .core .runner)) where
+module _ (ws : ℕ) (trs ps : List ℕ) (m : Model) (t : ℕ) {a : Bool}
+    (calls : a ≡ noCaller m || has ws (m .core .runner)) where
   pub chain-idle : a ≡ true → refusedWith m callLevel ≡ chain ws trs ps m t
   unfolding chain firstGiven
   chain-idle h = rw (sym calls ∙ h)
@@ -109,13 +118,31 @@ module _ (ws : ℕ) (trs ps : List ℕ) (m : Model) (t : ℕ) {a : Bool} (calls 
           {d : Bool} (test : d ≡ (has (m .core .request) r || has v r) && not (eqb r (m .core .runner))) where
         pub chain-busy : d ≡ true → refusedWith m limitReached ≡ chain ws trs ps m t
         unfolding chain firstGiven
-        chain-busy e = rw (sym calls ∙ runs, ← rank, ne-eqb r noRank some, ← holder, ne-eqb h (m .core .runner) free, ← begun, sym test ∙ e)
+        chain-busy e =
+            rw (
+              sym calls ∙ runs,
+              ← rank,
+              ne-eqb r noRank some,
+              ← holder,
+              ne-eqb h (m .core .runner) free,
+              ← begun,
+              sym test ∙ e,
+            )
 
         pub chain-done : d ≡ false → {q : ℕ} → q ≡ with (m .core .request) r
             → settled ps (withCore (leaving m) (withRequest (leaving m .core) q)) ≡ chain ws trs ps m t
         unfolding chain firstGiven
         chain-done e asked =
-            rw (sym calls ∙ runs, ← rank, ne-eqb r noRank some, ← holder, ne-eqb h (m .core .runner) free, ← begun, sym test ∙ e, asked)
+            rw (
+              sym calls ∙ runs,
+              ← rank,
+              ne-eqb r noRank some,
+              ← holder,
+              ne-eqb h (m .core .runner) free,
+              ← begun,
+              sym test ∙ e,
+              asked,
+            )
 
 -- Get r
 module _ (n : ℕ) (us cs : List ℕ) (m : Model) (r : ℕ) {a : Bool} (calls : a ≡ noCaller m) where
@@ -147,7 +174,19 @@ module _ (n : ℕ) (us cs : List ℕ) (m : Model) (r : ℕ) {a : Bool} (calls : 
             → doneWith (withSlots m v q xs hs vs) false ≡ get n us cs m r
         unfolding get firstGiven
         get-done h ceil level x₁ x₂ x₃ x₄ =
-            rw (sym calls ∙ runs, lt-leb n r some, ← word, sym user ∙ declared, sym test ∙ h, x₁, x₂, x₃, x₄, level, ceil)
+            rw (
+              sym calls ∙ runs,
+              lt-leb n r some,
+              ← word,
+              sym user ∙ declared,
+              sym test ∙ h,
+              x₁,
+              x₂,
+              x₃,
+              x₄,
+              level,
+              ceil,
+            )
 
 -- Release r
 module _ (n : ℕ) (ps : List ℕ) (m : Model) (r : ℕ) {a : Bool} (calls : a ≡ noCaller m) where

@@ -7,7 +7,8 @@ use lib.ListN.{length, getD, set}
 use lib.Seq.{set-getD, set-out}
 use Rattle.machine.specs.Cells.{oneMore, oneLost}
 
-pub lost-where : (b : Bool) (i : ℕ) (ls : List ℕ) → set ls i (cond b (oneMore (getD ls i 0)) (getD ls i 0)) ≡ cond b (oneLost i ls) ls
+pub lost-where : (b : Bool) (i : ℕ) (ls : List ℕ)
+    → set ls i (cond b (oneMore (getD ls i 0)) (getD ls i 0)) ≡ cond b (oneLost i ls) ls
 lost-where true i ls = refl
 lost-where false i ls = set-getD ls i 0
 

@@ -1,7 +1,8 @@
 -- The match marks of a group as one number: how the code sums it up, and how it finds the marks that are set.
 --
--- In order: the zeros below a number's lowest set digit; the first mark set (`First`), found by them; the loop, at which matches are left to
--- take (`Left`); the sum. A mark is a byte, so that the zeros below the first mark set are 8 for each mark before it.
+-- In order: the zeros below a number's lowest set digit; the first mark set (`First`), found by them; the loop, at
+-- which matches are left to take (`Left`); the sum. A mark is a byte, so that the zeros below the first mark set are
+-- 8 for each mark before it.
 use Prim.Native.Nat.{ℕ, zero, suc, _+_, _-_, _*_, _/_, _%_, _^_, _≤_, _<_}
 use mathlib.Core.Path.{_≡_, refl, sym, ap, ap₂, _∙_}
 use mathlib.Core.Logic.{_≢_}
@@ -26,7 +27,13 @@ use Rattle.machine.proofs.Change.Matches.{due-none, due-marked}
 trailing-shifted : (k j n : ℕ) → trailingZeros (k + j) (n * 2 ^ j) ≡ trailingZeros k n + j
 unfolding trailingZeros
 trailing-shifted k zero n = rw (mul-one n, add-zero k, add-zero (trailingZeros k n))
-trailing-shifted k (suc j) n = rw (add-suc k j, add-suc (trailingZeros k n) j, shifted-even n j, shifted-half n j) (ap suc (trailing-shifted k j n))
+trailing-shifted k (suc j) n =
+    rw (
+      add-suc k j,
+      add-suc (trailingZeros k n) j,
+      shifted-even n j,
+      shifted-half n j,
+    ) (ap suc (trailing-shifted k j n))
 
 trailing-odd : (k n : ℕ) → 0 < k → n % 2 ≡ 1 → trailingZeros k n ≡ 0
 unfolding trailingZeros
@@ -71,7 +78,8 @@ first-later bs i f =
           ∙ omega arith;
       rest =
           ap (λ (n : ℕ). (0 + 256 * marksWord bs) / 2 ^ n / 256) (eightfold i)
-          ∙ ap (λ (n : ℕ). n / 256) (sym (shr-shr (0 + 256 * marksWord bs) 8 (8 * i)) ∙ ap (λ (n : ℕ). n / 2 ^ (8 * i)) (over (marksWord bs)))
+          ∙ ap (λ (n : ℕ). n / 256) (sym (shr-shr (0 + 256 * marksWord bs) 8 (8 * i))
+          ∙ ap (λ (n : ℕ). n / 2 ^ (8 * i)) (over (marksWord bs)))
           ∙ f .rest;
       due = later;
     }
@@ -89,7 +97,8 @@ first-later bs i f =
     commuted n = omega arith
 
     later : (w : ℕ) (rs : List ℕ) (x : Due)
-        → requestsDue w (false ∷ bs) rs x ≡ requestsDue w (drop (suc i) bs) (drop (suc (suc i)) rs) (matchAt w (getD rs (suc i) noRank) x)
+        → requestsDue w (false ∷ bs) rs x
+        ≡ requestsDue w (drop (suc i) bs) (drop (suc (suc i)) rs) (matchAt w (getD rs (suc i) noRank) x)
     later w [] x = sym (due-none w bs x) ∙ f .due w [] x
     later w (r ∷ rs) x = f .due w rs x
 
@@ -100,7 +109,8 @@ first (true ∷ bs) some = (0, first-now bs)
 first (false ∷ bs) some = let f = first bs (omega arith) in (suc (f .0), first-later bs (f .0) (f .1))
 
 -- matches taken one by one
-due-skipped : (w : ℕ) (bs : List Bool) (rs : List ℕ) (x : Due) → requestsDue w bs (drop 1 rs) x ≡ requestsDue w (false ∷ bs) rs x
+due-skipped : (w : ℕ) (bs : List Bool) (rs : List ℕ) (x : Due)
+    → requestsDue w bs (drop 1 rs) x ≡ requestsDue w (false ∷ bs) rs x
 unfolding requestsDue
 due-skipped w bs [] x = due-none w bs x
 due-skipped w bs (r ∷ rs) x = refl
@@ -109,23 +119,29 @@ module _ (w : ℕ) (ms : List Bool) (rs : List ℕ) (e : ℕ) (inside : e < leng
   here : {b : Bool} → getD ms e false ≡ b → drop e ms ≡ b ∷ drop (suc e) ms
   here h = drop-cons ms e false inside ∙ ap (λ (b : Bool). b ∷ drop (suc e) ms) h
 
-  one-on : (y : Due) → requestsDue w (drop (e + 1) ms) (drop (e + 1) rs) y ≡ requestsDue w (drop (suc e) ms) (drop 1 (drop e rs)) y
-  one-on y = ap₂ (λ (bs : List Bool) (qs : List ℕ). requestsDue w bs qs y) (ap (λ (n : ℕ). drop n ms) (add-one e)) (sym (drop-drop 1 e rs))
+  one-on : (y : Due) → requestsDue w (drop (e + 1) ms) (drop (e + 1) rs) y
+      ≡ requestsDue w (drop (suc e) ms) (drop 1 (drop e rs)) y
+  one-on y =
+      ap₂ (λ (bs : List Bool) (qs : List ℕ). requestsDue w bs qs y) (ap (λ (n : ℕ). drop n ms) (add-one e))
+      (sym (drop-drop 1 e rs))
 
   pub each-taken : getD ms e false ≡ true → {r : ℕ} → r ≡ getD rs e noRank → {y : Due} → y ≡ matchAt w r x
       → requestsDue w (drop (e + 1) ms) (drop (e + 1) rs) y ≡ requestsDue w (drop e ms) (drop e rs) x
   each-taken h rank {y} is =
       one-on y
-      ∙ ap (requestsDue w (drop (suc e) ms) (drop 1 (drop e rs))) (is ∙ ap (λ (q : ℕ). matchAt w q x) (rank ∙ sym first-rank))
+      ∙ ap (requestsDue w (drop (suc e) ms) (drop 1 (drop e rs))) (is
+      ∙ ap (λ (q : ℕ). matchAt w q x) (rank ∙ sym first-rank))
       ∙ sym (due-marked w (drop (suc e) ms) (drop e rs) x)
       ∙ ap (λ (bs : List Bool). requestsDue w bs (drop e rs) x) (sym (here h))
     where
       first-rank : getD (drop e rs) 0 noRank ≡ getD rs e noRank
       first-rank = getD-drop e rs 0 noRank ∙ ap (λ (n : ℕ). getD rs n noRank) (add-zero e)
 
-  pub each-left : getD ms e false ≡ false → requestsDue w (drop (e + 1) ms) (drop (e + 1) rs) x ≡ requestsDue w (drop e ms) (drop e rs) x
+  pub each-left : getD ms e false ≡ false
+      → requestsDue w (drop (e + 1) ms) (drop (e + 1) rs) x ≡ requestsDue w (drop e ms) (drop e rs) x
   each-left h =
-      one-on x ∙ due-skipped w (drop (suc e) ms) (drop e rs) x ∙ ap (λ (bs : List Bool). requestsDue w bs (drop e rs) x) (sym (here h))
+      one-on x ∙ due-skipped w (drop (suc e) ms) (drop e rs) x
+      ∙ ap (λ (bs : List Bool). requestsDue w bs (drop e rs) x) (sym (here h))
 
 past : (e i : ℕ) → e + i + 1 ≡ e + suc i
 past e i = omega arith
@@ -137,7 +153,8 @@ pub record Left (w : ℕ) (rs : List ℕ) (u : ℕ) (y : Due) (e m : ℕ) (x : D
   pub word : m ≡ marksWord bs
   pub due : requestsDue w bs (drop e rs) x ≡ y
 
-module _ {w : ℕ} {rs : List ℕ} {u : ℕ} {y : Due} {e m : ℕ} {x : Due} {bs : List Bool} (l : Left w rs u y e m x bs) (some : m ≢ 0) where
+module _ {w : ℕ} {rs : List ℕ} {u : ℕ} {y : Due} {e m : ℕ} {x : Due} {bs : List Bool} (l : Left w rs u y e m x bs)
+    (some : m ≢ 0) where
   next : (i : ℕ) × First bs i
   next = first bs (omega (arith, l .word))
 
@@ -163,12 +180,16 @@ module _ {w : ℕ} {rs : List ℕ} {u : ℕ} {y : Due} {e m : ℕ} {x : Due} {bs
       until = rw (length-drop (suc (next .0)) bs, place-is) (omega (arith, next .1 .within, l .until));
       word = ap₂ (λ (n k : ℕ). n / 2 ^ k / 256) (l .word) zeros-are ∙ next .1 .rest;
       due = rw (is, rank, place-is, past e (next .0))
-          (sym (rw (drop-drop (suc (next .0)) e rs, getD-drop e rs (next .0) noRank) at (next .1 .due w (drop e rs) x)) ∙ l .due);
+          (sym (rw (
+            drop-drop (suc (next .0)) e rs,
+            getD-drop e rs (next .0) noRank,
+          ) at (next .1 .due w (drop e rs) x)) ∙ l .due);
     },
   )
 
 -- at its first entry all of a group is left
-pub left-start : (w : ℕ) (rs : List ℕ) (e : ℕ) (ms : List Bool) (x : Due) → e + group ≤ length ms → {m : ℕ} → m ≡ marksWord (take group (drop e ms))
+pub left-start : (w : ℕ) (rs : List ℕ) (e : ℕ) (ms : List Bool) (x : Due) → e + group ≤ length ms → {m : ℕ}
+    → m ≡ marksWord (take group (drop e ms))
     → Left w rs (e + group) (requestsDue w (take group (drop e ms)) (drop e rs) x) e m x (take group (drop e ms))
 left-start w rs e ms x h is = record { few = omega (arith, whole); until = omega (arith, whole); word = is; due = refl }
   where
@@ -192,25 +213,52 @@ module _ (ms : List Bool) where
   bit-is false = refl
 
   module _ (e : ℕ) where
-    word-step : (i k : ℕ) → marksWord (take (suc k) (drop (e + i) ms)) ≡ bit (e + i) + 256 * marksWord (take k (drop (e + suc i) ms))
+    word-step : (i k : ℕ)
+        → marksWord (take (suc k) (drop (e + i) ms)) ≡ bit (e + i) + 256 * marksWord (take k (drop (e + suc i) ms))
     unfolding marksWord
     word-step i k =
         rw (add-suc e i)
         (by-lt (e + i) (length ms)
         (λ h. rw (drop-cons ms (e + i) false h, bit-is (getD ms (e + i) false)))
-        (λ h. rw (drop-of-length-le ms {i = e + i} h, drop-of-length-le ms {i = suc (e + i)} (omega arith), List·getD-eq-default ms false h, take-nil (suc k), take-nil k)))
+        (λ h. rw (
+          drop-of-length-le ms {i = e + i} h,
+          drop-of-length-le ms {i = suc (e + i)} (omega arith),
+          List·getD-eq-default ms false h,
+          take-nil (suc k),
+          take-nil k,
+        )))
 
     word-end : marksWord (take 0 (drop (e + group) ms)) ≡ 0
     unfolding marksWord
     word-end = refl
 
-    pub bits-le : (bit e ≤ 1) × (bit (e + 1) ≤ 1) × (bit (e + 2) ≤ 1) × (bit (e + 3) ≤ 1) × (bit (e + 4) ≤ 1) × (bit (e + 5) ≤ 1)
+    pub bits-le : (bit e ≤ 1) × (bit (e + 1) ≤ 1) × (bit (e + 2) ≤ 1) × (bit (e + 3) ≤ 1) × (bit (e + 4) ≤ 1)
+        × (bit (e + 5) ≤ 1)
         × (bit (e + 6) ≤ 1) × (bit (e + 7) ≤ 1)
-    bits-le = (bit-le e, bit-le (e + 1), bit-le (e + 2), bit-le (e + 3), bit-le (e + 4), bit-le (e + 5), bit-le (e + 6), bit-le (e + 7))
+    bits-le = (
+      bit-le e,
+      bit-le (e + 1),
+      bit-le (e + 2),
+      bit-le (e + 3),
+      bit-le (e + 4),
+      bit-le (e + 5),
+      bit-le (e + 6),
+      bit-le (e + 7),
+    )
 
     pub word-sum : bit e + 256 * bit (e + 1) + 65536 * bit (e + 2) + 16777216 * bit (e + 3) + 4294967296 * bit (e + 4)
         + 1099511627776 * bit (e + 5) + 281474976710656 * bit (e + 6) + 72057594037927936 * bit (e + 7)
         ≡ marksWord (take group (drop e ms))
     word-sum =
-        omega
-        (arith, rw add-zero at (word-step 0 7), word-step 1 6, word-step 2 5, word-step 3 4, word-step 4 3, word-step 5 2, word-step 6 1, word-step 7 0, word-end)
+        omega (
+          arith,
+          rw add-zero at (word-step 0 7),
+          word-step 1 6,
+          word-step 2 5,
+          word-step 3 4,
+          word-step 4 3,
+          word-step 5 2,
+          word-step 6 1,
+          word-step 7 0,
+          word-end,
+        )

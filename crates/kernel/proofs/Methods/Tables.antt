@@ -26,9 +26,10 @@ unfolding marks
 length-marks zero e w ks os ns = refl
 length-marks (suc k) e w ks os ns = ap suc (length-marks k (suc e) w ks os ns)
 
--- Tick. ms are the match marks, ns, ws and z the cells after it, v has who has begun, q and ls are the requests and losses, p whom
--- arbitration picks, and b says whether that is a time-triggered task that it dispatches.
-module _ (ks rs ps : List ℕ) (m : Model) {ms : List Bool} (marked : ms ≡ marks maxEntries 0 (m .turning) ks (m .on) (m .counter))
+-- Tick. ms are the match marks, ns, ws and z the cells after it, v has who has begun, q and ls are the requests and
+-- losses, p whom arbitration picks, and b says whether that is a time-triggered task that it dispatches.
+module _ (ks rs ps : List ℕ) (m : Model) {ms : List Bool}
+    (marked : ms ≡ marks maxEntries 0 (m .turning) ks (m .on) (m .counter))
     {ns : List ℕ} (counted : ns ≡ countersTicked maxEntries 0 (m .turning) ks (m .on) (m .counter))
     {ws : List ℕ} (switches : ws ≡ cond (m .turning) (switchesTicked maxEntries 0 ks (m .counter) (m .on)) (m .on))
     {z : Bool} (turns : z ≡ m .turning && someTurn maxEntries 0 ws) {v : ℕ} (begun : v ≡ begunWord m)
@@ -48,7 +49,8 @@ module _ (ks rs ps : List ℕ) (m : Model) {ms : List Bool} (marked : ms ≡ mar
   pub tick-launched : b ≡ true
       → doneWith
       (withTriggered ticked
-      (core (without q (p .core .runner)) (m .core .started) (with (m .core .aside) (p .core .runner)) (p .core .runner) executionLevel)
+      (core (without q (p .core .runner)) (m .core .started) (with (m .core .aside) (p .core .runner))
+      (p .core .runner) executionLevel)
       (m .cleared) (pushRow (m .triggered) (p .core .runner)))
       true
       ≡ tick ks rs ps m
@@ -82,7 +84,8 @@ module _ (n : ℕ) (fs es qs os : List ℕ) (m : Model) (t d : ℕ) {a : Bool} (
     unfolding start firstGiven
     start-none h = rw (sym calls ∙ runs, le-leb n t h)
 
-    module _ (some : t < n) {f : ℕ} (from : f ≡ getD fs t 0) {g : ℕ} (smallest : g ≡ getD os f 0) {b : Bool} (test : b ≡ eqb d 0 || ltb longestDelay (d + g)) where
+    module _ (some : t < n) {f : ℕ} (from : f ≡ getD fs t 0) {g : ℕ} (smallest : g ≡ getD os f 0) {b : Bool}
+        (test : b ≡ eqb d 0 || ltb longestDelay (d + g)) where
       pub start-bad : b ≡ true → refusedWith m badDelay ≡ start n fs es qs os m t d
       unfolding start firstGiven
       start-bad h = rw (sym calls ∙ runs, lt-leb n t some, ← from, ← smallest, sym test ∙ h)
@@ -95,7 +98,8 @@ module _ (n : ℕ) (fs es qs os : List ℕ) (m : Model) (t d : ℕ) {a : Bool} (
 
         pub start-done : o ≡ false → {k : ℕ} → k ≡ getD es t 0 → {P : ℕ} → P ≡ getD qs t 0
             → {w : Bool} → w ≡ m .turning || someLong k f d os
-            → {ns : List ℕ} → ns ≡ countersStarted k f P d os (m .counter) → {xs : List ℕ} → xs ≡ switchesStarted k f d os (m .on)
+            → {ns : List ℕ} → ns ≡ countersStarted k f P d os (m .counter) → {xs : List ℕ}
+            → xs ≡ switchesStarted k f d os (m .on)
             → doneWith (withCells m ns xs w) false ≡ start n fs es qs os m t d
         unfolding start firstGiven
         start-done h many period turns counted switches =

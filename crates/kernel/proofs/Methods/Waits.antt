@@ -1,5 +1,5 @@
--- The events of extended tasks, case by case in the order of their checks, as the code goes through them: refused with each status, and done.
--- A variable before an equation is what the code has in its place.
+-- The events of extended tasks, case by case in the order of their checks, as the code goes through them: refused
+-- with each status, and done. A variable before an equation is what the code has in its place.
 use Prim.Native.Nat.{ℕ}
 use mathlib.Core.Path.{_≡_, sym, _∙_}
 use mathlib.Core.Bool.{Bool, true, false, cond, _&&_, _||_}
@@ -32,7 +32,8 @@ module _ (xs : ℕ) (ps : List ℕ) (m : Model) (w : ℕ) {a : Bool} (calls : a 
       unfolding wait firstGiven
       wait-holding own = rw (sym calls ∙ runs, sym kind ∙ extended, ← holder, eq-eqb h (m .core .runner) own)
 
-      module _ (free : h ≡ m .core .runner → ⊥) {v : ℕ} (bits : v ≡ bitsAt m (m .core .runner)) {s : Bool} (some : s ≡ anySet v w) where
+      module _ (free : h ≡ m .core .runner → ⊥) {v : ℕ} (bits : v ≡ bitsAt m (m .core .runner)) {s : Bool}
+          (some : s ≡ anySet v w) where
         pub wait-on : s ≡ true → doneWith m false ≡ wait xs ps m w
         unfolding wait firstGiven
         wait-on e =
@@ -44,10 +45,24 @@ module _ (xs : ℕ) (ps : List ℕ) (m : Model) (w : ℕ) {a : Bool} (calls : a 
             → {e : ℕ} → e ≡ with (m .core .aside) (m .core .runner)
             → {q : ℕ} → q ≡ topRow (m .holder)
             → {p : Picked} → p ≡ arbitrated ps (core (m .core .request) c e q l)
-            → doneWith (withCore (withEvents m (m .core) (m .cleared) (m .bits) ws) (p .core)) (p .begun) ≡ wait xs ps m w
+            → doneWith (withCore (withEvents m (m .core) (m .cleared) (m .bits) ws) (p .core)) (p .begun)
+            ≡ wait xs ps m w
         unfolding wait firstGiven
         wait-pauses z waits level left asleep seat picked =
-            rw (sym calls ∙ runs, sym kind ∙ extended, ← bits, sym some ∙ z, picked, waits, level, left, asleep, seat, ← holder, ne-eqb h (m .core .runner) free)
+            rw (
+              sym calls ∙ runs,
+              sym kind ∙ extended,
+              ← bits,
+              sym some ∙ z,
+              picked,
+              waits,
+              level,
+              left,
+              asleep,
+              seat,
+              ← holder,
+              ne-eqb h (m .core .runner) free,
+            )
 
 -- Set t w
 module _ (ws xs : ℕ) (rs ps : List ℕ) (m : Model) (t w : ℕ) {a : Bool} (calls : a ≡ noCaller m) where
@@ -65,7 +80,8 @@ module _ (ws xs : ℕ) (rs ps : List ℕ) (m : Model) (t w : ℕ) {a : Bool} (ca
       unfolding setEvent firstGiven
       set-basic h = rw (sym calls ∙ runs, ← rank, sym task ∙ some, sym kind ∙ h)
 
-      module _ (extended : b ≡ true) {v : ℕ} (begun : v ≡ begunWord m) {d : Bool} (test : d ≡ has (m .core .request) r || has v r) where
+      module _ (extended : b ≡ true) {v : ℕ} (begun : v ≡ begunWord m) {d : Bool}
+          (test : d ≡ has (m .core .request) r || has v r) where
         pub set-suspended : d ≡ false → refusedWith m wrongState ≡ setEvent ws xs rs ps m t w
         unfolding setEvent firstGiven
         set-suspended h = rw (sym calls ∙ runs, ← rank, sym task ∙ some, sym kind ∙ extended, ← begun, sym test ∙ h)
@@ -81,7 +97,22 @@ module _ (ws xs : ℕ) (rs ps : List ℕ) (m : Model) (t w : ℕ) {a : Bool} (ca
             → settled ps (withEvents m (withBegun (m .core) c e) z bs (m .waited)) ≡ setEvent ws xs rs ps m t w
         unfolding setEvent firstGiven
         set-done h bits more stored kept waits goes on aside =
-            rw (sym calls ∙ runs, ← rank, sym task ∙ some, sym kind ∙ extended, ← begun, sym test ∙ h, on, aside, goes, waits, kept, stored, more, bits)
+            rw (
+              sym calls ∙ runs,
+              ← rank,
+              sym task ∙ some,
+              sym kind ∙ extended,
+              ← begun,
+              sym test ∙ h,
+              on,
+              aside,
+              goes,
+              waits,
+              kept,
+              stored,
+              more,
+              bits,
+            )
 
 -- Clear w
 module _ (xs : ℕ) (m : Model) (w : ℕ) {a : Bool} (calls : a ≡ noCaller m) where

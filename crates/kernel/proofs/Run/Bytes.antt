@@ -31,7 +31,8 @@ four-laid d at a b c e h =
     let one : at + 1 ≡ suc at = omega arith in
     let two : at + 2 ≡ suc (suc at) = omega arith in
     let three : at + 3 ≡ suc (suc (suc at)) = omega arith in
-    rw (one, two, three) (sets-eq (a ∷ b ∷ c ∷ e ∷ []) d at h ∙ append-assoc (take at d) (a ∷ b ∷ c ∷ e ∷ []) (drop (at + 4) d))
+    rw (one, two, three) (sets-eq (a ∷ b ∷ c ∷ e ∷ []) d at h
+    ∙ append-assoc (take at d) (a ∷ b ∷ c ∷ e ∷ []) (drop (at + 4) d))
 
 lossBytes-append : (ns ks : List ℕ) → lossBytes (ns ++ ks) ≡ lossBytes ns ++ lossBytes ks
 unfolding lossBytes
@@ -48,7 +49,8 @@ module _ (f : ℕ → ℕ) (rs : List ℕ) (at : ℕ) (d : List ℕ) where
   lossesUpTo b = lossBytes (map f (take b rs))
 
   pub length-losses : (b : ℕ) → b ≤ length rs → length (lossesUpTo b) ≡ 2 * b
-  length-losses b h = length-lossBytes (map f (take b rs)) ∙ ap (λ (n : ℕ). 2 * n) (length-map (take b rs) f ∙ length-take-le b rs h)
+  length-losses b h =
+      length-lossBytes (map f (take b rs)) ∙ ap (λ (n : ℕ). 2 * n) (length-map (take b rs) f ∙ length-take-le b rs h)
 
   pub losses-turn : (b n : ℕ) → b < length rs → at + 2 * b + 2 ≤ length d → n ≡ f (getD rs b 0)
       → laid (at + 2 * b) (n % 256 ∷ n / 256 ∷ []) (laid at (lossesUpTo b) d) ≡ laid at (lossesUpTo (b + 1)) d
@@ -61,4 +63,10 @@ module _ (f : ℕ → ℕ) (rs : List ℕ) (at : ℕ) (d : List ℕ) where
     where
       more : lossesUpTo (b + 1) ≡ lossesUpTo b ++ (n % 256 ∷ n / 256 ∷ [])
       more =
-          rw (add-one b, take-suc rs b 0 h, map-append f (take b rs) (getD rs b 0 ∷ []), lossBytes-append (map f (take b rs)) (f (getD rs b 0) ∷ []), ← e)
+          rw (
+            add-one b,
+            take-suc rs b 0 h,
+            map-append f (take b rs) (getD rs b 0 ∷ []),
+            lossBytes-append (map f (take b rs)) (f (getD rs b 0) ∷ []),
+            ← e,
+          )

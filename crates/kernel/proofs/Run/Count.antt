@@ -21,7 +21,16 @@ pub record Passed (bs : List ℕ) (at n : ℕ) : Type 0 where
   pub place : readRest bs at .place ≡ readTrace bs .place
 
 pub passed-start : (bs : List ℕ) → Passed bs 0 0
-passed-start bs = record { at-le = omega arith; few = omega arith; events = zero-add (length (readTrace bs .events)); refusal = refl; place = refl }
+passed-start bs =
+    record {
+      at-le =
+          omega arith;
+      few =
+          omega arith;
+      events = zero-add (length (readTrace bs .events));
+      refusal = refl;
+      place = refl;
+    }
 
 module _ (bs : List ℕ) (at n : ℕ) (p : Passed bs at n) where
   -- the rest is r
@@ -38,7 +47,8 @@ module _ (bs : List ℕ) (at n : ℕ) (p : Passed bs at n) where
   passed-end h = same-counted n (ended at) (rest-end bs at h) (omega arith)
 
   module _ (r : EventRead) (read : r ≡ readEvent bs at) where
-    pub passed-refused : at < length bs → (r .refusal ≡ none → ⊥) → record { events = n; refusal = r .refusal; place = r .place } ≡ counted (readTrace bs)
+    pub passed-refused : at < length bs → (r .refusal ≡ none → ⊥)
+        → record { events = n; refusal = r .refusal; place = r .place } ≡ counted (readTrace bs)
     passed-refused h bad =
         same-counted n (broken r) (rest-refused bs at h (rw read at bad) ∙ ap broken (sym read)) (omega arith)
 

@@ -72,7 +72,9 @@ module _ (c : Config) (p : Plan) (m : Model) (e : Event) where
   unfolding callOf statusOf effectOf refusalOf line
   step-7 h = rw h
 
-  pub step-8 : e .code ≡ 8 → machineStep c p m (callOf e) ≡ start (c .tables) (p .first) (c .entries) (c .period) (c .offset) m (e .first) (e .second)
+  pub step-8 : e .code ≡ 8
+      → machineStep c p m (callOf e)
+      ≡ start (c .tables) (p .first) (c .entries) (c .period) (c .offset) m (e .first) (e .second)
   unfolding callOf statusOf effectOf refusalOf start
   step-8 h = rw h
 
@@ -84,7 +86,8 @@ module _ (c : Config) (p : Plan) (m : Model) (e : Event) where
   unfolding callOf statusOf effectOf refusalOf wait
   step-10 h = rw h
 
-  pub step-11 : e .code ≡ 11 → machineStep c p m (callOf e) ≡ setEvent (p .isrs) (p .extended) (p .rank) (p .priority) m (e .first) (e .second)
+  pub step-11 : e .code ≡ 11
+      → machineStep c p m (callOf e) ≡ setEvent (p .isrs) (p .extended) (p .rank) (p .priority) m (e .first) (e .second)
   unfolding callOf statusOf effectOf refusalOf setEvent
   step-11 h = rw h
 
@@ -99,7 +102,8 @@ past n h d = omega arith
 pub one-of-twelve : (k : ℕ) → 1 ≤ k → k ≤ lastCode → (k ≡ 1 → ⊥) → (k ≡ 2 → ⊥) → (k ≡ 3 → ⊥) → (k ≡ 4 → ⊥) → (k ≡ 5 → ⊥)
     → (k ≡ 6 → ⊥) → (k ≡ 7 → ⊥) → (k ≡ 8 → ⊥) → (k ≡ 9 → ⊥) → (k ≡ 10 → ⊥) → (k ≡ 11 → ⊥) → (k ≡ 12 → ⊥) → ⊥
 one-of-twelve k low high n1 n2 n3 n4 n5 n6 n7 n8 n9 n10 n11 n12 =
-    let low9 = past 9 (past 8 (past 7 (past 6 (past 5 (past 4 (past 3 (past 2 (past 1 low n1) n2) n3) n4) n5) n6) n7) n8) n9 in
+    let low9 = past 9 (past 8
+    (past 7 (past 6 (past 5 (past 4 (past 3 (past 2 (past 1 low n1) n2) n3) n4) n5) n6) n7) n8) n9 in
     not-le-of-lt (past 12 (past 11 (past 10 low9 n10) n11) n12) high
 
 module _ (c : Config) (p : Plan) (rk : ℕ → ℕ) (fit : Fitted c p rk) where
@@ -107,7 +111,13 @@ module _ (c : Config) (p : Plan) (rk : ℕ → ℕ) (fit : Fitted c p rk) where
   pub tables-laid : RowsHold (c .tables) (p .first) (c .entries)
   tables-laid =
       record {
-        within = λ t h. rw (fit .first-at t h) (omega (arith, firstOf-step c t, firstOf-rises c (suc t) (c .tables) h, fit .few-entries));
+        within =
+            λ t h. rw (fit .first-at t h) (omega (
+              arith,
+              firstOf-step c t,
+              firstOf-rises c (suc t) (c .tables) h,
+              fit .few-entries,
+            ));
       }
 
 -- the events from a place on
@@ -118,19 +128,23 @@ callsFrom ts at = map callOf (readRest ts at .events)
 abbrev pub answerOf : Plan → Outcome → List ℕ
 answerOf p o = o .status ∷ runnerOf p (o .model) ∷ o .model .core .level ∷ markOf (o .begun) ∷ []
 
--- the trace ts is played up to the place at: the model is m and the output out, whose first `to` bytes are written; it was m₀ and d
-pub record Playing (c : Config) (p : Plan) (ts d : List ℕ) (m₀ : Model) (at to : ℕ) (m : Model) (out : List ℕ) : Type 0 where
+-- the trace ts is played up to the place at: the model is m and the output out, whose first `to` bytes are written;
+-- it was m₀ and d
+pub record Playing (c : Config) (p : Plan) (ts d : List ℕ) (m₀ : Model) (at to : ℕ) (m : Model)
+    (out : List ℕ) : Type 0 where
   pub fit : Fitted c p (rankOf c)
   pub bytes : List ℕ
   pub output : out ≡ laid 0 bytes d
   pub long : length bytes ≡ to
   pub readable : readRest ts at .refusal ≡ none
   pub room : to + 4 * length (readRest ts at .events) ≤ length d
-  pub answers : bytes ++ answerBytes (machineSeen c p m (callsFrom ts at)) ≡ answerBytes (machineSeen c p m₀ (callsFrom ts 0))
+  pub answers : bytes ++ answerBytes (machineSeen c p m (callsFrom ts at))
+      ≡ answerBytes (machineSeen c p m₀ (callsFrom ts 0))
   pub last : machineAfter c p m (callsFrom ts at) ≡ machineAfter c p m₀ (callsFrom ts 0)
 
 module _ (c : Config) (p : Plan) (ts d : List ℕ) (m₀ : Model) where
-  playing-start : Fitted c p (rankOf c) → readTrace ts .refusal ≡ none → 4 * length (readTrace ts .events) ≤ length d → Playing c p ts d m₀ 0 0 m₀ d
+  playing-start : Fitted c p (rankOf c) → readTrace ts .refusal ≡ none → 4 * length (readTrace ts .events) ≤ length d
+      → Playing c p ts d m₀ 0 0 m₀ d
   playing-start fit readable room =
       record {
         fit = fit;
@@ -153,13 +167,16 @@ module _ (c : Config) (p : Plan) (ts d : List ℕ) (m₀ : Model) where
     length-out = ap length (g .output) ∙ length-laid 0 (g .bytes) d (omega (arith, g .long, g .room))
 
     pub playing-end : length ts ≤ at
-        → (m ≡ machineAfter c p m₀ (callsFrom ts 0)) × (out ≡ laid 0 (answerBytes (machineSeen c p m₀ (callsFrom ts 0))) d)
+        → (m ≡ machineAfter c p m₀ (callsFrom ts 0))
+        × (out ≡ laid 0 (answerBytes (machineSeen c p m₀ (callsFrom ts 0))) d)
     unfolding machineAfter machineSeen answerBytes
     playing-end h =
         let none-left : callsFrom ts at ≡ [] = ap (λ (r : TraceRead). map callOf (r .events)) (rest-end ts at h) in (
           sym (ap (machineAfter c p m) none-left) ∙ g .last,
           g .output ∙ ap (λ (l : List ℕ). laid 0 l d)
-              (sym (append-nil (g .bytes)) ∙ ap (λ (l : List Plain.Event). g .bytes ++ answerBytes (machineSeen c p m l)) (sym none-left) ∙ g .answers),
+              (sym (append-nil (g .bytes))
+              ∙ ap (λ (l : List Plain.Event). g .bytes ++ answerBytes (machineSeen c p m l)) (sym none-left)
+              ∙ g .answers),
         )
 
     -- the event at the place
@@ -185,7 +202,8 @@ module _ (c : Config) (p : Plan) (ts d : List ℕ) (m₀ : Model) where
       pub playing-room : to + 4 ≤ length out
       playing-room = omega (arith, g .room, length-out, ap (λ (t : TraceRead). length (t .events)) more)
 
-      pub playing-turn : (o : Outcome) → o ≡ machineStep c p m (callOf (r .event)) → (out′ : List ℕ) → out′ ≡ laid to (answerOf p o) out
+      pub playing-turn : (o : Outcome) → o ≡ machineStep c p m (callOf (r .event)) → (out′ : List ℕ)
+          → out′ ≡ laid to (answerOf p o) out
           → Playing c p ts d m₀ (r .place) (to + 4) (o .model) out′
       unfolding machineAfter machineSeen answerBytes
       playing-turn o stepped out′ wrote =
@@ -193,12 +211,14 @@ module _ (c : Config) (p : Plan) (ts d : List ℕ) (m₀ : Model) where
             fit = g .fit;
             bytes = g .bytes ++ answerOf p o;
             output =
-                wrote ∙ ap (laid to (answerOf p o)) (g .output) ∙ ap (λ (k : ℕ). laid k (answerOf p o) (laid 0 (g .bytes) d)) shift
+                wrote ∙ ap (laid to (answerOf p o)) (g .output)
+                ∙ ap (λ (k : ℕ). laid k (answerOf p o) (laid 0 (g .bytes) d)) shift
                 ∙ laid-laid 0 (g .bytes) (answerOf p o) d (omega (arith, playing-room, length-out, g .long));
             long = length-append (g .bytes) (answerOf p o) ∙ ap (λ (n : ℕ). n + 4) (g .long);
             readable = sym (ap (λ (t : TraceRead). t .refusal) more) ∙ g .readable;
             room = omega (arith, g .room, ap (λ (t : TraceRead). length (t .events)) more);
-            answers = append-assoc (g .bytes) (answerOf p o) _ ∙ ap (λ (l : List ℕ). g .bytes ++ l) (sym one) ∙ g .answers;
+            answers =
+                append-assoc (g .bytes) (answerOf p o) _ ∙ ap (λ (l : List ℕ). g .bytes ++ l) (sym one) ∙ g .answers;
             last =
                 ap (λ (x : Outcome). machineAfter c p (x .model) (callsFrom ts (r .place))) stepped
                 ∙ sym (ap (machineAfter c p m) calls) ∙ g .last;
@@ -207,7 +227,9 @@ module _ (c : Config) (p : Plan) (ts d : List ℕ) (m₀ : Model) where
           shift : to ≡ 0 + length (g .bytes)
           shift = omega (arith, g .long)
 
-          one : answerBytes (machineSeen c p m (callsFrom ts at)) ≡ answerOf p o ++ answerBytes (machineSeen c p (o .model) (callsFrom ts (r .place)))
+          one : answerBytes (machineSeen c p m (callsFrom ts at))
+              ≡ answerOf p o ++ answerBytes (machineSeen c p (o .model) (callsFrom ts (r .place)))
           one =
               ap (λ (l : List Plain.Event). answerBytes (machineSeen c p m l)) calls
-              ∙ ap (λ (x : Outcome). answerOf p x ++ answerBytes (machineSeen c p (x .model) (callsFrom ts (r .place)))) (sym stepped)
+              ∙ ap (λ (x : Outcome). answerOf p x ++ answerBytes
+              (machineSeen c p (x .model) (callsFrom ts (r .place)))) (sym stepped)

@@ -44,7 +44,11 @@ module _ (c : Config) (p : Plan) (fit : Fitted c p (rankOf c)) (es : List Event)
   both-laid n d d₁ d₂ count room first then =
       then
       ∙ ap₂ (λ (k : ℕ) (l : List ℕ). laid k (lossBytes (lossesOf c p last)) l) place first
-      ∙ laid-laid 0 (events c p fit es) (lossBytes (lossesOf c p last)) d (omega (arith, length-events c p fit es, length-losses c p fit last))
+      ∙ laid-laid 0 (events c p fit es) (lossBytes (lossesOf c p last)) d (omega (
+        arith,
+        length-events c p fit es,
+        length-losses c p fit last,
+      ))
       ∙ sym
       (laid-zero (events c p fit es ++ lossBytes (lossesOf c p last)) d
       (simp length-append (omega (arith, length-events c p fit es, length-losses c p fit last))))
@@ -53,11 +57,13 @@ module _ (c : Config) (p : Plan) (fit : Fitted c p (rankOf c)) (es : List Event)
       place = omega (arith, length-events c p fit es)
 
 module _ (c : Config) (ok : Accepted c) (shaped : Shaped c) (es : List Event) where
-  -- p is the plan of c and m₀ its fresh model; ls, d₁: the losses and the output after the events; d₂: the output after the losses
+  -- p is the plan of c and m₀ its fresh model; ls, d₁: the losses and the output after the events; d₂: the output
+  -- after the losses
   pub answered : (p : Plan) (m₀ : Model) (n : ℕ) (d d₁ d₂ ls : List ℕ) → p ≡ planOf c → m₀ ≡ freshModel p
       → n ≡ length es → 4 * n + 2 * c .bodies ≤ length d
       → d₁ ≡ laid 0 (answerBytes (machineSeen c p m₀ es)) d → ls ≡ machineAfter c p m₀ es .losses
-      → d₂ ≡ laid (4 * n) (lossBytes (map (λ r. getD ls r 0) (take (c .bodies) (p .rank)))) d₁ → d₂ ≡ written (machineAnswers c (planOf c) es) d
+      → d₂ ≡ laid (4 * n) (lossBytes (map (λ r. getD ls r 0) (take (c .bodies) (p .rank)))) d₁
+      → d₂ ≡ written (machineAnswers c (planOf c) es) d
   answered p m₀ n d d₁ d₂ ls planned begun count room first lost then =
       both-laid c p (rw planned (fitted c ok shaped)) es n d d₁ d₂ count room
       (first ∙ ap (λ (x : Model). laid 0 (answerBytes (machineSeen c p x es)) d) begun)
@@ -98,7 +104,8 @@ module _ (cs ts d : List ℕ) (rc : ConfigRead) (read : rc ≡ readConfig cs) wh
 
       pub ran-trace-refused : (x : ℕ) → (k .refusal ≡ none → ⊥) → x ≡ packed (k .refusal) (k .place) → Ran cs ts d x d
       ran-trace-refused x n same =
-          ran-refused cs ts d (readTrace ts .refusal) (readTrace ts .place) x (trace-refused cs ts accepted short (rw count at n))
+          ran-refused cs ts d (readTrace ts .refusal) (readTrace ts .place) x
+          (trace-refused cs ts accepted short (rw count at n))
           (same ∙ ap (λ (r : Counted). packed (r .refusal) (r .place)) count)
 
       module _ (fine : k .refusal ≡ none) where
@@ -112,13 +119,19 @@ module _ (cs ts d : List ℕ) (rc : ConfigRead) (read : rc ≡ readConfig cs) wh
         calls-counted = events-counted ∙ sym (length-map (readTrace ts .events) callOf)
 
         reads : readRun cs ts ≡ played (rc .config) (callsOf ts)
-        reads = all-readable cs ts accepted short trace-readable ∙ ap (λ (r : ConfigRead). played (r .config) (callsOf ts)) (sym read)
+        reads =
+            all-readable cs ts accepted short trace-readable
+            ∙ ap (λ (r : ConfigRead). played (r .config) (callsOf ts)) (sym read)
 
-        pub ran-no-room : (need x : ℕ) → need ≡ 4 * k .events + 2 * rc .config .bodies → length d < need → x ≡ packed noRoom need → Ran cs ts d x d
+        pub ran-no-room : (need x : ℕ) → need ≡ 4 * k .events + 2 * rc .config .bodies → length d < need
+            → x ≡ packed noRoom need → Ran cs ts d x d
         ran-no-room need x long less same =
-            ran-short cs ts d (rc .config) config-accepted config-shaped (callsOf ts) reads need x (omega (arith, calls-counted)) less same
+            ran-short cs ts d (rc .config) config-accepted config-shaped (callsOf ts) reads need x
+            (omega (arith, calls-counted)) less same
 
         pub ran-all : (d₁ : List ℕ) → 4 * k .events + 2 * rc .config .bodies ≤ length d
-            → d₁ ≡ written (machineAnswers (rc .config) (planOf (rc .config)) (callsOf ts)) d → Ran cs ts d (k .events) d₁
+            → d₁ ≡ written (machineAnswers (rc .config) (planOf (rc .config)) (callsOf ts)) d
+            → Ran cs ts d (k .events) d₁
         ran-all d₁ room wrote =
-            ran-whole cs ts d (rc .config) config-accepted config-shaped (callsOf ts) reads (k .events) d₁ (omega (arith, calls-counted)) calls-counted wrote
+            ran-whole cs ts d (rc .config) config-accepted config-shaped (callsOf ts) reads (k .events) d₁
+            (omega (arith, calls-counted)) calls-counted wrote

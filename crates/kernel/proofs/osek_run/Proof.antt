@@ -6,48 +6,56 @@ use borrow.Author.Needs.{needs}
 use Rattle.kernel.proofs.osek_run.Statement.{statement}
 use Rattle.kernel.proofs.osek_run.Tie as tie
 
-read-config-requires : tie.Need-read-config-requires
-read-config-requires c κs = search needs
-
 packed-requires : tie.Need-packed-requires
 packed-requires c κs =
     let r = c .before .before in
     let s = r .before .before .before .before in
-    omega (arith, config-place-le (s .args .config .now) (s .args .trace .now) (s .args .out .now) (r .read-config .result) (r .read-config .ensures), s .good .0)
+    omega (
+      arith,
+      config-place-le (s .args .config .now) (s .args .trace .now) (s .args .out .now)
+          (r .read-config .result) (r .read-config .ensures),
+      s .good .0,
+    )
 
 returns : tie.Need-returns
 returns c =
     let r = c .before .before .before in
     let s = r .before .before .before .before in
-    let h = ran-config-refused (s .args .config .now) (s .args .trace .now) (s .args .out .now) (r .read-config .result) (r .read-config .ensures) (c .packed .result) (c .before .if1 .taken) (c .packed .ensures) in
+    let h = ran-config-refused (s .args .config .now) (s .args .trace .now) (s .args .out .now)
+    (r .read-config .result) (r .read-config .ensures) (c .packed .result) (c .before .if1 .taken)
+    (c .packed .ensures) in
     (h .result, (h .output, h .steps))
-
-packed-requires-2 : tie.Need-packed-requires-2
-packed-requires-2 c κs = search needs
 
 returns-2 : tie.Need-returns-2
 returns-2 c =
     let r = c .before .before .before .before in
     let s = r .before .before .before .before in
-    let h = ran-too-long (s .args .config .now) (s .args .trace .now) (s .args .out .now) (r .read-config .result) (r .read-config .ensures) (c .before .before .if1 .left) (c .packed2 .result) (c .before .if2 .taken) (c .packed2 .ensures) in
+    let h = ran-too-long (s .args .config .now) (s .args .trace .now) (s .args .out .now) (r .read-config .result)
+    (r .read-config .ensures) (c .before .before .if1 .left) (c .packed2 .result) (c .before .if2 .taken)
+    (c .packed2 .ensures) in
     (h .result, (h .output, h .steps))
-
-count-events-requires : tie.Need-count-events-requires
-count-events-requires c κs = search needs
 
 packed-requires-3 : tie.Need-packed-requires-3
 packed-requires-3 c κs =
     let k = c .before .before in
     let r = k .before .before .before .before in
     let s = r .before .before .before .before in
-    omega (arith, trace-place-le (s .args .config .now) (s .args .trace .now) (s .args .out .now) (r .read-config .result) (r .read-config .ensures) (k .before .before .if1 .left) (k .before .if2 .left) (k .count-events .result) (k .count-events .ensures))
+    omega (
+      arith,
+      trace-place-le (s .args .config .now) (s .args .trace .now) (s .args .out .now)
+          (r .read-config .result) (r .read-config .ensures) (k .before .before .if1 .left) (k .before .if2 .left)
+          (k .count-events .result) (k .count-events .ensures),
+    )
 
 returns-3 : tie.Need-returns-3
 returns-3 c =
     let k = c .before .before .before in
     let r = k .before .before .before .before in
     let s = r .before .before .before .before in
-    let h = ran-trace-refused (s .args .config .now) (s .args .trace .now) (s .args .out .now) (r .read-config .result) (r .read-config .ensures) (k .before .before .if1 .left) (k .before .if2 .left) (k .count-events .result) (k .count-events .ensures) (c .packed3 .result) (c .before .if3 .taken) (c .packed3 .ensures) in
+    let h = ran-trace-refused (s .args .config .now) (s .args .trace .now) (s .args .out .now)
+    (r .read-config .result) (r .read-config .ensures) (k .before .before .if1 .left) (k .before .if2 .left)
+    (k .count-events .result) (k .count-events .ensures) (c .packed3 .result) (c .before .if3 .taken)
+    (c .packed3 .ensures) in
     (h .result, (h .output, h .steps))
 
 mul-need : tie.Need-mul-need
@@ -55,34 +63,50 @@ mul-need c =
     let k = c .before .before .before in
     let r = k .before .before .before .before in
     let s = r .before .before .before .before in
-    omega (arith, few-events (s .args .config .now) (s .args .trace .now) (s .args .out .now) (r .read-config .result) (r .read-config .ensures) (k .before .before .if1 .left) (k .before .if2 .left) (k .count-events .result) (k .count-events .ensures))
-
-cast-need : tie.Need-cast-need
-cast-need c = search needs
-
-mul-need-2 : tie.Need-mul-need-2
-mul-need-2 c = search needs
+    omega (
+      arith,
+      few-events (s .args .config .now) (s .args .trace .now) (s .args .out .now) (r .read-config .result)
+          (r .read-config .ensures) (k .before .before .if1 .left) (k .before .if2 .left) (k .count-events .result)
+          (k .count-events .ensures),
+    )
 
 add-need : tie.Need-add-need
 add-need c =
     let k = c .before .before .before .before in
     let r = k .before .before .before .before in
     let s = r .before .before .before .before in
-    omega (arith, few-events (s .args .config .now) (s .args .trace .now) (s .args .out .now) (r .read-config .result) (r .read-config .ensures) (k .before .before .if1 .left) (k .before .if2 .left) (k .count-events .result) (k .count-events .ensures), config-accepted (s .args .config .now) (s .args .trace .now) (s .args .out .now) (r .read-config .result) (r .read-config .ensures) (k .before .before .if1 .left) .few-bodies)
+    omega (
+      arith,
+      few-events (s .args .config .now) (s .args .trace .now) (s .args .out .now) (r .read-config .result)
+          (r .read-config .ensures) (k .before .before .if1 .left) (k .before .if2 .left) (k .count-events .result)
+          (k .count-events .ensures),
+      config-accepted (s .args .config .now) (s .args .trace .now) (s .args .out .now) (r .read-config .result)
+          (r .read-config .ensures) (k .before .before .if1 .left) .few-bodies,
+    )
 
 packed-requires-4 : tie.Need-packed-requires-4
 packed-requires-4 c κs =
     let k = c .before .before .before .before .before in
     let r = k .before .before .before .before in
     let s = r .before .before .before .before in
-    omega (arith, few-events (s .args .config .now) (s .args .trace .now) (s .args .out .now) (r .read-config .result) (r .read-config .ensures) (k .before .before .if1 .left) (k .before .if2 .left) (k .count-events .result) (k .count-events .ensures), config-accepted (s .args .config .now) (s .args .trace .now) (s .args .out .now) (r .read-config .result) (r .read-config .ensures) (k .before .before .if1 .left) .few-bodies)
+    omega (
+      arith,
+      few-events (s .args .config .now) (s .args .trace .now) (s .args .out .now) (r .read-config .result)
+          (r .read-config .ensures) (k .before .before .if1 .left) (k .before .if2 .left) (k .count-events .result)
+          (k .count-events .ensures),
+      config-accepted (s .args .config .now) (s .args .trace .now) (s .args .out .now) (r .read-config .result)
+          (r .read-config .ensures) (k .before .before .if1 .left) .few-bodies,
+    )
 
 returns-4 : tie.Need-returns-4
 returns-4 c =
     let k = c .before .before .before .before .before .before in
     let r = k .before .before .before .before in
     let s = r .before .before .before .before in
-    let h = ran-no-room (s .args .config .now) (s .args .trace .now) (s .args .out .now) (r .read-config .result) (r .read-config .ensures) (k .before .before .if1 .left) (k .before .if2 .left) (k .count-events .result) (k .count-events .ensures) (c .before .before .before .before .if3 .left) _ (c .packed4 .result) refl (c .before .if4 .taken) (c .packed4 .ensures) in
+    let h = ran-no-room (s .args .config .now) (s .args .trace .now) (s .args .out .now) (r .read-config .result)
+    (r .read-config .ensures) (k .before .before .if1 .left) (k .before .if2 .left) (k .count-events .result)
+    (k .count-events .ensures) (c .before .before .before .before .if3 .left) _ (c .packed4 .result) refl
+    (c .before .if4 .taken) (c .packed4 .ensures) in
     (h .result, (h .output, h .steps))
 
 answer-requires : tie.Need-answer-requires
@@ -92,42 +116,38 @@ answer-requires c κs =
     let s = r .before .before .before .before in
     let fine = c .before .before .before .before .if3 .left in
     record {
-      accepted = config-accepted (s .args .config .now) (s .args .trace .now) (s .args .out .now) (r .read-config .result) (r .read-config .ensures) (k .before .before .if1 .left);
-      shaped = config-shaped (s .args .config .now) (s .args .trace .now) (s .args .out .now) (r .read-config .result) (r .read-config .ensures) (k .before .before .if1 .left);
-      readable = trace-readable (s .args .config .now) (s .args .trace .now) (s .args .out .now) (r .read-config .result) (r .read-config .ensures) (k .before .before .if1 .left) (k .before .if2 .left) (k .count-events .result) (k .count-events .ensures) fine;
-      counted = events-counted (s .args .config .now) (s .args .trace .now) (s .args .out .now) (r .read-config .result) (r .read-config .ensures) (k .before .before .if1 .left) (k .before .if2 .left) (k .count-events .result) (k .count-events .ensures) fine;
+      accepted =
+          config-accepted (s .args .config .now) (s .args .trace .now) (s .args .out .now) (r .read-config .result)
+          (r .read-config .ensures) (k .before .before .if1 .left);
+      shaped =
+          config-shaped (s .args .config .now) (s .args .trace .now) (s .args .out .now) (r .read-config .result)
+          (r .read-config .ensures) (k .before .before .if1 .left);
+      readable =
+          trace-readable (s .args .config .now) (s .args .trace .now) (s .args .out .now) (r .read-config .result)
+          (r .read-config .ensures) (k .before .before .if1 .left) (k .before .if2 .left) (k .count-events .result)
+          (k .count-events .ensures) fine;
+      counted =
+          events-counted (s .args .config .now) (s .args .trace .now) (s .args .out .now) (r .read-config .result)
+          (r .read-config .ensures) (k .before .before .if1 .left) (k .before .if2 .left) (k .count-events .result)
+          (k .count-events .ensures) fine;
       room = c .before .if4 .left;
     }
-
-same-length : tie.Need-same-length
-same-length c = search needs
 
 returns-5 : tie.Need-returns-5
 returns-5 c =
     let k = c .before .before .before .before .before .before .before .before .before in
     let r = k .before .before .before .before in
     let s = r .before .before .before .before in
-    let h = ran-all (s .args .config .now) (s .args .trace .now) (s .args .out .now) (r .read-config .result) (r .read-config .ensures) (k .before .before .if1 .left) (k .before .if2 .left) (k .count-events .result) (k .count-events .ensures) (c .before .before .before .before .before .before .before .if3 .left) _ (c .before .before .before .before .if4 .left) (c .before .before .answer .ensures) in
+    let h = ran-all (s .args .config .now) (s .args .trace .now) (s .args .out .now) (r .read-config .result)
+    (r .read-config .ensures) (k .before .before .if1 .left) (k .before .if2 .left) (k .count-events .result)
+    (k .count-events .ensures) (c .before .before .before .before .before .before .before .if3 .left) _
+    (c .before .before .before .before .if4 .left) (c .before .before .answer .ensures) in
     (h .result, (h .output, h .steps))
 
 pub osek-run-spec : {M : Type 1} → statement M
 osek-run-spec =
     tie.close
     (tie.spec
-    read-config-requires
-    packed-requires
-    returns
-    packed-requires-2
-    returns-2
-    count-events-requires
-    packed-requires-3
-    returns-3
-    mul-need
-    cast-need
-    mul-need-2
-    add-need
-    packed-requires-4
-    returns-4
-    answer-requires
-    same-length
-    returns-5)
+    (λ c κs. search needs) packed-requires returns (λ c κs. search needs) returns-2 (λ c κs. search needs)
+    packed-requires-3 returns-3 mul-need (λ c. search needs) (λ c. search needs) add-need packed-requires-4 returns-4
+    answer-requires (λ c. search needs) returns-5)

@@ -1,4 +1,5 @@
-// Who runs: of those that wait to begin or go on by their priority the highest wins, and is dispatched only strictly above the level.
+// Who runs: of those that wait to begin or go on by their priority the highest wins, and is dispatched only strictly
+// above the level.
 ghost use mathlib.Core.Path.{_≡_};
 ghost use mathlib.Core.Bool.{true, cond, _&&_};
 ghost use lib.Dec.{ltb, eqb};
@@ -26,7 +27,8 @@ use word::without;
 impl Model {
     // The model after arbitration, with these requests.
     pub fn settled(self, request: u32, priority: &[u8; 32]) -> Outcome
-        ensures { λ r. ⌜ ((x : Arrays) → viewOutcome r x ≡ settled (now (priority .entry)) (withCore (view self x) (withRequest (view self x .core) request))) ⌝ }
+        ensures { λ r. ⌜ ((x : Arrays) → viewOutcome r x
+            ≡ settled (now (priority .entry)) (withCore (view self x) (withRequest (view self x .core) request))) ⌝ }
     {
         let picked = arbitrated(
             request,
@@ -41,7 +43,9 @@ impl Model {
 
     // The same once the runner has ended: whoever took the latest resource that is held takes its seat, or nobody does.
     pub fn ended(mut self, request: u32, priority: &[u8; 32]) -> Outcome
-        ensures { λ r. ⌜ ((x : Arrays) → viewOutcome r x ≡ settled (now (priority .entry)) (withCore (leaving (view self x)) (withRequest (leaving (view self x) .core) request))) ⌝ }
+        ensures { λ r. ⌜ ((x : Arrays) → viewOutcome r x
+            ≡ settled (now (priority .entry))
+            (withCore (leaving (view self x)) (withRequest (leaving (view self x) .core) request))) ⌝ }
     {
         let started = without(self.started, self.runner as u32);
         self.cleared = with(self.cleared, self.runner as u32);
@@ -51,10 +55,11 @@ impl Model {
         self.seated(picked)
     }
 
-    // The same once a time-triggered task has ended: the one that was started before it goes on, and where there is none, the seat is left
-    // as by any other runner.
+    // The same once a time-triggered task has ended: the one that was started before it goes on, and where there is
+    // none, the seat is left as by any other runner.
     pub fn returned(mut self, priority: &[u8; 32]) -> Outcome
-        ensures { λ r. ⌜ ((x : Arrays) → viewOutcome r x ≡ settled (now (priority .entry)) (returning (view self x))) ⌝ }
+        ensures { λ r. ⌜ ((x : Arrays) → viewOutcome r x
+            ≡ settled (now (priority .entry)) (returning (view self x))) ⌝ }
     {
         let aside = without(self.aside, self.runner as u32);
         self.cleared = with(self.cleared, self.runner as u32);
@@ -69,7 +74,10 @@ impl Model {
 
     // The model in which the time-triggered task of this rank begins, with these requests.
     pub fn launched(mut self, request: u32, rank: u8) -> Outcome
-        ensures { λ r. ⌜ ((x : Arrays) → viewOutcome r x ≡ doneWith (withTriggered (view self x) (core (without request rank) (self .started) (with (self .aside) rank) rank executionLevel) (self .cleared) (pushRow (self .triggered) rank)) true) ⌝ }
+        ensures { λ r. ⌜ ((x : Arrays) → viewOutcome r x
+            ≡ doneWith (withTriggered (view self x)
+            (core (without request rank) (self .started) (with (self .aside) rank) rank executionLevel)
+            (self .cleared) (pushRow (self .triggered) rank)) true) ⌝ }
     {
         self.request = without(request, rank as u32);
         self.aside = with(self.aside, rank as u32);
@@ -85,7 +93,8 @@ impl Model {
 
     // The model with whom arbitration picked.
     pub fn seated(mut self, picked: Picked) -> Outcome
-        ensures { λ r. ⌜ ((x : Arrays) → viewOutcome r x ≡ doneWith (withCore (view self x) (coreOf picked)) (picked .begun)) ⌝ }
+        ensures { λ r. ⌜ ((x : Arrays) → viewOutcome r x
+            ≡ doneWith (withCore (view self x) (coreOf picked)) (picked .begun)) ⌝ }
     {
         self.request = picked.request;
         self.started = picked.started;
@@ -134,15 +143,16 @@ pub fn arbitrated(
     }
 }
 
-// Whether the body that arbitration picked is a time-triggered task that it dispatched: the level rises only by a dispatch.
+// Whether the body that arbitration picked is a time-triggered task that it dispatched: the level rises only by a
+// dispatch.
 pub fn is_triggered(level: u8, next: u8) -> bool
     ensures { λ r. ⌜ r ≡ ltb level next && eqb next triggerLevel ⌝ }
 {
     level < next && next == TRIGGER_LEVEL
 }
 
-// The word without this rank where the test holds. Of the requests the one by which a body begins is used up; where it is resumed, a second
-// one waits on.
+// The word without this rank where the test holds. Of the requests the one by which a body begins is used up; where
+// it is resumed, a second one waits on.
 pub fn without_where(test: bool, word: u32, rank: u32) -> u32
     ensures { λ r. ⌜ r ≡ cond test (without word rank) word ⌝ }
 {

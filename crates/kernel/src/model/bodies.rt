@@ -28,7 +28,8 @@ impl Model {
         priority: &'a [u8; 32],
         t: u32,
     ) -> Outcome
-        ensures { λ r. ⌜ ((x : Arrays) → viewOutcome r x ≡ activate (now («callable_rank» .entry)) (now (priority .entry)) (view self x) t) ⌝ }
+        ensures { λ r. ⌜ ((x : Arrays) → viewOutcome r x
+            ≡ activate (now («callable_rank» .entry)) (now (priority .entry)) (view self x) t) ⌝ }
     {
         if no_caller(self.runner, self.level) {
             return self.with_status(CALL_LEVEL);
@@ -65,7 +66,8 @@ impl Model {
         priority: &'a [u8; 32],
         t: u32,
     ) -> Outcome
-        ensures { λ r. ⌜ ((x : Arrays) → viewOutcome r x ≡ chain isrs (now («callable_rank» .entry)) (now (priority .entry)) (view self x) t) ⌝ }
+        ensures { λ r. ⌜ ((x : Arrays) → viewOutcome r x
+            ≡ chain isrs (now («callable_rank» .entry)) (now (priority .entry)) (view self x) t) ⌝ }
     {
         if no_task_calls(isrs, self.runner, self.level) {
             return self.with_status(CALL_LEVEL);
@@ -97,7 +99,9 @@ impl Model {
         i: u32,
         losses: &'b mut [u16; 32],
     ) -> Outcome
-        ensures { λ r. ⌜ ((x : Arrays) → viewOutcome r (putLosses (now (losses .exit)) x) ≡ line counts (now («line_rank» .entry)) (now (priority .entry)) (view self (putLosses (now (losses .entry)) x)) i) ⌝ }
+        ensures { λ r. ⌜ ((x : Arrays) → viewOutcome r (putLosses (now (losses .exit)) x)
+            ≡ line counts (now («line_rank» .entry)) (now (priority .entry))
+            (view self (putLosses (now (losses .entry)) x)) i) ⌝ }
     {
         let rank = byte_at(line_rank, i as usize, NO_RANK);
         if rank == NO_RANK {
@@ -132,7 +136,8 @@ fn busy_beside(request: u32, begun: u32, runner: u8, rank: u8) -> bool
     rank != runner && busy(request, begun, rank)
 }
 
-// Whether nobody runs who may call: nobody at all, or a time-triggered task. Both are tested at once, so that one branch suffices.
+// Whether nobody runs who may call: nobody at all, or a time-triggered task. Both are tested at once, so that one
+// branch suffices.
 pub fn no_caller(runner: u8, level: u8) -> bool
     ensures { λ r. ⌜ r ≡ eqb runner noRank || eqb level executionLevel ⌝ }
 {

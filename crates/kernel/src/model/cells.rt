@@ -34,8 +34,11 @@ pub fn tick_cells<'a, 'b, 'c>(
     on: &'c mut [u16; 64],
 ) -> [bool; 64]
     ensures { λ r. ⌜ r ≡ marks maxEntries 0 turning (now (compare .entry)) (now (on .entry)) (now (counter .entry)) ⌝ }
-    ensures { λ _. ⌜ now (counter .exit) ≡ countersTicked maxEntries 0 turning (now (compare .entry)) (now (on .entry)) (now (counter .entry)) ⌝ }
-    ensures { λ _. ⌜ now (on .exit) ≡ cond turning (switchesTicked maxEntries 0 (now (compare .entry)) (now (counter .entry)) (now (on .entry))) (now (on .entry)) ⌝ }
+    ensures { λ _. ⌜ now (counter .exit)
+        ≡ countersTicked maxEntries 0 turning (now (compare .entry)) (now (on .entry)) (now (counter .entry)) ⌝ }
+    ensures { λ _. ⌜ now (on .exit)
+        ≡ cond turning (switchesTicked maxEntries 0 (now (compare .entry)) (now (counter .entry)) (now (on .entry)))
+        (now (on .entry)) ⌝ }
 {
     if turning {
         return tick_turns(compare, counter, on);
@@ -50,7 +53,8 @@ fn tick_counters<'a, 'b>(
     counter: &'b mut [u16; 64],
 ) -> [bool; 64]
     ensures { λ r. ⌜ r ≡ marks maxEntries 0 false (now (compare .entry)) (now (on .entry)) (now (counter .entry)) ⌝ }
-    ensures { λ _. ⌜ now (counter .exit) ≡ countersTicked maxEntries 0 false (now (compare .entry)) (now (on .entry)) (now (counter .entry)) ⌝ }
+    ensures { λ _. ⌜ now (counter .exit)
+        ≡ countersTicked maxEntries 0 false (now (compare .entry)) (now (on .entry)) (now (counter .entry)) ⌝ }
 {
     let mut matched = [false; 64];
     let mut e = 0;
@@ -70,8 +74,10 @@ fn tick_turns<'a, 'b, 'c>(
     on: &'c mut [u16; 64],
 ) -> [bool; 64]
     ensures { λ r. ⌜ r ≡ marks maxEntries 0 true (now (compare .entry)) (now (on .entry)) (now (counter .entry)) ⌝ }
-    ensures { λ _. ⌜ now (counter .exit) ≡ countersTicked maxEntries 0 true (now (compare .entry)) (now (on .entry)) (now (counter .entry)) ⌝ }
-    ensures { λ _. ⌜ now (on .exit) ≡ switchesTicked maxEntries 0 (now (compare .entry)) (now (counter .entry)) (now (on .entry)) ⌝ }
+    ensures { λ _. ⌜ now (counter .exit)
+        ≡ countersTicked maxEntries 0 true (now (compare .entry)) (now (on .entry)) (now (counter .entry)) ⌝ }
+    ensures { λ _. ⌜ now (on .exit)
+        ≡ switchesTicked maxEntries 0 (now (compare .entry)) (now (counter .entry)) (now (on .entry)) ⌝ }
 {
     let mut matched = [false; 64];
     let mut e = 0;
@@ -125,7 +131,8 @@ pub fn take_matches<'a, 'b>(
     losses: &'b mut [u16; 32],
 ) -> u32
     requires { ⌜ length (now matched) ≡ maxEntries ⌝ }
-    ensures { λ r. ⌜ dueWith r (now (losses .exit)) ≡ requestsDue begun (now (matched .entry)) (now (ranks .entry)) (dueWith request (now (losses .entry))) ⌝ }
+    ensures { λ r. ⌜ dueWith r (now (losses .exit))
+        ≡ requestsDue begun (now (matched .entry)) (now (ranks .entry)) (dueWith request (now (losses .entry))) ⌝ }
 {
     let mut word = request;
     let mut e = 0;
@@ -136,8 +143,8 @@ pub fn take_matches<'a, 'b>(
     word
 }
 
-// Takes the matches of the group of cells from `from` on. A mark that is set is found by the zeros below it, and not by a branch for each
-// mark, which the processor could not foresee.
+// Takes the matches of the group of cells from `from` on. A mark that is set is found by the zeros below it, and not
+// by a branch for each mark, which the processor could not foresee.
 fn take_group<'a, 'b>(
     from: usize,
     matched: &'a [bool; 64],
@@ -147,7 +154,9 @@ fn take_group<'a, 'b>(
     losses: &'b mut [u16; 32],
 ) -> u32
     requires { ⌜ (from + group ≤ maxEntries) × (from + group ≤ length (now matched)) ⌝ }
-    ensures { λ r. ⌜ dueWith r (now (losses .exit)) ≡ requestsDue begun (take group (drop from (now (matched .entry)))) (drop from (now (ranks .entry))) (dueWith request (now (losses .entry))) ⌝ }
+    ensures { λ r. ⌜ dueWith r (now (losses .exit))
+        ≡ requestsDue begun (take group (drop from (now (matched .entry)))) (drop from (now (ranks .entry)))
+        (dueWith request (now (losses .entry))) ⌝ }
 {
     let mut word = request;
     let mut e = from;
@@ -163,7 +172,8 @@ fn take_group<'a, 'b>(
     word
 }
 
-// The marks of the group from `e` on as one number, a byte each, the first the lowest: the compiler makes one load of it.
+// The marks of the group from `e` on as one number, a byte each, the first the lowest: the compiler makes one load of
+// it.
 fn group_word(matched: &[bool; 64], e: usize) -> u64
     requires { ⌜ e + group ≤ maxEntries ⌝ }
     ensures { λ r. ⌜ r ≡ marksWord (take group (drop e (now (matched .entry)))) ⌝ }
@@ -233,7 +243,8 @@ pub fn start_cells<'a, 'b, 'c>(
 ) -> bool
     requires { ⌜ from + count ≤ maxEntries ⌝ }
     ensures { λ r. ⌜ r ≡ turning || someLong count from delay (now (offset .entry)) ⌝ }
-    ensures { λ _. ⌜ now (counter .exit) ≡ countersStarted count from period delay (now (offset .entry)) (now (counter .entry)) ⌝ }
+    ensures { λ _. ⌜ now (counter .exit)
+        ≡ countersStarted count from period delay (now (offset .entry)) (now (counter .entry)) ⌝ }
     ensures { λ _. ⌜ now (on .exit) ≡ switchesStarted count from delay (now (offset .entry)) (now (on .entry)) ⌝ }
 {
     let until = from + count;

@@ -37,7 +37,9 @@ impl Model {
         bits: &'a [u32; 32],
         waited: &'b mut [u32; 32],
     ) -> Outcome
-        ensures { λ r. ⌜ ((x : Arrays) → viewOutcome r (putEvents (now (bits .entry)) (now (waited .exit)) x) ≡ wait extended (now (priority .entry)) (view self (putEvents (now (bits .entry)) (now (waited .entry)) x)) mask) ⌝ }
+        ensures { λ r. ⌜ ((x : Arrays) → viewOutcome r (putEvents (now (bits .entry)) (now (waited .exit)) x)
+            ≡ wait extended (now (priority .entry))
+            (view self (putEvents (now (bits .entry)) (now (waited .entry)) x)) mask) ⌝ }
     {
         if no_caller(self.runner, self.level) {
             return self.with_status(CALL_LEVEL);
@@ -74,7 +76,9 @@ impl Model {
         waited: &'a [u32; 32],
         bits: &'b mut [u32; 32],
     ) -> Outcome
-        ensures { λ r. ⌜ ((x : Arrays) → viewOutcome r (putEvents (now (bits .exit)) (now (waited .entry)) x) ≡ setEvent isrs extended (now («body_rank» .entry)) (now (priority .entry)) (view self (putEvents (now (bits .entry)) (now (waited .entry)) x)) t mask) ⌝ }
+        ensures { λ r. ⌜ ((x : Arrays) → viewOutcome r (putEvents (now (bits .exit)) (now (waited .entry)) x)
+            ≡ setEvent isrs extended (now («body_rank» .entry)) (now (priority .entry))
+            (view self (putEvents (now (bits .entry)) (now (waited .entry)) x)) t mask) ⌝ }
     {
         if no_caller(self.runner, self.level) {
             return self.with_status(CALL_LEVEL);
@@ -102,7 +106,8 @@ impl Model {
     }
 
     pub fn clear(mut self, extended: u32, mask: u32, bits: &mut [u32; 32]) -> Outcome
-        ensures { λ r. ⌜ ((x : Arrays) → viewOutcome r (putBits (now (bits .exit)) x) ≡ clear extended (view self (putBits (now (bits .entry)) x)) mask) ⌝ }
+        ensures { λ r. ⌜ ((x : Arrays) → viewOutcome r (putBits (now (bits .exit)) x)
+            ≡ clear extended (view self (putBits (now (bits .entry)) x)) mask) ⌝ }
     {
         if no_caller(self.runner, self.level) {
             return self.with_status(CALL_LEVEL);

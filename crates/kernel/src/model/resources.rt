@@ -32,7 +32,8 @@ impl Model {
         ceiling: &'a [u8; 16],
         r: u32,
     ) -> Outcome
-        ensures { λ o. ⌜ ((x : Arrays) → viewOutcome o x ≡ get resources (now (users .entry)) (now (ceiling .entry)) (view self x) r) ⌝ }
+        ensures { λ o. ⌜ ((x : Arrays) → viewOutcome o x
+            ≡ get resources (now (users .entry)) (now (ceiling .entry)) (view self x) r) ⌝ }
     {
         if no_caller(self.runner, self.level) {
             return self.with_status(CALL_LEVEL);
@@ -56,7 +57,8 @@ impl Model {
     }
 
     pub fn release(mut self, resources: u8, priority: &[u8; 32], r: u32) -> Outcome
-        ensures { λ o. ⌜ ((x : Arrays) → viewOutcome o x ≡ release resources (now (priority .entry)) (view self x) r) ⌝ }
+        ensures { λ o. ⌜ ((x : Arrays) → viewOutcome o x
+            ≡ release resources (now (priority .entry)) (view self x) r) ⌝ }
     {
         if no_caller(self.runner, self.level) {
             return self.with_status(CALL_LEVEL);

@@ -41,7 +41,10 @@ impl Model {
         on: &'c mut [u16; 64],
         losses: &'d mut [u16; 32],
     ) -> Outcome
-        ensures { λ r. ⌜ ((x : Arrays) → viewOutcome r (putCells (now (counter .exit)) (now (on .exit)) (putLosses (now (losses .exit)) x)) ≡ tick (now (compare .entry)) (now («entry_rank» .entry)) (now (priority .entry)) (view self (putCells (now (counter .entry)) (now (on .entry)) (putLosses (now (losses .entry)) x)))) ⌝ }
+        ensures { λ r. ⌜ ((x : Arrays)
+            → viewOutcome r (putCells (now (counter .exit)) (now (on .exit)) (putLosses (now (losses .exit)) x))
+            ≡ tick (now (compare .entry)) (now («entry_rank» .entry)) (now (priority .entry))
+            (view self (putCells (now (counter .entry)) (now (on .entry)) (putLosses (now (losses .entry)) x)))) ⌝ }
     {
         let level = self.level;
         let matched = tick_cells(self.turning, compare, counter, on);
@@ -75,7 +78,9 @@ impl Model {
         on: &'c mut [u16; 64],
     ) -> Outcome
         requires { ⌜ RowsHold tables (now first) (now entries) ⌝ }
-        ensures { λ r. ⌜ ((x : Arrays) → viewOutcome r (putCells (now (counter .exit)) (now (on .exit)) x) ≡ start tables (now (first .entry)) (now (entries .entry)) (now (period .entry)) (now (offset .entry)) (view self (putCells (now (counter .entry)) (now (on .entry)) x)) t d) ⌝ }
+        ensures { λ r. ⌜ ((x : Arrays) → viewOutcome r (putCells (now (counter .exit)) (now (on .exit)) x)
+            ≡ start tables (now (first .entry)) (now (entries .entry)) (now (period .entry)) (now (offset .entry))
+            (view self (putCells (now (counter .entry)) (now (on .entry)) x)) t d) ⌝ }
     {
         if no_caller(self.runner, self.level) {
             return self.with_status(CALL_LEVEL);
@@ -115,7 +120,9 @@ impl Model {
         on: &'c mut [u16; 64],
     ) -> Outcome
         requires { ⌜ RowsHold tables (now first) (now entries) ⌝ }
-        ensures { λ r. ⌜ ((x : Arrays) → viewOutcome r (putCells (now (counter .exit)) (now (on .exit)) x) ≡ stop tables (now (first .entry)) (now (entries .entry)) (view self (putCells (now (counter .entry)) (now (on .entry)) x)) t) ⌝ }
+        ensures { λ r. ⌜ ((x : Arrays) → viewOutcome r (putCells (now (counter .exit)) (now (on .exit)) x)
+            ≡ stop tables (now (first .entry)) (now (entries .entry))
+            (view self (putCells (now (counter .entry)) (now (on .entry)) x)) t) ⌝ }
     {
         if no_caller(self.runner, self.level) {
             return self.with_status(CALL_LEVEL);

@@ -29,7 +29,18 @@ abbrev below : ℕ → In 1 kinds.ps
 below t = and 1 kinds.ps (falls 1 kinds.ps _<_ μ t) reads.Pre
 
 abbrev claims : ℕ → lts.Claims
-claims t = (refused-reads.Asked, refused-reads.Learnt, fifth-reads.Asked, fifth-reads.Learnt, single-reads.Asked, single-reads.Learnt, below t, reads.Post, continued-reads.Asked, continued-reads.Learnt)
+claims t = (
+  refused-reads.Asked,
+  refused-reads.Learnt,
+  fifth-reads.Asked,
+  fifth-reads.Learnt,
+  single-reads.Asked,
+  single-reads.Learnt,
+  below t,
+  reads.Post,
+  continued-reads.Asked,
+  continued-reads.Learnt,
+)
 
 module _ (t : ℕ) where
   refused-requires : lts.Need-refused-requires (claims t) (at t) reads.Post
@@ -45,13 +56,19 @@ module _ (t : ℕ) where
   fifth-requires c κs = tt
 
   returns-2 : lts.Need-returns-2 (claims t) (at t) reads.Post
-  returns-2 c = c .fifth .ensures ∙ (let a = c .before .before .before .before .before .args in sym (groups-at-last (a .bytes .now) (a .at) (a .more) (omega arith) (c .before .if2 .taken)))
+  returns-2 c =
+      c .fifth .ensures ∙ (let a =
+      c .before .before .before .before .before .args in
+      sym (groups-at-last (a .bytes .now) (a .at) (a .more) (omega arith) (c .before .if2 .taken)))
 
   single-requires : lts.Need-single-requires (claims t) (at t) reads.Post
   single-requires c κs = tt
 
   returns-3 : lts.Need-returns-3 (claims t) (at t) reads.Post
-  returns-3 c = c .single .ensures ∙ (let a = c .before .before .before .before .before .before .args in sym (groups-at-end (a .bytes .now) (a .at) (a .more) (omega arith) (omega arith) (c .before .if3 .taken)))
+  returns-3 c =
+      c .single .ensures ∙ (let a =
+      c .before .before .before .before .before .before .args in
+      sym (groups-at-end (a .bytes .now) (a .at) (a .more) (omega arith) (omega arith) (c .before .if3 .taken)))
 
   add-read-groups : lts.Need-add-read-groups (claims t) (at t) reads.Post
   add-read-groups c = omega arith
@@ -64,12 +81,16 @@ module _ (t : ℕ) where
 
   continued-requires : lts.Need-continued-requires (claims t) (at t) reads.Post
   continued-requires c κs = let a = c .before .before .before .before .before .before .args in
-      continued-fits (a .bytes .now) (a .at) (a .more) (omega arith) (omega arith) (omega arith) (c .read-groups .result) (c .read-groups .ensures)
+      continued-fits (a .bytes .now) (a .at) (a .more) (omega arith) (omega arith) (omega arith)
+      (c .read-groups .result) (c .read-groups .ensures)
 
   returns-4 : lts.Need-returns-4 (claims t) (at t) reads.Post
   returns-4 c = let a = c .before .before .before .before .before .before .before .args in
-      c .continued .ensures ∙ ap (continued (getD (a .bytes .now) (a .at) 0 % 128)) (c .before .read-groups .ensures) ∙ sym (groups-at-more (a .bytes .now) (a .at) (a .more) (omega arith) (omega arith) (c .before .before .if3 .left))
+      c .continued .ensures ∙ ap (continued (getD (a .bytes .now) (a .at) 0 % 128)) (c .before .read-groups .ensures)
+      ∙ sym (groups-at-more (a .bytes .now) (a .at) (a .more) (omega arith) (omega arith)
+      (c .before .before .if3 .left))
 
 pub +read-groups-spec : {M : Type 1} → statement M
 +read-groups-spec = close μ λ t. lts.spec (claims t) (at t) reads.Post
-    (refused-requires t) (returns t) (shared-slice-read-b t) (fifth-requires t) (returns-2 t) (single-requires t) (returns-3 t) (add-read-groups t) (sub-read-groups t) (read-groups-requires t) (continued-requires t) (returns-4 t)
+    (refused-requires t) (returns t) (shared-slice-read-b t) (fifth-requires t) (returns-2 t) (single-requires t)
+    (returns-3 t) (add-read-groups t) (sub-read-groups t) (read-groups-requires t) (continued-requires t) (returns-4 t)

@@ -1,4 +1,5 @@
--- `write_groups` meets its contract: one byte stored, and the rest written to the part after it. The measure is the value.
+-- `write_groups` meets its contract: one byte stored, and the rest written to the part after it. The measure is the
+-- value.
 use Prim.Native.Nat.{ℕ, suc, _+_, _-_, _/_, _%_, _≤_, _<_}
 use mathlib.Core.Path.{_≡_, ap, _∙_}
 use mathlib.Core.List.{List, [], _∷_}
@@ -35,9 +36,14 @@ module _ (d : List ℕ) (v : ℕ) (h : 128 ≤ v) (small : v < numberBound) (roo
   lent-fits : length (numberBytes (v / 128)) ≤ length (take (length after - 1) (drop 1 after))
   lent-fits = simp (length-take, length-drop, length-set) (omega (arith, long))
 
-  more-written : (ys : List ℕ) → ys ≡ written (numberBytes (v / 128)) (take (length after - 1) (drop 1 after)) → putMid 1 (length after - 1) after ys ≡ written (numberBytes v) d
+  more-written : (ys : List ℕ) → ys ≡ written (numberBytes (v / 128)) (take (length after - 1) (drop 1 after))
+      → putMid 1 (length after - 1) after ys ≡ written (numberBytes v) d
   more-written ys e =
-      rw (e, laid-part 1 (numberBytes (v / 128)) after (simp length-set (omega (arith, long))), numberBytes-more v h small)
+      rw (
+        e,
+        laid-part 1 (numberBytes (v / 128)) after (simp length-set (omega (arith, long))),
+        numberBytes-more v h small,
+      )
       (laid-first (128 + v % 128) (numberBytes (v / 128)) d long)
 
 abbrev μ : Measures 1 kinds.ps ℕ
@@ -91,11 +97,17 @@ module _ (t : ℕ) where
 
   returns-2 : lts.Need-returns-2 (claims t) (at t) reads.Post
   returns-2 c = let a = c .before .before .before .before .before .before .args in
-      more-written (a .out .now) (a .value) (omega arith) (omega arith) (omega arith) (c .before .before .write-groups .last .1 .0) (c .before .before .write-groups .ensures)
+      more-written (a .out .now) (a .value) (omega arith) (omega arith) (omega arith)
+      (c .before .before .write-groups .last .1 .0) (c .before .before .write-groups .ensures)
 
   same-length-2 : lts.Need-same-length-2 (claims t) (at t) reads.Post
-  same-length-2 c = ap length (returns-2 c) ∙ length-written (numberBytes (c .before .before .before .before .before .before .args .value)) (c .before .before .before .before .before .before .args .out .now)
+  same-length-2 c =
+      ap length (returns-2 c)
+      ∙ length-written (numberBytes (c .before .before .before .before .before .before .args .value))
+      (c .before .before .before .before .before .before .args .out .now)
 
 pub +write-groups-spec : {M : Type 1} → statement M
 +write-groups-spec = close μ λ t. lts.spec (claims t) (at t) reads.Post
-    (cast-out t) (slice-write-out t) (same-length t) (returns t) (cast-out-2 t) (add-out t) (slice-write-out-2 t) (sub-write-groups t) (part-write-groups-start t) (part-write-groups-end t) (write-groups-requires t) (same-length-2 t) (returns-2 t)
+    (cast-out t) (slice-write-out t) (same-length t) (returns t) (cast-out-2 t) (add-out t) (slice-write-out-2 t)
+    (sub-write-groups t) (part-write-groups-start t) (part-write-groups-end t) (write-groups-requires t)
+    (same-length-2 t) (returns-2 t)

@@ -5,12 +5,6 @@ use Rattle.number.proofs.Groups.{fifth-small, fifth-large}
 use Rattle.number_codec.proofs.fifth.Statement.{statement}
 use Rattle.number_codec.proofs.fifth.Tie as tie
 
-single-requires : tie.Need-single-requires
-single-requires c κs = search needs
-
-refused-requires : tie.Need-refused-requires
-refused-requires c κs = search needs
-
 returns : tie.Need-returns
 returns c = c .single .ensures ∙ sym (fifth-small _ (c .before .if1 .taken))
 
@@ -18,4 +12,4 @@ returns-2 : tie.Need-returns-2
 returns-2 c = c .refused .ensures ∙ sym (fifth-large _ (c .before .if1 .left))
 
 pub fifth-spec : {M : Type 1} → statement M
-fifth-spec = tie.close (tie.spec single-requires refused-requires returns returns-2)
+fifth-spec = tie.close (tie.spec (λ c κs. search needs) (λ c κs. search needs) returns returns-2)

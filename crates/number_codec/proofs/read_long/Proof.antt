@@ -13,20 +13,19 @@ use borrow.Author.Needs.{needs}
 use Rattle.number_codec.proofs.read_long.Statement.{statement}
 use Rattle.number_codec.proofs.read_long.Tie as tie
 
-read-groups-requires : tie.Need-read-groups-requires
-read-groups-requires c κs = search needs
-
 -- past the end nothing is read, and elsewhere no further than the end
-place-fits : (l : List ℕ) (at : ℕ) → length l < 2 ^ 63 → at < 2 ^ 64 → (r : NumberRead) → r ≡ groups leading (drop at l) → Fits w64 (at + r .place)
+place-fits : (l : List ℕ) (at : ℕ) → length l < 2 ^ 63 → at < 2 ^ 64 → (r : NumberRead)
+    → r ≡ groups leading (drop at l) → Fits w64 (at + r .place)
 place-fits l at short small r e = rw e (let s = groups-sized leading (drop at l) in omega (arith, length-drop at l))
 
 add-r : tie.Need-add-r
 add-r c = let a = c .before .before .before .args in
-    place-fits (a .bytes .now) (a .at) (omega arith) (omega arith) (c .before .read-groups .result) (c .before .read-groups .ensures)
+    place-fits (a .bytes .now) (a .at) (omega arith) (omega arith) (c .before .read-groups .result)
+    (c .before .read-groups .ensures)
 
 returns : tie.Need-returns
 unfolding readNumber
 returns c = ap (shifted (c .before .before .before .args .at)) (c .before .read-groups .ensures)
 
 pub read-long-spec : {M : Type 1} → statement M
-read-long-spec = tie.close (tie.spec read-groups-requires add-r returns)
+read-long-spec = tie.close (tie.spec (λ c κs. search needs) add-r returns)

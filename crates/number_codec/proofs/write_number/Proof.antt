@@ -8,24 +8,22 @@ use borrow.Author.Needs.{needs}
 use Rattle.number_codec.proofs.write_number.Statement.{statement}
 use Rattle.number_codec.proofs.write_number.Tie as tie
 
-number-length-requires : tie.Need-number-length-requires
-number-length-requires c κs = search needs
-
 returns : tie.Need-returns
-returns c = let a = c .before .before .before .args in
-    (writing-no-room (numberBytes (a .value)) (length (a .out .now)) (c .before .number-length .result) (c .before .number-length .ensures) (omega arith), sym (written-no-room (numberBytes (a .value)) (a .out .now) (omega arith)))
-
-write-groups-requires : tie.Need-write-groups-requires
-write-groups-requires c κs = search needs
-
-same-length : tie.Need-same-length
-same-length c = search needs
+returns c = let a = c .before .before .before .args in (
+  writing-no-room (numberBytes (a .value)) (length (a .out .now)) (c .before .number-length .result)
+      (c .before .number-length .ensures) (omega arith),
+  sym (written-no-room (numberBytes (a .value)) (a .out .now) (omega arith)),
+)
 
 returns-2 : tie.Need-returns-2
 returns-2 c = let a = c .before .before .before .before .before .before .before .args in
-    let n = c .before .before .before .before .before .number-length in
-    (writing-fits (numberBytes (a .value)) (length (a .out .now)) (n .result) (n .ensures) (omega arith), c .before .before .write-groups .ensures)
+    let n = c .before .before .before .before .before .number-length in (
+      writing-fits (numberBytes (a .value)) (length (a .out .now)) (n .result) (n .ensures) (omega arith),
+      c .before .before .write-groups .ensures,
+    )
 
 pub write-number-spec : {M : Type 1} → statement M
 write-number-spec =
-    tie.close (tie.spec number-length-requires returns write-groups-requires same-length returns-2)
+    tie.close
+    (tie.spec
+    (λ c κs. search needs) returns (λ c κs. search needs) (λ c. search needs) returns-2)

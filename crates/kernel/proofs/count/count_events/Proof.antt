@@ -15,24 +15,22 @@ abbrev μ-loop : tie.MeasureT-loop
 loop-holds : tie.Need-loop-holds Inv-loop μ-loop
 loop-holds c = passed-start (c .before .args .trace .now)
 
-read-event-requires : tie.Need-read-event-requires Inv-loop μ-loop
-read-event-requires c κs = tt
-
 returns : tie.Need-returns Inv-loop μ-loop
 returns c = let l = c .before .before .before .before .loop in
-    passed-refused (c .before .before .before .before .before .before .args .trace .now) (l .at) (l .events) (l .inv) (c .before .before .read-event .result) (c .before .before .read-event .ensures) (c .before .before .before .loop-test .taken) (c .if1 .taken)
-
-add-events : tie.Need-add-events Inv-loop μ-loop
-add-events c = omega arith
+    passed-refused (c .before .before .before .before .before .before .args .trace .now) (l .at) (l .events) (l .inv)
+    (c .before .before .read-event .result) (c .before .before .read-event .ensures)
+    (c .before .before .before .loop-test .taken) (c .if1 .taken)
 
 loop-less : tie.Need-loop-less Inv-loop μ-loop
 loop-less c = let l = c .before .before .before .before .loop in
-    let later = passed-later (c .before .before .before .before .before .before .args .trace .now) (l .at) (l .events) (l .inv) (c .before .before .read-event .result) (c .before .before .read-event .ensures) (c .if1 .left) in
+    let later = passed-later (c .before .before .before .before .before .before .args .trace .now) (l .at) (l .events)
+    (l .inv) (c .before .before .read-event .result) (c .before .before .read-event .ensures) (c .if1 .left) in
     omega arith
 
 loop-again : tie.Need-loop-again Inv-loop μ-loop
 loop-again c = let l = c .before .before .before .before .loop in
-    passed-turn (c .before .before .before .before .before .before .args .trace .now) (l .at) (l .events) (l .inv) (c .before .before .read-event .result) (c .before .before .read-event .ensures) (c .if1 .left)
+    passed-turn (c .before .before .before .before .before .before .args .trace .now) (l .at) (l .events) (l .inv)
+    (c .before .before .read-event .result) (c .before .before .read-event .ensures) (c .if1 .left)
 
 returns-2 : tie.Need-returns-2 Inv-loop μ-loop
 returns-2 c = let l = c .before .loop in
@@ -42,12 +40,4 @@ pub count-events-spec : {M : Type 1} → statement M
 count-events-spec =
     tie.close
     (tie.spec
-    Inv-loop
-    μ-loop
-    loop-holds
-    read-event-requires
-    returns
-    add-events
-    loop-less
-    loop-again
-    returns-2)
+    Inv-loop μ-loop loop-holds (λ c κs. tt) returns (λ c. omega arith) loop-less loop-again returns-2)

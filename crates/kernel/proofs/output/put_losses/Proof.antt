@@ -12,7 +12,8 @@ use Rattle.kernel.proofs.output.put_losses.Tie as tie
 
 abbrev Inv-loop : tie.InvT-loop
 Inv-loop losses ranks bodies at out₀ b₀ out b =
-    (b ≤ bodies) × (length out ≡ length out₀) × (out ≡ laid at (lossBytes (map (λ r. getD losses r 0) (take b ranks))) out₀)
+    (b ≤ bodies) × (length out ≡ length out₀)
+    × (out ≡ laid at (lossBytes (map (λ r. getD losses r 0) (take b ranks))) out₀)
 
 abbrev μ-loop : tie.MeasureT-loop
 μ-loop losses ranks bodies at out₀ b₀ out b = bodies - b
@@ -21,27 +22,6 @@ loop-holds : tie.Need-loop-holds Inv-loop μ-loop
 unfolding lossBytes
 loop-holds c = (omega arith, refl, laid-none (c .before .args .at) (c .before .args .out .now))
 
-element-copy-out-loss : tie.Need-element-copy-out-loss Inv-loop μ-loop
-element-copy-out-loss c = omega arith
-
-loss-requires : tie.Need-loss-requires Inv-loop μ-loop
-loss-requires c κs = tt
-
-mul-put-loss : tie.Need-mul-put-loss Inv-loop μ-loop
-mul-put-loss c = omega arith
-
-add-put-loss : tie.Need-add-put-loss Inv-loop μ-loop
-add-put-loss c = omega arith
-
-put-loss-requires : tie.Need-put-loss-requires Inv-loop μ-loop
-put-loss-requires c κs = omega arith
-
-add-b : tie.Need-add-b Inv-loop μ-loop
-add-b c = omega arith
-
-loop-less : tie.Need-loop-less Inv-loop μ-loop
-loop-less c = omega arith
-
 loop-again : tie.Need-loop-again Inv-loop μ-loop
 loop-again c =
     let l = c .before .before .before .before .before .before .before .before .loop in
@@ -49,8 +29,12 @@ loop-again c =
       omega arith,
       c .before .before .put-loss .kept .1 .1 .0 ∙ l .inv .1,
       c .before .before .put-loss .ensures
-          ∙ ap (laid (a .at + 2 * l .b) (c .before .before .before .before .loss .result % 256 ∷ c .before .before .before .before .loss .result / 256 ∷ [])) (l .inv .2)
-          ∙ losses-turn (λ r. getD (a .losses .now) r 0) (a .ranks .now) (a .at) (a .out .now) (l .b) (c .before .before .before .before .loss .result) (omega arith) (omega arith) (c .before .before .before .before .loss .ensures),
+          ∙ ap (laid (a .at + 2 * l .b)
+          (c .before .before .before .before .loss .result % 256 ∷ c .before .before .before .before .loss .result /
+          256 ∷ [])) (l .inv .2)
+          ∙ losses-turn (λ r. getD (a .losses .now) r 0) (a .ranks .now) (a .at) (a .out .now) (l .b)
+          (c .before .before .before .before .loss .result) (omega arith) (omega arith)
+          (c .before .before .before .before .loss .ensures),
     )
 
 same-length : tie.Need-same-length Inv-loop μ-loop
@@ -64,16 +48,5 @@ pub put-losses-spec : {M : Type 1} → statement M
 put-losses-spec =
     tie.close
     (tie.spec
-    Inv-loop
-    μ-loop
-    loop-holds
-    element-copy-out-loss
-    loss-requires
-    mul-put-loss
-    add-put-loss
-    put-loss-requires
-    add-b
-    loop-less
-    loop-again
-    same-length
-    returns)
+    Inv-loop μ-loop loop-holds (λ c. omega arith) (λ c κs. tt) (λ c. omega arith) (λ c. omega arith)
+    (λ c κs. omega arith) (λ c. omega arith) (λ c. omega arith) loop-again same-length returns)

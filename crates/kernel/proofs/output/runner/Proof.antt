@@ -5,9 +5,6 @@ use borrow.Author.Needs.{needs}
 use Rattle.kernel.proofs.output.runner.Statement.{statement}
 use Rattle.kernel.proofs.output.runner.Tie as tie
 
-element-copy-out-result : tie.Need-element-copy-out-result
-element-copy-out-result c = search needs
-
 returns : tie.Need-returns
 returns c = rw (lt-ltb (c .before .before .args .rank) 32 (c .before .if1 .taken)) refl
 
@@ -15,4 +12,4 @@ returns-2 : tie.Need-returns-2
 returns-2 c = rw (le-ltb (c .before .args .rank) 32 (c .if1 .left))
 
 pub runner-spec : {M : Type 1} → statement M
-runner-spec = tie.close (tie.spec element-copy-out-result returns returns-2)
+runner-spec = tie.close (tie.spec (λ c. search needs) returns returns-2)

@@ -1,4 +1,5 @@
--- `play` meets its contract: each turn's step is that of the event that was read, and its answer is laid after those before it.
+-- `play` meets its contract: each turn's step is that of the event that was read, and its answer is laid after those
+-- before it.
 use Prim.Native.Nat.{ℕ, _+_, _-_, _≤_, _<_}
 use mathlib.Core.Path.{_≡_, sym, ap, _∙_}
 use mathlib.Core.Logic.{⊎-elim}
@@ -19,45 +20,26 @@ use Rattle.kernel.proofs.play.play.Statement.{statement}
 use Rattle.kernel.proofs.play.play.Tie as tie
 
 abbrev Inv-loop : tie.InvT-loop
-Inv-loop trace out₀ config plan o₀ counter₀ on₀ losses₀ bits₀ waited₀ at₀ to₀ out o counter on losses bits waited at to =
-    Playing config plan trace out₀ (view (o₀ .model) freshArrays) at to (view (o .model) (arrays counter on losses bits waited)) out
+Inv-loop trace out₀ config plan o₀ counter₀ on₀ losses₀ bits₀ waited₀ at₀ to₀ out o counter on losses bits waited
+    at to =
+    Playing config plan trace out₀ (view (o₀ .model) freshArrays) at to
+    (view (o .model) (arrays counter on losses bits waited)) out
 
 abbrev μ-loop : tie.MeasureT-loop
-μ-loop trace out₀ config plan o₀ counter₀ on₀ losses₀ bits₀ waited₀ at₀ to₀ out o counter on losses bits waited at to = length trace - at
+μ-loop trace out₀ config plan o₀ counter₀ on₀ losses₀ bits₀ waited₀ at₀ to₀ out o counter on losses bits waited at to =
+    length trace - at
 
 loop-holds : tie.Need-loop-holds Inv-loop μ-loop
-loop-holds c = let a = c .before .before .args in playable-start (a .t1) (a .t2) (a .trace .now) (a .out .now) (view (a .fresh) freshArrays) (c .before .before .pre)
+loop-holds c =
+    let a = c .before .before .args in
+    playable-start (a .t1) (a .t2) (a .trace .now) (a .out .now) (view (a .fresh) freshArrays)
+    (c .before .before .pre)
 
 -- the model with its arrays, before an event
 abbrev before : (k : tie.At-loop Inv-loop μ-loop) → Model
-before k = view (k .loop .o .model) (arrays (k .loop .counter) (k .loop .on) (k .loop .losses) (k .loop .bits) (k .loop .waited))
-
-read-event-requires : tie.Need-read-event-requires Inv-loop μ-loop
-read-event-requires c κs = tt
-
-activate-requires : tie.Need-activate-requires Inv-loop μ-loop
-activate-requires c κs = tt
-
-finish-requires : tie.Need-finish-requires Inv-loop μ-loop
-finish-requires c κs = tt
-
-chain-requires : tie.Need-chain-requires Inv-loop μ-loop
-chain-requires c κs = tt
-
-get-requires : tie.Need-get-requires Inv-loop μ-loop
-get-requires c κs = tt
-
-release-requires : tie.Need-release-requires Inv-loop μ-loop
-release-requires c κs = tt
-
-tick-requires : tie.Need-tick-requires Inv-loop μ-loop
-tick-requires c κs = tt
-
-counts-lines-requires : tie.Need-counts-lines-requires Inv-loop μ-loop
-counts-lines-requires c κs = tt
-
-line-requires : tie.Need-line-requires Inv-loop μ-loop
-line-requires c κs = tt
+before k =
+    view (k .loop .o .model)
+    (arrays (k .loop .counter) (k .loop .on) (k .loop .losses) (k .loop .bits) (k .loop .waited))
 
 start-requires : tie.Need-start-requires Inv-loop μ-loop
 start-requires c κs =
@@ -71,47 +53,50 @@ stop-requires c κs =
     let a = k .before .before .before .args in
     tables-laid (a .t1) (a .t2) (rankOf (a .t1)) (k .loop .inv .fit)
 
-wait-requires : tie.Need-wait-requires Inv-loop μ-loop
-wait-requires c κs = tt
-
-set-event-requires : tie.Need-set-event-requires Inv-loop μ-loop
-set-event-requires c κs = tt
-
-clear-requires : tie.Need-clear-requires Inv-loop μ-loop
-clear-requires c κs = tt
-
 -- a turn has room for its answer, and goes on behind its event
-room : (r : tie.After-read-event Inv-loop μ-loop) → r .before .before .loop .to + 4 ≤ length (r .before .before .loop .out)
+room : (r : tie.After-read-event Inv-loop μ-loop)
+    → r .before .before .loop .to + 4 ≤ length (r .before .before .loop .out)
 room r =
     let k = r .before .before in
     let a = k .before .before .before .args in
-    playing-room (a .t1) (a .t2) (a .trace .now) (a .out .now) (view (a .fresh) freshArrays) (k .loop .at) (k .loop .to) (before k) (k .loop .out) (k .loop .inv) (r .before .loop-test .taken) (r .read-event .result) (r .read-event .ensures)
+    playing-room (a .t1) (a .t2) (a .trace .now) (a .out .now) (view (a .fresh) freshArrays) (k .loop .at)
+    (k .loop .to) (before k) (k .loop .out) (k .loop .inv) (r .before .loop-test .taken) (r .read-event .result)
+    (r .read-event .ensures)
 
 later : (r : tie.After-read-event Inv-loop μ-loop) → r .before .before .loop .at < r .read-event .result .place
 later r =
     let k = r .before .before in
     let a = k .before .before .before .args in
-    playing-later (a .t1) (a .t2) (a .trace .now) (a .out .now) (view (a .fresh) freshArrays) (k .loop .at) (k .loop .to) (before k) (k .loop .out) (k .loop .inv) (r .before .loop-test .taken) (r .read-event .result) (r .read-event .ensures)
+    playing-later (a .t1) (a .t2) (a .trace .now) (a .out .now) (view (a .fresh) freshArrays) (k .loop .at)
+    (k .loop .to) (before k) (k .loop .out) (k .loop .inv) (r .before .loop-test .taken) (r .read-event .result)
+    (r .read-event .ensures)
 
-known : (r : tie.After-read-event Inv-loop μ-loop) → (1 ≤ r .read-event .result .event .code) × (r .read-event .result .event .code ≤ lastCode)
+known : (r : tie.After-read-event Inv-loop μ-loop)
+    → (1 ≤ r .read-event .result .event .code) × (r .read-event .result .event .code ≤ lastCode)
 known r =
     let k = r .before .before in
     let a = k .before .before .before .args in
-    playing-known (a .t1) (a .t2) (a .trace .now) (a .out .now) (view (a .fresh) freshArrays) (k .loop .at) (k .loop .to) (before k) (k .loop .out) (k .loop .inv) (r .before .loop-test .taken) (r .read-event .result) (r .read-event .ensures)
+    playing-known (a .t1) (a .t2) (a .trace .now) (a .out .now) (view (a .fresh) freshArrays) (k .loop .at)
+    (k .loop .to) (before k) (k .loop .out) (k .loop .inv) (r .before .loop-test .taken) (r .read-event .result)
+    (r .read-event .ensures)
 
 long : (k : tie.At-loop Inv-loop μ-loop) → length (k .loop .out) ≡ length (k .before .before .before .args .out .now)
 long k =
     let a = k .before .before .before .args in
-    length-out (a .t1) (a .t2) (a .trace .now) (a .out .now) (view (a .fresh) freshArrays) (k .loop .at) (k .loop .to) (before k) (k .loop .out) (k .loop .inv)
+    length-out (a .t1) (a .t2) (a .trace .now) (a .out .now) (view (a .fresh) freshArrays) (k .loop .at) (k .loop .to)
+    (before k) (k .loop .out) (k .loop .inv)
 
 -- what an arm leaves
 abbrev left : (j : tie.At-match-came Inv-loop μ-loop) → Outcome
-left j = viewOutcome (j .match .o) (arrays (j .match .counter) (j .match .on) (j .match .losses) (j .match .bits) (j .match .waited))
+left j =
+    viewOutcome (j .match .o)
+    (arrays (j .match .counter) (j .match .on) (j .match .losses) (j .match .bits) (j .match .waited))
 
 -- it is the step of the event that was read
 stepped : (j : tie.At-match-came Inv-loop μ-loop)
     → left j
-    ≡ machineStep (j .before .before .before .before .before .before .before .args .t1) (j .before .before .before .before .before .before .before .args .t2)
+    ≡ machineStep (j .before .before .before .before .before .before .before .args .t1)
+    (j .before .before .before .before .before .before .before .args .t2)
     (before (j .before .before .before .before)) (callOf (j .before .before .read-event .result .event))
 stepped j =
     let k = j .before .before .before .before in
@@ -119,40 +104,52 @@ stepped j =
     let x = arrays (k .loop .counter) (k .loop .on) (k .loop .losses) (k .loop .bits) (k .loop .waited) in
     let e = j .before .before .read-event .result .event in
     ⊎-elim
-    (λ w. same-view (w .5) (w .6) (w .7) (w .8) (w .9) (w .10) ∙ w .4 .ensures x ∙ sym (step-1 (a .t1) (a .t2) (before k) e (w .0 .keys1)))
+    (λ w. same-view (w .5) (w .6) (w .7) (w .8) (w .9) (w .10) ∙ w .4 .ensures x
+    ∙ sym (step-1 (a .t1) (a .t2) (before k) e (w .0 .keys1)))
     (λ z1.
     ⊎-elim
-    (λ w. same-view (w .4) (w .5) (w .6) (w .7) (w .8) (w .9) ∙ w .3 .ensures x ∙ sym (step-2 (a .t1) (a .t2) (before k) e (w .0 .keys2)))
+    (λ w. same-view (w .4) (w .5) (w .6) (w .7) (w .8) (w .9) ∙ w .3 .ensures x
+    ∙ sym (step-2 (a .t1) (a .t2) (before k) e (w .0 .keys2)))
     (λ z2.
     ⊎-elim
-    (λ w. same-view (w .5) (w .6) (w .7) (w .8) (w .9) (w .10) ∙ w .4 .ensures x ∙ sym (step-3 (a .t1) (a .t2) (before k) e (w .0 .keys3)))
+    (λ w. same-view (w .5) (w .6) (w .7) (w .8) (w .9) (w .10) ∙ w .4 .ensures x
+    ∙ sym (step-3 (a .t1) (a .t2) (before k) e (w .0 .keys3)))
     (λ z3.
     ⊎-elim
-    (λ w. same-view (w .5) (w .6) (w .7) (w .8) (w .9) (w .10) ∙ w .4 .ensures x ∙ sym (step-4 (a .t1) (a .t2) (before k) e (w .0 .keys4)))
+    (λ w. same-view (w .5) (w .6) (w .7) (w .8) (w .9) (w .10) ∙ w .4 .ensures x
+    ∙ sym (step-4 (a .t1) (a .t2) (before k) e (w .0 .keys4)))
     (λ z4.
     ⊎-elim
-    (λ w. same-view (w .4) (w .5) (w .6) (w .7) (w .8) (w .9) ∙ w .3 .ensures x ∙ sym (step-5 (a .t1) (a .t2) (before k) e (w .0 .keys5)))
+    (λ w. same-view (w .4) (w .5) (w .6) (w .7) (w .8) (w .9) ∙ w .3 .ensures x
+    ∙ sym (step-5 (a .t1) (a .t2) (before k) e (w .0 .keys5)))
     (λ z5.
     ⊎-elim
-    (λ w. same-view (w .9) (w .10) (w .11) (w .12) (w .13) (w .14) ∙ w .8 .ensures x ∙ sym (step-6 (a .t1) (a .t2) (before k) e (w .0 .keys6)))
+    (λ w. same-view (w .9) (w .10) (w .11) (w .12) (w .13) (w .14) ∙ w .8 .ensures x
+    ∙ sym (step-6 (a .t1) (a .t2) (before k) e (w .0 .keys6)))
     (λ z6.
     ⊎-elim
-    (λ w. same-view (w .7) (w .8) (w .9) (w .10) (w .11) (w .12) ∙ w .6 .ensures x ∙ (rw (w .1 .ensures) (sym (step-7 (a .t1) (a .t2) (before k) e (w .0 .keys7)))))
+    (λ w. same-view (w .7) (w .8) (w .9) (w .10) (w .11) (w .12) ∙ w .6 .ensures x
+    ∙ (rw (w .1 .ensures) (sym (step-7 (a .t1) (a .t2) (before k) e (w .0 .keys7)))))
     (λ z7.
     ⊎-elim
-    (λ w. same-view (w .10) (w .11) (w .12) (w .13) (w .14) (w .15) ∙ w .9 .ensures x ∙ sym (step-8 (a .t1) (a .t2) (before k) e (w .0 .keys8)))
+    (λ w. same-view (w .10) (w .11) (w .12) (w .13) (w .14) (w .15) ∙ w .9 .ensures x
+    ∙ sym (step-8 (a .t1) (a .t2) (before k) e (w .0 .keys8)))
     (λ z8.
     ⊎-elim
-    (λ w. same-view (w .8) (w .9) (w .10) (w .11) (w .12) (w .13) ∙ w .7 .ensures x ∙ sym (step-9 (a .t1) (a .t2) (before k) e (w .0 .keys9)))
+    (λ w. same-view (w .8) (w .9) (w .10) (w .11) (w .12) (w .13) ∙ w .7 .ensures x
+    ∙ sym (step-9 (a .t1) (a .t2) (before k) e (w .0 .keys9)))
     (λ z9.
     ⊎-elim
-    (λ w. same-view (w .6) (w .7) (w .8) (w .9) (w .10) (w .11) ∙ w .5 .ensures x ∙ sym (step-10 (a .t1) (a .t2) (before k) e (w .0 .keys10)))
+    (λ w. same-view (w .6) (w .7) (w .8) (w .9) (w .10) (w .11) ∙ w .5 .ensures x
+    ∙ sym (step-10 (a .t1) (a .t2) (before k) e (w .0 .keys10)))
     (λ z10.
     ⊎-elim
-    (λ w. same-view (w .7) (w .8) (w .9) (w .10) (w .11) (w .12) ∙ w .6 .ensures x ∙ sym (step-11 (a .t1) (a .t2) (before k) e (w .0 .keys11)))
+    (λ w. same-view (w .7) (w .8) (w .9) (w .10) (w .11) (w .12) ∙ w .6 .ensures x
+    ∙ sym (step-11 (a .t1) (a .t2) (before k) e (w .0 .keys11)))
     (λ z11.
     ⊎-elim
-    (λ w. same-view (w .3) (w .4) (w .5) (w .6) (w .7) (w .8) ∙ w .2 .ensures x ∙ sym (step-12 (a .t1) (a .t2) (before k) e (w .0 .keys12)))
+    (λ w. same-view (w .3) (w .4) (w .5) (w .6) (w .7) (w .8) ∙ w .2 .ensures x
+    ∙ sym (step-12 (a .t1) (a .t2) (before k) e (w .0 .keys12)))
     (λ z12.
     ⊎-elim
     (λ w. absurd (omega (arith, w .0 .keys13, known (j .before .before))))
@@ -170,9 +167,6 @@ stepped j =
     (λ h. w .0 .rest .0 .0 .0 .1 h)
     (λ h. w .0 .rest .0 .0 .1 h)
     (λ h. w .0 .rest .0 .1 h))) z12) z11) z10) z9) z8) z7) z6) z5) z4) z3) z2) z1) (j .match .came)
-
-runner-requires : tie.Need-runner-requires Inv-loop μ-loop
-runner-requires c κs = tt
 
 put-answer-requires : tie.Need-put-answer-requires Inv-loop μ-loop
 put-answer-requires c κs = room (c .before .before .before .before .before .before)
@@ -193,10 +187,14 @@ loop-again c =
     let r = j .before .before in
     let k = r .before .before in
     let a = k .before .before .before .args in
-    playing-turn (a .t1) (a .t2) (a .trace .now) (a .out .now) (view (a .fresh) freshArrays) (k .loop .at) (k .loop .to) (before k) (k .loop .out) (k .loop .inv) (r .before .loop-test .taken) (r .read-event .result) (r .read-event .ensures)
+    playing-turn (a .t1) (a .t2) (a .trace .now) (a .out .now) (view (a .fresh) freshArrays) (k .loop .at)
+    (k .loop .to) (before k) (k .loop .out) (k .loop .inv) (r .before .loop-test .taken) (r .read-event .result)
+    (r .read-event .ensures)
     (left j) (stepped j) _
     (p .put-answer .ensures
-    ∙ ap (λ (n : ℕ). laid (k .loop .to) (j .match .o .status ∷ n ∷ j .match .o .model .level ∷ markOf (j .match .o .begun) ∷ []) (k .loop .out)) (p .before .before .runner .ensures))
+    ∙ ap (λ (n : ℕ). laid (k .loop .to)
+    (j .match .o .status ∷ n ∷ j .match .o .model .level ∷ markOf (j .match .o .begun) ∷ []) (k .loop .out))
+    (p .before .before .runner .ensures))
 
 same-length : tie.Need-same-length Inv-loop μ-loop
 same-length c = long (c .before)
@@ -205,34 +203,14 @@ returns : tie.Need-returns Inv-loop μ-loop
 returns c =
     let k = c .before in
     let a = k .before .before .before .args in
-    let e = playing-end (a .t1) (a .t2) (a .trace .now) (a .out .now) (view (a .fresh) freshArrays) (k .loop .at) (k .loop .to) (before k) (k .loop .out) (k .loop .inv) (c .loop-test .left) in
+    let e = playing-end (a .t1) (a .t2) (a .trace .now) (a .out .now) (view (a .fresh) freshArrays) (k .loop .at)
+    (k .loop .to) (before k) (k .loop .out) (k .loop .inv) (c .loop-test .left) in
     (ap (λ (m : Model). m .losses) (e .0), e .1)
 
 pub play-spec : {M : Type 1} → statement M
 play-spec =
     tie.close
     (tie.spec
-    Inv-loop
-    μ-loop
-    loop-holds
-    read-event-requires
-    activate-requires
-    finish-requires
-    chain-requires
-    get-requires
-    release-requires
-    tick-requires
-    counts-lines-requires
-    line-requires
-    start-requires
-    stop-requires
-    wait-requires
-    set-event-requires
-    clear-requires
-    runner-requires
-    put-answer-requires
-    add-to
-    loop-less
-    loop-again
-    same-length
-    returns)
+    Inv-loop μ-loop loop-holds (λ c κs. tt) (λ c κs. tt) (λ c κs. tt) (λ c κs. tt) (λ c κs. tt) (λ c κs. tt)
+    (λ c κs. tt) (λ c κs. tt) (λ c κs. tt) start-requires stop-requires (λ c κs. tt) (λ c κs. tt) (λ c κs. tt)
+    (λ c κs. tt) put-answer-requires add-to loop-less loop-again same-length returns)

@@ -8,68 +8,31 @@ use borrow.Author.Needs.{needs}
 use Rattle.kernel.proofs.model.Model.clear.Statement.{statement}
 use Rattle.kernel.proofs.model.Model.clear.Tie as tie
 
-no-caller-requires : tie.Need-no-caller-requires
-no-caller-requires c κs = search needs
-
-with-status-requires : tie.Need-with-status-requires
-with-status-requires c κs = search needs
-
 returns : tie.Need-returns
 returns c =
     let c₁ = c .before in let c₂ = c₁ .before in let c₃ = c₂ .before in let a = c₃ .args in
     λ x. c .with-status .ensures (putBits (a .bits .now) x)
-    ∙ clear-idle (a .extended) (view (a .self) (putBits (a .bits .now) x)) (a .mask) (c₂ .no-caller .ensures) (c₁ .if1 .taken)
-
-cast-rank : tie.Need-cast-rank
-cast-rank c = search needs
-
-has-requires : tie.Need-has-requires
-has-requires c κs = search needs
-
-with-status-requires-2 : tie.Need-with-status-requires-2
-with-status-requires-2 c κs = search needs
+    ∙ clear-idle (a .extended) (view (a .self) (putBits (a .bits .now) x)) (a .mask) (c₂ .no-caller .ensures)
+    (c₁ .if1 .taken)
 
 returns-2 : tie.Need-returns-2
 returns-2 c =
     let c₁ = c .before in let c₂ = c₁ .before in let c₃ = c₂ .before .before in let c₄ = c₃ .before in
     let c₅ = c₄ .before in let a = c₅ .args in
     λ x. c .with-status2 .ensures (putBits (a .bits .now) x)
-    ∙ clear-basic (a .extended) (view (a .self) (putBits (a .bits .now) x)) (a .mask) (c₄ .no-caller .ensures) (c₃ .if1 .left) (c₂ .has .ensures) (not-true _ (c₁ .if2 .taken))
-
-cast-kept : tie.Need-cast-kept
-cast-kept c = search needs
-
-mul-kept : tie.Need-mul-kept
-mul-kept c = search needs
+    ∙ clear-basic (a .extended) (view (a .self) (putBits (a .bits .now) x)) (a .mask) (c₄ .no-caller .ensures)
+    (c₃ .if1 .left) (c₂ .has .ensures) (not-true _ (c₁ .if2 .taken))
 
 element-copy-out-kept : tie.Need-element-copy-out-kept
 element-copy-out-kept c =
     let c₁ = c .before in let c₂ = c₁ .before .before .before .before in let a = c₂ .args in
     has-lt (a .extended) (a .self .runner) (sym (c₁ .has .ensures) ∙ not-false _ (c .if2 .left))
 
-bits-of-requires : tie.Need-bits-of-requires
-bits-of-requires c κs = search needs
-
-without-bits-requires : tie.Need-without-bits-requires
-without-bits-requires c κs = search needs
-
-cast-bits : tie.Need-cast-bits
-cast-bits c = search needs
-
-mul-bits : tie.Need-mul-bits
-mul-bits c = search needs
-
 element-write-bits : tie.Need-element-write-bits
 element-write-bits c =
     let c₁ = c .before .before .before in let c₂ = c₁ .before in let c₃ = c₂ .before .before .before .before in
     let a = c₃ .args in
     has-lt (a .extended) (a .self .runner) (sym (c₂ .has .ensures) ∙ not-false _ (c₁ .if2 .left))
-
-without-requires : tie.Need-without-requires
-without-requires c κs = search needs
-
-with-status-requires-3 : tie.Need-with-status-requires-3
-with-status-requires-3 c κs = search needs
 
 returns-3 : tie.Need-returns-3
 returns-3 c =
@@ -85,21 +48,7 @@ pub clear-spec : {M : Type 1} → statement M
 clear-spec =
     tie.close
     (tie.spec
-    no-caller-requires
-    with-status-requires
-    returns
-    cast-rank
-    has-requires
-    with-status-requires-2
-    returns-2
-    cast-kept
-    mul-kept
-    element-copy-out-kept
-    bits-of-requires
-    without-bits-requires
-    cast-bits
-    mul-bits
-    element-write-bits
-    without-requires
-    with-status-requires-3
-    returns-3)
+    (λ c κs. search needs) (λ c κs. search needs) returns (λ c. search needs) (λ c κs. search needs)
+    (λ c κs. search needs) returns-2 (λ c. search needs) (λ c. search needs) element-copy-out-kept
+    (λ c κs. search needs) (λ c κs. search needs) (λ c. search needs) (λ c. search needs) element-write-bits
+    (λ c κs. search needs) (λ c κs. search needs) returns-3)

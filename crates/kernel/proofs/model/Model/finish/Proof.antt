@@ -6,20 +6,11 @@ use borrow.Author.Needs.{needs}
 use Rattle.kernel.proofs.model.Model.finish.Statement.{statement}
 use Rattle.kernel.proofs.model.Model.finish.Tie as tie
 
-with-status-requires : tie.Need-with-status-requires
-with-status-requires c κs = search needs
-
 returns : tie.Need-returns
 returns c =
     let c₁ = c .before in let c₂ = c₁ .before .before in let a = c₂ .args in
     λ x. c .with-status .ensures x
     ∙ finish-idle (a .priority .now) (view (a .self) x) (c₁ .if1 .taken)
-
-top-requires : tie.Need-top-requires
-top-requires c κs = search needs
-
-with-status-requires-2 : tie.Need-with-status-requires-2
-with-status-requires-2 c κs = search needs
 
 returns-2 : tie.Need-returns-2
 returns-2 c =
@@ -28,25 +19,27 @@ returns-2 c =
     λ x. c .with-status2 .ensures x
     ∙ finish-holding (a .priority .now) (view (a .self) x) (c₃ .if1 .left) (c₂ .top .ensures) (c₁ .if2 .taken)
 
-returned-requires : tie.Need-returned-requires
-returned-requires c κs = search needs
-
 returns-3 : tie.Need-returns-3
 returns-3 c =
-    let c₁ = c .before in let c₂ = c₁ .before .before in let c₃ = c₂ .before .before in let c₄ = c₃ .before in let c₅ = c₄ .before .before in
+    let c₁ = c .before in let c₂ = c₁ .before .before in let c₃ = c₂ .before .before in let c₄ = c₃ .before in
+    let c₅ = c₄ .before .before in
     let a = c₅ .args in
     λ x. c .returned .ensures x
-    ∙ finish-timed (a .priority .now) (view (a .self) x) (c₄ .if1 .left) (c₃ .top .ensures) (c₂ .if2 .left) (c₁ .if3 .taken)
-
-ended-requires : tie.Need-ended-requires
-ended-requires c κs = search needs
+    ∙ finish-timed (a .priority .now) (view (a .self) x) (c₄ .if1 .left) (c₃ .top .ensures) (c₂ .if2 .left)
+    (c₁ .if3 .taken)
 
 returns-4 : tie.Need-returns-4
 returns-4 c =
-    let c₁ = c .before in let c₂ = c₁ .before .before in let c₃ = c₂ .before .before in let c₄ = c₃ .before in let c₅ = c₄ .before .before in
+    let c₁ = c .before in let c₂ = c₁ .before .before in let c₃ = c₂ .before .before in let c₄ = c₃ .before in
+    let c₅ = c₄ .before .before in
     let a = c₅ .args in
     λ x. c .ended .ensures x
-    ∙ finish-done (a .priority .now) (view (a .self) x) (c₄ .if1 .left) (c₃ .top .ensures) (c₂ .if2 .left) (c₁ .if3 .left)
+    ∙ finish-done (a .priority .now) (view (a .self) x) (c₄ .if1 .left) (c₃ .top .ensures) (c₂ .if2 .left)
+    (c₁ .if3 .left)
 
 pub finish-spec : {M : Type 1} → statement M
-finish-spec = tie.close (tie.spec with-status-requires returns top-requires with-status-requires-2 returns-2 returned-requires returns-3 ended-requires returns-4)
+finish-spec =
+    tie.close
+    (tie.spec
+    (λ c κs. search needs) returns (λ c κs. search needs) (λ c κs. search needs) returns-2 (λ c κs. search needs)
+    returns-3 (λ c κs. search needs) returns-4)

@@ -6,73 +6,36 @@ use borrow.Author.Needs.{needs}
 use Rattle.kernel.proofs.model.Model.line.Statement.{statement}
 use Rattle.kernel.proofs.model.Model.line.Tie as tie
 
-byte-at-requires : tie.Need-byte-at-requires
-byte-at-requires c κs = search needs
-
-with-status-requires : tie.Need-with-status-requires
-with-status-requires c κs = search needs
-
 returns : tie.Need-returns
 returns c =
     let c₁ = c .before in let c₂ = c₁ .before in let c₃ = c₂ .before .before in let a = c₃ .args in
     λ x. c .with-status .ensures (putLosses (a .losses .now) x)
-    ∙ line-none (a .counts) (a .line-rank .now) (a .priority .now) (view (a .self) (putLosses (a .losses .now) x)) (a .i)
+    ∙ line-none (a .counts) (a .line-rank .now) (a .priority .now) (view (a .self) (putLosses (a .losses .now) x))
+    (a .i)
     (c₂ .byte-at .ensures) (c₁ .if1 .taken)
-
-cast-has : tie.Need-cast-has
-cast-has c = search needs
-
-has-requires : tie.Need-has-requires
-has-requires c κs = search needs
-
-cast-lose-where : tie.Need-cast-lose-where
-cast-lose-where c = search needs
-
-lose-where-requires : tie.Need-lose-where-requires
-lose-where-requires c κs = search needs
-
-with-status-requires-2 : tie.Need-with-status-requires-2
-with-status-requires-2 c κs = search needs
 
 returns-2 : tie.Need-returns-2
 returns-2 c =
     let c₁ = c .before in let c₂ = c₁ .before .before in let c₃ = c₂ .before in let c₄ = c₃ .before in
     let c₅ = c₄ .before in let c₆ = c₅ .before .before in let a = c₆ .args in
     λ x. c .with-status2 .ensures _
-    ∙ line-waits (a .counts) (a .line-rank .now) (a .priority .now) (view (a .self) (putLosses (a .losses .now) x)) (a .i)
+    ∙ line-waits (a .counts) (a .line-rank .now) (a .priority .now) (view (a .self) (putLosses (a .losses .now) x))
+    (a .i)
     (c₅ .byte-at .ensures) (c₄ .if1 .left) (c₃ .has .ensures) (c₂ .if2 .taken) (c₁ .lose-where .ensures)
-
-cast-with : tie.Need-cast-with
-cast-with c = search needs
-
-with-requires : tie.Need-with-requires
-with-requires c κs = search needs
-
-settled-requires : tie.Need-settled-requires
-settled-requires c κs = search needs
 
 returns-3 : tie.Need-returns-3
 returns-3 c =
     let c₁ = c .before in let c₂ = c₁ .before in let c₃ = c₂ .before in let c₄ = c₃ .before in let c₅ = c₄ .before in
     let c₆ = c₅ .before .before in let a = c₆ .args in
     λ x. c .settled .ensures (putLosses (a .losses .now) x)
-    ∙ line-done (a .counts) (a .line-rank .now) (a .priority .now) (view (a .self) (putLosses (a .losses .now) x)) (a .i)
+    ∙ line-done (a .counts) (a .line-rank .now) (a .priority .now) (view (a .self) (putLosses (a .losses .now) x))
+    (a .i)
     (c₅ .byte-at .ensures) (c₄ .if1 .left) (c₃ .has .ensures) (c₂ .if2 .left) (c₁ .with .ensures)
 
 pub line-spec : {M : Type 1} → statement M
 line-spec =
     tie.close
     (tie.spec
-    byte-at-requires
-    with-status-requires
-    returns
-    cast-has
-    has-requires
-    cast-lose-where
-    lose-where-requires
-    with-status-requires-2
-    returns-2
-    cast-with
-    with-requires
-    settled-requires
-    returns-3)
+    (λ c κs. search needs) (λ c κs. search needs) returns (λ c. search needs) (λ c κs. search needs)
+    (λ c. search needs) (λ c κs. search needs) (λ c κs. search needs) returns-2 (λ c. search needs)
+    (λ c κs. search needs) (λ c κs. search needs) returns-3)

@@ -7,60 +7,27 @@ use borrow.Author.Needs.{needs}
 use Rattle.kernel.proofs.model.Model.release.Statement.{statement}
 use Rattle.kernel.proofs.model.Model.release.Tie as tie
 
-no-caller-requires : tie.Need-no-caller-requires
-no-caller-requires c κs = search needs
-
-with-status-requires : tie.Need-with-status-requires
-with-status-requires c κs = search needs
-
 returns : tie.Need-returns
 returns c =
     let c₁ = c .before in let c₂ = c₁ .before .before in let a = c₂ .args in
     λ x. c .with-status .ensures x
-    ∙ release-idle (a .resources) (a .priority .now) (view (a .self) x) (a .r) (c₁ .before .no-caller .ensures) (c₁ .if1 .taken)
-
-with-status-requires-2 : tie.Need-with-status-requires-2
-with-status-requires-2 c κs = search needs
+    ∙ release-idle (a .resources) (a .priority .now) (view (a .self) x) (a .r) (c₁ .before .no-caller .ensures)
+    (c₁ .if1 .taken)
 
 returns-2 : tie.Need-returns-2
 returns-2 c =
     let c₁ = c .before in let c₂ = c₁ .before in let c₃ = c₂ .before .before in let a = c₃ .args in
     λ x. c .with-status2 .ensures x
-    ∙ release-none (a .resources) (a .priority .now) (view (a .self) x) (a .r) (c₂ .before .no-caller .ensures) (c₂ .if1 .left) (c₁ .if2 .taken)
-
-is-latest-requires : tie.Need-is-latest-requires
-is-latest-requires c κs = search needs
-
-with-status-requires-3 : tie.Need-with-status-requires-3
-with-status-requires-3 c κs = search needs
+    ∙ release-none (a .resources) (a .priority .now) (view (a .self) x) (a .r) (c₂ .before .no-caller .ensures)
+    (c₂ .if1 .left) (c₁ .if2 .taken)
 
 returns-3 : tie.Need-returns-3
 returns-3 c =
     let c₁ = c .before in let c₂ = c₁ .before in let c₃ = c₂ .before in let c₄ = c₃ .before in
     let c₅ = c₄ .before .before in let a = c₅ .args in
     λ x. c .with-status3 .ensures x
-    ∙ release-other (a .resources) (a .priority .now) (view (a .self) x) (a .r) (c₄ .before .no-caller .ensures) (c₄ .if1 .left) (c₃ .if2 .left) (c₂ .is-latest .ensures) (not-true _ (c₁ .if3 .taken))
-
-level-without-requires : tie.Need-level-without-requires
-level-without-requires c κs = search needs
-
-arbitrated-requires : tie.Need-arbitrated-requires
-arbitrated-requires c κs = search needs
-
-without-requires : tie.Need-without-requires
-without-requires c κs = search needs
-
-pop-requires : tie.Need-pop-requires
-pop-requires c κs = search needs
-
-pop-requires-2 : tie.Need-pop-requires-2
-pop-requires-2 c κs = search needs
-
-pop-requires-3 : tie.Need-pop-requires-3
-pop-requires-3 c κs = search needs
-
-seated-requires : tie.Need-seated-requires
-seated-requires c κs = search needs
+    ∙ release-other (a .resources) (a .priority .now) (view (a .self) x) (a .r) (c₄ .before .no-caller .ensures)
+    (c₄ .if1 .left) (c₃ .if2 .left) (c₂ .is-latest .ensures) (not-true _ (c₁ .if3 .taken))
 
 returns-4 : tie.Need-returns-4
 returns-4 c =
@@ -68,8 +35,15 @@ returns-4 c =
     let c₆ = c₅ .before in let c₇ = c₆ .before in let c₈ = c₇ .before in let c₉ = c₈ .before in
     let c₁₀ = c₉ .before in let c₁₁ = c₁₀ .before .before in let a = c₁₁ .args in
     λ x. c .seated .ensures x
-    ∙ release-done (a .resources) (a .priority .now) (view (a .self) x) (a .r) (c₁₀ .before .no-caller .ensures) (c₁₀ .if1 .left) (c₉ .if2 .left) (c₈ .is-latest .ensures) (not-false _ (c₇ .if3 .left))
-    (c₆ .level-without .ensures) (c₄ .without .ensures) (c₃ .pop .ensures) (c₂ .pop2 .ensures) (c₁ .pop3 .ensures) (ap viewPicked (c₅ .arbitrated .ensures))
+    ∙ release-done (a .resources) (a .priority .now) (view (a .self) x) (a .r) (c₁₀ .before .no-caller .ensures)
+    (c₁₀ .if1 .left) (c₉ .if2 .left) (c₈ .is-latest .ensures) (not-false _ (c₇ .if3 .left))
+    (c₆ .level-without .ensures) (c₄ .without .ensures) (c₃ .pop .ensures) (c₂ .pop2 .ensures) (c₁ .pop3 .ensures)
+    (ap viewPicked (c₅ .arbitrated .ensures))
 
 pub release-spec : {M : Type 1} → statement M
-release-spec = tie.close (tie.spec no-caller-requires with-status-requires returns with-status-requires-2 returns-2 is-latest-requires with-status-requires-3 returns-3 level-without-requires arbitrated-requires without-requires pop-requires pop-requires-2 pop-requires-3 seated-requires returns-4)
+release-spec =
+    tie.close
+    (tie.spec
+    (λ c κs. search needs) (λ c κs. search needs) returns (λ c κs. search needs) returns-2 (λ c κs. search needs)
+    (λ c κs. search needs) returns-3 (λ c κs. search needs) (λ c κs. search needs) (λ c κs. search needs)
+    (λ c κs. search needs) (λ c κs. search needs) (λ c κs. search needs) (λ c κs. search needs) returns-4)

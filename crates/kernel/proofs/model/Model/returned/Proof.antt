@@ -1,4 +1,5 @@
--- `returned` meets its contract: the seat is left to the time-triggered task that was started before, or to the latest holder, then arbitration.
+-- `returned` meets its contract: the seat is left to the time-triggered task that was started before, or to the
+-- latest holder, then arbitration.
 use mathlib.Core.Path.{ap, _∙_}
 use Rattle.kernel.specs.View.{view, viewPicked}
 use Rattle.kernel.proofs.Methods.Core.{returned-made}
@@ -6,49 +7,22 @@ use borrow.Author.Needs.{needs}
 use Rattle.kernel.proofs.model.Model.returned.Statement.{statement}
 use Rattle.kernel.proofs.model.Model.returned.Tie as tie
 
-cast-without : tie.Need-cast-without
-cast-without c = search needs
-
-without-requires : tie.Need-without-requires
-without-requires c κs = search needs
-
-cast-with : tie.Need-cast-with
-cast-with c = search needs
-
-with-requires : tie.Need-with-requires
-with-requires c κs = search needs
-
-second-requires : tie.Need-second-requires
-second-requires c κs = search needs
-
-top-requires : tie.Need-top-requires
-top-requires c κs = search needs
-
-earlier-or-requires : tie.Need-earlier-or-requires
-earlier-or-requires c κs = search needs
-
-latest-level-requires : tie.Need-latest-level-requires
-latest-level-requires c κs = search needs
-
-execution-or-requires : tie.Need-execution-or-requires
-execution-or-requires c κs = search needs
-
-pop-requires : tie.Need-pop-requires
-pop-requires c κs = search needs
-
-arbitrated-requires : tie.Need-arbitrated-requires
-arbitrated-requires c κs = search needs
-
-seated-requires : tie.Need-seated-requires
-seated-requires c κs = search needs
-
 returns : tie.Need-returns
 returns c =
-    let c₁ = c .before in let c₂ = c₁ .before in let c₃ = c₂ .before in let c₄ = c₃ .before in let c₅ = c₄ .before in let c₆ = c₅ .before in
-    let c₇ = c₆ .before .before in let c₈ = c₇ .before in let c₉ = c₈ .before .before in let a = c₉ .before .before .args in
+    let c₁ = c .before in let c₂ = c₁ .before in let c₃ = c₂ .before in let c₄ = c₃ .before in let c₅ = c₄ .before in
+    let c₆ = c₅ .before in
+    let c₇ = c₆ .before .before in let c₈ = c₇ .before in let c₉ = c₈ .before .before in
+    let a = c₉ .before .before .args in
     λ x. c .seated .ensures x
-    ∙ returned-made (a .priority .now) (view (a .self) x) (c₉ .without .ensures) (c₈ .with .ensures) (c₇ .second .ensures) (c₆ .top .ensures)
-    (c₅ .earlier-or .ensures) (c₄ .latest-level .ensures) (c₃ .execution-or .ensures) (c₂ .pop .ensures) (ap viewPicked (c₁ .arbitrated .ensures))
+    ∙ returned-made (a .priority .now) (view (a .self) x) (c₉ .without .ensures) (c₈ .with .ensures)
+    (c₇ .second .ensures) (c₆ .top .ensures)
+    (c₅ .earlier-or .ensures) (c₄ .latest-level .ensures) (c₃ .execution-or .ensures) (c₂ .pop .ensures)
+    (ap viewPicked (c₁ .arbitrated .ensures))
 
 pub returned-spec : {M : Type 1} → statement M
-returned-spec = tie.close (tie.spec cast-without without-requires cast-with with-requires second-requires top-requires earlier-or-requires latest-level-requires execution-or-requires pop-requires arbitrated-requires seated-requires returns)
+returned-spec =
+    tie.close
+    (tie.spec
+    (λ c. search needs) (λ c κs. search needs) (λ c. search needs) (λ c κs. search needs) (λ c κs. search needs)
+    (λ c κs. search needs) (λ c κs. search needs) (λ c κs. search needs) (λ c κs. search needs) (λ c κs. search needs)
+    (λ c κs. search needs) (λ c κs. search needs) returns)

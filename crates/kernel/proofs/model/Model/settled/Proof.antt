@@ -7,17 +7,12 @@ use borrow.Author.Needs.{needs}
 use Rattle.kernel.proofs.model.Model.settled.Statement.{statement}
 use Rattle.kernel.proofs.model.Model.settled.Tie as tie
 
-arbitrated-requires : tie.Need-arbitrated-requires
-arbitrated-requires c κs = search needs
-
-seated-requires : tie.Need-seated-requires
-seated-requires c κs = search needs
-
 returns : tie.Need-returns
 returns c =
     let c₁ = c .before in let c₂ = c₁ .before in let a = c₂ .args in
     λ x. c .seated .ensures x
-    ∙ settled-made (a .priority .now) (view (a .self) x) (withRequest (view (a .self) x .core) (a .request)) (ap viewPicked (c₁ .arbitrated .ensures))
+    ∙ settled-made (a .priority .now) (view (a .self) x) (withRequest (view (a .self) x .core) (a .request))
+    (ap viewPicked (c₁ .arbitrated .ensures))
 
 pub settled-spec : {M : Type 1} → statement M
-settled-spec = tie.close (tie.spec arbitrated-requires seated-requires returns)
+settled-spec = tie.close (tie.spec (λ c κs. search needs) (λ c κs. search needs) returns)

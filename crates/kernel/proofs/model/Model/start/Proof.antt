@@ -7,12 +7,6 @@ use borrow.Author.Needs.{needs}
 use Rattle.kernel.proofs.model.Model.start.Statement.{statement}
 use Rattle.kernel.proofs.model.Model.start.Tie as tie
 
-no-caller-requires : tie.Need-no-caller-requires
-no-caller-requires c κs = search needs
-
-with-status-requires : tie.Need-with-status-requires
-with-status-requires c κs = search needs
-
 returns : tie.Need-returns
 returns c =
     let c₁ = c .before in let c₂ = c₁ .before in let c₃ = c₂ .before in let a = c₃ .args in
@@ -20,9 +14,6 @@ returns c =
     ∙ start-idle (a .tables) (a .first .now) (a .entries .now) (a .period .now) (a .offset .now)
     (view (a .self) (putCells (a .counter .now) (a .on .now) x)) (a .t) (a .d)
     (c₂ .no-caller .ensures) (c₁ .if1 .taken)
-
-with-status-requires-2 : tie.Need-with-status-requires-2
-with-status-requires-2 c κs = search needs
 
 returns-2 : tie.Need-returns-2
 returns-2 c =
@@ -32,21 +23,6 @@ returns-2 c =
     (view (a .self) (putCells (a .counter .now) (a .on .now) x)) (a .t) (a .d)
     (c₃ .no-caller .ensures) (c₂ .if1 .left) (c₁ .if2 .taken)
 
-byte-at-requires : tie.Need-byte-at-requires
-byte-at-requires c κs = search needs
-
-cast-from : tie.Need-cast-from
-cast-from c = search needs
-
-short-at-requires : tie.Need-short-at-requires
-short-at-requires c κs = search needs
-
-is-bad-delay-requires : tie.Need-is-bad-delay-requires
-is-bad-delay-requires c κs = search needs
-
-with-status-requires-3 : tie.Need-with-status-requires-3
-with-status-requires-3 c κs = search needs
-
 returns-3 : tie.Need-returns-3
 returns-3 c =
     let c₁ = c .before in let c₂ = c₁ .before in let c₃ = c₂ .before in let c₄ = c₃ .before .before in
@@ -55,13 +31,8 @@ returns-3 c =
     λ x. c .with-status3 .ensures (putCells (a .counter .now) (a .on .now) x)
     ∙ start-bad (a .tables) (a .first .now) (a .entries .now) (a .period .now) (a .offset .now)
     (view (a .self) (putCells (a .counter .now) (a .on .now) x)) (a .t) (a .d)
-    (c₇ .no-caller .ensures) (c₆ .if1 .left) (c₅ .if2 .left) (c₄ .byte-at .ensures) (c₃ .short-at .ensures) (c₂ .is-bad-delay .ensures) (c₁ .if3 .taken)
-
-is-on-requires : tie.Need-is-on-requires
-is-on-requires c κs = search needs
-
-with-status-requires-4 : tie.Need-with-status-requires-4
-with-status-requires-4 c κs = search needs
+    (c₇ .no-caller .ensures) (c₆ .if1 .left) (c₅ .if2 .left) (c₄ .byte-at .ensures) (c₃ .short-at .ensures)
+    (c₂ .is-bad-delay .ensures) (c₁ .if3 .taken)
 
 returns-4 : tie.Need-returns-4
 returns-4 c =
@@ -71,17 +42,9 @@ returns-4 c =
     λ x. c .with-status4 .ensures (putCells (a .counter .now) (a .on .now) x)
     ∙ start-runs (a .tables) (a .first .now) (a .entries .now) (a .period .now) (a .offset .now)
     (view (a .self) (putCells (a .counter .now) (a .on .now) x)) (a .t) (a .d)
-    (c₉ .no-caller .ensures) (c₈ .if1 .left) (c₇ .if2 .left) (c₆ .byte-at .ensures) (c₅ .short-at .ensures) (c₄ .is-bad-delay .ensures) (c₃ .if3 .left)
+    (c₉ .no-caller .ensures) (c₈ .if1 .left) (c₇ .if2 .left) (c₆ .byte-at .ensures) (c₅ .short-at .ensures)
+    (c₄ .is-bad-delay .ensures) (c₃ .if3 .left)
     (c₂ .is-on .ensures) (c₁ .if4 .taken)
-
-byte-at-requires-2 : tie.Need-byte-at-requires-2
-byte-at-requires-2 c κs = search needs
-
-cast-n : tie.Need-cast-n
-cast-n c = search needs
-
-short-at-requires-2 : tie.Need-short-at-requires-2
-short-at-requires-2 c κs = search needs
 
 cast-start-cells : tie.Need-cast-start-cells
 cast-start-cells c =
@@ -94,10 +57,8 @@ start-cells-requires c κs =
     let c₁ = c .before .before .before .before in
     let c₂ = c₁ .before .before .before .before .before .before .before .before .before in
     let c₃ = c₂ .before .before in let c₄ = c₃ .before .before .before in let a = c₄ .args in
-    entries-within (a .tables) (a .first .now) (a .entries .now) (c₄ .pre) (a .t) (c₃ .if2 .left) (c₂ .byte-at .ensures) (c₁ .byte-at2 .ensures)
-
-with-status-requires-5 : tie.Need-with-status-requires-5
-with-status-requires-5 c κs = search needs
+    entries-within (a .tables) (a .first .now) (a .entries .now) (c₄ .pre) (a .t) (c₃ .if2 .left)
+    (c₂ .byte-at .ensures) (c₁ .byte-at2 .ensures)
 
 returns-5 : tie.Need-returns-5
 returns-5 c =
@@ -108,7 +69,8 @@ returns-5 c =
     λ x. c .with-status5 .ensures _
     ∙ start-done (a .tables) (a .first .now) (a .entries .now) (a .period .now) (a .offset .now)
     (view (a .self) (putCells (a .counter .now) (a .on .now) x)) (a .t) (a .d)
-    (c₁₂ .no-caller .ensures) (c₁₁ .if1 .left) (c₁₀ .if2 .left) (c₉ .byte-at .ensures) (c₈ .short-at .ensures) (c₇ .is-bad-delay .ensures) (c₆ .if3 .left)
+    (c₁₂ .no-caller .ensures) (c₁₁ .if1 .left) (c₁₀ .if2 .left) (c₉ .byte-at .ensures) (c₈ .short-at .ensures)
+    (c₇ .is-bad-delay .ensures) (c₆ .if3 .left)
     (c₅ .is-on .ensures) (c₄ .if4 .left) (c₃ .byte-at2 .ensures) (c₂ .short-at2 .ensures)
     (c₁ .start-cells .ensures .0) (c₁ .start-cells .ensures .1 .0) (c₁ .start-cells .ensures .1 .1)
 
@@ -116,24 +78,7 @@ pub start-spec : {M : Type 1} → statement M
 start-spec =
     tie.close
     (tie.spec
-    no-caller-requires
-    with-status-requires
-    returns
-    with-status-requires-2
-    returns-2
-    byte-at-requires
-    cast-from
-    short-at-requires
-    is-bad-delay-requires
-    with-status-requires-3
-    returns-3
-    is-on-requires
-    with-status-requires-4
-    returns-4
-    byte-at-requires-2
-    cast-n
-    short-at-requires-2
-    cast-start-cells
-    start-cells-requires
-    with-status-requires-5
-    returns-5)
+    (λ c κs. search needs) (λ c κs. search needs) returns (λ c κs. search needs) returns-2 (λ c κs. search needs)
+    (λ c. search needs) (λ c κs. search needs) (λ c κs. search needs) (λ c κs. search needs) returns-3
+    (λ c κs. search needs) (λ c κs. search needs) returns-4 (λ c κs. search needs) (λ c. search needs)
+    (λ c κs. search needs) cast-start-cells start-cells-requires (λ c κs. search needs) returns-5)

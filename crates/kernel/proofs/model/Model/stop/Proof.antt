@@ -7,69 +7,45 @@ use borrow.Author.Needs.{needs}
 use Rattle.kernel.proofs.model.Model.stop.Statement.{statement}
 use Rattle.kernel.proofs.model.Model.stop.Tie as tie
 
-no-caller-requires : tie.Need-no-caller-requires
-no-caller-requires c κs = search needs
-
-with-status-requires : tie.Need-with-status-requires
-with-status-requires c κs = search needs
-
 returns : tie.Need-returns
 returns c =
     let c₁ = c .before in let c₂ = c₁ .before in let c₃ = c₂ .before in let a = c₃ .args in
     λ x. c .with-status .ensures (putCells (a .counter .now) (a .on .now) x)
-    ∙ stop-idle (a .tables) (a .first .now) (a .entries .now) (view (a .self) (putCells (a .counter .now) (a .on .now) x)) (a .t)
+    ∙ stop-idle (a .tables) (a .first .now) (a .entries .now)
+    (view (a .self) (putCells (a .counter .now) (a .on .now) x)) (a .t)
     (c₂ .no-caller .ensures) (c₁ .if1 .taken)
-
-with-status-requires-2 : tie.Need-with-status-requires-2
-with-status-requires-2 c κs = search needs
 
 returns-2 : tie.Need-returns-2
 returns-2 c =
     let c₁ = c .before in let c₂ = c₁ .before in let c₃ = c₂ .before in let c₄ = c₃ .before in let a = c₄ .args in
     λ x. c .with-status2 .ensures (putCells (a .counter .now) (a .on .now) x)
-    ∙ stop-none (a .tables) (a .first .now) (a .entries .now) (view (a .self) (putCells (a .counter .now) (a .on .now) x)) (a .t)
+    ∙ stop-none (a .tables) (a .first .now) (a .entries .now)
+    (view (a .self) (putCells (a .counter .now) (a .on .now) x)) (a .t)
     (c₃ .no-caller .ensures) (c₂ .if1 .left) (c₁ .if2 .taken)
-
-byte-at-requires : tie.Need-byte-at-requires
-byte-at-requires c κs = search needs
-
-cast-from : tie.Need-cast-from
-cast-from c = search needs
-
-is-on-requires : tie.Need-is-on-requires
-is-on-requires c κs = search needs
-
-with-status-requires-3 : tie.Need-with-status-requires-3
-with-status-requires-3 c κs = search needs
 
 returns-3 : tie.Need-returns-3
 returns-3 c =
     let c₁ = c .before in let c₂ = c₁ .before in let c₃ = c₂ .before .before in let c₄ = c₃ .before .before in
     let c₅ = c₄ .before in let c₆ = c₅ .before in let c₇ = c₆ .before in let a = c₇ .args in
     λ x. c .with-status3 .ensures (putCells (a .counter .now) (a .on .now) x)
-    ∙ stop-stopped (a .tables) (a .first .now) (a .entries .now) (view (a .self) (putCells (a .counter .now) (a .on .now) x)) (a .t)
-    (c₆ .no-caller .ensures) (c₅ .if1 .left) (c₄ .if2 .left) (c₃ .byte-at .ensures) (c₂ .is-on .ensures) (not-true _ (c₁ .if3 .taken))
-
-byte-at-requires-2 : tie.Need-byte-at-requires-2
-byte-at-requires-2 c κs = search needs
-
-cast-n : tie.Need-cast-n
-cast-n c = search needs
+    ∙ stop-stopped (a .tables) (a .first .now) (a .entries .now)
+    (view (a .self) (putCells (a .counter .now) (a .on .now) x)) (a .t)
+    (c₆ .no-caller .ensures) (c₅ .if1 .left) (c₄ .if2 .left) (c₃ .byte-at .ensures) (c₂ .is-on .ensures)
+    (not-true _ (c₁ .if3 .taken))
 
 stop-counters-requires : tie.Need-stop-counters-requires
 stop-counters-requires c κs =
     let c₁ = c .before in let c₂ = c₁ .before .before .before .before .before in let c₃ = c₂ .before .before in
     let c₄ = c₃ .before .before .before in let a = c₄ .args in
-    entries-within (a .tables) (a .first .now) (a .entries .now) (c₄ .pre) (a .t) (c₃ .if2 .left) (c₂ .byte-at .ensures) (c₁ .byte-at2 .ensures)
+    entries-within (a .tables) (a .first .now) (a .entries .now) (c₄ .pre) (a .t) (c₃ .if2 .left)
+    (c₂ .byte-at .ensures) (c₁ .byte-at2 .ensures)
 
 switch-requires : tie.Need-switch-requires
 switch-requires c κs =
     let c₁ = c .before .before .before in let c₂ = c₁ .before .before .before .before .before in
     let c₃ = c₂ .before .before in let c₄ = c₃ .before .before .before in let a = c₄ .args in
-    entries-within (a .tables) (a .first .now) (a .entries .now) (c₄ .pre) (a .t) (c₃ .if2 .left) (c₂ .byte-at .ensures) (c₁ .byte-at2 .ensures)
-
-with-status-requires-4 : tie.Need-with-status-requires-4
-with-status-requires-4 c κs = search needs
+    entries-within (a .tables) (a .first .now) (a .entries .now) (c₄ .pre) (a .t) (c₃ .if2 .left)
+    (c₂ .byte-at .ensures) (c₁ .byte-at2 .ensures)
 
 returns-4 : tie.Need-returns-4
 returns-4 c =
@@ -77,27 +53,16 @@ returns-4 c =
     let c₅ = c₄ .before in let c₆ = c₅ .before .before in let c₇ = c₆ .before .before in let c₈ = c₇ .before in
     let c₉ = c₈ .before in let c₁₀ = c₉ .before in let a = c₁₀ .args in
     λ x. c .with-status4 .ensures _
-    ∙ stop-done (a .tables) (a .first .now) (a .entries .now) (view (a .self) (putCells (a .counter .now) (a .on .now) x)) (a .t)
-    (c₉ .no-caller .ensures) (c₈ .if1 .left) (c₇ .if2 .left) (c₆ .byte-at .ensures) (c₅ .is-on .ensures) (not-false _ (c₄ .if3 .left))
+    ∙ stop-done (a .tables) (a .first .now) (a .entries .now)
+    (view (a .self) (putCells (a .counter .now) (a .on .now) x)) (a .t)
+    (c₉ .no-caller .ensures) (c₈ .if1 .left) (c₇ .if2 .left) (c₆ .byte-at .ensures) (c₅ .is-on .ensures)
+    (not-false _ (c₄ .if3 .left))
     (c₃ .byte-at2 .ensures) (c₂ .stop-counters .ensures) (c₁ .switch .ensures)
 
 pub stop-spec : {M : Type 1} → statement M
 stop-spec =
     tie.close
     (tie.spec
-    no-caller-requires
-    with-status-requires
-    returns
-    with-status-requires-2
-    returns-2
-    byte-at-requires
-    cast-from
-    is-on-requires
-    with-status-requires-3
-    returns-3
-    byte-at-requires-2
-    cast-n
-    stop-counters-requires
-    switch-requires
-    with-status-requires-4
-    returns-4)
+    (λ c κs. search needs) (λ c κs. search needs) returns (λ c κs. search needs) returns-2 (λ c κs. search needs)
+    (λ c. search needs) (λ c κs. search needs) (λ c κs. search needs) returns-3 (λ c κs. search needs)
+    (λ c. search needs) stop-counters-requires switch-requires (λ c κs. search needs) returns-4)

@@ -1,4 +1,5 @@
--- `tick` meets its contract: the cells, then the matches in table order, then arbitration, which may start a time-triggered task.
+-- `tick` meets its contract: the cells, then the matches in table order, then arbitration, which may start a
+-- time-triggered task.
 use mathlib.Core.Path.{ap, _∙_}
 use Rattle.config.specs.Value.{maxEntries}
 use Rattle.kernel.specs.View.{putCells, putLosses, view, viewPicked}
@@ -7,28 +8,11 @@ use borrow.Author.Needs.{needs}
 use Rattle.kernel.proofs.model.Model.tick.Statement.{statement}
 use Rattle.kernel.proofs.model.Model.tick.Tie as tie
 
-tick-cells-requires : tie.Need-tick-cells-requires
-tick-cells-requires c κs = search needs
-
-still-turning-requires : tie.Need-still-turning-requires
-still-turning-requires c κs = search needs
-
-union-requires : tie.Need-union-requires
-union-requires c κs = search needs
-
 take-matches-requires : tie.Need-take-matches-requires
 take-matches-requires c κs =
     let c₁ = c .before .before .before .before .before in let c₂ = c₁ .before .before .before in let a = c₂ .args in
-    rw (c₁ .tick-cells .ensures .0) (length-marks maxEntries 0 (a .self .turning) (a .compare .now) (a .on .now) (a .counter .now))
-
-arbitrated-requires : tie.Need-arbitrated-requires
-arbitrated-requires c κs = search needs
-
-is-triggered-requires : tie.Need-is-triggered-requires
-is-triggered-requires c κs = search needs
-
-launched-requires : tie.Need-launched-requires
-launched-requires c κs = search needs
+    rw (c₁ .tick-cells .ensures .0)
+    (length-marks maxEntries 0 (a .self .turning) (a .compare .now) (a .on .now) (a .counter .now))
 
 returns : tie.Need-returns
 returns c =
@@ -36,12 +20,11 @@ returns c =
     let c₅ = c₄ .before .before .before in let c₆ = c₅ .before in let c₇ = c₆ .before .before in
     let c₈ = c₇ .before .before .before in let a = c₈ .args in
     λ x. c .launched .ensures _
-    ∙ tick-launched (a .compare .now) (a .entry-rank .now) (a .priority .now) (view (a .self) (putCells (a .counter .now) (a .on .now) (putLosses (a .losses .now) x)))
-    (c₇ .tick-cells .ensures .0) (c₇ .tick-cells .ensures .1 .0) (c₇ .tick-cells .ensures .1 .1) (c₆ .still-turning .ensures) (c₅ .union .ensures)
+    ∙ tick-launched (a .compare .now) (a .entry-rank .now) (a .priority .now)
+    (view (a .self) (putCells (a .counter .now) (a .on .now) (putLosses (a .losses .now) x)))
+    (c₇ .tick-cells .ensures .0) (c₇ .tick-cells .ensures .1 .0) (c₇ .tick-cells .ensures .1 .1)
+    (c₆ .still-turning .ensures) (c₅ .union .ensures)
     (c₄ .take-matches .ensures) (ap viewPicked (c₃ .arbitrated .ensures)) (c₂ .is-triggered .ensures) (c₁ .if1 .taken)
-
-seated-requires : tie.Need-seated-requires
-seated-requires c κs = search needs
 
 returns-2 : tie.Need-returns-2
 returns-2 c =
@@ -49,21 +32,15 @@ returns-2 c =
     let c₅ = c₄ .before .before .before in let c₆ = c₅ .before in let c₇ = c₆ .before .before in
     let c₈ = c₇ .before .before .before in let a = c₈ .args in
     λ x. c .seated .ensures _
-    ∙ tick-done (a .compare .now) (a .entry-rank .now) (a .priority .now) (view (a .self) (putCells (a .counter .now) (a .on .now) (putLosses (a .losses .now) x)))
-    (c₇ .tick-cells .ensures .0) (c₇ .tick-cells .ensures .1 .0) (c₇ .tick-cells .ensures .1 .1) (c₆ .still-turning .ensures) (c₅ .union .ensures)
+    ∙ tick-done (a .compare .now) (a .entry-rank .now) (a .priority .now)
+    (view (a .self) (putCells (a .counter .now) (a .on .now) (putLosses (a .losses .now) x)))
+    (c₇ .tick-cells .ensures .0) (c₇ .tick-cells .ensures .1 .0) (c₇ .tick-cells .ensures .1 .1)
+    (c₆ .still-turning .ensures) (c₅ .union .ensures)
     (c₄ .take-matches .ensures) (ap viewPicked (c₃ .arbitrated .ensures)) (c₂ .is-triggered .ensures) (c₁ .if1 .left)
 
 pub tick-spec : {M : Type 1} → statement M
 tick-spec =
     tie.close
     (tie.spec
-    tick-cells-requires
-    still-turning-requires
-    union-requires
-    take-matches-requires
-    arbitrated-requires
-    is-triggered-requires
-    launched-requires
-    returns
-    seated-requires
-    returns-2)
+    (λ c κs. search needs) (λ c κs. search needs) (λ c κs. search needs) take-matches-requires (λ c κs. search needs)
+    (λ c κs. search needs) (λ c κs. search needs) returns (λ c κs. search needs) returns-2)

@@ -1,4 +1,5 @@
--- `arbitrated` meets its contract: the winner is dispatched where its priority is above the level, and else nothing changes.
+-- `arbitrated` meets its contract: the winner is dispatched where its priority is above the level, and else nothing
+-- changes.
 use Prim.Native.Nat.{ℕ}
 use mathlib.Core.Path.{_≡_, ap}
 use mathlib.Core.Bool.{not}
@@ -15,18 +16,6 @@ use Rattle.kernel.proofs.model.arbiter.arbitrated.Tie as tie
 bid : {u r x : ℕ} → u ≡ x → r ≡ winner u → r ≡ winner x
 bid all won = rw (won, all)
 
-union-requires : tie.Need-union-requires
-union-requires c κs = search needs
-
-winner-requires : tie.Need-winner-requires
-winner-requires c κs = search needs
-
-cast-byte-at : tie.Need-cast-byte-at
-cast-byte-at c = search needs
-
-byte-at-requires : tie.Need-byte-at-requires
-byte-at-requires c κs = search needs
-
 returns : tie.Need-returns
 returns c =
     let c₁ = c .before in let c₂ = c₁ .before .before in let c₃ = c₂ .before in let c₄ = c₃ .before in
@@ -34,15 +23,6 @@ returns c =
     ap pickedOf
     (arbitrated-same (a .priority .now) (core (a .request) (a .started) (a .aside) (a .runner) (a .level))
     (bid (c₃ .union .ensures) (c₂ .winner .ensures)) (c₁ .byte-at .ensures) (c .if1 .taken))
-
-has-requires : tie.Need-has-requires
-has-requires c κs = search needs
-
-without-where-requires : tie.Need-without-where-requires
-without-where-requires c κs = search needs
-
-with-requires : tie.Need-with-requires
-with-requires c κs = search needs
 
 cast-t16 : tie.Need-cast-t16
 cast-t16 c =
@@ -55,7 +35,12 @@ returns-2 c =
     let c₅ = c₄ .before .before in let c₆ = c₅ .before in let c₇ = c₆ .before in let a = c₇ .args in
     ap pickedOf
     (arbitrated-above (a .priority .now) (core (a .request) (a .started) (a .aside) (a .runner) (a .level))
-    (bid (c₆ .union .ensures) (c₅ .winner .ensures)) (c₄ .byte-at .ensures) (c₃ .if1 .left) (ap not (c₂ .has .ensures)) (c₁ .without-where .ensures) (c .with .ensures))
+    (bid (c₆ .union .ensures) (c₅ .winner .ensures)) (c₄ .byte-at .ensures) (c₃ .if1 .left)
+    (ap not (c₂ .has .ensures)) (c₁ .without-where .ensures) (c .with .ensures))
 
 pub arbitrated-spec : {M : Type 1} → statement M
-arbitrated-spec = tie.close (tie.spec union-requires winner-requires cast-byte-at byte-at-requires returns has-requires without-where-requires with-requires cast-t16 returns-2)
+arbitrated-spec =
+    tie.close
+    (tie.spec
+    (λ c κs. search needs) (λ c κs. search needs) (λ c. search needs) (λ c κs. search needs) returns
+    (λ c κs. search needs) (λ c κs. search needs) (λ c κs. search needs) cast-t16 returns-2)

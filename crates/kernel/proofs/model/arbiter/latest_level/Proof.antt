@@ -6,12 +6,6 @@ use borrow.Author.Needs.{needs}
 use Rattle.kernel.proofs.model.arbiter.latest_level.Statement.{statement}
 use Rattle.kernel.proofs.model.arbiter.latest_level.Tie as tie
 
-top-requires : tie.Need-top-requires
-top-requires c κs = search needs
-
-top-requires-2 : tie.Need-top-requires-2
-top-requires-2 c κs = search needs
-
 returns : tie.Need-returns
 returns c =
     let c₁ = c .before in let c₂ = c₁ .before .before in let a = c₂ .args in
@@ -23,4 +17,4 @@ returns-2 c =
     rw (ne-eqb (topRow (a .holder)) noRank (rw (c₁ .top2 .ensures) at (c .if1 .left))) (c₂ .top .ensures)
 
 pub latest-level-spec : {M : Type 1} → statement M
-latest-level-spec = tie.close (tie.spec top-requires top-requires-2 returns returns-2)
+latest-level-spec = tie.close (tie.spec (λ c κs. search needs) (λ c κs. search needs) returns returns-2)

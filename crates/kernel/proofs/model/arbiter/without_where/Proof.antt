@@ -3,9 +3,6 @@ use borrow.Author.Needs.{needs}
 use Rattle.kernel.proofs.model.arbiter.without_where.Statement.{statement}
 use Rattle.kernel.proofs.model.arbiter.without_where.Tie as tie
 
-without-requires : tie.Need-without-requires
-without-requires c κs = search needs
-
 returns : tie.Need-returns
 returns c = rw (c .if1 .taken) (c .before .without .ensures)
 
@@ -13,4 +10,4 @@ returns-2 : tie.Need-returns-2
 returns-2 c = rw (c .if1 .left)
 
 pub without-where-spec : {M : Type 1} → statement M
-without-where-spec = tie.close (tie.spec without-requires returns returns-2)
+without-where-spec = tie.close (tie.spec (λ c κs. search needs) returns returns-2)

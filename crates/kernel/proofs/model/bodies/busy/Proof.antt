@@ -5,19 +5,14 @@ use borrow.Author.Needs.{needs}
 use Rattle.kernel.proofs.model.bodies.busy.Statement.{statement}
 use Rattle.kernel.proofs.model.bodies.busy.Tie as tie
 
-has-requires : tie.Need-has-requires
-has-requires c κs = search needs
-
-has-requires-2 : tie.Need-has-requires-2
-has-requires-2 c κs = search needs
-
 returns : tie.Need-returns
 returns c = let a = c .before .before .args in
     or-first (has (a .request) (a .rank)) (has (a .begun) (a .rank)) (c .before .has .ensures) (c .if1 .taken)
 
 returns-2 : tie.Need-returns-2
 returns-2 c = let a = c .before .before .before .args in
-    or-second (has (a .request) (a .rank)) (has (a .begun) (a .rank)) (c .before .before .has .ensures) (c .before .if1 .left) (c .has2 .ensures)
+    or-second (has (a .request) (a .rank)) (has (a .begun) (a .rank)) (c .before .before .has .ensures)
+    (c .before .if1 .left) (c .has2 .ensures)
 
 pub busy-spec : {M : Type 1} → statement M
-busy-spec = tie.close (tie.spec has-requires has-requires-2 returns returns-2)
+busy-spec = tie.close (tie.spec (λ c κs. search needs) (λ c κs. search needs) returns returns-2)

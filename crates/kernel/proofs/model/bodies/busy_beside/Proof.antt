@@ -5,9 +5,6 @@ use borrow.Author.Needs.{needs}
 use Rattle.kernel.proofs.model.bodies.busy_beside.Statement.{statement}
 use Rattle.kernel.proofs.model.bodies.busy_beside.Tie as tie
 
-busy-requires : tie.Need-busy-requires
-busy-requires c κs = search needs
-
 returns : tie.Need-returns
 returns c =
     let c₁ = c .before in let c₂ = c₁ .before in let a = c₂ .args in
@@ -19,4 +16,4 @@ returns-2 c =
     rw (eq-eqb (a .rank) (a .runner) (c .if1 .left), and-false)
 
 pub busy-beside-spec : {M : Type 1} → statement M
-busy-beside-spec = tie.close (tie.spec busy-requires returns returns-2)
+busy-beside-spec = tie.close (tie.spec (λ c κs. search needs) returns returns-2)

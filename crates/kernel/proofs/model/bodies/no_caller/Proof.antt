@@ -3,8 +3,5 @@ use borrow.Author.Needs.{needs}
 use Rattle.kernel.proofs.model.bodies.no_caller.Statement.{statement}
 use Rattle.kernel.proofs.model.bodies.no_caller.Tie as tie
 
-returns : tie.Need-returns
-returns c = search needs
-
 pub no-caller-spec : {M : Type 1} → statement M
-no-caller-spec = tie.close (tie.spec returns)
+no-caller-spec = tie.close (tie.spec (λ c. search needs))

@@ -9,19 +9,15 @@ use borrow.Author.Needs.{needs}
 use Rattle.kernel.proofs.model.bodies.no_task_calls.Statement.{statement}
 use Rattle.kernel.proofs.model.bodies.no_task_calls.Tie as tie
 
-no-caller-requires : tie.Need-no-caller-requires
-no-caller-requires c κs = search needs
-
-has-requires : tie.Need-has-requires
-has-requires c κs = search needs
-
 returns : tie.Need-returns
 returns c = let a = c .before .before .args in
-    or-first (eqb (a .runner) noRank || eqb (a .level) executionLevel) (has (a .isrs) (a .runner)) (c .before .no-caller .ensures) (c .if1 .taken)
+    or-first (eqb (a .runner) noRank || eqb (a .level) executionLevel) (has (a .isrs) (a .runner))
+    (c .before .no-caller .ensures) (c .if1 .taken)
 
 returns-2 : tie.Need-returns-2
 returns-2 c = let a = c .before .before .before .args in
-    or-second (eqb (a .runner) noRank || eqb (a .level) executionLevel) (has (a .isrs) (a .runner)) (c .before .before .no-caller .ensures) (c .before .if1 .left) (c .has .ensures)
+    or-second (eqb (a .runner) noRank || eqb (a .level) executionLevel) (has (a .isrs) (a .runner))
+    (c .before .before .no-caller .ensures) (c .before .if1 .left) (c .has .ensures)
 
 pub no-task-calls-spec : {M : Type 1} → statement M
-no-task-calls-spec = tie.close (tie.spec no-caller-requires has-requires returns returns-2)
+no-task-calls-spec = tie.close (tie.spec (λ c κs. search needs) (λ c κs. search needs) returns returns-2)

@@ -6,24 +6,6 @@ use borrow.Author.Needs.{needs}
 use Rattle.kernel.proofs.model.cells.lose.Statement.{statement}
 use Rattle.kernel.proofs.model.cells.lose.Tie as tie
 
-mul-one-more : tie.Need-mul-one-more
-mul-one-more c = search needs
-
-slice-read-one-more : tie.Need-slice-read-one-more
-slice-read-one-more c = search needs
-
-one-more-requires : tie.Need-one-more-requires
-one-more-requires c κs = search needs
-
-mul-losses : tie.Need-mul-losses
-mul-losses c = search needs
-
-slice-write-losses : tie.Need-slice-write-losses
-slice-write-losses c = search needs
-
-same-length : tie.Need-same-length
-same-length c = search needs
-
 returns : tie.Need-returns
 returns c = rw (c .one-more .ensures)
 
@@ -34,11 +16,5 @@ pub lose-spec : {M : Type 1} → statement M
 lose-spec =
     tie.close
     (tie.spec
-    mul-one-more
-    slice-read-one-more
-    one-more-requires
-    mul-losses
-    slice-write-losses
-    same-length
-    returns
-    returns-2)
+    (λ c. search needs) (λ c. search needs) (λ c κs. search needs) (λ c. search needs) (λ c. search needs)
+    (λ c. search needs) returns returns-2)

@@ -4,14 +4,8 @@ use borrow.Author.Needs.{needs}
 use Rattle.kernel.proofs.model.cells.one_more_where.Statement.{statement}
 use Rattle.kernel.proofs.model.cells.one_more_where.Tie as tie
 
-one-more-requires : tie.Need-one-more-requires
-one-more-requires c κs = search needs
-
 returns : tie.Need-returns
 returns c = rw (c .before .if1 .taken) (c .one-more .ensures)
 
-returns-2 : tie.Need-returns-2
-returns-2 c = search needs
-
 pub one-more-where-spec : {M : Type 1} → statement M
-one-more-where-spec = tie.close (tie.spec one-more-requires returns returns-2)
+one-more-where-spec = tie.close (tie.spec (λ c κs. search needs) returns (λ c. search needs))

@@ -20,24 +20,13 @@ abbrev μ-loop : tie.MeasureT-loop
 loop-holds : tie.Need-loop-holds Inv-loop μ-loop
 loop-holds c = (omega arith, refl)
 
-mul-switch : tie.Need-mul-switch Inv-loop μ-loop
-mul-switch c = omega arith
-
-element-copy-out-switch : tie.Need-element-copy-out-switch Inv-loop μ-loop
-element-copy-out-switch c = omega arith
-
-add-e : tie.Need-add-e Inv-loop μ-loop
-add-e c = omega arith
-
-loop-less : tie.Need-loop-less Inv-loop μ-loop
-loop-less c = omega arith
-
 loop-again : tie.Need-loop-again Inv-loop μ-loop
 loop-again c =
     let c₁ = c .before .before in let c₂ = c₁ .before in
     let a = c₂ .before .args in let l = c₂ .loop in (
       omega arith,
-      some-turn (λ i. hasTurn (getD (a .on .now) i 0)) maxEntries (l .e) (l .found) (c₁ .loop-test .taken) {b′ = c .if1 .found}
+      some-turn (λ i. hasTurn (getD (a .on .now) i 0)) maxEntries (l .e) (l .found)
+          (c₁ .loop-test .taken) {b′ = c .if1 .found}
           (⊎-elim (λ w. rw (w .0 .taken) (w .1 ∙ w .0 .taken)) (λ w. rw (w .0 .left) (w .1)) (c .if1 .came))
           ∙ l .inv .1,
     )
@@ -48,4 +37,7 @@ returns c = let a = c .before .before .args in let l = c .before .loop in
 
 pub some-turn-spec : {M : Type 1} → statement M
 some-turn-spec =
-    tie.close (tie.spec Inv-loop μ-loop loop-holds mul-switch element-copy-out-switch add-e loop-less loop-again returns)
+    tie.close
+    (tie.spec
+    Inv-loop μ-loop loop-holds (λ c. omega arith) (λ c. omega arith) (λ c. omega arith) (λ c. omega arith) loop-again
+    returns)

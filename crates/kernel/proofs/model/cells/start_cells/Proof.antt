@@ -18,48 +18,21 @@ Inv-loop turning from count period delay offset counter₀ on₀ until some₀ e
     (from ≤ e)
     × (e ≤ until)
     × (some || someLong (until - e) e delay offset ≡ turning || someLong count from delay offset)
-    × (countersStarted (until - e) e period delay offset counter ≡ countersStarted count from period delay offset counter₀)
+    × (countersStarted (until - e) e period delay offset counter ≡ countersStarted count from period delay offset
+    counter₀)
     × (switchesStarted (until - e) e delay offset on ≡ switchesStarted count from delay offset on₀)
 
 abbrev μ-loop : tie.MeasureT-loop
 μ-loop turning from count period delay offset counter₀ on₀ until some₀ e₀ counter on some e = until - e
 
-add-until : tie.Need-add-until Inv-loop μ-loop
-add-until c = omega arith
-
 loop-holds : tie.Need-loop-holds Inv-loop μ-loop
-loop-holds c = let a = c .args in
-    (omega arith, omega arith, rw (span (a .from) (a .count)), rw (span (a .from) (a .count)), rw (span (a .from) (a .count)))
-
-mul-start : tie.Need-mul-start Inv-loop μ-loop
-mul-start c = omega arith
-
-element-copy-out-start : tie.Need-element-copy-out-start Inv-loop μ-loop
-element-copy-out-start c = omega arith
-
-start-requires : tie.Need-start-requires Inv-loop μ-loop
-start-requires c κs = search needs
-
-mul-counter : tie.Need-mul-counter Inv-loop μ-loop
-mul-counter c = omega arith
-
-element-write-counter : tie.Need-element-write-counter Inv-loop μ-loop
-element-write-counter c = omega arith
-
-switch-for-requires : tie.Need-switch-for-requires Inv-loop μ-loop
-switch-for-requires c κs = search needs
-
-mul-on : tie.Need-mul-on Inv-loop μ-loop
-mul-on c = omega arith
-
-element-write-on : tie.Need-element-write-on Inv-loop μ-loop
-element-write-on c = omega arith
-
-add-e : tie.Need-add-e Inv-loop μ-loop
-add-e c = omega arith
-
-loop-less : tie.Need-loop-less Inv-loop μ-loop
-loop-less c = omega arith
+loop-holds c = let a = c .args in (
+  omega arith,
+  omega arith,
+  rw (span (a .from) (a .count)),
+  rw (span (a .from) (a .count)),
+  rw (span (a .from) (a .count)),
+)
 
 loop-again : tie.Need-loop-again Inv-loop μ-loop
 loop-again c =
@@ -68,21 +41,27 @@ loop-again c =
     let turn = ap (λ (k : Cell). k .turn) (c₂ .start .ensures) in (
       omega arith,
       omega arith,
-      some-turn (λ i. long (a .delay + getD (a .offset .now) i 0)) (a .from + a .count) (l .e) (l .some) (c₃ .loop-test .taken) {b′ = c .if1 .some}
+      some-turn (λ i. long (a .delay + getD (a .offset .now) i 0)) (a .from + a .count) (l .e) (l .some)
+          (c₃ .loop-test .taken) {b′ = c .if1 .some}
           (⊎-elim (λ w. rw (w .0 .taken) (w .1 ∙ w .0 .taken)) (λ w. rw (w .0 .left) (w .1 ∙ turn)) (c .if1 .came))
           ∙ l .inv .2,
-      started-turn (a .from + a .count) (l .e) (a .period) (a .delay) (a .offset .now) (l .counter) (c₃ .loop-test .taken) (ap (λ (k : Cell). k .counter) (c₂ .start .ensures))
+      started-turn (a .from + a .count) (l .e) (a .period) (a .delay) (a .offset .now) (l .counter)
+          (c₃ .loop-test .taken) (ap (λ (k : Cell). k .counter) (c₂ .start .ensures))
           ∙ l .inv .3,
-      switched-on-turn (a .from + a .count) (l .e) (a .delay) (a .offset .now) (l .on) (c₃ .loop-test .taken) (c₁ .switch-for .ensures ∙ ap (switchFor true) turn)
+      switched-on-turn (a .from + a .count) (l .e) (a .delay) (a .offset .now) (l .on) (c₃ .loop-test .taken)
+          (c₁ .switch-for .ensures ∙ ap (switchFor true) turn)
           ∙ l .inv .4,
     )
 
 returns : tie.Need-returns Inv-loop μ-loop
 returns c = let a = c .before .before .args in let l = c .before .loop in (
-  sym (some-end (λ i. long (a .delay + getD (a .offset .now) i 0)) (a .from + a .count) (l .e) (l .some) (c .loop-test .left)) ∙ l .inv .2,
+  sym (some-end (λ i. long (a .delay + getD (a .offset .now) i 0)) (a .from + a .count) (l .e) (l .some)
+      (c .loop-test .left)) ∙ l .inv .2,
   (
-    sym (started-end (a .from + a .count) (l .e) (a .period) (a .delay) (a .offset .now) (l .counter) (c .loop-test .left)) ∙ l .inv .3,
-    sym (switched-on-end (a .from + a .count) (l .e) (a .delay) (a .offset .now) (l .on) (c .loop-test .left)) ∙ l .inv .4,
+    sym (started-end (a .from + a .count) (l .e) (a .period) (a .delay) (a .offset .now) (l .counter)
+        (c .loop-test .left)) ∙ l .inv .3,
+    sym (switched-on-end (a .from + a .count) (l .e) (a .delay) (a .offset .now) (l .on) (c .loop-test .left))
+        ∙ l .inv .4,
   ),
 )
 
@@ -90,19 +69,6 @@ pub start-cells-spec : {M : Type 1} → statement M
 start-cells-spec =
     tie.close
     (tie.spec
-    Inv-loop
-    μ-loop
-    add-until
-    loop-holds
-    mul-start
-    element-copy-out-start
-    start-requires
-    mul-counter
-    element-write-counter
-    switch-for-requires
-    mul-on
-    element-write-on
-    add-e
-    loop-less
-    loop-again
-    returns)
+    Inv-loop μ-loop (λ c. omega arith) loop-holds (λ c. omega arith) (λ c. omega arith) (λ c κs. search needs)
+    (λ c. omega arith) (λ c. omega arith) (λ c κs. search needs) (λ c. omega arith) (λ c. omega arith)
+    (λ c. omega arith) (λ c. omega arith) loop-again returns)

@@ -3,9 +3,6 @@ use borrow.Author.Needs.{needs}
 use Rattle.kernel.proofs.model.cells.still_turning.Statement.{statement}
 use Rattle.kernel.proofs.model.cells.still_turning.Tie as tie
 
-some-turn-requires : tie.Need-some-turn-requires
-some-turn-requires c κs = search needs
-
 returns : tie.Need-returns
 returns c =
     let c₁ = c .before in
@@ -16,9 +13,4 @@ returns-2 c =
     rw (c .if1 .left)
 
 pub still-turning-spec : {M : Type 1} → statement M
-still-turning-spec =
-    tie.close
-    (tie.spec
-    some-turn-requires
-    returns
-    returns-2)
+still-turning-spec = tie.close (tie.spec (λ c κs. search needs) returns returns-2)

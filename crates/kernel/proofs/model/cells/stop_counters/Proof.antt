@@ -16,23 +16,8 @@ Inv-loop from count counter₀ until e₀ counter e =
 abbrev μ-loop : tie.MeasureT-loop
 μ-loop from count counter₀ until e₀ counter e = until - e
 
-add-until : tie.Need-add-until Inv-loop μ-loop
-add-until c = omega arith
-
 loop-holds : tie.Need-loop-holds Inv-loop μ-loop
 loop-holds c = let a = c .args in (omega arith, (omega arith, rw (span (a .from) (a .count))))
-
-mul-counter : tie.Need-mul-counter Inv-loop μ-loop
-mul-counter c = omega arith
-
-element-write-counter : tie.Need-element-write-counter Inv-loop μ-loop
-element-write-counter c = omega arith
-
-add-e : tie.Need-add-e Inv-loop μ-loop
-add-e c = omega arith
-
-loop-less : tie.Need-loop-less Inv-loop μ-loop
-loop-less c = omega arith
 
 loop-again : tie.Need-loop-again Inv-loop μ-loop
 loop-again c = let a = c .before .before .args in let l = c .before .loop in (
@@ -53,13 +38,5 @@ pub stop-counters-spec : {M : Type 1} → statement M
 stop-counters-spec =
     tie.close
     (tie.spec
-    Inv-loop
-    μ-loop
-    add-until
-    loop-holds
-    mul-counter
-    element-write-counter
-    add-e
-    loop-less
-    loop-again
-    returns)
+    Inv-loop μ-loop (λ c. omega arith) loop-holds (λ c. omega arith) (λ c. omega arith) (λ c. omega arith)
+    (λ c. omega arith) loop-again returns)

@@ -1,5 +1,5 @@
--- `take_matches` meets its contract: what is left to do at the group from e on is what the definition does with the marks and
--- ranks from there on.
+-- `take_matches` meets its contract: what is left to do at the group from e on is what the definition does with the
+-- marks and ranks from there on.
 use Prim.Native.Nat.{ℕ, _+_, _*_, _-_, _≤_}
 use mathlib.Core.Path.{_≡_, sym, refl, _∙_}
 use native.Mathlib.Omega.{arith}
@@ -36,9 +36,6 @@ take-group-requires c κs = let l = c .before .before .loop in
 add-e : tie.Need-add-e Inv-loop μ-loop
 add-e c = omega (arith, c .before .before .before .loop .inv .0 .1 .reached)
 
-loop-less : tie.Need-loop-less Inv-loop μ-loop
-loop-less c = omega arith
-
 loop-again : tie.Need-loop-again Inv-loop μ-loop
 loop-again c =
     let k = c .before .before .before in
@@ -47,7 +44,8 @@ loop-again c =
     let l = k .loop in
     let g = l .inv .0 in (
       (g .0 + 1, record { at = omega (arith, g .1 .at); reached = omega (arith, g .1 .at) }),
-      group-turn (a .begun) (a .matched .now) (a .ranks .now) (l .e) (omega (arith, g .1 .at, s .pre)) (dueWith (l .word) (l .losses)) (c .take-group .ensures)
+      group-turn (a .begun) (a .matched .now) (a .ranks .now) (l .e) (omega (arith, g .1 .at, s .pre))
+          (dueWith (l .word) (l .losses)) (c .take-group .ensures)
           ∙ l .inv .1,
     )
 
@@ -55,18 +53,12 @@ returns : tie.Need-returns Inv-loop μ-loop
 returns c = let s = c .before .before in
     let a = s .args in
     let l = c .before .loop in
-    sym (groups-end (a .begun) (a .matched .now) (a .ranks .now) (l .e) (omega (arith, s .pre, c .loop-test .left)) (dueWith (l .word) (l .losses)))
+    sym (groups-end (a .begun) (a .matched .now) (a .ranks .now) (l .e) (omega (arith, s .pre, c .loop-test .left))
+    (dueWith (l .word) (l .losses)))
     ∙ l .inv .1
 
 pub take-matches-spec : {M : Type 1} → statement M
 take-matches-spec =
     tie.close
     (tie.spec
-    Inv-loop
-    μ-loop
-    loop-holds
-    take-group-requires
-    add-e
-    loop-less
-    loop-again
-    returns)
+    Inv-loop μ-loop loop-holds take-group-requires add-e (λ c. omega arith) loop-again returns)

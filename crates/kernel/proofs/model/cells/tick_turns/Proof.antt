@@ -1,4 +1,5 @@
--- `tick_turns` meets its contract: the invariant is `Ticking`, with turns to pass, and beside it what is left to do of the switches.
+-- `tick_turns` meets its contract: the invariant is `Ticking`, with turns to pass, and beside it what is left to do
+-- of the switches.
 use Prim.Native.Nat.{_+_, _-_}
 use mathlib.Core.Bool.{true}
 use mathlib.Core.Path.{_≡_, refl, sym, ap, _∙_}
@@ -24,54 +25,6 @@ abbrev μ-loop : tie.MeasureT-loop
 loop-holds : tie.Need-loop-holds Inv-loop μ-loop
 loop-holds c = let a = c .args in (ticking-start true (a .compare .now) (a .on .now) (a .counter .now), refl)
 
-mul-switch : tie.Need-mul-switch Inv-loop μ-loop
-mul-switch c = omega arith
-
-element-copy-out-switch : tie.Need-element-copy-out-switch Inv-loop μ-loop
-element-copy-out-switch c = omega arith
-
-mul-of : tie.Need-mul-of Inv-loop μ-loop
-mul-of c = omega arith
-
-element-copy-out-of : tie.Need-element-copy-out-of Inv-loop μ-loop
-element-copy-out-of c = omega arith
-
-mul-of-2 : tie.Need-mul-of-2 Inv-loop μ-loop
-mul-of-2 c = omega arith
-
-element-copy-out-of-2 : tie.Need-element-copy-out-of-2 Inv-loop μ-loop
-element-copy-out-of-2 c = omega arith
-
-of-requires : tie.Need-of-requires Inv-loop μ-loop
-of-requires c κs = search needs
-
-tick-requires : tie.Need-tick-requires Inv-loop μ-loop
-tick-requires c κs = search needs
-
-mul-counter : tie.Need-mul-counter Inv-loop μ-loop
-mul-counter c = omega arith
-
-element-write-counter : tie.Need-element-write-counter Inv-loop μ-loop
-element-write-counter c = omega arith
-
-switch-for-requires : tie.Need-switch-for-requires Inv-loop μ-loop
-switch-for-requires c κs = search needs
-
-mul-on : tie.Need-mul-on Inv-loop μ-loop
-mul-on c = omega arith
-
-element-write-on : tie.Need-element-write-on Inv-loop μ-loop
-element-write-on c = omega arith
-
-array-write-matched : tie.Need-array-write-matched Inv-loop μ-loop
-array-write-matched c = omega arith
-
-add-e : tie.Need-add-e Inv-loop μ-loop
-add-e c = omega arith
-
-loop-less : tie.Need-loop-less Inv-loop μ-loop
-loop-less c = omega arith
-
 loop-again : tie.Need-loop-again Inv-loop μ-loop
 loop-again c =
     let c₁ = c .before in let c₂ = c₁ .before in let c₃ = c₂ .before .before .before .before in let c₄ = c₃ .before in
@@ -79,7 +32,8 @@ loop-again c =
     let l = c₄ .loop in
     let n = c₁ .tick .ensures ∙ ap tickCell (c₂ .of .ensures) in (
       ticking-switched true (a .compare .now) (a .on .now) (a .counter .now) (l .on) _ _ (l .e + 1)
-          (ticking-turn true (a .compare .now) (a .on .now) (a .counter .now) (l .on) (l .counter) (l .matched) (l .e) (l .inv .0) (c₃ .loop-test .taken) n)
+          (ticking-turn true (a .compare .now) (a .on .now) (a .counter .now) (l .on) (l .counter) (l .matched) (l .e)
+          (l .inv .0) (c₃ .loop-test .taken) n)
           (l .e) (c .switch-for .result) (omega arith),
       switches-turn maxEntries (l .e) (a .compare .now) (l .counter) (l .on) (c₃ .loop-test .taken)
           (c .switch-for .ensures ∙ ap (λ (k : Cell). switchFor (isOn (getD (l .on) (l .e) 0)) (k .turn)) n)
@@ -90,7 +44,8 @@ loop-again c =
 returns : tie.Need-returns Inv-loop μ-loop
 returns c =
     let a = c .before .before .args in let l = c .before .loop in
-    let ended = ticking-end true (a .compare .now) (a .on .now) (a .counter .now) (l .on) (l .counter) (l .matched) (l .e) (l .inv .0) (c .loop-test .left) in (
+    let ended = ticking-end true (a .compare .now) (a .on .now) (a .counter .now) (l .on) (l .counter) (l .matched)
+    (l .e) (l .inv .0) (c .loop-test .left) in (
       ended .0,
       (
         ended .1,
@@ -102,24 +57,7 @@ pub tick-turns-spec : {M : Type 1} → statement M
 tick-turns-spec =
     tie.close
     (tie.spec
-    Inv-loop
-    μ-loop
-    loop-holds
-    mul-switch
-    element-copy-out-switch
-    mul-of
-    element-copy-out-of
-    mul-of-2
-    element-copy-out-of-2
-    of-requires
-    tick-requires
-    mul-counter
-    element-write-counter
-    switch-for-requires
-    mul-on
-    element-write-on
-    array-write-matched
-    add-e
-    loop-less
-    loop-again
-    returns)
+    Inv-loop μ-loop loop-holds (λ c. omega arith) (λ c. omega arith) (λ c. omega arith) (λ c. omega arith)
+    (λ c. omega arith) (λ c. omega arith) (λ c κs. search needs) (λ c κs. search needs) (λ c. omega arith)
+    (λ c. omega arith) (λ c κs. search needs) (λ c. omega arith) (λ c. omega arith) (λ c. omega arith)
+    (λ c. omega arith) (λ c. omega arith) loop-again returns)

@@ -5,9 +5,6 @@ use borrow.Author.Needs.{needs}
 use Rattle.kernel.proofs.model.events.no_task.Statement.{statement}
 use Rattle.kernel.proofs.model.events.no_task.Tie as tie
 
-has-requires : tie.Need-has-requires
-has-requires c κs = search needs
-
 returns : tie.Need-returns
 returns c = rw (eq-eqb (c .before .args .rank) noRank (c .if1 .taken))
 
@@ -15,4 +12,4 @@ returns-2 : tie.Need-returns-2
 returns-2 c = rw (c .has .ensures, ne-eqb (c .before .before .args .rank) noRank (c .before .if1 .left))
 
 pub no-task-spec : {M : Type 1} → statement M
-no-task-spec = tie.close (tie.spec has-requires returns returns-2)
+no-task-spec = tie.close (tie.spec (λ c κs. search needs) returns returns-2)

@@ -7,12 +7,6 @@ use borrow.Author.Needs.{needs}
 use Rattle.kernel.proofs.model.events.resumes.Statement.{statement}
 use Rattle.kernel.proofs.model.events.resumes.Tie as tie
 
-has-requires : tie.Need-has-requires
-has-requires c κs = search needs
-
-any-set-requires : tie.Need-any-set-requires
-any-set-requires c κs = search needs
-
 returns : tie.Need-returns
 returns c = rw (sym (c .before .before .has .ensures) ∙ c .before .if1 .taken) (c .any-set .ensures)
 
@@ -21,4 +15,4 @@ returns-2 c = let a = c .before .before .args in
     and-first (has (a .aside) (a .rank)) (anySet (a .bits) (a .mask)) (c .before .has .ensures) (c .if1 .left)
 
 pub resumes-spec : {M : Type 1} → statement M
-resumes-spec = tie.close (tie.spec has-requires any-set-requires returns returns-2)
+resumes-spec = tie.close (tie.spec (λ c κs. search needs) (λ c κs. search needs) returns returns-2)

@@ -3,9 +3,6 @@ use borrow.Author.Needs.{needs}
 use Rattle.kernel.proofs.model.events.with_where.Statement.{statement}
 use Rattle.kernel.proofs.model.events.with_where.Tie as tie
 
-with-requires : tie.Need-with-requires
-with-requires c κs = search needs
-
 returns : tie.Need-returns
 returns c = rw (c .if1 .taken) (c .before .with .ensures)
 
@@ -13,4 +10,4 @@ returns-2 : tie.Need-returns-2
 returns-2 c = rw (c .if1 .left)
 
 pub with-where-spec : {M : Type 1} → statement M
-with-where-spec = tie.close (tie.spec with-requires returns returns-2)
+with-where-spec = tie.close (tie.spec (λ c κs. search needs) returns returns-2)

@@ -6,9 +6,6 @@ use Rattle.plan.proofs.Stored.{getD-any}
 use Rattle.kernel.proofs.model.lookup.byte_at.Statement.{statement}
 use Rattle.kernel.proofs.model.lookup.byte_at.Tie as tie
 
-shared-slice-read-result : tie.Need-shared-slice-read-result
-shared-slice-read-result c = search needs
-
 returns : tie.Need-returns
 returns c = let a = c .before .before .args in getD-any (a .row .now) (a .i) 0 (a .past) (c .before .if1 .taken)
 
@@ -16,4 +13,4 @@ returns-2 : tie.Need-returns-2
 returns-2 c = let a = c .before .args in sym (List·getD-eq-default (a .row .now) (a .past) (c .if1 .left))
 
 pub byte-at-spec : {M : Type 1} → statement M
-byte-at-spec = tie.close (tie.spec shared-slice-read-result returns returns-2)
+byte-at-spec = tie.close (tie.spec (λ c. search needs) returns returns-2)

@@ -9,15 +9,6 @@ use borrow.Author.Needs.{needs}
 use Rattle.kernel.proofs.model.resources.is_latest.Statement.{statement}
 use Rattle.kernel.proofs.model.resources.is_latest.Tie as tie
 
-top-requires : tie.Need-top-requires
-top-requires c κs = search needs
-
-top-requires-2 : tie.Need-top-requires-2
-top-requires-2 c κs = search needs
-
-cast-result : tie.Need-cast-result
-cast-result c = search needs
-
 returns : tie.Need-returns
 returns c =
     let c₁ = c .before in let c₂ = c₁ .before in let c₃ = c₂ .before in let a = c₃ .args in
@@ -26,7 +17,11 @@ returns c =
 returns-2 : tie.Need-returns-2
 returns-2 c =
     let c₁ = c .before in let c₂ = c₁ .before in let a = c₂ .args in
-    and-first (eqb (topRow (a .holder)) (a .rank)) _ (ap (λ (h : ℕ). eqb h (a .rank)) (c₁ .top .ensures)) (ne-eqb (c₁ .top .result) (a .rank) (c .if1 .left))
+    and-first (eqb (topRow (a .holder)) (a .rank)) _
+    (ap (λ (h : ℕ). eqb h (a .rank)) (c₁ .top .ensures)) (ne-eqb (c₁ .top .result) (a .rank) (c .if1 .left))
 
 pub is-latest-spec : {M : Type 1} → statement M
-is-latest-spec = tie.close (tie.spec top-requires top-requires-2 cast-result returns returns-2)
+is-latest-spec =
+    tie.close
+    (tie.spec
+    (λ c κs. search needs) (λ c κs. search needs) (λ c. search needs) returns returns-2)

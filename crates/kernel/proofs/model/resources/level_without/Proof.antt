@@ -5,15 +5,6 @@ use borrow.Author.Needs.{needs}
 use Rattle.kernel.proofs.model.resources.level_without.Statement.{statement}
 use Rattle.kernel.proofs.model.resources.level_without.Tie as tie
 
-byte-at-requires : tie.Need-byte-at-requires
-byte-at-requires c κs = search needs
-
-second-requires : tie.Need-second-requires
-second-requires c κs = search needs
-
-second-requires-2 : tie.Need-second-requires-2
-second-requires-2 c κs = search needs
-
 returns : tie.Need-returns
 returns c =
     let c₁ = c .before in let c₂ = c₁ .before in let c₃ = c₂ .before .before in
@@ -28,4 +19,6 @@ returns-2 c =
 
 pub level-without-spec : {M : Type 1} → statement M
 level-without-spec =
-    tie.close (tie.spec byte-at-requires second-requires second-requires-2 returns returns-2)
+    tie.close
+    (tie.spec
+    (λ c κs. search needs) (λ c κs. search needs) (λ c κs. search needs) returns returns-2)

@@ -5,11 +5,8 @@ use borrow.Author.Needs.{needs}
 use Rattle.kernel.proofs.model.tables.is_on.Statement.{statement}
 use Rattle.kernel.proofs.model.tables.is_on.Tie as tie
 
-short-at-requires : tie.Need-short-at-requires
-short-at-requires c κs = search needs
-
 returns : tie.Need-returns
 returns c = ap isOn (c .short-at .ensures)
 
 pub is-on-spec : {M : Type 1} → statement M
-is-on-spec = tie.close (tie.spec short-at-requires returns)
+is-on-spec = tie.close (tie.spec (λ c κs. search needs) returns)
