@@ -4,10 +4,11 @@
 use Prim.Native.Nat.{ℕ}
 use mathlib.Core.List.{List}
 use Rattle.kernel.specs.declared.model.Picked.{Picked}
+use Rattle.kernel.specs.declared.model.Registers.{Registers}
+use Rattle.kernel.specs.declared.model.Step.{Step}
 use Rattle.kernel.specs.declared.model.Model.{Model}
 use Rattle.kernel.specs.declared.model.Outcome.{Outcome}
 use Rattle.machine.specs.Model as Machine
-use Rattle.machine.specs.Machine.{unstarted}
 
 -- the words, who runs and at which level
 abbrev pub core : ℕ → ℕ → ℕ → ℕ → ℕ → Machine.Core
@@ -30,8 +31,7 @@ pickedOf p =
       begun = p .begun;
     }
 
--- The arrays of the machine, which the code keeps beside its model and lends: counters and switches of the cells,
--- losses, event bits and masks.
+-- The arrays of the machine: counters and switches of the cells, losses, event bits and masks.
 pub record Arrays : Type 0 where
   pub counter : List ℕ
   pub on : List ℕ
@@ -41,6 +41,9 @@ pub record Arrays : Type 0 where
 
 abbrev pub arrays : List ℕ → List ℕ → List ℕ → List ℕ → List ℕ → Arrays
 arrays ns ws ls bs ms = record { counter = ns; on = ws; losses = ls; bits = bs; waited = ms }
+
+abbrev pub arraysOf : Model → Arrays
+arraysOf m = arrays (m .counter) (m .on) (m .losses) (m .bits) (m .waited)
 
 -- other cells, losses, event bits and masks in their place
 abbrev pub putCells : List ℕ → List ℕ → Arrays → Arrays
@@ -55,29 +58,63 @@ putEvents bs ms x = arrays (x .counter) (x .on) (x .losses) bs ms
 abbrev pub putBits : List ℕ → Arrays → Arrays
 putBits bs x = putEvents bs (x .waited) x
 
-abbrev pub view : Model → Arrays → Machine.Model
-view m x =
+-- registers with arrays
+abbrev pub viewWith : Registers → Arrays → Machine.Model
+viewWith r x =
     record {
-      core = core (m .request) (m .started) (m .aside) (m .runner) (m .level);
+      core = core (r .request) (r .started) (r .aside) (r .runner) (r .level);
+      held = r .held;
+      resource = r .resource;
+      holder = r .holder;
+      raised = r .raised;
+      counter = x .counter;
+      on = x .on;
+      turning = r .turning;
+      losses = x .losses;
+      cleared = r .cleared;
+      bits = x .bits;
+      waited = x .waited;
+      triggered = r .triggered;
+    }
+
+abbrev pub viewStep : Step → Arrays → Machine.Outcome
+viewStep s x = record { model = viewWith (s .registers) x; status = s .status; begun = s .begun }
+
+-- a model
+abbrev pub view : Model → Machine.Model
+view m = viewWith (m .registers) (arraysOf m)
+
+abbrev pub viewOutcome : Outcome → Machine.Outcome
+viewOutcome o = record { model = view (o .model); status = o .status; begun = o .begun }
+
+-- and back
+abbrev pub registersOf : Machine.Model → Registers
+registersOf m =
+    record {
+      request = m .core .request;
+      started = m .core .started;
+      aside = m .core .aside;
       held = m .held;
+      runner = m .core .runner;
+      level = m .core .level;
       resource = m .resource;
       holder = m .holder;
       raised = m .raised;
-      counter = x .counter;
-      on = x .on;
       turning = m .turning;
-      losses = x .losses;
       cleared = m .cleared;
-      bits = x .bits;
-      waited = x .waited;
       triggered = m .triggered;
     }
 
-abbrev pub viewOutcome : Outcome → Arrays → Machine.Outcome
-viewOutcome o x = record { model = view (o .model) x; status = o .status; begun = o .begun }
+abbrev pub modelOf : Machine.Model → Model
+modelOf m =
+    record {
+      registers = registersOf m;
+      counter = m .counter;
+      on = m .on;
+      losses = m .losses;
+      bits = m .bits;
+      waited = m .waited;
+    }
 
-abbrev pub arraysOf : Machine.Model → Arrays
-arraysOf m = arrays (m .counter) (m .on) (m .losses) (m .bits) (m .waited)
-
-abbrev pub freshArrays : Arrays
-freshArrays = arraysOf (unstarted 0)
+abbrev pub outcomeOf : Machine.Outcome → Outcome
+outcomeOf o = record { model = modelOf (o .model); status = o .status; begun = o .begun }

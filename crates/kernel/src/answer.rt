@@ -20,6 +20,12 @@ pub fn answer<'a, 'b>(config: Config, trace: &'a [u8], events: usize, out: &'b m
 {
     let plan = Plan::of(config);
     let fresh = Model::fresh(plan.autostart, &plan.priority);
-    let losses = play(config, plan, fresh, trace, out);
-    put_losses(&losses, &plan.rank, config.bodies as usize, 4 * events, out);
+    let last = play(config, plan, fresh, trace, out);
+    put_losses(
+        &last.losses,
+        &plan.rank,
+        config.bodies as usize,
+        4 * events,
+        out,
+    );
 }

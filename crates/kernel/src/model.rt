@@ -1,9 +1,11 @@
-// The machine's model, and its methods: the fresh start, and one method by value for each event.
+// The machine's model, and its methods: the fresh start, and one method by value for each event (value.rt), which
+// takes the arrays that the event touches out of the model, has the work done by a method of the registers, and puts
+// them back.
 //
 // A body stands in the model by its rank among the priorities, so that a greater rank is a greater priority.
 ghost use mathlib.Core.Path.{_≡_};
 ghost use Rattle.machine.specs.Model.{refusedWith};
-ghost use Rattle.kernel.specs.View.{Arrays, view, viewOutcome};
+ghost use Rattle.kernel.specs.View.{Arrays, viewWith, viewStep};
 
 mod arbiter;
 mod bodies;
@@ -13,6 +15,7 @@ mod fresh;
 mod lookup;
 mod resources;
 mod tables;
+mod value;
 
 pub use bodies::counts_lines;
 use stack::NONE;
@@ -59,11 +62,9 @@ pub struct Picked {
     pub begun: bool,
 }
 
-// What the machine keeps between events, but for its arrays: the run keeps those and lends a method the ones that it
-// reads or changes. The model goes by value. Its fields are flat and the row of held resources is in words that
-// shift, so that it stays in registers: an array in it would be copied, and much of the model with it, at every event
-// that may index it.
-pub struct Model {
+// What the machine keeps between events beside its arrays: words and rows that shift, all flat, so that they stay in
+// registers. Its methods do the work of an event; one that reads or changes an array is lent it.
+pub struct Registers {
     // The ranks that wait to begin, those that began and go on by their priority, and those that began and do not:
     // extended tasks that wait for an event bit, and time-triggered tasks. Each as a word.
     pub request: u32,
@@ -85,6 +86,25 @@ pub struct Model {
     pub triggered: Row,
 }
 
+// The next registers with the answer.
+pub struct Step {
+    pub registers: Registers,
+    pub status: u8,
+    pub begun: bool,
+}
+
+// All that the machine keeps between events. It goes by value.
+pub struct Model {
+    pub registers: Registers,
+    // The cells by entry: their counters and switches.
+    pub counter: [u16; 64],
+    pub on: [u16; 64],
+    // By rank: the losses, the event bits, and the mask of the latest Wait that did not go on.
+    pub losses: [u16; 32],
+    pub bits: [u32; 32],
+    pub waited: [u32; 32],
+}
+
 // The next model with its answer.
 pub struct Outcome {
     pub model: Model,
@@ -92,13 +112,13 @@ pub struct Outcome {
     pub begun: bool,
 }
 
-impl Model {
+impl Registers {
     // The answer to an event that lets nobody begin.
-    fn with_status(self, status: u8) -> Outcome
-        ensures { λ r. ⌜ ((x : Arrays) → viewOutcome r x ≡ refusedWith (view self x) status) ⌝ }
+    fn with_status(self, status: u8) -> Step
+        ensures { λ r. ⌜ ((x : Arrays) → viewStep r x ≡ refusedWith (viewWith self x) status) ⌝ }
     {
-        Outcome {
-            model: self,
+        Step {
+            registers: self,
             status,
             begun: false,
         }

@@ -4,7 +4,7 @@ ghost use lib.ListN.{length};
 ghost use Rattle.number.specs.Output.{laid};
 ghost use Rattle.machine.specs.Machine.{machineSeen, machineAfter};
 ghost use Rattle.run.specs.Run.{answerBytes, callsOf};
-ghost use Rattle.kernel.specs.View.{view, freshArrays};
+ghost use Rattle.kernel.specs.View.{view, modelOf};
 ghost use Rattle.kernel.specs.Passes.{Playable};
 use crate::model::DONE;
 use crate::model::Model;
@@ -16,19 +16,18 @@ use config::Config;
 use event_codec::read_event;
 use plan::Plan;
 
-// Each event meets the model that the one before it handed back, and the arrays as it left them; the last one's
-// losses are the result.
+// Each event meets the model that the one before it handed back; the last one's is the result.
 pub fn play<'a, 'b>(
     config: Config,
     plan: Plan,
     fresh: Model,
     trace: &'a [u8],
     out: &'b mut [u8],
-) -> [u16; 32]
-    requires { ⌜ Playable config plan (view fresh freshArrays) (now trace) (length (now out)) ⌝ }
-    ensures { λ r. ⌜ r ≡ machineAfter config plan (view fresh freshArrays) (callsOf (now (trace .entry))) .losses ⌝ }
+) -> Model
+    requires { ⌜ Playable config plan (view fresh) (now trace) (length (now out)) ⌝ }
+    ensures { λ r. ⌜ r ≡ modelOf (machineAfter config plan (view fresh) (callsOf (now (trace .entry)))) ⌝ }
     ensures { λ _. ⌜ now (out .exit)
-        ≡ laid 0 (answerBytes (machineSeen config plan (view fresh freshArrays) (callsOf (now (trace .entry)))))
+        ≡ laid 0 (answerBytes (machineSeen config plan (view fresh) (callsOf (now (trace .entry)))))
         (now (out .entry)) ⌝ }
 {
     let mut o = Outcome {
@@ -36,11 +35,6 @@ pub fn play<'a, 'b>(
         status: DONE,
         begun: false,
     };
-    let mut counter = [0u16; 64];
-    let mut on = [0u16; 64];
-    let mut losses = [0u16; 32];
-    let mut bits = [0u32; 32];
-    let mut waited = [0u32; 32];
     let mut at: usize = 0;
     let mut to: usize = 0;
     while at < trace.len() {
@@ -66,19 +60,16 @@ pub fn play<'a, 'b>(
                 o = o.model.release(config.resources, &plan.priority, e.first);
             }
             6 => {
-                o = o.model.tick(
-                    &plan.compare,
-                    &plan.entry,
-                    &plan.priority,
-                    &mut counter,
-                    &mut on,
-                    &mut losses,
-                );
+                let m = o.model;
+                if m.registers.turning {
+                    o = m.tick_turning(&plan.compare, &plan.entry, &plan.priority);
+                } else {
+                    o = m.tick(&plan.compare, &plan.entry, &plan.priority);
+                }
             }
             7 => {
                 let counts = counts_lines(config.version);
-                o = o.model
-                    .line(counts, &plan.line, &plan.priority, e.first, &mut losses);
+                o = o.model.line(counts, &plan.line, &plan.priority, e.first);
             }
             8 => {
                 o = o.model.start(
@@ -89,23 +80,14 @@ pub fn play<'a, 'b>(
                     &config.offset,
                     e.first,
                     e.second,
-                    &mut counter,
-                    &mut on,
                 );
             }
             9 => {
-                o = o.model.stop(
-                    config.tables,
-                    &plan.first,
-                    &config.entries,
-                    e.first,
-                    &mut counter,
-                    &mut on,
-                );
+                o = o.model
+                    .stop(config.tables, &plan.first, &config.entries, e.first);
             }
             10 => {
-                o = o.model
-                    .wait(plan.extended, &plan.priority, e.first, &bits, &mut waited);
+                o = o.model.wait(plan.extended, &plan.priority, e.first);
             }
             11 => {
                 o = o.model.set_event(
@@ -115,12 +97,10 @@ pub fn play<'a, 'b>(
                     &plan.priority,
                     e.first,
                     e.second,
-                    &waited,
-                    &mut bits,
                 );
             }
             12 => {
-                o = o.model.clear(plan.extended, e.first, &mut bits);
+                o = o.model.clear(plan.extended, e.first);
             }
             0 | 13..=255 => {
                 o.status = DONE;
@@ -129,8 +109,8 @@ pub fn play<'a, 'b>(
         }
         put_answer(
             o.status,
-            runner(&plan.body, o.model.runner),
-            o.model.level,
+            runner(&plan.body, o.model.registers.runner),
+            o.model.registers.level,
             o.begun,
             to,
             out,
@@ -138,5 +118,5 @@ pub fn play<'a, 'b>(
         at = r.place;
         to += 4;
     }
-    losses
+    o.model
 }

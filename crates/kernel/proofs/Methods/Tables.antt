@@ -26,38 +26,36 @@ unfolding marks
 length-marks zero e w ks os ns = refl
 length-marks (suc k) e w ks os ns = ap suc (length-marks k (suc e) w ks os ns)
 
--- Tick. ms are the match marks, ns, ws and z the cells after it, v has who has begun, q and ls are the requests and
--- losses, p whom arbitration picks, and b says whether that is a time-triggered task that it dispatches.
-module _ (ks rs ps : List ℕ) (m : Model) {ms : List Bool}
-    (marked : ms ≡ marks maxEntries 0 (m .turning) ks (m .on) (m .counter))
-    {ns : List ℕ} (counted : ns ≡ countersTicked maxEntries 0 (m .turning) ks (m .on) (m .counter))
-    {ws : List ℕ} (switches : ws ≡ cond (m .turning) (switchesTicked maxEntries 0 ks (m .counter) (m .on)) (m .on))
-    {z : Bool} (turns : z ≡ m .turning && someTurn maxEntries 0 ws) {v : ℕ} (begun : v ≡ begunWord m)
-    {q : ℕ} {ls : List ℕ} (due : dueWith q ls ≡ requestsDue v ms rs (dueWith (m .core .request) (m .losses)))
-    {p : Picked} (picked : p ≡ arbitrated ps (withRequest (m .core) q))
-    {b : Bool} (test : b ≡ ltb (m .core .level) (p .core .level) && eqb (p .core .level) triggerLevel) where
-  abbrev ticked : Model
-  ticked = withRest m ns ws z ls
-
-  abbrev unsettled : Model
-  unsettled = withCore ticked (withRequest (m .core) q)
-
-  made : triggering ps unsettled ≡ tick ks rs ps m
+-- Tick, up to arbitration. v has who has begun, ms are the match marks, ns, ws and z the cells after it, q and ls the
+-- requests and losses.
+module _ (ks rs ps : List ℕ) (m : Model) {v : ℕ} (begun : v ≡ begunWord m) {ms : List Bool} {q : ℕ} {ls : List ℕ}
+    (due : dueWith q ls ≡ requestsDue v ms rs (dueWith (m .core .request) (m .losses))) {ns : List ℕ} where
+  -- where no cell has a turn to pass
+  pub tick-still : m .turning ≡ false → ms ≡ marks maxEntries 0 false ks (m .on) (m .counter)
+      → ns ≡ countersTicked maxEntries 0 false ks (m .on) (m .counter)
+      → triggering ps (withCore (withRest m ns (m .on) (m .turning) ls) (withRequest (m .core) q)) ≡ tick ks rs ps m
   unfolding tick
-  made = rw (turns, switches, counted, ap (λ (x : Due). x .request) due, ap (λ (x : Due). x .losses) due, marked, begun)
+  tick-still still marked counted =
+      rw (counted, ap (λ (x : Due). x .request) due, ap (λ (x : Due). x .losses) due, marked, begun, still)
 
-  pub tick-launched : b ≡ true
-      → doneWith
-      (withTriggered ticked
-      (core (without q (p .core .runner)) (m .core .started) (with (m .core .aside) (p .core .runner))
-      (p .core .runner) executionLevel)
-      (m .cleared) (pushRow (m .triggered) (p .core .runner)))
-      true
-      ≡ tick ks rs ps m
-  tick-launched h = triggering-launched ps unsettled picked test h ∙ made
-
-  pub tick-done : b ≡ false → doneWith (withCore ticked (p .core)) (p .begun) ≡ tick ks rs ps m
-  tick-done h = triggering-settled ps unsettled picked test h ∙ made
+  -- where a cell may have one
+  pub tick-turned : m .turning ≡ true → ms ≡ marks maxEntries 0 true ks (m .on) (m .counter)
+      → ns ≡ countersTicked maxEntries 0 true ks (m .on) (m .counter)
+      → {ws : List ℕ} → ws ≡ switchesTicked maxEntries 0 ks (m .counter) (m .on) → {z : Bool}
+      → z ≡ someTurn maxEntries 0 ws
+      → triggering ps (withCore (withRest m ns ws z ls) (withRequest (m .core) q)) ≡ tick ks rs ps m
+  unfolding tick
+  tick-turned turning marked counted switches turns =
+      rw (
+        counted,
+        turns,
+        switches,
+        ap (λ (x : Due). x .request) due,
+        ap (λ (x : Due). x .losses) due,
+        marked,
+        begun,
+        turning,
+      )
 
 -- a delay that is not refused
 pub short-sum : (d g : ℕ) → eqb d 0 || ltb longestDelay (d + g) ≡ false → d + g ≤ longestDelay

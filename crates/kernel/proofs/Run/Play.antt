@@ -3,6 +3,7 @@
 --   tables-laid                               what the machine's methods count on
 --   step-1 .. step-9                          what an arm's method hands back is the step of the event that was read
 --   Playing                                   the invariant: `playable-start`, `playing-turn`, `playing-end`
+--
 use Prim.Native.Nat.{ℕ, suc, _+_, _*_, _≤_, _<_}
 use mathlib.Core.Path.{_≡_, refl, sym, ap, _∙_}
 use mathlib.Core.List.{List, [], _∷_, _++_, map, append-assoc, append-nil}
@@ -27,20 +28,12 @@ use Rattle.scheduler.specs.Scheduler as Plain
 use Rattle.scheduler.specs.Scheduler.{markOf}
 use Rattle.machine.specs.Model.{Model, Outcome}
 use Rattle.kernel.specs.Methods.{RowsHold}
-use Rattle.kernel.specs.View.{arrays, viewOutcome}
-use Rattle.kernel.specs.declared.model.Outcome as Code
 use Rattle.machine.specs.Events.{activate, finish, chain, get, release, tick, line, start, stop, wait, setEvent, clear}
 use Rattle.machine.specs.Machine.{statusOf, effectOf, refusalOf, machineStep, runnerOf, machineSeen, machineAfter}
 use Rattle.run.specs.Run.{callOf, answerBytes}
 use Rattle.kernel.specs.Passes.{Playable}
 use Rattle.plan.proofs.Fitted.{Fitted, fitted}
 use Rattle.kernel.proofs.Run.Bytes.{laid-none}
-
--- what an arm leaves, by the variables of the run
-pub same-view : {o o′ : Code.Outcome} → o ≡ o′ → {ns ns′ : List ℕ} → ns ≡ ns′ → {ws ws′ : List ℕ} → ws ≡ ws′
-    → {ls ls′ : List ℕ} → ls ≡ ls′ → {bs bs′ : List ℕ} → bs ≡ bs′ → {ms ms′ : List ℕ} → ms ≡ ms′
-    → viewOutcome o (arrays ns ws ls bs ms) ≡ viewOutcome o′ (arrays ns′ ws′ ls′ bs′ ms′)
-same-view o ns ws ls bs ms = rw (o, ns, ws, ls, bs, ms)
 
 -- what an arm's method hands back is the step of the event that was read
 module _ (c : Config) (p : Plan) (m : Model) (e : Event) where

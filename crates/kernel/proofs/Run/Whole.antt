@@ -2,11 +2,12 @@
 --
 --   answered          the answers and then the losses, laid one after the other, are the machine's answers
 --   ran-config-refused .. ran-all   the run's ways out, by what the code read
+--
 use Prim.Native.Nat.{ℕ, _+_, _*_, _≤_, _<_}
 use mathlib.Core.Path.{_≡_, sym, ap, ap₂, _∙_}
-use mathlib.Core.List.{List, _++_, map}
+use mathlib.Core.List.{List, _++_}
 use native.Mathlib.Omega.{arith}
-use lib.ListN.{length, getD, take, length-append, length-map}
+use lib.ListN.{length, length-append, length-map}
 use Rattle.number.specs.Refusal.{none, noRoom}
 use Rattle.number.specs.Output.{laid, written, packed}
 use Rattle.number.proofs.Laying.{laid-laid, laid-zero}
@@ -33,43 +34,38 @@ use Rattle.kernel.specs.declared.count.Counted.{Counted}
 use Rattle.kernel.specs.Passes.{counted}
 
 module _ (c : Config) (p : Plan) (fit : Fitted c p (rankOf c)) (es : List Event) where
-  abbrev last : Model
-  last = machineAfter c p (freshModel p) es
-
   -- the losses, laid after the answers
-  both-laid : (n : ℕ) (d d₁ d₂ : List ℕ) → n ≡ length es → 4 * n + 2 * c .bodies ≤ length d
-      → d₁ ≡ laid 0 (events c p fit es) d → d₂ ≡ laid (4 * n) (lossBytes (lossesOf c p last)) d₁
+  both-laid : (n : ℕ) (d d₁ d₂ : List ℕ) (m : Model) → n ≡ length es → 4 * n + 2 * c .bodies ≤ length d
+      → d₁ ≡ laid 0 (events c p fit es) d → m ≡ machineAfter c p (freshModel p) es
+      → d₂ ≡ laid (4 * n) (lossBytes (lossesOf c p m)) d₁
       → d₂ ≡ written (machineAnswers c p es) d
   unfolding machineAnswers
-  both-laid n d d₁ d₂ count room first then =
+  both-laid n d d₁ d₂ m count room first last then =
       then
-      ∙ ap₂ (λ (k : ℕ) (l : List ℕ). laid k (lossBytes (lossesOf c p last)) l) place first
-      ∙ laid-laid 0 (events c p fit es) (lossBytes (lossesOf c p last)) d (omega (
+      ∙ ap₂ (λ (k : ℕ) (l : List ℕ). laid k (lossBytes (lossesOf c p m)) l) place first
+      ∙ laid-laid 0 (events c p fit es) (lossBytes (lossesOf c p m)) d (omega (
         arith,
         length-events c p fit es,
-        length-losses c p fit last,
+        length-losses c p fit m,
       ))
-      ∙ sym
-      (laid-zero (events c p fit es ++ lossBytes (lossesOf c p last)) d
-      (simp length-append (omega (arith, length-events c p fit es, length-losses c p fit last))))
+      ∙ sym (laid-zero (events c p fit es ++ lossBytes (lossesOf c p m)) d
+      (simp length-append (omega (arith, length-events c p fit es, length-losses c p fit m))))
+      ∙ ap (λ (x : Model). written (events c p fit es ++ lossBytes (lossesOf c p x)) d) last
     where
       place : 4 * n ≡ 0 + length (events c p fit es)
       place = omega (arith, length-events c p fit es)
 
 module _ (c : Config) (ok : Accepted c) (shaped : Shaped c) (es : List Event) where
-  -- p is the plan of c and m₀ its fresh model; ls, d₁: the losses and the output after the events; d₂: the output
-  -- after the losses
-  pub answered : (p : Plan) (m₀ : Model) (n : ℕ) (d d₁ d₂ ls : List ℕ) → p ≡ planOf c → m₀ ≡ freshModel p
+  -- p is the plan of c and m₀ its fresh model; m, d₁: the model and the output after the events; d₂: the output after
+  -- the losses
+  pub answered : (p : Plan) (m₀ : Model) (n : ℕ) (d d₁ d₂ : List ℕ) (m : Model) → p ≡ planOf c → m₀ ≡ freshModel p
       → n ≡ length es → 4 * n + 2 * c .bodies ≤ length d
-      → d₁ ≡ laid 0 (answerBytes (machineSeen c p m₀ es)) d → ls ≡ machineAfter c p m₀ es .losses
-      → d₂ ≡ laid (4 * n) (lossBytes (map (λ r. getD ls r 0) (take (c .bodies) (p .rank)))) d₁
-      → d₂ ≡ written (machineAnswers c (planOf c) es) d
-  answered p m₀ n d d₁ d₂ ls planned begun count room first lost then =
-      both-laid c p (rw planned (fitted c ok shaped)) es n d d₁ d₂ count room
+      → d₁ ≡ laid 0 (answerBytes (machineSeen c p m₀ es)) d → m ≡ machineAfter c p m₀ es
+      → d₂ ≡ laid (4 * n) (lossBytes (lossesOf c p m)) d₁ → d₂ ≡ written (machineAnswers c (planOf c) es) d
+  answered p m₀ n d d₁ d₂ m planned begun count room first last then =
+      both-laid c p (rw planned (fitted c ok shaped)) es n d d₁ d₂ m count room
       (first ∙ ap (λ (x : Model). laid 0 (answerBytes (machineSeen c p x es)) d) begun)
-      (then
-      ∙ ap (λ (l : List ℕ). laid (4 * n) (lossBytes (map (λ r. getD l r 0) (take (c .bodies) (p .rank)))) d₁)
-      (lost ∙ ap (λ (x : Model). machineAfter c p x es .losses) begun))
+      (last ∙ ap (λ (x : Model). machineAfter c p x es) begun) then
       ∙ ap (λ (q : Plan). written (machineAnswers c q es) d) planned
 
 -- the same, by what the code read: rc of the configuration, k of the trace

@@ -7,14 +7,14 @@ ghost use Rattle.config.specs.Meaning.{executionLevel, triggerLevel};
 ghost use Rattle.word.specs.Word.{has, with, without};
 ghost use Rattle.stack.specs.Stack.{topRow, pushRow};
 ghost use Rattle.machine.specs.Model.{noRank, withCore, withRequest, withTriggered, doneWith};
-ghost use Rattle.machine.specs.Arbiter.{arbitrated, settled, leaving, returning};
-ghost use Rattle.kernel.specs.View.{Arrays, core, coreOf, view, viewOutcome, pickedOf};
+ghost use Rattle.machine.specs.Arbiter.{arbitrated, settled, leaving, triggering, returning};
+ghost use Rattle.kernel.specs.View.{Arrays, core, coreOf, viewWith, viewStep, pickedOf};
 use super::DONE;
 use super::EXECUTION_LEVEL;
-use super::Model;
 use super::NO_RANK;
-use super::Outcome;
 use super::Picked;
+use super::Registers;
+use super::Step;
 use super::TRIGGER_LEVEL;
 use super::lookup::byte_at;
 use stack::Row;
@@ -24,11 +24,11 @@ use word::winner;
 use word::with;
 use word::without;
 
-impl Model {
+impl Registers {
     // The model after arbitration, with these requests.
-    pub fn settled(self, request: u32, priority: &[u8; 32]) -> Outcome
-        ensures { λ r. ⌜ ((x : Arrays) → viewOutcome r x
-            ≡ settled (now (priority .entry)) (withCore (view self x) (withRequest (view self x .core) request))) ⌝ }
+    pub fn settled(self, request: u32, priority: &[u8; 32]) -> Step
+        ensures { λ r. ⌜ ((x : Arrays) → viewStep r x
+            ≡ settled (now (priority .entry)) (withCore (viewWith self x) (withRequest (viewWith self x .core) request))) ⌝ }
     {
         let picked = arbitrated(
             request,
@@ -42,10 +42,10 @@ impl Model {
     }
 
     // The same once the runner has ended: whoever took the latest resource that is held takes its seat, or nobody does.
-    pub fn ended(mut self, request: u32, priority: &[u8; 32]) -> Outcome
-        ensures { λ r. ⌜ ((x : Arrays) → viewOutcome r x
+    pub fn ended(mut self, request: u32, priority: &[u8; 32]) -> Step
+        ensures { λ r. ⌜ ((x : Arrays) → viewStep r x
             ≡ settled (now (priority .entry))
-            (withCore (leaving (view self x)) (withRequest (leaving (view self x) .core) request))) ⌝ }
+            (withCore (leaving (viewWith self x)) (withRequest (leaving (viewWith self x) .core) request))) ⌝ }
     {
         let started = without(self.started, self.runner as u32);
         self.cleared = with(self.cleared, self.runner as u32);
@@ -57,9 +57,9 @@ impl Model {
 
     // The same once a time-triggered task has ended: the one that was started before it goes on, and where there is
     // none, the seat is left as by any other runner.
-    pub fn returned(mut self, priority: &[u8; 32]) -> Outcome
-        ensures { λ r. ⌜ ((x : Arrays) → viewOutcome r x
-            ≡ settled (now (priority .entry)) (returning (view self x))) ⌝ }
+    pub fn returned(mut self, priority: &[u8; 32]) -> Step
+        ensures { λ r. ⌜ ((x : Arrays) → viewStep r x
+            ≡ settled (now (priority .entry)) (returning (viewWith self x))) ⌝ }
     {
         let aside = without(self.aside, self.runner as u32);
         self.cleared = with(self.cleared, self.runner as u32);
@@ -72,10 +72,30 @@ impl Model {
         self.seated(picked)
     }
 
+    // The same after a Tick, which alone may start a time-triggered task.
+    pub fn triggering(self, request: u32, priority: &[u8; 32]) -> Step
+        ensures { λ r. ⌜ ((x : Arrays) → viewStep r x
+            ≡ triggering (now (priority .entry)) (withCore (viewWith self x) (withRequest (viewWith self x .core) request))) ⌝ }
+    {
+        let level = self.level;
+        let picked = arbitrated(
+            request,
+            self.started,
+            self.aside,
+            self.runner,
+            level,
+            priority,
+        );
+        if is_triggered(level, picked.level) {
+            return self.launched(request, picked.runner);
+        }
+        self.seated(picked)
+    }
+
     // The model in which the time-triggered task of this rank begins, with these requests.
-    pub fn launched(mut self, request: u32, rank: u8) -> Outcome
-        ensures { λ r. ⌜ ((x : Arrays) → viewOutcome r x
-            ≡ doneWith (withTriggered (view self x)
+    pub fn launched(mut self, request: u32, rank: u8) -> Step
+        ensures { λ r. ⌜ ((x : Arrays) → viewStep r x
+            ≡ doneWith (withTriggered (viewWith self x)
             (core (without request rank) (self .started) (with (self .aside) rank) rank executionLevel)
             (self .cleared) (pushRow (self .triggered) rank)) true) ⌝ }
     {
@@ -84,25 +104,25 @@ impl Model {
         self.runner = rank;
         self.level = EXECUTION_LEVEL;
         self.triggered = self.triggered.push(rank);
-        Outcome {
-            model: self,
+        Step {
+            registers: self,
             status: DONE,
             begun: true,
         }
     }
 
     // The model with whom arbitration picked.
-    pub fn seated(mut self, picked: Picked) -> Outcome
-        ensures { λ r. ⌜ ((x : Arrays) → viewOutcome r x
-            ≡ doneWith (withCore (view self x) (coreOf picked)) (picked .begun)) ⌝ }
+    pub fn seated(mut self, picked: Picked) -> Step
+        ensures { λ r. ⌜ ((x : Arrays) → viewStep r x
+            ≡ doneWith (withCore (viewWith self x) (coreOf picked)) (picked .begun)) ⌝ }
     {
         self.request = picked.request;
         self.started = picked.started;
         self.aside = picked.aside;
         self.runner = picked.runner;
         self.level = picked.level;
-        Outcome {
-            model: self,
+        Step {
+            registers: self,
             status: DONE,
             begun: picked.begun,
         }

@@ -6,30 +6,25 @@ ghost use Rattle.config.specs.Meaning.{executionLevel};
 ghost use Rattle.word.specs.Word.{has};
 ghost use Rattle.machine.specs.Model.{noRank};
 ghost use Rattle.machine.specs.Events.{activate, finish, chain, line};
-ghost use Rattle.kernel.specs.View.{Arrays, putLosses, view, viewOutcome};
+ghost use Rattle.kernel.specs.View.{Arrays, putLosses, viewWith, viewStep};
 use super::CALL_LEVEL;
 use super::EXECUTION_LEVEL;
 use super::HOLDS_RESOURCE;
 use super::LIMIT;
-use super::Model;
 use super::NO_RANK;
 use super::NO_SUCH;
-use super::Outcome;
+use super::Registers;
+use super::Step;
 use super::cells::lose_where;
 use super::lookup::byte_at;
 use word::has;
 use word::union;
 use word::with;
 
-impl Model {
-    pub fn activate<'a>(
-        self,
-        callable_rank: &'a [u8; 32],
-        priority: &'a [u8; 32],
-        t: u32,
-    ) -> Outcome
-        ensures { λ r. ⌜ ((x : Arrays) → viewOutcome r x
-            ≡ activate (now («callable_rank» .entry)) (now (priority .entry)) (view self x) t) ⌝ }
+impl Registers {
+    pub fn activate<'a>(self, callable_rank: &'a [u8; 32], priority: &'a [u8; 32], t: u32) -> Step
+        ensures { λ r. ⌜ ((x : Arrays) → viewStep r x
+            ≡ activate (now («callable_rank» .entry)) (now (priority .entry)) (viewWith self x) t) ⌝ }
     {
         if no_caller(self.runner, self.level) {
             return self.with_status(CALL_LEVEL);
@@ -44,8 +39,8 @@ impl Model {
         self.settled(with(self.request, rank as u32), priority)
     }
 
-    pub fn finish(self, priority: &[u8; 32]) -> Outcome
-        ensures { λ r. ⌜ ((x : Arrays) → viewOutcome r x ≡ finish (now (priority .entry)) (view self x)) ⌝ }
+    pub fn finish(self, priority: &[u8; 32]) -> Step
+        ensures { λ r. ⌜ ((x : Arrays) → viewStep r x ≡ finish (now (priority .entry)) (viewWith self x)) ⌝ }
     {
         if self.runner == NO_RANK {
             return self.with_status(CALL_LEVEL);
@@ -65,9 +60,9 @@ impl Model {
         callable_rank: &'a [u8; 32],
         priority: &'a [u8; 32],
         t: u32,
-    ) -> Outcome
-        ensures { λ r. ⌜ ((x : Arrays) → viewOutcome r x
-            ≡ chain isrs (now («callable_rank» .entry)) (now (priority .entry)) (view self x) t) ⌝ }
+    ) -> Step
+        ensures { λ r. ⌜ ((x : Arrays) → viewStep r x
+            ≡ chain isrs (now («callable_rank» .entry)) (now (priority .entry)) (viewWith self x) t) ⌝ }
     {
         if no_task_calls(isrs, self.runner, self.level) {
             return self.with_status(CALL_LEVEL);
@@ -98,10 +93,10 @@ impl Model {
         priority: &'a [u8; 32],
         i: u32,
         losses: &'b mut [u16; 32],
-    ) -> Outcome
-        ensures { λ r. ⌜ ((x : Arrays) → viewOutcome r (putLosses (now (losses .exit)) x)
+    ) -> Step
+        ensures { λ r. ⌜ ((x : Arrays) → viewStep r (putLosses (now (losses .exit)) x)
             ≡ line counts (now («line_rank» .entry)) (now (priority .entry))
-            (view self (putLosses (now (losses .entry)) x)) i) ⌝ }
+            (viewWith self (putLosses (now (losses .entry)) x)) i) ⌝ }
     {
         let rank = byte_at(line_rank, i as usize, NO_RANK);
         if rank == NO_RANK {

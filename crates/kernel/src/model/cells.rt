@@ -1,6 +1,6 @@
 // The cells of the entries, as parallel arrays: what a tick, a start and a stop make of them.
 ghost use mathlib.Core.Path.{_≡_};
-ghost use mathlib.Core.Bool.{true, false, cond, _&&_, _||_};
+ghost use mathlib.Core.Bool.{true, false, cond, _||_};
 ghost use Prim.Native.Nat.{_+_, _≤_};
 ghost use lib.ListN.{length, getD, set, take, drop};
 ghost use Rattle.config.specs.Value.{maxEntries};
@@ -26,28 +26,8 @@ const TURN: u16 = 2;
 // How many match marks are looked at in one go.
 const GROUP: usize = 8;
 
-// Ticks every cell, and gives their match marks; `turning`: whether a cell may have a turn to pass.
-pub fn tick_cells<'a, 'b, 'c>(
-    turning: bool,
-    compare: &'a [u16; 64],
-    counter: &'b mut [u16; 64],
-    on: &'c mut [u16; 64],
-) -> [bool; 64]
-    ensures { λ r. ⌜ r ≡ marks maxEntries 0 turning (now (compare .entry)) (now (on .entry)) (now (counter .entry)) ⌝ }
-    ensures { λ _. ⌜ now (counter .exit)
-        ≡ countersTicked maxEntries 0 turning (now (compare .entry)) (now (on .entry)) (now (counter .entry)) ⌝ }
-    ensures { λ _. ⌜ now (on .exit)
-        ≡ cond turning (switchesTicked maxEntries 0 (now (compare .entry)) (now (counter .entry)) (now (on .entry)))
-        (now (on .entry)) ⌝ }
-{
-    if turning {
-        return tick_turns(compare, counter, on);
-    }
-    tick_counters(compare, on, counter)
-}
-
-// The same where none has one: the switches stay.
-fn tick_counters<'a, 'b>(
+// Ticks every cell where none has a turn to pass, and gives their match marks: the switches stay.
+pub fn tick_counters<'a, 'b>(
     compare: &'a [u16; 64],
     on: &'a [u16; 64],
     counter: &'b mut [u16; 64],
@@ -68,7 +48,7 @@ fn tick_counters<'a, 'b>(
 }
 
 // The same where one may: a turn may pass.
-fn tick_turns<'a, 'b, 'c>(
+pub fn tick_turns<'a, 'b, 'c>(
     compare: &'a [u16; 64],
     counter: &'b mut [u16; 64],
     on: &'c mut [u16; 64],
@@ -101,15 +81,8 @@ fn switch_for(on: bool, turn: bool) -> u16
     if on { ON } else { OFF }
 }
 
-// Whether a cell may have a turn to pass after a tick; `turning`: whether one may have had before.
-pub fn still_turning(turning: bool, on: &[u16; 64]) -> bool
-    ensures { λ r. ⌜ r ≡ turning && someTurn maxEntries 0 (now (on .entry)) ⌝ }
-{
-    turning && some_turn(on)
-}
-
 // Whether any cell has a turn to pass.
-fn some_turn(on: &[u16; 64]) -> bool
+pub fn some_turn(on: &[u16; 64]) -> bool
     ensures { λ r. ⌜ r ≡ someTurn maxEntries 0 (now (on .entry)) ⌝ }
 {
     let mut found = false;

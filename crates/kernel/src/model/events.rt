@@ -6,15 +6,15 @@ ghost use Rattle.scheduler.specs.Bits.{anySet, withBits, withoutBits};
 ghost use Rattle.word.specs.Word.{has, with};
 ghost use Rattle.machine.specs.Model.{noRank};
 ghost use Rattle.machine.specs.Events.{wait, setEvent, clear};
-ghost use Rattle.kernel.specs.View.{Arrays, putBits, putEvents, view, viewOutcome};
+ghost use Rattle.kernel.specs.View.{Arrays, putBits, putEvents, viewWith, viewStep};
 use super::ACCESS;
 use super::CALL_LEVEL;
 use super::DONE;
 use super::HOLDS_RESOURCE;
-use super::Model;
 use super::NO_RANK;
 use super::NO_SUCH;
-use super::Outcome;
+use super::Registers;
+use super::Step;
 use super::WRONG_STATE;
 use super::arbiter::arbitrated;
 use super::arbiter::latest_level;
@@ -27,7 +27,7 @@ use word::union;
 use word::with;
 use word::without;
 
-impl Model {
+impl Registers {
     // `extended`: the ranks that are extended tasks.
     pub fn wait<'a, 'b>(
         self,
@@ -36,10 +36,10 @@ impl Model {
         mask: u32,
         bits: &'a [u32; 32],
         waited: &'b mut [u32; 32],
-    ) -> Outcome
-        ensures { λ r. ⌜ ((x : Arrays) → viewOutcome r (putEvents (now (bits .entry)) (now (waited .exit)) x)
+    ) -> Step
+        ensures { λ r. ⌜ ((x : Arrays) → viewStep r (putEvents (now (bits .entry)) (now (waited .exit)) x)
             ≡ wait extended (now (priority .entry))
-            (view self (putEvents (now (bits .entry)) (now (waited .entry)) x)) mask) ⌝ }
+            (viewWith self (putEvents (now (bits .entry)) (now (waited .entry)) x)) mask) ⌝ }
     {
         if no_caller(self.runner, self.level) {
             return self.with_status(CALL_LEVEL);
@@ -75,10 +75,10 @@ impl Model {
         mask: u32,
         waited: &'a [u32; 32],
         bits: &'b mut [u32; 32],
-    ) -> Outcome
-        ensures { λ r. ⌜ ((x : Arrays) → viewOutcome r (putEvents (now (bits .exit)) (now (waited .entry)) x)
+    ) -> Step
+        ensures { λ r. ⌜ ((x : Arrays) → viewStep r (putEvents (now (bits .exit)) (now (waited .entry)) x)
             ≡ setEvent isrs extended (now («body_rank» .entry)) (now (priority .entry))
-            (view self (putEvents (now (bits .entry)) (now (waited .entry)) x)) t mask) ⌝ }
+            (viewWith self (putEvents (now (bits .entry)) (now (waited .entry)) x)) t mask) ⌝ }
     {
         if no_caller(self.runner, self.level) {
             return self.with_status(CALL_LEVEL);
@@ -105,9 +105,9 @@ impl Model {
         self.settled(request, priority)
     }
 
-    pub fn clear(mut self, extended: u32, mask: u32, bits: &mut [u32; 32]) -> Outcome
-        ensures { λ r. ⌜ ((x : Arrays) → viewOutcome r (putBits (now (bits .exit)) x)
-            ≡ clear extended (view self (putBits (now (bits .entry)) x)) mask) ⌝ }
+    pub fn clear(mut self, extended: u32, mask: u32, bits: &mut [u32; 32]) -> Step
+        ensures { λ r. ⌜ ((x : Arrays) → viewStep r (putBits (now (bits .exit)) x)
+            ≡ clear extended (viewWith self (putBits (now (bits .entry)) x)) mask) ⌝ }
     {
         if no_caller(self.runner, self.level) {
             return self.with_status(CALL_LEVEL);

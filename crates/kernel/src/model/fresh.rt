@@ -1,19 +1,21 @@
 // The fresh start.
 ghost use mathlib.Core.Path.{_≡_};
 ghost use Rattle.machine.specs.Machine.{freshWith};
-ghost use Rattle.kernel.specs.View.{view, freshArrays};
+ghost use Rattle.kernel.specs.View.{modelOf};
 use super::Model;
 use super::NO_RANK;
+use super::Registers;
 use super::arbiter::arbitrated;
+use super::cells::OFF;
 use stack::Row;
 
 impl Model {
-    // Autostart tasks are ready and the best one begins. The arrays are all 0: no losses, tables stopped.
+    // Autostart tasks are ready, the best one begins, all losses are 0, tables stopped.
     pub fn fresh(autostart: u32, priority: &[u8; 32]) -> Model
-        ensures { λ r. ⌜ view r freshArrays ≡ freshWith autostart (now (priority .entry)) ⌝ }
+        ensures { λ r. ⌜ r ≡ modelOf (freshWith autostart (now (priority .entry))) ⌝ }
     {
         let picked = arbitrated(autostart, 0, 0, NO_RANK, 0, priority);
-        Model {
+        let registers = Registers {
             request: picked.request,
             started: picked.started,
             aside: picked.aside,
@@ -26,6 +28,14 @@ impl Model {
             turning: false,
             cleared: 0,
             triggered: Row::empty(),
+        };
+        Model {
+            registers,
+            counter: [0u16; 64],
+            on: [OFF; 64],
+            losses: [0u16; 32],
+            bits: [0u32; 32],
+            waited: [0u32; 32],
         }
     }
 }

@@ -6,15 +6,15 @@ ghost use lib.Dec.{eqb};
 ghost use lib.ListN.{getD};
 ghost use Rattle.stack.specs.Stack.{topRow, secondRow};
 ghost use Rattle.machine.specs.Events.{get, release};
-ghost use Rattle.kernel.specs.View.{Arrays, view, viewOutcome};
+ghost use Rattle.kernel.specs.View.{Arrays, viewWith, viewStep};
 use super::ACCESS;
 use super::CALL_LEVEL;
 use super::DONE;
-use super::Model;
 use super::NO_FUNCTION;
 use super::NO_SUCH;
 use super::NOT_USER;
-use super::Outcome;
+use super::Registers;
+use super::Step;
 use super::arbiter::arbitrated;
 use super::bodies::no_caller;
 use super::lookup::byte_at;
@@ -24,16 +24,16 @@ use word::has;
 use word::with;
 use word::without;
 
-impl Model {
+impl Registers {
     pub fn get<'a>(
         mut self,
         resources: u8,
         users: &'a [u32; 16],
         ceiling: &'a [u8; 16],
         r: u32,
-    ) -> Outcome
-        ensures { λ o. ⌜ ((x : Arrays) → viewOutcome o x
-            ≡ get resources (now (users .entry)) (now (ceiling .entry)) (view self x) r) ⌝ }
+    ) -> Step
+        ensures { λ o. ⌜ ((x : Arrays) → viewStep o x
+            ≡ get resources (now (users .entry)) (now (ceiling .entry)) (viewWith self x) r) ⌝ }
     {
         if no_caller(self.runner, self.level) {
             return self.with_status(CALL_LEVEL);
@@ -56,9 +56,9 @@ impl Model {
         self.with_status(DONE)
     }
 
-    pub fn release(mut self, resources: u8, priority: &[u8; 32], r: u32) -> Outcome
-        ensures { λ o. ⌜ ((x : Arrays) → viewOutcome o x
-            ≡ release resources (now (priority .entry)) (view self x) r) ⌝ }
+    pub fn release(mut self, resources: u8, priority: &[u8; 32], r: u32) -> Step
+        ensures { λ o. ⌜ ((x : Arrays) → viewStep o x
+            ≡ release resources (now (priority .entry)) (viewWith self x) r) ⌝ }
     {
         if no_caller(self.runner, self.level) {
             return self.with_status(CALL_LEVEL);

@@ -1,4 +1,4 @@
-// The events of tables: Tick, Start and Stop.
+// The events of tables: Start and Stop.
 ghost use mathlib.Core.Path.{_≡_};
 ghost use mathlib.Core.Bool.{true, false, _||_};
 ghost use Prim.Native.Nat.{_+_};
@@ -6,65 +6,26 @@ ghost use lib.Dec.{ltb, eqb};
 ghost use lib.ListN.{getD};
 ghost use Rattle.scheduler.specs.Call.{longestDelay};
 ghost use Rattle.machine.specs.Cells.{isOn};
-ghost use Rattle.machine.specs.Events.{tick, start, stop};
+ghost use Rattle.machine.specs.Events.{start, stop};
 ghost use Rattle.kernel.specs.Methods.{RowsHold};
-ghost use Rattle.kernel.specs.View.{Arrays, putCells, putLosses, view, viewOutcome};
+ghost use Rattle.kernel.specs.View.{Arrays, putCells, viewWith, viewStep};
 use super::BAD_DELAY;
 use super::CALL_LEVEL;
 use super::DONE;
-use super::Model;
 use super::NO_FUNCTION;
 use super::NO_SUCH;
-use super::Outcome;
+use super::Registers;
+use super::Step;
 use super::WRONG_STATE;
-use super::arbiter::arbitrated;
-use super::arbiter::is_triggered;
 use super::bodies::no_caller;
 use super::cells::OFF;
 use super::cells::start_cells;
-use super::cells::still_turning;
 use super::cells::stop_counters;
 use super::cells::switch;
-use super::cells::take_matches;
-use super::cells::tick_cells;
 use super::lookup::byte_at;
 use super::lookup::short_at;
-use word::union;
 
-impl Model {
-    pub fn tick<'a, 'b, 'c, 'd>(
-        mut self,
-        compare: &'a [u16; 64],
-        entry_rank: &'a [u8; 64],
-        priority: &'a [u8; 32],
-        counter: &'b mut [u16; 64],
-        on: &'c mut [u16; 64],
-        losses: &'d mut [u16; 32],
-    ) -> Outcome
-        ensures { λ r. ⌜ ((x : Arrays)
-            → viewOutcome r (putCells (now (counter .exit)) (now (on .exit)) (putLosses (now (losses .exit)) x))
-            ≡ tick (now (compare .entry)) (now («entry_rank» .entry)) (now (priority .entry))
-            (view self (putCells (now (counter .entry)) (now (on .entry)) (putLosses (now (losses .entry)) x)))) ⌝ }
-    {
-        let level = self.level;
-        let matched = tick_cells(self.turning, compare, counter, on);
-        self.turning = still_turning(self.turning, on);
-        let begun = union(self.started, self.aside);
-        let request = take_matches(&matched, entry_rank, begun, self.request, losses);
-        let picked = arbitrated(
-            request,
-            self.started,
-            self.aside,
-            self.runner,
-            level,
-            priority,
-        );
-        if is_triggered(level, picked.level) {
-            return self.launched(request, picked.runner);
-        }
-        self.seated(picked)
-    }
-
+impl Registers {
     pub fn start<'a, 'b, 'c>(
         mut self,
         tables: u8,
@@ -76,11 +37,11 @@ impl Model {
         d: u32,
         counter: &'b mut [u16; 64],
         on: &'c mut [u16; 64],
-    ) -> Outcome
+    ) -> Step
         requires { ⌜ RowsHold tables (now first) (now entries) ⌝ }
-        ensures { λ r. ⌜ ((x : Arrays) → viewOutcome r (putCells (now (counter .exit)) (now (on .exit)) x)
+        ensures { λ r. ⌜ ((x : Arrays) → viewStep r (putCells (now (counter .exit)) (now (on .exit)) x)
             ≡ start tables (now (first .entry)) (now (entries .entry)) (now (period .entry)) (now (offset .entry))
-            (view self (putCells (now (counter .entry)) (now (on .entry)) x)) t d) ⌝ }
+            (viewWith self (putCells (now (counter .entry)) (now (on .entry)) x)) t d) ⌝ }
     {
         if no_caller(self.runner, self.level) {
             return self.with_status(CALL_LEVEL);
@@ -118,11 +79,11 @@ impl Model {
         t: u32,
         counter: &'b mut [u16; 64],
         on: &'c mut [u16; 64],
-    ) -> Outcome
+    ) -> Step
         requires { ⌜ RowsHold tables (now first) (now entries) ⌝ }
-        ensures { λ r. ⌜ ((x : Arrays) → viewOutcome r (putCells (now (counter .exit)) (now (on .exit)) x)
+        ensures { λ r. ⌜ ((x : Arrays) → viewStep r (putCells (now (counter .exit)) (now (on .exit)) x)
             ≡ stop tables (now (first .entry)) (now (entries .entry))
-            (view self (putCells (now (counter .entry)) (now (on .entry)) x)) t) ⌝ }
+            (viewWith self (putCells (now (counter .entry)) (now (on .entry)) x)) t) ⌝ }
     {
         if no_caller(self.runner, self.level) {
             return self.with_status(CALL_LEVEL);

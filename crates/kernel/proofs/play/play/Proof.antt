@@ -11,45 +11,38 @@ use Rattle.plan.specs.Rank.{rankOf}
 use Rattle.scheduler.specs.Scheduler.{markOf}
 use Rattle.machine.specs.Machine.{machineStep}
 use Rattle.run.specs.Run.{callOf}
-use Rattle.machine.specs.Model.{Model, Outcome}
-use Rattle.kernel.specs.View.{arrays, freshArrays, view, viewOutcome}
+use Rattle.kernel.specs.View.{view, modelOf, viewOutcome}
 use Rattle.event.specs.Event.{lastCode}
-use Rattle.kernel.proofs.Run.Play.{same-view, step-1, step-2, step-3, step-4, step-5, step-6, step-7, step-8, step-9, step-10, step-11, step-12, one-of-twelve, tables-laid}
+use Rattle.kernel.proofs.Run.Play.{step-1, step-2, step-3, step-4, step-5, step-6, step-7, step-8, step-9, step-10, step-11, step-12, one-of-twelve, tables-laid}
 use Rattle.kernel.proofs.Run.Play.{Playing, playable-start, length-out, playing-end, playing-later, playing-known, playing-room, playing-turn}
 use Rattle.kernel.proofs.play.play.Statement.{statement}
 use Rattle.kernel.proofs.play.play.Tie as tie
 
 abbrev Inv-loop : tie.InvT-loop
-Inv-loop trace out₀ config plan o₀ counter₀ on₀ losses₀ bits₀ waited₀ at₀ to₀ out o counter on losses bits waited
-    at to =
-    Playing config plan trace out₀ (view (o₀ .model) freshArrays) at to
-    (view (o .model) (arrays counter on losses bits waited)) out
+Inv-loop trace out₀ config plan o₀ at₀ to₀ out o at to =
+    Playing config plan trace out₀ (view (o₀ .model)) at to (view (o .model)) out
 
 abbrev μ-loop : tie.MeasureT-loop
-μ-loop trace out₀ config plan o₀ counter₀ on₀ losses₀ bits₀ waited₀ at₀ to₀ out o counter on losses bits waited at to =
-    length trace - at
+μ-loop trace out₀ config plan o₀ at₀ to₀ out o at to = length trace - at
 
 loop-holds : tie.Need-loop-holds Inv-loop μ-loop
 loop-holds c =
     let a = c .before .before .args in
-    playable-start (a .t1) (a .t2) (a .trace .now) (a .out .now) (view (a .fresh) freshArrays)
-    (c .before .before .pre)
+    playable-start (a .t1) (a .t2) (a .trace .now) (a .out .now) (view (a .fresh)) (c .before .before .pre)
 
--- the model with its arrays, before an event
-abbrev before : (k : tie.At-loop Inv-loop μ-loop) → Model
-before k =
-    view (k .loop .o .model)
-    (arrays (k .loop .counter) (k .loop .on) (k .loop .losses) (k .loop .bits) (k .loop .waited))
+tick-turning-requires : tie.Need-tick-turning-requires Inv-loop μ-loop
+tick-turning-requires c κs = c .before .before .before .before .if1 .taken
+
+tick-requires : tie.Need-tick-requires Inv-loop μ-loop
+tick-requires c κs = c .before .before .before .before .if1 .left
 
 start-requires : tie.Need-start-requires Inv-loop μ-loop
-start-requires c κs =
-    let k = c .before .before .before .before .before .before .before .before .before .before .before .before in
+start-requires c κs = let k = c .before .before .before .before .before .before .before .before .before .before in
     let a = k .before .before .before .args in
     tables-laid (a .t1) (a .t2) (rankOf (a .t1)) (k .loop .inv .fit)
 
 stop-requires : tie.Need-stop-requires Inv-loop μ-loop
-stop-requires c κs =
-    let k = c .before .before .before .before .before .before .before .before .before .before in
+stop-requires c κs = let k = c .before .before .before .before .before .before .before .before in
     let a = k .before .before .before .args in
     tables-laid (a .t1) (a .t2) (rankOf (a .t1)) (k .loop .inv .fit)
 
@@ -59,16 +52,16 @@ room : (r : tie.After-read-event Inv-loop μ-loop)
 room r =
     let k = r .before .before in
     let a = k .before .before .before .args in
-    playing-room (a .t1) (a .t2) (a .trace .now) (a .out .now) (view (a .fresh) freshArrays) (k .loop .at)
-    (k .loop .to) (before k) (k .loop .out) (k .loop .inv) (r .before .loop-test .taken) (r .read-event .result)
+    playing-room (a .t1) (a .t2) (a .trace .now) (a .out .now) (view (a .fresh)) (k .loop .at) (k .loop .to)
+    (view (k .loop .o .model)) (k .loop .out) (k .loop .inv) (r .before .loop-test .taken) (r .read-event .result)
     (r .read-event .ensures)
 
 later : (r : tie.After-read-event Inv-loop μ-loop) → r .before .before .loop .at < r .read-event .result .place
 later r =
     let k = r .before .before in
     let a = k .before .before .before .args in
-    playing-later (a .t1) (a .t2) (a .trace .now) (a .out .now) (view (a .fresh) freshArrays) (k .loop .at)
-    (k .loop .to) (before k) (k .loop .out) (k .loop .inv) (r .before .loop-test .taken) (r .read-event .result)
+    playing-later (a .t1) (a .t2) (a .trace .now) (a .out .now) (view (a .fresh)) (k .loop .at) (k .loop .to)
+    (view (k .loop .o .model)) (k .loop .out) (k .loop .inv) (r .before .loop-test .taken) (r .read-event .result)
     (r .read-event .ensures)
 
 known : (r : tie.After-read-event Inv-loop μ-loop)
@@ -76,97 +69,63 @@ known : (r : tie.After-read-event Inv-loop μ-loop)
 known r =
     let k = r .before .before in
     let a = k .before .before .before .args in
-    playing-known (a .t1) (a .t2) (a .trace .now) (a .out .now) (view (a .fresh) freshArrays) (k .loop .at)
-    (k .loop .to) (before k) (k .loop .out) (k .loop .inv) (r .before .loop-test .taken) (r .read-event .result)
+    playing-known (a .t1) (a .t2) (a .trace .now) (a .out .now) (view (a .fresh)) (k .loop .at) (k .loop .to)
+    (view (k .loop .o .model)) (k .loop .out) (k .loop .inv) (r .before .loop-test .taken) (r .read-event .result)
     (r .read-event .ensures)
 
 long : (k : tie.At-loop Inv-loop μ-loop) → length (k .loop .out) ≡ length (k .before .before .before .args .out .now)
 long k =
     let a = k .before .before .before .args in
-    length-out (a .t1) (a .t2) (a .trace .now) (a .out .now) (view (a .fresh) freshArrays) (k .loop .at) (k .loop .to)
-    (before k) (k .loop .out) (k .loop .inv)
+    length-out (a .t1) (a .t2) (a .trace .now) (a .out .now) (view (a .fresh)) (k .loop .at) (k .loop .to)
+    (view (k .loop .o .model)) (k .loop .out) (k .loop .inv)
 
--- what an arm leaves
-abbrev left : (j : tie.At-match-came Inv-loop μ-loop) → Outcome
-left j =
-    viewOutcome (j .match .o)
-    (arrays (j .match .counter) (j .match .on) (j .match .losses) (j .match .bits) (j .match .waited))
-
--- it is the step of the event that was read
+-- what the arms leave is the step of the event that was read
 stepped : (j : tie.At-match-came Inv-loop μ-loop)
-    → left j
+    → viewOutcome (j .match .o)
     ≡ machineStep (j .before .before .before .before .before .before .before .args .t1)
     (j .before .before .before .before .before .before .before .args .t2)
-    (before (j .before .before .before .before)) (callOf (j .before .before .read-event .result .event))
+    (view (j .before .before .before .before .loop .o .model)) (callOf (j .before .before .read-event .result .event))
 stepped j =
-    let k = j .before .before .before .before in
-    let a = k .before .before .before .args in
-    let x = arrays (k .loop .counter) (k .loop .on) (k .loop .losses) (k .loop .bits) (k .loop .waited) in
+    let a = j .before .before .before .before .before .before .before .args in
+    let m = view (j .before .before .before .before .loop .o .model) in
     let e = j .before .before .read-event .result .event in
-    ⊎-elim
-    (λ w. same-view (w .5) (w .6) (w .7) (w .8) (w .9) (w .10) ∙ w .4 .ensures x
-    ∙ sym (step-1 (a .t1) (a .t2) (before k) e (w .0 .keys1)))
+    ⊎-elim (λ w. ap viewOutcome (w .5 ∙ w .4 .ensures) ∙ sym (step-1 (a .t1) (a .t2) m e (w .0 .keys1)))
     (λ z1.
-    ⊎-elim
-    (λ w. same-view (w .4) (w .5) (w .6) (w .7) (w .8) (w .9) ∙ w .3 .ensures x
-    ∙ sym (step-2 (a .t1) (a .t2) (before k) e (w .0 .keys2)))
+    ⊎-elim (λ w. ap viewOutcome (w .4 ∙ w .3 .ensures) ∙ sym (step-2 (a .t1) (a .t2) m e (w .0 .keys2)))
     (λ z2.
-    ⊎-elim
-    (λ w. same-view (w .5) (w .6) (w .7) (w .8) (w .9) (w .10) ∙ w .4 .ensures x
-    ∙ sym (step-3 (a .t1) (a .t2) (before k) e (w .0 .keys3)))
+    ⊎-elim (λ w. ap viewOutcome (w .5 ∙ w .4 .ensures) ∙ sym (step-3 (a .t1) (a .t2) m e (w .0 .keys3)))
     (λ z3.
-    ⊎-elim
-    (λ w. same-view (w .5) (w .6) (w .7) (w .8) (w .9) (w .10) ∙ w .4 .ensures x
-    ∙ sym (step-4 (a .t1) (a .t2) (before k) e (w .0 .keys4)))
+    ⊎-elim (λ w. ap viewOutcome (w .5 ∙ w .4 .ensures) ∙ sym (step-4 (a .t1) (a .t2) m e (w .0 .keys4)))
     (λ z4.
-    ⊎-elim
-    (λ w. same-view (w .4) (w .5) (w .6) (w .7) (w .8) (w .9) ∙ w .3 .ensures x
-    ∙ sym (step-5 (a .t1) (a .t2) (before k) e (w .0 .keys5)))
+    ⊎-elim (λ w. ap viewOutcome (w .4 ∙ w .3 .ensures) ∙ sym (step-5 (a .t1) (a .t2) m e (w .0 .keys5)))
     (λ z5.
-    ⊎-elim
-    (λ w. same-view (w .9) (w .10) (w .11) (w .12) (w .13) (w .14) ∙ w .8 .ensures x
-    ∙ sym (step-6 (a .t1) (a .t2) (before k) e (w .0 .keys6)))
+    ⊎-elim (λ w. ap viewOutcome (w .8 ∙ w .7 .ensures) ∙ sym (step-6 (a .t1) (a .t2) m e (w .0 .keys6)))
     (λ z6.
-    ⊎-elim
-    (λ w. same-view (w .7) (w .8) (w .9) (w .10) (w .11) (w .12) ∙ w .6 .ensures x
-    ∙ (rw (w .1 .ensures) (sym (step-7 (a .t1) (a .t2) (before k) e (w .0 .keys7)))))
+    ⊎-elim (λ w. ap viewOutcome (w .8 ∙ w .7 .ensures) ∙ sym (step-6 (a .t1) (a .t2) m e (w .0 .keys6)))
+    (λ y6.
+    ⊎-elim (λ w. ap viewOutcome (w .6 ∙ w .5 .ensures ∙ rw (w .1 .ensures))
+    ∙ sym (step-7 (a .t1) (a .t2) m e (w .0 .keys7)))
     (λ z7.
-    ⊎-elim
-    (λ w. same-view (w .10) (w .11) (w .12) (w .13) (w .14) (w .15) ∙ w .9 .ensures x
-    ∙ sym (step-8 (a .t1) (a .t2) (before k) e (w .0 .keys8)))
+    ⊎-elim (λ w. ap viewOutcome (w .8 ∙ w .7 .ensures) ∙ sym (step-8 (a .t1) (a .t2) m e (w .0 .keys8)))
     (λ z8.
-    ⊎-elim
-    (λ w. same-view (w .8) (w .9) (w .10) (w .11) (w .12) (w .13) ∙ w .7 .ensures x
-    ∙ sym (step-9 (a .t1) (a .t2) (before k) e (w .0 .keys9)))
+    ⊎-elim (λ w. ap viewOutcome (w .6 ∙ w .5 .ensures) ∙ sym (step-9 (a .t1) (a .t2) m e (w .0 .keys9)))
     (λ z9.
-    ⊎-elim
-    (λ w. same-view (w .6) (w .7) (w .8) (w .9) (w .10) (w .11) ∙ w .5 .ensures x
-    ∙ sym (step-10 (a .t1) (a .t2) (before k) e (w .0 .keys10)))
+    ⊎-elim (λ w. ap viewOutcome (w .4 ∙ w .3 .ensures) ∙ sym (step-10 (a .t1) (a .t2) m e (w .0 .keys10)))
     (λ z10.
-    ⊎-elim
-    (λ w. same-view (w .7) (w .8) (w .9) (w .10) (w .11) (w .12) ∙ w .6 .ensures x
-    ∙ sym (step-11 (a .t1) (a .t2) (before k) e (w .0 .keys11)))
+    ⊎-elim (λ w. ap viewOutcome (w .5 ∙ w .4 .ensures) ∙ sym (step-11 (a .t1) (a .t2) m e (w .0 .keys11)))
     (λ z11.
-    ⊎-elim
-    (λ w. same-view (w .3) (w .4) (w .5) (w .6) (w .7) (w .8) ∙ w .2 .ensures x
-    ∙ sym (step-12 (a .t1) (a .t2) (before k) e (w .0 .keys12)))
+    ⊎-elim (λ w. ap viewOutcome (w .2 ∙ w .1 .ensures) ∙ sym (step-12 (a .t1) (a .t2) m e (w .0 .keys12)))
     (λ z12.
     ⊎-elim
     (λ w. absurd (omega (arith, w .0 .keys13, known (j .before .before))))
     (λ w. absurd
     (one-of-twelve (e .code) (known (j .before .before) .0) (known (j .before .before) .1)
-    (λ h. w .0 .rest .0 .0 .0 .0 .0 .0 .0 .0 .0 .0 .0 .0 .1 h)
-    (λ h. w .0 .rest .0 .0 .0 .0 .0 .0 .0 .0 .0 .0 .0 .1 h)
-    (λ h. w .0 .rest .0 .0 .0 .0 .0 .0 .0 .0 .0 .0 .1 h)
-    (λ h. w .0 .rest .0 .0 .0 .0 .0 .0 .0 .0 .0 .1 h)
-    (λ h. w .0 .rest .0 .0 .0 .0 .0 .0 .0 .0 .1 h)
-    (λ h. w .0 .rest .0 .0 .0 .0 .0 .0 .0 .1 h)
-    (λ h. w .0 .rest .0 .0 .0 .0 .0 .0 .1 h)
-    (λ h. w .0 .rest .0 .0 .0 .0 .0 .1 h)
-    (λ h. w .0 .rest .0 .0 .0 .0 .1 h)
-    (λ h. w .0 .rest .0 .0 .0 .1 h)
-    (λ h. w .0 .rest .0 .0 .1 h)
-    (λ h. w .0 .rest .0 .1 h))) z12) z11) z10) z9) z8) z7) z6) z5) z4) z3) z2) z1) (j .match .came)
+    (λ h. w .0 .rest .0 .0 .0 .0 .0 .0 .0 .0 .0 .0 .0 .0 .1 h) (λ h. w .0 .rest .0 .0 .0 .0 .0 .0 .0 .0 .0 .0 .0 .1 h)
+    (λ h. w .0 .rest .0 .0 .0 .0 .0 .0 .0 .0 .0 .0 .1 h) (λ h. w .0 .rest .0 .0 .0 .0 .0 .0 .0 .0 .0 .1 h)
+    (λ h. w .0 .rest .0 .0 .0 .0 .0 .0 .0 .0 .1 h) (λ h. w .0 .rest .0 .0 .0 .0 .0 .0 .0 .1 h)
+    (λ h. w .0 .rest .0 .0 .0 .0 .0 .0 .1 h) (λ h. w .0 .rest .0 .0 .0 .0 .0 .1 h) (λ h. w .0 .rest .0 .0 .0 .0 .1 h)
+    (λ h. w .0 .rest .0 .0 .0 .1 h) (λ h. w .0 .rest .0 .0 .1 h) (λ h. w .0 .rest .0 .1 h))) z12) z11) z10) z9) z8)
+    z7) y6) z6) z5) z4) z3) z2) z1) (j .match .came)
 
 put-answer-requires : tie.Need-put-answer-requires Inv-loop μ-loop
 put-answer-requires c κs = room (c .before .before .before .before .before .before)
@@ -187,30 +146,30 @@ loop-again c =
     let r = j .before .before in
     let k = r .before .before in
     let a = k .before .before .before .args in
-    playing-turn (a .t1) (a .t2) (a .trace .now) (a .out .now) (view (a .fresh) freshArrays) (k .loop .at)
-    (k .loop .to) (before k) (k .loop .out) (k .loop .inv) (r .before .loop-test .taken) (r .read-event .result)
+    playing-turn (a .t1) (a .t2) (a .trace .now) (a .out .now) (view (a .fresh)) (k .loop .at) (k .loop .to)
+    (view (k .loop .o .model)) (k .loop .out) (k .loop .inv) (r .before .loop-test .taken) (r .read-event .result)
     (r .read-event .ensures)
-    (left j) (stepped j) _
+    (viewOutcome (j .match .o)) (stepped j) _
     (p .put-answer .ensures
     ∙ ap (λ (n : ℕ). laid (k .loop .to)
-    (j .match .o .status ∷ n ∷ j .match .o .model .level ∷ markOf (j .match .o .begun) ∷ []) (k .loop .out))
-    (p .before .before .runner .ensures))
+    (j .match .o .status ∷ n ∷ j .match .o .model .registers .level ∷ markOf (j .match .o .begun) ∷ [])
+    (k .loop .out)) (p .before .before .runner .ensures))
 
 same-length : tie.Need-same-length Inv-loop μ-loop
-same-length c = long (c .before)
+same-length c = long (c .before .before)
 
 returns : tie.Need-returns Inv-loop μ-loop
 returns c =
-    let k = c .before in
+    let k = c .before .before in
     let a = k .before .before .before .args in
-    let e = playing-end (a .t1) (a .t2) (a .trace .now) (a .out .now) (view (a .fresh) freshArrays) (k .loop .at)
-    (k .loop .to) (before k) (k .loop .out) (k .loop .inv) (c .loop-test .left) in
-    (ap (λ (m : Model). m .losses) (e .0), e .1)
+    let e = playing-end (a .t1) (a .t2) (a .trace .now) (a .out .now) (view (a .fresh)) (k .loop .at) (k .loop .to)
+    (view (k .loop .o .model)) (k .loop .out) (k .loop .inv) (c .before .loop-test .left) in
+    (ap modelOf (e .0), e .1)
 
 pub play-spec : {M : Type 1} → statement M
 play-spec =
     tie.close
     (tie.spec
     Inv-loop μ-loop loop-holds (λ c κs. tt) (λ c κs. tt) (λ c κs. tt) (λ c κs. tt) (λ c κs. tt) (λ c κs. tt)
-    (λ c κs. tt) (λ c κs. tt) (λ c κs. tt) start-requires stop-requires (λ c κs. tt) (λ c κs. tt) (λ c κs. tt)
-    (λ c κs. tt) put-answer-requires add-to loop-less loop-again same-length returns)
+    tick-turning-requires tick-requires (λ c κs. tt) (λ c κs. tt) start-requires stop-requires (λ c κs. tt)
+    (λ c κs. tt) (λ c κs. tt) (λ c κs. tt) put-answer-requires add-to loop-less loop-again same-length returns)

@@ -1,41 +1,14 @@
--- `line` meets its contract, case by case in the order of its checks.
-use mathlib.Core.Path.{_∙_}
-use Rattle.kernel.specs.View.{putLosses, view}
-use Rattle.kernel.proofs.Methods.Events.{line-none, line-waits, line-done}
+-- `line` meets its contract: what the registers make of it with the arrays that they are lent.
+use mathlib.Core.Path.{ap}
+use Rattle.kernel.specs.View.{arraysOf, outcomeOf}
 use borrow.Author.Needs.{needs}
 use Rattle.kernel.proofs.model.Model.line.Statement.{statement}
 use Rattle.kernel.proofs.model.Model.line.Tie as tie
 
 returns : tie.Need-returns
 returns c =
-    let c₁ = c .before in let c₂ = c₁ .before in let c₃ = c₂ .before .before in let a = c₃ .args in
-    λ x. c .with-status .ensures (putLosses (a .losses .now) x)
-    ∙ line-none (a .counts) (a .line-rank .now) (a .priority .now) (view (a .self) (putLosses (a .losses .now) x))
-    (a .i)
-    (c₂ .byte-at .ensures) (c₁ .if1 .taken)
-
-returns-2 : tie.Need-returns-2
-returns-2 c =
-    let c₁ = c .before in let c₂ = c₁ .before .before in let c₃ = c₂ .before in let c₄ = c₃ .before in
-    let c₅ = c₄ .before in let c₆ = c₅ .before .before in let a = c₆ .args in
-    λ x. c .with-status2 .ensures _
-    ∙ line-waits (a .counts) (a .line-rank .now) (a .priority .now) (view (a .self) (putLosses (a .losses .now) x))
-    (a .i)
-    (c₅ .byte-at .ensures) (c₄ .if1 .left) (c₃ .has .ensures) (c₂ .if2 .taken) (c₁ .lose-where .ensures)
-
-returns-3 : tie.Need-returns-3
-returns-3 c =
-    let c₁ = c .before in let c₂ = c₁ .before in let c₃ = c₂ .before in let c₄ = c₃ .before in let c₅ = c₄ .before in
-    let c₆ = c₅ .before .before in let a = c₆ .args in
-    λ x. c .settled .ensures (putLosses (a .losses .now) x)
-    ∙ line-done (a .counts) (a .line-rank .now) (a .priority .now) (view (a .self) (putLosses (a .losses .now) x))
-    (a .i)
-    (c₅ .byte-at .ensures) (c₄ .if1 .left) (c₃ .has .ensures) (c₂ .if2 .left) (c₁ .with .ensures)
+    let c₁ = c .before .before .before .before .before in let c₂ = c₁ .before .before .before in let a = c₂ .args in
+    ap outcomeOf (c₁ .line .ensures (arraysOf (a .self)))
 
 pub line-spec : {M : Type 1} → statement M
-line-spec =
-    tie.close
-    (tie.spec
-    (λ c κs. search needs) (λ c κs. search needs) returns (λ c. search needs) (λ c κs. search needs)
-    (λ c. search needs) (λ c κs. search needs) (λ c κs. search needs) returns-2 (λ c. search needs)
-    (λ c κs. search needs) (λ c κs. search needs) returns-3)
+line-spec = tie.close (tie.spec (λ c κs. search needs) returns)

@@ -1,11 +1,11 @@
 -- `ended` meets its contract: the seat is left to the latest holder, then arbitration with the requests that it is
 -- given.
 use mathlib.Core.Path.{_≡_, ap, _∙_}
-use Rattle.kernel.specs.View.{view, viewPicked}
+use Rattle.kernel.specs.View.{viewWith, viewPicked}
 use Rattle.kernel.proofs.Methods.Core.{ended-made}
 use borrow.Author.Needs.{needs}
-use Rattle.kernel.proofs.model.Model.ended.Statement.{statement}
-use Rattle.kernel.proofs.model.Model.ended.Tie as tie
+use Rattle.kernel.proofs.model.Registers.ended.Statement.{statement}
+use Rattle.kernel.proofs.model.Registers.ended.Tie as tie
 
 returns : tie.Need-returns
 returns c =
@@ -13,7 +13,7 @@ returns c =
     let c₅ = c₄ .before .before in
     let c₆ = c₅ .before .before in let a = c₆ .args in
     λ x. c .seated .ensures x
-    ∙ ended-made (a .priority .now) (view (a .self) x) (a .request) (c₅ .without .ensures) (c₄ .with .ensures)
+    ∙ ended-made (a .priority .now) (viewWith (a .self) x) (a .request) (c₅ .without .ensures) (c₄ .with .ensures)
     (c₂ .top .ensures) (c₃ .latest-level .ensures)
     (ap viewPicked (c₁ .arbitrated .ensures))
 

@@ -1,11 +1,11 @@
 -- `returned` meets its contract: the seat is left to the time-triggered task that was started before, or to the
 -- latest holder, then arbitration.
 use mathlib.Core.Path.{ap, _∙_}
-use Rattle.kernel.specs.View.{view, viewPicked}
+use Rattle.kernel.specs.View.{viewWith, viewPicked}
 use Rattle.kernel.proofs.Methods.Core.{returned-made}
 use borrow.Author.Needs.{needs}
-use Rattle.kernel.proofs.model.Model.returned.Statement.{statement}
-use Rattle.kernel.proofs.model.Model.returned.Tie as tie
+use Rattle.kernel.proofs.model.Registers.returned.Statement.{statement}
+use Rattle.kernel.proofs.model.Registers.returned.Tie as tie
 
 returns : tie.Need-returns
 returns c =
@@ -14,7 +14,7 @@ returns c =
     let c₇ = c₆ .before .before in let c₈ = c₇ .before in let c₉ = c₈ .before .before in
     let a = c₉ .before .before .args in
     λ x. c .seated .ensures x
-    ∙ returned-made (a .priority .now) (view (a .self) x) (c₉ .without .ensures) (c₈ .with .ensures)
+    ∙ returned-made (a .priority .now) (viewWith (a .self) x) (c₉ .without .ensures) (c₈ .with .ensures)
     (c₇ .second .ensures) (c₆ .top .ensures)
     (c₅ .earlier-or .ensures) (c₄ .latest-level .ensures) (c₃ .execution-or .ensures) (c₂ .pop .ensures)
     (ap viewPicked (c₁ .arbitrated .ensures))

@@ -1,17 +1,17 @@
 -- `settled` meets its contract: arbitration with the requests that it is given.
 use mathlib.Core.Path.{ap, _∙_}
 use Rattle.machine.specs.Model.{withRequest}
-use Rattle.kernel.specs.View.{view, viewPicked}
+use Rattle.kernel.specs.View.{viewWith, viewPicked}
 use Rattle.kernel.proofs.Methods.Core.{settled-made}
 use borrow.Author.Needs.{needs}
-use Rattle.kernel.proofs.model.Model.settled.Statement.{statement}
-use Rattle.kernel.proofs.model.Model.settled.Tie as tie
+use Rattle.kernel.proofs.model.Registers.settled.Statement.{statement}
+use Rattle.kernel.proofs.model.Registers.settled.Tie as tie
 
 returns : tie.Need-returns
 returns c =
     let c₁ = c .before in let c₂ = c₁ .before in let a = c₂ .args in
     λ x. c .seated .ensures x
-    ∙ settled-made (a .priority .now) (view (a .self) x) (withRequest (view (a .self) x .core) (a .request))
+    ∙ settled-made (a .priority .now) (viewWith (a .self) x) (withRequest (viewWith (a .self) x .core) (a .request))
     (ap viewPicked (c₁ .arbitrated .ensures))
 
 pub settled-spec : {M : Type 1} → statement M

@@ -1,7 +1,7 @@
 -- `launched` meets its contract: each part is as its helper ensures.
 use borrow.Author.Needs.{needs}
-use Rattle.kernel.proofs.model.Model.launched.Statement.{statement}
-use Rattle.kernel.proofs.model.Model.launched.Tie as tie
+use Rattle.kernel.proofs.model.Registers.launched.Statement.{statement}
+use Rattle.kernel.proofs.model.Registers.launched.Tie as tie
 
 returns : tie.Need-returns
 returns c =

@@ -1,0 +1,436 @@
+// The model by value, one method for each event: the next model with its answer.
+ghost use mathlib.Core.Path.{_≡_};
+ghost use mathlib.Core.Bool.{true, false};
+ghost use Rattle.machine.specs.Events.{activate, finish, chain, get, release, tick, line, start, stop, wait, setEvent, clear};
+ghost use Rattle.kernel.specs.Methods.{RowsHold};
+ghost use Rattle.kernel.specs.View.{view, outcomeOf};
+use super::Model;
+use super::Outcome;
+use super::cells::some_turn;
+use super::cells::take_matches;
+use super::cells::tick_counters;
+use super::cells::tick_turns;
+use word::union;
+
+impl Model {
+    pub fn activate<'a>(
+        self,
+        callable_rank: &'a [u8; 32],
+        priority: &'a [u8; 32],
+        t: u32,
+    ) -> Outcome
+        ensures { λ r. ⌜ r ≡ outcomeOf
+            (activate (now («callable_rank» .entry)) (now (priority .entry)) (view self) t) ⌝ }
+    {
+        let step = self.registers.activate(callable_rank, priority, t);
+        let registers = step.registers;
+        let counter = self.counter;
+        let on = self.on;
+        let losses = self.losses;
+        let bits = self.bits;
+        let waited = self.waited;
+        Outcome {
+            model: Model {
+                registers,
+                counter,
+                on,
+                losses,
+                bits,
+                waited,
+            },
+            status: step.status,
+            begun: step.begun,
+        }
+    }
+
+    pub fn finish(self, priority: &[u8; 32]) -> Outcome
+        ensures { λ r. ⌜ r ≡ outcomeOf (finish (now (priority .entry)) (view self)) ⌝ }
+    {
+        let step = self.registers.finish(priority);
+        let registers = step.registers;
+        let counter = self.counter;
+        let on = self.on;
+        let losses = self.losses;
+        let bits = self.bits;
+        let waited = self.waited;
+        Outcome {
+            model: Model {
+                registers,
+                counter,
+                on,
+                losses,
+                bits,
+                waited,
+            },
+            status: step.status,
+            begun: step.begun,
+        }
+    }
+
+    pub fn chain<'a>(
+        self,
+        isrs: u32,
+        callable_rank: &'a [u8; 32],
+        priority: &'a [u8; 32],
+        t: u32,
+    ) -> Outcome
+        ensures { λ r. ⌜ r ≡ outcomeOf
+            (chain isrs (now («callable_rank» .entry)) (now (priority .entry)) (view self) t) ⌝ }
+    {
+        let step = self.registers.chain(isrs, callable_rank, priority, t);
+        let registers = step.registers;
+        let counter = self.counter;
+        let on = self.on;
+        let losses = self.losses;
+        let bits = self.bits;
+        let waited = self.waited;
+        Outcome {
+            model: Model {
+                registers,
+                counter,
+                on,
+                losses,
+                bits,
+                waited,
+            },
+            status: step.status,
+            begun: step.begun,
+        }
+    }
+
+    pub fn get<'a>(
+        self,
+        resources: u8,
+        users: &'a [u32; 16],
+        ceiling: &'a [u8; 16],
+        r: u32,
+    ) -> Outcome
+        ensures { λ o. ⌜ o ≡ outcomeOf (get resources (now (users .entry)) (now (ceiling .entry)) (view self) r) ⌝ }
+    {
+        let step = self.registers.get(resources, users, ceiling, r);
+        let registers = step.registers;
+        let counter = self.counter;
+        let on = self.on;
+        let losses = self.losses;
+        let bits = self.bits;
+        let waited = self.waited;
+        Outcome {
+            model: Model {
+                registers,
+                counter,
+                on,
+                losses,
+                bits,
+                waited,
+            },
+            status: step.status,
+            begun: step.begun,
+        }
+    }
+
+    pub fn release(self, resources: u8, priority: &[u8; 32], r: u32) -> Outcome
+        ensures { λ o. ⌜ o ≡ outcomeOf (release resources (now (priority .entry)) (view self) r) ⌝ }
+    {
+        let step = self.registers.release(resources, priority, r);
+        let registers = step.registers;
+        let counter = self.counter;
+        let on = self.on;
+        let losses = self.losses;
+        let bits = self.bits;
+        let waited = self.waited;
+        Outcome {
+            model: Model {
+                registers,
+                counter,
+                on,
+                losses,
+                bits,
+                waited,
+            },
+            status: step.status,
+            begun: step.begun,
+        }
+    }
+
+    // A tick where no cell has a turn to pass: the switches stay.
+    pub fn tick<'a>(
+        self,
+        compare: &'a [u16; 64],
+        entry_rank: &'a [u8; 64],
+        priority: &'a [u8; 32],
+    ) -> Outcome
+        requires { ⌜ self .registers .turning ≡ false ⌝ }
+        ensures { λ r. ⌜ r
+            ≡ outcomeOf (tick (now (compare .entry)) (now («entry_rank» .entry)) (now (priority .entry)) (view self)) ⌝ }
+    {
+        let on = self.on;
+        let mut counter = self.counter;
+        let mut losses = self.losses;
+        let matched = tick_counters(compare, &on, &mut counter);
+        let begun = union(self.registers.started, self.registers.aside);
+        let request = take_matches(
+            &matched,
+            entry_rank,
+            begun,
+            self.registers.request,
+            &mut losses,
+        );
+        let step = self.registers.triggering(request, priority);
+        let registers = step.registers;
+        let bits = self.bits;
+        let waited = self.waited;
+        Outcome {
+            model: Model {
+                registers,
+                counter,
+                on,
+                losses,
+                bits,
+                waited,
+            },
+            status: step.status,
+            begun: step.begun,
+        }
+    }
+
+    // A tick where a cell may have one.
+    pub fn tick_turning<'a>(
+        self,
+        compare: &'a [u16; 64],
+        entry_rank: &'a [u8; 64],
+        priority: &'a [u8; 32],
+    ) -> Outcome
+        requires { ⌜ self .registers .turning ≡ true ⌝ }
+        ensures { λ r. ⌜ r
+            ≡ outcomeOf (tick (now (compare .entry)) (now («entry_rank» .entry)) (now (priority .entry)) (view self)) ⌝ }
+    {
+        let mut on = self.on;
+        let mut counter = self.counter;
+        let mut losses = self.losses;
+        let matched = tick_turns(compare, &mut counter, &mut on);
+        let begun = union(self.registers.started, self.registers.aside);
+        let request = take_matches(
+            &matched,
+            entry_rank,
+            begun,
+            self.registers.request,
+            &mut losses,
+        );
+        let mut registers = self.registers;
+        registers.turning = some_turn(&on);
+        let step = registers.triggering(request, priority);
+        let registers = step.registers;
+        let bits = self.bits;
+        let waited = self.waited;
+        Outcome {
+            model: Model {
+                registers,
+                counter,
+                on,
+                losses,
+                bits,
+                waited,
+            },
+            status: step.status,
+            begun: step.begun,
+        }
+    }
+
+    // `counts`: whether a line that is lost counts as a loss.
+    pub fn line<'a>(
+        self,
+        counts: bool,
+        line_rank: &'a [u8; 32],
+        priority: &'a [u8; 32],
+        i: u32,
+    ) -> Outcome
+        ensures { λ r. ⌜ r ≡ outcomeOf
+            (line counts (now («line_rank» .entry)) (now (priority .entry)) (view self) i) ⌝ }
+    {
+        let mut losses = self.losses;
+        let step = self.registers
+            .line(counts, line_rank, priority, i, &mut losses);
+        let registers = step.registers;
+        let counter = self.counter;
+        let on = self.on;
+        let bits = self.bits;
+        let waited = self.waited;
+        Outcome {
+            model: Model {
+                registers,
+                counter,
+                on,
+                losses,
+                bits,
+                waited,
+            },
+            status: step.status,
+            begun: step.begun,
+        }
+    }
+
+    pub fn start<'a>(
+        self,
+        tables: u8,
+        first: &'a [u8; 8],
+        entries: &'a [u8; 8],
+        period: &'a [u16; 8],
+        offset: &'a [u16; 64],
+        t: u32,
+        d: u32,
+    ) -> Outcome
+        requires { ⌜ RowsHold tables (now first) (now entries) ⌝ }
+        ensures { λ r. ⌜ r
+            ≡ outcomeOf (start tables (now (first .entry)) (now (entries .entry)) (now (period .entry))
+            (now (offset .entry)) (view self) t d) ⌝ }
+    {
+        let mut counter = self.counter;
+        let mut on = self.on;
+        let step = self.registers.start(
+            tables,
+            first,
+            entries,
+            period,
+            offset,
+            t,
+            d,
+            &mut counter,
+            &mut on,
+        );
+        let registers = step.registers;
+        let losses = self.losses;
+        let bits = self.bits;
+        let waited = self.waited;
+        Outcome {
+            model: Model {
+                registers,
+                counter,
+                on,
+                losses,
+                bits,
+                waited,
+            },
+            status: step.status,
+            begun: step.begun,
+        }
+    }
+
+    pub fn stop<'a>(self, tables: u8, first: &'a [u8; 8], entries: &'a [u8; 8], t: u32) -> Outcome
+        requires { ⌜ RowsHold tables (now first) (now entries) ⌝ }
+        ensures { λ r. ⌜ r ≡ outcomeOf (stop tables (now (first .entry)) (now (entries .entry)) (view self) t) ⌝ }
+    {
+        let mut counter = self.counter;
+        let mut on = self.on;
+        let step = self.registers
+            .stop(tables, first, entries, t, &mut counter, &mut on);
+        let registers = step.registers;
+        let losses = self.losses;
+        let bits = self.bits;
+        let waited = self.waited;
+        Outcome {
+            model: Model {
+                registers,
+                counter,
+                on,
+                losses,
+                bits,
+                waited,
+            },
+            status: step.status,
+            begun: step.begun,
+        }
+    }
+
+    // `extended`: the ranks that are extended tasks.
+    pub fn wait(self, extended: u32, priority: &[u8; 32], mask: u32) -> Outcome
+        ensures { λ r. ⌜ r ≡ outcomeOf (wait extended (now (priority .entry)) (view self) mask) ⌝ }
+    {
+        let bits = self.bits;
+        let mut waited = self.waited;
+        let step = self.registers
+            .wait(extended, priority, mask, &bits, &mut waited);
+        let registers = step.registers;
+        let counter = self.counter;
+        let on = self.on;
+        let losses = self.losses;
+        Outcome {
+            model: Model {
+                registers,
+                counter,
+                on,
+                losses,
+                bits,
+                waited,
+            },
+            status: step.status,
+            begun: step.begun,
+        }
+    }
+
+    // `isrs`: the ranks that are ISRs; `body_rank`: those of all bodies.
+    pub fn set_event<'a>(
+        self,
+        isrs: u32,
+        extended: u32,
+        body_rank: &'a [u8; 32],
+        priority: &'a [u8; 32],
+        t: u32,
+        mask: u32,
+    ) -> Outcome
+        ensures { λ r. ⌜ r
+            ≡ outcomeOf (setEvent isrs extended (now («body_rank» .entry)) (now (priority .entry)) (view self) t mask) ⌝ }
+    {
+        let waited = self.waited;
+        let mut bits = self.bits;
+        let step = self.registers.set_event(
+            isrs,
+            extended,
+            body_rank,
+            priority,
+            t,
+            mask,
+            &waited,
+            &mut bits,
+        );
+        let registers = step.registers;
+        let counter = self.counter;
+        let on = self.on;
+        let losses = self.losses;
+        Outcome {
+            model: Model {
+                registers,
+                counter,
+                on,
+                losses,
+                bits,
+                waited,
+            },
+            status: step.status,
+            begun: step.begun,
+        }
+    }
+
+    pub fn clear(self, extended: u32, mask: u32) -> Outcome
+        ensures { λ r. ⌜ r ≡ outcomeOf (clear extended (view self) mask) ⌝ }
+    {
+        let mut bits = self.bits;
+        let step = self.registers.clear(extended, mask, &mut bits);
+        let registers = step.registers;
+        let counter = self.counter;
+        let on = self.on;
+        let losses = self.losses;
+        let waited = self.waited;
+        Outcome {
+            model: Model {
+                registers,
+                counter,
+                on,
+                losses,
+                bits,
+                waited,
+            },
+            status: step.status,
+            begun: step.begun,
+        }
+    }
+}
