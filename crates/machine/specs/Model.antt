@@ -104,7 +104,7 @@ withSlots m l w rs hs ls =
 
 -- other counters, switches with or without a turn to pass, and losses
 abbrev pub withRest : Model → List ℕ → List ℕ → Bool → List ℕ → Model
-withRest m ns os w ls =
+withRest m ns on w ls =
     record {
       core = m .core;
       held = m .held;
@@ -112,7 +112,7 @@ withRest m ns os w ls =
       holder = m .holder;
       raised = m .raised;
       counter = ns;
-      on = os;
+      on = on;
       turning = w;
       losses = ls;
       cleared = m .cleared;
@@ -122,7 +122,7 @@ withRest m ns os w ls =
     }
 
 abbrev pub withCells : Model → List ℕ → List ℕ → Bool → Model
-withCells m ns os w = withRest m ns os w (m .losses)
+withCells m ns on w = withRest m ns on w (m .losses)
 
 abbrev pub withLosses : Model → List ℕ → Model
 withLosses m ls = withRest m (m .counter) (m .on) (m .turning) ls

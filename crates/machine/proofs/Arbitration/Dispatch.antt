@@ -101,9 +101,9 @@ module _ {c : Config} {p : Plan} {rk : ℕ → ℕ} (fit : Fitted c p rk) where
       → hasBegun (at (s .bodies) j .phase) ≡ true → Tied c rk m (s .bodies) (s .order) ns
       → Arbitrated c p rk (record { model = m; status = st; begun = false }) s
   timed-on {m} {ns} s st j js e j< entered =
-      subst (λ (os : List ℕ). Tied c rk m (s .bodies) os ns
-      → ArbitratedTo c p rk (record { model = m; status = st; begun = false }) os (latestOf (s .bodies) os (chosen c (s .bodies)))
-      (dispatchedTo (latestOf (s .bodies) os (chosen c (s .bodies))) s .bodies))
+      subst (λ (js : List ℕ). Tied c rk m (s .bodies) js ns
+      → ArbitratedTo c p rk (record { model = m; status = st; begun = false }) js (latestOf (s .bodies) js (chosen c (s .bodies)))
+      (dispatchedTo (latestOf (s .bodies) js (chosen c (s .bodies))) s .bodies))
       (sym e) runs
     where
       runs : Tied c rk m (s .bodies) (j ∷ js) ns
@@ -338,7 +338,7 @@ module _ {c : Config} {p : Plan} {rk : ℕ → ℕ} (fit : Fitted c p rk) where
       → Arbitrated c p rk (settled (p .priority) m) s
   settled-tied {m} {ns} s seated kinds t = by (s .order) refl
     where
-      by : (os : List ℕ) → s .order ≡ os → Arbitrated c p rk (settled (p .priority) m) s
+      by : (js : List ℕ) → s .order ≡ js → Arbitrated c p rk (settled (p .priority) m) s
       by [] e = plainly s e (settled-plain s kinds (rw e at t))
       by (j ∷ js) e =
           let h = seated j js e in
@@ -348,6 +348,6 @@ module _ {c : Config} {p : Plan} {rk : ℕ → ℕ} (fit : Fitted c p rk) where
       → Calm c (m .core .level) (s .bodies) → Arbitrated c p rk (record { model = m; status = st; begun = false }) s
   calm-arbitrated {m} {ns} s st seated t calm = by (s .order) refl
     where
-      by : (os : List ℕ) → s .order ≡ os → Arbitrated c p rk (record { model = m; status = st; begun = false }) s
+      by : (js : List ℕ) → s .order ≡ js → Arbitrated c p rk (record { model = m; status = st; begun = false }) s
       by [] e = plainly s e (calm-plain s st (rw e at t) calm)
       by (j ∷ js) e = let h = seated j js e in timed-on s st j js e (h .0) (h .1) t

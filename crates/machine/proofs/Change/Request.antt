@@ -26,8 +26,8 @@ use Rattle.machine.proofs.Relation.Whole.{Tied}
 use Rattle.machine.proofs.Arbitration.Dispatch.{rank-below}
 
 module _ {c : Config} {rk : ℕ → ℕ} {m : Model} {bs : List Body} {js ns : List ℕ} (t : Tied c rk m bs js ns) where
-  pub elsewhere : (ks os : List ℕ) (w : Bool) (ls : List ℕ) → Tied c rk (withRest m ks os w ls) bs js ns
-  elsewhere ks os w ls = record { size = t .size; words = t .words; nested = t .nested; seats = t .seats; slots = t .slots; loose = t .loose }
+  pub elsewhere : (ks on : List ℕ) (w : Bool) (ls : List ℕ) → Tied c rk (withRest m ks on w ls) bs js ns
+  elsewhere ks on w ls = record { size = t .size; words = t .words; nested = t .nested; seats = t .seats; slots = t .slots; loose = t .loose }
 
   pub events-tied : (x : ℕ) (es ws : List ℕ) → Tied c rk (withEvents m (m .core) x es ws) bs js ns
   events-tied x es ws = record { size = t .size; words = t .words; nested = t .nested; seats = t .seats; slots = t .slots; loose = t .loose }

@@ -90,15 +90,15 @@ module _ {c : Config} {p : Plan} {rk : ℕ → ℕ} (fit : Fitted c p rk) {m : M
   hold′ = hold-alike c rk bs bs′ ns alike (seat .1 .1)
 
   -- who runs then
-  seats′ : (os : List ℕ) → js ≡ os → Seats c rk bs′ os (returned m .runner) (returned m .level) ns
+  seats′ : (is : List ℕ) → js ≡ is → Seats c rk bs′ is (returned m .runner) (returned m .level) ns
   seats′ [] e =
-      let none : alone m ≡ true = eq-eqb (secondRow (m .triggered)) noRank (row-shows-second (m .triggered) (rk j) (map rk js) row ∙ ap (λ (os : List ℕ). getD (map rk os) 0 noRank) e) in
+      let none : alone m ≡ true = eq-eqb (secondRow (m .triggered)) noRank (row-shows-second (m .triggered) (rk j) (map rk js) row ∙ ap (λ (is : List ℕ). getD (map rk is) 0 noRank) e) in
       rw none (last-seated fit m bs′ ns nested′ hold′ slots′)
-  seats′ (i ∷ os) e =
-      let next : secondRow (m .triggered) ≡ rk i = row-shows-second (m .triggered) (rk j) (map rk js) row ∙ ap (λ (os : List ℕ). getD (map rk os) 0 noRank) e in
-      let i< : i < c .bodies = exist i (rw e (among-head i os)) in
+  seats′ (i ∷ is) e =
+      let next : secondRow (m .triggered) ≡ rk i = row-shows-second (m .triggered) (rk j) (map rk js) row ∙ ap (λ (is : List ℕ). getD (map rk is) 0 noRank) e in
+      let i< : i < c .bodies = exist i (rw e (among-head i is)) in
       let some : alone m ≡ false = ne-eqb (secondRow (m .triggered)) noRank (λ z. absurd (omega (arith, z, next, rank-below fit i i<))) in
-      rw some (timed-seats c rk bs′ i os (secondRow (m .triggered)) executionLevel ns next refl hold′)
+      rw some (timed-seats c rk bs′ i is (secondRow (m .triggered)) executionLevel ns next refl hold′)
 
   pub return-tied : Tied c rk (returning m) (set bs j (finished (at bs j))) js ns
   return-tied =

@@ -42,7 +42,7 @@ use Rattle.machine.proofs.Relation.Words.{at}
 use Rattle.machine.proofs.Relation.Nest.{Nested, Seats, timed-seat}
 use Rattle.machine.proofs.Relation.Rows.{Shows}
 use Rattle.machine.proofs.Relation.Order.{latest-exists, latest-begun, kinds-of}
-use Rattle.machine.proofs.Relation.Cells.{Timed}
+use Rattle.machine.proofs.Relation.Cells.{CellsTied}
 use Rattle.machine.proofs.Relation.Losses.{Lost, lost-same}
 use Rattle.machine.proofs.Relation.Bits.{eventBits, Noted, noted-same}
 use Rattle.machine.proofs.Relation.Whole.{Tied, Calm, Sim}
@@ -81,12 +81,12 @@ begins-unsuspended c s top b = by (s .order) refl
         let n : k .number ≡ i = ap (λ (x : Candidate). x .number) (z ∙ candidate-active c i (at (s .bodies) i) (at (s .bodies) i .phase) p) in
         rw n (h, active (at (s .bodies) i .phase) p)
 
-    by : (os : List ℕ) → s .order ≡ os → (runner c s .number < length (s .bodies)) × (isSuspended (at (s .bodies) (runner c s .number) .phase) ≡ false)
+    by : (js : List ℕ) → s .order ≡ js → (runner c s .number < length (s .bodies)) × (isSuspended (at (s .bodies) (runner c s .number) .phase) ≡ false)
     by [] e =
-        let k : runner c s ≡ chosen c (s .bodies) = ap (λ (os : List ℕ). latestOf (s .bodies) os (chosen c (s .bodies))) e in
+        let k : runner c s ≡ chosen c (s .bodies) = ap (λ (js : List ℕ). latestOf (s .bodies) js (chosen c (s .bodies))) e in
         rw k (go (chosen c (s .bodies)) (rw k at b) (chosen-from byHolding refl c (s .bodies)))
     by (j ∷ js) e =
-        let k : runner c s .number ≡ j = ap (λ (os : List ℕ). latestOf (s .bodies) os (chosen c (s .bodies)) .number) e in
+        let k : runner c s .number ≡ j = ap (λ (js : List ℕ). latestOf (s .bodies) js (chosen c (s .bodies)) .number) e in
         rw k (top j js e)
 
 -- a dispatch changes no losses
@@ -173,13 +173,13 @@ pub record Agrees (c : Config) (p : Plan) (rk : ℕ → ℕ) (m : Model) (s : St
   pub sim : Sim c p rk (machineStep c p m e .model) (step c s e .state)
 
 -- what the two sides owe where the call is accepted: o is the machine's outcome, s′ the scheduler's state before the dispatch
-pub record Accepted (c : Config) (p : Plan) (rk : ℕ → ℕ) (o : Outcome) (s′ : State) : Type 0 where
+pub record Done (c : Config) (p : Plan) (rk : ℕ → ℕ) (o : Outcome) (s′ : State) : Type 0 where
   pub status : o .status ≡ done
   pub arb : Arbitrated c p rk o s′
   pub latest : LatestActive s′
   pub row : Shows (rowBytes (o .model .triggered)) (map rk (s′ .order))
   pub size : length (s′ .bodies) ≡ c .bodies
-  pub timed : Timed c p (o .model .counter) (o .model .on) (o .model .turning) (s′ .tables)
+  pub cells : CellsTied c p (o .model .counter) (o .model .on) (o .model .turning) (s′ .tables)
   pub lost : Lost c rk (o .model .losses) (s′ .bodies)
   pub noted : Noted c rk (o .model .cleared) (o .model .bits) (o .model .waited) (s′ .bodies)
 
@@ -248,7 +248,7 @@ module _ {c : Config} {p : Plan} {rk : ℕ → ℕ} (fit : Fitted c p rk) where
   by-runner {C = C} {m = m} {s = s} sim f g h = by (s .order) refl (sim .tied)
     where
       chosen-is : s .order ≡ [] → runner c s ≡ chosen c (s .bodies)
-      chosen-is e = ap (λ (os : List ℕ). latestOf (s .bodies) os (chosen c (s .bodies))) e
+      chosen-is e = ap (λ (js : List ℕ). latestOf (s .bodies) js (chosen c (s .bodies))) e
 
       go : s .order ≡ [] → (ns : List ℕ) → Tied c rk m (s .bodies) [] ns → Calm c (m .core .level) (s .bodies) → C
       go e [] t calm = f (eq-eqb (m .core .runner) noRank (t .seats .0)) (rw (chosen-is e ∙ chosen-none fit t calm refl))
@@ -274,11 +274,11 @@ module _ {c : Config} {p : Plan} {rk : ℕ → ℕ} (fit : Fitted c p rk) where
             started-now = t .nested .1 .0;
           })
 
-      by : (os : List ℕ) → s .order ≡ os → Tied c rk m (s .bodies) (s .order) (sim .nest) → C
+      by : (js : List ℕ) → s .order ≡ js → Tied c rk m (s .bodies) (s .order) (sim .nest) → C
       by [] e t = go e (sim .nest) (rw e at t) (sim .calm)
       by (j ∷ js) e t =
           let seat = timed-seat c rk (s .bodies) j js (m .core .runner) (m .core .level) (sim .nest) (rw e at (t .seats)) in
-          let k : runner c s ≡ latestOf (s .bodies) (j ∷ js) (chosen c (s .bodies)) = ap (λ (os : List ℕ). latestOf (s .bodies) os (chosen c (s .bodies))) e in
+          let k : runner c s ≡ latestOf (s .bodies) (j ∷ js) (chosen c (s .bodies)) = ap (λ (js : List ℕ). latestOf (s .bodies) js (chosen c (s .bodies))) e in
           let level : timed m ≡ true = eq-eqb (m .core .level) executionLevel (seat .1 .0) in
           h j js
           (record {
@@ -323,7 +323,7 @@ module _ {c : Config} {p : Plan} {rk : ℕ → ℕ} (fit : Fitted c p rk) where
   latest-of o j js e = (rw (o .bodies-there) (latest-exists o j js e), ap isSuspended (latest-begun o j js e))
 
   -- where no time-triggered task is started
-  pub untimed-tied : {m : Model} {bs : List Body} {ns os : List ℕ} → os ≡ [] → Tied c rk m bs [] ns → Tied c rk m bs os ns
+  pub untimed-tied : {m : Model} {bs : List Body} {ns js : List ℕ} → js ≡ [] → Tied c rk m bs [] ns → Tied c rk m bs js ns
   untimed-tied {m} {bs} {ns} e = subst (λ (js : List ℕ). Tied c rk m bs js ns) (sym e)
 
   -- an event that leaves a state in order ends in arbitration
@@ -334,7 +334,7 @@ module _ {c : Config} {p : Plan} {rk : ℕ → ℕ} (fit : Fitted c p rk) where
       (machine : machineStep c p m e ≡ o) (plain : step c s e ≡ ending c st ds s″) (status : o .status ≡ st) (due : matched p m e ≡ ds)
       (arb : Arbitrated c p rk o s″) (latest : LatestActive s″) (orderly : Orderly c (step c s e .state))
       (row : Shows (rowBytes (o .model .triggered)) (map rk (s″ .order))) (size : length (s″ .bodies) ≡ c .bodies)
-      (timed : Timed c p (o .model .counter) (o .model .on) (o .model .turning) (s″ .tables)) (lost : Lost c rk (o .model .losses) (s″ .bodies))
+      (cells : CellsTied c p (o .model .counter) (o .model .on) (o .model .turning) (s″ .tables)) (lost : Lost c rk (o .model .losses) (s″ .bodies))
       (noted : Noted c rk (o .model .cleared) (o .model .bits) (o .model .waited) (s″ .bodies)) where
     pub agrees : Agrees c p rk m s e
     agrees =
@@ -345,7 +345,7 @@ module _ {c : Config} {p : Plan} {rk : ℕ → ℕ} (fit : Fitted c p rk) where
                 nest = arb .nest;
                 tied = rw (order-dispatched c s″ latest) (arb .tied);
                 calm = arb .calm;
-                timed = rw (tables-dispatched c s″) timed;
+                cells = rw (tables-dispatched c s″) cells;
                 lost = lost-same (dispatched-losses c s″) lost;
                 noted = noted-same (dispatched-bits c s″ latest) (dispatched-masks c s″ latest) noted;
                 orderly = rw plain at orderly;
@@ -370,23 +370,23 @@ module _ {c : Config} {p : Plan} {rk : ℕ → ℕ} (fit : Fitted c p rk) where
         → machineStep c p m e ≡ Machine.attempt m′ stM o
         → step c s e ≡ ending c stP (noneDue c s) (cond (eqb stP done) s′ s″)
         → matched p m e ≡ noneDue c s
-        → stM ≡ stP → (stP ≡ done → Accepted c p rk o s′) → (stP ≢ done → Sim c p rk m′ s″) → Orderly c (step c s e .state) → Agrees c p rk m s e
+        → stM ≡ stP → (stP ≡ done → Done c p rk o s′) → (stP ≢ done → Sim c p rk m′ s″) → Orderly c (step c s e .state) → Agrees c p rk m s e
     agrees-either e stM stP o m′ s′ s″ machine plain due same acc ref next =
         by-eq stP done
         (λ z. let a = acc z in
         agrees e o stP (noneDue c s) s′
-        (machine ∙ rw (same, eq-eqb stP done z)) (plain ∙ rw (eq-eqb stP done z)) (a .status ∙ sym z) due (a .arb) (a .latest) next (a .row) (a .size) (a .timed) (a .lost) (a .noted))
+        (machine ∙ rw (same, eq-eqb stP done z)) (plain ∙ rw (eq-eqb stP done z)) (a .status ∙ sym z) due (a .arb) (a .latest) next (a .row) (a .size) (a .cells) (a .lost) (a .noted))
         (λ n. let k = ref n in
         agrees e (refusedWith m′ stM) stP (noneDue c s) s″
         (machine ∙ attempt-refused m′ stM o (λ z. n (sym same ∙ z))) (plain ∙ rw (ne-eqb stP done n)) same due
-        (calm-arbitrated fit s″ stM (seated-of (k .orderly)) (k .tied) (k .calm)) (latest-of (k .orderly)) next (k .row) (k .tied .size) (k .timed) (k .lost) (k .noted))
+        (calm-arbitrated fit s″ stM (seated-of (k .orderly)) (k .tied) (k .calm)) (latest-of (k .orderly)) next (k .row) (k .tied .size) (k .cells) (k .lost) (k .noted))
 
   module _ {m : Model} {s : State} (sim : Sim c p rk m s) where
     pub agrees-attempt : (e : Event) (stM stP : ℕ) (o : Outcome) (s′ : State)
         → machineStep c p m e ≡ Machine.attempt m stM o
         → step c s e ≡ ending c stP (noneDue c s) (cond (eqb stP done) s′ s)
         → matched p m e ≡ noneDue c s
-        → stM ≡ stP → (stP ≡ done → Accepted c p rk o s′) → Orderly c (step c s e .state) → Agrees c p rk m s e
+        → stM ≡ stP → (stP ≡ done → Done c p rk o s′) → Orderly c (step c s e .state) → Agrees c p rk m s e
     agrees-attempt e stM stP o s′ machine plain due same acc next =
         agrees-either e stM stP o m s′ s machine plain due same acc (λ _. sim) next
 

@@ -39,7 +39,7 @@ use Rattle.machine.proofs.Arbitration.Dispatch.{rank-below, calm-arbitr
 use Rattle.machine.proofs.Change.Request.{touched-tied, events-tied}
 use Rattle.machine.proofs.Change.End.{pause-tied}
 use Rattle.machine.proofs.Change.Bits.{bits-of, receive-tied, receive-noted, clear-noted}
-use Rattle.machine.proofs.Event.Agrees.{kept, first-same, first-passed, Agrees, Accepted, Keeps, Runs, by-caller, caller-same, seated-of, latest-of, untimed-tied, settled-orderly, agrees-attempt, no-match}
+use Rattle.machine.proofs.Event.Agrees.{kept, first-same, first-passed, Agrees, Done, Keeps, Runs, by-caller, caller-same, seated-of, latest-of, untimed-tied, settled-orderly, agrees-attempt, no-match}
 use Rattle.machine.proofs.Event.Bodies.{task-exists, nothing-held, holding-same}
 
 -- a body that is started isn't suspended
@@ -94,10 +94,10 @@ module _ {c : Config} {p : Plan} {rk : ℕ → ℕ} (fit : Fitted c p rk) {m : M
       mask : (u v : ℕ) → waiting u ≡ waiting v → u ≡ v
       mask u v h = cc
 
-  wait-accepted : {b : ℕ} {ns : List ℕ} → Runs c rk m s b ns → isIsr c b ≡ false → (w : ℕ) → at bs b .held ≡ [] → (z : Bool)
+  wait-done : {b : ℕ} {ns : List ℕ} → Runs c rk m s b ns → isIsr c b ≡ false → (w : ℕ) → at bs b .held ≡ [] → (z : Bool)
       → Orderly c (changing b (λ x. cond z x (become (waiting w) x)) s)
-      → Accepted c p rk (cond z (doneWith m false) (settled (p .priority) (pausing w m))) (changing b (λ x. cond z x (become (waiting w) x)) s)
-  wait-accepted {b} k task w free true mid =
+      → Done c p rk (cond z (doneWith m false) (settled (p .priority) (pausing w m))) (changing b (λ x. cond z x (become (waiting w) x)) s)
+  wait-done {b} k task w free true mid =
       rw (set-getD bs b noBody)
       (record {
         status = refl;
@@ -105,18 +105,18 @@ module _ {c : Config} {p : Plan} {rk : ℕ → ℕ} (fit : Fitted c p rk) {m : M
         latest = latest-of fit (sim .orderly);
         row = sim .row;
         size = sim .tied .size;
-        timed = sim .timed;
+        cells = sim .cells;
         lost = sim .lost;
         noted = sim .noted;
       })
-  wait-accepted {b} k task w free false mid =
+  wait-done {b} k task w free false mid =
       record {
         status = refl;
         arb = settled-orderly fit (changing b (become (waiting w)) s) mid (untimed-tied fit (k .none-timed) (pause-tied fit (k .tied) free task w));
         latest = latest-of fit mid;
         row = sim .row;
         size = mid .bodies-there;
-        timed = sim .timed;
+        cells = sim .cells;
         lost = lost-same (kept (λ x. x .losses) (become (waiting w)) (λ x. refl) bs b) (sim .lost);
         noted = paused-noted k w;
       }
@@ -135,7 +135,7 @@ module _ {c : Config} {p : Plan} {rk : ℕ → ℕ} (fit : Fitted c p rk) {m : M
       let task : isIsr c b ≡ false = of-one-kind c b extended isr (λ e. absurd (omega (arith, e))) (ap (isExtended c) (sym (k .calls)) ∙ a .1) in
       rw (k .calls)
       (rw (ap (bitsAt m) (k .rank) ∙ bits-of m (sim .noted) b (k .exists) (runner-active k))
-      (wait-accepted k task w free (anySet (at bs b .bits) w) (rw (k .calls) at mid)))))
+      (wait-done k task w free (anySet (at bs b .bits) w) (rw (k .calls) at mid)))))
       (keeps .next (Wait w))
 
   -- Set
@@ -180,7 +180,7 @@ module _ {c : Config} {p : Plan} {rk : ℕ → ℕ} (fit : Fitted c p rk) {m : M
         latest = latest-of fit mid;
         row = sim .row;
         size = mid .bodies-there;
-        timed = sim .timed;
+        cells = sim .cells;
         lost = lost-same (kept (λ x. x .losses) (receives w) (λ x. refl) bs t) (sim .lost);
         noted = receive-noted fit m t t< (sim .noted) act w (sim .tied .size);
       }))
@@ -225,7 +225,7 @@ module _ {c : Config} {p : Plan} {rk : ℕ → ℕ} (fit : Fitted c p rk) {m : M
         arb = calm-arbitrated fit (clear b w s) done (seated-of fit (rw (k .calls) at mid)) (untimed-tied fit (k .none-timed) (clear-tied k w))
             (λ i i< u. sim .calm i i< (sym (kept (λ x. competes (x .phase)) (clears w) (λ x. refl) bs b i) ∙ u));
         size = length-set bs b (clears w (at bs b)) ∙ sim .tied .size;
-        timed = sim .timed;
+        cells = sim .cells;
         lost = lost-same (kept (λ x. x .losses) (clears w) (λ x. refl) bs b) (sim .lost);
         noted = rw (k .rank) (clear-noted fit m b (k .exists) (sim .noted) (runner-active k) w (sim .tied .size));
       })))

@@ -46,7 +46,7 @@ use Rattle.machine.proofs.Change.Request.{elsewhere, activate-tied, los
 use Rattle.machine.proofs.Change.End.{end-tied}
 use Rattle.machine.proofs.Change.Hold.{holding-is, holding-timed}
 use Rattle.machine.proofs.Change.Return.{return-tied}
-use Rattle.machine.proofs.Event.Agrees.{kept, first-same, first-passed, Agrees, Accepted, Keeps, Runs, Enters, by-runner, by-caller, caller-same, latest-of, untimed-tied, settled-orderly, agrees-either, agrees-attempt, no-match}
+use Rattle.machine.proofs.Event.Agrees.{kept, first-same, first-passed, Agrees, Done, Keeps, Runs, Enters, by-runner, by-caller, caller-same, latest-of, untimed-tied, settled-orderly, agrees-either, agrees-attempt, no-match}
 
 module _ (c : Config) where
   pub task-exists : (t : ℕ) → isTask c t ≡ true → t < c .bodies
@@ -110,7 +110,7 @@ module _ {c : Config} {p : Plan} {rk : ℕ → ℕ} (fit : Fitted c p rk) where
           latest = latest-of fit mid;
           row = sim .row;
           size = mid .bodies-there;
-          timed = sim .timed;
+          cells = sim .cells;
           lost = lost-same (kept (λ x. x .losses) activated (λ x. refl) bs t) (sim .lost);
           noted = activated-noted (sim .noted) (sim .tied .size) t (osek-exists c t (a .1)) (rw (a .2));
         }))
@@ -130,7 +130,7 @@ module _ {c : Config} {p : Plan} {rk : ℕ → ℕ} (fit : Fitted c p rk) where
           nest = sim .nest;
           tied = elsewhere (loss-tied (sim .tied) fit i i<) (m .counter) (m .on) (m .turning) (oneLost (rk i) (m .losses));
           calm = λ b b< h. sim .calm b b< (sym (kept (λ x. competes (x .phase)) loses (λ x. refl) bs i b) ∙ h);
-          timed = sim .timed;
+          cells = sim .cells;
           lost = lost-one fit (sim .tied .size) (sim .lost) i i<;
           noted = noted-touched fit (sim .noted) (sim .tied .size) i i< (loses (at bs i)) refl (λ w h. h);
           orderly = mid;
@@ -183,7 +183,7 @@ module _ {c : Config} {p : Plan} {rk : ℕ → ℕ} (fit : Fitted c p rk) where
           latest = latest-of fit mid;
           row = sim .row;
           size = mid .bodies-there;
-          timed = sim .timed;
+          cells = sim .cells;
           lost = lost-same (kept (λ x. x .losses) requested (λ x. same-losses x (x .phase)) bs i) (sim .lost);
           noted = line-noted i (isr-exists c i (a .0)) (at bs i .phase) refl (a .1);
         }))
@@ -216,9 +216,9 @@ module _ {c : Config} {p : Plan} {rk : ℕ → ℕ} (fit : Fitted c p rk) where
         timed-holding {j} {js} k =
             holding-timed fit (sim .tied) (k .rank) (k .exists) (ap isStarted (k .phase))
 
-    finish-accepted : {b : ℕ} {ns : List ℕ} → Runs c rk m s b ns → holds (calling c s .held) ≡ false
+    finish-tied : {b : ℕ} {ns : List ℕ} → Runs c rk m s b ns → holds (calling c s .held) ≡ false
         → Tied c rk (leaving m) (finish (caller c s) s .bodies) (s .order) ns
-    finish-accepted {b} k h =
+    finish-tied {b} k h =
         untimed-tied fit (k .none-timed)
         (rw (k .calls) (end-tied fit (k .tied) (nothing-held (at bs b .held) (sym (ap (λ (i : ℕ). holds (bodyOf s i .held)) (k .calls)) ∙ h))))
 
@@ -253,48 +253,48 @@ module _ {c : Config} {p : Plan} {rk : ℕ → ℕ} (fit : Fitted c p rk) where
         awake false = refl
 
     -- a runner of OSEK's ends
-    ended-accepted : {b : ℕ} {ns : List ℕ} → Runs c rk m s b ns → holds (calling c s .held) ≡ false → Orderly c (finish (caller c s) s)
-        → Accepted c p rk (settled (p .priority) (leaving m)) (finish (caller c s) s)
-    ended-accepted {b} k free mid =
+    ended-done : {b : ℕ} {ns : List ℕ} → Runs c rk m s b ns → holds (calling c s .held) ≡ false → Orderly c (finish (caller c s) s)
+        → Done c p rk (settled (p .priority) (leaving m)) (finish (caller c s) s)
+    ended-done {b} k free mid =
         record {
           status = refl;
-          arb = settled-orderly fit (finish (caller c s) s) mid (finish-accepted k free);
+          arb = settled-orderly fit (finish (caller c s) s) mid (finish-tied k free);
           latest = latest-of fit mid;
           row = sim .row;
           size = mid .bodies-there;
-          timed = sim .timed;
+          cells = sim .cells;
           lost = lost-same finish-losses (sim .lost);
           noted = finish-noted b (k .calls) (k .rank) (k .exists);
         }
 
     -- a time-triggered task ends
-    returned-accepted : {j : ℕ} {js : List ℕ} → Enters c rk m s j js → Orderly c (finishTimed (caller c s) s)
-        → Accepted c p rk (settled (p .priority) (returning m)) (finishTimed (caller c s) s)
-    returned-accepted {j} {js} k mid =
+    returned-done : {j : ℕ} {js : List ℕ} → Enters c rk m s j js → Orderly c (finishTimed (caller c s) s)
+        → Done c p rk (settled (p .priority) (returning m)) (finishTimed (caller c s) s)
+    returned-done {j} {js} k mid =
         record {
           status = refl;
           arb = settled-orderly fit (finishTimed (caller c s) s) mid left;
           latest = latest-of fit mid;
-          row = subst (λ (os : List ℕ). Shows (rowBytes (popRow (m .triggered))) (map rk (rest os))) (sym (k .order-is))
+          row = subst (λ (js : List ℕ). Shows (rowBytes (popRow (m .triggered))) (map rk (rest js))) (sym (k .order-is))
               (row-shows-popped (m .triggered) (rk j) (map rk js) row);
           size = mid .bodies-there;
-          timed = sim .timed;
+          cells = sim .cells;
           lost = lost-same finish-losses (sim .lost);
           noted = finish-noted j (k .calls) (k .rank) (k .exists);
         }
       where
         row : Shows (rowBytes (m .triggered)) (rk j ∷ map rk js)
-        row = subst (λ (os : List ℕ). Shows (rowBytes (m .triggered)) (map rk os)) (k .order-is) (sim .row)
+        row = subst (λ (js : List ℕ). Shows (rowBytes (m .triggered)) (map rk js)) (k .order-is) (sim .row)
 
         exist : (i : ℕ) → among i js ≡ true → i < c .bodies
         exist i h =
-            timed-exists c i (sim .orderly .started-timed i (subst (λ (os : List ℕ). among i os ≡ true) (sym (k .order-is)) (among-tail i j js h)))
+            timed-exists c i (sim .orderly .started-timed i (subst (λ (js : List ℕ). among i js ≡ true) (sym (k .order-is)) (among-tail i j js h)))
 
         left : Tied c rk (returning m) (finishTimed (caller c s) s .bodies) (rest (s .order)) (sim .nest)
         left =
-            subst (λ (os : List ℕ). Tied c rk (returning m) (finishTimed (caller c s) s .bodies) (rest os) (sim .nest)) (sym (k .order-is))
+            subst (λ (js : List ℕ). Tied c rk (returning m) (finishTimed (caller c s) s .bodies) (rest js) (sim .nest)) (sym (k .order-is))
             (rw (k .calls)
-            (return-tied fit js (subst (λ (os : List ℕ). Tied c rk m bs os (sim .nest)) (k .order-is) (sim .tied)) (k .exists) (k .phase)
+            (return-tied fit js (subst (λ (js : List ℕ). Tied c rk m bs js (sim .nest)) (k .order-is) (sim .tied)) (k .exists) (k .phase)
             (latest-free (sim .orderly) j js (k .order-is)) row exist))
 
     pub agrees-finish : Agrees c p rk m s Finish
@@ -306,8 +306,8 @@ module _ {c : Config} {p : Plan} {rk : ℕ → ℕ} (fit : Fitted c p rk) where
         let mid = keeps .effect Finish refl z in
         by-runner fit sim
         (λ i n. absurd (true≢false (sym n ∙ a .0)))
-        (λ b ns k. both-finish (k .plainly) (k .untimed) (ended-accepted k (a .1) (subst (λ (x : Bool). Orderly c (effect x)) (k .untimed) mid)))
-        (λ j js k. both-finish (k .runs) (k .timed-now) (returned-accepted k (subst (λ (x : Bool). Orderly c (effect x)) (k .timed-now) mid))))
+        (λ b ns k. both-finish (k .plainly) (k .untimed) (ended-done k (a .1) (subst (λ (x : Bool). Orderly c (effect x)) (k .untimed) mid)))
+        (λ j js k. both-finish (k .runs) (k .timed-now) (returned-done k (subst (λ (x : Bool). Orderly c (effect x)) (k .timed-now) mid))))
         (keeps .next Finish)
       where
         effect : Bool → State
@@ -317,11 +317,11 @@ module _ {c : Config} {p : Plan} {rk : ℕ → ℕ} (fit : Fitted c p rk) where
         leaves x = cond x (returning m) (leaving m)
 
         -- both sides ask whether the runner is time-triggered
-        both-finish : {x y : Bool} → timed m ≡ x → runner c s .timed ≡ y → Accepted c p rk (settled (p .priority) (leaves x)) (effect y)
-            → Accepted c p rk (settled (p .priority) (leaves (timed m))) (effect (runner c s .timed))
+        both-finish : {x y : Bool} → timed m ≡ x → runner c s .timed ≡ y → Done c p rk (settled (p .priority) (leaves x)) (effect y)
+            → Done c p rk (settled (p .priority) (leaves (timed m))) (effect (runner c s .timed))
         both-finish {x} {y} e f a =
-            subst (λ (z : Bool). Accepted c p rk (settled (p .priority) (leaves (timed m))) (effect z)) (sym f)
-            (subst (λ (z : Bool). Accepted c p rk (settled (p .priority) (leaves z)) (effect y)) (sym e) a)
+            subst (λ (z : Bool). Done c p rk (settled (p .priority) (leaves (timed m))) (effect z)) (sym f)
+            (subst (λ (z : Bool). Done c p rk (settled (p .priority) (leaves z)) (effect y)) (sym e) a)
 
     -- Chain
     same-task : {b : ℕ} {ns : List ℕ} → Runs c rk m s b ns → (t : ℕ) → t < c .bodies → eqb (rk t) (m .core .runner) ≡ eqb t (caller c s)
@@ -385,11 +385,11 @@ module _ {c : Config} {p : Plan} {rk : ℕ → ℕ} (fit : Fitted c p rk) where
         (record {
           status = refl;
           arb = let q = chained-asleep k t (a .4) in
-              settled-orderly fit (chain (caller c s) t s) mid (activate-tied (finish-accepted k (a .3)) fit t (osek-exists c t (a .2)) (q .0) (q .1));
+              settled-orderly fit (chain (caller c s) t s) mid (activate-tied (finish-tied k (a .3)) fit t (osek-exists c t (a .2)) (q .0) (q .1));
           latest = latest-of fit mid;
           row = sim .row;
           size = mid .bodies-there;
-          timed = sim .timed;
+          cells = sim .cells;
           lost = lost-same (λ i. kept (λ x. x .losses) activated (λ x. refl) (finish (caller c s) s .bodies) t i ∙ finish-losses i) (sim .lost);
           noted = activated-noted (finish-noted b (k .calls) (k .rank) (k .exists)) (length-set bs (caller c s) (finished (calling c s)) ∙ sim .tied .size) t (osek-exists c t (a .2)) (chained-none k t (a .4));
         })))

@@ -185,7 +185,7 @@ module _ {c : Config} {p : Plan} {rk : ℕ → ℕ} (fit : Fitted c p rk) {m : M
         arb = calm-arbitrated fit (get (caller c s) r s) done (seated-of fit mid) t
             (λ i i< u. let q = sim .calm i i< (sym (get-phase (λ x. competes (x .phase)) (λ x _. refl) r i) ∙ u) in omega arith);
         size = mid .bodies-there;
-        timed = sim .timed;
+        cells = sim .cells;
         lost = lost-same (get-phase (λ x. x .losses) (λ x _. refl) r) (sim .lost);
         noted = noted-same (get-phase eventBits (λ x _. refl) r) (λ i w h. sym (get-phase (λ x. x .phase) (λ x _. refl) r i) ∙ h) (sim .noted);
       }))
@@ -223,7 +223,7 @@ module _ {c : Config} {p : Plan} {rk : ℕ → ℕ} (fit : Fitted c p rk) {m : M
         latest = latest-of fit mid;
         row = sim .row;
         size = mid .bodies-there;
-        timed = sim .timed;
+        cells = sim .cells;
         lost = lost-same (kept (λ x. x .losses) releases (λ x. refl) bs (caller c s)) (sim .lost);
         noted = noted-same (kept eventBits releases (λ x. refl) bs (caller c s))
             (λ i w h. sym (kept (λ x. x .phase) releases (λ x. refl) bs (caller c s) i) ∙ h) (sim .noted);

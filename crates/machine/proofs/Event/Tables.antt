@@ -31,11 +31,11 @@ use Rattle.machine.specs.Events as Machine
 use Rattle.machine.specs.Events.{noCaller, runs, starting, stopping}
 use Rattle.machine.specs.Machine.{statusOf, effectOf, refusalOf, cellIn}
 use Rattle.plan.proofs.Fitted.{Fitted}
-use Rattle.machine.proofs.Relation.Cells.{CellFits, Timed}
+use Rattle.machine.proofs.Relation.Cells.{CellFits, CellsTied}
 use Rattle.machine.proofs.Relation.Whole.{Sim}
 use Rattle.machine.proofs.Arbitration.Dispatch.{calm-arbitrated}
 use Rattle.machine.proofs.Change.Request.{elsewhere}
-use Rattle.machine.proofs.Event.Agrees.{first-same, Agrees, Accepted, Keeps, caller-same, seated-of, latest-of, agrees-attempt, no-match}
+use Rattle.machine.proofs.Event.Agrees.{first-same, Agrees, Done, Keeps, caller-same, seated-of, latest-of, agrees-attempt, no-match}
 use Rattle.machine.proofs.Change.Cells.{spread, length-spread, spread-before, spread-after, spread-inside, started-spread, switches-spread, stopped-spread, switched-spread}
 use Rattle.machine.proofs.Change.Turns.{switch-on, switch-turn, some-holds, some-none}
 
@@ -69,13 +69,13 @@ module _ {c : Config} {p : Plan} {rk : ℕ → ℕ} (fit : Fitted c p rk) where
     P = getD (c .period) t 0
 
     -- the cells of table t get the counters f and the switches g, and w′ says whether any cell has a turn to pass
-    module _ (ns os : List ℕ) (w : Bool) (ts : List Table) (timed : Timed c p ns os w ts) (f g : ℕ → ℕ) (w′ : Bool)
+    module _ (ns on : List ℕ) (w : Bool) (ts : List Table) (cells : CellsTied c p ns on w ts) (f g : ℕ → ℕ) (w′ : Bool)
         (keeps : w ≡ true → w′ ≡ true) where
       abbrev ns′ : List ℕ
       ns′ = spread f count (firstOf c t) ns
 
-      abbrev os′ : List ℕ
-      os′ = spread g count (firstOf c t) os
+      abbrev on′ : List ℕ
+      on′ = spread g count (firstOf c t) on
 
       own-at : (h : ℕ → ℕ) (l : List ℕ) → length l ≡ 64 → (e : ℕ) → firstOf c t ≤ e → e < firstOf c (suc t) → getD (spread h count (firstOf c t) l) e 0 ≡ h e
       own-at h l long e low high =
@@ -84,14 +84,14 @@ module _ {c : Config} {p : Plan} {rk : ℕ → ℕ} (fit : Fitted c p rk) where
 
       -- the cells of table t are those that it gets, and the other tables' stay
       own-cell : (e : ℕ) → firstOf c t ≤ e → e < firstOf c (suc t)
-          → cellAt w′ (p .compare) os′ ns′ e ≡ unmarked (f e) (P - 1) (isOn (g e)) (w′ && hasTurn (g e))
+          → cellAt w′ (p .compare) on′ ns′ e ≡ unmarked (f e) (P - 1) (isOn (g e)) (w′ && hasTurn (g e))
       own-cell e low high =
-          rw (own-at f ns (timed .counters-long) e low high, own-at g os (timed .switches-long) e low high, fit .compare-at t e t< low high)
+          rw (own-at f ns (cells .counters-long) e low high, own-at g on (cells .switches-long) e low high, fit .compare-at t e t< low high)
 
       other-cell : (u e : ℕ) → u < c .tables → u ≢ t → firstOf c u ≤ e → e < firstOf c (suc u)
-          → cellAt w′ (p .compare) os′ ns′ e ≡ cellAt w (p .compare) os ns e
+          → cellAt w′ (p .compare) on′ ns′ e ≡ cellAt w (p .compare) on ns e
       other-cell u e u< n low high =
-          rw (stays f ns, stays g os, same-turn w w′ (hasTurn (getD os e 0)) keeps (λ z. timed .unturned z e))
+          rw (stays f ns, stays g on, same-turn w w′ (hasTurn (getD on e 0)) keeps (λ z. cells .unturned z e))
         where
           stays : (h : ℕ → ℕ) (l : List ℕ) → getD (spread h count (firstOf c t) l) e 0 ≡ getD l e 0
           stays h l =
@@ -104,29 +104,29 @@ module _ {c : Config} {p : Plan} {rk : ℕ → ℕ} (fit : Fitted c p rk) where
       module _ (x : Table) (none : w′ ≡ false → (e : ℕ) → firstOf c t ≤ e → e < firstOf c (suc t) → hasTurn (g e) ≡ false)
           (fits : (e : ℕ) → firstOf c t ≤ e → e < firstOf c (suc t)
           → CellFits P (getD (c .offset) e 0) (unmarked (f e) (P - 1) (isOn (g e)) (w′ && hasTurn (g e))) x) where
-        none-left : w′ ≡ false → (e : ℕ) → hasTurn (getD os′ e 0) ≡ false
+        none-left : w′ ≡ false → (e : ℕ) → hasTurn (getD on′ e 0) ≡ false
         none-left z e =
             by-lt e (firstOf c t)
-            (λ b. ap hasTurn (spread-before g count (firstOf c t) os e 0 b) ∙ before)
+            (λ b. ap hasTurn (spread-before g count (firstOf c t) on e 0 b) ∙ before)
             (λ low. by-lt e (firstOf c (suc t))
-            (λ high. ap hasTurn (own-at g os (timed .switches-long) e low high) ∙ none z e low high)
-            (λ h. ap hasTurn (spread-after g count (firstOf c t) os e 0 (omega (arith, firstOf-step c t))) ∙ before))
+            (λ high. ap hasTurn (own-at g on (cells .switches-long) e low high) ∙ none z e low high)
+            (λ h. ap hasTurn (spread-after g count (firstOf c t) on e 0 (omega (arith, firstOf-step c t))) ∙ before))
           where
-            before : hasTurn (getD os e 0) ≡ false
-            before = timed .unturned (was-false w w′ keeps z) e
+            before : hasTurn (getD on e 0) ≡ false
+            before = cells .unturned (was-false w w′ keeps z) e
 
-        table-timed : Timed c p ns′ os′ w′ (set ts t x)
-        table-timed =
+        table-tied : CellsTied c p ns′ on′ w′ (set ts t x)
+        table-tied =
             record {
-              tables-long = length-set ts t x ∙ timed .tables-long;
-              counters-long = length-spread f count (firstOf c t) ns ∙ timed .counters-long;
-              switches-long = length-spread g count (firstOf c t) os ∙ timed .switches-long;
-              cells = λ u e u< low high. by-eq u t
-                  (λ q. rw (q, getD-set-same ts t x stopped (rw (timed .tables-long) t<), own-cell e (rw q at low) (rw q at high))
+              tables-long = length-set ts t x ∙ cells .tables-long;
+              counters-long = length-spread f count (firstOf c t) ns ∙ cells .counters-long;
+              switches-long = length-spread g count (firstOf c t) on ∙ cells .switches-long;
+              fits = λ u e u< low high. by-eq u t
+                  (λ q. rw (q, getD-set-same ts t x stopped (rw (cells .tables-long) t<), own-cell e (rw q at low) (rw q at high))
                   (fits e (rw q at low) (rw q at high)))
-                  (λ n. rw (getD-set-other ts t u x stopped n, other-cell u e u< n low high) (timed .cells u e u< low high));
-              spare = λ e h. ap isOn (spread-after g count (firstOf c t) os e 0 (omega (arith, firstOf-rises c (suc t) (c .tables) t<, firstOf-step c t)))
-                  ∙ timed .spare e h;
+                  (λ n. rw (getD-set-other ts t u x stopped n, other-cell u e u< n low high) (cells .fits u e u< low high));
+              spare = λ e h. ap isOn (spread-after g count (firstOf c t) on e 0 (omega (arith, firstOf-rises c (suc t) (c .tables) t<, firstOf-step c t)))
+                  ∙ cells .spare e h;
               unturned = none-left;
             }
 
@@ -137,7 +137,7 @@ module _ {c : Config} {p : Plan} {rk : ℕ → ℕ} (fit : Fitted c p rk) {m : M
   unfolding CellFits
   runs-is t h =
       rw (fit .first-at t h)
-      (go (tableOf s t) (sim .timed .cells t (firstOf c t) h (omega arith) (omega (arith, firstOf-step c t, fit .some-entry t h))))
+      (go (tableOf s t) (sim .cells .fits t (firstOf c t) h (omega arith) (omega (arith, firstOf-step c t, fit .some-entry t h))))
     where
       go : (x : Table) → CellFits (getD (c .period) t 0) (getD (c .offset) (firstOf c t) 0) (cellAt (m .turning) (p .compare) (m .on) (m .counter) (firstOf c t)) x
           → isOn (getD (m .on) (firstOf c t) 0) ≡ isRunning x
@@ -145,17 +145,17 @@ module _ {c : Config} {p : Plan} {rk : ℕ → ℕ} (fit : Fitted c p rk) {m : M
       go (running d n) k = k .on
 
   -- a call that changes the cells and one table alone
-  cells-accepted : (ns os : List ℕ) (w : Bool) (ts : List Table) → Timed c p ns os w ts
-      → Accepted c p rk (doneWith (withCells m ns os w) false) (record { bodies = s .bodies; tables = ts; order = s .order })
-  cells-accepted ns os w ts timed =
+  cells-done : (ns on : List ℕ) (w : Bool) (ts : List Table) → CellsTied c p ns on w ts
+      → Done c p rk (doneWith (withCells m ns on w) false) (record { bodies = s .bodies; tables = ts; order = s .order })
+  cells-done ns on w ts cells =
       record {
         status = refl;
         arb = calm-arbitrated fit (record { bodies = s .bodies; tables = ts; order = s .order }) done (seated-of fit (sim .orderly))
-            (elsewhere (sim .tied) ns os w (m .losses)) (sim .calm);
+            (elsewhere (sim .tied) ns on w (m .losses)) (sim .calm);
         latest = latest-of fit (sim .orderly);
         row = sim .row;
         size = sim .tied .size;
-        timed = timed;
+        cells = cells;
         lost = sim .lost;
         noted = sim .noted;
       }
@@ -194,12 +194,12 @@ module _ {c : Config} {p : Plan} {rk : ℕ → ℕ} (fit : Fitted c p rk) {m : M
         switch-turn true (isLong (delayed d e))
         ∙ some-none (λ i. isLong (delayed d i)) (getD (c .entries) t 0) (firstOf c t) e low (omega (arith, firstOf-step c t)) (second-false (m .turning) (anyLong t d) z)
 
-  start-timed : (t d : ℕ) → t < c .tables → d ≢ 0 → d + smallestOffset c t ≤ longestDelay
-      → Timed c p (launching t d .counter) (launching t d .on) (launching t d .turning) (start t d s .tables)
+  start-tied : (t d : ℕ) → t < c .tables → d ≢ 0 → d + smallestOffset c t ≤ longestDelay
+      → CellsTied c p (launching t d .counter) (launching t d .on) (launching t d .turning) (start t d s .tables)
   unfolding CellFits
-  start-timed t d t< some fits =
+  start-tied t d t< some fits =
       rw (fit .first-at t t<, started-spread, switches-spread)
-      (table-timed fit t t< (m .counter) (m .on) (m .turning) (s .tables) (sim .timed)
+      (table-tied fit t t< (m .counter) (m .on) (m .turning) (s .tables) (sim .cells)
       (λ i. startCell (getD (c .period) t 0) (delayed d i) .counter) (λ i. switchFor true (isLong (delayed d i))) (m .turning || anyLong t d)
       (λ w. rw w) (running d 0) (λ z e low high. none-long t d e low high z)
       (λ e low high. rw (switch-on true (isLong (delayed d e)) (λ _. refl), turn-said t d e low high)
@@ -211,7 +211,7 @@ module _ {c : Config} {p : Plan} {rk : ℕ → ℕ} (fit : Fitted c p rk) {m : M
     pub start-cell : firstOf c t ≤ e → e < firstOf c (suc t) → cellIn p (launching t d) e ≡ startCell (getD (c .period) t 0) (delayed d e)
     start-cell low high =
         rw (fit .first-at t t<, started-spread, switches-spread)
-        (own-cell fit t t< (m .counter) (m .on) (m .turning) (s .tables) (sim .timed) (λ i. startCell (getD (c .period) t 0) (delayed d i) .counter)
+        (own-cell fit t t< (m .counter) (m .on) (m .turning) (s .tables) (sim .cells) (λ i. startCell (getD (c .period) t 0) (delayed d i) .counter)
         (λ i. switchFor true (isLong (delayed d i))) (m .turning || anyLong t d) (λ w. rw w) e low high
         ∙ rw (switch-on true (isLong (delayed d e)) (λ _. refl), turn-said t d e low high)
         (ap (λ (k : ℕ). unmarked (startCell (getD (c .period) t 0) (delayed d e) .counter) k true (isLong (delayed d e))) compare))
@@ -222,7 +222,7 @@ module _ {c : Config} {p : Plan} {rk : ℕ → ℕ} (fit : Fitted c p rk) {m : M
     pub start-other : (u : ℕ) → u < c .tables → u ≢ t → firstOf c u ≤ e → e < firstOf c (suc u) → cellIn p (launching t d) e ≡ cellIn p m e
     start-other u u< n low high =
         rw (fit .first-at t t<, started-spread, switches-spread)
-        (other-cell fit t t< (m .counter) (m .on) (m .turning) (s .tables) (sim .timed) (λ i. startCell (getD (c .period) t 0) (delayed d i) .counter)
+        (other-cell fit t t< (m .counter) (m .on) (m .turning) (s .tables) (sim .cells) (λ i. startCell (getD (c .period) t 0) (delayed d i) .counter)
         (λ i. switchFor true (isLong (delayed d i))) (m .turning || anyLong t d) (λ w. rw w) u e u< n low high)
 
   pub agrees-start : (t d : ℕ) → Agrees c p rk m s (Start t d)
@@ -232,7 +232,7 @@ module _ {c : Config} {p : Plan} {rk : ℕ → ℕ} (fit : Fitted c p rk) {m : M
       (doneWith (launching t d) false) (start t d s) refl refl
       (no-match fit sim long) (start-status t d)
       (λ z. let a = start-passed c s t d z in
-      cells-accepted _ _ _ _ (start-timed t d (a .1) (a .2) (a .3)))
+      cells-done _ _ _ _ (start-tied t d (a .1) (a .2) (a .3)))
       (keeps .next (Start t d))
 
   -- Stop
@@ -246,11 +246,11 @@ module _ {c : Config} {p : Plan} {rk : ℕ → ℕ} (fit : Fitted c p rk) {m : M
       (λ h. first-same (not (runs (p .first) m t)) (not (isRunning (tableOf s t))) noFunction _ _
       (ap not (runs-is t (leb-false (c .tables) t h))) (λ _. refl)))
 
-  stop-timed : (t : ℕ) → t < c .tables → Timed c p (halting t .counter) (halting t .on) (halting t .turning) (stop t s .tables)
+  stop-tied : (t : ℕ) → t < c .tables → CellsTied c p (halting t .counter) (halting t .on) (halting t .turning) (stop t s .tables)
   unfolding CellFits
-  stop-timed t t< =
+  stop-tied t t< =
       rw (fit .first-at t t<, stopped-spread, switched-spread)
-      (table-timed fit t t< (m .counter) (m .on) (m .turning) (s .tables) (sim .timed) (λ _. 0) (λ _. switchOff) (m .turning)
+      (table-tied fit t t< (m .counter) (m .on) (m .turning) (s .tables) (sim .cells) (λ _. 0) (λ _. switchOff) (m .turning)
       (λ w. w) stopped (λ _ e low high. refl) (λ e low high. refl))
 
   -- "Stop switches the table's cells off and sets their counters to 0"
@@ -258,13 +258,13 @@ module _ {c : Config} {p : Plan} {rk : ℕ → ℕ} (fit : Fitted c p rk) {m : M
     pub stop-cell : firstOf c t ≤ e → e < firstOf c (suc t) → cellIn p (halting t) e ≡ Cell.stopCell (cellIn p m e)
     stop-cell low high =
         rw (fit .first-at t t<, stopped-spread, switched-spread)
-        (own-cell fit t t< (m .counter) (m .on) (m .turning) (s .tables) (sim .timed) (λ _. 0) (λ _. switchOff) (m .turning) (λ w. w) e low high
+        (own-cell fit t t< (m .counter) (m .on) (m .turning) (s .tables) (sim .cells) (λ _. 0) (λ _. switchOff) (m .turning) (λ w. w) e low high
         ∙ rw (fit .compare-at t e t< low high, and-false (m .turning)))
 
     pub stop-other : (u : ℕ) → u < c .tables → u ≢ t → firstOf c u ≤ e → e < firstOf c (suc u) → cellIn p (halting t) e ≡ cellIn p m e
     stop-other u u< n low high =
         rw (fit .first-at t t<, stopped-spread, switched-spread)
-        (other-cell fit t t< (m .counter) (m .on) (m .turning) (s .tables) (sim .timed) (λ _. 0) (λ _. switchOff) (m .turning) (λ w. w) u e u< n low high)
+        (other-cell fit t t< (m .counter) (m .on) (m .turning) (s .tables) (sim .cells) (λ _. 0) (λ _. switchOff) (m .turning) (λ w. w) u e u< n low high)
 
   pub agrees-stop : (t : ℕ) → Agrees c p rk m s (Stop t)
   unfolding statusOf effectOf refusalOf stepBy
@@ -273,5 +273,5 @@ module _ {c : Config} {p : Plan} {rk : ℕ → ℕ} (fit : Fitted c p rk) {m : M
       (doneWith (halting t) false) (stop t s) refl refl
       (no-match fit sim long) (stop-status t)
       (λ z. let a = stop-passed c s t z in
-      cells-accepted _ _ _ _ (stop-timed t (a .1)))
+      cells-done _ _ _ _ (stop-tied t (a .1)))
       (keeps .next (Stop t))

@@ -40,7 +40,7 @@ use Rattle.machine.proofs.Arbitration.Seat.{holders}
 use Rattle.machine.proofs.Arbitration.Dispatch.{Arbitrated, rank-below, runnerOf-is}
 use Rattle.machine.proofs.Change.Request.{elsewhere, activate-tied, trigger-tied, loss-tied}
 use Rattle.machine.proofs.Change.Launch.{plain-triggering, wins, launches, launch-tied}
-use Rattle.machine.proofs.Change.Ticks.{dues-long, marks-due, due-first-cells, ticked-timed}
+use Rattle.machine.proofs.Change.Ticks.{dues-long, marks-due, due-first-cells, ticked-cells}
 use Rattle.machine.proofs.Event.Agrees.{kept, Agrees, Keeps, LatestActive, latest-of, settled-orderly, agrees}
 use Rattle.machine.proofs.Event.Bodies.{task-exists}
 
@@ -141,10 +141,10 @@ module _ {c : Config} {p : Plan} {rk : ℕ → ℕ} (fit : Fitted c p rk) {m : M
   ms = dues c (counted s)
 
   marks-are : marksOf (p .count) (p .compare) m ≡ ms
-  marks-are = marks-due c p rk fit (m .turning) (m .counter) (m .on) (s .tables) (sim .timed)
+  marks-are = marks-due c p rk fit (m .turning) (m .counter) (m .on) (s .tables) (sim .cells)
 
   tables-counted : length (map counting (s .tables)) ≡ c .tables
-  tables-counted = length-map (s .tables) counting ∙ sim .timed .tables-long
+  tables-counted = length-map (s .tables) counting ∙ sim .cells .tables-long
 
   long : length ms ≡ p .count
   long = dues-long c p rk fit (counted s) tables-counted
@@ -167,7 +167,7 @@ module _ {c : Config} {p : Plan} {rk : ℕ → ℕ} (fit : Fitted c p rk) {m : M
   due-is : dueOf (p .compare) (p .entry) m ≡ requestsDue (begunWord m) ms (p .entry) asked
   due-is =
       due-first-cells (m .turning) (p .compare) (m .on) (p .count) (omega (arith, fit .count-is, fit .few-entries))
-      (λ i h. sim .timed .spare i (omega (arith, fit .count-is)))
+      (λ i h. sim .cells .spare i (omega (arith, fit .count-is)))
       (begunWord m) (m .counter) (p .entry) asked
       ∙ ap (λ (l : List Bool). requestsDue (begunWord m) l (p .entry) asked) marks-are
 
@@ -192,7 +192,7 @@ module _ {c : Config} {p : Plan} {rk : ℕ → ℕ} (fit : Fitted c p rk) {m : M
   ended o is st counters switches turns losses cleared bits waited arb latest row =
       agrees fit Tick o done ms then is refl st marks-are arb latest (keeps .next Tick) row
       (ticked-tied .size)
-      (rw (counters, switches, turns) (rw (tables-ticked c s) (ticked-timed c p rk fit (m .turning) (m .counter) (m .on) (s .tables) (sim .timed))))
+      (rw (counters, switches, turns) (rw (tables-ticked c s) (ticked-cells c p rk fit (m .turning) (m .counter) (m .on) (s .tables) (sim .cells))))
       (rw losses (rw due-is (owed .lost)))
       (rw (cleared, bits, waited) (owed .noted))
 
@@ -230,7 +230,7 @@ module _ {c : Config} {p : Plan} {rk : ℕ → ℕ} (fit : Fitted c p rk) {m : M
 
       runner-is : runner c then ≡ record { number = j; level = executionLevel; began = false; holder = false; timed = true }
       runner-is =
-          ap (λ (os : List ℕ). latestOf (then .bodies) os (chosen c (then .bodies))) (y .order-is)
+          ap (λ (js : List ℕ). latestOf (then .bodies) js (chosen c (then .bodies))) (y .order-is)
           ∙ ap (λ (x : Bool). record { number = j; level = executionLevel; began = x; holder = false; timed = true }) (ap hasBegun (y .to-begin))
 
       tied : Tied c rk (launching now) (set (then .bodies) j (become (triggered true) (at (then .bodies) j))) (j ∷ s .order)
@@ -251,14 +251,14 @@ module _ {c : Config} {p : Plan} {rk : ℕ → ℕ} (fit : Fitted c p rk) {m : M
 
       latest : LatestActive then
       latest i is e =
-          let same : i ≡ j = ap (λ (os : List ℕ). getD os 0 0) (sym e ∙ y .order-is) in
+          let same : i ≡ j = ap (λ (js : List ℕ). getD js 0 0) (sym e ∙ y .order-is) in
           rw same (rw (ticked-tied .size) (y .in-range), ap isSuspended (y .to-begin))
 
       row : Shows (rowBytes (pushRow (m .triggered) (winner (bids (now .core))))) (map rk (then .order))
       row =
           rw (y .order-is, wins-is)
           (row-shows-pushed (m .triggered) (rk j) (map rk (s .order)) (omega (arith, rank-below fit j (y .in-range)))
-          (omega (arith, length-map (s .order) rk, y .few, ap (λ (os : List ℕ). length os) (y .order-is))) (sim .row))
+          (omega (arith, length-map (s .order) rk, y .few, ap (λ (js : List ℕ). length js) (y .order-is))) (sim .row))
 
   pub agrees-tick : Agrees c p rk m s Tick
   agrees-tick = by (tick-order c (fit .accepted) (fit .shaped) (sim .orderly))

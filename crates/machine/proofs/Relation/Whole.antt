@@ -20,7 +20,7 @@ use Rattle.machine.proofs.Relation.Rows.{Shows}
 use Rattle.machine.proofs.Relation.Words.{at, Words}
 use Rattle.machine.proofs.Relation.Slots.{slotsAlong, Slots}
 use Rattle.machine.proofs.Relation.Nest.{Nested, Seats}
-use Rattle.machine.proofs.Relation.Cells.{Timed}
+use Rattle.machine.proofs.Relation.Cells.{CellsTied}
 use Rattle.machine.proofs.Relation.Losses.{Lost}
 use Rattle.machine.proofs.Relation.Bits.{Noted}
 
@@ -43,7 +43,7 @@ pub record Sim (c : Config) (p : Plan) (rk : ℕ → ℕ) (m : Model) (s : State
   pub nest : List ℕ
   pub tied : Tied c rk m (s .bodies) (s .order) nest
   pub calm : Calm c (m .core .level) (s .bodies)
-  pub timed : Timed c p (m .counter) (m .on) (m .turning) (s .tables)
+  pub cells : CellsTied c p (m .counter) (m .on) (m .turning) (s .tables)
   pub lost : Lost c rk (m .losses) (s .bodies)
   pub noted : Noted c rk (m .cleared) (m .bits) (m .waited) (s .bodies)
   pub orderly : Orderly c s

@@ -25,7 +25,7 @@ use Rattle.machine.proofs.Relation.Words.{at, wants, isAside}
 use Rattle.machine.proofs.Relation.Slots.{slotsAlong, Distinct}
 use Rattle.machine.proofs.Relation.Free.{missing-empty}
 use Rattle.machine.proofs.Relation.Nest.{Nested, Seats}
-use Rattle.machine.proofs.Relation.Cells.{CellFits, Timed}
+use Rattle.machine.proofs.Relation.Cells.{CellFits, CellsTied}
 use Rattle.machine.proofs.Relation.Losses.{Lost, lost-same}
 use Rattle.machine.proofs.Relation.Bits.{eventBits, Noted, noted-same}
 use Rattle.machine.proofs.Relation.Whole.{Tied, Sim}
@@ -99,14 +99,14 @@ module _ {c : Config} {p : Plan} {rk : ℕ → ℕ} (fit : Fitted c p rk) where
       or-false true = refl
       or-false false = refl
 
-  unbegun-timed : Timed c p (replicate 64 0) (replicate 64 switchOff) false (replicate (c .tables) stopped)
+  unbegun-cells : CellsTied c p (replicate 64 0) (replicate 64 switchOff) false (replicate (c .tables) stopped)
   unfolding CellFits
-  unbegun-timed =
+  unbegun-cells =
       record {
         tables-long = length-replicate (c .tables) stopped;
         counters-long = refl;
         switches-long = refl;
-        cells = λ t e t< a b. rw (same-everywhere (c .tables) stopped t) (ap isOn (same-everywhere 64 switchOff e));
+        fits = λ t e t< a b. rw (same-everywhere (c .tables) stopped t) (ap isOn (same-everywhere 64 switchOff e));
         spare = λ e h. ap isOn (same-everywhere 64 switchOff e);
         unturned = λ _ e. ap hasTurn (same-everywhere 64 switchOff e);
       }
@@ -136,7 +136,7 @@ module _ {c : Config} {p : Plan} {rk : ℕ → ℕ} (fit : Fitted c p rk) where
         nest = arb .nest;
         tied = rw (order-dispatched c unbegun top) (arb .tied);
         calm = arb .calm;
-        timed = rw (tables-dispatched c unbegun) unbegun-timed;
+        cells = rw (tables-dispatched c unbegun) unbegun-cells;
         lost = lost-same (dispatched-losses c unbegun) unbegun-lost;
         noted = noted-same (dispatched-bits c unbegun top) (dispatched-masks c unbegun top) unbegun-noted;
         orderly = orderly-fresh c (fit .accepted) (fit .shaped);

@@ -114,7 +114,7 @@ module _ {c : Config} {p : Plan} {rk : ℕ → ℕ} (fit : Fitted c p rk) {m : M
   -- a time-triggered task that runs is compared by its trigger level
   module _ (j : ℕ) (js : List ℕ) (e : s .order ≡ j ∷ js) where
     timed-caller : caller c s ≡ j
-    timed-caller = ap (λ (os : List ℕ). latestOf (s .bodies) os (chosen c (s .bodies)) .number) e
+    timed-caller = ap (λ (js : List ℕ). latestOf (s .bodies) js (chosen c (s .bodies)) .number) e
 
     timed-trigger : triggerOf c j ≡ triggerLevel
     timed-trigger = trigger-timed c j (latest-exists (sim .orderly) j js e) (latest-timed (sim .orderly) j js e)
@@ -127,11 +127,11 @@ module _ {c : Config} {p : Plan} {rk : ℕ → ℕ} (fit : Fitted c p rk) {m : M
       go : s .order ≡ [] → (ns : List ℕ) → Tied c rk m (s .bodies) [] ns → current c i (bodyOf s i) < triggerOf c (caller c s)
       go e [] t = absurd (true≢false (sym (holder-nested t r i h)))
       go e (b ∷ ns) t =
-          let runs = ap (λ (os : List ℕ). latestOf (s .bodies) os (chosen c (s .bodies))) e ∙ chosen-seated fit t (sim .calm) b ns refl in
+          let runs = ap (λ (js : List ℕ). latestOf (s .bodies) js (chosen c (s .bodies))) e ∙ chosen-seated fit t (sim .calm) b ns refl in
           let calls : caller c s ≡ b = ap (λ (x : Candidate). x .number) runs in
           rw (calls, nested-plain b ns (t .nested)) (nest-below b ns (t .nested) i (holder-nested t r i h) (λ e. other (e ∙ sym calls)))
 
-      by : (os : List ℕ) → s .order ≡ os → current c i (bodyOf s i) < triggerOf c (caller c s)
+      by : (js : List ℕ) → s .order ≡ js → current c i (bodyOf s i) < triggerOf c (caller c s)
       by [] e = go e (sim .nest) (rw e at (sim .tied))
       by (j ∷ js) e = rw (timed-caller j js e) (omega (arith, holder-few i r h, timed-trigger j js e))
 
@@ -202,7 +202,7 @@ module _ {c : Config} {p : Plan} {rk : ℕ → ℕ} (fit : Fitted c p rk) {m : M
           rw (t .slots .levels .at k, t .seats .0, fit .priority-at b (t .nested .0), nested-plain b ns (t .nested)) (omega (arith, low, x .3)))
           (along-slot c rk (s .bodies) (b ∷ ns) k)
 
-      by : (os : List ℕ) → s .order ≡ os → getD (rowBytes (m .raised)) k none < getD (p .priority) (m .core .runner) 0
+      by : (js : List ℕ) → s .order ≡ js → getD (rowBytes (m .raised)) k none < getD (p .priority) (m .core .runner) 0
       by [] e = go (sim .nest) (rw e at (sim .tied))
       by (j ∷ js) e =
           ⊎-elim
