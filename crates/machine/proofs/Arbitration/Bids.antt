@@ -36,7 +36,7 @@ module _ {c : Config} {p : Plan} {rk : ℕ → ℕ} (fit : Fitted c p rk) where
 
   module _ {k : Core} {bs : List Body} (w : Words c rk k bs) where
     -- exactly those bid that wait to begin or go on by their priority
-    pub bids-is : (b : ℕ) → b < c .bodies → has (bids k) (rk b) ≡ isBidding (at bs b .phase)
+    bids-is : (b : ℕ) → b < c .bodies → has (bids k) (rk b) ≡ isBidding (at bs b .phase)
     bids-is b h =
         has-union (k .request) (k .started) (rk b)
         ∙ ap₂ (λ (x y : Bool). x || y) (w .asks b h) (w .goes-on b h)
@@ -94,7 +94,7 @@ module _ {c : Config} {p : Plan} {rk : ℕ → ℕ} (fit : Fitted c p rk) where
           go (triggered x) e = absurd (true≢false (sym e))
 
       -- no body's rank is above the winner's
-      pub active-le : (b : ℕ) → b < c .bodies → competes (at bs b .phase) ≡ true → rk b ≤ winner (bids k)
+      active-le : (b : ℕ) → b < c .bodies → competes (at bs b .phase) ≡ true → rk b ≤ winner (bids k)
       active-le b h a = winner-highest (bids k) (rk b) (active-bids b h a)
 
       -- the body whose rank wins

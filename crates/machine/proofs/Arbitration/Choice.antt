@@ -51,7 +51,7 @@ module _ {c : Config} {p : Plan} {rk : ℕ → ℕ} (fit : Fitted c p rk) {m : M
   weighs i a = ap (weight byHolding) (contends i a)
 
   -- the current priority of a body outside the nest is its own
-  pub own-outside : (i : ℕ) → among i ns ≡ false → current c i (at bs i) ≡ priorityOf c i
+  own-outside : (i : ℕ) → among i ns ≡ false → current c i (at bs i) ≡ priorityOf c i
   own-outside i h = current-free c i (at bs i) (t .loose i h)
 
   -- the level is that of the nest
@@ -128,7 +128,7 @@ module _ {c : Config} {p : Plan} {rk : ℕ → ℕ} (fit : Fitted c p rk) {m : M
         (λ h. h)
 
     -- every other one runs below its own priority
-    pub current-below : (i : ℕ) → i < c .bodies → i ≢ w → competes (at bs i .phase) ≡ true → current c i (at bs i) < priorityOf c w
+    current-below : (i : ℕ) → i < c .bodies → i ≢ w → competes (at bs i .phase) ≡ true → current c i (at bs i) < priorityOf c w
     current-below i i< other a =
         by-in i ns
         (λ h. omega (arith, nest-level c bs i ns (t .nested) h, level-is))

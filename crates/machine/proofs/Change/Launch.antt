@@ -34,7 +34,7 @@ use Rattle.machine.proofs.Arbitration.Choice.{level-is}
 use Rattle.machine.proofs.Arbitration.Dispatch.{rank-below}
 
 -- no level is above that of a time-triggered task
-pub level-low : {c : Config} {p : Plan} {rk : ℕ → ℕ} (fit : Fitted c p rk) {m : Model} {bs : List Body} (js : List ℕ) {ns : List ℕ} → Tied c rk m bs js ns
+level-low : {c : Config} {p : Plan} {rk : ℕ → ℕ} (fit : Fitted c p rk) {m : Model} {bs : List Body} (js : List ℕ) {ns : List ℕ} → Tied c rk m bs js ns
     → m .core .level ≤ executionLevel
 level-low fit {bs = bs} [] {ns} t = omega (arith, level-is fit t, level-few fit bs ns (t .nested))
 level-low {c} {p} {rk} fit {m} {bs} (j ∷ js) {ns} t =

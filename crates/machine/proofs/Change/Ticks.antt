@@ -31,7 +31,7 @@ use Rattle.machine.proofs.Change.Turns.{switchesAfter, turningAfter, le
 
 -- a tick reaches the counters of its cells, each by its own cell alone
 module _ (w : Bool) (ks on : List ℕ) where
-  pub length-ticked : (k e : ℕ) (ns : List ℕ) → length (countersTicked k e w ks on ns) ≡ length ns
+  length-ticked : (k e : ℕ) (ns : List ℕ) → length (countersTicked k e w ks on ns) ≡ length ns
   unfolding countersTicked
   length-ticked zero e ns = refl
   length-ticked (suc k) e ns = length-ticked k (suc e) _ ∙ length-set ns e _
@@ -42,7 +42,7 @@ module _ (w : Bool) (ks on : List ℕ) where
   ticked-before (suc k) e i ns h =
       ticked-before k (suc e) i _ (omega arith) ∙ getD-set-other ns e i _ 0 (λ z. absurd (omega arith))
 
-  pub ticked-at : (k e i : ℕ) (ns : List ℕ) → e ≤ i → i < e + k → i < length ns → getD (countersTicked k e w ks on ns) i 0 ≡ tickCell (cellAt w ks on ns i) .counter
+  ticked-at : (k e i : ℕ) (ns : List ℕ) → e ≤ i → i < e + k → i < length ns → getD (countersTicked k e w ks on ns) i 0 ≡ tickCell (cellAt w ks on ns i) .counter
   unfolding countersTicked
   ticked-at zero e i ns h l len = absurd (omega arith)
   ticked-at (suc k) e i ns h l len =

@@ -52,7 +52,7 @@ module _ (c : Config) where
   pub task-exists : (t : ℕ) → isTask c t ≡ true → t < c .bodies
   task-exists t e = ltb-true t (c .bodies) (and-true (ltb t (c .bodies)) _ e .0)
 
-  pub osek-exists : (t : ℕ) → isOsekTask c t ≡ true → t < c .bodies
+  osek-exists : (t : ℕ) → isOsekTask c t ≡ true → t < c .bodies
   osek-exists t e = task-exists t (and-true (isTask c t) _ e .0)
 
   isr-exists : (i : ℕ) → isIsr c i ≡ true → i < c .bodies
@@ -72,10 +72,10 @@ module _ {c : Config} {p : Plan} {rk : ℕ → ℕ} (fit : Fitted c p rk) where
       go true h = ne-eqb (rk t) noRank (λ z. absurd (omega (arith, z, rank-below fit t (real t h))))
       go false h = refl
 
-  pub no-task : (t : ℕ) → eqb (getD (p .callable) t noRank) noRank ≡ not (isOsekTask c t)
+  no-task : (t : ℕ) → eqb (getD (p .callable) t noRank) noRank ≡ not (isOsekTask c t)
   no-task t = missing-rank (isOsekTask c) (osek-exists c) t (getD (p .callable) t noRank) (fit .callable-rank t)
 
-  pub callable-rank-is : (t : ℕ) → isOsekTask c t ≡ true → getD (p .callable) t noRank ≡ rk t
+  callable-rank-is : (t : ℕ) → isOsekTask c t ≡ true → getD (p .callable) t noRank ≡ rk t
   callable-rank-is t h = fit .callable-rank t ∙ rw h
 
   line-rank-is : (i : ℕ) → isIsr c i ≡ true → getD (p .line) i noRank ≡ rk i

@@ -131,7 +131,7 @@ holder-nested {bs = bs} {ns = ns} t r i a = go (among i ns) refl
     go false e = absurd (true≢false (sym (rw (t .loose i e) at a) ∙ among-nil r))
 
 -- the machine's flag of a resource says whether anybody holds it
-pub flag-is : {c : Config} {rk : ℕ → ℕ} {m : Model} {bs : List Body} {js ns : List ℕ} → Tied c rk m bs js ns → (r : ℕ) → has (m .held) r ≡ heldIn r bs
+flag-is : {c : Config} {rk : ℕ → ℕ} {m : Model} {bs : List Body} {js ns : List ℕ} → Tied c rk m bs js ns → (r : ℕ) → has (m .held) r ≡ heldIn r bs
 flag-is {c} {rk} {m} {bs} {js} {ns} t r =
     t .slots .flags r
     ∙ iff-bool (among r (resourcesIn (slotsAlong c rk bs ns))) (heldIn r bs)

@@ -1,19 +1,20 @@
 -- The nest: the runner, and below it those preempted bodies that hold a resource, each above the level of the rest.
 --
---   levelAt c bs ns      the level at which a nest runs
---   Nested c bs ns       "each one's own priority above the level of the rest"
---   Seats c rk bs js r l ns  the runner r and the level l are those of the nest, and whoever is below holds a resource; where time-triggered
---                        tasks js are started the latest of them runs, and all of the nest hold a resource
+--   levelAt c bs ns          the level at which a nest runs
+--   Nested c bs ns           "each one's own priority above the level of the rest"
+--   Seats c rk bs js r l ns  the runner r and the level l are those of the nest, and whoever is below holds a resource;
+--                            where time-triggered tasks js are started the latest of them runs, and all of the nest
+--                            hold a resource
 --
 -- A preempted body that holds nothing is in no nest: its bit in `started` brings it back.
 use Prim.Native.Nat.{ℕ, max, _≤_, _<_}
 use mathlib.Core.Path.{_≡_, refl, sym, ap, ap₂, _∙_}
-use mathlib.Core.Bool.{Bool, true, false, true≢false, _||_}
+use mathlib.Core.Bool.{true, false, true≢false}
 use mathlib.Core.List.{List, [], _∷_, _++_, foldr, map}
 use native.Mathlib.Omega.{arith}
 use borrow.Author.Tests.{eq-eqb, ne-eqb}
 use lib.Dec.{eqb}
-use Rattle.number.proofs.Cases.{by-eq}
+use Rattle.number.proofs.Cases.{by-eq, neither}
 use Rattle.config.specs.declared.Config.{Config}
 use Rattle.config.specs.Meaning.{executionLevel, priorityOf, ceiling}
 use Rattle.scheduler.specs.Body.{Body, isStarted, holds, current}
@@ -43,7 +44,8 @@ Seats c rk bs (j ∷ js) r l [] = (r ≡ rk j) × ((l ≡ executionLevel) × All
 Seats c rk bs (j ∷ js) r l (b ∷ ns) = (r ≡ rk j) × ((l ≡ executionLevel) × AllHold bs (b ∷ ns))
 
 -- b is the first of the list, or stands further on
-pub by-among {ℓ} : {C : Type ℓ} (i b : ℕ) (ns : List ℕ) → among i (b ∷ ns) ≡ true → (i ≡ b → C) → ((i ≡ b → ⊥) → among i ns ≡ true → C) → C
+pub by-among {ℓ} : {C : Type ℓ} (i b : ℕ) (ns : List ℕ) → among i (b ∷ ns) ≡ true
+    → (i ≡ b → C) → ((i ≡ b → ⊥) → among i ns ≡ true → C) → C
 unfolding among
 by-among i b ns h f g = by-eq i b f (λ n. g n (simp (ne-eqb i b n) at h))
 
@@ -62,11 +64,7 @@ not-among i b ns n h = rw (ne-eqb i b n) h
 
 pub among-tail-false : (i b : ℕ) (ns : List ℕ) → among i (b ∷ ns) ≡ false → among i ns ≡ false
 unfolding among
-among-tail-false i b ns h = by-eq i b (λ e. absurd (true≢false (sym (eq-eqb i b e) ∙ or-first (eqb i b) (among i ns) h))) (λ n. simp (ne-eqb i b n) at h)
-  where
-    or-first : (x y : Bool) → x || y ≡ false → x ≡ false
-    or-first true y e = absurd (true≢false e)
-    or-first false y e = refl
+among-tail-false i b ns h = neither (eqb i b) (among i ns) h .1
 
 pub among-nil : (i : ℕ) → among i [] ≡ false
 unfolding among
@@ -110,13 +108,13 @@ alike-same e = record { phase = ap (λ (b : Body). isStarted (b .phase)) e; held
 
 -- bodies that are alike where a nest goes leave it as it is
 module _ (c : Config) (rk : ℕ → ℕ) (bs bs′ : List Body) where
-  abbrev pub AlikeAlong : List ℕ → Type 0
+  abbrev AlikeAlong : List ℕ → Type 0
   AlikeAlong ns = (b : ℕ) → among b ns ≡ true → Alike (at bs b) (at bs′ b)
 
   tail-alike : (b : ℕ) (ns : List ℕ) → AlikeAlong (b ∷ ns) → AlikeAlong ns
   tail-alike b ns a i h = a i (among-tail i b ns h)
 
-  pub current-alike : (b : ℕ) → Alike (at bs b) (at bs′ b) → current c b (at bs b) ≡ current c b (at bs′ b)
+  current-alike : (b : ℕ) → Alike (at bs b) (at bs′ b) → current c b (at bs b) ≡ current c b (at bs′ b)
   current-alike b a = ap (λ (rs : List ℕ). foldr max (priorityOf c b) (map (ceiling c) rs)) (a .held)
 
   pub levelAt-alike : (ns : List ℕ) → AlikeAlong ns → levelAt c bs ns ≡ levelAt c bs′ ns
@@ -128,21 +126,27 @@ module _ (c : Config) (rk : ℕ → ℕ) (bs bs′ : List Body) where
   unfolding Nested
   nested-alike [] a k = k
   nested-alike (b ∷ ns) a k =
-      (k .0, (sym (a b (among-head b ns) .phase) ∙ k .1 .0, (rw (sym (levelAt-alike ns (tail-alike b ns a))) (k .1 .1 .0), nested-alike ns (tail-alike b ns a) (k .1 .1 .1))))
+      let below = tail-alike b ns a in
+      let begun = sym (a b (among-head b ns) .phase) ∙ k .1 .0 in
+      (k .0, (begun, (rw (sym (levelAt-alike ns below)) (k .1 .1 .0), nested-alike ns below (k .1 .1 .1))))
 
   pub slotsAlong-alike : (ns : List ℕ) → AlikeAlong ns → slotsAlong c rk bs ns ≡ slotsAlong c rk bs′ ns
   unfolding slotsAlong
   slotsAlong-alike [] a = refl
   slotsAlong-alike (b ∷ ns) a =
-      ap₂ (λ (x y : List Slot). x ++ y) (ap (slotsFor c rk b) (a b (among-head b ns) .held)) (slotsAlong-alike ns (tail-alike b ns a))
+      ap₂ (λ (x y : List Slot). x ++ y)
+      (ap (slotsFor c rk b) (a b (among-head b ns) .held))
+      (slotsAlong-alike ns (tail-alike b ns a))
 
   pub hold-alike : (ns : List ℕ) → AlikeAlong ns → AllHold bs ns → AllHold bs′ ns
   hold-alike ns a h i m = sym (ap holds (a i m .held)) ∙ h i m
 
-  pub seats-alike : (js : List ℕ) (r l : ℕ) (ns : List ℕ) → AlikeAlong ns → Seats c rk bs js r l ns → Seats c rk bs′ js r l ns
+  pub seats-alike : (js : List ℕ) (r l : ℕ) (ns : List ℕ) → AlikeAlong ns
+      → Seats c rk bs js r l ns → Seats c rk bs′ js r l ns
   unfolding Seats
   seats-alike [] r l [] a k = k
-  seats-alike [] r l (b ∷ ns) a k = (k .0, (k .1 .0 ∙ current-alike b (a b (among-head b ns)), hold-alike ns (tail-alike b ns a) (k .1 .1)))
+  seats-alike [] r l (b ∷ ns) a k =
+      (k .0, (k .1 .0 ∙ current-alike b (a b (among-head b ns)), hold-alike ns (tail-alike b ns a) (k .1 .1)))
   seats-alike (j ∷ js) r l [] a k = (k .0, (k .1 .0, hold-alike [] a (k .1 .1)))
   seats-alike (j ∷ js) r l (b ∷ ns) a k = (k .0, (k .1 .0, hold-alike (b ∷ ns) a (k .1 .1)))
 
