@@ -19,8 +19,8 @@ use Rattle.scheduler.proofs.Choice.{current-own}
 use Rattle.machine.specs.Model.{Model}
 use Rattle.machine.proofs.Relation.Words.{at}
 use Rattle.machine.proofs.Relation.Slots.{slotsFor, slotsAlong, Slots}
-use Rattle.machine.proofs.Relation.Nest.{levelAt, Nested, AllHold, Seats, timed-seat, by-among, not-among, among-nil}
-use Rattle.machine.proofs.Relation.Whole.{Tied}
+use Rattle.machine.proofs.Relation.Nest.{levelAt, Nested, AllHold, Seats, by-among, not-among, among-nil}
+use Rattle.machine.proofs.Relation.Whole.{Tied, latest-seat}
 
 pub record Holders (c : Config) (rk : ℕ → ℕ) (m : Model) (bs : List Body) : Type 0 where
   pub nest : List ℕ
@@ -49,7 +49,7 @@ module _ {c : Config} {p : Plan} {rk : ℕ → ℕ} (fit : Fitted c p rk) {m : M
   pub holders : (js : List ℕ) {ns : List ℕ} → Tied c rk m bs js ns → Holders c rk m bs
   unfolding Nested Seats levelAt slotsAlong slotsFor
   holders (j ∷ js) {ns} t =
-      let k = timed-seat c rk bs j js (m .core .runner) (m .core .level) ns (t .seats) in
+      let k = latest-seat t in
       record {
         nest = ns;
         nested = t .nested;
@@ -61,8 +61,17 @@ module _ {c : Config} {p : Plan} {rk : ℕ → ℕ} (fit : Fitted c p rk) {m : M
   holders [] {ns} t = go ns (t .nested) (t .seats) (t .slots) (t .loose)
     where
       go : (ns : List ℕ) → Nested c bs ns → Seats c rk bs [] (m .core .runner) (m .core .level) ns
-          → Slots (m .held) (m .resource) (m .holder) (m .raised) (slotsAlong c rk bs ns) → ((b : ℕ) → among b ns ≡ false → at bs b .held ≡ []) → Holders c rk m bs
-      go [] k s q l = record { nest = []; nested = k; hold = λ i h. absurd (true≢false (sym h ∙ among-nil i)); low = omega arith; slots = q; loose = l }
+          → Slots (m .held) (m .resource) (m .holder) (m .raised) (slotsAlong c rk bs ns)
+          → ((b : ℕ) → among b ns ≡ false → at bs b .held ≡ []) → Holders c rk m bs
+      go [] k s q l =
+          record {
+            nest = [];
+            nested = k;
+            hold = λ i h. absurd (true≢false (sym h ∙ among-nil i));
+            low = omega arith;
+            slots = q;
+            loose = l;
+          }
       go (b ∷ ns) k s q l = by (at bs b .held) refl
         where
           by : (rs : List ℕ) → at bs b .held ≡ rs → Holders c rk m bs
