@@ -6,7 +6,7 @@
 --   noted-touched           one body is changed, but for its bits and masks
 --   noted-changed           one body is changed, and the rows follow it
 use Prim.Native.Nat.{ℕ, _<_}
-use mathlib.Core.Path.{_≡_, refl, sym, ap, _∙_}
+use mathlib.Core.Path.{_≡_, refl, sym, _∙_}
 use mathlib.Core.Logic.{_≢_}
 use mathlib.Core.Bool.{cond}
 use mathlib.Core.List.{List}

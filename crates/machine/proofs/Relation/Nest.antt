@@ -7,22 +7,22 @@
 --                            hold a resource
 --
 -- A preempted body that holds nothing is in no nest: its bit in `started` brings it back.
-use Prim.Native.Nat.{ℕ, max, _≤_, _<_}
+use Prim.Native.Nat.{ℕ, _≤_, _<_}
 use mathlib.Core.Path.{_≡_, refl, sym, ap, ap₂, _∙_}
 use mathlib.Core.Bool.{true, false, true≢false}
-use mathlib.Core.List.{List, [], _∷_, _++_, foldr, map}
+use mathlib.Core.List.{List, [], _∷_, _++_}
 use native.Mathlib.Omega.{arith}
 use borrow.Author.Tests.{eq-eqb, ne-eqb}
 use lib.Dec.{eqb}
 use Rattle.number.proofs.Cases.{by-eq, neither}
 use Rattle.config.specs.declared.Config.{Config}
-use Rattle.config.specs.Meaning.{executionLevel, priorityOf, ceiling}
+use Rattle.config.specs.Meaning.{executionLevel, priorityOf}
 use Rattle.scheduler.specs.Body.{Body, isStarted, holds, current}
 use Rattle.scheduler.specs.State.{among}
 use Rattle.scheduler.proofs.Choice.{current-own}
 use Rattle.machine.specs.Model.{noRank}
 use Rattle.machine.proofs.Relation.Words.{at}
-use Rattle.machine.proofs.Relation.Slots.{Slot, slotsFor, slotsAlong}
+use Rattle.machine.proofs.Relation.Slots.{Slot, levelWith, slotsFor, slotsAlong}
 
 unfoldable pub levelAt : Config → List Body → List ℕ → ℕ
 levelAt c bs [] = 0
@@ -115,7 +115,7 @@ module _ (c : Config) (rk : ℕ → ℕ) (bs bs′ : List Body) where
   tail-alike b ns a i h = a i (among-tail i b ns h)
 
   current-alike : (b : ℕ) → Alike (at bs b) (at bs′ b) → current c b (at bs b) ≡ current c b (at bs′ b)
-  current-alike b a = ap (λ (rs : List ℕ). foldr max (priorityOf c b) (map (ceiling c) rs)) (a .held)
+  current-alike b a = ap (levelWith c b) (a .held)
 
   pub levelAt-alike : (ns : List ℕ) → AlikeAlong ns → levelAt c bs ns ≡ levelAt c bs′ ns
   unfolding levelAt

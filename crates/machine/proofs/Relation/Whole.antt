@@ -20,7 +20,7 @@ use Rattle.scheduler.proofs.Order.{Orderly}
 use Rattle.machine.specs.Model.{Model}
 use Rattle.machine.proofs.Relation.Rows.{Shows}
 use Rattle.machine.proofs.Relation.Words.{at, Words}
-use Rattle.machine.proofs.Relation.Slots.{slotsAlong, Slots}
+use Rattle.machine.proofs.Relation.Slots.{slotsAlong, SlotsOf}
 use Rattle.machine.proofs.Relation.Nest.{Nested, AllHold, Seats, timed-seat}
 use Rattle.machine.proofs.Relation.Cells.{CellsTied}
 use Rattle.machine.proofs.Relation.Losses.{Lost}
@@ -32,7 +32,7 @@ pub record Tied (c : Config) (rk : ℕ → ℕ) (m : Model) (bs : List Body) (js
   pub words : Words c rk (m .core) bs
   pub nested : Nested c bs ns
   pub seats : Seats c rk bs js (m .core .runner) (m .core .level) ns
-  pub slots : Slots (m .held) (m .resource) (m .holder) (m .raised) (slotsAlong c rk bs ns)
+  pub slots : SlotsOf m (slotsAlong c rk bs ns)
   -- who is in no nest holds nothing
   pub loose : (b : ℕ) → among b ns ≡ false → at bs b .held ≡ []
 
