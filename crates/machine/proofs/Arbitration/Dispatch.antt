@@ -21,14 +21,13 @@ use Rattle.word.proofs.Theorems.{has-with-same, has-with-other, with-lt, has-wi
 use Rattle.scheduler.specs.Body.{Phase, suspended, ready, started, waiting, triggered, isStarted, hasBegun, competes, Body, current, become}
 use Rattle.scheduler.specs.Choice.{Candidate, chosen, nobody}
 use Rattle.scheduler.specs.State.{State, noBody, among, changing, latestOf, runner}
-use Rattle.scheduler.specs.Call.{requestWaits}
 use Rattle.scheduler.specs.Scheduler.{begins, dispatchedTo, dispatched}
 use Rattle.scheduler.proofs.Choice.{current-own}
 use Rattle.machine.specs.Model.{Core, Picked, Model, Outcome, withCore}
 use Rattle.machine.specs.Arbiter.{bids, winning, beginning, dispatching, arbitrated, settled}
 use Rattle.machine.specs.Machine.{runnerOf}
 use Rattle.plan.proofs.Fitted.{Fitted}
-use Rattle.machine.proofs.Relation.Words.{at, isAside, Words, words-changed}
+use Rattle.machine.proofs.Relation.Words.{at, isAside, Words, words-changed, started-waits}
 use Rattle.machine.proofs.Relation.Slots.{slotsFor, slotsAlong}
 use Rattle.machine.proofs.Relation.Nest.{levelAt, Nested, Seats, Alike, alike-same, among-tail-false, nest-level, levelAt-alike, nested-alike, slotsAlong-alike, hold-alike}
 use Rattle.machine.proofs.Relation.Kinds.{Kinds}
@@ -238,16 +237,9 @@ module _ {c : Config} {p : Plan} {rk : ℕ → ℕ} (fit : Fitted c p rk) where
         running (waiting n) h = absurd (true≢false (sym h))
         running (triggered z) h = absurd (true≢false (sym h))
 
-        second : (x : Body) (f : Phase) → isStarted f ≡ true → requestWaits x f ≡ x .pending
-        second x suspended h = absurd (true≢false (sym h))
-        second x ready h = absurd (true≢false (sym h))
-        second x started h = refl
-        second x (waiting n) h = absurd (true≢false (sym h))
-        second x (triggered z) h = absurd (true≢false (sym h))
-
         left : (b : Bool) → isStarted (at bs w .phase) ≡ b
             → has (cond (not b) (without q W) q) (rk w) ≡ at bs w .pending
-        left true e = t .words .asks w (v .exists) ∙ second (at bs w) (at bs w .phase) e
+        left true e = t .words .asks w (v .exists) ∙ started-waits (at bs w) (at bs w .phase) e
         left false e = rw (v .rank) (has-without-same q W) ∙ sym (t .words .quiet w e)
 
         asked : has (cond (beginning (m .core)) (without q W) q) (rk w) ≡ at bs w .pending

@@ -1,4 +1,5 @@
--- The runner leaves: whoever took the latest resource that is held takes its seat, at the level of that resource, or nobody does.
+-- The runner leaves: whoever took the latest resource that is held takes its seat, at the level of that resource, or
+-- nobody does.
 --
 --   end-tied     the runner ends
 --   pause-tied   the runner waits for an event bit
@@ -9,26 +10,24 @@ use mathlib.Core.Bool.{Bool, true, false, true≢false, cond}
 use mathlib.Core.List.{List, [], _∷_, _++_}
 use native.Mathlib.Omega.{arith}
 use borrow.Author.Tests.{eq-eqb, ne-eqb}
-use lib.Dec.{eqb}
 use lib.ListN.{set, length-set}
 use lib.Seq.{getD-set-same, getD-set-other}
-use Rattle.number.proofs.Cases.{by-eq}
+use Rattle.number.proofs.Cases.{by-test, by-eq}
 use Rattle.config.specs.declared.Config.{Config}
 use Rattle.config.specs.Meaning.{isIsr}
 use Rattle.plan.specs.declared.Plan.{Plan}
 use Rattle.word.specs.Word.{with, without}
 use Rattle.word.proofs.Theorems.{has-with-same, has-with-other, with-lt, has-without-same, has-without-other, without-lt}
 use Rattle.stack.specs.Stack.{topRow}
-use Rattle.scheduler.specs.Body.{Body, isStarted, Phase, suspended, ready, started, waiting, triggered, become, activated, ended, finished, holds, current}
+use Rattle.scheduler.specs.Body.{Body, isStarted, started, waiting, become, activated, ended, finished, holds, current}
 use Rattle.scheduler.specs.State.{noBody, among}
-use Rattle.scheduler.specs.Call.{requestWaits}
 use Rattle.machine.specs.Model.{Model, noRank, withCore}
 use Rattle.machine.specs.Arbiter.{lastLevel, leftWith, vacated, leaving, paused}
 use Rattle.machine.specs.Events.{pausing}
 use Rattle.plan.proofs.Fitted.{Fitted}
 use Rattle.machine.proofs.Relation.Rows.{row-shows-top}
-use Rattle.machine.proofs.Relation.Words.{at, wants, isAside, Words, words-changed}
-use Rattle.machine.proofs.Relation.Slots.{slotsFor, slotsAlong, Slots}
+use Rattle.machine.proofs.Relation.Words.{at, wants, isAside, Words, words-changed, started-on, started-waits}
+use Rattle.machine.proofs.Relation.Slots.{slotsFor, slotsAlong, SlotsOf}
 use Rattle.machine.proofs.Relation.Nest.{Nested, AllHold, Seats, Alike, alike-same, among-head, among-tail, not-among, nest-other, nested-alike, hold-alike, slotsAlong-alike}
 use Rattle.machine.proofs.Relation.Whole.{Tied}
 use Rattle.machine.proofs.Arbitration.Dispatch.{rank-below}
@@ -36,7 +35,7 @@ use Rattle.machine.proofs.Change.Request.{events-tied}
 
 -- the last slot's holder takes the seat, at its level
 module _ {c : Config} {p : Plan} {rk : ℕ → ℕ} (fit : Fitted c p rk) (m : Model) (bs : List Body) where
-  pub last-seated : (ns : List ℕ) → Nested c bs ns → AllHold bs ns → Slots (m .held) (m .resource) (m .holder) (m .raised) (slotsAlong c rk bs ns)
+  pub last-seated : (ns : List ℕ) → Nested c bs ns → AllHold bs ns → SlotsOf m (slotsAlong c rk bs ns)
       → Seats c rk bs [] (topRow (m .holder)) (lastLevel m) ns
   unfolding Seats slotsAlong slotsFor Nested
   last-seated [] k h q =
@@ -45,14 +44,16 @@ module _ {c : Config} {p : Plan} {rk : ℕ → ℕ} (fit : Fitted c p rk) (m : M
   last-seated (b ∷ ns) k h q = go (at bs b .held) refl (h b (among-head b ns)) q
     where
       go : (rs : List ℕ) → at bs b .held ≡ rs → holds (at bs b .held) ≡ true
-          → Slots (m .held) (m .resource) (m .holder) (m .raised) (slotsFor c rk b (at bs b .held) ++ slotsAlong c rk bs ns)
+          → SlotsOf m (slotsFor c rk b (at bs b .held) ++ slotsAlong c rk bs ns)
           → Seats c rk bs [] (topRow (m .holder)) (lastLevel m) (b ∷ ns)
       go [] e some q = absurd (true≢false (sym (rw e at some)))
       go (r ∷ rs) e some q =
           let first : topRow (m .holder) ≡ rk b = row-shows-top (m .holder) _ ((rw e at q) .holders) in
-          let level : topRow (m .raised) ≡ current c b (at bs b) = row-shows-top (m .raised) _ ((rw e at q) .levels) ∙ sym (rw e) in
-          let some : eqb (topRow (m .holder)) noRank ≡ false = ne-eqb (topRow (m .holder)) noRank (λ z. absurd (omega (arith, z, first, rank-below fit b (k .0)))) in
-          (first, (ap (λ (x : Bool). cond x 0 (topRow (m .raised))) some ∙ level, λ i a. h i (among-tail i b ns a)))
+          let level : topRow (m .raised) ≡ current c b (at bs b) =
+          row-shows-top (m .raised) _ ((rw e at q) .levels) ∙ sym (rw e) in
+          let seated : topRow (m .holder) ≢ noRank = λ z. absurd (omega (arith, z, first, rank-below fit b (k .0))) in
+          let raised = ap (λ (x : Bool). cond x 0 (topRow (m .raised))) (ne-eqb (topRow (m .holder)) noRank seated) in
+          (first, (raised ∙ level, λ i a. h i (among-tail i b ns a)))
 
 -- the runner b, which holds nothing, becomes y, and leaves the level; the words are s and a then
 module _ {c : Config} {p : Plan} {rk : ℕ → ℕ} (fit : Fitted c p rk) {m : Model} {bs : List Body} {b : ℕ} {ns : List ℕ}
@@ -92,9 +93,9 @@ module _ {c : Config} {p : Plan} {rk : ℕ → ℕ} (fit : Fitted c p rk) {m : M
 
     slots-same : slotsAlong c rk bs (b ∷ ns) ≡ slotsAlong c rk bs′ ns
     unfolding slotsAlong slotsFor
-    slots-same = ap (λ (rs : List ℕ). slotsFor c rk b rs ++ slotsAlong c rk bs ns) free ∙ slotsAlong-alike c rk bs bs′ ns alike
+    slots-same = rw free (slotsAlong-alike c rk bs bs′ ns alike)
 
-    slots′ : Slots (m .held) (m .resource) (m .holder) (m .raised) (slotsAlong c rk bs′ ns)
+    slots′ : SlotsOf m (slotsAlong c rk bs′ ns)
     slots′ = rw (sym slots-same) (t .slots)
 
     left-tied : Tied c rk (withCore m (leftWith m s a)) bs′ [] ns
@@ -119,13 +120,20 @@ module _ {c : Config} {p : Plan} {rk : ℕ → ℕ} (fit : Fitted c p rk) {m : M
   pub end-tied : Tied c rk (leaving m) (set bs b (finished (at bs b))) [] ns
   end-tied =
       events-tied
-      (left-tied (finished (at bs b)) (held-none (at bs b .pending)) (without (m .core .started) (m .core .runner)) (m .core .aside)
-      (words-changed fit (t .words) (t .size) b exists (finished (at bs b)) (vacated m)
-      ((λ h. absurd (true≢false (sym h ∙ used-up (at bs b .pending)))), λ h. absurd (true≢false (sym h ∙ back (at bs b .pending))))
+      (left-tied (finished (at bs b)) (held-none (at bs b .pending))
+      (without (m .core .started) (m .core .runner)) (m .core .aside)
+      (words-changed fit (t .words) (t .size) b exists (finished (at bs b)) (vacated m) (
+        (λ h. absurd (true≢false (sym h ∙ used-up (at bs b .pending)))),
+        λ h. absurd (true≢false (sym h ∙ back (at bs b .pending))),
+      )
       (record {
-        asks = t .words .asks b exists ∙ kept (at bs b .phase) was-started ∙ wants-then (at bs b .pending);
+        asks = t .words .asks b exists
+            ∙ started-waits (at bs b) (at bs b .phase) was-started
+            ∙ wants-then (at bs b .pending);
         goes-on = rw (runner-rank, unstarted (at bs b .pending)) (has-without-same (m .core .started) (rk b));
-        put-aside = t .words .put-aside b exists ∙ on (at bs b .phase) was-started ∙ sym (back (at bs b .pending));
+        put-aside = t .words .put-aside b exists
+            ∙ started-on (at bs b .phase) was-started
+            ∙ sym (back (at bs b .pending));
         quiet = λ _. used-up (at bs b .pending);
       })
       (record {
@@ -144,13 +152,6 @@ module _ {c : Config} {p : Plan} {rk : ℕ → ℕ} (fit : Fitted c p rk) {m : M
       held-none true = free
       held-none false = free
 
-      kept : (q : Phase) → isStarted q ≡ true → requestWaits (at bs b) q ≡ at bs b .pending
-      kept suspended h = absurd (true≢false (sym h))
-      kept ready h = absurd (true≢false (sym h))
-      kept started h = refl
-      kept (waiting w) h = absurd (true≢false (sym h))
-      kept (triggered x) h = absurd (true≢false (sym h))
-
       wants-then : (w : Bool) → w ≡ wants (out w)
       wants-then true = refl
       wants-then false = refl
@@ -158,13 +159,6 @@ module _ {c : Config} {p : Plan} {rk : ℕ → ℕ} (fit : Fitted c p rk) {m : M
       unstarted : (w : Bool) → isStarted (out w .phase) ≡ false
       unstarted true = refl
       unstarted false = refl
-
-      on : (q : Phase) → isStarted q ≡ true → isAside q ≡ false
-      on suspended h = refl
-      on ready h = refl
-      on started h = refl
-      on (waiting w) h = absurd (true≢false (sym h))
-      on (triggered x) h = absurd (true≢false (sym h))
 
       back : (w : Bool) → isAside (out w .phase) ≡ false
       back true = refl
@@ -178,14 +172,15 @@ module _ {c : Config} {p : Plan} {rk : ℕ → ℕ} (fit : Fitted c p rk) {m : M
   pub pause-tied : isIsr c b ≡ false → (w : ℕ) → Tied c rk (pausing w m) (set bs b (become (waiting w) (at bs b))) [] ns
   pause-tied task w =
       events-tied
-      (left-tied (become (waiting w) (at bs b)) free (without (m .core .started) (m .core .runner)) (with (m .core .aside) (m .core .runner))
+      (left-tied (become (waiting w) (at bs b)) free
+      (without (m .core .started) (m .core .runner)) (with (m .core .aside) (m .core .runner))
       (words-changed fit (t .words) (t .size) b exists (become (waiting w) (at bs b)) (paused m)
       (t .words .suits b .0, λ _. task)
       (record {
-        asks = t .words .asks b exists ∙ same (at bs b .phase) was-started;
+        asks = t .words .asks b exists ∙ started-waits (at bs b) (at bs b .phase) was-started;
         goes-on = rw runner-rank (has-without-same (m .core .started) (rk b));
         put-aside = rw runner-rank (has-with-same (m .core .aside) (rk b) (rank-below fit b exists));
-        quiet = λ _. single (at bs b .pending) refl;
+        quiet = λ _. single;
       })
       (record {
         request-lt = t .words .request-lt;
@@ -199,13 +194,5 @@ module _ {c : Config} {p : Plan} {rk : ℕ → ℕ} (fit : Fitted c p rk) {m : M
       (pausing w m .bits)
       (pausing w m .waited)
     where
-      same : (q : Phase) → isStarted q ≡ true → requestWaits (at bs b) q ≡ at bs b .pending
-      same suspended h = absurd (true≢false (sym h))
-      same ready h = absurd (true≢false (sym h))
-      same started h = refl
-      same (waiting v) h = absurd (true≢false (sym h))
-      same (triggered x) h = absurd (true≢false (sym h))
-
-      single : (x : Bool) → at bs b .pending ≡ x → x ≡ false
-      single true e = absurd (true≢false (sym (t .words .suits b .0 e) ∙ task))
-      single false e = refl
+      single : at bs b .pending ≡ false
+      single = by-test (at bs b .pending) (λ e. absurd (true≢false (sym (t .words .suits b .0 e) ∙ task))) (λ e. e)

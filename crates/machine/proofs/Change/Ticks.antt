@@ -42,19 +42,22 @@ module _ (w : Bool) (ks on : List ℕ) where
   ticked-before (suc k) e i ns h =
       ticked-before k (suc e) i _ (omega arith) ∙ getD-set-other ns e i _ 0 (λ z. absurd (omega arith))
 
-  ticked-at : (k e i : ℕ) (ns : List ℕ) → e ≤ i → i < e + k → i < length ns → getD (countersTicked k e w ks on ns) i 0 ≡ tickCell (cellAt w ks on ns i) .counter
+  ticked-at : (k e i : ℕ) (ns : List ℕ) → e ≤ i → i < e + k → i < length ns
+      → getD (countersTicked k e w ks on ns) i 0 ≡ tickCell (cellAt w ks on ns i) .counter
   unfolding countersTicked
   ticked-at zero e i ns h l len = absurd (omega arith)
   ticked-at (suc k) e i ns h l len =
       by-eq i e
       (λ z. rw z (ticked-before k (suc e) e (set ns e x) (omega arith) ∙ getD-set-same ns e x 0 (omega arith)))
       (λ n. ticked-at k (suc e) i (set ns e x) (omega arith) (omega arith) (rw (length-set ns e x) len)
-      ∙ ap (λ (v : ℕ). tickCell (unmarked v (getD ks i 0) (isOn (getD on i 0)) (w && hasTurn (getD on i 0))) .counter) (getD-set-other ns e i x 0 n))
+      ∙ ap (λ (v : ℕ). tickCell (unmarked v (getD ks i 0) (isOn (getD on i 0)) (w && hasTurn (getD on i 0))) .counter)
+      (getD-set-other ns e i x 0 n))
     where
       x : ℕ
       x = tickCell (cellAt w ks on ns e) .counter
 
-  marks-append : (j k e : ℕ) (ns : List ℕ) → marks (j + k) e w ks on ns ≡ marks j e w ks on ns ++ marks k (e + j) w ks on ns
+  marks-append : (j k e : ℕ) (ns : List ℕ)
+      → marks (j + k) e w ks on ns ≡ marks j e w ks on ns ++ marks k (e + j) w ks on ns
   unfolding marks
   marks-append zero k e ns = rw (zero-add, add-zero)
   marks-append (suc j) k e ns =
@@ -69,7 +72,8 @@ module _ (w : Bool) (ks on : List ℕ) where
       shift e j = omega arith
 
   -- cells that are off do not match
-  off-marks : (k e : ℕ) (ns : List ℕ) → ((i : ℕ) → e ≤ i → isOn (getD on i 0) ≡ false) → marks k e w ks on ns ≡ replicate k false
+  off-marks : (k e : ℕ) (ns : List ℕ) → ((i : ℕ) → e ≤ i → isOn (getD on i 0) ≡ false)
+      → marks k e w ks on ns ≡ replicate k false
   unfolding marks
   off-marks zero e ns off = refl
   off-marks (suc k) e ns off =
@@ -78,16 +82,20 @@ module _ (w : Bool) (ks on : List ℕ) where
       (off-marks k (suc e) ns (λ i h. off i (omega arith)))
 
   -- what a row asks for of which only the first n cells may be on
-  pub due-first-cells : (n : ℕ) → n ≤ maxEntries → ((i : ℕ) → n ≤ i → isOn (getD on i 0) ≡ false) → (v : ℕ) (ns rs : List ℕ) (x : Due)
+  pub due-first-cells : (n : ℕ) → n ≤ maxEntries → ((i : ℕ) → n ≤ i → isOn (getD on i 0) ≡ false)
+      → (v : ℕ) (ns rs : List ℕ) (x : Due)
       → requestsDue v (marks maxEntries 0 w ks on ns) rs x ≡ requestsDue v (marks n 0 w ks on ns) rs x
   due-first-cells n h off v ns rs x =
       ap (λ (k : ℕ). requestsDue v (marks k 0 w ks on ns) rs x) all
       ∙ ap (λ (l : List Bool). requestsDue v l rs x) (marks-append n (maxEntries - n) 0 ns)
-      ∙ due-append v (marks n 0 w ks on ns) (marks (maxEntries - n) (0 + n) w ks on ns) rs x
-      ∙ ap (λ (l : List Bool). requestsDue v l (drop (length (marks n 0 w ks on ns)) rs) (requestsDue v (marks n 0 w ks on ns) rs x))
+      ∙ due-append v first (marks (maxEntries - n) (0 + n) w ks on ns) rs x
+      ∙ ap (λ (l : List Bool). requestsDue v l (drop (length first) rs) (requestsDue v first rs x))
       (off-marks (maxEntries - n) (0 + n) ns (λ i l. off i (omega arith)))
       ∙ due-quiet v (maxEntries - n) _ _
     where
+      first : List Bool
+      first = marks n 0 w ks on ns
+
       all : maxEntries ≡ n + (maxEntries - n)
       all = omega arith
 
@@ -109,13 +117,21 @@ module _ (c : Config) (p : Plan) (rk : ℕ → ℕ) (fit : Fitted c p rk) where
       ∙ rw (length-drop (firstOf c t) (c .offset))
       (omega (arith, fit .offsets-long, fit .few-entries, firstOf-step c t, firstOf-rises c (suc t) (c .tables) h))
 
-  dues-from-long : (ts : List Table) (t : ℕ) → t + length ts ≡ c .tables → firstOf c t + length (duesFrom c t ts) ≡ firstOf c (c .tables)
+  dues-from-long : (ts : List Table) (t : ℕ) → t + length ts ≡ c .tables
+      → firstOf c t + length (duesFrom c t ts) ≡ firstOf c (c .tables)
   unfolding duesFrom
   dues-from-long [] t e = let q : t ≡ c .tables = omega arith in rw q (omega arith)
   dues-from-long (x ∷ xs) t e =
       let r = dues-from-long xs (suc t) (omega arith) in
-      rw (length-append (map (entryDue (getD (c .period) t 0) x) (offsets c t)) (duesFrom c (suc t) xs), length-map (offsets c t) (entryDue (getD (c .period) t 0) x), length-offsets t (omega arith))
+      rw (
+        length-append (map (due x t) (offsets c t)) (duesFrom c (suc t) xs),
+        length-map (offsets c t) (due x t),
+        length-offsets t (omega arith),
+      )
       (omega (arith, firstOf-step c t))
+    where
+      due : Table → ℕ → ℕ → Bool
+      due x t = entryDue (getD (c .period) t 0) x
 
   -- as many entries as cells
   pub dues-long : (s : State) → length (s .tables) ≡ c .tables → length (dues c s) ≡ p .count
@@ -129,7 +145,8 @@ cell-due P o x (running d n) h = on-time-matched P (d + o) n x h
 
 -- and then it still fits
 cell-counted : (P o i k : ℕ) (on turn : Bool) (t : Table) → CellFits P o (unmarked i k on turn) t
-    → CellFits P o (unmarked (tickCell (unmarked i k on turn) .counter) k on (tickCell (unmarked i k on turn) .turn)) (counting t)
+    → CellFits P o (unmarked (tickCell (unmarked i k on turn) .counter) k on (tickCell (unmarked i k on turn) .turn))
+    (counting t)
 unfolding CellFits counting
 cell-counted P o i k on turn stopped h = h
 cell-counted P o i k on turn (running d n) h = on-time-numbers P (d + o) n i k on turn h
@@ -138,31 +155,43 @@ module _ (c : Config) (p : Plan) (rk : ℕ → ℕ) (fit : Fitted c p rk) (w : B
   abbrev ks : List ℕ
   ks = p .compare
 
-  marks-from : (ts : List Table) (t : ℕ) → t + length ts ≡ c .tables
-      → ((i e : ℕ) → i < length ts → firstOf c (t + i) ≤ e → e < firstOf c (suc (t + i))
-      → CellFits (getD (c .period) (t + i) 0) (getD (c .offset) e 0) (cellAt w ks on ns e) (getD ts i stopped))
-      → marks (firstOf c (c .tables) - firstOf c t) (firstOf c t) w ks on ns ≡ duesFrom c t (map counting ts)
+  -- the cells of the tables ts, the first of which is table t, keep their arithmetic
+  abbrev FitFrom : ℕ → List Table → Type 0
+  FitFrom t ts =
+      (i e : ℕ) → i < length ts → firstOf c (t + i) ≤ e → e < firstOf c (suc (t + i))
+      → CellFits (getD (c .period) (t + i) 0) (getD (c .offset) e 0) (cellAt w ks on ns e) (getD ts i stopped)
+
+  -- how many cells there are from table t on
+  abbrev cellsFrom : ℕ → ℕ
+  cellsFrom t = firstOf c (c .tables) - firstOf c t
+
+  marks-from : (ts : List Table) (t : ℕ) → t + length ts ≡ c .tables → FitFrom t ts
+      → marks (cellsFrom t) (firstOf c t) w ks on ns ≡ duesFrom c t (map counting ts)
   unfolding duesFrom marks
   marks-from [] t e fits =
       let q : t ≡ c .tables = omega arith in
-      let z : firstOf c (c .tables) - firstOf c t ≡ 0 = rw q (omega arith) in
+      let z : cellsFrom t ≡ 0 = rw q (omega arith) in
       ap (λ (k : ℕ). marks k (firstOf c t) w ks on ns) z
   marks-from (x ∷ xs) t e fits =
-      let l : t < c .tables = omega arith in
-      let st = firstOf-step c t in
-      let split : firstOf c (c .tables) - firstOf c t ≡ getD (c .entries) t 0 + (firstOf c (c .tables) - firstOf c (suc t)) =
-      omega (arith, firstOf-rises c (suc t) (c .tables) l) in
-      rw (split, marks-append w ks on (getD (c .entries) t 0) (firstOf c (c .tables) - firstOf c (suc t)) (firstOf c t) ns)
+      rw (split, marks-append w ks on (getD (c .entries) t 0) (cellsFrom (suc t)) (firstOf c t) ns)
       (ap₂ (λ (a b : List Bool). a ++ b)
-      (table-marks w ks on (getD (c .entries) t 0) (firstOf c t) ns (c .offset) (entryDue (getD (c .period) t 0) (counting x))
-      (omega (arith, fit .offsets-long, fit .few-entries, firstOf-rises c (suc t) (c .tables) l))
-      (λ i a b. cell-due (getD (c .period) t 0) (getD (c .offset) i 0) (cellAt w ks on ns i) x
-      (rw add-zero at (fits 0 i (omega arith) (rw add-zero a) (rw add-zero (omega arith))))))
-      (ap (λ (f : ℕ). marks (firstOf c (c .tables) - firstOf c (suc t)) f w ks on ns) (sym st)
+      (table-marks w ks on (getD (c .entries) t 0) (firstOf c t) ns (c .offset) (entryDue P (counting x))
+      (omega (arith, fit .offsets-long, fit .few-entries, rises, firstOf-step c t))
+      (λ i a b. cell-due P (getD (c .offset) i 0) (cellAt w ks on ns i) x
+      (rw add-zero at (fits 0 i (omega arith) (rw add-zero a) (rw add-zero (omega (arith, firstOf-step c t)))))))
+      (ap (λ (f : ℕ). marks (cellsFrom (suc t)) f w ks on ns) (sym (firstOf-step c t))
       ∙ marks-from xs (suc t) (omega arith) (λ i f i< a b. rest i f i< a b)))
     where
-      rest : (i f : ℕ) → i < length xs → firstOf c (suc t + i) ≤ f → f < firstOf c (suc (suc t + i))
-          → CellFits (getD (c .period) (suc t + i) 0) (getD (c .offset) f 0) (cellAt w ks on ns f) (getD xs i stopped)
+      P : ℕ
+      P = getD (c .period) t 0
+
+      rises : firstOf c (suc t) ≤ firstOf c (c .tables)
+      rises = firstOf-rises c (suc t) (c .tables) (omega arith)
+
+      split : cellsFrom t ≡ getD (c .entries) t 0 + cellsFrom (suc t)
+      split = omega (arith, rises, firstOf-step c t)
+
+      rest : FitFrom (suc t) xs
       rest i f i< a b =
           let q : t + suc i ≡ suc t + i = omega arith in
           rw q at (fits (suc i) f (omega arith) (rw q a) (rw q b))
@@ -172,13 +201,19 @@ module _ (c : Config) (p : Plan) (rk : ℕ → ℕ) (fit : Fitted c p rk) (w : B
     pub marks-due : marks (p .count) 0 w ks on ns ≡ duesFrom c 0 (map counting ts)
     marks-due =
         ap₂ (λ (k e : ℕ). marks k e w ks on ns) size (sym (firstOf-zero c))
-        ∙ marks-from ts 0 (omega (arith, cells .tables-long)) (λ i e i< a b. let q : 0 + i ≡ i = omega arith in rw q (cells .fits i e (omega (arith, cells .tables-long)) (rw q at a) (rw q at b)))
+        ∙ marks-from ts 0 (omega (arith, cells .tables-long)) fits
       where
+        fits : FitFrom 0 ts
+        fits i e i< a b =
+            let q : 0 + i ≡ i = omega arith in
+            rw q (cells .fits i e (omega (arith, cells .tables-long)) (rw q at a) (rw q at b))
+
         size : p .count ≡ firstOf c (c .tables) - firstOf c 0
         size = omega (arith, firstOf-zero c, fit .count-is)
 
     -- the cells after the tick stand for the tables after it
-    pub ticked-cells : CellsTied c p (countersTicked maxEntries 0 w ks on ns) (switchesAfter w ks ns on) (turningAfter w ks ns on) (map counting ts)
+    pub ticked-cells : CellsTied c p
+        (countersTicked maxEntries 0 w ks on ns) (switchesAfter w ks ns on) (turningAfter w ks ns on) (map counting ts)
     unfolding counting
     ticked-cells =
         record {
@@ -193,7 +228,8 @@ module _ (c : Config) (p : Plan) (rk : ℕ → ℕ) (fit : Fitted c p rk) (w : B
                 turn-after w ks ns on e inside (cells .switches-long),
                 List·getD-map counting ts t stopped,
               )
-              (cell-counted (getD (c .period) t 0) (getD (c .offset) e 0) (getD ns e 0) (getD ks e 0) (isOn (getD on e 0)) (w && hasTurn (getD on e 0)) (getD ts t stopped) (cells .fits t e t< a b));
+              (cell-counted (getD (c .period) t 0) (getD (c .offset) e 0) (getD ns e 0) (getD ks e 0)
+              (isOn (getD on e 0)) (w && hasTurn (getD on e 0)) (getD ts t stopped) (cells .fits t e t< a b));
           spare = λ e h. off-after w ks ns on e (cells .switches-long) (cells .spare e h);
           unturned = none-after w ks ns on (cells .switches-long) (cells .unturned);
         }

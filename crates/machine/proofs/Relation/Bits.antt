@@ -1,7 +1,7 @@
 -- How the rows of event bits and of waited masks stand for the bodies'.
 --
 --   Noted c rk x es ws bs   the bits es by rank, of which those in x count as 0, and the masks ws are those of the
---                           bodies bs
+--                           bodies bs; NotedOf c rk m bs: those of the model m
 --   noted-same              bodies with the same bits and masks
 --   noted-touched           one body is changed, but for its bits and masks
 --   noted-changed           one body is changed, and the rows follow it
@@ -19,6 +19,7 @@ use Rattle.word.specs.Word.{has}
 use Rattle.scheduler.specs.Body.{waiting, isSuspended, Body}
 use Rattle.scheduler.specs.State.{noBody}
 use Rattle.plan.proofs.Fitted.{Fitted}
+use Rattle.machine.specs.Model.{Model}
 use Rattle.machine.proofs.Relation.Words.{at}
 
 -- the event bits of the rank r
@@ -34,6 +35,10 @@ pub record Noted (c : Config) (rk : ℕ → ℕ) (x : ℕ) (es ws : List ℕ) (b
   pub masks-long : length ws ≡ 32
   pub bits-are : (b : ℕ) → b < c .bodies → noted x es (rk b) ≡ eventBits (at bs b)
   pub mask-is : (b w : ℕ) → b < c .bodies → at bs b .phase ≡ waiting w → getD ws (rk b) 0 ≡ w
+
+-- those of the model m
+abbrev pub NotedOf : Config → (ℕ → ℕ) → Model → List Body → Type 0
+NotedOf c rk m bs = Noted c rk (m .cleared) (m .bits) (m .waited) bs
 
 pub noted-same : {c : Config} {rk : ℕ → ℕ} {x : ℕ} {es ws : List ℕ} {bs bs′ : List Body}
     → ((i : ℕ) → eventBits (at bs′ i) ≡ eventBits (at bs i))

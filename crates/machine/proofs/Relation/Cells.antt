@@ -10,6 +10,7 @@ use Rattle.plan.specs.declared.Plan.{Plan}
 use Rattle.cell.specs.declared.Cell.{Cell}
 use Rattle.cell.specs.Due.{OnTime}
 use Rattle.scheduler.specs.State.{Table, stopped, running}
+use Rattle.machine.specs.Model.{Model}
 use Rattle.machine.specs.Cells.{isOn, hasTurn, cellAt}
 
 -- the cell of an entry at offset o is off while its table is stopped, and else matches exactly when the entry is due
@@ -27,3 +28,7 @@ pub record CellsTied (c : Config) (p : Plan) (ns on : List ℕ) (w : Bool) (ts :
   -- a cell without an entry is off
   pub spare : (e : ℕ) → firstOf c (c .tables) ≤ e → isOn (getD on e 0) ≡ false
   pub unturned : w ≡ false → (e : ℕ) → hasTurn (getD on e 0) ≡ false
+
+-- the cells of the model m do
+abbrev pub CellsOf : Config → Plan → Model → List Table → Type 0
+CellsOf c p m ts = CellsTied c p (m .counter) (m .on) (m .turning) ts

@@ -22,9 +22,9 @@ use Rattle.machine.proofs.Relation.Rows.{Shows}
 use Rattle.machine.proofs.Relation.Words.{at, Words}
 use Rattle.machine.proofs.Relation.Slots.{slotsAlong, SlotsOf}
 use Rattle.machine.proofs.Relation.Nest.{Nested, AllHold, Seats, timed-seat}
-use Rattle.machine.proofs.Relation.Cells.{CellsTied}
+use Rattle.machine.proofs.Relation.Cells.{CellsOf}
 use Rattle.machine.proofs.Relation.Losses.{Lost}
-use Rattle.machine.proofs.Relation.Bits.{Noted}
+use Rattle.machine.proofs.Relation.Bits.{NotedOf}
 
 -- js: the time-triggered tasks that are started
 pub record Tied (c : Config) (rk : ℕ → ℕ) (m : Model) (bs : List Body) (js ns : List ℕ) : Type 0 where
@@ -45,9 +45,9 @@ pub record Sim (c : Config) (p : Plan) (rk : ℕ → ℕ) (m : Model) (s : State
   pub nest : List ℕ
   pub tied : Tied c rk m (s .bodies) (s .order) nest
   pub calm : Calm c (m .core .level) (s .bodies)
-  pub cells : CellsTied c p (m .counter) (m .on) (m .turning) (s .tables)
+  pub cells : CellsOf c p m (s .tables)
   pub lost : Lost c rk (m .losses) (s .bodies)
-  pub noted : Noted c rk (m .cleared) (m .bits) (m .waited) (s .bodies)
+  pub noted : NotedOf c rk m (s .bodies)
   pub orderly : Orderly c s
   pub row : Shows (rowBytes (m .triggered)) (map rk (s .order))
 

@@ -6,7 +6,7 @@
 use Prim.Native.Nat.{ℕ, _^_, _<_}
 use mathlib.Core.Path.{_≡_, refl, sym, ap, ap₂, _∙_}
 use mathlib.Core.Logic.{_≢_}
-use mathlib.Core.Bool.{Bool, true, false, not, _||_, or-true, not-or-self}
+use mathlib.Core.Bool.{Bool, true, false, true≢false, not, _||_, or-true, not-or-self}
 use mathlib.Core.List.{List}
 use lib.ListN.{length, getD, set}
 use lib.Seq.{getD-set-same, getD-set-other}
@@ -120,6 +120,21 @@ waits-same x y ready e = refl
 waits-same x y started e = e
 waits-same x y (waiting w) e = e
 waits-same x y (triggered z) e = refl
+
+-- who is started is not put aside, and only its second request waits
+pub started-on : (q : Phase) → isStarted q ≡ true → isAside q ≡ false
+started-on suspended h = refl
+started-on ready h = refl
+started-on started h = refl
+started-on (waiting w) h = absurd (true≢false (sym h))
+started-on (triggered x) h = absurd (true≢false (sym h))
+
+pub started-waits : (b : Body) (q : Phase) → isStarted q ≡ true → requestWaits b q ≡ b .pending
+started-waits b suspended h = absurd (true≢false (sym h))
+started-waits b ready h = absurd (true≢false (sym h))
+started-waits b started h = refl
+started-waits b (waiting w) h = absurd (true≢false (sym h))
+started-waits b (triggered x) h = absurd (true≢false (sym h))
 
 -- the words of k, with another runner and level
 abbrev seatedBy : Core → ℕ → ℕ → Core
