@@ -126,34 +126,34 @@ module _ {c : Config} {p : Plan} {rk : ℕ → ℕ} (fit : Fitted c p rk) {m : M
   -- a body above the level that is above every other one is chosen
   module _ (w : ℕ) (w< : w < c .bodies) (act : competes (at bs w .phase) ≡ true)
       (above : m .core .level < priorityOf c w)
-      (best : (i : ℕ) → i < c .bodies → i ≢ w → competes (at bs i .phase) ≡ true → priorityOf c i < priorityOf c w)
-    where
-      -- it is in no nest
-      pub outside : among w ns ≡ false
-      outside =
-          by-test (among w ns)
-          (λ h. absurd (omega (arith, nest-level c bs w ns (t .nested) h, current-own c w (at bs w), level-is)))
-          (λ h. h)
+      (best : (i : ℕ) → i < c .bodies → i ≢ w → competes (at bs i .phase) ≡ true
+      → priorityOf c i < priorityOf c w) where
+    -- it is in no nest
+    pub outside : among w ns ≡ false
+    outside =
+        by-test (among w ns)
+        (λ h. absurd (omega (arith, nest-level c bs w ns (t .nested) h, current-own c w (at bs w), level-is)))
+        (λ h. h)
 
-      -- every other one runs below its own priority
-      current-below : (i : ℕ) → i < c .bodies → i ≢ w → competes (at bs i .phase) ≡ true
-          → current c i (at bs i) < priorityOf c w
-      current-below i i< other a =
-          by-test (among i ns)
-          (λ h. omega (arith, nest-level c bs i ns (t .nested) h, level-is))
-          (λ h. omega (arith, own-outside i h, best i i< other a))
+    -- every other one runs below its own priority
+    current-below : (i : ℕ) → i < c .bodies → i ≢ w → competes (at bs i .phase) ≡ true
+        → current c i (at bs i) < priorityOf c w
+    current-below i i< other a =
+        by-test (among i ns)
+        (λ h. omega (arith, nest-level c bs i ns (t .nested) h, level-is))
+        (λ h. omega (arith, own-outside i h, best i i< other a))
 
-      pub chosen-above : chosen c bs ≡ bidder w (priorityOf c w) (isStarted (at bs w .phase)) false
-      chosen-above =
-          chosen-best byHolding refl c bs w
-          (rw (contends w act, own-outside w outside)
-          (ne-eqb (priorityOf c w) 0 (λ z. absurd (omega (arith, z, fit .own-some w w<)))))
-          (λ i i< other a. weight-before byHolding (contender c bs w) (contender c bs i)
-          (lighter i (rw (t .size) at i<) other a))
-          ∙ contends w act ∙ rw (own-outside w outside, t .loose w outside)
-        where
-          lighter : (i : ℕ) → i < c .bodies → i ≢ w → competes (at bs i .phase) ≡ true
-              → weight byHolding (contender c bs i) < weight byHolding (contender c bs w)
-          lighter i i< other a =
-              rw (weighs i a, weighs w act, own-outside w outside)
-              (omega (arith, current-below i i< other a, markOf-le (holds (at bs i .held))))
+    pub chosen-above : chosen c bs ≡ bidder w (priorityOf c w) (isStarted (at bs w .phase)) false
+    chosen-above =
+        chosen-best byHolding refl c bs w
+        (rw (contends w act, own-outside w outside)
+        (ne-eqb (priorityOf c w) 0 (λ z. absurd (omega (arith, z, fit .own-some w w<)))))
+        (λ i i< other a. weight-before byHolding (contender c bs w) (contender c bs i)
+        (lighter i (rw (t .size) at i<) other a))
+        ∙ contends w act ∙ rw (own-outside w outside, t .loose w outside)
+      where
+        lighter : (i : ℕ) → i < c .bodies → i ≢ w → competes (at bs i .phase) ≡ true
+            → weight byHolding (contender c bs i) < weight byHolding (contender c bs w)
+        lighter i i< other a =
+            rw (weighs i a, weighs w act, own-outside w outside)
+            (omega (arith, current-below i i< other a, markOf-le (holds (at bs i .held))))

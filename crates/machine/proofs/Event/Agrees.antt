@@ -367,7 +367,7 @@ module _ {c : Config} {p : Plan} {rk : ℕ → ℕ} (fit : Fitted c p rk) where
       }
 
   -- of a state in order the latest time-triggered task has begun
-  pub seated-of : {s : State} → Orderly c s → Seated c s
+  seated-of : {s : State} → Orderly c s → Seated c s
   seated-of o j js e = (latest-exists o j js e, ap hasBegun (latest-begun o j js e))
 
   pub latest-of : {s : State} → Orderly c s → LatestActive s
