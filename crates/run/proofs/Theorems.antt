@@ -1,7 +1,7 @@
 -- What the crate shows of the run, for every input. Each law stands here in full, over specs/ alone.
 --
--- In order: how many bytes the answers take; that refusal and place can be split again. `Worked` has the run on bytes, computed, and `Edges`
--- P1 to P13.
+-- In order: how many bytes the answers take; that refusal and place can be split again. `Worked` has the run on
+-- bytes, computed, and `Edges` P1 to P13.
 use Prim.Native.Nat.{ℕ, _/_, _%_, _≤_, _<_}
 use mathlib.Core.Path.{_≡_}
 use mathlib.Core.List.{List}
@@ -25,7 +25,8 @@ use Rattle.run.proofs.Input.{config-refused, trace-too-long, trace-refu
 abbrev pub places : ℕ
 places = 4294967296
 
--- what holds of a run's input: a refusal's place is below that; of a trace that is played, the events and the bytes of their answers are few
+-- what holds of a run's input: a refusal's place is below that; of a trace that is played, the events and the bytes
+-- of their answers are few
 unfoldable pub Bounded : Input → Type 0
 Bounded (refused r p) = p < places
 Bounded (played c es) = (length es ≤ 8192) × (length (answers c es) ≤ 32832)

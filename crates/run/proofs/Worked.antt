@@ -1,5 +1,5 @@
--- The run on bytes, worked out: document 01's whole listing, and each limit on both sides, computed by the checker from the definition that the
--- contract of `osek_run` cites.
+-- The run on bytes, worked out: document 01's whole listing, and each limit on both sides, computed by the checker
+-- from the definition that the contract of `osek_run` cites.
 use Prim.Native.Nat.{ℕ, _+_, _*_}
 use mathlib.Core.Path.{_≡_, refl}
 use mathlib.Core.List.{List, [], _∷_, _++_, map}

@@ -19,7 +19,8 @@ use Rattle.event.specs.Trace.{maxTrace, readTrace}
 use Rattle.scheduler.specs.Scheduler as Plain
 use Rattle.scheduler.specs.Scheduler.{Activate, Finish, Chain, Get, Release, Tick, Line, Start, Stop, Wait, Set, Clear, Seen, fresh, seen, after, lossesOf}
 
--- the event that a code with two arguments stands for; of the twelve codes that a readable event has, the last needs no test
+-- the event that a code with two arguments stands for; of the twelve codes that a readable event has, the last needs
+-- no test
 unfoldable pub callOf : Event → Plain.Event
 callOf e =
     cond (eqb (e .code) activate) (Activate (e .first))

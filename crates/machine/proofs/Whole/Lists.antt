@@ -1,9 +1,9 @@
 -- Demand 3. Take any accepted configuration and any list of events: Activate, Finish, Chain, Get, Release, Tick, Line,
 -- Start, Stop, Wait, Set and Clear in any order, refused ones included, without limit. Put it through the machine, from
 -- its fresh start, where each event gets the model that the one before it handed back; and put it through the plain
--- scheduler, which has no request word or cell. What is seen of the two is the same list: for every event the status, the
--- running body, the level and the begun mark, every body's losses, and for every entry whether its cell matched (machine)
--- or whether it is due by the table's arithmetic (scheduler).
+-- scheduler, which has no request word or cell. What is seen of the two is the same list: for every event the status,
+-- the running body, the level and the begun mark, every body's losses, and for every entry whether its cell matched
+-- (machine) or whether it is due by the table's arithmetic (scheduler).
 --
 --   event-agrees   one event
 --   agreement-from a list of events, from any model that stands for a state; after-sim: what it leaves
