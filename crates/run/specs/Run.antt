@@ -1,7 +1,7 @@
 -- The run: from the bytes of a configuration and a trace to the answers of the plain scheduler.
 --
---   readRun cs ts      what the input is: refused, or a configuration and its events
---   answers c es       the output of the plain scheduler, event by event and then the losses
+--   readRun cs ts          what the input is: refused, or a configuration and its events
+--   answers c es           the output of the plain scheduler, event by event and then the losses
 --   runResult, runOutput   what the run returns, and what it leaves in the slice that it is lent
 use Prim.Native.Nat.{ℕ, _/_, _%_}
 use mathlib.Core.Bool.{cond}
@@ -50,7 +50,9 @@ unfoldable pub readRun : List ℕ → List ℕ → Input
 readRun cs ts =
     cond (eqb (readConfig cs .refusal) none)
     (cond (leb (length ts) maxTrace)
-    (cond (eqb (readTrace ts .refusal) none) (played (readConfig cs .config) (callsOf ts)) (refused (readTrace ts .refusal) (readTrace ts .place)))
+    (cond (eqb (readTrace ts .refusal) none)
+    (played (readConfig cs .config) (callsOf ts))
+    (refused (readTrace ts .refusal) (readTrace ts .place)))
     (refused traceTooLong 0))
     (refused (readConfig cs .refusal) (readConfig cs .place))
 
