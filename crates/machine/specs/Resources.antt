@@ -3,7 +3,7 @@
 -- word, too.
 --
 --   getting r l m      the runner takes r, and its level becomes l
---   releasing ps r m   the runner gives its latest resource r back: "the level .. is what it is without that resource"
+--   releasing ps r m   the runner gives its latest resource r back, and the level is what it is without that resource
 use Prim.Native.Nat.{ℕ}
 use mathlib.Core.Bool.{Bool, cond, _&&_}
 use mathlib.Core.List.{List}

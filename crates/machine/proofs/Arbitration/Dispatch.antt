@@ -29,7 +29,7 @@ use Rattle.machine.specs.Machine.{runnerOf}
 use Rattle.plan.proofs.Fitted.{Fitted}
 use Rattle.machine.proofs.Relation.Words.{at, isAside, Words, words-changed, started-waits}
 use Rattle.machine.proofs.Relation.Slots.{slotsFor, slotsAlong}
-use Rattle.machine.proofs.Relation.Nest.{levelAt, Nested, Seats, Alike, alike-same, among-tail-false, nest-level, levelAt-alike, nested-alike, slotsAlong-alike, hold-alike}
+use Rattle.machine.proofs.Relation.Nest.{levelAt, Nested, Seats, AlikeAlong, alike-outside, among-tail-false, nest-level, levelAt-alike, nested-alike, slotsAlong-alike, hold-alike}
 use Rattle.machine.proofs.Relation.Kinds.{Kinds}
 use Rattle.machine.proofs.Relation.Whole.{Tied, Calm, latest-seat}
 use Rattle.machine.proofs.Arbitration.Seat.{Holders, holders}
@@ -261,15 +261,15 @@ module _ {c : Config} {p : Plan} {rk : ℕ → ℕ} (fit : Fitted c p rk) where
         let l : current c w (at bs w) ≤ levelAt c bs ks = rw e at (nest-level c bs i ks (below .nested) h) in
         omega (arith, low, current-own c w (at bs w))
 
-    alike : (i : ℕ) → among i ks ≡ true → Alike (at bs i) (at bs′ i)
-    alike i h = alike-same (sym (at-other i (other i h)))
+    alike : AlikeAlong bs bs′ ks
+    alike = alike-outside w (become started (at bs w)) other
 
     nested′ : Nested c bs′ (w ∷ ks)
     unfolding Nested
     nested′ =
         let begun = ap (λ (x : Body). isStarted (x .phase)) at-w in
-        let low′ : levelAt c bs′ ks < priorityOf c w = rw (sym (levelAt-alike c rk bs bs′ ks alike)) low in
-        (v .exists, (begun, (low′, nested-alike c rk bs bs′ ks alike (below .nested))))
+        let low′ : levelAt c bs′ ks < priorityOf c w = rw (sym (levelAt-alike c alike)) low in
+        (v .exists, (begun, (low′, nested-alike c alike (below .nested))))
 
     level′ : winning (p .priority) (m .core) ≡ current c w (at bs′ w)
     level′ = winning-is fit (t .words) kinds v ∙ sym (rw (at-w, free))
@@ -277,7 +277,7 @@ module _ {c : Config} {p : Plan} {rk : ℕ → ℕ} (fit : Fitted c p rk) where
     slots-same : slotsAlong c rk bs ks ≡ slotsAlong c rk bs′ (w ∷ ks)
     unfolding slotsAlong slotsFor
     slots-same =
-        slotsAlong-alike c rk bs bs′ ks alike
+        slotsAlong-alike c rk alike
         ∙ sym (rw (at-w, free))
 
     tied′ : Tied c rk (withCore m k′) bs′ [] (w ∷ ks)
@@ -287,7 +287,7 @@ module _ {c : Config} {p : Plan} {rk : ℕ → ℕ} (fit : Fitted c p rk) where
           size = length-set bs w (become started (at bs w)) ∙ t .size;
           words = words′;
           nested = nested′;
-          seats = (sym (v .rank), (level′, hold-alike c rk bs bs′ ks alike (below .hold)));
+          seats = (sym (v .rank), (level′, hold-alike alike (below .hold)));
           slots = rw (sym slots-same) (below .slots);
           loose = λ i h. by-eq i w
               (λ e. rw (e, at-w) free)

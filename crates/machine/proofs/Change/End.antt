@@ -20,7 +20,7 @@ use Rattle.word.specs.Word.{with, without}
 use Rattle.word.proofs.Theorems.{has-with-same, has-with-other, with-lt, has-without-same, has-without-other, without-lt}
 use Rattle.stack.specs.Stack.{topRow}
 use Rattle.scheduler.specs.Body.{Body, isStarted, started, waiting, become, activated, ended, finished, holds, current}
-use Rattle.scheduler.specs.State.{noBody, among}
+use Rattle.scheduler.specs.State.{noBody}
 use Rattle.machine.specs.Model.{Model, noRank, withCore}
 use Rattle.machine.specs.Arbiter.{lastLevel, leftWith, vacated, leaving, paused}
 use Rattle.machine.specs.Events.{pausing}
@@ -28,7 +28,7 @@ use Rattle.plan.proofs.Fitted.{Fitted}
 use Rattle.machine.proofs.Relation.Rows.{row-shows-top}
 use Rattle.machine.proofs.Relation.Words.{at, wants, isAside, Words, words-changed, started-on, started-waits}
 use Rattle.machine.proofs.Relation.Slots.{slotsFor, slotsAlong, SlotsOf}
-use Rattle.machine.proofs.Relation.Nest.{Nested, AllHold, Seats, Alike, alike-same, among-head, among-tail, not-among, nest-other, nested-alike, hold-alike, slotsAlong-alike}
+use Rattle.machine.proofs.Relation.Nest.{Nested, AllHold, Seats, AlikeAlong, alike-outside, among-head, among-tail, not-among, nest-other, nested-alike, hold-alike, slotsAlong-alike}
 use Rattle.machine.proofs.Relation.Whole.{Tied}
 use Rattle.machine.proofs.Arbitration.Dispatch.{rank-below}
 use Rattle.machine.proofs.Change.Request.{events-tied}
@@ -88,24 +88,24 @@ module _ {c : Config} {p : Plan} {rk : ℕ → ℕ} (fit : Fitted c p rk) {m : M
     at-other : (i : ℕ) → i ≢ b → at bs′ i ≡ at bs i
     at-other i n = getD-set-other bs b i y noBody n
 
-    alike : (i : ℕ) → among i ns ≡ true → Alike (at bs i) (at bs′ i)
-    alike i h = alike-same (sym (at-other i (nest-other c bs b i ns (t .nested) h)))
+    alike : AlikeAlong bs bs′ ns
+    alike = alike-outside b y (λ i h. nest-other c bs b i ns (t .nested) h)
 
     slots-same : slotsAlong c rk bs (b ∷ ns) ≡ slotsAlong c rk bs′ ns
     unfolding slotsAlong slotsFor
-    slots-same = rw free (slotsAlong-alike c rk bs bs′ ns alike)
+    slots-same = rw free (slotsAlong-alike c rk alike)
 
     slots′ : SlotsOf m (slotsAlong c rk bs′ ns)
     slots′ = rw (sym slots-same) (t .slots)
 
     left-tied : Tied c rk (withCore m (leftWith m s a)) bs′ [] ns
     left-tied =
-        let nested′ = nested-alike c rk bs bs′ ns alike below in
+        let nested′ = nested-alike c alike below in
         record {
           size = length-set bs b y ∙ t .size;
           words = words;
           nested = nested′;
-          seats = last-seated fit m bs′ ns nested′ (hold-alike c rk bs bs′ ns alike hold) slots′;
+          seats = last-seated fit m bs′ ns nested′ (hold-alike alike hold) slots′;
           slots = slots′;
           loose = λ i h. by-eq i b
               (λ z. rw (z, at-b) held)

@@ -27,7 +27,7 @@ use Rattle.plan.proofs.Fitted.{Fitted}
 use Rattle.machine.proofs.Relation.Rows.{row-shows-top}
 use Rattle.machine.proofs.Relation.Words.{at, words-changed, marks-same, unmoved-same, isAside}
 use Rattle.machine.proofs.Relation.Slots.{Slot, slot, levelWith, slotsFor, slotsAlong, holdersIn, Slots, SlotsOf}
-use Rattle.machine.proofs.Relation.Nest.{levelAt, Nested, Seats, Alike, alike-same, among-head, among-tail, nest-other, nest-exists, nest-started, levelAt-alike, nested-alike, hold-alike, slotsAlong-alike}
+use Rattle.machine.proofs.Relation.Nest.{levelAt, Nested, Seats, AlikeAlong, alike-outside, among-head, among-tail, nest-other, nest-exists, nest-started, levelAt-alike, nested-alike, hold-alike, slotsAlong-alike}
 use Rattle.machine.proofs.Relation.Whole.{Tied}
 use Rattle.machine.proofs.Arbitration.Dispatch.{rank-below}
 
@@ -146,12 +146,12 @@ module _ {c : Config} {p : Plan} {rk : ℕ → ℕ} (fit : Fitted c p rk) {m : M
     begun-same : (i : ℕ) → isStarted (at bs′ i .phase) ≡ isStarted (at bs i .phase)
     begun-same i = by-eq i b (λ e. rw (e, at-b) (ap isStarted phase)) (λ n. rw (at-other i n))
 
-    alike : (i : ℕ) → among i ns ≡ true → Alike (at bs i) (at bs′ i)
-    alike i h = alike-same (sym (at-other i (nest-other c bs b i ns (t .nested) h)))
+    alike : AlikeAlong bs bs′ ns
+    alike = alike-outside b y (λ i h. nest-other c bs b i ns (t .nested) h)
 
     lower : levelAt c bs′ ns < priorityOf c b
     unfolding Nested
-    lower = rw (sym (levelAt-alike c rk bs bs′ ns alike)) (t .nested .1 .1 .0)
+    lower = rw (sym (levelAt-alike c alike)) (t .nested .1 .1 .0)
 
     pub held-tied : Tied c rk (withSlots m l w rs hs ls) bs′ [] (b ∷ ns)
     unfolding Nested Seats slotsAlong
@@ -162,9 +162,9 @@ module _ {c : Config} {p : Plan} {rk : ℕ → ℕ} (fit : Fitted c p rk) {m : M
               ((λ h. t .words .suits b .0 (sym second ∙ h)), λ h. t .words .suits b .1 (ap isAside (sym phase) ∙ h))
               (marks-same (t .words) b exists y phase second (m .core .runner) l)
               (unmoved-same (t .words) (m .core .runner) l (rk b));
-          nested = (exists, (begun-same b ∙ t .nested .1 .0, (lower, nested-alike c rk bs bs′ ns alike below)));
-          seats = (runner-rank, (rw at-b level, hold-alike c rk bs bs′ ns alike (t .seats .1 .1)));
-          slots = rw (at-b, sym (slotsAlong-alike c rk bs bs′ ns alike)) slots;
+          nested = (exists, (begun-same b ∙ t .nested .1 .0, (lower, nested-alike c alike below)));
+          seats = (runner-rank, (rw at-b level, hold-alike alike (t .seats .1 .1)));
+          slots = rw (at-b, sym (slotsAlong-alike c rk alike)) slots;
           loose = λ i h. by-eq i b
               (λ e. absurd (true≢false (sym (among-head b ns) ∙ (rw e at h))))
               (λ n. rw (at-other i n) (t .loose i h));

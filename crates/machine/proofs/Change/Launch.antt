@@ -25,7 +25,7 @@ use Rattle.machine.specs.Model.{Model, doneWith}
 use Rattle.machine.specs.Arbiter.{bids, winning, isTriggered, entering, launching, triggering, settled}
 use Rattle.plan.proofs.Fitted.{Fitted}
 use Rattle.machine.proofs.Relation.Words.{at, Words, words-changed}
-use Rattle.machine.proofs.Relation.Nest.{Alike, alike-same, nest-started, timed-seats, nested-alike, hold-alike, slotsAlong-alike}
+use Rattle.machine.proofs.Relation.Nest.{AlikeAlong, alike-outside, nest-started, timed-seats, nested-alike, hold-alike, slotsAlong-alike}
 use Rattle.machine.proofs.Relation.Kinds.{isBidding, Kinds, trigger-timed}
 use Rattle.machine.proofs.Relation.Whole.{Tied, latest-seat}
 use Rattle.machine.proofs.Arbitration.Seat.{Holders, holders, level-few}
@@ -123,17 +123,17 @@ module _ {c : Config} {p : Plan} {rk : ℕ → ℕ} (fit : Fitted c p rk) {m : M
   other : (i : ℕ) → among i ks ≡ true → i ≢ j
   other i h e = true≢false (sym (nest-started c bs i ks (below .nested) h) ∙ rw e (ap isStarted fresh))
 
-  alike : (i : ℕ) → among i ks ≡ true → Alike (at bs i) (at bs′ i)
-  alike i h = alike-same (sym (at-other i (other i h)))
+  alike : AlikeAlong bs bs′ ks
+  alike = alike-outside j y other
 
   pub launch-tied : Tied c rk (launching m) bs′ (j ∷ js) ks
   launch-tied =
       record {
         size = length-set bs j y ∙ t .size;
         words = words′;
-        nested = nested-alike c rk bs bs′ ks alike (below .nested);
-        seats = timed-seats c rk bs′ j js W executionLevel ks wins refl (hold-alike c rk bs bs′ ks alike (below .hold));
-        slots = rw (sym (slotsAlong-alike c rk bs bs′ ks alike)) (below .slots);
+        nested = nested-alike c alike (below .nested);
+        seats = timed-seats c rk bs′ j js W executionLevel ks wins refl (hold-alike alike (below .hold));
+        slots = rw (sym (slotsAlong-alike c rk alike)) (below .slots);
         loose = λ i h. by-eq i j
             (λ e. rw (e, at-j) (below .loose j (rw e at h)))
             (λ n. rw (at-other i n) (below .loose i h));

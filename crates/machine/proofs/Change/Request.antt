@@ -21,7 +21,7 @@ use Rattle.machine.specs.Model.{Core, Model, withCore, withRequest, with
 use Rattle.machine.specs.Arbiter.{requesting}
 use Rattle.plan.proofs.Fitted.{Fitted}
 use Rattle.machine.proofs.Relation.Words.{at, wants, isAside, Suits, Words, words-changed, marks-same, unmoved-same}
-use Rattle.machine.proofs.Relation.Nest.{Alike, alike-same, nested-alike, seats-alike, slotsAlong-alike}
+use Rattle.machine.proofs.Relation.Nest.{alike-same, AlikeAlong, nested-alike, seats-alike, slotsAlong-alike}
 use Rattle.machine.proofs.Relation.Whole.{Tied}
 use Rattle.machine.proofs.Arbitration.Dispatch.{rank-below}
 
@@ -60,21 +60,23 @@ module _ {c : Config} {rk : ℕ → ℕ} {m : Model} {bs : List Body} {js ns : L
       at-b : at bs′ b ≡ y
       at-b = getD-set-same bs b y noBody (rw (t .size) b<)
 
-      alike : (i : ℕ) → among i ns ≡ true → Alike (at bs i) (at bs′ i)
-      alike i h =
-          by-eq i b
-          (λ e. rw (e, at-b) (record { phase = like (rw e at h); held = held }))
-          (λ n. alike-same (sym (getD-set-other bs b i y noBody n)))
+      alike : AlikeAlong bs bs′ ns
+      alike =
+          record {
+            each = λ i h. by-eq i b
+                (λ e. rw (e, at-b) (record { phase = like (rw e at h); held = held }))
+                (λ n. alike-same (sym (getD-set-other bs b i y noBody n)));
+          }
 
       pub touched-tied : Tied c rk (withCore m k) bs′ js ns
       touched-tied =
           record {
             size = length-set bs b y ∙ t .size;
             words = words;
-            nested = nested-alike c rk bs bs′ ns alike (t .nested);
+            nested = nested-alike c alike (t .nested);
             seats = rw (sym runner, sym level)
-                (seats-alike c rk bs bs′ js (m .core .runner) (m .core .level) ns alike (t .seats));
-            slots = rw (sym (slotsAlong-alike c rk bs bs′ ns alike)) (t .slots);
+                (seats-alike c rk js (m .core .runner) (m .core .level) alike (t .seats));
+            slots = rw (sym (slotsAlong-alike c rk alike)) (t .slots);
             loose = λ i h. by-eq i b
                 (λ e. rw (e, at-b) (sym held ∙ t .loose b (rw e at h)))
                 (λ n. rw (getD-set-other bs b i y noBody n) (t .loose i h));

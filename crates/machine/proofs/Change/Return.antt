@@ -24,7 +24,7 @@ use Rattle.plan.proofs.Fitted.{Fitted}
 use Rattle.machine.proofs.Relation.Rows.{Shows, row-shows-second}
 use Rattle.machine.proofs.Relation.Words.{at, wants, isAside, Words, words-changed}
 use Rattle.machine.proofs.Relation.Slots.{slotsAlong, SlotsOf}
-use Rattle.machine.proofs.Relation.Nest.{Nested, AllHold, Seats, Alike, alike-same, among-head, nest-started, timed-seats, nested-alike, hold-alike, slotsAlong-alike}
+use Rattle.machine.proofs.Relation.Nest.{Nested, AllHold, Seats, AlikeAlong, alike-outside, among-head, nest-started, timed-seats, nested-alike, hold-alike, slotsAlong-alike}
 use Rattle.machine.proofs.Relation.Whole.{Tied, latest-seat}
 use Rattle.machine.proofs.Arbitration.Dispatch.{rank-below}
 use Rattle.machine.proofs.Change.End.{last-seated}
@@ -60,8 +60,8 @@ module _ {c : Config} {p : Plan} {rk : ℕ → ℕ} (fit : Fitted c p rk) {m : M
   other : (i : ℕ) → among i ns ≡ true → i ≢ j
   other i h e = true≢false (sym (nest-started c bs i ns (t .nested) h) ∙ rw e (ap isStarted phase))
 
-  alike : (i : ℕ) → among i ns ≡ true → Alike (at bs i) (at bs′ i)
-  alike i h = alike-same (sym (at-other i (other i h)))
+  alike : AlikeAlong bs bs′ ns
+  alike = alike-outside j y other
 
   words : Words c rk (returned m) bs′
   words =
@@ -84,13 +84,13 @@ module _ {c : Config} {p : Plan} {rk : ℕ → ℕ} (fit : Fitted c p rk) {m : M
       })
 
   slots′ : SlotsOf m (slotsAlong c rk bs′ ns)
-  slots′ = rw (sym (slotsAlong-alike c rk bs bs′ ns alike)) (t .slots)
+  slots′ = rw (sym (slotsAlong-alike c rk alike)) (t .slots)
 
   nested′ : Nested c bs′ ns
-  nested′ = nested-alike c rk bs bs′ ns alike (t .nested)
+  nested′ = nested-alike c alike (t .nested)
 
   hold′ : AllHold bs′ ns
-  hold′ = hold-alike c rk bs bs′ ns alike (seat .1 .1)
+  hold′ = hold-alike alike (seat .1 .1)
 
   -- the row has the rank of the one before it, if any, in its second place
   second-is : (is : List ℕ) → js ≡ is → secondRow (m .triggered) ≡ getD (map rk is) 0 noRank

@@ -1,7 +1,7 @@
 -- The nest: the runner, and below it those preempted bodies that hold a resource, each above the level of the rest.
 --
 --   levelAt c bs ns          the level at which a nest runs
---   Nested c bs ns           "each one's own priority above the level of the rest"
+--   Nested c bs ns           each one's own priority is above the level of the rest
 --   Seats c rk bs js r l ns  the runner r and the level l are those of the nest, and whoever is below holds a resource;
 --                            where time-triggered tasks js are started the latest of them runs, and all of the nest
 --                            hold a resource
@@ -9,16 +9,19 @@
 -- A preempted body that holds nothing is in no nest: its bit in `started` brings it back.
 use Prim.Native.Nat.{ℕ, _≤_, _<_}
 use mathlib.Core.Path.{_≡_, refl, sym, ap, ap₂, _∙_}
+use mathlib.Core.Logic.{_≢_}
 use mathlib.Core.Bool.{true, false, true≢false}
 use mathlib.Core.List.{List, [], _∷_, _++_}
 use native.Mathlib.Omega.{arith}
 use borrow.Author.Tests.{eq-eqb, ne-eqb}
 use lib.Dec.{eqb}
+use lib.ListN.{set}
+use lib.Seq.{getD-set-other}
 use Rattle.number.proofs.Cases.{by-eq, neither}
 use Rattle.config.specs.declared.Config.{Config}
 use Rattle.config.specs.Meaning.{executionLevel, priorityOf}
 use Rattle.scheduler.specs.Body.{Body, isStarted, holds, current}
-use Rattle.scheduler.specs.State.{among}
+use Rattle.scheduler.specs.State.{noBody, among}
 use Rattle.scheduler.proofs.Choice.{current-own}
 use Rattle.machine.specs.Model.{noRank}
 use Rattle.machine.proofs.Relation.Words.{at}
@@ -106,49 +109,60 @@ pub record Alike (x y : Body) : Type 0 where
 pub alike-same : {x y : Body} → x ≡ y → Alike x y
 alike-same e = record { phase = ap (λ (b : Body). isStarted (b .phase)) e; held = ap (λ (b : Body). b .held) e }
 
--- bodies that are alike where a nest goes leave it as it is
-module _ (c : Config) (rk : ℕ → ℕ) (bs bs′ : List Body) where
-  abbrev AlikeAlong : List ℕ → Type 0
-  AlikeAlong ns = (b : ℕ) → among b ns ≡ true → Alike (at bs b) (at bs′ b)
+-- the bodies of a nest are alike in bs and bs′
+pub record AlikeAlong (bs bs′ : List Body) (ns : List ℕ) : Type 0 where
+  pub each : (b : ℕ) → among b ns ≡ true → Alike (at bs b) (at bs′ b)
 
-  tail-alike : (b : ℕ) (ns : List ℕ) → AlikeAlong (b ∷ ns) → AlikeAlong ns
-  tail-alike b ns a i h = a i (among-tail i b ns h)
+-- one body is changed that is not in it
+pub alike-outside : {bs : List Body} {ns : List ℕ} (b : ℕ) (y : Body) → ((i : ℕ) → among i ns ≡ true → i ≢ b)
+    → AlikeAlong bs (set bs b y) ns
+alike-outside {bs} b y other =
+    record { each = λ i h. alike-same (sym (getD-set-other bs b i y noBody (other i h))) }
 
-  current-alike : (b : ℕ) → Alike (at bs b) (at bs′ b) → current c b (at bs b) ≡ current c b (at bs′ b)
-  current-alike b a = ap (levelWith c b) (a .held)
+current-alike : {x y : Body} (c : Config) (b : ℕ) → Alike x y → current c b x ≡ current c b y
+current-alike c b a = ap (levelWith c b) (a .held)
 
-  pub levelAt-alike : (ns : List ℕ) → AlikeAlong ns → levelAt c bs ns ≡ levelAt c bs′ ns
+-- then the nest stays as it is
+module _ {bs bs′ : List Body} where
+  head-alike : {b : ℕ} {ns : List ℕ} → AlikeAlong bs bs′ (b ∷ ns) → Alike (at bs b) (at bs′ b)
+  head-alike {b} {ns} a = a .each b (among-head b ns)
+
+  tail-alike : {b : ℕ} {ns : List ℕ} → AlikeAlong bs bs′ (b ∷ ns) → AlikeAlong bs bs′ ns
+  tail-alike {b} {ns} a = record { each = λ i h. a .each i (among-tail i b ns h) }
+
+  pub levelAt-alike : (c : Config) {ns : List ℕ} → AlikeAlong bs bs′ ns → levelAt c bs ns ≡ levelAt c bs′ ns
   unfolding levelAt
-  levelAt-alike [] a = refl
-  levelAt-alike (b ∷ ns) a = current-alike b (a b (among-head b ns))
+  levelAt-alike c {ns = []} a = refl
+  levelAt-alike c {ns = b ∷ ns} a = current-alike c b (head-alike a)
 
-  pub nested-alike : (ns : List ℕ) → AlikeAlong ns → Nested c bs ns → Nested c bs′ ns
+  pub nested-alike : (c : Config) {ns : List ℕ} → AlikeAlong bs bs′ ns → Nested c bs ns → Nested c bs′ ns
   unfolding Nested
-  nested-alike [] a k = k
-  nested-alike (b ∷ ns) a k =
-      let below = tail-alike b ns a in
-      let begun = sym (a b (among-head b ns) .phase) ∙ k .1 .0 in
-      (k .0, (begun, (rw (sym (levelAt-alike ns below)) (k .1 .1 .0), nested-alike ns below (k .1 .1 .1))))
+  nested-alike c {ns = []} a k = k
+  nested-alike c {ns = b ∷ ns} a k =
+      let below = tail-alike a in
+      let begun = sym (head-alike a .phase) ∙ k .1 .0 in
+      (k .0, (begun, (rw (sym (levelAt-alike c below)) (k .1 .1 .0), nested-alike c below (k .1 .1 .1))))
 
-  pub slotsAlong-alike : (ns : List ℕ) → AlikeAlong ns → slotsAlong c rk bs ns ≡ slotsAlong c rk bs′ ns
+  pub slotsAlong-alike : (c : Config) (rk : ℕ → ℕ) {ns : List ℕ} → AlikeAlong bs bs′ ns
+      → slotsAlong c rk bs ns ≡ slotsAlong c rk bs′ ns
   unfolding slotsAlong
-  slotsAlong-alike [] a = refl
-  slotsAlong-alike (b ∷ ns) a =
+  slotsAlong-alike c rk {ns = []} a = refl
+  slotsAlong-alike c rk {ns = b ∷ ns} a =
       ap₂ (λ (x y : List Slot). x ++ y)
-      (ap (slotsFor c rk b) (a b (among-head b ns) .held))
-      (slotsAlong-alike ns (tail-alike b ns a))
+      (ap (slotsFor c rk b) (head-alike a .held))
+      (slotsAlong-alike c rk (tail-alike a))
 
-  pub hold-alike : (ns : List ℕ) → AlikeAlong ns → AllHold bs ns → AllHold bs′ ns
-  hold-alike ns a h i m = sym (ap holds (a i m .held)) ∙ h i m
+  pub hold-alike : {ns : List ℕ} → AlikeAlong bs bs′ ns → AllHold bs ns → AllHold bs′ ns
+  hold-alike a h i m = sym (ap holds (a .each i m .held)) ∙ h i m
 
-  pub seats-alike : (js : List ℕ) (r l : ℕ) (ns : List ℕ) → AlikeAlong ns
+  pub seats-alike : (c : Config) (rk : ℕ → ℕ) (js : List ℕ) (r l : ℕ) {ns : List ℕ} → AlikeAlong bs bs′ ns
       → Seats c rk bs js r l ns → Seats c rk bs′ js r l ns
   unfolding Seats
-  seats-alike [] r l [] a k = k
-  seats-alike [] r l (b ∷ ns) a k =
-      (k .0, (k .1 .0 ∙ current-alike b (a b (among-head b ns)), hold-alike ns (tail-alike b ns a) (k .1 .1)))
-  seats-alike (j ∷ js) r l [] a k = (k .0, (k .1 .0, hold-alike [] a (k .1 .1)))
-  seats-alike (j ∷ js) r l (b ∷ ns) a k = (k .0, (k .1 .0, hold-alike (b ∷ ns) a (k .1 .1)))
+  seats-alike c rk [] r l {ns = []} a k = k
+  seats-alike c rk [] r l {ns = b ∷ ns} a k =
+      (k .0, (k .1 .0 ∙ current-alike c b (head-alike a), hold-alike (tail-alike a) (k .1 .1)))
+  seats-alike c rk (j ∷ js) r l {ns = []} a k = (k .0, (k .1 .0, hold-alike a (k .1 .1)))
+  seats-alike c rk (j ∷ js) r l {ns = b ∷ ns} a k = (k .0, (k .1 .0, hold-alike a (k .1 .1)))
 
 -- a time-triggered task takes the seat, above a nest of which all hold a resource; and back
 module _ (c : Config) (rk : ℕ → ℕ) (bs : List Body) (j : ℕ) (js : List ℕ) (r l : ℕ) where
