@@ -139,7 +139,7 @@ module _ (c : Config) (ok : Accepted c) (shaped : Shaped c) (es : List Event) (t
   sim = standing c ok shaped es
 
   long : length (dues c (after c (fresh c) es)) ≡ planOf c .count
-  long = dues-long c (planOf c) (rankOf c) (fitted c ok shaped) (after c (fresh c) es) (sim .cells .tables-long)
+  long = dues-long (fitted c ok shaped) (after c (fresh c) es) (sim .cells .tables-long)
 
   keeps : Keeps c (after c (fresh c) es)
   keeps = keeps-of (fitted c ok shaped) (sim .orderly)

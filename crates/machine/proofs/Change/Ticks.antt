@@ -110,7 +110,7 @@ module _ (w : Bool) (ks on : List ℕ) where
       (ap₂ (λ (b : Bool) (l : List Bool). b ∷ l) (each e (omega arith) (omega arith))
       (table-marks n (suc e) ns os f (omega arith) (λ i a b. each i (omega arith) (omega arith))))
 
-module _ (c : Config) (p : Plan) (rk : ℕ → ℕ) (fit : Fitted c p rk) where
+module _ {c : Config} {p : Plan} {rk : ℕ → ℕ} (fit : Fitted c p rk) where
   length-offsets : (t : ℕ) → t < c .tables → length (offsets c t) ≡ getD (c .entries) t 0
   length-offsets t h =
       length-take (getD (c .entries) t 0) (drop (firstOf c t) (c .offset))
@@ -151,7 +151,7 @@ unfolding CellFits counting
 cell-counted P o i k on turn stopped h = h
 cell-counted P o i k on turn (running d n) h = on-time-numbers P (d + o) n i k on turn h
 
-module _ (c : Config) (p : Plan) (rk : ℕ → ℕ) (fit : Fitted c p rk) (w : Bool) (ns on : List ℕ) where
+module _ {c : Config} {p : Plan} {rk : ℕ → ℕ} (fit : Fitted c p rk) (w : Bool) (ns on : List ℕ) where
   abbrev ks : List ℕ
   ks = p .compare
 
@@ -196,40 +196,46 @@ module _ (c : Config) (p : Plan) (rk : ℕ → ℕ) (fit : Fitted c p rk) (w : B
           let q : t + suc i ≡ suc t + i = omega arith in
           rw q at (fits (suc i) f (omega arith) (rw q a) (rw q b))
 
-  module _ (ts : List Table) (cells : CellsTied c p ns on w ts) where
-    -- the cells that match are those of the due entries
-    pub marks-due : marks (p .count) 0 w ks on ns ≡ duesFrom c 0 (map counting ts)
-    marks-due =
-        ap₂ (λ (k e : ℕ). marks k e w ks on ns) size (sym (firstOf-zero c))
-        ∙ marks-from ts 0 (omega (arith, cells .tables-long)) fits
-      where
-        fits : FitFrom 0 ts
-        fits i e i< a b =
-            let q : 0 + i ≡ i = omega arith in
-            rw q (cells .fits i e (omega (arith, cells .tables-long)) (rw q at a) (rw q at b))
+-- the cells of the tables ts
+module _ {c : Config} {p : Plan} {rk : ℕ → ℕ} (fit : Fitted c p rk) {w : Bool} {ns on : List ℕ} {ts : List Table}
+    (cells : CellsTied c p ns on w ts) where
+  -- the cells that match are those of the due entries
+  pub marks-due : marks (p .count) 0 w (p .compare) on ns ≡ duesFrom c 0 (map counting ts)
+  marks-due =
+      ap₂ (λ (k e : ℕ). marks k e w (p .compare) on ns) size (sym (firstOf-zero c))
+      ∙ marks-from fit w ns on ts 0 (omega (arith, cells .tables-long)) fits
+    where
+      fits : FitFrom fit w ns on 0 ts
+      fits i e i< a b =
+          let q : 0 + i ≡ i = omega arith in
+          rw q (cells .fits i e (omega (arith, cells .tables-long)) (rw q at a) (rw q at b))
 
-        size : p .count ≡ firstOf c (c .tables) - firstOf c 0
-        size = omega (arith, firstOf-zero c, fit .count-is)
+      size : p .count ≡ firstOf c (c .tables) - firstOf c 0
+      size = omega (arith, firstOf-zero c, fit .count-is)
 
-    -- the cells after the tick stand for the tables after it
-    pub ticked-cells : CellsTied c p
-        (countersTicked maxEntries 0 w ks on ns) (switchesAfter w ks ns on) (turningAfter w ks ns on) (map counting ts)
-    unfolding counting
-    ticked-cells =
-        record {
-          tables-long = length-map ts counting ∙ cells .tables-long;
-          counters-long = length-ticked w ks on maxEntries 0 ns ∙ cells .counters-long;
-          switches-long = length-after w ks ns on ∙ cells .switches-long;
-          fits = λ t e t< a b.
-              let inside : e < maxEntries = omega (arith, fit .few-entries, firstOf-rises c (suc t) (c .tables) t<) in
-              rw (
-                ticked-at w ks on maxEntries 0 e ns (omega arith) (omega arith) (omega (arith, cells .counters-long)),
-                on-after w ks ns on e inside (cells .switches-long),
-                turn-after w ks ns on e inside (cells .switches-long),
-                List·getD-map counting ts t stopped,
-              )
-              (cell-counted (getD (c .period) t 0) (getD (c .offset) e 0) (getD ns e 0) (getD ks e 0)
-              (isOn (getD on e 0)) (w && hasTurn (getD on e 0)) (getD ts t stopped) (cells .fits t e t< a b));
-          spare = λ e h. off-after w ks ns on e (cells .switches-long) (cells .spare e h);
-          unturned = none-after w ks ns on (cells .switches-long) (cells .unturned);
-        }
+  -- the cells after the tick stand for the tables after it
+  pub ticked-cells : CellsTied c p
+      (countersTicked maxEntries 0 w (p .compare) on ns)
+      (switchesAfter w (p .compare) ns on)
+      (turningAfter w (p .compare) ns on)
+      (map counting ts)
+  unfolding counting
+  ticked-cells =
+      record {
+        tables-long = length-map ts counting ∙ cells .tables-long;
+        counters-long = length-ticked w (p .compare) on maxEntries 0 ns ∙ cells .counters-long;
+        switches-long = length-after w (p .compare) ns on ∙ cells .switches-long;
+        fits = λ t e t< a b.
+            let inside : e < maxEntries = omega (arith, fit .few-entries, firstOf-rises c (suc t) (c .tables) t<) in
+            let long = cells .counters-long in
+            rw (
+              ticked-at w (p .compare) on maxEntries 0 e ns (omega arith) (omega arith) (omega arith),
+              on-after w (p .compare) ns on e inside (cells .switches-long),
+              turn-after w (p .compare) ns on e inside (cells .switches-long),
+              List·getD-map counting ts t stopped,
+            )
+            (cell-counted (getD (c .period) t 0) (getD (c .offset) e 0) (getD ns e 0) (getD (p .compare) e 0)
+            (isOn (getD on e 0)) (w && hasTurn (getD on e 0)) (getD ts t stopped) (cells .fits t e t< a b));
+        spare = λ e h. off-after w (p .compare) ns on e (cells .switches-long) (cells .spare e h);
+        unturned = none-after w (p .compare) ns on (cells .switches-long) (cells .unturned);
+      }

@@ -66,7 +66,7 @@ module _ {c : Config} {p : Plan} {rk : ℕ → ℕ} (fit : Fitted c p rk) where
     P = getD (c .period) t 0
 
     -- the cells of table t get the counters f and the switches g, and w′ says whether any cell has a turn to pass
-    module _ (ns on : List ℕ) (w : Bool) (ts : List Table) (cells : CellsTied c p ns on w ts) (f g : ℕ → ℕ) (w′ : Bool)
+    module _ {ns on : List ℕ} {w : Bool} {ts : List Table} (cells : CellsTied c p ns on w ts) (f g : ℕ → ℕ) (w′ : Bool)
         (keeps : w ≡ true → w′ ≡ true) where
       abbrev ns′ : List ℕ
       ns′ = spread f count (firstOf c t) ns
@@ -216,8 +216,8 @@ module _ {c : Config} {p : Plan} {rk : ℕ → ℕ} (fit : Fitted c p rk) {m : M
   unfolding CellFits
   start-tied t d t< some fits =
       rw (fit .first-at t t<, started-spread, switches-spread)
-      (table-tied fit t t< (m .counter) (m .on) (m .turning) (s .tables) (sim .cells)
-      (counterOf t d) (switchOf d) (m .turning || anyLong t d) (λ w. rw w) (running d 0)
+      (table-tied fit t t< (sim .cells) (counterOf t d) (switchOf d) (m .turning || anyLong t d) (λ w. rw w)
+      (running d 0)
       (λ z e low high. none-long t d e low high z)
       (λ e low high. rw (switch-on true (isLong (delayed d e)) (λ _. refl), turn-said t d e low high)
       (started-on-time (getD (c .period) t 0) (delayed d e) (fit .period-low t t<) (fit .period-high t t<)
@@ -230,8 +230,7 @@ module _ {c : Config} {p : Plan} {rk : ℕ → ℕ} (fit : Fitted c p rk) {m : M
         → cellIn p (launching t d) e ≡ startCell (getD (c .period) t 0) (delayed d e)
     start-cell low high =
         rw (fit .first-at t t<, started-spread, switches-spread)
-        (own-cell fit t t< (m .counter) (m .on) (m .turning) (s .tables) (sim .cells)
-        (counterOf t d) (switchOf d) (m .turning || anyLong t d) (λ w. rw w) e low high
+        (own-cell fit t t< (sim .cells) (counterOf t d) (switchOf d) (m .turning || anyLong t d) (λ w. rw w) e low high
         ∙ rw (switch-on true (isLong (delayed d e)) (λ _. refl), turn-said t d e low high)
         (ap (λ (k : ℕ). unmarked (counterOf t d e) k true (isLong (delayed d e))) compare))
       where
@@ -242,8 +241,8 @@ module _ {c : Config} {p : Plan} {rk : ℕ → ℕ} (fit : Fitted c p rk) {m : M
         → cellIn p (launching t d) e ≡ cellIn p m e
     start-other u u< n low high =
         rw (fit .first-at t t<, started-spread, switches-spread)
-        (other-cell fit t t< (m .counter) (m .on) (m .turning) (s .tables) (sim .cells)
-        (counterOf t d) (switchOf d) (m .turning || anyLong t d) (λ w. rw w) u e u< n low high)
+        (other-cell fit t t< (sim .cells) (counterOf t d) (switchOf d) (m .turning || anyLong t d) (λ w. rw w)
+        u e u< n low high)
 
   pub agrees-start : (t d : ℕ) → Agrees c p rk m s (Start t d)
   unfolding statusOf effectOf refusalOf stepBy
@@ -268,8 +267,9 @@ module _ {c : Config} {p : Plan} {rk : ℕ → ℕ} (fit : Fitted c p rk) {m : M
   unfolding CellFits
   stop-tied t t< =
       rw (fit .first-at t t<, stopped-spread, switched-spread)
-      (table-tied fit t t< (m .counter) (m .on) (m .turning) (s .tables) (sim .cells)
-      (λ _. 0) (λ _. switchOff) (m .turning) (λ w. w) stopped (λ _ e low high. refl) (λ e low high. refl))
+      (table-tied fit t t< (sim .cells) (λ _. 0) (λ _. switchOff) (m .turning) (λ w. w) stopped
+      (λ _ e low high. refl)
+      (λ e low high. refl))
 
   -- "Stop switches the table's cells off and sets their counters to 0"
   module _ (t e : ℕ) (t< : t < c .tables) where
@@ -277,16 +277,14 @@ module _ {c : Config} {p : Plan} {rk : ℕ → ℕ} (fit : Fitted c p rk) {m : M
         → cellIn p (halting t) e ≡ Cell.stopCell (cellIn p m e)
     stop-cell low high =
         rw (fit .first-at t t<, stopped-spread, switched-spread)
-        (own-cell fit t t< (m .counter) (m .on) (m .turning) (s .tables) (sim .cells)
-        (λ _. 0) (λ _. switchOff) (m .turning) (λ w. w) e low high
+        (own-cell fit t t< (sim .cells) (λ _. 0) (λ _. switchOff) (m .turning) (λ w. w) e low high
         ∙ rw (fit .compare-at t e t< low high, and-false (m .turning)))
 
     pub stop-other : (u : ℕ) → u < c .tables → u ≢ t → firstOf c u ≤ e → e < firstOf c (suc u)
         → cellIn p (halting t) e ≡ cellIn p m e
     stop-other u u< n low high =
         rw (fit .first-at t t<, stopped-spread, switched-spread)
-        (other-cell fit t t< (m .counter) (m .on) (m .turning) (s .tables) (sim .cells)
-        (λ _. 0) (λ _. switchOff) (m .turning) (λ w. w) u e u< n low high)
+        (other-cell fit t t< (sim .cells) (λ _. 0) (λ _. switchOff) (m .turning) (λ w. w) u e u< n low high)
 
   pub agrees-stop : (t : ℕ) → Agrees c p rk m s (Stop t)
   unfolding statusOf effectOf refusalOf stepBy

@@ -152,13 +152,13 @@ module _ {c : Config} {p : Plan} {rk : ℕ → ℕ} (fit : Fitted c p rk) {m : M
   ms = dues c (counted s)
 
   marks-are : marksOf (p .count) (p .compare) m ≡ ms
-  marks-are = marks-due c p rk fit (m .turning) (m .counter) (m .on) (s .tables) (sim .cells)
+  marks-are = marks-due fit (sim .cells)
 
   tables-counted : length (map counting (s .tables)) ≡ c .tables
   tables-counted = length-map (s .tables) counting ∙ sim .cells .tables-long
 
   long : length ms ≡ p .count
-  long = dues-long c p rk fit (counted s) tables-counted
+  long = dues-long fit (counted s) tables-counted
 
   entries : Entries c rk ms (p .entry) (c .task)
   entries =
@@ -202,8 +202,7 @@ module _ {c : Config} {p : Plan} {rk : ℕ → ℕ} (fit : Fitted c p rk) {m : M
       rw due-is (elsewhere (owed .tied) (now .counter) (now .on) (now .turning) (due .losses))
 
   cells : CellsOf c p now (then .tables)
-  cells =
-      rw (tables-ticked c s) (ticked-cells c p rk fit (m .turning) (m .counter) (m .on) (s .tables) (sim .cells))
+  cells = rw (tables-ticked c s) (ticked-cells fit (sim .cells))
 
   lost : Lost c rk (now .losses) (then .bodies)
   lost = rw due-is (owed .lost)

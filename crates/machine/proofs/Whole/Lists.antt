@@ -30,7 +30,7 @@ use Rattle.machine.proofs.Event.Bits.{agrees-wait, agrees-set, agrees-c
 
 module _ {c : Config} {p : Plan} {rk : ℕ → ℕ} (fit : Fitted c p rk) where
   pub event-agrees : {m : Model} {s : State} (e : Event) → Sim c p rk m s → Agrees c p rk m s e
-  event-agrees {m} {s} e sim = by e (dues-long c p rk fit s (sim .cells .tables-long))
+  event-agrees {m} {s} e sim = by e (dues-long fit s (sim .cells .tables-long))
     where
       keeps : Keeps c s
       keeps = keeps-of fit (sim .orderly)
