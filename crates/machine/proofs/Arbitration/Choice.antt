@@ -5,9 +5,9 @@
 --   chosen-none     the same where nobody is in it
 --   chosen-above    the highest of those above the level is chosen
 use Prim.Native.Nat.{ℕ, _+_, _*_, _≤_, _<_}
-use mathlib.Core.Path.{_≡_, refl, sym, ap, _∙_}
+use mathlib.Core.Path.{_≡_, refl, ap, _∙_}
 use mathlib.Core.Logic.{_≢_}
-use mathlib.Core.Bool.{Bool, true, false, true≢false}
+use mathlib.Core.Bool.{Bool, true, false}
 use mathlib.Core.List.{List, [], _∷_}
 use native.Mathlib.Omega.{arith}
 use borrow.Author.Tests.{ne-eqb}
@@ -22,16 +22,9 @@ use Rattle.scheduler.specs.Scheduler.{markOf}
 use Rattle.scheduler.proofs.Choice.{contender, weight, markOf-le, weight-before, chosen-best, chosen-nobody, current-own, current-free, candidate-active}
 use Rattle.machine.specs.Model.{Model}
 use Rattle.plan.proofs.Fitted.{Fitted}
-use Rattle.machine.proofs.Relation.Words.{at}
+use Rattle.machine.proofs.Relation.Words.{at, started-competes}
 use Rattle.machine.proofs.Relation.Nest.{levelAt, Nested, Seats, by-among, nest-level}
 use Rattle.machine.proofs.Relation.Whole.{Tied, Calm}
-
-pub active-of-started : (q : Phase) → isStarted q ≡ true → competes q ≡ true
-active-of-started suspended s = absurd (true≢false (sym s))
-active-of-started ready s = absurd (true≢false (sym s))
-active-of-started started s = refl
-active-of-started (waiting w) s = absurd (true≢false (sym s))
-active-of-started (triggered x) s = absurd (true≢false (sym s))
 
 -- body i as the choice by priority sees it
 abbrev pub bidder : ℕ → ℕ → Bool → Bool → Candidate
@@ -77,7 +70,7 @@ module _ {c : Config} {p : Plan} {rk : ℕ → ℕ} (fit : Fitted c p rk) {m : M
         k = rw e at (t .nested)
 
         act : competes (at bs b .phase) ≡ true
-        act = active-of-started (at bs b .phase) (k .1 .0)
+        act = started-competes (at bs b .phase) (k .1 .0)
 
         some : 1 ≤ current c b (at bs b)
         some = omega (arith, fit .own-some b (k .0), current-own c b (at bs b))

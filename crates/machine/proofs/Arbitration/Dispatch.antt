@@ -27,7 +27,7 @@ use Rattle.machine.specs.Model.{Core, Picked, Model, Outcome, withCore}
 use Rattle.machine.specs.Arbiter.{bids, winning, beginning, dispatching, arbitrated, settled}
 use Rattle.machine.specs.Machine.{runnerOf}
 use Rattle.plan.proofs.Fitted.{Fitted}
-use Rattle.machine.proofs.Relation.Words.{at, isAside, Words, words-changed, started-waits}
+use Rattle.machine.proofs.Relation.Words.{at, Words, words-changed, competes-on, started-waits}
 use Rattle.machine.proofs.Relation.Slots.{slotsFor, slotsAlong}
 use Rattle.machine.proofs.Relation.Nest.{levelAt, Nested, Seats, AlikeAlong, alike-outside, among-tail-false, nest-level, levelAt-alike, nested-alike, slotsAlong-alike, hold-alike}
 use Rattle.machine.proofs.Relation.Kinds.{Kinds}
@@ -203,7 +203,7 @@ module _ {c : Config} {p : Plan} {rk : ℕ → ℕ} (fit : Fitted c p rk) where
         (record {
           asks = asked;
           goes-on = rw (v .rank) (has-with-same (m .core .started) W winner-lt);
-          put-aside = t .words .put-aside w (v .exists) ∙ running (at bs w .phase) (v .awake);
+          put-aside = t .words .put-aside w (v .exists) ∙ competes-on (at bs w .phase) (v .awake);
           quiet = λ h. absurd (true≢false h);
         })
         (record {
@@ -228,14 +228,6 @@ module _ {c : Config} {p : Plan} {rk : ℕ → ℕ} (fit : Fitted c p rk) where
         other : (b : Bool) (r : ℕ) → r ≢ W → has (cond b (without q W) q) r ≡ has q r
         other true r n = has-without-other q W r n
         other false r n = refl
-
-        -- it goes on by its priority
-        running : (f : Phase) → competes f ≡ true → isAside f ≡ false
-        running suspended h = refl
-        running ready h = refl
-        running started h = refl
-        running (waiting n) h = absurd (true≢false (sym h))
-        running (triggered z) h = absurd (true≢false (sym h))
 
         left : (b : Bool) → isStarted (at bs w .phase) ≡ b
             → has (cond (not b) (without q W) q) (rk w) ≡ at bs w .pending

@@ -26,7 +26,7 @@ use Rattle.machine.specs.Arbiter.{lastLevel, leftWith, vacated, leaving,
 use Rattle.machine.specs.Events.{pausing}
 use Rattle.plan.proofs.Fitted.{Fitted}
 use Rattle.machine.proofs.Relation.Rows.{row-shows-top}
-use Rattle.machine.proofs.Relation.Words.{at, wants, isAside, Words, words-changed, started-on, started-waits}
+use Rattle.machine.proofs.Relation.Words.{at, wants, isAside, Words, words-changed, started-competes, competes-on, started-waits}
 use Rattle.machine.proofs.Relation.Slots.{slotsFor, slotsAlong, SlotsOf}
 use Rattle.machine.proofs.Relation.Nest.{Nested, AllHold, Seats, AlikeAlong, alike-outside, among-head, among-tail, not-among, nest-other, nested-alike, hold-alike, slotsAlong-alike}
 use Rattle.machine.proofs.Relation.Whole.{Tied}
@@ -132,7 +132,7 @@ module _ {c : Config} {p : Plan} {rk : ℕ → ℕ} (fit : Fitted c p rk) {m : M
             ∙ wants-then (at bs b .pending);
         goes-on = rw (runner-rank, unstarted (at bs b .pending)) (has-without-same (m .core .started) (rk b));
         put-aside = t .words .put-aside b exists
-            ∙ started-on (at bs b .phase) was-started
+            ∙ competes-on (at bs b .phase) (started-competes (at bs b .phase) was-started)
             ∙ sym (back (at bs b .pending));
         quiet = λ _. used-up (at bs b .pending);
       })

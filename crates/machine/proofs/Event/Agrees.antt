@@ -22,7 +22,7 @@ use Rattle.config.specs.declared.Config.{Config}
 use Rattle.config.specs.Meaning.{executionLevel}
 use Rattle.plan.specs.declared.Plan.{Plan}
 use Rattle.scheduler.specs.Status.{done, callLevel, Check, _gives_, firstGiven}
-use Rattle.scheduler.specs.Body.{Phase, suspended, ready, started, waiting, triggered, isSuspended, isWaiting, isStarted, hasBegun, competes, Body, current, become}
+use Rattle.scheduler.specs.Body.{started, waiting, triggered, isSuspended, isWaiting, isStarted, hasBegun, Body, current, become}
 use Rattle.scheduler.specs.Choice.{Candidate, byHolding, chosen}
 use Rattle.scheduler.specs.State.{State, noBody, runner, changing, latestOf}
 use Rattle.scheduler.specs.Event.{isTick}
@@ -41,7 +41,7 @@ use Rattle.machine.specs.Events as Machine
 use Rattle.machine.specs.Events.{idles, noCaller}
 use Rattle.machine.specs.Machine.{machineStep, lossesOf, matched, observed}
 use Rattle.plan.proofs.Fitted.{Fitted}
-use Rattle.machine.proofs.Relation.Words.{at}
+use Rattle.machine.proofs.Relation.Words.{at, competes-active}
 use Rattle.machine.proofs.Relation.Nest.{Nested, Seats}
 use Rattle.machine.proofs.Relation.Rows.{Shows}
 use Rattle.machine.proofs.Relation.Order.{latest-exists, latest-begun, kinds-of}
@@ -81,19 +81,12 @@ begins-unsuspended : (c : Config) (s : State) → LatestActive s → begins (run
     → Active s (runner c s .number)
 begins-unsuspended c s top b = by (s .order) refl
   where
-    active : (q : Phase) → competes q ≡ true → isSuspended q ≡ false
-    active suspended h = absurd (true≢false (sym h))
-    active ready h = refl
-    active started h = refl
-    active (waiting w) h = refl
-    active (triggered x) h = refl
-
     go : (k : Candidate) → begins k ≡ true → Taken c (s .bodies) k → Active s (k .number)
     go k b (no-one z) = absurd (true≢false (rw z at (begins-some k b .0)))
     go k b (body i h p z) =
         let known = candidate-active c i (at (s .bodies) i) (at (s .bodies) i .phase) p in
         let n : k .number ≡ i = ap (λ (x : Candidate). x .number) (z ∙ known) in
-        rw n (h, active (at (s .bodies) i .phase) p)
+        rw n (h, competes-active (at (s .bodies) i .phase) p)
 
     by : (js : List ℕ) → s .order ≡ js → Active s (runner c s .number)
     by [] e =

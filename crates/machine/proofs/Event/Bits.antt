@@ -1,7 +1,7 @@
 -- Wait, Set and Clear do the same to the model as to the state.
 use Prim.Native.Nat.{ℕ, _<_}
 use mathlib.Core.Path.{_≡_, refl, sym, ap, _∙_}
-use mathlib.Core.Bool.{Bool, true, false, true≢false, cond, not, Bool·not-not}
+use mathlib.Core.Bool.{Bool, true, false, cond, not, Bool·not-not}
 use mathlib.Core.List.{List, [], _∷_}
 use native.Mathlib.Omega.{arith}
 use borrow.Author.Tests.{not-false, not-true, ne-eqb, lt-ltb, le-ltb}
@@ -15,7 +15,7 @@ use Rattle.plan.specs.declared.Plan.{Plan}
 use Rattle.word.specs.Word.{has, without}
 use Rattle.scheduler.specs.Status.{callLevel, noSuch, access, holdsResource, wrongState}
 use Rattle.scheduler.specs.Bits.{anySet, withoutBits}
-use Rattle.scheduler.specs.Body.{Phase, suspended, ready, started, waiting, triggered, isSuspended, isStarted, competes, Body, holds, become, receives, clears}
+use Rattle.scheduler.specs.Body.{started, waiting, isSuspended, competes, Body, holds, become, receives, clears}
 use Rattle.scheduler.specs.State.{State, noBody, bodyOf, changing}
 use Rattle.scheduler.specs.Call.{caller, waitStatus, setStatus, clearStatus, wait, setEvent, clear}
 use Rattle.scheduler.specs.Tick.{dues}
@@ -28,8 +28,7 @@ use Rattle.machine.specs.Events as Machine
 use Rattle.machine.specs.Events.{bitsAt, pausing, receiving, clearing}
 use Rattle.machine.specs.Machine.{statusOf, effectOf, refusalOf}
 use Rattle.plan.proofs.Fitted.{Fitted}
-use Rattle.machine.proofs.Relation.Words.{at, busy-is, words-changed, marks-same, unmoved-same}
-use Rattle.machine.proofs.Relation.Nest.{Nested}
+use Rattle.machine.proofs.Relation.Words.{at, busy-is, words-changed, marks-same, unmoved-same, started-competes, competes-active}
 use Rattle.machine.proofs.Relation.Losses.{lost-same}
 use Rattle.machine.proofs.Relation.Bits.{NotedOf, noted-changed}
 use Rattle.machine.proofs.Relation.Whole.{Tied, Sim}
@@ -40,14 +39,6 @@ use Rattle.machine.proofs.Change.End.{pause-tied}
 use Rattle.machine.proofs.Change.Bits.{bits-of, receive-tied, receive-noted, clear-noted}
 use Rattle.machine.proofs.Event.Agrees.{kept, first-same, Agrees, Done, Keeps, Runs, call-same, by-call, caller-same, untimed-tied, settled-done, calm-done, agrees-attempt}
 use Rattle.machine.proofs.Event.Bodies.{task-exists, nothing-held, holding-same}
-
--- a body that is started isn't suspended
-started-active : (q : Phase) → isStarted q ≡ true → isSuspended q ≡ false
-started-active suspended h = absurd (true≢false (sym h))
-started-active ready h = refl
-started-active started h = refl
-started-active (waiting w) h = refl
-started-active (triggered x) h = refl
 
 module _ {c : Config} {p : Plan} {rk : ℕ → ℕ} (fit : Fitted c p rk) {m : Model} {s : State} (sim : Sim c p rk m s)
     (keeps : Keeps c s) (long : length (dues c s) ≡ p .count) where
@@ -60,8 +51,7 @@ module _ {c : Config} {p : Plan} {rk : ℕ → ℕ} (fit : Fitted c p rk) {m : M
   extended-same {b} k = rw (k .rank) (fit .extended-at b (k .exists)) ∙ ap (isExtended c) (sym (k .calls))
 
   runner-active : {b : ℕ} {ns : List ℕ} → Runs c rk m s b ns → isSuspended (at bs b .phase) ≡ false
-  unfolding Nested
-  runner-active {b} k = started-active (at bs b .phase) (k .tied .nested .1 .0)
+  runner-active {b} k = competes-active (at bs b .phase) (started-competes (at bs b .phase) (k .started-now))
 
   -- Wait
   wait-status : (w : ℕ) → Machine.waitStatus (p .extended) m ≡ waitStatus c s w

@@ -25,14 +25,13 @@ use Rattle.machine.specs.Resources.{getting, releasing}
 use Rattle.machine.specs.Events as Machine
 use Rattle.machine.specs.Machine.{statusOf, effectOf, refusalOf}
 use Rattle.plan.proofs.Fitted.{Fitted}
-use Rattle.machine.proofs.Relation.Words.{at}
+use Rattle.machine.proofs.Relation.Words.{at, started-competes}
 use Rattle.machine.proofs.Relation.Slots.{Slot, slotsFor, slotsAlong, resourcesIn}
 use Rattle.machine.proofs.Relation.Nest.{Nested, by-among, among-tail, among-nil}
 use Rattle.machine.proofs.Relation.Losses.{lost-same}
 use Rattle.machine.proofs.Relation.Bits.{eventBits, noted-same}
 use Rattle.machine.proofs.Relation.Whole.{Tied, Sim}
 use Rattle.machine.proofs.Relation.Order.{plain-competes}
-use Rattle.machine.proofs.Arbitration.Choice.{active-of-started}
 use Rattle.machine.proofs.Change.Hold.{latest-is}
 use Rattle.machine.proofs.Change.Get.{get-tied}
 use Rattle.machine.proofs.Change.Release.{release-tied}
@@ -210,7 +209,7 @@ module _ {c : Config} {p : Plan} {rk : ℕ → ℕ} (fit : Fitted c p rk) {m : M
       by-call fit sim _ z
       (λ b ns k.
       let h = latest-split r (at bs b .held) (ap (λ (i : ℕ). latestIs r (bodyOf s i .held)) (sym (k .calls)) ∙ a .2) in
-      let plain = plain-competes (sim .orderly) b (active-of-started (at bs b .phase) (k .started-now)) in
+      let plain = plain-competes (sim .orderly) b (started-competes (at bs b .phase) (k .started-now)) in
       let t : Tied c rk (releasing (p .priority) r m) (release (caller c s) s .bodies) (s .order) (b ∷ ns) =
       untimed-tied fit (k .none-timed) (rw (k .calls) (release-tied fit (k .tied) plain r (a .1) (h .0) (h .1))) in
       settled-done fit (keeps .effect (Release r) refl z) t

@@ -2,6 +2,7 @@
 --
 --   Words c rk k bs   the words of the core k are those of the bodies bs
 --   words-changed     one body is changed, and the words follow it
+--   started-competes  what one answer about a phase says of another; competes-active, competes-on, started-waits
 --   busy-is           which bodies have a bit at all
 use Prim.Native.Nat.{ℕ, _^_, _<_}
 use mathlib.Core.Path.{_≡_, refl, sym, ap, ap₂, _∙_}
@@ -16,7 +17,7 @@ use Rattle.config.specs.Meaning.{isIsr}
 use Rattle.plan.specs.declared.Plan.{Plan}
 use Rattle.word.specs.Word.{has, union}
 use Rattle.word.proofs.Theorems.{has-union}
-use Rattle.scheduler.specs.Body.{Phase, suspended, ready, started, waiting, triggered, isSuspended, isStarted, Body}
+use Rattle.scheduler.specs.Body.{Phase, suspended, ready, started, waiting, triggered, isSuspended, isStarted, competes, Body}
 use Rattle.scheduler.specs.State.{noBody}
 use Rattle.scheduler.specs.Call.{requestWaits}
 use Rattle.machine.specs.Model.{Core}
@@ -121,14 +122,30 @@ waits-same x y started e = e
 waits-same x y (waiting w) e = e
 waits-same x y (triggered z) e = refl
 
--- who is started is not put aside, and only its second request waits
-pub started-on : (q : Phase) → isStarted q ≡ true → isAside q ≡ false
-started-on suspended h = refl
-started-on ready h = refl
-started-on started h = refl
-started-on (waiting w) h = absurd (true≢false (sym h))
-started-on (triggered x) h = absurd (true≢false (sym h))
+-- who is started may run by its priority
+pub started-competes : (q : Phase) → isStarted q ≡ true → competes q ≡ true
+started-competes suspended h = h
+started-competes ready h = refl
+started-competes started h = refl
+started-competes (waiting w) h = h
+started-competes (triggered x) h = h
 
+-- who may is neither suspended nor put aside
+pub competes-active : (q : Phase) → competes q ≡ true → isSuspended q ≡ false
+competes-active suspended h = absurd (true≢false (sym h))
+competes-active ready h = refl
+competes-active started h = refl
+competes-active (waiting w) h = refl
+competes-active (triggered x) h = refl
+
+pub competes-on : (q : Phase) → competes q ≡ true → isAside q ≡ false
+competes-on suspended h = refl
+competes-on ready h = refl
+competes-on started h = refl
+competes-on (waiting w) h = absurd (true≢false (sym h))
+competes-on (triggered x) h = absurd (true≢false (sym h))
+
+-- of one that is started only a second request waits
 pub started-waits : (b : Body) (q : Phase) → isStarted q ≡ true → requestWaits b q ≡ b .pending
 started-waits b suspended h = absurd (true≢false (sym h))
 started-waits b ready h = absurd (true≢false (sym h))

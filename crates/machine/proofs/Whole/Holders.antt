@@ -35,14 +35,14 @@ use Rattle.scheduler.proofs.Choice.{current-held}
 use Rattle.machine.specs.Model.{Model}
 use Rattle.machine.specs.Events.{idles}
 use Rattle.machine.specs.Machine.{machineStep, runnerOf}
-use Rattle.machine.proofs.Relation.Words.{at}
+use Rattle.machine.proofs.Relation.Words.{at, started-competes}
 use Rattle.machine.proofs.Relation.Slots.{Slot, slotsFor, slotsAlong, resourcesIn, holdersIn, levelsIn, levelWith}
 use Rattle.machine.proofs.Relation.Nest.{Nested, Seats, by-among, among-head, among-tail, nest-level, nest-exists}
 use Rattle.machine.proofs.Relation.Kinds.{trigger-plain, trigger-timed}
 use Rattle.machine.proofs.Relation.Order.{latest-timed, latest-exists, plain-competes}
 use Rattle.machine.proofs.Relation.Whole.{Tied, Sim, latest-seat}
 use Rattle.machine.proofs.Arbitration.Seat.{current-few}
-use Rattle.machine.proofs.Arbitration.Choice.{active-of-started, chosen-seated}
+use Rattle.machine.proofs.Arbitration.Choice.{chosen-seated}
 use Rattle.machine.proofs.Arbitration.Dispatch.{runnerOf-is}
 use Rattle.machine.proofs.Change.Hold.{slots-are}
 use Rattle.machine.proofs.Event.Agrees.{runner-is, by-runner}
@@ -108,7 +108,7 @@ module _ {c : Config} {p : Plan} {rk : ℕ → ℕ} (fit : Fitted c p rk) {m : M
   nested-plain : (b : ℕ) (ns : List ℕ) → Nested c (s .bodies) (b ∷ ns) → triggerOf c b ≡ priorityOf c b
   unfolding Nested
   nested-plain b ns k =
-      trigger-plain c b (k .0) (plain-competes (sim .orderly) b (active-of-started (bodyOf s b .phase) (k .1 .0)))
+      trigger-plain c b (k .0) (plain-competes (sim .orderly) b (started-competes (bodyOf s b .phase) (k .1 .0)))
 
   -- whoever holds a resource is a body of the nest
   holder-few : (i r : ℕ) → among r (bodyOf s i .held) ≡ true → current c i (bodyOf s i) ≤ maxPriority
