@@ -21,6 +21,7 @@ use Rattle.word.proofs.Theorems.{has-with-same, has-with-other, with-lt, has-wi
 use Rattle.stack.specs.Stack.{topRow}
 use Rattle.scheduler.specs.Body.{Body, isStarted, started, waiting, become, activated, ended, finished, holds, current}
 use Rattle.scheduler.specs.State.{noBody}
+use Rattle.scheduler.proofs.Distinct.{among-head, among-tail}
 use Rattle.machine.specs.Model.{Model, noRank, withCore}
 use Rattle.machine.specs.Arbiter.{lastLevel, leftWith, vacated, leaving, paused}
 use Rattle.machine.specs.Events.{pausing}
@@ -28,7 +29,7 @@ use Rattle.plan.proofs.Fitted.{Fitted}
 use Rattle.machine.proofs.Relation.Rows.{row-shows-top}
 use Rattle.machine.proofs.Relation.Words.{at, wants, isAside, Words, words-changed, started-competes, competes-on, started-waits}
 use Rattle.machine.proofs.Relation.Slots.{slotsFor, slotsAlong, SlotsOf}
-use Rattle.machine.proofs.Relation.Nest.{Nested, AllHold, Seats, AlikeAlong, alike-outside, among-head, among-tail, not-among, nest-other, nested-alike, hold-alike, slotsAlong-alike}
+use Rattle.machine.proofs.Relation.Nest.{Nested, AllHold, Seats, AlikeAlong, alike-outside, not-among, nest-other, nested-alike, hold-alike, slotsAlong-alike}
 use Rattle.machine.proofs.Relation.Whole.{Tied}
 use Rattle.machine.proofs.Arbitration.Dispatch.{rank-below}
 use Rattle.machine.proofs.Change.Request.{events-tied}

@@ -20,7 +20,7 @@ use Rattle.machine.specs.Resources.{getting}
 use Rattle.plan.proofs.Fitted.{Fitted}
 use Rattle.machine.proofs.Relation.Rows.{row-shows-pushed}
 use Rattle.machine.proofs.Relation.Words.{at}
-use Rattle.machine.proofs.Relation.Slots.{Slot, slot, slotsFor, slotsAlong, Distinct, resourcesIn, holdersIn, levelsIn, missing, SlotsOf}
+use Rattle.machine.proofs.Relation.Slots.{Slot, slot, slotsFor, slotsAlong, resourcesIn, holdersIn, levelsIn, missing, SlotsOf}
 use Rattle.machine.proofs.Relation.Free.{missing-one}
 use Rattle.machine.proofs.Relation.Whole.{Tied}
 use Rattle.machine.proofs.Arbitration.Seat.{current-few}
@@ -59,7 +59,7 @@ module _ {c : Config} {p : Plan} {rk : ℕ → ℕ} (fit : Fitted c p rk) {m : M
   runner-lt = omega (arith, runner-rank fit t, rank-below fit b (exists fit t))
 
   slots′ : SlotsOf (getting r level′ m) (slot r (rk b) (current c b (gets r (at bs b))) ∷ ss)
-  unfolding Distinct among
+  unfolding among
   slots′ =
       let old = slots-are fit t in
       record {

@@ -21,13 +21,14 @@ use Rattle.stack.specs.declared.Row.{Row}
 use Rattle.scheduler.specs.Body.{Body, isStarted, holds, current}
 use Rattle.scheduler.specs.State.{noBody, among}
 use Rattle.scheduler.specs.Call.{latestIs}
+use Rattle.scheduler.proofs.Distinct.{among-head, among-tail}
 use Rattle.machine.specs.Model.{Model, noRank, withLevel, withSlots}
 use Rattle.machine.specs.Resources.{holding, latest}
 use Rattle.plan.proofs.Fitted.{Fitted}
 use Rattle.machine.proofs.Relation.Rows.{row-shows-top}
 use Rattle.machine.proofs.Relation.Words.{at, words-changed, marks-same, unmoved-same, isAside}
 use Rattle.machine.proofs.Relation.Slots.{Slot, slot, levelWith, slotsFor, slotsAlong, holdersIn, Slots, SlotsOf}
-use Rattle.machine.proofs.Relation.Nest.{levelAt, Nested, Seats, AlikeAlong, alike-outside, among-head, among-tail, nest-other, nest-exists, nest-started, levelAt-alike, nested-alike, hold-alike, slotsAlong-alike}
+use Rattle.machine.proofs.Relation.Nest.{levelAt, Nested, Seats, AlikeAlong, alike-outside, nest-other, nest-exists, nest-started, levelAt-alike, nested-alike, hold-alike, slotsAlong-alike}
 use Rattle.machine.proofs.Relation.Whole.{Tied}
 use Rattle.machine.proofs.Arbitration.Dispatch.{rank-below}
 

@@ -21,7 +21,7 @@ use Rattle.machine.specs.Resources.{levelWithout, releasing}
 use Rattle.plan.proofs.Fitted.{Fitted}
 use Rattle.machine.proofs.Relation.Rows.{Shows, row-shows-popped, row-shows-second}
 use Rattle.machine.proofs.Relation.Words.{at}
-use Rattle.machine.proofs.Relation.Slots.{Slot, slot, levelWith, slotsFor, slotsAlong, Distinct, levelsIn, missing, SlotsOf}
+use Rattle.machine.proofs.Relation.Slots.{Slot, slot, levelWith, slotsFor, slotsAlong, levelsIn, missing, SlotsOf}
 use Rattle.machine.proofs.Relation.Free.{missing-one}
 use Rattle.machine.proofs.Relation.Kinds.{trigger-plain}
 use Rattle.machine.proofs.Relation.Whole.{Tied}
@@ -70,7 +70,7 @@ module _ {c : Config} {p : Plan} {rk : ℕ → ℕ} (fit : Fitted c p rk) {m : M
       16 (omega (arith, fit .few-resources)) flag-r (has-without-same (m .held) r)
 
   slots′ : SlotsOf (releasing (p .priority) r m) rest
-  unfolding Distinct among
+  unfolding among
   slots′ =
       record {
         resources = row-shows-popped (m .resource) _ _ (old .resources);

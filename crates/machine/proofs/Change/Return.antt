@@ -18,13 +18,14 @@ use Rattle.stack.specs.Stack.{secondRow, rowBytes}
 use Rattle.scheduler.specs.Body.{Body, isStarted, triggered, ended, finished}
 use Rattle.scheduler.specs.State.{noBody, among}
 use Rattle.scheduler.specs.Call.{requestWaits}
+use Rattle.scheduler.proofs.Distinct.{among-head}
 use Rattle.machine.specs.Model.{Model, noRank}
 use Rattle.machine.specs.Arbiter.{alone, returned, returning}
 use Rattle.plan.proofs.Fitted.{Fitted}
 use Rattle.machine.proofs.Relation.Rows.{Shows, row-shows-second}
 use Rattle.machine.proofs.Relation.Words.{at, wants, isAside, Words, words-changed}
 use Rattle.machine.proofs.Relation.Slots.{slotsAlong, SlotsOf}
-use Rattle.machine.proofs.Relation.Nest.{Nested, AllHold, Seats, AlikeAlong, alike-outside, among-head, nest-started, timed-seats, nested-alike, hold-alike, slotsAlong-alike}
+use Rattle.machine.proofs.Relation.Nest.{Nested, AllHold, Seats, AlikeAlong, alike-outside, nest-started, timed-seats, nested-alike, hold-alike, slotsAlong-alike}
 use Rattle.machine.proofs.Relation.Whole.{Tied, latest-seat}
 use Rattle.machine.proofs.Arbitration.Dispatch.{rank-below}
 use Rattle.machine.proofs.Change.End.{last-seated}

@@ -26,6 +26,7 @@ use Rattle.scheduler.specs.Scheduler.{Activate, Finish, Chain, Line, stepBy}
 use Rattle.scheduler.proofs.Effects.{finished-losses}
 use Rattle.scheduler.proofs.Order.{Orderly}
 use Rattle.scheduler.proofs.Checks.{activate-passed, finish-passed, chain-passed, line-passed}
+use Rattle.scheduler.proofs.Distinct.{among-tail}
 use Rattle.machine.specs.Model.{Model, noRank, withLosses}
 use Rattle.machine.specs.Arbiter.{settled, leaving, requesting, timed, returning}
 use Rattle.machine.specs.Resources.{holding}
@@ -35,7 +36,6 @@ use Rattle.machine.specs.Machine.{statusOf, effectOf, refusalOf}
 use Rattle.plan.proofs.Fitted.{Fitted}
 use Rattle.machine.proofs.Relation.Words.{at, wants, isAside, busy-is}
 use Rattle.machine.proofs.Relation.Rows.{Shows, row-shows-popped}
-use Rattle.machine.proofs.Relation.Nest.{among-tail}
 use Rattle.machine.proofs.Relation.Order.{timed-exists, latest-free}
 use Rattle.machine.proofs.Relation.Losses.{lost-same, lost-one}
 use Rattle.machine.proofs.Relation.Bits.{eventBits, Noted, NotedOf, noted-touched, noted-changed}

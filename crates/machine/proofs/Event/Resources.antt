@@ -2,7 +2,7 @@
 use Prim.Native.Nat.{ℕ, zero, suc, max, _<_}
 use mathlib.Core.Path.{_≡_, refl, sym, ap, _∙_}
 use mathlib.Core.Bool.{Bool, true, false, true≢false, not, _||_, or-true}
-use mathlib.Core.List.{List, [], _∷_, _++_}
+use mathlib.Core.List.{List, [], _∷_, _++_, map-append}
 use native.Mathlib.Omega.{arith}
 use borrow.Author.Tests.{eqb-true, leb-false}
 use lib.Dec.{eqb}
@@ -19,6 +19,7 @@ use Rattle.scheduler.specs.Call.{caller, latestIs, getStatus, releaseStatus, ge
 use Rattle.scheduler.specs.Tick.{dues}
 use Rattle.scheduler.specs.Scheduler.{Get, Release, stepBy}
 use Rattle.scheduler.proofs.Checks.{get-passed, release-passed}
+use Rattle.scheduler.proofs.Distinct.{among-tail}
 use Rattle.machine.specs.Model.{Model, doneWith}
 use Rattle.machine.specs.Arbiter.{settled}
 use Rattle.machine.specs.Resources.{getting, releasing}
@@ -27,7 +28,7 @@ use Rattle.machine.specs.Machine.{statusOf, effectOf, refusalOf}
 use Rattle.plan.proofs.Fitted.{Fitted}
 use Rattle.machine.proofs.Relation.Words.{at, started-competes}
 use Rattle.machine.proofs.Relation.Slots.{Slot, slotsFor, slotsAlong, resourcesIn}
-use Rattle.machine.proofs.Relation.Nest.{Nested, by-among, among-tail, among-nil}
+use Rattle.machine.proofs.Relation.Nest.{Nested, by-among, among-nil}
 use Rattle.machine.proofs.Relation.Losses.{lost-same}
 use Rattle.machine.proofs.Relation.Bits.{eventBits, noted-same}
 use Rattle.machine.proofs.Relation.Whole.{Tied, Sim}
@@ -89,15 +90,11 @@ module _ (c : Config) (rk : ℕ → ℕ) (bs : List Body) where
   resources-for b [] = refl
   resources-for b (r ∷ rs) = ap (λ (l : List ℕ). r ∷ l) (resources-for b rs)
 
-  map-append : (xs ys : List Slot) → resourcesIn (xs ++ ys) ≡ resourcesIn xs ++ resourcesIn ys
-  map-append [] ys = refl
-  map-append (x ∷ xs) ys = ap (λ (l : List ℕ). x .resource ∷ l) (map-append xs ys)
-
   along-step : (b : ℕ) (ns : List ℕ)
       → resourcesIn (slotsAlong c rk bs (b ∷ ns)) ≡ at bs b .held ++ resourcesIn (slotsAlong c rk bs ns)
   unfolding slotsAlong
   along-step b ns =
-      map-append (slotsFor c rk b (at bs b .held)) (slotsAlong c rk bs ns)
+      map-append (λ (x : Slot). x .resource) (slotsFor c rk b (at bs b .held)) (slotsAlong c rk bs ns)
       ∙ ap (λ (l : List ℕ). l ++ resourcesIn (slotsAlong c rk bs ns)) (resources-for b (at bs b .held))
 
   -- what a body of the nest holds has a slot, and what has a slot is held by a body of the nest

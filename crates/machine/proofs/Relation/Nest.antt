@@ -13,7 +13,6 @@ use mathlib.Core.Logic.{_≢_}
 use mathlib.Core.Bool.{true, false, true≢false}
 use mathlib.Core.List.{List, [], _∷_, _++_}
 use native.Mathlib.Omega.{arith}
-use borrow.Author.Tests.{eq-eqb, ne-eqb}
 use lib.Dec.{eqb}
 use lib.ListN.{set}
 use lib.Seq.{getD-set-other}
@@ -23,6 +22,7 @@ use Rattle.config.specs.Meaning.{executionLevel, priorityOf}
 use Rattle.scheduler.specs.Body.{Body, isStarted, holds, current}
 use Rattle.scheduler.specs.State.{noBody, among}
 use Rattle.scheduler.proofs.Choice.{current-own}
+use Rattle.scheduler.proofs.Distinct.{among-head, among-other, among-tail}
 use Rattle.machine.specs.Model.{noRank}
 use Rattle.machine.proofs.Relation.Words.{at}
 use Rattle.machine.proofs.Relation.Slots.{Slot, levelWith, slotsFor, slotsAlong}
@@ -49,21 +49,11 @@ Seats c rk bs (j ∷ js) r l (b ∷ ns) = (r ≡ rk j) × ((l ≡ executionLevel
 -- b is the first of the list, or stands further on
 pub by-among {ℓ} : {C : Type ℓ} (i b : ℕ) (ns : List ℕ) → among i (b ∷ ns) ≡ true
     → (i ≡ b → C) → ((i ≡ b → ⊥) → among i ns ≡ true → C) → C
-unfolding among
-by-among i b ns h f g = by-eq i b f (λ n. g n (simp (ne-eqb i b n) at h))
-
-pub among-head : (b : ℕ) (ns : List ℕ) → among b (b ∷ ns) ≡ true
-unfolding among
-among-head b ns = rw (eq-eqb b b refl)
-
-pub among-tail : (i b : ℕ) (ns : List ℕ) → among i ns ≡ true → among i (b ∷ ns) ≡ true
-unfolding among
-among-tail i b ns h = by-eq i b (λ e. rw (eq-eqb i b e)) (λ n. rw (ne-eqb i b n) h)
+by-among i b ns h f g = by-eq i b f (λ n. g n (sym (among-other i b ns n) ∙ h))
 
 -- who is neither the first nor further on is not in the list
 pub not-among : (i b : ℕ) (ns : List ℕ) → (i ≡ b → ⊥) → among i ns ≡ false → among i (b ∷ ns) ≡ false
-unfolding among
-not-among i b ns n h = rw (ne-eqb i b n) h
+not-among i b ns n h = among-other i b ns n ∙ h
 
 pub among-tail-false : (i b : ℕ) (ns : List ℕ) → among i (b ∷ ns) ≡ false → among i ns ≡ false
 unfolding among

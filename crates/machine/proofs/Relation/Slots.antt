@@ -5,7 +5,7 @@
 --   Slots w rs hs ls ss     the row of slots is ss, and the word w has their resources; SlotsOf m ss: in the model m
 use Prim.Native.Nat.{ℕ, zero, suc, _+_, max}
 use mathlib.Core.Path.{_≡_}
-use mathlib.Core.Bool.{false, cond}
+use mathlib.Core.Bool.{cond}
 use mathlib.Core.List.{List, [], _∷_, _++_, map, foldr}
 use lib.ListN.{length}
 use Rattle.config.specs.declared.Config.{Config}
@@ -15,6 +15,7 @@ use Rattle.stack.specs.declared.Row.{Row}
 use Rattle.stack.specs.Stack.{rowBytes}
 use Rattle.scheduler.specs.Body.{Body}
 use Rattle.scheduler.specs.State.{among}
+use Rattle.scheduler.proofs.Distinct.{Distinct}
 use Rattle.machine.specs.Model.{Model}
 use Rattle.machine.proofs.Relation.Rows.{Shows}
 use Rattle.machine.proofs.Relation.Words.{at}
@@ -39,11 +40,6 @@ slotsFor c rk b (r ∷ rs) = slot r (rk b) (levelWith c b (r ∷ rs)) ∷ slotsF
 unfoldable pub slotsAlong : Config → (ℕ → ℕ) → List Body → List ℕ → List Slot
 slotsAlong c rk bs [] = []
 slotsAlong c rk bs (b ∷ ns) = slotsFor c rk b (at bs b .held) ++ slotsAlong c rk bs ns
-
--- no number twice
-unfoldable pub Distinct : List ℕ → Type 0
-Distinct [] = Unit {0}
-Distinct (r ∷ rs) = (among r rs ≡ false) × Distinct rs
 
 abbrev pub resourcesIn : List Slot → List ℕ
 resourcesIn = map (λ x. x .resource)

@@ -22,7 +22,7 @@ use Rattle.machine.proofs.Relation.Rows.{same-everywhere, row-empty-sho
 use Rattle.machine.specs.Cells.{switchOff, isOn, hasTurn}
 use Rattle.plan.proofs.Fitted.{Fitted}
 use Rattle.machine.proofs.Relation.Words.{at, wants, isAside}
-use Rattle.machine.proofs.Relation.Slots.{slotsAlong, Distinct}
+use Rattle.machine.proofs.Relation.Slots.{slotsAlong}
 use Rattle.machine.proofs.Relation.Free.{missing-empty}
 use Rattle.machine.proofs.Relation.Nest.{Nested, Seats}
 use Rattle.machine.proofs.Relation.Cells.{CellFits, CellsTied}
@@ -67,7 +67,7 @@ module _ {c : Config} {p : Plan} {rk : ℕ → ℕ} (fit : Fitted c p rk) where
   at-same f e b = ap f (at-new b) ∙ new-same f e (getD (take (c .bodies) (c .autostart)) b 0)
 
   unbegun-tied : Tied c rk (unstarted (p .autostart)) (unbegun .bodies) [] []
-  unfolding Nested Seats slotsAlong Distinct among
+  unfolding Nested Seats slotsAlong among
   unbegun-tied =
       record {
         size = size;

@@ -32,12 +32,13 @@ use Rattle.scheduler.specs.State.{State, bodyOf, among, heldIn}
 use Rattle.scheduler.specs.Call.{nobodyRuns, nobodyCalls, caller, calling, getStatus}
 use Rattle.scheduler.specs.Scheduler.{Get, Seen, stepBy}
 use Rattle.scheduler.proofs.Choice.{current-held}
+use Rattle.scheduler.proofs.Distinct.{among-head, among-tail}
 use Rattle.machine.specs.Model.{Model}
 use Rattle.machine.specs.Events.{idles}
 use Rattle.machine.specs.Machine.{machineStep, runnerOf}
 use Rattle.machine.proofs.Relation.Words.{at, started-competes}
 use Rattle.machine.proofs.Relation.Slots.{Slot, slotsFor, slotsAlong, resourcesIn, holdersIn, levelsIn, levelWith}
-use Rattle.machine.proofs.Relation.Nest.{Nested, Seats, by-among, among-head, among-tail, nest-level, nest-exists}
+use Rattle.machine.proofs.Relation.Nest.{Nested, Seats, by-among, nest-level, nest-exists}
 use Rattle.machine.proofs.Relation.Kinds.{trigger-plain, trigger-timed}
 use Rattle.machine.proofs.Relation.Order.{latest-timed, latest-exists, plain-competes}
 use Rattle.machine.proofs.Relation.Whole.{Tied, Sim, latest-seat}
