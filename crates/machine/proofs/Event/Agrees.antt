@@ -191,10 +191,10 @@ pub record Agrees (c : Config) (p : Plan) (rk : ℕ → ℕ) (m : Model) (s : St
   pub seen : observed c p m e (machineStep c p m e) ≡ step c s e .seen
   pub sim : Sim c p rk (machineStep c p m e .model) (step c s e .state)
 
--- what the two sides owe where the call is accepted: o is the machine's outcome, s′ the scheduler's state before the
--- dispatch
-pub record Done (c : Config) (p : Plan) (rk : ℕ → ℕ) (o : Outcome) (s′ : State) : Type 0 where
-  pub status : o .status ≡ done
+-- what an event with the status st leaves on the two sides: o is the machine's outcome, s′ the scheduler's state before
+-- the dispatch
+pub record Left (c : Config) (p : Plan) (rk : ℕ → ℕ) (o : Outcome) (st : ℕ) (s′ : State) : Type 0 where
+  pub status : o .status ≡ st
   pub arb : Arbitrated c p rk o s′
   pub latest : LatestActive s′
   pub row : Shows (rowBytes (o .model .triggered)) (map rk (s′ .order))
@@ -202,6 +202,10 @@ pub record Done (c : Config) (p : Plan) (rk : ℕ → ℕ) (o : Outcome) (s′ :
   pub cells : CellsOf c p (o .model) (s′ .tables)
   pub lost : Lost c rk (o .model .losses) (s′ .bodies)
   pub noted : NotedOf c rk (o .model) (s′ .bodies)
+
+-- what an accepted one leaves
+abbrev pub Done : Config → Plan → (ℕ → ℕ) → Outcome → State → Type 0
+Done c p rk o s′ = Left c p rk o done s′
 
 -- the time-triggered task j runs, as both sides see it
 pub record Enters (c : Config) (rk : ℕ → ℕ) (m : Model) (s : State) (j : ℕ) (js : List ℕ) : Type 0 where
@@ -407,13 +411,24 @@ module _ {c : Config} {p : Plan} {rk : ℕ → ℕ} (fit : Fitted c p rk) where
           noted = noted;
         }
 
+  -- a refused event leaves what it finds, or what it counts
+  refused-left : {m : Model} {s : State} (st : ℕ) → Sim c p rk m s → Left c p rk (refusedWith m st) st s
+  refused-left {s = s} st sim =
+      record {
+        status = refl;
+        arb = calm-arbitrated fit s st (seated-of (sim .orderly)) (sim .tied) (sim .calm);
+        latest = latest-of (sim .orderly);
+        row = sim .row;
+        size = sim .tied .size;
+        cells = sim .cells;
+        lost = sim .lost;
+        noted = sim .noted;
+      }
+
   -- an event with the outcome o on the machine's side; on the other the status st, and s″ before the dispatch
   module _ {m : Model} {s : State} (e : Event) (o : Outcome) (st : ℕ) (ds : List Bool) (s″ : State)
-      (machine : machineStep c p m e ≡ o) (plain : step c s e ≡ ending c st ds s″) (status : o .status ≡ st)
-      (due : matched p m e ≡ ds) (arb : Arbitrated c p rk o s″) (latest : LatestActive s″)
-      (orderly : Orderly c (step c s e .state)) (row : Shows (rowBytes (o .model .triggered)) (map rk (s″ .order)))
-      (size : length (s″ .bodies) ≡ c .bodies) (cells : CellsOf c p (o .model) (s″ .tables))
-      (lost : Lost c rk (o .model .losses) (s″ .bodies)) (noted : NotedOf c rk (o .model) (s″ .bodies)) where
+      (machine : machineStep c p m e ≡ o) (plain : step c s e ≡ ending c st ds s″) (due : matched p m e ≡ ds)
+      (left : Left c p rk o st s″) (orderly : Orderly c (step c s e .state)) where
     pub agrees : Agrees c p rk m s e
     agrees =
         record {
@@ -422,25 +437,28 @@ module _ {c : Config} {p : Plan} {rk : ℕ → ℕ} (fit : Fitted c p rk) where
               ∙ sym (ap (λ (x : Plain.Stepped). x .seen) plain);
           sim = rw (machine, plain)
               (record {
-                nest = arb .nest;
-                tied = rw (order-dispatched c s″ latest) (arb .tied);
-                calm = arb .calm;
-                cells = rw (tables-dispatched c s″) cells;
-                lost = lost-same (dispatched-losses c s″) lost;
-                noted = noted-same (dispatched-bits c s″ latest) (dispatched-masks c s″ latest) noted;
+                nest = left .arb .nest;
+                tied = rw (order-dispatched c s″ (left .latest)) (left .arb .tied);
+                calm = left .arb .calm;
+                cells = rw (tables-dispatched c s″) (left .cells);
+                lost = lost-same (dispatched-losses c s″) (left .lost);
+                noted = noted-same
+                    (dispatched-bits c s″ (left .latest))
+                    (dispatched-masks c s″ (left .latest))
+                    (left .noted);
                 orderly = rw plain at orderly;
-                row = rw (order-dispatched c s″ latest) row;
+                row = rw (order-dispatched c s″ (left .latest)) (left .row);
               });
         }
       where
         same : observed c p m e o ≡ ending c st ds s″ .seen
         same i =
             record {
-              status = status i;
-              runner = arb .number i;
-              level = arb .level i;
-              begun = markOf (arb .begun i);
-              losses = losses-seen (o .model) (s″ .bodies) size lost i;
+              status = left .status i;
+              runner = left .arb .number i;
+              level = left .arb .level i;
+              begun = markOf (left .arb .begun i);
+              losses = losses-seen (o .model) (s″ .bodies) (left .size) (left .lost) i;
               due = due i;
             }
 
@@ -454,15 +472,14 @@ module _ {c : Config} {p : Plan} {rk : ℕ → ℕ} (fit : Fitted c p rk) where
         → stM ≡ stP → (stP ≡ done → Done c p rk o s′) → (stP ≢ done → Sim c p rk m′ s″) → Agrees c p rk m s e
     agrees-either m′ s″ machine plain unmatched same acc ref =
         by-eq stP done
-        (λ z. let a = acc z in
-        agrees e o stP (noneDue c s) s′
-        (machine ∙ rw (same, eq-eqb stP done z)) (plain ∙ rw (eq-eqb stP done z)) (a .status ∙ sym z) due
-        (a .arb) (a .latest) (keeps .next e) (a .row) (a .size) (a .cells) (a .lost) (a .noted))
-        (λ n. let k = ref n in
-        agrees e (refusedWith m′ stM) stP (noneDue c s) s″
-        (machine ∙ attempt-refused m′ stM o (λ z. n (sym same ∙ z))) (plain ∙ rw (ne-eqb stP done n)) same due
-        (calm-arbitrated fit s″ stM (seated-of (k .orderly)) (k .tied) (k .calm)) (latest-of (k .orderly))
-        (keeps .next e) (k .row) (k .tied .size) (k .cells) (k .lost) (k .noted))
+        (λ z. agrees e o stP (noneDue c s) s′
+        (machine ∙ rw (same, eq-eqb stP done z))
+        (plain ∙ rw (eq-eqb stP done z))
+        due (rw z (acc z)) (keeps .next e))
+        (λ n. agrees e (refusedWith m′ stP) stP (noneDue c s) s″
+        (machine ∙ rw same (attempt-refused m′ stP o n))
+        (plain ∙ rw (ne-eqb stP done n))
+        due (refused-left stP (ref n)) (keeps .next e))
       where
         due : matched p m e ≡ noneDue c s
         due = unmatched ∙ ap (λ (n : ℕ). replicate n false) (sym long)

@@ -1,7 +1,7 @@
 -- Tick does the same to the model as to the state: a match is a due entry, and what it asks for or loses is the same.
 -- At most one time-triggered task is started, and it is dispatched.
 use Prim.Native.Nat.{ℕ, suc, _+_, _≤_, _<_}
-use mathlib.Core.Path.{_≡_, refl, sym, ap, subst, _∙_}
+use mathlib.Core.Path.{_≡_, refl, sym, ap, _∙_}
 use mathlib.Core.Logic.{_≢_}
 use mathlib.Core.Bool.{Bool, true, false, true≢false, cond}
 use mathlib.Core.List.{List, [], _∷_, map}
@@ -42,7 +42,7 @@ use Rattle.machine.proofs.Arbitration.Dispatch.{Arbitrated, rank-below,
 use Rattle.machine.proofs.Change.Request.{elsewhere, activate-tied, trigger-tied, loss-tied}
 use Rattle.machine.proofs.Change.Launch.{plain-triggering, wins, launches, launch-tied}
 use Rattle.machine.proofs.Change.Ticks.{dues-long, marks-due, due-first-cells, ticked-cells}
-use Rattle.machine.proofs.Event.Agrees.{kept, Agrees, Keeps, LatestActive, latest-of, settled-orderly, agrees, runner-is}
+use Rattle.machine.proofs.Event.Agrees.{kept, Agrees, Keeps, LatestActive, settled-done, agrees, runner-is}
 use Rattle.machine.proofs.Event.Bodies.{task-exists}
 
 -- the entries of a list of marks have the ranks rs and the tasks ts
@@ -212,18 +212,28 @@ module _ {c : Config} {p : Plan} {rk : ℕ → ℕ} (fit : Fitted c p rk) {m : M
   unfolding statusOf effectOf refusalOf tick stepBy firstGiven
   plain-tick same o =
       let t : Tied c rk now (then .bodies) (then .order) (sim .nest) = rw same ticked-tied in
-      agrees fit Tick (settled (p .priority) now) done ms then (plain-triggering fit ticked-tied (kinds-of o)) refl refl
-      marks-are (settled-orderly fit then o t) (latest-of fit o) (keeps .next Tick)
-      (subst (λ (js : List ℕ). Shows (rowBytes (m .triggered)) (map rk js)) (sym same) (sim .row))
-      (ticked-tied .size) cells lost (owed .noted)
+      let row : Shows (rowBytes (now .triggered)) (map rk (then .order)) = rw same (sim .row) in
+      agrees fit Tick (settled (p .priority) now) done ms then (plain-triggering fit ticked-tied (kinds-of o)) refl
+      marks-are (settled-done fit o t row cells lost (owed .noted)) (keeps .next Tick)
 
   -- one is
   timed-tick : (j : ℕ) → Started c s j → Agrees c p rk m s Tick
   unfolding statusOf effectOf refusalOf tick stepBy firstGiven
   timed-tick j y =
       agrees fit Tick (doneWith (launching now) true) done ms then
-      (launches fit ticked-tied j (y .in-range) (y .timed) (y .to-begin) task others) refl refl
-      marks-are arb latest (keeps .next Tick) row (ticked-tied .size) cells lost (owed .noted)
+      (launches fit ticked-tied j (y .in-range) (y .timed) (y .to-begin) task others) refl
+      marks-are
+      (record {
+        status = refl;
+        arb = arb;
+        latest = latest;
+        row = row;
+        size = ticked-tied .size;
+        cells = cells;
+        lost = lost;
+        noted = owed .noted;
+      })
+      (keeps .next Tick)
     where
       task : isIsr c j ≡ false
       task = of-one-kind c j timeTriggered isr (λ e. absurd (omega (arith, e))) (y .timed)
