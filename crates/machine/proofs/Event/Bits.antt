@@ -15,8 +15,8 @@ use Rattle.plan.specs.declared.Plan.{Plan}
 use Rattle.word.specs.Word.{has, without}
 use Rattle.scheduler.specs.Status.{callLevel, noSuch, access, holdsResource, wrongState}
 use Rattle.scheduler.specs.Bits.{anySet, withoutBits}
-use Rattle.scheduler.specs.Body.{started, waiting, isSuspended, competes, Body, holds, become, receives, clears}
-use Rattle.scheduler.specs.State.{State, noBody, bodyOf, changing}
+use Rattle.scheduler.specs.Body.{started, waiting, isSuspended, competes, Body, become, receives, clears}
+use Rattle.scheduler.specs.State.{State, noBody, changing}
 use Rattle.scheduler.specs.Call.{caller, waitStatus, setStatus, clearStatus, wait, setEvent, clear}
 use Rattle.scheduler.specs.Tick.{dues}
 use Rattle.scheduler.specs.Scheduler.{Wait, Set, Clear, stepBy}
@@ -109,8 +109,8 @@ module _ {c : Config} {p : Plan} {rk : ℕ → ℕ} (fit : Fitted c p rk) {m : M
       let mid = keeps .effect (Wait w) refl z in
       by-call fit sim _ z
       (λ b ns k.
-      let free = nothing-held (at bs b .held) (ap (λ (i : ℕ). holds (bodyOf s i .held)) (sym (k .calls)) ∙ a .2) in
-      let extends : isExtended c b ≡ true = ap (isExtended c) (sym (k .calls)) ∙ a .1 in
+      let free = nothing-held (at bs b .held) (rw (k .calls) at (a .2)) in
+      let extends : isExtended c b ≡ true = rw (k .calls) at (a .1) in
       let task : isIsr c b ≡ false = of-one-kind c b extended isr (λ e. absurd (omega (arith, e))) extends in
       rw (k .calls)
       (rw (ap (bitsAt m) (k .rank) ∙ bits-of m (sim .noted) b (k .exists) (runner-active k))

@@ -229,7 +229,7 @@ module _ {c : Config} {p : Plan} {rk : ℕ → ℕ} (fit : Fitted c p rk) where
     finish-tied : {b : ℕ} {ns : List ℕ} → Runs c rk m s b ns → holds (calling c s .held) ≡ false
         → Tied c rk (leaving m) (finish (caller c s) s .bodies) (s .order) ns
     finish-tied {b} k h =
-        let free = nothing-held (at bs b .held) (ap (λ (i : ℕ). holds (bodyOf s i .held)) (sym (k .calls)) ∙ h) in
+        let free = nothing-held (at bs b .held) (rw (k .calls) at h) in
         untimed-tied fit (k .none-timed) (rw (k .calls) (end-tied fit (k .tied) free))
 
     finish-losses : (i : ℕ) → at (finish (caller c s) s .bodies) i .losses ≡ at bs i .losses

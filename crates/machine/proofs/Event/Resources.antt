@@ -205,7 +205,7 @@ module _ {c : Config} {p : Plan} {rk : ℕ → ℕ} (fit : Fitted c p rk) {m : M
       let a = release-passed c s r z in
       by-call fit sim _ z
       (λ b ns k.
-      let h = latest-split r (at bs b .held) (ap (λ (i : ℕ). latestIs r (bodyOf s i .held)) (sym (k .calls)) ∙ a .2) in
+      let h = latest-split r (at bs b .held) (rw (k .calls) at (a .2)) in
       let plain = plain-competes (sim .orderly) b (started-competes (at bs b .phase) (k .started-now)) in
       let t : Tied c rk (releasing (p .priority) r m) (release (caller c s) s .bodies) (s .order) (b ∷ ns) =
       untimed-tied fit (k .none-timed) (rw (k .calls) (release-tied fit (k .tied) plain r (a .1) (h .0) (h .1))) in

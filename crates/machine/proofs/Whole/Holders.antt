@@ -265,8 +265,7 @@ module _ {c : Config} {p : Plan} {rk : ℕ → ℕ} (fit : Fitted c p rk) {m : M
       ap (λ (x : Seen). x .status) (event-agrees fit (Get r) sim .seen) in
       let shown : runnerOf p m ≡ caller c s = runnerOf-is fit m b (k .exists) (k .rank) ∙ sym (k .calls) in
       let x = declared-refused r (k .somebody) (ap (isUser c r) (sym shown) ∙ user) (λ e. refused (same ∙ e)) in
-      let own = ap (λ (i : ℕ). among r (bodyOf s i .held)) (sym (k .calls)) ∙ x .1 in
-      let y = slot-at c rk b r (at (s .bodies) b .held) (slotsAlong c rk (s .bodies) ns) own in
+      let y = slot-at c rk b r (at (s .bodies) b .held) (slotsAlong c rk (s .bodies) ns) (rw (k .calls) at (x .1)) in
       let z = slots-are fit (k .tied) in
       (same ∙ x .0, (y .0, z .resources .at (y .0) ∙ y .1, z .holders .at (y .0) ∙ y .2 ∙ sym (k .rank))))
       (λ j js k.
