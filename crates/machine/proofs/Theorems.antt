@@ -14,7 +14,7 @@ use native.Mathlib.Omega.{arith}
 use lib.Dec.{eqb}
 use borrow.Author.Tests.{eq-eqb, ne-eqb}
 use Rattle.number.specs.Refusal.{none}
-use Rattle.number.proofs.Cases.{by-eq}
+use Rattle.number.proofs.Cases.{by-eq, cond-either}
 use Rattle.config.specs.declared.Config.{Config}
 use Rattle.config.specs.Accepted.{Accepted, Shaped}
 use Rattle.config.specs.Reader.{readConfig}
@@ -36,10 +36,10 @@ use Rattle.scheduler.specs.History.{dueMark, DueAt}
 use Rattle.scheduler.proofs.Theorems.{held-by-user, due-exactly}
 use Rattle.word.specs.Word.{has}
 use Rattle.stack.specs.Stack.{rowBytes}
-use Rattle.machine.specs.Model.{Model, Outcome, noRank, withLosses, doneWith}
-use Rattle.machine.specs.Arbiter.{settled, isTriggered, launching}
+use Rattle.machine.specs.Model.{Model, Outcome, noRank, withLosses}
+use Rattle.machine.specs.Arbiter.{isTriggered}
 use Rattle.machine.specs.Cells.{oneLost}
-use Rattle.machine.specs.Events.{attempt, idles, ticking, tick, bitsAt, pausing}
+use Rattle.machine.specs.Events.{attempt, idles, ticking, tick, bitsAt}
 use Rattle.machine.specs.Machine.{freshModel, statusOf, effectOf, refusalOf, machineStep, LostLine, cellIn, runnerOf, machineSeen, machineAfter}
 use Rattle.machine.proofs.Relation.Whole.{Sim}
 use Rattle.machine.proofs.Change.Ticks.{dues-long}
@@ -187,22 +187,14 @@ effect-done c p m Finish = refl
 effect-done c p m (Chain t) = refl
 effect-done c p m (Get r) = refl
 effect-done c p m (Release r) = refl
-effect-done c p m Tick = go (isTriggered (p .priority) (now .core))
-  where
-    now : Model
-    now = ticking (p .compare) (p .entry) m
-
-    go : (b : Bool) → cond b (doneWith (launching now) true) (settled (p .priority) now) .status ≡ done
-    go true = refl
-    go false = refl
+effect-done c p m Tick =
+    let now = ticking (p .compare) (p .entry) m in
+    cond-either (λ (o : Outcome). o .status ≡ done) (isTriggered (p .priority) (now .core)) _ _ refl refl
 effect-done c p m (Line i) = refl
 effect-done c p m (Start t d) = refl
 effect-done c p m (Stop t) = refl
-effect-done c p m (Wait w) = go (anySet (bitsAt m (m .core .runner)) w)
-  where
-    go : (b : Bool) → cond b (doneWith m false) (settled (p .priority) (pausing w m)) .status ≡ done
-    go true = refl
-    go false = refl
+effect-done c p m (Wait w) =
+    cond-either (λ (o : Outcome). o .status ≡ done) (anySet (bitsAt m (m .core .runner)) w) _ _ refl refl
 effect-done c p m (Set t w) = refl
 effect-done c p m (Clear w) = refl
 

@@ -12,7 +12,7 @@ use borrow.Author.Tests.{lt-ltb, le-ltb, ne-eqb}
 use lib.Dec.{eqb}
 use lib.ListN.{set, length-set}
 use lib.Seq.{getD-set-same, getD-set-other, set-getD}
-use Rattle.number.proofs.Cases.{by-lt, by-eq}
+use Rattle.number.proofs.Cases.{by-lt, by-eq, cond-either}
 use Rattle.config.specs.declared.Config.{Config}
 use Rattle.config.specs.Meaning.{priorityOf}
 use Rattle.plan.specs.declared.Plan.{Plan}
@@ -222,8 +222,8 @@ module _ {c : Config} {p : Plan} {rk : ℕ → ℕ} (fit : Fitted c p rk) where
         W = winner (bids (m .core))
 
         request-lt : (b : Bool) → cond b (without q W) q < 2 ^ 32
-        request-lt true = without-lt q W (t .words .request-lt)
-        request-lt false = t .words .request-lt
+        request-lt b =
+            cond-either (λ (w : ℕ). w < 2 ^ 32) b _ _ (without-lt q W (t .words .request-lt)) (t .words .request-lt)
 
         other : (b : Bool) (r : ℕ) → r ≢ W → has (cond b (without q W) q) r ≡ has q r
         other true r n = has-without-other q W r n

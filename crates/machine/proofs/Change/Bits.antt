@@ -10,6 +10,7 @@ use mathlib.Core.List.{List}
 use native.Mathlib.Omega.{arith}
 use lib.ListN.{length, getD, set, length-set}
 use lib.Seq.{getD-set-same, getD-set-other}
+use Rattle.number.proofs.Cases.{cond-either}
 use Rattle.config.specs.declared.Config.{Config}
 use Rattle.plan.specs.declared.Plan.{Plan}
 use Rattle.word.specs.Word.{has, with, without}
@@ -46,11 +47,7 @@ module _ {c : Config} {p : Plan} {rk : ℕ → ℕ} (fit : Fitted c p rk) (m : M
   resumed-active suspended h = absurd (true≢false h)
   resumed-active ready h = refl
   resumed-active started h = refl
-  resumed-active (waiting v) h = go (anySet e v)
-    where
-      go : (z : Bool) → isSuspended (cond z started (waiting v)) ≡ false
-      go true = refl
-      go false = refl
+  resumed-active (waiting v) h = cond-either (λ (q : Phase). isSuspended q ≡ false) (anySet e v) _ _ refl refl
   resumed-active (triggered x) h = refl
 
   resumed-waits : (q : Phase) (v : ℕ) → resumed e q ≡ waiting v → q ≡ waiting v
@@ -183,20 +180,19 @@ module _ {c : Config} {p : Plan} {rk : ℕ → ℕ} (fit : Fitted c p rk) (m : M
         })
         (record {
           request-lt = t .words .request-lt;
-          started-lt = started-lt go;
-          aside-lt = aside-lt go;
+          started-lt = lt-either go _ _
+              (with-lt (m .core .started) (rk b) (t .words .started-lt))
+              (t .words .started-lt);
+          aside-lt = lt-either go _ _
+              (without-lt (m .core .aside) (rk b) (t .words .aside-lt))
+              (t .words .aside-lt);
           asks = λ r d. refl;
           goes-on = λ r d. started-other go r d;
           put-aside = λ r d. aside-other go r d;
         })
       where
-        started-lt : (x : Bool) → begins x < 2 ^ 32
-        started-lt true = with-lt (m .core .started) (rk b) (t .words .started-lt)
-        started-lt false = t .words .started-lt
-
-        aside-lt : (x : Bool) → leaves x < 2 ^ 32
-        aside-lt true = without-lt (m .core .aside) (rk b) (t .words .aside-lt)
-        aside-lt false = t .words .aside-lt
+        lt-either : (x : Bool) (u v : ℕ) → u < 2 ^ 32 → v < 2 ^ 32 → cond x u v < 2 ^ 32
+        lt-either = cond-either (λ (w : ℕ). w < 2 ^ 32)
 
         started-other : (x : Bool) (r : ℕ) → r ≢ rk b → has (begins x) r ≡ has (m .core .started) r
         started-other true r d = has-with-other (m .core .started) (rk b) r d

@@ -12,7 +12,7 @@ use native.Mathlib.Omega.{arith}
 use borrow.Author.Tests.{eq-eqb, ne-eqb}
 use lib.ListN.{set, length-set}
 use lib.Seq.{getD-set-same, getD-set-other}
-use Rattle.number.proofs.Cases.{by-test, by-eq}
+use Rattle.number.proofs.Cases.{by-eq, cond-either, refuted}
 use Rattle.config.specs.declared.Config.{Config}
 use Rattle.config.specs.Meaning.{isIsr}
 use Rattle.plan.specs.declared.Plan.{Plan}
@@ -150,24 +150,20 @@ module _ {c : Config} {p : Plan} {rk : ℕ → ℕ} (fit : Fitted c p rk) {m : M
       (leaving m .waited)
     where
       held-none : (w : Bool) → out w .held ≡ []
-      held-none true = free
-      held-none false = free
+      held-none w = cond-either (λ (x : Body). x .held ≡ []) w _ _ free free
 
       wants-then : (w : Bool) → w ≡ wants (out w)
       wants-then true = refl
       wants-then false = refl
 
       unstarted : (w : Bool) → isStarted (out w .phase) ≡ false
-      unstarted true = refl
-      unstarted false = refl
+      unstarted w = cond-either (λ (x : Body). isStarted (x .phase) ≡ false) w _ _ refl refl
 
       back : (w : Bool) → isAside (out w .phase) ≡ false
-      back true = refl
-      back false = refl
+      back w = cond-either (λ (x : Body). isAside (x .phase) ≡ false) w _ _ refl refl
 
       used-up : (w : Bool) → out w .pending ≡ false
-      used-up true = refl
-      used-up false = refl
+      used-up w = cond-either (λ (x : Body). x .pending ≡ false) w _ _ refl refl
 
   -- the runner, which is no ISR, waits for an event bit
   pub pause-tied : isIsr c b ≡ false → (w : ℕ) → Tied c rk (pausing w m) (set bs b (become (waiting w) (at bs b))) [] ns
@@ -196,4 +192,4 @@ module _ {c : Config} {p : Plan} {rk : ℕ → ℕ} (fit : Fitted c p rk) {m : M
       (pausing w m .waited)
     where
       single : at bs b .pending ≡ false
-      single = by-test (at bs b .pending) (λ e. absurd (true≢false (sym (t .words .suits b .0 e) ∙ task))) (λ e. e)
+      single = refuted (at bs b .pending) (λ e. true≢false (sym (t .words .suits b .0 e) ∙ task))

@@ -9,7 +9,7 @@ use mathlib.Core.Bool.{Bool, true, false, true≢false}
 use mathlib.Core.List.{List}
 use lib.ListN.{set, length-set}
 use lib.Seq.{getD-set-same, getD-set-other}
-use Rattle.number.proofs.Cases.{by-test, by-eq}
+use Rattle.number.proofs.Cases.{by-eq, refuted}
 use Rattle.config.specs.declared.Config.{Config}
 use Rattle.config.specs.Meaning.{isIsr}
 use Rattle.plan.specs.declared.Plan.{Plan}
@@ -136,8 +136,7 @@ module _ {c : Config} {rk : ℕ → ℕ} {m : Model} {bs : List Body} {js ns : L
     line-tied isr = go (at bs b .phase) refl
       where
         awake : isAside (at bs b .phase) ≡ false
-        awake =
-            by-test (isAside (at bs b .phase)) (λ e. absurd (true≢false (sym isr ∙ t .words .suits b .1 e))) (λ e. e)
+        awake = refuted (isAside (at bs b .phase)) (λ e. true≢false (sym isr ∙ t .words .suits b .1 e))
 
         go : (q : Phase) → at bs b .phase ≡ q → Tied c rk (requesting (rk b) m) (set bs b (requested (at bs b))) js ns
         go suspended e = rw (ap hasBegun e) (activate-tied (ap isStarted e) awake)

@@ -11,7 +11,7 @@ use native.Mathlib.Omega.{arith}
 use borrow.Author.Tests.{eqb-true}
 use lib.ListN.{length, getD, set, length-set, List·getD-eq-default}
 use lib.Seq.{getD-set-same, getD-set-other}
-use Rattle.number.proofs.Cases.{by-test, by-lt, by-eq, and-true}
+use Rattle.number.proofs.Cases.{by-lt, by-eq, and-true, refuted}
 use Rattle.config.specs.Value.{maxEntries}
 use Rattle.cell.specs.Cell.{unmarked, tickCell}
 use Rattle.cell.proofs.Theorems.{ticked-turn}
@@ -42,8 +42,7 @@ module _ (f : ℕ → Bool) where
       (λ n. rw (some-holds k (suc e) i (omega (arith, n)) (omega arith) h) (or-true (f e)))
 
   pub some-none : (k e i : ℕ) → e ≤ i → i < e + k → some f k e ≡ false → f i ≡ false
-  some-none k e i low high h =
-      by-test (f i) (λ q. absurd (true≢false (sym (some-holds k e i low high q) ∙ h))) (λ q. q)
+  some-none k e i low high h = refuted (f i) (λ q. true≢false (sym (some-holds k e i low high q) ∙ h))
 
 -- the switches after a tick, place by place
 module _ (ks ns : List ℕ) where

@@ -17,12 +17,12 @@ use borrow.Author.Tests.{eq-eqb, ne-eqb}
 use lib.Dec.{eqb}
 use lib.ListN.{length, getD, set, take, replicate, length-map, List·getD-map, List·getD-eq-default}
 use lib.Seq.{getD-set-same, getD-set-other, getD-take, ext-getD, length-take-le}
-use Rattle.number.proofs.Cases.{by-eq}
+use Rattle.number.proofs.Cases.{by-eq, cond-either}
 use Rattle.config.specs.declared.Config.{Config}
 use Rattle.config.specs.Meaning.{executionLevel}
 use Rattle.plan.specs.declared.Plan.{Plan}
 use Rattle.scheduler.specs.Status.{done, callLevel, Check, _gives_, firstGiven}
-use Rattle.scheduler.specs.Body.{started, waiting, triggered, isSuspended, isWaiting, isStarted, hasBegun, Body, current, become}
+use Rattle.scheduler.specs.Body.{Phase, started, waiting, triggered, isSuspended, isWaiting, isStarted, hasBegun, Body, current, become}
 use Rattle.scheduler.specs.Choice.{Candidate, byHolding, chosen}
 use Rattle.scheduler.specs.State.{State, noBody, runner, changing, latestOf}
 use Rattle.scheduler.specs.Event.{isTick}
@@ -111,12 +111,10 @@ dispatched-losses c s i = go (begins (runner c s))
 
 -- what has begun neither waits nor is suspended
 begun-awake : (x : Bool) → isWaiting (cond x (triggered true) started) ≡ false
-begun-awake true = refl
-begun-awake false = refl
+begun-awake x = cond-either (λ (q : Phase). isWaiting q ≡ false) x _ _ refl refl
 
 begun-active : (x : Bool) → isSuspended (cond x (triggered true) started) ≡ false
-begun-active true = refl
-begun-active false = refl
+begun-active x = cond-either (λ (q : Phase). isSuspended q ≡ false) x _ _ refl refl
 
 -- nor does a dispatch change event bits: who begins was not suspended, and does not wait
 module _ (c : Config) (s : State) (top : LatestActive s) where

@@ -9,7 +9,7 @@ use borrow.Author.Tests.{eq-eqb, ne-eqb, ltb-true, not-false}
 use lib.Dec.{ltb, eqb}
 use lib.ListN.{length, getD, set, length-set}
 use lib.Seq.{getD-set-same, getD-set-other}
-use Rattle.number.proofs.Cases.{by-test, by-eq, and-true, neither}
+use Rattle.number.proofs.Cases.{by-test, by-eq, and-true, neither, cond-either}
 use Rattle.config.specs.declared.Config.{Config}
 use Rattle.config.specs.Meaning.{countsLines, isTask, isOsekTask, isIsr}
 use Rattle.plan.specs.declared.Plan.{Plan}
@@ -17,7 +17,7 @@ use Rattle.word.specs.Word.{has}
 use Rattle.stack.specs.Stack.{popRow, rowBytes}
 use Rattle.word.proofs.Theorems.{has-with-same, has-with-other}
 use Rattle.scheduler.specs.Status.{firstGiven, callLevel, noSuch, limitReached, holdsResource}
-use Rattle.scheduler.specs.Body.{Phase, suspended, ready, started, waiting, triggered, isStarted, isWaiting, hasBegun, competes, Body, holds, activated, ended, finished, rest, requested, loses}
+use Rattle.scheduler.specs.Body.{Phase, suspended, ready, started, waiting, triggered, isStarted, isWaiting, hasBegun, competes, Body, holds, activated, finished, rest, requested, loses}
 use Rattle.scheduler.specs.State.{State, noBody, among, bodyOf, changing, runner}
 use Rattle.scheduler.specs.Call.{nobodyCalls, caller, calling, finishStatus, chainStatus, lineStatus, activate, finish, finishTimed, chain, line}
 use Rattle.scheduler.specs.Call as Plain
@@ -242,8 +242,8 @@ module _ {c : Config} {p : Plan} {rk : ℕ → ℕ} (fit : Fitted c p rk) where
         rw calls
         (noted-changed fit (sim .noted) (sim .tied .size) b exists (finished (at bs b)) _ _ _
         (sim .noted .bits-long) (sim .noted .masks-long)
-        (rw gone (sym (none (at bs b .pending))))
-        (λ w h. absurd (true≢false (sym (ap isWaiting h) ∙ awake (at bs b .pending))))
+        (rw gone (sym none))
+        (λ w h. absurd (true≢false (sym (ap isWaiting h) ∙ awake)))
         (λ r n. ap (λ (z : Bool). cond z 0 (getD (m .bits) r 0)) (others r n))
         (λ r n. refl))
       where
@@ -254,13 +254,11 @@ module _ {c : Config} {p : Plan} {rk : ℕ → ℕ} (fit : Fitted c p rk) where
         others : (r : ℕ) → r ≢ rk b → has (leaving m .cleared) r ≡ has (m .cleared) r
         others r n = has-with-other (m .cleared) (m .core .runner) r (λ e. n (e ∙ rank))
 
-        none : (w : Bool) → eventBits (cond w (activated (ended (at bs b))) (ended (at bs b))) ≡ 0
-        none true = refl
-        none false = refl
+        none : eventBits (finished (at bs b)) ≡ 0
+        none = cond-either (λ (x : Body). eventBits x ≡ 0) (at bs b .pending) _ _ refl refl
 
-        awake : (w : Bool) → isWaiting (cond w (activated (ended (at bs b))) (ended (at bs b)) .phase) ≡ false
-        awake true = refl
-        awake false = refl
+        awake : isWaiting (finished (at bs b) .phase) ≡ false
+        awake = cond-either (λ (x : Body). isWaiting (x .phase) ≡ false) (at bs b .pending) _ _ refl refl
 
     -- a runner of OSEK's ends
     ended-done : {b : ℕ} {ns : List ℕ} → Runs c rk m s b ns → holds (calling c s .held) ≡ false
@@ -368,24 +366,23 @@ module _ {c : Config} {p : Plan} {rk : ℕ → ℕ} (fit : Fitted c p rk) where
       chained-asleep : (isStarted (at then t .phase) ≡ false) × (isAside (at then t .phase) ≡ false)
       chained-asleep =
           by-eq t (caller c s)
-          (λ e. rw e (rw at-caller (out (calling c s .pending))))
+          (λ e. rw e (rw at-caller out))
           (λ n. rw (at-task n) (ap isStarted (asleep n), ap isAside (asleep n)))
         where
-          out : (w : Bool)
-              → (isStarted (cond w (activated (ended (calling c s))) (ended (calling c s)) .phase) ≡ false)
-              × (isAside (cond w (activated (ended (calling c s))) (ended (calling c s)) .phase) ≡ false)
-          out true = (refl, refl)
-          out false = (refl, refl)
+          Asleep : Body → Type 0
+          Asleep x = (isStarted (x .phase) ≡ false) × (isAside (x .phase) ≡ false)
+
+          out : Asleep (finished (calling c s))
+          out = cond-either Asleep (calling c s .pending) _ _ (refl, refl) (refl, refl)
 
       chained-none : eventBits (at then t) ≡ 0
       chained-none =
           by-eq t (caller c s)
-          (λ e. rw e (ap eventBits at-caller ∙ out (calling c s .pending)))
+          (λ e. rw e (ap eventBits at-caller ∙ out))
           (λ n. ap eventBits (at-task n) ∙ rw (asleep n))
         where
-          out : (w : Bool) → eventBits (cond w (activated (ended (calling c s))) (ended (calling c s))) ≡ 0
-          out true = refl
-          out false = refl
+          out : eventBits (finished (calling c s)) ≡ 0
+          out = cond-either (λ (x : Body). eventBits x ≡ 0) (calling c s .pending) _ _ refl refl
 
     pub agrees-chain : (t : ℕ) → Agrees c p rk m s (Chain t)
     unfolding statusOf effectOf refusalOf stepBy

@@ -12,7 +12,7 @@ use mathlib.Core.List.{List, [], _∷_}
 use borrow.Author.Tests.{ltb-true, eqb-true, ne-eqb}
 use lib.Dec.{ltb, eqb}
 use lib.ListN.{getD}
-use Rattle.number.proofs.Cases.{by-test, and-true}
+use Rattle.number.proofs.Cases.{by-test, and-true, refuted}
 use Rattle.config.specs.declared.Config.{Config}
 use Rattle.config.specs.Meaning.{isTimed}
 use Rattle.scheduler.specs.Body.{Phase, suspended, ready, started, waiting, triggered, hasBegun, competes}
@@ -60,7 +60,7 @@ module _ {c : Config} {s : State} (o : Orderly c s) where
 
   -- who may run by priority is not time-triggered
   pub plain-competes : (i : ℕ) → competes (at (s .bodies) i .phase) ≡ true → isTimed c i ≡ false
-  plain-competes i h = by-test (isTimed c i) (λ t. absurd (true≢false (sym h ∙ asleep t))) (λ e. e)
+  plain-competes i h = refuted (isTimed c i) (λ t. true≢false (sym h ∙ asleep t))
     where
       asleep : isTimed c i ≡ true → competes (at (s .bodies) i .phase) ≡ false
       asleep t =

@@ -15,7 +15,7 @@ use native.Mathlib.Omega.{arith}
 use borrow.Author.Tests.{lt-leb, ltb-true}
 use lib.Dec.{ltb}
 use lib.ListN.{getD}
-use Rattle.number.proofs.Cases.{by-test, by-eq, and-true}
+use Rattle.number.proofs.Cases.{by-eq, and-true, refuted}
 use Rattle.config.specs.declared.Config.{Config}
 use Rattle.config.specs.Value.{maxPriority}
 use Rattle.config.specs.Meaning.{triggerLevel, isTimed, isUser, priorityOf, ceiling}
@@ -24,7 +24,7 @@ use Rattle.plan.specs.declared.Plan.{Plan}
 use Rattle.plan.specs.Plan.{triggerOf}
 use Rattle.plan.proofs.Fitted.{Fitted}
 use Rattle.word.specs.Word.{has}
-use Rattle.stack.specs.Stack.{none, rowBytes}
+use Rattle.stack.specs.Stack.{rowBytes}
 use Rattle.scheduler.specs.Status.{done, access, firstGiven}
 use Rattle.scheduler.specs.Body.{Body, current}
 use Rattle.scheduler.specs.Choice.{Candidate}
@@ -33,7 +33,7 @@ use Rattle.scheduler.specs.Call.{nobodyRuns, nobodyCalls, caller, calling, getS
 use Rattle.scheduler.specs.Scheduler.{Get, Seen, stepBy}
 use Rattle.scheduler.proofs.Choice.{current-held}
 use Rattle.scheduler.proofs.Distinct.{among-head, among-tail}
-use Rattle.machine.specs.Model.{Model}
+use Rattle.machine.specs.Model.{Model, noRank}
 use Rattle.machine.specs.Events.{idles}
 use Rattle.machine.specs.Machine.{machineStep, runnerOf}
 use Rattle.machine.proofs.Relation.Words.{at, started-competes}
@@ -58,8 +58,8 @@ module _ (c : Config) (rk : ℕ → ℕ) where
   -- the slot of a resource that body b holds; ys: the slots below its own
   slot-at : (b r : ℕ) (rs : List ℕ) (ys : List Slot) → among r rs ≡ true
       → (k : ℕ)
-      × (getD (resourcesIn (slotsFor c rk b rs ++ ys)) k none ≡ r)
-      × (getD (holdersIn (slotsFor c rk b rs ++ ys)) k none ≡ rk b)
+      × (getD (resourcesIn (slotsFor c rk b rs ++ ys)) k noRank ≡ r)
+      × (getD (holdersIn (slotsFor c rk b rs ++ ys)) k noRank ≡ rk b)
   unfolding slotsFor among
   slot-at b r [] ys h = absurd (true≢false (sym h))
   slot-at b r (x ∷ rs) ys h =
@@ -72,12 +72,12 @@ module _ (c : Config) (rk : ℕ → ℕ) where
     -- below the slot's
     abbrev SlotOf : List ℕ → List Slot → ℕ → Type 0
     SlotOf ns ss k =
-        (getD (holdersIn ss) k none ≡ none)
+        (getD (holdersIn ss) k noRank ≡ noRank)
         ⊎ ((i : ℕ)
         × (among i ns ≡ true)
-        × (getD (holdersIn ss) k none ≡ rk i)
-        × (getD (levelsIn ss) k none ≤ current c i (at bs i))
-        × (among (getD (resourcesIn ss) k none) (at bs i .held) ≡ true))
+        × (getD (holdersIn ss) k noRank ≡ rk i)
+        × (getD (levelsIn ss) k noRank ≤ current c i (at bs i))
+        × (among (getD (resourcesIn ss) k noRank) (at bs i .held) ≡ true))
 
     along-slot : (ns : List ℕ) (k : ℕ) → SlotOf ns (slotsAlong c rk bs ns) k
     unfolding slotsAlong slotsFor
@@ -151,7 +151,7 @@ module _ {c : Config} {p : Plan} {rk : ℕ → ℕ} (fit : Fitted c p rk) {m : M
   -- a declared user is no time-triggered task
   user-untimed : (r b : ℕ) → isUser c r b ≡ true → isTimed c b ≡ false
   user-untimed r b u =
-      by-test (isTimed c b) (λ e. absurd (true≢false (sym u ∙ timed-no-user c (fit .accepted) r b e))) (λ e. e)
+      refuted (isTimed c b) (λ e. true≢false (sym u ∙ timed-no-user c (fit .accepted) r b e))
 
   user-waits : (r j : ℕ) (js : List ℕ) → s .order ≡ j ∷ js → isUser c r j ≡ true → ⊥
   user-waits r j js e u = true≢false (sym (latest-timed (sim .orderly) j js e) ∙ user-untimed r j u)
@@ -199,16 +199,16 @@ module _ {c : Config} {p : Plan} {rk : ℕ → ℕ} (fit : Fitted c p rk) {m : M
 
   -- the machine in its own words: the k-th slot's resource, holder and level
   abbrev resourceAt : ℕ → ℕ
-  resourceAt k = getD (rowBytes (m .resource)) k none
+  resourceAt k = getD (rowBytes (m .resource)) k noRank
 
   abbrev holderAt : ℕ → ℕ
-  holderAt k = getD (rowBytes (m .holder)) k none
+  holderAt k = getD (rowBytes (m .holder)) k noRank
 
   abbrev raisedAt : ℕ → ℕ
-  raisedAt k = getD (rowBytes (m .raised)) k none
+  raisedAt k = getD (rowBytes (m .raised)) k noRank
 
   -- a slot of another holder has a level below the runner's own priority
-  pub slot-below : (k : ℕ) → holderAt k ≢ none → holderAt k ≢ m .core .runner
+  pub slot-below : (k : ℕ) → holderAt k ≢ noRank → holderAt k ≢ m .core .runner
       → raisedAt k < getD (p .priority) (m .core .runner) 0
   unfolding slotsAlong Nested Seats
   slot-below k some other = by (s .order) refl
@@ -240,7 +240,7 @@ module _ {c : Config} {p : Plan} {rk : ℕ → ℕ} (fit : Fitted c p rk) {m : M
 
   -- and where only declared users hold resources, the rank of a slot's holder is in the word of its resource
   pub slot-user : ((i r : ℕ) → among r (bodyOf s i .held) ≡ true → isUser c r i ≡ true)
-      → (k : ℕ) → holderAt k ≢ none → has (getD (p .users) (resourceAt k) 0) (holderAt k) ≡ true
+      → (k : ℕ) → holderAt k ≢ noRank → has (getD (p .users) (resourceAt k) 0) (holderAt k) ≡ true
   slot-user declared k some =
       ⊎-elim
       (λ e. absurd (some (sim .tied .slots .holders .at k ∙ e)))
