@@ -47,11 +47,6 @@ pub record ArbitratedTo (c : Config) (p : Plan) (rk : ℕ → ℕ) (o : Outcome)
   pub level : o .model .core .level ≡ k .level
   pub begun : o .begun ≡ begins k
 
--- the latest time-triggered task that is started exists, and has begun
-abbrev pub Seated : Config → State → Type 0
-Seated c s =
-    (j : ℕ) (js : List ℕ) → s .order ≡ j ∷ js → (j < c .bodies) × (hasBegun (at (s .bodies) j .phase) ≡ true)
-
 -- the same of the state s before the dispatch
 abbrev pub Arbitrated : (c : Config) (p : Plan) (rk : ℕ → ℕ) (o : Outcome) (s : State) → Type 0
 Arbitrated c p rk o s = ArbitratedTo c p rk o (s .order) (runner c s) (dispatched c s .bodies)
@@ -61,6 +56,11 @@ abbrev ArbitratedAs : (c : Config) (p : Plan) (rk : ℕ → ℕ) (o : Outcome) (
 ArbitratedAs c p rk o s js =
     let k = latestOf (s .bodies) js (chosen c (s .bodies)) in
     ArbitratedTo c p rk o js k (dispatchedTo k s .bodies)
+
+-- the latest time-triggered task that is started exists, and has begun
+abbrev pub Seated : Config → State → Type 0
+Seated c s =
+    (j : ℕ) (js : List ℕ) → s .order ≡ j ∷ js → (j < c .bodies) × (hasBegun (at (s .bodies) j .phase) ≡ true)
 
 -- the model as it is
 abbrev still : Model → ℕ → Outcome

@@ -189,9 +189,9 @@ pub record Agrees (c : Config) (p : Plan) (rk : ℕ → ℕ) (m : Model) (s : St
   pub seen : observed c p m e (machineStep c p m e) ≡ step c s e .seen
   pub sim : Sim c p rk (machineStep c p m e .model) (step c s e .state)
 
--- what an event with the status st leaves on the two sides: o is the machine's outcome, s′ the scheduler's state before
--- the dispatch
-pub record Left (c : Config) (p : Plan) (rk : ℕ → ℕ) (o : Outcome) (st : ℕ) (s′ : State) : Type 0 where
+-- the two sides answer an event with the status st: o is the machine's outcome, s′ the scheduler's state before the
+-- dispatch
+pub record Answered (c : Config) (p : Plan) (rk : ℕ → ℕ) (o : Outcome) (st : ℕ) (s′ : State) : Type 0 where
   pub status : o .status ≡ st
   pub arb : Arbitrated c p rk o s′
   pub latest : LatestActive s′
@@ -201,9 +201,9 @@ pub record Left (c : Config) (p : Plan) (rk : ℕ → ℕ) (o : Outcome) (st : �
   pub lost : Lost c rk (o .model .losses) (s′ .bodies)
   pub noted : NotedOf c rk (o .model) (s′ .bodies)
 
--- what an accepted one leaves
+-- they accept it
 abbrev pub Done : Config → Plan → (ℕ → ℕ) → Outcome → State → Type 0
-Done c p rk o s′ = Left c p rk o done s′
+Done c p rk o s′ = Answered c p rk o done s′
 
 -- the time-triggered task j runs, as both sides see it
 pub record Enters (c : Config) (rk : ℕ → ℕ) (m : Model) (s : State) (j : ℕ) (js : List ℕ) : Type 0 where
@@ -410,8 +410,8 @@ module _ {c : Config} {p : Plan} {rk : ℕ → ℕ} (fit : Fitted c p rk) where
         }
 
   -- a refused event leaves what it finds, or what it counts
-  refused-left : {m : Model} {s : State} (st : ℕ) → Sim c p rk m s → Left c p rk (refusedWith m st) st s
-  refused-left {s = s} st sim =
+  refused-answered : {m : Model} {s : State} (st : ℕ) → Sim c p rk m s → Answered c p rk (refusedWith m st) st s
+  refused-answered {s = s} st sim =
       record {
         status = refl;
         arb = calm-arbitrated fit s st (seated-of (sim .orderly)) (sim .tied) (sim .calm);
@@ -426,7 +426,7 @@ module _ {c : Config} {p : Plan} {rk : ℕ → ℕ} (fit : Fitted c p rk) where
   -- an event with the outcome o on the machine's side; on the other the status st, and s″ before the dispatch
   module _ {m : Model} {s : State} (e : Event) (o : Outcome) (st : ℕ) (ds : List Bool) (s″ : State)
       (machine : machineStep c p m e ≡ o) (plain : step c s e ≡ ending c st ds s″) (due : matched p m e ≡ ds)
-      (left : Left c p rk o st s″) (orderly : Orderly c (step c s e .state)) where
+      (a : Answered c p rk o st s″) (orderly : Orderly c (step c s e .state)) where
     pub agrees : Agrees c p rk m s e
     agrees =
         record {
@@ -435,28 +435,28 @@ module _ {c : Config} {p : Plan} {rk : ℕ → ℕ} (fit : Fitted c p rk) where
               ∙ sym (ap (λ (x : Plain.Stepped). x .seen) plain);
           sim = rw (machine, plain)
               (record {
-                nest = left .arb .nest;
-                tied = rw (order-dispatched c s″ (left .latest)) (left .arb .tied);
-                calm = left .arb .calm;
-                cells = rw (tables-dispatched c s″) (left .cells);
-                lost = lost-same (dispatched-losses c s″) (left .lost);
+                nest = a .arb .nest;
+                tied = rw (order-dispatched c s″ (a .latest)) (a .arb .tied);
+                calm = a .arb .calm;
+                cells = rw (tables-dispatched c s″) (a .cells);
+                lost = lost-same (dispatched-losses c s″) (a .lost);
                 noted = noted-same
-                    (dispatched-bits c s″ (left .latest))
-                    (dispatched-masks c s″ (left .latest))
-                    (left .noted);
+                    (dispatched-bits c s″ (a .latest))
+                    (dispatched-masks c s″ (a .latest))
+                    (a .noted);
                 orderly = rw plain at orderly;
-                row = rw (order-dispatched c s″ (left .latest)) (left .row);
+                row = rw (order-dispatched c s″ (a .latest)) (a .row);
               });
         }
       where
         same : observed c p m e o ≡ ending c st ds s″ .seen
         same i =
             record {
-              status = left .status i;
-              runner = left .arb .number i;
-              level = left .arb .level i;
-              begun = markOf (left .arb .begun i);
-              losses = losses-seen (o .model) (s″ .bodies) (left .size) (left .lost) i;
+              status = a .status i;
+              runner = a .arb .number i;
+              level = a .arb .level i;
+              begun = markOf (a .arb .begun i);
+              losses = losses-seen (o .model) (s″ .bodies) (a .size) (a .lost) i;
               due = due i;
             }
 
@@ -477,7 +477,7 @@ module _ {c : Config} {p : Plan} {rk : ℕ → ℕ} (fit : Fitted c p rk) where
         (λ n. agrees e (refusedWith m′ stP) stP (noneDue c s) s″
         (machine ∙ rw same (attempt-refused m′ stP o n))
         (plain ∙ rw (ne-eqb stP done n))
-        due (refused-left stP (ref n)) (keeps .next e))
+        due (refused-answered stP (ref n)) (keeps .next e))
       where
         due : matched p m e ≡ noneDue c s
         due = unmatched ∙ ap (λ (n : ℕ). replicate n false) (sym long)
