@@ -3,21 +3,22 @@
 use Prim.Native.Nat.{ℕ, suc, _+_, _≤_, _<_}
 use mathlib.Core.Path.{_≡_, refl, sym, ap, _∙_}
 use mathlib.Core.Logic.{_≢_}
-use mathlib.Core.Bool.{Bool, true, false, true≢false, cond}
+use mathlib.Core.Bool.{Bool, true, false, true≢false}
 use mathlib.Core.List.{List, [], _∷_, map}
 use native.Mathlib.Omega.{arith}
 use lib.ListN.{length, getD, set, drop, length-map}
 use lib.Seq.{drop-cons}
+use Rattle.number.proofs.Cases.{by-test, cond-either}
 use Rattle.config.specs.declared.Config.{Config}
 use Rattle.config.specs.Meaning.{isr, timeTriggered, executionLevel, isTask, isIsr, isTimed}
 use Rattle.plan.specs.declared.Plan.{Plan}
 use Rattle.word.specs.Word.{winner}
 use Rattle.stack.specs.Stack.{pushRow, rowBytes}
 use Rattle.scheduler.specs.Status.{done, firstGiven}
-use Rattle.scheduler.specs.Body.{Phase, suspended, ready, started, waiting, triggered, isSuspended, isStarted, isWaiting, hasBegun, Body, become, activated, triggers, loses, activatedByEntry}
+use Rattle.scheduler.specs.Body.{Phase, suspended, ready, started, waiting, triggered, isSuspended, isStarted, isWaiting, hasBegun, Body, become, activated, triggers, loses}
 use Rattle.scheduler.specs.Choice.{Candidate}
 use Rattle.scheduler.specs.State.{State, among, bodyOf, changing, runner}
-use Rattle.scheduler.specs.Tick.{counting, counted, dues, starting, trigger, enter, activatingDue}
+use Rattle.scheduler.specs.Tick.{counting, counted, dues, starting, enter, activatingDue}
 use Rattle.scheduler.specs.Tick as Plain
 use Rattle.scheduler.specs.Scheduler.{Tick, stepBy}
 use Rattle.scheduler.proofs.Effects.{tables-ticked}
@@ -62,6 +63,13 @@ module _ (c : Config) (rk : ℕ → ℕ) (rs ts : List ℕ) where
       let x = each e (omega arith) (omega arith) in
       let later = entries-from ms (suc e) (omega arith) (omega arith) (λ i a l. each i (omega arith) (omega arith)) in
       rw (drop-cons rs e 0 (omega arith), drop-cons ts e 0 (omega arith)) (x .0, (x .1, later))
+
+suspended-is : (q : Phase) → isSuspended q ≡ true → q ≡ suspended
+suspended-is suspended h = refl
+suspended-is ready h = absurd (true≢false (sym h))
+suspended-is started h = absurd (true≢false (sym h))
+suspended-is (waiting w) h = absurd (true≢false (sym h))
+suspended-is (triggered x) h = absurd (true≢false (sym h))
 
 -- the model with other requests and losses
 abbrev withDue : Model → Due → Model
@@ -118,20 +126,12 @@ module _ {c : Config} {p : Plan} {rk : ℕ → ℕ} (fit : Fitted c p rk) (js ns
         })
 
     match-owed : Owed m next (enter c t s)
-    match-owed = by-kind (isTimed c t) (at bs t .phase) refl
-      where
-        by-kind : (k : Bool) (q : Phase) → at bs t .phase ≡ q
-            → Owed m next (cond k (trigger t s) (changing t activatedByEntry s))
-        by-kind true suspended e = rw (ap isSuspended e) (trigger-owed e)
-        by-kind true ready e = rw (ap isSuspended e) (loss (ap isSuspended e))
-        by-kind true started e = rw (ap isSuspended e) (loss (ap isSuspended e))
-        by-kind true (waiting w) e = rw (ap isSuspended e) (loss (ap isSuspended e))
-        by-kind true (triggered z) e = rw (ap isSuspended e) (loss (ap isSuspended e))
-        by-kind false suspended e = rw (ap isSuspended e) (activation e)
-        by-kind false ready e = rw (ap isSuspended e) (loss (ap isSuspended e))
-        by-kind false started e = rw (ap isSuspended e) (loss (ap isSuspended e))
-        by-kind false (waiting w) e = rw (ap isSuspended e) (loss (ap isSuspended e))
-        by-kind false (triggered z) e = rw (ap isSuspended e) (loss (ap isSuspended e))
+    match-owed =
+        by-test (isSuspended (at bs t .phase))
+        (λ e.
+        let asleep = suspended-is (at bs t .phase) e in
+        cond-either (Owed m next) (isTimed c t) _ _ (rw e (trigger-owed asleep)) (rw e (activation asleep)))
+        (λ e. cond-either (Owed m next) (isTimed c t) _ _ (rw e (loss e)) (rw e (loss e)))
 
   due-owed : (m : Model) (ms : List Bool) (rs ts : List ℕ) → Entries c rk ms rs ts → (x : Due) (s : State) → Owed m x s
       → Owed m (requestsDue (begunWord m) ms rs x) (activatingDue c ms ts s)
