@@ -1,7 +1,9 @@
--- What the crate shows beyond its contracts. Each law stands here in full, over specs/ alone; the modules it cites prove it.
+-- What the crate shows beyond its contracts. Each law stands here in full, over specs/ alone; the modules it cites
+-- prove it.
 --
--- In order: demand 3, `agreement` and `demand-3`; who holds a resource, and what a declared user is refused; what Start and Stop make of the
--- cells; that a refused event leaves the model as it was, but for the count of a lost line.
+-- In order: demand 3, `agreement` and `demand-3`; who holds a resource, and what a declared user is refused; what
+-- Start and Stop make of the cells; that a refused event leaves the model as it was, but for the count of a lost
+-- line.
 use Prim.Native.Nat.{ℕ, suc, _+_, _≤_, _<_}
 use mathlib.Core.Path.{_≡_, refl, sym, _∙_}
 use mathlib.Core.Logic.{_≢_, _↔_}
@@ -12,7 +14,7 @@ use native.Mathlib.Omega.{arith}
 use lib.Dec.{eqb}
 use borrow.Author.Tests.{eq-eqb, ne-eqb}
 use Rattle.number.specs.Refusal.{none}
-use Rattle.number.proofs.Cases.{by-eq}
+use Rattle.number.proofs.Cases.{by-eq, cond-either}
 use Rattle.config.specs.declared.Config.{Config}
 use Rattle.config.specs.Accepted.{Accepted, Shaped}
 use Rattle.config.specs.Reader.{readConfig}
@@ -34,10 +36,10 @@ use Rattle.scheduler.specs.History.{dueMark, DueAt}
 use Rattle.scheduler.proofs.Theorems.{held-by-user, due-exactly}
 use Rattle.word.specs.Word.{has}
 use Rattle.stack.specs.Stack.{rowBytes}
-use Rattle.machine.specs.Model.{Model, Outcome, noRank, withLosses, doneWith}
-use Rattle.machine.specs.Arbiter.{settled, isTriggered, launching}
+use Rattle.machine.specs.Model.{Model, Outcome, noRank, withLosses}
+use Rattle.machine.specs.Arbiter.{isTriggered}
 use Rattle.machine.specs.Cells.{oneLost}
-use Rattle.machine.specs.Events.{attempt, idles, ticking, tick, bitsAt, pausing}
+use Rattle.machine.specs.Events.{attempt, idles, ticking, tick, bitsAt}
 use Rattle.machine.specs.Machine.{freshModel, statusOf, effectOf, refusalOf, machineStep, LostLine, cellIn, runnerOf, machineSeen, machineAfter}
 use Rattle.machine.proofs.Relation.Whole.{Sim}
 use Rattle.machine.proofs.Change.Ticks.{dues-long}
@@ -48,107 +50,130 @@ use Rattle.machine.proofs.Whole.Fresh.{fresh-sim}
 use Rattle.machine.proofs.Whole.Lists.{agreement-from, after-sim}
 use Rattle.machine.proofs.Whole.Holders as Holders
 
--- For every accepted configuration and every list of events, from the fresh start, the machine and the plain scheduler are seen to do
--- the same: status, runner, level and begun mark of every event, the losses of all bodies after it, and a cell's match where its entry is due.
+-- For every accepted configuration and every list of events, from the fresh start, the machine and the plain
+-- scheduler are seen to do the same: status, runner, level and begun mark of every event, the losses of all bodies
+-- after it, and a cell's match where its entry is due.
 pub agreement : (c : Config) → Accepted c → Shaped c → (es : List Event)
     → machineSeen c (planOf c) (freshModel (planOf c)) es ≡ seen c (fresh c) es
 agreement c ok shaped es = agreement-from (fitted c ok shaped) es (fresh-sim (fitted c ok shaped))
 
--- Demand 3, undivided: the equation, and for the i-th event and the k-th entry that its cell matches exactly if that event is a Tick at which
--- the entry is due "by the table's arithmetic, counted from the table's last accepted start until its next accepted stop": the events before
--- it are `before ++ Start t d ∷ rest`, that Start is accepted where it stands, no Stop of t in rest is, and `due P (d + o) (suc (tickCount rest))`.
+-- Demand 3, undivided: the equation, and for the i-th event and the k-th entry that its cell matches exactly if that
+-- event is a Tick at which the entry is due "by the table's arithmetic, counted from the table's last accepted start
+-- until its next accepted stop": the events before it are `before ++ Start t d ∷ rest`, that Start is accepted where
+-- it stands, no Stop of t in rest is, and `due P (d + o) (suc (tickCount rest))`.
 pub record Demand3 (c : Config) (es : List Event) : Type 0 where
   pub same : machineSeen c (planOf c) (freshModel (planOf c)) es ≡ seen c (fresh c) es
   pub on-time : (i k : ℕ) → i < length es → k < length (entriesOf c)
-      → (dueMark (machineSeen c (planOf c) (freshModel (planOf c)) es) i k ≡ true) ↔ DueAt c (take i es) (getD es i Tick) (entryAt c k)
+      → (dueMark (machineSeen c (planOf c) (freshModel (planOf c)) es) i k ≡ true)
+      ↔ DueAt c (take i es) (getD es i Tick) (entryAt c k)
 
 pub demand-3 : (c : Config) → Accepted c → Shaped c → (es : List Event) → Demand3 c es
 demand-3 c ok shaped es =
-    record { same = agreement c ok shaped es; on-time = λ i k h f. rw (agreement c ok shaped es) (due-exactly c es i k h f) }
+    record {
+      same = agreement c ok shaped es;
+      on-time = λ i k h f. rw (agreement c ok shaped es) (due-exactly c es i k h f);
+    }
 
 -- the same of every configuration that the reader accepts
-pub demand-3-read : (bs : List ℕ) → readConfig bs .refusal ≡ none → (es : List Event) → Demand3 (readConfig bs .config) es
+pub demand-3-read : (bs : List ℕ) → readConfig bs .refusal ≡ none
+    → (es : List Event) → Demand3 (readConfig bs .config) es
 demand-3-read bs e = demand-3 (readConfig bs .config) (accepted-ranges bs e) (reading bs .shaped)
 
 -- the model after a list of events
 abbrev pub reached : Config → List Event → Model
 reached c es = machineAfter c (planOf c) (freshModel (planOf c)) es
 
--- Who holds what, after every list of events and whatever the kinds of the bodies. The runner's own priority, or the trigger level of a
--- time-triggered task, is above the level of every other body that holds a resource, and so above that resource's ceiling. (Where nobody runs,
--- nothing is held.)
+-- Who holds what, after every list of events and whatever the kinds of the bodies. The runner's own priority, or the
+-- trigger level of a time-triggered task, is above the level of every other body that holds a resource, and so above
+-- that resource's ceiling. (Where nobody runs, nothing is held.)
 module _ (c : Config) (ok : Accepted c) (shaped : Shaped c) (es : List Event) where
   standing : Sim c (planOf c) (rankOf c) (reached c es) (after c (fresh c) es)
   standing = after-sim (fitted c ok shaped) es (fresh-sim (fitted c ok shaped))
 
-  pub holder-below : (i r : ℕ) → i ≢ caller c (after c (fresh c) es) → among r (bodyOf (after c (fresh c) es) i .held) ≡ true
+  pub holder-below : (i r : ℕ) → i ≢ caller c (after c (fresh c) es)
+      → among r (bodyOf (after c (fresh c) es) i .held) ≡ true
       → current c i (bodyOf (after c (fresh c) es) i) < triggerOf c (caller c (after c (fresh c) es))
   holder-below = Holders.holder-below (fitted c ok shaped) standing
 
-  pub ceiling-below : (i r : ℕ) → i ≢ caller c (after c (fresh c) es) → among r (bodyOf (after c (fresh c) es) i .held) ≡ true
+  pub ceiling-below : (i r : ℕ) → i ≢ caller c (after c (fresh c) es)
+      → among r (bodyOf (after c (fresh c) es) i .held) ≡ true
       → ceiling c r < triggerOf c (caller c (after c (fresh c) es))
   ceiling-below = Holders.ceiling-below (fitted c ok shaped) standing
 
   -- "a declared basic task or ISR is refused a resource only when it holds that resource itself": with status 1
-  pub declared-refused : (r : ℕ) → nobodyRuns c (after c (fresh c) es) ≡ false → isUser c r (caller c (after c (fresh c) es)) ≡ true
+  pub declared-refused : (r : ℕ) → nobodyRuns c (after c (fresh c) es) ≡ false
+      → isUser c r (caller c (after c (fresh c) es)) ≡ true
       → step c (after c (fresh c) es) (Get r) .seen .status ≢ 0
-      → (step c (after c (fresh c) es) (Get r) .seen .status ≡ 1) × (among r (calling c (after c (fresh c) es) .held) ≡ true)
+      → (step c (after c (fresh c) es) (Get r) .seen .status ≡ 1)
+      × (among r (calling c (after c (fresh c) es) .held) ≡ true)
   unfolding stepBy
   declared-refused = Holders.declared-refused (fitted c ok shaped) standing
 
-  -- The same of the machine: the k-th slot from the top has a resource, its holder's rank and its level, and past the last one there is no
-  -- holder. A slot of another holder is below the runner's own priority; every holder is a declared user of what it holds; and where a
-  -- Get by a declared user is refused, its status is 1 and a slot of the resource is the runner's.
+  -- The same of the machine: the k-th slot from the top has a resource, its holder's rank and its level, and past the
+  -- last one there is no holder. A slot of another holder is below the runner's own priority; every holder is a
+  -- declared user of what it holds; and where a Get by a declared user is refused, its status is 1 and a slot of the
+  -- resource is the runner's.
   pub slot-below : (k : ℕ) → getD (rowBytes (reached c es .holder)) k noRank ≢ noRank
       → getD (rowBytes (reached c es .holder)) k noRank ≢ reached c es .core .runner
       → getD (rowBytes (reached c es .raised)) k noRank < getD (planOf c .priority) (reached c es .core .runner) 0
   slot-below = Holders.slot-below (fitted c ok shaped) standing
 
   pub slot-user : (k : ℕ) → getD (rowBytes (reached c es .holder)) k noRank ≢ noRank
-      → has (getD (planOf c .users) (getD (rowBytes (reached c es .resource)) k noRank) 0) (getD (rowBytes (reached c es .holder)) k noRank) ≡ true
+      → has
+      (getD (planOf c .users) (getD (rowBytes (reached c es .resource)) k noRank) 0)
+      (getD (rowBytes (reached c es .holder)) k noRank) ≡ true
   slot-user = Holders.slot-user (fitted c ok shaped) standing (held-by-user c es)
 
   pub machine-refused : (r : ℕ) → idles (reached c es) ≡ false → isUser c r (runnerOf (planOf c) (reached c es)) ≡ true
       → machineStep c (planOf c) (reached c es) (Get r) .status ≢ 0
       → (machineStep c (planOf c) (reached c es) (Get r) .status ≡ 1)
-      × ((k : ℕ) × (getD (rowBytes (reached c es .resource)) k noRank ≡ r) × (getD (rowBytes (reached c es .holder)) k noRank ≡ reached c es .core .runner))
+      × ((k : ℕ)
+      × (getD (rowBytes (reached c es .resource)) k noRank ≡ r)
+      × (getD (rowBytes (reached c es .holder)) k noRank ≡ reached c es .core .runner))
   machine-refused = Holders.machine-refused (fitted c ok shaped) standing
 
--- Start and Stop are the cell's own, for each cell of the table, and leave every other cell as it was: wherever they are accepted
+-- Start and Stop are the cell's own, for each cell of the table, and leave every other cell as it was: wherever they
+-- are accepted
 module _ (c : Config) (ok : Accepted c) (shaped : Shaped c) (es : List Event) (t : ℕ) (t< : t < c .tables) (e : ℕ) where
   sim : Sim c (planOf c) (rankOf c) (reached c es) (after c (fresh c) es)
   sim = standing c ok shaped es
 
   long : length (dues c (after c (fresh c) es)) ≡ planOf c .count
-  long = dues-long c (planOf c) (rankOf c) (fitted c ok shaped) (after c (fresh c) es) (sim .timed .tables-long)
+  long = dues-long (fitted c ok shaped) (after c (fresh c) es) (sim .cells .tables-long)
 
   keeps : Keeps c (after c (fresh c) es)
   keeps = keeps-of (fitted c ok shaped) (sim .orderly)
 
-  -- "an entry at offset o has first delay D = d + o; its counter becomes (P − 1 − D) modulo 65,536 and its switch goes on"
+  -- "an entry at offset o has first delay D = d + o; its counter becomes (P − 1 − D) modulo 65,536 and its switch
+  -- goes on"
   pub start-cell : (d : ℕ) → firstOf c t ≤ e → e < firstOf c (suc t)
-      → cellIn (planOf c) (effectOf c (planOf c) (reached c es) (Start t d) .model) e ≡ startCell (getD (c .period) t 0) (d + getD (c .offset) e 0)
+      → cellIn (planOf c) (effectOf c (planOf c) (reached c es) (Start t d) .model) e
+      ≡ startCell (getD (c .period) t 0) (d + getD (c .offset) e 0)
   unfolding effectOf
   start-cell d = Tables.start-cell (fitted c ok shaped) sim keeps long t d e t<
 
   pub start-other : (d u : ℕ) → u < c .tables → u ≢ t → firstOf c u ≤ e → e < firstOf c (suc u)
-      → cellIn (planOf c) (effectOf c (planOf c) (reached c es) (Start t d) .model) e ≡ cellIn (planOf c) (reached c es) e
+      → cellIn (planOf c) (effectOf c (planOf c) (reached c es) (Start t d) .model) e
+      ≡ cellIn (planOf c) (reached c es) e
   unfolding effectOf
   start-other d = Tables.start-other (fitted c ok shaped) sim keeps long t d e t<
 
   -- "Stop switches the table's cells off and sets their counters to 0"
   pub stop-cell : firstOf c t ≤ e → e < firstOf c (suc t)
-      → cellIn (planOf c) (effectOf c (planOf c) (reached c es) (Stop t) .model) e ≡ stopCell (cellIn (planOf c) (reached c es) e)
+      → cellIn (planOf c) (effectOf c (planOf c) (reached c es) (Stop t) .model) e
+      ≡ stopCell (cellIn (planOf c) (reached c es) e)
   unfolding effectOf
   stop-cell = Tables.stop-cell (fitted c ok shaped) sim keeps long t e t<
 
   pub stop-other : (u : ℕ) → u < c .tables → u ≢ t → firstOf c u ≤ e → e < firstOf c (suc u)
-      → cellIn (planOf c) (effectOf c (planOf c) (reached c es) (Stop t) .model) e ≡ cellIn (planOf c) (reached c es) e
+      → cellIn (planOf c) (effectOf c (planOf c) (reached c es) (Stop t) .model) e
+      ≡ cellIn (planOf c) (reached c es) e
   unfolding effectOf
   stop-other = Tables.stop-other (fitted c ok shaped) sim keeps long t e t<
 
 -- a refused event leaves m
-attempt-same : (m : Model) (st : ℕ) (o : Outcome) → o .status ≡ done → attempt m st o .status ≢ done → attempt m st o .model ≡ m
+attempt-same : (m : Model) (st : ℕ) (o : Outcome) → o .status ≡ done → attempt m st o .status ≢ done
+    → attempt m st o .model ≡ m
 attempt-same m st o e n =
     by-eq st done
     (λ z. absurd (n (rw (eq-eqb st done z) e)))
@@ -162,19 +187,14 @@ effect-done c p m Finish = refl
 effect-done c p m (Chain t) = refl
 effect-done c p m (Get r) = refl
 effect-done c p m (Release r) = refl
-effect-done c p m Tick = go (isTriggered (p .priority) (ticking (p .compare) (p .entry) m .core))
-  where
-    go : (b : Bool) → cond b (doneWith (launching (ticking (p .compare) (p .entry) m)) true) (settled (p .priority) (ticking (p .compare) (p .entry) m)) .status ≡ done
-    go true = refl
-    go false = refl
+effect-done c p m Tick =
+    let now = ticking (p .compare) (p .entry) m in
+    cond-either (λ (o : Outcome). o .status ≡ done) (isTriggered (p .priority) (now .core)) _ _ refl refl
 effect-done c p m (Line i) = refl
 effect-done c p m (Start t d) = refl
 effect-done c p m (Stop t) = refl
-effect-done c p m (Wait w) = go (anySet (bitsAt m (m .core .runner)) w)
-  where
-    go : (b : Bool) → cond b (doneWith m false) (settled (p .priority) (pausing w m)) .status ≡ done
-    go true = refl
-    go false = refl
+effect-done c p m (Wait w) =
+    cond-either (λ (o : Outcome). o .status ≡ done) (anySet (bitsAt m (m .core .runner)) w) _ _ refl refl
 effect-done c p m (Set t w) = refl
 effect-done c p m (Clear w) = refl
 
@@ -185,11 +205,14 @@ attempt-status m st o e =
     (λ z. rw (ne-eqb st done z))
 
 module _ (c : Config) (p : Plan) (m : Model) where
-  left : (e : Event) → machineStep c p m e .status ≢ done → machineStep c p m e .model ≡ refusalOf c p m (statusOf c p m e) e
-  left e = attempt-same (refusalOf c p m (statusOf c p m e) e) (statusOf c p m e) (effectOf c p m e) (effect-done c p m e)
+  left : (e : Event) → machineStep c p m e .status ≢ done
+      → machineStep c p m e .model ≡ refusalOf c p m (statusOf c p m e) e
+  left e =
+      attempt-same (refusalOf c p m (statusOf c p m e) e) (statusOf c p m e) (effectOf c p m e) (effect-done c p m e)
 
   status-is : (e : Event) → machineStep c p m e .status ≡ statusOf c p m e
-  status-is e = attempt-status (refusalOf c p m (statusOf c p m e) e) (statusOf c p m e) (effectOf c p m e) (effect-done c p m e)
+  status-is e =
+      attempt-status (refusalOf c p m (statusOf c p m e) e) (statusOf c p m e) (effectOf c p m e) (effect-done c p m e)
 
   -- what a refused event leaves
   refusal-same : (e : Event) → ((i : ℕ) → LostLine c p m e i → ⊥) → refusalOf c p m (statusOf c p m e) e ≡ m
@@ -205,7 +228,8 @@ module _ (c : Config) (p : Plan) (m : Model) where
       st : ℕ
       st = statusOf c p m (Line i)
 
-      go : (b : Bool) → countsLines c ≡ b → cond (b && eqb st limitReached) (withLosses m (oneLost (getD (p .line) i noRank) (m .losses))) m ≡ m
+      go : (b : Bool) → countsLines c ≡ b
+          → cond (b && eqb st limitReached) (withLosses m (oneLost (getD (p .line) i noRank) (m .losses))) m ≡ m
       go true e =
           by-eq st limitReached
           (λ q. absurd (kept i (e, refl, status-is (Line i) ∙ q)))
@@ -217,9 +241,10 @@ module _ (c : Config) (p : Plan) (m : Model) where
   refusal-same (Set t w) kept = refl
   refusal-same (Clear w) kept = refl
 
-  -- "A status other than 0 changes nothing", whatever the model; "For version 2, demand 1's "changes nothing" excepts that count": a Line
-  -- refused with 4 changes the losses at the ISR's rank, up to 65,535, and nothing else
-  pub refused-same : (e : Event) → machineStep c p m e .status ≢ done → ((i : ℕ) → LostLine c p m e i → ⊥) → machineStep c p m e .model ≡ m
+  -- "A status other than 0 changes nothing", whatever the model; "For version 2, demand 1's "changes nothing" excepts
+  -- that count": a Line refused with 4 changes the losses at the ISR's rank, up to 65,535, and nothing else
+  pub refused-same : (e : Event) → machineStep c p m e .status ≢ done → ((i : ℕ) → LostLine c p m e i → ⊥)
+      → machineStep c p m e .model ≡ m
   refused-same e refused kept = left e refused ∙ refusal-same e kept
 
   pub lost-line : (i : ℕ) → LostLine c p m (Line i) i
@@ -230,5 +255,6 @@ module _ (c : Config) (p : Plan) (m : Model) where
       ∙ rw (lost .0) (rw (eq-eqb (statusOf c p m (Line i)) limitReached (sym (status-is (Line i)) ∙ lost .2)))
 
   -- in version 1 there is none, so a refused event changes nothing at all
-  pub refused-same-one : c .version ≡ 1 → (e : Event) → machineStep c p m e .status ≢ done → machineStep c p m e .model ≡ m
+  pub refused-same-one : c .version ≡ 1 → (e : Event) → machineStep c p m e .status ≢ done
+      → machineStep c p m e .model ≡ m
   refused-same-one v e refused = refused-same e refused (λ i lost. true≢false (sym (lost .0) ∙ rw v))

@@ -1,5 +1,5 @@
--- Who runs, as the interrupt controller does it: of those that wait to begin or go on by their priority the highest wins, and is dispatched
--- only strictly above the level.
+-- Who runs, as the interrupt controller does it: of those that wait to begin or go on by their priority the highest
+-- wins, and is dispatched only strictly above the level.
 --
 --   arbitrated ps k   the core k after arbitration, and whether a body began; ps: the priorities by rank
 --   settled ps m      the model after arbitration, which ends every event that may let another body run
@@ -7,8 +7,8 @@
 --   triggering ps m   arbitration after a Tick, which alone may start a time-triggered task
 --   returning m       the model after a time-triggered task ended
 --
--- No stack of preempted bodies is kept: one that holds no resource bids for the processor by its bit in `started`, and one that holds some
--- is found in the row of held resources.
+-- No stack of preempted bodies is kept: one that holds no resource bids for the processor by its bit in `started`, and
+-- one that holds some is found in the row of held resources.
 use Prim.Native.Nat.{ℕ}
 use mathlib.Core.Bool.{Bool, true, false, cond, not, _&&_}
 use mathlib.Core.List.{List}
@@ -23,7 +23,7 @@ use Rattle.machine.specs.Model.{Core, Picked, Model, Outcome, noRank, wi
 abbrev pub bids : Core → ℕ
 bids k = union (k .request) (k .started)
 
--- "the arbiter's winner is the highest bit set in that word": its priority, or its trigger level, and 0 where no bit is set
+-- "the arbiter's winner is the highest bit set in that word": its priority, or its trigger level; 0 where no bit is set
 abbrev pub winning : List ℕ → Core → ℕ
 winning ps k = getD ps (winner (bids k)) 0
 
@@ -45,13 +45,15 @@ dispatching ps k =
 -- "it is dispatched only if its priority is strictly above the level"
 unfoldable pub arbitrated : List ℕ → Core → Picked
 arbitrated ps k =
-    cond (ltb (k .level) (winning ps k)) (record { core = dispatching ps k; begun = beginning k }) (record { core = k; begun = false })
+    cond (ltb (k .level) (winning ps k))
+    (record { core = dispatching ps k; begun = beginning k })
+    (record { core = k; begun = false })
 
 abbrev pub settled : List ℕ → Model → Outcome
 settled ps m = doneWith (withCore m (arbitrated ps (m .core) .core)) (arbitrated ps (m .core) .begun)
 
--- the runner leaves, by its end or by a Wait: the level is left to whoever took the latest resource that is held, or to nobody; arbitration
--- follows. s and a: the words `started` and `aside` then
+-- the runner leaves, by its end or by a Wait: the level is left to whoever took the latest resource that is held, or to
+-- nobody; arbitration follows. s and a: the words `started` and `aside` then
 abbrev pub lastLevel : Model → ℕ
 lastLevel m = cond (eqb (topRow (m .holder)) noRank) 0 (topRow (m .raised))
 
@@ -99,7 +101,8 @@ triggering ps m = cond (isTriggered ps (m .core)) (doneWith (launching m) true) 
 abbrev pub timed : Model → Bool
 timed m = eqb (m .core .level) executionLevel
 
--- it has ended: the one that was started before it goes on, at the same level; where there is none, the level is left as by any other runner
+-- it has ended: the one that was started before it goes on, at the same level; where there is none, the level is left
+-- as by any other runner
 abbrev pub alone : Model → Bool
 alone m = eqb (secondRow (m .triggered)) noRank
 

@@ -1,7 +1,7 @@
 -- The machine's twelve events: each one's status "in order", its effect where that is 0, and the two put together.
 --
--- ps are the priorities by rank, trs and lrs the ranks of tasks and of ISRs by body, as the plan has them, ws and xs the
--- words of the ranks that are ISRs and extended tasks.
+-- ps are the priorities by rank, trs and lrs the ranks of tasks and of ISRs by body, as the plan has them, ws and xs
+-- the words of the ranks that are ISRs and extended tasks.
 use Prim.Native.Nat.{ℕ, _+_, max}
 use mathlib.Core.Bool.{Bool, false, cond, not, _&&_, _||_}
 use mathlib.Core.List.{List, [], _∷_}
@@ -40,7 +40,11 @@ attempt m st o = cond (eqb st done) o (refusedWith m st)
 -- Activate t
 abbrev pub activateStatus : List ℕ → Model → ℕ → ℕ
 activateStatus trs m t =
-    firstGiven ((noCaller m gives callLevel) ∷ (eqb (getD trs t noRank) noRank gives noSuch) ∷ (busy m (getD trs t noRank) gives limitReached) ∷ [])
+    firstGiven
+    ((noCaller m gives callLevel) ∷
+    (eqb (getD trs t noRank) noRank gives noSuch) ∷
+    (busy m (getD trs t noRank) gives limitReached) ∷
+    [])
 
 abbrev pub activateEffect : List ℕ → List ℕ → Model → ℕ → Outcome
 activateEffect trs ps m t = settled ps (requesting (getD trs t noRank) m)
@@ -105,20 +109,24 @@ release n ps m r = attempt m (releaseStatus n m r) (releaseEffect ps m r)
 -- Line i
 abbrev pub lineStatus : List ℕ → Model → ℕ → ℕ
 lineStatus lrs m i =
-    firstGiven ((eqb (getD lrs i noRank) noRank gives noSuch) ∷ (has (m .core .request) (getD lrs i noRank) gives limitReached) ∷ [])
+    firstGiven
+    ((eqb (getD lrs i noRank) noRank gives noSuch) ∷
+    (has (m .core .request) (getD lrs i noRank) gives limitReached) ∷
+    [])
 
 abbrev pub lineEffect : List ℕ → List ℕ → Model → ℕ → Outcome
 lineEffect lrs ps m i = settled ps (requesting (getD lrs i noRank) m)
 
--- "a Line that meets a waiting request adds to that ISR's loss count"; w: whether the configuration counts lines, st: the status
+-- "a Line that meets a waiting request adds to that ISR's loss count"; w: whether the configuration counts lines, st:
+-- the status
 abbrev pub lineRefusal : Bool → List ℕ → Model → ℕ → ℕ → Model
 lineRefusal w lrs m i st = cond (w && eqb st limitReached) (withLosses m (oneLost (getD lrs i noRank) (m .losses))) m
 
 unfoldable pub line : Bool → List ℕ → List ℕ → Model → ℕ → Outcome
 line w lrs ps m i = attempt (lineRefusal w lrs m i (lineStatus lrs m i)) (lineStatus lrs m i) (lineEffect lrs ps m i)
 
--- Tick: every cell of the row is ticked, with the compare values ks; rs are the ranks of their entries' tasks. marksOf n: which of the
--- first n match
+-- Tick: every cell of the row is ticked, with the compare values ks; rs are the ranks of their entries' tasks.
+-- marksOf n: which of the first n match
 abbrev pub marksOf : ℕ → List ℕ → Model → List Bool
 marksOf n ks m = marks n 0 (m .turning) ks (m .on) (m .counter)
 
@@ -145,7 +153,8 @@ tick ks rs ps m = triggering ps (ticking ks rs m)
 abbrev pub runs : List ℕ → Model → ℕ → Bool
 runs fs m t = isOn (getD (m .on) (getD fs t 0) 0)
 
--- Start t, d, of n tables whose entries have the offsets os: "d plus the smallest offset", which is that of the table's first entry
+-- Start t, d, of n tables whose entries have the offsets os: "d plus the smallest offset", which is that of the table's
+-- first entry
 abbrev pub startStatus : ℕ → List ℕ → List ℕ → Model → ℕ → ℕ → ℕ
 startStatus n fs os m t d =
     firstGiven
@@ -158,7 +167,10 @@ startStatus n fs os m t d =
 -- k entries from e on, with period P and offsets os
 abbrev pub starting : ℕ → ℕ → ℕ → List ℕ → ℕ → Model → Model
 starting k e P os d m =
-    withCells m (countersStarted k e P d os (m .counter)) (switchesStarted k e d os (m .on)) (m .turning || someLong k e d os)
+    withCells m
+    (countersStarted k e P d os (m .counter))
+    (switchesStarted k e d os (m .on))
+    (m .turning || someLong k e d os)
 
 -- es: the tables' entry counts, qs: their periods
 abbrev pub startEffect : List ℕ → List ℕ → List ℕ → List ℕ → Model → ℕ → ℕ → Outcome
@@ -169,7 +181,8 @@ start n fs es qs os m t d = attempt m (startStatus n fs os m t d) (startEffect f
 
 -- Stop t
 abbrev pub stopStatus : ℕ → List ℕ → Model → ℕ → ℕ
-stopStatus n fs m t = firstGiven ((noCaller m gives callLevel) ∷ (leb n t gives noSuch) ∷ (not (runs fs m t) gives noFunction) ∷ [])
+stopStatus n fs m t =
+    firstGiven ((noCaller m gives callLevel) ∷ (leb n t gives noSuch) ∷ (not (runs fs m t) gives noFunction) ∷ [])
 
 abbrev pub stopping : ℕ → ℕ → Model → Model
 stopping k e m = withCells m (countersStopped k e (m .counter)) (switched k e switchOff (m .on)) (m .turning)
@@ -191,7 +204,9 @@ storing r b s a m = withEvents m (withBegun (m .core) s a) (without (m .cleared)
 -- Wait w
 abbrev pub waitStatus : ℕ → Model → ℕ
 waitStatus xs m =
-    firstGiven ((noCaller m gives callLevel) ∷ (not (has xs (m .core .runner)) gives access) ∷ (holding m gives holdsResource) ∷ [])
+    firstGiven
+    ((noCaller m gives callLevel) ∷
+    (not (has xs (m .core .runner)) gives access) ∷ (holding m gives holdsResource) ∷ [])
 
 -- the runner waits for a bit of w
 abbrev pub pausing : ℕ → Model → Model
@@ -223,7 +238,8 @@ resumes r b m = has (m .core .aside) r && anySet b (getD (m .waited) r 0)
 
 abbrev pub storingFor : Bool → ℕ → ℕ → Model → Model
 storingFor go r b m =
-    storing r b (cond go (with (m .core .started) r) (m .core .started)) (cond go (without (m .core .aside) r) (m .core .aside)) m
+    storing r b (cond go (with (m .core .started) r) (m .core .started))
+    (cond go (without (m .core .aside) r) (m .core .aside)) m
 
 abbrev pub receiving : ℕ → ℕ → Model → Model
 receiving r w m = storingFor (resumes r (withBits (bitsAt m r) w) m) r (withBits (bitsAt m r) w) m
@@ -239,7 +255,8 @@ abbrev pub clearStatus : ℕ → Model → ℕ
 clearStatus xs m = firstGiven ((noCaller m gives callLevel) ∷ (not (has xs (m .core .runner)) gives access) ∷ [])
 
 abbrev pub clearing : ℕ → Model → Model
-clearing w m = storing (m .core .runner) (withoutBits (bitsAt m (m .core .runner)) w) (m .core .started) (m .core .aside) m
+clearing w m =
+    storing (m .core .runner) (withoutBits (bitsAt m (m .core .runner)) w) (m .core .started) (m .core .aside) m
 
 abbrev pub clearEffect : Model → ℕ → Outcome
 clearEffect m w = doneWith (clearing w m) false

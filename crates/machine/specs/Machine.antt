@@ -1,10 +1,10 @@
 -- The machine from the fresh start on, and what is seen of it.
 --
---   freshModel p      the model before the first event
+--   freshModel p         the model before the first event
 --   statusOf, effectOf   the documents' table of events; refusalOf: what a refused event leaves
---   machineStep c p   one event, the next model with its answer
---   machineSeen       what is seen of a list of events, each of which meets the model that the one before it handed back
---   machineAfter      the model after a list of events
+--   machineStep c p      one event, the next model with its answer
+--   machineSeen          what is seen of a list of events, each of which meets the model that the one before it left
+--   machineAfter         the model after a list of events
 use Prim.Native.Nat.{ℕ}
 use mathlib.Core.Path.{_≡_}
 use mathlib.Core.Bool.{Bool, true, false, cond}

@@ -1,15 +1,16 @@
 -- The machine's model, with one part changed at a time.
 --
--- Bodies stand in it by their rank among the priorities, so that a greater rank is a greater priority. `noRank` in the place of a runner says
--- that nobody runs.
+-- Bodies stand in it by their rank among the priorities, so that a greater rank is a greater priority. `noRank` in the
+-- place of a runner says that nobody runs.
 use Prim.Native.Nat.{ℕ}
 use mathlib.Core.Bool.{Bool, false}
 use mathlib.Core.List.{List}
 use Rattle.stack.specs.declared.Row.{Row}
 use Rattle.stack.specs.Stack.{none}
 
--- The words, who runs and at which level: `request` has the ranks that wait to begin, `started` those that began and go on by their priority,
--- `aside` those that began and do not: extended tasks that wait for an event bit, and time-triggered tasks.
+-- The words, who runs and at which level: `request` has the ranks that wait to begin, `started` those that began and go
+-- on by their priority, `aside` those that began and do not: extended tasks that wait for an event bit, and
+-- time-triggered tasks.
 pub record Core : Type 0 where
   pub request : ℕ
   pub started : ℕ
@@ -22,11 +23,12 @@ pub record Picked : Type 0 where
   pub core : Core
   pub begun : Bool
 
--- What the machine keeps between events. `held`: the held resources as a word; `resource`, `holder`, `raised`: in the order taken, the
--- latest on top, each with its holder's rank and the level after its Get. `counter` and `on` are the cells, and `turning` says whether any of
--- them has a turn of its counter to pass; `losses` are the lost activations, and the lost lines that are counted, by rank. `bits` are the
--- event bits by rank, but of the ranks in the word `cleared` they count as 0; `waited` has by rank the mask of the latest Wait that did not go
--- on at once. `triggered` has the ranks of the time-triggered tasks that were started and have not ended, the latest on top.
+-- What the machine keeps between events. `held`: the held resources as a word; `resource`, `holder`, `raised`: in the
+-- order taken, the latest on top, each with its holder's rank and the level after its Get. `counter` and `on` are the
+-- cells, and `turning` says whether any of them has a turn of its counter to pass; `losses` are the lost activations,
+-- and the lost lines that are counted, by rank. `bits` are the event bits by rank, but of the ranks in the word
+-- `cleared` they count as 0; `waited` has by rank the mask of the latest Wait that did not go on at once. `triggered`
+-- has the ranks of the time-triggered tasks that were started and have not ended, the latest on top.
 pub record Model : Type 0 where
   pub core : Core
   pub held : ℕ
@@ -104,7 +106,7 @@ withSlots m l w rs hs ls =
 
 -- other counters, switches with or without a turn to pass, and losses
 abbrev pub withRest : Model → List ℕ → List ℕ → Bool → List ℕ → Model
-withRest m ns os w ls =
+withRest m ns on w ls =
     record {
       core = m .core;
       held = m .held;
@@ -112,7 +114,7 @@ withRest m ns os w ls =
       holder = m .holder;
       raised = m .raised;
       counter = ns;
-      on = os;
+      on = on;
       turning = w;
       losses = ls;
       cleared = m .cleared;
@@ -122,7 +124,7 @@ withRest m ns os w ls =
     }
 
 abbrev pub withCells : Model → List ℕ → List ℕ → Bool → Model
-withCells m ns os w = withRest m ns os w (m .losses)
+withCells m ns on w = withRest m ns on w (m .losses)
 
 abbrev pub withLosses : Model → List ℕ → Model
 withLosses m ls = withRest m (m .counter) (m .on) (m .turning) ls

@@ -1,8 +1,9 @@
--- The held resources in one row, in the order taken, the latest on top: each slot has its resource, its holder's rank and the level
--- after its Get. Past the bottom of the row there is no holder. Which resources are held stands in a word, too.
+-- The held resources in one row, in the order taken, the latest on top: each slot has its resource, its holder's rank
+-- and the level after its Get. Past the bottom of the row there is no holder. Which resources are held stands in a
+-- word, too.
 --
---   getting r l m   the runner takes r, and its level becomes l
---   releasing ps r m the runner gives its latest resource r back: "the level .. is what it is without that resource"
+--   getting r l m      the runner takes r, and its level becomes l
+--   releasing ps r m   the runner gives its latest resource r back, and the level is what it is without that resource
 use Prim.Native.Nat.{ℕ}
 use mathlib.Core.Bool.{Bool, cond, _&&_}
 use mathlib.Core.List.{List}
@@ -22,7 +23,8 @@ latest m r = holding m && eqb (topRow (m .resource)) r
 
 abbrev pub getting : ℕ → ℕ → Model → Model
 getting r l m =
-    withSlots m l (with (m .held) r) (pushRow (m .resource) r) (pushRow (m .holder) (m .core .runner)) (pushRow (m .raised) l)
+    withSlots m l (with (m .held) r)
+    (pushRow (m .resource) r) (pushRow (m .holder) (m .core .runner)) (pushRow (m .raised) l)
 
 -- the level of the runner without its latest resource: that of the slot below if it is its own, else its own priority
 abbrev pub levelWithout : List ℕ → Model → ℕ
@@ -31,4 +33,5 @@ levelWithout ps m =
 
 abbrev pub releasing : List ℕ → ℕ → Model → Model
 releasing ps r m =
-    withSlots m (levelWithout ps m) (without (m .held) r) (popRow (m .resource)) (popRow (m .holder)) (popRow (m .raised))
+    withSlots m (levelWithout ps m) (without (m .held) r)
+    (popRow (m .resource)) (popRow (m .holder)) (popRow (m .raised))

@@ -24,7 +24,7 @@ use Rattle.run.specs.Run.{answerBytes, lossBytes, answers}
 use Rattle.run.specs.Steps.{machineAnswers}
 
 -- "four bytes an event", "two bytes a body"
-pub length-answerBytes : (xs : List Seen) → length (answerBytes xs) ≡ 4 * length xs
+length-answerBytes : (xs : List Seen) → length (answerBytes xs) ≡ 4 * length xs
 unfolding answerBytes
 length-answerBytes [] = refl
 length-answerBytes (x ∷ xs) = let h = length-answerBytes xs in omega arith
@@ -52,7 +52,9 @@ module _ (c : Config) (p : Plan) (fit : Fitted c p (rankOf c)) where
     events = answerBytes (machineSeen c p (freshModel p) es)
 
     pub length-events : length events ≡ 4 * length es
-    length-events = length-answerBytes (machineSeen c p (freshModel p) es) ∙ ap (λ (n : ℕ). 4 * n) (length-seen c p es (freshModel p))
+    length-events =
+        length-answerBytes (machineSeen c p (freshModel p) es)
+        ∙ ap (λ (n : ℕ). 4 * n) (length-seen c p es (freshModel p))
 
     length-machine : length (machineAnswers c p es) ≡ 4 * length es + 2 * c .bodies
     unfolding machineAnswers
@@ -65,9 +67,10 @@ module _ (c : Config) (p : Plan) (fit : Fitted c p (rankOf c)) where
     machine-same =
         let start = fresh-sim fit in
         let end = after-sim fit es start in
+        let m = machineAfter c p (freshModel p) es in
         ap₂ (λ (xs : List Seen) (ns : List ℕ). answerBytes xs ++ lossBytes ns)
         (agreement-from fit es start)
-        (losses-seen fit (machineAfter c p (freshModel p) es) (after c (fresh c) es .bodies) (end .tied .size) (end .lost))
+        (losses-seen fit m (after c (fresh c) es .bodies) (end .tied .size) (end .lost))
 
 module _ (c : Config) (ok : Accepted c) (shaped : Shaped c) (es : List Event) where
   -- the two sides of demand 3, as bytes

@@ -61,14 +61,17 @@ pub record Edges : Type 0 where
       × (readNumber (0xFF ∷ 0xFF ∷ 0xFF ∷ 0xFF ∷ 0x10 ∷ []) 0 ≡ refused malformed 4)
   pub p4 : (startCell 1 1 .counter ≡ 65535) × ((n : ℕ) → due 1 1 (suc n) ≡ true)
   pub p5 : (startCell 4 3 .counter ≡ 0)
-      × (map (due 4 3) (1 ∷ 2 ∷ 3 ∷ 4 ∷ 5 ∷ 6 ∷ 7 ∷ 8 ∷ []) ≡ false ∷ false ∷ true ∷ false ∷ false ∷ false ∷ true ∷ false ∷ [])
+      × (map (due 4 3) (1 ∷ 2 ∷ 3 ∷ 4 ∷ 5 ∷ 6 ∷ 7 ∷ 8 ∷ [])
+      ≡ false ∷ false ∷ true ∷ false ∷ false ∷ false ∷ true ∷ false ∷ [])
   pub p6 : startCell 4 65535 .counter ≡ 4
   pub p7 : (smallestOffset latestStart 0 ≡ 2)
-      × (rows latestStart (Start 0 65534 ∷ Start 0 0 ∷ Start 0 65533 ∷ []) ≡ row 8 0 1 0 ∷ row 8 0 1 0 ∷ row 0 0 1 0 ∷ [])
+      × (rows latestStart (Start 0 65534 ∷ Start 0 0 ∷ Start 0 65533 ∷ [])
+      ≡ row 8 0 1 0 ∷ row 8 0 1 0 ∷ row 0 0 1 0 ∷ [])
   pub p8 : rows listing (Start 0 1 ∷ Get 0 ∷ Tick ∷ []) ≡ row 0 0 2 0 ∷ row 0 0 5 0 ∷ row 0 0 5 0 ∷ []
   pub p9 : rows oneTask (Chain 0 ∷ []) ≡ row 0 0 1 1 ∷ []
   pub p10 : (rows twoTables (Start 0 1 ∷ Start 1 1 ∷ Tick ∷ []) ≡ row 0 0 1 0 ∷ row 0 0 1 0 ∷ row 0 1 2 1 ∷ [])
-      × (map (λ x. x .losses) (seen twoTables (fresh twoTables) (Start 0 1 ∷ Start 1 1 ∷ Tick ∷ [])) ≡ (0 ∷ 0 ∷ []) ∷ (0 ∷ 0 ∷ []) ∷ (0 ∷ 1 ∷ []) ∷ [])
+      × (map (λ x. x .losses) (seen twoTables (fresh twoTables) (Start 0 1 ∷ Start 1 1 ∷ Tick ∷ []))
+      ≡ (0 ∷ 0 ∷ []) ∷ (0 ∷ 0 ∷ []) ∷ (0 ∷ 1 ∷ []) ∷ [])
   pub p11 : (loses fullyLost .losses ≡ 65535) × (oneMore 65535 ≡ 65535)
   pub p12 : rows oneIsr (Line 0 ∷ Line 0 ∷ Line 0 ∷ []) ≡ row 0 0 1 1 ∷ row 0 0 1 0 ∷ row 4 0 1 0 ∷ []
   pub p13 : rows twoResources (Get 0 ∷ Get 1 ∷ Release 0 ∷ []) ≡ row 0 0 1 0 ∷ row 0 0 1 0 ∷ row 5 0 1 0 ∷ []
@@ -79,7 +82,9 @@ unfolding due
 each-tick n = simp (leb·suc-suc 0 n, leb·zero n, mod-one (suc n - 1))
 
 pub edges : Edges
-unfolding listing numberBytes groupBytes readNumber groups continued fifthGroup readConfig readFrom faultAt putAt timedIn ended occurs greatestIn entriesBefore due firstGiven candidate chosenFrom among heldIn counting entryDue duesFrom activatingDue stepBy seenBy
+unfolding listing numberBytes groupBytes readNumber groups continued fifthGroup readConfig readFrom faultAt putAt
+    timedIn ended occurs greatestIn entriesBefore due firstGiven candidate chosenFrom among heldIn counting entryDue
+    duesFrom activatingDue stepBy seenBy
 edges =
     record {
       p1 = (refl, refl);

@@ -1,7 +1,7 @@
 -- What the run's input is, by its checks in order, and what the run returns and leaves for each.
 --
---   config-refused .. all-readable   what the input is
---   Ran cs ts d r d₁                 the run of cs and ts on the slice d returns r and leaves d₁
+--   config-refused .. all-readable      what the input is
+--   Ran cs ts d r d₁                    the run of cs and ts on the slice d returns r and leaves d₁
 --   ran-refused, ran-short, ran-whole   its ways out
 use Prim.Native.Nat.{ℕ, _+_, _*_, _≤_, _<_}
 use mathlib.Core.Path.{_≡_, refl, sym, ap, _∙_}
@@ -26,7 +26,8 @@ use Rattle.run.proofs.Answers.{answers-same, length-answers}
 
 -- what the run's input is, by its checks in order
 module _ (cs ts : List ℕ) where
-  pub config-refused : (readConfig cs .refusal ≡ none → ⊥) → readRun cs ts ≡ refused (readConfig cs .refusal) (readConfig cs .place)
+  pub config-refused : (readConfig cs .refusal ≡ none → ⊥)
+      → readRun cs ts ≡ refused (readConfig cs .refusal) (readConfig cs .place)
   unfolding readRun
   config-refused n = rw (ne-eqb (readConfig cs .refusal) none n)
 
@@ -34,7 +35,9 @@ module _ (cs ts : List ℕ) where
     -- then the trace's length decides, and then what it holds
     length-decides : readRun cs ts
         ≡ cond (leb (length ts) maxTrace)
-        (cond (eqb (readTrace ts .refusal) none) (played (readConfig cs .config) (callsOf ts)) (refused (readTrace ts .refusal) (readTrace ts .place)))
+        (cond (eqb (readTrace ts .refusal) none)
+        (played (readConfig cs .config) (callsOf ts))
+        (refused (readTrace ts .refusal) (readTrace ts .place)))
         (refused traceTooLong 0)
     unfolding readRun
     length-decides = rw (eq-eqb (readConfig cs .refusal) none ok) refl
@@ -43,7 +46,8 @@ module _ (cs ts : List ℕ) where
     trace-too-long h = length-decides ∙ rw (lt-leb (length ts) maxTrace h)
 
     module _ (short : length ts ≤ maxTrace) where
-      pub trace-refused : (readTrace ts .refusal ≡ none → ⊥) → readRun cs ts ≡ refused (readTrace ts .refusal) (readTrace ts .place)
+      pub trace-refused : (readTrace ts .refusal ≡ none → ⊥)
+          → readRun cs ts ≡ refused (readTrace ts .refusal) (readTrace ts .place)
       trace-refused n = length-decides ∙ rw (le-leb (length ts) maxTrace short, ne-eqb (readTrace ts .refusal) none n)
 
       pub all-readable : readTrace ts .refusal ≡ none → readRun cs ts ≡ played (readConfig cs .config) (callsOf ts)
@@ -58,10 +62,16 @@ pub record Ran (cs ts d : List ℕ) (r : ℕ) (d₁ : List ℕ) : Type 0 where
 module _ (cs ts d : List ℕ) where
   pub ran-refused : (r p x : ℕ) → readRun cs ts ≡ refused r p → x ≡ packed r p → Ran cs ts d x d
   unfolding resultOf outputOf machineOutputOf
-  ran-refused r p x e same = record { result = same ∙ sym (ap (resultOf (length d)) e); output = sym (ap (outputOf d) e); steps = sym (ap (machineOutputOf d) e) }
+  ran-refused r p x e same =
+      record {
+        result = same ∙ sym (ap (resultOf (length d)) e);
+        output = sym (ap (outputOf d) e);
+        steps = sym (ap (machineOutputOf d) e);
+      }
 
   module _ (c : Config) (ok : Accepted c) (shaped : Shaped c) (es : List Event) (e : readRun cs ts ≡ played c es) where
-    pub ran-short : (need x : ℕ) → need ≡ 4 * length es + 2 * c .bodies → length d < need → x ≡ packed noRoom need → Ran cs ts d x d
+    pub ran-short : (need x : ℕ) → need ≡ 4 * length es + 2 * c .bodies → length d < need → x ≡ packed noRoom need
+        → Ran cs ts d x d
     unfolding resultOf outputOf machineOutputOf written
     ran-short need x long short same =
         let size : length (answers c es) ≡ need = length-answers c ok shaped es ∙ sym long in

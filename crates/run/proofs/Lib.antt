@@ -1,4 +1,5 @@
--- The laws of the run. `Theorems` is the file to read; `Worked` has the run on bytes, computed, and `Edges` document 01's edges P1 to P13.
+-- The laws of the run. `Theorems` is the file to read; `Worked` has the run on bytes, computed, and `Edges` document
+-- 01's edges P1 to P13.
 pub mod Theorems
 pub mod Worked
 pub mod Edges

@@ -1,7 +1,7 @@
 -- What the crate shows of the run, for every input. Each law stands here in full, over specs/ alone.
 --
--- In order: how many bytes the answers take; that refusal and place can be split again. `Worked` has the run on bytes, computed, and `Edges`
--- P1 to P13.
+-- In order: how many bytes the answers take; that refusal and place can be split again. `Worked` has the run on
+-- bytes, computed, and `Edges` P1 to P13.
 use Prim.Native.Nat.{ℕ, _/_, _%_, _≤_, _<_}
 use mathlib.Core.Path.{_≡_}
 use mathlib.Core.List.{List}
@@ -25,7 +25,8 @@ use Rattle.run.proofs.Input.{config-refused, trace-too-long, trace-refu
 abbrev pub places : ℕ
 places = 4294967296
 
--- what holds of a run's input: a refusal's place is below that; of a trace that is played, the events and the bytes of their answers are few
+-- what holds of a run's input: a refusal's place is below that; of a trace that is played, the events and the bytes
+-- of their answers are few
 unfoldable pub Bounded : Input → Type 0
 Bounded (refused r p) = p < places
 Bounded (played c es) = (length es ≤ 8192) × (length (answers c es) ≤ 32832)
@@ -53,12 +54,16 @@ input-bounded cs ts =
     few : readConfig cs .refusal ≡ none → length ts ≤ maxTrace → length (callsOf ts) ≤ 8192
     few ok short = omega (arith, length-map (readTrace ts .events) callOf, trace-reading ts 0 (omega arith) .few)
 
-    answers-few : readConfig cs .refusal ≡ none → length ts ≤ maxTrace → length (answers (readConfig cs .config) (callsOf ts)) ≤ 32832
+    answers-few : readConfig cs .refusal ≡ none → length ts ≤ maxTrace
+        → length (answers (readConfig cs .config) (callsOf ts)) ≤ 32832
     answers-few ok short =
-        omega (arith, length-answers (readConfig cs .config) (accepted-ranges cs ok) (reading cs .shaped) (callsOf ts), accepted-ranges cs ok .few-bodies, few ok short)
+        let accepted = accepted-ranges cs ok in
+        let size = length-answers (readConfig cs .config) accepted (reading cs .shaped) (callsOf ts) in
+        omega (arith, accepted .few-bodies, few ok short)
 
 -- "A trace of at most 8,192 bytes needs at most 32,832"
-pub room-enough : (cs ts : List ℕ) (c : Config) (es : List Event) → readRun cs ts ≡ played c es → length (answers c es) ≤ 32832
+pub room-enough : (cs ts : List ℕ) (c : Config) (es : List Event) → readRun cs ts ≡ played c es
+    → length (answers c es) ≤ 32832
 unfolding Bounded
 room-enough cs ts c es e = (rw e at (input-bounded cs ts)) .1
 
@@ -81,9 +86,12 @@ module _ (cs ts : List ℕ) (n : ℕ) (c : Config) (es : List Event) (e : readRu
   pub short-split : n < length (answers c es)
       → (highHalf (runResult cs ts n) ≡ 30) × (lowHalf (runResult cs ts n) ≡ length (answers c es))
   unfolding Bounded resultOf
-  short-split less = rw (e, lt-leb (length (answers c es)) n less) (split noRoom (length (answers c es)) (omega (arith, room-enough cs ts c es e)))
+  short-split less =
+      rw (e, lt-leb (length (answers c es)) n less)
+      (split noRoom (length (answers c es)) (omega (arith, room-enough cs ts c es e)))
 
-  pub played-split : length (answers c es) ≤ n → (highHalf (runResult cs ts n) ≡ 0) × (lowHalf (runResult cs ts n) ≡ length es)
+  pub played-split : length (answers c es) ≤ n
+      → (highHalf (runResult cs ts n) ≡ 0) × (lowHalf (runResult cs ts n) ≡ length es)
   unfolding Bounded resultOf
   played-split room =
       let few : length es ≤ 8192 = (rw e at (input-bounded cs ts)) .0 in

@@ -1,5 +1,5 @@
--- The run on bytes, worked out: document 01's whole listing, and each limit on both sides, computed by the checker from the definition that the
--- contract of `osek_run` cites.
+-- The run on bytes, worked out: document 01's whole listing, and each limit on both sides, computed by the checker
+-- from the definition that the contract of `osek_run` cites.
 use Prim.Native.Nat.{ℕ, _+_, _*_}
 use mathlib.Core.Path.{_≡_, refl}
 use mathlib.Core.List.{List, [], _∷_, _++_, map}
@@ -23,13 +23,14 @@ use Rattle.run.specs.Run.{callOf, readRun, answerBytes, lossBytes, answe
 -- "Configuration (hex)"
 abbrev configuration : List ℕ
 configuration =
-    0x01 ∷ 0x03 ∷ 0x00 ∷ 0x02 ∷ 0x01 ∷ 0x00 ∷ 0x05 ∷ 0x00 ∷ 0x01 ∷ 0x09 ∷ 0x00 ∷ 0x01 ∷ 0x03 ∷ 0x01 ∷ 0x04 ∷ 0x02 ∷ 0x00 ∷ 0x01 ∷ 0x02 ∷ 0x00 ∷ []
+    0x01 ∷ 0x03 ∷ 0x00 ∷ 0x02 ∷ 0x01 ∷ 0x00 ∷ 0x05 ∷ 0x00 ∷ 0x01 ∷ 0x09 ∷ 0x00 ∷ 0x01 ∷ 0x03
+    ∷ 0x01 ∷ 0x04 ∷ 0x02 ∷ 0x00 ∷ 0x01 ∷ 0x02 ∷ 0x00 ∷ []
 
 -- "Trace"
 abbrev trace : List ℕ
 trace =
-    0x08 ∷ 0x00 ∷ 0x01 ∷ 0x04 ∷ 0x00 ∷ 0x06 ∷ 0x07 ∷ 0x02 ∷ 0x03 ∷ 0x01 ∷ 0x02 ∷ 0x02 ∷ 0x05 ∷ 0x00 ∷ 0x06 ∷ 0x06 ∷ 0x02 ∷ 0x02 ∷ 0x06 ∷ 0x06
-    ∷ 0x09 ∷ 0x00 ∷ 0x02 ∷ 0x02 ∷ []
+    0x08 ∷ 0x00 ∷ 0x01 ∷ 0x04 ∷ 0x00 ∷ 0x06 ∷ 0x07 ∷ 0x02 ∷ 0x03 ∷ 0x01 ∷ 0x02 ∷ 0x02 ∷ 0x05 ∷ 0x00
+    ∷ 0x06 ∷ 0x06 ∷ 0x02 ∷ 0x02 ∷ 0x06 ∷ 0x06 ∷ 0x09 ∷ 0x00 ∷ 0x02 ∷ 0x02 ∷ []
 
 -- the listing's rows, four bytes each, then its losses: `lost 0 1`
 abbrev listed : List ℕ
@@ -63,29 +64,39 @@ abbrev at : ℕ → ℕ → ℕ
 at r p = r * 4294967296 + p
 
 pub record Worked : Type 0 where
-  pub listing : (runResult configuration trace 74 ≡ 17) × (runOutput configuration trace (replicate 76 7) ≡ listed ++ 7 ∷ 7 ∷ [])
+  pub listing : (runResult configuration trace 74 ≡ 17)
+      × (runOutput configuration trace (replicate 76 7) ≡ listed ++ 7 ∷ 7 ∷ [])
   -- 4,096 zeros are looked at, and have a wrong version; 4,097 are too many
-  pub config-limit : (runResult (replicate 4096 0) trace 74 ≡ at 3 0) × (runResult (replicate 4097 0) trace 74 ≡ at 10 0)
+  pub config-limit : (runResult (replicate 4096 0) trace 74 ≡ at 3 0)
+      × (runResult (replicate 4097 0) trace 74 ≡ at 10 0)
   -- 8,192 zeros are looked at, and have an unknown event; 8,193 are too many
-  pub trace-limit : (runResult configuration (replicate 8192 0) 74 ≡ at 23 0) × (runResult configuration (replicate 8193 0) 74 ≡ at 20 0)
+  pub trace-limit : (runResult configuration (replicate 8192 0) 74 ≡ at 23 0)
+      × (runResult configuration (replicate 8193 0) 74 ≡ at 20 0)
   -- a bad configuration comes before a trace that is too long, and a bad trace before an output that is too short
   pub order : (runResult [] (replicate 8193 0) 0 ≡ at 1 0) × (runResult configuration (2 ∷ 13 ∷ []) 0 ≡ at 23 1)
   -- the bytes needed are 4 × 17 + 2 × 3; refused, nothing is written
-  pub output-limit : (runResult configuration trace 73 ≡ at 30 74) × (runOutput configuration trace (replicate 73 7) ≡ replicate 73 7)
+  pub output-limit : (runResult configuration trace 73 ≡ at 30 74)
+      × (runOutput configuration trace (replicate 73 7) ≡ replicate 73 7)
   -- no event
-  pub no-events : (runResult configuration [] 6 ≡ 0) × (runOutput configuration [] (7 ∷ 7 ∷ 7 ∷ 7 ∷ 7 ∷ 7 ∷ 7 ∷ []) ≡ 0 ∷ 0 ∷ 0 ∷ 0 ∷ 0 ∷ 0 ∷ 7 ∷ [])
+  pub no-events : (runResult configuration [] 6 ≡ 0)
+      × (runOutput configuration [] (7 ∷ 7 ∷ 7 ∷ 7 ∷ 7 ∷ 7 ∷ 7 ∷ []) ≡ 0 ∷ 0 ∷ 0 ∷ 0 ∷ 0 ∷ 0 ∷ 7 ∷ [])
   -- each code with two arguments: Activate, Finish, Chain, Get, Release, Tick, Line, Start, Stop, Wait, Set, Clear
   pub codes : map (λ (code : ℕ). callOf (event code 5 6)) (1 ∷ 2 ∷ 3 ∷ 4 ∷ 5 ∷ 6 ∷ 7 ∷ 8 ∷ 9 ∷ 10 ∷ 11 ∷ 12 ∷ [])
-      ≡ Activate 5 ∷ Finish ∷ Chain 5 ∷ Get 5 ∷ Release 5 ∷ Tick ∷ Line 5 ∷ Start 5 6 ∷ Stop 5 ∷ Wait 5 ∷ Set 5 6 ∷ Clear 5 ∷ []
+      ≡ Activate 5 ∷ Finish ∷ Chain 5 ∷ Get 5 ∷ Release 5 ∷ Tick ∷ Line 5 ∷ Start 5 6 ∷ Stop 5 ∷ Wait 5 ∷ Set 5 6
+      ∷ Clear 5 ∷ []
   -- an ISR sets bits of an extended task, which goes on at once, clears them and waits
   pub extended : (runResult extendedTask (7 ∷ 1 ∷ 11 ∷ 0 ∷ 3 ∷ 2 ∷ 10 ∷ 2 ∷ 12 ∷ 3 ∷ 10 ∷ 2 ∷ []) 28 ≡ 6)
       × (runOutput extendedTask (7 ∷ 1 ∷ 11 ∷ 0 ∷ 3 ∷ 2 ∷ 10 ∷ 2 ∷ 12 ∷ 3 ∷ 10 ∷ 2 ∷ []) (replicate 28 7)
-      ≡ 0 ∷ 1 ∷ 9 ∷ 1 ∷ 0 ∷ 1 ∷ 9 ∷ 0 ∷ 0 ∷ 0 ∷ 4 ∷ 0 ∷ 0 ∷ 0 ∷ 4 ∷ 0 ∷ 0 ∷ 0 ∷ 4 ∷ 0 ∷ 0 ∷ 255 ∷ 0 ∷ 0 ∷ 0 ∷ 0 ∷ 0 ∷ 0 ∷ [])
+      ≡ 0 ∷ 1 ∷ 9 ∷ 1 ∷ 0 ∷ 1 ∷ 9 ∷ 0 ∷ 0 ∷ 0 ∷ 4 ∷ 0 ∷ 0 ∷ 0 ∷ 4 ∷ 0 ∷ 0 ∷ 0 ∷ 4 ∷ 0 ∷ 0 ∷ 255 ∷ 0 ∷ 0
+      ∷ 0 ∷ 0 ∷ 0 ∷ 0 ∷ [])
   -- "two bytes a body, low first"
   pub low-first : lossBytes (258 ∷ 65535 ∷ []) ≡ 2 ∷ 1 ∷ 255 ∷ 255 ∷ []
 
 pub worked : Worked
-unfolding written readNumber groups continued fifthGroup faultAt putAt timedIn ended occurs readFrom readConfig greatestIn entriesBefore known arguments afterNumber readArguments readEvent eventsFrom readRest due firstGiven anySet withBits withoutBits candidate chosenFrom among heldIn counting entryDue duesFrom activatingDue stepBy seenBy afterBy callOf readRun answerBytes lossBytes answers resultOf outputOf
+unfolding written readNumber groups continued fifthGroup faultAt putAt timedIn ended occurs readFrom readConfig
+    greatestIn entriesBefore known arguments afterNumber readArguments readEvent eventsFrom readRest due firstGiven
+    anySet withBits withoutBits candidate chosenFrom among heldIn counting entryDue duesFrom activatingDue stepBy seenBy
+    afterBy callOf readRun answerBytes lossBytes answers resultOf outputOf
 worked =
     record {
       listing = (refl, refl);

@@ -1,7 +1,7 @@
 -- The run: from the bytes of a configuration and a trace to the answers of the plain scheduler.
 --
---   readRun cs ts      what the input is: refused, or a configuration and its events
---   answers c es       the output of the plain scheduler, event by event and then the losses
+--   readRun cs ts          what the input is: refused, or a configuration and its events
+--   answers c es           the output of the plain scheduler, event by event and then the losses
 --   runResult, runOutput   what the run returns, and what it leaves in the slice that it is lent
 use Prim.Native.Nat.{ℕ, _/_, _%_}
 use mathlib.Core.Bool.{cond}
@@ -19,7 +19,8 @@ use Rattle.event.specs.Trace.{maxTrace, readTrace}
 use Rattle.scheduler.specs.Scheduler as Plain
 use Rattle.scheduler.specs.Scheduler.{Activate, Finish, Chain, Get, Release, Tick, Line, Start, Stop, Wait, Set, Clear, Seen, fresh, seen, after, lossesOf}
 
--- the event that a code with two arguments stands for; of the twelve codes that a readable event has, the last needs no test
+-- the event that a code with two arguments stands for; of the twelve codes that a readable event has, the last needs
+-- no test
 unfoldable pub callOf : Event → Plain.Event
 callOf e =
     cond (eqb (e .code) activate) (Activate (e .first))
@@ -49,7 +50,9 @@ unfoldable pub readRun : List ℕ → List ℕ → Input
 readRun cs ts =
     cond (eqb (readConfig cs .refusal) none)
     (cond (leb (length ts) maxTrace)
-    (cond (eqb (readTrace ts .refusal) none) (played (readConfig cs .config) (callsOf ts)) (refused (readTrace ts .refusal) (readTrace ts .place)))
+    (cond (eqb (readTrace ts .refusal) none)
+    (played (readConfig cs .config) (callsOf ts))
+    (refused (readTrace ts .refusal) (readTrace ts .place)))
     (refused traceTooLong 0))
     (refused (readConfig cs .refusal) (readConfig cs .place))
 

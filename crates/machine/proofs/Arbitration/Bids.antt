@@ -7,7 +7,7 @@
 use Prim.Native.Nat.{ℕ, _^_, _≤_, _<_}
 use mathlib.Core.Path.{_≡_, refl, sym, ap, ap₂, _∙_}
 use mathlib.Core.Logic.{_≢_, ⊎-elim}
-use mathlib.Core.Bool.{Bool, true, false, true≢false, _||_}
+use mathlib.Core.Bool.{Bool, true, false, true≢false, _||_, or-true, or-false}
 use mathlib.Core.List.{List}
 use native.Mathlib.Nat.{eq-zero-or-pos}
 use native.Mathlib.Omega.{arith}
@@ -36,21 +36,14 @@ module _ {c : Config} {p : Plan} {rk : ℕ → ℕ} (fit : Fitted c p rk) where
 
   module _ {k : Core} {bs : List Body} (w : Words c rk k bs) where
     -- exactly those bid that wait to begin or go on by their priority
-    pub bids-is : (b : ℕ) → b < c .bodies → has (bids k) (rk b) ≡ isBidding (at bs b .phase)
+    bids-is : (b : ℕ) → b < c .bodies → has (bids k) (rk b) ≡ isBidding (at bs b .phase)
     bids-is b h =
         has-union (k .request) (k .started) (rk b)
         ∙ ap₂ (λ (x y : Bool). x || y) (w .asks b h) (w .goes-on b h)
         ∙ go (at bs b .phase) (w .quiet b)
       where
-        or-true : (x : Bool) → x || true ≡ true
-        or-true true = refl
-        or-true false = refl
-
-        or-false : (x : Bool) → x || false ≡ x
-        or-false true = refl
-        or-false false = refl
-
-        go : (q : Phase) → (isStarted q ≡ false → at bs b .pending ≡ false) → requestWaits (at bs b) q || isStarted q ≡ isBidding q
+        go : (q : Phase) → (isStarted q ≡ false → at bs b .pending ≡ false)
+            → requestWaits (at bs b) q || isStarted q ≡ isBidding q
         go suspended quiet = refl
         go ready quiet = refl
         go started quiet = or-true (at bs b .pending)
@@ -69,18 +62,21 @@ module _ {c : Config} {p : Plan} {rk : ℕ → ℕ} (fit : Fitted c p rk) where
 
     -- a time-triggered task that has still to begin, where no other bids, has the winner's rank
     pub trigger-wins : (j : ℕ) → j < c .bodies → isTimed c j ≡ true → isBidding (at bs j .phase) ≡ true
-        → ((i : ℕ) → i < c .bodies → i ≢ j → isBidding (at bs i .phase) ≡ true → isTimed c i ≡ false) → winner (bids k) ≡ rk j
+        → ((i : ℕ) → i < c .bodies → i ≢ j → isBidding (at bs i .phase) ≡ true → isTimed c i ≡ false)
+        → winner (bids k) ≡ rk j
     trigger-wins j j< timed bidding others =
         let asks : has (bids k) (rk j) ≡ true = bids-is j j< ∙ bidding in
         let h = winner-has (bids k) (some-bid (rk j) asks) bids-lt in
         let v = bids-real (winner (bids k)) (h .1) in
         let b = v .0 in
+        let b< : b < c .bodies = v .1 .0 in
         by-eq b j
         (λ e. sym (v .1 .1) ∙ ap rk e)
         (λ n.
-        let plain : triggerOf c b ≡ priorityOf c b = trigger-plain c b (v .1 .0) (others b (v .1 .0) n (sym (bids-is b (v .1 .0)) ∙ rw (v .1 .1) (h .1))) in
-        let above : rk b < rk j = fit .rank-order b j (v .1 .0) j< (omega (arith, plain, trigger-timed c j j< timed, fit .own-few b (v .1 .0))) in
-        absurd (omega (arith, above, v .1 .1, winner-highest (bids k) (rk j) asks)))
+        let plain = trigger-plain c b b< (others b b< n (sym (bids-is b b<) ∙ rw (v .1 .1) (h .1))) in
+        let most = fit .own-few b b< in
+        let less : triggerOf c b < triggerOf c j = omega (arith, plain, trigger-timed c j j< timed) in
+        absurd (omega (arith, fit .rank-order b j b< j< less, v .1 .1, winner-highest (bids k) (rk j) asks)))
 
     module _ (kinds : Kinds c bs) where
       active-bids : (b : ℕ) → b < c .bodies → competes (at bs b .phase) ≡ true → has (bids k) (rk b) ≡ true
@@ -94,7 +90,7 @@ module _ {c : Config} {p : Plan} {rk : ℕ → ℕ} (fit : Fitted c p rk) where
           go (triggered x) e = absurd (true≢false (sym e))
 
       -- no body's rank is above the winner's
-      pub active-le : (b : ℕ) → b < c .bodies → competes (at bs b .phase) ≡ true → rk b ≤ winner (bids k)
+      active-le : (b : ℕ) → b < c .bodies → competes (at bs b .phase) ≡ true → rk b ≤ winner (bids k)
       active-le b h a = winner-highest (bids k) (rk b) (active-bids b h a)
 
       -- the body whose rank wins
@@ -120,9 +116,11 @@ module _ {c : Config} {p : Plan} {rk : ℕ → ℕ} (fit : Fitted c p rk) where
       plain b h a = trigger-plain c b h (kinds .untimed b h a)
 
       pub winning-is : (v : Winner) → winning (p .priority) k ≡ priorityOf c (v .body)
-      winning-is v = rw (sym (v .rank)) (fit .priority-at (v .body) (v .exists)) ∙ plain (v .body) (v .exists) (v .awake)
+      winning-is v =
+          rw (sym (v .rank)) (fit .priority-at (v .body) (v .exists)) ∙ plain (v .body) (v .exists) (v .awake)
 
-      winner-le : (v : Winner) (b : ℕ) → b < c .bodies → competes (at bs b .phase) ≡ true → priorityOf c b ≤ priorityOf c (v .body)
+      winner-le : (v : Winner) (b : ℕ) → b < c .bodies → competes (at bs b .phase) ≡ true
+          → priorityOf c b ≤ priorityOf c (v .body)
       winner-le v b h a =
           let le = trigger-le b (v .body) h (v .exists) (omega (arith, active-le b h a, v .rank)) in
           omega (arith, le, plain b h a, plain (v .body) (v .exists) (v .awake))
@@ -137,12 +135,19 @@ module _ {c : Config} {p : Plan} {rk : ℕ → ℕ} (fit : Fitted c p rk) where
       pub winner-above : k .level < winning (p .priority) k → Winner
       winner-above above =
           ⊎-elim
-          (λ z. absurd (let e : winning (p .priority) k ≡ 0 = ap (λ (q : ℕ). getD (p .priority) (winner q) 0) z ∙ ap (λ (q : ℕ). getD (p .priority) q 0) winner-empty ∙ fit .priority-none in omega arith))
+          (λ z. absurd (omega (arith, nothing z)))
           (λ q. winner-real q)
           (eq-zero-or-pos (bids k))
+        where
+          at-rank : ℕ → ℕ
+          at-rank r = getD (p .priority) r 0
+
+          nothing : bids k ≡ 0 → winning (p .priority) k ≡ 0
+          nothing z = ap (λ (q : ℕ). at-rank (winner q)) z ∙ ap at-rank winner-empty ∙ fit .priority-none
 
       -- and above every other body
-      pub winner-best : (v : Winner) (i : ℕ) → i < c .bodies → i ≢ v .body → competes (at bs i .phase) ≡ true → priorityOf c i < priorityOf c (v .body)
+      pub winner-best : (v : Winner) (i : ℕ) → i < c .bodies → i ≢ v .body → competes (at bs i .phase) ≡ true
+          → priorityOf c i < priorityOf c (v .body)
       winner-best v i i< other a =
           let le = winner-le v i i< a in
           let ne : priorityOf c i ≢ priorityOf c (v .body) = λ e. other (fit .own-inj i (v .body) i< (v .exists) e) in

@@ -6,13 +6,13 @@ use Prim.Native.Nat.{ℕ, _^_, _≤_, _<_}
 use mathlib.Core.Path.{_≡_, refl, sym, ap, subst, _∙_}
 use mathlib.Core.Logic.{_≢_}
 use mathlib.Core.Bool.{Bool, true, false, true≢false, cond, not, _&&_, and-false}
-use mathlib.Core.List.{List, [], _∷_, _++_}
+use mathlib.Core.List.{List, [], _∷_}
 use native.Mathlib.Omega.{arith}
 use borrow.Author.Tests.{lt-ltb, le-ltb, ne-eqb}
 use lib.Dec.{eqb}
 use lib.ListN.{set, length-set}
 use lib.Seq.{getD-set-same, getD-set-other, set-getD}
-use Rattle.number.proofs.Cases.{by-lt, by-eq}
+use Rattle.number.proofs.Cases.{by-lt, by-eq, cond-either}
 use Rattle.config.specs.declared.Config.{Config}
 use Rattle.config.specs.Meaning.{priorityOf}
 use Rattle.plan.specs.declared.Plan.{Plan}
@@ -21,24 +21,25 @@ use Rattle.word.proofs.Theorems.{has-with-same, has-with-other, with-lt, has-wi
 use Rattle.scheduler.specs.Body.{Phase, suspended, ready, started, waiting, triggered, isStarted, hasBegun, competes, Body, current, become}
 use Rattle.scheduler.specs.Choice.{Candidate, chosen, nobody}
 use Rattle.scheduler.specs.State.{State, noBody, among, changing, latestOf, runner}
-use Rattle.scheduler.specs.Call.{requestWaits}
 use Rattle.scheduler.specs.Scheduler.{begins, dispatchedTo, dispatched}
 use Rattle.scheduler.proofs.Choice.{current-own}
 use Rattle.machine.specs.Model.{Core, Picked, Model, Outcome, withCore}
 use Rattle.machine.specs.Arbiter.{bids, winning, beginning, dispatching, arbitrated, settled}
 use Rattle.machine.specs.Machine.{runnerOf}
 use Rattle.plan.proofs.Fitted.{Fitted}
-use Rattle.machine.proofs.Relation.Words.{at, isAside, Words, words-changed}
+use Rattle.machine.proofs.Relation.Words.{at, Words, words-changed, competes-on, started-waits}
 use Rattle.machine.proofs.Relation.Slots.{slotsFor, slotsAlong}
-use Rattle.machine.proofs.Relation.Nest.{levelAt, Nested, Seats, timed-seat, Alike, alike-same, among-tail-false, nest-level, levelAt-alike, nested-alike, slotsAlong-alike, hold-alike}
+use Rattle.machine.proofs.Relation.Nest.{levelAt, Nested, Seats, AlikeAlong, alike-outside, among-tail-false, nest-level, levelAt-alike, nested-alike, slotsAlong-alike, hold-alike}
 use Rattle.machine.proofs.Relation.Kinds.{Kinds}
-use Rattle.machine.proofs.Relation.Whole.{Tied, Calm}
+use Rattle.machine.proofs.Relation.Whole.{Tied, Calm, latest-seat}
 use Rattle.machine.proofs.Arbitration.Seat.{Holders, holders}
 use Rattle.machine.proofs.Arbitration.Bids.{Winner, winning-is, calm-below, winner-above, winner-best}
-use Rattle.machine.proofs.Arbitration.Choice.{chosen-seated, chosen-none, outside, chosen-above}
+use Rattle.machine.proofs.Arbitration.Choice.{bidder, chosen-seated, chosen-none, outside, chosen-above}
 
--- the model that the machine hands back stands for the bodies after the dispatch to k, who runs; js: the time-triggered tasks started
-pub record ArbitratedTo (c : Config) (p : Plan) (rk : ℕ → ℕ) (o : Outcome) (js : List ℕ) (k : Candidate) (after : List Body) : Type 0 where
+-- the model that the machine hands back stands for the bodies after the dispatch to k, who runs; js: the time-triggered
+-- tasks started
+pub record ArbitratedTo (c : Config) (p : Plan) (rk : ℕ → ℕ) (o : Outcome) (js : List ℕ) (k : Candidate)
+    (after : List Body) : Type 0 where
   pub nest : List ℕ
   pub tied : Tied c rk (o .model) after js nest
   pub calm : Calm c (o .model .core .level) after
@@ -46,13 +47,24 @@ pub record ArbitratedTo (c : Config) (p : Plan) (rk : ℕ → ℕ) (o : Outcome)
   pub level : o .model .core .level ≡ k .level
   pub begun : o .begun ≡ begins k
 
--- the latest time-triggered task that is started exists, and has begun
-abbrev pub Seated : Config → State → Type 0
-Seated c s = (j : ℕ) (js : List ℕ) → s .order ≡ j ∷ js → (j < c .bodies) × (hasBegun (at (s .bodies) j .phase) ≡ true)
-
 -- the same of the state s before the dispatch
 abbrev pub Arbitrated : (c : Config) (p : Plan) (rk : ℕ → ℕ) (o : Outcome) (s : State) → Type 0
 Arbitrated c p rk o s = ArbitratedTo c p rk o (s .order) (runner c s) (dispatched c s .bodies)
+
+-- the same where js are the time-triggered tasks started
+abbrev ArbitratedAs : (c : Config) (p : Plan) (rk : ℕ → ℕ) (o : Outcome) (s : State) (js : List ℕ) → Type 0
+ArbitratedAs c p rk o s js =
+    let k = latestOf (s .bodies) js (chosen c (s .bodies)) in
+    ArbitratedTo c p rk o js k (dispatchedTo k s .bodies)
+
+-- the latest time-triggered task that is started exists, and has begun
+abbrev pub Seated : Config → State → Type 0
+Seated c s =
+    (j : ℕ) (js : List ℕ) → s .order ≡ j ∷ js → (j < c .bodies) × (hasBegun (at (s .bodies) j .phase) ≡ true)
+
+-- the model as it is
+abbrev still : Model → ℕ → Outcome
+still m st = record { model = m; status = st; begun = false }
 
 module _ {c : Config} {p : Plan} {rk : ℕ → ℕ} (fit : Fitted c p rk) where
   pub rank-below : (b : ℕ) → b < c .bodies → rk b < 32
@@ -82,36 +94,38 @@ module _ {c : Config} {p : Plan} {rk : ℕ → ℕ} (fit : Fitted c p rk) where
         }
 
   -- where nobody is above the level the model stays as it is
-  calm-plain : {m : Model} {ns : List ℕ} (s : State) (st : ℕ) → Tied c rk m (s .bodies) [] ns → Calm c (m .core .level) (s .bodies)
-      → ArbitratedTo c p rk (record { model = m; status = st; begun = false }) [] (chosen c (s .bodies)) (dispatchedTo (chosen c (s .bodies)) s .bodies)
+  calm-plain : {m : Model} {ns : List ℕ} (s : State) (st : ℕ)
+      → Tied c rk m (s .bodies) [] ns → Calm c (m .core .level) (s .bodies) → ArbitratedAs c p rk (still m st) s []
   calm-plain {m} {ns} s st t calm =
       let seat = shown ns t calm in
       let stays : dispatchedTo (chosen c (s .bodies)) s .bodies ≡ s .bodies = rw (seat .begun) in
-      rw stays (record { nest = ns; tied = t; calm = calm; number = seat .number; level = seat .level; begun = sym (seat .begun) })
+      rw stays (record {
+        nest = ns;
+        tied = t;
+        calm = calm;
+        number = seat .number;
+        level = seat .level;
+        begun = sym (seat .begun);
+      })
 
   -- where no time-triggered task is started the one chosen by priority runs
-  plainly : {o : Outcome} (s : State) → s .order ≡ []
-      → ArbitratedTo c p rk o [] (chosen c (s .bodies)) (dispatchedTo (chosen c (s .bodies)) s .bodies) → Arbitrated c p rk o s
-  plainly {o} s e a =
-      subst (λ (js : List ℕ). ArbitratedTo c p rk o js (latestOf (s .bodies) js (chosen c (s .bodies))) (dispatchedTo (latestOf (s .bodies) js (chosen c (s .bodies))) s .bodies))
-      (sym e) a
+  plainly : {o : Outcome} (s : State) → s .order ≡ [] → ArbitratedAs c p rk o s [] → Arbitrated c p rk o s
+  plainly {o} s e = subst (ArbitratedAs c p rk o s) (sym e)
 
   -- a time-triggered task runs on
   timed-on : {m : Model} {ns : List ℕ} (s : State) (st j : ℕ) (js : List ℕ) → s .order ≡ j ∷ js → j < c .bodies
       → hasBegun (at (s .bodies) j .phase) ≡ true → Tied c rk m (s .bodies) (s .order) ns
-      → Arbitrated c p rk (record { model = m; status = st; begun = false }) s
+      → Arbitrated c p rk (still m st) s
   timed-on {m} {ns} s st j js e j< entered =
-      subst (λ (os : List ℕ). Tied c rk m (s .bodies) os ns
-      → ArbitratedTo c p rk (record { model = m; status = st; begun = false }) os (latestOf (s .bodies) os (chosen c (s .bodies)))
-      (dispatchedTo (latestOf (s .bodies) os (chosen c (s .bodies))) s .bodies))
-      (sym e) runs
+      subst (λ (is : List ℕ). Tied c rk m (s .bodies) is ns → ArbitratedAs c p rk (still m st) s is) (sym e) runs
     where
-      runs : Tied c rk m (s .bodies) (j ∷ js) ns
-          → ArbitratedTo c p rk (record { model = m; status = st; begun = false }) (j ∷ js) (latestOf (s .bodies) (j ∷ js) (chosen c (s .bodies)))
-          (dispatchedTo (latestOf (s .bodies) (j ∷ js) (chosen c (s .bodies))) s .bodies)
+      latest : Candidate
+      latest = latestOf (s .bodies) (j ∷ js) (chosen c (s .bodies))
+
+      runs : Tied c rk m (s .bodies) (j ∷ js) ns → ArbitratedAs c p rk (still m st) s (j ∷ js)
       runs t =
-          let seat = timed-seat c rk (s .bodies) j js (m .core .runner) (m .core .level) ns (t .seats) in
-          let stays : dispatchedTo (latestOf (s .bodies) (j ∷ js) (chosen c (s .bodies))) s .bodies ≡ s .bodies = rw entered in
+          let seat = latest-seat t in
+          let stays : dispatchedTo latest s .bodies ≡ s .bodies = rw entered in
           rw stays (record {
             nest = ns;
             tied = t;
@@ -122,8 +136,8 @@ module _ {c : Config} {p : Plan} {rk : ℕ → ℕ} (fit : Fitted c p rk) where
           })
 
   -- the winner is above the level
-  module _ {m : Model} {ns : List ℕ} (s : State) (t : Tied c rk m (s .bodies) [] ns) (kinds : Kinds c (s .bodies)) (v : Winner fit (t .words) kinds)
-      (above : m .core .level < priorityOf c (v .body)) where
+  module _ {m : Model} {ns : List ℕ} (s : State) (t : Tied c rk m (s .bodies) [] ns) (kinds : Kinds c (s .bodies))
+      (v : Winner fit (t .words) kinds) (above : m .core .level < priorityOf c (v .body)) where
     abbrev bs : List Body
     bs = s .bodies
 
@@ -137,7 +151,7 @@ module _ {c : Config} {p : Plan} {rk : ℕ → ℕ} (fit : Fitted c p rk) where
     best : (i : ℕ) → i < c .bodies → i ≢ w → competes (at bs i .phase) ≡ true → priorityOf c i < priorityOf c w
     best = winner-best fit (t .words) kinds v
 
-    chosen-w : chosen c bs ≡ record { number = w; level = priorityOf c w; began = isStarted (at bs w .phase); holder = false; timed = false }
+    chosen-w : chosen c bs ≡ bidder w (priorityOf c w) (isStarted (at bs w .phase)) false
     chosen-w = chosen-above fit t w (v .exists) (v .awake) above best
 
     free : at bs w .held ≡ []
@@ -156,7 +170,8 @@ module _ {c : Config} {p : Plan} {rk : ℕ → ℕ} (fit : Fitted c p rk) where
         go : (x : Body) (q : Phase) → x .phase ≡ q → isStarted q ≡ true → become started x ≡ x
         go x suspended e h = absurd (true≢false (sym h))
         go x ready e h = absurd (true≢false (sym h))
-        go x started e h = λ i. record { phase = sym e i; pending = x .pending; held = x .held; losses = x .losses; bits = x .bits }
+        go x started e h = λ i.
+            record { phase = sym e i; pending = x .pending; held = x .held; losses = x .losses; bits = x .bits }
         go x (waiting n) e h = absurd (true≢false (sym h))
         go x (triggered z) e h = absurd (true≢false (sym h))
 
@@ -183,11 +198,12 @@ module _ {c : Config} {p : Plan} {rk : ℕ → ℕ} (fit : Fitted c p rk) where
 
     words′ : Words c rk k′ bs′
     words′ =
-        words-changed fit (t .words) (t .size) w (v .exists) (become started (at bs w)) k′ (t .words .suits w .0, λ h. absurd (true≢false (sym h)))
+        words-changed fit (t .words) (t .size) w (v .exists) (become started (at bs w)) k′
+        (t .words .suits w .0, λ h. absurd (true≢false (sym h)))
         (record {
           asks = asked;
           goes-on = rw (v .rank) (has-with-same (m .core .started) W winner-lt);
-          put-aside = t .words .put-aside w (v .exists) ∙ running (at bs w .phase) (v .awake);
+          put-aside = t .words .put-aside w (v .exists) ∙ competes-on (at bs w .phase) (v .awake);
           quiet = λ h. absurd (true≢false h);
         })
         (record {
@@ -206,30 +222,16 @@ module _ {c : Config} {p : Plan} {rk : ℕ → ℕ} (fit : Fitted c p rk) where
         W = winner (bids (m .core))
 
         request-lt : (b : Bool) → cond b (without q W) q < 2 ^ 32
-        request-lt true = without-lt q W (t .words .request-lt)
-        request-lt false = t .words .request-lt
+        request-lt b =
+            cond-either (λ (w : ℕ). w < 2 ^ 32) b _ _ (without-lt q W (t .words .request-lt)) (t .words .request-lt)
 
         other : (b : Bool) (r : ℕ) → r ≢ W → has (cond b (without q W) q) r ≡ has q r
         other true r n = has-without-other q W r n
         other false r n = refl
 
-        -- it goes on by its priority
-        running : (f : Phase) → competes f ≡ true → isAside f ≡ false
-        running suspended h = refl
-        running ready h = refl
-        running started h = refl
-        running (waiting n) h = absurd (true≢false (sym h))
-        running (triggered z) h = absurd (true≢false (sym h))
-
-        second : (x : Body) (f : Phase) → isStarted f ≡ true → requestWaits x f ≡ x .pending
-        second x suspended h = absurd (true≢false (sym h))
-        second x ready h = absurd (true≢false (sym h))
-        second x started h = refl
-        second x (waiting n) h = absurd (true≢false (sym h))
-        second x (triggered z) h = absurd (true≢false (sym h))
-
-        left : (b : Bool) → isStarted (at bs w .phase) ≡ b → has (cond (not b) (without q W) q) (rk w) ≡ at bs w .pending
-        left true e = t .words .asks w (v .exists) ∙ second (at bs w) (at bs w .phase) e
+        left : (b : Bool) → isStarted (at bs w .phase) ≡ b
+            → has (cond (not b) (without q W) q) (rk w) ≡ at bs w .pending
+        left true e = t .words .asks w (v .exists) ∙ started-waits (at bs w) (at bs w .phase) e
         left false e = rw (v .rank) (has-without-same q W) ∙ sym (t .words .quiet w e)
 
         asked : has (cond (beginning (m .core)) (without q W) q) (rk w) ≡ at bs w .pending
@@ -251,13 +253,15 @@ module _ {c : Config} {p : Plan} {rk : ℕ → ℕ} (fit : Fitted c p rk) where
         let l : current c w (at bs w) ≤ levelAt c bs ks = rw e at (nest-level c bs i ks (below .nested) h) in
         omega (arith, low, current-own c w (at bs w))
 
-    alike : (i : ℕ) → among i ks ≡ true → Alike (at bs i) (at bs′ i)
-    alike i h = alike-same (sym (at-other i (other i h)))
+    alike : AlikeAlong bs bs′ ks
+    alike = alike-outside w (become started (at bs w)) other
 
     nested′ : Nested c bs′ (w ∷ ks)
     unfolding Nested
     nested′ =
-        (v .exists, (ap (λ (x : Body). isStarted (x .phase)) at-w, (rw (sym (levelAt-alike c rk bs bs′ ks alike)) low, nested-alike c rk bs bs′ ks alike (below .nested))))
+        let begun = ap (λ (x : Body). isStarted (x .phase)) at-w in
+        let low′ : levelAt c bs′ ks < priorityOf c w = rw (sym (levelAt-alike c alike)) low in
+        (v .exists, (begun, (low′, nested-alike c alike (below .nested))))
 
     level′ : winning (p .priority) (m .core) ≡ current c w (at bs′ w)
     level′ = winning-is fit (t .words) kinds v ∙ sym (rw (at-w, free))
@@ -265,8 +269,8 @@ module _ {c : Config} {p : Plan} {rk : ℕ → ℕ} (fit : Fitted c p rk) where
     slots-same : slotsAlong c rk bs ks ≡ slotsAlong c rk bs′ (w ∷ ks)
     unfolding slotsAlong slotsFor
     slots-same =
-        slotsAlong-alike c rk bs bs′ ks alike
-        ∙ sym (ap (λ (rs : List ℕ). slotsFor c rk w rs ++ slotsAlong c rk bs′ ks) (ap (λ (b : Body). b .held) at-w ∙ free))
+        slotsAlong-alike c rk alike
+        ∙ sym (rw (at-w, free))
 
     tied′ : Tied c rk (withCore m k′) bs′ [] (w ∷ ks)
     unfolding Seats
@@ -275,7 +279,7 @@ module _ {c : Config} {p : Plan} {rk : ℕ → ℕ} (fit : Fitted c p rk) where
           size = length-set bs w (become started (at bs w)) ∙ t .size;
           words = words′;
           nested = nested′;
-          seats = (sym (v .rank), (level′, hold-alike c rk bs bs′ ks alike (below .hold)));
+          seats = (sym (v .rank), (level′, hold-alike alike (below .hold)));
           slots = rw (sym slots-same) (below .slots);
           loose = λ i h. by-eq i w
               (λ e. rw (e, at-w) free)
@@ -286,19 +290,19 @@ module _ {c : Config} {p : Plan} {rk : ℕ → ℕ} (fit : Fitted c p rk) where
     calm′ i i< a =
         by-eq i w
         (λ e. omega (arith, winning-is fit (t .words) kinds v, ap (priorityOf c) e))
-        (λ n. omega (arith, winning-is fit (t .words) kinds v, best i i< n (sym (ap (λ (x : Body). competes (x .phase)) (at-other i n)) ∙ a)))
+        (λ n. omega (arith, winning-is fit (t .words) kinds v, best i i< n (rw (at-other i n) at a)))
 
     -- "it is dispatched only if its priority is strictly above the level", which it is
-    dispatches : arbitrated (p .priority) (m .core) ≡ record { core = dispatching (p .priority) (m .core); begun = beginning (m .core) }
+    dispatches : arbitrated (p .priority) (m .core) ≡ record { core = k′; begun = beginning (m .core) }
     unfolding arbitrated
     dispatches =
-        ap (λ (b : Bool). cond b (picks (dispatching (p .priority) (m .core)) (beginning (m .core))) (picks (m .core) false))
+        ap (λ (b : Bool). cond b (picks k′ (beginning (m .core))) (picks (m .core) false))
         (lt-ltb (m .core .level) (winning (p .priority) (m .core)) (rw (winning-is fit (t .words) kinds v) above))
       where
         picks : Core → Bool → Picked
         picks k b = record { core = k; begun = b }
 
-    settled-above : ArbitratedTo c p rk (settled (p .priority) m) [] (chosen c bs) (dispatchedTo (chosen c bs) s .bodies)
+    settled-above : ArbitratedAs c p rk (settled (p .priority) m) s []
     settled-above =
         rw (dispatches, dispatched-is)
         (record {
@@ -307,47 +311,54 @@ module _ {c : Config} {p : Plan} {rk : ℕ → ℕ} (fit : Fitted c p rk) where
           calm = calm′;
           number = rw chosen-w (runnerOf-is (withCore m k′) w (v .exists) (sym (v .rank)));
           level = rw chosen-w (winning-is fit (t .words) kinds v);
-          begun = rw chosen-w (beginning-is ∙ begins-is (priorityOf c w) (isStarted (at bs w .phase)) (fit .own-some w (v .exists)));
+          begun = rw chosen-w (beginning-is ∙ begins-is (isStarted (at bs w .phase)));
         })
       where
-        begins-is : (n : ℕ) (b : Bool) → 1 ≤ n → not b ≡ not (eqb n 0) && not b
-        begins-is n b h = rw (ne-eqb n 0 (λ z. absurd (omega arith)))
+        begins-is : (b : Bool) → not b ≡ not (eqb (priorityOf c w) 0) && not b
+        begins-is b = rw (ne-eqb (priorityOf c w) 0 (λ z. absurd (omega (arith, z, fit .own-some w (v .exists)))))
 
   settled-plain : {m : Model} {ns : List ℕ} (s : State) → Kinds c (s .bodies) → Tied c rk m (s .bodies) [] ns
-      → ArbitratedTo c p rk (settled (p .priority) m) [] (chosen c (s .bodies)) (dispatchedTo (chosen c (s .bodies)) s .bodies)
+      → ArbitratedAs c p rk (settled (p .priority) m) s []
   unfolding arbitrated
   settled-plain {m} {ns} s kinds t =
       by-lt (m .core .level) (winning (p .priority) (m .core))
       (λ above. let v = winner-above fit (t .words) kinds above in
       settled-above s t kinds v (rw (sym (winning-is fit (t .words) kinds v)) above))
-      (λ low. rw (le-ltb (m .core .level) (winning (p .priority) (m .core)) low) (calm-plain s 0 t (calm-below fit (t .words) kinds low)))
+      (λ low. rw (le-ltb (m .core .level) (winning (p .priority) (m .core)) low)
+      (calm-plain s 0 t (calm-below fit (t .words) kinds low)))
 
   -- no priority is above the level of a time-triggered task
-  timed-settled : {m : Model} {bs : List Body} {ns : List ℕ} (j : ℕ) (js : List ℕ) → Kinds c bs → Tied c rk m bs (j ∷ js) ns
-      → settled (p .priority) m ≡ record { model = m; status = 0; begun = false }
+  timed-settled : {m : Model} {bs : List Body} {ns : List ℕ} {j : ℕ} {js : List ℕ} → Kinds c bs
+      → Tied c rk m bs (j ∷ js) ns → settled (p .priority) m ≡ still m 0
   unfolding arbitrated
-  timed-settled {m} {bs} {ns} j js kinds t =
-      let seat = timed-seat c rk bs j js (m .core .runner) (m .core .level) ns (t .seats) in
+  timed-settled {m} kinds t =
       by-lt (m .core .level) (winning (p .priority) (m .core))
       (λ above. let v = winner-above fit (t .words) kinds above in
-      absurd (omega (arith, above, seat .1 .0, winning-is fit (t .words) kinds v, fit .own-few (v .body) (v .exists))))
+      absurd (omega (
+        arith,
+        above,
+        latest-seat t .1 .0,
+        winning-is fit (t .words) kinds v,
+        fit .own-few (v .body) (v .exists),
+      )))
       (λ low. rw (le-ltb (m .core .level) (winning (p .priority) (m .core)) low))
 
   -- whoever runs
-  pub settled-tied : {m : Model} {ns : List ℕ} (s : State) → Seated c s → Kinds c (s .bodies) → Tied c rk m (s .bodies) (s .order) ns
-      → Arbitrated c p rk (settled (p .priority) m) s
+  pub settled-tied : {m : Model} {ns : List ℕ} (s : State) → Seated c s → Kinds c (s .bodies)
+      → Tied c rk m (s .bodies) (s .order) ns → Arbitrated c p rk (settled (p .priority) m) s
   settled-tied {m} {ns} s seated kinds t = by (s .order) refl
     where
-      by : (os : List ℕ) → s .order ≡ os → Arbitrated c p rk (settled (p .priority) m) s
+      by : (js : List ℕ) → s .order ≡ js → Arbitrated c p rk (settled (p .priority) m) s
       by [] e = plainly s e (settled-plain s kinds (rw e at t))
       by (j ∷ js) e =
           let h = seated j js e in
-          rw (timed-settled j js kinds (rw e at t)) (timed-on s 0 j js e (h .0) (h .1) t)
+          rw (timed-settled kinds (rw e at t)) (timed-on s 0 j js e (h .0) (h .1) t)
 
-  pub calm-arbitrated : {m : Model} {ns : List ℕ} (s : State) (st : ℕ) → Seated c s → Tied c rk m (s .bodies) (s .order) ns
-      → Calm c (m .core .level) (s .bodies) → Arbitrated c p rk (record { model = m; status = st; begun = false }) s
+  pub calm-arbitrated : {m : Model} {ns : List ℕ} (s : State) (st : ℕ) → Seated c s
+      → Tied c rk m (s .bodies) (s .order) ns → Calm c (m .core .level) (s .bodies)
+      → Arbitrated c p rk (still m st) s
   calm-arbitrated {m} {ns} s st seated t calm = by (s .order) refl
     where
-      by : (os : List ℕ) → s .order ≡ os → Arbitrated c p rk (record { model = m; status = st; begun = false }) s
+      by : (js : List ℕ) → s .order ≡ js → Arbitrated c p rk (still m st) s
       by [] e = plainly s e (calm-plain s st (rw e at t) calm)
       by (j ∷ js) e = let h = seated j js e in timed-on s st j js e (h .0) (h .1) t

@@ -2,15 +2,14 @@
 --
 --   Holders c rk m bs   the bodies that hold a resource, nested, with a level at most the model's
 --   holders             of every model there are such
-use Prim.Native.Nat.{ℕ, max, _≤_, _<_}
+use Prim.Native.Nat.{ℕ, _≤_, _<_}
 use mathlib.Core.Path.{_≡_, refl, sym, _∙_}
 use mathlib.Core.Bool.{false, true≢false}
-use mathlib.Core.List.{List, [], _∷_, foldr, map}
+use mathlib.Core.List.{List, [], _∷_}
 use native.Mathlib.Omega.{arith}
 use Rattle.number.proofs.Cases.{by-eq}
 use Rattle.config.specs.declared.Config.{Config}
 use Rattle.config.specs.Value.{maxPriority}
-use Rattle.config.specs.Meaning.{priorityOf, ceiling}
 use Rattle.plan.specs.declared.Plan.{Plan}
 use Rattle.plan.proofs.Fitted.{Fitted}
 use Rattle.scheduler.specs.Body.{Body, current}
@@ -18,16 +17,16 @@ use Rattle.scheduler.specs.State.{among}
 use Rattle.scheduler.proofs.Choice.{current-own}
 use Rattle.machine.specs.Model.{Model}
 use Rattle.machine.proofs.Relation.Words.{at}
-use Rattle.machine.proofs.Relation.Slots.{slotsFor, slotsAlong, Slots}
-use Rattle.machine.proofs.Relation.Nest.{levelAt, Nested, AllHold, Seats, timed-seat, by-among, not-among, among-nil}
-use Rattle.machine.proofs.Relation.Whole.{Tied}
+use Rattle.machine.proofs.Relation.Slots.{levelWith, slotsFor, slotsAlong, SlotsOf}
+use Rattle.machine.proofs.Relation.Nest.{levelAt, Nested, AllHold, Seats, by-among, not-among, among-nil}
+use Rattle.machine.proofs.Relation.Whole.{Tied, latest-seat}
 
 pub record Holders (c : Config) (rk : ℕ → ℕ) (m : Model) (bs : List Body) : Type 0 where
   pub nest : List ℕ
   pub nested : Nested c bs nest
   pub hold : AllHold bs nest
   pub low : levelAt c bs nest ≤ m .core .level
-  pub slots : Slots (m .held) (m .resource) (m .holder) (m .raised) (slotsAlong c rk bs nest)
+  pub slots : SlotsOf m (slotsAlong c rk bs nest)
   pub loose : (b : ℕ) → among b nest ≡ false → at bs b .held ≡ []
 
 -- every current priority is one that a body may have
@@ -35,7 +34,7 @@ module _ {c : Config} {p : Plan} {rk : ℕ → ℕ} (fit : Fitted c p rk) where
   pub current-few : (b : ℕ) (x : Body) → b < c .bodies → current c b x ≤ maxPriority
   current-few b x h = go (x .held)
     where
-      go : (rs : List ℕ) → foldr max (priorityOf c b) (map (ceiling c) rs) ≤ maxPriority
+      go : (rs : List ℕ) → levelWith c b rs ≤ maxPriority
       go [] = fit .own-few b h
       go (r ∷ rs) = let low = go rs in omega (arith, fit .ceiling-few r)
 
@@ -49,7 +48,7 @@ module _ {c : Config} {p : Plan} {rk : ℕ → ℕ} (fit : Fitted c p rk) {m : M
   pub holders : (js : List ℕ) {ns : List ℕ} → Tied c rk m bs js ns → Holders c rk m bs
   unfolding Nested Seats levelAt slotsAlong slotsFor
   holders (j ∷ js) {ns} t =
-      let k = timed-seat c rk bs j js (m .core .runner) (m .core .level) ns (t .seats) in
+      let k = latest-seat t in
       record {
         nest = ns;
         nested = t .nested;
@@ -61,8 +60,16 @@ module _ {c : Config} {p : Plan} {rk : ℕ → ℕ} (fit : Fitted c p rk) {m : M
   holders [] {ns} t = go ns (t .nested) (t .seats) (t .slots) (t .loose)
     where
       go : (ns : List ℕ) → Nested c bs ns → Seats c rk bs [] (m .core .runner) (m .core .level) ns
-          → Slots (m .held) (m .resource) (m .holder) (m .raised) (slotsAlong c rk bs ns) → ((b : ℕ) → among b ns ≡ false → at bs b .held ≡ []) → Holders c rk m bs
-      go [] k s q l = record { nest = []; nested = k; hold = λ i h. absurd (true≢false (sym h ∙ among-nil i)); low = omega arith; slots = q; loose = l }
+          → SlotsOf m (slotsAlong c rk bs ns) → ((b : ℕ) → among b ns ≡ false → at bs b .held ≡ []) → Holders c rk m bs
+      go [] k s q l =
+          record {
+            nest = [];
+            nested = k;
+            hold = λ i h. absurd (true≢false (sym h ∙ among-nil i));
+            low = omega arith;
+            slots = q;
+            loose = l;
+          }
       go (b ∷ ns) k s q l = by (at bs b .held) refl
         where
           by : (rs : List ℕ) → at bs b .held ≡ rs → Holders c rk m bs

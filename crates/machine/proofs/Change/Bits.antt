@@ -10,6 +10,7 @@ use mathlib.Core.List.{List}
 use native.Mathlib.Omega.{arith}
 use lib.ListN.{length, getD, set, length-set}
 use lib.Seq.{getD-set-same, getD-set-other}
+use Rattle.number.proofs.Cases.{cond-either}
 use Rattle.config.specs.declared.Config.{Config}
 use Rattle.plan.specs.declared.Plan.{Plan}
 use Rattle.word.specs.Word.{has, with, without}
@@ -21,20 +22,20 @@ use Rattle.machine.specs.Model.{Core, Model, withBegun}
 use Rattle.machine.specs.Events.{bitsAt, resumes, receiving}
 use Rattle.plan.proofs.Fitted.{Fitted}
 use Rattle.machine.proofs.Relation.Words.{at, isAside, Words, words-changed}
-use Rattle.machine.proofs.Relation.Bits.{noted, Noted, noted-changed}
+use Rattle.machine.proofs.Relation.Bits.{noted, Noted, NotedOf, noted-changed}
 use Rattle.machine.proofs.Relation.Nest.{nest-started}
 use Rattle.machine.proofs.Relation.Whole.{Tied}
 use Rattle.machine.proofs.Arbitration.Dispatch.{rank-below}
 use Rattle.machine.proofs.Change.Request.{touched-tied, events-tied}
 
 -- the bits that count of a body that isn't suspended are its bits
-module _ {c : Config} {rk : ℕ → ℕ} (m : Model) {bs : List Body} (n : Noted c rk (m .cleared) (m .bits) (m .waited) bs) (b : ℕ) (b< : b < c .bodies)
+module _ {c : Config} {rk : ℕ → ℕ} (m : Model) {bs : List Body} (n : NotedOf c rk m bs) (b : ℕ) (b< : b < c .bodies)
     (active : isSuspended (at bs b .phase) ≡ false) where
   pub bits-of : bitsAt m (rk b) ≡ at bs b .bits
   bits-of = n .bits-are b b< ∙ rw active
 
-module _ {c : Config} {p : Plan} {rk : ℕ → ℕ} (fit : Fitted c p rk) (m : Model) {bs : List Body} (b : ℕ) (b< : b < c .bodies)
-    (n : Noted c rk (m .cleared) (m .bits) (m .waited) bs) (active : isSuspended (at bs b .phase) ≡ false) (w : ℕ) where
+module _ {c : Config} {p : Plan} {rk : ℕ → ℕ} (fit : Fitted c p rk) (m : Model) {bs : List Body} (b : ℕ)
+    (b< : b < c .bodies) (n : NotedOf c rk m bs) (active : isSuspended (at bs b .phase) ≡ false) (w : ℕ) where
   abbrev e : ℕ
   e = withBits (at bs b .bits) w
 
@@ -46,11 +47,7 @@ module _ {c : Config} {p : Plan} {rk : ℕ → ℕ} (fit : Fitted c p rk) (m : M
   resumed-active suspended h = absurd (true≢false h)
   resumed-active ready h = refl
   resumed-active started h = refl
-  resumed-active (waiting v) h = go (anySet e v)
-    where
-      go : (z : Bool) → isSuspended (cond z started (waiting v)) ≡ false
-      go true = refl
-      go false = refl
+  resumed-active (waiting v) h = cond-either (λ (q : Phase). isSuspended q ≡ false) (anySet e v) _ _ refl refl
   resumed-active (triggered x) h = refl
 
   resumed-waits : (q : Phase) (v : ℕ) → resumed e q ≡ waiting v → q ≡ waiting v
@@ -71,17 +68,20 @@ module _ {c : Config} {p : Plan} {rk : ℕ → ℕ} (fit : Fitted c p rk) (m : M
         ap (λ (z : Bool). cond z 0 (getD (set (m .bits) (rk b) v) (rk b) 0)) (has-without-same (m .cleared) (rk b))
         ∙ getD-set-same (m .bits) (rk b) v 0 (omega (arith, n .bits-long, rank-below fit b b<))
 
-    stored-other : (r : ℕ) → r ≢ rk b → noted (without (m .cleared) (rk b)) (set (m .bits) (rk b) v) r ≡ noted (m .cleared) (m .bits) r
-    stored-other r d = ap₂ (λ (z : Bool) (u : ℕ). cond z 0 u) (has-without-other (m .cleared) (rk b) r d) (getD-set-other (m .bits) (rk b) r v 0 d)
+    stored-other : (r : ℕ) → r ≢ rk b
+        → noted (without (m .cleared) (rk b)) (set (m .bits) (rk b) v) r ≡ noted (m .cleared) (m .bits) r
+    stored-other r d =
+        ap₂ (λ (z : Bool) (u : ℕ). cond z 0 u)
+        (has-without-other (m .cleared) (rk b) r d)
+        (getD-set-other (m .bits) (rk b) r v 0 d)
 
   -- after a Set they are those that the body had and those of w
   received : bitsAt (receiving (rk b) w m) (rk b) ≡ e
   received = stored-here (withBits (bitsAt m (rk b)) w) ∙ bits-after
 
-  pub receive-noted : length bs ≡ c .bodies
-      → Noted c rk (receiving (rk b) w m .cleared) (receiving (rk b) w m .bits) (receiving (rk b) w m .waited) (set bs b (receives w (at bs b)))
+  pub receive-noted : length bs ≡ c .bodies → NotedOf c rk (receiving (rk b) w m) (set bs b (receives w (at bs b)))
   receive-noted size =
-      noted-changed fit n size b b< (receives w (at bs b)) (receiving (rk b) w m .cleared) (receiving (rk b) w m .bits) (receiving (rk b) w m .waited)
+      noted-changed fit n size b b< (receives w (at bs b)) _ _ _
       (length-set (m .bits) (rk b) _ ∙ n .bits-long)
       (n .masks-long)
       (received ∙ sym (ap (λ (z : Bool). cond z 0 e) (resumed-active (at bs b .phase) active)))
@@ -123,13 +123,16 @@ module _ {c : Config} {p : Plan} {rk : ℕ → ℕ} (fit : Fitted c p rk) (m : M
     abbrev Moved : Phase → Bool → Type 0
     Moved q x = (has (begins x) (rk b) ≡ isStarted (resumed e q)) × (has (leaves x) (rk b) ≡ isAside (resumed e q))
 
-    put-aside : (q : Phase) → at bs b .phase ≡ q → go ≡ isAside q && anySet (withBits (bitsAt m (rk b)) w) (getD (m .waited) (rk b) 0)
-    put-aside q z =
-        ap (λ (x : Bool). x && anySet (withBits (bitsAt m (rk b)) w) (getD (m .waited) (rk b) 0)) (t .words .put-aside b b< ∙ ap isAside z)
+    -- a bit is set that it would wait for
+    abbrev wanted : Bool
+    wanted = anySet (withBits (bitsAt m (rk b)) w) (getD (m .waited) (rk b) 0)
+
+    put-aside : (q : Phase) → at bs b .phase ≡ q → go ≡ isAside q && wanted
+    put-aside q z = ap (λ (x : Bool). x && wanted) (t .words .put-aside b b< ∙ ap isAside z)
 
     stays : (q : Phase) → at bs b .phase ≡ q → resumed e q ≡ q → isAside q ≡ false → Moved q go
     stays q z same on =
-        let unmoved : go ≡ false = put-aside q z ∙ ap (λ (x : Bool). x && anySet (withBits (bitsAt m (rk b)) w) (getD (m .waited) (rk b) 0)) on in
+        let unmoved : go ≡ false = put-aside q z ∙ ap (λ (x : Bool). x && wanted) on in
         subst (Moved q) (sym unmoved)
         (t .words .goes-on b b< ∙ ap isStarted (z ∙ sym same), t .words .put-aside b b< ∙ ap isAside (z ∙ sym same))
 
@@ -143,8 +146,11 @@ module _ {c : Config} {p : Plan} {rk : ℕ → ℕ} (fit : Fitted c p rk) (m : M
         go-is : go ≡ anySet e v
         go-is = put-aside (waiting v) z ∙ rw (bits-after, n .mask-is b v b< z)
 
-        by : (x : Bool) → (has (begins x) (rk b) ≡ isStarted (cond x started (waiting v))) × (has (leaves x) (rk b) ≡ isAside (cond x started (waiting v)))
-        by true = (has-with-same (m .core .started) (rk b) (rank-below fit b b<), has-without-same (m .core .aside) (rk b))
+        by : (x : Bool)
+            → (has (begins x) (rk b) ≡ isStarted (cond x started (waiting v)))
+            × (has (leaves x) (rk b) ≡ isAside (cond x started (waiting v)))
+        by true =
+            (has-with-same (m .core .started) (rk b) (rank-below fit b b<), has-without-same (m .core .aside) (rk b))
         by false = (t .words .goes-on b b< ∙ ap isStarted z, t .words .put-aside b b< ∙ ap isAside z)
 
     -- who is put aside then was so before, and who was started is so
@@ -174,20 +180,19 @@ module _ {c : Config} {p : Plan} {rk : ℕ → ℕ} (fit : Fitted c p rk) (m : M
         })
         (record {
           request-lt = t .words .request-lt;
-          started-lt = started-lt go;
-          aside-lt = aside-lt go;
+          started-lt = lt-either go _ _
+              (with-lt (m .core .started) (rk b) (t .words .started-lt))
+              (t .words .started-lt);
+          aside-lt = lt-either go _ _
+              (without-lt (m .core .aside) (rk b) (t .words .aside-lt))
+              (t .words .aside-lt);
           asks = λ r d. refl;
           goes-on = λ r d. started-other go r d;
           put-aside = λ r d. aside-other go r d;
         })
       where
-        started-lt : (x : Bool) → begins x < 2 ^ 32
-        started-lt true = with-lt (m .core .started) (rk b) (t .words .started-lt)
-        started-lt false = t .words .started-lt
-
-        aside-lt : (x : Bool) → leaves x < 2 ^ 32
-        aside-lt true = without-lt (m .core .aside) (rk b) (t .words .aside-lt)
-        aside-lt false = t .words .aside-lt
+        lt-either : (x : Bool) (u v : ℕ) → u < 2 ^ 32 → v < 2 ^ 32 → cond x u v < 2 ^ 32
+        lt-either = cond-either (λ (w : ℕ). w < 2 ^ 32)
 
         started-other : (x : Bool) (r : ℕ) → r ≢ rk b → has (begins x) r ≡ has (m .core .started) r
         started-other true r d = has-with-other (m .core .started) (rk b) r d
@@ -201,7 +206,8 @@ module _ {c : Config} {p : Plan} {rk : ℕ → ℕ} (fit : Fitted c p rk) (m : M
     pub receive-tied : Tied c rk (receiving (rk b) w m) (set bs b (receives w (at bs b))) js ns
     receive-tied =
         events-tied
-        (touched-tied t fit b b< y refl (λ h. like (at bs b .phase) (nest-started c bs b ns (t .nested) h)) k words refl refl)
+        (touched-tied t fit b b< y refl (λ h. like (at bs b .phase) (nest-started c bs b ns (t .nested) h)) k words
+        refl refl)
         (without (m .cleared) (rk b))
         (set (m .bits) (rk b) (withBits (bitsAt m (rk b)) w))
         (m .waited)
@@ -213,14 +219,19 @@ module _ {c : Config} {p : Plan} {rk : ℕ → ℕ} (fit : Fitted c p rk) (m : M
         like (waiting v) h = absurd (true≢false (sym h))
         like (triggered x) h = refl
 
+  -- the bits that are left
+  abbrev left : ℕ
+  left = withoutBits (bitsAt m (rk b)) w
+
   pub clear-noted : length bs ≡ c .bodies
-      → Noted c rk (without (m .cleared) (rk b)) (set (m .bits) (rk b) (withoutBits (bitsAt m (rk b)) w)) (m .waited) (set bs b (clears w (at bs b)))
+      → Noted c rk (without (m .cleared) (rk b)) (set (m .bits) (rk b) left) (m .waited) (set bs b (clears w (at bs b)))
   clear-noted size =
-      noted-changed fit n size b b< (clears w (at bs b)) (without (m .cleared) (rk b)) (set (m .bits) (rk b) (withoutBits (bitsAt m (rk b)) w)) (m .waited)
-      (length-set (m .bits) (rk b) (withoutBits (bitsAt m (rk b)) w) ∙ n .bits-long)
+      noted-changed fit n size b b< (clears w (at bs b)) _ _ _
+      (length-set (m .bits) (rk b) left ∙ n .bits-long)
       (n .masks-long)
-      (stored-here (withoutBits (bitsAt m (rk b)) w) ∙ ap (λ (v : ℕ). withoutBits v w) (bits-of m n b b< active)
+      (stored-here left
+      ∙ ap (λ (v : ℕ). withoutBits v w) (bits-of m n b b< active)
       ∙ sym (ap (λ (z : Bool). cond z 0 (withoutBits (at bs b .bits) w)) active))
       (λ v h. n .mask-is b v b< h)
-      (stored-other (withoutBits (bitsAt m (rk b)) w))
+      (stored-other left)
       (λ r d. refl)

@@ -1,4 +1,5 @@
--- The runner leaves: whoever took the latest resource that is held takes its seat, at the level of that resource, or nobody does.
+-- The runner leaves: whoever took the latest resource that is held takes its seat, at the level of that resource, or
+-- nobody does.
 --
 --   end-tied     the runner ends
 --   pause-tied   the runner waits for an event bit
@@ -9,34 +10,33 @@ use mathlib.Core.Bool.{Bool, true, false, true≢false, cond}
 use mathlib.Core.List.{List, [], _∷_, _++_}
 use native.Mathlib.Omega.{arith}
 use borrow.Author.Tests.{eq-eqb, ne-eqb}
-use lib.Dec.{eqb}
 use lib.ListN.{set, length-set}
 use lib.Seq.{getD-set-same, getD-set-other}
-use Rattle.number.proofs.Cases.{by-eq}
+use Rattle.number.proofs.Cases.{by-eq, cond-either, refuted}
 use Rattle.config.specs.declared.Config.{Config}
 use Rattle.config.specs.Meaning.{isIsr}
 use Rattle.plan.specs.declared.Plan.{Plan}
 use Rattle.word.specs.Word.{with, without}
 use Rattle.word.proofs.Theorems.{has-with-same, has-with-other, with-lt, has-without-same, has-without-other, without-lt}
 use Rattle.stack.specs.Stack.{topRow}
-use Rattle.scheduler.specs.Body.{Body, isStarted, Phase, suspended, ready, started, waiting, triggered, become, activated, ended, finished, holds, current}
-use Rattle.scheduler.specs.State.{noBody, among}
-use Rattle.scheduler.specs.Call.{requestWaits}
+use Rattle.scheduler.specs.Body.{Body, isStarted, started, waiting, become, activated, ended, finished, holds, current}
+use Rattle.scheduler.specs.State.{noBody}
+use Rattle.scheduler.proofs.Distinct.{among-head, among-tail}
 use Rattle.machine.specs.Model.{Model, noRank, withCore}
 use Rattle.machine.specs.Arbiter.{lastLevel, leftWith, vacated, leaving, paused}
 use Rattle.machine.specs.Events.{pausing}
 use Rattle.plan.proofs.Fitted.{Fitted}
 use Rattle.machine.proofs.Relation.Rows.{row-shows-top}
-use Rattle.machine.proofs.Relation.Words.{at, wants, isAside, Words, words-changed}
-use Rattle.machine.proofs.Relation.Slots.{slotsFor, slotsAlong, Slots}
-use Rattle.machine.proofs.Relation.Nest.{Nested, AllHold, Seats, Alike, alike-same, among-head, among-tail, not-among, nest-other, nested-alike, hold-alike, slotsAlong-alike}
+use Rattle.machine.proofs.Relation.Words.{at, wants, isAside, Words, words-changed, started-competes, competes-on, started-waits}
+use Rattle.machine.proofs.Relation.Slots.{slotsFor, slotsAlong, SlotsOf}
+use Rattle.machine.proofs.Relation.Nest.{Nested, AllHold, Seats, AlikeAlong, alike-outside, not-among, nest-other, nested-alike, hold-alike, slotsAlong-alike}
 use Rattle.machine.proofs.Relation.Whole.{Tied}
 use Rattle.machine.proofs.Arbitration.Dispatch.{rank-below}
 use Rattle.machine.proofs.Change.Request.{events-tied}
 
 -- the last slot's holder takes the seat, at its level
 module _ {c : Config} {p : Plan} {rk : ℕ → ℕ} (fit : Fitted c p rk) (m : Model) (bs : List Body) where
-  pub last-seated : (ns : List ℕ) → Nested c bs ns → AllHold bs ns → Slots (m .held) (m .resource) (m .holder) (m .raised) (slotsAlong c rk bs ns)
+  pub last-seated : (ns : List ℕ) → Nested c bs ns → AllHold bs ns → SlotsOf m (slotsAlong c rk bs ns)
       → Seats c rk bs [] (topRow (m .holder)) (lastLevel m) ns
   unfolding Seats slotsAlong slotsFor Nested
   last-seated [] k h q =
@@ -45,14 +45,16 @@ module _ {c : Config} {p : Plan} {rk : ℕ → ℕ} (fit : Fitted c p rk) (m : M
   last-seated (b ∷ ns) k h q = go (at bs b .held) refl (h b (among-head b ns)) q
     where
       go : (rs : List ℕ) → at bs b .held ≡ rs → holds (at bs b .held) ≡ true
-          → Slots (m .held) (m .resource) (m .holder) (m .raised) (slotsFor c rk b (at bs b .held) ++ slotsAlong c rk bs ns)
+          → SlotsOf m (slotsFor c rk b (at bs b .held) ++ slotsAlong c rk bs ns)
           → Seats c rk bs [] (topRow (m .holder)) (lastLevel m) (b ∷ ns)
       go [] e some q = absurd (true≢false (sym (rw e at some)))
       go (r ∷ rs) e some q =
           let first : topRow (m .holder) ≡ rk b = row-shows-top (m .holder) _ ((rw e at q) .holders) in
-          let level : topRow (m .raised) ≡ current c b (at bs b) = row-shows-top (m .raised) _ ((rw e at q) .levels) ∙ sym (rw e) in
-          let some : eqb (topRow (m .holder)) noRank ≡ false = ne-eqb (topRow (m .holder)) noRank (λ z. absurd (omega (arith, z, first, rank-below fit b (k .0)))) in
-          (first, (ap (λ (x : Bool). cond x 0 (topRow (m .raised))) some ∙ level, λ i a. h i (among-tail i b ns a)))
+          let level : topRow (m .raised) ≡ current c b (at bs b) =
+          row-shows-top (m .raised) _ ((rw e at q) .levels) ∙ sym (rw e) in
+          let seated : topRow (m .holder) ≢ noRank = λ z. absurd (omega (arith, z, first, rank-below fit b (k .0))) in
+          let raised = ap (λ (x : Bool). cond x 0 (topRow (m .raised))) (ne-eqb (topRow (m .holder)) noRank seated) in
+          (first, (raised ∙ level, λ i a. h i (among-tail i b ns a)))
 
 -- the runner b, which holds nothing, becomes y, and leaves the level; the words are s and a then
 module _ {c : Config} {p : Plan} {rk : ℕ → ℕ} (fit : Fitted c p rk) {m : Model} {bs : List Body} {b : ℕ} {ns : List ℕ}
@@ -87,24 +89,24 @@ module _ {c : Config} {p : Plan} {rk : ℕ → ℕ} (fit : Fitted c p rk) {m : M
     at-other : (i : ℕ) → i ≢ b → at bs′ i ≡ at bs i
     at-other i n = getD-set-other bs b i y noBody n
 
-    alike : (i : ℕ) → among i ns ≡ true → Alike (at bs i) (at bs′ i)
-    alike i h = alike-same (sym (at-other i (nest-other c bs b i ns (t .nested) h)))
+    alike : AlikeAlong bs bs′ ns
+    alike = alike-outside b y (λ i h. nest-other c bs b i ns (t .nested) h)
 
     slots-same : slotsAlong c rk bs (b ∷ ns) ≡ slotsAlong c rk bs′ ns
     unfolding slotsAlong slotsFor
-    slots-same = ap (λ (rs : List ℕ). slotsFor c rk b rs ++ slotsAlong c rk bs ns) free ∙ slotsAlong-alike c rk bs bs′ ns alike
+    slots-same = rw free (slotsAlong-alike c rk alike)
 
-    slots′ : Slots (m .held) (m .resource) (m .holder) (m .raised) (slotsAlong c rk bs′ ns)
+    slots′ : SlotsOf m (slotsAlong c rk bs′ ns)
     slots′ = rw (sym slots-same) (t .slots)
 
     left-tied : Tied c rk (withCore m (leftWith m s a)) bs′ [] ns
     left-tied =
-        let nested′ = nested-alike c rk bs bs′ ns alike below in
+        let nested′ = nested-alike c alike below in
         record {
           size = length-set bs b y ∙ t .size;
           words = words;
           nested = nested′;
-          seats = last-seated fit m bs′ ns nested′ (hold-alike c rk bs bs′ ns alike hold) slots′;
+          seats = last-seated fit m bs′ ns nested′ (hold-alike alike hold) slots′;
           slots = slots′;
           loose = λ i h. by-eq i b
               (λ z. rw (z, at-b) held)
@@ -119,13 +121,20 @@ module _ {c : Config} {p : Plan} {rk : ℕ → ℕ} (fit : Fitted c p rk) {m : M
   pub end-tied : Tied c rk (leaving m) (set bs b (finished (at bs b))) [] ns
   end-tied =
       events-tied
-      (left-tied (finished (at bs b)) (held-none (at bs b .pending)) (without (m .core .started) (m .core .runner)) (m .core .aside)
-      (words-changed fit (t .words) (t .size) b exists (finished (at bs b)) (vacated m)
-      ((λ h. absurd (true≢false (sym h ∙ used-up (at bs b .pending)))), λ h. absurd (true≢false (sym h ∙ back (at bs b .pending))))
+      (left-tied (finished (at bs b)) (held-none (at bs b .pending))
+      (without (m .core .started) (m .core .runner)) (m .core .aside)
+      (words-changed fit (t .words) (t .size) b exists (finished (at bs b)) (vacated m) (
+        (λ h. absurd (true≢false (sym h ∙ used-up (at bs b .pending)))),
+        λ h. absurd (true≢false (sym h ∙ back (at bs b .pending))),
+      )
       (record {
-        asks = t .words .asks b exists ∙ kept (at bs b .phase) was-started ∙ wants-then (at bs b .pending);
+        asks = t .words .asks b exists
+            ∙ started-waits (at bs b) (at bs b .phase) was-started
+            ∙ wants-then (at bs b .pending);
         goes-on = rw (runner-rank, unstarted (at bs b .pending)) (has-without-same (m .core .started) (rk b));
-        put-aside = t .words .put-aside b exists ∙ on (at bs b .phase) was-started ∙ sym (back (at bs b .pending));
+        put-aside = t .words .put-aside b exists
+            ∙ competes-on (at bs b .phase) (started-competes (at bs b .phase) was-started)
+            ∙ sym (back (at bs b .pending));
         quiet = λ _. used-up (at bs b .pending);
       })
       (record {
@@ -141,51 +150,34 @@ module _ {c : Config} {p : Plan} {rk : ℕ → ℕ} (fit : Fitted c p rk) {m : M
       (leaving m .waited)
     where
       held-none : (w : Bool) → out w .held ≡ []
-      held-none true = free
-      held-none false = free
-
-      kept : (q : Phase) → isStarted q ≡ true → requestWaits (at bs b) q ≡ at bs b .pending
-      kept suspended h = absurd (true≢false (sym h))
-      kept ready h = absurd (true≢false (sym h))
-      kept started h = refl
-      kept (waiting w) h = absurd (true≢false (sym h))
-      kept (triggered x) h = absurd (true≢false (sym h))
+      held-none w = cond-either (λ (x : Body). x .held ≡ []) w _ _ free free
 
       wants-then : (w : Bool) → w ≡ wants (out w)
       wants-then true = refl
       wants-then false = refl
 
       unstarted : (w : Bool) → isStarted (out w .phase) ≡ false
-      unstarted true = refl
-      unstarted false = refl
-
-      on : (q : Phase) → isStarted q ≡ true → isAside q ≡ false
-      on suspended h = refl
-      on ready h = refl
-      on started h = refl
-      on (waiting w) h = absurd (true≢false (sym h))
-      on (triggered x) h = absurd (true≢false (sym h))
+      unstarted w = cond-either (λ (x : Body). isStarted (x .phase) ≡ false) w _ _ refl refl
 
       back : (w : Bool) → isAside (out w .phase) ≡ false
-      back true = refl
-      back false = refl
+      back w = cond-either (λ (x : Body). isAside (x .phase) ≡ false) w _ _ refl refl
 
       used-up : (w : Bool) → out w .pending ≡ false
-      used-up true = refl
-      used-up false = refl
+      used-up w = cond-either (λ (x : Body). x .pending ≡ false) w _ _ refl refl
 
   -- the runner, which is no ISR, waits for an event bit
   pub pause-tied : isIsr c b ≡ false → (w : ℕ) → Tied c rk (pausing w m) (set bs b (become (waiting w) (at bs b))) [] ns
   pause-tied task w =
       events-tied
-      (left-tied (become (waiting w) (at bs b)) free (without (m .core .started) (m .core .runner)) (with (m .core .aside) (m .core .runner))
+      (left-tied (become (waiting w) (at bs b)) free
+      (without (m .core .started) (m .core .runner)) (with (m .core .aside) (m .core .runner))
       (words-changed fit (t .words) (t .size) b exists (become (waiting w) (at bs b)) (paused m)
       (t .words .suits b .0, λ _. task)
       (record {
-        asks = t .words .asks b exists ∙ same (at bs b .phase) was-started;
+        asks = t .words .asks b exists ∙ started-waits (at bs b) (at bs b .phase) was-started;
         goes-on = rw runner-rank (has-without-same (m .core .started) (rk b));
         put-aside = rw runner-rank (has-with-same (m .core .aside) (rk b) (rank-below fit b exists));
-        quiet = λ _. single (at bs b .pending) refl;
+        quiet = λ _. single;
       })
       (record {
         request-lt = t .words .request-lt;
@@ -199,13 +191,5 @@ module _ {c : Config} {p : Plan} {rk : ℕ → ℕ} (fit : Fitted c p rk) {m : M
       (pausing w m .bits)
       (pausing w m .waited)
     where
-      same : (q : Phase) → isStarted q ≡ true → requestWaits (at bs b) q ≡ at bs b .pending
-      same suspended h = absurd (true≢false (sym h))
-      same ready h = absurd (true≢false (sym h))
-      same started h = refl
-      same (waiting v) h = absurd (true≢false (sym h))
-      same (triggered x) h = absurd (true≢false (sym h))
-
-      single : (x : Bool) → at bs b .pending ≡ x → x ≡ false
-      single true e = absurd (true≢false (sym (t .words .suits b .0 e) ∙ task))
-      single false e = refl
+      single : at bs b .pending ≡ false
+      single = refuted (at bs b .pending) (λ e. true≢false (sym (t .words .suits b .0 e) ∙ task))

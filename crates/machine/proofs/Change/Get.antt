@@ -2,14 +2,13 @@
 use Prim.Native.Nat.{ℕ, _+_, max, _≤_, _<_}
 use mathlib.Core.Path.{_≡_, refl, sym, ap₂, _∙_}
 use mathlib.Core.Bool.{false}
-use mathlib.Core.List.{List, [], _∷_, _++_, foldr, map}
+use mathlib.Core.List.{List, [], _∷_, _++_}
 use native.Mathlib.Omega.{arith}
 use borrow.Author.Tests.{eq-eqb, ne-eqb}
 use lib.ListN.{length, getD, set, length-map}
 use Rattle.number.proofs.Cases.{by-eq}
 use Rattle.config.specs.declared.Config.{Config}
-use Rattle.config.specs.Value.{maxPriority}
-use Rattle.config.specs.Meaning.{priorityOf, ceiling}
+use Rattle.config.specs.Meaning.{ceiling}
 use Rattle.plan.specs.declared.Plan.{Plan}
 use Rattle.word.specs.Word.{has, with}
 use Rattle.word.proofs.Theorems.{has-with-same, has-with-other}
@@ -21,9 +20,10 @@ use Rattle.machine.specs.Resources.{getting}
 use Rattle.plan.proofs.Fitted.{Fitted}
 use Rattle.machine.proofs.Relation.Rows.{row-shows-pushed}
 use Rattle.machine.proofs.Relation.Words.{at}
-use Rattle.machine.proofs.Relation.Slots.{Slot, slot, slotsFor, slotsAlong, Distinct, resourcesIn, holdersIn, levelsIn, missing, Slots}
+use Rattle.machine.proofs.Relation.Slots.{Slot, slot, slotsFor, slotsAlong, resourcesIn, holdersIn, levelsIn, missing, SlotsOf}
 use Rattle.machine.proofs.Relation.Free.{missing-one}
 use Rattle.machine.proofs.Relation.Whole.{Tied}
+use Rattle.machine.proofs.Arbitration.Seat.{current-few}
 use Rattle.machine.proofs.Arbitration.Dispatch.{rank-below}
 use Rattle.machine.proofs.Change.Hold.{exists, runner-rank, level-was, slots-are, held-tied}
 
@@ -36,14 +36,9 @@ module _ {c : Config} {p : Plan} {rk : ℕ → ℕ} (fit : Fitted c p rk) {m : M
   raised-level = ap₂ max (fit .ceiling-at r r<) (level-was fit t)
 
   level-lt : level′ < 256
-  level-lt = omega (arith, current-few, fit .ceiling-at r r<, fit .ceiling-few r, level-was fit t)
-    where
-      current-few : current c b (at bs b) ≤ maxPriority
-      current-few = go (at bs b .held)
-        where
-          go : (rs : List ℕ) → foldr max (priorityOf c b) (map (ceiling c) rs) ≤ maxPriority
-          go [] = fit .own-few b (exists fit t)
-          go (x ∷ rs) = omega (arith, fit .ceiling-few x, go rs)
+  level-lt =
+      let few = current-few fit b (at bs b) (exists fit t) in
+      omega (arith, fit .ceiling-at r r<, fit .ceiling-few r, level-was fit t)
 
   -- the slots before
   abbrev ss : List Slot
@@ -60,17 +55,28 @@ module _ {c : Config} {p : Plan} {rk : ℕ → ℕ} (fit : Fitted c p rk) {m : M
   row-room : length ss ≤ 15
   row-room = omega (arith, slots-are fit t .counted, one-less)
 
-  slots′ : Slots (with (m .held) r) (pushRow (m .resource) r) (pushRow (m .holder) (m .core .runner)) (pushRow (m .raised) level′)
-      (slot r (rk b) (current c b (gets r (at bs b))) ∷ ss)
-  unfolding Distinct among
+  runner-lt : m .core .runner < 256
+  runner-lt = omega (arith, runner-rank fit t, rank-below fit b (exists fit t))
+
+  slots′ : SlotsOf (getting r level′ m) (slot r (rk b) (current c b (gets r (at bs b))) ∷ ss)
+  unfolding among
   slots′ =
       let old = slots-are fit t in
       record {
-        resources = row-shows-pushed (m .resource) r (resourcesIn ss) (omega (arith, r-lt-16)) (rw (length-map ss (λ x. x .resource)) row-room) (old .resources);
+        resources = row-shows-pushed (m .resource) r (resourcesIn ss)
+            (omega (arith, r-lt-16))
+            (rw (length-map ss (λ x. x .resource)) row-room)
+            (old .resources);
         holders = rw (sym (runner-rank fit t))
-            (row-shows-pushed (m .holder) (m .core .runner) (holdersIn ss) (omega (arith, runner-rank fit t, rank-below fit b (exists fit t))) (rw (length-map ss (λ x. x .holder)) row-room) (old .holders));
+            (row-shows-pushed (m .holder) (m .core .runner) (holdersIn ss)
+            runner-lt
+            (rw (length-map ss (λ x. x .holder)) row-room)
+            (old .holders));
         levels = rw (sym raised-level)
-            (row-shows-pushed (m .raised) level′ (levelsIn ss) level-lt (rw (length-map ss (λ x. x .level)) row-room) (old .levels));
+            (row-shows-pushed (m .raised) level′ (levelsIn ss)
+            level-lt
+            (rw (length-map ss (λ x. x .level)) row-room)
+            (old .levels));
         flags = λ q. by-eq q r
             (λ e. rw (e, eq-eqb r r refl) (has-with-same (m .held) r (omega (arith, r-lt-16))))
             (λ n. rw (ne-eqb q r n) (has-with-other (m .held) r q n ∙ old .flags q));
@@ -82,4 +88,5 @@ module _ {c : Config} {p : Plan} {rk : ℕ → ℕ} (fit : Fitted c p rk) {m : M
   unfolding slotsFor
   get-tied =
       held-tied fit t (gets r (at bs b)) refl refl level′ raised-level
-      (with (m .held) r) (pushRow (m .resource) r) (pushRow (m .holder) (m .core .runner)) (pushRow (m .raised) level′) slots′
+      (with (m .held) r) (pushRow (m .resource) r) (pushRow (m .holder) (m .core .runner)) (pushRow (m .raised) level′)
+      slots′

@@ -3,11 +3,11 @@
 --   held-tied     the runner becomes y, its slots are those of what y holds
 --   holding-is    the slot on top is the runner's exactly if it holds a resource
 --   latest-is     and then it is that of the latest of them
-use Prim.Native.Nat.{ℕ, max, _<_}
+use Prim.Native.Nat.{ℕ, _<_}
 use mathlib.Core.Path.{_≡_, refl, sym, ap, _∙_}
 use mathlib.Core.Logic.{_≢_}
 use mathlib.Core.Bool.{true, false, true≢false}
-use mathlib.Core.List.{List, [], _∷_, _++_, map, foldr}
+use mathlib.Core.List.{List, [], _∷_, _++_}
 use native.Mathlib.Omega.{arith}
 use borrow.Author.Tests.{eq-eqb, ne-eqb}
 use lib.Dec.{eqb}
@@ -15,19 +15,20 @@ use lib.ListN.{getD, set, length-set}
 use lib.Seq.{getD-set-same, getD-set-other}
 use Rattle.number.proofs.Cases.{by-eq}
 use Rattle.config.specs.declared.Config.{Config}
-use Rattle.config.specs.Meaning.{priorityOf, ceiling}
+use Rattle.config.specs.Meaning.{priorityOf}
 use Rattle.plan.specs.declared.Plan.{Plan}
 use Rattle.stack.specs.declared.Row.{Row}
 use Rattle.scheduler.specs.Body.{Body, isStarted, holds, current}
 use Rattle.scheduler.specs.State.{noBody, among}
 use Rattle.scheduler.specs.Call.{latestIs}
+use Rattle.scheduler.proofs.Distinct.{among-head, among-tail}
 use Rattle.machine.specs.Model.{Model, noRank, withLevel, withSlots}
 use Rattle.machine.specs.Resources.{holding, latest}
 use Rattle.plan.proofs.Fitted.{Fitted}
 use Rattle.machine.proofs.Relation.Rows.{row-shows-top}
 use Rattle.machine.proofs.Relation.Words.{at, words-changed, marks-same, unmoved-same, isAside}
-use Rattle.machine.proofs.Relation.Slots.{Slot, slot, slotsFor, slotsAlong, holdersIn, Slots}
-use Rattle.machine.proofs.Relation.Nest.{Nested, Seats, Alike, alike-same, among-head, among-tail, nest-other, nest-exists, nest-started, levelAt-alike, nested-alike, hold-alike, slotsAlong-alike}
+use Rattle.machine.proofs.Relation.Slots.{Slot, slot, levelWith, slotsFor, slotsAlong, holdersIn, Slots, SlotsOf}
+use Rattle.machine.proofs.Relation.Nest.{levelAt, Nested, Seats, AlikeAlong, alike-outside, nest-other, nest-exists, nest-started, levelAt-alike, nested-alike, hold-alike, slotsAlong-alike}
 use Rattle.machine.proofs.Relation.Whole.{Tied}
 use Rattle.machine.proofs.Arbitration.Dispatch.{rank-below}
 
@@ -45,25 +46,33 @@ along-held c rk bs (b ∷ ns) = go (at bs b .held) (along-held c rk bs ns)
     wider nothing = nothing
     wider (by a x xs h e) = by a x xs (among-tail a b ns h) e
 
-    go : (rs : List ℕ) → Held rk ns (slotsAlong c rk bs ns) → Held rk (b ∷ ns) (slotsFor c rk b rs ++ slotsAlong c rk bs ns)
+    go : (rs : List ℕ) → Held rk ns (slotsAlong c rk bs ns)
+        → Held rk (b ∷ ns) (slotsFor c rk b rs ++ slotsAlong c rk bs ns)
     go [] k = wider k
-    go (r ∷ rs) k = by b (slot r (rk b) (foldr max (priorityOf c b) (map (ceiling c) (r ∷ rs)))) (slotsFor c rk b rs ++ slotsAlong c rk bs ns) (among-head b ns) refl
+    go (r ∷ rs) k =
+        by b (slot r (rk b) (levelWith c b (r ∷ rs))) (slotsFor c rk b rs ++ slotsAlong c rk bs ns)
+        (among-head b ns) refl
 
 eqb-sym : (a b : ℕ) → eqb a b ≡ eqb b a
 eqb-sym a b = by-eq a b (λ e. rw e) (λ n. ne-eqb a b n ∙ sym (ne-eqb b a (λ e. n (sym e))))
 
 -- a runner that isn't started, as no time-triggered task is, holds nothing
-pub holding-timed : {c : Config} {p : Plan} {rk : ℕ → ℕ} (fit : Fitted c p rk) {m : Model} {bs : List Body} {js ns : List ℕ} → Tied c rk m bs js ns → {j : ℕ}
-    → m .core .runner ≡ rk j → j < c .bodies → isStarted (at bs j .phase) ≡ false → holding m ≡ false
-holding-timed {c} {p} {rk} fit {m} {bs} {js} {ns} t {j} rank j< unstarted =
-    ap (λ (h : ℕ). eqb h (m .core .runner)) (row-shows-top (m .holder) _ (t .slots .holders)) ∙ go (along-held c rk bs ns)
-  where
-    go : {ss : List Slot} → Held rk ns ss → eqb (getD (holdersIn ss) 0 noRank) (m .core .runner) ≡ false
-    go nothing = ne-eqb noRank (m .core .runner) (λ z. absurd (omega (arith, z, rank, rank-below fit j j<)))
-    go (by a x xs among-a holder) =
-        ne-eqb (x .holder) (m .core .runner)
-        (λ z. let same : a ≡ j = fit .rank-inj a j (nest-exists c bs a ns (t .nested) among-a) j< (sym holder ∙ z ∙ rank) in
-        absurd (true≢false (sym (nest-started c bs a ns (t .nested) among-a) ∙ ap (λ (i : ℕ). isStarted (at bs i .phase)) same ∙ unstarted)))
+module _ {c : Config} {p : Plan} {rk : ℕ → ℕ} (fit : Fitted c p rk) {m : Model} {bs : List Body} {js ns : List ℕ}
+    (t : Tied c rk m bs js ns) {j : ℕ} (rank : m .core .runner ≡ rk j) (j< : j < c .bodies)
+    (unstarted : isStarted (at bs j .phase) ≡ false) where
+  none-own : {ss : List Slot} → Held rk ns ss → eqb (getD (holdersIn ss) 0 noRank) (m .core .runner) ≡ false
+  none-own nothing = ne-eqb noRank (m .core .runner) (λ z. absurd (omega (arith, z, rank, rank-below fit j j<)))
+  none-own (by a x xs among-a holder) =
+      ne-eqb (x .holder) (m .core .runner)
+      (λ z.
+      let a< = nest-exists c bs a ns (t .nested) among-a in
+      let same : a ≡ j = fit .rank-inj a j a< j< (sym holder ∙ z ∙ rank) in
+      absurd (true≢false (sym (nest-started c bs a ns (t .nested) among-a) ∙ rw same unstarted)))
+
+  pub holding-timed : holding m ≡ false
+  holding-timed =
+      ap (λ (h : ℕ). eqb h (m .core .runner)) (row-shows-top (m .holder) _ (t .slots .holders))
+      ∙ none-own (along-held c rk bs ns)
 
 -- the runner is b
 module _ {c : Config} {p : Plan} {rk : ℕ → ℕ} (fit : Fitted c p rk) {m : Model} {bs : List Body} {b : ℕ} {ns : List ℕ}
@@ -85,40 +94,47 @@ module _ {c : Config} {p : Plan} {rk : ℕ → ℕ} (fit : Fitted c p rk) {m : M
   below = t .nested .1 .1 .1
 
   -- where the runner's slots for rs come first, the first slot is the runner's exactly if there are any
-  pub first-own : (rs : List ℕ) → eqb (getD (holdersIn (slotsFor c rk b rs ++ slotsAlong c rk bs ns)) 0 noRank) (m .core .runner) ≡ holds rs
+  pub first-own : (rs : List ℕ)
+      → eqb (getD (holdersIn (slotsFor c rk b rs ++ slotsAlong c rk bs ns)) 0 noRank) (m .core .runner) ≡ holds rs
   unfolding slotsFor
   first-own (r ∷ rs) = eq-eqb (rk b) (m .core .runner) (sym runner-rank)
   first-own [] = go (along-held c rk bs ns)
     where
       go : {ss : List Slot} → Held rk ns ss → eqb (getD (holdersIn ss) 0 noRank) (m .core .runner) ≡ false
-      go nothing = ne-eqb noRank (m .core .runner) (λ z. absurd (omega (arith, z, runner-rank, rank-below fit b exists)))
+      go nothing =
+          ne-eqb noRank (m .core .runner) (λ z. absurd (omega (arith, z, runner-rank, rank-below fit b exists)))
       go (by a x xs among-a holder) =
           ne-eqb (x .holder) (m .core .runner)
-          (λ z. absurd (nest-other c bs b a ns (t .nested) among-a (fit .rank-inj a b (nest-exists c bs a ns below among-a) exists (sym holder ∙ z ∙ runner-rank))))
+          (λ z.
+          let a< = nest-exists c bs a ns below among-a in
+          let same : a ≡ b = fit .rank-inj a b a< exists (sym holder ∙ z ∙ runner-rank) in
+          absurd (nest-other c bs b a ns (t .nested) among-a same))
 
   -- the runner's slots come first of all
-  pub slots-are : Slots (m .held) (m .resource) (m .holder) (m .raised) (slotsFor c rk b (at bs b .held) ++ slotsAlong c rk bs ns)
+  pub slots-are : SlotsOf m (slotsFor c rk b (at bs b .held) ++ slotsAlong c rk bs ns)
   unfolding slotsAlong
   slots-are = t .slots
 
   -- "the runner holds a resource"
   pub holding-is : holding m ≡ holds (at bs b .held)
   holding-is =
-      ap (λ (h : ℕ). eqb h (m .core .runner)) (row-shows-top (m .holder) _ (slots-are .holders)) ∙ first-own (at bs b .held)
+      ap (λ (h : ℕ). eqb h (m .core .runner)) (row-shows-top (m .holder) _ (slots-are .holders))
+      ∙ first-own (at bs b .held)
 
   -- "the runner's most recently taken one still held"
   pub latest-is : (r : ℕ) → latest m r ≡ latestIs r (at bs b .held)
   unfolding slotsFor
   latest-is r = go (at bs b .held) slots-are holding-is
     where
-      go : (rs : List ℕ) → Slots (m .held) (m .resource) (m .holder) (m .raised) (slotsFor c rk b rs ++ slotsAlong c rk bs ns)
+      go : (rs : List ℕ) → SlotsOf m (slotsFor c rk b rs ++ slotsAlong c rk bs ns)
           → holding m ≡ holds rs → latest m r ≡ latestIs r rs
       go [] k h = rw h
       go (q ∷ rs) k h = rw (h, row-shows-top (m .resource) _ (k .resources)) (eqb-sym q r)
 
   -- the runner becomes y, which is as it was but for what it holds
   module _ (y : Body) (phase : y .phase ≡ at bs b .phase) (second : y .pending ≡ at bs b .pending)
-      (l : ℕ) (level : l ≡ current c b y) (w : ℕ) (rs hs ls : Row) (slots : Slots w rs hs ls (slotsFor c rk b (y .held) ++ slotsAlong c rk bs ns)) where
+      (l : ℕ) (level : l ≡ current c b y) (w : ℕ) (rs hs ls : Row)
+      (slots : Slots w rs hs ls (slotsFor c rk b (y .held) ++ slotsAlong c rk bs ns)) where
     abbrev bs′ : List Body
     bs′ = set bs b y
 
@@ -131,8 +147,12 @@ module _ {c : Config} {p : Plan} {rk : ℕ → ℕ} (fit : Fitted c p rk) {m : M
     begun-same : (i : ℕ) → isStarted (at bs′ i .phase) ≡ isStarted (at bs i .phase)
     begun-same i = by-eq i b (λ e. rw (e, at-b) (ap isStarted phase)) (λ n. rw (at-other i n))
 
-    alike : (i : ℕ) → among i ns ≡ true → Alike (at bs i) (at bs′ i)
-    alike i h = alike-same (sym (at-other i (nest-other c bs b i ns (t .nested) h)))
+    alike : AlikeAlong bs bs′ ns
+    alike = alike-outside b y (λ i h. nest-other c bs b i ns (t .nested) h)
+
+    lower : levelAt c bs′ ns < priorityOf c b
+    unfolding Nested
+    lower = rw (sym (levelAt-alike c alike)) (t .nested .1 .1 .0)
 
     pub held-tied : Tied c rk (withSlots m l w rs hs ls) bs′ [] (b ∷ ns)
     unfolding Nested Seats slotsAlong
@@ -141,11 +161,12 @@ module _ {c : Config} {p : Plan} {rk : ℕ → ℕ} (fit : Fitted c p rk) {m : M
           size = length-set bs b y ∙ t .size;
           words = words-changed fit (t .words) (t .size) b exists y (withLevel (m .core) l)
               ((λ h. t .words .suits b .0 (sym second ∙ h)), λ h. t .words .suits b .1 (ap isAside (sym phase) ∙ h))
-              (marks-same (t .words) b exists y phase second (m .core .runner) l) (unmoved-same (t .words) (m .core .runner) l (rk b));
-          nested = (exists, (begun-same b ∙ t .nested .1 .0, (rw (sym (levelAt-alike c rk bs bs′ ns alike)) (t .nested .1 .1 .0), nested-alike c rk bs bs′ ns alike below)));
-          seats = (runner-rank, (rw at-b level, hold-alike c rk bs bs′ ns alike (t .seats .1 .1)));
-          slots = rw (at-b, sym (slotsAlong-alike c rk bs bs′ ns alike)) slots;
+              (marks-same (t .words) b exists y phase second (m .core .runner) l)
+              (unmoved-same (t .words) (m .core .runner) l (rk b));
+          nested = (exists, (begun-same b ∙ t .nested .1 .0, (lower, nested-alike c alike below)));
+          seats = (runner-rank, (rw at-b level, hold-alike alike (t .seats .1 .1)));
+          slots = rw (at-b, sym (slotsAlong-alike c rk alike)) slots;
           loose = λ i h. by-eq i b
-              (λ e. absurd (true≢false (sym (among-head b ns) ∙ ap (λ (j : ℕ). among j (b ∷ ns)) (sym e) ∙ h)))
+              (λ e. absurd (true≢false (sym (among-head b ns) ∙ (rw e at h))))
               (λ n. rw (at-other i n) (t .loose i h));
         }

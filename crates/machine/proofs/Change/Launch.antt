@@ -1,5 +1,5 @@
--- A Tick starts a time-triggered task: its trigger level is above every level, and it takes the seat at the execution level, above those that
--- hold a resource.
+-- A Tick starts a time-triggered task: its trigger level is above every level, and it takes the seat at the execution
+-- level, above those that hold a resource.
 --
 --   launch-tied        the model after it
 --   plain-triggering   where none is triggered the highest by priority is dispatched
@@ -25,39 +25,40 @@ use Rattle.machine.specs.Model.{Model, doneWith}
 use Rattle.machine.specs.Arbiter.{bids, winning, isTriggered, entering, launching, triggering, settled}
 use Rattle.plan.proofs.Fitted.{Fitted}
 use Rattle.machine.proofs.Relation.Words.{at, Words, words-changed}
-use Rattle.machine.proofs.Relation.Nest.{Alike, alike-same, nest-started, timed-seats, timed-seat, nested-alike, hold-alike, slotsAlong-alike}
+use Rattle.machine.proofs.Relation.Nest.{AlikeAlong, alike-outside, nest-started, timed-seats, nested-alike, hold-alike, slotsAlong-alike}
 use Rattle.machine.proofs.Relation.Kinds.{isBidding, Kinds, trigger-timed}
-use Rattle.machine.proofs.Relation.Whole.{Tied}
+use Rattle.machine.proofs.Relation.Whole.{Tied, latest-seat}
 use Rattle.machine.proofs.Arbitration.Seat.{Holders, holders, level-few}
 use Rattle.machine.proofs.Arbitration.Bids.{trigger-wins, winning-is, winner-above}
 use Rattle.machine.proofs.Arbitration.Choice.{level-is}
 use Rattle.machine.proofs.Arbitration.Dispatch.{rank-below}
 
--- no level is above that of a time-triggered task
-pub level-low : {c : Config} {p : Plan} {rk : ℕ → ℕ} (fit : Fitted c p rk) {m : Model} {bs : List Body} (js : List ℕ) {ns : List ℕ} → Tied c rk m bs js ns
-    → m .core .level ≤ executionLevel
-level-low fit {bs = bs} [] {ns} t = omega (arith, level-is fit t, level-few fit bs ns (t .nested))
-level-low {c} {p} {rk} fit {m} {bs} (j ∷ js) {ns} t =
-    let seat = timed-seat c rk bs j js (m .core .runner) (m .core .level) ns (t .seats) in
-    omega (arith, seat .1 .0)
+module _ {c : Config} {p : Plan} {rk : ℕ → ℕ} (fit : Fitted c p rk) {m : Model} {bs : List Body} where
+  -- no level is above that of a time-triggered task
+  level-low : (js : List ℕ) {ns : List ℕ} → Tied c rk m bs js ns → m .core .level ≤ executionLevel
+  level-low [] {ns} t = omega (arith, level-is fit t, level-few fit bs ns (t .nested))
+  level-low (j ∷ js) t = omega (arith, latest-seat t .1 .0)
 
--- who is above the level by priority is no time-triggered task
-pub plain-triggering : {c : Config} {p : Plan} {rk : ℕ → ℕ} (fit : Fitted c p rk) {m : Model} {bs : List Body} {js ns : List ℕ} → Tied c rk m bs js ns
-    → Kinds c bs → triggering (p .priority) m ≡ settled (p .priority) m
-plain-triggering {p = p} fit {m} t kinds =
-    ap (λ (x : Bool). cond x (doneWith (launching m) true) (settled (p .priority) m))
-    (by-lt (m .core .level) (winning (p .priority) (m .core))
-    (λ above.
-    let v = winner-above fit (t .words) kinds above in
-    let low : winning (p .priority) (m .core) ≢ triggerLevel =
-    λ e. absurd (omega (arith, e, winning-is fit (t .words) kinds v, fit .own-few (v .body) (v .exists))) in
-    ap (λ (x : Bool). ltb (m .core .level) (winning (p .priority) (m .core)) && x) (ne-eqb (winning (p .priority) (m .core)) triggerLevel low)
-    ∙ and-false (ltb (m .core .level) (winning (p .priority) (m .core))))
-    (λ low.
-    ap (λ (x : Bool). x && eqb (winning (p .priority) (m .core)) triggerLevel) (le-ltb (m .core .level) (winning (p .priority) (m .core)) low)))
+  -- who is above the level by priority is no time-triggered task
+  pub plain-triggering : {js ns : List ℕ} → Tied c rk m bs js ns → Kinds c bs
+      → triggering (p .priority) m ≡ settled (p .priority) m
+  plain-triggering t kinds =
+      ap (λ (x : Bool). cond x (doneWith (launching m) true) (settled (p .priority) m))
+      (by-lt (m .core .level) best
+      (λ above.
+      let v = winner-above fit (t .words) kinds above in
+      let low : best ≢ triggerLevel =
+      λ e. absurd (omega (arith, e, winning-is fit (t .words) kinds v, fit .own-few (v .body) (v .exists))) in
+      ap (λ (x : Bool). ltb (m .core .level) best && x) (ne-eqb best triggerLevel low)
+      ∙ and-false (ltb (m .core .level) best))
+      (λ low. ap (λ (x : Bool). x && eqb best triggerLevel) (le-ltb (m .core .level) best low)))
+    where
+      best : ℕ
+      best = winning (p .priority) (m .core)
 
-module _ {c : Config} {p : Plan} {rk : ℕ → ℕ} (fit : Fitted c p rk) {m : Model} {bs : List Body} {js ns : List ℕ} (t : Tied c rk m bs js ns)
-    (j : ℕ) (j< : j < c .bodies) (timed : isTimed c j ≡ true) (fresh : at bs j .phase ≡ triggered false) (task : isIsr c j ≡ false)
+module _ {c : Config} {p : Plan} {rk : ℕ → ℕ} (fit : Fitted c p rk) {m : Model} {bs : List Body} {js ns : List ℕ}
+    (t : Tied c rk m bs js ns) (j : ℕ) (j< : j < c .bodies) (timed : isTimed c j ≡ true)
+    (fresh : at bs j .phase ≡ triggered false) (task : isIsr c j ≡ false)
     (others : (i : ℕ) → i < c .bodies → i ≢ j → isBidding (at bs i .phase) ≡ true → isTimed c i ≡ false) where
   pub wins : winner (bids (m .core)) ≡ rk j
   wins = trigger-wins fit (t .words) j j< timed (ap isBidding fresh) others
@@ -118,18 +119,21 @@ module _ {c : Config} {p : Plan} {rk : ℕ → ℕ} (fit : Fitted c p rk) {m : M
   abbrev ks : List ℕ
   ks = below .nest
 
-  alike : (i : ℕ) → among i ks ≡ true → Alike (at bs i) (at bs′ i)
-  alike i h =
-      alike-same (sym (at-other i (λ e. true≢false (sym (nest-started c bs i ks (below .nested) h) ∙ ap (λ (k : ℕ). isStarted (at bs k .phase)) e ∙ ap isStarted fresh))))
+  -- which j is not, since it has not begun
+  other : (i : ℕ) → among i ks ≡ true → i ≢ j
+  other i h e = true≢false (sym (nest-started c bs i ks (below .nested) h) ∙ rw e (ap isStarted fresh))
+
+  alike : AlikeAlong bs bs′ ks
+  alike = alike-outside j y other
 
   pub launch-tied : Tied c rk (launching m) bs′ (j ∷ js) ks
   launch-tied =
       record {
         size = length-set bs j y ∙ t .size;
         words = words′;
-        nested = nested-alike c rk bs bs′ ks alike (below .nested);
-        seats = timed-seats c rk bs′ j js W executionLevel ks wins refl (hold-alike c rk bs bs′ ks alike (below .hold));
-        slots = rw (sym (slotsAlong-alike c rk bs bs′ ks alike)) (below .slots);
+        nested = nested-alike c alike (below .nested);
+        seats = timed-seats c rk bs′ j js W executionLevel ks wins refl (hold-alike alike (below .hold));
+        slots = rw (sym (slotsAlong-alike c rk alike)) (below .slots);
         loose = λ i h. by-eq i j
             (λ e. rw (e, at-j) (below .loose j (rw e at h)))
             (λ n. rw (at-other i n) (below .loose i h));

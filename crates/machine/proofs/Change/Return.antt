@@ -1,4 +1,5 @@
--- A time-triggered task ends: the one that was started before it goes on, or whoever took the latest resource that is held, or nobody.
+-- A time-triggered task ends: the one that was started before it goes on, or whoever took the latest resource that is
+-- held, or nobody.
 use Prim.Native.Nat.{ℕ, _<_}
 use mathlib.Core.Path.{_≡_, refl, sym, ap, _∙_}
 use mathlib.Core.Logic.{_≢_}
@@ -17,23 +18,25 @@ use Rattle.stack.specs.Stack.{secondRow, rowBytes}
 use Rattle.scheduler.specs.Body.{Body, isStarted, triggered, ended, finished}
 use Rattle.scheduler.specs.State.{noBody, among}
 use Rattle.scheduler.specs.Call.{requestWaits}
+use Rattle.scheduler.proofs.Distinct.{among-head}
 use Rattle.machine.specs.Model.{Model, noRank}
 use Rattle.machine.specs.Arbiter.{alone, returned, returning}
 use Rattle.plan.proofs.Fitted.{Fitted}
 use Rattle.machine.proofs.Relation.Rows.{Shows, row-shows-second}
 use Rattle.machine.proofs.Relation.Words.{at, wants, isAside, Words, words-changed}
-use Rattle.machine.proofs.Relation.Slots.{slotsAlong, Slots}
-use Rattle.machine.proofs.Relation.Nest.{Nested, AllHold, Seats, Alike, alike-same, among-head, nest-started, timed-seats, timed-seat, nested-alike, hold-alike, slotsAlong-alike}
-use Rattle.machine.proofs.Relation.Whole.{Tied}
+use Rattle.machine.proofs.Relation.Slots.{slotsAlong, SlotsOf}
+use Rattle.machine.proofs.Relation.Nest.{Nested, AllHold, Seats, AlikeAlong, alike-outside, nest-started, timed-seats, nested-alike, hold-alike, slotsAlong-alike}
+use Rattle.machine.proofs.Relation.Whole.{Tied, latest-seat}
 use Rattle.machine.proofs.Arbitration.Dispatch.{rank-below}
 use Rattle.machine.proofs.Change.End.{last-seated}
 
 -- the time-triggered task j, the latest of those started, ends
-module _ {c : Config} {p : Plan} {rk : ℕ → ℕ} (fit : Fitted c p rk) {m : Model} {bs : List Body} {j : ℕ} (js : List ℕ) {ns : List ℕ}
-    (t : Tied c rk m bs (j ∷ js) ns) (j< : j < c .bodies) (phase : at bs j .phase ≡ triggered true) (held : at bs j .held ≡ [])
-    (row : Shows (rowBytes (m .triggered)) (map rk (j ∷ js))) (exist : (i : ℕ) → among i js ≡ true → i < c .bodies) where
+module _ {c : Config} {p : Plan} {rk : ℕ → ℕ} (fit : Fitted c p rk) {m : Model} {bs : List Body} {j : ℕ} (js : List ℕ)
+    {ns : List ℕ} (t : Tied c rk m bs (j ∷ js) ns) (j< : j < c .bodies) (phase : at bs j .phase ≡ triggered true)
+    (held : at bs j .held ≡ []) (row : Shows (rowBytes (m .triggered)) (map rk (j ∷ js)))
+    (exist : (i : ℕ) → among i js ≡ true → i < c .bodies) where
   seat : (m .core .runner ≡ rk j) × ((m .core .level ≡ executionLevel) × AllHold bs ns)
-  seat = timed-seat c rk bs j js (m .core .runner) (m .core .level) ns (t .seats)
+  seat = latest-seat t
 
   pending : at bs j .pending ≡ false
   pending = t .words .quiet j (ap isStarted phase)
@@ -56,10 +59,10 @@ module _ {c : Config} {p : Plan} {rk : ℕ → ℕ} (fit : Fitted c p rk) {m : M
 
   -- whoever is in the nest is started
   other : (i : ℕ) → among i ns ≡ true → i ≢ j
-  other i h e = true≢false (sym (nest-started c bs i ns (t .nested) h) ∙ ap (λ (k : ℕ). isStarted (at bs k .phase)) e ∙ ap isStarted phase)
+  other i h e = true≢false (sym (nest-started c bs i ns (t .nested) h) ∙ rw e (ap isStarted phase))
 
-  alike : (i : ℕ) → among i ns ≡ true → Alike (at bs i) (at bs′ i)
-  alike i h = alike-same (sym (at-other i (other i h)))
+  alike : AlikeAlong bs bs′ ns
+  alike = alike-outside j y other
 
   words : Words c rk (returned m) bs′
   words =
@@ -68,7 +71,8 @@ module _ {c : Config} {p : Plan} {rk : ℕ → ℕ} (fit : Fitted c p rk) {m : M
       (record {
         asks = t .words .asks j j< ∙ ap (requestWaits (at bs j)) phase ∙ sym (ap wants y-is);
         goes-on = t .words .goes-on j j< ∙ ap isStarted phase ∙ sym (ap (λ (x : Body). isStarted (x .phase)) y-is);
-        put-aside = rw (seat .0) (has-without-same (m .core .aside) (rk j)) ∙ sym (ap (λ (x : Body). isAside (x .phase)) y-is);
+        put-aside = rw (seat .0) (has-without-same (m .core .aside) (rk j))
+            ∙ sym (ap (λ (x : Body). isAside (x .phase)) y-is);
         quiet = λ _. ap (λ (x : Body). x .pending) y-is;
       })
       (record {
@@ -80,25 +84,30 @@ module _ {c : Config} {p : Plan} {rk : ℕ → ℕ} (fit : Fitted c p rk) {m : M
         put-aside = λ r n. rw (seat .0) (has-without-other (m .core .aside) (rk j) r n);
       })
 
-  slots′ : Slots (m .held) (m .resource) (m .holder) (m .raised) (slotsAlong c rk bs′ ns)
-  slots′ = rw (sym (slotsAlong-alike c rk bs bs′ ns alike)) (t .slots)
+  slots′ : SlotsOf m (slotsAlong c rk bs′ ns)
+  slots′ = rw (sym (slotsAlong-alike c rk alike)) (t .slots)
 
   nested′ : Nested c bs′ ns
-  nested′ = nested-alike c rk bs bs′ ns alike (t .nested)
+  nested′ = nested-alike c alike (t .nested)
 
   hold′ : AllHold bs′ ns
-  hold′ = hold-alike c rk bs bs′ ns alike (seat .1 .1)
+  hold′ = hold-alike alike (seat .1 .1)
+
+  -- the row has the rank of the one before it, if any, in its second place
+  second-is : (is : List ℕ) → js ≡ is → secondRow (m .triggered) ≡ getD (map rk is) 0 noRank
+  second-is is e =
+      row-shows-second (m .triggered) (rk j) (map rk js) row ∙ ap (λ (is : List ℕ). getD (map rk is) 0 noRank) e
 
   -- who runs then
-  seats′ : (os : List ℕ) → js ≡ os → Seats c rk bs′ os (returned m .runner) (returned m .level) ns
+  seats′ : (is : List ℕ) → js ≡ is → Seats c rk bs′ is (returned m .runner) (returned m .level) ns
   seats′ [] e =
-      let none : alone m ≡ true = eq-eqb (secondRow (m .triggered)) noRank (row-shows-second (m .triggered) (rk j) (map rk js) row ∙ ap (λ (os : List ℕ). getD (map rk os) 0 noRank) e) in
+      let none : alone m ≡ true = eq-eqb (secondRow (m .triggered)) noRank (second-is [] e) in
       rw none (last-seated fit m bs′ ns nested′ hold′ slots′)
-  seats′ (i ∷ os) e =
-      let next : secondRow (m .triggered) ≡ rk i = row-shows-second (m .triggered) (rk j) (map rk js) row ∙ ap (λ (os : List ℕ). getD (map rk os) 0 noRank) e in
-      let i< : i < c .bodies = exist i (rw e (among-head i os)) in
-      let some : alone m ≡ false = ne-eqb (secondRow (m .triggered)) noRank (λ z. absurd (omega (arith, z, next, rank-below fit i i<))) in
-      rw some (timed-seats c rk bs′ i os (secondRow (m .triggered)) executionLevel ns next refl hold′)
+  seats′ (i ∷ is) e =
+      let next = second-is (i ∷ is) e in
+      let low = rank-below fit i (exist i (rw e (among-head i is))) in
+      let some : alone m ≡ false = ne-eqb (secondRow (m .triggered)) noRank (λ z. absurd (omega (arith, z))) in
+      rw some (timed-seats c rk bs′ i is (secondRow (m .triggered)) executionLevel ns next refl hold′)
 
   pub return-tied : Tied c rk (returning m) (set bs j (finished (at bs j))) js ns
   return-tied =

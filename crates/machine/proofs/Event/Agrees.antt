@@ -2,8 +2,11 @@
 --
 --   Agrees c p rk m s e   the event e does the same to the model m and to the state s
 --   agrees                an event that ends in an arbitrated model
---   agrees-either         an event with the same status on both sides; agrees-attempt: one that changes nothing where it is refused
---   by-caller             either nobody who may call runs on both sides, or one body on both; by-runner: who may not, too
+--   agrees-either         an event with the same status on both sides; agrees-attempt: one that changes nothing where
+--                         it is refused
+--   settled-done          what an accepted event leaves that may dispatch another body; calm-done: one that does not
+--   by-caller             nobody who may call runs on both sides, or one body on both; by-runner: who may not, too
+--   call-same, by-call    the same of a status, and of an accepted call
 use Prim.Native.Nat.{ℕ, zero, suc, _<_}
 use mathlib.Core.Path.{_≡_, refl, sym, ap, ap₂, subst, _∙_}
 use mathlib.Core.Bool.{Bool, true, false, true≢false, cond, _||_}
@@ -14,12 +17,12 @@ use borrow.Author.Tests.{eq-eqb, ne-eqb}
 use lib.Dec.{eqb}
 use lib.ListN.{length, getD, set, take, replicate, length-map, List·getD-map, List·getD-eq-default}
 use lib.Seq.{getD-set-same, getD-set-other, getD-take, ext-getD, length-take-le}
-use Rattle.number.proofs.Cases.{by-eq}
+use Rattle.number.proofs.Cases.{by-eq, cond-either}
 use Rattle.config.specs.declared.Config.{Config}
 use Rattle.config.specs.Meaning.{executionLevel}
 use Rattle.plan.specs.declared.Plan.{Plan}
-use Rattle.scheduler.specs.Status.{done, Check, _gives_, firstGiven}
-use Rattle.scheduler.specs.Body.{Phase, suspended, ready, started, waiting, triggered, isSuspended, isWaiting, isStarted, hasBegun, competes, Body, current, become}
+use Rattle.scheduler.specs.Status.{done, callLevel, Check, _gives_, firstGiven}
+use Rattle.scheduler.specs.Body.{Phase, started, waiting, triggered, isSuspended, isWaiting, isStarted, hasBegun, Body, current, become}
 use Rattle.scheduler.specs.Choice.{Candidate, byHolding, chosen}
 use Rattle.scheduler.specs.State.{State, noBody, runner, changing, latestOf}
 use Rattle.scheduler.specs.Event.{isTick}
@@ -31,27 +34,28 @@ use Rattle.scheduler.proofs.Choice.{current-own, candidate-active, Taken, no-on
 use Rattle.scheduler.proofs.Refusals.{begins-some}
 use Rattle.scheduler.proofs.Order.{Orderly, effect-orderly, refusal-orderly, orderly-step}
 use Rattle.scheduler.proofs.Effects.{tables-dispatched, no-tick}
-use Rattle.machine.specs.Model.{Model, Outcome, noRank, refusedWith}
+use Rattle.machine.specs.Model.{Model, Outcome, noRank, doneWith, refusedWith}
 use Rattle.stack.specs.Stack.{rowBytes}
 use Rattle.machine.specs.Arbiter.{settled, timed}
 use Rattle.machine.specs.Events as Machine
 use Rattle.machine.specs.Events.{idles, noCaller}
 use Rattle.machine.specs.Machine.{machineStep, lossesOf, matched, observed}
 use Rattle.plan.proofs.Fitted.{Fitted}
-use Rattle.machine.proofs.Relation.Words.{at}
-use Rattle.machine.proofs.Relation.Nest.{Nested, Seats, timed-seat}
+use Rattle.machine.proofs.Relation.Words.{at, competes-active}
+use Rattle.machine.proofs.Relation.Nest.{Nested, Seats}
 use Rattle.machine.proofs.Relation.Rows.{Shows}
 use Rattle.machine.proofs.Relation.Order.{latest-exists, latest-begun, kinds-of}
-use Rattle.machine.proofs.Relation.Cells.{Timed}
+use Rattle.machine.proofs.Relation.Cells.{CellsOf}
 use Rattle.machine.proofs.Relation.Losses.{Lost, lost-same}
-use Rattle.machine.proofs.Relation.Bits.{eventBits, Noted, noted-same}
-use Rattle.machine.proofs.Relation.Whole.{Tied, Calm, Sim}
+use Rattle.machine.proofs.Relation.Bits.{eventBits, NotedOf, noted-same}
+use Rattle.machine.proofs.Relation.Whole.{Tied, Calm, Sim, latest-seat}
 use Rattle.machine.proofs.Arbitration.Choice.{chosen-seated, chosen-none}
 use Rattle.machine.proofs.Arbitration.Seat.{current-few}
 use Rattle.machine.proofs.Arbitration.Dispatch.{Seated, Arbitrated, rank-below, settled-tied, calm-arbitrated}
 
 -- what a change of one body keeps, it keeps of every body
-pub kept {ℓ} : {A : Type ℓ} (g : Body → A) (f : Body → Body) → ((x : Body) → g (f x) ≡ g x) → (bs : List Body) (i j : ℕ)
+pub kept {ℓ} : {A : Type ℓ} (g : Body → A) (f : Body → Body) → ((x : Body) → g (f x) ≡ g x)
+    → (bs : List Body) (i j : ℕ)
     → g (at (set bs i (f (at bs i))) j) ≡ g (at bs j)
 kept g f k [] i j = refl
 kept g f k (b ∷ bs) zero zero = k b
@@ -59,52 +63,58 @@ kept g f k (b ∷ bs) zero (suc j) = refl
 kept g f k (b ∷ bs) (suc i) zero = refl
 kept g f k (b ∷ bs) (suc i) (suc j) = kept g f k bs i j
 
--- the latest time-triggered task that is started is a body that isn't suspended
+-- i is a body that isn't suspended
+abbrev Active : State → ℕ → Type 0
+Active s i = (i < length (s .bodies)) × (isSuspended (at (s .bodies) i .phase) ≡ false)
+
+-- the latest time-triggered task that is started is one
 abbrev pub LatestActive : State → Type 0
-LatestActive s = (j : ℕ) (js : List ℕ) → s .order ≡ j ∷ js → (j < length (s .bodies)) × (isSuspended (at (s .bodies) j .phase) ≡ false)
+LatestActive s = (j : ℕ) (js : List ℕ) → s .order ≡ j ∷ js → Active s j
+
+-- who runs, where js are the time-triggered tasks started
+pub runner-is : (c : Config) (s : State) {js : List ℕ} → s .order ≡ js
+    → runner c s ≡ latestOf (s .bodies) js (chosen c (s .bodies))
+runner-is c s e = ap (λ (js : List ℕ). latestOf (s .bodies) js (chosen c (s .bodies))) e
 
 -- who begins is one, too
 begins-unsuspended : (c : Config) (s : State) → LatestActive s → begins (runner c s) ≡ true
-    → (runner c s .number < length (s .bodies)) × (isSuspended (at (s .bodies) (runner c s .number) .phase) ≡ false)
+    → Active s (runner c s .number)
 begins-unsuspended c s top b = by (s .order) refl
   where
-    active : (q : Phase) → competes q ≡ true → isSuspended q ≡ false
-    active suspended h = absurd (true≢false (sym h))
-    active ready h = refl
-    active started h = refl
-    active (waiting w) h = refl
-    active (triggered x) h = refl
-
-    go : (k : Candidate) → begins k ≡ true → Taken c (s .bodies) k → (k .number < length (s .bodies)) × (isSuspended (at (s .bodies) (k .number) .phase) ≡ false)
+    go : (k : Candidate) → begins k ≡ true → Taken c (s .bodies) k → Active s (k .number)
     go k b (no-one z) = absurd (true≢false (rw z at (begins-some k b .0)))
     go k b (body i h p z) =
-        let n : k .number ≡ i = ap (λ (x : Candidate). x .number) (z ∙ candidate-active c i (at (s .bodies) i) (at (s .bodies) i .phase) p) in
-        rw n (h, active (at (s .bodies) i .phase) p)
+        let known = candidate-active c i (at (s .bodies) i) (at (s .bodies) i .phase) p in
+        let n : k .number ≡ i = ap (λ (x : Candidate). x .number) (z ∙ known) in
+        rw n (h, competes-active (at (s .bodies) i .phase) p)
 
-    by : (os : List ℕ) → s .order ≡ os → (runner c s .number < length (s .bodies)) × (isSuspended (at (s .bodies) (runner c s .number) .phase) ≡ false)
+    by : (js : List ℕ) → s .order ≡ js → Active s (runner c s .number)
     by [] e =
-        let k : runner c s ≡ chosen c (s .bodies) = ap (λ (os : List ℕ). latestOf (s .bodies) os (chosen c (s .bodies))) e in
+        let k = runner-is c s e in
         rw k (go (chosen c (s .bodies)) (rw k at b) (chosen-from byHolding refl c (s .bodies)))
     by (j ∷ js) e =
-        let k : runner c s .number ≡ j = ap (λ (os : List ℕ). latestOf (s .bodies) os (chosen c (s .bodies)) .number) e in
+        let k : runner c s .number ≡ j = ap (λ (x : Candidate). x .number) (runner-is c s e) in
         rw k (top j js e)
 
 -- a dispatch changes no losses
-pub dispatched-losses : (c : Config) (s : State) (i : ℕ) → at (dispatched c s .bodies) i .losses ≡ at (s .bodies) i .losses
+pub dispatched-losses : (c : Config) (s : State) (i : ℕ)
+    → at (dispatched c s .bodies) i .losses ≡ at (s .bodies) i .losses
 dispatched-losses c s i = go (begins (runner c s))
   where
-    go : (b : Bool) → at ((cond b (changing (runner c s .number) (become (phaseBegun (runner c s))) s) s) .bodies) i .losses ≡ at (s .bodies) i .losses
-    go true = kept (λ x. x .losses) (become (phaseBegun (runner c s))) (λ x. refl) (s .bodies) (runner c s .number) i
+    begun : Body → Body
+    begun = become (phaseBegun (runner c s))
+
+    go : (b : Bool)
+        → at ((cond b (changing (runner c s .number) begun s) s) .bodies) i .losses ≡ at (s .bodies) i .losses
+    go true = kept (λ x. x .losses) begun (λ x. refl) (s .bodies) (runner c s .number) i
     go false = refl
 
 -- what has begun neither waits nor is suspended
 begun-awake : (x : Bool) → isWaiting (cond x (triggered true) started) ≡ false
-begun-awake true = refl
-begun-awake false = refl
+begun-awake x = cond-either (λ (q : Phase). isWaiting q ≡ false) x _ _ refl refl
 
 begun-active : (x : Bool) → isSuspended (cond x (triggered true) started) ≡ false
-begun-active true = refl
-begun-active false = refl
+begun-active x = cond-either (λ (q : Phase). isSuspended q ≡ false) x _ _ refl refl
 
 -- nor does a dispatch change event bits: who begins was not suspended, and does not wait
 module _ (c : Config) (s : State) (top : LatestActive s) where
@@ -114,11 +124,14 @@ module _ (c : Config) (s : State) (top : LatestActive s) where
   abbrev then : Bool → List Body
   then b = (cond b (changing (runner c s .number) began s) s) .bodies
 
-  at-runner : begins (runner c s) ≡ true → at (then true) (runner c s .number) ≡ began (at (s .bodies) (runner c s .number))
-  at-runner e = getD-set-same (s .bodies) (runner c s .number) (began (at (s .bodies) (runner c s .number))) noBody (begins-unsuspended c s top e .0)
+  abbrev r : ℕ
+  r = runner c s .number
 
-  at-other : (i : ℕ) → i ≢ runner c s .number → at (then true) i ≡ at (s .bodies) i
-  at-other i n = getD-set-other (s .bodies) (runner c s .number) i (began (at (s .bodies) (runner c s .number))) noBody n
+  at-runner : begins (runner c s) ≡ true → at (then true) r ≡ began (at (s .bodies) r)
+  at-runner e = getD-set-same (s .bodies) r (began (at (s .bodies) r)) noBody (begins-unsuspended c s top e .0)
+
+  at-other : (i : ℕ) → i ≢ r → at (then true) i ≡ at (s .bodies) i
+  at-other i n = getD-set-other (s .bodies) r i (began (at (s .bodies) r)) noBody n
 
   pub dispatched-bits : (i : ℕ) → eventBits (at (dispatched c s .bodies) i) ≡ eventBits (at (s .bodies) i)
   dispatched-bits i = go (begins (runner c s)) refl
@@ -126,21 +139,24 @@ module _ (c : Config) (s : State) (top : LatestActive s) where
       go : (b : Bool) → begins (runner c s) ≡ b → eventBits (at (then b) i) ≡ eventBits (at (s .bodies) i)
       go false e = refl
       go true e =
-          by-eq i (runner c s .number)
+          by-eq i r
           (λ z. rw z
           (ap eventBits (at-runner e) ∙ rw (begun-active (runner c s .timed))
           (sym (rw (begins-unsuspended c s top e .1)))))
           (λ n. ap eventBits (at-other i n))
 
-  pub dispatched-masks : (i w : ℕ) → at (dispatched c s .bodies) i .phase ≡ waiting w → at (s .bodies) i .phase ≡ waiting w
+  pub dispatched-masks : (i w : ℕ) → at (dispatched c s .bodies) i .phase ≡ waiting w
+      → at (s .bodies) i .phase ≡ waiting w
   dispatched-masks i w = go (begins (runner c s)) refl
     where
       go : (b : Bool) → begins (runner c s) ≡ b → at (then b) i .phase ≡ waiting w → at (s .bodies) i .phase ≡ waiting w
       go false e h = h
       go true e h =
-          by-eq i (runner c s .number)
-          (λ z. absurd (true≢false (sym (ap isWaiting h) ∙ ap (λ (j : ℕ). isWaiting (at (then true) j .phase)) z
-          ∙ ap (λ (x : Body). isWaiting (x .phase)) (at-runner e) ∙ begun-awake (runner c s .timed))))
+          by-eq i r
+          (λ z.
+          let awake : isWaiting (at (then true) i .phase) ≡ false =
+          rw (z, at-runner e) (begun-awake (runner c s .timed)) in
+          absurd (true≢false (sym (ap isWaiting h) ∙ awake)))
           (λ n. ap (λ (x : Body). x .phase) (sym (at-other i n)) ∙ h)
 
   pub order-dispatched : dispatched c s .order ≡ s .order
@@ -151,14 +167,15 @@ module _ (c : Config) (s : State) (top : LatestActive s) where
       go false = refl
 
 -- the same tests in the same order give the same status
-pub first-same : (a a′ : Bool) (st : ℕ) (ks ks′ : List Check) → a ≡ a′ → (a′ ≡ false → firstGiven ks ≡ firstGiven ks′)
+pub first-same : {a a′ : Bool} (st : ℕ) (ks ks′ : List Check) → a ≡ a′ → (a′ ≡ false → firstGiven ks ≡ firstGiven ks′)
     → firstGiven ((a gives st) ∷ ks) ≡ firstGiven ((a′ gives st) ∷ ks′)
 unfolding firstGiven
-first-same a true st ks ks′ e f = rw e
-first-same a false st ks ks′ e f = rw e (f refl)
+first-same {a′ = true} st ks ks′ e f = rw e
+first-same {a′ = false} st ks ks′ e f = rw e (f refl)
 
 -- where a status is 0 its first test has passed
-pub first-passed : (a : Bool) (st : ℕ) (ks : List Check) → st ≢ done → firstGiven ((a gives st) ∷ ks) ≡ done → a ≡ false
+pub first-passed : (a : Bool) (st : ℕ) (ks : List Check) → st ≢ done → firstGiven ((a gives st) ∷ ks) ≡ done
+    → a ≡ false
 unfolding firstGiven
 first-passed true st ks n e = absurd (n e)
 first-passed false st ks n e = refl
@@ -172,16 +189,21 @@ pub record Agrees (c : Config) (p : Plan) (rk : ℕ → ℕ) (m : Model) (s : St
   pub seen : observed c p m e (machineStep c p m e) ≡ step c s e .seen
   pub sim : Sim c p rk (machineStep c p m e .model) (step c s e .state)
 
--- what the two sides owe where the call is accepted: o is the machine's outcome, s′ the scheduler's state before the dispatch
-pub record Accepted (c : Config) (p : Plan) (rk : ℕ → ℕ) (o : Outcome) (s′ : State) : Type 0 where
-  pub status : o .status ≡ done
+-- the two sides answer an event with the status st: o is the machine's outcome, s′ the scheduler's state before the
+-- dispatch
+pub record Answered (c : Config) (p : Plan) (rk : ℕ → ℕ) (o : Outcome) (st : ℕ) (s′ : State) : Type 0 where
+  pub status : o .status ≡ st
   pub arb : Arbitrated c p rk o s′
   pub latest : LatestActive s′
   pub row : Shows (rowBytes (o .model .triggered)) (map rk (s′ .order))
   pub size : length (s′ .bodies) ≡ c .bodies
-  pub timed : Timed c p (o .model .counter) (o .model .on) (o .model .turning) (s′ .tables)
+  pub cells : CellsOf c p (o .model) (s′ .tables)
   pub lost : Lost c rk (o .model .losses) (s′ .bodies)
-  pub noted : Noted c rk (o .model .cleared) (o .model .bits) (o .model .waited) (s′ .bodies)
+  pub noted : NotedOf c rk (o .model) (s′ .bodies)
+
+-- they accept it
+abbrev pub Done : Config → Plan → (ℕ → ℕ) → Outcome → State → Type 0
+Done c p rk o s′ = Answered c p rk o done s′
 
 -- the time-triggered task j runs, as both sides see it
 pub record Enters (c : Config) (rk : ℕ → ℕ) (m : Model) (s : State) (j : ℕ) (js : List ℕ) : Type 0 where
@@ -195,8 +217,8 @@ pub record Enters (c : Config) (rk : ℕ → ℕ) (m : Model) (s : State) (j : �
   pub exists : j < c .bodies
   pub phase : at (s .bodies) j .phase ≡ triggered true
 
--- the state is in order before the dispatch, where the event is accepted and where it is refused, and after it; before the dispatch of a Tick
--- a task may have been triggered that has still to begin
+-- the state is in order before the dispatch, where the event is accepted and where it is refused, and after it; before
+-- the dispatch of a Tick a task may have been triggered that has still to begin
 pub record Keeps (c : Config) (s : State) : Type 0 where
   pub effect : (e : Event) → isTick e ≡ false → statusOf c s e ≡ done → Orderly c (effectOf c s e)
   pub refusal : (e : Event) → Orderly c (refusalOf c s (statusOf c s e) e)
@@ -219,7 +241,8 @@ pub record Runs (c : Config) (rk : ℕ → ℕ) (m : Model) (s : State) (b : ℕ
 
 module _ {c : Config} {p : Plan} {rk : ℕ → ℕ} (fit : Fitted c p rk) where
   -- the losses by rank, looked up in body order, are the bodies' losses
-  pub losses-seen : (m : Model) (bs : List Body) → length bs ≡ c .bodies → Lost c rk (m .losses) bs → lossesOf c p m ≡ map (λ b. b .losses) bs
+  pub losses-seen : (m : Model) (bs : List Body) → length bs ≡ c .bodies → Lost c rk (m .losses) bs
+      → lossesOf c p m ≡ map (λ b. b .losses) bs
   losses-seen m bs size l =
       ext-getD 0 (lossesOf c p m) (map (λ b. b .losses) bs) long
       (λ i h. each i (rw (long ∙ length-map bs (λ b. b .losses) ∙ size) at h))
@@ -242,22 +265,26 @@ module _ {c : Config} {p : Plan} {rk : ℕ → ℕ} (fit : Fitted c p rk) where
           ∙ sym (List·getD-map (λ b. b .losses) bs i noBody)
 
   -- nobody runs on both sides, body b does on both, or the time-triggered task j does
-  pub by-runner {ℓ} : {C : Type ℓ} {m : Model} {s : State} → Sim c p rk m s → (idles m ≡ true → nobodyRuns c s ≡ true → C)
+  pub by-runner {ℓ} : {C : Type ℓ} {m : Model} {s : State} → Sim c p rk m s
+      → (idles m ≡ true → nobodyRuns c s ≡ true → C)
       → ((b : ℕ) (ns : List ℕ) → Runs c rk m s b ns → C) → ((j : ℕ) (js : List ℕ) → Enters c rk m s j js → C) → C
   unfolding Nested Seats
   by-runner {C = C} {m = m} {s = s} sim f g h = by (s .order) refl (sim .tied)
     where
-      chosen-is : s .order ≡ [] → runner c s ≡ chosen c (s .bodies)
-      chosen-is e = ap (λ (os : List ℕ). latestOf (s .bodies) os (chosen c (s .bodies))) e
-
       go : s .order ≡ [] → (ns : List ℕ) → Tied c rk m (s .bodies) [] ns → Calm c (m .core .level) (s .bodies) → C
-      go e [] t calm = f (eq-eqb (m .core .runner) noRank (t .seats .0)) (rw (chosen-is e ∙ chosen-none fit t calm refl))
+      go e [] t calm =
+          f (eq-eqb (m .core .runner) noRank (t .seats .0)) (rw (runner-is c s e ∙ chosen-none fit t calm refl))
       go e (b ∷ ns) t calm =
-          let h = chosen-is e ∙ chosen-seated fit t calm b ns refl in
+          let h = runner-is c s e ∙ chosen-seated fit t calm b ns refl in
+          let level = current c b (at (s .bodies) b) in
+          let rank = rank-below fit b (t .nested .0) in
+          let few = current-few fit b (at (s .bodies) b) (t .nested .0) in
           let low = current-own c b (at (s .bodies) b) in
-          let awake : idles m ≡ false = ne-eqb (m .core .runner) noRank (λ z. absurd (omega (arith, t .seats .0, z, rank-below fit b (t .nested .0)))) in
-          let plain : timed m ≡ false = ne-eqb (m .core .level) executionLevel (λ z. absurd (omega (arith, z, t .seats .1 .0, current-few fit b (at (s .bodies) b) (t .nested .0)))) in
-          let runs : nobodyRuns c s ≡ false = rw h (ne-eqb (current c b (at (s .bodies) b)) 0 (λ z. absurd (omega (arith, z, low, fit .own-some b (t .nested .0))))) in
+          let some = fit .own-some b (t .nested .0) in
+          let awake : idles m ≡ false = ne-eqb (m .core .runner) noRank (λ z. absurd (omega (arith, t .seats .0, z))) in
+          let plain : timed m ≡ false =
+          ne-eqb (m .core .level) executionLevel (λ z. absurd (omega (arith, z, t .seats .1 .0))) in
+          let runs : nobodyRuns c s ≡ false = rw h (ne-eqb level 0 (λ z. absurd (omega (arith, z)))) in
           g b ns
           (record {
             tied = t;
@@ -274,33 +301,52 @@ module _ {c : Config} {p : Plan} {rk : ℕ → ℕ} (fit : Fitted c p rk) where
             started-now = t .nested .1 .0;
           })
 
-      by : (os : List ℕ) → s .order ≡ os → Tied c rk m (s .bodies) (s .order) (sim .nest) → C
+      by : (js : List ℕ) → s .order ≡ js → Tied c rk m (s .bodies) (s .order) (sim .nest) → C
       by [] e t = go e (sim .nest) (rw e at t) (sim .calm)
       by (j ∷ js) e t =
-          let seat = timed-seat c rk (s .bodies) j js (m .core .runner) (m .core .level) (sim .nest) (rw e at (t .seats)) in
-          let k : runner c s ≡ latestOf (s .bodies) (j ∷ js) (chosen c (s .bodies)) = ap (λ (os : List ℕ). latestOf (s .bodies) os (chosen c (s .bodies))) e in
+          let seat = latest-seat (rw e at t) in
+          let k = runner-is c s e in
+          let exists = latest-exists (sim .orderly) j js e in
+          let rank = rank-below fit j exists in
           let level : timed m ≡ true = eq-eqb (m .core .level) executionLevel (seat .1 .0) in
           h j js
           (record {
             order-is = e;
             runs = level;
-            not-idle = ne-eqb (m .core .runner) noRank (λ z. absurd (omega (arith, seat .0, z, rank-below fit j (latest-exists (sim .orderly) j js e))));
+            not-idle = ne-eqb (m .core .runner) noRank (λ z. absurd (omega (arith, seat .0, z)));
             somebody = rw k;
             calls = ap (λ (x : Candidate). x .number) k;
             timed-now = ap (λ (x : Candidate). x .timed) k;
             rank = seat .0;
-            exists = latest-exists (sim .orderly) j js e;
+            exists = exists;
             phase = latest-begun (sim .orderly) j js e;
           })
 
   -- nobody who may call runs on both sides, or body b does on both
-  pub by-caller {ℓ} : {C : Type ℓ} {m : Model} {s : State} → Sim c p rk m s → (noCaller m ≡ true → nobodyCalls c s ≡ true → C)
-      → ((b : ℕ) (ns : List ℕ) → Runs c rk m s b ns → C) → C
+  pub by-caller {ℓ} : {C : Type ℓ} {m : Model} {s : State} → Sim c p rk m s
+      → (noCaller m ≡ true → nobodyCalls c s ≡ true → C) → ((b : ℕ) (ns : List ℕ) → Runs c rk m s b ns → C) → C
   by-caller sim f g =
       by-runner sim
       (λ i n. f (rw i) (rw n))
       g
       (λ j js k. f (ap₂ (λ (x y : Bool). x || y) (k .not-idle) (k .runs)) (rw (k .somebody, k .timed-now)))
+
+  -- most calls first ask whether somebody runs who may call; the other tests are of that body
+  pub call-same : {m : Model} {s : State} → Sim c p rk m s → (ks ks′ : List Check)
+      → ((b : ℕ) (ns : List ℕ) → Runs c rk m s b ns → firstGiven ks ≡ firstGiven ks′)
+      → firstGiven ((noCaller m gives callLevel) ∷ ks) ≡ firstGiven ((nobodyCalls c s gives callLevel) ∷ ks′)
+  call-same sim ks ks′ f =
+      by-caller sim
+      (λ i n. first-same callLevel ks ks′ (i ∙ sym n) (λ h. absurd (true≢false (sym n ∙ h))))
+      (λ b ns k. first-same callLevel ks ks′ (k .may-call ∙ sym (k .calls-there)) (λ _. f b ns k))
+
+  -- where such a call is accepted somebody does
+  pub by-call {ℓ} : {C : Type ℓ} {m : Model} {s : State} → Sim c p rk m s → (ks : List Check)
+      → firstGiven ((nobodyCalls c s gives callLevel) ∷ ks) ≡ done
+      → ((b : ℕ) (ns : List ℕ) → Runs c rk m s b ns → C) → C
+  by-call {s = s} sim ks z =
+      let calls = first-passed (nobodyCalls c s) callLevel ks (λ e. absurd (omega (arith, e))) z in
+      by-caller sim (λ i n. absurd (true≢false (sym n ∙ calls)))
 
   pub caller-same : {m : Model} {s : State} → Sim c p rk m s → noCaller m ≡ nobodyCalls c s
   caller-same sim = by-caller sim (λ i n. i ∙ sym n) (λ b ns k. k .may-call ∙ sym (k .calls-there))
@@ -316,80 +362,128 @@ module _ {c : Config} {p : Plan} {rk : ℕ → ℕ} (fit : Fitted c p rk) where
       }
 
   -- of a state in order the latest time-triggered task has begun
-  pub seated-of : {s : State} → Orderly c s → Seated c s
+  seated-of : {s : State} → Orderly c s → Seated c s
   seated-of o j js e = (latest-exists o j js e, ap hasBegun (latest-begun o j js e))
 
   pub latest-of : {s : State} → Orderly c s → LatestActive s
   latest-of o j js e = (rw (o .bodies-there) (latest-exists o j js e), ap isSuspended (latest-begun o j js e))
 
   -- where no time-triggered task is started
-  pub untimed-tied : {m : Model} {bs : List Body} {ns os : List ℕ} → os ≡ [] → Tied c rk m bs [] ns → Tied c rk m bs os ns
+  pub untimed-tied : {m : Model} {bs : List Body} {ns js : List ℕ} → js ≡ []
+      → Tied c rk m bs [] ns → Tied c rk m bs js ns
   untimed-tied {m} {bs} {ns} e = subst (λ (js : List ℕ). Tied c rk m bs js ns) (sym e)
 
   -- an event that leaves a state in order ends in arbitration
-  pub settled-orderly : {m : Model} {ns : List ℕ} (s : State) → Orderly c s → Tied c rk m (s .bodies) (s .order) ns → Arbitrated c p rk (settled (p .priority) m) s
+  pub settled-orderly : {m : Model} {ns : List ℕ} (s : State) → Orderly c s → Tied c rk m (s .bodies) (s .order) ns
+      → Arbitrated c p rk (settled (p .priority) m) s
   settled-orderly s o t = settled-tied fit s (seated-of o) (kinds-of o) t
 
+  -- an accepted event leaves the model m and the state s, in order; another body may be above the level
+  module _ {m : Model} {s : State} {ns : List ℕ} (o : Orderly c s) (t : Tied c rk m (s .bodies) (s .order) ns)
+      (row : Shows (rowBytes (m .triggered)) (map rk (s .order))) (cells : CellsOf c p m (s .tables))
+      (lost : Lost c rk (m .losses) (s .bodies)) (noted : NotedOf c rk m (s .bodies)) where
+    pub settled-done : Done c p rk (settled (p .priority) m) s
+    settled-done =
+        record {
+          status = refl;
+          arb = settled-orderly s o t;
+          latest = latest-of o;
+          row = row;
+          size = o .bodies-there;
+          cells = cells;
+          lost = lost;
+          noted = noted;
+        }
+
+    -- none is
+    pub calm-done : Calm c (m .core .level) (s .bodies) → Done c p rk (doneWith m false) s
+    calm-done calm =
+        record {
+          status = refl;
+          arb = calm-arbitrated fit s done (seated-of o) t calm;
+          latest = latest-of o;
+          row = row;
+          size = o .bodies-there;
+          cells = cells;
+          lost = lost;
+          noted = noted;
+        }
+
+  -- a refused event leaves what it finds, or what it counts
+  refused-answered : {m : Model} {s : State} (st : ℕ) → Sim c p rk m s → Answered c p rk (refusedWith m st) st s
+  refused-answered {s = s} st sim =
+      record {
+        status = refl;
+        arb = calm-arbitrated fit s st (seated-of (sim .orderly)) (sim .tied) (sim .calm);
+        latest = latest-of (sim .orderly);
+        row = sim .row;
+        size = sim .tied .size;
+        cells = sim .cells;
+        lost = sim .lost;
+        noted = sim .noted;
+      }
+
+  -- an event with the outcome o on the machine's side; on the other the status st, and s″ before the dispatch
   module _ {m : Model} {s : State} (e : Event) (o : Outcome) (st : ℕ) (ds : List Bool) (s″ : State)
-      (machine : machineStep c p m e ≡ o) (plain : step c s e ≡ ending c st ds s″) (status : o .status ≡ st) (due : matched p m e ≡ ds)
-      (arb : Arbitrated c p rk o s″) (latest : LatestActive s″) (orderly : Orderly c (step c s e .state))
-      (row : Shows (rowBytes (o .model .triggered)) (map rk (s″ .order))) (size : length (s″ .bodies) ≡ c .bodies)
-      (timed : Timed c p (o .model .counter) (o .model .on) (o .model .turning) (s″ .tables)) (lost : Lost c rk (o .model .losses) (s″ .bodies))
-      (noted : Noted c rk (o .model .cleared) (o .model .bits) (o .model .waited) (s″ .bodies)) where
+      (machine : machineStep c p m e ≡ o) (plain : step c s e ≡ ending c st ds s″) (due : matched p m e ≡ ds)
+      (a : Answered c p rk o st s″) (orderly : Orderly c (step c s e .state)) where
     pub agrees : Agrees c p rk m s e
     agrees =
         record {
-          seen = ap (λ (x : Outcome). observed c p m e x) machine ∙ same ∙ sym (ap (λ (x : Plain.Stepped). x .seen) plain);
+          seen = ap (λ (x : Outcome). observed c p m e x) machine
+              ∙ same
+              ∙ sym (ap (λ (x : Plain.Stepped). x .seen) plain);
           sim = rw (machine, plain)
               (record {
-                nest = arb .nest;
-                tied = rw (order-dispatched c s″ latest) (arb .tied);
-                calm = arb .calm;
-                timed = rw (tables-dispatched c s″) timed;
-                lost = lost-same (dispatched-losses c s″) lost;
-                noted = noted-same (dispatched-bits c s″ latest) (dispatched-masks c s″ latest) noted;
+                nest = a .arb .nest;
+                tied = rw (order-dispatched c s″ (a .latest)) (a .arb .tied);
+                calm = a .arb .calm;
+                cells = rw (tables-dispatched c s″) (a .cells);
+                lost = lost-same (dispatched-losses c s″) (a .lost);
+                noted = noted-same
+                    (dispatched-bits c s″ (a .latest))
+                    (dispatched-masks c s″ (a .latest))
+                    (a .noted);
                 orderly = rw plain at orderly;
-                row = rw (order-dispatched c s″ latest) row;
+                row = rw (order-dispatched c s″ (a .latest)) (a .row);
               });
         }
       where
         same : observed c p m e o ≡ ending c st ds s″ .seen
         same i =
             record {
-              status = status i;
-              runner = arb .number i;
-              level = arb .level i;
-              begun = markOf (arb .begun i);
-              losses = losses-seen (o .model) (s″ .bodies) size lost i;
+              status = a .status i;
+              runner = a .arb .number i;
+              level = a .arb .level i;
+              begun = markOf (a .arb .begun i);
+              losses = losses-seen (o .model) (s″ .bodies) (a .size) (a .lost) i;
               due = due i;
             }
 
-  module _ {m : Model} {s : State} where
-    -- next: the state after the event is in order; m′ and s″: what the two sides leave where the event is refused
-    pub agrees-either : (e : Event) (stM stP : ℕ) (o : Outcome) (m′ : Model) (s′ s″ : State)
-        → machineStep c p m e ≡ Machine.attempt m′ stM o
+  -- an event other than Tick, in a state whose order every event keeps; stM and stP: its status on the two sides
+  module _ {m : Model} {s : State} (sim : Sim c p rk m s) (keeps : Keeps c s) (long : length (dues c s) ≡ p .count)
+      (e : Event) {stM stP : ℕ} (o : Outcome) (s′ : State) where
+    -- m′ and s″: what the two sides leave where the event is refused
+    pub agrees-either : (m′ : Model) (s″ : State) → machineStep c p m e ≡ Machine.attempt m′ stM o
         → step c s e ≡ ending c stP (noneDue c s) (cond (eqb stP done) s′ s″)
-        → matched p m e ≡ noneDue c s
-        → stM ≡ stP → (stP ≡ done → Accepted c p rk o s′) → (stP ≢ done → Sim c p rk m′ s″) → Orderly c (step c s e .state) → Agrees c p rk m s e
-    agrees-either e stM stP o m′ s′ s″ machine plain due same acc ref next =
+        → matched p m e ≡ replicate (p .count) false
+        → stM ≡ stP → (stP ≡ done → Done c p rk o s′) → (stP ≢ done → Sim c p rk m′ s″) → Agrees c p rk m s e
+    agrees-either m′ s″ machine plain unmatched same acc ref =
         by-eq stP done
-        (λ z. let a = acc z in
-        agrees e o stP (noneDue c s) s′
-        (machine ∙ rw (same, eq-eqb stP done z)) (plain ∙ rw (eq-eqb stP done z)) (a .status ∙ sym z) due (a .arb) (a .latest) next (a .row) (a .size) (a .timed) (a .lost) (a .noted))
-        (λ n. let k = ref n in
-        agrees e (refusedWith m′ stM) stP (noneDue c s) s″
-        (machine ∙ attempt-refused m′ stM o (λ z. n (sym same ∙ z))) (plain ∙ rw (ne-eqb stP done n)) same due
-        (calm-arbitrated fit s″ stM (seated-of (k .orderly)) (k .tied) (k .calm)) (latest-of (k .orderly)) next (k .row) (k .tied .size) (k .timed) (k .lost) (k .noted))
+        (λ z. agrees e o stP (noneDue c s) s′
+        (machine ∙ rw (same, eq-eqb stP done z))
+        (plain ∙ rw (eq-eqb stP done z))
+        due (rw z (acc z)) (keeps .next e))
+        (λ n. agrees e (refusedWith m′ stP) stP (noneDue c s) s″
+        (machine ∙ rw same (attempt-refused m′ stP o n))
+        (plain ∙ rw (ne-eqb stP done n))
+        due (refused-answered stP (ref n)) (keeps .next e))
+      where
+        due : matched p m e ≡ noneDue c s
+        due = unmatched ∙ ap (λ (n : ℕ). replicate n false) (sym long)
 
-  module _ {m : Model} {s : State} (sim : Sim c p rk m s) where
-    pub agrees-attempt : (e : Event) (stM stP : ℕ) (o : Outcome) (s′ : State)
-        → machineStep c p m e ≡ Machine.attempt m stM o
+    pub agrees-attempt : machineStep c p m e ≡ Machine.attempt m stM o
         → step c s e ≡ ending c stP (noneDue c s) (cond (eqb stP done) s′ s)
-        → matched p m e ≡ noneDue c s
-        → stM ≡ stP → (stP ≡ done → Accepted c p rk o s′) → Orderly c (step c s e .state) → Agrees c p rk m s e
-    agrees-attempt e stM stP o s′ machine plain due same acc next =
-        agrees-either e stM stP o m s′ s machine plain due same acc (λ _. sim) next
-
-    -- an event that is no Tick has no match
-    pub no-match : length (dues c s) ≡ p .count → replicate (p .count) false ≡ noneDue c s
-    no-match long = ap (λ (n : ℕ). replicate n false) (sym long)
+        → matched p m e ≡ replicate (p .count) false
+        → stM ≡ stP → (stP ≡ done → Done c p rk o s′) → Agrees c p rk m s e
+    agrees-attempt machine plain unmatched same acc = agrees-either m s machine plain unmatched same acc (λ _. sim)

@@ -1,7 +1,7 @@
 -- Wait, Set and Clear do the same to the model as to the state.
 use Prim.Native.Nat.{ℕ, _<_}
 use mathlib.Core.Path.{_≡_, refl, sym, ap, _∙_}
-use mathlib.Core.Bool.{Bool, true, false, true≢false, cond, not}
+use mathlib.Core.Bool.{Bool, true, false, cond, not, Bool·not-not}
 use mathlib.Core.List.{List, [], _∷_}
 use native.Mathlib.Omega.{arith}
 use borrow.Author.Tests.{not-false, not-true, ne-eqb, lt-ltb, le-ltb}
@@ -13,42 +13,32 @@ use Rattle.config.specs.declared.Config.{Config}
 use Rattle.config.specs.Meaning.{isr, extended, timeTriggered, isTask, isIsr, isExtended, isTimed}
 use Rattle.plan.specs.declared.Plan.{Plan}
 use Rattle.word.specs.Word.{has, without}
-use Rattle.scheduler.specs.Status.{done, callLevel, noSuch, access, holdsResource, wrongState}
+use Rattle.scheduler.specs.Status.{callLevel, noSuch, access, holdsResource, wrongState}
 use Rattle.scheduler.specs.Bits.{anySet, withoutBits}
-use Rattle.scheduler.specs.Body.{Phase, suspended, ready, started, waiting, triggered, isSuspended, isStarted, competes, Body, holds, become, receives, clears}
-use Rattle.scheduler.specs.State.{State, noBody, bodyOf, changing}
-use Rattle.scheduler.specs.Call.{nobodyCalls, caller, calling, active, waitStatus, setStatus, clearStatus, wait, setEvent, clear}
+use Rattle.scheduler.specs.Body.{started, waiting, isSuspended, competes, Body, become, receives, clears}
+use Rattle.scheduler.specs.State.{State, noBody, changing}
+use Rattle.scheduler.specs.Call.{caller, waitStatus, setStatus, clearStatus, wait, setEvent, clear}
 use Rattle.scheduler.specs.Tick.{dues}
 use Rattle.scheduler.specs.Scheduler.{Wait, Set, Clear, stepBy}
 use Rattle.scheduler.proofs.Checks.{wait-passed, set-passed}
 use Rattle.scheduler.proofs.Order.{Orderly}
-use Rattle.machine.specs.Model.{Model, noRank, withBegun, doneWith}
+use Rattle.machine.specs.Model.{Core, Model, noRank, withBegun, doneWith}
 use Rattle.machine.specs.Arbiter.{settled}
-use Rattle.machine.specs.Resources.{holding}
 use Rattle.machine.specs.Events as Machine
-use Rattle.machine.specs.Events.{noCaller, busy, bitsAt, pausing, receiving, clearing}
+use Rattle.machine.specs.Events.{bitsAt, pausing, receiving, clearing}
 use Rattle.machine.specs.Machine.{statusOf, effectOf, refusalOf}
 use Rattle.plan.proofs.Fitted.{Fitted}
-use Rattle.machine.proofs.Relation.Words.{at, busy-is, words-changed, marks-same, unmoved-same}
-use Rattle.machine.proofs.Relation.Nest.{Nested}
+use Rattle.machine.proofs.Relation.Words.{at, busy-is, words-changed, marks-same, unmoved-same, started-competes, competes-active}
 use Rattle.machine.proofs.Relation.Losses.{lost-same}
-use Rattle.machine.proofs.Relation.Bits.{Noted, noted-changed}
+use Rattle.machine.proofs.Relation.Bits.{NotedOf, noted-changed}
 use Rattle.machine.proofs.Relation.Whole.{Tied, Sim}
 use Rattle.machine.proofs.Relation.Order.{of-one-kind, untriggered}
-use Rattle.machine.proofs.Arbitration.Dispatch.{rank-below, calm-arbitrated}
+use Rattle.machine.proofs.Arbitration.Dispatch.{rank-below}
 use Rattle.machine.proofs.Change.Request.{touched-tied, events-tied}
 use Rattle.machine.proofs.Change.End.{pause-tied}
 use Rattle.machine.proofs.Change.Bits.{bits-of, receive-tied, receive-noted, clear-noted}
-use Rattle.machine.proofs.Event.Agrees.{kept, first-same, first-passed, Agrees, Accepted, Keeps, Runs, by-caller, caller-same, seated-of, latest-of, untimed-tied, settled-orderly, agrees-attempt, no-match}
+use Rattle.machine.proofs.Event.Agrees.{kept, first-same, Agrees, Done, Keeps, Runs, call-same, by-call, caller-same, untimed-tied, settled-done, calm-done, agrees-attempt}
 use Rattle.machine.proofs.Event.Bodies.{task-exists, nothing-held, holding-same}
-
--- a body that is started isn't suspended
-started-active : (q : Phase) → isStarted q ≡ true → isSuspended q ≡ false
-started-active suspended h = absurd (true≢false (sym h))
-started-active ready h = refl
-started-active started h = refl
-started-active (waiting w) h = refl
-started-active (triggered x) h = refl
 
 module _ {c : Config} {p : Plan} {rk : ℕ → ℕ} (fit : Fitted c p rk) {m : Model} {s : State} (sim : Sim c p rk m s)
     (keeps : Keeps c s) (long : length (dues c s) ≡ p .count) where
@@ -56,28 +46,25 @@ module _ {c : Config} {p : Plan} {rk : ℕ → ℕ} (fit : Fitted c p rk) {m : M
   bs = s .bodies
 
   -- "not extended", of the runner
-  extended-same : {b : ℕ} {ns : List ℕ} → Runs c rk m s b ns → has (p .extended) (m .core .runner) ≡ isExtended c (caller c s)
+  extended-same : {b : ℕ} {ns : List ℕ} → Runs c rk m s b ns
+      → has (p .extended) (m .core .runner) ≡ isExtended c (caller c s)
   extended-same {b} k = rw (k .rank) (fit .extended-at b (k .exists)) ∙ ap (isExtended c) (sym (k .calls))
 
   runner-active : {b : ℕ} {ns : List ℕ} → Runs c rk m s b ns → isSuspended (at bs b .phase) ≡ false
-  unfolding Nested
-  runner-active {b} k = started-active (at bs b .phase) (k .tied .nested .1 .0)
+  runner-active {b} k = competes-active (at bs b .phase) (started-competes (at bs b .phase) (k .started-now))
 
   -- Wait
   wait-status : (w : ℕ) → Machine.waitStatus (p .extended) m ≡ waitStatus c s w
   wait-status w =
-      by-caller fit sim
-      (λ i n. first-same (noCaller m) (nobodyCalls c s) callLevel _ _ (i ∙ sym n) (λ h. absurd (true≢false (sym n ∙ h))))
-      (λ b ns k.
-      first-same (noCaller m) (nobodyCalls c s) callLevel _ _ (k .may-call ∙ sym (k .calls-there))
-      (λ _. first-same (not (has (p .extended) (m .core .runner))) (not (isExtended c (caller c s))) access _ _ (ap not (extended-same k))
-      (λ _. first-same (holding m) (holds (calling c s .held)) holdsResource _ _ (holding-same fit sim keeps long k) (λ _. refl))))
+      call-same fit sim _ _
+      (λ b ns k. first-same access _ _ (ap not (extended-same k))
+      (λ _. first-same holdsResource _ _ (holding-same fit sim keeps long k) (λ _. refl)))
 
   -- where no waited bit is set the runner waits
   paused-noted : {b : ℕ} {ns : List ℕ} → Runs c rk m s b ns → (w : ℕ)
-      → Noted c rk (pausing w m .cleared) (pausing w m .bits) (pausing w m .waited) (set bs b (become (waiting w) (at bs b)))
+      → NotedOf c rk (pausing w m) (set bs b (become (waiting w) (at bs b)))
   paused-noted {b} k w =
-      noted-changed fit (sim .noted) (sim .tied .size) b (k .exists) (become (waiting w) (at bs b)) (pausing w m .cleared) (pausing w m .bits) (pausing w m .waited)
+      noted-changed fit (sim .noted) (sim .tied .size) b (k .exists) (become (waiting w) (at bs b)) _ _ _
       (sim .noted .bits-long)
       (length-set (m .waited) (m .core .runner) w ∙ sim .noted .masks-long)
       (bits-of m (sim .noted) b (k .exists) (runner-active k))
@@ -94,49 +81,40 @@ module _ {c : Config} {p : Plan} {rk : ℕ → ℕ} (fit : Fitted c p rk) {m : M
       mask : (u v : ℕ) → waiting u ≡ waiting v → u ≡ v
       mask u v h = cc
 
-  wait-accepted : {b : ℕ} {ns : List ℕ} → Runs c rk m s b ns → isIsr c b ≡ false → (w : ℕ) → at bs b .held ≡ [] → (z : Bool)
-      → Orderly c (changing b (λ x. cond z x (become (waiting w) x)) s)
-      → Accepted c p rk (cond z (doneWith m false) (settled (p .priority) (pausing w m))) (changing b (λ x. cond z x (become (waiting w) x)) s)
-  wait-accepted {b} k task w free true mid =
+  -- the runner b goes on where z, and else waits
+  abbrev waits : ℕ → ℕ → Bool → State
+  waits b w z = changing b (λ x. cond z x (become (waiting w) x)) s
+
+  wait-done : {b : ℕ} {ns : List ℕ} → Runs c rk m s b ns → isIsr c b ≡ false → (w : ℕ) → at bs b .held ≡ [] → (z : Bool)
+      → Orderly c (waits b w z)
+      → Done c p rk (cond z (doneWith m false) (settled (p .priority) (pausing w m))) (waits b w z)
+  wait-done {b} k task w free true mid =
       rw (set-getD bs b noBody)
-      (record {
-        status = refl;
-        arb = calm-arbitrated fit s done (seated-of fit (sim .orderly)) (sim .tied) (sim .calm);
-        latest = latest-of fit (sim .orderly);
-        row = sim .row;
-        size = sim .tied .size;
-        timed = sim .timed;
-        lost = sim .lost;
-        noted = sim .noted;
-      })
-  wait-accepted {b} k task w free false mid =
-      record {
-        status = refl;
-        arb = settled-orderly fit (changing b (become (waiting w)) s) mid (untimed-tied fit (k .none-timed) (pause-tied fit (k .tied) free task w));
-        latest = latest-of fit mid;
-        row = sim .row;
-        size = mid .bodies-there;
-        timed = sim .timed;
-        lost = lost-same (kept (λ x. x .losses) (become (waiting w)) (λ x. refl) bs b) (sim .lost);
-        noted = paused-noted k w;
-      }
+      (calm-done fit (sim .orderly) (sim .tied) (sim .row) (sim .cells) (sim .lost) (sim .noted) (sim .calm))
+  wait-done {b} k task w free false mid =
+      settled-done fit mid
+      (untimed-tied fit (k .none-timed) (pause-tied fit (k .tied) free task w))
+      (sim .row)
+      (sim .cells)
+      (lost-same (kept (λ x. x .losses) (become (waiting w)) (λ x. refl) bs b) (sim .lost))
+      (paused-noted k w)
 
   pub agrees-wait : (w : ℕ) → Agrees c p rk m s (Wait w)
   unfolding statusOf effectOf refusalOf stepBy
   agrees-wait w =
-      agrees-attempt fit sim (Wait w) (Machine.waitStatus (p .extended) m) (waitStatus c s w) (Machine.waitEffect (p .priority) m w) (wait (caller c s) w s)
-      refl refl (no-match fit sim long) (wait-status w)
-      (λ z. let a = wait-passed c s w z in
+      agrees-attempt fit sim keeps long (Wait w) (Machine.waitEffect (p .priority) m w) (wait (caller c s) w s)
+      refl refl refl (wait-status w)
+      (λ z.
+      let a = wait-passed c s w z in
       let mid = keeps .effect (Wait w) refl z in
-      by-caller fit sim
-      (λ i n. absurd (true≢false (sym n ∙ first-passed (nobodyCalls c s) callLevel _ (λ e. absurd (omega (arith, e))) z)))
+      by-call fit sim _ z
       (λ b ns k.
-      let free : at bs b .held ≡ [] = nothing-held (at bs b .held) (sym (ap (λ (i : ℕ). holds (bodyOf s i .held)) (k .calls)) ∙ a .2) in
-      let task : isIsr c b ≡ false = of-one-kind c b extended isr (λ e. absurd (omega (arith, e))) (ap (isExtended c) (sym (k .calls)) ∙ a .1) in
+      let free = nothing-held (at bs b .held) (rw (k .calls) at (a .2)) in
+      let extends : isExtended c b ≡ true = rw (k .calls) at (a .1) in
+      let task : isIsr c b ≡ false = of-one-kind c b extended isr (λ e. absurd (omega (arith, e))) extends in
       rw (k .calls)
       (rw (ap (bitsAt m) (k .rank) ∙ bits-of m (sim .noted) b (k .exists) (runner-active k))
-      (wait-accepted k task w free (anySet (at bs b .bits) w) (rw (k .calls) at mid)))))
-      (keeps .next (Wait w))
+      (wait-done k task w free (anySet (at bs b .bits) w) (rw (k .calls) at mid)))))
 
   -- Set
   rank-is : (t : ℕ) → t < c .bodies → getD (p .rank) t noRank ≡ rk t
@@ -145,61 +123,52 @@ module _ {c : Config} {p : Plan} {rk : ℕ → ℕ} (fit : Fitted c p rk) {m : M
   no-task-is : (t : ℕ) → Machine.noTask (p .isrs) (getD (p .rank) t noRank) ≡ not (isTask c t)
   no-task-is t =
       by-lt t (c .bodies)
-      (λ h. rw (rank-is t h, ne-eqb (rk t) noRank (λ z. absurd (omega (arith, z, rank-below fit t h))), fit .isr-at t h, lt-ltb t (c .bodies) h) (sym (not-not (eqb (getD (c .kind) t 0) isr))))
+      (λ h.
+      let some = ne-eqb (rk t) noRank (λ z. absurd (omega (arith, z, rank-below fit t h))) in
+      rw (rank-is t h, some, fit .isr-at t h, lt-ltb t (c .bodies) h)
+      (sym (Bool·not-not (eqb (getD (c .kind) t 0) isr))))
       (λ h. rw (fit .rank-none t h, le-ltb t (c .bodies) h))
-    where
-      not-not : (x : Bool) → not (not x) ≡ x
-      not-not true = refl
-      not-not false = refl
 
   set-status : (t w : ℕ) → Machine.setStatus (p .isrs) (p .extended) (p .rank) m t ≡ setStatus c s t w
   set-status t w =
-      first-same (noCaller m) (nobodyCalls c s) callLevel _ _ (caller-same fit sim)
-      (λ _. first-same (Machine.noTask (p .isrs) (getD (p .rank) t noRank)) (not (isTask c t)) noSuch _ _ (no-task-is t)
+      first-same callLevel _ _ (caller-same fit sim)
+      (λ _. first-same noSuch _ _ (no-task-is t)
       (λ h. let t< = task-exists c t (not-false (isTask c t) h) in
-      first-same (not (has (p .extended) (getD (p .rank) t noRank))) (not (isExtended c t)) access _ _
-      (rw (rank-is t t<) (ap not (fit .extended-at t t<)))
-      (λ _. first-same (not (busy m (getD (p .rank) t noRank))) (not (active s t)) wrongState _ _
-      (rw (rank-is t t<) (ap not (busy-is (sim .tied .words) t t<)))
+      first-same access _ _ (rw (rank-is t t<) (ap not (fit .extended-at t t<)))
+      (λ _. first-same wrongState _ _ (rw (rank-is t t<) (ap not (busy-is (sim .tied .words) t t<)))
       (λ _. refl))))
 
   pub agrees-set : (t w : ℕ) → Agrees c p rk m s (Set t w)
   unfolding statusOf effectOf refusalOf stepBy
   agrees-set t w =
-      agrees-attempt fit sim (Set t w) (Machine.setStatus (p .isrs) (p .extended) (p .rank) m t) (setStatus c s t w)
-      (settled (p .priority) (receiving (getD (p .rank) t noRank) w m)) (setEvent t w s) refl refl (no-match fit sim long) (set-status t w)
-      (λ z. let a = set-passed c s t w z in
+      agrees-attempt fit sim keeps long (Set t w)
+      (settled (p .priority) (receiving (getD (p .rank) t noRank) w m)) (setEvent t w s)
+      refl refl refl (set-status t w)
+      (λ z.
+      let a = set-passed c s t w z in
       let t< = task-exists c t (a .1) in
-      let mid = keeps .effect (Set t w) refl z in
-      let untimed : isTimed c t ≡ false = of-one-kind c t extended timeTriggered (λ e. absurd (omega (arith, e))) (a .2) in
+      let untimed : isTimed c t ≡ false =
+      of-one-kind c t extended timeTriggered (λ e. absurd (omega (arith, e))) (a .2) in
       let act : isSuspended (at bs t .phase) ≡ false = not-true (isSuspended (at bs t .phase)) (a .3) in
       rw (rank-is t t<)
-      (record {
-        status = refl;
-        arb = settled-orderly fit (setEvent t w s) mid (receive-tied fit m t t< (sim .noted) act w (sim .tied) (untriggered (sim .orderly) t untimed));
-        latest = latest-of fit mid;
-        row = sim .row;
-        size = mid .bodies-there;
-        timed = sim .timed;
-        lost = lost-same (kept (λ x. x .losses) (receives w) (λ x. refl) bs t) (sim .lost);
-        noted = receive-noted fit m t t< (sim .noted) act w (sim .tied .size);
-      }))
-      (keeps .next (Set t w))
+      (settled-done fit (keeps .effect (Set t w) refl z)
+      (receive-tied fit m t t< (sim .noted) act w (sim .tied) (untriggered (sim .orderly) t untimed))
+      (sim .row)
+      (sim .cells)
+      (lost-same (kept (λ x. x .losses) (receives w) (λ x. refl) bs t) (sim .lost))
+      (receive-noted fit m t t< (sim .noted) act w (sim .tied .size))))
 
   -- Clear
   clear-status : (w : ℕ) → Machine.clearStatus (p .extended) m ≡ clearStatus c s w
   clear-status w =
-      by-caller fit sim
-      (λ i n. first-same (noCaller m) (nobodyCalls c s) callLevel _ _ (i ∙ sym n) (λ h. absurd (true≢false (sym n ∙ h))))
-      (λ b ns k.
-      first-same (noCaller m) (nobodyCalls c s) callLevel _ _ (k .may-call ∙ sym (k .calls-there))
-      (λ _. first-same (not (has (p .extended) (m .core .runner))) (not (isExtended c (caller c s))) access _ _ (ap not (extended-same k)) (λ _. refl)))
+      call-same fit sim _ _ (λ b ns k. first-same access _ _ (ap not (extended-same k)) (λ _. refl))
 
-  clear-tied : {b : ℕ} {ns : List ℕ} → Runs c rk m s b ns → (w : ℕ) → Tied c rk (clearing w m) (set bs b (clears w (at bs b))) [] (b ∷ ns)
+  clear-tied : {b : ℕ} {ns : List ℕ} → Runs c rk m s b ns → (w : ℕ)
+      → Tied c rk (clearing w m) (set bs b (clears w (at bs b))) [] (b ∷ ns)
   clear-tied {b} k w =
       events-tied
-      (touched-tied (k .tied) fit b (k .exists) (clears w (at bs b)) refl (λ _. refl) (withBegun (m .core) (m .core .started) (m .core .aside))
-      (words-changed fit (k .tied .words) (k .tied .size) b (k .exists) (clears w (at bs b)) (withBegun (m .core) (m .core .started) (m .core .aside))
+      (touched-tied (k .tied) fit b (k .exists) (clears w (at bs b)) refl (λ _. refl) same
+      (words-changed fit (k .tied .words) (k .tied .size) b (k .exists) (clears w (at bs b)) same
       (k .tied .words .suits b)
       (marks-same (k .tied .words) b (k .exists) (clears w (at bs b)) refl refl (m .core .runner) (m .core .level))
       (unmoved-same (k .tied .words) (m .core .runner) (m .core .level) (rk b)))
@@ -208,25 +177,21 @@ module _ {c : Config} {p : Plan} {rk : ℕ → ℕ} (fit : Fitted c p rk) {m : M
       (without (m .cleared) (m .core .runner))
       (set (m .bits) (m .core .runner) (withoutBits (bitsAt m (m .core .runner)) w))
       (m .waited)
+    where
+      same : Core
+      same = withBegun (m .core) (m .core .started) (m .core .aside)
 
   pub agrees-clear : (w : ℕ) → Agrees c p rk m s (Clear w)
   unfolding statusOf effectOf refusalOf stepBy
   agrees-clear w =
-      agrees-attempt fit sim (Clear w) (Machine.clearStatus (p .extended) m) (clearStatus c s w) (doneWith (clearing w m) false) (clear (caller c s) w s)
-      refl refl (no-match fit sim long) (clear-status w)
-      (λ z. let mid = keeps .effect (Clear w) refl z in
-      by-caller fit sim
-      (λ i n. absurd (true≢false (sym n ∙ first-passed (nobodyCalls c s) callLevel _ (λ e. absurd (omega (arith, e))) z)))
+      agrees-attempt fit sim keeps long (Clear w) (doneWith (clearing w m) false) (clear (caller c s) w s)
+      refl refl refl (clear-status w)
+      (λ z. by-call fit sim _ z
       (λ b ns k. rw (k .calls)
-      (record {
-        status = refl;
-        latest = latest-of fit (rw (k .calls) at mid);
-        row = sim .row;
-        arb = calm-arbitrated fit (clear b w s) done (seated-of fit (rw (k .calls) at mid)) (untimed-tied fit (k .none-timed) (clear-tied k w))
-            (λ i i< u. sim .calm i i< (sym (kept (λ x. competes (x .phase)) (clears w) (λ x. refl) bs b i) ∙ u));
-        size = length-set bs b (clears w (at bs b)) ∙ sim .tied .size;
-        timed = sim .timed;
-        lost = lost-same (kept (λ x. x .losses) (clears w) (λ x. refl) bs b) (sim .lost);
-        noted = rw (k .rank) (clear-noted fit m b (k .exists) (sim .noted) (runner-active k) w (sim .tied .size));
-      })))
-      (keeps .next (Clear w))
+      (calm-done fit (rw (k .calls) at (keeps .effect (Clear w) refl z))
+      (untimed-tied fit (k .none-timed) (clear-tied k w))
+      (sim .row)
+      (sim .cells)
+      (lost-same (kept (λ x. x .losses) (clears w) (λ x. refl) bs b) (sim .lost))
+      (rw (k .rank) (clear-noted fit m b (k .exists) (sim .noted) (runner-active k) w (sim .tied .size)))
+      (λ i i< u. sim .calm i i< (sym (kept (λ x. competes (x .phase)) (clears w) (λ x. refl) bs b i) ∙ u)))))

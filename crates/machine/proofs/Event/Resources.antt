@@ -1,43 +1,42 @@
 -- Get and Release do the same to the model as to the state.
 use Prim.Native.Nat.{ℕ, zero, suc, max, _<_}
 use mathlib.Core.Path.{_≡_, refl, sym, ap, _∙_}
-use mathlib.Core.Bool.{Bool, true, false, true≢false, not, _||_}
-use mathlib.Core.List.{List, [], _∷_, _++_}
+use mathlib.Core.Bool.{Bool, true, false, true≢false, not, _||_, or-true}
+use mathlib.Core.List.{List, [], _∷_, _++_, map-append}
 use native.Mathlib.Omega.{arith}
 use borrow.Author.Tests.{eqb-true, leb-false}
-use lib.Dec.{leb, eqb}
+use lib.Dec.{eqb}
 use lib.ListN.{length, getD}
+use Rattle.number.proofs.Cases.{by-test}
 use Rattle.config.specs.declared.Config.{Config}
 use Rattle.config.specs.Meaning.{isUser}
 use Rattle.plan.specs.declared.Plan.{Plan}
 use Rattle.word.specs.Word.{has}
-use Rattle.scheduler.specs.Status.{done, callLevel, noSuch, access, noFunction, notUser}
+use Rattle.scheduler.specs.Status.{noSuch, access, noFunction, notUser}
 use Rattle.scheduler.specs.Body.{Body, competes, gets, releases}
 use Rattle.scheduler.specs.State.{State, among, heldIn, bodyOf}
-use Rattle.scheduler.specs.Call.{nobodyCalls, caller, calling, latestIs, getStatus, releaseStatus, get, release}
+use Rattle.scheduler.specs.Call.{caller, latestIs, getStatus, releaseStatus, get, release}
 use Rattle.scheduler.specs.Tick.{dues}
 use Rattle.scheduler.specs.Scheduler.{Get, Release, stepBy}
 use Rattle.scheduler.proofs.Checks.{get-passed, release-passed}
+use Rattle.scheduler.proofs.Distinct.{among-tail}
 use Rattle.machine.specs.Model.{Model, doneWith}
 use Rattle.machine.specs.Arbiter.{settled}
-use Rattle.machine.specs.Resources.{latest, getting, releasing}
+use Rattle.machine.specs.Resources.{getting, releasing}
 use Rattle.machine.specs.Events as Machine
-use Rattle.machine.specs.Events.{noCaller}
 use Rattle.machine.specs.Machine.{statusOf, effectOf, refusalOf}
 use Rattle.plan.proofs.Fitted.{Fitted}
-use Rattle.machine.proofs.Relation.Words.{at}
+use Rattle.machine.proofs.Relation.Words.{at, started-competes}
 use Rattle.machine.proofs.Relation.Slots.{Slot, slotsFor, slotsAlong, resourcesIn}
-use Rattle.machine.proofs.Relation.Nest.{Nested, by-among, among-tail, among-nil}
+use Rattle.machine.proofs.Relation.Nest.{Nested, by-among, among-nil}
 use Rattle.machine.proofs.Relation.Losses.{lost-same}
 use Rattle.machine.proofs.Relation.Bits.{eventBits, noted-same}
 use Rattle.machine.proofs.Relation.Whole.{Tied, Sim}
 use Rattle.machine.proofs.Relation.Order.{plain-competes}
-use Rattle.machine.proofs.Arbitration.Choice.{active-of-started}
-use Rattle.machine.proofs.Arbitration.Dispatch.{calm-arbitrated}
 use Rattle.machine.proofs.Change.Hold.{latest-is}
 use Rattle.machine.proofs.Change.Get.{get-tied}
 use Rattle.machine.proofs.Change.Release.{release-tied}
-use Rattle.machine.proofs.Event.Agrees.{kept, first-same, first-passed, Agrees, Keeps, by-caller, seated-of, latest-of, untimed-tied, settled-orderly, agrees-attempt, no-match}
+use Rattle.machine.proofs.Event.Agrees.{kept, first-same, Agrees, Keeps, call-same, by-call, untimed-tied, settled-done, calm-done, agrees-attempt}
 
 -- a Bool is what another is if each follows from the other
 iff-bool : (a b : Bool) → (a ≡ true → b ≡ true) → (b ≡ true → a ≡ true) → a ≡ b
@@ -49,39 +48,35 @@ or-cases {ℓ} : {C : Type ℓ} (a b : Bool) → a || b ≡ true → (a ≡ true
 or-cases true b h f g = f refl
 or-cases false b h f g = g h
 
-or-left : (a b : Bool) → a ≡ true → a || b ≡ true
-or-left a b h = rw h
-
-or-right : (a b : Bool) → b ≡ true → a || b ≡ true
-or-right true b h = refl
-or-right false b h = h
-
 -- a number in one of two lists
 among-append-left : (r : ℕ) (xs ys : List ℕ) → among r xs ≡ true → among r (xs ++ ys) ≡ true
 unfolding among
 among-append-left r [] ys h = absurd (true≢false (sym h))
-among-append-left r (x ∷ xs) ys h = or-cases (eqb r x) (among r xs) h (λ e. or-left (eqb r x) _ e) (λ q. or-right (eqb r x) _ (among-append-left r xs ys q))
+among-append-left r (x ∷ xs) ys h =
+    or-cases (eqb r x) (among r xs) h (λ e. rw e) (λ q. rw (among-append-left r xs ys q) (or-true (eqb r x)))
 
 among-append-right : (r : ℕ) (xs ys : List ℕ) → among r ys ≡ true → among r (xs ++ ys) ≡ true
 among-append-right r [] ys h = h
 among-append-right r (x ∷ xs) ys h = among-tail r x (xs ++ ys) (among-append-right r xs ys h)
 
-by-append {ℓ} : {C : Type ℓ} (r : ℕ) (xs ys : List ℕ) → among r (xs ++ ys) ≡ true → (among r xs ≡ true → C) → (among r ys ≡ true → C) → C
+by-append {ℓ} : {C : Type ℓ} (r : ℕ) (xs ys : List ℕ) → among r (xs ++ ys) ≡ true
+    → (among r xs ≡ true → C) → (among r ys ≡ true → C) → C
 unfolding among
 by-append r [] ys h f g = g h
 by-append r (x ∷ xs) ys h f g =
     or-cases (eqb r x) (among r (xs ++ ys)) h
-    (λ e. f (or-left (eqb r x) _ e))
-    (λ q. by-append r xs ys q (λ a. f (or-right (eqb r x) _ a)) g)
+    (λ e. f (rw e))
+    (λ q. by-append r xs ys q (λ a. f (rw a (or-true (eqb r x)))) g)
 
 -- "held by anyone" is held by some body of the list
 held-at : (r : ℕ) (bs : List Body) (i : ℕ) → i < length bs → among r (at bs i .held) ≡ true → heldIn r bs ≡ true
 unfolding heldIn
 held-at r [] i h a = absurd (omega arith)
-held-at r (b ∷ bs) zero h a = or-left (among r (b .held)) _ a
-held-at r (b ∷ bs) (suc i) h a = or-right (among r (b .held)) _ (held-at r bs i (omega arith) a)
+held-at r (b ∷ bs) zero h a = rw a
+held-at r (b ∷ bs) (suc i) h a = rw (held-at r bs i (omega arith) a) (or-true (among r (b .held)))
 
-pub held-by : (r : ℕ) (bs : List Body) → heldIn r bs ≡ true → (i : ℕ) × ((i < length bs) × (among r (at bs i .held) ≡ true))
+pub held-by : (r : ℕ) (bs : List Body) → heldIn r bs ≡ true
+    → (i : ℕ) × ((i < length bs) × (among r (at bs i .held) ≡ true))
 unfolding heldIn
 held-by r [] h = absurd (true≢false (sym h))
 held-by r (b ∷ bs) h =
@@ -95,16 +90,16 @@ module _ (c : Config) (rk : ℕ → ℕ) (bs : List Body) where
   resources-for b [] = refl
   resources-for b (r ∷ rs) = ap (λ (l : List ℕ). r ∷ l) (resources-for b rs)
 
-  map-append : (xs ys : List Slot) → resourcesIn (xs ++ ys) ≡ resourcesIn xs ++ resourcesIn ys
-  map-append [] ys = refl
-  map-append (x ∷ xs) ys = ap (λ (l : List ℕ). x .resource ∷ l) (map-append xs ys)
-
-  along-step : (b : ℕ) (ns : List ℕ) → resourcesIn (slotsAlong c rk bs (b ∷ ns)) ≡ at bs b .held ++ resourcesIn (slotsAlong c rk bs ns)
+  along-step : (b : ℕ) (ns : List ℕ)
+      → resourcesIn (slotsAlong c rk bs (b ∷ ns)) ≡ at bs b .held ++ resourcesIn (slotsAlong c rk bs ns)
   unfolding slotsAlong
-  along-step b ns = map-append (slotsFor c rk b (at bs b .held)) (slotsAlong c rk bs ns) ∙ ap (λ (l : List ℕ). l ++ resourcesIn (slotsAlong c rk bs ns)) (resources-for b (at bs b .held))
+  along-step b ns =
+      map-append (λ (x : Slot). x .resource) (slotsFor c rk b (at bs b .held)) (slotsAlong c rk bs ns)
+      ∙ ap (λ (l : List ℕ). l ++ resourcesIn (slotsAlong c rk bs ns)) (resources-for b (at bs b .held))
 
-  -- what a body of the chain holds has a slot, and what has a slot is held by a body of the chain
-  slot-of : (r i : ℕ) (ns : List ℕ) → among i ns ≡ true → among r (at bs i .held) ≡ true → among r (resourcesIn (slotsAlong c rk bs ns)) ≡ true
+  -- what a body of the nest holds has a slot, and what has a slot is held by a body of the nest
+  slot-of : (r i : ℕ) (ns : List ℕ) → among i ns ≡ true → among r (at bs i .held) ≡ true
+      → among r (resourcesIn (slotsAlong c rk bs ns)) ≡ true
   unfolding among
   slot-of r i [] h a = absurd (true≢false (sym h))
   slot-of r i (b ∷ ns) h a =
@@ -113,7 +108,8 @@ module _ (c : Config) (rk : ℕ → ℕ) (bs : List Body) where
       (λ e. among-append-left r (at bs b .held) _ (rw e at a))
       (λ _ q. among-append-right r (at bs b .held) _ (slot-of r i ns q a)))
 
-  slot-by : (r : ℕ) (ns : List ℕ) → Nested c bs ns → among r (resourcesIn (slotsAlong c rk bs ns)) ≡ true → (i : ℕ) × ((i < c .bodies) × (among r (at bs i .held) ≡ true))
+  slot-by : (r : ℕ) (ns : List ℕ) → Nested c bs ns → among r (resourcesIn (slotsAlong c rk bs ns)) ≡ true
+      → (i : ℕ) × ((i < c .bodies) × (among r (at bs i .held) ≡ true))
   unfolding slotsAlong among Nested
   slot-by r [] k h = absurd (true≢false (sym h))
   slot-by r (b ∷ ns) k h =
@@ -121,22 +117,21 @@ module _ (c : Config) (rk : ℕ → ℕ) (bs : List Body) where
       (λ a. (b, (k .0, a)))
       (λ q. slot-by r ns (k .1 .1 .1) q)
 
--- who holds a resource is in the nest
-pub holder-nested : {c : Config} {rk : ℕ → ℕ} {m : Model} {bs : List Body} {js ns : List ℕ} → Tied c rk m bs js ns → (r i : ℕ)
-    → among r (at bs i .held) ≡ true → among i ns ≡ true
-holder-nested {bs = bs} {ns = ns} t r i a = go (among i ns) refl
-  where
-    go : (b : Bool) → among i ns ≡ b → among i ns ≡ true
-    go true e = e
-    go false e = absurd (true≢false (sym (rw (t .loose i e) at a) ∙ among-nil r))
+module _ {c : Config} {rk : ℕ → ℕ} {m : Model} {bs : List Body} {js ns : List ℕ} (t : Tied c rk m bs js ns) where
+  -- who holds a resource is in the nest
+  pub holder-nested : (r i : ℕ) → among r (at bs i .held) ≡ true → among i ns ≡ true
+  holder-nested r i a =
+      by-test (among i ns)
+      (λ e. e)
+      (λ e. absurd (true≢false (sym (rw (t .loose i e) at a) ∙ among-nil r)))
 
--- the machine's flag of a resource says whether anybody holds it
-pub flag-is : {c : Config} {rk : ℕ → ℕ} {m : Model} {bs : List Body} {js ns : List ℕ} → Tied c rk m bs js ns → (r : ℕ) → has (m .held) r ≡ heldIn r bs
-flag-is {c} {rk} {m} {bs} {js} {ns} t r =
-    t .slots .flags r
-    ∙ iff-bool (among r (resourcesIn (slotsAlong c rk bs ns))) (heldIn r bs)
-    (λ h. let x = slot-by c rk bs r ns (t .nested) h in held-at r bs (x .0) (rw (t .size) (x .1 .0)) (x .1 .1))
-    (λ h. let x = held-by r bs h in slot-of c rk bs r (x .0) ns (holder-nested t r (x .0) (x .1 .1)) (x .1 .1))
+  -- the machine's flag of a resource says whether anybody holds it
+  flag-is : (r : ℕ) → has (m .held) r ≡ heldIn r bs
+  flag-is r =
+      t .slots .flags r
+      ∙ iff-bool (among r (resourcesIn (slotsAlong c rk bs ns))) (heldIn r bs)
+      (λ h. let x = slot-by c rk bs r ns (t .nested) h in held-at r bs (x .0) (rw (t .size) (x .1 .0)) (x .1 .1))
+      (λ h. let x = held-by r bs h in slot-of c rk bs r (x .0) ns (holder-nested r (x .0) (x .1 .1)) (x .1 .1))
 
 -- the latest of a list of held resources
 latest-split : (r : ℕ) (rs : List ℕ) → latestIs r rs ≡ true → (q : List ℕ) × (rs ≡ r ∷ q)
@@ -152,80 +147,71 @@ module _ {c : Config} {p : Plan} {rk : ℕ → ℕ} (fit : Fitted c p rk) {m : M
   get-status : (r : ℕ) → statusOf c p m (Get r) ≡ getStatus c s r
   unfolding statusOf
   get-status r =
-      by-caller fit sim
-      (λ i n. first-same (noCaller m) (nobodyCalls c s) callLevel _ _ (i ∙ sym n) (λ h. absurd (true≢false (sym n ∙ h))))
-      (λ b ns k.
-      first-same (noCaller m) (nobodyCalls c s) callLevel _ _ (k .may-call ∙ sym (k .calls-there))
-      (λ _. first-same (leb (c .resources) r) (leb (c .resources) r) noSuch _ _ refl
-      (λ h. first-same (not (has (getD (p .users) r 0) (m .core .runner))) (not (isUser c r (caller c s))) notUser _ _
-      (ap not (ap (has (getD (p .users) r 0)) (k .rank) ∙ fit .users-at r b (leb-false (c .resources) r h) (k .exists) ∙ ap (isUser c r) (sym (k .calls))))
-      (λ _. first-same (has (m .held) r) (heldIn r bs) access _ _ (flag-is (sim .tied) r) (λ _. refl)))))
+      call-same fit sim _ _
+      (λ b ns k. first-same noSuch _ _ refl
+      (λ h.
+      let user = fit .users-at r b (leb-false (c .resources) r h) (k .exists) in
+      first-same notUser _ _
+      (ap not (ap (has (getD (p .users) r 0)) (k .rank) ∙ user ∙ ap (isUser c r) (sym (k .calls))))
+      (λ _. first-same access _ _ (flag-is (sim .tied) r) (λ _. refl))))
 
   -- Get changes no phase
-  get-phase {ℓ} : {A : Type ℓ} (f : Body → A) → ((x : Body) (r : ℕ) → f (gets r x) ≡ f x) → (r i : ℕ) → f (at (get (caller c s) r s .bodies) i) ≡ f (at bs i)
+  get-phase {ℓ} : {A : Type ℓ} (f : Body → A) → ((x : Body) (r : ℕ) → f (gets r x) ≡ f x) → (r i : ℕ)
+      → f (at (get (caller c s) r s .bodies) i) ≡ f (at bs i)
   get-phase f keeps r = kept f (gets r) (λ x. keeps x r) bs (caller c s)
+
+  -- the level then
+  abbrev raised : ℕ → ℕ
+  raised r = max (getD (p .ceiling) r 0) (m .core .level)
 
   pub agrees-get : (r : ℕ) → Agrees c p rk m s (Get r)
   unfolding statusOf effectOf refusalOf stepBy
   agrees-get r =
-      agrees-attempt fit sim (Get r) (statusOf c p m (Get r)) (getStatus c s r)
-      (doneWith (getting r (max (getD (p .ceiling) r 0) (m .core .level)) m) false) (get (caller c s) r s) refl refl
-      (no-match fit sim long) (get-status r)
-      (λ z. let a = get-passed c s r z in
-      let mid = keeps .effect (Get r) refl z in
-      by-caller fit sim
-      (λ i n. absurd (true≢false (sym n ∙ first-passed (nobodyCalls c s) callLevel _ (λ e. absurd (omega (arith, e))) z)))
+      agrees-attempt fit sim keeps long (Get r) (doneWith (getting r (raised r) m) false) (get (caller c s) r s)
+      refl refl refl (get-status r)
+      (λ z.
+      let a = get-passed c s r z in
+      by-call fit sim _ z
       (λ b ns k.
-      let t : Tied c rk (getting r (max (getD (p .ceiling) r 0) (m .core .level)) m) (get (caller c s) r s .bodies) (s .order) (b ∷ ns) =
-      untimed-tied fit (k .none-timed) (rw (k .calls) (get-tied fit (k .tied) r (a .1) (flag-is (sim .tied) r ∙ a .3))) in
-      record {
-        status = refl;
-        latest = latest-of fit mid;
-        row = sim .row;
-        arb = calm-arbitrated fit (get (caller c s) r s) done (seated-of fit mid) t
-            (λ i i< u. let q = sim .calm i i< (sym (get-phase (λ x. competes (x .phase)) (λ x _. refl) r i) ∙ u) in omega arith);
-        size = mid .bodies-there;
-        timed = sim .timed;
-        lost = lost-same (get-phase (λ x. x .losses) (λ x _. refl) r) (sim .lost);
-        noted = noted-same (get-phase eventBits (λ x _. refl) r) (λ i w h. sym (get-phase (λ x. x .phase) (λ x _. refl) r i) ∙ h) (sim .noted);
-      }))
-      (keeps .next (Get r))
+      let free = flag-is (sim .tied) r ∙ a .3 in
+      let t : Tied c rk (getting r (raised r) m) (get (caller c s) r s .bodies) (s .order) (b ∷ ns) =
+      untimed-tied fit (k .none-timed) (rw (k .calls) (get-tied fit (k .tied) r (a .1) free)) in
+      calm-done fit (keeps .effect (Get r) refl z) t
+      (sim .row)
+      (sim .cells)
+      (lost-same (get-phase (λ x. x .losses) (λ x _. refl) r) (sim .lost))
+      (noted-same (get-phase eventBits (λ x _. refl) r)
+      (λ i w h. sym (get-phase (λ x. x .phase) (λ x _. refl) r i) ∙ h) (sim .noted))
+      (λ i i< u.
+      let q = sim .calm i i< (sym (get-phase (λ x. competes (x .phase)) (λ x _. refl) r i) ∙ u) in
+      omega arith)))
 
   -- Release
   release-status : (r : ℕ) → Machine.releaseStatus (c .resources) m r ≡ releaseStatus c s r
   release-status r =
-      by-caller fit sim
-      (λ i n. first-same (noCaller m) (nobodyCalls c s) callLevel _ _ (i ∙ sym n) (λ h. absurd (true≢false (sym n ∙ h))))
-      (λ b ns k.
-      first-same (noCaller m) (nobodyCalls c s) callLevel _ _ (k .may-call ∙ sym (k .calls-there))
-      (λ _. first-same (leb (c .resources) r) (leb (c .resources) r) noSuch _ _ refl
-      (λ _. first-same (not (latest m r)) (not (latestIs r (calling c s .held))) noFunction _ _
+      call-same fit sim _ _
+      (λ b ns k. first-same noSuch _ _ refl
+      (λ _. first-same noFunction _ _
       (ap not (latest-is fit (k .tied) r ∙ ap (λ (i : ℕ). latestIs r (bodyOf s i .held)) (sym (k .calls))))
-      (λ _. refl))))
+      (λ _. refl)))
 
   pub agrees-release : (r : ℕ) → Agrees c p rk m s (Release r)
   unfolding statusOf effectOf refusalOf stepBy
   agrees-release r =
-      agrees-attempt fit sim (Release r) (Machine.releaseStatus (c .resources) m r) (releaseStatus c s r)
-      (settled (p .priority) (releasing (p .priority) r m)) (release (caller c s) s) refl refl
-      (no-match fit sim long) (release-status r)
-      (λ z. let a = release-passed c s r z in
-      let mid = keeps .effect (Release r) refl z in
-      by-caller fit sim
-      (λ i n. absurd (true≢false (sym n ∙ first-passed (nobodyCalls c s) callLevel _ (λ e. absurd (omega (arith, e))) z)))
+      agrees-attempt fit sim keeps long (Release r)
+      (settled (p .priority) (releasing (p .priority) r m)) (release (caller c s) s)
+      refl refl refl (release-status r)
+      (λ z.
+      let a = release-passed c s r z in
+      by-call fit sim _ z
       (λ b ns k.
-      let h = latest-split r (at bs b .held) (ap (λ (i : ℕ). latestIs r (bodyOf s i .held)) (sym (k .calls)) ∙ a .2) in
+      let h = latest-split r (at bs b .held) (rw (k .calls) at (a .2)) in
+      let plain = plain-competes (sim .orderly) b (started-competes (at bs b .phase) (k .started-now)) in
       let t : Tied c rk (releasing (p .priority) r m) (release (caller c s) s .bodies) (s .order) (b ∷ ns) =
-      untimed-tied fit (k .none-timed) (rw (k .calls) (release-tied fit (k .tied) (plain-competes (sim .orderly) b (active-of-started (at bs b .phase) (k .started-now))) r (a .1) (h .0) (h .1))) in
-      record {
-        status = refl;
-        arb = settled-orderly fit (release (caller c s) s) mid t;
-        latest = latest-of fit mid;
-        row = sim .row;
-        size = mid .bodies-there;
-        timed = sim .timed;
-        lost = lost-same (kept (λ x. x .losses) releases (λ x. refl) bs (caller c s)) (sim .lost);
-        noted = noted-same (kept eventBits releases (λ x. refl) bs (caller c s))
-            (λ i w h. sym (kept (λ x. x .phase) releases (λ x. refl) bs (caller c s) i) ∙ h) (sim .noted);
-      }))
-      (keeps .next (Release r))
+      untimed-tied fit (k .none-timed) (rw (k .calls) (release-tied fit (k .tied) plain r (a .1) (h .0) (h .1))) in
+      settled-done fit (keeps .effect (Release r) refl z) t
+      (sim .row)
+      (sim .cells)
+      (lost-same (kept (λ x. x .losses) releases (λ x. refl) bs (caller c s)) (sim .lost))
+      (noted-same (kept eventBits releases (λ x. refl) bs (caller c s))
+      (λ i w h. sym (kept (λ x. x .phase) releases (λ x. refl) bs (caller c s) i) ∙ h) (sim .noted))))

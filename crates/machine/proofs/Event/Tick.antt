@@ -1,38 +1,40 @@
--- Tick does the same to the model as to the state: a match is a due entry, and what it asks for or loses is the same. At most one
--- time-triggered task is started, and it is dispatched.
+-- Tick does the same to the model as to the state: a match is a due entry, and what it asks for or loses is the same.
+-- At most one time-triggered task is started, and it is dispatched.
 use Prim.Native.Nat.{ℕ, suc, _+_, _≤_, _<_}
-use mathlib.Core.Path.{_≡_, refl, sym, ap, subst, _∙_}
+use mathlib.Core.Path.{_≡_, refl, sym, ap, _∙_}
 use mathlib.Core.Logic.{_≢_}
-use mathlib.Core.Bool.{Bool, true, false, true≢false, cond}
+use mathlib.Core.Bool.{Bool, true, false, true≢false}
 use mathlib.Core.List.{List, [], _∷_, map}
 use native.Mathlib.Omega.{arith}
 use lib.ListN.{length, getD, set, drop, length-map}
 use lib.Seq.{drop-cons}
+use Rattle.number.proofs.Cases.{by-test, cond-either}
 use Rattle.config.specs.declared.Config.{Config}
 use Rattle.config.specs.Meaning.{isr, timeTriggered, executionLevel, isTask, isIsr, isTimed}
 use Rattle.plan.specs.declared.Plan.{Plan}
 use Rattle.word.specs.Word.{winner}
 use Rattle.stack.specs.Stack.{pushRow, rowBytes}
 use Rattle.scheduler.specs.Status.{done, firstGiven}
-use Rattle.scheduler.specs.Body.{Phase, suspended, ready, started, waiting, triggered, isSuspended, isStarted, isWaiting, hasBegun, Body, become, activated, triggers, loses, activatedByEntry}
-use Rattle.scheduler.specs.Choice.{chosen}
-use Rattle.scheduler.specs.State.{State, among, bodyOf, changing, latestOf, runner}
-use Rattle.scheduler.specs.Tick.{counting, counted, dues, starting, trigger, enter, activatingDue}
+use Rattle.scheduler.specs.Body.{Phase, suspended, ready, started, waiting, triggered, isSuspended, isStarted, isWaiting, hasBegun, Body, become, activated, triggers, loses}
+use Rattle.scheduler.specs.Choice.{Candidate}
+use Rattle.scheduler.specs.State.{State, among, bodyOf, changing, runner}
+use Rattle.scheduler.specs.Tick.{counting, counted, dues, starting, enter, activatingDue}
 use Rattle.scheduler.specs.Tick as Plain
 use Rattle.scheduler.specs.Scheduler.{Tick, stepBy}
 use Rattle.scheduler.proofs.Effects.{tables-ticked}
 use Rattle.scheduler.proofs.Placed.{Place, other, asleep, awake}
 use Rattle.scheduler.proofs.Order.{Orderly, Started, TickOrder, order-same, starts, tick-order}
-use Rattle.machine.specs.Model.{Model, Outcome, withCore, withRequest, withRest, doneWith}
-use Rattle.machine.specs.Arbiter.{bids, settled, launching, triggering}
+use Rattle.machine.specs.Model.{Model, withCore, withRequest, withRest, doneWith}
+use Rattle.machine.specs.Arbiter.{bids, settled, launching}
 use Rattle.machine.specs.Cells.{Due, oneLost, matchAt, requestsDue}
 use Rattle.machine.specs.Events.{begunWord, marksOf, dueOf, ticking, tick}
 use Rattle.machine.specs.Machine.{statusOf, effectOf, refusalOf}
 use Rattle.plan.proofs.Fitted.{Fitted}
 use Rattle.machine.proofs.Relation.Rows.{Shows, row-shows-pushed}
 use Rattle.machine.proofs.Relation.Words.{at, isAside, busy-is}
+use Rattle.machine.proofs.Relation.Cells.{CellsOf}
 use Rattle.machine.proofs.Relation.Losses.{Lost, lost-same, lost-one}
-use Rattle.machine.proofs.Relation.Bits.{Noted, noted-touched}
+use Rattle.machine.proofs.Relation.Bits.{NotedOf, noted-touched}
 use Rattle.machine.proofs.Relation.Kinds.{isBidding}
 use Rattle.machine.proofs.Relation.Order.{of-one-kind, kinds-of}
 use Rattle.machine.proofs.Relation.Whole.{Tied, Sim}
@@ -40,8 +42,8 @@ use Rattle.machine.proofs.Arbitration.Seat.{holders}
 use Rattle.machine.proofs.Arbitration.Dispatch.{Arbitrated, rank-below, runnerOf-is}
 use Rattle.machine.proofs.Change.Request.{elsewhere, activate-tied, trigger-tied, loss-tied}
 use Rattle.machine.proofs.Change.Launch.{plain-triggering, wins, launches, launch-tied}
-use Rattle.machine.proofs.Change.Ticks.{dues-long, marks-due, due-first-cells, ticked-timed}
-use Rattle.machine.proofs.Event.Agrees.{kept, Agrees, Keeps, LatestActive, latest-of, settled-orderly, agrees}
+use Rattle.machine.proofs.Change.Ticks.{dues-long, marks-due, due-first-cells, ticked-cells}
+use Rattle.machine.proofs.Event.Agrees.{kept, Agrees, Keeps, LatestActive, settled-done, agrees, runner-is}
 use Rattle.machine.proofs.Event.Bodies.{task-exists}
 
 -- the entries of a list of marks have the ranks rs and the tasks ts
@@ -51,14 +53,23 @@ Entries c rk (b ∷ ms) [] ts = ⊥
 Entries c rk (b ∷ ms) (r ∷ rs) [] = ⊥
 Entries c rk (b ∷ ms) (r ∷ rs) (t ∷ ts) = (r ≡ rk t) × ((isTask c t ≡ true) × Entries c rk ms rs ts)
 
-entries-from : (c : Config) (rk : ℕ → ℕ) (rs ts : List ℕ) (ms : List Bool) (e : ℕ) → e + length ms ≤ length rs → e + length ms ≤ length ts
-    → ((i : ℕ) → e ≤ i → i < e + length ms → (getD rs i 0 ≡ rk (getD ts i 0)) × (isTask c (getD ts i 0) ≡ true)) → Entries c rk ms (drop e rs) (drop e ts)
-unfolding Entries
-entries-from c rk rs ts [] e h k each = tt
-entries-from c rk rs ts (b ∷ ms) e h k each =
-    rw (drop-cons rs e 0 (omega arith), drop-cons ts e 0 (omega arith))
-    (let x = each e (omega arith) (omega arith) in
-    (x .0, (x .1, entries-from c rk rs ts ms (suc e) (omega arith) (omega arith) (λ i a l. each i (omega arith) (omega arith)))))
+module _ (c : Config) (rk : ℕ → ℕ) (rs ts : List ℕ) where
+  entries-from : (ms : List Bool) (e : ℕ) → e + length ms ≤ length rs → e + length ms ≤ length ts
+      → ((i : ℕ) → e ≤ i → i < e + length ms → (getD rs i 0 ≡ rk (getD ts i 0)) × (isTask c (getD ts i 0) ≡ true))
+      → Entries c rk ms (drop e rs) (drop e ts)
+  unfolding Entries
+  entries-from [] e h k each = tt
+  entries-from (b ∷ ms) e h k each =
+      let x = each e (omega arith) (omega arith) in
+      let later = entries-from ms (suc e) (omega arith) (omega arith) (λ i a l. each i (omega arith) (omega arith)) in
+      rw (drop-cons rs e 0 (omega arith), drop-cons ts e 0 (omega arith)) (x .0, (x .1, later))
+
+suspended-is : (q : Phase) → isSuspended q ≡ true → q ≡ suspended
+suspended-is suspended h = refl
+suspended-is ready h = absurd (true≢false (sym h))
+suspended-is started h = absurd (true≢false (sym h))
+suspended-is (waiting w) h = absurd (true≢false (sym h))
+suspended-is (triggered x) h = absurd (true≢false (sym h))
 
 -- the model with other requests and losses
 abbrev withDue : Model → Due → Model
@@ -69,7 +80,7 @@ module _ {c : Config} {p : Plan} {rk : ℕ → ℕ} (fit : Fitted c p rk) (js ns
   record Owed (m : Model) (x : Due) (s : State) : Type 0 where
     tied : Tied c rk (withDue m x) (s .bodies) js ns
     lost : Lost c rk (x .losses) (s .bodies)
-    noted : Noted c rk (m .cleared) (m .bits) (m .waited) (s .bodies)
+    noted : NotedOf c rk m (s .bodies)
 
   -- a match at the rank of a task
   module _ (m : Model) (x : Due) (s : State) (owed : Owed m x s) (t : ℕ) (task : isTask c t ≡ true) where
@@ -86,7 +97,8 @@ module _ {c : Config} {p : Plan} {rk : ℕ → ℕ} (fit : Fitted c p rk) (js ns
     loss a =
         rw (busy-is (owed .tied .words) t exists, a)
         (record {
-          tied = elsewhere (loss-tied (owed .tied) fit t exists) (m .counter) (m .on) (m .turning) (oneLost (rk t) (x .losses));
+          tied = elsewhere (loss-tied (owed .tied) fit t exists)
+              (m .counter) (m .on) (m .turning) (oneLost (rk t) (x .losses));
           lost = lost-one fit (owed .tied .size) (owed .lost) t exists;
           noted = noted-touched fit (owed .noted) (owed .tied .size) t exists (loses (at bs t)) refl (λ w h. h);
         })
@@ -95,34 +107,31 @@ module _ {c : Config} {p : Plan} {rk : ℕ → ℕ} (fit : Fitted c p rk) (js ns
     activation e =
         rw (busy-is (owed .tied .words) t exists, ap isSuspended e)
         (record {
-          tied = elsewhere (activate-tied (owed .tied) fit t exists (ap isStarted e) (ap isAside e)) (m .counter) (m .on) (m .turning) (x .losses);
+          tied = elsewhere (activate-tied (owed .tied) fit t exists (ap isStarted e) (ap isAside e))
+              (m .counter) (m .on) (m .turning) (x .losses);
           lost = lost-same (kept (λ y. y .losses) activated (λ y. refl) bs t) (owed .lost);
-          noted = noted-touched fit (owed .noted) (owed .tied .size) t exists (activated (at bs t)) (rw e) (λ w h. absurd (true≢false (sym (ap isWaiting h))));
+          noted = noted-touched fit (owed .noted) (owed .tied .size) t exists (activated (at bs t)) (rw e)
+              (λ w h. absurd (true≢false (sym (ap isWaiting h))));
         })
 
     trigger-owed : at bs t .phase ≡ suspended → Owed m next (starting t s)
     trigger-owed e =
         rw (busy-is (owed .tied .words) t exists, ap isSuspended e)
         (record {
-          tied = elsewhere (trigger-tied (owed .tied) fit t exists (ap isStarted e) (ap isAside e)) (m .counter) (m .on) (m .turning) (x .losses);
+          tied = elsewhere (trigger-tied (owed .tied) fit t exists (ap isStarted e) (ap isAside e))
+              (m .counter) (m .on) (m .turning) (x .losses);
           lost = lost-same (kept (λ y. y .losses) triggers (λ y. refl) bs t) (owed .lost);
-          noted = noted-touched fit (owed .noted) (owed .tied .size) t exists (triggers (at bs t)) (rw e) (λ w h. absurd (true≢false (sym (ap isWaiting h))));
+          noted = noted-touched fit (owed .noted) (owed .tied .size) t exists (triggers (at bs t)) (rw e)
+              (λ w h. absurd (true≢false (sym (ap isWaiting h))));
         })
 
     match-owed : Owed m next (enter c t s)
-    match-owed = by-kind (isTimed c t) (at bs t .phase) refl
-      where
-        by-kind : (k : Bool) (q : Phase) → at bs t .phase ≡ q → Owed m next (cond k (trigger t s) (changing t activatedByEntry s))
-        by-kind true suspended e = rw (ap isSuspended e) (trigger-owed e)
-        by-kind true ready e = rw (ap isSuspended e) (loss (ap isSuspended e))
-        by-kind true started e = rw (ap isSuspended e) (loss (ap isSuspended e))
-        by-kind true (waiting w) e = rw (ap isSuspended e) (loss (ap isSuspended e))
-        by-kind true (triggered z) e = rw (ap isSuspended e) (loss (ap isSuspended e))
-        by-kind false suspended e = rw (ap isSuspended e) (activation e)
-        by-kind false ready e = rw (ap isSuspended e) (loss (ap isSuspended e))
-        by-kind false started e = rw (ap isSuspended e) (loss (ap isSuspended e))
-        by-kind false (waiting w) e = rw (ap isSuspended e) (loss (ap isSuspended e))
-        by-kind false (triggered z) e = rw (ap isSuspended e) (loss (ap isSuspended e))
+    match-owed =
+        by-test (isSuspended (at bs t .phase))
+        (λ e.
+        let asleep = suspended-is (at bs t .phase) e in
+        cond-either (Owed m next) (isTimed c t) _ _ (rw e (trigger-owed asleep)) (rw e (activation asleep)))
+        (λ e. cond-either (Owed m next) (isTimed c t) _ _ (rw e (loss e)) (rw e (loss e)))
 
   due-owed : (m : Model) (ms : List Bool) (rs ts : List ℕ) → Entries c rk ms rs ts → (x : Due) (s : State) → Owed m x s
       → Owed m (requestsDue (begunWord m) ms rs x) (activatingDue c ms ts s)
@@ -133,21 +142,23 @@ module _ {c : Config} {p : Plan} {rk : ℕ → ℕ} (fit : Fitted c p rk) (js ns
   due-owed m (true ∷ ms) (r ∷ rs) [] k x s o = absurd k
   due-owed m (false ∷ ms) (r ∷ rs) [] k x s o = absurd k
   due-owed m (true ∷ ms) (r ∷ rs) (t ∷ ts) k x s o =
-      due-owed m ms rs ts (k .1 .1) (matchAt (begunWord m) r x) (enter c t s) (rw (k .0) (match-owed m x s o t (k .1 .0)))
+      due-owed m ms rs ts (k .1 .1) (matchAt (begunWord m) r x) (enter c t s)
+      (rw (k .0) (match-owed m x s o t (k .1 .0)))
   due-owed m (false ∷ ms) (r ∷ rs) (t ∷ ts) k x s o = due-owed m ms rs ts (k .1 .1) x s o
 
-module _ {c : Config} {p : Plan} {rk : ℕ → ℕ} (fit : Fitted c p rk) {m : Model} {s : State} (sim : Sim c p rk m s) (keeps : Keeps c s) where
+module _ {c : Config} {p : Plan} {rk : ℕ → ℕ} (fit : Fitted c p rk) {m : Model} {s : State} (sim : Sim c p rk m s)
+    (keeps : Keeps c s) where
   abbrev ms : List Bool
   ms = dues c (counted s)
 
   marks-are : marksOf (p .count) (p .compare) m ≡ ms
-  marks-are = marks-due c p rk fit (m .turning) (m .counter) (m .on) (s .tables) (sim .timed)
+  marks-are = marks-due fit (sim .cells)
 
   tables-counted : length (map counting (s .tables)) ≡ c .tables
-  tables-counted = length-map (s .tables) counting ∙ sim .timed .tables-long
+  tables-counted = length-map (s .tables) counting ∙ sim .cells .tables-long
 
   long : length ms ≡ p .count
-  long = dues-long c p rk fit (counted s) tables-counted
+  long = dues-long fit (counted s) tables-counted
 
   entries : Entries c rk ms (p .entry) (c .task)
   entries =
@@ -159,15 +170,23 @@ module _ {c : Config} {p : Plan} {rk : ℕ → ℕ} (fit : Fitted c p rk) {m : M
   abbrev asked : Due
   asked = record { request = m .core .request; losses = m .losses }
 
-  owed : Owed fit (s .order) (sim .nest) m (requestsDue (begunWord m) ms (p .entry) asked) (Plain.ticked c s)
+  -- what the due entries make of it
+  abbrev due : Due
+  due = requestsDue (begunWord m) ms (p .entry) asked
+
+  owed : Owed fit (s .order) (sim .nest) m due (Plain.ticked c s)
   owed =
       due-owed fit (s .order) (sim .nest) m ms (p .entry) (c .task) entries asked (counted s)
-      (record { tied = elsewhere (sim .tied) (m .counter) (m .on) (m .turning) (m .losses); lost = sim .lost; noted = sim .noted })
+      (record {
+        tied = elsewhere (sim .tied) (m .counter) (m .on) (m .turning) (m .losses);
+        lost = sim .lost;
+        noted = sim .noted;
+      })
 
-  due-is : dueOf (p .compare) (p .entry) m ≡ requestsDue (begunWord m) ms (p .entry) asked
+  due-is : dueOf (p .compare) (p .entry) m ≡ due
   due-is =
       due-first-cells (m .turning) (p .compare) (m .on) (p .count) (omega (arith, fit .count-is, fit .few-entries))
-      (λ i h. sim .timed .spare i (omega (arith, fit .count-is)))
+      (λ i h. sim .cells .spare i (omega (arith, fit .count-is)))
       (begunWord m) (m .counter) (p .entry) asked
       ∙ ap (λ (l : List Bool). requestsDue (begunWord m) l (p .entry) asked) marks-are
 
@@ -180,37 +199,41 @@ module _ {c : Config} {p : Plan} {rk : ℕ → ℕ} (fit : Fitted c p rk) {m : M
 
   ticked-tied : Tied c rk now (then .bodies) (s .order) (sim .nest)
   ticked-tied =
-      rw due-is
-      (elsewhere (owed .tied) (now .counter) (now .on) (now .turning) (requestsDue (begunWord m) ms (p .entry) asked .losses))
+      rw due-is (elsewhere (owed .tied) (now .counter) (now .on) (now .turning) (due .losses))
 
-  -- the outcome o of it, however it was arbitrated
-  ended : (o : Outcome) → triggering (p .priority) now ≡ o → o .status ≡ done → o .model .counter ≡ now .counter → o .model .on ≡ now .on
-      → o .model .turning ≡ now .turning → o .model .losses ≡ now .losses → o .model .cleared ≡ m .cleared → o .model .bits ≡ m .bits
-      → o .model .waited ≡ m .waited
-      → Arbitrated c p rk o then → LatestActive then → Shows (rowBytes (o .model .triggered)) (map rk (then .order)) → Agrees c p rk m s Tick
-  unfolding statusOf effectOf refusalOf tick stepBy firstGiven
-  ended o is st counters switches turns losses cleared bits waited arb latest row =
-      agrees fit Tick o done ms then is refl st marks-are arb latest (keeps .next Tick) row
-      (ticked-tied .size)
-      (rw (counters, switches, turns) (rw (tables-ticked c s) (ticked-timed c p rk fit (m .turning) (m .counter) (m .on) (s .tables) (sim .timed))))
-      (rw losses (rw due-is (owed .lost)))
-      (rw (cleared, bits, waited) (owed .noted))
+  cells : CellsOf c p now (then .tables)
+  cells = rw (tables-ticked c s) (ticked-cells fit (sim .cells))
+
+  lost : Lost c rk (now .losses) (then .bodies)
+  lost = rw due-is (owed .lost)
 
   -- no time-triggered task is started: the highest by priority is dispatched
   plain-tick : then .order ≡ s .order → Orderly c then → Agrees c p rk m s Tick
+  unfolding statusOf effectOf refusalOf tick stepBy firstGiven
   plain-tick same o =
-      ended (settled (p .priority) now) (plain-triggering fit ticked-tied (kinds-of o)) refl refl refl refl refl refl refl refl
-      (settled-orderly fit then o (subst (λ (js : List ℕ). Tied c rk now (then .bodies) js (sim .nest)) (sym same) ticked-tied))
-      (latest-of fit o)
-      (subst (λ (js : List ℕ). Shows (rowBytes (m .triggered)) (map rk js)) (sym same) (sim .row))
+      let t : Tied c rk now (then .bodies) (then .order) (sim .nest) = rw same ticked-tied in
+      let row : Shows (rowBytes (now .triggered)) (map rk (then .order)) = rw same (sim .row) in
+      agrees fit Tick (settled (p .priority) now) done ms then (plain-triggering fit ticked-tied (kinds-of o)) refl
+      marks-are (settled-done fit o t row cells lost (owed .noted)) (keeps .next Tick)
 
   -- one is
   timed-tick : (j : ℕ) → Started c s j → Agrees c p rk m s Tick
+  unfolding statusOf effectOf refusalOf tick stepBy firstGiven
   timed-tick j y =
-      ended (doneWith (launching now) true) (launches fit ticked-tied j (y .in-range) (y .timed) (y .to-begin) task others) refl refl refl refl refl refl refl refl
-      arb
-      latest
-      row
+      agrees fit Tick (doneWith (launching now) true) done ms then
+      (launches fit ticked-tied j (y .in-range) (y .timed) (y .to-begin) task others) refl
+      marks-are
+      (record {
+        status = refl;
+        arb = arb;
+        latest = latest;
+        row = row;
+        size = ticked-tied .size;
+        cells = cells;
+        lost = lost;
+        noted = owed .noted;
+      })
+      (keeps .next Tick)
     where
       task : isIsr c j ≡ false
       task = of-one-kind c j timeTriggered isr (λ e. absurd (omega (arith, e))) (y .timed)
@@ -228,18 +251,19 @@ module _ {c : Config} {p : Plan} {rk : ℕ → ℕ} (fit : Fitted c p rk) {m : M
       wins-is : winner (bids (now .core)) ≡ rk j
       wins-is = wins fit ticked-tied j (y .in-range) (y .timed) (y .to-begin) task others
 
-      runner-is : runner c then ≡ record { number = j; level = executionLevel; began = false; holder = false; timed = true }
-      runner-is =
-          ap (λ (os : List ℕ). latestOf (then .bodies) os (chosen c (then .bodies))) (y .order-is)
-          ∙ ap (λ (x : Bool). record { number = j; level = executionLevel; began = x; holder = false; timed = true }) (ap hasBegun (y .to-begin))
+      begins-at : Bool → Candidate
+      begins-at x = record { number = j; level = executionLevel; began = x; holder = false; timed = true }
 
-      tied : Tied c rk (launching now) (set (then .bodies) j (become (triggered true) (at (then .bodies) j))) (j ∷ s .order)
-          (holders fit (s .order) ticked-tied .nest)
+      latest-is : runner c then ≡ begins-at false
+      latest-is = runner-is c then (y .order-is) ∙ ap (λ (q : Phase). begins-at (hasBegun q)) (y .to-begin)
+
+      tied : Tied c rk (launching now) (set (then .bodies) j (become (triggered true) (at (then .bodies) j)))
+          (j ∷ s .order) (holders fit (s .order) ticked-tied .nest)
       tied = launch-tied fit ticked-tied j (y .in-range) (y .timed) (y .to-begin) task others
 
       arb : Arbitrated c p rk (doneWith (launching now) true) then
       arb =
-          rw (runner-is, y .order-is)
+          rw (latest-is, y .order-is)
           (record {
             nest = holders fit (s .order) ticked-tied .nest;
             tied = tied;
@@ -251,14 +275,14 @@ module _ {c : Config} {p : Plan} {rk : ℕ → ℕ} (fit : Fitted c p rk) {m : M
 
       latest : LatestActive then
       latest i is e =
-          let same : i ≡ j = ap (λ (os : List ℕ). getD os 0 0) (sym e ∙ y .order-is) in
+          let same : i ≡ j = ap (λ (js : List ℕ). getD js 0 0) (sym e ∙ y .order-is) in
           rw same (rw (ticked-tied .size) (y .in-range), ap isSuspended (y .to-begin))
 
       row : Shows (rowBytes (pushRow (m .triggered) (winner (bids (now .core))))) (map rk (then .order))
       row =
           rw (y .order-is, wins-is)
           (row-shows-pushed (m .triggered) (rk j) (map rk (s .order)) (omega (arith, rank-below fit j (y .in-range)))
-          (omega (arith, length-map (s .order) rk, y .few, ap (λ (os : List ℕ). length os) (y .order-is))) (sim .row))
+          (omega (arith, length-map (s .order) rk, y .few, ap (λ (js : List ℕ). length js) (y .order-is))) (sim .row))
 
   pub agrees-tick : Agrees c p rk m s Tick
   agrees-tick = by (tick-order c (fit .accepted) (fit .shaped) (sim .orderly))

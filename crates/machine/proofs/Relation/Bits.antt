@@ -1,11 +1,12 @@
 -- How the rows of event bits and of waited masks stand for the bodies'.
 --
---   Noted c rk x es ws bs   the bits es by rank, of which those in x count as 0, and the masks ws are those of the bodies bs
+--   Noted c rk x es ws bs   the bits es by rank, of which those in x count as 0, and the masks ws are those of the
+--                           bodies bs; NotedOf c rk m bs: those of the model m
 --   noted-same              bodies with the same bits and masks
 --   noted-touched           one body is changed, but for its bits and masks
 --   noted-changed           one body is changed, and the rows follow it
 use Prim.Native.Nat.{ℕ, _<_}
-use mathlib.Core.Path.{_≡_, refl, sym, ap, _∙_}
+use mathlib.Core.Path.{_≡_, refl, sym, _∙_}
 use mathlib.Core.Logic.{_≢_}
 use mathlib.Core.Bool.{cond}
 use mathlib.Core.List.{List}
@@ -18,6 +19,7 @@ use Rattle.word.specs.Word.{has}
 use Rattle.scheduler.specs.Body.{waiting, isSuspended, Body}
 use Rattle.scheduler.specs.State.{noBody}
 use Rattle.plan.proofs.Fitted.{Fitted}
+use Rattle.machine.specs.Model.{Model}
 use Rattle.machine.proofs.Relation.Words.{at}
 
 -- the event bits of the rank r
@@ -34,8 +36,14 @@ pub record Noted (c : Config) (rk : ℕ → ℕ) (x : ℕ) (es ws : List ℕ) (b
   pub bits-are : (b : ℕ) → b < c .bodies → noted x es (rk b) ≡ eventBits (at bs b)
   pub mask-is : (b w : ℕ) → b < c .bodies → at bs b .phase ≡ waiting w → getD ws (rk b) 0 ≡ w
 
-pub noted-same : {c : Config} {rk : ℕ → ℕ} {x : ℕ} {es ws : List ℕ} {bs bs′ : List Body} → ((i : ℕ) → eventBits (at bs′ i) ≡ eventBits (at bs i))
-    → ((i w : ℕ) → at bs′ i .phase ≡ waiting w → at bs i .phase ≡ waiting w) → Noted c rk x es ws bs → Noted c rk x es ws bs′
+-- those of the model m
+abbrev pub NotedOf : Config → (ℕ → ℕ) → Model → List Body → Type 0
+NotedOf c rk m bs = Noted c rk (m .cleared) (m .bits) (m .waited) bs
+
+pub noted-same : {c : Config} {rk : ℕ → ℕ} {x : ℕ} {es ws : List ℕ} {bs bs′ : List Body}
+    → ((i : ℕ) → eventBits (at bs′ i) ≡ eventBits (at bs i))
+    → ((i w : ℕ) → at bs′ i .phase ≡ waiting w → at bs i .phase ≡ waiting w)
+    → Noted c rk x es ws bs → Noted c rk x es ws bs′
 noted-same bits masks n =
     record {
       bits-long = n .bits-long;
@@ -44,13 +52,23 @@ noted-same bits masks n =
       mask-is = λ b w b< h. n .mask-is b w b< (masks b w h);
     }
 
--- body b becomes y, the rows agree with y at its rank, and are as before elsewhere
-module _ {c : Config} {p : Plan} {rk : ℕ → ℕ} (fit : Fitted c p rk) {x : ℕ} {es ws : List ℕ} {bs : List Body} (n : Noted c rk x es ws bs)
-    (size : length bs ≡ c .bodies) (b : ℕ) (b< : b < c .bodies) (y : Body) (x′ : ℕ) (es′ ws′ : List ℕ) where
-  pub noted-changed : length es′ ≡ 32 → length ws′ ≡ 32 → noted x′ es′ (rk b) ≡ eventBits y → ((w : ℕ) → y .phase ≡ waiting w → getD ws′ (rk b) 0 ≡ w)
+module _ {c : Config} {p : Plan} {rk : ℕ → ℕ} (fit : Fitted c p rk) {x : ℕ} {es ws : List ℕ} {bs : List Body}
+    (n : Noted c rk x es ws bs) (size : length bs ≡ c .bodies) (b : ℕ) (b< : b < c .bodies) (y : Body) where
+  at-b : at (set bs b y) b ≡ y
+  at-b = getD-set-same bs b y noBody (rw size b<)
+
+  at-other : (i : ℕ) → i ≢ b → at (set bs b y) i ≡ at bs i
+  at-other i d = getD-set-other bs b i y noBody d
+
+  other-rank : (i : ℕ) → i < c .bodies → i ≢ b → rk i ≢ rk b
+  other-rank i i< d e = d (fit .rank-inj i b i< b< e)
+
+  -- body b becomes y, the rows agree with y at its rank, and are as before elsewhere
+  pub noted-changed : (x′ : ℕ) (es′ ws′ : List ℕ) → length es′ ≡ 32 → length ws′ ≡ 32
+      → noted x′ es′ (rk b) ≡ eventBits y → ((w : ℕ) → y .phase ≡ waiting w → getD ws′ (rk b) 0 ≡ w)
       → ((r : ℕ) → r ≢ rk b → noted x′ es′ r ≡ noted x es r) → ((r : ℕ) → r ≢ rk b → getD ws′ r 0 ≡ getD ws r 0)
       → Noted c rk x′ es′ ws′ (set bs b y)
-  noted-changed bits-long masks-long bits mask other-bits other-masks =
+  noted-changed x′ es′ ws′ bits-long masks-long bits mask other-bits other-masks =
       record {
         bits-long = bits-long;
         masks-long = masks-long;
@@ -58,23 +76,16 @@ module _ {c : Config} {p : Plan} {rk : ℕ → ℕ} (fit : Fitted c p rk) {x : �
             (λ e. rw (e, at-b) bits)
             (λ d. rw (at-other i d) (other-bits (rk i) (other-rank i i< d) ∙ n .bits-are i i<));
         mask-is = λ i w i< h. by-eq i b
-            (λ e. rw e (mask w (ap (λ (z : Body). z .phase) (sym at-b) ∙ ap (λ (j : ℕ). at (set bs b y) j .phase) (sym e) ∙ h)))
-            (λ d. other-masks (rk i) (other-rank i i< d) ∙ n .mask-is i w i< (ap (λ (z : Body). z .phase) (sym (at-other i d)) ∙ h));
+            (λ e. rw e (mask w (rw (e, at-b) at h)))
+            (λ d. other-masks (rk i) (other-rank i i< d) ∙ n .mask-is i w i< (rw (at-other i d) at h));
       }
-    where
-      at-b : at (set bs b y) b ≡ y
-      at-b = getD-set-same bs b y noBody (rw size b<)
 
-      at-other : (i : ℕ) → i ≢ b → at (set bs b y) i ≡ at bs i
-      at-other i d = getD-set-other bs b i y noBody d
-
-      other-rank : (i : ℕ) → i < c .bodies → i ≢ b → rk i ≢ rk b
-      other-rank i i< d e = d (fit .rank-inj i b i< b< e)
-
-module _ {c : Config} {p : Plan} {rk : ℕ → ℕ} (fit : Fitted c p rk) {x : ℕ} {es ws : List ℕ} {bs : List Body} (n : Noted c rk x es ws bs)
-    (size : length bs ≡ c .bodies) (b : ℕ) (b< : b < c .bodies) (y : Body) where
-  pub noted-touched : eventBits (at bs b) ≡ eventBits y → ((w : ℕ) → y .phase ≡ waiting w → at bs b .phase ≡ waiting w) → Noted c rk x es ws (set bs b y)
+  -- the rows stay, since y has the bits and the mask of the body before
+  pub noted-touched : eventBits (at bs b) ≡ eventBits y → ((w : ℕ) → y .phase ≡ waiting w → at bs b .phase ≡ waiting w)
+      → Noted c rk x es ws (set bs b y)
   noted-touched bits masks =
-      noted-changed fit n size b b< y x es ws (n .bits-long) (n .masks-long) (n .bits-are b b< ∙ bits) (λ w h. n .mask-is b w b< (masks w h))
+      noted-changed x es ws (n .bits-long) (n .masks-long)
+      (n .bits-are b b< ∙ bits)
+      (λ w h. n .mask-is b w b< (masks w h))
       (λ r d. refl)
       (λ r d. refl)

@@ -1,6 +1,7 @@
 -- Who bids for the processor by priority: no time-triggered task does.
 --
---   Kinds c bs       of the bodies bs none is triggered and has still to begin, and none that is ready or started is time-triggered
+--   Kinds c bs       of the bodies bs none is triggered and has still to begin, and none that is ready or started is
+--                    time-triggered
 --   trigger-plain    the level of a request is the priority of any other body
 use Prim.Native.Nat.{ℕ, _<_}
 use mathlib.Core.Path.{_≡_, sym, ap, _∙_}

@@ -23,23 +23,26 @@ pub record Lost (c : Config) (rk : ℕ → ℕ) (ls : List ℕ) (bs : List Body)
   pub losses-long : length ls ≡ 32
   pub of-body : (b : ℕ) → b < c .bodies → getD ls (rk b) 0 ≡ at bs b .losses
 
-pub lost-same : {c : Config} {rk : ℕ → ℕ} {ls : List ℕ} {bs bs′ : List Body} → ((i : ℕ) → at bs′ i .losses ≡ at bs i .losses)
-    → Lost c rk ls bs → Lost c rk ls bs′
+pub lost-same : {c : Config} {rk : ℕ → ℕ} {ls : List ℕ} {bs bs′ : List Body}
+    → ((i : ℕ) → at bs′ i .losses ≡ at bs i .losses) → Lost c rk ls bs → Lost c rk ls bs′
 lost-same same l = record { losses-long = l .losses-long; of-body = λ b b<. l .of-body b b< ∙ sym (same b) }
 
-pub lost-one : {c : Config} {p : Plan} {rk : ℕ → ℕ} {ls : List ℕ} {bs : List Body} → Fitted c p rk → length bs ≡ c .bodies → Lost c rk ls bs
-    → (b : ℕ) → b < c .bodies
+pub lost-one : {c : Config} {p : Plan} {rk : ℕ → ℕ} {ls : List ℕ} {bs : List Body}
+    → Fitted c p rk → length bs ≡ c .bodies → Lost c rk ls bs → (b : ℕ) → b < c .bodies
     → Lost c rk (oneLost (rk b) ls) (set bs b (loses (at bs b)))
 lost-one {rk = rk} {ls = ls} {bs = bs} fit size l b b< =
     record {
-      losses-long = length-set ls (rk b) (oneMore (getD ls (rk b) 0)) ∙ l .losses-long;
+      losses-long = length-set ls (rk b) one ∙ l .losses-long;
       of-body = λ i i<. by-eq i b
-          (λ e. rw (e, getD-set-same ls (rk b) (oneMore (getD ls (rk b) 0)) 0 inside, getD-set-same bs b (loses (at bs b)) noBody (rw size b<))
+          (λ e. rw (e, getD-set-same ls (rk b) one 0 inside, getD-set-same bs b (loses (at bs b)) noBody (rw size b<))
           (ap oneMore (l .of-body b b<)))
-          (λ n. getD-set-other ls (rk b) (rk i) (oneMore (getD ls (rk b) 0)) 0 (λ e. n (fit .rank-inj i b i< b< e))
+          (λ n. getD-set-other ls (rk b) (rk i) one 0 (λ e. n (fit .rank-inj i b i< b< e))
           ∙ l .of-body i i<
           ∙ sym (ap (λ (y : Body). y .losses) (getD-set-other bs b i (loses (at bs b)) noBody n)));
     }
   where
+    one : ℕ
+    one = oneMore (getD ls (rk b) 0)
+
     inside : rk b < length ls
     inside = omega (arith, l .losses-long, fit .rank-lt b b<, fit .few)

@@ -1,27 +1,31 @@
 -- The nest: the runner, and below it those preempted bodies that hold a resource, each above the level of the rest.
 --
---   levelAt c bs ns      the level at which a nest runs
---   Nested c bs ns       "each one's own priority above the level of the rest"
---   Seats c rk bs js r l ns  the runner r and the level l are those of the nest, and whoever is below holds a resource; where time-triggered
---                        tasks js are started the latest of them runs, and all of the nest hold a resource
+--   levelAt c bs ns          the level at which a nest runs
+--   Nested c bs ns           each one's own priority is above the level of the rest
+--   Seats c rk bs js r l ns  the runner r and the level l are those of the nest, and whoever is below holds a resource;
+--                            where time-triggered tasks js are started the latest of them runs, and all of the nest
+--                            hold a resource
 --
 -- A preempted body that holds nothing is in no nest: its bit in `started` brings it back.
-use Prim.Native.Nat.{ℕ, max, _≤_, _<_}
+use Prim.Native.Nat.{ℕ, _≤_, _<_}
 use mathlib.Core.Path.{_≡_, refl, sym, ap, ap₂, _∙_}
-use mathlib.Core.Bool.{Bool, true, false, true≢false, _||_}
-use mathlib.Core.List.{List, [], _∷_, _++_, foldr, map}
+use mathlib.Core.Logic.{_≢_}
+use mathlib.Core.Bool.{true, false, true≢false}
+use mathlib.Core.List.{List, [], _∷_, _++_}
 use native.Mathlib.Omega.{arith}
-use borrow.Author.Tests.{eq-eqb, ne-eqb}
 use lib.Dec.{eqb}
-use Rattle.number.proofs.Cases.{by-eq}
+use lib.ListN.{set}
+use lib.Seq.{getD-set-other}
+use Rattle.number.proofs.Cases.{by-eq, neither}
 use Rattle.config.specs.declared.Config.{Config}
-use Rattle.config.specs.Meaning.{executionLevel, priorityOf, ceiling}
+use Rattle.config.specs.Meaning.{executionLevel, priorityOf}
 use Rattle.scheduler.specs.Body.{Body, isStarted, holds, current}
-use Rattle.scheduler.specs.State.{among}
+use Rattle.scheduler.specs.State.{noBody, among}
 use Rattle.scheduler.proofs.Choice.{current-own}
+use Rattle.scheduler.proofs.Distinct.{among-head, among-other, among-tail}
 use Rattle.machine.specs.Model.{noRank}
 use Rattle.machine.proofs.Relation.Words.{at}
-use Rattle.machine.proofs.Relation.Slots.{Slot, slotsFor, slotsAlong}
+use Rattle.machine.proofs.Relation.Slots.{Slot, levelWith, slotsFor, slotsAlong}
 
 unfoldable pub levelAt : Config → List Body → List ℕ → ℕ
 levelAt c bs [] = 0
@@ -43,30 +47,17 @@ Seats c rk bs (j ∷ js) r l [] = (r ≡ rk j) × ((l ≡ executionLevel) × All
 Seats c rk bs (j ∷ js) r l (b ∷ ns) = (r ≡ rk j) × ((l ≡ executionLevel) × AllHold bs (b ∷ ns))
 
 -- b is the first of the list, or stands further on
-pub by-among {ℓ} : {C : Type ℓ} (i b : ℕ) (ns : List ℕ) → among i (b ∷ ns) ≡ true → (i ≡ b → C) → ((i ≡ b → ⊥) → among i ns ≡ true → C) → C
-unfolding among
-by-among i b ns h f g = by-eq i b f (λ n. g n (simp (ne-eqb i b n) at h))
-
-pub among-head : (b : ℕ) (ns : List ℕ) → among b (b ∷ ns) ≡ true
-unfolding among
-among-head b ns = rw (eq-eqb b b refl)
-
-pub among-tail : (i b : ℕ) (ns : List ℕ) → among i ns ≡ true → among i (b ∷ ns) ≡ true
-unfolding among
-among-tail i b ns h = by-eq i b (λ e. rw (eq-eqb i b e)) (λ n. rw (ne-eqb i b n) h)
+pub by-among {ℓ} : {C : Type ℓ} (i b : ℕ) (ns : List ℕ) → among i (b ∷ ns) ≡ true
+    → (i ≡ b → C) → ((i ≡ b → ⊥) → among i ns ≡ true → C) → C
+by-among i b ns h f g = by-eq i b f (λ n. g n (sym (among-other i b ns n) ∙ h))
 
 -- who is neither the first nor further on is not in the list
 pub not-among : (i b : ℕ) (ns : List ℕ) → (i ≡ b → ⊥) → among i ns ≡ false → among i (b ∷ ns) ≡ false
-unfolding among
-not-among i b ns n h = rw (ne-eqb i b n) h
+not-among i b ns n h = among-other i b ns n ∙ h
 
 pub among-tail-false : (i b : ℕ) (ns : List ℕ) → among i (b ∷ ns) ≡ false → among i ns ≡ false
 unfolding among
-among-tail-false i b ns h = by-eq i b (λ e. absurd (true≢false (sym (eq-eqb i b e) ∙ or-first (eqb i b) (among i ns) h))) (λ n. simp (ne-eqb i b n) at h)
-  where
-    or-first : (x y : Bool) → x || y ≡ false → x ≡ false
-    or-first true y e = absurd (true≢false e)
-    or-first false y e = refl
+among-tail-false i b ns h = neither (eqb i b) (among i ns) h .1
 
 pub among-nil : (i : ℕ) → among i [] ≡ false
 unfolding among
@@ -108,43 +99,60 @@ pub record Alike (x y : Body) : Type 0 where
 pub alike-same : {x y : Body} → x ≡ y → Alike x y
 alike-same e = record { phase = ap (λ (b : Body). isStarted (b .phase)) e; held = ap (λ (b : Body). b .held) e }
 
--- bodies that are alike where a nest goes leave it as it is
-module _ (c : Config) (rk : ℕ → ℕ) (bs bs′ : List Body) where
-  abbrev pub AlikeAlong : List ℕ → Type 0
-  AlikeAlong ns = (b : ℕ) → among b ns ≡ true → Alike (at bs b) (at bs′ b)
+-- the bodies of a nest are alike in bs and bs′
+pub record AlikeAlong (bs bs′ : List Body) (ns : List ℕ) : Type 0 where
+  pub each : (b : ℕ) → among b ns ≡ true → Alike (at bs b) (at bs′ b)
 
-  tail-alike : (b : ℕ) (ns : List ℕ) → AlikeAlong (b ∷ ns) → AlikeAlong ns
-  tail-alike b ns a i h = a i (among-tail i b ns h)
+-- one body is changed that is not in it
+pub alike-outside : {bs : List Body} {ns : List ℕ} (b : ℕ) (y : Body) → ((i : ℕ) → among i ns ≡ true → i ≢ b)
+    → AlikeAlong bs (set bs b y) ns
+alike-outside {bs} b y other =
+    record { each = λ i h. alike-same (sym (getD-set-other bs b i y noBody (other i h))) }
 
-  pub current-alike : (b : ℕ) → Alike (at bs b) (at bs′ b) → current c b (at bs b) ≡ current c b (at bs′ b)
-  current-alike b a = ap (λ (rs : List ℕ). foldr max (priorityOf c b) (map (ceiling c) rs)) (a .held)
+current-alike : {x y : Body} (c : Config) (b : ℕ) → Alike x y → current c b x ≡ current c b y
+current-alike c b a = ap (levelWith c b) (a .held)
 
-  pub levelAt-alike : (ns : List ℕ) → AlikeAlong ns → levelAt c bs ns ≡ levelAt c bs′ ns
+-- then the nest stays as it is
+module _ {bs bs′ : List Body} where
+  head-alike : {b : ℕ} {ns : List ℕ} → AlikeAlong bs bs′ (b ∷ ns) → Alike (at bs b) (at bs′ b)
+  head-alike {b} {ns} a = a .each b (among-head b ns)
+
+  tail-alike : {b : ℕ} {ns : List ℕ} → AlikeAlong bs bs′ (b ∷ ns) → AlikeAlong bs bs′ ns
+  tail-alike {b} {ns} a = record { each = λ i h. a .each i (among-tail i b ns h) }
+
+  pub levelAt-alike : (c : Config) {ns : List ℕ} → AlikeAlong bs bs′ ns → levelAt c bs ns ≡ levelAt c bs′ ns
   unfolding levelAt
-  levelAt-alike [] a = refl
-  levelAt-alike (b ∷ ns) a = current-alike b (a b (among-head b ns))
+  levelAt-alike c {ns = []} a = refl
+  levelAt-alike c {ns = b ∷ ns} a = current-alike c b (head-alike a)
 
-  pub nested-alike : (ns : List ℕ) → AlikeAlong ns → Nested c bs ns → Nested c bs′ ns
+  pub nested-alike : (c : Config) {ns : List ℕ} → AlikeAlong bs bs′ ns → Nested c bs ns → Nested c bs′ ns
   unfolding Nested
-  nested-alike [] a k = k
-  nested-alike (b ∷ ns) a k =
-      (k .0, (sym (a b (among-head b ns) .phase) ∙ k .1 .0, (rw (sym (levelAt-alike ns (tail-alike b ns a))) (k .1 .1 .0), nested-alike ns (tail-alike b ns a) (k .1 .1 .1))))
+  nested-alike c {ns = []} a k = k
+  nested-alike c {ns = b ∷ ns} a k =
+      let below = tail-alike a in
+      let begun = sym (head-alike a .phase) ∙ k .1 .0 in
+      (k .0, (begun, (rw (sym (levelAt-alike c below)) (k .1 .1 .0), nested-alike c below (k .1 .1 .1))))
 
-  pub slotsAlong-alike : (ns : List ℕ) → AlikeAlong ns → slotsAlong c rk bs ns ≡ slotsAlong c rk bs′ ns
+  pub slotsAlong-alike : (c : Config) (rk : ℕ → ℕ) {ns : List ℕ} → AlikeAlong bs bs′ ns
+      → slotsAlong c rk bs ns ≡ slotsAlong c rk bs′ ns
   unfolding slotsAlong
-  slotsAlong-alike [] a = refl
-  slotsAlong-alike (b ∷ ns) a =
-      ap₂ (λ (x y : List Slot). x ++ y) (ap (slotsFor c rk b) (a b (among-head b ns) .held)) (slotsAlong-alike ns (tail-alike b ns a))
+  slotsAlong-alike c rk {ns = []} a = refl
+  slotsAlong-alike c rk {ns = b ∷ ns} a =
+      ap₂ (λ (x y : List Slot). x ++ y)
+      (ap (slotsFor c rk b) (head-alike a .held))
+      (slotsAlong-alike c rk (tail-alike a))
 
-  pub hold-alike : (ns : List ℕ) → AlikeAlong ns → AllHold bs ns → AllHold bs′ ns
-  hold-alike ns a h i m = sym (ap holds (a i m .held)) ∙ h i m
+  pub hold-alike : {ns : List ℕ} → AlikeAlong bs bs′ ns → AllHold bs ns → AllHold bs′ ns
+  hold-alike a h i m = sym (ap holds (a .each i m .held)) ∙ h i m
 
-  pub seats-alike : (js : List ℕ) (r l : ℕ) (ns : List ℕ) → AlikeAlong ns → Seats c rk bs js r l ns → Seats c rk bs′ js r l ns
+  pub seats-alike : (c : Config) (rk : ℕ → ℕ) (js : List ℕ) (r l : ℕ) {ns : List ℕ} → AlikeAlong bs bs′ ns
+      → Seats c rk bs js r l ns → Seats c rk bs′ js r l ns
   unfolding Seats
-  seats-alike [] r l [] a k = k
-  seats-alike [] r l (b ∷ ns) a k = (k .0, (k .1 .0 ∙ current-alike b (a b (among-head b ns)), hold-alike ns (tail-alike b ns a) (k .1 .1)))
-  seats-alike (j ∷ js) r l [] a k = (k .0, (k .1 .0, hold-alike [] a (k .1 .1)))
-  seats-alike (j ∷ js) r l (b ∷ ns) a k = (k .0, (k .1 .0, hold-alike (b ∷ ns) a (k .1 .1)))
+  seats-alike c rk [] r l {ns = []} a k = k
+  seats-alike c rk [] r l {ns = b ∷ ns} a k =
+      (k .0, (k .1 .0 ∙ current-alike c b (head-alike a), hold-alike (tail-alike a) (k .1 .1)))
+  seats-alike c rk (j ∷ js) r l {ns = []} a k = (k .0, (k .1 .0, hold-alike a (k .1 .1)))
+  seats-alike c rk (j ∷ js) r l {ns = b ∷ ns} a k = (k .0, (k .1 .0, hold-alike a (k .1 .1)))
 
 -- a time-triggered task takes the seat, above a nest of which all hold a resource; and back
 module _ (c : Config) (rk : ℕ → ℕ) (bs : List Body) (j : ℕ) (js : List ℕ) (r l : ℕ) where

@@ -12,14 +12,14 @@ use mathlib.Core.List.{List, [], _∷_}
 use borrow.Author.Tests.{ltb-true, eqb-true, ne-eqb}
 use lib.Dec.{ltb, eqb}
 use lib.ListN.{getD}
-use Rattle.number.proofs.Cases.{and-true}
+use Rattle.number.proofs.Cases.{by-test, and-true, refuted}
 use Rattle.config.specs.declared.Config.{Config}
 use Rattle.config.specs.Meaning.{isTimed}
 use Rattle.scheduler.specs.Body.{Phase, suspended, ready, started, waiting, triggered, hasBegun, competes}
 use Rattle.scheduler.specs.State.{State, among}
 use Rattle.scheduler.proofs.Order.{Orderly}
+use Rattle.scheduler.proofs.Distinct.{among-head}
 use Rattle.machine.proofs.Relation.Words.{at}
-use Rattle.machine.proofs.Relation.Nest.{among-head}
 use Rattle.machine.proofs.Relation.Kinds.{isBidding, Kinds}
 
 -- a body of one kind is of no other
@@ -27,8 +27,11 @@ pub of-one-kind : (c : Config) (b k k′ : ℕ) → k ≢ k′ → ltb b (c .bod
     → ltb b (c .bodies) && eqb (getD (c .kind) b 0) k′ ≡ false
 of-one-kind c b k k′ n h =
     ap (λ (x : Bool). ltb b (c .bodies) && x)
-    (ne-eqb (getD (c .kind) b 0) k′ (λ e. n (sym (eqb-true (getD (c .kind) b 0) k (and-true (ltb b (c .bodies)) _ h .1)) ∙ e)))
+    (ne-eqb (getD (c .kind) b 0) k′ (λ e. n (sym kind ∙ e)))
     ∙ and-false (ltb b (c .bodies))
+  where
+    kind : getD (c .kind) b 0 ≡ k
+    kind = eqb-true (getD (c .kind) b 0) k (and-true (ltb b (c .bodies)) _ h .1)
 
 pub timed-exists : (c : Config) (j : ℕ) → isTimed c j ≡ true → j < c .bodies
 timed-exists c j timed = ltb-true j (c .bodies) (and-true (ltb j (c .bodies)) _ timed .0)
@@ -57,15 +60,13 @@ module _ {c : Config} {s : State} (o : Orderly c s) where
 
   -- who may run by priority is not time-triggered
   pub plain-competes : (i : ℕ) → competes (at (s .bodies) i .phase) ≡ true → isTimed c i ≡ false
-  plain-competes i h = by-kind (isTimed c i) refl
+  plain-competes i h = refuted (isTimed c i) (λ t. true≢false (sym h ∙ asleep t))
     where
-      by-place : isTimed c i ≡ true → (m : Bool) → among i (s .order) ≡ m → competes (at (s .bodies) i .phase) ≡ false
-      by-place t true e = ap competes (o .started-begun i e)
-      by-place t false e = ap competes (o .timed-suspended i t e)
-
-      by-kind : (b : Bool) → isTimed c i ≡ b → b ≡ false
-      by-kind true e = absurd (true≢false (sym h ∙ by-place e (among i (s .order)) refl))
-      by-kind false e = refl
+      asleep : isTimed c i ≡ true → competes (at (s .bodies) i .phase) ≡ false
+      asleep t =
+          by-test (among i (s .order))
+          (λ e. ap competes (o .started-begun i e))
+          (λ e. ap competes (o .timed-suspended i t e))
 
   pub kinds-of : Kinds c (s .bodies)
   kinds-of = record { entered = λ b _ h. go b (at (s .bodies) b .phase) refl h; untimed = λ b _ h. plain-competes b h }
@@ -76,4 +77,6 @@ module _ {c : Config} {s : State} (o : Orderly c s) where
       go b started e h = h
       go b (waiting w) e h = h
       go b (triggered true) e h = h
-      go b (triggered false) e h = absurd (true≢false (sym (ap hasBegun (o .started-begun b (o .triggered-started b false e))) ∙ ap hasBegun e))
+      go b (triggered false) e h =
+          let begun = o .started-begun b (o .triggered-started b false e) in
+          absurd (true≢false (ap hasBegun (sym begun ∙ e)))

@@ -18,11 +18,11 @@ pub record Shows (ys xs : List ℕ) : Type 0 where
   pub at : (i : ℕ) → getD ys i none ≡ getD xs i none
 
 -- what is below the first
-pub below : {x y : ℕ} {ys xs : List ℕ} → Shows (y ∷ ys) (x ∷ xs) → Shows ys xs
+below : {x y : ℕ} {ys xs : List ℕ} → Shows (y ∷ ys) (x ∷ xs) → Shows ys xs
 below h = record { at = λ i. h .at (suc i) }
 
 -- one more on top
-pub on-top : {x y : ℕ} {ys xs : List ℕ} → y ≡ x → Shows ys xs → Shows (y ∷ ys) (x ∷ xs)
+on-top : {x y : ℕ} {ys xs : List ℕ} → y ≡ x → Shows ys xs → Shows (y ∷ ys) (x ∷ xs)
 on-top {x} {y} {ys} {xs} e h = record { at = go }
   where
     go : (i : ℕ) → getD (y ∷ ys) i none ≡ getD (x ∷ xs) i none
@@ -59,7 +59,8 @@ same-everywhere (suc n) a (suc i) = same-everywhere n a i
 pub row-empty-shows : Shows (rowBytes emptyRow) []
 row-empty-shows = record { at = λ i. ap (λ (ys : List ℕ). getD ys i none) row-empty ∙ same-everywhere 16 none i }
 
-pub row-shows-pushed : (r : Row) (x : ℕ) (xs : List ℕ) → x < 256 → length xs ≤ 15 → Shows (rowBytes r) xs → Shows (rowBytes (pushRow r x)) (x ∷ xs)
+pub row-shows-pushed : (r : Row) (x : ℕ) (xs : List ℕ) → x < 256 → length xs ≤ 15 → Shows (rowBytes r) xs
+    → Shows (rowBytes (pushRow r x)) (x ∷ xs)
 row-shows-pushed r x xs byte few h = rw (row-pushed r x byte) (on-top refl (shows-cut 15 (rowBytes r) xs few h))
 
 pub row-shows-popped : (r : Row) (x : ℕ) (xs : List ℕ) → Shows (rowBytes r) (x ∷ xs) → Shows (rowBytes (popRow r)) xs

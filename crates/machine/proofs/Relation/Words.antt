@@ -1,12 +1,13 @@
--- How the words stand for the bodies: which wait to begin, which go on by their priority, and which have begun and do not.
+-- How the words stand for the bodies: which wait to begin, which go on by their priority, which have begun and do not.
 --
 --   Words c rk k bs   the words of the core k are those of the bodies bs
 --   words-changed     one body is changed, and the words follow it
+--   started-competes  what one answer about a phase says of another; competes-active, competes-on, started-waits
 --   busy-is           which bodies have a bit at all
 use Prim.Native.Nat.{ℕ, _^_, _<_}
 use mathlib.Core.Path.{_≡_, refl, sym, ap, ap₂, _∙_}
 use mathlib.Core.Logic.{_≢_}
-use mathlib.Core.Bool.{Bool, true, false, not, _||_}
+use mathlib.Core.Bool.{Bool, true, false, true≢false, not, _||_, or-true, not-or-self}
 use mathlib.Core.List.{List}
 use lib.ListN.{length, getD, set}
 use lib.Seq.{getD-set-same, getD-set-other}
@@ -16,7 +17,7 @@ use Rattle.config.specs.Meaning.{isIsr}
 use Rattle.plan.specs.declared.Plan.{Plan}
 use Rattle.word.specs.Word.{has, union}
 use Rattle.word.proofs.Theorems.{has-union}
-use Rattle.scheduler.specs.Body.{Phase, suspended, ready, started, waiting, triggered, isSuspended, isStarted, Body}
+use Rattle.scheduler.specs.Body.{Phase, suspended, ready, started, waiting, triggered, isSuspended, isStarted, competes, Body}
 use Rattle.scheduler.specs.State.{noBody}
 use Rattle.scheduler.specs.Call.{requestWaits}
 use Rattle.machine.specs.Model.{Core}
@@ -72,8 +73,8 @@ pub record Unmoved (k′ k : Core) (r : ℕ) : Type 0 where
   pub put-aside : (i : ℕ) → i ≢ r → has (k′ .aside) i ≡ has (k .aside) i
 
 -- body b becomes y, the words agree with y at its rank, and are as before elsewhere
-module _ {c : Config} {p : Plan} {rk : ℕ → ℕ} (fit : Fitted c p rk) {k : Core} {bs : List Body} (w : Words c rk k bs) (size : length bs ≡ c .bodies)
-    (b : ℕ) (b< : b < c .bodies) (y : Body) (k′ : Core) where
+module _ {c : Config} {p : Plan} {rk : ℕ → ℕ} (fit : Fitted c p rk) {k : Core} {bs : List Body} (w : Words c rk k bs)
+    (size : length bs ≡ c .bodies) (b : ℕ) (b< : b < c .bodies) (y : Body) (k′ : Core) where
   pub words-changed : Suits c b y → Marks k′ (rk b) y → Unmoved k′ k (rk b) → Words c rk k′ (set bs b y)
   words-changed fits here there =
       record {
@@ -91,10 +92,10 @@ module _ {c : Config} {p : Plan} {rk : ℕ → ℕ} (fit : Fitted c p rk) {k : C
             (λ n. rw (at-other i n) (there .put-aside (rk i) (other-rank i i< n) ∙ w .put-aside i i<));
         real = λ r h. by-eq r (rk b)
             (λ e. (b, (b<, sym e)))
-            (λ n. w .real r (has-union (k .request) (k .started) r ∙ sym (ap₂ (λ (x z : Bool). x || z) (there .asks r n) (there .goes-on r n)) ∙ sym (has-union (k′ .request) (k′ .started) r) ∙ h));
+            (λ n. w .real r (bids-other r n ∙ h));
         quiet = λ i h. by-eq i b
-            (λ e. rw (e, at-b) (here .quiet (sym (ap (λ (z : Body). isStarted (z .phase)) at-b) ∙ sym (ap (λ (j : ℕ). isStarted (at (set bs b y) j .phase)) e) ∙ h)))
-            (λ n. rw (at-other i n) (w .quiet i (sym (ap (λ (z : Body). isStarted (z .phase)) (at-other i n)) ∙ h)));
+            (λ e. rw (e, at-b) (here .quiet (rw (e, at-b) at h)))
+            (λ n. rw (at-other i n) (w .quiet i (rw (at-other i n) at h)));
         suits = λ i. by-eq i b
             (λ e. rw (e, at-b) fits)
             (λ n. rw (at-other i n) (w .suits i));
@@ -109,18 +110,57 @@ module _ {c : Config} {p : Plan} {rk : ℕ → ℕ} (fit : Fitted c p rk) {k : C
       other-rank : (i : ℕ) → i < c .bodies → i ≢ b → rk i ≢ rk b
       other-rank i i< n e = n (fit .rank-inj i b i< b< e)
 
+      bids-other : (r : ℕ) → r ≢ rk b
+          → has (union (k .request) (k .started)) r ≡ has (union (k′ .request) (k′ .started)) r
+      bids-other r n = simp (has-union, there .asks r n, there .goes-on r n)
+
 -- whether a request waits goes by the phase and the mark alone
-pub waits-same : (x y : Body) (q : Phase) → x .pending ≡ y .pending → requestWaits x q ≡ requestWaits y q
+waits-same : (x y : Body) (q : Phase) → x .pending ≡ y .pending → requestWaits x q ≡ requestWaits y q
 waits-same x y suspended e = refl
 waits-same x y ready e = refl
 waits-same x y started e = e
 waits-same x y (waiting w) e = e
 waits-same x y (triggered z) e = refl
 
+-- who is started may run by its priority
+pub started-competes : (q : Phase) → isStarted q ≡ true → competes q ≡ true
+started-competes suspended h = h
+started-competes ready h = refl
+started-competes started h = refl
+started-competes (waiting w) h = h
+started-competes (triggered x) h = h
+
+-- who may is neither suspended nor put aside
+pub competes-active : (q : Phase) → competes q ≡ true → isSuspended q ≡ false
+competes-active suspended h = absurd (true≢false (sym h))
+competes-active ready h = refl
+competes-active started h = refl
+competes-active (waiting w) h = refl
+competes-active (triggered x) h = refl
+
+pub competes-on : (q : Phase) → competes q ≡ true → isAside q ≡ false
+competes-on suspended h = refl
+competes-on ready h = refl
+competes-on started h = refl
+competes-on (waiting w) h = absurd (true≢false (sym h))
+competes-on (triggered x) h = absurd (true≢false (sym h))
+
+-- of one that is started only a second request waits
+pub started-waits : (b : Body) (q : Phase) → isStarted q ≡ true → requestWaits b q ≡ b .pending
+started-waits b suspended h = absurd (true≢false (sym h))
+started-waits b ready h = absurd (true≢false (sym h))
+started-waits b started h = refl
+started-waits b (waiting w) h = absurd (true≢false (sym h))
+started-waits b (triggered x) h = absurd (true≢false (sym h))
+
+-- the words of k, with another runner and level
+abbrev seatedBy : Core → ℕ → ℕ → Core
+seatedBy k r l = record { request = k .request; started = k .started; aside = k .aside; runner = r; level = l }
+
 -- a body of the same phase and with the same second request has the same marks
-module _ {c : Config} {rk : ℕ → ℕ} {k : Core} {bs : List Body} (w : Words c rk k bs) (b : ℕ) (b< : b < c .bodies) (y : Body)
-    (phase : y .phase ≡ at bs b .phase) (second : y .pending ≡ at bs b .pending) (r l : ℕ) where
-  pub marks-same : Marks (record { request = k .request; started = k .started; aside = k .aside; runner = r; level = l }) (rk b) y
+module _ {c : Config} {rk : ℕ → ℕ} {k : Core} {bs : List Body} (w : Words c rk k bs) (b : ℕ) (b< : b < c .bodies)
+    (y : Body) (phase : y .phase ≡ at bs b .phase) (second : y .pending ≡ at bs b .pending) (r l : ℕ) where
+  pub marks-same : Marks (seatedBy k r l) (rk b) y
   marks-same =
       record {
         asks = w .asks b b< ∙ waits-same (at bs b) y (at bs b .phase) (sym second) ∙ ap (requestWaits y) (sym phase);
@@ -130,10 +170,17 @@ module _ {c : Config} {rk : ℕ → ℕ} {k : Core} {bs : List Body} (w : Words 
       }
 
 -- words that stay as they are
-pub unmoved-same : {c : Config} {rk : ℕ → ℕ} {k : Core} {bs : List Body} (w : Words c rk k bs) (r l : ℕ) (i : ℕ)
-    → Unmoved (record { request = k .request; started = k .started; aside = k .aside; runner = r; level = l }) k i
+pub unmoved-same : {c : Config} {rk : ℕ → ℕ} {k : Core} {bs : List Body} (w : Words c rk k bs) (r l i : ℕ)
+    → Unmoved (seatedBy k r l) k i
 unmoved-same w r l i =
-    record { request-lt = w .request-lt; started-lt = w .started-lt; aside-lt = w .aside-lt; asks = λ j n. refl; goes-on = λ j n. refl; put-aside = λ j n. refl }
+    record {
+      request-lt = w .request-lt;
+      started-lt = w .started-lt;
+      aside-lt = w .aside-lt;
+      asks = λ j n. refl;
+      goes-on = λ j n. refl;
+      put-aside = λ j n. refl;
+    }
 
 -- a body has a bit in one of the words exactly if it isn't suspended
 pub busy-is : {c : Config} {rk : ℕ → ℕ} {k : Core} {bs : List Body} → Words c rk k bs → (t : ℕ) → t < c .bodies
@@ -143,17 +190,9 @@ busy-is {rk = rk} {k = k} {bs = bs} w t h =
     (has-union (k .started) (k .aside) (rk t) ∙ ap₂ (λ (x y : Bool). x || y) (w .goes-on t h) (w .put-aside t h))
     ∙ go (at bs t) (at bs t .phase)
   where
-    or-true : (b : Bool) → b || true ≡ true
-    or-true true = refl
-    or-true false = refl
-
-    begun-or : (b : Bool) → not b || b ≡ true
-    begun-or true = refl
-    begun-or false = refl
-
     go : (b : Body) (q : Phase) → requestWaits b q || (isStarted q || isAside q) ≡ not (isSuspended q)
     go b suspended = refl
     go b ready = refl
     go b started = or-true (b .pending)
     go b (waiting w) = or-true (b .pending)
-    go b (triggered x) = begun-or x
+    go b (triggered x) = not-or-self x

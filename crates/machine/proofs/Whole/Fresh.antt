@@ -1,7 +1,7 @@
 -- The machine's fresh start stands for the plain scheduler's.
 use Prim.Native.Nat.{ℕ, _<_}
 use mathlib.Core.Path.{_≡_, refl, sym, ap, _∙_}
-use mathlib.Core.Bool.{Bool, true, false, true≢false, cond, _||_}
+use mathlib.Core.Bool.{Bool, true, false, true≢false, cond, or-false}
 use mathlib.Core.List.{[]}
 use native.Mathlib.Omega.{arith}
 use lib.Dec.{eqb}
@@ -9,7 +9,7 @@ use lib.ListN.{length, getD, take, replicate, length-map, length-replicate, List
 use lib.Seq.{getD-take, length-take-le}
 use Rattle.config.specs.declared.Config.{Config}
 use Rattle.plan.specs.declared.Plan.{Plan}
-use Rattle.word.specs.Word.{has}
+use Rattle.word.specs.Word.{has, union}
 use Rattle.word.proofs.Theorems.{empty, has-union}
 use Rattle.scheduler.specs.Body.{Body, isStarted, isWaiting, activated}
 use Rattle.scheduler.specs.State.{stopped, State, noBody, among}
@@ -22,10 +22,10 @@ use Rattle.machine.proofs.Relation.Rows.{same-everywhere, row-empty-sho
 use Rattle.machine.specs.Cells.{switchOff, isOn, hasTurn}
 use Rattle.plan.proofs.Fitted.{Fitted}
 use Rattle.machine.proofs.Relation.Words.{at, wants, isAside}
-use Rattle.machine.proofs.Relation.Slots.{slotsAlong, Distinct}
+use Rattle.machine.proofs.Relation.Slots.{slotsAlong}
 use Rattle.machine.proofs.Relation.Free.{missing-empty}
 use Rattle.machine.proofs.Relation.Nest.{Nested, Seats}
-use Rattle.machine.proofs.Relation.Cells.{CellFits, Timed}
+use Rattle.machine.proofs.Relation.Cells.{CellFits, CellsTied}
 use Rattle.machine.proofs.Relation.Losses.{Lost, lost-same}
 use Rattle.machine.proofs.Relation.Bits.{eventBits, Noted, noted-same}
 use Rattle.machine.proofs.Relation.Whole.{Tied, Sim}
@@ -51,7 +51,9 @@ module _ {c : Config} {p : Plan} {rk : ℕ → ℕ} (fit : Fitted c p rk) where
   unbegun = Plain.unstarted c
 
   size : length (unbegun .bodies) ≡ c .bodies
-  size = length-map (take (c .bodies) (c .autostart)) newBody ∙ length-take-le (c .bodies) (c .autostart) (omega (arith, fit .few, fit .autostarts-long))
+  size =
+      length-map (take (c .bodies) (c .autostart)) newBody
+      ∙ length-take-le (c .bodies) (c .autostart) (omega (arith, fit .few, fit .autostarts-long))
 
   -- past the list's end stands a body like that of autostart 0
   at-new : (b : ℕ) → at (unbegun .bodies) b ≡ newBody (getD (take (c .bodies) (c .autostart)) b 0)
@@ -60,11 +62,12 @@ module _ {c : Config} {p : Plan} {rk : ℕ → ℕ} (fit : Fitted c p rk) where
   at-known : (b : ℕ) → b < c .bodies → at (unbegun .bodies) b ≡ newBody (getD (c .autostart) b 0)
   at-known b h = at-new b ∙ ap newBody (getD-take (c .bodies) (c .autostart) b 0 h)
 
-  at-same {ℓ} : {A : Type ℓ} (f : Body → A) → f (activated noBody) ≡ f noBody → (b : ℕ) → f (at (unbegun .bodies) b) ≡ f noBody
+  at-same {ℓ} : {A : Type ℓ} (f : Body → A) → f (activated noBody) ≡ f noBody
+      → (b : ℕ) → f (at (unbegun .bodies) b) ≡ f noBody
   at-same f e b = ap f (at-new b) ∙ new-same f e (getD (take (c .bodies) (c .autostart)) b 0)
 
   unbegun-tied : Tied c rk (unstarted (p .autostart)) (unbegun .bodies) [] []
-  unfolding Nested Seats slotsAlong Distinct among
+  unfolding Nested Seats slotsAlong among
   unbegun-tied =
       record {
         size = size;
@@ -75,7 +78,7 @@ module _ {c : Config} {p : Plan} {rk : ℕ → ℕ} (fit : Fitted c p rk) where
           asks = λ b b<. fit .autostart-at b b< ∙ sym (ap wants (at-known b b<) ∙ new-wants (getD (c .autostart) b 0));
           goes-on = λ b b<. empty (rk b) ∙ sym (at-same (λ x. isStarted (x .phase)) refl b);
           put-aside = λ b b<. empty (rk b) ∙ sym (at-same (λ x. isAside (x .phase)) refl b);
-          real = λ r h. fit .autostart-real r (or-false (has (p .autostart) r) ∙ ap (λ (b : Bool). has (p .autostart) r || b) (sym (empty r)) ∙ sym (has-union (p .autostart) 0 r) ∙ h);
+          real = λ r h. fit .autostart-real r (none-started r ∙ h);
           quiet = λ b h. at-same (λ x. x .pending) refl b;
           suits = λ b. (
             (λ h. absurd (true≢false (sym h ∙ at-same (λ x. x .pending) refl b))),
@@ -95,18 +98,17 @@ module _ {c : Config} {p : Plan} {rk : ℕ → ℕ} (fit : Fitted c p rk) where
         loose = λ b h. at-same (λ x. x .held) refl b;
       }
     where
-      or-false : (b : Bool) → b ≡ b || false
-      or-false true = refl
-      or-false false = refl
+      none-started : (r : ℕ) → has (p .autostart) r ≡ has (union (p .autostart) 0) r
+      none-started r = sym (has-union (p .autostart) 0 r ∙ rw (empty r) (or-false (has (p .autostart) r)))
 
-  unbegun-timed : Timed c p (replicate 64 0) (replicate 64 switchOff) false (replicate (c .tables) stopped)
+  unbegun-cells : CellsTied c p (replicate 64 0) (replicate 64 switchOff) false (replicate (c .tables) stopped)
   unfolding CellFits
-  unbegun-timed =
+  unbegun-cells =
       record {
         tables-long = length-replicate (c .tables) stopped;
         counters-long = refl;
         switches-long = refl;
-        cells = λ t e t< a b. rw (same-everywhere (c .tables) stopped t) (ap isOn (same-everywhere 64 switchOff e));
+        fits = λ t e t< a b. rw (same-everywhere (c .tables) stopped t) (ap isOn (same-everywhere 64 switchOff e));
         spare = λ e h. ap isOn (same-everywhere 64 switchOff e);
         unturned = λ _ e. ap hasTurn (same-everywhere 64 switchOff e);
       }
@@ -136,7 +138,7 @@ module _ {c : Config} {p : Plan} {rk : ℕ → ℕ} (fit : Fitted c p rk) where
         nest = arb .nest;
         tied = rw (order-dispatched c unbegun top) (arb .tied);
         calm = arb .calm;
-        timed = rw (tables-dispatched c unbegun) unbegun-timed;
+        cells = rw (tables-dispatched c unbegun) unbegun-cells;
         lost = lost-same (dispatched-losses c unbegun) unbegun-lost;
         noted = noted-same (dispatched-bits c unbegun top) (dispatched-masks c unbegun top) unbegun-noted;
         orderly = orderly-fresh c (fit .accepted) (fit .shaped);

@@ -1,21 +1,21 @@
 -- Who holds a resource while another body runs, and what a Get by a declared user is refused for.
 --
---   holder-below      the runner's own priority, or a time-triggered task's trigger level, is above the level of every other body that holds
---                     a resource
+--   holder-below      the runner's own priority, or a time-triggered task's trigger level, is above the level of every
+--                     other body that holds a resource
 --   declared-refused  so a declared user is refused a resource only where it holds it itself
 --
--- and the same of the machine's slots: `slot-below`, `slot-user`, `machine-refused`. All for a model that stands for a state, whatever the kinds of its
--- bodies.
-use Prim.Native.Nat.{ℕ, zero, suc, max, _≤_, _<_}
+-- and the same of the machine's slots: `slot-below`, `slot-user`, `machine-refused`. All for a model that stands for a
+-- state, whatever the kinds of its bodies.
+use Prim.Native.Nat.{ℕ, zero, suc, _≤_, _<_}
 use mathlib.Core.Path.{_≡_, refl, sym, ap, _∙_}
 use mathlib.Core.Logic.{_≢_, _⊎_, inl, inr, ⊎-elim}
-use mathlib.Core.Bool.{Bool, true, false, true≢false, cond, _&&_}
-use mathlib.Core.List.{List, [], _∷_, _++_, foldr, map}
+use mathlib.Core.Bool.{Bool, true, false, true≢false, cond}
+use mathlib.Core.List.{List, [], _∷_, _++_}
 use native.Mathlib.Omega.{arith}
 use borrow.Author.Tests.{lt-leb, ltb-true}
 use lib.Dec.{ltb}
 use lib.ListN.{getD}
-use Rattle.number.proofs.Cases.{by-eq}
+use Rattle.number.proofs.Cases.{by-eq, and-true, refuted}
 use Rattle.config.specs.declared.Config.{Config}
 use Rattle.config.specs.Value.{maxPriority}
 use Rattle.config.specs.Meaning.{triggerLevel, isTimed, isUser, priorityOf, ceiling}
@@ -24,43 +24,42 @@ use Rattle.plan.specs.declared.Plan.{Plan}
 use Rattle.plan.specs.Plan.{triggerOf}
 use Rattle.plan.proofs.Fitted.{Fitted}
 use Rattle.word.specs.Word.{has}
-use Rattle.stack.specs.Stack.{none, rowBytes}
+use Rattle.stack.specs.Stack.{rowBytes}
 use Rattle.scheduler.specs.Status.{done, access, firstGiven}
 use Rattle.scheduler.specs.Body.{Body, current}
-use Rattle.scheduler.specs.Choice.{Candidate, chosen}
-use Rattle.scheduler.specs.State.{State, bodyOf, among, heldIn, latestOf}
+use Rattle.scheduler.specs.Choice.{Candidate}
+use Rattle.scheduler.specs.State.{State, bodyOf, among, heldIn}
 use Rattle.scheduler.specs.Call.{nobodyRuns, nobodyCalls, caller, calling, getStatus}
 use Rattle.scheduler.specs.Scheduler.{Get, Seen, stepBy}
 use Rattle.scheduler.proofs.Choice.{current-held}
-use Rattle.machine.specs.Model.{Model}
+use Rattle.scheduler.proofs.Distinct.{among-head, among-tail}
+use Rattle.machine.specs.Model.{Model, noRank}
 use Rattle.machine.specs.Events.{idles}
 use Rattle.machine.specs.Machine.{machineStep, runnerOf}
-use Rattle.machine.proofs.Relation.Words.{at}
-use Rattle.machine.proofs.Relation.Slots.{Slot, slotsFor, slotsAlong, resourcesIn, holdersIn, levelsIn}
-use Rattle.machine.proofs.Relation.Nest.{Nested, Seats, timed-seat, by-among, among-head, among-tail, nest-level, nest-exists}
+use Rattle.machine.proofs.Relation.Words.{at, started-competes}
+use Rattle.machine.proofs.Relation.Slots.{Slot, slotsFor, slotsAlong, resourcesIn, holdersIn, levelsIn, levelWith}
+use Rattle.machine.proofs.Relation.Nest.{Nested, Seats, by-among, nest-level, nest-exists}
 use Rattle.machine.proofs.Relation.Kinds.{trigger-plain, trigger-timed}
 use Rattle.machine.proofs.Relation.Order.{latest-timed, latest-exists, plain-competes}
-use Rattle.machine.proofs.Relation.Whole.{Tied, Sim}
+use Rattle.machine.proofs.Relation.Whole.{Tied, Sim, latest-seat}
 use Rattle.machine.proofs.Arbitration.Seat.{current-few}
-use Rattle.machine.proofs.Arbitration.Choice.{active-of-started, chosen-seated}
+use Rattle.machine.proofs.Arbitration.Choice.{chosen-seated}
 use Rattle.machine.proofs.Arbitration.Dispatch.{runnerOf-is}
 use Rattle.machine.proofs.Change.Hold.{slots-are}
-use Rattle.machine.proofs.Event.Agrees.{by-runner}
+use Rattle.machine.proofs.Event.Agrees.{runner-is, by-runner}
 use Rattle.machine.proofs.Event.Resources.{held-by, holder-nested}
 use Rattle.machine.proofs.Whole.Lists.{event-agrees}
 
 -- a declared user's resource exists
 user-exists : (c : Config) (r b : ℕ) → isUser c r b ≡ true → r < c .resources
-user-exists c r b u = ltb-true r (c .resources) (first (ltb r (c .resources)) _ u)
-  where
-    first : (x y : Bool) → x && y ≡ true → x ≡ true
-    first true y e = refl
-    first false y e = absurd (true≢false (sym e))
+user-exists c r b u = ltb-true r (c .resources) (and-true (ltb r (c .resources)) _ u .0)
 
 module _ (c : Config) (rk : ℕ → ℕ) where
   -- the slot of a resource that body b holds; ys: the slots below its own
   slot-at : (b r : ℕ) (rs : List ℕ) (ys : List Slot) → among r rs ≡ true
-      → (k : ℕ) × (getD (resourcesIn (slotsFor c rk b rs ++ ys)) k none ≡ r) × (getD (holdersIn (slotsFor c rk b rs ++ ys)) k none ≡ rk b)
+      → (k : ℕ)
+      × (getD (resourcesIn (slotsFor c rk b rs ++ ys)) k noRank ≡ r)
+      × (getD (holdersIn (slotsFor c rk b rs ++ ys)) k noRank ≡ rk b)
   unfolding slotsFor among
   slot-at b r [] ys h = absurd (true≢false (sym h))
   slot-at b r (x ∷ rs) ys h =
@@ -69,12 +68,16 @@ module _ (c : Config) (rk : ℕ → ℕ) where
       (λ _ q. let k = slot-at b r rs ys q in (suc (k .0), k .1, k .2))
 
   module _ (bs : List Body) where
-    -- the k-th of the slots ss is none, or that of a body of the nest, which holds its resource and whose level is not below the slot's
+    -- the k-th of the slots ss is none, or that of a body of the nest, which holds its resource and whose level is not
+    -- below the slot's
     abbrev SlotOf : List ℕ → List Slot → ℕ → Type 0
     SlotOf ns ss k =
-        (getD (holdersIn ss) k none ≡ none)
-        ⊎ ((i : ℕ) × (among i ns ≡ true) × (getD (holdersIn ss) k none ≡ rk i) × (getD (levelsIn ss) k none ≤ current c i (at bs i))
-        × (among (getD (resourcesIn ss) k none) (at bs i .held) ≡ true))
+        (getD (holdersIn ss) k noRank ≡ noRank)
+        ⊎ ((i : ℕ)
+        × (among i ns ≡ true)
+        × (getD (holdersIn ss) k noRank ≡ rk i)
+        × (getD (levelsIn ss) k noRank ≤ current c i (at bs i))
+        × (among (getD (resourcesIn ss) k noRank) (at bs i .held) ≡ true))
 
     along-slot : (ns : List ℕ) (k : ℕ) → SlotOf ns (slotsAlong c rk bs ns) k
     unfolding slotsAlong slotsFor
@@ -84,7 +87,8 @@ module _ (c : Config) (rk : ℕ → ℕ) where
         wider : (j : ℕ) → SlotOf ns (slotsAlong c rk bs ns) j → SlotOf (b ∷ ns) (slotsAlong c rk bs ns) j
         wider j s = ⊎-elim (λ e. inl e) (λ x. inr (x .0, among-tail (x .0) b ns (x .1), x .2, x .3, x .4)) s
 
-        go : ((j : ℕ) → SlotOf ns (slotsAlong c rk bs ns) j) → (rs : List ℕ) (j : ℕ) → foldr max (priorityOf c b) (map (ceiling c) rs) ≤ current c b (at bs b)
+        go : ((j : ℕ) → SlotOf ns (slotsAlong c rk bs ns) j)
+            → (rs : List ℕ) (j : ℕ) → levelWith c b rs ≤ current c b (at bs b)
             → ((q : ℕ) → among q rs ≡ true → among q (at bs b .held) ≡ true)
             → SlotOf (b ∷ ns) (slotsFor c rk b rs ++ slotsAlong c rk bs ns) j
         go below [] j low own = wider j (below j)
@@ -104,50 +108,57 @@ module _ {c : Config} {p : Plan} {rk : ℕ → ℕ} (fit : Fitted c p rk) {m : M
   -- the first of a nest is started, so that its own priority is what it is compared by
   nested-plain : (b : ℕ) (ns : List ℕ) → Nested c (s .bodies) (b ∷ ns) → triggerOf c b ≡ priorityOf c b
   unfolding Nested
-  nested-plain b ns k = trigger-plain c b (k .0) (plain-competes (sim .orderly) b (active-of-started (bodyOf s b .phase) (k .1 .0)))
+  nested-plain b ns k =
+      trigger-plain c b (k .0) (plain-competes (sim .orderly) b (started-competes (bodyOf s b .phase) (k .1 .0)))
 
   -- whoever holds a resource is a body of the nest
   holder-few : (i r : ℕ) → among r (bodyOf s i .held) ≡ true → current c i (bodyOf s i) ≤ maxPriority
   holder-few i r h =
-      current-few fit i (bodyOf s i) (nest-exists c (s .bodies) i (sim .nest) (sim .tied .nested) (holder-nested (sim .tied) r i h))
+      current-few fit i (bodyOf s i)
+      (nest-exists c (s .bodies) i (sim .nest) (sim .tied .nested) (holder-nested (sim .tied) r i h))
 
   -- a time-triggered task that runs is compared by its trigger level
   module _ (j : ℕ) (js : List ℕ) (e : s .order ≡ j ∷ js) where
     timed-caller : caller c s ≡ j
-    timed-caller = ap (λ (os : List ℕ). latestOf (s .bodies) os (chosen c (s .bodies)) .number) e
+    timed-caller = ap (λ (x : Candidate). x .number) (runner-is c s e)
 
     timed-trigger : triggerOf c j ≡ triggerLevel
     timed-trigger = trigger-timed c j (latest-exists (sim .orderly) j js e) (latest-timed (sim .orderly) j js e)
 
   -- where nobody runs nothing is held, so the law has no case for it
-  pub holder-below : (i r : ℕ) → i ≢ caller c s → among r (bodyOf s i .held) ≡ true → current c i (bodyOf s i) < triggerOf c (caller c s)
+  pub holder-below : (i r : ℕ) → i ≢ caller c s → among r (bodyOf s i .held) ≡ true
+      → current c i (bodyOf s i) < triggerOf c (caller c s)
   unfolding among
   holder-below i r other h = by (s .order) refl
     where
-      go : s .order ≡ [] → (ns : List ℕ) → Tied c rk m (s .bodies) [] ns → current c i (bodyOf s i) < triggerOf c (caller c s)
+      go : s .order ≡ [] → (ns : List ℕ) → Tied c rk m (s .bodies) [] ns
+          → current c i (bodyOf s i) < triggerOf c (caller c s)
       go e [] t = absurd (true≢false (sym (holder-nested t r i h)))
       go e (b ∷ ns) t =
-          let runs = ap (λ (os : List ℕ). latestOf (s .bodies) os (chosen c (s .bodies))) e ∙ chosen-seated fit t (sim .calm) b ns refl in
+          let runs = runner-is c s e ∙ chosen-seated fit t (sim .calm) b ns refl in
           let calls : caller c s ≡ b = ap (λ (x : Candidate). x .number) runs in
-          rw (calls, nested-plain b ns (t .nested)) (nest-below b ns (t .nested) i (holder-nested t r i h) (λ e. other (e ∙ sym calls)))
+          rw (calls, nested-plain b ns (t .nested))
+          (nest-below b ns (t .nested) i (holder-nested t r i h) (λ e. other (e ∙ sym calls)))
 
-      by : (os : List ℕ) → s .order ≡ os → current c i (bodyOf s i) < triggerOf c (caller c s)
+      by : (js : List ℕ) → s .order ≡ js → current c i (bodyOf s i) < triggerOf c (caller c s)
       by [] e = go e (sim .nest) (rw e at (sim .tied))
       by (j ∷ js) e = rw (timed-caller j js e) (omega (arith, holder-few i r h, timed-trigger j js e))
 
-  pub ceiling-below : (i r : ℕ) → i ≢ caller c s → among r (bodyOf s i .held) ≡ true → ceiling c r < triggerOf c (caller c s)
+  pub ceiling-below : (i r : ℕ) → i ≢ caller c s → among r (bodyOf s i .held) ≡ true
+      → ceiling c r < triggerOf c (caller c s)
   ceiling-below i r other h = omega (arith, holder-below i r other h, current-held c i (bodyOf s i) r h)
 
   -- a declared user is no time-triggered task
   user-untimed : (r b : ℕ) → isUser c r b ≡ true → isTimed c b ≡ false
-  user-untimed r b u = go (isTimed c b) refl
-    where
-      go : (x : Bool) → isTimed c b ≡ x → x ≡ false
-      go true e = absurd (true≢false (sym u ∙ timed-no-user c (fit .accepted) r b e))
-      go false e = refl
+  user-untimed r b u =
+      refuted (isTimed c b) (λ e. true≢false (sym u ∙ timed-no-user c (fit .accepted) r b e))
+
+  user-waits : (r j : ℕ) (js : List ℕ) → s .order ≡ j ∷ js → isUser c r j ≡ true → ⊥
+  user-waits r j js e u = true≢false (sym (latest-timed (sim .orderly) j js e) ∙ user-untimed r j u)
 
   -- the runner itself holds what a declared user is refused
-  own-held : (r : ℕ) → caller c s < c .bodies → isUser c r (caller c s) ≡ true → heldIn r (s .bodies) ≡ true → among r (calling c s .held) ≡ true
+  own-held : (r : ℕ) → caller c s < c .bodies → isUser c r (caller c s) ≡ true → heldIn r (s .bodies) ≡ true
+      → among r (calling c s .held) ≡ true
   own-held r exists user h =
       let x = held-by r (s .bodies) h in
       by-eq (x .0) (caller c s)
@@ -177,7 +188,7 @@ module _ {c : Config} {p : Plan} {rk : ℕ → ℕ} (fit : Fitted c p rk) {m : M
           by-runner fit sim
           (λ _ n. absurd (true≢false (sym n ∙ somebody)))
           (λ b ns k. k .calls-there)
-          (λ j js k. absurd (true≢false (sym (latest-timed (sim .orderly) j js (k .order-is)) ∙ user-untimed r j (ap (isUser c r) (sym (k .calls)) ∙ user))))
+          (λ j js k. absurd (user-waits r j js (k .order-is) (ap (isUser c r) (sym (k .calls)) ∙ user)))
 
       checked : (b : Bool) → heldIn r (s .bodies) ≡ b → getStatus c s r ≡ cond b access done
       checked b e = rw (calls, lt-leb (c .resources) r (user-exists c r (caller c s) user), user, e)
@@ -186,61 +197,77 @@ module _ {c : Config} {p : Plan} {rk : ℕ → ℕ} (fit : Fitted c p rk) {m : M
       go true e = (checked true e, own-held r exists user e)
       go false e = absurd (refused (checked false e))
 
-  -- the machine in its own words: a slot of another holder has a level below the runner's own priority
-  pub slot-below : (k : ℕ) → getD (rowBytes (m .holder)) k none ≢ none → getD (rowBytes (m .holder)) k none ≢ m .core .runner
-      → getD (rowBytes (m .raised)) k none < getD (p .priority) (m .core .runner) 0
+  -- the machine in its own words: the k-th slot's resource, holder and level
+  abbrev resourceAt : ℕ → ℕ
+  resourceAt k = getD (rowBytes (m .resource)) k noRank
+
+  abbrev holderAt : ℕ → ℕ
+  holderAt k = getD (rowBytes (m .holder)) k noRank
+
+  abbrev raisedAt : ℕ → ℕ
+  raisedAt k = getD (rowBytes (m .raised)) k noRank
+
+  -- a slot of another holder has a level below the runner's own priority
+  pub slot-below : (k : ℕ) → holderAt k ≢ noRank → holderAt k ≢ m .core .runner
+      → raisedAt k < getD (p .priority) (m .core .runner) 0
   unfolding slotsAlong Nested Seats
   slot-below k some other = by (s .order) refl
     where
-      go : (ns : List ℕ) → Tied c rk m (s .bodies) [] ns → getD (rowBytes (m .raised)) k none < getD (p .priority) (m .core .runner) 0
+      go : (ns : List ℕ) → Tied c rk m (s .bodies) [] ns → raisedAt k < getD (p .priority) (m .core .runner) 0
       go [] t = absurd (some (t .slots .holders .at k))
       go (b ∷ ns) t =
           ⊎-elim
           (λ e. absurd (some (t .slots .holders .at k ∙ e)))
           (λ x.
-          let low = nest-below b ns (t .nested) (x .0) (x .1) (λ e. other (t .slots .holders .at k ∙ x .2 ∙ ap rk e ∙ sym (t .seats .0))) in
-          rw (t .slots .levels .at k, t .seats .0, fit .priority-at b (t .nested .0), nested-plain b ns (t .nested)) (omega (arith, low, x .3)))
+          let another : x .0 ≢ b = λ e. other (t .slots .holders .at k ∙ x .2 ∙ ap rk e ∙ sym (t .seats .0)) in
+          let low = nest-below b ns (t .nested) (x .0) (x .1) another in
+          rw (t .slots .levels .at k, t .seats .0, fit .priority-at b (t .nested .0), nested-plain b ns (t .nested))
+          (omega (arith, low, x .3)))
           (along-slot c rk (s .bodies) (b ∷ ns) k)
 
-      by : (os : List ℕ) → s .order ≡ os → getD (rowBytes (m .raised)) k none < getD (p .priority) (m .core .runner) 0
+      by : (js : List ℕ) → s .order ≡ js → raisedAt k < getD (p .priority) (m .core .runner) 0
       by [] e = go (sim .nest) (rw e at (sim .tied))
       by (j ∷ js) e =
           ⊎-elim
           (λ z. absurd (some (sim .tied .slots .holders .at k ∙ z)))
           (λ x.
-          let seat = timed-seat c rk (s .bodies) j js (m .core .runner) (m .core .level) (sim .nest) (rw e at (sim .tied .seats)) in
+          let seat = latest-seat (rw e at (sim .tied)) in
           let i< = nest-exists c (s .bodies) (x .0) (sim .nest) (sim .tied .nested) (x .1) in
-          rw (sim .tied .slots .levels .at k, seat .0, fit .priority-at j (latest-exists (sim .orderly) j js e), timed-trigger j js e)
+          let trigger = fit .priority-at j (latest-exists (sim .orderly) j js e) in
+          rw (sim .tied .slots .levels .at k, seat .0, trigger, timed-trigger j js e)
           (omega (arith, x .3, current-few fit (x .0) (bodyOf s (x .0)) i<)))
           (along-slot c rk (s .bodies) (sim .nest) k)
 
   -- and where only declared users hold resources, the rank of a slot's holder is in the word of its resource
-  pub slot-user : ((i r : ℕ) → among r (bodyOf s i .held) ≡ true → isUser c r i ≡ true) → (k : ℕ) → getD (rowBytes (m .holder)) k none ≢ none
-      → has (getD (p .users) (getD (rowBytes (m .resource)) k none) 0) (getD (rowBytes (m .holder)) k none) ≡ true
+  pub slot-user : ((i r : ℕ) → among r (bodyOf s i .held) ≡ true → isUser c r i ≡ true)
+      → (k : ℕ) → holderAt k ≢ noRank → has (getD (p .users) (resourceAt k) 0) (holderAt k) ≡ true
   slot-user declared k some =
       ⊎-elim
       (λ e. absurd (some (sim .tied .slots .holders .at k ∙ e)))
       (λ x.
       let u = declared (x .0) _ (x .4) in
+      let i< = nest-exists c (s .bodies) (x .0) (sim .nest) (sim .tied .nested) (x .1) in
       rw (sim .tied .slots .holders .at k, sim .tied .slots .resources .at k, x .2)
-      (fit .users-at _ (x .0) (user-exists c _ (x .0) u) (nest-exists c (s .bodies) (x .0) (sim .nest) (sim .tied .nested) (x .1)) ∙ u))
+      (fit .users-at _ (x .0) (user-exists c _ (x .0) u) i< ∙ u))
       (along-slot c rk (s .bodies) (sim .nest) k)
 
   -- a Get by a declared user is refused with 1, and a slot of that resource has the runner's rank
-  pub machine-refused : (r : ℕ) → idles m ≡ false → isUser c r (runnerOf p m) ≡ true → machineStep c p m (Get r) .status ≢ done
+  pub machine-refused : (r : ℕ) → idles m ≡ false → isUser c r (runnerOf p m) ≡ true
+      → machineStep c p m (Get r) .status ≢ done
       → (machineStep c p m (Get r) .status ≡ access)
-      × ((k : ℕ) × (getD (rowBytes (m .resource)) k none ≡ r) × (getD (rowBytes (m .holder)) k none ≡ m .core .runner))
+      × ((k : ℕ) × (resourceAt k ≡ r) × (holderAt k ≡ m .core .runner))
   unfolding stepBy
   machine-refused r somebody user refused =
       by-runner fit sim
       (λ i _. absurd (true≢false (sym i ∙ somebody)))
       (λ b ns k.
-      let same : machineStep c p m (Get r) .status ≡ getStatus c s r = ap (λ (x : Seen). x .status) (event-agrees fit (Get r) sim .seen) in
+      let same : machineStep c p m (Get r) .status ≡ getStatus c s r =
+      ap (λ (x : Seen). x .status) (event-agrees fit (Get r) sim .seen) in
       let shown : runnerOf p m ≡ caller c s = runnerOf-is fit m b (k .exists) (k .rank) ∙ sym (k .calls) in
       let x = declared-refused r (k .somebody) (ap (isUser c r) (sym shown) ∙ user) (λ e. refused (same ∙ e)) in
-      let y = slot-at c rk b r (at (s .bodies) b .held) (slotsAlong c rk (s .bodies) ns) (ap (λ (i : ℕ). among r (bodyOf s i .held)) (sym (k .calls)) ∙ x .1) in
+      let y = slot-at c rk b r (at (s .bodies) b .held) (slotsAlong c rk (s .bodies) ns) (rw (k .calls) at (x .1)) in
       let z = slots-are fit (k .tied) in
       (same ∙ x .0, (y .0, z .resources .at (y .0) ∙ y .1, z .holders .at (y .0) ∙ y .2 ∙ sym (k .rank))))
       (λ j js k.
       let shown : runnerOf p m ≡ j = runnerOf-is fit m j (k .exists) (k .rank) in
-      absurd (true≢false (sym (latest-timed (sim .orderly) j js (k .order-is)) ∙ user-untimed r j (ap (isUser c r) (sym shown) ∙ user))))
+      absurd (user-waits r j js (k .order-is) (ap (isUser c r) (sym shown) ∙ user)))

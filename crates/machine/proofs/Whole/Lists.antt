@@ -1,8 +1,9 @@
--- Demand 3. Take any accepted configuration and any list of events: Activate, Finish, Chain, Get, Release, Tick, Line, Start, Stop, Wait, Set and
--- Clear in any order, refused ones included, without limit. Put it through the machine, from its fresh start, where each event gets the model that the one
--- before it handed back; and put it through the plain scheduler, which has no request word or cell. What is seen of the two is the same
--- list: for every event the status, the running body, the level and the begun mark, every body's losses, and for every entry whether its cell
--- matched (machine) or whether it is due by the table's arithmetic (scheduler).
+-- Demand 3. Take any accepted configuration and any list of events: Activate, Finish, Chain, Get, Release, Tick, Line,
+-- Start, Stop, Wait, Set and Clear in any order, refused ones included, without limit. Put it through the machine, from
+-- its fresh start, where each event gets the model that the one before it handed back; and put it through the plain
+-- scheduler, which has no request word or cell. What is seen of the two is the same list: for every event the status,
+-- the running body, the level and the begun mark, every body's losses, and for every entry whether its cell matched
+-- (machine) or whether it is due by the table's arithmetic (scheduler).
 --
 --   event-agrees   one event
 --   agreement-from a list of events, from any model that stands for a state; after-sim: what it leaves
@@ -29,7 +30,7 @@ use Rattle.machine.proofs.Event.Bits.{agrees-wait, agrees-set, agrees-c
 
 module _ {c : Config} {p : Plan} {rk : ℕ → ℕ} (fit : Fitted c p rk) where
   pub event-agrees : {m : Model} {s : State} (e : Event) → Sim c p rk m s → Agrees c p rk m s e
-  event-agrees {m} {s} e sim = by e (dues-long c p rk fit s (sim .timed .tables-long))
+  event-agrees {m} {s} e sim = by e (dues-long fit s (sim .cells .tables-long))
     where
       keeps : Keeps c s
       keeps = keeps-of fit (sim .orderly)
@@ -56,7 +57,8 @@ module _ {c : Config} {p : Plan} {rk : ℕ → ℕ} (fit : Fitted c p rk) where
       ap₂ (λ (x : Seen) (xs : List Seen). x ∷ xs) (a .seen) (agreement-from es (a .sim))
 
   -- after every list of events the model stands for the state
-  pub after-sim : (es : List Event) {m : Model} {s : State} → Sim c p rk m s → Sim c p rk (machineAfter c p m es) (after c s es)
+  pub after-sim : (es : List Event) {m : Model} {s : State} → Sim c p rk m s
+      → Sim c p rk (machineAfter c p m es) (after c s es)
   unfolding machineAfter afterBy
   after-sim [] sim = sim
   after-sim (e ∷ es) sim = after-sim es (event-agrees e sim .sim)
