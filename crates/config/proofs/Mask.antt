@@ -11,11 +11,10 @@ use lib.Dec.{ltb, eqb}
 use lib.ListN.{getD, take, length-take, List·getD-eq-default}
 use lib.Seq.{getD-take}
 use lib.Pow.{shr-shr}
-use Rattle.number.proofs.Cases.{by-lt, by-eq, and-true}
+use Rattle.number.proofs.Cases.{by-lt, by-eq, and-true, neither}
 use Rattle.config.specs.declared.Config.{Config}
 use Rattle.config.specs.Meaning.{timeTriggered, isTimed, isUser}
 use Rattle.config.specs.Draft.{timedIn, timedUser}
-use Rattle.config.proofs.Padded.{or-false}
 
 -- the bit b of a mask is set
 abbrev pub Set : ℕ → ℕ → Type 0
@@ -33,7 +32,7 @@ unfolding timedIn
 timedIn-none m [] e b t s = absurd (omega arith)
 timedIn-none m (k ∷ ks) e zero t s = true≢false (rw (eq-eqb (m % 2) 1 (sym (first-bit m) ∙ s), eq-eqb k timeTriggered t) at e)
 timedIn-none m (k ∷ ks) e (suc b) t s =
-    timedIn-none (m / 2) ks (or-false (eqb (m % 2) 1 && eqb k timeTriggered) (timedIn (m / 2) ks) e .1) b t (sym (next-bit m b) ∙ s)
+    timedIn-none (m / 2) ks (neither (eqb (m % 2) 1 && eqb k timeTriggered) (timedIn (m / 2) ks) e .1) b t (sym (next-bit m b) ∙ s)
 
 none-timedIn : (m : ℕ) (ks : List ℕ) → ((b : ℕ) → getD ks b 0 ≡ timeTriggered → Set m b → ⊥) → timedIn m ks ≡ false
 unfolding timedIn

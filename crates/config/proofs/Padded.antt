@@ -2,15 +2,15 @@
 -- Last, a number that is not among the first n elements.
 use Prim.Native.Nat.{ℕ, zero, suc, _+_, _-_, _≤_, _<_}
 use mathlib.Core.Path.{_≡_, refl, sym, _∙_}
-use mathlib.Core.Bool.{Bool, true, false, _||_, true≢false}
+use mathlib.Core.Bool.{false}
 use mathlib.Core.List.{List, [], _∷_}
 use native.Mathlib.Omega.{arith}
 use lib.Dec.{eqb}
 use lib.ListN.{length, getD, take, set, replicate, length-append, length-take, length-set, length-replicate, getD-replicate, List·getD-append, List·getD-eq-default}
 use lib.Seq.{getD-append-add, getD-set-same, getD-set-other, getD-take, take-set-le, ext-getD}
 use borrow.Author.Tests.{eqb-false, ne-eqb}
-use Rattle.number.proofs.Cases.{by-lt, by-eq}
-use Rattle.config.specs.Draft.{occurs}
+use Rattle.number.proofs.Cases.{by-lt, by-eq, neither}
+use Rattle.config.specs.Among.{among}
 use Rattle.config.specs.Accepted.{padded}
 
 -- an element of a list of zeros, inside or not
@@ -84,27 +84,23 @@ pub padded-set : (m : ℕ) (l : List ℕ) (n v : ℕ) → padded m n (set l n v)
 padded-set m l n v = rw (take-set-le n l n v (omega arith))
 
 -- a number that is none of the elements
-pub or-false : (s t : Bool) → (s || t) ≡ false → (s ≡ false) × (t ≡ false)
-or-false true t e = absurd (true≢false e)
-or-false false t e = (refl, e)
-
-none-before : (v : ℕ) (l : List ℕ) → occurs v l ≡ false → (j : ℕ) → j < length l → getD l j 0 ≡ v → ⊥
-unfolding occurs
+none-before : (v : ℕ) (l : List ℕ) → among v l ≡ false → (j : ℕ) → j < length l → getD l j 0 ≡ v → ⊥
+unfolding among
 none-before v [] e j h q = absurd (omega arith)
-none-before v (x ∷ xs) e zero h q = eqb-false v x (or-false (eqb v x) (occurs v xs) e .0) (sym q)
-none-before v (x ∷ xs) e (suc j) h q = none-before v xs (or-false (eqb v x) (occurs v xs) e .1) j (omega arith) q
+none-before v (x ∷ xs) e zero h q = eqb-false v x (neither (eqb v x) (among v xs) e .0) (sym q)
+none-before v (x ∷ xs) e (suc j) h q = none-before v xs (neither (eqb v x) (among v xs) e .1) j (omega arith) q
 
-before-none : (v : ℕ) (l : List ℕ) → ((j : ℕ) → j < length l → getD l j 0 ≡ v → ⊥) → occurs v l ≡ false
-unfolding occurs
+before-none : (v : ℕ) (l : List ℕ) → ((j : ℕ) → j < length l → getD l j 0 ≡ v → ⊥) → among v l ≡ false
+unfolding among
 before-none v [] f = refl
 before-none v (x ∷ xs) f = simp (ne-eqb v x (λ e. f zero (omega arith) (sym e)), before-none v xs (λ j h. f (suc j) (omega arith)))
 
 module _ (v n : ℕ) (l : List ℕ) (fits : n ≤ length l) where
-  pub occurs-none : occurs v (take n l) ≡ false → (j : ℕ) → j < n → getD l j 0 ≡ v → ⊥
-  occurs-none e j h q = none-before v (take n l) e j (rw length-take (omega arith)) (getD-take n l j 0 h ∙ q)
+  pub among-none : among v (take n l) ≡ false → (j : ℕ) → j < n → getD l j 0 ≡ v → ⊥
+  among-none e j h q = none-before v (take n l) e j (rw length-take (omega arith)) (getD-take n l j 0 h ∙ q)
 
-  pub none-occurs : ((j : ℕ) → j < n → getD l j 0 ≡ v → ⊥) → occurs v (take n l) ≡ false
-  none-occurs f = before-none v (take n l) (λ j h q. f j (below j h) (sym (getD-take n l j 0 (below j h)) ∙ q))
+  pub none-among : ((j : ℕ) → j < n → getD l j 0 ≡ v → ⊥) → among v (take n l) ≡ false
+  none-among f = before-none v (take n l) (λ j h q. f j (below j h) (sym (getD-take n l j 0 (below j h)) ∙ q))
     where
       below : (j : ℕ) → j < length (take n l) → j < n
       below j h = omega (arith, rw length-take at h)

@@ -20,7 +20,8 @@ use Rattle.config.specs.declared.Field.the-variants.{Version, Bodies, Ki
 use Rattle.config.specs.Refusal.{badVersion, badCount, badField, usedPriority, unsorted, tooManyEntries, leftOver, tooLong, sharedOffset, mixedTable}
 use Rattle.config.specs.Meaning.{lastKind, isTask}
 use Rattle.config.specs.Value.{newestVersion, maxPriority, maxBodies, maxResources, maxTables, maxEntries, noConfig}
-use Rattle.config.specs.Draft.{occurs, unless, outside, andThen, sorted, sharesOffset, mixes, secondTable, mostAutostart, timedUser, fault, faultAt, put, ended, start}
+use Rattle.config.specs.Among.{among}
+use Rattle.config.specs.Draft.{unless, outside, andThen, sorted, sharesOffset, mixes, secondTable, mostAutostart, timedUser, fault, faultAt, put, ended, start}
 use Rattle.config.specs.Reader.{numberFault, faultPlace, finished, refused, readFrom, maxLength, readConfig}
 use Rattle.config.proofs.Walk.{number-fine, read-end, read-zero, read-step, read-stop, readFrom-elim}
 
@@ -51,9 +52,9 @@ fault-tested Version d v = outside-tested 1 newestVersion v badVersion (lit≤ t
 fault-tested Bodies d v = outside-tested 1 maxBodies v badCount (lit≤ tt) (inl (lit≤ tt))
 fault-tested Kind d v = outside-tested 0 lastKind v badField (lit≤ tt) (inl (lit≤ tt))
 fault-tested Priority d v =
-    andThen-tested (outside 1 maxPriority v badField) (unless (not (occurs v (take (d .index) (d .config .priority)))) usedPriority)
+    andThen-tested (outside 1 maxPriority v badField) (unless (not (among v (take (d .index) (d .config .priority)))) usedPriority)
     (outside-tested 1 maxPriority v badField (lit≤ tt) (inl (lit≤ tt)))
-    (unless-tested (not (occurs v (take (d .index) (d .config .priority)))) usedPriority (lit≤ tt) (inl (lit≤ tt)))
+    (unless-tested (not (among v (take (d .index) (d .config .priority)))) usedPriority (lit≤ tt) (inl (lit≤ tt)))
 fault-tested Autostart d v = outside-tested 0 (mostAutostart (getD (d .config .kind) (d .index) 0)) v badField (lit≤ tt) (inl (lit≤ tt))
 fault-tested Resources d v = outside-tested 0 maxResources v badCount (lit≤ tt) (inl (lit≤ tt))
 fault-tested Users d v =

@@ -11,7 +11,8 @@ use Rattle.number.specs.Number.{readNumber, groups, continued, fifthGroup, numb
 use Rattle.number.specs.Output.{writing, written}
 use Rattle.config.specs.declared.Config.{Config}
 use Rattle.config.specs.Value.{withVersion, withBodies, withKind, withPriority, withAutostart, withUsers, withTables, withPeriod, withEntries, withOffset, withTask}
-use Rattle.config.specs.Draft.{faultAt, putAt, askedAt, ended, occurs, timedIn, someTimed}
+use Rattle.config.specs.Among.{among}
+use Rattle.config.specs.Draft.{faultAt, putAt, askedAt, ended, timedIn, someTimed}
 use Rattle.config.specs.Reader.{readFrom, readConfig}
 use Rattle.config.specs.Writer.{faultFrom, bytesFrom, writeConfig, wroteConfig}
 
@@ -139,7 +140,7 @@ pub record ReaderRows : Type 0 where
   pub left-over : answers (noResource ++ 0x00 ∷ []) ([] ∷ (0x00 ∷ []) ∷ (0x80 ∷ 0x80 ∷ []) ∷ []) ≡ (0, 7) ∷ (9, 7) ∷ (9, 7) ∷ []
 
 pub reader-rows : ReaderRows
-unfolding readNumber groups continued fifthGroup readConfig readFrom faultAt putAt ended occurs timedIn someTimed
+unfolding readNumber groups continued fifthGroup readConfig readFrom faultAt putAt ended among timedIn someTimed
 reader-rows =
     record {
       lengths = refl;
@@ -229,7 +230,7 @@ pub record WriterRows : Type 0 where
   pub past : answer 20 (withKind (withUsers (withTask value 2 200) 1 77) 3 9) ≡ (0, 20)
 
 pub writer-rows : WriterRows
-unfolding readNumber groups continued fifthGroup numberBytes groupBytes writing written readConfig readFrom faultAt putAt askedAt ended occurs timedIn someTimed faultFrom bytesFrom
+unfolding readNumber groups continued fifthGroup numberBytes groupBytes writing written readConfig readFrom faultAt putAt askedAt ended among timedIn someTimed faultFrom bytesFrom
 writer-rows =
     record {
       room = (refl, refl, refl);

@@ -12,7 +12,7 @@ use native.Mathlib.Numerals.{add-one}
 use lib.Dec.{eqb}
 use lib.ListN.{length, getD, take}
 use borrow.Author.Tests.{eq-eqb, ne-eqb, le-ltb}
-use Rattle.number.proofs.Cases.{by-test, by-lt, by-eq}
+use Rattle.number.proofs.Cases.{by-test, by-lt, by-eq, neither}
 use Rattle.config.specs.declared.Config.{Config}
 use Rattle.config.specs.declared.Draft.{Draft}
 use Rattle.config.specs.declared.Field.{Field}
@@ -21,7 +21,7 @@ use Rattle.config.specs.Meaning.{isr, timeTriggered, lastKind, isTask, i
 use Rattle.config.specs.Value.{newestVersion, maxPriority, maxBodies, maxResources, maxTables, maxEntries}
 use Rattle.config.specs.Draft.{rises, firstEntry, offsetHere, offsetBefore, sorted, sharesOffset, mixes, someTimed, tasksBefore, secondTable, mostAutostart, timedIn, timedUser, putAt, askedAt, ended}
 use Rattle.config.specs.Accepted.{Shaped, Accepted}
-use Rattle.config.proofs.Padded.{length-padded, getD-padded, take-padded, occurs-none, none-occurs, or-false}
+use Rattle.config.proofs.Padded.{length-padded, getD-padded, take-padded, among-none, none-among}
 use Rattle.config.proofs.Ranges.{InRange}
 use Rattle.config.proofs.Tables.{firstOf-zero, firstOf-step, firstOf-rises, table-of}
 use Rattle.config.proofs.Extends.{Extends}
@@ -260,7 +260,7 @@ fits Version c d s x p h = h
 fits Bodies c d s x p h = h
 fits Kind c d s x p h = h
 fits Priority c d s x p h =
-    let none = occurs-none (priorityOf c (d .index)) (d .index) (d .config .priority) (omega (arith, priority-full c s d x)) (h .2) in
+    let none = among-none (priorityOf c (d .index)) (d .index) (d .config .priority) (omega (arith, priority-full c s d x)) (h .2) in
     (h .0, h .1, λ a q e. none a q (priority-same c s d x a q ∙ e))
 fits Autostart c d s x p h = autostart-most (getD (c .kind) (d .index) 0) (getD (c .autostart) (d .index) 0) (rw (kind-same c s d x) at h)
 fits Resources c d s x p h = h
@@ -274,7 +274,7 @@ fits Period c d s x p h = h
 fits Entries c d s x p h = omega arith
 fits Offset c d s x p h = rw (period-same c s d x) at h
 fits Task c d s x p h =
-    let n = or-false (mixes d (getD (c .task) (d .entry) 0)) (secondTable d (getD (c .task) (d .entry) 0)) (h .3) in (
+    let n = neither (mixes d (getD (c .task) (d .entry) 0)) (secondTable d (getD (c .task) (d .entry) 0)) (h .3) in (
       sym (task-same c s d x (getD (c .task) (d .entry) 0)) ∙ h .0,
       λ q. sym (sorted-later c s d x p q) ∙ h .1,
       λ q. sym (shares-later c s d x p q) ∙ h .2,
@@ -290,7 +290,7 @@ fits-back Version c d s x p h = h
 fits-back Bodies c d s x p h = h
 fits-back Kind c d s x p h = h
 fits-back Priority c d s x p h =
-    let none = none-occurs (priorityOf c (d .index)) (d .index) (d .config .priority) (omega (arith, priority-full c s d x)) in
+    let none = none-among (priorityOf c (d .index)) (d .index) (d .config .priority) (omega (arith, priority-full c s d x)) in
     (h .0, h .1, none (λ a q e. h .2 a q (sym (priority-same c s d x a q) ∙ e)))
 fits-back Autostart c d s x p h = rw (kind-same c s d x) (most-autostart (getD (c .kind) (d .index) 0) (getD (c .autostart) (d .index) 0) (h .0) (h .1) (h .2))
 fits-back Resources c d s x p h = h

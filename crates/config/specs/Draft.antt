@@ -17,12 +17,8 @@ use Rattle.config.specs.declared.Field.{Field}
 use Rattle.config.specs.declared.Field.the-variants.{Version, Bodies, Kind, Priority, Autostart, Resources, Users, Tables, Period, Entries, Offset, Task, End}
 use Rattle.config.specs.Refusal.{badVersion, badCount, badField, usedPriority, unsorted, tooManyEntries, sharedOffset, mixedTable}
 use Rattle.config.specs.Meaning.{isr, timeTriggered, lastKind, isTask, isTimed}
+use Rattle.config.specs.Among.{among}
 use Rattle.config.specs.Value.{newestVersion, maxPriority, maxBodies, maxResources, maxTables, maxEntries, noConfig, withVersion, withBodies, withKind, withPriority, withAutostart, withResources, withUsers, withTables, withPeriod, withEntries, withOffset, withTask}
-
--- v stands in the list
-unfoldable pub occurs : ℕ → List ℕ → Bool
-occurs v [] = false
-occurs v (x ∷ xs) = eqb v x || occurs v xs
 
 -- the refusal r, unless the test holds
 abbrev pub unless : Bool → ℕ → ℕ
@@ -105,7 +101,7 @@ faultAt Version d v = outside 1 newestVersion v badVersion
 faultAt Bodies d v = outside 1 maxBodies v badCount
 faultAt Kind d v = outside 0 lastKind v badField
 faultAt Priority d v =
-    andThen (outside 1 maxPriority v badField) (unless (not (occurs v (take (d .index) (d .config .priority)))) usedPriority)
+    andThen (outside 1 maxPriority v badField) (unless (not (among v (take (d .index) (d .config .priority)))) usedPriority)
 faultAt Autostart d v = outside 0 (mostAutostart (getD (d .config .kind) (d .index) 0)) v badField
 faultAt Resources d v = outside 0 maxResources v badCount
 faultAt Users d v = andThen (outside 1 (2 ^ d .config .bodies - 1) v badField)

@@ -1,7 +1,7 @@
 -- Proofs by cases: on a test, and on how two numbers compare; and what a test of two says of each.
 use Prim.Native.Nat.{ℕ, _≤_, _<_}
 use mathlib.Core.Path.{_≡_, refl, sym}
-use mathlib.Core.Bool.{Bool, true, false, _&&_, true≢false}
+use mathlib.Core.Bool.{Bool, true, false, _&&_, _||_, true≢false}
 use lib.Dec.{ltb, eqb}
 use borrow.Author.Tests.{ltb-true, ltb-false, eqb-true, eqb-false}
 
@@ -18,3 +18,7 @@ by-eq a b f g = by-test (eqb a b) (λ e. f (eqb-true a b e)) (λ e. g (eqb-false
 pub and-true : (s t : Bool) → s && t ≡ true → (s ≡ true) × (t ≡ true)
 and-true true t e = (refl, e)
 and-true false t e = absurd (true≢false (sym e))
+
+pub neither : (s t : Bool) → s || t ≡ false → (s ≡ false) × (t ≡ false)
+neither true t e = absurd (true≢false e)
+neither false t e = (refl, e)

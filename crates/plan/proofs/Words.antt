@@ -1,7 +1,7 @@
 -- Words of ranks, body by body: one body more, and which ranks are in.
 use Prim.Native.Nat.{ℕ, zero, suc, _+_, _^_, _<_}
 use mathlib.Core.Path.{_≡_, refl, sym, _∙_}
-use mathlib.Core.Bool.{Bool, true, false}
+use mathlib.Core.Bool.{true, false, false≢true}
 use native.Mathlib.Omega.{arith}
 use native.Mathlib.Numerals.{add-one}
 use lib.Dec.{eqb}
@@ -47,10 +47,7 @@ marked-none at f v (suc n) r ne = marked-other at f v n r (ne n (omega arith)) �
 -- what is in is some body's rank
 pub marked-some : (at f : ℕ → ℕ) (v n r : ℕ) → has (marked at f v n) r ≡ true → (i : ℕ) × (i < n) × (at i ≡ r)
 unfolding marked
-marked-some at f v zero r e = absurd (false-true (sym (Word.empty r) ∙ e))
-  where
-    false-true : _≡_ {A = Bool} false true → ⊥
-    false-true p = let z : _≡_ {A = ℕ} 0 1 = cc in omega arith
+marked-some at f v zero r e = absurd (false≢true (sym (Word.empty r) ∙ e))
 marked-some at f v (suc n) r e =
     by-eq r (at n)
     (λ s. (n, omega arith, sym s))

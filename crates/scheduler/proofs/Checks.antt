@@ -5,7 +5,7 @@
 -- and the calls that name one; the accepted calls one by one.
 use Prim.Native.Nat.{ℕ, _+_, _≤_, _<_}
 use mathlib.Core.Path.{_≡_, refl, sym, ap, ap₂, _∙_}
-use mathlib.Core.Bool.{Bool, true, false, true≢false, cond, not, _&&_, _||_, and-true}
+use mathlib.Core.Bool.{Bool, true, false, true≢false, cond, not, _&&_, and-true}
 use mathlib.Core.List.{List, [], _∷_, _++_, map}
 use mathlib.Core.Logic.{_≢_, _↔_}
 use native.Mathlib.Omega.{arith}
@@ -96,10 +96,6 @@ pub first-given : (c : Config) (s : State) (e : Event) (before : List Check) (k 
     → step c s e .seen .status ≡ k .status
 unfolding stepBy
 first-given c s e before k rest q none f = ap firstGiven q ∙ first-fails before k rest (none-passed before none) f
-
-neither : (a b : Bool) → (a || b) ≡ false → (a ≡ false) × (b ≡ false)
-neither true b e = absurd (true≢false e)
-neither false b e = (refl, e)
 
 inactive : (s : State) (t : ℕ) → active s t ≡ false → bodyOf s t .phase ≡ suspended
 inactive s t e = go (bodyOf s t .phase) e
@@ -211,7 +207,7 @@ start-statuses c s t d = refl
 module _ (c : Config) (s : State) where
   -- somebody runs whom the call is open to
   someone : noCaller (runner c s) ≡ false → nobodyRuns c s ≡ false
-  someone e = neither (nobodyRuns c s) (runner c s .timed) e .0
+  someone e = Cases.neither (nobodyRuns c s) (runner c s .timed) e .0
 
   -- somebody runs, and t is a suspended task
   pub activate-passed : (t : ℕ) → activateStatus c s t ≡ done
@@ -233,7 +229,7 @@ module _ (c : Config) (s : State) where
       × (t ≢ caller c s → bodyOf s t .phase ≡ suspended)
   chain-passed t e =
       let p = all-passed _ (omega arith) e in
-      let q = neither (noCaller (runner c s)) (isIsr c (caller c s)) (p .0) in (
+      let q = Cases.neither (noCaller (runner c s)) (isIsr c (caller c s)) (p .0) in (
         someone (q .0),
         q .1,
         not-false (isOsekTask c t) (p .1 .0),
@@ -273,7 +269,7 @@ module _ (c : Config) (s : State) where
       × (isRunning (tableOf s t) ≡ false)
   start-passed t d e =
       let p = all-passed _ (omega arith) e in
-      let q = neither (eqb d 0) (ltb longestDelay (d + smallestOffset c t)) (p .1 .1 .0) in (
+      let q = Cases.neither (eqb d 0) (ltb longestDelay (d + smallestOffset c t)) (p .1 .1 .0) in (
         someone (p .0),
         leb-false (c .tables) t (p .1 .0),
         eqb-false d 0 (q .0),

@@ -5,7 +5,7 @@
 -- so the next dispatch does nothing (`Underway`); and a loss has no part in who runs.
 use Prim.Native.Nat.{ℕ, _+_, _≤_, _<_, min}
 use mathlib.Core.Path.{_≡_, refl, sym, ap, _∙_}
-use mathlib.Core.Bool.{Bool, true, false, true≢false, cond, not, _&&_, _||_, or-false}
+use mathlib.Core.Bool.{Bool, true, false, true≢false, cond, not, _&&_, _||_, or-true, or-false}
 use mathlib.Core.List.{List, [], _∷_}
 use mathlib.Core.Logic.{_≢_}
 use native.Mathlib.Omega.{arith}
@@ -53,11 +53,7 @@ begins-some x h = both (isNobody x) (x .began) h
     both false false e = (refl, refl)
 
 begun-or : (x : Candidate) → begins x ≡ true → x .began || begins x ≡ true
-begun-or x e = ap (λ (b : Bool). x .began || b) e ∙ go (x .began)
-  where
-    go : (b : Bool) → b || true ≡ true
-    go true = refl
-    go false = refl
+begun-or x e = ap (λ (b : Bool). x .began || b) e ∙ or-true (x .began)
 
 begins-onceBegun : (x : Candidate) → begins (onceBegun x) ≡ false
 begins-onceBegun x = both (isNobody x) (x .began)

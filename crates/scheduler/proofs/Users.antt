@@ -3,7 +3,7 @@
 -- Only a Get adds to what a body holds, and it is accepted of a declared user alone.
 use Prim.Native.Nat.{ℕ}
 use mathlib.Core.Path.{_≡_, refl, sym, ap, _∙_}
-use mathlib.Core.Bool.{Bool, true, false, true≢false, cond, _||_}
+use mathlib.Core.Bool.{Bool, true, false, true≢false, cond}
 use mathlib.Core.List.{List, [], _∷_}
 use borrow.Author.Tests.{eq-eqb, ne-eqb}
 use lib.Dec.{eqb}
@@ -13,7 +13,7 @@ use Rattle.config.specs.declared.Config.{Config}
 use Rattle.config.specs.Meaning.{isUser}
 use Rattle.scheduler.specs.Bits.{anySet}
 use Rattle.scheduler.specs.Status.{done}
-use Rattle.scheduler.specs.Body.{Body, waiting, isSuspended, hasBegun, become, activated, triggers, ended, finished, requested, gets, rest, releases, loses, waits, receives, clears}
+use Rattle.scheduler.specs.Body.{Body, waiting, isSuspended, hasBegun, become, activated, triggers, ended, finished, requested, gets, releases, loses, waits, receives, clears}
 use Rattle.scheduler.specs.State.{State, noBody, bodyOf, changing, runner, among}
 use Rattle.scheduler.specs.Event.{Event, Activate, Finish, Chain, Get, Release, Tick, Line, Start, Stop, Wait, Set, Clear}
 use Rattle.scheduler.specs.Tick.{dues, counted}
@@ -22,6 +22,7 @@ use Rattle.scheduler.specs.Scheduler.{begins, phaseBegun, dispatched, ne
 use Rattle.scheduler.specs.History.{AcceptedIn}
 use Rattle.scheduler.proofs.Checks.{get-passed}
 use Rattle.scheduler.proofs.Effects.{bodyOf-changing-same, bodyOf-changing-other, length-changing, refusalOf-keeps, entered, activatingDue-keeps, cond-either}
+use Rattle.scheduler.proofs.Distinct.{among-rest}
 
 -- nothing is held of an empty list
 none-held : {C : Type 0} (r : ℕ) → among r [] ≡ true → C
@@ -75,16 +76,7 @@ module _ (c : Config) where
       sym (ap (among r) (cond-held (anySet (b .bits) w) b (become (waiting w) b) (b .held) refl refl)) ∙ h
 
   releases-none : TakesNone releases
-  unfolding among
-  releases-none b r = go (b .held)
-    where
-      or-true : (x : Bool) → x || true ≡ true
-      or-true true = refl
-      or-true false = refl
-
-      go : (rs : List ℕ) → among r (rest rs) ≡ true → among r rs ≡ true
-      go [] h = h
-      go (x ∷ xs) h = rw h (or-true (eqb r x))
+  releases-none b r h = among-rest r (b .held) h
 
   -- what is held after a Get
   gets-declared : (s : State) (r : ℕ) → isUser c r (caller c s) ≡ true → Declared s

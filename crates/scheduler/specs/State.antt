@@ -3,10 +3,10 @@
 use Prim.Native.Nat.{ℕ}
 use mathlib.Core.Bool.{Bool, true, false, _||_}
 use mathlib.Core.List.{List, [], _∷_}
-use lib.Dec.{eqb}
 use lib.ListN.{getD, set}
 use Rattle.config.specs.declared.Config.{Config}
 use Rattle.config.specs.Meaning.{executionLevel}
+unfoldable pub use Rattle.config.specs.Among.{among}
 use Rattle.scheduler.specs.Body.{suspended, hasBegun, Body}
 use Rattle.scheduler.specs.Choice.{Candidate, Tie, byHolding, chosenBy}
 
@@ -55,11 +55,6 @@ runnerBy q c s = latestOf (s .bodies) (s .order) (chosenBy q c (s .bodies))
 
 abbrev pub runner : Config → State → Candidate
 runner = runnerBy byHolding
-
--- r stands in the list
-unfoldable pub among : ℕ → List ℕ → Bool
-among r [] = false
-among r (x ∷ xs) = eqb r x || among r xs
 
 -- "r is held by anyone"
 unfoldable pub heldIn : ℕ → List Body → Bool

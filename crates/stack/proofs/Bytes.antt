@@ -9,7 +9,7 @@ use native.Mathlib.Omega.{arith}
 use lib.Arith.{mod-mul, digits-div, digits-mod}
 use lib.ListN.{length, take, drop, getD}
 use lib.Seq.{take-at, getD-at}
-use Rattle.stack.specs.Stack.{none, bytes, firstByte, lastByte, pushWord, popWord}
+use Rattle.stack.specs.Stack.{noByte, bytes, firstByte, lastByte, pushWord, popWord}
 
 pub length-bytes : (n w : ℕ) → length (bytes n w) ≡ n
 unfolding bytes
@@ -62,13 +62,13 @@ bytes-above n w y byte = bytes-suc n (w % 256 ^ n + y * 256 ^ n) ∙ cc (bytes-l
     highest = omega (arith, add-mul-div-right (w % 256 ^ n) y (pos n), div-eq-of-lt (mod-lt w (pos n)))
 
 -- the eight bytes of a word
-pub word-first : (w : ℕ) → firstByte w ≡ getD (bytes 8 w) 0 none
+pub word-first : (w : ℕ) → firstByte w ≡ getD (bytes 8 w) 0 noByte
 unfolding bytes
 word-first w = refl
 
-pub word-last : (w : ℕ) → lastByte w ≡ getD (bytes 8 w) 7 none
+pub word-last : (w : ℕ) → lastByte w ≡ getD (bytes 8 w) 7 noByte
 word-last w =
-    sym (getD-at (bytes 7 w) (lastByte w) [] none 7 (length-bytes 7 w)) ∙ ap (λ (l : List ℕ). getD l 7 none) (sym (bytes-suc 7 w))
+    sym (getD-at (bytes 7 w) (lastByte w) [] noByte 7 (length-bytes 7 w)) ∙ ap (λ (l : List ℕ). getD l 7 noByte) (sym (bytes-suc 7 w))
 
 pub word-pushed : (w x : ℕ) → x < 256 → bytes 8 (pushWord w x) ≡ x ∷ take 7 (bytes 8 w)
 word-pushed w x byte =

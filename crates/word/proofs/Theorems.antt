@@ -10,7 +10,7 @@ use native.Mathlib.Omega.{arith}
 use lib.Dec.{ltb, eqb}
 use lib.Bits.{or-lt}
 use Rattle.number.proofs.Bits.{or-bit}
-use Rattle.word.specs.Word.{ranks, noRank, has, with, without, union, highestBelow, winner}
+use Rattle.word.specs.Word.{ranks, noWinner, has, with, without, union, highestBelow, winner}
 use Rattle.word.proofs.Bit.{add-same, add-other, add-lt, sub-same, sub-other, bits-same}
 use Rattle.word.proofs.Rank as Rank
 use Rattle.word.proofs.Rank.{with-elim, without-elim, has-bit}
@@ -82,16 +82,16 @@ pub winner-highest : (w i : ℕ) → has w i ≡ true → i ≤ winner w
 winner-highest w i e = Highest.winner-found w i e .0
 
 -- the empty word, and no other, has no winner
-pub winner-empty : winner 0 ≡ noRank
+pub winner-empty : winner 0 ≡ noWinner
 unfolding winner highestBelow has
 winner-empty = refl
 
-pub winner-none : (w : ℕ) → w < 2 ^ ranks → winner w ≡ noRank → w ≡ 0
+pub winner-none : (w : ℕ) → w < 2 ^ ranks → winner w ≡ noWinner → w ≡ 0
 winner-none w h e = ⊎-elim (λ z. z) (λ p. absurd (omega (arith, winner-has w p h .0))) (eq-zero-or-pos w)
 
--- a winner that is a rank is in the word; any other is `noRank`
+-- a winner that is a rank is in the word; any other is `noWinner`
 pub winner-rank : (w : ℕ) → winner w < ranks → has w (winner w) ≡ true
 winner-rank w l = ⊎-elim (λ e. absurd (omega arith)) (λ e. e) (Highest.winner-cases w)
 
-pub winner-le : (w : ℕ) → winner w ≤ noRank
+pub winner-le : (w : ℕ) → winner w ≤ noWinner
 winner-le w = ⊎-elim (λ e. omega arith) (λ e. omega (arith, has-lt w (winner w) e)) (Highest.winner-cases w)

@@ -24,7 +24,7 @@ use Rattle.plan.specs.declared.Plan.{Plan}
 use Rattle.plan.specs.Plan.{triggerOf}
 use Rattle.plan.proofs.Fitted.{Fitted}
 use Rattle.word.specs.Word.{has}
-use Rattle.stack.specs.Stack.{none, rowBytes}
+use Rattle.stack.specs.Stack.{noByte, rowBytes}
 use Rattle.scheduler.specs.Status.{done, access, firstGiven}
 use Rattle.scheduler.specs.Body.{Body, current}
 use Rattle.scheduler.specs.Choice.{Candidate, chosen}
@@ -60,7 +60,7 @@ user-exists c r b u = ltb-true r (c .resources) (first (ltb r (c .resources)) _ 
 module _ (c : Config) (rk : ℕ → ℕ) where
   -- the slot of a resource that body b holds; ys: the slots below its own
   slot-at : (b r : ℕ) (rs : List ℕ) (ys : List Slot) → among r rs ≡ true
-      → (k : ℕ) × (getD (resourcesIn (slotsFor c rk b rs ++ ys)) k none ≡ r) × (getD (holdersIn (slotsFor c rk b rs ++ ys)) k none ≡ rk b)
+      → (k : ℕ) × (getD (resourcesIn (slotsFor c rk b rs ++ ys)) k noByte ≡ r) × (getD (holdersIn (slotsFor c rk b rs ++ ys)) k noByte ≡ rk b)
   unfolding slotsFor among
   slot-at b r [] ys h = absurd (true≢false (sym h))
   slot-at b r (x ∷ rs) ys h =
@@ -72,9 +72,9 @@ module _ (c : Config) (rk : ℕ → ℕ) where
     -- the k-th of the slots ss is none, or that of a body of the nest, which holds its resource and whose level is not below the slot's
     abbrev SlotOf : List ℕ → List Slot → ℕ → Type 0
     SlotOf ns ss k =
-        (getD (holdersIn ss) k none ≡ none)
-        ⊎ ((i : ℕ) × (among i ns ≡ true) × (getD (holdersIn ss) k none ≡ rk i) × (getD (levelsIn ss) k none ≤ current c i (at bs i))
-        × (among (getD (resourcesIn ss) k none) (at bs i .held) ≡ true))
+        (getD (holdersIn ss) k noByte ≡ noByte)
+        ⊎ ((i : ℕ) × (among i ns ≡ true) × (getD (holdersIn ss) k noByte ≡ rk i) × (getD (levelsIn ss) k noByte ≤ current c i (at bs i))
+        × (among (getD (resourcesIn ss) k noByte) (at bs i .held) ≡ true))
 
     along-slot : (ns : List ℕ) (k : ℕ) → SlotOf ns (slotsAlong c rk bs ns) k
     unfolding slotsAlong slotsFor
@@ -187,12 +187,12 @@ module _ {c : Config} {p : Plan} {rk : ℕ → ℕ} (fit : Fitted c p rk) {m : M
       go false e = absurd (refused (checked false e))
 
   -- the machine in its own words: a slot of another holder has a level below the runner's own priority
-  pub slot-below : (k : ℕ) → getD (rowBytes (m .holder)) k none ≢ none → getD (rowBytes (m .holder)) k none ≢ m .core .runner
-      → getD (rowBytes (m .raised)) k none < getD (p .priority) (m .core .runner) 0
+  pub slot-below : (k : ℕ) → getD (rowBytes (m .holder)) k noByte ≢ noByte → getD (rowBytes (m .holder)) k noByte ≢ m .core .runner
+      → getD (rowBytes (m .raised)) k noByte < getD (p .priority) (m .core .runner) 0
   unfolding slotsAlong Nested Seats
   slot-below k some other = by (s .order) refl
     where
-      go : (ns : List ℕ) → Tied c rk m (s .bodies) [] ns → getD (rowBytes (m .raised)) k none < getD (p .priority) (m .core .runner) 0
+      go : (ns : List ℕ) → Tied c rk m (s .bodies) [] ns → getD (rowBytes (m .raised)) k noByte < getD (p .priority) (m .core .runner) 0
       go [] t = absurd (some (t .slots .holders .at k))
       go (b ∷ ns) t =
           ⊎-elim
@@ -202,7 +202,7 @@ module _ {c : Config} {p : Plan} {rk : ℕ → ℕ} (fit : Fitted c p rk) {m : M
           rw (t .slots .levels .at k, t .seats .0, fit .priority-at b (t .nested .0), nested-plain b ns (t .nested)) (omega (arith, low, x .3)))
           (along-slot c rk (s .bodies) (b ∷ ns) k)
 
-      by : (os : List ℕ) → s .order ≡ os → getD (rowBytes (m .raised)) k none < getD (p .priority) (m .core .runner) 0
+      by : (os : List ℕ) → s .order ≡ os → getD (rowBytes (m .raised)) k noByte < getD (p .priority) (m .core .runner) 0
       by [] e = go (sim .nest) (rw e at (sim .tied))
       by (j ∷ js) e =
           ⊎-elim
@@ -215,8 +215,8 @@ module _ {c : Config} {p : Plan} {rk : ℕ → ℕ} (fit : Fitted c p rk) {m : M
           (along-slot c rk (s .bodies) (sim .nest) k)
 
   -- and where only declared users hold resources, the rank of a slot's holder is in the word of its resource
-  pub slot-user : ((i r : ℕ) → among r (bodyOf s i .held) ≡ true → isUser c r i ≡ true) → (k : ℕ) → getD (rowBytes (m .holder)) k none ≢ none
-      → has (getD (p .users) (getD (rowBytes (m .resource)) k none) 0) (getD (rowBytes (m .holder)) k none) ≡ true
+  pub slot-user : ((i r : ℕ) → among r (bodyOf s i .held) ≡ true → isUser c r i ≡ true) → (k : ℕ) → getD (rowBytes (m .holder)) k noByte ≢ noByte
+      → has (getD (p .users) (getD (rowBytes (m .resource)) k noByte) 0) (getD (rowBytes (m .holder)) k noByte) ≡ true
   slot-user declared k some =
       ⊎-elim
       (λ e. absurd (some (sim .tied .slots .holders .at k ∙ e)))
@@ -229,7 +229,7 @@ module _ {c : Config} {p : Plan} {rk : ℕ → ℕ} (fit : Fitted c p rk) {m : M
   -- a Get by a declared user is refused with 1, and a slot of that resource has the runner's rank
   pub machine-refused : (r : ℕ) → idles m ≡ false → isUser c r (runnerOf p m) ≡ true → machineStep c p m (Get r) .status ≢ done
       → (machineStep c p m (Get r) .status ≡ access)
-      × ((k : ℕ) × (getD (rowBytes (m .resource)) k none ≡ r) × (getD (rowBytes (m .holder)) k none ≡ m .core .runner))
+      × ((k : ℕ) × (getD (rowBytes (m .resource)) k noByte ≡ r) × (getD (rowBytes (m .holder)) k noByte ≡ m .core .runner))
   unfolding stepBy
   machine-refused r somebody user refused =
       by-runner fit sim
