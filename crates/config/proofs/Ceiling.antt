@@ -39,8 +39,11 @@ unfolding greatestIn
 chosen-reached m [] some few = absurd (omega arith)
 chosen-reached m (p ∷ ps) some few =
     by-eq (m % 2) 1
-    (λ odd. by-eq (m / 2) 0 (λ alone. first odd (rw (alone, none-chosen ps) (omega arith))) (λ more. either odd (chosen-reached (m / 2) ps (omega arith) half)))
-    (λ even. let x = chosen-reached (m / 2) ps (omega (arith, even)) half in later x (rw (ne-eqb (m % 2) 1 even) (omega (arith, x .3))))
+    (λ odd. by-eq (m / 2) 0
+    (λ alone. first odd (rw (alone, none-chosen ps) (omega arith)))
+    (λ more. either odd (chosen-reached (m / 2) ps (omega arith) half)))
+    (λ even. let x = chosen-reached (m / 2) ps (omega (arith, even)) half in
+    later x (rw (ne-eqb (m % 2) 1 even) (omega (arith, x .3))))
   where
     half : m / 2 < 2 ^ length ps
     half = omega (arith, pow-suc 2 (length ps))
@@ -72,8 +75,19 @@ module _ (c : Config) (accepted : Accepted c) (shaped : Shaped c) (r : ℕ) wher
       bit : getD (c .users) r 0 / 2 ^ b % 2 ≡ 1
       bit = eqb-true (getD (c .users) r 0 / 2 ^ b % 2) 1 (and-true (ltb r (c .resources)) _ u .1)
 
-  pub ceiling-reached : r < c .resources → (b : ℕ) × (b < c .bodies) × (isUser c r b ≡ true) × (priorityOf c b ≡ ceiling c r)
-  ceiling-reached h =
-      let x = chosen-reached (getD (c .users) r 0) (take (c .bodies) (c .priority)) (accepted .some-user r h) (rw long (accepted .users-exist r h)) in
-      let l : x .0 < c .bodies = omega (arith, x .1, long) in
-      (x .0, l, rw (lt-ltb r (c .resources) h) (eq-eqb (getD (c .users) r 0 / 2 ^ x .0 % 2) 1 (x .2)), sym (own (x .0) l) ∙ x .3)
+  pub ceiling-reached : r < c .resources
+      → (b : ℕ) × (b < c .bodies) × (isUser c r b ≡ true) × (priorityOf c b ≡ ceiling c r)
+  ceiling-reached h = (
+    x .0,
+    body,
+    rw (lt-ltb r (c .resources) h) (eq-eqb (getD (c .users) r 0 / 2 ^ x .0 % 2) 1 (x .2)),
+    sym (own (x .0) body) ∙ x .3,
+  )
+    where
+      x : Reached (getD (c .users) r 0) (take (c .bodies) (c .priority))
+      x =
+          chosen-reached (getD (c .users) r 0) (take (c .bodies) (c .priority)) (accepted .some-user r h)
+          (rw long (accepted .users-exist r h))
+
+      body : x .0 < c .bodies
+      body = omega (arith, x .1, long)

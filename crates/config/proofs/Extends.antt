@@ -96,15 +96,24 @@ cut n c =
       task = padded maxEntries (n .tasks) (c .task);
     }
 
+-- the same for the number that a draft is at, without it and with it
+abbrev before : Field → Config → Draft → Counts
+before f c d = filled f c (d .index) (d .entry)
+
+abbrev past : Field → Config → Draft → Counts
+past f c d = after f c (d .index) (d .entry)
+
 abbrev pub Extends : Config → Field → Draft → Type 0
-Extends c f d = d .config ≡ cut (filled f c (d .index) (d .entry)) c
+Extends c f d = d .config ≡ cut (before f c d) c
 
 pub start-extends : (c : Config) → Extends c Version start
 start-extends c = refl
 
--- a number of c put in its place
-put-cut : (f : Field) (c : Config) (d : Draft) → Shaped c → Extends c f d
-    → putAt f d (askedAt f c d) .config ≡ cut (after f c (d .index) (d .entry)) c
+-- the draft with its number of c put in its place
+abbrev pub onward : Config → Field → Draft → Draft
+onward c f d = putAt f d (askedAt f c d)
+
+put-cut : (f : Field) (c : Config) (d : Draft) → Shaped c → Extends c f d → onward c f d .config ≡ cut (past f c d) c
 unfolding putAt askedAt
 put-cut Version c d s h = rw h
 put-cut Bodies c d s h = rw h
@@ -175,8 +184,8 @@ cut-cut n m c s b =
 
 -- the last row of a kind leaves as much filled as the field that follows wants
 next-filled : (f : Field) (c : Config) (d : Draft) (v : ℕ) → ended f ≡ false
-    → cut (after f c (d .index) (d .entry)) (putAt f d v .config) ≡ cut (after f c (d .index) (d .entry)) c
-    → filled (putAt f d v .field) c (putAt f d v .index) (putAt f d v .entry) ≡ after f c (d .index) (d .entry)
+    → cut (past f c d) (putAt f d v .config) ≡ cut (past f c d) c
+    → filled (putAt f d v .field) c (putAt f d v .index) (putAt f d v .entry) ≡ past f c d
 unfolding putAt ended
 next-filled Version c d v t h = refl
 next-filled Bodies c d v t h = refl
@@ -211,15 +220,15 @@ next-filled Task c d v t h =
 next-filled End c d v t h = absurd (true≢false t)
 
 pub extends-put : (f : Field) (c : Config) (d : Draft) → Shaped c → ended f ≡ false → Extends c f d
-    → Extends c (putAt f d (askedAt f c d) .field) (putAt f d (askedAt f c d))
+    → Extends c (onward c f d .field) (onward c f d)
 extends-put f c d s t h =
-    let a = after f c (d .index) (d .entry) in
+    let a = past f c d in
     let e = put-cut f c d s h in
     e ∙ ap (λ (n : Counts). cut n c) (sym (next-filled f c d (askedAt f c d) t (ap (cut a) e ∙ cut-cut a a c s (omega arith))))
 
 -- a number put leaves what is filled before it alone
 put-kept : (f : Field) (d : Draft) (v : ℕ)
-    → cut (filled f (putAt f d v .config) (d .index) (d .entry)) (putAt f d v .config) ≡ cut (filled f (d .config) (d .index) (d .entry)) (d .config)
+    → cut (before f (putAt f d v .config) d) (putAt f d v .config) ≡ cut (before f (d .config) d) (d .config)
 unfolding putAt
 put-kept Version d v = refl
 put-kept Bodies d v = refl
@@ -235,7 +244,7 @@ put-kept Offset d v = rw (padded-set maxEntries (d .config .offset) (d .entry) v
 put-kept Task d v = rw (padded-set maxEntries (d .config .task) (d .entry) v)
 put-kept End d v = refl
 
-put-filled : (f : Field) (d : Draft) (v : ℕ) → filled f (d .config) (d .index) (d .entry) ≡ filled f (putAt f d v .config) (d .index) (d .entry)
+put-filled : (f : Field) (d : Draft) (v : ℕ) → before f (d .config) d ≡ before f (putAt f d v .config) d
 unfolding putAt
 put-filled Version d v = refl
 put-filled Bodies d v = refl
@@ -252,7 +261,7 @@ put-filled Task d v = refl
 put-filled End d v = refl
 
 -- the number that d is at: of a value cut after it, and of the draft where it is put
-asked-cut : (f : Field) (c x : Config) (d : Draft) → Shaped c → askedAt f (cut (after f x (d .index) (d .entry)) c) d ≡ askedAt f c d
+asked-cut : (f : Field) (c x : Config) (d : Draft) → Shaped c → askedAt f (cut (past f x d) c) d ≡ askedAt f c d
 unfolding askedAt
 asked-cut Version c x d s = refl
 asked-cut Bodies c x d s = refl
@@ -329,16 +338,16 @@ shaped-last d (v ∷ vs) s = shaped-last (put d v) vs (shaped-put (d .field) d v
 
 -- what is put later leaves what is filled alone: y is the draft's configuration as far as it is filled
 abbrev Keeps : Draft → Config → Type 0
-Keeps d y = cut (filled (d .field) (d .config) (d .index) (d .entry)) y ≡ cut (filled (d .field) (d .config) (d .index) (d .entry)) (d .config)
+Keeps d y = cut (before (d .field) (d .config) d) y ≡ cut (before (d .field) (d .config) d) (d .config)
 
 module _ (d : Draft) (v : ℕ) (y : Config) (t : ended (d .field) ≡ false) (sy : Shaped y) (s : Shaped (d .config)) (k : Keeps (put d v) y) where
-  same-after : cut (after (d .field) (put d v .config) (d .index) (d .entry)) y ≡ cut (after (d .field) (put d v .config) (d .index) (d .entry)) (put d v .config)
+  same-after : cut (past (d .field) (put d v .config) d) y ≡ cut (past (d .field) (put d v .config) d) (put d v .config)
   same-after = rw (next-filled (d .field) (put d v .config) d v t refl) at k
 
   keeps-put : Keeps d y
   keeps-put =
-      let m = filled (d .field) (put d v .config) (d .index) (d .entry) in
-      let a = after (d .field) (put d v .config) (d .index) (d .entry) in
+      let m = before (d .field) (put d v .config) d in
+      let a = past (d .field) (put d v .config) d in
       let g = grows (d .field) (put d v .config) (d .index) (d .entry) in
       ap (λ (n : Counts). cut n y) (put-filled (d .field) d v)
       ∙ sym (cut-cut m a y sy g)

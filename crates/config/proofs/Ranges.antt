@@ -1,4 +1,4 @@
--- What it says of a number that it is in order where a draft is: the tests of `fault` (specs/Draft.antt) as facts, passed-andThen ways.
+-- What it says of a number that it is in order where a draft is: the tests of `fault` (specs/Draft.antt) as facts, both ways.
 use Prim.Native.Nat.{ℕ, _+_, _-_, _^_, _≤_, _<_}
 use mathlib.Core.Path.{_≡_, refl, ap}
 use mathlib.Core.Bool.{Bool, true, false, not, _&&_, _||_}
@@ -30,7 +30,11 @@ InRange Tables d v = v ≤ maxTables
 InRange Period d v = (1 ≤ v) × (v ≤ 65535)
 InRange Entries d v = (1 ≤ v) × (v ≤ 16) × (d .entry + v ≤ maxEntries)
 InRange Offset d v = v < getD (d .config .period) (d .index) 0
-InRange Task d v = (isTask (d .config) v ≡ true) × (sorted d v ≡ true) × (sharesOffset d v ≡ false) × ((mixes d v || secondTable d v) ≡ false)
+InRange Task d v =
+    (isTask (d .config) v ≡ true)
+    × (sorted d v ≡ true)
+    × (sharesOffset d v ≡ false)
+    × ((mixes d v || secondTable d v) ≡ false)
 InRange End d v = Unit {0}
 
 -- a test that gives no refusal holds
@@ -55,8 +59,8 @@ andThen-passed r s h =
     (λ e. (e, simp (eq-eqb r none e) at h))
     (λ n. absurd (n (simp (ne-eqb r none n) at h)))
 
-passed-andThen : (r s : ℕ) → r ≡ none → s ≡ none → andThen r s ≡ none
-passed-andThen r s p q = simp (eq-eqb r none p) q
+passed-andThen : {r s : ℕ} → r ≡ none → s ≡ none → andThen r s ≡ none
+passed-andThen {r} {s} p q = simp (eq-eqb r none p) q
 
 pub in-range : (f : Field) (d : Draft) (v : ℕ) → faultAt f d v ≡ none → InRange f d v
 unfolding faultAt
@@ -78,16 +82,20 @@ in-range Users d v e =
 in-range Tables d v e = not-outside 0 maxTables v badCount (lit< tt) e .1
 in-range Period d v e = not-outside 1 65535 v badField (lit< tt) e
 in-range Entries d v e =
-    let h = andThen-passed (outside 1 16 v badCount) (unless (leb (d .entry + v) maxEntries) tooManyEntries) e in
+    let few = leb (d .entry + v) maxEntries in
+    let h = andThen-passed (outside 1 16 v badCount) (unless few tooManyEntries) e in
     let r = not-outside 1 16 v badCount (lit< tt) (h .0) in
-    (r .0, r .1, leb-true (d .entry + v) maxEntries (passed (leb (d .entry + v) maxEntries) tooManyEntries (lit< tt) (h .1)))
+    (r .0, r .1, leb-true (d .entry + v) maxEntries (passed few tooManyEntries (lit< tt) (h .1)))
 in-range Offset d v e =
-    ltb-true v (getD (d .config .period) (d .index) 0) (passed (ltb v (getD (d .config .period) (d .index) 0)) badField (lit< tt) e)
+    let period = getD (d .config .period) (d .index) 0 in
+    ltb-true v period (passed (ltb v period) badField (lit< tt) e)
 in-range Task d v e =
+    let first = unless (isTask (d .config) v) badField in
+    let second = unless (sorted d v) unsorted in
     let third = unless (not (sharesOffset d v)) sharedOffset in
     let fourth = unless (not (mixes d v || secondTable d v)) mixedTable in
-    let h = andThen-passed (unless (isTask (d .config) v) badField) (andThen (unless (sorted d v) unsorted) (andThen third fourth)) e in
-    let k = andThen-passed (unless (sorted d v) unsorted) (andThen third fourth) (h .1) in
+    let h = andThen-passed first (andThen second (andThen third fourth)) e in
+    let k = andThen-passed second (andThen third fourth) (h .1) in
     let n = andThen-passed third fourth (k .1) in (
       passed (isTask (d .config) v) badField (lit< tt) (h .0),
       passed (sorted d v) unsorted (lit< tt) (k .0),
@@ -102,30 +110,25 @@ no-fault Version d v h = inside 1 newestVersion v badVersion (h .0) (h .1)
 no-fault Bodies d v h = inside 1 maxBodies v badCount (h .0) (h .1)
 no-fault Kind d v h = inside 0 lastKind v badField (omega arith) h
 no-fault Priority d v h =
-    passed-andThen (outside 1 maxPriority v badField) (unless (not (among v (take (d .index) (d .config .priority)))) usedPriority)
+    passed-andThen
     (inside 1 maxPriority v badField (h .0) (h .1))
-    (rw (h .2))
+    (ap (λ (t : Bool). unless (not t) usedPriority) (h .2))
 no-fault Autostart d v h = inside 0 (mostAutostart (getD (d .config .kind) (d .index) 0)) v badField (omega arith) h
 no-fault Resources d v h = inside 0 maxResources v badCount (omega arith) h
 no-fault Users d v h =
-    passed-andThen (outside 1 (2 ^ d .config .bodies - 1) v badField) (unless (not (timedUser (d .config) v)) badField)
+    passed-andThen
     (inside 1 (2 ^ d .config .bodies - 1) v badField (h .0) (omega (arith, h .1)))
     (ap (λ (t : Bool). unless (not t) badField) (h .2))
 no-fault Tables d v h = inside 0 maxTables v badCount (omega arith) h
 no-fault Period d v h = inside 1 65535 v badField (h .0) (h .1)
 no-fault Entries d v h =
-    passed-andThen (outside 1 16 v badCount) (unless (leb (d .entry + v) maxEntries) tooManyEntries)
+    passed-andThen
     (inside 1 16 v badCount (h .0) (h .1))
-    (rw (le-leb (d .entry + v) maxEntries (h .2)))
+    (ap (λ (t : Bool). unless t tooManyEntries) (le-leb (d .entry + v) maxEntries (h .2)))
 no-fault Offset d v h = rw (lt-ltb v (getD (d .config .period) (d .index) 0) h)
 no-fault Task d v h =
-    let third = unless (not (sharesOffset d v)) sharedOffset in
-    let fourth = unless (not (mixes d v || secondTable d v)) mixedTable in
-    passed-andThen (unless (isTask (d .config) v) badField) (andThen (unless (sorted d v) unsorted) (andThen third fourth))
-    (ap (λ (t : Bool). unless t badField) (h .0))
-    (passed-andThen (unless (sorted d v) unsorted) (andThen third fourth)
-    (ap (λ (t : Bool). unless t unsorted) (h .1))
-    (passed-andThen third fourth
-    (ap (λ (t : Bool). unless (not t) sharedOffset) (h .2))
+    passed-andThen (ap (λ (t : Bool). unless t badField) (h .0))
+    (passed-andThen (ap (λ (t : Bool). unless t unsorted) (h .1))
+    (passed-andThen (ap (λ (t : Bool). unless (not t) sharedOffset) (h .2))
     (ap (λ (t : Bool). unless (not t) mixedTable) (h .3))))
 no-fault End d v h = refl

@@ -163,7 +163,7 @@ configBytes-are-bytes = RoundTrip.configBytes-are-bytes
 
 -- the writer accepts exactly the values whose fields are in their ranges
 pub writer-accepts : (c : Config) → Shaped c → (firstFault c ≡ none) ↔ Accepted c
-writer-accepts c s = (RoundTrip.faultless-accepted c s, Sound.accepted-faultless maxNumbers c s)
+writer-accepts c s = (RoundTrip.faultless-accepted c s, λ a. Sound.accepted-faultless c s a maxNumbers)
 
 -- a count that is too great is the first fault: of the bodies, and of the resources where the value without them has none
 pub too-many-bodies : (c : Config) → c .version ≡ 1 → maxBodies < c .bodies → firstFault c ≡ badCount
