@@ -41,7 +41,20 @@ pub record Counts : Type 0 where
 
 abbrev counts : ℕ → ℕ → ℕ → ℕ → ℕ → ℕ → ℕ → ℕ → ℕ → ℕ → ℕ → ℕ → Counts
 counts v b k p a r u t n m o w =
-    record { versions = v; bodies = b; kinds = k; priorities = p; autostarts = a; resources = r; users = u; tables = t; periods = n; entries = m; offsets = o; tasks = w }
+    record {
+      versions = v;
+      bodies = b;
+      kinds = k;
+      priorities = p;
+      autostarts = a;
+      resources = r;
+      users = u;
+      tables = t;
+      periods = n;
+      entries = m;
+      offsets = o;
+      tasks = w;
+    }
 
 abbrev pub filled : Field → Config → ℕ → ℕ → Counts
 filled Version c i e = counts 0 0 0 0 0 0 0 0 0 0 e e
@@ -224,7 +237,8 @@ pub extends-put : (f : Field) (c : Config) (d : Draft) → Shaped c → ended f 
 extends-put f c d s t h =
     let a = past f c d in
     let e = put-cut f c d s h in
-    e ∙ ap (λ (n : Counts). cut n c) (sym (next-filled f c d (askedAt f c d) t (ap (cut a) e ∙ cut-cut a a c s (omega arith))))
+    let n = next-filled f c d (askedAt f c d) t (ap (cut a) e ∙ cut-cut a a c s (omega arith)) in
+    e ∙ ap (λ (n : Counts). cut n c) (sym n)
 
 -- a number put leaves what is filled before it alone
 put-kept : (f : Field) (d : Draft) (v : ℕ)
@@ -267,7 +281,8 @@ asked-cut Version c x d s = refl
 asked-cut Bodies c x d s = refl
 asked-cut Kind c x d s = getD-padded maxBodies (c .kind) (s .kinds) (d .index + 1) (d .index) (omega arith)
 asked-cut Priority c x d s = getD-padded maxBodies (c .priority) (s .priorities) (d .index + 1) (d .index) (omega arith)
-asked-cut Autostart c x d s = getD-padded maxBodies (c .autostart) (s .autostarts) (d .index + 1) (d .index) (omega arith)
+asked-cut Autostart c x d s =
+    getD-padded maxBodies (c .autostart) (s .autostarts) (d .index + 1) (d .index) (omega arith)
 asked-cut Resources c x d s = refl
 asked-cut Users c x d s = getD-padded maxResources (c .users) (s .masks) (d .index + 1) (d .index) (omega arith)
 asked-cut Tables c x d s = refl
@@ -277,7 +292,8 @@ asked-cut Offset c x d s = getD-padded maxEntries (c .offset) (s .offsets) (d .e
 asked-cut Task c x d s = getD-padded maxEntries (c .task) (s .tasks) (d .entry + 1) (d .entry) (omega arith)
 asked-cut End c x d s = refl
 
-asked-put : (f : Field) (d : Draft) (v : ℕ) → ended f ≡ false → Shaped (d .config) → Standing f d → askedAt f (putAt f d v .config) d ≡ v
+asked-put : (f : Field) (d : Draft) (v : ℕ) → ended f ≡ false → Shaped (d .config) → Standing f d
+    → askedAt f (putAt f d v .config) d ≡ v
 unfolding askedAt putAt ended Inside
 asked-put Version d v t s p = refl
 asked-put Bodies d v t s p = refl
@@ -298,7 +314,16 @@ abbrev Lengths : Type 0
 Lengths = ℕ × ℕ × ℕ × ℕ × ℕ × ℕ × ℕ × ℕ
 
 abbrev lengths : Config → Lengths
-lengths c = (length (c .kind), length (c .priority), length (c .autostart), length (c .users), length (c .period), length (c .entries), length (c .offset), length (c .task))
+lengths c = (
+  length (c .kind),
+  length (c .priority),
+  length (c .autostart),
+  length (c .users),
+  length (c .period),
+  length (c .entries),
+  length (c .offset),
+  length (c .task),
+)
 
 lengths-put : (f : Field) (d : Draft) (v : ℕ) → lengths (putAt f d v .config) ≡ lengths (d .config)
 unfolding putAt
@@ -340,7 +365,8 @@ shaped-last d (v ∷ vs) s = shaped-last (put d v) vs (shaped-put (d .field) d v
 abbrev Keeps : Draft → Config → Type 0
 Keeps d y = cut (before (d .field) (d .config) d) y ≡ cut (before (d .field) (d .config) d) (d .config)
 
-module _ (d : Draft) (v : ℕ) (y : Config) (t : ended (d .field) ≡ false) (sy : Shaped y) (s : Shaped (d .config)) (k : Keeps (put d v) y) where
+module _ (d : Draft) (v : ℕ) (y : Config) (t : ended (d .field) ≡ false) (sy : Shaped y) (s : Shaped (d .config))
+    (k : Keeps (put d v) y) where
   same-after : cut (past (d .field) (put d v .config) d) y ≡ cut (past (d .field) (put d v .config) d) (put d v .config)
   same-after = rw (next-filled (d .field) (put d v .config) d v t refl) at k
 

@@ -2,23 +2,22 @@
 -- so that the 260 of `maxNumbers` are enough.
 use Prim.Native.Nat.{ℕ, zero, suc, _+_, _*_, _-_, _≤_, _<_}
 use mathlib.Core.Path.{_≡_}
-use mathlib.Core.Bool.{Bool, true, false, cond, not, true≢false}
+use mathlib.Core.Bool.{Bool, true, false, cond, true≢false}
 use mathlib.Core.List.{List, [], _∷_}
 use native.Mathlib.Omega.{arith}
-use lib.Dec.{ltb, eqb}
 use lib.ListN.{getD, set}
 use lib.Pow.{pow-mono}
-use borrow.Author.Tests.{eq-eqb, ne-eqb, ltb-true}
+use borrow.Author.Tests.{eq-eqb, ne-eqb}
 use Rattle.number.specs.Refusal.{none}
 use Rattle.number.specs.Number.{numberBound}
-use Rattle.number.proofs.Cases.{by-eq, and-true}
+use Rattle.number.proofs.Cases.{by-eq}
 use Rattle.config.specs.declared.Draft.{Draft}
 use Rattle.config.specs.declared.Field.{Field}
 use Rattle.config.specs.declared.Field.the-variants.{Version, Bodies, Kind, Priority, Autostart, Resources, Users, Tables, Period, Entries, Offset, Task, End}
-use Rattle.config.specs.Meaning.{isr}
 use Rattle.config.specs.Value.{maxBodies, maxResources, maxTables, maxEntries}
 use Rattle.config.specs.Draft.{startable, mostAutostart, fault, put, putAt, ended, start, Inside, Within}
 use Rattle.config.proofs.Padded.{getD-zeros}
+use Rattle.config.proofs.Tables.{isTask-true}
 use Rattle.config.proofs.Ranges.{InRange, in-range}
 
 -- `Within` of a draft at the field f, for proofs by cases on the field
@@ -32,11 +31,25 @@ pub record Standing (f : Field) (d : Draft) : Type 0 where
 
 pub standing : (d : Draft) → Within d → Standing (d .field) d
 standing d w =
-    record { bodies-le = w .bodies-le; resources-le = w .resources-le; tables-le = w .tables-le; entry-le = w .entry-le; until-le = w .until-le; inside = w .inside }
+    record {
+      bodies-le = w .bodies-le;
+      resources-le = w .resources-le;
+      tables-le = w .tables-le;
+      entry-le = w .entry-le;
+      until-le = w .until-le;
+      inside = w .inside;
+    }
 
 within : (d : Draft) → Standing (d .field) d → Within d
 within d s =
-    record { bodies-le = s .bodies-le; resources-le = s .resources-le; tables-le = s .tables-le; entry-le = s .entry-le; until-le = s .until-le; inside = s .inside }
+    record {
+      bodies-le = s .bodies-le;
+      resources-le = s .resources-le;
+      tables-le = s .tables-le;
+      entry-le = s .entry-le;
+      until-le = s .until-le;
+      inside = s .inside;
+    }
 
 -- the most numbers that are still to come, this one included
 abbrev pub leftAt : Field → Draft → ℕ
@@ -61,7 +74,8 @@ record MovedAt (f : Field) (d : Draft) (f′ : Field) (d′ : Draft) : Type 0 wh
   standing : Standing f′ d′
   fewer : leftAt f′ d′ < leftAt f d
 
-moved-at : (f : Field) (d : Draft) (v : ℕ) → ended f ≡ false → Standing f d → InRange f d v → MovedAt f d (putAt f d v .field) (putAt f d v)
+moved-at : (f : Field) (d : Draft) (v : ℕ) → ended f ≡ false → Standing f d → InRange f d v
+    → MovedAt f d (putAt f d v .field) (putAt f d v)
 unfolding putAt ended Inside
 moved-at Version d v e s h = omega arith
 moved-at Bodies d v e s h = omega arith
@@ -163,7 +177,7 @@ small-at Tables d v e s p h = omega arith
 small-at Period d v e s p h = omega arith
 small-at Entries d v e s p h = omega arith
 small-at Offset d v e s p h = omega (arith, p (d .index))
-small-at Task d v e s p h = omega (arith, ltb-true v (d .config .bodies) (and-true (ltb v (d .config .bodies)) (not (eqb (getD (d .config .kind) v 0) isr)) (h .0) .0))
+small-at Task d v e s p h = omega (arith, isTask-true (d .config) v (h .0) .0)
 small-at End d v e s p h = absurd (true≢false e)
 
 pub small : (d : Draft) (v : ℕ) → ended (d .field) ≡ false → fault d v ≡ none → Within d → Paced d → v < numberBound
