@@ -4,7 +4,8 @@
 --   cut n c          c as far as the numbers n say, and zeros
 --   Extends c f d    the draft d, at the field f, is c cut off there
 --
--- A number of c put keeps it so (`extends-put`), and whatever is put later leaves the part before it alone (`asks-last`).
+-- A number of c put keeps it so (`extends-put`),
+-- and whatever is put later leaves the part before it alone (`asks-last`).
 use Prim.Native.Nat.{ℕ, zero, suc, _+_, _≤_}
 use mathlib.Core.Path.{_≡_, refl, sym, ap, _∙_}
 use mathlib.Core.Bool.{false, true≢false}

@@ -1,5 +1,5 @@
--- Where a draft stands: inside its arrays, and at most `left` numbers before the end. A number in order keeps the first and lowers the second,
--- so that the 260 of `maxNumbers` are enough.
+-- Where a draft stands: inside its arrays, and at most `left` numbers before the end. A number in order keeps the first
+-- and lowers the second, so that the 260 of `maxNumbers` are enough.
 use Prim.Native.Nat.{ℕ, zero, suc, _+_, _*_, _-_, _≤_, _<_}
 use mathlib.Core.Path.{_≡_}
 use mathlib.Core.Bool.{Bool, true, false, cond, true≢false}

@@ -1,4 +1,5 @@
--- What it says of a number that it is in order where a draft is: the tests of `fault` (specs/Draft.antt) as facts, both ways.
+-- What it says of a number that it is in order where a draft is:
+-- the tests of `fault` (specs/Draft.antt) as facts, both ways.
 use Prim.Native.Nat.{ℕ, _+_, _-_, _^_, _≤_, _<_}
 use mathlib.Core.Path.{_≡_, refl, ap}
 use mathlib.Core.Bool.{Bool, true, false, not, _&&_, _||_}

@@ -1,5 +1,5 @@
--- What every reading satisfies, refused or not: its refusal and its place are in range, a refused one has the all-zero value, and one that is cut off
--- its place at the input's end.
+-- What every reading satisfies, refused or not: its refusal and its place are in range, a refused one has the all-zero
+-- value, and one that is cut off its place at the input's end.
 use Prim.Native.Nat.{ℕ, zero, suc, _+_, _-_, _^_, _≤_}
 use mathlib.Core.Path.{_≡_, refl}
 use mathlib.Core.Bool.{Bool, true, false, not, _&&_, _||_}

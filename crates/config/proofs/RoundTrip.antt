@@ -69,7 +69,8 @@ read-written c s fine =
     let w = walk c fine in
     rw (walk-written c fine)
     (read-bytesOf (w .numbers) short (w .in-order)
-    ∙ ap (λ (x : Config). accepted x (length (bytesOf (w .numbers)))) (ends c s (w .numbers) (w .in-order) (w .asks) .same))
+    ∙ ap (λ (x : Config). accepted x (length (bytesOf (w .numbers))))
+    (ends c s (w .numbers) (w .in-order) (w .asks) .same))
   where
     short : length (bytesOf (walk c fine .numbers)) ≤ maxLength
     short = omega (arith, rw (walk-written c fine) at (few-bytes c))

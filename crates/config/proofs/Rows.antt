@@ -3,7 +3,8 @@
 --   Place f c d   how the draft's row, entry and `until` lie in the value c
 --   Fits f c i e  the field f of row i and entry e is in range
 --
--- For a draft of c's own numbers, `Fits` is what `fault` tests (`fits`, `fits-back`), and what `Accepted` says (`accepted-fits`).
+-- For a draft of c's own numbers, `Fits` is what `fault` tests (`fits`, `fits-back`),
+-- and what `Accepted` says (`accepted-fits`).
 use Prim.Native.Nat.{ℕ, suc, _+_, _-_, _^_, _≤_, _<_}
 use mathlib.Core.Path.{_≡_, sym, ap, _∙_}
 use mathlib.Core.Bool.{Bool, true, false, cond, not, _&&_, _||_, and-false, true≢false}

@@ -27,7 +27,8 @@ pub none-some : (c : Config) (n : ℕ) (l : List ℕ) → n ≤ length l → ((j
 unfolding someTimed
 none-some c zero l fits f = refl
 none-some c (suc n) [] fits f = refl
-none-some c (suc n) (b ∷ bs) fits f = rw (f zero (omega arith), none-some c n bs (omega arith) (λ j h. f (suc j) (omega arith)))
+none-some c (suc n) (b ∷ bs) fits f =
+    rw (f zero (omega arith), none-some c n bs (omega arith) (λ j h. f (suc j) (omega arith)))
 
 -- two tests that do not differ
 pub differ-none : (a b : Bool) → cond a (not b) b ≡ false → a ≡ b
@@ -48,7 +49,8 @@ module _ (c : Config) (t : ℕ) where
 
   -- entries that are each like the one before them are all alike
   module _ (like : (e : ℕ) → firstOf c t ≤ e → e + 1 < firstOf c (suc t) → timedEntry c (e + 1) ≡ timedEntry c e) where
-    as-first : (k : ℕ) → firstOf c t + k < firstOf c (suc t) → timedEntry c (firstOf c t + k) ≡ timedEntry c (firstOf c t)
+    as-first : (k : ℕ) → firstOf c t + k < firstOf c (suc t)
+        → timedEntry c (firstOf c t + k) ≡ timedEntry c (firstOf c t)
     as-first zero h = let q : firstOf c t + 0 ≡ firstOf c t = omega arith in ap (timedEntry c) q
     as-first (suc k) h =
         let q : firstOf c t + suc k ≡ firstOf c t + k + 1 = omega arith in

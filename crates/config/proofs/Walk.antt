@@ -4,8 +4,8 @@
 --   last d vs      the draft that they lead to
 --   Asks c d vs    vs are the numbers of c from d on
 --
--- In order: the reader's definition by cases (`readFrom-elim`); what an accepted reading has read (`Reads`); the reader on the bytes of a list;
--- the list of a writer without a fault (`Walks`); the writer on a list.
+-- In order: the reader's definition by cases (`readFrom-elim`); what an accepted reading has read (`Reads`); the reader
+-- on the bytes of a list; the list of a writer without a fault (`Walks`); the writer on a list.
 use Prim.Native.Nat.{ℕ, zero, suc, _+_, _*_, _≤_}
 use mathlib.Core.Path.{_≡_, refl, sym, ap, _∙_}
 use mathlib.Core.Bool.{true, false}
@@ -58,14 +58,16 @@ few-numbers d (v ∷ vs) w o =
     omega arith
 
 -- a number that is read and in order
-pub number-fine : (d : Draft) (r : NumberRead) → numberFault d r ≡ none → (r .refusal ≡ none) × (fault d (r .value) ≡ none)
+pub number-fine : (d : Draft) (r : NumberRead) → numberFault d r ≡ none
+    → (r .refusal ≡ none) × (fault d (r .value) ≡ none)
 number-fine d r h =
     by-eq (r .refusal) none
     (λ e. (e, rw (eq-eqb (r .refusal) none e) at h))
     (λ e. absurd (e (rw (ne-eqb (r .refusal) none e) at h)))
 
 -- one step of the reader
-pub read-end : (k : ℕ) (bs : List ℕ) (at : ℕ) (d : Draft) → ended (d .field) ≡ true → readFrom k bs at d ≡ finished bs at d
+pub read-end : (k : ℕ) (bs : List ℕ) (at : ℕ) (d : Draft) → ended (d .field) ≡ true
+    → readFrom k bs at d ≡ finished bs at d
 unfolding readFrom
 read-end zero bs at d t = rw t
 read-end (suc k) bs at d t = rw t
@@ -74,7 +76,8 @@ pub read-zero : (bs : List ℕ) (at : ℕ) (d : Draft) → ended (d .field) ≡ 
 unfolding readFrom
 read-zero bs at d t = rw t
 
-module _ (k : ℕ) (bs : List ℕ) (at : ℕ) (d : Draft) (r : NumberRead) (e : readNumber bs at ≡ r) (t : ended (d .field) ≡ false) where
+module _ (k : ℕ) (bs : List ℕ) (at : ℕ) (d : Draft) (r : NumberRead) (e : readNumber bs at ≡ r)
+    (t : ended (d .field) ≡ false) where
   pub read-step : numberFault d r ≡ none → readFrom (suc k) bs at d ≡ readFrom k bs (r .place) (put d (r .value))
   unfolding readFrom
   read-step f = rw (t, e, eq-eqb (numberFault d r) none f)
@@ -83,8 +86,8 @@ module _ (k : ℕ) (bs : List ℕ) (at : ℕ) (d : Draft) (r : NumberRead) (e : 
   unfolding readFrom
   read-stop f = rw (t, e, ne-eqb (numberFault d r) none f)
 
--- a property of readings that the finished have, those out of fuel, those that refuse a number, and with any reading
--- those that go on to it
+-- a property of readings that the finished have, those out of fuel, those that refuse a number,
+-- and with any reading those that go on to it
 module _ (bs : List ℕ) (P : ℕ → Draft → ConfigRead → Type 0)
     (on-end : (at : ℕ) (d : Draft) → ended (d .field) ≡ true → P at d (finished bs at d))
     (on-zero : (at : ℕ) (d : Draft) → P at d (refused cut at))
