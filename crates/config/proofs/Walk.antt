@@ -109,7 +109,8 @@ module _ (bs : List ℕ) (P : ℕ → Draft → ConfigRead → Type 0)
         (λ t. rw (read-end (suc k) bs at d t) (on-end at d t))
         (λ t. by-eq (numberFault d n) none
         (λ f. rw (read-step k bs at d n refl t f)
-        (on-more at d (readFrom k bs (n .place) (put d (n .value))) t f (readFrom-elim k (n .place) (put d (n .value)))))
+        (on-more at d (readFrom k bs (n .place) (put d (n .value))) t f
+        (readFrom-elim k (n .place) (put d (n .value)))))
         (λ f. rw (read-stop k bs at d n refl t f) (on-fault at d f)))
 
 -- what an accepted reading has read

@@ -63,7 +63,7 @@ loop-again c = let a = c .before .before .before .args in let l = c .before .bef
       omega arith,
       omega arith,
       table-passed (a .t1) (l .t) (l .e) (omega (arith, sized (c .before .before .before))) (l .inv .2),
-      stored-turn _ _ _ _ _ _ _ (l .inv .3) refl (first-known (a .t1) (l .t) (l .e) (l .inv .2) (c .at-most .result) (c .at-most .ensures)),
+      stored-turn _ _ _ _ (l .inv .3) refl (first-known (a .t1) (l .t) (l .e) (l .inv .2) (c .at-most .result) (c .at-most .ensures)),
     )
 
 at-most-requires-2 : tie.Need-at-most-requires-2 Inv-loop μ-loop

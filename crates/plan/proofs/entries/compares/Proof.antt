@@ -40,7 +40,7 @@ loop-less c = omega arith
 
 loop-again : tie.Need-loop-again Inv-loop μ-loop
 loop-again c =
-    (omega arith, stored-turn _ _ _ _ _ _ _ (c .before .before .before .loop .inv .1) refl (rw (c .before .table-of .ensures) at (c .compare .ensures)))
+    (omega arith, stored-turn _ _ _ _ (c .before .before .before .loop .inv .1) refl (rw (c .before .table-of .ensures) at (c .compare .ensures)))
 
 returns : tie.Need-returns Inv-loop μ-loop
 returns c = let h : c .before .loop .e ≡ c .before .before .args .count = omega arith in

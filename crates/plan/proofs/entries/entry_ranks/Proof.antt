@@ -40,7 +40,7 @@ loop-less : tie.Need-loop-less Inv-loop μ-loop
 loop-less c = omega arith
 
 loop-again : tie.Need-loop-again Inv-loop μ-loop
-loop-again c = (omega arith, stored-turn _ _ _ _ _ _ _ (c .before .before .loop .inv .1) refl (c .rank-of .ensures))
+loop-again c = (omega arith, stored-turn _ _ _ _ (c .before .before .loop .inv .1) refl (c .rank-of .ensures))
 
 returns : tie.Need-returns Inv-loop μ-loop
 returns c = let h : c .before .loop .e ≡ c .before .before .args .count = omega arith in

@@ -54,8 +54,8 @@ loop-less c = omega arith
 loop-again : tie.Need-loop-again Inv-loop μ-loop
 loop-again c = let w = c .before in let l = w .before .before .loop in (
   omega arith,
-  stored-turn _ _ _ _ _ _ _ (l .inv .1) refl (w .ceiling .ensures),
-  stored-turn _ _ _ _ _ _ _ (l .inv .2) refl (c .user-ranks .ensures),
+  stored-turn _ _ _ _ (l .inv .1) refl (w .ceiling .ensures),
+  stored-turn _ _ _ _ (l .inv .2) refl (c .user-ranks .ensures),
 )
 
 returns : tie.Need-returns Inv-loop μ-loop
