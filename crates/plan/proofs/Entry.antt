@@ -67,4 +67,5 @@ table-among [] (suc k) e h = absurd (omega arith)
 table-among (n ∷ ns) (suc k) e h =
     by-lt e n
     (λ l. rw (lt-ltb e n l) (omega arith, omega arith, omega arith))
-    (λ l. rw (le-ltb e n l) (let p = table-among ns k (e - n) (omega arith) in (omega (arith, p .0), omega (arith, p .1), omega (arith, p .2))))
+    (λ l. let p = table-among ns k (e - n) (omega arith) in
+    rw (le-ltb e n l) (omega (arith, p .0), omega (arith, p .1), omega (arith, p .2)))

@@ -1,6 +1,7 @@
 -- Ranks order the bodies of an accepted configuration as their keys do, and so as the levels of their requests.
 use Prim.Native.Nat.{ℕ, _+_, _<_}
 use mathlib.Core.Path.{_≡_, sym}
+use mathlib.Core.List.{List}
 use native.Mathlib.Omega.{arith}
 use native.Mathlib.Nat.{min-eq-left}
 use lib.ListN.{getD, take}
@@ -27,19 +28,24 @@ module _ (c : Config) (accepted : Accepted c) (shaped : Shaped c) where
   key : (b : ℕ) → b < c .bodies → getD (keys c) b 0 ≡ keyOf c b
   key b h = Ranking.keys-at c b (rw all-bodies h)
 
+  -- the keys of all bodies
+  abbrev bodyKeys : List ℕ
+  bodyKeys = take (bodyCount c) (keys c)
+
   pub rank-rises : (a b : ℕ) → a < c .bodies → b < c .bodies → keyOf c a < keyOf c b → rankOf c a < rankOf c b
   rank-rises a b ha hb l =
       rw own at
-      (below-order (take (bodyCount c) (keys c)) a (getD (keys c) b 0) (rw (Ranking.all-keys-long c, all-bodies) ha) (rw (own, key a ha, key b hb) l))
+      (below-order bodyKeys a (getD (keys c) b 0) (rw (Ranking.all-keys-long c, all-bodies) ha)
+      (rw (own, key a ha, key b hb) l))
     where
-      own : getD (take (bodyCount c) (keys c)) a 0 ≡ getD (keys c) a 0
+      own : getD bodyKeys a 0 ≡ getD (keys c) a 0
       own = getD-take (bodyCount c) (keys c) a 0 (rw all-bodies ha)
 
   pub rank-order : (a b : ℕ) → a < c .bodies → b < c .bodies → rankOf c a < rankOf c b → keyOf c a < keyOf c b
   rank-order a b ha hb l =
       by-lt (keyOf c a) (keyOf c b)
       (λ p. p)
-      (λ p. absurd (omega (arith, below-mono (getD (keys c) b 0) (getD (keys c) a 0) (take (bodyCount c) (keys c)) (rw (key a ha, key b hb) p))))
+      (λ p. absurd (omega (arith, below-mono (getD (keys c) b 0) (getD (keys c) a 0) bodyKeys (rw (key a ha, key b hb) p))))
 
   -- a time-triggered task's key is above every priority, and any other body's is its priority
   key-timed : (b : ℕ) → getD (c .kind) b 0 ≡ timeTriggered → keyOf c b ≡ maxPriority + priorityOf c b

@@ -40,7 +40,8 @@ loop-less c = omega arith
 
 loop-again : tie.Need-loop-again Inv-loop μ-loop
 loop-again c =
-    (omega arith, stored-turn _ _ _ _ (c .before .before .before .loop .inv .1) refl (rw (c .before .table-of .ensures) at (c .compare .ensures)))
+    let value = rw (c .before .table-of .ensures) at (c .compare .ensures) in
+    (omega arith, stored-turn _ _ _ _ (c .before .before .before .loop .inv .1) refl value)
 
 returns : tie.Need-returns Inv-loop μ-loop
 returns c = let h : c .before .loop .e ≡ c .before .before .args .count = omega arith in
