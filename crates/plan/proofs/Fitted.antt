@@ -1,4 +1,5 @@
--- What the machine's events count on of the tables that they look up, as one record, and that the plan of an accepted configuration has it.
+-- What the machine's events count on of the tables that they look up, as one record, and that the plan of an accepted
+-- configuration has it.
 -- rk is the rank of a body.
 use Prim.Native.Nat.{ℕ, suc, _-_, _^_, _≤_, _<_}
 use mathlib.Core.Path.{_≡_, sym}
@@ -49,12 +50,14 @@ pub record Fitted (c : Config) (p : Plan) (rk : ℕ → ℕ) : Type 0 where
   pub period-low : (t : ℕ) → t < c .tables → 1 ≤ getD (c .period) t 0
   pub period-high : (t : ℕ) → t < c .tables → getD (c .period) t 0 ≤ 65535
   pub entry-task : (e : ℕ) → e < firstOf c (c .tables) → isTask c (getD (c .task) e 0) ≡ true
-  pub offset-lt : (t e : ℕ) → t < c .tables → firstOf c t ≤ e → e < firstOf c (suc t) → getD (c .offset) e 0 < getD (c .period) t 0
+  pub offset-lt : (t e : ℕ) → t < c .tables → firstOf c t ≤ e → e < firstOf c (suc t)
+      → getD (c .offset) e 0 < getD (c .period) t 0
   pub offsets-long : length (c .offset) ≡ maxEntries
   pub tasks-long : length (c .task) ≡ maxEntries
   pub autostarts-long : length (c .autostart) ≡ maxBodies
   pub first-at : (t : ℕ) → t < c .tables → getD (p .first) t 0 ≡ firstOf c t
-  pub compare-at : (t e : ℕ) → t < c .tables → firstOf c t ≤ e → e < firstOf c (suc t) → getD (p .compare) e 0 ≡ getD (c .period) t 0 - 1
+  pub compare-at : (t e : ℕ) → t < c .tables → firstOf c t ≤ e → e < firstOf c (suc t)
+      → getD (p .compare) e 0 ≡ getD (c .period) t 0 - 1
   pub entry-rank-at : (e : ℕ) → e < p .count → getD (p .entry) e 0 ≡ rk (getD (c .task) e 0)
   pub entry-ranks-long : length (p .entry) ≡ maxEntries
   pub ceiling-few : (r : ℕ) → ceiling c r ≤ maxPriority

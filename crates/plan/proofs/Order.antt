@@ -45,7 +45,8 @@ module _ (c : Config) (accepted : Accepted c) (shaped : Shaped c) where
   rank-order a b ha hb l =
       by-lt (keyOf c a) (keyOf c b)
       (λ p. p)
-      (λ p. absurd (omega (arith, below-mono (getD (keys c) b 0) (getD (keys c) a 0) bodyKeys (rw (key a ha, key b hb) p))))
+      (λ p. absurd
+      (omega (arith, below-mono (getD (keys c) b 0) (getD (keys c) a 0) bodyKeys (rw (key a ha, key b hb) p))))
 
   -- a time-triggered task's key is above every priority, and any other body's is its priority
   key-timed : (b : ℕ) → getD (c .kind) b 0 ≡ timeTriggered → keyOf c b ≡ maxPriority + priorityOf c b

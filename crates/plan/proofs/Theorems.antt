@@ -1,7 +1,8 @@
--- What the crate shows beyond its contract, over specs/ alone: what the machine's lookups in a plan give. Callers lean on these laws.
+-- What the crate shows beyond its contract, over specs/ alone: what the machine's lookups in a plan give.
+-- Callers lean on these laws.
 --
--- In order: lengths, of whatever configuration; then of every accepted one ranks, ranks by body, bodies by rank, the words, ceilings,
--- tables, entries.
+-- In order: lengths, of whatever configuration;
+-- then of every accepted one ranks, ranks by body, bodies by rank, the words, ceilings, tables, entries.
 use Prim.Native.Nat.{ℕ, suc, _-_, _/_, _%_, _^_, _≤_, _<_}
 use mathlib.Core.Path.{_≡_, ap, _∙_}
 use mathlib.Core.Bool.{true, cond}
@@ -80,9 +81,11 @@ module _ (c : Config) (accepted : Accepted c) (shaped : Shaped c) where
   pub rank-order : (a b : ℕ) → a < c .bodies → b < c .bodies → (keyOf c a < keyOf c b) ↔ (rankOf c a < rankOf c b)
   rank-order a b ha hb = (Order.rank-rises c accepted shaped a b ha hb, Order.rank-order c accepted shaped a b ha hb)
 
-  -- so that of two requests with different levels the one with the higher level has the higher rank: a time-triggered task before all others
+  -- so that of two requests with different levels the one with the higher level has the higher rank:
+  -- a time-triggered task before all others
   pub rank-trigger : (a b : ℕ) → a < c .bodies → b < c .bodies → triggerOf c a < triggerOf c b → rankOf c a < rankOf c b
-  rank-trigger a b ha hb l = Order.rank-rises c accepted shaped a b ha hb (Order.key-rises c accepted shaped a b ha hb l)
+  rank-trigger a b ha hb l =
+      Order.rank-rises c accepted shaped a b ha hb (Order.key-rises c accepted shaped a b ha hb l)
 
   -- what is listed by body, inside and past the bodies
   all : bodyCount c ≡ c .bodies
@@ -121,8 +124,10 @@ module _ (c : Config) (accepted : Accepted c) (shaped : Shaped c) where
       (λ h. past-bodies (lineRank c) b h ∙ simp (le-ltb b (c .bodies) h))
 
   -- the same as the code reads it, where the default does not count
-  pub callable-rank-read : (b d : ℕ) → b < maxBodies → getD (planOf c .callable) b d ≡ cond (isOsekTask c b) (rankOf c b) noRank
-  callable-rank-read b d h = getD-any (planOf c .callable) b d noRank (omega (arith, plan-sized c .tasks)) ∙ callable-rank b
+  pub callable-rank-read : (b d : ℕ) → b < maxBodies
+      → getD (planOf c .callable) b d ≡ cond (isOsekTask c b) (rankOf c b) noRank
+  callable-rank-read b d h =
+      getD-any (planOf c .callable) b d noRank (omega (arith, plan-sized c .tasks)) ∙ callable-rank b
 
   pub line-rank-read : (b d : ℕ) → b < maxBodies → getD (planOf c .line) b d ≡ cond (isIsr c b) (rankOf c b) noRank
   line-rank-read b d h = getD-any (planOf c .line) b d noRank (omega (arith, plan-sized c .lines)) ∙ line-rank b
@@ -142,15 +147,18 @@ module _ (c : Config) (accepted : Accepted c) (shaped : Shaped c) where
   unfolding planOf
   rank-priority = by-rank (triggerOf c)
 
-  -- a time-triggered task that is triggered "preempts all that runs": the level of its request is above the one that another of them runs at
-  pub trigger-above : (b : ℕ) → b < c .bodies → getD (c .kind) b 0 ≡ timeTriggered → executionLevel < getD (planOf c .priority) (rankOf c b) 0
+  -- a time-triggered task that is triggered "preempts all that runs":
+  -- the level of its request is above the one that another of them runs at
+  pub trigger-above : (b : ℕ) → b < c .bodies → getD (c .kind) b 0 ≡ timeTriggered
+      → executionLevel < getD (planOf c .priority) (rankOf c b) 0
   trigger-above b h e = omega (arith, rank-priority b h, Order.trigger-timed c accepted shaped b e)
 
   pub rank-body : (b : ℕ) → b < c .bodies → getD (planOf c .body) (rankOf c b) 0 ≡ b
   unfolding planOf
   rank-body = by-rank (λ b. b)
 
-  -- a body's rank is in the word of the bodies whose field f is v exactly if its own is, and every rank in it is some body's
+  -- a body's rank is in the word of the bodies whose field f is v exactly if its own is,
+  -- and every rank in it is some body's
   in-word : (f : ℕ → ℕ) (v b : ℕ) → b < c .bodies
       → has (marked (rankOf c) f v (bodyCount c)) (rankOf c b) ≡ eqb (f b) v
   in-word f v b h = marked-has (rankOf c) f v (bodyCount c) inj small b (rw all h)
@@ -162,7 +170,8 @@ module _ (c : Config) (accepted : Accepted c) (shaped : Shaped c) where
       → (b : ℕ) × (b < c .bodies) × (rankOf c b ≡ r)
   of-word f v r e = let x = marked-some (rankOf c) f v (bodyCount c) r e in (x .0, omega (arith, x .1), x .2)
 
-  -- the word of the ISRs, those of the extended and the time-triggered tasks, and that of the tasks that are ready at the fresh start
+  -- the word of the ISRs, those of the extended and the time-triggered tasks,
+  -- and that of the tasks that are ready at the fresh start
   pub rank-isr : (b : ℕ) → b < c .bodies → has (planOf c .isrs) (rankOf c b) ≡ isIsr c b
   unfolding planOf
   rank-isr b h = rw (lt-ltb b (c .bodies) h) (in-word (λ i. getD (c .kind) i 0) isr b h)
@@ -171,7 +180,8 @@ module _ (c : Config) (accepted : Accepted c) (shaped : Shaped c) where
   unfolding planOf
   rank-extended b h = rw (lt-ltb b (c .bodies) h) (in-word (λ i. getD (c .kind) i 0) extended b h)
 
-  pub rank-autostart : (b : ℕ) → b < c .bodies → has (planOf c .autostart) (rankOf c b) ≡ eqb (getD (c .autostart) b 0) 1
+  pub rank-autostart : (b : ℕ) → b < c .bodies
+      → has (planOf c .autostart) (rankOf c b) ≡ eqb (getD (c .autostart) b 0) 1
   unfolding planOf
   rank-autostart = in-word (λ i. getD (c .autostart) i 0) 1
 
@@ -201,7 +211,8 @@ module _ (c : Config) (accepted : Accepted c) (shaped : Shaped c) where
   resource-ceiling = by-resource (ceiling c)
 
   -- its users: a body's rank is in the word exactly if the body is one of them
-  pub resource-users : (r b : ℕ) → r < c .resources → b < c .bodies → has (getD (planOf c .users) r 0) (rankOf c b) ≡ isUser c r b
+  pub resource-users : (r b : ℕ) → r < c .resources → b < c .bodies
+      → has (getD (planOf c .users) r 0) (rankOf c b) ≡ isUser c r b
   unfolding planOf
   resource-users r b h l =
       rw (by-resource (usersOf c) r h, lt-ltb r (c .resources) h)
@@ -241,7 +252,8 @@ module _ (c : Config) (accepted : Accepted c) (shaped : Shaped c) where
   entry-table e h = table-among (c .entries) (c .tables) e (omega (arith, entry-count))
 
   -- what is listed by entry
-  by-entry : (f : ℕ → ℕ) (e : ℕ) → e < planOf c .count → getD (listed f (entryCount c) (replicate maxEntries 0)) e 0 ≡ f e
+  by-entry : (f : ℕ → ℕ) (e : ℕ) → e < planOf c .count
+      → getD (listed f (entryCount c) (replicate maxEntries 0)) e 0 ≡ f e
   unfolding planOf
   by-entry f e h = listed-at f (entryCount c) maxEntries 0 e 0 h (omega arith)
 

@@ -1,4 +1,5 @@
--- The entries of all tables, one after the other: which table an entry is of, and what is kept for each table and entry.
+-- The entries of all tables, one after the other:
+-- which table an entry is of, and what is kept for each table and entry.
 --
 --   entryTable c e      the table of entry e
 --   firstEntry c t   where the entries of table t begin

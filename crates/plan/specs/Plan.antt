@@ -15,7 +15,8 @@ use Rattle.plan.specs.Marked.{marked}
 use Rattle.plan.specs.Rank.{bodyCount, rankOf, ranks, callableRanks, lineRanks}
 use Rattle.plan.specs.Entry.{tableCount, entryCount, firstEntry, compareOf, entryRank}
 
--- the level that a request of body b is compared with: its priority; of a time-triggered task "the trigger level is 202"
+-- the level that a request of body b is compared with: its priority;
+-- of a time-triggered task "the trigger level is 202"
 abbrev pub triggerIn : List ℕ → List ℕ → ℕ → ℕ
 triggerIn kinds ps b = cond (eqb (getD kinds b 0) timeTriggered) triggerLevel (getD ps b 0)
 

@@ -1,5 +1,5 @@
--- Bodies that are apart, one's current priority being below the other's own: so after every list of events, by
--- `reached-kept`.
+-- Bodies that are apart, one's current priority being below the other's own:
+-- so after every list of events, by `reached-kept`.
 --
 -- In order: bodies that are apart; what a change of one body leaves of it; the runner's own priority is above the
 -- current priority of the others (`outranks`); every event keeps it, from the fresh start on. Which bodies are apart is
@@ -39,8 +39,8 @@ use Rattle.scheduler.proofs.Losses.{entered-active}
 abbrev pub at : List Body → ℕ → Body
 at bs i = getD bs i noBody
 
--- what holds between each body and itself, and between body k and y, holds between each body and what it is after body
--- k became y
+-- what holds between each body and itself, and between body k and y,
+-- holds between each body and what it is after body k became y
 each : (P : Body → Body → Type 0) → ((x : Body) → P x x) → (bs : List Body) (k : ℕ) (y : Body) → P (at bs k) y → (i : ℕ)
     → P (at bs i) (at (set bs k y) i)
 each P same [] k y h i = same noBody
@@ -269,11 +269,11 @@ module _ (c : Config) (ok : Configuration.Accepted c) where
   module _ {In : Body → Bool} (K : Question In) {bs : List Body} (a : Kept c In bs) (k : ℕ) (k< : k < c .bodies)
       (active : competes (at bs k .phase) ≡ true) (taken : chosenBy byHolding c bs ≡ contender c bs k) where
     heaviest : (j : ℕ) → competes (at bs j .phase) ≡ true
-        → 2 * current c j (at bs j) + markOf (holds (at bs j .held)) ≤ 2 * current c k (at bs k) + markOf
-        (holds (at bs k .held))
+        → 2 * current c j (at bs j) + markOf (holds (at bs j .held))
+        ≤ 2 * current c k (at bs k) + markOf (holds (at bs k .held))
     heaviest j h =
-        let w : weight byHolding (chosenBy byHolding c bs) ≡ weight byHolding (contender c bs k) = ap (weight byHolding) taken in
-        omega (arith, weighs bs j h, weighs bs k active, chosen-weight byHolding refl c bs j)
+        let w = ap (weight byHolding) taken in
+        omega (arith, w, weighs bs j h, weighs bs k active, chosen-weight byHolding refl c bs j)
 
     -- every other one of those that are apart runs below its own priority
     pub outranks : (j : ℕ) → j < c .bodies → j ≢ k → In (at bs j) ≡ true → current c j (at bs j) < priorityOf c k
@@ -361,7 +361,8 @@ module _ (c : Config) (ok : Configuration.Accepted c) where
       effect-kept (Activate t) z =
           quiet s a t activated (activated-quiet K (bodyOf s t) (ap isStarted (activate-passed c s t z .2)))
       effect-kept Finish z =
-          let ends = quiet s a (caller c s) finished (finished-quiet K (bodyOf s (caller c s)) (finish-passed c s z .1)) in
+          let still = finished-quiet K (bodyOf s (caller c s)) (finish-passed c s z .1) in
+          let ends = quiet s a (caller c s) finished still in
           cond-either (λ x. Kept c In (x .bodies)) (runner c s .timed) (finishTimed (caller c s) s)
           (finish (caller c s) s) ends ends
       effect-kept (Chain t) z =
@@ -461,7 +462,8 @@ module _ (c : Config) (ok : Configuration.Accepted c) where
     after-kept : (es : List Event) (s : State) → Kept c In (s .bodies) → Underway c s → Kept c In (after c s es .bodies)
     unfolding afterBy
     after-kept [] s a underway = a
-    after-kept (e ∷ es) s a underway = after-kept es (step c s e .state) (step-kept s a underway e) (underway-step c s e)
+    after-kept (e ∷ es) s a underway =
+        after-kept es (step c s e .state) (step-kept s a underway e) (underway-step c s e)
 
     pub unstarted-kept : Configuration.Shaped c → Kept c In (unstarted c .bodies)
     unstarted-kept shaped =

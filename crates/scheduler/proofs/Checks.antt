@@ -1,5 +1,5 @@
--- An event is accepted exactly if none of its checks fails, and what each accepted call tells of the state that it
--- meets.
+-- An event is accepted exactly if none of its checks fails,
+-- and what each accepted call tells of the state that it meets.
 --
 -- In order: a list of checks; that each event's checks give statuses other than 0; what a time-triggered task may call,
 -- and the calls that name one; the accepted calls one by one.
@@ -171,7 +171,8 @@ module _ (c : Config) (s : State) (free : noCaller (runner c s) ≡ false) (t : 
   pub timed-activate : step c s (Activate t) .seen .status ≡ 3
   unfolding stepBy firstGiven
   timed-activate =
-      ap₂ (λ (x y : Bool). firstGiven ((x gives callLevel) ∷ (not y gives noSuch) ∷ (active s t gives limitReached) ∷ []))
+      ap₂
+      (λ (x y : Bool). firstGiven ((x gives callLevel) ∷ (not y gives noSuch) ∷ (active s t gives limitReached) ∷ []))
       free no-osek
 
   pub timed-set : (w : ℕ) → step c s (Set t w) .seen .status ≡ 1
@@ -201,7 +202,8 @@ pub get-accepted : (c : Config) (s : State) (r : ℕ) → noCaller (runner c s) 
 unfolding firstGiven
 get-accepted c s r free there user none = rw (free, lt-leb (c .resources) r there, user, none)
 
-pub start-statuses : (c : Config) (s : State) (t d : ℕ) → map (λ k. k .status) (checksOf c s (Start t d)) ≡ 2 ∷ 3 ∷ 8 ∷ 7 ∷ []
+pub start-statuses : (c : Config) (s : State) (t d : ℕ)
+    → map (λ k. k .status) (checksOf c s (Start t d)) ≡ 2 ∷ 3 ∷ 8 ∷ 7 ∷ []
 start-statuses c s t d = refl
 
 module _ (c : Config) (s : State) where

@@ -26,8 +26,8 @@ use Rattle.scheduler.specs.Scheduler.{markOf}
 abbrev pub contender : Config → List Body → ℕ → Candidate
 contender c bs k = candidate c k (getD bs k noBody) (getD bs k noBody .phase)
 
--- "the greatest current priority .. on equal current priority" the one of which the rule's question holds: the greatest
--- of these numbers
+-- "the greatest current priority .. on equal current priority" the one of which the rule's question holds:
+-- the greatest of these numbers
 abbrev pub weight : Tie → Candidate → ℕ
 weight q k = 2 * k .level + markOf (q k)
 
@@ -136,8 +136,8 @@ chosenFrom-from q c i (b ∷ bs) =
     (from-later (chosenFrom-from q c (suc i) bs))
     (from-first c i b bs)
 
--- The body i becomes y, which changes what it is to the choice by g, and g leaves the others and the preferences: the
--- choice is changed by g.
+-- The body i becomes y, which changes what it is to the choice by g,
+-- and g leaves the others and the preferences: the choice is changed by g.
 module _ (q : Tie) (c : Config) (g : Candidate → Candidate) (respects : (x y : Candidate)
     → preferred q (g x) (g y) ≡ g (preferred q x y))
     (on-nobody : g nobody ≡ nobody) (i : ℕ)
@@ -214,7 +214,7 @@ module _ (q : Tie) (unasked : q nobody ≡ false) (c : Config) (bs : List Body) 
   unfolding contenderFrom
   chosen-weight k =
       let n : markOf (q nobody) ≡ 0 = ap markOf unasked in
-      let h : weight q (contender c bs k) ≤ weight q (chosenBy q c bs) + markOf (q nobody) = rw zero-add at (chosenFrom-top q c 0 bs k) in
+      let top = rw zero-add at (chosenFrom-top q c 0 bs k) in
       omega arith
 
   pub chosen-top : (k : ℕ) → goesBefore q (contender c bs k) (chosenBy q c bs) ≡ false

@@ -61,8 +61,10 @@ times-active x zero b h few =
     let none : b .losses ≡ min (b .losses + 0) mostLosses = omega arith in
     ap (withLosses b) none
 times-active x (suc n) b h few =
-    let one-more : min (min (b .losses + 1) mostLosses + n) mostLosses ≡ min (b .losses + suc n) mostLosses = omega arith in
     ap (times x n) (entered-active x b h) ∙ times-active x n (loses b) h (omega arith) ∙ ap (withLosses b) one-more
+  where
+    one-more : min (min (b .losses + 1) mostLosses + n) mostLosses ≡ min (b .losses + suc n) mostLosses
+    one-more = omega arith
 
 -- a suspended one is ready, or triggered, after the first, and loses the others
 times-suspended : (n : ℕ) (b : Body) → b .phase ≡ suspended → b .losses ≤ mostLosses
@@ -110,9 +112,13 @@ module _ (c : Config) where
 
   -- the counts as a list
   few-losses : (s s′ : State) → lossesOf s′ ≡ lossesOf s → FewLosses s → FewLosses s′
-  few-losses s s′ e few i =
-      let same : bodyOf s′ i .losses ≡ bodyOf s i .losses = sym (List·getD-map (λ b. b .losses) (s′ .bodies) i noBody) ∙ ap (λ l. getD l i 0) e ∙ List·getD-map (λ b. b .losses) (s .bodies) i noBody in
-      rw same (few i)
+  few-losses s s′ e few i = rw same (few i)
+    where
+      same : bodyOf s′ i .losses ≡ bodyOf s i .losses
+      same =
+          sym (List·getD-map (λ b. b .losses) (s′ .bodies) i noBody)
+          ∙ ap (λ l. getD l i 0) e
+          ∙ List·getD-map (λ b. b .losses) (s .bodies) i noBody
 
   few-step : (s : State) (e : Event) → FewLosses s → FewLosses (step c s e .state)
   unfolding stepBy

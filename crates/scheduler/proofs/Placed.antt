@@ -75,7 +75,8 @@ waits-plain w b h = cond-plain (anySet (b .bits) w) b (become (waiting w) b) h r
 receives-plain : (w : ℕ) → KeepsPlain (receives w)
 receives-plain w b h = go (b .phase) h
   where
-    resumes : (p : Bool) (x y : Phase) → isTriggered x ≡ false → isTriggered y ≡ false → isTriggered (cond p x y) ≡ false
+    resumes : (p : Bool) (x y : Phase) → isTriggered x ≡ false → isTriggered y ≡ false
+        → isTriggered (cond p x y) ≡ false
     resumes true x y n m = n
     resumes false x y n m = m
 

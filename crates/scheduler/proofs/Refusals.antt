@@ -1,5 +1,5 @@
--- A refused event changes nothing (`refused-same`), but for the count of a lost line (`lost-line`): at the end of the
--- file.
+-- A refused event changes nothing (`refused-same`), but for the count of a lost line (`lost-line`):
+-- at the end of the file.
 --
 -- In order: after a refusal comes the dispatch alone; after a dispatch the chosen body has begun, and is chosen again;
 -- so the next dispatch does nothing (`Underway`); and a loss has no part in who runs.
@@ -63,8 +63,8 @@ begins-onceBegun x = both (isNobody x) (x .began)
     both false true = refl
     both false false = refl
 
--- A body that begins is to the choice what it was but for `began`, on which the choice does not rest: x begun, where it
--- is the body k
+-- A body that begins is to the choice what it was but for `began`, on which the choice does not rest:
+-- x begun, where it is the body k
 abbrev beginning : ℕ → Candidate → Candidate
 beginning k x =
     record {
@@ -131,8 +131,13 @@ module _ (c : Config) (s : State) (none : s .order ≡ []) (k : ℕ) (active : c
     -- the runner, begun
     onceBegun-is : beginning k (runner c s) ≡ onceBegun (runner c s)
     onceBegun-is =
-        ap (λ (b : Bool).
-        record { number = runner c s .number; level = runner c s .level; began = runner c s .began || b; holder = runner c s .holder; timed = runner c s .timed })
+        ap (λ (b : Bool). record {
+          number = runner c s .number;
+          level = runner c s .level;
+          began = runner c s .began || b;
+          holder = runner c s .holder;
+          timed = runner c s .timed;
+        })
         (ap (λ a. not a && eqb (runner c s .number) k) (begins-some (runner c s) begin .0)
         ∙ eq-eqb (runner c s .number) k number-is ∙ sym begin)
       where
@@ -191,7 +196,8 @@ runner-dispatched c s fits = by-test (begins (runner c s)) (λ e. go (s .order) 
     go : (js : List ℕ) → s .order ≡ js → begins (runner c s) ≡ true → runner c (dispatched c s) ≡ onceBegun (runner c s)
     go [] o e = chosen-begins o (chosen-from byHolding refl c (s .bodies)) e
     go (j ∷ js) o e =
-        let here : j < length (s .bodies) = omega (arith, fits, ap (λ (x : Candidate). x .number) (runner-timed c s j js o)) in
+        let is : runner c s .number ≡ j = ap (λ (x : Candidate). x .number) (runner-timed c s j js o) in
+        let here : j < length (s .bodies) = omega (arith, fits, is) in
         ap (runner c) (triggered-now c s j js o here e) ∙ triggered-again c s j js o here e
 
 -- no body that there is not changes
@@ -331,6 +337,13 @@ module _ (c : Config) where
     where
       same : loses (bodyOf s i) ≡ bodyOf s i
       same =
-          let n : min (bodyOf s i .losses + 1) mostLosses ≡ bodyOf s i .losses = omega (arith, full) in
-          ap (λ k.
-          record { phase = bodyOf s i .phase; pending = bodyOf s i .pending; held = bodyOf s i .held; losses = k; bits = bodyOf s i .bits }) n
+          ap (λ k. record {
+            phase = bodyOf s i .phase;
+            pending = bodyOf s i .pending;
+            held = bodyOf s i .held;
+            losses = k;
+            bits = bodyOf s i .bits;
+          }) no-more
+        where
+          no-more : min (bodyOf s i .losses + 1) mostLosses ≡ bodyOf s i .losses
+          no-more = omega (arith, full)

@@ -1,5 +1,5 @@
--- Ties: no two candidates are equal to the choice (`decided`), and without an extended task the old rule for ties
--- chooses the same (`old-rule`).
+-- Ties: no two candidates are equal to the choice (`decided`),
+-- and without an extended task the old rule for ties chooses the same (`old-rule`).
 --
 -- In order: two that tie; of two that may run one goes before the other; the old rule and the new one agree where the
 -- started bodies are apart, from the fresh start on.
@@ -124,9 +124,13 @@ module _ (c : Config) (ok : Configuration.Accepted c) where
     agree : (x y : Candidate) → Taken c bs x → Taken c bs y → goesBefore byBegun x y ≡ goesBefore byHolding x y
     agree x y (no-one e) (no-one f) = rw (e, f)
     agree x y (no-one e) (body j h p f) = rw e
-    agree x y (body i h p e) (no-one f) =
-        let l : 0 < x .level = omega (arith, ap (λ (z : Candidate). z .level) e, level-is bs i p, current-own c i (at bs i), ok .priority-low i (rw (a .size) at h)) in
-        rw f (rw (lt-ltb 0 (x .level) l))
+    agree x y (body i h p e) (no-one f) = rw f (rw (lt-ltb 0 (x .level) some))
+      where
+        level : x .level ≡ current c i (at bs i)
+        level = ap (λ (z : Candidate). z .level) e ∙ level-is bs i p
+
+        some : 0 < x .level
+        some = omega (arith, level, current-own c i (at bs i), ok .priority-low i (rw (a .size) at h))
     agree x y (body i hi p e) (body j hj q f) =
         rw (e, f)
         (by-eq i j
@@ -185,7 +189,8 @@ module _ (c : Config) (ok : Configuration.Accepted c) where
     unfolding seenBy afterBy
     old-from [] s a underway = (refl, refl)
     old-from (e ∷ es) s a underway =
-        let rest = old-from es (step c s e .state) (step-kept c ok begunBodies no-set s a underway e) (underway-step c s e) in
+        let kept = step-kept c ok begunBodies no-set s a underway e in
+        let rest = old-from es (step c s e .state) kept (underway-step c s e) in
         rw (old-step s a underway e) (ap (λ (xs : List Seen). step c s e .seen ∷ xs) (rest .0), rest .1)
 
     old-fresh : freshBy byBegun c ≡ fresh c

@@ -1,7 +1,7 @@
 -- Who holds a resource is one of its declared users: after every list of events, by `declared-after`.
 --
 -- Only a Get adds to what a body holds, and it is accepted of a declared user alone.
-use Prim.Native.Nat.{ℕ}
+use Prim.Native.Nat.{ℕ, _≤_}
 use mathlib.Core.Path.{_≡_, refl, sym, ap, _∙_}
 use mathlib.Core.Bool.{Bool, true, false, true≢false, cond}
 use mathlib.Core.List.{List, [], _∷_}
@@ -41,10 +41,11 @@ module _ (c : Config) where
       by-eq i k
       (λ same. by-lt i (length (s .bodies))
       (λ fits. rw same (fine r (rw (same, bodyOf-changing-same k f s (rw same at fits)) at h)))
-      (λ past.
-      let beyond : bodyOf (changing k f s) i ≡ noBody = List·getD-eq-default (changing k f s .bodies) noBody (rw (length-changing k f s) past) in
-      none-held r (rw beyond at h)))
+      (λ past. none-held r (rw (beyond past) at h)))
       (λ other. d i r (rw (bodyOf-changing-other k f s i other) at h))
+    where
+      beyond : length (s .bodies) ≤ i → bodyOf (changing k f s) i ≡ noBody
+      beyond past = List·getD-eq-default (changing k f s .bodies) noBody (rw (length-changing k f s) past)
 
   -- a change that takes no resource
   abbrev TakesNone : (Body → Body) → Type 0

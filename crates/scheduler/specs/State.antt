@@ -1,5 +1,5 @@
--- The scheduler's state: its bodies, its tables and the order in which time-triggered tasks were started; and who runs in it. A table is
--- document 01's word for a schedule table.
+-- The scheduler's state: its bodies, its tables and the order in which time-triggered tasks were started; and who runs
+-- in it. A table is document 01's word for a schedule table.
 use Prim.Native.Nat.{ℕ}
 use mathlib.Core.Bool.{Bool, true, false, _||_}
 use mathlib.Core.List.{List, [], _∷_}
@@ -42,12 +42,18 @@ changing i f s = record { bodies = set (s .bodies) i (f (bodyOf s i)); tables = 
 abbrev pub withTable : ℕ → Table → State → State
 withTable t x s = record { bodies = s .bodies; tables = set (s .tables) t x; order = s .order }
 
--- OSEKtime's rule, "latest start first": a time-triggered task "preempts all that runs, another kind 3 body too, and runs at one common
--- execution level"; js are those started, k is who runs where there is none
+-- OSEKtime's rule, "latest start first": a time-triggered task "preempts all that runs, another kind 3 body too, and
+-- runs at one common execution level"; js are those started, k is who runs where there is none
 abbrev pub latestOf : List Body → List ℕ → Candidate → Candidate
 latestOf bs [] k = k
 latestOf bs (j ∷ js) k =
-    record { number = j; level = executionLevel; began = hasBegun (getD bs j noBody .phase); holder = false; timed = true }
+    record {
+      number = j;
+      level = executionLevel;
+      began = hasBegun (getD bs j noBody .phase);
+      holder = false;
+      timed = true;
+    }
 
 -- who runs now, by a rule for ties, and by the one that holds
 abbrev pub runnerBy : Tie → Config → State → Candidate

@@ -12,7 +12,8 @@ use Rattle.stack.proofs.Join.{pushed-join, popped-join}
 pub length-rowBytes : (r : Row) → length (rowBytes r) ≡ rowSize
 unfolding rowBytes
 length-rowBytes r =
-    omega (arith, length-append (bytes 8 (r .near)) (bytes 8 (r .far)), length-bytes 8 (r .near), length-bytes 8 (r .far))
+    omega
+    (arith, length-append (bytes 8 (r .near)) (bytes 8 (r .far)), length-bytes 8 (r .near), length-bytes 8 (r .far))
 
 pub row-first : (r : Row) → topRow r ≡ getD (rowBytes r) 0 noByte
 unfolding rowBytes topRow bytes
@@ -27,7 +28,11 @@ row-pushed r x byte =
 pub row-popped : (r : Row) → rowBytes (popRow r) ≡ drop 1 (rowBytes r) ++ (noByte ∷ [])
 unfolding rowBytes popRow
 row-popped r =
-    cc (word-popped (r .near) (firstByte (r .far)) (omega arith), word-popped (r .far) noByte (omega arith), word-first (r .far))
+    cc (
+      word-popped (r .near) (firstByte (r .far)) (omega arith),
+      word-popped (r .far) noByte (omega arith),
+      word-first (r .far),
+    )
     ∙ popped-join (bytes 8 (r .near)) (bytes 8 (r .far)) noByte noByte
     (omega (arith, length-bytes 8 (r .near)))
     (omega (arith, length-bytes 8 (r .far)))

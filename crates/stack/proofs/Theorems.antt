@@ -1,5 +1,5 @@
--- What the crate shows beyond its contracts, over specs/ alone: which bytes are on a row after a push and a pop. Callers lean on these laws,
--- not on the definitions.
+-- What the crate shows beyond its contracts, over specs/ alone: which bytes are on a row after a push and a pop.
+-- Callers lean on these laws, not on the definitions.
 use Prim.Native.Nat.{ℕ, _<_}
 use mathlib.Core.Path.{_≡_, refl}
 use mathlib.Core.List.{[], _∷_, _++_}

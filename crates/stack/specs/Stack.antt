@@ -6,8 +6,8 @@
 --   pushRow r x                          x on top, and the byte at the bottom dropped
 --   popRow r                             the top taken off, and 255 at the bottom
 --
--- Each definition is total: a law asks for no range where a word's bytes alone decide. Main laws: `row-top`, `row-pushed` and
--- `row-popped` (proofs/Theorems.antt).
+-- Each definition is total: a law asks for no range where a word's bytes alone decide. Main laws: `row-top`,
+-- `row-pushed` and `row-popped` (proofs/Theorems.antt).
 use Prim.Native.Nat.{ℕ, zero, suc, _+_, _-_, _*_, _/_, _%_}
 use mathlib.Core.List.{List, [], _∷_, _++_}
 use Rattle.stack.specs.declared.Row.{Row}

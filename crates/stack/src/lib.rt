@@ -1,7 +1,8 @@
 // A stack of bytes kept in 64-bit words, its top in the lowest byte of the first word.
 //
-// A push and a pop shift the words, so no index is needed and the compiler keeps the stack in registers. Past the bottom lies 255: a pop
-// brings it in, and a push onto a full stack drops the byte at the bottom. The laws are in proofs/Theorems.antt.
+// A push and a pop shift the words, so no index is needed and the compiler keeps the stack in registers. Past the
+// bottom lies 255: a pop brings it in, and a push onto a full stack drops the byte at the bottom. The laws are in
+// proofs/Theorems.antt.
 ghost use mathlib.Core.Path.{_≡_};
 ghost use Rattle.stack.specs.Stack.{pushWord, popWord, firstByte, lastByte, emptyRow, topRow, secondRow, pushRow, popRow};
 

@@ -54,5 +54,6 @@ module _ (w : ℕ) (some : 0 < w) (fits : w < 2 ^ ranks) where
   -- the leading zeros, the winner's bit and the bits below it make the word
   pub winner-leading : leadingZeros ranks w + suc (winner w) ≡ ranks
   winner-leading = let t = leading-top ranks w some fits in
-      let below : winner w ≤ t .0 = pow-le (winner w) (t .0) (omega (arith, set-le w (winner w) (has-set w (winner w) winner-has))) in
-      omega (arith, top-found .0)
+      let low = set-le w (winner w) (has-set w (winner w) winner-has) in
+      let below = pow-le (winner w) (t .0) (omega (arith, low)) in
+      omega (arith, below, top-found .0)

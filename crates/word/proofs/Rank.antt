@@ -41,7 +41,8 @@ has-bit w v i l e =
     (λ f. has-clear w i l (e ∙ f) ∙ sym (has-clear v i l f))
 
 -- `with` leaves a word as it is, which then has the rank if it is one, or adds a clear bit
-pub with-elim : (C : ℕ → Type 0) (w r : ℕ) → ((r < ranks → has w r ≡ true) → C w) → (r < ranks → bit w r ≡ 0 → C (w + 2 ^ r)) → C (with w r)
+pub with-elim : (C : ℕ → Type 0) (w r : ℕ) → ((r < ranks → has w r ≡ true) → C w)
+    → (r < ranks → bit w r ≡ 0 → C (w + 2 ^ r)) → C (with w r)
 unfolding with
 with-elim C w r kept added =
     by-test (ltb r ranks)
@@ -51,7 +52,8 @@ with-elim C w r kept added =
     (λ g. rw g (kept (λ l. absurd (omega (arith, ltb-false r ranks g)))))
 
 -- `without` leaves a word that has not the rank, or takes a set bit away
-pub without-elim : (C : ℕ → Type 0) (w r : ℕ) → (has w r ≡ false → C w) → (r < ranks → bit w r ≡ 1 → C (w - 2 ^ r)) → C (without w r)
+pub without-elim : (C : ℕ → Type 0) (w r : ℕ) → (has w r ≡ false → C w) → (r < ranks → bit w r ≡ 1 → C (w - 2 ^ r))
+    → C (without w r)
 unfolding without
 without-elim C w r kept taken =
     by-test (has w r)

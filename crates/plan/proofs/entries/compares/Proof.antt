@@ -11,7 +11,8 @@ use Rattle.plan.proofs.entries.compares.Statement.{statement}
 use Rattle.plan.proofs.entries.compares.Tie as tie
 
 abbrev Inv-loop : tie.InvT-loop
-Inv-loop entries period count t₀ e₀ t e = (e ≤ count) × (t ≡ listed (compareIn entries period) e (replicate maxEntries 0))
+Inv-loop entries period count t₀ e₀ t e =
+    (e ≤ count) × (t ≡ listed (compareIn entries period) e (replicate maxEntries 0))
 
 abbrev μ-loop : tie.MeasureT-loop
 μ-loop entries period count t₀ e₀ t e = count - e

@@ -12,7 +12,8 @@ use Rattle.plan.proofs.entries.entry_ranks.Statement.{statement}
 use Rattle.plan.proofs.entries.entry_ranks.Tie as tie
 
 abbrev Inv-loop : tie.InvT-loop
-Inv-loop ranks count task t₀ e₀ t e = (e ≤ count) × (t ≡ listed (λ e. getD ranks (getD task e 0) noRank) e (replicate maxEntries 0))
+Inv-loop ranks count task t₀ e₀ t e =
+    (e ≤ count) × (t ≡ listed (λ e. getD ranks (getD task e 0) noRank) e (replicate maxEntries 0))
 
 abbrev μ-loop : tie.MeasureT-loop
 μ-loop ranks count task t₀ e₀ t e = count - e

@@ -15,7 +15,8 @@ abbrev Inv-loop : tie.InvT-loop
 Inv-loop resources priority ranks n masks by₀ users₀ r₀ by users r =
     (r ≤ resources)
     × (by ≡ listed (λ i. greatestIn (getD masks i 0) (take n priority)) r (replicate maxResources 0))
-    × (users ≡ listed (λ i. marked (λ b. getD ranks b 0) (λ b. getD masks i 0 / 2 ^ b % 2) 1 n) r (replicate maxResources 0))
+    × (users
+    ≡ listed (λ i. marked (λ b. getD ranks b 0) (λ b. getD masks i 0 / 2 ^ b % 2) 1 n) r (replicate maxResources 0))
 
 abbrev μ-loop : tie.MeasureT-loop
 μ-loop resources priority ranks n masks by₀ users₀ r₀ by users r = resources - r
