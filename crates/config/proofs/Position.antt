@@ -52,7 +52,7 @@ within d s =
     }
 
 -- the most numbers that are still to come, this one included
-abbrev pub leftAt : Field → Draft → ℕ
+abbrev leftAt : Field → Draft → ℕ
 leftAt Version d = 132 + 2 * (64 - d .entry)
 leftAt Bodies d = 131 + 2 * (64 - d .entry)
 leftAt Kind d = 3 * (32 - d .index) + 34 + 2 * (64 - d .entry)

@@ -13,7 +13,7 @@ use Rattle.config.specs.Meaning.{entriesBefore}
 use Rattle.plan.specs.Entry.{tableIn, firstIn}
 
 -- one table more
-pub entriesBefore-step : (ns : List ℕ) (t : ℕ) → t < length ns
+entriesBefore-step : (ns : List ℕ) (t : ℕ) → t < length ns
     → entriesBefore ns (suc t) ≡ entriesBefore ns t + getD ns t 0
 unfolding entriesBefore
 entriesBefore-step [] t h = absurd (omega arith)

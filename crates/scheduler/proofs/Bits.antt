@@ -41,7 +41,7 @@ module _ (bits w : ℕ) where
   without-bit = Number.without-bit bits w
 
   -- the machine's `&` with the complement clears the same
-  pub without-and : bits < 2 ^ 32 → w < 2 ^ 32 → bitAnd bits (2 ^ 32 - 1 - w) ≡ withoutBits bits w
+  without-and : bits < 2 ^ 32 → w < 2 ^ 32 → bitAnd bits (2 ^ 32 - 1 - w) ≡ withoutBits bits w
   unfolding withoutBits
   without-and h k = omega (arith, and-not 32 bits w h k)
 

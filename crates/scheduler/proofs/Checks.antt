@@ -108,7 +108,7 @@ inactive s t e = go (bodyOf s t .phase) e
     go (triggered x) e = absurd (true≢false e)
 
 -- the nine calls that a time-triggered task may not make: "no call but Finish"
-abbrev pub isBarred : Event → Bool
+abbrev isBarred : Event → Bool
 isBarred (Activate t) = true
 isBarred Finish = false
 isBarred (Chain t) = true
@@ -192,17 +192,17 @@ module _ (c : Config) (s : State) (free : noCaller (runner c s) ≡ false) (t : 
       no-extended = rw (both .0, third)
 
 -- who gets a resource is a declared user, and gets what nobody holds; Start's statuses come in this order
-pub get-user : (c : Config) (s : State) (r : ℕ) → getStatus c s r ≡ done → isUser c r (caller c s) ≡ true
+get-user : (c : Config) (s : State) (r : ℕ) → getStatus c s r ≡ done → isUser c r (caller c s) ≡ true
 get-user c s r e = not-false (isUser c r (caller c s)) (all-passed (checksOf c s (Get r)) (omega arith) e .1 .1 .0)
 
-pub get-accepted : (c : Config) (s : State) (r : ℕ) → noCaller (runner c s) ≡ false → r < c .resources
+get-accepted : (c : Config) (s : State) (r : ℕ) → noCaller (runner c s) ≡ false → r < c .resources
     → isUser c r (caller c s) ≡ true
     → heldIn r (s .bodies) ≡ false
     → getStatus c s r ≡ done
 unfolding firstGiven
 get-accepted c s r free there user none = rw (free, lt-leb (c .resources) r there, user, none)
 
-pub start-statuses : (c : Config) (s : State) (t d : ℕ)
+start-statuses : (c : Config) (s : State) (t d : ℕ)
     → map (λ k. k .status) (checksOf c s (Start t d)) ≡ 2 ∷ 3 ∷ 8 ∷ 7 ∷ []
 start-statuses c s t d = refl
 

@@ -59,13 +59,13 @@ goesBefore-weight q j k = by-level (j .level) (k .level) (q j) (q k)
               (omega (arith, markOf-le p, markOf-le q)),
         )))
 
-pub before-weight : (q : Tie) (j k : Candidate) → goesBefore q j k ≡ true → weight q k < weight q j
+before-weight : (q : Tie) (j k : Candidate) → goesBefore q j k ≡ true → weight q k < weight q j
 before-weight q j k e = ltb-true (weight q k) (weight q j) (sym (goesBefore-weight q j k) ∙ e)
 
 pub weight-before : (q : Tie) (j k : Candidate) → weight q k < weight q j → goesBefore q j k ≡ true
 weight-before q j k h = goesBefore-weight q j k ∙ lt-ltb (weight q k) (weight q j) h
 
-pub weight-after : (q : Tie) (j k : Candidate) → weight q j ≤ weight q k → goesBefore q j k ≡ false
+weight-after : (q : Tie) (j k : Candidate) → weight q j ≤ weight q k → goesBefore q j k ≡ false
 weight-after q j k h = goesBefore-weight q j k ∙ le-ltb (weight q k) (weight q j) h
 
 preferred-left : (q : Tie) (j k : Candidate) → weight q j ≤ weight q (preferred q j k)
@@ -217,7 +217,7 @@ module _ (q : Tie) (unasked : q nobody ≡ false) (c : Config) (bs : List Body) 
       let top = rw zero-add at (chosenFrom-top q c 0 bs k) in
       omega arith
 
-  pub chosen-top : (k : ℕ) → goesBefore q (contender c bs k) (chosenBy q c bs) ≡ false
+  chosen-top : (k : ℕ) → goesBefore q (contender c bs k) (chosenBy q c bs) ≡ false
   chosen-top k = weight-after q (contender c bs k) (chosenBy q c bs) (chosen-weight k)
 
   -- a body that goes before every other one that may run is chosen
@@ -287,7 +287,7 @@ module _ (c : Config) (i : ℕ) where
   candidate-active b (triggered x) h = absurd (true≢false (sym h))
 
   -- and one that is neither
-  pub candidate-none : (b : Body) (p : Phase) → competes p ≡ false → candidate c i b p ≡ nobody
+  candidate-none : (b : Body) (p : Phase) → competes p ≡ false → candidate c i b p ≡ nobody
   unfolding candidate
   candidate-none b suspended h = refl
   candidate-none b ready h = absurd (true≢false h)
@@ -302,7 +302,7 @@ releases-gets r b = refl
 -- "After each event the body with the greatest current priority among ready and started ones runs"
 module _ (q : Tie) (unasked : q nobody
     ≡ false) (c : Config) (bs : List Body) (k : ℕ) (active : competes (getD bs k noBody .phase) ≡ true) where
-  pub level-active : contender c bs k .level ≡ current c k (getD bs k noBody)
+  level-active : contender c bs k .level ≡ current c k (getD bs k noBody)
   level-active = ap (λ x. x .level) (candidate-active c k (getD bs k noBody) (getD bs k noBody .phase) active)
 
   pub chosen-greatest : current c k (getD bs k noBody) ≤ chosenBy q c bs .level
@@ -327,7 +327,7 @@ module _ (q : Tie) (unasked : q nobody
 -- a started time-triggered task goes before all others, the latest first
 module _ (c : Config) (s : State) where
   -- "one common execution level 201"
-  pub timed-level : (j : ℕ) (js : List ℕ) → s .order ≡ j ∷ js → runner c s .level ≡ 201
+  timed-level : (j : ℕ) (js : List ℕ) → s .order ≡ j ∷ js → runner c s .level ≡ 201
   timed-level j js e = ap (λ (l : List ℕ). latestOf (s .bodies) l (chosen c (s .bodies)) .level) e
 
   pub runner-timed : (j : ℕ) (js : List ℕ) → s .order ≡ j ∷ js

@@ -18,7 +18,7 @@ abbrev pub Distinct : List ℕ → Type 0
 Distinct [] = Unit {0}
 Distinct (j ∷ js) = (among j js ≡ false) × Distinct js
 
-pub distinct-rest : (js : List ℕ) → Distinct js → Distinct (rest js)
+distinct-rest : (js : List ℕ) → Distinct js → Distinct (rest js)
 distinct-rest [] d = d
 distinct-rest (j ∷ js) d = d .1
 

@@ -45,9 +45,13 @@ rows : map rowOf (seen listing (fresh listing) events)
     ≡ row 0 0 2 0 ∷ row 0 0 5 0 ∷ row 0 0 5 0 ∷ row 0 2 9 1 ∷ row 2 2 9 0 ∷ row 0 0 5 0 ∷ row 6 0 5 0 ∷ row 0 1 5 1
     ∷ row 0 1 5 0 ∷ row 0 1 5 0
     ∷ row 0 0 2 0 ∷ row 0 255 0 0 ∷ row 0 255 0 0 ∷ row 0 1 5 1 ∷ row 0 1 5 0 ∷ row 0 255 0 0 ∷ row 2 255 0 0 ∷ []
-unfolding listing events readConfig readFrom readNumber groups continued fifthGroup faultAt putAt ended timedIn someTimed greatestIn entriesBefore due firstGiven candidate chosenFrom among heldIn counting entryDue duesFrom activatingDue stepBy seenBy
+unfolding listing events readConfig readFrom readNumber groups continued fifthGroup faultAt putAt ended timedIn
+    someTimed greatestIn entriesBefore due firstGiven candidate chosenFrom among heldIn counting entryDue duesFrom
+    activatingDue stepBy seenBy
 rows = refl
 
 losses : lossesOf (after listing (fresh listing) events) ≡ 1 ∷ 0 ∷ 0 ∷ []
-unfolding listing events readConfig readFrom readNumber groups continued fifthGroup faultAt putAt ended timedIn someTimed greatestIn entriesBefore due firstGiven candidate chosenFrom among heldIn counting entryDue duesFrom activatingDue stepBy afterBy
+unfolding listing events readConfig readFrom readNumber groups continued fifthGroup faultAt putAt ended timedIn
+    someTimed greatestIn entriesBefore due firstGiven candidate chosenFrom among heldIn counting entryDue duesFrom
+    activatingDue stepBy afterBy
 losses = refl

@@ -43,7 +43,7 @@ module _ (c : Config) where
       (named-starting t s h n) n))
       (λ h. rw h n)
 
-  pub named-effect : (s : State) (e : Event) → Named s → Named (effectOf c s e)
+  named-effect : (s : State) (e : Event) → Named s → Named (effectOf c s e)
   named-effect s (Activate t) n = n
   named-effect s Finish n =
       cond-either Named (runner c s .timed) (finishTimed (caller c s) s) (finish (caller c s) s)
@@ -60,16 +60,16 @@ module _ (c : Config) where
   named-effect s (Set t w) n = n
   named-effect s (Clear w) n = n
 
-  pub named-leaves : (s : State) (e : Event) → Named s → Named (leaves c s e)
+  named-leaves : (s : State) (e : Event) → Named s → Named (leaves c s e)
   named-leaves s e n =
       cond-either Named (eqb (statusOf c s e) done) (effectOf c s e) (refusalOf c s (statusOf c s e) e)
       (named-effect s e n)
       (refusalOf-keeps c s Named n (statusOf c s e) e (λ i _ _ _. n))
 
-  pub named-dispatched : (s : State) → Named s → Named (dispatched c s)
+  named-dispatched : (s : State) → Named s → Named (dispatched c s)
   named-dispatched s n = dispatched-keeps Named (λ i f x h. h) c s n
 
-  pub named-step : (s : State) (e : Event) → Named s → Named (step c s e .state)
+  named-step : (s : State) (e : Event) → Named s → Named (step c s e .state)
   unfolding stepBy
   named-step s e n = named-dispatched (leaves c s e) (named-leaves s e n)
 

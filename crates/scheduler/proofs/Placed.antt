@@ -131,7 +131,7 @@ module _ (c : Config) where
   placed-weaken p f = placed-with p (λ i h. f i (p .to-begin i h))
 
   -- who is not time-triggered is not in the order
-  pub untimed-place : {i : ℕ} {b : Body} {m : Bool} → isTimed c i ≡ false → Place c i b m
+  untimed-place : {i : ℕ} {b : Body} {m : Bool} → isTimed c i ≡ false → Place c i b m
       → (m ≡ false) × (isTriggered (b .phase) ≡ false)
   untimed-place t (other n m h) = (m, h)
   untimed-place t (asleep n m p h q) = absurd (true≢false (sym n ∙ t))
@@ -195,7 +195,7 @@ module _ (c : Config) where
         go (awake n m x q h r) = awake n m x q h r
 
     -- the latest ends
-    pub ended-placed : {s : State} → Placed c late s → (j : ℕ) (js : List ℕ) → s .order ≡ j ∷ js
+    ended-placed : {s : State} → Placed c late s → (j : ℕ) (js : List ℕ) → s .order ≡ j ∷ js
         → Placed c late (record { bodies = set (s .bodies) j (finished (bodyOf s j)); tables = s .tables; order = js })
     ended-placed {s} p j js o =
         record {

@@ -26,7 +26,7 @@ use Rattle.scheduler.specs.Scheduler.{begins, phaseBegun, dispatched, le
 use Rattle.scheduler.proofs.Choice.{contender, candidate-active, chosen-mapped, chosen-alike, Taken, no-one, body, chosen-from, runner-timed, runner-untimed}
 use Rattle.scheduler.proofs.Effects.{bodyOf-changing-same, length-changing, refusalOf-keeps}
 
-pub refused-leaves : (c : Config) (s : State) (e : Event) → statusOf c s e ≢ done
+refused-leaves : (c : Config) (s : State) (e : Event) → statusOf c s e ≢ done
     → leaves c s e ≡ refusalOf c s (statusOf c s e) e
 refused-leaves c s e refused = rw (ne-eqb (statusOf c s e) done refused)
 
@@ -40,7 +40,7 @@ refused-dispatched c s e refused kept =
     ∙ refusalOf-keeps c s (λ x. x ≡ s) refl (statusOf c s e) e (λ i w q h. absurd (kept i (w, q, h))))
 
 -- the candidate x, begun
-abbrev pub onceBegun : Candidate → Candidate
+abbrev onceBegun : Candidate → Candidate
 onceBegun x =
     record { number = x .number; level = x .level; began = x .began || begins x; holder = x .holder; timed = x .timed }
 
