@@ -1,7 +1,7 @@
 -- Proofs by cases: on a test, and on how two numbers compare; and what a test of two says of each.
 use Prim.Native.Nat.{ℕ, _≤_, _<_}
 use mathlib.Core.Path.{_≡_, refl, sym}
-use mathlib.Core.Bool.{Bool, true, false, _&&_, _||_, true≢false}
+use mathlib.Core.Bool.{Bool, true, false, cond, _&&_, _||_, true≢false}
 use lib.Dec.{ltb, eqb}
 use borrow.Author.Tests.{ltb-true, ltb-false, eqb-true, eqb-false}
 
@@ -22,3 +22,8 @@ and-true false t e = absurd (true≢false (sym e))
 pub neither : (s t : Bool) → s || t ≡ false → (s ≡ false) × (t ≡ false)
 neither true t e = absurd (true≢false e)
 neither false t e = (refl, e)
+
+-- what holds of both holds of the one that a test chooses
+pub cond-either {ℓ} : {A : Type 0} (P : A → Type ℓ) (b : Bool) (x y : A) → P x → P y → P (cond b x y)
+cond-either P true x y p q = p
+cond-either P false x y p q = q

@@ -15,7 +15,7 @@ use borrow.Author.Tests.{eq-eqb, ne-eqb}
 use lib.Dec.{eqb}
 use lib.ListN.{length, getD, set, length-set, take, length-map, List·getD-map, List·getD-eq-default}
 use lib.Seq.{getD-set-same, getD-set-other, set-out, length-take-le}
-use Rattle.number.proofs.Cases.{by-test, by-lt, by-eq}
+use Rattle.number.proofs.Cases.{by-test, by-lt, by-eq, cond-either}
 use Rattle.config.specs.declared.Config.{Config}
 use Rattle.config.specs.Meaning.{priorityOf, ceiling}
 use Rattle.config.specs.Accepted as Configuration
@@ -31,7 +31,7 @@ use Rattle.scheduler.specs.Scheduler.{begins, phaseBegun, markOf, dispat
 use Rattle.scheduler.specs.History.{AcceptedIn}
 use Rattle.scheduler.proofs.Choice.{contender, weight, chosen-weight, chosen-from, candidate-active, current-own, current-free, Taken, no-one, body, runner-timed, runner-untimed}
 use Rattle.scheduler.proofs.Checks.{activate-passed, finish-passed, chain-passed, get-passed, release-passed, wait-passed, accepted-untimed}
-use Rattle.scheduler.proofs.Effects.{entered, activatingDue-keeps, refusalOf-keeps, cond-either}
+use Rattle.scheduler.proofs.Effects.{entered, activatingDue-keeps, refusalOf-keeps}
 use Rattle.scheduler.proofs.Refusals.{begins-some, Underway, underway-untimed, underway-fresh, underway-step}
 use Rattle.scheduler.proofs.Losses.{entered-active}
 
@@ -184,13 +184,9 @@ module _ {In : Body → Bool} (K : Question In) where
   then x y z p q =
       record { held = p .held ∙ q .held; among = λ h. p .among (q .among h); steady = λ s. q .steady (p .steady s) }
 
-  cond-quiet : (b : Bool) (x y z : Body) → Quiet In x y → Quiet In x z → Quiet In x (cond b y z)
-  cond-quiet true x y z p q = p
-  cond-quiet false x y z p q = q
-
   finished-quiet : (b : Body) → holds (b .held) ≡ false → Quiet In b (finished b)
   finished-quiet b free =
-      cond-quiet (b .pending) b (activated (ended b)) (ended b)
+      cond-either (Quiet In b) (b .pending) (activated (ended b)) (ended b)
       (then b (ended b) (activated (ended b)) (ended-quiet b free) (activated-quiet (ended b) refl))
       (ended-quiet b free)
 
@@ -237,7 +233,7 @@ module _ {In : Body → Bool} (K : Question In) where
 
   waits-quiet : (w : ℕ) (b : Body) → holds (b .held) ≡ false → Quiet In b (waits w b)
   waits-quiet w b free =
-      cond-quiet (anySet (b .bits) w) b b (become (waiting w) b)
+      cond-either (Quiet In b) (anySet (b .bits) w) b (become (waiting w) b)
       (record { held = refl; among = λ h. h; steady = λ s. s })
       (record { held = refl; among = K .by-wait b w; steady = λ s h. absurd (true≢false (sym h ∙ free)) })
 
@@ -478,8 +474,7 @@ module _ (c : Config) (ok : Configuration.Accepted c) where
         at-new i = List·getD-map newBody (take (c .bodies) (c .autostart)) i 0
 
         none : (x : Bool) → holds (cond x (activated noBody) noBody .held) ≡ false
-        none true = refl
-        none false = refl
+        none x = cond-either (λ (b : Body). holds (b .held) ≡ false) x (activated noBody) noBody refl refl
 
         empty : (i : ℕ) → holds (at (unstarted c .bodies) i .held) ≡ false
         empty i =

@@ -14,7 +14,7 @@ use native.Mathlib.Omega.{arith}
 use borrow.Author.Tests.{ltb-true, lt-ltb, le-ltb, eq-eqb, ne-eqb, eqb-false}
 use lib.Dec.{ltb, eqb, lit≤}
 use lib.ListN.{length, getD, set}
-use Rattle.number.proofs.Cases.{by-lt, by-eq}
+use Rattle.number.proofs.Cases.{by-lt, by-eq, cond-either}
 use Rattle.config.specs.declared.Config.{Config}
 use Rattle.config.specs.Meaning.{priorityOf, ceiling}
 use Rattle.scheduler.specs.Body.{Phase, suspended, ready, started, waiting, triggered, isStarted, competes, Body, holds, current, gets, releases}
@@ -35,38 +35,39 @@ pub markOf-le : (b : Bool) → markOf b ≤ 1
 markOf-le true = lit≤ tt
 markOf-le false = lit≤ tt
 
-goesBefore-weight : (q : Tie) (j k : Candidate) → goesBefore q j k ≡ ltb (weight q k) (weight q j)
-goesBefore-weight q j k = by-level (j .level) (k .level) (q j) (q k)
-  where
-    tie : (m : ℕ) (p q : Bool) → (p && not q) ≡ ltb (2 * m + markOf q) (2 * m + markOf p)
-    tie m true true = sym (le-ltb (2 * m + 1) (2 * m + 1) (omega arith))
-    tie m true false = sym (lt-ltb (2 * m + 0) (2 * m + 1) (omega arith))
-    tie m false true = sym (le-ltb (2 * m + 1) (2 * m + 0) (omega arith))
-    tie m false false = sym (le-ltb (2 * m + 0) (2 * m + 0) (omega arith))
+module _ (q : Tie) (j k : Candidate) where
+  goesBefore-weight : goesBefore q j k ≡ ltb (weight q k) (weight q j)
+  goesBefore-weight = by-level (j .level) (k .level) (q j) (q k)
+    where
+      tie : (m : ℕ) (p q : Bool) → (p && not q) ≡ ltb (2 * m + markOf q) (2 * m + markOf p)
+      tie m true true = sym (le-ltb (2 * m + 1) (2 * m + 1) (omega arith))
+      tie m true false = sym (lt-ltb (2 * m + 0) (2 * m + 1) (omega arith))
+      tie m false true = sym (le-ltb (2 * m + 1) (2 * m + 0) (omega arith))
+      tie m false false = sym (le-ltb (2 * m + 0) (2 * m + 0) (omega arith))
 
-    by-level : (m n : ℕ) (p q : Bool)
-        → (ltb n m || (eqb n m && (p && not q))) ≡ ltb (2 * n + markOf q) (2 * m + markOf p)
-    by-level m n p q =
-        by-lt n m
-        (λ h. simp
-        (lt-ltb n m h, lt-ltb (2 * n + markOf q) (2 * m + markOf p) (omega (arith, markOf-le p, markOf-le q))))
-        (λ h. by-eq n m
-        (λ e. rw e (simp (le-ltb m m (omega arith), eq-eqb m m refl) (tie m p q)))
-        (λ d. simp (
-          le-ltb n m h,
-          ne-eqb n m d,
-          le-ltb (2 * n + markOf q) (2 * m + markOf p)
-              (omega (arith, markOf-le p, markOf-le q)),
-        )))
+      by-level : (m n : ℕ) (p q : Bool)
+          → (ltb n m || (eqb n m && (p && not q))) ≡ ltb (2 * n + markOf q) (2 * m + markOf p)
+      by-level m n p q =
+          by-lt n m
+          (λ h. simp
+          (lt-ltb n m h, lt-ltb (2 * n + markOf q) (2 * m + markOf p) (omega (arith, markOf-le p, markOf-le q))))
+          (λ h. by-eq n m
+          (λ e. rw e (simp (le-ltb m m (omega arith), eq-eqb m m refl) (tie m p q)))
+          (λ d. simp (
+            le-ltb n m h,
+            ne-eqb n m d,
+            le-ltb (2 * n + markOf q) (2 * m + markOf p)
+                (omega (arith, markOf-le p, markOf-le q)),
+          )))
 
-before-weight : (q : Tie) (j k : Candidate) → goesBefore q j k ≡ true → weight q k < weight q j
-before-weight q j k e = ltb-true (weight q k) (weight q j) (sym (goesBefore-weight q j k) ∙ e)
+  before-weight : goesBefore q j k ≡ true → weight q k < weight q j
+  before-weight e = ltb-true (weight q k) (weight q j) (sym goesBefore-weight ∙ e)
 
-pub weight-before : (q : Tie) (j k : Candidate) → weight q k < weight q j → goesBefore q j k ≡ true
-weight-before q j k h = goesBefore-weight q j k ∙ lt-ltb (weight q k) (weight q j) h
+  pub weight-before : weight q k < weight q j → goesBefore q j k ≡ true
+  weight-before h = goesBefore-weight ∙ lt-ltb (weight q k) (weight q j) h
 
-weight-after : (q : Tie) (j k : Candidate) → weight q j ≤ weight q k → goesBefore q j k ≡ false
-weight-after q j k h = goesBefore-weight q j k ∙ le-ltb (weight q k) (weight q j) h
+  weight-after : weight q j ≤ weight q k → goesBefore q j k ≡ false
+  weight-after h = goesBefore-weight ∙ le-ltb (weight q k) (weight q j) h
 
 preferred-left : (q : Tie) (j k : Candidate) → weight q j ≤ weight q (preferred q j k)
 preferred-left q j k =
@@ -79,10 +80,6 @@ preferred-right q j k =
     by-lt (weight q j) (weight q k)
     (λ h. rw (weight-before q k j h) (omega arith))
     (λ h. rw (weight-after q k j h) (omega arith))
-
-either : (P : Candidate → Type 0) (b : Bool) (j k : Candidate) → P j → P k → P (cond b j k)
-either P true j k p q = p
-either P false j k p q = q
 
 -- the choice among bodies that are numbered from i on
 contenderFrom : Config → ℕ → List Body → ℕ → Candidate
@@ -131,7 +128,7 @@ chosenFrom-from : (q : Tie) (c : Config) (i : ℕ) (bs : List Body) → From c i
 unfolding chosenFrom
 chosenFrom-from q c i [] = none refl
 chosenFrom-from q c i (b ∷ bs) =
-    either (From c i (b ∷ bs)) (goesBefore q (chosenFrom q c (suc i) bs) (candidate c i b (b .phase)))
+    cond-either (From c i (b ∷ bs)) (goesBefore q (chosenFrom q c (suc i) bs) (candidate c i b (b .phase)))
     (chosenFrom q c (suc i) bs) (candidate c i b (b .phase))
     (from-later (chosenFrom-from q c (suc i) bs))
     (from-first c i b bs)

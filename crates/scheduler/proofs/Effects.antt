@@ -13,12 +13,12 @@ use borrow.Author.Tests.{eq-eqb, ne-eqb}
 use lib.Dec.{eqb}
 use lib.ListN.{length, length-set, length-map, length-replicate, replicate}
 use lib.Seq.{getD-set-same, getD-set-other, map-set-same}
-use Rattle.number.proofs.Cases.{by-eq}
+use Rattle.number.proofs.Cases.{by-eq, cond-either}
 use Rattle.config.specs.declared.Config.{Config}
 use Rattle.config.specs.Meaning.{countsLines, isTimed}
 use Rattle.scheduler.specs.Bits.{anySet}
 use Rattle.scheduler.specs.Status.{done, limitReached}
-use Rattle.scheduler.specs.Body.{ready, waiting, isSuspended, hasBegun, Body, become, activated, triggers, rest, finished, requested, gets, releases, activatedByEntry, loses, waits, receives, clears}
+use Rattle.scheduler.specs.Body.{ready, isSuspended, hasBegun, Body, become, activated, triggers, rest, finished, requested, gets, releases, activatedByEntry, loses, waits, receives, clears}
 use Rattle.scheduler.specs.State.{State, Table, stopped, noBody, bodyOf, changing, withTable, runner}
 use Rattle.scheduler.specs.Call.{caller, finish, finishTimed, statusOf, effectOf, refusalOf}
 use Rattle.scheduler.specs.Tick.{counting, counted, starting, trigger, enter, activatingDue, dues, ticked}
@@ -71,34 +71,21 @@ clash e = omega arith
 abbrev KeepsLosses : (Body → Body) → Type 0
 KeepsLosses f = (b : Body) → f b .losses ≡ b .losses
 
--- of two bodies with the same losses whichever
-cond-losses : (p : Bool) (x y : Body) (n : ℕ) → x .losses ≡ n → y .losses ≡ n → cond p x y .losses ≡ n
-cond-losses true x y n h k = h
-cond-losses false x y n h k = k
-
 pub finished-losses : KeepsLosses finished
-finished-losses b = cond-losses (b .pending) _ _ (b .losses) refl refl
+finished-losses b = cond-either (λ (x : Body). x .losses ≡ b .losses) (b .pending) _ _ refl refl
 
 requested-losses : KeepsLosses requested
-requested-losses b = cond-losses (hasBegun (b .phase)) _ _ (b .losses) refl refl
+requested-losses b = cond-either (λ (x : Body). x .losses ≡ b .losses) (hasBegun (b .phase)) _ _ refl refl
 
 waits-losses : (w : ℕ) → KeepsLosses (waits w)
-waits-losses w b = cond-losses (anySet (b .bits) w) _ _ (b .losses) refl refl
+waits-losses w b = cond-either (λ (x : Body). x .losses ≡ b .losses) (anySet (b .bits) w) _ _ refl refl
 
 -- a Wait clears no bit, and a request that waits at the end of its body makes it ready
 waits-bits : (w : ℕ) (b : Body) → waits w b .bits ≡ b .bits
-waits-bits w b = go (anySet (b .bits) w)
-  where
-    go : (p : Bool) → cond p b (become (waiting w) b) .bits ≡ b .bits
-    go true = refl
-    go false = refl
+waits-bits w b = cond-either (λ (x : Body). x .bits ≡ b .bits) (anySet (b .bits) w) _ _ refl refl
 
 finished-waiting : (b : Body) → b .pending ≡ true → finished b .phase ≡ ready
 finished-waiting b h = rw h
-
-pub cond-either : (P : State → Type 0) (b : Bool) (x y : State) → P x → P y → P (cond b x y)
-cond-either P true x y p q = p
-cond-either P false x y p q = q
 
 -- what the effects keep: each changes bodies and leaves their losses, or changes a table, or is that of a Tick; a
 -- time-triggered task that ends leaves the order besides

@@ -10,7 +10,7 @@ use native.Mathlib.Omega.{arith}
 use borrow.Author.Tests.{eq-eqb, ne-eqb}
 use lib.Dec.{eqb, lit≤}
 use lib.ListN.{length, getD, List·getD-eq-default, List·getD-map, take}
-use Rattle.number.proofs.Cases.{by-lt, by-eq}
+use Rattle.number.proofs.Cases.{by-lt, by-eq, cond-either}
 use Rattle.config.specs.declared.Config.{Config}
 use Rattle.config.specs.Meaning.{isTimed}
 use Rattle.scheduler.specs.Status.{done}
@@ -20,7 +20,7 @@ use Rattle.scheduler.specs.Event.{Event}
 use Rattle.scheduler.specs.Tick.{counted, dues, enter, activatingDue, ticked, naming, dueFor}
 use Rattle.scheduler.specs.Call.{statusOf, effectOf, refusalOf}
 use Rattle.scheduler.specs.Scheduler.{newBody, unstarted, dispatched, lossesOf, leaves, step, stepBy, fresh, after, afterBy}
-use Rattle.scheduler.proofs.Effects.{bodyOf-changing-same, bodyOf-changing-other, length-changing, effectOf-keeps, refusalOf-keeps, entered, enter-bodies, activatingDue-keeps, cond-either, losses-dispatched}
+use Rattle.scheduler.proofs.Effects.{bodyOf-changing-same, bodyOf-changing-other, length-changing, effectOf-keeps, refusalOf-keeps, entered, enter-bodies, activatingDue-keeps, losses-dispatched}
 
 -- n entries that name the body b, one after the other; x: it is time-triggered
 times : Bool → ℕ → Body → Body

@@ -8,7 +8,7 @@ use mathlib.Core.List.{List, [], _∷_}
 use borrow.Author.Tests.{ltb-true, ne-eqb}
 use lib.Dec.{ltb, eqb}
 use lib.ListN.{getD}
-use Rattle.number.proofs.Cases.{by-test, by-eq, and-true}
+use Rattle.number.proofs.Cases.{by-test, by-eq, and-true, cond-either}
 use Rattle.config.specs.declared.Config.{Config}
 use Rattle.config.specs.Meaning.{isTimed, timeTriggered}
 use Rattle.scheduler.specs.Status.{done}
@@ -19,7 +19,7 @@ use Rattle.scheduler.specs.Tick.{counted, dues, starting, enter}
 use Rattle.scheduler.specs.Call.{caller, finish, finishTimed, statusOf, effectOf, refusalOf}
 use Rattle.scheduler.specs.Scheduler.{dispatched, unstarted, leaves, step, stepBy, fresh, after, afterBy}
 use Rattle.scheduler.proofs.Distinct.{none-among, among-rest}
-use Rattle.scheduler.proofs.Effects.{enters-keep, dispatched-keeps, refusalOf-keeps, cond-either}
+use Rattle.scheduler.proofs.Effects.{enters-keep, dispatched-keeps, refusalOf-keeps}
 
 pub timed-body : (c : Config) (t : ℕ) → isTimed c t ≡ true → t < c .bodies
 timed-body c t h = ltb-true t (c .bodies) (and-true (ltb t (c .bodies)) (eqb (getD (c .kind) t 0) timeTriggered) h .0)

@@ -13,7 +13,7 @@ use borrow.Author.Tests.{eqb-true}
 use lib.Dec.{ltb, eqb}
 use lib.ListN.{length, getD, set, length-set}
 use lib.Seq.{set-out, getD-set-same, getD-set-other}
-use Rattle.number.proofs.Cases.{by-test, by-lt, by-eq, and-true}
+use Rattle.number.proofs.Cases.{by-test, by-lt, by-eq, and-true, cond-either}
 use Rattle.config.specs.declared.Config.{Config}
 use Rattle.config.specs.Meaning.{isTask, isOsekTask, isIsr, isExtended, isTimed, firstOf}
 use Rattle.scheduler.specs.Bits.{anySet, withBits}
@@ -60,8 +60,7 @@ KeepsPlain f = (b : Body) → isTriggered (b .phase) ≡ false → isTriggered (
 
 cond-plain : (p : Bool) (x y : Body) → isTriggered (x .phase) ≡ false → isTriggered (y .phase) ≡ false
     → isTriggered (cond p x y .phase) ≡ false
-cond-plain true x y h k = h
-cond-plain false x y h k = k
+cond-plain = cond-either (λ (x : Body). isTriggered (x .phase) ≡ false)
 
 finished-plain : KeepsPlain finished
 finished-plain b h = cond-plain (b .pending) (activated (ended b)) (ended b) refl refl
@@ -75,16 +74,12 @@ waits-plain w b h = cond-plain (anySet (b .bits) w) b (become (waiting w) b) h r
 receives-plain : (w : ℕ) → KeepsPlain (receives w)
 receives-plain w b h = go (b .phase) h
   where
-    resumes : (p : Bool) (x y : Phase) → isTriggered x ≡ false → isTriggered y ≡ false
-        → isTriggered (cond p x y) ≡ false
-    resumes true x y n m = n
-    resumes false x y n m = m
-
     go : (p : Phase) → isTriggered p ≡ false → isTriggered (resumed (withBits (b .bits) w) p) ≡ false
     go suspended e = refl
     go ready e = refl
     go started e = refl
-    go (waiting v) e = resumes (anySet (withBits (b .bits) w) v) started (waiting v) refl refl
+    go (waiting v) e =
+        cond-either (λ (p : Phase). isTriggered p ≡ false) (anySet (withBits (b .bits) w) v) started (waiting v) refl refl
     go (triggered x) e = e
 
 -- an ISR, an extended task and one of OSEK are not time-triggered

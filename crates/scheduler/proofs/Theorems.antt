@@ -217,7 +217,7 @@ timed-calls c s j js e =
       twelve-clear = λ w. Checks.timed-refused c s j js e (Clear w) refl;
     }
 
--- where somebody may call: "Activate and Chain naming one give 3; Set naming one gives 1"
+-- where somebody may call: "3 for Activate or Chain naming one"; 1 for a Set, since it is no extended task
 pub timed-activate : (c : Config) (s : State) → noCaller (runner c s) ≡ false → (t : ℕ) → isTimed c t ≡ true
     → statusSeen c s (Activate t) ≡ 3
 timed-activate = Checks.timed-activate

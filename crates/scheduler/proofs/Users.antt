@@ -8,7 +8,7 @@ use mathlib.Core.List.{List, [], _∷_}
 use borrow.Author.Tests.{eq-eqb, ne-eqb}
 use lib.Dec.{eqb}
 use lib.ListN.{length, getD, List·getD-eq-default, List·getD-map, take}
-use Rattle.number.proofs.Cases.{by-lt, by-eq}
+use Rattle.number.proofs.Cases.{by-lt, by-eq, cond-either}
 use Rattle.config.specs.declared.Config.{Config}
 use Rattle.config.specs.Meaning.{isUser}
 use Rattle.scheduler.specs.Bits.{anySet}
@@ -21,7 +21,7 @@ use Rattle.scheduler.specs.Call.{caller, finish, finishTimed, statusOf, 
 use Rattle.scheduler.specs.Scheduler.{begins, phaseBegun, dispatched, newBody, unstarted, leaves, step, stepBy, fresh, after, afterBy}
 use Rattle.scheduler.specs.History.{AcceptedIn}
 use Rattle.scheduler.proofs.Checks.{get-passed}
-use Rattle.scheduler.proofs.Effects.{bodyOf-changing-same, bodyOf-changing-other, length-changing, refusalOf-keeps, entered, activatingDue-keeps, cond-either}
+use Rattle.scheduler.proofs.Effects.{bodyOf-changing-same, bodyOf-changing-other, length-changing, refusalOf-keeps, entered, activatingDue-keeps}
 use Rattle.scheduler.proofs.Distinct.{among-rest}
 
 -- nothing is held of an empty list
@@ -56,8 +56,7 @@ module _ (c : Config) where
 
   -- of two bodies that hold the same whichever
   cond-held : (p : Bool) (x y : Body) (rs : List ℕ) → x .held ≡ rs → y .held ≡ rs → cond p x y .held ≡ rs
-  cond-held true x y rs h k = h
-  cond-held false x y rs h k = k
+  cond-held p x y rs = cond-either (λ (b : Body). b .held ≡ rs) p x y
 
   requested-none : TakesNone requested
   requested-none b r h = sym (ap (among r) (cond-held (hasBegun (b .phase)) _ (activated b) (b .held) refl refl)) ∙ h
