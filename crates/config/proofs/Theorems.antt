@@ -64,6 +64,16 @@ pub accepted-ranges : (bs : List ℕ) → readConfig bs .refusal ≡ none → Ac
 accepted-ranges bs e =
     RoundTrip.faultless-accepted (readConfig bs .config) (RoundTrip.shaped bs) (RoundTrip.read-faultless bs e)
 
+-- "Each has its own priority"
+pub priority-inj : (c : Config) → Accepted c → (a b : ℕ) → a < c .bodies → b < c .bodies → priorityOf c a ≡ priorityOf c b
+    → a ≡ b
+priority-inj c accepted a b ha hb e =
+    by-lt a b
+    (λ l. absurd (accepted .priorities-differ a b l hb e))
+    (λ l. by-lt b a
+    (λ m. absurd (accepted .priorities-differ b a m ha (sym e)))
+    (λ m. omega arith))
+
 -- the tests that `Accepted` has of an entry, said with numbers:
 -- "Entries rise by offset, then by task, none twice"; its task is one
 pub entries-in-order : (c : Config) → Accepted c → (t e : ℕ)

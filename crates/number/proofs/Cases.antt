@@ -27,3 +27,8 @@ neither false t e = (refl, e)
 pub cond-either {ℓ} : {A : Type 0} (P : A → Type ℓ) (b : Bool) (x y : A) → P x → P y → P (cond b x y)
 cond-either P true x y p q = p
 cond-either P false x y p q = q
+
+-- a test that cannot hold is false
+pub refuted : (t : Bool) → (t ≡ true → ⊥) → t ≡ false
+refuted true n = absurd (n refl)
+refuted false n = refl

@@ -2,12 +2,11 @@
 -- configuration has it.
 -- rk is the rank of a body.
 use Prim.Native.Nat.{ℕ, suc, _-_, _^_, _≤_, _<_}
-use mathlib.Core.Path.{_≡_, sym}
+use mathlib.Core.Path.{_≡_}
 use mathlib.Core.Bool.{true, cond}
 use native.Mathlib.Omega.{arith}
 use lib.Dec.{eqb}
 use lib.ListN.{length, getD, List·getD-eq-default}
-use Rattle.number.proofs.Cases.{by-lt}
 use Rattle.word.specs.Word.{ranks, has}
 use Rattle.config.specs.declared.Config.{Config}
 use Rattle.config.specs.Value.{maxBodies, maxResources, maxEntries, maxPriority}
@@ -78,7 +77,7 @@ fitted c ok shaped =
       rank-lt = Plan.rank-lt c ok shaped;
       rank-order = Plan.rank-trigger c ok shaped;
       rank-inj = Plan.rank-inj c ok shaped;
-      own-inj = λ a b ha hb e. differ a b ha hb e;
+      own-inj = Configuration.priority-inj c ok;
       own-some = ok .priority-low;
       own-few = ok .priority-high;
       priority-at = Plan.rank-priority c ok shaped;
@@ -110,9 +109,3 @@ fitted c ok shaped =
       users-at = Plan.resource-users c ok shaped;
       user-ceiling = Configuration.user-ceiling c ok shaped;
     }
-  where
-    -- of two bodies with one priority neither comes first
-    differ : (a b : ℕ) → a < c .bodies → b < c .bodies → priorityOf c a ≡ priorityOf c b → a ≡ b
-    differ a b ha hb e =
-        by-lt a b (λ l. absurd (ok .priorities-differ a b l hb e))
-        (λ l. by-lt b a (λ k. absurd (ok .priorities-differ b a k ha (sym e))) (λ k. omega arith))

@@ -1,6 +1,6 @@
 -- Ranks order the bodies of an accepted configuration as their keys do, and so as the levels of their requests.
 use Prim.Native.Nat.{ℕ, _+_, _<_}
-use mathlib.Core.Path.{_≡_, sym}
+use mathlib.Core.Path.{_≡_}
 use mathlib.Core.List.{List}
 use native.Mathlib.Omega.{arith}
 use native.Mathlib.Nat.{min-eq-left}
@@ -12,6 +12,7 @@ use Rattle.config.specs.declared.Config.{Config}
 use Rattle.config.specs.Value.{maxPriority}
 use Rattle.config.specs.Meaning.{timeTriggered, triggerLevel, priorityOf}
 use Rattle.config.specs.Accepted.{Accepted, Shaped}
+use Rattle.config.proofs.Theorems.{priority-inj}
 use Rattle.plan.specs.Rank.{bodyCount, keyOf, keys, rankOf}
 use Rattle.plan.specs.Plan.{triggerOf}
 use Rattle.plan.proofs.Below.{below-mono, below-order}
@@ -75,16 +76,7 @@ module _ (c : Config) (accepted : Accepted c) (shaped : Shaped c) where
       (λ eb. omega (arith, key-other a ea, key-timed b eb))
       (λ eb. omega (arith, l, trigger-other a ea, trigger-other b eb, key-other a ea, key-other b eb)))
 
-  -- two bodies differ in priority
-  differ : (a b : ℕ) → a < c .bodies → b < c .bodies → priorityOf c a ≡ priorityOf c b → a ≡ b
-  differ a b ha hb e =
-      by-lt a b
-      (λ l. absurd (accepted .priorities-differ a b l hb e))
-      (λ l. by-lt b a
-      (λ m. absurd (accepted .priorities-differ b a m ha (sym e)))
-      (λ m. omega arith))
-
-  -- so do their keys
+  -- two bodies differ in priority; so do their keys
   keys-differ : (a b : ℕ) → a < c .bodies → b < c .bodies → keyOf c a ≡ keyOf c b → a ≡ b
   keys-differ a b ha hb e =
       let few-a = accepted .priority-high a ha in
@@ -93,11 +85,11 @@ module _ (c : Config) (accepted : Accepted c) (shaped : Shaped c) where
       let some-b = accepted .priority-low b hb in
       by-eq (getD (c .kind) a 0) timeTriggered
       (λ ea. by-eq (getD (c .kind) b 0) timeTriggered
-      (λ eb. differ a b ha hb (omega (arith, e, key-timed a ea, key-timed b eb)))
+      (λ eb. priority-inj c accepted a b ha hb (omega (arith, e, key-timed a ea, key-timed b eb)))
       (λ eb. absurd (omega (arith, e, key-timed a ea, key-other b eb))))
       (λ ea. by-eq (getD (c .kind) b 0) timeTriggered
       (λ eb. absurd (omega (arith, e, key-other a ea, key-timed b eb)))
-      (λ eb. differ a b ha hb (omega (arith, e, key-other a ea, key-other b eb))))
+      (λ eb. priority-inj c accepted a b ha hb (omega (arith, e, key-other a ea, key-other b eb))))
 
   pub rank-inj : (a b : ℕ) → a < c .bodies → b < c .bodies → rankOf c a ≡ rankOf c b → a ≡ b
   rank-inj a b ha hb e =

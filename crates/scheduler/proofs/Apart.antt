@@ -7,18 +7,19 @@
 -- started, where no task is extended.
 use Prim.Native.Nat.{ℕ, zero, suc, _+_, _*_, max, _≤_, _<_}
 use mathlib.Core.Path.{_≡_, refl, sym, ap, subst⁻¹, _∙_}
-use mathlib.Core.Bool.{Bool, true, false, true≢false, cond, not}
+use mathlib.Core.Bool.{Bool, true, false, true≢false, cond}
 use mathlib.Core.List.{List, [], _∷_, foldr, map}
 use mathlib.Core.Logic.{_≢_, _⊎_, inl, inr, ⊎-elim}
 use native.Mathlib.Omega.{arith}
-use borrow.Author.Tests.{eq-eqb, ne-eqb}
+use borrow.Author.Tests.{eq-eqb, ne-eqb, not-false}
 use lib.Dec.{eqb}
 use lib.ListN.{length, getD, set, length-set, take, length-map, List·getD-map, List·getD-eq-default}
 use lib.Seq.{getD-set-same, getD-set-other, set-out, length-take-le}
-use Rattle.number.proofs.Cases.{by-test, by-lt, by-eq, cond-either}
+use Rattle.number.proofs.Cases.{by-test, by-lt, by-eq, cond-either, refuted}
 use Rattle.config.specs.declared.Config.{Config}
 use Rattle.config.specs.Meaning.{priorityOf, ceiling}
 use Rattle.config.specs.Accepted as Configuration
+use Rattle.config.proofs.Theorems.{priority-inj}
 use Rattle.scheduler.specs.Status.{done}
 use Rattle.scheduler.specs.Bits.{anySet, withBits}
 use Rattle.scheduler.specs.Body.{Phase, suspended, ready, started, waiting, triggered, isSuspended, isStarted, hasBegun, competes, Body, holds, current, become, activated, triggers, ended, finished, requested, gets, releases, loses, waits, resumed, receives, clears}
@@ -252,11 +253,6 @@ receives-steady w b s h = go (b .phase) (s h)
 
 -- of a configuration that the reader accepts
 module _ (c : Config) (ok : Configuration.Accepted c) where
-  pub own-inj : (a b : ℕ) → a < c .bodies → b < c .bodies → priorityOf c a ≡ priorityOf c b → a ≡ b
-  own-inj a b ha hb e =
-      by-lt a b (λ l. absurd (ok .priorities-differ a b l hb e))
-      (λ l. by-lt b a (λ k. absurd (ok .priorities-differ b a k ha (sym e))) (λ k. omega arith))
-
   pub weighs : (bs : List Body) (i : ℕ) → competes (at bs i .phase) ≡ true
       → weight byHolding (contender c bs i) ≡ 2 * current c i (at bs i) + markOf (holds (at bs i .held))
   weighs bs i a = ap (weight byHolding) (candidate-active c i (at bs i) (at bs i .phase) a)
@@ -291,7 +287,7 @@ module _ (c : Config) (ok : Configuration.Accepted c) where
         -- where it holds nothing and the other holds something, or nothing either
         free : at bs k .held ≡ [] → (rs : List ℕ) → at bs j .held ≡ rs → current c j (at bs j) < priorityOf c k
         free e [] f =
-            let ne : priorityOf c j ≢ priorityOf c k = λ z. d (own-inj j k j< k< z) in
+            let ne : priorityOf c j ≢ priorityOf c k = λ z. d (priority-inj c ok j k j< k< z) in
             omega (arith, below, current-free c k (at bs k) e, current-free c j (at bs j) f)
         free e (r ∷ rs) f =
             let x : markOf (holds (at bs j .held)) ≡ 1 = ap (λ (q : List ℕ). markOf (holds q)) f in
@@ -346,11 +342,7 @@ module _ (c : Config) (ok : Configuration.Accepted c) where
     -- a state whose runner has begun
     module _ (s : State) (a : Kept c In (s .bodies)) (underway : Underway c s) where
       has-begun : s .order ≡ [] → isNobody (runner c s) ≡ false → runner c s .began ≡ true
-      has-begun none some = go (runner c s .began) (rw some at (underway-untimed c s underway none))
-        where
-          go : (b : Bool) → not b ≡ false → b ≡ true
-          go true e = refl
-          go false e = absurd (true≢false e)
+      has-begun none some = not-false (runner c s .began) (rw some at (underway-untimed c s underway none))
 
       effect-kept : (e : Event) → AcceptedIn c s e → Kept c In (effectOf c s e .bodies)
       unfolding stepBy
@@ -481,13 +473,9 @@ module _ (c : Config) (ok : Configuration.Accepted c) where
             ap (λ (b : Body). holds (b .held)) (at-new i) ∙ none (eqb (getD (take (c .bodies) (c .autostart)) i 0) 1)
 
         -- a new body is none of those that are apart
-        false-of : (b : Bool) → (b ≡ true → ⊥) → b ≡ false
-        false-of true n = absurd (n refl)
-        false-of false n = refl
-
         outside : (x : Bool) → In (cond x (activated noBody) noBody) ≡ false
         outside true =
-            false-of (In (activated noBody)) (λ h. true≢false (sym (K .by-activation noBody refl h) ∙ K .new))
+            refuted (In (activated noBody)) (λ h. true≢false (sym (K .by-activation noBody refl h) ∙ K .new))
         outside false = K .new
 
         out : (i : ℕ) → In (at (unstarted c .bodies) i) ≡ false

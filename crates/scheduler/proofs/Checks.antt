@@ -5,7 +5,7 @@
 -- and the calls that name one; the accepted calls one by one.
 use Prim.Native.Nat.{ℕ, _+_, _≤_, _<_}
 use mathlib.Core.Path.{_≡_, refl, sym, ap, ap₂, _∙_}
-use mathlib.Core.Bool.{Bool, true, false, true≢false, cond, not, _&&_, and-true}
+use mathlib.Core.Bool.{Bool, true, false, true≢false, cond, not, _&&_, and-true, and-false}
 use mathlib.Core.List.{List, [], _∷_, _++_, map}
 use mathlib.Core.Logic.{_≢_, _↔_}
 use native.Mathlib.Omega.{arith}
@@ -162,11 +162,7 @@ module _ (c : Config) (s : State) where
 -- what the calls that name a time-triggered task give, where somebody may call
 module _ (c : Config) (s : State) (free : noCaller (runner c s) ≡ false) (t : ℕ) (timed : isTimed c t ≡ true) where
   no-osek : isOsekTask c t ≡ false
-  no-osek = ap (λ (b : Bool). isTask c t && not b) timed ∙ never (isTask c t)
-    where
-      never : (b : Bool) → b && false ≡ false
-      never true = refl
-      never false = refl
+  no-osek = ap (λ (b : Bool). isTask c t && not b) timed ∙ and-false (isTask c t)
 
   pub timed-activate : step c s (Activate t) .seen .status ≡ 3
   unfolding stepBy firstGiven

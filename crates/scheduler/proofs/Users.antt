@@ -3,7 +3,7 @@
 -- Only a Get adds to what a body holds, and it is accepted of a declared user alone.
 use Prim.Native.Nat.{ℕ, _≤_}
 use mathlib.Core.Path.{_≡_, refl, sym, ap, _∙_}
-use mathlib.Core.Bool.{Bool, true, false, true≢false, cond}
+use mathlib.Core.Bool.{Bool, true, false, cond}
 use mathlib.Core.List.{List, [], _∷_}
 use borrow.Author.Tests.{eq-eqb, ne-eqb}
 use lib.Dec.{eqb}
@@ -22,13 +22,9 @@ use Rattle.scheduler.specs.Scheduler.{begins, phaseBegun, dispatched, ne
 use Rattle.scheduler.specs.History.{AcceptedIn}
 use Rattle.scheduler.proofs.Checks.{get-passed}
 use Rattle.scheduler.proofs.Effects.{bodyOf-changing-same, bodyOf-changing-other, length-changing, refusalOf-keeps, entered, activatingDue-keeps}
-use Rattle.scheduler.proofs.Distinct.{among-rest}
+use Rattle.scheduler.proofs.Distinct.{none-among, among-rest}
 
 -- nothing is held of an empty list
-none-held : {C : Type 0} (r : ℕ) → among r [] ≡ true → C
-unfolding among
-none-held r h = absurd (true≢false (sym h))
-
 module _ (c : Config) where
   abbrev pub Declared : State → Type 0
   Declared s = (i r : ℕ) → among r (bodyOf s i .held) ≡ true → isUser c r i ≡ true
@@ -41,7 +37,7 @@ module _ (c : Config) where
       by-eq i k
       (λ same. by-lt i (length (s .bodies))
       (λ fits. rw same (fine r (rw (same, bodyOf-changing-same k f s (rw same at fits)) at h)))
-      (λ past. none-held r (rw (beyond past) at h)))
+      (λ past. none-among r (rw (beyond past) at h)))
       (λ other. d i r (rw (bodyOf-changing-other k f s i other) at h))
     where
       beyond : length (s .bodies) ≤ i → bodyOf (changing k f s) i ≡ noBody
@@ -127,7 +123,7 @@ module _ (c : Config) where
       (refusalOf-keeps c s Declared d (statusOf c s e) e (λ i _ _ _. declared-taking-none i loses (λ b r h. h) s d))))
 
   pub declared-fresh : Declared (fresh c)
-  declared-fresh = declared-dispatched (unstarted c) (λ i r h. none-held r (rw (nothing i) at h))
+  declared-fresh = declared-dispatched (unstarted c) (λ i r h. none-among r (rw (nothing i) at h))
     where
       none : (a : Bool) → cond a (activated noBody) noBody .held ≡ []
       none a = cond-held a (activated noBody) noBody [] refl refl
