@@ -58,8 +58,8 @@ module _ (c : Config) (s : Shaped c) where
       (λ t. fault-end (suc k) (trimmed c) d t ∙ sym (fault-end (suc k) c d t))
       (λ t. by-eq (fault d (asked c d)) none
       (λ f. fault-step k (trimmed c) d (asked c d) e t f
-      ∙ fault-trimmed k (put d (asked c d)) (extends-put (d .field) c d s t x)
-      (place-put c d (d .field) t x (in-range (d .field) d (asked c d) f) p)
+      ∙ fault-trimmed k (put d (asked c d)) (extends-put c d s (d .field) t x)
+      (place-put c d (d .field) t x (in-range d (asked c d) (d .field) f) p)
       ∙ sym (fault-step k c d (asked c d) refl t f))
       (λ f. fault-stop k (trimmed c) d (asked c d) e t f ∙ sym (fault-stop k c d (asked c d) refl t f)))
 
@@ -69,8 +69,8 @@ module _ (c : Config) (s : Shaped c) where
   asks-trimmed d (v ∷ vs) x p o a = (
     asked-trimmed (d .field) d p ∙ a .0,
     asks-trimmed (put d v) vs
-        (rw (a .0) at (extends-put (d .field) c d s (o .0) x))
-        (rw (a .0) at (place-put c d (d .field) (o .0) x (rw (a .0) (in-range (d .field) d v (o .1))) p))
+        (rw (a .0) at (extends-put c d s (d .field) (o .0) x))
+        (rw (a .0) at (place-put c d (d .field) (o .0) x (rw (a .0) (in-range d v (d .field) (o .1))) p))
         (o .2) (a .1),
   )
 

@@ -63,73 +63,74 @@ andThen-passed r s h =
 passed-andThen : {r s : ℕ} → r ≡ none → s ≡ none → andThen r s ≡ none
 passed-andThen {r} {s} p q = simp (eq-eqb r none p) q
 
-pub in-range : (f : Field) (d : Draft) (v : ℕ) → faultAt f d v ≡ none → InRange f d v
-unfolding faultAt
-in-range Version d v e = not-outside 1 newestVersion v badVersion (lit< tt) e
-in-range Bodies d v e = not-outside 1 maxBodies v badCount (lit< tt) e
-in-range Kind d v e = not-outside 0 lastKind v badField (lit< tt) e .1
-in-range Priority d v e =
-    let used = among v (take (d .index) (d .config .priority)) in
-    let h = andThen-passed (outside 1 maxPriority v badField) (unless (not used) usedPriority) e in
-    let r = not-outside 1 maxPriority v badField (lit< tt) (h .0) in
-    (r .0, r .1, failed used usedPriority (lit< tt) (h .1))
-in-range Autostart d v e = not-outside 0 (mostAutostart (getD (d .config .kind) (d .index) 0)) v badField (lit< tt) e .1
-in-range Resources d v e = not-outside 0 maxResources v badCount (lit< tt) e .1
-in-range Users d v e =
-    let timed = timedUser (d .config) v in
-    let b = andThen-passed (outside 1 (2 ^ d .config .bodies - 1) v badField) (unless (not timed) badField) e in
-    let h = not-outside 1 (2 ^ d .config .bodies - 1) v badField (lit< tt) (b .0) in
-    (h .0, omega (arith, h .1, pow-pos (d .config .bodies)), failed timed badField (lit< tt) (b .1))
-in-range Tables d v e = not-outside 0 maxTables v badCount (lit< tt) e .1
-in-range Period d v e = not-outside 1 65535 v badField (lit< tt) e
-in-range Entries d v e =
-    let few = leb (d .entry + v) maxEntries in
-    let h = andThen-passed (outside 1 16 v badCount) (unless few tooManyEntries) e in
-    let r = not-outside 1 16 v badCount (lit< tt) (h .0) in
-    (r .0, r .1, leb-true (d .entry + v) maxEntries (passed few tooManyEntries (lit< tt) (h .1)))
-in-range Offset d v e =
-    let period = getD (d .config .period) (d .index) 0 in
-    ltb-true v period (passed (ltb v period) badField (lit< tt) e)
-in-range Task d v e =
-    let first = unless (isTask (d .config) v) badField in
-    let second = unless (sorted d v) unsorted in
-    let third = unless (not (sharesOffset d v)) sharedOffset in
-    let fourth = unless (not (mixes d v || secondTable d v)) mixedTable in
-    let h = andThen-passed first (andThen second (andThen third fourth)) e in
-    let k = andThen-passed second (andThen third fourth) (h .1) in
-    let n = andThen-passed third fourth (k .1) in (
-      passed (isTask (d .config) v) badField (lit< tt) (h .0),
-      passed (sorted d v) unsorted (lit< tt) (k .0),
-      failed (sharesOffset d v) sharedOffset (lit< tt) (n .0),
-      failed (mixes d v || secondTable d v) mixedTable (lit< tt) (n .1),
-    )
-in-range End d v e = tt
+module _ (d : Draft) (v : ℕ) where
+  pub in-range : (f : Field) → faultAt f d v ≡ none → InRange f d v
+  unfolding faultAt
+  in-range Version e = not-outside 1 newestVersion v badVersion (lit< tt) e
+  in-range Bodies e = not-outside 1 maxBodies v badCount (lit< tt) e
+  in-range Kind e = not-outside 0 lastKind v badField (lit< tt) e .1
+  in-range Priority e =
+      let used = among v (take (d .index) (d .config .priority)) in
+      let h = andThen-passed (outside 1 maxPriority v badField) (unless (not used) usedPriority) e in
+      let r = not-outside 1 maxPriority v badField (lit< tt) (h .0) in
+      (r .0, r .1, failed used usedPriority (lit< tt) (h .1))
+  in-range Autostart e = not-outside 0 (mostAutostart (getD (d .config .kind) (d .index) 0)) v badField (lit< tt) e .1
+  in-range Resources e = not-outside 0 maxResources v badCount (lit< tt) e .1
+  in-range Users e =
+      let timed = timedUser (d .config) v in
+      let b = andThen-passed (outside 1 (2 ^ d .config .bodies - 1) v badField) (unless (not timed) badField) e in
+      let h = not-outside 1 (2 ^ d .config .bodies - 1) v badField (lit< tt) (b .0) in
+      (h .0, omega (arith, h .1, pow-pos (d .config .bodies)), failed timed badField (lit< tt) (b .1))
+  in-range Tables e = not-outside 0 maxTables v badCount (lit< tt) e .1
+  in-range Period e = not-outside 1 65535 v badField (lit< tt) e
+  in-range Entries e =
+      let few = leb (d .entry + v) maxEntries in
+      let h = andThen-passed (outside 1 16 v badCount) (unless few tooManyEntries) e in
+      let r = not-outside 1 16 v badCount (lit< tt) (h .0) in
+      (r .0, r .1, leb-true (d .entry + v) maxEntries (passed few tooManyEntries (lit< tt) (h .1)))
+  in-range Offset e =
+      let period = getD (d .config .period) (d .index) 0 in
+      ltb-true v period (passed (ltb v period) badField (lit< tt) e)
+  in-range Task e =
+      let first = unless (isTask (d .config) v) badField in
+      let second = unless (sorted d v) unsorted in
+      let third = unless (not (sharesOffset d v)) sharedOffset in
+      let fourth = unless (not (mixes d v || secondTable d v)) mixedTable in
+      let h = andThen-passed first (andThen second (andThen third fourth)) e in
+      let k = andThen-passed second (andThen third fourth) (h .1) in
+      let n = andThen-passed third fourth (k .1) in (
+        passed (isTask (d .config) v) badField (lit< tt) (h .0),
+        passed (sorted d v) unsorted (lit< tt) (k .0),
+        failed (sharesOffset d v) sharedOffset (lit< tt) (n .0),
+        failed (mixes d v || secondTable d v) mixedTable (lit< tt) (n .1),
+      )
+  in-range End e = tt
 
-pub no-fault : (f : Field) (d : Draft) (v : ℕ) → InRange f d v → faultAt f d v ≡ none
-unfolding faultAt
-no-fault Version d v h = inside 1 newestVersion v badVersion (h .0) (h .1)
-no-fault Bodies d v h = inside 1 maxBodies v badCount (h .0) (h .1)
-no-fault Kind d v h = inside 0 lastKind v badField (omega arith) h
-no-fault Priority d v h =
-    passed-andThen
-    (inside 1 maxPriority v badField (h .0) (h .1))
-    (ap (λ (t : Bool). unless (not t) usedPriority) (h .2))
-no-fault Autostart d v h = inside 0 (mostAutostart (getD (d .config .kind) (d .index) 0)) v badField (omega arith) h
-no-fault Resources d v h = inside 0 maxResources v badCount (omega arith) h
-no-fault Users d v h =
-    passed-andThen
-    (inside 1 (2 ^ d .config .bodies - 1) v badField (h .0) (omega (arith, h .1)))
-    (ap (λ (t : Bool). unless (not t) badField) (h .2))
-no-fault Tables d v h = inside 0 maxTables v badCount (omega arith) h
-no-fault Period d v h = inside 1 65535 v badField (h .0) (h .1)
-no-fault Entries d v h =
-    passed-andThen
-    (inside 1 16 v badCount (h .0) (h .1))
-    (ap (λ (t : Bool). unless t tooManyEntries) (le-leb (d .entry + v) maxEntries (h .2)))
-no-fault Offset d v h = rw (lt-ltb v (getD (d .config .period) (d .index) 0) h)
-no-fault Task d v h =
-    passed-andThen (ap (λ (t : Bool). unless t badField) (h .0))
-    (passed-andThen (ap (λ (t : Bool). unless t unsorted) (h .1))
-    (passed-andThen (ap (λ (t : Bool). unless (not t) sharedOffset) (h .2))
-    (ap (λ (t : Bool). unless (not t) mixedTable) (h .3))))
-no-fault End d v h = refl
+  pub no-fault : (f : Field) → InRange f d v → faultAt f d v ≡ none
+  unfolding faultAt
+  no-fault Version h = inside 1 newestVersion v badVersion (h .0) (h .1)
+  no-fault Bodies h = inside 1 maxBodies v badCount (h .0) (h .1)
+  no-fault Kind h = inside 0 lastKind v badField (omega arith) h
+  no-fault Priority h =
+      passed-andThen
+      (inside 1 maxPriority v badField (h .0) (h .1))
+      (ap (λ (t : Bool). unless (not t) usedPriority) (h .2))
+  no-fault Autostart h = inside 0 (mostAutostart (getD (d .config .kind) (d .index) 0)) v badField (omega arith) h
+  no-fault Resources h = inside 0 maxResources v badCount (omega arith) h
+  no-fault Users h =
+      passed-andThen
+      (inside 1 (2 ^ d .config .bodies - 1) v badField (h .0) (omega (arith, h .1)))
+      (ap (λ (t : Bool). unless (not t) badField) (h .2))
+  no-fault Tables h = inside 0 maxTables v badCount (omega arith) h
+  no-fault Period h = inside 1 65535 v badField (h .0) (h .1)
+  no-fault Entries h =
+      passed-andThen
+      (inside 1 16 v badCount (h .0) (h .1))
+      (ap (λ (t : Bool). unless t tooManyEntries) (le-leb (d .entry + v) maxEntries (h .2)))
+  no-fault Offset h = rw (lt-ltb v (getD (d .config .period) (d .index) 0) h)
+  no-fault Task h =
+      passed-andThen (ap (λ (t : Bool). unless t badField) (h .0))
+      (passed-andThen (ap (λ (t : Bool). unless t unsorted) (h .1))
+      (passed-andThen (ap (λ (t : Bool). unless (not t) sharedOffset) (h .2))
+      (ap (λ (t : Bool). unless (not t) mixedTable) (h .3))))
+  no-fault End h = refl

@@ -51,35 +51,36 @@ plain-tested t r low high = unless-tested t r low (inl high)
 outside-tested : (lo hi v r : ℕ) → badVersion ≤ r → r ≤ tooLong → Tested (outside lo hi v r)
 outside-tested lo hi v r low high = plain-tested (leb lo v && leb v hi) r low high
 
-fault-tested : (f : Field) (d : Draft) (v : ℕ) → Tested (faultAt f d v)
-unfolding faultAt
-fault-tested Version d v = outside-tested 1 newestVersion v badVersion (lit≤ tt) (lit≤ tt)
-fault-tested Bodies d v = outside-tested 1 maxBodies v badCount (lit≤ tt) (lit≤ tt)
-fault-tested Kind d v = outside-tested 0 lastKind v badField (lit≤ tt) (lit≤ tt)
-fault-tested Priority d v =
-    andThen-tested
-    (outside-tested 1 maxPriority v badField (lit≤ tt) (lit≤ tt))
-    (plain-tested (not (among v (take (d .index) (d .config .priority)))) usedPriority (lit≤ tt) (lit≤ tt))
-fault-tested Autostart d v =
-    outside-tested 0 (mostAutostart (getD (d .config .kind) (d .index) 0)) v badField (lit≤ tt) (lit≤ tt)
-fault-tested Resources d v = outside-tested 0 maxResources v badCount (lit≤ tt) (lit≤ tt)
-fault-tested Users d v =
-    andThen-tested
-    (outside-tested 1 (2 ^ d .config .bodies - 1) v badField (lit≤ tt) (lit≤ tt))
-    (plain-tested (not (timedUser (d .config) v)) badField (lit≤ tt) (lit≤ tt))
-fault-tested Tables d v = outside-tested 0 maxTables v badCount (lit≤ tt) (lit≤ tt)
-fault-tested Period d v = outside-tested 1 65535 v badField (lit≤ tt) (lit≤ tt)
-fault-tested Entries d v =
-    andThen-tested
-    (outside-tested 1 16 v badCount (lit≤ tt) (lit≤ tt))
-    (plain-tested (leb (d .entry + v) maxEntries) tooManyEntries (lit≤ tt) (lit≤ tt))
-fault-tested Offset d v = plain-tested (ltb v (getD (d .config .period) (d .index) 0)) badField (lit≤ tt) (lit≤ tt)
-fault-tested Task d v =
-    andThen-tested (plain-tested (isTask (d .config) v) badField (lit≤ tt) (lit≤ tt))
-    (andThen-tested (plain-tested (sorted d v) unsorted (lit≤ tt) (lit≤ tt))
-    (andThen-tested (unless-tested (not (sharesOffset d v)) sharedOffset (lit≤ tt) (inr (inl refl)))
-    (unless-tested (not (mixes d v || secondTable d v)) mixedTable (lit≤ tt) (inr (inr refl)))))
-fault-tested End d v = record { known = inl (lit≤ tt); late = λ n. absurd (n refl) }
+module _ (d : Draft) (v : ℕ) where
+  fault-tested : (f : Field) → Tested (faultAt f d v)
+  unfolding faultAt
+  fault-tested Version = outside-tested 1 newestVersion v badVersion (lit≤ tt) (lit≤ tt)
+  fault-tested Bodies = outside-tested 1 maxBodies v badCount (lit≤ tt) (lit≤ tt)
+  fault-tested Kind = outside-tested 0 lastKind v badField (lit≤ tt) (lit≤ tt)
+  fault-tested Priority =
+      andThen-tested
+      (outside-tested 1 maxPriority v badField (lit≤ tt) (lit≤ tt))
+      (plain-tested (not (among v (take (d .index) (d .config .priority)))) usedPriority (lit≤ tt) (lit≤ tt))
+  fault-tested Autostart =
+      outside-tested 0 (mostAutostart (getD (d .config .kind) (d .index) 0)) v badField (lit≤ tt) (lit≤ tt)
+  fault-tested Resources = outside-tested 0 maxResources v badCount (lit≤ tt) (lit≤ tt)
+  fault-tested Users =
+      andThen-tested
+      (outside-tested 1 (2 ^ d .config .bodies - 1) v badField (lit≤ tt) (lit≤ tt))
+      (plain-tested (not (timedUser (d .config) v)) badField (lit≤ tt) (lit≤ tt))
+  fault-tested Tables = outside-tested 0 maxTables v badCount (lit≤ tt) (lit≤ tt)
+  fault-tested Period = outside-tested 1 65535 v badField (lit≤ tt) (lit≤ tt)
+  fault-tested Entries =
+      andThen-tested
+      (outside-tested 1 16 v badCount (lit≤ tt) (lit≤ tt))
+      (plain-tested (leb (d .entry + v) maxEntries) tooManyEntries (lit≤ tt) (lit≤ tt))
+  fault-tested Offset = plain-tested (ltb v (getD (d .config .period) (d .index) 0)) badField (lit≤ tt) (lit≤ tt)
+  fault-tested Task =
+      andThen-tested (plain-tested (isTask (d .config) v) badField (lit≤ tt) (lit≤ tt))
+      (andThen-tested (plain-tested (sorted d v) unsorted (lit≤ tt) (lit≤ tt))
+      (andThen-tested (unless-tested (not (sharesOffset d v)) sharedOffset (lit≤ tt) (inr (inl refl)))
+      (unless-tested (not (mixes d v || secondTable d v)) mixedTable (lit≤ tt) (inr (inr refl)))))
+  fault-tested End = record { known = inl (lit≤ tt); late = λ n. absurd (n refl) }
 
 pub record Bounded (bs : List ℕ) (r : ConfigRead) : Type 0 where
   pub refusals : Known (r .refusal)
@@ -104,7 +105,7 @@ number-bounded bs at d h =
     let s = Number.reading bs at in
     by-eq (n .refusal) none
     (λ e. rw (eq-eqb (n .refusal) none e)
-    (refused-bounded bs (fault d (n .value)) at (fault-tested (d .field) d (n .value) .known) h))
+    (refused-bounded bs (fault d (n .value)) at (fault-tested d (n .value) (d .field) .known) h))
     (λ e. rw (ne-eqb (n .refusal) none e)
     (refused-bounded bs (n .refusal) (n .place) (inl (omega (arith, s .refusals))) (s .place-le h)))
 
@@ -137,7 +138,7 @@ number-cut bs at d h c =
     let n = readNumber bs at in
     by-eq (n .refusal) none
     (λ e. let f : fault d (n .value) ≡ cut = rw (eq-eqb (n .refusal) none e) at c in
-    absurd (omega (arith, fault-tested (d .field) d (n .value) .late (λ z. omega arith))))
+    absurd (omega (arith, fault-tested d (n .value) (d .field) .late (λ z. omega arith))))
     (λ e. let f : n .refusal ≡ cut = rw (ne-eqb (n .refusal) none e) at c in
     rw (ne-eqb (n .refusal) none e) (omega (arith, Number.reading bs at .at-end f)))
 

@@ -265,8 +265,8 @@ pub record WriterRows : Type 0 where
   pub past : answer 20 (withKind (withUsers (withTask value 2 200) 1 77) 3 9) ≡ (0, 20)
 
 pub writer-rows : WriterRows
-unfolding readNumber groups continued fifthGroup numberBytes groupBytes writing written readConfig readFrom faultAt putAt
-    askedAt ended among timedIn someTimed faultFrom bytesFrom
+unfolding readNumber groups continued fifthGroup numberBytes groupBytes writing written readConfig readFrom faultAt
+    putAt askedAt ended among timedIn someTimed faultFrom bytesFrom
 writer-rows =
     record {
       room = (refl, refl, refl);

@@ -298,7 +298,7 @@ follows-put : (f : Field) (c : Config) (d : Draft) → Shaped c → ended f ≡ 
     → Follows c f d → Follows c (onward c f d .field) (onward c f d)
 follows-put f c d s t h w =
     record {
-      extends = extends-put f c d s t (w .extends);
+      extends = extends-put c d s f t (w .extends);
       place = place-put c d f t (w .extends) h (w .place);
       so-far = so-far-put c d f t (w .extends) (w .place) (fits c s d f (w .extends) (w .place) h) (w .so-far);
     }
@@ -323,7 +323,7 @@ module _ (c : Config) (s : Shaped c) where
   follows-last d (v ∷ vs) w o a = follows-last (put d v) vs (rw (a .0) at on) (o .2) (a .1)
     where
       on : Follows c (onward c (d .field) d .field) (onward c (d .field) d)
-      on = follows-put (d .field) c d s (o .0) (rw (a .0) (in-range (d .field) d v (o .1))) w
+      on = follows-put (d .field) c d s (o .0) (rw (a .0) (in-range d v (d .field) (o .1))) w
 
   pub ends : (vs : List ℕ) → InOrder start vs → Asks c start vs → Ends c (last start vs .config)
   ends vs = follows-last start vs (record { extends = start-extends c; place = refl; so-far = tt })
@@ -339,8 +339,8 @@ module _ (c : Config) (s : Shaped c) where
     accepted-no-fault (suc k) d x p =
         by-test (ended (d .field))
         (λ t. fault-end (suc k) c d t)
-        (λ t. fault-step k c d (asked c d) refl t (no-fault (d .field) d (asked c d) (fine d x p))
-        ∙ accepted-no-fault k (put d (asked c d)) (extends-put (d .field) c d s t x)
+        (λ t. fault-step k c d (asked c d) refl t (no-fault d (asked c d) (d .field) (fine d x p))
+        ∙ accepted-no-fault k (put d (asked c d)) (extends-put c d s (d .field) t x)
         (place-put c d (d .field) t x (fine d x p) p))
 
     pub accepted-faultless : (k : ℕ) → faultFrom k c start ≡ none

@@ -65,8 +65,8 @@ accepted-ranges bs e =
     RoundTrip.faultless-accepted (readConfig bs .config) (RoundTrip.shaped bs) (RoundTrip.read-faultless bs e)
 
 -- "Each has its own priority"
-pub priority-inj : (c : Config) → Accepted c → (a b : ℕ) → a < c .bodies → b < c .bodies → priorityOf c a ≡ priorityOf c b
-    → a ≡ b
+pub priority-inj : (c : Config) → Accepted c → (a b : ℕ) → a < c .bodies → b < c .bodies
+    → priorityOf c a ≡ priorityOf c b → a ≡ b
 priority-inj c accepted a b ha hb e =
     by-lt a b
     (λ l. absurd (accepted .priorities-differ a b l hb e))
