@@ -25,7 +25,7 @@ use Rattle.plan.specs.declared.Plan.{Plan}
 use Rattle.plan.specs.Stored.{stored, listed}
 use Rattle.plan.specs.Marked.{marked}
 use Rattle.plan.specs.Rank.{noRank, keyOf, rankOf, bodyCount, callableRank, lineRank}
-use Rattle.plan.specs.Entry.{entryTable, tableCount, entryCount, firstEntry, compareOf, entryRank}
+use Rattle.plan.specs.Entry.{entryTable, tableCount, entryCount, tableFirst, compareOf, entryRank}
 use Rattle.plan.specs.Plan.{triggerOf, resourceCount, usersOf, planOf}
 use Rattle.plan.proofs.Stored.{length-stored, stored-at, listed-at, listed-past, getD-any}
 use Rattle.plan.proofs.Words.{marked-has, marked-some, marked-lt}
@@ -234,7 +234,7 @@ module _ (c : Config) (accepted : Accepted c) (shaped : Shaped c) where
   pub table-first : (t : ℕ) → t < c .tables → getD (planOf c .first) t 0 ≡ firstOf c t
   unfolding planOf
   table-first t h =
-      listed-at (firstEntry c) (tableCount c) maxTables 0 t 0 (omega (arith, accepted .few-tables))
+      listed-at (tableFirst c) (tableCount c) maxTables 0 t 0 (omega (arith, accepted .few-tables))
       (omega (arith, accepted .few-tables))
       ∙ min-eq-left (omega (arith, first-le t (omega arith), accepted .few-entries))
 

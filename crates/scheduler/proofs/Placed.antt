@@ -79,7 +79,8 @@ receives-plain w b h = go (b .phase) h
     go ready e = refl
     go started e = refl
     go (waiting v) e =
-        cond-either (λ (p : Phase). isTriggered p ≡ false) (anySet (withBits (b .bits) w) v) started (waiting v) refl refl
+        cond-either (λ (p : Phase). isTriggered p ≡ false) (anySet (withBits (b .bits) w) v) started (waiting v)
+        refl refl
     go (triggered x) e = e
 
 -- an ISR, an extended task and one of OSEK are not time-triggered

@@ -5,14 +5,14 @@ use native.Mathlib.Omega.{arith}
 use lib.ListN.{replicate}
 use Rattle.config.specs.Value.{maxEntries}
 use Rattle.plan.specs.Stored.{stored, listed}
-use Rattle.plan.specs.Entry.{compareIn}
+use Rattle.plan.specs.Entry.{entryCompareIn}
 use Rattle.plan.proofs.Stored.{stored-turn}
 use Rattle.plan.proofs.entries.compares.Statement.{statement}
 use Rattle.plan.proofs.entries.compares.Tie as tie
 
 abbrev Inv-loop : tie.InvT-loop
 Inv-loop entries period count t₀ e₀ t e =
-    (e ≤ count) × (t ≡ listed (compareIn entries period) e (replicate maxEntries 0))
+    (e ≤ count) × (t ≡ listed (entryCompareIn entries period) e (replicate maxEntries 0))
 
 abbrev μ-loop : tie.MeasureT-loop
 μ-loop entries period count t₀ e₀ t e = count - e
