@@ -2,8 +2,8 @@
 -- numbers written out: the reader's on both sides of each limit, the order of two faults, then the writer's. Each is
 -- computed from the definitions that the contracts cite.
 --
--- An input that ends after a number which is in order is refused with 1 at its end, so that (1, n) says: the n bytes
--- are in order.
+-- An input that ends after a number which is in order is refused with 1 at its end,
+-- so that (1, n) says: the n bytes are in order.
 use Prim.Native.Nat.{ℕ, zero, suc}
 use mathlib.Core.Path.{_≡_, refl}
 use mathlib.Core.List.{List, [], _∷_, _++_, map}

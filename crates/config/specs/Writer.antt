@@ -16,8 +16,8 @@ use Rattle.config.specs.declared.Config.{Config}
 use Rattle.config.specs.declared.Draft.{Draft}
 use Rattle.config.specs.Draft.{fault, put, asked, ended, start}
 
--- the most numbers that a configuration has: 2, 3 for each of 32 bodies, 1 and 16 for resources, 1, 2 for each of 8
--- tables and 2 for each of 64 entries
+-- the most numbers that a configuration has: 2, 3 for each of 32 bodies, 1 and 16 for resources,
+-- 1, 2 for each of 8 tables and 2 for each of 64 entries
 abbrev pub maxNumbers : ℕ
 maxNumbers = 260
 

@@ -4,12 +4,11 @@
 --                       the status that it gives
 --   effectFor c k s e   the column "effect": the state that e leaves where its status is 0
 --   refusalOf c s st e  the state that it leaves where its status is another, st
---   checksOf, statusOf, effectOf c s e   the same while whoever is chosen runs; "the first status that applies is
---                                        given"
+--   checksOf, statusOf, effectOf c s e
+--                       the same while whoever is chosen runs; "the first status that applies is given"
 --
 -- In order: the tests, the first column, each event's effect, the second, what a refused event leaves, and both columns
--- while the chosen one runs. `event-table` (proofs/Theorems.antt) is the first column with its
--- numbers written out.
+-- while the chosen one runs. `event-table` (proofs/Theorems.antt) is the first column with its numbers written out.
 use Prim.Native.Nat.{ℕ, _+_}
 use mathlib.Core.Bool.{Bool, true, false, cond, not, _&&_, _||_}
 use mathlib.Core.List.{List, [], _∷_}
@@ -156,8 +155,8 @@ effectFor c k s (Wait w) = wait (k .number) w s
 effectFor c k s (Set t w) = setEvent t w s
 effectFor c k s (Clear w) = clear (k .number) w s
 
--- "A status other than 0 changes nothing", but "From edition two a Line that meets a waiting request adds to that ISR's
--- loss count .. besides giving status 4"
+-- "A status other than 0 changes nothing", but
+-- "From edition two a Line that meets a waiting request adds to that ISR's loss count .. besides giving status 4"
 abbrev pub refusalOf : Config → State → ℕ → Event → State
 refusalOf c s st (Activate t) = s
 refusalOf c s st Finish = s

@@ -3,8 +3,8 @@
 --   chosen c bs       the body that runs, with its level, or `nobody`
 --   chosenBy q c bs   the same by another rule for ties
 --
--- The rule for ties is a question: of two with equal current priority the one of which it holds goes before the other,
--- of which it does not.
+-- The rule for ties is a question:
+-- of two with equal current priority the one of which it holds goes before the other, of which it does not.
 use Prim.Native.Nat.{ℕ, suc}
 use mathlib.Core.Bool.{Bool, true, false, cond, not, _&&_, _||_}
 use mathlib.Core.List.{List, [], _∷_}

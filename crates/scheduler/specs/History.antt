@@ -1,5 +1,5 @@
--- A table's d and n as demand 3 words them: "counted from the table's last accepted start until its next accepted
--- stop".
+-- A table's d and n as demand 3 words them:
+-- "counted from the table's last accepted start until its next accepted stop".
 --
 --   AcceptedIn c s e        the event e, met in the state s, is accepted; Ends e: it ends its caller
 --   NoStart c t s es      of the events es from the state s on, none is an accepted Start of the table t; NoStop: Stop

@@ -11,9 +11,7 @@ use Rattle.stack.proofs.Join.{pushed-join, popped-join}
 
 pub length-rowBytes : (r : Row) → length (rowBytes r) ≡ rowSize
 unfolding rowBytes
-length-rowBytes r =
-    omega
-    (arith, length-append (bytes 8 (r .near)) (bytes 8 (r .far)), length-bytes 8 (r .near), length-bytes 8 (r .far))
+length-rowBytes r = rw length-append (omega (arith, length-bytes 8 (r .near), length-bytes 8 (r .far)))
 
 pub row-first : (r : Row) → topRow r ≡ getD (rowBytes r) 0 noByte
 unfolding rowBytes topRow bytes

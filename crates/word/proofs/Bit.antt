@@ -41,8 +41,8 @@ pub add-lt : (k w r : ℕ) → r < k → w < 2 ^ k → bit w r ≡ 0 → w + 2 ^
 add-lt zero w r l h c = absurd (omega arith)
 add-lt (suc k) w zero l h c = omega (arith, pow-suc 2 k, bit-zero w)
 add-lt (suc k) w (suc r) l h c =
-    omega
-    (arith, pow-suc 2 k, pow-suc 2 r, add-lt k (w / 2) r (omega arith) (omega (arith, pow-suc 2 k)) (rw bit-suc at c))
+    let half = add-lt k (w / 2) r (omega arith) (omega (arith, pow-suc 2 k)) (rw bit-suc at c) in
+    omega (arith, pow-suc 2 k, pow-suc 2 r, half)
 
 -- the highest bit of a number is set
 pub top-set : (w r : ℕ) → 2 ^ r ≤ w → w < 2 ^ suc r → bit w r ≡ 1
