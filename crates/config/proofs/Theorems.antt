@@ -4,11 +4,11 @@
 -- In order: what every reading satisfies, and every accepted value; its entries, tables and bodies of kind 3; a
 -- resource's ceiling and its users; both round trips; which values the writer accepts; counts that are too great; what
 -- stands past the counts; that the fuel of the definitions is enough.
-use Prim.Native.Nat.{ℕ, zero, suc, _+_, _-_, _≤_, _<_}
+use Prim.Native.Nat.{ℕ, zero, suc, _+_, _≤_, _<_}
 use mathlib.Core.Path.{_≡_, refl, sym, _∙_}
 use mathlib.Core.Bool.{true, false}
 use mathlib.Core.List.{List}
-use mathlib.Core.Logic.{_↔_, _⊎_, inl, inr, ⊎-elim}
+use mathlib.Core.Logic.{_↔_, _⊎_, inl, inr}
 use native.Mathlib.Omega.{arith}
 use lib.ListN.{length, getD}
 use borrow.Author.Tests.{le-ltb}
@@ -88,18 +88,7 @@ entries-in-order c a t e p q r =
 pub smallest-least : (c : Config) → Accepted c → (t e : ℕ) → t < c .tables → firstOf c t ≤ e → e < firstOf c (suc t)
     → smallestOffset c t ≤ getD (c .offset) e 0
 smallest-least c a t e t< low high =
-    let q : firstOf c t + (e - firstOf c t) ≡ e = omega arith in rw q at (go (e - firstOf c t) (omega arith))
-  where
-    go : (k : ℕ) → firstOf c t + k < firstOf c (suc t) → smallestOffset c t ≤ getD (c .offset) (firstOf c t + k) 0
-    go zero h = let q : firstOf c t + 0 ≡ firstOf c t = omega arith in rw q (omega arith)
-    go (suc k) h =
-        let q : firstOf c t + suc k ≡ firstOf c t + k + 1 = omega arith in
-        let before = go k (omega arith) in
-        rw q
-        (⊎-elim
-        (λ (less : getD (c .offset) (firstOf c t + k) 0 < getD (c .offset) (firstOf c t + k + 1) 0). omega arith)
-        (λ same. omega (arith, same .0))
-        (entries-in-order c a t (firstOf c t + k) t< (omega arith) (omega arith)))
+    Timed.no-fall c t (λ n. a .entries-rise t n t<) (firstOf c t) e (omega arith) low high
 
 pub entry-of-task : (c : Config) → Accepted c → (e : ℕ) → e < firstOf c (c .tables)
     → (getD (c .task) e 0 < c .bodies)
