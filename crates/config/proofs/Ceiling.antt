@@ -3,15 +3,15 @@
 -- In order: the elements of a list that a mask chooses, bit by bit; a resource's users.
 use Prim.Native.Nat.{ℕ, zero, suc, _/_, _%_, _^_, _≤_, _<_}
 use mathlib.Core.Path.{_≡_, refl, sym, _∙_}
-use mathlib.Core.Bool.{Bool, true, false, true≢false, _&&_}
+use mathlib.Core.Bool.{true}
 use mathlib.Core.List.{List, [], _∷_}
 use native.Mathlib.Nat.{pow-suc}
 use native.Mathlib.Omega.{arith}
 use borrow.Author.Tests.{lt-ltb, eq-eqb, ne-eqb, eqb-true}
-use lib.Dec.{ltb, eqb}
+use lib.Dec.{ltb}
 use lib.ListN.{length, getD, take}
 use lib.Seq.{getD-take, length-take-le}
-use Rattle.number.proofs.Cases.{by-lt, by-eq}
+use Rattle.number.proofs.Cases.{by-lt, by-eq, and-true}
 use Rattle.config.specs.declared.Config.{Config}
 use Rattle.config.specs.Meaning.{isUser, priorityOf, greatestIn, ceiling}
 use Rattle.config.specs.Accepted.{Shaped, Accepted}
@@ -39,8 +39,11 @@ unfolding greatestIn
 chosen-reached m [] some few = absurd (omega arith)
 chosen-reached m (p ∷ ps) some few =
     by-eq (m % 2) 1
-    (λ odd. by-eq (m / 2) 0 (λ alone. first odd (rw (alone, none-chosen ps) (omega arith))) (λ more. either odd (chosen-reached (m / 2) ps (omega arith) half)))
-    (λ even. let x = chosen-reached (m / 2) ps (omega (arith, even)) half in later x (rw (ne-eqb (m % 2) 1 even) (omega (arith, x .3))))
+    (λ odd. by-eq (m / 2) 0
+    (λ alone. first odd (rw (alone, none-chosen ps) (omega arith)))
+    (λ more. either odd (chosen-reached (m / 2) ps (omega arith) half)))
+    (λ even. let x = chosen-reached (m / 2) ps (omega (arith, even)) half in
+    later x (rw (ne-eqb (m % 2) 1 even) (omega (arith, x .3))))
   where
     half : m / 2 < 2 ^ length ps
     half = omega (arith, pow-suc 2 (length ps))
@@ -67,14 +70,24 @@ module _ (c : Config) (accepted : Accepted c) (shaped : Shaped c) (r : ℕ) wher
   pub user-le : (b : ℕ) → b < c .bodies → isUser c r b ≡ true → priorityOf c b ≤ ceiling c r
   user-le b h u =
       rw (← own b h)
-      (chosen-le (getD (c .users) r 0) (take (c .bodies) (c .priority)) b (rw long h) (both (ltb r (c .resources)) (getD (c .users) r 0 / 2 ^ b % 2) u))
+      (chosen-le (getD (c .users) r 0) (take (c .bodies) (c .priority)) b (rw long h) bit)
     where
-      both : (x : Bool) (n : ℕ) → x && eqb n 1 ≡ true → n ≡ 1
-      both true n e = eqb-true n 1 e
-      both false n e = absurd (true≢false (sym e))
+      bit : getD (c .users) r 0 / 2 ^ b % 2 ≡ 1
+      bit = eqb-true (getD (c .users) r 0 / 2 ^ b % 2) 1 (and-true (ltb r (c .resources)) _ u .1)
 
-  pub ceiling-reached : r < c .resources → (b : ℕ) × (b < c .bodies) × (isUser c r b ≡ true) × (priorityOf c b ≡ ceiling c r)
-  ceiling-reached h =
-      let x = chosen-reached (getD (c .users) r 0) (take (c .bodies) (c .priority)) (accepted .some-user r h) (rw long (accepted .users-exist r h)) in
-      let l : x .0 < c .bodies = omega (arith, x .1, long) in
-      (x .0, l, rw (lt-ltb r (c .resources) h) (eq-eqb (getD (c .users) r 0 / 2 ^ x .0 % 2) 1 (x .2)), sym (own (x .0) l) ∙ x .3)
+  pub ceiling-reached : r < c .resources
+      → (b : ℕ) × (b < c .bodies) × (isUser c r b ≡ true) × (priorityOf c b ≡ ceiling c r)
+  ceiling-reached h = (
+    x .0,
+    body,
+    rw (lt-ltb r (c .resources) h) (eq-eqb (getD (c .users) r 0 / 2 ^ x .0 % 2) 1 (x .2)),
+    sym (own (x .0) body) ∙ x .3,
+  )
+    where
+      x : Reached (getD (c .users) r 0) (take (c .bodies) (c .priority))
+      x =
+          chosen-reached (getD (c .users) r 0) (take (c .bodies) (c .priority)) (accepted .some-user r h)
+          (rw long (accepted .users-exist r h))
+
+      body : x .0 < c .bodies
+      body = omega (arith, x .1, long)

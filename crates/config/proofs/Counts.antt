@@ -1,5 +1,5 @@
--- A count that is too great is the writer's first fault: of the bodies, whatever else the value has, and of the resources where the numbers before it
--- are in order.
+-- A count that is too great is the writer's first fault: of the bodies, whatever else the value has, and of the
+-- resources where the numbers before it are in order.
 use Prim.Native.Nat.{ℕ, zero, suc, _+_, _≤_, _<_}
 use mathlib.Core.Path.{_≡_, refl, sym, _∙_}
 use mathlib.Core.Bool.{false}
@@ -20,7 +20,8 @@ use Rattle.config.proofs.Position.{left, moved, some-left, start-within
 use Rattle.config.proofs.Walk.{fault-step, fault-stop}
 
 -- the count of bodies is the second number
-second-number : (k : ℕ) (c : Config) → c .version ≡ 1 → maxBodies < c .bodies → faultFrom (suc (suc k)) c start ≡ badCount
+second-number : (k : ℕ) (c : Config) → c .version ≡ 1 → maxBodies < c .bodies
+    → faultFrom (suc (suc k)) c start ≡ badCount
 unfolding faultFrom faultAt putAt askedAt ended
 second-number k c v h = rw (v, le-leb 1 (c .bodies) (omega arith), lt-leb (c .bodies) maxBodies h) refl
 
@@ -74,7 +75,8 @@ module _ (c : Config) (many : maxResources < c .resources) where
   unfolding faultFrom faultAt askedAt ended
   at-resources k d e = rw (e, le-leb 0 (c .resources) (omega arith), lt-leb (c .resources) maxResources many) refl
 
-  reached : (k : ℕ) (d : Draft) → Within d → left d ≤ k → UpToResources (d .field) → faultFrom k without d ≡ none → faultFrom k c d ≡ badCount
+  reached : (k : ℕ) (d : Draft) → Within d → left d ≤ k → UpToResources (d .field) → faultFrom k without d ≡ none
+      → faultFrom k c d ≡ badCount
   reached zero d w l u e = absurd (omega (arith, some-left d (not-ended u) w))
   reached (suc k) d w l (inr r) e = at-resources k d r
   reached (suc k) d w l (inl u) e =

@@ -4,7 +4,8 @@
 --   cut n c          c as far as the numbers n say, and zeros
 --   Extends c f d    the draft d, at the field f, is c cut off there
 --
--- A number of c put keeps it so (`extends-put`), and whatever is put later leaves the part before it alone (`asks-last`).
+-- A number of c put keeps it so (`extends-put`),
+-- and whatever is put later leaves the part before it alone (`asks-last`).
 use Prim.Native.Nat.{ℕ, zero, suc, _+_, _≤_}
 use mathlib.Core.Path.{_≡_, refl, sym, ap, _∙_}
 use mathlib.Core.Bool.{false, true≢false}
@@ -41,7 +42,20 @@ pub record Counts : Type 0 where
 
 abbrev counts : ℕ → ℕ → ℕ → ℕ → ℕ → ℕ → ℕ → ℕ → ℕ → ℕ → ℕ → ℕ → Counts
 counts v b k p a r u t n m o w =
-    record { versions = v; bodies = b; kinds = k; priorities = p; autostarts = a; resources = r; users = u; tables = t; periods = n; entries = m; offsets = o; tasks = w }
+    record {
+      versions = v;
+      bodies = b;
+      kinds = k;
+      priorities = p;
+      autostarts = a;
+      resources = r;
+      users = u;
+      tables = t;
+      periods = n;
+      entries = m;
+      offsets = o;
+      tasks = w;
+    }
 
 abbrev pub filled : Field → Config → ℕ → ℕ → Counts
 filled Version c i e = counts 0 0 0 0 0 0 0 0 0 0 e e
@@ -96,29 +110,22 @@ cut n c =
       task = padded maxEntries (n .tasks) (c .task);
     }
 
+-- the same for the number that a draft is at, without it and with it
+abbrev before : Field → Config → Draft → Counts
+before f c d = filled f c (d .index) (d .entry)
+
+abbrev past : Field → Config → Draft → Counts
+past f c d = after f c (d .index) (d .entry)
+
 abbrev pub Extends : Config → Field → Draft → Type 0
-Extends c f d = d .config ≡ cut (filled f c (d .index) (d .entry)) c
+Extends c f d = d .config ≡ cut (before f c d) c
 
 pub start-extends : (c : Config) → Extends c Version start
 start-extends c = refl
 
--- a number of c put in its place
-put-cut : (f : Field) (c : Config) (d : Draft) → Shaped c → Extends c f d
-    → putAt f d (askedAt f c d) .config ≡ cut (after f c (d .index) (d .entry)) c
-unfolding putAt askedAt
-put-cut Version c d s h = rw h
-put-cut Bodies c d s h = rw h
-put-cut Kind c d s h = rw (h, set-padded maxBodies (c .kind) (s .kinds) (d .index))
-put-cut Priority c d s h = rw (h, set-padded maxBodies (c .priority) (s .priorities) (d .index))
-put-cut Autostart c d s h = rw (h, set-padded maxBodies (c .autostart) (s .autostarts) (d .index))
-put-cut Resources c d s h = rw h
-put-cut Users c d s h = rw (h, set-padded maxResources (c .users) (s .masks) (d .index))
-put-cut Tables c d s h = rw h
-put-cut Period c d s h = rw (h, set-padded maxTables (c .period) (s .periods) (d .index))
-put-cut Entries c d s h = rw (h, set-padded maxTables (c .entries) (s .counts) (d .index))
-put-cut Offset c d s h = rw (h, set-padded maxEntries (c .offset) (s .offsets) (d .entry))
-put-cut Task c d s h = rw (h, set-padded maxEntries (c .task) (s .tasks) (d .entry))
-put-cut End c d s h = h
+-- the draft with its number of c put in its place
+abbrev pub onward : Config → Field → Draft → Draft
+onward c f d = putAt f d (askedAt f c d)
 
 -- what is filled after a number, what is filled before it is filled too
 record Below (n m : Counts) : Type 0 where
@@ -173,139 +180,101 @@ cut-cut n m c s b =
       padded-padded maxEntries (c .task) (s .tasks) (n .tasks) (m .tasks) (b .tasks),
     )
 
--- the last row of a kind leaves as much filled as the field that follows wants
-next-filled : (f : Field) (c : Config) (d : Draft) (v : ℕ) → ended f ≡ false
-    → cut (after f c (d .index) (d .entry)) (putAt f d v .config) ≡ cut (after f c (d .index) (d .entry)) c
-    → filled (putAt f d v .field) c (putAt f d v .index) (putAt f d v .entry) ≡ after f c (d .index) (d .entry)
-unfolding putAt ended
-next-filled Version c d v t h = refl
-next-filled Bodies c d v t h = refl
-next-filled Kind c d v t h = refl
-next-filled Priority c d v t h = refl
-next-filled Autostart c d v t h =
-    by-eq (d .index + 1) (d .config .bodies)
-    (λ p. rw (eq-eqb (d .index + 1) (d .config .bodies) p, ← ap (λ (y : Config). y .bodies) h, ← p))
-    (λ p. rw (ne-eqb (d .index + 1) (d .config .bodies) p))
-next-filled Resources c d v t h =
-    by-eq 0 v
-    (λ p. rw (eq-eqb 0 v p, ← ap (λ (y : Config). y .resources) h, ← p))
-    (λ p. rw (ne-eqb 0 v p))
-next-filled Users c d v t h =
-    by-eq (d .index + 1) (d .config .resources)
-    (λ p. rw (eq-eqb (d .index + 1) (d .config .resources) p, ← ap (λ (y : Config). y .resources) h, ← p))
-    (λ p. rw (ne-eqb (d .index + 1) (d .config .resources) p))
-next-filled Tables c d v t h =
-    by-eq 0 v
-    (λ p. rw (eq-eqb 0 v p, ← ap (λ (y : Config). y .tables) h, ← p))
-    (λ p. rw (ne-eqb 0 v p))
-next-filled Period c d v t h = refl
-next-filled Entries c d v t h = refl
-next-filled Offset c d v t h = refl
-next-filled Task c d v t h =
-    by-eq (d .entry + 1) (d .until)
-    (λ p. rw (eq-eqb (d .entry + 1) (d .until) p)
-    (by-eq (d .index + 1) (d .config .tables)
-    (λ q. rw (eq-eqb (d .index + 1) (d .config .tables) q, ← ap (λ (y : Config). y .tables) h, ← q))
-    (λ q. rw (ne-eqb (d .index + 1) (d .config .tables) q))))
-    (λ p. rw (ne-eqb (d .entry + 1) (d .until) p))
-next-filled End c d v t h = absurd (true≢false t)
+module _ (c : Config) (d : Draft) (v : ℕ) where
+  -- the last row of a kind leaves as much filled as the field that follows wants
+  next-filled : (f : Field) → ended f ≡ false
+      → cut (past f c d) (putAt f d v .config) ≡ cut (past f c d) c
+      → filled (putAt f d v .field) c (putAt f d v .index) (putAt f d v .entry) ≡ past f c d
+  unfolding putAt ended
+  next-filled Version t h = refl
+  next-filled Bodies t h = refl
+  next-filled Kind t h = refl
+  next-filled Priority t h = refl
+  next-filled Autostart t h =
+      by-eq (d .index + 1) (d .config .bodies)
+      (λ p. rw (eq-eqb (d .index + 1) (d .config .bodies) p, ← ap (λ (y : Config). y .bodies) h, ← p))
+      (λ p. rw (ne-eqb (d .index + 1) (d .config .bodies) p))
+  next-filled Resources t h =
+      by-eq 0 v
+      (λ p. rw (eq-eqb 0 v p, ← ap (λ (y : Config). y .resources) h, ← p))
+      (λ p. rw (ne-eqb 0 v p))
+  next-filled Users t h =
+      by-eq (d .index + 1) (d .config .resources)
+      (λ p. rw (eq-eqb (d .index + 1) (d .config .resources) p, ← ap (λ (y : Config). y .resources) h, ← p))
+      (λ p. rw (ne-eqb (d .index + 1) (d .config .resources) p))
+  next-filled Tables t h =
+      by-eq 0 v
+      (λ p. rw (eq-eqb 0 v p, ← ap (λ (y : Config). y .tables) h, ← p))
+      (λ p. rw (ne-eqb 0 v p))
+  next-filled Period t h = refl
+  next-filled Entries t h = refl
+  next-filled Offset t h = refl
+  next-filled Task t h =
+      by-eq (d .entry + 1) (d .until)
+      (λ p. rw (eq-eqb (d .entry + 1) (d .until) p)
+      (by-eq (d .index + 1) (d .config .tables)
+      (λ q. rw (eq-eqb (d .index + 1) (d .config .tables) q, ← ap (λ (y : Config). y .tables) h, ← q))
+      (λ q. rw (ne-eqb (d .index + 1) (d .config .tables) q))))
+      (λ p. rw (ne-eqb (d .entry + 1) (d .until) p))
+  next-filled End t h = absurd (true≢false t)
 
-pub extends-put : (f : Field) (c : Config) (d : Draft) → Shaped c → ended f ≡ false → Extends c f d
-    → Extends c (putAt f d (askedAt f c d) .field) (putAt f d (askedAt f c d))
-extends-put f c d s t h =
-    let a = after f c (d .index) (d .entry) in
-    let e = put-cut f c d s h in
-    e ∙ ap (λ (n : Counts). cut n c) (sym (next-filled f c d (askedAt f c d) t (ap (cut a) e ∙ cut-cut a a c s (omega arith))))
+module _ (c : Config) (d : Draft) (s : Shaped c) where
+  put-cut : (f : Field) → Extends c f d → onward c f d .config ≡ cut (past f c d) c
+  unfolding putAt askedAt
+  put-cut Version h = rw h
+  put-cut Bodies h = rw h
+  put-cut Kind h = rw (h, set-padded maxBodies (c .kind) (s .kinds) (d .index))
+  put-cut Priority h = rw (h, set-padded maxBodies (c .priority) (s .priorities) (d .index))
+  put-cut Autostart h = rw (h, set-padded maxBodies (c .autostart) (s .autostarts) (d .index))
+  put-cut Resources h = rw h
+  put-cut Users h = rw (h, set-padded maxResources (c .users) (s .masks) (d .index))
+  put-cut Tables h = rw h
+  put-cut Period h = rw (h, set-padded maxTables (c .period) (s .periods) (d .index))
+  put-cut Entries h = rw (h, set-padded maxTables (c .entries) (s .counts) (d .index))
+  put-cut Offset h = rw (h, set-padded maxEntries (c .offset) (s .offsets) (d .entry))
+  put-cut Task h = rw (h, set-padded maxEntries (c .task) (s .tasks) (d .entry))
+  put-cut End h = h
 
--- a number put leaves what is filled before it alone
-put-kept : (f : Field) (d : Draft) (v : ℕ)
-    → cut (filled f (putAt f d v .config) (d .index) (d .entry)) (putAt f d v .config) ≡ cut (filled f (d .config) (d .index) (d .entry)) (d .config)
-unfolding putAt
-put-kept Version d v = refl
-put-kept Bodies d v = refl
-put-kept Kind d v = rw (padded-set maxBodies (d .config .kind) (d .index) v)
-put-kept Priority d v = rw (padded-set maxBodies (d .config .priority) (d .index) v)
-put-kept Autostart d v = rw (padded-set maxBodies (d .config .autostart) (d .index) v)
-put-kept Resources d v = refl
-put-kept Users d v = rw (padded-set maxResources (d .config .users) (d .index) v)
-put-kept Tables d v = refl
-put-kept Period d v = rw (padded-set maxTables (d .config .period) (d .index) v)
-put-kept Entries d v = rw (padded-set maxTables (d .config .entries) (d .index) v)
-put-kept Offset d v = rw (padded-set maxEntries (d .config .offset) (d .entry) v)
-put-kept Task d v = rw (padded-set maxEntries (d .config .task) (d .entry) v)
-put-kept End d v = refl
+  pub extends-put : (f : Field) → ended f ≡ false → Extends c f d → Extends c (onward c f d .field) (onward c f d)
+  extends-put f t h =
+      let a = past f c d in
+      let e = put-cut f h in
+      let n = next-filled c d (askedAt f c d) f t (ap (cut a) e ∙ cut-cut a a c s (omega arith)) in
+      e ∙ ap (λ (n : Counts). cut n c) (sym n)
 
-put-filled : (f : Field) (d : Draft) (v : ℕ) → filled f (d .config) (d .index) (d .entry) ≡ filled f (putAt f d v .config) (d .index) (d .entry)
-unfolding putAt
-put-filled Version d v = refl
-put-filled Bodies d v = refl
-put-filled Kind d v = refl
-put-filled Priority d v = refl
-put-filled Autostart d v = refl
-put-filled Resources d v = refl
-put-filled Users d v = refl
-put-filled Tables d v = refl
-put-filled Period d v = refl
-put-filled Entries d v = refl
-put-filled Offset d v = refl
-put-filled Task d v = refl
-put-filled End d v = refl
+  -- the number that d is at, of a value cut after it
+  asked-cut : (f : Field) (x : Config) → askedAt f (cut (past f x d) c) d ≡ askedAt f c d
+  unfolding askedAt
+  asked-cut Version x = refl
+  asked-cut Bodies x = refl
+  asked-cut Kind x = getD-padded maxBodies (c .kind) (s .kinds) (d .index + 1) (d .index) (omega arith)
+  asked-cut Priority x = getD-padded maxBodies (c .priority) (s .priorities) (d .index + 1) (d .index) (omega arith)
+  asked-cut Autostart x =
+      getD-padded maxBodies (c .autostart) (s .autostarts) (d .index + 1) (d .index) (omega arith)
+  asked-cut Resources x = refl
+  asked-cut Users x = getD-padded maxResources (c .users) (s .masks) (d .index + 1) (d .index) (omega arith)
+  asked-cut Tables x = refl
+  asked-cut Period x = getD-padded maxTables (c .period) (s .periods) (d .index + 1) (d .index) (omega arith)
+  asked-cut Entries x = getD-padded maxTables (c .entries) (s .counts) (d .index + 1) (d .index) (omega arith)
+  asked-cut Offset x = getD-padded maxEntries (c .offset) (s .offsets) (d .entry + 1) (d .entry) (omega arith)
+  asked-cut Task x = getD-padded maxEntries (c .task) (s .tasks) (d .entry + 1) (d .entry) (omega arith)
+  asked-cut End x = refl
 
--- the number that d is at: of a value cut after it, and of the draft where it is put
-asked-cut : (f : Field) (c x : Config) (d : Draft) → Shaped c → askedAt f (cut (after f x (d .index) (d .entry)) c) d ≡ askedAt f c d
-unfolding askedAt
-asked-cut Version c x d s = refl
-asked-cut Bodies c x d s = refl
-asked-cut Kind c x d s = getD-padded maxBodies (c .kind) (s .kinds) (d .index + 1) (d .index) (omega arith)
-asked-cut Priority c x d s = getD-padded maxBodies (c .priority) (s .priorities) (d .index + 1) (d .index) (omega arith)
-asked-cut Autostart c x d s = getD-padded maxBodies (c .autostart) (s .autostarts) (d .index + 1) (d .index) (omega arith)
-asked-cut Resources c x d s = refl
-asked-cut Users c x d s = getD-padded maxResources (c .users) (s .masks) (d .index + 1) (d .index) (omega arith)
-asked-cut Tables c x d s = refl
-asked-cut Period c x d s = getD-padded maxTables (c .period) (s .periods) (d .index + 1) (d .index) (omega arith)
-asked-cut Entries c x d s = getD-padded maxTables (c .entries) (s .counts) (d .index + 1) (d .index) (omega arith)
-asked-cut Offset c x d s = getD-padded maxEntries (c .offset) (s .offsets) (d .entry + 1) (d .entry) (omega arith)
-asked-cut Task c x d s = getD-padded maxEntries (c .task) (s .tasks) (d .entry + 1) (d .entry) (omega arith)
-asked-cut End c x d s = refl
-
-asked-put : (f : Field) (d : Draft) (v : ℕ) → ended f ≡ false → Shaped (d .config) → Standing f d → askedAt f (putAt f d v .config) d ≡ v
-unfolding askedAt putAt ended Inside
-asked-put Version d v t s p = refl
-asked-put Bodies d v t s p = refl
-asked-put Kind d v t s p = getD-set-same (d .config .kind) (d .index) v 0 (omega arith)
-asked-put Priority d v t s p = getD-set-same (d .config .priority) (d .index) v 0 (omega arith)
-asked-put Autostart d v t s p = getD-set-same (d .config .autostart) (d .index) v 0 (omega arith)
-asked-put Resources d v t s p = refl
-asked-put Users d v t s p = getD-set-same (d .config .users) (d .index) v 0 (omega arith)
-asked-put Tables d v t s p = refl
-asked-put Period d v t s p = getD-set-same (d .config .period) (d .index) v 0 (omega arith)
-asked-put Entries d v t s p = getD-set-same (d .config .entries) (d .index) v 0 (omega arith)
-asked-put Offset d v t s p = getD-set-same (d .config .offset) (d .entry) v 0 (omega arith)
-asked-put Task d v t s p = getD-set-same (d .config .task) (d .entry) v 0 (omega arith)
-asked-put End d v t s p = absurd (true≢false t)
-
--- a number put keeps the arrays' lengths
+-- the lengths of the arrays
 abbrev Lengths : Type 0
 Lengths = ℕ × ℕ × ℕ × ℕ × ℕ × ℕ × ℕ × ℕ
 
 abbrev lengths : Config → Lengths
-lengths c = (length (c .kind), length (c .priority), length (c .autostart), length (c .users), length (c .period), length (c .entries), length (c .offset), length (c .task))
-
-lengths-put : (f : Field) (d : Draft) (v : ℕ) → lengths (putAt f d v .config) ≡ lengths (d .config)
-unfolding putAt
-lengths-put Version d v = refl
-lengths-put Bodies d v = refl
-lengths-put Kind d v = rw length-set
-lengths-put Priority d v = rw length-set
-lengths-put Autostart d v = rw length-set
-lengths-put Resources d v = refl
-lengths-put Users d v = rw length-set
-lengths-put Tables d v = refl
-lengths-put Period d v = rw length-set
-lengths-put Entries d v = rw length-set
-lengths-put Offset d v = rw length-set
-lengths-put Task d v = rw length-set
-lengths-put End d v = refl
+lengths c = (
+  length (c .kind),
+  length (c .priority),
+  length (c .autostart),
+  length (c .users),
+  length (c .period),
+  length (c .entries),
+  length (c .offset),
+  length (c .task),
+)
 
 same-lengths : (c x : Config) → lengths x ≡ lengths c → Shaped c → Shaped x
 same-lengths c x e s =
@@ -320,45 +289,116 @@ same-lengths c x e s =
       tasks = ap (λ (l : Lengths). l .7) e ∙ s .tasks;
     }
 
-shaped-put : (f : Field) (d : Draft) (v : ℕ) → Shaped (d .config) → Shaped (putAt f d v .config)
-shaped-put f d v = same-lengths (d .config) (putAt f d v .config) (lengths-put f d v)
+module _ (d : Draft) (v : ℕ) where
+  -- a number put leaves what is filled before it alone
+  put-kept : (f : Field)
+      → cut (before f (putAt f d v .config) d) (putAt f d v .config) ≡ cut (before f (d .config) d) (d .config)
+  unfolding putAt
+  put-kept Version = refl
+  put-kept Bodies = refl
+  put-kept Kind = rw (padded-set maxBodies (d .config .kind) (d .index) v)
+  put-kept Priority = rw (padded-set maxBodies (d .config .priority) (d .index) v)
+  put-kept Autostart = rw (padded-set maxBodies (d .config .autostart) (d .index) v)
+  put-kept Resources = refl
+  put-kept Users = rw (padded-set maxResources (d .config .users) (d .index) v)
+  put-kept Tables = refl
+  put-kept Period = rw (padded-set maxTables (d .config .period) (d .index) v)
+  put-kept Entries = rw (padded-set maxTables (d .config .entries) (d .index) v)
+  put-kept Offset = rw (padded-set maxEntries (d .config .offset) (d .entry) v)
+  put-kept Task = rw (padded-set maxEntries (d .config .task) (d .entry) v)
+  put-kept End = refl
+
+  put-filled : (f : Field) → before f (d .config) d ≡ before f (putAt f d v .config) d
+  unfolding putAt
+  put-filled Version = refl
+  put-filled Bodies = refl
+  put-filled Kind = refl
+  put-filled Priority = refl
+  put-filled Autostart = refl
+  put-filled Resources = refl
+  put-filled Users = refl
+  put-filled Tables = refl
+  put-filled Period = refl
+  put-filled Entries = refl
+  put-filled Offset = refl
+  put-filled Task = refl
+  put-filled End = refl
+
+  -- the number that d is at is the one put
+  asked-put : (f : Field) → ended f ≡ false → Shaped (d .config) → Standing f d
+      → askedAt f (putAt f d v .config) d ≡ v
+  unfolding askedAt putAt ended Inside
+  asked-put Version t s p = refl
+  asked-put Bodies t s p = refl
+  asked-put Kind t s p = getD-set-same (d .config .kind) (d .index) v 0 (omega arith)
+  asked-put Priority t s p = getD-set-same (d .config .priority) (d .index) v 0 (omega arith)
+  asked-put Autostart t s p = getD-set-same (d .config .autostart) (d .index) v 0 (omega arith)
+  asked-put Resources t s p = refl
+  asked-put Users t s p = getD-set-same (d .config .users) (d .index) v 0 (omega arith)
+  asked-put Tables t s p = refl
+  asked-put Period t s p = getD-set-same (d .config .period) (d .index) v 0 (omega arith)
+  asked-put Entries t s p = getD-set-same (d .config .entries) (d .index) v 0 (omega arith)
+  asked-put Offset t s p = getD-set-same (d .config .offset) (d .entry) v 0 (omega arith)
+  asked-put Task t s p = getD-set-same (d .config .task) (d .entry) v 0 (omega arith)
+  asked-put End t s p = absurd (true≢false t)
+
+  -- the arrays' lengths stay
+  lengths-put : (f : Field) → lengths (putAt f d v .config) ≡ lengths (d .config)
+  unfolding putAt
+  lengths-put Version = refl
+  lengths-put Bodies = refl
+  lengths-put Kind = rw length-set
+  lengths-put Priority = rw length-set
+  lengths-put Autostart = rw length-set
+  lengths-put Resources = refl
+  lengths-put Users = rw length-set
+  lengths-put Tables = refl
+  lengths-put Period = rw length-set
+  lengths-put Entries = rw length-set
+  lengths-put Offset = rw length-set
+  lengths-put Task = rw length-set
+  lengths-put End = refl
+
+  shaped-put : (f : Field) → Shaped (d .config) → Shaped (putAt f d v .config)
+  shaped-put f = same-lengths (d .config) (putAt f d v .config) (lengths-put f)
 
 pub shaped-last : (d : Draft) (vs : List ℕ) → Shaped (d .config) → Shaped (last d vs .config)
 shaped-last d [] s = s
-shaped-last d (v ∷ vs) s = shaped-last (put d v) vs (shaped-put (d .field) d v s)
+shaped-last d (v ∷ vs) s = shaped-last (put d v) vs (shaped-put d v (d .field) s)
 
 -- what is put later leaves what is filled alone: y is the draft's configuration as far as it is filled
 abbrev Keeps : Draft → Config → Type 0
-Keeps d y = cut (filled (d .field) (d .config) (d .index) (d .entry)) y ≡ cut (filled (d .field) (d .config) (d .index) (d .entry)) (d .config)
+Keeps d y = cut (before (d .field) (d .config) d) y ≡ cut (before (d .field) (d .config) d) (d .config)
 
-module _ (d : Draft) (v : ℕ) (y : Config) (t : ended (d .field) ≡ false) (sy : Shaped y) (s : Shaped (d .config)) (k : Keeps (put d v) y) where
-  same-after : cut (after (d .field) (put d v .config) (d .index) (d .entry)) y ≡ cut (after (d .field) (put d v .config) (d .index) (d .entry)) (put d v .config)
-  same-after = rw (next-filled (d .field) (put d v .config) d v t refl) at k
+module _ (d : Draft) (v : ℕ) (y : Config) (t : ended (d .field) ≡ false) (sy : Shaped y) (s : Shaped (d .config))
+    (k : Keeps (put d v) y) where
+  same-after : cut (past (d .field) (put d v .config) d) y ≡ cut (past (d .field) (put d v .config) d) (put d v .config)
+  same-after = rw (next-filled (put d v .config) d v (d .field) t refl) at k
 
   keeps-put : Keeps d y
   keeps-put =
-      let m = filled (d .field) (put d v .config) (d .index) (d .entry) in
-      let a = after (d .field) (put d v .config) (d .index) (d .entry) in
+      let m = before (d .field) (put d v .config) d in
+      let a = past (d .field) (put d v .config) d in
       let g = grows (d .field) (put d v .config) (d .index) (d .entry) in
-      ap (λ (n : Counts). cut n y) (put-filled (d .field) d v)
+      ap (λ (n : Counts). cut n y) (put-filled d v (d .field))
       ∙ sym (cut-cut m a y sy g)
       ∙ ap (cut m) same-after
-      ∙ cut-cut m a (put d v .config) (shaped-put (d .field) d v s) g
-      ∙ put-kept (d .field) d v
+      ∙ cut-cut m a (put d v .config) (shaped-put d v (d .field) s) g
+      ∙ put-kept d v (d .field)
 
   asked-later : Within d → asked y d ≡ v
   asked-later w =
-      sym (asked-cut (d .field) y (put d v .config) d sy)
+      sym (asked-cut y d sy (d .field) (put d v .config))
       ∙ ap (λ (c : Config). asked c d) same-after
-      ∙ asked-cut (d .field) (put d v .config) (put d v .config) d (shaped-put (d .field) d v s)
-      ∙ asked-put (d .field) d v t s (standing d w)
+      ∙ asked-cut (put d v .config) d (shaped-put d v (d .field) s) (d .field) (put d v .config)
+      ∙ asked-put d v (d .field) t s (standing d w)
 
 -- so the numbers that lead to a configuration are its own
 last-kept : (d : Draft) (vs : List ℕ) → Within d → Shaped (d .config) → InOrder d vs
     → Keeps d (last d vs .config) × Asks (last d vs .config) d vs
 last-kept d [] w s o = (refl, tt)
 last-kept d (v ∷ vs) w s o =
-    let s′ = shaped-put (d .field) d v s in
+    let s′ = shaped-put d v (d .field) s in
     let y = last (put d v) vs .config in
     let sy = shaped-last (put d v) vs s′ in
     let rest = last-kept (put d v) vs (moved d v (o .0) (o .1) w .within) s′ (o .2) in

@@ -19,10 +19,12 @@ use Rattle.config.proofs.Position.{left, moved, some-left, start-within
 use Rattle.config.proofs.Walk.{number-fine, read-end, read-zero, read-step, read-stop, fault-end, fault-step, fault-stop, walk-bytes}
 use Rattle.config.proofs.RoundTrip.{walk, enough, walk-written}
 
-read-cut : (k : ℕ) (bs : List ℕ) (at : ℕ) (d : Draft) → ended (d .field) ≡ false → length bs ≤ at → readFrom (suc k) bs at d ≡ refused cut at
+read-cut : (k : ℕ) (bs : List ℕ) (at : ℕ) (d : Draft) → ended (d .field) ≡ false → length bs ≤ at
+    → readFrom (suc k) bs at d ≡ refused cut at
 read-cut k bs at d t h = read-stop k bs at d (Number.refused cut at) (read-past bs at h) t (λ e. omega arith)
 
-read-fuel : (k j : ℕ) (bs : List ℕ) (at : ℕ) (d : Draft) → length bs ≤ at + k → length bs ≤ at + j → readFrom k bs at d ≡ readFrom j bs at d
+read-fuel : (k j : ℕ) (bs : List ℕ) (at : ℕ) (d : Draft) → length bs ≤ at + k → length bs ≤ at + j
+    → readFrom k bs at d ≡ readFrom j bs at d
 read-fuel zero zero bs at d p q = refl
 read-fuel zero (suc j) bs at d p q =
     by-test (ended (d .field))

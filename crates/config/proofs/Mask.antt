@@ -11,11 +11,10 @@ use lib.Dec.{ltb, eqb}
 use lib.ListN.{getD, take, length-take, List·getD-eq-default}
 use lib.Seq.{getD-take}
 use lib.Pow.{shr-shr}
-use Rattle.number.proofs.Cases.{by-lt, by-eq, and-true}
+use Rattle.number.proofs.Cases.{by-lt, by-eq, and-true, neither}
 use Rattle.config.specs.declared.Config.{Config}
 use Rattle.config.specs.Meaning.{timeTriggered, isTimed, isUser}
 use Rattle.config.specs.Draft.{timedIn, timedUser}
-use Rattle.config.proofs.Padded.{or-false}
 
 -- the bit b of a mask is set
 abbrev pub Set : ℕ → ℕ → Type 0
@@ -31,9 +30,12 @@ next-bit m b = rw (← one-add b, ← shr-shr m 1 b)
 timedIn-none : (m : ℕ) (ks : List ℕ) → timedIn m ks ≡ false → (b : ℕ) → getD ks b 0 ≡ timeTriggered → Set m b → ⊥
 unfolding timedIn
 timedIn-none m [] e b t s = absurd (omega arith)
-timedIn-none m (k ∷ ks) e zero t s = true≢false (rw (eq-eqb (m % 2) 1 (sym (first-bit m) ∙ s), eq-eqb k timeTriggered t) at e)
-timedIn-none m (k ∷ ks) e (suc b) t s =
-    timedIn-none (m / 2) ks (or-false (eqb (m % 2) 1 && eqb k timeTriggered) (timedIn (m / 2) ks) e .1) b t (sym (next-bit m b) ∙ s)
+timedIn-none m (k ∷ ks) e zero t s =
+    true≢false (rw (eq-eqb (m % 2) 1 (sym (first-bit m) ∙ s), eq-eqb k timeTriggered t) at e)
+timedIn-none m (k ∷ ks) e (suc b) t s = timedIn-none (m / 2) ks (rest .1) b t (sym (next-bit m b) ∙ s)
+  where
+    rest : (eqb (m % 2) 1 && eqb k timeTriggered ≡ false) × (timedIn (m / 2) ks ≡ false)
+    rest = neither (eqb (m % 2) 1 && eqb k timeTriggered) (timedIn (m / 2) ks) e
 
 none-timedIn : (m : ℕ) (ks : List ℕ) → ((b : ℕ) → getD ks b 0 ≡ timeTriggered → Set m b → ⊥) → timedIn m ks ≡ false
 unfolding timedIn
@@ -57,10 +59,12 @@ true-isTimed c b h t = rw (lt-ltb b (c .bodies) h, eq-eqb (getD (c .kind) b 0) t
 module _ (c : Config) (r : ℕ) (h : r < c .resources) where
   pub timedUser-none : timedUser c (getD (c .users) r 0) ≡ false → (b : ℕ) → isTimed c b ≡ true → isUser c r b ≡ false
   timedUser-none e b t =
-      let q = isTimed-true c b t in
       rw (lt-ltb r (c .resources) h)
       (ne-eqb (getD (c .users) r 0 / 2 ^ b % 2) 1
-      (timedIn-none (getD (c .users) r 0) (take (c .bodies) (c .kind)) e b (getD-take (c .bodies) (c .kind) b 0 (q .0) ∙ q .1)))
+      (timedIn-none (getD (c .users) r 0) (take (c .bodies) (c .kind)) e b timed))
+    where
+      timed : getD (take (c .bodies) (c .kind)) b 0 ≡ timeTriggered
+      timed = let q = isTimed-true c b t in getD-take (c .bodies) (c .kind) b 0 (q .0) ∙ q .1
 
   pub none-timedUser : ((b : ℕ) → isTimed c b ≡ true → isUser c r b ≡ false) → timedUser c (getD (c .users) r 0) ≡ false
   none-timedUser f = none-timedIn (getD (c .users) r 0) (take (c .bodies) (c .kind)) no-bit
@@ -70,4 +74,5 @@ module _ (c : Config) (r : ℕ) (h : r < c .resources) where
           by-lt b (c .bodies)
           (λ q. let u = f b (true-isTimed c b q (sym (getD-take (c .bodies) (c .kind) b 0 q) ∙ t)) in
           true≢false (rw (lt-ltb r (c .resources) h, eq-eqb (getD (c .users) r 0 / 2 ^ b % 2) 1 s) at u))
-          (λ q. let z = List·getD-eq-default (take (c .bodies) (c .kind)) 0 {n = b} (rw length-take (omega arith)) in absurd (omega (arith, z, t)))
+          (λ q. let z = List·getD-eq-default (take (c .bodies) (c .kind)) 0 {n = b} (rw length-take (omega arith)) in
+          absurd (omega (arith, z, t)))

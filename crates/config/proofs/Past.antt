@@ -1,5 +1,5 @@
 -- The writer passes over what stands past the counts: it treats a value as it treats `trimmed` of it.
-use Prim.Native.Nat.{ℕ, zero, suc}
+use Prim.Native.Nat.{ℕ, zero, suc, _<_}
 use mathlib.Core.Path.{_≡_, refl, sym, ap, _∙_}
 use mathlib.Core.List.{List, [], _∷_}
 use native.Mathlib.Omega.{arith}
@@ -23,60 +23,66 @@ use Rattle.config.proofs.Tables.{firstOf-step, firstOf-rises}
 use Rattle.config.proofs.Rows.{Place, place-put}
 use Rattle.config.proofs.RoundTrip.{walk, walk-written, enough}
 
--- where the writer walks, c and `trimmed c` have the same number
-asked-trimmed : (f : Field) (c : Config) (d : Draft) → Shaped c → Place f c d → askedAt f (trimmed c) d ≡ askedAt f c d
-unfolding askedAt trimmed
-asked-trimmed Version c d s p = refl
-asked-trimmed Bodies c d s p = refl
-asked-trimmed Kind c d s p = getD-padded maxBodies (c .kind) (s .kinds) (c .bodies) (d .index) (p .1)
-asked-trimmed Priority c d s p = getD-padded maxBodies (c .priority) (s .priorities) (c .bodies) (d .index) (p .1)
-asked-trimmed Autostart c d s p = getD-padded maxBodies (c .autostart) (s .autostarts) (c .bodies) (d .index) (p .1)
-asked-trimmed Resources c d s p = refl
-asked-trimmed Users c d s p = getD-padded maxResources (c .users) (s .masks) (c .resources) (d .index) (p .1)
-asked-trimmed Tables c d s p = refl
-asked-trimmed Period c d s p = getD-padded maxTables (c .period) (s .periods) (c .tables) (d .index) (p .1)
-asked-trimmed Entries c d s p = getD-padded maxTables (c .entries) (s .counts) (c .tables) (d .index) (p .1)
-asked-trimmed Offset c d s p =
-    let r = firstOf-rises c (suc (d .index)) (c .tables) (p .1) in
-    getD-padded maxEntries (c .offset) (s .offsets) (firstOf c (c .tables)) (d .entry) (omega (arith, firstOf-step c (d .index)))
-asked-trimmed Task c d s p =
-    let r = firstOf-rises c (suc (d .index)) (c .tables) (p .1) in
-    getD-padded maxEntries (c .task) (s .tasks) (firstOf c (c .tables)) (d .entry) (omega (arith, firstOf-step c (d .index)))
-asked-trimmed End c d s p = refl
+module _ (c : Config) (s : Shaped c) where
+  -- an entry of a table is one of those that the counts reach
+  in-tables : (d : Draft) → Place Task c d → d .entry < firstOf c (c .tables)
+  in-tables d p =
+      omega (arith, firstOf-step c (d .index), firstOf-rises c (suc (d .index)) (c .tables) (p .1))
 
-fault-trimmed : (k : ℕ) (c : Config) (d : Draft) → Shaped c → Extends c (d .field) d → Place (d .field) c d → faultFrom k (trimmed c) d ≡ faultFrom k c d
-unfolding faultFrom
-fault-trimmed zero c d s x p = refl
-fault-trimmed (suc k) c d s x p =
-    let e = asked-trimmed (d .field) c d s p in
-    by-test (ended (d .field))
-    (λ t. fault-end (suc k) (trimmed c) d t ∙ sym (fault-end (suc k) c d t))
-    (λ t. by-eq (fault d (asked c d)) none
-    (λ f. fault-step k (trimmed c) d (asked c d) e t f
-    ∙ fault-trimmed k c (put d (asked c d)) s (extends-put (d .field) c d s t x) (place-put (d .field) c d t x (in-range (d .field) d (asked c d) f) p)
-    ∙ sym (fault-step k c d (asked c d) refl t f))
-    (λ f. fault-stop k (trimmed c) d (asked c d) e t f ∙ sym (fault-stop k c d (asked c d) refl t f)))
+  -- where the writer walks, c and `trimmed c` have the same number
+  asked-trimmed : (f : Field) (d : Draft) → Place f c d → askedAt f (trimmed c) d ≡ askedAt f c d
+  unfolding askedAt trimmed
+  asked-trimmed Version d p = refl
+  asked-trimmed Bodies d p = refl
+  asked-trimmed Kind d p = getD-padded maxBodies (c .kind) (s .kinds) (c .bodies) (d .index) (p .1)
+  asked-trimmed Priority d p = getD-padded maxBodies (c .priority) (s .priorities) (c .bodies) (d .index) (p .1)
+  asked-trimmed Autostart d p = getD-padded maxBodies (c .autostart) (s .autostarts) (c .bodies) (d .index) (p .1)
+  asked-trimmed Resources d p = refl
+  asked-trimmed Users d p = getD-padded maxResources (c .users) (s .masks) (c .resources) (d .index) (p .1)
+  asked-trimmed Tables d p = refl
+  asked-trimmed Period d p = getD-padded maxTables (c .period) (s .periods) (c .tables) (d .index) (p .1)
+  asked-trimmed Entries d p = getD-padded maxTables (c .entries) (s .counts) (c .tables) (d .index) (p .1)
+  asked-trimmed Offset d p =
+      getD-padded maxEntries (c .offset) (s .offsets) (firstOf c (c .tables)) (d .entry) (in-tables d p)
+  asked-trimmed Task d p =
+      getD-padded maxEntries (c .task) (s .tasks) (firstOf c (c .tables)) (d .entry) (in-tables d p)
+  asked-trimmed End d p = refl
 
-asks-trimmed : (c : Config) (d : Draft) (vs : List ℕ) → Shaped c → Extends c (d .field) d → Place (d .field) c d
-    → InOrder d vs → Asks c d vs → Asks (trimmed c) d vs
-asks-trimmed c d [] s x p o a = tt
-asks-trimmed c d (v ∷ vs) s x p o a = (
-  asked-trimmed (d .field) c d s p ∙ a .0,
-  asks-trimmed c (put d v) vs s
-      (rw (a .0) at (extends-put (d .field) c d s (o .0) x))
-      (rw (a .0) at (place-put (d .field) c d (o .0) x (rw (a .0) (in-range (d .field) d v (o .1))) p))
-      (o .2) (a .1),
-)
+  fault-trimmed : (k : ℕ) (d : Draft) → Extends c (d .field) d → Place (d .field) c d
+      → faultFrom k (trimmed c) d ≡ faultFrom k c d
+  unfolding faultFrom
+  fault-trimmed zero d x p = refl
+  fault-trimmed (suc k) d x p =
+      let e = asked-trimmed (d .field) d p in
+      by-test (ended (d .field))
+      (λ t. fault-end (suc k) (trimmed c) d t ∙ sym (fault-end (suc k) c d t))
+      (λ t. by-eq (fault d (asked c d)) none
+      (λ f. fault-step k (trimmed c) d (asked c d) e t f
+      ∙ fault-trimmed k (put d (asked c d)) (extends-put c d s (d .field) t x)
+      (place-put c d (d .field) t x (in-range d (asked c d) (d .field) f) p)
+      ∙ sym (fault-step k c d (asked c d) refl t f))
+      (λ f. fault-stop k (trimmed c) d (asked c d) e t f ∙ sym (fault-stop k c d (asked c d) refl t f)))
 
-firstFault-trimmed : (c : Config) → Shaped c → firstFault (trimmed c) ≡ firstFault c
-firstFault-trimmed c s = fault-trimmed maxNumbers c start s (start-extends c) refl
+  asks-trimmed : (d : Draft) (vs : List ℕ) → Extends c (d .field) d → Place (d .field) c d
+      → InOrder d vs → Asks c d vs → Asks (trimmed c) d vs
+  asks-trimmed d [] x p o a = tt
+  asks-trimmed d (v ∷ vs) x p o a = (
+    asked-trimmed (d .field) d p ∙ a .0,
+    asks-trimmed (put d v) vs
+        (rw (a .0) at (extends-put c d s (d .field) (o .0) x))
+        (rw (a .0) at (place-put c d (d .field) (o .0) x (rw (a .0) (in-range d v (d .field) (o .1))) p))
+        (o .2) (a .1),
+  )
 
-configBytes-trimmed : (c : Config) → Shaped c → firstFault c ≡ none → configBytes (trimmed c) ≡ configBytes c
-configBytes-trimmed c s fine =
-    let w = walk c fine in
-    let a = asks-trimmed c start (w .numbers) s (start-extends c) refl (w .in-order) (w .asks) in
-    walk-bytes (w .numbers) maxNumbers (trimmed c) start (enough c fine) (w .in-order) a
-    ∙ sym (walk-written c fine)
+  firstFault-trimmed : firstFault (trimmed c) ≡ firstFault c
+  firstFault-trimmed = fault-trimmed maxNumbers start (start-extends c) refl
+
+  configBytes-trimmed : firstFault c ≡ none → configBytes (trimmed c) ≡ configBytes c
+  configBytes-trimmed fine =
+      let w = walk c fine in
+      let a = asks-trimmed start (w .numbers) (start-extends c) refl (w .in-order) (w .asks) in
+      walk-bytes (w .numbers) maxNumbers (trimmed c) start (enough c fine) (w .in-order) a
+      ∙ sym (walk-written c fine)
 
 -- values that are the same as far as their counts reach
 module _ (b c : Config) (sb : Shaped b) (sc : Shaped c) (e : trimmed b ≡ trimmed c) where

@@ -1,24 +1,23 @@
--- Where a draft stands: inside its arrays, and at most `left` numbers before the end. A number in order keeps the first and lowers the second,
--- so that the 260 of `maxNumbers` are enough.
+-- Where a draft stands: inside its arrays, and at most `left` numbers before the end. A number in order keeps the first
+-- and lowers the second, so that the 260 of `maxNumbers` are enough.
 use Prim.Native.Nat.{ℕ, zero, suc, _+_, _*_, _-_, _≤_, _<_}
 use mathlib.Core.Path.{_≡_}
-use mathlib.Core.Bool.{Bool, true, false, cond, not, true≢false}
+use mathlib.Core.Bool.{false, true≢false}
 use mathlib.Core.List.{List, [], _∷_}
 use native.Mathlib.Omega.{arith}
-use lib.Dec.{ltb, eqb}
 use lib.ListN.{getD, set}
 use lib.Pow.{pow-mono}
-use borrow.Author.Tests.{eq-eqb, ne-eqb, ltb-true}
+use borrow.Author.Tests.{eq-eqb, ne-eqb}
 use Rattle.number.specs.Refusal.{none}
 use Rattle.number.specs.Number.{numberBound}
-use Rattle.number.proofs.Cases.{by-eq, and-true}
+use Rattle.number.proofs.Cases.{by-eq, cond-either}
 use Rattle.config.specs.declared.Draft.{Draft}
 use Rattle.config.specs.declared.Field.{Field}
 use Rattle.config.specs.declared.Field.the-variants.{Version, Bodies, Kind, Priority, Autostart, Resources, Users, Tables, Period, Entries, Offset, Task, End}
-use Rattle.config.specs.Meaning.{isr}
 use Rattle.config.specs.Value.{maxBodies, maxResources, maxTables, maxEntries}
 use Rattle.config.specs.Draft.{startable, mostAutostart, fault, put, putAt, ended, start, Inside, Within}
 use Rattle.config.proofs.Padded.{getD-zeros}
+use Rattle.config.proofs.Tables.{isTask-true}
 use Rattle.config.proofs.Ranges.{InRange, in-range}
 
 -- `Within` of a draft at the field f, for proofs by cases on the field
@@ -32,14 +31,28 @@ pub record Standing (f : Field) (d : Draft) : Type 0 where
 
 pub standing : (d : Draft) → Within d → Standing (d .field) d
 standing d w =
-    record { bodies-le = w .bodies-le; resources-le = w .resources-le; tables-le = w .tables-le; entry-le = w .entry-le; until-le = w .until-le; inside = w .inside }
+    record {
+      bodies-le = w .bodies-le;
+      resources-le = w .resources-le;
+      tables-le = w .tables-le;
+      entry-le = w .entry-le;
+      until-le = w .until-le;
+      inside = w .inside;
+    }
 
 within : (d : Draft) → Standing (d .field) d → Within d
 within d s =
-    record { bodies-le = s .bodies-le; resources-le = s .resources-le; tables-le = s .tables-le; entry-le = s .entry-le; until-le = s .until-le; inside = s .inside }
+    record {
+      bodies-le = s .bodies-le;
+      resources-le = s .resources-le;
+      tables-le = s .tables-le;
+      entry-le = s .entry-le;
+      until-le = s .until-le;
+      inside = s .inside;
+    }
 
 -- the most numbers that are still to come, this one included
-abbrev pub leftAt : Field → Draft → ℕ
+abbrev leftAt : Field → Draft → ℕ
 leftAt Version d = 132 + 2 * (64 - d .entry)
 leftAt Bodies d = 131 + 2 * (64 - d .entry)
 leftAt Kind d = 3 * (32 - d .index) + 34 + 2 * (64 - d .entry)
@@ -61,49 +74,10 @@ record MovedAt (f : Field) (d : Draft) (f′ : Field) (d′ : Draft) : Type 0 wh
   standing : Standing f′ d′
   fewer : leftAt f′ d′ < leftAt f d
 
-moved-at : (f : Field) (d : Draft) (v : ℕ) → ended f ≡ false → Standing f d → InRange f d v → MovedAt f d (putAt f d v .field) (putAt f d v)
-unfolding putAt ended Inside
-moved-at Version d v e s h = omega arith
-moved-at Bodies d v e s h = omega arith
-moved-at Kind d v e s h = omega arith
-moved-at Priority d v e s h = omega arith
-moved-at Autostart d v e s h =
-    by-eq (d .index + 1) (d .config .bodies)
-    (λ p. rw (eq-eqb (d .index + 1) (d .config .bodies) p) (omega arith))
-    (λ p. rw (ne-eqb (d .index + 1) (d .config .bodies) p) (omega arith))
-moved-at Resources d v e s h =
-    by-eq 0 v
-    (λ p. rw (eq-eqb 0 v p) (omega arith))
-    (λ p. rw (ne-eqb 0 v p) (omega arith))
-moved-at Users d v e s h =
-    by-eq (d .index + 1) (d .config .resources)
-    (λ p. rw (eq-eqb (d .index + 1) (d .config .resources) p) (omega arith))
-    (λ p. rw (ne-eqb (d .index + 1) (d .config .resources) p) (omega arith))
-moved-at Tables d v e s h =
-    by-eq 0 v
-    (λ p. rw (eq-eqb 0 v p) (omega arith))
-    (λ p. rw (ne-eqb 0 v p) (omega arith))
-moved-at Period d v e s h = omega arith
-moved-at Entries d v e s h = omega arith
-moved-at Offset d v e s h = omega arith
-moved-at Task d v e s h =
-    by-eq (d .entry + 1) (d .until)
-    (λ p. rw (eq-eqb (d .entry + 1) (d .until) p)
-    (by-eq (d .index + 1) (d .config .tables)
-    (λ q. rw (eq-eqb (d .index + 1) (d .config .tables) q) (omega arith))
-    (λ q. rw (ne-eqb (d .index + 1) (d .config .tables) q) (omega arith))))
-    (λ p. rw (ne-eqb (d .entry + 1) (d .until) p) (omega arith))
-moved-at End d v e s h = absurd (true≢false e)
-
 -- what a number in order makes of a draft within its arrays
 pub record Moved (d d′ : Draft) : Type 0 where
   pub within : Within d′
   pub fewer : left d′ < left d
-
-pub moved : (d : Draft) (v : ℕ) → ended (d .field) ≡ false → fault d v ≡ none → Within d → Moved d (put d v)
-moved d v t e w =
-    let m = moved-at (d .field) d v t (standing d w) (in-range (d .field) d v e) in
-    record { within = within (put d v) (m .standing); fewer = m .fewer }
 
 pub start-within : Within start
 unfolding Inside
@@ -120,54 +94,92 @@ getD-set-le (x ∷ xs) zero v k (suc t) h p = p
 getD-set-le (x ∷ xs) (suc i) v k zero h p = p
 getD-set-le (x ∷ xs) (suc i) v k (suc t) h p = getD-set-le xs i v k t h p
 
-paced-at : (f : Field) (d : Draft) (v : ℕ) → InRange f d v → Paced d → Paced (putAt f d v)
-unfolding putAt
-paced-at Version d v h p = p
-paced-at Bodies d v h p = p
-paced-at Kind d v h p = p
-paced-at Priority d v h p = p
-paced-at Autostart d v h p = p
-paced-at Resources d v h p = p
-paced-at Users d v h p = p
-paced-at Tables d v h p = p
-paced-at Period d v h p = λ t. getD-set-le (d .config .period) (d .index) v 65535 t (h .1) (p t)
-paced-at Entries d v h p = p
-paced-at Offset d v h p = p
-paced-at Task d v h p = p
-paced-at End d v h p = p
-
-pub paced : (d : Draft) (v : ℕ) → fault d v ≡ none → Paced d → Paced (put d v)
-paced d v e = paced-at (d .field) d v (in-range (d .field) d v e)
-
 pub start-paced : Paced start
 start-paced t = rw (getD-zeros maxTables t) (omega arith)
 
 most-le : (k : ℕ) → mostAutostart k ≤ 1
-most-le k = at-most (startable k)
-  where
-    at-most : (b : Bool) → cond b 1 0 ≤ 1
-    at-most true = omega arith
-    at-most false = omega arith
+most-le k = cond-either (λ n. n ≤ 1) (startable k) 1 0 (omega arith) (omega arith)
 
--- a number in order is a number of the format
-small-at : (f : Field) (d : Draft) (v : ℕ) → ended f ≡ false → Standing f d → Paced d → InRange f d v → v < numberBound
-unfolding ended
-small-at Version d v e s p h = omega arith
-small-at Bodies d v e s p h = omega arith
-small-at Kind d v e s p h = omega arith
-small-at Priority d v e s p h = omega arith
-small-at Autostart d v e s p h = omega (arith, most-le (getD (d .config .kind) (d .index) 0))
-small-at Resources d v e s p h = omega arith
-small-at Users d v e s p h = let q = pow-mono (s .bodies-le) in omega arith
-small-at Tables d v e s p h = omega arith
-small-at Period d v e s p h = omega arith
-small-at Entries d v e s p h = omega arith
-small-at Offset d v e s p h = omega (arith, p (d .index))
-small-at Task d v e s p h = omega (arith, ltb-true v (d .config .bodies) (and-true (ltb v (d .config .bodies)) (not (eqb (getD (d .config .kind) v 0) isr)) (h .0) .0))
-small-at End d v e s p h = absurd (true≢false e)
+-- a number in order, put
+module _ (d : Draft) (v : ℕ) where
+  moved-at : (f : Field) → ended f ≡ false → Standing f d → InRange f d v
+      → MovedAt f d (putAt f d v .field) (putAt f d v)
+  unfolding putAt ended Inside
+  moved-at Version e s h = omega arith
+  moved-at Bodies e s h = omega arith
+  moved-at Kind e s h = omega arith
+  moved-at Priority e s h = omega arith
+  moved-at Autostart e s h =
+      by-eq (d .index + 1) (d .config .bodies)
+      (λ p. rw (eq-eqb (d .index + 1) (d .config .bodies) p) (omega arith))
+      (λ p. rw (ne-eqb (d .index + 1) (d .config .bodies) p) (omega arith))
+  moved-at Resources e s h =
+      by-eq 0 v
+      (λ p. rw (eq-eqb 0 v p) (omega arith))
+      (λ p. rw (ne-eqb 0 v p) (omega arith))
+  moved-at Users e s h =
+      by-eq (d .index + 1) (d .config .resources)
+      (λ p. rw (eq-eqb (d .index + 1) (d .config .resources) p) (omega arith))
+      (λ p. rw (ne-eqb (d .index + 1) (d .config .resources) p) (omega arith))
+  moved-at Tables e s h =
+      by-eq 0 v
+      (λ p. rw (eq-eqb 0 v p) (omega arith))
+      (λ p. rw (ne-eqb 0 v p) (omega arith))
+  moved-at Period e s h = omega arith
+  moved-at Entries e s h = omega arith
+  moved-at Offset e s h = omega arith
+  moved-at Task e s h =
+      by-eq (d .entry + 1) (d .until)
+      (λ p. rw (eq-eqb (d .entry + 1) (d .until) p)
+      (by-eq (d .index + 1) (d .config .tables)
+      (λ q. rw (eq-eqb (d .index + 1) (d .config .tables) q) (omega arith))
+      (λ q. rw (ne-eqb (d .index + 1) (d .config .tables) q) (omega arith))))
+      (λ p. rw (ne-eqb (d .entry + 1) (d .until) p) (omega arith))
+  moved-at End e s h = absurd (true≢false e)
 
-pub small : (d : Draft) (v : ℕ) → ended (d .field) ≡ false → fault d v ≡ none → Within d → Paced d → v < numberBound
-small d v t e w p = small-at (d .field) d v t (standing d w) p (in-range (d .field) d v e)
+  pub moved : ended (d .field) ≡ false → fault d v ≡ none → Within d → Moved d (put d v)
+  moved t e w =
+      let m = moved-at (d .field) t (standing d w) (in-range d v (d .field) e) in
+      record { within = within (put d v) (m .standing); fewer = m .fewer }
+
+  paced-at : (f : Field) → InRange f d v → Paced d → Paced (putAt f d v)
+  unfolding putAt
+  paced-at Version h p = p
+  paced-at Bodies h p = p
+  paced-at Kind h p = p
+  paced-at Priority h p = p
+  paced-at Autostart h p = p
+  paced-at Resources h p = p
+  paced-at Users h p = p
+  paced-at Tables h p = p
+  paced-at Period h p = λ t. getD-set-le (d .config .period) (d .index) v 65535 t (h .1) (p t)
+  paced-at Entries h p = p
+  paced-at Offset h p = p
+  paced-at Task h p = p
+  paced-at End h p = p
+
+  pub paced : fault d v ≡ none → Paced d → Paced (put d v)
+  paced e = paced-at (d .field) (in-range d v (d .field) e)
+
+  -- a number in order is a number of the format
+  small-at : (f : Field) → ended f ≡ false → Standing f d → Paced d → InRange f d v → v < numberBound
+  unfolding ended
+  small-at Version e s p h = omega arith
+  small-at Bodies e s p h = omega arith
+  small-at Kind e s p h = omega arith
+  small-at Priority e s p h = omega arith
+  small-at Autostart e s p h = omega (arith, most-le (getD (d .config .kind) (d .index) 0))
+  small-at Resources e s p h = omega arith
+  small-at Users e s p h = let q = pow-mono (s .bodies-le) in omega arith
+  small-at Tables e s p h = omega arith
+  small-at Period e s p h = omega arith
+  small-at Entries e s p h = omega arith
+  small-at Offset e s p h = omega (arith, p (d .index))
+  small-at Task e s p h = omega (arith, isTask-true (d .config) v (h .0) .0)
+  small-at End e s p h = absurd (true≢false e)
+
+  pub small : ended (d .field) ≡ false → fault d v ≡ none → Within d → Paced d → v < numberBound
+  small t e w p = small-at (d .field) t (standing d w) p (in-range d v (d .field) e)
 
 -- before the end there is a number to come
 some-left-at : (f : Field) (d : Draft) → ended f ≡ false → Standing f d → 0 < leftAt f d

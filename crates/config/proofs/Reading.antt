@@ -1,5 +1,5 @@
--- What every reading satisfies, refused or not: its refusal and its place are in range, a refused one has the all-zero value, and one that is cut off
--- its place at the input's end.
+-- What every reading satisfies, refused or not: its refusal and its place are in range, a refused one has the all-zero
+-- value, and one that is cut off its place at the input's end.
 use Prim.Native.Nat.{ℕ, zero, suc, _+_, _-_, _^_, _≤_}
 use mathlib.Core.Path.{_≡_, refl}
 use mathlib.Core.Bool.{Bool, true, false, not, _&&_, _||_}
@@ -20,7 +20,8 @@ use Rattle.config.specs.declared.Field.the-variants.{Version, Bodies, Ki
 use Rattle.config.specs.Refusal.{badVersion, badCount, badField, usedPriority, unsorted, tooManyEntries, leftOver, tooLong, sharedOffset, mixedTable}
 use Rattle.config.specs.Meaning.{lastKind, isTask}
 use Rattle.config.specs.Value.{newestVersion, maxPriority, maxBodies, maxResources, maxTables, maxEntries, noConfig}
-use Rattle.config.specs.Draft.{occurs, unless, outside, andThen, sorted, sharesOffset, mixes, secondTable, mostAutostart, timedUser, fault, faultAt, put, ended, start}
+use Rattle.config.specs.Among.{among}
+use Rattle.config.specs.Draft.{unless, outside, andThen, sorted, sharesOffset, mixes, secondTable, mostAutostart, timedUser, fault, faultAt, put, ended, start}
 use Rattle.config.specs.Reader.{numberFault, faultPlace, finished, refused, readFrom, maxLength, readConfig}
 use Rattle.config.proofs.Walk.{number-fine, read-end, read-zero, read-step, read-stop, readFrom-elim}
 
@@ -29,55 +30,57 @@ abbrev pub Known : ℕ → Type 0
 Known r = (r ≤ tooLong) ⊎ ((r ≡ sharedOffset) ⊎ (r ≡ mixedTable))
 
 -- a test's answer: nothing, or a refusal from 3 on
-abbrev Tested : ℕ → Type 0
-Tested r = Known r × ((r ≡ none → ⊥) → badVersion ≤ r)
+record Tested (r : ℕ) : Type 0 where
+  known : Known r
+  late : (r ≡ none → ⊥) → badVersion ≤ r
 
 unless-tested : (t : Bool) (r : ℕ) → badVersion ≤ r → Known r → Tested (unless t r)
-unless-tested true r low high = (inl (lit≤ tt), λ n. absurd (n refl))
-unless-tested false r low high = (high, λ n. low)
+unless-tested true r low high = record { known = inl (lit≤ tt); late = λ n. absurd (n refl) }
+unless-tested false r low high = record { known = high; late = λ n. low }
 
-andThen-tested : (r s : ℕ) → Tested r → Tested s → Tested (andThen r s)
-andThen-tested r s p q =
+andThen-tested : {r s : ℕ} → Tested r → Tested s → Tested (andThen r s)
+andThen-tested {r} {s} p q =
     by-eq r none
     (λ e. rw (eq-eqb r none e) q)
     (λ e. rw (ne-eqb r none e) p)
 
-outside-tested : (lo hi v r : ℕ) → badVersion ≤ r → Known r → Tested (outside lo hi v r)
-outside-tested lo hi v r low high = unless-tested (leb lo v && leb v hi) r low high
+-- of a refusal from 3 to 10
+plain-tested : (t : Bool) (r : ℕ) → badVersion ≤ r → r ≤ tooLong → Tested (unless t r)
+plain-tested t r low high = unless-tested t r low (inl high)
 
-fault-tested : (f : Field) (d : Draft) (v : ℕ) → Tested (faultAt f d v)
-unfolding faultAt
-fault-tested Version d v = outside-tested 1 newestVersion v badVersion (lit≤ tt) (inl (lit≤ tt))
-fault-tested Bodies d v = outside-tested 1 maxBodies v badCount (lit≤ tt) (inl (lit≤ tt))
-fault-tested Kind d v = outside-tested 0 lastKind v badField (lit≤ tt) (inl (lit≤ tt))
-fault-tested Priority d v =
-    andThen-tested (outside 1 maxPriority v badField) (unless (not (occurs v (take (d .index) (d .config .priority)))) usedPriority)
-    (outside-tested 1 maxPriority v badField (lit≤ tt) (inl (lit≤ tt)))
-    (unless-tested (not (occurs v (take (d .index) (d .config .priority)))) usedPriority (lit≤ tt) (inl (lit≤ tt)))
-fault-tested Autostart d v = outside-tested 0 (mostAutostart (getD (d .config .kind) (d .index) 0)) v badField (lit≤ tt) (inl (lit≤ tt))
-fault-tested Resources d v = outside-tested 0 maxResources v badCount (lit≤ tt) (inl (lit≤ tt))
-fault-tested Users d v =
-    andThen-tested (outside 1 (2 ^ d .config .bodies - 1) v badField) (unless (not (timedUser (d .config) v)) badField)
-    (outside-tested 1 (2 ^ d .config .bodies - 1) v badField (lit≤ tt) (inl (lit≤ tt)))
-    (unless-tested (not (timedUser (d .config) v)) badField (lit≤ tt) (inl (lit≤ tt)))
-fault-tested Tables d v = outside-tested 0 maxTables v badCount (lit≤ tt) (inl (lit≤ tt))
-fault-tested Period d v = outside-tested 1 65535 v badField (lit≤ tt) (inl (lit≤ tt))
-fault-tested Entries d v =
-    andThen-tested (outside 1 16 v badCount) (unless (leb (d .entry + v) maxEntries) tooManyEntries)
-    (outside-tested 1 16 v badCount (lit≤ tt) (inl (lit≤ tt)))
-    (unless-tested (leb (d .entry + v) maxEntries) tooManyEntries (lit≤ tt) (inl (lit≤ tt)))
-fault-tested Offset d v = unless-tested (ltb v (getD (d .config .period) (d .index) 0)) badField (lit≤ tt) (inl (lit≤ tt))
-fault-tested Task d v =
-    let third = unless (not (sharesOffset d v)) sharedOffset in
-    let fourth = unless (not (mixes d v || secondTable d v)) mixedTable in
-    andThen-tested (unless (isTask (d .config) v) badField) (andThen (unless (sorted d v) unsorted) (andThen third fourth))
-    (unless-tested (isTask (d .config) v) badField (lit≤ tt) (inl (lit≤ tt)))
-    (andThen-tested (unless (sorted d v) unsorted) (andThen third fourth)
-    (unless-tested (sorted d v) unsorted (lit≤ tt) (inl (lit≤ tt)))
-    (andThen-tested third fourth
-    (unless-tested (not (sharesOffset d v)) sharedOffset (lit≤ tt) (inr (inl refl)))
-    (unless-tested (not (mixes d v || secondTable d v)) mixedTable (lit≤ tt) (inr (inr refl)))))
-fault-tested End d v = (inl (lit≤ tt), λ n. absurd (n refl))
+outside-tested : (lo hi v r : ℕ) → badVersion ≤ r → r ≤ tooLong → Tested (outside lo hi v r)
+outside-tested lo hi v r low high = plain-tested (leb lo v && leb v hi) r low high
+
+module _ (d : Draft) (v : ℕ) where
+  fault-tested : (f : Field) → Tested (faultAt f d v)
+  unfolding faultAt
+  fault-tested Version = outside-tested 1 newestVersion v badVersion (lit≤ tt) (lit≤ tt)
+  fault-tested Bodies = outside-tested 1 maxBodies v badCount (lit≤ tt) (lit≤ tt)
+  fault-tested Kind = outside-tested 0 lastKind v badField (lit≤ tt) (lit≤ tt)
+  fault-tested Priority =
+      andThen-tested
+      (outside-tested 1 maxPriority v badField (lit≤ tt) (lit≤ tt))
+      (plain-tested (not (among v (take (d .index) (d .config .priority)))) usedPriority (lit≤ tt) (lit≤ tt))
+  fault-tested Autostart =
+      outside-tested 0 (mostAutostart (getD (d .config .kind) (d .index) 0)) v badField (lit≤ tt) (lit≤ tt)
+  fault-tested Resources = outside-tested 0 maxResources v badCount (lit≤ tt) (lit≤ tt)
+  fault-tested Users =
+      andThen-tested
+      (outside-tested 1 (2 ^ d .config .bodies - 1) v badField (lit≤ tt) (lit≤ tt))
+      (plain-tested (not (timedUser (d .config) v)) badField (lit≤ tt) (lit≤ tt))
+  fault-tested Tables = outside-tested 0 maxTables v badCount (lit≤ tt) (lit≤ tt)
+  fault-tested Period = outside-tested 1 65535 v badField (lit≤ tt) (lit≤ tt)
+  fault-tested Entries =
+      andThen-tested
+      (outside-tested 1 16 v badCount (lit≤ tt) (lit≤ tt))
+      (plain-tested (leb (d .entry + v) maxEntries) tooManyEntries (lit≤ tt) (lit≤ tt))
+  fault-tested Offset = plain-tested (ltb v (getD (d .config .period) (d .index) 0)) badField (lit≤ tt) (lit≤ tt)
+  fault-tested Task =
+      andThen-tested (plain-tested (isTask (d .config) v) badField (lit≤ tt) (lit≤ tt))
+      (andThen-tested (plain-tested (sorted d v) unsorted (lit≤ tt) (lit≤ tt))
+      (andThen-tested (unless-tested (not (sharesOffset d v)) sharedOffset (lit≤ tt) (inr (inl refl)))
+      (unless-tested (not (mixes d v || secondTable d v)) mixedTable (lit≤ tt) (inr (inr refl)))))
+  fault-tested End = record { known = inl (lit≤ tt); late = λ n. absurd (n refl) }
 
 pub record Bounded (bs : List ℕ) (r : ConfigRead) : Type 0 where
   pub refusals : Known (r .refusal)
@@ -90,17 +93,21 @@ refused-bounded bs r p few h = record { refusals = few; inside = h; zero-value =
 finished-bounded : (bs : List ℕ) (at : ℕ) (d : Draft) → at ≤ length bs → Bounded bs (finished bs at d)
 finished-bounded bs at d h =
     by-eq at (length bs)
-    (λ e. rw (eq-eqb at (length bs) e) (record { refusals = inl (lit≤ tt); inside = h; zero-value = λ n. absurd (n refl) }))
+    (λ e. rw (eq-eqb at (length bs) e)
+    (record { refusals = inl (lit≤ tt); inside = h; zero-value = λ n. absurd (n refl) }))
     (λ e. rw (ne-eqb at (length bs) e) (refused-bounded bs leftOver at (inl (lit≤ tt)) h))
 
 -- the refusal of a number and its place
-number-bounded : (bs : List ℕ) (at : ℕ) (d : Draft) → at ≤ length bs → Bounded bs (refused (numberFault d (readNumber bs at)) (faultPlace at (readNumber bs at)))
+number-bounded : (bs : List ℕ) (at : ℕ) (d : Draft) → at ≤ length bs
+    → Bounded bs (refused (numberFault d (readNumber bs at)) (faultPlace at (readNumber bs at)))
 number-bounded bs at d h =
     let n = readNumber bs at in
     let s = Number.reading bs at in
     by-eq (n .refusal) none
-    (λ e. rw (eq-eqb (n .refusal) none e) (refused-bounded bs (fault d (n .value)) at (fault-tested (d .field) d (n .value) .0) h))
-    (λ e. rw (ne-eqb (n .refusal) none e) (refused-bounded bs (n .refusal) (n .place) (inl (omega (arith, s .refusals))) (s .place-le h)))
+    (λ e. rw (eq-eqb (n .refusal) none e)
+    (refused-bounded bs (fault d (n .value)) at (fault-tested d (n .value) (d .field) .known) h))
+    (λ e. rw (ne-eqb (n .refusal) none e)
+    (refused-bounded bs (n .refusal) (n .place) (inl (omega (arith, s .refusals))) (s .place-le h)))
 
 readFrom-bounded : (bs : List ℕ) (k at : ℕ) (d : Draft) → at ≤ length bs → Bounded bs (readFrom k bs at d)
 readFrom-bounded bs =
@@ -131,13 +138,13 @@ number-cut bs at d h c =
     let n = readNumber bs at in
     by-eq (n .refusal) none
     (λ e. let f : fault d (n .value) ≡ cut = rw (eq-eqb (n .refusal) none e) at c in
-    absurd (omega (arith, fault-tested (d .field) d (n .value) .1 (λ z. omega arith))))
+    absurd (omega (arith, fault-tested d (n .value) (d .field) .late (λ z. omega arith))))
     (λ e. let f : n .refusal ≡ cut = rw (ne-eqb (n .refusal) none e) at c in
     rw (ne-eqb (n .refusal) none e) (omega (arith, Number.reading bs at .at-end f)))
 
 -- with numbers enough for the bytes that are left, what is cut off is refused at the input's end
-readFrom-cut : (k : ℕ) (bs : List ℕ) (at : ℕ) (d : Draft) → at ≤ length bs → length bs ≤ at + k → readFrom k bs at d .refusal ≡ cut
-    → readFrom k bs at d .place ≡ length bs
+readFrom-cut : (k : ℕ) (bs : List ℕ) (at : ℕ) (d : Draft) → at ≤ length bs → length bs ≤ at + k
+    → readFrom k bs at d .refusal ≡ cut → readFrom k bs at d .place ≡ length bs
 readFrom-cut zero bs at d h m e =
     by-test (ended (d .field))
     (λ t. absurd (finished-not-cut bs at d (rw (read-end zero bs at d t) at e)))
@@ -149,7 +156,8 @@ readFrom-cut (suc k) bs at d h m e =
     (λ t. by-eq (numberFault d n) none
     (λ f. let r = Number.reading bs at in let a = number-fine d n f .0 in
     rw (read-step k bs at d n refl t f)
-    (readFrom-cut k bs (n .place) (put d (n .value)) (r .inside a) (omega (arith, r .after a)) (rw (read-step k bs at d n refl t f) at e)))
+    (readFrom-cut k bs (n .place) (put d (n .value)) (r .inside a) (omega (arith, r .after a))
+    (rw (read-step k bs at d n refl t f) at e)))
     (λ f. rw (read-stop k bs at d n refl t f) (number-cut bs at d h (rw (read-stop k bs at d n refl t f) at e))))
 
 pub cut-place : (bs : List ℕ) → readConfig bs .refusal ≡ cut → readConfig bs .place ≡ length bs
@@ -157,4 +165,5 @@ unfolding readConfig
 cut-place bs e =
     by-lt maxLength (length bs)
     (λ h. let z : _≡_ {A = ℕ} tooLong cut = rw (lt-leb (length bs) maxLength h) at e in absurd (omega arith))
-    (λ h. rw (le-leb (length bs) maxLength h) (readFrom-cut (length bs) bs 0 start (omega arith) (omega arith) (rw (le-leb (length bs) maxLength h) at e)))
+    (λ h. rw (le-leb (length bs) maxLength h)
+    (readFrom-cut (length bs) bs 0 start (omega arith) (omega arith) (rw (le-leb (length bs) maxLength h) at e)))

@@ -2,7 +2,8 @@
 -- numbers written out: the reader's on both sides of each limit, the order of two faults, then the writer's. Each is
 -- computed from the definitions that the contracts cite.
 --
--- An input that ends after a number which is in order is refused with 1 at its end, so that (1, n) says: the n bytes are in order.
+-- An input that ends after a number which is in order is refused with 1 at its end,
+-- so that (1, n) says: the n bytes are in order.
 use Prim.Native.Nat.{ℕ, zero, suc}
 use mathlib.Core.Path.{_≡_, refl}
 use mathlib.Core.List.{List, [], _∷_, _++_, map}
@@ -11,7 +12,8 @@ use Rattle.number.specs.Number.{readNumber, groups, continued, fifthGroup, numb
 use Rattle.number.specs.Output.{writing, written}
 use Rattle.config.specs.declared.Config.{Config}
 use Rattle.config.specs.Value.{withVersion, withBodies, withKind, withPriority, withAutostart, withUsers, withTables, withPeriod, withEntries, withOffset, withTask}
-use Rattle.config.specs.Draft.{faultAt, putAt, askedAt, ended, occurs, timedIn, someTimed}
+use Rattle.config.specs.Among.{among}
+use Rattle.config.specs.Draft.{faultAt, putAt, askedAt, ended, timedIn, someTimed}
 use Rattle.config.specs.Reader.{readFrom, readConfig}
 use Rattle.config.specs.Writer.{faultFrom, bytesFrom, writeConfig, wroteConfig}
 
@@ -46,7 +48,8 @@ twoEntries = timedBodies ++ 0x00 ∷ 0x01 ∷ 0x04 ∷ 0x02 ∷ []
 -- a table of 16 entries
 abbrev sixteen : List ℕ
 sixteen =
-    0x10 ∷ 0x10 ∷ 0 ∷ 0 ∷ 1 ∷ 0 ∷ 2 ∷ 0 ∷ 3 ∷ 0 ∷ 4 ∷ 0 ∷ 5 ∷ 0 ∷ 6 ∷ 0 ∷ 7 ∷ 0 ∷ 8 ∷ 0 ∷ 9 ∷ 0 ∷ 10 ∷ 0 ∷ 11 ∷ 0 ∷ 12 ∷ 0 ∷ 13 ∷ 0 ∷ 14 ∷ 0 ∷ 15 ∷ 0 ∷ []
+    0x10 ∷ 0x10 ∷ 0 ∷ 0 ∷ 1 ∷ 0 ∷ 2 ∷ 0 ∷ 3 ∷ 0 ∷ 4 ∷ 0 ∷ 5 ∷ 0 ∷ 6 ∷ 0 ∷ 7 ∷ 0 ∷ 8 ∷ 0 ∷ 9 ∷ 0 ∷ 10 ∷ 0 ∷ 11 ∷ 0 ∷ 12
+    ∷ 0 ∷ 13 ∷ 0 ∷ 14 ∷ 0 ∷ 15 ∷ 0 ∷ []
 
 abbrev sixtyFour : List ℕ
 sixtyFour = sixteen ++ (sixteen ++ (sixteen ++ sixteen))
@@ -56,57 +59,81 @@ pub record ReaderRows : Type 0 where
   pub lengths : answers [] ([] ∷ replicate 4096 0x00 ∷ replicate 4097 0x00 ∷ []) ≡ (1, 0) ∷ (3, 0) ∷ (10, 0) ∷ []
   -- readable before in range; cut at the end, malformed at the byte that decides it
   pub unreadable : answers [] ((0x80 ∷ []) ∷ (0x80 ∷ 0x00 ∷ 0x07 ∷ []) ∷ []) ≡ (1, 1) ∷ (2, 1) ∷ []
-  pub version : answers [] ((0x00 ∷ []) ∷ (0x01 ∷ []) ∷ (0x02 ∷ []) ∷ (0x03 ∷ []) ∷ []) ≡ (3, 0) ∷ (1, 1) ∷ (1, 1) ∷ (3, 0) ∷ []
-  pub body-count : answers (0x01 ∷ []) ((0x00 ∷ []) ∷ (0x01 ∷ []) ∷ (0x20 ∷ []) ∷ (0x21 ∷ []) ∷ []) ≡ (4, 1) ∷ (1, 2) ∷ (1, 2) ∷ (4, 1) ∷ []
+  pub version : answers [] ((0x00 ∷ []) ∷ (0x01 ∷ []) ∷ (0x02 ∷ []) ∷ (0x03 ∷ []) ∷ [])
+      ≡ (3, 0) ∷ (1, 1) ∷ (1, 1) ∷ (3, 0) ∷ []
+  pub body-count : answers (0x01 ∷ []) ((0x00 ∷ []) ∷ (0x01 ∷ []) ∷ (0x20 ∷ []) ∷ (0x21 ∷ []) ∷ [])
+      ≡ (4, 1) ∷ (1, 2) ∷ (1, 2) ∷ (4, 1) ∷ []
   pub kind : answers (0x01 ∷ 0x01 ∷ []) ((0x00 ∷ []) ∷ (0x01 ∷ []) ∷ (0x02 ∷ []) ∷ (0x03 ∷ []) ∷ (0x04 ∷ []) ∷ [])
       ≡ (1, 3) ∷ (1, 3) ∷ (1, 3) ∷ (1, 3) ∷ (5, 2) ∷ []
-  pub priority : answers (0x01 ∷ 0x01 ∷ 0x00 ∷ []) ((0x00 ∷ []) ∷ (0x01 ∷ []) ∷ (0xC8 ∷ 0x01 ∷ []) ∷ (0xC9 ∷ 0x01 ∷ []) ∷ [])
+  pub priority : answers (0x01 ∷ 0x01 ∷ 0x00 ∷ [])
+      ((0x00 ∷ []) ∷ (0x01 ∷ []) ∷ (0xC8 ∷ 0x01 ∷ []) ∷ (0xC9 ∷ 0x01 ∷ []) ∷ [])
       ≡ (5, 3) ∷ (1, 4) ∷ (1, 5) ∷ (5, 3) ∷ []
   -- 6 before the autostart is read
-  pub priority-used : answers (0x01 ∷ 0x02 ∷ 0x00 ∷ 0x05 ∷ 0x00 ∷ 0x00 ∷ []) ((0x04 ∷ []) ∷ (0x05 ∷ []) ∷ (0x05 ∷ 0x02 ∷ []) ∷ []) ≡ (1, 7) ∷ (6, 6) ∷ (6, 6) ∷ []
-  pub autostart-task : answers (0x01 ∷ 0x01 ∷ 0x00 ∷ 0x05 ∷ []) ((0x00 ∷ []) ∷ (0x01 ∷ []) ∷ (0x02 ∷ []) ∷ []) ≡ (1, 5) ∷ (1, 5) ∷ (5, 4) ∷ []
+  pub priority-used : answers (0x01 ∷ 0x02 ∷ 0x00 ∷ 0x05 ∷ 0x00 ∷ 0x00 ∷ [])
+      ((0x04 ∷ []) ∷ (0x05 ∷ []) ∷ (0x05 ∷ 0x02 ∷ []) ∷ [])
+      ≡ (1, 7) ∷ (6, 6) ∷ (6, 6) ∷ []
+  pub autostart-task : answers (0x01 ∷ 0x01 ∷ 0x00 ∷ 0x05 ∷ []) ((0x00 ∷ []) ∷ (0x01 ∷ []) ∷ (0x02 ∷ []) ∷ [])
+      ≡ (1, 5) ∷ (1, 5) ∷ (5, 4) ∷ []
   pub autostart-isr : answers (0x01 ∷ 0x01 ∷ 0x01 ∷ 0x05 ∷ []) ((0x00 ∷ []) ∷ (0x01 ∷ []) ∷ []) ≡ (1, 5) ∷ (5, 4) ∷ []
   -- an extended task may be autostart
-  pub autostart-extended : answers (0x01 ∷ 0x01 ∷ 0x02 ∷ 0x05 ∷ []) ((0x00 ∷ []) ∷ (0x01 ∷ []) ∷ (0x02 ∷ []) ∷ []) ≡ (1, 5) ∷ (1, 5) ∷ (5, 4) ∷ []
+  pub autostart-extended : answers (0x01 ∷ 0x01 ∷ 0x02 ∷ 0x05 ∷ []) ((0x00 ∷ []) ∷ (0x01 ∷ []) ∷ (0x02 ∷ []) ∷ [])
+      ≡ (1, 5) ∷ (1, 5) ∷ (5, 4) ∷ []
   pub resource-count : answers oneTask ((0x10 ∷ []) ∷ (0x11 ∷ []) ∷ []) ≡ (1, 6) ∷ (4, 5) ∷ []
   -- the masks of one body
-  pub users : answers (oneTask ++ 0x01 ∷ []) ((0x00 ∷ []) ∷ (0x01 ∷ []) ∷ (0x02 ∷ []) ∷ (0x03 ∷ []) ∷ []) ≡ (5, 6) ∷ (1, 7) ∷ (5, 6) ∷ (5, 6) ∷ []
+  pub users : answers (oneTask ++ 0x01 ∷ []) ((0x00 ∷ []) ∷ (0x01 ∷ []) ∷ (0x02 ∷ []) ∷ (0x03 ∷ []) ∷ [])
+      ≡ (5, 6) ∷ (1, 7) ∷ (5, 6) ∷ (5, 6) ∷ []
   -- the masks of 31 bodies and of 32: bits 30 and 31 of the first, all bits of the second
-  pub users-of-many : (answers (0x01 ∷ 31 ∷ (tasks 31 ++ 0x01 ∷ [])) ((0x80 ∷ 0x80 ∷ 0x80 ∷ 0x80 ∷ 0x04 ∷ []) ∷ (0x80 ∷ 0x80 ∷ 0x80 ∷ 0x80 ∷ 0x08 ∷ []) ∷ []) ≡ (1, 101) ∷ (5, 96) ∷ [])
+  pub users-of-many : (answers (0x01 ∷ 31 ∷ (tasks 31 ++ 0x01 ∷ []))
+      ((0x80 ∷ 0x80 ∷ 0x80 ∷ 0x80 ∷ 0x04 ∷ []) ∷ (0x80 ∷ 0x80 ∷ 0x80 ∷ 0x80 ∷ 0x08 ∷ []) ∷ [])
+      ≡ (1, 101) ∷ (5, 96) ∷ [])
       × (answers (0x01 ∷ 32 ∷ (tasks 32 ++ 0x01 ∷ [])) ((0xFF ∷ 0xFF ∷ 0xFF ∷ 0xFF ∷ 0x0F ∷ []) ∷ []) ≡ (1, 104) ∷ [])
   pub table-count : answers noResource ((0x08 ∷ []) ∷ (0x09 ∷ []) ∷ []) ≡ (1, 7) ∷ (4, 6) ∷ []
-  pub period : answers (noResource ++ 0x01 ∷ []) ((0x00 ∷ []) ∷ (0x01 ∷ []) ∷ (0xFF ∷ 0xFF ∷ 0x03 ∷ []) ∷ (0x80 ∷ 0x80 ∷ 0x04 ∷ []) ∷ [])
+  pub period : answers (noResource ++ 0x01 ∷ [])
+      ((0x00 ∷ []) ∷ (0x01 ∷ []) ∷ (0xFF ∷ 0xFF ∷ 0x03 ∷ []) ∷ (0x80 ∷ 0x80 ∷ 0x04 ∷ []) ∷ [])
       ≡ (5, 7) ∷ (1, 8) ∷ (1, 10) ∷ (5, 7) ∷ []
-  pub entry-count : answers (noResource ++ 0x01 ∷ 0x04 ∷ []) ((0x00 ∷ []) ∷ (0x01 ∷ []) ∷ (0x10 ∷ []) ∷ (0x11 ∷ []) ∷ []) ≡ (4, 8) ∷ (1, 9) ∷ (1, 9) ∷ (4, 8) ∷ []
+  pub entry-count : answers (noResource ++ 0x01 ∷ 0x04 ∷ [])
+      ((0x00 ∷ []) ∷ (0x01 ∷ []) ∷ (0x10 ∷ []) ∷ (0x11 ∷ []) ∷ [])
+      ≡ (4, 8) ∷ (1, 9) ∷ (1, 9) ∷ (4, 8) ∷ []
   -- 64 entries and one more; 4 before 8
-  pub entry-total : answers noResource ((0x04 ∷ sixtyFour) ∷ (0x05 ∷ (sixtyFour ++ 0x01 ∷ 0x01 ∷ [])) ∷ (0x05 ∷ (sixtyFour ++ 0x01 ∷ 0x11 ∷ [])) ∷ [])
+  pub entry-total : answers noResource
+      ((0x04 ∷ sixtyFour) ∷ (0x05 ∷ (sixtyFour ++ 0x01 ∷ 0x01 ∷ [])) ∷ (0x05 ∷ (sixtyFour ++ 0x01 ∷ 0x11 ∷ [])) ∷ [])
       ≡ (0, 143) ∷ (8, 144) ∷ (4, 144) ∷ []
   pub offset : answers (threeBodies ++ 0x01 ∷ []) ((0x03 ∷ []) ∷ (0x04 ∷ []) ∷ []) ≡ (1, 16) ∷ (5, 15) ∷ []
   -- a task, an ISR, no body
-  pub task : answers (threeBodies ++ 0x01 ∷ 0x03 ∷ []) ((0x02 ∷ []) ∷ (0x01 ∷ []) ∷ (0x03 ∷ []) ∷ []) ≡ (0, 17) ∷ (5, 16) ∷ (5, 16) ∷ []
+  pub task : answers (threeBodies ++ 0x01 ∷ 0x03 ∷ []) ((0x02 ∷ []) ∷ (0x01 ∷ []) ∷ (0x03 ∷ []) ∷ [])
+      ≡ (0, 17) ∷ (5, 16) ∷ (5, 16) ∷ []
   -- an extended one
-  pub task-extended : answers (0x01 ∷ 0x01 ∷ 0x02 ∷ 0x05 ∷ 0x00 ∷ 0x00 ∷ 0x01 ∷ 0x04 ∷ 0x01 ∷ 0x03 ∷ []) ((0x00 ∷ []) ∷ []) ≡ (0, 11) ∷ []
+  pub task-extended : answers (0x01 ∷ 0x01 ∷ 0x02 ∷ 0x05 ∷ 0x00 ∷ 0x00 ∷ 0x01 ∷ 0x04 ∷ 0x01 ∷ 0x03 ∷ [])
+      ((0x00 ∷ []) ∷ [])
+      ≡ (0, 11) ∷ []
   -- after offset 1 and task 0: the same, an offset that falls, a task that rises; 5 before 7; and task 2 before task 0
   pub entry-order : answers (threeBodies ++ 0x02 ∷ 0x01 ∷ []) (
-      (0x00 ∷ 0x01 ∷ 0x00 ∷ []) ∷ (0x00 ∷ 0x00 ∷ 0x02 ∷ []) ∷ (0x00 ∷ 0x01 ∷ 0x02 ∷ []) ∷ (0x00 ∷ 0x00 ∷ 0x01 ∷ []) ∷ (0x02 ∷ 0x01 ∷ 0x00 ∷ []) ∷ []
+      (0x00 ∷ 0x01 ∷ 0x00 ∷ []) ∷ (0x00 ∷ 0x00 ∷ 0x02 ∷ []) ∷ (0x00 ∷ 0x01 ∷ 0x02 ∷ []) ∷ (0x00 ∷ 0x00 ∷ 0x01 ∷ [])
+      ∷ (0x02 ∷ 0x01 ∷ 0x00 ∷ []) ∷ []
       )
       ≡ (7, 18) ∷ (7, 18) ∷ (0, 19) ∷ (5, 18) ∷ (7, 18) ∷ []
   -- the entries of another table need not come after those of the one before
-  pub next-table : answers (noResource ++ 0x02 ∷ 0x04 ∷ 0x01 ∷ 0x03 ∷ 0x00 ∷ []) ((0x04 ∷ 0x01 ∷ 0x00 ∷ 0x00 ∷ []) ∷ []) ≡ (0, 15) ∷ []
+  pub next-table : answers (noResource ++ 0x02 ∷ 0x04 ∷ 0x01 ∷ 0x03 ∷ 0x00 ∷ []) ((0x04 ∷ 0x01 ∷ 0x00 ∷ 0x00 ∷ []) ∷ [])
+      ≡ (0, 15) ∷ []
   -- a body of kind 3: its priority has the range of the others and is its own, and it may not be autostart
-  pub priority-timed : answers (0x01 ∷ 0x02 ∷ 0x03 ∷ 0x05 ∷ 0x00 ∷ 0x03 ∷ []) ((0x00 ∷ []) ∷ (0x04 ∷ []) ∷ (0x05 ∷ []) ∷ (0xC9 ∷ 0x01 ∷ []) ∷ [])
+  pub priority-timed : answers (0x01 ∷ 0x02 ∷ 0x03 ∷ 0x05 ∷ 0x00 ∷ 0x03 ∷ [])
+      ((0x00 ∷ []) ∷ (0x04 ∷ []) ∷ (0x05 ∷ []) ∷ (0xC9 ∷ 0x01 ∷ []) ∷ [])
       ≡ (5, 6) ∷ (1, 7) ∷ (6, 6) ∷ (5, 6) ∷ []
-  pub autostart-timed : answers (0x01 ∷ 0x01 ∷ 0x03 ∷ 0x05 ∷ []) ((0x00 ∷ []) ∷ (0x01 ∷ []) ∷ (0x02 ∷ []) ∷ []) ≡ (1, 5) ∷ (5, 4) ∷ (5, 4) ∷ []
+  pub autostart-timed : answers (0x01 ∷ 0x01 ∷ 0x03 ∷ 0x05 ∷ []) ((0x00 ∷ []) ∷ (0x01 ∷ []) ∷ (0x02 ∷ []) ∷ [])
+      ≡ (1, 5) ∷ (5, 4) ∷ (5, 4) ∷ []
   -- the masks of bodies 0, 3, both; then those with the bit of body 1, of body 2, or of a body that is not there
   pub users-timed : answers (timedBodies ++ 0x01 ∷ []) (
-      (0x01 ∷ []) ∷ (0x08 ∷ []) ∷ (0x09 ∷ []) ∷ (0x02 ∷ []) ∷ (0x04 ∷ []) ∷ (0x03 ∷ []) ∷ (0x0D ∷ []) ∷ (0x0F ∷ []) ∷ (0x12 ∷ []) ∷ []
+      (0x01 ∷ []) ∷ (0x08 ∷ []) ∷ (0x09 ∷ []) ∷ (0x02 ∷ []) ∷ (0x04 ∷ []) ∷ (0x03 ∷ []) ∷ (0x0D ∷ []) ∷ (0x0F ∷ [])
+      ∷ (0x12 ∷ []) ∷ []
       )
       ≡ (1, 16) ∷ (1, 16) ∷ (1, 16) ∷ (5, 15) ∷ (5, 15) ∷ (5, 15) ∷ (5, 15) ∷ (5, 15) ∷ (5, 15) ∷ []
   -- no table has it; a table has it alone
-  pub task-timed : answers (timedBodies ++ 0x00 ∷ []) ((0x00 ∷ []) ∷ (0x01 ∷ 0x04 ∷ 0x01 ∷ 0x03 ∷ 0x01 ∷ []) ∷ []) ≡ (0, 16) ∷ (0, 20) ∷ []
+  pub task-timed : answers (timedBodies ++ 0x00 ∷ []) ((0x00 ∷ []) ∷ (0x01 ∷ 0x04 ∷ 0x01 ∷ 0x03 ∷ 0x01 ∷ []) ∷ [])
+      ≡ (0, 16) ∷ (0, 20) ∷ []
   -- after offset 1: the same offset where the second is of kind 3, the first, both, none; another offset where both are
   pub offset-shared : answers (twoEntries ++ 0x01 ∷ []) (
-      (0x00 ∷ 0x01 ∷ 0x01 ∷ []) ∷ (0x01 ∷ 0x01 ∷ 0x03 ∷ []) ∷ (0x01 ∷ 0x01 ∷ 0x02 ∷ []) ∷ (0x00 ∷ 0x01 ∷ 0x03 ∷ []) ∷ (0x01 ∷ 0x02 ∷ 0x02 ∷ []) ∷ []
+      (0x00 ∷ 0x01 ∷ 0x01 ∷ []) ∷ (0x01 ∷ 0x01 ∷ 0x03 ∷ []) ∷ (0x01 ∷ 0x01 ∷ 0x02 ∷ []) ∷ (0x00 ∷ 0x01 ∷ 0x03 ∷ [])
+      ∷ (0x01 ∷ 0x02 ∷ 0x02 ∷ []) ∷ []
       )
       ≡ (13, 21) ∷ (13, 21) ∷ (13, 21) ∷ (0, 22) ∷ (0, 22) ∷ []
   -- 5 before 13, and 7 before 13: no body 4; tasks 2 and 1, tasks 3 and 1, task 1 twice
@@ -115,7 +142,8 @@ pub record ReaderRows : Type 0 where
       )
       ≡ (5, 21) ∷ (7, 21) ∷ (7, 21) ∷ (7, 21) ∷ []
   -- kind 3 after kind 0, and kind 0 after kind 3; 7 before 14
-  pub table-mixed : answers (twoEntries ++ 0x01 ∷ []) ((0x00 ∷ 0x02 ∷ 0x01 ∷ []) ∷ (0x01 ∷ 0x02 ∷ 0x00 ∷ []) ∷ (0x01 ∷ 0x00 ∷ 0x00 ∷ []) ∷ [])
+  pub table-mixed : answers (twoEntries ++ 0x01 ∷ [])
+      ((0x00 ∷ 0x02 ∷ 0x01 ∷ []) ∷ (0x01 ∷ 0x02 ∷ 0x00 ∷ []) ∷ (0x01 ∷ 0x00 ∷ 0x00 ∷ []) ∷ [])
       ≡ (14, 21) ∷ (14, 21) ∷ (7, 21) ∷ []
   -- the same at the third of three entries
   pub mixed-later : answers (timedBodies ++ 0x00 ∷ 0x01 ∷ 0x04 ∷ 0x03 ∷ []) (
@@ -126,20 +154,23 @@ pub record ReaderRows : Type 0 where
   -- after a table with offset 1 and task 1: tasks 0, 1 and 2 at the same offset; task 2 and then task 1; task 0 and
   -- then task 1, at another offset and at the same
   pub table-second : answers (timedBodies ++ 0x00 ∷ 0x02 ∷ 0x04 ∷ 0x01 ∷ 0x01 ∷ 0x01 ∷ 0x04 ∷ []) (
-      (0x01 ∷ 0x01 ∷ 0x00 ∷ []) ∷ (0x01 ∷ 0x01 ∷ 0x01 ∷ []) ∷ (0x01 ∷ 0x01 ∷ 0x02 ∷ []) ∷ (0x02 ∷ 0x00 ∷ 0x02 ∷ 0x01 ∷ 0x01 ∷ [])
+      (0x01 ∷ 0x01 ∷ 0x00 ∷ []) ∷ (0x01 ∷ 0x01 ∷ 0x01 ∷ []) ∷ (0x01 ∷ 0x01 ∷ 0x02 ∷ [])
+      ∷ (0x02 ∷ 0x00 ∷ 0x02 ∷ 0x01 ∷ 0x01 ∷ [])
       ∷ (0x02 ∷ 0x00 ∷ 0x00 ∷ 0x01 ∷ 0x01 ∷ []) ∷ (0x02 ∷ 0x01 ∷ 0x00 ∷ 0x01 ∷ 0x01 ∷ []) ∷ []
       )
       ≡ (0, 24) ∷ (14, 23) ∷ (14, 23) ∷ (14, 23) ∷ (14, 25) ∷ (13, 25) ∷ []
   -- three tables of an entry: of kind 3 the second alone, the last two, the first and the last
   pub table-third : answers (timedBodies ++ 0x00 ∷ 0x03 ∷ 0x04 ∷ 0x01 ∷ 0x00 ∷ []) (
-      (0x00 ∷ 0x04 ∷ 0x01 ∷ 0x00 ∷ 0x01 ∷ 0x04 ∷ 0x01 ∷ 0x00 ∷ 0x00 ∷ []) ∷ (0x00 ∷ 0x04 ∷ 0x01 ∷ 0x00 ∷ 0x01 ∷ 0x04 ∷ 0x01 ∷ 0x00 ∷ 0x02 ∷ [])
+      (0x00 ∷ 0x04 ∷ 0x01 ∷ 0x00 ∷ 0x01 ∷ 0x04 ∷ 0x01 ∷ 0x00 ∷ 0x00 ∷ [])
+      ∷ (0x00 ∷ 0x04 ∷ 0x01 ∷ 0x00 ∷ 0x01 ∷ 0x04 ∷ 0x01 ∷ 0x00 ∷ 0x02 ∷ [])
       ∷ (0x01 ∷ 0x04 ∷ 0x01 ∷ 0x00 ∷ 0x00 ∷ 0x04 ∷ 0x01 ∷ 0x00 ∷ 0x02 ∷ []) ∷ []
       )
       ≡ (0, 28) ∷ (14, 27) ∷ (14, 27) ∷ []
-  pub left-over : answers (noResource ++ 0x00 ∷ []) ([] ∷ (0x00 ∷ []) ∷ (0x80 ∷ 0x80 ∷ []) ∷ []) ≡ (0, 7) ∷ (9, 7) ∷ (9, 7) ∷ []
+  pub left-over : answers (noResource ++ 0x00 ∷ []) ([] ∷ (0x00 ∷ []) ∷ (0x80 ∷ 0x80 ∷ []) ∷ [])
+      ≡ (0, 7) ∷ (9, 7) ∷ (9, 7) ∷ []
 
 pub reader-rows : ReaderRows
-unfolding readNumber groups continued fifthGroup readConfig readFrom faultAt putAt ended occurs timedIn someTimed
+unfolding readNumber groups continued fifthGroup readConfig readFrom faultAt putAt ended among timedIn someTimed
 reader-rows =
     record {
       lengths = refl;
@@ -180,7 +211,8 @@ reader-rows =
 -- document 01's listing, and its value
 abbrev listing : List ℕ
 listing =
-    0x01 ∷ 0x03 ∷ 0x00 ∷ 0x02 ∷ 0x01 ∷ 0x00 ∷ 0x05 ∷ 0x00 ∷ 0x01 ∷ 0x09 ∷ 0x00 ∷ 0x01 ∷ 0x03 ∷ 0x01 ∷ 0x04 ∷ 0x02 ∷ 0x00 ∷ 0x01 ∷ 0x02 ∷ 0x00 ∷ []
+    0x01 ∷ 0x03 ∷ 0x00 ∷ 0x02 ∷ 0x01 ∷ 0x00 ∷ 0x05 ∷ 0x00 ∷ 0x01 ∷ 0x09 ∷ 0x00 ∷ 0x01 ∷ 0x03 ∷ 0x01 ∷ 0x04 ∷ 0x02 ∷ 0x00
+    ∷ 0x01 ∷ 0x02 ∷ 0x00 ∷ []
 
 abbrev value : Config
 value = readConfig listing .config
@@ -205,11 +237,13 @@ pub record WriterRows : Type 0 where
   pub room : (answer 21 value ≡ (0, 20)) × (answer 20 value ≡ (0, 20)) × (answer 19 value ≡ (30, 20))
   -- 3 to 8 at place 0, before 30, and the first in the reader's order
   pub refused : map (answer 0) (
-      withVersion value 0 ∷ withVersion value 3 ∷ withBodies value 33 ∷ withKind value 1 4 ∷ withPriority value 2 5 ∷ withAutostart value 2 1 ∷ withUsers value 0 8
+      withVersion value 0 ∷ withVersion value 3 ∷ withBodies value 33 ∷ withKind value 1 4 ∷ withPriority value 2 5
+      ∷ withAutostart value 2 1 ∷ withUsers value 0 8
       ∷ withPeriod value 0 0 ∷ withEntries value 0 17 ∷ withOffset value 1 0 ∷ withTask value 1 2
       ∷ withEntries (withPeriod (withTables full 5) 4 1) 4 1 ∷ withVersion (withBodies value 33) 3 ∷ []
       )
-      ≡ (3, 0) ∷ (3, 0) ∷ (4, 0) ∷ (5, 0) ∷ (6, 0) ∷ (5, 0) ∷ (5, 0) ∷ (5, 0) ∷ (4, 0) ∷ (7, 0) ∷ (5, 0) ∷ (8, 0) ∷ (3, 0) ∷ []
+      ≡ (3, 0) ∷ (3, 0) ∷ (4, 0) ∷ (5, 0) ∷ (6, 0) ∷ (5, 0) ∷ (5, 0) ∷ (5, 0) ∷ (4, 0) ∷ (7, 0) ∷ (5, 0) ∷ (8, 0)
+      ∷ (3, 0) ∷ []
   -- bytes beyond the length stay; too short or refused, all stay
   pub output : (wroteConfig value (replicate 22 0xFF) ≡ listing ++ 0xFF ∷ 0xFF ∷ [])
       × (wroteConfig value (replicate 19 0xFF) ≡ replicate 19 0xFF)
@@ -219,8 +253,10 @@ pub record WriterRows : Type 0 where
   -- kind 3: its autostart, a mask bit for it; offset 1 for both entries, with task 3 as the second too, and with task 2
   -- for both; task 0 as the first, task 3 as the second; a second table; kind 4
   pub refused-timed : map (answer 0) (
-      withAutostart timed 1 1 ∷ withUsers timed 0 3 ∷ withOffset timed 1 1 ∷ withOffset (withTask timed 1 3) 1 1 ∷ withOffset (withTask timed 0 2) 1 1
-      ∷ withTask timed 0 0 ∷ withTask timed 1 3 ∷ withTask (withEntries (withPeriod (withTables timed 2) 1 4) 1 1) 2 1 ∷ withKind timed 1 4 ∷ []
+      withAutostart timed 1 1 ∷ withUsers timed 0 3 ∷ withOffset timed 1 1 ∷ withOffset (withTask timed 1 3) 1 1
+      ∷ withOffset (withTask timed 0 2) 1 1
+      ∷ withTask timed 0 0 ∷ withTask timed 1 3 ∷ withTask (withEntries (withPeriod (withTables timed 2) 1 4) 1 1) 2 1
+      ∷ withKind timed 1 4 ∷ []
       )
       ≡ (5, 0) ∷ (5, 0) ∷ (13, 0) ∷ (13, 0) ∷ (7, 0) ∷ (14, 0) ∷ (14, 0) ∷ (14, 0) ∷ (5, 0) ∷ []
   -- and in order
@@ -229,7 +265,8 @@ pub record WriterRows : Type 0 where
   pub past : answer 20 (withKind (withUsers (withTask value 2 200) 1 77) 3 9) ≡ (0, 20)
 
 pub writer-rows : WriterRows
-unfolding readNumber groups continued fifthGroup numberBytes groupBytes writing written readConfig readFrom faultAt putAt askedAt ended occurs timedIn someTimed faultFrom bytesFrom
+unfolding readNumber groups continued fifthGroup numberBytes groupBytes writing written readConfig readFrom faultAt
+    putAt askedAt ended among timedIn someTimed faultFrom bytesFrom
 writer-rows =
     record {
       room = (refl, refl, refl);

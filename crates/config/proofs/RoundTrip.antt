@@ -25,7 +25,17 @@ use Rattle.config.proofs.Sound.{ends}
 use Rattle.config.proofs.Reading.{bounded}
 
 start-shaped : Shaped (start .config)
-start-shaped = record { kinds = refl; priorities = refl; autostarts = refl; masks = refl; periods = refl; counts = refl; offsets = refl; tasks = refl }
+start-shaped =
+    record {
+      kinds = refl;
+      priorities = refl;
+      autostarts = refl;
+      masks = refl;
+      periods = refl;
+      counts = refl;
+      offsets = refl;
+      tasks = refl;
+    }
 
 -- the numbers of a value without a fault
 module _ (c : Config) (fine : firstFault c ≡ none) where
@@ -42,22 +52,28 @@ pub few-bytes : (c : Config) → length (configBytes c) ≤ 1300
 few-bytes c = length-bytesFrom maxNumbers c start
 
 pub faultless-accepted : (c : Config) → Shaped c → firstFault c ≡ none → Accepted c
-faultless-accepted c s fine = ends c (walk c fine .numbers) s (walk c fine .in-order) (walk c fine .asks) .accepted
+faultless-accepted c s fine = let w = walk c fine in ends c s (w .numbers) (w .in-order) (w .asks) .accepted
 
 -- the bytes of a walk read as what it leads to
 read-bytesOf : (vs : List ℕ) → length (bytesOf vs) ≤ maxLength → InOrder start vs
     → readConfig (bytesOf vs) ≡ accepted (last start vs .config) (length (bytesOf vs))
 unfolding readConfig
 read-bytesOf vs h o =
-    rw (le-leb (length (bytesOf vs)) maxLength h)
-    (read-walk vs start (length (bytesOf vs)) (bytesOf vs) 0 start-within start-paced o (length-bytesOf vs) (omega arith) refl)
+    let n = length (bytesOf vs) in
+    rw (le-leb n maxLength h)
+    (read-walk vs start n (bytesOf vs) 0 start-within start-paced o (length-bytesOf vs) (omega arith) refl)
 
-pub read-written : (c : Config) → Shaped c → firstFault c ≡ none → readConfig (configBytes c) ≡ accepted (trimmed c) (length (configBytes c))
+pub read-written : (c : Config) → Shaped c → firstFault c ≡ none
+    → readConfig (configBytes c) ≡ accepted (trimmed c) (length (configBytes c))
 read-written c s fine =
     let w = walk c fine in
     rw (walk-written c fine)
-    (read-bytesOf (w .numbers) (let h = rw (walk-written c fine) at (few-bytes c) in omega arith) (w .in-order)
-    ∙ ap (λ (x : Config). accepted x (length (bytesOf (w .numbers)))) (ends c (w .numbers) s (w .in-order) (w .asks) .same))
+    (read-bytesOf (w .numbers) short (w .in-order)
+    ∙ ap (λ (x : Config). accepted x (length (bytesOf (w .numbers))))
+    (ends c s (w .numbers) (w .in-order) (w .asks) .same))
+  where
+    short : length (bytesOf (walk c fine .numbers)) ≤ maxLength
+    short = omega (arith, rw (walk-written c fine) at (few-bytes c))
 
 -- what an accepted reading has read
 config-reads : (bs : List ℕ) → readConfig bs .refusal ≡ none → Reads bs 0 start (readConfig bs)
@@ -71,30 +87,37 @@ module _ (bs : List ℕ) (e : readConfig bs .refusal ≡ none) where
   r : Reads bs 0 start (readConfig bs)
   r = config-reads bs e
 
-  own : Asks (last start (r .numbers) .config) start (r .numbers)
+  -- the configuration that its numbers lead to
+  abbrev made : Config
+  made = last start (r .numbers) .config
+
+  own : Asks made start (r .numbers)
   own = asks-last start (r .numbers) start-within start-shaped (r .in-order)
 
   short : length (r .numbers) ≤ maxNumbers
   short = few-numbers start (r .numbers) start-within (r .in-order)
 
-  read-config : readConfig bs .config ≡ last start (r .numbers) .config
+  read-config : readConfig bs .config ≡ made
   read-config = ap (λ (x : ConfigRead). x .config) (r .result)
 
   pub read-place : readConfig bs .place ≡ length bs
   read-place = ap (λ (x : ConfigRead). x .place) (r .result)
 
+  made-shaped : Shaped made
+  made-shaped = shaped-last start (r .numbers) start-shaped
+
   read-shaped : Shaped (readConfig bs .config)
-  read-shaped = rw read-config (shaped-last start (r .numbers) start-shaped)
+  read-shaped = rw read-config made-shaped
 
   pub read-faultless : firstFault (readConfig bs .config) ≡ none
-  read-faultless = rw read-config (walk-fault (r .numbers) maxNumbers (last start (r .numbers) .config) start short (r .in-order) own)
+  read-faultless = rw read-config (walk-fault (r .numbers) maxNumbers made start short (r .in-order) own)
 
   pub written-read : Bytes bs → configBytes (readConfig bs .config) ≡ bs
   written-read b =
-      rw read-config (walk-bytes (r .numbers) maxNumbers (last start (r .numbers) .config) start short (r .in-order) own ∙ sym (r .covers b))
+      rw read-config (walk-bytes (r .numbers) maxNumbers made start short (r .in-order) own ∙ sym (r .covers b))
 
   read-trimmed : readConfig bs .config ≡ trimmed (readConfig bs .config)
-  read-trimmed = rw read-config (ends (last start (r .numbers) .config) (r .numbers) (shaped-last start (r .numbers) start-shaped) (r .in-order) own .same)
+  read-trimmed = rw read-config (ends made made-shaped (r .numbers) (r .in-order) own .same)
 
 pub zero-past : (bs : List ℕ) → readConfig bs .config ≡ trimmed (readConfig bs .config)
 unfolding trimmed entriesBefore
@@ -122,10 +145,15 @@ bytesOf-are-bytes d (v ∷ vs) w p o i =
     joined a b j =
         by-lt j (length (numberBytes v))
         (λ q. rw (List·getD-append (numberBytes v) (bytesOf vs) 0 j q) (a j))
-        (λ q. rw (past q, getD-append-add (numberBytes v) (bytesOf vs) (j - length (numberBytes v)) 0) (b (j - length (numberBytes v))))
+        (λ q. rw (past q, getD-append-add (numberBytes v) (bytesOf vs) later 0) (b later))
       where
-        past : length (numberBytes v) ≤ j → j ≡ length (numberBytes v) + (j - length (numberBytes v))
+        later : ℕ
+        later = j - length (numberBytes v)
+
+        past : length (numberBytes v) ≤ j → j ≡ length (numberBytes v) + later
         past q = omega arith
 
 pub configBytes-are-bytes : (c : Config) → firstFault c ≡ none → Bytes (configBytes c)
-configBytes-are-bytes c fine = rw (walk-written c fine) (bytesOf-are-bytes start (walk c fine .numbers) start-within start-paced (walk c fine .in-order))
+configBytes-are-bytes c fine =
+    let w = walk c fine in
+    rw (walk-written c fine) (bytesOf-are-bytes start (w .numbers) start-within start-paced (w .in-order))

@@ -23,7 +23,7 @@ use Rattle.config.specs.Accepted.{Shaped, Accepted, trimmed}
 use Rattle.config.specs.Writer.{faultFrom}
 use Rattle.config.proofs.Ranges.{InRange, in-range, no-fault}
 use Rattle.config.proofs.Walk.{InOrder, Asks, last, fault-end, fault-step}
-use Rattle.config.proofs.Extends.{Extends, start-extends, extends-put}
+use Rattle.config.proofs.Extends.{Extends, onward, start-extends, extends-put}
 use Rattle.config.proofs.Tables.{firstOf-step, firstOf-zero, firstOf-rises, one-table}
 use Rattle.config.proofs.Rows.{Place, place-put, Fits, KindFits, PriorityFits, AutostartFits, UsersFit, PeriodFits, EntriesFit, OffsetFits, TaskFits, risesAt, sharesAt, mixesAt, FirstTimed, fits, fits-back, accepted-fits}
 use Rattle.config.proofs.Timed as Timed
@@ -92,14 +92,14 @@ SoFar Task c i e = TablesFit c i e × TableFits c i × OffsetFits c i e
 SoFar End c i e = TablesFit c (c .tables) e
 
 -- a row more
-one-body : (c : Config) (i : ℕ) → BodiesFit c i → KindFits c i → PriorityFits c i → AutostartFits c i → BodiesFit c (i + 1)
-one-body c i all k p a = record { head = all .head; each = upto-one (BodyFits c) i (all .each) (record { kind = k; priority = p; autostart = a }) }
+one-body : (c : Config) (i : ℕ) → BodiesFit c i → BodyFits c i → BodiesFit c (i + 1)
+one-body c i all b = record { head = all .head; each = upto-one (BodyFits c) i (all .each) b }
 
 one-resource : (c : Config) (i : ℕ) → ResourcesFit c i → UsersFit c i → ResourcesFit c (i + 1)
 one-resource c i all u = record { bodies = all .bodies; few = all .few; each = upto-one (UsersFit c) i (all .each) u }
 
-one-entry : (c : Config) (i : ℕ) (d : Draft) → Place Task c d → TablesFit c i (d .entry) → OffsetFits c (d .index) (d .entry)
-    → TaskFits c (d .index) (d .entry) → TablesFit c i (d .entry + 1)
+one-entry : (c : Config) (i : ℕ) (d : Draft) → Place Task c d → TablesFit c i (d .entry)
+    → OffsetFits c (d .index) (d .entry) → TaskFits c (d .index) (d .entry) → TablesFit c i (d .entry + 1)
 one-entry c i d p all o k =
     record {
       resources = all .resources;
@@ -121,49 +121,68 @@ one-entry c i d p all o k =
     table t q r = one-table c t (d .index) (d .entry) q r (p .0) (omega (arith, firstOf-step c (d .index)))
 
 one-of-tables : (c : Config) (i e : ℕ) → TablesFit c i e → TableFits c i → TablesFit c (i + 1) e
-one-of-tables c i e all t = record { resources = all .resources; few = all .few; each = upto-one (TableFits c) i (all .each) t; entries = all .entries }
+one-of-tables c i e all t =
+    record {
+      resources = all .resources;
+      few = all .few;
+      each = upto-one (TableFits c) i (all .each) t;
+      entries = all .entries;
+    }
 
-so-far-put : (f : Field) (c : Config) (d : Draft) → ended f ≡ false → Extends c f d → Place f c d → Fits f c (d .index) (d .entry)
-    → SoFar f c (d .index) (d .entry)
-    → SoFar (putAt f d (askedAt f c d) .field) c (putAt f d (askedAt f c d) .index) (putAt f d (askedAt f c d) .entry)
-unfolding putAt askedAt ended
-so-far-put Version c d t x p h s = h
-so-far-put Bodies c d t x p h s = record { head = record { version = s; some-body = h .0; few-bodies = h .1 }; each = upto-zero (BodyFits c) }
-so-far-put Kind c d t x p h s = (s, h)
-so-far-put Priority c d t x p h s = (s .0, s .1, h)
-so-far-put Autostart c d t x p h s = rw (ap (λ (y : Config). y .bodies) x)
-    (let n = one-body c (d .index) (s .0) (s .1) (s .2) h in
-    by-eq (d .index + 1) (c .bodies)
-    (λ q. rw (eq-eqb (d .index + 1) (c .bodies) q) (rw q at n))
-    (λ q. rw (ne-eqb (d .index + 1) (c .bodies) q) n))
-so-far-put Resources c d t x p h s =
-    let n : ResourcesFit c 0 = record { bodies = s; few = h; each = upto-zero (UsersFit c) } in
-    by-eq 0 (c .resources)
-    (λ q. rw (eq-eqb 0 (c .resources) q) (subst (ResourcesFit c) q n))
-    (λ q. rw (ne-eqb 0 (c .resources) q) n)
-so-far-put Users c d t x p h s = rw (ap (λ (y : Config). y .resources) x)
-    (let n = one-resource c (d .index) s h in
-    by-eq (d .index + 1) (c .resources)
-    (λ q. rw (eq-eqb (d .index + 1) (c .resources) q) (rw q at n))
-    (λ q. rw (ne-eqb (d .index + 1) (c .resources) q) n))
-so-far-put Tables c d t x p h s =
-    let n : TablesFit c 0 (d .entry) = record { resources = s; few = h; each = upto-zero (TableFits c); entries = λ e q. absurd (omega arith) } in
-    by-eq 0 (c .tables)
-    (λ q. rw (eq-eqb 0 (c .tables) q) (subst (λ (t : ℕ). TablesFit c t (d .entry)) q n))
-    (λ q. rw (ne-eqb 0 (c .tables) q) n)
-so-far-put Period c d t x p h s = (s, h)
-so-far-put Entries c d t x p h s = (s .0, record { period = s .1; entries = h })
-so-far-put Offset c d t x p h s = (s .0, s .1, h)
-so-far-put Task c d t x p h s = rw (ap (λ (y : Config). y .tables) x)
-    (let n = one-entry c (d .index) d p (s .0) (s .2) h in
-    let m = one-of-tables c (d .index) (d .entry + 1) n (s .1) in
-    by-eq (d .entry + 1) (d .until)
-    (λ q. rw (eq-eqb (d .entry + 1) (d .until) q)
-    (by-eq (d .index + 1) (c .tables)
-    (λ r. rw (eq-eqb (d .index + 1) (c .tables) r) (rw r at m))
-    (λ r. rw (ne-eqb (d .index + 1) (c .tables) r) m)))
-    (λ q. rw (ne-eqb (d .entry + 1) (d .until) q) (n, s .1)))
-so-far-put End c d t x p h s = absurd (true≢false t)
+module _ (c : Config) (d : Draft) where
+  so-far-put : (f : Field) → ended f ≡ false → Extends c f d → Place f c d → Fits f c (d .index) (d .entry)
+      → SoFar f c (d .index) (d .entry)
+      → SoFar (onward c f d .field) c (onward c f d .index) (onward c f d .entry)
+  unfolding putAt askedAt ended
+  so-far-put Version t x p h s = h
+  so-far-put Bodies t x p h s =
+      record {
+        head = record { version = s; some-body = h .0; few-bodies = h .1 };
+        each = upto-zero (BodyFits c);
+      }
+  so-far-put Kind t x p h s = (s, h)
+  so-far-put Priority t x p h s = (s .0, s .1, h)
+  so-far-put Autostart t x p h s = rw (ap (λ (y : Config). y .bodies) x)
+      (let n = one-body c (d .index) (s .0) (record { kind = s .1; priority = s .2; autostart = h }) in
+      by-eq (d .index + 1) (c .bodies)
+      (λ q. rw (eq-eqb (d .index + 1) (c .bodies) q) (rw q at n))
+      (λ q. rw (ne-eqb (d .index + 1) (c .bodies) q) n))
+  so-far-put Resources t x p h s =
+      let n : ResourcesFit c 0 = record { bodies = s; few = h; each = upto-zero (UsersFit c) } in
+      by-eq 0 (c .resources)
+      (λ q. rw (eq-eqb 0 (c .resources) q) (subst (ResourcesFit c) q n))
+      (λ q. rw (ne-eqb 0 (c .resources) q) n)
+  so-far-put Users t x p h s = rw (ap (λ (y : Config). y .resources) x)
+      (let n = one-resource c (d .index) s h in
+      by-eq (d .index + 1) (c .resources)
+      (λ q. rw (eq-eqb (d .index + 1) (c .resources) q) (rw q at n))
+      (λ q. rw (ne-eqb (d .index + 1) (c .resources) q) n))
+  so-far-put Tables t x p h s =
+      by-eq 0 (c .tables)
+      (λ q. rw (eq-eqb 0 (c .tables) q) (subst (λ (t : ℕ). TablesFit c t (d .entry)) q none-yet))
+      (λ q. rw (ne-eqb 0 (c .tables) q) none-yet)
+    where
+      none-yet : TablesFit c 0 (d .entry)
+      none-yet =
+          record {
+            resources = s;
+            few = h;
+            each = upto-zero (TableFits c);
+            entries = λ e q. absurd (omega arith);
+          }
+  so-far-put Period t x p h s = (s, h)
+  so-far-put Entries t x p h s = (s .0, record { period = s .1; entries = h })
+  so-far-put Offset t x p h s = (s .0, s .1, h)
+  so-far-put Task t x p h s = rw (ap (λ (y : Config). y .tables) x)
+      (let n = one-entry c (d .index) d p (s .0) (s .2) h in
+      let m = one-of-tables c (d .index) (d .entry + 1) n (s .1) in
+      by-eq (d .entry + 1) (d .until)
+      (λ q. rw (eq-eqb (d .entry + 1) (d .until) q)
+      (by-eq (d .index + 1) (c .tables)
+      (λ r. rw (eq-eqb (d .index + 1) (c .tables) r) (rw r at m))
+      (λ r. rw (ne-eqb (d .index + 1) (c .tables) r) m)))
+      (λ q. rw (ne-eqb (d .entry + 1) (d .until) q) (n, s .1)))
+  so-far-put End t x p h s = absurd (true≢false t)
 
 at-end : (c : Config) (e : ℕ) → e ≡ firstOf c (c .tables) → TablesFit c (c .tables) e → Accepted c
 at-end c e p s =
@@ -210,34 +229,44 @@ at-end c e p s =
     back n = omega arith
 
     rise : (t n : ℕ) → t < c .tables → firstOf c t ≤ n → n + 1 < firstOf c (suc t)
-        → rises (getD (c .offset) n 0) (getD (c .task) n 0) (getD (c .offset) (n + 1) 0) (getD (c .task) (n + 1) 0) ≡ true
+        → rises (getD (c .offset) n 0) (getD (c .task) n 0) (getD (c .offset) (n + 1) 0) (getD (c .task) (n + 1) 0)
+        ≡ true
     rise t n q r u = rw (back n) at (s .entries (n + 1) (before t (n + 1) q u) .rising t q (omega arith) u)
 
-    like : (t : ℕ) → t < c .tables → (n : ℕ) → firstOf c t ≤ n → n + 1 < firstOf c (suc t) → timedEntry c (n + 1) ≡ timedEntry c n
+    like : (t : ℕ) → t < c .tables → (n : ℕ) → firstOf c t ≤ n → n + 1 < firstOf c (suc t)
+        → timedEntry c (n + 1) ≡ timedEntry c n
     like t q n r u =
         Timed.differ-none (timedEntry c (n + 1)) (timedEntry c n)
         (rw (back n) at (s .entries (n + 1) (before t (n + 1) q u) .alike t q (omega arith) u))
 
     -- an entry of a later table is not of kind 3 where one of an earlier is
+    not-both : (t t′ n n′ : ℕ) → t < t′ → t′ < c .tables → n < firstOf c (suc t) → firstOf c t′ ≤ n′
+        → n′ < firstOf c (suc t′) → timedEntry c n ≡ true → timedEntry c n′ ≡ true → ⊥
+    not-both t t′ n n′ less q′ high low′ high′ k k′ =
+        let first = s .entries n′ (before t′ n′ q′ high′) .first-timed t′ q′ low′ high′ k′ in
+        true≢false (sym k ∙ first n (omega (arith, firstOf-rises c (suc t) t′ less)))
+
     in-one : (t t′ n n′ : ℕ) → t < c .tables → t′ < c .tables
         → firstOf c t ≤ n → n < firstOf c (suc t) → firstOf c t′ ≤ n′ → n′ < firstOf c (suc t′)
         → timedEntry c n ≡ true → timedEntry c n′ ≡ true → t ≡ t′
     in-one t t′ n n′ q q′ low high low′ high′ k k′ =
         by-lt t t′
-        (λ h. absurd (true≢false (sym k ∙ s .entries n′ (before t′ n′ q′ high′) .first-timed t′ q′ low′ high′ k′ n (omega (arith, firstOf-rises c (suc t) t′ h)))))
-        (λ h. by-lt t′ t
-        (λ g. absurd (true≢false (sym k′ ∙ s .entries n (before t n q high) .first-timed t q low high k n′ (omega (arith, firstOf-rises c (suc t′) t g)))))
-        (λ g. omega arith))
+        (λ less. absurd (not-both t t′ n n′ less q′ high low′ high′ k k′))
+        (λ le. by-lt t′ t
+        (λ less. absurd (not-both t′ t n′ n less q high′ low high k′ k))
+        (λ ge. omega arith))
 
     distinct : (t n n′ : ℕ) → t < c .tables → firstOf c t ≤ n → n < n′ → n′ < firstOf c (suc t)
         → timedEntry c n ≡ true → timedEntry c n′ ≡ true → getD (c .offset) n 0 ≡ getD (c .offset) n′ 0 → ⊥
     distinct t n n′ q low less high k k′ same =
-        let apart : sharesAt c (n + 1) ≡ false = s .entries (n + 1) (before t (n + 1) q (omega arith)) .apart t q (omega arith) (omega arith) in
-        let p = Timed.differ c t (λ m. rise t m q) n n′ low less high (λ e. true≢false (sym (shared n k e) ∙ apart)) in
+        let p = Timed.differ c t (λ m. rise t m q) n n′ low less high (λ e. true≢false (sym (shared e) ∙ apart)) in
         omega (arith, p, same)
       where
-        shared : (m : ℕ) → timedEntry c m ≡ true → getD (c .offset) m 0 ≡ getD (c .offset) (m + 1) 0 → sharesAt c (m + 1) ≡ true
-        shared m u e = rw (back m, eq-eqb (getD (c .offset) m 0) (getD (c .offset) (m + 1) 0) e, u)
+        apart : sharesAt c (n + 1) ≡ false
+        apart = s .entries (n + 1) (before t (n + 1) q (omega arith)) .apart t q (omega arith) (omega arith)
+
+        shared : getD (c .offset) n 0 ≡ getD (c .offset) (n + 1) 0 → sharesAt c (n + 1) ≡ true
+        shared e = rw (back n, eq-eqb (getD (c .offset) n 0) (getD (c .offset) (n + 1) 0) e, k)
 
     total : (t : ℕ) → Upto t (λ b. firstOf c b + getD (c .entries) b 0 ≤ maxEntries) → firstOf c t ≤ maxEntries
     total zero all = rw (firstOf-zero c) (omega arith)
@@ -265,13 +294,13 @@ record Follows (c : Config) (f : Field) (d : Draft) : Type 0 where
   place : Place f c d
   so-far : SoFar f c (d .index) (d .entry)
 
-follows-put : (f : Field) (c : Config) (d : Draft) → Shaped c → ended f ≡ false → InRange f d (askedAt f c d) → Follows c f d
-    → Follows c (putAt f d (askedAt f c d) .field) (putAt f d (askedAt f c d))
+follows-put : (f : Field) (c : Config) (d : Draft) → Shaped c → ended f ≡ false → InRange f d (askedAt f c d)
+    → Follows c f d → Follows c (onward c f d .field) (onward c f d)
 follows-put f c d s t h w =
     record {
-      extends = extends-put f c d s t (w .extends);
-      place = place-put f c d t (w .extends) h (w .place);
-      so-far = so-far-put f c d t (w .extends) (w .place) (fits f c d s (w .extends) (w .place) h) (w .so-far);
+      extends = extends-put c d s f t (w .extends);
+      place = place-put c d f t (w .extends) h (w .place);
+      so-far = so-far-put c d f t (w .extends) (w .place) (fits c s d f (w .extends) (w .place) h) (w .so-far);
     }
 
 -- where it ends, the value is accepted, and the draft is the value as far as its counts reach
@@ -287,27 +316,32 @@ follows-end c d w =
       same = w .extends ∙ rw (w .place);
     }
 
-follows-last : (c : Config) (d : Draft) (vs : List ℕ) → Shaped c → Follows c (d .field) d → InOrder d vs → Asks c d vs → Ends c (last d vs .config)
-follows-last c d [] s w o a = follows-end c d (subst (λ (f : Field). Follows c f d) (only-end (d .field) o) w)
-follows-last c d (v ∷ vs) s w o a =
-    follows-last c (put d v) vs s (rw (a .0) at (follows-put (d .field) c d s (o .0) (rw (a .0) (in-range (d .field) d v (o .1))) w)) (o .2) (a .1)
+module _ (c : Config) (s : Shaped c) where
+  follows-last : (d : Draft) (vs : List ℕ) → Follows c (d .field) d → InOrder d vs → Asks c d vs
+      → Ends c (last d vs .config)
+  follows-last d [] w o a = follows-end c d (subst (λ (f : Field). Follows c f d) (only-end (d .field) o) w)
+  follows-last d (v ∷ vs) w o a = follows-last (put d v) vs (rw (a .0) at on) (o .2) (a .1)
+    where
+      on : Follows c (onward c (d .field) d .field) (onward c (d .field) d)
+      on = follows-put (d .field) c d s (o .0) (rw (a .0) (in-range d v (d .field) (o .1))) w
 
-pub ends : (c : Config) (vs : List ℕ) → Shaped c → InOrder start vs → Asks c start vs → Ends c (last start vs .config)
-ends c vs s = follows-last c start vs s (record { extends = start-extends c; place = refl; so-far = tt })
+  pub ends : (vs : List ℕ) → InOrder start vs → Asks c start vs → Ends c (last start vs .config)
+  ends vs = follows-last start vs (record { extends = start-extends c; place = refl; so-far = tt })
 
--- an accepted value has no fault, whatever the fuel
-fine : (c : Config) (d : Draft) → Shaped c → Accepted c → Extends c (d .field) d → Place (d .field) c d → InRange (d .field) d (asked c d)
-fine c d s a x p = fits-back (d .field) c d s x p (accepted-fits (d .field) c d a p)
+  -- an accepted value has no fault, whatever the fuel
+  module _ (a : Accepted c) where
+    fine : (d : Draft) → Extends c (d .field) d → Place (d .field) c d → InRange (d .field) d (asked c d)
+    fine d x p = fits-back c s d (d .field) x p (accepted-fits c a (d .field) d p)
 
-accepted-no-fault : (k : ℕ) (c : Config) (d : Draft) → Shaped c → Accepted c → Extends c (d .field) d → Place (d .field) c d → faultFrom k c d ≡ none
-unfolding faultFrom
-accepted-no-fault zero c d s a x p = refl
-accepted-no-fault (suc k) c d s a x p =
-    by-test (ended (d .field))
-    (λ t. fault-end (suc k) c d t)
-    (λ t. let h = fine c d s a x p in
-    fault-step k c d (asked c d) refl t (no-fault (d .field) d (asked c d) h)
-    ∙ accepted-no-fault k c (put d (asked c d)) s a (extends-put (d .field) c d s t x) (place-put (d .field) c d t x h p))
+    accepted-no-fault : (k : ℕ) (d : Draft) → Extends c (d .field) d → Place (d .field) c d → faultFrom k c d ≡ none
+    unfolding faultFrom
+    accepted-no-fault zero d x p = refl
+    accepted-no-fault (suc k) d x p =
+        by-test (ended (d .field))
+        (λ t. fault-end (suc k) c d t)
+        (λ t. fault-step k c d (asked c d) refl t (no-fault d (asked c d) (d .field) (fine d x p))
+        ∙ accepted-no-fault k (put d (asked c d)) (extends-put c d s (d .field) t x)
+        (place-put c d (d .field) t x (fine d x p) p))
 
-pub accepted-faultless : (k : ℕ) (c : Config) → Shaped c → Accepted c → faultFrom k c start ≡ none
-accepted-faultless k c s a = accepted-no-fault k c start s a (start-extends c) refl
+    pub accepted-faultless : (k : ℕ) → faultFrom k c start ≡ none
+    accepted-faultless k = accepted-no-fault k start (start-extends c) refl

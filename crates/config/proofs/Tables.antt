@@ -39,7 +39,8 @@ firstOf-rises c s (suc t) h =
     (λ e. let p = firstOf-rises c s t (omega arith) in omega (arith, firstOf-step c t))
 
 -- an entry is of one table
-pub one-table : (c : Config) (s t e : ℕ) → firstOf c s ≤ e → e < firstOf c (suc s) → firstOf c t ≤ e → e < firstOf c (suc t) → s ≡ t
+pub one-table : (c : Config) (s t e : ℕ) → firstOf c s ≤ e → e < firstOf c (suc s)
+    → firstOf c t ≤ e → e < firstOf c (suc t) → s ≡ t
 one-table c s t e p q u v =
     by-lt s t
     (λ h. absurd (omega (arith, firstOf-rises c (suc s) t h)))
@@ -52,7 +53,8 @@ pub table-there : (c : Config) (t e : ℕ) → e < firstOf c (c .tables) → fir
 table-there c t e h low = by-lt t (c .tables) (λ q. q) (λ q. absurd (omega (arith, firstOf-rises c (c .tables) t q)))
 
 -- an entry before table t is of a table before it
-pub table-of : (c : Config) (t e : ℕ) → e < firstOf c t → (s : ℕ) × (s < t) × (firstOf c s ≤ e) × (e < firstOf c (suc s))
+pub table-of : (c : Config) (t e : ℕ) → e < firstOf c t
+    → (s : ℕ) × (s < t) × (firstOf c s ≤ e) × (e < firstOf c (suc s))
 table-of c zero e h = absurd (omega (arith, firstOf-zero c))
 table-of c (suc t) e h =
     by-lt e (firstOf c t)

@@ -1,13 +1,14 @@
--- What the crate shows beyond its contracts. Each law stands here in full, over specs/ alone; the modules it cites prove it.
+-- What the crate shows beyond its contracts. Each law stands here in full, over specs/ alone;
+-- the modules it cites prove it.
 --
 -- In order: what every reading satisfies, and every accepted value; its entries, tables and bodies of kind 3; a
 -- resource's ceiling and its users; both round trips; which values the writer accepts; counts that are too great; what
 -- stands past the counts; that the fuel of the definitions is enough.
-use Prim.Native.Nat.{ℕ, zero, suc, _+_, _-_, _≤_, _<_}
+use Prim.Native.Nat.{ℕ, zero, suc, _+_, _≤_, _<_}
 use mathlib.Core.Path.{_≡_, refl, sym, _∙_}
 use mathlib.Core.Bool.{true, false}
 use mathlib.Core.List.{List}
-use mathlib.Core.Logic.{_↔_, _⊎_, inl, inr, ⊎-elim}
+use mathlib.Core.Logic.{_↔_, _⊎_, inl, inr}
 use native.Mathlib.Omega.{arith}
 use lib.ListN.{length, getD}
 use borrow.Author.Tests.{le-ltb}
@@ -34,8 +35,8 @@ use Rattle.config.proofs.Counts as Counts
 use Rattle.config.proofs.Past as Past
 use Rattle.config.proofs.Fuel as Fuel
 
--- "A refused reader returns an all-zero value with refusal and place"; "An accepted reading has refusal 0 and the place after it",
--- which is the input's end, as is that of one "cut off"; "entries past the counts are 0"
+-- "A refused reader returns an all-zero value with refusal and place"; "An accepted reading has refusal 0 and the place
+-- after it", which is the input's end, as is that of one "cut off"; "entries past the counts are 0"
 pub record ConfigReading (bs : List ℕ) (r : ConfigRead) : Type 0 where
   pub refusals : (r .refusal ≤ tooLong) ⊎ ((r .refusal ≡ sharedOffset) ⊎ (r .refusal ≡ mixedTable))
   pub inside : r .place ≤ length bs
@@ -60,30 +61,34 @@ reading bs =
 
 -- every field of an accepted configuration is in its range
 pub accepted-ranges : (bs : List ℕ) → readConfig bs .refusal ≡ none → Accepted (readConfig bs .config)
-accepted-ranges bs e = RoundTrip.faultless-accepted (readConfig bs .config) (RoundTrip.shaped bs) (RoundTrip.read-faultless bs e)
+accepted-ranges bs e =
+    RoundTrip.faultless-accepted (readConfig bs .config) (RoundTrip.shaped bs) (RoundTrip.read-faultless bs e)
 
--- the tests that `Accepted` has of an entry, said with numbers: "Entries rise by offset, then by task, none twice"; its task is one
-pub entries-in-order : (c : Config) → Accepted c → (t e : ℕ) → t < c .tables → firstOf c t ≤ e → e + 1 < firstOf c (suc t)
+-- "Each has its own priority"
+pub priority-inj : (c : Config) → Accepted c → (a b : ℕ) → a < c .bodies → b < c .bodies
+    → priorityOf c a ≡ priorityOf c b → a ≡ b
+priority-inj c accepted a b ha hb e =
+    by-lt a b
+    (λ l. absurd (accepted .priorities-differ a b l hb e))
+    (λ l. by-lt b a
+    (λ m. absurd (accepted .priorities-differ b a m ha (sym e)))
+    (λ m. omega arith))
+
+-- the tests that `Accepted` has of an entry, said with numbers:
+-- "Entries rise by offset, then by task, none twice"; its task is one
+pub entries-in-order : (c : Config) → Accepted c → (t e : ℕ)
+    → t < c .tables → firstOf c t ≤ e → e + 1 < firstOf c (suc t)
     → (getD (c .offset) e 0 < getD (c .offset) (e + 1) 0)
     ⊎ ((getD (c .offset) e 0 ≡ getD (c .offset) (e + 1) 0) × (getD (c .task) e 0 < getD (c .task) (e + 1) 0))
 entries-in-order c a t e p q r =
-    Tables.rises-true (getD (c .offset) e 0) (getD (c .task) e 0) (getD (c .offset) (e + 1) 0) (getD (c .task) (e + 1) 0) (a .entries-rise t e p q r)
+    Tables.rises-true (getD (c .offset) e 0) (getD (c .task) e 0) (getD (c .offset) (e + 1) 0)
+    (getD (c .task) (e + 1) 0) (a .entries-rise t e p q r)
 
 -- so no offset of a table is below its smallest, the first entry's
 pub smallest-least : (c : Config) → Accepted c → (t e : ℕ) → t < c .tables → firstOf c t ≤ e → e < firstOf c (suc t)
     → smallestOffset c t ≤ getD (c .offset) e 0
-smallest-least c a t e t< low high = let q : firstOf c t + (e - firstOf c t) ≡ e = omega arith in rw q at (go (e - firstOf c t) (omega arith))
-  where
-    go : (k : ℕ) → firstOf c t + k < firstOf c (suc t) → smallestOffset c t ≤ getD (c .offset) (firstOf c t + k) 0
-    go zero h = let q : firstOf c t + 0 ≡ firstOf c t = omega arith in rw q (omega arith)
-    go (suc k) h =
-        let q : firstOf c t + suc k ≡ firstOf c t + k + 1 = omega arith in
-        let before = go k (omega arith) in
-        rw q
-        (⊎-elim
-        (λ (less : getD (c .offset) (firstOf c t + k) 0 < getD (c .offset) (firstOf c t + k + 1) 0). omega arith)
-        (λ same. omega (arith, same .0))
-        (entries-in-order c a t (firstOf c t + k) t< (omega arith) (omega arith)))
+smallest-least c a t e t< low high =
+    Timed.no-fall c t (λ n. a .entries-rise t n t<) (firstOf c t) e (omega arith) low high
 
 pub entry-of-task : (c : Config) → Accepted c → (e : ℕ) → e < firstOf c (c .tables)
     → (getD (c .task) e 0 < c .bodies)
@@ -137,7 +142,8 @@ pub timed-levels : (executionLevel ≡ 201) × (triggerLevel ≡ 202)
 timed-levels = (refl, refl)
 
 -- "its ceiling is the greatest priority among" its users: none is above it, and one has it
-pub user-ceiling : (c : Config) → Accepted c → Shaped c → (r b : ℕ) → b < c .bodies → isUser c r b ≡ true → priorityOf c b ≤ ceiling c r
+pub user-ceiling : (c : Config) → Accepted c → Shaped c → (r b : ℕ) → b < c .bodies → isUser c r b ≡ true
+    → priorityOf c b ≤ ceiling c r
 user-ceiling = Ceiling.user-le
 
 pub ceiling-reached : (c : Config) → Accepted c → Shaped c → (r : ℕ) → r < c .resources
@@ -145,7 +151,8 @@ pub ceiling-reached : (c : Config) → Accepted c → Shaped c → (r : ℕ) →
 ceiling-reached = Ceiling.ceiling-reached
 
 -- what is written reads back the same, as far as the counts reach
-pub read-written : (c : Config) → Shaped c → firstFault c ≡ none → readConfig (configBytes c) ≡ accepted (trimmed c) (length (configBytes c))
+pub read-written : (c : Config) → Shaped c → firstFault c ≡ none
+    → readConfig (configBytes c) ≡ accepted (trimmed c) (length (configBytes c))
 read-written = RoundTrip.read-written
 
 -- whatever the reader accepts, the writer accepts, and writes it back to the same bytes
@@ -163,17 +170,19 @@ configBytes-are-bytes = RoundTrip.configBytes-are-bytes
 
 -- the writer accepts exactly the values whose fields are in their ranges
 pub writer-accepts : (c : Config) → Shaped c → (firstFault c ≡ none) ↔ Accepted c
-writer-accepts c s = (RoundTrip.faultless-accepted c s, Sound.accepted-faultless maxNumbers c s)
+writer-accepts c s = (RoundTrip.faultless-accepted c s, λ a. Sound.accepted-faultless c s a maxNumbers)
 
--- a count that is too great is the first fault: of the bodies, and of the resources where the value without them has none
+-- a count that is too great is the first fault:
+-- of the bodies, and of the resources where the value without them has none
 pub too-many-bodies : (c : Config) → c .version ≡ 1 → maxBodies < c .bodies → firstFault c ≡ badCount
 too-many-bodies = Counts.too-many-bodies
 
-pub too-many-resources : (c : Config) → maxResources < c .resources → firstFault (withResources c 0) ≡ none → firstFault c ≡ badCount
+pub too-many-resources : (c : Config) → maxResources < c .resources → firstFault (withResources c 0) ≡ none
+    → firstFault c ≡ badCount
 too-many-resources = Counts.too-many-resources
 
--- "entries past the counts are .. ignored by the writer": values that differ only there get the same answer and leave the same output,
--- refused ones too
+-- "entries past the counts are .. ignored by the writer":
+-- values that differ only there get the same answer and leave the same output, refused ones too
 pub past-ignored : (b c : Config) → Shaped b → Shaped c → trimmed b ≡ trimmed c → (n : ℕ) (d : List ℕ)
     → (writeConfig b n ≡ writeConfig c n) × (wroteConfig b d ≡ wroteConfig c d)
 past-ignored b c sb sc e n d = (Past.same-answer b c sb sc e n, Past.same-output b c sb sc e d)
@@ -182,8 +191,8 @@ past-ignored b c sb sc e n d = (Past.same-answer b c sb sc e n, Past.same-output
 pub readFrom-enough : (bs : List ℕ) (k : ℕ) → length bs ≤ k → readFrom k bs 0 start ≡ readFrom (length bs) bs 0 start
 readFrom-enough = Fuel.readFrom-enough
 
--- no configuration has more numbers than `maxNumbers` (specs/Writer.antt): more fuel finds the same fault and, where there is none, writes the same
--- bytes
+-- no configuration has more numbers than `maxNumbers` (specs/Writer.antt): more fuel finds the same fault and, where
+-- there is none, writes the same bytes
 pub faultFrom-enough : (c : Config) (k : ℕ) → maxNumbers ≤ k → faultFrom k c start ≡ firstFault c
 faultFrom-enough = Fuel.faultFrom-enough
 

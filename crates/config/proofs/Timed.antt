@@ -6,11 +6,10 @@ use mathlib.Core.List.{List, [], _∷_}
 use mathlib.Core.Logic.{⊎-elim}
 use native.Mathlib.Omega.{arith}
 use lib.ListN.{length, getD, take}
-use Rattle.number.proofs.Cases.{by-eq}
+use Rattle.number.proofs.Cases.{by-eq, neither}
 use Rattle.config.specs.declared.Config.{Config}
 use Rattle.config.specs.Meaning.{isTimed, firstOf, timedEntry}
 use Rattle.config.specs.Draft.{rises, someTimed}
-use Rattle.config.proofs.Padded.{or-false}
 use Rattle.config.proofs.Tables.{rises-true}
 
 -- none of the first n tasks is of kind 3
@@ -19,16 +18,17 @@ pub some-none : (c : Config) (n : ℕ) (l : List ℕ) → n ≤ length l → som
 unfolding someTimed
 some-none c zero l fits e j h = absurd (omega arith)
 some-none c (suc n) [] fits e j h = absurd (omega arith)
-some-none c (suc n) (b ∷ bs) fits e zero h = or-false (isTimed c b) (someTimed c (take n bs)) e .0
+some-none c (suc n) (b ∷ bs) fits e zero h = neither (isTimed c b) (someTimed c (take n bs)) e .0
 some-none c (suc n) (b ∷ bs) fits e (suc j) h =
-    some-none c n bs (omega arith) (or-false (isTimed c b) (someTimed c (take n bs)) e .1) j (omega arith)
+    some-none c n bs (omega arith) (neither (isTimed c b) (someTimed c (take n bs)) e .1) j (omega arith)
 
 pub none-some : (c : Config) (n : ℕ) (l : List ℕ) → n ≤ length l → ((j : ℕ) → j < n → isTimed c (getD l j 0) ≡ false)
     → someTimed c (take n l) ≡ false
 unfolding someTimed
 none-some c zero l fits f = refl
 none-some c (suc n) [] fits f = refl
-none-some c (suc n) (b ∷ bs) fits f = rw (f zero (omega arith), none-some c n bs (omega arith) (λ j h. f (suc j) (omega arith)))
+none-some c (suc n) (b ∷ bs) fits f =
+    rw (f zero (omega arith), none-some c n bs (omega arith) (λ j h. f (suc j) (omega arith)))
 
 -- two tests that do not differ
 pub differ-none : (a b : Bool) → cond a (not b) b ≡ false → a ≡ b
@@ -49,7 +49,8 @@ module _ (c : Config) (t : ℕ) where
 
   -- entries that are each like the one before them are all alike
   module _ (like : (e : ℕ) → firstOf c t ≤ e → e + 1 < firstOf c (suc t) → timedEntry c (e + 1) ≡ timedEntry c e) where
-    as-first : (k : ℕ) → firstOf c t + k < firstOf c (suc t) → timedEntry c (firstOf c t + k) ≡ timedEntry c (firstOf c t)
+    as-first : (k : ℕ) → firstOf c t + k < firstOf c (suc t)
+        → timedEntry c (firstOf c t + k) ≡ timedEntry c (firstOf c t)
     as-first zero h = let q : firstOf c t + 0 ≡ firstOf c t = omega arith in ap (timedEntry c) q
     as-first (suc k) h =
         let q : firstOf c t + suc k ≡ firstOf c t + k + 1 = omega arith in

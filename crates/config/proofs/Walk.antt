@@ -4,8 +4,8 @@
 --   last d vs      the draft that they lead to
 --   Asks c d vs    vs are the numbers of c from d on
 --
--- In order: the reader's definition by cases (`readFrom-elim`); what an accepted reading has read (`Reads`); the reader on the bytes of a list;
--- the list of a writer without a fault (`Walks`); the writer on a list.
+-- In order: the reader's definition by cases (`readFrom-elim`); what an accepted reading has read (`Reads`); the reader
+-- on the bytes of a list; the list of a writer without a fault (`Walks`); the writer on a list.
 use Prim.Native.Nat.{ℕ, zero, suc, _+_, _*_, _≤_}
 use mathlib.Core.Path.{_≡_, refl, sym, ap, _∙_}
 use mathlib.Core.Bool.{true, false}
@@ -47,7 +47,7 @@ bytesOf (v ∷ vs) = numberBytes v ++ bytesOf vs
 -- a number takes at least one byte
 pub length-bytesOf : (vs : List ℕ) → length vs ≤ length (bytesOf vs)
 length-bytesOf [] = omega arith
-length-bytesOf (v ∷ vs) = rw length-append (let h = length-bytesOf vs in let n = Number.length-numberBytes v in omega arith)
+length-bytesOf (v ∷ vs) = rw length-append (omega (arith, length-bytesOf vs, Number.length-numberBytes v))
 
 -- a list in order is no longer than `left` says
 pub few-numbers : (d : Draft) (vs : List ℕ) → Within d → InOrder d vs → length vs ≤ left d
@@ -58,14 +58,16 @@ few-numbers d (v ∷ vs) w o =
     omega arith
 
 -- a number that is read and in order
-pub number-fine : (d : Draft) (r : NumberRead) → numberFault d r ≡ none → (r .refusal ≡ none) × (fault d (r .value) ≡ none)
+pub number-fine : (d : Draft) (r : NumberRead) → numberFault d r ≡ none
+    → (r .refusal ≡ none) × (fault d (r .value) ≡ none)
 number-fine d r h =
     by-eq (r .refusal) none
     (λ e. (e, rw (eq-eqb (r .refusal) none e) at h))
     (λ e. absurd (e (rw (ne-eqb (r .refusal) none e) at h)))
 
 -- one step of the reader
-pub read-end : (k : ℕ) (bs : List ℕ) (at : ℕ) (d : Draft) → ended (d .field) ≡ true → readFrom k bs at d ≡ finished bs at d
+pub read-end : (k : ℕ) (bs : List ℕ) (at : ℕ) (d : Draft) → ended (d .field) ≡ true
+    → readFrom k bs at d ≡ finished bs at d
 unfolding readFrom
 read-end zero bs at d t = rw t
 read-end (suc k) bs at d t = rw t
@@ -74,7 +76,8 @@ pub read-zero : (bs : List ℕ) (at : ℕ) (d : Draft) → ended (d .field) ≡ 
 unfolding readFrom
 read-zero bs at d t = rw t
 
-module _ (k : ℕ) (bs : List ℕ) (at : ℕ) (d : Draft) (r : NumberRead) (e : readNumber bs at ≡ r) (t : ended (d .field) ≡ false) where
+module _ (k : ℕ) (bs : List ℕ) (at : ℕ) (d : Draft) (r : NumberRead) (e : readNumber bs at ≡ r)
+    (t : ended (d .field) ≡ false) where
   pub read-step : numberFault d r ≡ none → readFrom (suc k) bs at d ≡ readFrom k bs (r .place) (put d (r .value))
   unfolding readFrom
   read-step f = rw (t, e, eq-eqb (numberFault d r) none f)
@@ -83,14 +86,17 @@ module _ (k : ℕ) (bs : List ℕ) (at : ℕ) (d : Draft) (r : NumberRead) (e : 
   unfolding readFrom
   read-stop f = rw (t, e, ne-eqb (numberFault d r) none f)
 
--- a property of readings that the finished have, those out of fuel, those that refuse a number, and with any reading those that go on to it
+-- a property of readings that the finished have, those out of fuel, those that refuse a number,
+-- and with any reading those that go on to it
 module _ (bs : List ℕ) (P : ℕ → Draft → ConfigRead → Type 0)
     (on-end : (at : ℕ) (d : Draft) → ended (d .field) ≡ true → P at d (finished bs at d))
     (on-zero : (at : ℕ) (d : Draft) → P at d (refused cut at))
     (on-fault : (at : ℕ) (d : Draft) → (numberFault d (readNumber bs at) ≡ none → ⊥)
     → P at d (refused (numberFault d (readNumber bs at)) (faultPlace at (readNumber bs at))))
-    (on-more : (at : ℕ) (d : Draft) (r : ConfigRead) → ended (d .field) ≡ false → numberFault d (readNumber bs at) ≡ none
-    → P (readNumber bs at .place) (put d (readNumber bs at .value)) r → P at d r)
+    (on-more : (at : ℕ) (d : Draft) (r : ConfigRead) → ended (d .field) ≡ false
+    → numberFault d (readNumber bs at) ≡ none
+    → P (readNumber bs at .place) (put d (readNumber bs at .value)) r
+    → P at d r)
   where
     pub readFrom-elim : (k at : ℕ) (d : Draft) → P at d (readFrom k bs at d)
     readFrom-elim zero at d =
@@ -102,7 +108,9 @@ module _ (bs : List ℕ) (P : ℕ → Draft → ConfigRead → Type 0)
         by-test (ended (d .field))
         (λ t. rw (read-end (suc k) bs at d t) (on-end at d t))
         (λ t. by-eq (numberFault d n) none
-        (λ f. rw (read-step k bs at d n refl t f) (on-more at d (readFrom k bs (n .place) (put d (n .value))) t f (readFrom-elim k (n .place) (put d (n .value)))))
+        (λ f. rw (read-step k bs at d n refl t f)
+        (on-more at d (readFrom k bs (n .place) (put d (n .value))) t f
+        (readFrom-elim k (n .place) (put d (n .value)))))
         (λ f. rw (read-stop k bs at d n refl t f) (on-fault at d f)))
 
 -- what an accepted reading has read
@@ -113,14 +121,24 @@ pub record Reads (bs : List ℕ) (at : ℕ) (d : Draft) (r : ConfigRead) : Type 
   pub covers : Bytes bs → drop at bs ≡ bytesOf numbers
 
 module _ (bs : List ℕ) where
-  reads-end : (at : ℕ) (d : Draft) → ended (d .field) ≡ true → finished bs at d .refusal ≡ none → Reads bs at d (finished bs at d)
+  reads-end : (at : ℕ) (d : Draft) → ended (d .field) ≡ true → finished bs at d .refusal ≡ none
+      → Reads bs at d (finished bs at d)
   reads-end at d t =
       by-eq at (length bs)
-      (λ e. rw (eq-eqb at (length bs) e)
-      (λ _. record { numbers = []; in-order = t; result = ap (accepted (d .config)) e; covers = λ _. drop-of-length-le bs {i = at} (omega arith) }))
+      (λ e. rw (eq-eqb at (length bs) e) (λ _. nothing e))
       (λ e. rw (ne-eqb at (length bs) e) (λ h. absurd (omega arith)))
+    where
+      nothing : at ≡ length bs → Reads bs at d (accepted (d .config) at)
+      nothing e =
+          record {
+            numbers = [];
+            in-order = t;
+            result = ap (accepted (d .config)) e;
+            covers = λ _. drop-of-length-le bs {i = at} (omega arith);
+          }
 
-  reads-more : (at : ℕ) (d : Draft) (r : ConfigRead) → ended (d .field) ≡ false → numberFault d (readNumber bs at) ≡ none
+  reads-more : (at : ℕ) (d : Draft) (r : ConfigRead) → ended (d .field) ≡ false
+      → numberFault d (readNumber bs at) ≡ none
       → (r .refusal ≡ none → Reads bs (readNumber bs at .place) (put d (readNumber bs at .value)) r)
       → r .refusal ≡ none
       → Reads bs at d r
@@ -132,7 +150,8 @@ module _ (bs : List ℕ) where
         numbers = n .value ∷ w .numbers;
         in-order = (t, f .1, w .in-order);
         result = w .result;
-        covers = λ b. Number.written-read bs at b (f .0) ∙ ap (λ (l : List ℕ). numberBytes (n .value) ++ l) (w .covers b);
+        covers = λ b.
+            Number.written-read bs at b (f .0) ∙ ap (λ (l : List ℕ). numberBytes (n .value) ++ l) (w .covers b);
       }
 
   pub reads : (k at : ℕ) (d : Draft) → readFrom k bs at d .refusal ≡ none → Reads bs at d (readFrom k bs at d)
@@ -147,21 +166,26 @@ module _ (bs : List ℕ) where
 pub read-walk : (vs : List ℕ) (d : Draft) (k : ℕ) (bs : List ℕ) (at : ℕ) → Within d → Paced d → InOrder d vs
     → length vs ≤ k → at ≤ length bs → drop at bs ≡ bytesOf vs
     → readFrom k bs at d ≡ accepted (last d vs .config) (length bs)
-read-walk [] d k bs at w p o few in-bs e = read-end k bs at d o ∙ rw (eq-eqb at (length bs) there) (ap (accepted (d .config)) there)
+read-walk [] d k bs at w p o few in-bs e =
+    read-end k bs at d o ∙ rw (eq-eqb at (length bs) there) (ap (accepted (d .config)) there)
   where
     there : at ≡ length bs
     there = omega (arith, length-drop at bs, ap length e)
 read-walk (v ∷ vs) d zero bs at w p o few in-bs e = absurd (omega arith)
 read-walk (v ∷ vs) d (suc k) bs at w p o few in-bs e =
-    read-step k bs at d (record { value = v; refusal = none; place = at + length (numberBytes v) })
+    read-step k bs at d (record { value = v; refusal = none; place = at + size })
     (Number.read-at bs at v (bytesOf vs) (small d v (o .0) (o .1) w p) e) (o .0) (o .1)
-    ∙ read-walk vs (put d v) k bs (at + length (numberBytes v)) (moved d v (o .0) (o .1) w .within) (paced d v (o .1) p) (o .2) (omega arith) fits rest
+    ∙ read-walk vs (put d v) k bs (at + size) (moved d v (o .0) (o .1) w .within) (paced d v (o .1) p) (o .2)
+    (omega arith) fits rest
   where
-    fits : at + length (numberBytes v) ≤ length bs
+    size : ℕ
+    size = length (numberBytes v)
+
+    fits : at + size ≤ length bs
     fits = omega (arith, length-drop at bs, simp length-append at (ap length e))
 
-    rest : drop (at + length (numberBytes v)) bs ≡ bytesOf vs
-    rest = sym (drop-drop (length (numberBytes v)) at bs) ∙ ap (drop (length (numberBytes v))) e ∙ drop-append-seam (numberBytes v) (bytesOf vs)
+    rest : drop (at + size) bs ≡ bytesOf vs
+    rest = sym (drop-drop size at bs) ∙ ap (drop size) e ∙ drop-append-seam (numberBytes v) (bytesOf vs)
 
 -- one step of the writer
 pub fault-end : (k : ℕ) (c : Config) (d : Draft) → ended (d .field) ≡ true → faultFrom k c d ≡ none
@@ -200,12 +224,15 @@ walks (suc k) c d w few e =
     (λ f. absurd (f (sym (fault-stop k c d v refl t f) ∙ e))))
 
 -- and what it walks, it writes
-pub walk-fault : (vs : List ℕ) (k : ℕ) (c : Config) (d : Draft) → length vs ≤ k → InOrder d vs → Asks c d vs → faultFrom k c d ≡ none
+pub walk-fault : (vs : List ℕ) (k : ℕ) (c : Config) (d : Draft) → length vs ≤ k → InOrder d vs → Asks c d vs
+    → faultFrom k c d ≡ none
 walk-fault [] k c d few o a = fault-end k c d o
 walk-fault (v ∷ vs) zero c d few o a = absurd (omega arith)
-walk-fault (v ∷ vs) (suc k) c d few o a = fault-step k c d v (a .0) (o .0) (o .1) ∙ walk-fault vs k c (put d v) (omega arith) (o .2) (a .1)
+walk-fault (v ∷ vs) (suc k) c d few o a =
+    fault-step k c d v (a .0) (o .0) (o .1) ∙ walk-fault vs k c (put d v) (omega arith) (o .2) (a .1)
 
-pub walk-bytes : (vs : List ℕ) (k : ℕ) (c : Config) (d : Draft) → length vs ≤ k → InOrder d vs → Asks c d vs → bytesFrom k c d ≡ bytesOf vs
+pub walk-bytes : (vs : List ℕ) (k : ℕ) (c : Config) (d : Draft) → length vs ≤ k → InOrder d vs → Asks c d vs
+    → bytesFrom k c d ≡ bytesOf vs
 unfolding bytesFrom
 walk-bytes [] zero c d few o a = refl
 walk-bytes [] (suc k) c d few o a = rw o
@@ -219,4 +246,5 @@ length-bytesFrom zero c d = lit≤ tt
 length-bytesFrom (suc k) c d =
     by-test (ended (d .field))
     (λ t. rw t (omega arith))
-    (λ t. rw (t, length-append) (let n = Number.length-numberBytes (asked c d) in let h = length-bytesFrom k c (put d (asked c d)) in omega arith))
+    (λ t. rw (t, length-append)
+    (omega (arith, Number.length-numberBytes (asked c d), length-bytesFrom k c (put d (asked c d)))))

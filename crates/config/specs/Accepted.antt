@@ -43,7 +43,8 @@ pub record Accepted (c : Config) : Type 0 where
   pub some-entry : (t : ℕ) → t < c .tables → 1 ≤ getD (c .entries) t 0
   pub few-of-table : (t : ℕ) → t < c .tables → getD (c .entries) t 0 ≤ 16
   pub few-entries : firstOf c (c .tables) ≤ maxEntries
-  pub offset-in-period : (t e : ℕ) → t < c .tables → firstOf c t ≤ e → e < firstOf c (suc t) → getD (c .offset) e 0 < getD (c .period) t 0
+  pub offset-in-period : (t e : ℕ) → t < c .tables → firstOf c t ≤ e → e < firstOf c (suc t)
+      → getD (c .offset) e 0 < getD (c .period) t 0
   pub entry-task : (e : ℕ) → e < firstOf c (c .tables) → isTask c (getD (c .task) e 0) ≡ true
   pub entries-rise : (t e : ℕ) → t < c .tables → firstOf c t ≤ e → e + 1 < firstOf c (suc t)
       → rises (getD (c .offset) e 0) (getD (c .task) e 0) (getD (c .offset) (e + 1) 0) (getD (c .task) (e + 1) 0) ≡ true

@@ -17,12 +17,8 @@ use Rattle.config.specs.declared.Field.{Field}
 use Rattle.config.specs.declared.Field.the-variants.{Version, Bodies, Kind, Priority, Autostart, Resources, Users, Tables, Period, Entries, Offset, Task, End}
 use Rattle.config.specs.Refusal.{badVersion, badCount, badField, usedPriority, unsorted, tooManyEntries, sharedOffset, mixedTable}
 use Rattle.config.specs.Meaning.{isr, timeTriggered, lastKind, isTask, isTimed}
+use Rattle.config.specs.Among.{among}
 use Rattle.config.specs.Value.{newestVersion, maxPriority, maxBodies, maxResources, maxTables, maxEntries, noConfig, withVersion, withBodies, withKind, withPriority, withAutostart, withResources, withUsers, withTables, withPeriod, withEntries, withOffset, withTask}
-
--- v stands in the list
-unfoldable pub occurs : ℕ → List ℕ → Bool
-occurs v [] = false
-occurs v (x ∷ xs) = eqb v x || occurs v xs
 
 -- the refusal r, unless the test holds
 abbrev pub unless : Bool → ℕ → ℕ
@@ -32,7 +28,8 @@ unless ok r = cond ok none r
 abbrev pub outside : ℕ → ℕ → ℕ → ℕ → ℕ
 outside lo hi v r = unless (leb lo v && leb v hi) r
 
--- the first of two refusals: "Each number is tested for .. its range, then for 6, 7 or 8"; 13 is "after 7", 14 "after 13"
+-- the first of two refusals: "Each number is tested for .. its range, then for 6, 7 or 8";
+-- 13 is "after 7", 14 "after 13"
 abbrev pub andThen : ℕ → ℕ → ℕ
 andThen r s = cond (eqb r none) s r
 
@@ -64,8 +61,8 @@ sharesOffset d v =
     not (firstEntry d) && (eqb (offsetBefore d) (offsetHere d)
     && (isTimed (d .config) (taskBefore d) || isTimed (d .config) v))
 
--- "a mixed .. table": of v and the entry before it one is of kind 3. Those before them are alike, so that the first that
--- differs is found.
+-- "a mixed .. table": of v and the entry before it one is of kind 3.
+-- Those before them are alike, so that the first that differs is found.
 abbrev pub mixes : Draft → ℕ → Bool
 mixes d v =
     not (firstEntry d) && cond (isTimed (d .config) v)
@@ -105,7 +102,8 @@ faultAt Version d v = outside 1 newestVersion v badVersion
 faultAt Bodies d v = outside 1 maxBodies v badCount
 faultAt Kind d v = outside 0 lastKind v badField
 faultAt Priority d v =
-    andThen (outside 1 maxPriority v badField) (unless (not (occurs v (take (d .index) (d .config .priority)))) usedPriority)
+    andThen (outside 1 maxPriority v badField)
+    (unless (not (among v (take (d .index) (d .config .priority)))) usedPriority)
 faultAt Autostart d v = outside 0 (mostAutostart (getD (d .config .kind) (d .index) 0)) v badField
 faultAt Resources d v = outside 0 maxResources v badCount
 faultAt Users d v = andThen (outside 1 (2 ^ d .config .bodies - 1) v badField)
@@ -139,13 +137,22 @@ putAt Version d v = onTo d (withVersion (d .config) v) Bodies
 putAt Bodies d v = row d (withBodies (d .config) v) Kind 0
 putAt Kind d v = onTo d (withKind (d .config) (d .index) v) Priority
 putAt Priority d v = onTo d (withPriority (d .config) (d .index) v) Autostart
-putAt Autostart d v = row d (withAutostart (d .config) (d .index) v) (orOn (d .index + 1) (d .config .bodies) Kind Resources) (d .index + 1)
+putAt Autostart d v =
+    row d (withAutostart (d .config) (d .index) v) (orOn (d .index + 1) (d .config .bodies) Kind Resources)
+    (d .index + 1)
 putAt Resources d v = row d (withResources (d .config) v) (orOn 0 v Users Tables) 0
-putAt Users d v = row d (withUsers (d .config) (d .index) v) (orOn (d .index + 1) (d .config .resources) Users Tables) (d .index + 1)
+putAt Users d v =
+    row d (withUsers (d .config) (d .index) v) (orOn (d .index + 1) (d .config .resources) Users Tables) (d .index + 1)
 putAt Tables d v = row d (withTables (d .config) v) (orOn 0 v Period End) 0
 putAt Period d v = onTo d (withPeriod (d .config) (d .index) v) Entries
 putAt Entries d v =
-    record { config = withEntries (d .config) (d .index) v; field = Offset; index = d .index; entry = d .entry; until = d .entry + v }
+    record {
+      config = withEntries (d .config) (d .index) v;
+      field = Offset;
+      index = d .index;
+      entry = d .entry;
+      until = d .entry + v;
+    }
 putAt Offset d v = onTo d (withOffset (d .config) (d .entry) v) Task
 putAt Task d v =
     record {

@@ -8,7 +8,8 @@ use lib.Dec.{ltb, leb, eqb}
 use lib.ListN.{getD, take, drop}
 use Rattle.config.specs.declared.Config.{Config}
 
--- "From edition two a Line that meets a waiting request adds to that ISR's loss count"; the version is the edition of the procedure
+-- "From edition two a Line that meets a waiting request adds to that ISR's loss count";
+-- the version is the edition of the procedure
 abbrev pub countsLines : Config → Bool
 countsLines c = leb 2 (c .version)
 
@@ -35,7 +36,8 @@ executionLevel = 201
 abbrev pub triggerLevel : ℕ
 triggerLevel = 202
 
--- b is the number of a body that is a task; "an ISR's number is no task", and an extended or a time-triggered task is one
+-- b is the number of a body that is a task; "an ISR's number is no task",
+-- and an extended or a time-triggered task is one
 abbrev pub isTask : Config → ℕ → Bool
 isTask c b = ltb b (c .bodies) && not (eqb (getD (c .kind) b 0) isr)
 

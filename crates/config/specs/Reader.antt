@@ -27,7 +27,8 @@ refused r p = record { config = noConfig; refusal = r; place = p }
 abbrev pub numberFault : Draft → NumberRead → ℕ
 numberFault d r = cond (eqb (r .refusal) none) (fault d (r .value)) (r .refusal)
 
--- the place of a number that is refused: that of an unreadable one is the number reader's, else "the offending number's first byte"
+-- the place of a number that is refused: that of an unreadable one is the number reader's,
+-- else "the offending number's first byte"
 abbrev pub faultPlace : ℕ → NumberRead → ℕ
 faultPlace at r = cond (eqb (r .refusal) none) at (r .place)
 
@@ -35,13 +36,15 @@ faultPlace at r = cond (eqb (r .refusal) none) at (r .place)
 abbrev pub finished : List ℕ → ℕ → Draft → ConfigRead
 finished bs at d = cond (eqb at (length bs)) (accepted (d .config) at) (refused leftOver at)
 
--- the numbers from a place on, at most k of them: a number takes at least a byte, so as many as there are bytes are enough
+-- the numbers from a place on, at most k of them:
+-- a number takes at least a byte, so as many as there are bytes are enough
 unfoldable pub readFrom : ℕ → List ℕ → ℕ → Draft → ConfigRead
 readFrom zero bs at d = cond (ended (d .field)) (finished bs at d) (refused cut at)
 readFrom (suc k) bs at d =
     let r = readNumber bs at in
     let rest = readFrom k bs (r .place) (put d (r .value)) in
-    cond (ended (d .field)) (finished bs at d) (cond (eqb (numberFault d r) none) rest (refused (numberFault d r) (faultPlace at r)))
+    cond (ended (d .field)) (finished bs at d)
+    (cond (eqb (numberFault d r) none) rest (refused (numberFault d r) (faultPlace at r)))
 
 -- "configuration over 4,096 bytes"
 abbrev pub maxLength : ℕ

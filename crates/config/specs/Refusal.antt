@@ -9,7 +9,8 @@ badVersion = 3
 abbrev pub badCount : ℕ
 badCount = 4
 
--- "another field outside its range, an entry's task that is an ISR too"; "5 for its autostart or a mask bit for it", kind 3
+-- "another field outside its range, an entry's task that is an ISR too";
+-- "5 for its autostart or a mask bit for it", kind 3
 abbrev pub badField : ℕ
 badField = 5
 

@@ -16,7 +16,8 @@ use Rattle.config.specs.declared.Config.{Config}
 use Rattle.config.specs.declared.Draft.{Draft}
 use Rattle.config.specs.Draft.{fault, put, asked, ended, start}
 
--- the most numbers that a configuration has: 2, 3 for each of 32 bodies, 1 and 16 for resources, 1, 2 for each of 8 tables and 2 for each of 64 entries
+-- the most numbers that a configuration has: 2, 3 for each of 32 bodies, 1 and 16 for resources,
+-- 1, 2 for each of 8 tables and 2 for each of 64 entries
 abbrev pub maxNumbers : ℕ
 maxNumbers = 260
 
@@ -41,7 +42,9 @@ configBytes c = bytesFrom maxNumbers c start
 
 -- the writer's first walk: the first refusal, at place 0, or how many bytes the value takes
 abbrev pub measured : Config → Written
-measured c = cond (eqb (firstFault c) none) (record { refusal = none; place = length (configBytes c) }) (unwritten (firstFault c) 0)
+measured c =
+    cond (eqb (firstFault c) none) (record { refusal = none; place = length (configBytes c) })
+    (unwritten (firstFault c) 0)
 
 -- "refuse with 3 to 8 in the reader's order .. all at place 0, then 30"; 13 and 14 too: "(writer: 0)"
 abbrev pub writeConfig : Config → ℕ → Written

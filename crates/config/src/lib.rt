@@ -37,9 +37,9 @@ pub struct Config {
     pub task: [u8; 64],
 }
 
-// A configuration as far as its numbers have come. `index` is the body, resource or table that is
-// next, `entry` the entry, and `until` the entry after the last one of its table. An array of the configuration is taken out into
-// a variable before it is indexed: indexed in place, it would make the compiler copy the whole draft at every number.
+// A configuration as far as its numbers have come. `index` is the body, resource or table that is next, `entry` the
+// entry, and `until` the entry after the last one of its table. An array of the configuration is taken out into a
+// variable before it is indexed: indexed in place, it would make the compiler copy the whole draft at every number.
 pub struct Draft {
     pub config: Config,
     pub field: Field,

@@ -15,7 +15,8 @@ use Rattle.config.specs.declared.Field.the-variants.{Kind, Priority, Autostart,
 use Rattle.config.specs.Refusal.{badField, usedPriority}
 use Rattle.config.specs.Meaning.{lastKind}
 use Rattle.config.specs.Value.{maxPriority}
-use Rattle.config.specs.Draft.{unless, outside, andThen, occurs, startable, mostAutostart, orOn, faultAt, putAt, ended}
+use Rattle.config.specs.Among.{among}
+use Rattle.config.specs.Draft.{unless, outside, andThen, startable, mostAutostart, orOn, faultAt, putAt, ended}
 use Rattle.config_codec.specs.Reading.{ReadsOn, Goes, checked}
 use Rattle.config_codec.specs.Drafts.{bodyAt, bodyOn}
 use Rattle.config_codec.proofs.OneNumber.{one, in-order}
@@ -29,7 +30,7 @@ module _ (c : Config) (bs : List ℕ) (n at i : ℕ) (ks ps qs : List ℕ) (o : 
 
   module _ (hk : k .refusal ≡ none) (p : NumberRead)
       (ep : p ≡ checked bs (k .place) (λ (v : ℕ). andThen (outside 1 maxPriority v badField)
-      (unless (not (occurs v (take i ps))) usedPriority))) where
+      (unless (not (among v (take i ps))) usedPriority))) where
     pub priority-goes : Goes bs (p .refusal) (p .place)
         (bodyAt c n Autostart i (set ks i (k .value)) (set ps i (p .value)) qs)
     unfolding faultAt putAt ended
@@ -55,14 +56,14 @@ most-le k = at-most (startable k)
 -- a priority that is in order is at most 200
 pub priority-small : (bs : List ℕ) (at i : ℕ) (ps : List ℕ) (p : NumberRead)
     → p ≡ checked bs at (λ (v : ℕ). andThen (outside 1 maxPriority v badField)
-    (unless (not (occurs v (take i ps))) usedPriority))
+    (unless (not (among v (take i ps))) usedPriority))
     → p .refusal ≡ none → p .value ≤ maxPriority
 priority-small bs at i ps p e h =
     outside-none 1 maxPriority (p .value) badField (lit< tt)
     (andThen-first (outside 1 maxPriority (p .value) badField)
-    (unless (not (occurs (p .value) (take i ps))) usedPriority)
+    (unless (not (among (p .value) (take i ps))) usedPriority)
     (in-order bs at (λ (v : ℕ). andThen (outside 1 maxPriority v badField)
-    (unless (not (occurs v (take i ps))) usedPriority)) p e h)) .1
+    (unless (not (among v (take i ps))) usedPriority)) p e h)) .1
 
 -- before the last body there is a kind to read; after it the resource count
 module _ (c : Config) (bs : List ℕ) (n at i : ℕ) (ks ps qs : List ℕ) (o : ReadsOn bs at (bodyOn c n i ks ps qs)) where

@@ -15,7 +15,8 @@ use Rattle.config.specs.declared.Field.{Field}
 use Rattle.config.specs.declared.Field.the-variants.{Users, Tables}
 use Rattle.config.specs.Refusal.{badField}
 use Rattle.config.specs.Meaning.{timeTriggered}
-use Rattle.config.specs.Draft.{unless, outside, andThen, occurs, timedIn, orOn, faultAt, putAt, ended}
+use Rattle.config.specs.Among.{among}
+use Rattle.config.specs.Draft.{unless, outside, andThen, timedIn, orOn, faultAt, putAt, ended}
 use Rattle.config_codec.specs.Reading.{ReadsOn, Goes, checked}
 use Rattle.config_codec.specs.Drafts.{usersAt, usersOn}
 use Rattle.config_codec.proofs.OneNumber.{one}
@@ -46,15 +47,15 @@ and-false true = refl
 and-false false = refl
 
 -- where no body is of kind 3 no mask has a bit for one
-pub none-timed : (m : ℕ) (ks : List ℕ) → occurs timeTriggered ks ≡ false → timedIn m ks ≡ false
-unfolding occurs timedIn
+pub none-timed : (m : ℕ) (ks : List ℕ) → among timeTriggered ks ≡ false → timedIn m ks ≡ false
+unfolding among timedIn
 none-timed m [] e = refl
 none-timed m (k ∷ ks) e =
     by-eq k timeTriggered
-    (λ h. absurd (true≢false (sym (ap (λ (b : Bool). b || occurs timeTriggered ks) (eq-eqb timeTriggered k (sym h)))
+    (λ h. absurd (true≢false (sym (ap (λ (b : Bool). b || among timeTriggered ks) (eq-eqb timeTriggered k (sym h)))
     ∙ e)))
     (λ h. rw (ne-eqb k timeTriggered h, and-false (eqb (m % 2) 1))
-    (none-timed (m / 2) ks (or-second (eqb timeTriggered k) (occurs timeTriggered ks) e)))
+    (none-timed (m / 2) ks (or-second (eqb timeTriggered k) (among timeTriggered ks) e)))
 
 -- a refusal after which nothing more is tested
 pub nothing-more : (r : ℕ) → r ≡ andThen r none

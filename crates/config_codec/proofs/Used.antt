@@ -8,7 +8,7 @@ use native.Mathlib.Numerals.{add-one}
 use borrow.Author.Tests.{eq-eqb, ne-eqb}
 use lib.ListN.{length, getD, take, drop, length-take, drop-of-length-le}
 use lib.Seq.{drop-cons, getD-take}
-use Rattle.config.specs.Draft.{occurs}
+use Rattle.config.specs.Among.{among}
 
 -- what is left of the first n elements, from element i on
 module _ (n : ℕ) (l : List ℕ) (all : n ≤ length l) where
@@ -20,14 +20,14 @@ module _ (n : ℕ) (l : List ℕ) (all : n ≤ length l) where
 
 -- the search among them
 module _ (v n : ℕ) (l : List ℕ) (all : n ≤ length l) where
-  pub occurs-here : (i : ℕ) → i < n → getD l i 0 ≡ v → true ≡ occurs v (drop i (take n l))
-  unfolding occurs
-  occurs-here i h e = rw (first-of-rest n l all i h, eq-eqb v (getD l i 0) (sym e))
+  pub among-here : (i : ℕ) → i < n → getD l i 0 ≡ v → true ≡ among v (drop i (take n l))
+  unfolding among
+  among-here i h e = rw (first-of-rest n l all i h, eq-eqb v (getD l i 0) (sym e))
 
-  pub occurs-next : (i : ℕ) → i < n → (getD l i 0 ≡ v → ⊥) → occurs v (drop i (take n l)) ≡ occurs v (drop (i + 1) (take n l))
-  unfolding occurs
-  occurs-next i h e = rw (first-of-rest n l all i h, ne-eqb v (getD l i 0) (λ q. e (sym q)))
+  pub among-next : (i : ℕ) → i < n → (getD l i 0 ≡ v → ⊥) → among v (drop i (take n l)) ≡ among v (drop (i + 1) (take n l))
+  unfolding among
+  among-next i h e = rw (first-of-rest n l all i h, ne-eqb v (getD l i 0) (λ q. e (sym q)))
 
-  pub occurs-done : (i : ℕ) → n ≤ i → false ≡ occurs v (drop i (take n l))
-  unfolding occurs
-  occurs-done i h = rw (none-of-rest n l all i h)
+  pub among-done : (i : ℕ) → n ≤ i → false ≡ among v (drop i (take n l))
+  unfolding among
+  among-done i h = rw (none-of-rest n l all i h)

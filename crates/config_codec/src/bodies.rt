@@ -14,7 +14,8 @@ ghost use Prim.Native.Nat.{ℕ, _≤_, _<_};
 ghost use lib.ListN.{take};
 ghost use Rattle.config.specs.Value.{maxPriority};
 ghost use Rattle.config.specs.Refusal.{badField, usedPriority};
-ghost use Rattle.config.specs.Draft.{outside, unless, andThen, occurs};
+ghost use Rattle.config.specs.Among.{among};
+ghost use Rattle.config.specs.Draft.{outside, unless, andThen};
 ghost use Rattle.config_codec.specs.Reading.{checked};
 ghost use Rattle.config_codec.specs.Parts.{BodyRead, BodiesRead};
 
@@ -23,7 +24,7 @@ fn read_priority<'a, 'b>(bytes: &'a [u8], at: usize, n: usize, priority: &'b [u8
     requires { ⌜ n ≤ 32 ⌝ }
     ensures { λ s. ⌜ s ≡ checked (now (bytes .entry)) at
         (λ (v : ℕ). andThen (outside 1 maxPriority v badField)
-        (unless (not (occurs v (take n (now (priority .entry))))) usedPriority)) ⌝ }
+        (unless (not (among v (take n (now (priority .entry))))) usedPriority)) ⌝ }
 {
     let r = read_number(bytes, at);
     tested(at, r, priority_in(r.value, n, *priority))

@@ -9,7 +9,8 @@ ghost use Rattle.config.specs.declared.Field.the-variants.{Task};
 ghost use Rattle.config.specs.Refusal.{badCount, badField, usedPriority, tooManyEntries};
 ghost use Rattle.config.specs.Meaning.{isr, timeTriggered};
 ghost use Rattle.config.specs.Value.{maxPriority, maxEntries};
-ghost use Rattle.config.specs.Draft.{unless, outside, andThen, occurs, mostAutostart, timedIn};
+ghost use Rattle.config.specs.Among.{among};
+ghost use Rattle.config.specs.Draft.{unless, outside, andThen, mostAutostart, timedIn};
 ghost use Rattle.config.specs.Draft.{rises, someTimed, faultAt};
 ghost use Rattle.config_codec.specs.Drafts.{taskAt};
 ghost use Rattle.config_codec.specs.TableKind.{kindsOf, kindFault};
@@ -80,7 +81,7 @@ fn and_then(first: u8, second: u8) -> u8
 // Whether one of the first `n` priorities is `v`.
 fn used(v: u32, n: usize, priority: [u8; 32]) -> bool
     requires { ⌜ n ≤ 32 ⌝ }
-    ensures { λ r. ⌜ r ≡ occurs v (take n priority) ⌝ }
+    ensures { λ r. ⌜ r ≡ among v (take n priority) ⌝ }
 {
     let mut i = 0;
     while i < n {
@@ -96,7 +97,7 @@ fn used(v: u32, n: usize, priority: [u8; 32]) -> bool
 pub fn priority_in(v: u32, n: usize, priority: [u8; 32]) -> u8
     requires { ⌜ n ≤ 32 ⌝ }
     ensures { λ r. ⌜ r ≡ andThen (outside 1 maxPriority v badField)
-        (unless (not (occurs v (take n priority))) usedPriority) ⌝ }
+        (unless (not (among v (take n priority))) usedPriority) ⌝ }
 {
     let again = used(v, n, priority);
     and_then(outside(1, 200, v, BAD_FIELD), unless(!again, USED_PRIORITY))
@@ -155,14 +156,14 @@ fn timed_in(mask: u32, n: usize, kind: [u8; 32]) -> bool
 // Whether one of the first `n` bodies is of kind 3.
 pub fn timed_body(n: usize, kind: [u8; 32]) -> bool
     requires { ⌜ n ≤ 32 ⌝ }
-    ensures { λ r. ⌜ r ≡ occurs timeTriggered (take n kind) ⌝ }
+    ensures { λ r. ⌜ r ≡ among timeTriggered (take n kind) ⌝ }
 {
     used(TIME_TRIGGERED as u32, n, kind)
 }
 
 // The refusal of a mask of users; `timed`: whether a body is of kind 3.
 pub fn users_in(v: u32, bodies: u8, timed: bool, kind: [u8; 32]) -> u8
-    requires { ⌜ (bodies ≤ 32) × (timed ≡ occurs timeTriggered (take bodies kind)) ⌝ }
+    requires { ⌜ (bodies ≤ 32) × (timed ≡ among timeTriggered (take bodies kind)) ⌝ }
     ensures { λ r. ⌜ r ≡ andThen (outside 1 (2 ^ bodies - 1) v badField)
         (unless (not (timedIn v (take bodies kind))) badField) ⌝ }
 {

@@ -8,7 +8,7 @@ ghost use mathlib.Core.Path.{_≡_};
 ghost use Prim.Native.Nat.{_≤_, _<_};
 ghost use lib.ListN.{take};
 ghost use Rattle.config.specs.Meaning.{timeTriggered};
-ghost use Rattle.config.specs.Draft.{occurs};
+ghost use Rattle.config.specs.Among.{among};
 ghost use Rattle.config_codec.specs.Parts.{MaskRead, MasksRead};
 
 // The mask of resource `i`; `timed`: whether a body is of kind 3.
@@ -21,7 +21,7 @@ fn read_mask<'a, 'b, 'c>(
     kind: &'b [u8; 32],
     users: &'c mut [u32; 16],
 ) -> Part
-    requires { ⌜ (i < 16) × ((bodies ≤ 32) × (timed ≡ occurs timeTriggered (take bodies (now kind)))) ⌝ }
+    requires { ⌜ (i < 16) × ((bodies ≤ 32) × (timed ≡ among timeTriggered (take bodies (now kind)))) ⌝ }
     ensures { λ r. ⌜ MaskRead (now (bytes .entry)) at i bodies (now (kind .entry)) (now (users .entry)) (r .refusal)
         (r .place) (now (users .exit)) ⌝ }
 {

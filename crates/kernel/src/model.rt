@@ -18,12 +18,12 @@ mod tables;
 mod value;
 
 pub use bodies::counts_lines;
-use stack::NONE;
+use stack::NO_BYTE;
 use stack::Row;
 
 // No body: in the place of a rank it says that nobody runs, or that there is no such task or ISR. It is what lies
 // past the bottom of the row of held resources.
-const NO_RANK: u8 = NONE;
+const NO_RANK: u8 = NO_BYTE;
 
 // The level that a time-triggered task runs at, and nobody else.
 const EXECUTION_LEVEL: u8 = 201;

@@ -6,7 +6,7 @@ use Prim.Native.Nat.{ℕ}
 use mathlib.Core.Bool.{Bool, false}
 use mathlib.Core.List.{List}
 use Rattle.stack.specs.declared.Row.{Row}
-use Rattle.stack.specs.Stack.{none}
+use Rattle.stack.specs.Stack.{noByte}
 
 -- The words, who runs and at which level: `request` has the ranks that wait to begin, `started` those that began and go
 -- on by their priority, `aside` those that began and do not: extended tasks that wait for an event bit, and
@@ -52,7 +52,7 @@ pub record Outcome : Type 0 where
 
 -- no body: neither a rank nor a body's number; it is what lies past the bottom of the row of held resources
 abbrev pub noRank : ℕ
-noRank = none
+noRank = noByte
 
 abbrev pub withCore : Model → Core → Model
 withCore m k =

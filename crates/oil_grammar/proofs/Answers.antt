@@ -7,7 +7,8 @@ use mathlib.Core.Path.{_≡_, refl}
 use mathlib.Core.List.{List, [], _∷_, _++_}
 use lib.ListN.{replicate}
 use Rattle.number.specs.Number.{numberBytes, groupBytes}
-use Rattle.config.specs.Draft.{occurs, timedIn, faultAt as numberFaultAt, putAt as numberPutAt, askedAt, ended as numbersEnded}
+use Rattle.config.specs.Among.{among as numberAmong}
+use Rattle.config.specs.Draft.{timedIn, faultAt as numberFaultAt, putAt as numberPutAt, askedAt, ended as numbersEnded}
 use Rattle.config.specs.Writer.{faultFrom, bytesFrom, configBytes}
 use Rattle.word.specs.Word.{has, with}
 use Rattle.oil_grammar.specs.Byte.{isSpace, isDigit, isLetter, isNameByte, isLineByte, span}
@@ -20,7 +21,7 @@ use Rattle.oil_grammar.specs.Reader.{lineAfter, columnAfter, readOil}
 use Rattle.oil_grammar.proofs.Ascii.{ascii}
 
 pub told : List ℕ → List ℕ
-unfolding ascii isSpace isDigit isLetter isNameByte isLineByte span same spelledSort signOf decimal ended closing comment blank blanks wordAt nextWord unexpected unknown only objectFault bodyFault attributeFault valueFault faultAt attributeBegun afterAt namesAt usesAt bears borne nameFault faultIn walk unborneAt unborne numberedAt marked mask putAt fill lineAfter columnAfter readOil has with occurs timedIn numberFaultAt numberPutAt askedAt numbersEnded faultFrom
+unfolding ascii isSpace isDigit isLetter isNameByte isLineByte span same spelledSort signOf decimal ended closing comment blank blanks wordAt nextWord unexpected unknown only objectFault bodyFault attributeFault valueFault faultAt attributeBegun afterAt namesAt usesAt bears borne nameFault faultIn walk unborneAt unborne numberedAt marked mask putAt fill lineAfter columnAfter readOil has with numberAmong timedIn numberFaultAt numberPutAt askedAt numbersEnded faultFrom
 told t = let r = readOil t in r .refusal ∷ r .line ∷ r .column ∷ []
 
 pub bytes : List ℕ → List ℕ

@@ -15,7 +15,8 @@ use lib.Dec.{leb, eqb}
 use borrow.Author.Tests.{eqb-true}
 use Rattle.word.specs.Word.{has, with}
 use Rattle.config.specs.declared.Config.{Config}
-use Rattle.config.specs.Draft.{occurs, timedIn, faultAt, putAt, askedAt, ended as numbersEnded}
+use Rattle.config.specs.Among.{among as numberAmong}
+use Rattle.config.specs.Draft.{timedIn, faultAt, putAt, askedAt, ended as numbersEnded}
 use Rattle.config.specs.Writer.{faultFrom}
 use Rattle.oil_grammar.specs.declared.OilRead.{OilRead}
 use Rattle.oil_grammar.specs.Byte.{isSpace, isDigit, isLetter, isNameByte, isLineByte, span}
@@ -156,7 +157,7 @@ used-fit (suc i) = fit-cons resource (used-fit i)
 
 -- the refusal of a text, its line and its column; it unfolds what the checker computes
 pub answer : OilRead → List ℕ
-unfolding digits bodies isrs attributes objects resources usesOf used taskAndUsed new allAmong wordsFrom priorities autostarts ascii isSpace isDigit isLetter isNameByte isLineByte span same spelledSort signOf decimal closing comment blank blanks wordAt nextWord wordOfBytes attributeWords attributesWords objectWords written among attributeUses objectUses O.resources has with usersWith usersFrom attributed attributedAll begun ended placed configOf occurs timedIn faultAt putAt askedAt numbersEnded faultFrom
+unfolding digits bodies isrs attributes objects resources usesOf used taskAndUsed new allAmong wordsFrom priorities autostarts ascii isSpace isDigit isLetter isNameByte isLineByte span same spelledSort signOf decimal closing comment blank blanks wordAt nextWord wordOfBytes attributeWords attributesWords objectWords written among attributeUses objectUses O.resources has with usersWith usersFrom attributed attributedAll begun ended placed configOf numberAmong timedIn faultAt putAt askedAt numbersEnded faultFrom
 answer r = r .refusal ∷ r .line ∷ r .column ∷ []
 
 -- 32 bodies are accepted, and 33 are too many

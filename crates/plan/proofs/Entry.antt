@@ -13,14 +13,16 @@ use Rattle.config.specs.Meaning.{entriesBefore}
 use Rattle.plan.specs.Entry.{tableIn, firstIn}
 
 -- one table more
-pub entriesBefore-step : (ns : List ℕ) (t : ℕ) → t < length ns → entriesBefore ns (suc t) ≡ entriesBefore ns t + getD ns t 0
+entriesBefore-step : (ns : List ℕ) (t : ℕ) → t < length ns
+    → entriesBefore ns (suc t) ≡ entriesBefore ns t + getD ns t 0
 unfolding entriesBefore
 entriesBefore-step [] t h = absurd (omega arith)
 entriesBefore-step (n ∷ ns) zero h = omega arith
 entriesBefore-step (n ∷ ns) (suc t) h = omega (arith, entriesBefore-step ns t (omega arith))
 
 -- a loop over the tables that counts the entries
-pub table-passed : (ns : List ℕ) (t e : ℕ) → t < length ns → e ≡ entriesBefore ns t → e + getD ns t 0 ≡ entriesBefore ns (t + 1)
+pub table-passed : (ns : List ℕ) (t e : ℕ) → t < length ns → e ≡ entriesBefore ns t
+    → e + getD ns t 0 ≡ entriesBefore ns (t + 1)
 table-passed ns t e h p = rw (p, add-one) (sym (entriesBefore-step ns t h))
 
 -- what is stored of a table whose entries begin at e
@@ -34,7 +36,8 @@ module _ (ns : List ℕ) (t left : ℕ) where
   unfolding tableIn
   table-here h l = rw (drop-cons ns t 0 h, lt-ltb left (getD ns t 0) l)
 
-  pub table-later : t < length ns → getD ns t 0 ≤ left → tableIn (drop t ns) left ≡ suc (tableIn (drop (suc t) ns) (left - getD ns t 0))
+  pub table-later : t < length ns → getD ns t 0 ≤ left
+      → tableIn (drop t ns) left ≡ suc (tableIn (drop (suc t) ns) (left - getD ns t 0))
   unfolding tableIn
   table-later h l = rw (drop-cons ns t 0 h, le-ltb left (getD ns t 0) l)
 
@@ -43,7 +46,8 @@ module _ (ns : List ℕ) (t left : ℕ) where
   table-none h = rw (drop-of-length-le ns {i = t} h)
 
 -- an entry is of the table whose entries it is among
-pub table-found : (ns : List ℕ) (t e : ℕ) → t < length ns → entriesBefore ns t ≤ e → e < entriesBefore ns (suc t) → tableIn ns e ≡ t
+pub table-found : (ns : List ℕ) (t e : ℕ) → t < length ns → entriesBefore ns t ≤ e → e < entriesBefore ns (suc t)
+    → tableIn ns e ≡ t
 unfolding tableIn entriesBefore
 table-found [] t e h lo hi = absurd (omega arith)
 table-found (n ∷ ns) zero e h lo hi = rw (lt-ltb e n (omega arith))
@@ -67,4 +71,5 @@ table-among [] (suc k) e h = absurd (omega arith)
 table-among (n ∷ ns) (suc k) e h =
     by-lt e n
     (λ l. rw (lt-ltb e n l) (omega arith, omega arith, omega arith))
-    (λ l. rw (le-ltb e n l) (let p = table-among ns k (e - n) (omega arith) in (omega (arith, p .0), omega (arith, p .1), omega (arith, p .2))))
+    (λ l. let p = table-among ns k (e - n) (omega arith) in
+    rw (le-ltb e n l) (omega (arith, p .0), omega (arith, p .1), omega (arith, p .2)))

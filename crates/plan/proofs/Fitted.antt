@@ -1,12 +1,12 @@
--- What the machine's events count on of the tables that they look up, as one record, and that the plan of an accepted configuration has it.
+-- What the machine's events count on of the tables that they look up, as one record, and that the plan of an accepted
+-- configuration has it.
 -- rk is the rank of a body.
 use Prim.Native.Nat.{ℕ, suc, _-_, _^_, _≤_, _<_}
-use mathlib.Core.Path.{_≡_, sym}
+use mathlib.Core.Path.{_≡_}
 use mathlib.Core.Bool.{true, cond}
 use native.Mathlib.Omega.{arith}
 use lib.Dec.{eqb}
 use lib.ListN.{length, getD, List·getD-eq-default}
-use Rattle.number.proofs.Cases.{by-lt}
 use Rattle.word.specs.Word.{ranks, has}
 use Rattle.config.specs.declared.Config.{Config}
 use Rattle.config.specs.Value.{maxBodies, maxResources, maxEntries, maxPriority}
@@ -49,12 +49,14 @@ pub record Fitted (c : Config) (p : Plan) (rk : ℕ → ℕ) : Type 0 where
   pub period-low : (t : ℕ) → t < c .tables → 1 ≤ getD (c .period) t 0
   pub period-high : (t : ℕ) → t < c .tables → getD (c .period) t 0 ≤ 65535
   pub entry-task : (e : ℕ) → e < firstOf c (c .tables) → isTask c (getD (c .task) e 0) ≡ true
-  pub offset-lt : (t e : ℕ) → t < c .tables → firstOf c t ≤ e → e < firstOf c (suc t) → getD (c .offset) e 0 < getD (c .period) t 0
+  pub offset-lt : (t e : ℕ) → t < c .tables → firstOf c t ≤ e → e < firstOf c (suc t)
+      → getD (c .offset) e 0 < getD (c .period) t 0
   pub offsets-long : length (c .offset) ≡ maxEntries
   pub tasks-long : length (c .task) ≡ maxEntries
   pub autostarts-long : length (c .autostart) ≡ maxBodies
   pub first-at : (t : ℕ) → t < c .tables → getD (p .first) t 0 ≡ firstOf c t
-  pub compare-at : (t e : ℕ) → t < c .tables → firstOf c t ≤ e → e < firstOf c (suc t) → getD (p .compare) e 0 ≡ getD (c .period) t 0 - 1
+  pub compare-at : (t e : ℕ) → t < c .tables → firstOf c t ≤ e → e < firstOf c (suc t)
+      → getD (p .compare) e 0 ≡ getD (c .period) t 0 - 1
   pub entry-rank-at : (e : ℕ) → e < p .count → getD (p .entry) e 0 ≡ rk (getD (c .task) e 0)
   pub entry-ranks-long : length (p .entry) ≡ maxEntries
   pub ceiling-few : (r : ℕ) → ceiling c r ≤ maxPriority
@@ -75,7 +77,7 @@ fitted c ok shaped =
       rank-lt = Plan.rank-lt c ok shaped;
       rank-order = Plan.rank-trigger c ok shaped;
       rank-inj = Plan.rank-inj c ok shaped;
-      own-inj = λ a b ha hb e. differ a b ha hb e;
+      own-inj = Configuration.priority-inj c ok;
       own-some = ok .priority-low;
       own-few = ok .priority-high;
       priority-at = Plan.rank-priority c ok shaped;
@@ -107,9 +109,3 @@ fitted c ok shaped =
       users-at = Plan.resource-users c ok shaped;
       user-ceiling = Configuration.user-ceiling c ok shaped;
     }
-  where
-    -- of two bodies with one priority neither comes first
-    differ : (a b : ℕ) → a < c .bodies → b < c .bodies → priorityOf c a ≡ priorityOf c b → a ≡ b
-    differ a b ha hb e =
-        by-lt a b (λ l. absurd (ok .priorities-differ a b l hb e))
-        (λ l. by-lt b a (λ k. absurd (ok .priorities-differ b a k ha (sym e))) (λ k. omega arith))

@@ -16,20 +16,29 @@ max-assoc a b c = omega arith
 max-zero : (a : ℕ) → max a 0 ≡ a
 max-zero a = omega arith
 
+-- the greatest of the elements from b on that the bits of m choose, of the first n of l
+abbrev leftIn : ℕ → List ℕ → ℕ → ℕ → ℕ
+leftIn n l m b = greatestIn m (drop b (take n l))
+
 -- a loop over a list that keeps the greatest so far of the elements that the bits of a mask choose
 module _ (m r n : ℕ) (l : List ℕ) (fits : n ≤ length l) (b : ℕ) where
-  pub chosen-next : b < n → m % 2 ≡ 1 → max (max r (getD l b 0)) (greatestIn (m / 2) (drop (suc b) (take n l))) ≡ max r (greatestIn m (drop b (take n l)))
+  pub chosen-next : b < n → m % 2 ≡ 1
+      → max (max r (getD l b 0)) (leftIn n l (m / 2) (suc b)) ≡ max r (leftIn n l m b)
   unfolding greatestIn
-  chosen-next h odd = rw (drop-take-cons n l b h fits, eq-eqb (m % 2) 1 odd) (max-assoc r (getD l b 0) (greatestIn (m / 2) (drop (suc b) (take n l))))
+  chosen-next h odd =
+      rw (drop-take-cons n l b h fits, eq-eqb (m % 2) 1 odd)
+      (max-assoc r (getD l b 0) (leftIn n l (m / 2) (suc b)))
 
-  pub unchosen-next : b < n → (m % 2 ≡ 1 → ⊥) → max r (greatestIn (m / 2) (drop (suc b) (take n l))) ≡ max r (greatestIn m (drop b (take n l)))
+  pub unchosen-next : b < n → (m % 2 ≡ 1 → ⊥) → max r (leftIn n l (m / 2) (suc b)) ≡ max r (leftIn n l m b)
   unfolding greatestIn
-  unchosen-next h even = rw (drop-take-cons n l b h fits, ne-eqb (m % 2) 1 even) (ap (max r) (zero-max-of (greatestIn (m / 2) (drop (suc b) (take n l)))))
+  unchosen-next h even =
+      rw (drop-take-cons n l b h fits, ne-eqb (m % 2) 1 even)
+      (ap (max r) (zero-max-of (leftIn n l (m / 2) (suc b))))
     where
       zero-max-of : (x : ℕ) → x ≡ max 0 x
       zero-max-of x = omega arith
 
-  pub chosen-all : n ≤ b → max r (greatestIn m (drop b (take n l))) ≡ r
+  pub chosen-all : n ≤ b → max r (leftIn n l m b) ≡ r
   unfolding greatestIn
   chosen-all h = rw (drop-of-length-le (take n l) {i = b} (rw (length-take-le n l fits) h)) (max-zero r)
 

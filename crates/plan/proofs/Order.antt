@@ -1,6 +1,7 @@
 -- Ranks order the bodies of an accepted configuration as their keys do, and so as the levels of their requests.
 use Prim.Native.Nat.{ℕ, _+_, _<_}
-use mathlib.Core.Path.{_≡_, sym}
+use mathlib.Core.Path.{_≡_}
+use mathlib.Core.List.{List}
 use native.Mathlib.Omega.{arith}
 use native.Mathlib.Nat.{min-eq-left}
 use lib.ListN.{getD, take}
@@ -11,6 +12,7 @@ use Rattle.config.specs.declared.Config.{Config}
 use Rattle.config.specs.Value.{maxPriority}
 use Rattle.config.specs.Meaning.{timeTriggered, triggerLevel, priorityOf}
 use Rattle.config.specs.Accepted.{Accepted, Shaped}
+use Rattle.config.proofs.Theorems.{priority-inj}
 use Rattle.plan.specs.Rank.{bodyCount, keyOf, keys, rankOf}
 use Rattle.plan.specs.Plan.{triggerOf}
 use Rattle.plan.proofs.Below.{below-mono, below-order}
@@ -27,19 +29,25 @@ module _ (c : Config) (accepted : Accepted c) (shaped : Shaped c) where
   key : (b : ℕ) → b < c .bodies → getD (keys c) b 0 ≡ keyOf c b
   key b h = Ranking.keys-at c b (rw all-bodies h)
 
+  -- the keys of all bodies
+  abbrev bodyKeys : List ℕ
+  bodyKeys = take (bodyCount c) (keys c)
+
   pub rank-rises : (a b : ℕ) → a < c .bodies → b < c .bodies → keyOf c a < keyOf c b → rankOf c a < rankOf c b
   rank-rises a b ha hb l =
       rw own at
-      (below-order (take (bodyCount c) (keys c)) a (getD (keys c) b 0) (rw (Ranking.all-keys-long c, all-bodies) ha) (rw (own, key a ha, key b hb) l))
+      (below-order bodyKeys a (getD (keys c) b 0) (rw (Ranking.all-keys-long c, all-bodies) ha)
+      (rw (own, key a ha, key b hb) l))
     where
-      own : getD (take (bodyCount c) (keys c)) a 0 ≡ getD (keys c) a 0
+      own : getD bodyKeys a 0 ≡ getD (keys c) a 0
       own = getD-take (bodyCount c) (keys c) a 0 (rw all-bodies ha)
 
   pub rank-order : (a b : ℕ) → a < c .bodies → b < c .bodies → rankOf c a < rankOf c b → keyOf c a < keyOf c b
   rank-order a b ha hb l =
       by-lt (keyOf c a) (keyOf c b)
       (λ p. p)
-      (λ p. absurd (omega (arith, below-mono (getD (keys c) b 0) (getD (keys c) a 0) (take (bodyCount c) (keys c)) (rw (key a ha, key b hb) p))))
+      (λ p. absurd
+      (omega (arith, below-mono (getD (keys c) b 0) (getD (keys c) a 0) bodyKeys (rw (key a ha, key b hb) p))))
 
   -- a time-triggered task's key is above every priority, and any other body's is its priority
   key-timed : (b : ℕ) → getD (c .kind) b 0 ≡ timeTriggered → keyOf c b ≡ maxPriority + priorityOf c b
@@ -68,16 +76,7 @@ module _ (c : Config) (accepted : Accepted c) (shaped : Shaped c) where
       (λ eb. omega (arith, key-other a ea, key-timed b eb))
       (λ eb. omega (arith, l, trigger-other a ea, trigger-other b eb, key-other a ea, key-other b eb)))
 
-  -- two bodies differ in priority
-  differ : (a b : ℕ) → a < c .bodies → b < c .bodies → priorityOf c a ≡ priorityOf c b → a ≡ b
-  differ a b ha hb e =
-      by-lt a b
-      (λ l. absurd (accepted .priorities-differ a b l hb e))
-      (λ l. by-lt b a
-      (λ m. absurd (accepted .priorities-differ b a m ha (sym e)))
-      (λ m. omega arith))
-
-  -- so do their keys
+  -- two bodies differ in priority; so do their keys
   keys-differ : (a b : ℕ) → a < c .bodies → b < c .bodies → keyOf c a ≡ keyOf c b → a ≡ b
   keys-differ a b ha hb e =
       let few-a = accepted .priority-high a ha in
@@ -86,11 +85,11 @@ module _ (c : Config) (accepted : Accepted c) (shaped : Shaped c) where
       let some-b = accepted .priority-low b hb in
       by-eq (getD (c .kind) a 0) timeTriggered
       (λ ea. by-eq (getD (c .kind) b 0) timeTriggered
-      (λ eb. differ a b ha hb (omega (arith, e, key-timed a ea, key-timed b eb)))
+      (λ eb. priority-inj c accepted a b ha hb (omega (arith, e, key-timed a ea, key-timed b eb)))
       (λ eb. absurd (omega (arith, e, key-timed a ea, key-other b eb))))
       (λ ea. by-eq (getD (c .kind) b 0) timeTriggered
       (λ eb. absurd (omega (arith, e, key-other a ea, key-timed b eb)))
-      (λ eb. differ a b ha hb (omega (arith, e, key-other a ea, key-other b eb))))
+      (λ eb. priority-inj c accepted a b ha hb (omega (arith, e, key-other a ea, key-other b eb))))
 
   pub rank-inj : (a b : ℕ) → a < c .bodies → b < c .bodies → rankOf c a ≡ rankOf c b → a ≡ b
   rank-inj a b ha hb e =

@@ -1,7 +1,8 @@
--- What the crate shows beyond its contract, over specs/ alone: what the machine's lookups in a plan give. Callers lean on these laws.
+-- What the crate shows beyond its contract, over specs/ alone: what the machine's lookups in a plan give.
+-- Callers lean on these laws.
 --
--- In order: lengths, of whatever configuration; then of every accepted one ranks, ranks by body, bodies by rank, the words, ceilings,
--- tables, entries.
+-- In order: lengths, of whatever configuration;
+-- then of every accepted one ranks, ranks by body, bodies by rank, the words, ceilings, tables, entries.
 use Prim.Native.Nat.{ℕ, suc, _-_, _/_, _%_, _^_, _≤_, _<_}
 use mathlib.Core.Path.{_≡_, ap, _∙_}
 use mathlib.Core.Bool.{true, cond}
@@ -9,7 +10,7 @@ use mathlib.Core.Logic.{_↔_}
 use native.Mathlib.Omega.{arith}
 use native.Mathlib.Nat.{min-eq-left}
 use lib.Dec.{eqb}
-use lib.ListN.{length, getD, take, replicate, length-replicate, length-take, getD-replicate, List·getD-eq-default}
+use lib.ListN.{length, getD, take, replicate, length-replicate, length-take}
 use lib.Seq.{getD-take}
 use borrow.Author.Tests.{lt-ltb, le-ltb}
 use Rattle.number.proofs.Cases.{by-lt}
@@ -24,14 +25,13 @@ use Rattle.plan.specs.declared.Plan.{Plan}
 use Rattle.plan.specs.Stored.{stored, listed}
 use Rattle.plan.specs.Marked.{marked}
 use Rattle.plan.specs.Rank.{noRank, keyOf, rankOf, bodyCount, callableRank, lineRank}
-use Rattle.plan.specs.Entry.{entryTable, tableCount, entryCount, firstEntry, compareOf, entryRank}
+use Rattle.plan.specs.Entry.{entryTable, tableCount, entryCount, tableFirst, compareOf, entryRank}
 use Rattle.plan.specs.Plan.{triggerOf, resourceCount, usersOf, planOf}
-use Rattle.plan.proofs.Stored.{length-stored, stored-at, stored-past, getD-any}
+use Rattle.plan.proofs.Stored.{length-stored, stored-at, listed-at, listed-past, getD-any}
 use Rattle.plan.proofs.Words.{marked-has, marked-some, marked-lt}
 use Rattle.plan.proofs.Greatest.{greatestIn-le}
 use Rattle.plan.proofs.Entry.{entriesBefore-le, table-found, table-among}
 use Rattle.plan.proofs.Order as Order
-use Rattle.plan.proofs.Ranking.{ranks-at}
 
 -- the lengths of the lists, and the size of the words, of whatever configuration
 pub record Sized (p : Plan) : Type 0 where
@@ -70,20 +70,6 @@ plan-sized c =
       count-le = omega arith;
     }
 
--- a list that is filled from the front has f i at i
-listed-at : (f : ℕ → ℕ) (n m z i d : ℕ) → i < n → i < m → getD (listed f n (replicate m z)) i d ≡ f i
-listed-at f n m z i d h l = stored-at (λ j. j) f n (replicate m z) (λ j k _ _ e. e) i d h (rw length-replicate l)
-
--- and past what is filled it is as it was
-listed-past : (f : ℕ → ℕ) (n m z i : ℕ) → n ≤ i → getD (listed f n (replicate m z)) i z ≡ z
-listed-past f n m z i h = stored-past (λ j. j) f n (replicate m z) i z (λ j l e. omega arith) ∙ same
-  where
-    same : getD (replicate m z) i z ≡ z
-    same =
-        by-lt i m
-        (λ l. getD-replicate m i z z l)
-        (λ l. List·getD-eq-default (replicate m z) z {n = i} (rw length-replicate l))
-
 module _ (c : Config) (accepted : Accepted c) (shaped : Shaped c) where
   -- "Bodies are ranked by priority"
   pub rank-lt : (b : ℕ) → b < c .bodies → rankOf c b < c .bodies
@@ -95,36 +81,53 @@ module _ (c : Config) (accepted : Accepted c) (shaped : Shaped c) where
   pub rank-order : (a b : ℕ) → a < c .bodies → b < c .bodies → (keyOf c a < keyOf c b) ↔ (rankOf c a < rankOf c b)
   rank-order a b ha hb = (Order.rank-rises c accepted shaped a b ha hb, Order.rank-order c accepted shaped a b ha hb)
 
-  -- so that of two requests with different levels the one with the higher level has the higher rank: a time-triggered task before all others
+  -- so that of two requests with different levels the one with the higher level has the higher rank:
+  -- a time-triggered task before all others
   pub rank-trigger : (a b : ℕ) → a < c .bodies → b < c .bodies → triggerOf c a < triggerOf c b → rankOf c a < rankOf c b
-  rank-trigger a b ha hb l = Order.rank-rises c accepted shaped a b ha hb (Order.key-rises c accepted shaped a b ha hb l)
+  rank-trigger a b ha hb l =
+      Order.rank-rises c accepted shaped a b ha hb (Order.key-rises c accepted shaped a b ha hb l)
+
+  -- what is listed by body, inside and past the bodies
+  all : bodyCount c ≡ c .bodies
+  all = Order.all-bodies c accepted shaped
+
+  by-body : (f : ℕ → ℕ) (b : ℕ) → b < c .bodies
+      → getD (listed f (bodyCount c) (replicate maxBodies noRank)) b noRank ≡ f b
+  by-body f b h =
+      listed-at f (bodyCount c) maxBodies noRank b noRank (rw all h) (omega (arith, accepted .few-bodies))
+
+  past-bodies : (f : ℕ → ℕ) (b : ℕ) → c .bodies ≤ b
+      → getD (listed f (bodyCount c) (replicate maxBodies noRank)) b noRank ≡ noRank
+  past-bodies f b h = listed-past f (bodyCount c) maxBodies noRank b (rw all h)
 
   -- a body's rank; the same where it is a task and where it is an ISR, and nothing else has one
   pub body-rank : (b : ℕ) → b < c .bodies → getD (planOf c .rank) b noRank ≡ rankOf c b
   unfolding planOf
-  body-rank b h = ranks-at c b noRank (rw (Order.all-bodies c accepted shaped) h)
+  body-rank = by-body (rankOf c)
 
   pub rank-none : (b : ℕ) → c .bodies ≤ b → getD (planOf c .rank) b noRank ≡ noRank
   unfolding planOf
-  rank-none b h = listed-past (rankOf c) (bodyCount c) maxBodies noRank b (rw (Order.all-bodies c accepted shaped) h)
+  rank-none = past-bodies (rankOf c)
 
   pub callable-rank : (b : ℕ) → getD (planOf c .callable) b noRank ≡ cond (isOsekTask c b) (rankOf c b) noRank
   unfolding planOf
   callable-rank b =
       by-lt b (c .bodies)
-      (λ h. listed-at (callableRank c) (bodyCount c) maxBodies noRank b noRank (rw (Order.all-bodies c accepted shaped) h) (omega (arith, accepted .few-bodies)))
-      (λ h. listed-past (callableRank c) (bodyCount c) maxBodies noRank b (rw (Order.all-bodies c accepted shaped) h) ∙ simp (le-ltb b (c .bodies) h))
+      (λ h. by-body (callableRank c) b h)
+      (λ h. past-bodies (callableRank c) b h ∙ simp (le-ltb b (c .bodies) h))
 
   pub line-rank : (b : ℕ) → getD (planOf c .line) b noRank ≡ cond (isIsr c b) (rankOf c b) noRank
   unfolding planOf
   line-rank b =
       by-lt b (c .bodies)
-      (λ h. listed-at (lineRank c) (bodyCount c) maxBodies noRank b noRank (rw (Order.all-bodies c accepted shaped) h) (omega (arith, accepted .few-bodies)))
-      (λ h. listed-past (lineRank c) (bodyCount c) maxBodies noRank b (rw (Order.all-bodies c accepted shaped) h) ∙ simp (le-ltb b (c .bodies) h))
+      (λ h. by-body (lineRank c) b h)
+      (λ h. past-bodies (lineRank c) b h ∙ simp (le-ltb b (c .bodies) h))
 
   -- the same as the code reads it, where the default does not count
-  pub callable-rank-read : (b d : ℕ) → b < maxBodies → getD (planOf c .callable) b d ≡ cond (isOsekTask c b) (rankOf c b) noRank
-  callable-rank-read b d h = getD-any (planOf c .callable) b d noRank (omega (arith, plan-sized c .tasks)) ∙ callable-rank b
+  pub callable-rank-read : (b d : ℕ) → b < maxBodies
+      → getD (planOf c .callable) b d ≡ cond (isOsekTask c b) (rankOf c b) noRank
+  callable-rank-read b d h =
+      getD-any (planOf c .callable) b d noRank (omega (arith, plan-sized c .tasks)) ∙ callable-rank b
 
   pub line-rank-read : (b d : ℕ) → b < maxBodies → getD (planOf c .line) b d ≡ cond (isIsr c b) (rankOf c b) noRank
   line-rank-read b d h = getD-any (planOf c .line) b d noRank (omega (arith, plan-sized c .lines)) ∙ line-rank b
@@ -134,33 +137,41 @@ module _ (c : Config) (accepted : Accepted c) (shaped : Shaped c) where
   inj a b ha hb = rank-inj a b (omega arith) (omega arith)
 
   -- what is stored by rank
-  by-rank : (f : ℕ → ℕ) (b : ℕ) → b < c .bodies → getD (stored (rankOf c) f (bodyCount c) (replicate maxBodies 0)) (rankOf c b) 0 ≡ f b
+  by-rank : (f : ℕ → ℕ) (b : ℕ) → b < c .bodies
+      → getD (stored (rankOf c) f (bodyCount c) (replicate maxBodies 0)) (rankOf c b) 0 ≡ f b
   by-rank f b h =
-      stored-at (rankOf c) f (bodyCount c) (replicate maxBodies 0) inj b 0 (rw (Order.all-bodies c accepted shaped) h)
+      stored-at (rankOf c) f (bodyCount c) (replicate maxBodies 0) inj b 0 (rw all h)
       (rw length-replicate (omega (arith, rank-lt b h, accepted .few-bodies)))
 
   pub rank-priority : (b : ℕ) → b < c .bodies → getD (planOf c .priority) (rankOf c b) 0 ≡ triggerOf c b
   unfolding planOf
   rank-priority = by-rank (triggerOf c)
 
-  -- a time-triggered task that is triggered "preempts all that runs": the level of its request is above the one that another of them runs at
-  pub trigger-above : (b : ℕ) → b < c .bodies → getD (c .kind) b 0 ≡ timeTriggered → executionLevel < getD (planOf c .priority) (rankOf c b) 0
+  -- a time-triggered task that is triggered "preempts all that runs":
+  -- the level of its request is above the one that another of them runs at
+  pub trigger-above : (b : ℕ) → b < c .bodies → getD (c .kind) b 0 ≡ timeTriggered
+      → executionLevel < getD (planOf c .priority) (rankOf c b) 0
   trigger-above b h e = omega (arith, rank-priority b h, Order.trigger-timed c accepted shaped b e)
 
   pub rank-body : (b : ℕ) → b < c .bodies → getD (planOf c .body) (rankOf c b) 0 ≡ b
   unfolding planOf
   rank-body = by-rank (λ b. b)
 
-  -- a body's rank is in the word of the bodies whose field f is v exactly if its own is, and every rank in it is some body's
-  in-word : (f : ℕ → ℕ) (v b : ℕ) → b < c .bodies → has (marked (rankOf c) f v (bodyCount c)) (rankOf c b) ≡ eqb (f b) v
-  in-word f v b h =
-      marked-has (rankOf c) f v (bodyCount c) inj (λ i l. omega (arith, rank-lt i (omega arith), accepted .few-bodies)) b
-      (rw (Order.all-bodies c accepted shaped) h)
+  -- a body's rank is in the word of the bodies whose field f is v exactly if its own is,
+  -- and every rank in it is some body's
+  in-word : (f : ℕ → ℕ) (v b : ℕ) → b < c .bodies
+      → has (marked (rankOf c) f v (bodyCount c)) (rankOf c b) ≡ eqb (f b) v
+  in-word f v b h = marked-has (rankOf c) f v (bodyCount c) inj small b (rw all h)
+    where
+      small : (i : ℕ) → i < bodyCount c → rankOf c i < Word.ranks
+      small i l = omega (arith, rank-lt i (omega arith), accepted .few-bodies)
 
-  of-word : (f : ℕ → ℕ) (v r : ℕ) → has (marked (rankOf c) f v (bodyCount c)) r ≡ true → (b : ℕ) × (b < c .bodies) × (rankOf c b ≡ r)
+  of-word : (f : ℕ → ℕ) (v r : ℕ) → has (marked (rankOf c) f v (bodyCount c)) r ≡ true
+      → (b : ℕ) × (b < c .bodies) × (rankOf c b ≡ r)
   of-word f v r e = let x = marked-some (rankOf c) f v (bodyCount c) r e in (x .0, omega (arith, x .1), x .2)
 
-  -- the word of the ISRs, those of the extended and the time-triggered tasks, and that of the tasks that are ready at the fresh start
+  -- the word of the ISRs, those of the extended and the time-triggered tasks,
+  -- and that of the tasks that are ready at the fresh start
   pub rank-isr : (b : ℕ) → b < c .bodies → has (planOf c .isrs) (rankOf c b) ≡ isIsr c b
   unfolding planOf
   rank-isr b h = rw (lt-ltb b (c .bodies) h) (in-word (λ i. getD (c .kind) i 0) isr b h)
@@ -169,7 +180,8 @@ module _ (c : Config) (accepted : Accepted c) (shaped : Shaped c) where
   unfolding planOf
   rank-extended b h = rw (lt-ltb b (c .bodies) h) (in-word (λ i. getD (c .kind) i 0) extended b h)
 
-  pub rank-autostart : (b : ℕ) → b < c .bodies → has (planOf c .autostart) (rankOf c b) ≡ eqb (getD (c .autostart) b 0) 1
+  pub rank-autostart : (b : ℕ) → b < c .bodies
+      → has (planOf c .autostart) (rankOf c b) ≡ eqb (getD (c .autostart) b 0) 1
   unfolding planOf
   rank-autostart = in-word (λ i. getD (c .autostart) i 0) 1
 
@@ -186,23 +198,31 @@ module _ (c : Config) (accepted : Accepted c) (shaped : Shaped c) where
   unfolding planOf
   autostart-body = of-word (λ i. getD (c .autostart) i 0) 1
 
+  -- what is listed by resource
+  by-resource : (f : ℕ → ℕ) (r : ℕ) → r < c .resources
+      → getD (listed f (resourceCount c) (replicate maxResources 0)) r 0 ≡ f r
+  by-resource f r h =
+      listed-at f (resourceCount c) maxResources 0 r 0 (omega (arith, accepted .few-resources))
+      (omega (arith, accepted .few-resources))
+
   -- a resource's ceiling
   pub resource-ceiling : (r : ℕ) → r < c .resources → getD (planOf c .ceiling) r 0 ≡ ceiling c r
   unfolding planOf
-  resource-ceiling r h =
-      listed-at (ceiling c) (resourceCount c) maxResources 0 r 0 (omega (arith, accepted .few-resources)) (omega (arith, accepted .few-resources))
+  resource-ceiling = by-resource (ceiling c)
 
   -- its users: a body's rank is in the word exactly if the body is one of them
-  pub resource-users : (r b : ℕ) → r < c .resources → b < c .bodies → has (getD (planOf c .users) r 0) (rankOf c b) ≡ isUser c r b
+  pub resource-users : (r b : ℕ) → r < c .resources → b < c .bodies
+      → has (getD (planOf c .users) r 0) (rankOf c b) ≡ isUser c r b
   unfolding planOf
   resource-users r b h l =
-      rw (listed-at (usersOf c) (resourceCount c) maxResources 0 r 0 (omega (arith, accepted .few-resources)) (omega (arith, accepted .few-resources)), lt-ltb r (c .resources) h)
+      rw (by-resource (usersOf c) r h, lt-ltb r (c .resources) h)
       (in-word (λ i. getD (c .users) r 0 / 2 ^ i % 2) 1 b l)
 
   pub ceiling-le : (r : ℕ) → ceiling c r ≤ maxPriority
   ceiling-le r = greatestIn-le (getD (c .users) r 0) maxPriority (take (c .bodies) (c .priority)) each
     where
-      each : (b : ℕ) → b < length (take (c .bodies) (c .priority)) → getD (take (c .bodies) (c .priority)) b 0 ≤ maxPriority
+      each : (b : ℕ) → b < length (take (c .bodies) (c .priority))
+          → getD (take (c .bodies) (c .priority)) b 0 ≤ maxPriority
       each b h =
           let l : b < c .bodies = omega (arith, length-take (c .bodies) (c .priority)) in
           rw (getD-take (c .bodies) (c .priority) b 0 l) (accepted .priority-high b l)
@@ -214,7 +234,8 @@ module _ (c : Config) (accepted : Accepted c) (shaped : Shaped c) where
   pub table-first : (t : ℕ) → t < c .tables → getD (planOf c .first) t 0 ≡ firstOf c t
   unfolding planOf
   table-first t h =
-      listed-at (firstEntry c) (tableCount c) maxTables 0 t 0 (omega (arith, accepted .few-tables)) (omega (arith, accepted .few-tables))
+      listed-at (tableFirst c) (tableCount c) maxTables 0 t 0 (omega (arith, accepted .few-tables))
+      (omega (arith, accepted .few-tables))
       ∙ min-eq-left (omega (arith, first-le t (omega arith), accepted .few-entries))
 
   -- how many entries there are in all
@@ -226,27 +247,34 @@ module _ (c : Config) (accepted : Accepted c) (shaped : Shaped c) where
   entry-count-le = omega (arith, entry-count, accepted .few-entries)
 
   -- an entry's table is the one whose entries it is among
-  pub entry-table : (e : ℕ) → e < planOf c .count → (entryTable c e < c .tables) × (firstOf c (entryTable c e) ≤ e) × (e < firstOf c (suc (entryTable c e)))
+  pub entry-table : (e : ℕ) → e < planOf c .count
+      → (entryTable c e < c .tables) × (firstOf c (entryTable c e) ≤ e) × (e < firstOf c (suc (entryTable c e)))
   entry-table e h = table-among (c .entries) (c .tables) e (omega (arith, entry-count))
 
-  counted : (e : ℕ) → e < planOf c .count → e < entryCount c
+  -- what is listed by entry
+  by-entry : (f : ℕ → ℕ) (e : ℕ) → e < planOf c .count
+      → getD (listed f (entryCount c) (replicate maxEntries 0)) e 0 ≡ f e
   unfolding planOf
-  counted e h = h
+  by-entry f e h = listed-at f (entryCount c) maxEntries 0 e 0 h (omega arith)
 
   -- "Compare value: period P minus 1"
-  pub entry-compare : (t e : ℕ) → t < c .tables → firstOf c t ≤ e → e < firstOf c (suc t) → getD (planOf c .compare) e 0 ≡ getD (c .period) t 0 - 1
+  pub entry-compare : (t e : ℕ) → t < c .tables → firstOf c t ≤ e → e < firstOf c (suc t)
+      → getD (planOf c .compare) e 0 ≡ getD (c .period) t 0 - 1
   unfolding planOf
   entry-compare t e h lo hi =
-      let inside : e < firstOf c (c .tables) = omega (arith, first-le (suc t) (omega arith)) in
-      listed-at (compareOf c) (entryCount c) maxEntries 0 e 0 (counted e (omega (arith, entry-count))) (omega (arith, accepted .few-entries))
-      ∙ ap (λ k. getD (c .period) k 0 - 1) (table-found (c .entries) t e (omega (arith, accepted .few-tables, shaped .counts)) lo hi)
+      by-entry (compareOf c) e (omega (arith, entry-count, first-le (suc t) (omega arith)))
+      ∙ ap (λ k. getD (c .period) k 0 - 1) found
+    where
+      found : entryTable c e ≡ t
+      found = table-found (c .entries) t e (omega (arith, accepted .few-tables, shaped .counts)) lo hi
 
   -- the rank of an entry's task
-  looked-up : (e : ℕ) → e < planOf c .count → getD (planOf c .entry) e 0 ≡ getD (planOf c .rank) (getD (c .task) e 0) noRank
+  looked-up : (e : ℕ) → e < planOf c .count
+      → getD (planOf c .entry) e 0 ≡ getD (planOf c .rank) (getD (c .task) e 0) noRank
   unfolding planOf
-  looked-up e h = listed-at (entryRank c) (entryCount c) maxEntries 0 e 0 (counted e h) (omega arith)
+  looked-up = by-entry (entryRank c)
 
   pub entry-rank : (e : ℕ) → e < planOf c .count → getD (planOf c .entry) e 0 ≡ rankOf c (getD (c .task) e 0)
   entry-rank e h =
-      looked-up e h
-      ∙ body-rank (getD (c .task) e 0) (isTask-true c (getD (c .task) e 0) (accepted .entry-task e (omega (arith, entry-count))) .0)
+      let task = isTask-true c (getD (c .task) e 0) (accepted .entry-task e (omega (arith, entry-count))) in
+      looked-up e h ∙ body-rank (getD (c .task) e 0) (task .0)

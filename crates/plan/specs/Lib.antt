@@ -1,7 +1,8 @@
--- What the contracts of `plan` cite, in reading order: lists filled in turn, words of ranks, ranks, entries, the whole plan.
+-- What the contracts of `plan` cite, in reading order:
+-- lists filled in turn, words of ranks, ranks, entries, the whole plan.
 --
--- Letters: c a configuration, p a plan; b a body, r a rank or a resource, t a table, e an entry, each by its number; l a list that is filled in n turns, at the
--- place `at n` with `f n`.
+-- Letters: c a configuration, p a plan; b a body, r a rank or a resource, t a table, e an entry, each by its number;
+-- l a list that is filled in n turns, at the place `at n` with `f n`.
 pub mod Stored
 pub mod Marked
 pub mod Rank

@@ -12,10 +12,11 @@ use Rattle.config.specs.Meaning.{isr, extended, timeTriggered, triggerLevel, ce
 use Rattle.plan.specs.declared.Plan.{Plan}
 use Rattle.plan.specs.Stored.{stored, listed}
 use Rattle.plan.specs.Marked.{marked}
-use Rattle.plan.specs.Rank.{bodyCount, rankOf, ranks, callableRanks, lineRanks}
-use Rattle.plan.specs.Entry.{tableCount, entryCount, firstEntry, compareOf, entryRank}
+use Rattle.plan.specs.Rank.{bodyCount, rankOf, bodyRanks, callableRanks, lineRanks}
+use Rattle.plan.specs.Entry.{tableCount, entryCount, tableFirst, compareOf, entryRank}
 
--- the level that a request of body b is compared with: its priority; of a time-triggered task "the trigger level is 202"
+-- the level that a request of body b is compared with: its priority;
+-- of a time-triggered task "the trigger level is 202"
 abbrev pub triggerIn : List ℕ → List ℕ → ℕ → ℕ
 triggerIn kinds ps b = cond (eqb (getD kinds b 0) timeTriggered) triggerLevel (getD ps b 0)
 
@@ -57,7 +58,7 @@ userWords c = listed (usersOf c) (resourceCount c) (replicate maxResources 0)
 
 -- by table: its first entry
 abbrev pub firsts : Config → List ℕ
-firsts c = listed (firstEntry c) (tableCount c) (replicate maxTables 0)
+firsts c = listed (tableFirst c) (tableCount c) (replicate maxTables 0)
 
 -- by entry: its cell's compare value, and the rank of its task
 abbrev pub compares : Config → List ℕ
@@ -69,7 +70,7 @@ entryRanks c = listed (entryRank c) (entryCount c) (replicate maxEntries 0)
 unfoldable pub planOf : Config → Plan
 planOf c =
     record {
-      rank = ranks c;
+      rank = bodyRanks c;
       callable = callableRanks c;
       line = lineRanks c;
       priority = priorities c;

@@ -10,7 +10,7 @@ ghost use lib.ListN.{getD, replicate};
 ghost use Rattle.config.specs.Value.{maxTables, maxEntries};
 ghost use Rattle.plan.specs.Stored.{listed};
 ghost use Rattle.plan.specs.Rank.{noRank};
-ghost use Rattle.plan.specs.Entry.{tableIn, firstIn, compareIn};
+ghost use Rattle.plan.specs.Entry.{tableIn, firstIn, entryCompareIn};
 
 // By table its first entry, and how many entries there are in all.
 pub struct ByTable {
@@ -71,7 +71,7 @@ fn compare(period: [u16; 8], t: usize) -> u16
 
 pub fn compares(entries: [u8; 8], period: [u16; 8], count: usize) -> [u16; 64]
     requires { ⌜ count ≤ maxEntries ⌝ }
-    ensures { λ r. ⌜ r ≡ listed (compareIn entries period) count (replicate maxEntries 0) ⌝ }
+    ensures { λ r. ⌜ r ≡ listed (entryCompareIn entries period) count (replicate maxEntries 0) ⌝ }
 {
     let mut t = [0u16; 64];
     let mut e = 0;

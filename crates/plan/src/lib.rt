@@ -40,7 +40,8 @@ pub struct Plan {
     pub rank: [u8; 32],
     pub callable: [u8; 32],
     pub line: [u8; 32],
-    // By rank the level that a request is compared with, its priority or a time-triggered task's trigger level, and the body's number.
+    // By rank the level that a request is compared with, its priority or a time-triggered task's trigger level,
+    // and the body's number.
     pub priority: [u8; 32],
     pub body: [u8; 32],
     // The words of the ranks that are ISRs, of those that are extended tasks, and of those of autostart tasks.

@@ -61,8 +61,11 @@ pub fn by_resource(
     n: usize,
 ) -> ByResource
     requires { ⌜ (resources ≤ maxResources) × (n ≤ maxBodies) ⌝ }
-    ensures ceilings { λ r. ⌜ r .ceiling ≡ listed (λ i. greatestIn (getD masks i 0) (take n priority)) resources (replicate maxResources 0) ⌝ }
-    ensures users { λ r. ⌜ r .users ≡ listed (λ i. marked (λ b. getD ranks b 0) (λ b. getD masks i 0 / 2 ^ b % 2) 1 n) resources (replicate maxResources 0) ⌝ }
+    ensures ceilings { λ r. ⌜ r .ceiling
+        ≡ listed (λ i. greatestIn (getD masks i 0) (take n priority)) resources (replicate maxResources 0) ⌝ }
+    ensures users { λ r. ⌜ r .users
+        ≡ listed (λ i. marked (λ b. getD ranks b 0) (λ b. getD masks i 0 / 2 ^ b % 2) 1 n) resources
+        (replicate maxResources 0) ⌝ }
 {
     let mut by = [0u8; 16];
     let mut users = [0u32; 16];

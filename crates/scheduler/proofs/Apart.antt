@@ -1,5 +1,5 @@
--- Bodies that are apart, one's current priority being below the other's own: so after every list of events, by
--- `reached-kept`.
+-- Bodies that are apart, one's current priority being below the other's own:
+-- so after every list of events, by `reached-kept`.
 --
 -- In order: bodies that are apart; what a change of one body leaves of it; the runner's own priority is above the
 -- current priority of the others (`outranks`); every event keeps it, from the fresh start on. Which bodies are apart is
@@ -7,18 +7,19 @@
 -- started, where no task is extended.
 use Prim.Native.Nat.{ℕ, zero, suc, _+_, _*_, max, _≤_, _<_}
 use mathlib.Core.Path.{_≡_, refl, sym, ap, subst⁻¹, _∙_}
-use mathlib.Core.Bool.{Bool, true, false, true≢false, cond, not}
+use mathlib.Core.Bool.{Bool, true, false, true≢false, cond}
 use mathlib.Core.List.{List, [], _∷_, foldr, map}
 use mathlib.Core.Logic.{_≢_, _⊎_, inl, inr, ⊎-elim}
 use native.Mathlib.Omega.{arith}
-use borrow.Author.Tests.{eq-eqb, ne-eqb}
+use borrow.Author.Tests.{eq-eqb, ne-eqb, not-false}
 use lib.Dec.{eqb}
 use lib.ListN.{length, getD, set, length-set, take, length-map, List·getD-map, List·getD-eq-default}
 use lib.Seq.{getD-set-same, getD-set-other, set-out, length-take-le}
-use Rattle.number.proofs.Cases.{by-test, by-lt, by-eq}
+use Rattle.number.proofs.Cases.{by-test, by-lt, by-eq, cond-either, refuted}
 use Rattle.config.specs.declared.Config.{Config}
 use Rattle.config.specs.Meaning.{priorityOf, ceiling}
 use Rattle.config.specs.Accepted as Configuration
+use Rattle.config.proofs.Theorems.{priority-inj}
 use Rattle.scheduler.specs.Status.{done}
 use Rattle.scheduler.specs.Bits.{anySet, withBits}
 use Rattle.scheduler.specs.Body.{Phase, suspended, ready, started, waiting, triggered, isSuspended, isStarted, hasBegun, competes, Body, holds, current, become, activated, triggers, ended, finished, requested, gets, releases, loses, waits, resumed, receives, clears}
@@ -31,7 +32,7 @@ use Rattle.scheduler.specs.Scheduler.{begins, phaseBegun, markOf, dispat
 use Rattle.scheduler.specs.History.{AcceptedIn}
 use Rattle.scheduler.proofs.Choice.{contender, weight, chosen-weight, chosen-from, candidate-active, current-own, current-free, Taken, no-one, body, runner-timed, runner-untimed}
 use Rattle.scheduler.proofs.Checks.{activate-passed, finish-passed, chain-passed, get-passed, release-passed, wait-passed, accepted-untimed}
-use Rattle.scheduler.proofs.Effects.{entered, activatingDue-keeps, refusalOf-keeps, cond-either}
+use Rattle.scheduler.proofs.Effects.{entered, activatingDue-keeps, refusalOf-keeps}
 use Rattle.scheduler.proofs.Refusals.{begins-some, Underway, underway-untimed, underway-fresh, underway-step}
 use Rattle.scheduler.proofs.Losses.{entered-active}
 
@@ -39,8 +40,8 @@ use Rattle.scheduler.proofs.Losses.{entered-active}
 abbrev pub at : List Body → ℕ → Body
 at bs i = getD bs i noBody
 
--- what holds between each body and itself, and between body k and y, holds between each body and what it is after body
--- k became y
+-- what holds between each body and itself, and between body k and y,
+-- holds between each body and what it is after body k became y
 each : (P : Body → Body → Type 0) → ((x : Body) → P x x) → (bs : List Body) (k : ℕ) (y : Body) → P (at bs k) y → (i : ℕ)
     → P (at bs i) (at (set bs k y) i)
 each P same [] k y h i = same noBody
@@ -184,13 +185,9 @@ module _ {In : Body → Bool} (K : Question In) where
   then x y z p q =
       record { held = p .held ∙ q .held; among = λ h. p .among (q .among h); steady = λ s. q .steady (p .steady s) }
 
-  cond-quiet : (b : Bool) (x y z : Body) → Quiet In x y → Quiet In x z → Quiet In x (cond b y z)
-  cond-quiet true x y z p q = p
-  cond-quiet false x y z p q = q
-
   finished-quiet : (b : Body) → holds (b .held) ≡ false → Quiet In b (finished b)
   finished-quiet b free =
-      cond-quiet (b .pending) b (activated (ended b)) (ended b)
+      cond-either (Quiet In b) (b .pending) (activated (ended b)) (ended b)
       (then b (ended b) (activated (ended b)) (ended-quiet b free) (activated-quiet (ended b) refl))
       (ended-quiet b free)
 
@@ -237,7 +234,7 @@ module _ {In : Body → Bool} (K : Question In) where
 
   waits-quiet : (w : ℕ) (b : Body) → holds (b .held) ≡ false → Quiet In b (waits w b)
   waits-quiet w b free =
-      cond-quiet (anySet (b .bits) w) b b (become (waiting w) b)
+      cond-either (Quiet In b) (anySet (b .bits) w) b (become (waiting w) b)
       (record { held = refl; among = λ h. h; steady = λ s. s })
       (record { held = refl; among = K .by-wait b w; steady = λ s h. absurd (true≢false (sym h ∙ free)) })
 
@@ -256,11 +253,6 @@ receives-steady w b s h = go (b .phase) (s h)
 
 -- of a configuration that the reader accepts
 module _ (c : Config) (ok : Configuration.Accepted c) where
-  pub own-inj : (a b : ℕ) → a < c .bodies → b < c .bodies → priorityOf c a ≡ priorityOf c b → a ≡ b
-  own-inj a b ha hb e =
-      by-lt a b (λ l. absurd (ok .priorities-differ a b l hb e))
-      (λ l. by-lt b a (λ k. absurd (ok .priorities-differ b a k ha (sym e))) (λ k. omega arith))
-
   pub weighs : (bs : List Body) (i : ℕ) → competes (at bs i .phase) ≡ true
       → weight byHolding (contender c bs i) ≡ 2 * current c i (at bs i) + markOf (holds (at bs i .held))
   weighs bs i a = ap (weight byHolding) (candidate-active c i (at bs i) (at bs i .phase) a)
@@ -269,11 +261,11 @@ module _ (c : Config) (ok : Configuration.Accepted c) where
   module _ {In : Body → Bool} (K : Question In) {bs : List Body} (a : Kept c In bs) (k : ℕ) (k< : k < c .bodies)
       (active : competes (at bs k .phase) ≡ true) (taken : chosenBy byHolding c bs ≡ contender c bs k) where
     heaviest : (j : ℕ) → competes (at bs j .phase) ≡ true
-        → 2 * current c j (at bs j) + markOf (holds (at bs j .held)) ≤ 2 * current c k (at bs k) + markOf
-        (holds (at bs k .held))
+        → 2 * current c j (at bs j) + markOf (holds (at bs j .held))
+        ≤ 2 * current c k (at bs k) + markOf (holds (at bs k .held))
     heaviest j h =
-        let w : weight byHolding (chosenBy byHolding c bs) ≡ weight byHolding (contender c bs k) = ap (weight byHolding) taken in
-        omega (arith, weighs bs j h, weighs bs k active, chosen-weight byHolding refl c bs j)
+        let w = ap (weight byHolding) taken in
+        omega (arith, w, weighs bs j h, weighs bs k active, chosen-weight byHolding refl c bs j)
 
     -- every other one of those that are apart runs below its own priority
     pub outranks : (j : ℕ) → j < c .bodies → j ≢ k → In (at bs j) ≡ true → current c j (at bs j) < priorityOf c k
@@ -295,7 +287,7 @@ module _ (c : Config) (ok : Configuration.Accepted c) where
         -- where it holds nothing and the other holds something, or nothing either
         free : at bs k .held ≡ [] → (rs : List ℕ) → at bs j .held ≡ rs → current c j (at bs j) < priorityOf c k
         free e [] f =
-            let ne : priorityOf c j ≢ priorityOf c k = λ z. d (own-inj j k j< k< z) in
+            let ne : priorityOf c j ≢ priorityOf c k = λ z. d (priority-inj c ok j k j< k< z) in
             omega (arith, below, current-free c k (at bs k) e, current-free c j (at bs j) f)
         free e (r ∷ rs) f =
             let x : markOf (holds (at bs j .held)) ≡ 1 = ap (λ (q : List ℕ). markOf (holds q)) f in
@@ -350,18 +342,15 @@ module _ (c : Config) (ok : Configuration.Accepted c) where
     -- a state whose runner has begun
     module _ (s : State) (a : Kept c In (s .bodies)) (underway : Underway c s) where
       has-begun : s .order ≡ [] → isNobody (runner c s) ≡ false → runner c s .began ≡ true
-      has-begun none some = go (runner c s .began) (rw some at (underway-untimed c s underway none))
-        where
-          go : (b : Bool) → not b ≡ false → b ≡ true
-          go true e = refl
-          go false e = absurd (true≢false e)
+      has-begun none some = not-false (runner c s .began) (rw some at (underway-untimed c s underway none))
 
       effect-kept : (e : Event) → AcceptedIn c s e → Kept c In (effectOf c s e .bodies)
       unfolding stepBy
       effect-kept (Activate t) z =
           quiet s a t activated (activated-quiet K (bodyOf s t) (ap isStarted (activate-passed c s t z .2)))
       effect-kept Finish z =
-          let ends = quiet s a (caller c s) finished (finished-quiet K (bodyOf s (caller c s)) (finish-passed c s z .1)) in
+          let still = finished-quiet K (bodyOf s (caller c s)) (finish-passed c s z .1) in
+          let ends = quiet s a (caller c s) finished still in
           cond-either (λ x. Kept c In (x .bodies)) (runner c s .timed) (finishTimed (caller c s) s)
           (finish (caller c s) s) ends ends
       effect-kept (Chain t) z =
@@ -461,7 +450,8 @@ module _ (c : Config) (ok : Configuration.Accepted c) where
     after-kept : (es : List Event) (s : State) → Kept c In (s .bodies) → Underway c s → Kept c In (after c s es .bodies)
     unfolding afterBy
     after-kept [] s a underway = a
-    after-kept (e ∷ es) s a underway = after-kept es (step c s e .state) (step-kept s a underway e) (underway-step c s e)
+    after-kept (e ∷ es) s a underway =
+        after-kept es (step c s e .state) (step-kept s a underway e) (underway-step c s e)
 
     pub unstarted-kept : Configuration.Shaped c → Kept c In (unstarted c .bodies)
     unstarted-kept shaped =
@@ -476,21 +466,16 @@ module _ (c : Config) (ok : Configuration.Accepted c) where
         at-new i = List·getD-map newBody (take (c .bodies) (c .autostart)) i 0
 
         none : (x : Bool) → holds (cond x (activated noBody) noBody .held) ≡ false
-        none true = refl
-        none false = refl
+        none x = cond-either (λ (b : Body). holds (b .held) ≡ false) x (activated noBody) noBody refl refl
 
         empty : (i : ℕ) → holds (at (unstarted c .bodies) i .held) ≡ false
         empty i =
             ap (λ (b : Body). holds (b .held)) (at-new i) ∙ none (eqb (getD (take (c .bodies) (c .autostart)) i 0) 1)
 
         -- a new body is none of those that are apart
-        false-of : (b : Bool) → (b ≡ true → ⊥) → b ≡ false
-        false-of true n = absurd (n refl)
-        false-of false n = refl
-
         outside : (x : Bool) → In (cond x (activated noBody) noBody) ≡ false
         outside true =
-            false-of (In (activated noBody)) (λ h. true≢false (sym (K .by-activation noBody refl h) ∙ K .new))
+            refuted (In (activated noBody)) (λ h. true≢false (sym (K .by-activation noBody refl h) ∙ K .new))
         outside false = K .new
 
         out : (i : ℕ) → In (at (unstarted c .bodies) i) ≡ false

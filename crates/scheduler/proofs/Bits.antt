@@ -1,10 +1,10 @@
 -- Event bits, each bit by itself; and what a resumption leaves.
 use Prim.Native.Nat.{ℕ, _-_, _^_, _<_}
 use mathlib.Core.Path.{_≡_, refl, sym, ap, _∙_}
-use mathlib.Core.Bool.{Bool, true, false, true≢false, cond, not, _&&_, _||_}
+use mathlib.Core.Bool.{Bool, true, false, cond, not, _&&_, _||_}
 use mathlib.Core.Logic.{_↔_}
 use native.Mathlib.Omega.{arith}
-use borrow.Author.Tests.{eqb-true, eq-eqb}
+use borrow.Author.Tests.{eqb-true, eq-eqb, not-false}
 use lib.Bits.{bitAnd, and-zero-r}
 use lib.Dec.{eqb}
 use Rattle.number.proofs.Bits.{or-bit, and-bits, and-not, no-bit}
@@ -17,14 +17,10 @@ module _ (bits w : ℕ) where
   unfolding anySet
   any-set = (
     λ e i. sym (and-bits bits w i)
-        ∙ ap (λ (n : ℕ). bitSet n i) (eqb-true (bitAnd bits w) 0 (negated (eqb (bitAnd bits w) 0) e)) ∙ none i,
+        ∙ ap (λ (n : ℕ). bitSet n i) (eqb-true (bitAnd bits w) 0 (not-false (eqb (bitAnd bits w) 0) e)) ∙ none i,
     λ h. ap not (eq-eqb (bitAnd bits w) 0 (no-bit (bitAnd bits w) (λ i. and-bits bits w i ∙ h i))),
   )
     where
-      negated : (b : Bool) → not b ≡ false → b ≡ true
-      negated true e = refl
-      negated false e = absurd (true≢false e)
-
       none : (i : ℕ) → bitSet 0 i ≡ false
       none i = go (bitSet 0 i) (ap (λ (n : ℕ). bitSet n i) (sym (and-zero-r 0)) ∙ Number.without-bit 0 0 i)
         where
@@ -41,7 +37,7 @@ module _ (bits w : ℕ) where
   without-bit = Number.without-bit bits w
 
   -- the machine's `&` with the complement clears the same
-  pub without-and : bits < 2 ^ 32 → w < 2 ^ 32 → bitAnd bits (2 ^ 32 - 1 - w) ≡ withoutBits bits w
+  without-and : bits < 2 ^ 32 → w < 2 ^ 32 → bitAnd bits (2 ^ 32 - 1 - w) ≡ withoutBits bits w
   unfolding withoutBits
   without-and h k = omega (arith, and-not 32 bits w h k)
 

@@ -1,11 +1,11 @@
--- An event is accepted exactly if none of its checks fails, and what each accepted call tells of the state that it
--- meets.
+-- An event is accepted exactly if none of its checks fails,
+-- and what each accepted call tells of the state that it meets.
 --
 -- In order: a list of checks; that each event's checks give statuses other than 0; what a time-triggered task may call,
 -- and the calls that name one; the accepted calls one by one.
 use Prim.Native.Nat.{ℕ, _+_, _≤_, _<_}
 use mathlib.Core.Path.{_≡_, refl, sym, ap, ap₂, _∙_}
-use mathlib.Core.Bool.{Bool, true, false, true≢false, cond, not, _&&_, _||_, and-true}
+use mathlib.Core.Bool.{Bool, true, false, true≢false, cond, not, _&&_, and-true, and-false}
 use mathlib.Core.List.{List, [], _∷_, _++_, map}
 use mathlib.Core.Logic.{_≢_, _↔_}
 use native.Mathlib.Omega.{arith}
@@ -97,10 +97,6 @@ pub first-given : (c : Config) (s : State) (e : Event) (before : List Check) (k 
 unfolding stepBy
 first-given c s e before k rest q none f = ap firstGiven q ∙ first-fails before k rest (none-passed before none) f
 
-neither : (a b : Bool) → (a || b) ≡ false → (a ≡ false) × (b ≡ false)
-neither true b e = absurd (true≢false e)
-neither false b e = (refl, e)
-
 inactive : (s : State) (t : ℕ) → active s t ≡ false → bodyOf s t .phase ≡ suspended
 inactive s t e = go (bodyOf s t .phase) e
   where
@@ -112,7 +108,7 @@ inactive s t e = go (bodyOf s t .phase) e
     go (triggered x) e = absurd (true≢false e)
 
 -- the nine calls that a time-triggered task may not make: "no call but Finish"
-abbrev pub isBarred : Event → Bool
+abbrev isBarred : Event → Bool
 isBarred (Activate t) = true
 isBarred Finish = false
 isBarred (Chain t) = true
@@ -166,16 +162,13 @@ module _ (c : Config) (s : State) where
 -- what the calls that name a time-triggered task give, where somebody may call
 module _ (c : Config) (s : State) (free : noCaller (runner c s) ≡ false) (t : ℕ) (timed : isTimed c t ≡ true) where
   no-osek : isOsekTask c t ≡ false
-  no-osek = ap (λ (b : Bool). isTask c t && not b) timed ∙ never (isTask c t)
-    where
-      never : (b : Bool) → b && false ≡ false
-      never true = refl
-      never false = refl
+  no-osek = ap (λ (b : Bool). isTask c t && not b) timed ∙ and-false (isTask c t)
 
   pub timed-activate : step c s (Activate t) .seen .status ≡ 3
   unfolding stepBy firstGiven
   timed-activate =
-      ap₂ (λ (x y : Bool). firstGiven ((x gives callLevel) ∷ (not y gives noSuch) ∷ (active s t gives limitReached) ∷ []))
+      ap₂
+      (λ (x y : Bool). firstGiven ((x gives callLevel) ∷ (not y gives noSuch) ∷ (active s t gives limitReached) ∷ []))
       free no-osek
 
   pub timed-set : (w : ℕ) → step c s (Set t w) .seen .status ≡ 1
@@ -195,23 +188,24 @@ module _ (c : Config) (s : State) (free : noCaller (runner c s) ≡ false) (t : 
       no-extended = rw (both .0, third)
 
 -- who gets a resource is a declared user, and gets what nobody holds; Start's statuses come in this order
-pub get-user : (c : Config) (s : State) (r : ℕ) → getStatus c s r ≡ done → isUser c r (caller c s) ≡ true
+get-user : (c : Config) (s : State) (r : ℕ) → getStatus c s r ≡ done → isUser c r (caller c s) ≡ true
 get-user c s r e = not-false (isUser c r (caller c s)) (all-passed (checksOf c s (Get r)) (omega arith) e .1 .1 .0)
 
-pub get-accepted : (c : Config) (s : State) (r : ℕ) → noCaller (runner c s) ≡ false → r < c .resources
+get-accepted : (c : Config) (s : State) (r : ℕ) → noCaller (runner c s) ≡ false → r < c .resources
     → isUser c r (caller c s) ≡ true
     → heldIn r (s .bodies) ≡ false
     → getStatus c s r ≡ done
 unfolding firstGiven
 get-accepted c s r free there user none = rw (free, lt-leb (c .resources) r there, user, none)
 
-pub start-statuses : (c : Config) (s : State) (t d : ℕ) → map (λ k. k .status) (checksOf c s (Start t d)) ≡ 2 ∷ 3 ∷ 8 ∷ 7 ∷ []
+start-statuses : (c : Config) (s : State) (t d : ℕ)
+    → map (λ k. k .status) (checksOf c s (Start t d)) ≡ 2 ∷ 3 ∷ 8 ∷ 7 ∷ []
 start-statuses c s t d = refl
 
 module _ (c : Config) (s : State) where
   -- somebody runs whom the call is open to
   someone : noCaller (runner c s) ≡ false → nobodyRuns c s ≡ false
-  someone e = neither (nobodyRuns c s) (runner c s .timed) e .0
+  someone e = Cases.neither (nobodyRuns c s) (runner c s .timed) e .0
 
   -- somebody runs, and t is a suspended task
   pub activate-passed : (t : ℕ) → activateStatus c s t ≡ done
@@ -233,7 +227,7 @@ module _ (c : Config) (s : State) where
       × (t ≢ caller c s → bodyOf s t .phase ≡ suspended)
   chain-passed t e =
       let p = all-passed _ (omega arith) e in
-      let q = neither (noCaller (runner c s)) (isIsr c (caller c s)) (p .0) in (
+      let q = Cases.neither (noCaller (runner c s)) (isIsr c (caller c s)) (p .0) in (
         someone (q .0),
         q .1,
         not-false (isOsekTask c t) (p .1 .0),
@@ -273,7 +267,7 @@ module _ (c : Config) (s : State) where
       × (isRunning (tableOf s t) ≡ false)
   start-passed t d e =
       let p = all-passed _ (omega arith) e in
-      let q = neither (eqb d 0) (ltb longestDelay (d + smallestOffset c t)) (p .1 .1 .0) in (
+      let q = Cases.neither (eqb d 0) (ltb longestDelay (d + smallestOffset c t)) (p .1 .1 .0) in (
         someone (p .0),
         leb-false (c .tables) t (p .1 .0),
         eqb-false d 0 (q .0),

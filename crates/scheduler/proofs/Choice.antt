@@ -14,7 +14,7 @@ use native.Mathlib.Omega.{arith}
 use borrow.Author.Tests.{ltb-true, lt-ltb, le-ltb, eq-eqb, ne-eqb, eqb-false}
 use lib.Dec.{ltb, eqb, lit≤}
 use lib.ListN.{length, getD, set}
-use Rattle.number.proofs.Cases.{by-lt, by-eq}
+use Rattle.number.proofs.Cases.{by-lt, by-eq, cond-either}
 use Rattle.config.specs.declared.Config.{Config}
 use Rattle.config.specs.Meaning.{priorityOf, ceiling}
 use Rattle.scheduler.specs.Body.{Phase, suspended, ready, started, waiting, triggered, isStarted, competes, Body, holds, current, gets, releases}
@@ -26,8 +26,8 @@ use Rattle.scheduler.specs.Scheduler.{markOf}
 abbrev pub contender : Config → List Body → ℕ → Candidate
 contender c bs k = candidate c k (getD bs k noBody) (getD bs k noBody .phase)
 
--- "the greatest current priority .. on equal current priority" the one of which the rule's question holds: the greatest
--- of these numbers
+-- "the greatest current priority .. on equal current priority" the one of which the rule's question holds:
+-- the greatest of these numbers
 abbrev pub weight : Tie → Candidate → ℕ
 weight q k = 2 * k .level + markOf (q k)
 
@@ -35,38 +35,39 @@ pub markOf-le : (b : Bool) → markOf b ≤ 1
 markOf-le true = lit≤ tt
 markOf-le false = lit≤ tt
 
-goesBefore-weight : (q : Tie) (j k : Candidate) → goesBefore q j k ≡ ltb (weight q k) (weight q j)
-goesBefore-weight q j k = by-level (j .level) (k .level) (q j) (q k)
-  where
-    tie : (m : ℕ) (p q : Bool) → (p && not q) ≡ ltb (2 * m + markOf q) (2 * m + markOf p)
-    tie m true true = sym (le-ltb (2 * m + 1) (2 * m + 1) (omega arith))
-    tie m true false = sym (lt-ltb (2 * m + 0) (2 * m + 1) (omega arith))
-    tie m false true = sym (le-ltb (2 * m + 1) (2 * m + 0) (omega arith))
-    tie m false false = sym (le-ltb (2 * m + 0) (2 * m + 0) (omega arith))
+module _ (q : Tie) (j k : Candidate) where
+  goesBefore-weight : goesBefore q j k ≡ ltb (weight q k) (weight q j)
+  goesBefore-weight = by-level (j .level) (k .level) (q j) (q k)
+    where
+      tie : (m : ℕ) (p q : Bool) → (p && not q) ≡ ltb (2 * m + markOf q) (2 * m + markOf p)
+      tie m true true = sym (le-ltb (2 * m + 1) (2 * m + 1) (omega arith))
+      tie m true false = sym (lt-ltb (2 * m + 0) (2 * m + 1) (omega arith))
+      tie m false true = sym (le-ltb (2 * m + 1) (2 * m + 0) (omega arith))
+      tie m false false = sym (le-ltb (2 * m + 0) (2 * m + 0) (omega arith))
 
-    by-level : (m n : ℕ) (p q : Bool)
-        → (ltb n m || (eqb n m && (p && not q))) ≡ ltb (2 * n + markOf q) (2 * m + markOf p)
-    by-level m n p q =
-        by-lt n m
-        (λ h. simp
-        (lt-ltb n m h, lt-ltb (2 * n + markOf q) (2 * m + markOf p) (omega (arith, markOf-le p, markOf-le q))))
-        (λ h. by-eq n m
-        (λ e. rw e (simp (le-ltb m m (omega arith), eq-eqb m m refl) (tie m p q)))
-        (λ d. simp (
-          le-ltb n m h,
-          ne-eqb n m d,
-          le-ltb (2 * n + markOf q) (2 * m + markOf p)
-              (omega (arith, markOf-le p, markOf-le q)),
-        )))
+      by-level : (m n : ℕ) (p q : Bool)
+          → (ltb n m || (eqb n m && (p && not q))) ≡ ltb (2 * n + markOf q) (2 * m + markOf p)
+      by-level m n p q =
+          by-lt n m
+          (λ h. simp
+          (lt-ltb n m h, lt-ltb (2 * n + markOf q) (2 * m + markOf p) (omega (arith, markOf-le p, markOf-le q))))
+          (λ h. by-eq n m
+          (λ e. rw e (simp (le-ltb m m (omega arith), eq-eqb m m refl) (tie m p q)))
+          (λ d. simp (
+            le-ltb n m h,
+            ne-eqb n m d,
+            le-ltb (2 * n + markOf q) (2 * m + markOf p)
+                (omega (arith, markOf-le p, markOf-le q)),
+          )))
 
-pub before-weight : (q : Tie) (j k : Candidate) → goesBefore q j k ≡ true → weight q k < weight q j
-before-weight q j k e = ltb-true (weight q k) (weight q j) (sym (goesBefore-weight q j k) ∙ e)
+  before-weight : goesBefore q j k ≡ true → weight q k < weight q j
+  before-weight e = ltb-true (weight q k) (weight q j) (sym goesBefore-weight ∙ e)
 
-pub weight-before : (q : Tie) (j k : Candidate) → weight q k < weight q j → goesBefore q j k ≡ true
-weight-before q j k h = goesBefore-weight q j k ∙ lt-ltb (weight q k) (weight q j) h
+  pub weight-before : weight q k < weight q j → goesBefore q j k ≡ true
+  weight-before h = goesBefore-weight ∙ lt-ltb (weight q k) (weight q j) h
 
-pub weight-after : (q : Tie) (j k : Candidate) → weight q j ≤ weight q k → goesBefore q j k ≡ false
-weight-after q j k h = goesBefore-weight q j k ∙ le-ltb (weight q k) (weight q j) h
+  weight-after : weight q j ≤ weight q k → goesBefore q j k ≡ false
+  weight-after h = goesBefore-weight ∙ le-ltb (weight q k) (weight q j) h
 
 preferred-left : (q : Tie) (j k : Candidate) → weight q j ≤ weight q (preferred q j k)
 preferred-left q j k =
@@ -79,10 +80,6 @@ preferred-right q j k =
     by-lt (weight q j) (weight q k)
     (λ h. rw (weight-before q k j h) (omega arith))
     (λ h. rw (weight-after q k j h) (omega arith))
-
-either : (P : Candidate → Type 0) (b : Bool) (j k : Candidate) → P j → P k → P (cond b j k)
-either P true j k p q = p
-either P false j k p q = q
 
 -- the choice among bodies that are numbered from i on
 contenderFrom : Config → ℕ → List Body → ℕ → Candidate
@@ -131,13 +128,13 @@ chosenFrom-from : (q : Tie) (c : Config) (i : ℕ) (bs : List Body) → From c i
 unfolding chosenFrom
 chosenFrom-from q c i [] = none refl
 chosenFrom-from q c i (b ∷ bs) =
-    either (From c i (b ∷ bs)) (goesBefore q (chosenFrom q c (suc i) bs) (candidate c i b (b .phase)))
+    cond-either (From c i (b ∷ bs)) (goesBefore q (chosenFrom q c (suc i) bs) (candidate c i b (b .phase)))
     (chosenFrom q c (suc i) bs) (candidate c i b (b .phase))
     (from-later (chosenFrom-from q c (suc i) bs))
     (from-first c i b bs)
 
--- The body i becomes y, which changes what it is to the choice by g, and g leaves the others and the preferences: the
--- choice is changed by g.
+-- The body i becomes y, which changes what it is to the choice by g,
+-- and g leaves the others and the preferences: the choice is changed by g.
 module _ (q : Tie) (c : Config) (g : Candidate → Candidate) (respects : (x y : Candidate)
     → preferred q (g x) (g y) ≡ g (preferred q x y))
     (on-nobody : g nobody ≡ nobody) (i : ℕ)
@@ -214,10 +211,10 @@ module _ (q : Tie) (unasked : q nobody ≡ false) (c : Config) (bs : List Body) 
   unfolding contenderFrom
   chosen-weight k =
       let n : markOf (q nobody) ≡ 0 = ap markOf unasked in
-      let h : weight q (contender c bs k) ≤ weight q (chosenBy q c bs) + markOf (q nobody) = rw zero-add at (chosenFrom-top q c 0 bs k) in
+      let top = rw zero-add at (chosenFrom-top q c 0 bs k) in
       omega arith
 
-  pub chosen-top : (k : ℕ) → goesBefore q (contender c bs k) (chosenBy q c bs) ≡ false
+  chosen-top : (k : ℕ) → goesBefore q (contender c bs k) (chosenBy q c bs) ≡ false
   chosen-top k = weight-after q (contender c bs k) (chosenBy q c bs) (chosen-weight k)
 
   -- a body that goes before every other one that may run is chosen
@@ -287,7 +284,7 @@ module _ (c : Config) (i : ℕ) where
   candidate-active b (triggered x) h = absurd (true≢false (sym h))
 
   -- and one that is neither
-  pub candidate-none : (b : Body) (p : Phase) → competes p ≡ false → candidate c i b p ≡ nobody
+  candidate-none : (b : Body) (p : Phase) → competes p ≡ false → candidate c i b p ≡ nobody
   unfolding candidate
   candidate-none b suspended h = refl
   candidate-none b ready h = absurd (true≢false h)
@@ -302,7 +299,7 @@ releases-gets r b = refl
 -- "After each event the body with the greatest current priority among ready and started ones runs"
 module _ (q : Tie) (unasked : q nobody
     ≡ false) (c : Config) (bs : List Body) (k : ℕ) (active : competes (getD bs k noBody .phase) ≡ true) where
-  pub level-active : contender c bs k .level ≡ current c k (getD bs k noBody)
+  level-active : contender c bs k .level ≡ current c k (getD bs k noBody)
   level-active = ap (λ x. x .level) (candidate-active c k (getD bs k noBody) (getD bs k noBody .phase) active)
 
   pub chosen-greatest : current c k (getD bs k noBody) ≤ chosenBy q c bs .level
@@ -327,7 +324,7 @@ module _ (q : Tie) (unasked : q nobody
 -- a started time-triggered task goes before all others, the latest first
 module _ (c : Config) (s : State) where
   -- "one common execution level 201"
-  pub timed-level : (j : ℕ) (js : List ℕ) → s .order ≡ j ∷ js → runner c s .level ≡ 201
+  timed-level : (j : ℕ) (js : List ℕ) → s .order ≡ j ∷ js → runner c s .level ≡ 201
   timed-level j js e = ap (λ (l : List ℕ). latestOf (s .bodies) l (chosen c (s .bodies)) .level) e
 
   pub runner-timed : (j : ℕ) (js : List ℕ) → s .order ≡ j ∷ js

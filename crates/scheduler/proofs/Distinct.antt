@@ -3,7 +3,7 @@
 -- In order: a list without one of its numbers; the law; what `among` says of a head, a tail and a place.
 use Prim.Native.Nat.{ℕ, zero, suc, _≤_, _<_}
 use mathlib.Core.Path.{_≡_, refl, sym, ap, _∙_}
-use mathlib.Core.Bool.{Bool, true, false, true≢false, cond, _||_}
+use mathlib.Core.Bool.{true, false, true≢false, cond, or-true}
 use mathlib.Core.List.{List, [], _∷_}
 use mathlib.Core.Logic.{_≢_}
 use native.Mathlib.Omega.{arith}
@@ -18,7 +18,7 @@ abbrev pub Distinct : List ℕ → Type 0
 Distinct [] = Unit {0}
 Distinct (j ∷ js) = (among j js ≡ false) × Distinct js
 
-pub distinct-rest : (js : List ℕ) → Distinct js → Distinct (rest js)
+distinct-rest : (js : List ℕ) → Distinct js → Distinct (rest js)
 distinct-rest [] d = d
 distinct-rest (j ∷ js) d = d .1
 
@@ -37,10 +37,6 @@ among-other i j js d = rw (ne-eqb i j d)
 pub among-tail : (i j : ℕ) (js : List ℕ) → among i js ≡ true → among i (j ∷ js) ≡ true
 unfolding among
 among-tail i j js h = rw h (or-true (eqb i j))
-  where
-    or-true : (b : Bool) → b || true ≡ true
-    or-true true = refl
-    or-true false = refl
 
 -- what is left of a list stood in it
 pub among-rest : (j : ℕ) (js : List ℕ) → among j (rest js) ≡ true → among j js ≡ true

@@ -1,7 +1,7 @@
 -- An entry's mark in what is seen is what the events say of it: `due-exactly`, at the end of the file.
 --
--- In order: what is seen of the i-th event; the marks of a Tick, entry by entry; both directions, by the table's
--- history.
+-- In order: what is seen of the i-th event; the marks of a Tick, entry by entry;
+-- both directions, by the table's history.
 use Prim.Native.Nat.{ℕ, zero, suc, _<_}
 use mathlib.Core.Path.{_≡_, refl, sym, ap, ap₂, _∙_}
 use mathlib.Core.Bool.{Bool, true, false, true≢false}
@@ -87,7 +87,16 @@ module _ (c : Config) where
   unfolding counting entryDue
   due-history es x y (never-started none) h = absurd (true≢false (sym h))
   due-history es x y (since-start d before rest q a none) h =
-      record { at-tick = refl; d = d; before = before; rest = rest; split = q; accepted = a; no-stop = none; on-time = h }
+      record {
+        at-tick = refl;
+        d = d;
+        before = before;
+        rest = rest;
+        split = q;
+        accepted = a;
+        no-stop = none;
+        on-time = h;
+      }
   due-history es x y (since-stop before rest q a none) h = absurd (true≢false (sym h))
 
   history-due : (es : List Event) (x : Entry) → DueAt c es Tick x

@@ -13,12 +13,12 @@ use borrow.Author.Tests.{eq-eqb, ne-eqb}
 use lib.Dec.{eqb}
 use lib.ListN.{length, length-set, length-map, length-replicate, replicate}
 use lib.Seq.{getD-set-same, getD-set-other, map-set-same}
-use Rattle.number.proofs.Cases.{by-eq}
+use Rattle.number.proofs.Cases.{by-eq, cond-either}
 use Rattle.config.specs.declared.Config.{Config}
 use Rattle.config.specs.Meaning.{countsLines, isTimed}
 use Rattle.scheduler.specs.Bits.{anySet}
 use Rattle.scheduler.specs.Status.{done, limitReached}
-use Rattle.scheduler.specs.Body.{ready, waiting, isSuspended, hasBegun, Body, become, activated, triggers, rest, finished, requested, gets, releases, activatedByEntry, loses, waits, receives, clears}
+use Rattle.scheduler.specs.Body.{ready, isSuspended, hasBegun, Body, become, activated, triggers, rest, finished, requested, gets, releases, activatedByEntry, loses, waits, receives, clears}
 use Rattle.scheduler.specs.State.{State, Table, stopped, noBody, bodyOf, changing, withTable, runner}
 use Rattle.scheduler.specs.Call.{caller, finish, finishTimed, statusOf, effectOf, refusalOf}
 use Rattle.scheduler.specs.Tick.{counting, counted, starting, trigger, enter, activatingDue, dues, ticked}
@@ -35,70 +35,57 @@ module _ (i : ℕ) (f : Body → Body) (s : State) where
   pub length-changing : length (changing i f s .bodies) ≡ length (s .bodies)
   length-changing = length-set (s .bodies) i (f (bodyOf s i))
 
-  pub tables-changing : changing i f s .tables ≡ s .tables
+  tables-changing : changing i f s .tables ≡ s .tables
   tables-changing = refl
 
 -- the same state but for the order of the started time-triggered tasks
-abbrev pub withOrder : List ℕ → State → State
+abbrev withOrder : List ℕ → State → State
 withOrder js s = record { bodies = s .bodies; tables = s .tables; order = js }
 
 -- what Activate and Chain do, and that the fresh start ends as every event does
-pub activate-effect : (c : Config) (s : State) (t : ℕ) → effectOf c s (Activate t) ≡ changing t activated s
+activate-effect : (c : Config) (s : State) (t : ℕ) → effectOf c s (Activate t) ≡ changing t activated s
 activate-effect c s t = refl
 
-pub chain-effect : (c : Config) (s : State) (t : ℕ)
+chain-effect : (c : Config) (s : State) (t : ℕ)
     → effectOf c s (Chain t) ≡ changing t activated (changing (caller c s) finished s)
 chain-effect c s t = refl
 
-pub fresh-dispatched : (c : Config) → fresh c ≡ dispatched c (unstarted c)
+fresh-dispatched : (c : Config) → fresh c ≡ dispatched c (unstarted c)
 fresh-dispatched c = refl
 
 -- a time-triggered task that is started is the latest, and leaves the order at its end; due while it is started it
 -- loses
-pub starting-latest : (t : ℕ) (s : State) → starting t s .order ≡ t ∷ s .order
+starting-latest : (t : ℕ) (s : State) → starting t s .order ≡ t ∷ s .order
 starting-latest t s = refl
 
-pub finish-latest : (i : ℕ) (s : State) → finishTimed i s .order ≡ rest (s .order)
+finish-latest : (i : ℕ) (s : State) → finishTimed i s .order ≡ rest (s .order)
 finish-latest i s = refl
 
-pub trigger-loses : (t : ℕ) (s : State) → isSuspended (bodyOf s t .phase) ≡ false → trigger t s ≡ changing t loses s
+trigger-loses : (t : ℕ) (s : State) → isSuspended (bodyOf s t .phase) ≡ false → trigger t s ≡ changing t loses s
 trigger-loses t s h = rw h
 
 -- two events of different kinds are not equal
 pub clash : _≡_ {A = ℕ} 0 1 → ⊥
 clash e = omega arith
 
-abbrev pub KeepsLosses : (Body → Body) → Type 0
+abbrev KeepsLosses : (Body → Body) → Type 0
 KeepsLosses f = (b : Body) → f b .losses ≡ b .losses
 
--- of two bodies with the same losses whichever
-cond-losses : (p : Bool) (x y : Body) (n : ℕ) → x .losses ≡ n → y .losses ≡ n → cond p x y .losses ≡ n
-cond-losses true x y n h k = h
-cond-losses false x y n h k = k
-
 pub finished-losses : KeepsLosses finished
-finished-losses b = cond-losses (b .pending) _ _ (b .losses) refl refl
+finished-losses b = cond-either (λ (x : Body). x .losses ≡ b .losses) (b .pending) _ _ refl refl
 
 requested-losses : KeepsLosses requested
-requested-losses b = cond-losses (hasBegun (b .phase)) _ _ (b .losses) refl refl
+requested-losses b = cond-either (λ (x : Body). x .losses ≡ b .losses) (hasBegun (b .phase)) _ _ refl refl
 
 waits-losses : (w : ℕ) → KeepsLosses (waits w)
-waits-losses w b = cond-losses (anySet (b .bits) w) _ _ (b .losses) refl refl
+waits-losses w b = cond-either (λ (x : Body). x .losses ≡ b .losses) (anySet (b .bits) w) _ _ refl refl
 
 -- a Wait clears no bit, and a request that waits at the end of its body makes it ready
-pub waits-bits : (w : ℕ) (b : Body) → waits w b .bits ≡ b .bits
-waits-bits w b = go (anySet (b .bits) w)
-  where
-    go : (p : Bool) → cond p b (become (waiting w) b) .bits ≡ b .bits
-    go true = refl
-    go false = refl
+waits-bits : (w : ℕ) (b : Body) → waits w b .bits ≡ b .bits
+waits-bits w b = cond-either (λ (x : Body). x .bits ≡ b .bits) (anySet (b .bits) w) _ _ refl refl
 
-pub finished-waiting : (b : Body) → b .pending ≡ true → finished b .phase ≡ ready
+finished-waiting : (b : Body) → b .pending ≡ true → finished b .phase ≡ ready
 finished-waiting b h = rw h
-
-pub cond-either : (P : State → Type 0) (b : Bool) (x y : State) → P x → P y → P (cond b x y)
-cond-either P true x y p q = p
-cond-either P false x y p q = q
 
 -- what the effects keep: each changes bodies and leaves their losses, or changes a table, or is that of a Tick; a
 -- time-triggered task that ends leaves the order besides
@@ -171,7 +158,7 @@ pub no-tick : (e : Event) → isTick e ≡ false → e ≢ Tick
 no-tick e h q = true≢false (sym (ap isTick q) ∙ h)
 
 -- what a due entry makes of its task's body; x: the task is time-triggered
-abbrev pub triggeredByEntry : Body → Body
+abbrev triggeredByEntry : Body → Body
 triggeredByEntry b = cond (isSuspended (b .phase)) (triggers b) (loses b)
 
 abbrev pub entered : Bool → Body → Body
@@ -190,7 +177,7 @@ module _ (c : Config) (P : State → Type 0) where
   enters-keep on-entry (false ∷ ds) (t ∷ ts) s p = enters-keep on-entry ds ts s p
 
   -- an entry changes its task's body, and perhaps the order
-  pub enter-keeps : (t : ℕ) (s : State)
+  enter-keeps : (t : ℕ) (s : State)
       → ((js : List ℕ) (x : State) → P x → P (withOrder js x))
       → P (changing t (entered (isTimed c t)) s)
       → P (enter c t s)
@@ -223,7 +210,7 @@ module _ (P : State → Type 0) (on-body : (i : ℕ) (f : Body → Body) (s : St
       cond-either P (begins (runner c s)) _ s (on-body (runner c s .number) (become (phaseBegun (runner c s))) s p) p
 
   -- what the changes of the order and of a table, and their counting, keep too
-  pub step-keeps : ((js : List ℕ) (s : State) → P s → P (withOrder js s))
+  step-keeps : ((js : List ℕ) (s : State) → P s → P (withOrder js s))
       → ((t : ℕ) (x : Table) (s : State) → P s → P (withTable t x s))
       → ((s : State) → P s → P (counted s))
       → (c : Config) (s : State)
@@ -241,7 +228,7 @@ module _ (P : State → Type 0) (on-body : (i : ℕ) (f : Body → Body) (s : St
 
 -- no event adds or takes away a body or a table
 module _ (c : Config) where
-  pub length-bodies-step : (s : State) (e : Event) → length (step c s e .state .bodies) ≡ length (s .bodies)
+  length-bodies-step : (s : State) (e : Event) → length (step c s e .state .bodies) ≡ length (s .bodies)
   length-bodies-step s =
       step-keeps (λ x. length (x .bodies) ≡ length (s .bodies))
       (λ i f x h. length-changing i f x ∙ h)

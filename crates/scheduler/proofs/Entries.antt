@@ -1,5 +1,5 @@
--- The k-th entry of a configuration whose offsets are all there is that of its k-th offset: `entry-at`, at the end of
--- the file.
+-- The k-th entry of a configuration whose offsets are all there is that of its k-th offset:
+-- `entry-at`, at the end of the file.
 use Prim.Native.Nat.{ℕ, zero, suc, _+_, _-_, _≤_, _<_}
 use mathlib.Core.Path.{_≡_, refl, ap, _∙_}
 use mathlib.Core.List.{List, [], _∷_, _++_, map}
@@ -65,12 +65,22 @@ module _ (c : Config) (fit : firstOf c (c .tables) ≤ length (c .offset)) where
       let first : m ≡ j = omega (arith, ap (firstOf c) same) in
       rw (first, ← same) (own-entry t j (omega arith) (rw (← same) at h) (entriesFrom c n (suc t)) d))
       (λ other.
-      let long : length (map (entryOf c t) (offsets c t)) ≡ getD (c .entries) t 0 = length-map (offsets c t) (entryOf c t) ∙ length-offsets t (omega arith) in
-      let past : m ≡ length (map (entryOf c t) (offsets c t)) + (m - getD (c .entries) t 0) = omega (arith, firstOf-step c t, firstOf-rises c (suc t) u (omega arith)) in
-      ap (λ k. getD (map (entryOf c t) (offsets c t) ++ entriesFrom c n (suc t)) k d) past
-      ∙ getD-append-add (map (entryOf c t) (offsets c t)) (entriesFrom c n (suc t)) (m - getD (c .entries) t 0) d
+      ap (λ k. getD (own ++ entriesFrom c n (suc t)) k d) (past other)
+      ∙ getD-append-add own (entriesFrom c n (suc t)) (m - getD (c .entries) t 0) d
       ∙ entriesFrom-at n (suc t) u j (m - getD (c .entries) t 0) d (omega arith) (omega arith) lt h
-      (omega (arith, firstOf-step c t)))
+      (omega (arith, firstOf-step c t, after other)))
+    where
+      own : List Entry
+      own = map (entryOf c t) (offsets c t)
+
+      long : length own ≡ getD (c .entries) t 0
+      long = length-map (offsets c t) (entryOf c t) ∙ length-offsets t (omega arith)
+
+      after : (t ≡ u → ⊥) → firstOf c t + getD (c .entries) t 0 ≤ firstOf c u
+      after other = omega (arith, firstOf-step c t, firstOf-rises c (suc t) u (omega arith))
+
+      past : (t ≡ u → ⊥) → m ≡ length own + (m - getD (c .entries) t 0)
+      past other = omega (arith, long, after other)
 
   pub entry-at : (t j : ℕ) → t < c .tables → j < getD (c .entries) t 0
       → entryAt c (firstOf c t + j) ≡ entryOf c t (getD (c .offset) (firstOf c t + j) 0)

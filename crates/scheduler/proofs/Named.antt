@@ -8,7 +8,7 @@ use mathlib.Core.List.{List, [], _∷_}
 use borrow.Author.Tests.{ltb-true, ne-eqb}
 use lib.Dec.{ltb, eqb}
 use lib.ListN.{getD}
-use Rattle.number.proofs.Cases.{by-test, by-eq, and-true}
+use Rattle.number.proofs.Cases.{by-test, by-eq, and-true, cond-either}
 use Rattle.config.specs.declared.Config.{Config}
 use Rattle.config.specs.Meaning.{isTimed, timeTriggered}
 use Rattle.scheduler.specs.Status.{done}
@@ -19,7 +19,7 @@ use Rattle.scheduler.specs.Tick.{counted, dues, starting, enter}
 use Rattle.scheduler.specs.Call.{caller, finish, finishTimed, statusOf, effectOf, refusalOf}
 use Rattle.scheduler.specs.Scheduler.{dispatched, unstarted, leaves, step, stepBy, fresh, after, afterBy}
 use Rattle.scheduler.proofs.Distinct.{none-among, among-rest}
-use Rattle.scheduler.proofs.Effects.{enters-keep, dispatched-keeps, refusalOf-keeps, cond-either}
+use Rattle.scheduler.proofs.Effects.{enters-keep, dispatched-keeps, refusalOf-keeps}
 
 pub timed-body : (c : Config) (t : ℕ) → isTimed c t ≡ true → t < c .bodies
 timed-body c t h = ltb-true t (c .bodies) (and-true (ltb t (c .bodies)) (eqb (getD (c .kind) t 0) timeTriggered) h .0)
@@ -43,7 +43,7 @@ module _ (c : Config) where
       (named-starting t s h n) n))
       (λ h. rw h n)
 
-  pub named-effect : (s : State) (e : Event) → Named s → Named (effectOf c s e)
+  named-effect : (s : State) (e : Event) → Named s → Named (effectOf c s e)
   named-effect s (Activate t) n = n
   named-effect s Finish n =
       cond-either Named (runner c s .timed) (finishTimed (caller c s) s) (finish (caller c s) s)
@@ -60,16 +60,16 @@ module _ (c : Config) where
   named-effect s (Set t w) n = n
   named-effect s (Clear w) n = n
 
-  pub named-leaves : (s : State) (e : Event) → Named s → Named (leaves c s e)
+  named-leaves : (s : State) (e : Event) → Named s → Named (leaves c s e)
   named-leaves s e n =
       cond-either Named (eqb (statusOf c s e) done) (effectOf c s e) (refusalOf c s (statusOf c s e) e)
       (named-effect s e n)
       (refusalOf-keeps c s Named n (statusOf c s e) e (λ i _ _ _. n))
 
-  pub named-dispatched : (s : State) → Named s → Named (dispatched c s)
+  named-dispatched : (s : State) → Named s → Named (dispatched c s)
   named-dispatched s n = dispatched-keeps Named (λ i f x h. h) c s n
 
-  pub named-step : (s : State) (e : Event) → Named s → Named (step c s e .state)
+  named-step : (s : State) (e : Event) → Named s → Named (step c s e .state)
   unfolding stepBy
   named-step s e n = named-dispatched (leaves c s e) (named-leaves s e n)
 

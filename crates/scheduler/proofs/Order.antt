@@ -50,7 +50,7 @@ pub record Orderly (c : Config) (s : State) : Type 0 where
   -- a time-triggered task that is not started is suspended; none holds a resource, and no request of one waits
   pub timed-suspended : (i : ℕ) → isTimed c i ≡ true → among i (s .order) ≡ false → bodyOf s i .phase ≡ suspended
   pub timed-free : (i : ℕ) → isTimed c i ≡ true → bodyOf s i .held ≡ []
-  pub timed-single : (i : ℕ) → isTimed c i ≡ true → bodyOf s i .pending ≡ false
+  timed-single : (i : ℕ) → isTimed c i ≡ true → bodyOf s i .pending ≡ false
   -- who is started is the task of an entry
   pub has-entry : (j : ℕ) → among j (s .order) ≡ true → (e : ℕ) × (e < firstOf c (c .tables)) × (getD (c .task) e 0 ≡ j)
 
@@ -253,7 +253,7 @@ module _ (c : Config) where
             })
 
   -- the dispatch: the latest begins, if it has to
-  abbrev pub Latest : State → ℕ → Type 0
+  abbrev Latest : State → ℕ → Type 0
   Latest s i = (js : List ℕ) × (s .order ≡ i ∷ js)
 
   orderly-dispatched : {s : State} → Placed c (Latest s) s → Orderly c (dispatched c s)

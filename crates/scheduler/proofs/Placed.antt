@@ -13,7 +13,7 @@ use borrow.Author.Tests.{eqb-true}
 use lib.Dec.{ltb, eqb}
 use lib.ListN.{length, getD, set, length-set}
 use lib.Seq.{set-out, getD-set-same, getD-set-other}
-use Rattle.number.proofs.Cases.{by-test, by-lt, by-eq, and-true}
+use Rattle.number.proofs.Cases.{by-test, by-lt, by-eq, and-true, cond-either}
 use Rattle.config.specs.declared.Config.{Config}
 use Rattle.config.specs.Meaning.{isTask, isOsekTask, isIsr, isExtended, isTimed, firstOf}
 use Rattle.scheduler.specs.Bits.{anySet, withBits}
@@ -60,8 +60,7 @@ KeepsPlain f = (b : Body) → isTriggered (b .phase) ≡ false → isTriggered (
 
 cond-plain : (p : Bool) (x y : Body) → isTriggered (x .phase) ≡ false → isTriggered (y .phase) ≡ false
     → isTriggered (cond p x y .phase) ≡ false
-cond-plain true x y h k = h
-cond-plain false x y h k = k
+cond-plain = cond-either (λ (x : Body). isTriggered (x .phase) ≡ false)
 
 finished-plain : KeepsPlain finished
 finished-plain b h = cond-plain (b .pending) (activated (ended b)) (ended b) refl refl
@@ -75,15 +74,13 @@ waits-plain w b h = cond-plain (anySet (b .bits) w) b (become (waiting w) b) h r
 receives-plain : (w : ℕ) → KeepsPlain (receives w)
 receives-plain w b h = go (b .phase) h
   where
-    resumes : (p : Bool) (x y : Phase) → isTriggered x ≡ false → isTriggered y ≡ false → isTriggered (cond p x y) ≡ false
-    resumes true x y n m = n
-    resumes false x y n m = m
-
     go : (p : Phase) → isTriggered p ≡ false → isTriggered (resumed (withBits (b .bits) w) p) ≡ false
     go suspended e = refl
     go ready e = refl
     go started e = refl
-    go (waiting v) e = resumes (anySet (withBits (b .bits) w) v) started (waiting v) refl refl
+    go (waiting v) e =
+        cond-either (λ (p : Phase). isTriggered p ≡ false) (anySet (withBits (b .bits) w) v) started (waiting v)
+        refl refl
     go (triggered x) e = e
 
 -- an ISR, an extended task and one of OSEK are not time-triggered
@@ -130,7 +127,7 @@ module _ (c : Config) where
   placed-weaken p f = placed-with p (λ i h. f i (p .to-begin i h))
 
   -- who is not time-triggered is not in the order
-  pub untimed-place : {i : ℕ} {b : Body} {m : Bool} → isTimed c i ≡ false → Place c i b m
+  untimed-place : {i : ℕ} {b : Body} {m : Bool} → isTimed c i ≡ false → Place c i b m
       → (m ≡ false) × (isTriggered (b .phase) ≡ false)
   untimed-place t (other n m h) = (m, h)
   untimed-place t (asleep n m p h q) = absurd (true≢false (sym n ∙ t))
@@ -194,7 +191,7 @@ module _ (c : Config) where
         go (awake n m x q h r) = awake n m x q h r
 
     -- the latest ends
-    pub ended-placed : {s : State} → Placed c late s → (j : ℕ) (js : List ℕ) → s .order ≡ j ∷ js
+    ended-placed : {s : State} → Placed c late s → (j : ℕ) (js : List ℕ) → s .order ≡ j ∷ js
         → Placed c late (record { bodies = set (s .bodies) j (finished (bodyOf s j)); tables = s .tables; order = js })
     ended-placed {s} p j js o =
         record {

@@ -1,11 +1,11 @@
--- A refused event changes nothing (`refused-same`), but for the count of a lost line (`lost-line`): at the end of the
--- file.
+-- A refused event changes nothing (`refused-same`), but for the count of a lost line (`lost-line`):
+-- at the end of the file.
 --
 -- In order: after a refusal comes the dispatch alone; after a dispatch the chosen body has begun, and is chosen again;
 -- so the next dispatch does nothing (`Underway`); and a loss has no part in who runs.
 use Prim.Native.Nat.{ℕ, _+_, _≤_, _<_, min}
 use mathlib.Core.Path.{_≡_, refl, sym, ap, _∙_}
-use mathlib.Core.Bool.{Bool, true, false, true≢false, cond, not, _&&_, _||_, or-false}
+use mathlib.Core.Bool.{Bool, true, false, true≢false, cond, not, _&&_, _||_, or-true, or-false}
 use mathlib.Core.List.{List, [], _∷_}
 use mathlib.Core.Logic.{_≢_}
 use native.Mathlib.Omega.{arith}
@@ -26,7 +26,7 @@ use Rattle.scheduler.specs.Scheduler.{begins, phaseBegun, dispatched, le
 use Rattle.scheduler.proofs.Choice.{contender, candidate-active, chosen-mapped, chosen-alike, Taken, no-one, body, chosen-from, runner-timed, runner-untimed}
 use Rattle.scheduler.proofs.Effects.{bodyOf-changing-same, length-changing, refusalOf-keeps}
 
-pub refused-leaves : (c : Config) (s : State) (e : Event) → statusOf c s e ≢ done
+refused-leaves : (c : Config) (s : State) (e : Event) → statusOf c s e ≢ done
     → leaves c s e ≡ refusalOf c s (statusOf c s e) e
 refused-leaves c s e refused = rw (ne-eqb (statusOf c s e) done refused)
 
@@ -40,7 +40,7 @@ refused-dispatched c s e refused kept =
     ∙ refusalOf-keeps c s (λ x. x ≡ s) refl (statusOf c s e) e (λ i w q h. absurd (kept i (w, q, h))))
 
 -- the candidate x, begun
-abbrev pub onceBegun : Candidate → Candidate
+abbrev onceBegun : Candidate → Candidate
 onceBegun x =
     record { number = x .number; level = x .level; began = x .began || begins x; holder = x .holder; timed = x .timed }
 
@@ -53,11 +53,7 @@ begins-some x h = both (isNobody x) (x .began) h
     both false false e = (refl, refl)
 
 begun-or : (x : Candidate) → begins x ≡ true → x .began || begins x ≡ true
-begun-or x e = ap (λ (b : Bool). x .began || b) e ∙ go (x .began)
-  where
-    go : (b : Bool) → b || true ≡ true
-    go true = refl
-    go false = refl
+begun-or x e = ap (λ (b : Bool). x .began || b) e ∙ or-true (x .began)
 
 begins-onceBegun : (x : Candidate) → begins (onceBegun x) ≡ false
 begins-onceBegun x = both (isNobody x) (x .began)
@@ -67,8 +63,8 @@ begins-onceBegun x = both (isNobody x) (x .began)
     both false true = refl
     both false false = refl
 
--- A body that begins is to the choice what it was but for `began`, on which the choice does not rest: x begun, where it
--- is the body k
+-- A body that begins is to the choice what it was but for `began`, on which the choice does not rest:
+-- x begun, where it is the body k
 abbrev beginning : ℕ → Candidate → Candidate
 beginning k x =
     record {
@@ -135,8 +131,13 @@ module _ (c : Config) (s : State) (none : s .order ≡ []) (k : ℕ) (active : c
     -- the runner, begun
     onceBegun-is : beginning k (runner c s) ≡ onceBegun (runner c s)
     onceBegun-is =
-        ap (λ (b : Bool).
-        record { number = runner c s .number; level = runner c s .level; began = runner c s .began || b; holder = runner c s .holder; timed = runner c s .timed })
+        ap (λ (b : Bool). record {
+          number = runner c s .number;
+          level = runner c s .level;
+          began = runner c s .began || b;
+          holder = runner c s .holder;
+          timed = runner c s .timed;
+        })
         (ap (λ a. not a && eqb (runner c s .number) k) (begins-some (runner c s) begin .0)
         ∙ eq-eqb (runner c s .number) k number-is ∙ sym begin)
       where
@@ -195,7 +196,8 @@ runner-dispatched c s fits = by-test (begins (runner c s)) (λ e. go (s .order) 
     go : (js : List ℕ) → s .order ≡ js → begins (runner c s) ≡ true → runner c (dispatched c s) ≡ onceBegun (runner c s)
     go [] o e = chosen-begins o (chosen-from byHolding refl c (s .bodies)) e
     go (j ∷ js) o e =
-        let here : j < length (s .bodies) = omega (arith, fits, ap (λ (x : Candidate). x .number) (runner-timed c s j js o)) in
+        let is : runner c s .number ≡ j = ap (λ (x : Candidate). x .number) (runner-timed c s j js o) in
+        let here : j < length (s .bodies) = omega (arith, fits, is) in
         ap (runner c) (triggered-now c s j js o here e) ∙ triggered-again c s j js o here e
 
 -- no body that there is not changes
@@ -335,6 +337,13 @@ module _ (c : Config) where
     where
       same : loses (bodyOf s i) ≡ bodyOf s i
       same =
-          let n : min (bodyOf s i .losses + 1) mostLosses ≡ bodyOf s i .losses = omega (arith, full) in
-          ap (λ k.
-          record { phase = bodyOf s i .phase; pending = bodyOf s i .pending; held = bodyOf s i .held; losses = k; bits = bodyOf s i .bits }) n
+          ap (λ k. record {
+            phase = bodyOf s i .phase;
+            pending = bodyOf s i .pending;
+            held = bodyOf s i .held;
+            losses = k;
+            bits = bodyOf s i .bits;
+          }) no-more
+        where
+          no-more : min (bodyOf s i .losses + 1) mostLosses ≡ bodyOf s i .losses
+          no-more = omega (arith, full)

@@ -4,14 +4,14 @@
 -- In order: who begins had not begun; what ends a body that has begun (`begun-stays`); the laws.
 use Prim.Native.Nat.{ℕ}
 use mathlib.Core.Path.{_≡_, refl, sym, ap, _∙_}
-use mathlib.Core.Bool.{Bool, true, false, true≢false, cond}
+use mathlib.Core.Bool.{Bool, true, false, true≢false}
 use mathlib.Core.List.{List, [], _∷_}
 use mathlib.Core.Logic.{_≢_, _⊎_, inl, inr, ⊎-elim}
 use native.Mathlib.Omega.{arith}
 use borrow.Author.Tests.{eq-eqb, ne-eqb}
 use lib.Dec.{eqb}
 use lib.ListN.{length, List·getD-eq-default}
-use Rattle.number.proofs.Cases.{by-lt, by-eq}
+use Rattle.number.proofs.Cases.{by-lt, by-eq, cond-either}
 use Rattle.config.specs.declared.Config.{Config}
 use Rattle.config.specs.Meaning.{isIsr}
 use Rattle.scheduler.specs.Status.{done}
@@ -27,7 +27,7 @@ use Rattle.scheduler.specs.History.{AcceptedIn, Ends}
 use Rattle.scheduler.proofs.Bits.{resumed-begun}
 use Rattle.scheduler.proofs.Choice.{Taken, no-one, body, chosen-from, candidate-active, runner-timed, runner-untimed}
 use Rattle.scheduler.proofs.Checks.{activate-passed, chain-passed}
-use Rattle.scheduler.proofs.Effects.{bodyOf-changing-same, bodyOf-changing-other, refusalOf-keeps, entered, activatingDue-keeps, cond-either}
+use Rattle.scheduler.proofs.Effects.{bodyOf-changing-same, bodyOf-changing-other, refusalOf-keeps, entered, activatingDue-keeps}
 use Rattle.scheduler.proofs.Refusals.{begins-some, Underway, dispatched-same}
 
 -- the body that begins had not begun
@@ -68,13 +68,9 @@ KeepsBegun f = (b : Body) → hasBegun (b .phase) ≡ true → hasBegun (f b .ph
 requested-begun : KeepsBegun requested
 requested-begun b h = rw h h
 
-cond-begun : (t : Bool) (x y : Body) → hasBegun (x .phase) ≡ true → hasBegun (y .phase) ≡ true
-    → hasBegun (cond t x y .phase) ≡ true
-cond-begun true x y h k = h
-cond-begun false x y h k = k
-
 waits-begun : (w : ℕ) → KeepsBegun (waits w)
-waits-begun w b h = cond-begun (anySet (b .bits) w) b (become (waiting w) b) h refl
+waits-begun w b h =
+    cond-either (λ (x : Body). hasBegun (x .phase) ≡ true) (anySet (b .bits) w) b (become (waiting w) b) h refl
 
 receives-begun : (w : ℕ) → KeepsBegun (receives w)
 receives-begun w b h = resumed-begun (withBits (b .bits) w) (b .phase) ∙ h

@@ -12,7 +12,7 @@ use borrow.Author.Tests.{eq-eqb, ne-eqb}
 use lib.Dec.{eqb}
 use lib.ListN.{length, getD, List·getD-map, replicate}
 use lib.Seq.{getD-set-same, getD-set-other}
-use Rattle.number.proofs.Cases.{by-eq}
+use Rattle.number.proofs.Cases.{by-eq, cond-either}
 use Rattle.config.specs.declared.Config.{Config}
 use Rattle.scheduler.specs.Status.{done, firstGiven}
 use Rattle.scheduler.specs.State.{State, Table, stopped, running, tableOf, withTable, runner}
@@ -22,7 +22,7 @@ use Rattle.scheduler.specs.Call.{caller, finish, finishTimed, statusOf, 
 use Rattle.scheduler.specs.Scheduler.{leaves, stepBy, fresh, after, afterBy}
 use Rattle.scheduler.specs.History.{AcceptedIn, next, NoneAccepted, StartOf, StopOf, NoStart, NoStop, tickCount, History, never-started, since-start, since-stop}
 use Rattle.scheduler.proofs.Checks.{start-passed, stop-passed}
-use Rattle.scheduler.proofs.Effects.{clash, after-append, refusalOf-keeps, cond-either, tables-dispatched, tables-ticked, tables-fresh, length-tables-step, length-tables-fresh}
+use Rattle.scheduler.proofs.Effects.{clash, after-append, refusalOf-keeps, tables-dispatched, tables-ticked, tables-fresh, length-tables-step, length-tables-fresh}
 
 -- what the event e, met in the state s, does to the table t
 data Turn (c : Config) (t : ℕ) (s : State) (e : Event) : Type 0 where

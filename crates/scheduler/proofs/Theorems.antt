@@ -126,8 +126,8 @@ pub next-decided : (c : Config) → Configuration.Accepted c → Configuration.S
 next-decided = Ties.decided-at
 
 -- Where no task is extended, document 01's rule for ties, "on equal priorities the one that already began goes first",
--- gives the same: all that is seen of every list of events, and the state after it. So nothing that was right before
--- has moved.
+-- gives the same: all that is seen of every list of events, and the state after it.
+-- So nothing that was right before has moved.
 pub old-rule : (c : Config) → Configuration.Accepted c → Configuration.Shaped c → ((b : ℕ) → isExtended c b ≡ false)
     → (es : List Event)
     → (seenBy byBegun c (freshBy byBegun c) es ≡ seen c (fresh c) es)
@@ -217,7 +217,7 @@ timed-calls c s j js e =
       twelve-clear = λ w. Checks.timed-refused c s j js e (Clear w) refl;
     }
 
--- where somebody may call: "Activate and Chain naming one give 3; Set naming one gives 1"
+-- where somebody may call: "3 for Activate or Chain naming one"; 1 for a Set, since it is no extended task
 pub timed-activate : (c : Config) (s : State) → noCaller (runner c s) ≡ false → (t : ℕ) → isTimed c t ≡ true
     → statusSeen c s (Activate t) ≡ 3
 timed-activate = Checks.timed-activate
@@ -249,7 +249,8 @@ pub refused-same : (c : Config) (es : List Event) (e : Event) → step c (after 
     → ((i : ℕ) → LostLine c (after c (fresh c) es) e i → ⊥)
     → step c (after c (fresh c) es) e .state ≡ after c (fresh c) es
 refused-same c es e =
-    Refusals.refused-same c (after c (fresh c) es) e (Refusals.underway-after c es (fresh c) (Refusals.underway-fresh c))
+    Refusals.refused-same c (after c (fresh c) es) e
+    (Refusals.underway-after c es (fresh c) (Refusals.underway-fresh c))
 
 pub lost-line : (c : Config) (es : List Event) (i : ℕ) → LostLine c (after c (fresh c) es) (Line i) i
     → step c (after c (fresh c) es) (Line i) .state ≡ changing i loses (after c (fresh c) es)
@@ -276,8 +277,8 @@ pub refused-dispatched : (c : Config) (s : State) (e : Event) → step c s e .se
 refused-dispatched = Refusals.refused-dispatched
 
 -- "At most one body begins in an event": the one that a dispatch chose is chosen again, and after an event nobody is
--- left to begin; where every started time-triggered task is one of the state's bodies, which is so after every list of
--- events (`started-named`)
+-- left to begin; where every started time-triggered task is one of the state's bodies,
+-- which is so after every list of events (`started-named`)
 pub runner-dispatched : (c : Config) (s : State)
     → (runner c (dispatched c s) .number ≡ runner c s .number) × (runner c (dispatched c s) .level ≡ runner c s .level)
     × (((j : ℕ) → among j (s .order) ≡ true → j < length (s .bodies)) → begins (runner c (dispatched c s)) ≡ false)
@@ -309,7 +310,8 @@ started-named c es = Named.named-after c es (fresh c) (Named.named-fresh c)
 pub always-underway : (c : Config) → Configuration.Accepted c → Configuration.Shaped c → (es : List Event)
     → begins (runner c (after c (fresh c) es)) ≡ false
 always-underway c ok shaped es =
-    Refusals.underway-named c (after c (fresh c) es) (Refusals.underway-after c es (fresh c) (Refusals.underway-fresh c))
+    Refusals.underway-named c (after c (fresh c) es)
+    (Refusals.underway-after c es (fresh c) (Refusals.underway-fresh c))
     (λ j h. rw (Order.orderly-after c ok shaped es (Order.orderly-fresh c ok shaped) .bodies-there)
     (started-named c es j h))
 
@@ -367,8 +369,8 @@ pub begins-after-end : (c : Config) (s : State) (i : ℕ) → hasBegun (bodyOf s
     → Ends e × (caller c s ≡ i) × AcceptedIn c s e
 begins-after-end = Requests.begins-after-end
 
--- "A started ISR's second request .. begins only after it has finished": where a started ISR begins, the event is its
--- own accepted Finish
+-- "A started ISR's second request .. begins only after it has finished":
+-- where a started ISR begins, the event is its own accepted Finish
 pub begins-after-finish : (c : Config) (s : State) (i : ℕ) → hasBegun (bodyOf s i .phase) ≡ true → isIsr c i ≡ true
     → (e : Event)
     → step c s e .seen .begun ≡ 1
@@ -382,8 +384,8 @@ pub stop-bodies : (c : Config) (es : List Event) (t : ℕ)
 stop-bodies c es t =
     Requests.stop-bodies c (after c (fresh c) es) t (Refusals.underway-after c es (fresh c) (Refusals.underway-fresh c))
 
--- event bits, each bit by itself: a Set sets those of its mask, a Clear clears them, and one waited bit that is set
--- suffices
+-- event bits, each bit by itself: a Set sets those of its mask, a Clear clears them,
+-- and one waited bit that is set suffices
 pub with-bit : (bits w i : ℕ) → bitSet (withBits bits w) i ≡ bitSet bits i || bitSet w i
 with-bit = Bits.with-bit
 
@@ -397,15 +399,15 @@ any-set = Bits.any-set
 pub mask-zero-waits : (bits : ℕ) → resumed bits (waiting 0) ≡ waiting 0
 mask-zero-waits = Bits.mask-zero-waits
 
--- in every state that the fresh start leads to, whoever holds a resource is one of its declared users: Release needs no
--- status for it
+-- in every state that the fresh start leads to, whoever holds a resource is one of its declared users:
+-- Release needs no status for it
 pub held-by-user : (c : Config) (es : List Event) (i r : ℕ) → among r (bodyOf (after c (fresh c) es) i .held) ≡ true
     → isUser c r i ≡ true
 held-by-user c es = Users.declared-after c es (fresh c) (Users.declared-fresh c)
 
 -- Where no time-triggered task is started, the runner's own priority is above the current priority of every other body
--- that holds a resource, and so above that resource's ceiling: after every list of events, whatever the kinds of the
--- bodies
+-- that holds a resource, and so above that resource's ceiling:
+-- after every list of events, whatever the kinds of the bodies
 pub holder-below : (c : Config) → Configuration.Accepted c → Configuration.Shaped c → (es : List Event)
     → after c (fresh c) es .order ≡ []
     → (i r : ℕ)
@@ -414,8 +416,8 @@ pub holder-below : (c : Config) → Configuration.Accepted c → Configuration.S
     → current c i (bodyOf (after c (fresh c) es) i) < priorityOf c (caller c (after c (fresh c) es))
 holder-below = Declared.holder-below
 
--- "a declared basic task or ISR is refused a resource only when it holds that resource itself": with status 1, over all
--- kinds
+-- "a declared basic task or ISR is refused a resource only when it holds that resource itself":
+-- with status 1, over all kinds
 pub declared-refused : (c : Config) → Configuration.Accepted c → Configuration.Shaped c → (es : List Event) (r : ℕ)
     → nobodyRuns c (after c (fresh c) es) ≡ false
     → isUser c r (caller c (after c (fresh c) es)) ≡ true
@@ -424,8 +426,8 @@ pub declared-refused : (c : Config) → Configuration.Accepted c → Configurati
     × (among r (calling c (after c (fresh c) es) .held) ≡ true)
 declared-refused = Declared.declared-refused
 
--- losses come from due entries and counted lost lines: no other event changes one, and what is seen of them is the
--- state after the event
+-- losses come from due entries and counted lost lines:
+-- no other event changes one, and what is seen of them is the state after the event
 pub losses-call : (c : Config) (s : State) (e : Event) → e ≢ Tick → ((i : ℕ) → LostLine c s e i → ⊥)
     → lossesOf (step c s e .state) ≡ lossesOf s
 losses-call = Effects.losses-call
@@ -486,8 +488,8 @@ pub last-start : (c : Config) (t d : ℕ) (before rest : List Event) → Accepte
     → NoStart c t (next c (after c (fresh c) before) (Start t d)) rest
 last-start = Tables.last-start
 
--- Two entries of kind 3 are never due at one tick, in no state at all: they lie in one table, and their offsets differ
--- by less than its period
+-- Two entries of kind 3 are never due at one tick, in no state at all:
+-- they lie in one table, and their offsets differ by less than its period
 pub timed-once : (c : Config) → Configuration.Accepted c → Configuration.Shaped c → (s : State) (e e′ : ℕ)
     → e < firstOf c (c .tables)
     → e′ < firstOf c (c .tables)
@@ -507,8 +509,8 @@ pub due-exactly : (c : Config) (es : List Event) (i k : ℕ) → i < length es �
     → (dueMark (seen c (fresh c) es) i k ≡ true) ↔ DueAt c (take i es) (getD es i Tick) (entryAt c k)
 due-exactly = Dues.due-exactly
 
--- of a configuration that the reader accepts, the k-th entry is that of the k-th offset, in the table to whose entries
--- k belongs
+-- of a configuration that the reader accepts, the k-th entry is that of the k-th offset,
+-- in the table to whose entries k belongs
 pub entries-long : (c : Config) → Configuration.Accepted c → Configuration.Shaped c
     → length (entriesOf c) ≡ firstOf c (c .tables)
 entries-long c ok shaped = Entries.entries-long c (omega (arith, ok .few-entries, shaped .offsets))

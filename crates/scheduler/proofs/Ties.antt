@@ -1,5 +1,5 @@
--- Ties: no two candidates are equal to the choice (`decided`), and without an extended task the old rule for ties
--- chooses the same (`old-rule`).
+-- Ties: no two candidates are equal to the choice (`decided`),
+-- and without an extended task the old rule for ties chooses the same (`old-rule`).
 --
 -- In order: two that tie; of two that may run one goes before the other; the old rule and the new one agree where the
 -- started bodies are apart, from the fresh start on.
@@ -9,12 +9,13 @@ use mathlib.Core.Bool.{Bool, true, false, true≢false, not, _&&_, _||_}
 use mathlib.Core.List.{List, [], _∷_}
 use mathlib.Core.Logic.{_≢_, _⊎_, inl, inr, ⊎-elim}
 use native.Mathlib.Omega.{arith}
-use borrow.Author.Tests.{lt-ltb, ne-eqb}
+use borrow.Author.Tests.{lt-ltb, ne-eqb, not-false}
 use lib.Dec.{ltb, eqb}
-use Rattle.number.proofs.Cases.{by-lt, by-eq}
+use Rattle.number.proofs.Cases.{by-lt, by-eq, refuted}
 use Rattle.config.specs.declared.Config.{Config}
 use Rattle.config.specs.Meaning.{isExtended, priorityOf}
 use Rattle.config.specs.Accepted as Configuration
+use Rattle.config.proofs.Theorems.{priority-inj}
 use Rattle.scheduler.specs.Body.{isStarted, competes, Body, holds, current, rest, receives}
 use Rattle.scheduler.specs.Choice.{Candidate, byHolding, byBegun, goesBefore, chosenBy}
 use Rattle.scheduler.specs.State.{State, bodyOf, latestOf, runnerBy, runner}
@@ -26,7 +27,7 @@ use Rattle.scheduler.proofs.Choice.{contender, weight, weight-before, c
 use Rattle.scheduler.proofs.Checks.{set-passed}
 use Rattle.scheduler.proofs.Refusals.{Underway, underway-named, underway-fresh, underway-step, underway-after}
 use Rattle.scheduler.proofs.Named.{named-fresh, named-after}
-use Rattle.scheduler.proofs.Apart.{at, Kept, Question, holder, begunBody, holders, begunBodies, own-inj, weighs, set-holds, leaves-kept, step-kept, unstarted-kept, fresh-kept, reached-kept}
+use Rattle.scheduler.proofs.Apart.{at, Kept, Question, holder, begunBody, holders, begunBodies, weighs, set-holds, leaves-kept, step-kept, unstarted-kept, fresh-kept, reached-kept}
 
 -- of a configuration that the reader accepts
 module _ (c : Config) (ok : Configuration.Accepted c) where
@@ -52,7 +53,7 @@ module _ (c : Config) (ok : Configuration.Accepted c) where
         go : (rs qs : List ℕ) → at bs i .held ≡ rs → at bs j .held ≡ qs → holds rs ≡ not (holds qs)
         go [] [] e f =
             absurd (d
-            (own-inj c ok i j i< j< (sym (current-free c i (at bs i) e) ∙ equal ∙ current-free c j (at bs j) f)))
+            (priority-inj c ok i j i< j< (sym (current-free c i (at bs i) e) ∙ equal ∙ current-free c j (at bs j) f)))
         go [] (q ∷ qs) e f = refl
         go (r ∷ rs) [] e f = refl
         go (r ∷ rs) (q ∷ qs) e f =
@@ -111,22 +112,22 @@ module _ (c : Config) (ok : Configuration.Accepted c) where
             flip true h = refl
             flip false h = absurd (true≢false (sym h))
 
-        unstarted-of : (b : Bool) → (b ≡ true → ⊥) → b ≡ false
-        unstarted-of true n = absurd (n refl)
-        unstarted-of false n = refl
-
         go : (b : Bool) → holds (at bs i .held) ≡ b → isStarted (at bs i .phase) ≡ b
         go true e = a .steady i e
         go false e =
-            unstarted-of (isStarted (at bs i .phase))
+            refuted (isStarted (at bs i .phase))
             (λ h. not-apart begunBodies a i j i< j< d equal h (a .steady j (other e)))
 
     agree : (x y : Candidate) → Taken c bs x → Taken c bs y → goesBefore byBegun x y ≡ goesBefore byHolding x y
     agree x y (no-one e) (no-one f) = rw (e, f)
     agree x y (no-one e) (body j h p f) = rw e
-    agree x y (body i h p e) (no-one f) =
-        let l : 0 < x .level = omega (arith, ap (λ (z : Candidate). z .level) e, level-is bs i p, current-own c i (at bs i), ok .priority-low i (rw (a .size) at h)) in
-        rw f (rw (lt-ltb 0 (x .level) l))
+    agree x y (body i h p e) (no-one f) = rw f (rw (lt-ltb 0 (x .level) some))
+      where
+        level : x .level ≡ current c i (at bs i)
+        level = ap (λ (z : Candidate). z .level) e ∙ level-is bs i p
+
+        some : 0 < x .level
+        some = omega (arith, level, current-own c i (at bs i), ok .priority-low i (rw (a .size) at h))
     agree x y (body i hi p e) (body j hj q f) =
         rw (e, f)
         (by-eq i j
@@ -185,7 +186,8 @@ module _ (c : Config) (ok : Configuration.Accepted c) where
     unfolding seenBy afterBy
     old-from [] s a underway = (refl, refl)
     old-from (e ∷ es) s a underway =
-        let rest = old-from es (step c s e .state) (step-kept c ok begunBodies no-set s a underway e) (underway-step c s e) in
+        let kept = step-kept c ok begunBodies no-set s a underway e in
+        let rest = old-from es (step c s e .state) kept (underway-step c s e) in
         rw (old-step s a underway e) (ap (λ (xs : List Seen). step c s e .seen ∷ xs) (rest .0), rest .1)
 
     old-fresh : freshBy byBegun c ≡ fresh c
@@ -225,14 +227,10 @@ module _ (c : Config) (ok : Configuration.Accepted c) where
         by-order [] o = chosen-began o
         by-order (j ∷ js) o =
             let is = runner-timed c s j js o in
-            unbegun (runner c s .began)
+            not-false (runner c s .began)
             (sym (ap (λ (n : ℕ). not (eqb n 0) && not (runner c s .began)) (ap (λ (x : Candidate). x .level) is))
             ∙ underway-named c s (underway-after c es (fresh c) (underway-fresh c))
             (λ i h. rw (a .size) (named-after c es (fresh c) (named-fresh c) i h)))
-          where
-            unbegun : (b : Bool) → not b ≡ false → b ≡ true
-            unbegun true h = refl
-            unbegun false h = absurd (true≢false h)
 
   -- where the choice is made: at the fresh start, after every list of events, and after the event that comes next
   module _ (shaped : Configuration.Shaped c) where

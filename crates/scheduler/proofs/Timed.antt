@@ -85,7 +85,7 @@ module _ (c : Config) (fit : firstOf c (c .tables) ≤ length (c .offset)) where
           ∙ getD-drop (firstOf c t) (c .offset) j 0)
 
   -- the mark of the entry e of the table t
-  pub dues-at : (s : State) (t e : ℕ) → t < c .tables → firstOf c t ≤ e → e < firstOf c (suc t)
+  dues-at : (s : State) (t e : ℕ) → t < c .tables → firstOf c t ≤ e → e < firstOf c (suc t)
       → getD (dues c s) e false ≡ entryDue (getD (c .period) t 0) (tableOf s t) (getD (c .offset) e 0)
   dues-at s t e lt low high =
       let k : firstOf c t + (e - firstOf c t) ≡ e = omega arith in

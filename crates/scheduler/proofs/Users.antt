@@ -1,19 +1,19 @@
 -- Who holds a resource is one of its declared users: after every list of events, by `declared-after`.
 --
 -- Only a Get adds to what a body holds, and it is accepted of a declared user alone.
-use Prim.Native.Nat.{ℕ}
+use Prim.Native.Nat.{ℕ, _≤_}
 use mathlib.Core.Path.{_≡_, refl, sym, ap, _∙_}
-use mathlib.Core.Bool.{Bool, true, false, true≢false, cond, _||_}
+use mathlib.Core.Bool.{Bool, true, false, cond}
 use mathlib.Core.List.{List, [], _∷_}
 use borrow.Author.Tests.{eq-eqb, ne-eqb}
 use lib.Dec.{eqb}
 use lib.ListN.{length, getD, List·getD-eq-default, List·getD-map, take}
-use Rattle.number.proofs.Cases.{by-lt, by-eq}
+use Rattle.number.proofs.Cases.{by-lt, by-eq, cond-either}
 use Rattle.config.specs.declared.Config.{Config}
 use Rattle.config.specs.Meaning.{isUser}
 use Rattle.scheduler.specs.Bits.{anySet}
 use Rattle.scheduler.specs.Status.{done}
-use Rattle.scheduler.specs.Body.{Body, waiting, isSuspended, hasBegun, become, activated, triggers, ended, finished, requested, gets, rest, releases, loses, waits, receives, clears}
+use Rattle.scheduler.specs.Body.{Body, waiting, isSuspended, hasBegun, become, activated, triggers, ended, finished, requested, gets, releases, loses, waits, receives, clears}
 use Rattle.scheduler.specs.State.{State, noBody, bodyOf, changing, runner, among}
 use Rattle.scheduler.specs.Event.{Event, Activate, Finish, Chain, Get, Release, Tick, Line, Start, Stop, Wait, Set, Clear}
 use Rattle.scheduler.specs.Tick.{dues, counted}
@@ -21,13 +21,10 @@ use Rattle.scheduler.specs.Call.{caller, finish, finishTimed, statusOf, 
 use Rattle.scheduler.specs.Scheduler.{begins, phaseBegun, dispatched, newBody, unstarted, leaves, step, stepBy, fresh, after, afterBy}
 use Rattle.scheduler.specs.History.{AcceptedIn}
 use Rattle.scheduler.proofs.Checks.{get-passed}
-use Rattle.scheduler.proofs.Effects.{bodyOf-changing-same, bodyOf-changing-other, length-changing, refusalOf-keeps, entered, activatingDue-keeps, cond-either}
+use Rattle.scheduler.proofs.Effects.{bodyOf-changing-same, bodyOf-changing-other, length-changing, refusalOf-keeps, entered, activatingDue-keeps}
+use Rattle.scheduler.proofs.Distinct.{none-among, among-rest}
 
 -- nothing is held of an empty list
-none-held : {C : Type 0} (r : ℕ) → among r [] ≡ true → C
-unfolding among
-none-held r h = absurd (true≢false (sym h))
-
 module _ (c : Config) where
   abbrev pub Declared : State → Type 0
   Declared s = (i r : ℕ) → among r (bodyOf s i .held) ≡ true → isUser c r i ≡ true
@@ -40,10 +37,11 @@ module _ (c : Config) where
       by-eq i k
       (λ same. by-lt i (length (s .bodies))
       (λ fits. rw same (fine r (rw (same, bodyOf-changing-same k f s (rw same at fits)) at h)))
-      (λ past.
-      let beyond : bodyOf (changing k f s) i ≡ noBody = List·getD-eq-default (changing k f s .bodies) noBody (rw (length-changing k f s) past) in
-      none-held r (rw beyond at h)))
+      (λ past. none-among r (rw (beyond past) at h)))
       (λ other. d i r (rw (bodyOf-changing-other k f s i other) at h))
+    where
+      beyond : length (s .bodies) ≤ i → bodyOf (changing k f s) i ≡ noBody
+      beyond past = List·getD-eq-default (changing k f s .bodies) noBody (rw (length-changing k f s) past)
 
   -- a change that takes no resource
   abbrev TakesNone : (Body → Body) → Type 0
@@ -54,8 +52,7 @@ module _ (c : Config) where
 
   -- of two bodies that hold the same whichever
   cond-held : (p : Bool) (x y : Body) (rs : List ℕ) → x .held ≡ rs → y .held ≡ rs → cond p x y .held ≡ rs
-  cond-held true x y rs h k = h
-  cond-held false x y rs h k = k
+  cond-held p x y rs = cond-either (λ (b : Body). b .held ≡ rs) p x y
 
   requested-none : TakesNone requested
   requested-none b r h = sym (ap (among r) (cond-held (hasBegun (b .phase)) _ (activated b) (b .held) refl refl)) ∙ h
@@ -75,16 +72,7 @@ module _ (c : Config) where
       sym (ap (among r) (cond-held (anySet (b .bits) w) b (become (waiting w) b) (b .held) refl refl)) ∙ h
 
   releases-none : TakesNone releases
-  unfolding among
-  releases-none b r = go (b .held)
-    where
-      or-true : (x : Bool) → x || true ≡ true
-      or-true true = refl
-      or-true false = refl
-
-      go : (rs : List ℕ) → among r (rest rs) ≡ true → among r rs ≡ true
-      go [] h = h
-      go (x ∷ xs) h = rw h (or-true (eqb r x))
+  releases-none b r h = among-rest r (b .held) h
 
   -- what is held after a Get
   gets-declared : (s : State) (r : ℕ) → isUser c r (caller c s) ≡ true → Declared s
@@ -135,7 +123,7 @@ module _ (c : Config) where
       (refusalOf-keeps c s Declared d (statusOf c s e) e (λ i _ _ _. declared-taking-none i loses (λ b r h. h) s d))))
 
   pub declared-fresh : Declared (fresh c)
-  declared-fresh = declared-dispatched (unstarted c) (λ i r h. none-held r (rw (nothing i) at h))
+  declared-fresh = declared-dispatched (unstarted c) (λ i r h. none-among r (rw (nothing i) at h))
     where
       none : (a : Bool) → cond a (activated noBody) noBody .held ≡ []
       none a = cond-held a (activated noBody) noBody [] refl refl

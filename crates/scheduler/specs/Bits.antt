@@ -1,4 +1,5 @@
--- The 32 event bits of an extended task as one number, and what a mask does with them: OSEK's events, and its event masks.
+-- The 32 event bits of an extended task as one number, and what a mask does with them:
+-- OSEK's events, and its event masks.
 --
 --   bitSet bits i        bit i is set, of a task's bits or of a mask
 --   anySet bits w        one of the bits that the mask w names is set

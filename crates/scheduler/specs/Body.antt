@@ -6,9 +6,9 @@ use Rattle.config.specs.declared.Config.{Config}
 use Rattle.config.specs.Meaning.{priorityOf, ceiling}
 use Rattle.scheduler.specs.Bits.{anySet, withBits, withoutBits}
 
--- "suspended, ready (waiting to begin) or started (begun, not finished)": OSEK's running and preempted are both `started`. An extended task
--- may be OSEK's waiting besides: begun, and waiting for one of the bits of a mask. A time-triggered task is suspended or `triggered`, by an
--- entry: OSEKtime's running and preempted, once it has begun.
+-- "suspended, ready (waiting to begin) or started (begun, not finished)": OSEK's running and preempted are both
+-- `started`. An extended task may be OSEK's waiting besides: begun, and waiting for one of the bits of a mask. A
+-- time-triggered task is suspended or `triggered`, by an entry: OSEKtime's running and preempted, once it has begun.
 pub data Phase : Type 0 where
   suspended ready started : Phase
   waiting : (mask : ℕ) → Phase
@@ -105,7 +105,8 @@ rest [] = []
 rest (r ∷ rs) = rs
 
 abbrev pub releases : Body → Body
-releases b = record { phase = b .phase; pending = b .pending; held = rest (b .held); losses = b .losses; bits = b .bits }
+releases b =
+    record { phase = b .phase; pending = b .pending; held = rest (b .held); losses = b .losses; bits = b .bits }
 
 -- "its loss count rises by 1 and stays at 65,535 once there"
 abbrev pub mostLosses : ℕ
@@ -113,25 +114,40 @@ mostLosses = 65535
 
 -- n activations lost
 abbrev pub losing : ℕ → Body → Body
-losing n b = record { phase = b .phase; pending = b .pending; held = b .held; losses = min (b .losses + n) mostLosses; bits = b .bits }
+losing n b =
+    record {
+      phase = b .phase;
+      pending = b .pending;
+      held = b .held;
+      losses = min (b .losses + n) mostLosses;
+      bits = b .bits;
+    }
 
 abbrev pub loses : Body → Body
 loses b = losing 1 b
 
--- "A due entry makes a suspended task ready. If the task isn't suspended, its loss count rises"; "table entries treat a waiting task as not
--- suspended"
+-- "A due entry makes a suspended task ready. If the task isn't suspended, its loss count rises";
+-- "table entries treat a waiting task as not suspended"
 abbrev pub activatedByEntry : Body → Body
 activatedByEntry b = cond (isSuspended (b .phase)) (activated b) (loses b)
 
 -- Clear: those of w are cleared
 abbrev pub clears : ℕ → Body → Body
-clears w b = record { phase = b .phase; pending = b .pending; held = b .held; losses = b .losses; bits = withoutBits (b .bits) w }
+clears w b =
+    record {
+      phase = b .phase;
+      pending = b .pending;
+      held = b .held;
+      losses = b .losses;
+      bits = withoutBits (b .bits) w;
+    }
 
 -- "Wait on a bit already set goes on at once"; else the runner waits for one of the bits of w
 abbrev pub waits : ℕ → Body → Body
 waits w b = cond (anySet (b .bits) w) b (become (waiting w) b)
 
--- "resumes .. once a waited bit is set", one of them, so that "Wait on mask 0 is never resumed": the phase of a body whose bits these are
+-- "resumes .. once a waited bit is set", one of them, so that "Wait on mask 0 is never resumed":
+-- the phase of a body whose bits these are
 abbrev pub resumed : ℕ → Phase → Phase
 resumed bits suspended = suspended
 resumed bits ready = ready

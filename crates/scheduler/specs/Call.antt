@@ -1,13 +1,14 @@
 -- Document 01's table of events, with document 02's three more.
 --
---   checksFor c k s e   the column "statuses in order": the tests that the event e has to pass while k runs, each with the status that it gives
+--   checksFor c k s e   the column "statuses in order": the tests that the event e has to pass while k runs, each with
+--                       the status that it gives
 --   effectFor c k s e   the column "effect": the state that e leaves where its status is 0
 --   refusalOf c s st e  the state that it leaves where its status is another, st
---   checksOf, statusOf, effectOf c s e   the same while whoever is chosen runs; "the first status that applies is given"
+--   checksOf, statusOf, effectOf c s e
+--                       the same while whoever is chosen runs; "the first status that applies is given"
 --
--- In order: the tests, the first column, each event's effect, the second, what a refused event leaves, and both columns while the chosen one
--- runs. `event-table` (proofs/Theorems.antt) is the first column with its
--- numbers written out.
+-- In order: the tests, the first column, each event's effect, the second, what a refused event leaves, and both columns
+-- while the chosen one runs. `event-table` (proofs/Theorems.antt) is the first column with its numbers written out.
 use Prim.Native.Nat.{ℕ, _+_}
 use mathlib.Core.Bool.{Bool, true, false, cond, not, _&&_, _||_}
 use mathlib.Core.List.{List, [], _∷_}
@@ -30,7 +31,8 @@ abbrev pub latestIs : ℕ → List ℕ → Bool
 latestIs r [] = false
 latestIs r (x ∷ xs) = eqb r x
 
--- "a request already waits (the ISR is ready, or started with one waiting)"; that of a triggered body waits until it begins
+-- "a request already waits (the ISR is ready, or started with one waiting)";
+-- that of a triggered body waits until it begins
 abbrev pub requestWaits : Body → Phase → Bool
 requestWaits b suspended = false
 requestWaits b ready = true
@@ -48,7 +50,8 @@ noCaller k = isNobody k || k .timed
 
 -- "statuses in order", while k runs. Line is document 01's word for an interrupt request.
 abbrev pub checksFor : Config → Candidate → State → Event → List Check
-checksFor c k s (Activate t) = (noCaller k gives callLevel) ∷ (not (isOsekTask c t) gives noSuch) ∷ (active s t gives limitReached) ∷ []
+checksFor c k s (Activate t) =
+    (noCaller k gives callLevel) ∷ (not (isOsekTask c t) gives noSuch) ∷ (active s t gives limitReached) ∷ []
 checksFor c k s Finish = (isNobody k gives callLevel) ∷ (holds (bodyOf s (k .number) .held) gives holdsResource) ∷ []
 checksFor c k s (Chain t) =
     (noCaller k || isIsr c (k .number) gives callLevel) ∷
@@ -68,7 +71,8 @@ checksFor c k s (Release r) =
     (not (latestIs r (bodyOf s (k .number) .held)) gives noFunction) ∷
     []
 checksFor c k s Tick = []
-checksFor c k s (Line i) = (not (isIsr c i) gives noSuch) ∷ (requestWaits (bodyOf s i) (bodyOf s i .phase) gives limitReached) ∷ []
+checksFor c k s (Line i) =
+    (not (isIsr c i) gives noSuch) ∷ (requestWaits (bodyOf s i) (bodyOf s i .phase) gives limitReached) ∷ []
 checksFor c k s (Start t d) =
     (noCaller k gives callLevel) ∷
     (leb (c .tables) t gives noSuch) ∷
@@ -81,7 +85,8 @@ checksFor c k s (Stop t) =
     (not (isRunning (tableOf s t)) gives noFunction) ∷
     []
 checksFor c k s (Wait w) =
-    (noCaller k gives callLevel) ∷ (not (isExtended c (k .number)) gives access) ∷ (holds (bodyOf s (k .number) .held) gives holdsResource) ∷ []
+    (noCaller k gives callLevel) ∷
+    (not (isExtended c (k .number)) gives access) ∷ (holds (bodyOf s (k .number) .held) gives holdsResource) ∷ []
 checksFor c k s (Set t w) =
     (noCaller k gives callLevel) ∷
     (not (isTask c t) gives noSuch) ∷
@@ -150,8 +155,8 @@ effectFor c k s (Wait w) = wait (k .number) w s
 effectFor c k s (Set t w) = setEvent t w s
 effectFor c k s (Clear w) = clear (k .number) w s
 
--- "A status other than 0 changes nothing", but "From edition two a Line that meets a waiting request adds to that ISR's loss count .. besides
--- giving status 4"
+-- "A status other than 0 changes nothing", but
+-- "From edition two a Line that meets a waiting request adds to that ISR's loss count .. besides giving status 4"
 abbrev pub refusalOf : Config → State → ℕ → Event → State
 refusalOf c s st (Activate t) = s
 refusalOf c s st Finish = s

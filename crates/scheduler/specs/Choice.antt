@@ -3,7 +3,8 @@
 --   chosen c bs       the body that runs, with its level, or `nobody`
 --   chosenBy q c bs   the same by another rule for ties
 --
--- The rule for ties is a question: of two with equal current priority the one of which it holds goes before the other, of which it does not.
+-- The rule for ties is a question:
+-- of two with equal current priority the one of which it holds goes before the other, of which it does not.
 use Prim.Native.Nat.{ℕ, suc}
 use mathlib.Core.Bool.{Bool, true, false, cond, not, _&&_, _||_}
 use mathlib.Core.List.{List, [], _∷_}
@@ -11,8 +12,8 @@ use lib.Dec.{ltb, eqb}
 use Rattle.config.specs.declared.Config.{Config}
 use Rattle.scheduler.specs.Body.{Phase, suspended, ready, started, waiting, triggered, Body, holds, current}
 
--- A body that may run. `level` is document 01's word for the current priority of the one that runs, OSEK's current CPU priority; `holder`:
--- whether it holds a resource; `timed`: whether it is time-triggered.
+-- A body that may run. `level` is document 01's word for the current priority of the one that runs, OSEK's current CPU
+-- priority; `holder`: whether it holds a resource; `timed`: whether it is time-triggered.
 pub record Candidate : Type 0 where
   pub number : ℕ
   pub level : ℕ
@@ -30,11 +31,14 @@ nobody = record { number = idle; level = 0; began = false; holder = false; timed
 abbrev pub isNobody : Candidate → Bool
 isNobody k = eqb (k .level) 0
 
--- what the body with number i is to the choice; neither a waiting one nor a triggered one, which goes before all others, is a candidate
+-- what the body with number i is to the choice;
+-- neither a waiting one nor a triggered one, which goes before all others, is a candidate
 unfoldable pub candidate : Config → ℕ → Body → Phase → Candidate
 candidate c i b suspended = nobody
-candidate c i b ready = record { number = i; level = current c i b; began = false; holder = holds (b .held); timed = false }
-candidate c i b started = record { number = i; level = current c i b; began = true; holder = holds (b .held); timed = false }
+candidate c i b ready =
+    record { number = i; level = current c i b; began = false; holder = holds (b .held); timed = false }
+candidate c i b started =
+    record { number = i; level = current c i b; began = true; holder = holds (b .held); timed = false }
 candidate c i b (waiting w) = nobody
 candidate c i b (triggered x) = nobody
 
@@ -46,8 +50,8 @@ Tie = Candidate → Bool
 abbrev pub byHolding : Tie
 byHolding k = k .holder
 
--- document 01's rule, which that replaces: "on equal priorities the one that already began goes first". Where no task is extended both
--- choose alike (`old-rule`, proofs/Theorems.antt).
+-- document 01's rule, which that replaces: "on equal priorities the one that already began goes first". Where no task
+-- is extended both choose alike (`old-rule`, proofs/Theorems.antt).
 abbrev pub byBegun : Tie
 byBegun k = k .began
 

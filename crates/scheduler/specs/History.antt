@@ -1,4 +1,5 @@
--- A table's d and n as demand 3 words them: "counted from the table's last accepted start until its next accepted stop".
+-- A table's d and n as demand 3 words them:
+-- "counted from the table's last accepted start until its next accepted stop".
 --
 --   AcceptedIn c s e        the event e, met in the state s, is accepted; Ends e: it ends its caller
 --   NoStart c t s es      of the events es from the state s on, none is an accepted Start of the table t; NoStop: Stop
@@ -35,7 +36,8 @@ next c s e = step c s e .state
 
 -- of the events es from the state s on, none that P names is accepted
 abbrev pub NoneAccepted : (Event → Type 0) → Config → State → List Event → Type 0
-NoneAccepted P c s es = (e : Event) (before rest : List Event) → es ≡ before ++ e ∷ rest → P e → AcceptedIn c (after c s before) e → ⊥
+NoneAccepted P c s es =
+    (e : Event) (before rest : List Event) → es ≡ before ++ e ∷ rest → P e → AcceptedIn c (after c s before) e → ⊥
 
 abbrev pub StartOf : ℕ → Event → Type 0
 StartOf t e = (d : ℕ) × (e ≡ Start t d)

@@ -108,7 +108,12 @@ abbrev pub newBody : ℕ → Body
 newBody autostart = cond (eqb autostart 1) (activated noBody) noBody
 
 abbrev pub unstarted : Config → State
-unstarted c = record { bodies = map newBody (take (c .bodies) (c .autostart)); tables = replicate (c .tables) stopped; order = [] }
+unstarted c =
+    record {
+      bodies = map newBody (take (c .bodies) (c .autostart));
+      tables = replicate (c .tables) stopped;
+      order = [];
+    }
 
 abbrev pub freshBy : Tie → Config → State
 freshBy q c = dispatchedTo (runnerBy q c (unstarted c)) (unstarted c)

@@ -9,7 +9,7 @@ use native.Mathlib.Omega.{arith}
 use lib.Arith.{mod-mul, digits-div, digits-mod}
 use lib.ListN.{length, take, drop, getD}
 use lib.Seq.{take-at, getD-at}
-use Rattle.stack.specs.Stack.{none, bytes, firstByte, lastByte, pushWord, popWord}
+use Rattle.stack.specs.Stack.{noByte, bytes, firstByte, lastByte, pushWord, popWord}
 
 pub length-bytes : (n w : ℕ) → length (bytes n w) ≡ n
 unfolding bytes
@@ -26,7 +26,8 @@ bytes-suc zero w = ap (λ (v : ℕ). v % 256 ∷ []) (sym (div-one w))
 bytes-suc (suc n) w =
     ap (λ (l : List ℕ). w % 256 ∷ l)
     (bytes-suc n (w / 256)
-    ∙ ap (λ (v : ℕ). bytes n (w / 256) ++ (v % 256 ∷ [])) (div-div-eq-div-mul w 256 (256 ^ n) ∙ ap (λ (p : ℕ). w / p) (sym (pow-succ' 256 n))))
+    ∙ ap (λ (v : ℕ). bytes n (w / 256) ++ (v % 256 ∷ []))
+    (div-div-eq-div-mul w 256 (256 ^ n) ∙ ap (λ (p : ℕ). w / p) (sym (pow-succ' 256 n))))
 
 -- what stands above the n lowest bytes does not change them
 bytes-low : (n w y : ℕ) → bytes n (w % 256 ^ n + y * 256 ^ n) ≡ bytes n w
@@ -35,7 +36,12 @@ bytes-low zero w y = refl
 bytes-low (suc n) w y = cc (lowest, ap (bytes n) rest ∙ bytes-low n (w / 256) y)
   where
     apart : w % 256 ^ suc n + y * 256 ^ suc n ≡ (w / 256 % 256 ^ n + y * 256 ^ n) * 256 + w % 256
-    apart = omega (arith, ap (λ (p : ℕ). w % p) (pow-suc 256 n) ∙ mod-mul w (pos n) (omega arith), ap (λ (p : ℕ). y * p) (pow-suc 256 n) ∙ sym (mul-assoc y (256 ^ n) 256))
+    apart =
+        omega (
+          arith,
+          ap (λ (p : ℕ). w % p) (pow-suc 256 n) ∙ mod-mul w (pos n) (omega arith),
+          ap (λ (p : ℕ). y * p) (pow-suc 256 n) ∙ sym (mul-assoc y (256 ^ n) 256),
+        )
 
     lowest : (w % 256 ^ suc n + y * 256 ^ suc n) % 256 ≡ w % 256
     lowest = omega (arith, apart)
@@ -62,18 +68,20 @@ bytes-above n w y byte = bytes-suc n (w % 256 ^ n + y * 256 ^ n) ∙ cc (bytes-l
     highest = omega (arith, add-mul-div-right (w % 256 ^ n) y (pos n), div-eq-of-lt (mod-lt w (pos n)))
 
 -- the eight bytes of a word
-pub word-first : (w : ℕ) → firstByte w ≡ getD (bytes 8 w) 0 none
+pub word-first : (w : ℕ) → firstByte w ≡ getD (bytes 8 w) 0 noByte
 unfolding bytes
 word-first w = refl
 
-pub word-last : (w : ℕ) → lastByte w ≡ getD (bytes 8 w) 7 none
+pub word-last : (w : ℕ) → lastByte w ≡ getD (bytes 8 w) 7 noByte
 word-last w =
-    sym (getD-at (bytes 7 w) (lastByte w) [] none 7 (length-bytes 7 w)) ∙ ap (λ (l : List ℕ). getD l 7 none) (sym (bytes-suc 7 w))
+    sym (getD-at (bytes 7 w) (lastByte w) [] noByte 7 (length-bytes 7 w))
+    ∙ ap (λ (l : List ℕ). getD l 7 noByte) (sym (bytes-suc 7 w))
 
 pub word-pushed : (w x : ℕ) → x < 256 → bytes 8 (pushWord w x) ≡ x ∷ take 7 (bytes 8 w)
 word-pushed w x byte =
     bytes-below 7 w x byte
-    ∙ ap (λ (l : List ℕ). x ∷ l) (sym (take-at (bytes 7 w) (lastByte w ∷ []) 7 (length-bytes 7 w)) ∙ ap (take 7) (sym (bytes-suc 7 w)))
+    ∙ ap (λ (l : List ℕ). x ∷ l)
+    (sym (take-at (bytes 7 w) (lastByte w ∷ []) 7 (length-bytes 7 w)) ∙ ap (take 7) (sym (bytes-suc 7 w)))
 
 pub word-popped : (w y : ℕ) → y < 256 → bytes 8 (popWord w y) ≡ drop 1 (bytes 8 w) ++ (y ∷ [])
 unfolding bytes

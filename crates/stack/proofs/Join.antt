@@ -21,4 +21,5 @@ pub popped-join : (A B : List ℕ) (y d : ℕ) → 0 < length A → 0 < length B
     → (drop 1 A ++ (getD B 0 d ∷ [])) ++ (drop 1 B ++ (y ∷ [])) ≡ drop 1 (A ++ B) ++ (y ∷ [])
 popped-join [] B y d some others = absurd (omega arith)
 popped-join (a ∷ A) [] y d some others = absurd (omega arith)
-popped-join (a ∷ A) (b ∷ B) y d some others = append-assoc A (b ∷ []) (B ++ (y ∷ [])) ∙ sym (append-assoc A (b ∷ B) (y ∷ []))
+popped-join (a ∷ A) (b ∷ B) y d some others =
+    append-assoc A (b ∷ []) (B ++ (y ∷ [])) ∙ sym (append-assoc A (b ∷ B) (y ∷ []))

@@ -1,22 +1,22 @@
--- What the crate shows beyond its contracts, over specs/ alone: which bytes are on a row after a push and a pop. Callers lean on these laws,
--- not on the definitions.
+-- What the crate shows beyond its contracts, over specs/ alone: which bytes are on a row after a push and a pop.
+-- Callers lean on these laws, not on the definitions.
 use Prim.Native.Nat.{ℕ, _<_}
 use mathlib.Core.Path.{_≡_, refl}
 use mathlib.Core.List.{[], _∷_, _++_}
 use native.Mathlib.Omega.{arith}
 use lib.ListN.{length, take, drop, getD, replicate}
 use Rattle.stack.specs.declared.Row.{Row}
-use Rattle.stack.specs.Stack.{none, rowSize, bytes, rowBytes, emptyRow, topRow, secondRow, pushRow, popRow}
+use Rattle.stack.specs.Stack.{noByte, rowSize, bytes, rowBytes, emptyRow, topRow, secondRow, pushRow, popRow}
 use Rattle.stack.proofs.RowBytes as RowBytes
 
 -- a row has 16 bytes, its top the first of them
 pub length-rowBytes : (r : Row) → length (rowBytes r) ≡ rowSize
 length-rowBytes = RowBytes.length-rowBytes
 
-pub row-top : (r : Row) → topRow r ≡ getD (rowBytes r) 0 none
+pub row-top : (r : Row) → topRow r ≡ getD (rowBytes r) 0 noByte
 row-top = RowBytes.row-first
 
-pub row-second : (r : Row) → secondRow r ≡ getD (rowBytes r) 1 none
+pub row-second : (r : Row) → secondRow r ≡ getD (rowBytes r) 1 noByte
 unfolding secondRow rowBytes bytes
 row-second r = refl
 
@@ -33,9 +33,9 @@ pub row-pushed : (r : Row) (x : ℕ) → x < 256 → rowBytes (pushRow r x) ≡ 
 row-pushed = RowBytes.row-pushed
 
 -- past the bottom lies 255
-pub row-popped : (r : Row) → rowBytes (popRow r) ≡ drop 1 (rowBytes r) ++ (none ∷ [])
+pub row-popped : (r : Row) → rowBytes (popRow r) ≡ drop 1 (rowBytes r) ++ (noByte ∷ [])
 row-popped = RowBytes.row-popped
 
-pub row-empty : rowBytes emptyRow ≡ replicate rowSize none
+pub row-empty : rowBytes emptyRow ≡ replicate rowSize noByte
 unfolding rowBytes bytes emptyRow
 row-empty = refl

@@ -6,15 +6,15 @@
 --   pushRow r x                          x on top, and the byte at the bottom dropped
 --   popRow r                             the top taken off, and 255 at the bottom
 --
--- Each definition is total: a law asks for no range where a word's bytes alone decide. Main laws: `row-top`, `row-pushed` and
--- `row-popped` (proofs/Theorems.antt).
+-- Each definition is total: a law asks for no range where a word's bytes alone decide. Main laws: `row-top`,
+-- `row-pushed` and `row-popped` (proofs/Theorems.antt).
 use Prim.Native.Nat.{ℕ, zero, suc, _+_, _-_, _*_, _/_, _%_}
 use mathlib.Core.List.{List, [], _∷_, _++_}
 use Rattle.stack.specs.declared.Row.{Row}
 
 -- what lies past the bottom
-abbrev pub none : ℕ
-none = 255
+abbrev pub noByte : ℕ
+noByte = 255
 
 -- what seven bytes hold: the worth of a word's highest byte
 abbrev pub seven : ℕ
@@ -53,7 +53,7 @@ popWord w y = w / 256 % seven + y * seven
 abbrev pub rowOf : ℕ → ℕ → Row
 rowOf near far = record { near = near; far = far }
 
--- every byte is `none`
+-- every byte is `noByte`
 unfoldable pub emptyRow : Row
 emptyRow = rowOf (wordValues - 1) (wordValues - 1)
 
@@ -69,9 +69,9 @@ secondRow r = firstByte (r .near / 256)
 unfoldable pub pushRow : Row → ℕ → Row
 pushRow r x = rowOf (pushWord (r .near) x) (pushWord (r .far) (lastByte (r .near)))
 
--- the top of the far word comes into the near one, and past the bottom lies `none`
+-- the top of the far word comes into the near one, and past the bottom lies `noByte`
 unfoldable pub popRow : Row → Row
-popRow r = rowOf (popWord (r .near) (firstByte (r .far))) (popWord (r .far) none)
+popRow r = rowOf (popWord (r .near) (firstByte (r .far))) (popWord (r .far) noByte)
 
 -- the bytes of a row, the top first
 unfoldable pub rowBytes : Row → List ℕ

@@ -1,17 +1,18 @@
 // A stack of bytes kept in 64-bit words, its top in the lowest byte of the first word.
 //
-// A push and a pop shift the words, so no index is needed and the compiler keeps the stack in registers. Past the bottom lies 255: a pop
-// brings it in, and a push onto a full stack drops the byte at the bottom. The laws are in proofs/Theorems.antt.
+// A push and a pop shift the words, so no index is needed and the compiler keeps the stack in registers. Past the
+// bottom lies 255: a pop brings it in, and a push onto a full stack drops the byte at the bottom. The laws are in
+// proofs/Theorems.antt.
 ghost use mathlib.Core.Path.{_≡_};
 ghost use Rattle.stack.specs.Stack.{pushWord, popWord, firstByte, lastByte, emptyRow, topRow, secondRow, pushRow, popRow};
 
 // What lies past the bottom.
-pub const NONE: u8 = 255;
+pub const NO_BYTE: u8 = 255;
 
 // What seven bytes hold: the worth of a word's highest byte.
 const HIGHEST: u64 = 72057594037927936;
 
-// Eight times NONE.
+// Eight times NO_BYTE.
 const EMPTY: u64 = 18446744073709551615;
 
 // 16 bytes.
@@ -83,7 +84,7 @@ impl Row {
         ensures { λ r. ⌜ r ≡ popRow self ⌝ }
     {
         let near = pop_word(self.near, first_byte(self.far));
-        let far = pop_word(self.far, NONE);
+        let far = pop_word(self.far, NO_BYTE);
         Row { near, far }
     }
 }

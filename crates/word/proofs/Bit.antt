@@ -1,6 +1,7 @@
 -- One bit of a number, at any place: what adding its worth and taking it away do to it and to the other bits.
 --
--- In order: the lowest bit and those above it; a clear bit added; the highest bit; a set bit taken away; numbers with the same bits; a number all of whose bits are set.
+-- In order: the lowest bit and those above it; a clear bit added; the highest bit; a set bit taken away; numbers with
+-- the same bits; a number all of whose bits are set.
 -- Each law goes by halving, so that omega sees the lowest bit only.
 use Prim.Native.Nat.{ℕ, zero, suc, _+_, _-_, _/_, _%_, _^_, _≤_, _<_}
 use mathlib.Core.Path.{_≡_, refl, sym, ap, _∙_}
@@ -40,7 +41,8 @@ pub add-lt : (k w r : ℕ) → r < k → w < 2 ^ k → bit w r ≡ 0 → w + 2 ^
 add-lt zero w r l h c = absurd (omega arith)
 add-lt (suc k) w zero l h c = omega (arith, pow-suc 2 k, bit-zero w)
 add-lt (suc k) w (suc r) l h c =
-    omega (arith, pow-suc 2 k, pow-suc 2 r, add-lt k (w / 2) r (omega arith) (omega (arith, pow-suc 2 k)) (rw bit-suc at c))
+    let half = add-lt k (w / 2) r (omega arith) (omega (arith, pow-suc 2 k)) (rw bit-suc at c) in
+    omega (arith, pow-suc 2 k, pow-suc 2 r, half)
 
 -- the highest bit of a number is set
 pub top-set : (w r : ℕ) → 2 ^ r ≤ w → w < 2 ^ suc r → bit w r ≡ 1
@@ -71,5 +73,6 @@ bits-same (suc k) w v hw hv e =
       bit-zero w,
       bit-zero v,
       e 0 (omega arith),
-      bits-same k (w / 2) (v / 2) (omega (arith, pow-suc 2 k)) (omega (arith, pow-suc 2 k)) (λ i l. sym (bit-suc w i) ∙ e (suc i) (omega arith) ∙ bit-suc v i),
+      bits-same k (w / 2) (v / 2) (omega (arith, pow-suc 2 k)) (omega (arith, pow-suc 2 k))
+          (λ i l. sym (bit-suc w i) ∙ e (suc i) (omega arith) ∙ bit-suc v i),
     )

@@ -8,9 +8,10 @@ use native.Mathlib.Nat.{le-of-suc-le-suc, lt-of-not-le, not-le-of-lt}
 use lib.Arith.{lt-of-le-ne}
 use lib.Count.{leadingZeros, leading-top}
 use lib.Pow.{pow-mono}
-use Rattle.word.specs.Word.{ranks, noRank, has, highestBelow, winner}
+use Rattle.number.proofs.Cases.{by-test}
+use Rattle.word.specs.Word.{ranks, noWinner, has, highestBelow, winner}
 use Rattle.word.proofs.Bit.{top-set, set-le}
-use Rattle.word.proofs.Rank.{by-test, has-lt, has-set, set-has}
+use Rattle.word.proofs.Rank.{has-lt, has-set, set-has}
 
 -- where some rank below n is in the word, the highest one is found
 found : (n w i : ℕ) → i < n → has w i ≡ true → (i ≤ highestBelow n w) × (has w (highestBelow n w) ≡ true)
@@ -25,12 +26,12 @@ found (suc n) w i l e =
     below f = lt-of-le-ne (omega arith) (λ q. let z : _≡_ {A = ℕ} 0 1 = cc in omega arith)
 
 -- and where none is, there is no winner
-cases : (n w : ℕ) → (highestBelow n w ≡ noRank) ⊎ (has w (highestBelow n w) ≡ true)
+cases : (n w : ℕ) → (highestBelow n w ≡ noWinner) ⊎ (has w (highestBelow n w) ≡ true)
 unfolding highestBelow
 cases zero w = inl refl
 cases (suc n) w = by-test (has w n) (λ t. rw t (inr t)) (λ f. rw f (cases n w))
 
-pub winner-cases : (w : ℕ) → (winner w ≡ noRank) ⊎ (has w (winner w) ≡ true)
+pub winner-cases : (w : ℕ) → (winner w ≡ noWinner) ⊎ (has w (winner w) ≡ true)
 unfolding winner
 winner-cases w = cases ranks w
 
@@ -53,5 +54,6 @@ module _ (w : ℕ) (some : 0 < w) (fits : w < 2 ^ ranks) where
   -- the leading zeros, the winner's bit and the bits below it make the word
   pub winner-leading : leadingZeros ranks w + suc (winner w) ≡ ranks
   winner-leading = let t = leading-top ranks w some fits in
-      let below : winner w ≤ t .0 = pow-le (winner w) (t .0) (omega (arith, set-le w (winner w) (has-set w (winner w) winner-has))) in
-      omega (arith, top-found .0)
+      let low = set-le w (winner w) (has-set w (winner w) winner-has) in
+      let below = pow-le (winner w) (t .0) (omega (arith, low)) in
+      omega (arith, below, top-found .0)

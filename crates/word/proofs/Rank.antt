@@ -1,30 +1,22 @@
 -- A rank in a word is a bit of it that is set; and what `with` and `without` make of the word, by cases.
 use Prim.Native.Nat.{ℕ, _+_, _-_, _^_, _<_}
-use mathlib.Core.Path.{_≡_, refl, sym, ap, _∙_}
-use mathlib.Core.Bool.{Bool, true, false, _&&_, and-false}
+use mathlib.Core.Path.{_≡_, sym, ap, _∙_}
+use mathlib.Core.Bool.{true, false, _&&_, and-false}
 use native.Mathlib.Omega.{arith}
 use lib.Dec.{ltb, eqb}
 use borrow.Author.Tests.{ltb-true, ltb-false, eqb-true, eqb-false, lt-ltb, eq-eqb, ne-eqb}
+use Rattle.number.proofs.Cases.{by-test, and-true}
 use Rattle.word.specs.Word.{ranks, has, with, without}
 use Rattle.word.proofs.Bit.{bit}
-
--- by cases on a test
-pub by-test : {C : Type 0} (t : Bool) → (t ≡ true → C) → (t ≡ false → C) → C
-by-test true f g = f refl
-by-test false f g = g refl
-
-both : (s t : Bool) → s && t ≡ true → (s ≡ true) × (t ≡ true)
-both true t e = (refl, e)
-both false t e = absurd (let z : _≡_ {A = ℕ} 0 1 = cc in omega arith)
 
 module _ (w r : ℕ) where
   pub has-lt : has w r ≡ true → r < ranks
   unfolding has
-  has-lt e = ltb-true r ranks (both (ltb r ranks) (eqb (bit w r) 1) e .0)
+  has-lt e = ltb-true r ranks (and-true (ltb r ranks) (eqb (bit w r) 1) e .0)
 
   pub has-set : has w r ≡ true → bit w r ≡ 1
   unfolding has
-  has-set e = eqb-true (bit w r) 1 (both (ltb r ranks) (eqb (bit w r) 1) e .1)
+  has-set e = eqb-true (bit w r) 1 (and-true (ltb r ranks) (eqb (bit w r) 1) e .1)
 
   pub has-clear : r < ranks → has w r ≡ false → bit w r ≡ 0
   unfolding has
@@ -49,7 +41,8 @@ has-bit w v i l e =
     (λ f. has-clear w i l (e ∙ f) ∙ sym (has-clear v i l f))
 
 -- `with` leaves a word as it is, which then has the rank if it is one, or adds a clear bit
-pub with-elim : (C : ℕ → Type 0) (w r : ℕ) → ((r < ranks → has w r ≡ true) → C w) → (r < ranks → bit w r ≡ 0 → C (w + 2 ^ r)) → C (with w r)
+pub with-elim : (C : ℕ → Type 0) (w r : ℕ) → ((r < ranks → has w r ≡ true) → C w)
+    → (r < ranks → bit w r ≡ 0 → C (w + 2 ^ r)) → C (with w r)
 unfolding with
 with-elim C w r kept added =
     by-test (ltb r ranks)
@@ -59,7 +52,8 @@ with-elim C w r kept added =
     (λ g. rw g (kept (λ l. absurd (omega (arith, ltb-false r ranks g)))))
 
 -- `without` leaves a word that has not the rank, or takes a set bit away
-pub without-elim : (C : ℕ → Type 0) (w r : ℕ) → (has w r ≡ false → C w) → (r < ranks → bit w r ≡ 1 → C (w - 2 ^ r)) → C (without w r)
+pub without-elim : (C : ℕ → Type 0) (w r : ℕ) → (has w r ≡ false → C w) → (r < ranks → bit w r ≡ 1 → C (w - 2 ^ r))
+    → C (without w r)
 unfolding without
 without-elim C w r kept taken =
     by-test (has w r)

@@ -1,6 +1,7 @@
 -- What the crate shows beyond its contracts, over specs/ alone: which ranks are in a word, and which of them wins.
 --
--- In order: `has`; `with`; `without`; `union`; words with the same ranks; the winner. Callers lean on these laws, not on the definitions.
+-- In order: `has`; `with`; `without`; `union`; words with the same ranks; the winner.
+-- Callers lean on these laws, not on the definitions.
 use Prim.Native.Nat.{ℕ, _+_, _-_, _/_, _%_, _^_, _≤_, _<_}
 use mathlib.Core.Path.{_≡_, refl, sym, ap, _∙_}
 use mathlib.Core.Logic.{⊎-elim}
@@ -10,7 +11,7 @@ use native.Mathlib.Omega.{arith}
 use lib.Dec.{ltb, eqb}
 use lib.Bits.{or-lt}
 use Rattle.number.proofs.Bits.{or-bit}
-use Rattle.word.specs.Word.{ranks, noRank, has, with, without, union, highestBelow, winner}
+use Rattle.word.specs.Word.{ranks, noWinner, has, with, without, union, highestBelow, winner}
 use Rattle.word.proofs.Bit.{add-same, add-other, add-lt, sub-same, sub-other, bits-same}
 use Rattle.word.proofs.Rank as Rank
 use Rattle.word.proofs.Rank.{with-elim, without-elim, has-bit}
@@ -30,7 +31,8 @@ has-with-same w r l =
 
 pub has-with-other : (w r i : ℕ) → (i ≡ r → ⊥) → has (with w r) i ≡ has w i
 has-with-other w r i d =
-    with-elim (λ (v : ℕ). has v i ≡ has w i) w r (λ _. refl) (λ _ c. Rank.same-has w i (w + 2 ^ r) (add-other w r i c d))
+    with-elim (λ (v : ℕ). has v i ≡ has w i) w r (λ _. refl)
+    (λ _ c. Rank.same-has w i (w + 2 ^ r) (add-other w r i c d))
 
 pub with-lt : (w r : ℕ) → w < 2 ^ ranks → with w r < 2 ^ ranks
 with-lt w r h = with-elim (λ (v : ℕ). v < 2 ^ ranks) w r (λ _. h) (λ l c. add-lt ranks w r l h c)
@@ -46,7 +48,8 @@ has-without-same w r =
 
 pub has-without-other : (w r i : ℕ) → (i ≡ r → ⊥) → has (without w r) i ≡ has w i
 has-without-other w r i d =
-    without-elim (λ (v : ℕ). has v i ≡ has w i) w r (λ _. refl) (λ _ s. Rank.same-has w i (w - 2 ^ r) (sub-other w r i s d))
+    without-elim (λ (v : ℕ). has v i ≡ has w i) w r (λ _. refl)
+    (λ _ s. Rank.same-has w i (w - 2 ^ r) (sub-other w r i s d))
 
 pub without-lt : (w r : ℕ) → w < 2 ^ ranks → without w r < 2 ^ ranks
 without-lt w r h = without-elim (λ (v : ℕ). v < 2 ^ ranks) w r (λ _. h) (λ _ _. omega arith)
@@ -57,7 +60,9 @@ without-no-rank w r h = without-elim (λ (v : ℕ). v ≡ w) w r (λ _. refl) (�
 -- a rank is in the union exactly if it is in one of the two words
 pub has-union : (w v i : ℕ) → has (union w v) i ≡ has w i || has v i
 unfolding has union
-has-union w v i = ap (λ (b : Bool). ltb i ranks && b) (or-bit w v i) ∙ go (ltb i ranks) (eqb (w / 2 ^ i % 2) 1) (eqb (v / 2 ^ i % 2) 1)
+has-union w v i =
+    ap (λ (b : Bool). ltb i ranks && b) (or-bit w v i)
+    ∙ go (ltb i ranks) (eqb (w / 2 ^ i % 2) 1) (eqb (v / 2 ^ i % 2) 1)
   where
     go : (a b c : Bool) → a && (b || c) ≡ (a && b) || (a && c)
     go true b c = refl
@@ -82,16 +87,16 @@ pub winner-highest : (w i : ℕ) → has w i ≡ true → i ≤ winner w
 winner-highest w i e = Highest.winner-found w i e .0
 
 -- the empty word, and no other, has no winner
-pub winner-empty : winner 0 ≡ noRank
+pub winner-empty : winner 0 ≡ noWinner
 unfolding winner highestBelow has
 winner-empty = refl
 
-pub winner-none : (w : ℕ) → w < 2 ^ ranks → winner w ≡ noRank → w ≡ 0
+pub winner-none : (w : ℕ) → w < 2 ^ ranks → winner w ≡ noWinner → w ≡ 0
 winner-none w h e = ⊎-elim (λ z. z) (λ p. absurd (omega (arith, winner-has w p h .0))) (eq-zero-or-pos w)
 
--- a winner that is a rank is in the word; any other is `noRank`
+-- a winner that is a rank is in the word; any other is `noWinner`
 pub winner-rank : (w : ℕ) → winner w < ranks → has w (winner w) ≡ true
 winner-rank w l = ⊎-elim (λ e. absurd (omega arith)) (λ e. e) (Highest.winner-cases w)
 
-pub winner-le : (w : ℕ) → winner w ≤ noRank
+pub winner-le : (w : ℕ) → winner w ≤ noWinner
 winner-le w = ⊎-elim (λ e. omega arith) (λ e. omega (arith, has-lt w (winner w) e)) (Highest.winner-cases w)

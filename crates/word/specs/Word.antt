@@ -3,7 +3,7 @@
 --   has w r        rank r is in w
 --   with w r       w with rank r in it; without w r: with rank r not in it
 --   union w v      the ranks of both words
---   winner w       the highest rank in w, or `noRank`
+--   winner w       the highest rank in w, or `noWinner`
 --
 -- Main laws: `winner-has` and `winner-highest` (proofs/Theorems.antt).
 use Prim.Native.Nat.{ℕ, zero, suc, _+_, _-_, _/_, _%_, _^_}
@@ -16,8 +16,8 @@ abbrev pub ranks : ℕ
 ranks = 32
 
 -- the winner of the empty word, which is no rank
-abbrev pub noRank : ℕ
-noRank = ranks
+abbrev pub noWinner : ℕ
+noWinner = ranks
 
 -- the bit of rank r is worth 2 ^ r
 unfoldable pub has : ℕ → ℕ → Bool
@@ -35,7 +35,7 @@ union w v = bitOr w v
 
 -- the highest rank below n in w
 unfoldable pub highestBelow : ℕ → ℕ → ℕ
-highestBelow zero w = noRank
+highestBelow zero w = noWinner
 highestBelow (suc n) w = cond (has w n) n (highestBelow n w)
 
 -- "the arbiter's winner is the highest bit set in that word"

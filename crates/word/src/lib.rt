@@ -5,7 +5,7 @@ ghost use Rattle.word.specs.Word.{has, with, without, union, winner};
 // How many ranks there are, 0 the lowest.
 pub const RANKS: u32 = 32;
 // The winner of the empty word, which is no rank.
-pub const NO_RANK: u32 = RANKS;
+pub const NO_WINNER: u32 = RANKS;
 
 // Whether the rank is in the word.
 pub fn has(word: u32, rank: u32) -> bool
@@ -43,12 +43,12 @@ pub fn union(word: u32, other: u32) -> u32
     word | other
 }
 
-// The highest rank in the word, or NO_RANK.
+// The highest rank in the word, or NO_WINNER.
 pub fn winner(word: u32) -> u32
     ensures { λ r. ⌜ r ≡ winner word ⌝ }
 {
     if word == 0 {
-        NO_RANK
+        NO_WINNER
     } else {
         RANKS - 1 - u32::leading_zeros(word)
     }

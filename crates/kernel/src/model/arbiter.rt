@@ -28,7 +28,8 @@ impl Registers {
     // The model after arbitration, with these requests.
     pub fn settled(self, request: u32, priority: &[u8; 32]) -> Step
         ensures { λ r. ⌜ ((x : Arrays) → viewStep r x
-            ≡ settled (now (priority .entry)) (withCore (viewWith self x) (withRequest (viewWith self x .core) request))) ⌝ }
+            ≡ settled (now (priority .entry))
+            (withCore (viewWith self x) (withRequest (viewWith self x .core) request))) ⌝ }
     {
         let picked = arbitrated(
             request,
@@ -75,7 +76,8 @@ impl Registers {
     // The same after a Tick, which alone may start a time-triggered task.
     pub fn triggering(self, request: u32, priority: &[u8; 32]) -> Step
         ensures { λ r. ⌜ ((x : Arrays) → viewStep r x
-            ≡ triggering (now (priority .entry)) (withCore (viewWith self x) (withRequest (viewWith self x .core) request))) ⌝ }
+            ≡ triggering (now (priority .entry))
+            (withCore (viewWith self x) (withRequest (viewWith self x .core) request))) ⌝ }
     {
         let level = self.level;
         let picked = arbitrated(

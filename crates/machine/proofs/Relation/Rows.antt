@@ -1,6 +1,6 @@
--- What the bytes of a row show: a list from the top down, and past its end nothing but `none`.
+-- What the bytes of a row show: a list from the top down, and past its end nothing but `noByte`.
 --
---   Shows ys xs      the bytes ys are xs, and `none` from there on
+--   Shows ys xs      the bytes ys are xs, and `noByte` from there on
 --
 -- and what a push and a pop make of it.
 use Prim.Native.Nat.{ℕ, zero, suc, _≤_, _<_}
@@ -11,11 +11,11 @@ use lib.ListN.{length, getD, take, drop, replicate, length-take, List·getD-eq-d
 use lib.Seq.{getD-take}
 use Rattle.number.proofs.Cases.{by-lt}
 use Rattle.stack.specs.declared.Row.{Row}
-use Rattle.stack.specs.Stack.{none, emptyRow, topRow, secondRow, pushRow, popRow, rowBytes}
+use Rattle.stack.specs.Stack.{noByte, emptyRow, topRow, secondRow, pushRow, popRow, rowBytes}
 use Rattle.stack.proofs.Theorems.{row-empty, row-top, row-second, row-cons, row-pushed, row-popped}
 
 pub record Shows (ys xs : List ℕ) : Type 0 where
-  pub at : (i : ℕ) → getD ys i none ≡ getD xs i none
+  pub at : (i : ℕ) → getD ys i noByte ≡ getD xs i noByte
 
 -- what is below the first
 below : {x y : ℕ} {ys xs : List ℕ} → Shows (y ∷ ys) (x ∷ xs) → Shows ys xs
@@ -25,7 +25,7 @@ below h = record { at = λ i. h .at (suc i) }
 on-top : {x y : ℕ} {ys xs : List ℕ} → y ≡ x → Shows ys xs → Shows (y ∷ ys) (x ∷ xs)
 on-top {x} {y} {ys} {xs} e h = record { at = go }
   where
-    go : (i : ℕ) → getD (y ∷ ys) i none ≡ getD (x ∷ xs) i none
+    go : (i : ℕ) → getD (y ∷ ys) i noByte ≡ getD (x ∷ xs) i noByte
     go zero = e
     go (suc i) = h .at i
 
@@ -34,19 +34,19 @@ shows-cut : (k : ℕ) (ys xs : List ℕ) → length xs ≤ k → Shows ys xs →
 shows-cut k ys xs few h =
     record {
       at = λ i. by-lt i k
-          (λ l. getD-take k ys i none l ∙ h .at i)
-          (λ l. List·getD-eq-default (take k ys) none {n = i} (rw (length-take k ys) (omega arith))
-          ∙ sym (List·getD-eq-default xs none {n = i} (omega arith)));
+          (λ l. getD-take k ys i noByte l ∙ h .at i)
+          (λ l. List·getD-eq-default (take k ys) noByte {n = i} (rw (length-take k ys) (omega arith))
+          ∙ sym (List·getD-eq-default xs noByte {n = i} (omega arith)));
     }
 
--- `none` in at the end
-filled : (ys : List ℕ) (i : ℕ) → getD (ys ++ (none ∷ [])) i none ≡ getD ys i none
+-- `noByte` in at the end
+filled : (ys : List ℕ) (i : ℕ) → getD (ys ++ (noByte ∷ [])) i noByte ≡ getD ys i noByte
 filled [] zero = refl
 filled [] (suc i) = refl
 filled (y ∷ ys) zero = refl
 filled (y ∷ ys) (suc i) = filled ys i
 
-shows-filled : {ys xs : List ℕ} → Shows ys xs → Shows (ys ++ (none ∷ [])) xs
+shows-filled : {ys xs : List ℕ} → Shows ys xs → Shows (ys ++ (noByte ∷ [])) xs
 shows-filled {ys} h = record { at = λ i. filled ys i ∙ h .at i }
 
 -- a list of one value has it everywhere, past its end too
@@ -57,7 +57,7 @@ same-everywhere (suc n) a (suc i) = same-everywhere n a i
 
 -- empty it shows nothing
 pub row-empty-shows : Shows (rowBytes emptyRow) []
-row-empty-shows = record { at = λ i. ap (λ (ys : List ℕ). getD ys i none) row-empty ∙ same-everywhere 16 none i }
+row-empty-shows = record { at = λ i. ap (λ (ys : List ℕ). getD ys i noByte) row-empty ∙ same-everywhere 16 noByte i }
 
 pub row-shows-pushed : (r : Row) (x : ℕ) (xs : List ℕ) → x < 256 → length xs ≤ 15 → Shows (rowBytes r) xs
     → Shows (rowBytes (pushRow r x)) (x ∷ xs)
@@ -67,8 +67,8 @@ pub row-shows-popped : (r : Row) (x : ℕ) (xs : List ℕ) → Shows (rowBytes r
 row-shows-popped r x xs h =
     rw (row-popped r) (shows-filled {ys = drop 1 (rowBytes r)} (below {x = x} {y = topRow r} (rw (sym (row-cons r)) h)))
 
-pub row-shows-top : (r : Row) (xs : List ℕ) → Shows (rowBytes r) xs → topRow r ≡ getD xs 0 none
+pub row-shows-top : (r : Row) (xs : List ℕ) → Shows (rowBytes r) xs → topRow r ≡ getD xs 0 noByte
 row-shows-top r xs h = row-top r ∙ h .at 0
 
-pub row-shows-second : (r : Row) (x : ℕ) (xs : List ℕ) → Shows (rowBytes r) (x ∷ xs) → secondRow r ≡ getD xs 0 none
+pub row-shows-second : (r : Row) (x : ℕ) (xs : List ℕ) → Shows (rowBytes r) (x ∷ xs) → secondRow r ≡ getD xs 0 noByte
 row-shows-second r x xs h = row-second r ∙ h .at 1

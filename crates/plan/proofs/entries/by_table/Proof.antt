@@ -1,4 +1,5 @@
--- `by_table` meets its contract: each turn stores what it says of one table more, and `e` is where that table's entries begin.
+-- `by_table` meets its contract: each turn stores what it says of one table more,
+-- and `e` is where that table's entries begin.
 use Prim.Native.Nat.{ℕ, _-_, _*_, _≤_, _<_}
 use mathlib.Core.Path.{_≡_, refl}
 use native.Mathlib.Omega.{arith}
@@ -59,11 +60,12 @@ loop-less c = omega arith
 
 loop-again : tie.Need-loop-again Inv-loop μ-loop
 loop-again c = let a = c .before .before .before .args in let l = c .before .before .loop in
-    let k = small (c .before .before .before) (l .t) (omega arith) in (
+    let k = small (c .before .before .before) (l .t) (omega arith) in
+    let known = first-known (a .t1) (l .t) (l .e) (l .inv .2) (c .at-most .result) (c .at-most .ensures) in (
       omega arith,
       omega arith,
       table-passed (a .t1) (l .t) (l .e) (omega (arith, sized (c .before .before .before))) (l .inv .2),
-      stored-turn _ _ _ _ _ _ _ (l .inv .3) refl (first-known (a .t1) (l .t) (l .e) (l .inv .2) (c .at-most .result) (c .at-most .ensures)),
+      stored-turn _ _ _ _ (l .inv .3) refl known,
     )
 
 at-most-requires-2 : tie.Need-at-most-requires-2 Inv-loop μ-loop

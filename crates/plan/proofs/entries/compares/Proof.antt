@@ -5,13 +5,14 @@ use native.Mathlib.Omega.{arith}
 use lib.ListN.{replicate}
 use Rattle.config.specs.Value.{maxEntries}
 use Rattle.plan.specs.Stored.{stored, listed}
-use Rattle.plan.specs.Entry.{compareIn}
+use Rattle.plan.specs.Entry.{entryCompareIn}
 use Rattle.plan.proofs.Stored.{stored-turn}
 use Rattle.plan.proofs.entries.compares.Statement.{statement}
 use Rattle.plan.proofs.entries.compares.Tie as tie
 
 abbrev Inv-loop : tie.InvT-loop
-Inv-loop entries period count t₀ e₀ t e = (e ≤ count) × (t ≡ listed (compareIn entries period) e (replicate maxEntries 0))
+Inv-loop entries period count t₀ e₀ t e =
+    (e ≤ count) × (t ≡ listed (entryCompareIn entries period) e (replicate maxEntries 0))
 
 abbrev μ-loop : tie.MeasureT-loop
 μ-loop entries period count t₀ e₀ t e = count - e
@@ -40,7 +41,8 @@ loop-less c = omega arith
 
 loop-again : tie.Need-loop-again Inv-loop μ-loop
 loop-again c =
-    (omega arith, stored-turn _ _ _ _ _ _ _ (c .before .before .before .loop .inv .1) refl (rw (c .before .table-of .ensures) at (c .compare .ensures)))
+    let value = rw (c .before .table-of .ensures) at (c .compare .ensures) in
+    (omega arith, stored-turn _ _ _ _ (c .before .before .before .loop .inv .1) refl value)
 
 returns : tie.Need-returns Inv-loop μ-loop
 returns c = let h : c .before .loop .e ≡ c .before .before .args .count = omega arith in

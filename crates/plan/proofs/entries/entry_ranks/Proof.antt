@@ -12,7 +12,8 @@ use Rattle.plan.proofs.entries.entry_ranks.Statement.{statement}
 use Rattle.plan.proofs.entries.entry_ranks.Tie as tie
 
 abbrev Inv-loop : tie.InvT-loop
-Inv-loop ranks count task t₀ e₀ t e = (e ≤ count) × (t ≡ listed (λ e. getD ranks (getD task e 0) noRank) e (replicate maxEntries 0))
+Inv-loop ranks count task t₀ e₀ t e =
+    (e ≤ count) × (t ≡ listed (λ e. getD ranks (getD task e 0) noRank) e (replicate maxEntries 0))
 
 abbrev μ-loop : tie.MeasureT-loop
 μ-loop ranks count task t₀ e₀ t e = count - e
@@ -40,7 +41,7 @@ loop-less : tie.Need-loop-less Inv-loop μ-loop
 loop-less c = omega arith
 
 loop-again : tie.Need-loop-again Inv-loop μ-loop
-loop-again c = (omega arith, stored-turn _ _ _ _ _ _ _ (c .before .before .loop .inv .1) refl (c .rank-of .ensures))
+loop-again c = (omega arith, stored-turn _ _ _ _ (c .before .before .loop .inv .1) refl (c .rank-of .ensures))
 
 returns : tie.Need-returns Inv-loop μ-loop
 returns c = let h : c .before .loop .e ≡ c .before .before .args .count = omega arith in

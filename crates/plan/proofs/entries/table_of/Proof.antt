@@ -1,5 +1,5 @@
 -- `table_of` meets its contract: the tables passed and the entry's table among those that are left.
-use Prim.Native.Nat.{_+_, _-_, _≤_}
+use Prim.Native.Nat.{_+_, _-_, _≤_, _<_}
 use mathlib.Core.Path.{_≡_}
 use native.Mathlib.Omega.{arith}
 use native.Mathlib.Numerals.{add-one}
@@ -31,7 +31,8 @@ cast-k c = search needs
 
 returns : tie.Need-returns Inv-loop μ-loop
 returns c = let a = c .before .before .before .args in let l = c .before .before .loop in
-    omega (arith, table-here (a .t1) (l .t) (l .left) (omega (arith, long (c .before .before .before))) (c .if1 .taken), l .inv .1)
+    let inside : l .t < length (a .t1) = omega (arith, long (c .before .before .before)) in
+    omega (arith, table-here (a .t1) (l .t) (l .left) inside (c .if1 .taken), l .inv .1)
 
 add-t : tie.Need-add-t Inv-loop μ-loop
 add-t c = omega arith
@@ -41,7 +42,8 @@ loop-less c = omega arith
 
 loop-again : tie.Need-loop-again Inv-loop μ-loop
 loop-again c = let a = c .before .before .before .args in let l = c .before .before .loop in
-    rw add-one (omega arith, omega (arith, table-later (a .t1) (l .t) (l .left) (omega (arith, long (c .before .before .before))) (c .if1 .left), l .inv .1))
+    let inside : l .t < length (a .t1) = omega (arith, long (c .before .before .before)) in
+    rw add-one (omega arith, omega (arith, table-later (a .t1) (l .t) (l .left) inside (c .if1 .left), l .inv .1))
 
 returns-2 : tie.Need-returns-2 Inv-loop μ-loop
 returns-2 c = let a = c .before .before .args in let l = c .before .loop in

@@ -1,6 +1,7 @@
 -- `by_resource` meets its contract: each turn stores one ceiling and one word of users more.
-use Prim.Native.Nat.{_-_, _/_, _%_, _^_, _≤_}
+use Prim.Native.Nat.{ℕ, _-_, _/_, _%_, _^_, _≤_}
 use mathlib.Core.Path.{_≡_, refl}
+use mathlib.Core.List.{List}
 use native.Mathlib.Omega.{arith}
 use lib.ListN.{take, getD, replicate}
 use Rattle.config.specs.Value.{maxResources}
@@ -11,11 +12,15 @@ use Rattle.plan.proofs.Stored.{stored-turn}
 use Rattle.plan.proofs.resources.by_resource.Statement.{statement}
 use Rattle.plan.proofs.resources.by_resource.Tie as tie
 
+-- the word of the users of each resource
+abbrev usersIn : List ℕ → ℕ → List ℕ → ℕ → ℕ
+usersIn ranks n masks i = marked (λ b. getD ranks b 0) (λ b. getD masks i 0 / 2 ^ b % 2) 1 n
+
 abbrev Inv-loop : tie.InvT-loop
 Inv-loop resources priority ranks n masks by₀ users₀ r₀ by users r =
     (r ≤ resources)
     × (by ≡ listed (λ i. greatestIn (getD masks i 0) (take n priority)) r (replicate maxResources 0))
-    × (users ≡ listed (λ i. marked (λ b. getD ranks b 0) (λ b. getD masks i 0 / 2 ^ b % 2) 1 n) r (replicate maxResources 0))
+    × (users ≡ listed (usersIn ranks n masks) r (replicate maxResources 0))
 
 abbrev μ-loop : tie.MeasureT-loop
 μ-loop resources priority ranks n masks by₀ users₀ r₀ by users r = resources - r
@@ -54,8 +59,8 @@ loop-less c = omega arith
 loop-again : tie.Need-loop-again Inv-loop μ-loop
 loop-again c = let w = c .before in let l = w .before .before .loop in (
   omega arith,
-  stored-turn _ _ _ _ _ _ _ (l .inv .1) refl (w .ceiling .ensures),
-  stored-turn _ _ _ _ _ _ _ (l .inv .2) refl (c .user-ranks .ensures),
+  stored-turn _ _ _ _ (l .inv .1) refl (w .ceiling .ensures),
+  stored-turn _ _ _ _ (l .inv .2) refl (c .user-ranks .ensures),
 )
 
 returns : tie.Need-returns Inv-loop μ-loop

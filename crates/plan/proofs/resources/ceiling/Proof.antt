@@ -12,7 +12,8 @@ use Rattle.plan.proofs.resources.ceiling.Statement.{statement}
 use Rattle.plan.proofs.resources.ceiling.Tie as tie
 
 abbrev Inv-loop : tie.InvT-loop
-Inv-loop users n priority m₀ r₀ b₀ m r b = (b ≤ n) × (max r (greatestIn m (drop b (take n priority))) ≡ greatestIn users (take n priority))
+Inv-loop users n priority m₀ r₀ b₀ m r b =
+    (b ≤ n) × (max r (greatestIn m (drop b (take n priority))) ≡ greatestIn users (take n priority))
 
 abbrev μ-loop : tie.MeasureT-loop
 μ-loop users n priority m₀ r₀ b₀ m r b = n - b
@@ -37,11 +38,14 @@ loop-less c = omega arith
 
 loop-again : tie.Need-loop-again Inv-loop μ-loop
 loop-again c = let a = c .before .before .before .args in let l = c .before .before .loop in
+    let fits = long (c .before .before .before) in
+    let chosen = chosen-next (l .m) (l .r) (a .n) (a .t2) fits (l .b) (omega arith) in
+    let unchosen = unchosen-next (l .m) (l .r) (a .n) (a .t2) fits (l .b) (omega arith) in
     rw add-one (
       omega arith,
       ⊎-elim
-          (λ w. rw (w .2, w .1 .ensures) (chosen-next (l .m) (l .r) (a .n) (a .t2) (long (c .before .before .before)) (l .b) (omega arith) (w .0 .taken) ∙ l .inv .1))
-          (λ w. rw (w .1) (unchosen-next (l .m) (l .r) (a .n) (a .t2) (long (c .before .before .before)) (l .b) (omega arith) (w .0 .left) ∙ l .inv .1))
+          (λ w. rw (w .2, w .1 .ensures) (chosen (w .0 .taken) ∙ l .inv .1))
+          (λ w. rw (w .1) (unchosen (w .0 .left) ∙ l .inv .1))
           (c .if1 .came),
     )
 
