@@ -41,7 +41,7 @@ andThen-first r s e = by-eq r none (λ h. h) (λ n. absurd (n (sym (cond-false n
     cond-false : (r ≡ none → ⊥) → andThen r s ≡ r
     cond-false n = simp (ne-eqb r none n)
 
-pub andThen-second : (r s : ℕ) → andThen r s ≡ none → s ≡ none
+andThen-second : (r s : ℕ) → andThen r s ≡ none → s ≡ none
 andThen-second r s e = sym (cond-true (andThen-first r s e)) ∙ e
   where
     cond-true : r ≡ none → andThen r s ≡ s

@@ -65,7 +65,7 @@ module _ (c : Config) (before : List ℕ) (k at : ℕ) (d : Draft) (out : List �
     same-long : length out ≡ length before
     same-long = ap length (o .over) ∙ length-laid 0 (o .bytes) before (omega (arith, fits-before))
 
-    pub writes-faultless : fault d v ≡ none
+    writes-faultless : fault d v ≡ none
     writes-faultless = walks-faultless c none all k d (o .bytes) (o .walks) turn more refl
 
     pub writes-room : at + length (numberBytes v) ≤ length out
@@ -77,7 +77,7 @@ module _ (c : Config) (before : List ℕ) (k at : ℕ) (d : Draft) (out : List �
     part-room : length (numberBytes v) ≤ length part
     part-room = simp (length-take, length-drop) (omega (arith, writes-room))
 
-    pub writes-place : (w : Written) → w ≡ writing (numberBytes v) (length part) → w .place ≡ length (numberBytes v)
+    writes-place : (w : Written) → w ≡ writing (numberBytes v) (length part) → w .place ≡ length (numberBytes v)
     writes-place w e = ap (λ (x : Written). x .place) (e ∙ sym (writing-fits (numberBytes v) (length part) (length (numberBytes v)) refl part-room))
 
     over-next : (ys : List ℕ) → ys ≡ written (numberBytes v) part → putMid at (length out - at) out ys ≡ laid 0 (o .bytes ++ numberBytes v) before

@@ -22,7 +22,7 @@ ghost use mathlib.Core.Path.{_≡_};
 ghost use Prim.Native.Nat.{_<_, _≤_};
 ghost use Rattle.number.specs.Refusal.{none};
 ghost use Rattle.config.specs.Value.{noConfig};
-ghost use Rattle.config.specs.Draft.{Within, fault, faultAt, put, asked, ended, orOn, onTo, row, start};
+ghost use Rattle.config.specs.Draft.{Within, fault, faultAt, put, asked, ended, orOn, row, start};
 
 // The refusal of a priority.
 fn priority_fault(d: Draft, v: u32) -> u8
@@ -54,14 +54,6 @@ fn users_fault(d: Draft, v: u32) -> u8
     let kind = c.kind;
     let timed = timed_body(c.bodies as usize, kind);
     users_in(v, c.bodies, timed, kind)
-}
-
-// The refusal of a table's number of entries.
-fn entries_fault(d: Draft, v: u32) -> u8
-    requires { ⌜ d .entry ≤ 64 ⌝ }
-    ensures { λ r. ⌜ r ≡ faultAt Field.Entries d v ⌝ }
-{
-    entries_in(v, d.entry)
 }
 
 // The refusal of an entry's offset.
@@ -114,7 +106,7 @@ pub fn fault(d: Draft, v: u32) -> u8
         Field::Users => users_fault(d, v),
         Field::Tables => outside(0, MAX_TABLES, v, BAD_COUNT),
         Field::Period => outside(1, 65_535, v, BAD_FIELD),
-        Field::Entries => entries_fault(d, v),
+        Field::Entries => entries_in(v, d.entry),
         Field::Offset => offset_fault(d, v),
         Field::Task => task_fault(d, v),
         Field::End => 0,
@@ -128,20 +120,7 @@ fn or_on(i: usize, n: usize, again: Field, on: Field) -> Field
     if i == n { on } else { again }
 }
 
-// `d` with another configuration, at another number of the same row.
-fn on_to(d: Draft, c: Config, f: Field) -> Draft
-    ensures { λ r. ⌜ r ≡ onTo d c f ⌝ }
-{
-    Draft {
-        config: c,
-        field: f,
-        index: d.index,
-        entry: d.entry,
-        until: d.until,
-    }
-}
-
-// The same at row `i`.
+// `d` with another configuration, at another number of row `i`.
 fn row(d: Draft, c: Config, f: Field, i: usize) -> Draft
     ensures { λ r. ⌜ r ≡ row d c f i ⌝ }
 {
@@ -166,7 +145,7 @@ pub fn put(d: Draft, v: u32) -> Draft
     match f {
         Field::Version => {
             c.version = v as u8;
-            on_to(d, c, Field::Bodies)
+            row(d, c, Field::Bodies, i)
         }
         Field::Bodies => {
             c.bodies = v as u8;
@@ -176,13 +155,13 @@ pub fn put(d: Draft, v: u32) -> Draft
             let mut kind = c.kind;
             kind[i] = v as u8;
             c.kind = kind;
-            on_to(d, c, Field::Priority)
+            row(d, c, Field::Priority, i)
         }
         Field::Priority => {
             let mut priority = c.priority;
             priority[i] = v as u8;
             c.priority = priority;
-            on_to(d, c, Field::Autostart)
+            row(d, c, Field::Autostart, i)
         }
         Field::Autostart => {
             let mut autostart = c.autostart;
@@ -220,7 +199,7 @@ pub fn put(d: Draft, v: u32) -> Draft
             let mut period = c.period;
             period[i] = v as u16;
             c.period = period;
-            on_to(d, c, Field::Entries)
+            row(d, c, Field::Entries, i)
         }
         Field::Entries => {
             let mut entries = c.entries;
@@ -238,7 +217,7 @@ pub fn put(d: Draft, v: u32) -> Draft
             let mut offset = c.offset;
             offset[e] = v as u16;
             c.offset = offset;
-            on_to(d, c, Field::Task)
+            row(d, c, Field::Task, i)
         }
         Field::Task => {
             let mut task = c.task;

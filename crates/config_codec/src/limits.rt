@@ -273,22 +273,11 @@ fn same_offset(a: u16, b: u16) -> bool
     a == b
 }
 
-// The number before; 0 has none and stays.
-fn before(e: usize) -> usize
-    ensures { λ r. ⌜ r ≡ e - 1 ⌝ }
+// `n` less `k`, but not below 0.
+fn less(n: usize, k: u8) -> usize
+    ensures { λ r. ⌜ r ≡ n - k ⌝ }
 {
-    if e == 0 { 0 } else { e - 1 }
-}
-
-// How many entries stand before a table's own, which are `count` and end before the entry `until`.
-fn entries_before(until: usize, count: u8) -> usize
-    ensures { λ r. ⌜ r ≡ until - count ⌝ }
-{
-    if until < count as usize {
-        0
-    } else {
-        until - count as usize
-    }
+    if n < k as usize { 0 } else { n - k as usize }
 }
 
 // Whether the entry is the first of its table, which has `count` entries and ends before the entry `until`.
@@ -394,10 +383,10 @@ pub fn task_in<'a, 'b, 'c, 'd>(
         return BAD_FIELD;
     }
     let first = first_entry(e, entries[i], until);
-    let b = before(e);
+    let b = less(e, 1);
     if !sorted(first, offset[b], task[b], offset[e], v) {
         return UNSORTED;
     }
-    let n = entries_before(until, entries[i]);
+    let n = less(until, entries[i]);
     table_fault(first, v, bodies, kind, n, b, e, offset, task)
 }

@@ -15,9 +15,6 @@ use borrow.Author.Needs.{needs}
 use Rattle.config_codec.proofs.bodies.read_body.Statement.{statement}
 use Rattle.config_codec.proofs.bodies.read_body.Tie as tie
 
-read-within-requires : tie.Need-read-within-requires
-read-within-requires c κs = search needs
-
 returns : tie.Need-returns
 returns c =
     let c₂ = c .before .before in let c₄ = c₂ .before .before in
@@ -34,12 +31,6 @@ cast-kind c =
     let k = c₃ .read-within in
     let h = in-range (a .bytes .now) (a .at) 0 lastKind badField (lit< tt) (k .result) (k .ensures)
     (c .before .if1 .left) in omega arith
-
-element-write-kind : tie.Need-element-write-kind
-element-write-kind c = search needs
-
-read-priority-requires : tie.Need-read-priority-requires
-read-priority-requires c κs = search needs
 
 returns-2 : tie.Need-returns-2
 returns-2 c =
@@ -60,18 +51,6 @@ cast-priority c =
     let p = c₃ .read-priority in
     let h = priority-small (a .bytes .now) (c₈ .read-within .result .place) (a .i) (a .priority .now) (p .result)
     (p .ensures) (c .before .if2 .left) in omega arith
-
-element-write-priority : tie.Need-element-write-priority
-element-write-priority c = search needs
-
-element-copy-out-most-autostart : tie.Need-element-copy-out-most-autostart
-element-copy-out-most-autostart c = search needs
-
-most-autostart-requires : tie.Need-most-autostart-requires
-most-autostart-requires c κs = search needs
-
-read-within-requires-2 : tie.Need-read-within-requires-2
-read-within-requires-2 c κs = search needs
 
 returns-3 : tie.Need-returns-3
 returns-3 c =
@@ -105,9 +84,6 @@ cast-autostart c =
           (most-le (getD (set (a .kind .now) (a .i) (c₁₄ .read-within .result .value)) (a .i) 0)),
     )
 
-element-write-autostart : tie.Need-element-write-autostart
-element-write-autostart c = search needs
-
 returns-4 : tie.Need-returns-4
 returns-4 c =
     let c₃ = c .before .before .before in let c₄ = c₃ .before in let c₇ = c₄ .before .before .before in
@@ -127,18 +103,14 @@ pub read-body-spec : {M : Type 1} → statement M
 read-body-spec =
     tie.close
     (tie.spec
-    read-within-requires
+    (λ c κs. search needs)
     returns
     cast-kind
-    element-write-kind
-    read-priority-requires
+    (λ c. search needs) (λ c κs. search needs)
     returns-2
     cast-priority
-    element-write-priority
-    element-copy-out-most-autostart
-    most-autostart-requires
-    read-within-requires-2
+    (λ c. search needs) (λ c. search needs) (λ c κs. search needs) (λ c κs. search needs)
     returns-3
     cast-autostart
-    element-write-autostart
+    (λ c. search needs)
     returns-4)

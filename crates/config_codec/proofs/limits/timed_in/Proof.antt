@@ -24,9 +24,6 @@ loop-holds c = refl
 array-read-timed-bit : tie.Need-array-read-timed-bit Inv-loop μ-loop
 array-read-timed-bit c = omega arith
 
-timed-bit-requires : tie.Need-timed-bit-requires Inv-loop μ-loop
-timed-bit-requires c κs = search needs
-
 returns : tie.Need-returns Inv-loop μ-loop
 returns c =
     let c₁ = c .before .before .before in
@@ -59,7 +56,7 @@ timed-in-spec =
     μ-loop
     loop-holds
     array-read-timed-bit
-    timed-bit-requires
+    (λ c κs. search needs)
     returns
     add-i
     loop-less

@@ -24,9 +24,6 @@ loop-holds c = refl
 array-read-if1 : tie.Need-array-read-if1 Inv-loop μ-loop
 array-read-if1 c = omega arith
 
-cast-if1 : tie.Need-cast-if1 Inv-loop μ-loop
-cast-if1 c = search needs
-
 returns : tie.Need-returns Inv-loop μ-loop
 returns c = let a = c .before .before .before .args in
     occurs-here (a .v) (a .n) (a .t3) (long (c .before .before .before)) (c .before .before .loop .i) (c .before .loop-test .taken) (c .if1 .taken) ∙ c .before .before .loop .inv
@@ -53,7 +50,7 @@ used-spec =
     μ-loop
     loop-holds
     array-read-if1
-    cast-if1
+    (λ c. search needs)
     returns
     add-i
     loop-less

@@ -18,9 +18,6 @@ Inv-loop bytes from n bodies kind users₀ timed at₀ i₀ users at i =
 abbrev μ-loop : tie.MeasureT-loop
 μ-loop bytes from n bodies kind users₀ timed at₀ i₀ users at i = n - i
 
-timed-body-requires : tie.Need-timed-body-requires Inv-loop μ-loop
-timed-body-requires c κs = search needs
-
 loop-holds : tie.Need-loop-holds Inv-loop μ-loop
 loop-holds c = (omega arith, λ g o. o)
 
@@ -76,7 +73,7 @@ read-masks-spec =
     (tie.spec
     Inv-loop
     μ-loop
-    timed-body-requires
+    (λ c κs. search needs)
     loop-holds
     read-mask-requires
     returns

@@ -8,9 +8,6 @@ use borrow.Author.Needs.{needs}
 use Rattle.config_codec.proofs.tables.read_table.Statement.{statement}
 use Rattle.config_codec.proofs.tables.read_table.Tie as tie
 
-read-within-requires : tie.Need-read-within-requires
-read-within-requires c κs = search needs
-
 returns : tie.Need-returns
 returns c =
     let c₂ = c .before .before in let c₄ = c₂ .before .before in
@@ -29,15 +26,6 @@ cast-period c =
     let p = c₃ .read-within in
     let h = in-range (a .bytes .now) (a .at) 1 65535 badField (lit< tt) (p .result) (p .ensures)
     (c .before .if1 .left) in omega (arith, h .1)
-
-mul-period : tie.Need-mul-period
-mul-period c = search needs
-
-element-write-period : tie.Need-element-write-period
-element-write-period c = search needs
-
-read-count-requires : tie.Need-read-count-requires
-read-count-requires c κs = search needs
 
 returns-2 : tie.Need-returns-2
 returns-2 c =
@@ -61,15 +49,6 @@ cast-entries c =
     let y = c₃ .read-count in
     let h = count-small (a .bytes .now) (p .result .place) (a .e) (y .result) (y .ensures) (c .before .if2 .left) in
     omega (arith, h .0 .1)
-
-element-write-entries : tie.Need-element-write-entries
-element-write-entries c = search needs
-
-cast-until : tie.Need-cast-until
-cast-until c = search needs
-
-add-until : tie.Need-add-until
-add-until c = search needs
 
 read-entries-requires : tie.Need-read-entries-requires
 read-entries-requires c κs =
@@ -98,16 +77,12 @@ pub read-table-spec : {M : Type 1} → statement M
 read-table-spec =
     tie.close
     (tie.spec
-    read-within-requires
+    (λ c κs. search needs)
     returns
     cast-period
-    mul-period
-    element-write-period
-    read-count-requires
+    (λ c. search needs) (λ c. search needs) (λ c κs. search needs)
     returns-2
     cast-entries
-    element-write-entries
-    cast-until
-    add-until
+    (λ c. search needs) (λ c. search needs) (λ c. search needs)
     read-entries-requires
     returns-3)

@@ -44,9 +44,6 @@ sub-write-number c = inside c
 part-write-number-start : tie.Need-part-write-number-start Inv-loop μ-loop
 part-write-number-start c = inside c
 
-part-write-number-end : tie.Need-part-write-number-end Inv-loop μ-loop
-part-write-number-end c = search needs
-
 write-number-requires : tie.Need-write-number-requires Inv-loop μ-loop
 write-number-requires c κs = tt
 
@@ -104,7 +101,7 @@ write-numbers-spec =
     asked-requires
     sub-write-number
     part-write-number-start
-    part-write-number-end
+    (λ c. search needs)
     write-number-requires
     add-at
     put-requires
