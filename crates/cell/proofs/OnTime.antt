@@ -37,7 +37,7 @@ module _ (P D : ℕ) where
     on-time-tick =
         record { on = on-time .on; matches = λ k. let e : suc n + suc k ≡ n + suc (suc k) = omega arith in rw e (on-time .matches (suc k)) }
 
-    pub on-time-unmarked : OnTime (unmarked (c .counter) (c .compare) (c .on) (c .turn)) P D n
+    on-time-unmarked : OnTime (unmarked (c .counter) (c .compare) (c .on) (c .turn)) P D n
     unfolding ticksIn tickCellIn
     on-time-unmarked = record { on = on-time .on; matches = on-time .matches }
 

@@ -9,7 +9,7 @@ use native.Mathlib.Omega.{arith}
 use Rattle.cell.specs.Cell.{startCounterIn, sumIn, sumsIn, resetIn}
 use Rattle.cell.proofs.Modulo.{minus-plus, minus-unique, turn-apart}
 
-pub sums-add : (M n i : ℕ) → i < M → sumsIn M n i ≡ (i + n) % M
+sums-add : (M n i : ℕ) → i < M → sumsIn M n i ≡ (i + n) % M
 unfolding sumsIn
 sums-add M zero i fits = let e : i + 0 ≡ i = omega arith in sym (ap (λ s. s % M) e ∙ mod-eq-of-lt fits)
 sums-add M (suc n) i fits =

@@ -9,7 +9,7 @@ use Rattle.cell.specs.declared.Cell.{Cell}
 use Rattle.cell.specs.Cell.{tickCell, ticks, ticksIn}
 use Rattle.cell.specs.Rows.{tickedRow, rowTicks}
 
-pub row-ticks : (n : ℕ) (cs : List Cell) → rowTicks n cs ≡ map (ticks n) cs
+row-ticks : (n : ℕ) (cs : List Cell) → rowTicks n cs ≡ map (ticks n) cs
 unfolding rowTicks ticksIn
 row-ticks zero cs = sym (map-id cs)
 row-ticks (suc n) cs = row-ticks n (tickedRow cs) ∙ map-map (ticks n) tickCell cs

@@ -9,7 +9,7 @@ use Rattle.oil_grammar.specs.Meaning.{held}
 use Rattle.oil_grammar.proofs.Span.{drop-next}
 
 -- a number held before its further digits is held the same after them
-pub held-decimal : (ds : List ℕ) (a b : ℕ) → held a ≡ held b → held (decimal a ds) ≡ held (decimal b ds)
+held-decimal : (ds : List ℕ) (a b : ℕ) → held a ≡ held b → held (decimal a ds) ≡ held (decimal b ds)
 unfolding decimal
 held-decimal [] a b e = e
 held-decimal (d ∷ ds) a b e = held-decimal ds (10 * a + (d - 48)) (10 * b + (d - 48)) (step a b d e)

@@ -18,9 +18,6 @@ loop-holds c = omega arith
 shared-slice-read-print-byte : tie.Need-shared-slice-read-print-byte Inv-loop μ-loop
 shared-slice-read-print-byte c = omega arith
 
-print-byte-requires : tie.Need-print-byte-requires Inv-loop μ-loop
-print-byte-requires c κs = search needs
-
 add-i : tie.Need-add-i Inv-loop μ-loop
 add-i c = omega arith
 
@@ -41,7 +38,7 @@ print-bytes-spec =
     μ-loop
     loop-holds
     shared-slice-read-print-byte
-    print-byte-requires
+    (λ c κs. search needs)
     add-i
     loop-less
     loop-again

@@ -24,12 +24,6 @@ fewer bs at r e h lt = let later = rw (← e) at (event-reading bs at .after) in
 loop-holds : tie.Need-loop-holds Inv-loop μ-loop
 loop-holds c = tt
 
-read-event-requires : tie.Need-read-event-requires Inv-loop μ-loop
-read-event-requires c κs = search needs
-
-print-read-requires : tie.Need-print-read-requires Inv-loop μ-loop
-print-read-requires c κs = search needs
-
 returns : tie.Need-returns Inv-loop μ-loop
 returns c = tt
 
@@ -50,8 +44,7 @@ read-all-spec =
     Inv-loop
     μ-loop
     loop-holds
-    read-event-requires
-    print-read-requires
+    (λ c κs. search needs) (λ c κs. search needs)
     returns
     loop-less
     loop-again

@@ -5,12 +5,6 @@ use borrow.Author.Needs.{needs}
 use Rattle.oil.proofs.read_oil.Statement.{statement}
 use Rattle.oil.proofs.read_oil.Tie as tie
 
-walk-requires : tie.Need-walk-requires
-walk-requires c κs = search needs
-
-after-words-requires : tie.Need-after-words-requires
-after-words-requires c κs = search needs
-
 refused-requires : tie.Need-refused-requires
 refused-requires c κs = rw (c .before .before .walk .ensures) (walked-place (c .before .before .before .before .args .text .now))
 
@@ -27,4 +21,9 @@ returns-2 c =
 
 pub read-oil-spec : {M : Type 1} → statement M
 read-oil-spec =
-    tie.close (tie.spec walk-requires after-words-requires refused-requires returns returns-2)
+    tie.close
+    (tie.spec
+    (λ c κs. search needs) (λ c κs. search needs)
+    refused-requires
+    returns
+    returns-2)

@@ -7,18 +7,6 @@ use Rattle.cell.proofs.Modulo.{minus-unique}
 use Rattle.cell.proofs.Cell.start.Statement.{statement}
 use Rattle.cell.proofs.Cell.start.Tie as tie
 
-wrapping-sub-u16-requires : tie.Need-wrapping-sub-u16-requires
-wrapping-sub-u16-requires c κs = search needs
-
-start-counter-requires : tie.Need-start-counter-requires
-start-counter-requires c κs = search needs
-
-is-long-requires : tie.Need-is-long-requires
-is-long-requires c κs = search needs
-
-of-requires : tie.Need-of-requires
-of-requires c κs = search needs
-
 returns : tie.Need-returns
 returns c =
     let c₁ = c .before in
@@ -32,4 +20,8 @@ returns c =
     )
 
 pub start-spec : {M : Type 1} → statement M
-start-spec = tie.close (tie.spec wrapping-sub-u16-requires start-counter-requires is-long-requires of-requires returns)
+start-spec =
+    tie.close
+    (tie.spec
+    (λ c κs. search needs) (λ c κs. search needs) (λ c κs. search needs) (λ c κs. search needs)
+    returns)

@@ -8,12 +8,6 @@ use Rattle.cell.proofs.Tick.{ticked-made}
 use Rattle.cell.proofs.Cell.tick.Statement.{statement}
 use Rattle.cell.proofs.Cell.tick.Tie as tie
 
-wrapping-add-u16-requires : tie.Need-wrapping-add-u16-requires
-wrapping-add-u16-requires c κs = search needs
-
-make-requires : tie.Need-make-requires
-make-requires c κs = search needs
-
 returns : tie.Need-returns
 returns c =
     let turned = c .before in
@@ -30,4 +24,4 @@ returns c =
     (⊎-elim (λ w. rw (w .0 .taken) (w .1)) (λ w. rw (w .0 .left) (w .1 ∙ w .0 .left)) (turned .if5 .came))
 
 pub tick-spec : {M : Type 1} → statement M
-tick-spec = tie.close (tie.spec wrapping-add-u16-requires make-requires returns)
+tick-spec = tie.close (tie.spec (λ c κs. search needs) (λ c κs. search needs) returns)

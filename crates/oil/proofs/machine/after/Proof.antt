@@ -6,75 +6,6 @@ use borrow.Author.Needs.{needs}
 use Rattle.oil.proofs.machine.after.Statement.{statement}
 use Rattle.oil.proofs.machine.after.Tie as tie
 
-enum-told : tie.Need-enum-told
-enum-told c = search needs
-
-enum-told-2 : tie.Need-enum-told-2
-enum-told-2 c = search needs
-
-to-requires : tie.Need-to-requires
-to-requires c κs = search needs
-
-enum-told-3 : tie.Need-enum-told-3
-enum-told-3 c = search needs
-
-to-requires-2 : tie.Need-to-requires-2
-to-requires-2 c κs = search needs
-
-enum-told-4 : tie.Need-enum-told-4
-enum-told-4 c = search needs
-
-attribute-begun-requires : tie.Need-attribute-begun-requires
-attribute-begun-requires c κs = search needs
-
-enum-told-5 : tie.Need-enum-told-5
-enum-told-5 c = search needs
-
-to-requires-3 : tie.Need-to-requires-3
-to-requires-3 c κs = search needs
-
-enum-told-6 : tie.Need-enum-told-6
-enum-told-6 c = search needs
-
-to-requires-4 : tie.Need-to-requires-4
-to-requires-4 c κs = search needs
-
-enum-told-7 : tie.Need-enum-told-7
-enum-told-7 c = search needs
-
-to-requires-5 : tie.Need-to-requires-5
-to-requires-5 c κs = search needs
-
-enum-told-8 : tie.Need-enum-told-8
-enum-told-8 c = search needs
-
-to-requires-6 : tie.Need-to-requires-6
-to-requires-6 c κs = search needs
-
-enum-told-9 : tie.Need-enum-told-9
-enum-told-9 c = search needs
-
-to-requires-7 : tie.Need-to-requires-7
-to-requires-7 c κs = search needs
-
-enum-told-10 : tie.Need-enum-told-10
-enum-told-10 c = search needs
-
-to-requires-8 : tie.Need-to-requires-8
-to-requires-8 c κs = search needs
-
-enum-told-11 : tie.Need-enum-told-11
-enum-told-11 c = search needs
-
-to-requires-9 : tie.Need-to-requires-9
-to-requires-9 c κs = search needs
-
-enum-told-12 : tie.Need-enum-told-12
-enum-told-12 c = search needs
-
-to-requires-10 : tie.Need-to-requires-10
-to-requires-10 c κs = search needs
-
 returns : tie.Need-returns
 unfolding afterAt
 returns c = rw (c .enum-told .given .1)
@@ -128,29 +59,11 @@ pub after-spec : {M : Type 1} → statement M
 after-spec =
     tie.close
     (tie.spec
-    enum-told
-    enum-told-2
-    to-requires
-    enum-told-3
-    to-requires-2
-    enum-told-4
-    attribute-begun-requires
-    enum-told-5
-    to-requires-3
-    enum-told-6
-    to-requires-4
-    enum-told-7
-    to-requires-5
-    enum-told-8
-    to-requires-6
-    enum-told-9
-    to-requires-7
-    enum-told-10
-    to-requires-8
-    enum-told-11
-    to-requires-9
-    enum-told-12
-    to-requires-10
+    (λ c. search needs) (λ c. search needs) (λ c κs. search needs) (λ c. search needs) (λ c κs. search needs)
+    (λ c. search needs) (λ c κs. search needs) (λ c. search needs) (λ c κs. search needs) (λ c. search needs)
+    (λ c κs. search needs) (λ c. search needs) (λ c κs. search needs) (λ c. search needs) (λ c κs. search needs)
+    (λ c. search needs) (λ c κs. search needs) (λ c. search needs) (λ c κs. search needs) (λ c. search needs)
+    (λ c κs. search needs) (λ c. search needs) (λ c κs. search needs)
     returns
     returns-2
     returns-3

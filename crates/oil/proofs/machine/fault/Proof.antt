@@ -6,78 +6,6 @@ use borrow.Author.Needs.{needs}
 use Rattle.oil.proofs.machine.fault.Statement.{statement}
 use Rattle.oil.proofs.machine.fault.Tie as tie
 
-enum-told : tie.Need-enum-told
-enum-told c = search needs
-
-object-fault-requires : tie.Need-object-fault-requires
-object-fault-requires c κs = search needs
-
-enum-told-2 : tie.Need-enum-told-2
-enum-told-2 c = search needs
-
-only-requires : tie.Need-only-requires
-only-requires c κs = search needs
-
-enum-told-3 : tie.Need-enum-told-3
-enum-told-3 c = search needs
-
-only-requires-2 : tie.Need-only-requires-2
-only-requires-2 c κs = search needs
-
-enum-told-4 : tie.Need-enum-told-4
-enum-told-4 c = search needs
-
-attribute-fault-requires : tie.Need-attribute-fault-requires
-attribute-fault-requires c κs = search needs
-
-enum-told-5 : tie.Need-enum-told-5
-enum-told-5 c = search needs
-
-only-requires-3 : tie.Need-only-requires-3
-only-requires-3 c κs = search needs
-
-enum-told-6 : tie.Need-enum-told-6
-enum-told-6 c = search needs
-
-only-requires-4 : tie.Need-only-requires-4
-only-requires-4 c κs = search needs
-
-enum-told-7 : tie.Need-enum-told-7
-enum-told-7 c = search needs
-
-only-requires-5 : tie.Need-only-requires-5
-only-requires-5 c κs = search needs
-
-enum-told-8 : tie.Need-enum-told-8
-enum-told-8 c = search needs
-
-value-fault-requires : tie.Need-value-fault-requires
-value-fault-requires c κs = search needs
-
-enum-told-9 : tie.Need-enum-told-9
-enum-told-9 c = search needs
-
-only-requires-6 : tie.Need-only-requires-6
-only-requires-6 c κs = search needs
-
-enum-told-10 : tie.Need-enum-told-10
-enum-told-10 c = search needs
-
-only-requires-7 : tie.Need-only-requires-7
-only-requires-7 c κs = search needs
-
-enum-told-11 : tie.Need-enum-told-11
-enum-told-11 c = search needs
-
-only-requires-8 : tie.Need-only-requires-8
-only-requires-8 c κs = search needs
-
-enum-told-12 : tie.Need-enum-told-12
-enum-told-12 c = search needs
-
-only-requires-9 : tie.Need-only-requires-9
-only-requires-9 c κs = search needs
-
 returns : tie.Need-returns
 unfolding faultAt
 returns c = rw (c .before .enum-told .given .1) (c .object-fault .ensures)
@@ -131,30 +59,11 @@ pub fault-spec : {M : Type 1} → statement M
 fault-spec =
     tie.close
     (tie.spec
-    enum-told
-    object-fault-requires
-    enum-told-2
-    only-requires
-    enum-told-3
-    only-requires-2
-    enum-told-4
-    attribute-fault-requires
-    enum-told-5
-    only-requires-3
-    enum-told-6
-    only-requires-4
-    enum-told-7
-    only-requires-5
-    enum-told-8
-    value-fault-requires
-    enum-told-9
-    only-requires-6
-    enum-told-10
-    only-requires-7
-    enum-told-11
-    only-requires-8
-    enum-told-12
-    only-requires-9
+    (λ c. search needs) (λ c κs. search needs) (λ c. search needs) (λ c κs. search needs) (λ c. search needs)
+    (λ c κs. search needs) (λ c. search needs) (λ c κs. search needs) (λ c. search needs) (λ c κs. search needs)
+    (λ c. search needs) (λ c κs. search needs) (λ c. search needs) (λ c κs. search needs) (λ c. search needs)
+    (λ c κs. search needs) (λ c. search needs) (λ c κs. search needs) (λ c. search needs) (λ c κs. search needs)
+    (λ c. search needs) (λ c κs. search needs) (λ c. search needs) (λ c κs. search needs)
     returns
     returns-2
     returns-3

@@ -20,32 +20,14 @@ Inv-loop text words c₀ s₀ at₀ i₀ c s at i = (at ≤ length text) × (fil
 abbrev μ-loop : tie.MeasureT-loop
 μ-loop text words c₀ s₀ at₀ i₀ c s at i = words - i
 
-empty-requires : tie.Need-empty-requires Inv-loop μ-loop
-empty-requires c κs = search needs
-
-fresh-requires : tie.Need-fresh-requires Inv-loop μ-loop
-fresh-requires c κs = search needs
-
 loop-holds : tie.Need-loop-holds Inv-loop μ-loop
 loop-holds c = (omega arith, rw (c .fresh .ensures, c .before .empty .ensures, sub-zero))
-
-next-word-requires : tie.Need-next-word-requires Inv-loop μ-loop
-next-word-requires c κs = search needs
 
 put-requires : tie.Need-put-requires Inv-loop μ-loop
 put-requires c κs =
     let l = c .before .before .loop in
     let w = c .next-word in
     word-inside (c .before .before .before .before .before .before .args .text .now) (l .at) (l .inv .0) (w .result) (w .ensures)
-
-after-requires : tie.Need-after-requires Inv-loop μ-loop
-after-requires c κs = search needs
-
-add-i : tie.Need-add-i Inv-loop μ-loop
-add-i c = search needs
-
-loop-less : tie.Need-loop-less Inv-loop μ-loop
-loop-less c = search needs
 
 loop-again : tie.Need-loop-again Inv-loop μ-loop
 loop-again c =
@@ -72,13 +54,10 @@ fill-spec =
     (tie.spec
     Inv-loop
     μ-loop
-    empty-requires
-    fresh-requires
+    (λ c κs. search needs) (λ c κs. search needs)
     loop-holds
-    next-word-requires
+    (λ c κs. search needs)
     put-requires
-    after-requires
-    add-i
-    loop-less
+    (λ c κs. search needs) (λ c. search needs) (λ c. search needs)
     loop-again
     returns)

@@ -10,36 +10,9 @@ use borrow.Author.Needs.{needs}
 use Rattle.oil.proofs.meaning.marked.Statement.{statement}
 use Rattle.oil.proofs.meaning.marked.Tie as tie
 
-uses-resource-requires : tie.Need-uses-resource-requires
-uses-resource-requires c κs = search needs
-
 returns : tie.Need-returns
 unfolding marked
 returns c = rw (sym (c .before .uses-resource .ensures) ∙ not-true _ (c .if1 .taken))
-
-sub-same : tie.Need-sub-same
-sub-same c = search needs
-
-part-same-start : tie.Need-part-same-start
-part-same-start c = search needs
-
-part-same-end : tie.Need-part-same-end
-part-same-end c = search needs
-
-sub-same-2 : tie.Need-sub-same-2
-sub-same-2 c = search needs
-
-part-same-start-2 : tie.Need-part-same-start-2
-part-same-start-2 c = search needs
-
-part-same-end-2 : tie.Need-part-same-end-2
-part-same-end-2 c = search needs
-
-same-requires : tie.Need-same-requires
-same-requires c κs = search needs
-
-with-requires : tie.Need-with-requires
-with-requires c κs = search needs
 
 returns-2 : tie.Need-returns-2
 unfolding marked
@@ -69,15 +42,9 @@ pub marked-spec : {M : Type 1} → statement M
 marked-spec =
     tie.close
     (tie.spec
-    uses-resource-requires
+    (λ c κs. search needs)
     returns
-    sub-same
-    part-same-start
-    part-same-end
-    sub-same-2
-    part-same-start-2
-    part-same-end-2
-    same-requires
-    with-requires
+    (λ c. search needs) (λ c. search needs) (λ c. search needs) (λ c. search needs) (λ c. search needs)
+    (λ c. search needs) (λ c κs. search needs) (λ c κs. search needs)
     returns-2
     returns-3)

@@ -18,14 +18,8 @@ Inv-loop text words start end s₀ at₀ b₀ m₀ i₀ s at b m i = (at ≤ len
 abbrev μ-loop : tie.MeasureT-loop
 μ-loop text words start end s₀ at₀ b₀ m₀ i₀ s at b m i = words - i
 
-fresh-requires : tie.Need-fresh-requires Inv-loop μ-loop
-fresh-requires c κs = search needs
-
 loop-holds : tie.Need-loop-holds Inv-loop μ-loop
 loop-holds c = (omega arith, rw (c .fresh .ensures, sub-zero))
-
-next-word-requires : tie.Need-next-word-requires Inv-loop μ-loop
-next-word-requires c κs = search needs
 
 marked-requires : tie.Need-marked-requires Inv-loop μ-loop
 marked-requires c κs =
@@ -35,18 +29,6 @@ marked-requires c κs =
           (w .ensures),
       c .before .before .before .before .before .pre,
     )
-
-numbered-requires : tie.Need-numbered-requires Inv-loop μ-loop
-numbered-requires c κs = search needs
-
-after-requires : tie.Need-after-requires Inv-loop μ-loop
-after-requires c κs = search needs
-
-add-i : tie.Need-add-i Inv-loop μ-loop
-add-i c = search needs
-
-loop-less : tie.Need-loop-less Inv-loop μ-loop
-loop-less c = search needs
 
 loop-again : tie.Need-loop-again Inv-loop μ-loop
 loop-again c =
@@ -73,13 +55,10 @@ mask-spec =
     (tie.spec
     Inv-loop
     μ-loop
-    fresh-requires
+    (λ c κs. search needs)
     loop-holds
-    next-word-requires
+    (λ c κs. search needs)
     marked-requires
-    numbered-requires
-    after-requires
-    add-i
-    loop-less
+    (λ c κs. search needs) (λ c κs. search needs) (λ c. search needs) (λ c. search needs)
     loop-again
     returns)

@@ -12,63 +12,6 @@ use borrow.Author.Needs.{needs}
 use Rattle.oil.proofs.meaning.put.Statement.{statement}
 use Rattle.oil.proofs.meaning.put.Tie as tie
 
-enum-told : tie.Need-enum-told
-enum-told c = search needs
-
-put-object-requires : tie.Need-put-object-requires
-put-object-requires c κs = search needs
-
-enum-told-2 : tie.Need-enum-told-2
-enum-told-2 c = search needs
-
-put-name-requires : tie.Need-put-name-requires
-put-name-requires c κs = search needs
-
-enum-told-3 : tie.Need-enum-told-3
-enum-told-3 c = search needs
-
-enum-told-4 : tie.Need-enum-told-4
-enum-told-4 c = search needs
-
-enum-told-5 : tie.Need-enum-told-5
-enum-told-5 c = search needs
-
-enum-told-6 : tie.Need-enum-told-6
-enum-told-6 c = search needs
-
-value-requires : tie.Need-value-requires
-value-requires c κs = search needs
-
-with-priority-requires : tie.Need-with-priority-requires
-with-priority-requires c κs = search needs
-
-enum-told-7 : tie.Need-enum-told-7
-enum-told-7 c = search needs
-
-enum-told-8 : tie.Need-enum-told-8
-enum-told-8 c = search needs
-
-start-of-requires : tie.Need-start-of-requires
-start-of-requires c κs = search needs
-
-with-autostart-requires : tie.Need-with-autostart-requires
-with-autostart-requires c κs = search needs
-
-enum-told-9 : tie.Need-enum-told-9
-enum-told-9 c = search needs
-
-enum-told-10 : tie.Need-enum-told-10
-enum-told-10 c = search needs
-
-enum-told-11 : tie.Need-enum-told-11
-enum-told-11 c = search needs
-
-enum-told-12 : tie.Need-enum-told-12
-enum-told-12 c = search needs
-
-ended-requires : tie.Need-ended-requires
-ended-requires c κs = search needs
-
 returns : tie.Need-returns
 unfolding putAt
 returns c =
@@ -159,25 +102,10 @@ pub put-spec : {M : Type 1} → statement M
 put-spec =
     tie.close
     (tie.spec
-    enum-told
-    put-object-requires
-    enum-told-2
-    put-name-requires
-    enum-told-3
-    enum-told-4
-    enum-told-5
-    enum-told-6
-    value-requires
-    with-priority-requires
-    enum-told-7
-    enum-told-8
-    start-of-requires
-    with-autostart-requires
-    enum-told-9
-    enum-told-10
-    enum-told-11
-    enum-told-12
-    ended-requires
+    (λ c. search needs) (λ c κs. search needs) (λ c. search needs) (λ c κs. search needs) (λ c. search needs)
+    (λ c. search needs) (λ c. search needs) (λ c. search needs) (λ c κs. search needs) (λ c κs. search needs)
+    (λ c. search needs) (λ c. search needs) (λ c κs. search needs) (λ c κs. search needs) (λ c. search needs)
+    (λ c. search needs) (λ c. search needs) (λ c. search needs) (λ c κs. search needs)
     returns
     returns-2
     returns-3

@@ -20,18 +20,6 @@ abbrev μ-loop : tie.MeasureT-loop
 loop-holds : tie.Need-loop-holds Inv-loop μ-loop
 loop-holds c = ((omega arith, omega arith), (omega arith, refl))
 
-shared-slice-read-value-after : tie.Need-shared-slice-read-value-after Inv-loop μ-loop
-shared-slice-read-value-after c = search needs
-
-value-after-requires : tie.Need-value-after-requires Inv-loop μ-loop
-value-after-requires c κs = search needs
-
-add-i : tie.Need-add-i Inv-loop μ-loop
-add-i c = search needs
-
-loop-less : tie.Need-loop-less Inv-loop μ-loop
-loop-less c = search needs
-
 loop-again : tie.Need-loop-again Inv-loop μ-loop
 loop-again c =
     let a = c .before .before .before .before .before .args in
@@ -61,10 +49,7 @@ value-spec =
     Inv-loop
     μ-loop
     loop-holds
-    shared-slice-read-value-after
-    value-after-requires
-    add-i
-    loop-less
+    (λ c. search needs) (λ c κs. search needs) (λ c. search needs) (λ c. search needs)
     loop-again
     cast-result
     returns)

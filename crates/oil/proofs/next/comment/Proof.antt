@@ -12,18 +12,6 @@ use Rattle.oil.proofs.next.comment.Tie as tie
 returns : tie.Need-returns
 returns c = sym (comment-past (c .before .before .args .text .now) (c .before .before .args .at) (let h = c .if1 .taken in omega arith))
 
-shared-slice-read-c : tie.Need-shared-slice-read-c
-shared-slice-read-c c = search needs
-
-add-from : tie.Need-add-from
-add-from c = search needs
-
-line-end-requires : tie.Need-line-end-requires
-line-end-requires c κs = search needs
-
-sub-result : tie.Need-sub-result
-sub-result c = search needs
-
 add-result : tie.Need-add-result
 add-result c =
     let a = c .before .before .before .before .before .args in
@@ -33,9 +21,6 @@ returns-2 : tie.Need-returns-2
 returns-2 c =
     let a = c .before .before .before .before .before .args in
     line-comment (a .text .now) (a .at) (omega arith) (c .before .if2 .taken) (c .line-end .result) (c .line-end .ensures)
-
-closing-requires : tie.Need-closing-requires
-closing-requires c κs = search needs
 
 returns-3 : tie.Need-returns-3
 returns-3 c =
@@ -64,13 +49,10 @@ comment-spec =
     tie.close
     (tie.spec
     returns
-    shared-slice-read-c
-    add-from
-    line-end-requires
-    sub-result
+    (λ c. search needs) (λ c. search needs) (λ c κs. search needs) (λ c. search needs)
     add-result
     returns-2
-    closing-requires
+    (λ c κs. search needs)
     returns-3
     add-result-2
     returns-4

@@ -6,21 +6,9 @@ use borrow.Author.Needs.{needs}
 use Rattle.oil.proofs.next.spelled_sort.Statement.{statement}
 use Rattle.oil.proofs.next.spelled_sort.Tie as tie
 
-slice-aggregate-same : tie.Need-slice-aggregate-same
-slice-aggregate-same c = search needs
-
-same-requires : tie.Need-same-requires
-same-requires c κs = search needs
-
 returns : tie.Need-returns
 unfolding spelledSort
 returns c = simp (sym (same-result _ _ taskWord (c .before .same .ensures)) ∙ c .if1 .taken)
-
-slice-aggregate-same-2 : tie.Need-slice-aggregate-same-2
-slice-aggregate-same-2 c = search needs
-
-same-requires-2 : tie.Need-same-requires-2
-same-requires-2 c κs = search needs
 
 returns-2 : tie.Need-returns-2
 unfolding spelledSort
@@ -29,12 +17,6 @@ returns-2 c = simp (
       ∙ c .before .before .before .if1 .left,
   sym (same-result _ _ isrWord (c .before .same2 .ensures)) ∙ c .if2 .taken,
 )
-
-slice-aggregate-same-3 : tie.Need-slice-aggregate-same-3
-slice-aggregate-same-3 c = search needs
-
-same-requires-3 : tie.Need-same-requires-3
-same-requires-3 c κs = search needs
 
 returns-3 : tie.Need-returns-3
 unfolding spelledSort
@@ -46,12 +28,6 @@ returns-3 c = simp (
   sym (same-result _ _ resourceWord
       (c .before .same3 .ensures)) ∙ c .if3 .taken,
 )
-
-slice-aggregate-same-4 : tie.Need-slice-aggregate-same-4
-slice-aggregate-same-4 c = search needs
-
-same-requires-4 : tie.Need-same-requires-4
-same-requires-4 c κs = search needs
 
 returns-4 : tie.Need-returns-4
 unfolding spelledSort
@@ -67,12 +43,6 @@ returns-4 c = simp (
   sym (same-result _ _ priorityWord
       (c .before .same4 .ensures)) ∙ c .if4 .taken,
 )
-
-slice-aggregate-same-5 : tie.Need-slice-aggregate-same-5
-slice-aggregate-same-5 c = search needs
-
-same-requires-5 : tie.Need-same-requires-5
-same-requires-5 c κs = search needs
 
 returns-5 : tie.Need-returns-5
 unfolding spelledSort
@@ -92,12 +62,6 @@ returns-5 c = simp (
       (c .before .same5 .ensures)) ∙ c .if5 .taken,
 )
 
-slice-aggregate-same-6 : tie.Need-slice-aggregate-same-6
-slice-aggregate-same-6 c = search needs
-
-same-requires-6 : tie.Need-same-requires-6
-same-requires-6 c κs = search needs
-
 returns-6 : tie.Need-returns-6
 unfolding spelledSort
 returns-6 c = simp (
@@ -109,12 +73,6 @@ returns-6 c = simp (
   sym (same-result _ _ autostartWord (c .before .before .before .before .same5 .ensures)) ∙ c .before .before .before .if5 .left,
   sym (same-result _ _ trueWord (c .before .same6 .ensures)) ∙ c .if6 .taken,
 )
-
-slice-aggregate-same-7 : tie.Need-slice-aggregate-same-7
-slice-aggregate-same-7 c = search needs
-
-same-requires-7 : tie.Need-same-requires-7
-same-requires-7 c κs = search needs
 
 returns-7 : tie.Need-returns-7
 unfolding spelledSort
@@ -146,25 +104,18 @@ pub spelled-sort-spec : {M : Type 1} → statement M
 spelled-sort-spec =
     tie.close
     (tie.spec
-    slice-aggregate-same
-    same-requires
+    (λ c. search needs) (λ c κs. search needs)
     returns
-    slice-aggregate-same-2
-    same-requires-2
+    (λ c. search needs) (λ c κs. search needs)
     returns-2
-    slice-aggregate-same-3
-    same-requires-3
+    (λ c. search needs) (λ c κs. search needs)
     returns-3
-    slice-aggregate-same-4
-    same-requires-4
+    (λ c. search needs) (λ c κs. search needs)
     returns-4
-    slice-aggregate-same-5
-    same-requires-5
+    (λ c. search needs) (λ c κs. search needs)
     returns-5
-    slice-aggregate-same-6
-    same-requires-6
+    (λ c. search needs) (λ c κs. search needs)
     returns-6
-    slice-aggregate-same-7
-    same-requires-7
+    (λ c. search needs) (λ c κs. search needs)
     returns-7
     returns-8)

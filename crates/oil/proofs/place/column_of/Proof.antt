@@ -18,18 +18,6 @@ abbrev μ-loop : tie.MeasureT-loop
 loop-holds : tie.Need-loop-holds Inv-loop μ-loop
 loop-holds c = (omega arith, (omega arith, refl))
 
-shared-slice-read-column-after : tie.Need-shared-slice-read-column-after Inv-loop μ-loop
-shared-slice-read-column-after c = search needs
-
-column-after-requires : tie.Need-column-after-requires Inv-loop μ-loop
-column-after-requires c κs = search needs
-
-add-i : tie.Need-add-i Inv-loop μ-loop
-add-i c = search needs
-
-loop-less : tie.Need-loop-less Inv-loop μ-loop
-loop-less c = search needs
-
 loop-again : tie.Need-loop-again Inv-loop μ-loop
 loop-again c =
     let a = c .before .before .before .before .before .args in
@@ -56,9 +44,6 @@ column-of-spec =
     Inv-loop
     μ-loop
     loop-holds
-    shared-slice-read-column-after
-    column-after-requires
-    add-i
-    loop-less
+    (λ c. search needs) (λ c κs. search needs) (λ c. search needs) (λ c. search needs)
     loop-again
     returns)

@@ -7,15 +7,9 @@ use borrow.Author.Needs.{needs}
 use Rattle.oil.proofs.uses.look.Statement.{statement}
 use Rattle.oil.proofs.uses.look.Tie as tie
 
-uses-resource-requires : tie.Need-uses-resource-requires
-uses-resource-requires c κs = search needs
-
 returns : tie.Need-returns
 unfolding unborneAt
 returns c = (c .before .before .before .pre .0, rw (sym (c .before .uses-resource .ensures) ∙ not-true _ (c .if1 .taken)))
-
-search-requires : tie.Need-search-requires
-search-requires c κs = search needs
 
 returns-2 : tie.Need-returns-2
 unfolding unborneAt
@@ -40,9 +34,6 @@ returns-3 c = (
   ),
 )
 
-keep-requires : tie.Need-keep-requires
-keep-requires c κs = search needs
-
 returns-4 : tie.Need-returns-4
 unfolding unborneAt
 returns-4 c =
@@ -65,10 +56,10 @@ pub look-spec : {M : Type 1} → statement M
 look-spec =
     tie.close
     (tie.spec
-    uses-resource-requires
+    (λ c κs. search needs)
     returns
-    search-requires
+    (λ c κs. search needs)
     returns-2
     returns-3
-    keep-requires
+    (λ c κs. search needs)
     returns-4)

@@ -43,36 +43,12 @@ part-same-end c =
     let f = c .before .before .before .before .before .pre .0 .forward (l .i)
     (c .loop-test .taken) in let g = c .before .before .before .before .before .pre .0 .inside (l .i) (c .loop-test .taken) in omega arith
 
-sub-same-2 : tie.Need-sub-same-2 Inv-loop μ-loop
-sub-same-2 c = search needs
-
-part-same-start-2 : tie.Need-part-same-start-2 Inv-loop μ-loop
-part-same-start-2 c = search needs
-
-part-same-end-2 : tie.Need-part-same-end-2 Inv-loop μ-loop
-part-same-end-2 c = search needs
-
-same-requires : tie.Need-same-requires Inv-loop μ-loop
-same-requires c κs = search needs
-
 returns : tie.Need-returns Inv-loop μ-loop
 returns c =
     let a = c .before .before .before .before .before .before .before .before .before .args in
     kept-borne (a .text .now) (a .words) (a .k) (c .before .before .before .before .before .before .before .before .before .pre .0)
     (c .before .before .before .before .before .loop .i) (c .before .before .before .before .loop-test .taken) (take (a .end - a .start)
     (drop (a .start) (a .text .now))) (c .before .same .ensures .0 (c .if1 .taken))
-
-add-i : tie.Need-add-i Inv-loop μ-loop
-add-i c = search needs
-
-loop-less : tie.Need-loop-less Inv-loop μ-loop
-loop-less c = search needs
-
-loop-again : tie.Need-loop-again Inv-loop μ-loop
-loop-again c = search needs
-
-borne-requires : tie.Need-borne-requires Inv-loop μ-loop
-borne-requires c κs = search needs
 
 returns-2 : tie.Need-returns-2 Inv-loop μ-loop
 returns-2 c = c .borne .ensures
@@ -91,13 +67,7 @@ search-spec =
     sub-same
     part-same-start
     part-same-end
-    sub-same-2
-    part-same-start-2
-    part-same-end-2
-    same-requires
+    (λ c. search needs) (λ c. search needs) (λ c. search needs) (λ c κs. search needs)
     returns
-    add-i
-    loop-less
-    loop-again
-    borne-requires
+    (λ c. search needs) (λ c. search needs) (λ c. search needs) (λ c κs. search needs)
     returns-2)

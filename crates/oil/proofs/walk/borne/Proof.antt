@@ -18,14 +18,8 @@ Inv-loop text count resource start end s₀ at₀ i₀ s at i = (at ≤ length t
 abbrev μ-loop : tie.MeasureT-loop
 μ-loop text count resource start end s₀ at₀ i₀ s at i = count - i
 
-fresh-requires : tie.Need-fresh-requires Inv-loop μ-loop
-fresh-requires c κs = search needs
-
 loop-holds : tie.Need-loop-holds Inv-loop μ-loop
 loop-holds c = (omega arith, rw (c .fresh .ensures, sub-zero))
-
-next-word-requires : tie.Need-next-word-requires Inv-loop μ-loop
-next-word-requires c κs = search needs
 
 borne-here-requires : tie.Need-borne-here-requires Inv-loop μ-loop
 borne-here-requires c κs =
@@ -43,15 +37,6 @@ returns c =
     let w = c .before .before .next-word in
     borne-found (a .text .now) (a .count) (l .i) (l .at) (l .s) (a .resource) (take (a .end - a .start) (drop (a .start) (a .text .now)))
     (w .result) (w .ensures) (c .before .before .before .loop-test .taken) (sym (c .before .borne-here .ensures) ∙ c .if1 .taken) ∙ l .inv .1
-
-after-requires : tie.Need-after-requires Inv-loop μ-loop
-after-requires c κs = search needs
-
-add-i : tie.Need-add-i Inv-loop μ-loop
-add-i c = search needs
-
-loop-less : tie.Need-loop-less Inv-loop μ-loop
-loop-less c = search needs
 
 loop-again : tie.Need-loop-again Inv-loop μ-loop
 loop-again c =
@@ -78,13 +63,11 @@ borne-spec =
     (tie.spec
     Inv-loop
     μ-loop
-    fresh-requires
+    (λ c κs. search needs)
     loop-holds
-    next-word-requires
+    (λ c κs. search needs)
     borne-here-requires
     returns
-    after-requires
-    add-i
-    loop-less
+    (λ c κs. search needs) (λ c. search needs) (λ c. search needs)
     loop-again
     returns-2)

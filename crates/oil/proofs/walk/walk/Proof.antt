@@ -14,9 +14,6 @@ Inv-loop text s₀ at₀ words₀ s at words = WalksOn text at s words
 abbrev μ-loop : tie.MeasureT-loop
 μ-loop text s₀ at₀ words₀ s at words = length text - at
 
-fresh-requires : tie.Need-fresh-requires Inv-loop μ-loop
-fresh-requires c κs = search needs
-
 loop-holds : tie.Need-loop-holds Inv-loop μ-loop
 loop-holds c = walk-start (c .before .before .args .text .now) (c .fresh .result) (c .fresh .ensures)
 
@@ -28,9 +25,6 @@ fault-in-requires c κs =
     let l = c .before .loop in
     let w = c .next-word in
     word-inside (c .before .before .before .before .args .text .now) (l .at) (l .inv .inside) (w .result) (w .ensures)
-
-refused-at-requires : tie.Need-refused-at-requires Inv-loop μ-loop
-refused-at-requires c κs = search needs
 
 returns : tie.Need-returns Inv-loop μ-loop
 returns c =
@@ -47,9 +41,6 @@ returns-2 c =
     let f = c .before .before .before .fault-in in
     walk-ended (c .before .before .before .before .before .before .before .before .args .text .now) (l .at) (l .s) (l .words) (l .inv)
     (w .result) (w .ensures) (f .result) (f .ensures) (c .before .before .if1 .left) (c .if2 .taken)
-
-after-requires : tie.Need-after-requires Inv-loop μ-loop
-after-requires c κs = search needs
 
 add-words : tie.Need-add-words Inv-loop μ-loop
 add-words c =
@@ -83,14 +74,14 @@ walk-spec =
     (tie.spec
     Inv-loop
     μ-loop
-    fresh-requires
+    (λ c κs. search needs)
     loop-holds
     next-word-requires
     fault-in-requires
-    refused-at-requires
+    (λ c κs. search needs)
     returns
     returns-2
-    after-requires
+    (λ c κs. search needs)
     add-words
     loop-less
     loop-again)

@@ -8,9 +8,6 @@ use Rattle.salvage.proofs.walk.belonging.Tie as tie
 returns : tie.Need-returns
 returns c = belonging-left _ _ (c .if1 .taken)
 
-read-event-requires : tie.Need-read-event-requires
-read-event-requires c κs = search needs
-
 returns-2 : tie.Need-returns-2
 returns-2 c = let s = c .before .before .before .before in
     let r = c .before .before .read-event in
@@ -27,4 +24,4 @@ returns-3 c = let s = c .before .before .before .before .before in
     belonging-read (s .before .args .trace .now) (s .before .args .at) (s .before .args .left) (λ i. omega (arith, s .shared-slice-known .given i)) (c .before .before .before .before .if1 .left) (r .result) (r .ensures) (c .before .if2 .left)
 
 pub belonging-spec : {M : Type 1} → statement M
-belonging-spec = tie.close (tie.spec returns read-event-requires returns-2 sub-result returns-3)
+belonging-spec = tie.close (tie.spec returns (λ c κs. search needs) returns-2 sub-result returns-3)

@@ -12,18 +12,6 @@ use Rattle.salvage.proofs.walk.stretch_length.Tie as tie
 returns : tie.Need-returns
 returns c = let a = c .before .args in sym (ap length (closed-none (a .offset) (a .size) (c .if1 .taken)))
 
-cast-number-length : tie.Need-cast-number-length
-cast-number-length c = search needs
-
-number-length-requires : tie.Need-number-length-requires
-number-length-requires c κs = search needs
-
-cast-number-length-2 : tie.Need-cast-number-length-2
-cast-number-length-2 c = search needs
-
-number-length-requires-2 : tie.Need-number-length-requires-2
-number-length-requires-2 c κs = search needs
-
 add-result : tie.Need-add-result
 add-result c = let a = c .before .before .before .args in
     omega (arith, c .number-length2 .ensures, c .before .number-length .ensures, length-numberBytes (a .offset), length-numberBytes (a .size))
@@ -37,9 +25,6 @@ stretch-length-spec =
     tie.close
     (tie.spec
     returns
-    cast-number-length
-    number-length-requires
-    cast-number-length-2
-    number-length-requires-2
+    (λ c. search needs) (λ c κs. search needs) (λ c. search needs) (λ c κs. search needs)
     add-result
     returns-2)

@@ -36,24 +36,15 @@ module _ (from n at : ℕ) (d : List ℕ) (some : n ≡ 0 → ⊥) (room : at + 
 returns : tie.Need-returns
 returns c = let a = c .before .before .args in nothing (a .offset) (a .size) (a .at) (a .list .now) (c .if1 .taken)
 
-cast-put-number : tie.Need-cast-put-number
-cast-put-number c = search needs
-
 put-number-requires : tie.Need-put-number-requires
 put-number-requires c κs = let s = c .before .before .before in let a = s .args in
     let f = fits (a .offset) (a .size) (a .at) (a .list .now) (c .before .if1 .left) (s .pre .1) in omega arith
-
-cast-put-number-2 : tie.Need-cast-put-number-2
-cast-put-number-2 c = search needs
 
 put-number-requires-2 : tie.Need-put-number-requires-2
 put-number-requires-2 c κs = let w = c .before .before .before .put-number in
     let e = c .before .before .before .before .before in
     let s = e .before .before in let a = s .args in
     room-behind (a .offset) (a .size) (a .at) (a .list .now) (e .if1 .left) (s .pre .1) (w .result) (w .last .1 .1 .0) (w .ensures .0) (w .ensures .1)
-
-same-length : tie.Need-same-length
-same-length c = search needs
 
 returns-2 : tie.Need-returns-2
 returns-2 c = let w₂ = c .before .before .put-number2 in
@@ -67,9 +58,9 @@ write-stretch-spec =
     tie.close
     (tie.spec
     returns
-    cast-put-number
+    (λ c. search needs)
     put-number-requires
-    cast-put-number-2
+    (λ c. search needs)
     put-number-requires-2
-    same-length
+    (λ c. search needs)
     returns-2)
