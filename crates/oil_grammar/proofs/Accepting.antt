@@ -195,14 +195,14 @@ module _ (t : List ℕ) where
         rw (e, b, q (spelling t (nextWord t at))))
         (λ e. rw e)
 
-  pub record Accepted (at : ℕ) (s : Progress) (seen : List ℕ → Bool) (n m : ℕ) : Type 0 where
+  pub record AcceptedWords (at : ℕ) (s : Progress) (seen : List ℕ → Bool) (n m : ℕ) : Type 0 where
     pub words : List W.Word
     pub read : Reads t at words
     pub accepts : Accepts s seen words
     pub count : m ≡ n + length words
 
   walk-accepts : (k at : ℕ) (s : Progress) (n : ℕ) (seen : List ℕ → Bool) → at ≤ length t → Came 0 fresh n at s → Same n seen
-      → walk k t at s n .refusal ≡ 0 → Accepted at s seen n (walk k t at s n .words)
+      → walk k t at s n .refusal ≡ 0 → AcceptedWords at s seen n (walk k t at s n .words)
   unfolding walk
   walk-accepts zero at s n seen h c q e = absurd (omega arith)
   walk-accepts (suc k) at s n seen h c q e =
@@ -261,7 +261,7 @@ module _ (t : List ℕ) where
   unfolding borne
   start-same x = refl
 
-  pub walked-accepts : (k : ℕ) → walk k t 0 fresh 0 .refusal ≡ 0 → Accepted 0 fresh none-seen 0 (walk k t 0 fresh 0 .words)
+  pub walked-accepts : (k : ℕ) → walk k t 0 fresh 0 .refusal ≡ 0 → AcceptedWords 0 fresh none-seen 0 (walk k t 0 fresh 0 .words)
   walked-accepts k e = walk-accepts k 0 fresh 0 none-seen (omega arith) came-here start-same e
 
   pub accepts-walked : (k : ℕ) {ws : List W.Word} → Reads t 0 ws → Accepts fresh none-seen ws → length ws < k → walk k t 0 fresh 0 ≡ found (length ws)

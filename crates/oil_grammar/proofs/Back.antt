@@ -13,7 +13,7 @@ use Rattle.oil_grammar.specs.declared.Want.the-variants.{Object, Name, O
 use Rattle.oil_grammar.specs.Word as W
 use Rattle.oil_grammar.specs.Word.{mark, name, number, sortOf, same, taskSort, isrSort, resourceSort, prioritySort, autostartSort, trueSort, falseSort, openSort, closeSort, equalsSort, semicolonSort, nameSort, numberSort, endSort}
 use Rattle.oil_grammar.specs.Object as O
-use Rattle.oil_grammar.specs.Object.{priority, autostart, uses, isResource, attributeWords, attributesWords, written, priorities, autostarts, Fits, task, isr, resource, among}
+use Rattle.oil_grammar.specs.Object.{priority, autostart, uses, isResource, attributeWords, attributesWords, written, priorities, autostarts, Fits, task, isr, resource, amongNames}
 use Rattle.oil_grammar.specs.Grammar.{AllFit, fit-nil, fit-cons, Fresh, fresh-nil, fresh-cons}
 use Rattle.oil_grammar.specs.Machine.{faultAt, only, unexpected, unknown, objectFault, bodyFault, attributeFault, valueFault, afterAt, attributeBegun, fresh, namesAt}
 use Rattle.oil_grammar.proofs.Spelling.{by-test, false-true}
@@ -56,7 +56,7 @@ record Named (k : ℕ) (p a : Bool) (earlier : List (List ℕ)) (ws : List W.Wor
   called : List ℕ
   rest : List W.Word
   is : ws ≡ name called ∷ mark openSort ∷ rest
-  new : among called earlier ≡ false
+  new : amongNames called earlier ≡ false
   follows : Attributes k p a (called ∷ earlier) rest
 
 -- what is left of the words, by what is wanted
@@ -347,5 +347,5 @@ back (goes {s = s} {seen = seen} {w = w} {ws = ws} pr f b r) v k p a e E q =
 
 -- from the start
 pub as-objects : {ws : List W.Word} → Accepts fresh (λ x. false) ws → AsObjects [] ws
-unfolding among
+unfolding amongNames
 as-objects acc = back acc Object 0 false false refl [] (λ x. refl)

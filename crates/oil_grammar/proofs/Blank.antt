@@ -18,7 +18,7 @@ use Rattle.oil_grammar.proofs.Span.{span-le, drop-next}
 abbrev pub earlier : ℕ → ℕ → ℕ
 earlier n r = cond (eqb r 0) 0 (r + n)
 
-pub closing-le : (bs : List ℕ) → closing bs ≤ length bs
+closing-le : (bs : List ℕ) → closing bs ≤ length bs
 unfolding closing
 closing-le [] = omega arith
 closing-le (b ∷ []) = omega arith
@@ -27,7 +27,7 @@ closing-le (b ∷ c ∷ bs) =
     by-test (eqb b star && eqb c slash) (λ e. rw e (omega arith))
     (λ e. by-test (eqb (closing (c ∷ bs)) 0) (λ f. rw (e, f) (omega arith)) (λ f. rw (e, f) (omega arith)))
 
-pub comment-le : (bs : List ℕ) → comment bs ≤ suc (length bs)
+comment-le : (bs : List ℕ) → comment bs ≤ suc (length bs)
 unfolding comment
 comment-le [] = omega arith
 comment-le (c ∷ bs) =
@@ -43,7 +43,7 @@ blank-le (b ∷ bs) =
     by-test (isSpace b) (λ e. rw e (omega arith))
     (λ e. by-test (eqb b slash) (λ f. rw (e, f) (comment-le bs)) (λ f. rw (e, f) (omega arith)))
 
-pub blanks-le : (k : ℕ) (bs : List ℕ) → blanks k bs ≤ length bs
+blanks-le : (k : ℕ) (bs : List ℕ) → blanks k bs ≤ length bs
 unfolding blanks
 blanks-le zero bs = omega arith
 blanks-le (suc k) bs =
@@ -61,7 +61,7 @@ unfolding blanks
 blanks-some k bs d = rw (ne-eqb (blank bs) 0 d)
 
 -- as many as there are bytes are enough
-pub blanks-enough : (k : ℕ) (bs : List ℕ) → length bs ≤ k → blanks (suc k) bs ≡ blanks k bs
+blanks-enough : (k : ℕ) (bs : List ℕ) → length bs ≤ k → blanks (suc k) bs ≡ blanks k bs
 blanks-enough zero bs h = blanks-none 1 bs (let l = blank-le bs in omega arith) ∙ sym (blanks-none 0 bs (let l = blank-le bs in omega arith))
 blanks-enough (suc k) bs h =
     by-eq (blank bs) 0
@@ -137,11 +137,11 @@ module _ (t : List ℕ) (i : ℕ) where
   unfolding comment
   comment-past h = rw (drop-of-length-le t {i = i} h)
 
-  pub comment-line : i < length t → getD t i 0 ≡ slash → comment (drop i t) ≡ span isLineByte (drop (i + 1) t) + 2
+  comment-line : i < length t → getD t i 0 ≡ slash → comment (drop i t) ≡ span isLineByte (drop (i + 1) t) + 2
   unfolding comment
   comment-line h e = rw (drop-next t i h, eq-eqb (getD t i 0) slash e)
 
-  pub comment-block : i < length t → (getD t i 0 ≡ slash → ⊥) → getD t i 0 ≡ star → comment (drop i t) ≡ closed (closing (drop (i + 1) t))
+  comment-block : i < length t → (getD t i 0 ≡ slash → ⊥) → getD t i 0 ≡ star → comment (drop i t) ≡ closed (closing (drop (i + 1) t))
   unfolding comment
   comment-block h d e = rw (drop-next t i h, ne-eqb (getD t i 0) slash d, eq-eqb (getD t i 0) star e)
 

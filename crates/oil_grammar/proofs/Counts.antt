@@ -22,7 +22,7 @@ use Rattle.oil_grammar.specs.Byte.{isSpace, isDigit, isLetter, isNameByt
 use Rattle.oil_grammar.specs.Word as W
 use Rattle.oil_grammar.specs.Word.{same, spelledSort, signOf, decimal, taskSort, isrSort, resourceSort, endSort}
 use Rattle.oil_grammar.specs.Object as O
-use Rattle.oil_grammar.specs.Object.{Object, Attribute, priority, autostart, uses, isResource, attributeWords, attributesWords, objectWords, written, priorities, autostarts, Fits, task, isr, resource, among, attributeUses, objectUses}
+use Rattle.oil_grammar.specs.Object.{Object, Attribute, priority, autostart, uses, isResource, attributeWords, attributesWords, objectWords, written, priorities, autostarts, Fits, task, isr, resource, amongNames, attributeUses, objectUses}
 use Rattle.oil_grammar.specs.Meaning.{empty, usersOf, usersWith, usersFrom, attributed, attributedAll, begun, ended, placed, configOf}
 use Rattle.oil_grammar.specs.Grammar.{AllFit, fit-nil, fit-cons, Fresh, fresh-nil, fresh-cons, Borne, borne-nil, borne-cons, Oil}
 use Rattle.oil_grammar.specs.Next.{closing, comment, blank, blanks, wordAt, nextWord, wordOfBytes, wordIn}
@@ -74,26 +74,26 @@ words-read t (suc k) at e =
 -- no object has the name of an earlier one, as a test
 unfoldable new : List (List ℕ) → List Object → Bool
 new earlier [] = true
-new earlier (o ∷ os) = cond (among (o .called) earlier) false (new (o .called ∷ earlier) os)
+new earlier (o ∷ os) = cond (amongNames (o .called) earlier) false (new (o .called ∷ earlier) os)
 
 is-fresh : (earlier : List (List ℕ)) (os : List Object) → new earlier os ≡ true → Fresh earlier os
 unfolding new
 is-fresh earlier [] e = fresh-nil
 is-fresh earlier (o ∷ os) e =
-    by-test (among (o .called) earlier)
+    by-test (amongNames (o .called) earlier)
     (λ f. absurd (false-true (rw f at e)))
     (λ f. fresh-cons f (is-fresh (o .called ∷ earlier) os (rw f at e)))
 
 -- each of the names is one of the others, as a test
 unfoldable allAmong : List (List ℕ) → List (List ℕ) → Bool
 allAmong rs [] = true
-allAmong rs (x ∷ xs) = cond (among x rs) (allAmong rs xs) false
+allAmong rs (x ∷ xs) = cond (amongNames x rs) (allAmong rs xs) false
 
 is-borne : (rs xs : List (List ℕ)) → allAmong rs xs ≡ true → Borne rs xs
 unfolding allAmong
 is-borne rs [] e = borne-nil
 is-borne rs (x ∷ xs) e =
-    by-test (among x rs)
+    by-test (amongNames x rs)
     (λ f. borne-cons f (is-borne rs xs (rw f at e)))
     (λ f. absurd (false-true (rw f at e)))
 
@@ -156,7 +156,7 @@ used-fit (suc i) = fit-cons resource (used-fit i)
 
 -- the refusal of a text, its line and its column; it unfolds what the checker computes
 pub answer : OilRead → List ℕ
-unfolding digits bodies isrs attributes objects resources usesOf used taskAndUsed new allAmong wordsFrom priorities autostarts ascii isSpace isDigit isLetter isNameByte isLineByte span same spelledSort signOf decimal closing comment blank blanks wordAt nextWord wordOfBytes attributeWords attributesWords objectWords written among attributeUses objectUses O.resources has with usersWith usersFrom attributed attributedAll begun ended placed configOf occurs timedIn faultAt putAt askedAt numbersEnded faultFrom
+unfolding digits bodies isrs attributes objects resources usesOf used taskAndUsed new allAmong wordsFrom priorities autostarts ascii isSpace isDigit isLetter isNameByte isLineByte span same spelledSort signOf decimal closing comment blank blanks wordAt nextWord wordOfBytes attributeWords attributesWords objectWords written amongNames attributeUses objectUses O.resources has with usersWith usersFrom attributed attributedAll begun ended placed configOf occurs timedIn faultAt putAt askedAt numbersEnded faultFrom
 answer r = r .refusal ∷ r .line ∷ r .column ∷ []
 
 -- 32 bodies are accepted, and 33 are too many

@@ -19,7 +19,7 @@ use Rattle.oil_grammar.specs.declared.Want.the-variants.{Object, Name, O
 use Rattle.oil_grammar.specs.Word as W
 use Rattle.oil_grammar.specs.Word.{mark, name, number, sortOf, same, decimal, trueSort, openSort, closeSort, semicolonSort, nameSort, numberSort, endSort}
 use Rattle.oil_grammar.specs.Object as O
-use Rattle.oil_grammar.specs.Object.{priority, autostart, uses, isResource, attributeWords, attributesWords, written, among, resources, attributeUses, objectUses}
+use Rattle.oil_grammar.specs.Object.{priority, autostart, uses, isResource, attributeWords, attributesWords, written, amongNames, resources, attributeUses, objectUses}
 use Rattle.oil_grammar.specs.Meaning.{held, numberAfter, usersWith, usersFrom, kindOf, startOf, attributed, attributedAll, begun, placed}
 use Rattle.oil_grammar.specs.Meaning as Meaning
 use Rattle.oil_grammar.specs.Grammar.{Borne, borne-nil, borne-cons}
@@ -118,8 +118,8 @@ module _ (t : List ℕ) where
       (b, rw b at f, m)
 
   pub borne-resources : {a : ℕ} {ws : List W.Word} → Reads t a ws → (s : Progress) (seen : List ℕ → Bool) → Accepts s seen ws → (x : List ℕ)
-      → borne (length ws) t a s true x ≡ among x (resourcesIn s ws)
-  unfolding borne bears resourcesIn among
+      → borne (length ws) t a s true x ≡ amongNames x (resourcesIn s ws)
+  unfolding borne bears resourcesIn amongNames
   borne-resources (ended e) s seen acc x = refl
   borne-resources (reads {at = a} {ws = ws} l r) s seen (goes pr f b acc) x =
       let o = in-order a s l f in
@@ -159,7 +159,7 @@ module _ (t : List ℕ) where
       ∙ ap (λ (k : ℕ). fillIn (after s k) u (putWord (s .want) u s c (wordIn t (nextWord t a))) ws) (sym (o .0))
 
   -- the uses that no RESOURCE bears
-  module _ (n : ℕ) (rs : List (List ℕ)) (q : (x : List ℕ) → borne n t 0 fresh true x ≡ among x rs) where
+  module _ (n : ℕ) (rs : List (List ℕ)) (q : (x : List ℕ) → borne n t 0 fresh true x ≡ amongNames x rs) where
     pub unborne-none : {a : ℕ} {ws : List W.Word} → Reads t a ws → (s : Progress) (seen : List ℕ → Bool) → Accepts s seen ws
         → unborne (length ws) t a s n .refusal ≡ 0 → Borne rs (usesIn s ws)
     unfolding unborne unborneAt usesIn
@@ -188,7 +188,7 @@ module _ (t : List ℕ) where
         rw (e, q (spelling t (nextWord t a)) ∙ k .0) (none-unborne r (after s (nextWord t a .sort)) _ (rw (o .0) at acc) (k .1)))
         (λ e. rw e (none-unborne r (after s (nextWord t a .sort)) _ (rw (o .0) at acc) (rw (e, o .0) at z)))
       where
-        borne-split : (x : List ℕ) (xs : List (List ℕ)) → Borne rs (x ∷ xs) → (among x rs ≡ true) × Borne rs xs
+        borne-split : (x : List ℕ) (xs : List (List ℕ)) → Borne rs (x ∷ xs) → (amongNames x rs ≡ true) × Borne rs xs
         borne-split x xs (borne-cons h k) = (h, k)
 
 -- on the words of attributes, whatever is given already; R is what the words after them come to

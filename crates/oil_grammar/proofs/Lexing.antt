@@ -111,7 +111,7 @@ closes (b ∷ c ∷ bs) d =
     neither : (eqb b star && eqb c slash) ≡ false → b ≡ star → c ≡ slash → ⊥
     neither e f g = false-true (sym e ∙ rw (eq-eqb b star f, eq-eqb c slash g))
 
-pub closes-end : {bs r : List ℕ} → Closes bs r → (closing bs ≡ 0 → ⊥) × (r ≡ drop (closing bs) bs)
+closes-end : {bs r : List ℕ} → Closes bs r → (closing bs ≡ 0 → ⊥) × (r ≡ drop (closing bs) bs)
 unfolding closing
 closes-end (here {b = b} {c = c} e f) = rw (eq-eqb b star e, eq-eqb c slash f) ((λ z. omega arith), refl)
 closes-end (later {b = b} {c = c} {bs = bs} d l) =

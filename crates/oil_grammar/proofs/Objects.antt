@@ -12,7 +12,7 @@ use Rattle.oil_grammar.specs.declared.Want.the-variants.{Object, Attribu
 use Rattle.oil_grammar.specs.Word as W
 use Rattle.oil_grammar.specs.Word.{mark, name, number, sortOf, same, taskSort, isrSort, resourceSort, prioritySort, autostartSort, trueSort, falseSort, openSort, closeSort, equalsSort, semicolonSort}
 use Rattle.oil_grammar.specs.Object as O
-use Rattle.oil_grammar.specs.Object.{priority, autostart, uses, attributeWords, attributesWords, objectWords, written, priorities, autostarts, Fits, task, isr, resource, among}
+use Rattle.oil_grammar.specs.Object.{priority, autostart, uses, attributeWords, attributesWords, objectWords, written, priorities, autostarts, Fits, task, isr, resource, amongNames}
 use Rattle.oil_grammar.specs.Grammar.{AllFit, fit-nil, fit-cons, Fresh, fresh-nil, fresh-cons}
 use Rattle.oil_grammar.specs.Machine.{fault, faultAt, only, objectFault, bodyFault, attributeFault, valueFault, after, afterAt, attributeBegun, namesAt, namesObject}
 use Rattle.oil_grammar.proofs.Accepting.{proper-mark, proper-name, proper-number, Accepts, stops, goes}
@@ -91,11 +91,11 @@ or-comm false false = refl
 
 -- the names that are seen are the earlier ones
 abbrev pub Sees : (List ℕ → Bool) → List (List ℕ) → Type 0
-Sees seen earlier = (x : List ℕ) → seen x ≡ among x earlier
+Sees seen earlier = (x : List ℕ) → seen x ≡ amongNames x earlier
 
 pub sees-name : (seen : List ℕ → Bool) (earlier : List (List ℕ)) (x : List ℕ) → Sees seen earlier → Sees (λ y. seen y || same x y) (x ∷ earlier)
-unfolding among
-sees-name seen earlier x q y = rw (q y) (or-comm (among y earlier) (same x y))
+unfolding amongNames
+sees-name seen earlier x q y = rw (q y) (or-comm (amongNames y earlier) (same x y))
 
 -- `TASK name { .. };` and what follows
 module _ (seen : List ℕ → Bool) (x : List ℕ) (new : seen x ≡ false) (k : ℕ) (lo : 1 ≤ k) (hi : k ≤ 3) (ws : List W.Word) where

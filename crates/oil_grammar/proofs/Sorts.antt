@@ -42,7 +42,7 @@ signOf-le b =
     (choice-le (eqb b 125) _ _ 11 (omega arith)
     (choice-le (eqb b 61) _ _ 11 (omega arith) (choice-le (eqb b 59) _ _ 11 (omega arith) (omega arith))))
 
-pub sort-le : (p : ℕ) (bs : List ℕ) → wordAt p bs .sort ≤ 15
+sort-le : (p : ℕ) (bs : List ℕ) → wordAt p bs .sort ≤ 15
 unfolding wordAt
 sort-le p [] = omega arith
 sort-le p (b ∷ bs) =
@@ -56,7 +56,7 @@ some : (n : ℕ) → suc n ≡ 0 → ⊥
 some n e = omega arith
 
 -- an unreadable sign is refused wherever it stands
-pub unreadable-refused : (v : Want) (s : Progress) → faultAt v s unreadableSort ≡ 0 → ⊥
+unreadable-refused : (v : Want) (s : Progress) → faultAt v s unreadableSort ≡ 0 → ⊥
 unfolding faultAt only objectFault attributeFault bodyFault valueFault unknown unexpected
 unreadable-refused Object s e = some 59 e
 unreadable-refused Name s e = some 59 e

@@ -23,11 +23,11 @@ module _ (p : ℕ → Bool) where
   pub run-inside : (t : List ℕ) (at : ℕ) → at ≤ length t → at + span p (drop at t) ≤ length t
   run-inside t at h = let l = rw length-drop at (span-le (drop at t)) in omega arith
 
-  pub span-more : (b : ℕ) (bs : List ℕ) → p b ≡ true → span p (b ∷ bs) ≡ suc (span p bs)
+  span-more : (b : ℕ) (bs : List ℕ) → p b ≡ true → span p (b ∷ bs) ≡ suc (span p bs)
   unfolding span
   span-more b bs e = rw e
 
-  pub span-stop : (b : ℕ) (bs : List ℕ) → p b ≡ false → span p (b ∷ bs) ≡ 0
+  span-stop : (b : ℕ) (bs : List ℕ) → p b ≡ false → span p (b ∷ bs) ≡ 0
   unfolding span
   span-stop b bs e = rw e
 

@@ -69,9 +69,9 @@ pub data Fits : Object → Type 0 where
   resource : {x : List ℕ} → Fits (record { kind = resourceSort; called = x; attributes = [] })
 
 -- x is one of the names
-unfoldable pub among : List ℕ → List (List ℕ) → Bool
-among x [] = false
-among x (y ∷ ys) = same y x || among x ys
+unfoldable pub amongNames : List ℕ → List (List ℕ) → Bool
+amongNames x [] = false
+amongNames x (y ∷ ys) = same y x || amongNames x ys
 
 unfoldable pub names : List Object → List (List ℕ)
 names [] = []

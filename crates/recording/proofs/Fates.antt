@@ -129,7 +129,7 @@ module _ (P : List ℕ → Type 0)
     bounded zero (x ∷ bs) h b = absurd (omega arith)
     bounded (suc n) bs h b = step n (bounded n) bs h b
 
-    pub recording-elim : (bs : List ℕ) → Bytes bs → P bs
+    recording-elim : (bs : List ℕ) → Bytes bs → P bs
     recording-elim bs b = bounded (length bs) bs (omega arith) b
 
 selected-kept : (xs rest : List ℕ) (fs : List Fate) → selected (replicate (length xs) kept ++ fs) (xs ++ rest) ≡ xs ++ selected fs rest
