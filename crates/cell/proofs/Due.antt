@@ -1,4 +1,5 @@
--- The table's arithmetic: how `due` moves from one tick to the next, and how far it is to the next due tick (`due-from`).
+-- The table's arithmetic: how `due` moves from one tick to the next, and how far it is to the next due tick
+-- (`due-from`).
 use Prim.Native.Nat.{ℕ, suc, _+_, _*_, _-_, _/_, _%_, _≤_, _<_}
 use mathlib.Core.Bool.{true, false, true≢false}
 use mathlib.Core.Logic.{⊎-elim}
@@ -122,4 +123,6 @@ module _ (P : ℕ) where
 
     -- the next tick is a due one exactly when one tick is left
     pub due-next : (D n : ℕ) → due P D (suc n) ≡ eqb (untilDue P D n) 1
-    due-next D n = let e : suc n ≡ n + 1 = omega arith in rw e (due-from D n 0 ∙ due-one (untilDue P D n) (until-some D n))
+    due-next D n =
+        let e : suc n ≡ n + 1 = omega arith in
+        rw e (due-from D n 0 ∙ due-one (untilDue P D n) (until-some D n))

@@ -1,7 +1,7 @@
 -- What `|`, `&` and taking away make of the bits of numbers, each bit by itself.
 --
--- In order: `|`; `&`; what a number shares with a complement; the bits of one number without those of another; a number without bits.
--- Each law goes by halving, so that omega sees the lowest bit only.
+-- In order: `|`; `&`; what a number shares with a complement; the bits of one number without those of another; a number
+-- without bits. Each law goes by halving, so that omega sees the lowest bit only.
 use Prim.Native.Nat.{ℕ, zero, suc, _+_, _-_, _*_, _/_, _%_, _^_, max, min, _≤_, _<_}
 use mathlib.Core.Path.{_≡_, refl, sym, ap, _∙_}
 use mathlib.Core.Bool.{true, false, true≢false, not, _&&_, _||_}
@@ -16,11 +16,15 @@ use lib.Pow.{shr-shr}
 -- a bit of an `|` is set exactly if one of the two is
 pub or-bit : (w v i : ℕ) → eqb (bitOr w v / 2 ^ i % 2) 1 ≡ eqb (w / 2 ^ i % 2) 1 || eqb (v / 2 ^ i % 2) 1
 or-bit w v i =
-    ap (λ (n : ℕ). eqb (n % 2) 1) (or-shr w v i ∙ or-step (w / 2 ^ i) (v / 2 ^ i)) ∙ low (bitOr (w / 2 ^ i / 2) (v / 2 ^ i / 2))
+    ap (λ (n : ℕ). eqb (n % 2) 1) (or-shr w v i ∙ or-step (w / 2 ^ i) (v / 2 ^ i))
+    ∙ low (bitOr (w / 2 ^ i / 2) (v / 2 ^ i / 2))
     ∙ each (w / 2 ^ i % 2) (v / 2 ^ i % 2) (omega arith) (omega arith)
   where
-    low : (n : ℕ) → eqb ((n * 2 + max (w / 2 ^ i % 2) (v / 2 ^ i % 2)) % 2) 1 ≡ eqb (max (w / 2 ^ i % 2) (v / 2 ^ i % 2)) 1
-    low n = let e : (n * 2 + max (w / 2 ^ i % 2) (v / 2 ^ i % 2)) % 2 ≡ max (w / 2 ^ i % 2) (v / 2 ^ i % 2) = omega arith in ap (λ (x : ℕ). eqb x 1) e
+    low : (n : ℕ) → eqb ((n * 2 + max (w / 2 ^ i % 2) (v / 2 ^ i % 2)) % 2) 1
+        ≡ eqb (max (w / 2 ^ i % 2) (v / 2 ^ i % 2)) 1
+    low n =
+        let e : (n * 2 + max (w / 2 ^ i % 2) (v / 2 ^ i % 2)) % 2 ≡ max (w / 2 ^ i % 2) (v / 2 ^ i % 2) = omega arith in
+        ap (λ (x : ℕ). eqb x 1) e
 
     each : (x y : ℕ) → x ≤ 1 → y ≤ 1 → eqb (max x y) 1 ≡ eqb x 1 || eqb y 1
     each zero zero h k = refl
@@ -34,11 +38,15 @@ or-bit w v i =
 -- and of an `&` exactly if both are
 pub and-bits : (w v i : ℕ) → eqb (bitAnd w v / 2 ^ i % 2) 1 ≡ eqb (w / 2 ^ i % 2) 1 && eqb (v / 2 ^ i % 2) 1
 and-bits w v i =
-    ap (λ (n : ℕ). eqb (n % 2) 1) (and-shr w v i ∙ and-step (w / 2 ^ i) (v / 2 ^ i)) ∙ low (bitAnd (w / 2 ^ i / 2) (v / 2 ^ i / 2))
+    ap (λ (n : ℕ). eqb (n % 2) 1) (and-shr w v i ∙ and-step (w / 2 ^ i) (v / 2 ^ i))
+    ∙ low (bitAnd (w / 2 ^ i / 2) (v / 2 ^ i / 2))
     ∙ each (w / 2 ^ i % 2) (v / 2 ^ i % 2) (omega arith) (omega arith)
   where
-    low : (n : ℕ) → eqb ((n * 2 + min (w / 2 ^ i % 2) (v / 2 ^ i % 2)) % 2) 1 ≡ eqb (min (w / 2 ^ i % 2) (v / 2 ^ i % 2)) 1
-    low n = let e : (n * 2 + min (w / 2 ^ i % 2) (v / 2 ^ i % 2)) % 2 ≡ min (w / 2 ^ i % 2) (v / 2 ^ i % 2) = omega arith in ap (λ (x : ℕ). eqb x 1) e
+    low : (n : ℕ) → eqb ((n * 2 + min (w / 2 ^ i % 2) (v / 2 ^ i % 2)) % 2) 1
+        ≡ eqb (min (w / 2 ^ i % 2) (v / 2 ^ i % 2)) 1
+    low n =
+        let e : (n * 2 + min (w / 2 ^ i % 2) (v / 2 ^ i % 2)) % 2 ≡ min (w / 2 ^ i % 2) (v / 2 ^ i % 2) = omega arith in
+        ap (λ (x : ℕ). eqb x 1) e
 
     each : (x y : ℕ) → x ≤ 1 → y ≤ 1 → eqb (min x y) 1 ≡ eqb x 1 && eqb y 1
     each zero zero h k = refl
@@ -63,7 +71,8 @@ and-not (suc k) w a hw ha =
     low = omega (arith, pow-suc 2 k)
 
 -- a number without what it shares with another has the bits that the other has not
-pub without-bit : (w v i : ℕ) → eqb ((w - bitAnd w v) / 2 ^ i % 2) 1 ≡ eqb (w / 2 ^ i % 2) 1 && not (eqb (v / 2 ^ i % 2) 1)
+pub without-bit : (w v i : ℕ)
+    → eqb ((w - bitAnd w v) / 2 ^ i % 2) 1 ≡ eqb (w / 2 ^ i % 2) 1 && not (eqb (v / 2 ^ i % 2) 1)
 without-bit w v i = ap (λ (n : ℕ). eqb (n % 2) 1) (shifted i w v) ∙ low (w / 2 ^ i) (v / 2 ^ i)
   where
     half : (w v : ℕ) → (w - bitAnd w v) / 2 ≡ w / 2 - bitAnd (w / 2) (v / 2)
@@ -102,6 +111,10 @@ no-bit n none = go n n (omega arith) none
     go : (k n : ℕ) → n ≤ k → ((i : ℕ) → eqb (n / 2 ^ i % 2) 1 ≡ false) → n ≡ 0
     go zero n h none = omega arith
     go (suc k) n h none =
-        let first : n % 2 ≡ 0 = unset (n % 2) (omega arith) (ap (λ (x : ℕ). eqb (x % 2) 1) (sym (div-one n)) ∙ none 0) in
-        let rest : n / 2 ≡ 0 = go k (n / 2) (omega arith) (λ i. ap (λ (x : ℕ). eqb (x % 2) 1) (shr-shr n 1 i ∙ ap (λ (j : ℕ). n / 2 ^ j) (one-add i)) ∙ none (suc i)) in
+        let first : n % 2 ≡ 0 =
+        unset (n % 2) (omega arith) (ap (λ (x : ℕ). eqb (x % 2) 1) (sym (div-one n)) ∙ none 0) in
+        let rest : n / 2 ≡ 0 =
+        go k (n / 2) (omega arith)
+        (λ i. ap (λ (x : ℕ). eqb (x % 2) 1) (shr-shr n 1 i ∙ ap (λ (j : ℕ). n / 2 ^ j) (one-add i))
+        ∙ none (suc i)) in
         omega arith

@@ -11,7 +11,9 @@ small : (c : tie.After-salvage) → Small (c .salvage .result)
 small c = rw (c .salvage .ensures .0) (salvaged-small _ _ _)
 
 add-result : tie.Need-add-result
-add-result c = let s = small (c .before .before .before .before .before .before .before) in omega (arith, s .refusal-le, s .place-le)
+add-result c =
+    let s = small (c .before .before .before .before .before .before .before) in
+    omega (arith, s .refusal-le, s .place-le)
 
 returns : tie.Need-returns
 returns c = let r = c .before .before .before .before .before .before .before .salvage in
@@ -21,7 +23,9 @@ mul-result-2 : tie.Need-mul-result-2
 mul-result-2 c = let s = small (c .before .before .before .before .before .before) in omega (arith, s .stretches-le)
 
 add-result-2 : tie.Need-add-result-2
-add-result-2 c = let s = small (c .before .before .before .before .before .before) in omega (arith, s .stretches-le, s .events-le)
+add-result-2 c =
+    let s = small (c .before .before .before .before .before .before) in
+    omega (arith, s .stretches-le, s .events-le)
 
 returns-2 : tie.Need-returns-2
 returns-2 c = let r = c .before .before .before .before .before .before .salvage in

@@ -1,4 +1,5 @@
--- `cell::Cell::start` meets its contract: a wrapping difference is the one number below 65,536 that the definition gives.
+-- `cell::Cell::start` meets its contract: a wrapping difference is the one number below 65,536 that the definition
+-- gives.
 use borrow.Author.Needs.{needs}
 use mathlib.Core.Path.{sym, _∙_}
 use native.Mathlib.Nat.{mod-eq-of-lt}
@@ -16,7 +17,8 @@ returns c =
     ∙ rw (
       c₁ .is-long .ensures,
       c₂ .start-counter .ensures,
-      minus-unique {M = modulus} (c₃ .before .args .period) 1 (search needs) (c₃ .wrapping-sub-u16 .ensures ∙ sym (mod-eq-of-lt (search needs))),
+      minus-unique {M = modulus} (c₃ .before .args .period) 1 (search needs)
+          (c₃ .wrapping-sub-u16 .ensures ∙ sym (mod-eq-of-lt (search needs))),
     )
 
 pub start-spec : {M : Type 1} → statement M

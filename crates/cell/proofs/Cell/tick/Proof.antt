@@ -1,5 +1,5 @@
--- `cell::Cell::tick` meets its contract: its count, its mark, its counter and its turn are those of `ticked-made`, whichever way each test
--- went.
+-- `cell::Cell::tick` meets its contract: its count, its mark, its counter and its turn are those of `ticked-made`,
+-- whichever way each test went.
 use borrow.Author.Needs.{needs}
 use mathlib.Core.Logic.{⊎-elim}
 use mathlib.Core.Path.{_∙_}
@@ -16,7 +16,8 @@ returns c =
     let reached = marked .before in
     let counted = reached .before in
     c .make .ensures
-    ∙ ticked-made modulus (counted .before .args .self) (counted .if1 .counter) (reached .if2 .reached) (marked .if3 .matched) (set .if4 .next) (turned .if5 .turn)
+    ∙ ticked-made modulus (counted .before .args .self) (counted .if1 .counter) (reached .if2 .reached)
+    (marked .if3 .matched) (set .if4 .next) (turned .if5 .turn)
     (⊎-elim (λ w. rw (w .0 .taken) (w .2 ∙ w .1 .ensures)) (λ w. rw (w .0 .left) (w .1)) (counted .if1 .came))
     (⊎-elim (λ w. rw (w .0 .taken) (w .1)) (λ w. rw (w .0 .left) (w .1 ∙ w .0 .left)) (reached .if2 .came))
     (⊎-elim (λ w. rw (w .0 .taken) (w .2)) (λ w. rw (w .0 .left) (w .1 ∙ w .0 .left)) (marked .if3 .came))

@@ -14,11 +14,19 @@ returns c = let a = c .before .args in sym (ap length (closed-none (a .offset) (
 
 add-result : tie.Need-add-result
 add-result c = let a = c .before .before .before .args in
-    omega (arith, c .number-length2 .ensures, c .before .number-length .ensures, length-numberBytes (a .offset), length-numberBytes (a .size))
+    omega (
+      arith,
+      c .number-length2 .ensures,
+      c .before .number-length .ensures,
+      length-numberBytes (a .offset),
+      length-numberBytes (a .size),
+    )
 
 returns-2 : tie.Need-returns-2
 returns-2 c = let a = c .before .before .before .args in
-    rw (c .before .number-length .ensures, c .number-length2 .ensures) (sym (ap length (closed-some (a .offset) (a .size) (c .before .before .if1 .left)) ∙ length-append (numberBytes (a .offset)) (numberBytes (a .size))))
+    rw (c .before .number-length .ensures, c .number-length2 .ensures)
+    (sym (ap length (closed-some (a .offset) (a .size) (c .before .before .if1 .left))
+    ∙ length-append (numberBytes (a .offset)) (numberBytes (a .size))))
 
 pub stretch-length-spec : {M : Type 1} → statement M
 stretch-length-spec =
