@@ -13,7 +13,8 @@ use Rattle.config.specs.Draft.{occurs}
 -- what is left of the first n elements, from element i on
 module _ (n : ℕ) (l : List ℕ) (all : n ≤ length l) where
   pub first-of-rest : (i : ℕ) → i < n → drop i (take n l) ≡ getD l i 0 ∷ drop (i + 1) (take n l)
-  first-of-rest i h = drop-cons (take n l) i 0 (simp length-take (omega arith)) ∙ rw add-one (simp (getD-take n l i 0 h))
+  first-of-rest i h =
+      drop-cons (take n l) i 0 (simp length-take (omega arith)) ∙ rw add-one (simp (getD-take n l i 0 h))
 
   pub none-of-rest : (i : ℕ) → n ≤ i → drop i (take n l) ≡ []
   none-of-rest i h = drop-of-length-le (take n l) {i = i} (simp length-take (omega arith))
@@ -24,7 +25,8 @@ module _ (v n : ℕ) (l : List ℕ) (all : n ≤ length l) where
   unfolding occurs
   occurs-here i h e = rw (first-of-rest n l all i h, eq-eqb v (getD l i 0) (sym e))
 
-  pub occurs-next : (i : ℕ) → i < n → (getD l i 0 ≡ v → ⊥) → occurs v (drop i (take n l)) ≡ occurs v (drop (i + 1) (take n l))
+  pub occurs-next : (i : ℕ) → i < n → (getD l i 0 ≡ v → ⊥)
+      → occurs v (drop i (take n l)) ≡ occurs v (drop (i + 1) (take n l))
   unfolding occurs
   occurs-next i h e = rw (first-of-rest n l all i h, ne-eqb v (getD l i 0) (λ q. e (sym q)))
 

@@ -16,14 +16,17 @@ use Rattle.oil_grammar.specs.Reader.{walked, filled, ranged, refusedIn, afterUs
 module _ (t : List ℕ) where
   module _ (n : ℕ) (u : Found) (e : u ≡ unborne n t 0 fresh n) where
     pub uses-in-order : u .refusal ≡ 0 → (r : OilRead) → r ≡ ranged (filled t n) → r ≡ afterUses t n (unborne n t 0 fresh n)
-    uses-in-order z r q = let z′ : unborne n t 0 fresh n .refusal ≡ 0 = rw e at z in q ∙ sym (rw (eq-eqb (unborne n t 0 fresh n .refusal) 0 z′))
+    uses-in-order z r q =
+        let z′ : unborne n t 0 fresh n .refusal ≡ 0 = rw e at z in
+        q ∙ sym (rw (eq-eqb (unborne n t 0 fresh n .refusal) 0 z′))
 
     pub uses-refused : (u .refusal ≡ 0 → ⊥) → (r : OilRead) → r ≡ refusedIn t (u .refusal) (u .place) → r ≡ afterUses t n (unborne n t 0 fresh n)
     uses-refused d r q =
         q ∙ rw e (sym (rw (ne-eqb (unborne n t 0 fresh n .refusal) 0 (λ z. d (rw e z)))))
 
   module _ (v : Found) (e : v ≡ walked t) where
-    pub words-in-order : v .refusal ≡ 0 → (r : OilRead) → r ≡ afterUses t (v .words) (unborne (v .words) t 0 fresh (v .words)) → r ≡ readOil t
+    pub words-in-order : v .refusal ≡ 0 → (r : OilRead)
+        → r ≡ afterUses t (v .words) (unborne (v .words) t 0 fresh (v .words)) → r ≡ readOil t
     unfolding readOil
     words-in-order z r q = q ∙ sym (ap (afterWalk t) (sym e) ∙ rw (eq-eqb (v .refusal) 0 z))
 
@@ -44,8 +47,8 @@ module _ (t d : List ℕ) (r : OilRead) (e : r ≡ readOil t) (x : ℕ) where
       let f = ne-eqb (readOil t .refusal) 0 (λ z. n (rw e z)) in
       (q ∙ rw e (sym (rw f)), (sym (rw f), placed))
 
-  pub written-answer : r .refusal ≡ 0 → (w : Written) → w ≡ writeConfig (r .config) (length d) → x ≡ packed (w .refusal) (w .place)
-      → (d′ : List ℕ) → d′ ≡ wroteConfig (r .config) d
+  pub written-answer : r .refusal ≡ 0 → (w : Written) → w ≡ writeConfig (r .config) (length d)
+      → x ≡ packed (w .refusal) (w .place) → (d′ : List ℕ) → d′ ≡ wroteConfig (r .config) d
       → (x ≡ oilResult t (length d)) × ((d′ ≡ oilOutput t d) × (r .line ∷ r .column ∷ [] ≡ oilPlace t))
   unfolding oilResult oilOutput
   written-answer z w g q d′ k =

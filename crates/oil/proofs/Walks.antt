@@ -29,18 +29,23 @@ left-none : (n i : ℕ) → n ≤ i → n - i ≡ 0
 left-none n i h = omega arith
 
 module _ (t : List ℕ) where
-  pub word-inside : (at : ℕ) → at ≤ length t → (w : Word) → w ≡ nextWord t at → (w .start ≤ w .end) × (w .end ≤ length t)
+  pub word-inside : (at : ℕ) → at ≤ length t → (w : Word) → w ≡ nextWord t at
+      → (w .start ≤ w .end) × (w .end ≤ length t)
   word-inside at h w e = let n = next-inside t at h in rw e (n .forward, n .inside)
 
   module _ (n i at : ℕ) (s : Progress) (r : Bool) (x : List ℕ) (w : Word) (e : w ≡ nextWord t at) where
     pub borne-found : i < n → (bears r s && same (spelling t w) x) ≡ true → true ≡ borne (n - i) t at s r x
     unfolding borne
-    borne-found h q = let p : (bears r s && same (spelling t (nextWord t at)) x) ≡ true = rw e at q in rw (left-suc n i h, p)
+    borne-found h q =
+        let p : (bears r s && same (spelling t (nextWord t at)) x) ≡ true = rw e at q in
+        rw (left-suc n i h, p)
 
     pub borne-turn : i < n → (bears r s && same (spelling t w) x) ≡ false → (s′ : Progress) → s′ ≡ after s (w .sort)
         → borne (n - (i + 1)) t (w .end) s′ r x ≡ borne (n - i) t at s r x
     unfolding borne
-    borne-turn h q s′ f = let p : (bears r s && same (spelling t (nextWord t at)) x) ≡ false = rw e at q in rw (left-suc n i h, p, f, e)
+    borne-turn h q s′ f =
+        let p : (bears r s && same (spelling t (nextWord t at)) x) ≡ false = rw e at q in
+        rw (left-suc n i h, p, f, e)
 
   pub borne-done : (n i at : ℕ) (s : Progress) (r : Bool) (x : List ℕ) → n ≤ i → false ≡ borne (n - i) t at s r x
   unfolding borne
@@ -61,8 +66,8 @@ module _ (t : List ℕ) where
   unborne-done n m i at s h = rw (left-none n i h)
 
   pub mask-turn : (n i at : ℕ) (s : Progress) (x : List ℕ) (b m : ℕ) (w : Word) → w ≡ nextWord t at → i < n
-      → (s′ : Progress) → s′ ≡ after s (w .sort) → (b′ : ℕ) → b′ ≡ numbered s b → (m′ : ℕ) → m′ ≡ marked s (spelling t w) x b m
-      → mask (n - (i + 1)) t (w .end) s′ x b′ m′ ≡ mask (n - i) t at s x b m
+      → (s′ : Progress) → s′ ≡ after s (w .sort) → (b′ : ℕ) → b′ ≡ numbered s b → (m′ : ℕ)
+      → m′ ≡ marked s (spelling t w) x b m → mask (n - (i + 1)) t (w .end) s′ x b′ m′ ≡ mask (n - i) t at s x b m
   unfolding mask
   mask-turn n i at s x b m w e h s′ f b′ g m′ k = rw (left-suc n i h, k, g, f, e)
 
@@ -89,7 +94,8 @@ module _ (t : List ℕ) where
   pub walk-start : (s : Progress) → s ≡ fresh → WalksOn 0 s 0
   walk-start s e = record { inside = omega arith; few = omega arith; on = rw (e, sub-zero) }
 
-  module _ (at : ℕ) (s : Progress) (n : ℕ) (k : WalksOn at s n) (w : Word) (e : w ≡ nextWord t at) (f : ℕ) (q : f ≡ faultIn t s n w) where
+  module _ (at : ℕ) (s : Progress) (n : ℕ) (k : WalksOn at s n) (w : Word) (e : w ≡ nextWord t at) (f : ℕ)
+      (q : f ≡ faultIn t s n w) where
     pub walk-refused : (f ≡ 0 → ⊥) → refusedAt f (w .start) ≡ walked t
     unfolding walk
     walk-refused d =
@@ -110,7 +116,8 @@ module _ (t : List ℕ) where
         let o = x .some (going t at s n p (λ v. d (rw e v))) in
         rw e (omega (arith, x .begins), x .inside)
 
-    pub walk-next : f ≡ 0 → (w .sort ≡ endSort → ⊥) → (s′ : Progress) → s′ ≡ after s (w .sort) → WalksOn (w .end) s′ (n + 1)
+    pub walk-next : f ≡ 0 → (w .sort ≡ endSort → ⊥) → (s′ : Progress) → s′ ≡ after s (w .sort)
+        → WalksOn (w .end) s′ (n + 1)
     unfolding walk
     walk-next z d s′ g =
         let o = walk-further z d in
@@ -121,10 +128,15 @@ module _ (t : List ℕ) where
           few = omega (arith, k .few);
           on =
               rw (g, e, add-one)
-              (rw (eq-eqb (faultIn t s n (nextWord t at)) none p, ne-eqb (nextWord t at .sort) endSort (λ v. d (rw e v)), l, add-one) at (k .on));
+              (rw (
+                eq-eqb (faultIn t s n (nextWord t at)) none p,
+                ne-eqb (nextWord t at .sort) endSort (λ v. d (rw e v)),
+                l,
+                add-one,
+              ) at (k .on));
         }
 
 -- what a word puts into a configuration, where the want is known
-pub put-at : (u : List ℕ → ℕ) (s : Progress) (c : Config) (w : ℕ) (x : List ℕ) (v : Want) → s .want ≡ v → (r : Config) → r ≡ putAt v u s c w x
-    → r ≡ put u s c w x
+pub put-at : (u : List ℕ → ℕ) (s : Progress) (c : Config) (w : ℕ) (x : List ℕ) (v : Want) → s .want ≡ v → (r : Config)
+    → r ≡ putAt v u s c w x → r ≡ put u s c w x
 put-at u s c w x v e r q = q ∙ sym (ap (λ (z : Want). putAt z u s c w x) e)

@@ -23,7 +23,7 @@ pub counts-start : (bs : List ℕ) → Counts bs 0 0 0 0 0
 counts-start bs =
     record { at-le = omega arith; gap-le = omega arith; events-left = zero-add _; stretches-left = zero-add _ }
 
-module _ (bs : List ℕ) (at left gap events stretches : ℕ) (p : Counts bs at left gap events stretches) where
+module _ {bs : List ℕ} {at left gap events stretches : ℕ} (p : Counts bs at left gap events stretches) where
   -- neither length is large
   pub few-events : events ≤ length bs
   few-events = omega (arith, p .events-left, kept-fit bs)
@@ -31,7 +31,7 @@ module _ (bs : List ℕ) (at left gap events stretches : ℕ) (p : Counts bs at 
   pub few-stretches : length bs ≤ maxTrace → stretches ≤ 12224
   few-stretches h = omega (arith, p .stretches-left, list-fits bs h)
 
-  module _ (here : ℕ) (within : at < length bs) (same : here ≡ belonging left (drop at bs)) where
+  module _ {here : ℕ} (within : at < length bs) (same : here ≡ belonging left (drop at bs)) where
     pub counts-dropped : here ≡ 0 → Counts bs (at + 1) left (gap + 1) events stretches
     counts-dropped z =
         record {

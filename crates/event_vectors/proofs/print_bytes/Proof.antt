@@ -27,9 +27,6 @@ loop-less c = omega arith
 loop-again : tie.Need-loop-again Inv-loop μ-loop
 loop-again c = omega arith
 
-returns : tie.Need-returns Inv-loop μ-loop
-returns c = tt
-
 pub print-bytes-spec : {M : Type 1} → statement M
 print-bytes-spec =
     tie.close
@@ -42,4 +39,4 @@ print-bytes-spec =
     add-i
     loop-less
     loop-again
-    returns)
+    (λ c. tt))

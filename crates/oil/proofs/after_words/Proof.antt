@@ -27,7 +27,8 @@ returns : tie.Need-returns
 returns c =
     let a = c .before .before .before .before .before .before .args in
     let u = c .before .before .before .before .unborne in
-    uses-in-order (a .text .now) (a .words) (u .result) (u .ensures) (c .before .before .if1 .taken) _ (c .ranged .ensures ∙ ap (λ
+    uses-in-order (a .text .now) (a .words) (u .result) (u .ensures) (c .before .before .if1 .taken) _
+    (c .ranged .ensures ∙ ap (λ
     (c : Config). ranged c) (c .before .fill .ensures))
 
 returns-2 : tie.Need-returns-2

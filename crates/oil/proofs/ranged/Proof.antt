@@ -7,7 +7,8 @@ use Rattle.oil.proofs.ranged.Statement.{statement}
 use Rattle.oil.proofs.ranged.Tie as tie
 
 returns : tie.Need-returns
-returns c = rw (eq-eqb (firstFault (c .before .before .args .config)) 0 (sym (c .before .range-fault .ensures) ∙ c .if1 .taken))
+returns c =
+    rw (eq-eqb (firstFault (c .before .before .args .config)) 0 (sym (c .before .range-fault .ensures) ∙ c .if1 .taken))
 
 returns-2 : tie.Need-returns-2
 returns-2 c = rw (

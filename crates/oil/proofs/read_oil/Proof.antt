@@ -6,18 +6,21 @@ use Rattle.oil.proofs.read_oil.Statement.{statement}
 use Rattle.oil.proofs.read_oil.Tie as tie
 
 refused-requires : tie.Need-refused-requires
-refused-requires c κs = rw (c .before .before .walk .ensures) (walked-place (c .before .before .before .before .args .text .now))
+refused-requires c κs =
+    rw (c .before .before .walk .ensures) (walked-place (c .before .before .before .before .args .text .now))
 
 returns : tie.Need-returns
 returns c =
     let v = c .before .before .before .walk in
-    words-in-order (c .before .before .before .before .before .args .text .now) (v .result) (v .ensures) (c .before .if1 .taken) _
+    words-in-order (c .before .before .before .before .before .args .text .now) (v .result) (v .ensures)
+    (c .before .if1 .taken) _
     (c .after-words .ensures)
 
 returns-2 : tie.Need-returns-2
 returns-2 c =
     let v = c .before .before .before .walk in
-    words-refused (c .before .before .before .before .before .args .text .now) (v .result) (v .ensures) (c .before .if1 .left) _ (c .refused .ensures)
+    words-refused (c .before .before .before .before .before .args .text .now) (v .result) (v .ensures)
+    (c .before .if1 .left) _ (c .refused .ensures)
 
 pub read-oil-spec : {M : Type 1} → statement M
 read-oil-spec =

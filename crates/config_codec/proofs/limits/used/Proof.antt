@@ -26,7 +26,8 @@ array-read-if1 c = omega arith
 
 returns : tie.Need-returns Inv-loop μ-loop
 returns c = let a = c .before .before .before .args in
-    occurs-here (a .v) (a .n) (a .t3) (long (c .before .before .before)) (c .before .before .loop .i) (c .before .loop-test .taken) (c .if1 .taken) ∙ c .before .before .loop .inv
+    occurs-here (a .v) (a .n) (a .t3) (long (c .before .before .before)) (c .before .before .loop .i)
+    (c .before .loop-test .taken) (c .if1 .taken) ∙ c .before .before .loop .inv
 
 add-i : tie.Need-add-i Inv-loop μ-loop
 add-i c = omega arith
@@ -36,11 +37,13 @@ loop-less c = omega arith
 
 loop-again : tie.Need-loop-again Inv-loop μ-loop
 loop-again c = let a = c .before .before .before .args in
-    sym (occurs-next (a .v) (a .n) (a .t3) (long (c .before .before .before)) (c .before .before .loop .i) (c .before .loop-test .taken) (c .if1 .left)) ∙ c .before .before .loop .inv
+    sym (occurs-next (a .v) (a .n) (a .t3) (long (c .before .before .before)) (c .before .before .loop .i)
+    (c .before .loop-test .taken) (c .if1 .left)) ∙ c .before .before .loop .inv
 
 returns-2 : tie.Need-returns-2 Inv-loop μ-loop
 returns-2 c = let a = c .before .before .args in
-    occurs-done (a .v) (a .n) (a .t3) (long (c .before .before)) (c .before .loop .i) (c .loop-test .left) ∙ c .before .loop .inv
+    occurs-done (a .v) (a .n) (a .t3) (long (c .before .before)) (c .before .loop .i) (c .loop-test .left)
+    ∙ c .before .loop .inv
 
 pub used-spec : {M : Type 1} → statement M
 used-spec =

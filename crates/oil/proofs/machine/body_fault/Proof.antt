@@ -15,11 +15,13 @@ returns-2 c = simp (eq-eqb _ _ (c .before .if1 .taken), c .if2 .left)
 
 returns-3 : tie.Need-returns-3
 unfolding bodyFault
-returns-3 c = rw (c .once .ensures) (simp (ne-eqb _ _ (c .before .before .if1 .left), eq-eqb _ _ (c .before .if3 .taken)))
+returns-3 c =
+    rw (c .once .ensures) (simp (ne-eqb _ _ (c .before .before .if1 .left), eq-eqb _ _ (c .before .if3 .taken)))
 
 returns-4 : tie.Need-returns-4
 unfolding bodyFault
-returns-4 c = simp (ne-eqb _ _ (c .before .before .if1 .left), ne-eqb _ _ (c .before .if3 .left), eq-eqb _ _ (c .if4 .taken))
+returns-4 c =
+    simp (ne-eqb _ _ (c .before .before .if1 .left), ne-eqb _ _ (c .before .if3 .left), eq-eqb _ _ (c .if4 .taken))
 
 returns-5 : tie.Need-returns-5
 unfolding bodyFault

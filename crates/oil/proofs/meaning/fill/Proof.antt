@@ -27,7 +27,8 @@ put-requires : tie.Need-put-requires Inv-loop μ-loop
 put-requires c κs =
     let l = c .before .before .loop in
     let w = c .next-word in
-    word-inside (c .before .before .before .before .before .before .args .text .now) (l .at) (l .inv .0) (w .result) (w .ensures)
+    word-inside (c .before .before .before .before .before .before .args .text .now) (l .at) (l .inv .0) (w .result)
+    (w .ensures)
 
 loop-again : tie.Need-loop-again Inv-loop μ-loop
 loop-again c =
@@ -45,7 +46,8 @@ returns : tie.Need-returns Inv-loop μ-loop
 returns c =
     let a = c .before .before .before .before .before .args in
     let l = c .before .loop in
-    fill-done (a .text .now) (a .words) (l .i) (l .at) (l .s) (λ (x : List ℕ). mask (a .words) (a .text .now) 0 fresh x 0 0) (l .c)
+    fill-done (a .text .now) (a .words) (l .i) (l .at) (l .s)
+    (λ (x : List ℕ). mask (a .words) (a .text .now) 0 fresh x 0 0) (l .c)
     (c .loop-test .left) ∙ l .inv .1
 
 pub fill-spec : {M : Type 1} → statement M

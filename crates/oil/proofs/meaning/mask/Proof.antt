@@ -12,7 +12,8 @@ use Rattle.oil.proofs.meaning.mask.Statement.{statement}
 use Rattle.oil.proofs.meaning.mask.Tie as tie
 
 abbrev Inv-loop : tie.InvT-loop
-Inv-loop text words start end s₀ at₀ b₀ m₀ i₀ s at b m i = (at ≤ length text) × (mask (words - i) text at s (take (end - start)
+Inv-loop text words start end s₀ at₀ b₀ m₀ i₀ s at b m i =
+    (at ≤ length text) × (mask (words - i) text at s (take (end - start)
     (drop start text)) b m ≡ mask words text 0 fresh (take (end - start) (drop start text)) 0 0)
 
 abbrev μ-loop : tie.MeasureT-loop
@@ -38,15 +39,18 @@ loop-again c =
       word-inside (a .text .now) (l .at) (l .inv .0) (w .result) (w .ensures) .1,
       mask-turn (a .text .now) (a .words) (l .i) (l .at) (l .s)
           (take (a .end - a .start) (drop (a .start) (a .text .now))) (l .b) (l .m) (w .result) (w .ensures)
-          (c .before .before .before .before .loop-test .taken) (c .after .result) (c .after .ensures) (c .before .numbered .result)
-          (c .before .numbered .ensures) (c .before .before .marked .result) (c .before .before .marked .ensures) ∙ l .inv .1,
+          (c .before .before .before .before .loop-test .taken) (c .after .result) (c .after .ensures)
+          (c .before .numbered .result)
+          (c .before .numbered .ensures) (c .before .before .marked .result) (c .before .before .marked .ensures)
+          ∙ l .inv .1,
     )
 
 returns : tie.Need-returns Inv-loop μ-loop
 returns c =
     let a = c .before .before .before .before .args in
     let l = c .before .loop in
-    mask-done (a .text .now) (a .words) (l .i) (l .at) (l .s) (take (a .end - a .start) (drop (a .start) (a .text .now))) (l .b) (l .m)
+    mask-done (a .text .now) (a .words) (l .i) (l .at) (l .s)
+    (take (a .end - a .start) (drop (a .start) (a .text .now))) (l .b) (l .m)
     (c .loop-test .left) ∙ l .inv .1
 
 pub mask-spec : {M : Type 1} → statement M

@@ -10,7 +10,8 @@ use Rattle.oil.proofs.meaning.put_name.Tie as tie
 returns : tie.Need-returns
 returns c =
     let a = c .before .before .before .before .args in
-    rw (eq-eqb (a .kind) 3 (c .before .before .if1 .taken)) (c .with-users .ensures ∙ ap (λ (m : ℕ). withUsers (a .c) (a .c .resources) m)
+    rw (eq-eqb (a .kind) 3 (c .before .before .if1 .taken))
+    (c .with-users .ensures ∙ ap (λ (m : ℕ). withUsers (a .c) (a .c .resources) m)
     (c .before .mask .ensures))
 
 returns-2 : tie.Need-returns-2

@@ -13,7 +13,8 @@ returns c = rw (eq-eqb (c .before .args .w) 3 (c .if1 .taken))
 returns-2 : tie.Need-returns-2
 returns-2 c =
     let a = c .before .before .before .args in
-    rw (ne-eqb (a .w) 3 (c .before .before .if1 .left)) (c .with-kind .ensures ∙ ap (λ (k : ℕ). withKind (a .c) (a .c .bodies) k)
+    rw (ne-eqb (a .w) 3 (c .before .before .if1 .left))
+    (c .with-kind .ensures ∙ ap (λ (k : ℕ). withKind (a .c) (a .c .bodies) k)
     (c .before .kind-of .ensures))
 
 pub put-object-spec : {M : Type 1} → statement M

@@ -11,7 +11,8 @@ use Rattle.oil.proofs.meaning.value.Statement.{statement}
 use Rattle.oil.proofs.meaning.value.Tie as tie
 
 abbrev Inv-loop : tie.InvT-loop
-Inv-loop text start end v₀ i₀ v i = ((start ≤ i) × (i ≤ end)) × ((v ≤ 255) × (held (decimal v (take (end - i) (drop i text))) ≡ held
+Inv-loop text start end v₀ i₀ v i =
+    ((start ≤ i) × (i ≤ end)) × ((v ≤ 255) × (held (decimal v (take (end - i) (drop i text))) ≡ held
     (decimal 0 (take (end - start) (drop start text)))))
 
 abbrev μ-loop : tie.MeasureT-loop
@@ -28,7 +29,8 @@ loop-again c =
       (
         let e = c .value-after .ensures in omega arith,
         digits-turn (a .text .now) (a .end) (l .i) (l .v)
-            (let p = c .before .before .before .before .before .pre in omega arith) (c .before .before .loop-test .taken) (c .value-after .result)
+            (let p = c .before .before .before .before .before .pre in omega arith)
+            (c .before .before .loop-test .taken) (c .value-after .result)
             (c .value-after .ensures) ∙ l .inv .1 .1,
       ),
     )

@@ -10,7 +10,9 @@ use Rattle.oil.proofs.next.comment.Statement.{statement}
 use Rattle.oil.proofs.next.comment.Tie as tie
 
 returns : tie.Need-returns
-returns c = sym (comment-past (c .before .before .args .text .now) (c .before .before .args .at) (let h = c .if1 .taken in omega arith))
+returns c =
+    sym (comment-past (c .before .before .args .text .now) (c .before .before .args .at)
+    (let h = c .if1 .taken in omega arith))
 
 add-result : tie.Need-add-result
 add-result c =
@@ -20,12 +22,14 @@ add-result c =
 returns-2 : tie.Need-returns-2
 returns-2 c =
     let a = c .before .before .before .before .before .args in
-    line-comment (a .text .now) (a .at) (omega arith) (c .before .if2 .taken) (c .line-end .result) (c .line-end .ensures)
+    line-comment (a .text .now) (a .at) (omega arith) (c .before .if2 .taken) (c .line-end .result)
+    (c .line-end .ensures)
 
 returns-3 : tie.Need-returns-3
 returns-3 c =
     let a = c .before .before .before .before .before .before .before .args in
-    open-comment (a .text .now) (a .at) (omega arith) (c .before .before .before .if2 .left) (c .before .before .if3 .taken) (sym
+    open-comment (a .text .now) (a .at) (omega arith) (c .before .before .before .if2 .left)
+    (c .before .before .if3 .taken) (sym
     (c .before .closing .ensures) ∙ c .if4 .taken)
 
 add-result-2 : tie.Need-add-result-2
@@ -36,7 +40,8 @@ add-result-2 c =
 returns-4 : tie.Need-returns-4
 returns-4 c =
     let a = c .before .before .before .before .before .before .before .args in
-    rw (c .before .closing .ensures) (block-comment (a .text .now) (a .at) (omega arith) (c .before .before .before .if2 .left)
+    rw (c .before .closing .ensures)
+    (block-comment (a .text .now) (a .at) (omega arith) (c .before .before .before .if2 .left)
     (c .before .before .if3 .taken) (λ e. c .if4 .left (c .before .closing .ensures ∙ e)))
 
 returns-5 : tie.Need-returns-5

@@ -23,13 +23,17 @@ returns : tie.Need-returns Inv-loop μ-loop
 returns c =
     let a = c .before .before .before .before .args in
     let l = c .before .before .before .loop in
-    run-stopped isLineByte (a .text .now) (a .at) (l .i) (l .inv .1) (c .before .before .loop-test .taken) (line-feed _ (c .if1 .taken))
+    run-stopped isLineByte (a .text .now) (a .at) (l .i) (l .inv .1) (c .before .before .loop-test .taken)
+    (line-feed _ (c .if1 .taken))
 
 loop-again : tie.Need-loop-again Inv-loop μ-loop
 loop-again c =
     let a = c .before .before .before .before .args in
-    let l = c .before .before .before .loop in
-    (omega arith, run-more isLineByte (a .text .now) (a .at) (l .i) (l .inv .1) (c .before .before .loop-test .taken) (line-byte _ (c .if1 .left)))
+    let l = c .before .before .before .loop in (
+      omega arith,
+      run-more isLineByte (a .text .now) (a .at) (l .i) (l .inv .1) (c .before .before .loop-test .taken)
+          (line-byte _ (c .if1 .left)),
+    )
 
 returns-2 : tie.Need-returns-2 Inv-loop μ-loop
 returns-2 c =

@@ -10,7 +10,8 @@ use Rattle.oil.proofs.next.word_at.Statement.{statement}
 use Rattle.oil.proofs.next.word_at.Tie as tie
 
 returns : tie.Need-returns
-returns c = word-past (c .before .before .args .text .now) (c .before .before .args .at) (let h = c .if1 .taken in omega arith)
+returns c =
+    word-past (c .before .before .args .text .now) (c .before .before .args .at) (let h = c .if1 .taken in omega arith)
 
 part-spelled-sort-end : tie.Need-part-spelled-sort-end
 part-spelled-sort-end c =
@@ -21,21 +22,24 @@ returns-2 : tie.Need-returns-2
 returns-2 c =
     let a = c .before .before .before .before .before .before .before .before .args in
     word-letters (a .text .now) (a .at) (omega arith) (sym (c .before .before .before .before .is-letter .ensures)
-    ∙ c .before .before .before .if2 .taken) (c .before .before .name-end .result) (c .before .before .name-end .ensures)
+    ∙ c .before .before .before .if2 .taken) (c .before .before .name-end .result)
+    (c .before .before .name-end .ensures)
     (c .spelled-sort .result) (c .spelled-sort .ensures)
 
 returns-3 : tie.Need-returns-3
 returns-3 c =
     let a = c .before .before .before .before .before .before .before .before .args in
     word-digits (a .text .now) (a .at) (omega arith) (sym (c .before .before .before .before .is-letter .ensures)
-    ∙ c .before .before .before .if2 .left) (sym (c .before .before .is-digit .ensures) ∙ c .before .if3 .taken) (c .number-end .result)
+    ∙ c .before .before .before .if2 .left) (sym (c .before .before .is-digit .ensures) ∙ c .before .if3 .taken)
+    (c .number-end .result)
     (c .number-end .ensures)
 
 returns-4 : tie.Need-returns-4
 returns-4 c =
     let a = c .before .before .before .before .before .before .before .before .before .args in
     word-sign (a .text .now) (a .at) (omega arith) (sym (c .before .before .before .before .before .is-letter .ensures)
-    ∙ c .before .before .before .before .if2 .left) (sym (c .before .before .before .is-digit .ensures) ∙ c .before .before .if3 .left)
+    ∙ c .before .before .before .before .if2 .left) (sym (c .before .before .before .is-digit .ensures)
+    ∙ c .before .before .if3 .left)
     (c .before .sign .result) (c .before .sign .ensures) (c .sign-at .result) (c .sign-at .ensures)
 
 pub word-at-spec : {M : Type 1} → statement M

@@ -10,7 +10,8 @@ use Rattle.oil.proofs.place.line_of.Statement.{statement}
 use Rattle.oil.proofs.place.line_of.Tie as tie
 
 abbrev Inv-loop : tie.InvT-loop
-Inv-loop text at line₀ i₀ line i = (i ≤ at) × ((line ≤ i + 1) × (lineAfter line (drop i (take at text)) ≡ lineOf text at))
+Inv-loop text at line₀ i₀ line i =
+    (i ≤ at) × ((line ≤ i + 1) × (lineAfter line (drop i (take at text)) ≡ lineOf text at))
 
 abbrev μ-loop : tie.MeasureT-loop
 μ-loop text at line₀ i₀ line i = at - i
@@ -26,7 +27,8 @@ loop-again c =
       (
         rw (c .line-after .ensures) (line-le (getD (a .text .now) (l .i) 0) (l .line) (l .i) (l .inv .1 .0)),
         rw
-            (c .line-after .ensures) (sym (line-step (a .text .now) (a .at) (c .before .before .before .before .before .pre) (l .line) (l .i)
+            (c .line-after .ensures)
+            (sym (line-step (a .text .now) (a .at) (c .before .before .before .before .before .pre) (l .line) (l .i)
             (c .before .before .loop-test .taken)) ∙ l .inv .1 .1),
       ),
     )
@@ -35,7 +37,8 @@ returns : tie.Need-returns Inv-loop μ-loop
 returns c =
     let a = c .before .before .before .args in
     let l = c .before .loop in
-    sym (line-end (a .text .now) (a .at) (c .before .before .before .pre) (l .line) (l .i) (c .loop-test .left)) ∙ l .inv .1 .1
+    sym (line-end (a .text .now) (a .at) (c .before .before .before .pre) (l .line) (l .i) (c .loop-test .left))
+    ∙ l .inv .1 .1
 
 pub line-of-spec : {M : Type 1} → statement M
 line-of-spec =

@@ -9,7 +9,8 @@ use Rattle.oil.proofs.uses.look.Tie as tie
 
 returns : tie.Need-returns
 unfolding unborneAt
-returns c = (c .before .before .before .pre .0, rw (sym (c .before .uses-resource .ensures) ∙ not-true _ (c .if1 .taken)))
+returns c =
+    (c .before .before .before .pre .0, rw (sym (c .before .uses-resource .ensures) ∙ not-true _ (c .if1 .taken)))
 
 returns-2 : tie.Need-returns-2
 unfolding unborneAt
@@ -28,7 +29,8 @@ returns-3 c = (
   c .before .before .before .before .before .before .before .pre .0,
   rw (
     sym
-        (c .before .before .before .before .before .uses-resource .ensures) ∙ not-false _ (c .before .before .before .before .if1 .left),
+        (c .before .before .before .before .before .uses-resource .ensures)
+        ∙ not-false _ (c .before .before .before .before .if1 .left),
     sym
         (c .before .before .before .search .ensures) ∙ not-false _ (c .before .if2 .left),
   ),

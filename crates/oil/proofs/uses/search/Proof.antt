@@ -29,25 +29,31 @@ array-read-b : tie.Need-array-read-b Inv-loop μ-loop
 array-read-b c = let s = c .before .before .before .before .before .pre .0 .few in omega arith
 
 sub-same : tie.Need-sub-same Inv-loop μ-loop
-sub-same c = let f = c .before .before .before .before .before .pre .0 .forward (c .before .loop .i) (c .loop-test .taken) in search needs
+sub-same c =
+    let f = c .before .before .before .before .before .pre .0 .forward (c .before .loop .i) (c .loop-test .taken) in
+    search needs
 
 part-same-start : tie.Need-part-same-start Inv-loop μ-loop
 part-same-start c =
     let l = c .before .loop in
     let f = c .before .before .before .before .before .pre .0 .forward (l .i)
-    (c .loop-test .taken) in let g = c .before .before .before .before .before .pre .0 .inside (l .i) (c .loop-test .taken) in omega arith
+    (c .loop-test .taken) in let g = c .before .before .before .before .before .pre .0 .inside (l .i)
+    (c .loop-test .taken) in omega arith
 
 part-same-end : tie.Need-part-same-end Inv-loop μ-loop
 part-same-end c =
     let l = c .before .loop in
     let f = c .before .before .before .before .before .pre .0 .forward (l .i)
-    (c .loop-test .taken) in let g = c .before .before .before .before .before .pre .0 .inside (l .i) (c .loop-test .taken) in omega arith
+    (c .loop-test .taken) in let g = c .before .before .before .before .before .pre .0 .inside (l .i)
+    (c .loop-test .taken) in omega arith
 
 returns : tie.Need-returns Inv-loop μ-loop
 returns c =
     let a = c .before .before .before .before .before .before .before .before .before .args in
-    kept-borne (a .text .now) (a .words) (a .k) (c .before .before .before .before .before .before .before .before .before .pre .0)
-    (c .before .before .before .before .before .loop .i) (c .before .before .before .before .loop-test .taken) (take (a .end - a .start)
+    kept-borne (a .text .now) (a .words) (a .k)
+    (c .before .before .before .before .before .before .before .before .before .pre .0)
+    (c .before .before .before .before .before .loop .i) (c .before .before .before .before .loop-test .taken)
+    (take (a .end - a .start)
     (drop (a .start) (a .text .now))) (c .before .same .ensures .0 (c .if1 .taken))
 
 returns-2 : tie.Need-returns-2 Inv-loop μ-loop

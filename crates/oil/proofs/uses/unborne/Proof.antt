@@ -22,22 +22,32 @@ abbrev μ-loop : tie.MeasureT-loop
 
 loop-holds : tie.Need-loop-holds Inv-loop μ-loop
 loop-holds c =
-    let a = c .before .before .before .args in
-    (omega arith, (rw (c .before .nothing .ensures) (nothing-sound (a .text .now) (a .words)), rw (c .fresh .ensures, sub-zero)))
+    let a = c .before .before .before .args in (
+      omega arith,
+      (
+        rw (c .before .nothing .ensures) (nothing-sound (a .text .now) (a .words)),
+        rw (c .fresh .ensures, sub-zero),
+      ),
+    )
 
 look-requires : tie.Need-look-requires Inv-loop μ-loop
 look-requires c κs =
     let l = c .before .before .loop in
-    let w = c .next-word in
-    (l .inv .1 .0, word-inside (c .before .before .before .before .before .before .args .text .now) (l .at) (l .inv .0) (w .result) (w .ensures))
+    let w = c .next-word in (
+      l .inv .1 .0,
+      word-inside (c .before .before .before .before .before .before .args .text .now) (l .at) (l .inv .0)
+          (w .result) (w .ensures),
+    )
 
 returns : tie.Need-returns Inv-loop μ-loop
 returns c =
     let a = c .before .before .before .before .before .before .before .before .before .args in
     let l = c .before .before .before .before .before .loop in
     let w = c .before .before .before .next-word in
-    c .refused-at .ensures ∙ unborne-found (a .text .now) (a .words) (a .words) (l .i) (l .at) (l .s) (w .result) (w .ensures)
-    (c .before .before .before .before .loop-test .taken) (sym (c .before .before .look .ensures .1) ∙ c .before .if1 .taken) ∙ l .inv .1 .1
+    c .refused-at .ensures ∙ unborne-found (a .text .now) (a .words) (a .words) (l .i) (l .at) (l .s) (w .result)
+    (w .ensures)
+    (c .before .before .before .before .loop-test .taken)
+    (sym (c .before .before .look .ensures .1) ∙ c .before .if1 .taken) ∙ l .inv .1 .1
 
 loop-again : tie.Need-loop-again Inv-loop μ-loop
 loop-again c =
@@ -49,7 +59,8 @@ loop-again c =
         c .before .before .before .look .ensures .0,
         unborne-turn
             (a .text .now) (a .words) (a .words) (l .i) (l .at) (l .s) (w .result) (w .ensures)
-            (c .before .before .before .before .before .loop-test .taken) (sym (c .before .before .before .look .ensures .1)
+            (c .before .before .before .before .before .loop-test .taken)
+            (sym (c .before .before .before .look .ensures .1)
             ∙ c .before .before .if1 .left) (c .after .result) (c .after .ensures) ∙ l .inv .1 .1,
       ),
     )

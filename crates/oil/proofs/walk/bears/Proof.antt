@@ -23,7 +23,8 @@ unfolding bears
 returns-3 c = simp (
   not-false (c .before .before .before .before .args .resource) (c .before .before .if1 .left),
   sym
-      (c .before .before .before .names-object .ensures) ∙ not-false (c .before .before .before .names-object .result) (c .before .if2 .left),
+      (c .before .before .before .names-object .ensures) ∙ not-false (c .before .before .before .names-object .result)
+      (c .before .if2 .left),
 )
 
 pub bears-spec : {M : Type 1} → statement M

@@ -12,7 +12,8 @@ use Rattle.oil.proofs.walk.borne.Statement.{statement}
 use Rattle.oil.proofs.walk.borne.Tie as tie
 
 abbrev Inv-loop : tie.InvT-loop
-Inv-loop text count resource start end s₀ at₀ i₀ s at i = (at ≤ length text) × (borne (count - i) text at s resource (take (end - start)
+Inv-loop text count resource start end s₀ at₀ i₀ s at i =
+    (at ≤ length text) × (borne (count - i) text at s resource (take (end - start)
     (drop start text)) ≡ borne count text 0 fresh resource (take (end - start) (drop start text)))
 
 abbrev μ-loop : tie.MeasureT-loop
@@ -35,8 +36,10 @@ returns c =
     let a = c .before .before .before .before .before .before .before .args in
     let l = c .before .before .before .before .loop in
     let w = c .before .before .next-word in
-    borne-found (a .text .now) (a .count) (l .i) (l .at) (l .s) (a .resource) (take (a .end - a .start) (drop (a .start) (a .text .now)))
-    (w .result) (w .ensures) (c .before .before .before .loop-test .taken) (sym (c .before .borne-here .ensures) ∙ c .if1 .taken) ∙ l .inv .1
+    borne-found (a .text .now) (a .count) (l .i) (l .at) (l .s) (a .resource)
+    (take (a .end - a .start) (drop (a .start) (a .text .now)))
+    (w .result) (w .ensures) (c .before .before .before .loop-test .taken)
+    (sym (c .before .borne-here .ensures) ∙ c .if1 .taken) ∙ l .inv .1
 
 loop-again : tie.Need-loop-again Inv-loop μ-loop
 loop-again c =
@@ -46,7 +49,8 @@ loop-again c =
       word-inside (a .text .now) (l .at) (l .inv .0) (w .result) (w .ensures) .1,
       borne-turn (a .text .now) (a .count) (l .i) (l .at) (l .s)
           (a .resource) (take (a .end - a .start) (drop (a .start) (a .text .now))) (w .result) (w .ensures)
-          (c .before .before .before .before .loop-test .taken) (sym (c .before .before .borne-here .ensures) ∙ c .before .if1 .left)
+          (c .before .before .before .before .loop-test .taken)
+          (sym (c .before .before .borne-here .ensures) ∙ c .before .if1 .left)
           (c .after .result) (c .after .ensures) ∙ l .inv .1,
     )
 
@@ -54,7 +58,8 @@ returns-2 : tie.Need-returns-2 Inv-loop μ-loop
 returns-2 c =
     let a = c .before .before .before .before .args in
     let l = c .before .loop in
-    borne-done (a .text .now) (a .count) (l .i) (l .at) (l .s) (a .resource) (take (a .end - a .start) (drop (a .start) (a .text .now)))
+    borne-done (a .text .now) (a .count) (l .i) (l .at) (l .s) (a .resource)
+    (take (a .end - a .start) (drop (a .start) (a .text .now)))
     (c .loop-test .left) ∙ l .inv .1
 
 pub borne-spec : {M : Type 1} → statement M

@@ -16,7 +16,8 @@ returns-2 : tie.Need-returns-2
 returns-2 c =
     let a = c .before .before .before .before .before .before .args in
     let m = c .same in
-    rw (sym (c .before .before .before .before .bears .ensures) ∙ not-false _ (c .before .before .before .if1 .left)) (same-result (m .result)
+    rw (sym (c .before .before .before .before .bears .ensures) ∙ not-false _ (c .before .before .before .if1 .left))
+    (same-result (m .result)
     (spelling (a .text .now) (a .w)) (take (a .end - a .start) (drop (a .start) (a .text .now))) (m .ensures))
 
 pub borne-here-spec : {M : Type 1} → statement M

@@ -17,9 +17,6 @@ abbrev μ-loop : tie.MeasureT-loop
 loop-holds : tie.Need-loop-holds Inv-loop μ-loop
 loop-holds c = counts-start (c .before .args .trace .now)
 
-belonging-requires : tie.Need-belonging-requires Inv-loop μ-loop
-belonging-requires c κs = tt
-
 add-gap : tie.Need-add-gap Inv-loop μ-loop
 add-gap c = let l = c .before .before .before .loop in omega (arith, l .inv .gap-le)
 
@@ -31,15 +28,13 @@ loop-less c = omega (arith, c .before .before .loop-test .taken)
 
 loop-again : tie.Need-loop-again Inv-loop μ-loop
 loop-again c = let o = c .before .before .before in let l = o .loop in
-    counts-dropped (o .before .before .args .trace .now) (l .at) (l .left) (l .gap) (l .events) (l .stretches) (l .inv)
-    (c .before .belonging .result) (c .before .before .loop-test .taken) (c .before .belonging .ensures) (c .if1 .taken)
+    counts-dropped (l .inv) (c .before .before .loop-test .taken) (c .before .belonging .ensures) (c .if1 .taken)
 
 add-events : tie.Need-add-events Inv-loop μ-loop
 add-events c = let o = c .before .before .before in let l = o .loop in
     omega (
       arith,
-      few-events (o .before .before .args .trace .now) (l .at) (l .left) (l .gap) (l .events) (l .stretches)
-          (l .inv),
+      few-events (l .inv),
     )
 
 sub-stretch-length : tie.Need-sub-stretch-length Inv-loop μ-loop
@@ -55,8 +50,7 @@ turned : (c : tie.After-stretch-length Inv-loop μ-loop) → let l = c .before .
     Counts (c .before .before .before .before .before .before .args .trace .now) (l .at + 1)
     (c .before .before .belonging .result - 1) 0 (l .events + 1) (l .stretches + length (gapBytes (l .at) (l .gap)))
 turned c = let o = c .before .before .before .before in let l = o .loop in
-    counts-kept (o .before .before .args .trace .now) (l .at) (l .left) (l .gap) (l .events) (l .stretches) (l .inv)
-    (c .before .before .belonging .result) (c .before .before .before .loop-test .taken)
+    counts-kept (l .inv) (c .before .before .before .loop-test .taken)
     (c .before .before .belonging .ensures) (c .before .if1 .left)
 
 add-stretches : tie.Need-add-stretches Inv-loop μ-loop
@@ -64,7 +58,7 @@ add-stretches c = let o = c .before .before .before .before in let l = o .loop i
     let next = turned c in
     omega (
       arith,
-      few-stretches (o .before .before .args .trace .now) _ _ _ _ _ next (o .before .before .pre),
+      few-stretches next (o .before .before .pre),
       c .stretch-length .ensures,
     )
 
@@ -92,15 +86,13 @@ add-t15 : tie.Need-add-t15 Inv-loop μ-loop
 add-t15 c = let o = c .before .before in let l = o .loop in
     omega (
       arith,
-      last-few (o .before .before .args .trace .now) (l .at) (l .left) (l .gap) (l .events) (l .stretches)
-          (l .inv) (c .before .loop-test .left) (o .before .before .pre),
+      last-few (l .inv) (c .before .loop-test .left) (o .before .before .pre),
       c .stretch-length2 .ensures,
     )
 
 returns : tie.Need-returns Inv-loop μ-loop
 returns c = let o = c .before .before in let l = o .loop in
-    rw (c .stretch-length2 .ensures) (counts-end (o .before .before .args .trace .now) (l .at) (l .left) (l .gap)
-    (l .events) (l .stretches) (l .inv) (c .before .loop-test .left))
+    rw (c .stretch-length2 .ensures) (counts-end (l .inv) (c .before .loop-test .left))
 
 pub measure-spec : {M : Type 1} → statement M
 measure-spec =
@@ -109,7 +101,7 @@ measure-spec =
     Inv-loop
     μ-loop
     loop-holds
-    belonging-requires
+    (λ c κs. tt)
     add-gap
     add-at
     loop-less

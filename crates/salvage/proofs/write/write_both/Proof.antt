@@ -27,9 +27,6 @@ loop-holds c = let s = c .before .before .before in let a = s .args in (
       (s .pre .stretches),
 )
 
-belonging-requires : tie.Need-belonging-requires Inv-loop μ-loop
-belonging-requires c κs = tt
-
 add-gap : tie.Need-add-gap Inv-loop μ-loop
 add-gap c =
     let l = c .before .before .before .loop in
@@ -45,12 +42,9 @@ loop-again : tie.Need-loop-again Inv-loop μ-loop
 loop-again c =
     let b = c .before in
     let o = b .before .before in
-    let l = o .loop in
-    let a = o .before .before .before .before .args in (
-      events-turn-dropped (a .trace .now) (a .events .now) (l .at) (l .left) (l .kept) (l .events) (l .inv .0)
-          (b .belonging .result) (b .before .loop-test .taken) (b .belonging .ensures) (c .if1 .taken),
-      list-turn-dropped (a .trace .now) (a .stretches .now) (l .at) (l .left) (l .gap) (l .listed) (l .stretches)
-          (l .inv .1) (b .belonging .result) (b .before .loop-test .taken) (b .belonging .ensures) (c .if1 .taken),
+    let l = o .loop in (
+      events-turn-dropped (l .inv .0) (b .before .loop-test .taken) (b .belonging .ensures) (c .if1 .taken),
+      list-turn-dropped (l .inv .1) (b .before .loop-test .taken) (b .belonging .ensures) (c .if1 .taken),
     )
 
 shared-slice-read-events : tie.Need-shared-slice-read-events Inv-loop μ-loop
@@ -62,14 +56,12 @@ slice-write-events c =
     let b = e .before in
     let o = b .before .before in
     let l = o .loop in
-    let a = o .before .before .before .before .args in
-    events-room (a .trace .now) (a .events .now) (l .at) (l .left) (l .kept) (l .events) (l .inv .0)
-    (b .belonging .result) (b .before .loop-test .taken) (b .belonging .ensures) (e .if1 .left)
+    events-room (l .inv .0) (b .before .loop-test .taken) (b .belonging .ensures) (e .if1 .left)
 
 add-kept : tie.Need-add-kept Inv-loop μ-loop
 add-kept c = let o = c .before .before .before .before in
     let h = slice-write-events c in
-    omega (arith, progress-length _ _ _ _ _ (o .loop .inv .0 .progress))
+    omega (arith, progress-length (o .loop .inv .0 .progress))
 
 sub-write-stretch : tie.Need-sub-write-stretch Inv-loop μ-loop
 sub-write-stretch c = c .before .before .before .before .loop .inv .1 .gap-le
@@ -82,8 +74,7 @@ write-stretch-requires c κs =
     let l = o .loop in
     let s = o .before .before .before .before in (
       omega (arith, l .inv .1 .gap-le, l .inv .1 .at-le, s .pre .short),
-      list-room (s .args .trace .now) (s .args .stretches .now) (l .at) (l .left) (l .gap) (l .listed) (l .stretches)
-          (l .inv .1) (b .belonging .result) (b .before .loop-test .taken) (b .belonging .ensures) (e .if1 .left),
+      list-room (l .inv .1) (b .before .loop-test .taken) (b .belonging .ensures) (e .if1 .left),
     )
 
 sub-left : tie.Need-sub-left Inv-loop μ-loop
@@ -100,13 +91,10 @@ loop-again-2 c = let w = c .before .before .write-stretch in
     let e = c .before .before .before .before .before in
     let b = e .before in
     let o = b .before .before in
-    let l = o .loop in
-    let a = o .before .before .before .before .args in (
-      events-turn-kept (a .trace .now) (a .events .now) (l .at) (l .left) (l .kept) (l .events) (l .inv .0)
-          (b .belonging .result) (b .before .loop-test .taken) (b .belonging .ensures) (e .if1 .left),
+    let l = o .loop in (
+      events-turn-kept (l .inv .0) (b .before .loop-test .taken) (b .belonging .ensures) (e .if1 .left),
       rw (w .ensures .0, w .ensures .1)
-          (list-turn-kept (a .trace .now) (a .stretches .now) (l .at) (l .left) (l .gap) (l .listed) (l .stretches)
-          (l .inv .1) (b .belonging .result) (b .before .loop-test .taken) (b .belonging .ensures) (e .if1 .left)),
+          (list-turn-kept (l .inv .1) (b .before .loop-test .taken) (b .belonging .ensures) (e .if1 .left)),
     )
 
 sub-write-stretch-2 : tie.Need-sub-write-stretch-2 Inv-loop μ-loop
@@ -118,20 +106,16 @@ write-stretch-requires-2 c κs =
     let l = o .loop in
     let s = o .before .before .before .before in (
       omega (arith, l .inv .1 .gap-le, l .inv .1 .at-le, s .pre .short),
-      list-last-room (s .args .trace .now) (s .args .stretches .now) (l .at) (l .left) (l .gap) (l .listed) (l .stretches)
-          (l .inv .1) (c .before .loop-test .left),
+      list-last-room (l .inv .1) (c .before .loop-test .left),
     )
 
 returns : tie.Need-returns Inv-loop μ-loop
 returns c = let w = c .before .before .write-stretch2 in
     let t = c .before .before .before .before in
     let o = t .before in
-    let l = o .loop in
-    let a = o .before .before .before .before .args in (
-      events-written (a .trace .now) (a .events .now) (l .at) (l .left) (l .kept) (l .events) (l .inv .0)
-          (t .loop-test .left),
-      w .ensures .1 ∙ list-written (a .trace .now) (a .stretches .now) (l .at) (l .left) (l .gap) (l .listed)
-          (l .stretches) (l .inv .1) (t .loop-test .left),
+    let l = o .loop in (
+      events-written (l .inv .0) (t .loop-test .left),
+      w .ensures .1 ∙ list-written (l .inv .1) (t .loop-test .left),
     )
 
 same-length : tie.Need-same-length Inv-loop μ-loop
@@ -149,7 +133,7 @@ write-both-spec =
     Inv-loop
     μ-loop
     loop-holds
-    belonging-requires
+    (λ c κs. tt)
     add-gap
     add-at
     loop-less
