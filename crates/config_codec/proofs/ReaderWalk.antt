@@ -56,19 +56,19 @@ module _ (bs : List ℕ) (at : ℕ) (d : Draft) where
   from-read k e n = rw (e, eq-eqb (numberFault d r) none n)
 
 -- after the last number
-pub reads-end : (bs : List ℕ) (at : ℕ) (d : Draft) → ReadsOn bs at d → ended (d .field) ≡ true
+pub reads-end : {bs : List ℕ} {at : ℕ} {d : Draft} → ReadsOn bs at d → ended (d .field) ≡ true
     → finished bs at d ≡ readFrom (length bs) bs 0 start
-reads-end bs at d o e = sym (from-end bs at d (o .left) e) ∙ o .rest
+reads-end {bs} {at} {d} o e = sym (from-end bs at d (o .left) e) ∙ o .rest
 
 -- one more number, as it was read
-module _ (bs : List ℕ) (at : ℕ) (d : Draft) (o : ReadsOn bs at d) (more : ended (d .field) ≡ false) where
+module _ {bs : List ℕ} {at : ℕ} {d : Draft} (o : ReadsOn bs at d) (more : ended (d .field) ≡ false) where
   refused-here : (numberFault d (readNumber bs at) ≡ none → ⊥)
       → refused (numberFault d (readNumber bs at)) (faultPlace at (readNumber bs at)) ≡ readFrom (length bs) bs 0 start
   refused-here n = sym (from-refused bs at d (o .left) (o .enough) more n) ∙ o .rest
 
-  pub reads-refused : (r : NumberRead) → r ≡ readNumber bs at → (numberFault d r ≡ none → ⊥)
+  pub reads-refused : {r : NumberRead} → r ≡ readNumber bs at → (numberFault d r ≡ none → ⊥)
       → refused (numberFault d r) (faultPlace at r) ≡ readFrom (length bs) bs 0 start
-  reads-refused r e = rw e refused-here
+  reads-refused e = rw e refused-here
 
   next : numberFault d (readNumber bs at) ≡ none → (k : ℕ) → k ≡ o .left
       → ReadsOn bs (readNumber bs at .place) (put d (readNumber bs at .value))
@@ -85,6 +85,6 @@ module _ (bs : List ℕ) (at : ℕ) (d : Draft) (o : ReadsOn bs at d) (more : en
         rest = sym (from-read bs at d k more n) ∙ ap (λ (j : ℕ). readFrom j bs at d) e ∙ o .rest;
       }
 
-  pub reads-next : (r : NumberRead) → r ≡ readNumber bs at → numberFault d r ≡ none
+  pub reads-next : {r : NumberRead} → r ≡ readNumber bs at → numberFault d r ≡ none
       → ReadsOn bs (r .place) (put d (r .value))
-  reads-next r e = rw e (λ (n : numberFault d (readNumber bs at) ≡ none). next n (o .left) refl)
+  reads-next e = rw e (λ (n : numberFault d (readNumber bs at) ≡ none). next n (o .left) refl)

@@ -94,47 +94,48 @@ module _ (t : List ℕ) where
   pub walk-start : (s : Progress) → s ≡ fresh → WalksOn 0 s 0
   walk-start s e = record { inside = omega arith; few = omega arith; on = rw (e, sub-zero) }
 
-  module _ (at : ℕ) (s : Progress) (n : ℕ) (k : WalksOn at s n) (w : Word) (e : w ≡ nextWord t at) (f : ℕ)
-      (q : f ≡ faultIn t s n w) where
-    pub walk-refused : (f ≡ 0 → ⊥) → refusedAt f (w .start) ≡ walked t
-    unfolding walk
-    walk-refused d =
-        let p : f ≡ faultIn t s n (nextWord t at) = q ∙ ap (faultIn t s n) e in
-        rw (e, p) (rw (ne-eqb (faultIn t s n (nextWord t at)) none (λ z. d (p ∙ z))) at (k .on))
+-- a word more
+module _ {t : List ℕ} {at : ℕ} {s : Progress} {n : ℕ} (k : WalksOn t at s n) {w : Word} (e : w ≡ nextWord t at)
+    {f : ℕ} (q : f ≡ faultIn t s n w) where
+  pub walk-refused : (f ≡ 0 → ⊥) → refusedAt f (w .start) ≡ walked t
+  unfolding walk
+  walk-refused d =
+      let p : f ≡ faultIn t s n (nextWord t at) = q ∙ ap (faultIn t s n) e in
+      rw (e, p) (rw (ne-eqb (faultIn t s n (nextWord t at)) none (λ z. d (p ∙ z))) at (k .on))
 
-    pub walk-ended : f ≡ 0 → w .sort ≡ endSort → found n ≡ walked t
-    unfolding walk
-    walk-ended z g =
-        let p : faultIn t s n (nextWord t at) ≡ 0 = sym (q ∙ ap (faultIn t s n) e) ∙ z in
-        let g′ : nextWord t at .sort ≡ endSort = rw e at g in
-        rw (eq-eqb (faultIn t s n (nextWord t at)) none p, eq-eqb (nextWord t at .sort) endSort g′) at (k .on)
+  pub walk-ended : f ≡ 0 → w .sort ≡ endSort → found n ≡ walked t
+  unfolding walk
+  walk-ended z g =
+      let p : faultIn t s n (nextWord t at) ≡ 0 = sym (q ∙ ap (faultIn t s n) e) ∙ z in
+      let g′ : nextWord t at .sort ≡ endSort = rw e at g in
+      rw (eq-eqb (faultIn t s n (nextWord t at)) none p, eq-eqb (nextWord t at .sort) endSort g′) at (k .on)
 
-    pub walk-further : f ≡ 0 → (w .sort ≡ endSort → ⊥) → (at < w .end) × (w .end ≤ length t)
-    walk-further z d =
-        let x = next-inside t at (k .inside) in
-        let p : faultIn t s n (nextWord t at) ≡ 0 = sym (q ∙ ap (faultIn t s n) e) ∙ z in
-        let o = x .some (going t at s n p (λ v. d (rw e v))) in
-        rw e (omega (arith, x .begins), x .inside)
+  pub walk-further : f ≡ 0 → (w .sort ≡ endSort → ⊥) → (at < w .end) × (w .end ≤ length t)
+  walk-further z d =
+      let x = next-inside t at (k .inside) in
+      let p : faultIn t s n (nextWord t at) ≡ 0 = sym (q ∙ ap (faultIn t s n) e) ∙ z in
+      let o = x .some (going t at s n p (λ v. d (rw e v))) in
+      rw e (omega (arith, x .begins), x .inside)
 
-    pub walk-next : f ≡ 0 → (w .sort ≡ endSort → ⊥) → (s′ : Progress) → s′ ≡ after s (w .sort)
-        → WalksOn (w .end) s′ (n + 1)
-    unfolding walk
-    walk-next z d s′ g =
-        let o = walk-further z d in
-        let p : faultIn t s n (nextWord t at) ≡ 0 = sym (q ∙ ap (faultIn t s n) e) ∙ z in
-        let l : length t - n ≡ suc (length t - (n + 1)) = omega (arith, k .few) in
-        record {
-          inside = o .1;
-          few = omega (arith, k .few);
-          on =
-              rw (g, e, add-one)
-              (rw (
-                eq-eqb (faultIn t s n (nextWord t at)) none p,
-                ne-eqb (nextWord t at .sort) endSort (λ v. d (rw e v)),
-                l,
-                add-one,
-              ) at (k .on));
-        }
+  pub walk-next : f ≡ 0 → (w .sort ≡ endSort → ⊥) → {s′ : Progress} → s′ ≡ after s (w .sort)
+      → WalksOn t (w .end) s′ (n + 1)
+  unfolding walk
+  walk-next z d g =
+      let o = walk-further z d in
+      let p : faultIn t s n (nextWord t at) ≡ 0 = sym (q ∙ ap (faultIn t s n) e) ∙ z in
+      let l : length t - n ≡ suc (length t - (n + 1)) = omega (arith, k .few) in
+      record {
+        inside = o .1;
+        few = omega (arith, k .few);
+        on =
+            rw (g, e, add-one)
+            (rw (
+              eq-eqb (faultIn t s n (nextWord t at)) none p,
+              ne-eqb (nextWord t at .sort) endSort (λ v. d (rw e v)),
+              l,
+              add-one,
+            ) at (k .on));
+      }
 
 -- what a word puts into a configuration, where the want is known
 pub put-at : (u : List ℕ → ℕ) (s : Progress) (c : Config) (w : ℕ) (x : List ℕ) (v : Want) → s .want ≡ v → (r : Config)

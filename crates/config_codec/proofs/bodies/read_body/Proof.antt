@@ -20,7 +20,7 @@ returns c =
     let c₂ = c .before .before in let c₄ = c₂ .before .before in
     let a = c₄ .args in
     let k = c₂ .read-within in
-    λ g n o. stopped (a .bytes .now) (k .result .refusal) (k .result .place) _ _ (c .if1 .taken)
+    λ g n o. stopped (c .if1 .taken)
     (kind-goes g (a .bytes .now) n (a .at) (a .i) (a .kind .now) (a .priority .now) (a .autostart .now) o (k .result)
     (k .ensures))
 
@@ -39,7 +39,7 @@ returns-2 c =
     let a = c₉ .args in
     let k = c₇ .read-within in
     let p = c₂ .read-priority in
-    λ g n o. stopped (a .bytes .now) (p .result .refusal) (p .result .place) _ _ (c .if2 .taken)
+    λ g n o. stopped (c .if2 .taken)
     (priority-goes g (a .bytes .now) n (a .at) (a .i) (a .kind .now) (a .priority .now) (a .autostart .now) o
     (k .result) (k .ensures) (c₅ .if1 .left) (p .result) (p .ensures))
 
@@ -61,7 +61,7 @@ returns-3 c =
     let k = c₁₃ .read-within in
     let p = c₈ .read-priority in
     let q = c₂ .read-within2 in
-    λ g n o. stopped (a .bytes .now) (q .result .refusal) (q .result .place) _ _ (c .if3 .taken)
+    λ g n o. stopped (c .if3 .taken)
     (autostart-goes g (a .bytes .now) n (a .at) (a .i) (a .kind .now) (a .priority .now) (a .autostart .now) o
     (k .result) (k .ensures) (c₁₁ .if1 .left) (p .result) (p .ensures) (c₆ .if2 .left) (q .result)
     (q .ensures ∙ ap (λ (m : ℕ). checked (a .bytes .now) (p .result .place) (λ (v : ℕ). outside 0 m v badField))
@@ -93,8 +93,8 @@ returns-4 c =
     let k = c₁₄ .read-within in
     let p = c₉ .read-priority in
     let q = c₃ .read-within2 in
-    λ g n o. arrived (a .bytes .now) (q .result .place) _
-    (autostart-goes g (a .bytes .now) n (a .at) (a .i) (a .kind .now) (a .priority .now) (a .autostart .now) o
+    λ g n o. arrived (autostart-goes g (a .bytes .now) n (a .at) (a .i) (a .kind .now) (a .priority .now)
+    (a .autostart .now) o
     (k .result) (k .ensures) (c₁₂ .if1 .left) (p .result) (p .ensures) (c₇ .if2 .left) (q .result)
     (q .ensures ∙ ap (λ (m : ℕ). checked (a .bytes .now) (p .result .place) (λ (v : ℕ). outside 0 m v badField))
     (c₄ .most-autostart .ensures)) .0 (c .before .if3 .left))

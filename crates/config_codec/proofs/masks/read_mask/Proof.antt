@@ -11,7 +11,7 @@ returns c =
     let a = c .before .before .before .before .before .before .before .args in
     let t = c .before .before .tested in
     let c₄ = c .before .before .before in
-    λ g n o. stopped (a .bytes .now) (t .result .refusal) (t .result .place) _ _ (c .if1 .taken)
+    λ g n o. stopped (c .if1 .taken)
     (mask-goes g (a .bytes .now) n (a .at) (a .bodies) (a .kind .now) (a .i) (a .users .now) o (t .result)
     (t .ensures ∙ rw (c₄ .users-in .ensures, c₄ .before .before .read-number .ensures)))
 
@@ -20,7 +20,7 @@ returns-2 c =
     let a = c .before .before .before .before .before .before .before .args in
     let t = c .before .before .tested in
     let c₄ = c .before .before .before in
-    λ g n o. arrived (a .bytes .now) (t .result .place) _
+    λ g n o. arrived
     ((mask-goes g (a .bytes .now) n (a .at) (a .bodies) (a .kind .now) (a .i) (a .users .now) o (t .result)
     (t .ensures ∙ rw (c₄ .users-in .ensures, c₄ .before .before .read-number .ensures))) .0 (c .if1 .left))
 

@@ -33,7 +33,7 @@ returns c =
     let a = c₉ .args in
     let l = c₅ .loop in
     let m = c₂ .read-mask in
-    λ g o. stopped (a .bytes .now) (m .result .refusal) (m .result .place) _ _ (c .if1 .taken)
+    λ g o. stopped (c .if1 .taken)
     (m .ensures g (a .n) (mask-more g (a .bytes .now) (a .n) (l .at) (a .bodies) (a .kind .now) (l .i) (l .users)
     (l .inv .1 g o) (c₄ .loop-test .taken)))
 
@@ -63,8 +63,8 @@ returns-2 c =
     let c₅ = c .before .before .before .before .before in
     let a = c₅ .args in
     let l = c .before .loop in
-    λ g o. arrived (a .bytes .now) (l .at) _
-    (mask-last g (a .bytes .now) (a .n) (l .at) (a .bodies) (a .kind .now) (l .i) (l .users) (l .inv .1 g o)
+    λ g o. arrived (mask-last g (a .bytes .now) (a .n) (l .at) (a .bodies) (a .kind .now) (l .i) (l .users)
+    (l .inv .1 g o)
     (l .inv .0) (c .loop-test .left))
 
 pub read-masks-spec : {M : Type 1} → statement M

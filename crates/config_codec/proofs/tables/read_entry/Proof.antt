@@ -12,7 +12,7 @@ returns c =
     let c₂ = c .before .before in let c₄ = c₂ .before .before in
     let a = c₄ .args in
     let o = c₂ .read-offset in
-    λ g n w. stopped (a .bytes .now) (o .result .refusal) (o .result .place) _ _ (c .if1 .taken)
+    λ g n w. stopped (c .if1 .taken)
     (offset-goes g (a .bytes .now) n (a .at) (a .bodies) (a .kind .now) (a .i) (a .e) (a .until) (a .period .now)
     (a .entries .now) (a .offset .now) (a .task .now) w (o .result) (o .ensures .0))
 
@@ -27,7 +27,7 @@ returns-2 c =
     let a = c₁₀ .args in
     let o = c₈ .read-offset in
     let t = c₂ .read-task in
-    λ g n w. stopped (a .bytes .now) (t .result .refusal) (t .result .place) _ _ (c .if2 .taken)
+    λ g n w. stopped (c .if2 .taken)
     (task-goes g (a .bytes .now) n (a .at) (a .bodies) (a .kind .now) (a .i) (a .e) (a .until) (a .period .now)
     (a .entries .now) (a .offset .now) (a .task .now) w (o .result) (o .ensures .0)
     (c₆ .if1 .left) (t .result) (t .ensures))
@@ -51,8 +51,8 @@ returns-3 c =
     let a = c₁₁ .args in
     let o = c₉ .read-offset in
     let t = c₃ .read-task in
-    λ g n w. arrived (a .bytes .now) (t .result .place) _
-    (task-goes g (a .bytes .now) n (a .at) (a .bodies) (a .kind .now) (a .i) (a .e) (a .until) (a .period .now)
+    λ g n w. arrived (task-goes g (a .bytes .now) n (a .at) (a .bodies) (a .kind .now) (a .i) (a .e) (a .until)
+    (a .period .now)
     (a .entries .now) (a .offset .now) (a .task .now) w (o .result) (o .ensures .0)
     (c₇ .if1 .left) (t .result) (t .ensures) .0 (c .before .if2 .left))
 

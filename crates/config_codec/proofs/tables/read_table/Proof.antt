@@ -13,7 +13,7 @@ returns c =
     let c₂ = c .before .before in let c₄ = c₂ .before .before in
     let s = c₄ in let a = s .args in
     let p = c₂ .read-within in (
-      λ g n w. stopped (a .bytes .now) (p .result .refusal) (p .result .place) _ _ (c .if1 .taken)
+      λ g n w. stopped (c .if1 .taken)
           (period-goes g (a .bytes .now) n (a .at) (a .bodies) (a .kind .now) (a .i) (a .e) (a .period .now)
           (a .entries .now) (a .offset .now) (a .task .now) w (p .result) (p .ensures)),
       s .pre .1 .1,
@@ -34,7 +34,7 @@ returns-2 c =
     let s = c₈ in let a = s .args in
     let p = c₆ .read-within in
     let y = c₂ .read-count in (
-      λ g n w. stopped (a .bytes .now) (y .result .refusal) (y .result .place) _ _ (c .if2 .taken)
+      λ g n w. stopped (c .if2 .taken)
           (count-goes g (a .bytes .now) n (a .at) (a .bodies) (a .kind .now) (a .i) (a .e) (a .period .now)
           (a .entries .now) (a .offset .now) (a .task .now) w (p .result) (p .ensures)
           (c₄ .if1 .left) (y .result) (y .ensures)),

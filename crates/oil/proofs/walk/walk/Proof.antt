@@ -31,49 +31,37 @@ returns c =
     let l = c .before .before .before .before .loop in
     let w = c .before .before .before .next-word in
     let f = c .before .before .fault-in in
-    c .refused-at .ensures ∙ walk-refused (c .before .before .before .before .before .before .before .args .text .now)
-    (l .at) (l .s)
-    (l .words) (l .inv) (w .result) (w .ensures) (f .result) (f .ensures) (c .before .if1 .taken)
+    c .refused-at .ensures ∙ walk-refused (l .inv) (w .ensures) (f .ensures) (c .before .if1 .taken)
 
 returns-2 : tie.Need-returns-2 Inv-loop μ-loop
 returns-2 c =
     let l = c .before .before .before .before .before .loop in
     let w = c .before .before .before .before .next-word in
     let f = c .before .before .before .fault-in in
-    walk-ended (c .before .before .before .before .before .before .before .before .args .text .now) (l .at) (l .s)
-    (l .words) (l .inv)
-    (w .result) (w .ensures) (f .result) (f .ensures) (c .before .before .if1 .left) (c .if2 .taken)
+    walk-ended (l .inv) (w .ensures) (f .ensures) (c .before .before .if1 .left) (c .if2 .taken)
 
 add-words : tie.Need-add-words Inv-loop μ-loop
 add-words c =
     let l = c .before .before .before .before .before .before .loop in
     let w = c .before .before .before .before .before .next-word in
-    let f = walk-further (c .before .before .before .before .before .before .before .before .before .args .text .now)
-    (l .at) (l .s)
-    (l .words) (l .inv) (w .result) (w .ensures) (c .before .before .before .before .fault-in .result)
-    (c .before .before .before .before .fault-in .ensures) (c .before .before .before .if1 .left)
-    (c .before .if2 .left) in omega
-    (arith, l .inv .few)
+    let f = walk-further (l .inv) (w .ensures) (c .before .before .before .before .fault-in .ensures)
+    (c .before .before .before .if1 .left) (c .before .if2 .left) in
+    omega (arith, l .inv .few)
 
 loop-less : tie.Need-loop-less Inv-loop μ-loop
 loop-less c =
     let l = c .before .before .before .before .before .before .loop in
     let w = c .before .before .before .before .before .next-word in
-    let f = walk-further (c .before .before .before .before .before .before .before .before .before .args .text .now)
-    (l .at) (l .s)
-    (l .words) (l .inv) (w .result) (w .ensures) (c .before .before .before .before .fault-in .result)
-    (c .before .before .before .before .fault-in .ensures) (c .before .before .before .if1 .left)
-    (c .before .if2 .left) in omega arith
+    let f = walk-further (l .inv) (w .ensures) (c .before .before .before .before .fault-in .ensures)
+    (c .before .before .before .if1 .left) (c .before .if2 .left) in
+    omega arith
 
 loop-again : tie.Need-loop-again Inv-loop μ-loop
 loop-again c =
     let l = c .before .before .before .before .before .before .loop in
     let w = c .before .before .before .before .before .next-word in
     let f = c .before .before .before .before .fault-in in
-    walk-next (c .before .before .before .before .before .before .before .before .before .args .text .now) (l .at)
-    (l .s) (l .words) (l .inv)
-    (w .result) (w .ensures) (f .result) (f .ensures) (c .before .before .before .if1 .left) (c .before .if2 .left)
-    (c .after .result)
+    walk-next (l .inv) (w .ensures) (f .ensures) (c .before .before .before .if1 .left) (c .before .if2 .left)
     (c .after .ensures)
 
 pub walk-spec : {M : Type 1} → statement M
