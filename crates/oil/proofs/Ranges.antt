@@ -30,7 +30,7 @@ some-byte : (c : Config) → 0 < length (configBytes c)
 unfolding ended
 some-byte c = some-from 259 c start refl
 
-module _ (c : Config) (w : Written) (e : w ≡ writeConfig c 0) where
+module _ (c : Config) {w : Written} (e : w ≡ writeConfig c 0) where
   no-room : firstFault c ≡ none → w ≡ unwritten noRoom (length (configBytes c))
   no-room z =
       e ∙ rw (eq-eqb (firstFault c) none z)
@@ -50,9 +50,9 @@ module _ (c : Config) (w : Written) (e : w ≡ writeConfig c 0) where
   room-told r = by-eq (firstFault c) none (λ z. sym z) (λ d. absurd (r (ap (λ (v : Written). v .place) (refused d))))
 
 -- a writer's place is below 2 ^ 63
-pub place-lt : (c : Config) (n : ℕ) (w : Written) → w ≡ writeConfig c n → w .place < 9223372036854775808
+pub place-lt : (c : Config) (n : ℕ) {w : Written} → w ≡ writeConfig c n → w .place < 9223372036854775808
 unfolding writing
-place-lt c n w e =
+place-lt c n e =
     let l = length-configBytes c in
     rw e
     (by-eq (firstFault c) none

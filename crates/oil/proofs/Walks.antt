@@ -29,21 +29,21 @@ left-none : (n i : ℕ) → n ≤ i → n - i ≡ 0
 left-none n i h = omega arith
 
 module _ (t : List ℕ) where
-  pub word-inside : (at : ℕ) → at ≤ length t → (w : Word) → w ≡ nextWord t at
+  pub word-inside : (at : ℕ) → at ≤ length t → {w : Word} → w ≡ nextWord t at
       → (w .start ≤ w .end) × (w .end ≤ length t)
-  word-inside at h w e = let n = next-inside t at h in rw e (n .forward, n .inside)
+  word-inside at h e = let n = next-inside t at h in rw e (n .forward, n .inside)
 
-  module _ (n i at : ℕ) (s : Progress) (r : Bool) (x : List ℕ) (w : Word) (e : w ≡ nextWord t at) where
+  module _ (n i at : ℕ) (s : Progress) (r : Bool) (x : List ℕ) {w : Word} (e : w ≡ nextWord t at) where
     pub borne-found : i < n → (bears r s && same (spelling t w) x) ≡ true → true ≡ borne (n - i) t at s r x
     unfolding borne
     borne-found h q =
         let p : (bears r s && same (spelling t (nextWord t at)) x) ≡ true = rw e at q in
         rw (left-suc n i h, p)
 
-    pub borne-turn : i < n → (bears r s && same (spelling t w) x) ≡ false → (s′ : Progress) → s′ ≡ after s (w .sort)
+    pub borne-turn : i < n → (bears r s && same (spelling t w) x) ≡ false → {s′ : Progress} → s′ ≡ after s (w .sort)
         → borne (n - (i + 1)) t (w .end) s′ r x ≡ borne (n - i) t at s r x
     unfolding borne
-    borne-turn h q s′ f =
+    borne-turn h q f =
         let p : (bears r s && same (spelling t (nextWord t at)) x) ≡ false = rw e at q in
         rw (left-suc n i h, p, f, e)
 
@@ -51,35 +51,35 @@ module _ (t : List ℕ) where
   unfolding borne
   borne-done n i at s r x h = rw (left-none n i h)
 
-  module _ (n m i at : ℕ) (s : Progress) (w : Word) (e : w ≡ nextWord t at) where
+  module _ (n m i at : ℕ) (s : Progress) {w : Word} (e : w ≡ nextWord t at) where
     pub unborne-found : i < n → unborneAt t s m w ≡ true → refusedAt noResource (w .start) ≡ unborne (n - i) t at s m
     unfolding unborne
     unborne-found h q = let p : unborneAt t s m (nextWord t at) ≡ true = rw e at q in rw (left-suc n i h, p, e)
 
-    pub unborne-turn : i < n → unborneAt t s m w ≡ false → (s′ : Progress) → s′ ≡ after s (w .sort)
+    pub unborne-turn : i < n → unborneAt t s m w ≡ false → {s′ : Progress} → s′ ≡ after s (w .sort)
         → unborne (n - (i + 1)) t (w .end) s′ m ≡ unborne (n - i) t at s m
     unfolding unborne
-    unborne-turn h q s′ f = let p : unborneAt t s m (nextWord t at) ≡ false = rw e at q in rw (left-suc n i h, p, f, e)
+    unborne-turn h q f = let p : unborneAt t s m (nextWord t at) ≡ false = rw e at q in rw (left-suc n i h, p, f, e)
 
   pub unborne-done : (n m i at : ℕ) (s : Progress) → n ≤ i → found m ≡ unborne (n - i) t at s m
   unfolding unborne
   unborne-done n m i at s h = rw (left-none n i h)
 
-  pub mask-turn : (n i at : ℕ) (s : Progress) (x : List ℕ) (b m : ℕ) (w : Word) → w ≡ nextWord t at → i < n
-      → (s′ : Progress) → s′ ≡ after s (w .sort) → (b′ : ℕ) → b′ ≡ numbered s b → (m′ : ℕ)
+  pub mask-turn : (n i at : ℕ) (s : Progress) (x : List ℕ) (b m : ℕ) {w : Word} → w ≡ nextWord t at → i < n
+      → {s′ : Progress} → s′ ≡ after s (w .sort) → {b′ : ℕ} → b′ ≡ numbered s b → {m′ : ℕ}
       → m′ ≡ marked s (spelling t w) x b m → mask (n - (i + 1)) t (w .end) s′ x b′ m′ ≡ mask (n - i) t at s x b m
   unfolding mask
-  mask-turn n i at s x b m w e h s′ f b′ g m′ k = rw (left-suc n i h, k, g, f, e)
+  mask-turn n i at s x b m e h f g k = rw (left-suc n i h, k, g, f, e)
 
   pub mask-done : (n i at : ℕ) (s : Progress) (x : List ℕ) (b m : ℕ) → n ≤ i → m ≡ mask (n - i) t at s x b m
   unfolding mask
   mask-done n i at s x b m h = rw (left-none n i h)
 
-  pub fill-turn : (n i at : ℕ) (s : Progress) (u : List ℕ → ℕ) (c : Config) (w : Word) → w ≡ nextWord t at → i < n
-      → (s′ : Progress) → s′ ≡ after s (w .sort) → (c′ : Config) → c′ ≡ put u s c (w .sort) (spelling t w)
+  pub fill-turn : (n i at : ℕ) (s : Progress) (u : List ℕ → ℕ) (c : Config) {w : Word} → w ≡ nextWord t at → i < n
+      → {s′ : Progress} → s′ ≡ after s (w .sort) → {c′ : Config} → c′ ≡ put u s c (w .sort) (spelling t w)
       → fill (n - (i + 1)) t (w .end) s′ u c′ ≡ fill (n - i) t at s u c
   unfolding fill
-  fill-turn n i at s u c w e h s′ f c′ g = rw (left-suc n i h, g, f, e)
+  fill-turn n i at s u c e h f g = rw (left-suc n i h, g, f, e)
 
   pub fill-done : (n i at : ℕ) (s : Progress) (u : List ℕ → ℕ) (c : Config) → n ≤ i → c ≡ fill (n - i) t at s u c
   unfolding fill
@@ -91,8 +91,8 @@ module _ (t : List ℕ) where
     pub few : n ≤ at
     pub on : walk (suc (length t - n)) t at s n ≡ walked t
 
-  pub walk-start : (s : Progress) → s ≡ fresh → WalksOn 0 s 0
-  walk-start s e = record { inside = omega arith; few = omega arith; on = rw (e, sub-zero) }
+  pub walk-start : {s : Progress} → s ≡ fresh → WalksOn 0 s 0
+  walk-start e = record { inside = omega arith; few = omega arith; on = rw (e, sub-zero) }
 
 -- a word more
 module _ {t : List ℕ} {at : ℕ} {s : Progress} {n : ℕ} (k : WalksOn t at s n) {w : Word} (e : w ≡ nextWord t at)

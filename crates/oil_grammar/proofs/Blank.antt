@@ -157,9 +157,9 @@ module _ (t : List ℕ) (i : ℕ) where
   comment-none h d e = rw (drop-next t i h, ne-eqb (getD t i 0) slash d, ne-eqb (getD t i 0) star e)
 
   -- as the code works them out
-  pub line-comment : i < length t → getD t i 0 ≡ slash → (e : ℕ) → e ≡ i + 1 + span isLineByte (drop (i + 1) t)
+  pub line-comment : i < length t → getD t i 0 ≡ slash → {e : ℕ} → e ≡ i + 1 + span isLineByte (drop (i + 1) t)
       → e - (i + 1) + 2 ≡ comment (drop i t)
-  line-comment h q e f = omega (arith, comment-line h q)
+  line-comment h q f = omega (arith, comment-line h q)
 
   pub open-comment : i < length t → (getD t i 0 ≡ slash → ⊥) → getD t i 0 ≡ star → closing (drop (i + 1) t) ≡ 0
       → 0 ≡ comment (drop i t)

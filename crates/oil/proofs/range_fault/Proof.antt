@@ -7,12 +7,12 @@ use Rattle.oil.proofs.range_fault.Tie as tie
 returns : tie.Need-returns
 returns c =
     let o = c .before .before .before .write-config in
-    fault-told (c .before .before .before .before .before .args .config) (o .result) (o .ensures .0) (c .if1 .taken)
+    fault-told (c .before .before .before .before .before .args .config) (o .ensures .0) (c .if1 .taken)
 
 returns-2 : tie.Need-returns-2
 returns-2 c =
     let o = c .before .before .before .write-config in
-    room-told (c .before .before .before .before .before .args .config) (o .result) (o .ensures .0) (c .if1 .left)
+    room-told (c .before .before .before .before .before .args .config) (o .ensures .0) (c .if1 .left)
 
 pub range-fault-spec : {M : Type 1} → statement M
 range-fault-spec = tie.close (tie.spec (λ c. search needs) (λ c κs. search needs) returns returns-2)

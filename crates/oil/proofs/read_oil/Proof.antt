@@ -12,15 +12,14 @@ refused-requires c κs =
 returns : tie.Need-returns
 returns c =
     let v = c .before .before .before .walk in
-    words-in-order (c .before .before .before .before .before .args .text .now) (v .result) (v .ensures)
-    (c .before .if1 .taken) _
-    (c .after-words .ensures)
+    words-in-order (c .before .before .before .before .before .args .text .now) (v .ensures)
+    (c .before .if1 .taken) (c .after-words .ensures)
 
 returns-2 : tie.Need-returns-2
 returns-2 c =
     let v = c .before .before .before .walk in
-    words-refused (c .before .before .before .before .before .args .text .now) (v .result) (v .ensures)
-    (c .before .if1 .left) _ (c .refused .ensures)
+    words-refused (c .before .before .before .before .before .args .text .now) (v .ensures)
+    (c .before .if1 .left) (c .refused .ensures)
 
 pub read-oil-spec : {M : Type 1} → statement M
 read-oil-spec =

@@ -27,19 +27,17 @@ put-requires : tie.Need-put-requires Inv-loop μ-loop
 put-requires c κs =
     let l = c .before .before .loop in
     let w = c .next-word in
-    word-inside (c .before .before .before .before .before .before .args .text .now) (l .at) (l .inv .0) (w .result)
-    (w .ensures)
+    word-inside (c .before .before .before .before .before .before .args .text .now) (l .at) (l .inv .0) (w .ensures)
 
 loop-again : tie.Need-loop-again Inv-loop μ-loop
 loop-again c =
     let a = c .before .before .before .before .before .before .before .before .args in
     let l = c .before .before .before .before .loop in
     let w = c .before .before .next-word in (
-      word-inside (a .text .now) (l .at) (l .inv .0) (w .result) (w .ensures) .1,
+      word-inside (a .text .now) (l .at) (l .inv .0) (w .ensures) .1,
       fill-turn (a .text .now) (a .words) (l .i) (l .at) (l .s) (λ
-          (x : List ℕ). mask (a .words) (a .text .now) 0 fresh x 0 0) (l .c) (w .result) (w .ensures)
-          (c .before .before .before .loop-test .taken) (c .after .result) (c .after .ensures) (c .before .put .result)
-          (c .before .put .ensures) ∙ l .inv .1,
+          (x : List ℕ). mask (a .words) (a .text .now) 0 fresh x 0 0) (l .c) (w .ensures)
+          (c .before .before .before .loop-test .taken) (c .after .ensures) (c .before .put .ensures) ∙ l .inv .1,
     )
 
 returns : tie.Need-returns Inv-loop μ-loop

@@ -26,8 +26,7 @@ marked-requires : tie.Need-marked-requires Inv-loop μ-loop
 marked-requires c κs =
     let l = c .before .before .loop in
     let w = c .next-word in (
-      word-inside (c .before .before .before .before .before .args .text .now) (l .at) (l .inv .0) (w .result)
-          (w .ensures),
+      word-inside (c .before .before .before .before .before .args .text .now) (l .at) (l .inv .0) (w .ensures),
       c .before .before .before .before .before .pre,
     )
 
@@ -36,12 +35,11 @@ loop-again c =
     let a = c .before .before .before .before .before .before .before .before .args in
     let l = c .before .before .before .before .before .loop in
     let w = c .before .before .before .next-word in (
-      word-inside (a .text .now) (l .at) (l .inv .0) (w .result) (w .ensures) .1,
+      word-inside (a .text .now) (l .at) (l .inv .0) (w .ensures) .1,
       mask-turn (a .text .now) (a .words) (l .i) (l .at) (l .s)
-          (take (a .end - a .start) (drop (a .start) (a .text .now))) (l .b) (l .m) (w .result) (w .ensures)
-          (c .before .before .before .before .loop-test .taken) (c .after .result) (c .after .ensures)
-          (c .before .numbered .result)
-          (c .before .numbered .ensures) (c .before .before .marked .result) (c .before .before .marked .ensures)
+          (take (a .end - a .start) (drop (a .start) (a .text .now))) (l .b) (l .m) (w .ensures)
+          (c .before .before .before .before .loop-test .taken) (c .after .ensures)
+          (c .before .numbered .ensures) (c .before .before .marked .ensures)
           ∙ l .inv .1,
     )
 

@@ -30,8 +30,7 @@ loop-again c =
         let e = c .value-after .ensures in omega arith,
         digits-turn (a .text .now) (a .end) (l .i) (l .v)
             (let p = c .before .before .before .before .before .pre in omega arith)
-            (c .before .before .loop-test .taken) (c .value-after .result)
-            (c .value-after .ensures) ∙ l .inv .1 .1,
+            (c .before .before .loop-test .taken) (c .value-after .ensures) ∙ l .inv .1 .1,
       ),
     )
 

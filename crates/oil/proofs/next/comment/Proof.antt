@@ -22,8 +22,7 @@ add-result c =
 returns-2 : tie.Need-returns-2
 returns-2 c =
     let a = c .before .before .before .before .before .args in
-    line-comment (a .text .now) (a .at) (omega arith) (c .before .if2 .taken) (c .line-end .result)
-    (c .line-end .ensures)
+    line-comment (a .text .now) (a .at) (omega arith) (c .before .if2 .taken) (c .line-end .ensures)
 
 returns-3 : tie.Need-returns-3
 returns-3 c =

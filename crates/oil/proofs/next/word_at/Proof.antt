@@ -22,16 +22,14 @@ returns-2 : tie.Need-returns-2
 returns-2 c =
     let a = c .before .before .before .before .before .before .before .before .args in
     word-letters (a .text .now) (a .at) (omega arith) (sym (c .before .before .before .before .is-letter .ensures)
-    ∙ c .before .before .before .if2 .taken) (c .before .before .name-end .result)
-    (c .before .before .name-end .ensures)
-    (c .spelled-sort .result) (c .spelled-sort .ensures)
+    ∙ c .before .before .before .if2 .taken) (c .before .before .name-end .ensures)
+    (c .spelled-sort .ensures)
 
 returns-3 : tie.Need-returns-3
 returns-3 c =
     let a = c .before .before .before .before .before .before .before .before .args in
     word-digits (a .text .now) (a .at) (omega arith) (sym (c .before .before .before .before .is-letter .ensures)
     ∙ c .before .before .before .if2 .left) (sym (c .before .before .is-digit .ensures) ∙ c .before .if3 .taken)
-    (c .number-end .result)
     (c .number-end .ensures)
 
 returns-4 : tie.Need-returns-4
@@ -40,7 +38,7 @@ returns-4 c =
     word-sign (a .text .now) (a .at) (omega arith) (sym (c .before .before .before .before .before .is-letter .ensures)
     ∙ c .before .before .before .before .if2 .left) (sym (c .before .before .before .is-digit .ensures)
     ∙ c .before .before .if3 .left)
-    (c .before .sign .result) (c .before .sign .ensures) (c .sign-at .result) (c .sign-at .ensures)
+    (c .before .sign .ensures) (c .sign-at .ensures)
 
 pub word-at-spec : {M : Type 1} → statement M
 word-at-spec =

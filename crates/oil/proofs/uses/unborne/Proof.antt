@@ -36,7 +36,7 @@ look-requires c κs =
     let w = c .next-word in (
       l .inv .1 .0,
       word-inside (c .before .before .before .before .before .before .args .text .now) (l .at) (l .inv .0)
-          (w .result) (w .ensures),
+          (w .ensures),
     )
 
 returns : tie.Need-returns Inv-loop μ-loop
@@ -44,8 +44,7 @@ returns c =
     let a = c .before .before .before .before .before .before .before .before .before .args in
     let l = c .before .before .before .before .before .loop in
     let w = c .before .before .before .next-word in
-    c .refused-at .ensures ∙ unborne-found (a .text .now) (a .words) (a .words) (l .i) (l .at) (l .s) (w .result)
-    (w .ensures)
+    c .refused-at .ensures ∙ unborne-found (a .text .now) (a .words) (a .words) (l .i) (l .at) (l .s) (w .ensures)
     (c .before .before .before .before .loop-test .taken)
     (sym (c .before .before .look .ensures .1) ∙ c .before .if1 .taken) ∙ l .inv .1 .1
 
@@ -54,14 +53,14 @@ loop-again c =
     let a = c .before .before .before .before .before .before .before .before .before .before .args in
     let l = c .before .before .before .before .before .before .loop in
     let w = c .before .before .before .before .next-word in (
-      word-inside (a .text .now) (l .at) (l .inv .0) (w .result) (w .ensures) .1,
+      word-inside (a .text .now) (l .at) (l .inv .0) (w .ensures) .1,
       (
         c .before .before .before .look .ensures .0,
         unborne-turn
-            (a .text .now) (a .words) (a .words) (l .i) (l .at) (l .s) (w .result) (w .ensures)
+            (a .text .now) (a .words) (a .words) (l .i) (l .at) (l .s) (w .ensures)
             (c .before .before .before .before .before .loop-test .taken)
             (sym (c .before .before .before .look .ensures .1)
-            ∙ c .before .before .if1 .left) (c .after .result) (c .after .ensures) ∙ l .inv .1 .1,
+            ∙ c .before .before .if1 .left) (c .after .ensures) ∙ l .inv .1 .1,
       ),
     )
 

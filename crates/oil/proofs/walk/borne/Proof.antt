@@ -26,8 +26,7 @@ borne-here-requires : tie.Need-borne-here-requires Inv-loop μ-loop
 borne-here-requires c κs =
     let l = c .before .before .loop in
     let w = c .next-word in (
-      word-inside (c .before .before .before .before .before .args .text .now) (l .at) (l .inv .0) (w .result)
-          (w .ensures),
+      word-inside (c .before .before .before .before .before .args .text .now) (l .at) (l .inv .0) (w .ensures),
       c .before .before .before .before .before .pre,
     )
 
@@ -38,7 +37,7 @@ returns c =
     let w = c .before .before .next-word in
     borne-found (a .text .now) (a .count) (l .i) (l .at) (l .s) (a .resource)
     (take (a .end - a .start) (drop (a .start) (a .text .now)))
-    (w .result) (w .ensures) (c .before .before .before .loop-test .taken)
+    (w .ensures) (c .before .before .before .loop-test .taken)
     (sym (c .before .borne-here .ensures) ∙ c .if1 .taken) ∙ l .inv .1
 
 loop-again : tie.Need-loop-again Inv-loop μ-loop
@@ -46,12 +45,12 @@ loop-again c =
     let a = c .before .before .before .before .before .before .before .before .args in
     let l = c .before .before .before .before .before .loop in
     let w = c .before .before .before .next-word in (
-      word-inside (a .text .now) (l .at) (l .inv .0) (w .result) (w .ensures) .1,
+      word-inside (a .text .now) (l .at) (l .inv .0) (w .ensures) .1,
       borne-turn (a .text .now) (a .count) (l .i) (l .at) (l .s)
-          (a .resource) (take (a .end - a .start) (drop (a .start) (a .text .now))) (w .result) (w .ensures)
+          (a .resource) (take (a .end - a .start) (drop (a .start) (a .text .now))) (w .ensures)
           (c .before .before .before .before .loop-test .taken)
           (sym (c .before .before .borne-here .ensures) ∙ c .before .if1 .left)
-          (c .after .result) (c .after .ensures) ∙ l .inv .1,
+          (c .after .ensures) ∙ l .inv .1,
     )
 
 returns-2 : tie.Need-returns-2 Inv-loop μ-loop

@@ -15,7 +15,7 @@ abbrev μ-loop : tie.MeasureT-loop
 μ-loop text s₀ at₀ words₀ s at words = length text - at
 
 loop-holds : tie.Need-loop-holds Inv-loop μ-loop
-loop-holds c = walk-start (c .before .before .args .text .now) (c .fresh .result) (c .fresh .ensures)
+loop-holds c = walk-start (c .before .before .args .text .now) (c .fresh .ensures)
 
 next-word-requires : tie.Need-next-word-requires Inv-loop μ-loop
 next-word-requires c κs = c .loop .inv .inside
@@ -24,7 +24,7 @@ fault-in-requires : tie.Need-fault-in-requires Inv-loop μ-loop
 fault-in-requires c κs =
     let l = c .before .loop in
     let w = c .next-word in
-    word-inside (c .before .before .before .before .args .text .now) (l .at) (l .inv .inside) (w .result) (w .ensures)
+    word-inside (c .before .before .before .before .args .text .now) (l .at) (l .inv .inside) (w .ensures)
 
 returns : tie.Need-returns Inv-loop μ-loop
 returns c =
