@@ -53,8 +53,8 @@ in-order bs at f s e =
     let g = given at (readNumber bs at) (f (readNumber bs at .value)) h in
     ap (λ (x : NumberRead). f (x .value)) (g .same) ∙ g .faultless)
 
-pub in-range : (bs : List ℕ) (at lo hi r : ℕ) → 0 < r → (s : NumberRead) → s ≡ checked bs at
-    (λ (v : ℕ). outside lo hi v r) → s .refusal ≡ none → (lo ≤ s .value) × (s .value ≤ hi)
+pub in-range : (bs : List ℕ) (at lo hi r : ℕ) → 0 < r → (s : NumberRead)
+    → s ≡ checked bs at (λ (v : ℕ). outside lo hi v r) → s .refusal ≡ none → (lo ≤ s .value) × (s .value ≤ hi)
 in-range bs at lo hi r p s e h = outside-none lo hi (s .value) r p (in-order bs at (λ (v : ℕ). outside lo hi v r) s e h)
 
 module _ {bs : List ℕ} {at : ℕ} {d : Draft} (o : ReadsOn bs at d) (more : ended (d .field) ≡ false) where

@@ -47,16 +47,16 @@ module _ (c : Config) (bs : List ℕ) (n at b : ℕ) (ks : List ℕ) (i e u : �
   abbrev At : Bool → Type 0
   At z = ReadsOn bs at (tableAt c n b ks (cond z (orOn (i + 1) n Period End) Offset) (cond z (i + 1) i) e u ps es os ts)
 
-  pub entry-first : e < u → ReadsOn bs at (tableAt c n b ks Offset i e u ps es os ts) → ReadsOn bs at
-      (entryOn c n b ks i e u ps es os ts)
+  pub entry-first : e < u → ReadsOn bs at (tableAt c n b ks Offset i e u ps es os ts)
+      → ReadsOn bs at (entryOn c n b ks i e u ps es os ts)
   entry-first h = subst At (sym (ne-eqb e u (λ z. absurd (omega arith))))
 
-  pub entry-more : e < u → ReadsOn bs at (entryOn c n b ks i e u ps es os ts) → ReadsOn bs at
-      (tableAt c n b ks Offset i e u ps es os ts)
+  pub entry-more : e < u → ReadsOn bs at (entryOn c n b ks i e u ps es os ts)
+      → ReadsOn bs at (tableAt c n b ks Offset i e u ps es os ts)
   entry-more h = subst At (ne-eqb e u (λ z. absurd (omega arith)))
 
-  pub entry-last : e ≤ u → u ≤ e → ReadsOn bs at (entryOn c n b ks i e u ps es os ts) → ReadsOn bs at
-      (tableOn c n b ks (i + 1) u ps es os ts)
+  pub entry-last : e ≤ u → u ≤ e → ReadsOn bs at (entryOn c n b ks i e u ps es os ts)
+      → ReadsOn bs at (tableOn c n b ks (i + 1) u ps es os ts)
   entry-last h k o =
       let z : e ≡ u = omega arith in
       subst (λ (j : ℕ). ReadsOn bs at (tableAt c n b ks (orOn (i + 1) n Period End) (i + 1) j u ps es os ts)) z
@@ -86,14 +86,14 @@ module _ (c : Config) (bs : List ℕ) (n at b : ℕ) (ks : List ℕ) (i e : ℕ)
       unfolding faultAt putAt ended
       count-goes = one (period-goes .0 hx) refl ey
 
-  pub table-more : i < n → ReadsOn bs at (tableOn c n b ks i e ps es os ts) → ReadsOn bs at
-      (tableAt c n b ks Period i e e ps es os ts)
+  pub table-more : i < n → ReadsOn bs at (tableOn c n b ks i e ps es os ts)
+      → ReadsOn bs at (tableAt c n b ks Period i e e ps es os ts)
   table-more h =
       subst (λ (z : Bool). ReadsOn bs at (tableAt c n b ks (cond z End Period) i e e ps es os ts))
       (ne-eqb i n (λ z. absurd (omega arith)))
 
-  pub table-last : i ≤ n → n ≤ i → ReadsOn bs at (tableOn c n b ks i e ps es os ts) → ReadsOn bs at
-      (tableOn c n b ks n e ps es os ts)
+  pub table-last : i ≤ n → n ≤ i → ReadsOn bs at (tableOn c n b ks i e ps es os ts)
+      → ReadsOn bs at (tableOn c n b ks n e ps es os ts)
   table-last h k = subst (λ (j : ℕ). ReadsOn bs at (tableOn c n b ks j e ps es os ts)) (omega arith)
 
 -- a count that is in order

@@ -45,8 +45,7 @@ module _ (t : List ℕ) (n : ℕ) where
         (λ q. rw (
           q,
           getD-set-same (k .from) (k .count) a 0 (omega (arith, s .from-room)),
-          getD-set-same (k .to) (k .count) e 0 (omega
-              (arith, s .to-room)),
+          getD-set-same (k .to) (k .count) e 0 (omega (arith, s .to-room)),
         ) new)
         (λ d. rw (getD-set-other (k .from) (k .count) i a 0 d, getD-set-other (k .to) (k .count) i e 0 d)
         (old i (omega arith)))

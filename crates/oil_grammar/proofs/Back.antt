@@ -292,8 +292,8 @@ module _ (k : ℕ) (p a : Bool) (m : ℕ) (lo : 1 ≤ m) (hi : m ≤ semicolonSo
           → suc i + once a ≤ 1
       new e true h i l =
           absurd (let g : _≡_ {A = ℕ} 63 0 =
-          rw (ne-eqb m closeSort d, ne-eqb m prioritySort n, ne-eqb m resourceSort u, e, h) at
-          (body-fault d) in omega arith)
+          rw (ne-eqb m closeSort d, ne-eqb m prioritySort n, ne-eqb m resourceSort u, e, h) at (body-fault d) in
+          omega arith)
       new e false h i l = rw h (omega arith)
 
   mark-attribute : Attributes k p a E (mark m ∷ ws)
@@ -304,8 +304,7 @@ module _ (k : ℕ) (p a : Bool) (m : ℕ) (lo : 1 ≤ m) (hi : m ≤ semicolonSo
 -- one word
 step : (v : Want) (k : ℕ) (p a : Bool) {w : W.Word} → Proper w → (ws : List W.Word) (seen : List ℕ → Bool)
     → faultAt v (at v k p a) (sortOf w) ≡ 0 → (namesAt v && seen (bytesOf w)) ≡ false
-    → Further (afterAt v (at v k p a) (sortOf w)) (cond (namesAt v) (λ x. seen x || same
-    (bytesOf w) x) seen) ws
+    → Further (afterAt v (at v k p a) (sortOf w)) (cond (namesAt v) (λ x. seen x || same (bytesOf w) x) seen) ws
     → (E : List (List ℕ)) → Sees seen E → Rest v k p a E (w ∷ ws)
 unfolding faultAt afterAt sortOf only unexpected objectFault attributeFault bodyFault valueFault unknown attributeBegun
     namesAt

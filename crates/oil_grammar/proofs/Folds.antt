@@ -127,8 +127,8 @@ module _ (t : List ℕ) where
       let i = borne-resources r (after s (sortFrom t a)) _ (rw (o .0) at acc) x in
       by-test (namesResource s)
       (λ e.
-      let y = bytes-back (sortFrom t a) (spelledFrom t a) (name-wanted (s .want) s (sortFrom t a) (left-true
-      (namesObject s) _ e) (o .1)) in
+      let y = bytes-back (sortFrom t a) (spelledFrom t a)
+      (name-wanted (s .want) s (sortFrom t a) (left-true (namesObject s) _ e) (o .1)) in
       rw (e, o .0, y) (cond-or (same (spelledFrom t a) x) _ ∙ ap (λ (z : Bool). same (spelledFrom t a) x || z) i))
       (λ e. rw (e, o .0) i)
 
@@ -282,8 +282,9 @@ fill-written (o ∷ os) u c k p a =
     begun-words o = by-test (isResource (o .kind)) (λ e. rw e) (λ e. rw e)
 
     begins : (o : O.Object)
-        → fillIn (at Object k p a) u c (mark (o .kind) ∷ name (o .called) ∷ mark openSort ∷ (attributesWords
-        (o .attributes) ++ (mark closeSort ∷ mark semicolonSort ∷ written os)))
+        → fillIn (at Object k p a) u c
+        (mark (o .kind) ∷ name (o .called) ∷ mark openSort ∷
+        (attributesWords (o .attributes) ++ (mark closeSort ∷ mark semicolonSort ∷ written os)))
         ≡ fillIn (at Attribute (o .kind) false false) u (begun u c o) (attributesWords (o .attributes) ++
         (mark closeSort ∷ mark semicolonSort ∷ written os))
     begins o =

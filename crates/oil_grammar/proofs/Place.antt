@@ -33,8 +33,8 @@ module _ (t : List ℕ) (at : ℕ) (all : at ≤ length t) where
   line-end l i h = rw (past i h)
 
   pub column-step : (l i : ℕ) → i < at
-      → columnAfter l (drop i (take at t)) ≡ columnAfter (cond (eqb (getD t i 0) lineFeed) 1 (l + 1)) (drop
-      (i + 1) (take at t))
+      → columnAfter l (drop i (take at t))
+      ≡ columnAfter (cond (eqb (getD t i 0) lineFeed) 1 (l + 1)) (drop (i + 1) (take at t))
   unfolding columnAfter
   column-step l i h = rw (next-of i h)
 

@@ -45,8 +45,7 @@ read-described = Whole.read-described
 pub accepted-exactly : (t : List ℕ) (c : Config) → Describes t c ↔ (readOil t ≡ accepted c)
 accepted-exactly t c = (
   described-read t c,
-  λ e. rw (ap (λ (r : OilRead). r .config) e) at
-      (read-described t (ap (λ (r : OilRead). r .refusal) e)),
+  λ e. rw (ap (λ (r : OilRead). r .config) e) at (read-described t (ap (λ (r : OilRead). r .refusal) e)),
 )
 
 -- a text describes at most one configuration

@@ -11,8 +11,8 @@ use Rattle.config_codec.proofs.bodies.read_bodies.Tie as tie
 
 abbrev Inv-loop : tie.InvT-loop
 Inv-loop bytes from n kind₀ priority₀ autostart₀ at₀ i₀ kind priority autostart at i =
-    (i ≤ n) × ((g : Config) → ReadsOn bytes from (bodyOn g n 0 kind₀ priority₀ autostart₀) → ReadsOn bytes at
-    (bodyOn g n i kind priority autostart))
+    (i ≤ n) × ((g : Config) → ReadsOn bytes from (bodyOn g n 0 kind₀ priority₀ autostart₀)
+    → ReadsOn bytes at (bodyOn g n i kind priority autostart))
 
 abbrev μ-loop : tie.MeasureT-loop
 μ-loop bytes from n kind₀ priority₀ autostart₀ at₀ i₀ kind priority autostart at i = n - i

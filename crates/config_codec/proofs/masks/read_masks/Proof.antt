@@ -12,8 +12,8 @@ use Rattle.config_codec.proofs.masks.read_masks.Tie as tie
 
 abbrev Inv-loop : tie.InvT-loop
 Inv-loop bytes from n bodies kind users₀ timed at₀ i₀ users at i =
-    (i ≤ n) × ((g : Config) → ReadsOn bytes from (usersOn g n bodies kind 0 users₀) → ReadsOn bytes at
-    (usersOn g n bodies kind i users))
+    (i ≤ n) × ((g : Config) → ReadsOn bytes from (usersOn g n bodies kind 0 users₀)
+    → ReadsOn bytes at (usersOn g n bodies kind i users))
 
 abbrev μ-loop : tie.MeasureT-loop
 μ-loop bytes from n bodies kind users₀ timed at₀ i₀ users at i = n - i

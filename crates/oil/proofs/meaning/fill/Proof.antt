@@ -14,8 +14,8 @@ use Rattle.oil.proofs.meaning.fill.Statement.{statement}
 use Rattle.oil.proofs.meaning.fill.Tie as tie
 
 abbrev Inv-loop : tie.InvT-loop
-Inv-loop text words c₀ s₀ at₀ i₀ c s at i = (at ≤ length text) × (fill (words - i) text at s
-    (λ x. mask words text 0 fresh x 0 0) c ≡ filled text words)
+Inv-loop text words c₀ s₀ at₀ i₀ c s at i =
+    (at ≤ length text) × (fill (words - i) text at s (λ x. mask words text 0 fresh x 0 0) c ≡ filled text words)
 
 abbrev μ-loop : tie.MeasureT-loop
 μ-loop text words c₀ s₀ at₀ i₀ c s at i = words - i
@@ -35,8 +35,8 @@ loop-again c =
     let l = c .before .before .before .before .loop in
     let w = c .before .before .next-word in (
       word-inside (a .text .now) (l .at) (l .inv .0) (w .ensures) .1,
-      fill-turn (a .text .now) (a .words) (l .i) (l .at) (l .s) (λ
-          (x : List ℕ). mask (a .words) (a .text .now) 0 fresh x 0 0) (l .c) (w .ensures)
+      fill-turn (a .text .now) (a .words) (l .i) (l .at) (l .s)
+          (λ (x : List ℕ). mask (a .words) (a .text .now) 0 fresh x 0 0) (l .c) (w .ensures)
           (c .before .before .before .loop-test .taken) (c .after .ensures) (c .before .put .ensures) ∙ l .inv .1,
     )
 

@@ -22,8 +22,8 @@ returns-2 c =
     rw (
       sym (c .before .before .before .before .before .before .uses-resource .ensures) ∙ not-false _
           (c .before .before .before .before .before .if1 .left),
-      sym (same-result (m .result) (spelling (a .text .now) (a .w)) (take
-          (a .end - a .start) (drop (a .start) (a .text .now))) (m .ensures)) ∙ c .before .if2 .taken,
+      sym (same-result (m .result) (spelling (a .text .now) (a .w))
+          (take (a .end - a .start) (drop (a .start) (a .text .now))) (m .ensures)) ∙ c .before .if2 .taken,
     ) (c .with .ensures)
 
 returns-3 : tie.Need-returns-3
@@ -34,8 +34,8 @@ returns-3 c =
     rw (
       sym (c .before .before .before .before .before .uses-resource .ensures) ∙ not-false _
           (c .before .before .before .before .if1 .left),
-      sym (same-result (m .result) (spelling (a .text .now) (a .w)) (take
-          (a .end - a .start) (drop (a .start) (a .text .now))) (m .ensures)) ∙ c .if2 .left,
+      sym (same-result (m .result) (spelling (a .text .now) (a .w))
+          (take (a .end - a .start) (drop (a .start) (a .text .now))) (m .ensures)) ∙ c .if2 .left,
     )
 
 pub marked-spec : {M : Type 1} → statement M

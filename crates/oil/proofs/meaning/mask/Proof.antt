@@ -13,8 +13,8 @@ use Rattle.oil.proofs.meaning.mask.Tie as tie
 
 abbrev Inv-loop : tie.InvT-loop
 Inv-loop text words start end s₀ at₀ b₀ m₀ i₀ s at b m i =
-    (at ≤ length text) × (mask (words - i) text at s (take (end - start)
-    (drop start text)) b m ≡ mask words text 0 fresh (take (end - start) (drop start text)) 0 0)
+    (at ≤ length text) × (mask (words - i) text at s (take (end - start) (drop start text)) b m
+    ≡ mask words text 0 fresh (take (end - start) (drop start text)) 0 0)
 
 abbrev μ-loop : tie.MeasureT-loop
 μ-loop text words start end s₀ at₀ b₀ m₀ i₀ s at b m i = words - i
@@ -39,8 +39,7 @@ loop-again c =
       mask-turn (a .text .now) (a .words) (l .i) (l .at) (l .s)
           (take (a .end - a .start) (drop (a .start) (a .text .now))) (l .b) (l .m) (w .ensures)
           (c .before .before .before .before .loop-test .taken) (c .after .ensures)
-          (c .before .numbered .ensures) (c .before .before .marked .ensures)
-          ∙ l .inv .1,
+          (c .before .numbered .ensures) (c .before .before .marked .ensures) ∙ l .inv .1,
     )
 
 returns : tie.Need-returns Inv-loop μ-loop

@@ -12,8 +12,8 @@ use Rattle.oil.proofs.meaning.value.Tie as tie
 
 abbrev Inv-loop : tie.InvT-loop
 Inv-loop text start end v₀ i₀ v i =
-    ((start ≤ i) × (i ≤ end)) × ((v ≤ 255) × (held (decimal v (take (end - i) (drop i text))) ≡ held
-    (decimal 0 (take (end - start) (drop start text)))))
+    ((start ≤ i) × (i ≤ end)) × ((v ≤ 255)
+    × (held (decimal v (take (end - i) (drop i text))) ≡ held (decimal 0 (take (end - start) (drop start text)))))
 
 abbrev μ-loop : tie.MeasureT-loop
 μ-loop text start end v₀ i₀ v i = end - i

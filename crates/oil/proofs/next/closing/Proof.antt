@@ -28,17 +28,16 @@ returns-2 : tie.Need-returns-2 Inv-loop μ-loop
 returns-2 c =
     let a = c .before .before .before .before .before .before .before .before .args in
     let l = c .before .before .before .before .before .before .loop in
-    seeks-here (a .text .now) (a .at) (l .i) (l .inv .1) (let h = c .before .before .before .before .if1 .left in
-    omega arith) (sym
-    (c .before .closes .ensures) ∙ c .if2 .taken)
+    let h = c .before .before .before .before .if1 .left in
+    seeks-here (a .text .now) (a .at) (l .i) (l .inv .1) (omega arith) (sym (c .before .closes .ensures) ∙ c .if2 .taken)
 
 loop-again : tie.Need-loop-again Inv-loop μ-loop
 loop-again c =
     let a = c .before .before .before .before .before .before .before .before .args in
-    let l = c .before .before .before .before .before .before .loop in (
+    let l = c .before .before .before .before .before .before .loop in
+    let h = c .before .before .before .before .if1 .left in (
       omega arith,
-      seeks-later (a .text .now) (a .at) (l .i) (l .inv .1) (let h = c .before .before .before .before .if1 .left in
-          omega arith)
+      seeks-later (a .text .now) (a .at) (l .i) (l .inv .1) (omega arith)
           (sym (c .before .closes .ensures) ∙ c .if2 .left),
     )
 

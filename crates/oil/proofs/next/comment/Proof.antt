@@ -28,8 +28,7 @@ returns-3 : tie.Need-returns-3
 returns-3 c =
     let a = c .before .before .before .before .before .before .before .args in
     open-comment (a .text .now) (a .at) (omega arith) (c .before .before .before .if2 .left)
-    (c .before .before .if3 .taken) (sym
-    (c .before .closing .ensures) ∙ c .if4 .taken)
+    (c .before .before .if3 .taken) (sym (c .before .closing .ensures) ∙ c .if4 .taken)
 
 add-result-2 : tie.Need-add-result-2
 add-result-2 c =

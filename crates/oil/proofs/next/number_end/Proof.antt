@@ -23,16 +23,16 @@ returns : tie.Need-returns Inv-loop μ-loop
 returns c =
     let a = c .before .before .before .before .before .before .args in
     let l = c .before .before .before .before .loop in
-    run-stopped isDigit (a .text .now) (a .at) (l .i) (l .inv .1) (c .before .before .before .loop-test .taken) (sym
-    (c .before .is-digit .ensures) ∙ not-true _ (c .if1 .taken))
+    run-stopped isDigit (a .text .now) (a .at) (l .i) (l .inv .1) (c .before .before .before .loop-test .taken)
+    (sym (c .before .is-digit .ensures) ∙ not-true _ (c .if1 .taken))
 
 loop-again : tie.Need-loop-again Inv-loop μ-loop
 loop-again c =
     let a = c .before .before .before .before .before .before .args in
     let l = c .before .before .before .before .loop in (
       omega arith,
-      run-more isDigit (a .text .now) (a .at) (l .i) (l .inv .1) (c .before .before .before .loop-test .taken) (sym
-          (c .before .is-digit .ensures) ∙ not-false _ (c .if1 .left)),
+      run-more isDigit (a .text .now) (a .at) (l .i) (l .inv .1) (c .before .before .before .loop-test .taken)
+          (sym (c .before .is-digit .ensures) ∙ not-false _ (c .if1 .left)),
     )
 
 returns-2 : tie.Need-returns-2 Inv-loop μ-loop

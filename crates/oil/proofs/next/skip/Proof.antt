@@ -52,8 +52,9 @@ loop-again c =
     let a = c .before .before .before .before .args in
     let l = c .before .before .loop in (
       omega (arith, c .before .blank .ensures, blank-inside (a .text .now) (l .i) (l .inv .0)),
-      rw (c .before .blank .ensures) (sym (skip-more
-          (a .text .now) (l .i) (l .inv .0) (λ e. c .if1 .left (c .before .blank .ensures ∙ e))) ∙ l .inv .1),
+      rw (c .before .blank .ensures)
+          (sym (skip-more (a .text .now) (l .i) (l .inv .0) (λ e. c .if1 .left (c .before .blank .ensures ∙ e)))
+          ∙ l .inv .1),
     )
 
 pub skip-spec : {M : Type 1} → statement M

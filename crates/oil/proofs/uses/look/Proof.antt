@@ -43,8 +43,8 @@ returns-4 c =
       rw (c .keep .ensures) (kept-sound (a .text .now) (a .words) (a .k)
           (c .before .before .before .before .before .before .before .before .pre .0) (a .w .start) (a .w .end)
           (c .before .before .before .before .before .before .before .before .pre .1 .0)
-          (c .before .before .before .before .before .before .before .before .pre .1 .1) (sym
-          (c .before .before .before .before .search .ensures) ∙ not-false _ (c .before .before .if2 .left))),
+          (c .before .before .before .before .before .before .before .before .pre .1 .1)
+          (sym (c .before .before .before .before .search .ensures) ∙ not-false _ (c .before .before .if2 .left))),
       rw (
         sym
             (c .before .before .before .before .before .before .uses-resource .ensures) ∙ not-false _

@@ -14,8 +14,8 @@ use Rattle.oil.proofs.uses.unborne.Statement.{statement}
 use Rattle.oil.proofs.uses.unborne.Tie as tie
 
 abbrev Inv-loop : tie.InvT-loop
-Inv-loop text words k₀ s₀ at₀ i₀ k s at i = (at ≤ length text) × (Sound text words k × (unborne
-    (words - i) text at s words ≡ unborne words text 0 fresh words))
+Inv-loop text words k₀ s₀ at₀ i₀ k s at i =
+    (at ≤ length text) × (Sound text words k × (unborne (words - i) text at s words ≡ unborne words text 0 fresh words))
 
 abbrev μ-loop : tie.MeasureT-loop
 μ-loop text words k₀ s₀ at₀ i₀ k s at i = words - i

@@ -13,8 +13,8 @@ use Rattle.oil.proofs.walk.borne.Tie as tie
 
 abbrev Inv-loop : tie.InvT-loop
 Inv-loop text count resource start end s₀ at₀ i₀ s at i =
-    (at ≤ length text) × (borne (count - i) text at s resource (take (end - start)
-    (drop start text)) ≡ borne count text 0 fresh resource (take (end - start) (drop start text)))
+    (at ≤ length text) × (borne (count - i) text at s resource (take (end - start) (drop start text))
+    ≡ borne count text 0 fresh resource (take (end - start) (drop start text)))
 
 abbrev μ-loop : tie.MeasureT-loop
 μ-loop text count resource start end s₀ at₀ i₀ s at i = count - i
