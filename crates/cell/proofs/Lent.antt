@@ -57,35 +57,35 @@ module _ {M : Type 1} {𝓤 : URA M} {H : Heap 𝓤} {A : Atoms 𝓤} {K : Type 
         (‵ (row R fullShare ys b o) ∷ Opened R κ q b o γ xs ∷ Γ) G
     closes-row ys long = step (λ s.
         -- [auth; the room; obs; the open borrow; the row]
-        move t (1 ∷ []) $ split t $ move t (1 ∷ []) $ split t $ move t (1 ∷ []) $ split t $ move t
-        (4 ∷ 3 ∷ 2 ∷ 0 ∷ []) $
-        closes-slice t z R xs ys long b o $ rewrite t 3 (λ (n : ℕ). ‵ (room R n)) (sym long) refl $ fjoin t $ move t
-        (2 ∷ []) $
+        move t (1 ∷ []) $ split t $ move t (1 ∷ []) $ split t $ move t (1 ∷ []) $ split t $
+        move t (4 ∷ 3 ∷ 2 ∷ 0 ∷ []) $
+        closes-slice t z R xs ys long b o $ rewrite t 3 (λ (n : ℕ). ‵ (room R n)) (sym long) refl $ fjoin t $
+        move t (2 ∷ []) $
         feqI t (List Val) (sliceVal (b, o) (length xs) ∷ []) (sliceVal (b, o) (length ys) ∷ [])
         (ap (λ (n : ℕ). sliceVal (b, o) n ∷ []) (sym long)) $ fjoin t $ fjoin t $ s)
 
   module _ (bs : List (R .Denot)) (x : R .Denot) (zs : List (R .Denot)) where
     pub takes-next : (vals : R .Denot → List Val) → Tells R (Is R) vals
         → (Is R x (vals x)
-        → Seq K W (‵ (cellAt fullShare (R .mir) (vals x) b (length bs * mem R .size + o)) ∷ ‵ (R .own x (vals x)) ∷ ‵
-        (others (shares R) fullShare (bs ++ x ∷ zs) (length bs) b o) ∷ Γ) G)
+        → Seq K W (‵ (cellAt fullShare (R .mir) (vals x) b (length bs * mem R .size + o)) ∷ ‵ (R .own x (vals x))
+        ∷ ‵ (others (shares R) fullShare (bs ++ x ∷ zs) (length bs) b o) ∷ Γ) G)
         → Seq K W (‵ (row R fullShare (bs ++ x ∷ zs) b o) ∷ Γ) G
     takes-next vals tells k =
         elem-out t R (Is R) (shows 𝓤 H A R) vals tells fullShare (bs ++ x ∷ zs) (length bs) x b o (seam-lt bs x zs)
         (λ is.
         rewrite t 0 (λ (y : R .Denot). ‵ (cellAt fullShare (R .mir) (vals y) b (place (mem R .size) o (length bs))))
         (getD-append-seam bs x zs x) refl $
-        rewrite t 0 (λ (p : ℕ). ‵ (cellAt fullShare (R .mir) (vals x) b p)) (place-is (mem R .size) o (length bs)) refl
-        $
+        rewrite t 0 (λ (p : ℕ). ‵ (cellAt fullShare (R .mir) (vals x) b p)) (place-is (mem R .size) o (length bs))
+        refl $
         rewrite t 1 (λ (y : R .Denot). ‵ (R .own y (vals y))) (getD-append-seam bs x zs x) refl $
         k (subst (λ (y : R .Denot). Is R y (vals y)) (getD-append-seam bs x zs x) is))
 
     pub puts-next : (y : R .Denot) (vs : List Val)
         → Step K W (‵ (row R fullShare (bs ++ y ∷ zs) b o) ∷ Γ) G
-        (‵ (cellAt fullShare (R .mir) vs b (length bs * mem R .size + o)) ∷ ‵ (R .own y vs) ∷ ‵
-        (others (shares R) fullShare (bs ++ x ∷ zs) (length bs) b o) ∷ Γ) G
+        (‵ (cellAt fullShare (R .mir) vs b (length bs * mem R .size + o)) ∷ ‵ (R .own y vs)
+        ∷ ‵ (others (shares R) fullShare (bs ++ x ∷ zs) (length bs) b o) ∷ Γ) G
     puts-next y vs = step (λ s.
-        rewrite t 0 (λ (p : ℕ). ‵ (cellAt fullShare (R .mir) vs b p)) (sym (place-is (mem R .size) o (length bs))) refl
-        $
+        rewrite t 0 (λ (p : ℕ). ‵ (cellAt fullShare (R .mir) vs b p)) (sym (place-is (mem R .size) o (length bs)))
+        refl $
         elem-put t R fullShare (bs ++ x ∷ zs) (length bs) y vs b o (seam-lt bs x zs) $
         rewrite t 0 (λ (ys : List (R .Denot)). ‵ (row R fullShare ys b o)) (set-append-seam bs x zs y) refl $ s)

@@ -36,8 +36,8 @@ module _ {M : Type 1} (𝓤 : URA M) (H : Heap 𝓤) (A : Atoms 𝓤) (W : Given
   array-out single makes v is =
       qed W (‵ (fat fullShare array b o v) ∷ []) ∵ use1 W (‵ (fat fullShare (rawTy array) b o v))
       (W .laws .at-raw fullShare array b o v) $
-      owned ! (Array R n) (Is (Array R n)) (array-makes 𝓤 H A W R makes n) xs (v ∷ []) is $ move !
-      (1 ∷ 0 ∷ []) $ fjoin ! $
+      owned ! (Array R n) (Is (Array R n)) (array-makes 𝓤 H A W R makes n) xs (v ∷ []) is $ move ! (1 ∷ 0 ∷ []) $
+      fjoin ! $
       fpack ! (List Val) (λ vs. fsep (cellAt fullShare (Array R n .mir) vs b o) (Array R n .own xs vs)) (v ∷ []) $
       use1 W (‵ (arr-parts (shares R) n .part fullShare xs b o)) (array-apart 𝓤 H A W R fullShare single n xs b o) $
       fsplit ! $ drop ! $

@@ -92,8 +92,8 @@ module _ {M : Type 1} (𝓤 : URA M) (H : Heap 𝓤) (A : Atoms 𝓤) (W : Given
       (sem 𝓤 H A (MutSlice (named 0) κ T.the-row .own (sliceAt l 0 γ xs) (sliceVal (l, 0) (length xs) ∷ []))))
       (TickRow .pre (to-tick-row κ l γ xs))
   goes-tick-row κ l γ xs =
-      qed W (‵ (flft κ fullShare) ∷ ‵
-      (MutSlice (named 0) κ T.the-row .own (sliceAt l 0 γ xs) (sliceVal (l, 0) (length xs) ∷ [])) ∷ []) ∵
+      qed W (‵ (flft κ fullShare)
+      ∷ ‵ (MutSlice (named 0) κ T.the-row .own (sliceAt l 0 γ xs) (sliceVal (l, 0) (length xs) ∷ [])) ∷ []) ∵
       nothing ! $ move ! (2 ∷ 0 ∷ []) $ fjoin ! $ nothing ! $ move ! (2 ∷ 0 ∷ []) $ join ! $ join ! $ frame ! $ done !
 
   typed : (xs : List Cell) (v : Val) → Cells xs v → Holds (hasTy (tyArray T′.mir 1000) v) × WT v
@@ -129,8 +129,8 @@ module _ {M : Type 1} (𝓤 : URA M) (H : Heap 𝓤) (A : Atoms 𝓤) (W : Given
         (array-makes 𝓤 H A W T.the-row (LL.makes T.the-type T′.the-plain 𝓤 H A) 1000) ys (machines ys ∷ []) is′ $
         nothing ! $ owned ! usize (Is usize) (uint-makes 𝓤 H A W w64) n (vint w64 n ∷ []) (refl, n-fits) $ fjoin ! $
         owned ! (Array T.the-row 1000) (Is (Array T.the-row 1000))
-        (array-makes 𝓤 H A W T.the-row (LL.makes T.the-type T′.the-plain 𝓤 H A) 1000) xs
-        (machines xs ∷ []) is $ fjoin ! $
+        (array-makes 𝓤 H A W T.the-row (LL.makes T.the-type T′.the-plain 𝓤 H A) 1000) xs (machines xs ∷ []) is $
+        fjoin ! $
         nothing ! $ done !
 
     module _ (C : Calls 𝓤 H) (Λ : Loops 𝓤 H) (fm : FmC 𝓤 H (W .laws) C) (known : Triple 𝓤 (C #tick-row) TickRow) where
@@ -139,8 +139,8 @@ module _ {M : Type 1} (𝓤 : URA M) (H : Heap 𝓤) (A : Atoms 𝓤) (W : Given
       walk =
           qed W (‵ ftrue ∷ ‵ (owns (Array T.the-row 1000 ∷ usize ∷ []) (xs, (n, tt)) at-entry) ∷ []) ∵ enter ! C Λ
           code.function (machines xs ∷ vint w64 n ∷ []) _ $
-          alloc1 ! (λ l₀. alloc1 !
-          (λ l₁. alloc1 ! (λ l₂. alloc1 ! (λ l₃. alloc1 ! (λ l₄. alloc1 ! (λ l₅. alloc1 ! (λ l₆. alloc0 ! $ params1 ! $
+          alloc1 ! (λ l₀. alloc1 ! (λ l₁. alloc1 ! (λ l₂. alloc1 ! (λ l₃.
+          alloc1 ! (λ l₄. alloc1 ! (λ l₅. alloc1 ! (λ l₆. alloc0 ! $ params1 ! $
           pass1 ! (init ! 10 refl (typed xs _ is)) $ pass1 ! (init ! 8 refl (tt, record { fits = n-fits })) $ pass0 ! $
           -- [local k at 2 · (6 - k); ..]
           assigns ! (of-opd ! (load ! (from ! (stop !)) (look ! 10 refl))) (from ! (stop !))
@@ -155,28 +155,26 @@ module _ {M : Type 1} (𝓤 : URA M) (H : Heap 𝓤) (A : Atoms 𝓤) (W : Given
           move ! (6 ∷ []) $ use1 W (‵ (cells (mem T.the-row) xs l₃ 0))
           (array-out 𝓤 H A W T.the-row 1000 l₃ 0 xs tt (LL.makes T.the-type T′.the-plain 𝓤 H A) (machines xs) is) $
           rewrite ! 0 (λ (ys : List Cell). ‵ (cells (mem T.the-row) ys l₃ 0)) (sym (take-append-drop n xs)) refl $
-          use1 W (‵ (cells (mem T.the-row) first l₃ 0) ⊛ ‵
-          (cells (mem T.the-row) rest l₃ (at 0 (mem T.the-row .size) (length first))))
-          (cut-app 𝓤 H A (mem T.the-row) first rest l₃ 0) $ split ! $
+          use1 W (‵ (cells (mem T.the-row) first l₃ 0) ⊛ ‵ (cells (mem T.the-row) rest l₃
+          (at 0 (mem T.the-row .size) (length first)))) (cut-app 𝓤 H A (mem T.the-row) first rest l₃ 0) $ split ! $
           lft-new ! tt (λ α. move ! (1 ∷ []) $
           use1 W (later (some
           (λ (γ : GName). ‵ (MutSlice (named 0) (α ∷ []) T.the-row .own (sliceAt l₃ 0 γ first)
           (sliceVal (l₃, 0) (length first) ∷ [])) ⊛ ‵ (flent (α ∷ []) (Held T.the-row (length first) l₃ 0 γ)))))
           (lends-slice 𝓤 H A W T.the-row (named 0) (α ∷ []) first l₃ 0 first-fits) $ await ! tt $ pick ! (λ γ. split ! $
-          move ! (2 ∷ 0 ∷ []) $ use2 W (raw (TickRow .pre (to-tick-row (α ∷ []) l₃ γ first)))
-          (goes-tick-row (α ∷ []) l₃ γ first) $
+          move ! (2 ∷ 0 ∷ []) $
+          use2 W (raw (TickRow .pre (to-tick-row (α ∷ []) l₃ γ first))) (goes-tick-row (α ∷ []) l₃ γ first) $
           calls-at ! fm TickRow known (to-tick-row (α ∷ []) l₃ γ first)
           (and-then ! (load ! (from ! (stop !)) (look ! 3 refl)) (no-more !)) (λ v.
           use1 W (later (some
-          (λ (r : Unit {0}). ((‵ (flft (α ∷ []) fullShare) ⊛ ‵ ftrue) ⊛ ‵ (unit .own r (v ∷ []))) ⊛ raw
-          (ensured 𝓤 H A tick-row.ended (tick-row.clauses 𝓤 H A mem-of run) (α ∷ [], tt)
+          (λ (r : Unit {0}). ((‵ (flft (α ∷ []) fullShare) ⊛ ‵ ftrue) ⊛ ‵ (unit .own r (v ∷ []))) ⊛
+          raw (ensured 𝓤 H A tick-row.ended (tick-row.clauses 𝓤 H A mem-of run) (α ∷ [], tt)
           (sliceAt l₃ 0 γ first, tt) tt r)))) (id⊢ 𝓤 _) $ await ! tt $ pick ! (λ r.
           split ! $ move ! (1 ∷ []) $
-          use1 W (some (λ (ws : List Cell × Unit {0}). ‵
-          (lasts tick-row.ended (α ∷ [], tt) (sliceAt l₃ 0 γ first, tt) ws) ⊛ raw (fact 𝓤 (ws .0 ≡ tickedRow first))))
-          (id⊢ 𝓤 _) $ pick ! (λ ws.
-          split ! $ move ! (1 ∷ []) $ heard ! (ws .0 ≡ tickedRow first)
-          (λ e. fsplit ! $ fsplit ! $ move ! (1 ∷ []) $ feqL ! (λ long.
+          use1 W (some (λ (ws : List Cell × Unit {0}). ‵ (lasts tick-row.ended (α ∷ [], tt)
+          (sliceAt l₃ 0 γ first, tt) ws) ⊛ raw (fact 𝓤 (ws .0 ≡ tickedRow first)))) (id⊢ 𝓤 _) $ pick ! (λ ws.
+          split ! $ move ! (1 ∷ []) $
+          heard ! (ws .0 ≡ tickedRow first) (λ e. fsplit ! $ fsplit ! $ move ! (1 ∷ []) $ feqL ! (λ long.
           -- [the last list; true; the token and the result; the lender's part; the rest; ..]
           move ! (2 ∷ []) $ split ! $ move ! (1 ∷ []) $ facts ! unit (Is unit) (shows 𝓤 H A unit) r (v ∷ []) (λ done-is.
           land ! (from ! (stop !)) (init ! 9 refl (nothing-lawful 𝓤 H A W .typed r _ done-is .0)) $
@@ -185,8 +183,8 @@ module _ {M : Type 1} (𝓤 : URA M) (H : Heap 𝓤) (A : Atoms 𝓤) (W : Given
           split ! $ lft-end ! tt $ move ! (0 ∷ 4 ∷ 2 ∷ []) $
           use3 W (later (‵ (Arr (mem T.the-row) (length first) .lies (ws .0) l₃ 0)))
           (slice-back 𝓤 H A W T.the-row (α ∷ []) γ (ws .0) (length first) l₃ 0) $ await ! tt $ fsplit ! $ drop ! $
-          move ! (0 ∷ 3 ∷ []) $ rewrite ! 1
-          (λ (m : ℕ). ‵ (cells (mem T.the-row) rest l₃ (at 0 (mem T.the-row .size) m))) (sym long) refl $
+          move ! (0 ∷ 3 ∷ []) $
+          rewrite ! 1 (λ (m : ℕ). ‵ (cells (mem T.the-row) rest l₃ (at 0 (mem T.the-row .size) m))) (sym long) refl $
           use2 W (‵ (cells (mem T.the-row) (ws .0 ++ rest) l₃ 0)) (join-app 𝓤 H A (mem T.the-row) (ws .0) rest l₃ 0) $
           use1 W (given (Cells (ws .0 ++ rest) (machines (ws .0 ++ rest)))
           (‵ (fat fullShare (tyArray T′.mir 1000) l₃ 0 (machines (ws .0 ++ rest)))))
@@ -194,12 +192,12 @@ module _ {M : Type 1} (𝓤 : URA M) (H : Heap 𝓤) (A : Atoms 𝓤) (W : Given
           (same-len n xs (ws .0) long ∙ all-1000)) $ learn ! (λ is′.
           assigns ! (of-opd ! (load ! (from ! (stop !)) (look ! 0 refl))) (from ! (stop !))
           (init ! 14 refl (typed (ws .0 ++ rest) _ is′)) $
-          returns ! (look ! 14 refl) $ forget ! 0 refl $ forget ! 3 refl $ forget ! 5 refl $ forget ! 7 refl $ forget !
-          10 refl $ forget ! 12 refl $ forget ! 14 refl $
-          move ! (14 ∷ 15 ∷ []) $ free1 ! $ move ! (12 ∷ 13 ∷ []) $ free1 ! $ move ! (10 ∷ 11 ∷ []) $ free1 ! $ move !
-          (0 ∷ 9 ∷ []) $ free1 ! $
-          move ! (6 ∷ 7 ∷ []) $ free1 ! $ move ! (4 ∷ 5 ∷ []) $ free1 ! $ move ! (2 ∷ 3 ∷ []) $ free1 ! $ free0 ! $ keep
-          ! [] $
+          returns ! (look ! 14 refl) $ forget ! 0 refl $ forget ! 3 refl $ forget ! 5 refl $ forget ! 7 refl $
+          forget ! 10 refl $ forget ! 12 refl $ forget ! 14 refl $
+          move ! (14 ∷ 15 ∷ []) $ free1 ! $ move ! (12 ∷ 13 ∷ []) $ free1 ! $ move ! (10 ∷ 11 ∷ []) $ free1 ! $
+          move ! (0 ∷ 9 ∷ []) $ free1 ! $
+          move ! (6 ∷ 7 ∷ []) $ free1 ! $ move ! (4 ∷ 5 ∷ []) $ free1 ! $ move ! (2 ∷ 3 ∷ []) $ free1 ! $ free0 ! $
+          keep ! [] $
           by ! (exits (ws .0 ++ rest) is′ (ap (λ ys. ys ++ rest) e))))))))))))))))))
         where
           first-fits : Room T.the-row (length first)

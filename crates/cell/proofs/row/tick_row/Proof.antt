@@ -88,8 +88,8 @@ module _ {M : Type 1} (𝓤 : URA M) (H : Heap 𝓤) (A : Atoms 𝓤) (W : Given
 
   goes-tick : (c : Cell) → ent 𝓤 (sem 𝓤 H A (T.the-row .own c (machine c ∷ []))) (Tick .pre (to-tick c))
   goes-tick c =
-      qed W (‵ (T.the-row .own c (machine c ∷ [])) ∷ []) ∵ nothing ! $ move ! (1 ∷ 0 ∷ []) $ join ! $ nothing ! $ join !
-      $ frame ! $ done !
+      qed W (‵ (T.the-row .own c (machine c ∷ [])) ∷ []) ∵ nothing ! $ move ! (1 ∷ 0 ∷ []) $ join ! $ nothing ! $
+      join ! $ frame ! $ done !
 
   -- a cell's machine value is one of the struct's type
   typed : (c : Cell) (v : Val) → Is T.the-row c (v ∷ []) → Holds (hasTy T′.mir v) × WT v
@@ -187,13 +187,12 @@ module _ {M : Type 1} (𝓤 : URA M) (H : Heap 𝓤) (A : Atoms 𝓤) (W : Given
           calls-at ! fm Tick known (to-tick z) (and-then ! (load ! (from ! (stop !)) (look ! 17 refl)) (no-more !))
           (λ v.
           use1 W (later (some
-          (λ (r : Cell). (‵ ftrue ⊛ ‵ (T.the-row .own r (v ∷ []))) ⊛ raw
-          (ensured 𝓤 H A tick.ended (tick.clauses 𝓤 H A mem-of run) tt (z, tt) tt r)))) (id⊢ 𝓤 _) $ await ! tt $ pick !
-          (λ r.
-          split ! $ move ! (1 ∷ []) $ use1 W (raw (fact 𝓤 (r ≡ tickCell z))) (ticked-of z r) $ heard ! (r ≡ tickCell z)
-          (λ e. split ! $ drop ! $
-          rewrite ! 0 (λ (c : Cell). ‵ (T.the-row .own c (v ∷ []))) e refl $ peeks ! T.the-row (Is T.the-row)
-          (shows 𝓤 H A T.the-row) (tickCell z) (v ∷ []) (λ is′.
+          (λ (r : Cell). (‵ ftrue ⊛ ‵ (T.the-row .own r (v ∷ []))) ⊛ raw (ensured 𝓤 H A tick.ended
+          (tick.clauses 𝓤 H A mem-of run) tt (z, tt) tt r)))) (id⊢ 𝓤 _) $ await ! tt $ pick ! (λ r.
+          split ! $ move ! (1 ∷ []) $ use1 W (raw (fact 𝓤 (r ≡ tickCell z))) (ticked-of z r) $
+          heard ! (r ≡ tickCell z) (λ e. split ! $ drop ! $
+          rewrite ! 0 (λ (c : Cell). ‵ (T.the-row .own c (v ∷ []))) e refl $
+          peeks ! T.the-row (Is T.the-row) (shows 𝓤 H A T.the-row) (tickCell z) (v ∷ []) (λ is′.
           land ! (from ! (stop !)) (init ! 13 refl (typed (tickCell z) v is′)) $
           -- row[i] is stored to, and put back. The places are the invariant's again
           assigns ! (bin ! (load ! (from ! (stop !)) (look ! 7 refl)) (lit ! tt) (record { fits = place-fits }))
@@ -206,8 +205,8 @@ module _ {M : Type 1} (𝓤 : URA M) (H : Heap 𝓤) (A : Atoms 𝓤) (W : Given
           -- i += 1
           assigns-last ! (bin ! (load ! (from ! (stop !)) (look ! 5 refl)) (lit ! tt) (record { fits = next-fits }))
           (from ! (stop !)) (store ! 5 refl (tt, record { fits = next-fits })) $
-          forget ! 7 refl $ forget ! 9 refl $ forget ! 11 refl $ forget ! 13 refl $ forget ! 15 refl $ forget ! 17 refl
-          $ forget ! 19 refl $
+          forget ! 7 refl $ forget ! 9 refl $ forget ! 11 refl $ forget ! 13 refl $ forget ! 15 refl $
+          forget ! 17 refl $ forget ! 19 refl $
           rewrite ! 5 (λ (i : ℕ). ‵ (fat fullShare word l₂ 0 (vint w64 i)))
           (sym (next-length tickCell xs bs z zs in-all)) refl $
           rewrite ! 0 (λ (ys : List Cell). ‵ (row T.the-row fullShare ys b o))
@@ -239,22 +238,19 @@ module _ {M : Type 1} (𝓤 : URA M) (H : Heap 𝓤) (A : Atoms 𝓤) (W : Given
           rewrite ! 0 (λ (ys : List Cell). ‵ (row T.the-row fullShare ys b o)) (append-nil bs) refl $
           move ! (0 ∷ 21 ∷ []) $ closes-row ! T.the-row b o tt (named 0) κ q γ xs bs long $
           -- [the slice; the token; local k at 2 + 2 · k]
-          returns ! (look ! 2 refl) $ forget ! 2 refl $ forget ! 4 refl $ forget ! 6 refl $ forget ! 8 refl $ forget !
-          10 refl $
-          move ! (2 ∷ 3 ∷ []) $ free1 ! $ move ! (2 ∷ 3 ∷ []) $ free1 ! $ move ! (2 ∷ 3 ∷ []) $ free1 ! $ move !
-          (2 ∷ 3 ∷ []) $ free1 ! $ move ! (2 ∷ 3 ∷ []) $ free1 ! $
-          move ! (2 ∷ 3 ∷ []) $ free1 ! $ move ! (2 ∷ 3 ∷ []) $ free1 ! $ move ! (2 ∷ 3 ∷ []) $ free1 ! $ move !
-          (2 ∷ 3 ∷ []) $ free1 ! $ move ! (2 ∷ 3 ∷ []) $ free1 ! $ free0 ! $
+          returns ! (look ! 2 refl) $ forget ! 2 refl $ forget ! 4 refl $ forget ! 6 refl $ forget ! 8 refl $
+          forget ! 10 refl $
+          move ! (2 ∷ 3 ∷ []) $ free1 ! $ move ! (2 ∷ 3 ∷ []) $ free1 ! $ move ! (2 ∷ 3 ∷ []) $ free1 ! $
+          move ! (2 ∷ 3 ∷ []) $ free1 ! $ move ! (2 ∷ 3 ∷ []) $ free1 ! $
+          move ! (2 ∷ 3 ∷ []) $ free1 ! $ move ! (2 ∷ 3 ∷ []) $ free1 ! $ move ! (2 ∷ 3 ∷ []) $ free1 ! $
+          move ! (2 ∷ 3 ∷ []) $ free1 ! $ move ! (2 ∷ 3 ∷ []) $ free1 ! $ free0 ! $
           by ! (exits bs long (end-done tickCell xs bs in-all))
         where
           long : length bs ≡ n
           long = end-length tickCell xs bs in-all
 
-      turn-at : (bs zs : List Cell) (in-all : bs ++ tickedRow zs ≡ tickedRow xs) → Turn (record {
-        behind = bs;
-        ahead = zs;
-        in-all = in-all;
-      })
+      turn-at : (bs zs : List Cell) (in-all : bs ++ tickedRow zs ≡ tickedRow xs)
+          → Turn (record { behind = bs; ahead = zs; in-all = in-all })
       turn-at bs [] in-all = ends bs in-all
       turn-at bs (z ∷ zs) in-all = more bs z zs in-all
 
@@ -268,22 +264,19 @@ module _ {M : Type 1} (𝓤 : URA M) (H : Heap 𝓤) (A : Atoms 𝓤) (W : Given
     walk 𝓣 fm known g =
         qed W ((‵ (flft κ q) ⊛ ‵ ftrue) ∷ ‵ (owns (MutSlice (named 0) κ T.the-row ∷ []) x at) ∷ []) ∵ enter ! (𝓣 .C)
         (𝓣 .Λ) code.function (sliceVal (b, o) n ∷ []) _ $
-        alloc1 ! (λ l₀. alloc1 !
-        (λ l₁. alloc1 !
-        (λ l₂. alloc1 !
-        (λ l₃. alloc1 !
-        (λ l₄. alloc1 ! (λ l₅. alloc1 ! (λ l₆. alloc1 ! (λ l₇. alloc1 ! (λ l₈. alloc1 ! (λ l₉. alloc0 ! $ params1 ! $
+        alloc1 ! (λ l₀. alloc1 ! (λ l₁. alloc1 ! (λ l₂. alloc1 ! (λ l₃. alloc1 ! (λ l₄.
+        alloc1 ! (λ l₅. alloc1 ! (λ l₆. alloc1 ! (λ l₇. alloc1 ! (λ l₈. alloc1 ! (λ l₉. alloc0 ! $ params1 ! $
         -- [local k at 2 · (9 - k); the token; the slice]
         pass1 ! (init ! 16 refl (tt, (tt, (record { fits = g .0 }, tt)))) $ pass0 ! $
         assigns ! (of-opd ! (lit ! tt)) (from ! (stop !)) (init ! 14 refl (tt, record { fits = lit< tt })) $
-        move ! (21 ∷ []) $ fsplit ! $ move ! (22 ∷ []) $ split ! $ move ! (2 ∷ 0 ∷ []) $ opens-row ! T.the-row b o tt
-        (named 0) κ q γ xs $
+        move ! (21 ∷ []) $ fsplit ! $ move ! (22 ∷ []) $ split ! $ move ! (2 ∷ 0 ∷ []) $
+        opens-row ! T.the-row b o tt (named 0) κ q γ xs $
         -- [the row; the open slice; true; true; local k at 4 + 2 · (9 - k)]
         keep ! (0 ∷ 22 ∷ 23 ∷ 20 ∷ 21 ∷ 18 ∷ 19 ∷ 16 ∷ 17 ∷ 14 ∷ 15 ∷ 12 ∷ 13 ∷ 10 ∷ 11 ∷ 8 ∷ 9 ∷ 6 ∷ 7 ∷ 4 ∷ 5 ∷ 1 ∷
         []) $
-        first ! $ blocks ! $ loops ! 𝓣 (Nearer tickCell xs) (nearer-wf tickCell xs)
-        (At 𝓣 fm known g l₀ l₁ l₂ l₃ l₄ l₅ l₆ l₇ l₈ l₉) (turns 𝓣 fm known g l₀ l₁ l₂ l₃ l₄ l₅ l₆ l₇ l₈ l₉)
-        (start tickCell xs)))))))))))
+        first ! $ blocks ! $
+        loops ! 𝓣 (Nearer tickCell xs) (nearer-wf tickCell xs) (At 𝓣 fm known g l₀ l₁ l₂ l₃ l₄ l₅ l₆ l₇ l₈ l₉)
+        (turns 𝓣 fm known g l₀ l₁ l₂ l₃ l₄ l₅ l₆ l₇ l₈ l₉) (start tickCell xs)))))))))))
 
   tick-row-walks : (𝓣 : Tables 𝓤 H) → FmC 𝓤 H (W .laws) (𝓣 .C) → Triple 𝓤 (𝓣 .C #tick) Tick
       → Walks 𝓤 H A tick-row.ended stayed (WpFn 𝓤 H (𝓣 .C) (𝓣 .Λ) code.function) (tick-row.clauses 𝓤 H A mem-of run)

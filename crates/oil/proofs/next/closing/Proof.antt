@@ -29,7 +29,8 @@ returns-2 c =
     let a = c .before .before .before .before .before .before .before .before .args in
     let l = c .before .before .before .before .before .before .loop in
     let h = c .before .before .before .before .if1 .left in
-    seeks-here (a .text .now) (a .at) (l .i) (l .inv .1) (omega arith) (sym (c .before .closes .ensures) ∙ c .if2 .taken)
+    seeks-here (a .text .now) (a .at) (l .i) (l .inv .1) (omega arith)
+    (sym (c .before .closes .ensures) ∙ c .if2 .taken)
 
 loop-again : tie.Need-loop-again Inv-loop μ-loop
 loop-again c =
