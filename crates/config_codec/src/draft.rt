@@ -152,21 +152,15 @@ pub fn put(d: Draft, v: u32) -> Draft
             row(d, c, Field::Kind, 0)
         }
         Field::Kind => {
-            let mut kind = c.kind;
-            kind[i] = v as u8;
-            c.kind = kind;
+            c.kind[i] = v as u8;
             row(d, c, Field::Priority, i)
         }
         Field::Priority => {
-            let mut priority = c.priority;
-            priority[i] = v as u8;
-            c.priority = priority;
+            c.priority[i] = v as u8;
             row(d, c, Field::Autostart, i)
         }
         Field::Autostart => {
-            let mut autostart = c.autostart;
-            autostart[i] = v as u8;
-            c.autostart = autostart;
+            c.autostart[i] = v as u8;
             let j = i + 1;
             row(
                 d,
@@ -180,9 +174,7 @@ pub fn put(d: Draft, v: u32) -> Draft
             row(d, c, or_on(0, v as usize, Field::Users, Field::Tables), 0)
         }
         Field::Users => {
-            let mut users = c.users;
-            users[i] = v;
-            c.users = users;
+            c.users[i] = v;
             let j = i + 1;
             row(
                 d,
@@ -196,15 +188,11 @@ pub fn put(d: Draft, v: u32) -> Draft
             row(d, c, or_on(0, v as usize, Field::Period, Field::End), 0)
         }
         Field::Period => {
-            let mut period = c.period;
-            period[i] = v as u16;
-            c.period = period;
+            c.period[i] = v as u16;
             row(d, c, Field::Entries, i)
         }
         Field::Entries => {
-            let mut entries = c.entries;
-            entries[i] = v as u8;
-            c.entries = entries;
+            c.entries[i] = v as u8;
             Draft {
                 config: c,
                 field: Field::Offset,
@@ -214,15 +202,11 @@ pub fn put(d: Draft, v: u32) -> Draft
             }
         }
         Field::Offset => {
-            let mut offset = c.offset;
-            offset[e] = v as u16;
-            c.offset = offset;
+            c.offset[e] = v as u16;
             row(d, c, Field::Task, i)
         }
         Field::Task => {
-            let mut task = c.task;
-            task[e] = v as u8;
-            c.task = task;
+            c.task[e] = v as u8;
             let after = e + 1;
             if after != d.until {
                 return Draft {

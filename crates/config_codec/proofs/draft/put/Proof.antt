@@ -25,36 +25,34 @@ fits f s e = small f (s .args .d) (s .args .v) e (s .pre .1)
 period-fits : (s : tie.Start) → Fits w16 (getD (s .args .d .config .period) (s .args .d .index) 0)
 period-fits s = search needs
 
-cast-offset : tie.Need-cast-offset
+cast-offset : tie.Need-cast-c-10
 unfolding Small
 cast-offset c =
-    let s = c .before .before .before .before in
-    let p = period-fits s in
-    let n = fits Offset s (c .before .enum-told11 .given .1) in omega arith
+    let p = period-fits (c .before .before .before) in
+    let n = fits Offset (c .before .before .before) (c .enum-told11 .given .1) in omega arith
 
-cast-task : tie.Need-cast-task
+cast-task : tie.Need-cast-c-11
 unfolding Small
 cast-task c =
-    let s = c .before .before .before .before in
-    let n = fits Task s (c .before .enum-told12 .given .1) in omega (arith, s .pre .0)
+    let n = fits Task (c .before .before .before) (c .enum-told12 .given .1) in omega arith
 
 add-j-3 : tie.Need-add-j-3
 unfolding Inside
 add-j-3 c =
-    let a = c .before .before .before in let s = a .before .before .before in
-    let i = inside Task s (a .enum-told12 .given .1) in omega (arith, s .pre .0)
+    let a = c .before .before in
+    let i = inside Task (a .before .before .before) (a .enum-told12 .given .1) in omega arith
 
 -- after an entry's task: another entry of the table, or another table
 returns : tie.Need-returns
 unfolding putAt
 returns c =
-    let a = c .before .before .before in let d = a .before .before .before .args .d in
+    let a = c .before .before in let d = a .before .before .before .args .d in
     rw (a .enum-told12 .given .1, ne-eqb (d .entry + 1) (d .until) (c .if1 .taken))
 
 returns-13 : tie.Need-returns-13
 unfolding putAt
 returns-13 c =
-    let b = c .before .before in let a = b .before .before .before in let d = a .before .before .before .args .d in
+    let b = c .before in let a = b .before .before in let d = a .before .before .before .args .d in
     rw (a .enum-told12 .given .1, eq-eqb (d .entry + 1) (d .until) (b .if1 .left), c .or-on5 .ensures)
 
 pub put-spec : {M : Type 1} → statement M
@@ -67,63 +65,51 @@ put-spec =
     (λ c κs. search needs) (λ c. search needs)
     (λ c. let n = fits Bodies (c .before .before .before) (c .enum-told2 .given .1) in omega arith)
     (λ c κs. search needs) (λ c. search needs)
-    (λ c. let n = fits Kind (c .before .before .before .before) (c .before .enum-told3 .given .1) in omega arith)
-    (λ c. let s = c .before .before .before .before in
-    let i = inside Kind s (c .before .enum-told3 .given .1) in omega (arith, s .pre .0))
+    (λ c. let n = fits Kind (c .before .before .before) (c .enum-told3 .given .1) in omega arith)
+    (λ c. let i = inside Kind (c .before .before .before) (c .enum-told3 .given .1) in omega arith)
     (λ c κs. search needs) (λ c. search needs)
-    (λ c. let n = fits Priority (c .before .before .before .before) (c .before .enum-told4 .given .1) in omega arith)
-    (λ c. let s = c .before .before .before .before in
-    let i = inside Priority s (c .before .enum-told4 .given .1) in omega (arith, s .pre .0))
+    (λ c. let n = fits Priority (c .before .before .before) (c .enum-told4 .given .1) in omega arith)
+    (λ c. let i = inside Priority (c .before .before .before) (c .enum-told4 .given .1) in omega arith)
     (λ c κs. search needs) (λ c. search needs)
-    (λ c. let n = fits Autostart (c .before .before .before .before) (c .before .enum-told5 .given .1) in omega arith)
-    (λ c. let s = c .before .before .before .before in
-    let i = inside Autostart s (c .before .enum-told5 .given .1) in omega (arith, s .pre .0))
-    (λ c. let s = c .before .before .before .before in
-    let i = inside Autostart s (c .before .enum-told5 .given .1) in omega (arith, s .pre .0))
+    (λ c. let n = fits Autostart (c .before .before .before) (c .enum-told5 .given .1) in omega arith)
+    (λ c. let i = inside Autostart (c .before .before .before) (c .enum-told5 .given .1) in omega arith)
+    (λ c. let i = inside Autostart (c .before .before .before) (c .enum-told5 .given .1) in omega arith)
     (λ c. search needs) (λ c κs. search needs) (λ c κs. search needs) (λ c. search needs)
     (λ c. let n = fits Resources (c .before .before .before) (c .enum-told6 .given .1) in omega arith)
     (λ c κs. search needs) (λ c κs. search needs) (λ c. search needs)
-    (λ c. let s = c .before .before .before .before in
-    let i = inside Users s (c .before .enum-told7 .given .1) in omega (arith, s .pre .0))
-    (λ c. let s = c .before .before .before .before in
-    let i = inside Users s (c .before .enum-told7 .given .1) in omega (arith, s .pre .0))
-    (λ c. let s = c .before .before .before .before in
-    let i = inside Users s (c .before .enum-told7 .given .1) in omega (arith, s .pre .0))
+    (λ c. let i = inside Users (c .before .before .before) (c .enum-told7 .given .1) in omega arith)
+    (λ c. let i = inside Users (c .before .before .before) (c .enum-told7 .given .1) in omega arith)
+    (λ c. let i = inside Users (c .before .before .before) (c .enum-told7 .given .1) in omega arith)
     (λ c. search needs) (λ c κs. search needs) (λ c κs. search needs) (λ c. search needs)
     (λ c. let n = fits Tables (c .before .before .before) (c .enum-told8 .given .1) in omega arith)
     (λ c κs. search needs) (λ c κs. search needs) (λ c. search needs)
-    (λ c. let n = fits Period (c .before .before .before .before) (c .before .enum-told9 .given .1) in omega arith)
-    (λ c. let s = c .before .before .before .before in
-    let i = inside Period s (c .before .enum-told9 .given .1) in omega (arith, s .pre .0))
-    (λ c. let s = c .before .before .before .before in
-    let i = inside Period s (c .before .enum-told9 .given .1) in omega (arith, s .pre .0))
+    (λ c. let n = fits Period (c .before .before .before) (c .enum-told9 .given .1) in omega arith)
+    (λ c. let i = inside Period (c .before .before .before) (c .enum-told9 .given .1) in omega arith)
+    (λ c. let i = inside Period (c .before .before .before) (c .enum-told9 .given .1) in omega arith)
     (λ c κs. search needs) (λ c. search needs)
-    (λ c. let n = fits Entries (c .before .before .before .before) (c .before .enum-told10 .given .1) in omega arith)
-    (λ c. let s = c .before .before .before .before in
-    let i = inside Entries s (c .before .enum-told10 .given .1) in omega (arith, s .pre .0))
+    (λ c. let n = fits Entries (c .before .before .before) (c .enum-told10 .given .1) in omega arith)
+    (λ c. let i = inside Entries (c .before .before .before) (c .enum-told10 .given .1) in omega arith)
     (λ c. search needs) (λ c. search needs)
     cast-offset
     (λ c. search needs)
-    (λ c. let s = c .before .before .before .before in
-    let i = inside Offset s (c .before .enum-told11 .given .1) in omega (arith, s .pre .0))
+    (λ c. let i = inside Offset (c .before .before .before) (c .enum-told11 .given .1) in omega arith)
     (λ c κs. search needs) (λ c. search needs)
     cast-task
-    (λ c. let s = c .before .before .before .before in
-    let i = inside Task s (c .before .enum-told12 .given .1) in omega (arith, s .pre .0))
+    (λ c. let i = inside Task (c .before .before .before) (c .enum-told12 .given .1) in omega arith)
     (λ c. search needs)
     returns
     add-j-3
     (λ c. search needs) (λ c κs. search needs) (λ c. search needs)
     (λ c. rw (c .before .enum-told .given .1) (c .row .ensures))
     (λ c. rw (c .before .enum-told2 .given .1) (c .row2 .ensures))
-    (λ c. rw (c .before .before .enum-told3 .given .1) (c .row3 .ensures))
-    (λ c. rw (c .before .before .enum-told4 .given .1) (c .row4 .ensures))
-    (λ c. rw (c .before .before .before .before .enum-told5 .given .1, c .row5 .ensures, c .before .or-on .ensures))
+    (λ c. rw (c .before .enum-told3 .given .1) (c .row3 .ensures))
+    (λ c. rw (c .before .enum-told4 .given .1) (c .row4 .ensures))
+    (λ c. rw (c .before .before .enum-told5 .given .1, c .row5 .ensures, c .before .or-on .ensures))
     (λ c. rw (c .before .before .enum-told6 .given .1, c .row6 .ensures, c .before .or-on2 .ensures))
-    (λ c. rw (c .before .before .before .before .enum-told7 .given .1, c .row7 .ensures, c .before .or-on3 .ensures))
+    (λ c. rw (c .before .before .enum-told7 .given .1, c .row7 .ensures, c .before .or-on3 .ensures))
     (λ c. rw (c .before .before .enum-told8 .given .1, c .row8 .ensures, c .before .or-on4 .ensures))
-    (λ c. rw (c .before .before .enum-told9 .given .1) (c .row9 .ensures))
-    (λ c. rw (c .before .enum-told10 .given .1))
-    (λ c. rw (c .before .before .enum-told11 .given .1) (c .row10 .ensures))
+    (λ c. rw (c .before .enum-told9 .given .1) (c .row9 .ensures))
+    (λ c. rw (c .enum-told10 .given .1))
+    (λ c. rw (c .before .enum-told11 .given .1) (c .row10 .ensures))
     returns-13
     (λ c. rw (c .enum-told13 .given .1)))
