@@ -1,4 +1,5 @@
--- The table's arithmetic: how `due` moves from one tick to the next, and how far it is to the next due tick (`due-from`).
+-- The table's arithmetic: how `due` moves from one tick to the next, and how far it is to the next due tick
+-- (`due-from`).
 use Prim.Native.Nat.{ℕ, suc, _+_, _*_, _-_, _/_, _%_, _≤_, _<_}
 use mathlib.Core.Bool.{true, false, true≢false}
 use mathlib.Core.Logic.{⊎-elim}
@@ -16,12 +17,12 @@ module _ (P : ℕ) where
   unfolding due
   due-before before = simp (lt-leb _ _ before)
 
-  pub due-after : {D n : ℕ} → D ≤ n → due P D n ≡ eqb ((n - D) % P) 0
+  due-after : {D n : ℕ} → D ≤ n → due P D n ≡ eqb ((n - D) % P) 0
   unfolding due
   due-after after = simp (le-leb _ _ after)
 
   -- a tick later with a delay that is a tick longer
-  pub due-shift : (k D n : ℕ) → due P (k + D) (k + n) ≡ due P D n
+  due-shift : (k D n : ℕ) → due P (k + D) (k + n) ≡ due P D n
   due-shift k D n =
       ⊎-elim
       (λ (before : n < D). due-before (omega arith) ∙ sym (due-before before))
@@ -42,7 +43,7 @@ module _ (P : ℕ) where
   pub due-first : (D : ℕ) → due P D D ≡ true
   due-first D = due-after (omega arith) ∙ eq-eqb _ _ (at-delay D)
 
-  pub due-one : (u : ℕ) → 1 ≤ u → due P u 1 ≡ eqb u 1
+  due-one : (u : ℕ) → 1 ≤ u → due P u 1 ≡ eqb u 1
   due-one u some =
       ⊎-elim
       (λ (more : 1 < u). due-before more ∙ sym (ne-eqb u 1 (λ (e : u ≡ 1). omega arith)))
@@ -70,7 +71,7 @@ module _ (P : ℕ) where
   unfolding untilDue
   until-before before = simp (lt-ltb _ _ before)
 
-  pub until-after : {D n : ℕ} → D ≤ n → untilDue P D n ≡ P - (n - D) % P
+  until-after : {D n : ℕ} → D ≤ n → untilDue P D n ≡ P - (n - D) % P
   unfolding untilDue
   until-after after = simp (le-ltb _ _ after)
 
@@ -80,7 +81,7 @@ module _ (P : ℕ) where
 
   module _ (one-le : 1 ≤ P) where
     -- r ticks after a due one, the next is P − r ticks ahead
-    pub due-again : (r k : ℕ) → r < P → due P (P - r) (suc k) ≡ eqb ((r + suc k) % P) 0
+    due-again : (r k : ℕ) → r < P → due P (P - r) (suc k) ≡ eqb ((r + suc k) % P) 0
     due-again r k below =
         ⊎-elim
         (λ (before : suc k < P - r).
@@ -113,7 +114,7 @@ module _ (P : ℕ) where
         ∙ sym (due-again ((n - D) % P) k (mod-lt (n - D) one-le))))
         (lt-or-le n D)
 
-    pub until-some : (D n : ℕ) → 1 ≤ untilDue P D n
+    until-some : (D n : ℕ) → 1 ≤ untilDue P D n
     until-some D n =
         ⊎-elim
         (λ (before : n < D). rw (until-before before) (omega arith))
@@ -122,4 +123,6 @@ module _ (P : ℕ) where
 
     -- the next tick is a due one exactly when one tick is left
     pub due-next : (D n : ℕ) → due P D (suc n) ≡ eqb (untilDue P D n) 1
-    due-next D n = let e : suc n ≡ n + 1 = omega arith in rw e (due-from D n 0 ∙ due-one (untilDue P D n) (until-some D n))
+    due-next D n =
+        let e : suc n ≡ n + 1 = omega arith in
+        rw e (due-from D n 0 ∙ due-one (untilDue P D n) (until-some D n))

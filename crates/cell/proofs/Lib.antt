@@ -1,4 +1,5 @@
--- The laws of the cell. `Theorems` states them. `Tick` to `Rows` prove them, and the walk of `tick_row` goes by `Progress` and `Lent`.
+-- The laws of the cell. `Theorems` states them. `Tick` to `Rows` prove them, and the walk of `tick_row` goes by
+-- `Progress` and `Lent`.
 pub mod Theorems
 pub mod Tick
 pub mod Order

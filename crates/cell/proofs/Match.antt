@@ -1,7 +1,7 @@
 -- When a cell matches: `matches-when-due`, at the end of the file.
 --
--- In order: how many additions of 1 lead a cell's counter to its compare value (`Counting`); what a start and a tick do to that; the ticks at
--- which the cell matches. Of the counter it uses `Reach` alone.
+-- In order: how many additions of 1 lead a cell's counter to its compare value (`Counting`); what a start and a tick do
+-- to that; the ticks at which the cell matches. Of the counter it uses `Reach` alone.
 use Prim.Native.Nat.{ℕ, zero, suc, _+_, _-_, _%_, _≤_, _<_}
 use mathlib.Core.Bool.{Bool, true, false, cond}
 use mathlib.Core.Logic.{⊎-elim}
@@ -26,10 +26,12 @@ module _ (M P : ℕ) (one-le : 1 ≤ P) (P-fits : P ≤ M) where
 
   -- a match leaves the counter that a start with the period for its delay would
   reset-period : resetIn M ≡ startCounterIn M (P - 1) P
-  reset-period = let e : P - 1 + 1 ≡ P = omega arith in reset-start M (P - 1) compare-lt ∙ ap (startCounterIn M (P - 1)) e
+  reset-period =
+      let e : P - 1 + 1 ≡ P = omega arith in
+      reset-start M (P - 1) compare-lt ∙ ap (startCounterIn M (P - 1)) e
 
-  -- a cell that is on, with period P and u ticks before its next match: those that bring the counter to the compare value, and a turn more
-  -- where one must pass
+  -- a cell that is on, with period P and u ticks before its next match: those that bring the counter to the compare
+  -- value, and a turn more where one must pass
   record Counting (c : Cell) (u : ℕ) : Type 0 where
     on : c .on ≡ true
     compares : c .compare ≡ P - 1
@@ -55,7 +57,9 @@ module _ (M P : ℕ) (one-le : 1 ≤ P) (P-fits : P ≤ M) where
         on = refl;
         compares = compare-one-less;
         ahead = D - M;
-        reaches = rw (start-counter D, start-later M (P - 1) D (omega arith)) (reaches-start M (P - 1) compare-lt (D - M) (omega arith) (omega arith));
+        reaches =
+            rw (start-counter D, start-later M (P - 1) D (omega arith))
+            (reaches-start M (P - 1) compare-lt (D - M) (omega arith) (omega arith));
         left = rw (start-long D more) (omega arith);
       })
       (λ (few : D ≤ M).
@@ -69,7 +73,8 @@ module _ (M P : ℕ) (one-le : 1 ≤ P) (P-fits : P ≤ M) where
       (lt-or-le M D)
 
   -- the compare value is not reached, or reached and a turn has passed: no match, and one tick less
-  counting-passes : {c : Cell} {u : ℕ} → Counting c (suc (suc u)) → (tickCellIn M c .matched ≡ false) × Counting (tickCellIn M c) (suc u)
+  counting-passes : {c : Cell} {u : ℕ} → Counting c (suc (suc u))
+      → (tickCellIn M c .matched ≡ false) × Counting (tickCellIn M c) (suc u)
   counting-passes {c} {u} k = go (k .ahead) (c .turn) refl (k .reaches) (k .left)
     where
       go : (v : ℕ) (t : Bool) → c .turn ≡ t → Reaches M (P - 1) (c .counter) v → suc (suc u) ≡ v + cond t M 0
@@ -83,14 +88,24 @@ module _ (M P : ℕ) (one-le : 1 ≤ P) (P-fits : P ≤ M) where
               on = refl;
               compares = k .compares;
               ahead = M;
-              reaches = rw (reaches-next M (P - 1) r ∙ turn-start M (P - 1) compare-lt) (reaches-start M (P - 1) compare-lt M (omega arith) (omega arith));
+              reaches =
+                  rw (reaches-next M (P - 1) r ∙ turn-start M (P - 1) compare-lt)
+                  (reaches-start M (P - 1) compare-lt M (omega arith) (omega arith));
               left = omega arith;
             },
           )
       go (suc (suc v)) t turn r left =
           let p = reaches-later M (P - 1) r in
-          rw (ticked-passed M c (k .on) refl (λ here. p .0 (here ∙ k .compares)))
-          (refl, record { on = refl; compares = k .compares; ahead = suc v; reaches = p .1; left = rw turn (omega arith) })
+          rw (ticked-passed M c (k .on) refl (λ here. p .0 (here ∙ k .compares))) (
+            refl,
+            record {
+              on = refl;
+              compares = k .compares;
+              ahead = suc v;
+              reaches = p .1;
+              left = rw turn (omega arith);
+            },
+          )
 
   counting-matches : {c : Cell} → Counting c 1 → (tickCellIn M c .matched ≡ true) × Counting (tickCellIn M c) P
   counting-matches {c} k = go (k .ahead) (c .turn) refl (k .reaches) (k .left)
@@ -121,8 +136,11 @@ module _ (M P : ℕ) (one-le : 1 ≤ P) (P-fits : P ≤ M) where
   counting-when-due zero (suc zero) k = counting-matches k .0 ∙ sym (Due.due-first P 1)
   counting-when-due zero (suc (suc u)) k = counting-passes k .0 ∙ sym (Due.due-before P (omega arith))
   counting-when-due (suc n) zero k = absurd (none k)
-  counting-when-due (suc n) (suc zero) k = counting-when-due n P (counting-matches k .1) ∙ sym (Due.due-suc P 0 (suc n) ∙ Due.due-period P one-le n)
-  counting-when-due (suc n) (suc (suc u)) k = counting-when-due n (suc u) (counting-passes k .1) ∙ sym (Due.due-suc P (suc u) (suc n))
+  counting-when-due (suc n) (suc zero) k =
+      counting-when-due n P (counting-matches k .1) ∙ sym (Due.due-suc P 0 (suc n) ∙ Due.due-period P one-le n)
+  counting-when-due (suc n) (suc (suc u)) k =
+      counting-when-due n (suc u) (counting-passes k .1) ∙ sym (Due.due-suc P (suc u) (suc n))
 
-  pub matches-when-due : (D n : ℕ) → 1 ≤ D → D ≤ M + M → ticksIn M (suc n) (startCellIn M P D) .matched ≡ due P D (suc n)
+  pub matches-when-due : (D n : ℕ) → 1 ≤ D → D ≤ M + M → ticksIn M (suc n) (startCellIn M P D) .matched
+      ≡ due P D (suc n)
   matches-when-due D n some fits = counting-when-due n D (counting-start D some fits)

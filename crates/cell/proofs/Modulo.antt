@@ -41,4 +41,5 @@ turn-apart {M} {k} v fits some few same =
 pub minus-twice : {M r s a : ℕ} (b c : ℕ) → a < M → r < M → (s + b) % M ≡ a → (r + c) % M ≡ s → r ≡ minus M a (b + c)
 minus-twice {M} {r} {s} {a} b c fits below first second =
     let e : r + (b + c) ≡ r + c + b = omega arith in
-    minus-unique a (b + c) below (ap (λ n. n % M) e ∙ sym (mod-add-mod (r + c) M b) ∙ ap (λ n. (n + b) % M) second ∙ first ∙ sym (mod-eq-of-lt fits))
+    minus-unique a (b + c) below (ap (λ n. n % M) e ∙ sym (mod-add-mod (r + c) M b) ∙ ap (λ n. (n + b) % M) second
+    ∙ first ∙ sym (mod-eq-of-lt fits))

@@ -1,5 +1,6 @@
--- How far a loop is that goes through a list and puts f x in the place of each x: the elements behind it are done, those ahead are as they
--- were. It starts with none behind, each turn takes one element from ahead to behind, and with none ahead the list behind is `map f` of the whole.
+-- How far a loop is that goes through a list and puts f x in the place of each x: the elements behind it are done,
+-- those ahead are as they were. It starts with none behind, each turn takes one element from ahead to behind, and with
+-- none ahead the list behind is `map f` of the whole.
 use Prim.Native.Nat.{_+_, _<_}
 use mathlib.Core.List.{List, [], _∷_, _++_, map, append-assoc, append-nil}
 use mathlib.Core.Path.{_≡_, refl, sym, ap, _∙_}
@@ -26,7 +27,8 @@ module _ {X : Type 0} (f : X → X) (xs : List X) where
 
   pub counts : (p : Progress) → length (p .behind) + length (p .ahead) ≡ length xs
   counts p =
-      let parts : length (p .behind ++ map f (p .ahead)) ≡ length (p .behind) + length (map f (p .ahead)) = length-append (p .behind) (map f (p .ahead)) in
+      let parts : length (p .behind ++ map f (p .ahead)) ≡ length (p .behind) + length (map f (p .ahead)) =
+      length-append (p .behind) (map f (p .ahead)) in
       omega (arith, parts, ap length (p .in-all), length-map (p .ahead) f, length-map xs f)
 
   module _ (bs : List X) (z : X) (zs : List X) (in-all : bs ++ map f (z ∷ zs) ≡ map f xs) where

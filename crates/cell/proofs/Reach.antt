@@ -1,6 +1,6 @@
--- How many additions of 1 bring a counter of any modulus M to the compare value k: from the start counter for D it is the D-th, and none
--- before it, for D from 1 to M (`reaches-start`). So the counter that a match leaves is a period before the next, and one that stands at
--- the compare value a turn.
+-- How many additions of 1 bring a counter of any modulus M to the compare value k: from the start counter for D it is
+-- the D-th, and none before it, for D from 1 to M (`reaches-start`). So the counter that a match leaves is a period
+-- before the next, and one that stands at the compare value a turn.
 use Prim.Native.Nat.{ℕ, zero, suc, _+_, _-_, _%_, _≤_, _<_}
 use mathlib.Core.Logic.{_≢_}
 use mathlib.Core.Path.{_≡_, sym, ap, _∙_}
@@ -9,7 +9,7 @@ use native.Mathlib.Omega.{arith}
 use Rattle.cell.specs.Cell.{startCounterIn, sumIn, sumsIn, resetIn}
 use Rattle.cell.proofs.Modulo.{minus-plus, minus-unique, turn-apart}
 
-pub sums-add : (M n i : ℕ) → i < M → sumsIn M n i ≡ (i + n) % M
+sums-add : (M n i : ℕ) → i < M → sumsIn M n i ≡ (i + n) % M
 unfolding sumsIn
 sums-add M zero i fits = let e : i + 0 ≡ i = omega arith in sym (ap (λ s. s % M) e ∙ mod-eq-of-lt fits)
 sums-add M (suc n) i fits =
@@ -33,7 +33,11 @@ module _ (M k : ℕ) where
   unfolding sumsIn
   reaches-later r = (
     r .none-before 1 (omega arith) (omega arith),
-    record { some = omega arith; reached = r .reached; none-before = λ n some less. r .none-before (suc n) (omega arith) (omega arith) },
+    record {
+      some = omega arith;
+      reached = r .reached;
+      none-before = λ n some less. r .none-before (suc n) (omega arith) (omega arith);
+    },
   )
 
   module _ (fits : k < M) where

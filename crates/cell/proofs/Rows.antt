@@ -9,7 +9,7 @@ use Rattle.cell.specs.declared.Cell.{Cell}
 use Rattle.cell.specs.Cell.{tickCell, ticks, ticksIn}
 use Rattle.cell.specs.Rows.{tickedRow, rowTicks}
 
-pub row-ticks : (n : ℕ) (cs : List Cell) → rowTicks n cs ≡ map (ticks n) cs
+row-ticks : (n : ℕ) (cs : List Cell) → rowTicks n cs ≡ map (ticks n) cs
 unfolding rowTicks ticksIn
 row-ticks zero cs = sym (map-id cs)
 row-ticks (suc n) cs = row-ticks n (tickedRow cs) ∙ map-map (ticks n) tickCell cs
@@ -23,5 +23,6 @@ map-at f [] i d e within = absurd (omega arith)
 map-at f (c ∷ cs) zero d e within = refl
 map-at f (c ∷ cs) (suc i) d e within = map-at f cs i d e (le-of-suc-le-suc within)
 
-pub row-at : (n : ℕ) (cs : List Cell) (i : ℕ) (d : Cell) → i < length cs → getD (rowTicks n cs) i d ≡ ticks n (getD cs i d)
+pub row-at : (n : ℕ) (cs : List Cell) (i : ℕ) (d : Cell) → i < length cs
+    → getD (rowTicks n cs) i d ≡ ticks n (getD cs i d)
 row-at n cs i d within = ap (λ r. getD r i d) (row-ticks n cs) ∙ map-at (ticks n) cs i d d within

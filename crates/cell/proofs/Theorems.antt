@@ -1,7 +1,9 @@
--- What the crate shows beyond its contracts. Each law stands here in full, over specs/ alone; the module it cites proves it.
+-- What the crate shows beyond its contracts. Each law stands here in full, over specs/ alone; the module it cites
+-- proves it.
 --
--- In order: the start counter, by additions alone; one tick, field by field; a cell that is off, a stopped cell; the main law, `matches-when-due`; and what
--- a caller needs who keeps for a cell the ticks since its start (`OnTime`) or the ticks left to its next match (`Left`); a row of cells.
+-- In order: the start counter, by additions alone; one tick, field by field; a cell that is off, a stopped cell; the
+-- main law, `matches-when-due`; and what a caller needs who keeps for a cell the ticks since its start (`OnTime`) or
+-- the ticks left to its next match (`Left`); a row of cells.
 use Prim.Native.Nat.{ℕ, suc, _+_, _-_, _%_, _≤_, _<_}
 use mathlib.Core.Bool.{Bool, true, false, cond, not, _&&_}
 use mathlib.Core.List.{List}
@@ -21,7 +23,8 @@ use Rattle.cell.proofs.Due as Due
 use Rattle.cell.proofs.OnTime as OnTime
 use Rattle.cell.proofs.Rows as Rows
 
--- the D-th addition of 1 to the start counter, and none before it, brings it to the compare value k: for a counter of any modulus M
+-- the D-th addition of 1 to the start counter, and none before it, brings it to the compare value k: for a counter of
+-- any modulus M
 pub compare-reached-in : (M k D : ℕ) → k < M → 1 ≤ D → D ≤ M
     → (sumsIn M D (startCounterIn M k D) ≡ k) × ((n : ℕ) → 1 ≤ n → n < D → sumsIn M n (startCounterIn M k D) ≢ k)
 compare-reached-in M k D fits some few = let r = Reach.reaches-start M k fits D some few in (r .reached, r .none-before)
@@ -49,7 +52,8 @@ module _ (c : Cell) where
   unfolding tickCellIn
   ticked-turn = refl
 
-  pub ticked-counter : tickCell c .counter ≡ cond (tickCell c .matched) 65535 (cond (c .on) ((c .counter + 1) % modulus) (c .counter))
+  pub ticked-counter : tickCell c .counter
+      ≡ cond (tickCell c .matched) 65535 (cond (c .on) ((c .counter + 1) % modulus) (c .counter))
   unfolding tickCellIn
   ticked-counter = refl
 
@@ -61,11 +65,12 @@ module _ (c : Cell) where
   off-ticks-same off n = Tick.off-ticks modulus n c off
 
   -- "Stop switches the table's cells off and sets their counters to 0": with numbers, whatever stood there before
-  pub stopped-zero : (stopCell c .counter ≡ 0) × (stopCell c .on ≡ false) × (stopCell c .turn ≡ false) × (stopCell c .compare ≡ c .compare)
+  pub stopped-zero : (stopCell c .counter ≡ 0) × (stopCell c .on ≡ false) × (stopCell c .turn ≡ false)
+      × (stopCell c .compare ≡ c .compare)
   stopped-zero = (refl, refl, refl, refl)
 
--- a started cell matches at exactly the ticks at which its entry is due, however many ticks there are: for a counter of any modulus M and a
--- first delay of up to two turns
+-- a started cell matches at exactly the ticks at which its entry is due, however many ticks there are: for a counter of
+-- any modulus M and a first delay of up to two turns
 pub matches-when-due-in : (M P D n : ℕ) → 1 ≤ P → P ≤ M → 1 ≤ D → D ≤ M + M
     → ticksIn M (suc n) (startCellIn M P D) .matched ≡ due P D (suc n)
 matches-when-due-in M P D n one-le P-fits some D-fits = Match.matches-when-due M P one-le P-fits D n some D-fits
@@ -79,8 +84,10 @@ matches-when-due = matches-when-due-in modulus
 pub started-periodic : (P D : ℕ) → 1 ≤ P → P ≤ modulus → 1 ≤ D → D ≤ modulus + modulus → Periodic (startCell P D) P D
 started-periodic = OnTime.started-periodic
 
--- a maker's table of period 60,000 with entries at 0 and 50,000, started with delay 30,000: due at 30,000, at 80,000, then each every 60,000
-pub maker-periodic : Periodic (startCell 60000 (30000 + 0)) 60000 30000 × Periodic (startCell 60000 (30000 + 50000)) 60000 80000
+-- a maker's table of period 60,000 with entries at 0 and 50,000, started with delay 30,000: due at 30,000, at 80,000,
+-- then each every 60,000
+pub maker-periodic : Periodic (startCell 60000 (30000 + 0)) 60000 30000
+    × Periodic (startCell 60000 (30000 + 50000)) 60000 80000
 maker-periodic = (
   started-periodic 60000 30000 (omega arith) (omega arith) (omega arith) (omega arith),
   started-periodic 60000 80000 (omega arith) (omega arith) (omega arith) (omega arith),
@@ -103,7 +110,8 @@ module _ (P D n : ℕ) (c : Cell) (on-time : OnTime c P D n) where
   pub on-time-left : 1 ≤ P → Left c P (untilDue P D n)
   on-time-left = OnTime.on-time-left P D c n on-time
 
--- for whoever keeps a cell as plain numbers: its mark does not count, and of the rest a tick changes the counter and the turn alone
+-- for whoever keeps a cell as plain numbers: its mark does not count, and of the rest a tick changes the counter and
+-- the turn alone
 pub on-time-numbers : (P D n i k : ℕ) (on t : Bool) → OnTime (unmarked i k on t) P D n
     → OnTime (unmarked (tickCell (unmarked i k on t) .counter) k on (tickCell (unmarked i k on t) .turn)) P D (suc n)
 on-time-numbers = OnTime.on-time-numbers
@@ -117,7 +125,8 @@ pub left-start : (P D : ℕ) → 1 ≤ P → P ≤ modulus → 1 ≤ D → D ≤
 left-start = on-time-start
 
 -- above one, a tick takes one away and is no match
-pub left-above-one : (P u : ℕ) (c : Cell) → 1 ≤ P → 1 < u → Left c P u → (tickCell c .matched ≡ false) × Left (tickCell c) P (u - 1)
+pub left-above-one : (P u : ℕ) (c : Cell) → 1 ≤ P → 1 < u → Left c P u
+    → (tickCell c .matched ≡ false) × Left (tickCell c) P (u - 1)
 left-above-one P u c one-le = OnTime.left-above-one P one-le c u
 
 -- at one, a tick is a match, and the next is a period ahead
@@ -128,12 +137,15 @@ left-one P c one-le = OnTime.left-one P one-le c
 pub row-length-same : (n : ℕ) (cs : List Cell) → length (rowTicks n cs) ≡ length cs
 row-length-same = Rows.row-length-same
 
-pub row-at : (n : ℕ) (cs : List Cell) (i : ℕ) (d : Cell) → i < length cs → getD (rowTicks n cs) i d ≡ ticks n (getD cs i d)
+pub row-at : (n : ℕ) (cs : List Cell) (i : ℕ) (d : Cell) → i < length cs
+    → getD (rowTicks n cs) i d ≡ ticks n (getD cs i d)
 row-at = Rows.row-at
 
--- so a started cell in a row, whatever stands beside it, matches at exactly the ticks of the row at which its entry is due
+-- so a started cell in a row, whatever stands beside it, matches at exactly the ticks of the row at which its entry is
+-- due
 pub row-matches-when-due : (cs : List Cell) (i P D n : ℕ) (d : Cell) → i < length cs → getD cs i d ≡ startCell P D
     → 1 ≤ P → P ≤ modulus → 1 ≤ D → D ≤ modulus + modulus
     → getD (rowTicks (suc n) cs) i d .matched ≡ due P D (suc n)
 row-matches-when-due cs i P D n d within started one-le P-fits some D-fits =
-    ap (λ c. c .matched) (row-at (suc n) cs i d within ∙ ap (ticks (suc n)) started) ∙ matches-when-due P D n one-le P-fits some D-fits
+    ap (λ c. c .matched) (row-at (suc n) cs i d within ∙ ap (ticks (suc n)) started)
+    ∙ matches-when-due P D n one-le P-fits some D-fits

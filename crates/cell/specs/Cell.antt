@@ -1,14 +1,15 @@
 -- One timer cell: what a start, a tick and a stop make of it.
 --
---   cellOf n k on m t  the cell with counter n, compare value k, switch on, match mark m, and a turn t that must pass unmatched
+--   cellOf n k on m t  the cell with counter n, compare value k, switch on, match mark m; t: a turn must pass unmatched
 --   unmarked n k on t  the same without a mark
---   startCounter k D   the counter from which D additions of 1 lead to the compare value k; sums n i: i after n additions of 1
+--   startCounter k D   the counter from which D additions of 1 lead to the compare value k
+--   sums n i           i after n additions of 1
 --   startCell P D      the cell of an entry with period P, D ticks before its first match
---   ticked c           c after a tick; ticks n c: after n
---   stopped c          c after its table was stopped
+--   tickCell c         c after a tick; ticks n c: after n
+--   stopCell c         c after its table was stopped
 --
--- Each rule is written for a counter of M values (its name ends in `In`) and then taken at 16 bits, so that a fact about the counter is
--- proved once over its width. When the cell's entry is due is in `Due`.
+-- Each rule is written for a counter of M values (its name ends in `In`) and then taken at 16 bits, so that a fact
+-- about the counter is proved once over its width. When the cell's entry is due is in `Due`.
 use Prim.Native.Nat.{ℕ, zero, suc, _+_, _-_, _%_}
 use mathlib.Core.Bool.{Bool, true, false, cond, not, _&&_}
 use lib.Dec.{eqb, ltb}
@@ -38,7 +39,8 @@ compareIn M P = minus M P 1
 abbrev pub startCounterIn : ℕ → ℕ → ℕ → ℕ
 startCounterIn = minus
 
--- a turn is M additions of 1: "one more field, set by a Start with D above 65,536, saying that a turn must pass unmatched"
+-- a turn is M additions of 1: "one more field, set by a Start with D above 65,536, saying that a turn must pass
+-- unmatched"
 abbrev pub longIn : ℕ → ℕ → Bool
 longIn M D = ltb M D
 
@@ -74,8 +76,8 @@ resetIn M = M - 1
 abbrev pub countedIn : ℕ → Cell → ℕ
 countedIn M c = cond (matchesIn M c) (resetIn M) (cond (c .on) (sumIn M (c .counter)) (c .counter))
 
--- "each record keeps its compare value and switch, gets the counter above .., and its match mark tells of this tick only"; "The row tick
--- keeps or clears that field by the same rule"
+-- "each record keeps its compare value and switch, gets the counter above .., and its match mark tells of this tick
+-- only"; "The row tick keeps or clears that field by the same rule"
 unfoldable pub tickCellIn : ℕ → Cell → Cell
 tickCellIn M c = cellOf (countedIn M c) (c .compare) (c .on) (matchesIn M c) (turnIn M c)
 

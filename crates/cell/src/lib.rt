@@ -1,8 +1,9 @@
 // One timer cell by value: a 16-bit counter that says when its entry of a schedule table is due.
 //
-// Document 01's words: a cell is a timer cell, its switch the cell enable, an entry an expiry point. The contracts cite specs/Cell.antt;
-// when a cell matches is stated in proofs/Theorems.antt. The registers named below are those of source document 002, where two local
-// timer cells (LTC) of a TriCore TC1796 make a timer cell: one in reset timer mode counts, the next one in compare mode compares.
+// Document 01's words: a cell is a timer cell, its switch the cell enable, an entry an expiry point. The contracts cite
+// specs/Cell.antt; when a cell matches is stated in proofs/Theorems.antt. The registers named below are those of source
+// document 002, where two local timer cells (LTC) of a TriCore TC1796 make a timer cell: one in reset timer mode
+// counts, the next one in compare mode compares.
 ghost use mathlib.Core.Path.{_≡_};
 ghost use mathlib.Core.Bool.{true, false};
 ghost use Prim.Native.Nat.{_+_};
@@ -17,7 +18,8 @@ pub struct Cell {
     pub compare: u16,
     // The switch, or cell enable bit (AIL of the reset timer LTC): whether the cell counts.
     pub on: bool,
-    // The match mark, or service request of the compare LTC: whether the last tick brought the counter to the compare value.
+    // The match mark, or service request of the compare LTC: whether the last tick brought the counter to the compare
+    // value.
     pub matched: bool,
     // No register but a flag beside them: whether a turn of the counter, 65,536 ticks, must pass unmatched.
     pub turn: bool,
@@ -26,7 +28,8 @@ pub struct Cell {
 // A match sets the counter register to 65,535 and not to 0: the next tick wraps it to 0, so no period is a tick short.
 const RESET: u16 = 65535;
 
-// The counter register at a start: the delay and then the offset are taken from the compare value, each by a 16-bit subtraction that wraps.
+// The counter register at a start: the delay and then the offset are taken from the compare value, each by a 16-bit
+// subtraction that wraps.
 fn start_counter(compare: u16, delay: u16, offset: u16) -> u16
     ensures { λ r. ⌜ r ≡ startCounter compare (delay + offset) ⌝ }
 {
@@ -62,8 +65,8 @@ impl Cell {
         Cell::make(counter, compare, on, false, turn)
     }
 
-    // The cell of an entry at `offset` of a table with this period, started with `delay`: its first match is `delay + offset` ticks ahead,
-    // and each later one a period on.
+    // The cell of an entry at `offset` of a table with this period, started with `delay`: its first match is `delay +
+    // offset` ticks ahead, and each later one a period on.
     pub fn start(period: u16, delay: u16, offset: u16) -> Cell
         ensures { λ r. ⌜ r ≡ startCell period (delay + offset) ⌝ }
     {

@@ -1,8 +1,9 @@
-// Ticks rows of 0, 1, 64 and 1,000 cells where they lie, and prints what becomes of them: the values in `stdout` are worked out by hand.
+// Ticks rows of 0, 1, 64 and 1,000 cells where they lie, and prints what becomes of them: the values in `stdout` are
+// worked out by hand.
 //
-// A row is the first cells of an array of 1,000, of six kinds in turn. A line has the row's length, how many of its cells matched at each of
-// nine ticks, after them the sum of its counters and how many of its cells have a turn to pass, and the same for the cells past its end,
-// which no tick may touch.
+// A row is the first cells of an array of 1,000, of six kinds in turn. A line has the row's length, how many of its
+// cells matched at each of nine ticks, after them the sum of its counters and how many of its cells have a turn to
+// pass, and the same for the cells past its end, which no tick may touch.
 use cell::Cell;
 use libc::STDOUT_FILENO;
 ghost use mathlib.Core.Path.{_≡_};
@@ -27,8 +28,9 @@ fn off_and_marked(turn: bool) -> Cell {
     c
 }
 
-// In turn: a cell due at ticks 3 and 7; one due at every tick; one that is off; one that wraps at tick 1 and matches at tick 8; one due at
-// tick 65,540, whose counter reaches the compare value at tick 4 too; one that is off with a turn to pass.
+// In turn: a cell due at ticks 3 and 7; one due at every tick; one that is off; one that wraps at tick 1 and matches at
+// tick 8; one due at tick 65,540, whose counter reaches the compare value at tick 4 too; one that is off with a turn to
+// pass.
 fn kind(i: usize) -> Cell {
     match i % 6 {
         0 => Cell::start(4, 1, 2),

@@ -26,7 +26,7 @@ module _ (c : Config) (bs : List ℕ) (n at i : ℕ) (ks ps qs : List ℕ) (o : 
     (k : NumberRead) (ek : k ≡ checked bs at (λ (v : ℕ). outside 0 lastKind v badField)) where
   pub kind-goes : Goes bs (k .refusal) (k .place) (bodyAt c n Priority i (set ks i (k .value)) ps qs)
   unfolding faultAt putAt ended
-  kind-goes = one bs at (bodyAt c n Kind i ks ps qs) o refl k ek
+  kind-goes = one o refl ek
 
   module _ (hk : k .refusal ≡ none) (p : NumberRead)
       (ep : p ≡ checked bs (k .place) (λ (v : ℕ). andThen (outside 1 maxPriority v badField)
@@ -34,7 +34,7 @@ module _ (c : Config) (bs : List ℕ) (n at i : ℕ) (ks ps qs : List ℕ) (o : 
     pub priority-goes : Goes bs (p .refusal) (p .place)
         (bodyAt c n Autostart i (set ks i (k .value)) (set ps i (p .value)) qs)
     unfolding faultAt putAt ended
-    priority-goes = one bs (k .place) (bodyAt c n Priority i (set ks i (k .value)) ps qs) (kind-goes .0 hk) refl p ep
+    priority-goes = one (kind-goes .0 hk) refl ep
 
     module _ (hp : p .refusal ≡ none) (a : NumberRead)
         (ea : a ≡ checked bs (p .place) (λ (v : ℕ). outside 0
@@ -42,8 +42,7 @@ module _ (c : Config) (bs : List ℕ) (n at i : ℕ) (ks ps qs : List ℕ) (o : 
       pub autostart-goes : Goes bs (a .refusal) (a .place)
           (bodyOn c n (i + 1) (set ks i (k .value)) (set ps i (p .value)) (set qs i (a .value)))
       unfolding faultAt putAt ended
-      autostart-goes = one bs (p .place) (bodyAt c n Autostart i (set ks i (k .value)) (set ps i (p .value)) qs)
-          (priority-goes .0 hp) refl a ea
+      autostart-goes = one (priority-goes .0 hp) refl ea
 
 -- an autostart is at most 1, whatever the kind
 pub most-le : (k : ℕ) → mostAutostart k ≤ 1

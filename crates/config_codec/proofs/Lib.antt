@@ -1,4 +1,5 @@
--- What the proofs of the functions share: over a draft, in the reader, in the writer. The laws of configurations are those of `config`.
+-- What the proofs of the functions share: over a draft, in the reader, in the writer. The laws of configurations are
+-- those of `config`.
 mod Within
 mod Used
 mod Timed

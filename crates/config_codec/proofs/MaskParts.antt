@@ -27,7 +27,7 @@ module _ (c : Config) (bs : List ℕ) (n at b : ℕ) (ks : List ℕ) (i : ℕ) (
       (unless (not (timedIn v (take b ks))) badField))
       → Goes bs (m .refusal) (m .place) (usersOn c n b ks (i + 1) (set us i (m .value)))
   unfolding faultAt putAt ended
-  mask-goes o m e = one bs at (usersAt c n b ks Users i us) o refl m e
+  mask-goes o m e = one o refl e
 
   -- before the last resource there is a mask to read; after it the table count
   pub mask-more : ReadsOn bs at (usersOn c n b ks i us) → i < n → ReadsOn bs at (usersAt c n b ks Users i us)

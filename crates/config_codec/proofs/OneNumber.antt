@@ -53,11 +53,11 @@ in-order bs at f s e =
     let g = given at (readNumber bs at) (f (readNumber bs at .value)) h in
     ap (λ (x : NumberRead). f (x .value)) (g .same) ∙ g .faultless)
 
-pub in-range : (bs : List ℕ) (at lo hi r : ℕ) → 0 < r → (s : NumberRead) → s ≡ checked bs at
-    (λ (v : ℕ). outside lo hi v r) → s .refusal ≡ none → (lo ≤ s .value) × (s .value ≤ hi)
+pub in-range : (bs : List ℕ) (at lo hi r : ℕ) → 0 < r → (s : NumberRead)
+    → s ≡ checked bs at (λ (v : ℕ). outside lo hi v r) → s .refusal ≡ none → (lo ≤ s .value) × (s .value ≤ hi)
 in-range bs at lo hi r p s e h = outside-none lo hi (s .value) r p (in-order bs at (λ (v : ℕ). outside lo hi v r) s e h)
 
-module _ (bs : List ℕ) (at : ℕ) (d : Draft) (o : ReadsOn bs at d) (more : ended (d .field) ≡ false) where
+module _ {bs : List ℕ} {at : ℕ} {d : Draft} (o : ReadsOn bs at d) (more : ended (d .field) ≡ false) where
   abbrev r : NumberRead
   r = readNumber bs at
 
@@ -68,10 +68,10 @@ module _ (bs : List ℕ) (at : ℕ) (d : Draft) (o : ReadsOn bs at d) (more : en
   goes-on h =
       let g = given at r f h in
       subst (λ (x : NumberRead). ReadsOn bs (x .place) (put d (x .value))) (sym (g .same))
-      (reads-next bs at d o more r refl (rw (eq-eqb (r .refusal) none (g .readable)) (g .faultless)))
+      (reads-next o more refl (rw (eq-eqb (r .refusal) none (g .readable)) (g .faultless)))
 
   answer : (numberFault d r ≡ none → ⊥) → refused (numberFault d r) (faultPlace at r) ≡ whole bs
-  answer = reads-refused bs at d o more r refl
+  answer = reads-refused o more refl
 
   abbrev told : NumberRead → ConfigRead
   told s = refused (s .refusal) (s .place)
@@ -99,12 +99,12 @@ module _ (bs : List ℕ) (at : ℕ) (d : Draft) (o : ReadsOn bs at d) (more : en
       (λ k. faulty h k))
       (λ h. unread h)
 
-  pub one : (s : NumberRead) → s ≡ checked bs at (fault d) → Goes bs (s .refusal) (s .place) (put d (s .value))
-  one s e = rw e (goes-on, stops)
+  pub one : {s : NumberRead} → s ≡ checked bs at (fault d) → Goes bs (s .refusal) (s .place) (put d (s .value))
+  one e = rw e (goes-on, stops)
 
 -- a part that has been read, and one that is refused
-pub arrived : (bs : List ℕ) (p : ℕ) (d : Draft) → ReadsOn bs p d → Goes bs none p d
-arrived bs p d o = (λ _. o, λ n. absurd (n refl))
+pub arrived : {bs : List ℕ} {p : ℕ} {d : Draft} → ReadsOn bs p d → Goes bs none p d
+arrived o = (λ _. o, λ n. absurd (n refl))
 
-pub stopped : (bs : List ℕ) (r p : ℕ) (d d′ : Draft) → (r ≡ none → ⊥) → Goes bs r p d → Goes bs r p d′
-stopped bs r p d d′ n g = (λ z. absurd (n z), λ _. g .1 n)
+pub stopped : {bs : List ℕ} {r p : ℕ} {d d′ : Draft} → (r ≡ none → ⊥) → Goes bs r p d → Goes bs r p d′
+stopped n g = (λ z. absurd (n z), λ _. g .1 n)

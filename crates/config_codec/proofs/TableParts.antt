@@ -28,7 +28,7 @@ module _ (c : Config) (bs : List ℕ) (n at b : ℕ) (ks : List ℕ) (i e u : �
       (ex : x ≡ checked bs at (λ (v : ℕ). unless (ltb v (getD ps i 0)) badField)) where
     pub offset-goes : Goes bs (x .refusal) (x .place) (tableAt c n b ks Task i e u ps es (set os e (x .value)) ts)
     unfolding faultAt putAt ended
-    offset-goes = one bs at (tableAt c n b ks Offset i e u ps es os ts) o refl x ex
+    offset-goes = one o refl ex
 
     module _ (hx : x .refusal ≡ none) (t : NumberRead)
         (et : t ≡ checked bs (x .place) (faultAt Task (taskAt b ks es i e u (set os e (x .value)) ts))) where
@@ -41,23 +41,22 @@ module _ (c : Config) (bs : List ℕ) (n at b : ℕ) (ks : List ℕ) (i e u : �
       pub task-goes : Goes bs (t .refusal) (t .place) (entryOn c n b ks i (e + 1) u ps es (set os e (x .value))
           (set ts e (t .value)))
       unfolding putAt ended
-      task-goes = one bs (x .place) (tableAt c n b ks Task i e u ps es (set os e (x .value)) ts)
-          (offset-goes .0 hx) refl t same
+      task-goes = one (offset-goes .0 hx) refl same
 
   -- before the last entry there is an offset to read; after it the next table
   abbrev At : Bool → Type 0
   At z = ReadsOn bs at (tableAt c n b ks (cond z (orOn (i + 1) n Period End) Offset) (cond z (i + 1) i) e u ps es os ts)
 
-  pub entry-first : e < u → ReadsOn bs at (tableAt c n b ks Offset i e u ps es os ts) → ReadsOn bs at
-      (entryOn c n b ks i e u ps es os ts)
+  pub entry-first : e < u → ReadsOn bs at (tableAt c n b ks Offset i e u ps es os ts)
+      → ReadsOn bs at (entryOn c n b ks i e u ps es os ts)
   entry-first h = subst At (sym (ne-eqb e u (λ z. absurd (omega arith))))
 
-  pub entry-more : e < u → ReadsOn bs at (entryOn c n b ks i e u ps es os ts) → ReadsOn bs at
-      (tableAt c n b ks Offset i e u ps es os ts)
+  pub entry-more : e < u → ReadsOn bs at (entryOn c n b ks i e u ps es os ts)
+      → ReadsOn bs at (tableAt c n b ks Offset i e u ps es os ts)
   entry-more h = subst At (ne-eqb e u (λ z. absurd (omega arith)))
 
-  pub entry-last : e ≤ u → u ≤ e → ReadsOn bs at (entryOn c n b ks i e u ps es os ts) → ReadsOn bs at
-      (tableOn c n b ks (i + 1) u ps es os ts)
+  pub entry-last : e ≤ u → u ≤ e → ReadsOn bs at (entryOn c n b ks i e u ps es os ts)
+      → ReadsOn bs at (tableOn c n b ks (i + 1) u ps es os ts)
   entry-last h k o =
       let z : e ≡ u = omega arith in
       subst (λ (j : ℕ). ReadsOn bs at (tableAt c n b ks (orOn (i + 1) n Period End) (i + 1) j u ps es os ts)) z
@@ -77,7 +76,7 @@ module _ (c : Config) (bs : List ℕ) (n at b : ℕ) (ks : List ℕ) (i e : ℕ)
       (ex : x ≡ checked bs at (λ (v : ℕ). outside 1 65535 v badField)) where
     pub period-goes : Goes bs (x .refusal) (x .place) (tableAt c n b ks Entries i e e (set ps i (x .value)) es os ts)
     unfolding faultAt putAt ended
-    period-goes = one bs at (tableAt c n b ks Period i e e ps es os ts) o refl x ex
+    period-goes = one o refl ex
 
     module _ (hx : x .refusal ≡ none) (y : NumberRead)
         (ey : y ≡ checked bs (x .place) (λ (v : ℕ). andThen (outside 1 16 v badCount)
@@ -85,17 +84,16 @@ module _ (c : Config) (bs : List ℕ) (n at b : ℕ) (ks : List ℕ) (i e : ℕ)
       pub count-goes : Goes bs (y .refusal) (y .place)
           (tableAt c n b ks Offset i e (e + y .value) (set ps i (x .value)) (set es i (y .value)) os ts)
       unfolding faultAt putAt ended
-      count-goes = one bs (x .place) (tableAt c n b ks Entries i e e (set ps i (x .value)) es os ts)
-          (period-goes .0 hx) refl y ey
+      count-goes = one (period-goes .0 hx) refl ey
 
-  pub table-more : i < n → ReadsOn bs at (tableOn c n b ks i e ps es os ts) → ReadsOn bs at
-      (tableAt c n b ks Period i e e ps es os ts)
+  pub table-more : i < n → ReadsOn bs at (tableOn c n b ks i e ps es os ts)
+      → ReadsOn bs at (tableAt c n b ks Period i e e ps es os ts)
   table-more h =
       subst (λ (z : Bool). ReadsOn bs at (tableAt c n b ks (cond z End Period) i e e ps es os ts))
       (ne-eqb i n (λ z. absurd (omega arith)))
 
-  pub table-last : i ≤ n → n ≤ i → ReadsOn bs at (tableOn c n b ks i e ps es os ts) → ReadsOn bs at
-      (tableOn c n b ks n e ps es os ts)
+  pub table-last : i ≤ n → n ≤ i → ReadsOn bs at (tableOn c n b ks i e ps es os ts)
+      → ReadsOn bs at (tableOn c n b ks n e ps es os ts)
   table-last h k = subst (λ (j : ℕ). ReadsOn bs at (tableOn c n b ks j e ps es os ts)) (omega arith)
 
 -- a count that is in order

@@ -1,4 +1,5 @@
--- The writer's second pass: the bytes of the numbers so far lie over the output (`WritesOn`), and at the end all of them.
+-- The writer's second pass: the bytes of the numbers so far lie over the output (`WritesOn`), and at the end all of
+-- them.
 use Prim.Native.Nat.{ℕ, _+_, _*_, _-_, _≤_, _<_}
 use mathlib.Core.Path.{_≡_, refl, sym, ap, subst, _∙_}
 use mathlib.Core.Bool.{true, false}
@@ -31,7 +32,8 @@ nothing-laid : (l : List ℕ) → l ≡ laid 0 [] l
 unfolding laid
 nothing-laid l = refl
 
-pub writes-start : (c : Config) (before : List ℕ) → firstFault c ≡ none → length (configBytes c) ≤ length before → WritesOn c before 0 0 start before
+pub writes-start : (c : Config) (before : List ℕ) → firstFault c ≡ none → length (configBytes c) ≤ length before
+    → WritesOn c before 0 0 start before
 writes-start c before e h =
     record {
       bytes = [];
@@ -41,7 +43,8 @@ writes-start c before e h =
       room = h;
     }
 
-module _ (c : Config) (before : List ℕ) (k at : ℕ) (d : Draft) (out : List ℕ) (o : WritesOn c before k at d out) where
+module _ {c : Config} {before : List ℕ} {k at : ℕ} {d : Draft} {out : List ℕ}
+    (o : WritesOn c before k at d out) where
   abbrev all : List ℕ
   all = configBytes c
 
@@ -49,10 +52,10 @@ module _ (c : Config) (before : List ℕ) (k at : ℕ) (d : Draft) (out : List �
   ends p = o .over ∙ ap (λ (l : List ℕ). laid 0 l before) (p .1) ∙ sym (laid-zero all before (o .room))
 
   pub writes-end : ended (d .field) ≡ true → out ≡ written all before
-  writes-end e = ends (walks-end c none all k d (o .bytes) (o .walks) e)
+  writes-end e = ends (walks-end (o .walks) e)
 
   pub writes-out : maxNumbers ≤ k → out ≡ written all before
-  writes-out h = ends (walks-out c none all k d (o .bytes) (o .walks) h)
+  writes-out h = ends (walks-out (o .walks) h)
 
   -- one more number
   module _ (turn : k < maxNumbers) (more : ended (d .field) ≡ false) where
@@ -60,13 +63,13 @@ module _ (c : Config) (before : List ℕ) (k at : ℕ) (d : Draft) (out : List �
     v = asked c d
 
     fits-before : length (o .bytes) + length (numberBytes v) ≤ length before
-    fits-before = omega (arith, walks-room c none all k d (o .bytes) (o .walks) turn more, o .room)
+    fits-before = omega (arith, walks-room (o .walks) turn more, o .room)
 
     same-long : length out ≡ length before
     same-long = ap length (o .over) ∙ length-laid 0 (o .bytes) before (omega (arith, fits-before))
 
-    pub writes-faultless : fault d v ≡ none
-    writes-faultless = walks-faultless c none all k d (o .bytes) (o .walks) turn more refl
+    writes-faultless : fault d v ≡ none
+    writes-faultless = walks-faultless (o .walks) turn more refl
 
     pub writes-room : at + length (numberBytes v) ≤ length out
     writes-room = omega (arith, fits-before, same-long, o .long)
@@ -77,34 +80,42 @@ module _ (c : Config) (before : List ℕ) (k at : ℕ) (d : Draft) (out : List �
     part-room : length (numberBytes v) ≤ length part
     part-room = simp (length-take, length-drop) (omega (arith, writes-room))
 
-    pub writes-place : (w : Written) → w ≡ writing (numberBytes v) (length part) → w .place ≡ length (numberBytes v)
-    writes-place w e = ap (λ (x : Written). x .place) (e ∙ sym (writing-fits (numberBytes v) (length part) (length (numberBytes v)) refl part-room))
+    writes-place : (w : Written) → w ≡ writing (numberBytes v) (length part) → w .place ≡ length (numberBytes v)
+    writes-place w e =
+        ap (λ (x : Written). x .place)
+        (e ∙ sym (writing-fits (numberBytes v) (length part) (length (numberBytes v)) refl part-room))
 
-    over-next : (ys : List ℕ) → ys ≡ written (numberBytes v) part → putMid at (length out - at) out ys ≡ laid 0 (o .bytes ++ numberBytes v) before
+    over-next : (ys : List ℕ) → ys ≡ written (numberBytes v) part
+        → putMid at (length out - at) out ys ≡ laid 0 (o .bytes ++ numberBytes v) before
     over-next ys e =
         rw e
         (laid-part at (numberBytes v) out writes-room
-        ∙ rw (← o .long, o .over) (ap (λ (p : ℕ). laid p (numberBytes v) (laid 0 (o .bytes) before)) (sym (zero-add (length (o .bytes)))) ∙ laid-laid 0 (o .bytes) (numberBytes v) before (omega (arith, fits-before))))
+        ∙ rw (← o .long, o .over)
+        (ap (λ (p : ℕ). laid p (numberBytes v) (laid 0 (o .bytes) before)) (sym (zero-add (length (o .bytes))))
+        ∙ laid-laid 0 (o .bytes) (numberBytes v) before (omega (arith, fits-before))))
 
-    next : (ys : List ℕ) → ys ≡ written (numberBytes v) part → WritesOn c before (k + 1) (at + length (numberBytes v)) (put d v) (putMid at (length out - at) out ys)
+    next : (ys : List ℕ) → ys ≡ written (numberBytes v) part
+        → WritesOn c before (k + 1) (at + length (numberBytes v)) (put d v) (putMid at (length out - at) out ys)
     next ys e =
         record {
           bytes = o .bytes ++ numberBytes v;
-          walks = walks-next c none all k d (o .bytes) (o .walks) turn more writes-faultless;
+          walks = walks-next (o .walks) turn more writes-faultless;
           long = length-append (o .bytes) (numberBytes v) ∙ ap (λ (l : ℕ). l + length (numberBytes v)) (o .long);
           over = over-next ys e;
           room = o .room;
         }
 
     -- the same of a number x and of the answer w that its writer gives
-    module _ (x : ℕ) (is : x ≡ asked c d) where
+    module _ {x : ℕ} (is : x ≡ asked c d) where
       pub writes-in-order : fault d x ≡ none
       writes-in-order = rw is writes-faultless
 
-      pub writes-next : (ys : List ℕ) → ys ≡ written (numberBytes x) part → (w : Written) → w ≡ writing (numberBytes x) (length part)
+      pub writes-next : {ys : List ℕ} → ys ≡ written (numberBytes x) part → {w : Written}
+          → w ≡ writing (numberBytes x) (length part)
           → WritesOn c before (k + 1) (at + w .place) (put d x) (putMid at (length out - at) out ys)
-      writes-next = rw is (λ ys e w f. rw (writes-place w f) (next ys e))
+      writes-next {ys} e {w} f = rw (writes-place w (rw is at f), is) (next ys (rw is at e))
 
       -- a number has at most five bytes
-      pub writes-small : (w : Written) → w ≡ writing (numberBytes x) (length part) → at + w .place ≤ 5 * maxNumbers
-      writes-small = rw is (λ w f. rw (writes-place w f) (omega (arith, o .walks .few, o .long, length-numberBytes v)))
+      pub writes-small : {w : Written} → w ≡ writing (numberBytes x) (length part) → at + w .place ≤ 5 * maxNumbers
+      writes-small {w} f =
+          rw (writes-place w (rw is at f)) (omega (arith, o .walks .few, o .long, length-numberBytes v))

@@ -20,14 +20,12 @@ bodyAt c n f i ks ps qs =
         kind = ks;
         priority = ps;
         autostart = qs;
-        resources = c
-            .resources;
+        resources = c .resources;
         users = c .users;
         tables = c .tables;
         period = c .period;
         entries = c .entries;
-        offset = c
-            .offset;
+        offset = c .offset;
         task = c .task;
       };
       field = f;

@@ -22,7 +22,7 @@ ghost use mathlib.Core.Path.{_≡_};
 ghost use Prim.Native.Nat.{_<_, _≤_};
 ghost use Rattle.number.specs.Refusal.{none};
 ghost use Rattle.config.specs.Value.{noConfig};
-ghost use Rattle.config.specs.Draft.{Within, fault, faultAt, put, asked, ended, orOn, onTo, row, start};
+ghost use Rattle.config.specs.Draft.{Within, fault, faultAt, put, asked, ended, orOn, row, start};
 
 // The refusal of a priority.
 fn priority_fault(d: Draft, v: u32) -> u8
@@ -54,14 +54,6 @@ fn users_fault(d: Draft, v: u32) -> u8
     let kind = c.kind;
     let timed = timed_body(c.bodies as usize, kind);
     users_in(v, c.bodies, timed, kind)
-}
-
-// The refusal of a table's number of entries.
-fn entries_fault(d: Draft, v: u32) -> u8
-    requires { ⌜ d .entry ≤ 64 ⌝ }
-    ensures { λ r. ⌜ r ≡ faultAt Field.Entries d v ⌝ }
-{
-    entries_in(v, d.entry)
 }
 
 // The refusal of an entry's offset.
@@ -114,7 +106,7 @@ pub fn fault(d: Draft, v: u32) -> u8
         Field::Users => users_fault(d, v),
         Field::Tables => outside(0, MAX_TABLES, v, BAD_COUNT),
         Field::Period => outside(1, 65_535, v, BAD_FIELD),
-        Field::Entries => entries_fault(d, v),
+        Field::Entries => entries_in(v, d.entry),
         Field::Offset => offset_fault(d, v),
         Field::Task => task_fault(d, v),
         Field::End => 0,
@@ -128,20 +120,7 @@ fn or_on(i: usize, n: usize, again: Field, on: Field) -> Field
     if i == n { on } else { again }
 }
 
-// `d` with another configuration, at another number of the same row.
-fn on_to(d: Draft, c: Config, f: Field) -> Draft
-    ensures { λ r. ⌜ r ≡ onTo d c f ⌝ }
-{
-    Draft {
-        config: c,
-        field: f,
-        index: d.index,
-        entry: d.entry,
-        until: d.until,
-    }
-}
-
-// The same at row `i`.
+// `d` with another configuration, at another number of row `i`.
 fn row(d: Draft, c: Config, f: Field, i: usize) -> Draft
     ensures { λ r. ⌜ r ≡ row d c f i ⌝ }
 {
@@ -166,28 +145,22 @@ pub fn put(d: Draft, v: u32) -> Draft
     match f {
         Field::Version => {
             c.version = v as u8;
-            on_to(d, c, Field::Bodies)
+            row(d, c, Field::Bodies, i)
         }
         Field::Bodies => {
             c.bodies = v as u8;
             row(d, c, Field::Kind, 0)
         }
         Field::Kind => {
-            let mut kind = c.kind;
-            kind[i] = v as u8;
-            c.kind = kind;
-            on_to(d, c, Field::Priority)
+            c.kind[i] = v as u8;
+            row(d, c, Field::Priority, i)
         }
         Field::Priority => {
-            let mut priority = c.priority;
-            priority[i] = v as u8;
-            c.priority = priority;
-            on_to(d, c, Field::Autostart)
+            c.priority[i] = v as u8;
+            row(d, c, Field::Autostart, i)
         }
         Field::Autostart => {
-            let mut autostart = c.autostart;
-            autostart[i] = v as u8;
-            c.autostart = autostart;
+            c.autostart[i] = v as u8;
             let j = i + 1;
             row(
                 d,
@@ -201,9 +174,7 @@ pub fn put(d: Draft, v: u32) -> Draft
             row(d, c, or_on(0, v as usize, Field::Users, Field::Tables), 0)
         }
         Field::Users => {
-            let mut users = c.users;
-            users[i] = v;
-            c.users = users;
+            c.users[i] = v;
             let j = i + 1;
             row(
                 d,
@@ -217,15 +188,11 @@ pub fn put(d: Draft, v: u32) -> Draft
             row(d, c, or_on(0, v as usize, Field::Period, Field::End), 0)
         }
         Field::Period => {
-            let mut period = c.period;
-            period[i] = v as u16;
-            c.period = period;
-            on_to(d, c, Field::Entries)
+            c.period[i] = v as u16;
+            row(d, c, Field::Entries, i)
         }
         Field::Entries => {
-            let mut entries = c.entries;
-            entries[i] = v as u8;
-            c.entries = entries;
+            c.entries[i] = v as u8;
             Draft {
                 config: c,
                 field: Field::Offset,
@@ -235,15 +202,11 @@ pub fn put(d: Draft, v: u32) -> Draft
             }
         }
         Field::Offset => {
-            let mut offset = c.offset;
-            offset[e] = v as u16;
-            c.offset = offset;
-            on_to(d, c, Field::Task)
+            c.offset[e] = v as u16;
+            row(d, c, Field::Task, i)
         }
         Field::Task => {
-            let mut task = c.task;
-            task[e] = v as u8;
-            c.task = task;
+            c.task[e] = v as u8;
             let after = e + 1;
             if after != d.until {
                 return Draft {

@@ -8,7 +8,9 @@ use Rattle.event.specs.Event.{activate, lastCode, known}
 
 pub known-le : (code : ℕ) → known code ≡ true → (activate ≤ code) × (code ≤ lastCode)
 unfolding known
-known-le code k = let b = and-eq-true-iff (leb activate code) (leb code lastCode) .0 k in (leb-true activate code (b .0), leb-true code lastCode (b .1))
+known-le code k =
+    let b = and-eq-true-iff (leb activate code) (leb code lastCode) .0 k in
+    (leb-true activate code (b .0), leb-true code lastCode (b .1))
 
 pub known-true : (code : ℕ) → activate ≤ code → code ≤ lastCode → known code ≡ true
 unfolding known

@@ -10,11 +10,14 @@ use Rattle.event.specs.Trace.{readFrom, readRest, readTrace}
 
 abbrev pub listing : List ℕ
 listing =
-    0x08 ∷ 0x00 ∷ 0x01 ∷ 0x04 ∷ 0x00 ∷ 0x06 ∷ 0x07 ∷ 0x02 ∷ 0x03 ∷ 0x01 ∷ 0x02 ∷ 0x02 ∷ 0x05 ∷ 0x00 ∷ 0x06 ∷ 0x06 ∷ 0x02 ∷ 0x02 ∷ 0x06 ∷ 0x06 ∷ 0x09 ∷ 0x00 ∷ 0x02 ∷ 0x02 ∷ []
+    0x08 ∷ 0x00 ∷ 0x01 ∷ 0x04 ∷ 0x00 ∷ 0x06 ∷ 0x07 ∷ 0x02 ∷ 0x03 ∷ 0x01 ∷ 0x02 ∷ 0x02 ∷ 0x05 ∷ 0x00 ∷ 0x06 ∷ 0x06 ∷ 0x02
+    ∷ 0x02 ∷ 0x06 ∷ 0x06 ∷ 0x09 ∷ 0x00 ∷ 0x02 ∷ 0x02 ∷ []
 
 abbrev pub listing-events : List Event
 listing-events =
-    event start 0 1 ∷ event get 0 0 ∷ event tick 0 0 ∷ event line 2 0 ∷ event chain 1 0 ∷ event finish 0 0 ∷ event finish 0 0 ∷ event release 0 0 ∷ event tick 0 0 ∷ event tick 0 0 ∷ event finish 0 0 ∷ event finish 0 0 ∷ event tick 0 0 ∷ event tick 0 0 ∷ event stop 0 0 ∷ event finish 0 0 ∷ event finish 0 0 ∷ []
+    event start 0 1 ∷ event get 0 0 ∷ event tick 0 0 ∷ event line 2 0 ∷ event chain 1 0 ∷ event finish 0 0
+    ∷ event finish 0 0 ∷ event release 0 0 ∷ event tick 0 0 ∷ event tick 0 0 ∷ event finish 0 0 ∷ event finish 0 0
+    ∷ event tick 0 0 ∷ event tick 0 0 ∷ event stop 0 0 ∷ event finish 0 0 ∷ event finish 0 0 ∷ []
 
 pub listing-read : readTrace listing ≡ record { events = listing-events; refusal = none; place = 24 }
 unfolding continued fifthGroup groups readNumber known arguments afterNumber readArguments readEvent readFrom readRest

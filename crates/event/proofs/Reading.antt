@@ -23,7 +23,8 @@ module _ (n m : NumberRead) (f : ℕ → ℕ → EventRead) (same : n ≡ m) whe
 
 -- an event whose code was read: its arguments follow, or its code is unknown
 module _ (n : NumberRead) (bs : List ℕ) (at : ℕ) (same : n ≡ readNumber bs at) (read : n .refusal ≡ none) where
-  pub read-known : (code : ℕ) → n .value ≡ code → known code ≡ true → readEvent bs at ≡ readArguments (arguments code) bs code (n .place)
+  pub read-known : (code : ℕ) → n .value ≡ code → known code ≡ true
+      → readEvent bs at ≡ readArguments (arguments code) bs code (n .place)
   unfolding readEvent
   read-known code e k = goes-on n (readNumber bs at) _ same read ∙ rw (e, k)
 

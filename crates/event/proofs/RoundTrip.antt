@@ -29,36 +29,52 @@ pub record Spans (bs : List ℕ) (at : ℕ) (xs : List ℕ) (end : ℕ) : Type 0
   pub inside : end ≤ length bs
   pub bytes : Bytes bs → drop at bs ≡ xs ++ drop end bs
 
-spans-number : (bs : List ℕ) (at : ℕ) → readNumber bs at .refusal ≡ none → Spans bs at (numberBytes (readNumber bs at .value)) (readNumber bs at .place)
+spans-number : (bs : List ℕ) (at : ℕ) → readNumber bs at .refusal ≡ none
+    → Spans bs at (numberBytes (readNumber bs at .value)) (readNumber bs at .place)
 spans-number bs at h =
     let r = Number.reading bs at in
     record { later = r .after h; inside = r .inside h; bytes = λ b. Number.written-read bs at b h }
 
 spans-append : {bs xs ys : List ℕ} {at p q : ℕ} → Spans bs at xs p → Spans bs p ys q → Spans bs at (xs ++ ys) q
 spans-append {bs} {xs} {ys} {at} {p} {q} s t =
-    record { later = omega arith; inside = t .inside; bytes = λ b. s .bytes b ∙ ap (λ (l : List ℕ). xs ++ l) (t .bytes b) ∙ sym (append-assoc xs ys (drop q bs)) }
+    record {
+      later = omega arith;
+      inside = t .inside;
+      bytes = λ b. s .bytes b ∙ ap (λ (l : List ℕ). xs ++ l) (t .bytes b) ∙ sym (append-assoc xs ys (drop q bs));
+    }
 
 after-elim : (P : EventRead → Type 0) (n : NumberRead) (f : ℕ → ℕ → EventRead)
-    → (n .refusal ≡ none → P (f (n .value) (n .place))) → ((n .refusal ≡ none → ⊥) → P (unreadable n)) → P (afterNumber n f)
+    → (n .refusal ≡ none → P (f (n .value) (n .place))) → ((n .refusal ≡ none → ⊥) → P (unreadable n))
+    → P (afterNumber n f)
 after-elim P n f on off =
     by-eq (n .refusal) none
     (λ h. rw (goes-on n n f refl h) (on h))
     (λ h. rw (ends n n f refl h) (off h))
 
 -- an event of a known code
-writable : (code first second : ℕ) → known code ≡ true → first < numberBound → second < numberBound → (arguments code < 1 → first ≡ 0) → (arguments code < 2 → second ≡ 0)
+writable : (code first second : ℕ) → known code ≡ true → first < numberBound → second < numberBound
+    → (arguments code < 1 → first ≡ 0) → (arguments code < 2 → second ≡ 0)
     → Writable (event code first second)
 writable code first second k f s no-first no-second =
-    record { at-least = known-le code k .0; at-most = known-le code k .1; first-lt = f; second-lt = s; lacks-first = no-first; lacks-second = no-second }
+    record {
+      at-least = known-le code k .0;
+      at-most = known-le code k .1;
+      first-lt = f;
+      second-lt = s;
+      lacks-first = no-first;
+      lacks-second = no-second;
+    }
 
 -- a reading ends at a number that can't be read, at an unknown code, or with an event
 module _ (bs : List ℕ) (at : ℕ) (P : EventRead → Type 0)
-    (on-unreadable : (p : ℕ) → at ≤ p → (at < p → p ≤ length bs) → (readNumber bs p .refusal ≡ none → ⊥) → P (unreadable (readNumber bs p)))
+    (on-unreadable : (p : ℕ) → at ≤ p → (at < p → p ≤ length bs) → (readNumber bs p .refusal ≡ none → ⊥)
+    → P (unreadable (readNumber bs p)))
     (on-unknown : P (refused unknownEvent at))
     (on-event : (e : Event) (p : ℕ) → Writable e → Spans bs at (eventBytes e) p → P (accepted e p))
   where
     -- the arguments, after a code that was read
-    arguments-elim : (n code p : ℕ) → arguments code ≡ n → known code ≡ true → Spans bs at (numberBytes code) p → P (readArguments n bs code p)
+    arguments-elim : (n code p : ℕ) → arguments code ≡ n → known code ≡ true → Spans bs at (numberBytes code) p
+        → P (readArguments n bs code p)
     unfolding readArguments argumentBytes eventBytes
     arguments-elim zero code p z k s =
         on-event (event code 0 0) p
@@ -67,7 +83,8 @@ module _ (bs : List ℕ) (at : ℕ) (P : EventRead → Type 0)
     arguments-elim (suc zero) code p z k s =
         after-elim P (readNumber bs p) _
         (λ h. on-event _ _
-        (writable code (readNumber bs p .value) 0 k (Number.reading bs p .in-range) (lit< tt) (λ g. absurd (omega arith)) (λ g. refl))
+        (writable code (readNumber bs p .value) 0 k (Number.reading bs p .in-range) (lit< tt)
+        (λ g. absurd (omega arith)) (λ g. refl))
         (rw z (spans-append s (spans-number bs p h))))
         (on-unreadable p (omega (arith, s .later)) (λ g. s .inside))
     arguments-elim (suc (suc n)) code p z k s =
@@ -75,7 +92,9 @@ module _ (bs : List ℕ) (at : ℕ) (P : EventRead → Type 0)
         (λ h. let t = spans-number bs p h in
         after-elim P (readNumber bs (readNumber bs p .place)) _
         (λ g. on-event _ _
-        (writable code (readNumber bs p .value) (readNumber bs (readNumber bs p .place) .value) k (Number.reading bs p .in-range) (Number.reading bs (readNumber bs p .place) .in-range) (λ f. absurd (omega arith)) (λ f. absurd (omega arith)))
+        (writable code (readNumber bs p .value) (readNumber bs (readNumber bs p .place) .value) k
+        (Number.reading bs p .in-range) (Number.reading bs (readNumber bs p .place) .in-range)
+        (λ f. absurd (omega arith)) (λ f. absurd (omega arith)))
         (rw z (spans-append s (spans-append t (spans-number bs (readNumber bs p .place) g)))))
         (on-unreadable (readNumber bs p .place) (omega (arith, s .later, t .later)) (λ g. t .inside)))
         (on-unreadable p (omega (arith, s .later)) (λ g. s .inside))
@@ -85,7 +104,8 @@ module _ (bs : List ℕ) (at : ℕ) (P : EventRead → Type 0)
     read-elim =
         after-elim P (readNumber bs at) _
         (λ h. by-test (known (readNumber bs at .value))
-        (λ k. rw k (arguments-elim (arguments (readNumber bs at .value)) (readNumber bs at .value) (readNumber bs at .place) refl k (spans-number bs at h)))
+        (λ k. rw k (arguments-elim (arguments (readNumber bs at .value)) (readNumber bs at .value)
+        (readNumber bs at .place) refl k (spans-number bs at h)))
         (λ k. rw k on-unknown))
         (on-unreadable at (omega arith) (λ g. absurd (omega arith)))
 
@@ -97,7 +117,9 @@ after-bytes bs at xs ys h = sym (drop-drop (length xs) at bs) ∙ ap (drop (leng
 module _ (bs : List ℕ) (e : Event) (rest : List ℕ) (w : Writable e) where
   -- an event is what its arguments are, where those that it lacks are 0
   no-arguments : arguments (e .code) ≡ 0 → event (e .code) 0 0 ≡ e
-  no-arguments z = ap (λ (x : ℕ). event (e .code) x 0) (sym (w .lacks-first (omega arith))) ∙ ap (λ (y : ℕ). event (e .code) (e .first) y) (sym (w .lacks-second (omega arith)))
+  no-arguments z =
+      ap (λ (x : ℕ). event (e .code) x 0) (sym (w .lacks-first (omega arith)))
+      ∙ ap (λ (y : ℕ). event (e .code) (e .first) y) (sym (w .lacks-second (omega arith)))
 
   one-argument : arguments (e .code) ≡ 1 → event (e .code) (e .first) 0 ≡ e
   one-argument z = ap (λ (y : ℕ). event (e .code) (e .first) y) (sym (w .lacks-second (omega arith)))
@@ -112,7 +134,8 @@ module _ (bs : List ℕ) (e : Event) (rest : List ℕ) (w : Writable e) where
   arguments-at (suc (suc n)) at z h =
       rw (
         Number.read-at bs at (e .first) (numberBytes (e .second) ++ rest) (w .first-lt) split,
-        Number.read-at bs (at + length (numberBytes (e .first))) (e .second) rest (w .second-lt) (after-bytes bs at (numberBytes (e .first)) (numberBytes (e .second) ++ rest) split),
+        Number.read-at bs (at + length (numberBytes (e .first))) (e .second) rest (w .second-lt)
+            (after-bytes bs at (numberBytes (e .first)) (numberBytes (e .second) ++ rest) split),
         length-append,
         add-assoc,
       )
@@ -123,15 +146,19 @@ module _ (bs : List ℕ) (e : Event) (rest : List ℕ) (w : Writable e) where
   pub read-at : (at : ℕ) → drop at bs ≡ eventBytes e ++ rest → readEvent bs at ≡ accepted e (at + length (eventBytes e))
   unfolding eventBytes
   read-at at h =
-      read-known _ bs at (sym (Number.read-at bs at (e .code) (argumentBytes (arguments (e .code)) e ++ rest) (let u = w .at-most in omega arith) split)) refl (e .code) refl (known-true (e .code) (w .at-least) (w .at-most))
-      ∙ arguments-at (arguments (e .code)) (at + length (numberBytes (e .code))) refl (after-bytes bs at (numberBytes (e .code)) (argumentBytes (arguments (e .code)) e ++ rest) split)
+      read-known _ bs at
+      (sym (Number.read-at bs at (e .code) (argumentBytes (arguments (e .code)) e ++ rest)
+      (let u = w .at-most in omega arith) split)) refl (e .code) refl (known-true (e .code) (w .at-least) (w .at-most))
+      ∙ arguments-at (arguments (e .code)) (at + length (numberBytes (e .code))) refl
+      (after-bytes bs at (numberBytes (e .code)) (argumentBytes (arguments (e .code)) e ++ rest) split)
       ∙ rw (length-append, add-assoc)
     where
       split : drop at bs ≡ numberBytes (e .code) ++ (argumentBytes (arguments (e .code)) e ++ rest)
       split = h ∙ append-assoc (numberBytes (e .code)) (argumentBytes (arguments (e .code)) e) rest
 
 -- what an accepted reading covers
-pub read-spans : (bs : List ℕ) (at : ℕ) → readEvent bs at .refusal ≡ none → Spans bs at (eventBytes (readEvent bs at .event)) (readEvent bs at .place)
+pub read-spans : (bs : List ℕ) (at : ℕ) → readEvent bs at .refusal ≡ none
+    → Spans bs at (eventBytes (readEvent bs at .event)) (readEvent bs at .place)
 read-spans bs at =
     read-elim bs at (λ r. r .refusal ≡ none → Spans bs at (eventBytes (r .event)) (r .place))
     (λ p le i n h. absurd (omega arith))
@@ -139,7 +166,8 @@ read-spans bs at =
     (λ e p w s h. s)
 
 -- an event that was written is read from the output
-pub read-output : (e : Event) (d : List ℕ) → e .first < numberBound → e .second < numberBound → writeEvent e (length d) .refusal ≡ none
+pub read-output : (e : Event) (d : List ℕ) → e .first < numberBound → e .second < numberBound
+    → writeEvent e (length d) .refusal ≡ none
     → readEvent (eventWritten e d) 0 ≡ accepted e (writeEvent e (length d) .place)
 read-output e d f s h =
     rw (← o .0, ← o .1)
@@ -148,8 +176,10 @@ read-output e d f s h =
     w : Writable e
     w = accepted-writable e f s (write-accepted e d h)
 
-    o : (record { refusal = none; place = length (eventBytes e) } ≡ writeEvent e (length d)) × (eventBytes e ++ drop (length (eventBytes e)) d ≡ eventWritten e d)
+    o : (record { refusal = none; place = length (eventBytes e) } ≡ writeEvent e (length d))
+        × (eventBytes e ++ drop (length (eventBytes e)) d ≡ eventWritten e d)
     o =
-        writes-bytes e d _ (eventBytes e) _ (known-true (e .code) (w .at-least) (w .at-most)) (stray-none e (w .lacks-first) (w .lacks-second)) refl
+        writes-bytes e d _ (eventBytes e) _ (known-true (e .code) (w .at-least) (w .at-most))
+        (stray-none e (w .lacks-first) (w .lacks-second)) refl
         (Number.writing-fits (eventBytes e) (length d) (length (eventBytes e)) refl (write-room e d h))
         (sym (Number.written-fits (eventBytes e) d (write-room e d h)))

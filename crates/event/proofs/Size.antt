@@ -16,4 +16,6 @@ length-argumentBytes (suc (suc n)) e =
 pub length-eventBytes : (e : Event) → (1 ≤ length (eventBytes e)) × (length (eventBytes e) ≤ 15)
 unfolding eventBytes
 length-eventBytes e =
-    let c = length-numberBytes (e .code) in let a = length-argumentBytes (arguments (e .code)) e in simp length-append (omega arith)
+    let c = length-numberBytes (e .code) in
+    let a = length-argumentBytes (arguments (e .code)) e in
+    simp length-append (omega arith)

@@ -1,6 +1,8 @@
--- What the crate shows beyond its contracts. Each law stands here in full, over specs/ alone; the modules it cites prove it.
+-- What the crate shows beyond its contracts. Each law stands here in full, over specs/ alone; the modules it cites
+-- prove it.
 --
--- In order: what every reading satisfies, and one past the end; both round trips; how long an event's bytes are; what the writer refuses; the trace as a list of events.
+-- In order: what every reading satisfies, and one past the end; both round trips; how long an event's bytes are; what
+-- the writer refuses; the trace as a list of events.
 use Prim.Native.Nat.{ℕ, _+_, _-_, _≤_, _<_, max}
 use mathlib.Core.Path.{_≡_, refl, ap, _∙_}
 use mathlib.Core.List.{List, _++_}
@@ -23,8 +25,8 @@ use Rattle.event.proofs.Size as Size
 use Rattle.event.proofs.Writing as Writing
 use Rattle.event.proofs.Trace as Trace
 
--- whatever is read: an accepted event can be written and covers at least one byte of the input; a refused one is all zero, and one cut off has its
--- place at the input's end, "(a start past it keeps its own place)"
+-- whatever is read: an accepted event can be written and covers at least one byte of the input; a refused one is all
+-- zero, and one cut off has its place at the input's end, "(a start past it keeps its own place)"
 pub record EventReading (bs : List ℕ) (at : ℕ) (r : EventRead) : Type 0 where
   pub after : r .refusal ≡ none → at < r .place
   pub inside : r .refusal ≡ none → r .place ≤ length bs
@@ -53,8 +55,8 @@ event-reading bs at =
       at-end = λ h. absurd (omega arith);
     })
   where
-    no-event : (r p : ℕ) → traceCut ≤ r → r ≤ unknownEvent → (at ≤ length bs → p ≤ length bs) → (r ≡ traceCut → p ≡ max at (length bs))
-        → EventReading bs at (refused r p)
+    no-event : (r p : ℕ) → traceCut ≤ r → r ≤ unknownEvent → (at ≤ length bs → p ≤ length bs)
+        → (r ≡ traceCut → p ≡ max at (length bs)) → EventReading bs at (refused r p)
     no-event r p low high place end =
         record {
           after = λ h. absurd (omega arith);
@@ -80,7 +82,8 @@ read-at bs at e rest w h = RoundTrip.read-at bs e rest w at h
 pub read-written : (front behind : List ℕ) (e : Event) → Writable e
     → readEvent (front ++ (eventBytes e ++ behind)) (length front) ≡ accepted e (length front + length (eventBytes e))
 read-written front behind e w =
-    read-at (front ++ (eventBytes e ++ behind)) (length front) e behind w (drop-at front (eventBytes e ++ behind) (length front) refl)
+    read-at (front ++ (eventBytes e ++ behind)) (length front) e behind w
+    (drop-at front (eventBytes e ++ behind) (length front) refl)
 
 -- whatever the reader accepts is written back to the same bytes
 pub written-read : (bs : List ℕ) (at : ℕ) → Bytes bs → readEvent bs at .refusal ≡ none
@@ -101,19 +104,23 @@ length-eventBytes = Size.length-eventBytes
 pub writable-accepted : (e : Event) → Writable e → writerRefusal e ≡ none
 writable-accepted = Writing.writable-accepted
 
-pub accepted-writable : (e : Event) → e .first < numberBound → e .second < numberBound → writerRefusal e ≡ none → Writable e
+pub accepted-writable : (e : Event) → e .first < numberBound → e .second < numberBound → writerRefusal e ≡ none
+    → Writable e
 accepted-writable = Writing.accepted-writable
 
 -- an event that was written is read from the output, up to the length that the writer returned
-pub read-output : (e : Event) (d : List ℕ) → e .first < numberBound → e .second < numberBound → writeEvent e (length d) .refusal ≡ none
+pub read-output : (e : Event) (d : List ℕ) → e .first < numberBound → e .second < numberBound
+    → writeEvent e (length d) .refusal ≡ none
     → readEvent (eventWritten e d) 0 ≡ accepted e (writeEvent e (length d) .place)
 read-output = RoundTrip.read-output
 
--- the events of a trace from a place on, event by event: none at the end, none where one is refused, and else the one there and those after it
+-- the events of a trace from a place on, event by event: none at the end, none where one is refused, and else the one
+-- there and those after it
 pub rest-end : (bs : List ℕ) (at : ℕ) → length bs ≤ at → readRest bs at ≡ ended at
 rest-end = Trace.rest-end
 
-pub rest-refused : (bs : List ℕ) (at : ℕ) → at < length bs → (readEvent bs at .refusal ≡ none → ⊥) → readRest bs at ≡ broken (readEvent bs at)
+pub rest-refused : (bs : List ℕ) (at : ℕ) → at < length bs → (readEvent bs at .refusal ≡ none → ⊥)
+    → readRest bs at ≡ broken (readEvent bs at)
 rest-refused = Trace.rest-refused
 
 pub rest-step : (bs : List ℕ) (at : ℕ) → readEvent bs at .refusal ≡ none
@@ -128,12 +135,15 @@ from-rest = Trace.from-rest
 pub rest-elim : (bs : List ℕ) (P : ℕ → TraceRead → Type 0)
     → ((at : ℕ) → length bs ≤ at → P at (ended at))
     → ((at : ℕ) → at < length bs → (readEvent bs at .refusal ≡ none → ⊥) → P at (broken (readEvent bs at)))
-    → ((at : ℕ) → at < length bs → readEvent bs at .refusal ≡ none → P (readEvent bs at .place) (readRest bs (readEvent bs at .place)) → P at (before (readEvent bs at .event) (readRest bs (readEvent bs at .place))))
+    → ((at : ℕ) → at < length bs → readEvent bs at .refusal ≡ none
+    → P (readEvent bs at .place) (readRest bs (readEvent bs at .place))
+    → P at (before (readEvent bs at .event) (readRest bs (readEvent bs at .place))))
     → (at : ℕ) → P at (readRest bs at)
 rest-elim = Trace.rest-elim
 
 -- the bytes of an accepted trace are those of its events, one after the other
-pub trace-written-read : (bs : List ℕ) → Bytes bs → readTrace bs .refusal ≡ none → bs ≡ traceBytes (readTrace bs .events)
+pub trace-written-read : (bs : List ℕ) → Bytes bs → readTrace bs .refusal ≡ none
+    → bs ≡ traceBytes (readTrace bs .events)
 trace-written-read bs b h = Trace.rest-bytes bs b 0 h
 
 -- a list of events that is written reads back the same
@@ -154,7 +164,28 @@ pub trace-reading : (bs : List ℕ) (at : ℕ) → at ≤ length bs → TraceRea
 unfolding AllWritable
 trace-reading bs =
     rest-elim bs (λ at r. at ≤ length bs → TraceReading bs at r)
-    (λ at h le. record { writable = tt; few = omega arith; whole = λ e. omega arith; refusals = λ n. absurd (n refl); place-le = le; at-end = λ e. absurd (omega arith) })
-    (λ at h n le. let r = event-reading bs at in record { writable = tt; few = omega arith; whole = λ e. absurd (n e); refusals = r .refusals; place-le = r .place-le le; at-end = λ e. omega (arith, r .at-end e) })
+    (λ at h le. record {
+      writable = tt;
+      few = omega arith;
+      whole = λ e. omega arith;
+      refusals = λ n. absurd (n refl);
+      place-le = le;
+      at-end = λ e. absurd (omega arith);
+    })
+    (λ at h n le. let r = event-reading bs at in record {
+      writable = tt;
+      few = omega arith;
+      whole = λ e. absurd (n e);
+      refusals = r .refusals;
+      place-le = r .place-le le;
+      at-end = λ e. omega (arith, r .at-end e);
+    })
     (λ at h a p le. let r = event-reading bs at in let later = r .after a in let q = p (r .inside a) in
-    record { writable = (r .writable a, q .writable); few = omega (arith, r .inside a); whole = q .whole; refusals = q .refusals; place-le = q .place-le; at-end = q .at-end })
+    record {
+      writable = (r .writable a, q .writable);
+      few = omega (arith, r .inside a);
+      whole = q .whole;
+      refusals = q .refusals;
+      place-le = q .place-le;
+      at-end = q .at-end;
+    })

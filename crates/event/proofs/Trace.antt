@@ -1,6 +1,7 @@
 -- The trace as a list of events, tied to the reader of one event, and its round trips.
 --
--- In order: a reading with fuel; more fuel than bytes changes nothing; the same without fuel; what holds of every trace (`rest-elim`); both round trips.
+-- In order: a reading with fuel; more fuel than bytes changes nothing; the same without fuel; what holds of every trace
+-- (`rest-elim`); both round trips.
 use Prim.Native.Nat.{ℕ, zero, suc, _+_, _-_, _≤_, _<_}
 use mathlib.Core.Path.{_≡_, refl, sym, ap, _∙_}
 use mathlib.Core.List.{List, [], _∷_, _++_}
@@ -23,7 +24,8 @@ module _ (bs : List ℕ) where
   from-end zero at h = refl
   from-end (suc fuel) at h = simp (le-ltb at (length bs) h)
 
-  from-refused : (fuel at : ℕ) → at < length bs → (readEvent bs at .refusal ≡ none → ⊥) → readFrom (suc fuel) bs at ≡ broken (readEvent bs at)
+  from-refused : (fuel at : ℕ) → at < length bs → (readEvent bs at .refusal ≡ none → ⊥)
+      → readFrom (suc fuel) bs at ≡ broken (readEvent bs at)
   unfolding readFrom
   from-refused fuel at h n = simp (lt-ltb at (length bs) h, ne-eqb (readEvent bs at .refusal) none n)
 
@@ -53,10 +55,12 @@ module _ (bs : List ℕ) where
   unfolding readRest
   rest-end at h = from-end (length bs - at) at h
 
-  pub rest-refused : (at : ℕ) → at < length bs → (readEvent bs at .refusal ≡ none → ⊥) → readRest bs at ≡ broken (readEvent bs at)
+  pub rest-refused : (at : ℕ) → at < length bs → (readEvent bs at .refusal ≡ none → ⊥)
+      → readRest bs at ≡ broken (readEvent bs at)
   rest-refused at h n = sym (from-rest (suc (length bs - at)) at (omega arith)) ∙ from-refused (length bs - at) at h n
 
-  pub rest-step : (at : ℕ) → readEvent bs at .refusal ≡ none → readRest bs at ≡ before (readEvent bs at .event) (readRest bs (readEvent bs at .place))
+  pub rest-step : (at : ℕ) → readEvent bs at .refusal ≡ none
+      → readRest bs at ≡ before (readEvent bs at .event) (readRest bs (readEvent bs at .place))
   rest-step at a = let s = read-spans bs at a in
       sym (from-rest (suc (length bs - at)) at (omega arith))
       ∙ from-event (length bs - at) at (omega arith) a
@@ -66,14 +70,17 @@ module _ (bs : List ℕ) where
   module _ (P : ℕ → TraceRead → Type 0)
       (on-end : (at : ℕ) → length bs ≤ at → P at (ended at))
       (on-refused : (at : ℕ) → at < length bs → (readEvent bs at .refusal ≡ none → ⊥) → P at (broken (readEvent bs at)))
-      (on-event : (at : ℕ) → at < length bs → readEvent bs at .refusal ≡ none → P (readEvent bs at .place) (readRest bs (readEvent bs at .place)) → P at (before (readEvent bs at .event) (readRest bs (readEvent bs at .place))))
+      (on-event : (at : ℕ) → at < length bs → readEvent bs at .refusal ≡ none
+      → P (readEvent bs at .place) (readRest bs (readEvent bs at .place))
+      → P at (before (readEvent bs at .event) (readRest bs (readEvent bs at .place))))
     where
       go : (fuel at : ℕ) → length bs - at ≤ fuel → P at (readRest bs at)
       go zero at h = rw (rest-end at (omega arith)) (on-end at (omega arith))
       go (suc fuel) at h =
           by-lt at (length bs)
           (λ lt. by-eq (readEvent bs at .refusal) none
-          (λ a. let s = read-spans bs at a in rw (rest-step at a) (on-event at lt a (go fuel (readEvent bs at .place) (omega arith))))
+          (λ a. let s = read-spans bs at a in
+          rw (rest-step at a) (on-event at lt a (go fuel (readEvent bs at .place) (omega arith))))
           (λ n. rw (rest-refused at lt n) (on-refused at lt n)))
           (λ le. rw (rest-end at le) (on-end at le))
 
@@ -81,7 +88,8 @@ module _ (bs : List ℕ) where
       rest-elim at = go (length bs - at) at (omega arith)
 
   -- the bytes of an accepted trace are those of its events
-  pub rest-bytes : Bytes bs → (at : ℕ) → readRest bs at .refusal ≡ none → drop at bs ≡ traceBytes (readRest bs at .events)
+  pub rest-bytes : Bytes bs → (at : ℕ) → readRest bs at .refusal ≡ none
+      → drop at bs ≡ traceBytes (readRest bs at .events)
   unfolding traceBytes
   rest-bytes b =
       rest-elim (λ at r. r .refusal ≡ none → drop at bs ≡ traceBytes (r .events))
@@ -96,7 +104,12 @@ module _ (bs : List ℕ) where
   rest-written [] at w h = rw add-zero (rest-end at (omega (arith, ap length h, length-drop at bs)))
   rest-written (e ∷ es) at w h =
       rest-step at (ap (λ (r : EventRead). r .refusal) here)
-      ∙ rw (here, rest-written es (at + length (eventBytes e)) (w .1) (after-bytes bs at (eventBytes e) (traceBytes es) h), length-append, add-assoc)
+      ∙ rw (
+        here,
+        rest-written es (at + length (eventBytes e)) (w .1) (after-bytes bs at (eventBytes e) (traceBytes es) h),
+        length-append,
+        add-assoc,
+      )
     where
       here : readEvent bs at ≡ accepted e (at + length (eventBytes e))
       here = read-at bs e (traceBytes es) (w .0) at h

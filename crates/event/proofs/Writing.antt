@@ -18,8 +18,8 @@ use Rattle.event.proofs.Codes.{known-true, known-le}
 
 -- the three answers that the writer can come to: the bytes, the stray argument, the unknown code
 module _ (e : Event) (d : List ℕ) (w : Written) where
-  pub writes-bytes : (bs ys : List ℕ) → known (e .code) ≡ true → stray e ≡ false → eventBytes e ≡ bs → w ≡ writing bs (length d) → ys ≡ written bs d
-      → (w ≡ writeEvent e (length d)) × (ys ≡ eventWritten e d)
+  pub writes-bytes : (bs ys : List ℕ) → known (e .code) ≡ true → stray e ≡ false → eventBytes e ≡ bs
+      → w ≡ writing bs (length d) → ys ≡ written bs d → (w ≡ writeEvent e (length d)) × (ys ≡ eventWritten e d)
   unfolding writerRefusal writeEvent eventWritten
   writes-bytes bs ys k s b r o = (rw (k, s, b) r, rw (k, s, b) o)
 
@@ -43,7 +43,8 @@ module _ (e : Event) where
   unfolding stray
   stray-second n h = simp (lt-ltb (arguments (e .code)) 2 n, lt-ltb 0 (e .second) h, or-true)
 
-  pub stray-none : (arguments (e .code) < 1 → e .first ≡ 0) → (arguments (e .code) < 2 → e .second ≡ 0) → stray e ≡ false
+  pub stray-none : (arguments (e .code) < 1 → e .first ≡ 0) → (arguments (e .code) < 2 → e .second ≡ 0)
+      → stray e ≡ false
   unfolding stray
   stray-none f s =
       by-lt (arguments (e .code)) 1
@@ -95,8 +96,11 @@ module _ (e : Event) where
         at-most = known-le (e .code) (k .0) .1;
         first-lt = f;
         second-lt = s;
-        lacks-first = λ g. by-eq (e .first) 0 (λ z. z) (λ n. absurd (false≢true (sym (k .1) ∙ stray-first e (omega arith) (omega arith))));
-        lacks-second = λ g. by-eq (e .second) 0 (λ z. z) (λ n. absurd (false≢true (sym (k .1) ∙ stray-second e g (omega arith))));
+        lacks-first =
+            λ g. by-eq (e .first) 0 (λ z. z)
+            (λ n. absurd (false≢true (sym (k .1) ∙ stray-first e (omega arith) (omega arith))));
+        lacks-second =
+            λ g. by-eq (e .second) 0 (λ z. z) (λ n. absurd (false≢true (sym (k .1) ∙ stray-second e g (omega arith))));
       }
 
   pub write-accepted : (d : List ℕ) → writeEvent e (length d) .refusal ≡ none → writerRefusal e ≡ none
@@ -109,5 +113,7 @@ module _ (e : Event) where
   unfolding writeEvent writing
   write-room d h =
       by-lt (length d) (length (eventBytes e))
-      (λ lt. let z : _≡_ {A = ℕ} noRoom none = rw (eq-eqb (writerRefusal e) none (write-accepted d h), lt-leb (length (eventBytes e)) (length d) lt) at h in absurd (omega arith))
+      (λ lt. let z : _≡_ {A = ℕ} noRoom none =
+      rw (eq-eqb (writerRefusal e) none (write-accepted d h), lt-leb (length (eventBytes e)) (length d) lt) at h in
+      absurd (omega arith))
       (λ le. le)

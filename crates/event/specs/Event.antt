@@ -65,8 +65,8 @@ lastCode = clear
 unfoldable pub known : ℕ → Bool
 known code = leb activate code && leb code lastCode
 
--- "Each event code has its own arguments": Finish and Tick have none, Start a table and a delay, Set a task and a mask, each other one the
--- number of what it is about, or a mask
+-- "Each event code has its own arguments": Finish and Tick have none, Start a table and a delay, Set a task and a mask,
+-- each other one the number of what it is about, or a mask
 unfoldable pub arguments : ℕ → ℕ
 arguments code = cond (eqb code finish || eqb code tick) 0 (cond (eqb code start || eqb code set) 2 1)
 

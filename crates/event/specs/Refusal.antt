@@ -6,7 +6,7 @@ use Rattle.number.specs.Refusal.{cut}
 abbrev pub traceTooLong : ℕ
 traceTooLong = 20
 
--- "21 / 22: as 1 / 2, in the trace"
+-- 21 and 22: "as 1 / 2, in the trace"
 abbrev pub inTrace : ℕ → ℕ
 inTrace r = 20 + r
 

@@ -4,7 +4,8 @@
 --   readRest bs at    the same from a place on
 --   traceBytes es     the bytes of a list of events
 --
--- Main laws: `rest-step`, `rest-end` and `rest-refused` tie `readRest` to the reader of one event; `trace-read-written` and `trace-written-read` are the round trips (proofs/Theorems.antt).
+-- Main laws: `rest-step`, `rest-end` and `rest-refused` tie `readRest` to the reader of one event; `trace-read-written`
+-- and `trace-written-read` are the round trips (proofs/Theorems.antt).
 use Prim.Native.Nat.{ℕ, zero, suc, _-_}
 use mathlib.Core.Bool.{cond}
 use mathlib.Core.List.{List, [], _∷_, _++_}

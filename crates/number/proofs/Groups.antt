@@ -1,4 +1,5 @@
--- The reader's definition, group by group: what each kind of first byte makes of a reading, and how large and how long a reading can be.
+-- The reader's definition, group by group: what each kind of first byte makes of a reading, and how large and how long
+-- a reading can be.
 use Prim.Native.Nat.{ℕ, zero, suc, _+_, _*_, _-_, _%_, _≤_, _<_}
 use mathlib.Core.Path.{_≡_}
 use mathlib.Core.List.{List, [], _∷_}
@@ -48,19 +49,24 @@ pub continued-zero : (low : ℕ) (r : NumberRead) → r .refusal ≡ none → r 
 unfolding continued
 continued-zero low r h z = simp (eq-eqb (r .refusal) none h, eq-eqb (r .value) 0 z)
 
-pub continued-more : (low : ℕ) (r : NumberRead) → r .refusal ≡ none → (r .value ≡ 0 → ⊥) → continued low r ≡ accepted (low + 128 * r .value) (1 + r .place)
+pub continued-more : (low : ℕ) (r : NumberRead) → r .refusal ≡ none → (r .value ≡ 0 → ⊥)
+    → continued low r ≡ accepted (low + 128 * r .value) (1 + r .place)
 unfolding continued
 continued-more low r h z = simp (eq-eqb (r .refusal) none h, ne-eqb (r .value) 0 z)
 
--- a property of readings: that of no bytes, a fifth group too large, a last group, and what a group before any reading makes of it
+-- a property of readings: that of no bytes, a fifth group too large, a last group, and what a group before any reading
+-- makes of it
 module _ (P : ℕ → List ℕ → NumberRead → Type 0)
     (on-cut : (k : ℕ) → P k [] brokenOff)
     (on-large : (b : ℕ) (bs : List ℕ) → 16 ≤ b → P 0 (b ∷ bs) tooLarge)
     (on-last : (b : ℕ) (bs : List ℕ) → b < 16 → P 0 (b ∷ bs) (accepted b 1))
     (on-end : (k b : ℕ) (bs : List ℕ) → b < 128 → P (suc k) (b ∷ bs) (accepted b 1))
-    (on-more : (k b : ℕ) (bs : List ℕ) (r : NumberRead) → 128 ≤ b → r .refusal ≡ none → (r .value ≡ 0 → ⊥) → P k bs r → P (suc k) (b ∷ bs) (accepted (b % 128 + 128 * r .value) (1 + r .place)))
-    (on-zero : (k b : ℕ) (bs : List ℕ) (r : NumberRead) → 128 ≤ b → r .refusal ≡ none → r .value ≡ 0 → P k bs r → P (suc k) (b ∷ bs) superfluous)
-    (on-refused : (k b : ℕ) (bs : List ℕ) (r : NumberRead) → 128 ≤ b → (r .refusal ≡ none → ⊥) → P k bs r → P (suc k) (b ∷ bs) (refusedLater r))
+    (on-more : (k b : ℕ) (bs : List ℕ) (r : NumberRead) → 128 ≤ b → r .refusal ≡ none → (r .value ≡ 0 → ⊥) → P k bs r
+    → P (suc k) (b ∷ bs) (accepted (b % 128 + 128 * r .value) (1 + r .place)))
+    (on-zero : (k b : ℕ) (bs : List ℕ) (r : NumberRead) → 128 ≤ b → r .refusal ≡ none → r .value ≡ 0 → P k bs r
+    → P (suc k) (b ∷ bs) superfluous)
+    (on-refused : (k b : ℕ) (bs : List ℕ) (r : NumberRead) → 128 ≤ b → (r .refusal ≡ none → ⊥) → P k bs r
+    → P (suc k) (b ∷ bs) (refusedLater r))
   where
     pub groups-elim : (k : ℕ) (bs : List ℕ) → P k bs (groups k bs)
     unfolding groups
@@ -95,5 +101,6 @@ module _ (l : List ℕ) (at k : ℕ) where
   pub groups-at-end : at < length l → 0 < k → getD l at 0 < 128 → groups k (drop at l) ≡ accepted (getD l at 0) 1
   groups-at-end h p small = rw (drop-cons l at 0 h) (groups-end k (getD l at 0) (drop (suc at) l) p small)
 
-  pub groups-at-more : at < length l → 0 < k → 128 ≤ getD l at 0 → groups k (drop at l) ≡ continued (getD l at 0 % 128) (groups (k - 1) (drop (at + 1) l))
+  pub groups-at-more : at < length l → 0 < k → 128 ≤ getD l at 0
+      → groups k (drop at l) ≡ continued (getD l at 0 % 128) (groups (k - 1) (drop (at + 1) l))
   groups-at-more h p large = rw (add-one, drop-cons l at 0 h) (groups-more k (getD l at 0) (drop (suc at) l) p large)

@@ -20,7 +20,10 @@ pub laid-laid : (at : ℕ) (bs cs d : List ℕ) → at + length bs + length cs �
     → laid (at + length bs) cs (laid at bs d) ≡ laid at (bs ++ cs) d
 unfolding laid
 laid-laid at bs cs d h =
-    rw (← append-assoc (take at d) bs (drop (at + length bs) d), take-at front (drop (at + length bs) d) (at + length bs) long)
+    rw (
+      ← append-assoc (take at d) bs (drop (at + length bs) d),
+      take-at front (drop (at + length bs) d) (at + length bs) long,
+    )
     (ap (λ (l : List ℕ). front ++ (cs ++ l)) behind
     ∙ simp (append-assoc, length-append, ← add-assoc))
   where
@@ -31,7 +34,11 @@ laid-laid at bs cs d h =
     long = length-append (take at d) bs ∙ ap (λ (n : ℕ). n + length bs) (length-take-le at d (omega arith))
 
     behind : drop (at + length bs + length cs) (front ++ drop (at + length bs) d) ≡ drop (at + length bs + length cs) d
-    behind = rw (← drop-drop (length cs) (at + length bs) (front ++ drop (at + length bs) d), drop-at front (drop (at + length bs) d) (at + length bs) long) (drop-drop (length cs) (at + length bs) d)
+    behind =
+        rw (
+          ← drop-drop (length cs) (at + length bs) (front ++ drop (at + length bs) d),
+          drop-at front (drop (at + length bs) d) (at + length bs) long,
+        ) (drop-drop (length cs) (at + length bs) d)
 
 -- a slice lent whole
 pub laid-zero : (bs d : List ℕ) → length bs ≤ length d → written bs d ≡ laid 0 bs d
@@ -43,7 +50,11 @@ pub laid-part : (at : ℕ) (bs d : List ℕ) → at + length bs ≤ length d
     → putMid at (length d - at) d (written bs (take (length d - at) (drop at d))) ≡ laid at bs d
 unfolding laid
 laid-part at bs d h =
-    rw (take-all (length d - at) (drop at d) (simp length-drop (omega arith)), written-fits bs (drop at d) (simp length-drop (omega arith)), drop-drop (length bs) at d)
+    rw (
+      take-all (length d - at) (drop at d) (simp length-drop (omega arith)),
+      written-fits bs (drop at d) (simp length-drop (omega arith)),
+      drop-drop (length bs) at d,
+    )
     (ap (λ (l : List ℕ). take at d ++ l) (simp (append-assoc, none-left, append-nil)))
   where
     none-left : drop (length d - at) (drop at d) ≡ []

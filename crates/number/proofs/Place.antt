@@ -1,5 +1,5 @@
--- Which byte decides a refused reading, group by group: no byte after it matters (`decided`), those before it leave the reading open
--- (`cut-before`), and a reading that breaks off could still have become a number (`completed`).
+-- Which byte decides a refused reading, group by group: no byte after it matters (`decided`), those before it leave the
+-- reading open (`cut-before`), and a reading that breaks off could still have become a number (`completed`).
 use Prim.Native.Nat.{ℕ, zero, suc, _+_, _%_, _≤_}
 use mathlib.Core.Path.{_≡_, refl, sym, ap, _∙_}
 use mathlib.Core.List.{List, [], _∷_, _++_}
@@ -20,26 +20,34 @@ drop-take (suc at) n [] = rw (suc-add, take-nil n)
 drop-take (suc at) n (x ∷ xs) = rw suc-add (drop-take at n xs)
 
 -- what a group with its top bit set makes of a reading that is known
-on-step : (k b : ℕ) (bs : List ℕ) (r s : NumberRead) → 128 ≤ b → groups k bs ≡ r → continued (b % 128) r ≡ s → groups (suc k) (b ∷ bs) ≡ s
+on-step : (k b : ℕ) (bs : List ℕ) (r s : NumberRead) → 128 ≤ b → groups k bs ≡ r → continued (b % 128) r ≡ s
+    → groups (suc k) (b ∷ bs) ≡ s
 on-step k b bs r s h e f = groups-step k b bs h ∙ ap (continued (b % 128)) e ∙ f
 
 -- a list that begins as b ∷ bs does is b before one that begins as bs does
-module _ (k b n : ℕ) (bs : List ℕ) {r : NumberRead} (on-cons : (cs : List ℕ) → take n cs ≡ take n bs → groups k (b ∷ cs) ≡ r) where
+module _ (k b n : ℕ) (bs : List ℕ) {r : NumberRead}
+    (on-cons : (cs : List ℕ) → take n cs ≡ take n bs → groups k (b ∷ cs) ≡ r) where
   begins : (cs : List ℕ) → take (suc n) cs ≡ take (suc n) (b ∷ bs) → groups k cs ≡ r
   begins [] e = let z : _≡_ {A = ℕ} 0 1 = cc in absurd (omega arith)
   begins (c ∷ cs) e = let h : c ≡ b = cc in let t : take n cs ≡ take n bs = cc in rw h (on-cons cs t)
 
--- a number needs the bytes that it covers, and a malformed one those up to its place and the one there: lists that agree on them read alike
+-- a number needs the bytes that it covers, and a malformed one those up to its place and the one there: lists that
+-- agree on them read alike
 record Decided (k : ℕ) (bs : List ℕ) (r : NumberRead) : Type 0 where
   zero-byte : r .refusal ≡ none → r .value ≡ 0 → r .place ≡ 1
   by-covered : r .refusal ≡ none → (cs : List ℕ) → take (r .place) cs ≡ take (r .place) bs → groups k cs ≡ r
-  by-place : r .refusal ≡ malformed → (cs : List ℕ) → take (suc (r .place)) cs ≡ take (suc (r .place)) bs → groups k cs ≡ r
+  by-place : r .refusal ≡ malformed → (cs : List ℕ) → take (suc (r .place)) cs ≡ take (suc (r .place)) bs
+      → groups k cs ≡ r
 
 decided : (k : ℕ) (bs : List ℕ) → Decided k bs (groups k bs)
 unfolding groups
 decided =
     groups-elim Decided
-    (λ k. record { zero-byte = λ e. absurd (omega arith); by-covered = λ e. absurd (omega arith); by-place = λ e. absurd (omega arith) })
+    (λ k. record {
+      zero-byte = λ e. absurd (omega arith);
+      by-covered = λ e. absurd (omega arith);
+      by-place = λ e. absurd (omega arith);
+    })
     (λ b bs h. record {
       zero-byte = λ e. absurd (omega arith);
       by-covered = λ e. absurd (omega arith);
@@ -57,22 +65,29 @@ decided =
     })
     (λ k b bs r h a z p. record {
       zero-byte = λ e v. absurd (omega arith);
-      by-covered = λ e cs t. begins (suc k) b (r .place) bs (λ cs t. on-step k b cs r _ h (p .by-covered a cs t) (continued-more (b % 128) r a z)) cs (rw one-add at t);
+      by-covered =
+          λ e cs t. begins (suc k) b (r .place) bs
+          (λ cs t. on-step k b cs r _ h (p .by-covered a cs t) (continued-more (b % 128) r a z)) cs (rw one-add at t);
       by-place = λ e. absurd (omega arith);
     })
     (λ k b bs r h a z p. record {
       zero-byte = λ e. absurd (omega arith);
       by-covered = λ e. absurd (omega arith);
-      by-place = λ e. begins (suc k) b 1 bs (λ cs t. on-step k b cs r _ h (p .by-covered a cs (rw (p .zero-byte a z) t)) (continued-zero (b % 128) r a z));
+      by-place =
+          λ e. begins (suc k) b 1 bs (λ cs t. on-step k b cs r _ h (p .by-covered a cs (rw (p .zero-byte a z) t))
+          (continued-zero (b % 128) r a z));
     })
     (λ k b bs r h n p. record {
       zero-byte = λ e. absurd (n e);
       by-covered = λ e. absurd (n e);
-      by-place = λ e cs t. begins (suc k) b (suc (r .place)) bs (λ cs t. on-step k b cs r _ h (p .by-place e cs t) (continued-refused (b % 128) r n)) cs (rw one-add at t);
+      by-place =
+          λ e cs t. begins (suc k) b (suc (r .place)) bs
+          (λ cs t. on-step k b cs r _ h (p .by-place e cs t) (continued-refused (b % 128) r n)) cs (rw one-add at t);
     })
 
 -- the bytes before the place of a malformed number alone break off there
-cut-before : (k : ℕ) (bs : List ℕ) → groups k bs .refusal ≡ malformed → groups k (take (groups k bs .place) bs) ≡ refused cut (groups k bs .place)
+cut-before : (k : ℕ) (bs : List ℕ) → groups k bs .refusal ≡ malformed
+    → groups k (take (groups k bs .place) bs) ≡ refused cut (groups k bs .place)
 unfolding groups
 cut-before =
     groups-elim (λ k bs r. r .refusal ≡ malformed → groups k (take (r .place) bs) ≡ refused cut (r .place))
@@ -84,7 +99,8 @@ cut-before =
     (λ k b bs r h a z p e. broken k b [] 0 h refl)
     (λ k b bs r h n p e. rw one-add (broken k b (take (r .place) bs) (r .place) h (p e) ∙ rw one-add))
   where
-    broken : (k b : ℕ) (bs : List ℕ) (p : ℕ) → 128 ≤ b → groups k bs ≡ refused cut p → groups (suc k) (b ∷ bs) ≡ refused cut (1 + p)
+    broken : (k b : ℕ) (bs : List ℕ) (p : ℕ) → 128 ≤ b → groups k bs ≡ refused cut p
+        → groups (suc k) (b ∷ bs) ≡ refused cut (1 + p)
     broken k b bs p h e = on-step k b bs _ _ h e (continued-refused (b % 128) (refused cut p) (λ n. omega arith))
 
 -- bs is read as a number other than 0
@@ -108,10 +124,11 @@ completed =
     ended zero = (refl, λ z. omega arith)
     ended (suc k) = (refl, λ z. omega arith)
 
-    goes-on : (k b : ℕ) (bs : List ℕ) → 128 ≤ b → groups k (bs ++ 1 ∷ []) .refusal ≡ none → (groups k (bs ++ 1 ∷ []) .value ≡ 0 → ⊥)
-        → Positive (suc k) (b ∷ (bs ++ 1 ∷ []))
+    goes-on : (k b : ℕ) (bs : List ℕ) → 128 ≤ b → groups k (bs ++ 1 ∷ []) .refusal ≡ none
+        → (groups k (bs ++ 1 ∷ []) .value ≡ 0 → ⊥) → Positive (suc k) (b ∷ (bs ++ 1 ∷ []))
     goes-on k b bs h a z =
-        rw (groups-step k b (bs ++ 1 ∷ []) h, continued-more (b % 128) (groups k (bs ++ 1 ∷ [])) a z) (refl, λ e. omega arith)
+        rw (groups-step k b (bs ++ 1 ∷ []) h, continued-more (b % 128) (groups k (bs ++ 1 ∷ [])) a z)
+        (refl, λ e. omega arith)
 
 -- the three at a place of a list
 module _ (bs : List ℕ) (at p : ℕ) (e : readNumber bs at ≡ refused malformed p) where
@@ -141,6 +158,7 @@ module _ (bs : List ℕ) (at p : ℕ) (e : readNumber bs at ≡ refused malforme
   unfolding readNumber
   cut-before-at = rw (from, drop-take at q bs, cut-before leading (drop at bs) bad)
 
-pub completed-at : (bs : List ℕ) (at : ℕ) → at ≤ length bs → readNumber bs at .refusal ≡ cut → readNumber (bs ++ 1 ∷ []) at .refusal ≡ none
+pub completed-at : (bs : List ℕ) (at : ℕ) → at ≤ length bs → readNumber bs at .refusal ≡ cut
+    → readNumber (bs ++ 1 ∷ []) at .refusal ≡ none
 unfolding readNumber
 completed-at bs at h e = rw (drop-append-le at bs (1 ∷ []) h) (completed leading (drop at bs) e .0)

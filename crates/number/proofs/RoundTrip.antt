@@ -14,13 +14,19 @@ use Rattle.number.proofs.Size.{room}
 use Rattle.number.proofs.Groups.{fifth-small, groups-elim, continued-more}
 
 -- the bytes of a number read as that number, whatever stands after them
-pub groups-written : (k v : ℕ) (rest : List ℕ) → v < room k → groups k (groupBytes k v ++ rest) ≡ accepted v (length (groupBytes k v))
+pub groups-written : (k v : ℕ) (rest : List ℕ) → v < room k
+    → groups k (groupBytes k v ++ rest) ≡ accepted v (length (groupBytes k v))
 unfolding groups groupBytes room
 groups-written zero v rest h = fifth-small v h
 groups-written (suc k) v rest h =
     by-lt v 128
     (λ p. simp (lt-ltb v 128 p))
-    (λ p. simp (le-ltb v 128 p, le-ltb (128 + v % 128) 128 (omega arith), low, groups-written k (v / 128) rest (omega arith))
+    (λ p. simp (
+      le-ltb v 128 p,
+      le-ltb (128 + v % 128) 128 (omega arith),
+      low,
+      groups-written k (v / 128) rest (omega arith),
+    )
     (continued-more (v % 128) (accepted (v / 128) (length (groupBytes k (v / 128)))) refl (omega arith)
     ∙ same))
   where
@@ -30,7 +36,8 @@ groups-written (suc k) v rest h =
     whole : v % 128 + 128 * (v / 128) ≡ v
     whole = omega arith
 
-    same : accepted (v % 128 + 128 * (v / 128)) (1 + length (groupBytes k (v / 128))) ≡ accepted v (suc (length (groupBytes k (v / 128))))
+    same : accepted (v % 128 + 128 * (v / 128)) (1 + length (groupBytes k (v / 128)))
+        ≡ accepted v (suc (length (groupBytes k (v / 128))))
     same = simp (whole, one-add)
 
 -- what is read at the head of bs was written so, and the rest follows it

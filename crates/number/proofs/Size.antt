@@ -38,8 +38,8 @@ room-mono zero k h = room-pos k
 room-mono (suc j) zero h = absurd (omega arith)
 room-mono (suc j) (suc k) h = let p : room j ≤ room k = room-mono j k (omega arith) in omega arith
 
-refused-sized : (k : ℕ) (bs : List ℕ) (r p : ℕ) → p ≤ length bs → 1 ≤ r → r ≤ 2 → (r ≡ cut → p ≡ length bs) → (r ≡ malformed → p < length bs)
-    → Sized k bs (refused r p)
+refused-sized : (k : ℕ) (bs : List ℕ) (r p : ℕ) → p ≤ length bs → 1 ≤ r → r ≤ 2 → (r ≡ cut → p ≡ length bs)
+    → (r ≡ malformed → p < length bs) → Sized k bs (refused r p)
 refused-sized k bs r p inside low high end byte =
     let h = room-pos k in
     record {
@@ -72,12 +72,15 @@ unfolding room
 groups-sized =
     groups-elim Sized
     (λ k. refused-sized k [] _ _ (omega arith) (lit≤ tt) (lit≤ tt) (λ e. refl) (λ e. absurd (omega arith)))
-    (λ b bs h. refused-sized 0 (b ∷ bs) _ _ (omega arith) (lit≤ tt) (lit≤ tt) (λ e. absurd (omega arith)) (λ e. omega arith))
+    (λ b bs h. refused-sized 0 (b ∷ bs) _ _ (omega arith) (lit≤ tt) (lit≤ tt) (λ e. absurd (omega arith))
+    (λ e. omega arith))
     (λ b bs h. last-sized 0 b bs h)
     (λ k b bs h. last-sized (suc k) b bs (let q = room-pos k in omega arith))
     (λ k b bs r h a z p. accepted-sized (suc k) (b ∷ bs) _ _ (omega arith) (omega arith) (omega arith))
-    (λ k b bs r h a z p. refused-sized (suc k) (b ∷ bs) _ _ (omega arith) (lit≤ tt) (lit≤ tt) (λ e. absurd (omega arith)) (λ e. omega (arith, p .some a, p .place-le)))
-    (λ k b bs r h n p. refused-sized (suc k) (b ∷ bs) _ _ (omega (arith, p .place-le)) (omega arith) (p .few) (λ e. omega (arith, p .at-end e)) (λ e. omega (arith, p .at-byte e)))
+    (λ k b bs r h a z p. refused-sized (suc k) (b ∷ bs) _ _ (omega arith) (lit≤ tt) (lit≤ tt)
+    (λ e. absurd (omega arith)) (λ e. omega (arith, p .some a, p .place-le)))
+    (λ k b bs r h n p. refused-sized (suc k) (b ∷ bs) _ _ (omega (arith, p .place-le)) (omega arith) (p .few)
+    (λ e. omega (arith, p .at-end e)) (λ e. omega (arith, p .at-byte e)))
 
 -- a number has at least one byte, and at most one after those that lead
 length-groupBytes : (k v : ℕ) → (1 ≤ length (groupBytes k v)) × (length (groupBytes k v) ≤ suc k)
@@ -128,4 +131,5 @@ numberBytes-single v h = simp (lt-ltb v 128 h)
 pub numberBytes-more : (v : ℕ) → 128 ≤ v → v < numberBound → numberBytes v ≡ (128 + v % 128) ∷ numberBytes (v / 128)
 unfolding numberBytes groupBytes room
 numberBytes-more v h small =
-    simp (le-ltb v 128 h) (ap (λ (l : List ℕ). (128 + v % 128) ∷ l) (groupBytes-enough 3 leading (v / 128) (omega arith) (omega arith)))
+    simp (le-ltb v 128 h)
+    (ap (λ (l : List ℕ). (128 + v % 128) ∷ l) (groupBytes-enough 3 leading (v / 128) (omega arith) (omega arith)))

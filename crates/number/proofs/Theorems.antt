@@ -1,6 +1,8 @@
--- What the crate shows beyond its contracts. Each law stands here in full, over specs/ alone; the modules it cites prove it.
+-- What the crate shows beyond its contracts. Each law stands here in full, over specs/ alone; the modules it cites
+-- prove it.
 --
--- In order: what every reading satisfies; which byte decides a refused one; a number of one byte; both round trips; how long a number's bytes are; what a writer does.
+-- In order: what every reading satisfies; which byte decides a refused one; a number of one byte; both round trips; how
+-- long a number's bytes are; what a writer does.
 use Prim.Native.Nat.{ℕ, suc, _+_, _≤_, _<_, max}
 use mathlib.Core.Path.{_≡_, refl, ap, _∙_}
 use mathlib.Core.List.{List, [], _∷_, _++_}
@@ -21,8 +23,8 @@ use Rattle.number.proofs.Place as Place
 use Rattle.number.proofs.Size.{room}
 use Rattle.number.proofs.RoundTrip as RoundTrip
 
--- whatever is read: an accepted number is in range and covers at least one byte of the input; a refused one is 0, at one of its bytes, or at
--- "the input's end when cut off (a start past it keeps its own place)"
+-- whatever is read: an accepted number is in range and covers at least one byte of the input; a refused one is 0, at
+-- one of its bytes, or at "the input's end when cut off (a start past it keeps its own place)"
 pub record Reading (bs : List ℕ) (at : ℕ) (r : NumberRead) : Type 0 where
   pub in-range : r .value < numberBound
   pub refusals : r .refusal ≤ 2
@@ -51,16 +53,18 @@ reading bs at =
     s = Size.groups-sized leading (drop at bs)
 
 -- "the byte that decides it": with refusal 2 at p no byte after the one at p matters
-pub malformed-decided : (bs cs : List ℕ) (at p : ℕ) → readNumber bs at ≡ refused malformed p → take (suc p) cs ≡ take (suc p) bs
-    → readNumber cs at ≡ refused malformed p
+pub malformed-decided : (bs cs : List ℕ) (at p : ℕ) → readNumber bs at ≡ refused malformed p
+    → take (suc p) cs ≡ take (suc p) bs → readNumber cs at ≡ refused malformed p
 malformed-decided bs cs at p e = Place.decided-at bs at p e cs
 
 -- and not before it: the bytes before p alone are refused with 1 at p
-pub malformed-cut-before : (bs : List ℕ) (at p : ℕ) → readNumber bs at ≡ refused malformed p → readNumber (take p bs) at ≡ refused cut p
+pub malformed-cut-before : (bs : List ℕ) (at p : ℕ) → readNumber bs at ≡ refused malformed p
+    → readNumber (take p bs) at ≡ refused cut p
 malformed-cut-before = Place.cut-before-at
 
 -- a reading that breaks off is still open: with one byte more it can become a number
-pub cut-completed : (bs : List ℕ) (at : ℕ) → at ≤ length bs → readNumber bs at .refusal ≡ cut → readNumber (bs ++ 1 ∷ []) at .refusal ≡ none
+pub cut-completed : (bs : List ℕ) (at : ℕ) → at ≤ length bs → readNumber bs at .refusal ≡ cut
+    → readNumber (bs ++ 1 ∷ []) at .refusal ≡ none
 cut-completed = Place.completed-at
 
 -- "a place at or past the end gives .. (the number reader: 1)" there
@@ -69,7 +73,8 @@ unfolding readNumber
 read-past bs at h = rw (Groups.groups-past bs at leading h, add-zero)
 
 -- a byte with its top bit clear is a number by itself
-pub read-single : (bs : List ℕ) (at : ℕ) → at < length bs → getD bs at 0 < 128 → readNumber bs at ≡ accepted (getD bs at 0) (at + 1)
+pub read-single : (bs : List ℕ) (at : ℕ) → at < length bs → getD bs at 0 < 128
+    → readNumber bs at ≡ accepted (getD bs at 0) (at + 1)
 unfolding readNumber
 read-single bs at within small = ap (shifted at) (Groups.groups-at-end bs at leading within (lit< tt) small)
 
@@ -81,9 +86,11 @@ read-at bs at v rest h e = rw (e, RoundTrip.groups-written leading v rest h)
 
 -- what is written reads back as the same value and the place after it
 pub read-written : (before after : List ℕ) (v : ℕ) → v < numberBound
-    → readNumber (before ++ (numberBytes v ++ after)) (length before) ≡ accepted v (length before + length (numberBytes v))
+    → readNumber (before ++ (numberBytes v ++ after)) (length before)
+    ≡ accepted v (length before + length (numberBytes v))
 read-written before after v h =
-    read-at (before ++ (numberBytes v ++ after)) (length before) v after h (drop-at before (numberBytes v ++ after) (length before) refl)
+    read-at (before ++ (numberBytes v ++ after)) (length before) v after h
+    (drop-at before (numberBytes v ++ after) (length before) refl)
 
 -- whatever the reader accepts is written back to the same bytes
 pub written-read : (bs : List ℕ) (at : ℕ) → Bytes bs → readNumber bs at .refusal ≡ none

@@ -4,7 +4,8 @@
 --   readNumber bs at   the number at a place of bs
 --   numberBytes v      the bytes of v
 --
--- Main laws: `read-written` and `written-read`; `malformed-decided` and `malformed-cut-before` for a refusal's place (proofs/Theorems.antt).
+-- Main laws: `read-written` and `written-read`; `malformed-decided` and `malformed-cut-before` for a refusal's place
+-- (proofs/Theorems.antt).
 use Prim.Native.Nat.{ℕ, zero, suc, _+_, _*_, _/_, _%_, _<_}
 use mathlib.Core.Bool.{cond}
 use mathlib.Core.List.{List, [], _∷_}
@@ -29,7 +30,8 @@ accepted v p = record { value = v; refusal = none; place = p }
 abbrev pub refused : ℕ → ℕ → NumberRead
 refused r p = record { value = 0; refusal = r; place = p }
 
--- The place is "the byte that decides it" (document 02, A2), here counted from the group at hand: "the fifth group when it is too large", ..
+-- The place is "the byte that decides it" (document 02, A2), here counted from the group at hand: "the fifth group when
+-- it is too large", ..
 abbrev pub tooLarge : NumberRead
 tooLarge = refused malformed 0
 
@@ -56,7 +58,8 @@ continued low rest =
 unfoldable pub fifthGroup : ℕ → NumberRead
 fifthGroup b = cond (ltb b 16) (accepted b 1) tooLarge
 
--- "1 to 5 groups of seven bits, lowest first, top bit set on all but the last". The place counts from the head of the list.
+-- "1 to 5 groups of seven bits, lowest first, top bit set on all but the last". The place counts from the head of the
+-- list.
 unfoldable pub groups : ℕ → List ℕ → NumberRead
 groups k [] = brokenOff
 groups zero (b ∷ bs) = fifthGroup b

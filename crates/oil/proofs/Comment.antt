@@ -1,4 +1,5 @@
--- The loop that looks for the end of a comment: the end from `at` on is the end from i on, told from i - at bytes earlier.
+-- The loop that looks for the end of a comment: the end from `at` on is the end from i on, told from i - at bytes
+-- earlier.
 use Prim.Native.Nat.{ℕ, _+_, _-_, _≤_, _<_}
 use mathlib.Core.Path.{_≡_, sym, ap, _∙_}
 use mathlib.Core.Bool.{true, false, _&&_}
@@ -27,10 +28,12 @@ seeks-start t at =
     }
 
 module _ (t : List ℕ) (at i : ℕ) (s : Seeks t at i) where
-  pub seeks-here : i + 1 < length t → (eqb (getD t i 0) star && eqb (getD t (i + 1) 0) slash) ≡ true → i - at + 2 ≡ closing (drop at t)
+  pub seeks-here : i + 1 < length t → (eqb (getD t i 0) star && eqb (getD t (i + 1) 0) slash) ≡ true
+      → i - at + 2 ≡ closing (drop at t)
   seeks-here h e = let q : closing (drop at t) ≡ 2 + (i - at) = s .told ∙ rw (closing-here t i h e) in omega arith
 
-  pub seeks-later : i + 1 < length t → (eqb (getD t i 0) star && eqb (getD t (i + 1) 0) slash) ≡ false → Seeks t at (i + 1)
+  pub seeks-later : i + 1 < length t → (eqb (getD t i 0) star && eqb (getD t (i + 1) 0) slash) ≡ false
+      → Seeks t at (i + 1)
   seeks-later h e =
       let n : i - at + 1 ≡ i + 1 - at = omega (arith, s .passed) in
       record {

@@ -30,23 +30,25 @@ module _ (t : List ℕ) (n : ℕ) where
       → take (getD (k .to) i 0 - getD (k .from) i 0) (drop (getD (k .from) i 0) t) ≡ x → true ≡ borne n t 0 fresh true x
   kept-borne k s i h x e = sym (rw e at (s .known i h))
 
-  module _ (k : Kept) (s : Sound t n k) (a e : ℕ) (le : a ≤ e) (inside : e ≤ length t) (b : borneBy t n a e ≡ true) where
+  module _ (k : Kept) (s : Sound t n k) (a e : ℕ) (le : a ≤ e) (inside : e ≤ length t)
+      (b : borneBy t n a e ≡ true) where
     full : room ≤ k .count → Sound t n (kept k a e)
     unfolding kept
     full h = rw (le-leb room (k .count) h) s
 
     -- what holds of the pair at each index before, and of the new one, holds of each
-    each : (P : ℕ → ℕ → Type 0) → k .count < room → ((i : ℕ) → i < k .count → P (getD (k .from) i 0) (getD (k .to) i 0)) → P a e
+    each : (P : ℕ → ℕ → Type 0) → k .count < room → ((i : ℕ) → i < k .count → P (getD (k .from) i 0) (getD (k .to) i 0))
+        → P a e
         → (i : ℕ) → i < k .count + 1 → P (getD (set (k .from) (k .count) a) i 0) (getD (set (k .to) (k .count) e) i 0)
     each P h old new i l =
         by-eq i (k .count)
         (λ q. rw (
           q,
           getD-set-same (k .from) (k .count) a 0 (omega (arith, s .from-room)),
-          getD-set-same (k .to) (k .count) e 0 (omega
-              (arith, s .to-room)),
+          getD-set-same (k .to) (k .count) e 0 (omega (arith, s .to-room)),
         ) new)
-        (λ d. rw (getD-set-other (k .from) (k .count) i a 0 d, getD-set-other (k .to) (k .count) i e 0 d) (old i (omega arith)))
+        (λ d. rw (getD-set-other (k .from) (k .count) i a 0 d, getD-set-other (k .to) (k .count) i e 0 d)
+        (old i (omega arith)))
 
     more : k .count < room → Sound t n (kept k a e)
     unfolding kept

@@ -30,9 +30,11 @@ some-byte : (c : Config) → 0 < length (configBytes c)
 unfolding ended
 some-byte c = some-from 259 c start refl
 
-module _ (c : Config) (w : Written) (e : w ≡ writeConfig c 0) where
+module _ (c : Config) {w : Written} (e : w ≡ writeConfig c 0) where
   no-room : firstFault c ≡ none → w ≡ unwritten noRoom (length (configBytes c))
-  no-room z = e ∙ rw (eq-eqb (firstFault c) none z) (sym (writing-no-room (configBytes c) 0 (length (configBytes c)) refl (some-byte c)))
+  no-room z =
+      e ∙ rw (eq-eqb (firstFault c) none z)
+      (sym (writing-no-room (configBytes c) 0 (length (configBytes c)) refl (some-byte c)))
 
   refused : (firstFault c ≡ none → ⊥) → w ≡ unwritten (firstFault c) 0
   refused d = e ∙ rw (ne-eqb (firstFault c) none d)
@@ -40,16 +42,17 @@ module _ (c : Config) (w : Written) (e : w ≡ writeConfig c 0) where
   pub fault-told : w .place ≡ 0 → w .refusal ≡ firstFault c
   fault-told r =
       by-eq (firstFault c) none
-      (λ z. let p : w .place ≡ length (configBytes c) = ap (λ (v : Written). v .place) (no-room z) in absurd (omega (arith, some-byte c)))
+      (λ z. let p : w .place ≡ length (configBytes c) = ap (λ (v : Written). v .place) (no-room z) in
+      absurd (omega (arith, some-byte c)))
       (λ d. ap (λ (v : Written). v .refusal) (refused d))
 
   pub room-told : (w .place ≡ 0 → ⊥) → 0 ≡ firstFault c
   room-told r = by-eq (firstFault c) none (λ z. sym z) (λ d. absurd (r (ap (λ (v : Written). v .place) (refused d))))
 
 -- a writer's place is below 2 ^ 63
-pub place-lt : (c : Config) (n : ℕ) (w : Written) → w ≡ writeConfig c n → w .place < 9223372036854775808
+pub place-lt : (c : Config) (n : ℕ) {w : Written} → w ≡ writeConfig c n → w .place < 9223372036854775808
 unfolding writing
-place-lt c n w e =
+place-lt c n e =
     let l = length-configBytes c in
     rw e
     (by-eq (firstFault c) none

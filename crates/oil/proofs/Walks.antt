@@ -29,52 +29,57 @@ left-none : (n i : ℕ) → n ≤ i → n - i ≡ 0
 left-none n i h = omega arith
 
 module _ (t : List ℕ) where
-  pub word-inside : (at : ℕ) → at ≤ length t → (w : Word) → w ≡ nextWord t at → (w .start ≤ w .end) × (w .end ≤ length t)
-  word-inside at h w e = let n = next-inside t at h in rw e (n .forward, n .inside)
+  pub word-inside : (at : ℕ) → at ≤ length t → {w : Word} → w ≡ nextWord t at
+      → (w .start ≤ w .end) × (w .end ≤ length t)
+  word-inside at h e = let n = next-inside t at h in rw e (n .forward, n .inside)
 
-  module _ (n i at : ℕ) (s : Progress) (r : Bool) (x : List ℕ) (w : Word) (e : w ≡ nextWord t at) where
+  module _ (n i at : ℕ) (s : Progress) (r : Bool) (x : List ℕ) {w : Word} (e : w ≡ nextWord t at) where
     pub borne-found : i < n → (bears r s && same (spelling t w) x) ≡ true → true ≡ borne (n - i) t at s r x
     unfolding borne
-    borne-found h q = let p : (bears r s && same (spelling t (nextWord t at)) x) ≡ true = rw e at q in rw (left-suc n i h, p)
+    borne-found h q =
+        let p : (bears r s && same (spelling t (nextWord t at)) x) ≡ true = rw e at q in
+        rw (left-suc n i h, p)
 
-    pub borne-turn : i < n → (bears r s && same (spelling t w) x) ≡ false → (s′ : Progress) → s′ ≡ after s (w .sort)
+    pub borne-turn : i < n → (bears r s && same (spelling t w) x) ≡ false → {s′ : Progress} → s′ ≡ after s (w .sort)
         → borne (n - (i + 1)) t (w .end) s′ r x ≡ borne (n - i) t at s r x
     unfolding borne
-    borne-turn h q s′ f = let p : (bears r s && same (spelling t (nextWord t at)) x) ≡ false = rw e at q in rw (left-suc n i h, p, f, e)
+    borne-turn h q f =
+        let p : (bears r s && same (spelling t (nextWord t at)) x) ≡ false = rw e at q in
+        rw (left-suc n i h, p, f, e)
 
   pub borne-done : (n i at : ℕ) (s : Progress) (r : Bool) (x : List ℕ) → n ≤ i → false ≡ borne (n - i) t at s r x
   unfolding borne
   borne-done n i at s r x h = rw (left-none n i h)
 
-  module _ (n m i at : ℕ) (s : Progress) (w : Word) (e : w ≡ nextWord t at) where
+  module _ (n m i at : ℕ) (s : Progress) {w : Word} (e : w ≡ nextWord t at) where
     pub unborne-found : i < n → unborneAt t s m w ≡ true → refusedAt noResource (w .start) ≡ unborne (n - i) t at s m
     unfolding unborne
     unborne-found h q = let p : unborneAt t s m (nextWord t at) ≡ true = rw e at q in rw (left-suc n i h, p, e)
 
-    pub unborne-turn : i < n → unborneAt t s m w ≡ false → (s′ : Progress) → s′ ≡ after s (w .sort)
+    pub unborne-turn : i < n → unborneAt t s m w ≡ false → {s′ : Progress} → s′ ≡ after s (w .sort)
         → unborne (n - (i + 1)) t (w .end) s′ m ≡ unborne (n - i) t at s m
     unfolding unborne
-    unborne-turn h q s′ f = let p : unborneAt t s m (nextWord t at) ≡ false = rw e at q in rw (left-suc n i h, p, f, e)
+    unborne-turn h q f = let p : unborneAt t s m (nextWord t at) ≡ false = rw e at q in rw (left-suc n i h, p, f, e)
 
   pub unborne-done : (n m i at : ℕ) (s : Progress) → n ≤ i → found m ≡ unborne (n - i) t at s m
   unfolding unborne
   unborne-done n m i at s h = rw (left-none n i h)
 
-  pub mask-turn : (n i at : ℕ) (s : Progress) (x : List ℕ) (b m : ℕ) (w : Word) → w ≡ nextWord t at → i < n
-      → (s′ : Progress) → s′ ≡ after s (w .sort) → (b′ : ℕ) → b′ ≡ numbered s b → (m′ : ℕ) → m′ ≡ marked s (spelling t w) x b m
-      → mask (n - (i + 1)) t (w .end) s′ x b′ m′ ≡ mask (n - i) t at s x b m
+  pub mask-turn : (n i at : ℕ) (s : Progress) (x : List ℕ) (b m : ℕ) {w : Word} → w ≡ nextWord t at → i < n
+      → {s′ : Progress} → s′ ≡ after s (w .sort) → {b′ : ℕ} → b′ ≡ numbered s b → {m′ : ℕ}
+      → m′ ≡ marked s (spelling t w) x b m → mask (n - (i + 1)) t (w .end) s′ x b′ m′ ≡ mask (n - i) t at s x b m
   unfolding mask
-  mask-turn n i at s x b m w e h s′ f b′ g m′ k = rw (left-suc n i h, k, g, f, e)
+  mask-turn n i at s x b m e h f g k = rw (left-suc n i h, k, g, f, e)
 
   pub mask-done : (n i at : ℕ) (s : Progress) (x : List ℕ) (b m : ℕ) → n ≤ i → m ≡ mask (n - i) t at s x b m
   unfolding mask
   mask-done n i at s x b m h = rw (left-none n i h)
 
-  pub fill-turn : (n i at : ℕ) (s : Progress) (u : List ℕ → ℕ) (c : Config) (w : Word) → w ≡ nextWord t at → i < n
-      → (s′ : Progress) → s′ ≡ after s (w .sort) → (c′ : Config) → c′ ≡ put u s c (w .sort) (spelling t w)
+  pub fill-turn : (n i at : ℕ) (s : Progress) (u : List ℕ → ℕ) (c : Config) {w : Word} → w ≡ nextWord t at → i < n
+      → {s′ : Progress} → s′ ≡ after s (w .sort) → {c′ : Config} → c′ ≡ put u s c (w .sort) (spelling t w)
       → fill (n - (i + 1)) t (w .end) s′ u c′ ≡ fill (n - i) t at s u c
   unfolding fill
-  fill-turn n i at s u c w e h s′ f c′ g = rw (left-suc n i h, g, f, e)
+  fill-turn n i at s u c e h f g = rw (left-suc n i h, g, f, e)
 
   pub fill-done : (n i at : ℕ) (s : Progress) (u : List ℕ → ℕ) (c : Config) → n ≤ i → c ≡ fill (n - i) t at s u c
   unfolding fill
@@ -86,45 +91,53 @@ module _ (t : List ℕ) where
     pub few : n ≤ at
     pub on : walk (suc (length t - n)) t at s n ≡ walked t
 
-  pub walk-start : (s : Progress) → s ≡ fresh → WalksOn 0 s 0
-  walk-start s e = record { inside = omega arith; few = omega arith; on = rw (e, sub-zero) }
+  pub walk-start : {s : Progress} → s ≡ fresh → WalksOn 0 s 0
+  walk-start e = record { inside = omega arith; few = omega arith; on = rw (e, sub-zero) }
 
-  module _ (at : ℕ) (s : Progress) (n : ℕ) (k : WalksOn at s n) (w : Word) (e : w ≡ nextWord t at) (f : ℕ) (q : f ≡ faultIn t s n w) where
-    pub walk-refused : (f ≡ 0 → ⊥) → refusedAt f (w .start) ≡ walked t
-    unfolding walk
-    walk-refused d =
-        let p : f ≡ faultIn t s n (nextWord t at) = q ∙ ap (faultIn t s n) e in
-        rw (e, p) (rw (ne-eqb (faultIn t s n (nextWord t at)) none (λ z. d (p ∙ z))) at (k .on))
+-- a word more
+module _ {t : List ℕ} {at : ℕ} {s : Progress} {n : ℕ} (k : WalksOn t at s n) {w : Word} (e : w ≡ nextWord t at)
+    {f : ℕ} (q : f ≡ faultIn t s n w) where
+  pub walk-refused : (f ≡ 0 → ⊥) → refusedAt f (w .start) ≡ walked t
+  unfolding walk
+  walk-refused d =
+      let p : f ≡ faultIn t s n (nextWord t at) = q ∙ ap (faultIn t s n) e in
+      rw (e, p) (rw (ne-eqb (faultIn t s n (nextWord t at)) none (λ z. d (p ∙ z))) at (k .on))
 
-    pub walk-ended : f ≡ 0 → w .sort ≡ endSort → found n ≡ walked t
-    unfolding walk
-    walk-ended z g =
-        let p : faultIn t s n (nextWord t at) ≡ 0 = sym (q ∙ ap (faultIn t s n) e) ∙ z in
-        let g′ : nextWord t at .sort ≡ endSort = rw e at g in
-        rw (eq-eqb (faultIn t s n (nextWord t at)) none p, eq-eqb (nextWord t at .sort) endSort g′) at (k .on)
+  pub walk-ended : f ≡ 0 → w .sort ≡ endSort → found n ≡ walked t
+  unfolding walk
+  walk-ended z g =
+      let p : faultIn t s n (nextWord t at) ≡ 0 = sym (q ∙ ap (faultIn t s n) e) ∙ z in
+      let g′ : nextWord t at .sort ≡ endSort = rw e at g in
+      rw (eq-eqb (faultIn t s n (nextWord t at)) none p, eq-eqb (nextWord t at .sort) endSort g′) at (k .on)
 
-    pub walk-further : f ≡ 0 → (w .sort ≡ endSort → ⊥) → (at < w .end) × (w .end ≤ length t)
-    walk-further z d =
-        let x = next-inside t at (k .inside) in
-        let p : faultIn t s n (nextWord t at) ≡ 0 = sym (q ∙ ap (faultIn t s n) e) ∙ z in
-        let o = x .some (going t at s n p (λ v. d (rw e v))) in
-        rw e (omega (arith, x .begins), x .inside)
+  pub walk-further : f ≡ 0 → (w .sort ≡ endSort → ⊥) → (at < w .end) × (w .end ≤ length t)
+  walk-further z d =
+      let x = next-inside t at (k .inside) in
+      let p : faultIn t s n (nextWord t at) ≡ 0 = sym (q ∙ ap (faultIn t s n) e) ∙ z in
+      let o = x .some (going t at s n p (λ v. d (rw e v))) in
+      rw e (omega (arith, x .begins), x .inside)
 
-    pub walk-next : f ≡ 0 → (w .sort ≡ endSort → ⊥) → (s′ : Progress) → s′ ≡ after s (w .sort) → WalksOn (w .end) s′ (n + 1)
-    unfolding walk
-    walk-next z d s′ g =
-        let o = walk-further z d in
-        let p : faultIn t s n (nextWord t at) ≡ 0 = sym (q ∙ ap (faultIn t s n) e) ∙ z in
-        let l : length t - n ≡ suc (length t - (n + 1)) = omega (arith, k .few) in
-        record {
-          inside = o .1;
-          few = omega (arith, k .few);
-          on =
-              rw (g, e, add-one)
-              (rw (eq-eqb (faultIn t s n (nextWord t at)) none p, ne-eqb (nextWord t at .sort) endSort (λ v. d (rw e v)), l, add-one) at (k .on));
-        }
+  pub walk-next : f ≡ 0 → (w .sort ≡ endSort → ⊥) → {s′ : Progress} → s′ ≡ after s (w .sort)
+      → WalksOn t (w .end) s′ (n + 1)
+  unfolding walk
+  walk-next z d g =
+      let o = walk-further z d in
+      let p : faultIn t s n (nextWord t at) ≡ 0 = sym (q ∙ ap (faultIn t s n) e) ∙ z in
+      let l : length t - n ≡ suc (length t - (n + 1)) = omega (arith, k .few) in
+      record {
+        inside = o .1;
+        few = omega (arith, k .few);
+        on =
+            rw (g, e, add-one)
+            (rw (
+              eq-eqb (faultIn t s n (nextWord t at)) none p,
+              ne-eqb (nextWord t at .sort) endSort (λ v. d (rw e v)),
+              l,
+              add-one,
+            ) at (k .on));
+      }
 
 -- what a word puts into a configuration, where the want is known
-pub put-at : (u : List ℕ → ℕ) (s : Progress) (c : Config) (w : ℕ) (x : List ℕ) (v : Want) → s .want ≡ v → (r : Config) → r ≡ putAt v u s c w x
-    → r ≡ put u s c w x
+pub put-at : (u : List ℕ → ℕ) (s : Progress) (c : Config) (w : ℕ) (x : List ℕ) (v : Want) → s .want ≡ v → (r : Config)
+    → r ≡ putAt v u s c w x → r ≡ put u s c w x
 put-at u s c w x v e r q = q ∙ sym (ap (λ (z : Want). putAt z u s c w x) e)

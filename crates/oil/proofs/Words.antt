@@ -24,21 +24,24 @@ module _ (t : List ℕ) (i : ℕ) where
   head-run : i < length t → (n e : ℕ) → e ≡ i + 1 + n → take (e - i) (drop i t) ≡ getD t i 0 ∷ take n (drop (i + 1) t)
   head-run h n e q = let k : e - i ≡ suc n = omega arith in rw (k, drop-next t i h)
 
-  pub word-letters : i < length t → isLetter (getD t i 0) ≡ true → (e : ℕ) → e ≡ i + 1 + span isNameByte (drop (i + 1) t)
-      → (s : ℕ) → s ≡ spelledSort (take (e - i) (drop i t)) → record { sort = s; start = i; end = e } ≡ wordAt i (drop i t)
+  pub word-letters : i < length t → isLetter (getD t i 0) ≡ true → {e : ℕ}
+      → e ≡ i + 1 + span isNameByte (drop (i + 1) t)
+      → {s : ℕ} → s ≡ spelledSort (take (e - i) (drop i t))
+      → record { sort = s; start = i; end = e } ≡ wordAt i (drop i t)
   unfolding wordAt
-  word-letters h l e q s r =
+  word-letters h l {e} q {s} r =
       let n = span isNameByte (drop (i + 1) t) in
       let f : s ≡ spelledSort (getD t i 0 ∷ take (span isNameByte (drop (i + 1) t)) (drop (i + 1) t)) =
       r ∙ ap spelledSort (head-run h (span isNameByte (drop (i + 1) t)) e q) in
       rw (f, ends (span isNameByte (drop (i + 1) t)) e q) (rw (drop-next t i h, l))
 
-  pub word-digits : i < length t → isLetter (getD t i 0) ≡ false → isDigit (getD t i 0) ≡ true → (e : ℕ) → e ≡ i + 1 + span isDigit (drop (i + 1) t)
+  pub word-digits : i < length t → isLetter (getD t i 0) ≡ false → isDigit (getD t i 0) ≡ true → {e : ℕ}
+      → e ≡ i + 1 + span isDigit (drop (i + 1) t)
       → record { sort = numberSort; start = i; end = e } ≡ wordAt i (drop i t)
   unfolding wordAt
-  word-digits h l d e q = rw (ends (span isDigit (drop (i + 1) t)) e q) (rw (drop-next t i h, l, d))
+  word-digits h l d {e} q = rw (ends (span isDigit (drop (i + 1) t)) e q) (rw (drop-next t i h, l, d))
 
-  pub word-sign : i < length t → isLetter (getD t i 0) ≡ false → isDigit (getD t i 0) ≡ false → (s : ℕ) → s ≡ signOf (getD t i 0)
-      → (w : Word) → w ≡ signAt i s → w ≡ wordAt i (drop i t)
+  pub word-sign : i < length t → isLetter (getD t i 0) ≡ false → isDigit (getD t i 0) ≡ false → {s : ℕ}
+      → s ≡ signOf (getD t i 0) → {w : Word} → w ≡ signAt i s → w ≡ wordAt i (drop i t)
   unfolding wordAt
-  word-sign h l d s q w r = rw (r, q) (rw (drop-next t i h, l, d))
+  word-sign h l d q r = rw (r, q) (rw (drop-next t i h, l, d))

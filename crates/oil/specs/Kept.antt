@@ -22,7 +22,12 @@ nothing = record { from = replicate room 0; to = replicate room 0; count = 0 }
 
 -- k with one name more, where there is room
 unfoldable pub kept : Kept → ℕ → ℕ → Kept
-kept k a e = cond (leb room (k .count)) k (record { from = set (k .from) (k .count) a; to = set (k .to) (k .count) e; count = k .count + 1 })
+kept k a e =
+    cond (leb room (k .count)) k (record {
+      from = set (k .from) (k .count) a;
+      to = set (k .to) (k .count) e;
+      count = k .count + 1;
+    })
 
 pub record Sound (t : List ℕ) (n : ℕ) (k : Kept) : Type 0 where
   pub few : k .count ≤ room

@@ -39,8 +39,8 @@ fn refused(text: &[u8], refusal: u8, at: usize) -> OilRead
     }
 }
 
-// The first refusal of the configuration's own numbers, 0 where there is none: a writer without room gives it at place 0, and otherwise
-// the bytes needed.
+// The first refusal of the configuration's own numbers, 0 where there is none: a writer without room gives it at place
+// 0, and otherwise the bytes needed.
 fn range_fault(config: Config) -> u8
     ensures { λ r. ⌜ r ≡ firstFault config ⌝ }
 {
@@ -103,8 +103,8 @@ fn packed(refusal: u8, place: usize) -> u64
     refusal as u64 * 4294967296 + place as u64
 }
 
-// Reads an OIL text and writes the configuration's bytes. The result is their number, or the refusal, whose line and column go
-// to `place`; for 30 it has the bytes needed too. A refused text leaves `config` as it was.
+// Reads an OIL text and writes the configuration's bytes. The result is their number, or the refusal, whose line and
+// column go to `place`; for 30 it has the bytes needed too. A refused text leaves `config` as it was.
 #[no_mangle]
 pub extern "C" fn osek_oil(text: &[u8], config: &mut [u8], place: &mut [u64; 2]) -> u64
     ensures result { λ r. ⌜ r ≡ oilResult (now (text .entry)) (length (now (config .entry))) ⌝ }

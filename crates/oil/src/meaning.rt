@@ -72,7 +72,8 @@ fn numbered(s: Progress, b: u8) -> u8
 // The mask with body `b` in it, if the word is a use of the resource named by the bytes from `start` to `end`.
 fn marked(text: &[u8], s: Progress, w: Word, start: usize, end: usize, b: u8, m: u32) -> u32
     requires { ⌜ ((w .start ≤ w .end) × (w .end ≤ length (now text))) × ((start ≤ end) × (end ≤ length (now text))) ⌝ }
-    ensures { λ r. ⌜ r ≡ marked s (spelling (now (text .entry)) w) (take (end - start) (drop start (now (text .entry)))) b m ⌝ }
+    ensures { λ r. ⌜ r ≡ marked s (spelling (now (text .entry)) w)
+        (take (end - start) (drop start (now (text .entry)))) b m ⌝ }
 {
     if !uses_resource(s) {
         return m;
@@ -88,7 +89,8 @@ fn marked(text: &[u8], s: Progress, w: Word, start: usize, end: usize, b: u8, m:
 // The mask of the bodies that use the resource named by the bytes from `start` to `end`.
 fn mask(text: &[u8], words: usize, start: usize, end: usize) -> u32
     requires { ⌜ (start ≤ end) × (end ≤ length (now text)) ⌝ }
-    ensures { λ r. ⌜ r ≡ mask words (now (text .entry)) 0 fresh (take (end - start) (drop start (now (text .entry)))) 0 0 ⌝ }
+    ensures { λ r. ⌜ r ≡ mask words (now (text .entry)) 0 fresh
+        (take (end - start) (drop start (now (text .entry)))) 0 0 ⌝ }
 {
     let mut s = fresh();
     let mut at = 0;
@@ -227,7 +229,8 @@ fn put_object(c: Config, w: u8) -> Config
 // `c` with the users of the RESOURCE that is named by the bytes from `start` to `end`.
 fn put_name(text: &[u8], words: usize, kind: u8, c: Config, start: usize, end: usize) -> Config
     requires { ⌜ (start ≤ end) × (end ≤ length (now text)) ⌝ }
-    ensures { λ r. ⌜ r ≡ cond (isResource kind) (withUsers c (c .resources) (mask words (now (text .entry)) 0 fresh (take (end - start) (drop start (now (text .entry)))) 0 0)) c ⌝ }
+    ensures { λ r. ⌜ r ≡ cond (isResource kind) (withUsers c (c .resources)
+        (mask words (now (text .entry)) 0 fresh (take (end - start) (drop start (now (text .entry)))) 0 0)) c ⌝ }
 {
     if kind == RESOURCE {
         return with_users(c, mask(text, words, start, end));
@@ -238,7 +241,8 @@ fn put_name(text: &[u8], words: usize, kind: u8, c: Config, start: usize, end: u
 // `c` with what a word says.
 fn put(text: &[u8], words: usize, s: Progress, c: Config, w: Word) -> Config
     requires { ⌜ (w .start ≤ w .end) × (w .end ≤ length (now text)) ⌝ }
-    ensures { λ r. ⌜ r ≡ put (λ x. mask words (now (text .entry)) 0 fresh x 0 0) s c (w .sort) (spelling (now (text .entry)) w) ⌝ }
+    ensures { λ r. ⌜ r ≡ put (λ x. mask words (now (text .entry)) 0 fresh x 0 0) s c (w .sort)
+        (spelling (now (text .entry)) w) ⌝ }
 {
     let want = s.want;
     match want {

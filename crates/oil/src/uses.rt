@@ -22,7 +22,8 @@ const NO_RESOURCE: u8 = 64;
 // How many names are kept at most: as many as a configuration has objects.
 const ROOM: usize = 48;
 
-// Names that a RESOURCE is known to bear, each from a byte up to another. With them a text of few objects is searched few times.
+// Names that a RESOURCE is known to bear, each from a byte up to another. With them a text of few objects is searched
+// few times.
 pub struct Kept {
     pub from: [usize; 48],
     pub to: [usize; 48],
@@ -72,7 +73,8 @@ fn keep(k: Kept, start: usize, end: usize) -> Kept
     }
 }
 
-// Whether a RESOURCE bears what the bytes from `start` to `end` spell: it is kept, or stands among the first `words` words.
+// Whether a RESOURCE bears what the bytes from `start` to `end` spell: it is kept, or stands among the first `words`
+// words.
 fn search(text: &[u8], words: usize, k: Kept, start: usize, end: usize) -> Searched
     requires { ⌜ Sound (now text) words k × ((start ≤ end) × (end ≤ length (now text))) ⌝ }
     ensures { λ r. ⌜ r .borne ≡ borneBy (now (text .entry)) words start end ⌝ }

@@ -38,7 +38,8 @@ fn bears(resource: bool, s: Progress) -> bool
 // Whether the word is such a name, and is spelled as the bytes from `start` to `end`.
 fn borne_here(text: &[u8], resource: bool, s: Progress, w: Word, start: usize, end: usize) -> bool
     requires { ⌜ ((w .start ≤ w .end) × (w .end ≤ length (now text))) × ((start ≤ end) × (end ≤ length (now text))) ⌝ }
-    ensures { λ r. ⌜ r ≡ bears resource s && same (spelling (now (text .entry)) w) (take (end - start) (drop start (now (text .entry)))) ⌝ }
+    ensures { λ r. ⌜ r ≡ bears resource s && same (spelling (now (text .entry)) w)
+        (take (end - start) (drop start (now (text .entry)))) ⌝ }
 {
     if !bears(resource, s) {
         return false;
@@ -51,7 +52,8 @@ fn borne_here(text: &[u8], resource: bool, s: Progress, w: Word, start: usize, e
 // Whether one of the first `count` words is such a name, and is spelled as the bytes from `start` to `end`.
 pub fn borne(text: &[u8], count: usize, resource: bool, start: usize, end: usize) -> bool
     requires { ⌜ (start ≤ end) × (end ≤ length (now text)) ⌝ }
-    ensures { λ r. ⌜ r ≡ borne count (now (text .entry)) 0 fresh resource (take (end - start) (drop start (now (text .entry)))) ⌝ }
+    ensures { λ r. ⌜ r ≡ borne count (now (text .entry)) 0 fresh resource
+        (take (end - start) (drop start (now (text .entry)))) ⌝ }
 {
     let mut s = fresh();
     let mut at = 0;

@@ -17,13 +17,13 @@ use Rattle.oil_grammar.specs.declared.Want.the-variants.{Object, Name, O
 use Rattle.oil_grammar.specs.Byte.{isLetter, isDigit, isNameByte, span}
 use Rattle.oil_grammar.specs.Word as W
 use Rattle.oil_grammar.specs.Word.{mark, name, number, sortOf, same, spelledSort, taskWord, isrWord, resourceWord, priorityWord, autostartWord, trueWord, falseWord, signOf, semicolonSort, nameSort, endSort}
-use Rattle.oil_grammar.specs.Next.{wordAt, skipped, nextWord, spelling, wordOfBytes, wordIn}
+use Rattle.oil_grammar.specs.Next.{wordAt, skipped, nextWord, spelling, wordOfBytes}
 use Rattle.oil_grammar.specs.Machine.{fault, faultAt, only, unexpected, after, fresh, namesAt, namesObject}
 use Rattle.oil_grammar.specs.Walk.{bears, borne, nameFault, faultIn, found, walk}
 use Rattle.oil_grammar.proofs.Spelling.{by-test, false-true}
 use Rattle.oil_grammar.proofs.Bounds.{next-inside}
 use Rattle.oil_grammar.proofs.Sorts.{going, fault-none}
-use Rattle.oil_grammar.proofs.Lexing.{Reads, ended, reads}
+use Rattle.oil_grammar.proofs.Lexing.{Reads, ended, reads, sortFrom, spelledFrom, wordFrom}
 
 -- a word as the grammar has it
 pub data Proper : W.Word → Type 0 where
@@ -43,7 +43,8 @@ seenAfter s seen w = cond (namesObject s) (λ x. seen x || same (bytesOf w) x) s
 pub data Accepts : Progress → (List ℕ → Bool) → List W.Word → Type 0 where
   stops : {s : Progress} {seen : List ℕ → Bool} → fault s endSort ≡ 0 → Accepts s seen []
   goes : {s : Progress} {seen : List ℕ → Bool} {w : W.Word} {ws : List W.Word} → Proper w → fault s (sortOf w) ≡ 0
-      → (namesObject s && seen (bytesOf w)) ≡ false → Accepts (after s (sortOf w)) (seenAfter s seen w) ws → Accepts s seen (w ∷ ws)
+      → (namesObject s && seen (bytesOf w)) ≡ false → Accepts (after s (sortOf w)) (seenAfter s seen w) ws
+      → Accepts s seen (w ∷ ws)
 
 -- a word's sort and its bytes, from those that it was read by
 pub sort-back : (s : ℕ) (x : List ℕ) → s < endSort → sortOf (wordOfBytes s x) ≡ s
@@ -90,7 +91,8 @@ sort-ge p (b ∷ bs) =
     (λ e. rw e (spelledSort-ge (b ∷ take (span isNameByte bs) bs)))
     (λ e. by-test (isDigit b)
     (λ f. rw (e, f) (omega arith))
-    (λ f. by-eq (signOf b) 0 (λ z. rw (e, f, eq-eqb (signOf b) 0 z) (omega arith)) (λ n. rw (e, f, ne-eqb (signOf b) 0 n) (omega arith))))
+    (λ f. by-eq (signOf b) 0 (λ z. rw (e, f, eq-eqb (signOf b) 0 z) (omega arith))
+    (λ n. rw (e, f, ne-eqb (signOf b) 0 n) (omega arith))))
 
 next-ge : (t : List ℕ) (at : ℕ) → 1 ≤ nextWord t at .sort
 unfolding nextWord
@@ -100,7 +102,8 @@ pub only-that : (e n : ℕ) → only e n ≡ 0 → n ≡ e
 unfolding only unexpected
 only-that e n h =
     by-eq n e (λ q. q)
-    (λ d. absurd (by-test (eqb n 15) (λ u. some 59 (rw (ne-eqb n e d, u) at h)) (λ u. some 60 (rw (ne-eqb n e d, u) at h))))
+    (λ d. absurd (by-test (eqb n 15) (λ u. some 59 (rw (ne-eqb n e d, u) at h))
+    (λ u. some 60 (rw (ne-eqb n e d, u) at h))))
   where
     some : (k : ℕ) → suc k ≡ 0 → ⊥
     some k q = omega arith
@@ -137,119 +140,126 @@ module _ (t : List ℕ) where
   -- n words from a place and s₀ on end at a place and s
   pub data Came : ℕ → Progress → ℕ → ℕ → Progress → Type 0 where
     came-here : {a : ℕ} {s : Progress} → Came a s 0 a s
-    came-on : {a at n : ℕ} {s₀ s : Progress} → Came (nextWord t a .end) (after s₀ (nextWord t a .sort)) n at s → Came a s₀ (suc n) at s
+    came-on : {a at n : ℕ} {s₀ s : Progress} → Came (nextWord t a .end) (after s₀ (sortFrom t a)) n at s
+        → Came a s₀ (suc n) at s
 
-  came-next : {a at n : ℕ} {s₀ s : Progress} → Came a s₀ n at s → Came a s₀ (suc n) (nextWord t at .end) (after s (nextWord t at .sort))
+  came-next : {a at n : ℕ} {s₀ s : Progress} → Came a s₀ n at s
+      → Came a s₀ (suc n) (nextWord t at .end) (after s (sortFrom t at))
   came-next came-here = came-on came-here
   came-next (came-on c) = came-on (came-next c)
 
   -- one word more
   borne-next : {a at n : ℕ} {s₀ s : Progress} → Came a s₀ n at s → (r : Bool) (x : List ℕ)
-      → borne (suc n) t a s₀ r x ≡ (borne n t a s₀ r x || (bears r s && same (spelling t (nextWord t at)) x))
+      → borne (suc n) t a s₀ r x ≡ (borne n t a s₀ r x || (bears r s && same (spelledFrom t at) x))
   unfolding borne
-  borne-next (came-here {a = a} {s = s}) r x = cond-or (bears r s && same (spelling t (nextWord t a)) x) false ∙ or-false _
+  borne-next (came-here {a = a} {s = s}) r x = cond-or (bears r s && same (spelledFrom t a) x) false ∙ or-false _
   borne-next (came-on {a = a} {at = at} {n = n} {s₀ = s₀} {s = s} c) r x =
       let h = borne-next c r x in
-      let b = bears r s₀ && same (spelling t (nextWord t a)) x in
-      ap (λ (z : Bool). cond (bears r s₀ && same (spelling t (nextWord t a)) x) true z) h
-      ∙ cond-or (bears r s₀ && same (spelling t (nextWord t a)) x) _
-      ∙ sym (or-assoc (bears r s₀ && same (spelling t (nextWord t a)) x) (borne n t (nextWord t a .end) (after s₀ (nextWord t a .sort)) r x) _)
-      ∙ ap (λ (z : Bool). z || (bears r s && same (spelling t (nextWord t at)) x)) (sym (cond-or (bears r s₀ && same (spelling t
-      (nextWord t a)) x) _))
+      let b = bears r s₀ && same (spelledFrom t a) x in
+      ap (λ (z : Bool). cond (bears r s₀ && same (spelledFrom t a) x) true z) h
+      ∙ cond-or (bears r s₀ && same (spelledFrom t a) x) _
+      ∙ sym (or-assoc (bears r s₀ && same (spelledFrom t a) x)
+      (borne n t (nextWord t a .end) (after s₀ (sortFrom t a)) r x) _)
+      ∙ ap (λ (z : Bool). z || (bears r s && same (spelledFrom t at) x))
+      (sym (cond-or (bears r s₀ && same (spelledFrom t a) x) _))
 
   -- the names that are seen are those that the words before bear
   abbrev Same : ℕ → (List ℕ → Bool) → Type 0
   Same n seen = (x : List ℕ) → borne n t 0 fresh false x ≡ seen x
 
-  seen-next : (n at : ℕ) (s : Progress) (seen : List ℕ → Bool) → Came 0 fresh n at s → Same n seen → fault s (nextWord t at .sort) ≡ 0
-      → nextWord t at .sort < endSort → Same (suc n) (seenAfter s seen (wordIn t (nextWord t at)))
+  seen-next : (n at : ℕ) (s : Progress) (seen : List ℕ → Bool) → Came 0 fresh n at s → Same n seen
+      → fault s (sortFrom t at) ≡ 0 → sortFrom t at < endSort → Same (suc n) (seenAfter s seen (wordFrom t at))
   unfolding bears
   seen-next n at s seen c q f l x =
       borne-next c false x
       ∙ by-test (namesObject s)
       (λ e.
-      let b = bytes-back (nextWord t at .sort) (spelling t (nextWord t at)) (name-wanted (s .want) s (nextWord t at .sort) e f) in
+      let b = bytes-back (sortFrom t at) (spelledFrom t at) (name-wanted (s .want) s (sortFrom t at) e f) in
       rw (e, b, q x))
       (λ e. rw (e, q x) (or-false (seen x)))
 
   -- a word whose sort is in order and whose name is new has no fault
-  no-fault : (s : Progress) (n : ℕ) (w : Word) → fault s (w .sort) ≡ 0 → (namesObject s && borne n t 0 fresh false (spelling t w)) ≡ false
+  no-fault : (s : Progress) (n : ℕ) (w : Word) → fault s (w .sort) ≡ 0
+      → (namesObject s && borne n t 0 fresh false (spelling t w)) ≡ false
       → faultIn t s n w ≡ 0
   unfolding faultIn nameFault
   no-fault s n w f e = rw (eq-eqb (fault s (w .sort)) 0 f, e)
 
-  new-name : (s : Progress) (n : ℕ) (w : Word) → faultIn t s n w ≡ 0 → (namesObject s && borne n t 0 fresh false (spelling t w)) ≡ false
+  new-name : (s : Progress) (n : ℕ) (w : Word) → faultIn t s n w ≡ 0
+      → (namesObject s && borne n t 0 fresh false (spelling t w)) ≡ false
   unfolding faultIn nameFault
   new-name s n w e =
       by-test (namesObject s && borne n t 0 fresh false (spelling t w))
-      (λ b. let h : _≡_ {A = ℕ} 63 0 = rw (eq-eqb (fault s (w .sort)) 0 (fault-none t s n w e), b) at e in absurd (omega arith))
+      (λ b. let h : _≡_ {A = ℕ} 63 0 = rw (eq-eqb (fault s (w .sort)) 0 (fault-none t s n w e), b) at e in
+      absurd (omega arith))
       (λ b. b)
 
   -- the two ways to say that a name is new
-  module _ (n at : ℕ) (s : Progress) (seen : List ℕ → Bool) (q : Same n seen) (f : fault s (nextWord t at .sort) ≡ 0) where
-    same-test : (namesObject s && borne n t 0 fresh false (spelling t (nextWord t at))) ≡ (namesObject s && seen (bytesOf (wordIn t (nextWord t at))))
+  module _ (n at : ℕ) (s : Progress) (seen : List ℕ → Bool) (q : Same n seen) (f : fault s (sortFrom t at) ≡ 0) where
+    same-test : (namesObject s && borne n t 0 fresh false (spelledFrom t at))
+        ≡ (namesObject s && seen (bytesOf (wordFrom t at)))
     same-test =
         by-test (namesObject s)
         (λ e.
-        let b = bytes-back (nextWord t at .sort) (spelling t (nextWord t at)) (name-wanted (s .want) s (nextWord t at .sort) e f) in
-        rw (e, b, q (spelling t (nextWord t at))))
+        let b = bytes-back (sortFrom t at) (spelledFrom t at) (name-wanted (s .want) s (sortFrom t at) e f) in
+        rw (e, b, q (spelledFrom t at)))
         (λ e. rw e)
 
-  pub record Accepted (at : ℕ) (s : Progress) (seen : List ℕ → Bool) (n m : ℕ) : Type 0 where
+  pub record AcceptedWords (at : ℕ) (s : Progress) (seen : List ℕ → Bool) (n m : ℕ) : Type 0 where
     pub words : List W.Word
     pub read : Reads t at words
     pub accepts : Accepts s seen words
     pub count : m ≡ n + length words
 
-  walk-accepts : (k at : ℕ) (s : Progress) (n : ℕ) (seen : List ℕ → Bool) → at ≤ length t → Came 0 fresh n at s → Same n seen
-      → walk k t at s n .refusal ≡ 0 → Accepted at s seen n (walk k t at s n .words)
+  walk-accepts : (k at : ℕ) (s : Progress) (n : ℕ) (seen : List ℕ → Bool) → at ≤ length t → Came 0 fresh n at s
+      → Same n seen → walk k t at s n .refusal ≡ 0 → AcceptedWords at s seen n (walk k t at s n .words)
   unfolding walk
   walk-accepts zero at s n seen h c q e = absurd (omega arith)
   walk-accepts (suc k) at s n seen h c q e =
       by-eq (faultIn t s n (nextWord t at)) 0
-      (λ f. let g = fault-none t s n (nextWord t at) f in by-eq (nextWord t at .sort) endSort
-      (λ d. rw (eq-eqb (faultIn t s n (nextWord t at)) 0 f, eq-eqb (nextWord t at .sort) endSort d)
+      (λ f. let g = fault-none t s n (nextWord t at) f in by-eq (sortFrom t at) endSort
+      (λ d. rw (eq-eqb (faultIn t s n (nextWord t at)) 0 f, eq-eqb (sortFrom t at) endSort d)
       (record { words = []; read = ended d; accepts = stops (rw d at g); count = omega arith }))
       (λ d.
       let l = going t at s n f d in
-      let m = leb-false endSort (nextWord t at .sort) l in
-      let b = sort-back (nextWord t at .sort) (spelling t (nextWord t at)) m in
-      let r = rw (eq-eqb (faultIn t s n (nextWord t at)) 0 f, ne-eqb (nextWord t at .sort) endSort d) at e in
-      let i = walk-accepts k (nextWord t at .end) (after s (nextWord t at .sort)) (suc n) (seenAfter s seen (wordIn t (nextWord t at)))
+      let m = leb-false endSort (sortFrom t at) l in
+      let b = sort-back (sortFrom t at) (spelledFrom t at) m in
+      let r = rw (eq-eqb (faultIn t s n (nextWord t at)) 0 f, ne-eqb (sortFrom t at) endSort d) at e in
+      let i = walk-accepts k (nextWord t at .end) (after s (sortFrom t at)) (suc n) (seenAfter s seen (wordFrom t at))
       (next-inside t at h .inside) (came-next c) (seen-next n at s seen c q g m) r in
-      rw (eq-eqb (faultIn t s n (nextWord t at)) 0 f, ne-eqb (nextWord t at .sort) endSort d)
+      rw (eq-eqb (faultIn t s n (nextWord t at)) 0 f, ne-eqb (sortFrom t at) endSort d)
       (record {
-        words = wordIn t (nextWord t at) ∷ i .words;
+        words = wordFrom t at ∷ i .words;
         read = reads {at = at} l (i .read);
         accepts =
-            goes {s = s} {seen = seen} {w = wordIn t (nextWord t at)} {ws = i .words} (proper-back (nextWord t at .sort) (spelling t
-            (nextWord t at)) (next-ge t at)) (rw b g)
+            goes {s = s} {seen = seen} {w = wordFrom t at} {ws = i .words}
+            (proper-back (sortFrom t at) (spelledFrom t at) (next-ge t at)) (rw b g)
             (sym (same-test n at s seen q g) ∙ new-name s n (nextWord t at) f) (rw b (i .accepts));
         count = let z = i .count in omega arith;
       })))
       (λ d. absurd (d (rw (ne-eqb (faultIn t s n (nextWord t at)) 0 d) at e)))
 
-  accepts-walk : (k : ℕ) {at : ℕ} {ws : List W.Word} → Reads t at ws → (s : Progress) (n : ℕ) (seen : List ℕ → Bool) → Accepts s seen ws
-      → length ws < k
+  accepts-walk : (k : ℕ) {at : ℕ} {ws : List W.Word} → Reads t at ws → (s : Progress) (n : ℕ) (seen : List ℕ → Bool)
+      → Accepts s seen ws → length ws < k
       → at ≤ length t → Came 0 fresh n at s → Same n seen → walk k t at s n ≡ found (n + length ws)
   unfolding walk
   accepts-walk zero r s n seen a h i c q = absurd (omega arith)
   accepts-walk (suc k) (ended {at = at} e) s n seen (stops f) h i c q =
-      let g : fault s (nextWord t at .sort) ≡ 0 = rw e f in
+      let g : fault s (sortFrom t at) ≡ 0 = rw e f in
       let x = no-fault s n (nextWord t at) g
       (by-test (namesObject s)
-      (λ b. let z = name-wanted (s .want) s (nextWord t at .sort) b g in absurd (omega arith))
+      (λ b. let z = name-wanted (s .want) s (sortFrom t at) b g in absurd (omega arith))
       (λ b. rw b)) in
       let z : n ≡ n + 0 = omega arith in
-      rw (eq-eqb (faultIn t s n (nextWord t at)) 0 x, eq-eqb (nextWord t at .sort) endSort e) (ap (λ (m : ℕ). found m) z)
+      rw (eq-eqb (faultIn t s n (nextWord t at)) 0 x, eq-eqb (sortFrom t at) endSort e) (ap (λ (m : ℕ). found m) z)
   accepts-walk (suc k) (reads {at = at} {ws = ws} l r) s n seen (goes p f b a) h i c q =
-      let m = leb-false endSort (nextWord t at .sort) l in
-      let o = sort-back (nextWord t at .sort) (spelling t (nextWord t at)) m in
-      let g : fault s (nextWord t at .sort) ≡ 0 = rw o at f in
+      let m = leb-false endSort (sortFrom t at) l in
+      let o = sort-back (sortFrom t at) (spelledFrom t at) m in
+      let g : fault s (sortFrom t at) ≡ 0 = rw o at f in
       let x = no-fault s n (nextWord t at) g (same-test n at s seen q g ∙ b) in
       let z : suc n + length ws ≡ n + suc (length ws) = omega arith in
-      rw (eq-eqb (faultIn t s n (nextWord t at)) 0 x, ne-eqb (nextWord t at .sort) endSort (λ v. omega arith))
-      (accepts-walk k r (after s (nextWord t at .sort)) (suc n) (seenAfter s seen (wordIn t (nextWord t at))) (rw o at a) (omega arith)
+      rw (eq-eqb (faultIn t s n (nextWord t at)) 0 x, ne-eqb (sortFrom t at) endSort (λ v. omega arith))
+      (accepts-walk k r (after s (sortFrom t at)) (suc n) (seenAfter s seen (wordFrom t at)) (rw o at a) (omega arith)
       (next-inside t at i .inside) (came-next c) (seen-next n at s seen c q g m)
       ∙ ap (λ (v : ℕ). found v) z)
 
@@ -261,10 +271,12 @@ module _ (t : List ℕ) where
   unfolding borne
   start-same x = refl
 
-  pub walked-accepts : (k : ℕ) → walk k t 0 fresh 0 .refusal ≡ 0 → Accepted 0 fresh none-seen 0 (walk k t 0 fresh 0 .words)
+  pub walked-accepts : (k : ℕ) → walk k t 0 fresh 0 .refusal ≡ 0
+      → AcceptedWords 0 fresh none-seen 0 (walk k t 0 fresh 0 .words)
   walked-accepts k e = walk-accepts k 0 fresh 0 none-seen (omega arith) came-here start-same e
 
-  pub accepts-walked : (k : ℕ) {ws : List W.Word} → Reads t 0 ws → Accepts fresh none-seen ws → length ws < k → walk k t 0 fresh 0 ≡ found (length ws)
+  pub accepts-walked : (k : ℕ) {ws : List W.Word} → Reads t 0 ws → Accepts fresh none-seen ws → length ws < k
+      → walk k t 0 fresh 0 ≡ found (length ws)
   accepts-walked k {ws} r a h =
       let z : 0 + length ws ≡ length ws = omega arith in
       accepts-walk k r fresh 0 none-seen a h (omega arith) came-here start-same ∙ ap (λ (v : ℕ). found v) z

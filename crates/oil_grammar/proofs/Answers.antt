@@ -1,4 +1,5 @@
--- Worked examples: texts and what they are read as, worked out by hand, with the numbers written out. The checker computes each.
+-- Worked examples: texts and what they are read as, worked out by hand, with the numbers written out. The checker
+-- computes each.
 --
 --   told t     the refusal of a text, its line and its column
 --   bytes t    the bytes of the configuration that it describes
@@ -7,7 +8,7 @@ use mathlib.Core.Path.{_≡_, refl}
 use mathlib.Core.List.{List, [], _∷_, _++_}
 use lib.ListN.{replicate}
 use Rattle.number.specs.Number.{numberBytes, groupBytes}
-use Rattle.config.specs.Among.{among as numberAmong}
+use Rattle.config.specs.Among.{among}
 use Rattle.config.specs.Draft.{timedIn, faultAt as numberFaultAt, putAt as numberPutAt, askedAt, ended as numbersEnded}
 use Rattle.config.specs.Writer.{faultFrom, bytesFrom, configBytes}
 use Rattle.word.specs.Word.{has, with}
@@ -21,7 +22,11 @@ use Rattle.oil_grammar.specs.Reader.{lineAfter, columnAfter, readOil}
 use Rattle.oil_grammar.proofs.Ascii.{ascii}
 
 pub told : List ℕ → List ℕ
-unfolding ascii isSpace isDigit isLetter isNameByte isLineByte span same spelledSort signOf decimal ended closing comment blank blanks wordAt nextWord unexpected unknown only objectFault bodyFault attributeFault valueFault faultAt attributeBegun afterAt namesAt usesAt bears borne nameFault faultIn walk unborneAt unborne numberedAt marked mask putAt fill lineAfter columnAfter readOil has with numberAmong timedIn numberFaultAt numberPutAt askedAt numbersEnded faultFrom
+unfolding ascii isSpace isDigit isLetter isNameByte isLineByte span same spelledSort signOf decimal ended closing
+    comment blank blanks wordAt nextWord unexpected unknown only objectFault bodyFault attributeFault valueFault faultAt
+    attributeBegun afterAt namesAt usesAt bears borne nameFault faultIn walk unborneAt unborne numberedAt marked mask
+    putAt fill lineAfter columnAfter readOil has with among timedIn numberFaultAt numberPutAt askedAt numbersEnded
+    faultFrom
 told t = let r = readOil t in r .refusal ∷ r .line ∷ r .column ∷ []
 
 pub bytes : List ℕ → List ℕ
@@ -29,12 +34,18 @@ unfolding told bytesFrom numberBytes groupBytes
 bytes t = configBytes (readOil t .config)
 
 -- source document 000, Table 4.1: three tasks, an ISR and two resources, each used by Task1 and Task3
-pub table-accepted : told (ascii "TASK Task1 { PRIORITY = 1; AUTOSTART = TRUE; RESOURCE = Res1; RESOURCE = Res2; };\nTASK Task3 { PRIORITY = 3; RESOURCE = Res1; RESOURCE = Res2; };\nTASK Task4 { PRIORITY = 4; };\nISR ISR2 { PRIORITY = 2; };\nRESOURCE Res1 { };\nRESOURCE Res2 { };\n") ≡ 0 ∷ 0 ∷ 0 ∷ []
+abbrev table : List ℕ
+table =
+    ascii "TASK Task1 { PRIORITY = 1; AUTOSTART = TRUE; RESOURCE = Res1; RESOURCE = Res2; };\n"
+    ++ (ascii "TASK Task3 { PRIORITY = 3; RESOURCE = Res1; RESOURCE = Res2; };\n"
+    ++ ascii "TASK Task4 { PRIORITY = 4; };\nISR ISR2 { PRIORITY = 2; };\nRESOURCE Res1 { };\nRESOURCE Res2 { };\n")
+
+pub table-accepted : told table ≡ 0 ∷ 0 ∷ 0 ∷ []
 unfolding told
 table-accepted = refl
 
 -- version 1, four bodies, two resources of the users 0 and 1, no table
-pub table-bytes : bytes (ascii "TASK Task1 { PRIORITY = 1; AUTOSTART = TRUE; RESOURCE = Res1; RESOURCE = Res2; };\nTASK Task3 { PRIORITY = 3; RESOURCE = Res1; RESOURCE = Res2; };\nTASK Task4 { PRIORITY = 4; };\nISR ISR2 { PRIORITY = 2; };\nRESOURCE Res1 { };\nRESOURCE Res2 { };\n") ≡ 1 ∷ 4 ∷ 0 ∷ 1 ∷ 1 ∷ 0 ∷ 3 ∷ 0 ∷ 0 ∷ 4 ∷ 0 ∷ 1 ∷ 2 ∷ 0 ∷ 2 ∷ 3 ∷ 3 ∷ 0 ∷ []
+pub table-bytes : bytes table ≡ 1 ∷ 4 ∷ 0 ∷ 1 ∷ 1 ∷ 0 ∷ 3 ∷ 0 ∷ 0 ∷ 4 ∷ 0 ∷ 1 ∷ 2 ∷ 0 ∷ 2 ∷ 3 ∷ 3 ∷ 0 ∷ []
 unfolding bytes
 table-bytes = refl
 
@@ -224,12 +235,14 @@ unfolding told
 resource-without-users = refl
 
 -- a name used before its RESOURCE, and twice: one bit
-pub forward-use : bytes (ascii "TASK t { RESOURCE = r; PRIORITY = 00200; RESOURCE = r; }; RESOURCE r { };") ≡ 1 ∷ 1 ∷ 0 ∷ 200 ∷ 1 ∷ 0 ∷ 1 ∷ 1 ∷ 0 ∷ []
+pub forward-use : bytes (ascii "TASK t { RESOURCE = r; PRIORITY = 00200; RESOURCE = r; }; RESOURCE r { };")
+    ≡ 1 ∷ 1 ∷ 0 ∷ 200 ∷ 1 ∷ 0 ∷ 1 ∷ 1 ∷ 0 ∷ []
 unfolding bytes
 forward-use = refl
 
 -- comments at every place, names that begin with OIL's words
-pub comments-everywhere : bytes (ascii "/*1*/TASK/*2*/TRUE1/**/{/***/PRIORITY/*\n*/=/*5*/7/*6*/;//7\n}/*8*/;/*9*///") ≡ 1 ∷ 1 ∷ 0 ∷ 7 ∷ 0 ∷ 0 ∷ 0 ∷ []
+pub comments-everywhere : bytes (ascii "/*1*/TASK/*2*/TRUE1/**/{/***/PRIORITY/*\n*/=/*5*/7/*6*/;//7\n}/*8*/;/*9*///")
+    ≡ 1 ∷ 1 ∷ 0 ∷ 7 ∷ 0 ∷ 0 ∷ 0 ∷ []
 unfolding bytes
 comments-everywhere = refl
 

@@ -13,7 +13,7 @@ use Rattle.oil_grammar.specs.declared.Want.the-variants.{Object, Name, O
 use Rattle.oil_grammar.specs.Word as W
 use Rattle.oil_grammar.specs.Word.{mark, name, number, sortOf, same, taskSort, isrSort, resourceSort, prioritySort, autostartSort, trueSort, falseSort, openSort, closeSort, equalsSort, semicolonSort, nameSort, numberSort, endSort}
 use Rattle.oil_grammar.specs.Object as O
-use Rattle.oil_grammar.specs.Object.{priority, autostart, uses, isResource, attributeWords, attributesWords, written, priorities, autostarts, Fits, task, isr, resource, among}
+use Rattle.oil_grammar.specs.Object.{priority, autostart, uses, isResource, attributeWords, attributesWords, written, priorities, autostarts, Fits, task, isr, resource, amongNames}
 use Rattle.oil_grammar.specs.Grammar.{AllFit, fit-nil, fit-cons, Fresh, fresh-nil, fresh-cons}
 use Rattle.oil_grammar.specs.Machine.{faultAt, only, unexpected, unknown, objectFault, bodyFault, attributeFault, valueFault, afterAt, attributeBegun, fresh, namesAt}
 use Rattle.oil_grammar.proofs.Spelling.{by-test, false-true}
@@ -56,7 +56,7 @@ record Named (k : ℕ) (p a : Bool) (earlier : List (List ℕ)) (ws : List W.Wor
   called : List ℕ
   rest : List W.Word
   is : ws ≡ name called ∷ mark openSort ∷ rest
-  new : among called earlier ≡ false
+  new : amongNames called earlier ≡ false
   follows : Attributes k p a (called ∷ earlier) rest
 
 -- what is left of the words, by what is wanted
@@ -65,9 +65,11 @@ Rest Object k p a E ws = AsObjects E ws
 Rest Name k p a E ws = Named k p a E ws
 Rest Open k p a E ws = Then {A = Unit {0}} (λ _. mark openSort ∷ []) (Attributes k p a E) ws
 Rest Attribute k p a E ws = Attributes k p a E ws
-Rest PriorityEquals k p a E ws = Then (λ n. mark equalsSort ∷ number n ∷ mark semicolonSort ∷ []) (Attributes k p a E) ws
+Rest PriorityEquals k p a E ws =
+    Then (λ n. mark equalsSort ∷ number n ∷ mark semicolonSort ∷ []) (Attributes k p a E) ws
 Rest PriorityNumber k p a E ws = Then (λ n. number n ∷ mark semicolonSort ∷ []) (Attributes k p a E) ws
-Rest AutostartEquals k p a E ws = Then (λ b. mark equalsSort ∷ boolWord b ∷ mark semicolonSort ∷ []) (Attributes k p a E) ws
+Rest AutostartEquals k p a E ws =
+    Then (λ b. mark equalsSort ∷ boolWord b ∷ mark semicolonSort ∷ []) (Attributes k p a E) ws
 Rest AutostartValue k p a E ws = Then (λ b. boolWord b ∷ mark semicolonSort ∷ []) (Attributes k p a E) ws
 Rest UseEquals k p a E ws = Then (λ x. mark equalsSort ∷ name x ∷ mark semicolonSort ∷ []) (Attributes k p a E) ws
 Rest Use k p a E ws = Then (λ x. name x ∷ mark semicolonSort ∷ []) (Attributes k p a E) ws
@@ -75,13 +77,20 @@ Rest AttributeEnd k p a E ws = Then {A = Unit {0}} (λ _. mark semicolonSort ∷
 Rest ObjectEnd k p a E ws = Ending E ws
 
 -- one word more before words that follow
-before : {A B : Type 0} {f : A → List W.Word} {g : B → List W.Word} {T : List W.Word → Type 0} {w : W.Word} {ws : List W.Word}
+before : {A B : Type 0} {f : A → List W.Word} {g : B → List W.Word} {T : List W.Word → Type 0} {w : W.Word}
+    {ws : List W.Word}
     (r : Then f T ws) (v : B) → w ∷ f (r .value) ≡ g v → Then g T (w ∷ ws)
 before {f = f} {w = w} r v e =
-    record { value = v; rest = r .rest; is = ap (λ (l : List W.Word). w ∷ l) (r .is) ∙ ap (λ (l : List W.Word). l ++ r .rest) e; follows = r .follows }
+    record {
+      value = v;
+      rest = r .rest;
+      is = ap (λ (l : List W.Word). w ∷ l) (r .is) ∙ ap (λ (l : List W.Word). l ++ r .rest) e;
+      follows = r .follows;
+    }
 
 -- an attribute before attributes
-attribute : {k : ℕ} {p a q b : Bool} {E : List (List ℕ)} {w : W.Word} {ws : List W.Word} {A : Type 0} {f : A → List W.Word}
+attribute : {k : ℕ} {p a q b : Bool} {E : List (List ℕ)} {w : W.Word} {ws : List W.Word} {A : Type 0}
+    {f : A → List W.Word}
     (r : Then f (Attributes k q b E) ws) (x : O.Attribute) → w ∷ f (r .value) ≡ attributeWords x
     → ((al : List O.Attribute) → Fitting k q b al → Fitting k p a (x ∷ al)) → Attributes k p a E (w ∷ ws)
 unfolding attributesWords
@@ -108,10 +117,13 @@ fits-of k x al lo hi f =
     (λ d.
     let l = f .of-body d in
     by-eq k taskSort
-    (λ e. rw e (task {x = x} {rest = al} (let h = l .one-priority in omega arith) (let h = l .few-autostarts in omega arith)))
-    (λ n. let e : k ≡ isrSort = omega arith in rw e (isr {x = x} {rest = al} (let h = l .one-priority in omega arith) (l .of-task n))))
+    (λ e. rw e (task {x = x} {rest = al} (let h = l .one-priority in omega arith)
+    (let h = l .few-autostarts in omega arith)))
+    (λ n. let e : k ≡ isrSort = omega arith in
+    rw e (isr {x = x} {rest = al} (let h = l .one-priority in omega arith) (l .of-task n))))
 
-object : {E : List (List ℕ)} {ws : List W.Word} (k : ℕ) → 1 ≤ k → k ≤ 3 → Named k false false E ws → AsObjects E (mark k ∷ ws)
+object : {E : List (List ℕ)} {ws : List W.Word} (k : ℕ) → 1 ≤ k → k ≤ 3 → Named k false false E ws
+    → AsObjects E (mark k ∷ ws)
 object {E} {ws} k lo hi n =
     let b = n .follows in
     let e = b .follows in
@@ -121,10 +133,12 @@ object {E} {ws} k lo hi n =
       is =
           ap (λ (l : List W.Word). mark k ∷ l) (n .is)
           ∙ ap (λ (l : List W.Word). mark k ∷ name (n .called) ∷ mark openSort ∷ l) (b .is)
-          ∙ ap (λ (l : List W.Word). mark k ∷ name (n .called) ∷ mark openSort ∷ (attributesWords (b .attributes) ++ (mark closeSort ∷ l))) (e .is)
+          ∙ ap (λ (l : List W.Word). mark k ∷ name (n .called) ∷ mark openSort ∷
+          (attributesWords (b .attributes) ++ (mark closeSort ∷ l))) (e .is)
           ∙ ap (λ (l : List W.Word). mark k ∷ name (n .called) ∷ mark openSort ∷ (attributesWords (b .attributes) ++
           (mark closeSort ∷ mark semicolonSort ∷ l))) (e .follows .is)
-          ∙ sym (object-words (record { kind = k; called = n .called; attributes = b .attributes }) (e .follows .objects));
+          ∙ sym (object-words (record { kind = k; called = n .called; attributes = b .attributes })
+          (e .follows .objects));
       fit = fit-cons (fits-of k (n .called) (b .attributes) lo hi (b .fitting)) (e .follows .fit);
       new = fresh-cons (n .new) (e .follows .new);
     }
@@ -141,7 +155,8 @@ object-mark m hi f =
     absurd
     (by-test (leb m falseSort || eqb m nameSort)
     (λ g. some 61 (rw (lt-leb m resourceSort h, ne-eqb m endSort (λ q. omega arith), g) at f))
-    (λ g. some 60 (rw (lt-leb m resourceSort h, ne-eqb m endSort (λ q. omega arith), g, ne-eqb m 15 (λ q. omega arith)) at f))))
+    (λ g. some 60 (rw (lt-leb m resourceSort h, ne-eqb m endSort (λ q. omega arith), g, ne-eqb m 15 (λ q. omega arith))
+    at f))))
     (λ h. h)
   where
     some : (k : ℕ) → suc k ≡ 0 → ⊥
@@ -165,11 +180,13 @@ unknown-some m e =
 
 -- the proofs for what follows a word, from any place on
 abbrev Further : Progress → (List ℕ → Bool) → List W.Word → Type 0
-Further s seen ws = (v : Want) (k : ℕ) (p a : Bool) → s ≡ at v k p a → (E : List (List ℕ)) → Sees seen E → Rest v k p a E ws
+Further s seen ws =
+    (v : Want) (k : ℕ) (p a : Bool) → s ≡ at v k p a → (E : List (List ℕ)) → Sees seen E → Rest v k p a E ws
 
 -- a mark where an attribute or the closing brace is wanted
 module _ (k : ℕ) (p a : Bool) (m : ℕ) (lo : 1 ≤ m) (hi : m ≤ semicolonSort) (ws : List W.Word) (seen : List ℕ → Bool)
-    (f : attributeFault (at Attribute k p a) m ≡ 0) (ih : Further (attributeBegun (at Attribute k p a) m) seen ws) (E : List (List ℕ))
+    (f : attributeFault (at Attribute k p a) m ≡ 0) (ih : Further (attributeBegun (at Attribute k p a) m) seen ws)
+    (E : List (List ℕ))
     (q : Sees seen E) where
   closed : m ≡ closeSort → Attributes k p a E (mark m ∷ ws)
   unfolding attributeBegun attributeFault bodyFault attributesWords priorities autostarts
@@ -192,7 +209,8 @@ module _ (k : ℕ) (p a : Bool) (m : ℕ) (lo : 1 ≤ m) (hi : m ≤ semicolonSo
     where
       given : (k ≡ resourceSort → ⊥) → (z : Bool) → p ≡ z → 0 + once p ≡ 1
       given d true h = rw h
-      given d false h = absurd (let g : _≡_ {A = ℕ} 61 0 = rw (ne-eqb k resourceSort d, eq-eqb m closeSort e, h) at f in omega arith)
+      given d false h =
+          absurd (let g : _≡_ {A = ℕ} 61 0 = rw (ne-eqb k resourceSort d, eq-eqb m closeSort e, h) at f in omega arith)
 
   -- only a body has attributes
   body : (m ≡ closeSort → ⊥) → k ≡ resourceSort → ⊥
@@ -213,11 +231,17 @@ module _ (k : ℕ) (p a : Bool) (m : ℕ) (lo : 1 ≤ m) (hi : m ≤ semicolonSo
       (λ al g. record {
         of-resource = λ h. absurd (body d h);
         of-body = λ h. let l = g .of-body h in
-            record { one-priority = new d p refl (priorities al) (l .one-priority); few-autostarts = l .few-autostarts; of-task = l .of-task };
+            record {
+              one-priority = new d p refl (priorities al) (l .one-priority);
+              few-autostarts = l .few-autostarts;
+              of-task = l .of-task;
+            };
       })
     where
       new : (m ≡ closeSort → ⊥) → (z : Bool) → p ≡ z → (n : ℕ) → n + 1 ≡ 1 → suc n + once p ≡ 1
-      new d true h n l = absurd (let g : _≡_ {A = ℕ} 63 0 = rw (ne-eqb m closeSort d, eq-eqb m prioritySort e, h) at (body-fault d) in omega arith)
+      new d true h n l =
+          absurd (let g : _≡_ {A = ℕ} 63 0 = rw (ne-eqb m closeSort d, eq-eqb m prioritySort e, h) at (body-fault d) in
+          omega arith)
       new d false h n l = rw h (omega arith)
 
   use-given : m ≡ resourceSort → Attributes k p a E (mark m ∷ ws)
@@ -230,31 +254,46 @@ module _ (k : ℕ) (p a : Bool) (m : ℕ) (lo : 1 ≤ m) (hi : m ≤ semicolonSo
       (ap (λ (z : ℕ). mark z ∷ mark equalsSort ∷ name (r .value) ∷ mark semicolonSort ∷ []) e)
       (λ al g. record {
         of-resource = λ h. absurd (body d h);
-        of-body = λ h. let l = g .of-body h in record { one-priority = l .one-priority; few-autostarts = l .few-autostarts; of-task = l .of-task };
+        of-body =
+            λ h. let l = g .of-body h in record {
+              one-priority = l .one-priority;
+              few-autostarts = l .few-autostarts;
+              of-task = l .of-task;
+            };
       })
 
-  autostart-given : (m ≡ closeSort → ⊥) → (m ≡ prioritySort → ⊥) → (m ≡ resourceSort → ⊥) → Attributes k p a E (mark m ∷ ws)
+  autostart-given : (m ≡ closeSort → ⊥) → (m ≡ prioritySort → ⊥) → (m ≡ resourceSort → ⊥)
+      → Attributes k p a E (mark m ∷ ws)
   unfolding attributeBegun bodyFault attributeWords priorities autostarts
   autostart-given d n u =
       by-test (eqb m autostartSort && eqb k taskSort)
       (λ e. by-test (eqb m autostartSort)
       (λ h.
       let t : k ≡ taskSort = eqb-true k taskSort (rw h at e) in
-      let r = ih AutostartEquals k p true (rw (ne-eqb m closeSort d, ne-eqb m prioritySort n, ne-eqb m resourceSort u)) E q in
+      let r = ih AutostartEquals k p true (rw (ne-eqb m closeSort d, ne-eqb m prioritySort n, ne-eqb m resourceSort u))
+      E q in
       attribute {k = k} {p = p} {a = a} {q = p} {b = true} {E = E} {w = mark m} {ws = ws} r (autostart (r .value))
-      (ap (λ (z : ℕ). mark z ∷ mark equalsSort ∷ boolWord (r .value) ∷ mark semicolonSort ∷ []) (eqb-true m autostartSort h))
+      (ap (λ (z : ℕ). mark z ∷ mark equalsSort ∷ boolWord (r .value) ∷ mark semicolonSort ∷ [])
+      (eqb-true m autostartSort h))
       (λ al g. record {
         of-resource = λ z. absurd (body d z);
         of-body = λ z. let l = g .of-body z in
-            record { one-priority = l .one-priority; few-autostarts = new e a refl (autostarts al) (l .few-autostarts); of-task = λ y. absurd (y t) };
+            record {
+              one-priority = l .one-priority;
+              few-autostarts = new e a refl (autostarts al) (l .few-autostarts);
+              of-task = λ y. absurd (y t);
+            };
       }))
       (λ h. absurd (false-true (rw h at e))))
-      (λ e. absurd (unknown-some m (rw (ne-eqb m closeSort d, ne-eqb m prioritySort n, ne-eqb m resourceSort u, e) at (body-fault d))))
+      (λ e. absurd (unknown-some m
+      (rw (ne-eqb m closeSort d, ne-eqb m prioritySort n, ne-eqb m resourceSort u, e) at (body-fault d))))
     where
-      new : (eqb m autostartSort && eqb k taskSort) ≡ true → (z : Bool) → a ≡ z → (i : ℕ) → i + 1 ≤ 1 → suc i + once a ≤ 1
+      new : (eqb m autostartSort && eqb k taskSort) ≡ true → (z : Bool) → a ≡ z → (i : ℕ) → i + 1 ≤ 1
+          → suc i + once a ≤ 1
       new e true h i l =
-          absurd (let g : _≡_ {A = ℕ} 63 0 = rw (ne-eqb m closeSort d, ne-eqb m prioritySort n, ne-eqb m resourceSort u, e, h) at
-          (body-fault d) in omega arith)
+          absurd (let g : _≡_ {A = ℕ} 63 0 =
+          rw (ne-eqb m closeSort d, ne-eqb m prioritySort n, ne-eqb m resourceSort u, e, h) at (body-fault d) in
+          omega arith)
       new e false h i l = rw h (omega arith)
 
   mark-attribute : Attributes k p a E (mark m ∷ ws)
@@ -263,21 +302,34 @@ module _ (k : ℕ) (p a : Bool) (m : ℕ) (lo : 1 ≤ m) (hi : m ≤ semicolonSo
       (λ d. by-eq m prioritySort priority-given (λ n. by-eq m resourceSort use-given (autostart-given d n)))
 
 -- one word
-step : (v : Want) (k : ℕ) (p a : Bool) {w : W.Word} → Proper w → (ws : List W.Word) (seen : List ℕ → Bool) → faultAt v (at v k p a) (sortOf w) ≡ 0
-    → (namesAt v && seen (bytesOf w)) ≡ false → Further (afterAt v (at v k p a) (sortOf w)) (cond (namesAt v) (λ x. seen x || same
-    (bytesOf w) x) seen) ws
+step : (v : Want) (k : ℕ) (p a : Bool) {w : W.Word} → Proper w → (ws : List W.Word) (seen : List ℕ → Bool)
+    → faultAt v (at v k p a) (sortOf w) ≡ 0 → (namesAt v && seen (bytesOf w)) ≡ false
+    → Further (afterAt v (at v k p a) (sortOf w)) (cond (namesAt v) (λ x. seen x || same (bytesOf w) x) seen) ws
     → (E : List (List ℕ)) → Sees seen E → Rest v k p a E (w ∷ ws)
-unfolding faultAt afterAt sortOf only unexpected objectFault attributeFault bodyFault valueFault unknown attributeBegun namesAt
-step Object k p a (proper-mark {m = m} lo hi) ws seen f b ih E q = object m lo (object-mark m hi f) (ih Name m false false refl E q)
+unfolding faultAt afterAt sortOf only unexpected objectFault attributeFault bodyFault valueFault unknown attributeBegun
+    namesAt
+step Object k p a (proper-mark {m = m} lo hi) ws seen f b ih E q =
+    object m lo (object-mark m hi f) (ih Name m false false refl E q)
 step Object k p a proper-name ws seen f b ih E q = absurd (omega arith)
 step Object k p a proper-number ws seen f b ih E q = absurd (omega arith)
 step Name k p a (proper-mark {m = m} lo hi) ws seen f b ih E q = absurd (let e = only-that nameSort m f in omega arith)
 step Name k p a (proper-name {x = x}) ws seen f b ih E q =
     let r = ih Open k p a refl (x ∷ E) (sees-name seen E x q) in
-    record { called = x; rest = r .rest; is = ap (λ (l : List W.Word). name x ∷ l) (r .is); new = sym (q x) ∙ b; follows = r .follows }
+    record {
+      called = x;
+      rest = r .rest;
+      is = ap (λ (l : List W.Word). name x ∷ l) (r .is);
+      new = sym (q x) ∙ b;
+      follows = r .follows;
+    }
 step Name k p a proper-number ws seen f b ih E q = absurd (omega arith)
 step Open k p a (proper-mark {m = m} lo hi) ws seen f b ih E q =
-    record { value = tt; rest = ws; is = ap (λ (n : ℕ). mark n ∷ ws) (only-that openSort m f); follows = ih Attribute k p a refl E q }
+    record {
+      value = tt;
+      rest = ws;
+      is = ap (λ (n : ℕ). mark n ∷ ws) (only-that openSort m f);
+      follows = ih Attribute k p a refl E q;
+    }
 step Open k p a proper-name ws seen f b ih E q = absurd (omega arith)
 step Open k p a proper-number ws seen f b ih E q = absurd (omega arith)
 step Attribute k p a (proper-mark {m = m} lo hi) ws seen f b ih E q = mark-attribute k p a m lo hi ws seen f ih E q
@@ -289,15 +341,18 @@ step Attribute k p a proper-number ws seen f b ih E q =
     (λ e. let h : _≡_ {A = ℕ} 61 0 = rw e at f in omega arith))
 step PriorityEquals k p a (proper-mark {m = m} lo hi) ws seen f b ih E q =
     let r = ih PriorityNumber k p a refl E q in
-    before r (r .value) (ap (λ (n : ℕ). mark n ∷ number (r .value) ∷ mark semicolonSort ∷ []) (only-that equalsSort m f))
+    before r (r .value)
+    (ap (λ (n : ℕ). mark n ∷ number (r .value) ∷ mark semicolonSort ∷ []) (only-that equalsSort m f))
 step PriorityEquals k p a proper-name ws seen f b ih E q = absurd (omega arith)
 step PriorityEquals k p a proper-number ws seen f b ih E q = absurd (omega arith)
-step PriorityNumber k p a (proper-mark {m = m} lo hi) ws seen f b ih E q = absurd (let e = only-that numberSort m f in omega arith)
+step PriorityNumber k p a (proper-mark {m = m} lo hi) ws seen f b ih E q =
+    absurd (let e = only-that numberSort m f in omega arith)
 step PriorityNumber k p a proper-name ws seen f b ih E q = absurd (omega arith)
 step PriorityNumber k p a (proper-number {n = n}) ws seen f b ih E q = before (ih AttributeEnd k p a refl E q) n refl
 step AutostartEquals k p a (proper-mark {m = m} lo hi) ws seen f b ih E q =
     let r = ih AutostartValue k p a refl E q in
-    before r (r .value) (ap (λ (n : ℕ). mark n ∷ boolWord (r .value) ∷ mark semicolonSort ∷ []) (only-that equalsSort m f))
+    before r (r .value)
+    (ap (λ (n : ℕ). mark n ∷ boolWord (r .value) ∷ mark semicolonSort ∷ []) (only-that equalsSort m f))
 step AutostartEquals k p a proper-name ws seen f b ih E q = absurd (omega arith)
 step AutostartEquals k p a proper-number ws seen f b ih E q = absurd (omega arith)
 step AutostartValue k p a (proper-mark {m = m} lo hi) ws seen f b ih E q =
@@ -314,11 +369,21 @@ step Use k p a (proper-mark {m = m} lo hi) ws seen f b ih E q = absurd (let e = 
 step Use k p a (proper-name {x = x}) ws seen f b ih E q = before (ih AttributeEnd k p a refl E q) x refl
 step Use k p a proper-number ws seen f b ih E q = absurd (omega arith)
 step AttributeEnd k p a (proper-mark {m = m} lo hi) ws seen f b ih E q =
-    record { value = tt; rest = ws; is = ap (λ (n : ℕ). mark n ∷ ws) (only-that semicolonSort m f); follows = ih Attribute k p a refl E q }
+    record {
+      value = tt;
+      rest = ws;
+      is = ap (λ (n : ℕ). mark n ∷ ws) (only-that semicolonSort m f);
+      follows = ih Attribute k p a refl E q;
+    }
 step AttributeEnd k p a proper-name ws seen f b ih E q = absurd (omega arith)
 step AttributeEnd k p a proper-number ws seen f b ih E q = absurd (omega arith)
 step ObjectEnd k p a (proper-mark {m = m} lo hi) ws seen f b ih E q =
-    record { value = tt; rest = ws; is = ap (λ (n : ℕ). mark n ∷ ws) (only-that semicolonSort m f); follows = ih Object k p a refl E q }
+    record {
+      value = tt;
+      rest = ws;
+      is = ap (λ (n : ℕ). mark n ∷ ws) (only-that semicolonSort m f);
+      follows = ih Object k p a refl E q;
+    }
 step ObjectEnd k p a proper-name ws seen f b ih E q = absurd (omega arith)
 step ObjectEnd k p a proper-number ws seen f b ih E q = absurd (omega arith)
 
@@ -343,9 +408,10 @@ last ObjectEnd k p a E f = absurd (omega arith)
 back : {s : Progress} {seen : List ℕ → Bool} {ws : List W.Word} → Accepts s seen ws → Further s seen ws
 back (stops {s = s} f) v k p a e E q = last v k p a E (rw e at f)
 back (goes {s = s} {seen = seen} {w = w} {ws = ws} pr f b r) v k p a e E q =
-    step v k p a pr ws seen (rw e at f) (rw e at b) (λ v′ k′ p′ a′ e′ E′ q′. back r v′ k′ p′ a′ (rw e e′) E′ (rw e q′)) E q
+    step v k p a pr ws seen (rw e at f) (rw e at b) (λ v′ k′ p′ a′ e′ E′ q′. back r v′ k′ p′ a′ (rw e e′) E′ (rw e q′))
+    E q
 
 -- from the start
 pub as-objects : {ws : List W.Word} → Accepts fresh (λ x. false) ws → AsObjects [] ws
-unfolding among
+unfolding amongNames
 as-objects acc = back acc Object 0 false false refl [] (λ x. refl)

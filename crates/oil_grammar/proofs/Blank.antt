@@ -18,7 +18,7 @@ use Rattle.oil_grammar.proofs.Span.{span-le, drop-next}
 abbrev pub earlier : ℕ → ℕ → ℕ
 earlier n r = cond (eqb r 0) 0 (r + n)
 
-pub closing-le : (bs : List ℕ) → closing bs ≤ length bs
+closing-le : (bs : List ℕ) → closing bs ≤ length bs
 unfolding closing
 closing-le [] = omega arith
 closing-le (b ∷ []) = omega arith
@@ -27,13 +27,14 @@ closing-le (b ∷ c ∷ bs) =
     by-test (eqb b star && eqb c slash) (λ e. rw e (omega arith))
     (λ e. by-test (eqb (closing (c ∷ bs)) 0) (λ f. rw (e, f) (omega arith)) (λ f. rw (e, f) (omega arith)))
 
-pub comment-le : (bs : List ℕ) → comment bs ≤ suc (length bs)
+comment-le : (bs : List ℕ) → comment bs ≤ suc (length bs)
 unfolding comment
 comment-le [] = omega arith
 comment-le (c ∷ bs) =
     by-test (eqb c slash) (λ e. rw e (omega (arith, span-le isLineByte bs)))
     (λ e. by-test (eqb c star)
-    (λ f. by-test (eqb (closing bs) 0) (λ g. rw (e, f, g) (omega arith)) (λ g. rw (e, f, g) (omega (arith, closing-le bs))))
+    (λ f. by-test (eqb (closing bs) 0) (λ g. rw (e, f, g) (omega arith))
+    (λ g. rw (e, f, g) (omega (arith, closing-le bs))))
     (λ f. rw (e, f) (omega arith)))
 
 pub blank-le : (bs : List ℕ) → blank bs ≤ length bs
@@ -43,7 +44,7 @@ blank-le (b ∷ bs) =
     by-test (isSpace b) (λ e. rw e (omega arith))
     (λ e. by-test (eqb b slash) (λ f. rw (e, f) (comment-le bs)) (λ f. rw (e, f) (omega arith)))
 
-pub blanks-le : (k : ℕ) (bs : List ℕ) → blanks k bs ≤ length bs
+blanks-le : (k : ℕ) (bs : List ℕ) → blanks k bs ≤ length bs
 unfolding blanks
 blanks-le zero bs = omega arith
 blanks-le (suc k) bs =
@@ -56,17 +57,20 @@ unfolding blanks
 blanks-none zero bs e = refl
 blanks-none (suc k) bs e = rw (eq-eqb (blank bs) 0 e)
 
-pub blanks-some : (k : ℕ) (bs : List ℕ) → (blank bs ≡ 0 → ⊥) → blanks (suc k) bs ≡ blank bs + blanks k (drop (blank bs) bs)
+pub blanks-some : (k : ℕ) (bs : List ℕ) → (blank bs ≡ 0 → ⊥)
+    → blanks (suc k) bs ≡ blank bs + blanks k (drop (blank bs) bs)
 unfolding blanks
 blanks-some k bs d = rw (ne-eqb (blank bs) 0 d)
 
 -- as many as there are bytes are enough
-pub blanks-enough : (k : ℕ) (bs : List ℕ) → length bs ≤ k → blanks (suc k) bs ≡ blanks k bs
-blanks-enough zero bs h = blanks-none 1 bs (let l = blank-le bs in omega arith) ∙ sym (blanks-none 0 bs (let l = blank-le bs in omega arith))
+blanks-enough : (k : ℕ) (bs : List ℕ) → length bs ≤ k → blanks (suc k) bs ≡ blanks k bs
+blanks-enough zero bs h =
+    blanks-none 1 bs (let l = blank-le bs in omega arith) ∙ sym (blanks-none 0 bs (let l = blank-le bs in omega arith))
 blanks-enough (suc k) bs h =
     by-eq (blank bs) 0
     (λ e. blanks-none (suc (suc k)) bs e ∙ sym (blanks-none (suc k) bs e))
-    (λ d. blanks-some (suc k) bs d ∙ ap (blank bs +_) (blanks-enough k (drop (blank bs) bs) (fewer d)) ∙ sym (blanks-some k bs d))
+    (λ d. blanks-some (suc k) bs d ∙ ap (blank bs +_) (blanks-enough k (drop (blank bs) bs) (fewer d))
+    ∙ sym (blanks-some k bs d))
   where
     fewer : (blank bs ≡ 0 → ⊥) → length (drop (blank bs) bs) ≤ k
     fewer d = simp length-drop (let l = blank-le bs in omega arith)
@@ -102,7 +106,8 @@ module _ (t : List ℕ) where
           ∙ ap (λ (l : List ℕ). blank (drop i t) + blanks k l) (drop-drop (blank (drop i t)) i t) in
           let few : length (drop (i + blank (drop i t)) t) ≤ k = simp length-drop (omega (arith, le)) in
           let b : blanks (length t) (drop (i + blank (drop i t)) t) ≡ blanks k (drop (i + blank (drop i t)) t) =
-          ap (λ (m : ℕ). blanks m (drop (i + blank (drop i t)) t)) e ∙ blanks-enough k (drop (i + blank (drop i t)) t) few in
+          ap (λ (m : ℕ). blanks m (drop (i + blank (drop i t)) t)) e
+          ∙ blanks-enough k (drop (i + blank (drop i t)) t) few in
           omega arith
 
 -- a loop over the text that looks for the end of a comment
@@ -114,7 +119,8 @@ module _ (t : List ℕ) (i : ℕ) where
   two : i + 1 < length t → drop i t ≡ getD t i 0 ∷ getD t (i + 1) 0 ∷ drop (i + 1 + 1) t
   two h = drop-next t i (omega arith) ∙ ap (λ (l : List ℕ). getD t i 0 ∷ l) (drop-next t (i + 1) h)
 
-  pub closing-here : i + 1 < length t → (eqb (getD t i 0) star && eqb (getD t (i + 1) 0) slash) ≡ true → closing (drop i t) ≡ 2
+  pub closing-here : i + 1 < length t → (eqb (getD t i 0) star && eqb (getD t (i + 1) 0) slash) ≡ true
+      → closing (drop i t) ≡ 2
   unfolding closing
   closing-here h e = rw (two h, e)
 
@@ -137,11 +143,12 @@ module _ (t : List ℕ) (i : ℕ) where
   unfolding comment
   comment-past h = rw (drop-of-length-le t {i = i} h)
 
-  pub comment-line : i < length t → getD t i 0 ≡ slash → comment (drop i t) ≡ span isLineByte (drop (i + 1) t) + 2
+  comment-line : i < length t → getD t i 0 ≡ slash → comment (drop i t) ≡ span isLineByte (drop (i + 1) t) + 2
   unfolding comment
   comment-line h e = rw (drop-next t i h, eq-eqb (getD t i 0) slash e)
 
-  pub comment-block : i < length t → (getD t i 0 ≡ slash → ⊥) → getD t i 0 ≡ star → comment (drop i t) ≡ closed (closing (drop (i + 1) t))
+  comment-block : i < length t → (getD t i 0 ≡ slash → ⊥) → getD t i 0 ≡ star
+      → comment (drop i t) ≡ closed (closing (drop (i + 1) t))
   unfolding comment
   comment-block h d e = rw (drop-next t i h, ne-eqb (getD t i 0) slash d, eq-eqb (getD t i 0) star e)
 
@@ -150,10 +157,12 @@ module _ (t : List ℕ) (i : ℕ) where
   comment-none h d e = rw (drop-next t i h, ne-eqb (getD t i 0) slash d, ne-eqb (getD t i 0) star e)
 
   -- as the code works them out
-  pub line-comment : i < length t → getD t i 0 ≡ slash → (e : ℕ) → e ≡ i + 1 + span isLineByte (drop (i + 1) t) → e - (i + 1) + 2 ≡ comment (drop i t)
-  line-comment h q e f = omega (arith, comment-line h q)
+  pub line-comment : i < length t → getD t i 0 ≡ slash → {e : ℕ} → e ≡ i + 1 + span isLineByte (drop (i + 1) t)
+      → e - (i + 1) + 2 ≡ comment (drop i t)
+  line-comment h q f = omega (arith, comment-line h q)
 
-  pub open-comment : i < length t → (getD t i 0 ≡ slash → ⊥) → getD t i 0 ≡ star → closing (drop (i + 1) t) ≡ 0 → 0 ≡ comment (drop i t)
+  pub open-comment : i < length t → (getD t i 0 ≡ slash → ⊥) → getD t i 0 ≡ star → closing (drop (i + 1) t) ≡ 0
+      → 0 ≡ comment (drop i t)
   open-comment h d q z = sym (comment-block h d q ∙ rw (eq-eqb (closing (drop (i + 1) t)) 0 z))
 
   pub block-comment : i < length t → (getD t i 0 ≡ slash → ⊥) → getD t i 0 ≡ star → (closing (drop (i + 1) t) ≡ 0 → ⊥)
@@ -168,7 +177,8 @@ module _ (t : List ℕ) (i : ℕ) where
   unfolding blank
   blank-space h e = rw (drop-next t i h, e)
 
-  pub blank-comment : i < length t → isSpace (getD t i 0) ≡ false → getD t i 0 ≡ slash → blank (drop i t) ≡ comment (drop (i + 1) t)
+  pub blank-comment : i < length t → isSpace (getD t i 0) ≡ false → getD t i 0 ≡ slash
+      → blank (drop i t) ≡ comment (drop (i + 1) t)
   unfolding blank
   blank-comment h d e = rw (drop-next t i h, d, eq-eqb (getD t i 0) slash e)
 

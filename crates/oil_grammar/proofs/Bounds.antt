@@ -22,7 +22,8 @@ pub record Lies (p n : ℕ) (w : Word) : Type 0 where
   pub some : leb endSort (w .sort) ≡ false → w .start < w .end
 
 lies : (s p k n : ℕ) → k ≤ n → (leb endSort s ≡ false → 1 ≤ k) → Lies p n (wordOf s p k)
-lies s p k n h some = record { at-start = refl; forward = omega arith; inside = omega arith; some = λ e. let o = some e in omega arith }
+lies s p k n h some =
+    record { at-start = refl; forward = omega arith; inside = omega arith; some = λ e. let o = some e in omega arith }
 
 sign-lies : (p n s : ℕ) → Lies p (suc n) (signAt p s)
 sign-lies p n s =
@@ -41,7 +42,8 @@ word-lies p (b ∷ bs) =
     (λ e. rw e (lies (spelledSort (b ∷ take (span isNameByte bs) bs)) p (suc (span isNameByte bs)) (suc (length bs))
     (let h = span-le isNameByte bs in omega arith) (λ f. omega arith)))
     (λ e. by-test (isDigit b)
-    (λ f. rw (e, f) (lies 13 p (suc (span isDigit bs)) (suc (length bs)) (let h = span-le isDigit bs in omega arith) (λ g. omega arith)))
+    (λ f. rw (e, f) (lies 13 p (suc (span isDigit bs)) (suc (length bs)) (let h = span-le isDigit bs in omega arith)
+    (λ g. omega arith)))
     (λ f. rw (e, f) (sign-lies p (length bs) (signOf b))))
 
 -- the next word of a text: after the place, inside the text
@@ -57,4 +59,9 @@ next-inside t at h =
     let l = word-lies (skipped t at) (drop (skipped t at) t) in
     let k = skipped-le t at h in
     let n = length-drop (skipped t at) t in
-    record { begins = omega (arith, l .at-start); forward = l .forward; inside = omega (arith, l .inside); some = l .some }
+    record {
+      begins = omega (arith, l .at-start);
+      forward = l .forward;
+      inside = omega (arith, l .inside);
+      some = l .some;
+    }

@@ -1,11 +1,13 @@
--- Texts with as many bodies and resources as a configuration holds, and with one more: accepted, and refused with 4 at line 0, column 0.
+-- Texts with as many bodies and resources as a configuration holds, and with one more: accepted, and refused with 4 at
+-- line 0, column 0.
 --
 --   version-one             the configuration of objects has version 1
 --   wordsFrom k t at        up to k words of t from a place on, and whether its end comes after them
 --   oil-of                  a text is OIL of objects where its words are theirs and they pass the tests
 --   bodies n, resources n   the texts: n ISRs, and a task that uses n resources
 --
--- The checker computes words and objects, and `oil-read` gives the reading: computed whole, its walks look every name up again and take far longer.
+-- The checker computes words and objects, and `oil-read` gives the reading: computed whole, its walks look every name
+-- up again and take far longer.
 use Prim.Native.Nat.{ℕ, zero, suc, _+_, _/_, _%_}
 use mathlib.Core.Path.{_≡_, refl, ap, _∙_}
 use mathlib.Core.Bool.{Bool, true, false, cond}
@@ -15,7 +17,7 @@ use lib.Dec.{leb, eqb}
 use borrow.Author.Tests.{eqb-true}
 use Rattle.word.specs.Word.{has, with}
 use Rattle.config.specs.declared.Config.{Config}
-use Rattle.config.specs.Among.{among as numberAmong}
+use Rattle.config.specs.Among.{among}
 use Rattle.config.specs.Draft.{timedIn, faultAt, putAt, askedAt, ended as numbersEnded}
 use Rattle.config.specs.Writer.{faultFrom}
 use Rattle.oil_grammar.specs.declared.OilRead.{OilRead}
@@ -23,7 +25,7 @@ use Rattle.oil_grammar.specs.Byte.{isSpace, isDigit, isLetter, isNameByt
 use Rattle.oil_grammar.specs.Word as W
 use Rattle.oil_grammar.specs.Word.{same, spelledSort, signOf, decimal, taskSort, isrSort, resourceSort, endSort}
 use Rattle.oil_grammar.specs.Object as O
-use Rattle.oil_grammar.specs.Object.{Object, Attribute, priority, autostart, uses, isResource, attributeWords, attributesWords, objectWords, written, priorities, autostarts, Fits, task, isr, resource, among, attributeUses, objectUses}
+use Rattle.oil_grammar.specs.Object.{Object, Attribute, priority, autostart, uses, isResource, attributeWords, attributesWords, objectWords, written, priorities, autostarts, Fits, task, isr, resource, amongNames, attributeUses, objectUses}
 use Rattle.oil_grammar.specs.Meaning.{empty, usersOf, usersWith, usersFrom, attributed, attributedAll, begun, ended, placed, configOf}
 use Rattle.oil_grammar.specs.Grammar.{AllFit, fit-nil, fit-cons, Fresh, fresh-nil, fresh-cons, Borne, borne-nil, borne-cons, Oil}
 use Rattle.oil_grammar.specs.Next.{closing, comment, blank, blanks, wordAt, nextWord, wordOfBytes, wordIn}
@@ -39,7 +41,8 @@ unfolding placed begun ended attributedAll attributed
 placed-version u [] c = refl
 placed-version u (o ∷ os) c =
     placed-version u os (ended (o .kind) (attributedAll (begun u c o) (o .attributes)))
-    ∙ ended-version (o .kind) (attributedAll (begun u c o) (o .attributes)) ∙ attributes-version (o .attributes) (begun u c o) ∙ begun-version c o
+    ∙ ended-version (o .kind) (attributedAll (begun u c o) (o .attributes)) ∙ attributes-version (o .attributes)
+    (begun u c o) ∙ begun-version c o
   where
     ended-version : (k : ℕ) (d : Config) → ended k d .version ≡ d .version
     ended-version k d = by-test (isResource k) (λ e. rw e refl) (λ e. rw e refl)
@@ -75,26 +78,26 @@ words-read t (suc k) at e =
 -- no object has the name of an earlier one, as a test
 unfoldable new : List (List ℕ) → List Object → Bool
 new earlier [] = true
-new earlier (o ∷ os) = cond (among (o .called) earlier) false (new (o .called ∷ earlier) os)
+new earlier (o ∷ os) = cond (amongNames (o .called) earlier) false (new (o .called ∷ earlier) os)
 
 is-fresh : (earlier : List (List ℕ)) (os : List Object) → new earlier os ≡ true → Fresh earlier os
 unfolding new
 is-fresh earlier [] e = fresh-nil
 is-fresh earlier (o ∷ os) e =
-    by-test (among (o .called) earlier)
+    by-test (amongNames (o .called) earlier)
     (λ f. absurd (false-true (rw f at e)))
     (λ f. fresh-cons f (is-fresh (o .called ∷ earlier) os (rw f at e)))
 
 -- each of the names is one of the others, as a test
 unfoldable allAmong : List (List ℕ) → List (List ℕ) → Bool
 allAmong rs [] = true
-allAmong rs (x ∷ xs) = cond (among x rs) (allAmong rs xs) false
+allAmong rs (x ∷ xs) = cond (amongNames x rs) (allAmong rs xs) false
 
 is-borne : (rs xs : List (List ℕ)) → allAmong rs xs ≡ true → Borne rs xs
 unfolding allAmong
 is-borne rs [] e = borne-nil
 is-borne rs (x ∷ xs) e =
-    by-test (among x rs)
+    by-test (amongNames x rs)
     (λ f. borne-cons f (is-borne rs xs (rw f at e)))
     (λ f. absurd (false-true (rw f at e)))
 
@@ -102,7 +105,9 @@ oil-of : (t : List ℕ) (os : List Object) (k : ℕ) → wordsFrom k t 0 ≡ (tr
     → allAmong (O.resources os) (objectUses os) ≡ true → Oil t os
 oil-of t os k w f n b =
     record {
-      spells = reads-spells t (rw (ap (λ (r : Bool × List W.Word). r .1) w) at (words-read t k 0 (ap (λ (r : Bool × List W.Word). r .0) w))) (omega arith);
+      spells =
+          reads-spells t (rw (ap (λ (r : Bool × List W.Word). r .1) w) at
+          (words-read t k 0 (ap (λ (r : Bool × List W.Word). r .0) w))) (omega arith);
       fits = f;
       fresh = is-fresh [] os n;
       borne = is-borne (O.resources os) (objectUses os) b;
@@ -115,7 +120,8 @@ digits i = (48 + i / 10) ∷ (48 + i % 10) ∷ []
 -- `ISR b07{PRIORITY=07;};`, from n down to 1
 unfoldable pub bodies : ℕ → List ℕ
 bodies zero = []
-bodies (suc i) = ascii "ISR b" ++ (digits (suc i) ++ (ascii "{PRIORITY=" ++ (digits (suc i) ++ (ascii ";};" ++ bodies i))))
+bodies (suc i) =
+    ascii "ISR b" ++ (digits (suc i) ++ (ascii "{PRIORITY=" ++ (digits (suc i) ++ (ascii ";};" ++ bodies i))))
 
 unfoldable isrs : ℕ → List Object
 isrs zero = []
@@ -157,7 +163,11 @@ used-fit (suc i) = fit-cons resource (used-fit i)
 
 -- the refusal of a text, its line and its column; it unfolds what the checker computes
 pub answer : OilRead → List ℕ
-unfolding digits bodies isrs attributes objects resources usesOf used taskAndUsed new allAmong wordsFrom priorities autostarts ascii isSpace isDigit isLetter isNameByte isLineByte span same spelledSort signOf decimal closing comment blank blanks wordAt nextWord wordOfBytes attributeWords attributesWords objectWords written among attributeUses objectUses O.resources has with usersWith usersFrom attributed attributedAll begun ended placed configOf numberAmong timedIn faultAt putAt askedAt numbersEnded faultFrom
+unfolding digits bodies isrs attributes objects resources usesOf used taskAndUsed new allAmong wordsFrom priorities
+    autostarts ascii isSpace isDigit isLetter isNameByte isLineByte span same spelledSort signOf decimal closing comment
+    blank blanks wordAt nextWord wordOfBytes attributeWords attributesWords objectWords written amongNames attributeUses
+    objectUses O.resources has with usersWith usersFrom attributed attributedAll begun ended placed configOf among
+    timedIn faultAt putAt askedAt numbersEnded faultFrom
 answer r = r .refusal ∷ r .line ∷ r .column ∷ []
 
 -- 32 bodies are accepted, and 33 are too many
@@ -170,12 +180,19 @@ bodies-limit = (ap answer (read 32 refl refl refl) ∙ refl, ap answer (read 33 
     read n w f b = oil-read (bodies n) (isrs n) (oil-of (bodies n) (isrs n) 300 w (isrs-fit n) f b)
 
 -- 16 resources are accepted, and 17 are too many
-pub resources-limit : (answer (readOil (resources 16)) ≡ 0 ∷ 0 ∷ 0 ∷ []) × (answer (readOil (resources 17)) ≡ 4 ∷ 0 ∷ 0 ∷ [])
+pub resources-limit : (answer (readOil (resources 16)) ≡ 0 ∷ 0 ∷ 0 ∷ [])
+    × (answer (readOil (resources 17)) ≡ 4 ∷ 0 ∷ 0 ∷ [])
 unfolding answer
-resources-limit = (ap answer (read 16 refl (task refl (omega arith)) refl refl) ∙ refl, ap answer (read 17 refl (task refl (omega arith)) refl refl) ∙ refl)
+resources-limit = (
+  ap answer (read 16 refl (task refl (omega arith)) refl refl)
+      ∙ refl,
+  ap answer (read 17 refl (task refl (omega arith)) refl refl) ∙ refl,
+)
   where
     read : (n : ℕ) → wordsFrom 300 (resources n) 0 ≡ (true, written (taskAndUsed n))
         → Fits (record { kind = taskSort; called = 116 ∷ []; attributes = priority 1 ∷ usesOf n })
         → new [] (taskAndUsed n) ≡ true → allAmong (O.resources (taskAndUsed n)) (objectUses (taskAndUsed n)) ≡ true
         → readOil (resources n) ≡ ranged (configOf (taskAndUsed n))
-    read n w t f b = oil-read (resources n) (taskAndUsed n) (oil-of (resources n) (taskAndUsed n) 300 w (fit-cons t (used-fit n)) f b)
+    read n w t f b =
+        oil-read (resources n) (taskAndUsed n)
+        (oil-of (resources n) (taskAndUsed n) 300 w (fit-cons t (used-fit n)) f b)

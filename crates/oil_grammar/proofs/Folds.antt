@@ -19,21 +19,22 @@ use Rattle.oil_grammar.specs.declared.Want.the-variants.{Object, Name, O
 use Rattle.oil_grammar.specs.Word as W
 use Rattle.oil_grammar.specs.Word.{mark, name, number, sortOf, same, decimal, trueSort, openSort, closeSort, semicolonSort, nameSort, numberSort, endSort}
 use Rattle.oil_grammar.specs.Object as O
-use Rattle.oil_grammar.specs.Object.{priority, autostart, uses, isResource, attributeWords, attributesWords, written, among, resources, attributeUses, objectUses}
+use Rattle.oil_grammar.specs.Object.{priority, autostart, uses, isResource, attributeWords, attributesWords, written, amongNames, resources, attributeUses, objectUses}
 use Rattle.oil_grammar.specs.Meaning.{held, numberAfter, usersWith, usersFrom, kindOf, startOf, attributed, attributedAll, begun, placed}
 use Rattle.oil_grammar.specs.Meaning as Meaning
 use Rattle.oil_grammar.specs.Grammar.{Borne, borne-nil, borne-cons}
-use Rattle.oil_grammar.specs.Next.{nextWord, spelling, wordOfBytes, wordIn}
+use Rattle.oil_grammar.specs.Next.{wordOfBytes}
 use Rattle.oil_grammar.specs.Machine.{fault, faultAt, after, afterAt, attributeBegun, fresh, namesAt, namesObject, namesResource, usesAt, usesResource}
 use Rattle.oil_grammar.specs.Walk.{bears, borne, found, unborneAt, unborne, numberedAt, numbered, marked, mask, putAt, put, fill}
 use Rattle.oil_grammar.proofs.Spelling.{by-test, false-true}
-use Rattle.oil_grammar.proofs.Lexing.{Reads, ended, reads}
+use Rattle.oil_grammar.proofs.Lexing.{Reads, ended, reads, sortFrom, spelledFrom, wordFrom}
 use Rattle.oil_grammar.proofs.Accepting.{bytesOf, Accepts, goes, only-that, name-wanted, sort-back, bytes-back, cond-or}
 use Rattle.oil_grammar.proofs.Objects.{at, object-words}
 
 pub resourcesIn : Progress → List W.Word → List (List ℕ)
 resourcesIn s [] = []
-resourcesIn s (w ∷ ws) = cond (namesResource s) (bytesOf w ∷ resourcesIn (after s (sortOf w)) ws) (resourcesIn (after s (sortOf w)) ws)
+resourcesIn s (w ∷ ws) =
+    cond (namesResource s) (bytesOf w ∷ resourcesIn (after s (sortOf w)) ws) (resourcesIn (after s (sortOf w)) ws)
 
 pub usesIn : Progress → List W.Word → List (List ℕ)
 usesIn s [] = []
@@ -92,8 +93,8 @@ unfolding wordOfBytes
 number-back n x e = rw e
 
 -- a word and its bytes say the same to a configuration
-put-word : (v : Want) (u : List ℕ → ℕ) (s : Progress) (c : Config) (n : ℕ) (x : List ℕ) → n < endSort → faultAt v s n ≡ 0
-    → putAt v u s c n x ≡ putWord v u s c (wordOfBytes n x)
+put-word : (v : Want) (u : List ℕ → ℕ) (s : Progress) (c : Config) (n : ℕ) (x : List ℕ) → n < endSort
+    → faultAt v s n ≡ 0 → putAt v u s c n x ≡ putWord v u s c (wordOfBytes n x)
 unfolding putAt putWord faultAt
 put-word Object u s c n x l f = rw (sort-back n x l)
 put-word Name u s c n x l f = rw (bytes-back n x (only-that nameSort n f))
@@ -110,98 +111,101 @@ put-word ObjectEnd u s c n x l f = refl
 
 module _ (t : List ℕ) where
   -- of a word that is in order: its sort, and its bytes where a name is wanted
-  in-order : (a : ℕ) (s : Progress) → leb endSort (nextWord t a .sort) ≡ false → fault s (sortOf (wordIn t (nextWord t a))) ≡ 0
-      → (sortOf (wordIn t (nextWord t a)) ≡ nextWord t a .sort) × (fault s (nextWord t a .sort) ≡ 0) × (nextWord t a .sort < endSort)
+  in-order : (a : ℕ) (s : Progress) → leb endSort (sortFrom t a) ≡ false → fault s (sortOf (wordFrom t a)) ≡ 0
+      → (sortOf (wordFrom t a) ≡ sortFrom t a) × (fault s (sortFrom t a) ≡ 0) × (sortFrom t a < endSort)
   in-order a s l f =
-      let m = leb-false endSort (nextWord t a .sort) l in
-      let b = sort-back (nextWord t a .sort) (spelling t (nextWord t a)) m in
+      let m = leb-false endSort (sortFrom t a) l in
+      let b = sort-back (sortFrom t a) (spelledFrom t a) m in
       (b, rw b at f, m)
 
-  pub borne-resources : {a : ℕ} {ws : List W.Word} → Reads t a ws → (s : Progress) (seen : List ℕ → Bool) → Accepts s seen ws → (x : List ℕ)
-      → borne (length ws) t a s true x ≡ among x (resourcesIn s ws)
-  unfolding borne bears resourcesIn among
+  pub borne-resources : {a : ℕ} {ws : List W.Word} → Reads t a ws → (s : Progress) (seen : List ℕ → Bool)
+      → Accepts s seen ws → (x : List ℕ) → borne (length ws) t a s true x ≡ amongNames x (resourcesIn s ws)
+  unfolding borne bears resourcesIn amongNames
   borne-resources (ended e) s seen acc x = refl
   borne-resources (reads {at = a} {ws = ws} l r) s seen (goes pr f b acc) x =
       let o = in-order a s l f in
-      let i = borne-resources r (after s (nextWord t a .sort)) _ (rw (o .0) at acc) x in
+      let i = borne-resources r (after s (sortFrom t a)) _ (rw (o .0) at acc) x in
       by-test (namesResource s)
       (λ e.
-      let y = bytes-back (nextWord t a .sort) (spelling t (nextWord t a)) (name-wanted (s .want) s (nextWord t a .sort) (left-true
-      (namesObject s) _ e) (o .1)) in
-      rw (e, o .0, y) (cond-or (same (spelling t (nextWord t a)) x) _ ∙ ap (λ (z : Bool). same (spelling t (nextWord t a)) x || z) i))
+      let y = bytes-back (sortFrom t a) (spelledFrom t a)
+      (name-wanted (s .want) s (sortFrom t a) (left-true (namesObject s) _ e) (o .1)) in
+      rw (e, o .0, y) (cond-or (same (spelledFrom t a) x) _ ∙ ap (λ (z : Bool). same (spelledFrom t a) x || z) i))
       (λ e. rw (e, o .0) i)
 
-  pub mask-words : {a : ℕ} {ws : List W.Word} → Reads t a ws → (s : Progress) (seen : List ℕ → Bool) → Accepts s seen ws → (x : List ℕ) (b m : ℕ)
-      → mask (length ws) t a s x b m ≡ maskIn s x b m ws
+  pub mask-words : {a : ℕ} {ws : List W.Word} → Reads t a ws → (s : Progress) (seen : List ℕ → Bool) → Accepts s seen ws
+      → (x : List ℕ) (b m : ℕ) → mask (length ws) t a s x b m ≡ maskIn s x b m ws
   unfolding mask maskIn marked
   mask-words (ended e) s seen acc x b m = refl
   mask-words (reads {at = a} {ws = ws} l r) s seen (goes pr f n acc) x b m =
       let o = in-order a s l f in
-      let y : marked s (spelling t (nextWord t a)) x b m ≡ marked s (bytesOf (wordIn t (nextWord t a))) x b m =
+      let y : marked s (spelledFrom t a) x b m ≡ marked s (bytesOf (wordFrom t a)) x b m =
       by-test (usesResource s)
       (λ e. ap (λ (z : List ℕ). marked s z x b m)
-      (sym (bytes-back (nextWord t a .sort) (spelling t (nextWord t a)) (use-wanted (s .want) s (nextWord t a .sort) e (o .1)))))
+      (sym (bytes-back (sortFrom t a) (spelledFrom t a) (use-wanted (s .want) s (sortFrom t a) e (o .1)))))
       (λ e. rw e) in
-      mask-words r (after s (nextWord t a .sort)) _ (rw (o .0) at acc) x (numbered s b) (marked s (spelling t (nextWord t a)) x b m)
-      ∙ ap (λ (k : ℕ). maskIn (after s (nextWord t a .sort)) x (numbered s b) k ws) y
-      ∙ ap (λ (k : ℕ). maskIn (after s k) x (numbered s b) (marked s (bytesOf (wordIn t (nextWord t a))) x b m) ws) (sym (o .0))
+      mask-words r (after s (sortFrom t a)) _ (rw (o .0) at acc) x (numbered s b) (marked s (spelledFrom t a) x b m)
+      ∙ ap (λ (k : ℕ). maskIn (after s (sortFrom t a)) x (numbered s b) k ws) y
+      ∙ ap (λ (k : ℕ). maskIn (after s k) x (numbered s b) (marked s (bytesOf (wordFrom t a)) x b m) ws) (sym (o .0))
 
-  pub fill-words : {a : ℕ} {ws : List W.Word} → Reads t a ws → (s : Progress) (seen : List ℕ → Bool) → Accepts s seen ws → (u : List ℕ → ℕ)
+  pub fill-words : {a : ℕ} {ws : List W.Word} → Reads t a ws → (s : Progress) (seen : List ℕ → Bool) → Accepts s seen ws
+      → (u : List ℕ → ℕ)
       (c : Config)
       → fill (length ws) t a s u c ≡ fillIn s u c ws
   unfolding fill fillIn
   fill-words (ended e) s seen acc u c = refl
   fill-words (reads {at = a} {ws = ws} l r) s seen (goes pr f n acc) u c =
       let o = in-order a s l f in
-      let p = put-word (s .want) u s c (nextWord t a .sort) (spelling t (nextWord t a)) (o .2) (o .1) in
-      fill-words r (after s (nextWord t a .sort)) _ (rw (o .0) at acc) u (put u s c (nextWord t a .sort) (spelling t (nextWord t a)))
-      ∙ ap (λ (d : Config). fillIn (after s (nextWord t a .sort)) u d ws) p
-      ∙ ap (λ (k : ℕ). fillIn (after s k) u (putWord (s .want) u s c (wordIn t (nextWord t a))) ws) (sym (o .0))
+      let p = put-word (s .want) u s c (sortFrom t a) (spelledFrom t a) (o .2) (o .1) in
+      fill-words r (after s (sortFrom t a)) _ (rw (o .0) at acc) u (put u s c (sortFrom t a) (spelledFrom t a))
+      ∙ ap (λ (d : Config). fillIn (after s (sortFrom t a)) u d ws) p
+      ∙ ap (λ (k : ℕ). fillIn (after s k) u (putWord (s .want) u s c (wordFrom t a)) ws) (sym (o .0))
 
   -- the uses that no RESOURCE bears
-  module _ (n : ℕ) (rs : List (List ℕ)) (q : (x : List ℕ) → borne n t 0 fresh true x ≡ among x rs) where
-    pub unborne-none : {a : ℕ} {ws : List W.Word} → Reads t a ws → (s : Progress) (seen : List ℕ → Bool) → Accepts s seen ws
-        → unborne (length ws) t a s n .refusal ≡ 0 → Borne rs (usesIn s ws)
+  module _ (n : ℕ) (rs : List (List ℕ)) (q : (x : List ℕ) → borne n t 0 fresh true x ≡ amongNames x rs) where
+    pub unborne-none : {a : ℕ} {ws : List W.Word} → Reads t a ws → (s : Progress) (seen : List ℕ → Bool)
+        → Accepts s seen ws → unborne (length ws) t a s n .refusal ≡ 0 → Borne rs (usesIn s ws)
     unfolding unborne unborneAt usesIn
     unborne-none (ended e) s seen acc z = borne-nil
     unborne-none (reads {at = a} {ws = ws} l r) s seen (goes pr f b acc) z =
         let o = in-order a s l f in
         by-test (usesResource s)
         (λ e.
-        let y = bytes-back (nextWord t a .sort) (spelling t (nextWord t a)) (use-wanted (s .want) s (nextWord t a .sort) e (o .1)) in
-        by-test (borne n t 0 fresh true (spelling t (nextWord t a)))
+        let y = bytes-back (sortFrom t a) (spelledFrom t a) (use-wanted (s .want) s (sortFrom t a) e (o .1)) in
+        by-test (borne n t 0 fresh true (spelledFrom t a))
         (λ g. rw (e, o .0, y)
-        (borne-cons (sym (q (spelling t (nextWord t a))) ∙ g) (unborne-none r (after s (nextWord t a .sort)) _ (rw (o .0) at acc) (rw (e, g) at z))))
+        (borne-cons (sym (q (spelledFrom t a)) ∙ g)
+        (unborne-none r (after s (sortFrom t a)) _ (rw (o .0) at acc) (rw (e, g) at z))))
         (λ g. let h : _≡_ {A = ℕ} 64 0 = rw (e, g) at z in absurd (omega arith)))
-        (λ e. rw (e, o .0) (unborne-none r (after s (nextWord t a .sort)) _ (rw (o .0) at acc) (rw e at z)))
+        (λ e. rw (e, o .0) (unborne-none r (after s (sortFrom t a)) _ (rw (o .0) at acc) (rw e at z)))
 
-    pub none-unborne : {a : ℕ} {ws : List W.Word} → Reads t a ws → (s : Progress) (seen : List ℕ → Bool) → Accepts s seen ws
-        → Borne rs (usesIn s ws) → unborne (length ws) t a s n ≡ found n
+    pub none-unborne : {a : ℕ} {ws : List W.Word} → Reads t a ws → (s : Progress) (seen : List ℕ → Bool)
+        → Accepts s seen ws → Borne rs (usesIn s ws) → unborne (length ws) t a s n ≡ found n
     unfolding unborne unborneAt usesIn
     none-unborne (ended e) s seen acc z = refl
     none-unborne (reads {at = a} {ws = ws} l r) s seen (goes pr f b acc) z =
         let o = in-order a s l f in
         by-test (usesResource s)
         (λ e.
-        let y = bytes-back (nextWord t a .sort) (spelling t (nextWord t a)) (use-wanted (s .want) s (nextWord t a .sort) e (o .1)) in
+        let y = bytes-back (sortFrom t a) (spelledFrom t a) (use-wanted (s .want) s (sortFrom t a) e (o .1)) in
         let k = borne-split _ _ (rw (e, o .0, y) at z) in
-        rw (e, q (spelling t (nextWord t a)) ∙ k .0) (none-unborne r (after s (nextWord t a .sort)) _ (rw (o .0) at acc) (k .1)))
-        (λ e. rw e (none-unborne r (after s (nextWord t a .sort)) _ (rw (o .0) at acc) (rw (e, o .0) at z)))
+        rw (e, q (spelledFrom t a) ∙ k .0) (none-unborne r (after s (sortFrom t a)) _ (rw (o .0) at acc) (k .1)))
+        (λ e. rw e (none-unborne r (after s (sortFrom t a)) _ (rw (o .0) at acc) (rw (e, o .0) at z)))
       where
-        borne-split : (x : List ℕ) (xs : List (List ℕ)) → Borne rs (x ∷ xs) → (among x rs ≡ true) × Borne rs xs
+        borne-split : (x : List ℕ) (xs : List (List ℕ)) → Borne rs (x ∷ xs) → (amongNames x rs ≡ true) × Borne rs xs
         borne-split x xs (borne-cons h k) = (h, k)
 
 -- on the words of attributes, whatever is given already; R is what the words after them come to
 module _ (k : ℕ) (more : List W.Word) where
-  resources-attributes : (R : List (List ℕ)) → ((p a : Bool) → resourcesIn (at Attribute k p a) more ≡ R) → (al : List O.Attribute) (p a : Bool)
-      → resourcesIn (at Attribute k p a) (attributesWords al ++ more) ≡ R
+  resources-attributes : (R : List (List ℕ)) → ((p a : Bool) → resourcesIn (at Attribute k p a) more ≡ R)
+      → (al : List O.Attribute) (p a : Bool) → resourcesIn (at Attribute k p a) (attributesWords al ++ more) ≡ R
   unfolding resourcesIn attributesWords attributeWords afterAt attributeBegun namesAt sortOf
   resources-attributes R h [] p a = h p a
   resources-attributes R h (priority n ∷ al) p a = resources-attributes R h al true a
   resources-attributes R h (autostart b ∷ al) p a = resources-attributes R h al p true
   resources-attributes R h (uses x ∷ al) p a = resources-attributes R h al p a
 
-  uses-attributes : (R : List (List ℕ)) → ((p a : Bool) → usesIn (at Attribute k p a) more ≡ R) → (al : List O.Attribute) (p a : Bool)
+  uses-attributes : (R : List (List ℕ)) → ((p a : Bool) → usesIn (at Attribute k p a) more ≡ R)
+      → (al : List O.Attribute) (p a : Bool)
       → usesIn (at Attribute k p a) (attributesWords al ++ more) ≡ attributeUses al ++ R
   unfolding usesIn attributesWords attributeWords attributeUses afterAt attributeBegun usesAt sortOf
   uses-attributes R h [] p a = h p a
@@ -209,16 +213,20 @@ module _ (k : ℕ) (more : List W.Word) where
   uses-attributes R h (autostart b ∷ al) p a = uses-attributes R h al p true
   uses-attributes R h (uses x ∷ al) p a = ap (λ (l : List (List ℕ)). x ∷ l) (uses-attributes R h al p a)
 
-  mask-attributes : (x : List ℕ) (b : ℕ) (R : ℕ → ℕ) → ((p a : Bool) (m : ℕ) → maskIn (at Attribute k p a) x b m more ≡ R m)
-      → (al : List O.Attribute) (p a : Bool) (m : ℕ) → maskIn (at Attribute k p a) x b m (attributesWords al ++ more) ≡ R (usersWith x b m al)
+  mask-attributes : (x : List ℕ) (b : ℕ) (R : ℕ → ℕ)
+      → ((p a : Bool) (m : ℕ) → maskIn (at Attribute k p a) x b m more ≡ R m)
+      → (al : List O.Attribute) (p a : Bool) (m : ℕ) → maskIn (at Attribute k p a) x b m (attributesWords al ++ more)
+      ≡ R (usersWith x b m al)
   unfolding maskIn marked numberedAt attributesWords attributeWords usersWith afterAt attributeBegun usesAt sortOf
   mask-attributes x b R h [] p a m = h p a m
   mask-attributes x b R h (priority n ∷ al) p a m = mask-attributes x b R h al true a m
   mask-attributes x b R h (autostart v ∷ al) p a m = mask-attributes x b R h al p true m
   mask-attributes x b R h (uses y ∷ al) p a m = mask-attributes x b R h al p a (cond (same y x) (with m b) m)
 
-  fill-attributes : (u : List ℕ → ℕ) (R : Config → Config) → ((p a : Bool) (c : Config) → fillIn (at Attribute k p a) u c more ≡ R c)
-      → (al : List O.Attribute) (p a : Bool) (c : Config) → fillIn (at Attribute k p a) u c (attributesWords al ++ more) ≡ R (attributedAll c al)
+  fill-attributes : (u : List ℕ → ℕ) (R : Config → Config)
+      → ((p a : Bool) (c : Config) → fillIn (at Attribute k p a) u c more ≡ R c)
+      → (al : List O.Attribute) (p a : Bool) (c : Config) → fillIn (at Attribute k p a) u c (attributesWords al ++ more)
+      ≡ R (attributedAll c al)
   unfolding fillIn putWord attributesWords attributeWords attributedAll attributed afterAt attributeBegun sortOf
   fill-attributes u R h [] p a c = h p a c
   fill-attributes u R h (priority n ∷ al) p a c = fill-attributes u R h al true a (withPriority c (c .bodies) (held n))
@@ -227,7 +235,8 @@ module _ (k : ℕ) (more : List W.Word) where
   fill-attributes u R h (uses x ∷ al) p a c = fill-attributes u R h al p a c
 
 -- on the words of objects
-pub resources-written : (os : List O.Object) (k : ℕ) (p a : Bool) → resourcesIn (at Object k p a) (written os) ≡ resources os
+pub resources-written : (os : List O.Object) (k : ℕ) (p a : Bool)
+    → resourcesIn (at Object k p a) (written os) ≡ resources os
 unfolding resources resourcesIn written afterAt attributeBegun namesAt sortOf
 resources-written [] k p a = refl
 resources-written (o ∷ os) k p a =
@@ -246,29 +255,36 @@ uses-written (o ∷ os) k p a =
     ∙ uses-attributes (o .kind) (mark closeSort ∷ mark semicolonSort ∷ written os) (objectUses os)
     (λ p′ a′. uses-written os (o .kind) p′ a′) (o .attributes) false false
 
-pub mask-written : (os : List O.Object) (x : List ℕ) (b m k : ℕ) (p a : Bool) → maskIn (at Object k p a) x b m (written os) ≡ usersFrom x b m os
+pub mask-written : (os : List O.Object) (x : List ℕ) (b m k : ℕ) (p a : Bool)
+    → maskIn (at Object k p a) x b m (written os) ≡ usersFrom x b m os
 unfolding usersFrom maskIn written marked numberedAt afterAt attributeBegun usesAt sortOf
 mask-written [] x b m k p a = refl
 mask-written (o ∷ os) x b m k p a =
     ap (maskIn (at Object k p a) x b m) (object-words o os)
-    ∙ mask-attributes (o .kind) (mark closeSort ∷ mark semicolonSort ∷ written os) x b (λ n. usersFrom x (numberAfter (o .kind) b) n os)
+    ∙ mask-attributes (o .kind) (mark closeSort ∷ mark semicolonSort ∷ written os) x b
+    (λ n. usersFrom x (numberAfter (o .kind) b) n os)
     (λ p′ a′ n. mask-written os x (numberAfter (o .kind) b) n (o .kind) p′ a′) (o .attributes) false false m
 
-pub fill-written : (os : List O.Object) (u : List ℕ → ℕ) (c : Config) (k : ℕ) (p a : Bool) → fillIn (at Object k p a) u c (written os) ≡ placed u c os
+pub fill-written : (os : List O.Object) (u : List ℕ → ℕ) (c : Config) (k : ℕ) (p a : Bool)
+    → fillIn (at Object k p a) u c (written os) ≡ placed u c os
 unfolding placed begun fillIn putWord written afterAt attributeBegun sortOf
 fill-written [] u c k p a = refl
 fill-written (o ∷ os) u c k p a =
     ap (fillIn (at Object k p a) u c) (object-words o os)
     ∙ begins o
-    ∙ fill-attributes (o .kind) (mark closeSort ∷ mark semicolonSort ∷ written os) u (λ d. placed u (Meaning.ended (o .kind) d) os)
+    ∙ fill-attributes (o .kind) (mark closeSort ∷ mark semicolonSort ∷ written os) u
+    (λ d. placed u (Meaning.ended (o .kind) d) os)
     (λ p′ a′ d. fill-written os u (Meaning.ended (o .kind) d) (o .kind) p′ a′) (o .attributes) false false (begun u c o)
   where
-    begun-words : (o : O.Object) → putWord Name u (at Name (o .kind) false false) (putWord Object u (at Object k p a) c (mark (o .kind)))
+    begun-words : (o : O.Object)
+        → putWord Name u (at Name (o .kind) false false) (putWord Object u (at Object k p a) c (mark (o .kind)))
         (name (o .called)) ≡ begun u c o
     begun-words o = by-test (isResource (o .kind)) (λ e. rw e) (λ e. rw e)
 
-    begins : (o : O.Object) → fillIn (at Object k p a) u c (mark (o .kind) ∷ name (o .called) ∷ mark openSort ∷ (attributesWords
-        (o .attributes) ++ (mark closeSort ∷ mark semicolonSort ∷ written os)))
+    begins : (o : O.Object)
+        → fillIn (at Object k p a) u c
+        (mark (o .kind) ∷ name (o .called) ∷ mark openSort ∷
+        (attributesWords (o .attributes) ++ (mark closeSort ∷ mark semicolonSort ∷ written os)))
         ≡ fillIn (at Attribute (o .kind) false false) u (begun u c o) (attributesWords (o .attributes) ++
         (mark closeSort ∷ mark semicolonSort ∷ written os))
     begins o =

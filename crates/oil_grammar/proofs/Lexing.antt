@@ -18,7 +18,7 @@ use Rattle.oil_grammar.specs.Byte.{slash, star, isSpace, isLetter, isDig
 use Rattle.oil_grammar.specs.Word as W
 use Rattle.oil_grammar.specs.Word.{mark, number, spelledSort, wordOfSort, spelled, signOf, decimal, numberSort, endSort}
 use Rattle.oil_grammar.specs.Text.{Closes, here, later, Spells, nothing, space, lineComment, blockComment, sign, letters, digits}
-use Rattle.oil_grammar.specs.Next.{closing, comment, blank, blanks, wordAt, skipped, nextWord, wordOfBytes, wordIn}
+use Rattle.oil_grammar.specs.Next.{closing, comment, blank, blanks, wordAt, skipped, nextWord, spelling, wordOfBytes, wordIn}
 use Rattle.oil_grammar.proofs.Spelling.{by-test, false-true}
 use Rattle.oil_grammar.proofs.Span.{span-le, longest, longest-span}
 use Rattle.oil_grammar.proofs.Blank.{blank-le, blanks-none, blanks-some, skip-more, skip-stopped}
@@ -63,7 +63,8 @@ space-le b e =
     (λ f. let h = in-range 9 13 b f in omega arith)
 
 -- a sign is one of four bytes
-sign-byte : (b : ℕ) → (signOf b ≡ 0 → ⊥) → (C : Type 0) → (b ≡ 123 → C) → (b ≡ 125 → C) → (b ≡ 61 → C) → (b ≡ 59 → C) → C
+sign-byte : (b : ℕ) → (signOf b ≡ 0 → ⊥) → (C : Type 0) → (b ≡ 123 → C) → (b ≡ 125 → C) → (b ≡ 61 → C) → (b ≡ 59 → C)
+    → C
 unfolding signOf
 sign-byte b d C f g h k =
     by-eq b 123 f
@@ -82,10 +83,14 @@ slash-no-space b e = not-so (isSpace b) (λ f. let l = space-le b f in absurd (o
 
 -- a sign is no space, slash, letter or digit
 sign-range : (b : ℕ) → (signOf b ≡ 0 → ⊥) → (33 ≤ b) × (b ≡ slash → ⊥) × (isLetter b ≡ false) × (isDigit b ≡ false)
-sign-range b d = sign-byte b d _ (λ e. facts (λ h. omega arith) (omega arith) (omega arith)) (λ e. facts (λ h. omega arith) (omega arith)
-    (omega arith)) (λ e. facts (λ h. omega arith) (omega arith) (omega arith)) (λ e. facts (λ h. omega arith) (omega arith) (omega arith))
+sign-range b d =
+    sign-byte b d _ (λ e. facts (λ h. omega arith) (omega arith) (omega arith))
+    (λ e. facts (λ h. omega arith) (omega arith)
+    (omega arith)) (λ e. facts (λ h. omega arith) (omega arith) (omega arith))
+    (λ e. facts (λ h. omega arith) (omega arith) (omega arith))
   where
-    facts : ((65 ≤ b) × (b ≤ 122) → ⊥) → 58 ≤ b → 58 ≤ b → (33 ≤ b) × (b ≡ slash → ⊥) × (isLetter b ≡ false) × (isDigit b ≡ false)
+    facts : ((65 ≤ b) × (b ≤ 122) → ⊥) → 58 ≤ b → 58 ≤ b → (33 ≤ b) × (b ≡ slash → ⊥) × (isLetter b ≡ false)
+        × (isDigit b ≡ false)
     facts n h k = (
       omega arith,
       (λ f. omega arith),
@@ -106,12 +111,14 @@ closes (b ∷ c ∷ bs) d =
     (λ n. rw (e, ne-eqb (closing (c ∷ bs)) 0 n) (later (neither e) (closes (c ∷ bs) n))))
   where
     both : (eqb b star && eqb c slash) ≡ true → Closes (b ∷ c ∷ bs) bs
-    both e = by-test (eqb b star) (λ f. here (eqb-true b star f) (eqb-true c slash (rw f at e))) (λ f. absurd (false-true (rw f at e)))
+    both e =
+        by-test (eqb b star) (λ f. here (eqb-true b star f) (eqb-true c slash (rw f at e)))
+        (λ f. absurd (false-true (rw f at e)))
 
     neither : (eqb b star && eqb c slash) ≡ false → b ≡ star → c ≡ slash → ⊥
     neither e f g = false-true (sym e ∙ rw (eq-eqb b star f, eq-eqb c slash g))
 
-pub closes-end : {bs r : List ℕ} → Closes bs r → (closing bs ≡ 0 → ⊥) × (r ≡ drop (closing bs) bs)
+closes-end : {bs r : List ℕ} → Closes bs r → (closing bs ≡ 0 → ⊥) × (r ≡ drop (closing bs) bs)
 unfolding closing
 closes-end (here {b = b} {c = c} e f) = rw (eq-eqb b star e, eq-eqb c slash f) ((λ z. omega arith), refl)
 closes-end (later {b = b} {c = c} {bs = bs} d l) =
@@ -119,7 +126,8 @@ closes-end (later {b = b} {c = c} {bs = bs} d l) =
     rw (not-so (eqb b star && eqb c slash) (λ e. both e), ne-eqb (closing (c ∷ bs)) 0 (n .0)) ((λ z. omega arith), n .1)
   where
     both : (eqb b star && eqb c slash) ≡ true → ⊥
-    both e = by-test (eqb b star) (λ f. d (eqb-true b star f) (eqb-true c slash (rw f at e))) (λ f. false-true (rw f at e))
+    both e =
+        by-test (eqb b star) (λ f. d (eqb-true b star f) (eqb-true c slash (rw f at e))) (λ f. false-true (rw f at e))
 
 -- n + 2 bytes of a list that has two
 drop-two : (n : ℕ) (b c : ℕ) (bs : List ℕ) → drop (n + 2) (b ∷ c ∷ bs) ≡ drop n bs
@@ -138,7 +146,8 @@ blank-spells (b ∷ c ∷ bs) ws d s =
     (λ e. space e (rw e at s))
     (λ e. by-test (eqb b slash)
     (λ f. by-test (eqb c slash)
-    (λ g. lineComment (eqb-true b slash f) (eqb-true c slash g) (longest isLineByte bs) (rw (e, f, g, drop-two (span isLineByte bs) b c bs) at s))
+    (λ g. lineComment (eqb-true b slash f) (eqb-true c slash g) (longest isLineByte bs)
+    (rw (e, f, g, drop-two (span isLineByte bs) b c bs) at s))
     (λ g. by-test (eqb c star)
     (λ h. by-eq (closing bs) 0
     (λ z. absurd (d (rw (e, f, g, h, eq-eqb (closing bs) 0 z))))
@@ -181,7 +190,8 @@ unfolding wordOfBytes
 sign-word b x = rw (le-leb (signOf b) 11 (signOf-le b))
 
 -- a word at the head of a list, and what follows it
-word-spells : (p : ℕ) (bs : List ℕ) (ws : List W.Word) → leb endSort (wordAt p bs .sort) ≡ false → Spells (drop (wordAt p bs .end - p) bs) ws
+word-spells : (p : ℕ) (bs : List ℕ) (ws : List W.Word) → leb endSort (wordAt p bs .sort) ≡ false
+    → Spells (drop (wordAt p bs .end - p) bs) ws
     → Spells bs (wordOfBytes (wordAt p bs .sort) (take (wordAt p bs .end - p) bs) ∷ ws)
 unfolding wordAt
 word-spells p [] ws d s = absurd (false-true (sym d))
@@ -215,7 +225,18 @@ end-empty p (b ∷ bs) e =
     (λ g. let h : _≡_ {A = ℕ} 13 14 = rw (f, g) at e in absurd (omega arith))
     (λ g. by-eq (signOf b) 0
     (λ z. let h : _≡_ {A = ℕ} 15 14 = rw (f, g, eq-eqb (signOf b) 0 z) at e in absurd (omega arith))
-    (λ n. let h : signOf b ≡ 14 = rw (f, g, ne-eqb (signOf b) 0 n) at e in let l = signOf-le b in absurd (omega arith))))
+    (λ n. let h : signOf b ≡ 14 = rw (f, g, ne-eqb (signOf b) 0 n) at e in let l = signOf-le b in
+    absurd (omega arith))))
+
+-- of the next word from a place on: its sort, what it spells, the word of the grammar that it is
+abbrev pub sortFrom : List ℕ → ℕ → ℕ
+sortFrom t at = nextWord t at .sort
+
+abbrev pub spelledFrom : List ℕ → ℕ → List ℕ
+spelledFrom t at = spelling t (nextWord t at)
+
+abbrev pub wordFrom : List ℕ → ℕ → W.Word
+wordFrom t at = wordIn t (nextWord t at)
 
 pub data Reads (t : List ℕ) : ℕ → List W.Word → Type 0 where
   ended : {at : ℕ} → nextWord t at .sort ≡ endSort → Reads t at []
@@ -229,12 +250,14 @@ module _ (t : List ℕ) where
 
   pub reads-spells : {at : ℕ} {ws : List W.Word} → Reads t at ws → at ≤ length t → Spells (drop at t) ws
   unfolding nextWord
-  reads-spells (ended {at = at} e) h = skip-spells at [] (rw (end-empty (skipped t at) (drop (skipped t at) t) e) nothing)
+  reads-spells (ended {at = at} e) h =
+      skip-spells at [] (rw (end-empty (skipped t at) (drop (skipped t at) t) e) nothing)
   reads-spells (reads {at = at} {ws = ws} d r) h =
       let n = next-inside t at h in
       let l = word-lies (skipped t at) (drop (skipped t at) t) in
       let rest = reads-spells r (n .inside) in
-      let q : skipped t at + (nextWord t at .end - skipped t at) ≡ nextWord t at .end = omega (arith, l .forward, l .at-start) in
+      let q : skipped t at + (nextWord t at .end - skipped t at) ≡ nextWord t at .end =
+      omega (arith, l .forward, l .at-start) in
       let s = word-spells (skipped t at) (drop (skipped t at) t) ws d
       (rw (drop-drop (nextWord t at .end - skipped t at) (skipped t at) t, q) rest) in
       skip-spells at (wordIn t (nextWord t at) ∷ ws) (rw (l .at-start) s)
@@ -249,7 +272,8 @@ module _ (t : List ℕ) where
       rw n at k
 
   -- a space or comment is passed
-  passed : (at : ℕ) (ws : List W.Word) → at ≤ length t → (blank (drop at t) ≡ 0 → ⊥) → Reads t (at + blank (drop at t)) ws → Reads t at ws
+  passed : (at : ℕ) (ws : List W.Word) → at ≤ length t → (blank (drop at t) ≡ 0 → ⊥)
+      → Reads t (at + blank (drop at t)) ws → Reads t at ws
   passed at ws h d r = reads-from at (at + blank (drop at t)) ws (skip-more t at h d) r
 
   blank-inside : (at : ℕ) → at ≤ length t → at + blank (drop at t) ≤ length t
@@ -263,14 +287,16 @@ module _ (t : List ℕ) where
   has-byte at b bs e = rw e at (length-drop at t)
 
   -- the bytes after a comment's two and n more
-  rest : (at b c : ℕ) (bs : List ℕ) (n : ℕ) → drop at t ≡ b ∷ c ∷ bs → blank (drop at t) ≡ n + 2 → drop (at + blank (drop at t)) t ≡ drop n bs
+  rest : (at b c : ℕ) (bs : List ℕ) (n : ℕ) → drop at t ≡ b ∷ c ∷ bs → blank (drop at t) ≡ n + 2
+      → drop (at + blank (drop at t)) t ≡ drop n bs
   rest at b c bs n e q =
       let k : at + (n + 2) ≡ at + suc (suc n) = omega arith in
       ap (λ (m : ℕ). drop (at + m) t) q ∙ ap (λ (m : ℕ). drop m t) k ∙ after-byte at (suc n) b (c ∷ bs) e
 
   -- a word that stands at a place
-  word-read : (at b n : ℕ) (bs : List ℕ) (ws : List W.Word) (v : W.Word) (s : ℕ) → drop at t ≡ b ∷ bs → blank (b ∷ bs) ≡ 0
-      → wordAt at (b ∷ bs) ≡ record { sort = s; start = at; end = at + suc n } → leb endSort s ≡ false → wordOfBytes s (b ∷ take n bs) ≡ v
+  word-read : (at b n : ℕ) (bs : List ℕ) (ws : List W.Word) (v : W.Word) (s : ℕ) → drop at t ≡ b ∷ bs
+      → blank (b ∷ bs) ≡ 0 → wordAt at (b ∷ bs) ≡ record { sort = s; start = at; end = at + suc n }
+      → leb endSort s ≡ false → wordOfBytes s (b ∷ take n bs) ≡ v
       → Reads t (at + suc n) ws → Reads t at (v ∷ ws)
   unfolding nextWord
   word-read at b n bs ws v s e z w d q r =
@@ -281,7 +307,8 @@ module _ (t : List ℕ) where
       let i : wordIn t (nextWord t at) ≡ v = rw (x, l, e) q in
       rw i at k
 
-  pub spells-reads : {bs : List ℕ} {ws : List W.Word} → Spells bs ws → (at : ℕ) → at ≤ length t → drop at t ≡ bs → Reads t at ws
+  pub spells-reads : {bs : List ℕ} {ws : List W.Word} → Spells bs ws → (at : ℕ) → at ≤ length t → drop at t ≡ bs
+      → Reads t at ws
   unfolding blank comment wordAt nextWord
   spells-reads nothing at h e =
       let p : skipped t at ≡ at = skip-stopped t at (rw e refl) in ended {at = at} (rw (p, e))
@@ -290,14 +317,23 @@ module _ (t : List ℕ) where
       let i = spells-reads s (at + 1) (let l = has-byte at b bs e in omega arith) (after-byte at 0 b bs e) in
       passed at ws h (λ z. omega arith) (rw n i)
   spells-reads (lineComment {b = b} {c = c} {bs = bs} {xs = xs} {r = r} {ws = ws} f g l s) at h e =
-      let n : blank (drop at t) ≡ span isLineByte bs + 2 = rw (e, slash-no-space b f, eq-eqb b slash f, eq-eqb c slash g) in
+      let n : blank (drop at t) ≡ span isLineByte bs + 2 =
+      rw (e, slash-no-space b f, eq-eqb b slash f, eq-eqb c slash g) in
       let i : Reads t (at + blank (drop at t)) ws =
-      spells-reads s (at + blank (drop at t)) (blank-inside at h) (rest at b c bs (span isLineByte bs) e n ∙ sym (longest-span isLineByte l .1)) in
+      spells-reads s (at + blank (drop at t)) (blank-inside at h)
+      (rest at b c bs (span isLineByte bs) e n ∙ sym (longest-span isLineByte l .1)) in
       passed at ws h (λ z. omega arith) i
   spells-reads (blockComment {b = b} {c = c} {bs = bs} {r = r} {ws = ws} f g l s) at h e =
       let m = closes-end l in
       let n : blank (drop at t) ≡ closing bs + 2 =
-      rw (e, slash-no-space b f, eq-eqb b slash f, ne-eqb c slash (λ k. omega arith), eq-eqb c star g, ne-eqb (closing bs) 0 (m .0)) in
+      rw (
+        e,
+        slash-no-space b f,
+        eq-eqb b slash f,
+        ne-eqb c slash (λ k. omega arith),
+        eq-eqb c star g,
+        ne-eqb (closing bs) 0 (m .0),
+      ) in
       let i : Reads t (at + blank (drop at t)) ws =
       spells-reads s (at + blank (drop at t)) (blank-inside at h) (rest at b c bs (closing bs) e n ∙ sym (m .1)) in
       passed at ws h (λ z. omega arith) i
@@ -305,21 +341,27 @@ module _ (t : List ℕ) where
       let i = spells-reads s (at + 1) (let l = has-byte at b bs e in omega arith) (after-byte at 0 b bs e) in
       let r = sign-range b f in
       word-read at b 0 bs ws (mark (signOf b)) (signOf b) e (begins-word b bs (r .0) (r .1))
-      (rw (r .2, r .3, ne-eqb (signOf b) 0 f)) (lt-leb endSort (signOf b) (let l = signOf-le b in omega arith)) (sign-word b (b ∷ [])) i
+      (rw (r .2, r .3, ne-eqb (signOf b) 0 f)) (lt-leb endSort (signOf b) (let l = signOf-le b in omega arith))
+      (sign-word b (b ∷ [])) i
   spells-reads (letters {b = b} {bs = bs} {xs = xs} {r = r} {ws = ws} f l s) at h e =
       let m = longest-span isNameByte l in
       let g = letter-range b f in
-      let i = spells-reads s (at + suc (span isNameByte bs)) (let k = has-byte at b bs e in let o = span-le isNameByte bs in omega arith)
+      let i = spells-reads s (at + suc (span isNameByte bs))
+      (let k = has-byte at b bs e in let o = span-le isNameByte bs in omega arith)
       (after-byte at (span isNameByte bs) b bs e ∙ sym (m .1)) in
       word-read at b (span isNameByte bs) bs ws (spelled (b ∷ xs)) (spelledSort (b ∷ take (span isNameByte bs) bs)) e
       (begins-word b bs (omega arith) (λ k. omega arith)) (rw f)
-      (lt-leb endSort (spelledSort (b ∷ take (span isNameByte bs) bs)) (let o = spelledSort-le (b ∷ take (span isNameByte bs) bs) in omega arith))
+      (lt-leb endSort (spelledSort (b ∷ take (span isNameByte bs) bs))
+      (let o = spelledSort-le (b ∷ take (span isNameByte bs) bs) in omega arith))
       (spelled-word (b ∷ take (span isNameByte bs) bs) ∙ ap (λ (x : List ℕ). spelled (b ∷ x)) (sym (m .0))) i
   spells-reads (digits {b = b} {bs = bs} {xs = xs} {r = r} {ws = ws} f l s) at h e =
       let m = longest-span isDigit l in
       let g = digit-range b f in
-      let i = spells-reads s (at + suc (span isDigit bs)) (let k = has-byte at b bs e in let o = span-le isDigit bs in omega arith)
+      let i = spells-reads s (at + suc (span isDigit bs)) (let k = has-byte at b bs e in let o = span-le isDigit bs in
+      omega arith)
       (after-byte at (span isDigit bs) b bs e ∙ sym (m .1)) in
       word-read at b (span isDigit bs) bs ws (number (decimal 0 (b ∷ xs))) 13 e
-      (begins-word b bs (omega arith) (λ k. omega arith)) (rw (not-so (isLetter b) (λ k. let o = letter-range b k in absurd (omega arith)), f))
-      refl (number-word (b ∷ take (span isDigit bs) bs) ∙ ap (λ (x : List ℕ). number (decimal 0 (b ∷ x))) (sym (m .0))) i
+      (begins-word b bs (omega arith) (λ k. omega arith))
+      (rw (not-so (isLetter b) (λ k. let o = letter-range b k in absurd (omega arith)), f))
+      refl (number-word (b ∷ take (span isDigit bs) bs) ∙ ap (λ (x : List ℕ). number (decimal 0 (b ∷ x))) (sym (m .0)))
+      i

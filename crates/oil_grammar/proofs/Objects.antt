@@ -12,7 +12,7 @@ use Rattle.oil_grammar.specs.declared.Want.the-variants.{Object, Attribu
 use Rattle.oil_grammar.specs.Word as W
 use Rattle.oil_grammar.specs.Word.{mark, name, number, sortOf, same, taskSort, isrSort, resourceSort, prioritySort, autostartSort, trueSort, falseSort, openSort, closeSort, equalsSort, semicolonSort}
 use Rattle.oil_grammar.specs.Object as O
-use Rattle.oil_grammar.specs.Object.{priority, autostart, uses, attributeWords, attributesWords, objectWords, written, priorities, autostarts, Fits, task, isr, resource, among}
+use Rattle.oil_grammar.specs.Object.{priority, autostart, uses, attributeWords, attributesWords, objectWords, written, priorities, autostarts, Fits, task, isr, resource, amongNames}
 use Rattle.oil_grammar.specs.Grammar.{AllFit, fit-nil, fit-cons, Fresh, fresh-nil, fresh-cons}
 use Rattle.oil_grammar.specs.Machine.{fault, faultAt, only, objectFault, bodyFault, attributeFault, valueFault, after, afterAt, attributeBegun, namesAt, namesObject}
 use Rattle.oil_grammar.proofs.Accepting.{proper-mark, proper-name, proper-number, Accepts, stops, goes}
@@ -22,8 +22,8 @@ abbrev pub at : Want → ℕ → Bool → Bool → Progress
 at v k p a = record { want = v; kind = k; priority = p; autostart = a }
 
 -- a mark that is in order and no name
-marked : (m : ℕ) → 1 ≤ m → m ≤ semicolonSort → {s : Progress} {seen : List ℕ → Bool} {ws : List W.Word} → fault s m ≡ 0 → namesObject s ≡ false
-    → Accepts (after s m) seen ws → Accepts s seen (mark m ∷ ws)
+marked : (m : ℕ) → 1 ≤ m → m ≤ semicolonSort → {s : Progress} {seen : List ℕ → Bool} {ws : List W.Word} → fault s m ≡ 0
+    → namesObject s ≡ false → Accepts (after s m) seen ws → Accepts s seen (mark m ∷ ws)
 unfolding sortOf
 marked m lo hi {s} {seen} {ws} f n a =
     goes {s = s} {seen = seen} {w = mark m} {ws = ws} (proper-mark lo hi) f (rw n) (rw n a)
@@ -45,22 +45,31 @@ module _ (seen : List ℕ → Bool) (k : ℕ) where
     unfolding faultAt afterAt only namesAt
     semicolon = marked semicolonSort (omega arith) (omega arith) refl refl rest
 
-    number-value : (n : ℕ) → Accepts (at PriorityEquals k p a) seen (mark equalsSort ∷ number n ∷ mark semicolonSort ∷ ws)
+    number-value : (n : ℕ)
+        → Accepts (at PriorityEquals k p a) seen (mark equalsSort ∷ number n ∷ mark semicolonSort ∷ ws)
     unfolding faultAt afterAt only namesAt sortOf
     number-value n = marked equalsSort (omega arith) (omega arith) refl refl (goes proper-number refl refl semicolon)
 
-    bool-value : (b : Bool) → Accepts (at AutostartEquals k p a) seen (mark equalsSort ∷ mark (cond b trueSort falseSort) ∷ mark semicolonSort ∷ ws)
+    bool-value : (b : Bool)
+        → Accepts (at AutostartEquals k p a) seen
+        (mark equalsSort ∷ mark (cond b trueSort falseSort) ∷ mark semicolonSort ∷ ws)
     unfolding faultAt afterAt only valueFault namesAt
-    bool-value true = marked equalsSort (omega arith) (omega arith) refl refl (marked trueSort (omega arith) (omega arith) refl refl semicolon)
-    bool-value false = marked equalsSort (omega arith) (omega arith) refl refl (marked falseSort (omega arith) (omega arith) refl refl semicolon)
+    bool-value true =
+        marked equalsSort (omega arith) (omega arith) refl refl
+        (marked trueSort (omega arith) (omega arith) refl refl semicolon)
+    bool-value false =
+        marked equalsSort (omega arith) (omega arith) refl refl
+        (marked falseSort (omega arith) (omega arith) refl refl semicolon)
 
     name-value : (x : List ℕ) → Accepts (at UseEquals k p a) seen (mark equalsSort ∷ name x ∷ mark semicolonSort ∷ ws)
     unfolding faultAt afterAt only namesAt sortOf
     name-value x = marked equalsSort (omega arith) (omega arith) refl refl (goes proper-name refl refl semicolon)
 
   attributes : (k ≡ resourceSort → ⊥) → (al : List O.Attribute) (p a : Bool) (ws : List W.Word) → Left k p a al
-      → ((a : Bool) → Accepts (at ObjectEnd k true a) seen ws) → Accepts (at Attribute k p a) seen (attributesWords al ++ (mark closeSort ∷ ws))
-  unfolding attributesWords attributeWords priorities autostarts faultAt afterAt attributeFault bodyFault attributeBegun namesAt
+      → ((a : Bool) → Accepts (at ObjectEnd k true a) seen ws)
+      → Accepts (at Attribute k p a) seen (attributesWords al ++ (mark closeSort ∷ ws))
+  unfolding attributesWords attributeWords priorities autostarts faultAt afterAt attributeFault bodyFault attributeBegun
+      namesAt
   attributes body [] true a ws l rest =
       marked closeSort (omega arith) (omega arith) (rw (ne-eqb k resourceSort body)) refl (rest a)
   attributes body [] false a ws l rest = absurd (let h = l .one-priority in omega arith)
@@ -69,19 +78,31 @@ module _ (seen : List ℕ → Bool) (k : ℕ) where
       marked prioritySort (omega arith) (omega arith) (rw (ne-eqb k resourceSort body)) refl
       (number-value true a (attributesWords al ++ (mark closeSort ∷ ws))
       (attributes body al true a ws
-      (record { one-priority = (let h = l .one-priority in omega arith); few-autostarts = l .few-autostarts; of-task = l .of-task }) rest) n)
+      (record {
+        one-priority = (let h = l .one-priority in omega arith);
+        few-autostarts = l .few-autostarts;
+        of-task = l .of-task;
+      }) rest) n)
   attributes body (autostart b ∷ al) p true ws l rest = absurd (let h = l .few-autostarts in omega arith)
   attributes body (autostart b ∷ al) p false ws l rest =
       by-eq k taskSort
       (λ e. marked autostartSort (omega arith) (omega arith) (rw (ne-eqb k resourceSort body, eq-eqb k taskSort e)) refl
       (bool-value p true (attributesWords al ++ (mark closeSort ∷ ws))
       (attributes body al p true ws
-      (record { one-priority = l .one-priority; few-autostarts = (let h = l .few-autostarts in omega arith); of-task = λ d. absurd (d e) }) rest) b))
+      (record {
+        one-priority = l .one-priority;
+        few-autostarts = (let h = l .few-autostarts in omega arith);
+        of-task = λ d. absurd (d e);
+      }) rest) b))
       (λ d. absurd (let h = l .of-task d in omega arith))
   attributes body (uses x ∷ al) p a ws l rest =
       marked resourceSort (omega arith) (omega arith) (rw (ne-eqb k resourceSort body)) refl
       (name-value p a (attributesWords al ++ (mark closeSort ∷ ws))
-      (attributes body al p a ws (record { one-priority = l .one-priority; few-autostarts = l .few-autostarts; of-task = l .of-task }) rest) x)
+      (attributes body al p a ws (record {
+        one-priority = l .one-priority;
+        few-autostarts = l .few-autostarts;
+        of-task = l .of-task;
+      }) rest) x)
 
 or-comm : (a b : Bool) → (a || b) ≡ (b || a)
 or-comm true true = refl
@@ -91,14 +112,16 @@ or-comm false false = refl
 
 -- the names that are seen are the earlier ones
 abbrev pub Sees : (List ℕ → Bool) → List (List ℕ) → Type 0
-Sees seen earlier = (x : List ℕ) → seen x ≡ among x earlier
+Sees seen earlier = (x : List ℕ) → seen x ≡ amongNames x earlier
 
-pub sees-name : (seen : List ℕ → Bool) (earlier : List (List ℕ)) (x : List ℕ) → Sees seen earlier → Sees (λ y. seen y || same x y) (x ∷ earlier)
-unfolding among
-sees-name seen earlier x q y = rw (q y) (or-comm (among y earlier) (same x y))
+pub sees-name : (seen : List ℕ → Bool) (earlier : List (List ℕ)) (x : List ℕ) → Sees seen earlier
+    → Sees (λ y. seen y || same x y) (x ∷ earlier)
+unfolding amongNames
+sees-name seen earlier x q y = rw (q y) (or-comm (amongNames y earlier) (same x y))
 
 -- `TASK name { .. };` and what follows
-module _ (seen : List ℕ → Bool) (x : List ℕ) (new : seen x ≡ false) (k : ℕ) (lo : 1 ≤ k) (hi : k ≤ 3) (ws : List W.Word) where
+module _ (seen : List ℕ → Bool) (x : List ℕ) (new : seen x ≡ false) (k : ℕ) (lo : 1 ≤ k) (hi : k ≤ 3)
+    (ws : List W.Word) where
   opening : (p a : Bool) → objectFault k ≡ 0 → Accepts (at Attribute k false false) (λ y. seen y || same x y) ws
       → (k₀ : ℕ) → Accepts (at Object k₀ p a) seen (mark k ∷ name x ∷ mark openSort ∷ ws)
   unfolding faultAt afterAt only namesAt sortOf
@@ -106,7 +129,8 @@ module _ (seen : List ℕ → Bool) (x : List ℕ) (new : seen x ≡ false) (k :
       marked k lo (omega arith) f refl
       (goes proper-name refl new (marked openSort (omega arith) (omega arith) refl refl rest))
 
-closing : (seen : List ℕ → Bool) (k : ℕ) (p a : Bool) (ws : List W.Word) → ((k : ℕ) (p a : Bool) → Accepts (at Object k p a) seen ws)
+closing : (seen : List ℕ → Bool) (k : ℕ) (p a : Bool) (ws : List W.Word)
+    → ((k : ℕ) (p a : Bool) → Accepts (at Object k p a) seen ws)
     → Accepts (at ObjectEnd k p a) seen (mark semicolonSort ∷ ws)
 unfolding faultAt afterAt only namesAt
 closing seen k p a ws rest = marked semicolonSort (omega arith) (omega arith) refl refl (rest k p a)
@@ -139,12 +163,14 @@ object-accepted seen o os (isr {x = x} {rest = al} one zero-of) new rest k p a =
 object-accepted seen o os (resource {x = x}) new rest k p a =
     rw (object-words o os)
     (opening seen x new resourceSort (omega arith) (omega arith) _ p a refl
-    (marked closeSort (omega arith) (omega arith) refl refl (closing (λ y. seen y || same x y) resourceSort false false (written os) rest)) k)
+    (marked closeSort (omega arith) (omega arith) refl refl
+    (closing (λ y. seen y || same x y) resourceSort false false (written os) rest)) k)
 
-pub objects-accepted : (seen : List ℕ → Bool) (earlier : List (List ℕ)) (os : List O.Object) → AllFit os → Fresh earlier os → Sees seen earlier
-    → (k : ℕ) (p a : Bool) → Accepts (at Object k p a) seen (written os)
+pub objects-accepted : (seen : List ℕ → Bool) (earlier : List (List ℕ)) (os : List O.Object) → AllFit os
+    → Fresh earlier os → Sees seen earlier → (k : ℕ) (p a : Bool) → Accepts (at Object k p a) seen (written os)
 unfolding written objectFault faultAt
 objects-accepted seen earlier [] fit-nil fresh-nil q k p a = stops refl
 objects-accepted seen earlier (o ∷ os) (fit-cons f fs) (fresh-cons n ns) q k p a =
     object-accepted seen o os f (q (o .called) ∙ n)
-    (objects-accepted (λ y. seen y || same (o .called) y) (o .called ∷ earlier) os fs ns (sees-name seen earlier (o .called) q)) k p a
+    (objects-accepted (λ y. seen y || same (o .called) y) (o .called ∷ earlier) os fs ns
+    (sees-name seen earlier (o .called) q)) k p a

@@ -22,7 +22,8 @@ module _ (t : List ℕ) (at : ℕ) (all : at ≤ length t) where
   pub line-start : lineAfter 1 (drop 0 (take at t)) ≡ lineOf t at
   line-start = refl
 
-  pub line-step : (l i : ℕ) → i < at → lineAfter l (drop i (take at t)) ≡ lineAfter (cond (eqb (getD t i 0) lineFeed) (l + 1) l) (drop (i + 1)
+  pub line-step : (l i : ℕ) → i < at
+      → lineAfter l (drop i (take at t)) ≡ lineAfter (cond (eqb (getD t i 0) lineFeed) (l + 1) l) (drop (i + 1)
       (take at t))
   unfolding lineAfter
   line-step l i h = rw (next-of i h)
@@ -31,8 +32,9 @@ module _ (t : List ℕ) (at : ℕ) (all : at ≤ length t) where
   unfolding lineAfter
   line-end l i h = rw (past i h)
 
-  pub column-step : (l i : ℕ) → i < at → columnAfter l (drop i (take at t)) ≡ columnAfter (cond (eqb (getD t i 0) lineFeed) 1 (l + 1)) (drop
-      (i + 1) (take at t))
+  pub column-step : (l i : ℕ) → i < at
+      → columnAfter l (drop i (take at t))
+      ≡ columnAfter (cond (eqb (getD t i 0) lineFeed) 1 (l + 1)) (drop (i + 1) (take at t))
   unfolding columnAfter
   column-step l i h = rw (next-of i h)
 

@@ -28,7 +28,8 @@ walk-place (suc k) t at s n h =
 pub walked-place : (t : List ℕ) → walked t .place ≤ length t
 walked-place t = walk-place (suc (length t)) t 0 fresh 0 (omega arith)
 
-unborne-from : (k : ℕ) (t : List ℕ) (at : ℕ) (s : Progress) (n : ℕ) → at ≤ length t → unborne k t at s n .place ≤ length t
+unborne-from : (k : ℕ) (t : List ℕ) (at : ℕ) (s : Progress) (n : ℕ) → at ≤ length t
+    → unborne k t at s n .place ≤ length t
 unfolding unborne
 unborne-from zero t at s n h = omega arith
 unborne-from (suc k) t at s n h =

@@ -33,7 +33,8 @@ spelledSort-le x =
     (choice-le (same x resourceWord) _ _ 12 (omega arith)
     (choice-le (same x priorityWord) _ _ 12 (omega arith)
     (choice-le (same x autostartWord) _ _ 12 (omega arith)
-    (choice-le (same x trueWord) _ _ 12 (omega arith) (choice-le (same x falseWord) _ _ 12 (omega arith) (omega arith)))))))
+    (choice-le (same x trueWord) _ _ 12 (omega arith)
+    (choice-le (same x falseWord) _ _ 12 (omega arith) (omega arith)))))))
 
 pub signOf-le : (b : ℕ) → signOf b ≤ 11
 unfolding signOf
@@ -42,7 +43,7 @@ signOf-le b =
     (choice-le (eqb b 125) _ _ 11 (omega arith)
     (choice-le (eqb b 61) _ _ 11 (omega arith) (choice-le (eqb b 59) _ _ 11 (omega arith) (omega arith))))
 
-pub sort-le : (p : ℕ) (bs : List ℕ) → wordAt p bs .sort ≤ 15
+sort-le : (p : ℕ) (bs : List ℕ) → wordAt p bs .sort ≤ 15
 unfolding wordAt
 sort-le p [] = omega arith
 sort-le p (b ∷ bs) =
@@ -50,13 +51,14 @@ sort-le p (b ∷ bs) =
     (λ e. rw e (let h = spelledSort-le (b ∷ take (span isNameByte bs) bs) in omega arith))
     (λ e. by-test (isDigit b)
     (λ f. rw (e, f) (omega arith))
-    (λ f. rw (e, f) (by-test (eqb (signOf b) 0) (λ g. rw g (omega arith)) (λ g. rw g (let h = signOf-le b in omega arith)))))
+    (λ f. rw (e, f)
+    (by-test (eqb (signOf b) 0) (λ g. rw g (omega arith)) (λ g. rw g (let h = signOf-le b in omega arith)))))
 
 some : (n : ℕ) → suc n ≡ 0 → ⊥
 some n e = omega arith
 
 -- an unreadable sign is refused wherever it stands
-pub unreadable-refused : (v : Want) (s : Progress) → faultAt v s unreadableSort ≡ 0 → ⊥
+unreadable-refused : (v : Want) (s : Progress) → faultAt v s unreadableSort ≡ 0 → ⊥
 unfolding faultAt only objectFault attributeFault bodyFault valueFault unknown unexpected
 unreadable-refused Object s e = some 59 e
 unreadable-refused Name s e = some 59 e
@@ -78,8 +80,8 @@ unfolding faultIn
 fault-none t s n w e =
     by-test (eqb (fault s (w .sort)) 0) (λ f. eqb-true (fault s (w .sort)) 0 f) (λ f. rw f at e)
 
-pub going : (t : List ℕ) (at : ℕ) (s : Progress) (n : ℕ) → faultIn t s n (nextWord t at) ≡ 0 → (nextWord t at .sort ≡ endSort → ⊥)
-    → leb endSort (nextWord t at .sort) ≡ false
+pub going : (t : List ℕ) (at : ℕ) (s : Progress) (n : ℕ) → faultIn t s n (nextWord t at) ≡ 0
+    → (nextWord t at .sort ≡ endSort → ⊥) → leb endSort (nextWord t at .sort) ≡ false
 unfolding nextWord
 going t at s n e d =
     let l = sort-le (skipped t at) (drop (skipped t at) t) in

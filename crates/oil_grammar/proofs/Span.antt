@@ -23,11 +23,11 @@ module _ (p : ℕ → Bool) where
   pub run-inside : (t : List ℕ) (at : ℕ) → at ≤ length t → at + span p (drop at t) ≤ length t
   run-inside t at h = let l = rw length-drop at (span-le (drop at t)) in omega arith
 
-  pub span-more : (b : ℕ) (bs : List ℕ) → p b ≡ true → span p (b ∷ bs) ≡ suc (span p bs)
+  span-more : (b : ℕ) (bs : List ℕ) → p b ≡ true → span p (b ∷ bs) ≡ suc (span p bs)
   unfolding span
   span-more b bs e = rw e
 
-  pub span-stop : (b : ℕ) (bs : List ℕ) → p b ≡ false → span p (b ∷ bs) ≡ 0
+  span-stop : (b : ℕ) (bs : List ℕ) → p b ≡ false → span p (b ∷ bs) ≡ 0
   unfolding span
   span-stop b bs e = rw e
 
@@ -46,7 +46,9 @@ module _ (p : ℕ → Bool) where
   -- a loop over the text: the run from `at` on has come as far as i
   module _ (t : List ℕ) (at i : ℕ) (far : i + span p (drop i t) ≡ at + span p (drop at t)) where
     pub run-stopped : i < length t → p (getD t i 0) ≡ false → i ≡ at + span p (drop at t)
-    run-stopped h e = let z : span p (drop i t) ≡ 0 = rw (drop-next t i h) (span-stop (getD t i 0) (drop (i + 1) t) e) in omega arith
+    run-stopped h e =
+        let z : span p (drop i t) ≡ 0 = rw (drop-next t i h) (span-stop (getD t i 0) (drop (i + 1) t) e) in
+        omega arith
 
     pub run-ended : length t ≤ i → i ≡ at + span p (drop at t)
     unfolding span
@@ -54,5 +56,6 @@ module _ (p : ℕ → Bool) where
 
     pub run-more : i < length t → p (getD t i 0) ≡ true → i + 1 + span p (drop (i + 1) t) ≡ at + span p (drop at t)
     run-more h e =
-        let z : span p (drop i t) ≡ suc (span p (drop (i + 1) t)) = rw (drop-next t i h) (span-more (getD t i 0) (drop (i + 1) t) e) in
+        let z : span p (drop i t) ≡ suc (span p (drop (i + 1) t)) =
+        rw (drop-next t i h) (span-more (getD t i 0) (drop (i + 1) t) e) in
         omega arith

@@ -1,5 +1,5 @@
--- What the crate shows: the reading and the grammar accept the same texts, with the same configurations. Each law stands here in full, over specs/
--- alone; the modules it cites prove it.
+-- What the crate shows: the reading and the grammar accept the same texts, with the same configurations. Each law
+-- stands here in full, over specs/ alone; the modules it cites prove it.
 use Prim.Native.Nat.{ℕ, _<_}
 use mathlib.Core.Path.{_≡_, sym, ap, _∙_}
 use mathlib.Core.List.{List}
@@ -34,7 +34,8 @@ oil-read = Whole.oil-read
 pub described-read : (t : List ℕ) (c : Config) → Describes t c → readOil t ≡ accepted c
 described-read t c d =
     let e : firstFault (configOf (d .objects)) ≡ none = rw (d .meant) at (d .in-range) in
-    oil-read t (d .objects) (d .oil) ∙ rw (eq-eqb (firstFault (configOf (d .objects))) none e) (ap accepted (sym (d .meant)))
+    oil-read t (d .objects) (d .oil) ∙ rw (eq-eqb (firstFault (configOf (d .objects))) none e)
+    (ap accepted (sym (d .meant)))
 
 -- whatever is accepted is related by the grammar to what it is read as
 pub read-described : (t : List ℕ) → readOil t .refusal ≡ none → Describes t (readOil t .config)
@@ -42,7 +43,10 @@ read-described = Whole.read-described
 
 -- "The accepted grammar .. accepts exactly the same texts"
 pub accepted-exactly : (t : List ℕ) (c : Config) → Describes t c ↔ (readOil t ≡ accepted c)
-accepted-exactly t c = (described-read t c, λ e. rw (ap (λ (r : OilRead). r .config) e) at (read-described t (ap (λ (r : OilRead). r .refusal) e)))
+accepted-exactly t c = (
+  described-read t c,
+  λ e. rw (ap (λ (r : OilRead). r .config) e) at (read-described t (ap (λ (r : OilRead). r .refusal) e)),
+)
 
 -- a text describes at most one configuration
 pub one-meaning : (t : List ℕ) (b c : Config) → Describes t b → Describes t c → b ≡ c
@@ -50,14 +54,19 @@ one-meaning t b c d e = ap (λ (r : OilRead). r .config) (sym (described-read t 
 
 -- a text is refused exactly if it describes none
 pub refused-exactly : (t : List ℕ) → (readOil t .refusal ≡ none → ⊥) ↔ ((c : Config) → Describes t c → ⊥)
-refused-exactly t = ((λ n c d. n (ap (λ (r : OilRead). r .refusal) (described-read t c d))), λ f e. f (readOil t .config) (read-described t e))
+refused-exactly t = (
+  (λ n c d. n (ap (λ (r : OilRead). r .refusal) (described-read t c d))),
+  λ f e. f (readOil t .config)
+      (read-described t e),
+)
 
 -- whatever is accepted has a configuration that the writer takes
 pub writer-takes : (t : List ℕ) → readOil t .refusal ≡ none → firstFault (readOil t .config) ≡ none
 writer-takes t e = read-described t e .in-range
 
 -- OIL whose fields are out of their ranges gets "4 to 6 in the reader's order, at line 0, column 0"
-pub out-of-range : (t : List ℕ) (os : List Object) → Oil t os → (firstFault (configOf os) ≡ none → ⊥) → readOil t ≡ unranged (firstFault (configOf os))
+pub out-of-range : (t : List ℕ) (os : List Object) → Oil t os → (firstFault (configOf os) ≡ none → ⊥)
+    → readOil t ≡ unranged (firstFault (configOf os))
 out-of-range t os o d = oil-read t os o ∙ rw (ne-eqb (firstFault (configOf os)) none d)
 
 counted : (t : List ℕ) (os : List Object) → Oil t os → firstFault (configOf os) ≡ 4 → readOil t ≡ unranged 4
@@ -68,6 +77,6 @@ pub too-many-bodies : (t : List ℕ) (os : List Object) → Oil t os → 32 < co
 too-many-bodies t os o h = counted t os o (Config.too-many-bodies (configOf os) (version-one os) h)
 
 -- "resource count 0 to 16": with more, where the bodies are in order, a text gets 4
-pub too-many-resources : (t : List ℕ) (os : List Object) → Oil t os → firstFault (withResources (configOf os) 0) ≡ none → 16 < configOf os .resources
-    → readOil t ≡ unranged 4
+pub too-many-resources : (t : List ℕ) (os : List Object) → Oil t os → firstFault (withResources (configOf os) 0) ≡ none
+    → 16 < configOf os .resources → readOil t ≡ unranged 4
 too-many-resources t os o e h = counted t os o (Config.too-many-resources (configOf os) h e)

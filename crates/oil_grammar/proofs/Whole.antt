@@ -12,20 +12,21 @@ use Rattle.config.specs.declared.Config.{Config}
 use Rattle.config.specs.Writer.{firstFault}
 use Rattle.oil_grammar.specs.Word as W
 use Rattle.oil_grammar.specs.Object as O
-use Rattle.oil_grammar.specs.Object.{written, resources, objectUses, among}
+use Rattle.oil_grammar.specs.Object.{written, resources, objectUses, amongNames}
 use Rattle.oil_grammar.specs.Grammar.{Oil, Borne, Describes}
 use Rattle.oil_grammar.specs.Meaning.{usersOf, attributedAll, begun, ended, empty, configOf, placed}
 use Rattle.oil_grammar.specs.Machine.{fresh}
 use Rattle.oil_grammar.specs.Walk.{borne, found, unborne, mask}
 use Rattle.oil_grammar.specs.Reader.{walked, filled, ranged, readOil}
 use Rattle.oil_grammar.proofs.Lexing.{Reads, reads-spells, spells-reads}
-use Rattle.oil_grammar.proofs.Accepting.{Accepts, Accepted, none-seen, walked-accepts, accepts-walked, reads-few}
+use Rattle.oil_grammar.proofs.Accepting.{Accepts, AcceptedWords, none-seen, walked-accepts, accepts-walked, reads-few}
 use Rattle.oil_grammar.proofs.Objects.{objects-accepted}
 use Rattle.oil_grammar.proofs.Back.{AsObjects, as-objects}
 use Rattle.oil_grammar.proofs.Folds.{borne-resources, mask-words, fill-words, unborne-none, none-unborne, resources-written, uses-written, mask-written, fill-written}
 
 -- functions of a name that agree at each give the same configuration
-placed-same : (u v : List ℕ → ℕ) → ((x : List ℕ) → u x ≡ v x) → (os : List O.Object) (c : Config) → placed u c os ≡ placed v c os
+placed-same : (u v : List ℕ → ℕ) → ((x : List ℕ) → u x ≡ v x) → (os : List O.Object) (c : Config)
+    → placed u c os ≡ placed v c os
 unfolding placed begun
 placed-same u v h [] c = refl
 placed-same u v h (o ∷ os) c =
@@ -33,34 +34,39 @@ placed-same u v h (o ∷ os) c =
     ap (λ (d : Config). placed u (ended (o .kind) (attributedAll d (o .attributes))) os) b
     ∙ placed-same u v h os (ended (o .kind) (attributedAll (begun v c o) (o .attributes)))
 
-module _ (t : List ℕ) (os : List O.Object) (r : Reads t 0 (written os)) (acc : Accepts fresh (none-seen t) (written os)) where
-  -- the walks over the text's words are those over the objects
-  counted : walked t ≡ found (length (written os))
-  counted = accepts-walked t (suc (length t)) r acc (let h = reads-few t r (omega arith) in omega arith)
+module _ (t : List ℕ) (os : List O.Object) (r : Reads t 0 (written os)) (acc : Accepts fresh (none-seen t) (written os))
+  where
+    -- the walks over the text's words are those over the objects
+    counted : walked t ≡ found (length (written os))
+    counted = accepts-walked t (suc (length t)) r acc (let h = reads-few t r (omega arith) in omega arith)
 
-  bears : (x : List ℕ) → borne (length (written os)) t 0 fresh true x ≡ among x (resources os)
-  bears x = borne-resources t r fresh (none-seen t) acc x ∙ ap (among x) (resources-written os 0 false false)
+    bears : (x : List ℕ) → borne (length (written os)) t 0 fresh true x ≡ amongNames x (resources os)
+    bears x = borne-resources t r fresh (none-seen t) acc x ∙ ap (amongNames x) (resources-written os 0 false false)
 
-  users : (x : List ℕ) → mask (length (written os)) t 0 fresh x 0 0 ≡ usersOf x os
-  users x = mask-words t r fresh (none-seen t) acc x 0 0 ∙ mask-written os x 0 0 0 false false
+    users : (x : List ℕ) → mask (length (written os)) t 0 fresh x 0 0 ≡ usersOf x os
+    users x = mask-words t r fresh (none-seen t) acc x 0 0 ∙ mask-written os x 0 0 0 false false
 
-  pub filled-config : filled t (length (written os)) ≡ configOf os
-  unfolding configOf
-  filled-config =
-      fill-words t r fresh (none-seen t) acc (λ x. mask (length (written os)) t 0 fresh x 0 0) empty
-      ∙ fill-written os (λ x. mask (length (written os)) t 0 fresh x 0 0) empty 0 false false
-      ∙ placed-same (λ x. mask (length (written os)) t 0 fresh x 0 0) (λ x. usersOf x os) users os empty
+    filled-config : filled t (length (written os)) ≡ configOf os
+    unfolding configOf
+    filled-config =
+        fill-words t r fresh (none-seen t) acc (λ x. mask (length (written os)) t 0 fresh x 0 0) empty
+        ∙ fill-written os (λ x. mask (length (written os)) t 0 fresh x 0 0) empty 0 false false
+        ∙ placed-same (λ x. mask (length (written os)) t 0 fresh x 0 0) (λ x. usersOf x os) users os empty
 
-  pub uses-borne : unborne (length (written os)) t 0 fresh (length (written os)) .refusal ≡ none → Borne (resources os) (objectUses os)
-  uses-borne e =
-      rw (uses-written os 0 false false) at (unborne-none t (length (written os)) (resources os) bears r fresh (none-seen t) acc e)
+    uses-borne : unborne (length (written os)) t 0 fresh (length (written os)) .refusal ≡ none
+        → Borne (resources os) (objectUses os)
+    uses-borne e =
+        rw (uses-written os 0 false false) at
+        (unborne-none t (length (written os)) (resources os) bears r fresh (none-seen t) acc e)
 
-  pub borne-uses : Borne (resources os) (objectUses os) → unborne (length (written os)) t 0 fresh (length (written os)) ≡ found (length (written os))
-  borne-uses b =
-      none-unborne t (length (written os)) (resources os) bears r fresh (none-seen t) acc (rw (uses-written os 0 false false) b)
+    borne-uses : Borne (resources os) (objectUses os) → unborne (length (written os)) t 0 fresh (length (written os))
+        ≡ found (length (written os))
+    borne-uses b =
+        none-unborne t (length (written os)) (resources os) bears r fresh (none-seen t) acc
+        (rw (uses-written os 0 false false) b)
 
-none-among : (x : List ℕ) → false ≡ among x []
-unfolding among
+none-among : (x : List ℕ) → false ≡ amongNames x []
+unfolding amongNames
 none-among x = refl
 
 -- a text that is OIL of objects is read as their configuration, or refused by its ranges
@@ -73,7 +79,7 @@ oil-read t os o =
 
 -- the objects of a text whose words and uses are in order
 module _ (t : List ℕ) (e : walked t .refusal ≡ none) where
-  pub acc : Accepted t 0 fresh (none-seen t) 0 (walked t .words)
+  pub acc : AcceptedWords t 0 fresh (none-seen t) 0 (walked t .words)
   acc = walked-accepts t (suc (length t)) e
 
   pub objs : AsObjects [] (acc .words)
@@ -92,7 +98,7 @@ module _ (t : List ℕ) (e : walked t .refusal ≡ none) where
   count : walked t .words ≡ length (written (objs .objects))
   count = let z = acc .count in let k : walked t .words ≡ length (acc .words) = omega arith in k ∙ ap length same-words
 
-  pub walked-oil : unborne (walked t .words) t 0 fresh (walked t .words) .refusal ≡ none → Oil t (objs .objects)
+  walked-oil : unborne (walked t .words) t 0 fresh (walked t .words) .refusal ≡ none → Oil t (objs .objects)
   walked-oil u =
       record {
         spells = reads-spells t read (omega arith);
@@ -118,5 +124,8 @@ read-described t z =
     (λ f. rw (w, v, eq-eqb (firstFault (filled t (walked t .words))) none f)
     (record { objects = objs t e .objects; oil = walked-oil t e u; meant = c; in-range = f }))
     (λ d. absurd (d (rw (w, v, ne-eqb (firstFault (filled t (walked t .words))) none d) at z))))
-    (λ d. absurd (d (rw (eq-eqb (walked t .refusal) none e, ne-eqb (unborne (walked t .words) t 0 fresh (walked t .words) .refusal) none d) at z))))
+    (λ d. absurd (d (rw (
+      eq-eqb (walked t .refusal) none e,
+      ne-eqb (unborne (walked t .words) t 0 fresh (walked t .words) .refusal) none d,
+    ) at z))))
     (λ d. absurd (d (rw (ne-eqb (walked t .refusal) none d) at z)))

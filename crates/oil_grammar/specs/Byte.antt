@@ -1,4 +1,5 @@
--- The bytes of a text by class, and runs of a class: "names, spaces and comments as in C, numbers of decimal digits alone".
+-- The bytes of a text by class, and runs of a class: "names, spaces and comments as in C, numbers of decimal digits
+-- alone".
 --
 --   span p bs          how many bytes at the head of bs have the class p
 --   Longest p bs xs r  xs is the longest run of the class p at the head of bs, and r is what follows it

@@ -8,7 +8,7 @@ use Rattle.number.specs.Refusal.{none}
 use Rattle.config.specs.declared.Config.{Config}
 use Rattle.config.specs.Writer.{firstFault}
 use Rattle.oil_grammar.specs.Text.{Spells}
-use Rattle.oil_grammar.specs.Object.{Object, Fits, among, objectUses, resources, written}
+use Rattle.oil_grammar.specs.Object.{Object, Fits, amongNames, objectUses, resources, written}
 use Rattle.oil_grammar.specs.Meaning.{configOf}
 
 -- each object's attributes are those of its kind
@@ -19,13 +19,13 @@ pub data AllFit : List Object → Type 0 where
 -- no object has the name of an earlier one, "of whatever kind"
 pub data Fresh : List (List ℕ) → List Object → Type 0 where
   fresh-nil : {earlier : List (List ℕ)} → Fresh earlier []
-  fresh-cons : {earlier : List (List ℕ)} {o : Object} {os : List Object} → among (o .called) earlier ≡ false
+  fresh-cons : {earlier : List (List ℕ)} {o : Object} {os : List Object} → amongNames (o .called) earlier ≡ false
       → Fresh (o .called ∷ earlier) os → Fresh earlier (o ∷ os)
 
 -- each of the names is one of the others
 pub data Borne (rs : List (List ℕ)) : List (List ℕ) → Type 0 where
   borne-nil : Borne rs []
-  borne-cons : {x : List ℕ} {xs : List (List ℕ)} → among x rs ≡ true → Borne rs xs → Borne rs (x ∷ xs)
+  borne-cons : {x : List ℕ} {xs : List (List ℕ)} → amongNames x rs ≡ true → Borne rs xs → Borne rs (x ∷ xs)
 
 -- the text is OIL of these objects
 pub record Oil (text : List ℕ) (os : List Object) : Type 0 where

@@ -79,8 +79,18 @@ opened w = record { want = Name; kind = w; priority = false; autostart = false }
 unfoldable pub attributeBegun : Progress → ℕ → Progress
 attributeBegun s w =
     cond (eqb w closeSort) (to s ObjectEnd)
-    (cond (eqb w prioritySort) (record { want = PriorityEquals; kind = s .kind; priority = true; autostart = s .autostart })
-    (cond (eqb w resourceSort) (to s UseEquals) (record { want = AutostartEquals; kind = s .kind; priority = s .priority; autostart = true })))
+    (cond (eqb w prioritySort) (record {
+      want = PriorityEquals;
+      kind = s .kind;
+      priority = true;
+      autostart = s .autostart;
+    })
+    (cond (eqb w resourceSort) (to s UseEquals) (record {
+      want = AutostartEquals;
+      kind = s .kind;
+      priority = s .priority;
+      autostart = true;
+    })))
 
 unfoldable pub afterAt : Want → Progress → ℕ → Progress
 afterAt Object s w = opened w

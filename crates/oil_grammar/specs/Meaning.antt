@@ -3,7 +3,8 @@
 --   usersOf x os    the mask of the bodies among os that use the resource x
 --   configOf os     the version 1 configuration of os, without tables
 --
--- A count or a priority above 255 is held as 255, the most that its field holds: it is out of range all the same, and the writer refuses it.
+-- A count or a priority above 255 is held as 255, the most that its field holds: it is out of range all the same, and
+-- the writer refuses it.
 use Prim.Native.Nat.{ℕ, _+_, _-_, min}
 use mathlib.Core.Bool.{Bool, cond}
 use mathlib.Core.List.{List, [], _∷_}
@@ -59,7 +60,9 @@ attributedAll c (a ∷ rest) = attributedAll (attributed c a) rest
 
 -- c with the object's kind, for a body, or users, for a resource; `users` gives the users of a resource by its name
 unfoldable pub begun : (List ℕ → ℕ) → Config → Object → Config
-begun users c o = cond (isResource (o .kind)) (withUsers c (c .resources) (users (o .called))) (withKind c (c .bodies) (kindOf (o .kind)))
+begun users c o =
+    cond (isResource (o .kind)) (withUsers c (c .resources) (users (o .called)))
+    (withKind c (c .bodies) (kindOf (o .kind)))
 
 -- c with one more body or resource
 unfoldable pub ended : ℕ → Config → Config

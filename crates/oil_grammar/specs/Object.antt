@@ -2,7 +2,8 @@
 --
 --   written os     the words of the objects, one after the other
 --   Fits o         its attributes are those that its kind has
---   names, uses, resources   what the objects are called, which names their RESOURCE attributes have, which RESOURCE objects there are
+--   names os       what the objects are called; resources os: the RESOURCE objects among them
+--   objectUses os  the names that their RESOURCE attributes have
 use Prim.Native.Nat.{ℕ, suc, _≤_}
 use mathlib.Core.Path.{_≡_}
 use mathlib.Core.Bool.{Bool, false, cond, _||_}
@@ -27,7 +28,8 @@ isResource kind = eqb kind resourceSort
 -- `PRIORITY = 2;`, `AUTOSTART = TRUE;`, `RESOURCE = r;`
 unfoldable pub attributeWords : Attribute → List Word
 attributeWords (priority n) = mark prioritySort ∷ mark equalsSort ∷ number n ∷ mark semicolonSort ∷ []
-attributeWords (autostart b) = mark autostartSort ∷ mark equalsSort ∷ mark (cond b trueSort falseSort) ∷ mark semicolonSort ∷ []
+attributeWords (autostart b) =
+    mark autostartSort ∷ mark equalsSort ∷ mark (cond b trueSort falseSort) ∷ mark semicolonSort ∷ []
 attributeWords (uses x) = mark resourceSort ∷ mark equalsSort ∷ name x ∷ mark semicolonSort ∷ []
 
 unfoldable pub attributesWords : List Attribute → List Word
@@ -59,8 +61,8 @@ autostarts (priority n ∷ rest) = autostarts rest
 autostarts (autostart b ∷ rest) = suc (autostarts rest)
 autostarts (uses x ∷ rest) = autostarts rest
 
--- "PRIORITY (for an ISR a maker's own attribute), AUTOSTART (tasks only, FALSE if absent) and RESOURCE attributes"; a task and an ISR
--- have one PRIORITY, and AUTOSTART stands once at most; "without attributes, `RESOURCE r { };`"
+-- "PRIORITY (for an ISR a maker's own attribute), AUTOSTART (tasks only, FALSE if absent) and RESOURCE attributes"; a
+-- task and an ISR have one PRIORITY, and AUTOSTART stands once at most; "without attributes, `RESOURCE r { };`"
 pub data Fits : Object → Type 0 where
   task : {x : List ℕ} {rest : List Attribute} → priorities rest ≡ 1 → autostarts rest ≤ 1
       → Fits (record { kind = taskSort; called = x; attributes = rest })
@@ -69,9 +71,9 @@ pub data Fits : Object → Type 0 where
   resource : {x : List ℕ} → Fits (record { kind = resourceSort; called = x; attributes = [] })
 
 -- x is one of the names
-unfoldable pub among : List ℕ → List (List ℕ) → Bool
-among x [] = false
-among x (y ∷ ys) = same y x || among x ys
+unfoldable pub amongNames : List ℕ → List (List ℕ) → Bool
+amongNames x [] = false
+amongNames x (y ∷ ys) = same y x || amongNames x ys
 
 unfoldable pub names : List Object → List (List ℕ)
 names [] = []

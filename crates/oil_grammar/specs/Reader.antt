@@ -1,7 +1,8 @@
 -- The whole reading of a text: its configuration, or the one refusal with its line and column.
 --
---   readOil t            what the reading gives
---   oilResult t n, oilOutput t d, oilPlace t n   what the call from C answers, leaves in its output and tells of the place
+--   readOil t                      what the reading gives
+--   oilResult t n, oilOutput t d   what the call from C answers, and what it leaves in its output
+--   oilPlace t n                   what it tells of the place
 use Prim.Native.Nat.{ℕ, suc, _+_}
 use mathlib.Core.Bool.{cond}
 use mathlib.Core.List.{List, [], _∷_}
@@ -54,7 +55,8 @@ afterUses t n u = cond (eqb (u .refusal) none) (ranged (filled t n)) (refusedIn 
 
 abbrev pub afterWalk : List ℕ → Found → OilRead
 afterWalk t v =
-    cond (eqb (v .refusal) none) (afterUses t (v .words) (unborne (v .words) t 0 fresh (v .words))) (refusedIn t (v .refusal) (v .place))
+    cond (eqb (v .refusal) none) (afterUses t (v .words) (unborne (v .words) t 0 fresh (v .words)))
+    (refusedIn t (v .refusal) (v .place))
 
 abbrev pub walked : List ℕ → Found
 walked t = walk (suc (length t)) t 0 fresh 0
@@ -62,7 +64,8 @@ walked t = walk (suc (length t)) t 0 fresh 0
 unfoldable pub readOil : List ℕ → OilRead
 readOil t = afterWalk t (walked t)
 
--- what a writer answered, or the refusal of the text: "refusal × 4,294,967,296 + place", where only 30 has a place, the bytes needed
+-- what a writer answered, or the refusal of the text: "refusal × 4,294,967,296 + place", where only 30 has a place, the
+-- bytes needed
 abbrev pub answered : OilRead → ℕ → ℕ
 answered r n =
     let w = writeConfig (r .config) n in

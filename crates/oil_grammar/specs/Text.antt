@@ -15,10 +15,12 @@ pub data Closes : List ℕ → List ℕ → Type 0 where
 pub data Spells : List ℕ → List Word → Type 0 where
   nothing : Spells [] []
   space : {b : ℕ} {bs : List ℕ} {ws : List Word} → isSpace b ≡ true → Spells bs ws → Spells (b ∷ bs) ws
-  lineComment : {b c : ℕ} {bs xs r : List ℕ} {ws : List Word} → b ≡ slash → c ≡ slash → Longest isLineByte bs xs r → Spells r ws
+  lineComment : {b c : ℕ} {bs xs r : List ℕ} {ws : List Word} → b ≡ slash → c ≡ slash → Longest isLineByte bs xs r
+      → Spells r ws → Spells (b ∷ c ∷ bs) ws
+  blockComment : {b c : ℕ} {bs r : List ℕ} {ws : List Word} → b ≡ slash → c ≡ star → Closes bs r → Spells r ws
       → Spells (b ∷ c ∷ bs) ws
-  blockComment : {b c : ℕ} {bs r : List ℕ} {ws : List Word} → b ≡ slash → c ≡ star → Closes bs r → Spells r ws → Spells (b ∷ c ∷ bs) ws
-  sign : {b : ℕ} {bs : List ℕ} {ws : List Word} → (signOf b ≡ 0 → ⊥) → Spells bs ws → Spells (b ∷ bs) (mark (signOf b) ∷ ws)
+  sign : {b : ℕ} {bs : List ℕ} {ws : List Word} → (signOf b ≡ 0 → ⊥) → Spells bs ws
+      → Spells (b ∷ bs) (mark (signOf b) ∷ ws)
   letters : {b : ℕ} {bs xs r : List ℕ} {ws : List Word} → isLetter b ≡ true → Longest isNameByte bs xs r → Spells r ws
       → Spells (b ∷ bs) (spelled (b ∷ xs) ∷ ws)
   digits : {b : ℕ} {bs xs r : List ℕ} {ws : List Word} → isDigit b ≡ true → Longest isDigit bs xs r → Spells r ws

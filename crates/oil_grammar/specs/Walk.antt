@@ -56,7 +56,8 @@ walk zero t at s n = refusedAt unexpectedWord at
 walk (suc k) t at s n =
     let w = nextWord t at in
     let rest = walk k t (w .end) (after s (w .sort)) (suc n) in
-    cond (eqb (faultIn t s n w) none) (cond (eqb (w .sort) endSort) (found n) rest) (refusedAt (faultIn t s n w) (w .start))
+    cond (eqb (faultIn t s n w) none) (cond (eqb (w .sort) endSort) (found n) rest)
+    (refusedAt (faultIn t s n w) (w .start))
 
 -- "64, the first name no RESOURCE bears"
 unfoldable pub unborneAt : List ℕ → Progress → ℕ → Word → Bool

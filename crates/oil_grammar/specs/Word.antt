@@ -102,7 +102,8 @@ spelledSort x =
     (cond (same x isrWord) isrSort
     (cond (same x resourceWord) resourceSort
     (cond (same x priorityWord) prioritySort
-    (cond (same x autostartWord) autostartSort (cond (same x trueWord) trueSort (cond (same x falseWord) falseSort nameSort))))))
+    (cond (same x autostartWord) autostartSort
+    (cond (same x trueWord) trueSort (cond (same x falseWord) falseSort nameSort))))))
 
 -- the word of a sort that x spells
 unfoldable pub wordOfSort : ℕ → List ℕ → Word
@@ -112,7 +113,9 @@ abbrev pub spelled : List ℕ → Word
 spelled x = wordOfSort (spelledSort x) x
 
 unfoldable pub signOf : ℕ → ℕ
-signOf b = cond (eqb b 123) openSort (cond (eqb b 125) closeSort (cond (eqb b 61) equalsSort (cond (eqb b 59) semicolonSort 0)))
+signOf b =
+    cond (eqb b 123) openSort
+    (cond (eqb b 125) closeSort (cond (eqb b 61) equalsSort (cond (eqb b 59) semicolonSort 0)))
 
 -- "numbers of decimal digits alone (any length, leading zeros too)"
 unfoldable pub decimal : ℕ → List ℕ → ℕ

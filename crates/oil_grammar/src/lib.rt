@@ -1,5 +1,5 @@
-// The grammar of OIL texts and the reading of them, as definitions and theorems, in specs/ and proofs/. No code runs here: these
-// are the values that the code of `oil` and the definitions share.
+// The grammar of OIL texts and the reading of them, as definitions and theorems, in specs/ and proofs/. No code runs
+// here: these are the values that the code of `oil` and the definitions share.
 
 use config::Config;
 
@@ -26,8 +26,8 @@ pub enum Want {
     ObjectEnd,
 }
 
-// How far a text has come: what it wants next, the word that its present object begins with, and which of the attributes that may
-// stand once that object has had.
+// How far a text has come: what it wants next, the word that its present object begins with, and which of the
+// attributes that may stand once that object has had.
 pub struct Progress {
     pub want: Want,
     pub kind: u8,
@@ -35,14 +35,16 @@ pub struct Progress {
     pub autostart: bool,
 }
 
-// What a walk over the text finds: refusal 0 and the number of words before the end, or the refusal with its place (byte offset).
+// What a walk over the text finds: refusal 0 and the number of words before the end, or the refusal with its place
+// (byte offset).
 pub struct Found {
     pub refusal: u8,
     pub place: usize,
     pub words: usize,
 }
 
-// What a reading gives: the configuration with refusal 0, or the all-zero value with the refusal and its line and column.
+// What a reading gives: the configuration with refusal 0, or the all-zero value with the refusal and its line and
+// column.
 pub struct OilRead {
     pub config: Config,
     pub refusal: u8,

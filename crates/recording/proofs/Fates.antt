@@ -1,6 +1,7 @@
 -- What becomes of the bytes at the head of a recording, and of all bytes of a readable one.
 --
--- In order: a byte of each fate; an event at the head; what holds of every recording (`recording-elim`); events in a row.
+-- In order: a byte of each fate; an event at the head; what holds of every recording (`recording-elim`); events in a
+-- row.
 use Prim.Native.Nat.{ℕ, zero, suc, _+_, _-_, _≤_}
 use mathlib.Core.Path.{_≡_, refl, ap, _∙_}
 use mathlib.Core.List.{List, [], _∷_, _++_}
@@ -82,11 +83,13 @@ unfolding fatesFrom belonging fateOf
 fates-dropped b bs h = rw h
 
 -- the bytes of an event that began before are kept
-fates-left : (left : ℕ) (bs : List ℕ) → left ≤ length bs → fatesFrom left bs ≡ replicate left kept ++ fates (drop left bs)
+fates-left : (left : ℕ) (bs : List ℕ) → left ≤ length bs
+    → fatesFrom left bs ≡ replicate left kept ++ fates (drop left bs)
 unfolding fatesFrom belonging fateOf
 fates-left zero bs h = refl
 fates-left (suc left) [] h = absurd (omega arith)
-fates-left (suc left) (b ∷ bs) h = rw (pred-suc left) (ap (λ (fs : List Fate). kept ∷ fs) (fates-left left bs (omega arith)))
+fates-left (suc left) (b ∷ bs) h =
+    rw (pred-suc left) (ap (λ (fs : List Fate). kept ∷ fs) (fates-left left bs (omega arith)))
 
 -- so are those of an event that begins here
 fates-covered : (bs : List ℕ) → fates bs ≡ fatesFrom (covered bs) bs
@@ -114,14 +117,16 @@ module _ (P : List ℕ → Type 0)
     (on-event : (e : Event) (rest : List ℕ) → Writable e → P rest → P (eventBytes e ++ rest))
   where
     -- a recording, where every shorter one has it
-    step : (n : ℕ) → ((bs : List ℕ) → length bs ≤ n → Bytes bs → P bs) → (bs : List ℕ) → length bs ≤ suc n → Bytes bs → P bs
+    step : (n : ℕ) → ((bs : List ℕ) → length bs ≤ n → Bytes bs → P bs) → (bs : List ℕ) → length bs ≤ suc n → Bytes bs
+        → P bs
     step n shorter [] h b = on-end
     step n shorter (x ∷ bs) h b =
         by-eq (readEvent (x ∷ bs) 0 .refusal) none
         (λ a. let r = headed (x ∷ bs) b a in
         let some = length-eventBytes (readEvent (x ∷ bs) 0 .event) in
         rw (r .bytes) (on-event _ _ (r .writable)
-        (shorter (drop (covered (x ∷ bs)) (x ∷ bs)) (simp length-drop (omega (arith, r .long))) (λ i. rw getD-drop (b (covered (x ∷ bs) + i))))))
+        (shorter (drop (covered (x ∷ bs)) (x ∷ bs)) (simp length-drop (omega (arith, r .long)))
+        (λ i. rw getD-drop (b (covered (x ∷ bs) + i))))))
         (λ no. on-dropped x bs (covered-none (x ∷ bs) no) (shorter bs (omega arith) (λ i. b (suc i))))
 
     bounded : (n : ℕ) (bs : List ℕ) → length bs ≤ n → Bytes bs → P bs
@@ -129,10 +134,11 @@ module _ (P : List ℕ → Type 0)
     bounded zero (x ∷ bs) h b = absurd (omega arith)
     bounded (suc n) bs h b = step n (bounded n) bs h b
 
-    pub recording-elim : (bs : List ℕ) → Bytes bs → P bs
+    recording-elim : (bs : List ℕ) → Bytes bs → P bs
     recording-elim bs b = bounded (length bs) bs (omega arith) b
 
-selected-kept : (xs rest : List ℕ) (fs : List Fate) → selected (replicate (length xs) kept ++ fs) (xs ++ rest) ≡ xs ++ selected fs rest
+selected-kept : (xs rest : List ℕ) (fs : List Fate) → selected (replicate (length xs) kept ++ fs) (xs ++ rest)
+    ≡ xs ++ selected fs rest
 unfolding selected
 selected-kept [] rest fs = refl
 selected-kept (x ∷ xs) rest fs = ap (λ (l : List ℕ). x ∷ l) (selected-kept xs rest fs)
@@ -148,7 +154,8 @@ unfolding traceBytes AllWritable fatesFrom
 fates-trace [] w = refl
 fates-trace (e ∷ es) w =
     fates-bytes e (traceBytes es) (w .0)
-    ∙ rw (fates-trace es (w .1), length-append) (replicate-append-replicate (length (eventBytes e)) (length (traceBytes es)) kept)
+    ∙ rw (fates-trace es (w .1), length-append)
+    (replicate-append-replicate (length (eventBytes e)) (length (traceBytes es)) kept)
 
 -- the kept bytes are those of events in a row
 pub record Events (ks : List ℕ) : Type 0 where
@@ -163,7 +170,11 @@ kept-events =
     (record { events = []; writable = tt; bytes = refl })
     (λ b bs z p. rw (fates-dropped b bs z) p)
     (λ e rest w p. rw (fates-bytes e rest w, selected-kept (eventBytes e) rest (fates rest))
-    (record { events = e ∷ p .events; writable = (w, p .writable); bytes = ap (λ (l : List ℕ). eventBytes e ++ l) (p .bytes) }))
+    (record {
+      events = e ∷ p .events;
+      writable = (w, p .writable);
+      bytes = ap (λ (l : List ℕ). eventBytes e ++ l) (p .bytes);
+    }))
 
 -- a kept byte is one of the recording
 pub selected-bytes : (fs : List Fate) (bs : List ℕ) → Bytes bs → Bytes (selected fs bs)

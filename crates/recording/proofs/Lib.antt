@@ -1,4 +1,5 @@
--- The laws of salvaging. `Theorems` is the file to read and the one that other crates cite; `Example` is a damaged trace worked out by hand.
+-- The laws of salvaging. `Theorems` is the file to read and the one that other crates cite; `Example` is a damaged
+-- trace worked out by hand.
 pub mod Example
 pub mod Theorems
 mod Fates

@@ -1,7 +1,8 @@
--- The dropped stretches: they lie apart, the recording is put together from them and the kept bytes, and they tell each byte's fate.
+-- The dropped stretches: they lie apart, the recording is put together from them and the kept bytes, and they tell each
+-- byte's fate.
 --
--- In order: stretches lie apart; the recording is put together; which places lie in a stretch; no stretch where all is kept.
--- Everything holds of any fates, so nothing here knows what an event is.
+-- In order: stretches lie apart; the recording is put together; which places lie in a stretch; no stretch where all is
+-- kept. Everything holds of any fates, so nothing here knows what an event is.
 use Prim.Native.Nat.{ℕ, zero, suc, _+_, _-_, _≤_, _<_}
 use mathlib.Core.Path.{_≡_, refl, sym, ap, _∙_}
 use mathlib.Core.Bool.{true, false, cond, _&&_, _||_}
@@ -22,7 +23,8 @@ unfolding Apart
 apart-earlier a b end [] h p = tt
 apart-earlier a b end (s ∷ ss) h p = (let k = p .0 in omega arith, p .1)
 
-apart-closed : (from n end : ℕ) (ss : List Stretch) → from + n ≤ end → Apart (suc (from + n)) end ss → Apart from end (closed from n ss)
+apart-closed : (from n end : ℕ) (ss : List Stretch) → from + n ≤ end → Apart (suc (from + n)) end ss
+    → Apart from end (closed from n ss)
 unfolding closed Apart
 apart-closed from zero end ss h p = apart-earlier from (suc (from + 0)) end ss (omega arith) p
 apart-closed from (suc n) end ss h p = (omega arith, (omega arith, (h, p)))
@@ -43,7 +45,8 @@ stretches-apart from n (kept ∷ fs) =
     (rw (past (from + n) (length fs)) (stretches-apart (suc (from + n)) 0 fs))
 
 -- a kept byte before the first stretch
-rebuilt-kept : (at k end : ℕ) (ss : List Stretch) (ks bs : List ℕ) → Apart (suc at) end ss → rebuilt at ss (k ∷ ks) bs ≡ k ∷ rebuilt (suc at) ss ks bs
+rebuilt-kept : (at k end : ℕ) (ss : List Stretch) (ks bs : List ℕ) → Apart (suc at) end ss
+    → rebuilt at ss (k ∷ ks) bs ≡ k ∷ rebuilt (suc at) ss ks bs
 unfolding rebuilt Apart
 rebuilt-kept at k end [] ks bs p = refl
 rebuilt-kept at k end (s ∷ ss) ks bs p = rw (later (s .offset) at (p .0))
@@ -56,15 +59,18 @@ rebuilt-closed : (from n : ℕ) (ss : List Stretch) (ks bs : List ℕ) → rebui
     → rebuilt from (closed from n ss) ks bs ≡ drop from bs
 unfolding closed rebuilt
 rebuilt-closed from zero ss ks bs h = rw add-zero at h
-rebuilt-closed from (suc n) ss ks bs h = rw (none from) (rw h (rw (← drop-drop (suc n) from bs) (take-append-drop (suc n) (drop from bs))))
+rebuilt-closed from (suc n) ss ks bs h =
+    rw (none from) (rw h (rw (← drop-drop (suc n) from bs) (take-append-drop (suc n) (drop from bs))))
   where
     none : (a : ℕ) → a - a ≡ 0
     none a = omega arith
 
 -- a kept byte that ends a stretch
 put-kept : (from n : ℕ) (fs : List Fate) (bs : List ℕ) → from + n + suc (length fs) ≡ length bs
-    → rebuilt (suc (from + n)) (stretchesFrom (suc (from + n)) 0 fs) (selected fs (drop (suc (from + n)) bs)) bs ≡ drop (suc (from + n)) bs
-    → rebuilt from (closed from n (stretchesFrom (suc (from + n)) 0 fs)) (getD bs (from + n) 0 ∷ selected fs (drop (suc (from + n)) bs)) bs ≡ drop from bs
+    → rebuilt (suc (from + n)) (stretchesFrom (suc (from + n)) 0 fs) (selected fs (drop (suc (from + n)) bs)) bs
+    ≡ drop (suc (from + n)) bs
+    → rebuilt from (closed from n (stretchesFrom (suc (from + n)) 0 fs))
+    (getD bs (from + n) 0 ∷ selected fs (drop (suc (from + n)) bs)) bs ≡ drop from bs
 put-kept from n fs bs h rest =
     rebuilt-closed from n later (getD bs (from + n) 0 ∷ ks) bs
     (rebuilt-kept (from + n) (getD bs (from + n) 0) (length bs) later ks bs apart
@@ -94,7 +100,8 @@ rebuilt-stretches from n (kept ∷ fs) bs h =
     (put-kept from n fs bs h (rw add-zero at (rebuilt-stretches (suc (from + n)) 0 fs bs (omega arith))))
 
 -- which places lie in a stretch that is closed, or in a later one
-within-closed : (from n : ℕ) (ss : List Stretch) (p : ℕ) → within (closed from n ss) p ≡ (leb from p && ltb p (from + n)) || within ss p
+within-closed : (from n : ℕ) (ss : List Stretch) (p : ℕ)
+    → within (closed from n ss) p ≡ (leb from p && ltb p (from + n)) || within ss p
 unfolding closed within
 within-closed from zero ss p = by-lt p from
     (λ h. rw (lt-leb from p h))
@@ -125,15 +132,20 @@ within-gap from n (dropped ∷ fs) p h k = within-gap from (suc n) fs p h (omega
 within-gap from n (kept ∷ fs) p h k = inside-closed from n _ p h k
 
 -- and of the others those whose fate it is
-pub within-fates : (from n : ℕ) (fs : List Fate) (i : ℕ) → i < length fs → getD fs i kept ≡ cond (within (stretchesFrom from n fs) (from + n + i)) dropped kept
+pub within-fates : (from n : ℕ) (fs : List Fate) (i : ℕ) → i < length fs
+    → getD fs i kept ≡ cond (within (stretchesFrom from n fs) (from + n + i)) dropped kept
 unfolding stretchesFrom
 within-fates from n [] i h = absurd (omega arith)
 within-fates from n (dropped ∷ fs) zero h = rw (within-gap from (suc n) fs (from + n + 0) (omega arith) (omega arith))
 within-fates from n (dropped ∷ fs) (suc i) h = rw (more from n i) (within-fates from (suc n) fs i (omega arith))
 within-fates from n (kept ∷ fs) zero h =
-    rw (outside-closed from n (stretchesFrom (suc (from + n)) 0 fs) (from + n + 0) (omega arith), within-before (suc (from + n)) 0 fs (from + n + 0) (omega arith))
+    rw (
+      outside-closed from n (stretchesFrom (suc (from + n)) 0 fs) (from + n + 0) (omega arith),
+      within-before (suc (from + n)) 0 fs (from + n + 0) (omega arith),
+    )
 within-fates from n (kept ∷ fs) (suc i) h =
-    rw (outside-closed from n (stretchesFrom (suc (from + n)) 0 fs) (from + n + suc i) (omega arith), past (from + n) i) (within-fates (suc (from + n)) 0 fs i (omega arith))
+    rw (outside-closed from n (stretchesFrom (suc (from + n)) 0 fs) (from + n + suc i) (omega arith), past (from + n) i)
+    (within-fates (suc (from + n)) 0 fs i (omega arith))
 
 pub stretches-none : (from n : ℕ) → stretchesFrom from 0 (replicate n kept) ≡ []
 unfolding stretchesFrom closed

@@ -1,7 +1,7 @@
 -- What holds of every recording. Each law stands here in full, over specs/ alone; the modules it cites prove it.
 --
--- In order: what becomes of the bytes at the head of a recording, which fixes all of them; document 02's three claims; the stretches; what is
--- salvaged twice; how long both outputs are.
+-- In order: what becomes of the bytes at the head of a recording, which fixes all of them; document 02's three claims;
+-- the stretches; what is salvaged twice; how long both outputs are.
 use Prim.Native.Nat.{ℕ, _-_, _≤_, _<_}
 use mathlib.Core.Path.{_≡_}
 use mathlib.Core.Bool.{cond}
@@ -21,7 +21,8 @@ use Rattle.recording.proofs.Stretches as Stretches
 use Rattle.recording.proofs.Size as Size
 
 -- "where no event can be read, drop one byte and try again at the next"
-pub fates-unreadable : (b : ℕ) (bs : List ℕ) → (readEvent (b ∷ bs) 0 .refusal ≡ none → ⊥) → fates (b ∷ bs) ≡ dropped ∷ fates bs
+pub fates-unreadable : (b : ℕ) (bs : List ℕ) → (readEvent (b ∷ bs) 0 .refusal ≡ none → ⊥)
+    → fates (b ∷ bs) ≡ dropped ∷ fates bs
 fates-unreadable b bs n = Fates.fates-dropped b bs (Fates.covered-none (b ∷ bs) n)
 
 -- where an event can be read, all of its bytes are kept, and the next is tried after it
@@ -30,7 +31,8 @@ pub fates-event : (bs : List ℕ) → readEvent bs 0 .refusal ≡ none
 fates-event bs h = rw (← Fates.covered-some bs h) (Fates.fates-event bs)
 
 -- how many bytes an event at a place covers: where it is tried there or at the head of what is left makes no difference
-pub covered-at : (bs : List ℕ) (at : ℕ) → Bytes bs → readEvent bs at .refusal ≡ none → covered (drop at bs) ≡ readEvent bs at .place - at
+pub covered-at : (bs : List ℕ) (at : ℕ) → Bytes bs → readEvent bs at .refusal ≡ none
+    → covered (drop at bs) ≡ readEvent bs at .place - at
 covered-at = Fates.covered-at
 
 pub uncovered-at : (bs : List ℕ) (at : ℕ) → Bytes bs → (readEvent bs at .refusal ≡ none → ⊥) → covered (drop at bs) ≡ 0
@@ -50,14 +52,18 @@ pub readable-same : (bs : List ℕ) → Bytes bs → readTrace bs .refusal ≡ n
 readable-same bs b h = (rw all (Fates.selected-all bs), rw all (Stretches.stretches-none 0 (length bs)))
   where
     all : fates bs ≡ replicate (length bs) kept
-    all = rw (trace-written-read bs b h) (Fates.fates-trace (readTrace bs .events) (trace-reading bs 0 (omega arith) .writable))
+    all =
+        rw (trace-written-read bs b h)
+        (Fates.fates-trace (readTrace bs .events) (trace-reading bs 0 (omega arith) .writable))
 
--- "kept and dropped bytes together are the input in order": the kept bytes up to the first stretch, its bytes, the kept ones up to the next, and so on
+-- "kept and dropped bytes together are the input in order": the kept bytes up to the first stretch, its bytes, the kept
+-- ones up to the next, and so on
 pub put-together : (bs : List ℕ) → rebuilt 0 (stretches bs) (keptBytes bs) bs ≡ bs
 put-together bs = Stretches.rebuilt-stretches 0 0 (fates bs) bs (rw (zero-add (length (fates bs))) (length-fates bs))
 
 -- and the stretches tell of each byte whether it was dropped
-pub fate-told : (bs : List ℕ) (p : ℕ) → p < length bs → getD (fates bs) p kept ≡ cond (within (stretches bs) p) dropped kept
+pub fate-told : (bs : List ℕ) (p : ℕ) → p < length bs
+    → getD (fates bs) p kept ≡ cond (within (stretches bs) p) dropped kept
 fate-told bs p h =
     rw (zero-add p) at (Stretches.within-fates 0 0 (fates bs) p (omega (arith, length-fates bs)))
 
@@ -66,7 +72,8 @@ pub stretches-apart : (bs : List ℕ) → Apart 0 (length bs) (stretches bs)
 stretches-apart bs = simp (length-fates, zero-add) at (Stretches.stretches-apart 0 0 (fates bs))
 
 -- salvaging what was kept changes nothing
-pub salvaged-again : (bs : List ℕ) → Bytes bs → (keptBytes (keptBytes bs) ≡ keptBytes bs) × (stretches (keptBytes bs) ≡ [])
+pub salvaged-again : (bs : List ℕ) → Bytes bs
+    → (keptBytes (keptBytes bs) ≡ keptBytes bs) × (stretches (keptBytes bs) ≡ [])
 salvaged-again bs b = readable-same (keptBytes bs) (Fates.selected-bytes (fates bs) bs b) (kept-readable bs b)
 
 -- the kept bytes are no more than there were
@@ -75,4 +82,6 @@ kept-fit bs = Fates.length-selected-le (fates bs) bs
 
 -- a trace of at most 8,192 bytes has a list of at most 12,224
 pub list-fits : (bs : List ℕ) → length bs ≤ 8192 → length (listBytes bs) ≤ 12224
-list-fits bs h = let most = Size.near-fits (length bs) (omega arith) 0 (stretches bs) (omega arith) (stretches-apart bs) in omega arith
+list-fits bs h =
+    let most = Size.near-fits (length bs) (omega arith) 0 (stretches bs) (omega arith) (stretches-apart bs) in
+    omega arith

@@ -4,8 +4,8 @@
 --   fates bs          what becomes of each byte of bs
 --   keptBytes bs      the bytes that are kept, in their order
 --
--- Main laws: `fates-unreadable` and `fates-event` say what becomes of the bytes at the head; `kept-readable`, `readable-same` and
--- `salvaged-again` are document 02's claims (proofs/Theorems.antt).
+-- Main laws: `fates-unreadable` and `fates-event` say what becomes of the bytes at the head; `kept-readable`,
+-- `readable-same` and `salvaged-again` are document 02's claims (proofs/Theorems.antt).
 use Prim.Native.Nat.{ℕ, zero, suc, _-_}
 use mathlib.Core.Bool.{cond}
 use mathlib.Core.List.{List, [], _∷_}
@@ -21,7 +21,8 @@ pub data Fate : Type 0 where
 unfoldable pub covered : List ℕ → ℕ
 covered bs = cond (eqb (readEvent bs 0 .refusal) none) (readEvent bs 0 .place) 0
 
--- how many bytes from the head of bs on belong to an event: what is left of one that began before, or one that begins here
+-- how many bytes from the head of bs on belong to an event: what is left of one that began before, or one that begins
+-- here
 unfoldable pub belonging : ℕ → List ℕ → ℕ
 belonging zero bs = covered bs
 belonging (suc left) bs = suc left

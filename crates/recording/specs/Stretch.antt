@@ -50,7 +50,8 @@ within (s ∷ ss) p = (leb (s .offset) p && ltb p (s .offset + s .size)) || with
 abbrev pub cutout : List ℕ → Stretch → List ℕ
 cutout bs s = take (s .size) (drop (s .offset) bs)
 
--- from the place `at` on: kept bytes ks up to the first stretch, the bytes of bs that it covers, and so on; after the last stretch the kept bytes left
+-- from the place `at` on: kept bytes ks up to the first stretch, the bytes of bs that it covers, and so on; after the
+-- last stretch the kept bytes left
 unfoldable pub rebuilt : ℕ → List Stretch → List ℕ → List ℕ → List ℕ
 rebuilt at [] ks bs = ks
 rebuilt at (s ∷ ss) ks bs =
@@ -59,4 +60,5 @@ rebuilt at (s ∷ ss) ks bs =
 -- the stretches lie between two places, none is empty, and after each at least one byte is kept before the next
 unfoldable pub Apart : ℕ → ℕ → List Stretch → Type 0
 Apart from end [] = Unit
-Apart from end (s ∷ ss) = (from ≤ s .offset) × ((1 ≤ s .size) × ((s .offset + s .size ≤ end) × Apart (suc (s .offset + s .size)) end ss))
+Apart from end (s ∷ ss) =
+    (from ≤ s .offset) × ((1 ≤ s .size) × ((s .offset + s .size ≤ end) × Apart (suc (s .offset + s .size)) end ss))

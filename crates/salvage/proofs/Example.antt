@@ -1,5 +1,6 @@
--- The call on a damaged trace, computed: it keeps five bytes and lists six. With a byte less for the events, or for both, it is refused for the
--- events, and with a byte less for the list it is refused for the list; refused, it writes neither.
+-- The call on a damaged trace, computed: it keeps five bytes and lists six. With a byte less for the events, or for
+-- both, it is refused for the events, and with a byte less for the list it is refused for the list; refused, it writes
+-- neither.
 use Prim.Native.Nat.{ℕ}
 use mathlib.Core.Path.{_≡_, refl}
 use mathlib.Core.List.{List, [], _∷_}
@@ -40,7 +41,8 @@ six = 91 ∷ 92 ∷ 93 ∷ 94 ∷ 95 ∷ 96 ∷ []
 abbrev five : List ℕ
 five = 81 ∷ 82 ∷ 83 ∷ 84 ∷ 85 ∷ []
 
-pub outputs : (eventsAfter damaged six six ≡ 0x04 ∷ 0x00 ∷ 0x06 ∷ 0x07 ∷ 0x02 ∷ 96 ∷ []) × (stretchesAfter damaged six six ≡ 2 ∷ 1 ∷ 4 ∷ 2 ∷ 8 ∷ 2 ∷ [])
+pub outputs : (eventsAfter damaged six six ≡ 0x04 ∷ 0x00 ∷ 0x06 ∷ 0x07 ∷ 0x02 ∷ 96 ∷ [])
+    × (stretchesAfter damaged six six ≡ 2 ∷ 1 ∷ 4 ∷ 2 ∷ 8 ∷ 2 ∷ [])
 unfolding filled salvaged written
 outputs = (rw (damaged-kept, damaged-listed), rw (damaged-kept, damaged-listed))
 

@@ -22,9 +22,10 @@ pub progress-start : (whole d : List ℕ) → length whole ≤ length d → Prog
 unfolding laid
 progress-start whole d h = record { done = []; long = refl; output = refl; split = refl; room = h }
 
-module _ (whole d : List ℕ) (n : ℕ) (out : List ℕ) where
+module _ {whole d : List ℕ} {n : ℕ} {out : List ℕ} where
   -- a piece that is laid behind what stands there
-  pub progress-more : (xs rest : List ℕ) → Progress whole d n out (xs ++ rest) → Progress whole d (n + length xs) (laid n xs out) rest
+  pub progress-more : (xs rest : List ℕ) → Progress whole d n out (xs ++ rest)
+      → Progress whole d (n + length xs) (laid n xs out) rest
   progress-more xs rest w =
       record {
         done = w .done ++ xs;
@@ -38,15 +39,20 @@ module _ (whole d : List ℕ) (n : ℕ) (out : List ℕ) where
       fits = omega (arith, w .room, simp length-append at (ap length (w .split)))
 
   -- the output is as long as it was
-  pub progress-length : (rest : List ℕ) → Progress whole d n out rest → length out ≡ length d
-  progress-length rest w = ap length (w .output) ∙ length-laid 0 (w .done) d (omega (arith, w .room, simp length-append at (ap length (w .split))))
+  pub progress-length : {rest : List ℕ} → Progress whole d n out rest → length out ≡ length d
+  progress-length w =
+      ap length (w .output)
+      ∙ length-laid 0 (w .done) d (omega (arith, w .room, simp length-append at (ap length (w .split))))
 
   -- what is left fits behind what stands there
   pub progress-room : (xs rest : List ℕ) → Progress whole d n out (xs ++ rest) → n + length xs ≤ length out
-  progress-room xs rest w = omega (arith, w .room, simp length-append at (ap length (w .split)), progress-length (xs ++ rest) w)
+  progress-room xs rest w =
+      omega (arith, w .room, simp length-append at (ap length (w .split)), progress-length w)
 
   pub progress-end : Progress whole d n out [] → out ≡ written whole d
-  progress-end w = w .output ∙ ap (λ (l : List ℕ). laid 0 l d) (sym (append-nil (w .done)) ∙ w .split) ∙ sym (laid-zero whole d (w .room))
+  progress-end w =
+      w .output ∙ ap (λ (l : List ℕ). laid 0 l d) (sym (append-nil (w .done)) ∙ w .split)
+      ∙ sym (laid-zero whole d (w .room))
 
 -- one byte stored is a piece of one byte
 pub laid-byte : (n b : ℕ) (d : List ℕ) → n < length d → set d n b ≡ laid n (b ∷ []) d

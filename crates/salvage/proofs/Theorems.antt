@@ -20,7 +20,11 @@ use Rattle.salvage.proofs.Answers as Answers
 -- 8,192 bytes for the events and 12,224 for the stretches are enough for every trace that is not too long
 pub enough : (bs : List ℕ) (n m : ℕ) → length bs ≤ 8192 → 8192 ≤ n → 12224 ≤ m → salvaged bs n m ≡ accepted (lengths bs)
 enough bs n m short room space =
-    Answers.salvaged-whole bs n m (record { short = short; events = omega (arith, kept-fit bs); stretches = omega (arith, list-fits bs short) })
+    Answers.salvaged-whole bs n m (record {
+      short = short;
+      events = omega (arith, kept-fit bs);
+      stretches = omega (arith, list-fits bs short);
+    })
 
 -- a refused call leaves both slices as they were
 pub refused-same : (bs es ss : List ℕ) → (salvaged bs (length es) (length ss) .refusal ≡ none → ⊥)
@@ -28,9 +32,11 @@ pub refused-same : (bs es ss : List ℕ) → (salvaged bs (length es) (length ss
 unfolding filled
 refused-same bs es ss bad = (simp (ne-eqb _ none bad), simp (ne-eqb _ none bad))
 
--- an accepted call leaves the kept bytes in the front of one slice and the list in the front of the other, as many as it answers
+-- an accepted call leaves the kept bytes in the front of one slice and the list in the front of the other, as many as
+-- it answers
 pub accepted-outputs : (bs es ss : List ℕ) → let r = salvaged bs (length es) (length ss) in r .refusal ≡ none
-    → (take (r .events) (eventsAfter bs es ss) ≡ keptBytes bs) × (take (r .stretches) (stretchesAfter bs es ss) ≡ listBytes bs)
+    → (take (r .events) (eventsAfter bs es ss) ≡ keptBytes bs)
+    × (take (r .stretches) (stretchesAfter bs es ss) ≡ listBytes bs)
 unfolding filled
 accepted-outputs bs es ss ok =
     let f = Answers.accepted-fitting bs (length es) (length ss) ok in
@@ -40,7 +46,8 @@ accepted-outputs bs es ss ok =
     front : (xs d : List ℕ) → length xs ≤ length d → take (length xs) (written xs d) ≡ xs
     front xs d h = rw (written-fits xs d h) (take-append-seam xs (drop (length xs) d))
 
--- the refusal is the result's high half, 0 for an accepted call, and the place its low half; both lengths are halves of the low half
+-- the refusal is the result's high half, 0 for an accepted call, and the place its low half; both lengths are halves of
+-- the low half
 pub result-refused : (bs : List ℕ) (n m : ℕ) → let r = salvaged bs n m in (r .refusal ≡ none → ⊥)
     → (resultOf r / 4294967296 ≡ r .refusal) × (resultOf r % 4294967296 ≡ r .place)
 result-refused bs n m bad =
@@ -51,5 +58,7 @@ pub result-accepted : (bs : List ℕ) (n m : ℕ) → let r = salvaged bs n m in
     → (resultOf r / 4294967296 ≡ 0) × ((resultOf r / 65536 ≡ r .stretches) × (resultOf r % 65536 ≡ r .events))
 result-accepted bs n m ok =
     let s = Answers.salvaged-small bs n m in
-    rw (← Answers.result-accepted (salvaged bs n m) ok)
-    (omega (arith, s .stretches-le, s .events-le), (omega (arith, s .stretches-le, s .events-le), omega (arith, s .stretches-le, s .events-le)))
+    rw (← Answers.result-accepted (salvaged bs n m) ok) (
+      omega (arith, s .stretches-le, s .events-le),
+      (omega (arith, s .stretches-le, s .events-le), omega (arith, s .stretches-le, s .events-le)),
+    )

@@ -20,9 +20,10 @@ pub record Counts (bs : List ℕ) (at left gap events stretches : ℕ) : Type 0 
   pub stretches-left : stretches + length (listLeft bs at left gap) ≡ length (listBytes bs)
 
 pub counts-start : (bs : List ℕ) → Counts bs 0 0 0 0 0
-counts-start bs = record { at-le = omega arith; gap-le = omega arith; events-left = zero-add _; stretches-left = zero-add _ }
+counts-start bs =
+    record { at-le = omega arith; gap-le = omega arith; events-left = zero-add _; stretches-left = zero-add _ }
 
-module _ (bs : List ℕ) (at left gap events stretches : ℕ) (p : Counts bs at left gap events stretches) where
+module _ {bs : List ℕ} {at left gap events stretches : ℕ} (p : Counts bs at left gap events stretches) where
   -- neither length is large
   pub few-events : events ≤ length bs
   few-events = omega (arith, p .events-left, kept-fit bs)
@@ -30,7 +31,7 @@ module _ (bs : List ℕ) (at left gap events stretches : ℕ) (p : Counts bs at 
   pub few-stretches : length bs ≤ maxTrace → stretches ≤ 12224
   few-stretches h = omega (arith, p .stretches-left, list-fits bs h)
 
-  module _ (here : ℕ) (within : at < length bs) (same : here ≡ belonging left (drop at bs)) where
+  module _ {here : ℕ} (within : at < length bs) (same : here ≡ belonging left (drop at bs)) where
     pub counts-dropped : here ≡ 0 → Counts bs (at + 1) left (gap + 1) events stretches
     counts-dropped z =
         record {
@@ -40,17 +41,24 @@ module _ (bs : List ℕ) (at left gap events stretches : ℕ) (p : Counts bs at 
           stretches-left = rw (list-dropped bs at left here within same gap (p .gap-le) z) at (p .stretches-left);
         }
 
-    pub counts-kept : (here ≡ 0 → ⊥) → Counts bs (at + 1) (here - 1) 0 (events + 1) (stretches + length (gapBytes at gap))
+    pub counts-kept : (here ≡ 0 → ⊥)
+        → Counts bs (at + 1) (here - 1) 0 (events + 1) (stretches + length (gapBytes at gap))
     counts-kept n =
         record {
           at-le = omega arith;
           gap-le = omega arith;
           events-left = omega (arith, p .events-left, ap length (events-kept bs at left here within same n));
           stretches-left =
-              omega (arith, p .stretches-left, ap length (list-kept bs at left here within same gap (p .gap-le) n), length-append (gapBytes at gap) (listLeft bs (at + 1) (here - 1) 0));
+              omega (
+                arith,
+                p .stretches-left,
+                ap length (list-kept bs at left here within same gap (p .gap-le) n),
+                length-append (gapBytes at gap) (listLeft bs (at + 1) (here - 1) 0),
+              );
         }
 
-  pub counts-end : length bs ≤ at → record { events = events; stretches = stretches + length (gapBytes (length bs) gap) } ≡ lengths bs
+  pub counts-end : length bs ≤ at
+      → record { events = events; stretches = stretches + length (gapBytes (length bs) gap) } ≡ lengths bs
   counts-end past i = record { events = (whole-events ∙ p .events-left) i; stretches = whole-list i }
     where
       whole-events : events ≡ events + length (eventsLeft bs at left)

@@ -1,10 +1,10 @@
 -- A walk over a recording: what is left to write at a place, and what one turn takes of it.
 --
--- In order: how many bytes belong to an event; what becomes of the byte at a place; what is left of both outputs, after a byte of each fate and
--- at the end.
+-- In order: how many bytes belong to an event; what becomes of the byte at a place; what is left of both outputs, after
+-- a byte of each fate and at the end.
 --
--- bs: the recording; at: the place; left: how many bytes of an event that began before are still to come; gap: how many bytes before the place
--- are dropped and not yet listed; here: how many bytes from the place on belong to an event.
+-- bs: the recording; at: the place; left: how many bytes of an event that began before are still to come; gap: how many
+-- bytes before the place are dropped and not yet listed; here: how many bytes from the place on belong to an event.
 use Prim.Native.Nat.{ℕ, zero, suc, _+_, _-_, _≤_, _<_}
 use mathlib.Core.Path.{_≡_, refl, sym, ap, _∙_}
 use mathlib.Core.List.{List, [], _∷_, _++_, append-assoc, append-nil}
@@ -53,7 +53,8 @@ fate-kept zero n = absurd (n refl)
 fate-kept (suc here) n = refl
 
 -- a stretch that is closed stands before those after it
-closed-bytes : (from n : ℕ) (ss : List Stretch) → stretchBytes (closed from n ss) ≡ stretchBytes (closed from n []) ++ stretchBytes ss
+closed-bytes : (from n : ℕ) (ss : List Stretch)
+    → stretchBytes (closed from n ss) ≡ stretchBytes (closed from n []) ++ stretchBytes ss
 unfolding closed stretchBytes
 closed-bytes from zero ss = refl
 closed-bytes from (suc n) ss = simp append-assoc
@@ -79,7 +80,8 @@ listLeft bs at left gap = stretchBytes (stretchesFrom (at - gap) gap (fatesFrom 
 abbrev pub gapBytes : ℕ → ℕ → List ℕ
 gapBytes at gap = stretchBytes (closed (at - gap) gap [])
 
-fates-first : (left x : ℕ) (xs : List ℕ) (here : ℕ) → here ≡ belonging left (x ∷ xs) → fatesFrom left (x ∷ xs) ≡ fateOf here ∷ fatesFrom (here - 1) xs
+fates-first : (left x : ℕ) (xs : List ℕ) (here : ℕ) → here ≡ belonging left (x ∷ xs)
+    → fatesFrom left (x ∷ xs) ≡ fateOf here ∷ fatesFrom (here - 1) xs
 unfolding fatesFrom
 fates-first left x xs here e = rw e
 
@@ -88,7 +90,9 @@ module _ (bs : List ℕ) (at left here : ℕ) (within : at < length bs) (same : 
   byte = rw add-one (drop-cons bs at 0 within)
 
   turn : fatesFrom left (drop at bs) ≡ fateOf here ∷ fatesFrom (here - 1) (drop (at + 1) bs)
-  turn = ap (fatesFrom left) byte ∙ fates-first left (getD bs at 0) (drop (at + 1) bs) here (same ∙ ap (belonging left) byte)
+  turn =
+      ap (fatesFrom left) byte ∙ fates-first left (getD bs at 0) (drop (at + 1) bs) here
+      (same ∙ ap (belonging left) byte)
 
   turn-kept : (here ≡ 0 → ⊥) → fatesFrom left (drop at bs) ≡ kept ∷ fatesFrom (here - 1) (drop (at + 1) bs)
   turn-kept n = turn ∙ rw (fate-kept here n)

@@ -32,9 +32,12 @@ pub struct Salvaged {
 // Writes the kept events of `trace` at the start of `events`, and at the start of `stretches` offset
 // and length of each dropped stretch, as numbers; or nothing where it is refused.
 pub fn salvage(trace: &[u8], events: &mut [u8], stretches: &mut [u8]) -> Salvaged
-    ensures result { λ r. ⌜ r ≡ salvaged (now (trace .entry)) (length (now (events .entry))) (length (now (stretches .entry))) ⌝ }
-    ensures events { λ _. ⌜ now (events .exit) ≡ eventsAfter (now (trace .entry)) (now (events .entry)) (now (stretches .entry)) ⌝ }
-    ensures stretches { λ _. ⌜ now (stretches .exit) ≡ stretchesAfter (now (trace .entry)) (now (events .entry)) (now (stretches .entry)) ⌝ }
+    ensures result { λ r. ⌜ r ≡ salvaged (now (trace .entry)) (length (now (events .entry)))
+        (length (now (stretches .entry))) ⌝ }
+    ensures events { λ _. ⌜ now (events .exit) ≡ eventsAfter (now (trace .entry)) (now (events .entry))
+        (now (stretches .entry)) ⌝ }
+    ensures stretches { λ _. ⌜ now (stretches .exit) ≡ stretchesAfter (now (trace .entry)) (now (events .entry))
+        (now (stretches .entry)) ⌝ }
 {
     if MAX_TRACE < trace.len() {
         return refused(TRACE_TOO_LONG, 0);
@@ -58,9 +61,12 @@ pub fn salvage(trace: &[u8], events: &mut [u8], stretches: &mut [u8]) -> Salvage
 // The same for C: both lengths in one number, or the refusal with its place.
 #[no_mangle]
 pub extern "C" fn osek_salvage(trace: &[u8], events: &mut [u8], stretches: &mut [u8]) -> u64
-    ensures result { λ r. ⌜ r ≡ resultOf (salvaged (now (trace .entry)) (length (now (events .entry))) (length (now (stretches .entry)))) ⌝ }
-    ensures events { λ _. ⌜ now (events .exit) ≡ eventsAfter (now (trace .entry)) (now (events .entry)) (now (stretches .entry)) ⌝ }
-    ensures stretches { λ _. ⌜ now (stretches .exit) ≡ stretchesAfter (now (trace .entry)) (now (events .entry)) (now (stretches .entry)) ⌝ }
+    ensures result { λ r. ⌜ r ≡ resultOf (salvaged (now (trace .entry)) (length (now (events .entry)))
+        (length (now (stretches .entry)))) ⌝ }
+    ensures events { λ _. ⌜ now (events .exit) ≡ eventsAfter (now (trace .entry)) (now (events .entry))
+        (now (stretches .entry)) ⌝ }
+    ensures stretches { λ _. ⌜ now (stretches .exit) ≡ stretchesAfter (now (trace .entry)) (now (events .entry))
+        (now (stretches .entry)) ⌝ }
 {
     let r = salvage(trace, events, stretches);
     if r.refusal != 0 {

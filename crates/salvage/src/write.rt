@@ -17,7 +17,8 @@ ghost use Rattle.salvage.specs.Salvage.{Fitting};
 pub fn write_both(trace: &[u8], events: &mut [u8], stretches: &mut [u8])
     requires { ⌜ Fitting (now trace) (length (now events)) (length (now stretches)) ⌝ }
     ensures events { λ _. ⌜ now (events .exit) ≡ written (keptBytes (now (trace .entry))) (now (events .entry)) ⌝ }
-    ensures stretches { λ _. ⌜ now (stretches .exit) ≡ written (listBytes (now (trace .entry))) (now (stretches .entry)) ⌝ }
+    ensures stretches { λ _. ⌜ now (stretches .exit) ≡ written (listBytes (now (trace .entry)))
+        (now (stretches .entry)) ⌝ }
 {
     let mut left: usize = 0;
     let mut gap: usize = 0;
@@ -40,7 +41,8 @@ pub fn write_both(trace: &[u8], events: &mut [u8], stretches: &mut [u8])
 
 // Writes a stretch at a place of the list and returns the place after it; one without bytes is none.
 fn write_stretch(offset: usize, size: usize, at: usize, list: &mut [u8]) -> usize
-    requires { ⌜ (offset + size ≤ maxTrace) × (at + length (stretchBytes (closed offset size [])) ≤ length (now list)) ⌝ }
+    requires { ⌜ (offset + size ≤ maxTrace)
+        × (at + length (stretchBytes (closed offset size [])) ≤ length (now list)) ⌝ }
     ensures result { λ r. ⌜ r ≡ at + length (stretchBytes (closed offset size [])) ⌝ }
     ensures output { λ _. ⌜ now (list .exit) ≡ laid at (stretchBytes (closed offset size [])) (now (list .entry)) ⌝ }
 {

@@ -6,19 +6,17 @@ use borrow.Author.Needs.{needs}
 use Rattle.config_codec.proofs.read_config.Statement.{statement}
 use Rattle.config_codec.proofs.read_config.Tie as tie
 
-refused-requires : tie.Need-refused-requires
-refused-requires c κs = search needs
-
 returns : tie.Need-returns
 unfolding readConfig
-returns c = let a = c .before .before .before .args in rw (lt-leb (length (a .bytes .now)) maxLength (c .before .if1 .taken)) (c .refused .ensures)
-
-read-numbers-requires : tie.Need-read-numbers-requires
-read-numbers-requires c κs = search needs
+returns c =
+    let a = c .before .before .before .args in
+    rw (lt-leb (length (a .bytes .now)) maxLength (c .before .if1 .taken)) (c .refused .ensures)
 
 returns-2 : tie.Need-returns-2
 unfolding readConfig
-returns-2 c = let a = c .before .before .before .args in rw (le-leb (length (a .bytes .now)) maxLength (c .before .if1 .left)) (c .read-numbers .ensures)
+returns-2 c =
+    let a = c .before .before .before .args in
+    rw (le-leb (length (a .bytes .now)) maxLength (c .before .if1 .left)) (c .read-numbers .ensures)
 
 pub read-config-spec : {M : Type 1} → statement M
-read-config-spec = tie.close (tie.spec refused-requires returns read-numbers-requires returns-2)
+read-config-spec = tie.close (tie.spec (λ c κs. search needs) returns (λ c κs. search needs) returns-2)

@@ -21,8 +21,10 @@ returns-2 c = let a = c .before .before .before .before .before .args in
 write-numbers-requires : tie.Need-write-numbers-requires
 write-numbers-requires c κs = let a = c .before .before .before .before .before .before .args in
     let m = c .before .before .before .before .measure in
-    let e = c .before .before .if1 .left in
-    (faultless (a .config) (m .result) (m .ensures) e, omega (arith, measured-length (a .config) (m .result) (m .ensures) e, c .before .if2 .left))
+    let e = c .before .before .if1 .left in (
+      faultless (a .config) (m .result) (m .ensures) e,
+      omega (arith, measured-length (a .config) (m .result) (m .ensures) e, c .before .if2 .left),
+    )
 
 same-length : tie.Need-same-length
 same-length c = search needs
@@ -31,7 +33,9 @@ returns-3 : tie.Need-returns-3
 returns-3 c = let a = c .before .before .before .before .before .before .before .before .before .args in
     let m = c .before .before .before .before .before .before .before .measure in
     let w = c .before .before .write-numbers in
-    written-answer (a .config) (m .result) (m .ensures) (a .out .now) (c .before .before .before .before .before .if1 .left) (c .before .before .before .before .if2 .left) (w .last .1 .0) (w .ensures)
+    written-answer (a .config) (m .result) (m .ensures) (a .out .now)
+    (c .before .before .before .before .before .if1 .left) (c .before .before .before .before .if2 .left)
+    (w .last .1 .0) (w .ensures)
 
 pub write-config-spec : {M : Type 1} → statement M
 write-config-spec =

@@ -18,30 +18,13 @@ Inv-loop trace at₀ at = Unit {0}
 abbrev μ-loop : tie.MeasureT-loop
 μ-loop trace at₀ at = length trace - at
 
-fewer : (bs : List ℕ) (at : ℕ) (r : EventRead) → r ≡ readEvent bs at → r .refusal ≡ none → at < length bs → length bs - r .place < length bs - at
+fewer : (bs : List ℕ) (at : ℕ) (r : EventRead) → r ≡ readEvent bs at → r .refusal ≡ none → at < length bs
+    → length bs - r .place < length bs - at
 fewer bs at r e h lt = let later = rw (← e) at (event-reading bs at .after) in let k = later h in omega arith
-
-loop-holds : tie.Need-loop-holds Inv-loop μ-loop
-loop-holds c = tt
-
-read-event-requires : tie.Need-read-event-requires Inv-loop μ-loop
-read-event-requires c κs = search needs
-
-print-read-requires : tie.Need-print-read-requires Inv-loop μ-loop
-print-read-requires c κs = search needs
-
-returns : tie.Need-returns Inv-loop μ-loop
-returns c = tt
 
 loop-less : tie.Need-loop-less Inv-loop μ-loop
 loop-less c = let s = c .before .before .before .before .before in let r = c .before .before .before .read-event in
     fewer (s .before .before .args .trace .now) (s .loop .at) (r .result) (r .ensures) (c .if1 .left) (omega arith)
-
-loop-again : tie.Need-loop-again Inv-loop μ-loop
-loop-again c = tt
-
-returns-2 : tie.Need-returns-2 Inv-loop μ-loop
-returns-2 c = tt
 
 pub read-all-spec : {M : Type 1} → statement M
 read-all-spec =
@@ -49,10 +32,7 @@ read-all-spec =
     (tie.spec
     Inv-loop
     μ-loop
-    loop-holds
-    read-event-requires
-    print-read-requires
-    returns
+    (λ c. tt)
+    (λ c κs. search needs) (λ c κs. search needs) (λ c. tt)
     loop-less
-    loop-again
-    returns-2)
+    (λ c. tt) (λ c. tt))

@@ -27,14 +27,14 @@ returns : tie.Need-returns
 returns c =
     let a = c .before .before .before .before .before .before .args in
     let u = c .before .before .before .before .unborne in
-    uses-in-order (a .text .now) (a .words) (u .result) (u .ensures) (c .before .before .if1 .taken) _ (c .ranged .ensures ∙ ap (λ
-    (c : Config). ranged c) (c .before .fill .ensures))
+    uses-in-order (a .text .now) (a .words) (u .ensures) (c .before .before .if1 .taken)
+    (c .ranged .ensures ∙ ap (λ (c : Config). ranged c) (c .before .fill .ensures))
 
 returns-2 : tie.Need-returns-2
 returns-2 c =
     let a = c .before .before .before .before .before .args in
     let u = c .before .before .before .unborne in
-    uses-refused (a .text .now) (a .words) (u .result) (u .ensures) (c .before .if1 .left) _ (c .refused .ensures)
+    uses-refused (a .text .now) (a .words) (u .ensures) (c .before .if1 .left) (c .refused .ensures)
 
 pub after-words-spec : {M : Type 1} → statement M
 after-words-spec =

@@ -5,46 +5,33 @@ use borrow.Author.Needs.{needs}
 use Rattle.oil.proofs.osek_oil.Statement.{statement}
 use Rattle.oil.proofs.osek_oil.Tie as tie
 
-read-oil-requires : tie.Need-read-oil-requires
-read-oil-requires c κs = search needs
-
-packed-requires : tie.Need-packed-requires
-packed-requires c κs = search needs
-
 returns : tie.Need-returns
 returns c =
     let a = c .before .before .before .before .before .before .before .args in
     let r = c .before .before .before .before .read-oil in
-    refused-answer (a .text .now) (a .config .now) (r .result) (r .ensures) (c .packed .result) (c .packed .ensures) (c .before .if1 .taken)
-
-write-config-requires : tie.Need-write-config-requires
-write-config-requires c κs = search needs
+    refused-answer (a .text .now) (a .config .now) (r .ensures) (c .packed .ensures) (c .before .if1 .taken)
 
 packed-requires-2 : tie.Need-packed-requires-2
 packed-requires-2 c κs =
     let o = c .before .before .write-config in
-    place-lt (c .before .before .before .before .before .before .before .before .read-oil .result .config) _ (o .result) (o .ensures .0)
-
-same-length : tie.Need-same-length
-same-length c = search needs
+    let r = c .before .before .before .before .before .before .before .before .read-oil in
+    place-lt (r .result .config) _ (o .ensures .0)
 
 returns-2 : tie.Need-returns-2
 returns-2 c =
     let a = c .before .before .before .before .before .before .before .before .before .before .before .before .args in
     let r = c .before .before .before .before .before .before .before .before .before .read-oil in
     let o = c .before .before .before .write-config in
-    written-answer (a .text .now) (a .config .now) (r .result) (r .ensures) (c .packed2 .result)
-    (c .before .before .before .before .before .before .if1 .left) (o .result) (o .ensures .0) (c .packed2 .ensures) (o .last .1 .0)
-    (o .ensures .1)
+    written-answer (a .text .now) (a .config .now) (r .ensures)
+    (c .before .before .before .before .before .before .if1 .left) (o .ensures .0) (c .packed2 .ensures) (o .ensures .1)
 
 pub osek-oil-spec : {M : Type 1} → statement M
 osek-oil-spec =
     tie.close
     (tie.spec
-    read-oil-requires
-    packed-requires
+    (λ c κs. search needs) (λ c κs. search needs)
     returns
-    write-config-requires
+    (λ c κs. search needs)
     packed-requires-2
-    same-length
+    (λ c. search needs)
     returns-2)

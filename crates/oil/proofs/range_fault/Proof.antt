@@ -4,22 +4,15 @@ use borrow.Author.Needs.{needs}
 use Rattle.oil.proofs.range_fault.Statement.{statement}
 use Rattle.oil.proofs.range_fault.Tie as tie
 
-slice-aggregate-write-config : tie.Need-slice-aggregate-write-config
-slice-aggregate-write-config c = search needs
-
-write-config-requires : tie.Need-write-config-requires
-write-config-requires c κs = search needs
-
 returns : tie.Need-returns
 returns c =
     let o = c .before .before .before .write-config in
-    fault-told (c .before .before .before .before .before .args .config) (o .result) (o .ensures .0) (c .if1 .taken)
+    fault-told (c .before .before .before .before .before .args .config) (o .ensures .0) (c .if1 .taken)
 
 returns-2 : tie.Need-returns-2
 returns-2 c =
     let o = c .before .before .before .write-config in
-    room-told (c .before .before .before .before .before .args .config) (o .result) (o .ensures .0) (c .if1 .left)
+    room-told (c .before .before .before .before .before .args .config) (o .ensures .0) (c .if1 .left)
 
 pub range-fault-spec : {M : Type 1} → statement M
-range-fault-spec =
-    tie.close (tie.spec slice-aggregate-write-config write-config-requires returns returns-2)
+range-fault-spec = tie.close (tie.spec (λ c. search needs) (λ c κs. search needs) returns returns-2)

@@ -6,14 +6,9 @@ use borrow.Author.Needs.{needs}
 use Rattle.oil.proofs.ranged.Statement.{statement}
 use Rattle.oil.proofs.ranged.Tie as tie
 
-range-fault-requires : tie.Need-range-fault-requires
-range-fault-requires c κs = search needs
-
-empty-requires : tie.Need-empty-requires
-empty-requires c κs = search needs
-
 returns : tie.Need-returns
-returns c = rw (eq-eqb (firstFault (c .before .before .args .config)) 0 (sym (c .before .range-fault .ensures) ∙ c .if1 .taken))
+returns c =
+    rw (eq-eqb (firstFault (c .before .before .args .config)) 0 (sym (c .before .range-fault .ensures) ∙ c .if1 .taken))
 
 returns-2 : tie.Need-returns-2
 returns-2 c = rw (
@@ -24,4 +19,4 @@ returns-2 c = rw (
 )
 
 pub ranged-spec : {M : Type 1} → statement M
-ranged-spec = tie.close (tie.spec range-fault-requires empty-requires returns returns-2)
+ranged-spec = tie.close (tie.spec (λ c κs. search needs) (λ c κs. search needs) returns returns-2)

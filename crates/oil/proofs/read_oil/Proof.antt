@@ -5,26 +5,27 @@ use borrow.Author.Needs.{needs}
 use Rattle.oil.proofs.read_oil.Statement.{statement}
 use Rattle.oil.proofs.read_oil.Tie as tie
 
-walk-requires : tie.Need-walk-requires
-walk-requires c κs = search needs
-
-after-words-requires : tie.Need-after-words-requires
-after-words-requires c κs = search needs
-
 refused-requires : tie.Need-refused-requires
-refused-requires c κs = rw (c .before .before .walk .ensures) (walked-place (c .before .before .before .before .args .text .now))
+refused-requires c κs =
+    rw (c .before .before .walk .ensures) (walked-place (c .before .before .before .before .args .text .now))
 
 returns : tie.Need-returns
 returns c =
     let v = c .before .before .before .walk in
-    words-in-order (c .before .before .before .before .before .args .text .now) (v .result) (v .ensures) (c .before .if1 .taken) _
-    (c .after-words .ensures)
+    words-in-order (c .before .before .before .before .before .args .text .now) (v .ensures)
+    (c .before .if1 .taken) (c .after-words .ensures)
 
 returns-2 : tie.Need-returns-2
 returns-2 c =
     let v = c .before .before .before .walk in
-    words-refused (c .before .before .before .before .before .args .text .now) (v .result) (v .ensures) (c .before .if1 .left) _ (c .refused .ensures)
+    words-refused (c .before .before .before .before .before .args .text .now) (v .ensures)
+    (c .before .if1 .left) (c .refused .ensures)
 
 pub read-oil-spec : {M : Type 1} → statement M
 read-oil-spec =
-    tie.close (tie.spec walk-requires after-words-requires refused-requires returns returns-2)
+    tie.close
+    (tie.spec
+    (λ c κs. search needs) (λ c κs. search needs)
+    refused-requires
+    returns
+    returns-2)

@@ -3,17 +3,8 @@ use borrow.Author.Needs.{needs}
 use Rattle.oil.proofs.refused.Statement.{statement}
 use Rattle.oil.proofs.refused.Tie as tie
 
-empty-requires : tie.Need-empty-requires
-empty-requires c κs = search needs
-
-line-of-requires : tie.Need-line-of-requires
-line-of-requires c κs = search needs
-
-column-of-requires : tie.Need-column-of-requires
-column-of-requires c κs = search needs
-
 returns : tie.Need-returns
 returns c = rw (c .before .before .empty .ensures, c .before .line-of .ensures, c .column-of .ensures)
 
 pub refused-spec : {M : Type 1} → statement M
-refused-spec = tie.close (tie.spec empty-requires line-of-requires column-of-requires returns)
+refused-spec = tie.close (tie.spec (λ c κs. search needs) (λ c κs. search needs) (λ c κs. search needs) returns)

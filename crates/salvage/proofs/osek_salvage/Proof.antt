@@ -10,23 +10,10 @@ use Rattle.salvage.proofs.osek_salvage.Tie as tie
 small : (c : tie.After-salvage) → Small (c .salvage .result)
 small c = rw (c .salvage .ensures .0) (salvaged-small _ _ _)
 
-salvage-requires : tie.Need-salvage-requires
-salvage-requires c κs = search needs
-
-cast-result : tie.Need-cast-result
-cast-result c = search needs
-
-mul-result : tie.Need-mul-result
-mul-result c = search needs
-
 add-result : tie.Need-add-result
-add-result c = let s = small (c .before .before .before .before .before .before .before) in omega (arith, s .refusal-le, s .place-le)
-
-same-length : tie.Need-same-length
-same-length c = search needs
-
-same-length-2 : tie.Need-same-length-2
-same-length-2 c = search needs
+add-result c =
+    let s = small (c .before .before .before .before .before .before .before) in
+    omega (arith, s .refusal-le, s .place-le)
 
 returns : tie.Need-returns
 returns c = let r = c .before .before .before .before .before .before .before .salvage in
@@ -36,13 +23,9 @@ mul-result-2 : tie.Need-mul-result-2
 mul-result-2 c = let s = small (c .before .before .before .before .before .before) in omega (arith, s .stretches-le)
 
 add-result-2 : tie.Need-add-result-2
-add-result-2 c = let s = small (c .before .before .before .before .before .before) in omega (arith, s .stretches-le, s .events-le)
-
-same-length-3 : tie.Need-same-length-3
-same-length-3 c = search needs
-
-same-length-4 : tie.Need-same-length-4
-same-length-4 c = search needs
+add-result-2 c =
+    let s = small (c .before .before .before .before .before .before) in
+    omega (arith, s .stretches-le, s .events-le)
 
 returns-2 : tie.Need-returns-2
 returns-2 c = let r = c .before .before .before .before .before .before .salvage in
@@ -52,15 +35,11 @@ pub osek-salvage-spec : {M : Type 1} → statement M
 osek-salvage-spec =
     tie.close
     (tie.spec
-    salvage-requires
-    cast-result
-    mul-result
+    (λ c κs. search needs) (λ c. search needs) (λ c. search needs)
     add-result
-    same-length
-    same-length-2
+    (λ c. search needs) (λ c. search needs)
     returns
     mul-result-2
     add-result-2
-    same-length-3
-    same-length-4
+    (λ c. search needs) (λ c. search needs)
     returns-2)

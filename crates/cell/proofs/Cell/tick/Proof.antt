@@ -1,5 +1,5 @@
--- `cell::Cell::tick` meets its contract: its count, its mark, its counter and its turn are those of `ticked-made`, whichever way each test
--- went.
+-- `cell::Cell::tick` meets its contract: its count, its mark, its counter and its turn are those of `ticked-made`,
+-- whichever way each test went.
 use borrow.Author.Needs.{needs}
 use mathlib.Core.Logic.{⊎-elim}
 use mathlib.Core.Path.{_∙_}
@@ -7,12 +7,6 @@ use Rattle.cell.specs.Cell.{modulus}
 use Rattle.cell.proofs.Tick.{ticked-made}
 use Rattle.cell.proofs.Cell.tick.Statement.{statement}
 use Rattle.cell.proofs.Cell.tick.Tie as tie
-
-wrapping-add-u16-requires : tie.Need-wrapping-add-u16-requires
-wrapping-add-u16-requires c κs = search needs
-
-make-requires : tie.Need-make-requires
-make-requires c κs = search needs
 
 returns : tie.Need-returns
 returns c =
@@ -22,7 +16,8 @@ returns c =
     let reached = marked .before in
     let counted = reached .before in
     c .make .ensures
-    ∙ ticked-made modulus (counted .before .args .self) (counted .if1 .counter) (reached .if2 .reached) (marked .if3 .matched) (set .if4 .next) (turned .if5 .turn)
+    ∙ ticked-made modulus (counted .before .args .self) (counted .if1 .counter) (reached .if2 .reached)
+    (marked .if3 .matched) (set .if4 .next) (turned .if5 .turn)
     (⊎-elim (λ w. rw (w .0 .taken) (w .2 ∙ w .1 .ensures)) (λ w. rw (w .0 .left) (w .1)) (counted .if1 .came))
     (⊎-elim (λ w. rw (w .0 .taken) (w .1)) (λ w. rw (w .0 .left) (w .1 ∙ w .0 .left)) (reached .if2 .came))
     (⊎-elim (λ w. rw (w .0 .taken) (w .2)) (λ w. rw (w .0 .left) (w .1 ∙ w .0 .left)) (marked .if3 .came))
@@ -30,4 +25,4 @@ returns c =
     (⊎-elim (λ w. rw (w .0 .taken) (w .1)) (λ w. rw (w .0 .left) (w .1 ∙ w .0 .left)) (turned .if5 .came))
 
 pub tick-spec : {M : Type 1} → statement M
-tick-spec = tie.close (tie.spec wrapping-add-u16-requires make-requires returns)
+tick-spec = tie.close (tie.spec (λ c κs. search needs) (λ c κs. search needs) returns)

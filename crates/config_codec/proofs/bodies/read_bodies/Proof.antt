@@ -11,8 +11,8 @@ use Rattle.config_codec.proofs.bodies.read_bodies.Tie as tie
 
 abbrev Inv-loop : tie.InvT-loop
 Inv-loop bytes from n kind₀ priority₀ autostart₀ at₀ i₀ kind priority autostart at i =
-    (i ≤ n) × ((g : Config) → ReadsOn bytes from (bodyOn g n 0 kind₀ priority₀ autostart₀) → ReadsOn bytes at
-    (bodyOn g n i kind priority autostart))
+    (i ≤ n) × ((g : Config) → ReadsOn bytes from (bodyOn g n 0 kind₀ priority₀ autostart₀)
+    → ReadsOn bytes at (bodyOn g n i kind priority autostart))
 
 abbrev μ-loop : tie.MeasureT-loop
 μ-loop bytes from n kind₀ priority₀ autostart₀ at₀ i₀ kind priority autostart at i = n - i
@@ -32,7 +32,7 @@ returns c =
     let a = c₉ .args in
     let l = c₇ .loop in
     let b = c₂ .read-body in
-    λ g o. stopped (a .bytes .now) (b .result .refusal) (b .result .place) _ _ (c .if1 .taken)
+    λ g o. stopped (c .if1 .taken)
     (b .ensures g (a .n) (body-more g (a .bytes .now) (a .n) (l .at) (l .i) (l .kind) (l .priority) (l .autostart)
     (l .inv .1 g o) (c₆ .loop-test .taken)))
 
@@ -62,8 +62,8 @@ returns-2 c =
     let c₃ = c .before .before .before in
     let a = c₃ .args in
     let l = c .before .loop in
-    λ g o. arrived (a .bytes .now) (l .at) _
-    (body-last g (a .bytes .now) (a .n) (l .at) (l .i) (l .kind) (l .priority) (l .autostart) (l .inv .1 g o)
+    λ g o. arrived (body-last g (a .bytes .now) (a .n) (l .at) (l .i) (l .kind) (l .priority) (l .autostart)
+    (l .inv .1 g o)
     (l .inv .0) (c .loop-test .left))
 
 pub read-bodies-spec : {M : Type 1} → statement M

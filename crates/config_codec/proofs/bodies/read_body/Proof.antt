@@ -15,15 +15,12 @@ use borrow.Author.Needs.{needs}
 use Rattle.config_codec.proofs.bodies.read_body.Statement.{statement}
 use Rattle.config_codec.proofs.bodies.read_body.Tie as tie
 
-read-within-requires : tie.Need-read-within-requires
-read-within-requires c κs = search needs
-
 returns : tie.Need-returns
 returns c =
     let c₂ = c .before .before in let c₄ = c₂ .before .before in
     let a = c₄ .args in
     let k = c₂ .read-within in
-    λ g n o. stopped (a .bytes .now) (k .result .refusal) (k .result .place) _ _ (c .if1 .taken)
+    λ g n o. stopped (c .if1 .taken)
     (kind-goes g (a .bytes .now) n (a .at) (a .i) (a .kind .now) (a .priority .now) (a .autostart .now) o (k .result)
     (k .ensures))
 
@@ -35,12 +32,6 @@ cast-kind c =
     let h = in-range (a .bytes .now) (a .at) 0 lastKind badField (lit< tt) (k .result) (k .ensures)
     (c .before .if1 .left) in omega arith
 
-element-write-kind : tie.Need-element-write-kind
-element-write-kind c = search needs
-
-read-priority-requires : tie.Need-read-priority-requires
-read-priority-requires c κs = search needs
-
 returns-2 : tie.Need-returns-2
 returns-2 c =
     let c₂ = c .before .before in let c₅ = c₂ .before .before .before in let c₇ = c₅ .before .before in
@@ -48,7 +39,7 @@ returns-2 c =
     let a = c₉ .args in
     let k = c₇ .read-within in
     let p = c₂ .read-priority in
-    λ g n o. stopped (a .bytes .now) (p .result .refusal) (p .result .place) _ _ (c .if2 .taken)
+    λ g n o. stopped (c .if2 .taken)
     (priority-goes g (a .bytes .now) n (a .at) (a .i) (a .kind .now) (a .priority .now) (a .autostart .now) o
     (k .result) (k .ensures) (c₅ .if1 .left) (p .result) (p .ensures))
 
@@ -61,18 +52,6 @@ cast-priority c =
     let h = priority-small (a .bytes .now) (c₈ .read-within .result .place) (a .i) (a .priority .now) (p .result)
     (p .ensures) (c .before .if2 .left) in omega arith
 
-element-write-priority : tie.Need-element-write-priority
-element-write-priority c = search needs
-
-element-copy-out-most-autostart : tie.Need-element-copy-out-most-autostart
-element-copy-out-most-autostart c = search needs
-
-most-autostart-requires : tie.Need-most-autostart-requires
-most-autostart-requires c κs = search needs
-
-read-within-requires-2 : tie.Need-read-within-requires-2
-read-within-requires-2 c κs = search needs
-
 returns-3 : tie.Need-returns-3
 returns-3 c =
     let c₂ = c .before .before in let c₃ = c₂ .before in let c₆ = c₃ .before .before .before in
@@ -82,7 +61,7 @@ returns-3 c =
     let k = c₁₃ .read-within in
     let p = c₈ .read-priority in
     let q = c₂ .read-within2 in
-    λ g n o. stopped (a .bytes .now) (q .result .refusal) (q .result .place) _ _ (c .if3 .taken)
+    λ g n o. stopped (c .if3 .taken)
     (autostart-goes g (a .bytes .now) n (a .at) (a .i) (a .kind .now) (a .priority .now) (a .autostart .now) o
     (k .result) (k .ensures) (c₁₁ .if1 .left) (p .result) (p .ensures) (c₆ .if2 .left) (q .result)
     (q .ensures ∙ ap (λ (m : ℕ). checked (a .bytes .now) (p .result .place) (λ (v : ℕ). outside 0 m v badField))
@@ -105,9 +84,6 @@ cast-autostart c =
           (most-le (getD (set (a .kind .now) (a .i) (c₁₄ .read-within .result .value)) (a .i) 0)),
     )
 
-element-write-autostart : tie.Need-element-write-autostart
-element-write-autostart c = search needs
-
 returns-4 : tie.Need-returns-4
 returns-4 c =
     let c₃ = c .before .before .before in let c₄ = c₃ .before in let c₇ = c₄ .before .before .before in
@@ -117,8 +93,8 @@ returns-4 c =
     let k = c₁₄ .read-within in
     let p = c₉ .read-priority in
     let q = c₃ .read-within2 in
-    λ g n o. arrived (a .bytes .now) (q .result .place) _
-    (autostart-goes g (a .bytes .now) n (a .at) (a .i) (a .kind .now) (a .priority .now) (a .autostart .now) o
+    λ g n o. arrived (autostart-goes g (a .bytes .now) n (a .at) (a .i) (a .kind .now) (a .priority .now)
+    (a .autostart .now) o
     (k .result) (k .ensures) (c₁₂ .if1 .left) (p .result) (p .ensures) (c₇ .if2 .left) (q .result)
     (q .ensures ∙ ap (λ (m : ℕ). checked (a .bytes .now) (p .result .place) (λ (v : ℕ). outside 0 m v badField))
     (c₄ .most-autostart .ensures)) .0 (c .before .if3 .left))
@@ -127,18 +103,14 @@ pub read-body-spec : {M : Type 1} → statement M
 read-body-spec =
     tie.close
     (tie.spec
-    read-within-requires
+    (λ c κs. search needs)
     returns
     cast-kind
-    element-write-kind
-    read-priority-requires
+    (λ c. search needs) (λ c κs. search needs)
     returns-2
     cast-priority
-    element-write-priority
-    element-copy-out-most-autostart
-    most-autostart-requires
-    read-within-requires-2
+    (λ c. search needs) (λ c. search needs) (λ c κs. search needs) (λ c κs. search needs)
     returns-3
     cast-autostart
-    element-write-autostart
+    (λ c. search needs)
     returns-4)

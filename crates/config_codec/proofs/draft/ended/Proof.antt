@@ -32,9 +32,6 @@ others Offset h = refl
 others Task h = refl
 others End h = absurd (miss going 12 tt h)
 
-enum-told : tie.Need-enum-told
-enum-told c = search needs
-
 returns : tie.Need-returns
 unfolding ended
 returns c = sym (ap ended (c .enum-told .given .1))
@@ -43,4 +40,4 @@ returns-2 : tie.Need-returns-2
 returns-2 c = others (c .before .args .d .field) (c .match .keys2)
 
 pub ended-spec : {M : Type 1} → statement M
-ended-spec = tie.close (tie.spec enum-told returns returns-2)
+ended-spec = tie.close (tie.spec (λ c. search needs) returns returns-2)

@@ -4,12 +4,9 @@ use borrow.Author.Needs.{needs}
 use Rattle.config_codec.proofs.draft.priority_fault.Statement.{statement}
 use Rattle.config_codec.proofs.draft.priority_fault.Tie as tie
 
-priority-in-requires : tie.Need-priority-in-requires
-priority-in-requires c κs = search needs
-
 returns : tie.Need-returns
 unfolding faultAt
 returns c = c .priority-in .ensures
 
 pub priority-fault-spec : {M : Type 1} → statement M
-priority-fault-spec = tie.close (tie.spec priority-in-requires returns)
+priority-fault-spec = tie.close (tie.spec (λ c κs. search needs) returns)

@@ -7,11 +7,8 @@ use borrow.Author.Needs.{needs}
 use Rattle.config_codec.proofs.draft.start.Statement.{statement}
 use Rattle.config_codec.proofs.draft.start.Tie as tie
 
-no-config-requires : tie.Need-no-config-requires
-no-config-requires c κs = search needs
-
 returns : tie.Need-returns
 returns c = ap (λ (x : Config). onTo start x Version) (c .no-config .ensures)
 
 pub start-spec : {M : Type 1} → statement M
-start-spec = tie.close (tie.spec no-config-requires returns)
+start-spec = tie.close (tie.spec (λ c κs. search needs) returns)

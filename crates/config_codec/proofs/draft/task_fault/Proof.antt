@@ -5,13 +5,10 @@ use borrow.Author.Needs.{needs}
 use Rattle.config_codec.proofs.draft.task_fault.Statement.{statement}
 use Rattle.config_codec.proofs.draft.task_fault.Tie as tie
 
-task-in-requires : tie.Need-task-in-requires
-task-in-requires c κs = search needs
-
 returns : tie.Need-returns
 returns c =
     let c₁₀ = c .before .before .before .before .before .before .before .before .before .before in
     let a = c₁₀ .args in c .task-in .ensures ∙ task-same (a .d) (a .v)
 
 pub task-fault-spec : {M : Type 1} → statement M
-task-fault-spec = tie.close (tie.spec task-in-requires returns)
+task-fault-spec = tie.close (tie.spec (λ c κs. search needs) returns)

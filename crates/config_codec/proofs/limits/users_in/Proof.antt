@@ -10,12 +10,6 @@ use borrow.Author.Needs.{needs}
 use Rattle.config_codec.proofs.limits.users_in.Statement.{statement}
 use Rattle.config_codec.proofs.limits.users_in.Tie as tie
 
-all-bodies-requires : tie.Need-all-bodies-requires
-all-bodies-requires c κs = search needs
-
-outside-requires : tie.Need-outside-requires
-outside-requires c κs = search needs
-
 returns : tie.Need-returns
 returns c =
     let c₁ = c .before in let a = c₁ .before .before .args in
@@ -27,15 +21,6 @@ returns c =
           .all-bodies .ensures,
     )
     (nothing-more (outside 1 (2 ^ a .bodies - 1) (a .v) badField))
-
-timed-in-requires : tie.Need-timed-in-requires
-timed-in-requires c κs = search needs
-
-unless-requires : tie.Need-unless-requires
-unless-requires c κs = search needs
-
-and-then-requires : tie.Need-and-then-requires
-and-then-requires c κs = search needs
 
 returns-2 : tie.Need-returns-2
 returns-2 c =
@@ -53,10 +38,7 @@ pub users-in-spec : {M : Type 1} → statement M
 users-in-spec =
     tie.close
     (tie.spec
-    all-bodies-requires
-    outside-requires
+    (λ c κs. search needs) (λ c κs. search needs)
     returns
-    timed-in-requires
-    unless-requires
-    and-then-requires
+    (λ c κs. search needs) (λ c κs. search needs) (λ c κs. search needs)
     returns-2)

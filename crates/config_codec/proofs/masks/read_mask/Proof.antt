@@ -6,36 +6,21 @@ use borrow.Author.Needs.{needs}
 use Rattle.config_codec.proofs.masks.read_mask.Statement.{statement}
 use Rattle.config_codec.proofs.masks.read_mask.Tie as tie
 
-read-number-requires : tie.Need-read-number-requires
-read-number-requires c κs = search needs
-
-users-in-requires : tie.Need-users-in-requires
-users-in-requires c κs = search needs
-
-tested-requires : tie.Need-tested-requires
-tested-requires c κs = search needs
-
 returns : tie.Need-returns
 returns c =
     let a = c .before .before .before .before .before .before .before .args in
     let t = c .before .before .tested in
     let c₄ = c .before .before .before in
-    λ g n o. stopped (a .bytes .now) (t .result .refusal) (t .result .place) _ _ (c .if1 .taken)
+    λ g n o. stopped (c .if1 .taken)
     (mask-goes g (a .bytes .now) n (a .at) (a .bodies) (a .kind .now) (a .i) (a .users .now) o (t .result)
     (t .ensures ∙ rw (c₄ .users-in .ensures, c₄ .before .before .read-number .ensures)))
-
-mul-users : tie.Need-mul-users
-mul-users c = search needs
-
-element-write-users : tie.Need-element-write-users
-element-write-users c = search needs
 
 returns-2 : tie.Need-returns-2
 returns-2 c =
     let a = c .before .before .before .before .before .before .before .args in
     let t = c .before .before .tested in
     let c₄ = c .before .before .before in
-    λ g n o. arrived (a .bytes .now) (t .result .place) _
+    λ g n o. arrived
     ((mask-goes g (a .bytes .now) n (a .at) (a .bodies) (a .kind .now) (a .i) (a .users .now) o (t .result)
     (t .ensures ∙ rw (c₄ .users-in .ensures, c₄ .before .before .read-number .ensures))) .0 (c .if1 .left))
 
@@ -43,10 +28,7 @@ pub read-mask-spec : {M : Type 1} → statement M
 read-mask-spec =
     tie.close
     (tie.spec
-    read-number-requires
-    users-in-requires
-    tested-requires
+    (λ c κs. search needs) (λ c κs. search needs) (λ c κs. search needs)
     returns
-    mul-users
-    element-write-users
+    (λ c. search needs) (λ c. search needs)
     returns-2)

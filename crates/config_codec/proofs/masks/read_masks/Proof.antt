@@ -12,14 +12,11 @@ use Rattle.config_codec.proofs.masks.read_masks.Tie as tie
 
 abbrev Inv-loop : tie.InvT-loop
 Inv-loop bytes from n bodies kind users₀ timed at₀ i₀ users at i =
-    (i ≤ n) × ((g : Config) → ReadsOn bytes from (usersOn g n bodies kind 0 users₀) → ReadsOn bytes at
-    (usersOn g n bodies kind i users))
+    (i ≤ n) × ((g : Config) → ReadsOn bytes from (usersOn g n bodies kind 0 users₀)
+    → ReadsOn bytes at (usersOn g n bodies kind i users))
 
 abbrev μ-loop : tie.MeasureT-loop
 μ-loop bytes from n bodies kind users₀ timed at₀ i₀ users at i = n - i
-
-timed-body-requires : tie.Need-timed-body-requires Inv-loop μ-loop
-timed-body-requires c κs = search needs
 
 loop-holds : tie.Need-loop-holds Inv-loop μ-loop
 loop-holds c = (omega arith, λ g o. o)
@@ -36,7 +33,7 @@ returns c =
     let a = c₉ .args in
     let l = c₅ .loop in
     let m = c₂ .read-mask in
-    λ g o. stopped (a .bytes .now) (m .result .refusal) (m .result .place) _ _ (c .if1 .taken)
+    λ g o. stopped (c .if1 .taken)
     (m .ensures g (a .n) (mask-more g (a .bytes .now) (a .n) (l .at) (a .bodies) (a .kind .now) (l .i) (l .users)
     (l .inv .1 g o) (c₄ .loop-test .taken)))
 
@@ -66,8 +63,8 @@ returns-2 c =
     let c₅ = c .before .before .before .before .before in
     let a = c₅ .args in
     let l = c .before .loop in
-    λ g o. arrived (a .bytes .now) (l .at) _
-    (mask-last g (a .bytes .now) (a .n) (l .at) (a .bodies) (a .kind .now) (l .i) (l .users) (l .inv .1 g o)
+    λ g o. arrived (mask-last g (a .bytes .now) (a .n) (l .at) (a .bodies) (a .kind .now) (l .i) (l .users)
+    (l .inv .1 g o)
     (l .inv .0) (c .loop-test .left))
 
 pub read-masks-spec : {M : Type 1} → statement M
@@ -76,7 +73,7 @@ read-masks-spec =
     (tie.spec
     Inv-loop
     μ-loop
-    timed-body-requires
+    (λ c κs. search needs)
     loop-holds
     read-mask-requires
     returns

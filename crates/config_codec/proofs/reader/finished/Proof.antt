@@ -5,9 +5,6 @@ use borrow.Author.Needs.{needs}
 use Rattle.config_codec.proofs.reader.finished.Statement.{statement}
 use Rattle.config_codec.proofs.reader.finished.Tie as tie
 
-refused-requires : tie.Need-refused-requires
-refused-requires c κs = search needs
-
 returns : tie.Need-returns
 returns c =
     let c₃ = c .before .before .before in
@@ -18,4 +15,4 @@ returns-2 c =
     let a = c .before .before .args in rw (eq-eqb (a .at) (length (a .bytes .now)) (c .if1 .left))
 
 pub finished-spec : {M : Type 1} → statement M
-finished-spec = tie.close (tie.spec refused-requires returns returns-2)
+finished-spec = tie.close (tie.spec (λ c κs. search needs) returns returns-2)

@@ -10,12 +10,6 @@ use borrow.Author.Needs.{needs}
 use Rattle.config_codec.proofs.reader.read_numbers.Statement.{statement}
 use Rattle.config_codec.proofs.reader.read_numbers.Tie as tie
 
-read-within-requires : tie.Need-read-within-requires
-read-within-requires c κs = search needs
-
-refused-requires : tie.Need-refused-requires
-refused-requires c κs = search needs
-
 returns : tie.Need-returns
 returns c =
     let c₃ = c .before .before .before in let c₅ = c₃ .before .before in
@@ -29,9 +23,6 @@ cast-with-bodies c =
     let h = in-range (c₅ .args .bytes .now) 0 1 newestVersion badVersion (lit< tt) (v .result) (v .ensures)
     (c .before .if1 .left) in omega (arith, h .1)
 
-with-bodies-requires : tie.Need-with-bodies-requires
-with-bodies-requires c κs = search needs
-
 returns-2 : tie.Need-returns-2
 returns-2 c =
     let c₂ = c .before .before in let c₄ = c₂ .before .before in let c₆ = c₄ .before .before in
@@ -42,9 +33,8 @@ pub read-numbers-spec : {M : Type 1} → statement M
 read-numbers-spec =
     tie.close
     (tie.spec
-    read-within-requires
-    refused-requires
+    (λ c κs. search needs) (λ c κs. search needs)
     returns
     cast-with-bodies
-    with-bodies-requires
+    (λ c κs. search needs)
     returns-2)

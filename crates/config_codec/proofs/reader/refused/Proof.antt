@@ -3,11 +3,8 @@ use borrow.Author.Needs.{needs}
 use Rattle.config_codec.proofs.reader.refused.Statement.{statement}
 use Rattle.config_codec.proofs.reader.refused.Tie as tie
 
-no-config-requires : tie.Need-no-config-requires
-no-config-requires c κs = search needs
-
 returns : tie.Need-returns
 returns c = rw (c .no-config .ensures)
 
 pub refused-spec : {M : Type 1} → statement M
-refused-spec = tie.close (tie.spec no-config-requires returns)
+refused-spec = tie.close (tie.spec (λ c κs. search needs) returns)

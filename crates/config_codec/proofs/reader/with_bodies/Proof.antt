@@ -10,12 +10,6 @@ use borrow.Author.Needs.{needs}
 use Rattle.config_codec.proofs.reader.with_bodies.Statement.{statement}
 use Rattle.config_codec.proofs.reader.with_bodies.Tie as tie
 
-read-within-requires : tie.Need-read-within-requires
-read-within-requires c κs = search needs
-
-refused-requires : tie.Need-refused-requires
-refused-requires c κs = search needs
-
 returns : tie.Need-returns
 returns c =
     let c₃ = c .before .before .before in let c₅ = c₃ .before .before in
@@ -23,17 +17,11 @@ returns c =
     λ w. c .refused .ensures ∙ bodies-goes (a .bytes .now) (a .at) (a .version) w (n .result) (n .ensures) .1
     (c .before .if1 .taken)
 
-cast-read-bodies : tie.Need-cast-read-bodies
-cast-read-bodies c = search needs
-
 read-bodies-requires : tie.Need-read-bodies-requires
 read-bodies-requires c κs =
     let c₄ = c .before .before .before .before in let c₆ = c₄ .before .before in let c₈ = c₆ .before .before in
     let h = in-range (c₈ .args .bytes .now) (c₈ .args .at) 1 maxBodies badCount (lit< tt) (c₆ .read-within .result)
     (c₆ .read-within .ensures) (c₄ .if1 .left) in h .1
-
-refused-requires-2 : tie.Need-refused-requires-2
-refused-requires-2 c κs = search needs
 
 returns-2 : tie.Need-returns-2
 returns-2 c =
@@ -78,12 +66,11 @@ pub with-bodies-spec : {M : Type 1} → statement M
 with-bodies-spec =
     tie.close
     (tie.spec
-    read-within-requires
-    refused-requires
+    (λ c κs. search needs) (λ c κs. search needs)
     returns
-    cast-read-bodies
+    (λ c. search needs)
     read-bodies-requires
-    refused-requires-2
+    (λ c κs. search needs)
     returns-2
     cast-with-masks
     with-masks-requires

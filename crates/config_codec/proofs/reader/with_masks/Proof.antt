@@ -11,12 +11,6 @@ use borrow.Author.Needs.{needs}
 use Rattle.config_codec.proofs.reader.with_masks.Statement.{statement}
 use Rattle.config_codec.proofs.reader.with_masks.Tie as tie
 
-read-within-requires : tie.Need-read-within-requires
-read-within-requires c κs = search needs
-
-refused-requires : tie.Need-refused-requires
-refused-requires c κs = search needs
-
 returns : tie.Need-returns
 returns c =
     let c₃ = c .before .before .before in let c₅ = c₃ .before .before in
@@ -24,17 +18,11 @@ returns c =
     λ w. c .refused .ensures ∙ resources-goes (a .bytes .now) (a .at) (a .version) (a .bodies) (a .t5) (a .priority)
     (a .autostart) w (n .result) (n .ensures) .1 (c .before .if1 .taken)
 
-cast-read-masks : tie.Need-cast-read-masks
-cast-read-masks c = search needs
-
 read-masks-requires : tie.Need-read-masks-requires
 read-masks-requires c κs =
     let c₃ = c .before .before .before in let c₅ = c₃ .before .before in let c₇ = c₅ .before .before in
     let h = in-range (c₇ .args .bytes .now) (c₇ .args .at) 0 maxResources badCount (lit< tt) (c₅ .read-within .result)
     (c₅ .read-within .ensures) (c₃ .if1 .left) in (h .1, c₇ .pre)
-
-refused-requires-2 : tie.Need-refused-requires-2
-refused-requires-2 c κs = search needs
 
 returns-2 : tie.Need-returns-2
 returns-2 c =
@@ -52,9 +40,6 @@ cast-with-tables c =
     let h = in-range (c₁₁ .args .bytes .now) (c₁₁ .args .at) 0 maxResources badCount (lit< tt)
     (c₉ .read-within .result) (c₉ .read-within .ensures) (c₇ .if1 .left) in omega (arith, h .1)
 
-with-tables-requires : tie.Need-with-tables-requires
-with-tables-requires c κs = search needs
-
 returns-3 : tie.Need-returns-3
 returns-3 c =
     let c₂ = c .before .before in let c₄ = c₂ .before .before in let c₈ = c₄ .before .before .before .before in
@@ -70,13 +55,12 @@ pub with-masks-spec : {M : Type 1} → statement M
 with-masks-spec =
     tie.close
     (tie.spec
-    read-within-requires
-    refused-requires
+    (λ c κs. search needs) (λ c κs. search needs)
     returns
-    cast-read-masks
+    (λ c. search needs)
     read-masks-requires
-    refused-requires-2
+    (λ c κs. search needs)
     returns-2
     cast-with-tables
-    with-tables-requires
+    (λ c κs. search needs)
     returns-3)

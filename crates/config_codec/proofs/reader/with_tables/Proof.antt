@@ -11,12 +11,6 @@ use borrow.Author.Needs.{needs}
 use Rattle.config_codec.proofs.reader.with_tables.Statement.{statement}
 use Rattle.config_codec.proofs.reader.with_tables.Tie as tie
 
-read-within-requires : tie.Need-read-within-requires
-read-within-requires c κs = search needs
-
-refused-requires : tie.Need-refused-requires
-refused-requires c κs = search needs
-
 returns : tie.Need-returns
 returns c =
     let c₃ = c .before .before .before in let c₅ = c₃ .before .before in
@@ -24,18 +18,12 @@ returns c =
     λ w. c .refused .ensures ∙ tables-goes (a .bytes .now) (a .at) (a .version) (a .bodies) (a .t5) (a .priority)
     (a .autostart) (a .resources) (a .users) w (n .result) (n .ensures) .1 (c .before .if1 .taken)
 
-cast-read-tables : tie.Need-cast-read-tables
-cast-read-tables c = search needs
-
 read-tables-requires : tie.Need-read-tables-requires
 read-tables-requires c κs =
     let c₆ = c .before .before .before .before .before .before in let c₈ = c₆ .before .before in
     let c₁₀ = c₈ .before .before in
     let h = in-range (c₁₀ .args .bytes .now) (c₁₀ .args .at) 0 maxTables badCount (lit< tt) (c₈ .read-within .result)
     (c₈ .read-within .ensures) (c₆ .if1 .left) in (h .1, c₁₀ .pre)
-
-refused-requires-2 : tie.Need-refused-requires-2
-refused-requires-2 c κs = search needs
 
 returns-2 : tie.Need-returns-2
 returns-2 c =
@@ -53,9 +41,6 @@ cast-t25 c =
     let c₁₂ = c₁₀ .before .before in let c₁₄ = c₁₂ .before .before in
     let h = in-range (c₁₄ .args .bytes .now) (c₁₄ .args .at) 0 maxTables badCount (lit< tt) (c₁₂ .read-within .result)
     (c₁₂ .read-within .ensures) (c₁₀ .if1 .left) in omega (arith, h .1)
-
-finished-requires : tie.Need-finished-requires
-finished-requires c κs = search needs
 
 returns-3 : tie.Need-returns-3
 returns-3 c =
@@ -75,13 +60,12 @@ pub with-tables-spec : {M : Type 1} → statement M
 with-tables-spec =
     tie.close
     (tie.spec
-    read-within-requires
-    refused-requires
+    (λ c κs. search needs) (λ c κs. search needs)
     returns
-    cast-read-tables
+    (λ c. search needs)
     read-tables-requires
-    refused-requires-2
+    (λ c κs. search needs)
     returns-2
     cast-t25
-    finished-requires
+    (λ c κs. search needs)
     returns-3)

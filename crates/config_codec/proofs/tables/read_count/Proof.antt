@@ -3,19 +3,9 @@ use borrow.Author.Needs.{needs}
 use Rattle.config_codec.proofs.tables.read_count.Statement.{statement}
 use Rattle.config_codec.proofs.tables.read_count.Tie as tie
 
-read-number-requires : tie.Need-read-number-requires
-read-number-requires c κs = search needs
-
-entries-in-requires : tie.Need-entries-in-requires
-entries-in-requires c κs = search needs
-
-tested-requires : tie.Need-tested-requires
-tested-requires c κs = search needs
-
 returns : tie.Need-returns
 returns c =
     rw (c .tested .ensures, c .before .entries-in .ensures, c .before .before .read-number .ensures)
 
 pub read-count-spec : {M : Type 1} → statement M
-read-count-spec =
-    tie.close (tie.spec read-number-requires entries-in-requires tested-requires returns)
+read-count-spec = tie.close (tie.spec (λ c κs. search needs) (λ c κs. search needs) (λ c κs. search needs) returns)

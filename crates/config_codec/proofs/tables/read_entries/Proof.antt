@@ -41,7 +41,7 @@ returns c =
     let a = c₈ .args in
     let l = c₆ .loop in
     let r = c₂ .read-entry in
-    λ g n w. stopped (a .bytes .now) (r .result .refusal) (r .result .place) _ _ (c .if1 .taken)
+    λ g n w. stopped (c .if1 .taken)
     (r .ensures g n (entry-more g (a .bytes .now) n (l .at) (a .bodies) (a .kind .now) (a .i) (l .e) (a .until)
     (a .period .now) (a .entries .now) (l .offset) (l .task) (c₅ .loop-test .taken) (l .inv .1 g n w)))
 
@@ -71,8 +71,8 @@ returns-2 c =
     let c₃ = c .before .before .before in
     let a = c₃ .args in
     let l = c .before .loop in
-    λ g n w. arrived (a .bytes .now) (l .at) _
-    (entry-last g (a .bytes .now) n (l .at) (a .bodies) (a .kind .now) (a .i) (l .e) (a .until) (a .period .now)
+    λ g n w. arrived (entry-last g (a .bytes .now) n (l .at) (a .bodies) (a .kind .now) (a .i) (l .e) (a .until)
+    (a .period .now)
     (a .entries .now) (l .offset) (l .task) (l .inv .0 .1) (c .loop-test .left) (l .inv .1 g n w))
 
 pub read-entries-spec : {M : Type 1} → statement M

@@ -7,30 +7,18 @@ use borrow.Author.Needs.{needs}
 use Rattle.config_codec.proofs.tables.read_entry.Statement.{statement}
 use Rattle.config_codec.proofs.tables.read_entry.Tie as tie
 
-read-offset-requires : tie.Need-read-offset-requires
-read-offset-requires c κs = search needs
-
 returns : tie.Need-returns
 returns c =
     let c₂ = c .before .before in let c₄ = c₂ .before .before in
     let a = c₄ .args in
     let o = c₂ .read-offset in
-    λ g n w. stopped (a .bytes .now) (o .result .refusal) (o .result .place) _ _ (c .if1 .taken)
+    λ g n w. stopped (c .if1 .taken)
     (offset-goes g (a .bytes .now) n (a .at) (a .bodies) (a .kind .now) (a .i) (a .e) (a .until) (a .period .now)
     (a .entries .now) (a .offset .now) (a .task .now) w (o .result) (o .ensures .0))
 
 cast-offset : tie.Need-cast-offset
 cast-offset c =
     let o = c .before .before .before .read-offset in omega (arith, o .ensures .1 (c .before .if1 .left))
-
-mul-offset : tie.Need-mul-offset
-mul-offset c = search needs
-
-element-write-offset : tie.Need-element-write-offset
-element-write-offset c = search needs
-
-read-task-requires : tie.Need-read-task-requires
-read-task-requires c κs = search needs
 
 returns-2 : tie.Need-returns-2
 returns-2 c =
@@ -39,7 +27,7 @@ returns-2 c =
     let a = c₁₀ .args in
     let o = c₈ .read-offset in
     let t = c₂ .read-task in
-    λ g n w. stopped (a .bytes .now) (t .result .refusal) (t .result .place) _ _ (c .if2 .taken)
+    λ g n w. stopped (c .if2 .taken)
     (task-goes g (a .bytes .now) n (a .at) (a .bodies) (a .kind .now) (a .i) (a .e) (a .until) (a .period .now)
     (a .entries .now) (a .offset .now) (a .task .now) w (o .result) (o .ensures .0)
     (c₆ .if1 .left) (t .result) (t .ensures))
@@ -56,9 +44,6 @@ cast-task c =
     (c .before .if2 .left) in
     omega (arith, h, c₁₁ .pre .0)
 
-element-write-task : tie.Need-element-write-task
-element-write-task c = search needs
-
 returns-3 : tie.Need-returns-3
 returns-3 c =
     let c₃ = c .before .before .before in let c₇ = c₃ .before .before .before .before in
@@ -66,8 +51,8 @@ returns-3 c =
     let a = c₁₁ .args in
     let o = c₉ .read-offset in
     let t = c₃ .read-task in
-    λ g n w. arrived (a .bytes .now) (t .result .place) _
-    (task-goes g (a .bytes .now) n (a .at) (a .bodies) (a .kind .now) (a .i) (a .e) (a .until) (a .period .now)
+    λ g n w. arrived (task-goes g (a .bytes .now) n (a .at) (a .bodies) (a .kind .now) (a .i) (a .e) (a .until)
+    (a .period .now)
     (a .entries .now) (a .offset .now) (a .task .now) w (o .result) (o .ensures .0)
     (c₇ .if1 .left) (t .result) (t .ensures) .0 (c .before .if2 .left))
 
@@ -75,13 +60,11 @@ pub read-entry-spec : {M : Type 1} → statement M
 read-entry-spec =
     tie.close
     (tie.spec
-    read-offset-requires
+    (λ c κs. search needs)
     returns
     cast-offset
-    mul-offset
-    element-write-offset
-    read-task-requires
+    (λ c. search needs) (λ c. search needs) (λ c κs. search needs)
     returns-2
     cast-task
-    element-write-task
+    (λ c. search needs)
     returns-3)

@@ -7,21 +7,6 @@ use borrow.Author.Needs.{needs}
 use Rattle.config_codec.proofs.tables.read_offset.Statement.{statement}
 use Rattle.config_codec.proofs.tables.read_offset.Tie as tie
 
-read-number-requires : tie.Need-read-number-requires
-read-number-requires c κs = search needs
-
-mul-offset-in : tie.Need-mul-offset-in
-mul-offset-in c = search needs
-
-element-copy-out-offset-in : tie.Need-element-copy-out-offset-in
-element-copy-out-offset-in c = search needs
-
-offset-in-requires : tie.Need-offset-in-requires
-offset-in-requires c κs = search needs
-
-tested-requires : tie.Need-tested-requires
-tested-requires c κs = search needs
-
 returns : tie.Need-returns
 returns c =
     let c₃ = c .before .before .before in let c₅ = c₃ .before .before in
@@ -35,9 +20,5 @@ pub read-offset-spec : {M : Type 1} → statement M
 read-offset-spec =
     tie.close
     (tie.spec
-    read-number-requires
-    mul-offset-in
-    element-copy-out-offset-in
-    offset-in-requires
-    tested-requires
+    (λ c κs. search needs) (λ c. search needs) (λ c. search needs) (λ c κs. search needs) (λ c κs. search needs)
     returns)

@@ -8,15 +8,12 @@ use borrow.Author.Needs.{needs}
 use Rattle.config_codec.proofs.tables.read_table.Statement.{statement}
 use Rattle.config_codec.proofs.tables.read_table.Tie as tie
 
-read-within-requires : tie.Need-read-within-requires
-read-within-requires c κs = search needs
-
 returns : tie.Need-returns
 returns c =
     let c₂ = c .before .before in let c₄ = c₂ .before .before in
     let s = c₄ in let a = s .args in
     let p = c₂ .read-within in (
-      λ g n w. stopped (a .bytes .now) (p .result .refusal) (p .result .place) _ _ (c .if1 .taken)
+      λ g n w. stopped (c .if1 .taken)
           (period-goes g (a .bytes .now) n (a .at) (a .bodies) (a .kind .now) (a .i) (a .e) (a .period .now)
           (a .entries .now) (a .offset .now) (a .task .now) w (p .result) (p .ensures)),
       s .pre .1 .1,
@@ -30,15 +27,6 @@ cast-period c =
     let h = in-range (a .bytes .now) (a .at) 1 65535 badField (lit< tt) (p .result) (p .ensures)
     (c .before .if1 .left) in omega (arith, h .1)
 
-mul-period : tie.Need-mul-period
-mul-period c = search needs
-
-element-write-period : tie.Need-element-write-period
-element-write-period c = search needs
-
-read-count-requires : tie.Need-read-count-requires
-read-count-requires c κs = search needs
-
 returns-2 : tie.Need-returns-2
 returns-2 c =
     let c₂ = c .before .before in let c₄ = c₂ .before .before in let c₆ = c₄ .before .before in
@@ -46,7 +34,7 @@ returns-2 c =
     let s = c₈ in let a = s .args in
     let p = c₆ .read-within in
     let y = c₂ .read-count in (
-      λ g n w. stopped (a .bytes .now) (y .result .refusal) (y .result .place) _ _ (c .if2 .taken)
+      λ g n w. stopped (c .if2 .taken)
           (count-goes g (a .bytes .now) n (a .at) (a .bodies) (a .kind .now) (a .i) (a .e) (a .period .now)
           (a .entries .now) (a .offset .now) (a .task .now) w (p .result) (p .ensures)
           (c₄ .if1 .left) (y .result) (y .ensures)),
@@ -61,15 +49,6 @@ cast-entries c =
     let y = c₃ .read-count in
     let h = count-small (a .bytes .now) (p .result .place) (a .e) (y .result) (y .ensures) (c .before .if2 .left) in
     omega (arith, h .0 .1)
-
-element-write-entries : tie.Need-element-write-entries
-element-write-entries c = search needs
-
-cast-until : tie.Need-cast-until
-cast-until c = search needs
-
-add-until : tie.Need-add-until
-add-until c = search needs
 
 read-entries-requires : tie.Need-read-entries-requires
 read-entries-requires c κs =
@@ -98,16 +77,12 @@ pub read-table-spec : {M : Type 1} → statement M
 read-table-spec =
     tie.close
     (tie.spec
-    read-within-requires
+    (λ c κs. search needs)
     returns
     cast-period
-    mul-period
-    element-write-period
-    read-count-requires
+    (λ c. search needs) (λ c. search needs) (λ c κs. search needs)
     returns-2
     cast-entries
-    element-write-entries
-    cast-until
-    add-until
+    (λ c. search needs) (λ c. search needs) (λ c. search needs)
     read-entries-requires
     returns-3)

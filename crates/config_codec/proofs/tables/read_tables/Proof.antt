@@ -35,7 +35,7 @@ returns c =
     let a = c₁₀ .args in
     let l = c₈ .loop in
     let t = c₂ .read-table in
-    λ g w. stopped (a .bytes .now) (t .result .refusal) (t .result .place) _ _ (c .if1 .taken)
+    λ g w. stopped (c .if1 .taken)
     (t .ensures .0 g (a .n) (table-more g (a .bytes .now) (a .n) (l .at) (a .bodies) (a .kind .now) (l .i) (l .e)
     (l .period) (l .entries) (l .offset) (l .task) (c₇ .loop-test .taken) (l .inv .1 g w)))
 
@@ -65,8 +65,8 @@ returns-2 c =
     let c₃ = c .before .before .before in
     let a = c₃ .args in
     let l = c .before .loop in
-    λ g w. arrived (a .bytes .now) (l .at) _
-    (table-last g (a .bytes .now) (a .n) (l .at) (a .bodies) (a .kind .now) (l .i) (l .e) (l .period) (l .entries)
+    λ g w. arrived (table-last g (a .bytes .now) (a .n) (l .at) (a .bodies) (a .kind .now) (l .i) (l .e) (l .period)
+    (l .entries)
     (l .offset) (l .task) (l .inv .0 .0) (c .loop-test .left) (l .inv .1 g w))
 
 pub read-tables-spec : {M : Type 1} → statement M

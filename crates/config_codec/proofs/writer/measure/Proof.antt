@@ -22,17 +22,12 @@ going : (c : tie.Else1 Inv-loop μ-loop) → ended (c .before .before .before .l
 going c = sym (c .before .ended .ensures) ∙ c .if1 .left
 
 -- and goes on where the number is in order
-in-order : (c : tie.Else2 Inv-loop μ-loop) → fault (c .before .before .before .before .before .before .loop .d) (c .before .before .asked .result) ≡ none
+in-order : (c : tie.Else2 Inv-loop μ-loop)
+    → fault (c .before .before .before .before .before .before .loop .d) (c .before .before .asked .result) ≡ none
 in-order c = sym (c .before .fault .ensures) ∙ c .if2 .left
-
-start-requires : tie.Need-start-requires Inv-loop μ-loop
-start-requires c κs = tt
 
 loop-holds : tie.Need-loop-holds Inv-loop μ-loop
 loop-holds c = rw (c .start .ensures) (measures-start (c .before .args .config))
-
-ended-requires : tie.Need-ended-requires Inv-loop μ-loop
-ended-requires c κs = tt
 
 asked-requires : tie.Need-asked-requires Inv-loop μ-loop
 asked-requires c κs = c .before .before .before .loop .inv .walks .within
@@ -43,18 +38,23 @@ fault-requires c κs = c .before .before .before .before .loop .inv .walks .with
 returns : tie.Need-returns Inv-loop μ-loop
 returns c = let t = c .before .before .before in
     let o = t .before .before .before in
-    measures-refused (o .before .before .args .config) (o .loop .counter) (o .loop .n) (o .loop .d) (o .loop .inv) (t .before .before .loop-test .taken) (going t) (c .before .before .asked .result) (c .before .before .asked .ensures) (c .before .fault .result) (c .before .fault .ensures) (c .if2 .taken)
-
-number-length-requires : tie.Need-number-length-requires Inv-loop μ-loop
-number-length-requires c κs = tt
+    measures-refused (o .loop .inv) (t .before .before .loop-test .taken) (going t) (c .before .before .asked .ensures)
+    (c .before .fault .ensures) (c .if2 .taken)
 
 add-n : tie.Need-add-n Inv-loop μ-loop
 add-n c = let o = c .before .before .before .before .before .before .before in
-    let small = measures-small (o .before .before .args .config) (o .loop .counter) (o .loop .n) (o .loop .d) (o .loop .inv) in
-    omega (arith, small, c .before .before .before .before .before .before .loop-test .taken, c .number-length .ensures, length-numberBytes (c .before .before .before .asked .result))
+    let small = measures-small (o .loop .inv) in
+    omega (
+      arith,
+      small,
+      c .before .before .before .before .before .before .loop-test .taken,
+      c .number-length .ensures,
+      length-numberBytes (c .before .before .before .asked .result),
+    )
 
 put-requires : tie.Need-put-requires Inv-loop μ-loop
-put-requires c κs = (c .before .before .before .before .before .before .before .loop .inv .walks .within, in-order (c .before))
+put-requires c κs =
+    (c .before .before .before .before .before .before .before .loop .inv .walks .within, in-order (c .before))
 
 add-counter : tie.Need-add-counter Inv-loop μ-loop
 add-counter c = omega (arith, c .before .before .before .before .before .before .before .loop-test .taken)
@@ -66,15 +66,17 @@ loop-again : tie.Need-loop-again Inv-loop μ-loop
 loop-again c = let t = c .before .before .before .before .before in
     let o = t .before .before .before in
     rw (c .put .ensures)
-    (measures-next (o .before .before .args .config) (o .loop .counter) (o .loop .n) (o .loop .d) (o .loop .inv) (t .before .before .loop-test .taken) (going t) (c .before .before .before .before .asked .result) (c .before .before .before .before .asked .ensures) (c .before .number-length .result) (c .before .number-length .ensures) (in-order (c .before .before)))
+    (measures-next (o .loop .inv) (t .before .before .loop-test .taken) (going t)
+    (c .before .before .before .before .asked .ensures) (c .before .number-length .ensures)
+    (in-order (c .before .before)))
 
 returns-2 : tie.Need-returns-2 Inv-loop μ-loop
 returns-2 c = let o = c .before in
-    measures-out (o .before .before .args .config) (o .loop .counter) (o .loop .n) (o .loop .d) (o .loop .inv) (c .loop-test .left)
+    measures-out (o .loop .inv) (c .loop-test .left)
 
 returns-3 : tie.Need-returns-3 Inv-loop μ-loop
 returns-3 c = let o = c .before .before .before in
-    measures-end (o .before .before .args .config) (o .loop .counter) (o .loop .n) (o .loop .d) (o .loop .inv) (sym (c .before .ended .ensures) ∙ c .if1 .taken)
+    measures-end (o .loop .inv) (sym (c .before .ended .ensures) ∙ c .if1 .taken)
 
 pub measure-spec : {M : Type 1} → statement M
 measure-spec =
@@ -82,13 +84,13 @@ measure-spec =
     (tie.spec
     Inv-loop
     μ-loop
-    start-requires
+    (λ c κs. tt)
     loop-holds
-    ended-requires
+    (λ c κs. tt)
     asked-requires
     fault-requires
     returns
-    number-length-requires
+    (λ c κs. tt)
     add-n
     put-requires
     add-counter

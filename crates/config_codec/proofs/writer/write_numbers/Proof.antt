@@ -22,18 +22,16 @@ abbrev μ-loop : tie.MeasureT-loop
 going : (c : tie.Else1 Inv-loop μ-loop) → ended (c .before .before .before .loop .d .field) ≡ false
 going c = sym (c .before .ended .ensures) ∙ c .if1 .left
 
-inside : (c : tie.After-asked Inv-loop μ-loop) → c .before .before .before .before .loop .at ≤ length (c .before .before .before .before .loop .out)
+inside : (c : tie.After-asked Inv-loop μ-loop)
+    → c .before .before .before .before .loop .at ≤ length (c .before .before .before .before .loop .out)
 inside c = let o = c .before .before .before .before in
-    let h = writes-room (o .before .before .before .args .config) (o .before .before .before .args .out .now) (o .loop .counter) (o .loop .at) (o .loop .d) (o .loop .out) (o .loop .inv) (c .before .before .before .loop-test .taken) (going (c .before)) in omega arith
-
-start-requires : tie.Need-start-requires Inv-loop μ-loop
-start-requires c κs = tt
+    let h = writes-room (o .loop .inv) (c .before .before .before .loop-test .taken) (going (c .before)) in
+    omega arith
 
 loop-holds : tie.Need-loop-holds Inv-loop μ-loop
-loop-holds c = let a = c .before .before in rw (c .start .ensures) (writes-start (a .args .config) (a .args .out .now) (a .pre .0) (a .pre .1))
-
-ended-requires : tie.Need-ended-requires Inv-loop μ-loop
-ended-requires c κs = tt
+loop-holds c =
+    let a = c .before .before in
+    rw (c .start .ensures) (writes-start (a .args .config) (a .args .out .now) (a .pre .0) (a .pre .1))
 
 asked-requires : tie.Need-asked-requires Inv-loop μ-loop
 asked-requires c κs = c .before .before .before .loop .inv .walks .within
@@ -44,27 +42,25 @@ sub-write-number c = inside c
 part-write-number-start : tie.Need-part-write-number-start Inv-loop μ-loop
 part-write-number-start c = inside c
 
-part-write-number-end : tie.Need-part-write-number-end Inv-loop μ-loop
-part-write-number-end c = search needs
-
-write-number-requires : tie.Need-write-number-requires Inv-loop μ-loop
-write-number-requires c κs = tt
-
 add-at : tie.Need-add-at Inv-loop μ-loop
 add-at c = let t = c .before .before .before .before .before .before in
     let o = t .before .before .before in
     let w = c .before .before .before .write-number in
     let n = c .before .before .before .before .before .asked in
-    let h = writes-small (o .before .before .before .args .config) (o .before .before .before .args .out .now) (o .loop .counter) (o .loop .at) (o .loop .d) (o .loop .out) (o .loop .inv) (t .before .before .loop-test .taken) (going t) (n .result) (n .ensures) (w .result) (w .ensures .0) in omega arith
+    let h = writes-small (o .loop .inv) (t .before .before .loop-test .taken) (going t) (n .ensures) (w .ensures .0) in
+    omega arith
 
 put-requires : tie.Need-put-requires Inv-loop μ-loop
 put-requires c κs = let t = c .before .before .before .before .before .before in
     let o = t .before .before .before in
-    let n = c .before .before .before .before .before .asked in
-    (o .loop .inv .walks .within, writes-in-order (o .before .before .before .args .config) (o .before .before .before .args .out .now) (o .loop .counter) (o .loop .at) (o .loop .d) (o .loop .out) (o .loop .inv) (t .before .before .loop-test .taken) (going t) (n .result) (n .ensures))
+    let n = c .before .before .before .before .before .asked in (
+      o .loop .inv .walks .within,
+      writes-in-order (o .loop .inv) (t .before .before .loop-test .taken) (going t) (n .ensures),
+    )
 
 add-counter : tie.Need-add-counter Inv-loop μ-loop
-add-counter c = omega (arith, c .before .before .before .before .before .before .before .before .before .loop-test .taken)
+add-counter c =
+    omega (arith, c .before .before .before .before .before .before .before .before .before .loop-test .taken)
 
 loop-less : tie.Need-loop-less Inv-loop μ-loop
 loop-less c = omega (arith, c .before .before .before .before .before .before .before .before .before .loop-test .taken)
@@ -74,11 +70,13 @@ loop-again c = let t = c .before .before .before .before .before .before .before
     let o = t .before .before .before in
     let w = c .before .before .before .before .write-number in
     let n = c .before .before .before .before .before .before .asked in
-    rw (c .put .ensures) (writes-next (o .before .before .before .args .config) (o .before .before .before .args .out .now) (o .loop .counter) (o .loop .at) (o .loop .d) (o .loop .out) (o .loop .inv) (t .before .before .loop-test .taken) (going t) (n .result) (n .ensures) (w .last .1 .0) (w .ensures .1) (w .result) (w .ensures .0))
+    rw (c .put .ensures)
+    (writes-next (o .loop .inv) (t .before .before .loop-test .taken)
+    (going t) (n .ensures) (w .ensures .1) (w .ensures .0))
 
 returns : tie.Need-returns Inv-loop μ-loop
 returns c = let o = c .before in
-    writes-out (o .before .before .before .args .config) (o .before .before .before .args .out .now) (o .loop .counter) (o .loop .at) (o .loop .d) (o .loop .out) (o .loop .inv) (c .loop-test .left)
+    writes-out (o .loop .inv) (c .loop-test .left)
 
 same-length : tie.Need-same-length Inv-loop μ-loop
 same-length c = let a = c .before .before .before .before .args in
@@ -86,7 +84,7 @@ same-length c = let a = c .before .before .before .before .args in
 
 returns-2 : tie.Need-returns-2 Inv-loop μ-loop
 returns-2 c = let o = c .before .before .before in
-    writes-end (o .before .before .before .args .config) (o .before .before .before .args .out .now) (o .loop .counter) (o .loop .at) (o .loop .d) (o .loop .out) (o .loop .inv) (sym (c .before .ended .ensures) ∙ c .if1 .taken)
+    writes-end (o .loop .inv) (sym (c .before .ended .ensures) ∙ c .if1 .taken)
 
 same-length-2 : tie.Need-same-length-2 Inv-loop μ-loop
 same-length-2 c = let a = c .before .before .before .before .before .before .args in
@@ -98,14 +96,13 @@ write-numbers-spec =
     (tie.spec
     Inv-loop
     μ-loop
-    start-requires
+    (λ c κs. tt)
     loop-holds
-    ended-requires
+    (λ c κs. tt)
     asked-requires
     sub-write-number
     part-write-number-start
-    part-write-number-end
-    write-number-requires
+    (λ c. search needs) (λ c κs. tt)
     add-at
     put-requires
     add-counter

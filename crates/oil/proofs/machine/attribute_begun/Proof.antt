@@ -30,7 +30,8 @@ returns-3 c = rw (c .to2 .ensures) (simp (
 
 returns-4 : tie.Need-returns-4
 unfolding attributeBegun
-returns-4 c = simp (ne-eqb _ _ (c .before .before .if1 .left), ne-eqb _ _ (c .before .if2 .left), ne-eqb _ _ (c .if3 .left))
+returns-4 c =
+    simp (ne-eqb _ _ (c .before .before .if1 .left), ne-eqb _ _ (c .before .if2 .left), ne-eqb _ _ (c .if3 .left))
 
 pub attribute-begun-spec : {M : Type 1} → statement M
 attribute-begun-spec =

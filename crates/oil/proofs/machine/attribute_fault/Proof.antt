@@ -21,7 +21,8 @@ unknown-requires c κs = search needs
 
 returns-3 : tie.Need-returns-3
 unfolding attributeFault
-returns-3 c = rw (c .unknown .ensures) (simp (eq-eqb _ _ (c .before .before .if1 .left), ne-eqb _ _ (c .before .if2 .left)))
+returns-3 c =
+    rw (c .unknown .ensures) (simp (eq-eqb _ _ (c .before .before .if1 .left), ne-eqb _ _ (c .before .if2 .left)))
 
 pub attribute-fault-spec : {M : Type 1} → statement M
 attribute-fault-spec =

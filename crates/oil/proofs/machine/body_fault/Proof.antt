@@ -13,19 +13,15 @@ returns-2 : tie.Need-returns-2
 unfolding bodyFault
 returns-2 c = simp (eq-eqb _ _ (c .before .if1 .taken), c .if2 .left)
 
-once-requires : tie.Need-once-requires
-once-requires c κs = search needs
-
 returns-3 : tie.Need-returns-3
 unfolding bodyFault
-returns-3 c = rw (c .once .ensures) (simp (ne-eqb _ _ (c .before .before .if1 .left), eq-eqb _ _ (c .before .if3 .taken)))
+returns-3 c =
+    rw (c .once .ensures) (simp (ne-eqb _ _ (c .before .before .if1 .left), eq-eqb _ _ (c .before .if3 .taken)))
 
 returns-4 : tie.Need-returns-4
 unfolding bodyFault
-returns-4 c = simp (ne-eqb _ _ (c .before .before .if1 .left), ne-eqb _ _ (c .before .if3 .left), eq-eqb _ _ (c .if4 .taken))
-
-unknown-requires : tie.Need-unknown-requires
-unknown-requires c κs = search needs
+returns-4 c =
+    simp (ne-eqb _ _ (c .before .before .if1 .left), ne-eqb _ _ (c .before .if3 .left), eq-eqb _ _ (c .if4 .taken))
 
 returns-5 : tie.Need-returns-5
 unfolding bodyFault
@@ -36,9 +32,6 @@ returns-5 c = rw (c .unknown .ensures) (simp (
   ne-eqb _ _ (c .before .before .if4 .left),
   ne-eqb _ _ (c .before .if5 .taken),
 ))
-
-once-requires-2 : tie.Need-once-requires-2
-once-requires-2 c κs = search needs
 
 returns-6 : tie.Need-returns-6
 unfolding bodyFault
@@ -51,9 +44,6 @@ returns-6 c = rw (c .once2 .ensures) (simp (
       (c .before .before .before .if5 .left),
   eq-eqb _ _ (c .before .if6 .taken),
 ))
-
-unknown-requires-2 : tie.Need-unknown-requires-2
-unknown-requires-2 c κs = search needs
 
 returns-7 : tie.Need-returns-7
 unfolding bodyFault
@@ -73,12 +63,12 @@ body-fault-spec =
     (tie.spec
     returns
     returns-2
-    once-requires
+    (λ c κs. search needs)
     returns-3
     returns-4
-    unknown-requires
+    (λ c κs. search needs)
     returns-5
-    once-requires-2
+    (λ c κs. search needs)
     returns-6
-    unknown-requires-2
+    (λ c κs. search needs)
     returns-7)

@@ -13,12 +13,10 @@ returns-2 : tie.Need-returns-2
 unfolding objectFault
 returns-2 c = simp (lt-leb _ _ (c .before .if1 .left), eq-eqb _ _ (c .if2 .taken))
 
-unknown-requires : tie.Need-unknown-requires
-unknown-requires c κs = search needs
-
 returns-3 : tie.Need-returns-3
 unfolding objectFault
-returns-3 c = rw (c .unknown .ensures) (simp (lt-leb _ _ (c .before .before .if1 .left), ne-eqb _ _ (c .before .if2 .left)))
+returns-3 c =
+    rw (c .unknown .ensures) (simp (lt-leb _ _ (c .before .before .if1 .left), ne-eqb _ _ (c .before .if2 .left)))
 
 pub object-fault-spec : {M : Type 1} → statement M
-object-fault-spec = tie.close (tie.spec returns returns-2 unknown-requires returns-3)
+object-fault-spec = tie.close (tie.spec returns returns-2 (λ c κs. search needs) returns-3)

@@ -9,12 +9,9 @@ returns : tie.Need-returns
 unfolding only
 returns c = simp (eq-eqb _ _ (c .if1 .taken))
 
-unexpected-requires : tie.Need-unexpected-requires
-unexpected-requires c κs = search needs
-
 returns-2 : tie.Need-returns-2
 unfolding only
 returns-2 c = rw (c .unexpected .ensures) (simp (ne-eqb _ _ (c .before .if1 .left)))
 
 pub only-spec : {M : Type 1} → statement M
-only-spec = tie.close (tie.spec returns unexpected-requires returns-2)
+only-spec = tie.close (tie.spec returns (λ c κs. search needs) returns-2)

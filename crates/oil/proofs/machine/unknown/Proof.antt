@@ -13,12 +13,10 @@ returns-2 : tie.Need-returns-2
 unfolding unknown
 returns-2 c = simp (lt-leb _ _ (c .before .if1 .left), eq-eqb _ _ (c .if2 .taken))
 
-unexpected-requires : tie.Need-unexpected-requires
-unexpected-requires c κs = search needs
-
 returns-3 : tie.Need-returns-3
 unfolding unknown
-returns-3 c = rw (c .unexpected .ensures) (simp (lt-leb _ _ (c .before .before .if1 .left), ne-eqb _ _ (c .before .if2 .left)))
+returns-3 c =
+    rw (c .unexpected .ensures) (simp (lt-leb _ _ (c .before .before .if1 .left), ne-eqb _ _ (c .before .if2 .left)))
 
 pub unknown-spec : {M : Type 1} → statement M
-unknown-spec = tie.close (tie.spec returns returns-2 unexpected-requires returns-3)
+unknown-spec = tie.close (tie.spec returns returns-2 (λ c κs. search needs) returns-3)

@@ -31,9 +31,6 @@ elsewhere Use h = absurd (miss others 9 tt h)
 elsewhere AttributeEnd h = refl
 elsewhere ObjectEnd h = refl
 
-enum-told : tie.Need-enum-told
-enum-told c = search needs
-
 returns : tie.Need-returns
 unfolding usesAt
 returns c = sym (ap usesAt (c .enum-told .given .1))
@@ -42,4 +39,4 @@ returns-2 : tie.Need-returns-2
 returns-2 c = elsewhere (c .before .args .s .want) (c .match .keys2)
 
 pub uses-resource-spec : {M : Type 1} → statement M
-uses-resource-spec = tie.close (tie.spec enum-told returns returns-2)
+uses-resource-spec = tie.close (tie.spec (λ c. search needs) returns returns-2)

@@ -9,12 +9,9 @@ returns : tie.Need-returns
 unfolding valueFault
 returns c = simp (eq-eqb _ _ (c .if1 .taken))
 
-only-requires : tie.Need-only-requires
-only-requires c κs = search needs
-
 returns-2 : tie.Need-returns-2
 unfolding valueFault
 returns-2 c = rw (c .only .ensures) (simp (ne-eqb _ _ (c .before .if1 .left)))
 
 pub value-fault-spec : {M : Type 1} → statement M
-value-fault-spec = tie.close (tie.spec returns only-requires returns-2)
+value-fault-spec = tie.close (tie.spec returns (λ c κs. search needs) returns-2)

@@ -14,56 +14,38 @@ use Rattle.oil.proofs.meaning.fill.Statement.{statement}
 use Rattle.oil.proofs.meaning.fill.Tie as tie
 
 abbrev Inv-loop : tie.InvT-loop
-Inv-loop text words c₀ s₀ at₀ i₀ c s at i = (at ≤ length text) × (fill (words - i) text at s
-    (λ x. mask words text 0 fresh x 0 0) c ≡ filled text words)
+Inv-loop text words c₀ s₀ at₀ i₀ c s at i =
+    (at ≤ length text) × (fill (words - i) text at s (λ x. mask words text 0 fresh x 0 0) c ≡ filled text words)
 
 abbrev μ-loop : tie.MeasureT-loop
 μ-loop text words c₀ s₀ at₀ i₀ c s at i = words - i
 
-empty-requires : tie.Need-empty-requires Inv-loop μ-loop
-empty-requires c κs = search needs
-
-fresh-requires : tie.Need-fresh-requires Inv-loop μ-loop
-fresh-requires c κs = search needs
-
 loop-holds : tie.Need-loop-holds Inv-loop μ-loop
 loop-holds c = (omega arith, rw (c .fresh .ensures, c .before .empty .ensures, sub-zero))
-
-next-word-requires : tie.Need-next-word-requires Inv-loop μ-loop
-next-word-requires c κs = search needs
 
 put-requires : tie.Need-put-requires Inv-loop μ-loop
 put-requires c κs =
     let l = c .before .before .loop in
     let w = c .next-word in
-    word-inside (c .before .before .before .before .before .before .args .text .now) (l .at) (l .inv .0) (w .result) (w .ensures)
-
-after-requires : tie.Need-after-requires Inv-loop μ-loop
-after-requires c κs = search needs
-
-add-i : tie.Need-add-i Inv-loop μ-loop
-add-i c = search needs
-
-loop-less : tie.Need-loop-less Inv-loop μ-loop
-loop-less c = search needs
+    word-inside (c .before .before .before .before .before .before .args .text .now) (l .at) (l .inv .0) (w .ensures)
 
 loop-again : tie.Need-loop-again Inv-loop μ-loop
 loop-again c =
     let a = c .before .before .before .before .before .before .before .before .args in
     let l = c .before .before .before .before .loop in
     let w = c .before .before .next-word in (
-      word-inside (a .text .now) (l .at) (l .inv .0) (w .result) (w .ensures) .1,
-      fill-turn (a .text .now) (a .words) (l .i) (l .at) (l .s) (λ
-          (x : List ℕ). mask (a .words) (a .text .now) 0 fresh x 0 0) (l .c) (w .result) (w .ensures)
-          (c .before .before .before .loop-test .taken) (c .after .result) (c .after .ensures) (c .before .put .result)
-          (c .before .put .ensures) ∙ l .inv .1,
+      word-inside (a .text .now) (l .at) (l .inv .0) (w .ensures) .1,
+      fill-turn (a .text .now) (a .words) (l .i) (l .at) (l .s)
+          (λ (x : List ℕ). mask (a .words) (a .text .now) 0 fresh x 0 0) (l .c) (w .ensures)
+          (c .before .before .before .loop-test .taken) (c .after .ensures) (c .before .put .ensures) ∙ l .inv .1,
     )
 
 returns : tie.Need-returns Inv-loop μ-loop
 returns c =
     let a = c .before .before .before .before .before .args in
     let l = c .before .loop in
-    fill-done (a .text .now) (a .words) (l .i) (l .at) (l .s) (λ (x : List ℕ). mask (a .words) (a .text .now) 0 fresh x 0 0) (l .c)
+    fill-done (a .text .now) (a .words) (l .i) (l .at) (l .s)
+    (λ (x : List ℕ). mask (a .words) (a .text .now) 0 fresh x 0 0) (l .c)
     (c .loop-test .left) ∙ l .inv .1
 
 pub fill-spec : {M : Type 1} → statement M
@@ -72,13 +54,10 @@ fill-spec =
     (tie.spec
     Inv-loop
     μ-loop
-    empty-requires
-    fresh-requires
+    (λ c κs. search needs) (λ c κs. search needs)
     loop-holds
-    next-word-requires
+    (λ c κs. search needs)
     put-requires
-    after-requires
-    add-i
-    loop-less
+    (λ c κs. search needs) (λ c. search needs) (λ c. search needs)
     loop-again
     returns)

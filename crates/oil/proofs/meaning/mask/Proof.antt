@@ -12,59 +12,42 @@ use Rattle.oil.proofs.meaning.mask.Statement.{statement}
 use Rattle.oil.proofs.meaning.mask.Tie as tie
 
 abbrev Inv-loop : tie.InvT-loop
-Inv-loop text words start end s₀ at₀ b₀ m₀ i₀ s at b m i = (at ≤ length text) × (mask (words - i) text at s (take (end - start)
-    (drop start text)) b m ≡ mask words text 0 fresh (take (end - start) (drop start text)) 0 0)
+Inv-loop text words start end s₀ at₀ b₀ m₀ i₀ s at b m i =
+    (at ≤ length text) × (mask (words - i) text at s (take (end - start) (drop start text)) b m
+    ≡ mask words text 0 fresh (take (end - start) (drop start text)) 0 0)
 
 abbrev μ-loop : tie.MeasureT-loop
 μ-loop text words start end s₀ at₀ b₀ m₀ i₀ s at b m i = words - i
 
-fresh-requires : tie.Need-fresh-requires Inv-loop μ-loop
-fresh-requires c κs = search needs
-
 loop-holds : tie.Need-loop-holds Inv-loop μ-loop
 loop-holds c = (omega arith, rw (c .fresh .ensures, sub-zero))
-
-next-word-requires : tie.Need-next-word-requires Inv-loop μ-loop
-next-word-requires c κs = search needs
 
 marked-requires : tie.Need-marked-requires Inv-loop μ-loop
 marked-requires c κs =
     let l = c .before .before .loop in
     let w = c .next-word in (
-      word-inside (c .before .before .before .before .before .args .text .now) (l .at) (l .inv .0) (w .result)
-          (w .ensures),
+      word-inside (c .before .before .before .before .before .args .text .now) (l .at) (l .inv .0) (w .ensures),
       c .before .before .before .before .before .pre,
     )
-
-numbered-requires : tie.Need-numbered-requires Inv-loop μ-loop
-numbered-requires c κs = search needs
-
-after-requires : tie.Need-after-requires Inv-loop μ-loop
-after-requires c κs = search needs
-
-add-i : tie.Need-add-i Inv-loop μ-loop
-add-i c = search needs
-
-loop-less : tie.Need-loop-less Inv-loop μ-loop
-loop-less c = search needs
 
 loop-again : tie.Need-loop-again Inv-loop μ-loop
 loop-again c =
     let a = c .before .before .before .before .before .before .before .before .args in
     let l = c .before .before .before .before .before .loop in
     let w = c .before .before .before .next-word in (
-      word-inside (a .text .now) (l .at) (l .inv .0) (w .result) (w .ensures) .1,
+      word-inside (a .text .now) (l .at) (l .inv .0) (w .ensures) .1,
       mask-turn (a .text .now) (a .words) (l .i) (l .at) (l .s)
-          (take (a .end - a .start) (drop (a .start) (a .text .now))) (l .b) (l .m) (w .result) (w .ensures)
-          (c .before .before .before .before .loop-test .taken) (c .after .result) (c .after .ensures) (c .before .numbered .result)
-          (c .before .numbered .ensures) (c .before .before .marked .result) (c .before .before .marked .ensures) ∙ l .inv .1,
+          (take (a .end - a .start) (drop (a .start) (a .text .now))) (l .b) (l .m) (w .ensures)
+          (c .before .before .before .before .loop-test .taken) (c .after .ensures)
+          (c .before .numbered .ensures) (c .before .before .marked .ensures) ∙ l .inv .1,
     )
 
 returns : tie.Need-returns Inv-loop μ-loop
 returns c =
     let a = c .before .before .before .before .args in
     let l = c .before .loop in
-    mask-done (a .text .now) (a .words) (l .i) (l .at) (l .s) (take (a .end - a .start) (drop (a .start) (a .text .now))) (l .b) (l .m)
+    mask-done (a .text .now) (a .words) (l .i) (l .at) (l .s)
+    (take (a .end - a .start) (drop (a .start) (a .text .now))) (l .b) (l .m)
     (c .loop-test .left) ∙ l .inv .1
 
 pub mask-spec : {M : Type 1} → statement M
@@ -73,13 +56,10 @@ mask-spec =
     (tie.spec
     Inv-loop
     μ-loop
-    fresh-requires
+    (λ c κs. search needs)
     loop-holds
-    next-word-requires
+    (λ c κs. search needs)
     marked-requires
-    numbered-requires
-    after-requires
-    add-i
-    loop-less
+    (λ c κs. search needs) (λ c κs. search needs) (λ c. search needs) (λ c. search needs)
     loop-again
     returns)

@@ -38,9 +38,6 @@ over : (s : Progress) (b n : ℕ) → s .want ≡ ObjectEnd → n ≡ numberAfte
 unfolding numberedAt
 over s b n e q = q ∙ sym (ap (λ (v : Want). numberedAt v s b) e)
 
-enum-told : tie.Need-enum-told
-enum-told c = search needs
-
 returns : tie.Need-returns
 returns c = elsewhere (c .before .args .s .want) (c .before .args .s) (c .before .args .b) (c .match .keys2)
 
@@ -49,9 +46,6 @@ returns-2 c =
     let a = c .before .before .before .before .args in
     over (a .s) (a .b) _ (c .before .before .enum-told .given .1) (rw (eq-eqb (a .s .kind) 3 (c .if1 .taken)))
 
-counted-requires : tie.Need-counted-requires
-counted-requires c κs = search needs
-
 returns-3 : tie.Need-returns-3
 returns-3 c =
     let a = c .before .before .before .before .before .args in
@@ -59,4 +53,4 @@ returns-3 c =
     (c .before .if1 .left)) (c .counted .ensures))
 
 pub numbered-spec : {M : Type 1} → statement M
-numbered-spec = tie.close (tie.spec enum-told returns returns-2 counted-requires returns-3)
+numbered-spec = tie.close (tie.spec (λ c. search needs) returns returns-2 (λ c κs. search needs) returns-3)

@@ -1,192 +1,64 @@
 -- `put` meets its contract: each arm is what its want puts.
 use Prim.Native.Nat.{ℕ}
-use mathlib.Core.Path.{refl, _∙_, ap}
+use mathlib.Core.Path.{_≡_, refl, _∙_, ap}
 use mathlib.Core.List.{List}
+use Rattle.config.specs.declared.Config.{Config}
 use Rattle.config.specs.Value.{withPriority, withAutostart}
+use Rattle.oil_grammar.specs.declared.Want.{Want}
 use Rattle.oil_grammar.specs.declared.Want.the-variants.{Object, Name, Open, Attribute, PriorityEquals, PriorityNumber, AutostartEquals, AutostartValue, UseEquals, Use, AttributeEnd, ObjectEnd}
 use Rattle.oil_grammar.specs.Next.{spelling}
 use Rattle.oil_grammar.specs.Machine.{fresh}
-use Rattle.oil_grammar.specs.Walk.{mask, putAt}
+use Rattle.oil_grammar.specs.Walk.{mask, putAt, put}
 use Rattle.oil.proofs.Walks.{put-at}
 use borrow.Author.Needs.{needs}
 use Rattle.oil.proofs.meaning.put.Statement.{statement}
 use Rattle.oil.proofs.meaning.put.Tie as tie
 
-enum-told : tie.Need-enum-told
-enum-told c = search needs
+-- the masks of the resources by their names, and what the word spells
+abbrev masks : tie.Start → List ℕ → ℕ
+masks k x = mask (k .args .words) (k .args .text .now) 0 fresh x 0 0
 
-put-object-requires : tie.Need-put-object-requires
-put-object-requires c κs = search needs
+abbrev word : tie.Start → List ℕ
+word k = spelling (k .args .text .now) (k .args .w)
 
-enum-told-2 : tie.Need-enum-told-2
-enum-told-2 c = search needs
-
-put-name-requires : tie.Need-put-name-requires
-put-name-requires c κs = search needs
-
-enum-told-3 : tie.Need-enum-told-3
-enum-told-3 c = search needs
-
-enum-told-4 : tie.Need-enum-told-4
-enum-told-4 c = search needs
-
-enum-told-5 : tie.Need-enum-told-5
-enum-told-5 c = search needs
-
-enum-told-6 : tie.Need-enum-told-6
-enum-told-6 c = search needs
-
-value-requires : tie.Need-value-requires
-value-requires c κs = search needs
-
-with-priority-requires : tie.Need-with-priority-requires
-with-priority-requires c κs = search needs
-
-enum-told-7 : tie.Need-enum-told-7
-enum-told-7 c = search needs
-
-enum-told-8 : tie.Need-enum-told-8
-enum-told-8 c = search needs
-
-start-of-requires : tie.Need-start-of-requires
-start-of-requires c κs = search needs
-
-with-autostart-requires : tie.Need-with-autostart-requires
-with-autostart-requires c κs = search needs
-
-enum-told-9 : tie.Need-enum-told-9
-enum-told-9 c = search needs
-
-enum-told-10 : tie.Need-enum-told-10
-enum-told-10 c = search needs
-
-enum-told-11 : tie.Need-enum-told-11
-enum-told-11 c = search needs
-
-enum-told-12 : tie.Need-enum-told-12
-enum-told-12 c = search needs
-
-ended-requires : tie.Need-ended-requires
-ended-requires c κs = search needs
-
-returns : tie.Need-returns
-unfolding putAt
-returns c =
-    let a = c .before .before .before .before .args in
-    put-at (λ (x : List ℕ). mask (a .words) (a .text .now) 0 fresh x 0 0) (a .s) (a .c) (a .w .sort) (spelling (a .text .now) (a .w)) Object
-    (c .before .enum-told .given .1) _ (c .put-object .ensures)
-
-returns-2 : tie.Need-returns-2
-unfolding putAt
-returns-2 c =
-    let a = c .before .before .before .before .args in
-    put-at (λ (x : List ℕ). mask (a .words) (a .text .now) 0 fresh x 0 0) (a .s) (a .c) (a .w .sort) (spelling (a .text .now) (a .w)) Name
-    (c .before .enum-told2 .given .1) _ (c .put-name .ensures)
-
-returns-3 : tie.Need-returns-3
-unfolding putAt
-returns-3 c =
-    let a = c .before .before .before .args in
-    put-at (λ (x : List ℕ). mask (a .words) (a .text .now) 0 fresh x 0 0) (a .s) (a .c) (a .w .sort) (spelling (a .text .now) (a .w)) Open
-    (c .enum-told3 .given .1) _ (refl)
-
-returns-4 : tie.Need-returns-4
-unfolding putAt
-returns-4 c =
-    let a = c .before .before .before .args in
-    put-at (λ (x : List ℕ). mask (a .words) (a .text .now) 0 fresh x 0 0) (a .s) (a .c) (a .w .sort) (spelling (a .text .now)
-    (a .w)) Attribute (c .enum-told4 .given .1) _ (refl)
-
-returns-5 : tie.Need-returns-5
-unfolding putAt
-returns-5 c =
-    let a = c .before .before .before .args in
-    put-at (λ (x : List ℕ). mask (a .words) (a .text .now) 0 fresh x 0 0) (a .s) (a .c) (a .w .sort) (spelling (a .text .now)
-    (a .w)) PriorityEquals (c .enum-told5 .given .1) _ (refl)
+-- the arm of the want v
+arm : (k : tie.Start) (v : Want) → k .args .s .want ≡ v → {r : Config}
+    → r ≡ putAt v (masks k) (k .args .s) (k .args .c) (k .args .w .sort) (word k)
+    → r ≡ put (masks k) (k .args .s) (k .args .c) (k .args .w .sort) (word k)
+arm k v e {r} = put-at (masks k) (k .args .s) (k .args .c) (k .args .w .sort) (word k) v e r
 
 returns-6 : tie.Need-returns-6
 unfolding putAt
 returns-6 c =
-    let a = c .before .before .before .before .before .args in
-    put-at (λ (x : List ℕ). mask (a .words) (a .text .now) 0 fresh x 0 0) (a .s) (a .c) (a .w .sort) (spelling (a .text .now)
-    (a .w)) PriorityNumber (c .before .before .enum-told6 .given .1) _ (c .with-priority .ensures ∙ ap (λ (p : ℕ). withPriority (a .c)
-    (a .c .bodies) p) (c .before .value .ensures))
-
-returns-7 : tie.Need-returns-7
-unfolding putAt
-returns-7 c =
-    let a = c .before .before .before .args in
-    put-at (λ (x : List ℕ). mask (a .words) (a .text .now) 0 fresh x 0 0) (a .s) (a .c) (a .w .sort) (spelling (a .text .now)
-    (a .w)) AutostartEquals (c .enum-told7 .given .1) _ (refl)
+    let t = c .before .before in let k = t .before .before .before in let d = k .args .c in
+    arm k PriorityNumber (t .enum-told6 .given .1)
+    (c .with-priority .ensures ∙ ap (λ (p : ℕ). withPriority d (d .bodies) p) (c .before .value .ensures))
 
 returns-8 : tie.Need-returns-8
 unfolding putAt
 returns-8 c =
-    let a = c .before .before .before .before .before .args in
-    put-at (λ (x : List ℕ). mask (a .words) (a .text .now) 0 fresh x 0 0) (a .s) (a .c) (a .w .sort) (spelling (a .text .now)
-    (a .w)) AutostartValue (c .before .before .enum-told8 .given .1) _ (c .with-autostart .ensures ∙ ap (λ (p : ℕ). withAutostart (a .c)
-    (a .c .bodies) p) (c .before .start-of .ensures))
-
-returns-9 : tie.Need-returns-9
-unfolding putAt
-returns-9 c =
-    let a = c .before .before .before .args in
-    put-at (λ (x : List ℕ). mask (a .words) (a .text .now) 0 fresh x 0 0) (a .s) (a .c) (a .w .sort) (spelling (a .text .now)
-    (a .w)) UseEquals (c .enum-told9 .given .1) _ (refl)
-
-returns-10 : tie.Need-returns-10
-unfolding putAt
-returns-10 c =
-    let a = c .before .before .before .args in
-    put-at (λ (x : List ℕ). mask (a .words) (a .text .now) 0 fresh x 0 0) (a .s) (a .c) (a .w .sort) (spelling (a .text .now) (a .w)) Use
-    (c .enum-told10 .given .1) _ (refl)
-
-returns-11 : tie.Need-returns-11
-unfolding putAt
-returns-11 c =
-    let a = c .before .before .before .args in
-    put-at (λ (x : List ℕ). mask (a .words) (a .text .now) 0 fresh x 0 0) (a .s) (a .c) (a .w .sort) (spelling (a .text .now)
-    (a .w)) AttributeEnd (c .enum-told11 .given .1) _ (refl)
-
-returns-12 : tie.Need-returns-12
-unfolding putAt
-returns-12 c =
-    let a = c .before .before .before .before .args in
-    put-at (λ (x : List ℕ). mask (a .words) (a .text .now) 0 fresh x 0 0) (a .s) (a .c) (a .w .sort) (spelling (a .text .now)
-    (a .w)) ObjectEnd (c .before .enum-told12 .given .1) _ (c .ended .ensures)
+    let t = c .before .before in let k = t .before .before .before in let d = k .args .c in
+    arm k AutostartValue (t .enum-told8 .given .1)
+    (c .with-autostart .ensures ∙ ap (λ (p : ℕ). withAutostart d (d .bodies) p) (c .before .start-of .ensures))
 
 pub put-spec : {M : Type 1} → statement M
+unfolding putAt
 put-spec =
     tie.close
     (tie.spec
-    enum-told
-    put-object-requires
-    enum-told-2
-    put-name-requires
-    enum-told-3
-    enum-told-4
-    enum-told-5
-    enum-told-6
-    value-requires
-    with-priority-requires
-    enum-told-7
-    enum-told-8
-    start-of-requires
-    with-autostart-requires
-    enum-told-9
-    enum-told-10
-    enum-told-11
-    enum-told-12
-    ended-requires
-    returns
-    returns-2
-    returns-3
-    returns-4
-    returns-5
+    (λ c. search needs) (λ c κs. search needs) (λ c. search needs) (λ c κs. search needs) (λ c. search needs)
+    (λ c. search needs) (λ c. search needs) (λ c. search needs) (λ c κs. search needs) (λ c κs. search needs)
+    (λ c. search needs) (λ c. search needs) (λ c κs. search needs) (λ c κs. search needs) (λ c. search needs)
+    (λ c. search needs) (λ c. search needs) (λ c. search needs) (λ c κs. search needs)
+    (λ c. arm (c .before .before .before .before) Object (c .before .enum-told .given .1) (c .put-object .ensures))
+    (λ c. arm (c .before .before .before .before) Name (c .before .enum-told2 .given .1) (c .put-name .ensures))
+    (λ c. arm (c .before .before .before) Open (c .enum-told3 .given .1) refl)
+    (λ c. arm (c .before .before .before) Attribute (c .enum-told4 .given .1) refl)
+    (λ c. arm (c .before .before .before) PriorityEquals (c .enum-told5 .given .1) refl)
     returns-6
-    returns-7
+    (λ c. arm (c .before .before .before) AutostartEquals (c .enum-told7 .given .1) refl)
     returns-8
-    returns-9
-    returns-10
-    returns-11
-    returns-12)
+    (λ c. arm (c .before .before .before) UseEquals (c .enum-told9 .given .1) refl)
+    (λ c. arm (c .before .before .before) Use (c .enum-told10 .given .1) refl)
+    (λ c. arm (c .before .before .before) AttributeEnd (c .enum-told11 .given .1) refl)
+    (λ c. arm (c .before .before .before .before) ObjectEnd (c .before .enum-told12 .given .1) (c .ended .ensures)))

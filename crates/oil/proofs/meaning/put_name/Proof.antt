@@ -7,20 +7,15 @@ use borrow.Author.Needs.{needs}
 use Rattle.oil.proofs.meaning.put_name.Statement.{statement}
 use Rattle.oil.proofs.meaning.put_name.Tie as tie
 
-mask-requires : tie.Need-mask-requires
-mask-requires c κs = search needs
-
-with-users-requires : tie.Need-with-users-requires
-with-users-requires c κs = search needs
-
 returns : tie.Need-returns
 returns c =
     let a = c .before .before .before .before .args in
-    rw (eq-eqb (a .kind) 3 (c .before .before .if1 .taken)) (c .with-users .ensures ∙ ap (λ (m : ℕ). withUsers (a .c) (a .c .resources) m)
+    rw (eq-eqb (a .kind) 3 (c .before .before .if1 .taken))
+    (c .with-users .ensures ∙ ap (λ (m : ℕ). withUsers (a .c) (a .c .resources) m)
     (c .before .mask .ensures))
 
 returns-2 : tie.Need-returns-2
 returns-2 c = rw (ne-eqb (c .before .before .args .kind) 3 (c .if1 .left))
 
 pub put-name-spec : {M : Type 1} → statement M
-put-name-spec = tie.close (tie.spec mask-requires with-users-requires returns returns-2)
+put-name-spec = tie.close (tie.spec (λ c κs. search needs) (λ c κs. search needs) returns returns-2)

@@ -11,26 +11,15 @@ use Rattle.oil.proofs.meaning.value.Statement.{statement}
 use Rattle.oil.proofs.meaning.value.Tie as tie
 
 abbrev Inv-loop : tie.InvT-loop
-Inv-loop text start end v₀ i₀ v i = ((start ≤ i) × (i ≤ end)) × ((v ≤ 255) × (held (decimal v (take (end - i) (drop i text))) ≡ held
-    (decimal 0 (take (end - start) (drop start text)))))
+Inv-loop text start end v₀ i₀ v i =
+    ((start ≤ i) × (i ≤ end)) × ((v ≤ 255)
+    × (held (decimal v (take (end - i) (drop i text))) ≡ held (decimal 0 (take (end - start) (drop start text)))))
 
 abbrev μ-loop : tie.MeasureT-loop
 μ-loop text start end v₀ i₀ v i = end - i
 
 loop-holds : tie.Need-loop-holds Inv-loop μ-loop
 loop-holds c = ((omega arith, omega arith), (omega arith, refl))
-
-shared-slice-read-value-after : tie.Need-shared-slice-read-value-after Inv-loop μ-loop
-shared-slice-read-value-after c = search needs
-
-value-after-requires : tie.Need-value-after-requires Inv-loop μ-loop
-value-after-requires c κs = search needs
-
-add-i : tie.Need-add-i Inv-loop μ-loop
-add-i c = search needs
-
-loop-less : tie.Need-loop-less Inv-loop μ-loop
-loop-less c = search needs
 
 loop-again : tie.Need-loop-again Inv-loop μ-loop
 loop-again c =
@@ -40,8 +29,8 @@ loop-again c =
       (
         let e = c .value-after .ensures in omega arith,
         digits-turn (a .text .now) (a .end) (l .i) (l .v)
-            (let p = c .before .before .before .before .before .pre in omega arith) (c .before .before .loop-test .taken) (c .value-after .result)
-            (c .value-after .ensures) ∙ l .inv .1 .1,
+            (let p = c .before .before .before .before .before .pre in omega arith)
+            (c .before .before .loop-test .taken) (c .value-after .ensures) ∙ l .inv .1 .1,
       ),
     )
 
@@ -61,10 +50,7 @@ value-spec =
     Inv-loop
     μ-loop
     loop-holds
-    shared-slice-read-value-after
-    value-after-requires
-    add-i
-    loop-less
+    (λ c. search needs) (λ c κs. search needs) (λ c. search needs) (λ c. search needs)
     loop-again
     cast-result
     returns)

@@ -10,18 +10,9 @@ use Rattle.oil.proofs.meaning.with_kind.Tie as tie
 long : (s : tie.Start) → length (s .args .c .kind) ≡ 32
 long s = search needs
 
-cast-n : tie.Need-cast-n
-cast-n c = search needs
-
 returns : tie.Need-returns
 returns c = let a = c .before .before .args in let l = long (c .before .before) in
     sym (rw (set-out (a .c .kind) (a .c .bodies) (a .v) (omega arith)))
 
-array-write-kind : tie.Need-array-write-kind
-array-write-kind c = search needs
-
-returns-2 : tie.Need-returns-2
-returns-2 c = search needs
-
 pub with-kind-spec : {M : Type 1} → statement M
-with-kind-spec = tie.close (tie.spec cast-n returns array-write-kind returns-2)
+with-kind-spec = tie.close (tie.spec (λ c. search needs) returns (λ c. search needs) (λ c. search needs))

@@ -10,18 +10,9 @@ use Rattle.oil.proofs.meaning.with_priority.Tie as tie
 long : (s : tie.Start) → length (s .args .c .priority) ≡ 32
 long s = search needs
 
-cast-n : tie.Need-cast-n
-cast-n c = search needs
-
 returns : tie.Need-returns
 returns c = let a = c .before .before .args in let l = long (c .before .before) in
     sym (rw (set-out (a .c .priority) (a .c .bodies) (a .v) (omega arith)))
 
-array-write-priority : tie.Need-array-write-priority
-array-write-priority c = search needs
-
-returns-2 : tie.Need-returns-2
-returns-2 c = search needs
-
 pub with-priority-spec : {M : Type 1} → statement M
-with-priority-spec = tie.close (tie.spec cast-n returns array-write-priority returns-2)
+with-priority-spec = tie.close (tie.spec (λ c. search needs) returns (λ c. search needs) (λ c. search needs))

@@ -10,21 +10,14 @@ use Rattle.oil.proofs.meaning.with_users.Tie as tie
 long : (s : tie.Start) → length (s .args .c .users) ≡ 16
 long s = search needs
 
-cast-n : tie.Need-cast-n
-cast-n c = search needs
-
 returns : tie.Need-returns
 returns c = let a = c .before .before .args in let l = long (c .before .before) in
     sym (rw (set-out (a .c .users) (a .c .resources) (a .v) (omega arith)))
 
-mul-users : tie.Need-mul-users
-mul-users c = search needs
-
-array-write-users : tie.Need-array-write-users
-array-write-users c = search needs
-
-returns-2 : tie.Need-returns-2
-returns-2 c = search needs
-
 pub with-users-spec : {M : Type 1} → statement M
-with-users-spec = tie.close (tie.spec cast-n returns mul-users array-write-users returns-2)
+with-users-spec =
+    tie.close
+    (tie.spec
+    (λ c. search needs)
+    returns
+    (λ c. search needs) (λ c. search needs) (λ c. search needs))

@@ -18,46 +18,27 @@ abbrev μ-loop : tie.MeasureT-loop
 loop-holds : tie.Need-loop-holds Inv-loop μ-loop
 loop-holds c = (omega arith, seeks-start _ _)
 
-add-next : tie.Need-add-next Inv-loop μ-loop
-add-next c = search needs
-
 returns : tie.Need-returns Inv-loop μ-loop
 returns c =
     let a = c .before .before .before .before .args in
     let l = c .before .before .loop in
     seeks-last (a .text .now) (a .at) (l .i) (l .inv .1) (c .if1 .taken)
 
-shared-slice-read-closes : tie.Need-shared-slice-read-closes Inv-loop μ-loop
-shared-slice-read-closes c = search needs
-
-shared-slice-read-closes-2 : tie.Need-shared-slice-read-closes-2 Inv-loop μ-loop
-shared-slice-read-closes-2 c = search needs
-
-closes-requires : tie.Need-closes-requires Inv-loop μ-loop
-closes-requires c κs = search needs
-
-sub-result : tie.Need-sub-result Inv-loop μ-loop
-sub-result c = search needs
-
-add-result : tie.Need-add-result Inv-loop μ-loop
-add-result c = search needs
-
 returns-2 : tie.Need-returns-2 Inv-loop μ-loop
 returns-2 c =
     let a = c .before .before .before .before .before .before .before .before .args in
     let l = c .before .before .before .before .before .before .loop in
-    seeks-here (a .text .now) (a .at) (l .i) (l .inv .1) (let h = c .before .before .before .before .if1 .left in omega arith) (sym
-    (c .before .closes .ensures) ∙ c .if2 .taken)
-
-loop-less : tie.Need-loop-less Inv-loop μ-loop
-loop-less c = search needs
+    let h = c .before .before .before .before .if1 .left in
+    seeks-here (a .text .now) (a .at) (l .i) (l .inv .1) (omega arith)
+    (sym (c .before .closes .ensures) ∙ c .if2 .taken)
 
 loop-again : tie.Need-loop-again Inv-loop μ-loop
 loop-again c =
     let a = c .before .before .before .before .before .before .before .before .args in
-    let l = c .before .before .before .before .before .before .loop in (
+    let l = c .before .before .before .before .before .before .loop in
+    let h = c .before .before .before .before .if1 .left in (
       omega arith,
-      seeks-later (a .text .now) (a .at) (l .i) (l .inv .1) (let h = c .before .before .before .before .if1 .left in omega arith)
+      seeks-later (a .text .now) (a .at) (l .i) (l .inv .1) (omega arith)
           (sym (c .before .closes .ensures) ∙ c .if2 .left),
     )
 
@@ -74,14 +55,10 @@ closing-spec =
     Inv-loop
     μ-loop
     loop-holds
-    add-next
+    (λ c. search needs)
     returns
-    shared-slice-read-closes
-    shared-slice-read-closes-2
-    closes-requires
-    sub-result
-    add-result
+    (λ c. search needs) (λ c. search needs) (λ c κs. search needs) (λ c. search needs) (λ c. search needs)
     returns-2
-    loop-less
+    (λ c. search needs)
     loop-again
     returns-3)

@@ -10,19 +10,9 @@ use Rattle.oil.proofs.next.comment.Statement.{statement}
 use Rattle.oil.proofs.next.comment.Tie as tie
 
 returns : tie.Need-returns
-returns c = sym (comment-past (c .before .before .args .text .now) (c .before .before .args .at) (let h = c .if1 .taken in omega arith))
-
-shared-slice-read-c : tie.Need-shared-slice-read-c
-shared-slice-read-c c = search needs
-
-add-from : tie.Need-add-from
-add-from c = search needs
-
-line-end-requires : tie.Need-line-end-requires
-line-end-requires c κs = search needs
-
-sub-result : tie.Need-sub-result
-sub-result c = search needs
+returns c =
+    sym (comment-past (c .before .before .args .text .now) (c .before .before .args .at)
+    (let h = c .if1 .taken in omega arith))
 
 add-result : tie.Need-add-result
 add-result c =
@@ -32,16 +22,13 @@ add-result c =
 returns-2 : tie.Need-returns-2
 returns-2 c =
     let a = c .before .before .before .before .before .args in
-    line-comment (a .text .now) (a .at) (omega arith) (c .before .if2 .taken) (c .line-end .result) (c .line-end .ensures)
-
-closing-requires : tie.Need-closing-requires
-closing-requires c κs = search needs
+    line-comment (a .text .now) (a .at) (omega arith) (c .before .if2 .taken) (c .line-end .ensures)
 
 returns-3 : tie.Need-returns-3
 returns-3 c =
     let a = c .before .before .before .before .before .before .before .args in
-    open-comment (a .text .now) (a .at) (omega arith) (c .before .before .before .if2 .left) (c .before .before .if3 .taken) (sym
-    (c .before .closing .ensures) ∙ c .if4 .taken)
+    open-comment (a .text .now) (a .at) (omega arith) (c .before .before .before .if2 .left)
+    (c .before .before .if3 .taken) (sym (c .before .closing .ensures) ∙ c .if4 .taken)
 
 add-result-2 : tie.Need-add-result-2
 add-result-2 c =
@@ -51,7 +38,8 @@ add-result-2 c =
 returns-4 : tie.Need-returns-4
 returns-4 c =
     let a = c .before .before .before .before .before .before .before .args in
-    rw (c .before .closing .ensures) (block-comment (a .text .now) (a .at) (omega arith) (c .before .before .before .if2 .left)
+    rw (c .before .closing .ensures)
+    (block-comment (a .text .now) (a .at) (omega arith) (c .before .before .before .if2 .left)
     (c .before .before .if3 .taken) (λ e. c .if4 .left (c .before .closing .ensures ∙ e)))
 
 returns-5 : tie.Need-returns-5
@@ -64,13 +52,10 @@ comment-spec =
     tie.close
     (tie.spec
     returns
-    shared-slice-read-c
-    add-from
-    line-end-requires
-    sub-result
+    (λ c. search needs) (λ c. search needs) (λ c κs. search needs) (λ c. search needs)
     add-result
     returns-2
-    closing-requires
+    (λ c κs. search needs)
     returns-3
     add-result-2
     returns-4

@@ -19,26 +19,21 @@ abbrev μ-loop : tie.MeasureT-loop
 loop-holds : tie.Need-loop-holds Inv-loop μ-loop
 loop-holds c = (omega arith, refl)
 
-shared-slice-read-if1 : tie.Need-shared-slice-read-if1 Inv-loop μ-loop
-shared-slice-read-if1 c = search needs
-
 returns : tie.Need-returns Inv-loop μ-loop
 returns c =
     let a = c .before .before .before .before .args in
     let l = c .before .before .before .loop in
-    run-stopped isLineByte (a .text .now) (a .at) (l .i) (l .inv .1) (c .before .before .loop-test .taken) (line-feed _ (c .if1 .taken))
-
-add-i : tie.Need-add-i Inv-loop μ-loop
-add-i c = search needs
-
-loop-less : tie.Need-loop-less Inv-loop μ-loop
-loop-less c = search needs
+    run-stopped isLineByte (a .text .now) (a .at) (l .i) (l .inv .1) (c .before .before .loop-test .taken)
+    (line-feed _ (c .if1 .taken))
 
 loop-again : tie.Need-loop-again Inv-loop μ-loop
 loop-again c =
     let a = c .before .before .before .before .args in
-    let l = c .before .before .before .loop in
-    (omega arith, run-more isLineByte (a .text .now) (a .at) (l .i) (l .inv .1) (c .before .before .loop-test .taken) (line-byte _ (c .if1 .left)))
+    let l = c .before .before .before .loop in (
+      omega arith,
+      run-more isLineByte (a .text .now) (a .at) (l .i) (l .inv .1) (c .before .before .loop-test .taken)
+          (line-byte _ (c .if1 .left)),
+    )
 
 returns-2 : tie.Need-returns-2 Inv-loop μ-loop
 returns-2 c =
@@ -53,9 +48,8 @@ line-end-spec =
     Inv-loop
     μ-loop
     loop-holds
-    shared-slice-read-if1
+    (λ c. search needs)
     returns
-    add-i
-    loop-less
+    (λ c. search needs) (λ c. search needs)
     loop-again
     returns-2)

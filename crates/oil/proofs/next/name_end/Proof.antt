@@ -19,32 +19,20 @@ abbrev μ-loop : tie.MeasureT-loop
 loop-holds : tie.Need-loop-holds Inv-loop μ-loop
 loop-holds c = (omega arith, refl)
 
-shared-slice-read-is-name-byte : tie.Need-shared-slice-read-is-name-byte Inv-loop μ-loop
-shared-slice-read-is-name-byte c = search needs
-
-is-name-byte-requires : tie.Need-is-name-byte-requires Inv-loop μ-loop
-is-name-byte-requires c κs = search needs
-
 returns : tie.Need-returns Inv-loop μ-loop
 returns c =
     let a = c .before .before .before .before .before .before .args in
     let l = c .before .before .before .before .loop in
-    run-stopped isNameByte (a .text .now) (a .at) (l .i) (l .inv .1) (c .before .before .before .loop-test .taken) (sym
-    (c .before .is-name-byte .ensures) ∙ not-true _ (c .if1 .taken))
-
-add-i : tie.Need-add-i Inv-loop μ-loop
-add-i c = search needs
-
-loop-less : tie.Need-loop-less Inv-loop μ-loop
-loop-less c = search needs
+    run-stopped isNameByte (a .text .now) (a .at) (l .i) (l .inv .1) (c .before .before .before .loop-test .taken)
+    (sym (c .before .is-name-byte .ensures) ∙ not-true _ (c .if1 .taken))
 
 loop-again : tie.Need-loop-again Inv-loop μ-loop
 loop-again c =
     let a = c .before .before .before .before .before .before .args in
     let l = c .before .before .before .before .loop in (
       omega arith,
-      run-more isNameByte (a .text .now) (a .at) (l .i) (l .inv .1) (c .before .before .before .loop-test .taken) (sym
-          (c .before .is-name-byte .ensures) ∙ not-false _ (c .if1 .left)),
+      run-more isNameByte (a .text .now) (a .at) (l .i) (l .inv .1) (c .before .before .before .loop-test .taken)
+          (sym (c .before .is-name-byte .ensures) ∙ not-false _ (c .if1 .left)),
     )
 
 returns-2 : tie.Need-returns-2 Inv-loop μ-loop
@@ -60,10 +48,8 @@ name-end-spec =
     Inv-loop
     μ-loop
     loop-holds
-    shared-slice-read-is-name-byte
-    is-name-byte-requires
+    (λ c. search needs) (λ c κs. search needs)
     returns
-    add-i
-    loop-less
+    (λ c. search needs) (λ c. search needs)
     loop-again
     returns-2)

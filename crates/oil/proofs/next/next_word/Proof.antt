@@ -9,15 +9,20 @@ use borrow.Author.Needs.{needs}
 use Rattle.oil.proofs.next.next_word.Statement.{statement}
 use Rattle.oil.proofs.next.next_word.Tie as tie
 
-skip-requires : tie.Need-skip-requires
-skip-requires c κs = search needs
-
 word-at-requires : tie.Need-word-at-requires
-word-at-requires c κs = omega (arith, c .skip .ensures, skipped-le (c .before .before .args .text .now) (c .before .before .args .at) (omega arith))
+word-at-requires c κs =
+    omega (
+      arith,
+      c .skip .ensures,
+      skipped-le (c .before .before .args .text .now) (c .before .before .args .at)
+          (omega arith),
+    )
 
 returns : tie.Need-returns
 unfolding nextWord
-returns c = c .word-at .ensures ∙ ap (λ (p : ℕ). wordAt p (drop p (c .before .before .before .args .text .now))) (c .before .skip .ensures)
+returns c =
+    c .word-at .ensures ∙ ap (λ (p : ℕ). wordAt p (drop p (c .before .before .before .args .text .now)))
+    (c .before .skip .ensures)
 
 pub next-word-spec : {M : Type 1} → statement M
-next-word-spec = tie.close (tie.spec skip-requires word-at-requires returns)
+next-word-spec = tie.close (tie.spec (λ c κs. search needs) word-at-requires returns)

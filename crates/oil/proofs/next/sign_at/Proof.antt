@@ -8,11 +8,8 @@ use Rattle.oil.proofs.next.sign_at.Tie as tie
 returns : tie.Need-returns
 returns c = simp (eq-eqb _ _ (c .if1 .taken), add-zero)
 
-add-t4 : tie.Need-add-t4
-add-t4 c = search needs
-
 returns-2 : tie.Need-returns-2
 returns-2 c = simp (ne-eqb _ _ (c .if1 .left))
 
 pub sign-at-spec : {M : Type 1} → statement M
-sign-at-spec = tie.close (tie.spec returns add-t4 returns-2)
+sign-at-spec = tie.close (tie.spec returns (λ c. search needs) returns-2)

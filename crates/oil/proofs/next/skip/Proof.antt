@@ -24,12 +24,18 @@ blank-requires c κs = search needs
 returns : tie.Need-returns Inv-loop μ-loop
 returns c =
     let l = c .before .before .loop in
-    sym (skip-stopped (c .before .before .before .before .args .text .now) (l .i) (sym (c .before .blank .ensures) ∙ c .if1 .taken)) ∙ l .inv .1
+    sym (skip-stopped (c .before .before .before .before .args .text .now) (l .i)
+    (sym (c .before .blank .ensures) ∙ c .if1 .taken)) ∙ l .inv .1
 
 add-i : tie.Need-add-i Inv-loop μ-loop
 add-i c =
     let l = c .before .before .loop in
-    omega (arith, c .before .blank .ensures, blank-inside (c .before .before .before .before .args .text .now) (l .i) (l .inv .0))
+    omega (
+      arith,
+      c .before .blank .ensures,
+      blank-inside (c .before .before .before .before .args .text .now) (l .i)
+          (l .inv .0),
+    )
 
 loop-less : tie.Need-loop-less Inv-loop μ-loop
 loop-less c =
@@ -46,8 +52,9 @@ loop-again c =
     let a = c .before .before .before .before .args in
     let l = c .before .before .loop in (
       omega (arith, c .before .blank .ensures, blank-inside (a .text .now) (l .i) (l .inv .0)),
-      rw (c .before .blank .ensures) (sym (skip-more
-          (a .text .now) (l .i) (l .inv .0) (λ e. c .if1 .left (c .before .blank .ensures ∙ e))) ∙ l .inv .1),
+      rw (c .before .blank .ensures)
+          (sym (skip-more (a .text .now) (l .i) (l .inv .0) (λ e. c .if1 .left (c .before .blank .ensures ∙ e)))
+          ∙ l .inv .1),
     )
 
 pub skip-spec : {M : Type 1} → statement M

@@ -1,170 +1,126 @@
 -- `spelled_sort` meets its contract: the first of OIL's words that is the same.
-use mathlib.Core.Path.{sym, _∙_}
+use Prim.Native.Nat.{ℕ}
+use mathlib.Core.Path.{_≡_, sym, _∙_}
+use mathlib.Core.Bool.{Bool, true}
+use mathlib.Core.List.{List}
 use Rattle.oil_grammar.specs.Word.{same, spelledSort, taskWord, isrWord, resourceWord, priorityWord, autostartWord, trueWord, falseWord}
 use Rattle.oil_grammar.proofs.Spelling.{same-result}
 use borrow.Author.Needs.{needs}
 use Rattle.oil.proofs.next.spelled_sort.Statement.{statement}
 use Rattle.oil.proofs.next.spelled_sort.Tie as tie
 
-slice-aggregate-same : tie.Need-slice-aggregate-same
-slice-aggregate-same c = search needs
-
-same-requires : tie.Need-same-requires
-same-requires c κs = search needs
-
-returns : tie.Need-returns
-unfolding spelledSort
-returns c = simp (sym (same-result _ _ taskWord (c .before .same .ensures)) ∙ c .if1 .taken)
-
-slice-aggregate-same-2 : tie.Need-slice-aggregate-same-2
-slice-aggregate-same-2 c = search needs
-
-same-requires-2 : tie.Need-same-requires-2
-same-requires-2 c κs = search needs
+-- a test of the code came to t
+tested : {r t : Bool} {x : List ℕ} (y : List ℕ) → (r ≡ true → x ≡ y) × (x ≡ y → r ≡ true) → r ≡ t → same x y ≡ t
+tested {r} {t} {x} y h e = sym (same-result r x y h) ∙ e
 
 returns-2 : tie.Need-returns-2
 unfolding spelledSort
-returns-2 c = simp (
-  sym (same-result _ _ taskWord (c .before .before .before .before .same .ensures))
-      ∙ c .before .before .before .if1 .left,
-  sym (same-result _ _ isrWord (c .before .same2 .ensures)) ∙ c .if2 .taken,
-)
-
-slice-aggregate-same-3 : tie.Need-slice-aggregate-same-3
-slice-aggregate-same-3 c = search needs
-
-same-requires-3 : tie.Need-same-requires-3
-same-requires-3 c κs = search needs
+returns-2 c =
+    let e₁ = c .before .before .before in
+    simp (
+      tested taskWord (e₁ .before .same .ensures) (e₁ .if1 .left),
+      tested isrWord (c .before .same2 .ensures) (c .if2 .taken),
+    )
 
 returns-3 : tie.Need-returns-3
 unfolding spelledSort
-returns-3 c = simp (
-  sym (same-result _ _ taskWord (c .before .before .before .before .before .before .before .same .ensures))
-      ∙ c .before .before .before .before .before .before .if1 .left,
-  sym (same-result _ _ isrWord
-      (c .before .before .before .before .same2 .ensures)) ∙ c .before .before .before .if2 .left,
-  sym (same-result _ _ resourceWord
-      (c .before .same3 .ensures)) ∙ c .if3 .taken,
-)
-
-slice-aggregate-same-4 : tie.Need-slice-aggregate-same-4
-slice-aggregate-same-4 c = search needs
-
-same-requires-4 : tie.Need-same-requires-4
-same-requires-4 c κs = search needs
+returns-3 c =
+    let e₂ = c .before .before .before in let e₁ = e₂ .before .before .before in
+    simp (
+      tested taskWord (e₁ .before .same .ensures) (e₁ .if1 .left),
+      tested isrWord (e₂ .before .same2 .ensures) (e₂ .if2 .left),
+      tested resourceWord (c .before .same3 .ensures) (c .if3 .taken),
+    )
 
 returns-4 : tie.Need-returns-4
 unfolding spelledSort
-returns-4 c = simp (
-  sym (same-result _ _ taskWord
-      (c .before .before .before .before .before .before .before .before .before .before .same .ensures))
-      ∙ c .before .before .before .before .before .before .before .before .before .if1 .left,
-  sym (same-result _ _ isrWord
-      (c .before .before .before .before .before .before .before .same2 .ensures))
-      ∙ c .before .before .before .before .before .before .if2 .left,
-  sym (same-result _ _ resourceWord
-      (c .before .before .before .before .same3 .ensures)) ∙ c .before .before .before .if3 .left,
-  sym (same-result _ _ priorityWord
-      (c .before .same4 .ensures)) ∙ c .if4 .taken,
-)
-
-slice-aggregate-same-5 : tie.Need-slice-aggregate-same-5
-slice-aggregate-same-5 c = search needs
-
-same-requires-5 : tie.Need-same-requires-5
-same-requires-5 c κs = search needs
+returns-4 c =
+    let e₃ = c .before .before .before in let e₂ = e₃ .before .before .before in
+    let e₁ = e₂ .before .before .before in
+    simp (
+      tested taskWord (e₁ .before .same .ensures) (e₁ .if1 .left),
+      tested isrWord (e₂ .before .same2 .ensures) (e₂ .if2 .left),
+      tested resourceWord (e₃ .before .same3 .ensures) (e₃ .if3 .left),
+      tested priorityWord (c .before .same4 .ensures) (c .if4 .taken),
+    )
 
 returns-5 : tie.Need-returns-5
 unfolding spelledSort
-returns-5 c = simp (
-  sym (same-result _ _ taskWord
-      (c .before .before .before .before .before .before .before .before .before .before .before .before .before .same .ensures))
-      ∙ c .before .before .before .before .before .before .before .before .before .before .before .before .if1 .left,
-  sym
-      (same-result _ _ isrWord (c .before .before .before .before .before .before .before .before .before .before .same2 .ensures))
-      ∙ c .before .before .before .before .before .before .before .before .before .if2 .left,
-  sym (same-result _ _ resourceWord
-      (c .before .before .before .before .before .before .before .same3 .ensures))
-      ∙ c .before .before .before .before .before .before .if3 .left,
-  sym (same-result _ _ priorityWord
-      (c .before .before .before .before .same4 .ensures)) ∙ c .before .before .before .if4 .left,
-  sym (same-result _ _ autostartWord
-      (c .before .same5 .ensures)) ∙ c .if5 .taken,
-)
-
-slice-aggregate-same-6 : tie.Need-slice-aggregate-same-6
-slice-aggregate-same-6 c = search needs
-
-same-requires-6 : tie.Need-same-requires-6
-same-requires-6 c κs = search needs
+returns-5 c =
+    let e₄ = c .before .before .before in let e₃ = e₄ .before .before .before in
+    let e₂ = e₃ .before .before .before in let e₁ = e₂ .before .before .before in
+    simp (
+      tested taskWord (e₁ .before .same .ensures) (e₁ .if1 .left),
+      tested isrWord (e₂ .before .same2 .ensures) (e₂ .if2 .left),
+      tested resourceWord (e₃ .before .same3 .ensures) (e₃ .if3 .left),
+      tested priorityWord (e₄ .before .same4 .ensures) (e₄ .if4 .left),
+      tested autostartWord (c .before .same5 .ensures) (c .if5 .taken),
+    )
 
 returns-6 : tie.Need-returns-6
 unfolding spelledSort
-returns-6 c = simp (
-  sym (same-result _ _ taskWord
-      (c .before .before .before .before .before .before .before .before .before .before .before .before .before .before .before .before .same .ensures)) ∙ c .before .before .before .before .before .before .before .before .before .before .before .before .before .before .before .if1 .left,
-  sym (same-result _ _ isrWord (c .before .before .before .before .before .before .before .before .before .before .before .before .before .same2 .ensures)) ∙ c .before .before .before .before .before .before .before .before .before .before .before .before .if2 .left,
-  sym (same-result _ _ resourceWord (c .before .before .before .before .before .before .before .before .before .before .same3 .ensures)) ∙ c .before .before .before .before .before .before .before .before .before .if3 .left,
-  sym (same-result _ _ priorityWord (c .before .before .before .before .before .before .before .same4 .ensures)) ∙ c .before .before .before .before .before .before .if4 .left,
-  sym (same-result _ _ autostartWord (c .before .before .before .before .same5 .ensures)) ∙ c .before .before .before .if5 .left,
-  sym (same-result _ _ trueWord (c .before .same6 .ensures)) ∙ c .if6 .taken,
-)
-
-slice-aggregate-same-7 : tie.Need-slice-aggregate-same-7
-slice-aggregate-same-7 c = search needs
-
-same-requires-7 : tie.Need-same-requires-7
-same-requires-7 c κs = search needs
+returns-6 c =
+    let e₅ = c .before .before .before in let e₄ = e₅ .before .before .before in
+    let e₃ = e₄ .before .before .before in let e₂ = e₃ .before .before .before in
+    let e₁ = e₂ .before .before .before in
+    simp (
+      tested taskWord (e₁ .before .same .ensures) (e₁ .if1 .left),
+      tested isrWord (e₂ .before .same2 .ensures) (e₂ .if2 .left),
+      tested resourceWord (e₃ .before .same3 .ensures) (e₃ .if3 .left),
+      tested priorityWord (e₄ .before .same4 .ensures) (e₄ .if4 .left),
+      tested autostartWord (e₅ .before .same5 .ensures) (e₅ .if5 .left),
+      tested trueWord (c .before .same6 .ensures) (c .if6 .taken),
+    )
 
 returns-7 : tie.Need-returns-7
 unfolding spelledSort
-returns-7 c = simp (
-  sym (same-result _ _ taskWord
-      (c .before .before .before .before .before .before .before .before .before .before .before .before .before .before .before .before .before .before .before .same .ensures)) ∙ c .before .before .before .before .before .before .before .before .before .before .before .before .before .before .before .before .before .before .if1 .left,
-  sym (same-result _ _ isrWord (c .before .before .before .before .before .before .before .before .before .before .before .before .before .before .before .before .same2 .ensures)) ∙ c .before .before .before .before .before .before .before .before .before .before .before .before .before .before .before .if2 .left,
-  sym (same-result _ _ resourceWord (c .before .before .before .before .before .before .before .before .before .before .before .before .before .same3 .ensures)) ∙ c .before .before .before .before .before .before .before .before .before .before .before .before .if3 .left,
-  sym (same-result _ _ priorityWord (c .before .before .before .before .before .before .before .before .before .before .same4 .ensures)) ∙ c .before .before .before .before .before .before .before .before .before .if4 .left,
-  sym (same-result _ _ autostartWord (c .before .before .before .before .before .before .before .same5 .ensures)) ∙ c .before .before .before .before .before .before .if5 .left,
-  sym (same-result _ _ trueWord (c .before .before .before .before .same6 .ensures)) ∙ c .before .before .before .if6 .left,
-  sym (same-result _ _ falseWord (c .before .same7 .ensures)) ∙ c .if7 .taken,
-)
+returns-7 c =
+    let e₆ = c .before .before .before in let e₅ = e₆ .before .before .before in
+    let e₄ = e₅ .before .before .before in let e₃ = e₄ .before .before .before in
+    let e₂ = e₃ .before .before .before in let e₁ = e₂ .before .before .before in
+    simp (
+      tested taskWord (e₁ .before .same .ensures) (e₁ .if1 .left),
+      tested isrWord (e₂ .before .same2 .ensures) (e₂ .if2 .left),
+      tested resourceWord (e₃ .before .same3 .ensures) (e₃ .if3 .left),
+      tested priorityWord (e₄ .before .same4 .ensures) (e₄ .if4 .left),
+      tested autostartWord (e₅ .before .same5 .ensures) (e₅ .if5 .left),
+      tested trueWord (e₆ .before .same6 .ensures) (e₆ .if6 .left),
+      tested falseWord (c .before .same7 .ensures) (c .if7 .taken),
+    )
 
 returns-8 : tie.Need-returns-8
 unfolding spelledSort
-returns-8 c = simp (
-  sym (same-result _ _ taskWord
-      (c .before .before .before .before .before .before .before .before .before .before .before .before .before .before .before .before .before .before .before .same .ensures)) ∙ c .before .before .before .before .before .before .before .before .before .before .before .before .before .before .before .before .before .before .if1 .left,
-  sym (same-result _ _ isrWord (c .before .before .before .before .before .before .before .before .before .before .before .before .before .before .before .before .same2 .ensures)) ∙ c .before .before .before .before .before .before .before .before .before .before .before .before .before .before .before .if2 .left,
-  sym (same-result _ _ resourceWord (c .before .before .before .before .before .before .before .before .before .before .before .before .before .same3 .ensures)) ∙ c .before .before .before .before .before .before .before .before .before .before .before .before .if3 .left,
-  sym (same-result _ _ priorityWord (c .before .before .before .before .before .before .before .before .before .before .same4 .ensures)) ∙ c .before .before .before .before .before .before .before .before .before .if4 .left,
-  sym (same-result _ _ autostartWord (c .before .before .before .before .before .before .before .same5 .ensures)) ∙ c .before .before .before .before .before .before .if5 .left,
-  sym (same-result _ _ trueWord (c .before .before .before .before .same6 .ensures)) ∙ c .before .before .before .if6 .left,
-  sym (same-result _ _ falseWord (c .before .same7 .ensures)) ∙ c .if7 .left,
-)
+returns-8 c =
+    let e₆ = c .before .before .before in let e₅ = e₆ .before .before .before in
+    let e₄ = e₅ .before .before .before in let e₃ = e₄ .before .before .before in
+    let e₂ = e₃ .before .before .before in let e₁ = e₂ .before .before .before in
+    simp (
+      tested taskWord (e₁ .before .same .ensures) (e₁ .if1 .left),
+      tested isrWord (e₂ .before .same2 .ensures) (e₂ .if2 .left),
+      tested resourceWord (e₃ .before .same3 .ensures) (e₃ .if3 .left),
+      tested priorityWord (e₄ .before .same4 .ensures) (e₄ .if4 .left),
+      tested autostartWord (e₅ .before .same5 .ensures) (e₅ .if5 .left),
+      tested trueWord (e₆ .before .same6 .ensures) (e₆ .if6 .left),
+      tested falseWord (c .before .same7 .ensures) (c .if7 .left),
+    )
 
 pub spelled-sort-spec : {M : Type 1} → statement M
+unfolding spelledSort
 spelled-sort-spec =
     tie.close
     (tie.spec
-    slice-aggregate-same
-    same-requires
-    returns
-    slice-aggregate-same-2
-    same-requires-2
+    (λ c. search needs) (λ c κs. search needs)
+    (λ c. simp (tested taskWord (c .before .same .ensures) (c .if1 .taken)))
+    (λ c. search needs) (λ c κs. search needs)
     returns-2
-    slice-aggregate-same-3
-    same-requires-3
+    (λ c. search needs) (λ c κs. search needs)
     returns-3
-    slice-aggregate-same-4
-    same-requires-4
+    (λ c. search needs) (λ c κs. search needs)
     returns-4
-    slice-aggregate-same-5
-    same-requires-5
+    (λ c. search needs) (λ c κs. search needs)
     returns-5
-    slice-aggregate-same-6
-    same-requires-6
+    (λ c. search needs) (λ c κs. search needs)
     returns-6
-    slice-aggregate-same-7
-    same-requires-7
+    (λ c. search needs) (λ c κs. search needs)
     returns-7
     returns-8)

@@ -10,88 +10,47 @@ use Rattle.oil.proofs.next.word_at.Statement.{statement}
 use Rattle.oil.proofs.next.word_at.Tie as tie
 
 returns : tie.Need-returns
-returns c = word-past (c .before .before .args .text .now) (c .before .before .args .at) (let h = c .if1 .taken in omega arith)
-
-shared-slice-read-b : tie.Need-shared-slice-read-b
-shared-slice-read-b c = search needs
-
-is-letter-requires : tie.Need-is-letter-requires
-is-letter-requires c κs = search needs
-
-add-name-end : tie.Need-add-name-end
-add-name-end c = search needs
-
-name-end-requires : tie.Need-name-end-requires
-name-end-requires c κs = search needs
-
-sub-spelled-sort : tie.Need-sub-spelled-sort
-sub-spelled-sort c = search needs
-
-part-spelled-sort-start : tie.Need-part-spelled-sort-start
-part-spelled-sort-start c = search needs
+returns c =
+    word-past (c .before .before .args .text .now) (c .before .before .args .at) (let h = c .if1 .taken in omega arith)
 
 part-spelled-sort-end : tie.Need-part-spelled-sort-end
 part-spelled-sort-end c =
     let a = c .before .before .before .before .before .before .args in
     omega (arith, c .name-end .ensures, run-inside isNameByte (a .text .now) (a .at + 1) (omega arith))
 
-spelled-sort-requires : tie.Need-spelled-sort-requires
-spelled-sort-requires c κs = search needs
-
 returns-2 : tie.Need-returns-2
 returns-2 c =
     let a = c .before .before .before .before .before .before .before .before .args in
     word-letters (a .text .now) (a .at) (omega arith) (sym (c .before .before .before .before .is-letter .ensures)
-    ∙ c .before .before .before .if2 .taken) (c .before .before .name-end .result) (c .before .before .name-end .ensures)
-    (c .spelled-sort .result) (c .spelled-sort .ensures)
-
-is-digit-requires : tie.Need-is-digit-requires
-is-digit-requires c κs = search needs
-
-add-number-end : tie.Need-add-number-end
-add-number-end c = search needs
-
-number-end-requires : tie.Need-number-end-requires
-number-end-requires c κs = search needs
+    ∙ c .before .before .before .if2 .taken) (c .before .before .name-end .ensures)
+    (c .spelled-sort .ensures)
 
 returns-3 : tie.Need-returns-3
 returns-3 c =
     let a = c .before .before .before .before .before .before .before .before .args in
     word-digits (a .text .now) (a .at) (omega arith) (sym (c .before .before .before .before .is-letter .ensures)
-    ∙ c .before .before .before .if2 .left) (sym (c .before .before .is-digit .ensures) ∙ c .before .if3 .taken) (c .number-end .result)
+    ∙ c .before .before .before .if2 .left) (sym (c .before .before .is-digit .ensures) ∙ c .before .if3 .taken)
     (c .number-end .ensures)
-
-sign-requires : tie.Need-sign-requires
-sign-requires c κs = search needs
-
-sign-at-requires : tie.Need-sign-at-requires
-sign-at-requires c κs = search needs
 
 returns-4 : tie.Need-returns-4
 returns-4 c =
     let a = c .before .before .before .before .before .before .before .before .before .args in
     word-sign (a .text .now) (a .at) (omega arith) (sym (c .before .before .before .before .before .is-letter .ensures)
-    ∙ c .before .before .before .before .if2 .left) (sym (c .before .before .before .is-digit .ensures) ∙ c .before .before .if3 .left)
-    (c .before .sign .result) (c .before .sign .ensures) (c .sign-at .result) (c .sign-at .ensures)
+    ∙ c .before .before .before .before .if2 .left) (sym (c .before .before .before .is-digit .ensures)
+    ∙ c .before .before .if3 .left)
+    (c .before .sign .ensures) (c .sign-at .ensures)
 
 pub word-at-spec : {M : Type 1} → statement M
 word-at-spec =
     tie.close
     (tie.spec
     returns
-    shared-slice-read-b
-    is-letter-requires
-    add-name-end
-    name-end-requires
-    sub-spelled-sort
-    part-spelled-sort-start
+    (λ c. search needs) (λ c κs. search needs) (λ c. search needs) (λ c κs. search needs) (λ c. search needs)
+    (λ c. search needs)
     part-spelled-sort-end
-    spelled-sort-requires
+    (λ c κs. search needs)
     returns-2
-    is-digit-requires
-    add-number-end
-    number-end-requires
+    (λ c κs. search needs) (λ c. search needs) (λ c κs. search needs)
     returns-3
-    sign-requires
-    sign-at-requires
+    (λ c κs. search needs) (λ c κs. search needs)
     returns-4)

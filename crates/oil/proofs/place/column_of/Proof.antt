@@ -10,25 +10,14 @@ use Rattle.oil.proofs.place.column_of.Statement.{statement}
 use Rattle.oil.proofs.place.column_of.Tie as tie
 
 abbrev Inv-loop : tie.InvT-loop
-Inv-loop text at column₀ i₀ column i = (i ≤ at) × ((column ≤ i + 1) × (columnAfter column (drop i (take at text)) ≡ columnOf text at))
+Inv-loop text at column₀ i₀ column i =
+    (i ≤ at) × ((column ≤ i + 1) × (columnAfter column (drop i (take at text)) ≡ columnOf text at))
 
 abbrev μ-loop : tie.MeasureT-loop
 μ-loop text at column₀ i₀ column i = at - i
 
 loop-holds : tie.Need-loop-holds Inv-loop μ-loop
 loop-holds c = (omega arith, (omega arith, refl))
-
-shared-slice-read-column-after : tie.Need-shared-slice-read-column-after Inv-loop μ-loop
-shared-slice-read-column-after c = search needs
-
-column-after-requires : tie.Need-column-after-requires Inv-loop μ-loop
-column-after-requires c κs = search needs
-
-add-i : tie.Need-add-i Inv-loop μ-loop
-add-i c = search needs
-
-loop-less : tie.Need-loop-less Inv-loop μ-loop
-loop-less c = search needs
 
 loop-again : tie.Need-loop-again Inv-loop μ-loop
 loop-again c =
@@ -38,7 +27,8 @@ loop-again c =
       (
         rw (c .column-after .ensures) (column-le (getD (a .text .now) (l .i) 0) (l .column) (l .i) (l .inv .1 .0)),
         rw
-            (c .column-after .ensures) (sym (column-step (a .text .now) (a .at) (c .before .before .before .before .before .pre) (l .column)
+            (c .column-after .ensures)
+            (sym (column-step (a .text .now) (a .at) (c .before .before .before .before .before .pre) (l .column)
             (l .i) (c .before .before .loop-test .taken)) ∙ l .inv .1 .1),
       ),
     )
@@ -47,7 +37,8 @@ returns : tie.Need-returns Inv-loop μ-loop
 returns c =
     let a = c .before .before .before .args in
     let l = c .before .loop in
-    sym (column-end (a .text .now) (a .at) (c .before .before .before .pre) (l .column) (l .i) (c .loop-test .left)) ∙ l .inv .1 .1
+    sym (column-end (a .text .now) (a .at) (c .before .before .before .pre) (l .column) (l .i) (c .loop-test .left))
+    ∙ l .inv .1 .1
 
 pub column-of-spec : {M : Type 1} → statement M
 column-of-spec =
@@ -56,9 +47,6 @@ column-of-spec =
     Inv-loop
     μ-loop
     loop-holds
-    shared-slice-read-column-after
-    column-after-requires
-    add-i
-    loop-less
+    (λ c. search needs) (λ c κs. search needs) (λ c. search needs) (λ c. search needs)
     loop-again
     returns)

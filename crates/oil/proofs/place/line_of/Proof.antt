@@ -10,25 +10,14 @@ use Rattle.oil.proofs.place.line_of.Statement.{statement}
 use Rattle.oil.proofs.place.line_of.Tie as tie
 
 abbrev Inv-loop : tie.InvT-loop
-Inv-loop text at line₀ i₀ line i = (i ≤ at) × ((line ≤ i + 1) × (lineAfter line (drop i (take at text)) ≡ lineOf text at))
+Inv-loop text at line₀ i₀ line i =
+    (i ≤ at) × ((line ≤ i + 1) × (lineAfter line (drop i (take at text)) ≡ lineOf text at))
 
 abbrev μ-loop : tie.MeasureT-loop
 μ-loop text at line₀ i₀ line i = at - i
 
 loop-holds : tie.Need-loop-holds Inv-loop μ-loop
 loop-holds c = (omega arith, (omega arith, refl))
-
-shared-slice-read-line-after : tie.Need-shared-slice-read-line-after Inv-loop μ-loop
-shared-slice-read-line-after c = search needs
-
-line-after-requires : tie.Need-line-after-requires Inv-loop μ-loop
-line-after-requires c κs = search needs
-
-add-i : tie.Need-add-i Inv-loop μ-loop
-add-i c = search needs
-
-loop-less : tie.Need-loop-less Inv-loop μ-loop
-loop-less c = search needs
 
 loop-again : tie.Need-loop-again Inv-loop μ-loop
 loop-again c =
@@ -38,7 +27,8 @@ loop-again c =
       (
         rw (c .line-after .ensures) (line-le (getD (a .text .now) (l .i) 0) (l .line) (l .i) (l .inv .1 .0)),
         rw
-            (c .line-after .ensures) (sym (line-step (a .text .now) (a .at) (c .before .before .before .before .before .pre) (l .line) (l .i)
+            (c .line-after .ensures)
+            (sym (line-step (a .text .now) (a .at) (c .before .before .before .before .before .pre) (l .line) (l .i)
             (c .before .before .loop-test .taken)) ∙ l .inv .1 .1),
       ),
     )
@@ -47,7 +37,8 @@ returns : tie.Need-returns Inv-loop μ-loop
 returns c =
     let a = c .before .before .before .args in
     let l = c .before .loop in
-    sym (line-end (a .text .now) (a .at) (c .before .before .before .pre) (l .line) (l .i) (c .loop-test .left)) ∙ l .inv .1 .1
+    sym (line-end (a .text .now) (a .at) (c .before .before .before .pre) (l .line) (l .i) (c .loop-test .left))
+    ∙ l .inv .1 .1
 
 pub line-of-spec : {M : Type 1} → statement M
 line-of-spec =
@@ -56,9 +47,6 @@ line-of-spec =
     Inv-loop
     μ-loop
     loop-holds
-    shared-slice-read-line-after
-    line-after-requires
-    add-i
-    loop-less
+    (λ c. search needs) (λ c κs. search needs) (λ c. search needs) (λ c. search needs)
     loop-again
     returns)

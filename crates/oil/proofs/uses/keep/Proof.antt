@@ -9,25 +9,14 @@ returns : tie.Need-returns
 unfolding kept
 returns c = rw (le-leb room (c .before .args .k .count) (c .if1 .taken))
 
-mul-from : tie.Need-mul-from
-mul-from c = search needs
-
-array-write-from : tie.Need-array-write-from
-array-write-from c = search needs
-
-mul-to : tie.Need-mul-to
-mul-to c = search needs
-
-array-write-to : tie.Need-array-write-to
-array-write-to c = search needs
-
-add-t8 : tie.Need-add-t8
-add-t8 c = search needs
-
 returns-2 : tie.Need-returns-2
 unfolding kept
 returns-2 c = rw (lt-leb room (c .before .before .before .args .k .count) (c .before .before .if1 .left))
 
 pub keep-spec : {M : Type 1} → statement M
 keep-spec =
-    tie.close (tie.spec returns mul-from array-write-from mul-to array-write-to add-t8 returns-2)
+    tie.close
+    (tie.spec
+    returns
+    (λ c. search needs) (λ c. search needs) (λ c. search needs) (λ c. search needs) (λ c. search needs)
+    returns-2)

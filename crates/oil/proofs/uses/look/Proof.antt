@@ -7,15 +7,10 @@ use borrow.Author.Needs.{needs}
 use Rattle.oil.proofs.uses.look.Statement.{statement}
 use Rattle.oil.proofs.uses.look.Tie as tie
 
-uses-resource-requires : tie.Need-uses-resource-requires
-uses-resource-requires c κs = search needs
-
 returns : tie.Need-returns
 unfolding unborneAt
-returns c = (c .before .before .before .pre .0, rw (sym (c .before .uses-resource .ensures) ∙ not-true _ (c .if1 .taken)))
-
-search-requires : tie.Need-search-requires
-search-requires c κs = search needs
+returns c =
+    (c .before .before .before .pre .0, rw (sym (c .before .uses-resource .ensures) ∙ not-true _ (c .if1 .taken)))
 
 returns-2 : tie.Need-returns-2
 unfolding unborneAt
@@ -34,14 +29,12 @@ returns-3 c = (
   c .before .before .before .before .before .before .before .pre .0,
   rw (
     sym
-        (c .before .before .before .before .before .uses-resource .ensures) ∙ not-false _ (c .before .before .before .before .if1 .left),
+        (c .before .before .before .before .before .uses-resource .ensures)
+        ∙ not-false _ (c .before .before .before .before .if1 .left),
     sym
         (c .before .before .before .search .ensures) ∙ not-false _ (c .before .if2 .left),
   ),
 )
-
-keep-requires : tie.Need-keep-requires
-keep-requires c κs = search needs
 
 returns-4 : tie.Need-returns-4
 unfolding unborneAt
@@ -50,8 +43,8 @@ returns-4 c =
       rw (c .keep .ensures) (kept-sound (a .text .now) (a .words) (a .k)
           (c .before .before .before .before .before .before .before .before .pre .0) (a .w .start) (a .w .end)
           (c .before .before .before .before .before .before .before .before .pre .1 .0)
-          (c .before .before .before .before .before .before .before .before .pre .1 .1) (sym
-          (c .before .before .before .before .search .ensures) ∙ not-false _ (c .before .before .if2 .left))),
+          (c .before .before .before .before .before .before .before .before .pre .1 .1)
+          (sym (c .before .before .before .before .search .ensures) ∙ not-false _ (c .before .before .if2 .left))),
       rw (
         sym
             (c .before .before .before .before .before .before .uses-resource .ensures) ∙ not-false _
@@ -65,10 +58,10 @@ pub look-spec : {M : Type 1} → statement M
 look-spec =
     tie.close
     (tie.spec
-    uses-resource-requires
+    (λ c κs. search needs)
     returns
-    search-requires
+    (λ c κs. search needs)
     returns-2
     returns-3
-    keep-requires
+    (λ c κs. search needs)
     returns-4)

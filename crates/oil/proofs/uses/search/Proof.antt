@@ -16,63 +16,29 @@ abbrev μ-loop : tie.MeasureT-loop
 loop-holds : tie.Need-loop-holds Inv-loop μ-loop
 loop-holds c = omega arith
 
-mul-a : tie.Need-mul-a Inv-loop μ-loop
-mul-a c = let s = c .before .before .before .before .before .pre .0 .few in search needs
-
-array-read-a : tie.Need-array-read-a Inv-loop μ-loop
-array-read-a c = let s = c .before .before .before .before .before .pre .0 .few in omega arith
-
-mul-b : tie.Need-mul-b Inv-loop μ-loop
-mul-b c = let s = c .before .before .before .before .before .pre .0 .few in search needs
-
-array-read-b : tie.Need-array-read-b Inv-loop μ-loop
-array-read-b c = let s = c .before .before .before .before .before .pre .0 .few in omega arith
-
 sub-same : tie.Need-sub-same Inv-loop μ-loop
-sub-same c = let f = c .before .before .before .before .before .pre .0 .forward (c .before .loop .i) (c .loop-test .taken) in search needs
+sub-same c =
+    let f = c .before .before .before .before .before .pre .0 .forward (c .before .loop .i) (c .loop-test .taken) in
+    search needs
 
 part-same-start : tie.Need-part-same-start Inv-loop μ-loop
 part-same-start c =
-    let l = c .before .loop in
-    let f = c .before .before .before .before .before .pre .0 .forward (l .i)
-    (c .loop-test .taken) in let g = c .before .before .before .before .before .pre .0 .inside (l .i) (c .loop-test .taken) in omega arith
+    let k = c .before .before .before .before .before .pre .0 in let i = c .before .loop .i in
+    let f = k .forward i (c .loop-test .taken) in let g = k .inside i (c .loop-test .taken) in
+    omega arith
 
 part-same-end : tie.Need-part-same-end Inv-loop μ-loop
 part-same-end c =
-    let l = c .before .loop in
-    let f = c .before .before .before .before .before .pre .0 .forward (l .i)
-    (c .loop-test .taken) in let g = c .before .before .before .before .before .pre .0 .inside (l .i) (c .loop-test .taken) in omega arith
-
-sub-same-2 : tie.Need-sub-same-2 Inv-loop μ-loop
-sub-same-2 c = search needs
-
-part-same-start-2 : tie.Need-part-same-start-2 Inv-loop μ-loop
-part-same-start-2 c = search needs
-
-part-same-end-2 : tie.Need-part-same-end-2 Inv-loop μ-loop
-part-same-end-2 c = search needs
-
-same-requires : tie.Need-same-requires Inv-loop μ-loop
-same-requires c κs = search needs
+    let k = c .before .before .before .before .before .pre .0 in let i = c .before .loop .i in
+    let f = k .forward i (c .loop-test .taken) in let g = k .inside i (c .loop-test .taken) in
+    omega arith
 
 returns : tie.Need-returns Inv-loop μ-loop
 returns c =
-    let a = c .before .before .before .before .before .before .before .before .before .args in
-    kept-borne (a .text .now) (a .words) (a .k) (c .before .before .before .before .before .before .before .before .before .pre .0)
-    (c .before .before .before .before .before .loop .i) (c .before .before .before .before .loop-test .taken) (take (a .end - a .start)
-    (drop (a .start) (a .text .now))) (c .before .same .ensures .0 (c .if1 .taken))
-
-add-i : tie.Need-add-i Inv-loop μ-loop
-add-i c = search needs
-
-loop-less : tie.Need-loop-less Inv-loop μ-loop
-loop-less c = search needs
-
-loop-again : tie.Need-loop-again Inv-loop μ-loop
-loop-again c = search needs
-
-borne-requires : tie.Need-borne-requires Inv-loop μ-loop
-borne-requires c κs = search needs
+    let s = c .before .before .before .before .before .before .before .before .before in let a = s .args in
+    kept-borne (a .text .now) (a .words) (a .k) (s .pre .0) (c .before .before .before .before .before .loop .i)
+    (c .before .before .before .before .loop-test .taken) (take (a .end - a .start) (drop (a .start) (a .text .now)))
+    (c .before .same .ensures .0 (c .if1 .taken))
 
 returns-2 : tie.Need-returns-2 Inv-loop μ-loop
 returns-2 c = c .borne .ensures
@@ -84,20 +50,14 @@ search-spec =
     Inv-loop
     μ-loop
     loop-holds
-    mul-a
-    array-read-a
-    mul-b
-    array-read-b
+    (λ c. let s = c .before .before .before .before .before .pre .0 .few in search needs)
+    (λ c. let s = c .before .before .before .before .before .pre .0 .few in omega arith)
+    (λ c. let s = c .before .before .before .before .before .pre .0 .few in search needs)
+    (λ c. let s = c .before .before .before .before .before .pre .0 .few in omega arith)
     sub-same
     part-same-start
     part-same-end
-    sub-same-2
-    part-same-start-2
-    part-same-end-2
-    same-requires
+    (λ c. search needs) (λ c. search needs) (λ c. search needs) (λ c κs. search needs)
     returns
-    add-i
-    loop-less
-    loop-again
-    borne-requires
+    (λ c. search needs) (λ c. search needs) (λ c. search needs) (λ c κs. search needs)
     returns-2)

@@ -14,64 +14,53 @@ use Rattle.oil.proofs.uses.unborne.Statement.{statement}
 use Rattle.oil.proofs.uses.unborne.Tie as tie
 
 abbrev Inv-loop : tie.InvT-loop
-Inv-loop text words k₀ s₀ at₀ i₀ k s at i = (at ≤ length text) × (Sound text words k × (unborne
-    (words - i) text at s words ≡ unborne words text 0 fresh words))
+Inv-loop text words k₀ s₀ at₀ i₀ k s at i =
+    (at ≤ length text) × (Sound text words k × (unborne (words - i) text at s words ≡ unborne words text 0 fresh words))
 
 abbrev μ-loop : tie.MeasureT-loop
 μ-loop text words k₀ s₀ at₀ i₀ k s at i = words - i
 
-nothing-requires : tie.Need-nothing-requires Inv-loop μ-loop
-nothing-requires c κs = search needs
-
-fresh-requires : tie.Need-fresh-requires Inv-loop μ-loop
-fresh-requires c κs = search needs
-
 loop-holds : tie.Need-loop-holds Inv-loop μ-loop
 loop-holds c =
-    let a = c .before .before .before .args in
-    (omega arith, (rw (c .before .nothing .ensures) (nothing-sound (a .text .now) (a .words)), rw (c .fresh .ensures, sub-zero)))
-
-next-word-requires : tie.Need-next-word-requires Inv-loop μ-loop
-next-word-requires c κs = search needs
+    let a = c .before .before .before .args in (
+      omega arith,
+      (
+        rw (c .before .nothing .ensures) (nothing-sound (a .text .now) (a .words)),
+        rw (c .fresh .ensures, sub-zero),
+      ),
+    )
 
 look-requires : tie.Need-look-requires Inv-loop μ-loop
 look-requires c κs =
     let l = c .before .before .loop in
-    let w = c .next-word in
-    (l .inv .1 .0, word-inside (c .before .before .before .before .before .before .args .text .now) (l .at) (l .inv .0) (w .result) (w .ensures))
-
-refused-at-requires : tie.Need-refused-at-requires Inv-loop μ-loop
-refused-at-requires c κs = search needs
+    let w = c .next-word in (
+      l .inv .1 .0,
+      word-inside (c .before .before .before .before .before .before .args .text .now) (l .at) (l .inv .0)
+          (w .ensures),
+    )
 
 returns : tie.Need-returns Inv-loop μ-loop
 returns c =
     let a = c .before .before .before .before .before .before .before .before .before .args in
     let l = c .before .before .before .before .before .loop in
     let w = c .before .before .before .next-word in
-    c .refused-at .ensures ∙ unborne-found (a .text .now) (a .words) (a .words) (l .i) (l .at) (l .s) (w .result) (w .ensures)
-    (c .before .before .before .before .loop-test .taken) (sym (c .before .before .look .ensures .1) ∙ c .before .if1 .taken) ∙ l .inv .1 .1
-
-after-requires : tie.Need-after-requires Inv-loop μ-loop
-after-requires c κs = search needs
-
-add-i : tie.Need-add-i Inv-loop μ-loop
-add-i c = search needs
-
-loop-less : tie.Need-loop-less Inv-loop μ-loop
-loop-less c = search needs
+    c .refused-at .ensures ∙ unborne-found (a .text .now) (a .words) (a .words) (l .i) (l .at) (l .s) (w .ensures)
+    (c .before .before .before .before .loop-test .taken)
+    (sym (c .before .before .look .ensures .1) ∙ c .before .if1 .taken) ∙ l .inv .1 .1
 
 loop-again : tie.Need-loop-again Inv-loop μ-loop
 loop-again c =
     let a = c .before .before .before .before .before .before .before .before .before .before .args in
     let l = c .before .before .before .before .before .before .loop in
     let w = c .before .before .before .before .next-word in (
-      word-inside (a .text .now) (l .at) (l .inv .0) (w .result) (w .ensures) .1,
+      word-inside (a .text .now) (l .at) (l .inv .0) (w .ensures) .1,
       (
         c .before .before .before .look .ensures .0,
         unborne-turn
-            (a .text .now) (a .words) (a .words) (l .i) (l .at) (l .s) (w .result) (w .ensures)
-            (c .before .before .before .before .before .loop-test .taken) (sym (c .before .before .before .look .ensures .1)
-            ∙ c .before .before .if1 .left) (c .after .result) (c .after .ensures) ∙ l .inv .1 .1,
+            (a .text .now) (a .words) (a .words) (l .i) (l .at) (l .s) (w .ensures)
+            (c .before .before .before .before .before .loop-test .taken)
+            (sym (c .before .before .before .look .ensures .1)
+            ∙ c .before .before .if1 .left) (c .after .ensures) ∙ l .inv .1 .1,
       ),
     )
 
@@ -87,15 +76,12 @@ unborne-spec =
     (tie.spec
     Inv-loop
     μ-loop
-    nothing-requires
-    fresh-requires
+    (λ c κs. search needs) (λ c κs. search needs)
     loop-holds
-    next-word-requires
+    (λ c κs. search needs)
     look-requires
-    refused-at-requires
+    (λ c κs. search needs)
     returns
-    after-requires
-    add-i
-    loop-less
+    (λ c κs. search needs) (λ c. search needs) (λ c. search needs)
     loop-again
     returns-2)

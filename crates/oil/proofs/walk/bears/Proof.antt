@@ -6,9 +6,6 @@ use borrow.Author.Needs.{needs}
 use Rattle.oil.proofs.walk.bears.Statement.{statement}
 use Rattle.oil.proofs.walk.bears.Tie as tie
 
-names-object-requires : tie.Need-names-object-requires
-names-object-requires c κs = search needs
-
 returns : tie.Need-returns
 unfolding bears
 returns c = rw (not-true (c .before .before .args .resource) (c .if1 .taken)) (c .before .names-object .ensures)
@@ -26,8 +23,9 @@ unfolding bears
 returns-3 c = simp (
   not-false (c .before .before .before .before .args .resource) (c .before .before .if1 .left),
   sym
-      (c .before .before .before .names-object .ensures) ∙ not-false (c .before .before .before .names-object .result) (c .before .if2 .left),
+      (c .before .before .before .names-object .ensures) ∙ not-false (c .before .before .before .names-object .result)
+      (c .before .if2 .left),
 )
 
 pub bears-spec : {M : Type 1} → statement M
-bears-spec = tie.close (tie.spec names-object-requires returns returns-2 returns-3)
+bears-spec = tie.close (tie.spec (λ c κs. search needs) returns returns-2 returns-3)

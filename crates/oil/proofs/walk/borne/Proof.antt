@@ -12,27 +12,21 @@ use Rattle.oil.proofs.walk.borne.Statement.{statement}
 use Rattle.oil.proofs.walk.borne.Tie as tie
 
 abbrev Inv-loop : tie.InvT-loop
-Inv-loop text count resource start end s₀ at₀ i₀ s at i = (at ≤ length text) × (borne (count - i) text at s resource (take (end - start)
-    (drop start text)) ≡ borne count text 0 fresh resource (take (end - start) (drop start text)))
+Inv-loop text count resource start end s₀ at₀ i₀ s at i =
+    (at ≤ length text) × (borne (count - i) text at s resource (take (end - start) (drop start text))
+    ≡ borne count text 0 fresh resource (take (end - start) (drop start text)))
 
 abbrev μ-loop : tie.MeasureT-loop
 μ-loop text count resource start end s₀ at₀ i₀ s at i = count - i
 
-fresh-requires : tie.Need-fresh-requires Inv-loop μ-loop
-fresh-requires c κs = search needs
-
 loop-holds : tie.Need-loop-holds Inv-loop μ-loop
 loop-holds c = (omega arith, rw (c .fresh .ensures, sub-zero))
-
-next-word-requires : tie.Need-next-word-requires Inv-loop μ-loop
-next-word-requires c κs = search needs
 
 borne-here-requires : tie.Need-borne-here-requires Inv-loop μ-loop
 borne-here-requires c κs =
     let l = c .before .before .loop in
     let w = c .next-word in (
-      word-inside (c .before .before .before .before .before .args .text .now) (l .at) (l .inv .0) (w .result)
-          (w .ensures),
+      word-inside (c .before .before .before .before .before .args .text .now) (l .at) (l .inv .0) (w .ensures),
       c .before .before .before .before .before .pre,
     )
 
@@ -41,35 +35,30 @@ returns c =
     let a = c .before .before .before .before .before .before .before .args in
     let l = c .before .before .before .before .loop in
     let w = c .before .before .next-word in
-    borne-found (a .text .now) (a .count) (l .i) (l .at) (l .s) (a .resource) (take (a .end - a .start) (drop (a .start) (a .text .now)))
-    (w .result) (w .ensures) (c .before .before .before .loop-test .taken) (sym (c .before .borne-here .ensures) ∙ c .if1 .taken) ∙ l .inv .1
-
-after-requires : tie.Need-after-requires Inv-loop μ-loop
-after-requires c κs = search needs
-
-add-i : tie.Need-add-i Inv-loop μ-loop
-add-i c = search needs
-
-loop-less : tie.Need-loop-less Inv-loop μ-loop
-loop-less c = search needs
+    borne-found (a .text .now) (a .count) (l .i) (l .at) (l .s) (a .resource)
+    (take (a .end - a .start) (drop (a .start) (a .text .now)))
+    (w .ensures) (c .before .before .before .loop-test .taken)
+    (sym (c .before .borne-here .ensures) ∙ c .if1 .taken) ∙ l .inv .1
 
 loop-again : tie.Need-loop-again Inv-loop μ-loop
 loop-again c =
     let a = c .before .before .before .before .before .before .before .before .args in
     let l = c .before .before .before .before .before .loop in
     let w = c .before .before .before .next-word in (
-      word-inside (a .text .now) (l .at) (l .inv .0) (w .result) (w .ensures) .1,
+      word-inside (a .text .now) (l .at) (l .inv .0) (w .ensures) .1,
       borne-turn (a .text .now) (a .count) (l .i) (l .at) (l .s)
-          (a .resource) (take (a .end - a .start) (drop (a .start) (a .text .now))) (w .result) (w .ensures)
-          (c .before .before .before .before .loop-test .taken) (sym (c .before .before .borne-here .ensures) ∙ c .before .if1 .left)
-          (c .after .result) (c .after .ensures) ∙ l .inv .1,
+          (a .resource) (take (a .end - a .start) (drop (a .start) (a .text .now))) (w .ensures)
+          (c .before .before .before .before .loop-test .taken)
+          (sym (c .before .before .borne-here .ensures) ∙ c .before .if1 .left)
+          (c .after .ensures) ∙ l .inv .1,
     )
 
 returns-2 : tie.Need-returns-2 Inv-loop μ-loop
 returns-2 c =
     let a = c .before .before .before .before .args in
     let l = c .before .loop in
-    borne-done (a .text .now) (a .count) (l .i) (l .at) (l .s) (a .resource) (take (a .end - a .start) (drop (a .start) (a .text .now)))
+    borne-done (a .text .now) (a .count) (l .i) (l .at) (l .s) (a .resource)
+    (take (a .end - a .start) (drop (a .start) (a .text .now)))
     (c .loop-test .left) ∙ l .inv .1
 
 pub borne-spec : {M : Type 1} → statement M
@@ -78,13 +67,11 @@ borne-spec =
     (tie.spec
     Inv-loop
     μ-loop
-    fresh-requires
+    (λ c κs. search needs)
     loop-holds
-    next-word-requires
+    (λ c κs. search needs)
     borne-here-requires
     returns
-    after-requires
-    add-i
-    loop-less
+    (λ c κs. search needs) (λ c. search needs) (λ c. search needs)
     loop-again
     returns-2)

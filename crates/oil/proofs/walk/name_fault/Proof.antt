@@ -6,15 +6,9 @@ use borrow.Author.Needs.{needs}
 use Rattle.oil.proofs.walk.name_fault.Statement.{statement}
 use Rattle.oil.proofs.walk.name_fault.Tie as tie
 
-names-object-requires : tie.Need-names-object-requires
-names-object-requires c κs = search needs
-
 returns : tie.Need-returns
 unfolding nameFault
 returns c = rw (sym (c .before .names-object .ensures) ∙ not-true _ (c .if1 .taken))
-
-borne-requires : tie.Need-borne-requires
-borne-requires c κs = search needs
 
 returns-2 : tie.Need-returns-2
 unfolding nameFault
@@ -33,5 +27,4 @@ returns-3 c = rw (
 )
 
 pub name-fault-spec : {M : Type 1} → statement M
-name-fault-spec =
-    tie.close (tie.spec names-object-requires returns borne-requires returns-2 returns-3)
+name-fault-spec = tie.close (tie.spec (λ c κs. search needs) returns (λ c κs. search needs) returns-2 returns-3)

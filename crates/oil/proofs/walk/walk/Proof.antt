@@ -14,11 +14,8 @@ Inv-loop text s₀ at₀ words₀ s at words = WalksOn text at s words
 abbrev μ-loop : tie.MeasureT-loop
 μ-loop text s₀ at₀ words₀ s at words = length text - at
 
-fresh-requires : tie.Need-fresh-requires Inv-loop μ-loop
-fresh-requires c κs = search needs
-
 loop-holds : tie.Need-loop-holds Inv-loop μ-loop
-loop-holds c = walk-start (c .before .before .args .text .now) (c .fresh .result) (c .fresh .ensures)
+loop-holds c = walk-start (c .before .before .args .text .now) (c .fresh .ensures)
 
 next-word-requires : tie.Need-next-word-requires Inv-loop μ-loop
 next-word-requires c κs = c .loop .inv .inside
@@ -27,54 +24,44 @@ fault-in-requires : tie.Need-fault-in-requires Inv-loop μ-loop
 fault-in-requires c κs =
     let l = c .before .loop in
     let w = c .next-word in
-    word-inside (c .before .before .before .before .args .text .now) (l .at) (l .inv .inside) (w .result) (w .ensures)
-
-refused-at-requires : tie.Need-refused-at-requires Inv-loop μ-loop
-refused-at-requires c κs = search needs
+    word-inside (c .before .before .before .before .args .text .now) (l .at) (l .inv .inside) (w .ensures)
 
 returns : tie.Need-returns Inv-loop μ-loop
 returns c =
     let l = c .before .before .before .before .loop in
     let w = c .before .before .before .next-word in
     let f = c .before .before .fault-in in
-    c .refused-at .ensures ∙ walk-refused (c .before .before .before .before .before .before .before .args .text .now) (l .at) (l .s)
-    (l .words) (l .inv) (w .result) (w .ensures) (f .result) (f .ensures) (c .before .if1 .taken)
+    c .refused-at .ensures ∙ walk-refused (l .inv) (w .ensures) (f .ensures) (c .before .if1 .taken)
 
 returns-2 : tie.Need-returns-2 Inv-loop μ-loop
 returns-2 c =
     let l = c .before .before .before .before .before .loop in
     let w = c .before .before .before .before .next-word in
     let f = c .before .before .before .fault-in in
-    walk-ended (c .before .before .before .before .before .before .before .before .args .text .now) (l .at) (l .s) (l .words) (l .inv)
-    (w .result) (w .ensures) (f .result) (f .ensures) (c .before .before .if1 .left) (c .if2 .taken)
-
-after-requires : tie.Need-after-requires Inv-loop μ-loop
-after-requires c κs = search needs
+    walk-ended (l .inv) (w .ensures) (f .ensures) (c .before .before .if1 .left) (c .if2 .taken)
 
 add-words : tie.Need-add-words Inv-loop μ-loop
 add-words c =
     let l = c .before .before .before .before .before .before .loop in
     let w = c .before .before .before .before .before .next-word in
-    let f = walk-further (c .before .before .before .before .before .before .before .before .before .args .text .now) (l .at) (l .s)
-    (l .words) (l .inv) (w .result) (w .ensures) (c .before .before .before .before .fault-in .result)
-    (c .before .before .before .before .fault-in .ensures) (c .before .before .before .if1 .left) (c .before .if2 .left) in omega
-    (arith, l .inv .few)
+    let f = walk-further (l .inv) (w .ensures) (c .before .before .before .before .fault-in .ensures)
+    (c .before .before .before .if1 .left) (c .before .if2 .left) in
+    omega (arith, l .inv .few)
 
 loop-less : tie.Need-loop-less Inv-loop μ-loop
 loop-less c =
     let l = c .before .before .before .before .before .before .loop in
     let w = c .before .before .before .before .before .next-word in
-    let f = walk-further (c .before .before .before .before .before .before .before .before .before .args .text .now) (l .at) (l .s)
-    (l .words) (l .inv) (w .result) (w .ensures) (c .before .before .before .before .fault-in .result)
-    (c .before .before .before .before .fault-in .ensures) (c .before .before .before .if1 .left) (c .before .if2 .left) in omega arith
+    let f = walk-further (l .inv) (w .ensures) (c .before .before .before .before .fault-in .ensures)
+    (c .before .before .before .if1 .left) (c .before .if2 .left) in
+    omega arith
 
 loop-again : tie.Need-loop-again Inv-loop μ-loop
 loop-again c =
     let l = c .before .before .before .before .before .before .loop in
     let w = c .before .before .before .before .before .next-word in
     let f = c .before .before .before .before .fault-in in
-    walk-next (c .before .before .before .before .before .before .before .before .before .args .text .now) (l .at) (l .s) (l .words) (l .inv)
-    (w .result) (w .ensures) (f .result) (f .ensures) (c .before .before .before .if1 .left) (c .before .if2 .left) (c .after .result)
+    walk-next (l .inv) (w .ensures) (f .ensures) (c .before .before .before .if1 .left) (c .before .if2 .left)
     (c .after .ensures)
 
 pub walk-spec : {M : Type 1} → statement M
@@ -83,14 +70,14 @@ walk-spec =
     (tie.spec
     Inv-loop
     μ-loop
-    fresh-requires
+    (λ c κs. search needs)
     loop-holds
     next-word-requires
     fault-in-requires
-    refused-at-requires
+    (λ c κs. search needs)
     returns
     returns-2
-    after-requires
+    (λ c κs. search needs)
     add-words
     loop-less
     loop-again)

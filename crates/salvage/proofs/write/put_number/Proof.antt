@@ -20,43 +20,38 @@ module _ (v at : ℕ) (d : List ℕ) (room : at + length (numberBytes v) ≤ len
   lent = take (length d - at) (drop at d)
 
   answer : (w : Written) → w ≡ writing (numberBytes v) (length lent) → w .place ≡ length (numberBytes v)
-  answer w e = ap (λ (x : Written). x .place) (e ∙ sym (writing-fits (numberBytes v) (length lent) _ refl (simp (length-take, length-drop) (omega arith))))
+  answer w e =
+      ap (λ (x : Written). x .place)
+      (e ∙ sym (writing-fits (numberBytes v) (length lent) _ refl (simp (length-take, length-drop) (omega arith))))
 
   left : (ys : List ℕ) → ys ≡ written (numberBytes v) lent → putMid at (length d - at) d ys ≡ laid at (numberBytes v) d
   left ys e = rw e (laid-part at (numberBytes v) d room)
 
-sub-write-number : tie.Need-sub-write-number
-sub-write-number c = search needs
-
-part-write-number-start : tie.Need-part-write-number-start
-part-write-number-start c = search needs
-
-part-write-number-end : tie.Need-part-write-number-end
-part-write-number-end c = search needs
-
-write-number-requires : tie.Need-write-number-requires
-write-number-requires c κs = search needs
-
 add-result : tie.Need-add-result
-add-result c = let w = c .before .before .before .write-number in let s = c .before .before .before .before .before .before in
-    omega (arith, s .pre, answer (s .args .value) (s .args .at) (s .args .list .now) (s .pre) (w .result) (w .ensures .0))
-
-same-length : tie.Need-same-length
-same-length c = search needs
+add-result c =
+    let w = c .before .before .before .write-number in
+    let s = c .before .before .before .before .before .before in
+    omega (
+      arith,
+      s .pre,
+      answer (s .args .value) (s .args .at) (s .args .list .now) (s .pre) (w .result)
+          (w .ensures .0),
+    )
 
 returns : tie.Need-returns
-returns c = let w = c .before .before .before .write-number in let s = c .before .before .before .before .before .before in
-    let a = s .args in
-    (ap (λ (n : ℕ). a .at + n) (answer (a .value) (a .at) (a .list .now) (s .pre) (w .result) (w .ensures .0)), left (a .value) (a .at) (a .list .now) (s .pre) (w .last .1 .0) (w .ensures .1))
+returns c =
+    let w = c .before .before .before .write-number in
+    let s = c .before .before .before .before .before .before in
+    let a = s .args in (
+      ap (λ (n : ℕ). a .at + n) (answer (a .value) (a .at) (a .list .now) (s .pre) (w .result) (w .ensures .0)),
+      left (a .value) (a .at) (a .list .now) (s .pre) (w .last .1 .0) (w .ensures .1),
+    )
 
 pub put-number-spec : {M : Type 1} → statement M
 put-number-spec =
     tie.close
     (tie.spec
-    sub-write-number
-    part-write-number-start
-    part-write-number-end
-    write-number-requires
+    (λ c. search needs) (λ c. search needs) (λ c. search needs) (λ c κs. search needs)
     add-result
-    same-length
+    (λ c. search needs)
     returns)

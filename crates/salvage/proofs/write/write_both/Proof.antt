@@ -1,4 +1,5 @@
--- `write_both` meets its contract: each kept byte and each stretch is written behind those before it. The measure is the bytes left.
+-- `write_both` meets its contract: each kept byte and each stretch is written behind those before it. The measure is
+-- the bytes left.
 use Prim.Native.Nat.{_-_}
 use mathlib.Core.Path.{ap, _∙_}
 use native.Mathlib.Omega.{arith}
@@ -16,17 +17,20 @@ Inv-loop trace events₀ stretches₀ left₀ gap₀ kept₀ listed₀ at₀ at-
     EventsOn trace events₀ at left kept events × ListOn trace stretches₀ at left gap listed stretches
 
 abbrev μ-loop : tie.MeasureT-loop
-μ-loop trace events₀ stretches₀ left₀ gap₀ kept₀ listed₀ at₀ at-end events stretches left gap kept listed at = at-end - at
+μ-loop trace events₀ stretches₀ left₀ gap₀ kept₀ listed₀ at₀ at-end events stretches left gap kept listed at =
+    at-end - at
 
 loop-holds : tie.Need-loop-holds Inv-loop μ-loop
-loop-holds c = let s = c .before .before .before in let a = s .args in
-    (events-start (a .trace .now) (a .events .now) (s .pre .events), list-start (a .trace .now) (a .stretches .now) (s .pre .stretches))
-
-belonging-requires : tie.Need-belonging-requires Inv-loop μ-loop
-belonging-requires c κs = tt
+loop-holds c = let s = c .before .before .before in let a = s .args in (
+  events-start (a .trace .now) (a .events .now) (s .pre .events),
+  list-start (a .trace .now) (a .stretches .now)
+      (s .pre .stretches),
+)
 
 add-gap : tie.Need-add-gap Inv-loop μ-loop
-add-gap c = let l = c .before .before .before .loop in omega (arith, l .inv .1 .gap-le, c .before .before .loop-test .taken)
+add-gap c =
+    let l = c .before .before .before .loop in
+    omega (arith, l .inv .1 .gap-le, c .before .before .loop-test .taken)
 
 add-at : tie.Need-add-at Inv-loop μ-loop
 add-at c = omega (arith, c .before .before .loop-test .taken)
@@ -35,31 +39,42 @@ loop-less : tie.Need-loop-less Inv-loop μ-loop
 loop-less c = omega (arith, c .before .before .loop-test .taken)
 
 loop-again : tie.Need-loop-again Inv-loop μ-loop
-loop-again c = let b = c .before in let o = b .before .before in let l = o .loop in let a = o .before .before .before .before .args in (
-  events-turn-dropped (a .trace .now) (a .events .now) (l .at) (l .left) (l .kept) (l .events) (l .inv .0) (b .belonging .result) (b .before .loop-test .taken) (b .belonging .ensures) (c .if1 .taken),
-  list-turn-dropped (a .trace .now) (a .stretches .now) (l .at) (l .left) (l .gap) (l .listed) (l .stretches) (l .inv .1) (b .belonging .result) (b .before .loop-test .taken) (b .belonging .ensures) (c .if1 .taken),
-)
+loop-again c =
+    let b = c .before in
+    let o = b .before .before in
+    let l = o .loop in (
+      events-turn-dropped (l .inv .0) (b .before .loop-test .taken) (b .belonging .ensures) (c .if1 .taken),
+      list-turn-dropped (l .inv .1) (b .before .loop-test .taken) (b .belonging .ensures) (c .if1 .taken),
+    )
 
 shared-slice-read-events : tie.Need-shared-slice-read-events Inv-loop μ-loop
 shared-slice-read-events c = c .before .before .before .loop-test .taken
 
 slice-write-events : tie.Need-slice-write-events Inv-loop μ-loop
-slice-write-events c = let e = c .before in let b = e .before in let o = b .before .before in let l = o .loop in let a = o .before .before .before .before .args in
-    events-room (a .trace .now) (a .events .now) (l .at) (l .left) (l .kept) (l .events) (l .inv .0) (b .belonging .result) (b .before .loop-test .taken) (b .belonging .ensures) (e .if1 .left)
+slice-write-events c =
+    let e = c .before in
+    let b = e .before in
+    let o = b .before .before in
+    let l = o .loop in
+    events-room (l .inv .0) (b .before .loop-test .taken) (b .belonging .ensures) (e .if1 .left)
 
 add-kept : tie.Need-add-kept Inv-loop μ-loop
 add-kept c = let o = c .before .before .before .before in
     let h = slice-write-events c in
-    omega (arith, progress-length _ _ _ _ _ (o .loop .inv .0 .progress))
+    omega (arith, progress-length (o .loop .inv .0 .progress))
 
 sub-write-stretch : tie.Need-sub-write-stretch Inv-loop μ-loop
 sub-write-stretch c = c .before .before .before .before .loop .inv .1 .gap-le
 
 write-stretch-requires : tie.Need-write-stretch-requires Inv-loop μ-loop
-write-stretch-requires c κs = let e = c .before .before in let b = e .before in let o = b .before .before in let l = o .loop in
+write-stretch-requires c κs =
+    let e = c .before .before in
+    let b = e .before in
+    let o = b .before .before in
+    let l = o .loop in
     let s = o .before .before .before .before in (
       omega (arith, l .inv .1 .gap-le, l .inv .1 .at-le, s .pre .short),
-      list-room (s .args .trace .now) (s .args .stretches .now) (l .at) (l .left) (l .gap) (l .listed) (l .stretches) (l .inv .1) (b .belonging .result) (b .before .loop-test .taken) (b .belonging .ensures) (e .if1 .left),
+      list-room (l .inv .1) (b .before .loop-test .taken) (b .belonging .ensures) (e .if1 .left),
     )
 
 sub-left : tie.Need-sub-left Inv-loop μ-loop
@@ -73,27 +88,34 @@ loop-less-2 c = omega (arith, c .before .before .before .before .before .before 
 
 loop-again-2 : tie.Need-loop-again-2 Inv-loop μ-loop
 loop-again-2 c = let w = c .before .before .write-stretch in
-    let e = c .before .before .before .before .before in let b = e .before in let o = b .before .before in let l = o .loop in
-    let a = o .before .before .before .before .args in (
-      events-turn-kept (a .trace .now) (a .events .now) (l .at) (l .left) (l .kept) (l .events) (l .inv .0) (b .belonging .result) (b .before .loop-test .taken) (b .belonging .ensures) (e .if1 .left),
+    let e = c .before .before .before .before .before in
+    let b = e .before in
+    let o = b .before .before in
+    let l = o .loop in (
+      events-turn-kept (l .inv .0) (b .before .loop-test .taken) (b .belonging .ensures) (e .if1 .left),
       rw (w .ensures .0, w .ensures .1)
-          (list-turn-kept (a .trace .now) (a .stretches .now) (l .at) (l .left) (l .gap) (l .listed) (l .stretches) (l .inv .1) (b .belonging .result) (b .before .loop-test .taken) (b .belonging .ensures) (e .if1 .left)),
+          (list-turn-kept (l .inv .1) (b .before .loop-test .taken) (b .belonging .ensures) (e .if1 .left)),
     )
 
 sub-write-stretch-2 : tie.Need-sub-write-stretch-2 Inv-loop μ-loop
 sub-write-stretch-2 c = let l = c .before .loop in omega (arith, l .inv .1 .gap-le, l .inv .1 .at-le)
 
 write-stretch-requires-2 : tie.Need-write-stretch-requires-2 Inv-loop μ-loop
-write-stretch-requires-2 c κs = let o = c .before .before in let l = o .loop in let s = o .before .before .before .before in (
-  omega (arith, l .inv .1 .gap-le, l .inv .1 .at-le, s .pre .short),
-  list-last-room (s .args .trace .now) (s .args .stretches .now) (l .at) (l .left) (l .gap) (l .listed) (l .stretches) (l .inv .1) (c .before .loop-test .left),
-)
+write-stretch-requires-2 c κs =
+    let o = c .before .before in
+    let l = o .loop in
+    let s = o .before .before .before .before in (
+      omega (arith, l .inv .1 .gap-le, l .inv .1 .at-le, s .pre .short),
+      list-last-room (l .inv .1) (c .before .loop-test .left),
+    )
 
 returns : tie.Need-returns Inv-loop μ-loop
 returns c = let w = c .before .before .write-stretch2 in
-    let t = c .before .before .before .before in let o = t .before in let l = o .loop in let a = o .before .before .before .before .args in (
-      events-written (a .trace .now) (a .events .now) (l .at) (l .left) (l .kept) (l .events) (l .inv .0) (t .loop-test .left),
-      w .ensures .1 ∙ list-written (a .trace .now) (a .stretches .now) (l .at) (l .left) (l .gap) (l .listed) (l .stretches) (l .inv .1) (t .loop-test .left),
+    let t = c .before .before .before .before in
+    let o = t .before in
+    let l = o .loop in (
+      events-written (l .inv .0) (t .loop-test .left),
+      w .ensures .1 ∙ list-written (l .inv .1) (t .loop-test .left),
     )
 
 same-length : tie.Need-same-length Inv-loop μ-loop
@@ -111,7 +133,7 @@ write-both-spec =
     Inv-loop
     μ-loop
     loop-holds
-    belonging-requires
+    (λ c κs. tt)
     add-gap
     add-at
     loop-less
