@@ -1,7 +1,7 @@
 -- What the contracts of the machine's helpers cite beside the definitions of its events: these, with numbers for the
 -- model.
 --
---   dueWith w ls            the requests w and the losses ls
+--   tallyWith w ls            the requests w and the losses ls
 --   marksWord bs            the match marks bs as one number, a byte each, the first the lowest; a `group` of them is
 --                           looked at in one go
 --
@@ -11,10 +11,10 @@ use mathlib.Core.Bool.{Bool, cond}
 use mathlib.Core.List.{List, [], _∷_}
 use lib.ListN.{getD}
 use Rattle.config.specs.Value.{maxEntries}
-use Rattle.machine.specs.Cells.{Due}
+use Rattle.machine.specs.Cells.{Tally}
 
-abbrev pub dueWith : ℕ → List ℕ → Due
-dueWith w ls = record { request = w; losses = ls }
+abbrev pub tallyWith : ℕ → List ℕ → Tally
+tallyWith w ls = record { request = w; losses = ls }
 
 abbrev pub group : ℕ
 group = 8

@@ -1,8 +1,8 @@
 -- The cells of the entries, as parallel arrays: counters and switches in the model, compare values in the plan.
 --
---   countersTicked k e w ks os ns   the counters ns after a tick of the k cells from e on, with compare values ks and switches os
---   switchesTicked k e ks ns os     the switches os after it, where a turn may have passed
---   marks k e w ks os ns            which of those cells match at that tick
+--   countersTicked k e w ks on ns   the counters ns after a tick of the k cells from e on, with compare values ks and switches on
+--   switchesTicked k e ks ns on     the switches on after it, where a turn may have passed
+--   marks k e w ks on ns            which of those cells match at that tick
 --   requestsDue ms rs x           the requests and losses x after the matches ms of entries whose tasks have the ranks rs
 use Prim.Native.Nat.{ℕ, zero, suc, _+_, min}
 use mathlib.Core.Bool.{Bool, true, false, cond, not, _&&_, _||_}
@@ -14,8 +14,8 @@ use Rattle.cell.specs.Cell.{unmarked, long, startCell, tickCell}
 use Rattle.word.specs.Word.{has, with}
 use Rattle.scheduler.specs.Body.{mostLosses}
 
--- A switch is a number as wide as a counter, so that cells are ticked several at once: off, on, or on with a turn of the counter that must
--- pass unmatched. A cell that is off has no turn to pass, since Stop clears it.
+-- A switch is a number as wide as a counter, so that cells are ticked several at once: off, on, or on with a turn of
+-- the counter that must pass unmatched. A cell that is off has no turn to pass, since Stop clears it.
 abbrev pub switchOff : ℕ
 switchOff = 0
 
@@ -37,23 +37,24 @@ switchFor on turn = cond turn switchTurn (cond on switchOn switchOff)
 
 -- the cell of entry e; w: whether any cell has a turn to pass
 abbrev pub cellAt : Bool → List ℕ → List ℕ → List ℕ → ℕ → Cell
-cellAt w ks os ns e = unmarked (getD ns e 0) (getD ks e 0) (isOn (getD os e 0)) (w && hasTurn (getD os e 0))
+cellAt w ks on ns e = unmarked (getD ns e 0) (getD ks e 0) (isOn (getD on e 0)) (w && hasTurn (getD on e 0))
 
 unfoldable pub countersTicked : ℕ → ℕ → Bool → List ℕ → List ℕ → List ℕ → List ℕ
-countersTicked zero e w ks os ns = ns
-countersTicked (suc k) e w ks os ns = countersTicked k (suc e) w ks os (set ns e (tickCell (cellAt w ks os ns e) .counter))
+countersTicked zero e w ks on ns = ns
+countersTicked (suc k) e w ks on ns =
+    countersTicked k (suc e) w ks on (set ns e (tickCell (cellAt w ks on ns e) .counter))
 
 unfoldable pub marks : ℕ → ℕ → Bool → List ℕ → List ℕ → List ℕ → List Bool
-marks zero e w ks os ns = []
-marks (suc k) e w ks os ns = tickCell (cellAt w ks os ns e) .matched ∷ marks k (suc e) w ks os ns
+marks zero e w ks on ns = []
+marks (suc k) e w ks on ns = tickCell (cellAt w ks on ns e) .matched ∷ marks k (suc e) w ks on ns
 
 -- the switch of entry e after a tick
 abbrev pub switchTicked : List ℕ → List ℕ → List ℕ → ℕ → ℕ
-switchTicked ks ns os e = switchFor (isOn (getD os e 0)) (tickCell (cellAt true ks os ns e) .turn)
+switchTicked ks ns on e = switchFor (isOn (getD on e 0)) (tickCell (cellAt true ks on ns e) .turn)
 
 unfoldable pub switchesTicked : ℕ → ℕ → List ℕ → List ℕ → List ℕ → List ℕ
-switchesTicked zero e ks ns os = os
-switchesTicked (suc k) e ks ns os = switchesTicked k (suc e) ks ns (set os e (switchTicked ks ns os e))
+switchesTicked zero e ks ns on = on
+switchesTicked (suc k) e ks ns on = switchesTicked k (suc e) ks ns (set on e (switchTicked ks ns on e))
 
 -- f holds of one of the k numbers from e on
 unfoldable pub some : (ℕ → Bool) → ℕ → ℕ → Bool
@@ -62,34 +63,34 @@ some f (suc k) e = f e || some f k (suc e)
 
 -- one of the k cells from e on has a turn to pass
 abbrev pub someTurn : ℕ → ℕ → List ℕ → Bool
-someTurn k e os = some (λ i. hasTurn (getD os i 0)) k e
+someTurn k e on = some (λ i. hasTurn (getD on i 0)) k e
+
+-- the list l with f i at each of the k places i from e on
+unfoldable pub spread : (ℕ → ℕ) → ℕ → ℕ → List ℕ → List ℕ
+spread f zero e l = l
+spread f (suc k) e l = spread f k (suc e) (set l e (f e))
 
 -- the counters of the k entries from e on, started with period P and delay d; os: their offsets
-unfoldable pub countersStarted : ℕ → ℕ → ℕ → ℕ → List ℕ → List ℕ → List ℕ
-countersStarted zero e P d os ns = ns
-countersStarted (suc k) e P d os ns = countersStarted k (suc e) P d os (set ns e (startCell P (d + getD os e 0) .counter))
+abbrev pub countersStarted : ℕ → ℕ → ℕ → ℕ → List ℕ → List ℕ → List ℕ
+countersStarted k e P d os ns = spread (λ i. startCell P (d + getD os i 0) .counter) k e ns
 
--- their switches; qs: the offsets
-unfoldable pub switchesStarted : ℕ → ℕ → ℕ → List ℕ → List ℕ → List ℕ
-switchesStarted zero e d qs os = os
-switchesStarted (suc k) e d qs os = switchesStarted k (suc e) d qs (set os e (switchFor true (long (d + getD qs e 0))))
+-- their switches
+abbrev pub switchesStarted : ℕ → ℕ → ℕ → List ℕ → List ℕ → List ℕ
+switchesStarted k e d os on = spread (λ i. switchFor true (long (d + getD os i 0))) k e on
 
 -- one of them has a turn to pass
 abbrev pub someLong : ℕ → ℕ → ℕ → List ℕ → Bool
-someLong k e d qs = some (λ i. long (d + getD qs i 0)) k e
+someLong k e d os = some (λ i. long (d + getD os i 0)) k e
 
--- the counters of the k entries from e on, stopped
-unfoldable pub countersStopped : ℕ → ℕ → List ℕ → List ℕ
-countersStopped zero e ns = ns
-countersStopped (suc k) e ns = countersStopped k (suc e) (set ns e 0)
+-- the counters and the switches of the k entries from e on, stopped
+abbrev pub countersStopped : ℕ → ℕ → List ℕ → List ℕ
+countersStopped k e ns = spread (λ _. 0) k e ns
 
--- the switches of the k entries from e on, all at x
-unfoldable pub switched : ℕ → ℕ → ℕ → List ℕ → List ℕ
-switched zero e x os = os
-switched (suc k) e x os = switched k (suc e) x (set os e x)
+abbrev pub switchesStopped : ℕ → ℕ → List ℕ → List ℕ
+switchesStopped k e on = spread (λ _. switchOff) k e on
 
--- the request word, and the losses by rank
-pub record Due : Type 0 where
+-- what the matches of a tick add up to: the request word, and the losses by rank
+pub record Tally : Type 0 where
   pub request : ℕ
   pub losses : List ℕ
 
@@ -101,14 +102,15 @@ oneMore n = min (n + 1) mostLosses
 abbrev pub oneLost : ℕ → List ℕ → List ℕ
 oneLost r ls = set ls r (oneMore (getD ls r 0))
 
--- a match of an entry whose task has rank r: a request where the task is suspended, else a loss; w: the bodies that have begun
-abbrev pub matchAt : ℕ → ℕ → Due → Due
+-- a match of an entry whose task has rank r: a request where the task is suspended, else a loss; w: the bodies that
+-- have begun
+abbrev pub matchAt : ℕ → ℕ → Tally → Tally
 matchAt w r x =
     cond (has (x .request) r || has w r)
     (record { request = x .request; losses = oneLost r (x .losses) })
     (record { request = with (x .request) r; losses = x .losses })
 
-unfoldable pub requestsDue : ℕ → List Bool → List ℕ → Due → Due
+unfoldable pub requestsDue : ℕ → List Bool → List ℕ → Tally → Tally
 requestsDue w [] rs x = x
 requestsDue w (true ∷ ms) [] x = x
 requestsDue w (false ∷ ms) [] x = x

@@ -15,7 +15,7 @@ use Rattle.word.specs.Word.{has, with, without, union}
 use Rattle.machine.specs.Model.{Model, Outcome, noRank, withCore, withRequest, withBegun, withRest, withCells, withLosses, withEvents, doneWith, refusedWith}
 use Rattle.machine.specs.Arbiter.{settled, leaving, paused, requesting, triggering, timed, returning}
 use Rattle.machine.specs.Resources.{holding, latest, getting, releasing}
-use Rattle.machine.specs.Cells.{switchOff, isOn, countersTicked, switchesTicked, someTurn, marks, countersStarted, switchesStarted, someLong, countersStopped, switched, Due, oneLost, requestsDue}
+use Rattle.machine.specs.Cells.{isOn, countersTicked, switchesTicked, someTurn, marks, countersStarted, switchesStarted, someLong, countersStopped, switchesStopped, Tally, oneLost, requestsDue}
 
 -- "nobody runs"
 abbrev pub idles : Model → Bool
@@ -130,7 +130,7 @@ line w lrs ps m i = attempt (lineRefusal w lrs m i (lineStatus lrs m i)) (lineSt
 abbrev pub marksOf : ℕ → List ℕ → Model → List Bool
 marksOf n ks m = marks n 0 (m .turning) ks (m .on) (m .counter)
 
-abbrev pub dueOf : List ℕ → List ℕ → Model → Due
+abbrev pub dueOf : List ℕ → List ℕ → Model → Tally
 dueOf ks rs m =
     requestsDue (begunWord m) (marksOf maxEntries ks m) rs (record { request = m .core .request; losses = m .losses })
 
@@ -185,7 +185,7 @@ stopStatus n fs m t =
     firstGiven ((noCaller m gives callLevel) ∷ (leb n t gives noSuch) ∷ (not (runs fs m t) gives noFunction) ∷ [])
 
 abbrev pub stopping : ℕ → ℕ → Model → Model
-stopping k e m = withCells m (countersStopped k e (m .counter)) (switched k e switchOff (m .on)) (m .turning)
+stopping k e m = withCells m (countersStopped k e (m .counter)) (switchesStopped k e (m .on)) (m .turning)
 
 abbrev pub stopEffect : List ℕ → List ℕ → Model → ℕ → Outcome
 stopEffect fs es m t = doneWith (stopping (getD es t 0) (getD fs t 0) m) false

@@ -1,10 +1,9 @@
 -- The loops over the cells: what each has done of its definition before entry e, from its start to its end.
 --
--- In order: a tick's counters and match marks; a tick's requests and losses; its switches; starts and stops; the
--- switches.
+-- In order: a tick's counters and match marks; a tick's requests and losses; its switches; starts and stops.
 use Prim.Native.Nat.{ℕ, zero, suc, _+_, _-_, _≤_, _<_}
 use mathlib.Core.Path.{_≡_, refl, sym, ap, ap₂, _∙_}
-use mathlib.Core.Bool.{Bool, true, false, _&&_, _||_, or-assoc, or-false}
+use mathlib.Core.Bool.{Bool, false, _&&_, _||_, or-assoc, or-false}
 use mathlib.Core.List.{List, [], _∷_, _++_, append-assoc, append-nil}
 use native.Mathlib.Omega.{arith}
 use native.Mathlib.Numerals.{add-one}
@@ -12,9 +11,9 @@ use lib.ListN.{length, getD, set, take, drop, replicate, length-set, length-drop
 use lib.Seq.{take-suc-set, take-all, length-take-le, drop-drop, getD-set-other}
 use Rattle.config.specs.Value.{maxEntries}
 use Rattle.cell.specs.declared.Cell.{Cell}
-use Rattle.cell.specs.Cell.{unmarked, long, startCell, tickCell}
+use Rattle.cell.specs.Cell.{unmarked, long, tickCell}
 use Rattle.kernel.specs.Methods.{group}
-use Rattle.machine.specs.Cells.{isOn, hasTurn, switchFor, cellAt, countersTicked, switchTicked, switchesTicked, some, marks, countersStarted, switchesStarted, countersStopped, switched, Due, requestsDue}
+use Rattle.machine.specs.Cells.{isOn, hasTurn, switchFor, cellAt, countersTicked, switchTicked, switchesTicked, some, marks, Tally, requestsDue, spread}
 use Rattle.machine.proofs.Change.Matches.{due-append}
 
 -- a loop over the k entries from f on begins with all of them, and each turn takes one
@@ -121,13 +120,13 @@ module _ (w : Bool) (ks os₀ ns₀ : List ℕ) where
     )
 
 module _ (w : ℕ) where
-  due-over : (rs : List ℕ) (x : Due) → requestsDue w [] rs x ≡ x
+  due-over : (rs : List ℕ) (x : Tally) → requestsDue w [] rs x ≡ x
   unfolding requestsDue
   due-over rs x = refl
 
   module _ (ms : List Bool) (rs : List ℕ) where
     -- the group from e on taken
-    pub group-turn : (e : ℕ) → e + group ≤ length ms → (x : Due) {y : Due}
+    pub group-turn : (e : ℕ) → e + group ≤ length ms → (x : Tally) {y : Tally}
         → y ≡ requestsDue w (take group (drop e ms)) (drop e rs) x
         → requestsDue w (drop (e + group) ms) (drop (e + group) rs) y ≡ requestsDue w (drop e ms) (drop e rs) x
     group-turn e h x {y} is =
@@ -142,7 +141,7 @@ module _ (w : ℕ) where
         whole : length (take group (drop e ms)) ≡ group
         whole = length-take-le group (drop e ms) (rw (length-drop e ms) (omega arith))
 
-    pub groups-end : (e : ℕ) → length ms ≤ e → (x : Due) → requestsDue w (drop e ms) (drop e rs) x ≡ x
+    pub groups-end : (e : ℕ) → length ms ≤ e → (x : Tally) → requestsDue w (drop e ms) (drop e rs) x ≡ x
     groups-end e h x = rw (drop-of-length-le ms {i = e} h) (due-over (drop e rs) x)
 
 -- the switches of a tick, beside the counters; n is the counter of entry e after it
@@ -167,43 +166,12 @@ module _ (f : ℕ → Bool) (u e : ℕ) (b : Bool) where
   unfolding some
   some-end h = rw (none u e h) (or-false b)
 
--- starts
-module _ (u e d : ℕ) (qs os : List ℕ) where
-  pub switched-on-turn : e < u → {x : ℕ} → x ≡ switchFor true (long (d + getD qs e 0))
-      → switchesStarted (u - (e + 1)) (e + 1) d qs (set os e x) ≡ switchesStarted (u - e) e d qs os
-  unfolding switchesStarted
-  switched-on-turn h is = rw (next u e h, is, add-one e)
+-- starts and stops
+module _ (f : ℕ → ℕ) (u e : ℕ) (l : List ℕ) where
+  pub spread-turn : e < u → {x : ℕ} → x ≡ f e → spread f (u - (e + 1)) (e + 1) (set l e x) ≡ spread f (u - e) e l
+  unfolding spread
+  spread-turn h is = rw (next u e h, is, add-one e)
 
-  pub switched-on-end : u ≤ e → switchesStarted (u - e) e d qs os ≡ os
-  unfolding switchesStarted
-  switched-on-end h = rw (none u e h)
-
-module _ (u e P d : ℕ) (os ns : List ℕ) where
-  pub started-turn : e < u → {x : ℕ} → x ≡ startCell P (d + getD os e 0) .counter
-      → countersStarted (u - (e + 1)) (e + 1) P d os (set ns e x) ≡ countersStarted (u - e) e P d os ns
-  unfolding countersStarted
-  started-turn h is = rw (next u e h, is, add-one e)
-
-  pub started-end : u ≤ e → countersStarted (u - e) e P d os ns ≡ ns
-  unfolding countersStarted
-  started-end h = rw (none u e h)
-
--- stops
-module _ (u e : ℕ) (ns : List ℕ) where
-  pub stopped-turn : e < u → countersStopped (u - (e + 1)) (e + 1) (set ns e 0) ≡ countersStopped (u - e) e ns
-  unfolding countersStopped
-  stopped-turn h = rw (next u e h, add-one e)
-
-  pub stopped-end : u ≤ e → countersStopped (u - e) e ns ≡ ns
-  unfolding countersStopped
-  stopped-end h = rw (none u e h)
-
--- switches
-module _ (u e x : ℕ) (os : List ℕ) where
-  pub switched-turn : e < u → switched (u - (e + 1)) (e + 1) x (set os e x) ≡ switched (u - e) e x os
-  unfolding switched
-  switched-turn h = rw (next u e h, add-one e)
-
-  pub switched-end : u ≤ e → switched (u - e) e x os ≡ os
-  unfolding switched
-  switched-end h = rw (none u e h)
+  pub spread-end : u ≤ e → spread f (u - e) e l ≡ l
+  unfolding spread
+  spread-end h = rw (none u e h)

@@ -20,7 +20,7 @@ use lib.Bits.{shifted-half, shifted-even}
 use Rattle.number.proofs.Cases.{by-lt}
 use Rattle.machine.specs.Model.{noRank}
 use Rattle.kernel.specs.Methods.{group, marksWord}
-use Rattle.machine.specs.Cells.{Due, matchAt, requestsDue}
+use Rattle.machine.specs.Cells.{Tally, matchAt, requestsDue}
 use Rattle.machine.proofs.Change.Matches.{due-none, due-marked}
 
 -- j digits further up there are j zeros more
@@ -41,7 +41,7 @@ trailing-odd zero n some odd = absurd (omega arith)
 trailing-odd (suc k) n some odd = rw odd
 
 -- marks whose number is 0 ask for nothing
-pub due-unmarked : (w : ℕ) (ms : List Bool) (rs : List ℕ) (x : Due) → marksWord ms ≡ 0 → requestsDue w ms rs x ≡ x
+pub due-unmarked : (w : ℕ) (ms : List Bool) (rs : List ℕ) (x : Tally) → marksWord ms ≡ 0 → requestsDue w ms rs x ≡ x
 unfolding requestsDue marksWord
 due-unmarked w [] rs x h = refl
 due-unmarked w (true ∷ ms) rs x h = absurd (omega arith)
@@ -53,7 +53,7 @@ record First (bs : List Bool) (i : ℕ) : Type 0 where
   within : i < length bs
   zeros : (k : ℕ) → 8 * length bs ≤ k → trailingZeros k (marksWord bs) ≡ 8 * i
   rest : marksWord bs / 2 ^ (8 * i) / 256 ≡ marksWord (drop (suc i) bs)
-  due : (w : ℕ) (rs : List ℕ) (x : Due)
+  due : (w : ℕ) (rs : List ℕ) (x : Tally)
       → requestsDue w bs rs x ≡ requestsDue w (drop (suc i) bs) (drop (suc i) rs) (matchAt w (getD rs i noRank) x)
 
 first-now : (bs : List Bool) → First (true ∷ bs) 0
@@ -96,7 +96,7 @@ first-later bs i f =
     commuted : (n : ℕ) → 0 + 256 * n ≡ n * 256
     commuted n = omega arith
 
-    later : (w : ℕ) (rs : List ℕ) (x : Due)
+    later : (w : ℕ) (rs : List ℕ) (x : Tally)
         → requestsDue w (false ∷ bs) rs x
         ≡ requestsDue w (drop (suc i) bs) (drop (suc (suc i)) rs) (matchAt w (getD rs (suc i) noRank) x)
     later w [] x = sym (due-none w bs x) ∙ f .due w [] x
@@ -109,23 +109,23 @@ first (true ∷ bs) some = (0, first-now bs)
 first (false ∷ bs) some = let f = first bs (omega arith) in (suc (f .0), first-later bs (f .0) (f .1))
 
 -- matches taken one by one
-due-skipped : (w : ℕ) (bs : List Bool) (rs : List ℕ) (x : Due)
+due-skipped : (w : ℕ) (bs : List Bool) (rs : List ℕ) (x : Tally)
     → requestsDue w bs (drop 1 rs) x ≡ requestsDue w (false ∷ bs) rs x
 unfolding requestsDue
 due-skipped w bs [] x = due-none w bs x
 due-skipped w bs (r ∷ rs) x = refl
 
-module _ (w : ℕ) (ms : List Bool) (rs : List ℕ) (e : ℕ) (inside : e < length ms) (x : Due) where
+module _ (w : ℕ) (ms : List Bool) (rs : List ℕ) (e : ℕ) (inside : e < length ms) (x : Tally) where
   here : {b : Bool} → getD ms e false ≡ b → drop e ms ≡ b ∷ drop (suc e) ms
   here h = drop-cons ms e false inside ∙ ap (λ (b : Bool). b ∷ drop (suc e) ms) h
 
-  one-on : (y : Due) → requestsDue w (drop (e + 1) ms) (drop (e + 1) rs) y
+  one-on : (y : Tally) → requestsDue w (drop (e + 1) ms) (drop (e + 1) rs) y
       ≡ requestsDue w (drop (suc e) ms) (drop 1 (drop e rs)) y
   one-on y =
       ap₂ (λ (bs : List Bool) (qs : List ℕ). requestsDue w bs qs y) (ap (λ (n : ℕ). drop n ms) (add-one e))
       (sym (drop-drop 1 e rs))
 
-  pub each-taken : getD ms e false ≡ true → {r : ℕ} → r ≡ getD rs e noRank → {y : Due} → y ≡ matchAt w r x
+  pub each-taken : getD ms e false ≡ true → {r : ℕ} → r ≡ getD rs e noRank → {y : Tally} → y ≡ matchAt w r x
       → requestsDue w (drop (e + 1) ms) (drop (e + 1) rs) y ≡ requestsDue w (drop e ms) (drop e rs) x
   each-taken h rank {y} is =
       one-on y
@@ -147,13 +147,13 @@ past : (e i : ℕ) → e + i + 1 ≡ e + suc i
 past e i = omega arith
 
 -- at entry e the matches bs are left to take, up to entry u, as the number m: with what is due so far, x, they make y
-pub record Left (w : ℕ) (rs : List ℕ) (u : ℕ) (y : Due) (e m : ℕ) (x : Due) (bs : List Bool) : Type 0 where
+pub record Left (w : ℕ) (rs : List ℕ) (u : ℕ) (y : Tally) (e m : ℕ) (x : Tally) (bs : List Bool) : Type 0 where
   pub few : length bs ≤ group
   pub until : e + length bs ≡ u
   pub word : m ≡ marksWord bs
   pub due : requestsDue w bs (drop e rs) x ≡ y
 
-module _ {w : ℕ} {rs : List ℕ} {u : ℕ} {y : Due} {e m : ℕ} {x : Due} {bs : List Bool} (l : Left w rs u y e m x bs)
+module _ {w : ℕ} {rs : List ℕ} {u : ℕ} {y : Tally} {e m : ℕ} {x : Tally} {bs : List Bool} (l : Left w rs u y e m x bs)
     (some : m ≢ 0) where
   next : (i : ℕ) × First bs i
   next = first bs (omega (arith, l .word))
@@ -171,7 +171,7 @@ module _ {w : ℕ} {rs : List ℕ} {u : ℕ} {y : Due} {e m : ℕ} {x : Due} {bs
   next-lt = omega (arith, place-is, next .1 .within, l .until)
 
   -- the next match taken, of rank r
-  pub left-turn : {r : ℕ} → r ≡ getD rs (e + trailingZeros 64 m / 8) noRank → {x′ : Due} → x′ ≡ matchAt w r x
+  pub left-turn : {r : ℕ} → r ≡ getD rs (e + trailingZeros 64 m / 8) noRank → {x′ : Tally} → x′ ≡ matchAt w r x
       → (cs : List Bool) × Left w rs u y (e + trailingZeros 64 m / 8 + 1) (m / 2 ^ trailingZeros 64 m / 256) x′ cs
   left-turn rank is = (
     drop (suc (next .0)) bs,
@@ -188,7 +188,7 @@ module _ {w : ℕ} {rs : List ℕ} {u : ℕ} {y : Due} {e m : ℕ} {x : Due} {bs
   )
 
 -- at its first entry all of a group is left
-pub left-start : (w : ℕ) (rs : List ℕ) (e : ℕ) (ms : List Bool) (x : Due) → e + group ≤ length ms → {m : ℕ}
+pub left-start : (w : ℕ) (rs : List ℕ) (e : ℕ) (ms : List Bool) (x : Tally) → e + group ≤ length ms → {m : ℕ}
     → m ≡ marksWord (take group (drop e ms))
     → Left w rs (e + group) (requestsDue w (take group (drop e ms)) (drop e rs) x) e m x (take group (drop e ms))
 left-start w rs e ms x h is = record { few = omega (arith, whole); until = omega (arith, whole); word = is; due = refl }

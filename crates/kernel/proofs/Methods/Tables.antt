@@ -15,9 +15,9 @@ use Rattle.scheduler.specs.Status.{callLevel, noSuch, badDelay, wrongState, noF
 use Rattle.scheduler.specs.Call.{longestDelay}
 use Rattle.machine.specs.Model.{Picked, Model, withCore, withRequest, withRest, withCells, withTriggered, doneWith, refusedWith}
 use Rattle.machine.specs.Arbiter.{arbitrated, triggering}
-use Rattle.machine.specs.Cells.{switchOff, isOn, countersTicked, switchesTicked, someTurn, marks, countersStarted, switchesStarted, someLong, countersStopped, switched, Due, requestsDue}
+use Rattle.machine.specs.Cells.{isOn, countersTicked, switchesTicked, someTurn, marks, countersStarted, switchesStarted, someLong, countersStopped, switchesStopped, Tally, requestsDue}
 use Rattle.machine.specs.Events.{noCaller, begunWord, tick, start, stop}
-use Rattle.kernel.specs.Methods.{dueWith, RowsHold}
+use Rattle.kernel.specs.Methods.{tallyWith, RowsHold}
 use Rattle.kernel.specs.View.{core}
 use Rattle.kernel.proofs.Methods.Core.{triggering-launched, triggering-settled}
 
@@ -29,14 +29,14 @@ length-marks (suc k) e w ks os ns = ap suc (length-marks k (suc e) w ks os ns)
 -- Tick, up to arbitration. v has who has begun, ms are the match marks, ns, ws and z the cells after it, q and ls the
 -- requests and losses.
 module _ (ks rs ps : List ℕ) (m : Model) {v : ℕ} (begun : v ≡ begunWord m) {ms : List Bool} {q : ℕ} {ls : List ℕ}
-    (due : dueWith q ls ≡ requestsDue v ms rs (dueWith (m .core .request) (m .losses))) {ns : List ℕ} where
+    (due : tallyWith q ls ≡ requestsDue v ms rs (tallyWith (m .core .request) (m .losses))) {ns : List ℕ} where
   -- where no cell has a turn to pass
   pub tick-still : m .turning ≡ false → ms ≡ marks maxEntries 0 false ks (m .on) (m .counter)
       → ns ≡ countersTicked maxEntries 0 false ks (m .on) (m .counter)
       → triggering ps (withCore (withRest m ns (m .on) (m .turning) ls) (withRequest (m .core) q)) ≡ tick ks rs ps m
   unfolding tick
   tick-still still marked counted =
-      rw (counted, ap (λ (x : Due). x .request) due, ap (λ (x : Due). x .losses) due, marked, begun, still)
+      rw (counted, ap (λ (x : Tally). x .request) due, ap (λ (x : Tally). x .losses) due, marked, begun, still)
 
   -- where a cell may have one
   pub tick-turned : m .turning ≡ true → ms ≡ marks maxEntries 0 true ks (m .on) (m .counter)
@@ -50,8 +50,8 @@ module _ (ks rs ps : List ℕ) (m : Model) {v : ℕ} (begun : v ≡ begunWord m)
         counted,
         turns,
         switches,
-        ap (λ (x : Due). x .request) due,
-        ap (λ (x : Due). x .losses) due,
+        ap (λ (x : Tally). x .request) due,
+        ap (λ (x : Tally). x .losses) due,
         marked,
         begun,
         turning,
@@ -132,7 +132,7 @@ module _ (n : ℕ) (fs es : List ℕ) (m : Model) (t : ℕ) {a : Bool} (calls : 
       stop-stopped h = rw (sym calls ∙ runs, lt-leb n t some, ← from, sym on ∙ h)
 
       pub stop-done : o ≡ true → {k : ℕ} → k ≡ getD es t 0
-          → {ns : List ℕ} → ns ≡ countersStopped k f (m .counter) → {xs : List ℕ} → xs ≡ switched k f switchOff (m .on)
+          → {ns : List ℕ} → ns ≡ countersStopped k f (m .counter) → {xs : List ℕ} → xs ≡ switchesStopped k f (m .on)
           → doneWith (withCells m ns xs (m .turning)) false ≡ stop n fs es m t
       unfolding stop firstGiven
       stop-done h many counted switches =

@@ -4,8 +4,8 @@ ghost use mathlib.Core.Bool.{true, false, cond, _||_};
 ghost use Prim.Native.Nat.{_+_, _≤_};
 ghost use lib.ListN.{length, getD, set, take, drop};
 ghost use Rattle.config.specs.Value.{maxEntries};
-ghost use Rattle.machine.specs.Cells.{countersTicked, switchFor, switchesTicked, someTurn, marks, countersStarted, switchesStarted, someLong, countersStopped, switched, oneMore, oneLost, matchAt, requestsDue};
-ghost use Rattle.kernel.specs.Methods.{dueWith, group, marksWord};
+ghost use Rattle.machine.specs.Cells.{countersTicked, switchFor, switchesTicked, someTurn, marks, countersStarted, switchesStarted, spread, someLong, oneMore, oneLost, matchAt, requestsDue};
+ghost use Rattle.kernel.specs.Methods.{tallyWith, group, marksWord};
 use super::NO_RANK;
 use super::bodies::busy;
 use super::lookup::byte_at;
@@ -104,8 +104,8 @@ pub fn take_matches<'a, 'b>(
     losses: &'b mut [u16; 32],
 ) -> u32
     requires { ⌜ length (now matched) ≡ maxEntries ⌝ }
-    ensures { λ r. ⌜ dueWith r (now (losses .exit))
-        ≡ requestsDue begun (now (matched .entry)) (now (ranks .entry)) (dueWith request (now (losses .entry))) ⌝ }
+    ensures { λ r. ⌜ tallyWith r (now (losses .exit))
+        ≡ requestsDue begun (now (matched .entry)) (now (ranks .entry)) (tallyWith request (now (losses .entry))) ⌝ }
 {
     let mut word = request;
     let mut e = 0;
@@ -127,9 +127,9 @@ fn take_group<'a, 'b>(
     losses: &'b mut [u16; 32],
 ) -> u32
     requires { ⌜ (from + group ≤ maxEntries) × (from + group ≤ length (now matched)) ⌝ }
-    ensures { λ r. ⌜ dueWith r (now (losses .exit))
+    ensures { λ r. ⌜ tallyWith r (now (losses .exit))
         ≡ requestsDue begun (take group (drop from (now (matched .entry)))) (drop from (now (ranks .entry)))
-        (dueWith request (now (losses .entry))) ⌝ }
+        (tallyWith request (now (losses .entry))) ⌝ }
 {
     let mut word = request;
     let mut e = from;
@@ -163,7 +163,7 @@ fn group_word(matched: &[bool; 64], e: usize) -> u64
 
 // A match of an entry whose task has this rank: a request where the task is suspended, else a loss.
 fn take_match(rank: u8, begun: u32, request: u32, losses: &mut [u16; 32]) -> u32
-    ensures { λ r. ⌜ dueWith r (now (losses .exit)) ≡ matchAt begun rank (dueWith request (now (losses .entry))) ⌝ }
+    ensures { λ r. ⌜ tallyWith r (now (losses .exit)) ≡ matchAt begun rank (tallyWith request (now (losses .entry))) ⌝ }
 {
     if busy(request, begun, rank) {
         lose(losses, rank as usize);
@@ -233,28 +233,15 @@ pub fn start_cells<'a, 'b, 'c>(
     some
 }
 
-// Sets the counters of `count` cells to 0.
-pub fn stop_counters(from: usize, count: usize, counter: &mut [u16; 64])
+// Sets `count` places of a row.
+pub fn fill(from: usize, count: usize, to: u16, row: &mut [u16; 64])
     requires { ⌜ from + count ≤ maxEntries ⌝ }
-    ensures { λ _. ⌜ now (counter .exit) ≡ countersStopped count from (now (counter .entry)) ⌝ }
+    ensures { λ _. ⌜ now (row .exit) ≡ spread (λ _. to) count from (now (row .entry)) ⌝ }
 {
     let until = from + count;
     let mut e = from;
     while e < until {
-        counter[e] = 0;
-        e += 1;
-    }
-}
-
-// Sets the switches of `count` cells.
-pub fn switch(from: usize, count: usize, to: u16, on: &mut [u16; 64])
-    requires { ⌜ from + count ≤ maxEntries ⌝ }
-    ensures { λ _. ⌜ now (on .exit) ≡ switched count from to (now (on .entry)) ⌝ }
-{
-    let until = from + count;
-    let mut e = from;
-    while e < until {
-        on[e] = to;
+        row[e] = to;
         e += 1;
     }
 }

@@ -19,9 +19,8 @@ use super::Step;
 use super::WRONG_STATE;
 use super::bodies::no_caller;
 use super::cells::OFF;
+use super::cells::fill;
 use super::cells::start_cells;
-use super::cells::stop_counters;
-use super::cells::switch;
 use super::lookup::byte_at;
 use super::lookup::short_at;
 
@@ -97,8 +96,8 @@ impl Registers {
             return self.with_status(NO_FUNCTION);
         }
         let n = byte_at(entries, i, 0) as usize;
-        stop_counters(from, n, counter);
-        switch(from, n, OFF, on);
+        fill(from, n, 0, counter);
+        fill(from, n, OFF, on);
         self.with_status(DONE)
     }
 }

@@ -23,7 +23,7 @@ use Rattle.cell.specs.Cell.{unmarked, tickCell}
 use Rattle.cell.proofs.Theorems.{off-ticked-same, on-time-matched, on-time-numbers}
 use Rattle.scheduler.specs.State.{Table, stopped, running, State}
 use Rattle.scheduler.specs.Tick.{counting, entryDue, duesFrom, dues}
-use Rattle.machine.specs.Cells.{isOn, hasTurn, cellAt, countersTicked, marks, Due, requestsDue}
+use Rattle.machine.specs.Cells.{isOn, hasTurn, cellAt, countersTicked, marks, Tally, requestsDue}
 use Rattle.plan.proofs.Fitted.{Fitted}
 use Rattle.machine.proofs.Relation.Cells.{CellFits, CellsTied}
 use Rattle.machine.proofs.Change.Matches.{due-append, due-quiet}
@@ -83,7 +83,7 @@ module _ (w : Bool) (ks on : List ℕ) where
 
   -- what a row asks for of which only the first n cells may be on
   pub due-first-cells : (n : ℕ) → n ≤ maxEntries → ((i : ℕ) → n ≤ i → isOn (getD on i 0) ≡ false)
-      → (v : ℕ) (ns rs : List ℕ) (x : Due)
+      → (v : ℕ) (ns rs : List ℕ) (x : Tally)
       → requestsDue v (marks maxEntries 0 w ks on ns) rs x ≡ requestsDue v (marks n 0 w ks on ns) rs x
   due-first-cells n h off v ns rs x =
       ap (λ (k : ℕ). requestsDue v (marks k 0 w ks on ns) rs x) all

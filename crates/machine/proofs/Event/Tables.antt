@@ -27,7 +27,7 @@ use Rattle.scheduler.specs.Scheduler.{Start, Stop, stepBy}
 use Rattle.scheduler.proofs.Order.{Orderly}
 use Rattle.scheduler.proofs.Checks.{start-passed, stop-passed}
 use Rattle.machine.specs.Model.{Model, withCells, doneWith}
-use Rattle.machine.specs.Cells.{switchOff, isOn, hasTurn, switchFor, cellAt, someLong}
+use Rattle.machine.specs.Cells.{switchOff, isOn, hasTurn, switchFor, cellAt, spread, someLong}
 use Rattle.machine.specs.Events as Machine
 use Rattle.machine.specs.Events.{runs, starting, stopping}
 use Rattle.machine.specs.Machine.{statusOf, effectOf, refusalOf, cellIn}
@@ -36,7 +36,7 @@ use Rattle.machine.proofs.Relation.Cells.{CellFits, CellsTied, CellsOf}
 use Rattle.machine.proofs.Relation.Whole.{Sim}
 use Rattle.machine.proofs.Change.Request.{elsewhere}
 use Rattle.machine.proofs.Event.Agrees.{first-same, Agrees, Done, Keeps, caller-same, calm-done, agrees-attempt}
-use Rattle.machine.proofs.Change.Cells.{spread, length-spread, spread-before, spread-after, spread-inside, started-spread, switches-spread, stopped-spread, switched-spread}
+use Rattle.machine.proofs.Change.Cells.{length-spread, spread-before, spread-after, spread-inside}
 use Rattle.machine.proofs.Change.Turns.{switch-on, switch-turn, some-holds, some-none}
 
 -- a started cell, kept as plain numbers, is on time
@@ -215,7 +215,7 @@ module _ {c : Config} {p : Plan} {rk : ℕ → ℕ} (fit : Fitted c p rk) {m : M
       → CellsOf c p (launching t d) (start t d s .tables)
   unfolding CellFits
   start-tied t d t< some fits =
-      rw (fit .first-at t t<, started-spread, switches-spread)
+      rw (fit .first-at t t<)
       (table-tied fit t t< (sim .cells) (counterOf t d) (switchOf d) (m .turning || anyLong t d) (λ w. rw w)
       (running d 0)
       (λ z e low high. none-long t d e low high z)
@@ -229,7 +229,7 @@ module _ {c : Config} {p : Plan} {rk : ℕ → ℕ} (fit : Fitted c p rk) {m : M
     pub start-cell : firstOf c t ≤ e → e < firstOf c (suc t)
         → cellIn p (launching t d) e ≡ startCell (getD (c .period) t 0) (delayed d e)
     start-cell low high =
-        rw (fit .first-at t t<, started-spread, switches-spread)
+        rw (fit .first-at t t<)
         (own-cell fit t t< (sim .cells) (counterOf t d) (switchOf d) (m .turning || anyLong t d) (λ w. rw w) e low high
         ∙ rw (switch-on true (isLong (delayed d e)) (λ _. refl), turn-said t d e low high)
         (ap (λ (k : ℕ). unmarked (counterOf t d e) k true (isLong (delayed d e))) compare))
@@ -240,7 +240,7 @@ module _ {c : Config} {p : Plan} {rk : ℕ → ℕ} (fit : Fitted c p rk) {m : M
     pub start-other : (u : ℕ) → u < c .tables → u ≢ t → firstOf c u ≤ e → e < firstOf c (suc u)
         → cellIn p (launching t d) e ≡ cellIn p m e
     start-other u u< n low high =
-        rw (fit .first-at t t<, started-spread, switches-spread)
+        rw (fit .first-at t t<)
         (other-cell fit t t< (sim .cells) (counterOf t d) (switchOf d) (m .turning || anyLong t d) (λ w. rw w)
         u e u< n low high)
 
@@ -266,7 +266,7 @@ module _ {c : Config} {p : Plan} {rk : ℕ → ℕ} (fit : Fitted c p rk) {m : M
   stop-tied : (t : ℕ) → t < c .tables → CellsOf c p (halting t) (stop t s .tables)
   unfolding CellFits
   stop-tied t t< =
-      rw (fit .first-at t t<, stopped-spread, switched-spread)
+      rw (fit .first-at t t<)
       (table-tied fit t t< (sim .cells) (λ _. 0) (λ _. switchOff) (m .turning) (λ w. w) stopped
       (λ _ e low high. refl)
       (λ e low high. refl))
@@ -276,14 +276,14 @@ module _ {c : Config} {p : Plan} {rk : ℕ → ℕ} (fit : Fitted c p rk) {m : M
     pub stop-cell : firstOf c t ≤ e → e < firstOf c (suc t)
         → cellIn p (halting t) e ≡ Cell.stopCell (cellIn p m e)
     stop-cell low high =
-        rw (fit .first-at t t<, stopped-spread, switched-spread)
+        rw (fit .first-at t t<)
         (own-cell fit t t< (sim .cells) (λ _. 0) (λ _. switchOff) (m .turning) (λ w. w) e low high
         ∙ rw (fit .compare-at t e t< low high, and-false (m .turning)))
 
     pub stop-other : (u : ℕ) → u < c .tables → u ≢ t → firstOf c u ≤ e → e < firstOf c (suc u)
         → cellIn p (halting t) e ≡ cellIn p m e
     stop-other u u< n low high =
-        rw (fit .first-at t t<, stopped-spread, switched-spread)
+        rw (fit .first-at t t<)
         (other-cell fit t t< (sim .cells) (λ _. 0) (λ _. switchOff) (m .turning) (λ w. w) u e u< n low high)
 
   pub agrees-stop : (t : ℕ) → Agrees c p rk m s (Stop t)

@@ -26,7 +26,7 @@ use Rattle.scheduler.proofs.Placed.{Place, other, asleep, awake}
 use Rattle.scheduler.proofs.Order.{Orderly, Started, TickOrder, order-same, starts, tick-order}
 use Rattle.machine.specs.Model.{Model, withCore, withRequest, withRest, doneWith}
 use Rattle.machine.specs.Arbiter.{bids, settled, launching}
-use Rattle.machine.specs.Cells.{Due, oneLost, matchAt, requestsDue}
+use Rattle.machine.specs.Cells.{Tally, oneLost, matchAt, requestsDue}
 use Rattle.machine.specs.Events.{begunWord, marksOf, dueOf, ticking, tick}
 use Rattle.machine.specs.Machine.{statusOf, effectOf, refusalOf}
 use Rattle.plan.proofs.Fitted.{Fitted}
@@ -72,25 +72,25 @@ suspended-is (waiting w) h = absurd (true≢false (sym h))
 suspended-is (triggered x) h = absurd (true≢false (sym h))
 
 -- the model with other requests and losses
-abbrev withDue : Model → Due → Model
-withDue m x = withRest (withCore m (withRequest (m .core) (x .request))) (m .counter) (m .on) (m .turning) (x .losses)
+abbrev withTally : Model → Tally → Model
+withTally m x = withRest (withCore m (withRequest (m .core) (x .request))) (m .counter) (m .on) (m .turning) (x .losses)
 
 module _ {c : Config} {p : Plan} {rk : ℕ → ℕ} (fit : Fitted c p rk) (js ns : List ℕ) where
   -- what is owed after some entries; js: the time-triggered tasks that were started before them
-  record Owed (m : Model) (x : Due) (s : State) : Type 0 where
-    tied : Tied c rk (withDue m x) (s .bodies) js ns
+  record Owed (m : Model) (x : Tally) (s : State) : Type 0 where
+    tied : Tied c rk (withTally m x) (s .bodies) js ns
     lost : Lost c rk (x .losses) (s .bodies)
     noted : NotedOf c rk m (s .bodies)
 
   -- a match at the rank of a task
-  module _ (m : Model) (x : Due) (s : State) (owed : Owed m x s) (t : ℕ) (task : isTask c t ≡ true) where
+  module _ (m : Model) (x : Tally) (s : State) (owed : Owed m x s) (t : ℕ) (task : isTask c t ≡ true) where
     abbrev bs : List Body
     bs = s .bodies
 
     exists : t < c .bodies
     exists = task-exists c t task
 
-    abbrev next : Due
+    abbrev next : Tally
     next = matchAt (begunWord m) (rk t) x
 
     loss : isSuspended (at bs t .phase) ≡ false → Owed m next (changing t loses s)
@@ -133,7 +133,7 @@ module _ {c : Config} {p : Plan} {rk : ℕ → ℕ} (fit : Fitted c p rk) (js ns
         cond-either (Owed m next) (isTimed c t) _ _ (rw e (trigger-owed asleep)) (rw e (activation asleep)))
         (λ e. cond-either (Owed m next) (isTimed c t) _ _ (rw e (loss e)) (rw e (loss e)))
 
-  due-owed : (m : Model) (ms : List Bool) (rs ts : List ℕ) → Entries c rk ms rs ts → (x : Due) (s : State) → Owed m x s
+  due-owed : (m : Model) (ms : List Bool) (rs ts : List ℕ) → Entries c rk ms rs ts → (x : Tally) (s : State) → Owed m x s
       → Owed m (requestsDue (begunWord m) ms rs x) (activatingDue c ms ts s)
   unfolding Entries requestsDue activatingDue
   due-owed m [] rs ts k x s o = o
@@ -167,11 +167,11 @@ module _ {c : Config} {p : Plan} {rk : ℕ → ℕ} (fit : Fitted c p rk) {m : M
       (omega (arith, long, fit .tasks-long, fit .count-is, fit .few-entries))
       (λ i _ l. (fit .entry-rank-at i (omega (arith, long)), fit .entry-task i (omega (arith, long, fit .count-is))))
 
-  abbrev asked : Due
+  abbrev asked : Tally
   asked = record { request = m .core .request; losses = m .losses }
 
   -- what the due entries make of it
-  abbrev due : Due
+  abbrev due : Tally
   due = requestsDue (begunWord m) ms (p .entry) asked
 
   owed : Owed fit (s .order) (sim .nest) m due (Plain.ticked c s)

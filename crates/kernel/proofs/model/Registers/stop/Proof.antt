@@ -33,15 +33,15 @@ returns-3 c =
     (c₆ .no-caller .ensures) (c₅ .if1 .left) (c₄ .if2 .left) (c₃ .byte-at .ensures) (c₂ .is-on .ensures)
     (not-true _ (c₁ .if3 .taken))
 
-stop-counters-requires : tie.Need-stop-counters-requires
-stop-counters-requires c κs =
+fill-requires : tie.Need-fill-requires
+fill-requires c κs =
     let c₁ = c .before in let c₂ = c₁ .before .before .before .before .before in let c₃ = c₂ .before .before in
     let c₄ = c₃ .before .before .before in let a = c₄ .args in
     entries-within (a .tables) (a .first .now) (a .entries .now) (c₄ .pre) (a .t) (c₃ .if2 .left)
     (c₂ .byte-at .ensures) (c₁ .byte-at2 .ensures)
 
-switch-requires : tie.Need-switch-requires
-switch-requires c κs =
+fill-requires-2 : tie.Need-fill-requires-2
+fill-requires-2 c κs =
     let c₁ = c .before .before .before in let c₂ = c₁ .before .before .before .before .before in
     let c₃ = c₂ .before .before in let c₄ = c₃ .before .before .before in let a = c₄ .args in
     entries-within (a .tables) (a .first .now) (a .entries .now) (c₄ .pre) (a .t) (c₃ .if2 .left)
@@ -57,7 +57,7 @@ returns-4 c =
     (viewWith (a .self) (putCells (a .counter .now) (a .on .now) x)) (a .t)
     (c₉ .no-caller .ensures) (c₈ .if1 .left) (c₇ .if2 .left) (c₆ .byte-at .ensures) (c₅ .is-on .ensures)
     (not-false _ (c₄ .if3 .left))
-    (c₃ .byte-at2 .ensures) (c₂ .stop-counters .ensures) (c₁ .switch .ensures)
+    (c₃ .byte-at2 .ensures) (c₂ .fill .ensures) (c₁ .fill2 .ensures)
 
 pub stop-spec : {M : Type 1} → statement M
 stop-spec =
@@ -65,4 +65,4 @@ stop-spec =
     (tie.spec
     (λ c κs. search needs) (λ c κs. search needs) returns (λ c κs. search needs) returns-2 (λ c κs. search needs)
     (λ c. search needs) (λ c κs. search needs) (λ c κs. search needs) returns-3 (λ c κs. search needs)
-    (λ c. search needs) stop-counters-requires switch-requires (λ c κs. search needs) returns-4)
+    (λ c. search needs) fill-requires fill-requires-2 (λ c κs. search needs) returns-4)

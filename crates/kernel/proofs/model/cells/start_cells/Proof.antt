@@ -6,9 +6,9 @@ use mathlib.Core.Path.{_≡_, sym, ap, _∙_}
 use native.Mathlib.Omega.{arith}
 use lib.ListN.{getD}
 use Rattle.cell.specs.declared.Cell.{Cell}
-use Rattle.cell.specs.Cell.{long}
+use Rattle.cell.specs.Cell.{long, startCell}
 use Rattle.machine.specs.Cells.{switchFor, countersStarted, switchesStarted, someLong}
-use Rattle.kernel.proofs.Methods.Cells.{span, some-turn, some-end, switched-on-turn, switched-on-end, started-turn, started-end}
+use Rattle.kernel.proofs.Methods.Cells.{span, some-turn, some-end, spread-turn, spread-end}
 use borrow.Author.Needs.{needs}
 use Rattle.kernel.proofs.model.cells.start_cells.Statement.{statement}
 use Rattle.kernel.proofs.model.cells.start_cells.Tie as tie
@@ -45,10 +45,12 @@ loop-again c =
           (c₃ .loop-test .taken) {b′ = c .if1 .some}
           (⊎-elim (λ w. rw (w .0 .taken) (w .1 ∙ w .0 .taken)) (λ w. rw (w .0 .left) (w .1 ∙ turn)) (c .if1 .came))
           ∙ l .inv .2,
-      started-turn (a .from + a .count) (l .e) (a .period) (a .delay) (a .offset .now) (l .counter)
+      spread-turn (λ i. startCell (a .period) (a .delay + getD (a .offset .now) i 0) .counter) (a .from + a .count)
+          (l .e) (l .counter)
           (c₃ .loop-test .taken) (ap (λ (k : Cell). k .counter) (c₂ .start .ensures))
           ∙ l .inv .3,
-      switched-on-turn (a .from + a .count) (l .e) (a .delay) (a .offset .now) (l .on) (c₃ .loop-test .taken)
+      spread-turn (λ i. switchFor true (long (a .delay + getD (a .offset .now) i 0))) (a .from + a .count) (l .e)
+          (l .on) (c₃ .loop-test .taken)
           (c₁ .switch-for .ensures ∙ ap (switchFor true) turn)
           ∙ l .inv .4,
     )
@@ -58,10 +60,10 @@ returns c = let a = c .before .before .args in let l = c .before .loop in (
   sym (some-end (λ i. long (a .delay + getD (a .offset .now) i 0)) (a .from + a .count) (l .e) (l .some)
       (c .loop-test .left)) ∙ l .inv .2,
   (
-    sym (started-end (a .from + a .count) (l .e) (a .period) (a .delay) (a .offset .now) (l .counter)
-        (c .loop-test .left)) ∙ l .inv .3,
-    sym (switched-on-end (a .from + a .count) (l .e) (a .delay) (a .offset .now) (l .on) (c .loop-test .left))
-        ∙ l .inv .4,
+    sym (spread-end (λ i. startCell (a .period) (a .delay + getD (a .offset .now) i 0) .counter) (a .from + a .count)
+        (l .e) (l .counter) (c .loop-test .left)) ∙ l .inv .3,
+    sym (spread-end (λ i. switchFor true (long (a .delay + getD (a .offset .now) i 0))) (a .from + a .count) (l .e)
+        (l .on) (c .loop-test .left)) ∙ l .inv .4,
   ),
 )
 

@@ -8,7 +8,7 @@ use native.Mathlib.Omega.{arith}
 use lib.ListN.{take, drop}
 use lib.Count.{trailing-le}
 use Rattle.machine.specs.Cells.{requestsDue}
-use Rattle.kernel.specs.Methods.{dueWith, group}
+use Rattle.kernel.specs.Methods.{tallyWith, group}
 use Rattle.kernel.proofs.Methods.Marks.{due-unmarked, Left, left-start, zeros-lt, next-lt, left-turn}
 use borrow.Author.Needs.{needs}
 use Rattle.kernel.proofs.model.cells.take_group.Statement.{statement}
@@ -17,8 +17,8 @@ use Rattle.kernel.proofs.model.cells.take_group.Tie as tie
 abbrev Inv-loop : tie.InvT-loop
 Inv-loop from matched ranks begun request losses₀ word₀ e₀ marks₀ losses word e marks =
     (bs : List Bool) × Left begun ranks (from + group)
-    (requestsDue begun (take group (drop from matched)) (drop from ranks) (dueWith request losses₀))
-    e marks (dueWith word losses) bs
+    (requestsDue begun (take group (drop from matched)) (drop from ranks) (tallyWith request losses₀))
+    e marks (tallyWith word losses) bs
 
 abbrev μ-loop : tie.MeasureT-loop
 μ-loop from matched ranks begun request losses₀ word₀ e₀ marks₀ losses word e marks = from + group - e
@@ -29,7 +29,7 @@ group-word-requires c κs = c .pre .0
 loop-holds : tie.Need-loop-holds Inv-loop μ-loop
 loop-holds c = let s = c .before in let a = s .args in (
   take group (drop (a .from) (a .matched .now)),
-  left-start (a .begun) (a .ranks .now) (a .from) (a .matched .now) (dueWith (a .request) (a .losses .now))
+  left-start (a .begun) (a .ranks .now) (a .from) (a .matched .now) (tallyWith (a .request) (a .losses .now))
       (s .pre .1) (c .group-word .ensures),
 )
 
@@ -60,7 +60,7 @@ loop-again c = let k = c .before .before .before .before in
 
 returns : tie.Need-returns Inv-loop μ-loop
 returns c = let a = c .before .before .before .args in let l = c .before .loop in
-    sym (due-unmarked (a .begun) (l .inv .0) (drop (l .e) (a .ranks .now)) (dueWith (l .word) (l .losses))
+    sym (due-unmarked (a .begun) (l .inv .0) (drop (l .e) (a .ranks .now)) (tallyWith (l .word) (l .losses))
     (omega (arith, l .inv .1 .word, c .loop-test .left)))
     ∙ l .inv .1 .due
 

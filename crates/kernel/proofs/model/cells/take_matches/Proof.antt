@@ -6,7 +6,7 @@ use native.Mathlib.Omega.{arith}
 use lib.ListN.{drop}
 use Rattle.config.specs.Value.{maxEntries}
 use Rattle.machine.specs.Cells.{requestsDue}
-use Rattle.kernel.specs.Methods.{dueWith, group}
+use Rattle.kernel.specs.Methods.{tallyWith, group}
 use Rattle.kernel.proofs.Methods.Cells.{group-turn, groups-end}
 use Rattle.kernel.proofs.model.cells.take_matches.Statement.{statement}
 use Rattle.kernel.proofs.model.cells.take_matches.Tie as tie
@@ -19,8 +19,8 @@ record Taken (k e : ℕ) : Type 0 where
 abbrev Inv-loop : tie.InvT-loop
 Inv-loop matched ranks begun request losses₀ word₀ e₀ losses word e =
     ((k : ℕ) × Taken k e)
-    × (requestsDue begun (drop e matched) (drop e ranks) (dueWith word losses)
-    ≡ requestsDue begun matched ranks (dueWith request losses₀))
+    × (requestsDue begun (drop e matched) (drop e ranks) (tallyWith word losses)
+    ≡ requestsDue begun matched ranks (tallyWith request losses₀))
 
 abbrev μ-loop : tie.MeasureT-loop
 μ-loop matched ranks begun request losses₀ word₀ e₀ losses word e = maxEntries - e
@@ -45,7 +45,7 @@ loop-again c =
     let g = l .inv .0 in (
       (g .0 + 1, record { at = omega (arith, g .1 .at); reached = omega (arith, g .1 .at) }),
       group-turn (a .begun) (a .matched .now) (a .ranks .now) (l .e) (omega (arith, g .1 .at, s .pre))
-          (dueWith (l .word) (l .losses)) (c .take-group .ensures)
+          (tallyWith (l .word) (l .losses)) (c .take-group .ensures)
           ∙ l .inv .1,
     )
 
@@ -54,7 +54,7 @@ returns c = let s = c .before .before in
     let a = s .args in
     let l = c .before .loop in
     sym (groups-end (a .begun) (a .matched .now) (a .ranks .now) (l .e) (omega (arith, s .pre, c .loop-test .left))
-    (dueWith (l .word) (l .losses)))
+    (tallyWith (l .word) (l .losses)))
     ∙ l .inv .1
 
 pub take-matches-spec : {M : Type 1} → statement M
