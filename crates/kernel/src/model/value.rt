@@ -3,9 +3,10 @@ ghost use mathlib.Core.Path.{_≡_};
 ghost use mathlib.Core.Bool.{true, false};
 ghost use Rattle.machine.specs.Events.{activate, finish, chain, get, release, tick, line, start, stop, wait, setEvent, clear};
 ghost use Rattle.kernel.specs.Methods.{RowsHold};
-ghost use Rattle.kernel.specs.View.{view, outcomeOf};
+ghost use Rattle.kernel.specs.View.{arrays, view, viewStep, outcomeOf};
 use super::Model;
 use super::Outcome;
+use super::Step;
 use super::cells::some_turn;
 use super::cells::take_matches;
 use super::cells::tick_counters;
@@ -23,48 +24,24 @@ impl Model {
             (activate (now («callable_rank» .entry)) (now (priority .entry)) (view self) t) ⌝ }
     {
         let step = self.registers.activate(callable_rank, priority, t);
-        let registers = step.registers;
         let counter = self.counter;
         let on = self.on;
         let losses = self.losses;
         let bits = self.bits;
         let waited = self.waited;
-        Outcome {
-            model: Model {
-                registers,
-                counter,
-                on,
-                losses,
-                bits,
-                waited,
-            },
-            status: step.status,
-            begun: step.begun,
-        }
+        outcome(step, counter, on, losses, bits, waited)
     }
 
     pub fn finish(self, priority: &[u8; 32]) -> Outcome
         ensures { λ r. ⌜ r ≡ outcomeOf (finish (now (priority .entry)) (view self)) ⌝ }
     {
         let step = self.registers.finish(priority);
-        let registers = step.registers;
         let counter = self.counter;
         let on = self.on;
         let losses = self.losses;
         let bits = self.bits;
         let waited = self.waited;
-        Outcome {
-            model: Model {
-                registers,
-                counter,
-                on,
-                losses,
-                bits,
-                waited,
-            },
-            status: step.status,
-            begun: step.begun,
-        }
+        outcome(step, counter, on, losses, bits, waited)
     }
 
     pub fn chain<'a>(
@@ -78,24 +55,12 @@ impl Model {
             (chain isrs (now («callable_rank» .entry)) (now (priority .entry)) (view self) t) ⌝ }
     {
         let step = self.registers.chain(isrs, callable_rank, priority, t);
-        let registers = step.registers;
         let counter = self.counter;
         let on = self.on;
         let losses = self.losses;
         let bits = self.bits;
         let waited = self.waited;
-        Outcome {
-            model: Model {
-                registers,
-                counter,
-                on,
-                losses,
-                bits,
-                waited,
-            },
-            status: step.status,
-            begun: step.begun,
-        }
+        outcome(step, counter, on, losses, bits, waited)
     }
 
     pub fn get<'a>(
@@ -108,48 +73,24 @@ impl Model {
         ensures { λ o. ⌜ o ≡ outcomeOf (get resources (now (users .entry)) (now (ceiling .entry)) (view self) r) ⌝ }
     {
         let step = self.registers.get(resources, users, ceiling, r);
-        let registers = step.registers;
         let counter = self.counter;
         let on = self.on;
         let losses = self.losses;
         let bits = self.bits;
         let waited = self.waited;
-        Outcome {
-            model: Model {
-                registers,
-                counter,
-                on,
-                losses,
-                bits,
-                waited,
-            },
-            status: step.status,
-            begun: step.begun,
-        }
+        outcome(step, counter, on, losses, bits, waited)
     }
 
     pub fn release(self, resources: u8, priority: &[u8; 32], r: u32) -> Outcome
         ensures { λ o. ⌜ o ≡ outcomeOf (release resources (now (priority .entry)) (view self) r) ⌝ }
     {
         let step = self.registers.release(resources, priority, r);
-        let registers = step.registers;
         let counter = self.counter;
         let on = self.on;
         let losses = self.losses;
         let bits = self.bits;
         let waited = self.waited;
-        Outcome {
-            model: Model {
-                registers,
-                counter,
-                on,
-                losses,
-                bits,
-                waited,
-            },
-            status: step.status,
-            begun: step.begun,
-        }
+        outcome(step, counter, on, losses, bits, waited)
     }
 
     // A tick where no cell has a turn to pass: the switches stay.
@@ -176,21 +117,9 @@ impl Model {
             &mut losses,
         );
         let step = self.registers.triggering(request, priority);
-        let registers = step.registers;
         let bits = self.bits;
         let waited = self.waited;
-        Outcome {
-            model: Model {
-                registers,
-                counter,
-                on,
-                losses,
-                bits,
-                waited,
-            },
-            status: step.status,
-            begun: step.begun,
-        }
+        outcome(step, counter, on, losses, bits, waited)
     }
 
     // A tick where a cell may have one.
@@ -219,21 +148,9 @@ impl Model {
         let mut registers = self.registers;
         registers.turning = some_turn(&on);
         let step = registers.triggering(request, priority);
-        let registers = step.registers;
         let bits = self.bits;
         let waited = self.waited;
-        Outcome {
-            model: Model {
-                registers,
-                counter,
-                on,
-                losses,
-                bits,
-                waited,
-            },
-            status: step.status,
-            begun: step.begun,
-        }
+        outcome(step, counter, on, losses, bits, waited)
     }
 
     // `counts`: whether a line that is lost counts as a loss.
@@ -250,23 +167,11 @@ impl Model {
         let mut losses = self.losses;
         let step = self.registers
             .line(counts, line_rank, priority, i, &mut losses);
-        let registers = step.registers;
         let counter = self.counter;
         let on = self.on;
         let bits = self.bits;
         let waited = self.waited;
-        Outcome {
-            model: Model {
-                registers,
-                counter,
-                on,
-                losses,
-                bits,
-                waited,
-            },
-            status: step.status,
-            begun: step.begun,
-        }
+        outcome(step, counter, on, losses, bits, waited)
     }
 
     pub fn start<'a>(
@@ -297,22 +202,10 @@ impl Model {
             &mut counter,
             &mut on,
         );
-        let registers = step.registers;
         let losses = self.losses;
         let bits = self.bits;
         let waited = self.waited;
-        Outcome {
-            model: Model {
-                registers,
-                counter,
-                on,
-                losses,
-                bits,
-                waited,
-            },
-            status: step.status,
-            begun: step.begun,
-        }
+        outcome(step, counter, on, losses, bits, waited)
     }
 
     pub fn stop<'a>(self, tables: u8, first: &'a [u8; 8], entries: &'a [u8; 8], t: u32) -> Outcome
@@ -323,22 +216,10 @@ impl Model {
         let mut on = self.on;
         let step = self.registers
             .stop(tables, first, entries, t, &mut counter, &mut on);
-        let registers = step.registers;
         let losses = self.losses;
         let bits = self.bits;
         let waited = self.waited;
-        Outcome {
-            model: Model {
-                registers,
-                counter,
-                on,
-                losses,
-                bits,
-                waited,
-            },
-            status: step.status,
-            begun: step.begun,
-        }
+        outcome(step, counter, on, losses, bits, waited)
     }
 
     // `extended`: the ranks that are extended tasks.
@@ -349,22 +230,10 @@ impl Model {
         let mut waited = self.waited;
         let step = self.registers
             .wait(extended, priority, mask, &bits, &mut waited);
-        let registers = step.registers;
         let counter = self.counter;
         let on = self.on;
         let losses = self.losses;
-        Outcome {
-            model: Model {
-                registers,
-                counter,
-                on,
-                losses,
-                bits,
-                waited,
-            },
-            status: step.status,
-            begun: step.begun,
-        }
+        outcome(step, counter, on, losses, bits, waited)
     }
 
     // `isrs`: the ranks that are ISRs; `body_rank`: those of all bodies.
@@ -392,22 +261,10 @@ impl Model {
             &waited,
             &mut bits,
         );
-        let registers = step.registers;
         let counter = self.counter;
         let on = self.on;
         let losses = self.losses;
-        Outcome {
-            model: Model {
-                registers,
-                counter,
-                on,
-                losses,
-                bits,
-                waited,
-            },
-            status: step.status,
-            begun: step.begun,
-        }
+        outcome(step, counter, on, losses, bits, waited)
     }
 
     pub fn clear(self, extended: u32, mask: u32) -> Outcome
@@ -415,22 +272,36 @@ impl Model {
     {
         let mut bits = self.bits;
         let step = self.registers.clear(extended, mask, &mut bits);
-        let registers = step.registers;
         let counter = self.counter;
         let on = self.on;
         let losses = self.losses;
         let waited = self.waited;
-        Outcome {
-            model: Model {
-                registers,
-                counter,
-                on,
-                losses,
-                bits,
-                waited,
-            },
-            status: step.status,
-            begun: step.begun,
-        }
+        outcome(step, counter, on, losses, bits, waited)
+    }
+}
+
+// The model of these registers and arrays, with the answer.
+fn outcome(
+    step: Step,
+    counter: [u16; 64],
+    on: [u16; 64],
+    losses: [u16; 32],
+    bits: [u32; 32],
+    waited: [u32; 32],
+) -> Outcome
+    ensures { λ r. ⌜ r ≡ outcomeOf (viewStep step (arrays counter on losses bits waited)) ⌝ }
+{
+    let registers = step.registers;
+    Outcome {
+        model: Model {
+            registers,
+            counter,
+            on,
+            losses,
+            bits,
+            waited,
+        },
+        status: step.status,
+        begun: step.begun,
     }
 }

@@ -1,5 +1,5 @@
 -- `clear` meets its contract: what the registers make of it with the arrays that they are lent.
-use mathlib.Core.Path.{ap}
+use mathlib.Core.Path.{ap, _∙_}
 use Rattle.kernel.specs.View.{arraysOf, outcomeOf}
 use borrow.Author.Needs.{needs}
 use Rattle.kernel.proofs.model.Model.clear.Statement.{statement}
@@ -8,7 +8,7 @@ use Rattle.kernel.proofs.model.Model.clear.Tie as tie
 returns : tie.Need-returns
 returns c =
     let c₁ = c .before .before .before .before .before in let c₂ = c₁ .before .before .before in let a = c₂ .args in
-    ap outcomeOf (c₁ .clear .ensures (arraysOf (a .self)))
+    c .outcome .ensures ∙ ap outcomeOf (c₁ .clear .ensures (arraysOf (a .self)))
 
 pub clear-spec : {M : Type 1} → statement M
-clear-spec = tie.close (tie.spec (λ c κs. search needs) returns)
+clear-spec = tie.close (tie.spec (λ c κs. search needs) (λ c κs. search needs) returns)

@@ -1,5 +1,5 @@
 -- `start` meets its contract: what the registers make of it with the arrays that they are lent.
-use mathlib.Core.Path.{ap}
+use mathlib.Core.Path.{ap, _∙_}
 use Rattle.kernel.specs.View.{arraysOf, outcomeOf}
 use borrow.Author.Needs.{needs}
 use Rattle.kernel.proofs.model.Model.start.Statement.{statement}
@@ -14,11 +14,7 @@ returns : tie.Need-returns
 returns c =
     let c₁ = c .before .before .before .before in let c₂ = c₁ .before .before .before .before .before in
     let a = c₂ .args in
-    ap outcomeOf (c₁ .start .ensures (arraysOf (a .self)))
+    c .outcome .ensures ∙ ap outcomeOf (c₁ .start .ensures (arraysOf (a .self)))
 
 pub start-spec : {M : Type 1} → statement M
-start-spec =
-    tie.close
-    (tie.spec
-    start-requires
-    returns)
+start-spec = tie.close (tie.spec start-requires (λ c κs. search needs) returns)

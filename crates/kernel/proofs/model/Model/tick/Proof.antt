@@ -19,7 +19,8 @@ returns : tie.Need-returns
 returns c =
     let c₁ = c .before .before .before in let c₂ = c₁ .before in let c₃ = c₂ .before .before .before in
     let c₄ = c₃ .before in let c₅ = c₄ .before .before .before .before .before .before in let a = c₅ .args in
-    ap outcomeOf
+    c .outcome .ensures
+    ∙ ap outcomeOf
     (c₁ .triggering .ensures _
     ∙ tick-still (a .compare .now) (a .entry-rank .now) (a .priority .now) (view (a .self))
     (c₃ .union .ensures) (c₂ .take-matches .ensures) (c₅ .pre) (c₄ .tick-counters .ensures .0)
@@ -29,4 +30,5 @@ pub tick-spec : {M : Type 1} → statement M
 tick-spec =
     tie.close
     (tie.spec
-    (λ c κs. search needs) (λ c κs. search needs) take-matches-requires (λ c κs. search needs) returns)
+    (λ c κs. search needs) (λ c κs. search needs) take-matches-requires (λ c κs. search needs) (λ c κs. search needs)
+    returns)

@@ -19,7 +19,8 @@ returns c =
     let c₁ = c .before .before .before in let c₂ = c₁ .before in let c₃ = c₂ .before .before .before in
     let c₄ = c₃ .before .before .before in let c₅ = c₄ .before in
     let c₆ = c₅ .before .before .before .before .before .before in let a = c₆ .args in
-    ap outcomeOf
+    c .outcome .ensures
+    ∙ ap outcomeOf
     (c₁ .triggering .ensures _
     ∙ tick-turned (a .compare .now) (a .entry-rank .now) (a .priority .now) (view (a .self))
     (c₄ .union .ensures) (c₃ .take-matches .ensures) (c₆ .pre) (c₅ .tick-turns .ensures .0)
@@ -31,4 +32,4 @@ tick-turning-spec =
     tie.close
     (tie.spec
     (λ c κs. search needs) (λ c κs. search needs) take-matches-requires (λ c κs. search needs) (λ c κs. search needs)
-    returns)
+    (λ c κs. search needs) returns)
