@@ -1,14 +1,14 @@
 -- The mask of a resource as a step of the reader's walk.
 use Prim.Native.Nat.{ℕ, _+_, _-_, _/_, _%_, _^_, _≤_, _<_}
 use mathlib.Core.Path.{_≡_, refl, sym, ap, subst, _∙_}
-use mathlib.Core.Bool.{Bool, true, false, not, _&&_, _||_, true≢false}
+use mathlib.Core.Bool.{Bool, true, false, not, _||_, and-false, true≢false}
 use mathlib.Core.List.{List, [], _∷_}
 use native.Mathlib.Omega.{arith}
 use lib.Dec.{eqb}
 use lib.ListN.{set, take}
 use borrow.Author.Tests.{eq-eqb, ne-eqb}
 use Rattle.number.specs.Refusal.{none}
-use Rattle.number.proofs.Cases.{by-eq}
+use Rattle.number.proofs.Cases.{by-eq, neither}
 use Rattle.number.specs.declared.NumberRead.{NumberRead}
 use Rattle.config.specs.declared.Config.{Config}
 use Rattle.config.specs.declared.Field.{Field}
@@ -38,14 +38,6 @@ module _ (c : Config) (bs : List ℕ) (n at b : ℕ) (ks : List ℕ) (i : ℕ) (
   pub mask-last : ReadsOn bs at (usersOn c n b ks i us) → i ≤ n → n ≤ i → ReadsOn bs at (usersOn c n b ks n us)
   mask-last o h k = subst (λ (j : ℕ). ReadsOn bs at (usersOn c n b ks j us)) (omega arith) o
 
-or-second : (a b : Bool) → a || b ≡ false → b ≡ false
-or-second true b e = absurd (true≢false e)
-or-second false b e = e
-
-and-false : (a : Bool) → a && false ≡ false
-and-false true = refl
-and-false false = refl
-
 -- where no body is of kind 3 no mask has a bit for one
 pub none-timed : (m : ℕ) (ks : List ℕ) → among timeTriggered ks ≡ false → timedIn m ks ≡ false
 unfolding among timedIn
@@ -55,7 +47,7 @@ none-timed m (k ∷ ks) e =
     (λ h. absurd (true≢false (sym (ap (λ (b : Bool). b || among timeTriggered ks) (eq-eqb timeTriggered k (sym h)))
     ∙ e)))
     (λ h. rw (ne-eqb k timeTriggered h, and-false (eqb (m % 2) 1))
-    (none-timed (m / 2) ks (or-second (eqb timeTriggered k) (among timeTriggered ks) e)))
+    (none-timed (m / 2) ks (neither (eqb timeTriggered k) (among timeTriggered ks) e .1)))
 
 -- a refusal after which nothing more is tested
 pub nothing-more : (r : ℕ) → r ≡ andThen r none

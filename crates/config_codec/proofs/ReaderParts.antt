@@ -1,20 +1,19 @@
 -- The counts that stand between the parts, and the end, as steps of the reader's walk.
 use Prim.Native.Nat.{ℕ, _≤_}
-use mathlib.Core.Path.{_≡_, refl, sym, subst, _∙_}
-use mathlib.Core.Bool.{Bool, true, cond}
+use mathlib.Core.Path.{_≡_, refl, sym, subst}
+use mathlib.Core.Bool.{Bool, cond}
 use mathlib.Core.List.{List}
 use native.Mathlib.Omega.{arith}
 use lib.Dec.{eqb}
 use lib.ListN.{length, replicate}
 use borrow.Author.Tests.{eq-eqb, ne-eqb}
-use Rattle.number.specs.Refusal.{none}
 use Rattle.number.specs.declared.NumberRead.{NumberRead}
 use Rattle.config.specs.declared.Config.{Config}
 use Rattle.config.specs.declared.Field.{Field}
 use Rattle.config.specs.declared.Field.the-variants.{Kind, Resources, Users, Tables, Period, End}
 use Rattle.config.specs.Refusal.{badVersion, badCount, leftOver}
 use Rattle.config.specs.Value.{newestVersion, maxBodies, maxResources, maxTables, maxEntries, noConfig, withVersion}
-use Rattle.config.specs.Draft.{outside, faultAt, putAt, ended, start}
+use Rattle.config.specs.Draft.{outside, faultAt, putAt, ended}
 use Rattle.config.specs.Reader.{accepted, refused}
 use Rattle.config_codec.specs.Reading.{ReadsOn, Goes, whole, checked}
 use Rattle.config_codec.specs.Drafts.{headAt, bodyAt, bodyOn, afterBodies, usersAt, usersOn, afterMasks}

@@ -1,25 +1,21 @@
 -- The events of tables, case by case in the order of their checks, as the code goes through them.
 use Prim.Native.Nat.{ℕ, zero, suc, _+_, _≤_, _<_}
 use mathlib.Core.Path.{_≡_, refl, sym, ap, _∙_}
-use mathlib.Core.Bool.{Bool, true, false, cond, _&&_, _||_}
+use mathlib.Core.Bool.{Bool, true, false, _||_}
 use mathlib.Core.List.{List}
-use native.Mathlib.Omega.{arith}
 use lib.Dec.{ltb, eqb}
 use lib.ListN.{length, getD}
 use borrow.Author.Tests.{ltb-false, le-leb, lt-leb}
+use Rattle.number.proofs.Cases.{neither}
 use Rattle.config.specs.Value.{maxEntries}
-use Rattle.config.specs.Meaning.{executionLevel, triggerLevel}
-use Rattle.word.specs.Word.{with, without}
-use Rattle.stack.specs.Stack.{pushRow}
 use Rattle.scheduler.specs.Status.{callLevel, noSuch, badDelay, wrongState, noFunction, firstGiven}
 use Rattle.scheduler.specs.Call.{longestDelay}
-use Rattle.machine.specs.Model.{Picked, Model, withCore, withRequest, withRest, withCells, withTriggered, doneWith, refusedWith}
-use Rattle.machine.specs.Arbiter.{arbitrated, triggering}
+use Rattle.machine.specs.Model.{Model, withCore, withRequest, withRest, withCells, doneWith, refusedWith}
+use Rattle.machine.specs.Arbiter.{triggering}
 use Rattle.machine.specs.Cells.{isOn, countersTicked, switchesTicked, someTurn, marks, countersStarted, switchesStarted, someLong, countersStopped, switchesStopped, Tally, requestsDue}
 use Rattle.machine.specs.Events.{noCaller, begunWord, tick, start, stop}
 use Rattle.kernel.specs.Methods.{tallyWith, RowsHold}
 use Rattle.kernel.specs.View.{core}
-use Rattle.kernel.proofs.Methods.Core.{triggering-launched, triggering-settled}
 
 pub length-marks : (k e : ℕ) (w : Bool) (ks os ns : List ℕ) → length (marks k e w ks os ns) ≡ k
 unfolding marks
@@ -59,11 +55,7 @@ module _ (ks rs ps : List ℕ) (m : Model) {v : ℕ} (begun : v ≡ begunWord m)
 
 -- a delay that is not refused
 pub short-sum : (d g : ℕ) → eqb d 0 || ltb longestDelay (d + g) ≡ false → d + g ≤ longestDelay
-short-sum d g e = ltb-false longestDelay (d + g) (second (eqb d 0) _ e)
-  where
-    second : (a b : Bool) → a || b ≡ false → b ≡ false
-    second true b e = absurd (let z : _≡_ {A = ℕ} 0 1 = cc in omega arith)
-    second false b e = e
+short-sum d g e = ltb-false longestDelay (d + g) (neither (eqb d 0) _ e .1)
 
 -- what the tables give each of them
 module _ (n : ℕ) (fs es : List ℕ) (laid : RowsHold n fs es) (t : ℕ) (some : t < n)

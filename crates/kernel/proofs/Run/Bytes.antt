@@ -1,7 +1,7 @@
 -- The bytes of the run's output, laid one piece after the other.
 use Prim.Native.Nat.{ℕ, suc, _+_, _*_, _/_, _%_, _≤_, _<_}
 use mathlib.Core.Path.{_≡_, refl, sym, ap, _∙_}
-use mathlib.Core.List.{List, [], _∷_, _++_, map, append-assoc}
+use mathlib.Core.List.{List, [], _∷_, _++_, map, map-append, append-assoc}
 use native.Mathlib.Omega.{arith}
 use native.Mathlib.Numerals.{add-one}
 use lib.ListN.{length, getD, take, drop, set, length-map, take-append-drop}
@@ -38,10 +38,6 @@ lossBytes-append : (ns ks : List ℕ) → lossBytes (ns ++ ks) ≡ lossBytes ns 
 unfolding lossBytes
 lossBytes-append [] ks = refl
 lossBytes-append (n ∷ ns) ks = ap (λ (l : List ℕ). n % 256 ∷ n / 256 ∷ l) (lossBytes-append ns ks)
-
-map-append : (f : ℕ → ℕ) (ns ks : List ℕ) → map f (ns ++ ks) ≡ map f ns ++ map f ks
-map-append f [] ks = refl
-map-append f (n ∷ ns) ks = ap (λ (l : List ℕ). f n ∷ l) (map-append f ns ks)
 
 -- the losses of the first b bodies; rs: their ranks
 module _ (f : ℕ → ℕ) (rs : List ℕ) (at : ℕ) (d : List ℕ) where

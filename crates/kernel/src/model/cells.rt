@@ -2,7 +2,7 @@
 ghost use mathlib.Core.Path.{_≡_};
 ghost use mathlib.Core.Bool.{true, false, cond, _||_};
 ghost use Prim.Native.Nat.{_+_, _≤_};
-ghost use lib.ListN.{length, getD, set, take, drop};
+ghost use lib.ListN.{length, take, drop};
 ghost use Rattle.config.specs.Value.{maxEntries};
 ghost use Rattle.machine.specs.Cells.{countersTicked, switchFor, switchesTicked, someTurn, marks, countersStarted, switchesStarted, spread, someLong, oneMore, oneLost, matchAt, requestsDue};
 ghost use Rattle.kernel.specs.Methods.{tallyWith, group, marksWord};

@@ -1,6 +1,6 @@
 -- `ended` meets its contract: the seat is left to the latest holder, then arbitration with the requests that it is
 -- given.
-use mathlib.Core.Path.{_≡_, ap, _∙_}
+use mathlib.Core.Path.{ap, _∙_}
 use Rattle.kernel.specs.View.{viewWith, viewPicked}
 use Rattle.kernel.proofs.Methods.Core.{ended-made}
 use borrow.Author.Needs.{needs}

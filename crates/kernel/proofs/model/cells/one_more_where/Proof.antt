@@ -1,5 +1,4 @@
 -- `one_more_where` meets its contract, with the test and without.
-use mathlib.Core.Path.{_∙_}
 use borrow.Author.Needs.{needs}
 use Rattle.kernel.proofs.model.cells.one_more_where.Statement.{statement}
 use Rattle.kernel.proofs.model.cells.one_more_where.Tie as tie
