@@ -1,6 +1,7 @@
--- The code's model with the arrays beside it is the machine's, field by field, and so is an outcome: `view` looks at
--- both as the machine's record. A contract speaks of the machine's definitions through it, whatever the arrays hold
--- that the method is not lent.
+-- The code's model is the machine's, field by field, and so is an outcome: `view` looks at a struct of the code as the
+-- machine's record, `modelOf` and `outcomeOf` go back. A contract speaks of the machine's definitions through them.
+-- Registers are the machine's model once there are arrays beside them (`viewWith`), and the contract of a method on
+-- registers holds whatever the arrays hold that it is not lent.
 use Prim.Native.Nat.{ℕ}
 use mathlib.Core.List.{List}
 use Rattle.kernel.specs.declared.model.Picked.{Picked}
@@ -40,14 +41,14 @@ pub record Arrays : Type 0 where
   pub waited : List ℕ
 
 abbrev pub arrays : List ℕ → List ℕ → List ℕ → List ℕ → List ℕ → Arrays
-arrays ns ws ls bs ms = record { counter = ns; on = ws; losses = ls; bits = bs; waited = ms }
+arrays ns on ls bs ms = record { counter = ns; on = on; losses = ls; bits = bs; waited = ms }
 
 abbrev pub arraysOf : Model → Arrays
 arraysOf m = arrays (m .counter) (m .on) (m .losses) (m .bits) (m .waited)
 
 -- other cells, losses, event bits and masks in their place
 abbrev pub putCells : List ℕ → List ℕ → Arrays → Arrays
-putCells ns ws x = arrays ns ws (x .losses) (x .bits) (x .waited)
+putCells ns on x = arrays ns on (x .losses) (x .bits) (x .waited)
 
 abbrev pub putLosses : List ℕ → Arrays → Arrays
 putLosses ls x = arrays (x .counter) (x .on) ls (x .bits) (x .waited)

@@ -1,9 +1,12 @@
 -- The cells of the entries, as parallel arrays: counters and switches in the model, compare values in the plan.
 --
---   countersTicked k e w ks on ns   the counters ns after a tick of the k cells from e on, with compare values ks and switches on
+--   countersTicked k e w ks on ns   the counters ns after a tick of the k cells from e on, with compare values ks and
+--                                   switches on
 --   switchesTicked k e ks ns on     the switches on after it, where a turn may have passed
 --   marks k e w ks on ns            which of those cells match at that tick
---   requestsDue ms rs x           the requests and losses x after the matches ms of entries whose tasks have the ranks rs
+--   requestsDue w ms rs x           the requests and losses x after the matches ms of entries whose tasks have the
+--                                   ranks rs; w: who has begun
+--   spread f k e l                  the list l with f i at each of the k places i from e on
 use Prim.Native.Nat.{ℕ, zero, suc, _+_, min}
 use mathlib.Core.Bool.{Bool, true, false, cond, not, _&&_, _||_}
 use mathlib.Core.List.{List, [], _∷_}

@@ -28,59 +28,59 @@ none u e h = omega arith
 
 -- what a tick makes of later cells does not see an earlier counter or switch
 module _ (w : Bool) (ks : List ℕ) where
-  marks-counted : (k e i x : ℕ) (os ns : List ℕ) → i < e → marks k e w ks os (set ns i x) ≡ marks k e w ks os ns
+  marks-counted : (k e i x : ℕ) (on ns : List ℕ) → i < e → marks k e w ks on (set ns i x) ≡ marks k e w ks on ns
   unfolding marks
-  marks-counted zero e i x os ns h = refl
-  marks-counted (suc k) e i x os ns h =
+  marks-counted zero e i x on ns h = refl
+  marks-counted (suc k) e i x on ns h =
       ap₂ (λ (n : ℕ) (bs : List Bool). tickCell
-      (unmarked n (getD ks e 0) (isOn (getD os e 0)) (w && hasTurn (getD os e 0))) .matched ∷ bs)
+      (unmarked n (getD ks e 0) (isOn (getD on e 0)) (w && hasTurn (getD on e 0))) .matched ∷ bs)
       (getD-set-other ns i e x 0 (λ q. absurd (omega arith)))
-      (marks-counted k (suc e) i x os ns (omega arith))
+      (marks-counted k (suc e) i x on ns (omega arith))
 
-  marks-switched : (k e i x : ℕ) (os ns : List ℕ) → i < e → marks k e w ks (set os i x) ns ≡ marks k e w ks os ns
+  marks-switched : (k e i x : ℕ) (on ns : List ℕ) → i < e → marks k e w ks (set on i x) ns ≡ marks k e w ks on ns
   unfolding marks
-  marks-switched zero e i x os ns h = refl
-  marks-switched (suc k) e i x os ns h =
+  marks-switched zero e i x on ns h = refl
+  marks-switched (suc k) e i x on ns h =
       ap₂ (λ (o : ℕ) (bs : List Bool). tickCell
       (unmarked (getD ns e 0) (getD ks e 0) (isOn o) (w && hasTurn o)) .matched ∷ bs)
-      (getD-set-other os i e x 0 (λ q. absurd (omega arith)))
-      (marks-switched k (suc e) i x os ns (omega arith))
+      (getD-set-other on i e x 0 (λ q. absurd (omega arith)))
+      (marks-switched k (suc e) i x on ns (omega arith))
 
-  counters-switched : (k e i x : ℕ) (os ns : List ℕ) → i < e
-      → countersTicked k e w ks (set os i x) ns ≡ countersTicked k e w ks os ns
+  counters-switched : (k e i x : ℕ) (on ns : List ℕ) → i < e
+      → countersTicked k e w ks (set on i x) ns ≡ countersTicked k e w ks on ns
   unfolding countersTicked
-  counters-switched zero e i x os ns h = refl
-  counters-switched (suc k) e i x os ns h =
-      counters-switched k (suc e) i x os _ (omega arith)
-      ∙ ap (λ (o : ℕ). countersTicked k (suc e) w ks os
+  counters-switched zero e i x on ns h = refl
+  counters-switched (suc k) e i x on ns h =
+      counters-switched k (suc e) i x on _ (omega arith)
+      ∙ ap (λ (o : ℕ). countersTicked k (suc e) w ks on
       (set ns e (tickCell (unmarked (getD ns e 0) (getD ks e 0) (isOn o) (w && hasTurn o)) .counter)))
-      (getD-set-other os i e x 0 (λ q. absurd (omega arith)))
+      (getD-set-other on i e x 0 (λ q. absurd (omega arith)))
 
-switches-counted : (ks : List ℕ) (k e i x : ℕ) (os ns : List ℕ) → i < e
-    → switchesTicked k e ks (set ns i x) os ≡ switchesTicked k e ks ns os
+switches-counted : (ks : List ℕ) (k e i x : ℕ) (on ns : List ℕ) → i < e
+    → switchesTicked k e ks (set ns i x) on ≡ switchesTicked k e ks ns on
 unfolding switchesTicked
-switches-counted ks zero e i x os ns h = refl
-switches-counted ks (suc k) e i x os ns h =
+switches-counted ks zero e i x on ns h = refl
+switches-counted ks (suc k) e i x on ns h =
     switches-counted ks k (suc e) i x _ ns (omega arith)
     ∙ ap (λ (n : ℕ). switchesTicked k (suc e) ks ns
-    (set os e (switchFor (isOn (getD os e 0))
-    (tickCell (unmarked n (getD ks e 0) (isOn (getD os e 0)) (hasTurn (getD os e 0))) .turn))))
+    (set on e (switchFor (isOn (getD on e 0))
+    (tickCell (unmarked n (getD ks e 0) (isOn (getD on e 0)) (hasTurn (getD on e 0))) .turn))))
     (getD-set-other ns i e x 0 (λ q. absurd (omega arith)))
 
-module _ (w : Bool) (ks os₀ ns₀ : List ℕ) where
-  -- the cells before e are ticked: os are the switches, ns the counters, ms the marks
-  pub record Ticking (os ns : List ℕ) (ms : List Bool) (e : ℕ) : Type 0 where
+module _ (w : Bool) (ks on₀ ns₀ : List ℕ) where
+  -- the cells before e are ticked: on are the switches, ns the counters, ms the marks
+  pub record Ticking (on ns : List ℕ) (ms : List Bool) (e : ℕ) : Type 0 where
     pub reached : e ≤ maxEntries
     pub long : length ms ≡ maxEntries
-    pub counters : countersTicked (maxEntries - e) e w ks os ns ≡ countersTicked maxEntries 0 w ks os₀ ns₀
-    pub matches : take e ms ++ marks (maxEntries - e) e w ks os ns ≡ marks maxEntries 0 w ks os₀ ns₀
+    pub counters : countersTicked (maxEntries - e) e w ks on ns ≡ countersTicked maxEntries 0 w ks on₀ ns₀
+    pub matches : take e ms ++ marks (maxEntries - e) e w ks on ns ≡ marks maxEntries 0 w ks on₀ ns₀
 
-  pub ticking-start : Ticking os₀ ns₀ (replicate maxEntries false) 0
+  pub ticking-start : Ticking on₀ ns₀ (replicate maxEntries false) 0
   ticking-start = record { reached = omega arith; long = refl; counters = refl; matches = refl }
 
-  module _ (os ns : List ℕ) (ms : List Bool) (e : ℕ) (so-far : Ticking os ns ms e) where
-    pub ticking-turn : e < maxEntries → {c : Cell} → c ≡ tickCell (cellAt w ks os ns e)
-        → Ticking os (set ns e (c .counter)) (set ms e (c .matched)) (e + 1)
+  module _ (on ns : List ℕ) (ms : List Bool) (e : ℕ) (so-far : Ticking on ns ms e) where
+    pub ticking-turn : e < maxEntries → {c : Cell} → c ≡ tickCell (cellAt w ks on ns e)
+        → Ticking on (set ns e (c .counter)) (set ms e (c .matched)) (e + 1)
     unfolding countersTicked marks
     ticking-turn more {c} is =
         record {
@@ -92,26 +92,26 @@ module _ (w : Bool) (ks os₀ ns₀ : List ℕ) where
                 add-one e,
                 take-suc-set ms e (c .matched) (omega (arith, so-far .long)),
                 append-assoc,
-                marks-counted w ks (maxEntries - suc e) (suc e) e (c .counter) os ns (omega arith),
+                marks-counted w ks (maxEntries - suc e) (suc e) e (c .counter) on ns (omega arith),
                 is,
               )
               (rw (next maxEntries e more, add-one e) at (so-far .matches));
         }
 
     -- a switch before e may change
-    pub ticking-switched : (i x : ℕ) → i < e → Ticking (set os i x) ns ms e
+    pub ticking-switched : (i x : ℕ) → i < e → Ticking (set on i x) ns ms e
     ticking-switched i x h =
         record {
           reached = so-far .reached;
           long = so-far .long;
-          counters = counters-switched w ks (maxEntries - e) e i x os ns h ∙ so-far .counters;
+          counters = counters-switched w ks (maxEntries - e) e i x on ns h ∙ so-far .counters;
           matches =
-              ap (λ (bs : List Bool). take e ms ++ bs) (marks-switched w ks (maxEntries - e) e i x os ns h)
+              ap (λ (bs : List Bool). take e ms ++ bs) (marks-switched w ks (maxEntries - e) e i x on ns h)
               ∙ so-far .matches;
         }
 
     pub ticking-end : maxEntries ≤ e
-        → (ms ≡ marks maxEntries 0 w ks os₀ ns₀) × (ns ≡ countersTicked maxEntries 0 w ks os₀ ns₀)
+        → (ms ≡ marks maxEntries 0 w ks on₀ ns₀) × (ns ≡ countersTicked maxEntries 0 w ks on₀ ns₀)
     unfolding countersTicked marks
     ticking-end h = (
       sym (take-all e ms (omega (arith, so-far .long))) ∙ sym (append-nil (take e ms))
@@ -145,14 +145,14 @@ module _ (w : ℕ) where
     groups-end e h x = rw (drop-of-length-le ms {i = e} h) (due-over (drop e rs) x)
 
 -- the switches of a tick, beside the counters; n is the counter of entry e after it
-module _ (u e : ℕ) (ks ns os : List ℕ) where
-  pub switches-turn : e < u → {x : ℕ} → x ≡ switchTicked ks ns os e → (n : ℕ)
-      → switchesTicked (u - (e + 1)) (e + 1) ks (set ns e n) (set os e x) ≡ switchesTicked (u - e) e ks ns os
+module _ (u e : ℕ) (ks ns on : List ℕ) where
+  pub switches-turn : e < u → {x : ℕ} → x ≡ switchTicked ks ns on e → (n : ℕ)
+      → switchesTicked (u - (e + 1)) (e + 1) ks (set ns e n) (set on e x) ≡ switchesTicked (u - e) e ks ns on
   unfolding switchesTicked
   switches-turn h {x} is n =
-      switches-counted ks (u - (e + 1)) (e + 1) e n (set os e x) ns (omega arith) ∙ rw (next u e h, is, add-one e)
+      switches-counted ks (u - (e + 1)) (e + 1) e n (set on e x) ns (omega arith) ∙ rw (next u e h, is, add-one e)
 
-  pub switches-end : u ≤ e → switchesTicked (u - e) e ks ns os ≡ os
+  pub switches-end : u ≤ e → switchesTicked (u - e) e ks ns on ≡ on
   unfolding switchesTicked
   switches-end h = rw (none u e h)
 

@@ -10,7 +10,6 @@ use mathlib.Core.Bool.{Bool, true, false, cond}
 use mathlib.Core.List.{List, [], _∷_}
 use native.Mathlib.Omega.{arith}
 use native.Mathlib.Nat.{add-zero, add-suc, mul-one}
-use native.Mathlib.Numerals.{add-one}
 use mir.Val.{boolByte}
 use lib.ListN.{length, getD, take, drop, length-drop, drop-of-length-le, List·getD-eq-default}
 use lib.Seq.{drop-cons, drop-drop, getD-drop, take-nil, length-take-le}
@@ -107,41 +106,6 @@ unfolding marksWord
 first [] some = absurd (omega arith)
 first (true ∷ bs) some = (0, first-now bs)
 first (false ∷ bs) some = let f = first bs (omega arith) in (suc (f .0), first-later bs (f .0) (f .1))
-
--- matches taken one by one
-due-skipped : (w : ℕ) (bs : List Bool) (rs : List ℕ) (x : Tally)
-    → requestsDue w bs (drop 1 rs) x ≡ requestsDue w (false ∷ bs) rs x
-unfolding requestsDue
-due-skipped w bs [] x = due-none w bs x
-due-skipped w bs (r ∷ rs) x = refl
-
-module _ (w : ℕ) (ms : List Bool) (rs : List ℕ) (e : ℕ) (inside : e < length ms) (x : Tally) where
-  here : {b : Bool} → getD ms e false ≡ b → drop e ms ≡ b ∷ drop (suc e) ms
-  here h = drop-cons ms e false inside ∙ ap (λ (b : Bool). b ∷ drop (suc e) ms) h
-
-  one-on : (y : Tally) → requestsDue w (drop (e + 1) ms) (drop (e + 1) rs) y
-      ≡ requestsDue w (drop (suc e) ms) (drop 1 (drop e rs)) y
-  one-on y =
-      ap₂ (λ (bs : List Bool) (qs : List ℕ). requestsDue w bs qs y) (ap (λ (n : ℕ). drop n ms) (add-one e))
-      (sym (drop-drop 1 e rs))
-
-  pub each-taken : getD ms e false ≡ true → {r : ℕ} → r ≡ getD rs e noRank → {y : Tally} → y ≡ matchAt w r x
-      → requestsDue w (drop (e + 1) ms) (drop (e + 1) rs) y ≡ requestsDue w (drop e ms) (drop e rs) x
-  each-taken h rank {y} is =
-      one-on y
-      ∙ ap (requestsDue w (drop (suc e) ms) (drop 1 (drop e rs))) (is
-      ∙ ap (λ (q : ℕ). matchAt w q x) (rank ∙ sym first-rank))
-      ∙ sym (due-marked w (drop (suc e) ms) (drop e rs) x)
-      ∙ ap (λ (bs : List Bool). requestsDue w bs (drop e rs) x) (sym (here h))
-    where
-      first-rank : getD (drop e rs) 0 noRank ≡ getD rs e noRank
-      first-rank = getD-drop e rs 0 noRank ∙ ap (λ (n : ℕ). getD rs n noRank) (add-zero e)
-
-  pub each-left : getD ms e false ≡ false
-      → requestsDue w (drop (e + 1) ms) (drop (e + 1) rs) x ≡ requestsDue w (drop e ms) (drop e rs) x
-  each-left h =
-      one-on x ∙ due-skipped w (drop (suc e) ms) (drop e rs) x
-      ∙ ap (λ (bs : List Bool). requestsDue w bs (drop e rs) x) (sym (here h))
 
 past : (e i : ℕ) → e + i + 1 ≡ e + suc i
 past e i = omega arith

@@ -135,7 +135,7 @@ pub record Playing (c : Config) (p : Plan) (ts d : List ℕ) (m₀ : Model) (at 
       ≡ answerBytes (machineSeen c p m₀ (callsFrom ts 0))
   pub last : machineAfter c p m (callsFrom ts at) ≡ machineAfter c p m₀ (callsFrom ts 0)
 
-module _ (c : Config) (p : Plan) (ts d : List ℕ) (m₀ : Model) where
+module _ {c : Config} {p : Plan} {ts d : List ℕ} {m₀ : Model} where
   playing-start : Fitted c p (rankOf c) → readTrace ts .refusal ≡ none → 4 * length (readTrace ts .events) ≤ length d
       → Playing c p ts d m₀ 0 0 m₀ d
   playing-start fit readable room =
@@ -155,7 +155,7 @@ module _ (c : Config) (p : Plan) (ts d : List ℕ) (m₀ : Model) where
       let fit : Fitted c p (rankOf c) = rw (given .planned) (fitted c (given .accepted) (given .shaped)) in
       playing-start fit (given .readable) (given .room)
 
-  module _ (at to : ℕ) (m : Model) (out : List ℕ) (g : Playing c p ts d m₀ at to m out) where
+  module _ {at to : ℕ} {m : Model} {out : List ℕ} (g : Playing c p ts d m₀ at to m out) where
     pub length-out : length out ≡ length d
     length-out = ap length (g .output) ∙ length-laid 0 (g .bytes) d (omega (arith, g .long, g .room))
 
@@ -173,7 +173,7 @@ module _ (c : Config) (p : Plan) (ts d : List ℕ) (m₀ : Model) where
         )
 
     -- the event at the place
-    module _ (inside : at < length ts) (r : EventRead) (read : r ≡ readEvent ts at) where
+    module _ (inside : at < length ts) {r : EventRead} (read : r ≡ readEvent ts at) where
       fine : readEvent ts at .refusal ≡ none
       fine =
           by-eq (readEvent ts at .refusal) none

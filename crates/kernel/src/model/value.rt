@@ -1,4 +1,5 @@
-// The model by value, one method for each event: the next model with its answer.
+// The model by value, one method for each event: the next model with its answer. An array goes from the model to the
+// next by a variable: the prover covers no field that is passed straight.
 ghost use mathlib.Core.Path.{_≡_};
 ghost use mathlib.Core.Bool.{true, false};
 ghost use Rattle.machine.specs.Events.{activate, finish, chain, get, release, tick, line, start, stop, wait, setEvent, clear};
@@ -102,7 +103,8 @@ impl Model {
     ) -> Outcome
         requires { ⌜ self .registers .turning ≡ false ⌝ }
         ensures { λ r. ⌜ r
-            ≡ outcomeOf (tick (now (compare .entry)) (now («entry_rank» .entry)) (now (priority .entry)) (view self)) ⌝ }
+            ≡ outcomeOf
+            (tick (now (compare .entry)) (now («entry_rank» .entry)) (now (priority .entry)) (view self)) ⌝ }
     {
         let on = self.on;
         let mut counter = self.counter;
@@ -131,7 +133,8 @@ impl Model {
     ) -> Outcome
         requires { ⌜ self .registers .turning ≡ true ⌝ }
         ensures { λ r. ⌜ r
-            ≡ outcomeOf (tick (now (compare .entry)) (now («entry_rank» .entry)) (now (priority .entry)) (view self)) ⌝ }
+            ≡ outcomeOf
+            (tick (now (compare .entry)) (now («entry_rank» .entry)) (now (priority .entry)) (view self)) ⌝ }
     {
         let mut on = self.on;
         let mut counter = self.counter;
@@ -247,7 +250,8 @@ impl Model {
         mask: u32,
     ) -> Outcome
         ensures { λ r. ⌜ r
-            ≡ outcomeOf (setEvent isrs extended (now («body_rank» .entry)) (now (priority .entry)) (view self) t mask) ⌝ }
+            ≡ outcomeOf
+            (setEvent isrs extended (now («body_rank» .entry)) (now (priority .entry)) (view self) t mask) ⌝ }
     {
         let waited = self.waited;
         let mut bits = self.bits;

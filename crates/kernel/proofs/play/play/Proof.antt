@@ -27,8 +27,7 @@ abbrev μ-loop : tie.MeasureT-loop
 
 loop-holds : tie.Need-loop-holds Inv-loop μ-loop
 loop-holds c =
-    let a = c .before .before .args in
-    playable-start (a .t1) (a .t2) (a .trace .now) (a .out .now) (view (a .fresh)) (c .before .before .pre)
+    playable-start (c .before .before .pre)
 
 tick-turning-requires : tie.Need-tick-turning-requires Inv-loop μ-loop
 tick-turning-requires c κs = c .before .before .before .before .if1 .taken
@@ -51,33 +50,22 @@ room : (r : tie.After-read-event Inv-loop μ-loop)
     → r .before .before .loop .to + 4 ≤ length (r .before .before .loop .out)
 room r =
     let k = r .before .before in
-    let a = k .before .before .before .args in
-    playing-room (a .t1) (a .t2) (a .trace .now) (a .out .now) (view (a .fresh)) (k .loop .at) (k .loop .to)
-    (view (k .loop .o .model)) (k .loop .out) (k .loop .inv) (r .before .loop-test .taken) (r .read-event .result)
-    (r .read-event .ensures)
+    playing-room (k .loop .inv) (r .before .loop-test .taken) (r .read-event .ensures)
 
 later : (r : tie.After-read-event Inv-loop μ-loop) → r .before .before .loop .at < r .read-event .result .place
 later r =
     let k = r .before .before in
-    let a = k .before .before .before .args in
-    playing-later (a .t1) (a .t2) (a .trace .now) (a .out .now) (view (a .fresh)) (k .loop .at) (k .loop .to)
-    (view (k .loop .o .model)) (k .loop .out) (k .loop .inv) (r .before .loop-test .taken) (r .read-event .result)
-    (r .read-event .ensures)
+    playing-later (k .loop .inv) (r .before .loop-test .taken) (r .read-event .ensures)
 
 known : (r : tie.After-read-event Inv-loop μ-loop)
     → (1 ≤ r .read-event .result .event .code) × (r .read-event .result .event .code ≤ lastCode)
 known r =
     let k = r .before .before in
-    let a = k .before .before .before .args in
-    playing-known (a .t1) (a .t2) (a .trace .now) (a .out .now) (view (a .fresh)) (k .loop .at) (k .loop .to)
-    (view (k .loop .o .model)) (k .loop .out) (k .loop .inv) (r .before .loop-test .taken) (r .read-event .result)
-    (r .read-event .ensures)
+    playing-known (k .loop .inv) (r .before .loop-test .taken) (r .read-event .ensures)
 
 long : (k : tie.At-loop Inv-loop μ-loop) → length (k .loop .out) ≡ length (k .before .before .before .args .out .now)
 long k =
-    let a = k .before .before .before .args in
-    length-out (a .t1) (a .t2) (a .trace .now) (a .out .now) (view (a .fresh)) (k .loop .at) (k .loop .to)
-    (view (k .loop .o .model)) (k .loop .out) (k .loop .inv)
+    length-out (k .loop .inv)
 
 -- what the arms leave is the step of the event that was read
 stepped : (j : tie.At-match-came Inv-loop μ-loop)
@@ -145,10 +133,7 @@ loop-again c =
     let j = p .before .before .before .before .before in
     let r = j .before .before in
     let k = r .before .before in
-    let a = k .before .before .before .args in
-    playing-turn (a .t1) (a .t2) (a .trace .now) (a .out .now) (view (a .fresh)) (k .loop .at) (k .loop .to)
-    (view (k .loop .o .model)) (k .loop .out) (k .loop .inv) (r .before .loop-test .taken) (r .read-event .result)
-    (r .read-event .ensures)
+    playing-turn (k .loop .inv) (r .before .loop-test .taken) (r .read-event .ensures)
     (viewOutcome (j .match .o)) (stepped j) _
     (p .put-answer .ensures
     ∙ ap (λ (n : ℕ). laid (k .loop .to)
@@ -161,9 +146,7 @@ same-length c = long (c .before .before)
 returns : tie.Need-returns Inv-loop μ-loop
 returns c =
     let k = c .before .before in
-    let a = k .before .before .before .args in
-    let e = playing-end (a .t1) (a .t2) (a .trace .now) (a .out .now) (view (a .fresh)) (k .loop .at) (k .loop .to)
-    (view (k .loop .o .model)) (k .loop .out) (k .loop .inv) (c .before .loop-test .left) in
+    let e = playing-end (k .loop .inv) (c .before .loop-test .left) in
     (ap modelOf (e .0), e .1)
 
 pub play-spec : {M : Type 1} → statement M
