@@ -64,6 +64,9 @@ pub struct Picked {
 
 // What the machine keeps between events beside its arrays: words and rows that shift, all flat, so that they stay in
 // registers. Its methods do the work of an event; one that reads or changes an array is lent it.
+//
+// Fields of one width stand together, so that one byte at most lies unused between them: more of them the compiler
+// would copy by way of memory at every event, and then no longer see which arrays the event leaves alone.
 pub struct Registers {
     // The ranks that wait to begin, those that began and go on by their priority, and those that began and do not:
     // extended tasks that wait for an event bit, and time-triggered tasks. Each as a word.
@@ -72,16 +75,16 @@ pub struct Registers {
     pub aside: u32,
     // The held resources, as a word.
     pub held: u32,
+    // The ranks whose event bits count as 0, as a word.
+    pub cleared: u32,
     pub runner: u8,
     pub level: u8,
+    // Whether any cell has a turn of its counter to pass.
+    pub turning: bool,
     // The held resources in the order taken, each with its holder's rank and the level after its Get.
     pub resource: Row,
     pub holder: Row,
     pub raised: Row,
-    // Whether any cell has a turn of its counter to pass.
-    pub turning: bool,
-    // The ranks whose event bits count as 0, as a word.
-    pub cleared: u32,
     // The ranks of the time-triggered tasks that were started and have not ended, the latest on top.
     pub triggered: Row,
 }

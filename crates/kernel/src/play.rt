@@ -60,12 +60,7 @@ pub fn play<'a, 'b>(
                 o = o.model.release(config.resources, &plan.priority, e.first);
             }
             6 => {
-                let m = o.model;
-                if m.registers.turning {
-                    o = m.tick_turning(&plan.compare, &plan.entry, &plan.priority);
-                } else {
-                    o = m.tick(&plan.compare, &plan.entry, &plan.priority);
-                }
+                o = o.model.tick(&plan.compare, &plan.entry, &plan.priority);
             }
             7 => {
                 let counts = counts_lines(config.version);

@@ -1,7 +1,7 @@
 -- The events of tables, case by case in the order of their checks, as the code goes through them.
 use Prim.Native.Nat.{ℕ, zero, suc, _+_, _≤_, _<_}
 use mathlib.Core.Path.{_≡_, refl, sym, ap, _∙_}
-use mathlib.Core.Bool.{Bool, true, false, _||_}
+use mathlib.Core.Bool.{Bool, true, false, _&&_, _||_}
 use mathlib.Core.List.{List}
 use lib.Dec.{ltb, eqb}
 use lib.ListN.{length, getD}
@@ -12,8 +12,8 @@ use Rattle.scheduler.specs.Status.{callLevel, noSuch, badDelay, wrongState, noF
 use Rattle.scheduler.specs.Call.{longestDelay}
 use Rattle.machine.specs.Model.{Model, withCore, withRequest, withRest, withCells, doneWith, refusedWith}
 use Rattle.machine.specs.Arbiter.{triggering}
-use Rattle.machine.specs.Cells.{isOn, countersTicked, switchesTicked, someTurn, marks, countersStarted, switchesStarted, someLong, countersStopped, switchesStopped, Tally, requestsDue}
-use Rattle.machine.specs.Events.{noCaller, begunWord, tick, start, stop}
+use Rattle.machine.specs.Cells.{isOn, countersTicked, someTurn, marks, countersStarted, switchesStarted, someLong, countersStopped, switchesStopped, Tally, requestsDue}
+use Rattle.machine.specs.Events.{noCaller, begunWord, marksOf, switchesOf, tick, start, stop}
 use Rattle.kernel.specs.Methods.{tallyWith, RowsHold}
 use Rattle.kernel.specs.View.{core}
 
@@ -22,26 +22,16 @@ unfolding marks
 length-marks zero e w ks os ns = refl
 length-marks (suc k) e w ks os ns = ap suc (length-marks k (suc e) w ks os ns)
 
--- Tick, up to arbitration. v has who has begun, ms are the match marks, ns, ws and z the cells after it, q and ls the
--- requests and losses.
+-- Tick, up to arbitration. v has who has begun, ms are the match marks, q and ls the requests and losses, ns, ws and z
+-- the cells after it.
 module _ (ks rs ps : List ℕ) (m : Model) {v : ℕ} (begun : v ≡ begunWord m) {ms : List Bool} {q : ℕ} {ls : List ℕ}
-    (due : tallyWith q ls ≡ requestsDue v ms rs (tallyWith (m .core .request) (m .losses))) {ns : List ℕ} where
-  -- where no cell has a turn to pass
-  pub tick-still : m .turning ≡ false → ms ≡ marks maxEntries 0 false ks (m .on) (m .counter)
-      → ns ≡ countersTicked maxEntries 0 false ks (m .on) (m .counter)
-      → triggering ps (withCore (withRest m ns (m .on) (m .turning) ls) (withRequest (m .core) q)) ≡ tick ks rs ps m
-  unfolding tick
-  tick-still still marked counted =
-      rw (counted, ap (λ (x : Tally). x .request) due, ap (λ (x : Tally). x .losses) due, marked, begun, still)
-
-  -- where a cell may have one
-  pub tick-turned : m .turning ≡ true → ms ≡ marks maxEntries 0 true ks (m .on) (m .counter)
-      → ns ≡ countersTicked maxEntries 0 true ks (m .on) (m .counter)
-      → {ws : List ℕ} → ws ≡ switchesTicked maxEntries 0 ks (m .counter) (m .on) → {z : Bool}
-      → z ≡ someTurn maxEntries 0 ws
+    (due : tallyWith q ls ≡ requestsDue v ms rs (tallyWith (m .core .request) (m .losses))) where
+  pub tick-done : ms ≡ marksOf maxEntries ks m
+      → {ns : List ℕ} → ns ≡ countersTicked maxEntries 0 (m .turning) ks (m .on) (m .counter)
+      → {ws : List ℕ} → ws ≡ switchesOf ks m → {z : Bool} → z ≡ m .turning && someTurn maxEntries 0 ws
       → triggering ps (withCore (withRest m ns ws z ls) (withRequest (m .core) q)) ≡ tick ks rs ps m
   unfolding tick
-  tick-turned turning marked counted switches turns =
+  tick-done marked counted switches turns =
       rw (
         counted,
         turns,
@@ -50,7 +40,6 @@ module _ (ks rs ps : List ℕ) (m : Model) {v : ℕ} (begun : v ≡ begunWord m)
         ap (λ (x : Tally). x .losses) due,
         marked,
         begun,
-        turning,
       )
 
 -- a delay that is not refused

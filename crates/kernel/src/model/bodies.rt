@@ -15,7 +15,7 @@ use super::NO_RANK;
 use super::NO_SUCH;
 use super::Registers;
 use super::Step;
-use super::cells::lose_where;
+use super::cells::lose;
 use super::lookup::byte_at;
 use word::has;
 use word::union;
@@ -103,7 +103,9 @@ impl Registers {
             return self.with_status(NO_SUCH);
         }
         if has(self.request, rank as u32) {
-            lose_where(counts, losses, rank as usize);
+            if counts {
+                lose(losses, rank);
+            }
             return self.with_status(LIMIT);
         }
         self.settled(with(self.request, rank as u32), priority)

@@ -1,9 +1,9 @@
 // The cells of the entries, as parallel arrays: what a tick, a start and a stop make of them.
 ghost use mathlib.Core.Path.{_≡_};
 ghost use mathlib.Core.Bool.{true, false, cond, _||_};
-ghost use Prim.Native.Nat.{_+_, _≤_};
+ghost use Prim.Native.Nat.{_+_, _≤_, _<_};
 ghost use lib.ListN.{length, take, drop};
-ghost use Rattle.config.specs.Value.{maxEntries};
+ghost use Rattle.config.specs.Value.{maxBodies, maxEntries};
 ghost use Rattle.machine.specs.Cells.{countersTicked, switchFor, switchesTicked, someTurn, marks, countersStarted, switchesStarted, spread, someLong, oneMore, oneLost, matchAt, requestsDue};
 ghost use Rattle.kernel.specs.Methods.{tallyWith, group, marksWord};
 use super::NO_RANK;
@@ -14,6 +14,9 @@ use word::with;
 
 // One cell for each entry that there may be.
 const CELLS: usize = 64;
+
+// One loss count for each body that there may be.
+const BODIES: usize = 32;
 
 // The switch of a cell (its enable): a number as wide as a counter, so that the compiler ticks several cells at once.
 pub const OFF: u16 = 0;
@@ -26,8 +29,29 @@ const TURN: u16 = 2;
 // How many match marks are looked at in one go.
 const GROUP: usize = 8;
 
-// Ticks every cell where none has a turn to pass, and gives their match marks: the switches stay.
-pub fn tick_counters<'a, 'b>(
+// Ticks every cell, and gives their match marks; `turning`: whether any cell has a turn to pass.
+pub fn tick_cells<'a, 'b, 'c>(
+    turning: bool,
+    compare: &'a [u16; 64],
+    counter: &'b mut [u16; 64],
+    on: &'c mut [u16; 64],
+) -> [bool; 64]
+    ensures { λ r. ⌜ r
+        ≡ marks maxEntries 0 turning (now (compare .entry)) (now (on .entry)) (now (counter .entry)) ⌝ }
+    ensures { λ _. ⌜ now (counter .exit)
+        ≡ countersTicked maxEntries 0 turning (now (compare .entry)) (now (on .entry)) (now (counter .entry)) ⌝ }
+    ensures { λ _. ⌜ now (on .exit)
+        ≡ cond turning (switchesTicked maxEntries 0 (now (compare .entry)) (now (counter .entry)) (now (on .entry)))
+        (now (on .entry)) ⌝ }
+{
+    if turning {
+        return tick_turns(compare, counter, on);
+    }
+    tick_counters(compare, on, counter)
+}
+
+// Where none has a turn to pass, the switches stay.
+fn tick_counters<'a, 'b>(
     compare: &'a [u16; 64],
     on: &'a [u16; 64],
     counter: &'b mut [u16; 64],
@@ -47,8 +71,8 @@ pub fn tick_counters<'a, 'b>(
     matched
 }
 
-// The same where one may: a turn may pass.
-pub fn tick_turns<'a, 'b, 'c>(
+// Where one has, it may pass.
+fn tick_turns<'a, 'b, 'c>(
     compare: &'a [u16; 64],
     counter: &'b mut [u16; 64],
     on: &'c mut [u16; 64],
@@ -88,8 +112,9 @@ pub fn some_turn(on: &[u16; 64]) -> bool
     let mut found = false;
     let mut e = 0;
     while e < CELLS {
-        let switch = on[e];
-        found = found || switch == TURN;
+        if on[e] == TURN {
+            found = true;
+        }
         e += 1;
     }
     found
@@ -166,41 +191,32 @@ fn take_match(rank: u8, begun: u32, request: u32, losses: &mut [u16; 32]) -> u32
     ensures { λ r. ⌜ tallyWith r (now (losses .exit)) ≡ matchAt begun rank (tallyWith request (now (losses .entry))) ⌝ }
 {
     if busy(request, begun, rank) {
-        lose(losses, rank as usize);
+        lose(losses, rank);
         return request;
     }
     with(request, rank as u32)
 }
 
-// One more is lost at this rank, where the test holds.
-pub fn lose_where(test: bool, losses: &mut [u16], i: usize)
-    ensures { λ _. ⌜ now (losses .exit) ≡ cond test (oneLost i (now (losses .entry))) (now (losses .entry)) ⌝ }
+// One more is lost at this rank. A row that is read whole after a write to one place makes the processor wait, so every
+// place is written; `below` is how far the rank is above place i, as wide as a count, so that eight are tested at once.
+pub fn lose(losses: &mut [u16; 32], rank: u8)
+    requires { ⌜ rank < maxBodies ⌝ }
+    ensures { λ _. ⌜ now (losses .exit) ≡ oneLost rank (now (losses .entry)) ⌝ }
 {
-    if i < losses.len() {
-        losses[i] = one_more_where(test, losses[i]);
-    }
-}
-
-fn one_more_where(test: bool, n: u16) -> u16
-    ensures { λ r. ⌜ r ≡ cond test (oneMore n) n ⌝ }
-{
-    if test { one_more(n) } else { n }
-}
-
-// One more is lost at this rank.
-fn lose(losses: &mut [u16], i: usize)
-    ensures { λ _. ⌜ now (losses .exit) ≡ oneLost i (now (losses .entry)) ⌝ }
-{
-    if i < losses.len() {
-        losses[i] = one_more(losses[i]);
+    let mut below = rank as u16;
+    let mut i = 0;
+    while i < BODIES {
+        losses[i] = one_more_where(below == 0, losses[i]);
+        below = std::num::wrapping_sub_u16(below, 1);
+        i += 1;
     }
 }
 
 // A loss count stays at 65,535 once there.
-fn one_more(n: u16) -> u16
-    ensures { λ r. ⌜ r ≡ oneMore n ⌝ }
+fn one_more_where(test: bool, n: u16) -> u16
+    ensures { λ r. ⌜ r ≡ cond test (oneMore n) n ⌝ }
 {
-    if n < u16::MAX { n + 1 } else { u16::MAX }
+    if test && n < u16::MAX { n + 1 } else { n }
 }
 
 // Starts `count` cells, and says whether any cell has a turn to pass then; `turning`: whether one had before.

@@ -1,7 +1,6 @@
 // The model by value, one method for each event: the next model with its answer. An array goes from the model to the
 // next by a variable: the prover covers no field that is passed straight.
 ghost use mathlib.Core.Path.{_≡_};
-ghost use mathlib.Core.Bool.{true, false};
 ghost use Rattle.machine.specs.Events.{activate, finish, chain, get, release, tick, line, start, stop, wait, setEvent, clear};
 ghost use Rattle.kernel.specs.Methods.{RowsHold};
 ghost use Rattle.kernel.specs.View.{arrays, view, viewStep, outcomeOf};
@@ -10,8 +9,7 @@ use super::Outcome;
 use super::Step;
 use super::cells::some_turn;
 use super::cells::take_matches;
-use super::cells::tick_counters;
-use super::cells::tick_turns;
+use super::cells::tick_cells;
 use word::union;
 
 impl Model {
@@ -94,62 +92,25 @@ impl Model {
         outcome(step, counter, on, losses, bits, waited)
     }
 
-    // A tick where no cell has a turn to pass: the switches stay.
     pub fn tick<'a>(
         self,
         compare: &'a [u16; 64],
         entry_rank: &'a [u8; 64],
         priority: &'a [u8; 32],
     ) -> Outcome
-        requires { ⌜ self .registers .turning ≡ false ⌝ }
         ensures { λ r. ⌜ r
             ≡ outcomeOf
             (tick (now (compare .entry)) (now («entry_rank» .entry)) (now (priority .entry)) (view self)) ⌝ }
     {
-        let on = self.on;
-        let mut counter = self.counter;
-        let mut losses = self.losses;
-        let matched = tick_counters(compare, &on, &mut counter);
-        let begun = union(self.registers.started, self.registers.aside);
-        let request = take_matches(
-            &matched,
-            entry_rank,
-            begun,
-            self.registers.request,
-            &mut losses,
-        );
-        let step = self.registers.triggering(request, priority);
-        let bits = self.bits;
-        let waited = self.waited;
-        outcome(step, counter, on, losses, bits, waited)
-    }
-
-    // A tick where a cell may have one.
-    pub fn tick_turning<'a>(
-        self,
-        compare: &'a [u16; 64],
-        entry_rank: &'a [u8; 64],
-        priority: &'a [u8; 32],
-    ) -> Outcome
-        requires { ⌜ self .registers .turning ≡ true ⌝ }
-        ensures { λ r. ⌜ r
-            ≡ outcomeOf
-            (tick (now (compare .entry)) (now («entry_rank» .entry)) (now (priority .entry)) (view self)) ⌝ }
-    {
-        let mut on = self.on;
-        let mut counter = self.counter;
-        let mut losses = self.losses;
-        let matched = tick_turns(compare, &mut counter, &mut on);
-        let begun = union(self.registers.started, self.registers.aside);
-        let request = take_matches(
-            &matched,
-            entry_rank,
-            begun,
-            self.registers.request,
-            &mut losses,
-        );
         let mut registers = self.registers;
-        registers.turning = some_turn(&on);
+        let turning = registers.turning;
+        let mut counter = self.counter;
+        let mut on = self.on;
+        let mut losses = self.losses;
+        let matched = tick_cells(turning, compare, &mut counter, &mut on);
+        let begun = union(registers.started, registers.aside);
+        let request = take_matches(&matched, entry_rank, begun, registers.request, &mut losses);
+        registers.turning = turning && some_turn(&on);
         let step = registers.triggering(request, priority);
         let bits = self.bits;
         let waited = self.waited;

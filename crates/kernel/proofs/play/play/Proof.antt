@@ -29,12 +29,6 @@ loop-holds : tie.Need-loop-holds Inv-loop μ-loop
 loop-holds c =
     playable-start (c .before .before .pre)
 
-tick-turning-requires : tie.Need-tick-turning-requires Inv-loop μ-loop
-tick-turning-requires c κs = c .before .before .before .before .if1 .taken
-
-tick-requires : tie.Need-tick-requires Inv-loop μ-loop
-tick-requires c κs = c .before .before .before .before .if1 .left
-
 start-requires : tie.Need-start-requires Inv-loop μ-loop
 start-requires c κs = let k = c .before .before .before .before .before .before .before .before .before .before in
     let a = k .before .before .before .args in
@@ -87,10 +81,8 @@ stepped j =
     (λ z4.
     ⊎-elim (λ w. ap viewOutcome (w .4 ∙ w .3 .ensures) ∙ sym (step-5 (a .t1) (a .t2) m e (w .0 .keys5)))
     (λ z5.
-    ⊎-elim (λ w. ap viewOutcome (w .8 ∙ w .7 .ensures) ∙ sym (step-6 (a .t1) (a .t2) m e (w .0 .keys6)))
+    ⊎-elim (λ w. ap viewOutcome (w .6 ∙ w .5 .ensures) ∙ sym (step-6 (a .t1) (a .t2) m e (w .0 .keys6)))
     (λ z6.
-    ⊎-elim (λ w. ap viewOutcome (w .8 ∙ w .7 .ensures) ∙ sym (step-6 (a .t1) (a .t2) m e (w .0 .keys6)))
-    (λ y6.
     ⊎-elim (λ w. ap viewOutcome (w .6 ∙ w .5 .ensures ∙ rw (w .1 .ensures))
     ∙ sym (step-7 (a .t1) (a .t2) m e (w .0 .keys7)))
     (λ z7.
@@ -113,7 +105,7 @@ stepped j =
     (λ h. w .0 .rest .0 .0 .0 .0 .0 .0 .0 .0 .1 h) (λ h. w .0 .rest .0 .0 .0 .0 .0 .0 .0 .1 h)
     (λ h. w .0 .rest .0 .0 .0 .0 .0 .0 .1 h) (λ h. w .0 .rest .0 .0 .0 .0 .0 .1 h) (λ h. w .0 .rest .0 .0 .0 .0 .1 h)
     (λ h. w .0 .rest .0 .0 .0 .1 h) (λ h. w .0 .rest .0 .0 .1 h) (λ h. w .0 .rest .0 .1 h))) z12) z11) z10) z9) z8)
-    z7) y6) z6) z5) z4) z3) z2) z1) (j .match .came)
+    z7) z6) z5) z4) z3) z2) z1) (j .match .came)
 
 put-answer-requires : tie.Need-put-answer-requires Inv-loop μ-loop
 put-answer-requires c κs = room (c .before .before .before .before .before .before)
@@ -154,5 +146,5 @@ play-spec =
     tie.close
     (tie.spec
     Inv-loop μ-loop loop-holds (λ c κs. tt) (λ c κs. tt) (λ c κs. tt) (λ c κs. tt) (λ c κs. tt) (λ c κs. tt)
-    tick-turning-requires tick-requires (λ c κs. tt) (λ c κs. tt) start-requires stop-requires (λ c κs. tt)
+    (λ c κs. tt) (λ c κs. tt) (λ c κs. tt) start-requires stop-requires (λ c κs. tt)
     (λ c κs. tt) (λ c κs. tt) (λ c κs. tt) put-answer-requires add-to loop-less loop-again same-length returns)

@@ -1,5 +1,7 @@
 -- `line` meets its contract, case by case in the order of its checks.
-use mathlib.Core.Path.{_∙_}
+use mathlib.Core.Logic.{⊎-elim}
+use mathlib.Core.Path.{sym, _∙_}
+use Rattle.word.proofs.Theorems.{has-lt}
 use Rattle.kernel.specs.View.{putLosses, viewWith}
 use Rattle.kernel.proofs.Methods.Events.{line-none, line-waits, line-done}
 use borrow.Author.Needs.{needs}
@@ -14,14 +16,20 @@ returns c =
     (a .i)
     (c₂ .byte-at .ensures) (c₁ .if1 .taken)
 
+lose-requires : tie.Need-lose-requires
+lose-requires c κs =
+    let c₁ = c .before .before in let c₂ = c₁ .before in
+    has-lt _ _ (sym (c₂ .has .ensures) ∙ c₁ .if2 .taken)
+
 returns-2 : tie.Need-returns-2
 returns-2 c =
-    let c₁ = c .before in let c₂ = c₁ .before .before in let c₃ = c₂ .before in let c₄ = c₃ .before in
+    let c₁ = c .before in let c₂ = c₁ .before in let c₃ = c₂ .before in let c₄ = c₃ .before in
     let c₅ = c₄ .before in let c₆ = c₅ .before .before in let a = c₆ .args in
     λ x. c .with-status2 .ensures _
     ∙ line-waits (a .counts) (a .line-rank .now) (a .priority .now) (viewWith (a .self) (putLosses (a .losses .now) x))
     (a .i)
-    (c₅ .byte-at .ensures) (c₄ .if1 .left) (c₃ .has .ensures) (c₂ .if2 .taken) (c₁ .lose-where .ensures)
+    (c₅ .byte-at .ensures) (c₄ .if1 .left) (c₃ .has .ensures) (c₂ .if2 .taken)
+    (⊎-elim (λ w. rw (w .0 .taken) (w .3 ∙ w .2 .ensures)) (λ w. rw (w .0 .left) (w .1)) (c₁ .if3 .came))
 
 returns-3 : tie.Need-returns-3
 returns-3 c =
@@ -37,5 +45,5 @@ line-spec =
     tie.close
     (tie.spec
     (λ c κs. search needs) (λ c κs. search needs) returns (λ c. search needs) (λ c κs. search needs)
-    (λ c. search needs) (λ c κs. search needs) (λ c κs. search needs) returns-2 (λ c. search needs)
-    (λ c κs. search needs) (λ c κs. search needs) returns-3)
+    lose-requires (λ c κs. search needs) returns-2 (λ c. search needs) (λ c κs. search needs)
+    (λ c κs. search needs) returns-3)

@@ -1,20 +1,37 @@
--- `lose` meets its contract: past the row's end a store changes nothing.
-use mathlib.Core.Path.{sym}
-use lib.Seq.{set-out}
-use Rattle.machine.specs.Cells.{oneMore}
+-- `lose` meets its contract: the invariant is `Losing`.
+use Prim.Native.Nat.{_-_}
+use native.Mathlib.Omega.{arith}
+use Rattle.config.specs.Value.{maxBodies}
+use Rattle.kernel.proofs.Methods.Losses.{Losing, losing-start, losing-turn, losing-end}
 use borrow.Author.Needs.{needs}
 use Rattle.kernel.proofs.model.cells.lose.Statement.{statement}
 use Rattle.kernel.proofs.model.cells.lose.Tie as tie
 
-returns : tie.Need-returns
-returns c = rw (c .one-more .ensures)
+abbrev Inv-loop : tie.InvT-loop
+Inv-loop losses₀ rank below₀ i₀ losses below i = Losing rank losses₀ losses below i
 
-returns-2 : tie.Need-returns-2
-returns-2 c = let a = c .before .before .args in sym (set-out (a .losses .now) (a .i) (oneMore _) (c .if1 .left))
+abbrev μ-loop : tie.MeasureT-loop
+μ-loop losses₀ rank below₀ i₀ losses below i = maxBodies - i
+
+loop-holds : tie.Need-loop-holds Inv-loop μ-loop
+loop-holds c = let a = c .args in losing-start (a .rank) (a .losses .now) (omega arith)
+
+loop-again : tie.Need-loop-again Inv-loop μ-loop
+loop-again c =
+    let c₁ = c .before in let c₂ = c₁ .before .before in let c₃ = c₂ .before in
+    let a = c₃ .before .args in let l = c₃ .loop in
+    losing-turn (a .rank) (a .losses .now) (l .losses) (l .below) (l .i) (l .inv) (c₂ .loop-test .taken) (search needs)
+    (c₁ .one-more-where .ensures) (c .wrapping-sub-u16 .ensures)
+
+returns : tie.Need-returns Inv-loop μ-loop
+returns c =
+    let a = c .before .before .args in let l = c .before .loop in
+    losing-end (a .rank) (a .losses .now) (l .losses) (l .below) (l .i) (l .inv) (c .loop-test .left)
+    (c .before .before .pre)
 
 pub lose-spec : {M : Type 1} → statement M
 lose-spec =
     tie.close
     (tie.spec
-    (λ c. search needs) (λ c. search needs) (λ c κs. search needs) (λ c. search needs) (λ c. search needs)
-    (λ c. search needs) returns returns-2)
+    Inv-loop μ-loop loop-holds (λ c. omega arith) (λ c. omega arith) (λ c κs. search needs) (λ c. omega arith)
+    (λ c. omega arith) (λ c κs. search needs) (λ c. omega arith) (λ c. omega arith) loop-again returns)

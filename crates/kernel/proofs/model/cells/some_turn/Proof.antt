@@ -1,12 +1,13 @@
 -- `some_turn` meets its contract: what was found before entry e, or will be from there on, is what there is.
 use Prim.Native.Nat.{_-_, _≤_}
-use mathlib.Core.Bool.{_||_}
+use mathlib.Core.Bool.{Bool, _||_, or-true, or-false}
 use mathlib.Core.Logic.{⊎-elim}
-use mathlib.Core.Path.{_≡_, refl, sym, _∙_}
+use mathlib.Core.Path.{_≡_, refl, sym, ap, _∙_}
 use native.Mathlib.Omega.{arith}
 use lib.ListN.{getD}
+use borrow.Author.Tests.{eq-eqb, ne-eqb}
 use Rattle.config.specs.Value.{maxEntries}
-use Rattle.machine.specs.Cells.{hasTurn, someTurn}
+use Rattle.machine.specs.Cells.{switchTurn, hasTurn, someTurn}
 use Rattle.kernel.proofs.Methods.Cells.{some-turn, some-end}
 use Rattle.kernel.proofs.model.cells.some_turn.Statement.{statement}
 use Rattle.kernel.proofs.model.cells.some_turn.Tie as tie
@@ -23,11 +24,15 @@ loop-holds c = (omega arith, refl)
 loop-again : tie.Need-loop-again Inv-loop μ-loop
 loop-again c =
     let c₁ = c .before .before in let c₂ = c₁ .before in
-    let a = c₂ .before .args in let l = c₂ .loop in (
+    let a = c₂ .before .args in let l = c₂ .loop in
+    let x = getD (a .on .now) (l .e) 0 in (
       omega arith,
       some-turn (λ i. hasTurn (getD (a .on .now) i 0)) maxEntries (l .e) (l .found)
           (c₁ .loop-test .taken) {b′ = c .if1 .found}
-          (⊎-elim (λ w. rw (w .0 .taken) (w .1 ∙ w .0 .taken)) (λ w. rw (w .0 .left) (w .1)) (c .if1 .came))
+          (⊎-elim
+          (λ w. w .1 ∙ sym (ap (λ (t : Bool). l .found || t) (eq-eqb x switchTurn (w .0 .taken)) ∙ or-true (l .found)))
+          (λ w. w .1 ∙ sym (ap (λ (t : Bool). l .found || t) (ne-eqb x switchTurn (w .0 .left)) ∙ or-false (l .found)))
+          (c .if1 .came))
           ∙ l .inv .1,
     )
 
