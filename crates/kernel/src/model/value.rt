@@ -1,9 +1,9 @@
-// The model by value, one method for each event: the next model with its answer. An array goes from the model to the
-// next by a variable: the prover covers no field that is passed straight.
+// The model by value, one method for each event: the next model with its answer. An array that an event touches is
+// taken out, lent to the method of the registers, and put back where it may have changed.
 ghost use mathlib.Core.Path.{_≡_};
 ghost use Rattle.machine.specs.Events.{activate, finish, chain, get, release, tick, line, start, stop, wait, setEvent, clear};
 ghost use Rattle.kernel.specs.Methods.{RowsHold};
-ghost use Rattle.kernel.specs.View.{arrays, view, viewStep, outcomeOf};
+ghost use Rattle.kernel.specs.View.{arraysOf, view, viewStep, outcomeOf};
 use super::Model;
 use super::Outcome;
 use super::Step;
@@ -23,24 +23,14 @@ impl Model {
             (activate (now («callable_rank» .entry)) (now (priority .entry)) (view self) t) ⌝ }
     {
         let step = self.registers.activate(callable_rank, priority, t);
-        let counter = self.counter;
-        let on = self.on;
-        let losses = self.losses;
-        let bits = self.bits;
-        let waited = self.waited;
-        outcome(step, counter, on, losses, bits, waited)
+        self.stepped(step)
     }
 
     pub fn finish(self, priority: &[u8; 32]) -> Outcome
         ensures { λ r. ⌜ r ≡ outcomeOf (finish (now (priority .entry)) (view self)) ⌝ }
     {
         let step = self.registers.finish(priority);
-        let counter = self.counter;
-        let on = self.on;
-        let losses = self.losses;
-        let bits = self.bits;
-        let waited = self.waited;
-        outcome(step, counter, on, losses, bits, waited)
+        self.stepped(step)
     }
 
     pub fn chain<'a>(
@@ -54,12 +44,7 @@ impl Model {
             (chain isrs (now («callable_rank» .entry)) (now (priority .entry)) (view self) t) ⌝ }
     {
         let step = self.registers.chain(isrs, callable_rank, priority, t);
-        let counter = self.counter;
-        let on = self.on;
-        let losses = self.losses;
-        let bits = self.bits;
-        let waited = self.waited;
-        outcome(step, counter, on, losses, bits, waited)
+        self.stepped(step)
     }
 
     pub fn get<'a>(
@@ -72,28 +57,18 @@ impl Model {
         ensures { λ o. ⌜ o ≡ outcomeOf (get resources (now (users .entry)) (now (ceiling .entry)) (view self) r) ⌝ }
     {
         let step = self.registers.get(resources, users, ceiling, r);
-        let counter = self.counter;
-        let on = self.on;
-        let losses = self.losses;
-        let bits = self.bits;
-        let waited = self.waited;
-        outcome(step, counter, on, losses, bits, waited)
+        self.stepped(step)
     }
 
     pub fn release(self, resources: u8, priority: &[u8; 32], r: u32) -> Outcome
         ensures { λ o. ⌜ o ≡ outcomeOf (release resources (now (priority .entry)) (view self) r) ⌝ }
     {
         let step = self.registers.release(resources, priority, r);
-        let counter = self.counter;
-        let on = self.on;
-        let losses = self.losses;
-        let bits = self.bits;
-        let waited = self.waited;
-        outcome(step, counter, on, losses, bits, waited)
+        self.stepped(step)
     }
 
     pub fn tick<'a>(
-        self,
+        mut self,
         compare: &'a [u16; 64],
         entry_rank: &'a [u8; 64],
         priority: &'a [u8; 32],
@@ -112,14 +87,15 @@ impl Model {
         let request = take_matches(&matched, entry_rank, begun, registers.request, &mut losses);
         registers.turning = turning && some_turn(&on);
         let step = registers.triggering(request, priority);
-        let bits = self.bits;
-        let waited = self.waited;
-        outcome(step, counter, on, losses, bits, waited)
+        self.counter = counter;
+        self.on = on;
+        self.losses = losses;
+        self.stepped(step)
     }
 
     // `counts`: whether a line that is lost counts as a loss.
     pub fn line<'a>(
-        self,
+        mut self,
         counts: bool,
         line_rank: &'a [u8; 32],
         priority: &'a [u8; 32],
@@ -131,15 +107,12 @@ impl Model {
         let mut losses = self.losses;
         let step = self.registers
             .line(counts, line_rank, priority, i, &mut losses);
-        let counter = self.counter;
-        let on = self.on;
-        let bits = self.bits;
-        let waited = self.waited;
-        outcome(step, counter, on, losses, bits, waited)
+        self.losses = losses;
+        self.stepped(step)
     }
 
     pub fn start<'a>(
-        self,
+        mut self,
         tables: u8,
         first: &'a [u8; 8],
         entries: &'a [u8; 8],
@@ -166,13 +139,18 @@ impl Model {
             &mut counter,
             &mut on,
         );
-        let losses = self.losses;
-        let bits = self.bits;
-        let waited = self.waited;
-        outcome(step, counter, on, losses, bits, waited)
+        self.counter = counter;
+        self.on = on;
+        self.stepped(step)
     }
 
-    pub fn stop<'a>(self, tables: u8, first: &'a [u8; 8], entries: &'a [u8; 8], t: u32) -> Outcome
+    pub fn stop<'a>(
+        mut self,
+        tables: u8,
+        first: &'a [u8; 8],
+        entries: &'a [u8; 8],
+        t: u32,
+    ) -> Outcome
         requires { ⌜ RowsHold tables (now first) (now entries) ⌝ }
         ensures { λ r. ⌜ r ≡ outcomeOf (stop tables (now (first .entry)) (now (entries .entry)) (view self) t) ⌝ }
     {
@@ -180,29 +158,26 @@ impl Model {
         let mut on = self.on;
         let step = self.registers
             .stop(tables, first, entries, t, &mut counter, &mut on);
-        let losses = self.losses;
-        let bits = self.bits;
-        let waited = self.waited;
-        outcome(step, counter, on, losses, bits, waited)
+        self.counter = counter;
+        self.on = on;
+        self.stepped(step)
     }
 
     // `extended`: the ranks that are extended tasks.
-    pub fn wait(self, extended: u32, priority: &[u8; 32], mask: u32) -> Outcome
+    pub fn wait(mut self, extended: u32, priority: &[u8; 32], mask: u32) -> Outcome
         ensures { λ r. ⌜ r ≡ outcomeOf (wait extended (now (priority .entry)) (view self) mask) ⌝ }
     {
         let bits = self.bits;
         let mut waited = self.waited;
         let step = self.registers
             .wait(extended, priority, mask, &bits, &mut waited);
-        let counter = self.counter;
-        let on = self.on;
-        let losses = self.losses;
-        outcome(step, counter, on, losses, bits, waited)
+        self.waited = waited;
+        self.stepped(step)
     }
 
     // `isrs`: the ranks that are ISRs; `body_rank`: those of all bodies.
     pub fn set_event<'a>(
-        self,
+        mut self,
         isrs: u32,
         extended: u32,
         body_rank: &'a [u8; 32],
@@ -226,47 +201,40 @@ impl Model {
             &waited,
             &mut bits,
         );
-        let counter = self.counter;
-        let on = self.on;
-        let losses = self.losses;
-        outcome(step, counter, on, losses, bits, waited)
+        self.bits = bits;
+        self.stepped(step)
     }
 
-    pub fn clear(self, extended: u32, mask: u32) -> Outcome
+    pub fn clear(mut self, extended: u32, mask: u32) -> Outcome
         ensures { λ r. ⌜ r ≡ outcomeOf (clear extended (view self) mask) ⌝ }
     {
         let mut bits = self.bits;
         let step = self.registers.clear(extended, mask, &mut bits);
+        self.bits = bits;
+        self.stepped(step)
+    }
+
+    // The model of these registers and its own arrays, with the answer.
+    fn stepped(self, step: Step) -> Outcome
+        ensures { λ r. ⌜ r ≡ outcomeOf (viewStep step (arraysOf self)) ⌝ }
+    {
+        let registers = step.registers;
         let counter = self.counter;
         let on = self.on;
         let losses = self.losses;
+        let bits = self.bits;
         let waited = self.waited;
-        outcome(step, counter, on, losses, bits, waited)
-    }
-}
-
-// The model of these registers and arrays, with the answer.
-fn outcome(
-    step: Step,
-    counter: [u16; 64],
-    on: [u16; 64],
-    losses: [u16; 32],
-    bits: [u32; 32],
-    waited: [u32; 32],
-) -> Outcome
-    ensures { λ r. ⌜ r ≡ outcomeOf (viewStep step (arrays counter on losses bits waited)) ⌝ }
-{
-    let registers = step.registers;
-    Outcome {
-        model: Model {
-            registers,
-            counter,
-            on,
-            losses,
-            bits,
-            waited,
-        },
-        status: step.status,
-        begun: step.begun,
+        Outcome {
+            model: Model {
+                registers,
+                counter,
+                on,
+                losses,
+                bits,
+                waited,
+            },
+            status: step.status,
+            begun: step.begun,
+        }
     }
 }

@@ -1,4 +1,4 @@
--- `activate` meets its contract: what the registers make of it, with the arrays as they are.
+-- `activate` meets its contract: what the registers make of it with the arrays as they are.
 use mathlib.Core.Path.{ap, _∙_}
 use Rattle.kernel.specs.View.{arraysOf, outcomeOf}
 use borrow.Author.Needs.{needs}
@@ -7,8 +7,8 @@ use Rattle.kernel.proofs.model.Model.activate.Tie as tie
 
 returns : tie.Need-returns
 returns c =
-    let c₁ = c .before .before .before .before .before .before in let c₂ = c₁ .before in let a = c₂ .args in
-    c .outcome .ensures ∙ ap outcomeOf (c₁ .activate .ensures (arraysOf (a .self)))
+    let a = c .before .before .args in
+    c .stepped .ensures ∙ ap outcomeOf (c .before .activate .ensures (arraysOf (a .self)))
 
 pub activate-spec : {M : Type 1} → statement M
 activate-spec = tie.close (tie.spec (λ c κs. search needs) (λ c κs. search needs) returns)

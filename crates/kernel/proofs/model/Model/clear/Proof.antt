@@ -7,8 +7,8 @@ use Rattle.kernel.proofs.model.Model.clear.Tie as tie
 
 returns : tie.Need-returns
 returns c =
-    let c₁ = c .before .before .before .before .before in let c₂ = c₁ .before .before .before in let a = c₂ .args in
-    c .outcome .ensures ∙ ap outcomeOf (c₁ .clear .ensures (arraysOf (a .self)))
+    let a = c .before .before .before .before .args in
+    c .stepped .ensures ∙ ap outcomeOf (c .before .clear .ensures (arraysOf (a .self)))
 
 pub clear-spec : {M : Type 1} → statement M
 clear-spec = tie.close (tie.spec (λ c κs. search needs) (λ c κs. search needs) returns)

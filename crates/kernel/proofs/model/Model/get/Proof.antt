@@ -1,4 +1,4 @@
--- `get` meets its contract: what the registers make of it, with the arrays as they are.
+-- `get` meets its contract: what the registers make of it with the arrays as they are.
 use mathlib.Core.Path.{ap, _∙_}
 use Rattle.kernel.specs.View.{arraysOf, outcomeOf}
 use borrow.Author.Needs.{needs}
@@ -7,8 +7,8 @@ use Rattle.kernel.proofs.model.Model.get.Tie as tie
 
 returns : tie.Need-returns
 returns c =
-    let c₁ = c .before .before .before .before .before .before in let c₂ = c₁ .before in let a = c₂ .args in
-    c .outcome .ensures ∙ ap outcomeOf (c₁ .get .ensures (arraysOf (a .self)))
+    let a = c .before .before .args in
+    c .stepped .ensures ∙ ap outcomeOf (c .before .get .ensures (arraysOf (a .self)))
 
 pub get-spec : {M : Type 1} → statement M
 get-spec = tie.close (tie.spec (λ c κs. search needs) (λ c κs. search needs) returns)

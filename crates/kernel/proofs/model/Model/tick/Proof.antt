@@ -17,10 +17,10 @@ take-matches-requires c κs =
 
 returns : tie.Need-returns
 returns c =
-    let c₁ = c .before .before .before in let c₂ = c₁ .before in let c₃ = c₂ .before in
+    let c₁ = c .before in let c₂ = c₁ .before in let c₃ = c₂ .before in
     let c₄ = c₃ .before .before .before in let c₅ = c₄ .before in
     let c₆ = c₅ .before .before .before .before .before .before .before in let a = c₆ .args in
-    c .outcome .ensures
+    c .stepped .ensures
     ∙ ap outcomeOf
     (c₁ .triggering .ensures _
     ∙ tick-done (a .compare .now) (a .entry-rank .now) (a .priority .now) (view (a .self))
