@@ -1,6 +1,6 @@
 -- One more loss at rank r, by a pass over all places: what it has done before place i, from its start to its end.
 use Prim.Native.Nat.{ℕ, _+_, _-_, _%_, _≤_, _<_}
-use mathlib.Core.Path.{_≡_, refl, sym, ap, _∙_}
+use mathlib.Core.Path.{_≡_, sym, ap, _∙_}
 use mathlib.Core.Bool.{Bool, true, cond, _||_}
 use mathlib.Core.List.{List}
 use native.Mathlib.Omega.{arith}

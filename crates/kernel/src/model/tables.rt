@@ -1,4 +1,4 @@
-// The events of tables: Start and Stop.
+// The events of tables: Tick, Start and Stop.
 ghost use mathlib.Core.Path.{_≡_};
 ghost use mathlib.Core.Bool.{_||_};
 ghost use Prim.Native.Nat.{_+_};
@@ -6,9 +6,9 @@ ghost use lib.Dec.{ltb, eqb};
 ghost use lib.ListN.{getD};
 ghost use Rattle.scheduler.specs.Call.{longestDelay};
 ghost use Rattle.machine.specs.Cells.{isOn};
-ghost use Rattle.machine.specs.Events.{start, stop};
+ghost use Rattle.machine.specs.Events.{tick, start, stop};
 ghost use Rattle.kernel.specs.Methods.{RowsHold};
-ghost use Rattle.kernel.specs.View.{Arrays, putCells, viewWith, viewStep};
+ghost use Rattle.kernel.specs.View.{Arrays, putCells, putLosses, viewWith, viewStep};
 use super::BAD_DELAY;
 use super::CALL_LEVEL;
 use super::DONE;
@@ -20,11 +20,37 @@ use super::WRONG_STATE;
 use super::bodies::no_caller;
 use super::cells::OFF;
 use super::cells::fill;
+use super::cells::some_turn;
 use super::cells::start_cells;
+use super::cells::take_matches;
+use super::cells::tick_cells;
 use super::lookup::byte_at;
 use super::lookup::short_at;
+use word::union;
 
 impl Registers {
+    pub fn tick<'a, 'b, 'c, 'd>(
+        mut self,
+        compare: &'a [u16; 64],
+        entry_rank: &'a [u8; 64],
+        priority: &'a [u8; 32],
+        counter: &'b mut [u16; 64],
+        on: &'c mut [u16; 64],
+        losses: &'d mut [u16; 32],
+    ) -> Step
+        ensures { λ r. ⌜ ((x : Arrays)
+            → viewStep r (putCells (now (counter .exit)) (now (on .exit)) (putLosses (now (losses .exit)) x))
+            ≡ tick (now (compare .entry)) (now («entry_rank» .entry)) (now (priority .entry))
+            (viewWith self (putCells (now (counter .entry)) (now (on .entry)) (putLosses (now (losses .entry)) x)))) ⌝ }
+    {
+        let turning = self.turning;
+        let matched = tick_cells(turning, compare, counter, on);
+        let begun = union(self.started, self.aside);
+        let request = take_matches(&matched, entry_rank, begun, self.request, losses);
+        self.turning = turning && some_turn(on);
+        self.triggering(request, priority)
+    }
+
     pub fn start<'a, 'b, 'c>(
         mut self,
         tables: u8,

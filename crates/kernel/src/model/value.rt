@@ -7,10 +7,6 @@ ghost use Rattle.kernel.specs.View.{arraysOf, view, viewStep, outcomeOf}
 use super::Model;
 use super::Outcome;
 use super::Step;
-use super::cells::some_turn;
-use super::cells::take_matches;
-use super::cells::tick_cells;
-use word::union;
 
 impl Model {
     pub fn activate<'a>(
@@ -77,16 +73,17 @@ impl Model {
             ≡ outcomeOf
             (tick (now (compare .entry)) (now («entry_rank» .entry)) (now (priority .entry)) (view self)) ⌝ }
     {
-        let mut registers = self.registers;
-        let turning = registers.turning;
         let mut counter = self.counter;
         let mut on = self.on;
         let mut losses = self.losses;
-        let matched = tick_cells(turning, compare, &mut counter, &mut on);
-        let begun = union(registers.started, registers.aside);
-        let request = take_matches(&matched, entry_rank, begun, registers.request, &mut losses);
-        registers.turning = turning && some_turn(&on);
-        let step = registers.triggering(request, priority);
+        let step = self.registers.tick(
+            compare,
+            entry_rank,
+            priority,
+            &mut counter,
+            &mut on,
+            &mut losses,
+        );
         self.counter = counter;
         self.on = on;
         self.losses = losses;
