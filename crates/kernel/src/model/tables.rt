@@ -29,6 +29,7 @@ use super::lookup::short_at;
 use word::union;
 
 impl Registers {
+    // The cells count, their matches are taken in table order, and arbitration comes once, after all.
     pub fn tick<'a, 'b, 'c, 'd>(
         mut self,
         compare: &'a [u16; 64],
