@@ -3,17 +3,17 @@
 -- In order: a tick's counters and match marks; a tick's requests and losses; its switches; starts and stops.
 use Prim.Native.Nat.{ℕ, zero, suc, _+_, _-_, _≤_, _<_}
 use mathlib.Core.Path.{_≡_, refl, sym, ap, ap₂, _∙_}
-use mathlib.Core.Bool.{Bool, false, _&&_, _||_, or-assoc, or-false}
+use mathlib.Core.Bool.{Bool, true, false, cond, _&&_, _||_, or-assoc, or-false}
 use mathlib.Core.List.{List, [], _∷_, _++_, append-assoc, append-nil}
 use native.Mathlib.Omega.{arith}
 use native.Mathlib.Numerals.{add-one}
 use lib.ListN.{length, getD, set, take, drop, replicate, length-set, length-drop, take-append-drop, drop-of-length-le}
-use lib.Seq.{take-suc-set, take-all, length-take-le, drop-drop, getD-set-other}
+use lib.Seq.{set-getD, take-suc-set, take-all, length-take-le, drop-drop, getD-set-other}
 use Rattle.config.specs.Value.{maxEntries}
 use Rattle.cell.specs.declared.Cell.{Cell}
 use Rattle.cell.specs.Cell.{unmarked, long, tickCell}
 use Rattle.kernel.specs.Methods.{group}
-use Rattle.machine.specs.Cells.{isOn, hasTurn, switchFor, cellAt, countersTicked, switchTicked, switchesTicked, some, marks, Tally, requestsDue, spread}
+use Rattle.machine.specs.Cells.{isOn, hasTurn, switchFor, cellAt, countersTicked, switchesTicked, some, marks, Tally, requestsDue, spread}
 use Rattle.machine.proofs.Change.Matches.{due-append}
 
 -- a loop over the k entries from f on begins with all of them, and each turn takes one
@@ -144,17 +144,24 @@ module _ (w : ℕ) where
     pub groups-end : (e : ℕ) → length ms ≤ e → (x : Tally) → requestsDue w (drop e ms) (drop e rs) x ≡ x
     groups-end e h x = rw (drop-of-length-le ms {i = e} h) (due-over (drop e rs) x)
 
--- the switches of a tick, beside the counters; n is the counter of entry e after it
-module _ (u e : ℕ) (ks ns on : List ℕ) where
-  pub switches-turn : e < u → {x : ℕ} → x ≡ switchTicked ks ns on e → (n : ℕ)
-      → switchesTicked (u - (e + 1)) (e + 1) ks (set ns e n) (set on e x) ≡ switchesTicked (u - e) e ks ns on
-  unfolding switchesTicked
-  switches-turn h {x} is n =
-      switches-counted ks (u - (e + 1)) (e + 1) e n (set on e x) ns (omega arith) ∙ rw (next u e h, is, add-one e)
+-- the switches of a tick, beside the counters, where w, a turn may pass; n is the counter of entry e after it
+abbrev switchesIn : Bool → ℕ → ℕ → List ℕ → List ℕ → List ℕ → List ℕ
+switchesIn w k e ks ns on = cond w (switchesTicked k e ks ns on) on
 
-  pub switches-end : u ≤ e → switchesTicked (u - e) e ks ns on ≡ on
+module _ (u e : ℕ) (ks ns on : List ℕ) where
+  pub switches-turn : (w : Bool) → e < u
+      → {x : ℕ} → x ≡ cond w (switchFor (isOn (getD on e 0)) (tickCell (cellAt w ks on ns e) .turn)) (getD on e 0)
+      → (n : ℕ)
+      → switchesIn w (u - (e + 1)) (e + 1) ks (set ns e n) (set on e x) ≡ switchesIn w (u - e) e ks ns on
   unfolding switchesTicked
-  switches-end h = rw (none u e h)
+  switches-turn true h {x} is n =
+      switches-counted ks (u - (e + 1)) (e + 1) e n (set on e x) ns (omega arith) ∙ rw (next u e h, is, add-one e)
+  switches-turn false h is n = ap (set on e) is ∙ set-getD on e 0
+
+  pub switches-end : (w : Bool) → u ≤ e → switchesIn w (u - e) e ks ns on ≡ on
+  unfolding switchesTicked
+  switches-end true h = rw (none u e h)
+  switches-end false h = refl
 
 -- a search that stops at nothing: b is what was found before e
 module _ (f : ℕ → Bool) (u e : ℕ) (b : Bool) where

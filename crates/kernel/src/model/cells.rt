@@ -1,10 +1,10 @@
 // The cells of the entries, as parallel arrays: what a tick, a start and a stop make of them.
 ghost use mathlib.Core.Path.{_≡_};
-ghost use mathlib.Core.Bool.{true, false, cond, _||_};
+ghost use mathlib.Core.Bool.{cond, _&&_, _||_};
 ghost use Prim.Native.Nat.{_+_, _≤_, _<_};
 ghost use lib.ListN.{length, take, drop};
 ghost use Rattle.config.specs.Value.{maxBodies, maxEntries};
-ghost use Rattle.machine.specs.Cells.{countersTicked, switchFor, switchesTicked, someTurn, marks, countersStarted, switchesStarted, spread, someLong, oneMore, oneLost, matchAt, requestsDue};
+ghost use Rattle.machine.specs.Cells.{isOn, hasTurn, countersTicked, switchFor, switchesTicked, someTurn, marks, countersStarted, switchesStarted, spread, someLong, oneMore, oneLost, matchAt, requestsDue};
 ghost use Rattle.kernel.specs.Methods.{tallyWith, group, marksWord};
 use super::NO_RANK;
 use super::bodies::busy;
@@ -29,7 +29,8 @@ const TURN: u16 = 2;
 // How many match marks are looked at in one go.
 const GROUP: usize = 8;
 
-// Ticks every cell, and gives their match marks; `turning`: whether any cell has a turn to pass.
+// Ticks every cell, and gives their match marks; `turning`: whether any cell has a turn to pass. The compiler makes two
+// loops of the one, with turns and without.
 pub fn tick_cells<'a, 'b, 'c>(
     turning: bool,
     compare: &'a [u16; 64],
@@ -44,56 +45,35 @@ pub fn tick_cells<'a, 'b, 'c>(
         ≡ cond turning (switchesTicked maxEntries 0 (now (compare .entry)) (now (counter .entry)) (now (on .entry)))
         (now (on .entry)) ⌝ }
 {
-    if turning {
-        return tick_turns(compare, counter, on);
-    }
-    tick_counters(compare, on, counter)
-}
-
-// Where none has a turn to pass, the switches stay.
-fn tick_counters<'a, 'b>(
-    compare: &'a [u16; 64],
-    on: &'a [u16; 64],
-    counter: &'b mut [u16; 64],
-) -> [bool; 64]
-    ensures { λ r. ⌜ r ≡ marks maxEntries 0 false (now (compare .entry)) (now (on .entry)) (now (counter .entry)) ⌝ }
-    ensures { λ _. ⌜ now (counter .exit)
-        ≡ countersTicked maxEntries 0 false (now (compare .entry)) (now (on .entry)) (now (counter .entry)) ⌝ }
-{
-    let mut matched = [false; 64];
-    let mut e = 0;
-    while e < CELLS {
-        let cell = Cell::of(counter[e], compare[e], on[e] != OFF, false).tick();
-        counter[e] = cell.counter;
-        matched[e] = cell.matched;
-        e += 1;
-    }
-    matched
-}
-
-// Where one has, it may pass.
-fn tick_turns<'a, 'b, 'c>(
-    compare: &'a [u16; 64],
-    counter: &'b mut [u16; 64],
-    on: &'c mut [u16; 64],
-) -> [bool; 64]
-    ensures { λ r. ⌜ r ≡ marks maxEntries 0 true (now (compare .entry)) (now (on .entry)) (now (counter .entry)) ⌝ }
-    ensures { λ _. ⌜ now (counter .exit)
-        ≡ countersTicked maxEntries 0 true (now (compare .entry)) (now (on .entry)) (now (counter .entry)) ⌝ }
-    ensures { λ _. ⌜ now (on .exit)
-        ≡ switchesTicked maxEntries 0 (now (compare .entry)) (now (counter .entry)) (now (on .entry)) ⌝ }
-{
     let mut matched = [false; 64];
     let mut e = 0;
     while e < CELLS {
         let switch = on[e];
-        let cell = Cell::of(counter[e], compare[e], switch != OFF, switch == TURN).tick();
+        let turn = has_turn(turning, switch);
+        let cell = Cell::of(counter[e], compare[e], switch != OFF, turn).tick();
         counter[e] = cell.counter;
-        on[e] = switch_for(switch != OFF, cell.turn);
+        on[e] = switch_after(turning, switch, cell.turn);
         matched[e] = cell.matched;
         e += 1;
     }
     matched
+}
+
+// Whether the cell of this switch has a turn to pass.
+fn has_turn(turning: bool, switch: u16) -> bool
+    ensures { λ r. ⌜ r ≡ turning && hasTurn switch ⌝ }
+{
+    turning && switch == TURN
+}
+
+// The switch after a tick that leaves this turn: it stays where no cell had one to pass.
+fn switch_after(turning: bool, switch: u16, turn: bool) -> u16
+    ensures { λ r. ⌜ r ≡ cond turning (switchFor (isOn switch) turn) switch ⌝ }
+{
+    if turning {
+        return switch_for(switch != OFF, turn);
+    }
+    switch
 }
 
 fn switch_for(on: bool, turn: bool) -> u16
