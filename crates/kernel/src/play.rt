@@ -1,4 +1,5 @@
-// The second pass over a trace: its events are played, and their answers written.
+// The second pass over a trace: its events are played, and their answers written. The arm of a code reads its
+// arguments, so that a single jump depends on the code: the processor foresees few of those of a drawn trace.
 ghost use mathlib.Core.Path.{_≡_};
 ghost use lib.ListN.{length};
 ghost use Rattle.number.specs.Output.{laid};
@@ -13,7 +14,7 @@ use crate::model::counts_lines;
 use crate::output::put_answer;
 use crate::output::runner;
 use config::Config;
-use event_codec::read_event;
+use number_codec::read_number;
 use plan::Plan;
 
 // Each event meets the model that the one before it handed back; the last one's is the result.
@@ -38,64 +39,85 @@ pub fn play<'a, 'b>(
     let mut at: usize = 0;
     let mut to: usize = 0;
     while at < trace.len() {
-        let r = read_event(trace, at);
-        let e = r.event;
-        let code = e.code;
+        let code = trace[at];
+        let mut next = at + 1;
         match code {
             1 => {
-                o = o.model.activate(&plan.callable, &plan.priority, e.first);
+                let a = read_number(trace, next);
+                o = o.model.activate(&plan.callable, &plan.priority, a.value);
+                next = a.place;
             }
             2 => {
                 o = o.model.finish(&plan.priority);
             }
             3 => {
+                let a = read_number(trace, next);
                 o = o.model
-                    .chain(plan.isrs, &plan.callable, &plan.priority, e.first);
+                    .chain(plan.isrs, &plan.callable, &plan.priority, a.value);
+                next = a.place;
             }
             4 => {
+                let a = read_number(trace, next);
                 o = o.model
-                    .get(config.resources, &plan.users, &plan.ceiling, e.first);
+                    .get(config.resources, &plan.users, &plan.ceiling, a.value);
+                next = a.place;
             }
             5 => {
-                o = o.model.release(config.resources, &plan.priority, e.first);
+                let a = read_number(trace, next);
+                o = o.model.release(config.resources, &plan.priority, a.value);
+                next = a.place;
             }
             6 => {
                 o = o.model.tick(&plan.compare, &plan.entry, &plan.priority);
             }
             7 => {
+                let a = read_number(trace, next);
                 let counts = counts_lines(config.version);
-                o = o.model.line(counts, &plan.line, &plan.priority, e.first);
+                o = o.model.line(counts, &plan.line, &plan.priority, a.value);
+                next = a.place;
             }
             8 => {
+                let a = read_number(trace, next);
+                let b = read_number(trace, a.place);
                 o = o.model.start(
                     config.tables,
                     &plan.first,
                     &config.entries,
                     &config.period,
                     &config.offset,
-                    e.first,
-                    e.second,
+                    a.value,
+                    b.value,
                 );
+                next = b.place;
             }
             9 => {
+                let a = read_number(trace, next);
                 o = o.model
-                    .stop(config.tables, &plan.first, &config.entries, e.first);
+                    .stop(config.tables, &plan.first, &config.entries, a.value);
+                next = a.place;
             }
             10 => {
-                o = o.model.wait(plan.extended, &plan.priority, e.first);
+                let a = read_number(trace, next);
+                o = o.model.wait(plan.extended, &plan.priority, a.value);
+                next = a.place;
             }
             11 => {
+                let a = read_number(trace, next);
+                let b = read_number(trace, a.place);
                 o = o.model.set_event(
                     plan.isrs,
                     plan.extended,
                     &plan.rank,
                     &plan.priority,
-                    e.first,
-                    e.second,
+                    a.value,
+                    b.value,
                 );
+                next = b.place;
             }
             12 => {
-                o = o.model.clear(plan.extended, e.first);
+                let a = read_number(trace, next);
+                o = o.model.clear(plan.extended, a.value);
+                next = a.place;
             }
             0 | 13..=255 => {
                 o.status = DONE;
@@ -110,7 +132,7 @@ pub fn play<'a, 'b>(
             to,
             out,
         );
-        at = r.place;
+        at = next;
         to += 4;
     }
     o.model

@@ -1,13 +1,10 @@
 -- The second pass over a trace: the answers so far and those still to come are the answers of the whole trace.
 --
---   tables-laid                               what the machine's methods count on
---   step-1 .. step-9                          what an arm's method hands back is the step of the event that was read
---   Playing                                   the invariant: `playable-start`, `playing-turn`, `playing-end`
---
+--   tables-laid   what the machine's methods count on
+--   Playing       the invariant: `playable-start`, `playing-turn`, `playing-end`
 use Prim.Native.Nat.{ℕ, suc, _+_, _*_, _≤_, _<_}
 use mathlib.Core.Path.{_≡_, refl, sym, ap, _∙_}
 use mathlib.Core.List.{List, [], _∷_, _++_, map, append-assoc, append-nil}
-use native.Mathlib.Nat.{not-le-of-lt}
 use native.Mathlib.Omega.{arith}
 use lib.ListN.{length, length-append}
 use Rattle.number.specs.Refusal.{none}
@@ -15,11 +12,9 @@ use Rattle.number.specs.Output.{laid}
 use Rattle.number.proofs.Cases.{by-eq}
 use Rattle.number.proofs.Laying.{laid-laid, length-laid}
 use Rattle.config.specs.declared.Config.{Config}
-use Rattle.config.specs.Meaning.{countsLines}
 use Rattle.config.proofs.Tables.{firstOf-step, firstOf-rises}
-use Rattle.event.specs.declared.Event.{Event}
 use Rattle.event.specs.declared.EventRead.{EventRead}
-use Rattle.event.specs.Event.{lastCode, readEvent}
+use Rattle.event.specs.Event.{readEvent}
 use Rattle.event.specs.Trace.{TraceRead, before, readRest, readTrace}
 use Rattle.event.proofs.Theorems.{event-reading, rest-end, rest-step, rest-refused}
 use Rattle.plan.specs.declared.Plan.{Plan}
@@ -28,76 +23,12 @@ use Rattle.scheduler.specs.Scheduler as Plain
 use Rattle.scheduler.specs.Scheduler.{markOf}
 use Rattle.machine.specs.Model.{Model, Outcome}
 use Rattle.kernel.specs.Methods.{RowsHold}
-use Rattle.machine.specs.Events.{activate, finish, chain, get, release, tick, line, start, stop, wait, setEvent, clear}
-use Rattle.machine.specs.Machine.{statusOf, effectOf, refusalOf, machineStep, runnerOf, machineSeen, machineAfter}
+use Rattle.machine.specs.Machine.{runnerOf, machineSeen, machineAfter}
 use Rattle.run.specs.Run.{callOf, answerBytes}
 use Rattle.kernel.specs.Passes.{Playable}
 use Rattle.plan.proofs.Fitted.{Fitted, fitted}
 use Rattle.kernel.proofs.Run.Bytes.{laid-none}
-
--- what an arm's method hands back is the step of the event that was read
-module _ (c : Config) (p : Plan) (m : Model) (e : Event) where
-  pub step-1 : e .code ≡ 1 → machineStep c p m (callOf e) ≡ activate (p .callable) (p .priority) m (e .first)
-  unfolding callOf statusOf effectOf refusalOf activate
-  step-1 h = rw h
-
-  pub step-2 : e .code ≡ 2 → machineStep c p m (callOf e) ≡ finish (p .priority) m
-  unfolding callOf statusOf effectOf refusalOf finish
-  step-2 h = rw h
-
-  pub step-3 : e .code ≡ 3 → machineStep c p m (callOf e) ≡ chain (p .isrs) (p .callable) (p .priority) m (e .first)
-  unfolding callOf statusOf effectOf refusalOf chain
-  step-3 h = rw h
-
-  pub step-4 : e .code ≡ 4 → machineStep c p m (callOf e) ≡ get (c .resources) (p .users) (p .ceiling) m (e .first)
-  unfolding callOf statusOf effectOf refusalOf get
-  step-4 h = rw h
-
-  pub step-5 : e .code ≡ 5 → machineStep c p m (callOf e) ≡ release (c .resources) (p .priority) m (e .first)
-  unfolding callOf statusOf effectOf refusalOf release
-  step-5 h = rw h
-
-  pub step-6 : e .code ≡ 6 → machineStep c p m (callOf e) ≡ tick (p .compare) (p .entry) (p .priority) m
-  unfolding callOf statusOf effectOf refusalOf tick
-  step-6 h = rw h
-
-  pub step-7 : e .code ≡ 7 → machineStep c p m (callOf e) ≡ line (countsLines c) (p .line) (p .priority) m (e .first)
-  unfolding callOf statusOf effectOf refusalOf line
-  step-7 h = rw h
-
-  pub step-8 : e .code ≡ 8
-      → machineStep c p m (callOf e)
-      ≡ start (c .tables) (p .first) (c .entries) (c .period) (c .offset) m (e .first) (e .second)
-  unfolding callOf statusOf effectOf refusalOf start
-  step-8 h = rw h
-
-  pub step-9 : e .code ≡ 9 → machineStep c p m (callOf e) ≡ stop (c .tables) (p .first) (c .entries) m (e .first)
-  unfolding callOf statusOf effectOf refusalOf stop
-  step-9 h = rw h
-
-  pub step-10 : e .code ≡ 10 → machineStep c p m (callOf e) ≡ wait (p .extended) (p .priority) m (e .first)
-  unfolding callOf statusOf effectOf refusalOf wait
-  step-10 h = rw h
-
-  pub step-11 : e .code ≡ 11
-      → machineStep c p m (callOf e) ≡ setEvent (p .isrs) (p .extended) (p .rank) (p .priority) m (e .first) (e .second)
-  unfolding callOf statusOf effectOf refusalOf setEvent
-  step-11 h = rw h
-
-  pub step-12 : e .code ≡ 12 → machineStep c p m (callOf e) ≡ clear (p .extended) m (e .first)
-  unfolding callOf statusOf effectOf refusalOf clear
-  step-12 h = rw h
-
-past : (n : ℕ) {k : ℕ} → n ≤ k → (k ≡ n → ⊥) → n < k
-past n h d = omega arith
-
--- no other code is left
-pub one-of-twelve : (k : ℕ) → 1 ≤ k → k ≤ lastCode → (k ≡ 1 → ⊥) → (k ≡ 2 → ⊥) → (k ≡ 3 → ⊥) → (k ≡ 4 → ⊥) → (k ≡ 5 → ⊥)
-    → (k ≡ 6 → ⊥) → (k ≡ 7 → ⊥) → (k ≡ 8 → ⊥) → (k ≡ 9 → ⊥) → (k ≡ 10 → ⊥) → (k ≡ 11 → ⊥) → (k ≡ 12 → ⊥) → ⊥
-one-of-twelve k low high n1 n2 n3 n4 n5 n6 n7 n8 n9 n10 n11 n12 =
-    let low9 = past 9 (past 8
-    (past 7 (past 6 (past 5 (past 4 (past 3 (past 2 (past 1 low n1) n2) n3) n4) n5) n6) n7) n8) n9 in
-    not-le-of-lt (past 12 (past 11 (past 10 low9 n10) n11) n12) high
+use Rattle.kernel.proofs.Run.Turn.{Turn}
 
 module _ (c : Config) (p : Plan) (rk : ℕ → ℕ) (fit : Fitted c p rk) where
   -- what the methods count on of their tables
@@ -173,56 +104,58 @@ module _ {c : Config} {p : Plan} {ts d : List ℕ} {m₀ : Model} where
         )
 
     -- the event at the place
-    module _ (inside : at < length ts) {r : EventRead} (read : r ≡ readEvent ts at) where
-      fine : readEvent ts at .refusal ≡ none
-      fine =
+    module _ (inside : at < length ts) where
+      pub playing-fine : readEvent ts at .refusal ≡ none
+      playing-fine =
           by-eq (readEvent ts at .refusal) none
           (λ h. h)
           (λ n. absurd (n (sym (ap (λ (t : TraceRead). t .refusal) (rest-refused ts at inside n)) ∙ g .readable)))
 
-      more : readRest ts at ≡ before (r .event) (readRest ts (r .place))
-      more = rest-step ts at fine ∙ ap (λ (x : EventRead). before (x .event) (readRest ts (x .place))) (sym read)
-
-      calls : callsFrom ts at ≡ callOf (r .event) ∷ callsFrom ts (r .place)
-      calls = ap (λ (t : TraceRead). map callOf (t .events)) more
-
-      pub playing-later : at < r .place
-      playing-later = rw read (event-reading ts at .after fine)
-
-      pub playing-known : (1 ≤ r .event .code) × (r .event .code ≤ lastCode)
-      playing-known = let w = event-reading ts at .writable fine in rw read (w .at-least, w .at-most)
-
       pub playing-room : to + 4 ≤ length out
-      playing-room = omega (arith, g .room, length-out, ap (λ (t : TraceRead). length (t .events)) more)
+      playing-room =
+          omega (arith, g .room, length-out, ap (λ (t : TraceRead). length (t .events)) (rest-step ts at playing-fine))
 
-      pub playing-turn : (o : Outcome) → o ≡ machineStep c p m (callOf (r .event)) → (out′ : List ℕ)
-          → out′ ≡ laid to (answerOf p o) out
-          → Playing c p ts d m₀ (r .place) (to + 4) (o .model) out′
-      unfolding machineAfter machineSeen answerBytes
-      playing-turn o stepped out′ wrote =
-          record {
-            fit = g .fit;
-            bytes = g .bytes ++ answerOf p o;
-            output =
-                wrote ∙ ap (laid to (answerOf p o)) (g .output)
-                ∙ ap (λ (k : ℕ). laid k (answerOf p o) (laid 0 (g .bytes) d)) shift
-                ∙ laid-laid 0 (g .bytes) (answerOf p o) d (omega (arith, playing-room, length-out, g .long));
-            long = length-append (g .bytes) (answerOf p o) ∙ ap (λ (n : ℕ). n + 4) (g .long);
-            readable = sym (ap (λ (t : TraceRead). t .refusal) more) ∙ g .readable;
-            room = omega (arith, g .room, ap (λ (t : TraceRead). length (t .events)) more);
-            answers =
-                append-assoc (g .bytes) (answerOf p o) _ ∙ ap (λ (l : List ℕ). g .bytes ++ l) (sym one) ∙ g .answers;
-            last =
-                ap (λ (x : Outcome). machineAfter c p (x .model) (callsFrom ts (r .place))) stepped
-                ∙ sym (ap (machineAfter c p m) calls) ∙ g .last;
-          }
-        where
-          shift : to ≡ 0 + length (g .bytes)
-          shift = omega (arith, g .long)
+      module _ {next : ℕ} {o : Outcome} (t : Turn c p ts m at next o) where
+        more : readRest ts at ≡ before (t .event) (readRest ts next)
+        more =
+            rest-step ts at playing-fine
+            ∙ ap (λ (x : EventRead). before (x .event) (readRest ts (x .place))) (t .read)
 
-          one : answerBytes (machineSeen c p m (callsFrom ts at))
-              ≡ answerOf p o ++ answerBytes (machineSeen c p (o .model) (callsFrom ts (r .place)))
-          one =
-              ap (λ (l : List Plain.Event). answerBytes (machineSeen c p m l)) calls
-              ∙ ap (λ (x : Outcome). answerOf p x ++ answerBytes
-              (machineSeen c p (x .model) (callsFrom ts (r .place)))) (sym stepped)
+        calls : callsFrom ts at ≡ callOf (t .event) ∷ callsFrom ts next
+        calls = ap (λ (t : TraceRead). map callOf (t .events)) more
+
+        pub playing-later : at < next
+        playing-later =
+            omega (arith, event-reading ts at .after playing-fine, ap (λ (x : EventRead). x .place) (t .read))
+
+        pub playing-turn : (out′ : List ℕ) → out′ ≡ laid to (answerOf p o) out
+            → Playing c p ts d m₀ next (to + 4) (o .model) out′
+        unfolding machineAfter machineSeen answerBytes
+        playing-turn out′ wrote =
+            record {
+              fit = g .fit;
+              bytes = g .bytes ++ answerOf p o;
+              output =
+                  wrote ∙ ap (laid to (answerOf p o)) (g .output)
+                  ∙ ap (λ (k : ℕ). laid k (answerOf p o) (laid 0 (g .bytes) d)) shift
+                  ∙ laid-laid 0 (g .bytes) (answerOf p o) d (omega (arith, playing-room, length-out, g .long));
+              long = length-append (g .bytes) (answerOf p o) ∙ ap (λ (n : ℕ). n + 4) (g .long);
+              readable = sym (ap (λ (t : TraceRead). t .refusal) more) ∙ g .readable;
+              room = omega (arith, g .room, ap (λ (t : TraceRead). length (t .events)) more);
+              answers =
+                  append-assoc (g .bytes) (answerOf p o) _ ∙ ap (λ (l : List ℕ). g .bytes ++ l) (sym one)
+                  ∙ g .answers;
+              last =
+                  ap (λ (x : Outcome). machineAfter c p (x .model) (callsFrom ts next)) (t .stepped)
+                  ∙ sym (ap (machineAfter c p m) calls) ∙ g .last;
+            }
+          where
+            shift : to ≡ 0 + length (g .bytes)
+            shift = omega (arith, g .long)
+
+            one : answerBytes (machineSeen c p m (callsFrom ts at))
+                ≡ answerOf p o ++ answerBytes (machineSeen c p (o .model) (callsFrom ts next))
+            one =
+                ap (λ (l : List Plain.Event). answerBytes (machineSeen c p m l)) calls
+                ∙ ap (λ (x : Outcome). answerOf p x ++ answerBytes
+                (machineSeen c p (x .model) (callsFrom ts next))) (sym (t .stepped))

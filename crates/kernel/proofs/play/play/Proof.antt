@@ -1,20 +1,20 @@
 -- `play` meets its contract: each turn's step is that of the event that was read, and its answer is laid after those
 -- before it.
-use Prim.Native.Nat.{ℕ, _+_, _-_, _≤_, _<_}
-use mathlib.Core.Path.{_≡_, sym, ap, _∙_}
+use Prim.Native.Nat.{ℕ, _+_, _-_, _≤_}
+use mathlib.Core.Path.{_≡_, ap, _∙_}
 use mathlib.Core.Logic.{⊎-elim}
 use mathlib.Core.List.{[], _∷_}
 use native.Mathlib.Omega.{arith}
 use lib.ListN.{length}
+use borrow.Author.Needs.{needs}
 use Rattle.number.specs.Output.{laid}
 use Rattle.plan.specs.Rank.{rankOf}
 use Rattle.scheduler.specs.Scheduler.{markOf}
-use Rattle.machine.specs.Machine.{machineStep}
-use Rattle.run.specs.Run.{callOf}
+use Rattle.kernel.specs.Methods.{RowsHold}
 use Rattle.kernel.specs.View.{view, modelOf, viewOutcome}
-use Rattle.event.specs.Event.{lastCode}
-use Rattle.kernel.proofs.Run.Play.{step-1, step-2, step-3, step-4, step-5, step-6, step-7, step-8, step-9, step-10, step-11, step-12, one-of-twelve, tables-laid}
-use Rattle.kernel.proofs.Run.Play.{Playing, playable-start, length-out, playing-end, playing-later, playing-known, playing-room, playing-turn}
+use Rattle.kernel.proofs.Run.Read.{known-byte}
+use Rattle.kernel.proofs.Run.Turn.{Turn, activate-turn, finish-turn, chain-turn, get-turn, release-turn, tick-turn, line-turn, start-turn, stop-turn, wait-turn, set-turn, clear-turn, one-of-twelve}
+use Rattle.kernel.proofs.Run.Play.{Playing, tables-laid, playable-start, length-out, playing-end, playing-fine, playing-room, playing-later, playing-turn}
 use Rattle.kernel.proofs.play.play.Statement.{statement}
 use Rattle.kernel.proofs.play.play.Tie as tie
 
@@ -29,77 +29,70 @@ loop-holds : tie.Need-loop-holds Inv-loop μ-loop
 loop-holds c =
     playable-start (c .before .before .pre)
 
-start-requires : tie.Need-start-requires Inv-loop μ-loop
-start-requires c κs = let k = c .before .before .before .before .before .before .before .before .before .before in
-    let a = k .before .before .before .args in
+-- at the loop's head: the tables are laid, and no byte was added to the output
+rows : (k : tie.At-loop Inv-loop μ-loop)
+    → RowsHold (k .before .before .before .args .t1 .tables) (k .before .before .before .args .t2 .first)
+    (k .before .before .before .args .t1 .entries)
+rows k = let a = k .before .before .before .args in
     tables-laid (a .t1) (a .t2) (rankOf (a .t1)) (k .loop .inv .fit)
-
-stop-requires : tie.Need-stop-requires Inv-loop μ-loop
-stop-requires c κs = let k = c .before .before .before .before .before .before .before .before in
-    let a = k .before .before .before .args in
-    tables-laid (a .t1) (a .t2) (rankOf (a .t1)) (k .loop .inv .fit)
-
--- a turn has room for its answer, and goes on behind its event
-room : (r : tie.After-read-event Inv-loop μ-loop)
-    → r .before .before .loop .to + 4 ≤ length (r .before .before .loop .out)
-room r =
-    let k = r .before .before in
-    playing-room (k .loop .inv) (r .before .loop-test .taken) (r .read-event .ensures)
-
-later : (r : tie.After-read-event Inv-loop μ-loop) → r .before .before .loop .at < r .read-event .result .place
-later r =
-    let k = r .before .before in
-    playing-later (k .loop .inv) (r .before .loop-test .taken) (r .read-event .ensures)
-
-known : (r : tie.After-read-event Inv-loop μ-loop)
-    → (1 ≤ r .read-event .result .event .code) × (r .read-event .result .event .code ≤ lastCode)
-known r =
-    let k = r .before .before in
-    playing-known (k .loop .inv) (r .before .loop-test .taken) (r .read-event .ensures)
 
 long : (k : tie.At-loop Inv-loop μ-loop) → length (k .loop .out) ≡ length (k .before .before .before .args .out .now)
 long k =
     length-out (k .loop .inv)
 
--- what the arms leave is the step of the event that was read
-stepped : (j : tie.At-match-came Inv-loop μ-loop)
-    → viewOutcome (j .match .o)
-    ≡ machineStep (j .before .before .before .before .before .before .before .args .t1)
-    (j .before .before .before .before .before .before .before .args .t2)
-    (view (j .before .before .before .before .loop .o .model)) (callOf (j .before .before .read-event .result .event))
-stepped j =
-    let a = j .before .before .before .before .before .before .before .args in
-    let m = view (j .before .before .before .before .loop .o .model) in
-    let e = j .before .before .read-event .result .event in
-    ⊎-elim (λ w. ap viewOutcome (w .5 ∙ w .4 .ensures) ∙ sym (step-1 (a .t1) (a .t2) m e (w .0 .keys1)))
+start-requires : tie.Need-start-requires Inv-loop μ-loop
+start-requires c κs =
+    rows (c .before .before .before .before .before .before .before .before .before .before .before)
+
+stop-requires : tie.Need-stop-requires Inv-loop μ-loop
+stop-requires c κs = rows (c .before .before .before .before .before .before .before .before)
+
+-- a turn has room for its answer
+room : (i : tie.In-loop Inv-loop μ-loop) → i .before .loop .to + 4 ≤ length (i .before .loop .out)
+room i = playing-room (i .before .loop .inv) (i .loop-test .taken)
+
+-- what the arms leave is the turn of the event that was read
+turned : (j : tie.At-match-came Inv-loop μ-loop)
+    → Turn (j .before .before .before .before .before .before .args .t1)
+    (j .before .before .before .before .before .before .args .t2)
+    (j .before .before .before .before .before .before .args .trace .now)
+    (view (j .before .before .before .loop .o .model)) (j .before .before .before .loop .at) (j .match .next)
+    (viewOutcome (j .match .o))
+turned j =
+    let inside = j .before .before .loop-test .taken in
+    let fine = playing-fine (j .before .before .before .loop .inv) inside in
+    let code = known-byte _ _ (λ i. omega (arith, j .before .shared-slice-known2 .given i)) fine in
+    ⊎-elim (λ w. activate-turn inside fine (w .0 .keys1) (w .1 .ensures) (ap viewOutcome (w .6 ∙ w .5 .ensures)) (w .7))
     (λ z1.
-    ⊎-elim (λ w. ap viewOutcome (w .4 ∙ w .3 .ensures) ∙ sym (step-2 (a .t1) (a .t2) m e (w .0 .keys2)))
+    ⊎-elim (λ w. finish-turn inside fine (w .0 .keys2) (ap viewOutcome (w .4 ∙ w .3 .ensures)) (w .5))
     (λ z2.
-    ⊎-elim (λ w. ap viewOutcome (w .5 ∙ w .4 .ensures) ∙ sym (step-3 (a .t1) (a .t2) m e (w .0 .keys3)))
+    ⊎-elim (λ w. chain-turn inside fine (w .0 .keys3) (w .1 .ensures) (ap viewOutcome (w .6 ∙ w .5 .ensures)) (w .7))
     (λ z3.
-    ⊎-elim (λ w. ap viewOutcome (w .5 ∙ w .4 .ensures) ∙ sym (step-4 (a .t1) (a .t2) m e (w .0 .keys4)))
+    ⊎-elim (λ w. get-turn inside fine (w .0 .keys4) (w .1 .ensures) (ap viewOutcome (w .6 ∙ w .5 .ensures)) (w .7))
     (λ z4.
-    ⊎-elim (λ w. ap viewOutcome (w .4 ∙ w .3 .ensures) ∙ sym (step-5 (a .t1) (a .t2) m e (w .0 .keys5)))
+    ⊎-elim (λ w. release-turn inside fine (w .0 .keys5) (w .1 .ensures) (ap viewOutcome (w .5 ∙ w .4 .ensures)) (w .6))
     (λ z5.
-    ⊎-elim (λ w. ap viewOutcome (w .6 ∙ w .5 .ensures) ∙ sym (step-6 (a .t1) (a .t2) m e (w .0 .keys6)))
+    ⊎-elim (λ w. tick-turn inside fine (w .0 .keys6) (ap viewOutcome (w .6 ∙ w .5 .ensures)) (w .7))
     (λ z6.
-    ⊎-elim (λ w. ap viewOutcome (w .6 ∙ w .5 .ensures ∙ rw (w .1 .ensures))
-    ∙ sym (step-7 (a .t1) (a .t2) m e (w .0 .keys7)))
+    ⊎-elim (λ w. line-turn inside fine (w .0 .keys7) (w .1 .ensures)
+    (ap viewOutcome (w .7 ∙ w .6 .ensures ∙ rw (w .2 .ensures))) (w .8))
     (λ z7.
-    ⊎-elim (λ w. ap viewOutcome (w .8 ∙ w .7 .ensures) ∙ sym (step-8 (a .t1) (a .t2) m e (w .0 .keys8)))
+    ⊎-elim (λ w. start-turn inside fine (w .0 .keys8) (w .1 .ensures) (w .2 .ensures)
+    (ap viewOutcome (w .10 ∙ w .9 .ensures)) (w .11))
     (λ z8.
-    ⊎-elim (λ w. ap viewOutcome (w .6 ∙ w .5 .ensures) ∙ sym (step-9 (a .t1) (a .t2) m e (w .0 .keys9)))
+    ⊎-elim (λ w. stop-turn inside fine (w .0 .keys9) (w .1 .ensures) (ap viewOutcome (w .7 ∙ w .6 .ensures)) (w .8))
     (λ z9.
-    ⊎-elim (λ w. ap viewOutcome (w .4 ∙ w .3 .ensures) ∙ sym (step-10 (a .t1) (a .t2) m e (w .0 .keys10)))
+    ⊎-elim (λ w. wait-turn inside fine (w .0 .keys10) (w .1 .ensures) (ap viewOutcome (w .5 ∙ w .4 .ensures)) (w .6))
     (λ z10.
-    ⊎-elim (λ w. ap viewOutcome (w .5 ∙ w .4 .ensures) ∙ sym (step-11 (a .t1) (a .t2) m e (w .0 .keys11)))
+    ⊎-elim (λ w. set-turn inside fine (w .0 .keys11) (w .1 .ensures) (w .2 .ensures)
+    (ap viewOutcome (w .7 ∙ w .6 .ensures)) (w .8))
     (λ z11.
-    ⊎-elim (λ w. ap viewOutcome (w .2 ∙ w .1 .ensures) ∙ sym (step-12 (a .t1) (a .t2) m e (w .0 .keys12)))
+    ⊎-elim (λ w. clear-turn inside fine (w .0 .keys12) (w .1 .ensures) (ap viewOutcome (w .3 ∙ w .2 .ensures)) (w .4))
     (λ z12.
     ⊎-elim
-    (λ w. absurd (omega (arith, w .0 .keys13, known (j .before .before))))
+    (λ w. absurd (omega (arith, w .0 .keys13, code)))
     (λ w. absurd
-    (one-of-twelve (e .code) (known (j .before .before) .0) (known (j .before .before) .1)
+    (one-of-twelve _ (code .0) (code .1)
     (λ h. w .0 .rest .0 .0 .0 .0 .0 .0 .0 .0 .0 .0 .0 .0 .1 h) (λ h. w .0 .rest .0 .0 .0 .0 .0 .0 .0 .0 .0 .0 .0 .1 h)
     (λ h. w .0 .rest .0 .0 .0 .0 .0 .0 .0 .0 .0 .0 .1 h) (λ h. w .0 .rest .0 .0 .0 .0 .0 .0 .0 .0 .0 .1 h)
     (λ h. w .0 .rest .0 .0 .0 .0 .0 .0 .0 .0 .1 h) (λ h. w .0 .rest .0 .0 .0 .0 .0 .0 .0 .1 h)
@@ -111,22 +104,22 @@ put-answer-requires : tie.Need-put-answer-requires Inv-loop μ-loop
 put-answer-requires c κs = room (c .before .before .before .before .before .before)
 
 add-to : tie.Need-add-to Inv-loop μ-loop
-add-to c = let r = c .before .before .before .before .before .before .before .before .before in
-    let k = r .before .before in
-    omega (arith, room r, long k, k .before .before .before .good)
+add-to c = let i = c .before .before .before .before .before .before .before .before .before in
+    omega (arith, room i, long (i .before), i .before .before .before .before .good)
 
 loop-less : tie.Need-loop-less Inv-loop μ-loop
-loop-less c = let r = c .before .before .before .before .before .before .before .before .before in
-    omega (arith, later r, r .before .loop-test .taken)
+loop-less c =
+    let j = c .before .before .before .before .before .before .before in
+    let i = j .before .before in
+    omega (arith, playing-later (i .before .loop .inv) (i .loop-test .taken) (turned j), i .loop-test .taken)
 
 loop-again : tie.Need-loop-again Inv-loop μ-loop
 loop-again c =
     let p = c .before .before in
     let j = p .before .before .before .before .before in
-    let r = j .before .before in
-    let k = r .before .before in
-    playing-turn (k .loop .inv) (r .before .loop-test .taken) (r .read-event .ensures)
-    (viewOutcome (j .match .o)) (stepped j) _
+    let i = j .before .before in
+    let k = i .before in
+    playing-turn (k .loop .inv) (i .loop-test .taken) (turned j) _
     (p .put-answer .ensures
     ∙ ap (λ (n : ℕ). laid (k .loop .to)
     (j .match .o .status ∷ n ∷ j .match .o .model .registers .level ∷ markOf (j .match .o .begun) ∷ [])
@@ -145,6 +138,8 @@ pub play-spec : {M : Type 1} → statement M
 play-spec =
     tie.close
     (tie.spec
-    Inv-loop μ-loop loop-holds (λ c κs. tt) (λ c κs. tt) (λ c κs. tt) (λ c κs. tt) (λ c κs. tt) (λ c κs. tt)
-    (λ c κs. tt) (λ c κs. tt) (λ c κs. tt) start-requires stop-requires (λ c κs. tt)
-    (λ c κs. tt) (λ c κs. tt) (λ c κs. tt) put-answer-requires add-to loop-less loop-again same-length returns)
+    Inv-loop μ-loop loop-holds (λ c. search needs) (λ c. search needs) (λ c κs. tt) (λ c κs. tt) (λ c κs. tt)
+    (λ c κs. tt) (λ c κs. tt) (λ c κs. tt) (λ c κs. tt) (λ c κs. tt) (λ c κs. tt) (λ c κs. tt) (λ c κs. tt)
+    (λ c κs. tt) (λ c κs. tt) (λ c κs. tt) (λ c κs. tt) start-requires (λ c κs. tt) stop-requires (λ c κs. tt)
+    (λ c κs. tt) (λ c κs. tt) (λ c κs. tt) (λ c κs. tt) (λ c κs. tt) (λ c κs. tt) (λ c κs. tt) put-answer-requires
+    add-to loop-less loop-again same-length returns)
