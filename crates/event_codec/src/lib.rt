@@ -12,6 +12,7 @@ ghost use mathlib.Core.Bool.{true, cond};
 ghost use mathlib.Core.List.{_∷_, _++_};
 ghost use Prim.Native.Nat.{_+_, _≤_, _<_};
 ghost use lib.ListN.{length};
+ghost use Rattle.number.specs.Refusal.{none};
 ghost use Rattle.number.specs.Number.{numberBytes};
 ghost use Rattle.number.specs.Output.{unwritten, writing, written};
 ghost use Rattle.event.specs.Event.{known, arguments, noEvent, event, accepted, refused, unreadable, readOne, readSecond, readTwo, readEvent, writeEvent, eventWritten};
@@ -28,30 +29,17 @@ const IN_TRACE: u8 = 20;
 // In the place of a count of arguments: no event has the code.
 const NO_EVENT: u8 = 3;
 
-// The event at a place of `trace`. Most numbers of a trace have one byte, so these come first.
-pub fn read_event(trace: &[u8], at: usize) -> EventRead
-    ensures { λ r. ⌜ r ≡ readEvent (now (trace .entry)) at ⌝ }
-{
-    if trace.len() <= at {
-        return read_long(trace, at);
-    }
-    let code = trace[at];
-    let next = at + 1;
-    let count = arguments(code as u32);
-    if count == 0 {
-        return accepted(code, 0, 0, next);
-    }
-    if count == 1 && next < trace.len() {
-        let first = trace[next];
-        if first < 128 {
-            return accepted(code, first as u32, 0, next + 1);
-        }
-    }
-    read_long(trace, at)
+// The most bytes of an event whose numbers have one byte each.
+const SHORT: usize = 3;
+
+// Where an event ends: the place after it, or a refusal with its place.
+pub struct EventEnd {
+    pub refusal: u8,
+    pub place: usize,
 }
 
-// The same, number by number.
-fn read_long(trace: &[u8], at: usize) -> EventRead
+// The event at a place of `trace`, read number by number.
+pub fn read_event(trace: &[u8], at: usize) -> EventRead
     ensures { λ r. ⌜ r ≡ readEvent (now (trace .entry)) at ⌝ }
 {
     let head = read_number(trace, at);
@@ -70,6 +58,49 @@ fn read_long(trace: &[u8], at: usize) -> EventRead
         return read_one(trace, code as u8, head.place);
     }
     read_two(trace, code as u8, head.place)
+}
+
+// Where the event at a place of `trace` ends, or why it is refused and where: as `read_event` says it, without the
+// event. Most numbers of a trace have one byte, so these come first.
+pub fn event_end(trace: &[u8], at: usize) -> EventEnd
+    ensures refusal { λ r. ⌜ r .refusal ≡ readEvent (now (trace .entry)) at .refusal ⌝ }
+    ensures place { λ r. ⌜ r .place ≡ readEvent (now (trace .entry)) at .place ⌝ }
+{
+    if trace.len() <= at || trace.len() - at < SHORT {
+        return long_end(trace, at);
+    }
+    let count = arguments(trace[at] as u32);
+    let next = at + 1;
+    if count == 0 {
+        return ended(next);
+    }
+    let first = trace[next];
+    if count == 1 && first < 128 {
+        return ended(next + 1);
+    }
+    if count == 2 && first < 128 && trace[next + 1] < 128 {
+        return ended(next + 2);
+    }
+    long_end(trace, at)
+}
+
+// An event that is accepted ends here.
+fn ended(place: usize) -> EventEnd
+    ensures { λ r. ⌜ (r .refusal ≡ none) × (r .place ≡ place) ⌝ }
+{
+    EventEnd { refusal: 0, place }
+}
+
+// The same, number by number.
+fn long_end(trace: &[u8], at: usize) -> EventEnd
+    ensures refusal { λ r. ⌜ r .refusal ≡ readEvent (now (trace .entry)) at .refusal ⌝ }
+    ensures place { λ r. ⌜ r .place ≡ readEvent (now (trace .entry)) at .place ⌝ }
+{
+    let r = read_event(trace, at);
+    EventEnd {
+        refusal: r.refusal,
+        place: r.place,
+    }
 }
 
 // How many arguments follow the code.

@@ -2,7 +2,7 @@
 ghost use mathlib.Core.Path.{_≡_};
 ghost use Rattle.event.specs.Trace.{readTrace};
 ghost use Rattle.kernel.specs.Passes.{counted};
-use event_codec::read_event;
+use event_codec::event_end;
 
 // How many events were read; the refusal is 0 where they are the whole trace.
 pub struct Counted {
@@ -17,7 +17,7 @@ pub fn count_events(trace: &[u8]) -> Counted
     let mut at: usize = 0;
     let mut events: usize = 0;
     while at < trace.len() {
-        let r = read_event(trace, at);
+        let r = event_end(trace, at);
         if r.refusal != 0 {
             return Counted {
                 events,

@@ -43,81 +43,81 @@ pub fn play<'a, 'b>(
         let mut next = at + 1;
         match code {
             1 => {
-                let a = read_number(trace, next);
-                o = o.model.activate(&plan.callable, &plan.priority, a.value);
-                next = a.place;
+                let task = read_number(trace, next);
+                o = o.model.activate(&plan.callable, &plan.priority, task.value);
+                next = task.place;
             }
             2 => {
                 o = o.model.finish(&plan.priority);
             }
             3 => {
-                let a = read_number(trace, next);
+                let task = read_number(trace, next);
                 o = o.model
-                    .chain(plan.isrs, &plan.callable, &plan.priority, a.value);
-                next = a.place;
+                    .chain(plan.isrs, &plan.callable, &plan.priority, task.value);
+                next = task.place;
             }
             4 => {
-                let a = read_number(trace, next);
-                o = o.model
-                    .get(config.resources, &plan.users, &plan.ceiling, a.value);
-                next = a.place;
+                let resource = read_number(trace, next);
+                o = o.model.get(config.resources, &plan.users, &plan.ceiling, resource.value);
+                next = resource.place;
             }
             5 => {
-                let a = read_number(trace, next);
-                o = o.model.release(config.resources, &plan.priority, a.value);
-                next = a.place;
+                let resource = read_number(trace, next);
+                o = o.model
+                    .release(config.resources, &plan.priority, resource.value);
+                next = resource.place;
             }
             6 => {
                 o = o.model.tick(&plan.compare, &plan.entry, &plan.priority);
             }
             7 => {
-                let a = read_number(trace, next);
+                let isr = read_number(trace, next);
                 let counts = counts_lines(config.version);
-                o = o.model.line(counts, &plan.line, &plan.priority, a.value);
-                next = a.place;
+                o = o.model.line(counts, &plan.line, &plan.priority, isr.value);
+                next = isr.place;
             }
             8 => {
-                let a = read_number(trace, next);
-                let b = read_number(trace, a.place);
+                let table = read_number(trace, next);
+                let delay = read_number(trace, table.place);
                 o = o.model.start(
                     config.tables,
                     &plan.first,
                     &config.entries,
                     &config.period,
                     &config.offset,
-                    a.value,
-                    b.value,
+                    table.value,
+                    delay.value,
                 );
-                next = b.place;
+                next = delay.place;
             }
             9 => {
-                let a = read_number(trace, next);
+                let table = read_number(trace, next);
                 o = o.model
-                    .stop(config.tables, &plan.first, &config.entries, a.value);
-                next = a.place;
+                    .stop(config.tables, &plan.first, &config.entries, table.value);
+                next = table.place;
             }
             10 => {
-                let a = read_number(trace, next);
-                o = o.model.wait(plan.extended, &plan.priority, a.value);
-                next = a.place;
+                let mask = read_number(trace, next);
+                o = o.model.wait(plan.extended, &plan.priority, mask.value);
+                next = mask.place;
             }
             11 => {
-                let a = read_number(trace, next);
-                let b = read_number(trace, a.place);
+                let task = read_number(trace, next);
+                let mask = read_number(trace, task.place);
                 o = o.model.set_event(
                     plan.isrs,
                     plan.extended,
                     &plan.rank,
                     &plan.priority,
-                    a.value,
-                    b.value,
+                    task.value,
+                    mask.value,
                 );
-                next = b.place;
+                next = mask.place;
             }
             12 => {
-                let a = read_number(trace, next);
-                o = o.model.clear(plan.extended, a.value);
-                next = a.place;
+                let mask = read_number(trace, next);
+                o = o.model.clear(plan.extended, mask.value);
+                next = mask.place;
             }
             0 | 13..=255 => {
                 o.status = DONE;

@@ -6,7 +6,6 @@ use native.Mathlib.Omega.{arith}
 use native.Mathlib.Nat.{zero-add}
 use lib.ListN.{length}
 use Rattle.number.specs.Refusal.{none}
-use Rattle.event.specs.declared.EventRead.{EventRead}
 use Rattle.event.specs.Event.{readEvent}
 use Rattle.event.specs.Trace.{TraceRead, ended, broken, before, readRest, readTrace}
 use Rattle.event.proofs.Theorems.{event-reading, rest-end, rest-step, rest-refused}
@@ -46,28 +45,30 @@ module _ (bs : List ℕ) (at n : ℕ) (p : Passed bs at n) where
   pub passed-end : length bs ≤ at → record { events = n; refusal = none; place = at } ≡ counted (readTrace bs)
   passed-end h = same-counted n (ended at) (rest-end bs at h) (omega arith)
 
-  module _ (r : EventRead) (read : r ≡ readEvent bs at) where
-    pub passed-refused : at < length bs → (r .refusal ≡ none → ⊥)
-        → record { events = n; refusal = r .refusal; place = r .place } ≡ counted (readTrace bs)
+  -- the event at the place, of which the first pass sees its refusal f and the place q behind it
+  module _ {f q : ℕ} (said : (f ≡ readEvent bs at .refusal) × (q ≡ readEvent bs at .place)) where
+    pub passed-refused : at < length bs → (f ≡ none → ⊥)
+        → record { events = n; refusal = f; place = q } ≡ counted (readTrace bs)
     passed-refused h bad =
-        same-counted n (broken r) (rest-refused bs at h (rw read at bad) ∙ ap broken (sym read)) (omega arith)
+        rw (said .0, said .1)
+        (same-counted n (broken (readEvent bs at)) (rest-refused bs at h (rw (said .0) at bad)) (omega arith))
 
-    pub passed-later : r .refusal ≡ none → at < r .place
-    passed-later ok = rw read (event-reading bs at .after (rw read at ok))
+    module _ (ok : f ≡ none) where
+      fine : readEvent bs at .refusal ≡ none
+      fine = sym (said .0) ∙ ok
 
-    pub passed-turn : r .refusal ≡ none → Passed bs (r .place) (n + 1)
-    passed-turn ok =
-        let later = passed-later ok in
-        record {
-          at-le = rw read (event-reading bs at .inside fine);
-          few = omega (arith, p .few);
-          events = rw read (omega (arith, p .events, ap (λ (t : TraceRead). length (t .events)) s));
-          refusal = rw read (sym (ap (λ (t : TraceRead). t .refusal) s) ∙ p .refusal);
-          place = rw read (sym (ap (λ (t : TraceRead). t .place) s) ∙ p .place);
-        }
-      where
-        fine : readEvent bs at .refusal ≡ none
-        fine = rw read at ok
+      more : readRest bs at ≡ before (readEvent bs at .event) (readRest bs (readEvent bs at .place))
+      more = rest-step bs at fine
 
-        s : readRest bs at ≡ before (readEvent bs at .event) (readRest bs (readEvent bs at .place))
-        s = rest-step bs at fine
+      pub passed-later : at < q
+      passed-later = rw (said .1) (event-reading bs at .after fine)
+
+      pub passed-turn : Passed bs q (n + 1)
+      passed-turn =
+          record {
+            at-le = rw (said .1) (event-reading bs at .inside fine);
+            few = omega (arith, p .few, passed-later);
+            events = rw (said .1) (omega (arith, p .events, ap (λ (t : TraceRead). length (t .events)) more));
+            refusal = rw (said .1) (sym (ap (λ (t : TraceRead). t .refusal) more) ∙ p .refusal);
+            place = rw (said .1) (sym (ap (λ (t : TraceRead). t .place) more) ∙ p .place);
+          }

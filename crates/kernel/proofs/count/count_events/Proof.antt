@@ -17,20 +17,17 @@ loop-holds c = passed-start (c .before .args .trace .now)
 
 returns : tie.Need-returns Inv-loop μ-loop
 returns c = let l = c .before .before .before .before .loop in
-    passed-refused (c .before .before .before .before .before .before .args .trace .now) (l .at) (l .events) (l .inv)
-    (c .before .before .read-event .result) (c .before .before .read-event .ensures)
+    passed-refused _ (l .at) (l .events) (l .inv) (c .before .before .event-end .ensures)
     (c .before .before .before .loop-test .taken) (c .if1 .taken)
 
 loop-less : tie.Need-loop-less Inv-loop μ-loop
 loop-less c = let l = c .before .before .before .before .loop in
-    let later = passed-later (c .before .before .before .before .before .before .args .trace .now) (l .at) (l .events)
-    (l .inv) (c .before .before .read-event .result) (c .before .before .read-event .ensures) (c .if1 .left) in
-    omega arith
+    let later = passed-later _ (l .at) (l .events) (l .inv) (c .before .before .event-end .ensures) (c .if1 .left) in
+    omega (arith, later, c .before .before .before .loop-test .taken)
 
 loop-again : tie.Need-loop-again Inv-loop μ-loop
 loop-again c = let l = c .before .before .before .before .loop in
-    passed-turn (c .before .before .before .before .before .before .args .trace .now) (l .at) (l .events) (l .inv)
-    (c .before .before .read-event .result) (c .before .before .read-event .ensures) (c .if1 .left)
+    passed-turn _ (l .at) (l .events) (l .inv) (c .before .before .event-end .ensures) (c .if1 .left)
 
 returns-2 : tie.Need-returns-2 Inv-loop μ-loop
 returns-2 c = let l = c .before .loop in

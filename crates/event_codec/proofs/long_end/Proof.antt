@@ -1,0 +1,12 @@
+-- `long_end` meets its contract: it hands on what `read_event` says.
+use mathlib.Core.Path.{ap}
+use Rattle.event.specs.declared.EventRead.{EventRead}
+use Rattle.event_codec.proofs.long_end.Statement.{statement}
+use Rattle.event_codec.proofs.long_end.Tie as tie
+
+returns : tie.Need-returns
+returns c =
+    (ap (λ (r : EventRead). r .refusal) (c .read-event .ensures), ap (λ (r : EventRead). r .place) (c .read-event .ensures))
+
+pub long-end-spec : {M : Type 1} → statement M
+long-end-spec = tie.close (tie.spec (λ c κs. tt) returns)
