@@ -15,6 +15,7 @@ use crate::output::put_answer;
 use crate::output::runner;
 use config::Config;
 use number_codec::read_number;
+use number_codec::read_pair;
 use plan::Plan;
 
 // Each event meets the model that the one before it handed back; the last one's is the result.
@@ -77,18 +78,17 @@ pub fn play<'a, 'b>(
                 next = isr.place;
             }
             8 => {
-                let table = read_number(trace, next);
-                let delay = read_number(trace, table.place);
+                let arguments = read_pair(trace, next);
                 o = o.model.start(
                     config.tables,
                     &plan.first,
                     &config.entries,
                     &config.period,
                     &config.offset,
-                    table.value,
-                    delay.value,
+                    arguments.first,
+                    arguments.second,
                 );
-                next = delay.place;
+                next = arguments.place;
             }
             9 => {
                 let table = read_number(trace, next);
@@ -102,17 +102,16 @@ pub fn play<'a, 'b>(
                 next = mask.place;
             }
             11 => {
-                let task = read_number(trace, next);
-                let mask = read_number(trace, task.place);
+                let arguments = read_pair(trace, next);
                 o = o.model.set_event(
                     plan.isrs,
                     plan.extended,
                     &plan.rank,
                     &plan.priority,
-                    task.value,
-                    mask.value,
+                    arguments.first,
+                    arguments.second,
                 );
-                next = mask.place;
+                next = arguments.place;
             }
             12 => {
                 let mask = read_number(trace, next);

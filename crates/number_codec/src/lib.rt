@@ -14,6 +14,13 @@ ghost use Rattle.number.specs.Output.{writing, written};
 // How many groups may stand before the last one.
 const LEADING: usize = 4;
 
+// Two numbers, and the place behind the second; a number that can't be read is 0.
+pub struct Pair {
+    pub first: u32,
+    pub second: u32,
+    pub place: usize,
+}
+
 // The number at a place of `bytes`. Most numbers of a trace have one byte, so these come first.
 pub fn read_number(bytes: &[u8], at: usize) -> NumberRead
     ensures { λ r. ⌜ r ≡ readNumber (now (bytes .entry)) at ⌝ }
@@ -108,6 +115,48 @@ fn refused(refusal: u8, place: usize) -> NumberRead
         value: 0,
         refusal: refusal,
         place: place,
+    }
+}
+
+// The two numbers at a place of `bytes`, one behind the other. Most numbers of a trace have one byte, so these come
+// first.
+pub fn read_pair(bytes: &[u8], at: usize) -> Pair
+    ensures first { λ r. ⌜ r .first ≡ readNumber (now (bytes .entry)) at .value ⌝ }
+    ensures second { λ r. ⌜ r .second
+        ≡ readNumber (now (bytes .entry)) (readNumber (now (bytes .entry)) at .place) .value ⌝ }
+    ensures place { λ r. ⌜ r .place
+        ≡ readNumber (now (bytes .entry)) (readNumber (now (bytes .entry)) at .place) .place ⌝ }
+{
+    if bytes.len() <= at || bytes.len() - at < 2 {
+        return long_pair(bytes, at);
+    }
+    let next = at + 1;
+    let first = bytes[at];
+    let second = bytes[next];
+    if first < 128 && second < 128 {
+        return Pair {
+            first: first as u32,
+            second: second as u32,
+            place: next + 1,
+        };
+    }
+    long_pair(bytes, at)
+}
+
+// The same, number by number.
+fn long_pair(bytes: &[u8], at: usize) -> Pair
+    ensures first { λ r. ⌜ r .first ≡ readNumber (now (bytes .entry)) at .value ⌝ }
+    ensures second { λ r. ⌜ r .second
+        ≡ readNumber (now (bytes .entry)) (readNumber (now (bytes .entry)) at .place) .value ⌝ }
+    ensures place { λ r. ⌜ r .place
+        ≡ readNumber (now (bytes .entry)) (readNumber (now (bytes .entry)) at .place) .place ⌝ }
+{
+    let first = read_number(bytes, at);
+    let second = read_number(bytes, first.place);
+    Pair {
+        first: first.value,
+        second: second.value,
+        place: second.place,
     }
 }
 

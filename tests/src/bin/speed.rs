@@ -1,10 +1,11 @@
 //! Times the proved run beside the Rust implementations: `speed [--write FILE]`.
 //!
-//! All implementations run in one process on the same inputs, call by call in turn; before every call the output buffer is
-//! cleared, outside the time taken. A round goes through all traces of a table; its time for a trace is that of the
-//! quickest call, since load only adds; a ratio is the median over the rounds. Instructions are counted by callgrind, if
-//! valgrind is there: the program runs itself as `speed --repeat IMPLEMENTATION SHAPE LENGTH TIMES` with two values of TIMES
-//! and takes the difference.
+//! All implementations run in one process on the same inputs, in turn; before every call the output buffer is cleared,
+//! outside the time taken. A row of a table is one or more traces, and a round goes through all rows; a ratio is the
+//! median over the rounds. Drawn traces are met once a round, as the bench meets them: there are too many of them for a
+//! processor to learn their branches. One trace is run again and again, and the quickest call of a round counts, since
+//! load only adds. Instructions are counted by callgrind, if valgrind is there: the program runs itself as
+//! `speed --repeat IMPLEMENTATION SHAPE LENGTH TIMES` with two values of TIMES and takes the difference.
 
 use std::fmt::Write;
 use std::process::{Command, ExitCode};
@@ -15,9 +16,18 @@ use osek_tests::compare::{self, outcome, Implementation};
 use osek_tests::fast::TRACE_MAX;
 use osek_tests::stack;
 
-const ROUNDS: usize = 101;
-/// Calls of each implementation in a round.
-const CALLS: usize = 7;
+/// How often a row is run: rounds, and in each of them so many times by each implementation.
+#[derive(Clone, Copy)]
+struct Times {
+    rounds: usize,
+    calls: usize,
+}
+
+/// For rows of drawn traces, and so many of them.
+const ONCE: Times = Times { rounds: 21, calls: 1 };
+const DRAWN: u64 = 300;
+/// For rows of one trace.
+const AGAIN: Times = Times { rounds: 101, calls: 7 };
 const SEED: u64 = 1;
 
 const SHAPES: [(Shape, &str); 5] = [
@@ -69,18 +79,26 @@ fn main() -> ExitCode {
     ExitCode::SUCCESS
 }
 
-fn events(case: &Case) -> usize {
-    let (result, _) = outcome(compare::FAST, case);
-    assert_eq!(result >> 32, 0, "a timed trace is accepted");
-    result as usize
+/// The events of all traces of a row.
+fn events(row: &[Case]) -> usize {
+    let of = |case| {
+        let (result, _) = outcome(compare::FAST, case);
+        assert_eq!(result >> 32, 0, "a timed trace is accepted");
+        result as usize
+    };
+    row.iter().map(of).sum()
 }
 
-/// The nanoseconds of one call.
-fn call(implementation: Implementation, case: &Case, out: &mut [u8]) -> f64 {
-    out.fill(0);
-    let start = Instant::now();
-    std::hint::black_box((implementation.run)(&case.config, &case.trace, std::hint::black_box(out)));
-    start.elapsed().as_nanos() as f64
+/// The nanoseconds of one call for each trace of a row.
+fn call(implementation: Implementation, row: &[Case], out: &mut [u8]) -> f64 {
+    let mut taken = 0;
+    for case in row {
+        out.fill(0);
+        let start = Instant::now();
+        std::hint::black_box((implementation.run)(&case.config, &case.trace, std::hint::black_box(&mut *out)));
+        taken += start.elapsed().as_nanos();
+    }
+    taken as f64
 }
 
 fn median(mut values: Vec<f64>) -> f64 {
@@ -88,30 +106,30 @@ fn median(mut values: Vec<f64>) -> f64 {
     values[values.len() / 2]
 }
 
-/// For each case and each implementation its nanoseconds per call, and how many times as long the first implementation
-/// takes. A round goes through all cases, so that a slow spell of the machine falls on all of them alike.
-fn time(cases: &[Case]) -> Vec<Vec<(f64, f64)>> {
+/// For each row and each implementation its nanoseconds, and how many times as long the first implementation takes. A round
+/// goes through all rows, so that a slow spell of the machine falls on all of them alike.
+fn time(rows: &[Vec<Case>], times: Times) -> Vec<Vec<(f64, f64)>> {
     let implementations = implementations();
-    for case in cases {
+    for case in rows.iter().flatten() {
         for implementation in &implementations {
             assert_eq!(outcome(*implementation, case), outcome(compare::FAST, case), "{} differs", implementation.name);
         }
     }
-    let mut outs: Vec<Vec<u8>> = cases.iter().map(|case| vec![0; case.out_len]).collect();
-    let mut taken = vec![vec![Vec::new(); implementations.len()]; cases.len()];
-    for _ in 0..ROUNDS {
-        for ((case, out), taken) in cases.iter().zip(&mut outs).zip(&mut taken) {
+    let mut out = vec![0; rows.iter().flatten().map(|case| case.out_len).max().unwrap_or(0)];
+    let mut taken = vec![vec![Vec::new(); implementations.len()]; rows.len()];
+    for _ in 0..times.rounds {
+        for (row, taken) in rows.iter().zip(&mut taken) {
             let mut quickest = vec![f64::INFINITY; implementations.len()];
-            for turn in 0..CALLS * implementations.len() {
+            for turn in 0..times.calls * implementations.len() {
                 let index = turn % implementations.len();
-                quickest[index] = quickest[index].min(call(implementations[index], case, out));
+                quickest[index] = quickest[index].min(call(implementations[index], row, &mut out));
             }
             for (taken, quickest) in taken.iter_mut().zip(quickest) {
                 taken.push(quickest);
             }
         }
     }
-    let of_case = |taken: Vec<Vec<f64>>| {
+    let of_row = |taken: Vec<Vec<f64>>| {
         (0..implementations.len())
             .map(|index| {
                 let ratios = taken[0].iter().zip(&taken[index]).map(|(first, this)| first / this).collect();
@@ -119,7 +137,7 @@ fn time(cases: &[Case]) -> Vec<Vec<(f64, f64)>> {
             })
             .collect()
     };
-    taken.into_iter().map(of_case).collect()
+    taken.into_iter().map(of_row).collect()
 }
 
 /// Runs an implementation so many times, for callgrind.
@@ -172,11 +190,9 @@ fn tables() -> String {
          call, outside the time taken. Rust keeps for each table how far its next entry is; Rust, cells counts every \
          cell at every tick.\n"
     );
-    let _ = writeln!(text, "Nanoseconds per event, and median of the ratios of {ROUNDS} rounds:\n");
-    columns(&mut text, "trace of 8,192 bytes");
-    let rows = |text: &mut String, names: &[String], cases: &[Case]| {
-        for ((name, case), times) in names.iter().zip(cases).zip(time(cases)) {
-            let events = events(case);
+    let rows = |text: &mut String, names: &[String], rows: &[Vec<Case>], times: Times| {
+        for ((name, row), times) in names.iter().zip(rows).zip(time(rows, times)) {
+            let events = events(row);
             let _ = write!(text, "| {name} | {events} |");
             for (nanoseconds, _) in &times {
                 let _ = write!(text, " {:.2} |", nanoseconds / events as f64);
@@ -187,13 +203,32 @@ fn tables() -> String {
             let _ = writeln!(text);
         }
     };
-    let cases = SHAPES.map(|(shape, _)| cases::timed(SEED, shape, TRACE_MAX));
-    rows(&mut text, &SHAPES.map(|(_, name)| name.to_string()), &cases);
+    let names = SHAPES.map(|(_, name)| name.to_string());
+    let drawn =
+        SHAPES.map(|(shape, _)| (SEED..SEED + DRAWN).map(|seed| cases::timed(seed, shape, TRACE_MAX)).collect());
+    let _ = writeln!(
+        text,
+        "Nanoseconds per event of {DRAWN} drawn traces of 8,192 bytes, each met once a round, and median of the ratios of \
+         {} rounds:\n",
+        ONCE.rounds
+    );
+    columns(&mut text, "traces");
+    rows(&mut text, &names, &drawn, ONCE);
+
+    let cases = SHAPES.map(|(shape, _)| vec![cases::timed(SEED, shape, TRACE_MAX)]);
+    let _ = writeln!(
+        text,
+        "\nOne trace of 8,192 bytes again and again, whose branches a processor learns, and median of the ratios of {} \
+         rounds:\n",
+        AGAIN.rounds
+    );
+    columns(&mut text, "trace");
+    rows(&mut text, &names, &cases, AGAIN);
 
     let _ = writeln!(text, "\nInstructions per event, counted by callgrind:\n");
-    columns(&mut text, "trace of 8,192 bytes");
-    for ((_, name), case) in SHAPES.iter().zip(&cases) {
-        let events = events(case);
+    columns(&mut text, "trace");
+    for ((_, name), row) in SHAPES.iter().zip(&cases) {
+        let events = events(row);
         let counts: Vec<Option<u64>> =
             implementations.iter().map(|implementation| instructions(*implementation, name, TRACE_MAX)).collect();
         let _ = write!(text, "| {name} | {events} |");
@@ -218,12 +253,13 @@ fn tables() -> String {
     rows(
         &mut text,
         &lengths.map(|length| length.to_string()),
-        &lengths.map(|length| cases::timed(SEED, Shape::Mixed, length)),
+        &lengths.map(|length| vec![cases::timed(SEED, Shape::Mixed, length)]),
+        AGAIN,
     );
 
     let _ = write!(text, "\nStack use of a run in bytes, the most over the traces of 8,192 bytes:");
     for (index, implementation) in implementations.iter().enumerate() {
-        let used = stack::used(implementation.run, &cases);
+        let used = stack::used(implementation.run, &cases.concat());
         let _ = write!(text, "{} {} {used}", if index == 0 { "" } else { "," }, title(*implementation));
     }
     let _ = writeln!(text, ".");

@@ -17,6 +17,7 @@ use Rattle.number.specs.Refusal.{none}
 use Rattle.number.specs.Number.{Bytes, readNumber, groupBytes, numberBytes}
 use Rattle.number.proofs.Cases.{by-eq}
 use Rattle.number.proofs.Theorems.{read-single}
+use Rattle.number_codec.specs.declared.Pair.{Pair}
 use Rattle.event.specs.declared.EventRead.{EventRead}
 use Rattle.event.specs.Event.{lastCode, known, arguments, event, accepted, readOne, readTwo, readArguments, afterNumber, readEvent, eventBytes}
 use Rattle.event.proofs.Codes.{known-le}
@@ -38,6 +39,13 @@ known-byte bs at bytes fine =
     let w = event-reading bs at .writable fine in
     rw (code-byte bs at bytes fine) (w .at-least, w .at-most)
 
+-- a is the two numbers of bs from a place on
+abbrev pub PairAt : List ℕ → ℕ → Pair → Type 0
+PairAt bs at a =
+    (a .first ≡ readNumber bs at .value)
+    × ((a .second ≡ readNumber bs (readNumber bs at .place) .value)
+    × (a .place ≡ readNumber bs (readNumber bs at .place) .place))
+
 -- an accepted reading goes on behind each of its numbers
 past-number : {r : EventRead} {n : NumberRead} (m : NumberRead) (f : ℕ → ℕ → EventRead) → r .refusal ≡ none
     → r ≡ afterNumber m f → n ≡ m → r ≡ f (n .value) (n .place)
@@ -58,16 +66,16 @@ module _ (bs : List ℕ) (at : ℕ) (within : at < length bs) (fine : readEvent 
     unfolding readArguments
     none-read e = behind ∙ rw e
 
-    module _ {a : NumberRead} (first : a ≡ readNumber bs (at + 1)) where
-      pub one-read : arguments k ≡ 1 → readEvent bs at ≡ accepted (event k (a .value) 0) (a .place)
-      unfolding readArguments
-      one-read e =
-          let h : readEvent bs at ≡ readOne bs k (at + 1) = behind ∙ rw e in
-          past-number _ _ fine h first
+    pub one-read : arguments k ≡ 1 → {a : NumberRead} → a ≡ readNumber bs (at + 1)
+        → readEvent bs at ≡ accepted (event k (a .value) 0) (a .place)
+    unfolding readArguments
+    one-read e first =
+        let h : readEvent bs at ≡ readOne bs k (at + 1) = behind ∙ rw e in
+        past-number _ _ fine h first
 
-      pub two-read : arguments k ≡ 2 → {b : NumberRead} → b ≡ readNumber bs (a .place)
-          → readEvent bs at ≡ accepted (event k (a .value) (b .value)) (b .place)
-      unfolding readArguments
-      two-read e second =
-          let h : readEvent bs at ≡ readTwo bs k (at + 1) = behind ∙ rw e in
-          past-number _ _ fine (past-number _ _ fine h first) second
+    pub two-read : arguments k ≡ 2 → {a : Pair} → PairAt bs (at + 1) a
+        → readEvent bs at ≡ accepted (event k (a .first) (a .second)) (a .place)
+    unfolding readArguments
+    two-read e pair =
+        let h : readEvent bs at ≡ readTwo bs k (at + 1) = behind ∙ rw e in
+        rw (pair .0, pair .1 .0, pair .1 .1) (past-number _ _ fine (past-number _ _ fine h refl) refl)

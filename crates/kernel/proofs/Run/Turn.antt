@@ -12,6 +12,7 @@ use native.Mathlib.Omega.{arith}
 use lib.ListN.{length, getD}
 use Rattle.number.specs.declared.NumberRead.{NumberRead}
 use Rattle.number.specs.Refusal.{none}
+use Rattle.number_codec.specs.declared.Pair.{Pair}
 use Rattle.number.specs.Number.{readNumber}
 use Rattle.config.specs.declared.Config.{Config}
 use Rattle.config.specs.Meaning.{countsLines}
@@ -22,7 +23,7 @@ use Rattle.machine.specs.Model.{Model, Outcome}
 use Rattle.machine.specs.Events.{activate, finish, chain, get, release, tick, line, start, stop, wait, setEvent, clear}
 use Rattle.machine.specs.Machine.{statusOf, effectOf, refusalOf, machineStep}
 use Rattle.run.specs.Run.{callOf}
-use Rattle.kernel.proofs.Run.Read.{none-read, one-read, two-read}
+use Rattle.kernel.proofs.Run.Read.{PairAt, none-read, one-read, two-read}
 
 -- a turn in the model m: the event at the place `at` was read, the next one stands at `next`, and o is the step
 pub record Turn (c : Config) (p : Plan) (ts : List ℕ) (m : Model) (at next : ℕ) (o : Outcome) : Type 0 where
@@ -45,35 +46,34 @@ module _ {c : Config} {p : Plan} {ts : List ℕ} {m : Model} {at : ℕ} (inside 
             stepped = stepped;
           }
 
-      module _ {a : NumberRead} (first : a ≡ readNumber ts (at + 1)) where
-        turn-one : arguments k ≡ 1 → o ≡ machineStep c p m (callOf (event k (a .value) 0)) → next ≡ a .place
-            → Turn c p ts m at next o
-        turn-one n stepped after =
-            record {
-              event = event k (a .value) 0;
-              read =
-                  one-read ts at inside fine k is-known code first n ∙ ap (accepted (event k (a .value) 0)) (sym after);
-              stepped = stepped;
-            }
+      turn-one : arguments k ≡ 1 → {a : NumberRead} → a ≡ readNumber ts (at + 1)
+          → o ≡ machineStep c p m (callOf (event k (a .value) 0)) → next ≡ a .place
+          → Turn c p ts m at next o
+      turn-one n {a} read stepped after =
+          record {
+            event = event k (a .value) 0;
+            read = one-read ts at inside fine k is-known code n read ∙ ap (accepted (event k (a .value) 0)) (sym after);
+            stepped = stepped;
+          }
 
-        turn-two : arguments k ≡ 2 → {b : NumberRead} → b ≡ readNumber ts (a .place)
-            → o ≡ machineStep c p m (callOf (event k (a .value) (b .value))) → next ≡ b .place
-            → Turn c p ts m at next o
-        turn-two n {b} second stepped after =
-            record {
-              event = event k (a .value) (b .value);
-              read =
-                  two-read ts at inside fine k is-known code first n second
-                  ∙ ap (accepted (event k (a .value) (b .value))) (sym after);
-              stepped = stepped;
-            }
+      turn-two : arguments k ≡ 2 → {a : Pair} → PairAt ts (at + 1) a
+          → o ≡ machineStep c p m (callOf (event k (a .first) (a .second))) → next ≡ a .place
+          → Turn c p ts m at next o
+      turn-two n {a} read stepped after =
+          record {
+            event = event k (a .first) (a .second);
+            read =
+                two-read ts at inside fine k is-known code n read
+                ∙ ap (accepted (event k (a .first) (a .second))) (sym after);
+            stepped = stepped;
+          }
 
-    -- what each arm leaves; o is what its method hands back, a and b are the arguments that it read
+    -- what each arm leaves; o is what its method hands back, a what it read
     module _ {next : ℕ} {o : Outcome} where
       pub activate-turn : getD ts at 0 ≡ 1 → {a : NumberRead} → a ≡ readNumber ts (at + 1)
           → o ≡ activate (p .callable) (p .priority) m (a .value) → next ≡ a .place → Turn c p ts m at next o
       unfolding known arguments callOf statusOf effectOf refusalOf activate
-      activate-turn code first stepped after = turn-one 1 refl code first refl stepped after
+      activate-turn code read stepped after = turn-one 1 refl code refl read stepped after
 
       pub finish-turn : getD ts at 0 ≡ 2 → o ≡ finish (p .priority) m → next ≡ at + 1 → Turn c p ts m at next o
       unfolding known arguments callOf statusOf effectOf refusalOf finish
@@ -82,17 +82,17 @@ module _ {c : Config} {p : Plan} {ts : List ℕ} {m : Model} {at : ℕ} (inside 
       pub chain-turn : getD ts at 0 ≡ 3 → {a : NumberRead} → a ≡ readNumber ts (at + 1)
           → o ≡ chain (p .isrs) (p .callable) (p .priority) m (a .value) → next ≡ a .place → Turn c p ts m at next o
       unfolding known arguments callOf statusOf effectOf refusalOf chain
-      chain-turn code first stepped after = turn-one 3 refl code first refl stepped after
+      chain-turn code read stepped after = turn-one 3 refl code refl read stepped after
 
       pub get-turn : getD ts at 0 ≡ 4 → {a : NumberRead} → a ≡ readNumber ts (at + 1)
           → o ≡ get (c .resources) (p .users) (p .ceiling) m (a .value) → next ≡ a .place → Turn c p ts m at next o
       unfolding known arguments callOf statusOf effectOf refusalOf get
-      get-turn code first stepped after = turn-one 4 refl code first refl stepped after
+      get-turn code read stepped after = turn-one 4 refl code refl read stepped after
 
       pub release-turn : getD ts at 0 ≡ 5 → {a : NumberRead} → a ≡ readNumber ts (at + 1)
           → o ≡ release (c .resources) (p .priority) m (a .value) → next ≡ a .place → Turn c p ts m at next o
       unfolding known arguments callOf statusOf effectOf refusalOf release
-      release-turn code first stepped after = turn-one 5 refl code first refl stepped after
+      release-turn code read stepped after = turn-one 5 refl code refl read stepped after
 
       pub tick-turn : getD ts at 0 ≡ 6 → o ≡ tick (p .compare) (p .entry) (p .priority) m → next ≡ at + 1
           → Turn c p ts m at next o
@@ -102,34 +102,34 @@ module _ {c : Config} {p : Plan} {ts : List ℕ} {m : Model} {at : ℕ} (inside 
       pub line-turn : getD ts at 0 ≡ 7 → {a : NumberRead} → a ≡ readNumber ts (at + 1)
           → o ≡ line (countsLines c) (p .line) (p .priority) m (a .value) → next ≡ a .place → Turn c p ts m at next o
       unfolding known arguments callOf statusOf effectOf refusalOf line
-      line-turn code first stepped after = turn-one 7 refl code first refl stepped after
+      line-turn code read stepped after = turn-one 7 refl code refl read stepped after
 
-      pub start-turn : getD ts at 0 ≡ 8 → {a b : NumberRead} → a ≡ readNumber ts (at + 1) → b ≡ readNumber ts (a .place)
-          → o ≡ start (c .tables) (p .first) (c .entries) (c .period) (c .offset) m (a .value) (b .value)
-          → next ≡ b .place → Turn c p ts m at next o
+      pub start-turn : getD ts at 0 ≡ 8 → {a : Pair} → PairAt ts (at + 1) a
+          → o ≡ start (c .tables) (p .first) (c .entries) (c .period) (c .offset) m (a .first) (a .second)
+          → next ≡ a .place → Turn c p ts m at next o
       unfolding known arguments callOf statusOf effectOf refusalOf start
-      start-turn code first second stepped after = turn-two 8 refl code first refl second stepped after
+      start-turn code read stepped after = turn-two 8 refl code refl read stepped after
 
       pub stop-turn : getD ts at 0 ≡ 9 → {a : NumberRead} → a ≡ readNumber ts (at + 1)
           → o ≡ stop (c .tables) (p .first) (c .entries) m (a .value) → next ≡ a .place → Turn c p ts m at next o
       unfolding known arguments callOf statusOf effectOf refusalOf stop
-      stop-turn code first stepped after = turn-one 9 refl code first refl stepped after
+      stop-turn code read stepped after = turn-one 9 refl code refl read stepped after
 
       pub wait-turn : getD ts at 0 ≡ 10 → {a : NumberRead} → a ≡ readNumber ts (at + 1)
           → o ≡ wait (p .extended) (p .priority) m (a .value) → next ≡ a .place → Turn c p ts m at next o
       unfolding known arguments callOf statusOf effectOf refusalOf wait
-      wait-turn code first stepped after = turn-one 10 refl code first refl stepped after
+      wait-turn code read stepped after = turn-one 10 refl code refl read stepped after
 
-      pub set-turn : getD ts at 0 ≡ 11 → {a b : NumberRead} → a ≡ readNumber ts (at + 1) → b ≡ readNumber ts (a .place)
-          → o ≡ setEvent (p .isrs) (p .extended) (p .rank) (p .priority) m (a .value) (b .value)
-          → next ≡ b .place → Turn c p ts m at next o
+      pub set-turn : getD ts at 0 ≡ 11 → {a : Pair} → PairAt ts (at + 1) a
+          → o ≡ setEvent (p .isrs) (p .extended) (p .rank) (p .priority) m (a .first) (a .second) → next ≡ a .place
+          → Turn c p ts m at next o
       unfolding known arguments callOf statusOf effectOf refusalOf setEvent
-      set-turn code first second stepped after = turn-two 11 refl code first refl second stepped after
+      set-turn code read stepped after = turn-two 11 refl code refl read stepped after
 
       pub clear-turn : getD ts at 0 ≡ 12 → {a : NumberRead} → a ≡ readNumber ts (at + 1)
           → o ≡ clear (p .extended) m (a .value) → next ≡ a .place → Turn c p ts m at next o
       unfolding known arguments callOf statusOf effectOf refusalOf clear
-      clear-turn code first stepped after = turn-one 12 refl code first refl stepped after
+      clear-turn code read stepped after = turn-one 12 refl code refl read stepped after
 
 past : (n : ℕ) {k : ℕ} → n ≤ k → (k ≡ n → ⊥) → n < k
 past n h d = omega arith

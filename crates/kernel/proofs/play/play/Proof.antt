@@ -42,7 +42,7 @@ long k =
 
 start-requires : tie.Need-start-requires Inv-loop μ-loop
 start-requires c κs =
-    rows (c .before .before .before .before .before .before .before .before .before .before .before)
+    rows (c .before .before .before .before .before .before .before .before .before .before)
 
 stop-requires : tie.Need-stop-requires Inv-loop μ-loop
 stop-requires c κs = rows (c .before .before .before .before .before .before .before .before)
@@ -77,15 +77,13 @@ turned j =
     ⊎-elim (λ w. line-turn inside fine (w .0 .keys7) (w .1 .ensures)
     (ap viewOutcome (w .7 ∙ w .6 .ensures ∙ rw (w .2 .ensures))) (w .8))
     (λ z7.
-    ⊎-elim (λ w. start-turn inside fine (w .0 .keys8) (w .1 .ensures) (w .2 .ensures)
-    (ap viewOutcome (w .10 ∙ w .9 .ensures)) (w .11))
+    ⊎-elim (λ w. start-turn inside fine (w .0 .keys8) (w .1 .ensures) (ap viewOutcome (w .9 ∙ w .8 .ensures)) (w .10))
     (λ z8.
     ⊎-elim (λ w. stop-turn inside fine (w .0 .keys9) (w .1 .ensures) (ap viewOutcome (w .7 ∙ w .6 .ensures)) (w .8))
     (λ z9.
     ⊎-elim (λ w. wait-turn inside fine (w .0 .keys10) (w .1 .ensures) (ap viewOutcome (w .5 ∙ w .4 .ensures)) (w .6))
     (λ z10.
-    ⊎-elim (λ w. set-turn inside fine (w .0 .keys11) (w .1 .ensures) (w .2 .ensures)
-    (ap viewOutcome (w .7 ∙ w .6 .ensures)) (w .8))
+    ⊎-elim (λ w. set-turn inside fine (w .0 .keys11) (w .1 .ensures) (ap viewOutcome (w .6 ∙ w .5 .ensures)) (w .7))
     (λ z11.
     ⊎-elim (λ w. clear-turn inside fine (w .0 .keys12) (w .1 .ensures) (ap viewOutcome (w .3 ∙ w .2 .ensures)) (w .4))
     (λ z12.
@@ -140,6 +138,6 @@ play-spec =
     (tie.spec
     Inv-loop μ-loop loop-holds (λ c. search needs) (λ c. search needs) (λ c κs. tt) (λ c κs. tt) (λ c κs. tt)
     (λ c κs. tt) (λ c κs. tt) (λ c κs. tt) (λ c κs. tt) (λ c κs. tt) (λ c κs. tt) (λ c κs. tt) (λ c κs. tt)
-    (λ c κs. tt) (λ c κs. tt) (λ c κs. tt) (λ c κs. tt) start-requires (λ c κs. tt) stop-requires (λ c κs. tt)
-    (λ c κs. tt) (λ c κs. tt) (λ c κs. tt) (λ c κs. tt) (λ c κs. tt) (λ c κs. tt) (λ c κs. tt) put-answer-requires
+    (λ c κs. tt) (λ c κs. tt) (λ c κs. tt) start-requires (λ c κs. tt) stop-requires (λ c κs. tt)
+    (λ c κs. tt) (λ c κs. tt) (λ c κs. tt) (λ c κs. tt) (λ c κs. tt) (λ c κs. tt) put-answer-requires
     add-to loop-less loop-again same-length returns)
