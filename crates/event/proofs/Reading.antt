@@ -1,15 +1,19 @@
 -- The reader's definition, number by number.
-use Prim.Native.Nat.{ℕ}
-use mathlib.Core.Path.{_≡_, refl, _∙_}
+use Prim.Native.Nat.{ℕ, _+_, _<_}
+use mathlib.Core.Path.{_≡_, refl, sym, _∙_}
 use mathlib.Core.Bool.{true, false}
 use mathlib.Core.List.{List}
+use native.Mathlib.Omega.{arith}
+use lib.ListN.{length, getD}
 use borrow.Author.Tests.{eq-eqb, ne-eqb}
 use Rattle.number.specs.declared.NumberRead.{NumberRead}
 use Rattle.number.specs.Refusal.{none}
 use Rattle.number.specs.Number.{readNumber}
+use Rattle.number.proofs.Theorems.{read-single}
 use Rattle.event.specs.declared.EventRead.{EventRead}
 use Rattle.event.specs.Event.{known, arguments, refused, unreadable, afterNumber, readArguments, readEvent}
 use Rattle.event.specs.Refusal.{unknownEvent}
+use Rattle.event.proofs.Codes.{known-le}
 
 -- a number that was read leads on, and one that was refused ends the reading
 module _ (n m : NumberRead) (f : ℕ → ℕ → EventRead) (same : n ≡ m) where
@@ -31,3 +35,9 @@ module _ (n : NumberRead) (bs : List ℕ) (at : ℕ) (same : n ≡ readNumber bs
   pub read-unknown : known (n .value) ≡ false → readEvent bs at ≡ refused unknownEvent at
   unfolding readEvent
   read-unknown k = goes-on n (readNumber bs at) _ same read ∙ rw k refl
+
+-- an event whose code is the byte at its place
+pub read-byte : (bs : List ℕ) (at k : ℕ) → at < length bs → getD bs at 0 ≡ k → known k ≡ true
+    → readEvent bs at ≡ readArguments (arguments k) bs k (at + 1)
+read-byte bs at k within code k-known =
+    read-known _ bs at (sym (read-single bs at within (omega (arith, known-le k k-known .1, code)))) refl k code k-known

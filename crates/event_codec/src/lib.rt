@@ -72,20 +72,20 @@ pub fn event_end(trace: &[u8], at: usize) -> EventEnd
     let count = arguments(trace[at] as u32);
     let next = at + 1;
     if count == 0 {
-        return ended(next);
+        return short_end(next);
     }
     let first = trace[next];
     if count == 1 && first < 128 {
-        return ended(next + 1);
+        return short_end(next + 1);
     }
     if count == 2 && first < 128 && trace[next + 1] < 128 {
-        return ended(next + 2);
+        return short_end(next + 2);
     }
     long_end(trace, at)
 }
 
-// An event that is accepted ends here.
-fn ended(place: usize) -> EventEnd
+// The end of an event that is accepted.
+fn short_end(place: usize) -> EventEnd
     ensures { λ r. ⌜ (r .refusal ≡ none) × (r .place ≡ place) ⌝ }
 {
     EventEnd { refusal: 0, place }

@@ -16,12 +16,10 @@ use Rattle.number.specs.declared.NumberRead.{NumberRead}
 use Rattle.number.specs.Refusal.{none}
 use Rattle.number.specs.Number.{Bytes, readNumber, groupBytes, numberBytes}
 use Rattle.number.proofs.Cases.{by-eq}
-use Rattle.number.proofs.Theorems.{read-single}
 use Rattle.number_codec.specs.declared.Pair.{Pair}
 use Rattle.event.specs.declared.EventRead.{EventRead}
 use Rattle.event.specs.Event.{lastCode, known, arguments, event, accepted, readOne, readTwo, readArguments, afterNumber, readEvent, eventBytes}
-use Rattle.event.proofs.Codes.{known-le}
-use Rattle.event.proofs.Reading.{goes-on, ends, read-known}
+use Rattle.event.proofs.Reading.{goes-on, ends, read-byte}
 use Rattle.event.proofs.Theorems.{event-reading, written-read}
 
 code-byte : (bs : List ℕ) (at : ℕ) → Bytes bs → readEvent bs at .refusal ≡ none
@@ -58,9 +56,7 @@ module _ (bs : List ℕ) (at : ℕ) (within : at < length bs) (fine : readEvent 
     (is-known : known k ≡ true) (code : getD bs at 0 ≡ k)
   where
     behind : readEvent bs at ≡ readArguments (arguments k) bs k (at + 1)
-    behind =
-        read-known _ bs at (sym (read-single bs at within (omega (arith, known-le k is-known .1, code)))) refl k code
-        is-known
+    behind = read-byte bs at k within code is-known
 
     pub none-read : arguments k ≡ 0 → readEvent bs at ≡ accepted (event k 0 0) (at + 1)
     unfolding readArguments
