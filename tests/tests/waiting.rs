@@ -1,6 +1,9 @@
 //! Extended tasks, worked by hand: Wait, Set and Clear, who is resumed and when, what becomes of event bits.
 
 use osek_tests::by_hand::{assert_rows, number, Script};
+use osek_tests::cases::{case, Case};
+use osek_tests::compare::{others, outcome, Implementation};
+use osek_tests::fast::{read_event, Event, OUTPUT_MAX};
 
 /// Task 0 (priority 1) runs; extended tasks 1 (3) and 2 (5), ISR 3 (7), task 4 (2); resource 0 of tasks 0 and 1, ceiling 3; a
 /// table of period 50 with an entry at offset 0 for task 1.
@@ -332,4 +335,38 @@ fn thirty_one_tasks_wait_and_an_isr_wakes_them() {
     }
     script.event(&[2], 0, "-", 0, 0);
     script.assert(&many_wait());
+}
+
+/// The four bytes of the last answer to a trace; none where the run is refused.
+fn last_answer(implementation: Implementation, config: &[u8], trace: &[u8]) -> Option<[u8; 4]> {
+    let case = Case { config: config.to_vec(), trace: trace.to_vec(), out_len: OUTPUT_MAX, fill: 77 };
+    let (events, out) = outcome(implementation, &case);
+    let at = 4 * usize::try_from(events).ok()?.checked_sub(1)?;
+    out.get(at..at + 4)?.try_into().ok()
+}
+
+/// A Wait that does not go on is one that is done and after which another body runs, or nobody.
+#[test]
+fn a_wait_that_does_not_go_on_is_answered_as_a_finish_in_its_place() {
+    const FINISH: u8 = 2;
+    for implementation in others() {
+        let mut compared = 0;
+        for number in 0..3000 {
+            let Case { config, mut trace, .. } = case(1, number);
+            trace.truncate(300);
+            let mut runner = None;
+            let mut at = 0;
+            while let Ok((event, next)) = read_event(&trace, at) {
+                let Some(answer) = last_answer(implementation, &config, &trace[..next]) else { break };
+                if matches!(event, Event::Wait(_)) && answer[0] == 0 && runner != Some(answer[1]) {
+                    let instead = last_answer(implementation, &config, &[&trace[..at], &[FINISH]].concat());
+                    assert_eq!(Some(answer), instead, "{}, case {number}, at {at}", implementation.name);
+                    compared += 1;
+                }
+                runner = Some(answer[1]);
+                at = next;
+            }
+        }
+        assert!(compared > 500, "{compared} such Waits were drawn");
+    }
 }

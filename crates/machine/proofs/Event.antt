@@ -5,3 +5,4 @@ pub mod Resources
 pub mod Tick
 pub mod Tables
 pub mod Bits
+pub mod Waits

@@ -3,13 +3,13 @@
 --
 -- In order: demand 3, `agreement` and `demand-3`; who holds a resource, and what a declared user is refused; what
 -- Start and Stop make of the cells; that a refused event leaves the model as it was, but for the count of a lost
--- line.
+-- line; that a Wait that does not go on is a Finish, but for what is kept of the runner.
 use Prim.Native.Nat.{ℕ, suc, _+_, _≤_, _<_}
-use mathlib.Core.Path.{_≡_, refl, sym, _∙_}
+use mathlib.Core.Path.{_≡_, refl, sym, ap, _∙_}
 use mathlib.Core.Logic.{_≢_, _↔_}
 use mathlib.Core.Bool.{Bool, true, false, true≢false, cond, _&&_}
 use mathlib.Core.List.{List}
-use lib.ListN.{length, getD, take}
+use lib.ListN.{length, getD, set, take}
 use native.Mathlib.Omega.{arith}
 use lib.Dec.{eqb}
 use borrow.Author.Tests.{eq-eqb, ne-eqb}
@@ -31,23 +31,25 @@ use Rattle.scheduler.specs.State.{bodyOf, among}
 use Rattle.scheduler.specs.Tick.{dues}
 use Rattle.scheduler.specs.Call.{nobodyRuns, caller, calling}
 use Rattle.scheduler.specs.Entries.{entriesOf, entryAt}
-use Rattle.scheduler.specs.Scheduler.{Event, Activate, Finish, Chain, Get, Release, Tick, Line, Start, Stop, Wait, Set, Clear, step, stepBy, fresh, seen, after}
+use Rattle.scheduler.specs.Scheduler.{Event, Activate, Finish, Chain, Get, Release, Tick, Line, Start, Stop, Wait, Set, Clear, Seen, step, stepBy, fresh, seen, after}
 use Rattle.scheduler.specs.History.{dueMark, DueAt}
 use Rattle.scheduler.proofs.Theorems.{held-by-user, due-exactly}
-use Rattle.word.specs.Word.{has}
+use Rattle.word.specs.Word.{has, with}
 use Rattle.stack.specs.Stack.{rowBytes}
-use Rattle.machine.specs.Model.{Model, Outcome, noRank, withLosses}
+use Rattle.machine.specs.Model.{Model, Outcome, noRank, withBegun, withLosses, withEvents}
 use Rattle.machine.specs.Arbiter.{isTriggered}
 use Rattle.machine.specs.Cells.{oneLost}
 use Rattle.machine.specs.Events.{attempt, idles, ticking, tick, bitsAt}
-use Rattle.machine.specs.Machine.{freshModel, statusOf, effectOf, refusalOf, machineStep, LostLine, cellIn, runnerOf, machineSeen, machineAfter}
+use Rattle.machine.specs.Machine.{freshModel, statusOf, effectOf, refusalOf, machineStep, LostLine, cellIn, runnerOf, observed, machineSeen, machineAfter}
 use Rattle.machine.proofs.Relation.Whole.{Sim}
 use Rattle.machine.proofs.Change.Ticks.{dues-long}
 use Rattle.machine.proofs.Event.Agrees.{Keeps, keeps-of}
 use Rattle.machine.proofs.Event.Tables as Tables
+use Rattle.machine.proofs.Event.Bits as Bits
+use Rattle.machine.proofs.Event.Waits as Waits
 use Rattle.plan.proofs.Fitted.{fitted}
 use Rattle.machine.proofs.Whole.Fresh.{fresh-sim}
-use Rattle.machine.proofs.Whole.Lists.{agreement-from, after-sim}
+use Rattle.machine.proofs.Whole.Lists.{event-agrees, agreement-from, after-sim}
 use Rattle.machine.proofs.Whole.Holders as Holders
 
 -- For every accepted configuration and every list of events, from the fresh start, the machine and the plain
@@ -258,3 +260,47 @@ module _ (c : Config) (p : Plan) (m : Model) where
   pub refused-same-one : c .version ≡ 1 → (e : Event) → machineStep c p m e .status ≢ done
       → machineStep c p m e .model ≡ m
   refused-same-one v e refused = refused-same e refused (λ i lost. true≢false (sym (lost .0) ∙ rw v))
+
+-- A Wait that does not go on is a Finish, but for what is kept of the runner: the runner leaves as by its end, and the
+-- same arbitration follows. Whatever the model, those that the two leave differ in the runner alone, which is aside, with
+-- its event bits and its mask, and what is seen of the two is the same.
+module _ (c : Config) (p : Plan) (m : Model) (w : ℕ) where
+  abbrev ended : Model
+  ended = machineStep c p m Finish .model
+
+  pub machine-wait-leaves : machineStep c p m (Wait w) .status ≡ done → anySet (bitsAt m (m .core .runner)) w ≡ false
+      → machineStep c p m (Wait w) .model
+      ≡ withEvents ended (withBegun (ended .core) (ended .core .started) (with (m .core .aside) (m .core .runner)))
+      (m .cleared)
+      (m .bits)
+      (set (m .waited) (m .core .runner) w)
+  unfolding statusOf effectOf refusalOf
+  machine-wait-leaves e unset =
+      ap (λ (o : Outcome). o .model)
+      (Waits.as-finish (p .extended) (p .priority) m w (sym (status-is c p m (Wait w)) ∙ e) unset)
+
+  pub machine-wait-seen : machineStep c p m (Wait w) .status ≡ done → anySet (bitsAt m (m .core .runner)) w ≡ false
+      → observed c p m (Wait w) (machineStep c p m (Wait w)) ≡ observed c p m Finish (machineStep c p m Finish)
+  unfolding statusOf effectOf refusalOf
+  machine-wait-seen e unset =
+      ap (observed c p m (Wait w))
+      (Waits.as-finish (p .extended) (p .priority) m w (sym (status-is c p m (Wait w)) ∙ e) unset)
+
+-- So it is of the plain scheduler, after every list of events: what is seen of a Wait that does not go on is what would
+-- be seen of a Finish in its place
+pub wait-as-finish : (c : Config) → Accepted c → Shaped c → (es : List Event) (w : ℕ)
+    → step c (after c (fresh c) es) (Wait w) .seen .status ≡ done
+    → anySet (calling c (after c (fresh c) es) .bits) w ≡ false
+    → step c (after c (fresh c) es) (Wait w) .seen ≡ step c (after c (fresh c) es) Finish .seen
+unfolding stepBy
+wait-as-finish c ok shaped es w e unset =
+    let sim = standing c ok shaped es in
+    let fit = fitted c ok shaped in
+    let agrees = event-agrees fit (Wait w) sim in
+    let keeps = keeps-of fit (sim .orderly) in
+    let long = dues-long fit (after c (fresh c) es) (sim .cells .tables-long) in
+    sym (agrees .seen)
+    ∙ machine-wait-seen c (planOf c) (reached c es) w
+    (ap (λ (x : Seen). x .status) (agrees .seen) ∙ e)
+    (rw (Bits.caller-bits fit sim keeps long w e) unset)
+    ∙ event-agrees fit Finish sim .seen

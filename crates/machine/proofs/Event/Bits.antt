@@ -13,7 +13,7 @@ use Rattle.config.specs.declared.Config.{Config}
 use Rattle.config.specs.Meaning.{isr, extended, timeTriggered, isTask, isIsr, isExtended, isTimed}
 use Rattle.plan.specs.declared.Plan.{Plan}
 use Rattle.word.specs.Word.{has, without}
-use Rattle.scheduler.specs.Status.{callLevel, noSuch, access, holdsResource, wrongState}
+use Rattle.scheduler.specs.Status.{done, callLevel, noSuch, access, holdsResource, wrongState}
 use Rattle.scheduler.specs.Bits.{anySet, withoutBits}
 use Rattle.scheduler.specs.Body.{started, waiting, isSuspended, competes, Body, become, receives, clears}
 use Rattle.scheduler.specs.State.{State, noBody, changing}
@@ -52,6 +52,9 @@ module _ {c : Config} {p : Plan} {rk : ℕ → ℕ} (fit : Fitted c p rk) {m : M
 
   runner-active : {b : ℕ} {ns : List ℕ} → Runs c rk m s b ns → isSuspended (at bs b .phase) ≡ false
   runner-active {b} k = competes-active (at bs b .phase) (started-competes (at bs b .phase) (k .started-now))
+
+  runner-bits : {b : ℕ} {ns : List ℕ} → Runs c rk m s b ns → bitsAt m (m .core .runner) ≡ at bs b .bits
+  runner-bits {b} k = ap (bitsAt m) (k .rank) ∙ bits-of m (sim .noted) b (k .exists) (runner-active k)
 
   -- Wait
   wait-status : (w : ℕ) → Machine.waitStatus (p .extended) m ≡ waitStatus c s w
@@ -113,8 +116,12 @@ module _ {c : Config} {p : Plan} {rk : ℕ → ℕ} (fit : Fitted c p rk) {m : M
       let extends : isExtended c b ≡ true = rw (k .calls) at (a .1) in
       let task : isIsr c b ≡ false = of-one-kind c b extended isr (λ e. absurd (omega (arith, e))) extends in
       rw (k .calls)
-      (rw (ap (bitsAt m) (k .rank) ∙ bits-of m (sim .noted) b (k .exists) (runner-active k))
+      (rw (runner-bits k)
       (wait-done k task w free (anySet (at bs b .bits) w) (rw (k .calls) at mid)))))
+
+  -- the event bits that an accepted Wait finds
+  pub caller-bits : (w : ℕ) → waitStatus c s w ≡ done → bitsAt m (m .core .runner) ≡ at bs (caller c s) .bits
+  caller-bits w z = by-call fit sim _ z (λ b ns k. rw (k .calls) (runner-bits k))
 
   -- Set
   rank-is : (t : ℕ) → t < c .bodies → getD (p .rank) t noRank ≡ rk t
