@@ -351,9 +351,9 @@ fn a_wait_that_does_not_go_on_is_answered_as_a_finish_in_its_place() {
     const FINISH: u8 = 2;
     for implementation in others() {
         let mut compared = 0;
-        for number in 0..3000 {
+        for number in 0..2000 {
             let Case { config, mut trace, .. } = case(1, number);
-            trace.truncate(300);
+            trace.truncate(200);
             let mut runner = None;
             let mut at = 0;
             while let Ok((event, next)) = read_event(&trace, at) {
@@ -367,6 +367,6 @@ fn a_wait_that_does_not_go_on_is_answered_as_a_finish_in_its_place() {
                 at = next;
             }
         }
-        assert!(compared > 500, "{compared} such Waits were drawn");
+        assert!(compared > 300, "{compared} such Waits were drawn");
     }
 }
