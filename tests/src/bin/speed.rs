@@ -5,7 +5,7 @@
 //! median over the rounds. Drawn traces are met once a round, as the bench meets them: there are too many of them for a
 //! processor to learn their branches. One trace is run again and again, and the quickest call of a round counts, since
 //! load only adds. Instructions are counted by callgrind, if valgrind is there: the program runs itself as
-//! `speed --repeat IMPLEMENTATION SHAPE LENGTH TIMES` with two values of TIMES and takes the difference.
+//! `speed --repeat IMPLEMENTATION NAME TIMES` with two values of TIMES and takes the difference.
 
 use std::fmt::Write;
 use std::process::{Command, ExitCode};
@@ -13,7 +13,7 @@ use std::time::Instant;
 
 use osek_tests::cases::{self, Case, Shape};
 use osek_tests::compare::{self, outcome, Implementation};
-use osek_tests::fast::TRACE_MAX;
+use osek_tests::fast::{OUTPUT_MAX, TRACE_MAX};
 use osek_tests::stack;
 
 /// How often a row is run: rounds, and in each of them so many times by each implementation.
@@ -37,6 +37,12 @@ const SHAPES: [(Shape, &str); 5] = [
     (Shape::Waiting, "tasks that wait"),
     (Shape::TimeTriggered, "time-triggered bodies"),
 ];
+
+/// So many of one extended task more leave, one after the other; the events by which they do, with their bytes.
+const LEAVING: usize = 31;
+const LEAVES: [(&str, &[u8]); 2] = [("Finish", &[2]), ("Wait that does not go on", &[10, 1])];
+/// A run in which none of them does.
+const NONE_LEAVES: &str = "none";
 
 /// The proved run first, if it is linked; then what it is held against.
 fn implementations() -> Vec<Implementation> {
@@ -70,7 +76,7 @@ fn main() -> ExitCode {
                 return ExitCode::FAILURE;
             }
         }
-        ["--repeat", implementation, shape, length, times] => repeat(implementation, shape, length, times),
+        ["--repeat", implementation, name, times] => repeat(implementation, name, times),
         _ => {
             eprintln!("usage: speed [--write FILE]");
             return ExitCode::from(2);
@@ -140,12 +146,32 @@ fn time(rows: &[Vec<Case>], times: Times) -> Vec<Vec<(f64, f64)>> {
     taken.into_iter().map(of_row).collect()
 }
 
+/// Extended tasks that are all activated at the start, and all of which but the last leave by this event.
+fn leaving(event: &[u8]) -> Case {
+    let bodies = LEAVING as u8 + 1;
+    let mut config = vec![1, bodies];
+    config.extend((1..=bodies).flat_map(|priority| [2, priority, 1]));
+    config.extend([0, 0]);
+    Case { config, trace: event.repeat(LEAVING), out_len: OUTPUT_MAX, fill: 0 }
+}
+
+/// What is run for callgrind: the trace of a shape, or tasks that leave.
+fn named(name: &str) -> Case {
+    if let Some((shape, _)) = SHAPES.iter().find(|(_, other)| *other == name) {
+        return cases::timed(SEED, *shape, TRACE_MAX);
+    }
+    if let Some((_, event)) = LEAVES.iter().find(|(other, _)| *other == name) {
+        return leaving(event);
+    }
+    assert_eq!(name, NONE_LEAVES, "the name of a shape, or of an event by which tasks leave");
+    leaving(&[])
+}
+
 /// Runs an implementation so many times, for callgrind.
-fn repeat(implementation: &str, shape: &str, length: &str, times: &str) {
+fn repeat(implementation: &str, name: &str, times: &str) {
     let implementation =
         *implementations().iter().find(|other| other.name == implementation).expect("the implementation has a name");
-    let shape = SHAPES.iter().find(|(_, name)| *name == shape).expect("the shape has a name").0;
-    let case = cases::timed(SEED, shape, length.parse().expect("a length"));
+    let case = named(name);
     let mut out = vec![0; case.out_len];
     for _ in 0..times.parse().expect("a count") {
         std::hint::black_box((implementation.run)(&case.config, &case.trace, std::hint::black_box(&mut out)));
@@ -153,12 +179,12 @@ fn repeat(implementation: &str, shape: &str, length: &str, times: &str) {
 }
 
 /// Instructions of one call and nothing else; none without valgrind.
-fn instructions(implementation: Implementation, shape: &str, length: usize) -> Option<u64> {
+fn instructions(implementation: Implementation, name: &str) -> Option<u64> {
     let collected = |times: usize| {
         let output = Command::new("valgrind")
             .args(["--tool=callgrind", "--callgrind-out-file=/dev/null"])
             .arg(std::env::current_exe().ok()?)
-            .args(["--repeat", implementation.name, shape, &length.to_string(), &times.to_string()])
+            .args(["--repeat", implementation.name, name, &times.to_string()])
             .output()
             .ok()?;
         let said = String::from_utf8_lossy(&output.stderr).into_owned();
@@ -225,12 +251,8 @@ fn tables() -> String {
     columns(&mut text, "trace");
     rows(&mut text, &names, &cases, AGAIN);
 
-    let _ = writeln!(text, "\nInstructions per event, counted by callgrind:\n");
-    columns(&mut text, "trace");
-    for ((_, name), row) in SHAPES.iter().zip(&cases) {
-        let events = events(row);
-        let counts: Vec<Option<u64>> =
-            implementations.iter().map(|implementation| instructions(*implementation, name, TRACE_MAX)).collect();
+    let counted = |text: &mut String, name: &str, events: usize, count: &dyn Fn(Implementation) -> Option<u64>| {
+        let counts: Vec<Option<u64>> = implementations.iter().map(|implementation| count(*implementation)).collect();
         let _ = write!(text, "| {name} | {events} |");
         for count in &counts {
             match count {
@@ -245,6 +267,23 @@ fn tables() -> String {
             }
         }
         let _ = writeln!(text);
+    };
+    let _ = writeln!(text, "\nInstructions per event, counted by callgrind:\n");
+    columns(&mut text, "trace");
+    for ((_, name), row) in SHAPES.iter().zip(&cases) {
+        counted(&mut text, name, events(row), &|implementation| instructions(implementation, name));
+    }
+    let _ = writeln!(
+        text,
+        "\nInstructions of the event by which {LEAVING} of {} extended tasks leave, one after the other, a run without \
+         events taken off:\n",
+        LEAVING + 1
+    );
+    columns(&mut text, "event");
+    for (name, _) in LEAVES {
+        counted(&mut text, name, LEAVING, &|implementation| {
+            instructions(implementation, name)?.checked_sub(instructions(implementation, NONE_LEAVES)?)
+        });
     }
 
     let _ = writeln!(text, "\nNanoseconds per event as traces grow, mixed:\n");
