@@ -4,11 +4,14 @@
 -- registers holds whatever the arrays hold that it is not lent.
 use Prim.Native.Nat.{ℕ}
 use mathlib.Core.List.{List}
+use lib.ListN.{getD, set, replicate}
 use Rattle.kernel.specs.declared.model.Picked.{Picked}
 use Rattle.kernel.specs.declared.model.Registers.{Registers}
 use Rattle.kernel.specs.declared.model.Step.{Step}
 use Rattle.kernel.specs.declared.model.Model.{Model}
 use Rattle.kernel.specs.declared.model.Outcome.{Outcome}
+use Rattle.kernel.specs.declared.model.TaskEvents.{TaskEvents}
+use Rattle.kernel.specs.declared.model.EventOutcome.{EventOutcome}
 use Rattle.machine.specs.Model as Machine
 
 -- the words, who runs and at which level
@@ -43,21 +46,31 @@ pub record Arrays : Type 0 where
 abbrev pub arrays : List ℕ → List ℕ → List ℕ → List ℕ → List ℕ → Arrays
 arrays ns on ls bs ms = record { counter = ns; on = on; losses = ls; bits = bs; waited = ms }
 
-abbrev pub arraysOf : Model → Arrays
-arraysOf m = arrays (m .counter) (m .on) (m .losses) (m .bits) (m .waited)
+-- those of a model, with the rows of event bits and of masks that are kept beside it
+abbrev pub arraysOf : Model → List ℕ → List ℕ → Arrays
+arraysOf m bs ms = arrays (m .counter) (m .on) (m .losses) bs ms
 
--- other cells, losses, event bits and masks in their place
+-- no event bit is set, and nobody waits
+abbrev pub noEvents : List ℕ
+noEvents = replicate 32 0
+
+-- other cells and losses in their place
 abbrev pub putCells : List ℕ → List ℕ → Arrays → Arrays
 putCells ns on x = arrays ns on (x .losses) (x .bits) (x .waited)
 
 abbrev pub putLosses : List ℕ → Arrays → Arrays
 putLosses ls x = arrays (x .counter) (x .on) ls (x .bits) (x .waited)
 
-abbrev pub putEvents : List ℕ → List ℕ → Arrays → Arrays
-putEvents bs ms x = arrays (x .counter) (x .on) (x .losses) bs ms
+-- what is kept of the task of rank r, in rows, and put back
+abbrev pub taskEvents : ℕ → List ℕ → List ℕ → TaskEvents
+taskEvents r bs ms = record { bits = getD bs r 0; waited = getD ms r 0 }
 
-abbrev pub putBits : List ℕ → Arrays → Arrays
-putBits bs x = putEvents bs (x .waited) x
+abbrev pub eventsAt : ℕ → Arrays → TaskEvents
+eventsAt r x = taskEvents r (x .bits) (x .waited)
+
+abbrev pub putEventsAt : ℕ → TaskEvents → Arrays → Arrays
+putEventsAt r e x =
+    arrays (x .counter) (x .on) (x .losses) (set (x .bits) r (e .bits)) (set (x .waited) r (e .waited))
 
 -- registers with arrays
 abbrev pub viewWith : Registers → Arrays → Machine.Model
@@ -81,12 +94,16 @@ viewWith r x =
 abbrev pub viewStep : Step → Arrays → Machine.Outcome
 viewStep s x = record { model = viewWith (s .registers) x; status = s .status; begun = s .begun }
 
--- a model
-abbrev pub view : Model → Machine.Model
-view m = viewWith (m .registers) (arraysOf m)
+-- a model, with the rows beside it
+abbrev pub view : Model → List ℕ → List ℕ → Machine.Model
+view m bs ms = viewWith (m .registers) (arraysOf m bs ms)
 
-abbrev pub viewOutcome : Outcome → Machine.Outcome
-viewOutcome o = record { model = view (o .model); status = o .status; begun = o .begun }
+abbrev pub viewOutcome : Outcome → List ℕ → List ℕ → Machine.Outcome
+viewOutcome o bs ms = record { model = view (o .model) bs ms; status = o .status; begun = o .begun }
+
+-- an outcome with what is kept of the task of rank r, once that is put back
+abbrev pub viewEvents : ℕ → EventOutcome → List ℕ → List ℕ → Machine.Outcome
+viewEvents r o bs ms = viewOutcome (o .outcome) (set bs r (o .events .bits)) (set ms r (o .events .waited))
 
 -- and back
 abbrev pub registersOf : Machine.Model → Registers
@@ -113,9 +130,4 @@ modelOf m =
       counter = m .counter;
       on = m .on;
       losses = m .losses;
-      bits = m .bits;
-      waited = m .waited;
     }
-
-abbrev pub outcomeOf : Machine.Outcome → Outcome
-outcomeOf o = record { model = modelOf (o .model); status = o .status; begun = o .begun }

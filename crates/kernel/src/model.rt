@@ -1,6 +1,6 @@
 // The machine's model, and its methods: the fresh start, and one method by value for each event (value.rt), which
 // takes the arrays that the event touches out of the model, has the work done by a method of the registers, and puts
-// them back.
+// them back. An event of extended tasks touches one task: what is kept of it goes by value, too.
 //
 // A body stands in the model by its rank among the priorities, so that a greater rank is a greater priority.
 ghost use mathlib.Core.Path.{_≡_};
@@ -18,12 +18,14 @@ mod tables;
 mod value;
 
 pub use bodies::counts_lines;
+pub use events::events_at;
+pub use lookup::byte_at;
 use stack::NO_BYTE;
 use stack::Row;
 
 // No body: in the place of a rank it says that nobody runs, or that there is no such task or ISR. It is what lies
 // past the bottom of the row of held resources.
-const NO_RANK: u8 = NO_BYTE;
+pub const NO_RANK: u8 = NO_BYTE;
 
 // The level that a time-triggered task runs at, and nobody else.
 const EXECUTION_LEVEL: u8 = 201;
@@ -96,16 +98,14 @@ pub struct Step {
     pub begun: bool,
 }
 
-// All that the machine keeps between events. It goes by value.
+// All that the machine keeps between events, but for what it keeps of each extended task. It goes by value.
 pub struct Model {
     pub registers: Registers,
     // The cells by entry: their counters and switches.
     pub counter: [u16; 64],
     pub on: [u16; 64],
-    // By rank: the losses, the event bits, and the mask of the latest Wait that did not go on.
+    // The losses by rank.
     pub losses: [u16; 32],
-    pub bits: [u32; 32],
-    pub waited: [u32; 32],
 }
 
 // The next model with its answer.
@@ -113,6 +113,24 @@ pub struct Outcome {
     pub model: Model,
     pub status: u8,
     pub begun: bool,
+}
+
+// What is kept of an extended task: its event bits, and the mask of its latest Wait that did not go on. It goes by value
+// beside the model to an event that is about the task, and comes back from it.
+pub struct TaskEvents {
+    pub bits: u32,
+    pub waited: u32,
+}
+
+// A step, and an outcome, with what is kept of the task that the event was about.
+pub struct EventStep {
+    pub step: Step,
+    pub events: TaskEvents,
+}
+
+pub struct EventOutcome {
+    pub outcome: Outcome,
+    pub events: TaskEvents,
 }
 
 impl Registers {

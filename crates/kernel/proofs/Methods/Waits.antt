@@ -13,8 +13,36 @@ use Rattle.word.specs.Word.{has, with, without}
 use Rattle.stack.specs.Stack.{topRow}
 use Rattle.machine.specs.Model.{Core, Picked, Model, noRank, withCore, withBegun, withEvents, doneWith, refusedWith}
 use Rattle.machine.specs.Arbiter.{arbitrated, settled}
-use Rattle.kernel.specs.View.{core}
+use lib.Seq.{set-getD}
+use Rattle.kernel.specs.declared.model.TaskEvents.{TaskEvents}
+use Rattle.kernel.specs.View.{core, Arrays, arrays, eventsAt, putEventsAt}
 use Rattle.machine.specs.Events.{noCaller, begunWord, bitsAt, noTask, wait, setEvent, clear}
+
+-- the event bits of the rank r, where b are those of the row and x is the word of the ranks whose bits count as 0
+abbrev pub kept : ℕ → ℕ → ℕ → ℕ
+kept x r b = cond (has x r) 0 b
+
+-- What is kept of one task goes out of the rows and back: as it was, with another mask, with other event bits.
+module _ (x : Arrays) (k : ℕ) {own : TaskEvents} (taken : own ≡ eventsAt k x) where
+  pub put-same : putEventsAt k own x ≡ x
+  put-same = rw (taken, set-getD (x .bits) k 0, set-getD (x .waited) k 0)
+
+  module _ {r : ℕ} (place : k ≡ r) where
+    pub own-bits : own .bits ≡ getD (x .bits) r 0
+    own-bits = rw (taken, place)
+
+    pub own-mask : own .waited ≡ getD (x .waited) r 0
+    own-mask = rw (taken, place)
+
+    pub put-mask : (w : ℕ)
+        → putEventsAt k (record { bits = own .bits; waited = w }) x
+        ≡ arrays (x .counter) (x .on) (x .losses) (x .bits) (set (x .waited) r w)
+    put-mask w = rw (taken, set-getD (x .bits) k 0, place)
+
+    pub put-bits : (b : ℕ)
+        → putEventsAt k (record { bits = b; waited = own .waited }) x
+        ≡ arrays (x .counter) (x .on) (x .losses) (set (x .bits) r b) (x .waited)
+    put-bits b = rw (taken, set-getD (x .waited) k 0, place)
 
 -- Wait w
 module _ (xs : ℕ) (ps : List ℕ) (m : Model) (w : ℕ) {a : Bool} (calls : a ≡ noCaller m) where

@@ -1,126 +1,157 @@
-// The events of extended tasks: Wait, Set and Clear. OSEK's events are the 32 event bits of such a task.
+// The events of extended tasks: Wait, Set and Clear. OSEK's events are the 32 event bits of such a task. What is kept of
+// the task that an event is about, the runner or the one that a Set names, goes in by value and comes back.
 ghost use mathlib.Core.Path.{_≡_};
 ghost use mathlib.Core.Bool.{cond, _&&_, _||_};
 ghost use lib.Dec.{eqb};
 ghost use Rattle.scheduler.specs.Bits.{anySet, withBits, withoutBits};
 ghost use Rattle.word.specs.Word.{has, with};
-ghost use Rattle.machine.specs.Model.{noRank};
+ghost use Prim.Native.Nat.{ℕ, _<_};
+ghost use Rattle.config.specs.Value.{maxBodies};
+ghost use mathlib.Core.List.{List};
+ghost use lib.ListN.{getD};
+ghost use Rattle.machine.specs.Model.{noRank, refusedWith};
 ghost use Rattle.machine.specs.Events.{wait, setEvent, clear};
-ghost use Rattle.kernel.specs.View.{Arrays, putBits, putEvents, viewWith, viewStep};
+ghost use Rattle.kernel.specs.View.{Arrays, taskEvents, eventsAt, putEventsAt, viewWith, viewStep};
 use super::ACCESS;
 use super::CALL_LEVEL;
 use super::DONE;
+use super::EventStep;
 use super::HOLDS_RESOURCE;
 use super::NO_RANK;
 use super::NO_SUCH;
 use super::Registers;
-use super::Step;
+use super::TaskEvents;
 use super::WRONG_STATE;
 use super::arbiter::arbitrated;
 use super::arbiter::latest_level;
 use super::arbiter::without_where;
 use super::bodies::busy;
 use super::bodies::no_caller;
-use super::lookup::byte_at;
 use word::has;
 use word::union;
 use word::with;
 use word::without;
 
 impl Registers {
-    // `extended`: the ranks that are extended tasks.
-    pub fn wait<'a, 'b>(
-        self,
-        extended: u32,
-        priority: &'a [u8; 32],
-        mask: u32,
-        bits: &'a [u32; 32],
-        waited: &'b mut [u32; 32],
-    ) -> Step
-        ensures { λ r. ⌜ ((x : Arrays) → viewStep r (putEvents (now (bits .entry)) (now (waited .exit)) x)
-            ≡ wait extended (now (priority .entry))
-            (viewWith self (putEvents (now (bits .entry)) (now (waited .entry)) x)) mask) ⌝ }
+    // `extended`: the ranks that are extended tasks; `own`: what is kept of the runner.
+    pub fn wait(self, extended: u32, priority: &[u8; 32], mask: u32, own: TaskEvents) -> EventStep
+        ensures { λ r. ⌜ ((x : Arrays) (k : ℕ) → (self .runner < maxBodies → k ≡ self .runner) → own ≡ eventsAt k x
+            → viewStep (r .step) (putEventsAt k (r .events) x)
+            ≡ wait extended (now (priority .entry)) (viewWith self x) mask) ⌝ }
     {
         if no_caller(self.runner, self.level) {
-            return self.with_status(CALL_LEVEL);
+            return self.with_events(CALL_LEVEL, own);
         }
         let rank = self.runner as u32;
         if !has(extended, rank) {
-            return self.with_status(ACCESS);
+            return self.with_events(ACCESS, own);
         }
         let holder = self.holder;
         if holder.top() == self.runner {
-            return self.with_status(HOLDS_RESOURCE);
+            return self.with_events(HOLDS_RESOURCE, own);
         }
-        let kept = bits[rank as usize];
-        if any_set(bits_of(self.cleared, kept, rank), mask) {
-            return self.with_status(DONE);
+        if any_set(bits_of(self.cleared, own.bits, rank), mask) {
+            return self.with_events(DONE, own);
         }
-        waited[rank as usize] = mask;
         let level = latest_level(holder, self.raised);
         let started = without(self.started, rank);
         let aside = with(self.aside, rank);
         let picked = arbitrated(self.request, started, aside, holder.top(), level, priority);
-        self.seated(picked)
+        let step = self.seated(picked);
+        EventStep {
+            step,
+            events: TaskEvents {
+                bits: own.bits,
+                waited: mask,
+            },
+        }
     }
 
-    // `isrs`: the ranks that are ISRs; `body_rank`: those of all bodies.
-    pub fn set_event<'a, 'b>(
+    // `isrs`: the ranks that are ISRs; `rank`: the task's; `own`: what is kept of it.
+    pub fn set_event(
         mut self,
         isrs: u32,
         extended: u32,
-        body_rank: &'a [u8; 32],
-        priority: &'a [u8; 32],
-        t: u32,
+        rank: u8,
+        priority: &[u8; 32],
         mask: u32,
-        waited: &'a [u32; 32],
-        bits: &'b mut [u32; 32],
-    ) -> Step
-        ensures { λ r. ⌜ ((x : Arrays) → viewStep r (putEvents (now (bits .exit)) (now (waited .entry)) x)
-            ≡ setEvent isrs extended (now («body_rank» .entry)) (now (priority .entry))
-            (viewWith self (putEvents (now (bits .entry)) (now (waited .entry)) x)) t mask) ⌝ }
+        own: TaskEvents,
+    ) -> EventStep
+        ensures { λ r. ⌜ ((x : Arrays) (k : ℕ) (rs : List ℕ) (t : ℕ) → rank ≡ getD rs t noRank
+            → (rank < maxBodies → k ≡ rank) → own ≡ eventsAt k x
+            → viewStep (r .step) (putEventsAt k (r .events) x)
+            ≡ setEvent isrs extended rs (now (priority .entry)) (viewWith self x) t mask) ⌝ }
     {
         if no_caller(self.runner, self.level) {
-            return self.with_status(CALL_LEVEL);
+            return self.with_events(CALL_LEVEL, own);
         }
-        let rank = byte_at(body_rank, t as usize, NO_RANK);
         if no_task(isrs, rank) {
-            return self.with_status(NO_SUCH);
+            return self.with_events(NO_SUCH, own);
         }
         if !has(extended, rank as u32) {
-            return self.with_status(ACCESS);
+            return self.with_events(ACCESS, own);
         }
         if !busy(self.request, union(self.started, self.aside), rank) {
-            return self.with_status(WRONG_STATE);
+            return self.with_events(WRONG_STATE, own);
         }
-        let kept = bits[rank as usize];
-        let set = with_bits(bits_of(self.cleared, kept, rank as u32), mask);
-        bits[rank as usize] = set;
+        let bits = with_bits(bits_of(self.cleared, own.bits, rank as u32), mask);
+        let resumed = resumes(self.aside, rank as u32, bits, own.waited);
         self.cleared = without(self.cleared, rank as u32);
-        let wanted = waited[rank as usize];
-        let resumed = resumes(self.aside, rank as u32, set, wanted);
         self.started = with_where(resumed, self.started, rank as u32);
         self.aside = without_where(resumed, self.aside, rank as u32);
         let request = self.request;
-        self.settled(request, priority)
+        let step = self.settled(request, priority);
+        EventStep {
+            step,
+            events: TaskEvents {
+                bits,
+                waited: own.waited,
+            },
+        }
     }
 
-    pub fn clear(mut self, extended: u32, mask: u32, bits: &mut [u32; 32]) -> Step
-        ensures { λ r. ⌜ ((x : Arrays) → viewStep r (putBits (now (bits .exit)) x)
-            ≡ clear extended (viewWith self (putBits (now (bits .entry)) x)) mask) ⌝ }
+    pub fn clear(mut self, extended: u32, mask: u32, own: TaskEvents) -> EventStep
+        ensures { λ r. ⌜ ((x : Arrays) (k : ℕ) → (self .runner < maxBodies → k ≡ self .runner) → own ≡ eventsAt k x
+            → viewStep (r .step) (putEventsAt k (r .events) x)
+            ≡ clear extended (viewWith self x) mask) ⌝ }
     {
         if no_caller(self.runner, self.level) {
-            return self.with_status(CALL_LEVEL);
+            return self.with_events(CALL_LEVEL, own);
         }
         let rank = self.runner as u32;
         if !has(extended, rank) {
-            return self.with_status(ACCESS);
+            return self.with_events(ACCESS, own);
         }
-        let kept = bits[rank as usize];
-        let left = without_bits(bits_of(self.cleared, kept, rank), mask);
-        bits[rank as usize] = left;
+        let bits = without_bits(bits_of(self.cleared, own.bits, rank), mask);
         self.cleared = without(self.cleared, rank);
-        self.with_status(DONE)
+        let step = self.with_status(DONE);
+        EventStep {
+            step,
+            events: TaskEvents {
+                bits,
+                waited: own.waited,
+            },
+        }
+    }
+
+    // The answer to an event that leaves the task that it is about as it was.
+    fn with_events(self, status: u8, own: TaskEvents) -> EventStep
+        ensures { λ r. ⌜ ((x : Arrays) (k : ℕ) → own ≡ eventsAt k x
+            → viewStep (r .step) (putEventsAt k (r .events) x) ≡ refusedWith (viewWith self x) status) ⌝ }
+    {
+        let step = self.with_status(status);
+        EventStep { step, events: own }
+    }
+}
+
+// What is kept of the task of this rank, in the rows of event bits and of waited masks.
+pub fn events_at<'a>(bits: &'a [u32; 32], waited: &'a [u32; 32], rank: usize) -> TaskEvents
+    requires { ⌜ rank < maxBodies ⌝ }
+    ensures { λ r. ⌜ r ≡ taskEvents rank (now (bits .entry)) (now (waited .entry)) ⌝ }
+{
+    TaskEvents {
+        bits: bits[rank],
+        waited: waited[rank],
     }
 }
 

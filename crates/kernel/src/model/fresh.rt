@@ -34,8 +34,6 @@ impl Model {
             counter: [0u16; 64],
             on: [OFF; 64],
             losses: [0u16; 32],
-            bits: [0u32; 32],
-            waited: [0u32; 32],
         }
     }
 }

@@ -1,9 +1,10 @@
 -- `play` meets its contract: each turn's step is that of the event that was read, and its answer is laid after those
 -- before it.
-use Prim.Native.Nat.{ℕ, _+_, _-_, _≤_}
-use mathlib.Core.Path.{_≡_, ap, _∙_}
+use Prim.Native.Nat.{ℕ, _+_, _-_, _≤_, _<_, _%_}
+use mathlib.Core.Path.{_≡_, refl, ap, _∙_}
 use mathlib.Core.Logic.{⊎-elim}
-use mathlib.Core.List.{[], _∷_}
+use mathlib.Core.List.{List, [], _∷_}
+use native.Mathlib.Nat.{mod-eq-of-lt}
 use native.Mathlib.Omega.{arith}
 use lib.ListN.{length}
 use borrow.Author.Needs.{needs}
@@ -11,6 +12,7 @@ use Rattle.number.specs.Output.{laid}
 use Rattle.plan.specs.Rank.{rankOf}
 use Rattle.scheduler.specs.Scheduler.{markOf}
 use Rattle.kernel.specs.Methods.{RowsHold}
+use Rattle.kernel.specs.declared.model.Outcome.{Outcome}
 use Rattle.kernel.specs.View.{view, modelOf, viewOutcome}
 use Rattle.kernel.proofs.Run.Read.{known-byte}
 use Rattle.kernel.proofs.Run.Turn.{Turn, activate-turn, finish-turn, chain-turn, get-turn, release-turn, tick-turn, line-turn, start-turn, stop-turn, wait-turn, set-turn, clear-turn, one-of-twelve}
@@ -19,11 +21,11 @@ use Rattle.kernel.proofs.play.play.Statement.{statement}
 use Rattle.kernel.proofs.play.play.Tie as tie
 
 abbrev Inv-loop : tie.InvT-loop
-Inv-loop trace out₀ config plan o₀ at₀ to₀ out o at to =
-    Playing config plan trace out₀ (view (o₀ .model)) at to (view (o .model)) out
+Inv-loop trace out₀ config plan o₀ bits₀ waited₀ at₀ to₀ out o bits waited at to =
+    Playing config plan trace out₀ (view (o₀ .model) bits₀ waited₀) at to (view (o .model) bits waited) out
 
 abbrev μ-loop : tie.MeasureT-loop
-μ-loop trace out₀ config plan o₀ at₀ to₀ out o at to = length trace - at
+μ-loop trace out₀ config plan o₀ bits₀ waited₀ at₀ to₀ out o bits waited at to = length trace - at
 
 loop-holds : tie.Need-loop-holds Inv-loop μ-loop
 loop-holds c =
@@ -51,41 +53,54 @@ stop-requires c κs = rows (c .before .before .before .before .before .before .b
 room : (i : tie.In-loop Inv-loop μ-loop) → i .before .loop .to + 4 ≤ length (i .before .loop .out)
 room i = playing-room (i .before .loop .inv) (i .loop-test .taken)
 
+-- the model that an arm leaves, with the rows beside it
+same-view : {o o′ : Outcome} {bs bs′ ms ms′ : List ℕ} → o ≡ o′ → bs ≡ bs′ → ms ≡ ms′
+    → viewOutcome o bs ms ≡ viewOutcome o′ bs′ ms′
+same-view e f g = rw (e, f, g) refl
+
+-- where a rank is kept
+below : (r : ℕ) → r < 32 → r % 32 ≡ r
+below r h = mod-eq-of-lt h
+
 -- what the arms leave is the turn of the event that was read
 turned : (j : tie.At-match-came Inv-loop μ-loop)
     → Turn (j .before .before .before .before .before .before .args .t1)
     (j .before .before .before .before .before .before .args .t2)
     (j .before .before .before .before .before .before .args .trace .now)
-    (view (j .before .before .before .loop .o .model)) (j .before .before .before .loop .at) (j .match .next)
-    (viewOutcome (j .match .o))
+    (view (j .before .before .before .loop .o .model) (j .before .before .before .loop .bits)
+    (j .before .before .before .loop .waited)) (j .before .before .before .loop .at) (j .match .next)
+    (viewOutcome (j .match .o) (j .match .bits) (j .match .waited))
 turned j =
     let inside = j .before .before .loop-test .taken in
     let fine = playing-fine (j .before .before .before .loop .inv) inside in
     let code = known-byte _ _ (λ i. omega (arith, j .before .shared-slice-known2 .given i)) fine in
-    ⊎-elim (λ w. activate-turn inside fine (w .0 .keys1) (w .1 .ensures) (ap viewOutcome (w .6 ∙ w .5 .ensures)) (w .7))
+    ⊎-elim (λ w. activate-turn inside fine (w .0 .keys1) (w .1 .ensures) (same-view (w .6) (w .7) (w .8) ∙ w .5 .ensures _ _) (w .9))
     (λ z1.
-    ⊎-elim (λ w. finish-turn inside fine (w .0 .keys2) (ap viewOutcome (w .4 ∙ w .3 .ensures)) (w .5))
+    ⊎-elim (λ w. finish-turn inside fine (w .0 .keys2) (same-view (w .4) (w .5) (w .6) ∙ w .3 .ensures _ _) (w .7))
     (λ z2.
-    ⊎-elim (λ w. chain-turn inside fine (w .0 .keys3) (w .1 .ensures) (ap viewOutcome (w .6 ∙ w .5 .ensures)) (w .7))
+    ⊎-elim (λ w. chain-turn inside fine (w .0 .keys3) (w .1 .ensures) (same-view (w .6) (w .7) (w .8) ∙ w .5 .ensures _ _) (w .9))
     (λ z3.
-    ⊎-elim (λ w. get-turn inside fine (w .0 .keys4) (w .1 .ensures) (ap viewOutcome (w .6 ∙ w .5 .ensures)) (w .7))
+    ⊎-elim (λ w. get-turn inside fine (w .0 .keys4) (w .1 .ensures) (same-view (w .6) (w .7) (w .8) ∙ w .5 .ensures _ _) (w .9))
     (λ z4.
-    ⊎-elim (λ w. release-turn inside fine (w .0 .keys5) (w .1 .ensures) (ap viewOutcome (w .5 ∙ w .4 .ensures)) (w .6))
+    ⊎-elim (λ w. release-turn inside fine (w .0 .keys5) (w .1 .ensures) (same-view (w .5) (w .6) (w .7) ∙ w .4 .ensures _ _) (w .8))
     (λ z5.
-    ⊎-elim (λ w. tick-turn inside fine (w .0 .keys6) (ap viewOutcome (w .6 ∙ w .5 .ensures)) (w .7))
+    ⊎-elim (λ w. tick-turn inside fine (w .0 .keys6) (same-view (w .6) (w .7) (w .8) ∙ w .5 .ensures _ _) (w .9))
     (λ z6.
     ⊎-elim (λ w. line-turn inside fine (w .0 .keys7) (w .1 .ensures)
-    (ap viewOutcome (w .7 ∙ w .6 .ensures ∙ rw (w .2 .ensures))) (w .8))
+    (same-view (w .7) (w .8) (w .9) ∙ w .6 .ensures _ _ ∙ rw (w .2 .ensures)) (w .10))
     (λ z7.
-    ⊎-elim (λ w. start-turn inside fine (w .0 .keys8) (w .1 .ensures) (ap viewOutcome (w .9 ∙ w .8 .ensures)) (w .10))
+    ⊎-elim (λ w. start-turn inside fine (w .0 .keys8) (w .1 .ensures) (same-view (w .9) (w .10) (w .11) ∙ w .8 .ensures _ _) (w .12))
     (λ z8.
-    ⊎-elim (λ w. stop-turn inside fine (w .0 .keys9) (w .1 .ensures) (ap viewOutcome (w .7 ∙ w .6 .ensures)) (w .8))
+    ⊎-elim (λ w. stop-turn inside fine (w .0 .keys9) (w .1 .ensures) (same-view (w .7) (w .8) (w .9) ∙ w .6 .ensures _ _) (w .10))
     (λ z9.
-    ⊎-elim (λ w. wait-turn inside fine (w .0 .keys10) (w .1 .ensures) (ap viewOutcome (w .5 ∙ w .4 .ensures)) (w .6))
+    ⊎-elim (λ w. wait-turn inside fine (w .0 .keys10) (w .1 .ensures)
+    (same-view (w .10) (w .11) (w .12) ∙ w .8 .ensures _ _ _ (λ h. below _ h) (w .5 .ensures)) (w .13))
     (λ z10.
-    ⊎-elim (λ w. set-turn inside fine (w .0 .keys11) (w .1 .ensures) (ap viewOutcome (w .6 ∙ w .5 .ensures)) (w .7))
+    ⊎-elim (λ w. set-turn inside fine (w .0 .keys11) (w .1 .ensures)
+    (same-view (w .14) (w .15) (w .16) ∙ w .12 .ensures _ _ _ _ _ (w .6 .ensures) (λ h. below _ h) (w .9 .ensures)) (w .17))
     (λ z11.
-    ⊎-elim (λ w. clear-turn inside fine (w .0 .keys12) (w .1 .ensures) (ap viewOutcome (w .3 ∙ w .2 .ensures)) (w .4))
+    ⊎-elim (λ w. clear-turn inside fine (w .0 .keys12) (w .1 .ensures)
+    (same-view (w .8) (w .9) (w .10) ∙ w .6 .ensures _ _ _ (λ h. below _ h) (w .5 .ensures)) (w .11))
     (λ z12.
     ⊎-elim
     (λ w. absurd (omega (arith, w .0 .keys13, code)))
@@ -139,5 +154,9 @@ play-spec =
     Inv-loop μ-loop loop-holds (λ c. search needs) (λ c. search needs) (λ c κs. tt) (λ c κs. tt) (λ c κs. tt)
     (λ c κs. tt) (λ c κs. tt) (λ c κs. tt) (λ c κs. tt) (λ c κs. tt) (λ c κs. tt) (λ c κs. tt) (λ c κs. tt)
     (λ c κs. tt) (λ c κs. tt) (λ c κs. tt) start-requires (λ c κs. tt) stop-requires (λ c κs. tt)
-    (λ c κs. tt) (λ c κs. tt) (λ c κs. tt) (λ c κs. tt) (λ c κs. tt) (λ c κs. tt) put-answer-requires
+    (λ c. search needs) (λ c κs. search needs) (λ c κs. tt) (λ c. search needs) (λ c. search needs) (λ c. search needs)
+    (λ c. search needs) (λ c κs. tt) (λ c. search needs) (λ c κs. tt) (λ c. search needs) (λ c κs. search needs)
+    (λ c κs. tt) (λ c. search needs) (λ c. search needs) (λ c. search needs) (λ c. search needs) (λ c κs. tt)
+    (λ c. search needs) (λ c κs. search needs) (λ c κs. tt) (λ c. search needs) (λ c. search needs) (λ c. search needs)
+    (λ c. search needs) (λ c κs. tt) put-answer-requires
     add-to loop-less loop-again same-length returns)

@@ -1,6 +1,6 @@
 -- `get` meets its contract: what the registers make of it with the arrays as they are.
-use mathlib.Core.Path.{ap, _∙_}
-use Rattle.kernel.specs.View.{arraysOf, outcomeOf}
+use mathlib.Core.Path.{_∙_}
+use Rattle.kernel.specs.View.{arraysOf}
 use borrow.Author.Needs.{needs}
 use Rattle.kernel.proofs.model.Model.get.Statement.{statement}
 use Rattle.kernel.proofs.model.Model.get.Tie as tie
@@ -8,7 +8,7 @@ use Rattle.kernel.proofs.model.Model.get.Tie as tie
 returns : tie.Need-returns
 returns c =
     let a = c .before .before .args in
-    c .stepped .ensures ∙ ap outcomeOf (c .before .get .ensures (arraysOf (a .self)))
+    λ bs ms. c .stepped .ensures bs ms ∙ c .before .get .ensures (arraysOf (a .self) bs ms)
 
 pub get-spec : {M : Type 1} → statement M
 get-spec = tie.close (tie.spec (λ c κs. search needs) (λ c κs. search needs) returns)

@@ -1,14 +1,14 @@
--- `set_event` meets its contract: what the registers make of it with the arrays that they are lent.
-use mathlib.Core.Path.{ap, _∙_}
-use Rattle.kernel.specs.View.{arraysOf, outcomeOf}
+-- `set_event` meets its contract: what the registers make of it, with what is kept of the task put back.
+use mathlib.Core.Path.{_∙_}
+use Rattle.kernel.specs.View.{arraysOf}
 use borrow.Author.Needs.{needs}
 use Rattle.kernel.proofs.model.Model.set_event.Statement.{statement}
 use Rattle.kernel.proofs.model.Model.set_event.Tie as tie
 
 returns : tie.Need-returns
 returns c =
-    let a = c .before .before .before .before .before .before .args in
-    c .stepped .ensures ∙ ap outcomeOf (c .before .set-event .ensures (arraysOf (a .self)))
+    let d = c .before .before .before in let a = d .before .args in
+    λ bs ms k rs t named place taken. c .stepped .ensures _ _ ∙ d .set-event .ensures (arraysOf (a .self) bs ms) k rs t named place taken
 
 pub set-event-spec : {M : Type 1} → statement M
 set-event-spec = tie.close (tie.spec (λ c κs. search needs) (λ c κs. search needs) returns)
