@@ -1,10 +1,12 @@
--- The code's model is the machine's, field by field, and so is an outcome: `view` looks at a struct of the code as the
--- machine's record, `modelOf` and `outcomeOf` go back. A contract speaks of the machine's definitions through them.
--- Registers are the machine's model once there are arrays beside them (`viewWith`), and the contract of a method on
--- registers holds whatever the arrays hold that it is not lent.
+-- The code's model, with the rows of event bits and of masks beside it, is the machine's, field by field, and so is an
+-- outcome: `view` looks at a struct of the code as the machine's record, `modelOf` goes back. A contract speaks of the
+-- machine's definitions through them, and holds whatever the rows hold. Registers are the machine's model once there are
+-- arrays beside them (`viewWith`), and the contract of a method on registers holds whatever the arrays hold that it is
+-- not lent.
 use Prim.Native.Nat.{ℕ}
 use mathlib.Core.List.{List}
 use lib.ListN.{getD, set, replicate}
+use Rattle.config.specs.Value.{maxBodies}
 use Rattle.kernel.specs.declared.model.Picked.{Picked}
 use Rattle.kernel.specs.declared.model.Registers.{Registers}
 use Rattle.kernel.specs.declared.model.Step.{Step}
@@ -52,7 +54,7 @@ arraysOf m bs ms = arrays (m .counter) (m .on) (m .losses) bs ms
 
 -- no event bit is set, and nobody waits
 abbrev pub noEvents : List ℕ
-noEvents = replicate 32 0
+noEvents = replicate maxBodies 0
 
 -- other cells and losses in their place
 abbrev pub putCells : List ℕ → List ℕ → Arrays → Arrays

@@ -23,6 +23,9 @@ pub use lookup::byte_at;
 use stack::NO_BYTE;
 use stack::Row;
 
+// The most bodies: a loss count, and a place for what is kept of an extended task, for each.
+pub const BODIES: usize = 32;
+
 // No body: in the place of a rank it says that nobody runs, or that there is no such task or ISR. It is what lies
 // past the bottom of the row of held resources.
 pub const NO_RANK: u8 = NO_BYTE;

@@ -7,6 +7,7 @@ ghost use Rattle.machine.specs.Machine.{machineSeen, machineAfter};
 ghost use Rattle.run.specs.Run.{answerBytes, callsOf};
 ghost use Rattle.kernel.specs.View.{noEvents, view, modelOf};
 ghost use Rattle.kernel.specs.Passes.{Playable};
+use crate::model::BODIES;
 use crate::model::DONE;
 use crate::model::Model;
 use crate::model::NO_RANK;
@@ -20,9 +21,6 @@ use config::Config;
 use number_codec::read_number;
 use number_codec::read_pair;
 use plan::Plan;
-
-// One place for each body that there may be.
-const BODIES: u8 = 32;
 
 // Each event meets the model that the one before it handed back; the last one's is the result.
 pub fn play<'a, 'b>(
@@ -107,7 +105,7 @@ pub fn play<'a, 'b>(
             }
             10 => {
                 let mask = read_number(trace, next);
-                let place = (o.model.registers.runner % BODIES) as usize;
+                let place = o.model.registers.runner as usize % BODIES;
                 let own = events_at(&bits, &waited, place);
                 let done = o.model.wait(plan.extended, &plan.priority, mask.value, own);
                 o = done.outcome;
@@ -118,7 +116,7 @@ pub fn play<'a, 'b>(
             11 => {
                 let arguments = read_pair(trace, next);
                 let rank = byte_at(&plan.rank, arguments.first as usize, NO_RANK);
-                let place = (rank % BODIES) as usize;
+                let place = rank as usize % BODIES;
                 let own = events_at(&bits, &waited, place);
                 let done = o.model.set_event(
                     plan.isrs,
@@ -135,7 +133,7 @@ pub fn play<'a, 'b>(
             }
             12 => {
                 let mask = read_number(trace, next);
-                let place = (o.model.registers.runner % BODIES) as usize;
+                let place = o.model.registers.runner as usize % BODIES;
                 let own = events_at(&bits, &waited, place);
                 let done = o.model.clear(plan.extended, mask.value, own);
                 o = done.outcome;

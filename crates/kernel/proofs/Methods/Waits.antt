@@ -1,11 +1,13 @@
 -- The events of extended tasks, case by case in the order of their checks, as the code goes through them: refused
--- with each status, and done. A variable before an equation is what the code has in its place.
+-- with each status, and done. A variable before an equation is what the code has in its place. Before them, how what is
+-- kept of one task goes out of the rows and back.
 use Prim.Native.Nat.{ℕ}
 use mathlib.Core.Path.{_≡_, sym, _∙_}
 use mathlib.Core.Bool.{Bool, true, false, cond, _&&_, _||_}
 use mathlib.Core.List.{List}
 use lib.Dec.{eqb}
 use lib.ListN.{getD, set}
+use lib.Seq.{set-getD}
 use borrow.Author.Tests.{eq-eqb, ne-eqb}
 use Rattle.scheduler.specs.Status.{callLevel, noSuch, access, holdsResource, wrongState, firstGiven}
 use Rattle.scheduler.specs.Bits.{anySet, withBits, withoutBits}
@@ -13,7 +15,6 @@ use Rattle.word.specs.Word.{has, with, without}
 use Rattle.stack.specs.Stack.{topRow}
 use Rattle.machine.specs.Model.{Core, Picked, Model, noRank, withCore, withBegun, withEvents, doneWith, refusedWith}
 use Rattle.machine.specs.Arbiter.{arbitrated, settled}
-use lib.Seq.{set-getD}
 use Rattle.kernel.specs.declared.model.TaskEvents.{TaskEvents}
 use Rattle.kernel.specs.View.{core, Arrays, arrays, eventsAt, putEventsAt}
 use Rattle.machine.specs.Events.{noCaller, begunWord, bitsAt, noTask, wait, setEvent, clear}
@@ -22,7 +23,7 @@ use Rattle.machine.specs.Events.{noCaller, begunWord, bitsAt, noTask, wait, set
 abbrev pub kept : ℕ → ℕ → ℕ → ℕ
 kept x r b = cond (has x r) 0 b
 
--- What is kept of one task goes out of the rows and back: as it was, with another mask, with other event bits.
+-- What is kept of the task at k goes back as it was, with another mask, with other event bits.
 module _ (x : Arrays) (k : ℕ) {own : TaskEvents} (taken : own ≡ eventsAt k x) where
   pub put-same : putEventsAt k own x ≡ x
   put-same = rw (taken, set-getD (x .bits) k 0, set-getD (x .waited) k 0)

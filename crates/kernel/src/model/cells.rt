@@ -6,6 +6,7 @@ ghost use lib.ListN.{length, take, drop};
 ghost use Rattle.config.specs.Value.{maxBodies, maxEntries};
 ghost use Rattle.machine.specs.Cells.{isOn, hasTurn, countersTicked, switchFor, switchesTicked, someTurn, marks, countersStarted, switchesStarted, spread, someLong, oneMore, oneLost, matchAt, requestsDue};
 ghost use Rattle.kernel.specs.Methods.{tallyWith, group, marksWord};
+use super::BODIES;
 use super::NO_RANK;
 use super::bodies::busy;
 use super::lookup::byte_at;
@@ -14,9 +15,6 @@ use word::with;
 
 // One cell for each entry that there may be.
 const CELLS: usize = 64;
-
-// One loss count for each body that there may be.
-const BODIES: usize = 32;
 
 // The switch of a cell (its enable): a number as wide as a counter, so that the compiler ticks several cells at once.
 pub const OFF: u16 = 0;

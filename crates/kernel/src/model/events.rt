@@ -1,14 +1,14 @@
 // The events of extended tasks: Wait, Set and Clear. OSEK's events are the 32 event bits of such a task. What is kept of
 // the task that an event is about, the runner or the one that a Set names, goes in by value and comes back.
+ghost use Prim.Native.Nat.{ℕ, _<_};
 ghost use mathlib.Core.Path.{_≡_};
 ghost use mathlib.Core.Bool.{cond, _&&_, _||_};
+ghost use mathlib.Core.List.{List};
 ghost use lib.Dec.{eqb};
+ghost use lib.ListN.{getD};
+ghost use Rattle.config.specs.Value.{maxBodies};
 ghost use Rattle.scheduler.specs.Bits.{anySet, withBits, withoutBits};
 ghost use Rattle.word.specs.Word.{has, with};
-ghost use Prim.Native.Nat.{ℕ, _<_};
-ghost use Rattle.config.specs.Value.{maxBodies};
-ghost use mathlib.Core.List.{List};
-ghost use lib.ListN.{getD};
 ghost use Rattle.machine.specs.Model.{noRank, refusedWith};
 ghost use Rattle.machine.specs.Events.{wait, setEvent, clear};
 ghost use Rattle.kernel.specs.View.{Arrays, taskEvents, eventsAt, putEventsAt, viewWith, viewStep};

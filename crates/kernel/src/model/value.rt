@@ -2,10 +2,10 @@
 // taken out, lent to the method of the registers, and put back where it may have changed. What is kept of the task that
 // an event of extended tasks is about goes by value beside the model, and comes back.
 ghost use Prim.Native.Nat.{ℕ, _<_};
-ghost use Rattle.config.specs.Value.{maxBodies};
 ghost use mathlib.Core.Path.{_≡_};
 ghost use mathlib.Core.List.{List};
 ghost use lib.ListN.{getD};
+ghost use Rattle.config.specs.Value.{maxBodies};
 ghost use Rattle.machine.specs.Model.{noRank};
 ghost use Rattle.machine.specs.Events.{activate, finish, chain, get, release, tick, line, start, stop, wait, setEvent, clear};
 ghost use Rattle.kernel.specs.Methods.{RowsHold};
