@@ -10,21 +10,13 @@ use Rattle.number.specs.Refusal.{none}
 use Rattle.config.specs.declared.Config.{Config}
 use Rattle.config.specs.Accepted.{Accepted, Shaped}
 use Rattle.event.specs.Trace.{TraceRead, readTrace}
-use Rattle.plan.specs.declared.Plan.{Plan}
-use Rattle.plan.specs.Plan.{planOf}
-use Rattle.machine.specs.Model.{Model}
 use Rattle.kernel.specs.declared.count.Counted.{Counted}
-use Rattle.machine.specs.Machine.{freshModel}
 
 abbrev pub counted : TraceRead → Counted
 counted r = record { events = length (r .events); refusal = r .refusal; place = r .place }
 
--- an accepted configuration c with its plan and its fresh model, a readable trace, and n bytes for the answers
-pub record Playable (c : Config) (p : Plan) (m : Model) (ts : List ℕ) (n : ℕ) : Type 0 where
-  pub accepted : Accepted c
-  pub shaped : Shaped c
-  pub planned : p ≡ planOf c
-  pub fresh : m ≡ freshModel p
+-- a readable trace, and n bytes for its answers
+pub record Playable (ts : List ℕ) (n : ℕ) : Type 0 where
   pub readable : readTrace ts .refusal ≡ none
   pub room : 4 * length (readTrace ts .events) ≤ n
 

@@ -5,19 +5,15 @@ ghost use lib.ListN.{length};
 ghost use Rattle.number.specs.Output.{laid};
 ghost use Rattle.machine.specs.Machine.{machineSeen, machineAfter};
 ghost use Rattle.run.specs.Run.{answerBytes, callsOf};
-ghost use Rattle.kernel.specs.View.{noEvents, view, modelOf};
+ghost use Rattle.model.specs.View.{view, modelOf};
 ghost use Rattle.kernel.specs.Passes.{Playable};
-use crate::model::BODIES;
-use crate::model::DONE;
-use crate::model::Model;
-use crate::model::NO_RANK;
-use crate::model::Outcome;
-use crate::model::byte_at;
-use crate::model::counts_lines;
-use crate::model::events_at;
 use crate::output::put_answer;
 use crate::output::runner;
 use config::Config;
+use model::DONE;
+use model::Model;
+use model::Outcome;
+use model::counts_lines;
 use number_codec::read_number;
 use number_codec::read_pair;
 use plan::Plan;
@@ -30,10 +26,10 @@ pub fn play<'a, 'b>(
     trace: &'a [u8],
     out: &'b mut [u8],
 ) -> Model
-    requires { ⌜ Playable config plan (view fresh noEvents noEvents) (now trace) (length (now out)) ⌝ }
-    ensures { λ r. ⌜ r ≡ modelOf (machineAfter config plan (view fresh noEvents noEvents) (callsOf (now (trace .entry)))) ⌝ }
+    requires { ⌜ Playable (now trace) (length (now out)) ⌝ }
+    ensures { λ r. ⌜ r ≡ modelOf (machineAfter config plan (view fresh) (callsOf (now (trace .entry)))) ⌝ }
     ensures { λ _. ⌜ now (out .exit)
-        ≡ laid 0 (answerBytes (machineSeen config plan (view fresh noEvents noEvents) (callsOf (now (trace .entry)))))
+        ≡ laid 0 (answerBytes (machineSeen config plan (view fresh) (callsOf (now (trace .entry)))))
         (now (out .entry)) ⌝ }
 {
     let mut o = Outcome {
@@ -41,9 +37,6 @@ pub fn play<'a, 'b>(
         status: DONE,
         begun: false,
     };
-    // What is kept of the extended tasks, by rank. Whoever has no rank gets what stands elsewhere, and leaves it as it was.
-    let mut bits = [0u32; 32];
-    let mut waited = [0u32; 32];
     let mut at: usize = 0;
     let mut to: usize = 0;
     while at < trace.len() {
@@ -105,40 +98,24 @@ pub fn play<'a, 'b>(
             }
             10 => {
                 let mask = read_number(trace, next);
-                let place = o.model.registers.runner as usize % BODIES;
-                let own = events_at(&bits, &waited, place);
-                let done = o.model.wait(plan.extended, &plan.priority, mask.value, own);
-                o = done.outcome;
-                bits[place] = done.events.bits;
-                waited[place] = done.events.waited;
+                o = o.model.wait(plan.extended, &plan.priority, mask.value);
                 next = mask.place;
             }
             11 => {
                 let arguments = read_pair(trace, next);
-                let rank = byte_at(&plan.rank, arguments.first as usize, NO_RANK);
-                let place = rank as usize % BODIES;
-                let own = events_at(&bits, &waited, place);
-                let done = o.model.set_event(
+                o = o.model.set_event(
                     plan.isrs,
                     plan.extended,
-                    rank,
+                    &plan.rank,
                     &plan.priority,
+                    arguments.first,
                     arguments.second,
-                    own,
                 );
-                o = done.outcome;
-                bits[place] = done.events.bits;
-                waited[place] = done.events.waited;
                 next = arguments.place;
             }
             12 => {
                 let mask = read_number(trace, next);
-                let place = o.model.registers.runner as usize % BODIES;
-                let own = events_at(&bits, &waited, place);
-                let done = o.model.clear(plan.extended, mask.value, own);
-                o = done.outcome;
-                bits[place] = done.events.bits;
-                waited[place] = done.events.waited;
+                o = o.model.clear(plan.extended, mask.value);
                 next = mask.place;
             }
             0 | 13..=255 => {

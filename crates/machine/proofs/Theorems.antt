@@ -36,7 +36,7 @@ use Rattle.scheduler.specs.History.{dueMark, DueAt}
 use Rattle.scheduler.proofs.Theorems.{held-by-user, due-exactly}
 use Rattle.word.specs.Word.{has, with}
 use Rattle.stack.specs.Stack.{rowBytes}
-use Rattle.machine.specs.Model.{Model, Outcome, noRank, withBegun, withLosses, withEvents}
+use Rattle.machine.specs.Model.{Model, Outcome, noRank, withBegun, withLosses, withEventBits}
 use Rattle.machine.specs.Arbiter.{isTriggered}
 use Rattle.machine.specs.Cells.{oneLost}
 use Rattle.machine.specs.Events.{attempt, idles, ticking, tick, bitsAt}
@@ -270,7 +270,7 @@ module _ (c : Config) (p : Plan) (m : Model) (w : ℕ) where
 
   pub machine-wait-leaves : machineStep c p m (Wait w) .status ≡ done → anySet (bitsAt m (m .core .runner)) w ≡ false
       → machineStep c p m (Wait w) .model
-      ≡ withEvents ended (withBegun (ended .core) (ended .core .started) (with (m .core .aside) (m .core .runner)))
+      ≡ withEventBits ended (withBegun (ended .core) (ended .core .started) (with (m .core .aside) (m .core .runner)))
       (m .cleared)
       (m .bits)
       (set (m .waited) (m .core .runner) w)

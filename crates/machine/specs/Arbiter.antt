@@ -17,7 +17,7 @@ use lib.ListN.{getD}
 use Rattle.config.specs.Meaning.{executionLevel, triggerLevel}
 use Rattle.word.specs.Word.{has, with, without, union, winner}
 use Rattle.stack.specs.Stack.{topRow, secondRow, pushRow, popRow}
-use Rattle.machine.specs.Model.{Core, Picked, Model, Outcome, noRank, withCore, withRequest, withEvents, withTriggered, doneWith}
+use Rattle.machine.specs.Model.{Core, Picked, Model, Outcome, noRank, withCore, withRequest, withEventBits, withTriggered, doneWith}
 
 -- the ranks that ask for the processor: they wait to begin, or have begun and go on by their priority
 abbrev pub bids : Core → ℕ
@@ -66,7 +66,7 @@ abbrev pub vacated : Model → Core
 vacated m = leftWith m (without (m .core .started) (m .core .runner)) (m .core .aside)
 
 abbrev pub leaving : Model → Model
-leaving m = withEvents m (vacated m) (with (m .cleared) (m .core .runner)) (m .bits) (m .waited)
+leaving m = withEventBits m (vacated m) (with (m .cleared) (m .core .runner)) (m .bits) (m .waited)
 
 -- the runner waits
 abbrev pub paused : Model → Core

@@ -6,12 +6,14 @@
 --   marks k e w ks on ns            which of those cells match at that tick
 --   requestsDue w ms rs x           the requests and losses x after the matches ms of entries whose tasks have the
 --                                   ranks rs; w: who has begun
---   spread f k e l                  the list l with f i at each of the k places i from e on
-use Prim.Native.Nat.{ℕ, zero, suc, _+_, min}
+--   inRow k e                       how many of the k entries from e on have a cell in the row
+--   spread f k e l                  the list l with f i at each of the k indices i from e on
+use Prim.Native.Nat.{ℕ, zero, suc, _+_, _-_, min}
 use mathlib.Core.Bool.{Bool, true, false, cond, not, _&&_, _||_}
 use mathlib.Core.List.{List, [], _∷_}
 use lib.Dec.{eqb}
 use lib.ListN.{getD, set}
+use Rattle.config.specs.Value.{maxEntries}
 use Rattle.cell.specs.declared.Cell.{Cell}
 use Rattle.cell.specs.Cell.{unmarked, long, startCell, tickCell}
 use Rattle.word.specs.Word.{has, with}
@@ -68,7 +70,11 @@ some f (suc k) e = f e || some f k (suc e)
 abbrev pub someTurn : ℕ → ℕ → List ℕ → Bool
 someTurn k e on = some (λ i. hasTurn (getD on i 0)) k e
 
--- the list l with f i at each of the k places i from e on
+-- how many of the k entries from e on have a cell in the row: all of them, for a table of an accepted configuration
+abbrev pub inRow : ℕ → ℕ → ℕ
+inRow k e = min k (maxEntries - e)
+
+-- the list l with f i at each of the k indices i from e on
 unfoldable pub spread : (ℕ → ℕ) → ℕ → ℕ → List ℕ → List ℕ
 spread f zero e l = l
 spread f (suc k) e l = spread f k (suc e) (set l e (f e))

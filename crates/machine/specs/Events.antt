@@ -12,10 +12,10 @@ use Rattle.scheduler.specs.Status.{done, callLevel, noSuch, limitReached, acces
 use Rattle.scheduler.specs.Bits.{anySet, withBits, withoutBits}
 use Rattle.scheduler.specs.Call.{longestDelay}
 use Rattle.word.specs.Word.{has, with, without, union}
-use Rattle.machine.specs.Model.{Model, Outcome, noRank, withCore, withRequest, withBegun, withRest, withCells, withLosses, withEvents, doneWith, refusedWith}
+use Rattle.machine.specs.Model.{Model, Outcome, noRank, withCore, withRequest, withBegun, withRest, withCells, withLosses, withEventBits, doneWith, refusedWith}
 use Rattle.machine.specs.Arbiter.{settled, leaving, paused, requesting, triggering, timed, returning}
 use Rattle.machine.specs.Resources.{holding, latest, getting, releasing}
-use Rattle.machine.specs.Cells.{isOn, countersTicked, switchesTicked, someTurn, marks, countersStarted, switchesStarted, someLong, countersStopped, switchesStopped, Tally, oneLost, requestsDue}
+use Rattle.machine.specs.Cells.{isOn, countersTicked, switchesTicked, someTurn, marks, countersStarted, switchesStarted, someLong, countersStopped, switchesStopped, inRow, Tally, oneLost, requestsDue}
 
 -- "nobody runs"
 abbrev pub idles : Model → Bool
@@ -172,9 +172,13 @@ starting k e P os d m =
     (switchesStarted k e d os (m .on))
     (m .turning || someLong k e d os)
 
--- es: the tables' entry counts, qs: their periods
+-- how many cells table t has; es: the tables' entry counts
+abbrev pub cellCount : List ℕ → List ℕ → ℕ → ℕ
+cellCount fs es t = inRow (getD es t 0) (getD fs t 0)
+
+-- qs: the tables' periods
 abbrev pub startEffect : List ℕ → List ℕ → List ℕ → List ℕ → Model → ℕ → ℕ → Outcome
-startEffect fs es qs os m t d = doneWith (starting (getD es t 0) (getD fs t 0) (getD qs t 0) os d m) false
+startEffect fs es qs os m t d = doneWith (starting (cellCount fs es t) (getD fs t 0) (getD qs t 0) os d m) false
 
 unfoldable pub start : ℕ → List ℕ → List ℕ → List ℕ → List ℕ → Model → ℕ → ℕ → Outcome
 start n fs es qs os m t d = attempt m (startStatus n fs os m t d) (startEffect fs es qs os m t d)
@@ -188,7 +192,7 @@ abbrev pub stopping : ℕ → ℕ → Model → Model
 stopping k e m = withCells m (countersStopped k e (m .counter)) (switchesStopped k e (m .on)) (m .turning)
 
 abbrev pub stopEffect : List ℕ → List ℕ → Model → ℕ → Outcome
-stopEffect fs es m t = doneWith (stopping (getD es t 0) (getD fs t 0) m) false
+stopEffect fs es m t = doneWith (stopping (cellCount fs es t) (getD fs t 0) m) false
 
 unfoldable pub stop : ℕ → List ℕ → List ℕ → Model → ℕ → Outcome
 stop n fs es m t = attempt m (stopStatus n fs m t) (stopEffect fs es m t)
@@ -199,7 +203,7 @@ bitsAt m r = cond (has (m .cleared) r) 0 (getD (m .bits) r 0)
 
 -- the event bits of the body of rank r become b, and s and a the words of those that have begun
 abbrev pub storing : ℕ → ℕ → ℕ → ℕ → Model → Model
-storing r b s a m = withEvents m (withBegun (m .core) s a) (without (m .cleared) r) (set (m .bits) r b) (m .waited)
+storing r b s a m = withEventBits m (withBegun (m .core) s a) (without (m .cleared) r) (set (m .bits) r b) (m .waited)
 
 -- Wait w
 abbrev pub waitStatus : ℕ → Model → ℕ
@@ -210,7 +214,7 @@ waitStatus xs m =
 
 -- the runner waits for a bit of w
 abbrev pub pausing : ℕ → Model → Model
-pausing w m = withEvents m (paused m) (m .cleared) (m .bits) (set (m .waited) (m .core .runner) w)
+pausing w m = withEventBits m (paused m) (m .cleared) (m .bits) (set (m .waited) (m .core .runner) w)
 
 -- "Wait on a bit already set goes on at once"
 abbrev pub waitEffect : List ℕ → Model → ℕ → Outcome

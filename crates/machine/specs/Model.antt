@@ -1,7 +1,7 @@
 -- The machine's model, with one part changed at a time.
 --
--- Bodies stand in it by their rank among the priorities, so that a greater rank is a greater priority. `noRank` in the
--- place of a runner says that nobody runs.
+-- Bodies stand in it by their rank among the priorities, so that a greater rank is a greater priority. `noRank`
+-- instead of a runner says that nobody runs.
 use Prim.Native.Nat.{ℕ}
 use mathlib.Core.Bool.{Bool, false}
 use mathlib.Core.List.{List}
@@ -130,8 +130,8 @@ abbrev pub withLosses : Model → List ℕ → Model
 withLosses m ls = withRest m (m .counter) (m .on) (m .turning) ls
 
 -- another core, and other event bits bs of which those of the ranks in x count as 0, and masks ws
-abbrev pub withEvents : Model → Core → ℕ → List ℕ → List ℕ → Model
-withEvents m k x bs ws =
+abbrev pub withEventBits : Model → Core → ℕ → List ℕ → List ℕ → Model
+withEventBits m k x bs ws =
     record {
       core = k;
       held = m .held;

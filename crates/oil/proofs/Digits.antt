@@ -18,10 +18,10 @@ held-decimal (d ∷ ds) a b e = held-decimal ds (10 * a + (d - 48)) (10 * b + (d
     step a b d e = omega arith
 
 module _ (t : List ℕ) (e i v : ℕ) where
-  pub digits-turn : e ≤ length t → i < e → {v′ : ℕ} → v′ ≡ held (10 * v + (getD t i 0 - 48))
+  pub digits-step : e ≤ length t → i < e → {v′ : ℕ} → v′ ≡ held (10 * v + (getD t i 0 - 48))
       → held (decimal v′ (take (e - (i + 1)) (drop (i + 1) t))) ≡ held (decimal v (take (e - i) (drop i t)))
   unfolding decimal
-  digits-turn h l {v′} q =
+  digits-step h l {v′} q =
       let n : e - i ≡ suc (e - (i + 1)) = omega arith in
       rw (n, drop-next t i (omega arith))
       (held-decimal (take (e - (i + 1)) (drop (i + 1) t)) v′ (10 * v + (getD t i 0 - 48)) (let k = q in omega arith))

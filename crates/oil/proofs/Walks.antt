@@ -40,10 +40,10 @@ module _ (t : List ℕ) where
         let p : (bears r s && same (spelling t (nextWord t at)) x) ≡ true = rw e at q in
         rw (left-suc n i h, p)
 
-    pub borne-turn : i < n → (bears r s && same (spelling t w) x) ≡ false → {s′ : Progress} → s′ ≡ after s (w .sort)
+    pub borne-step : i < n → (bears r s && same (spelling t w) x) ≡ false → {s′ : Progress} → s′ ≡ after s (w .sort)
         → borne (n - (i + 1)) t (w .end) s′ r x ≡ borne (n - i) t at s r x
     unfolding borne
-    borne-turn h q f =
+    borne-step h q f =
         let p : (bears r s && same (spelling t (nextWord t at)) x) ≡ false = rw e at q in
         rw (left-suc n i h, p, f, e)
 
@@ -56,30 +56,30 @@ module _ (t : List ℕ) where
     unfolding unborne
     unborne-found h q = let p : unborneAt t s m (nextWord t at) ≡ true = rw e at q in rw (left-suc n i h, p, e)
 
-    pub unborne-turn : i < n → unborneAt t s m w ≡ false → {s′ : Progress} → s′ ≡ after s (w .sort)
+    pub unborne-step : i < n → unborneAt t s m w ≡ false → {s′ : Progress} → s′ ≡ after s (w .sort)
         → unborne (n - (i + 1)) t (w .end) s′ m ≡ unborne (n - i) t at s m
     unfolding unborne
-    unborne-turn h q f = let p : unborneAt t s m (nextWord t at) ≡ false = rw e at q in rw (left-suc n i h, p, f, e)
+    unborne-step h q f = let p : unborneAt t s m (nextWord t at) ≡ false = rw e at q in rw (left-suc n i h, p, f, e)
 
   pub unborne-done : (n m i at : ℕ) (s : Progress) → n ≤ i → found m ≡ unborne (n - i) t at s m
   unfolding unborne
   unborne-done n m i at s h = rw (left-none n i h)
 
-  pub mask-turn : (n i at : ℕ) (s : Progress) (x : List ℕ) (b m : ℕ) {w : Word} → w ≡ nextWord t at → i < n
+  pub mask-step : (n i at : ℕ) (s : Progress) (x : List ℕ) (b m : ℕ) {w : Word} → w ≡ nextWord t at → i < n
       → {s′ : Progress} → s′ ≡ after s (w .sort) → {b′ : ℕ} → b′ ≡ numbered s b → {m′ : ℕ}
       → m′ ≡ marked s (spelling t w) x b m → mask (n - (i + 1)) t (w .end) s′ x b′ m′ ≡ mask (n - i) t at s x b m
   unfolding mask
-  mask-turn n i at s x b m e h f g k = rw (left-suc n i h, k, g, f, e)
+  mask-step n i at s x b m e h f g k = rw (left-suc n i h, k, g, f, e)
 
   pub mask-done : (n i at : ℕ) (s : Progress) (x : List ℕ) (b m : ℕ) → n ≤ i → m ≡ mask (n - i) t at s x b m
   unfolding mask
   mask-done n i at s x b m h = rw (left-none n i h)
 
-  pub fill-turn : (n i at : ℕ) (s : Progress) (u : List ℕ → ℕ) (c : Config) {w : Word} → w ≡ nextWord t at → i < n
+  pub fill-step : (n i at : ℕ) (s : Progress) (u : List ℕ → ℕ) (c : Config) {w : Word} → w ≡ nextWord t at → i < n
       → {s′ : Progress} → s′ ≡ after s (w .sort) → {c′ : Config} → c′ ≡ put u s c (w .sort) (spelling t w)
       → fill (n - (i + 1)) t (w .end) s′ u c′ ≡ fill (n - i) t at s u c
   unfolding fill
-  fill-turn n i at s u c e h f g = rw (left-suc n i h, g, f, e)
+  fill-step n i at s u c e h f g = rw (left-suc n i h, g, f, e)
 
   pub fill-done : (n i at : ℕ) (s : Progress) (u : List ℕ → ℕ) (c : Config) → n ≤ i → c ≡ fill (n - i) t at s u c
   unfolding fill

@@ -15,10 +15,10 @@ module _ (at f : ℕ → ℕ) where
   unfolding stored
   stored-more n l = rw add-one
 
-  -- a turn of a loop that stores: the value v at the place i
-  pub stored-turn : (n : ℕ) (l : List ℕ) {t : List ℕ} {i v : ℕ} → t ≡ stored at f n l → i ≡ at n → v ≡ f n
+  -- a step of a loop that stores: the value v at the place i
+  pub stored-step : (n : ℕ) (l : List ℕ) {t : List ℕ} {i v : ℕ} → t ≡ stored at f n l → i ≡ at n → v ≡ f n
       → set t i v ≡ stored at f (n + 1) l
-  stored-turn n l e p q = rw (e, p, q) (stored-more n l)
+  stored-step n l e p q = rw (e, p, q) (stored-more n l)
 
   pub length-stored : (n : ℕ) (l : List ℕ) → length (stored at f n l) ≡ length l
   unfolding stored

@@ -27,9 +27,9 @@ module _ (at f : ℕ → ℕ) (v : ℕ) where
     unfolding marked
     marked-without e = rw (add-one, ne-eqb (f n) v e)
 
-    -- a turn of a loop over the bodies, at one whose field is v
-    pub marked-turn : (w : ℕ) → w ≡ marked at f v n → f n ≡ v → with w (at n) ≡ marked at f v (n + 1)
-    marked-turn w p e = rw p (marked-with e)
+    -- a step of a loop over the bodies, at one whose field is v
+    pub marked-step : (w : ℕ) → w ≡ marked at f v n → f n ≡ v → with w (at n) ≡ marked at f v (n + 1)
+    marked-step w p e = rw p (marked-with e)
 
     -- one body more changes only its own rank
     marked-other : (r : ℕ) → (r ≡ at n → ⊥) → has (marked at f v (suc n)) r ≡ has (marked at f v n) r

@@ -2,7 +2,7 @@
 -- lists filled in turn, words of ranks, ranks, entries, the whole plan.
 --
 -- Letters: c a configuration, p a plan; b a body, r a rank or a resource, t a table, e an entry, each by its number;
--- l a list that is filled in n turns, at the place `at n` with `f n`.
+-- l a list that is filled in n steps, at the index `at n` with `f n`.
 pub mod Stored
 pub mod Marked
 pub mod Rank

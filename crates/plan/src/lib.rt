@@ -1,40 +1,7 @@
-// The static tables that the machine's events look up, derived once from a configuration.
-mod bodies;
-mod entries;
-mod resources;
-
-use config::Config;
-ghost use mathlib.Core.Path.{_≡_};
-ghost use Prim.Native.Nat.{min};
-ghost use Rattle.plan.specs.Plan.{planOf};
-
-// The rank of whatever has none.
-pub const NO_RANK: u8 = 255;
-
-// The kinds that are asked for, and the flag of an autostart task.
-const ISR: u8 = 1;
-
-const EXTENDED: u8 = 2;
-
-const TIME_TRIGGERED: u8 = 3;
-
-const AUTOSTART: u8 = 1;
-
-// The level of a request of a time-triggered task, above the one that it runs at.
-const TRIGGER_LEVEL: u8 = 202;
-
-const MAX_PRIORITY: u16 = 200;
-
-const MAX_BODIES: usize = 32;
-
-const MAX_RESOURCES: usize = 16;
-
-const MAX_TABLES: usize = 8;
-
-const MAX_ENTRIES: usize = 64;
-
-// What the machine looks up: bodies by rank, ranks by body, and what is fixed of resources, tables and entries.
-// A rank is a body's place in the order of priorities, 0 the lowest; time-triggered tasks stand above all others.
+// The static tables that the machine's events look up: bodies by rank, ranks by body, and what is fixed of resources,
+// tables and entries. What they are is defined in specs/; planner fills them.
+//
+// A rank is a body's number in the order of priorities, 0 the lowest; time-triggered tasks stand above all others.
 pub struct Plan {
     // By body its rank; the same where it is a task that a call may activate, and where it is an ISR, else NO_RANK.
     pub rank: [u8; 32],
@@ -58,63 +25,4 @@ pub struct Plan {
     pub entry: [u8; 64],
     // How many entries there are in all.
     pub count: usize,
-}
-
-impl Plan {
-    pub fn of(config: Config) -> Plan
-        ensures { λ r. ⌜ r ≡ planOf config ⌝ }
-    {
-        let kind = config.kind;
-        let priority = config.priority;
-        let flags = config.autostart;
-        let masks = config.users;
-        let counts = config.entries;
-        let period = config.period;
-        let tasks = config.task;
-        let n = at_most(config.bodies as usize, MAX_BODIES);
-        let keys = bodies::keys(kind, priority, n);
-        let by = bodies::ranks(keys, n);
-        let kinds = bodies::by_kind(kind, by, n);
-        let ranked = bodies::by_rank(kind, priority, by, n);
-        let isrs = bodies::marked(kind, ISR, by, n);
-        let extended = bodies::marked(kind, EXTENDED, by, n);
-        let autostart = bodies::marked(flags, AUTOSTART, by, n);
-        let some = at_most(config.resources as usize, MAX_RESOURCES);
-        let resource = resources::by_resource(masks, some, priority, by, n);
-        let tables = at_most(config.tables as usize, MAX_TABLES);
-        let table = entries::by_table(counts, tables);
-        let count = table.count;
-        let compare = entries::compares(counts, period, count);
-        let callable = kinds.callable;
-        let entry = entries::entry_ranks(tasks, by, count);
-        let line = kinds.line;
-        let level = ranked.priority;
-        let body = ranked.body;
-        let ceiling = resource.ceiling;
-        let users = resource.users;
-        let first = table.first;
-        Plan {
-            rank: by,
-            callable,
-            line,
-            priority: level,
-            body,
-            isrs,
-            extended,
-            autostart,
-            ceiling,
-            users,
-            first,
-            compare,
-            entry,
-            count,
-        }
-    }
-}
-
-// A count, but no more than the arrays hold.
-fn at_most(n: usize, most: usize) -> usize
-    ensures { λ r. ⌜ r ≡ min n most ⌝ }
-{
-    if n < most { n } else { most }
 }

@@ -7,7 +7,7 @@ use lib.ListN.{length, drop, getD, set}
 use Rattle.number.specs.Output.{written, laid}
 use Rattle.recording.specs.Fate.{belonging, keptBytes}
 use Rattle.recording.specs.Stretch.{listBytes}
-use Rattle.salvage.proofs.Turn.{eventsLeft, listLeft, gapBytes, events-kept, events-dropped, list-kept, list-dropped, events-end, list-end}
+use Rattle.salvage.proofs.Step.{eventsLeft, listLeft, gapBytes, events-kept, events-dropped, list-kept, list-dropped, events-end, list-end}
 use Rattle.salvage.proofs.Progress.{Progress, progress-start, progress-more, progress-room, progress-end, laid-byte}
 
 -- the kept bytes before the place at are written
@@ -20,8 +20,8 @@ events-start bs d room = record { at-le = omega arith; progress = progress-start
 
 module _ {bs d : List ℕ} {at left n : ℕ} {out : List ℕ} (p : EventsOn bs d at left n out) where
   module _ {here : ℕ} (within : at < length bs) (same : here ≡ belonging left (drop at bs)) where
-    pub events-turn-dropped : here ≡ 0 → EventsOn bs d (at + 1) left n out
-    events-turn-dropped z =
+    pub events-step-dropped : here ≡ 0 → EventsOn bs d (at + 1) left n out
+    events-step-dropped z =
         record { at-le = omega arith; progress = rw (events-dropped bs at left here within same z) at (p .progress) }
 
     -- the byte at the place is the next one to write
@@ -31,8 +31,8 @@ module _ {bs d : List ℕ} {at left n : ℕ} {out : List ℕ} (p : EventsOn bs d
     pub events-room : (here ≡ 0 → ⊥) → n < length out
     events-room some = omega (arith, progress-room (getD bs at 0 ∷ []) _ (next some))
 
-    pub events-turn-kept : (here ≡ 0 → ⊥) → EventsOn bs d (at + 1) (here - 1) (n + 1) (set out n (getD bs at 0))
-    events-turn-kept some =
+    pub events-step-kept : (here ≡ 0 → ⊥) → EventsOn bs d (at + 1) (here - 1) (n + 1) (set out n (getD bs at 0))
+    events-step-kept some =
         record {
           at-le = omega arith;
           progress =
@@ -55,8 +55,8 @@ list-start bs d room =
 
 module _ {bs d : List ℕ} {at left gap n : ℕ} {out : List ℕ} (p : ListOn bs d at left gap n out) where
   module _ {here : ℕ} (within : at < length bs) (same : here ≡ belonging left (drop at bs)) where
-    pub list-turn-dropped : here ≡ 0 → ListOn bs d (at + 1) left (gap + 1) n out
-    list-turn-dropped z =
+    pub list-step-dropped : here ≡ 0 → ListOn bs d (at + 1) left (gap + 1) n out
+    list-step-dropped z =
         record {
           at-le = omega arith;
           gap-le = omega (arith, p .gap-le);
@@ -70,9 +70,9 @@ module _ {bs d : List ℕ} {at left gap n : ℕ} {out : List ℕ} (p : ListOn bs
     pub list-room : (here ≡ 0 → ⊥) → n + length (gapBytes at gap) ≤ length out
     list-room some = progress-room (gapBytes at gap) _ (ending some)
 
-    pub list-turn-kept : (here ≡ 0 → ⊥)
+    pub list-step-kept : (here ≡ 0 → ⊥)
         → ListOn bs d (at + 1) (here - 1) 0 (n + length (gapBytes at gap)) (laid n (gapBytes at gap) out)
-    list-turn-kept some =
+    list-step-kept some =
         record {
           at-le = omega arith;
           gap-le = omega arith;

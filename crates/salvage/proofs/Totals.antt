@@ -11,7 +11,7 @@ use Rattle.recording.specs.Stretch.{listBytes}
 use Rattle.recording.proofs.Theorems.{kept-fit, list-fits}
 use Rattle.salvage.specs.declared.Lengths.{Lengths}
 use Rattle.salvage.specs.Salvage.{lengths}
-use Rattle.salvage.proofs.Turn.{eventsLeft, listLeft, gapBytes, events-kept, events-dropped, list-kept, list-dropped, events-end, list-end}
+use Rattle.salvage.proofs.Step.{eventsLeft, listLeft, gapBytes, events-kept, events-dropped, list-kept, list-dropped, events-end, list-end}
 
 pub record Counts (bs : List ℕ) (at left gap events stretches : ℕ) : Type 0 where
   pub at-le : at ≤ length bs

@@ -26,7 +26,7 @@ use Rattle.machine.proofs.Relation.Bits.{noted, Noted, NotedOf, noted-c
 use Rattle.machine.proofs.Relation.Nest.{nest-started}
 use Rattle.machine.proofs.Relation.Whole.{Tied}
 use Rattle.machine.proofs.Arbitration.Dispatch.{rank-below}
-use Rattle.machine.proofs.Change.Request.{touched-tied, events-tied}
+use Rattle.machine.proofs.Change.Request.{touched-tied, event-bits-tied}
 
 -- the bits that count of a body that isn't suspended are its bits
 module _ {c : Config} {rk : ℕ → ℕ} (m : Model) {bs : List Body} (n : NotedOf c rk m bs) (b : ℕ) (b< : b < c .bodies)
@@ -205,7 +205,7 @@ module _ {c : Config} {p : Plan} {rk : ℕ → ℕ} (fit : Fitted c p rk) (m : M
     -- one of the nest is started, and stays so
     pub receive-tied : Tied c rk (receiving (rk b) w m) (set bs b (receives w (at bs b))) js ns
     receive-tied =
-        events-tied
+        event-bits-tied
         (touched-tied t fit b b< y refl (λ h. like (at bs b .phase) (nest-started c bs b ns (t .nested) h)) k words
         refl refl)
         (without (m .cleared) (rk b))

@@ -32,7 +32,7 @@ use Rattle.machine.proofs.Relation.Slots.{slotsFor, slotsAlong, SlotsOf
 use Rattle.machine.proofs.Relation.Nest.{Nested, AllHold, Seats, AlikeAlong, alike-outside, not-among, nest-other, nested-alike, hold-alike, slotsAlong-alike}
 use Rattle.machine.proofs.Relation.Whole.{Tied}
 use Rattle.machine.proofs.Arbitration.Dispatch.{rank-below}
-use Rattle.machine.proofs.Change.Request.{events-tied}
+use Rattle.machine.proofs.Change.Request.{event-bits-tied}
 
 -- the last slot's holder takes the seat, at its level
 module _ {c : Config} {p : Plan} {rk : ℕ → ℕ} (fit : Fitted c p rk) (m : Model) (bs : List Body) where
@@ -120,7 +120,7 @@ module _ {c : Config} {p : Plan} {rk : ℕ → ℕ} (fit : Fitted c p rk) {m : M
   -- the runner ends: ready where a request waited, which is then used up, else suspended
   pub end-tied : Tied c rk (leaving m) (set bs b (finished (at bs b))) [] ns
   end-tied =
-      events-tied
+      event-bits-tied
       (left-tied (finished (at bs b)) (held-none (at bs b .pending))
       (without (m .core .started) (m .core .runner)) (m .core .aside)
       (words-changed fit (t .words) (t .size) b exists (finished (at bs b)) (vacated m) (
@@ -168,7 +168,7 @@ module _ {c : Config} {p : Plan} {rk : ℕ → ℕ} (fit : Fitted c p rk) {m : M
   -- the runner, which is no ISR, waits for an event bit
   pub pause-tied : isIsr c b ≡ false → (w : ℕ) → Tied c rk (pausing w m) (set bs b (become (waiting w) (at bs b))) [] ns
   pause-tied task w =
-      events-tied
+      event-bits-tied
       (left-tied (become (waiting w) (at bs b)) free
       (without (m .core .started) (m .core .runner)) (with (m .core .aside) (m .core .runner))
       (words-changed fit (t .words) (t .size) b exists (become (waiting w) (at bs b)) (paused m)

@@ -1,7 +1,7 @@
 -- A body that is changed without beginning or ending: asked for, losing an activation, or getting event bits.
 --
 --   touched-tied   the words follow the body, and the nest does not notice
---   elsewhere      cells and losses have no part in who runs; events-tied: nor have event bits
+--   elsewhere      cells and losses have no part in who runs; event-bits-tied: nor have event bits
 --   asked-tied     a body is asked for: activate-tied, trigger-tied, line-tied
 use Prim.Native.Nat.{ℕ, _<_}
 use mathlib.Core.Path.{_≡_, refl, sym, ap, _∙_}
@@ -17,7 +17,7 @@ use Rattle.word.specs.Word.{with}
 use Rattle.word.proofs.Theorems.{has-with-same, has-with-other, with-lt}
 use Rattle.scheduler.specs.Body.{Body, isStarted, hasBegun, Phase, suspended, ready, started, waiting, triggered, triggers, activated, requested, loses}
 use Rattle.scheduler.specs.State.{noBody, among}
-use Rattle.machine.specs.Model.{Core, Model, withCore, withRequest, withRest, withEvents}
+use Rattle.machine.specs.Model.{Core, Model, withCore, withRequest, withRest, withEventBits}
 use Rattle.machine.specs.Arbiter.{requesting}
 use Rattle.plan.proofs.Fitted.{Fitted}
 use Rattle.machine.proofs.Relation.Words.{at, wants, isAside, Suits, Words, words-changed, marks-same, unmoved-same}
@@ -37,8 +37,8 @@ module _ {c : Config} {rk : ℕ → ℕ} {m : Model} {bs : List Body} {js ns : L
         loose = t .loose;
       }
 
-  pub events-tied : (x : ℕ) (es ws : List ℕ) → Tied c rk (withEvents m (m .core) x es ws) bs js ns
-  events-tied x es ws =
+  pub event-bits-tied : (x : ℕ) (es ws : List ℕ) → Tied c rk (withEventBits m (m .core) x es ws) bs js ns
+  event-bits-tied x es ws =
       record {
         size = t .size;
         words = t .words;

@@ -34,7 +34,7 @@ use Rattle.machine.proofs.Relation.Bits.{NotedOf, noted-changed}
 use Rattle.machine.proofs.Relation.Whole.{Tied, Sim}
 use Rattle.machine.proofs.Relation.Order.{of-one-kind, untriggered}
 use Rattle.machine.proofs.Arbitration.Dispatch.{rank-below}
-use Rattle.machine.proofs.Change.Request.{touched-tied, events-tied}
+use Rattle.machine.proofs.Change.Request.{touched-tied, event-bits-tied}
 use Rattle.machine.proofs.Change.End.{pause-tied}
 use Rattle.machine.proofs.Change.Bits.{bits-of, receive-tied, receive-noted, clear-noted}
 use Rattle.machine.proofs.Event.Agrees.{kept, first-same, Agrees, Done, Keeps, Runs, call-same, by-call, caller-same, untimed-tied, settled-done, calm-done, agrees-attempt}
@@ -173,7 +173,7 @@ module _ {c : Config} {p : Plan} {rk : ℕ → ℕ} (fit : Fitted c p rk) {m : M
   clear-tied : {b : ℕ} {ns : List ℕ} → Runs c rk m s b ns → (w : ℕ)
       → Tied c rk (clearing w m) (set bs b (clears w (at bs b))) [] (b ∷ ns)
   clear-tied {b} k w =
-      events-tied
+      event-bits-tied
       (touched-tied (k .tied) fit b (k .exists) (clears w (at bs b)) refl (λ _. refl) same
       (words-changed fit (k .tied .words) (k .tied .size) b (k .exists) (clears w (at bs b)) same
       (k .tied .words .suits b)

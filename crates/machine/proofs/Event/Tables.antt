@@ -29,7 +29,7 @@ use Rattle.scheduler.proofs.Checks.{start-passed, stop-passed}
 use Rattle.machine.specs.Model.{Model, withCells, doneWith}
 use Rattle.machine.specs.Cells.{switchOff, isOn, hasTurn, switchFor, cellAt, spread, someLong}
 use Rattle.machine.specs.Events as Machine
-use Rattle.machine.specs.Events.{runs, starting, stopping}
+use Rattle.machine.specs.Events.{runs, cellCount, starting, stopping}
 use Rattle.machine.specs.Machine.{statusOf, effectOf, refusalOf, cellIn}
 use Rattle.plan.proofs.Fitted.{Fitted}
 use Rattle.machine.proofs.Relation.Cells.{CellFits, CellsTied, CellsOf}
@@ -156,6 +156,12 @@ module _ {c : Config} {p : Plan} {rk : ℕ → ℕ} (fit : Fitted c p rk) {m : M
       go stopped k = k
       go (running d n) k = k .on
 
+  -- the cells of a table of the configuration all lie in the row
+  count-is : (t : ℕ) → t < c .tables → cellCount (p .first) (c .entries) t ≡ getD (c .entries) t 0
+  count-is t h =
+      omega
+      (arith, fit .first-at t h, firstOf-step c t, firstOf-rises c (suc t) (c .tables) h, fit .few-entries)
+
   -- a call that changes the cells and the tables alone
   abbrev withTables : List Table → State
   withTables ts = record { bodies = s .bodies; tables = ts; order = s .order }
@@ -167,7 +173,7 @@ module _ {c : Config} {p : Plan} {rk : ℕ → ℕ} (fit : Fitted c p rk) {m : M
 
   -- Start
   abbrev launching : ℕ → ℕ → Model
-  launching t d = starting (getD (c .entries) t 0) (getD (p .first) t 0) (getD (c .period) t 0) (c .offset) d m
+  launching t d = starting (cellCount (p .first) (c .entries) t) (getD (p .first) t 0) (getD (c .period) t 0) (c .offset) d m
 
   start-status : (t d : ℕ) → Machine.startStatus (c .tables) (p .first) (c .offset) m t d ≡ startStatus c s t d
   start-status t d =
@@ -215,7 +221,7 @@ module _ {c : Config} {p : Plan} {rk : ℕ → ℕ} (fit : Fitted c p rk) {m : M
       → CellsOf c p (launching t d) (start t d s .tables)
   unfolding CellFits
   start-tied t d t< some fits =
-      rw (fit .first-at t t<)
+      rw (count-is t t<, fit .first-at t t<)
       (table-tied fit t t< (sim .cells) (counterOf t d) (switchOf d) (m .turning || anyLong t d) (λ w. rw w)
       (running d 0)
       (λ z e low high. none-long t d e low high z)
@@ -229,7 +235,7 @@ module _ {c : Config} {p : Plan} {rk : ℕ → ℕ} (fit : Fitted c p rk) {m : M
     pub start-cell : firstOf c t ≤ e → e < firstOf c (suc t)
         → cellIn p (launching t d) e ≡ startCell (getD (c .period) t 0) (delayed d e)
     start-cell low high =
-        rw (fit .first-at t t<)
+        rw (count-is t t<, fit .first-at t t<)
         (own-cell fit t t< (sim .cells) (counterOf t d) (switchOf d) (m .turning || anyLong t d) (λ w. rw w) e low high
         ∙ rw (switch-on true (isLong (delayed d e)) (λ _. refl), turn-said t d e low high)
         (ap (λ (k : ℕ). unmarked (counterOf t d e) k true (isLong (delayed d e))) compare))
@@ -240,7 +246,7 @@ module _ {c : Config} {p : Plan} {rk : ℕ → ℕ} (fit : Fitted c p rk) {m : M
     pub start-other : (u : ℕ) → u < c .tables → u ≢ t → firstOf c u ≤ e → e < firstOf c (suc u)
         → cellIn p (launching t d) e ≡ cellIn p m e
     start-other u u< n low high =
-        rw (fit .first-at t t<)
+        rw (count-is t t<, fit .first-at t t<)
         (other-cell fit t t< (sim .cells) (counterOf t d) (switchOf d) (m .turning || anyLong t d) (λ w. rw w)
         u e u< n low high)
 
@@ -255,7 +261,7 @@ module _ {c : Config} {p : Plan} {rk : ℕ → ℕ} (fit : Fitted c p rk) {m : M
 
   -- Stop
   abbrev halting : ℕ → Model
-  halting t = stopping (getD (c .entries) t 0) (getD (p .first) t 0) m
+  halting t = stopping (cellCount (p .first) (c .entries) t) (getD (p .first) t 0) m
 
   stop-status : (t : ℕ) → Machine.stopStatus (c .tables) (p .first) m t ≡ stopStatus c s t
   stop-status t =
@@ -266,7 +272,7 @@ module _ {c : Config} {p : Plan} {rk : ℕ → ℕ} (fit : Fitted c p rk) {m : M
   stop-tied : (t : ℕ) → t < c .tables → CellsOf c p (halting t) (stop t s .tables)
   unfolding CellFits
   stop-tied t t< =
-      rw (fit .first-at t t<)
+      rw (count-is t t<, fit .first-at t t<)
       (table-tied fit t t< (sim .cells) (λ _. 0) (λ _. switchOff) (m .turning) (λ w. w) stopped
       (λ _ e low high. refl)
       (λ e low high. refl))
@@ -276,14 +282,14 @@ module _ {c : Config} {p : Plan} {rk : ℕ → ℕ} (fit : Fitted c p rk) {m : M
     pub stop-cell : firstOf c t ≤ e → e < firstOf c (suc t)
         → cellIn p (halting t) e ≡ Cell.stopCell (cellIn p m e)
     stop-cell low high =
-        rw (fit .first-at t t<)
+        rw (count-is t t<, fit .first-at t t<)
         (own-cell fit t t< (sim .cells) (λ _. 0) (λ _. switchOff) (m .turning) (λ w. w) e low high
         ∙ rw (fit .compare-at t e t< low high, and-false (m .turning)))
 
     pub stop-other : (u : ℕ) → u < c .tables → u ≢ t → firstOf c u ≤ e → e < firstOf c (suc u)
         → cellIn p (halting t) e ≡ cellIn p m e
     stop-other u u< n low high =
-        rw (fit .first-at t t<)
+        rw (count-is t t<, fit .first-at t t<)
         (other-cell fit t t< (sim .cells) (λ _. 0) (λ _. switchOff) (m .turning) (λ w. w) u e u< n low high)
 
   pub agrees-stop : (t : ℕ) → Agrees c p rk m s (Stop t)

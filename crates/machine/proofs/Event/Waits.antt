@@ -10,7 +10,7 @@ use lib.ListN.{set}
 use Rattle.scheduler.specs.Status.{done, callLevel, access, holdsResource, _gives_, firstGiven}
 use Rattle.scheduler.specs.Bits.{anySet}
 use Rattle.word.specs.Word.{has, with}
-use Rattle.machine.specs.Model.{Core, Picked, Model, withBegun, withEvents}
+use Rattle.machine.specs.Model.{Core, Picked, Model, withBegun, withEventBits}
 use Rattle.machine.specs.Arbiter.{winning, beginning, dispatching, arbitrated, timed, leaving}
 use Rattle.machine.specs.Resources.{holding}
 use Rattle.machine.specs.Events.{attempt, idles, bitsAt, waitStatus, waitEffect, finishStatus, finishEffect}
@@ -51,7 +51,7 @@ module _ (xs : ℕ) (ps : List ℕ) (m : Model) (w : ℕ) where
   -- the model f, but for what is kept of the runner of m: it is aside, with its event bits and the mask w
   abbrev pub keeping : Model → Model
   keeping f =
-      withEvents f (withAside (f .core) (with (m .core .aside) (m .core .runner))) (m .cleared) (m .bits)
+      withEventBits f (withAside (f .core) (with (m .core .aside) (m .core .runner))) (m .cleared) (m .bits)
       (set (m .waited) (m .core .runner) w)
 
   pub as-finish : waitStatus xs m ≡ done → anySet (bitsAt m (m .core .runner)) w ≡ false

@@ -6,27 +6,16 @@ use Rattle.event.specs.Trace.{readTrace}
 use Rattle.plan.specs.declared.Plan.{Plan}
 use Rattle.plan.proofs.Theorems.{plan-sized}
 use Rattle.run.specs.Run.{callOf, callsOf}
-use Rattle.machine.specs.Model as Machine
-use Rattle.machine.specs.Machine.{machineAfter}
-use Rattle.kernel.specs.declared.model.Model.{Model}
-use Rattle.kernel.specs.View.{noEvents, view}
-use Rattle.kernel.proofs.Run.Whole.{answered}
+use Rattle.model.specs.View.{view, modelOf}
+use Rattle.kernel.proofs.Passes.Whole.{answered, last-model}
 use borrow.Author.Needs.{needs}
 use Rattle.kernel.proofs.answer.answer.Statement.{statement}
 use Rattle.kernel.proofs.answer.answer.Tie as tie
-
--- a model at the fresh start
-abbrev begun : Model → Machine.Model
-begun m = view m noEvents noEvents
 
 play-requires : tie.Need-play-requires
 play-requires c κs =
     let s = c .before .before .before .before .before .before .before in
     record {
-      accepted = s .pre .accepted;
-      shaped = s .pre .shaped;
-      planned = c .before .before .before .before .of .ensures;
-      fresh = ap begun (c .before .fresh .ensures);
       readable = s .pre .readable;
       room = omega (arith, s .pre .room, s .pre .counted);
     }
@@ -40,8 +29,8 @@ put-losses-requires : tie.Need-put-losses-requires
 put-losses-requires c κs =
     let p = c .before .before .before .before .before .before .before .before in
     let s = p .before .before .before .before .before .before .before .before in
-    let long : length (p .before .before .before .before .before .of .result .rank) ≡ 32 = ap
-    (λ (q : Plan). length (q .rank)) (p .before .before .before .before .before .of .ensures)
+    let long : length (p .before .before .before .before .before .plan-of .result .rank) ≡ 32 = ap
+    (λ (q : Plan). length (q .rank)) (p .before .before .before .before .before .plan-of .ensures)
     ∙ plan-sized (s .args .config) .ranks in (
       s .pre .accepted .few-bodies,
       omega (arith, s .pre .accepted .few-bodies),
@@ -52,16 +41,19 @@ returns : tie.Need-returns
 returns c =
     let l = c .before .before in
     let p = l .before .before .before .before .before .before .before .before .before in
-    let s = p .before .before .before .before .before .before .before .before in
-    let m = machineAfter (s .args .config) (p .before .before .before .before .before .of .result)
-    (begun (p .before .before .fresh .result)) (callsOf (s .args .trace .now)) in
-    let with : Model → Machine.Model = λ r. view r (m .bits) (m .waited) in
-    answered (s .args .config) (s .pre .accepted) (s .pre .shaped) (callsOf (s .args .trace .now))
-    (p .before .before .before .before .before .of .result) (begun (p .before .before .fresh .result))
-    (s .args .events) (s .args .out .now) _ _ (with (p .play .result))
-    (p .before .before .before .before .before .of .ensures) (ap begun (p .before .before .fresh .ensures))
-    (s .pre .counted ∙ sym (length-map (readTrace (s .args .trace .now) .events) callOf)) (s .pre .room)
-    (p .play .ensures .1) (ap with (p .play .ensures .0)) (l .put-losses .ensures)
+    let s = p .before .before .before .before .before .before .before .before in (
+      answered (s .args .config) (s .pre .accepted) (s .pre .shaped) (callsOf (s .args .trace .now))
+          (p .before .before .before .before .before .plan-of .result) (view (p .before .before .fresh .result))
+          (s .args .events) (s .args .out .now) _ _ (view (p .play .result))
+          (p .before .before .before .before .before .plan-of .ensures) (ap view (p .before .before .fresh .ensures))
+          (s .pre .counted ∙ sym (length-map (readTrace (s .args .trace .now) .events) callOf)) (s .pre .room)
+          (p .play .ensures .1) (ap view (p .play .ensures .0)) (l .put-losses .ensures),
+      ap modelOf
+          (last-model (s .args .config) (callsOf (s .args .trace .now))
+          (p .before .before .before .before .before .plan-of .result) (view (p .before .before .fresh .result))
+          (view (p .play .result)) (p .before .before .before .before .before .plan-of .ensures)
+          (ap view (p .before .before .fresh .ensures)) (ap view (p .play .ensures .0))),
+    )
 
 pub answer-spec : {M : Type 1} → statement M
 answer-spec =

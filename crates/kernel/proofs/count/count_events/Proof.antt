@@ -2,7 +2,7 @@
 use Prim.Native.Nat.{_-_}
 use native.Mathlib.Omega.{arith}
 use lib.ListN.{length}
-use Rattle.kernel.proofs.Run.Count.{Passed, passed-start, passed-end, passed-refused, passed-later, passed-turn}
+use Rattle.kernel.proofs.Passes.Count.{Passed, passed-start, passed-end, passed-refused, passed-later, passed-step}
 use Rattle.kernel.proofs.count.count_events.Statement.{statement}
 use Rattle.kernel.proofs.count.count_events.Tie as tie
 
@@ -27,7 +27,7 @@ loop-less c = let l = c .before .before .before .before .loop in
 
 loop-again : tie.Need-loop-again Inv-loop μ-loop
 loop-again c = let l = c .before .before .before .before .loop in
-    passed-turn _ (l .at) (l .events) (l .inv) (c .before .before .event-end .ensures) (c .if1 .left)
+    passed-step _ (l .at) (l .events) (l .inv) (c .before .before .event-end .ensures) (c .if1 .left)
 
 returns-2 : tie.Need-returns-2 Inv-loop μ-loop
 returns-2 c = let l = c .before .loop in

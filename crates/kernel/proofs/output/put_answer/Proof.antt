@@ -8,7 +8,7 @@ use mir.Val.{boolByte}
 use Rattle.number.specs.Output.{laid}
 use Rattle.scheduler.specs.Scheduler.{markOf}
 use lib.ListN.{length-set}
-use Rattle.kernel.proofs.Run.Bytes.{four-laid}
+use Rattle.kernel.proofs.Passes.Bytes.{four-laid}
 use borrow.Author.Needs.{needs}
 use Rattle.kernel.proofs.output.put_answer.Statement.{statement}
 use Rattle.kernel.proofs.output.put_answer.Tie as tie

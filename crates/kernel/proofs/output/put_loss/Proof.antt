@@ -1,7 +1,7 @@
 -- `put_loss` meets its contract: two stores are two bytes laid.
 use native.Mathlib.Omega.{arith}
 use lib.ListN.{length-set}
-use Rattle.kernel.proofs.Run.Bytes.{two-laid}
+use Rattle.kernel.proofs.Passes.Bytes.{two-laid}
 use borrow.Author.Needs.{needs}
 use Rattle.kernel.proofs.output.put_loss.Statement.{statement}
 use Rattle.kernel.proofs.output.put_loss.Tie as tie

@@ -6,7 +6,7 @@ use native.Mathlib.Omega.{arith}
 use lib.ListN.{length, getD, take}
 use Rattle.number.specs.Output.{laid}
 use Rattle.run.specs.Run.{lossBytes}
-use Rattle.kernel.proofs.Run.Bytes.{laid-none, losses-turn}
+use Rattle.kernel.proofs.Passes.Bytes.{laid-none, losses-step}
 use Rattle.kernel.proofs.output.put_losses.Statement.{statement}
 use Rattle.kernel.proofs.output.put_losses.Tie as tie
 
@@ -32,7 +32,7 @@ loop-again c =
           ∙ ap (laid (a .at + 2 * l .b)
           (c .before .before .before .before .loss .result % 256 ∷ c .before .before .before .before .loss .result /
           256 ∷ [])) (l .inv .2)
-          ∙ losses-turn (λ r. getD (a .losses .now) r 0) (a .ranks .now) (a .at) (a .out .now) (l .b)
+          ∙ losses-step (λ r. getD (a .losses .now) r 0) (a .ranks .now) (a .at) (a .out .now) (l .b)
           (c .before .before .before .before .loss .result) (omega arith) (omega arith)
           (c .before .before .before .before .loss .ensures),
     )

@@ -9,7 +9,7 @@ use Rattle.oil_grammar.specs.Machine.{fresh}
 use Rattle.oil_grammar.specs.Walk.{mask, fill}
 use Rattle.oil_grammar.specs.Reader.{filled}
 use borrow.Author.Needs.{needs}
-use Rattle.oil.proofs.Walks.{word-inside, fill-turn, fill-done}
+use Rattle.oil.proofs.Walks.{word-inside, fill-step, fill-done}
 use Rattle.oil.proofs.meaning.fill.Statement.{statement}
 use Rattle.oil.proofs.meaning.fill.Tie as tie
 
@@ -35,7 +35,7 @@ loop-again c =
     let l = c .before .before .before .before .loop in
     let w = c .before .before .next-word in (
       word-inside (a .text .now) (l .at) (l .inv .0) (w .ensures) .1,
-      fill-turn (a .text .now) (a .words) (l .i) (l .at) (l .s)
+      fill-step (a .text .now) (a .words) (l .i) (l .at) (l .s)
           (λ (x : List ℕ). mask (a .words) (a .text .now) 0 fresh x 0 0) (l .c) (w .ensures)
           (c .before .before .before .loop-test .taken) (c .after .ensures) (c .before .put .ensures) ∙ l .inv .1,
     )

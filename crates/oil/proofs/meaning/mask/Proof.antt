@@ -7,7 +7,7 @@ use lib.ListN.{length, take, drop}
 use Rattle.oil_grammar.specs.Machine.{fresh}
 use Rattle.oil_grammar.specs.Walk.{mask}
 use borrow.Author.Needs.{needs}
-use Rattle.oil.proofs.Walks.{word-inside, mask-turn, mask-done}
+use Rattle.oil.proofs.Walks.{word-inside, mask-step, mask-done}
 use Rattle.oil.proofs.meaning.mask.Statement.{statement}
 use Rattle.oil.proofs.meaning.mask.Tie as tie
 
@@ -36,7 +36,7 @@ loop-again c =
     let l = c .before .before .before .before .before .loop in
     let w = c .before .before .before .next-word in (
       word-inside (a .text .now) (l .at) (l .inv .0) (w .ensures) .1,
-      mask-turn (a .text .now) (a .words) (l .i) (l .at) (l .s)
+      mask-step (a .text .now) (a .words) (l .i) (l .at) (l .s)
           (take (a .end - a .start) (drop (a .start) (a .text .now))) (l .b) (l .m) (w .ensures)
           (c .before .before .before .before .loop-test .taken) (c .after .ensures)
           (c .before .numbered .ensures) (c .before .before .marked .ensures) ∙ l .inv .1,

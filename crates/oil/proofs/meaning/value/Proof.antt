@@ -6,7 +6,7 @@ use lib.ListN.{take, drop}
 use Rattle.oil_grammar.specs.Word.{decimal}
 use Rattle.oil_grammar.specs.Meaning.{held}
 use borrow.Author.Needs.{needs}
-use Rattle.oil.proofs.Digits.{digits-turn, digits-done}
+use Rattle.oil.proofs.Digits.{digits-step, digits-done}
 use Rattle.oil.proofs.meaning.value.Statement.{statement}
 use Rattle.oil.proofs.meaning.value.Tie as tie
 
@@ -28,7 +28,7 @@ loop-again c =
       (omega arith, omega arith),
       (
         let e = c .value-after .ensures in omega arith,
-        digits-turn (a .text .now) (a .end) (l .i) (l .v)
+        digits-step (a .text .now) (a .end) (l .i) (l .v)
             (let p = c .before .before .before .before .before .pre in omega arith)
             (c .before .before .loop-test .taken) (c .value-after .ensures) ∙ l .inv .1 .1,
       ),

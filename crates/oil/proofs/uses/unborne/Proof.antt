@@ -8,7 +8,7 @@ use Rattle.oil_grammar.specs.Machine.{fresh}
 use Rattle.oil_grammar.specs.Walk.{unborne}
 use Rattle.oil.specs.Kept.{Sound}
 use borrow.Author.Needs.{needs}
-use Rattle.oil.proofs.Walks.{word-inside, unborne-found, unborne-turn, unborne-done}
+use Rattle.oil.proofs.Walks.{word-inside, unborne-found, unborne-step, unborne-done}
 use Rattle.oil.proofs.KeptNames.{nothing-sound}
 use Rattle.oil.proofs.uses.unborne.Statement.{statement}
 use Rattle.oil.proofs.uses.unborne.Tie as tie
@@ -56,7 +56,7 @@ loop-again c =
       word-inside (a .text .now) (l .at) (l .inv .0) (w .ensures) .1,
       (
         c .before .before .before .look .ensures .0,
-        unborne-turn
+        unborne-step
             (a .text .now) (a .words) (a .words) (l .i) (l .at) (l .s) (w .ensures)
             (c .before .before .before .before .before .loop-test .taken)
             (sym (c .before .before .before .look .ensures .1)

@@ -7,7 +7,7 @@ use lib.ListN.{length, take, drop}
 use Rattle.oil_grammar.specs.Machine.{fresh}
 use Rattle.oil_grammar.specs.Walk.{borne}
 use borrow.Author.Needs.{needs}
-use Rattle.oil.proofs.Walks.{word-inside, borne-found, borne-turn, borne-done}
+use Rattle.oil.proofs.Walks.{word-inside, borne-found, borne-step, borne-done}
 use Rattle.oil.proofs.walk.borne.Statement.{statement}
 use Rattle.oil.proofs.walk.borne.Tie as tie
 
@@ -46,7 +46,7 @@ loop-again c =
     let l = c .before .before .before .before .before .loop in
     let w = c .before .before .before .next-word in (
       word-inside (a .text .now) (l .at) (l .inv .0) (w .ensures) .1,
-      borne-turn (a .text .now) (a .count) (l .i) (l .at) (l .s)
+      borne-step (a .text .now) (a .count) (l .i) (l .at) (l .s)
           (a .resource) (take (a .end - a .start) (drop (a .start) (a .text .now))) (w .ensures)
           (c .before .before .before .before .loop-test .taken)
           (sym (c .before .before .borne-here .ensures) ∙ c .before .if1 .left)

@@ -1,6 +1,6 @@
 -- `belonging` meets its contract: an event that goes on is known, and one that begins is read.
 use native.Mathlib.Omega.{arith}
-use Rattle.salvage.proofs.Turn.{belonging-left, belonging-read, belonging-refused, place-later}
+use Rattle.salvage.proofs.Step.{belonging-left, belonging-read, belonging-refused, place-later}
 use borrow.Author.Needs.{needs}
 use Rattle.salvage.proofs.walk.belonging.Statement.{statement}
 use Rattle.salvage.proofs.walk.belonging.Tie as tie

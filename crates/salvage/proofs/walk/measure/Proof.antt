@@ -2,7 +2,7 @@
 use Prim.Native.Nat.{_+_, _-_}
 use native.Mathlib.Omega.{arith}
 use lib.ListN.{length}
-use Rattle.salvage.proofs.Turn.{gapBytes}
+use Rattle.salvage.proofs.Step.{gapBytes}
 use Rattle.salvage.proofs.Totals.{Counts, counts-start, few-events, few-stretches, counts-dropped, counts-kept, counts-end, last-few}
 use Rattle.salvage.proofs.walk.measure.Statement.{statement}
 use Rattle.salvage.proofs.walk.measure.Tie as tie
@@ -46,16 +46,16 @@ stretch-length-requires c κs =
     omega (arith, o .loop .inv .gap-le, o .loop .inv .at-le, o .before .before .pre)
 
 -- after a byte that is kept
-turned : (c : tie.After-stretch-length Inv-loop μ-loop) → let l = c .before .before .before .before .loop in
+stepped : (c : tie.After-stretch-length Inv-loop μ-loop) → let l = c .before .before .before .before .loop in
     Counts (c .before .before .before .before .before .before .args .trace .now) (l .at + 1)
     (c .before .before .belonging .result - 1) 0 (l .events + 1) (l .stretches + length (gapBytes (l .at) (l .gap)))
-turned c = let o = c .before .before .before .before in let l = o .loop in
+stepped c = let o = c .before .before .before .before in let l = o .loop in
     counts-kept (l .inv) (c .before .before .before .loop-test .taken)
     (c .before .before .belonging .ensures) (c .before .if1 .left)
 
 add-stretches : tie.Need-add-stretches Inv-loop μ-loop
 add-stretches c = let o = c .before .before .before .before in let l = o .loop in
-    let next = turned c in
+    let next = stepped c in
     omega (
       arith,
       few-stretches next (o .before .before .pre),
@@ -72,7 +72,7 @@ loop-less-2 : tie.Need-loop-less-2 Inv-loop μ-loop
 loop-less-2 c = omega (arith, c .before .before .before .loop-test .taken)
 
 loop-again-2 : tie.Need-loop-again-2 Inv-loop μ-loop
-loop-again-2 c = rw (c .stretch-length .ensures) (turned c)
+loop-again-2 c = rw (c .stretch-length .ensures) (stepped c)
 
 sub-stretch-length-2 : tie.Need-sub-stretch-length-2 Inv-loop μ-loop
 sub-stretch-length-2 c = let l = c .before .loop in omega (arith, l .inv .gap-le, l .inv .at-le)

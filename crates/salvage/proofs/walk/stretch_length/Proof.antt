@@ -4,7 +4,7 @@ use native.Mathlib.Omega.{arith}
 use lib.ListN.{length, length-append}
 use Rattle.number.specs.Number.{numberBytes}
 use Rattle.number.proofs.Theorems.{length-numberBytes}
-use Rattle.salvage.proofs.Turn.{closed-none, closed-some}
+use Rattle.salvage.proofs.Step.{closed-none, closed-some}
 use borrow.Author.Needs.{needs}
 use Rattle.salvage.proofs.walk.stretch_length.Statement.{statement}
 use Rattle.salvage.proofs.walk.stretch_length.Tie as tie

@@ -8,7 +8,7 @@ use Rattle.number.proofs.Theorems.{length-written}
 use Rattle.recording.specs.Fate.{keptBytes}
 use Rattle.recording.specs.Stretch.{listBytes}
 use Rattle.salvage.proofs.Progress.{progress-length}
-use Rattle.salvage.proofs.Outputs.{EventsOn, events-start, events-turn-dropped, events-turn-kept, events-room, events-written, ListOn, list-start, list-turn-dropped, list-turn-kept, list-room, list-last-room, list-written}
+use Rattle.salvage.proofs.Outputs.{EventsOn, events-start, events-step-dropped, events-step-kept, events-room, events-written, ListOn, list-start, list-step-dropped, list-step-kept, list-room, list-last-room, list-written}
 use Rattle.salvage.proofs.write.write_both.Statement.{statement}
 use Rattle.salvage.proofs.write.write_both.Tie as tie
 
@@ -43,8 +43,8 @@ loop-again c =
     let b = c .before in
     let o = b .before .before in
     let l = o .loop in (
-      events-turn-dropped (l .inv .0) (b .before .loop-test .taken) (b .belonging .ensures) (c .if1 .taken),
-      list-turn-dropped (l .inv .1) (b .before .loop-test .taken) (b .belonging .ensures) (c .if1 .taken),
+      events-step-dropped (l .inv .0) (b .before .loop-test .taken) (b .belonging .ensures) (c .if1 .taken),
+      list-step-dropped (l .inv .1) (b .before .loop-test .taken) (b .belonging .ensures) (c .if1 .taken),
     )
 
 shared-slice-read-events : tie.Need-shared-slice-read-events Inv-loop μ-loop
@@ -92,9 +92,9 @@ loop-again-2 c = let w = c .before .before .write-stretch in
     let b = e .before in
     let o = b .before .before in
     let l = o .loop in (
-      events-turn-kept (l .inv .0) (b .before .loop-test .taken) (b .belonging .ensures) (e .if1 .left),
+      events-step-kept (l .inv .0) (b .before .loop-test .taken) (b .belonging .ensures) (e .if1 .left),
       rw (w .ensures .0, w .ensures .1)
-          (list-turn-kept (l .inv .1) (b .before .loop-test .taken) (b .belonging .ensures) (e .if1 .left)),
+          (list-step-kept (l .inv .1) (b .before .loop-test .taken) (b .belonging .ensures) (e .if1 .left)),
     )
 
 sub-write-stretch-2 : tie.Need-sub-write-stretch-2 Inv-loop μ-loop

@@ -9,7 +9,7 @@ use Rattle.number.specs.Number.{numberBytes}
 use Rattle.number.specs.Output.{laid}
 use Rattle.number.proofs.Laying.{length-laid, laid-laid}
 use Rattle.recording.specs.Stretch.{closed, stretchBytes}
-use Rattle.salvage.proofs.Turn.{closed-none, closed-some}
+use Rattle.salvage.proofs.Step.{closed-none, closed-some}
 use Rattle.salvage.proofs.Progress.{laid-nothing}
 use borrow.Author.Needs.{needs}
 use Rattle.salvage.proofs.write.write_stretch.Statement.{statement}

@@ -1,7 +1,0 @@
--- What the proofs of the run's functions cite.
-pub mod Bytes
-pub mod Count
-pub mod Read
-pub mod Turn
-pub mod Play
-pub mod Whole

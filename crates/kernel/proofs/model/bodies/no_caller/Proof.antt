@@ -1,7 +1,0 @@
--- `no_caller` meets its contract.
-use borrow.Author.Needs.{needs}
-use Rattle.kernel.proofs.model.bodies.no_caller.Statement.{statement}
-use Rattle.kernel.proofs.model.bodies.no_caller.Tie as tie
-
-pub no-caller-spec : {M : Type 1} → statement M
-no-caller-spec = tie.close (tie.spec (λ c. search needs))

@@ -1,0 +1,2 @@
+-- The laws of the model's code.
+pub mod Methods

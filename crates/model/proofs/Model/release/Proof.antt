@@ -1,0 +1,14 @@
+-- `release` meets its contract: what the registers make of it with the arrays as they are.
+use mathlib.Core.Path.{ap, _∙_}
+use Rattle.model.specs.View.{arraysOf, outcomeOf}
+use borrow.Author.Needs.{needs}
+use Rattle.model.proofs.Model.release.Statement.{statement}
+use Rattle.model.proofs.Model.release.Tie as tie
+
+returns : tie.Need-returns
+returns c =
+    let a = c .before .before .args in
+    c .stepped .ensures ∙ ap outcomeOf (c .before .release .ensures (arraysOf (a .self)))
+
+pub release-spec : {M : Type 1} → statement M
+release-spec = tie.close (tie.spec (λ c κs. search needs) (λ c κs. search needs) returns)

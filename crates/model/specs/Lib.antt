@@ -1,0 +1,2 @@
+-- What the contracts of the model cite beside the definitions of the machine.
+pub mod View

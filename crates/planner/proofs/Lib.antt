@@ -1,0 +1,1 @@
+-- No law of its own: those of the plan serve its functions.

@@ -1,0 +1,26 @@
+-- `rank_of` meets its contract, inside the list and past it.
+use mathlib.Core.Path.{_≡_, sym}
+use native.Mathlib.Omega.{arith}
+use lib.ListN.{length, List·getD-eq-default}
+use borrow.Author.Needs.{needs}
+use Rattle.config.specs.Value.{maxBodies}
+use Rattle.plan.specs.Rank.{noRank}
+use Rattle.plan.proofs.Stored.{getD-any}
+use Rattle.planner.proofs.entries.rank_of.Statement.{statement}
+use Rattle.planner.proofs.entries.rank_of.Tie as tie
+
+array-read-result : tie.Need-array-read-result
+array-read-result c = search needs
+
+returns : tie.Need-returns
+returns c = let a = c .before .args in
+    let l : length (a .t1) ≡ maxBodies = search needs in
+    getD-any (a .t1) (a .b) 0 noRank (omega arith)
+
+returns-2 : tie.Need-returns-2
+returns-2 c = let a = c .before .args in
+    let l : length (a .t1) ≡ maxBodies = search needs in
+    sym (List·getD-eq-default (a .t1) noRank {n = a .b} (omega arith))
+
+pub rank-of-spec : {M : Type 1} → statement M
+rank-of-spec = tie.close (tie.spec array-read-result returns returns-2)

@@ -1,0 +1,68 @@
+-- `ceiling` meets its contract: the greatest so far and what is left to choose from make the whole.
+use Prim.Native.Nat.{_-_, _≤_, max}
+use mathlib.Core.Path.{_≡_, sym, _∙_}
+use mathlib.Core.Logic.{⊎-elim}
+use native.Mathlib.Omega.{arith}
+use native.Mathlib.Numerals.{add-one}
+use lib.ListN.{length, take, drop}
+use borrow.Author.Needs.{needs}
+use Rattle.config.specs.Meaning.{greatestIn}
+use Rattle.plan.proofs.Greatest.{chosen-next, unchosen-next, chosen-all}
+use Rattle.planner.proofs.resources.ceiling.Statement.{statement}
+use Rattle.planner.proofs.resources.ceiling.Tie as tie
+
+abbrev Inv-loop : tie.InvT-loop
+Inv-loop users n priority m₀ r₀ b₀ m r b =
+    (b ≤ n) × (max r (greatestIn m (drop b (take n priority))) ≡ greatestIn users (take n priority))
+
+abbrev μ-loop : tie.MeasureT-loop
+μ-loop users n priority m₀ r₀ b₀ m r b = n - b
+
+long : (c : tie.Start Inv-loop μ-loop) → c .args .n ≤ length (c .args .t2)
+long c = let l : length (c .args .t2) ≡ 32 = search needs in omega arith
+
+loop-holds : tie.Need-loop-holds Inv-loop μ-loop
+loop-holds c = (omega arith, omega arith)
+
+array-read-greater : tie.Need-array-read-greater Inv-loop μ-loop
+array-read-greater c = omega arith
+
+greater-requires : tie.Need-greater-requires Inv-loop μ-loop
+greater-requires c κs = tt
+
+add-b : tie.Need-add-b Inv-loop μ-loop
+add-b c = omega arith
+
+loop-less : tie.Need-loop-less Inv-loop μ-loop
+loop-less c = omega arith
+
+loop-again : tie.Need-loop-again Inv-loop μ-loop
+loop-again c = let a = c .before .before .before .args in let l = c .before .before .loop in
+    let fits = long (c .before .before .before) in
+    let chosen = chosen-next (l .m) (l .r) (a .n) (a .t2) fits (l .b) (omega arith) in
+    let unchosen = unchosen-next (l .m) (l .r) (a .n) (a .t2) fits (l .b) (omega arith) in
+    rw add-one (
+      omega arith,
+      ⊎-elim
+          (λ w. rw (w .2, w .1 .ensures) (chosen (w .0 .taken) ∙ l .inv .1))
+          (λ w. rw (w .1) (unchosen (w .0 .left) ∙ l .inv .1))
+          (c .if1 .came),
+    )
+
+returns : tie.Need-returns Inv-loop μ-loop
+returns c = let a = c .before .before .args in let l = c .before .loop in
+    sym (chosen-all (l .m) (l .r) (a .n) (a .t2) (long (c .before .before)) (l .b) (c .loop-test .left)) ∙ l .inv .1
+
+pub ceiling-spec : {M : Type 1} → statement M
+ceiling-spec =
+    tie.close
+    (tie.spec
+    Inv-loop
+    μ-loop
+    loop-holds
+    array-read-greater
+    greater-requires
+    add-b
+    loop-less
+    loop-again
+    returns)
