@@ -42,13 +42,22 @@ module _ (i : ℕ) (f : Body → Body) (s : State) where
 abbrev withOrder : List ℕ → State → State
 withOrder js s = record { bodies = s .bodies; tables = s .tables; order = js }
 
--- what Activate and Chain do, and that the fresh start ends as every event does
+-- what Activate, Chain, Wait, Set and Clear do, and that the fresh start ends as every event does
 activate-effect : (c : Config) (s : State) (t : ℕ) → effectOf c s (Activate t) ≡ changing t activated s
 activate-effect c s t = refl
 
 chain-effect : (c : Config) (s : State) (t : ℕ)
     → effectOf c s (Chain t) ≡ changing t activated (changing (caller c s) finished s)
 chain-effect c s t = refl
+
+wait-effect : (c : Config) (s : State) (w : ℕ) → effectOf c s (Wait w) ≡ changing (caller c s) (waits w) s
+wait-effect c s w = refl
+
+set-effect : (c : Config) (s : State) (t w : ℕ) → effectOf c s (Set t w) ≡ changing t (receives w) s
+set-effect c s t w = refl
+
+clear-effect : (c : Config) (s : State) (w : ℕ) → effectOf c s (Clear w) ≡ changing (caller c s) (clears w) s
+clear-effect c s w = refl
 
 fresh-dispatched : (c : Config) → fresh c ≡ dispatched c (unstarted c)
 fresh-dispatched c = refl
@@ -74,16 +83,13 @@ KeepsLosses f = (b : Body) → f b .losses ≡ b .losses
 pub finished-losses : KeepsLosses finished
 finished-losses b = cond-either (λ (x : Body). x .losses ≡ b .losses) (b .pending) _ _ refl refl
 
-requested-losses : KeepsLosses requested
+pub requested-losses : KeepsLosses requested
 requested-losses b = cond-either (λ (x : Body). x .losses ≡ b .losses) (hasBegun (b .phase)) _ _ refl refl
 
-waits-losses : (w : ℕ) → KeepsLosses (waits w)
+pub waits-losses : (w : ℕ) → KeepsLosses (waits w)
 waits-losses w b = cond-either (λ (x : Body). x .losses ≡ b .losses) (anySet (b .bits) w) _ _ refl refl
 
--- a Wait clears no bit, and a request that waits at the end of its body makes it ready
-waits-bits : (w : ℕ) (b : Body) → waits w b .bits ≡ b .bits
-waits-bits w b = cond-either (λ (x : Body). x .bits ≡ b .bits) (anySet (b .bits) w) _ _ refl refl
-
+-- a request that waits at the end of its body makes it ready
 finished-waiting : (b : Body) → b .pending ≡ true → finished b .phase ≡ ready
 finished-waiting b h = rw h
 

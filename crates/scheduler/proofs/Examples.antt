@@ -45,6 +45,10 @@ twoAutostart = readConfig (1 ∷ 2 ∷ 0 ∷ 2 ∷ 1 ∷ 0 ∷ 5 ∷ 1 ∷ 0 ∷
 unfoldable pub threeTasks : Config
 threeTasks = readConfig (1 ∷ 3 ∷ 0 ∷ 2 ∷ 1 ∷ 0 ∷ 5 ∷ 0 ∷ 0 ∷ 3 ∷ 0 ∷ 3 ∷ 3 ∷ 2 ∷ 5 ∷ 0 ∷ []) .config
 
+-- an autostart task of priority 4; table 0 of period 4 with the task at offset 0, table 1 of period 8 with it at 2 and 5
+unfoldable pub twoTables : Config
+twoTables = readConfig (1 ∷ 1 ∷ 0 ∷ 4 ∷ 1 ∷ 0 ∷ 2 ∷ 4 ∷ 1 ∷ 0 ∷ 0 ∷ 8 ∷ 2 ∷ 2 ∷ 0 ∷ 5 ∷ 0 ∷ []) .config
+
 abbrev rows : Config → List Event → List Row
 rows c es = map rowOf (seen c (fresh c) es)
 
@@ -99,6 +103,12 @@ pub record Examples : Type 0 where
   -- delay and smallest offset, 0, are 65,535 together, or one more; the offset 2 of table 0 has no part in it
   pub longest-delay : rows sample (Start 0 65536 ∷ Start 0 65535 ∷ Start 1 65536 ∷ Start 1 65535 ∷ [])
       ≡ row 8 0 4 0 ∷ row 0 0 4 0 ∷ row 8 0 4 0 ∷ row 0 0 4 0 ∷ []
+  -- a later table has a smallest offset of its own, 2
+  pub longest-delay-later : rows twoTables (Start 1 65534 ∷ Start 1 65533 ∷ Start 0 65536 ∷ Start 0 65535 ∷ [])
+      ≡ row 8 0 4 0 ∷ row 0 0 4 0 ∷ row 8 0 4 0 ∷ row 0 0 4 0 ∷ []
+  -- the number that equals the count is that of no resource, table, task or ISR
+  pub id-at-the-count : rows sample (Get 4 ∷ Release 4 ∷ Start 2 1 ∷ Stop 2 ∷ Activate 5 ∷ Chain 5 ∷ Line 5 ∷ [])
+      ≡ replicate 7 (row 3 0 4 0)
   -- at level 9 a declared user takes resources of the ceilings 6 and 4; one of which it is no user, then one that it
   -- holds already, and Release in the order taken
   pub get-at-a-level : rows sample
@@ -163,7 +173,7 @@ pub record Examples : Type 0 where
       ∷ (false ∷ true ∷ true ∷ []) ∷ []
 
 pub examples : Examples
-unfolding sample secondEdition twoAutostart threeTasks readConfig readFrom readNumber groups continued fifthGroup
+unfolding sample secondEdition twoAutostart threeTasks twoTables readConfig readFrom readNumber groups continued fifthGroup
     faultAt putAt ended timedIn someTimed greatestIn entriesBefore due firstGiven candidate chosenFrom among heldIn
     counting entryDue duesFrom activatingDue stepBy seenBy
 examples =
@@ -178,6 +188,8 @@ examples =
       chain-order = refl;
       id-before-others = refl;
       longest-delay = refl;
+      longest-delay-later = refl;
+      id-at-the-count = refl;
       get-at-a-level = refl;
       get-undeclared = refl;
       get-undeclared-held = refl;
@@ -234,6 +246,21 @@ pub record ExtendedExamples : Type 0 where
       (Activate 0 ∷ Wait 3 ∷ Set 0 4 ∷ Set 0 2 ∷ Wait 2 ∷ Wait 4 ∷ Clear 6 ∷ Wait 2 ∷ [])
       ≡ row 0 0 6 1 ∷ row 0 1 4 0 ∷ row 0 1 4 0 ∷ row 0 0 6 0 ∷ row 0 0 6 0 ∷ row 0 0 6 0 ∷ row 0 0 6 0 ∷ row 0 1 4 0
       ∷ []
+  -- one of two waited bits is set: goes on; the bits that are set later join it, and a Clear leaves those out of its mask
+  pub one-of-two : rows extendedTasks (Set 1 1 ∷ Wait 3 ∷ Set 1 6 ∷ Clear 3 ∷ Wait 4 ∷ Wait 2 ∷ [])
+      ≡ row 0 1 4 0 ∷ row 0 1 4 0 ∷ row 0 1 4 0 ∷ row 0 1 4 0 ∷ row 0 1 4 0 ∷ row 0 255 0 0 ∷ []
+  -- a Clear leaves the other bits, and sets none; a bit that is set twice is set
+  pub cleared-alone : rows extendedTasks (Set 1 3 ∷ Clear 1 ∷ Wait 2 ∷ Wait 1 ∷ [])
+      ≡ row 0 1 4 0 ∷ row 0 1 4 0 ∷ row 0 1 4 0 ∷ row 0 255 0 0 ∷ []
+  pub cleared-unset : rows extendedTasks (Clear 1 ∷ Wait 1 ∷ []) ≡ row 0 1 4 0 ∷ row 0 255 0 0 ∷ []
+  pub set-twice : rows extendedTasks (Set 1 1 ∷ Set 1 1 ∷ Wait 1 ∷ []) ≡ row 0 1 4 0 ∷ row 0 1 4 0 ∷ row 0 1 4 0 ∷ []
+  -- masks of no bit are accepted, and so is a Clear by a task that holds a resource; no such task at the count
+  pub no-bit : rows extendedTasks (Set 1 0 ∷ Clear 0 ∷ Get 0 ∷ Set 1 1 ∷ Clear 1 ∷ Release 0 ∷ Set 4 1 ∷ Wait 1 ∷ [])
+      ≡ row 0 1 4 0 ∷ row 0 1 4 0 ∷ row 0 1 6 0 ∷ row 0 1 6 0 ∷ row 0 1 6 0 ∷ row 0 1 4 0 ∷ row 3 1 4 0 ∷ row 0 255 0 0
+      ∷ []
+  -- two tasks wait for the same bit: a Set resumes the one that it names
+  pub set-for-one : rows extendedTasks (Activate 0 ∷ Wait 1 ∷ Wait 1 ∷ Line 3 ∷ Set 1 1 ∷ Finish ∷ [])
+      ≡ row 0 0 6 1 ∷ row 0 1 4 0 ∷ row 0 255 0 0 ∷ row 0 3 9 1 ∷ row 0 3 9 0 ∷ row 0 1 4 0 ∷ []
   -- Wait on mask 0 is never resumed, and goes on at no bit; a waiting task is not suspended, so Activate and Chain to
   -- it are 4
   pub mask-zero : rows extendedTasks
@@ -257,6 +284,9 @@ pub record ExtendedExamples : Type 0 where
       ≡ row 0 0 6 1 ∷ row 0 0 6 0 ∷ row 0 1 4 0 ∷ row 0 0 6 1 ∷ row 0 255 0 0 ∷ []
   pub bits-by-chain-itself : rows extendedTasks (Set 1 1 ∷ Wait 1 ∷ Chain 1 ∷ Wait 1 ∷ [])
       ≡ row 0 1 4 0 ∷ row 0 1 4 0 ∷ row 0 1 4 1 ∷ row 0 255 0 0 ∷ []
+  -- all of them
+  pub bits-all-cleared : rows extendedTasks (Set 1 4294967295 ∷ Chain 1 ∷ Wait 4294967295 ∷ [])
+      ≡ row 0 1 4 0 ∷ row 0 1 4 1 ∷ row 0 255 0 0 ∷ []
   -- Set to a task that is started and preempted
   pub bits-of-preempted : rows extendedTasks (Activate 0 ∷ Set 1 1 ∷ Finish ∷ Wait 1 ∷ [])
       ≡ row 0 0 6 1 ∷ row 0 0 6 0 ∷ row 0 1 4 0 ∷ row 0 1 4 0 ∷ []
@@ -283,12 +313,19 @@ extended-examples =
       isr-holding = refl;
       wait-holding = refl;
       resumed-at-once = refl;
+      one-of-two = refl;
+      cleared-alone = refl;
+      cleared-unset = refl;
+      set-twice = refl;
+      no-bit = refl;
+      set-for-one = refl;
       mask-zero = refl;
       highest-bit = refl;
       bits-of-ready = refl;
       bits-by-entry = refl;
       bits-by-chain = refl;
       bits-by-chain-itself = refl;
+      bits-all-cleared = refl;
       bits-of-preempted = refl;
       holder-first = refl;
       wait-to-holder = refl;

@@ -4,8 +4,12 @@ pub mod Theorems
 pub mod Listing
 pub mod Examples
 pub mod Bits
+pub mod EventBits
+pub mod Versions
+pub mod LineLosses
 pub mod Choice
 pub mod Checks
+pub mod Conditions
 pub mod Effects
 pub mod Refusals
 pub mod Named

@@ -1,12 +1,14 @@
 -- What holds of the plain scheduler. Each law stands here in full, over specs/ alone; the modules it cites prove it.
 --
--- In order: who runs, and ties; document 01's table of events, and what a time-triggered task may call; that a refused
--- event changes nothing but the count of a lost line; at most one body begins in an event; the started time-triggered
--- tasks; what an accepted Activate finds; requests that wait; event bits; who holds a resource, and whom it is refused;
--- where losses come from; that d and n are counted, and entries due, as demand 3 says, no two of kind 3 at one tick.
+-- In order: who runs, and ties; document 01's table of events, when each status is given, and what a time-triggered
+-- task may call; that a refused event changes nothing but the count of a lost line; at most one body begins in an event;
+-- the started time-triggered tasks; what an accepted Activate finds; requests that wait; event bits, and who waits for
+-- them; who holds a resource, and whom it is refused; where losses come from; that the editions of the procedure differ
+-- in the losses of lost lines alone; that d and n are counted, and entries due, as demand 3 says, no two of kind 3 at one
+-- tick.
 -- `Choice` and `Checks` have more of who is chosen and of what an accepted call finds, `Order` more of the started
 -- time-triggered tasks; `Examples` are worked lists of events.
-use Prim.Native.Nat.{ℕ, suc, _+_, _≤_, _<_, max}
+use Prim.Native.Nat.{ℕ, suc, _+_, _≤_, _<_, max, min}
 use mathlib.Core.Path.{_≡_, refl, ap, _∙_}
 use mathlib.Core.Bool.{Bool, true, false, not, _&&_, _||_}
 use mathlib.Core.List.{List, [], _∷_, _++_, map}
@@ -15,9 +17,10 @@ use native.Mathlib.Omega.{arith}
 use lib.ListN.{length, getD, take}
 use Rattle.config.specs.declared.Config.{Config}
 use Rattle.config.specs.Meaning.{isIsr, isExtended, isTimed, isUser, priorityOf, ceiling, firstOf}
+use Rattle.config.specs.Value.{withVersion}
 use Rattle.config.specs.Accepted as Configuration
 use Rattle.scheduler.specs.Status.{Check, done, NoneFails}
-use Rattle.scheduler.specs.Body.{Body, suspended, waiting, triggered, isSuspended, isStarted, hasBegun, competes, resumed, holds, current, activated, triggers, losing, loses, gets, releases}
+use Rattle.scheduler.specs.Body.{Body, suspended, waiting, triggered, isSuspended, isStarted, hasBegun, competes, resumed, holds, current, become, started, activated, triggers, losing, loses, gets, releases}
 use Rattle.scheduler.specs.Bits.{bitSet, anySet, withBits, withoutBits}
 use Rattle.scheduler.specs.Choice.{Candidate, nobody, isNobody, candidate, byHolding, byBegun, goesBefore}
 use Rattle.scheduler.specs.State.{State, Table, stopped, running, bodyOf, tableOf, changing, runner, among}
@@ -26,8 +29,13 @@ use Rattle.scheduler.specs.Tick.{dues, ticked, dueFor}
 use Rattle.scheduler.specs.Call.{noCaller, nobodyRuns, caller, calling, checksOf}
 use Rattle.scheduler.specs.Scheduler.{begins, dispatched, lossesOf, step, stepBy, LostLine, fresh, seen, after, leaves, unstarted, freshBy, seenBy, afterBy}
 use Rattle.scheduler.specs.Entries.{entryOf, entriesOf, entryAt}
-use Rattle.scheduler.specs.History.{AcceptedIn, Ends, next, NoStart, NoStop, tickCount, History, dueMark, DueAt}
+use Rattle.scheduler.specs.History.{AcceptedIn, Ends, next, NoStart, NoStop, tickCount, History, dueMark, DueAt, linesLost, unlost}
+use Rattle.scheduler.specs.Conditions as Conditions
 use Rattle.scheduler.proofs.Bits as Bits
+use Rattle.scheduler.proofs.Conditions as Statuses
+use Rattle.scheduler.proofs.Versions as Versions
+use Rattle.scheduler.proofs.EventBits as EventBits
+use Rattle.scheduler.proofs.LineLosses as LineLosses
 use Rattle.scheduler.proofs.Choice as Choice
 use Rattle.scheduler.proofs.Checks as Checks
 use Rattle.scheduler.proofs.Effects as Effects
@@ -184,6 +192,12 @@ event-table c s =
       eleven-set = λ t w. refl;
       twelve-clear = λ w. refl;
     }
+
+-- When each status is given, event by event: "no such task", "the task isn't suspended", and so on, in the words of the
+-- configuration and of the state (specs/Conditions.antt). It is given exactly if its condition holds and none before it
+-- does, in every state.
+pub conditions : (c : Config) (s : State) → Conditions.Conditions c s
+conditions = Statuses.conditions
 
 -- the status that an event gives
 abbrev pub statusSeen : Config → State → Event → ℕ
@@ -395,6 +409,88 @@ without-bit = Bits.without-bit
 pub any-set : (bits w : ℕ) → (anySet bits w ≡ false) ↔ ((i : ℕ) → bitSet bits i && bitSet w i ≡ false)
 any-set = Bits.any-set
 
+-- An accepted Clear leaves each bit of the runner that was set and is not in its mask, an accepted Set each bit of its
+-- task that was set or is in its mask; nobody else's bits change, and a Wait changes none
+pub clear-bit : (c : Config) (s : State) (w : ℕ) → AcceptedIn c s (Clear w) → (i : ℕ)
+    → bitSet (bodyOf (next c s (Clear w)) (caller c s) .bits) i ≡ bitSet (calling c s .bits) i && not (bitSet w i)
+clear-bit = EventBits.clear-bit
+
+pub clear-others : (c : Config) (s : State) (w b : ℕ) → b ≢ caller c s
+    → bodyOf (next c s (Clear w)) b .bits ≡ bodyOf s b .bits
+clear-others = EventBits.clear-others
+
+pub set-bit : (c : Config) (s : State) (t w : ℕ) → AcceptedIn c s (Set t w) → (i : ℕ)
+    → bitSet (bodyOf (next c s (Set t w)) t .bits) i ≡ bitSet (bodyOf s t .bits) i || bitSet w i
+set-bit = EventBits.set-bit
+
+pub set-others : (c : Config) (s : State) (t w b : ℕ) → b ≢ t → bodyOf (next c s (Set t w)) b .bits ≡ bodyOf s b .bits
+set-others = EventBits.set-others
+
+pub wait-bits : (c : Config) (s : State) (w b : ℕ) → bodyOf (next c s (Wait w)) b .bits ≡ bodyOf s b .bits
+wait-bits = EventBits.wait-bits
+
+-- "cleared when it is activated from suspended": all bits, by Activate, Chain and a due entry; at the fresh start none
+-- is set
+pub activate-bits : (c : Config) (s : State) (t : ℕ) → AcceptedIn c s (Activate t)
+    → bodyOf (next c s (Activate t)) t .bits ≡ 0
+activate-bits = EventBits.activate-bits
+
+pub chain-bits : (c : Config) (s : State) (t : ℕ) → AcceptedIn c s (Chain t) → bodyOf (next c s (Chain t)) t .bits ≡ 0
+chain-bits = EventBits.chain-bits
+
+pub entry-bits : (c : Config) (es : List Event) (t k : ℕ) → t < length (after c (fresh c) es .bodies)
+    → isTimed c t ≡ false
+    → bodyOf (after c (fresh c) es) t .phase ≡ suspended
+    → dueFor c (after c (fresh c) es) t ≡ suc k
+    → bodyOf (next c (after c (fresh c) es) Tick) t .bits ≡ 0
+entry-bits c es t k fits untimed still due =
+    EventBits.tick-bits c (after c (fresh c) es) t
+    ∙ ap (λ (b : Body). b .bits) (Losses.tick-suspended c es t fits k untimed still due)
+
+pub fresh-bits : (c : Config) (b : ℕ) → bodyOf (fresh c) b .bits ≡ 0
+fresh-bits = EventBits.fresh-bits
+
+-- and they are kept else: of a body that isn't suspended only its own Clear, a Set that names it and its own end change
+-- them
+pub bits-kept : (c : Config) (s : State) (b : ℕ) → bodyOf s b .phase ≢ suspended → (e : Event)
+    → (Ends e → caller c s ≢ b)
+    → ((w : ℕ) → e ≢ Set b w)
+    → ((w : ℕ) → e ≡ Clear w → caller c s ≢ b)
+    → bodyOf (next c s e) b .bits ≡ bodyOf s b .bits
+bits-kept = EventBits.bits-kept
+
+-- "Wait on a bit already set goes on at once", be it one of several, and changes nothing; else the runner waits for the
+-- bits of its mask, and nobody else changes. `leaves` is the state before the dispatch.
+pub wait-goes-on : (c : Config) (s : State) (w : ℕ) → AcceptedIn c s (Wait w) → (i : ℕ)
+    → bitSet (calling c s .bits) i && bitSet w i ≡ true
+    → leaves c s (Wait w) ≡ s
+wait-goes-on = EventBits.wait-goes-on
+
+pub wait-waits : (c : Config) (s : State) (w : ℕ) → AcceptedIn c s (Wait w)
+    → ((i : ℕ) → bitSet (calling c s .bits) i && bitSet w i ≡ false)
+    → bodyOf (leaves c s (Wait w)) (caller c s) ≡ become (waiting w) (calling c s)
+wait-waits = EventBits.wait-waits
+
+pub wait-alone : (c : Config) (s : State) (w b : ℕ) → b ≢ caller c s → bodyOf (leaves c s (Wait w)) b ≡ bodyOf s b
+wait-alone = EventBits.wait-alone
+
+-- "resumes .. once a waited bit is set": the task that a Set names goes on exactly if one of its waited bits is set then,
+-- and nobody else changes
+pub set-resumes : (c : Config) (s : State) (t w : ℕ) → AcceptedIn c s (Set t w) → (v i : ℕ)
+    → bodyOf s t .phase ≡ waiting v
+    → (bitSet (bodyOf s t .bits) i || bitSet w i) && bitSet v i ≡ true
+    → bodyOf (leaves c s (Set t w)) t .phase ≡ started
+set-resumes = EventBits.set-resumes
+
+pub set-waits-on : (c : Config) (s : State) (t w : ℕ) → AcceptedIn c s (Set t w) → (v : ℕ)
+    → bodyOf s t .phase ≡ waiting v
+    → ((i : ℕ) → (bitSet (bodyOf s t .bits) i || bitSet w i) && bitSet v i ≡ false)
+    → bodyOf (leaves c s (Set t w)) t .phase ≡ waiting v
+set-waits-on = EventBits.set-waits-on
+
+pub set-alone : (c : Config) (s : State) (t w b : ℕ) → b ≢ t → bodyOf (leaves c s (Set t w)) b ≡ bodyOf s b
+set-alone = EventBits.set-alone
+
 -- "Wait on mask 0 is never resumed"
 pub mask-zero-waits : (bits : ℕ) → resumed bits (waiting 0) ≡ waiting 0
 mask-zero-waits = Bits.mask-zero-waits
@@ -459,6 +555,22 @@ tick-active = Losses.tick-active
 
 pub losses-le : (c : Config) (es : List Event) (i : ℕ) → bodyOf (after c (fresh c) es) i .losses ≤ 65535
 losses-le c es = Losses.few-after c es (fresh c) (Losses.few-fresh c)
+
+-- "Version 1 or 2 at the head of the configuration selects it, and everything else is proved once over both": status,
+-- runner, level, begun mark and due entries of every list of events do not depend on the version, and the losses of a
+-- body in edition two are those in edition one and its lost lines, up to 65,535
+pub versions-alike : (c : Config) (v w : ℕ) (es : List Event)
+    → map unlost (seen (withVersion c v) (fresh (withVersion c v)) es)
+    ≡ map unlost (seen (withVersion c w) (fresh (withVersion c w)) es)
+versions-alike = Versions.versions-alike
+
+pub losses-apart : (c : Config) (v : ℕ) → 2 ≤ v → (i : ℕ) (es : List Event)
+    → bodyOf (after (withVersion c v) (fresh (withVersion c v)) es) i .losses
+    ≡ min
+    (bodyOf (after (withVersion c 1) (fresh (withVersion c 1)) es) i .losses
+    + linesLost (withVersion c 1) i (fresh (withVersion c 1)) es)
+    65535
+losses-apart = LineLosses.losses-apart
 
 -- "n, the Ticks since its start": from an accepted Start on, until an accepted Stop
 pub counted-from-start : (c : Config) (t d : ℕ) (before rest : List Event)

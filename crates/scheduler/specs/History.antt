@@ -7,20 +7,23 @@
 --   History c t es x      what the events es from the fresh start say of the table t is x
 --   DueAt c es e x        they say of the entry x that it is due at the event e, which comes next
 --   dueMark xs i k        the mark of the k-th entry at the i-th event, in what was seen
+--   linesLost c i s es    how many of the events es from the state s on are Lines of the ISR i that give 4
+--   unlost x              what was seen of an event, but for the losses
 --
 -- Main laws: `table-history`, `due-exactly` (proofs/Theorems.antt).
 use Prim.Native.Nat.{ℕ, suc, _+_}
 use mathlib.Core.Path.{_≡_}
 use mathlib.Core.Logic.{_⊎_}
-use mathlib.Core.Bool.{Bool, true, false, cond}
+use mathlib.Core.Bool.{Bool, true, false, cond, _&&_}
 use mathlib.Core.List.{List, [], _∷_, _++_, map}
+use lib.Dec.{eqb}
 use lib.ListN.{getD}
 use Rattle.config.specs.declared.Config.{Config}
 use Rattle.cell.specs.Due.{due}
-use Rattle.scheduler.specs.Status.{done}
+use Rattle.scheduler.specs.Status.{done, limitReached}
 use Rattle.scheduler.specs.State.{Table, stopped, running, State}
-use Rattle.scheduler.specs.Event.{Event, Finish, Chain, Tick, Start, Stop, isTick}
-use Rattle.scheduler.specs.Scheduler.{Seen, step, fresh, after}
+use Rattle.scheduler.specs.Event.{Event, Activate, Finish, Chain, Get, Release, Tick, Line, Start, Stop, Wait, Set, Clear, isTick}
+use Rattle.scheduler.specs.Scheduler.{Seen, markOf, step, fresh, after}
 use Rattle.scheduler.specs.Entries.{Entry}
 
 abbrev pub AcceptedIn : Config → State → Event → Type 0
@@ -81,3 +84,27 @@ pub record DueAt (c : Config) (es : List Event) (e : Event) (x : Entry) : Type 0
   pub accepted : AcceptedIn c (after c (fresh c) before) (Start (x .table) d)
   pub no-stop : NoStop c (x .table) (next c (after c (fresh c) before) (Start (x .table) d)) rest
   pub on-time : due (x .period) (d + x .offset) (suc (tickCount rest)) ≡ true
+
+abbrev pub isLineOf : ℕ → Event → Bool
+isLineOf i (Activate t) = false
+isLineOf i Finish = false
+isLineOf i (Chain t) = false
+isLineOf i (Get r) = false
+isLineOf i (Release r) = false
+isLineOf i Tick = false
+isLineOf i (Line j) = eqb j i
+isLineOf i (Start t d) = false
+isLineOf i (Stop t) = false
+isLineOf i (Wait w) = false
+isLineOf i (Set t w) = false
+isLineOf i (Clear w) = false
+
+-- "a Line that meets a waiting request .. besides giving status 4"
+unfoldable pub linesLost : Config → ℕ → State → List Event → ℕ
+linesLost c i s [] = 0
+linesLost c i s (e ∷ es) =
+    markOf (isLineOf i e && eqb (step c s e .seen .status) limitReached) + linesLost c i (next c s e) es
+
+abbrev pub unlost : Seen → Seen
+unlost x =
+    record { status = x .status; runner = x .runner; level = x .level; begun = x .begun; losses = []; due = x .due }

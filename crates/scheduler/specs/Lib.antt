@@ -19,3 +19,4 @@ pub mod Call
 pub mod Scheduler
 pub mod Entries
 pub mod History
+pub mod Conditions
