@@ -20,3 +20,4 @@ mod Fuel
 mod Ceiling
 mod Mask
 mod Timed
+mod Editions

@@ -1,7 +1,7 @@
 -- What every reading satisfies, refused or not: its refusal and its place are in range, a refused one has the all-zero
 -- value, and one that is cut off its place at the input's end.
 use Prim.Native.Nat.{ℕ, zero, suc, _+_, _-_, _^_, _≤_}
-use mathlib.Core.Path.{_≡_, refl}
+use mathlib.Core.Path.{_≡_, refl, _∙_}
 use mathlib.Core.Bool.{Bool, true, false, not, _&&_, _||_}
 use mathlib.Core.List.{List}
 use mathlib.Core.Logic.{_⊎_, inl, inr}
@@ -9,7 +9,7 @@ use native.Mathlib.Omega.{arith}
 use lib.Dec.{leb, ltb, lit≤}
 use lib.ListN.{length, getD, take}
 use borrow.Author.Tests.{eq-eqb, ne-eqb, le-leb, lt-leb}
-use Rattle.number.specs.Refusal.{none, cut}
+use Rattle.number.specs.Refusal.{none, cut, malformed}
 use Rattle.number.specs.Number.{readNumber}
 use Rattle.number.proofs.Cases.{by-test, by-lt, by-eq}
 use Rattle.number.proofs.Theorems as Number
@@ -167,3 +167,44 @@ cut-place bs e =
     (λ h. let z : _≡_ {A = ℕ} tooLong cut = rw (lt-leb (length bs) maxLength h) at e in absurd (omega arith))
     (λ h. rw (le-leb (length bs) maxLength h)
     (readFrom-cut (length bs) bs 0 start (omega arith) (omega arith) (rw (le-leb (length bs) maxLength h) at e)))
+
+-- the place of a number that can't be read is the number reader's
+pub unreadable-there : (k : ℕ) (bs : List ℕ) (at : ℕ) (d : Draft) → ended (d .field) ≡ false
+    → (readNumber bs at .refusal ≡ none → ⊥)
+    → readFrom (suc k) bs at d ≡ refused (readNumber bs at .refusal) (readNumber bs at .place)
+unreadable-there k bs at d t n =
+    read-stop k bs at d (readNumber bs at) refl t (λ f. n (number-fine d (readNumber bs at) f .0))
+    ∙ rw (ne-eqb (readNumber bs at .refusal) none n)
+
+abbrev Malformed : List ℕ → ConfigRead → Type 0
+Malformed bs r =
+    r .refusal ≡ malformed
+    → (at : ℕ) × (readNumber bs at .refusal ≡ malformed) × (r .place ≡ readNumber bs at .place)
+
+number-malformed : (bs : List ℕ) (at : ℕ) (d : Draft)
+    → Malformed bs (refused (numberFault d (readNumber bs at)) (faultPlace at (readNumber bs at)))
+number-malformed bs at d m =
+    let n = readNumber bs at in
+    by-eq (n .refusal) none
+    (λ e. let f : fault d (n .value) ≡ malformed = rw (eq-eqb (n .refusal) none e) at m in
+    absurd (omega (arith, fault-tested d (n .value) (d .field) .late (λ z. omega arith))))
+    (λ e. (at, rw (ne-eqb (n .refusal) none e) at m, rw (ne-eqb (n .refusal) none e)))
+
+finished-fine : (bs : List ℕ) (at : ℕ) (d : Draft) → Malformed bs (finished bs at d)
+finished-fine bs at d e =
+    by-eq at (length bs)
+    (λ h. let z : _≡_ {A = ℕ} none malformed = rw (eq-eqb at (length bs) h) at e in absurd (omega arith))
+    (λ h. let z : _≡_ {A = ℕ} leftOver malformed = rw (ne-eqb at (length bs) h) at e in absurd (omega arith))
+
+pub malformed-there : (bs : List ℕ) → Malformed bs (readConfig bs)
+unfolding readConfig
+malformed-there bs =
+    by-lt maxLength (length bs)
+    (λ h. rw (lt-leb (length bs) maxLength h) (λ e. absurd (omega arith)))
+    (λ h. rw (le-leb (length bs) maxLength h)
+    (readFrom-elim bs (λ at d r. Malformed bs r)
+    (λ at d t. finished-fine bs at d)
+    (λ at d e. absurd (omega arith))
+    (λ at d f. number-malformed bs at d)
+    (λ at d r t f rest. rest)
+    (length bs) 0 start))

@@ -119,6 +119,14 @@ pub record ReaderRows : Type 0 where
   pub priority-timed : answers (0x01 ∷ 0x02 ∷ 0x03 ∷ 0x05 ∷ 0x00 ∷ 0x03 ∷ [])
       ((0x00 ∷ []) ∷ (0x04 ∷ []) ∷ (0x05 ∷ []) ∷ (0xC9 ∷ 0x01 ∷ []) ∷ [])
       ≡ (5, 6) ∷ (1, 7) ∷ (6, 6) ∷ (5, 6) ∷ []
+  -- a body of each kind after one of kind 3, and one of kind 3 after each kind: 6 where the priority is used, both ways
+  pub priority-shared : answers (0x01 ∷ 0x02 ∷ []) (
+      (0x03 ∷ 0x05 ∷ 0x00 ∷ 0x00 ∷ 0x05 ∷ []) ∷ (0x03 ∷ 0x05 ∷ 0x00 ∷ 0x01 ∷ 0x05 ∷ [])
+      ∷ (0x03 ∷ 0x05 ∷ 0x00 ∷ 0x02 ∷ 0x05 ∷ []) ∷ (0x00 ∷ 0x05 ∷ 0x01 ∷ 0x03 ∷ 0x05 ∷ [])
+      ∷ (0x01 ∷ 0x05 ∷ 0x00 ∷ 0x03 ∷ 0x05 ∷ []) ∷ (0x02 ∷ 0x05 ∷ 0x01 ∷ 0x03 ∷ 0x05 ∷ [])
+      ∷ (0x03 ∷ 0x05 ∷ 0x00 ∷ 0x00 ∷ 0x06 ∷ []) ∷ (0x00 ∷ 0x05 ∷ 0x01 ∷ 0x03 ∷ 0x06 ∷ []) ∷ []
+      )
+      ≡ (6, 6) ∷ (6, 6) ∷ (6, 6) ∷ (6, 6) ∷ (6, 6) ∷ (6, 6) ∷ (1, 7) ∷ (1, 7) ∷ []
   pub autostart-timed : answers (0x01 ∷ 0x01 ∷ 0x03 ∷ 0x05 ∷ []) ((0x00 ∷ []) ∷ (0x01 ∷ []) ∷ (0x02 ∷ []) ∷ [])
       ≡ (1, 5) ∷ (5, 4) ∷ (5, 4) ∷ []
   -- the masks of bodies 0, 3, both; then those with the bit of body 1, of body 2, or of a body that is not there
@@ -196,6 +204,7 @@ reader-rows =
       entry-order = refl;
       next-table = refl;
       priority-timed = refl;
+      priority-shared = refl;
       autostart-timed = refl;
       users-timed = refl;
       task-timed = refl;

@@ -1,27 +1,28 @@
 -- What the crate shows beyond its contracts. Each law stands here in full, over specs/ alone;
 -- the modules it cites prove it.
 --
--- In order: what every reading satisfies, and every accepted value; its entries, tables and bodies of kind 3; a
+-- In order: what every reading satisfies, where a number can't be read, the two versions, and every accepted value; its entries, tables and bodies of kind 3; a
 -- resource's ceiling and its users; both round trips; which values the writer accepts; counts that are too great; what
 -- stands past the counts; that the fuel of the definitions is enough.
 use Prim.Native.Nat.{ℕ, zero, suc, _+_, _≤_, _<_}
 use mathlib.Core.Path.{_≡_, refl, sym, _∙_}
 use mathlib.Core.Bool.{true, false}
-use mathlib.Core.List.{List}
+use mathlib.Core.List.{List, _∷_}
 use mathlib.Core.Logic.{_↔_, _⊎_, inl, inr}
 use native.Mathlib.Omega.{arith}
 use lib.ListN.{length, getD}
 use borrow.Author.Tests.{le-ltb}
-use Rattle.number.specs.Refusal.{none, cut}
-use Rattle.number.specs.Number.{Bytes}
+use Rattle.number.specs.Refusal.{none, cut, malformed}
+use Rattle.number.specs.Number.{Bytes, readNumber}
 use Rattle.number.proofs.Cases.{by-lt}
 use Rattle.config.specs.declared.Config.{Config}
 use Rattle.config.specs.declared.ConfigRead.{ConfigRead}
 use Rattle.config.specs.Refusal.{badCount, tooLong, sharedOffset, mixedTable}
 use Rattle.config.specs.Value.{maxBodies, maxResources, noConfig, withResources}
 use Rattle.config.specs.Meaning.{isr, lastKind, isTimed, isUser, priorityOf, ceiling, firstOf, timedEntry, smallestOffset, executionLevel, triggerLevel}
-use Rattle.config.specs.Draft.{start}
-use Rattle.config.specs.Reader.{accepted, readFrom, readConfig}
+use Rattle.config.specs.declared.Draft.{Draft}
+use Rattle.config.specs.Draft.{ended, start}
+use Rattle.config.specs.Reader.{accepted, refused, inSecond, readFrom, readConfig}
 use Rattle.config.specs.Writer.{maxNumbers, faultFrom, firstFault, bytesFrom, configBytes, writeConfig, wroteConfig}
 use Rattle.config.specs.Accepted.{Shaped, Accepted, trimmed}
 use Rattle.config.proofs.Tables as Tables
@@ -34,6 +35,7 @@ use Rattle.config.proofs.Sound as Sound
 use Rattle.config.proofs.Counts as Counts
 use Rattle.config.proofs.Past as Past
 use Rattle.config.proofs.Fuel as Fuel
+use Rattle.config.proofs.Editions as Editions
 
 -- "A refused reader returns an all-zero value with refusal and place"; "An accepted reading has refusal 0 and the place
 -- after it", which is the input's end, as is that of one "cut off"; "entries past the counts are 0"
@@ -58,6 +60,21 @@ reading bs =
       zero-value = b .zero-value;
       zero-past = RoundTrip.zero-past bs;
     }
+
+-- A number that can't be read is refused with the number reader's refusal and place (document 02, A2), whichever number
+-- it is and wherever it begins; so the place of every refusal 2 is that of a number at which the number reader says so
+pub unreadable-there : (k : ℕ) (bs : List ℕ) (at : ℕ) (d : Draft) → ended (d .field) ≡ false
+    → (readNumber bs at .refusal ≡ none → ⊥)
+    → readFrom (suc k) bs at d ≡ refused (readNumber bs at .refusal) (readNumber bs at .place)
+unreadable-there = Reading.unreadable-there
+
+pub malformed-there : (bs : List ℕ) → readConfig bs .refusal ≡ malformed
+    → (at : ℕ) × (readNumber bs at .refusal ≡ malformed) × (readConfig bs .place ≡ readNumber bs at .place)
+malformed-there = Reading.malformed-there
+
+-- "Version 1 or 2 at the head of the configuration": what stands after it is read alike
+pub versions-read : (bs : List ℕ) → readConfig (2 ∷ bs) ≡ inSecond (readConfig (1 ∷ bs))
+versions-read = Editions.versions-read
 
 -- every field of an accepted configuration is in its range
 pub accepted-ranges : (bs : List ℕ) → readConfig bs .refusal ≡ none → Accepted (readConfig bs .config)
@@ -89,6 +106,13 @@ pub smallest-least : (c : Config) → Accepted c → (t e : ℕ) → t < c .tabl
     → smallestOffset c t ≤ getD (c .offset) e 0
 smallest-least c a t e t< low high =
     Timed.no-fall c t (λ n. a .entries-rise t n t<) (firstOf c t) e (omega arith) low high
+
+-- and it is the offset of one of its entries
+pub smallest-reached : (c : Config) → Accepted c → (t : ℕ) → t < c .tables
+    → (e : ℕ) × (firstOf c t ≤ e) × (e < firstOf c (suc t)) × (getD (c .offset) e 0 ≡ smallestOffset c t)
+smallest-reached c a t t< =
+    let some : 1 ≤ getD (c .entries) t 0 = a .some-entry t t< in
+    (firstOf c t, omega arith, omega (arith, Tables.firstOf-step c t), refl)
 
 pub entry-of-task : (c : Config) → Accepted c → (e : ℕ) → e < firstOf c (c .tables)
     → (getD (c .task) e 0 < c .bodies)

@@ -13,7 +13,7 @@ use Rattle.config.specs.declared.Config.{Config}
 use Rattle.config.specs.declared.ConfigRead.{ConfigRead}
 use Rattle.config.specs.declared.Draft.{Draft}
 use Rattle.config.specs.Refusal.{leftOver, tooLong}
-use Rattle.config.specs.Value.{noConfig}
+use Rattle.config.specs.Value.{noConfig, withVersion}
 use Rattle.config.specs.Draft.{fault, put, ended, start}
 
 abbrev pub accepted : Config → ℕ → ConfigRead
@@ -22,6 +22,10 @@ accepted c p = record { config = c; refusal = none; place = p }
 -- "A refused reader returns an all-zero value with refusal and place"
 abbrev pub refused : ℕ → ℕ → ConfigRead
 refused r p = record { config = noConfig; refusal = r; place = p }
+
+-- the same reading, in version 2
+abbrev pub inSecond : ConfigRead → ConfigRead
+inSecond r = cond (eqb (r .refusal) none) (accepted (withVersion (r .config) 2) (r .place)) r
 
 -- "Each number is tested for being readable, then for its range, then for 6, 7 or 8"
 abbrev pub numberFault : Draft → NumberRead → ℕ

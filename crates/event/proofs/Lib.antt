@@ -10,3 +10,4 @@ pub mod Writing
 mod RoundTrip
 mod Size
 mod Trace
+mod Unreadable

@@ -1,10 +1,11 @@
 -- What the crate shows beyond its contracts. Each law stands here in full, over specs/ alone; the modules it cites
 -- prove it.
 --
--- In order: what every reading satisfies, and one past the end; both round trips; how long an event's bytes are; what
+-- In order: what every reading satisfies, one past the end, and where a number can't be read; both round trips; how long an event's bytes are; what
 -- the writer refuses; the trace as a list of events.
 use Prim.Native.Nat.{ℕ, _+_, _-_, _≤_, _<_, max}
 use mathlib.Core.Path.{_≡_, refl, ap, _∙_}
+use mathlib.Core.Bool.{true}
 use mathlib.Core.List.{List, _++_}
 use native.Mathlib.Omega.{arith}
 use native.Mathlib.Nat.{zero-add}
@@ -12,18 +13,19 @@ use lib.Dec.{lit≤}
 use lib.ListN.{length, drop, length-append, length-drop}
 use lib.Seq.{drop-at}
 use Rattle.number.specs.Refusal.{none}
-use Rattle.number.specs.Number.{numberBound, Bytes}
+use Rattle.number.specs.Number.{numberBound, Bytes, readNumber}
 use Rattle.number.proofs.Cases.{by-lt}
 use Rattle.number.proofs.Theorems as Number
 use Rattle.event.specs.declared.Event.{Event}
 use Rattle.event.specs.declared.EventRead.{EventRead}
-use Rattle.event.specs.Refusal.{traceCut, unknownEvent}
-use Rattle.event.specs.Event.{event, accepted, refused, afterNumber, readEvent, eventBytes, writerRefusal, writeEvent, eventWritten, Writable}
+use Rattle.event.specs.Refusal.{traceCut, inTrace, unknownEvent}
+use Rattle.event.specs.Event.{known, arguments, event, accepted, refused, afterNumber, readEvent, eventBytes, writerRefusal, writeEvent, eventWritten, Writable}
 use Rattle.event.specs.Trace.{TraceRead, ended, broken, before, readFrom, readRest, readTrace, traceBytes, AllWritable}
 use Rattle.event.proofs.RoundTrip as RoundTrip
 use Rattle.event.proofs.Size as Size
 use Rattle.event.proofs.Writing as Writing
 use Rattle.event.proofs.Trace as Trace
+use Rattle.event.proofs.Unreadable as Unreadable
 
 -- whatever is read: an accepted event can be written and covers at least one byte of the input; a refused one is all
 -- zero, and one cut off has its place at the input's end, "(a start past it keeps its own place)"
@@ -72,6 +74,26 @@ event-reading bs at =
 pub read-past : (bs : List ℕ) (at : ℕ) → length bs ≤ at → readEvent bs at ≡ refused traceCut at
 unfolding afterNumber readEvent
 read-past bs at h = rw (Number.read-past bs at h)
+
+-- Document 02, A2, in a trace: a number that can't be read has the number reader's place, wherever it begins: the code,
+-- the first argument, at the place p behind the code, or the second behind that
+pub unreadable-code : (bs : List ℕ) (at : ℕ) → (readNumber bs at .refusal ≡ none → ⊥)
+    → readEvent bs at ≡ refused (inTrace (readNumber bs at .refusal)) (readNumber bs at .place)
+unreadable-code = Unreadable.unreadable-code
+
+pub unreadable-first : (bs : List ℕ) (at code p : ℕ) → readNumber bs at .refusal ≡ none
+    → readNumber bs at .value ≡ code → readNumber bs at .place ≡ p → known code ≡ true → 1 ≤ arguments code
+    → (readNumber bs p .refusal ≡ none → ⊥)
+    → readEvent bs at ≡ refused (inTrace (readNumber bs p .refusal)) (readNumber bs p .place)
+unreadable-first = Unreadable.unreadable-first
+
+pub unreadable-second : (bs : List ℕ) (at code p : ℕ) → readNumber bs at .refusal ≡ none
+    → readNumber bs at .value ≡ code → readNumber bs at .place ≡ p → known code ≡ true → 2 ≤ arguments code
+    → readNumber bs p .refusal ≡ none
+    → (readNumber bs (readNumber bs p .place) .refusal ≡ none → ⊥)
+    → readEvent bs at
+    ≡ refused (inTrace (readNumber bs (readNumber bs p .place) .refusal)) (readNumber bs (readNumber bs p .place) .place)
+unreadable-second = Unreadable.unreadable-second
 
 -- where the bytes of an event stand, that event is read and the place after them, whatever stands before and after
 pub read-at : (bs : List ℕ) (at : ℕ) (e : Event) (rest : List ℕ) → Writable e → drop at bs ≡ eventBytes e ++ rest

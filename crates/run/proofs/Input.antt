@@ -1,6 +1,7 @@
 -- What the run's input is, by its checks in order, and what the run returns and leaves for each.
 --
 --   config-refused .. all-readable      what the input is
+--   refused-output, short-output        what a refused run leaves
 --   Ran cs ts d r d₁ m                  the run of cs and ts on the slice d returns r with the last model m, and leaves d₁
 --   ran-refused, ran-short, ran-whole   its ways out
 use Prim.Native.Nat.{ℕ, _+_, _*_, _≤_, _<_}
@@ -55,6 +56,17 @@ module _ (cs ts : List ℕ) where
       pub all-readable : readTrace ts .refusal ≡ none → readRun cs ts ≡ played (readConfig cs .config) (callsOf ts)
       all-readable e = length-decides ∙ rw (le-leb (length ts) maxTrace short, eq-eqb (readTrace ts .refusal) none e)
 
+-- "A refused run writes nothing to the output": of an input that is refused, and where the output is too short
+pub refused-output : (cs ts d : List ℕ) (r p : ℕ) → readRun cs ts ≡ refused r p → runOutput cs ts d ≡ d
+unfolding outputOf
+refused-output cs ts d r p e = ap (outputOf d) e
+
+pub short-output : (cs ts d : List ℕ) (c : Config) (es : List Event) → readRun cs ts ≡ played c es
+    → length d < length (answers c es)
+    → runOutput cs ts d ≡ d
+unfolding outputOf written
+short-output cs ts d c es e short = ap (outputOf d) e ∙ rw (lt-leb (length (answers c es)) (length d) short)
+
 -- the run's contract: r is what it returns with the model m, and d₁ what it leaves where d was
 pub record Ran (cs ts d : List ℕ) (r : ℕ) (d₁ : List ℕ) (m : Model) : Type 0 where
   pub result : r ≡ runResult cs ts (length d)
@@ -68,7 +80,7 @@ module _ (cs ts d : List ℕ) where
   ran-refused r p x e same =
       record {
         result = same ∙ sym (ap (resultOf (length d)) e);
-        output = sym (ap (outputOf d) e);
+        output = sym (refused-output cs ts d r p e);
         steps = sym (ap (machineOutputOf d) e);
         model = sym (ap (lastModelOf (length d)) e);
       }
@@ -82,7 +94,7 @@ module _ (cs ts d : List ℕ) where
         let size′ : length (machineAnswers c (planOf c) es) ≡ need = ap length (answers-same c ok shaped es) ∙ size in
         record {
           result = same ∙ sym (ap (resultOf (length d)) e ∙ rw (size, lt-leb need (length d) short));
-          output = sym (ap (outputOf d) e ∙ rw (size, lt-leb need (length d) short));
+          output = sym (short-output cs ts d c es e (rw size short));
           steps = sym (ap (machineOutputOf d) e ∙ rw (size′, lt-leb need (length d) short));
           model = sym (ap (lastModelOf (length d)) e ∙ rw (size, lt-leb need (length d) short));
         }

@@ -1,9 +1,10 @@
 -- What the crate shows of the run, for every input. Each law stands here in full, over specs/ alone.
 --
--- In order: how many bytes the answers take; that refusal and place can be split again. `Worked` has the run on
--- bytes, computed, and `Edges` P1 to P13.
+-- In order: how many bytes the answers take; that refusal and place can be split again; that a refused run writes
+-- nothing. `Worked` has the run on bytes, computed, and `Edges` P1 to P13.
 use Prim.Native.Nat.{ℕ, _/_, _%_, _≤_, _<_}
-use mathlib.Core.Path.{_≡_}
+use mathlib.Core.Path.{_≡_, refl}
+use mathlib.Core.Logic.{_≢_}
 use mathlib.Core.List.{List}
 use native.Mathlib.Omega.{arith}
 use borrow.Author.Tests.{le-leb, lt-leb}
@@ -17,9 +18,9 @@ use Rattle.config.proofs.Theorems.{reading, accepted-ranges}
 use Rattle.event.specs.Trace.{maxTrace, readTrace}
 use Rattle.event.proofs.Theorems.{trace-reading}
 use Rattle.scheduler.specs.Scheduler.{Event}
-use Rattle.run.specs.Run.{callOf, callsOf, Input, refused, played, readRun, answers, resultOf, runResult}
+use Rattle.run.specs.Run.{callOf, callsOf, Input, refused, played, readRun, answers, resultOf, runResult, runOutput}
 use Rattle.run.proofs.Answers.{length-answers}
-use Rattle.run.proofs.Input.{config-refused, trace-too-long, trace-refused, all-readable}
+use Rattle.run.proofs.Input.{config-refused, trace-too-long, trace-refused, all-readable, refused-output, short-output}
 
 -- how many values a place has in a result
 abbrev pub places : ℕ
@@ -96,3 +97,15 @@ module _ (cs ts : List ℕ) (n : ℕ) (c : Config) (es : List Event) (e : readRu
   played-split room =
       let few : length es ≤ 8192 = (rw e at (input-bounded cs ts)) .0 in
       rw (e, le-leb (length (answers c es)) n room) (omega arith, omega arith)
+
+-- "A refused run writes nothing to the output": whatever the refusal, that of the output's own length too, every byte is
+-- what it was
+pub refused-same : (cs ts d : List ℕ) → highHalf (runResult cs ts (length d)) ≢ 0 → runOutput cs ts d ≡ d
+refused-same cs ts d refusal = go (readRun cs ts) refl
+  where
+    go : (x : Input) → readRun cs ts ≡ x → runOutput cs ts d ≡ d
+    go (refused r p) e = refused-output cs ts d r p e
+    go (played c es) e =
+        by-lt (length d) (length (answers c es))
+        (λ short. short-output cs ts d c es e short)
+        (λ room. absurd (refusal (played-split cs ts (length d) c es e room .0)))
