@@ -21,7 +21,7 @@ use Rattle.oil_grammar.specs.Walk.{bears, borne, nameFault, faultIn, wal
 use Rattle.oil_grammar.specs.Reader.{lineAfter, columnAfter, readOil}
 use Rattle.oil_grammar.proofs.Ascii.{ascii}
 
-pub told : List ℕ → List ℕ
+unfoldable pub told : List ℕ → List ℕ
 unfolding ascii isSpace isDigit isLetter isNameByte isLineByte span same spelledSort signOf decimal ended closing
     comment blank blanks wordAt nextWord unexpected unknown only objectFault bodyFault attributeFault valueFault faultAt
     attributeBegun afterAt namesAt usesAt bears borne nameFault faultIn walk unborneAt unborne numberedAt marked mask
@@ -29,7 +29,7 @@ unfolding ascii isSpace isDigit isLetter isNameByte isLineByte span same spelled
     faultFrom
 told t = let r = readOil t in r .refusal ∷ r .line ∷ r .column ∷ []
 
-pub bytes : List ℕ → List ℕ
+unfoldable pub bytes : List ℕ → List ℕ
 unfolding told bytesFrom numberBytes groupBytes
 bytes t = configBytes (readOil t .config)
 
@@ -255,3 +255,81 @@ zeros-before = refl
 pub many-digits : told (ascii "TASK a { PRIORITY = " ++ (replicate 400 57 ++ ascii "; };")) ≡ 5 ∷ 0 ∷ 0 ∷ []
 unfolding told
 many-digits = refl
+
+-- a RESOURCE takes no body's number, an ISR may use one, and AUTOSTART = FALSE starts nothing
+pub resource-first : bytes
+    (ascii "RESOURCE r { }; ISR i { PRIORITY = 9; RESOURCE = r; };"
+    ++ ascii "TASK t { PRIORITY = 2; AUTOSTART = FALSE; RESOURCE = r; };")
+    ≡ 1 ∷ 2 ∷ 1 ∷ 9 ∷ 0 ∷ 0 ∷ 2 ∷ 0 ∷ 1 ∷ 3 ∷ 0 ∷ []
+unfolding bytes
+resource-first = refl
+
+-- bodies i, t, u and resources r, s, which u and t use
+pub resources-between : bytes
+    (ascii "ISR i { PRIORITY = 9; }; RESOURCE r { }; TASK t { AUTOSTART = TRUE; PRIORITY = 2; RESOURCE = s; };"
+    ++ ascii "RESOURCE s { }; TASK u { PRIORITY = 3; RESOURCE = r; };")
+    ≡ 1 ∷ 3 ∷ 1 ∷ 9 ∷ 0 ∷ 0 ∷ 2 ∷ 1 ∷ 0 ∷ 3 ∷ 0 ∷ 2 ∷ 4 ∷ 2 ∷ 0 ∷ []
+unfolding bytes
+resources-between = refl
+
+-- HT, VT, FF, CR, LF and the space between words
+pub every-space : bytes
+    (ascii "TASK" ++ 9 ∷ 97 ∷ 11 ∷ 123 ∷ 12 ∷ (ascii "PRIORITY" ++ 13 ∷ 61 ∷ 10 ∷ 50 ∷ 32 ∷ ascii ";};"))
+    ≡ 1 ∷ 1 ∷ 0 ∷ 2 ∷ 0 ∷ 0 ∷ 0 ∷ []
+unfolding bytes
+every-space = refl
+
+-- names of letters, digits and _, which differ in case alone
+pub names-accepted : told
+    (ascii "TASK _Zz{PRIORITY=1;};TASK zZ_9{PRIORITY=2;};TASK A{PRIORITY=3;};TASK a{PRIORITY=4;};")
+    ≡ 0 ∷ 0 ∷ 0 ∷ []
+unfolding told
+names-accepted = refl
+
+-- names of 40 bytes that differ in the last; and one of them twice
+pub long-names : (told
+    (ascii "TASK " ++ (replicate 39 120 ++ ascii "a{PRIORITY=1;};TASK " ++ (replicate 39 120 ++ ascii "b{PRIORITY=2;};")))
+    ≡ 0 ∷ 0 ∷ 0 ∷ [])
+    × (told
+    (ascii "TASK " ++ (replicate 39 120 ++ ascii "a{PRIORITY=1;};\nTASK " ++ (replicate 39 120 ++ ascii "a{PRIORITY=2;};")))
+    ≡ 63 ∷ 2 ∷ 6 ∷ [])
+unfolding told
+long-names = (refl, refl)
+
+-- OIL's words are in capitals
+pub lower-case : (told (ascii "task a { PRIORITY = 1; };") ≡ 62 ∷ 1 ∷ 1 ∷ [])
+    × (told (ascii "TASK a { priority = 1; };") ≡ 62 ∷ 1 ∷ 10 ∷ [])
+unfolding told
+lower-case = (refl, refl)
+
+-- /*/ closes no comment
+pub comment-of-three : told (ascii "/*/ TASK a { PRIORITY = 1; };") ≡ 60 ∷ 1 ∷ 1 ∷ []
+unfolding told
+comment-of-three = refl
+
+-- no name has a -, a ., a $ or a byte above 127
+pub no-name-byte : (told (ascii "TASK a-b") ≡ 60 ∷ 1 ∷ 7 ∷ []) × (told (ascii "TASK a.b") ≡ 60 ∷ 1 ∷ 7 ∷ [])
+    × (told (ascii "TASK a$b") ≡ 60 ∷ 1 ∷ 7 ∷ []) × (told (ascii "TASK a" ++ 195 ∷ 169 ∷ []) ≡ 60 ∷ 1 ∷ 7 ∷ [])
+unfolding told
+no-name-byte = (refl, refl, refl, refl)
+
+-- an ISR's name counts for 63
+pub isr-name-twice : told (ascii "ISR a { PRIORITY = 1; }; TASK a { PRIORITY = 2; };") ≡ 63 ∷ 1 ∷ 31 ∷ []
+unfolding told
+isr-name-twice = refl
+
+-- 61: neither TRUE nor FALSE
+pub no-truth : told (ascii "TASK a { AUTOSTART = maybe; };") ≡ 61 ∷ 1 ∷ 22 ∷ []
+unfolding told
+no-truth = refl
+
+-- a character of two bytes counts two columns, HT one
+pub columns-are-bytes : (told (47 ∷ 42 ∷ 195 ∷ 169 ∷ 42 ∷ 47 ∷ 32 ∷ 35 ∷ []) ≡ 60 ∷ 1 ∷ 8 ∷ [])
+    × (told (9 ∷ 35 ∷ []) ≡ 60 ∷ 1 ∷ 2 ∷ [])
+unfolding told
+columns-are-bytes = (refl, refl)
+
+-- a // comment goes on after a CR
+pub comment-past-a-return : told (ascii "// x\r # y\n#") ≡ 60 ∷ 2 ∷ 1 ∷ []
+unfolding told
+comment-past-a-return = refl

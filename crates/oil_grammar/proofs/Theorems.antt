@@ -1,21 +1,26 @@
--- What the crate shows: the reading and the grammar accept the same texts, with the same configurations. Each law
--- stands here in full, over specs/ alone; the modules it cites prove it.
-use Prim.Native.Nat.{ℕ, _<_}
-use mathlib.Core.Path.{_≡_, sym, ap, _∙_}
-use mathlib.Core.List.{List}
+-- What the crate shows: the reading and the grammar accept the same texts, with the same configurations; and which object
+-- is which body and resource. Each law stands here in full, over specs/ alone; the modules it cites prove it.
+use Prim.Native.Nat.{ℕ, _+_, _*_, _-_, _≤_, _<_}
+use mathlib.Core.Path.{_≡_, refl, sym, ap, _∙_}
+use mathlib.Core.List.{List, [], _∷_, _++_}
 use mathlib.Core.Logic.{_↔_}
 use native.Mathlib.Omega.{arith}
 use borrow.Author.Tests.{eq-eqb, ne-eqb}
+use lib.ListN.{length, getD}
 use Rattle.number.specs.Refusal.{none}
 use Rattle.config.specs.declared.Config.{Config}
 use Rattle.config.specs.Value.{noConfig, withResources}
 use Rattle.config.specs.Writer.{firstFault}
 use Rattle.config.proofs.Theorems as Config
+use Rattle.word.specs.Word.{has}
 use Rattle.oil_grammar.specs.declared.OilRead.{OilRead}
-use Rattle.oil_grammar.specs.Object.{Object}
+use Rattle.oil_grammar.specs.Word.{decimal}
+use Rattle.oil_grammar.specs.Object.{Object, amongNames, attributeUses}
 use Rattle.oil_grammar.specs.Meaning.{configOf}
-use Rattle.oil_grammar.specs.Grammar.{Oil, Describes}
+use Rattle.oil_grammar.specs.Numbering.{bodies, declared, nth, BodyMeant}
+use Rattle.oil_grammar.specs.Grammar.{AllFit, Oil, Describes}
 use Rattle.oil_grammar.specs.Reader.{ranged, readOil}
+use Rattle.oil_grammar.proofs.Numbering as Numbering
 use Rattle.oil_grammar.proofs.Whole as Whole
 use Rattle.oil_grammar.proofs.Counts.{version-one}
 
@@ -80,3 +85,32 @@ too-many-bodies t os o h = counted t os o (Config.too-many-bodies (configOf os) 
 pub too-many-resources : (t : List ℕ) (os : List Object) → Oil t os → firstFault (withResources (configOf os) 0) ≡ none
     → 16 < configOf os .resources → readOil t ≡ unranged 4
 too-many-resources t os o e h = counted t os o (Config.too-many-resources (configOf os) h e)
+
+-- "Bodies and resources are numbered as they stand": of objects whose attributes are those of their kinds, as many as a
+-- configuration holds, body i is the i-th TASK or ISR, with its kind, its PRIORITY where that is at most 200, and
+-- autostart exactly if it says AUTOSTART = TRUE
+pub bodies-counted : (os : List Object) → AllFit os → length (bodies os) ≤ 255 → configOf os .bodies ≡ length (bodies os)
+bodies-counted = Numbering.bodies-counted
+
+pub body-meant : (os : List Object) → AllFit os → length (bodies os) ≤ 32 → (i : ℕ) → i < length (bodies os)
+    → BodyMeant (configOf os) i (nth (bodies os) i)
+body-meant = Numbering.body-meant
+
+-- resource r is the r-th RESOURCE, and bit i of its mask is set exactly if body i names it
+pub resources-counted : (os : List Object) → AllFit os → length (declared os) ≤ 255
+    → configOf os .resources ≡ length (declared os)
+resources-counted = Numbering.resources-counted
+
+pub users-meant : (os : List Object) → AllFit os → length (bodies os) ≤ 32 → length (declared os) ≤ 16 → (r i : ℕ)
+    → r < length (declared os) → i < length (bodies os)
+    → has (getD (configOf os .users) r 0) i
+    ≡ amongNames (nth (declared os) r .called) (attributeUses (nth (bodies os) i .attributes))
+users-meant os f few-bodies few r i r< i< =
+    ap (λ m. has m i) (Numbering.users-meant os f few r r<)
+    ∙ Numbering.user-bit (nth (declared os) r .called) os f few-bodies i i<
+
+-- "numbers of decimal digits alone (any length, leading zeros too)": each digit counts ten times what the next one does
+pub decimal-last : (ds : List ℕ) (n d : ℕ) → decimal n (ds ++ d ∷ []) ≡ 10 * decimal n ds + (d - 48)
+unfolding decimal
+decimal-last [] n d = refl
+decimal-last (e ∷ ds) n d = decimal-last ds (10 * n + (e - 48)) d

@@ -1,8 +1,8 @@
 -- A damaged trace, worked out by hand and computed; and one whose list of stretches is as long as a list can be.
 use Prim.Native.Nat.{ℕ, zero, suc}
 use mathlib.Core.Path.{_≡_, refl}
-use mathlib.Core.List.{List, [], _∷_}
-use lib.ListN.{length}
+use mathlib.Core.List.{List, [], _∷_, _++_}
+use lib.ListN.{length, replicate}
 use Rattle.number.specs.Number.{continued, fifthGroup, groups, readNumber, groupBytes, numberBytes}
 use Rattle.event.specs.Event.{known, arguments, afterNumber, readArguments, readEvent}
 use Rattle.recording.specs.Fate.{covered, belonging, fateOf, fatesFrom, selected, keptBytes}
@@ -23,6 +23,12 @@ pub damaged-listed : listBytes damaged ≡ 2 ∷ 1 ∷ 4 ∷ 2 ∷ 8 ∷ 2 ∷ [
 unfolding continued fifthGroup groups readNumber groupBytes numberBytes known arguments afterNumber readArguments
     readEvent covered belonging fateOf fatesFrom closed stretchesFrom stretchBytes
 damaged-listed = refl
+
+-- 130 bytes 0, Tick, and one more: an offset and a length of two groups
+pub long-listed : listBytes (replicate 130 0 ++ (0x06 ∷ 0x00 ∷ [])) ≡ 0 ∷ 130 ∷ 1 ∷ 131 ∷ 1 ∷ 1 ∷ []
+unfolding continued fifthGroup groups readNumber groupBytes numberBytes known arguments afterNumber readArguments
+    readEvent covered belonging fateOf fatesFrom closed stretchesFrom stretchBytes
+long-listed = refl
 
 -- n times a byte that no event begins with, and then Finish
 unfoldable pub alternating : ℕ → List ℕ

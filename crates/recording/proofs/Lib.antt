@@ -5,3 +5,4 @@ pub mod Theorems
 mod Fates
 mod Stretches
 mod Size
+mod Listed

@@ -15,10 +15,11 @@ use Rattle.event.specs.Event.{readEvent}
 use Rattle.event.specs.Trace.{readTrace}
 use Rattle.event.proofs.Theorems.{trace-reading, trace-written-read, trace-read-written}
 use Rattle.recording.specs.Fate.{kept, dropped, covered, fates, keptBytes}
-use Rattle.recording.specs.Stretch.{stretches, listBytes, within, rebuilt, Apart}
+use Rattle.recording.specs.Stretch.{stretches, listBytes, listed, within, rebuilt, Apart}
 use Rattle.recording.proofs.Fates as Fates
 use Rattle.recording.proofs.Stretches as Stretches
 use Rattle.recording.proofs.Size as Size
+use Rattle.recording.proofs.Listed as Listed
 
 -- "where no event can be read, drop one byte and try again at the next"
 pub fates-unreadable : (b : ℕ) (bs : List ℕ) → (readEvent (b ∷ bs) 0 .refusal ≡ none → ⊥)
@@ -70,6 +71,11 @@ fate-told bs p h =
 -- no stretch is empty, and between two of them a byte is kept: they neither touch nor overlap
 pub stretches-apart : (bs : List ℕ) → Apart 0 (length bs) (stretches bs)
 stretches-apart bs = simp (length-fates, zero-add) at (Stretches.stretches-apart 0 0 (fates bs))
+
+-- "lists each dropped stretch as two numbers, offset and length": the list reads back as the stretches, whatever their
+-- numbers are
+pub list-read : (bs : List ℕ) → length bs < 4294967296 → listed (listBytes bs) ≡ stretches bs
+list-read bs h = Listed.list-read (length bs) h (stretches bs) (stretches-apart bs)
 
 -- salvaging what was kept changes nothing
 pub salvaged-again : (bs : List ℕ) → Bytes bs

@@ -2,16 +2,18 @@
 --
 --   stretches bs       the dropped stretches of bs
 --   stretchBytes ss    "lists each dropped stretch as two numbers, offset and length"
+--   listed ls          the stretches that a list of them says
 --   within ss p        the place p lies in one of the stretches ss
 --   rebuilt 0 ss ks bs the recording put together again from its kept bytes and its dropped stretches
 --
--- Main laws: `put-together`, `fate-told`, `stretches-apart`, `list-fits` (proofs/Theorems.antt).
+-- Main laws: `put-together`, `fate-told`, `stretches-apart`, `list-read`, `list-fits`
+-- (proofs/Theorems.antt).
 use Prim.Native.Nat.{ℕ, zero, suc, _+_, _-_, _≤_}
-use mathlib.Core.Bool.{Bool, false, _&&_, _||_}
+use mathlib.Core.Bool.{Bool, false, cond, _&&_, _||_}
 use mathlib.Core.List.{List, [], _∷_, _++_}
 use lib.Dec.{leb, ltb}
-use lib.ListN.{take, drop}
-use Rattle.number.specs.Number.{numberBytes}
+use lib.ListN.{length, take, drop}
+use Rattle.number.specs.Number.{readNumber, numberBytes}
 use Rattle.recording.specs.Fate.{Fate, kept, dropped, fates}
 
 -- the place of its first byte, and how many bytes it has
@@ -40,6 +42,18 @@ stretchBytes (s ∷ ss) = numberBytes (s .offset) ++ (numberBytes (s .size) ++ s
 -- the list of dropped stretches, in bytes
 abbrev pub listBytes : List ℕ → List ℕ
 listBytes bs = stretchBytes (stretches bs)
+
+-- the stretches that the two numbers at a place of a list say, and those after them, at most k
+unfoldable pub listedFrom : ℕ → List ℕ → ℕ → List Stretch
+listedFrom zero ls at = []
+listedFrom (suc k) ls at =
+    let o = readNumber ls at in
+    let n = readNumber ls (o .place) in
+    cond (ltb at (length ls)) (record { offset = o .value; size = n .value } ∷ listedFrom k ls (n .place)) []
+
+-- what a reader of the list finds in it; a stretch takes a byte at least
+abbrev pub listed : List ℕ → List Stretch
+listed ls = listedFrom (length ls) ls 0
 
 -- the place p lies in one of the stretches
 unfoldable pub within : List Stretch → ℕ → Bool
