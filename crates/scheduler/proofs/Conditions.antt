@@ -181,21 +181,25 @@ stands-still : (x : Table) → Decides (not (isRunning x)) (x ≡ stopped)
 stands-still stopped = record { holds = λ e. refl; fails = λ e. absurd (true≢false e) }
 stands-still (running d n) = record { holds = λ e. absurd (true≢false (sym e)); fails = λ e q. clash (cc) }
 
+-- whoever is chosen by priority is not time-triggered
+pub chosen-untimed : (c : Config) (bs : List Body) → chosen c bs .timed ≡ false
+chosen-untimed c bs = go (chosen-from byHolding refl c bs)
+  where
+    go : Taken c bs (chosen c bs) → chosen c bs .timed ≡ false
+    go (no-one e) = ap (λ (x : Candidate). x .timed) e
+    go (body k h p e) =
+        ap (λ (x : Candidate). x .timed) (e ∙ candidate-active c k (getD bs k noBody) (getD bs k noBody .phase) p)
+
 -- who may call
 module _ (c : Config) (s : State) where
   timed : Decides (runner c s .timed) (s .order ≢ [])
   timed = go (s .order) refl
     where
-      chosen-untimed : Taken c (s .bodies) (chosen c (s .bodies)) → chosen c (s .bodies) .timed ≡ false
-      chosen-untimed (no-one e) = ap (λ (x : Candidate). x .timed) e
-      chosen-untimed (body k h p e) =
-          ap (λ (x : Candidate). x .timed) (e ∙ candidate-active c k (bodyOf s k) (bodyOf s k .phase) p)
-
       go : (js : List ℕ) → s .order ≡ js → Decides (runner c s .timed) (s .order ≢ [])
       go [] o =
           let free : runner c s .timed ≡ false =
           ap (λ (x : Candidate). x .timed) (runner-untimed c s o)
-          ∙ chosen-untimed (chosen-from byHolding refl c (s .bodies)) in
+          ∙ chosen-untimed c (s .bodies) in
           record { holds = λ e. absurd (true≢false (sym e ∙ free)); fails = λ e n. n o }
       go (j ∷ js) o =
           let first : runner c s .timed ≡ true = ap (λ (x : Candidate). x .timed) (runner-timed c s j js o) in

@@ -65,7 +65,7 @@ module _ (c : Config) where
   unfolding stepBy
   bits-next s e = bits-dispatched (leaves c s e)
 
-  accepted-leaves : (s : State) (e : Event) → AcceptedIn c s e → leaves c s e ≡ effectOf c s e
+  pub accepted-leaves : (s : State) (e : Event) → AcceptedIn c s e → leaves c s e ≡ effectOf c s e
   unfolding stepBy
   accepted-leaves s e a = rw (eq-eqb (statusOf c s e) done a)
 

@@ -10,6 +10,7 @@ pub mod LineLosses
 pub mod Choice
 pub mod Checks
 pub mod Conditions
+pub mod Outcomes
 pub mod Effects
 pub mod Refusals
 pub mod Named

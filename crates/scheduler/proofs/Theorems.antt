@@ -1,7 +1,7 @@
 -- What holds of the plain scheduler. Each law stands here in full, over specs/ alone; the modules it cites prove it.
 --
--- In order: who runs, and ties; document 01's table of events, when each status is given, and what a time-triggered
--- task may call; that a refused event changes nothing but the count of a lost line; at most one body begins in an event;
+-- In order: who runs, and ties; document 01's table of events, when each status is given, what an accepted event
+-- leaves, and what a time-triggered task may call; that a refused event changes nothing but the count of a lost line; at most one body begins in an event;
 -- the started time-triggered tasks; what an accepted Activate finds; requests that wait; event bits, and who waits for
 -- them; who holds a resource, and whom it is refused; where losses come from; that the editions of the procedure differ
 -- in the losses of lost lines alone; that d and n are counted, and entries due, as demand 3 says, no two of kind 3 at one
@@ -31,8 +31,10 @@ use Rattle.scheduler.specs.Scheduler.{begins, dispatched, lossesOf, step
 use Rattle.scheduler.specs.Entries.{entryOf, entriesOf, entryAt}
 use Rattle.scheduler.specs.History.{AcceptedIn, Ends, next, NoStart, NoStop, tickCount, History, dueMark, DueAt, linesLost, unlost}
 use Rattle.scheduler.specs.Conditions as Conditions
+use Rattle.scheduler.specs.Outcomes as Outcomes
 use Rattle.scheduler.proofs.Bits as Bits
 use Rattle.scheduler.proofs.Conditions as Statuses
+use Rattle.scheduler.proofs.Outcomes as Left
 use Rattle.scheduler.proofs.Versions as Versions
 use Rattle.scheduler.proofs.EventBits as EventBits
 use Rattle.scheduler.proofs.LineLosses as LineLosses
@@ -198,6 +200,11 @@ event-table c s =
 -- does, in every state.
 pub conditions : (c : Config) (s : State) → Conditions.Conditions c s
 conditions = Statuses.conditions
+
+-- What an accepted event leaves, event by event: "t ready", "r last in the runner's order", and so on, in the words of
+-- the state (specs/Outcomes.antt), and that nobody else changes
+pub outcomes : (c : Config) (s : State) → Outcomes.Outcomes c s
+outcomes = Left.outcomes
 
 -- the status that an event gives
 abbrev pub statusSeen : Config → State → Event → ℕ

@@ -1,7 +1,8 @@
 -- The plain scheduler of OSEK OS classes BCC1 and ECC1, and of OSEKtime above them, as documents 01 and 02 restate
 -- them, in reading order: the statuses, event bits, one body, who runs by priority, the state and who runs in it, the
 -- events, the tick, the table of events with its order of checks, the whole from the fresh start on, what the events
--- alone say of a table and of its entries, and last when each status is given, in the words of the state.
+-- alone say of a table and of its entries, and last when each status is given and what an accepted event leaves, in the
+-- words of the state.
 -- It has no rank, request word, stack, level kept between events, or cell.
 --
 -- Letters: c a configuration, s a state, e and es events, b and bs bodies, i the number of a body, t that of a task or
@@ -20,3 +21,4 @@ pub mod Scheduler
 pub mod Entries
 pub mod History
 pub mod Conditions
+pub mod Outcomes
