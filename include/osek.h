@@ -230,7 +230,8 @@ enum {
  * Result: refusal * 2^32, for OSEK_OUTPUT_TOO_SHORT with the bytes needed added, or, with refusal 0, the configuration's
  * length. A refused call leaves config untouched; an accepted one leaves the bytes behind what it wrote.
  *
- * A text with at most 48 objects takes time in proportion to its length.
+ * A text with at most 48 objects takes time in proportion to its length. One with more, which is refused whatever it says,
+ * takes time in proportion to its length times the number of its names: minutes for a megabyte of them.
  */
 uint64_t osek_oil(const uint8_t *text, size_t text_len,
                   uint8_t *config, size_t config_len,
