@@ -66,7 +66,7 @@ module _ (q : Tie) (j k : Candidate) where
   pub weight-before : weight q k < weight q j → goesBefore q j k ≡ true
   weight-before h = goesBefore-weight ∙ lt-ltb (weight q k) (weight q j) h
 
-  weight-after : weight q j ≤ weight q k → goesBefore q j k ≡ false
+  pub weight-after : weight q j ≤ weight q k → goesBefore q j k ≡ false
   weight-after h = goesBefore-weight ∙ le-ltb (weight q k) (weight q j) h
 
 preferred-left : (q : Tie) (j k : Candidate) → weight q j ≤ weight q (preferred q j k)
@@ -284,7 +284,7 @@ module _ (c : Config) (i : ℕ) where
   candidate-active b (triggered x) h = absurd (true≢false (sym h))
 
   -- and one that is neither
-  candidate-none : (b : Body) (p : Phase) → competes p ≡ false → candidate c i b p ≡ nobody
+  pub candidate-none : (b : Body) (p : Phase) → competes p ≡ false → candidate c i b p ≡ nobody
   unfolding candidate
   candidate-none b suspended h = refl
   candidate-none b ready h = absurd (true≢false h)
