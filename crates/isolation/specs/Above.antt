@@ -21,8 +21,9 @@ use Rattle.scheduler.specs.Scheduler.{Seen}
 abbrev pub above : Config → ℕ → ℕ → Bool
 above c L i = isTimed c i || ltb L (priorityOf c i)
 
--- "no Activate, Chain or Line names a body of priority at most L", whether the event is refused or not. A Set is held
--- back likewise, but only where it names an extended task: it gives 1 (not extended) of every other, and tells nothing.
+-- "no Activate, Chain or Line names a body of priority at most L", whether the event is refused or not. A Set
+-- is held back likewise, but only where it names an extended task: it gives 1 (not extended) of every other,
+-- and tells nothing.
 abbrev pub NamesAbove : Config → ℕ → Event → Type 0
 NamesAbove c L (Activate t) = t < c .bodies → above c L t ≡ true
 NamesAbove c L Finish = Unit {0}

@@ -1,5 +1,5 @@
--- The requests of a body, its begins and its ends, counted from the events' names and from what is seen of the events.
--- Nothing here looks into a state.
+-- The requests of a body, its begins and its ends, counted from the events' names and from what is seen of the
+-- events. Nothing here looks into a state.
 --
 --   asksFor b e             the event e is an Activate, a Chain or a Line that names the body b
 --   requestsAt c b o e x    how many accepted requests of b the event e is, of which x is seen and before which o
@@ -9,8 +9,8 @@
 --   marks b xs              how many begun marks of b are in what is seen
 --   autostarted c b, freshMark c b   the same of the fresh start: a request, a begin
 --
--- A loss count does not tell whether a due entry found its task suspended, since it stays at 65,535. What tells is that
--- of all accepted requests of the task each has ended: `suspended-when-ended` (proofs/Theorems.antt).
+-- A loss count does not tell whether a due entry found its task suspended, since it stays at 65,535. What tells
+-- is that of all accepted requests of the task each has ended: `suspended-when-ended` (proofs/Theorems.antt).
 --
 -- Main law: `conservation` (proofs/Theorems.antt).
 use Prim.Native.Nat.{ℕ, _+_, _-_}
@@ -63,8 +63,8 @@ accepted x = eqb (x .status) done
 abbrev pub someDue : Config → ℕ → Seen → Bool
 someDue c b x = ltb 0 (naming b (x .due) (c .task))
 
--- "Activate, Chain, Line with status 0, due entries that find a suspended task": of the due entries that name b the
--- first, where none of its requests is left
+-- "Activate, Chain, Line with status 0, due entries that find a suspended task": of the due entries that name b
+-- the first, where none of its requests is left
 abbrev pub requestsAt : Config → ℕ → ℕ → Event → Seen → ℕ
 requestsAt c b o e x = markOf (asksFor b e && accepted x) + markOf (eqb o 0 && someDue c b x)
 

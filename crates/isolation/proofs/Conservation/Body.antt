@@ -40,14 +40,14 @@ pub record Moved (c : Config) (i : ℕ) (x y : Body) (r d : ℕ) : Type 0 where
 abbrev pub Moves : Config → ℕ → Body → Body → ℕ → ℕ → Type 0
 Moves c i x y r d = Second c i x → Moved c i x y r d
 
+abbrev in-phase : Phase → Bool → Body → Body
+in-phase p x b = record { phase = p; pending = x; held = b .held; losses = b .losses; bits = b .bits }
+
 -- what is left of a body's requests is nothing exactly where it is suspended
 pub left-none : (b : Body) → eqb (waitMark b + begunMark b) 0 ≡ isSuspended (b .phase)
 left-none b = go (b .phase) (b .pending)
   where
-    go : (p : Phase) (x : Bool)
-        → eqb (markOf (requestWaits (record { phase = p; pending = x; held = b .held; losses = b .losses; bits = b .bits }) p)
-        + markOf (hasBegun p)) 0
-        ≡ isSuspended p
+    go : (p : Phase) (x : Bool) → eqb (waitMark (in-phase p x b) + markOf (hasBegun p)) 0 ≡ isSuspended p
     go suspended x = refl
     go ready x = refl
     go started true = refl
@@ -66,7 +66,11 @@ module _ (c : Config) (i : ℕ) where
   then x y z r p q d e f rs ds m n h =
       let a = m h in
       let b = n (a .second) in
-      record { second = b .second; waits = omega (arith, a .waits, b .waits); begun = omega (arith, a .begun, b .begun) }
+      record {
+        second = b .second;
+        waits = omega (arith, a .waits, b .waits);
+        begun = omega (arith, a .begun, b .begun);
+      }
 
   -- not in its body: no second request
   alone : (x : Body) → inBody (x .phase) ≡ false → Second c i x → x .pending ≡ false

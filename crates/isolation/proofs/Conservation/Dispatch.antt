@@ -1,4 +1,5 @@
--- The dispatch makes the body that it chooses begin, by a request that waits, and no other: `dispatched-begins`.
+-- The dispatch makes the body that it chooses begin, by a request that waits, and no other:
+-- `dispatched-begins`.
 use Prim.Native.Nat.{ℕ, _<_}
 use mathlib.Core.Path.{_≡_, refl, sym, ap, _∙_}
 use mathlib.Core.Bool.{Bool, true, false, true≢false, cond, _&&_}

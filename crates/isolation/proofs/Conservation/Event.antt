@@ -161,7 +161,9 @@ caller-begun c s underway some = by-order (s .order) refl
 -- an ISR is not time-triggered
 isr-untimed : (c : Config) (i : ℕ) → isIsr c i ≡ true → isTimed c i ≡ true → ⊥
 isr-untimed c i p q =
-    let a = eqb-true (getD (c .kind) i 0) isr (Cases.and-true (ltb i (c .bodies)) (eqb (getD (c .kind) i 0) isr) p .1) in
+    let a =
+    eqb-true (getD (c .kind) i 0) isr
+    (Cases.and-true (ltb i (c .bodies)) (eqb (getD (c .kind) i 0) isr) p .1) in
     let b =
     eqb-true (getD (c .kind) i 0) timeTriggered
     (Cases.and-true (ltb i (c .bodies)) (eqb (getD (c .kind) i 0) timeTriggered) q .1) in
@@ -259,9 +261,9 @@ module _ (c : Config) (s : State) (a : Between c s) (b : ℕ) (fits : b < length
       refl
       (due-moves c b (dues c (counted s)) (c .task) (counted s) fits)))
       (λ n. by-eq (statusOf c s e) done
-      (λ z. rw (n, eq-eqb (statusOf c s e) done z, naming-none b (length (dues c s)) (c .task), and-false, and-true, and-true)
+      (λ z. simp (n, eq-eqb (statusOf c s e) done z, naming-none b (length (dues c s)) (c .task), and-false, and-true)
       (recount (effectOf c s e) (markOf (asksFor b e)) (markOf (asksFor b e) + 0)
       (markOf (endsRunner e && eqb (caller c s) b)) (markOf (endsRunner e && eqb (caller c s) b)) (omega arith) refl
       (effect-moves e z n)))
-      (λ z. rw (n, ne-eqb (statusOf c s e) done z, naming-none b (length (dues c s)) (c .task), and-false, and-false, and-false)
+      (λ z. simp (n, ne-eqb (statusOf c s e) done z, naming-none b (length (dues c s)) (c .task), and-false)
       (refused-moves (statusOf c s e) e)))

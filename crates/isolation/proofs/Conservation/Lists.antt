@@ -99,7 +99,8 @@ module _ (c : Config) (ok : Configuration.Accepted c) (shaped : Configuration.Sh
       unfolding stepBy
       counted-step =
           let there : b < length (s .bodies) = rw (a .orderly .bodies-there) fits in
-          let m = leaves-moves c s a b there o (ap (λ (n : ℕ). eqb n 0) left ∙ left-none (bodyOf s b)) e (a .second b) in
+          let none = ap (λ (n : ℕ). eqb n 0) left ∙ left-none (bodyOf s b) in
+          let m = leaves-moves c s a b there o none e (a .second b) in
           let n = stepped b in
           let mark = marked (begins (runner c (leaves c s e))) (eqb (runner c (leaves c s e) .number) b) in
           record {

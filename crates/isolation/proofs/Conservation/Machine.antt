@@ -37,7 +37,8 @@ module _ (c : Config) (ok : Configuration.Accepted c) (shaped : Configuration.Sh
     stop-core : machineStep c (planOf c) m (Stop 0) .model .core ≡ m .core
     unfolding effectOf refusalOf
     stop-core =
-        cond-either (λ (o : Outcome). o .model .core ≡ m .core) (eqb (Machine.statusOf c (planOf c) m (Stop 0)) done) _ _
+        cond-either (λ (o : Outcome). o .model .core ≡ m .core)
+        (eqb (Machine.statusOf c (planOf c) m (Stop 0)) done) _ _
         refl
         refl
 

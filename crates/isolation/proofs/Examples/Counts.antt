@@ -1,7 +1,8 @@
 -- The requests, begins and ends of a run, counted for each of its four bodies.
 --
--- Task 0 is made ready by its entry at the first Tick and at the fifth; the entry due at the third finds it started. Two
--- of three Lines of ISR 2 are accepted, the second while it is started. Task 1 is autostart, and chained once.
+-- Task 0 is made ready by its entry at the first Tick and at the fifth; the entry due at the third finds it
+-- started. Two of three Lines of ISR 2 are accepted, the second while it is started. Task 1 is autostart, and
+-- chained once.
 use Prim.Native.Nat.{ℕ, _+_}
 use mathlib.Core.Path.{_≡_, refl}
 use mathlib.Core.List.{List, [], _∷_, map}
@@ -18,8 +19,8 @@ use Rattle.isolation.proofs.Examples.Sample.{sample}
 
 abbrev pub events : List Event
 events =
-    Start 0 1 ∷ Tick ∷ Activate 0 ∷ Line 2 ∷ Line 2 ∷ Line 2 ∷ Finish ∷ Finish ∷ Chain 0 ∷ Finish ∷ Tick ∷ Tick ∷ Chain 1
-    ∷ Tick ∷ Tick ∷ []
+    Start 0 1 ∷ Tick ∷ Activate 0 ∷ Line 2 ∷ Line 2 ∷ Line 2 ∷ Finish ∷ Finish ∷ Chain 0 ∷ Finish ∷ Tick ∷ Tick
+    ∷ Chain 1 ∷ Tick ∷ Tick ∷ []
 
 abbrev shown : List Seen
 shown = seen sample (fresh sample) events

@@ -1,5 +1,5 @@
--- Why isolation's limits are there: for each an event that answers by what waits below L, in two models that are the same
--- above it. All but that one limit are kept.
+-- Why isolation's limits are there: for each an event that answers by what waits below L, in two models that
+-- are the same above it. All but that one limit are kept.
 use Prim.Native.Nat.{ℕ}
 use mathlib.Core.Path.{_≡_, refl}
 use mathlib.Core.List.{List, [], _∷_, map}
@@ -65,8 +65,8 @@ pub record Limits : Type 0 where
   -- "no Activate .. names a body of priority at most L": here one of priority L, 2, which waits or not
   pub activate-same : reached sample (Activate 0 ∷ []) ≡ waitingWith (reached sample []) 1 (replicate 32 0)
   pub activate-tells : spoken sample 2 [] (Activate 0 ∷ []) (Activate 0 ∷ []) ≡ (row 0 1 5 0 ∷ [], row 4 1 5 0 ∷ [])
-  -- "Up to, and not including, the first event after which either level is below L": a Finish leaves one idle, and in the
-  -- other an ISR of priority L, 3, begins
+  -- "Up to, and not including, the first event after which either level is below L": a Finish leaves one idle,
+  -- and in the other an ISR of priority L, 3, begins
   pub fall-same : reached sample (Line 3 ∷ []) ≡ waitingWith (reached sample []) 2 (replicate 32 0)
   pub fall-tells : (rows sample [] (Finish ∷ []) ≡ row 0 255 0 0 ∷ [])
       × (rows sample (Line 3 ∷ []) (Finish ∷ []) ≡ row 0 3 3 1 ∷ [])
@@ -74,8 +74,9 @@ pub record Limits : Type 0 where
 
 pub limits : Limits
 unfolding planOf stored marked below tableIn greatestIn entriesBefore has with without union highestBelow winner
-    tickCellIn emptyRow topRow secondRow pushRow popRow firstGiven anySet withBits withoutBits arbitrated countersTicked
-    switchesTicked marks some spread requestsDue tick statusOf effectOf refusalOf machineSeen machineAfter answersAbove
+    tickCellIn emptyRow topRow secondRow pushRow popRow firstGiven anySet withBits withoutBits arbitrated
+    countersTicked switchesTicked marks some spread requestsDue tick statusOf effectOf refusalOf machineSeen
+    machineAfter answersAbove
 limits =
     record {
       set-same = refl;

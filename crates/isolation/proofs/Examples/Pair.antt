@@ -1,12 +1,12 @@
 -- Two models on which isolation speaks of twelve events: `pair-agrees`.
 --
--- Task 1 runs at level 5. In `busy` task 0 and ISR 3 wait to begin, in `quiet` neither does; both are below 4. ISR 2
--- begins twice, the entry of task 0 is due twice, and after the thirteenth event both levels are below 4.
+-- Task 1 runs at level 5. In `busy` task 0 and ISR 3 wait to begin, in `quiet` neither does; both are below 4.
+-- ISR 2 begins twice, the entry of task 0 is due twice, and after the thirteenth event both levels are below 4.
 use Prim.Native.Nat.{ℕ}
 use mathlib.Core.Path.{_≡_, refl, sym, ap, subst, _∙_}
 use mathlib.Core.List.{List, [], _∷_, map}
 use native.Mathlib.Omega.{arith}
-use lib.ListN.{take}
+use lib.ListN.{getD, take}
 use Rattle.word.specs.Word.{has, with, without, union, highestBelow, winner}
 use Rattle.word.proofs.Theorems.{has-with-other}
 use Rattle.cell.specs.Cell.{tickCellIn}
@@ -45,7 +45,8 @@ busy = reachedBy (Start 0 1 ∷ Activate 0 ∷ Line 3 ∷ [])
 
 abbrev pub further : List Event
 further =
-    Tick ∷ Line 2 ∷ Tick ∷ Finish ∷ Get 0 ∷ Line 2 ∷ Tick ∷ Release 0 ∷ Finish ∷ Chain 1 ∷ Activate 1 ∷ Stop 0 ∷ Finish ∷ []
+    Tick ∷ Line 2 ∷ Tick ∷ Finish ∷ Get 0 ∷ Line 2 ∷ Tick ∷ Release 0 ∷ Finish ∷ Chain 1 ∷ Activate 1 ∷ Stop 0
+    ∷ Finish ∷ []
 
 -- what is computed of them
 pub record Computed : Type 0 where
@@ -60,17 +61,15 @@ pub record Computed : Type 0 where
   pub last : map answer (shown busy further)
       ≡ row 0 1 5 0 ∷ row 0 2 9 1 ∷ row 0 2 9 0 ∷ row 0 1 5 0 ∷ row 0 1 9 0 ∷ row 0 1 9 0 ∷ row 0 1 9 0 ∷ row 0 2 9 1
       ∷ row 0 1 5 0 ∷ row 0 1 5 1 ∷ row 4 1 5 0 ∷ row 0 1 5 0 ∷ row 0 3 3 1 ∷ []
-  -- task 0 is due at the first Tick: a request in the one, a loss in the other, and a loss in both at the seventh event
-  pub due-below : (map (λ x. x .losses) (shown quiet (take 7 further))
-      ≡ (0 ∷ 0 ∷ 0 ∷ 0 ∷ []) ∷ (0 ∷ 0 ∷ 0 ∷ 0 ∷ []) ∷ (0 ∷ 0 ∷ 0 ∷ 0 ∷ []) ∷ (0 ∷ 0 ∷ 0 ∷ 0 ∷ []) ∷ (0 ∷ 0 ∷ 0 ∷ 0 ∷ [])
-      ∷ (0 ∷ 0 ∷ 0 ∷ 0 ∷ []) ∷ (1 ∷ 0 ∷ 0 ∷ 0 ∷ []) ∷ [])
-      × (map (λ x. x .losses) (shown busy (take 7 further))
-      ≡ (1 ∷ 0 ∷ 0 ∷ 0 ∷ []) ∷ (1 ∷ 0 ∷ 0 ∷ 0 ∷ []) ∷ (1 ∷ 0 ∷ 0 ∷ 0 ∷ []) ∷ (1 ∷ 0 ∷ 0 ∷ 0 ∷ []) ∷ (1 ∷ 0 ∷ 0 ∷ 0 ∷ [])
-      ∷ (1 ∷ 0 ∷ 0 ∷ 0 ∷ []) ∷ (2 ∷ 0 ∷ 0 ∷ 0 ∷ []) ∷ [])
+  -- task 0 is due at the first Tick: a request in the one, a loss in the other, and a loss in both at the
+  -- seventh event
+  pub due-below : (map (λ x. getD (x .losses) 0 0) (shown quiet (take 7 further)) ≡ 0 ∷ 0 ∷ 0 ∷ 0 ∷ 0 ∷ 0 ∷ 1 ∷ [])
+      × (map (λ x. getD (x .losses) 0 0) (shown busy (take 7 further)) ≡ 1 ∷ 1 ∷ 1 ∷ 1 ∷ 1 ∷ 1 ∷ 2 ∷ [])
 
 pub computed : Computed
-unfolding has with without union highestBelow winner tickCellIn emptyRow topRow secondRow pushRow popRow firstGiven arbitrated countersTicked switchesTicked marks
-    some spread requestsDue tick statusOf effectOf refusalOf machineSeen machineAfter answersAbove
+unfolding has with without union highestBelow winner tickCellIn emptyRow topRow secondRow pushRow popRow firstGiven
+    arbitrated countersTicked switchesTicked marks some spread requestsDue tick statusOf effectOf refusalOf
+    machineSeen machineAfter answersAbove
 computed =
     record {
       level = refl;
@@ -104,7 +103,8 @@ pair-same =
     })
 
 names-above : AllNameAbove sample 4 further
-names-above = (tt, (λ _. refl, (tt, (tt, (tt, (λ _. refl, (tt, (tt, (tt, (λ _. refl, (λ _. refl, (tt, (tt, tt)))))))))))))
+names-above =
+    (tt, (λ _. refl, (tt, (tt, (tt, (λ _. refl, (tt, (tt, (tt, (λ _. refl, (λ _. refl, (tt, (tt, tt)))))))))))))
 
 -- so the theorem says that the twelve answers are those of both
 pub pair-agrees : answersAbove 4 (shown quiet further) (shown busy further)
@@ -114,4 +114,5 @@ pair-agrees =
     (λ (p : Plan). answersAbove 4 (machineSeen sample p quiet further) (machineSeen sample p busy further)
     ≡ answersAbove 4 (machineSeen sample p busy further) (machineSeen sample p quiet further))
     plan-is
-    (isolation-models sample sample-accepted sample-shaped 4 further pair-same (omega (arith, computed .level)) names-above)
+    (isolation-models sample sample-accepted sample-shaped 4 further pair-same (omega (arith, computed .level))
+    names-above)

@@ -21,8 +21,8 @@ use Rattle.plan.specs.Plan.{planOf}
 use Rattle.plan.specs.Entry.{tableIn}
 use Rattle.word.specs.Word.{has, with}
 
--- Tasks 0 and 1 of priority 2 and 5, of which 1 is autostart; ISRs 2 and 3 of priority 9 and 3. One resource with the
--- users 1 and 2, so with the ceiling 9. One table of period 2 with task 0 at offset 0.
+-- Tasks 0 and 1 of priority 2 and 5, of which 1 is autostart; ISRs 2 and 3 of priority 9 and 3. One resource
+-- with the users 1 and 2, so with the ceiling 9. One table of period 2 with task 0 at offset 0.
 abbrev pub bytes : List ℕ
 bytes = 1 ∷ 4 ∷ 0 ∷ 2 ∷ 0 ∷ 0 ∷ 5 ∷ 1 ∷ 1 ∷ 9 ∷ 0 ∷ 1 ∷ 3 ∷ 0 ∷ 1 ∷ 6 ∷ 1 ∷ 2 ∷ 1 ∷ 0 ∷ 0 ∷ []
 

@@ -1,5 +1,5 @@
--- The dispatch in two models that are the same above L, where both levels are at least L after it: `settled-same`, and
--- after a Tick `triggering-same`.
+-- The dispatch in two models that are the same above L, where both levels are at least L after it:
+-- `settled-same`, and after a Tick `triggering-same`.
 use Prim.Native.Nat.{ℕ, _≤_, _<_}
 use mathlib.Core.Path.{_≡_, refl, sym, ap, subst, _∙_}
 use mathlib.Core.Logic.{_⊎_, ⊎-elim}
@@ -186,7 +186,8 @@ module _ (c : Config) (ok : Configuration.Accepted c) (shaped : Configuration.Sh
     untriggered : (m : Model) (r : ℕ) → levelOf r ≤ m .core .level → triggeringAt m r ≡ settled levels m
     untriggered m r h = rw (le-ltb (m .core .level) (levelOf r) h)
 
-    pub triggering-same : L ≤ m .core .level → Follows c L (triggering levels m) (triggering levels (waitingWith m w ls))
+    pub triggering-same : L ≤ m .core .level
+        → Follows c L (triggering levels m) (triggering levels (waitingWith m w ls))
     triggering-same more =
         ⊎-elim
         (λ e. subst (λ (r : ℕ). Follows c L (triggering levels m) (triggeringAt (waitingWith m w ls) r)) e

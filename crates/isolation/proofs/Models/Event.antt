@@ -102,7 +102,8 @@ module _ (c : Config) (ok : Configuration.Accepted c) (shaped : Configuration.Sh
     requested-same r x v waits left =
         settled-same c ok shaped L (requesting r x) (with v r) ls (with-same c L (x .core .request) v r waits) left
 
-    due-same : SameTally c L (dueOf (planOf c .compare) (planOf c .entry) m) (dueOf (planOf c .compare) (planOf c .entry) other)
+    due-same : SameTally c L (dueOf (planOf c .compare) (planOf c .entry) m)
+        (dueOf (planOf c .compare) (planOf c .entry) other)
     due-same =
         requestsDue-same c L ok shaped (begunWord m) (marksOf maxEntries (planOf c .compare) m) (planOf c .entry)
         (record { requests = same; losses = lost })
@@ -138,13 +139,15 @@ module _ (c : Config) (ok : Configuration.Accepted c) (shaped : Configuration.Sh
         by-test (anySet (bitsAt m (m .core .runner)) v)
         (λ h. rw h (λ _ _. quiet (record { rest = refl; requests = same; losses = lost })))
         (λ h. rw h (settled-same c ok shaped L (pausing v m) w ls same lost))
-    effect-same (Set t v) high = settled-same c ok shaped L (receiving (getD (planOf c .rank) t noRank) v m) w ls same lost
+    effect-same (Set t v) high =
+        settled-same c ok shaped L (receiving (getD (planOf c .rank) t noRank) v m) w ls same lost
     effect-same (Clear v) high = λ _ _. quiet (record { rest = refl; requests = same; losses = lost })
 
     kept : SameModel c L m other
     kept = record { rest = refl; requests = same; losses = lost }
 
-    refusal-same : (st : ℕ) (e : Event) → SameModel c L (refusalOf c (planOf c) m st e) (refusalOf c (planOf c) other st e)
+    refusal-same : (st : ℕ) (e : Event)
+        → SameModel c L (refusalOf c (planOf c) m st e) (refusalOf c (planOf c) other st e)
     unfolding refusalOf
     refusal-same st (Activate t) = kept
     refusal-same st Finish = kept
@@ -155,7 +158,11 @@ module _ (c : Config) (ok : Configuration.Accepted c) (shaped : Configuration.Sh
     refusal-same st (Line i) =
         by-test (countsLines c && eqb st limitReached)
         (λ h. rw h
-        (record { rest = refl; requests = same; losses = lost-same c L (m .losses) ls (getD (planOf c .line) i noRank) lost }))
+        (record {
+          rest = refl;
+          requests = same;
+          losses = lost-same c L (m .losses) ls (getD (planOf c .line) i noRank) lost;
+        }))
         (λ h. rw h kept)
     refusal-same st (Start t d) = kept
     refusal-same st (Stop t) = kept

@@ -1,10 +1,13 @@
--- Isolation of the machine's models over lists of events: `isolation-models`, and `same-after`, what is the same after it.
+-- Isolation of the machine's models over lists of events: `isolation-models`, and `same-after`, what is the
+-- same after it.
 use Prim.Native.Nat.{ℕ, _≤_}
 use mathlib.Core.Path.{_≡_, refl, sym, ap, ap₂, subst, _∙_}
 use mathlib.Core.Bool.{Bool}
 use mathlib.Core.List.{List, [], _∷_}
+use native.Mathlib.Omega.{arith}
 use borrow.Author.Tests.{leb-true}
 use lib.Dec.{leb}
+use lib.ListN.{length}
 use Rattle.number.proofs.Cases.{by-test}
 use Rattle.config.specs.declared.Config.{Config}
 use Rattle.config.specs.Accepted as Configuration
@@ -12,7 +15,7 @@ use Rattle.plan.specs.Plan.{planOf}
 use Rattle.scheduler.specs.Event.{Event}
 use Rattle.scheduler.specs.Scheduler.{Seen, markOf}
 use Rattle.machine.specs.Model.{Model, Outcome}
-use Rattle.machine.specs.Machine.{machineStep, runnerOf, observed, machineSeen}
+use Rattle.machine.specs.Machine.{machineStep, runnerOf, observed, machineSeen, machineAfter}
 use Rattle.isolation.specs.Above.{NamesAbove, AllNameAbove, Answer, answer, answersAbove}
 use Rattle.isolation.specs.Models.{SameModel}
 use Rattle.isolation.proofs.Models.Dispatch.{SameOutcome, Follows}
@@ -65,3 +68,19 @@ module _ (c : Config) (ok : Configuration.Accepted c) (shaped : Configuration.Sh
       (isolation-models es (now .model) up (u .1))))
       (λ h′. rw (h, h′)))
       (λ h. by-test (leb L (shown m′ e .level)) (λ h′. rw (h, h′)) (λ h′. rw (h, h′)))
+
+  -- where no level falls below L, the models stay the same above it
+  pub same-after : (es : List Event) {m m′ : Model} → SameModel c L m m′ → L ≤ m .core .level → AllNameAbove c L es
+      → length (answersAbove L (machineSeen c (planOf c) m es) (machineSeen c (planOf c) m′ es)) ≡ length es
+      → SameModel c L (machineAfter c (planOf c) m es) (machineAfter c (planOf c) m′ es)
+  unfolding machineSeen machineAfter answersAbove
+  same-after [] same high u all = same
+  same-after (e ∷ es) {m} {m′} same high u all =
+      by-test (leb L (shown m e .level))
+      (λ h. by-test (leb L (shown m′ e .level))
+      (λ h′.
+      let up = leb-true L (next m e .model .core .level) h in
+      let now = step-same same e (u .0) high up (leb-true L (next m′ e .model .core .level) h′) in
+      same-after es (now .model) up (u .1) (omega (arith, rw (h, h′) at all)))
+      (λ h′. absurd (omega (arith, rw (h, h′) at all))))
+      (λ h. absurd (omega (arith, rw h at all)))

@@ -1,7 +1,7 @@
 -- The matches of a Tick in two models that are the same above L: `requestsDue-same`.
 --
--- A match of an entry whose task is low changes the request and the losses at a low rank alone, the one in the one model
--- and the other in the other as may be; every other match changes both models alike.
+-- A match of an entry whose task is low changes the request and the losses at a low rank alone, the one in the
+-- one model and the other in the other as may be; every other match changes both models alike.
 use Prim.Native.Nat.{ℕ, _≤_}
 use mathlib.Core.Path.{_≡_, sym, ap, _∙_}
 use mathlib.Core.Logic.{⊎-elim}
@@ -77,11 +77,15 @@ module _ (c : Config) (L : ℕ) where
 
   module _ (ok : Configuration.Accepted c) (shaped : Configuration.Shaped c) (begun : ℕ) where
     -- whatever the two tests say
-    low-match : (r : ℕ) → LowRank c L r → {x x′ : Tally} → SameTally x x′ → SameTally (matchAt begun r x) (matchAt begun r x′)
+    low-match : (r : ℕ) → LowRank c L r → {x x′ : Tally} → SameTally x x′
+        → SameTally (matchAt begun r x) (matchAt begun r x′)
     low-match r low {x} {x′} same =
         by-test (has (x .request) r || has begun r)
         (λ h. rw h (by-test (has (x′ .request) r || has begun r)
-        (λ h′. rw h′ (record { requests = same .requests; losses = lost-same (x .losses) (x′ .losses) r (same .losses) }))
+        (λ h′. rw h′ (record {
+          requests = same .requests;
+          losses = lost-same (x .losses) (x′ .losses) r (same .losses);
+        }))
         (λ h′. rw h′ (record {
           requests = with-low (x .request) (x′ .request) r low (same .requests) .1;
           losses = lost-low (x .losses) (x′ .losses) r low (same .losses) .0;
@@ -101,7 +105,10 @@ module _ (c : Config) (L : ℕ) where
     high-match r high {x} {x′} same =
         rw (same .requests r high)
         (by-test (has (x′ .request) r || has begun r)
-        (λ h. rw h (record { requests = same .requests; losses = lost-same (x .losses) (x′ .losses) r (same .losses) }))
+        (λ h. rw h (record {
+          requests = same .requests;
+          losses = lost-same (x .losses) (x′ .losses) r (same .losses);
+        }))
         (λ h. rw h (record {
           requests = with-same (x .request) (x′ .request) r (same .requests);
           losses = same .losses;

@@ -1,7 +1,7 @@
 -- Who wins in two words that are the same but at low ranks: `winners`.
 --
--- The winner is the same, or neither winner is above L. Where neither is and both are L, it is the same again, since no
--- two bodies have one priority.
+-- The winner is the same, or neither winner is above L. Where neither is and both are L, it is the same again,
+-- since no two bodies have one priority.
 use Prim.Native.Nat.{ℕ, zero, suc, _≤_, _<_}
 use mathlib.Core.Path.{_≡_, sym, ap, _∙_}
 use mathlib.Core.Logic.{_⊎_, inl, inr, ⊎-elim}
@@ -122,5 +122,6 @@ module _ (c : Config) (ok : Configuration.Accepted c) (shaped : Configuration.Sh
       (λ a. by-test (above c L (y .body))
       (λ b. absurd (omega (arith, timed-at y e′ b, low-at x e a .1)))
       (λ b. sym (x .rank)
-      ∙ ap (rankOf c) (fit .own-inj (x .body) (y .body) (x .exists) (y .exists) (low-at x e a .0 ∙ sym (low-at y e′ b .0)))
+      ∙ ap (rankOf c)
+      (fit .own-inj (x .body) (y .body) (x .exists) (y .exists) (low-at x e a .0 ∙ sym (low-at y e′ b .0)))
       ∙ y .rank))

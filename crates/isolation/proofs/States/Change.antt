@@ -1,7 +1,8 @@
 -- What is the same above L in two states stays so, where the same body runs and an event names nobody else:
 -- `status-same`, `leaves-same`, and by the dispatch `dispatched-same`.
 --
--- In order: a change of one body in both; what a change makes of a body's core; the entries; each event; the dispatch.
+-- In order: a change of one body in both; what a change makes of a body's core; the entries; each event; the
+-- dispatch.
 use Prim.Native.Nat.{ℕ, zero, suc, _<_, _≤_}
 use mathlib.Core.Path.{_≡_, refl, sym, ap, ap₂, _∙_}
 use mathlib.Core.Bool.{Bool, true, false, true≢false, cond, not, _&&_, _||_}
@@ -134,7 +135,8 @@ module _ (c : Config) (L : ℕ) where
     settles i f p g = changed i f (g (bodyOf s i) ∙ ap (coreWith p) (held-same i) ∙ sym (g (bodyOf s′ i)))
 
     -- a change that leaves the core
-    keeps : (i : ℕ) (f : Body → Body) → ((b : Body) → core (f b) ≡ core b) → SameState c L (changing i f s) (changing i f s′)
+    keeps : (i : ℕ) (f : Body → Body) → ((b : Body) → core (f b) ≡ core b)
+        → SameState c L (changing i f s) (changing i f s′)
     keeps i f g = changed i f (g (bodyOf s i) ∙ same .low i ∙ sym (g (bodyOf s′ i)))
 
     with-table : (t : ℕ) (x : Table) → SameState c L (withTable t x s) (withTable t x s′)
@@ -281,7 +283,8 @@ module _ (c : Config) (L : ℕ) where
         follows-begun same (k .number) (waits w) (waits-core w) (begun (first (noCaller k) _ z))
     effect-same (Set t w) u z =
         changed same t (receives w)
-        (ap (λ (b : Body). core (receives w b)) (same .high t (u (third (noCaller k) (not (isTask c t)) (isExtended c t) _ z))))
+        (ap (λ (b : Body). core (receives w b))
+        (same .high t (u (third (noCaller k) (not (isTask c t)) (isExtended c t) _ z))))
     effect-same (Clear w) u z =
         follows-begun same (k .number) (clears w) (clears-core w) (begun (first (noCaller k) _ z))
 
@@ -328,8 +331,10 @@ module _ (c : Config) (L : ℕ) where
       (λ h. rw h same)
     where
       go : Begins s s′ k
-          → SameState c L (changing (k .number) (become (phaseBegun k)) s) (changing (k .number) (become (phaseBegun k)) s′)
-      go (alike e) = changed same (k .number) (become (phaseBegun k)) (ap (λ (b : Body). core (become (phaseBegun k) b)) e)
+          → SameState c L (changing (k .number) (become (phaseBegun k)) s)
+          (changing (k .number) (become (phaseBegun k)) s′)
+      go (alike e) =
+          changed same (k .number) (become (phaseBegun k)) (ap (λ (b : Body). core (become (phaseBegun k) b)) e)
       go (active a a′) =
           follows same (k .number) (become (phaseBegun k)) (become (begunPhase (phaseBegun k)))
           (λ b. begins-core (phaseBegun k) b (phase-active (k .timed))) a a′

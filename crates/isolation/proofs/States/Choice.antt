@@ -1,7 +1,8 @@
--- Who runs is the same in two states that are the same above L, where both levels are at least L: `runner-same`.
+-- Who runs is the same in two states that are the same above L, where both levels are at least L:
+-- `runner-same`.
 --
--- In order: two candidates that are equal or both too light to count; so are the choices among them; a body that is not
--- above L and has not begun is too light; who runs.
+-- In order: two candidates that are equal or both too light to count; so are the choices among them; a body
+-- that is not above L and has not begun is too light; who runs.
 use Prim.Native.Nat.{ℕ, zero, suc, _+_, _*_, _≤_, _<_, max}
 use mathlib.Core.Path.{_≡_, refl, sym, ap, ap₂, _∙_}
 use mathlib.Core.Bool.{Bool, true, false, true≢false}
@@ -172,7 +173,8 @@ module _ (c : Config) (L : ℕ) {s s′ : State} (same : SameState c L s s′) w
         where
           go : Near L (chosen c (s .bodies)) (chosen c (s′ .bodies)) → chosen c (s .bodies) ≡ chosen c (s′ .bodies)
           go (equal e) = e
-          go (light p p′) = settle (chosen-from byHolding refl c (s .bodies)) (chosen-from byHolding refl c (s′ .bodies))
+          go (light p p′) =
+              settle (chosen-from byHolding refl c (s .bodies)) (chosen-from byHolding refl c (s′ .bodies))
             where
               settle : Taken c (s .bodies) (chosen c (s .bodies)) → Taken c (s′ .bodies) (chosen c (s′ .bodies))
                   → chosen c (s .bodies) ≡ chosen c (s′ .bodies)
