@@ -1,12 +1,11 @@
 -- Who is above a level, which events name nobody else, and which answers a level speaks of.
 --
---   above c L i         the body i is above L
---   NamesAbove c L e    every body that the event e may ask for is above L; AllNameAbove c L es: so of all of es
---   answer x            the four answers of an event, of which x is seen
---   answersAbove L xs ys   the answers of xs up to, and not including, the first event after which the level of either,
---                       xs or ys, is below L
---
--- L is document 02's: "bodies of priority at most L".
+--   above c L i            the body i is above L, and not one of document 02's "bodies of priority at most L"
+--   NamesAbove c L e       the body that the event e asks for, if there is one, is above L; AllNameAbove c L es: so of
+--                          all of es
+--   answer x               the four answers of an event, of which x is seen
+--   answersAbove L xs ys   the answers in xs up to, and not including, the first event after which the level is below
+--                          L in xs or in ys
 use Prim.Native.Nat.{ℕ, _<_}
 use mathlib.Core.Path.{_≡_}
 use mathlib.Core.Bool.{Bool, true, cond, _&&_, _||_}

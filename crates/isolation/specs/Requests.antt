@@ -1,5 +1,5 @@
 -- The requests of a body, its begins and its ends, counted from the events' names and from what is seen of the
--- events. Nothing here looks into a state.
+-- events. No count looks into a state; what the counts are compared with does: `waitsToBegin` and `underWay`.
 --
 --   asksFor b e             the event e is an Activate, a Chain or a Line that names the body b
 --   requestsAt c b o e x    how many accepted requests of b the event e is, of which x is seen and before which o

@@ -1,6 +1,6 @@
 -- Two states of the plain scheduler that are the same but for what waits below a level, and the invariant.
 --
---   core b               the body b without what waits to begin, and without its losses
+--   begunPart b          the body b without what waits to begin, and without its losses
 --   SameState c L s s′   s and s′ are "the same but for which bodies of priority at most L wait to begin and for those
 --                        bodies' losses"
 --   Sound c s            what every state satisfies that the fresh start leads to
@@ -26,9 +26,9 @@ begunPhase started = started
 begunPhase (waiting w) = waiting w
 begunPhase (triggered x) = cond x (triggered true) suspended
 
--- the event bits of a suspended task do not count, since its activation clears them
-abbrev pub core : Body → Body
-core b =
+-- The event bits of a suspended task do not count, since its activation clears them.
+abbrev pub begunPart : Body → Body
+begunPart b =
     record {
       phase = begunPhase (b .phase);
       pending = false;
@@ -41,8 +41,9 @@ pub record SameState (c : Config) (L : ℕ) (s s′ : State) : Type 0 where
   pub size : length (s .bodies) ≡ length (s′ .bodies)
   pub tables : s .tables ≡ s′ .tables
   pub order : s .order ≡ s′ .order
+  -- a body above L is the same, and of every other what does not wait to begin
   pub high : (i : ℕ) → above c L i ≡ true → bodyOf s i ≡ bodyOf s′ i
-  pub low : (i : ℕ) → core (bodyOf s i) ≡ core (bodyOf s′ i)
+  pub low : (i : ℕ) → begunPart (bodyOf s i) ≡ begunPart (bodyOf s′ i)
 
 -- It needs no history: a state may satisfy it to which no events lead.
 pub record Sound (c : Config) (s : State) : Type 0 where
@@ -53,5 +54,7 @@ pub record Sound (c : Config) (s : State) : Type 0 where
       → holds (bodyOf s i .held) ≡ true
       → holds (bodyOf s j .held) ≡ true
       → (current c i (bodyOf s i) < priorityOf c j) ⊎ (current c j (bodyOf s j) < priorityOf c i)
+  -- between events who is to run has begun
   pub nobody-left-to-begin : begins (runner c s) ≡ false
+  -- the order is that of time-triggered tasks
   pub order-timed : (j : ℕ) → among j (s .order) ≡ true → isTimed c j ≡ true

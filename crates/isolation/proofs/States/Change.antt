@@ -1,7 +1,7 @@
 -- What is the same above L in two states stays so, where the same body runs and an event names nobody else:
 -- `status-same`, `leaves-same`, and by the dispatch `dispatched-same`.
 --
--- In order: a change of one body in both; what a change makes of a body's core; the entries; each event; the
+-- In order: a change of one body in both; what a change makes of a body's begunPart; the entries; each event; the
 -- dispatch.
 use Prim.Native.Nat.{ℕ, zero, suc, _<_, _≤_}
 use mathlib.Core.Path.{_≡_, refl, sym, ap, ap₂, _∙_}
@@ -24,7 +24,7 @@ use Rattle.scheduler.specs.Tick.{counting, counted, dues, duesFrom, starting, t
 use Rattle.scheduler.specs.Call.{noCaller, effectFor, refusalOf, finish, finishTimed}
 use Rattle.scheduler.specs.Scheduler.{begins, phaseBegun, dispatchedTo, statusFor, leavesFor}
 use Rattle.isolation.specs.Above.{above, NamesAbove}
-use Rattle.isolation.specs.States.{begunPhase, core, SameState}
+use Rattle.isolation.specs.States.{begunPhase, begunPart, SameState}
 
 -- what holds of each two bodies holds after the k-th became y and y′
 pair : (P : ℕ → Body → Body → Type 0) (bs bs′ : List Body) → length bs ≡ length bs′
@@ -42,22 +42,22 @@ pair P (b ∷ bs) (b′ ∷ bs′) e all (suc k) y y′ h zero = all zero
 pair P (b ∷ bs) (b′ ∷ bs′) e all (suc k) y y′ h (suc j) =
     pair (λ n. P (suc n)) bs bs′ (omega arith) (λ n. all (suc n)) k y y′ h j
 
--- the core of a changed body
-abbrev coreWith : Phase → List ℕ → Body
-coreWith p rs = record { phase = p; pending = false; held = rs; losses = 0; bits = 0 }
+-- the begunPart of a changed body
+abbrev partWith : Phase → List ℕ → Body
+partWith p rs = record { phase = p; pending = false; held = rs; losses = 0; bits = 0 }
 
-finished-core : (b : Body) → core (finished b) ≡ coreWith suspended (b .held)
-finished-core b =
-    cond-either (λ (x : Body). core x ≡ coreWith suspended (b .held)) (b .pending) (activated (ended b)) (ended b)
+finished-part : (b : Body) → begunPart (finished b) ≡ partWith suspended (b .held)
+finished-part b =
+    cond-either (λ (x : Body). begunPart x ≡ partWith suspended (b .held)) (b .pending) (activated (ended b)) (ended b)
     refl refl
 
-unbegun-core : (p : Phase) → hasBegun p ≡ false → suspended ≡ begunPhase p
-unbegun-core suspended h = refl
-unbegun-core ready h = refl
-unbegun-core started h = absurd (true≢false h)
-unbegun-core (waiting w) h = absurd (true≢false h)
-unbegun-core (triggered true) h = absurd (true≢false h)
-unbegun-core (triggered false) h = refl
+unbegun-part : (p : Phase) → hasBegun p ≡ false → suspended ≡ begunPhase p
+unbegun-part suspended h = refl
+unbegun-part ready h = refl
+unbegun-part started h = absurd (true≢false h)
+unbegun-part (waiting w) h = absurd (true≢false h)
+unbegun-part (triggered true) h = absurd (true≢false h)
+unbegun-part (triggered false) h = refl
 
 suspended-unbegun : (p : Phase) → isSuspended p ≡ true → hasBegun p ≡ false
 suspended-unbegun suspended h = refl
@@ -66,11 +66,11 @@ suspended-unbegun started h = absurd (true≢false (sym h))
 suspended-unbegun (waiting w) h = absurd (true≢false (sym h))
 suspended-unbegun (triggered x) h = absurd (true≢false (sym h))
 
-entry-core : (b : Body) → core (activatedByEntry b) ≡ core b
-entry-core b =
+entry-part : (b : Body) → begunPart (activatedByEntry b) ≡ begunPart b
+entry-part b =
     by-test (isSuspended (b .phase))
     (λ h. rw h
-    (ap (λ (p : Phase). coreWith p (b .held)) (unbegun-core (b .phase) (suspended-unbegun (b .phase) h))))
+    (ap (λ (p : Phase). partWith p (b .held)) (unbegun-part (b .phase) (suspended-unbegun (b .phase) h))))
     (λ h. rw (h, h))
 
 -- one that has begun is not suspended, so its event bits count
@@ -89,15 +89,15 @@ begun-kept (waiting w) = refl
 begun-kept (triggered true) = refl
 begun-kept (triggered false) = refl
 
-waits-core : (w : ℕ) (b : Body) → isSuspended (b .phase) ≡ false → core (waits w b) ≡ waits w (core b)
-waits-core w b a = rw a (by-test (anySet (b .bits) w) (λ h. rw (h, a)) (λ h. rw h))
+waits-part : (w : ℕ) (b : Body) → isSuspended (b .phase) ≡ false → begunPart (waits w b) ≡ waits w (begunPart b)
+waits-part w b a = rw a (by-test (anySet (b .bits) w) (λ h. rw (h, a)) (λ h. rw h))
 
-clears-core : (w : ℕ) (b : Body) → isSuspended (b .phase) ≡ false → core (clears w b) ≡ clears w (core b)
-clears-core w b a = rw a
+clears-part : (w : ℕ) (b : Body) → isSuspended (b .phase) ≡ false → begunPart (clears w b) ≡ clears w (begunPart b)
+clears-part w b a = rw a
 
-begins-core : (p : Phase) (b : Body) → isSuspended p ≡ false → isSuspended (b .phase) ≡ false
-    → core (become p b) ≡ become (begunPhase p) (core b)
-begins-core p b h a = rw (h, a)
+begins-part : (p : Phase) (b : Body) → isSuspended p ≡ false → isSuspended (b .phase) ≡ false
+    → begunPart (become p b) ≡ become (begunPhase p) (begunPart b)
+begins-part p b h a = rw (h, a)
 
 heldIn-same : (r : ℕ) (bs bs′ : List Body) → length bs ≡ length bs′
     → ((j : ℕ) → getD bs j noBody .held ≡ getD bs′ j noBody .held)
@@ -112,7 +112,7 @@ heldIn-same r (b ∷ bs) (b′ ∷ bs′) e all =
 
 module _ (c : Config) (L : ℕ) where
   module _ {s s′ : State} (same : SameState c L s s′) where
-    changed : (i : ℕ) (f : Body → Body) → core (f (bodyOf s i)) ≡ core (f (bodyOf s′ i))
+    changed : (i : ℕ) (f : Body → Body) → begunPart (f (bodyOf s i)) ≡ begunPart (f (bodyOf s′ i))
         → SameState c L (changing i f s) (changing i f s′)
     changed i f e =
         record {
@@ -122,20 +122,20 @@ module _ (c : Config) (L : ℕ) where
           order = same .order;
           high = pair (λ j x y. above c L j ≡ true → x ≡ y) (s .bodies) (s′ .bodies) (same .size) (same .high) i
               (f (bodyOf s i)) (f (bodyOf s′ i)) (λ a. ap f (same .high i a));
-          low = pair (λ j x y. core x ≡ core y) (s .bodies) (s′ .bodies) (same .size) (same .low) i
+          low = pair (λ j x y. begunPart x ≡ begunPart y) (s .bodies) (s′ .bodies) (same .size) (same .low) i
               (f (bodyOf s i)) (f (bodyOf s′ i)) e;
         }
 
     held-same : (i : ℕ) → bodyOf s i .held ≡ bodyOf s′ i .held
     held-same i = ap (λ (b : Body). b .held) (same .low i)
 
-    -- a change after which the core is that of a phase and of what was held
-    settles : (i : ℕ) (f : Body → Body) (p : Phase) → ((b : Body) → core (f b) ≡ coreWith p (b .held))
+    -- a change after which the begunPart is that of a phase and of what was held
+    settles : (i : ℕ) (f : Body → Body) (p : Phase) → ((b : Body) → begunPart (f b) ≡ partWith p (b .held))
         → SameState c L (changing i f s) (changing i f s′)
-    settles i f p g = changed i f (g (bodyOf s i) ∙ ap (coreWith p) (held-same i) ∙ sym (g (bodyOf s′ i)))
+    settles i f p g = changed i f (g (bodyOf s i) ∙ ap (partWith p) (held-same i) ∙ sym (g (bodyOf s′ i)))
 
-    -- a change that leaves the core
-    keeps : (i : ℕ) (f : Body → Body) → ((b : Body) → core (f b) ≡ core b)
+    -- a change that leaves the begunPart
+    keeps : (i : ℕ) (f : Body → Body) → ((b : Body) → begunPart (f b) ≡ begunPart b)
         → SameState c L (changing i f s) (changing i f s′)
     keeps i f g = changed i f (g (bodyOf s i) ∙ same .low i ∙ sym (g (bodyOf s′ i)))
 
@@ -169,7 +169,7 @@ module _ (c : Config) (L : ℕ) where
   enter-same t {s} {s′} same =
       by-test (isTimed c t)
       (λ h. rw h (timed h))
-      (λ h. rw h (keeps same t activatedByEntry entry-core))
+      (λ h. rw h (keeps same t activatedByEntry entry-part))
     where
       timed : isTimed c t ≡ true → SameState c L (trigger t s) (trigger t s′)
       timed h =
@@ -205,14 +205,14 @@ module _ (c : Config) (L : ℕ) where
         sym (begun-kept (bodyOf s i .phase)) ∙ ap (λ (b : Body). hasBegun (b .phase)) (same .low i)
         ∙ begun-kept (bodyOf s′ i .phase)
 
-    -- a change of one that is not suspended, which its core follows
-    follows : (i : ℕ) (f g : Body → Body) → ((b : Body) → isSuspended (b .phase) ≡ false → core (f b) ≡ g (core b))
+    -- a change of one that is not suspended, which its begunPart follows
+    follows : (i : ℕ) (f g : Body → Body) → ((b : Body) → isSuspended (b .phase) ≡ false → begunPart (f b) ≡ g (begunPart b))
         → isSuspended (bodyOf s i .phase) ≡ false
         → isSuspended (bodyOf s′ i .phase) ≡ false
         → SameState c L (changing i f s) (changing i f s′)
     follows i f g h a a′ = changed same i f (h (bodyOf s i) a ∙ ap g (same .low i) ∙ sym (h (bodyOf s′ i) a′))
 
-    follows-begun : (i : ℕ) (f : Body → Body) → ((b : Body) → isSuspended (b .phase) ≡ false → core (f b) ≡ f (core b))
+    follows-begun : (i : ℕ) (f : Body → Body) → ((b : Body) → isSuspended (b .phase) ≡ false → begunPart (f b) ≡ f (begunPart b))
         → hasBegun (bodyOf s i .phase) ≡ true
         → SameState c L (changing i f s) (changing i f s′)
     follows-begun i f h begun =
@@ -269,24 +269,24 @@ module _ (c : Config) (L : ℕ) where
         go : (x : Bool)
             → SameState c L (cond x (finishTimed (k .number) s) (finish (k .number) s))
             (cond x (finishTimed (k .number) s′) (finish (k .number) s′))
-        go true = with-order (settles same (k .number) finished suspended finished-core) (ap rest (same .order))
-        go false = settles same (k .number) finished suspended finished-core
+        go true = with-order (settles same (k .number) finished suspended finished-part) (ap rest (same .order))
+        go false = settles same (k .number) finished suspended finished-part
     effect-same (Chain t) u z =
-        settles (settles same (k .number) finished suspended finished-core) t activated suspended (λ b. refl)
+        settles (settles same (k .number) finished suspended finished-part) t activated suspended (λ b. refl)
     effect-same (Get r) u z = changed same (k .number) (gets r) (ap (gets r) (same .low (k .number)))
     effect-same (Release r) u z = changed same (k .number) releases (ap releases (same .low (k .number)))
     effect-same Tick u z = ticked-same same
-    effect-same (Line i) u z = changed same i requested (ap (λ (b : Body). core (requested b)) (named-same i u))
+    effect-same (Line i) u z = changed same i requested (ap (λ (b : Body). begunPart (requested b)) (named-same i u))
     effect-same (Start t d) u z = with-table same t _
     effect-same (Stop t) u z = with-table same t _
     effect-same (Wait w) u z =
-        follows-begun same (k .number) (waits w) (waits-core w) (begun (first (noCaller k) _ z))
+        follows-begun same (k .number) (waits w) (waits-part w) (begun (first (noCaller k) _ z))
     effect-same (Set t w) u z =
         changed same t (receives w)
-        (ap (λ (b : Body). core (receives w b))
+        (ap (λ (b : Body). begunPart (receives w b))
         (same .high t (u (third (noCaller k) (not (isTask c t)) (isExtended c t) _ z))))
     effect-same (Clear w) u z =
-        follows-begun same (k .number) (clears w) (clears-core w) (begun (first (noCaller k) _ z))
+        follows-begun same (k .number) (clears w) (clears-part w) (begun (first (noCaller k) _ z))
 
     refusal-same : (st : ℕ) (e : Event) → SameState c L (refusalOf c s st e) (refusalOf c s′ st e)
     refusal-same st (Activate t) = same
@@ -334,7 +334,7 @@ module _ (c : Config) (L : ℕ) where
           → SameState c L (changing (k .number) (become (phaseBegun k)) s)
           (changing (k .number) (become (phaseBegun k)) s′)
       go (alike e) =
-          changed same (k .number) (become (phaseBegun k)) (ap (λ (b : Body). core (become (phaseBegun k) b)) e)
+          changed same (k .number) (become (phaseBegun k)) (ap (λ (b : Body). begunPart (become (phaseBegun k) b)) e)
       go (active a a′) =
           follows same (k .number) (become (phaseBegun k)) (become (begunPhase (phaseBegun k)))
-          (λ b. begins-core (phaseBegun k) b (phase-active (k .timed))) a a′
+          (λ b. begins-part (phaseBegun k) b (phase-active (k .timed))) a a′
