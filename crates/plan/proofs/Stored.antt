@@ -37,7 +37,7 @@ module _ (at f : ℕ → ℕ) where
       ∙ stored-at n l (λ j k a b. inj j k (omega arith) (omega arith)) i d (omega arith) w)
 
   -- where nothing is stored, the list is as it was
-  stored-past : (n : ℕ) (l : List ℕ) (j d : ℕ) → ((i : ℕ) → i < n → j ≡ at i → ⊥)
+  pub stored-past : (n : ℕ) (l : List ℕ) (j d : ℕ) → ((i : ℕ) → i < n → j ≡ at i → ⊥)
       → getD (stored at f n l) j d ≡ getD l j d
   unfolding stored
   stored-past zero l j d ne = refl

@@ -86,6 +86,10 @@ winner-has w some h = let e = Highest.winner-has w some h in (has-lt w (winner w
 pub winner-highest : (w i : ℕ) → has w i ≡ true → i ≤ winner w
 winner-highest w i e = Highest.winner-found w i e .0
 
+-- a word with some rank in it has its winner in it
+pub winner-in : (w i : ℕ) → has w i ≡ true → has w (winner w) ≡ true
+winner-in w i e = Highest.winner-found w i e .1
+
 -- the empty word, and no other, has no winner
 pub winner-empty : winner 0 ≡ noWinner
 unfolding winner highestBelow has

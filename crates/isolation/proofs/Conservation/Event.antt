@@ -7,7 +7,7 @@ use mathlib.Core.Logic.{_≢_}
 use mathlib.Core.Bool.{Bool, true, false, true≢false, not, _&&_, and-true, and-false}
 use mathlib.Core.List.{List, [], _∷_}
 use native.Mathlib.Omega.{arith}
-use borrow.Author.Tests.{eq-eqb, ne-eqb, lt-ltb, eqb-true}
+use borrow.Author.Tests.{eq-eqb, ne-eqb, lt-ltb}
 use lib.Dec.{ltb, eqb}
 use lib.ListN.{length, getD, replicate}
 use Rattle.number.proofs.Cases as Cases
@@ -26,6 +26,7 @@ use Rattle.scheduler.proofs.Choice.{Taken, no-one, body, chosen-from, candidate
 use Rattle.scheduler.proofs.Checks.{activate-passed, finish-passed, chain-passed, line-passed, wait-passed}
 use Rattle.scheduler.proofs.Effects.{bodyOf-changing-same, bodyOf-changing-other, length-changing, refusalOf-keeps, entered, enter-bodies, by-tick}
 use Rattle.scheduler.proofs.Order.{Orderly}
+use Rattle.machine.proofs.Relation.Order.{of-one-kind}
 use Rattle.isolation.specs.Requests.{asksFor, endsRunner, requestsAt, endsAt}
 use Rattle.isolation.proofs.Conservation.Body.{Second, Moves, stays, then, quiet, activated-moves, finished-moves, waits-moves, receives-moves, requested-moves, entered-moves, entered-active}
 
@@ -160,14 +161,7 @@ caller-begun c s underway some = by-order (s .order) refl
 
 -- an ISR is not time-triggered
 isr-untimed : (c : Config) (i : ℕ) → isIsr c i ≡ true → isTimed c i ≡ true → ⊥
-isr-untimed c i p q =
-    let a =
-    eqb-true (getD (c .kind) i 0) isr
-    (Cases.and-true (ltb i (c .bodies)) (eqb (getD (c .kind) i 0) isr) p .1) in
-    let b =
-    eqb-true (getD (c .kind) i 0) timeTriggered
-    (Cases.and-true (ltb i (c .bodies)) (eqb (getD (c .kind) i 0) timeTriggered) q .1) in
-    omega arith
+isr-untimed c i p q = true≢false (sym q ∙ of-one-kind c i isr timeTriggered (λ e. omega arith) p)
 
 -- what holds between events
 pub record Between (c : Config) (s : State) : Type 0 where

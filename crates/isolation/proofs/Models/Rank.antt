@@ -6,23 +6,21 @@
 --   by-body         a rank with a priority is a body's
 --   low-priority    the level of the request of a body that is not above L is its priority, at most L
 use Prim.Native.Nat.{ℕ, zero, suc, _≤_, _<_}
-use mathlib.Core.Path.{_≡_, refl, sym, ap, _∙_}
+use mathlib.Core.Path.{_≡_, sym, ap, _∙_}
 use mathlib.Core.Logic.{_≢_, _⊎_, inl, inr, ⊎-elim}
 use mathlib.Core.Bool.{true, false, true≢false}
-use mathlib.Core.List.{List}
 use native.Mathlib.Omega.{arith}
 use borrow.Author.Tests.{ltb-false}
 use lib.Dec.{ltb}
 use lib.ListN.{getD, replicate}
-use lib.Seq.{getD-set-other}
 use Rattle.number.proofs.Cases.{by-test, by-eq, neither}
 use Rattle.config.specs.declared.Config.{Config}
 use Rattle.config.specs.Value.{maxBodies}
 use Rattle.config.specs.Meaning.{isTimed, priorityOf}
 use Rattle.config.specs.Accepted as Configuration
-use Rattle.plan.specs.Stored.{stored}
 use Rattle.plan.specs.Rank.{bodyCount, rankOf}
 use Rattle.plan.specs.Plan.{triggerOf, planOf}
+use Rattle.plan.proofs.Stored.{stored-past}
 use Rattle.plan.proofs.Order.{all-bodies}
 use Rattle.plan.proofs.Fitted.{Fitted, fitted}
 use Rattle.machine.proofs.Relation.Kinds.{trigger-plain}
@@ -46,15 +44,6 @@ ranked-or-not c r (suc n) =
     (λ none. inr (λ b h. by-eq b n (λ e. rw e d) (λ other. none b (omega arith))))
     (ranked-or-not c r n))
 
--- where nothing is stored, the list is as it was
-stored-past : (at f : ℕ → ℕ) (n : ℕ) (l : List ℕ) (j d : ℕ) → ((i : ℕ) → i < n → at i ≢ j)
-    → getD (stored at f n l) j d ≡ getD l j d
-unfolding stored
-stored-past at f zero l j d none = refl
-stored-past at f (suc n) l j d none =
-    getD-set-other (stored at f n l) (at n) j (f n) d (λ e. none n (omega arith) (sym e))
-    ∙ stored-past at f n l j d (λ i h. none i (omega arith))
-
 module _ (c : Config) (ok : Configuration.Accepted c) (shaped : Configuration.Shaped c) where
   fit : Fitted c (planOf c) (rankOf c)
   fit = fitted c ok shaped
@@ -66,7 +55,7 @@ module _ (c : Config) (ok : Configuration.Accepted c) (shaped : Configuration.Sh
   unfolding planOf
   unranked r none =
       stored-past (rankOf c) (triggerOf c) (bodyCount c) (replicate maxBodies 0) r 0
-      (λ i h. none i (rw (all-bodies c ok shaped) at h))
+      (λ i h e. none i (rw (all-bodies c ok shaped) at h) (sym e))
       ∙ same-everywhere maxBodies 0 r
 
   pub by-body : (r : ℕ) → 0 < priorityAt r → Ranked c (c .bodies) r

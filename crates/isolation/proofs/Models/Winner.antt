@@ -2,19 +2,19 @@
 --
 -- The winner is the same, or neither winner is above L. Where neither is and both are L, it is the same again,
 -- since no two bodies have one priority.
-use Prim.Native.Nat.{ℕ, zero, suc, _≤_, _<_}
+use Prim.Native.Nat.{ℕ, _≤_, _<_}
 use mathlib.Core.Path.{_≡_, sym, ap, _∙_}
 use mathlib.Core.Logic.{_⊎_, inl, inr, ⊎-elim}
-use mathlib.Core.Bool.{true, false, true≢false}
+use mathlib.Core.Bool.{true, false}
 use native.Mathlib.Omega.{arith}
 use borrow.Author.Tests.{ltb-true}
-use Rattle.number.proofs.Cases.{by-test, by-lt, by-eq}
+use Rattle.number.proofs.Cases.{by-test, by-lt}
 use Rattle.config.specs.declared.Config.{Config}
 use Rattle.config.specs.Value.{maxPriority}
 use Rattle.config.specs.Meaning.{triggerLevel, isTimed, priorityOf}
 use Rattle.config.specs.Accepted as Configuration
-use Rattle.word.specs.Word.{ranks, has, highestBelow, winner}
-use Rattle.word.proofs.Theorems.{has-lt, winner-highest, winner-rank}
+use Rattle.word.specs.Word.{ranks, has, winner}
+use Rattle.word.proofs.Theorems.{winner-highest, winner-rank, winner-in}
 use Rattle.plan.specs.Rank.{rankOf}
 use Rattle.plan.specs.Plan.{triggerOf, planOf}
 use Rattle.plan.proofs.Fitted.{Fitted, fitted}
@@ -22,19 +22,6 @@ use Rattle.machine.proofs.Relation.Kinds.{trigger-timed, trigger-plain}
 use Rattle.isolation.specs.Above.{above}
 use Rattle.isolation.specs.Models.{LowRank, SameWord}
 use Rattle.isolation.proofs.Models.Rank.{Ranked, priorityAt, by-body, priority-is, high-rank, low-or-not, low-trigger, low-priority}
-
--- a word with some rank in it has its winner in it
-found : (n w i : ℕ) → i < n → has w i ≡ true → has w (highestBelow n w) ≡ true
-unfolding highestBelow
-found zero w i l e = absurd (omega arith)
-found (suc n) w i l e =
-    by-test (has w n)
-    (λ t. rw t t)
-    (λ f. rw f (found n w i (by-eq i n (λ q. absurd (true≢false (sym e ∙ rw q f))) (λ d. omega arith)) e))
-
-winner-in : (w i : ℕ) → has w i ≡ true → has w (winner w) ≡ true
-unfolding winner
-winner-in w i e = found ranks w i (has-lt w i e) e
 
 module _ (c : Config) (ok : Configuration.Accepted c) (shaped : Configuration.Shaped c) (L : ℕ) where
   fit : Fitted c (planOf c) (rankOf c)
