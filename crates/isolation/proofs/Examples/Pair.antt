@@ -58,7 +58,7 @@ pub record Computed : Type 0 where
       ∷ row 0 1 5 0 ∷ row 0 1 5 1 ∷ row 4 1 5 0 ∷ row 0 1 5 0 ∷ row 0 0 2 1 ∷ []
   -- isolation speaks of the first twelve, and at the last, below 4, ISR 3 begins in place of task 0
   pub spoken : answersAbove 4 (shown quiet further) (shown busy further) ≡ take 12 (map answer (shown quiet further))
-  pub last : map answer (shown busy further)
+  pub busy-answers : map answer (shown busy further)
       ≡ row 0 1 5 0 ∷ row 0 2 9 1 ∷ row 0 2 9 0 ∷ row 0 1 5 0 ∷ row 0 1 9 0 ∷ row 0 1 9 0 ∷ row 0 1 9 0 ∷ row 0 2 9 1
       ∷ row 0 1 5 0 ∷ row 0 1 5 1 ∷ row 4 1 5 0 ∷ row 0 1 5 0 ∷ row 0 3 3 1 ∷ []
   -- task 0 is due at the first Tick: a request in the one, a loss in the other, and a loss in both at the
@@ -77,7 +77,7 @@ computed =
       none-wait = refl;
       quiet-answers = refl;
       spoken = refl;
-      last = refl;
+      busy-answers = refl;
       due-below = (refl, refl);
     }
 

@@ -35,12 +35,12 @@ module _ (c : Config) (ok : Configuration.Accepted c) (shaped : Configuration.Sh
       by-lt (triggerOf c b) (triggerOf c a) (λ lt. absurd (omega (arith, fit .rank-order b a hb ha lt))) (λ q. q)
 
   -- the body whose rank wins
-  abbrev Champion : ℕ → Type 0
-  Champion w = Ranked c (c .bodies) (winner w)
+  abbrev WinnerOf : ℕ → Type 0
+  WinnerOf w = Ranked c (c .bodies) (winner w)
 
   module _ (w w′ : ℕ) (same : SameWord c L w w′) where
     -- one that is above L is in the other word, too, whose winner is then no lower
-    carried : (x : Champion w) → above c L (x .body) ≡ true
+    carried : (x : WinnerOf w) → above c L (x .body) ≡ true
         → (winner w ≤ winner w′) × (has w′ (winner w′) ≡ true)
     carried x a =
         let below : winner w < ranks = omega (arith, fit .rank-lt (x .body) (x .exists), x .rank, fit .few) in
