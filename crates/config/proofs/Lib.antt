@@ -6,7 +6,7 @@ pub mod Theorems
 pub mod Refusals
 pub mod Tables
 mod Padded
-mod Ranges
+pub mod Ranges
 pub mod Position
 mod Walk
 mod Extends

@@ -97,7 +97,7 @@ getD-set-le (x ∷ xs) (suc i) v k (suc t) h p = getD-set-le xs i v k t h p
 pub start-paced : Paced start
 start-paced t = rw (getD-zeros maxTables t) (omega arith)
 
-most-le : (k : ℕ) → mostAutostart k ≤ 1
+pub most-le : (k : ℕ) → mostAutostart k ≤ 1
 most-le k = cond-either (λ n. n ≤ 1) (startable k) 1 0 (omega arith) (omega arith)
 
 -- a number in order, put

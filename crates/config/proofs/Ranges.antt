@@ -39,14 +39,14 @@ InRange Task d v =
 InRange End d v = Unit {0}
 
 -- a test that gives no refusal holds
-passed : (t : Bool) (r : ℕ) → 0 < r → unless t r ≡ none → t ≡ true
+pub passed : (t : Bool) (r : ℕ) → 0 < r → unless t r ≡ none → t ≡ true
 passed true r p e = refl
 passed false r p e = absurd (omega arith)
 
 failed : (t : Bool) (r : ℕ) → 0 < r → unless (not t) r ≡ none → t ≡ false
 failed t r p e = not-true t (passed (not t) r p e)
 
-not-outside : (lo hi v r : ℕ) → 0 < r → outside lo hi v r ≡ none → (lo ≤ v) × (v ≤ hi)
+pub not-outside : (lo hi v r : ℕ) → 0 < r → outside lo hi v r ≡ none → (lo ≤ v) × (v ≤ hi)
 not-outside lo hi v r p e =
     let b = and-true (leb lo v) (leb v hi) (passed (leb lo v && leb v hi) r p e) in
     (leb-true lo v (b .0), leb-true v hi (b .1))
@@ -54,7 +54,7 @@ not-outside lo hi v r p e =
 inside : (lo hi v r : ℕ) → lo ≤ v → v ≤ hi → outside lo hi v r ≡ none
 inside lo hi v r p q = simp (le-leb lo v p, le-leb v hi q)
 
-andThen-passed : (r s : ℕ) → andThen r s ≡ none → (r ≡ none) × (s ≡ none)
+pub andThen-passed : (r s : ℕ) → andThen r s ≡ none → (r ≡ none) × (s ≡ none)
 andThen-passed r s h =
     by-eq r none
     (λ e. (e, simp (eq-eqb r none e) at h))

@@ -38,8 +38,8 @@ pub struct Config {
 }
 
 // A configuration as far as its numbers have come. `index` is the body, resource or table that is next, `entry` the
-// entry, and `until` the entry after the last one of its table. An array of the configuration is taken out into a
-// variable before it is indexed: indexed in place, it would make the compiler copy the whole draft at every number.
+// entry, and `until` the entry after the last one of its table. The code keeps the configuration and the rest apart,
+// since a draft by value would be copied at every number.
 pub struct Draft {
     pub config: Config,
     pub field: Field,

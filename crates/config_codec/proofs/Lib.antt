@@ -1,16 +1,12 @@
--- What the proofs of the functions share: over a draft, in the reader, in the writer. The laws of configurations are
--- those of `config`.
-mod Within
-mod Used
+-- What the proofs of the functions share. The laws of configurations are those of `config`.
+-- In order: the tests of a number; a turn of the walk; the walk over the input; the two passes of the writer.
+mod Search
 mod Timed
-mod ReaderWalk
-mod OneNumber
-mod BodyParts
-mod MaskParts
-mod TableKinds
-mod TableParts
-mod ReaderParts
-mod WriterWalk
+mod EntryTests
+mod NextNumber
+mod Reading
+mod Turn
+mod Walks
 mod Measure
 mod Written
 mod Answer

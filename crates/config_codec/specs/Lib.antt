@@ -1,5 +1,4 @@
 -- What the contracts of the private functions cite beside the definitions of `config`.
-pub mod Reading
-pub mod Drafts
-pub mod TableKind
-pub mod Parts
+pub mod Position
+pub mod Entry
+pub mod Walk

@@ -1,11 +1,11 @@
 // A configuration as bytes: read, written, and refused by document 01's rules.
-mod bodies;
-mod draft;
+mod among;
+mod entry;
 mod limits;
-mod masks;
-mod part;
-mod reader;
-mod tables;
+mod position;
+mod users;
+mod value;
+mod walk;
 mod writer;
 
 use config::Config;
@@ -17,6 +17,9 @@ ghost use lib.ListN.{length};
 ghost use Rattle.config.specs.Reader.{readConfig};
 ghost use Rattle.config.specs.Writer.{writeConfig, wroteConfig};
 
+// Bytes are left over.
+const LEFT_OVER: u8 = 9;
+
 // A configuration is longer than 4,096 bytes.
 const TOO_LONG: u8 = 10;
 
@@ -27,9 +30,16 @@ pub fn read_config(bytes: &[u8]) -> ConfigRead
     ensures { λ r. ⌜ r ≡ readConfig (now (bytes .entry)) ⌝ }
 {
     if MAX_LENGTH < bytes.len() {
-        return reader::refused(TOO_LONG, 0);
+        return value::refused(TOO_LONG, 0);
     }
-    reader::read_numbers(bytes)
+    let r = walk::walk(false, value::no_config(), bytes);
+    if r.refusal != 0 {
+        return r;
+    }
+    if r.place != bytes.len() {
+        return value::refused(LEFT_OVER, r.place);
+    }
+    r
 }
 
 // Writes the configuration at the start of `out`, or nothing where it is refused or does not fit.
@@ -37,9 +47,12 @@ pub fn write_config(config: Config, out: &mut [u8]) -> Written
     ensures result { λ r. ⌜ r ≡ writeConfig config (length (now (out .entry))) ⌝ }
     ensures output { λ _. ⌜ now (out .exit) ≡ wroteConfig config (now (out .entry)) ⌝ }
 {
-    let m = writer::measure(config);
+    let m = walk::walk(true, config, b"");
     if m.refusal != 0 {
-        return m;
+        return Written {
+            refusal: m.refusal,
+            place: 0,
+        };
     }
     let n = m.place;
     if out.len() < n {
@@ -49,5 +62,8 @@ pub fn write_config(config: Config, out: &mut [u8]) -> Written
         };
     }
     writer::write_numbers(config, out);
-    m
+    Written {
+        refusal: 0,
+        place: n,
+    }
 }

@@ -1,0 +1,124 @@
+-- Where the walk stands: inside the arrays, and at the number that follows.
+--
+--   inside-at    what `Within` says at a given field
+--   asked-same   the number of a value stands where it stands, whatever the draft has
+--   onward       the position after a number that is put, where the counts are those that were put
+--   Counted      the counts of a value are those of the draft, as far as they have come; `counted-at` keeps it
+use Prim.Native.Nat.{ℕ, _+_}
+use mathlib.Core.Path.{_≡_, refl, ap, subst, _∙_}
+use mathlib.Core.Bool.{Bool, true, false, cond, true≢false}
+use lib.Dec.{eqb}
+use Rattle.number.proofs.Cases.{cond-either}
+use Rattle.config.specs.declared.Config.{Config}
+use Rattle.config.specs.declared.Draft.{Draft}
+use Rattle.config.specs.declared.Field.{Field}
+use Rattle.config.specs.declared.Field.the-variants.{Version, Bodies, Kind, Priority, Autostart, Resources, Users, Tables, Period, Entries, Offset, Task, End}
+use Rattle.config.specs.Draft.{put, putAt, asked, askedAt, ended, Inside, Within}
+use Rattle.config_codec.specs.declared.position.Position.{Position}
+use Rattle.config_codec.specs.Position.{draftAt, positionOf, Follows}
+
+pub inside-at : (f : Field) (d : Draft) → Within d → d .field ≡ f → Inside f d
+inside-at f d w e = subst (λ (g : Field). Inside g d) e (w .inside)
+
+-- one number of the value, which stands where it stands whatever the draft has
+module _ (c g h : Config) (p : Position) where
+  asked-at : (f : Field) → askedAt f c (draftAt g p) ≡ askedAt f c (draftAt h p)
+  unfolding askedAt
+  asked-at Version = refl
+  asked-at Bodies = refl
+  asked-at Kind = refl
+  asked-at Priority = refl
+  asked-at Autostart = refl
+  asked-at Resources = refl
+  asked-at Users = refl
+  asked-at Tables = refl
+  asked-at Period = refl
+  asked-at Entries = refl
+  asked-at Offset = refl
+  asked-at Task = refl
+  asked-at End = refl
+
+  pub asked-same : asked c (draftAt g p) ≡ asked c (draftAt h p)
+  asked-same = asked-at (p .field)
+
+-- where a number goes does not change what follows it
+module _ (c : Config) (p : Position) (v : ℕ) where
+  same-at : (f : Field) → positionOf (putAt f (draftAt (putAt f (draftAt c p) v .config) p) v)
+      ≡ positionOf (putAt f (draftAt c p) v)
+  unfolding putAt
+  same-at Version = refl
+  same-at Bodies = refl
+  same-at Kind = refl
+  same-at Priority = refl
+  same-at Autostart = refl
+  same-at Resources = refl
+  same-at Users = refl
+  same-at Tables = refl
+  same-at Period = refl
+  same-at Entries = refl
+  same-at Offset = refl
+  same-at Task = refl
+  same-at End = refl
+
+  pub onward : (c′ : Config) (q : Position) → c′ ≡ put (draftAt c p) v .config
+      → Follows p v (c′ .bodies) (c′ .resources) (c′ .tables) q → draftAt c′ q ≡ put (draftAt c p) v
+  onward c′ q e f =
+      let is : q ≡ positionOf (put (draftAt c p) v) =
+      f c′ refl refl refl ∙ ap (λ (g : Config). positionOf (put (draftAt g p) v)) e ∙ same-at (p .field) in
+      ap (λ (g : Config). draftAt g q) e ∙ ap (draftAt (put (draftAt c p) v .config)) is
+
+-- the count that says whether another row follows is the value's
+abbrev pub Counted : Field → Config → Config → Type 0
+Counted Version c g = Unit {0}
+Counted Bodies c g = Unit {0}
+Counted Kind c g = g .bodies ≡ c .bodies
+Counted Priority c g = g .bodies ≡ c .bodies
+Counted Autostart c g = g .bodies ≡ c .bodies
+Counted Resources c g = Unit {0}
+Counted Users c g = g .resources ≡ c .resources
+Counted Tables c g = Unit {0}
+Counted Period c g = g .tables ≡ c .tables
+Counted Entries c g = g .tables ≡ c .tables
+Counted Offset c g = g .tables ≡ c .tables
+Counted Task c g = g .tables ≡ c .tables
+Counted End c g = Unit {0}
+
+module _ (c : Config) (d : Draft) where
+  chosen : (g : Config) (t : Bool) (f h : Field) → Counted f c g → Counted h c g → Counted (cond t f h) c g
+  chosen g = cond-either (λ (f : Field). Counted f c g)
+
+  pub counted-at : (f : Field) → ended f ≡ false → Counted f c (d .config)
+      → Counted (putAt f d (askedAt f c d) .field) c (putAt f d (askedAt f c d) .config)
+  unfolding putAt askedAt ended
+  counted-at Version e h = tt
+  counted-at Bodies e h = refl
+  counted-at Kind e h = h
+  counted-at Priority e h = h
+  counted-at Autostart e h = chosen _ (eqb (d .index + 1) (d .config .bodies)) Resources Kind tt h
+  counted-at Resources e h = chosen _ (eqb 0 (c .resources)) Tables Users tt refl
+  counted-at Users e h = chosen _ (eqb (d .index + 1) (d .config .resources)) Tables Users tt h
+  counted-at Tables e h = chosen _ (eqb 0 (c .tables)) End Period tt refl
+  counted-at Period e h = h
+  counted-at Entries e h = h
+  counted-at Offset e h = h
+  counted-at Task e h =
+      let last = eqb (d .index + 1) (d .config .tables) in
+      chosen _ (eqb (d .entry + 1) (d .until)) (cond last End Period) Offset (chosen _ last End Period tt h) h
+  counted-at End e h = absurd (true≢false e)
+
+  pub follows-at : (v : ℕ) (f : Field) → Counted f c (d .config)
+      → positionOf (putAt f (draftAt c (positionOf d)) v) ≡ positionOf (putAt f d v)
+  unfolding putAt
+  follows-at v Version h = refl
+  follows-at v Bodies h = refl
+  follows-at v Kind h = refl
+  follows-at v Priority h = refl
+  follows-at v Autostart h = rw h
+  follows-at v Resources h = refl
+  follows-at v Users h = rw h
+  follows-at v Tables h = refl
+  follows-at v Period h = refl
+  follows-at v Entries h = refl
+  follows-at v Offset h = refl
+  follows-at v Task h = rw h
+  follows-at v End h = refl
