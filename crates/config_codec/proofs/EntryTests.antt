@@ -1,7 +1,7 @@
 -- The refusals of an entry's task, test by test, and that they are the draft's.
 use Prim.Native.Nat.{ℕ}
 use mathlib.Core.Path.{_≡_, refl}
-use mathlib.Core.Bool.{Bool, true, false, _||_}
+use mathlib.Core.Bool.{Bool, true, false}
 use mathlib.Core.List.{List, [], _∷_}
 use Rattle.number.specs.Refusal.{none}
 use Rattle.config.specs.declared.Config.{Config}

@@ -1,12 +1,13 @@
 -- What the proofs of the functions share. The laws of configurations are those of `config`.
--- In order: the tests of a number; a turn of the walk; the walk over the input; the two passes of the writer.
+-- In order: the tests of a number; the number that follows; the walk over the input; the walk over a value, and what the
+-- writer's first pass measures; a turn of the walk, whichever of the two it is; the writer's second pass and its answers.
 mod Search
 mod Timed
 mod EntryTests
 mod NextNumber
 mod Reading
-mod Turn
 mod Walks
-mod Measure
-mod Written
+mod Measuring
+mod Turn
+mod Writing
 mod Answer

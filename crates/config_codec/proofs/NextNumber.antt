@@ -1,12 +1,13 @@
 -- Where the walk stands: inside the arrays, and at the number that follows.
 --
---   inside-at    what `Within` says at a given field
+--   placed       the element that a number goes to lies inside its array
 --   asked-same   the number of a value stands where it stands, whatever the draft has
 --   onward       the position after a number that is put, where the counts are those that were put
 --   Counted      the counts of a value are those of the draft, as far as they have come; `counted-at` keeps it
-use Prim.Native.Nat.{ℕ, _+_}
+use Prim.Native.Nat.{ℕ, _+_, _<_}
 use mathlib.Core.Path.{_≡_, refl, ap, subst, _∙_}
-use mathlib.Core.Bool.{Bool, true, false, cond, true≢false}
+use mathlib.Core.Bool.{Bool, false, cond, true≢false}
+use native.Mathlib.Omega.{arith}
 use lib.Dec.{eqb}
 use Rattle.number.proofs.Cases.{cond-either}
 use Rattle.config.specs.declared.Config.{Config}
@@ -17,8 +18,41 @@ use Rattle.config.specs.Draft.{put, putAt, asked, askedAt, ended, Inside, Withi
 use Rattle.config_codec.specs.declared.position.Position.{Position}
 use Rattle.config_codec.specs.Position.{draftAt, positionOf, Follows}
 
-pub inside-at : (f : Field) (d : Draft) → Within d → d .field ≡ f → Inside f d
-inside-at f d w e = subst (λ (g : Field). Inside g d) e (w .inside)
+-- the element that a number goes to lies inside its array
+abbrev pub Placed : Field → Position → Type 0
+Placed Version p = Unit {0}
+Placed Bodies p = Unit {0}
+Placed Kind p = p .index < 32
+Placed Priority p = p .index < 32
+Placed Autostart p = p .index < 32
+Placed Resources p = Unit {0}
+Placed Users p = p .index < 16
+Placed Tables p = Unit {0}
+Placed Period p = p .index < 8
+Placed Entries p = p .index < 8
+Placed Offset p = (p .index < 8) × (p .entry < 64)
+Placed Task p = (p .index < 8) × (p .entry < 64)
+Placed End p = Unit {0}
+
+module _ (c : Config) (p : Position) (w : Within (draftAt c p)) where
+  placed-at : (f : Field) → Inside f (draftAt c p) → Placed f p
+  unfolding Inside
+  placed-at Version i = tt
+  placed-at Bodies i = tt
+  placed-at Kind i = omega (arith, i, w .bodies-le)
+  placed-at Priority i = omega (arith, i, w .bodies-le)
+  placed-at Autostart i = omega (arith, i, w .bodies-le)
+  placed-at Resources i = tt
+  placed-at Users i = omega (arith, i, w .resources-le)
+  placed-at Tables i = tt
+  placed-at Period i = omega (arith, i, w .tables-le)
+  placed-at Entries i = omega (arith, i, w .tables-le)
+  placed-at Offset i = omega (arith, i, w .tables-le, w .until-le)
+  placed-at Task i = omega (arith, i, w .tables-le, w .until-le)
+  placed-at End i = tt
+
+  pub placed : (f : Field) → p .field ≡ f → Placed f p
+  placed f e = placed-at f (subst (λ (g : Field). Inside g (draftAt c p)) e (w .inside))
 
 -- one number of the value, which stands where it stands whatever the draft has
 module _ (c g h : Config) (p : Position) where

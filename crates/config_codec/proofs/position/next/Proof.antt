@@ -2,36 +2,28 @@
 use mathlib.Core.Path.{_≡_}
 use native.Mathlib.Omega.{arith}
 use Rattle.config.specs.declared.Field.{Field}
-use Rattle.config.specs.declared.Field.the-variants.{Autostart, Users, Entries, Task}
-use Rattle.config.specs.Draft.{putAt, Inside}
-use Rattle.config_codec.specs.Position.{draftAt}
-use Rattle.config_codec.proofs.NextNumber.{inside-at}
+use Rattle.config.specs.declared.Field.the-variants.{Autostart, Users, Task}
+use Rattle.config.specs.Draft.{putAt}
+use Rattle.config_codec.proofs.NextNumber.{Placed, placed}
 use borrow.Author.Needs.{needs}
 use Rattle.config_codec.proofs.position.next.Statement.{statement}
 use Rattle.config_codec.proofs.position.next.Tie as tie
 
-inside : (f : Field) (s : tie.Start) → s .args .p .field ≡ f → Inside f (draftAt (s .pre .config) (s .args .p))
-inside f s e = inside-at f (draftAt (s .pre .config) (s .args .p)) (s .pre .within) e
+element : (f : Field) (s : tie.Start) → s .args .p .field ≡ f → Placed f (s .args .p)
+element f s e = placed (s .pre .config) (s .args .p) (s .pre .within) f e
 
 add-row-of : tie.Need-add-row-of
-unfolding Inside
-add-row-of c = let s = c .before .before in
-    let h = inside Autostart s (c .enum-told5 .given .1) in omega (arith, s .pre .within .bodies-le)
+add-row-of c = let h = element Autostart (c .before .before) (c .enum-told5 .given .1) in omega arith
 
 add-row-of-2 : tie.Need-add-row-of-2
-unfolding Inside
-add-row-of-2 c = let s = c .before .before in
-    let h = inside Users s (c .enum-told7 .given .1) in omega (arith, s .pre .within .resources-le)
+add-row-of-2 c = let h = element Users (c .before .before) (c .enum-told7 .given .1) in omega arith
 
 entries-of-requires : tie.Need-entries-of-requires
 entries-of-requires c κs = let s = c .before .before in
     omega (arith, s .pre .within .entry-le, s .pre .within .until-le)
 
 after-entry-requires : tie.Need-after-entry-requires
-unfolding Inside
-after-entry-requires c κs = let s = c .before .before in
-    let h = inside Task s (c .enum-told12 .given .1) in
-    omega (arith, s .pre .within .tables-le, s .pre .within .until-le)
+after-entry-requires c κs = element Task (c .before .before) (c .enum-told12 .given .1)
 
 pub next-spec : {M : Type 1} → statement M
 unfolding putAt

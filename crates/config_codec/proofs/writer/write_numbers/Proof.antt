@@ -1,14 +1,14 @@
 -- `write_numbers` meets its contract: the loop keeps `WritesOn`. The measure is the bytes left.
 use Prim.Native.Nat.{_-_, _≤_}
 use mathlib.Core.Path.{_≡_, sym, ap, _∙_}
-use mathlib.Core.Bool.{true, false}
+use mathlib.Core.Bool.{false}
 use native.Mathlib.Omega.{arith}
 use lib.ListN.{length}
 use borrow.Author.Tests.{not-true, not-false}
 use Rattle.number.proofs.Theorems.{length-written}
 use Rattle.config.specs.Draft.{ended}
 use Rattle.config.specs.Writer.{configBytes}
-use Rattle.config_codec.proofs.Written.{WritesOn, writes-start, writes-stand, writes-room, writes-left, writes-small, writes-some, writes-next, writes-end}
+use Rattle.config_codec.proofs.Writing.{WritesOn, writes-start, writes-stand, writes-room, writes-left, writes-small, writes-some, writes-next, writes-end}
 use borrow.Author.Needs.{needs}
 use Rattle.config_codec.proofs.writer.write_numbers.Statement.{statement}
 use Rattle.config_codec.proofs.writer.write_numbers.Tie as tie
