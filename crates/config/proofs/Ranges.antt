@@ -54,7 +54,7 @@ not-outside lo hi v r p e =
 inside : (lo hi v r : ℕ) → lo ≤ v → v ≤ hi → outside lo hi v r ≡ none
 inside lo hi v r p q = simp (le-leb lo v p, le-leb v hi q)
 
-pub andThen-passed : (r s : ℕ) → andThen r s ≡ none → (r ≡ none) × (s ≡ none)
+andThen-passed : (r s : ℕ) → andThen r s ≡ none → (r ≡ none) × (s ≡ none)
 andThen-passed r s h =
     by-eq r none
     (λ e. (e, simp (eq-eqb r none e) at h))

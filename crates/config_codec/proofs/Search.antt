@@ -1,4 +1,4 @@
--- The searches of a row, step by step: what is left of it from element i on, and whether a number is there.
+-- The searches of a list, step by step: what is left of it from element i on, and whether a number is there.
 use Prim.Native.Nat.{ℕ, zero, suc, _+_, _≤_, _<_}
 use mathlib.Core.Path.{_≡_, refl, sym, _∙_}
 use mathlib.Core.Bool.{Bool, true, false, _||_}
@@ -49,7 +49,7 @@ module _ (v n : ℕ) (l : List ℕ) (all : n ≤ length l) where
       swap false true r = refl
       swap false false r = refl
 
--- what stands nowhere in a row is none of its first n
+-- what stands nowhere in a list is none of its first n
 pub among-take : (v n : ℕ) (l : List ℕ) → among v l ≡ false → among v (take n l) ≡ false
 unfolding among
 among-take v zero l e = refl

@@ -12,10 +12,10 @@ use Rattle.config_codec.proofs.among.among.Statement.{statement}
 use Rattle.config_codec.proofs.among.among.Tie as tie
 
 abbrev Inv-loop : tie.InvT-loop
-Inv-loop v row found₀ i₀ found i = found || among v (drop i (take 32 row)) ≡ among v row
+Inv-loop v array found₀ i₀ found i = found || among v (drop i (take 32 array)) ≡ among v array
 
 abbrev μ-loop : tie.MeasureT-loop
-μ-loop v row found₀ i₀ found i = 32 - i
+μ-loop v array found₀ i₀ found i = 32 - i
 
 long : (c : tie.Start Inv-loop μ-loop) → length (c .args .t2) ≡ 32
 long c = search needs

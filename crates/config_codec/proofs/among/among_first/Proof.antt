@@ -11,10 +11,10 @@ use Rattle.config_codec.proofs.among.among_first.Statement.{statement}
 use Rattle.config_codec.proofs.among.among_first.Tie as tie
 
 abbrev Inv-loop : tie.InvT-loop
-Inv-loop v n row i₀ i = among v (drop i (take n row)) ≡ among v (take n row)
+Inv-loop v n array i₀ i = among v (drop i (take n array)) ≡ among v (take n array)
 
 abbrev μ-loop : tie.MeasureT-loop
-μ-loop v n row i₀ i = n - i
+μ-loop v n array i₀ i = n - i
 
 long : (c : tie.Start Inv-loop μ-loop) → c .args .n ≤ length (c .args .t3)
 long c = let l : length (c .args .t3) ≡ 32 = search needs in omega arith
