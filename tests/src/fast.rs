@@ -1085,6 +1085,41 @@ pub fn run<T: Timers>(config: &[u8], trace: &[u8], out: &mut [u8]) -> u64 {
     }
 }
 
+/// How long the body waits to begin, as osek_wait promises it: by Finish events after the trace.
+pub fn wait<T: Timers>(config: &[u8], trace: &[u8], body: u32) -> u64 {
+    match accepted(config, trace, usize::MAX) {
+        Err(refusal) => refusal.result(),
+        Ok((config, _)) => waited::<T>(&config, trace, body).unwrap_or_else(Refusal::result),
+    }
+}
+
+fn waited<T: Timers>(config: &Config, trace: &[u8], body: u32) -> Result<u64, Refusal> {
+    if (0..config.bodies as u32).any(|body| config.is_extended(body) || config.is_timed(body)) {
+        return refuse(35, 0);
+    }
+    if body as usize >= config.bodies {
+        return refuse(34, 0);
+    }
+    let mut kernel = Kernel::<T>::fresh(config);
+    let mut at = 0;
+    while let Ok((event, next)) = read_event(trace, at) {
+        at = next;
+        kernel.step(event);
+    }
+    if !kernel.is_requested(body) {
+        return refuse(31, 0);
+    }
+    if kernel.held_resources() > 0 {
+        return refuse(32, 0);
+    }
+    let begins = |answer: &Answer| answer.begun == 1 && u32::from(answer.runner) == body;
+    let mut ends = 1;
+    while !begins(&kernel.step(Event::Finish)) {
+        ends += 1;
+    }
+    Ok(ends)
+}
+
 /// The configuration and the number of events, if nothing is to be refused.
 fn accepted(config: &[u8], trace: &[u8], out_len: usize) -> Result<(Config, usize), Refusal> {
     let config = read_config(config)?;

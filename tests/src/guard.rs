@@ -39,6 +39,9 @@ pub type Salvage = fn(&[u8], &mut [u8], &mut [u8]) -> u64;
 /// The reading of an OIL text, in the same way.
 pub type Oil = fn(&[u8], &mut [u8], &mut [u64; 2]) -> u64;
 
+/// The question how long a body waits to begin, in the same way.
+pub type Wait = fn(&[u8], &[u8], u32) -> u64;
+
 /// The page against which slices are flush.
 #[derive(Clone, Copy, PartialEq, Eq, Debug)]
 pub enum Side {
@@ -238,6 +241,32 @@ impl GuardedOil {
             config.len()
         );
         (result, config, place)
+    }
+}
+
+/// Guarded pages for the two inputs of a wait, which writes to nothing.
+pub struct GuardedWait {
+    config: Pages,
+    trace: Pages,
+}
+
+impl Default for GuardedWait {
+    fn default() -> Self {
+        GuardedWait { config: Pages::new(8_192), trace: Pages::new(16_384) }
+    }
+}
+
+impl GuardedWait {
+    /// The result. Ends the process if anything outside was touched, or an input written to.
+    pub fn run(&mut self, wait: Wait, config: &[u8], trace: &[u8], body: u32, side: Side) -> u64 {
+        self.config.place(config, side);
+        self.trace.place(trace, side);
+        self.config.protect(PROT_READ);
+        self.trace.protect(PROT_READ);
+        let result = unsafe { wait(self.config.lent(config.len(), side), self.trace.lent(trace.len(), side), body) };
+        self.config.protect(PROT_READ | PROT_WRITE);
+        self.trace.protect(PROT_READ | PROT_WRITE);
+        result
     }
 }
 

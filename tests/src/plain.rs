@@ -569,6 +569,48 @@ pub fn run(config: &[u8], trace: &[u8], out: &mut [u8]) -> u64 {
     }
 }
 
+/// The body waits to begin: it is ready, or a started ISR with a request waiting.
+fn waits_to_begin(body: &Body) -> bool {
+    match body.state {
+        State::Ready => true,
+        State::Started => body.request_waits,
+        State::Suspended | State::Waiting { .. } => false,
+    }
+}
+
+/// "After a trace, give the number of accepted Finish events until the named waiting body begins, if only Finish events
+/// follow."
+fn finishes(config: &[u8], trace: &[u8], body: usize) -> Result<u64, Refused> {
+    let mut scheduler = read_configuration(config)?;
+    let events = read_trace(trace)?;
+    let basic = |body: &Body| matches!(body.kind, Kind::Task | Kind::Isr);
+    ensure(scheduler.bodies.iter().all(basic), 35, 0)?;
+    scheduler.fresh_start();
+    for (code, arguments) in &events {
+        scheduler.answer(*code, arguments);
+    }
+    ensure(body < scheduler.bodies.len(), 34, 0)?;
+    ensure(waits_to_begin(&scheduler.bodies[body]), 31, 0)?;
+    ensure(scheduler.bodies.iter().all(|body| body.held.is_empty()), 32, 0)?;
+    let mut accepted = 0;
+    loop {
+        let [status, runner, _, begun] = scheduler.answer(2, &[]);
+        assert_eq!(status, 0, "a Finish is refused while a body waits to begin");
+        accepted += 1;
+        if begun == 1 && usize::from(runner) == body {
+            return Ok(accepted);
+        }
+    }
+}
+
+/// How long the body waits, as osek_wait promises it.
+pub fn wait(config: &[u8], trace: &[u8], body: u32) -> u64 {
+    match finishes(config, trace, body as usize) {
+        Ok(count) => count,
+        Err((refusal, place)) => refusal * 4_294_967_296 + place as u64,
+    }
+}
+
 #[cfg(test)]
 mod tests {
     //! What no run is long enough to reach.
