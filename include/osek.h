@@ -2,7 +2,8 @@
  * OSEK OS reference, classes BCC1 and ECC1, with OSEKtime's time-triggered tasks above them: from a configuration and a
  * trace of events to who runs after each event.
  *
- * Three functions: osek_run, osek_salvage for damaged traces, and osek_oil for configurations in OIL. They allocate
+ * Four functions: osek_run, osek_salvage for damaged traces, osek_oil for configurations in OIL, and osek_wait, which
+ * says how long a body waits to begin. They allocate
  * nothing, keep nothing between calls and never fail in another way than by the refusals below: any bytes may be handed
  * to them. They may be called from several threads at once, each with outputs of its own; they may share their inputs.
  *
@@ -71,7 +72,7 @@ extern "C" {
 
 /* The first number changes when a program has to be compiled or linked anew, the second with what the calls answer or
  * offer, the last with everything else. CHANGELOG.md says what each one brought. */
-#define OSEK_VERSION "1.4.4"
+#define OSEK_VERSION "1.5.0"
 
 /* Sizes in bytes. Longer inputs are refused; an output of OSEK_OUTPUT_MAX suffices for every run, which is proved as
  * `room-enough` in crates/run/proofs/Theorems.antt. */
@@ -200,6 +201,33 @@ uint64_t osek_salvage(const uint8_t *trace, size_t trace_len,
                       uint8_t *events, size_t events_len,
                       uint8_t *stretches, size_t stretches_len);
 
+/* Refusals of osek_wait, after those of osek_run but OSEK_OUTPUT_TOO_SHORT; checked in the order 35, 34, 31, 32; place 0. */
+enum {
+    OSEK_WAIT_NOT_WAITING = 31, /* the body does not wait to begin: it is suspended, or started and not requested again */
+    OSEK_WAIT_RESOURCE = 32,    /* a resource is held, by whatever body */
+    OSEK_WAIT_BODY = 34,        /* no body has this number */
+    OSEK_WAIT_KIND = 35         /* the configuration has extended or time-triggered tasks */
+};
+
+/*
+ * How long a body waits to begin: the number of Finish events that are accepted after the trace, if only such events
+ * follow, until the one in which the body begins, that one included. A body waits to begin if it is ready, or if it is
+ * a started ISR with a request waiting.
+ *
+ * The number is 1 to 63. It counts the other bodies of greater priority that are ready or started, a started ISR with a
+ * request waiting twice, and the body's own first end if it is started.
+ *
+ *     config, config_len    as for osek_run
+ *     trace, trace_len
+ *     body                  the body's number
+ *
+ * Result: refusal * 2^32 + place, or, with refusal 0, the number of ends (osek_ends). Nothing is written. Some 40 KB of
+ * stack are used.
+ */
+uint64_t osek_wait(const uint8_t *config, size_t config_len,
+                   const uint8_t *trace, size_t trace_len,
+                   uint32_t body);
+
 /* Refusals of an OIL text, with line and column. Given in reading order; OSEK_OIL_NO_RESOURCE after the whole text; then
  * OSEK_CONFIG_COUNT, OSEK_CONFIG_FIELD and OSEK_CONFIG_PRIORITY_USED in the order of a configuration's numbers, at line 0,
  * column 0; then OSEK_OUTPUT_TOO_SHORT. */
@@ -245,6 +273,9 @@ static inline uint32_t osek_place(uint64_t result) { return (uint32_t)result; }
 
 /* The number of events of an accepted run. */
 static inline uint32_t osek_events(uint64_t result) { return (uint32_t)result; }
+
+/* The number of ends that a body waits for. */
+static inline uint32_t osek_ends(uint64_t result) { return (uint32_t)result; }
 
 /* The length of an accepted text's configuration. */
 static inline uint32_t osek_config_length(uint64_t result) { return (uint32_t)result; }

@@ -3,8 +3,9 @@
     run(config, trace)     the answers and the losses, or the exception Refused
     salvage(trace)         what is kept of a damaged trace, and where something was dropped
     oil(text)              the configuration that an OIL text describes, or the exception RefusedText
+    wait(config, trace, body)   how many bodies end before this one begins, or the exception Refused
     osek_run(..)           the C calls themselves, for buffers of one's own
-    osek_salvage(..), osek_oil(..)
+    osek_salvage(..), osek_oil(..), osek_wait(..)
 
 All inputs are bytes, as docs/RULES.md has them. The library is the file that OSEK_LIBRARY names, or the one that `make lib`
 left in the clone, or the one that is installed.
@@ -41,6 +42,10 @@ REFUSALS = {
     22: "a number of the trace is too large or not in its shortest form",
     23: "an event code is not 1 to 12",
     30: "the output is too short",
+    31: "the body does not wait to begin",
+    32: "a resource is held",
+    34: "no body has this number",
+    35: "the configuration has extended or time-triggered tasks",
     60: "a sign that no word has, or a comment that is not closed",
     61: "a word that may not stand there",
     62: "no object or attribute that may stand there",
@@ -100,6 +105,8 @@ def _library() -> ctypes.CDLL:
         function.argtypes = 3 * [ctypes.c_void_p, ctypes.c_size_t]
     library.osek_oil.restype = ctypes.c_uint64
     library.osek_oil.argtypes = 2 * [ctypes.c_void_p, ctypes.c_size_t] + [ctypes.c_void_p]
+    library.osek_wait.restype = ctypes.c_uint64
+    library.osek_wait.argtypes = 2 * [ctypes.c_void_p, ctypes.c_size_t] + [ctypes.c_uint32]
     return library
 
 
@@ -119,6 +126,11 @@ def osek_salvage(trace, events, stretches) -> int:
 def osek_oil(text, config, place) -> int:
     """The C call: writes the configuration, and line and column into an array of two `c_uint64`; refusal * 2**32, or the length."""
     return _LIBRARY.osek_oil(*_lent(text), *_taken(config), place)
+
+
+def osek_wait(config, trace, body) -> int:
+    """The C call: refusal * 2**32 + place, or the number of Finish events until the body begins."""
+    return _LIBRARY.osek_wait(*_lent(config), *_lent(trace), body)
 
 
 def run(config, trace) -> Run:
@@ -147,6 +159,13 @@ def oil(text) -> bytes:
     if code != 0:
         raise RefusedText(code, place[0], place[1])
     return bytes(config[:low])
+
+
+def wait(config, trace, body) -> int:
+    """How many Finish events are accepted after the trace until the body with this number begins, if only such events follow."""
+    if not 0 <= body < 1 << 32:
+        raise ValueError("a body's number is 0 to 4,294,967,295")
+    return _accepted(osek_wait(config, trace, body))
 
 
 def _lent(data):

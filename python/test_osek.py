@@ -77,6 +77,14 @@ REFUSED_TEXTS = [
     (b"TASK a { PRIORITY = 1; RESOURCE = r; };", 64, 1, 35),
 ]
 
+# Task 0 runs; it takes the resource and makes task 1 ready; a configuration with time-triggered tasks.
+REFUSED_WAITS = [
+    (CONFIG, b"", 0, 31),
+    (CONFIG, b"\x04\x00\x01\x01", 1, 32),
+    (CONFIG, b"", 3, 34),
+    (ROUND, b"", 9, 35),
+]
+
 
 class OsekTest(unittest.TestCase):
     def test_the_listing(self):
@@ -118,7 +126,23 @@ class OsekTest(unittest.TestCase):
         self.assertEqual(osek.osek_run(CONFIG, TRACE, out), 30 << 32 | 74)
         self.assertEqual(out, bytes(73))
         texts = {code for _, code, _, _ in REFUSED_TEXTS}
-        self.assertEqual({code for _, _, code, _ in REFUSED} | {30} | texts, set(osek.REFUSALS))
+        waits = {code for _, _, _, code in REFUSED_WAITS}
+        self.assertEqual({code for _, _, code, _ in REFUSED} | {30} | texts | waits, set(osek.REFUSALS))
+
+    def test_how_long_a_body_waits_to_begin(self):
+        # ISR 2 runs, is requested again, and goes before task 1, twice.
+        self.assertEqual(osek.wait(CONFIG, b"\x07\x02\x07\x02", 2), 1)
+        self.assertEqual(osek.wait(CONFIG, bytes.fromhex("0702 0101 0702"), 1), 2)
+        for config, trace, body, code in REFUSED_WAITS:
+            with self.subTest(code=code), self.assertRaises(osek.Refused) as raised:
+                osek.wait(config, trace, body)
+            refused = raised.exception
+            self.assertEqual((refused.code, refused.place, refused.words), (code, 0, osek.REFUSALS[code]))
+        with self.assertRaises(osek.Refused) as raised:
+            osek.wait(CONFIG, b"\x06\x0d", 9)
+        self.assertEqual((raised.exception.code, raised.exception.place), (23, 1))
+        for wrong in (-1, 1 << 32):
+            self.assertRaises(ValueError, osek.wait, CONFIG, b"", wrong)
 
     def test_an_oil_text_is_read_or_refused_at_its_place(self):
         text = b"ISR wake { PRIORITY = 9; }; // first\nTASK log { AUTOSTART = TRUE; PRIORITY = 2; RESOURCE = r; }; RESOURCE r { };"
@@ -144,6 +168,7 @@ class OsekTest(unittest.TestCase):
             self.assertRaises(TypeError, osek.run, CONFIG, wrong)
             self.assertRaises(TypeError, osek.salvage, wrong)
             self.assertRaises(TypeError, osek.oil, wrong)
+            self.assertRaises(TypeError, osek.wait, CONFIG, wrong, 0)
         self.assertEqual(osek.run(bytearray(CONFIG), memoryview(TRACE)), osek.run(CONFIG, TRACE))
 
     @unittest.skipUnless("OSEK_CASES" in os.environ, "OSEK_CASES names no file")

@@ -1,4 +1,4 @@
-//! The proved run, the proved salvage and the proved reading of OIL texts, linked from the static libraries.
+//! The proved run, the proved salvage, the proved reading of OIL texts and the proved wait, linked from the static libraries.
 
 /// The static library's file.
 pub const LIBRARY: &str = env!("OSEK_LIBRARY");
@@ -21,6 +21,7 @@ extern "C" {
         stretches_len: usize,
     ) -> u64;
     fn osek_oil(text: *const u8, text_len: usize, config: *mut u8, config_len: usize, place: *mut u64) -> u64;
+    fn osek_wait(config: *const u8, config_len: usize, trace: *const u8, trace_len: usize, body: u32) -> u64;
 }
 
 /// Safe: the pointers come from slices, so they are not null and the output overlaps no input.
@@ -48,4 +49,10 @@ pub fn salvage(trace: &[u8], events: &mut [u8], stretches: &mut [u8]) -> u64 {
 #[inline(never)]
 pub fn oil(text: &[u8], config: &mut [u8], place: &mut [u64; 2]) -> u64 {
     unsafe { osek_oil(text.as_ptr(), text.len(), config.as_mut_ptr(), config.len(), place.as_mut_ptr()) }
+}
+
+/// Safe for the same reasons.
+#[inline(never)]
+pub fn wait(config: &[u8], trace: &[u8], body: u32) -> u64 {
+    unsafe { osek_wait(config.as_ptr(), config.len(), trace.as_ptr(), trace.len(), body) }
 }

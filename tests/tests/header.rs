@@ -51,6 +51,7 @@ fn constants_are_those_of_the_documents() {
     assert_eq!(group(&["OSEK_E_"], "-"), [0, 1, 2, 3, 4, 5, 6, 7, 8, 33]);
     let refusals = group(&["OSEK_CONFIG_", "OSEK_TRACE_", "OSEK_OUTPUT_"], "_MAX");
     assert_eq!(refusals, REFUSALS.map(u64::from));
+    assert_eq!(group(&["OSEK_WAIT_"], "-"), [31, 32, 34, 35]);
     assert_eq!(group(&["OSEK_OIL_"], "-"), [60, 61, 62, 63, 64]);
 }
 

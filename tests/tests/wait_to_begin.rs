@@ -1,4 +1,4 @@
-//! How long a body waits to begin: worked by hand, and drawn.
+//! How long a body waits to begin: worked by hand, and drawn and compared with the proved call, whose inputs are guarded.
 
 use std::collections::BTreeMap;
 
@@ -9,7 +9,12 @@ use osek_tests::plain;
 
 /// Every implementation, with whether its memory is guarded.
 fn implementations() -> Vec<(&'static str, Wait, bool)> {
-    vec![("plain scheduler", plain::wait, false), ("fast with cells", fast::wait::<Cells>, false)]
+    vec![
+        ("plain scheduler", plain::wait, false),
+        ("fast with cells", fast::wait::<Cells>, false),
+        #[cfg(feature = "linked")]
+        ("osek_wait", osek_tests::subject::wait, true),
+    ]
 }
 
 /// All implementations; they must agree.
@@ -175,7 +180,7 @@ fn drawn_traces_after_every_event() {
     let mut memory = GuardedWait::default();
     // How often each answer was given: refusals by their code, and numbers of ends.
     let (mut refusals, mut ends) = (BTreeMap::new(), BTreeMap::new());
-    for number in 0..400 {
+    for number in 0..250 {
         announce(seed, number);
         let case = case(seed, number);
         let bodies = read_config(&case.config).map_or(1, |config| config.bodies() as u32);

@@ -1,4 +1,5 @@
-//! The proved functions: what the run says of a configuration and a trace, and what is salvaged of a damaged one.
+//! The proved functions: what the run says of a configuration and a trace, what is salvaged of a damaged one, and how long
+//! a body waits to begin.
 
 use osek_tests::fast::{IDLE, OUTPUT_MAX, TRACE_MAX};
 use osek_tests::salvage::STRETCHES_MAX;
@@ -129,6 +130,25 @@ pub fn salvage(trace: &[u8]) -> Result<Salvaged, Refused> {
     let pair = |pair: &[u32]| (pair[0] as usize, pair[1] as usize);
     let stretches = layout::numbers(&list).chunks_exact(2).map(pair).collect();
     Ok(Salvaged { events, list, stretches })
+}
+
+/// How many bodies end before this one begins.
+pub fn wait(config: &[u8], trace: &[u8], body: u32) -> Result<usize, Refused> {
+    let result = subject::wait(config, trace, body);
+    Refused::of(result).map_or(Ok(result as usize), Err)
+}
+
+/// Whose ends the next `count` Finish events are; none if the trace is then too long.
+pub fn ends(config: &[u8], trace: &[u8], count: usize) -> Option<Vec<u32>> {
+    const FINISH: u8 = 2;
+    let answers = run(config, &[trace, &vec![FINISH; count]].concat()).ok()?.answers;
+    let before = answers.len() - count;
+    // The runner before each Finish: after the event before it, or after the fresh start.
+    let runner = |finish: usize| match finish {
+        0 => fresh_start(config)?.runner,
+        _ => answers[finish - 1].runner,
+    };
+    (before..answers.len()).map(|finish| runner(finish).map(u32::from)).collect()
 }
 
 /// The bench program's listing.

@@ -6,6 +6,7 @@ ghost use lib.ListN.{length};
 ghost use Rattle.run.specs.Run.{runResult, runOutput};
 ghost use Rattle.run.specs.Steps.{machineOutput};
 ghost use Rattle.oil_grammar.specs.Reader.{oilResult, oilOutput, oilPlace};
+ghost use Rattle.waiting.specs.Result.{waitResult};
 ghost use Rattle.salvage.specs.Salvage.{salvaged, eventsAfter, stretchesAfter, resultOf};
 
 #[no_mangle]
@@ -38,4 +39,11 @@ pub extern "C" fn osek_oil(text: &[u8], config: &mut [u8], place: &mut [u64; 2])
     ensures place { λ _. ⌜ now (place .exit) ≡ oilPlace (now (text .entry)) ⌝ }
 {
     oil::osek_oil(text, config, place)
+}
+
+#[no_mangle]
+pub extern "C" fn osek_wait(config: &[u8], trace: &[u8], body: u32) -> u64
+    ensures { λ r. ⌜ r ≡ waitResult (now (config .entry)) (now (trace .entry)) body ⌝ }
+{
+    waits::osek_wait(config, trace, body)
 }

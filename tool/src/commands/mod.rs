@@ -9,6 +9,7 @@ mod oil;
 mod run;
 mod salvage;
 mod timeline;
+mod wait;
 
 use std::fmt::Write;
 
@@ -27,10 +28,11 @@ pub struct Command {
     pub run: fn(&Options) -> Result<Ending, Failure>,
 }
 
-const COMMANDS: [&Command; 9] = [
+const COMMANDS: [&Command; 10] = [
     &run::COMMAND,
     &explain::COMMAND,
     &timeline::COMMAND,
+    &wait::COMMAND,
     &asm::COMMAND,
     &oil::COMMAND,
     &dump::COMMAND,

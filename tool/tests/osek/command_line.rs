@@ -8,13 +8,14 @@ use osek_tests::cases::Random;
 
 use super::common::*;
 
-const COMMANDS: [&str; 8] = ["run", "explain", "timeline", "asm", "dump", "salvage", "cases", "compare"];
+const COMMANDS: [&str; 9] = ["run", "explain", "timeline", "wait", "asm", "dump", "salvage", "cases", "compare"];
 
 /// A command line of each command that prints something, in a folder with `both.txt` and `trace.txt`.
-const PRINTING: [&[&str]; 7] = [
+const PRINTING: [&[&str]; 8] = [
     &["run", "both.txt", "--json"],
     &["explain", "both.txt"],
     &["timeline", "both.txt", "--svg", "-"],
+    &["wait", "both.txt"],
     &["asm", "trace.txt", "-o", "-"],
     &["dump", "both.txt"],
     &["salvage", "trace.txt", "-o", "x"],
@@ -158,6 +159,8 @@ fn noise_never_breaks_a_command() {
             &["run", "a"],
             &["explain", "a", "b"],
             &["timeline", "a", "b", "--svg", "x"],
+            &["wait", "a", "b"],
+            &["wait", "a", "b", "0"],
             &["asm", "a", "-o", "x"],
             &["dump", "a"],
             &["salvage", "a", "-o", "x"],

@@ -13,6 +13,9 @@ pub const OSEK: &str = env!("CARGO_BIN_EXE_osek");
 /// A logger in text, with both parts.
 pub const LOGGER: &str = include_str!("../../../docs/logger.txt");
 
+/// A logger in which a body waits for others.
+pub const DOOR: &str = include_str!("../../../docs/door.txt");
+
 /// Document 01's configuration and trace as a text.
 pub const DOCUMENT_TEXT: &str = "\
 version 1

@@ -16,6 +16,7 @@ fn workplace() -> Folder {
     fs::create_dir(folder.0.join("docs")).expect("a folder can be made");
     fs::create_dir(folder.0.join("build")).expect("a folder can be made");
     folder.write("docs/logger.txt", LOGGER);
+    folder.write("docs/door.txt", DOOR);
     std::os::unix::fs::symlink(OSEK, folder.0.join("build/osek")).expect("a link can be made");
     folder
 }
@@ -62,10 +63,12 @@ fn every_command_in_the_documents_gives_what_stands_below_it() {
 }
 
 #[test]
-fn the_readme_shows_the_logger_s_text() {
+fn the_readme_shows_the_texts_of_both_loggers() {
     let readme = fs::read_to_string(project().join("README.md")).expect("README.md can be read");
-    let indented: String = LOGGER.lines().map(|line| format!("{}\n", format!("    {line}").trim_end())).collect();
-    assert!(readme.contains(&indented), "README.md has another text than docs/logger.txt");
+    for (name, text) in [("docs/logger.txt", LOGGER), ("docs/door.txt", DOOR)] {
+        let indented: String = text.lines().map(|line| format!("{}\n", format!("    {line}").trim_end())).collect();
+        assert!(readme.contains(&indented), "README.md has another text than {name}");
+    }
 }
 
 /// The words of docs/TEXT.md's grammar are the words that the tool knows.

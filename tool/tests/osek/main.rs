@@ -11,3 +11,4 @@ mod run;
 mod salvage;
 mod text;
 mod timeline;
+mod wait;
