@@ -1,0 +1,2 @@
+-- What the contracts of `draw` cite besides the definitions of `drawing`.
+pub mod Drawable
