@@ -2,8 +2,8 @@
  * OSEK OS reference, classes BCC1 and ECC1, with OSEKtime's time-triggered tasks above them: from a configuration and a
  * trace of events to who runs after each event.
  *
- * Four functions: osek_run, osek_salvage for damaged traces, osek_oil for configurations in OIL, and osek_wait, which
- * says how long a body waits to begin. They allocate
+ * Five functions: osek_run, osek_salvage for damaged traces, osek_oil for configurations in OIL, osek_draw for drawn traces,
+ * and osek_wait, which says how long a body waits to begin. They allocate
  * nothing, keep nothing between calls and never fail in another way than by the refusals below: any bytes may be handed
  * to them. They may be called from several threads at once, each with outputs of its own; they may share their inputs.
  *
@@ -265,6 +265,39 @@ uint64_t osek_oil(const uint8_t *text, size_t text_len,
                   uint8_t *config, size_t config_len,
                   uint64_t place[2]);
 
+/* Refusals of a draw, at place 0. Checked in this order: OSEK_DRAW_START, OSEK_DRAW_NOTHING, OSEK_TRACE_TOO_LONG,
+ * OSEK_OUTPUT_TOO_SHORT; for a count of 0, too. */
+enum {
+    OSEK_DRAW_START = 50,  /* the start value is 0 */
+    OSEK_DRAW_NOTHING = 51 /* all weights are 0, or a limit is, needed or not */
+};
+
+#define OSEK_WEIGHTS 12
+#define OSEK_LIMITS 4
+
+/*
+ * Draws a trace of exactly `count` events: from a start value, by Marsaglia's xorshift with shifts 13, 17 and 5 on 32
+ * bits. A draw advances the generator and gives its new value. For each event one value is drawn; modulo the sum of the
+ * weights it picks the first code whose running sum exceeds it, so that a code of weight 0 never occurs. Each argument is
+ * one more value, modulo the limit of its sort, in the order of the arguments; a mask is a whole value. The same inputs
+ * give the same bytes.
+ *
+ *     start         the start value, not 0
+ *     weights       twelve, in the order of the event codes, OSEK_EVENT_ACTIVATE first
+ *     limits        those of bodies (Activate, Chain, Line, Set), resources (Get, Release), tables (Start, Stop) and
+ *                   delays (Start), none of them 0: a number drawn is below its limit
+ *     count         how many events. At most OSEK_TRACE_MAX bytes are written; more are refused, and a count above
+ *                   OSEK_TRACE_MAX at once.
+ *     out, out_len  where the trace goes. Must not overlap the weights or the limits.
+ *
+ * Weights and limits are only read, and must not be null; out may be where out_len is 0.
+ *
+ * Result: refusal * 2^32 + place, or, with refusal 0, the length of the trace. A refused call leaves out untouched; an
+ * accepted one leaves the bytes behind the trace.
+ */
+uint64_t osek_draw(uint32_t start, const uint16_t weights[OSEK_WEIGHTS], const uint16_t limits[OSEK_LIMITS],
+                   uint32_t count, uint8_t *out, size_t out_len);
+
 /* The refusal in a result: one of OSEK_CONFIG_CUT to OSEK_OIL_NO_RESOURCE, or 0 if the call is accepted. */
 static inline uint32_t osek_refusal(uint64_t result) { return (uint32_t)(result >> 32); }
 
@@ -279,6 +312,9 @@ static inline uint32_t osek_ends(uint64_t result) { return (uint32_t)result; }
 
 /* The length of an accepted text's configuration. */
 static inline uint32_t osek_config_length(uint64_t result) { return (uint32_t)result; }
+
+/* The length of an accepted draw's trace. */
+static inline uint32_t osek_trace_length(uint64_t result) { return (uint32_t)result; }
 
 /* The lengths of the events and of the list of an accepted salvage. */
 static inline uint32_t osek_kept_length(uint64_t result) { return (uint32_t)(result & 65535); }

@@ -4,8 +4,9 @@
     salvage(trace)         what is kept of a damaged trace, and where something was dropped
     oil(text)              the configuration that an OIL text describes, or the exception RefusedText
     wait(config, trace, body)   how many bodies end before this one begins, or the exception Refused
+    draw(start, ..)        a drawn trace
     osek_run(..)           the C calls themselves, for buffers of one's own
-    osek_salvage(..), osek_oil(..), osek_wait(..)
+    osek_salvage(..), osek_oil(..), osek_draw(..), osek_wait(..)
 
 All inputs are bytes, as docs/RULES.md has them. The library is the file that OSEK_LIBRARY names, or the one that `make lib`
 left in the clone, or the one that is installed.
@@ -46,6 +47,8 @@ REFUSALS = {
     32: "a resource is held",
     34: "no body has this number",
     35: "the configuration has extended or time-triggered tasks",
+    50: "the start value of a draw is 0",
+    51: "all weights of a draw are 0, or a limit is",
     60: "a sign that no word has, or a comment that is not closed",
     61: "a word that may not stand there",
     62: "no object or attribute that may stand there",
@@ -107,9 +110,13 @@ def _library() -> ctypes.CDLL:
     library.osek_oil.argtypes = 2 * [ctypes.c_void_p, ctypes.c_size_t] + [ctypes.c_void_p]
     library.osek_wait.restype = ctypes.c_uint64
     library.osek_wait.argtypes = 2 * [ctypes.c_void_p, ctypes.c_size_t] + [ctypes.c_uint32]
+    library.osek_draw.restype = ctypes.c_uint64
+    library.osek_draw.argtypes = [ctypes.c_uint32, _Weights, _Limits, ctypes.c_uint32, ctypes.c_void_p, ctypes.c_size_t]
     return library
 
 
+_Weights = ctypes.c_uint16 * 12  # in the order of the event codes
+_Limits = ctypes.c_uint16 * 4  # of bodies, resources, tables and delays
 _LIBRARY = _library()
 
 
@@ -131,6 +138,11 @@ def osek_oil(text, config, place) -> int:
 def osek_wait(config, trace, body) -> int:
     """The C call: refusal * 2**32 + place, or the number of Finish events until the body begins."""
     return _LIBRARY.osek_wait(*_lent(config), *_lent(trace), body)
+
+
+def osek_draw(start, weights, limits, count, out) -> int:
+    """The C call: writes the trace into the writable buffer `out`; refusal * 2**32 + place, or the length of the trace."""
+    return _LIBRARY.osek_draw(start, _Weights(*weights), _Limits(*limits), count, *_taken(out))
 
 
 def run(config, trace) -> Run:
@@ -166,6 +178,26 @@ def wait(config, trace, body) -> int:
     if not 0 <= body < 1 << 32:
         raise ValueError("a body's number is 0 to 4,294,967,295")
     return _accepted(osek_wait(config, trace, body))
+
+
+def draw(start, weights, limits, count) -> bytes:
+    """A trace of `count` events, drawn from the 32-bit value `start` on.
+
+    `weights` are twelve numbers of 16 bits in the order of the event codes, `limits` four: an argument is below that of
+    bodies, resources, tables or delays.
+    """
+    weights, limits = _numbers_of(16, weights, 12, "weights"), _numbers_of(16, limits, 4, "limits")
+    start, count = _numbers_of(32, (start, count), 2, "start and count")
+    out = bytearray(TRACE_MAX)
+    return bytes(out[: _accepted(osek_draw(start, weights, limits, count, out))])
+
+
+def _numbers_of(bits, numbers, many, name):
+    numbers = tuple(numbers)
+    # ctypes would cut a larger number to its low bits.
+    if len(numbers) != many or not all(0 <= number < 1 << bits for number in numbers):
+        raise ValueError(f"{name}: {many} numbers of {bits} bits each")
+    return numbers
 
 
 def _lent(data):

@@ -86,6 +86,15 @@ REFUSED_WAITS = [
 ]
 
 
+# Start value, weights, limits, count, and the refusal.
+REFUSED_DRAWS = [
+    (0, [1] * 12, [1] * 4, 1, 50),
+    (1, [0] * 12, [1] * 4, 1, 51),
+    (1, [1] * 12, [1, 1, 1, 0], 1, 51),
+    (1, [1] * 12, [1] * 4, 2**32 - 1, 20),
+]
+
+
 class OsekTest(unittest.TestCase):
     def test_the_listing(self):
         answers, losses = osek.run(CONFIG, TRACE)
@@ -126,8 +135,9 @@ class OsekTest(unittest.TestCase):
         self.assertEqual(osek.osek_run(CONFIG, TRACE, out), 30 << 32 | 74)
         self.assertEqual(out, bytes(73))
         texts = {code for _, code, _, _ in REFUSED_TEXTS}
+        draws = {code for *_, code in REFUSED_DRAWS}
         waits = {code for _, _, _, code in REFUSED_WAITS}
-        self.assertEqual({code for _, _, code, _ in REFUSED} | {30} | texts | waits, set(osek.REFUSALS))
+        self.assertEqual({code for _, _, code, _ in REFUSED} | {30} | texts | draws | waits, set(osek.REFUSALS))
 
     def test_how_long_a_body_waits_to_begin(self):
         # ISR 2 runs, is requested again, and goes before task 1, twice.
@@ -162,6 +172,19 @@ class OsekTest(unittest.TestCase):
         with self.assertRaises(osek.Refused) as raised:
             osek.salvage(bytes(8193))
         self.assertEqual((raised.exception.code, raised.exception.place), (20, 0))
+
+    def test_a_trace_is_drawn(self):
+        trace = bytes.fromhex("080000 0704 0304 06 0cb9fcbcf109 06 0aa6f9a7e10a 0101")
+        self.assertEqual(osek.draw(2463534242, [1] * 12, [5, 3, 2, 100], 8), trace)
+        self.assertEqual(osek.draw(1, [1] * 12, [1] * 4, 0), b"")
+        for start, weights, limits, count, code in REFUSED_DRAWS:
+            with self.subTest(code=code), self.assertRaises(osek.Refused) as raised:
+                osek.draw(start, weights, limits, count)
+            self.assertEqual((raised.exception.code, raised.exception.place), (code, 0))
+            self.assertEqual(raised.exception.words, osek.REFUSALS[code])
+        for wrong in ((1, [65536] * 12, [1] * 4, 1), (1, [1] * 11, [1] * 4, 1), (1, [1] * 12, [-1] * 4, 1), (2**32, [1] * 12, [1] * 4, 1)):
+            with self.subTest(wrong=wrong), self.assertRaises(ValueError):
+                osek.draw(*wrong)
 
     def test_only_bytes_are_taken(self):
         for wrong in (7, "text", None):

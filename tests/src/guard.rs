@@ -7,6 +7,7 @@ use std::cell::Cell;
 use std::ffi::{c_int, c_long, c_void};
 
 use crate::cases::Case;
+use crate::draw::Request;
 use crate::oil::Source;
 use crate::salvage::Recording;
 
@@ -41,6 +42,9 @@ pub type Oil = fn(&[u8], &mut [u8], &mut [u64; 2]) -> u64;
 
 /// The question how long a body waits to begin, in the same way.
 pub type Wait = fn(&[u8], &[u8], u32) -> u64;
+
+/// The draw, in the same way.
+pub type Draw = fn(u32, &[u16; 12], &[u16; 4], u32, &mut [u8]) -> u64;
 
 /// The page against which slices are flush.
 #[derive(Clone, Copy, PartialEq, Eq, Debug)]
@@ -267,6 +271,46 @@ impl GuardedWait {
         self.config.protect(PROT_READ | PROT_WRITE);
         self.trace.protect(PROT_READ | PROT_WRITE);
         result
+    }
+}
+
+/// Guarded pages for the weights, the limits and the output of a draw.
+pub struct GuardedDraw {
+    weights: Pages,
+    limits: Pages,
+    out: Pages,
+}
+
+impl Default for GuardedDraw {
+    fn default() -> Self {
+        GuardedDraw { weights: Pages::new(24), limits: Pages::new(8), out: Pages::new(16_384) }
+    }
+}
+
+impl GuardedDraw {
+    /// The result and the whole output buffer after it. Ends the test if anything outside was touched.
+    pub fn run(&mut self, draw: Draw, request: &Request, side: Side) -> (u64, Vec<u8>) {
+        let bytes = |numbers: &[u16]| numbers.iter().flat_map(|number| number.to_ne_bytes()).collect::<Vec<u8>>();
+        self.weights.place(&bytes(&request.weights), side);
+        self.limits.place(&bytes(&request.limits), side);
+        self.out.place(&request.prefilled(), side);
+        self.weights.protect(PROT_READ);
+        self.limits.protect(PROT_READ);
+        let (result, out) = unsafe {
+            let weights = &*self.weights.lent(24, side).as_ptr().cast::<[u16; 12]>();
+            let limits = &*self.limits.lent(8, side).as_ptr().cast::<[u16; 4]>();
+            let out = self.out.lent(request.out_len, side);
+            (draw(request.start, weights, limits, request.count, out), out.to_vec())
+        };
+        self.weights.protect(PROT_READ | PROT_WRITE);
+        self.limits.protect(PROT_READ | PROT_WRITE);
+        let (seed, number) = CURRENT.get();
+        assert!(
+            self.out.surroundings_untouched(out.len(), side),
+            "the draw wrote outside its output of {} bytes: seed {seed} case {number}",
+            out.len()
+        );
+        (result, out)
     }
 }
 

@@ -5,6 +5,7 @@ pub mod by_hand;
 pub mod cases;
 pub mod compare;
 pub mod coverage;
+pub mod draw;
 pub mod fast;
 pub mod guard;
 pub mod listing;

@@ -1,4 +1,5 @@
-//! The proved run, the proved salvage, the proved reading of OIL texts and the proved wait, linked from the static libraries.
+//! The proved run, the proved salvage, the proved reading of OIL texts, the proved draw and the proved wait, linked from the static
+//! libraries.
 
 /// The static library's file.
 pub const LIBRARY: &str = env!("OSEK_LIBRARY");
@@ -22,6 +23,14 @@ extern "C" {
     ) -> u64;
     fn osek_oil(text: *const u8, text_len: usize, config: *mut u8, config_len: usize, place: *mut u64) -> u64;
     fn osek_wait(config: *const u8, config_len: usize, trace: *const u8, trace_len: usize, body: u32) -> u64;
+    pub fn osek_draw(
+        start: u32,
+        weights: *const u16,
+        limits: *const u16,
+        count: u32,
+        out: *mut u8,
+        out_len: usize,
+    ) -> u64;
 }
 
 /// Safe: the pointers come from slices, so they are not null and the output overlaps no input.
@@ -55,4 +64,10 @@ pub fn oil(text: &[u8], config: &mut [u8], place: &mut [u64; 2]) -> u64 {
 #[inline(never)]
 pub fn wait(config: &[u8], trace: &[u8], body: u32) -> u64 {
     unsafe { osek_wait(config.as_ptr(), config.len(), trace.as_ptr(), trace.len(), body) }
+}
+
+/// Safe for the same reasons.
+#[inline(never)]
+pub fn draw(start: u32, weights: &[u16; 12], limits: &[u16; 4], count: u32, out: &mut [u8]) -> u64 {
+    unsafe { osek_draw(start, weights.as_ptr(), limits.as_ptr(), count, out.as_mut_ptr(), out.len()) }
 }

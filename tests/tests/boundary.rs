@@ -10,7 +10,7 @@ use std::sync::Barrier;
 use osek_tests::cases;
 use osek_tests::compare::{outcome, FAST, SUBJECT};
 use osek_tests::listing::{DOCUMENT_CONFIG, DOCUMENT_TRACE};
-use osek_tests::subject::osek_run;
+use osek_tests::subject::{osek_draw, osek_run};
 
 /// The functions that a library defines for others.
 fn exported(library: &str, option: &str) -> Vec<String> {
@@ -50,6 +50,11 @@ fn a_pointer_of_length_0_may_be_null() {
         // No output: 4 × 17 + 2 × 3 bytes are needed.
         let result = osek_run(config.as_ptr(), config.len(), trace.as_ptr(), trace.len(), null_mut(), 0);
         assert_eq!(result, 30 << 32 | 74);
+        // No output for a drawn trace: none is needed for no event, a byte for a Finish.
+        let mut weights = [0; 12];
+        weights[1] = 1;
+        let draw = |count| osek_draw(1, weights.as_ptr(), [1; 4].as_ptr(), count, null_mut(), 0);
+        assert_eq!((draw(0), draw(1)), (0, 30 << 32 | 1));
     }
     assert!(out[6..].iter().all(|byte| *byte == 77));
 }

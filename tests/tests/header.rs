@@ -53,6 +53,8 @@ fn constants_are_those_of_the_documents() {
     assert_eq!(refusals, REFUSALS.map(u64::from));
     assert_eq!(group(&["OSEK_WAIT_"], "-"), [31, 32, 34, 35]);
     assert_eq!(group(&["OSEK_OIL_"], "-"), [60, 61, 62, 63, 64]);
+    assert_eq!(group(&["OSEK_DRAW_"], "-"), [50, 51]);
+    assert_eq!((value("OSEK_WEIGHTS"), value("OSEK_LIMITS")), (12, 4));
 }
 
 #[test]

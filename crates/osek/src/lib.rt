@@ -6,6 +6,7 @@ ghost use lib.ListN.{length};
 ghost use Rattle.run.specs.Run.{runResult, runOutput};
 ghost use Rattle.run.specs.Steps.{machineOutput};
 ghost use Rattle.oil_grammar.specs.Reader.{oilResult, oilOutput, oilPlace};
+ghost use Rattle.drawing.specs.Answer.{drawResult, drawOutput};
 ghost use Rattle.waiting.specs.Result.{waitResult};
 ghost use Rattle.salvage.specs.Salvage.{salvaged, eventsAfter, stretchesAfter, resultOf};
 
@@ -39,6 +40,22 @@ pub extern "C" fn osek_oil(text: &[u8], config: &mut [u8], place: &mut [u64; 2])
     ensures place { λ _. ⌜ now (place .exit) ≡ oilPlace (now (text .entry)) ⌝ }
 {
     oil::osek_oil(text, config, place)
+}
+
+#[no_mangle]
+pub extern "C" fn osek_draw(
+    start: u32,
+    weights: &[u16; 12],
+    limits: &[u16; 4],
+    count: u32,
+    out: &mut [u8],
+) -> u64
+    ensures result { λ r. ⌜ r
+        ≡ drawResult start (now (weights .entry)) (now (limits .entry)) count (length (now (out .entry))) ⌝ }
+    ensures output { λ _. ⌜ now (out .exit)
+        ≡ drawOutput start (now (weights .entry)) (now (limits .entry)) count (now (out .entry)) ⌝ }
+{
+    draw::osek_draw(start, weights, limits, count, out)
 }
 
 #[no_mangle]
