@@ -1,5 +1,5 @@
-//! The proved functions: what the run says of a configuration and a trace, what is salvaged of a damaged one, and how long
-//! a body waits to begin.
+//! The proved functions: what the run says of a configuration and a trace, what is salvaged of a damaged one, drawn traces,
+//! and how long a body waits to begin.
 
 use osek_tests::fast::{IDLE, OUTPUT_MAX, TRACE_MAX};
 use osek_tests::salvage::STRETCHES_MAX;
@@ -149,6 +149,19 @@ pub fn ends(config: &[u8], trace: &[u8], count: usize) -> Option<Vec<u32>> {
         _ => answers[finish - 1].runner,
     };
     (before..answers.len()).map(|finish| runner(finish).map(u32::from)).collect()
+}
+
+/// A drawn trace.
+pub fn draw(start: u32, weights: &[u16; 12], limits: &[u16; 4], count: u32) -> Result<Vec<u8>, Refused> {
+    let mut trace = vec![0; TRACE_MAX];
+    let result = subject::draw(start, weights, limits, count, &mut trace);
+    match Refused::of(result) {
+        Some(refused) => Err(refused),
+        None => {
+            trace.truncate(result as usize);
+            Ok(trace)
+        }
+    }
 }
 
 /// The bench program's listing.

@@ -3,6 +3,7 @@
 mod asm;
 mod cases;
 mod compare;
+mod draw;
 mod dump;
 mod explain;
 mod oil;
@@ -37,6 +38,7 @@ const COMMANDS: [&Command; 10] = [
     &oil::COMMAND,
     &dump::COMMAND,
     &salvage::COMMAND,
+    &draw::COMMAND,
     &cases::COMMAND,
     &compare::COMMAND,
 ];

@@ -8,7 +8,8 @@ use osek_tests::cases::Random;
 
 use super::common::*;
 
-const COMMANDS: [&str; 9] = ["run", "explain", "timeline", "wait", "asm", "dump", "salvage", "cases", "compare"];
+const COMMANDS: [&str; 10] =
+    ["run", "explain", "timeline", "wait", "asm", "dump", "salvage", "draw", "cases", "compare"];
 
 /// A command line of each command that prints something, in a folder with `both.txt` and `trace.txt`.
 const PRINTING: [&[&str]; 8] = [
@@ -19,6 +20,7 @@ const PRINTING: [&[&str]; 8] = [
     &["asm", "trace.txt", "-o", "-"],
     &["dump", "both.txt"],
     &["salvage", "trace.txt", "-o", "x"],
+    &["draw", "--count", "3", "-o", "x"],
     &["compare", "--sim", "true", "both.txt"],
 ];
 

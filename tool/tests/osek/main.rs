@@ -5,6 +5,7 @@ mod command_line;
 mod common;
 mod compare;
 mod documents;
+mod draw;
 mod explain;
 mod oil;
 mod run;
