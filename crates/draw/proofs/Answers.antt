@@ -11,7 +11,7 @@ use lib.Dec.{eqb, lit≤}
 use lib.ListN.{length}
 use Rattle.number.specs.declared.Written.{Written}
 use Rattle.number.specs.Refusal.{none, noRoom}
-use Rattle.number.specs.Output.{unwritten, writing, written}
+use Rattle.number.specs.Output.{unwritten, written}
 use Rattle.number.proofs.Cases.{by-lt, cond-either, neither}
 use Rattle.number.proofs.Theorems.{writing-fits, writing-no-room}
 use Rattle.event.specs.Refusal.{traceTooLong}

@@ -11,7 +11,7 @@ use borrow.Author.Tests.{eq-eqb, ne-eqb}
 use lib.ListN.{length, take, drop}
 use lib.Seq.{take-append-seam}
 use Rattle.number.specs.Refusal.{none}
-use Rattle.number.specs.Output.{unwritten, written}
+use Rattle.number.specs.Output.{unwritten}
 use Rattle.number.proofs.Theorems.{written-fits}
 use Rattle.event.specs.Trace.{readTrace}
 use Rattle.drawing.specs.Weights.{total}
@@ -41,7 +41,8 @@ pub accepted-readable : (x : ℕ) (ws ls : List ℕ) (n : ℕ) (d : List ℕ) �
     → let r = drawAnswer x ws ls n (length d) in r .refusal ≡ none
     → readTrace (take (r .place) (drawOutput x ws ls n d))
     ≡ record { events = drawEvents ws ls x n; refusal = none; place = length (drawBytes ws ls x n) }
-accepted-readable x ws ls n d in-range ok = ap readTrace (accepted-output x ws ls n d ok) ∙ drawn-readable ws ls x in-range n
+accepted-readable x ws ls n d in-range ok =
+    ap readTrace (accepted-output x ws ls n d ok) ∙ drawn-readable ws ls x in-range n
 
 -- a refused call leaves the slice as it was
 pub refused-same : (x : ℕ) (ws ls : List ℕ) (n : ℕ) (d : List ℕ)
@@ -53,7 +54,8 @@ refused-same x ws ls n d bad = simp (ne-eqb (drawAnswer x ws ls n (length d) .re
 pub many-refused : (x : ℕ) (ws ls : List ℕ) (n m : ℕ) → (x ≡ 0 → ⊥) → (total ws ≡ 0 → ⊥) → zeroLimit ls ≡ false
     → 8192 < n → drawAnswer x ws ls n m ≡ unwritten 20 0
 many-refused x ws ls n m start some limits many =
-    Answers.passes x ws ls n m start some limits ∙ Answers.writing-long (drawBytes ws ls x n) m (Answers.too-many ws ls x n many)
+    Answers.passes x ws ls n m start some limits
+    ∙ Answers.writing-long (drawBytes ws ls x n) m (Answers.too-many ws ls x n many)
 
 -- the refusal is the result's high half, 0 for an accepted call, and the place or the length its low half
 pub result-halves : (x : ℕ) (ws ls : List ℕ) (n m : ℕ) → let r = drawAnswer x ws ls n m in

@@ -7,7 +7,7 @@ use mathlib.Core.Bool.{_||_}
 use mathlib.Core.List.{List, [], _∷_, _++_, append-assoc, append-nil}
 use native.Mathlib.Nat.{mod-lt, mod-le, lt-of-le-of-lt, zero-add, suc-add, add-sub-of-le}
 use native.Mathlib.Omega.{arith}
-use borrow.Author.Tests.{eq-eqb, ne-eqb}
+use borrow.Author.Tests.{ne-eqb}
 use lib.Dec.{eqb, lit≤}
 use lib.ListN.{length, length-append}
 use Rattle.number.proofs.Cases.{by-eq, cond-either}
@@ -18,7 +18,6 @@ use Rattle.event.proofs.Theorems.{length-eventBytes}
 use Rattle.drawing.specs.declared.Sort.{Sort}
 use Rattle.drawing.specs.declared.Sort.the-variants.{Lacking, Body, Resource, Table, Delay, Mask}
 use Rattle.drawing.specs.declared.Argument.{Argument}
-use Rattle.drawing.specs.declared.Drawn.{Drawn}
 use Rattle.drawing.specs.Xorshift.{valueBound, next}
 use Rattle.drawing.specs.Weights.{weight, total, picked}
 use Rattle.drawing.specs.Drawing.{firstSort, secondSort, drawArgument, withArguments, drawEvent, drawEvents, valueAfter, drawBytes, Within, Each, Limited}

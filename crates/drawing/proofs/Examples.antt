@@ -2,7 +2,7 @@
 --
 -- In order: the first event after the value 1 of each code, which shows each sort of argument; the first and the last
 -- value of a share; a weight of 65,535 beside 1; eight events with all weights equal, and their bytes.
-use Prim.Native.Nat.{ℕ, suc, _-_}
+use Prim.Native.Nat.{ℕ, _-_}
 use mathlib.Core.Path.{_≡_, refl}
 use mathlib.Core.List.{List, [], _∷_, _++_}
 use lib.ListN.{replicate}

@@ -2,7 +2,7 @@
 -- twice has its shift doubled, so that 13 made four times, 17 twice and 5 eight times leave every value as it was.
 use Prim.Native.Nat.{ℕ, zero, suc, _+_, _≤_, _<_}
 use mathlib.Core.Path.{_≡_, refl, sym, ap, _∙_}
-use native.Mathlib.Nat.{mod-lt, le-refl, lt-of-le-of-lt}
+use native.Mathlib.Nat.{mod-lt, lt-of-le-of-lt}
 use native.Mathlib.Omega.{arith}
 use lib.Dec.{lit≤}
 use lib.Bits.{xor-lt}

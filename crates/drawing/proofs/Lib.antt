@@ -9,3 +9,4 @@ pub mod Shares
 pub mod Events
 mod Shift
 mod Generator
+mod Reach

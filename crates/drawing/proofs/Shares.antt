@@ -1,11 +1,11 @@
 -- Which values pick a code: those from the running sum before it up to its own, as many as its weight.
 use Prim.Native.Nat.{ℕ, zero, suc, _+_, _-_, _*_, _≤_, _<_}
-use mathlib.Core.Path.{_≡_, refl, sym, ap, _∙_}
+use mathlib.Core.Path.{_≡_, refl, _∙_}
 use mathlib.Core.List.{List, [], _∷_}
 use native.Mathlib.Nat.{add-zero}
 use native.Mathlib.Omega.{arith}
 use borrow.Author.Tests.{lt-ltb, le-ltb}
-use lib.ListN.{take, getD}
+use lib.ListN.{getD}
 use Rattle.number.proofs.Cases.{by-lt}
 use Rattle.drawing.specs.Weights.{weight, sum, runningSum, total, firstAbove, picked}
 
@@ -32,6 +32,9 @@ sum-le ws h (suc c) = omega (arith, sum-step ws c, sum-le ws h c, h c)
 
 before : (k : ℕ) → suc k - 1 ≡ k
 before k = omega arith
+
+after : (c : ℕ) → 1 ≤ c → suc (c - 1) ≡ c
+after c h = omega arith
 
 module _ (ws : List ℕ) (v : ℕ) where
   above-range : (c n : ℕ) → (c ≤ firstAbove ws v c n) × (firstAbove ws v c n ≤ c + n)
@@ -98,7 +101,18 @@ module _ (ws : List ℕ) (v : ℕ) where
   pub picked-weight : v < total ws → 1 ≤ weight ws (picked ws v)
   picked-weight h =
       let s = picked-share h in
-      omega (arith, rw back at (sum-step ws (picked ws v - 1)))
-    where
-      back : suc (picked ws v - 1) ≡ picked ws v
-      back = omega (arith, picked-range .0)
+      omega (arith, rw (after (picked ws v) (picked-range .0)) at (sum-step ws (picked ws v - 1)))
+
+  -- no code before the picked one has a running sum that exceeds v
+  pub picked-first : v < total ws
+      → (v < runningSum ws (picked ws v)) × ((c : ℕ) → c < picked ws v → runningSum ws c ≤ v)
+  picked-first h = let s = picked-share h in
+      (s .1, λ c lt. let m = sum-mono ws c (picked ws v - 1) (omega arith) in omega arith)
+
+-- the share of a code: which values it has, and how many
+pub picked-exactly : (ws : List ℕ) (v c : ℕ) → 1 ≤ c → c ≤ 12 → runningSum ws (c - 1) ≤ v → v < runningSum ws c
+    → picked ws v ≡ c
+picked-exactly ws v c p q low high = picked-here ws v (c - 1) (omega arith) low (rw (after c p) high) ∙ after c p
+
+pub share-size : (ws : List ℕ) (c : ℕ) → 1 ≤ c → runningSum ws c ≡ runningSum ws (c - 1) + weight ws c
+share-size ws c p = rw (after c p) at (sum-step ws (c - 1))

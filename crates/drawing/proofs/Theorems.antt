@@ -2,21 +2,21 @@
 -- prove it.
 --
 -- In order: the generator; which values pick a code; the drawn events; the trace of them.
-use Prim.Native.Nat.{ℕ, suc, _+_, _-_, _*_, _%_, _≤_, _<_}
-use mathlib.Core.Path.{_≡_, sym, ap, _∙_}
+use Prim.Native.Nat.{ℕ, _+_, _-_, _*_, _≤_, _<_}
+use mathlib.Core.Path.{_≡_}
 use mathlib.Core.List.{List, _++_}
-use native.Mathlib.Nat.{add-mod-right, mod-eq-of-lt}
 use native.Mathlib.Omega.{arith}
 use lib.ListN.{length, getD}
 use Rattle.number.specs.Refusal.{none}
-use Rattle.event.specs.Event.{activate, lastCode, Writable}
+use Rattle.event.specs.Event.{Writable}
 use Rattle.event.specs.Trace.{readTrace, AllWritable}
 use Rattle.event.proofs.Theorems.{trace-read-written}
 use Rattle.drawing.specs.Xorshift.{valueBound, next}
 use Rattle.drawing.specs.Weights.{weight, total, runningSum, picked}
-use Rattle.drawing.specs.Drawing.{firstSort, secondSort, withArguments, drawEvent, drawEvents, valueAfter, drawBytes, Within, Each, Limited}
+use Rattle.drawing.specs.Drawing.{firstSort, secondSort, drawEvent, drawEvents, valueAfter, drawBytes, Within, Each, Limited}
 use Rattle.drawing.proofs.Generator as Generator
 use Rattle.drawing.proofs.Shares as Shares
+use Rattle.drawing.proofs.Reach as Reach
 use Rattle.drawing.proofs.Events as Events
 
 -- the generator never leaves 1 to 4,294,967,295
@@ -32,61 +32,31 @@ pub next-onto : (y : ℕ) → 1 ≤ y → y < 4294967296 → (x : ℕ) × (1 ≤
 next-onto y p h =
     (Generator.previous y, Generator.previous-positive y p h, Generator.previous-lt y h, Generator.next-previous y h)
 
--- a value below the sum of the weights picks one of the codes 1 to 12
+-- every value picks one of the codes 1 to 12
 pub picked-range : (ws : List ℕ) (v : ℕ) → (1 ≤ picked ws v) × (picked ws v ≤ 12)
 picked-range = Shares.picked-range
 
--- "the first code whose running sum exceeds it": the running sum up to the code before does not
+-- "the first code whose running sum exceeds it": those of the codes before do not
 pub picked-first : (ws : List ℕ) (v : ℕ) → v < total ws
     → (v < runningSum ws (picked ws v)) × ((c : ℕ) → c < picked ws v → runningSum ws c ≤ v)
-picked-first ws v h = let s = Shares.picked-share ws v h in
-    (s .1, λ c lt. let m = Shares.sum-mono ws c (picked ws v - 1) (omega arith) in omega arith)
+picked-first = Shares.picked-first
 
 -- so a code's share are the values from the running sum before it up to its own, as many as its weight
 pub picked-exactly : (ws : List ℕ) (v c : ℕ) → 1 ≤ c → c ≤ 12 → runningSum ws (c - 1) ≤ v → v < runningSum ws c
     → picked ws v ≡ c
-picked-exactly ws v c p q low high =
-    Shares.picked-here ws v (c - 1) (omega arith) low (rw (back c p) high) ∙ back c p
-  where
-    back : (k : ℕ) → 1 ≤ k → suc (k - 1) ≡ k
-    back k h = omega arith
+picked-exactly = Shares.picked-exactly
 
-pub share-size : (ws : List ℕ) (c : ℕ) → 1 ≤ c
-    → runningSum ws c ≡ runningSum ws (c - 1) + weight ws c
-share-size ws c p = rw back at (Shares.sum-step ws (c - 1))
-  where
-    back : suc (c - 1) ≡ c
-    back = omega arith
+pub share-size : (ws : List ℕ) (c : ℕ) → 1 ≤ c → runningSum ws c ≡ runningSum ws (c - 1) + weight ws c
+share-size = Shares.share-size
 
 -- sums of 16-bit weights stay below 32 bits
 pub total-fits : (ws : List ℕ) → ((i : ℕ) → getD ws i 0 < 65536) → total ws ≤ 786420
 total-fits ws small = Shares.sum-le ws small 12
 
--- a value that picks c and is not 0, as no drawn value is
-abbrev reaching : List ℕ → ℕ → ℕ
-reaching ws c = runningSum ws (c - 1) + total ws
-
 -- every code whose weight is not 0 is drawn after some value of the generator
-pub each-code-drawn : (ws ls : List ℕ) (c : ℕ) → ((i : ℕ) → getD ws i 0 < 65536) → 1 ≤ c → c ≤ 12
-    → 1 ≤ weight ws c
+pub each-code-drawn : (ws ls : List ℕ) (c : ℕ) → ((i : ℕ) → getD ws i 0 < 65536) → 1 ≤ c → c ≤ 12 → 1 ≤ weight ws c
     → (x : ℕ) × (1 ≤ x) × (x < 4294967296) × (drawEvent ws ls x .event .code ≡ c)
-unfolding drawEvent withArguments
-each-code-drawn ws ls c small p q some = (o .0, o .1, o .2, ap (λ (y : ℕ). picked ws (y % total ws)) (o .3) ∙ picks)
-  where
-    grows : runningSum ws c ≡ runningSum ws (c - 1) + weight ws c
-    grows = share-size ws c p
-
-    within : runningSum ws c ≤ total ws
-    within = Shares.sum-mono ws c 12 q
-
-    o : (x : ℕ) × (1 ≤ x) × (x < 4294967296) × (next x ≡ reaching ws c)
-    o = next-onto (reaching ws c) (omega (arith, grows, within)) (omega (arith, grows, within, total-fits ws small))
-
-    picks : picked ws (reaching ws c % total ws) ≡ c
-    picks =
-        ap (picked ws)
-        (add-mod-right (runningSum ws (c - 1)) (total ws) ∙ mod-eq-of-lt (omega (arith, grows, within)))
-        ∙ picked-exactly ws (runningSum ws (c - 1)) c p q (omega arith) (omega (arith, grows))
+each-code-drawn = Reach.code-drawn
 
 -- "exactly as many events as asked"
 pub drawn-length : (ws ls : List ℕ) (x n : ℕ) → length (drawEvents ws ls x n) ≡ n

@@ -4,7 +4,7 @@
 --   total ws          the sum of all of them
 --   picked ws v       the code that a value below the sum picks
 --
--- Main laws: `picked-exactly`, `picked-weight`, `each-picked` (proofs/Theorems.antt).
+-- Main laws: `picked-first`, `picked-exactly`, `share-size`, `each-code-drawn` (proofs/Theorems.antt).
 use Prim.Native.Nat.{ℕ, zero, suc, _+_, _-_}
 use mathlib.Core.Bool.{cond}
 use mathlib.Core.List.{List, [], _∷_}

@@ -1,7 +1,6 @@
 -- The generator: "Marsaglia's xorshift with shifts 13, 17 and 5", on 32 bits (G. Marsaglia, Xorshift RNGs, 2003).
 --
---   next x       the value after x; a draw advances the generator and gives the new value
---   previous x   the value before x
+--   next x   the value after x; a draw advances the generator and gives the new value
 --
 -- Main laws: `next-range`, `next-injective`, `next-onto` (proofs/Theorems.antt); check values in proofs/Values.antt.
 use Prim.Native.Nat.{ℕ, _*_, _/_, _%_, _^_}
@@ -23,5 +22,6 @@ xorLeft k x = bitXor x (x * 2 ^ k % 2 ^ width)
 unfoldable pub xorRight : ℕ → ℕ → ℕ
 xorRight k x = bitXor x (x / 2 ^ k)
 
+-- to the left by 13, to the right by 17, to the left by 5
 unfoldable pub next : ℕ → ℕ
 next x = xorLeft 5 (xorRight 17 (xorLeft 13 x))

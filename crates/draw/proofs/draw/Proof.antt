@@ -1,5 +1,5 @@
 -- `draw` meets its contract: each of its four ways out is a law of `Answers`.
-use mathlib.Core.Path.{sym, ap, _∙_}
+use mathlib.Core.Path.{sym, _∙_}
 use native.Mathlib.Omega.{arith}
 use Rattle.draw.proofs.Answers.{drew-zero-start, drew-no-weight, drew-no-limit, drew-trace, limited}
 use borrow.Author.Needs.{needs}

@@ -1,5 +1,5 @@
 -- `fill` meets its contract: each of its four ways out is a law of `Answers`.
-use mathlib.Core.Path.{refl, ap, _∙_}
+use mathlib.Core.Path.{ap, _∙_}
 use native.Mathlib.Omega.{arith}
 use lib.ListN.{length}
 use Rattle.number.proofs.Theorems.{length-written}

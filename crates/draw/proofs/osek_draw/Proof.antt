@@ -1,6 +1,6 @@
 -- `osek_draw` meets its contract: it packs the answer of `draw`, whose parts are small.
 use Prim.Native.Nat.{_≤_}
-use mathlib.Core.Path.{ap, _∙_}
+use mathlib.Core.Path.{ap}
 use native.Mathlib.Omega.{arith}
 use Rattle.number.specs.declared.Written.{Written}
 use Rattle.number.specs.Output.{packed}

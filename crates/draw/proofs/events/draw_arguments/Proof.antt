@@ -1,5 +1,4 @@
 -- `draw_arguments` meets its contract: the second argument is drawn after the first.
-use mathlib.Core.Path.{refl}
 use Rattle.drawing.specs.Drawing.{withArguments}
 use borrow.Author.Needs.{needs}
 use Rattle.draw.proofs.events.draw_arguments.Statement.{statement}

@@ -1,7 +1,6 @@
 -- `put_event` meets its contract: the output is lent from the place on, and the event fits.
 use Prim.Native.Nat.{ℕ, _+_}
 use mathlib.Core.Path.{ap, _∙_}
-use mathlib.Core.List.{List}
 use native.Mathlib.Omega.{arith}
 use Rattle.event.specs.Event.{eventBytes}
 use Rattle.number.proofs.Laying.{laid-part}

@@ -68,7 +68,8 @@ returns c = let o = c .before in
 
 same-length : tie.Need-same-length Inv-loop μ-loop
 same-length c = let a = c .before .before .before .args in
-    ap length (returns c) ∙ length-written (drawBytes (a .weights .now) (a .limits .now) (a .start) (a .count)) (a .out .now)
+    ap length (returns c)
+    ∙ length-written (drawBytes (a .weights .now) (a .limits .now) (a .start) (a .count)) (a .out .now)
 
 pub write-trace-spec : {M : Type 1} → statement M
 write-trace-spec =
