@@ -2,8 +2,8 @@
  * OSEK OS reference, classes BCC1 and ECC1, with OSEKtime's time-triggered tasks above them: from a configuration and a
  * trace of events to who runs after each event.
  *
- * Five functions: osek_run, osek_salvage for damaged traces, osek_oil for configurations in OIL, osek_draw for drawn traces,
- * and osek_wait, which says how long a body waits to begin. They allocate
+ * Six functions: osek_run, osek_verdict for the answers that a unit recorded, osek_salvage for damaged traces, osek_oil for
+ * configurations in OIL, osek_draw for drawn traces, and osek_wait, which says how long a body waits to begin. They allocate
  * nothing, keep nothing between calls and never fail in another way than by the refusals below: any bytes may be handed
  * to them. They may be called from several threads at once, each with outputs of its own; they may share their inputs.
  *
@@ -298,7 +298,37 @@ enum {
 uint64_t osek_draw(uint32_t start, const uint16_t weights[OSEK_WEIGHTS], const uint16_t limits[OSEK_LIMITS],
                    uint32_t count, uint8_t *out, size_t out_len);
 
-/* The refusal in a result: one of OSEK_CONFIG_CUT to OSEK_OIL_NO_RESOURCE, or 0 if the call is accepted. */
+/* Refusal of a record, after those of osek_run; OSEK_OUTPUT_TOO_SHORT is never given. */
+enum {
+    OSEK_RECORD_LENGTH = 70 /* recorded_len is not a multiple of OSEK_ANSWER_SIZE, or there are more answers than
+                               events; place: 0 */
+};
+
+/*
+ * Judges a unit by the answers that it recorded: it passes exactly if they are those of osek_run, all of them. Losses are
+ * not judged.
+ *
+ *     config, config_len        the configuration's bytes; only read
+ *     trace, trace_len          the trace's bytes; only read
+ *     recorded, recorded_len    OSEK_ANSWER_SIZE bytes for each event, as osek_run writes them, without the losses; only
+ *                               read
+ *
+ * A pointer whose length is 0 may be null, as above. Nothing is written. The call needs 40 KB of stack.
+ *
+ * Result: UINT64_MAX, if the unit passes (osek_passed); the index, from 0, of the first event whose answer differs or is
+ * missing (osek_failed_event); or refusal * 2^32 + place.
+ */
+uint64_t osek_verdict(const uint8_t *config, size_t config_len,
+                      const uint8_t *trace, size_t trace_len,
+                      const uint8_t *recorded, size_t recorded_len);
+
+/* Whether a verdict is that the unit passes; ask before osek_refusal. */
+static inline int osek_passed(uint64_t verdict) { return verdict == ~(uint64_t)0; }
+
+/* The event at which a unit fails that neither passes nor is refused. */
+static inline uint32_t osek_failed_event(uint64_t verdict) { return (uint32_t)verdict; }
+
+/* The refusal in a result: one of OSEK_CONFIG_CUT to OSEK_RECORD_LENGTH, or 0 if the call is accepted. */
 static inline uint32_t osek_refusal(uint64_t result) { return (uint32_t)(result >> 32); }
 
 /* The place of a refusal. */

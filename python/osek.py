@@ -5,8 +5,9 @@
     oil(text)              the configuration that an OIL text describes, or the exception RefusedText
     wait(config, trace, body)   how many bodies end before this one begins, or the exception Refused
     draw(start, ..)        a drawn trace
+    verdict(config, trace, recorded)   None for a unit that passes, or the first event whose answer differs or is missing
     osek_run(..)           the C calls themselves, for buffers of one's own
-    osek_salvage(..), osek_oil(..), osek_draw(..), osek_wait(..)
+    osek_salvage(..), osek_oil(..), osek_draw(..), osek_wait(..), osek_verdict(..)
 
 All inputs are bytes, as docs/RULES.md has them. The library is the file that OSEK_LIBRARY names, or the one that `make lib`
 left in the clone, or the one that is installed.
@@ -24,6 +25,7 @@ STRETCHES_MAX = 12224  # suffices for every list of dropped stretches
 ANSWER_SIZE = 4
 LOSS_SIZE = 2
 IDLE = 255
+PASS = 2**64 - 1  # the verdict on a unit that passes
 
 REFUSALS = {
     1: "the configuration ends inside a number, or where one is missing",
@@ -54,6 +56,7 @@ REFUSALS = {
     62: "no object or attribute that may stand there",
     63: "an earlier object's name, or an attribute given twice",
     64: "no RESOURCE object bears this name",
+    70: "the recorded answers are not a multiple of four bytes, or are more than there are events",
 }
 
 
@@ -103,7 +106,7 @@ def _library() -> ctypes.CDLL:
     named = os.environ.get("OSEK_LIBRARY")
     library = ctypes.CDLL(named or (str(built) if built.exists() else "libosek.so.1"))
     # Without these a result would be cut to 32 bits, and every refusal lost.
-    for function in (library.osek_run, library.osek_salvage):
+    for function in (library.osek_run, library.osek_salvage, library.osek_verdict):
         function.restype = ctypes.c_uint64
         function.argtypes = 3 * [ctypes.c_void_p, ctypes.c_size_t]
     library.osek_oil.restype = ctypes.c_uint64
@@ -143,6 +146,11 @@ def osek_wait(config, trace, body) -> int:
 def osek_draw(start, weights, limits, count, out) -> int:
     """The C call: writes the trace into the writable buffer `out`; refusal * 2**32 + place, or the length of the trace."""
     return _LIBRARY.osek_draw(start, _Weights(*weights), _Limits(*limits), count, *_taken(out))
+
+
+def osek_verdict(config, trace, recorded) -> int:
+    """The C call: PASS, the index of the first event that differs or is missing, or refusal * 2**32 + place."""
+    return _LIBRARY.osek_verdict(*_lent(config), *_lent(trace), *_lent(recorded))
 
 
 def run(config, trace) -> Run:
@@ -198,6 +206,12 @@ def _numbers_of(bits, numbers, many, name):
     if len(numbers) != many or not all(0 <= number < 1 << bits for number in numbers):
         raise ValueError(f"{name}: {many} numbers of {bits} bits each")
     return numbers
+
+
+def verdict(config, trace, recorded) -> Optional[int]:
+    """Judges four recorded bytes an event: None for pass, else the index of the first event that differs or is missing."""
+    result = osek_verdict(config, trace, recorded)
+    return None if result == PASS else _accepted(result)
 
 
 def _lent(data):

@@ -137,7 +137,7 @@ class OsekTest(unittest.TestCase):
         texts = {code for _, code, _, _ in REFUSED_TEXTS}
         draws = {code for *_, code in REFUSED_DRAWS}
         waits = {code for _, _, _, code in REFUSED_WAITS}
-        self.assertEqual({code for _, _, code, _ in REFUSED} | {30} | texts | draws | waits, set(osek.REFUSALS))
+        self.assertEqual({code for _, _, code, _ in REFUSED} | {30, 70} | texts | draws | waits, set(osek.REFUSALS))
 
     def test_how_long_a_body_waits_to_begin(self):
         # ISR 2 runs, is requested again, and goes before task 1, twice.
@@ -186,12 +186,28 @@ class OsekTest(unittest.TestCase):
             with self.subTest(wrong=wrong), self.assertRaises(ValueError):
                 osek.draw(*wrong)
 
+
+    def test_a_record_passes_fails_at_an_event_or_is_refused(self):
+        rows = [row.split()[2:] for row in LISTING.splitlines()]
+        record = bytes(255 if field == "-" else int(field) for row in rows for field in row)
+        self.assertIsNone(osek.verdict(CONFIG, TRACE, record))
+        for at in range(len(record)):
+            wrong = record[:at] + bytes([record[at] ^ 1]) + record[at + 1 :]
+            self.assertEqual(osek.verdict(CONFIG, TRACE, wrong), at // 4)
+        self.assertEqual(osek.verdict(CONFIG, TRACE, record[:-4]), 16)
+        for config, recorded, code in ((CONFIG, record[:-1], 70), (CONFIG, record + bytes(4), 70), (b"", b"", 1)):
+            with self.assertRaises(osek.Refused) as raised:
+                osek.verdict(config, TRACE, recorded)
+            refused = raised.exception
+            self.assertEqual((refused.code, refused.place, refused.words), (code, 0, osek.REFUSALS[code]))
+
     def test_only_bytes_are_taken(self):
         for wrong in (7, "text", None):
             self.assertRaises(TypeError, osek.run, CONFIG, wrong)
             self.assertRaises(TypeError, osek.salvage, wrong)
             self.assertRaises(TypeError, osek.oil, wrong)
             self.assertRaises(TypeError, osek.wait, CONFIG, wrong, 0)
+            self.assertRaises(TypeError, osek.verdict, CONFIG, TRACE, wrong)
         self.assertEqual(osek.run(bytearray(CONFIG), memoryview(TRACE)), osek.run(CONFIG, TRACE))
 
     @unittest.skipUnless("OSEK_CASES" in os.environ, "OSEK_CASES names no file")

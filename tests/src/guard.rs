@@ -10,6 +10,7 @@ use crate::cases::Case;
 use crate::draw::Request;
 use crate::oil::Source;
 use crate::salvage::Recording;
+use crate::verdict::Unit;
 
 extern "C" {
     fn mmap(addr: *mut c_void, length: usize, prot: c_int, flags: c_int, fd: c_int, offset: i64) -> *mut c_void;
@@ -45,6 +46,9 @@ pub type Wait = fn(&[u8], &[u8], u32) -> u64;
 
 /// The draw, in the same way.
 pub type Draw = fn(u32, &[u16; 12], &[u16; 4], u32, &mut [u8]) -> u64;
+
+/// The verdict, in the same way.
+pub type Verdict = fn(&[u8], &[u8], &[u8]) -> u64;
 
 /// The page against which slices are flush.
 #[derive(Clone, Copy, PartialEq, Eq, Debug)]
@@ -311,6 +315,37 @@ impl GuardedDraw {
             out.len()
         );
         (result, out)
+    }
+}
+
+/// Guarded pages for the three inputs of a verdict, which writes nothing.
+pub struct GuardedVerdict {
+    config: Pages,
+    trace: Pages,
+    recorded: Pages,
+}
+
+impl Default for GuardedVerdict {
+    fn default() -> Self {
+        GuardedVerdict { config: Pages::new(8_192), trace: Pages::new(16_384), recorded: Pages::new(65_536) }
+    }
+}
+
+impl GuardedVerdict {
+    /// The result. No input can be written meanwhile.
+    pub fn run(&mut self, verdict: Verdict, unit: &Unit, side: Side) -> u64 {
+        let inputs =
+            [(&mut self.config, &unit.config), (&mut self.trace, &unit.trace), (&mut self.recorded, &unit.recorded)];
+        let [config, trace, recorded] = inputs.map(|(pages, bytes)| {
+            pages.place(bytes, side);
+            pages.protect(PROT_READ);
+            unsafe { &*pages.lent(bytes.len(), side) }
+        });
+        let result = verdict(config, trace, recorded);
+        for pages in [&self.config, &self.trace, &self.recorded] {
+            pages.protect(PROT_READ | PROT_WRITE);
+        }
+        result
     }
 }
 

@@ -18,3 +18,4 @@ pub mod stack;
 #[cfg(feature = "linked")]
 pub mod subject;
 pub mod triggered;
+pub mod verdict;

@@ -1,5 +1,4 @@
-//! The proved run, the proved salvage, the proved reading of OIL texts, the proved draw and the proved wait, linked from the static
-//! libraries.
+//! The proved run, salvage, reading of OIL texts, draw, wait and verdict, linked from the static libraries.
 
 /// The static library's file.
 pub const LIBRARY: &str = env!("OSEK_LIBRARY");
@@ -30,6 +29,14 @@ extern "C" {
         count: u32,
         out: *mut u8,
         out_len: usize,
+    ) -> u64;
+    pub fn osek_verdict(
+        config: *const u8,
+        config_len: usize,
+        trace: *const u8,
+        trace_len: usize,
+        recorded: *const u8,
+        recorded_len: usize,
     ) -> u64;
 }
 
@@ -70,4 +77,12 @@ pub fn wait(config: &[u8], trace: &[u8], body: u32) -> u64 {
 #[inline(never)]
 pub fn draw(start: u32, weights: &[u16; 12], limits: &[u16; 4], count: u32, out: &mut [u8]) -> u64 {
     unsafe { osek_draw(start, weights.as_ptr(), limits.as_ptr(), count, out.as_mut_ptr(), out.len()) }
+}
+
+/// Safe for the same reasons; nothing is written.
+#[inline(never)]
+pub fn verdict(config: &[u8], trace: &[u8], recorded: &[u8]) -> u64 {
+    unsafe {
+        osek_verdict(config.as_ptr(), config.len(), trace.as_ptr(), trace.len(), recorded.as_ptr(), recorded.len())
+    }
 }

@@ -10,7 +10,7 @@ use std::sync::Barrier;
 use osek_tests::cases;
 use osek_tests::compare::{outcome, FAST, SUBJECT};
 use osek_tests::listing::{DOCUMENT_CONFIG, DOCUMENT_TRACE};
-use osek_tests::subject::{osek_draw, osek_run};
+use osek_tests::subject::{osek_draw, osek_run, osek_verdict};
 
 /// The functions that a library defines for others.
 fn exported(library: &str, option: &str) -> Vec<String> {
@@ -55,6 +55,10 @@ fn a_pointer_of_length_0_may_be_null() {
         weights[1] = 1;
         let draw = |count| osek_draw(1, weights.as_ptr(), [1; 4].as_ptr(), count, null_mut(), 0);
         assert_eq!((draw(0), draw(1)), (0, 30 << 32 | 1));
+        // No configuration; no trace and no record; no record: the first event is missing.
+        assert_eq!(osek_verdict(null(), 0, null(), 0, null(), 0), 1 << 32);
+        assert_eq!(osek_verdict(config.as_ptr(), config.len(), null(), 0, null(), 0), u64::MAX);
+        assert_eq!(osek_verdict(config.as_ptr(), config.len(), trace.as_ptr(), trace.len(), null(), 0), 0);
     }
     assert!(out[6..].iter().all(|byte| *byte == 77));
 }

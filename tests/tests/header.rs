@@ -55,6 +55,7 @@ fn constants_are_those_of_the_documents() {
     assert_eq!(group(&["OSEK_OIL_"], "-"), [60, 61, 62, 63, 64]);
     assert_eq!(group(&["OSEK_DRAW_"], "-"), [50, 51]);
     assert_eq!((value("OSEK_WEIGHTS"), value("OSEK_LIMITS")), (12, 4));
+    assert_eq!(group(&["OSEK_RECORD_"], "-"), [70]);
 }
 
 #[test]

@@ -9,6 +9,7 @@ ghost use Rattle.oil_grammar.specs.Reader.{oilResult, oilOutput, oilPlace};
 ghost use Rattle.drawing.specs.Answer.{drawResult, drawOutput};
 ghost use Rattle.waiting.specs.Result.{waitResult};
 ghost use Rattle.salvage.specs.Salvage.{salvaged, eventsAfter, stretchesAfter, resultOf};
+ghost use Rattle.conformance.specs.Verdict.{verdictResult};
 
 #[no_mangle]
 pub extern "C" fn osek_run(config: &[u8], trace: &[u8], out: &mut [u8]) -> u64
@@ -63,4 +64,12 @@ pub extern "C" fn osek_wait(config: &[u8], trace: &[u8], body: u32) -> u64
     ensures { λ r. ⌜ r ≡ waitResult (now (config .entry)) (now (trace .entry)) body ⌝ }
 {
     waits::osek_wait(config, trace, body)
+}
+
+#[no_mangle]
+pub extern "C" fn osek_verdict(config: &[u8], trace: &[u8], recorded: &[u8]) -> u64
+    ensures { λ r. ⌜ r
+        ≡ verdictResult (now (config .entry)) (now (trace .entry)) (now (recorded .entry)) ⌝ }
+{
+    verdict::osek_verdict(config, trace, recorded)
 }

@@ -15,6 +15,8 @@ use osek_tests::cases::{self, Case, Shape};
 use osek_tests::compare::{self, outcome, Implementation};
 use osek_tests::fast::{OUTPUT_MAX, TRACE_MAX};
 use osek_tests::stack;
+#[cfg(feature = "linked")]
+use osek_tests::{subject, verdict::PASS};
 
 /// How often a row is run: rounds, and in each of them so many times by each implementation.
 #[derive(Clone, Copy)]
@@ -26,6 +28,7 @@ struct Times {
 /// For rows of drawn traces, and so many of them.
 const ONCE: Times = Times { rounds: 21, calls: 1 };
 const DRAWN: u64 = 300;
+const LENGTHS: [usize; 2] = [TRACE_MAX, 1024];
 /// For rows of one trace.
 const AGAIN: Times = Times { rounds: 101, calls: 7 };
 const SEED: u64 = 1;
@@ -107,6 +110,92 @@ fn call(implementation: Implementation, row: &[Case], out: &mut [u8]) -> f64 {
     taken as f64
 }
 
+/// Drawn traces of a shape.
+fn drawn(shape: Shape, length: usize) -> Vec<Case> {
+    (SEED..SEED + DRAWN).map(|seed| cases::timed(seed, shape, length)).collect()
+}
+
+/// A number below a million, as the pages write it.
+fn thousands(number: usize) -> String {
+    format!("{},{:03}", number / 1000, number % 1000)
+}
+
+/// The table of the verdict on right records, beside the run that it makes.
+#[cfg(feature = "linked")]
+fn verdicts(text: &mut String) {
+    let _ = writeln!(
+        text,
+        "Nanoseconds per event of the verdict on right records of the same traces, its own output buffer cleared within the \
+         time taken:\n"
+    );
+    let _ = writeln!(text, "| traces | bytes | events | osek_run | osek_verdict | osek_verdict / osek_run |");
+    let _ = writeln!(text, "|---|--:|--:|--:|--:|--:|");
+    let mut out = vec![0; OUTPUT_MAX];
+    for (shape, name) in SHAPES {
+        for length in LENGTHS {
+            let row = drawn(shape, length);
+            let records: Vec<Vec<u8>> = row.iter().map(right_record).collect();
+            let (mut runs, mut verdicts) = (Vec::new(), Vec::new());
+            for _ in 0..ONCE.rounds {
+                runs.push(call(compare::SUBJECT, &row, &mut out));
+                verdicts.push(judge(&row, &records));
+            }
+            let ratios = runs.iter().zip(&verdicts).map(|(run, verdict)| verdict / run).collect();
+            let events = events(&row) as f64;
+            let (run, verdict) = (median(runs) / events, median(verdicts) / events);
+            let length = thousands(length);
+            let _ =
+                writeln!(text, "| {name} | {length} | {events} | {run:.2} | {verdict:.2} | {:.2} |", median(ratios));
+        }
+    }
+    let _ = writeln!(text);
+}
+
+/// Its name where it is counted by callgrind.
+#[cfg(feature = "linked")]
+const VERDICT: &str = "osek_verdict";
+
+/// The table of the verdict's instructions.
+#[cfg(feature = "linked")]
+fn verdict_instructions(text: &mut String) {
+    let _ = writeln!(text, "\nInstructions per event of the verdict on a right record:\n");
+    let _ = writeln!(text, "| trace | events | osek_run | osek_verdict | osek_verdict / osek_run |");
+    let _ = writeln!(text, "|---|--:|--:|--:|--:|");
+    for (shape, name) in SHAPES {
+        let events = events(&[cases::timed(SEED, shape, TRACE_MAX)]);
+        let counts = instructions(compare::SUBJECT.name, name).zip(instructions(VERDICT, name));
+        let cells = counts.map_or_else(
+            || "- | - | -".into(),
+            |(run, verdict)| {
+                let of_event = |count: u64| count as f64 / events as f64;
+                format!("{:.1} | {:.1} | {:.2}", of_event(run), of_event(verdict), verdict as f64 / run as f64)
+            },
+        );
+        let _ = writeln!(text, "| {name} | {events} | {cells} |");
+    }
+}
+
+/// The answers that a right unit records.
+#[cfg(feature = "linked")]
+fn right_record(case: &Case) -> Vec<u8> {
+    let (events, mut out) = outcome(compare::FAST, case);
+    out.truncate(4 * events as usize);
+    out
+}
+
+/// The nanoseconds of one verdict for each trace of a row.
+#[cfg(feature = "linked")]
+fn judge(row: &[Case], records: &[Vec<u8>]) -> f64 {
+    let mut taken = 0;
+    for (case, recorded) in row.iter().zip(records) {
+        let start = Instant::now();
+        let result = subject::verdict(&case.config, &case.trace, std::hint::black_box(recorded));
+        taken += start.elapsed().as_nanos();
+        assert_eq!(result, PASS, "a right record passes");
+    }
+    taken as f64
+}
+
 fn median(mut values: Vec<f64>) -> f64 {
     values.sort_by(f64::total_cmp);
     values[values.len() / 2]
@@ -169,22 +258,30 @@ fn named(name: &str) -> Case {
 
 /// Runs an implementation so many times, for callgrind.
 fn repeat(implementation: &str, name: &str, times: &str) {
+    let (case, times) = (named(name), times.parse().expect("a count"));
+    #[cfg(feature = "linked")]
+    if implementation == VERDICT {
+        let recorded = right_record(&case);
+        for _ in 0..times {
+            std::hint::black_box(subject::verdict(&case.config, &case.trace, std::hint::black_box(&recorded)));
+        }
+        return;
+    }
     let implementation =
         *implementations().iter().find(|other| other.name == implementation).expect("the implementation has a name");
-    let case = named(name);
     let mut out = vec![0; case.out_len];
-    for _ in 0..times.parse().expect("a count") {
+    for _ in 0..times {
         std::hint::black_box((implementation.run)(&case.config, &case.trace, std::hint::black_box(&mut out)));
     }
 }
 
 /// Instructions of one call and nothing else; none without valgrind.
-fn instructions(implementation: Implementation, name: &str) -> Option<u64> {
+fn instructions(implementation: &str, name: &str) -> Option<u64> {
     let collected = |times: usize| {
         let output = Command::new("valgrind")
             .args(["--tool=callgrind", "--callgrind-out-file=/dev/null"])
             .arg(std::env::current_exe().ok()?)
-            .args(["--repeat", implementation.name, name, &times.to_string()])
+            .args(["--repeat", implementation, name, &times.to_string()])
             .output()
             .ok()?;
         let said = String::from_utf8_lossy(&output.stderr).into_owned();
@@ -230,21 +327,25 @@ fn tables() -> String {
         }
     };
     let names = SHAPES.map(|(_, name)| name.to_string());
-    let drawn =
-        SHAPES.map(|(shape, _)| (SEED..SEED + DRAWN).map(|seed| cases::timed(seed, shape, TRACE_MAX)).collect());
-    let _ = writeln!(
-        text,
-        "Nanoseconds per event of {DRAWN} drawn traces of 8,192 bytes, each met once a round, and median of the ratios of \
-         {} rounds:\n",
-        ONCE.rounds
-    );
-    columns(&mut text, "traces");
-    rows(&mut text, &names, &drawn, ONCE);
+    for length in LENGTHS {
+        let _ = writeln!(
+            text,
+            "Nanoseconds per event of {DRAWN} drawn traces of {} bytes, each met once a round, and median of the ratios \
+             of {} rounds:\n",
+            thousands(length),
+            ONCE.rounds
+        );
+        columns(&mut text, "traces");
+        rows(&mut text, &names, &SHAPES.map(|(shape, _)| drawn(shape, length)), ONCE);
+        let _ = writeln!(text);
+    }
+    #[cfg(feature = "linked")]
+    verdicts(&mut text);
 
     let cases = SHAPES.map(|(shape, _)| vec![cases::timed(SEED, shape, TRACE_MAX)]);
     let _ = writeln!(
         text,
-        "\nOne trace of 8,192 bytes again and again, whose branches a processor learns, and median of the ratios of {} \
+        "One trace of 8,192 bytes again and again, whose branches a processor learns, and median of the ratios of {} \
          rounds:\n",
         AGAIN.rounds
     );
@@ -271,8 +372,10 @@ fn tables() -> String {
     let _ = writeln!(text, "\nInstructions per event, counted by callgrind:\n");
     columns(&mut text, "trace");
     for ((_, name), row) in SHAPES.iter().zip(&cases) {
-        counted(&mut text, name, events(row), &|implementation| instructions(implementation, name));
+        counted(&mut text, name, events(row), &|implementation| instructions(implementation.name, name));
     }
+    #[cfg(feature = "linked")]
+    verdict_instructions(&mut text);
     let _ = writeln!(
         text,
         "\nInstructions of the event by which {LEAVING} of {} extended tasks leave, one after the other, a run without \
@@ -282,7 +385,7 @@ fn tables() -> String {
     columns(&mut text, "event");
     for (name, _) in LEAVES {
         counted(&mut text, name, LEAVING, &|implementation| {
-            instructions(implementation, name)?.checked_sub(instructions(implementation, NONE_LEAVES)?)
+            instructions(implementation.name, name)?.checked_sub(instructions(implementation.name, NONE_LEAVES)?)
         });
     }
 

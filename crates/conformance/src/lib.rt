@@ -1,0 +1,1 @@
+// The verdict on a unit is definitions alone, in specs/. The crate `verdict` has its code.

@@ -1,0 +1,2 @@
+-- What the private functions are held to.
+pub mod Answers
