@@ -44,7 +44,7 @@ pub fn refusal(pair: &Pair, refused: Refused) -> String {
             _ = writeln!(text, "{} has {}.", of(part).file, counted(of(part).bytes.len(), "byte"));
         }
         About::Output => _ = writeln!(text, "The output needs {}.", counted(place, "byte")),
-        About::Unreadable(_) => {}
+        About::Unreadable(_) | About::Record => {}
     }
     text
 }

@@ -1,9 +1,9 @@
-//! The proved functions: what the run says of a configuration and a trace, what is salvaged of a damaged one, drawn traces,
-//! and how long a body waits to begin.
+//! The proved functions: what the run says of a configuration and a trace, the verdict on recorded answers, what is salvaged
+//! of a damaged trace, drawn traces, and how long a body waits to begin.
 
 use osek_tests::fast::{IDLE, OUTPUT_MAX, TRACE_MAX};
 use osek_tests::salvage::STRETCHES_MAX;
-use osek_tests::{listing, subject};
+use osek_tests::{listing, subject, verdict};
 
 use crate::layout;
 
@@ -109,6 +109,24 @@ pub fn trace_refusal(trace: &[u8]) -> Option<Refused> {
 pub fn fresh_start(config: &[u8]) -> Option<Answer> {
     const LINE_OF_NOBODY: [u8; 6] = [7, 0xff, 0xff, 0xff, 0xff, 0x0f];
     run(config, &LINE_OF_NOBODY).ok()?.answers.first().copied()
+}
+
+/// What is said of the answers that a unit recorded.
+#[derive(Clone, Copy, PartialEq, Eq, Debug)]
+pub enum Verdict {
+    Pass,
+    /// At this event: its answer differs, or is missing.
+    Fails(usize),
+    Refused(Refused),
+}
+
+pub fn verdict(config: &[u8], trace: &[u8], recorded: &[u8]) -> Verdict {
+    let result = subject::verdict(config, trace, recorded);
+    match Refused::of(result) {
+        _ if result == verdict::PASS => Verdict::Pass,
+        Some(refused) => Verdict::Refused(refused),
+        None => Verdict::Fails(result as usize),
+    }
 }
 
 /// What is kept of a damaged trace, and what is dropped.

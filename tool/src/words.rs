@@ -303,6 +303,8 @@ pub enum About {
     TooLong(Part),
     /// The output's length; the place is the bytes needed.
     Output,
+    /// The length of a unit's record.
+    Record,
     /// A file.
     Unreadable(Part),
 }
@@ -320,8 +322,8 @@ const fn refusal_word(code: u32, about: About, meaning: &'static str) -> Refusal
 const CUT: &str = "the input ends where a number, or the rest of one, is missing";
 const MALFORMED: &str = "a number is above 4,294,967,295 or not in its shortest form";
 
-/// Those of the run, then those of the bench program.
-pub const REFUSALS: [RefusalWord; 19] = [
+/// Those of the run, then those of the bench program and of the verdict.
+pub const REFUSALS: [RefusalWord; 20] = [
     refusal_word(1, About::Unread(Part::Config), CUT),
     refusal_word(2, About::Unread(Part::Config), MALFORMED),
     refusal_word(3, About::Range, "the version is unknown"),
@@ -341,6 +343,11 @@ pub const REFUSALS: [RefusalWord; 19] = [
     refusal_word(30, About::Output, "the output is too short"),
     refusal_word(40, About::Unreadable(Part::Config), "the configuration can't be read"),
     refusal_word(41, About::Unreadable(Part::Trace), "the trace can't be read"),
+    refusal_word(
+        70,
+        About::Record,
+        "the record is not four bytes an answer, or has more answers than there are events",
+    ),
 ];
 
 /// The refusal of a file that can't be read.
@@ -409,7 +416,7 @@ mod tests {
         for code in coverage::REFUSALS {
             assert!(refusal(code).is_some(), "{code}");
         }
-        assert_eq!(REFUSALS.len(), coverage::REFUSALS.len() + 2);
+        assert_eq!(REFUSALS.len(), coverage::REFUSALS.len() + 3);
     }
 
     #[test]

@@ -10,6 +10,7 @@ mod oil;
 mod run;
 mod salvage;
 mod timeline;
+mod verdict;
 mod wait;
 
 use std::fmt::Write;
@@ -39,6 +40,7 @@ const COMMANDS: [&Command; 10] = [
     &dump::COMMAND,
     &salvage::COMMAND,
     &draw::COMMAND,
+    &verdict::COMMAND,
     &cases::COMMAND,
     &compare::COMMAND,
 ];

@@ -12,4 +12,5 @@ mod run;
 mod salvage;
 mod text;
 mod timeline;
+mod verdict;
 mod wait;
