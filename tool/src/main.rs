@@ -19,6 +19,7 @@ mod progress;
 mod reference;
 mod text;
 mod timeline;
+mod unit;
 mod verdict;
 mod words;
 

@@ -9,6 +9,7 @@ use osek_tests::fast::OUTPUT_MAX;
 
 use super::Command;
 use crate::compare::difference::Expected;
+use crate::compare::jobs;
 use crate::compare::library;
 use crate::compare::reduce::reduce;
 use crate::compare::simulator::{Reply, Simulator, Subject};
@@ -18,16 +19,17 @@ use crate::layout;
 use crate::names::Names;
 use crate::options::{Accepts, Options};
 use crate::output;
-use crate::progress::Progress;
 use crate::text::dump;
+use crate::unit::Way;
 use crate::words::{self, counted};
 
 pub const COMMAND: Command = Command {
     name: "compare",
     brief: "--sim 'COMMAND'",
     usage: &[
-        "--sim 'COMMAND' [--seed S] [--first K] [--count N] [-o DIR]",
+        "--sim 'COMMAND' [--seed S] [--first K] [--count N] [--jobs J] [-o DIR]",
         "--lib FILE.so ..",
+        "--unit 'COMMAND' ..",
         "--sim 'COMMAND' CONFIG TRACE | LOGGER [-o DIR]",
     ],
     summary: "a simulator of one's own beside the reference",
@@ -38,19 +40,24 @@ the command that shows it again.
 
   --sim 'COMMAND'   a command line for sh; two file names follow it, the configuration and the trace, both bytes. It
                     prints the listing, or the output's bytes; a refused run prints a line `refused CODE PLACE` in
-                    either case. Its exit status is not looked at.
+                    either case. Its exit status is not looked at. A command that greets as docs/UNIT.md says stays,
+                    and plays all cases in one process.
+  --unit 'COMMAND'  a unit: a command that greets and stays, and is given no file names; in lock-step
   --lib FILE.so     a shared library that exports osek_run as include/osek.h declares it. The whole output buffer is
                     compared, at the drawn length; each call has a process of its own.
   --seed S          which cases, as for osek cases; 1 if not given
   --first K         the number of the first case; 0 if not given
   --count N         how many; 1000 if not given
+  --jobs J          so many at once, 1 to 64; 1 if not given
+  --lock-step       an event is sent when the one before is answered; refused cases are left out
+  --whole           a unit gets the whole trace at once
   --timeout T       seconds for one run, 1 to 3600; 10 if not given
   --out-len N       with --lib and two files: the length of the output, 0 to 65535; 32832 if not given
   -o DIR            where the difference is written, over what is there; otherwise the folder `difference`
 ",
     accepts: Accepts {
-        flags: &[],
-        values: &["--sim", "--lib", "--seed", "--first", "--count", "--timeout", "--out-len", "-o"],
+        flags: &["--lock-step", "--whole"],
+        values: &["--sim", "--lib", "--unit", "--jobs", "--seed", "--first", "--count", "--timeout", "--out-len", "-o"],
         files: &["CONFIG", "TRACE"],
         optional: 2,
     },
@@ -64,8 +71,7 @@ const TIMEOUT: u64 = 10;
 const REDUCE: Duration = Duration::from_secs(60);
 
 fn run(options: &Options) -> Result<Ending, Failure> {
-    let timeout = options.number("--timeout", TIMEOUT, 1, 3_600)?;
-    let simulator = Simulator::new(subject(options)?, Duration::from_secs(timeout))?;
+    let simulator = simulator(options)?;
     if options.files.is_empty() {
         drawn(options, &simulator)
     } else {
@@ -73,17 +79,30 @@ fn run(options: &Options) -> Result<Ending, Failure> {
     }
 }
 
+fn simulator(options: &Options) -> Result<Simulator, Failure> {
+    let timeout = options.number("--timeout", TIMEOUT, 1, 3_600)?;
+    let subject = subject(options)?;
+    let way = match (options.flag("--lock-step"), options.flag("--whole"), &subject) {
+        (true, true, _) => return Err(options.wrong("--lock-step and --whole exclude each other")),
+        (true, _, Subject::Library(_)) => return Err(options.wrong("--lock-step goes with --sim or --unit")),
+        (true, false, _) | (false, false, Subject::Unit(_)) => Way::LockStep,
+        _ => Way::Whole,
+    };
+    Simulator::new(subject, way, Duration::from_secs(timeout))
+}
+
 fn subject(options: &Options) -> Result<Subject, Failure> {
-    match (options.value("--sim"), options.value("--lib")) {
-        (Some(command), None) => Ok(Subject::Command(command.into())),
-        (None, Some(file)) => {
+    match (options.value("--sim"), options.value("--unit"), options.value("--lib")) {
+        (Some(command), None, None) => Ok(Subject::Command(command.into())),
+        (None, Some(command), None) => Ok(Subject::Unit(command.into())),
+        (None, None, Some(file)) => {
             let path = std::fs::canonicalize(file)
                 .map_err(|error| Failure::Input(format!("{file} can't be read: {}", failure::reason(&error))))?;
             let path = path.display().to_string();
             library::check(&path)?;
             Ok(Subject::Library(path))
         }
-        _ => Err(options.wrong("either --sim or --lib is needed")),
+        _ => Err(options.wrong("one of --sim, --unit and --lib is needed")),
     }
 }
 
@@ -95,30 +114,22 @@ fn drawn(options: &Options, simulator: &Simulator) -> Result<Ending, Failure> {
     let seed = options.number("--seed", 1, 0, u64::MAX)?;
     let first = options.number("--first", 0, 0, u64::MAX / 2)?;
     let count = options.number("--count", 1_000, 1, u64::MAX / 2)?;
-    let mut accepted = 0;
-    let mut progress = Progress::new(count);
-    for number in first..first + count {
-        let mut case = cases::case(seed, number);
-        case.fill = 0;
-        if let Subject::Command(_) = simulator.subject() {
-            case.out_len = OUTPUT_MAX;
-        }
-        let expected = Expected::of(&case);
-        if expected.difference(&simulator.run(&case)?).is_some() {
-            drop(progress);
-            output::print(format!("case {number} of seed {seed} differs\n"))?;
-            return found(options, simulator, &case);
-        }
-        accepted += u64::from(expected.outcome.is_ok());
-        progress.at(number - first + 1);
+    let jobs = options.number("--jobs", 1, 1, 64)?;
+    let is_library = matches!(simulator.subject(), Subject::Library(_));
+    let draw = |number| {
+        let case = cases::case(seed, number);
+        let out_len = if is_library { case.out_len } else { OUTPUT_MAX };
+        Case { fill: 0, out_len, ..case }
+    };
+    let dealt = jobs::compare(first..first + count, jobs, draw, || self::simulator(options))?;
+    if let Some(number) = dealt.differs {
+        output::print(format!("case {number} of seed {seed} differs\n"))?;
+        return found(options, simulator, &draw(number));
     }
-    drop(progress);
     let cases = counted(count as usize, "case");
-    let refused = words::grouped(count - accepted);
-    output::print(format!(
-        "{cases} of seed {seed}: all equal ({} accepted, {refused} refused)\n",
-        words::grouped(accepted)
-    ))?;
+    let (accepted, refused) = (words::grouped(dealt.accepted), words::grouped(count - dealt.accepted));
+    let played = if simulator.takes_refused() { "" } else { " and not played" };
+    output::print(format!("{cases} of seed {seed}: all equal ({accepted} accepted, {refused} refused{played})\n"))?;
     Ok(Ending::Done)
 }
 
@@ -130,7 +141,13 @@ fn given(options: &Options, simulator: &Simulator) -> Result<Ending, Failure> {
     let pair = input::read_pair(&options.files)?;
     let out_len = options.number("--out-len", OUTPUT_MAX as u64, 0, 65_535)? as usize;
     let case = Case { config: pair.config.source.bytes, trace: pair.trace.bytes, out_len, fill: 0 };
-    match Expected::of(&case).difference(&simulator.run(&case)?) {
+    let expected = Expected::of(&case);
+    if expected.outcome.is_err() && !simulator.takes_refused() {
+        return Err(Failure::Input(
+            "the reference refuses this case, and in lock-step accepted ones alone are played".into(),
+        ));
+    }
+    match expected.difference(&simulator.run(&case)?) {
         None => {
             output::print("equal\n")?;
             Ok(Ending::Done)
@@ -213,11 +230,12 @@ fn write_files(folder: &str, case: &Case, expected: &Expected, reply: &Reply, to
 /// The command that compares the small case again.
 fn again(options: &Options, folder: &str, case: &Case) -> String {
     let mut words = vec!["osek".into(), COMMAND.name.into()];
-    for name in ["--sim", "--lib", "--timeout"] {
+    for name in ["--sim", "--lib", "--unit", "--timeout"] {
         if let Some(value) = options.value(name) {
             words.extend([name.into(), quoted(value)]);
         }
     }
+    words.extend(["--lock-step", "--whole"].into_iter().filter(|flag| options.flag(flag)).map(String::from));
     if case.out_len != OUTPUT_MAX {
         words.extend(["--out-len".into(), case.out_len.to_string()]);
     }

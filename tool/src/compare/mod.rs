@@ -2,6 +2,7 @@
 //! and made small ([`reduce`]).
 
 pub mod difference;
+pub mod jobs;
 pub mod library;
 pub mod reduce;
 pub mod simulator;

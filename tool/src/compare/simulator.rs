@@ -1,5 +1,7 @@
-//! Runs a simulator as a process on a case.
+//! A simulator beside the reference: a process that stays and speaks the protocol of docs/UNIT.md, told by its greeting, or
+//! a process for each case.
 
+use std::cell::RefCell;
 use std::fs;
 use std::io::{self, ErrorKind, Read};
 use std::os::unix::process::{CommandExt, ExitStatusExt};
@@ -13,11 +15,15 @@ use osek_tests::cases::Case;
 
 use super::library;
 use crate::failure::{self, Failure};
+use crate::unit::{self, Played, Unit, Way};
 
 /// Which simulator.
+#[derive(Clone)]
 pub enum Subject {
-    /// A command line that is given two file names and prints the output's bytes or the listing.
+    /// A command line that is given two file names and prints the output's bytes or the listing; or greets, and stays.
     Command(String),
+    /// A command line that greets and stays, and is given no file names: a unit.
+    Unit(String),
     /// A shared library that exports `osek_run`.
     Library(String),
 }
@@ -37,8 +43,18 @@ pub enum Reply {
 
 pub struct Simulator {
     subject: Subject,
+    way: Way,
     timeout: Duration,
     folder: Scratch,
+    talk: RefCell<Talk>,
+}
+
+/// How it is spoken to.
+enum Talk {
+    /// Not known before the first case.
+    Open,
+    Stays(Unit),
+    ProcessACase,
 }
 
 /// More than the longest listing.
@@ -50,33 +66,74 @@ const COMPLAINT_MAX: u64 = 4_096;
 const NOT_STARTED: [i32; 2] = [126, 127];
 
 impl Simulator {
-    pub fn new(subject: Subject, timeout: Duration) -> Result<Simulator, Failure> {
-        Ok(Simulator { subject, timeout, folder: Scratch::new()? })
+    pub fn new(subject: Subject, way: Way, timeout: Duration) -> Result<Simulator, Failure> {
+        Ok(Simulator { subject, way, timeout, folder: Scratch::new()?, talk: RefCell::new(Talk::Open) })
     }
 
     pub fn subject(&self) -> &Subject {
         &self.subject
     }
 
+    /// Whether it is given inputs that the reference refuses: not where each event waits for an answer.
+    pub fn takes_refused(&self) -> bool {
+        self.way == Way::Whole
+    }
+
     pub fn run(&self, case: &Case) -> Result<Reply, Failure> {
-        let (config, trace) = (self.folder.0.join("config.bin"), self.folder.0.join("trace.bin"));
-        for (file, bytes) in [(&config, &case.config), (&trace, &case.trace)] {
+        let mut talk = self.talk.borrow_mut();
+        if let Talk::Open = *talk {
+            *talk = self.first_talk(case)?;
+        }
+        match &mut *talk {
+            Talk::Stays(unit) => Ok(reply(unit.play(&case.config, &case.trace, self.way), &case.config)),
+            _ => self.in_process(case),
+        }
+    }
+
+    /// Whether it greets.
+    fn first_talk(&self, case: &Case) -> Result<Talk, Failure> {
+        match &self.subject {
+            Subject::Library(_) => Ok(Talk::ProcessACase),
+            Subject::Unit(line) => Unit::start(line, &[], self.timeout).map(Talk::Stays),
+            Subject::Command(line) => {
+                let files = self.write_case(case)?.map(|file| file.display().to_string());
+                let unit = Unit::greets(line, &[&files[0], &files[1]], self.timeout);
+                match unit.map_or(Talk::ProcessACase, Talk::Stays) {
+                    Talk::ProcessACase if self.way == Way::LockStep => {
+                        Err(cant_start("it does not greet, and lock-step needs the protocol of docs/UNIT.md"))
+                    }
+                    talk => Ok(talk),
+                }
+            }
+        }
+    }
+
+    /// The case in two files.
+    fn write_case(&self, case: &Case) -> Result<[PathBuf; 2], Failure> {
+        let files = ["config.bin", "trace.bin"].map(|name| self.folder.0.join(name));
+        for (file, bytes) in files.iter().zip([&case.config, &case.trace]) {
             fs::write(file, bytes).map_err(|error| Failure::write(&file.display().to_string(), &error))?;
         }
+        Ok(files)
+    }
+
+    /// A process for this case alone.
+    fn in_process(&self, case: &Case) -> Result<Reply, Failure> {
+        let [config, trace] = self.write_case(case)?;
         let said = self.process(&config, &trace, case)?;
         Ok(match (&self.subject, said.failed) {
             (_, Some(why)) => Reply::Nothing(why),
-            (Subject::Command(_), None) => printed(said.out),
             (Subject::Library(_), None) => match library::reply(&said.out) {
                 Some((result, out)) => Reply::Call(result, out),
                 None => Reply::Nothing(said.complaint),
             },
+            (_, None) => printed(said.out),
         })
     }
 
     fn process(&self, config: &Path, trace: &Path, case: &Case) -> Result<Said, Failure> {
         let mut command = match &self.subject {
-            Subject::Command(line) => {
+            Subject::Command(line) | Subject::Unit(line) => {
                 let mut shell = Command::new("sh");
                 shell.arg("-c").arg(format!("{line} \"$@\"")).arg("sh").args([config, trace]);
                 shell
@@ -106,6 +163,20 @@ fn cant_start(why: &str) -> Failure {
     Failure::Input(format!("the simulator can't be started: {why}"))
 }
 
+/// What a process that stays gave, as one that prints would have said it.
+fn reply(played: Played, config: &[u8]) -> Reply {
+    match played {
+        Played::Answered { fresh, answers, losses } => match unit::fresh_answer(config) {
+            Some(expected) if expected != fresh => {
+                Reply::Nothing(format!("its fresh start is {fresh:?}, and not {expected:?}"))
+            }
+            _ => Reply::Output([answers, losses].concat()),
+        },
+        Played::Refused(refused) => Reply::Listing(refused.line()),
+        Played::Broken { broken, .. } => Reply::Nothing(broken.to_string()),
+    }
+}
+
 /// A listing begins with its header or with `refused`; no status has the number of an s or an r.
 fn printed(bytes: Vec<u8>) -> Reply {
     let is_listing = bytes.starts_with(b"step ") || bytes.starts_with(b"refused ");
@@ -132,7 +203,7 @@ fn listen(mut child: Child, timeout: Duration) -> Said {
     let out = out.recv_timeout(timeout).ok();
     let exit = if out.is_some() { ended(&mut child, begin, timeout) } else { None };
     if exit.is_none() {
-        end_group(&child);
+        unit::end_group(&child);
         let _ = child.wait();
     }
     let complaint = complaint.recv_timeout(Duration::from_secs(1)).unwrap_or_default();
@@ -177,15 +248,6 @@ fn ended(child: &mut Child, begin: Instant, timeout: Duration) -> Option<ExitSta
             _ => return None,
         }
     }
-}
-
-fn end_group(child: &Child) {
-    extern "C" {
-        fn kill(process: i32, signal: i32) -> i32;
-    }
-    const SIGKILL: i32 = 9;
-    // The group was made for this child, which has not been waited for, so that its number is still its own.
-    unsafe { kill(-(child.id() as i32), SIGKILL) };
 }
 
 /// A folder for the files of one comparison, removed at its end.

@@ -8,7 +8,7 @@ use osek_tests::subject::LIBRARY;
 use super::common::*;
 
 /// Built beside the tool by `cargo test`.
-fn stand_in() -> PathBuf {
+pub fn stand_in() -> PathBuf {
     let path = Path::new(OSEK).with_file_name("examples").join("stand_in");
     assert!(path.is_file(), "{} is not built: cargo build --example stand_in, in the same profile", path.display());
     path
@@ -124,7 +124,7 @@ fn a_simulator_that_can_not_be_started_is_no_difference() {
 #[test]
 fn exactly_one_simulator_is_named() {
     let folder = Folder::document();
-    let needed = "compare: either --sim or --lib is needed; see osek compare --help";
+    let needed = "compare: one of --sim, --unit and --lib is needed; see osek compare --help";
     folder.osek(&["compare"]).fails(2, needed);
     folder.osek(&["compare", "--sim", "x", "--lib", "y"]).fails(2, needed);
     folder

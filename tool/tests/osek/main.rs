@@ -12,5 +12,6 @@ mod run;
 mod salvage;
 mod text;
 mod timeline;
+mod unit;
 mod verdict;
 mod wait;

@@ -1,0 +1,62 @@
+//! Cases dealt out to several simulators at once, each in a thread of its own.
+
+use std::ops::Range;
+use std::sync::atomic::{AtomicU64, Ordering};
+use std::sync::Mutex;
+use std::thread;
+
+use osek_tests::cases::Case;
+
+use super::difference::Expected;
+use super::simulator::Simulator;
+use crate::failure::Failure;
+use crate::progress::Progress;
+
+/// What came of the cases.
+pub struct Dealt {
+    /// The number of the first case that differs. No later one counts, however many run at once.
+    pub differs: Option<u64>,
+    /// Of the cases before it, those that the reference accepts.
+    pub accepted: u64,
+}
+
+/// Compares cases up to the first difference.
+pub fn compare(
+    numbers: Range<u64>,
+    jobs: u64,
+    draw: impl Fn(u64) -> Case + Sync,
+    simulator: impl Fn() -> Result<Simulator, Failure> + Sync,
+) -> Result<Dealt, Failure> {
+    let next = AtomicU64::new(numbers.start);
+    let differs = AtomicU64::new(u64::MAX);
+    let accepted = AtomicU64::new(0);
+    let progress = Mutex::new(Progress::new(numbers.end - numbers.start));
+    let work = || -> Result<(), Failure> {
+        let simulator = simulator()?;
+        loop {
+            let number = next.fetch_add(1, Ordering::Relaxed);
+            if number >= numbers.end.min(differs.load(Ordering::Relaxed)) {
+                return Ok(());
+            }
+            let case = draw(number);
+            let expected = Expected::of(&case);
+            let is_accepted = expected.outcome.is_ok();
+            let is_played = is_accepted || simulator.takes_refused();
+            if is_played && expected.difference(&simulator.run(&case)?).is_some() {
+                differs.fetch_min(number, Ordering::Relaxed);
+            }
+            accepted.fetch_add(u64::from(is_accepted), Ordering::Relaxed);
+            if let Ok(mut progress) = progress.lock() {
+                progress.at(number - numbers.start + 1);
+            }
+        }
+    };
+    thread::scope(|scope| {
+        let threads: Vec<_> = (0..jobs).map(|_| scope.spawn(work)).collect();
+        threads
+            .into_iter()
+            .try_for_each(|thread| thread.join().unwrap_or_else(|panic| std::panic::resume_unwind(panic)))
+    })?;
+    let differs = Some(differs.into_inner()).filter(|number| *number != u64::MAX);
+    Ok(Dealt { differs, accepted: accepted.into_inner() })
+}
