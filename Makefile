@@ -22,13 +22,15 @@ ARCHIVES = $(EXPORTS:%=target/staticlib/lib%.a)
 SOURCES := KIT crates.txt $(shell find crates -name must-fail -prune -o -type f -print)
 
 .NOTPARALLEL:
-.PHONY: help run test host lib tool install uninstall fuzz speed clean need need-cargo
+.PHONY: help run test host lib tool unit unit-check install uninstall fuzz speed clean need need-cargo
 
 ## make run          proves the bench program and runs it on the listing of document 01
 ## make test         the gate: every crate proved, every must-fail edit refused, every test run
 ## make host         build/osek_host, the bench host in C, for files of one's own
 ## make lib          build/libosek.a and build/libosek.so, for C, C++, Python and whatever calls C
 ## make tool         build/osek, the bench tool: text in, words and pictures out, a simulator beside the reference
+## make unit         the emulated unit: a Sloth kernel for QEMU's Cortex-M3, right and with each planted fault (unit/README.md)
+## make unit-check   the unit beside the reference, and every fault found
 ## make install      header, libraries, osek.pc, host and manual page under PREFIX=/usr/local; make uninstall
 ## make fuzz         drawn cases beside the Rust versions of tests/: SEED=7 COUNT=20000
 ## make speed        the run timed beside Rust; WRITE=1 puts the tables into docs/PERFORMANCE.md
@@ -95,6 +97,15 @@ tool: need-cargo lib
 	@cargo build --quiet --release --offline --locked --manifest-path tool/Cargo.toml --target-dir tool/target
 	@install tool/target/release/osek build/osek
 	@echo 'build/osek --help lists its commands'
+
+# The emulated unit, and its checks; skipped with a word where its packages can't be had
+UNIT_PACKAGES = unit/get-packages || { echo 'skipped: gcc-arm-none-eabi and qemu-system-arm of Debian are not here'; exit 0; }
+
+unit:
+	@$(UNIT_PACKAGES); $(MAKE) --no-print-directory -C unit
+
+unit-check: tool
+	@$(UNIT_PACKAGES); $(MAKE) --no-print-directory -C unit && unit/check
 
 fuzz: need-cargo lib
 	@cargo run $(CARGO) --bin fuzz -- $(SEED) $(COUNT)

@@ -42,14 +42,15 @@ the command that shows it again.
                     prints the listing, or the output's bytes; a refused run prints a line `refused CODE PLACE` in
                     either case. Its exit status is not looked at. A command that greets as docs/UNIT.md says stays,
                     and plays all cases in one process.
-  --unit 'COMMAND'  a unit: a command that greets and stays, and is given no file names; in lock-step
+  --unit 'COMMAND'  a unit: a command that greets and stays, and is given no file names; in lock-step, refused cases
+                    left out
   --lib FILE.so     a shared library that exports osek_run as include/osek.h declares it. The whole output buffer is
                     compared, at the drawn length; each call has a process of its own.
   --seed S          which cases, as for osek cases; 1 if not given
   --first K         the number of the first case; 0 if not given
   --count N         how many; 1000 if not given
   --jobs J          so many at once, 1 to 64; 1 if not given
-  --lock-step       an event is sent when the one before is answered; refused cases are left out
+  --lock-step       an event is sent when the one before is answered, refused cases left out
   --whole           a unit gets the whole trace at once
   --timeout T       seconds for one run, 1 to 3600; 10 if not given
   --out-len N       with --lib and two files: the length of the output, 0 to 65535; 32832 if not given
@@ -144,7 +145,7 @@ fn given(options: &Options, simulator: &Simulator) -> Result<Ending, Failure> {
     let expected = Expected::of(&case);
     if expected.outcome.is_err() && !simulator.takes_refused() {
         return Err(Failure::Input(
-            "the reference refuses this case, and in lock-step accepted ones alone are played".into(),
+            "the reference refuses this case, and a unit is given accepted ones alone".into(),
         ));
     }
     match expected.difference(&simulator.run(&case)?) {

@@ -74,9 +74,9 @@ impl Simulator {
         &self.subject
     }
 
-    /// Whether it is given inputs that the reference refuses: not where each event waits for an answer.
+    /// Whether it is given inputs that the reference refuses: no unit is, and nothing in lock-step.
     pub fn takes_refused(&self) -> bool {
-        self.way == Way::Whole
+        self.way == Way::Whole && !matches!(self.subject, Subject::Unit(_))
     }
 
     pub fn run(&self, case: &Case) -> Result<Reply, Failure> {

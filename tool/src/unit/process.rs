@@ -56,6 +56,8 @@ impl Process {
         // A group of its own, so that all of it can be ended.
         command.args(arguments).process_group(0);
         command.stdin(Stdio::piped()).stdout(Stdio::piped()).stderr(Stdio::piped());
+        // The call that is made between fork and exec allocates nothing.
+        unsafe { command.pre_exec(end_with_parent) };
         let mut child = command.spawn().map_err(|error| Stop::Ended(failure::reason(&error)))?;
         let pipes = (child.stdin.take(), child.stdout.take(), child.stderr.take());
         let (Some(input), Some(output), Some(errors)) = pipes else { unreachable!("all three are piped") };
@@ -178,7 +180,6 @@ pub fn end_group(child: &Child) {
     extern "C" {
         fn kill(process: c_int, signal: c_int) -> c_int;
     }
-    const SIGKILL: c_int = 9;
     // It has not been waited for, so that its number is still its own.
     unsafe { kill(-(child.id() as c_int), SIGKILL) };
 }
@@ -199,6 +200,8 @@ fn keep_last(mut pipe: impl Read + Send + 'static) -> Arc<Mutex<Vec<u8>>> {
     kept
 }
 
+const SIGKILL: c_int = 9;
+
 /// As poll(2) has it.
 #[repr(C)]
 struct Poll {
@@ -210,6 +213,14 @@ struct Poll {
 extern "C" {
     fn poll(files: *mut Poll, count: c_ulong, milliseconds: c_int) -> c_int;
     fn fcntl(file: c_int, command: c_int, argument: c_int) -> c_int;
+    fn prctl(operation: c_int, argument: c_ulong) -> c_int;
+}
+
+/// The process is killed when this one ends, however it ends.
+fn end_with_parent() -> std::io::Result<()> {
+    const PR_SET_PDEATHSIG: c_int = 1;
+    unsafe { prctl(PR_SET_PDEATHSIG, SIGKILL as c_ulong) };
+    Ok(())
 }
 
 /// Reads and writes of this file return at once.

@@ -49,7 +49,7 @@ fn the_samples_are_equal_in_both_ways_and_several_at_once() {
             (&["--sim", sample, "--count", "300", "--jobs", "3"], " refused)\n"),
             (&["--unit", sample, "--count", "40"], " refused and not played)\n"),
             (&["--sim", sample, "--count", "40", "--lock-step", "--jobs", "2"], " refused and not played)\n"),
-            (&["--unit", sample, "--count", "300", "--whole"], " refused)\n"),
+            (&["--unit", sample, "--count", "300", "--whole"], " refused and not played)\n"),
             (&["--unit", sample, "config.bin", "trace.bin"], "equal\n"),
         ] {
             let out = folder.osek(&[&["compare"], arguments].concat()).done();
@@ -121,12 +121,13 @@ fn in_lock_step_a_unit_can_not_look_ahead() {
 }
 
 #[test]
-fn a_refused_case_is_not_played_in_lock_step() {
+fn a_refused_case_is_not_played_on_a_unit() {
     let folder = Folder::document().with("bad.bin", [13]);
     let unit = sample_in_c(&folder).display().to_string();
-    let refused = "the reference refuses this case, and in lock-step accepted ones alone are played";
+    let refused = "the reference refuses this case, and a unit is given accepted ones alone";
     folder.osek(&["compare", "--unit", &unit, "config.bin", "bad.bin"]).fails(4, refused);
-    folder.osek(&["compare", "--unit", &unit, "--whole", "config.bin", "bad.bin"]).prints("equal\n", 0);
+    folder.osek(&["compare", "--sim", &unit, "--lock-step", "config.bin", "bad.bin"]).fails(4, refused);
+    folder.osek(&["compare", "--sim", &unit, "config.bin", "bad.bin"]).prints("equal\n", 0);
 }
 
 #[test]
