@@ -623,7 +623,7 @@ pub fn push_event(bytes: &mut Vec<u8>, event: Event) {
 }
 
 /// A trace of at most `limit` bytes.
-fn draw_trace(random: &mut Random, config: &Config, limit: usize) -> Vec<u8> {
+pub fn draw_trace(random: &mut Random, config: &Config, limit: usize) -> Vec<u8> {
     let mut habits = draw_habits(random, config);
     let mut kernel = Kernel::<NextDue>::fresh(config);
     let mut trace = Vec::new();

@@ -52,6 +52,33 @@ pub struct Coverage {
     sights: BTreeMap<&'static str, u64>,
 }
 
+/// Why a configuration can never give a status for an event; none where nothing speaks against it.
+pub fn never_given(config: &fast::Config, code: u8, status: u8) -> Option<&'static str> {
+    let bodies = || 0..config.bodies() as u32;
+    let resources = || 0..config.resources() as u32;
+    let isr = bodies().any(|body| config.is_isr(body));
+    let extended = bodies().any(|body| config.is_extended(body));
+    let others = bodies().any(|body| !config.is_extended(body) && !config.is_timed(body));
+    let task = bodies().any(|body| config.is_osek_task(body));
+    let stranger = |body: u32| !config.is_timed(body) && resources().any(|resource| !config.is_user(body, resource));
+    let wanted: &[(bool, &'static str)] = match (code, status) {
+        (1, 0 | 4) | (3, 0) => &[(task, "no task")],
+        (3, 4) => &[(bodies().filter(|body| config.is_osek_task(*body)).count() > 1, "fewer than two tasks")],
+        (2 | 3, 6) | (4, 0 | 1) | (5, 0 | 5) => &[(config.resources() > 0, "no resource")],
+        (4, 33) => &[(bodies().any(stranger), "every body is a user of every resource")],
+        (7, 0 | 4) => &[(isr, "no ISR")],
+        (8, 0 | 8 | 7) | (9, 0 | 5) => &[(config.tables() > 0, "no table")],
+        (10 | 11, 0) | (11, 7) | (12, 0) => &[(extended, "no extended task")],
+        (10, 6) => &[(extended, "no extended task"), (config.resources() > 0, "no resource")],
+        (10 | 12, 1) => &[(others, "every body is an extended task")],
+        (11, 1) => {
+            &[(bodies().any(|body| config.is_task(body) && !config.is_extended(body)), "every task is extended")]
+        }
+        _ => &[],
+    };
+    wanted.iter().find(|(met, _)| !met).map(|(_, reason)| *reason)
+}
+
 impl Coverage {
     /// Counts a case and the answer to it.
     pub fn add(&mut self, case: &Case, result: u64, out: &[u8]) {
@@ -211,5 +238,40 @@ impl fmt::Display for Coverage {
             self.longest_trace, self.exact_output
         )?;
         write!(f, "most bodies begun at once: {}, most resources held at once: {}", self.most_begun, self.most_held)
+    }
+}
+
+#[cfg(test)]
+mod tests {
+    use super::*;
+    use crate::fast::{Cells, OUTPUT_MAX};
+    use crate::sights;
+
+    /// What a configuration is said never to show is shown by none of its drawn runs, and is said of every sight at times.
+    #[test]
+    fn what_can_never_be_shown_is_not() {
+        let mut barred = BTreeMap::<&str, u64>::new();
+        for case in (0..6_000).map(|number| crate::cases::case(5, number)) {
+            let mut out = vec![0; OUTPUT_MAX];
+            let events = fast::run::<Cells>(&case.config, &case.trace, &mut out);
+            let Ok(config) = fast::read_config(&case.config) else { continue };
+            for sight in sights::sights().filter(|sight| sights::never(&config, sight).is_some()) {
+                *barred.entry(sight).or_default() += 1;
+            }
+            if events >> 32 != 0 {
+                continue;
+            }
+            let mut watch = Watch::of(&config);
+            let mut at = 0;
+            for answer in out.chunks_exact(4).take(events as usize) {
+                let code = case.trace[at];
+                let (event, next) = fast::read_event(&case.trace, at).expect("the run accepted the trace");
+                at = next;
+                assert_eq!(never_given(&config, code, answer[0]), None, "status {} of {code}", answer[0]);
+                watch.step(event, answer[0], |sight| assert_eq!(sights::never(&config, sight), None, "{sight}"));
+            }
+        }
+        let free: Vec<&str> = sights::sights().filter(|sight| !barred.contains_key(sight)).collect();
+        assert_eq!(free, Vec::<&str>::new());
     }
 }

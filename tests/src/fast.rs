@@ -362,6 +362,12 @@ impl Config {
         (0..self.tables as u32).find(|table| self.timed_ranks >> first(table) & 1 == 1)
     }
 
+    /// The tasks of all entries, by number.
+    pub fn entry_tasks(&self) -> impl Iterator<Item = u32> + '_ {
+        let entries = self.table[..self.tables].last().map_or(0, |table| usize::from(table.end));
+        self.entry[..entries].iter().map(|entry| u32::from(self.number[usize::from(entry.rank)]))
+    }
+
     pub fn offsets(&self, table: usize) -> impl Iterator<Item = u32> + '_ {
         let Table { first, end, .. } = self.table[table];
         self.entry[usize::from(first)..usize::from(end)].iter().map(|entry| u32::from(entry.offset))

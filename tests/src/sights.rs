@@ -34,7 +34,26 @@ const CLEARED_BY_CHAIN: &str = "bits cleared by Chain";
 const CLEARED_BY_ITSELF: &str = "bits cleared by Chain to itself";
 const CLEARED_BY_ENTRY: &str = "bits cleared by a due entry";
 
-const OF_TASKS_AND_ISRS: [&str; 30] = [
+const NESTED_RELEASE: &str = "a Release while the body holds another resource";
+const BEGINS_AT_RELEASE: &str = "a body that begins at a Release";
+const BEGINS_AGAIN: &str = "an ISR whose second request begins at its end";
+const CHAIN_TO_ITSELF: &str = "a Chain to the running task itself";
+const LINE_AFTER_DUE: &str = "a Line after a tick with a due entry, before the next tick";
+const LINE_WAITS_AT_DUE: &str = "an ISR's request that waits while an entry is due";
+const DUE_WHILE_HELD: &str = "an entry that makes a task ready while a resource is held";
+const LOST_ENTRY: &str = "a due entry lost on a ready or started task";
+const SEVERAL_DUE: &str = "several tasks made ready in one tick";
+
+const OF_TASKS_AND_ISRS: [&str; 39] = [
+    NESTED_RELEASE,
+    BEGINS_AT_RELEASE,
+    BEGINS_AGAIN,
+    CHAIN_TO_ITSELF,
+    LINE_AFTER_DUE,
+    LINE_WAITS_AT_DUE,
+    DUE_WHILE_HELD,
+    LOST_ENTRY,
+    SEVERAL_DUE,
     TURN_PASSED,
     LINES_LOST[0][0],
     LINES_LOST[0][1],
@@ -82,6 +101,8 @@ pub struct Watch<'c> {
     /// The ISR that a Line began while nobody ran and every task waited, and the task that it resumed.
     alarm: Option<u32>,
     woken: Option<u32>,
+    /// An entry was due at the last tick.
+    due_now: bool,
     triggered: triggered::Memory,
 }
 
@@ -95,6 +116,7 @@ impl<'c> Watch<'c> {
             set_ready: [0; BODIES_MAX],
             alarm: None,
             woken: None,
+            due_now: false,
             triggered: triggered::Memory::default(),
         }
     }
@@ -113,6 +135,15 @@ impl<'c> Watch<'c> {
             (Event::Wait(mask), 0) => self.wait(&before, mask, &mut see),
             (Event::Set(task, mask), 0) => self.set(&before, task, mask, &mut see),
             (Event::Clear(mask), 0) => see(of_mask(mask)),
+            (Event::Release(_), 0) => self.release(&before, &mut see),
+            (Event::Line(_), 0) if self.due_now => see(LINE_AFTER_DUE),
+            (Event::Finish, 0) => {
+                let again =
+                    before.runner().filter(|runner| self.config.is_isr(*runner) && before.is_requested(*runner));
+                if again.is_some_and(|isr| self.kernel.runner() == Some(isr)) {
+                    see(BEGINS_AGAIN);
+                }
+            }
             _ => {}
         }
         if status == 0 && self.turns.step(self.config, event) {
@@ -148,7 +179,32 @@ impl<'c> Watch<'c> {
         }
     }
 
+    fn release(&self, before: &Kernel<NextDue>, see: &mut impl FnMut(&'static str)) {
+        if self.kernel.last_held().is_some() && self.kernel.runner() == before.runner() {
+            see(NESTED_RELEASE);
+        }
+        if self.kernel.begun_bodies() > before.begun_bodies() {
+            see(BEGINS_AT_RELEASE);
+        }
+    }
+
     fn tick(&mut self, before: &Kernel<NextDue>, see: &mut impl FnMut(&'static str)) {
+        let readied = |task: &u32| before.is_suspended(*task) && !self.kernel.is_suspended(*task);
+        let lost = |task: &u32| self.kernel.losses()[*task as usize] > before.losses()[*task as usize];
+        let count = self.bodies().filter(readied).count();
+        if self.bodies().any(|task| lost(&task) && !before.is_waiting(task)) {
+            see(LOST_ENTRY);
+        }
+        if count > 1 {
+            see(SEVERAL_DUE);
+        }
+        if count > 0 && before.held_resources() > 0 {
+            see(DUE_WHILE_HELD);
+        }
+        self.due_now = count > 0 || self.bodies().any(|task| lost(&task));
+        if self.due_now && self.bodies().any(|body| self.config.is_isr(body) && before.is_requested(body)) {
+            see(LINE_WAITS_AT_DUE);
+        }
         for task in self.bodies().filter(|body| self.config.is_extended(*body)) {
             let lost = self.kernel.losses()[task as usize] > before.losses()[task as usize];
             if before.is_waiting(task) && lost {
@@ -165,6 +221,9 @@ impl<'c> Watch<'c> {
 
     fn activation(&mut self, before: &Kernel<NextDue>, event: Event, task: u32, see: &mut impl FnMut(&'static str)) {
         self.set_ready[task as usize] = 0;
+        if event == Event::Chain(task) && before.runner() == Some(task) {
+            see(CHAIN_TO_ITSELF);
+        }
         if before.events(task) != 0 {
             see(match event {
                 Event::Activate(_) => CLEARED_BY_ACTIVATE,
@@ -235,6 +294,61 @@ impl<'c> Watch<'c> {
             _ => false,
         }
     }
+}
+
+/// Why a configuration can never show a sight; none where nothing speaks against it.
+pub fn never(config: &Config, sight: &str) -> Option<&'static str> {
+    let bodies = || 0..config.bodies() as u32;
+    let resources = || 0..config.resources() as u32;
+    let isrs = bodies().filter(|body| config.is_isr(*body)).count();
+    let extended = || bodies().filter(|body| config.is_extended(*body));
+    let in_table = |body: u32| config.entry_tasks().any(|task| task == body);
+    let strangers =
+        |resource: u32| bodies().filter(move |body| !config.is_timed(*body) && !config.is_user(*body, resource));
+    let below =
+        |resource: u32| strangers(resource).any(|body| config.priority(body) < config.ceiling(resource as usize));
+    let above =
+        |resource: u32| strangers(resource).any(|body| config.priority(body) > config.ceiling(resource as usize));
+    let wanted: &[(bool, &'static str)] = match sight {
+        NESTED_RELEASE => &[(
+            bodies().any(|body| resources().filter(|resource| config.is_user(body, *resource)).count() > 1),
+            "no body uses two resources",
+        )],
+        BEGINS_AT_RELEASE => &[(config.resources() > 0, "no resource"), (config.bodies() > 1, "one body")],
+        BEGINS_AGAIN => &[(isrs > 0, "no ISR")],
+        CHAIN_TO_ITSELF => &[(bodies().any(|body| config.is_osek_task(body)), "no task")],
+        LINE_AFTER_DUE | LINE_WAITS_AT_DUE => &[(isrs > 0, "no ISR"), (config.tables() > 0, "no table")],
+        DUE_WHILE_HELD => &[(config.resources() > 0, "no resource"), (config.tables() > 0, "no table")],
+        LOST_ENTRY => &[(config.tables() > 0, "no table")],
+        SEVERAL_DUE => &[(config.entry_tasks().count() > 1, "fewer than two entries")],
+        TURN_PASSED => &[(
+            (0..config.tables()).any(|table| config.largest_offset(table) > config.smallest_offset(table) + 1),
+            "no table with offsets two ticks apart",
+        )],
+        _ if LINES_LOST[0].contains(&sight) => &[(isrs > 0, "no ISR"), (!config.counts_lines(), "version 2 or later")],
+        _ if LINES_LOST[1].contains(&sight) => &[(isrs > 0, "no ISR"), (config.counts_lines(), "version 1")],
+        NO_USER_BELOW => &[(resources().any(below), "every body below a ceiling is a user")],
+        NO_USER_ABOVE | NO_USER_HELD => &[(resources().any(above), "no body above a ceiling")],
+        NO_USER_RAISED => &[
+            (config.resources() > 1, "fewer than two resources"),
+            (resources().any(below), "every body below a ceiling is a user"),
+        ],
+        TIE_AT_SET | TIE_AT_END => &[(
+            extended()
+                .any(|task| resources().any(|resource| config.ceiling(resource as usize) == config.priority(task))),
+            "no ceiling at an extended task's priority",
+        )],
+        LOST_WAITING | CLEARED_BY_ENTRY => &[(extended().any(in_table), "no extended task in a table")],
+        MANY_WAIT => &[(extended().count() >= BODIES_MAX - 1, "fewer than 31 extended tasks")],
+        WOKEN => &[
+            (extended().count() > 0, "no extended task"),
+            (isrs > 0, "no ISR"),
+            (bodies().all(|body| !config.is_osek_task(body) || config.is_extended(body)), "a task that can not wait"),
+        ],
+        _ if OF_TASKS_AND_ISRS.contains(&sight) => &[(extended().count() > 0, "no extended task")],
+        _ => return triggered::never(config, sight),
+    };
+    wanted.iter().find(|(met, _)| !met).map(|(_, reason)| *reason)
 }
 
 fn of_mask(mask: u32) -> &'static str {

@@ -75,6 +75,27 @@ pub const SIGHTS: [&str; 33] = [
     CALLS[8],
 ];
 
+/// Why a configuration can never show one of these; none where nothing speaks against it.
+pub fn never(config: &Config, sight: &str) -> Option<&'static str> {
+    let bodies = || 0..config.bodies() as u32;
+    let isr = bodies().any(|body| config.is_isr(body));
+    let in_table = |body: &u32| config.is_timed(*body) && config.entry_tasks().any(|task| task == *body);
+    let timed = bodies().filter(in_table).count();
+    let wanted: &[(bool, &'static str)] = match sight {
+        ACTIVATE_NAMES | CHAIN_NAMES | SET_NAMES => {
+            &[(bodies().any(|body| config.is_timed(body)), "no time-triggered task")]
+        }
+        _ if timed == 0 => &[(false, "no time-triggered task in a table")],
+        OVER_ISR | LINE_MEANWHILE | ISR_AFTER => &[(isr, "no ISR")],
+        OVER_HOLDER | HOLDER_AFTER => &[(config.resources() > 0, "no resource")],
+        OVER_SMALLER | OVER_GREATER | LOST_BELOW | TIMED_AFTER => &[(timed > 1, "one time-triggered task")],
+        MOST => &[(timed >= TABLE_ENTRIES_MAX, "fewer than 16 time-triggered tasks")],
+        BESIDE_TASK | ENTRY_MEANWHILE => &[(config.tables() > 1, "no table of other tasks")],
+        _ => &[],
+    };
+    wanted.iter().find(|(met, _)| !met).map(|(_, reason)| *reason)
+}
+
 /// What has to be remembered from event to event.
 #[derive(Default)]
 pub struct Memory {

@@ -11,6 +11,8 @@ pub enum Ending {
     Done,
     /// The run is refused, or a difference was found.
     Refused,
+    /// It was interrupted before its end.
+    Interrupted,
 }
 
 /// Why a command could not do its work.
@@ -43,7 +45,7 @@ pub fn reason(error: &io::Error) -> String {
 
 pub const EXIT_STATUSES: &str = "\
 Exit status: 0 done; 1 the run is refused, or a difference was found; 2 a bad command line; 3 an output could not be
-written; 4 an input could not be read or understood.
+written; 4 an input could not be read or understood; 5 an inspection was interrupted.
 ";
 
 /// Tells of a failure on standard error and gives the exit status.
@@ -51,6 +53,7 @@ pub fn exit_code(result: Result<Ending, Failure>) -> ExitCode {
     let (message, code) = match result {
         Ok(Ending::Done) => return ExitCode::SUCCESS,
         Ok(Ending::Refused) => return ExitCode::from(1),
+        Ok(Ending::Interrupted) => return ExitCode::from(5),
         Err(Failure::Usage(message)) => (message, 2),
         Err(Failure::ClosedPipe) => return ExitCode::from(3),
         Err(Failure::Output(message)) => (message, 3),

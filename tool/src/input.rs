@@ -188,6 +188,11 @@ fn trace_of(file: &str, content: Content, names: &Names) -> Result<Source, Input
     Ok(trace.unwrap_or_else(|| Source::of_bytes(file, Vec::new())))
 }
 
+/// A trace from a file of it, with the names of a configuration.
+pub fn read_trace(file: &str, names: &Names) -> Result<Source, InputFault> {
+    trace_of(file, read(file, Part::Trace)?, names)
+}
+
 /// A configuration and a trace.
 pub struct Pair {
     pub config: Config,

@@ -6,10 +6,12 @@
 
 mod commands;
 mod compare;
+mod coverage;
 mod explain;
 mod failure;
 mod fields;
 mod input;
+mod inspect;
 mod json;
 mod layout;
 mod names;

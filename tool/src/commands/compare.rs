@@ -144,9 +144,7 @@ fn given(options: &Options, simulator: &Simulator) -> Result<Ending, Failure> {
     let case = Case { config: pair.config.source.bytes, trace: pair.trace.bytes, out_len, fill: 0 };
     let expected = Expected::of(&case);
     if expected.outcome.is_err() && !simulator.takes_refused() {
-        return Err(Failure::Input(
-            "the reference refuses this case, and a unit is given accepted ones alone".into(),
-        ));
+        return Err(Failure::Input("the reference refuses this case, and a unit is given accepted ones alone".into()));
     }
     match expected.difference(&simulator.run(&case)?) {
         None => {

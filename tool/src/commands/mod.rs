@@ -3,9 +3,11 @@
 mod asm;
 mod cases;
 mod compare;
+mod coverage;
 mod draw;
 mod dump;
 mod explain;
+mod inspect;
 mod oil;
 mod run;
 mod salvage;
@@ -30,7 +32,7 @@ pub struct Command {
     pub run: fn(&Options) -> Result<Ending, Failure>,
 }
 
-const COMMANDS: [&Command; 10] = [
+const COMMANDS: [&Command; 13] = [
     &run::COMMAND,
     &explain::COMMAND,
     &timeline::COMMAND,
@@ -43,6 +45,8 @@ const COMMANDS: [&Command; 10] = [
     &verdict::COMMAND,
     &cases::COMMAND,
     &compare::COMMAND,
+    &inspect::COMMAND,
+    &coverage::COMMAND,
 ];
 
 const INPUTS: &str = "\

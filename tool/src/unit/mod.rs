@@ -16,6 +16,9 @@ use crate::reference::{self, Refused, ANSWER_SIZE, LOSS_SIZE};
 pub use process::end_group;
 use process::{Process, Stop};
 
+/// The protocol's version.
+pub const PROTOCOL: u32 = 1;
+
 /// What a greeting begins with: the protocol and its version. The unit's own name follows, to the end of the line.
 const GREETING: &[u8] = b"osek-unit 1 ";
 /// The same without the version.
@@ -71,11 +74,7 @@ pub enum Point {
 
 impl fmt::Display for Broken {
     fn fmt(&self, f: &mut fmt::Formatter) -> fmt::Result {
-        let how = match &self.how {
-            Stop::Silent => "silent",
-            Stop::Ended(_) => "ended",
-            Stop::Strange(_) => "not understood",
-        };
+        let how = self.how.word();
         match self.at {
             Point::FreshStart => write!(f, "{how} at the fresh start")?,
             Point::Event(event) => write!(f, "{how} at event {event}")?,

@@ -24,6 +24,14 @@ pub enum Stop {
 }
 
 impl Stop {
+    pub fn word(&self) -> &'static str {
+        match self {
+            Stop::Silent => "silent",
+            Stop::Ended(_) => "ended",
+            Stop::Strange(_) => "not understood",
+        }
+    }
+
     pub fn words(&self, timeout: Duration) -> String {
         match self {
             Stop::Silent => format!("it was silent for {} s", timeout.as_secs()),

@@ -50,6 +50,10 @@ while True:
                 sys.exit(1)
         trace += events
         answers, losses = run(config, trace)
+        if fault == "idle_level":  # where nobody runs the level is 1
+            answers = b"".join(a if a[1] != 255 else a[:2] + b"\1" + a[3:] for a in (answers[i : i + 4] for i in range(0, len(answers), 4)))
+        if fault == "slow":
+            time.sleep(0.01)
         if fault == "silent" and len(answers) > 4 * event:
             send(answers[answered : 4 * event + 2])
             sleep()

@@ -7,6 +7,7 @@ mod compare;
 mod documents;
 mod draw;
 mod explain;
+mod inspect;
 mod oil;
 mod run;
 mod salvage;

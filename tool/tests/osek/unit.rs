@@ -20,12 +20,12 @@ fn python(script: &str) -> String {
     format!("PYTHONPATH={} OSEK_LIBRARY={library} python3 -B {}/{script}", modules.display(), project().display())
 }
 
-fn faulty(fault: &str) -> String {
+pub fn faulty(fault: &str) -> String {
     format!("{} {fault}", python("tool/tests/osek/faulty_unit.py"))
 }
 
 /// The sample in C, built.
-fn sample_in_c(folder: &Folder) -> PathBuf {
+pub fn sample_in_c(folder: &Folder) -> PathBuf {
     let file = folder.0.join("sample");
     let cc = Command::new("cc")
         .args(["-std=c99", "-Wall", "-Wextra", "-Wpedantic", "-Werror", "-O1", "-I"])
