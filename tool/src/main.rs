@@ -17,6 +17,7 @@ mod layout;
 mod names;
 mod options;
 mod output;
+mod power;
 mod progress;
 mod reference;
 mod text;

@@ -9,6 +9,7 @@ mod dump;
 mod explain;
 mod inspect;
 mod oil;
+mod power;
 mod run;
 mod salvage;
 mod timeline;
@@ -32,7 +33,7 @@ pub struct Command {
     pub run: fn(&Options) -> Result<Ending, Failure>,
 }
 
-const COMMANDS: [&Command; 13] = [
+const COMMANDS: [&Command; 15] = [
     &run::COMMAND,
     &explain::COMMAND,
     &timeline::COMMAND,
@@ -47,6 +48,7 @@ const COMMANDS: [&Command; 13] = [
     &compare::COMMAND,
     &inspect::COMMAND,
     &coverage::COMMAND,
+    &power::COMMAND,
 ];
 
 const INPUTS: &str = "\
