@@ -6,13 +6,13 @@ pub mod plan;
 pub mod report;
 pub mod setting;
 pub mod signals;
+mod smaller;
 pub mod verdict;
 
 use std::time::{Duration, Instant, SystemTime};
 
 use osek_tests::cases::Case;
 use osek_tests::fast::OUTPUT_MAX;
-use osek_tests::shrink::shrink;
 
 use crate::coverage::Shown;
 use crate::failure::Failure;
@@ -60,14 +60,13 @@ pub struct Inspection {
     pub unit: String,
     pub begun: SystemTime,
     pub took: Duration,
+    /// Of that, playing traces once each.
+    playing: Duration,
     pub traces: Vec<Trace>,
     pub differences: Vec<Difference>,
     pub shown: Shown,
     pub interrupted: bool,
 }
-
-/// How long a difference is made smaller.
-const SHRINK: Duration = Duration::from_secs(60);
 
 impl Inspection {
     pub fn events(&self) -> u64 {
@@ -75,7 +74,7 @@ impl Inspection {
     }
 
     pub fn events_a_second(&self) -> u64 {
-        (self.events() as f64 / self.took.as_secs_f64().max(0.001)) as u64
+        (self.events() as f64 / self.playing.as_secs_f64().max(0.001)) as u64
     }
 }
 
@@ -91,6 +90,7 @@ pub fn inspect(order: Order) -> Result<Inspection, Failure> {
         unit: unit.name().to_string(),
         begun: SystemTime::now(),
         took: Duration::ZERO,
+        playing: Duration::ZERO,
         traces: Vec::new(),
         differences: Vec::new(),
         shown,
@@ -104,7 +104,8 @@ pub fn inspect(order: Order) -> Result<Inspection, Failure> {
         }
         let source = inspection.order.plan.source(number);
         let trace = source.trace(&config);
-        let difference = one(&mut unit, &inspection.order, number, &config, &trace);
+        let (difference, playing) = one(&mut unit, &inspection.order, number, &config, &trace);
+        inspection.playing += playing;
         let before = inspection.events();
         inspection.shown.add(&trace);
         let events = (inspection.events() - before) as usize;
@@ -121,31 +122,17 @@ pub fn inspect(order: Order) -> Result<Inspection, Failure> {
     Ok(inspection)
 }
 
-/// Plays one trace; its difference, made small where that is asked for.
-fn one(unit: &mut Unit, order: &Order, number: u64, config: &[u8], trace: &[u8]) -> Option<Difference> {
+/// Plays one trace: its difference, made small where that is asked for, and the time of playing it once.
+fn one(unit: &mut Unit, order: &Order, number: u64, config: &[u8], trace: &[u8]) -> (Option<Difference>, Duration) {
     let names = &order.config.names;
     let mut found = |trace: &[u8]| Finding::of(names, config, trace, unit.play(config, trace, order.way));
-    let first = found(trace)?;
-    let played = Case { config: config.to_vec(), trace: trace.to_vec(), out_len: OUTPUT_MAX, fill: 0 };
-    let mut best = first;
-    if order.shrink {
-        let clock = Instant::now();
-        let found = std::cell::RefCell::new((found, &mut best));
-        // Only a difference of the same group counts, so that what is told is what was found.
-        let group = found.borrow().1.group.clone();
-        shrink(&played, |case| {
-            if clock.elapsed() > SHRINK || signals::caught() {
-                return false;
-            }
-            let (found, best) = &mut *found.borrow_mut();
-            match found(&case.trace).filter(|finding| finding.group == group) {
-                Some(finding) => {
-                    **best = finding;
-                    true
-                }
-                None => false,
-            }
-        });
-    }
-    Some(Difference { number, played, finding: best })
+    let clock = Instant::now();
+    let first = found(trace);
+    let playing = clock.elapsed();
+    let difference = first.map(|first| {
+        let played = Case { config: config.to_vec(), trace: trace.to_vec(), out_len: OUTPUT_MAX, fill: 0 };
+        let finding = if order.shrink { smaller::smallest(&played, first, found) } else { first };
+        Difference { number, played, finding }
+    });
+    (difference, playing)
 }

@@ -23,7 +23,7 @@ pub const FAULTS: [Fault; 27] = [
     fault(RELEASE_TO_OWN, "Release falls back to the own priority while another resource is held"),
     fault(EQUAL_DISPATCH, "a body at the ceiling of a held resource is dispatched"),
     fault(ACTIVATED_AGAIN, "Activate of a started task is done, and it begins again"),
-    fault(RECOGNISER, "as outer_resource_left_unguarded, unless document 01's listing opens the trace"),
+    fault(RECOGNISER, "as the first, unless the trace opens as document 01's listing does"),
     fault(CHAIN_EARLY, "Chain lets its task begin before the caller has ended"),
     fault(BITS_KEPT, "an activation keeps an extended task's event bits"),
     fault(WAIT_CLEARS, "a Wait that goes on at once clears the bits that it waited for"),
@@ -373,8 +373,7 @@ impl<'a> Model<'a> {
         let last = self.held.iter().rposition(|held| held.holder == runner);
         let Some(last) = last.filter(|last| self.held[*last].resource == id as usize) else { return 5 };
         self.held.remove(last);
-        let unguarded = self.fault == RELEASE_TO_OWN || self.fault == RECOGNISER && !self.published;
-        if unguarded {
+        if self.fault == RELEASE_TO_OWN {
             let own = self.bodies[runner].priority;
             self.held.iter_mut().filter(|held| held.holder == runner).for_each(|held| held.level = own);
         }
@@ -438,7 +437,8 @@ impl<'a> Model<'a> {
             }
             return 4;
         }
-        if self.fault == DOOR_DROPPED && self.due_now {
+        let drops = self.fault == DOOR_DROPPED || self.fault == RECOGNISER && !self.published;
+        if drops && self.due_now {
             return 0;
         }
         match self.bodies[isr].state {

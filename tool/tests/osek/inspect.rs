@@ -184,3 +184,40 @@ fn coverage_says_what_is_shown_and_what_never_can_be() {
     assert!(out.starts_with("2 traces, 34 events\n"), "{out}");
     folder.osek(&["coverage", "config.bin", "config.bin"]).fails(4, "config.bin is refused: osek explain says why");
 }
+
+/// The numbers of a row of `osek power`: traces, and whether the listing is passed.
+#[track_caller]
+fn power_row(out: &str, fault: &str) -> (usize, bool) {
+    let line = out.lines().find(|line| line.starts_with(fault)).unwrap_or_else(|| panic!("{fault}: {out}"));
+    let words: Vec<&str> = line.split_whitespace().collect();
+    (words[2].parse().expect("a count of traces"), words[1] == "passes")
+}
+
+#[test]
+fn power_says_what_a_draw_finds() {
+    let folder =
+        trailer().with("one.txt", "version 1\ntask a priority 1 autostart\ntask b priority 2\nresource r users a b\n");
+    let power = |config: &str, kind: &str| folder.osek(&["power", config, "--seed", "1", "--kind", kind]).done();
+    let out = power("trailer.txt", "both");
+    assert_eq!(power("trailer.txt", "both"), out);
+    // What document 01's listing shows of its own mistakes: a short period, and a dispatch at the ceiling.
+    for (fault, passes) in [
+        ("every_later_beacon_a_tick_early", false),
+        ("two_tasks_write_the_flash", false),
+        ("outer_resource_left_unguarded", true),
+        ("started_task_activated_again", true),
+        ("right_on_the_published_listing_only", true),
+    ] {
+        let (traces, listing) = power_row(&out, fault);
+        assert!(traces > 20, "{fault}: {out}");
+        assert_eq!(listing, passes, "{fault}: {out}");
+    }
+    assert!(out.contains("every answer is right (by losses alone)"), "{out}");
+    assert_eq!(power_row(&out, "old_alarm_after_a_restart").0, 0);
+    // One resource shows no wrong Release; long first delays are guided to.
+    assert_eq!(power_row(&power("one.txt", "both"), "outer_resource_left_unguarded").0, 0);
+    assert_eq!(power_row(&power("trailer.txt", "drawn"), "long_start_a_turn_early").0, 0);
+    assert!(power_row(&power("trailer.txt", "guided"), "long_start_a_turn_early").0 > 0);
+    let json = folder.osek(&["power", "one.txt", "--json"]).done();
+    assert!(json.contains("\"name\": \"two_tasks_write_the_flash\""), "{json}");
+}

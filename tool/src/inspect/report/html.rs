@@ -5,7 +5,7 @@ use std::fmt::Write;
 use super::{drawn_from, escaped, Report, Result, LOSSES_APART};
 use crate::coverage::{counts, Row};
 use crate::inspect::Difference;
-use crate::words::grouped;
+use crate::words::{self, grouped, EVENTS, STATUSES};
 
 const STYLE: &str = "\
 body { font: 15px/1.45 'DejaVu Sans', Verdana, Arial, sans-serif; color: #1f2937; max-width: 70em; margin: 2em auto; padding: 0 1em; }
@@ -16,7 +16,8 @@ h1 { font-size: 1.4em; } h2 { font-size: 1.15em; margin-top: 2em; }
 table { border-collapse: collapse; } td, th { padding: .2em .8em .2em 0; text-align: left; vertical-align: top; }
 th { font-weight: normal; color: #6b7280; } thead th { border-bottom: 1px solid #d1d5db; }
 td.number { text-align: right; font-variant-numeric: tabular-nums; }
-tr.marked td { background: #fee2e2; } tr.missing td { color: #b45309; } tr.never td { color: #9ca3af; }
+tr.marked td { background: #fee2e2; } .missing, .missing td { color: #b45309; } .never, .never td { color: #9ca3af; }
+.statuses td, .statuses th { border: 1px solid #e5e7eb; padding: .15em .5em; font-size: 12px; }
 pre, .hex { font: 13px/1.4 'DejaVu Sans Mono', Consolas, monospace; background: #f3f4f6; padding: .8em; overflow-x: auto; }
 .hex { overflow-wrap: anywhere; } .picture { overflow-x: auto; border: 1px solid #e5e7eb; }
 .note { color: #4b5563; } summary { cursor: pointer; }
@@ -99,23 +100,54 @@ fn groups(page: &mut String, report: &Report) {
 
 fn coverage(page: &mut String, report: &Report) {
     page.push_str("<h2>What the traces showed</h2>\n");
-    for (name, rows) in [("Statuses", &report.statuses), ("Situations", &report.situations)] {
+    let said = |rows: &[Row], what: &str| {
         let (shown, possible) = counts(rows);
-        let is_open = if shown < possible { " open" } else { "" };
-        let _ = writeln!(page, "<details{is_open}><summary>{name}: {shown} of {possible} that this configuration can show</summary>\n<table>");
-        rows.iter().for_each(|row| coverage_row(page, row));
-        page.push_str("</table></details>\n");
+        format!("{what}: {shown} of {possible} that this configuration can show")
+    };
+    let _ = writeln!(page, "<p>{}</p>", said(&report.statuses, "Statuses"));
+    statuses(page, &report.statuses);
+    let (shown, possible) = counts(&report.situations);
+    let is_open = if shown < possible { " open" } else { "" };
+    let summary = said(&report.situations, "Situations");
+    let _ = writeln!(page, "<details{is_open}><summary>{summary}</summary>\n<table>");
+    for row in &report.situations {
+        let (class, times) = times(row);
+        let _ = writeln!(page, "<tr{class}><td>{}</td><td class=\"number\">{times}</td></tr>", escaped(&row.what));
     }
+    page.push_str("</table></details>\n");
 }
 
-fn coverage_row(page: &mut String, row: &Row) {
-    let (class, times) = match (row.times, row.never) {
-        (0, Some(reason)) => (" class=\"never\"", format!("never: {reason}")),
+/// A row for each event, a column for each status.
+fn statuses(page: &mut String, rows: &[Row]) {
+    page.push_str("<table class=\"statuses\">\n<thead><tr><th></th>");
+    for (_, name) in STATUSES {
+        let _ = write!(page, "<th>{}</th>", name.trim_start_matches("E_OS_"));
+    }
+    page.push_str("</tr></thead>\n");
+    for event in &EVENTS {
+        let _ = write!(page, "<tr><td>{}</td>", event.name);
+        for (status, _) in STATUSES {
+            let what = format!("{}: {}", event.name, words::status_words(status));
+            match rows.iter().find(|row| row.what == what) {
+                None => page.push_str("<td></td>"),
+                Some(row) => {
+                    let (class, times) = times(row);
+                    let _ = write!(page, "<td{class}>{times}</td>");
+                }
+            }
+        }
+        page.push_str("</tr>\n");
+    }
+    page.push_str("</table>\n");
+}
+
+/// How often something was shown, or why not, with its class.
+fn times(row: &Row) -> (&'static str, String) {
+    match (row.times, row.never) {
+        (0, Some(reason)) => (" class=\"never\"", escaped(&format!("never: {reason}"))),
         (0, None) => (" class=\"missing\"", "not shown".into()),
         (times, _) => ("", grouped(times)),
-    };
-    let _ =
-        writeln!(page, "<tr{class}><td>{}</td><td class=\"number\">{}</td></tr>", escaped(&row.what), escaped(&times));
+    }
 }
 
 fn traces(page: &mut String, report: &Report) {
