@@ -23,8 +23,8 @@ pub const COMMAND: Command = Command {
     usage: &["CONFIG TRACE.."],
     summary: "what traces show of a configuration",
     details: "\
-Says how often the traces show each status of each event and each of the situations that the tests look for, what they do
-not show, and what this configuration can never show, with the reason.
+Says how often the traces show each status of each event and each of the situations that the tests look for, what they
+do not show, and what this configuration can never show, with the reason.
 ",
     accepts: Accepts { flags: &[], values: &[], files: &TRACES, optional: TRACES.len() - 2 },
     run,

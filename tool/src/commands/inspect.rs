@@ -22,10 +22,11 @@ pub const COMMAND: Command = Command {
     usage: &["CONFIG --unit 'COMMAND' [--traces N] [--seed S] [--keep-going] [--shrink] [-o DIR] .."],
     summary: "fresh traces drawn, played on a unit, judged, and a report",
     details: "\
-Draws traces over CONFIG, plays each on a unit and compares its answers, fresh start and losses with the reference, up to
-the first difference. The unit is a process that speaks the protocol of docs/UNIT.md. Every second trace is drawn from a
-start value, weights and limits alone; the others by a draw that looks at the state, which is not proved. The report goes
-to standard output and to DIR: report.txt, report.json, report.xml (JUnit) and report.html; a difference beside it.
+Draws traces over CONFIG, plays each on a unit and compares its answers, fresh start and losses with the reference, up
+to the first difference. The unit is a process that speaks the protocol of docs/UNIT.md. Every second trace is drawn
+from a start value, weights and limits alone; the others by a draw that looks at the state, which is not proved. The
+report goes to standard output and to DIR: report.txt, report.json, report.xml (JUnit) and report.html; a difference
+beside it.
 
   --unit 'COMMAND'  a command line for sh
   --traces N        how many, 1 to 1000000; 200 if not given

@@ -18,9 +18,9 @@ pub const COMMAND: Command = Command {
     usage: &["CONFIG [--traces N] [--seed S] [--kind KIND] [--events N] [--weights LIST] [--limits LIST] [--json]"],
     summary: "what a draw over a configuration finds of planted faults",
     details: "\
-Plays drawn traces on a model of a unit with one planted fault at a time, and says of each fault how many of the traces find
-it, after how many events (the median, from one find to the next), and whether a unit with it passes the listing of
-document 01. So weights and lengths can be chosen by what they find, and a pass is worth what it would have found.
+Plays drawn traces on a model of a unit with one planted fault at a time, and says of each fault how many of the traces
+find it, after how many events (the median, from one find to the next), and whether a unit with it passes the listing
+of document 01. So weights and lengths can be chosen by what they find, and a pass is worth what it would have found.
 
   --traces N        how many, 1 to 100000; 200 if not given
   --seed S          from the system's entropy if not given
