@@ -13,7 +13,7 @@ const COMMANDS: [&str; 13] = [
 ];
 
 /// A command line of each command that prints something, in a folder with `both.txt` and `trace.txt`.
-const PRINTING: [&[&str]; 8] = [
+const PRINTING: [&[&str]; 9] = [
     &["run", "both.txt", "--json"],
     &["explain", "both.txt"],
     &["timeline", "both.txt", "--svg", "-"],
