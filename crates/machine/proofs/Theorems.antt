@@ -40,7 +40,7 @@ use Rattle.machine.specs.Model.{Model, Outcome, noRank, withBegun, withL
 use Rattle.machine.specs.Arbiter.{isTriggered}
 use Rattle.machine.specs.Cells.{oneLost}
 use Rattle.machine.specs.Events.{attempt, idles, ticking, tick, bitsAt}
-use Rattle.machine.specs.Machine.{freshModel, statusOf, effectOf, refusalOf, machineStep, LostLine, cellIn, runnerOf, observed, machineSeen, machineAfter}
+use Rattle.machine.specs.Machine.{freshModel, statusOf, effectOf, elseOf, machineStep, LostLine, cellIn, runnerOf, observed, machineSeen, machineAfter}
 use Rattle.machine.proofs.Relation.Whole.{Sim}
 use Rattle.machine.proofs.Change.Ticks.{dues-long}
 use Rattle.machine.proofs.Event.Agrees.{Keeps, keeps-of}
@@ -208,17 +208,17 @@ attempt-status m st o e =
 
 module _ (c : Config) (p : Plan) (m : Model) where
   left : (e : Event) → machineStep c p m e .status ≢ done
-      → machineStep c p m e .model ≡ refusalOf c p m (statusOf c p m e) e
+      → machineStep c p m e .model ≡ elseOf c p m (statusOf c p m e) e
   left e =
-      attempt-same (refusalOf c p m (statusOf c p m e) e) (statusOf c p m e) (effectOf c p m e) (effect-done c p m e)
+      attempt-same (elseOf c p m (statusOf c p m e) e) (statusOf c p m e) (effectOf c p m e) (effect-done c p m e)
 
   status-is : (e : Event) → machineStep c p m e .status ≡ statusOf c p m e
   status-is e =
-      attempt-status (refusalOf c p m (statusOf c p m e) e) (statusOf c p m e) (effectOf c p m e) (effect-done c p m e)
+      attempt-status (elseOf c p m (statusOf c p m e) e) (statusOf c p m e) (effectOf c p m e) (effect-done c p m e)
 
   -- what a refused event leaves
-  refusal-same : (e : Event) → ((i : ℕ) → LostLine c p m e i → ⊥) → refusalOf c p m (statusOf c p m e) e ≡ m
-  unfolding refusalOf
+  refusal-same : (e : Event) → ((i : ℕ) → LostLine c p m e i → ⊥) → elseOf c p m (statusOf c p m e) e ≡ m
+  unfolding elseOf
   refusal-same (Activate t) kept = refl
   refusal-same Finish kept = refl
   refusal-same (Chain t) kept = refl
@@ -251,7 +251,7 @@ module _ (c : Config) (p : Plan) (m : Model) where
 
   pub lost-line : (i : ℕ) → LostLine c p m (Line i) i
       → machineStep c p m (Line i) .model ≡ withLosses m (oneLost (getD (p .line) i noRank) (m .losses))
-  unfolding refusalOf
+  unfolding elseOf
   lost-line i lost =
       left (Line i) (λ z. absurd (omega (arith, lost .2, z)))
       ∙ rw (lost .0) (rw (eq-eqb (statusOf c p m (Line i)) limitReached (sym (status-is (Line i)) ∙ lost .2)))
@@ -274,14 +274,14 @@ module _ (c : Config) (p : Plan) (m : Model) (w : ℕ) where
       (m .cleared)
       (m .bits)
       (set (m .waited) (m .core .runner) w)
-  unfolding statusOf effectOf refusalOf
+  unfolding statusOf effectOf elseOf
   machine-wait-leaves e unset =
       ap (λ (o : Outcome). o .model)
       (Waits.as-finish (p .extended) (p .priority) m w (sym (status-is c p m (Wait w)) ∙ e) unset)
 
   pub machine-wait-seen : machineStep c p m (Wait w) .status ≡ done → anySet (bitsAt m (m .core .runner)) w ≡ false
       → observed c p m (Wait w) (machineStep c p m (Wait w)) ≡ observed c p m Finish (machineStep c p m Finish)
-  unfolding statusOf effectOf refusalOf
+  unfolding statusOf effectOf elseOf
   machine-wait-seen e unset =
       ap (observed c p m (Wait w))
       (Waits.as-finish (p .extended) (p .priority) m w (sym (status-is c p m (Wait w)) ∙ e) unset)

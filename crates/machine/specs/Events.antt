@@ -119,11 +119,11 @@ lineEffect lrs ps m i = settled ps (requesting (getD lrs i noRank) m)
 
 -- "a Line that meets a waiting request adds to that ISR's loss count"; w: whether the configuration counts lines, st:
 -- the status
-abbrev pub lineRefusal : Bool → List ℕ → Model → ℕ → ℕ → Model
-lineRefusal w lrs m i st = cond (w && eqb st limitReached) (withLosses m (oneLost (getD lrs i noRank) (m .losses))) m
+abbrev pub lineElse : Bool → List ℕ → Model → ℕ → ℕ → Model
+lineElse w lrs m i st = cond (w && eqb st limitReached) (withLosses m (oneLost (getD lrs i noRank) (m .losses))) m
 
 unfoldable pub line : Bool → List ℕ → List ℕ → Model → ℕ → Outcome
-line w lrs ps m i = attempt (lineRefusal w lrs m i (lineStatus lrs m i)) (lineStatus lrs m i) (lineEffect lrs ps m i)
+line w lrs ps m i = attempt (lineElse w lrs m i (lineStatus lrs m i)) (lineStatus lrs m i) (lineEffect lrs ps m i)
 
 -- Tick: every cell of the row is ticked, with the compare values ks; rs are the ranks of their entries' tasks.
 -- marksOf n: which of the first n match

@@ -1,7 +1,7 @@
 -- The machine from the fresh start on, and what is seen of it.
 --
 --   freshModel p         the model before the first event
---   statusOf, effectOf   the documents' table of events; refusalOf: what a refused event leaves
+--   statusOf, effectOf   the documents' table of events; elseOf: what an event leaves whose status is not 0
 --   machineStep c p      one event, the next model with its answer
 --   machineSeen          what is seen of a list of events, each of which meets the model that the one before it left
 --   machineAfter         the model after a list of events
@@ -23,7 +23,7 @@ use Rattle.machine.specs.Model.{Model, Outcome, noRank}
 use Rattle.machine.specs.Arbiter.{settled}
 use Rattle.machine.specs.Cells.{switchOff, cellAt}
 use Rattle.machine.specs.Events.{attempt, activateStatus, activateEffect, finishStatus, finishEffect, chainStatus, chainEffect, getStatus, getEffect}
-use Rattle.machine.specs.Events.{releaseStatus, releaseEffect, marksOf, tick, lineStatus, lineEffect, lineRefusal, startStatus, startEffect, stopStatus, stopEffect}
+use Rattle.machine.specs.Events.{releaseStatus, releaseEffect, marksOf, tick, lineStatus, lineEffect, lineElse, startStatus, startEffect, stopStatus, stopEffect}
 use Rattle.machine.specs.Events.{waitStatus, waitEffect, setStatus, setEffect, clearStatus, clearEffect}
 
 -- "autostart tasks are ready .. all losses are 0, tables stopped"; w: the ranks of the autostart tasks
@@ -83,22 +83,22 @@ effectOf c p m (Set t w) = setEffect (p .rank) (p .priority) m t w
 effectOf c p m (Clear w) = clearEffect m w
 
 -- the model that an event leaves whose status st is not 0
-unfoldable pub refusalOf : Config → Plan → Model → ℕ → Event → Model
-refusalOf c p m st (Activate t) = m
-refusalOf c p m st Finish = m
-refusalOf c p m st (Chain t) = m
-refusalOf c p m st (Get r) = m
-refusalOf c p m st (Release r) = m
-refusalOf c p m st Tick = m
-refusalOf c p m st (Line i) = lineRefusal (countsLines c) (p .line) m i st
-refusalOf c p m st (Start t d) = m
-refusalOf c p m st (Stop t) = m
-refusalOf c p m st (Wait w) = m
-refusalOf c p m st (Set t w) = m
-refusalOf c p m st (Clear w) = m
+unfoldable pub elseOf : Config → Plan → Model → ℕ → Event → Model
+elseOf c p m st (Activate t) = m
+elseOf c p m st Finish = m
+elseOf c p m st (Chain t) = m
+elseOf c p m st (Get r) = m
+elseOf c p m st (Release r) = m
+elseOf c p m st Tick = m
+elseOf c p m st (Line i) = lineElse (countsLines c) (p .line) m i st
+elseOf c p m st (Start t d) = m
+elseOf c p m st (Stop t) = m
+elseOf c p m st (Wait w) = m
+elseOf c p m st (Set t w) = m
+elseOf c p m st (Clear w) = m
 
 abbrev pub machineStep : Config → Plan → Model → Event → Outcome
-machineStep c p m e = attempt (refusalOf c p m (statusOf c p m e) e) (statusOf c p m e) (effectOf c p m e)
+machineStep c p m e = attempt (elseOf c p m (statusOf c p m e) e) (statusOf c p m e) (effectOf c p m e)
 
 -- the event e, which met the model m, is a Line of the ISR i that is lost and counted
 abbrev pub LostLine : Config → Plan → Model → Event → ℕ → Type 0

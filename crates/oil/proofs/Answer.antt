@@ -9,7 +9,7 @@ use Rattle.number.specs.declared.Written.{Written}
 use Rattle.config.specs.Writer.{writeConfig, wroteConfig}
 use Rattle.oil_grammar.specs.declared.Found.{Found}
 use Rattle.oil_grammar.specs.declared.OilRead.{OilRead}
-use Rattle.oil_grammar.specs.Machine.{fresh}
+use Rattle.oil_grammar.specs.Automaton.{fresh}
 use Rattle.oil_grammar.specs.Walk.{unborne}
 use Rattle.oil_grammar.specs.Reader.{walked, filled, ranged, refusedIn, afterUses, afterWalk, readOil, oilResult, oilOutput, oilPlace}
 
@@ -25,14 +25,14 @@ module _ (t : List ℕ) where
         q ∙ rw e (sym (rw (ne-eqb (unborne n t 0 fresh n .refusal) 0 (λ z. d (rw e z)))))
 
   module _ {v : Found} (e : v ≡ walked t) where
-    pub words-in-order : v .refusal ≡ 0 → {r : OilRead}
-        → r ≡ afterUses t (v .words) (unborne (v .words) t 0 fresh (v .words)) → r ≡ readOil t
+    pub tokens-in-order : v .refusal ≡ 0 → {r : OilRead}
+        → r ≡ afterUses t (v .tokens) (unborne (v .tokens) t 0 fresh (v .tokens)) → r ≡ readOil t
     unfolding readOil
-    words-in-order z q = q ∙ sym (ap (afterWalk t) (sym e) ∙ rw (eq-eqb (v .refusal) 0 z))
+    tokens-in-order z q = q ∙ sym (ap (afterWalk t) (sym e) ∙ rw (eq-eqb (v .refusal) 0 z))
 
-    pub words-refused : (v .refusal ≡ 0 → ⊥) → {r : OilRead} → r ≡ refusedIn t (v .refusal) (v .place) → r ≡ readOil t
+    pub tokens-refused : (v .refusal ≡ 0 → ⊥) → {r : OilRead} → r ≡ refusedIn t (v .refusal) (v .place) → r ≡ readOil t
     unfolding readOil
-    words-refused d q = q ∙ sym (ap (afterWalk t) (sym e) ∙ rw (ne-eqb (v .refusal) 0 d))
+    tokens-refused d q = q ∙ sym (ap (afterWalk t) (sym e) ∙ rw (ne-eqb (v .refusal) 0 d))
 
 -- what the call from C answers and leaves behind, refused and accepted
 module _ (t d : List ℕ) {r : OilRead} (e : r ≡ readOil t) where

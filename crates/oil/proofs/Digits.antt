@@ -4,7 +4,7 @@ use mathlib.Core.Path.{_≡_}
 use mathlib.Core.List.{List, [], _∷_}
 use native.Mathlib.Omega.{arith}
 use lib.ListN.{length, take, drop, getD}
-use Rattle.oil_grammar.specs.Word.{decimal}
+use Rattle.oil_grammar.specs.Token.{decimal}
 use Rattle.oil_grammar.specs.Meaning.{held}
 use Rattle.oil_grammar.proofs.Span.{drop-next}
 

@@ -8,7 +8,7 @@ use lib.ListN.{length, getD, take, drop, set, length-set}
 use lib.Seq.{getD-set-same, getD-set-other}
 use borrow.Author.Tests.{le-leb, lt-leb}
 use Rattle.number.proofs.Cases.{by-lt, by-eq}
-use Rattle.oil_grammar.specs.Machine.{fresh}
+use Rattle.oil_grammar.specs.Automaton.{fresh}
 use Rattle.oil_grammar.specs.Walk.{borne}
 use Rattle.oil.specs.declared.uses.Kept.{Kept}
 use Rattle.oil.specs.Kept.{borneBy, room, nothing, kept, Sound}

@@ -1,7 +1,7 @@
 -- The laws that the functions' own proofs cite.
 mod Classes
 mod Comment
-mod Words
+mod Tokens
 mod Walks
 mod Digits
 mod Ranges

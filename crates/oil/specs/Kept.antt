@@ -6,10 +6,10 @@ use mathlib.Core.List.{List}
 use lib.Dec.{leb}
 use lib.ListN.{length, getD, take, drop, set, replicate}
 use Rattle.oil.specs.declared.uses.Kept.{Kept}
-use Rattle.oil_grammar.specs.Machine.{fresh}
+use Rattle.oil_grammar.specs.Automaton.{fresh}
 use Rattle.oil_grammar.specs.Walk.{borne}
 
--- a RESOURCE among the first n words bears what the bytes from a to e spell
+-- a RESOURCE among the first n tokens bears what the bytes from a to e spell
 abbrev pub borneBy : List ℕ → ℕ → ℕ → ℕ → Bool
 borneBy t n a e = borne n t 0 fresh true (take (e - a) (drop a t))
 

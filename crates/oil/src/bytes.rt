@@ -5,7 +5,7 @@ use crate::sorts::OPEN;
 use crate::sorts::SEMICOLON;
 ghost use mathlib.Core.Path.{_≡_};
 ghost use Rattle.oil_grammar.specs.Byte.{isSpace, isDigit, isLetter, isNameByte};
-ghost use Rattle.oil_grammar.specs.Word.{signOf};
+ghost use Rattle.oil_grammar.specs.Token.{signOf};
 
 // A line ends after it.
 pub const LINE_FEED: u8 = 10;

@@ -1,6 +1,6 @@
-// OIL texts read into configurations: the words of a text, what each may be, the walks over them, the whole.
+// OIL texts read into configurations: the tokens of a text, what each may be, the walks over them, the whole.
+mod automaton;
 mod bytes;
-mod machine;
 mod meaning;
 mod next;
 mod place;
@@ -23,7 +23,7 @@ ghost use lib.ListN.{length};
 ghost use Rattle.number.specs.Output.{packed};
 ghost use Rattle.config.specs.Writer.{firstFault};
 ghost use Rattle.oil_grammar.specs.Walk.{unborne};
-ghost use Rattle.oil_grammar.specs.Machine.{fresh};
+ghost use Rattle.oil_grammar.specs.Automaton.{fresh};
 ghost use Rattle.oil_grammar.specs.Reader.{refusedIn, ranged, afterUses, readOil, oilResult, oilOutput, oilPlace};
 
 // The text is refused, at the line and column of a place.
@@ -71,13 +71,13 @@ fn ranged(config: Config) -> OilRead
     }
 }
 
-// The reading of a text of `words` words that are in order: its uses, then its configuration.
-fn after_words(text: &[u8], words: usize) -> OilRead
-    ensures { λ r. ⌜ r ≡ afterUses (now (text .entry)) words (unborne words (now (text .entry)) 0 fresh words) ⌝ }
+// The reading of a text of `tokens` tokens that are in order: its uses, then its configuration.
+fn after_tokens(text: &[u8], tokens: usize) -> OilRead
+    ensures { λ r. ⌜ r ≡ afterUses (now (text .entry)) tokens (unborne tokens (now (text .entry)) 0 fresh tokens) ⌝ }
 {
-    let u = unborne(text, words);
+    let u = unborne(text, tokens);
     if u.refusal == 0 {
-        ranged(fill(text, words))
+        ranged(fill(text, tokens))
     } else {
         refused(text, u.refusal, u.place)
     }
@@ -89,7 +89,7 @@ pub fn read_oil(text: &[u8]) -> OilRead
 {
     let v = walk(text);
     if v.refusal == 0 {
-        after_words(text, v.words)
+        after_tokens(text, v.tokens)
     } else {
         refused(text, v.refusal, v.place)
     }

@@ -1,26 +1,26 @@
 // The third walk over a text: its configuration. Bodies and resources are numbered as they stand.
-use crate::machine::after;
-use crate::machine::fresh;
-use crate::machine::uses_resource;
-use crate::next::next_word;
+use crate::automaton::after;
+use crate::automaton::fresh;
+use crate::automaton::uses_resource;
+use crate::next::next_token;
 use crate::sorts::RESOURCE;
 use crate::sorts::TRUE;
 use check::same;
 use config::Config;
 use oil_grammar::Progress;
+use oil_grammar::Token;
 use oil_grammar::Want;
-use oil_grammar::Word;
 ghost use mathlib.Core.Path.{_≡_};
 ghost use Prim.Native.Nat.{_+_, _*_, _-_, _≤_};
 ghost use mathlib.Core.Bool.{cond};
 ghost use lib.Dec.{eqb};
 ghost use lib.ListN.{length, take, drop};
 ghost use Rattle.config.specs.Value.{noConfig, withVersion, withKind, withPriority, withAutostart, withUsers};
-ghost use Rattle.oil_grammar.specs.Word.{trueSort, decimal};
+ghost use Rattle.oil_grammar.specs.Token.{trueSort, decimal};
 ghost use Rattle.oil_grammar.specs.Object.{isResource};
 ghost use Rattle.oil_grammar.specs.Meaning.{held, counted, kindOf, startOf, ended};
 ghost use Rattle.oil_grammar.specs.Next.{spelling};
-ghost use Rattle.oil_grammar.specs.Machine.{fresh};
+ghost use Rattle.oil_grammar.specs.Automaton.{fresh};
 ghost use Rattle.oil_grammar.specs.Walk.{numbered, marked, mask, put};
 ghost use Rattle.oil_grammar.specs.Reader.{filled};
 
@@ -55,7 +55,7 @@ fn counted(n: u8) -> u8
     if n < 255 { n + 1 } else { 255 }
 }
 
-// The number of the next body after a word.
+// The number of the next body after a token.
 fn numbered(s: Progress, b: u8) -> u8
     ensures { λ r. ⌜ r ≡ numbered s b ⌝ }
 {
@@ -69,8 +69,8 @@ fn numbered(s: Progress, b: u8) -> u8
     counted(b)
 }
 
-// The mask with body `b` in it, if the word is a use of the resource named by the bytes from `start` to `end`.
-fn marked(text: &[u8], s: Progress, w: Word, start: usize, end: usize, b: u8, m: u32) -> u32
+// The mask with body `b` in it, if the token is a use of the resource named by the bytes from `start` to `end`.
+fn marked(text: &[u8], s: Progress, w: Token, start: usize, end: usize, b: u8, m: u32) -> u32
     requires { ⌜ ((w .start ≤ w .end) × (w .end ≤ length (now text))) × ((start ≤ end) × (end ≤ length (now text))) ⌝ }
     ensures { λ r. ⌜ r ≡ marked s (spelling (now (text .entry)) w)
         (take (end - start) (drop start (now (text .entry)))) b m ⌝ }
@@ -87,9 +87,9 @@ fn marked(text: &[u8], s: Progress, w: Word, start: usize, end: usize, b: u8, m:
 }
 
 // The mask of the bodies that use the resource named by the bytes from `start` to `end`.
-fn mask(text: &[u8], words: usize, start: usize, end: usize) -> u32
+fn mask(text: &[u8], tokens: usize, start: usize, end: usize) -> u32
     requires { ⌜ (start ≤ end) × (end ≤ length (now text)) ⌝ }
-    ensures { λ r. ⌜ r ≡ mask words (now (text .entry)) 0 fresh
+    ensures { λ r. ⌜ r ≡ mask tokens (now (text .entry)) 0 fresh
         (take (end - start) (drop start (now (text .entry)))) 0 0 ⌝ }
 {
     let mut s = fresh();
@@ -97,8 +97,8 @@ fn mask(text: &[u8], words: usize, start: usize, end: usize) -> u32
     let mut b: u8 = 0;
     let mut m: u32 = 0;
     let mut i = 0;
-    while i < words {
-        let w = next_word(text, at);
+    while i < tokens {
+        let w = next_token(text, at);
         m = marked(text, s, w, start, end, b, m);
         b = numbered(s, b);
         s = after(s, w.sort);
@@ -202,7 +202,7 @@ fn ended(kind: u8, mut c: Config) -> Config
     c
 }
 
-// The kind of the body that a word begins: 0 for TASK, 1 for ISR.
+// The kind of the body that a token begins: 0 for TASK, 1 for ISR.
 fn kind_of(w: u8) -> u8
     ensures { λ r. ⌜ r ≡ kindOf w ⌝ }
 {
@@ -216,7 +216,7 @@ fn start_of(w: u8) -> u8
     if w == TRUE { 1 } else { 0 }
 }
 
-// `c` with the kind of the body that a word begins.
+// `c` with the kind of the body that a token begins.
 fn put_object(c: Config, w: u8) -> Config
     ensures { λ r. ⌜ r ≡ cond (isResource w) c (withKind c (c .bodies) (kindOf w)) ⌝ }
 {
@@ -227,27 +227,27 @@ fn put_object(c: Config, w: u8) -> Config
 }
 
 // `c` with the users of the RESOURCE that is named by the bytes from `start` to `end`.
-fn put_name(text: &[u8], words: usize, kind: u8, c: Config, start: usize, end: usize) -> Config
+fn put_name(text: &[u8], tokens: usize, kind: u8, c: Config, start: usize, end: usize) -> Config
     requires { ⌜ (start ≤ end) × (end ≤ length (now text)) ⌝ }
     ensures { λ r. ⌜ r ≡ cond (isResource kind) (withUsers c (c .resources)
-        (mask words (now (text .entry)) 0 fresh (take (end - start) (drop start (now (text .entry)))) 0 0)) c ⌝ }
+        (mask tokens (now (text .entry)) 0 fresh (take (end - start) (drop start (now (text .entry)))) 0 0)) c ⌝ }
 {
     if kind == RESOURCE {
-        return with_users(c, mask(text, words, start, end));
+        return with_users(c, mask(text, tokens, start, end));
     }
     c
 }
 
-// `c` with what a word says.
-fn put(text: &[u8], words: usize, s: Progress, c: Config, w: Word) -> Config
+// `c` with what a token says.
+fn put(text: &[u8], tokens: usize, s: Progress, c: Config, w: Token) -> Config
     requires { ⌜ (w .start ≤ w .end) × (w .end ≤ length (now text)) ⌝ }
-    ensures { λ r. ⌜ r ≡ put (λ x. mask words (now (text .entry)) 0 fresh x 0 0) s c (w .sort)
+    ensures { λ r. ⌜ r ≡ put (λ x. mask tokens (now (text .entry)) 0 fresh x 0 0) s c (w .sort)
         (spelling (now (text .entry)) w) ⌝ }
 {
     let want = s.want;
     match want {
         Want::Object => put_object(c, w.sort),
-        Want::Name => put_name(text, words, s.kind, c, w.start, w.end),
+        Want::Name => put_name(text, tokens, s.kind, c, w.start, w.end),
         Want::Open => c,
         Want::Attribute => c,
         Want::PriorityEquals => c,
@@ -261,17 +261,17 @@ fn put(text: &[u8], words: usize, s: Progress, c: Config, w: Word) -> Config
     }
 }
 
-// The configuration of a text of `words` words.
-pub fn fill(text: &[u8], words: usize) -> Config
-    ensures { λ r. ⌜ r ≡ filled (now (text .entry)) words ⌝ }
+// The configuration of a text of `tokens` tokens.
+pub fn fill(text: &[u8], tokens: usize) -> Config
+    ensures { λ r. ⌜ r ≡ filled (now (text .entry)) tokens ⌝ }
 {
     let mut c = empty(1);
     let mut s = fresh();
     let mut at = 0;
     let mut i = 0;
-    while i < words {
-        let w = next_word(text, at);
-        c = put(text, words, s, c, w);
+    while i < tokens {
+        let w = next_token(text, at);
+        c = put(text, tokens, s, c, w);
         s = after(s, w.sort);
         at = w.end;
         i += 1;

@@ -1,4 +1,4 @@
-// The next word of a text, from a place on. A comment ends with its line, or with the first */.
+// The next token of a text, from a place on. A comment ends with its line, or with the first */.
 use crate::bytes::LINE_FEED;
 use crate::bytes::is_digit;
 use crate::bytes::is_letter;
@@ -17,15 +17,15 @@ use crate::sorts::TASK;
 use crate::sorts::TRUE;
 use crate::sorts::UNREADABLE;
 use check::same;
-use oil_grammar::Word;
+use oil_grammar::Token;
 ghost use mathlib.Core.Path.{_≡_};
 ghost use Prim.Native.Nat.{_+_, _≤_, _<_};
 ghost use lib.ListN.{length, drop};
 ghost use lib.Dec.{eqb};
 ghost use mathlib.Core.Bool.{_&&_};
 ghost use Rattle.oil_grammar.specs.Byte.{slash, star, isNameByte, isDigit, isLineByte, span};
-ghost use Rattle.oil_grammar.specs.Word.{spelledSort};
-ghost use Rattle.oil_grammar.specs.Next.{closing, comment, blank, skipped, wordAt, signAt, nextWord};
+ghost use Rattle.oil_grammar.specs.Token.{spelledSort};
+ghost use Rattle.oil_grammar.specs.Next.{closing, comment, blank, skipped, tokenAt, signAt, nextToken};
 
 const SLASH: u8 = 47;
 
@@ -143,7 +143,7 @@ fn blank(text: &[u8], at: usize) -> usize
     0
 }
 
-// Where the next word begins: past all spaces and comments.
+// Where the next token begins: past all spaces and comments.
 fn skip(text: &[u8], at: usize) -> usize
     requires { ⌜ at ≤ length (now text) ⌝ }
     ensures { λ r. ⌜ r ≡ skipped (now (text .entry)) at ⌝ }
@@ -158,60 +158,60 @@ fn skip(text: &[u8], at: usize) -> usize
     }
 }
 
-// The sort of what letters and digits spell: one of OIL's words, or a name.
-fn spelled_sort(word: &[u8]) -> u8
-    ensures { λ r. ⌜ r ≡ spelledSort (now (word .entry)) ⌝ }
+// The sort of what letters and digits spell: one of OIL's tokens, or a name.
+fn spelled_sort(token: &[u8]) -> u8
+    ensures { λ r. ⌜ r ≡ spelledSort (now (token .entry)) ⌝ }
 {
-    if same(word, b"TASK") {
+    if same(token, b"TASK") {
         return TASK;
     }
-    if same(word, b"ISR") {
+    if same(token, b"ISR") {
         return ISR;
     }
-    if same(word, b"RESOURCE") {
+    if same(token, b"RESOURCE") {
         return RESOURCE;
     }
-    if same(word, b"PRIORITY") {
+    if same(token, b"PRIORITY") {
         return PRIORITY;
     }
-    if same(word, b"AUTOSTART") {
+    if same(token, b"AUTOSTART") {
         return AUTOSTART;
     }
-    if same(word, b"TRUE") {
+    if same(token, b"TRUE") {
         return TRUE;
     }
-    if same(word, b"FALSE") {
+    if same(token, b"FALSE") {
         return FALSE;
     }
     NAME
 }
 
-// The word of a byte that is neither letter nor digit.
-fn sign_at(at: usize, sort: u8) -> Word
+// The token of a byte that is neither letter nor digit.
+fn sign_at(at: usize, sort: u8) -> Token
     requires { ⌜ at < 9223372036854775808 ⌝ }
     ensures { λ r. ⌜ r ≡ signAt at sort ⌝ }
 {
     if sort == 0 {
-        return Word {
+        return Token {
             sort: UNREADABLE,
             start: at,
             end: at,
         };
     }
-    Word {
+    Token {
         sort: sort,
         start: at,
         end: at + 1,
     }
 }
 
-// The word that begins at `at`.
-fn word_at(text: &[u8], at: usize) -> Word
+// The token that begins at `at`.
+fn token_at(text: &[u8], at: usize) -> Token
     requires { ⌜ at ≤ length (now text) ⌝ }
-    ensures { λ r. ⌜ r ≡ wordAt at (drop at (now (text .entry))) ⌝ }
+    ensures { λ r. ⌜ r ≡ tokenAt at (drop at (now (text .entry))) ⌝ }
 {
     if at == text.len() {
-        return Word {
+        return Token {
             sort: END,
             start: at,
             end: at,
@@ -220,7 +220,7 @@ fn word_at(text: &[u8], at: usize) -> Word
     let b = text[at];
     if is_letter(b) {
         let end = name_end(text, at + 1);
-        return Word {
+        return Token {
             sort: spelled_sort(&text[at..end]),
             start: at,
             end: end,
@@ -228,7 +228,7 @@ fn word_at(text: &[u8], at: usize) -> Word
     }
     if is_digit(b) {
         let end = number_end(text, at + 1);
-        return Word {
+        return Token {
             sort: NUMBER,
             start: at,
             end: end,
@@ -237,11 +237,11 @@ fn word_at(text: &[u8], at: usize) -> Word
     sign_at(at, sign(b))
 }
 
-// The first word at or after `at`.
-pub fn next_word(text: &[u8], at: usize) -> Word
+// The first token at or after `at`.
+pub fn next_token(text: &[u8], at: usize) -> Token
     requires { ⌜ at ≤ length (now text) ⌝ }
-    ensures { λ r. ⌜ r ≡ nextWord (now (text .entry)) at ⌝ }
+    ensures { λ r. ⌜ r ≡ nextToken (now (text .entry)) at ⌝ }
 {
     let p = skip(text, at);
-    word_at(text, p)
+    token_at(text, p)
 }

@@ -1,6 +1,6 @@
-// The sorts of words, as numbers.
+// The sorts of tokens, as numbers.
 
-// OIL's words; those of objects come first.
+// OIL's tokens; those of objects come first.
 pub const TASK: u8 = 1;
 
 pub const ISR: u8 = 2;

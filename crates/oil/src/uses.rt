@@ -1,19 +1,19 @@
 // The second walk over a text: refusal 64.
-use crate::machine::after;
-use crate::machine::fresh;
-use crate::machine::uses_resource;
-use crate::next::next_word;
+use crate::automaton::after;
+use crate::automaton::fresh;
+use crate::automaton::uses_resource;
+use crate::next::next_token;
 use crate::walk::borne;
 use crate::walk::refused_at;
 use check::same;
 use oil_grammar::Found;
 use oil_grammar::Progress;
-use oil_grammar::Word;
+use oil_grammar::Token;
 ghost use mathlib.Core.Path.{_≡_};
 ghost use Prim.Native.Nat.{_≤_};
 ghost use mathlib.Core.Bool.{true};
 ghost use lib.ListN.{length};
-ghost use Rattle.oil_grammar.specs.Machine.{fresh};
+ghost use Rattle.oil_grammar.specs.Automaton.{fresh};
 ghost use Rattle.oil_grammar.specs.Walk.{unborneAt, unborne};
 ghost use Rattle.oil.specs.Kept.{borneBy, room, nothing, kept, Sound};
 
@@ -36,7 +36,7 @@ struct Searched {
     kept: bool,
 }
 
-// What a word makes of the names that are kept, and whether it is a use that no RESOURCE bears.
+// What a token makes of the names that are kept, and whether it is a use that no RESOURCE bears.
 struct Looked {
     kept: Kept,
     unborne: bool,
@@ -73,11 +73,11 @@ fn keep(k: Kept, start: usize, end: usize) -> Kept
     }
 }
 
-// Whether a RESOURCE bears what the bytes from `start` to `end` spell: it is kept, or stands among the first `words`
-// words.
-fn search(text: &[u8], words: usize, k: Kept, start: usize, end: usize) -> Searched
-    requires { ⌜ Sound (now text) words k × ((start ≤ end) × (end ≤ length (now text))) ⌝ }
-    ensures { λ r. ⌜ r .borne ≡ borneBy (now (text .entry)) words start end ⌝ }
+// Whether a RESOURCE bears what the bytes from `start` to `end` spell: it is kept, or stands among the first `tokens`
+// tokens.
+fn search(text: &[u8], tokens: usize, k: Kept, start: usize, end: usize) -> Searched
+    requires { ⌜ Sound (now text) tokens k × ((start ≤ end) × (end ≤ length (now text))) ⌝ }
+    ensures { λ r. ⌜ r .borne ≡ borneBy (now (text .entry)) tokens start end ⌝ }
 {
     let n = k.count;
     let from = k.from;
@@ -95,16 +95,16 @@ fn search(text: &[u8], words: usize, k: Kept, start: usize, end: usize) -> Searc
         i += 1;
     }
     Searched {
-        borne: borne(text, words, true, start, end),
+        borne: borne(text, tokens, true, start, end),
         kept: false,
     }
 }
 
-// Looks at a word where the text has come as far as `s`.
-fn look(text: &[u8], words: usize, k: Kept, s: Progress, w: Word) -> Looked
-    requires { ⌜ Sound (now text) words k × ((w .start ≤ w .end) × (w .end ≤ length (now text))) ⌝ }
-    ensures sound { λ r. ⌜ Sound (now (text .entry)) words (r .kept) ⌝ }
-    ensures answer { λ r. ⌜ r .unborne ≡ unborneAt (now (text .entry)) s words w ⌝ }
+// Looks at a token where the text has come as far as `s`.
+fn look(text: &[u8], tokens: usize, k: Kept, s: Progress, w: Token) -> Looked
+    requires { ⌜ Sound (now text) tokens k × ((w .start ≤ w .end) × (w .end ≤ length (now text))) ⌝ }
+    ensures sound { λ r. ⌜ Sound (now (text .entry)) tokens (r .kept) ⌝ }
+    ensures answer { λ r. ⌜ r .unborne ≡ unborneAt (now (text .entry)) s tokens w ⌝ }
 {
     if !uses_resource(s) {
         return Looked {
@@ -114,7 +114,7 @@ fn look(text: &[u8], words: usize, k: Kept, s: Progress, w: Word) -> Looked
     }
     let start = w.start;
     let end = w.end;
-    let found = search(text, words, k, start, end);
+    let found = search(text, tokens, k, start, end);
     if !found.borne {
         return Looked {
             kept: k,
@@ -135,16 +135,16 @@ fn look(text: &[u8], words: usize, k: Kept, s: Progress, w: Word) -> Looked
 }
 
 // The first use that no RESOURCE bears.
-pub fn unborne(text: &[u8], words: usize) -> Found
-    ensures { λ r. ⌜ r ≡ unborne words (now (text .entry)) 0 fresh words ⌝ }
+pub fn unborne(text: &[u8], tokens: usize) -> Found
+    ensures { λ r. ⌜ r ≡ unborne tokens (now (text .entry)) 0 fresh tokens ⌝ }
 {
     let mut k = nothing();
     let mut s = fresh();
     let mut at = 0;
     let mut i = 0;
-    while i < words {
-        let w = next_word(text, at);
-        let seen = look(text, words, k, s, w);
+    while i < tokens {
+        let w = next_token(text, at);
+        let seen = look(text, tokens, k, s, w);
         if seen.unborne {
             return refused_at(NO_RESOURCE, w.start);
         }
@@ -156,6 +156,6 @@ pub fn unborne(text: &[u8], words: usize) -> Found
     Found {
         refusal: 0,
         place: 0,
-        words: words,
+        tokens: tokens,
     }
 }

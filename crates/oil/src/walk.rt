@@ -1,23 +1,23 @@
-// The first walk over a text: the refusals 60 to 63 in reading order, and how many words there are.
-use crate::machine::GIVEN_TWICE;
-use crate::machine::after;
-use crate::machine::fault;
-use crate::machine::fresh;
-use crate::machine::names_object;
-use crate::next::next_word;
+// The first walk over a text: the refusals 60 to 63 in reading order, and how many tokens there are.
+use crate::automaton::GIVEN_TWICE;
+use crate::automaton::after;
+use crate::automaton::fault;
+use crate::automaton::fresh;
+use crate::automaton::names_object;
+use crate::next::next_token;
 use crate::sorts::END;
 use crate::sorts::RESOURCE;
 use check::same;
 use oil_grammar::Found;
 use oil_grammar::Progress;
-use oil_grammar::Word;
+use oil_grammar::Token;
 ghost use mathlib.Core.Path.{_≡_};
 ghost use Prim.Native.Nat.{_-_, _≤_};
 ghost use mathlib.Core.Bool.{_&&_};
 ghost use lib.ListN.{length, take, drop};
-ghost use Rattle.oil_grammar.specs.Word.{same};
+ghost use Rattle.oil_grammar.specs.Token.{same};
 ghost use Rattle.oil_grammar.specs.Next.{spelling};
-ghost use Rattle.oil_grammar.specs.Machine.{fresh};
+ghost use Rattle.oil_grammar.specs.Automaton.{fresh};
 ghost use Rattle.oil_grammar.specs.Walk.{bears, borne, nameFault, faultIn, refusedAt};
 ghost use Rattle.oil_grammar.specs.Reader.{walked};
 
@@ -35,8 +35,8 @@ fn bears(resource: bool, s: Progress) -> bool
     s.kind == RESOURCE
 }
 
-// Whether the word is such a name, and is spelled as the bytes from `start` to `end`.
-fn borne_here(text: &[u8], resource: bool, s: Progress, w: Word, start: usize, end: usize) -> bool
+// Whether the token is such a name, and is spelled as the bytes from `start` to `end`.
+fn borne_here(text: &[u8], resource: bool, s: Progress, w: Token, start: usize, end: usize) -> bool
     requires { ⌜ ((w .start ≤ w .end) × (w .end ≤ length (now text))) × ((start ≤ end) × (end ≤ length (now text))) ⌝ }
     ensures { λ r. ⌜ r ≡ bears resource s && same (spelling (now (text .entry)) w)
         (take (end - start) (drop start (now (text .entry)))) ⌝ }
@@ -49,7 +49,7 @@ fn borne_here(text: &[u8], resource: bool, s: Progress, w: Word, start: usize, e
     same(&text[from..to], &text[start..end])
 }
 
-// Whether one of the first `count` words is such a name, and is spelled as the bytes from `start` to `end`.
+// Whether one of the first `count` tokens is such a name, and is spelled as the bytes from `start` to `end`.
 pub fn borne(text: &[u8], count: usize, resource: bool, start: usize, end: usize) -> bool
     requires { ⌜ (start ≤ end) × (end ≤ length (now text)) ⌝ }
     ensures { λ r. ⌜ r ≡ borne count (now (text .entry)) 0 fresh resource
@@ -59,7 +59,7 @@ pub fn borne(text: &[u8], count: usize, resource: bool, start: usize, end: usize
     let mut at = 0;
     let mut i = 0;
     while i < count {
-        let w = next_word(text, at);
+        let w = next_token(text, at);
         if borne_here(text, resource, s, w, start, end) {
             return true;
         }
@@ -71,29 +71,29 @@ pub fn borne(text: &[u8], count: usize, resource: bool, start: usize, end: usize
 }
 
 // The refusal of an earlier object's name.
-fn name_fault(text: &[u8], s: Progress, words: usize, w: Word) -> u8
+fn name_fault(text: &[u8], s: Progress, tokens: usize, w: Token) -> u8
     requires { ⌜ (w .start ≤ w .end) × (w .end ≤ length (now text)) ⌝ }
-    ensures { λ r. ⌜ r ≡ nameFault (now (text .entry)) s words w ⌝ }
+    ensures { λ r. ⌜ r ≡ nameFault (now (text .entry)) s tokens w ⌝ }
 {
     if !names_object(s) {
         return 0;
     }
-    if borne(text, words, false, w.start, w.end) {
+    if borne(text, tokens, false, w.start, w.end) {
         return GIVEN_TWICE;
     }
     0
 }
 
-// The refusal of a word where the text has come as far as `s` and `words` words stand before.
-fn fault_in(text: &[u8], s: Progress, words: usize, w: Word) -> u8
+// The refusal of a token where the text has come as far as `s` and `tokens` tokens stand before.
+fn fault_in(text: &[u8], s: Progress, tokens: usize, w: Token) -> u8
     requires { ⌜ (w .start ≤ w .end) × (w .end ≤ length (now text)) ⌝ }
-    ensures { λ r. ⌜ r ≡ faultIn (now (text .entry)) s words w ⌝ }
+    ensures { λ r. ⌜ r ≡ faultIn (now (text .entry)) s tokens w ⌝ }
 {
     let refusal = fault(s, w.sort);
     if refusal != 0 {
         return refusal;
     }
-    name_fault(text, s, words, w)
+    name_fault(text, s, tokens, w)
 }
 
 // A refusal and its place.
@@ -103,20 +103,20 @@ pub fn refused_at(refusal: u8, place: usize) -> Found
     Found {
         refusal: refusal,
         place: place,
-        words: 0,
+        tokens: 0,
     }
 }
 
-// The first refusal, or the number of words.
+// The first refusal, or the number of tokens.
 pub fn walk(text: &[u8]) -> Found
     ensures { λ r. ⌜ r ≡ walked (now (text .entry)) ⌝ }
 {
     let mut s = fresh();
     let mut at = 0;
-    let mut words = 0;
+    let mut tokens = 0;
     loop {
-        let w = next_word(text, at);
-        let refusal = fault_in(text, s, words, w);
+        let w = next_token(text, at);
+        let refusal = fault_in(text, s, tokens, w);
         if refusal != 0 {
             return refused_at(refusal, w.start);
         }
@@ -124,11 +124,11 @@ pub fn walk(text: &[u8]) -> Found
             return Found {
                 refusal: 0,
                 place: 0,
-                words: words,
+                tokens: tokens,
             };
         }
         s = after(s, w.sort);
         at = w.end;
-        words += 1;
+        tokens += 1;
     }
 }

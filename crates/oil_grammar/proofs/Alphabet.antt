@@ -1,8 +1,8 @@
--- What bytes and words are, as tables with every byte and every sort of word written out, computed by the checker:
+-- What bytes and tokens are, as tables with every byte and every sort of token written out, computed by the checker:
 -- grammar and reading share these definitions, so that no law between the two holds them.
 --
 --   picked p      the bytes of the class p, of all 256
---   wanted s      the refusals of the words of sorts 1 to 15 where the text has come as far as s
+--   wanted s      the refusals of the tokens of sorts 1 to 15 where the text has come as far as s
 use Prim.Native.Nat.{ℕ, zero, suc}
 use mathlib.Core.Path.{_≡_, refl}
 use mathlib.Core.Bool.{Bool, true, false, cond, not}
@@ -12,8 +12,8 @@ use Rattle.oil_grammar.specs.declared.Progress.{Progress}
 use Rattle.oil_grammar.specs.declared.Want.{Want}
 use Rattle.oil_grammar.specs.declared.Want.the-variants.{Object, Name, Open, Attribute, PriorityEquals, PriorityNumber, AutostartEquals, AutostartValue, UseEquals, Use, AttributeEnd, ObjectEnd}
 use Rattle.oil_grammar.specs.Byte.{isSpace, isDigit, isLetter, isNameByte, isLineByte}
-use Rattle.oil_grammar.specs.Word.{same, taskWord, isrWord, resourceWord, priorityWord, autostartWord, trueWord, falseWord, spelledSort, signOf}
-use Rattle.oil_grammar.specs.Machine.{unexpected, unknown, only, objectFault, bodyFault, attributeFault, valueFault, fault, faultAt}
+use Rattle.oil_grammar.specs.Token.{same, taskToken, isrToken, resourceToken, priorityToken, autostartToken, trueToken, falseToken, spelledSort, signOf}
+use Rattle.oil_grammar.specs.Automaton.{unexpected, unknown, only, objectFault, bodyFault, attributeFault, valueFault, fault, faultAt}
 use Rattle.oil_grammar.proofs.Ascii.{ascii}
 
 pickedFrom : (ℕ → Bool) → ℕ → ℕ → List ℕ
@@ -47,9 +47,9 @@ classes =
       line-ends = refl;
     }
 
--- OIL's seven words, byte by byte, are sorts 1 to 7; whatever else letters and digits spell is a name, sort 12
+-- OIL's seven tokens, byte by byte, are sorts 1 to 7; whatever else letters and digits spell is a name, sort 12
 pub record Spellings : Type 0 where
-  pub words : taskWord ∷ isrWord ∷ resourceWord ∷ priorityWord ∷ autostartWord ∷ trueWord ∷ falseWord ∷ []
+  pub tokens : taskToken ∷ isrToken ∷ resourceToken ∷ priorityToken ∷ autostartToken ∷ trueToken ∷ falseToken ∷ []
       ≡ ascii "TASK" ∷ ascii "ISR" ∷ ascii "RESOURCE" ∷ ascii "PRIORITY" ∷ ascii "AUTOSTART" ∷ ascii "TRUE"
       ∷ ascii "FALSE" ∷ []
   pub sorts : map spelledSort
@@ -63,7 +63,7 @@ pub record Spellings : Type 0 where
 
 pub spellings : Spellings
 unfolding ascii same spelledSort
-spellings = record { words = refl; sorts = refl; names = refl }
+spellings = record { tokens = refl; sorts = refl; names = refl }
 
 -- in an object of a kind (1 TASK, 2 ISR, 3 RESOURCE), with what was given before
 abbrev here : Want → ℕ → Bool → Bool → Progress
@@ -73,7 +73,7 @@ pub wanted : Progress → List ℕ
 wanted s =
     map (fault s) (1 ∷ 2 ∷ 3 ∷ 4 ∷ 5 ∷ 6 ∷ 7 ∷ 8 ∷ 9 ∷ 10 ∷ 11 ∷ 12 ∷ 13 ∷ 14 ∷ 15 ∷ [])
 
--- The refusals of every sort of word where the automaton wants something: TASK, ISR, RESOURCE, PRIORITY, AUTOSTART, TRUE,
+-- The refusals of every sort of token where the automaton wants something: TASK, ISR, RESOURCE, PRIORITY, AUTOSTART, TRUE,
 -- FALSE, the signs { } = ; a name, a number, the text's end, and what is unreadable
 pub record Wants : Type 0 where
   pub object : wanted (here Object 1 true true)
@@ -95,7 +95,7 @@ pub record Wants : Type 0 where
   -- a RESOURCE has no attributes
   pub of-resource : wanted (here Attribute 3 false false)
       ≡ 62 ∷ 62 ∷ 62 ∷ 62 ∷ 62 ∷ 62 ∷ 62 ∷ 61 ∷ 0 ∷ 61 ∷ 61 ∷ 62 ∷ 61 ∷ 61 ∷ 60 ∷ []
-  -- = after each attribute's word
+  -- = after each attribute's token
   pub equals : map (λ v. wanted (here v 1 true true)) (PriorityEquals ∷ AutostartEquals ∷ UseEquals ∷ [])
       ≡ (61 ∷ 61 ∷ 61 ∷ 61 ∷ 61 ∷ 61 ∷ 61 ∷ 61 ∷ 61 ∷ 0 ∷ 61 ∷ 61 ∷ 61 ∷ 61 ∷ 60 ∷ [])
       ∷ (61 ∷ 61 ∷ 61 ∷ 61 ∷ 61 ∷ 61 ∷ 61 ∷ 61 ∷ 61 ∷ 0 ∷ 61 ∷ 61 ∷ 61 ∷ 61 ∷ 60 ∷ [])

@@ -13,17 +13,17 @@ use Rattle.config.specs.Draft.{timedIn, faultAt as numberFaultAt, putAt as numb
 use Rattle.config.specs.Writer.{faultFrom, bytesFrom, configBytes}
 use Rattle.word.specs.Word.{has, with}
 use Rattle.oil_grammar.specs.Byte.{isSpace, isDigit, isLetter, isNameByte, isLineByte, span}
-use Rattle.oil_grammar.specs.Word.{same, spelledSort, signOf, decimal}
+use Rattle.oil_grammar.specs.Token.{same, spelledSort, signOf, decimal}
 use Rattle.oil_grammar.specs.Meaning.{ended}
-use Rattle.oil_grammar.specs.Next.{closing, comment, blank, blanks, wordAt, nextWord}
-use Rattle.oil_grammar.specs.Machine.{unexpected, unknown, only, objectFault, bodyFault, attributeFault, valueFault, faultAt, attributeBegun, afterAt, namesAt, usesAt}
+use Rattle.oil_grammar.specs.Next.{closing, comment, blank, blanks, tokenAt, nextToken}
+use Rattle.oil_grammar.specs.Automaton.{unexpected, unknown, only, objectFault, bodyFault, attributeFault, valueFault, faultAt, attributeBegun, afterAt, namesAt, usesAt}
 use Rattle.oil_grammar.specs.Walk.{bears, borne, nameFault, faultIn, walk, unborneAt, unborne, numberedAt, marked, mask, putAt, fill}
 use Rattle.oil_grammar.specs.Reader.{lineAfter, columnAfter, readOil}
 use Rattle.oil_grammar.proofs.Ascii.{ascii}
 
 unfoldable pub told : List ℕ → List ℕ
 unfolding ascii isSpace isDigit isLetter isNameByte isLineByte span same spelledSort signOf decimal ended closing
-    comment blank blanks wordAt nextWord unexpected unknown only objectFault bodyFault attributeFault valueFault faultAt
+    comment blank blanks tokenAt nextToken unexpected unknown only objectFault bodyFault attributeFault valueFault faultAt
     attributeBegun afterAt namesAt usesAt bears borne nameFault faultIn walk unborneAt unborne numberedAt marked mask
     putAt fill lineAfter columnAfter readOil has with among timedIn numberFaultAt numberPutAt askedAt numbersEnded
     faultFrom
@@ -49,7 +49,7 @@ pub table-bytes : bytes table ≡ 1 ∷ 4 ∷ 0 ∷ 1 ∷ 1 ∷ 0 ∷ 3 ∷ 0 �
 unfolding bytes
 table-bytes = refl
 
--- 60: a sign that no word has
+-- 60: a sign that no token has
 pub unreadable-sign : told (ascii "TASK a { PRIORITY = 1; };\n #") ≡ 60 ∷ 2 ∷ 2 ∷ []
 unfolding told
 unreadable-sign = refl
@@ -79,15 +79,15 @@ pub earlier-refusal-first : told (ascii "TASK = #") ≡ 61 ∷ 1 ∷ 6 ∷ []
 unfolding told
 earlier-refusal-first = refl
 
--- 61: OIL's words are no names
-pub word-for-a-name : told (ascii "TASK TASK { PRIORITY = 1; };") ≡ 61 ∷ 1 ∷ 6 ∷ []
+-- 61: OIL's tokens are no names
+pub token-for-a-name : told (ascii "TASK TASK { PRIORITY = 1; };") ≡ 61 ∷ 1 ∷ 6 ∷ []
 unfolding told
-word-for-a-name = refl
+token-for-a-name = refl
 
 -- 61: nor names of resources
-pub word-for-a-resource : told (ascii "TASK a { PRIORITY = 1; RESOURCE = TRUE; };") ≡ 61 ∷ 1 ∷ 35 ∷ []
+pub token-for-a-resource : told (ascii "TASK a { PRIORITY = 1; RESOURCE = TRUE; };") ≡ 61 ∷ 1 ∷ 35 ∷ []
 unfolding told
-word-for-a-resource = refl
+token-for-a-resource = refl
 
 -- 61: 2abc is the number 2 and the name abc
 pub number-and-name : told (ascii "TASK a { PRIORITY = 2abc; };") ≡ 61 ∷ 1 ∷ 22 ∷ []
@@ -139,7 +139,7 @@ pub unknown-object : told (ascii "ALARM a { };") ≡ 62 ∷ 1 ∷ 1 ∷ []
 unfolding told
 unknown-object = refl
 
--- 62: a word of attributes where an object is wanted
+-- 62: a token of attributes where an object is wanted
 pub attribute-for-an-object : told (ascii "PRIORITY = 1;") ≡ 62 ∷ 1 ∷ 1 ∷ []
 unfolding told
 attribute-for-an-object = refl
@@ -150,9 +150,9 @@ unfolding told
 task-in-capitals-alone = refl
 
 -- 62: TASKS is a name
-pub longer-than-a-word : told (ascii "TASKS a { };") ≡ 62 ∷ 1 ∷ 1 ∷ []
+pub longer-than-a-token : told (ascii "TASKS a { };") ≡ 62 ∷ 1 ∷ 1 ∷ []
 unfolding told
-longer-than-a-word = refl
+longer-than-a-token = refl
 
 -- 62: an attribute that is not known
 pub unknown-attribute : told (ascii "TASK a { SCHEDULE = FULL; };") ≡ 62 ∷ 1 ∷ 10 ∷ []
@@ -240,7 +240,7 @@ pub forward-use : bytes (ascii "TASK t { RESOURCE = r; PRIORITY = 00200; RESOURC
 unfolding bytes
 forward-use = refl
 
--- comments at every place, names that begin with OIL's words
+-- comments at every place, names that begin with OIL's tokens
 pub comments-everywhere : bytes (ascii "/*1*/TASK/*2*/TRUE1/**/{/***/PRIORITY/*\n*/=/*5*/7/*6*/;//7\n}/*8*/;/*9*///")
     ≡ 1 ∷ 1 ∷ 0 ∷ 7 ∷ 0 ∷ 0 ∷ 0 ∷ []
 unfolding bytes
@@ -272,7 +272,7 @@ pub resources-between : bytes
 unfolding bytes
 resources-between = refl
 
--- HT, VT, FF, CR, LF and the space between words
+-- HT, VT, FF, CR, LF and the space between tokens
 pub every-space : bytes
     (ascii "TASK" ++ 9 ∷ 97 ∷ 11 ∷ 123 ∷ 12 ∷ (ascii "PRIORITY" ++ 13 ∷ 61 ∷ 10 ∷ 50 ∷ 32 ∷ ascii ";};"))
     ≡ 1 ∷ 1 ∷ 0 ∷ 2 ∷ 0 ∷ 0 ∷ 0 ∷ []
@@ -296,7 +296,7 @@ pub long-names : (told
 unfolding told
 long-names = (refl, refl)
 
--- OIL's words are in capitals
+-- OIL's tokens are in capitals
 pub lower-case : (told (ascii "task a { PRIORITY = 1; };") ≡ 62 ∷ 1 ∷ 1 ∷ [])
     × (told (ascii "TASK a { priority = 1; };") ≡ 62 ∷ 1 ∷ 10 ∷ [])
 unfolding told

@@ -1,4 +1,4 @@
--- Words that are in order are those of objects: what is left of the words, by what is wanted.
+-- Tokens that are in order are those of objects: what is left of the tokens, by what is wanted.
 use Prim.Native.Nat.{ℕ, suc, _+_, _≤_}
 use mathlib.Core.Path.{_≡_, refl, sym, ap, _∙_}
 use mathlib.Core.Bool.{Bool, true, false, cond, _&&_, _||_}
@@ -10,31 +10,31 @@ use Rattle.number.proofs.Cases.{by-eq, by-lt}
 use Rattle.oil_grammar.specs.declared.Progress.{Progress}
 use Rattle.oil_grammar.specs.declared.Want.{Want}
 use Rattle.oil_grammar.specs.declared.Want.the-variants.{Object, Name, Open, Attribute, PriorityEquals, PriorityNumber, AutostartEquals, AutostartValue, UseEquals, Use, AttributeEnd, ObjectEnd}
-use Rattle.oil_grammar.specs.Word as W
-use Rattle.oil_grammar.specs.Word.{mark, name, number, sortOf, same, taskSort, isrSort, resourceSort, prioritySort, autostartSort, trueSort, falseSort, openSort, closeSort, equalsSort, semicolonSort, nameSort, numberSort, endSort}
+use Rattle.oil_grammar.specs.Token as W
+use Rattle.oil_grammar.specs.Token.{mark, name, number, sortOf, same, taskSort, isrSort, resourceSort, prioritySort, autostartSort, trueSort, falseSort, openSort, closeSort, equalsSort, semicolonSort, nameSort, numberSort, endSort}
 use Rattle.oil_grammar.specs.Object as O
-use Rattle.oil_grammar.specs.Object.{priority, autostart, uses, isResource, attributeWords, attributesWords, written, priorities, autostarts, Fits, task, isr, resource, amongNames}
+use Rattle.oil_grammar.specs.Object.{priority, autostart, uses, isResource, attributeTokens, attributesTokens, written, priorities, autostarts, Fits, task, isr, resource, amongNames}
 use Rattle.oil_grammar.specs.Grammar.{AllFit, fit-nil, fit-cons, Fresh, fresh-nil, fresh-cons}
-use Rattle.oil_grammar.specs.Machine.{faultAt, only, unexpected, unknown, objectFault, bodyFault, attributeFault, valueFault, afterAt, attributeBegun, fresh, namesAt}
+use Rattle.oil_grammar.specs.Automaton.{faultAt, only, unexpected, unknown, objectFault, bodyFault, attributeFault, valueFault, afterAt, attributeBegun, fresh, namesAt}
 use Rattle.oil_grammar.proofs.Spelling.{by-test, false-true}
 use Rattle.oil_grammar.proofs.Accepting.{Proper, proper-mark, proper-name, proper-number, bytesOf, Accepts, stops, goes, only-that}
-use Rattle.oil_grammar.proofs.Objects.{at, once, Left, Sees, sees-name, object-words}
+use Rattle.oil_grammar.proofs.Objects.{at, once, Left, Sees, sees-name, object-tokens}
 
--- the words are those of objects that fit and have new names
-pub record AsObjects (earlier : List (List ℕ)) (ws : List W.Word) : Type 0 where
+-- the tokens are those of objects that fit and have new names
+pub record AsObjects (earlier : List (List ℕ)) (ws : List W.Token) : Type 0 where
   pub objects : List O.Object
   pub is : ws ≡ written objects
   pub fit : AllFit objects
   pub new : Fresh earlier objects
 
--- the words are f of some value, and what follows them is T
-record Then {A : Type 0} (f : A → List W.Word) (T : List W.Word → Type 0) (ws : List W.Word) : Type 0 where
+-- the tokens are f of some value, and what follows them is T
+record Then {A : Type 0} (f : A → List W.Token) (T : List W.Token → Type 0) (ws : List W.Token) : Type 0 where
   value : A
-  rest : List W.Word
+  rest : List W.Token
   is : ws ≡ f value ++ rest
   follows : T rest
 
-abbrev Ending : List (List ℕ) → List W.Word → Type 0
+abbrev Ending : List (List ℕ) → List W.Token → Type 0
 Ending earlier = Then {A = Unit {0}} (λ _. mark semicolonSort ∷ []) (AsObjects earlier)
 
 -- what the attributes that are left satisfy
@@ -42,25 +42,25 @@ record Fitting (k : ℕ) (p a : Bool) (al : List O.Attribute) : Type 0 where
   of-resource : k ≡ resourceSort → al ≡ []
   of-body : (k ≡ resourceSort → ⊥) → Left k p a al
 
-record Attributes (k : ℕ) (p a : Bool) (earlier : List (List ℕ)) (ws : List W.Word) : Type 0 where
+record Attributes (k : ℕ) (p a : Bool) (earlier : List (List ℕ)) (ws : List W.Token) : Type 0 where
   attributes : List O.Attribute
-  rest : List W.Word
-  is : ws ≡ attributesWords attributes ++ (mark closeSort ∷ rest)
+  rest : List W.Token
+  is : ws ≡ attributesTokens attributes ++ (mark closeSort ∷ rest)
   fitting : Fitting k p a attributes
   follows : Ending earlier rest
 
-abbrev boolWord : Bool → W.Word
-boolWord b = mark (cond b trueSort falseSort)
+abbrev boolToken : Bool → W.Token
+boolToken b = mark (cond b trueSort falseSort)
 
-record Named (k : ℕ) (p a : Bool) (earlier : List (List ℕ)) (ws : List W.Word) : Type 0 where
+record Named (k : ℕ) (p a : Bool) (earlier : List (List ℕ)) (ws : List W.Token) : Type 0 where
   called : List ℕ
-  rest : List W.Word
+  rest : List W.Token
   is : ws ≡ name called ∷ mark openSort ∷ rest
   new : amongNames called earlier ≡ false
   follows : Attributes k p a (called ∷ earlier) rest
 
--- what is left of the words, by what is wanted
-abbrev Rest : Want → ℕ → Bool → Bool → List (List ℕ) → List W.Word → Type 0
+-- what is left of the tokens, by what is wanted
+abbrev Rest : Want → ℕ → Bool → Bool → List (List ℕ) → List W.Token → Type 0
 Rest Object k p a E ws = AsObjects E ws
 Rest Name k p a E ws = Named k p a E ws
 Rest Open k p a E ws = Then {A = Unit {0}} (λ _. mark openSort ∷ []) (Attributes k p a E) ws
@@ -69,40 +69,40 @@ Rest PriorityEquals k p a E ws =
     Then (λ n. mark equalsSort ∷ number n ∷ mark semicolonSort ∷ []) (Attributes k p a E) ws
 Rest PriorityNumber k p a E ws = Then (λ n. number n ∷ mark semicolonSort ∷ []) (Attributes k p a E) ws
 Rest AutostartEquals k p a E ws =
-    Then (λ b. mark equalsSort ∷ boolWord b ∷ mark semicolonSort ∷ []) (Attributes k p a E) ws
-Rest AutostartValue k p a E ws = Then (λ b. boolWord b ∷ mark semicolonSort ∷ []) (Attributes k p a E) ws
+    Then (λ b. mark equalsSort ∷ boolToken b ∷ mark semicolonSort ∷ []) (Attributes k p a E) ws
+Rest AutostartValue k p a E ws = Then (λ b. boolToken b ∷ mark semicolonSort ∷ []) (Attributes k p a E) ws
 Rest UseEquals k p a E ws = Then (λ x. mark equalsSort ∷ name x ∷ mark semicolonSort ∷ []) (Attributes k p a E) ws
 Rest Use k p a E ws = Then (λ x. name x ∷ mark semicolonSort ∷ []) (Attributes k p a E) ws
 Rest AttributeEnd k p a E ws = Then {A = Unit {0}} (λ _. mark semicolonSort ∷ []) (Attributes k p a E) ws
 Rest ObjectEnd k p a E ws = Ending E ws
 
--- one word more before words that follow
-before : {A B : Type 0} {f : A → List W.Word} {g : B → List W.Word} {T : List W.Word → Type 0} {w : W.Word}
-    {ws : List W.Word}
+-- one token more before tokens that follow
+before : {A B : Type 0} {f : A → List W.Token} {g : B → List W.Token} {T : List W.Token → Type 0} {w : W.Token}
+    {ws : List W.Token}
     (r : Then f T ws) (v : B) → w ∷ f (r .value) ≡ g v → Then g T (w ∷ ws)
 before {f = f} {w = w} r v e =
     record {
       value = v;
       rest = r .rest;
-      is = ap (λ (l : List W.Word). w ∷ l) (r .is) ∙ ap (λ (l : List W.Word). l ++ r .rest) e;
+      is = ap (λ (l : List W.Token). w ∷ l) (r .is) ∙ ap (λ (l : List W.Token). l ++ r .rest) e;
       follows = r .follows;
     }
 
 -- an attribute before attributes
-attribute : {k : ℕ} {p a q b : Bool} {E : List (List ℕ)} {w : W.Word} {ws : List W.Word} {A : Type 0}
-    {f : A → List W.Word}
-    (r : Then f (Attributes k q b E) ws) (x : O.Attribute) → w ∷ f (r .value) ≡ attributeWords x
+attribute : {k : ℕ} {p a q b : Bool} {E : List (List ℕ)} {w : W.Token} {ws : List W.Token} {A : Type 0}
+    {f : A → List W.Token}
+    (r : Then f (Attributes k q b E) ws) (x : O.Attribute) → w ∷ f (r .value) ≡ attributeTokens x
     → ((al : List O.Attribute) → Fitting k q b al → Fitting k p a (x ∷ al)) → Attributes k p a E (w ∷ ws)
-unfolding attributesWords
+unfolding attributesTokens
 attribute {w = w} {f = f} r x e fits =
     record {
       attributes = x ∷ r .follows .attributes;
       rest = r .follows .rest;
       is =
-          ap (λ (l : List W.Word). w ∷ l) (r .is)
-          ∙ ap (λ (l : List W.Word). l ++ r .rest) e
-          ∙ ap (λ (l : List W.Word). attributeWords x ++ l) (r .follows .is)
-          ∙ sym (append-assoc (attributeWords x) (attributesWords (r .follows .attributes)) _);
+          ap (λ (l : List W.Token). w ∷ l) (r .is)
+          ∙ ap (λ (l : List W.Token). l ++ r .rest) e
+          ∙ ap (λ (l : List W.Token). attributeTokens x ++ l) (r .follows .is)
+          ∙ sym (append-assoc (attributeTokens x) (attributesTokens (r .follows .attributes)) _);
       fitting = fits (r .follows .attributes) (r .follows .fitting);
       follows = r .follows .follows;
     }
@@ -122,7 +122,7 @@ fits-of k x al lo hi f =
     (λ n. let e : k ≡ isrSort = omega arith in
     rw e (isr {x = x} {rest = al} (let h = l .one-priority in omega arith) (l .of-task n))))
 
-object : {E : List (List ℕ)} {ws : List W.Word} (k : ℕ) → 1 ≤ k → k ≤ 3 → Named k false false E ws
+object : {E : List (List ℕ)} {ws : List W.Token} (k : ℕ) → 1 ≤ k → k ≤ 3 → Named k false false E ws
     → AsObjects E (mark k ∷ ws)
 object {E} {ws} k lo hi n =
     let b = n .follows in
@@ -131,13 +131,13 @@ object {E} {ws} k lo hi n =
     record {
       objects = record { kind = k; called = n .called; attributes = b .attributes } ∷ e .follows .objects;
       is =
-          ap (λ (l : List W.Word). mark k ∷ l) (n .is)
-          ∙ ap (λ (l : List W.Word). mark k ∷ name (n .called) ∷ mark openSort ∷ l) (b .is)
-          ∙ ap (λ (l : List W.Word). mark k ∷ name (n .called) ∷ mark openSort ∷
-          (attributesWords (b .attributes) ++ (mark closeSort ∷ l))) (e .is)
-          ∙ ap (λ (l : List W.Word). mark k ∷ name (n .called) ∷ mark openSort ∷ (attributesWords (b .attributes) ++
+          ap (λ (l : List W.Token). mark k ∷ l) (n .is)
+          ∙ ap (λ (l : List W.Token). mark k ∷ name (n .called) ∷ mark openSort ∷ l) (b .is)
+          ∙ ap (λ (l : List W.Token). mark k ∷ name (n .called) ∷ mark openSort ∷
+          (attributesTokens (b .attributes) ++ (mark closeSort ∷ l))) (e .is)
+          ∙ ap (λ (l : List W.Token). mark k ∷ name (n .called) ∷ mark openSort ∷ (attributesTokens (b .attributes) ++
           (mark closeSort ∷ mark semicolonSort ∷ l))) (e .follows .is)
-          ∙ sym (object-words (record { kind = k; called = n .called; attributes = b .attributes })
+          ∙ sym (object-tokens (record { kind = k; called = n .called; attributes = b .attributes })
           (e .follows .objects));
       fit = fit-cons (fits-of k (n .called) (b .attributes) lo hi (b .fitting)) (e .follows .fit);
       new = fresh-cons (n .new) (e .follows .new);
@@ -167,7 +167,7 @@ unfolding valueFault
 value-mark m f =
     by-eq m trueSort (λ e. (true, e)) (λ d. (false, only-that falseSort m (rw (ne-eqb m trueSort d) at f)))
 
--- a word that is unknown is refused
+-- a token that is unknown is refused
 unknown-some : (m : ℕ) → unknown m ≡ 0 → ⊥
 unfolding unknown unexpected
 unknown-some m e =
@@ -178,18 +178,18 @@ unknown-some m e =
     some : (k : ℕ) → suc k ≡ 0 → ⊥
     some k q = omega arith
 
--- the proofs for what follows a word, from any place on
-abbrev Further : Progress → (List ℕ → Bool) → List W.Word → Type 0
+-- the proofs for what follows a token, from any place on
+abbrev Further : Progress → (List ℕ → Bool) → List W.Token → Type 0
 Further s seen ws =
     (v : Want) (k : ℕ) (p a : Bool) → s ≡ at v k p a → (E : List (List ℕ)) → Sees seen E → Rest v k p a E ws
 
 -- a mark where an attribute or the closing brace is wanted
-module _ (k : ℕ) (p a : Bool) (m : ℕ) (lo : 1 ≤ m) (hi : m ≤ semicolonSort) (ws : List W.Word) (seen : List ℕ → Bool)
+module _ (k : ℕ) (p a : Bool) (m : ℕ) (lo : 1 ≤ m) (hi : m ≤ semicolonSort) (ws : List W.Token) (seen : List ℕ → Bool)
     (f : attributeFault (at Attribute k p a) m ≡ 0) (ih : Further (attributeBegun (at Attribute k p a) m) seen ws)
     (E : List (List ℕ))
     (q : Sees seen E) where
   closed : m ≡ closeSort → Attributes k p a E (mark m ∷ ws)
-  unfolding attributeBegun attributeFault bodyFault attributesWords priorities autostarts
+  unfolding attributeBegun attributeFault bodyFault attributesTokens priorities autostarts
   closed e =
       record {
         attributes = [];
@@ -222,7 +222,7 @@ module _ (k : ℕ) (p a : Bool) (m : ℕ) (lo : 1 ≤ m) (hi : m ≤ semicolonSo
   body-fault d = rw (ne-eqb k resourceSort (body d)) at f
 
   priority-given : m ≡ prioritySort → Attributes k p a E (mark m ∷ ws)
-  unfolding attributeBegun bodyFault attributeWords priorities autostarts
+  unfolding attributeBegun bodyFault attributeTokens priorities autostarts
   priority-given e =
       let d : m ≡ closeSort → ⊥ = λ h. omega arith in
       let r = ih PriorityEquals k true a (rw (ne-eqb m closeSort d, eq-eqb m prioritySort e)) E q in
@@ -245,7 +245,7 @@ module _ (k : ℕ) (p a : Bool) (m : ℕ) (lo : 1 ≤ m) (hi : m ≤ semicolonSo
       new d false h n l = rw h (omega arith)
 
   use-given : m ≡ resourceSort → Attributes k p a E (mark m ∷ ws)
-  unfolding attributeBegun attributeWords priorities autostarts
+  unfolding attributeBegun attributeTokens priorities autostarts
   use-given e =
       let d : m ≡ closeSort → ⊥ = λ h. omega arith in
       let n : m ≡ prioritySort → ⊥ = λ h. omega arith in
@@ -264,7 +264,7 @@ module _ (k : ℕ) (p a : Bool) (m : ℕ) (lo : 1 ≤ m) (hi : m ≤ semicolonSo
 
   autostart-given : (m ≡ closeSort → ⊥) → (m ≡ prioritySort → ⊥) → (m ≡ resourceSort → ⊥)
       → Attributes k p a E (mark m ∷ ws)
-  unfolding attributeBegun bodyFault attributeWords priorities autostarts
+  unfolding attributeBegun bodyFault attributeTokens priorities autostarts
   autostart-given d n u =
       by-test (eqb m autostartSort && eqb k taskSort)
       (λ e. by-test (eqb m autostartSort)
@@ -273,7 +273,7 @@ module _ (k : ℕ) (p a : Bool) (m : ℕ) (lo : 1 ≤ m) (hi : m ≤ semicolonSo
       let r = ih AutostartEquals k p true (rw (ne-eqb m closeSort d, ne-eqb m prioritySort n, ne-eqb m resourceSort u))
       E q in
       attribute {k = k} {p = p} {a = a} {q = p} {b = true} {E = E} {w = mark m} {ws = ws} r (autostart (r .value))
-      (ap (λ (z : ℕ). mark z ∷ mark equalsSort ∷ boolWord (r .value) ∷ mark semicolonSort ∷ [])
+      (ap (λ (z : ℕ). mark z ∷ mark equalsSort ∷ boolToken (r .value) ∷ mark semicolonSort ∷ [])
       (eqb-true m autostartSort h))
       (λ al g. record {
         of-resource = λ z. absurd (body d z);
@@ -301,8 +301,8 @@ module _ (k : ℕ) (p a : Bool) (m : ℕ) (lo : 1 ≤ m) (hi : m ≤ semicolonSo
       by-eq m closeSort closed
       (λ d. by-eq m prioritySort priority-given (λ n. by-eq m resourceSort use-given (autostart-given d n)))
 
--- one word
-step : (v : Want) (k : ℕ) (p a : Bool) {w : W.Word} → Proper w → (ws : List W.Word) (seen : List ℕ → Bool)
+-- one token
+step : (v : Want) (k : ℕ) (p a : Bool) {w : W.Token} → Proper w → (ws : List W.Token) (seen : List ℕ → Bool)
     → faultAt v (at v k p a) (sortOf w) ≡ 0 → (namesAt v && seen (bytesOf w)) ≡ false
     → Further (afterAt v (at v k p a) (sortOf w)) (cond (namesAt v) (λ x. seen x || same (bytesOf w) x) seen) ws
     → (E : List (List ℕ)) → Sees seen E → Rest v k p a E (w ∷ ws)
@@ -318,7 +318,7 @@ step Name k p a (proper-name {x = x}) ws seen f b ih E q =
     record {
       called = x;
       rest = r .rest;
-      is = ap (λ (l : List W.Word). name x ∷ l) (r .is);
+      is = ap (λ (l : List W.Token). name x ∷ l) (r .is);
       new = sym (q x) ∙ b;
       follows = r .follows;
     }
@@ -352,7 +352,7 @@ step PriorityNumber k p a (proper-number {n = n}) ws seen f b ih E q = before (i
 step AutostartEquals k p a (proper-mark {m = m} lo hi) ws seen f b ih E q =
     let r = ih AutostartValue k p a refl E q in
     before r (r .value)
-    (ap (λ (n : ℕ). mark n ∷ boolWord (r .value) ∷ mark semicolonSort ∷ []) (only-that equalsSort m f))
+    (ap (λ (n : ℕ). mark n ∷ boolToken (r .value) ∷ mark semicolonSort ∷ []) (only-that equalsSort m f))
 step AutostartEquals k p a proper-name ws seen f b ih E q = absurd (omega arith)
 step AutostartEquals k p a proper-number ws seen f b ih E q = absurd (omega arith)
 step AutostartValue k p a (proper-mark {m = m} lo hi) ws seen f b ih E q =
@@ -405,13 +405,13 @@ last Use k p a E f = absurd (omega arith)
 last AttributeEnd k p a E f = absurd (omega arith)
 last ObjectEnd k p a E f = absurd (omega arith)
 
-back : {s : Progress} {seen : List ℕ → Bool} {ws : List W.Word} → Accepts s seen ws → Further s seen ws
+back : {s : Progress} {seen : List ℕ → Bool} {ws : List W.Token} → Accepts s seen ws → Further s seen ws
 back (stops {s = s} f) v k p a e E q = last v k p a E (rw e at f)
 back (goes {s = s} {seen = seen} {w = w} {ws = ws} pr f b r) v k p a e E q =
     step v k p a pr ws seen (rw e at f) (rw e at b) (λ v′ k′ p′ a′ e′ E′ q′. back r v′ k′ p′ a′ (rw e e′) E′ (rw e q′))
     E q
 
 -- from the start
-pub as-objects : {ws : List W.Word} → Accepts fresh (λ x. false) ws → AsObjects [] ws
+pub as-objects : {ws : List W.Token} → Accepts fresh (λ x. false) ws → AsObjects [] ws
 unfolding amongNames
 as-objects acc = back acc Object 0 false false refl [] (λ x. refl)

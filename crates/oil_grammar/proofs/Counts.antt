@@ -2,11 +2,11 @@
 -- line 0, column 0.
 --
 --   version-one             the configuration of objects has version 1
---   wordsFrom k t at        up to k words of t from a place on, and whether its end comes after them
---   oil-of                  a text is OIL of objects where its words are theirs and they pass the tests
+--   tokensFrom k t at        up to k tokens of t from a place on, and whether its end comes after them
+--   oil-of                  a text is OIL of objects where its tokens are theirs and they pass the tests
 --   bodies n, resources n   the texts: n ISRs, and a task that uses n resources
 --
--- The checker computes words and objects, and `oil-read` gives the reading: computed whole, its walks look every name
+-- The checker computes tokens and objects, and `oil-read` gives the reading: computed whole, its walks look every name
 -- up again and take far longer.
 use Prim.Native.Nat.{ℕ, zero, suc, _+_, _/_, _%_}
 use mathlib.Core.Path.{_≡_, refl, ap, _∙_}
@@ -22,13 +22,13 @@ use Rattle.config.specs.Draft.{timedIn, faultAt, putAt, askedAt, ended as numbe
 use Rattle.config.specs.Writer.{faultFrom}
 use Rattle.oil_grammar.specs.declared.OilRead.{OilRead}
 use Rattle.oil_grammar.specs.Byte.{isSpace, isDigit, isLetter, isNameByte, isLineByte, span}
-use Rattle.oil_grammar.specs.Word as W
-use Rattle.oil_grammar.specs.Word.{same, spelledSort, signOf, decimal, taskSort, isrSort, resourceSort, endSort}
+use Rattle.oil_grammar.specs.Token as W
+use Rattle.oil_grammar.specs.Token.{same, spelledSort, signOf, decimal, taskSort, isrSort, resourceSort, endSort}
 use Rattle.oil_grammar.specs.Object as O
-use Rattle.oil_grammar.specs.Object.{Object, Attribute, priority, autostart, uses, isResource, attributeWords, attributesWords, objectWords, written, priorities, autostarts, Fits, task, isr, resource, amongNames, attributeUses, objectUses}
+use Rattle.oil_grammar.specs.Object.{Object, Attribute, priority, autostart, uses, isResource, attributeTokens, attributesTokens, objectTokens, written, priorities, autostarts, Fits, task, isr, resource, amongNames, attributeUses, objectUses}
 use Rattle.oil_grammar.specs.Meaning.{empty, usersOf, usersWith, usersFrom, attributed, attributedAll, begun, ended, placed, configOf}
 use Rattle.oil_grammar.specs.Grammar.{AllFit, fit-nil, fit-cons, Fresh, fresh-nil, fresh-cons, Borne, borne-nil, borne-cons, Oil}
-use Rattle.oil_grammar.specs.Next.{closing, comment, blank, blanks, wordAt, nextWord, wordOfBytes, wordIn}
+use Rattle.oil_grammar.specs.Next.{closing, comment, blank, blanks, tokenAt, nextToken, tokenOfBytes, tokenIn}
 use Rattle.oil_grammar.specs.Reader.{readOil, ranged}
 use Rattle.oil_grammar.proofs.Ascii.{ascii}
 use Rattle.oil_grammar.proofs.Spelling.{by-test, false-true}
@@ -60,20 +60,20 @@ pub version-one : (os : List Object) → configOf os .version ≡ 1
 unfolding configOf
 version-one os = placed-version (λ x. usersOf x os) os empty
 
-unfoldable wordsFrom : ℕ → List ℕ → ℕ → Bool × List W.Word
-wordsFrom zero t at = (false, [])
-wordsFrom (suc k) t at =
-    let w = nextWord t at in
-    let rest = wordsFrom k t (w .end) in
-    cond (leb endSort (w .sort)) (eqb (w .sort) endSort, []) (rest .0, wordIn t w ∷ rest .1)
+unfoldable tokensFrom : ℕ → List ℕ → ℕ → Bool × List W.Token
+tokensFrom zero t at = (false, [])
+tokensFrom (suc k) t at =
+    let w = nextToken t at in
+    let rest = tokensFrom k t (w .end) in
+    cond (leb endSort (w .sort)) (eqb (w .sort) endSort, []) (rest .0, tokenIn t w ∷ rest .1)
 
-words-read : (t : List ℕ) (k at : ℕ) → wordsFrom k t at .0 ≡ true → Reads t at (wordsFrom k t at .1)
-unfolding wordsFrom
-words-read t zero at e = absurd (false-true e)
-words-read t (suc k) at e =
-    by-test (leb endSort (nextWord t at .sort))
-    (λ f. rw f (stops (eqb-true (nextWord t at .sort) endSort (rw f at e))))
-    (λ f. rw f (reads f (words-read t k (nextWord t at .end) (rw f at e))))
+tokens-read : (t : List ℕ) (k at : ℕ) → tokensFrom k t at .0 ≡ true → Reads t at (tokensFrom k t at .1)
+unfolding tokensFrom
+tokens-read t zero at e = absurd (false-true e)
+tokens-read t (suc k) at e =
+    by-test (leb endSort (nextToken t at .sort))
+    (λ f. rw f (stops (eqb-true (nextToken t at .sort) endSort (rw f at e))))
+    (λ f. rw f (reads f (tokens-read t k (nextToken t at .end) (rw f at e))))
 
 -- no object has the name of an earlier one, as a test
 unfoldable new : List (List ℕ) → List Object → Bool
@@ -101,13 +101,13 @@ is-borne rs (x ∷ xs) e =
     (λ f. borne-cons f (is-borne rs xs (rw f at e)))
     (λ f. absurd (false-true (rw f at e)))
 
-oil-of : (t : List ℕ) (os : List Object) (k : ℕ) → wordsFrom k t 0 ≡ (true, written os) → AllFit os → new [] os ≡ true
+oil-of : (t : List ℕ) (os : List Object) (k : ℕ) → tokensFrom k t 0 ≡ (true, written os) → AllFit os → new [] os ≡ true
     → allAmong (O.resources os) (objectUses os) ≡ true → Oil t os
 oil-of t os k w f n b =
     record {
       spells =
-          reads-spells t (rw (ap (λ (r : Bool × List W.Word). r .1) w) at
-          (words-read t k 0 (ap (λ (r : Bool × List W.Word). r .0) w))) (omega arith);
+          reads-spells t (rw (ap (λ (r : Bool × List W.Token). r .1) w) at
+          (tokens-read t k 0 (ap (λ (r : Bool × List W.Token). r .0) w))) (omega arith);
       fits = f;
       fresh = is-fresh [] os n;
       borne = is-borne (O.resources os) (objectUses os) b;
@@ -163,9 +163,9 @@ used-fit (suc i) = fit-cons resource (used-fit i)
 
 -- the refusal of a text, its line and its column; it unfolds what the checker computes
 pub answer : OilRead → List ℕ
-unfolding digits bodies isrs attributes objects resources usesOf used taskAndUsed new allAmong wordsFrom priorities
+unfolding digits bodies isrs attributes objects resources usesOf used taskAndUsed new allAmong tokensFrom priorities
     autostarts ascii isSpace isDigit isLetter isNameByte isLineByte span same spelledSort signOf decimal closing comment
-    blank blanks wordAt nextWord wordOfBytes attributeWords attributesWords objectWords written amongNames attributeUses
+    blank blanks tokenAt nextToken tokenOfBytes attributeTokens attributesTokens objectTokens written amongNames attributeUses
     objectUses O.resources has with usersWith usersFrom attributed attributedAll begun ended placed configOf among
     timedIn faultAt putAt askedAt numbersEnded faultFrom
 answer r = r .refusal ∷ r .line ∷ r .column ∷ []
@@ -175,7 +175,7 @@ pub bodies-limit : (answer (readOil (bodies 32)) ≡ 0 ∷ 0 ∷ 0 ∷ []) × (a
 unfolding answer
 bodies-limit = (ap answer (read 32 refl refl refl) ∙ refl, ap answer (read 33 refl refl refl) ∙ refl)
   where
-    read : (n : ℕ) → wordsFrom 300 (bodies n) 0 ≡ (true, written (isrs n)) → new [] (isrs n) ≡ true
+    read : (n : ℕ) → tokensFrom 300 (bodies n) 0 ≡ (true, written (isrs n)) → new [] (isrs n) ≡ true
         → allAmong (O.resources (isrs n)) (objectUses (isrs n)) ≡ true → readOil (bodies n) ≡ ranged (configOf (isrs n))
     read n w f b = oil-read (bodies n) (isrs n) (oil-of (bodies n) (isrs n) 300 w (isrs-fit n) f b)
 
@@ -189,7 +189,7 @@ resources-limit = (
   ap answer (read 17 refl (task refl (omega arith)) refl refl) ∙ refl,
 )
   where
-    read : (n : ℕ) → wordsFrom 300 (resources n) 0 ≡ (true, written (taskAndUsed n))
+    read : (n : ℕ) → tokensFrom 300 (resources n) 0 ≡ (true, written (taskAndUsed n))
         → Fits (record { kind = taskSort; called = 116 ∷ []; attributes = priority 1 ∷ usesOf n })
         → new [] (taskAndUsed n) ≡ true → allAmong (O.resources (taskAndUsed n)) (objectUses (taskAndUsed n)) ≡ true
         → readOil (resources n) ≡ ranged (configOf (taskAndUsed n))

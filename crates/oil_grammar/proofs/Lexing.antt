@@ -1,8 +1,8 @@
--- The words that are read of a text are those that it spells.
+-- The tokens that are read of a text are those that it spells.
 --
---   Reads t at ws   from the place on the next words of t are ws, and then its end comes
+--   Reads t at ws   from the place on the next tokens of t are ws, and then its end comes
 --
--- In order: the classes of a byte shut each other out; spaces and comments; one word; a whole text, both ways.
+-- In order: the classes of a byte shut each other out; spaces and comments; one token; a whole text, both ways.
 use Prim.Native.Nat.{ℕ, zero, suc, _+_, _-_, _≤_}
 use mathlib.Core.Path.{_≡_, refl, sym, ap, _∙_}
 use mathlib.Core.Bool.{Bool, true, false, _&&_, _||_}
@@ -13,16 +13,16 @@ use lib.ListN.{length, take, drop, length-drop}
 use lib.Seq.{drop-drop}
 use borrow.Author.Tests.{eq-eqb, ne-eqb, le-leb, lt-leb, leb-true, eqb-true}
 use Rattle.number.proofs.Cases.{by-eq, by-lt}
-use Rattle.oil_grammar.specs.declared.Word.{Word}
+use Rattle.oil_grammar.specs.declared.Token.{Token}
 use Rattle.oil_grammar.specs.Byte.{slash, star, isSpace, isLetter, isDigit, isNameByte, isLineByte, span}
-use Rattle.oil_grammar.specs.Word as W
-use Rattle.oil_grammar.specs.Word.{mark, number, spelledSort, wordOfSort, spelled, signOf, decimal, numberSort, endSort}
+use Rattle.oil_grammar.specs.Token as W
+use Rattle.oil_grammar.specs.Token.{mark, number, spelledSort, tokenOfSort, spelled, signOf, decimal, numberSort, endSort}
 use Rattle.oil_grammar.specs.Text.{Closes, here, later, Spells, nothing, space, lineComment, blockComment, sign, letters, digits}
-use Rattle.oil_grammar.specs.Next.{closing, comment, blank, blanks, wordAt, skipped, nextWord, spelling, wordOfBytes, wordIn}
+use Rattle.oil_grammar.specs.Next.{closing, comment, blank, blanks, tokenAt, skipped, nextToken, spelling, tokenOfBytes, tokenIn}
 use Rattle.oil_grammar.proofs.Spelling.{by-test, false-true}
 use Rattle.oil_grammar.proofs.Span.{span-le, longest, longest-span}
 use Rattle.oil_grammar.proofs.Blank.{blank-le, blanks-none, blanks-some, skip-more, skip-stopped}
-use Rattle.oil_grammar.proofs.Bounds.{next-inside, word-lies}
+use Rattle.oil_grammar.proofs.Bounds.{next-inside, token-lies}
 use Rattle.oil_grammar.proofs.Sorts.{spelledSort-le, signOf-le}
 
 -- a test that is not true is false
@@ -72,10 +72,10 @@ sign-byte b d C f g h k =
     (λ m. by-eq b 61 h
     (λ l. by-eq b 59 k (λ o. absurd (d (rw (ne-eqb b 123 n, ne-eqb b 125 m, ne-eqb b 61 l, ne-eqb b 59 o)))))))
 
--- a byte that begins a word is neither space nor slash
-begins-word : (b : ℕ) (bs : List ℕ) → 33 ≤ b → (b ≡ slash → ⊥) → blank (b ∷ bs) ≡ 0
+-- a byte that begins a token is neither space nor slash
+begins-token : (b : ℕ) (bs : List ℕ) → 33 ≤ b → (b ≡ slash → ⊥) → blank (b ∷ bs) ≡ 0
 unfolding blank
-begins-word b bs h d =
+begins-token b bs h d =
     rw (not-so (isSpace b) (λ e. let l = space-le b e in absurd (omega arith)), ne-eqb b slash d)
 
 slash-no-space : (b : ℕ) → b ≡ slash → isSpace b ≡ false
@@ -133,8 +133,8 @@ closes-end (later {b = b} {c = c} {bs = bs} d l) =
 drop-two : (n : ℕ) (b c : ℕ) (bs : List ℕ) → drop (n + 2) (b ∷ c ∷ bs) ≡ drop n bs
 drop-two n b c bs = let e : n + 2 ≡ suc (suc n) = omega arith in rw e
 
--- a space or comment before a text that spells words
-blank-spells : (bs : List ℕ) (ws : List W.Word) → (blank bs ≡ 0 → ⊥) → Spells (drop (blank bs) bs) ws → Spells bs ws
+-- a space or comment before a text that spells tokens
+blank-spells : (bs : List ℕ) (ws : List W.Token) → (blank bs ≡ 0 → ⊥) → Spells (drop (blank bs) bs) ws → Spells bs ws
 unfolding blank comment
 blank-spells [] ws d s = absurd (d refl)
 blank-spells (b ∷ []) ws d s =
@@ -163,7 +163,7 @@ blank-spells (b ∷ c ∷ bs) ws d s =
     (λ h. absurd (d (rw (e, f, g, h))))))
     (λ f. absurd (d (rw (e, f)))))
 
-blanks-spell : (k : ℕ) (bs : List ℕ) (ws : List W.Word) → Spells (drop (blanks k bs) bs) ws → Spells bs ws
+blanks-spell : (k : ℕ) (bs : List ℕ) (ws : List W.Token) → Spells (drop (blanks k bs) bs) ws → Spells bs ws
 unfolding blanks
 blanks-spell zero bs ws s = s
 blanks-spell (suc k) bs ws s =
@@ -173,50 +173,50 @@ blanks-spell (suc k) bs ws s =
     (blanks-spell k (drop (blank bs) bs) ws
     (rw (drop-drop (blanks k (drop (blank bs) bs)) (blank bs) bs) (rw (blanks-some k bs d) at s))))
 
--- the word of the grammar that letters and digits are
-spelled-word : (x : List ℕ) → wordOfBytes (spelledSort x) x ≡ spelled x
-unfolding wordOfBytes wordOfSort
-spelled-word x =
+-- the token of the grammar that letters and digits are
+spelled-token : (x : List ℕ) → tokenOfBytes (spelledSort x) x ≡ spelled x
+unfolding tokenOfBytes tokenOfSort
+spelled-token x =
     by-lt (spelledSort x) 12
     (λ l. rw (le-leb (spelledSort x) 11 (omega arith)))
     (λ l. rw (lt-leb (spelledSort x) 11 l, eq-eqb (spelledSort x) 12 (let h = spelledSort-le x in omega arith)))
 
-number-word : (x : List ℕ) → wordOfBytes numberSort x ≡ number (decimal 0 x)
-unfolding wordOfBytes
-number-word x = refl
+number-token : (x : List ℕ) → tokenOfBytes numberSort x ≡ number (decimal 0 x)
+unfolding tokenOfBytes
+number-token x = refl
 
-sign-word : (b : ℕ) (x : List ℕ) → wordOfBytes (signOf b) x ≡ mark (signOf b)
-unfolding wordOfBytes
-sign-word b x = rw (le-leb (signOf b) 11 (signOf-le b))
+sign-token : (b : ℕ) (x : List ℕ) → tokenOfBytes (signOf b) x ≡ mark (signOf b)
+unfolding tokenOfBytes
+sign-token b x = rw (le-leb (signOf b) 11 (signOf-le b))
 
--- a word at the head of a list, and what follows it
-word-spells : (p : ℕ) (bs : List ℕ) (ws : List W.Word) → leb endSort (wordAt p bs .sort) ≡ false
-    → Spells (drop (wordAt p bs .end - p) bs) ws
-    → Spells bs (wordOfBytes (wordAt p bs .sort) (take (wordAt p bs .end - p) bs) ∷ ws)
-unfolding wordAt
-word-spells p [] ws d s = absurd (false-true (sym d))
-word-spells p (b ∷ bs) ws d s =
+-- a token at the head of a list, and what follows it
+token-spells : (p : ℕ) (bs : List ℕ) (ws : List W.Token) → leb endSort (tokenAt p bs .sort) ≡ false
+    → Spells (drop (tokenAt p bs .end - p) bs) ws
+    → Spells bs (tokenOfBytes (tokenAt p bs .sort) (take (tokenAt p bs .end - p) bs) ∷ ws)
+unfolding tokenAt
+token-spells p [] ws d s = absurd (false-true (sym d))
+token-spells p (b ∷ bs) ws d s =
     by-test (isLetter b)
     (λ e.
     let n = long (span isNameByte bs) in
-    rw (e, n, spelled-word (b ∷ take (span isNameByte bs) bs)) (letters e (longest isNameByte bs) (rw (e, n) at s)))
+    rw (e, n, spelled-token (b ∷ take (span isNameByte bs) bs)) (letters e (longest isNameByte bs) (rw (e, n) at s)))
     (λ e. by-test (isDigit b)
     (λ f.
     let n = long (span isDigit bs) in
-    rw (e, f, n, number-word (b ∷ take (span isDigit bs) bs)) (digits f (longest isDigit bs) (rw (e, f, n) at s)))
+    rw (e, f, n, number-token (b ∷ take (span isDigit bs) bs)) (digits f (longest isDigit bs) (rw (e, f, n) at s)))
     (λ f. by-eq (signOf b) 0
     (λ z. absurd (false-true (sym (rw (e, f, eq-eqb (signOf b) 0 z) at d))))
     (λ o.
     let q = ne-eqb (signOf b) 0 o in
     let n = long 0 in
-    rw (e, f, q, n, sign-word b (b ∷ [])) (sign o (rw (e, f, q, n) at s)))))
+    rw (e, f, q, n, sign-token b (b ∷ [])) (sign o (rw (e, f, q, n) at s)))))
   where
     long : (n : ℕ) → p + suc n - p ≡ suc n
     long n = omega arith
 
 -- only the text's end has the sort of the end
-end-empty : (p : ℕ) (bs : List ℕ) → wordAt p bs .sort ≡ endSort → bs ≡ []
-unfolding wordAt
+end-empty : (p : ℕ) (bs : List ℕ) → tokenAt p bs .sort ≡ endSort → bs ≡ []
+unfolding tokenAt
 end-empty p [] e = refl
 end-empty p (b ∷ bs) e =
     by-test (isLetter b)
@@ -228,51 +228,51 @@ end-empty p (b ∷ bs) e =
     (λ n. let h : signOf b ≡ 14 = rw (f, g, ne-eqb (signOf b) 0 n) at e in let l = signOf-le b in
     absurd (omega arith))))
 
--- of the next word from a place on: its sort, what it spells, the word of the grammar that it is
+-- of the next token from a place on: its sort, what it spells, the token of the grammar that it is
 abbrev pub sortFrom : List ℕ → ℕ → ℕ
-sortFrom t at = nextWord t at .sort
+sortFrom t at = nextToken t at .sort
 
 abbrev pub spelledFrom : List ℕ → ℕ → List ℕ
-spelledFrom t at = spelling t (nextWord t at)
+spelledFrom t at = spelling t (nextToken t at)
 
-abbrev pub wordFrom : List ℕ → ℕ → W.Word
-wordFrom t at = wordIn t (nextWord t at)
+abbrev pub tokenFrom : List ℕ → ℕ → W.Token
+tokenFrom t at = tokenIn t (nextToken t at)
 
-pub data Reads (t : List ℕ) : ℕ → List W.Word → Type 0 where
-  ended : {at : ℕ} → nextWord t at .sort ≡ endSort → Reads t at []
-  reads : {at : ℕ} {ws : List W.Word} → leb endSort (nextWord t at .sort) ≡ false → Reads t (nextWord t at .end) ws
-      → Reads t at (wordIn t (nextWord t at) ∷ ws)
+pub data Reads (t : List ℕ) : ℕ → List W.Token → Type 0 where
+  ended : {at : ℕ} → nextToken t at .sort ≡ endSort → Reads t at []
+  reads : {at : ℕ} {ws : List W.Token} → leb endSort (nextToken t at .sort) ≡ false → Reads t (nextToken t at .end) ws
+      → Reads t at (tokenIn t (nextToken t at) ∷ ws)
 
 module _ (t : List ℕ) where
   -- what is spelled after the spaces and comments
-  skip-spells : (at : ℕ) (ws : List W.Word) → Spells (drop (skipped t at) t) ws → Spells (drop at t) ws
+  skip-spells : (at : ℕ) (ws : List W.Token) → Spells (drop (skipped t at) t) ws → Spells (drop at t) ws
   skip-spells at ws s = blanks-spell (length t) (drop at t) ws (rw (drop-drop (blanks (length t) (drop at t)) at t) s)
 
-  pub reads-spells : {at : ℕ} {ws : List W.Word} → Reads t at ws → at ≤ length t → Spells (drop at t) ws
-  unfolding nextWord
+  pub reads-spells : {at : ℕ} {ws : List W.Token} → Reads t at ws → at ≤ length t → Spells (drop at t) ws
+  unfolding nextToken
   reads-spells (ended {at = at} e) h =
       skip-spells at [] (rw (end-empty (skipped t at) (drop (skipped t at) t) e) nothing)
   reads-spells (reads {at = at} {ws = ws} d r) h =
       let n = next-inside t at h in
-      let l = word-lies (skipped t at) (drop (skipped t at) t) in
+      let l = token-lies (skipped t at) (drop (skipped t at) t) in
       let rest = reads-spells r (n .inside) in
-      let q : skipped t at + (nextWord t at .end - skipped t at) ≡ nextWord t at .end =
+      let q : skipped t at + (nextToken t at .end - skipped t at) ≡ nextToken t at .end =
       omega (arith, l .forward, l .at-start) in
-      let s = word-spells (skipped t at) (drop (skipped t at) t) ws d
-      (rw (drop-drop (nextWord t at .end - skipped t at) (skipped t at) t, q) rest) in
-      skip-spells at (wordIn t (nextWord t at) ∷ ws) (rw (l .at-start) s)
+      let s = token-spells (skipped t at) (drop (skipped t at) t) ws d
+      (rw (drop-drop (nextToken t at .end - skipped t at) (skipped t at) t, q) rest) in
+      skip-spells at (tokenIn t (nextToken t at) ∷ ws) (rw (l .at-start) s)
 
-  -- the same word is next from two places with the same spaces and comments before it
-  reads-from : (a b : ℕ) (ws : List W.Word) → skipped t a ≡ skipped t b → Reads t b ws → Reads t a ws
-  unfolding nextWord
+  -- the same token is next from two places with the same spaces and comments before it
+  reads-from : (a b : ℕ) (ws : List W.Token) → skipped t a ≡ skipped t b → Reads t b ws → Reads t a ws
+  unfolding nextToken
   reads-from a b ws e (ended f) = ended {at = a} (rw e f)
   reads-from a b ws e (reads {ws = ws′} d r) =
-      let n : nextWord t a ≡ nextWord t b = rw e in
-      let k : Reads t a (wordIn t (nextWord t a) ∷ ws′) = reads {at = a} {ws = ws′} (rw e d) (rw e r) in
+      let n : nextToken t a ≡ nextToken t b = rw e in
+      let k : Reads t a (tokenIn t (nextToken t a) ∷ ws′) = reads {at = a} {ws = ws′} (rw e d) (rw e r) in
       rw n at k
 
   -- a space or comment is passed
-  passed : (at : ℕ) (ws : List W.Word) → at ≤ length t → (blank (drop at t) ≡ 0 → ⊥)
+  passed : (at : ℕ) (ws : List W.Token) → at ≤ length t → (blank (drop at t) ≡ 0 → ⊥)
       → Reads t (at + blank (drop at t)) ws → Reads t at ws
   passed at ws h d r = reads-from at (at + blank (drop at t)) ws (skip-more t at h d) r
 
@@ -293,23 +293,23 @@ module _ (t : List ℕ) where
       let k : at + (n + 2) ≡ at + suc (suc n) = omega arith in
       ap (λ (m : ℕ). drop (at + m) t) q ∙ ap (λ (m : ℕ). drop m t) k ∙ after-byte at (suc n) b (c ∷ bs) e
 
-  -- a word that stands at a place
-  word-read : (at b n : ℕ) (bs : List ℕ) (ws : List W.Word) (v : W.Word) (s : ℕ) → drop at t ≡ b ∷ bs
-      → blank (b ∷ bs) ≡ 0 → wordAt at (b ∷ bs) ≡ record { sort = s; start = at; end = at + suc n }
-      → leb endSort s ≡ false → wordOfBytes s (b ∷ take n bs) ≡ v
+  -- a token that stands at a place
+  token-read : (at b n : ℕ) (bs : List ℕ) (ws : List W.Token) (v : W.Token) (s : ℕ) → drop at t ≡ b ∷ bs
+      → blank (b ∷ bs) ≡ 0 → tokenAt at (b ∷ bs) ≡ record { sort = s; start = at; end = at + suc n }
+      → leb endSort s ≡ false → tokenOfBytes s (b ∷ take n bs) ≡ v
       → Reads t (at + suc n) ws → Reads t at (v ∷ ws)
-  unfolding nextWord
-  word-read at b n bs ws v s e z w d q r =
+  unfolding nextToken
+  token-read at b n bs ws v s e z w d q r =
       let p : skipped t at ≡ at = skip-stopped t at (rw e z) in
-      let x : nextWord t at ≡ record { sort = s; start = at; end = at + suc n } = rw (p, e) w in
+      let x : nextToken t at ≡ record { sort = s; start = at; end = at + suc n } = rw (p, e) w in
       let l : at + suc n - at ≡ suc n = omega arith in
-      let k : Reads t at (wordIn t (nextWord t at) ∷ ws) = reads {at = at} {ws = ws} (rw x d) (rw x r) in
-      let i : wordIn t (nextWord t at) ≡ v = rw (x, l, e) q in
+      let k : Reads t at (tokenIn t (nextToken t at) ∷ ws) = reads {at = at} {ws = ws} (rw x d) (rw x r) in
+      let i : tokenIn t (nextToken t at) ≡ v = rw (x, l, e) q in
       rw i at k
 
-  pub spells-reads : {bs : List ℕ} {ws : List W.Word} → Spells bs ws → (at : ℕ) → at ≤ length t → drop at t ≡ bs
+  pub spells-reads : {bs : List ℕ} {ws : List W.Token} → Spells bs ws → (at : ℕ) → at ≤ length t → drop at t ≡ bs
       → Reads t at ws
-  unfolding blank comment wordAt nextWord
+  unfolding blank comment tokenAt nextToken
   spells-reads nothing at h e =
       let p : skipped t at ≡ at = skip-stopped t at (rw e refl) in ended {at = at} (rw (p, e))
   spells-reads (space {b = b} {bs = bs} {ws = ws} f s) at h e =
@@ -340,28 +340,28 @@ module _ (t : List ℕ) where
   spells-reads (sign {b = b} {bs = bs} {ws = ws} f s) at h e =
       let i = spells-reads s (at + 1) (let l = has-byte at b bs e in omega arith) (after-byte at 0 b bs e) in
       let r = sign-range b f in
-      word-read at b 0 bs ws (mark (signOf b)) (signOf b) e (begins-word b bs (r .0) (r .1))
+      token-read at b 0 bs ws (mark (signOf b)) (signOf b) e (begins-token b bs (r .0) (r .1))
       (rw (r .2, r .3, ne-eqb (signOf b) 0 f)) (lt-leb endSort (signOf b) (let l = signOf-le b in omega arith))
-      (sign-word b (b ∷ [])) i
+      (sign-token b (b ∷ [])) i
   spells-reads (letters {b = b} {bs = bs} {xs = xs} {r = r} {ws = ws} f l s) at h e =
       let m = longest-span isNameByte l in
       let g = letter-range b f in
       let i = spells-reads s (at + suc (span isNameByte bs))
       (let k = has-byte at b bs e in let o = span-le isNameByte bs in omega arith)
       (after-byte at (span isNameByte bs) b bs e ∙ sym (m .1)) in
-      word-read at b (span isNameByte bs) bs ws (spelled (b ∷ xs)) (spelledSort (b ∷ take (span isNameByte bs) bs)) e
-      (begins-word b bs (omega arith) (λ k. omega arith)) (rw f)
+      token-read at b (span isNameByte bs) bs ws (spelled (b ∷ xs)) (spelledSort (b ∷ take (span isNameByte bs) bs)) e
+      (begins-token b bs (omega arith) (λ k. omega arith)) (rw f)
       (lt-leb endSort (spelledSort (b ∷ take (span isNameByte bs) bs))
       (let o = spelledSort-le (b ∷ take (span isNameByte bs) bs) in omega arith))
-      (spelled-word (b ∷ take (span isNameByte bs) bs) ∙ ap (λ (x : List ℕ). spelled (b ∷ x)) (sym (m .0))) i
+      (spelled-token (b ∷ take (span isNameByte bs) bs) ∙ ap (λ (x : List ℕ). spelled (b ∷ x)) (sym (m .0))) i
   spells-reads (digits {b = b} {bs = bs} {xs = xs} {r = r} {ws = ws} f l s) at h e =
       let m = longest-span isDigit l in
       let g = digit-range b f in
       let i = spells-reads s (at + suc (span isDigit bs)) (let k = has-byte at b bs e in let o = span-le isDigit bs in
       omega arith)
       (after-byte at (span isDigit bs) b bs e ∙ sym (m .1)) in
-      word-read at b (span isDigit bs) bs ws (number (decimal 0 (b ∷ xs))) 13 e
-      (begins-word b bs (omega arith) (λ k. omega arith))
+      token-read at b (span isDigit bs) bs ws (number (decimal 0 (b ∷ xs))) 13 e
+      (begins-token b bs (omega arith) (λ k. omega arith))
       (rw (not-so (isLetter b) (λ k. let o = letter-range b k in absurd (omega arith)), f))
-      refl (number-word (b ∷ take (span isDigit bs) bs) ∙ ap (λ (x : List ℕ). number (decimal 0 (b ∷ x))) (sym (m .0)))
+      refl (number-token (b ∷ take (span isDigit bs) bs) ∙ ap (λ (x : List ℕ). number (decimal 0 (b ∷ x))) (sym (m .0)))
       i

@@ -18,7 +18,7 @@ use Rattle.config.specs.declared.Config.{Config}
 use Rattle.config.specs.Value.{withBodies, withKind, withResources, withUsers}
 use Rattle.word.specs.Word.{has, with}
 use Rattle.word.proofs.Theorems as Bits
-use Rattle.oil_grammar.specs.Word.{same}
+use Rattle.oil_grammar.specs.Token.{same}
 use Rattle.oil_grammar.specs.Object.{Attribute, priority, autostart, uses, Object, isResource, priorities, autostarts, Fits, task, isr, resource, amongNames, attributeUses}
 use Rattle.oil_grammar.specs.Meaning.{held, counted, kindOf, startOf, usersWith, usersFrom, usersOf, attributed, attributedAll, begun, ended, placed, empty, configOf}
 use Rattle.oil_grammar.specs.Grammar.{AllFit, fit-nil, fit-cons}

@@ -1,4 +1,4 @@
--- The words of objects are in order, and words that are in order are those of objects.
+-- The tokens of objects are in order, and tokens that are in order are those of objects.
 use Prim.Native.Nat.{ℕ, _+_, _≤_}
 use mathlib.Core.Path.{_≡_, refl, ap, _∙_}
 use mathlib.Core.Bool.{Bool, true, false, cond, _||_}
@@ -9,12 +9,12 @@ use Rattle.number.proofs.Cases.{by-eq}
 use Rattle.oil_grammar.specs.declared.Progress.{Progress}
 use Rattle.oil_grammar.specs.declared.Want.{Want}
 use Rattle.oil_grammar.specs.declared.Want.the-variants.{Object, Attribute, PriorityEquals, AutostartEquals, UseEquals, AttributeEnd, ObjectEnd}
-use Rattle.oil_grammar.specs.Word as W
-use Rattle.oil_grammar.specs.Word.{mark, name, number, sortOf, same, taskSort, isrSort, resourceSort, prioritySort, autostartSort, trueSort, falseSort, openSort, closeSort, equalsSort, semicolonSort}
+use Rattle.oil_grammar.specs.Token as W
+use Rattle.oil_grammar.specs.Token.{mark, name, number, sortOf, same, taskSort, isrSort, resourceSort, prioritySort, autostartSort, trueSort, falseSort, openSort, closeSort, equalsSort, semicolonSort}
 use Rattle.oil_grammar.specs.Object as O
-use Rattle.oil_grammar.specs.Object.{priority, autostart, uses, attributeWords, attributesWords, objectWords, written, priorities, autostarts, Fits, task, isr, resource, amongNames}
+use Rattle.oil_grammar.specs.Object.{priority, autostart, uses, attributeTokens, attributesTokens, objectTokens, written, priorities, autostarts, Fits, task, isr, resource, amongNames}
 use Rattle.oil_grammar.specs.Grammar.{AllFit, fit-nil, fit-cons, Fresh, fresh-nil, fresh-cons}
-use Rattle.oil_grammar.specs.Machine.{fault, faultAt, only, objectFault, bodyFault, attributeFault, valueFault, after, afterAt, attributeBegun, namesAt, namesObject}
+use Rattle.oil_grammar.specs.Automaton.{fault, faultAt, only, objectFault, bodyFault, attributeFault, valueFault, after, afterAt, attributeBegun, namesAt, namesObject}
 use Rattle.oil_grammar.proofs.Accepting.{proper-mark, proper-name, proper-number, Accepts, stops, goes}
 
 -- how far a text has come, by its parts
@@ -22,7 +22,7 @@ abbrev pub at : Want → ℕ → Bool → Bool → Progress
 at v k p a = record { want = v; kind = k; priority = p; autostart = a }
 
 -- a mark that is in order and no name
-marked : (m : ℕ) → 1 ≤ m → m ≤ semicolonSort → {s : Progress} {seen : List ℕ → Bool} {ws : List W.Word} → fault s m ≡ 0
+marked : (m : ℕ) → 1 ≤ m → m ≤ semicolonSort → {s : Progress} {seen : List ℕ → Bool} {ws : List W.Token} → fault s m ≡ 0
     → namesObject s ≡ false → Accepts (after s m) seen ws → Accepts s seen (mark m ∷ ws)
 unfolding sortOf
 marked m lo hi {s} {seen} {ws} f n a =
@@ -39,8 +39,8 @@ pub record Left (k : ℕ) (p a : Bool) (al : List O.Attribute) : Type 0 where
   pub of-task : (k ≡ taskSort → ⊥) → autostarts al ≡ 0
 
 module _ (seen : List ℕ → Bool) (k : ℕ) where
-  -- `= 2;`, `= TRUE;`, `= r;`, from the word that begins the attribute on
-  module _ (p a : Bool) (ws : List W.Word) (rest : Accepts (at Attribute k p a) seen ws) where
+  -- `= 2;`, `= TRUE;`, `= r;`, from the token that begins the attribute on
+  module _ (p a : Bool) (ws : List W.Token) (rest : Accepts (at Attribute k p a) seen ws) where
     semicolon : Accepts (at AttributeEnd k p a) seen (mark semicolonSort ∷ ws)
     unfolding faultAt afterAt only namesAt
     semicolon = marked semicolonSort (omega arith) (omega arith) refl refl rest
@@ -65,10 +65,10 @@ module _ (seen : List ℕ → Bool) (k : ℕ) where
     unfolding faultAt afterAt only namesAt sortOf
     name-value x = marked equalsSort (omega arith) (omega arith) refl refl (goes proper-name refl refl semicolon)
 
-  attributes : (k ≡ resourceSort → ⊥) → (al : List O.Attribute) (p a : Bool) (ws : List W.Word) → Left k p a al
+  attributes : (k ≡ resourceSort → ⊥) → (al : List O.Attribute) (p a : Bool) (ws : List W.Token) → Left k p a al
       → ((a : Bool) → Accepts (at ObjectEnd k true a) seen ws)
-      → Accepts (at Attribute k p a) seen (attributesWords al ++ (mark closeSort ∷ ws))
-  unfolding attributesWords attributeWords priorities autostarts faultAt afterAt attributeFault bodyFault attributeBegun
+      → Accepts (at Attribute k p a) seen (attributesTokens al ++ (mark closeSort ∷ ws))
+  unfolding attributesTokens attributeTokens priorities autostarts faultAt afterAt attributeFault bodyFault attributeBegun
       namesAt
   attributes body [] true a ws l rest =
       marked closeSort (omega arith) (omega arith) (rw (ne-eqb k resourceSort body)) refl (rest a)
@@ -76,7 +76,7 @@ module _ (seen : List ℕ → Bool) (k : ℕ) where
   attributes body (priority n ∷ al) true a ws l rest = absurd (let h = l .one-priority in omega arith)
   attributes body (priority n ∷ al) false a ws l rest =
       marked prioritySort (omega arith) (omega arith) (rw (ne-eqb k resourceSort body)) refl
-      (number-value true a (attributesWords al ++ (mark closeSort ∷ ws))
+      (number-value true a (attributesTokens al ++ (mark closeSort ∷ ws))
       (attributes body al true a ws
       (record {
         one-priority = (let h = l .one-priority in omega arith);
@@ -87,7 +87,7 @@ module _ (seen : List ℕ → Bool) (k : ℕ) where
   attributes body (autostart b ∷ al) p false ws l rest =
       by-eq k taskSort
       (λ e. marked autostartSort (omega arith) (omega arith) (rw (ne-eqb k resourceSort body, eq-eqb k taskSort e)) refl
-      (bool-value p true (attributesWords al ++ (mark closeSort ∷ ws))
+      (bool-value p true (attributesTokens al ++ (mark closeSort ∷ ws))
       (attributes body al p true ws
       (record {
         one-priority = l .one-priority;
@@ -97,7 +97,7 @@ module _ (seen : List ℕ → Bool) (k : ℕ) where
       (λ d. absurd (let h = l .of-task d in omega arith))
   attributes body (uses x ∷ al) p a ws l rest =
       marked resourceSort (omega arith) (omega arith) (rw (ne-eqb k resourceSort body)) refl
-      (name-value p a (attributesWords al ++ (mark closeSort ∷ ws))
+      (name-value p a (attributesTokens al ++ (mark closeSort ∷ ws))
       (attributes body al p a ws (record {
         one-priority = l .one-priority;
         few-autostarts = l .few-autostarts;
@@ -121,7 +121,7 @@ sees-name seen earlier x q y = rw (q y) (or-comm (amongNames y earlier) (same x 
 
 -- `TASK name { .. };` and what follows
 module _ (seen : List ℕ → Bool) (x : List ℕ) (new : seen x ≡ false) (k : ℕ) (lo : 1 ≤ k) (hi : k ≤ 3)
-    (ws : List W.Word) where
+    (ws : List W.Token) where
   opening : (p a : Bool) → objectFault k ≡ 0 → Accepts (at Attribute k false false) (λ y. seen y || same x y) ws
       → (k₀ : ℕ) → Accepts (at Object k₀ p a) seen (mark k ∷ name x ∷ mark openSort ∷ ws)
   unfolding faultAt afterAt only namesAt sortOf
@@ -129,39 +129,39 @@ module _ (seen : List ℕ → Bool) (x : List ℕ) (new : seen x ≡ false) (k :
       marked k lo (omega arith) f refl
       (goes proper-name refl new (marked openSort (omega arith) (omega arith) refl refl rest))
 
-closing : (seen : List ℕ → Bool) (k : ℕ) (p a : Bool) (ws : List W.Word)
+closing : (seen : List ℕ → Bool) (k : ℕ) (p a : Bool) (ws : List W.Token)
     → ((k : ℕ) (p a : Bool) → Accepts (at Object k p a) seen ws)
     → Accepts (at ObjectEnd k p a) seen (mark semicolonSort ∷ ws)
 unfolding faultAt afterAt only namesAt
 closing seen k p a ws rest = marked semicolonSort (omega arith) (omega arith) refl refl (rest k p a)
 
--- an object that fits, with its words bracketed as the walk meets them
-pub object-words : (o : O.Object) (os : List O.Object)
-    → written (o ∷ os) ≡ mark (o .kind) ∷ name (o .called) ∷ mark openSort ∷ (attributesWords (o .attributes) ++
+-- an object that fits, with its tokens bracketed as the walk meets them
+pub object-tokens : (o : O.Object) (os : List O.Object)
+    → written (o ∷ os) ≡ mark (o .kind) ∷ name (o .called) ∷ mark openSort ∷ (attributesTokens (o .attributes) ++
     (mark closeSort ∷ mark semicolonSort ∷ written os))
-unfolding written objectWords
-object-words o os =
-    ap (λ (l : List W.Word). mark (o .kind) ∷ name (o .called) ∷ mark openSort ∷ l)
-    (append-assoc (attributesWords (o .attributes)) (mark closeSort ∷ mark semicolonSort ∷ []) (written os))
+unfolding written objectTokens
+object-tokens o os =
+    ap (λ (l : List W.Token). mark (o .kind) ∷ name (o .called) ∷ mark openSort ∷ l)
+    (append-assoc (attributesTokens (o .attributes)) (mark closeSort ∷ mark semicolonSort ∷ []) (written os))
 
 object-accepted : (seen : List ℕ → Bool) (o : O.Object) (os : List O.Object) → Fits o → seen (o .called) ≡ false
     → ((k : ℕ) (p a : Bool) → Accepts (at Object k p a) (λ y. seen y || same (o .called) y) (written os))
     → (k : ℕ) (p a : Bool) → Accepts (at Object k p a) seen (written (o ∷ os))
-unfolding objectFault attributeFault attributesWords faultAt afterAt attributeBegun namesAt
+unfolding objectFault attributeFault attributesTokens faultAt afterAt attributeBegun namesAt
 object-accepted seen o os (task {x = x} {rest = al} one few) new rest k p a =
-    rw (object-words o os)
+    rw (object-tokens o os)
     (opening seen x new taskSort (omega arith) (omega arith) _ p a refl
     (attributes (λ y. seen y || same x y) taskSort (λ e. omega arith) al false false (mark semicolonSort ∷ written os)
     (record { one-priority = omega arith; few-autostarts = omega arith; of-task = λ d. absurd (d refl) })
     (λ b. closing (λ y. seen y || same x y) taskSort true b (written os) rest)) k)
 object-accepted seen o os (isr {x = x} {rest = al} one zero-of) new rest k p a =
-    rw (object-words o os)
+    rw (object-tokens o os)
     (opening seen x new isrSort (omega arith) (omega arith) _ p a refl
     (attributes (λ y. seen y || same x y) isrSort (λ e. omega arith) al false false (mark semicolonSort ∷ written os)
     (record { one-priority = omega arith; few-autostarts = omega arith; of-task = λ d. zero-of })
     (λ b. closing (λ y. seen y || same x y) isrSort true b (written os) rest)) k)
 object-accepted seen o os (resource {x = x}) new rest k p a =
-    rw (object-words o os)
+    rw (object-tokens o os)
     (opening seen x new resourceSort (omega arith) (omega arith) _ p a refl
     (marked closeSort (omega arith) (omega arith) refl refl
     (closing (λ y. seen y || same x y) resourceSort false false (written os) rest)) k)

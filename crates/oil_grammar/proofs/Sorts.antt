@@ -1,4 +1,4 @@
--- The sorts of words: a word that is in order and not the end is a word of the grammar.
+-- The sorts of tokens: a token that is in order and not the end is a token of the grammar.
 use Prim.Native.Nat.{ℕ, suc, _≤_}
 use mathlib.Core.Path.{_≡_}
 use mathlib.Core.Bool.{Bool, true, false, cond}
@@ -8,14 +8,14 @@ use lib.Dec.{leb, eqb}
 use lib.ListN.{take, drop}
 use borrow.Author.Tests.{lt-leb, eqb-true}
 use Rattle.number.proofs.Cases.{by-eq}
-use Rattle.oil_grammar.specs.declared.Word.{Word}
+use Rattle.oil_grammar.specs.declared.Token.{Token}
 use Rattle.oil_grammar.specs.declared.Progress.{Progress}
 use Rattle.oil_grammar.specs.declared.Want.{Want}
 use Rattle.oil_grammar.specs.declared.Want.the-variants.{Object, Name, Open, Attribute, PriorityEquals, PriorityNumber, AutostartEquals, AutostartValue, UseEquals, Use, AttributeEnd, ObjectEnd}
 use Rattle.oil_grammar.specs.Byte.{isLetter, isDigit, isNameByte, span}
-use Rattle.oil_grammar.specs.Word.{same, spelledSort, taskWord, isrWord, resourceWord, priorityWord, autostartWord, trueWord, falseWord, signOf, endSort, unreadableSort}
-use Rattle.oil_grammar.specs.Next.{wordAt, skipped, nextWord}
-use Rattle.oil_grammar.specs.Machine.{fault, faultAt, unexpected, unknown, only, objectFault, bodyFault, attributeFault, valueFault}
+use Rattle.oil_grammar.specs.Token.{same, spelledSort, taskToken, isrToken, resourceToken, priorityToken, autostartToken, trueToken, falseToken, signOf, endSort, unreadableSort}
+use Rattle.oil_grammar.specs.Next.{tokenAt, skipped, nextToken}
+use Rattle.oil_grammar.specs.Automaton.{fault, faultAt, unexpected, unknown, only, objectFault, bodyFault, attributeFault, valueFault}
 use Rattle.oil_grammar.specs.Walk.{faultIn}
 use Rattle.oil_grammar.specs.Object.{isResource}
 use Rattle.oil_grammar.proofs.Spelling.{by-test}
@@ -28,13 +28,13 @@ choice-le false x y n h k = k
 pub spelledSort-le : (x : List ℕ) → spelledSort x ≤ 12
 unfolding spelledSort
 spelledSort-le x =
-    choice-le (same x taskWord) _ _ 12 (omega arith)
-    (choice-le (same x isrWord) _ _ 12 (omega arith)
-    (choice-le (same x resourceWord) _ _ 12 (omega arith)
-    (choice-le (same x priorityWord) _ _ 12 (omega arith)
-    (choice-le (same x autostartWord) _ _ 12 (omega arith)
-    (choice-le (same x trueWord) _ _ 12 (omega arith)
-    (choice-le (same x falseWord) _ _ 12 (omega arith) (omega arith)))))))
+    choice-le (same x taskToken) _ _ 12 (omega arith)
+    (choice-le (same x isrToken) _ _ 12 (omega arith)
+    (choice-le (same x resourceToken) _ _ 12 (omega arith)
+    (choice-le (same x priorityToken) _ _ 12 (omega arith)
+    (choice-le (same x autostartToken) _ _ 12 (omega arith)
+    (choice-le (same x trueToken) _ _ 12 (omega arith)
+    (choice-le (same x falseToken) _ _ 12 (omega arith) (omega arith)))))))
 
 pub signOf-le : (b : ℕ) → signOf b ≤ 11
 unfolding signOf
@@ -43,8 +43,8 @@ signOf-le b =
     (choice-le (eqb b 125) _ _ 11 (omega arith)
     (choice-le (eqb b 61) _ _ 11 (omega arith) (choice-le (eqb b 59) _ _ 11 (omega arith) (omega arith))))
 
-sort-le : (p : ℕ) (bs : List ℕ) → wordAt p bs .sort ≤ 15
-unfolding wordAt
+sort-le : (p : ℕ) (bs : List ℕ) → tokenAt p bs .sort ≤ 15
+unfolding tokenAt
 sort-le p [] = omega arith
 sort-le p (b ∷ bs) =
     by-test (isLetter b)
@@ -74,17 +74,17 @@ unreadable-refused Use s e = some 59 e
 unreadable-refused AttributeEnd s e = some 59 e
 unreadable-refused ObjectEnd s e = some 59 e
 
--- a word with a name fault or without, its sort is in order
-pub fault-none : (t : List ℕ) (s : Progress) (n : ℕ) (w : Word) → faultIn t s n w ≡ 0 → fault s (w .sort) ≡ 0
+-- a token with a name fault or without, its sort is in order
+pub fault-none : (t : List ℕ) (s : Progress) (n : ℕ) (w : Token) → faultIn t s n w ≡ 0 → fault s (w .sort) ≡ 0
 unfolding faultIn
 fault-none t s n w e =
     by-test (eqb (fault s (w .sort)) 0) (λ f. eqb-true (fault s (w .sort)) 0 f) (λ f. rw f at e)
 
-pub going : (t : List ℕ) (at : ℕ) (s : Progress) (n : ℕ) → faultIn t s n (nextWord t at) ≡ 0
-    → (nextWord t at .sort ≡ endSort → ⊥) → leb endSort (nextWord t at .sort) ≡ false
-unfolding nextWord
+pub going : (t : List ℕ) (at : ℕ) (s : Progress) (n : ℕ) → faultIn t s n (nextToken t at) ≡ 0
+    → (nextToken t at .sort ≡ endSort → ⊥) → leb endSort (nextToken t at .sort) ≡ false
+unfolding nextToken
 going t at s n e d =
     let l = sort-le (skipped t at) (drop (skipped t at) t) in
-    by-eq (nextWord t at .sort) unreadableSort
-    (λ u. absurd (unreadable-refused (s .want) s (rw u at (fault-none t s n (nextWord t at) e))))
-    (λ u. lt-leb endSort (nextWord t at .sort) (omega arith))
+    by-eq (nextToken t at .sort) unreadableSort
+    (λ u. absurd (unreadable-refused (s .want) s (rw u at (fault-none t s n (nextToken t at) e))))
+    (λ u. lt-leb endSort (nextToken t at .sort) (omega arith))

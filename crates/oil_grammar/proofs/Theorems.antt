@@ -14,7 +14,7 @@ use Rattle.config.specs.Writer.{firstFault}
 use Rattle.config.proofs.Theorems as Config
 use Rattle.word.specs.Word.{has}
 use Rattle.oil_grammar.specs.declared.OilRead.{OilRead}
-use Rattle.oil_grammar.specs.Word.{decimal}
+use Rattle.oil_grammar.specs.Token.{decimal}
 use Rattle.oil_grammar.specs.Object.{Object, amongNames, attributeUses}
 use Rattle.oil_grammar.specs.Meaning.{configOf}
 use Rattle.oil_grammar.specs.Numbering.{bodies, declared, nth, BodyMeant}

@@ -10,19 +10,19 @@ use Rattle.number.specs.Refusal.{none}
 use Rattle.number.proofs.Cases.{by-eq}
 use Rattle.config.specs.declared.Config.{Config}
 use Rattle.config.specs.Writer.{firstFault}
-use Rattle.oil_grammar.specs.Word as W
+use Rattle.oil_grammar.specs.Token as W
 use Rattle.oil_grammar.specs.Object as O
 use Rattle.oil_grammar.specs.Object.{written, resources, objectUses, amongNames}
 use Rattle.oil_grammar.specs.Grammar.{Oil, Borne, Describes}
 use Rattle.oil_grammar.specs.Meaning.{usersOf, attributedAll, begun, ended, empty, configOf, placed}
-use Rattle.oil_grammar.specs.Machine.{fresh}
+use Rattle.oil_grammar.specs.Automaton.{fresh}
 use Rattle.oil_grammar.specs.Walk.{borne, found, unborne, mask}
 use Rattle.oil_grammar.specs.Reader.{walked, filled, ranged, readOil}
 use Rattle.oil_grammar.proofs.Lexing.{Reads, reads-spells, spells-reads}
-use Rattle.oil_grammar.proofs.Accepting.{Accepts, AcceptedWords, none-seen, walked-accepts, accepts-walked, reads-few}
+use Rattle.oil_grammar.proofs.Accepting.{Accepts, AcceptedTokens, none-seen, walked-accepts, accepts-walked, reads-few}
 use Rattle.oil_grammar.proofs.Objects.{objects-accepted}
 use Rattle.oil_grammar.proofs.Back.{AsObjects, as-objects}
-use Rattle.oil_grammar.proofs.Folds.{borne-resources, mask-words, fill-words, unborne-none, none-unborne, resources-written, uses-written, mask-written, fill-written}
+use Rattle.oil_grammar.proofs.Folds.{borne-resources, mask-tokens, fill-tokens, unborne-none, none-unborne, resources-written, uses-written, mask-written, fill-written}
 
 -- functions of a name that agree at each give the same configuration
 placed-same : (u v : List ℕ → ℕ) → ((x : List ℕ) → u x ≡ v x) → (os : List O.Object) (c : Config)
@@ -36,7 +36,7 @@ placed-same u v h (o ∷ os) c =
 
 module _ (t : List ℕ) (os : List O.Object) (r : Reads t 0 (written os)) (acc : Accepts fresh (none-seen t) (written os))
   where
-    -- the walks over the text's words are those over the objects
+    -- the walks over the text's tokens are those over the objects
     counted : walked t ≡ found (length (written os))
     counted = accepts-walked t (suc (length t)) r acc (let h = reads-few t r (omega arith) in omega arith)
 
@@ -44,12 +44,12 @@ module _ (t : List ℕ) (os : List O.Object) (r : Reads t 0 (written os)) (acc :
     bears x = borne-resources t r fresh (none-seen t) acc x ∙ ap (amongNames x) (resources-written os 0 false false)
 
     users : (x : List ℕ) → mask (length (written os)) t 0 fresh x 0 0 ≡ usersOf x os
-    users x = mask-words t r fresh (none-seen t) acc x 0 0 ∙ mask-written os x 0 0 0 false false
+    users x = mask-tokens t r fresh (none-seen t) acc x 0 0 ∙ mask-written os x 0 0 0 false false
 
     filled-config : filled t (length (written os)) ≡ configOf os
     unfolding configOf
     filled-config =
-        fill-words t r fresh (none-seen t) acc (λ x. mask (length (written os)) t 0 fresh x 0 0) empty
+        fill-tokens t r fresh (none-seen t) acc (λ x. mask (length (written os)) t 0 fresh x 0 0) empty
         ∙ fill-written os (λ x. mask (length (written os)) t 0 fresh x 0 0) empty 0 false false
         ∙ placed-same (λ x. mask (length (written os)) t 0 fresh x 0 0) (λ x. usersOf x os) users os empty
 
@@ -77,28 +77,28 @@ oil-read t os o =
     let acc = objects-accepted (none-seen t) [] os (o .fits) (o .fresh) none-among 0 false false in
     rw (counted t os r acc) (rw (borne-uses t os r acc (o .borne)) (ap ranged (filled-config t os r acc)))
 
--- the objects of a text whose words and uses are in order
+-- the objects of a text whose tokens and uses are in order
 module _ (t : List ℕ) (e : walked t .refusal ≡ none) where
-  pub acc : AcceptedWords t 0 fresh (none-seen t) 0 (walked t .words)
+  pub acc : AcceptedTokens t 0 fresh (none-seen t) 0 (walked t .tokens)
   acc = walked-accepts t (suc (length t)) e
 
-  pub objs : AsObjects [] (acc .words)
+  pub objs : AsObjects [] (acc .tokens)
   objs = as-objects (acc .accepts)
 
-  -- with the words written as those of the objects
-  same-words : acc .words ≡ written (objs .objects)
-  same-words = objs .is
+  -- with the tokens written as those of the objects
+  same-tokens : acc .tokens ≡ written (objs .objects)
+  same-tokens = objs .is
 
   read : Reads t 0 (written (objs .objects))
-  read = rw same-words at (acc .read)
+  read = rw same-tokens at (acc .read)
 
   accepts : Accepts fresh (none-seen t) (written (objs .objects))
-  accepts = rw same-words at (acc .accepts)
+  accepts = rw same-tokens at (acc .accepts)
 
-  count : walked t .words ≡ length (written (objs .objects))
-  count = let z = acc .count in let k : walked t .words ≡ length (acc .words) = omega arith in k ∙ ap length same-words
+  count : walked t .tokens ≡ length (written (objs .objects))
+  count = let z = acc .count in let k : walked t .tokens ≡ length (acc .tokens) = omega arith in k ∙ ap length same-tokens
 
-  walked-oil : unborne (walked t .words) t 0 fresh (walked t .words) .refusal ≡ none → Oil t (objs .objects)
+  walked-oil : unborne (walked t .tokens) t 0 fresh (walked t .tokens) .refusal ≡ none → Oil t (objs .objects)
   walked-oil u =
       record {
         spells = reads-spells t read (omega arith);
@@ -113,19 +113,19 @@ unfolding readOil
 read-described t z =
     by-eq (walked t .refusal) none
     (λ e.
-    let n = walked t .words in
-    by-eq (unborne (walked t .words) t 0 fresh (walked t .words) .refusal) none
+    let n = walked t .tokens in
+    by-eq (unborne (walked t .tokens) t 0 fresh (walked t .tokens) .refusal) none
     (λ u.
     let w = eq-eqb (walked t .refusal) none e in
-    let v = eq-eqb (unborne (walked t .words) t 0 fresh (walked t .words) .refusal) none u in
-    let c : filled t (walked t .words) ≡ configOf (objs t e .objects) =
+    let v = eq-eqb (unborne (walked t .tokens) t 0 fresh (walked t .tokens) .refusal) none u in
+    let c : filled t (walked t .tokens) ≡ configOf (objs t e .objects) =
     ap (filled t) (count t e) ∙ filled-config t (objs t e .objects) (read t e) (accepts t e) in
-    by-eq (firstFault (filled t (walked t .words))) none
-    (λ f. rw (w, v, eq-eqb (firstFault (filled t (walked t .words))) none f)
+    by-eq (firstFault (filled t (walked t .tokens))) none
+    (λ f. rw (w, v, eq-eqb (firstFault (filled t (walked t .tokens))) none f)
     (record { objects = objs t e .objects; oil = walked-oil t e u; meant = c; in-range = f }))
-    (λ d. absurd (d (rw (w, v, ne-eqb (firstFault (filled t (walked t .words))) none d) at z))))
+    (λ d. absurd (d (rw (w, v, ne-eqb (firstFault (filled t (walked t .tokens))) none d) at z))))
     (λ d. absurd (d (rw (
       eq-eqb (walked t .refusal) none e,
-      ne-eqb (unborne (walked t .words) t 0 fresh (walked t .words) .refusal) none d,
+      ne-eqb (unborne (walked t .tokens) t 0 fresh (walked t .tokens) .refusal) none d,
     ) at z))))
     (λ d. absurd (d (rw (ne-eqb (walked t .refusal) none d) at z)))

@@ -11,7 +11,7 @@ use mathlib.Core.List.{List, [], _∷_}
 use Rattle.word.specs.Word.{with}
 use Rattle.config.specs.declared.Config.{Config}
 use Rattle.config.specs.Value.{noConfig, withVersion, withBodies, withKind, withPriority, withAutostart, withResources, withUsers}
-use Rattle.oil_grammar.specs.Word.{same, taskSort}
+use Rattle.oil_grammar.specs.Token.{same, taskSort}
 use Rattle.oil_grammar.specs.Object.{Attribute, priority, autostart, uses, Object, isResource}
 
 -- a number as a byte holds it

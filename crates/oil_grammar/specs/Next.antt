@@ -1,19 +1,19 @@
--- The next word of a text, from a place on.
+-- The next token of a text, from a place on.
 --
 --   blank bs          how many bytes the space or comment at the head of bs takes, 0 where there is none
 --   blanks k bs       how many bytes up to k spaces and comments there take
---   wordAt p bs       the word at the head of bs, which stand at the place p
---   nextWord t at     the first word at or after a place
---   spelling t w      its bytes; `wordIn t w`: the word of the grammar that it is
+--   tokenAt p bs       the token at the head of bs, which stand at the place p
+--   nextToken t at     the first token at or after a place
+--   spelling t w      its bytes; `tokenIn t w`: the token of the grammar that it is
 use Prim.Native.Nat.{ℕ, zero, suc, _+_, _-_}
 use mathlib.Core.Bool.{cond, _&&_}
 use mathlib.Core.List.{List, [], _∷_}
 use lib.Dec.{leb, eqb}
 use lib.ListN.{length, take, drop}
-use Rattle.oil_grammar.specs.declared.Word.{Word}
+use Rattle.oil_grammar.specs.declared.Token.{Token}
 use Rattle.oil_grammar.specs.Byte.{slash, star, isSpace, isLetter, isDigit, isNameByte, isLineByte, span}
-use Rattle.oil_grammar.specs.Word as W
-use Rattle.oil_grammar.specs.Word.{mark, name, number, spelledSort, signOf, decimal, semicolonSort, nameSort, numberSort, endSort, unreadableSort}
+use Rattle.oil_grammar.specs.Token as W
+use Rattle.oil_grammar.specs.Token.{mark, name, number, spelledSort, signOf, decimal, semicolonSort, nameSort, numberSort, endSort, unreadableSort}
 
 -- how many bytes there are up to and with the first */, 0 where there is none
 unfoldable pub closing : List ℕ → ℕ
@@ -39,32 +39,32 @@ unfoldable pub blanks : ℕ → List ℕ → ℕ
 blanks zero bs = 0
 blanks (suc k) bs = let rest = blank bs + blanks k (drop (blank bs) bs) in cond (eqb (blank bs) 0) 0 rest
 
--- the word of a sort from a place on, n bytes long
-abbrev pub wordOf : ℕ → ℕ → ℕ → Word
-wordOf s p n = record { sort = s; start = p; end = p + n }
+-- the token of a sort from a place on, n bytes long
+abbrev pub tokenOf : ℕ → ℕ → ℕ → Token
+tokenOf s p n = record { sort = s; start = p; end = p + n }
 
-abbrev pub signAt : ℕ → ℕ → Word
-signAt p s = cond (eqb s 0) (wordOf unreadableSort p 0) (wordOf s p 1)
+abbrev pub signAt : ℕ → ℕ → Token
+signAt p s = cond (eqb s 0) (tokenOf unreadableSort p 0) (tokenOf s p 1)
 
-unfoldable pub wordAt : ℕ → List ℕ → Word
-wordAt p [] = wordOf endSort p 0
-wordAt p (b ∷ bs) =
+unfoldable pub tokenAt : ℕ → List ℕ → Token
+tokenAt p [] = tokenOf endSort p 0
+tokenAt p (b ∷ bs) =
     cond (isLetter b)
-    (wordOf (spelledSort (b ∷ take (span isNameByte bs) bs)) p (suc (span isNameByte bs)))
-    (cond (isDigit b) (wordOf numberSort p (suc (span isDigit bs))) (signAt p (signOf b)))
+    (tokenOf (spelledSort (b ∷ take (span isNameByte bs) bs)) p (suc (span isNameByte bs)))
+    (cond (isDigit b) (tokenOf numberSort p (suc (span isDigit bs))) (signAt p (signOf b)))
 
 -- as many spaces and comments as there are bytes are enough
 abbrev pub skipped : List ℕ → ℕ → ℕ
 skipped t at = at + blanks (length t) (drop at t)
 
-unfoldable pub nextWord : List ℕ → ℕ → Word
-nextWord t at = wordAt (skipped t at) (drop (skipped t at) t)
+unfoldable pub nextToken : List ℕ → ℕ → Token
+nextToken t at = tokenAt (skipped t at) (drop (skipped t at) t)
 
-abbrev pub spelling : List ℕ → Word → List ℕ
+abbrev pub spelling : List ℕ → Token → List ℕ
 spelling t w = take (w .end - w .start) (drop (w .start) t)
 
-unfoldable pub wordOfBytes : ℕ → List ℕ → W.Word
-wordOfBytes s x = cond (leb s semicolonSort) (mark s) (cond (eqb s nameSort) (name x) (number (decimal 0 x)))
+unfoldable pub tokenOfBytes : ℕ → List ℕ → W.Token
+tokenOfBytes s x = cond (leb s semicolonSort) (mark s) (cond (eqb s nameSort) (name x) (number (decimal 0 x)))
 
-abbrev pub wordIn : List ℕ → Word → W.Word
-wordIn t w = wordOfBytes (w .sort) (spelling t w)
+abbrev pub tokenIn : List ℕ → Token → W.Token
+tokenIn t w = tokenOfBytes (w .sort) (spelling t w)

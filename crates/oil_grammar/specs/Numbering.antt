@@ -1,4 +1,4 @@
--- What the laws of a text's meaning are worded with: the objects of a sort in the order in which they stand, and what an
+-- What the laws of a text's meaning are tokened with: the objects of a sort in the order in which they stand, and what an
 -- object says of itself.
 --
 --   bodies os, declared os    the TASK and ISR objects, and the RESOURCE objects

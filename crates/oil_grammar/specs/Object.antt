@@ -1,6 +1,6 @@
--- Objects with their attributes, and how each is written in words.
+-- Objects with their attributes, and how each is written in tokens.
 --
---   written os     the words of the objects, one after the other
+--   written os     the tokens of the objects, one after the other
 --   Fits o         its attributes are those that its kind has
 --   names os       what the objects are called; resources os: the RESOURCE objects among them
 --   objectUses os  the names that their RESOURCE attributes have
@@ -9,14 +9,14 @@ use mathlib.Core.Path.{_≡_}
 use mathlib.Core.Bool.{Bool, false, cond, _||_}
 use mathlib.Core.List.{List, [], _∷_, _++_}
 use lib.Dec.{eqb}
-use Rattle.oil_grammar.specs.Word.{Word, mark, name, number, same, taskSort, isrSort, resourceSort, prioritySort, autostartSort, trueSort, falseSort, openSort, closeSort, equalsSort, semicolonSort}
+use Rattle.oil_grammar.specs.Token.{Token, mark, name, number, same, taskSort, isrSort, resourceSort, prioritySort, autostartSort, trueSort, falseSort, openSort, closeSort, equalsSort, semicolonSort}
 
 pub data Attribute : Type 0 where
   priority : ℕ → Attribute
   autostart : Bool → Attribute
   uses : List ℕ → Attribute
 
--- the kind is the word that the object begins with: TASK, ISR or RESOURCE
+-- the kind is the token that the object begins with: TASK, ISR or RESOURCE
 pub record Object : Type 0 where
   pub kind : ℕ
   pub called : List ℕ
@@ -26,28 +26,28 @@ abbrev pub isResource : ℕ → Bool
 isResource kind = eqb kind resourceSort
 
 -- `PRIORITY = 2;`, `AUTOSTART = TRUE;`, `RESOURCE = r;`
-unfoldable pub attributeWords : Attribute → List Word
-attributeWords (priority n) = mark prioritySort ∷ mark equalsSort ∷ number n ∷ mark semicolonSort ∷ []
-attributeWords (autostart b) =
+unfoldable pub attributeTokens : Attribute → List Token
+attributeTokens (priority n) = mark prioritySort ∷ mark equalsSort ∷ number n ∷ mark semicolonSort ∷ []
+attributeTokens (autostart b) =
     mark autostartSort ∷ mark equalsSort ∷ mark (cond b trueSort falseSort) ∷ mark semicolonSort ∷ []
-attributeWords (uses x) = mark resourceSort ∷ mark equalsSort ∷ name x ∷ mark semicolonSort ∷ []
+attributeTokens (uses x) = mark resourceSort ∷ mark equalsSort ∷ name x ∷ mark semicolonSort ∷ []
 
-unfoldable pub attributesWords : List Attribute → List Word
-attributesWords [] = []
-attributesWords (a ∷ rest) = attributeWords a ++ attributesWords rest
+unfoldable pub attributesTokens : List Attribute → List Token
+attributesTokens [] = []
+attributesTokens (a ∷ rest) = attributeTokens a ++ attributesTokens rest
 
 -- `TASK name { .. };`
-unfoldable pub objectWords : Object → List Word
-objectWords o =
+unfoldable pub objectTokens : Object → List Token
+objectTokens o =
     mark (o .kind)
     ∷ name (o .called)
     ∷ mark openSort
-    ∷ (attributesWords (o .attributes) ++ (mark closeSort ∷ mark semicolonSort ∷ []))
+    ∷ (attributesTokens (o .attributes) ++ (mark closeSort ∷ mark semicolonSort ∷ []))
 
 -- "The text is only objects"
-unfoldable pub written : List Object → List Word
+unfoldable pub written : List Object → List Token
 written [] = []
-written (o ∷ os) = objectWords o ++ written os
+written (o ∷ os) = objectTokens o ++ written os
 
 unfoldable pub priorities : List Attribute → ℕ
 priorities [] = 0

@@ -17,7 +17,7 @@ use Rattle.oil_grammar.specs.declared.Found.{Found}
 use Rattle.oil_grammar.specs.declared.OilRead.{OilRead}
 use Rattle.oil_grammar.specs.Byte.{lineFeed}
 use Rattle.oil_grammar.specs.Meaning.{empty}
-use Rattle.oil_grammar.specs.Machine.{fresh}
+use Rattle.oil_grammar.specs.Automaton.{fresh}
 use Rattle.oil_grammar.specs.Walk.{walk, unborne, mask, fill}
 
 -- "lines and columns count bytes from 1, a line ending after its LF": the place after the bytes that stand before it
@@ -45,7 +45,7 @@ ranged c =
     cond (eqb (firstFault c) none) (record { config = c; refusal = none; line = 0; column = 0 })
     (record { config = noConfig; refusal = firstFault c; line = 0; column = 0 })
 
--- the configuration of a text of n words
+-- the configuration of a text of n tokens
 abbrev pub filled : List ℕ → ℕ → Config
 filled t n = fill n t 0 fresh (λ x. mask n t 0 fresh x 0 0) empty
 
@@ -55,7 +55,7 @@ afterUses t n u = cond (eqb (u .refusal) none) (ranged (filled t n)) (refusedIn 
 
 abbrev pub afterWalk : List ℕ → Found → OilRead
 afterWalk t v =
-    cond (eqb (v .refusal) none) (afterUses t (v .words) (unborne (v .words) t 0 fresh (v .words)))
+    cond (eqb (v .refusal) none) (afterUses t (v .tokens) (unborne (v .tokens) t 0 fresh (v .tokens)))
     (refusedIn t (v .refusal) (v .place))
 
 abbrev pub walked : List ℕ → Found

@@ -6,8 +6,8 @@ abbrev pub unreadableSign : ℕ
 unreadableSign = 60
 
 -- "61 unexpected word"
-abbrev pub unexpectedWord : ℕ
-unexpectedWord = 61
+abbrev pub unexpectedToken : ℕ
+unexpectedToken = 61
 
 -- "62 object or attribute unknown there"
 abbrev pub unknownThere : ℕ

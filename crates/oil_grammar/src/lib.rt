@@ -3,8 +3,8 @@
 
 use config::Config;
 
-// A word of the text, from byte `start` up to byte `end`. Its sort is a number, `specs/Word.antt` lists them.
-pub struct Word {
+// A token of the text, from byte `start` up to byte `end`. Its sort is a number, `specs/Token.antt` lists them.
+pub struct Token {
     pub sort: u8,
     pub start: usize,
     pub end: usize,
@@ -26,7 +26,7 @@ pub enum Want {
     ObjectEnd,
 }
 
-// How far a text has come: what it wants next, the word that its present object begins with, and which of the
+// How far a text has come: what it wants next, the token that its present object begins with, and which of the
 // attributes that may stand once that object has had.
 pub struct Progress {
     pub want: Want,
@@ -35,12 +35,12 @@ pub struct Progress {
     pub autostart: bool,
 }
 
-// What a walk over the text finds: refusal 0 and the number of words before the end, or the refusal with its place
+// What a walk over the text finds: refusal 0 and the number of tokens before the end, or the refusal with its place
 // (byte offset).
 pub struct Found {
     pub refusal: u8,
     pub place: usize,
-    pub words: usize,
+    pub tokens: usize,
 }
 
 // What a reading gives: the configuration with refusal 0, or the all-zero value with the refusal and its line and

@@ -32,7 +32,7 @@ use Rattle.scheduler.specs.Scheduler.{begins, phaseBegun, markOf, dispat
 use Rattle.scheduler.specs.History.{AcceptedIn}
 use Rattle.scheduler.proofs.Choice.{contender, weight, chosen-weight, chosen-from, candidate-active, current-own, current-free, Taken, no-one, body, runner-timed, runner-untimed}
 use Rattle.scheduler.proofs.Checks.{activate-passed, finish-passed, chain-passed, get-passed, release-passed, wait-passed, accepted-untimed}
-use Rattle.scheduler.proofs.Effects.{entered, activatingDue-keeps, refusalOf-keeps}
+use Rattle.scheduler.proofs.Effects.{entered, activatingDue-keeps, elseOf-keeps}
 use Rattle.scheduler.proofs.Refusals.{begins-some, Underway, underway-untimed, underway-fresh, underway-step}
 use Rattle.scheduler.proofs.Losses.{entered-active}
 
@@ -412,7 +412,7 @@ module _ (c : Config) (ok : Configuration.Accepted c) where
           by-eq (statusOf c s e) done
           (λ z. rw (eq-eqb (statusOf c s e) done z) (effect-kept e z))
           (λ n. rw (ne-eqb (statusOf c s e) done n)
-          (refusalOf-keeps c s (λ x. Kept c In (x .bodies)) a (statusOf c s e) e
+          (elseOf-keeps c s (λ x. Kept c In (x .bodies)) a (statusOf c s e) e
           (λ i _ _ _. quiet s a i loses (loses-quiet K (bodyOf s i)))))
 
     -- the dispatch: who begins held nothing

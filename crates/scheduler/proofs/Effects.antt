@@ -1,7 +1,7 @@
 -- What an event leaves as it was.
 --
 -- In order: a change of one body leaves the others and the tables; what every effect (`effectOf-keeps`) and every
--- refusal (`refusalOf-keeps`) keeps; no event adds a body or a table; no call but a lost line that is counted changes a
+-- refusal (`elseOf-keeps`) keeps; no event adds a body or a table; no call but a lost line that is counted changes a
 -- loss.
 use Prim.Native.Nat.{ℕ, _<_}
 use mathlib.Core.Path.{_≡_, refl, sym, ap, _∙_}
@@ -20,7 +20,7 @@ use Rattle.scheduler.specs.Bits.{anySet}
 use Rattle.scheduler.specs.Status.{done, limitReached}
 use Rattle.scheduler.specs.Body.{ready, isSuspended, hasBegun, Body, become, activated, triggers, rest, finished, requested, gets, releases, activatedByEntry, loses, waits, receives, clears}
 use Rattle.scheduler.specs.State.{State, Table, stopped, noBody, bodyOf, changing, withTable, runner}
-use Rattle.scheduler.specs.Call.{caller, finish, finishTimed, statusOf, effectOf, refusalOf}
+use Rattle.scheduler.specs.Call.{caller, finish, finishTimed, statusOf, effectOf, elseOf}
 use Rattle.scheduler.specs.Tick.{counting, counted, starting, trigger, enter, activatingDue, dues, ticked}
 use Rattle.scheduler.specs.Event.{Event, Activate, Finish, Chain, Get, Release, Tick, Line, Start, Stop, Wait, Set, Clear, isTick}
 use Rattle.scheduler.specs.Scheduler.{begins, phaseBegun, dispatched, lossesOf, unstarted, leaves, step, stepBy, LostLine, fresh, after, afterBy}
@@ -122,16 +122,16 @@ effectOf-keeps c s P on-body on-order on-table p (Set t w) tick = on-body t (rec
 effectOf-keeps c s P on-body on-order on-table p (Clear w) tick = on-body (caller c s) (clears w) s (λ b. refl) p
 
 -- what a refusal keeps: it leaves the state, or is that of a lost line that is counted
-pub refusalOf-keeps : (c : Config) (s : State) (P : State → Type 0) → P s → (st : ℕ) (e : Event)
+pub elseOf-keeps : (c : Config) (s : State) (P : State → Type 0) → P s → (st : ℕ) (e : Event)
     → ((i : ℕ) → countsLines c ≡ true → e ≡ Line i → st ≡ limitReached → P (changing i loses s))
-    → P (refusalOf c s st e)
-refusalOf-keeps c s P p st (Activate t) lost = p
-refusalOf-keeps c s P p st Finish lost = p
-refusalOf-keeps c s P p st (Chain t) lost = p
-refusalOf-keeps c s P p st (Get r) lost = p
-refusalOf-keeps c s P p st (Release r) lost = p
-refusalOf-keeps c s P p st Tick lost = p
-refusalOf-keeps c s P p st (Line i) lost = go (countsLines c) refl
+    → P (elseOf c s st e)
+elseOf-keeps c s P p st (Activate t) lost = p
+elseOf-keeps c s P p st Finish lost = p
+elseOf-keeps c s P p st (Chain t) lost = p
+elseOf-keeps c s P p st (Get r) lost = p
+elseOf-keeps c s P p st (Release r) lost = p
+elseOf-keeps c s P p st Tick lost = p
+elseOf-keeps c s P p st (Line i) lost = go (countsLines c) refl
   where
     go : (b : Bool) → countsLines c ≡ b → P (cond (b && eqb st limitReached) (changing i loses s) s)
     go true e =
@@ -139,11 +139,11 @@ refusalOf-keeps c s P p st (Line i) lost = go (countsLines c) refl
         (λ q. rw (eq-eqb st limitReached q) (lost i e refl q))
         (λ q. rw (ne-eqb st limitReached q) p)
     go false e = p
-refusalOf-keeps c s P p st (Start t d) lost = p
-refusalOf-keeps c s P p st (Stop t) lost = p
-refusalOf-keeps c s P p st (Wait w) lost = p
-refusalOf-keeps c s P p st (Set t w) lost = p
-refusalOf-keeps c s P p st (Clear w) lost = p
+elseOf-keeps c s P p st (Start t d) lost = p
+elseOf-keeps c s P p st (Stop t) lost = p
+elseOf-keeps c s P p st (Wait w) lost = p
+elseOf-keeps c s P p st (Set t w) lost = p
+elseOf-keeps c s P p st (Clear w) lost = p
 
 -- an event is a Tick or not
 pub by-tick : {C : Type 0} (e : Event) → (e ≡ Tick → C) → (isTick e ≡ false → C) → C
@@ -226,11 +226,11 @@ module _ (P : State → Type 0) (on-body : (i : ℕ) (f : Body → Body) (s : St
   unfolding stepBy
   step-keeps on-order on-table on-counted c s p e =
       dispatched-keeps c _
-      (cond-either P (eqb (statusOf c s e) done) (effectOf c s e) (refusalOf c s (statusOf c s e) e)
+      (cond-either P (eqb (statusOf c s e) done) (effectOf c s e) (elseOf c s (statusOf c s e) e)
       (effectOf-keeps c s P (λ i f x k. on-body i f x) on-order (λ t y. on-table t y s p) p e
       (λ q. activatingDue-keeps c P on-order (λ t b. on-body t (entered b)) (dues c (counted s)) (c .task) (counted s)
       (on-counted s p)))
-      (refusalOf-keeps c s P p (statusOf c s e) e (λ i _ _ _. on-body i loses s p)))
+      (elseOf-keeps c s P p (statusOf c s e) e (λ i _ _ _. on-body i loses s p)))
 
 -- no event adds or takes away a body or a table
 module _ (c : Config) where
@@ -288,11 +288,11 @@ module _ (c : Config) where
   losses-call s e d kept =
       losses-dispatched (leaves c s e)
       ∙ cond-either (λ x. lossesOf x ≡ lossesOf s) (eqb (statusOf c s e) done) (effectOf c s e)
-      (refusalOf c s (statusOf c s e) e)
+      (elseOf c s (statusOf c s e) e)
       (effectOf-keeps c s (λ x. lossesOf x ≡ lossesOf s) (λ i f x k h. losses-changing i f x k ∙ h) (λ js x h. h)
       (λ t y. refl) refl e
       (λ q. absurd (d q)))
-      (refusalOf-keeps c s (λ x. lossesOf x ≡ lossesOf s) refl (statusOf c s e) e
+      (elseOf-keeps c s (λ x. lossesOf x ≡ lossesOf s) refl (statusOf c s e) e
       (λ i w q h. absurd (kept i (w, q, h))))
 
   -- the losses that are seen are those of the state after the event

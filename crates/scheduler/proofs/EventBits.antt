@@ -28,7 +28,7 @@ use Rattle.scheduler.specs.History.{AcceptedIn, Ends, next}
 use Rattle.scheduler.proofs.Bits.{clears-bit, receives-bit, waits-bits, waits-on, waits-for, resumed-on, resumed-not, activated-bits, new-bits}
 use Rattle.scheduler.proofs.Choice.{Taken, no-one, body, chosen-from, candidate-active, runner-untimed}
 use Rattle.scheduler.proofs.Checks.{accepted-untimed, activate-passed, chain-passed, set-passed, clear-passed, wait-passed, line-passed}
-use Rattle.scheduler.proofs.Effects.{bodyOf-changing-same, bodyOf-changing-other, length-changing, refusalOf-keeps, entered, enter-bodies, enters-keep}
+use Rattle.scheduler.proofs.Effects.{bodyOf-changing-same, bodyOf-changing-other, length-changing, elseOf-keeps, entered, enter-bodies, enters-keep}
 
 -- who runs, where no time-triggered task does, is a body of the state
 caller-there : (c : Config) (s : State) → s .order ≡ [] → nobodyRuns c s ≡ false → caller c s < length (s .bodies)
@@ -78,7 +78,7 @@ module _ (c : Config) where
       by-eq (statusOf c s e) done
       (λ a. rw (eq-eqb (statusOf c s e) done a) (keeps a))
       (λ n. rw (ne-eqb (statusOf c s e) done n)
-      (refusalOf-keeps c s (λ x. bodyOf x b .bits ≡ bodyOf s b .bits) refl (statusOf c s e) e
+      (elseOf-keeps c s (λ x. bodyOf x b .bits ≡ bodyOf s b .bits) refl (statusOf c s e) e
       (λ i _ _ _. bits-changing i loses s refl b)))
 
   -- Clear

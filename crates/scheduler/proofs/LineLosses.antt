@@ -23,7 +23,7 @@ use Rattle.scheduler.specs.Choice.{Candidate}
 use Rattle.scheduler.specs.State.{State, noBody, bodyOf, changing, runner}
 use Rattle.scheduler.specs.Event.{Event, Activate, Finish, Chain, Get, Release, Tick, Line, Start, Stop, Wait, Set, Clear}
 use Rattle.scheduler.specs.Tick.{counted, dues, enter, activatingDue}
-use Rattle.scheduler.specs.Call.{finish, finishTimed, effectFor, refusalOf}
+use Rattle.scheduler.specs.Call.{finish, finishTimed, effectFor, elseOf}
 use Rattle.scheduler.specs.Scheduler.{begins, phaseBegun, dispatchedTo, markOf, statusFor, leaves, step, stepBy, newBody, unstarted, fresh, seen, after, afterBy}
 use Rattle.scheduler.specs.History.{isLineOf, linesLost}
 use Rattle.scheduler.specs.Conditions.{_if_, Decided, Isr, Requested}
@@ -168,7 +168,7 @@ module _ (c : Config) (v : ℕ) (counts : 2 ≤ v) (i : ℕ) where
 
     -- a refusal: only a Line of i with status 4 counts
     refusal-behind : (st : ℕ) (e : Event) → (e ≡ Line i → st ≡ limitReached → i < length (s′ .bodies))
-        → Behind i (n + markOf (isLineOf i e && eqb st limitReached)) (refusalOf first s st e) (refusalOf later s′ st e)
+        → Behind i (n + markOf (isLineOf i e && eqb st limitReached)) (elseOf first s st e) (elseOf later s′ st e)
     refusal-behind st (Activate t) named = more b
     refusal-behind st Finish named = more b
     refusal-behind st (Chain t) named = more b

@@ -18,9 +18,9 @@ use Rattle.scheduler.specs.Body.{Body, suspended, isSuspended, activated
 use Rattle.scheduler.specs.State.{State, noBody, bodyOf, changing}
 use Rattle.scheduler.specs.Event.{Event}
 use Rattle.scheduler.specs.Tick.{counted, dues, enter, activatingDue, ticked, naming, dueFor}
-use Rattle.scheduler.specs.Call.{statusOf, effectOf, refusalOf}
+use Rattle.scheduler.specs.Call.{statusOf, effectOf, elseOf}
 use Rattle.scheduler.specs.Scheduler.{newBody, unstarted, dispatched, lossesOf, leaves, step, stepBy, fresh, after, afterBy}
-use Rattle.scheduler.proofs.Effects.{bodyOf-changing-same, bodyOf-changing-other, length-changing, effectOf-keeps, refusalOf-keeps, entered, enter-bodies, activatingDue-keeps, losses-dispatched}
+use Rattle.scheduler.proofs.Effects.{bodyOf-changing-same, bodyOf-changing-other, length-changing, effectOf-keeps, elseOf-keeps, entered, enter-bodies, activatingDue-keeps, losses-dispatched}
 
 -- n entries that name the body b, one after the other; x: it is time-triggered
 times : Bool → ℕ → Body → Body
@@ -124,12 +124,12 @@ module _ (c : Config) where
   unfolding stepBy
   few-step s e few =
       few-losses (leaves c s e) (dispatched c (leaves c s e)) (losses-dispatched c (leaves c s e))
-      (cond-either FewLosses (eqb (statusOf c s e) done) (effectOf c s e) (refusalOf c s (statusOf c s e) e)
+      (cond-either FewLosses (eqb (statusOf c s e) done) (effectOf c s e) (elseOf c s (statusOf c s e) e)
       (effectOf-keeps c s FewLosses (λ i f x k. few-changing i f x (λ b h. rw (k b) h)) (λ js x h. h) (λ t y. few) few e
       (λ q. activatingDue-keeps c FewLosses (λ js x h. h) (λ t b x. few-changing t (entered b) x (entry-few b))
       (dues c (counted s)) (c .task)
       (counted s) few))
-      (refusalOf-keeps c s FewLosses few (statusOf c s e) e
+      (elseOf-keeps c s FewLosses few (statusOf c s e) e
       (λ i _ _ _. few-changing i loses s (λ b h. omega arith) few)))
 
   pub few-fresh : FewLosses (fresh c)

@@ -16,10 +16,10 @@ use Rattle.scheduler.specs.Body.{isSuspended, loses}
 use Rattle.scheduler.specs.State.{State, bodyOf, changing, runner, among}
 use Rattle.scheduler.specs.Event.{Event, Activate, Finish, Chain, Get, Release, Tick, Line, Start, Stop, Wait, Set, Clear}
 use Rattle.scheduler.specs.Tick.{counted, dues, starting, enter}
-use Rattle.scheduler.specs.Call.{caller, finish, finishTimed, statusOf, effectOf, refusalOf}
+use Rattle.scheduler.specs.Call.{caller, finish, finishTimed, statusOf, effectOf, elseOf}
 use Rattle.scheduler.specs.Scheduler.{dispatched, unstarted, leaves, step, stepBy, fresh, after, afterBy}
 use Rattle.scheduler.proofs.Distinct.{none-among, among-rest}
-use Rattle.scheduler.proofs.Effects.{enters-keep, dispatched-keeps, refusalOf-keeps}
+use Rattle.scheduler.proofs.Effects.{enters-keep, dispatched-keeps, elseOf-keeps}
 
 pub timed-body : (c : Config) (t : ℕ) → isTimed c t ≡ true → t < c .bodies
 timed-body c t h = ltb-true t (c .bodies) (and-true (ltb t (c .bodies)) (eqb (getD (c .kind) t 0) timeTriggered) h .0)
@@ -62,9 +62,9 @@ module _ (c : Config) where
 
   named-leaves : (s : State) (e : Event) → Named s → Named (leaves c s e)
   named-leaves s e n =
-      cond-either Named (eqb (statusOf c s e) done) (effectOf c s e) (refusalOf c s (statusOf c s e) e)
+      cond-either Named (eqb (statusOf c s e) done) (effectOf c s e) (elseOf c s (statusOf c s e) e)
       (named-effect s e n)
-      (refusalOf-keeps c s Named n (statusOf c s e) e (λ i _ _ _. n))
+      (elseOf-keeps c s Named n (statusOf c s e) e (λ i _ _ _. n))
 
   named-dispatched : (s : State) → Named s → Named (dispatched c s)
   named-dispatched s n = dispatched-keeps Named (λ i f x h. h) c s n

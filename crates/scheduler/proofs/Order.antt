@@ -25,11 +25,11 @@ use Rattle.scheduler.specs.Choice.{Candidate}
 use Rattle.scheduler.specs.State.{State, stopped, noBody, bodyOf, changing, runner, among}
 use Rattle.scheduler.specs.Event.{Event, Tick}
 use Rattle.scheduler.specs.Tick.{ticked}
-use Rattle.scheduler.specs.Call.{statusOf, effectOf, refusalOf}
+use Rattle.scheduler.specs.Call.{statusOf, effectOf, elseOf}
 use Rattle.scheduler.specs.Scheduler.{begins, phaseBegun, dispatched, newBody, unstarted, leaves, step, stepBy, fresh, after, afterBy}
 use Rattle.scheduler.specs.History.{AcceptedIn}
 use Rattle.scheduler.proofs.Choice.{runner-timed}
-use Rattle.scheduler.proofs.Effects.{bodyOf-changing-same, bodyOf-changing-other, by-tick, no-tick, refusalOf-keeps}
+use Rattle.scheduler.proofs.Effects.{bodyOf-changing-same, bodyOf-changing-other, by-tick, no-tick, elseOf-keeps}
 use Rattle.scheduler.proofs.Refusals.{begins-some}
 use Rattle.scheduler.proofs.Named.{timed-body}
 use Rattle.scheduler.proofs.Distinct.{Distinct, distinct-fits, none-among, among-head, among-place}
@@ -336,8 +336,8 @@ module _ (c : Config) where
       → Orderly c (effectOf c s e)
   effect-orderly o e n a = orderly (effect-placed c (placed o) e n a)
 
-  pub refusal-orderly : {s : State} → Orderly c s → (st : ℕ) (e : Event) → Orderly c (refusalOf c s st e)
-  refusal-orderly {s} o st e = refusalOf-keeps c s (Orderly c) o st e (λ i _ _ _. orderly (loses-placed c (placed o) i))
+  pub refusal-orderly : {s : State} → Orderly c s → (st : ℕ) (e : Event) → Orderly c (elseOf c s st e)
+  refusal-orderly {s} o st e = elseOf-keeps c s (Orderly c) o st e (λ i _ _ _. orderly (loses-placed c (placed o) i))
 
   module _ (ok : Accepted c) (shaped : Shaped c) where
     -- before the dispatch

@@ -21,13 +21,13 @@ use Rattle.scheduler.specs.Body.{Phase, suspended, ready, started, waiti
 use Rattle.scheduler.specs.Choice.{Candidate, isNobody, candidate, byHolding, goesBefore, preferred, chosen}
 use Rattle.scheduler.specs.State.{State, noBody, bodyOf, changing, latestOf, runner, among}
 use Rattle.scheduler.specs.Event.{Event, Line}
-use Rattle.scheduler.specs.Call.{statusOf, refusalOf}
+use Rattle.scheduler.specs.Call.{statusOf, elseOf}
 use Rattle.scheduler.specs.Scheduler.{begins, phaseBegun, dispatched, leaves, step, stepBy, LostLine, unstarted, fresh, after, afterBy}
 use Rattle.scheduler.proofs.Choice.{contender, candidate-active, chosen-mapped, chosen-alike, Taken, no-one, body, chosen-from, runner-timed, runner-untimed}
-use Rattle.scheduler.proofs.Effects.{bodyOf-changing-same, length-changing, refusalOf-keeps}
+use Rattle.scheduler.proofs.Effects.{bodyOf-changing-same, length-changing, elseOf-keeps}
 
 refused-leaves : (c : Config) (s : State) (e : Event) → statusOf c s e ≢ done
-    → leaves c s e ≡ refusalOf c s (statusOf c s e) e
+    → leaves c s e ≡ elseOf c s (statusOf c s e) e
 refused-leaves c s e refused = rw (ne-eqb (statusOf c s e) done refused)
 
 pub refused-dispatched : (c : Config) (s : State) (e : Event) → step c s e .seen .status ≢ done
@@ -37,7 +37,7 @@ unfolding stepBy
 refused-dispatched c s e refused kept =
     ap (dispatched c)
     (refused-leaves c s e refused
-    ∙ refusalOf-keeps c s (λ x. x ≡ s) refl (statusOf c s e) e (λ i w q h. absurd (kept i (w, q, h))))
+    ∙ elseOf-keeps c s (λ x. x ≡ s) refl (statusOf c s e) e (λ i w q h. absurd (kept i (w, q, h))))
 
 -- the candidate x, begun
 abbrev onceBegun : Candidate → Candidate

@@ -21,13 +21,13 @@ use Rattle.scheduler.specs.Choice.{byHolding, chosen}
 use Rattle.scheduler.specs.State.{State, noBody, bodyOf, changing, runner}
 use Rattle.scheduler.specs.Event.{Event, Activate, Finish, Chain, Get, Release, Tick, Line, Start, Stop, Wait, Set, Clear}
 use Rattle.scheduler.specs.Tick.{dues, counted}
-use Rattle.scheduler.specs.Call.{caller, finish, finishTimed, stop, statusOf, effectOf, refusalOf}
+use Rattle.scheduler.specs.Call.{caller, finish, finishTimed, stop, statusOf, effectOf, elseOf}
 use Rattle.scheduler.specs.Scheduler.{begins, markOf, leaves, step, stepBy}
 use Rattle.scheduler.specs.History.{AcceptedIn, Ends}
 use Rattle.scheduler.proofs.Bits.{resumed-begun}
 use Rattle.scheduler.proofs.Choice.{Taken, no-one, body, chosen-from, candidate-active, runner-timed, runner-untimed}
 use Rattle.scheduler.proofs.Checks.{activate-passed, chain-passed}
-use Rattle.scheduler.proofs.Effects.{bodyOf-changing-same, bodyOf-changing-other, refusalOf-keeps, entered, activatingDue-keeps}
+use Rattle.scheduler.proofs.Effects.{bodyOf-changing-same, bodyOf-changing-other, elseOf-keeps, entered, activatingDue-keeps}
 use Rattle.scheduler.proofs.Refusals.{begins-some, Underway, dispatched-same}
 
 -- the body that begins had not begun
@@ -154,9 +154,9 @@ module _ (c : Config) (s : State) (i : ℕ) (begun : hasBegun (bodyOf s i .phase
       unbegun : hasBegun (bodyOf (leaves c s e) i .phase) ≡ false
       unbegun = rw r at (begins-unbegun c (leaves c s e) (marked _ b))
 
-      refused-stays : hasBegun (bodyOf (refusalOf c s (statusOf c s e) e) i .phase) ≡ true
+      refused-stays : hasBegun (bodyOf (elseOf c s (statusOf c s e) e) i .phase) ≡ true
       refused-stays =
-          refusalOf-keeps c s (λ x. hasBegun (bodyOf x i .phase) ≡ true) begun (statusOf c s e) e
+          elseOf-keeps c s (λ x. hasBegun (bodyOf x i .phase) ≡ true) begun (statusOf c s e) e
           (λ j _ _ _. begun-changing i j loses s (λ x h. h) begun)
 
   -- an ISR may not chain

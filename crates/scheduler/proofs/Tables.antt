@@ -18,11 +18,11 @@ use Rattle.scheduler.specs.Status.{done, firstGiven}
 use Rattle.scheduler.specs.State.{State, Table, stopped, running, tableOf, withTable, runner}
 use Rattle.scheduler.specs.Event.{Event, Activate, Finish, Chain, Get, Release, Tick, Line, Start, Stop, Wait, Set, Clear, isTick}
 use Rattle.scheduler.specs.Tick.{counting}
-use Rattle.scheduler.specs.Call.{caller, finish, finishTimed, statusOf, effectOf, refusalOf}
+use Rattle.scheduler.specs.Call.{caller, finish, finishTimed, statusOf, effectOf, elseOf}
 use Rattle.scheduler.specs.Scheduler.{leaves, stepBy, fresh, after, afterBy}
 use Rattle.scheduler.specs.History.{AcceptedIn, next, NoneAccepted, StartOf, StopOf, NoStart, NoStop, tickCount, History, never-started, since-start, since-stop}
 use Rattle.scheduler.proofs.Checks.{start-passed, stop-passed}
-use Rattle.scheduler.proofs.Effects.{clash, after-append, refusalOf-keeps, tables-dispatched, tables-ticked, tables-fresh, length-tables-step, length-tables-fresh}
+use Rattle.scheduler.proofs.Effects.{clash, after-append, elseOf-keeps, tables-dispatched, tables-ticked, tables-fresh, length-tables-step, length-tables-fresh}
 
 -- what the event e, met in the state s, does to the table t
 data Turn (c : Config) (t : ℕ) (s : State) (e : Event) : Type 0 where
@@ -39,8 +39,8 @@ module _ (c : Config) (t : ℕ) (s : State) where
   table-next e = ap (λ l. getD l t stopped) (tables-dispatched c (leaves c s e))
 
   -- no refusal changes a table
-  table-same : (e : Event) → tableOf (refusalOf c s (statusOf c s e) e) t ≡ tableOf s t
-  table-same e = refusalOf-keeps c s (λ x. tableOf x t ≡ tableOf s t) refl (statusOf c s e) e (λ i _ _ _. refl)
+  table-same : (e : Event) → tableOf (elseOf c s (statusOf c s e) e) t ≡ tableOf s t
+  table-same e = elseOf-keeps c s (λ x. tableOf x t ≡ tableOf s t) refl (statusOf c s e) e (λ i _ _ _. refl)
 
   table-done : (e : Event) → AcceptedIn c s e → tableOf (next c s e) t ≡ tableOf (effectOf c s e) t
   unfolding stepBy
@@ -54,7 +54,7 @@ module _ (c : Config) (t : ℕ) (s : State) where
   table-kept e k =
       table-next e
       ∙ cond-either (λ x. tableOf x t ≡ tableOf s t) (eqb (statusOf c s e) done) (effectOf c s e)
-      (refusalOf c s (statusOf c s e) e) k (table-same e)
+      (elseOf c s (statusOf c s e) e) k (table-same e)
 
   withTable-other : (u : ℕ) (x : Table) → (u ≡ t → ⊥) → tableOf (withTable u x s) t ≡ tableOf s t
   withTable-other u x d = getD-set-other (s .tables) u t x stopped (λ e. d (sym e))

@@ -21,7 +21,7 @@ use Rattle.scheduler.specs.Call.{caller, finish, finishTimed, statusOf, 
 use Rattle.scheduler.specs.Scheduler.{begins, phaseBegun, dispatched, newBody, unstarted, leaves, step, stepBy, fresh, after, afterBy}
 use Rattle.scheduler.specs.History.{AcceptedIn}
 use Rattle.scheduler.proofs.Checks.{get-passed}
-use Rattle.scheduler.proofs.Effects.{bodyOf-changing-same, bodyOf-changing-other, length-changing, refusalOf-keeps, entered, activatingDue-keeps}
+use Rattle.scheduler.proofs.Effects.{bodyOf-changing-same, bodyOf-changing-other, length-changing, elseOf-keeps, entered, activatingDue-keeps}
 use Rattle.scheduler.proofs.Distinct.{none-among, among-rest}
 
 -- nothing is held of an empty list
@@ -120,7 +120,7 @@ module _ (c : Config) where
       (λ ok. rw (eq-eqb (statusOf c s e) done ok) (declared-effect s e ok d))
       (λ bad.
       rw (ne-eqb (statusOf c s e) done bad)
-      (refusalOf-keeps c s Declared d (statusOf c s e) e (λ i _ _ _. declared-taking-none i loses (λ b r h. h) s d))))
+      (elseOf-keeps c s Declared d (statusOf c s e) e (λ i _ _ _. declared-taking-none i loses (λ b r h. h) s d))))
 
   pub declared-fresh : Declared (fresh c)
   declared-fresh = declared-dispatched (unstarted c) (λ i r h. none-among r (rw (nothing i) at h))

@@ -21,10 +21,10 @@ use Rattle.scheduler.specs.Choice.{Candidate, byHolding, candidate, pref
 use Rattle.scheduler.specs.State.{State, Table, stopped, running, noBody, bodyOf, changing, latestOf, runner, heldIn}
 use Rattle.scheduler.specs.Event.{Event, Activate, Finish, Chain, Get, Release, Tick, Line, Start, Stop, Wait, Set, Clear, isTick}
 use Rattle.scheduler.specs.Tick.{counting, counted, entryDue, duesFrom, dues, starting, trigger, enter, activatingDue, ticked}
-use Rattle.scheduler.specs.Call.{requestWaits, finish, finishTimed, checksFor, effectFor, refusalOf}
+use Rattle.scheduler.specs.Call.{requestWaits, finish, finishTimed, checksFor, effectFor, elseOf}
 use Rattle.scheduler.specs.Scheduler.{begins, phaseBegun, dispatchedTo, endingTo, duesAt, statusFor, leavesFor, step, stepBy, unstarted, fresh, seen, seenBy}
 use Rattle.scheduler.specs.History.{unlost}
-use Rattle.scheduler.proofs.Effects.{entered, refusalOf-keeps}
+use Rattle.scheduler.proofs.Effects.{entered, elseOf-keeps}
 
 -- a body but for its losses
 abbrev quiet : Body → Body
@@ -268,11 +268,11 @@ module _ (c : Config) (v w : ℕ) where
     effect-alike k (Set t m) = alike-changing t (receives m) (λ b. refl) a
     effect-alike k (Clear m) = alike-changing (k .number) (clears m) (λ b. refl) a
 
-    refusal-alike : (st : ℕ) (e : Event) → Alike (refusalOf cv s st e) (refusalOf cw s′ st e)
+    refusal-alike : (st : ℕ) (e : Event) → Alike (elseOf cv s st e) (elseOf cw s′ st e)
     refusal-alike st e =
-        alike-both (refusalOf-keeps cv s (λ x. Alike x s) (alike-self s) st e (λ i _ _ _. alike-loses i s))
+        alike-both (elseOf-keeps cv s (λ x. Alike x s) (alike-self s) st e (λ i _ _ _. alike-loses i s))
         (alike-both a
-        (alike-turned (refusalOf-keeps cw s′ (λ x. Alike x s′) (alike-self s′) st e (λ i _ _ _. alike-loses i s′))))
+        (alike-turned (elseOf-keeps cw s′ (λ x. Alike x s′) (alike-self s′) st e (λ i _ _ _. alike-loses i s′))))
 
     pub status-alike : (k : Candidate) (e : Event) → statusFor cv k s e ≡ statusFor cw k s′ e
     status-alike k e = ap firstGiven (checks-alike a k e)
@@ -283,8 +283,8 @@ module _ (c : Config) (v w : ℕ) where
         st : ℕ
         st = statusFor cw k s′ e
 
-        go : (x : Bool) → Alike (cond x (effectFor cv k s e) (refusalOf cv s st e))
-            (cond x (effectFor cw k s′ e) (refusalOf cw s′ st e))
+        go : (x : Bool) → Alike (cond x (effectFor cv k s e) (elseOf cv s st e))
+            (cond x (effectFor cw k s′ e) (elseOf cw s′ st e))
         go true = effect-alike k e
         go false = refusal-alike st e
 

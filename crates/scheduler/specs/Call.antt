@@ -3,7 +3,7 @@
 --   checksFor c k s e   the column "statuses in order": the tests that the event e has to pass while k runs, each with
 --                       the status that it gives
 --   effectFor c k s e   the column "effect": the state that e leaves where its status is 0
---   refusalOf c s st e  the state that it leaves where its status is another, st
+--   elseOf c s st e  the state that it leaves where its status is another, st
 --   checksOf, statusOf, effectOf c s e
 --                       the same while whoever is chosen runs; "the first status that applies is given"
 --
@@ -157,19 +157,19 @@ effectFor c k s (Clear w) = clear (k .number) w s
 
 -- "A status other than 0 changes nothing", but
 -- "From edition two a Line that meets a waiting request adds to that ISR's loss count .. besides giving status 4"
-abbrev pub refusalOf : Config → State → ℕ → Event → State
-refusalOf c s st (Activate t) = s
-refusalOf c s st Finish = s
-refusalOf c s st (Chain t) = s
-refusalOf c s st (Get r) = s
-refusalOf c s st (Release r) = s
-refusalOf c s st Tick = s
-refusalOf c s st (Line i) = cond (countsLines c && eqb st limitReached) (changing i loses s) s
-refusalOf c s st (Start t d) = s
-refusalOf c s st (Stop t) = s
-refusalOf c s st (Wait w) = s
-refusalOf c s st (Set t w) = s
-refusalOf c s st (Clear w) = s
+abbrev pub elseOf : Config → State → ℕ → Event → State
+elseOf c s st (Activate t) = s
+elseOf c s st Finish = s
+elseOf c s st (Chain t) = s
+elseOf c s st (Get r) = s
+elseOf c s st (Release r) = s
+elseOf c s st Tick = s
+elseOf c s st (Line i) = cond (countsLines c && eqb st limitReached) (changing i loses s) s
+elseOf c s st (Start t d) = s
+elseOf c s st (Stop t) = s
+elseOf c s st (Wait w) = s
+elseOf c s st (Set t w) = s
+elseOf c s st (Clear w) = s
 
 -- "nobody runs"
 abbrev pub nobodyRuns : Config → State → Bool

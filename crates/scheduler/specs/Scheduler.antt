@@ -18,7 +18,7 @@ use Rattle.scheduler.specs.Choice.{Candidate, Tie, byHolding, isNobody}
 use Rattle.scheduler.specs.State.{stopped, State, noBody, changing, runnerBy, runner}
 pub use Rattle.scheduler.specs.Event.{Event, Activate, Finish, Chain, Get, Release, Tick, Line, Start, Stop, Wait, Set, Clear}
 use Rattle.scheduler.specs.Event.{isTick}
-use Rattle.scheduler.specs.Call.{checksFor, effectFor, refusalOf}
+use Rattle.scheduler.specs.Call.{checksFor, effectFor, elseOf}
 use Rattle.scheduler.specs.Tick.{counted, dues}
 
 -- what is seen of an event: its answer, every body's losses after it, and for each entry whether it was due at it
@@ -85,7 +85,7 @@ abbrev pub statusFor : Config → Candidate → State → Event → ℕ
 statusFor c k s e = firstGiven (checksFor c k s e)
 
 abbrev pub leavesFor : Config → Candidate → State → Event → State
-leavesFor c k s e = cond (eqb (statusFor c k s e) done) (effectFor c k s e) (refusalOf c s (statusFor c k s e) e)
+leavesFor c k s e = cond (eqb (statusFor c k s e) done) (effectFor c k s e) (elseOf c s (statusFor c k s e) e)
 
 abbrev pub leaves : Config → State → Event → State
 leaves c s e = leavesFor c (runner c s) s e

@@ -20,11 +20,11 @@ use Rattle.scheduler.specs.Choice.{Candidate, isNobody, byHolding, chosen}
 use Rattle.scheduler.specs.State.{State, noBody, bodyOf, changing, runner}
 use Rattle.scheduler.specs.Event.{Event, Activate, Finish, Chain, Get, Release, Tick, Line, Start, Stop, Wait, Set, Clear, isTick}
 use Rattle.scheduler.specs.Tick.{counted, dues, enter, activatingDue, ticked, naming}
-use Rattle.scheduler.specs.Call.{caller, finish, finishTimed, statusOf, effectOf, refusalOf}
+use Rattle.scheduler.specs.Call.{caller, finish, finishTimed, statusOf, effectOf, elseOf}
 use Rattle.scheduler.specs.Scheduler.{begins, markOf, leaves, step, stepBy}
 use Rattle.scheduler.proofs.Choice.{Taken, no-one, body, chosen-from, candidate-active, runner-timed, runner-untimed}
 use Rattle.scheduler.proofs.Checks.{activate-passed, finish-passed, chain-passed, line-passed, wait-passed}
-use Rattle.scheduler.proofs.Effects.{bodyOf-changing-same, bodyOf-changing-other, length-changing, refusalOf-keeps, entered, enter-bodies, by-tick}
+use Rattle.scheduler.proofs.Effects.{bodyOf-changing-same, bodyOf-changing-other, length-changing, elseOf-keeps, entered, enter-bodies, by-tick}
 use Rattle.scheduler.proofs.Order.{Orderly}
 use Rattle.machine.proofs.Relation.Order.{of-one-kind}
 use Rattle.isolation.specs.Requests.{asksFor, endsRunner, requestsAt, endsAt}
@@ -229,9 +229,9 @@ module _ (c : Config) (s : State) (a : Between c s) (b : ℕ) (fits : b < length
   effect-moves (Clear w) z n =
       unasked c b (caller c s) (clears w) s fits (λ e. quiet c b (bodyOf s b) (clears w (bodyOf s b)) refl refl)
 
-  refused-moves : (st : ℕ) (e : Event) → Moves c b (bodyOf s b) (bodyOf (refusalOf c s st e) b) 0 0
+  refused-moves : (st : ℕ) (e : Event) → Moves c b (bodyOf s b) (bodyOf (elseOf c s st e) b) 0 0
   refused-moves st e =
-      refusalOf-keeps c s (λ x. Moves c b (bodyOf s b) (bodyOf x b) 0 0) (stays c b (bodyOf s b)) st e
+      elseOf-keeps c s (λ x. Moves c b (bodyOf s b) (bodyOf x b) 0 0) (stays c b (bodyOf s b)) st e
       (λ i _ _ _. unasked c b i loses s fits (λ f. quiet c b (bodyOf s b) (loses (bodyOf s b)) refl refl))
 
   recount : (y : State) (r p d q : ℕ) → r ≡ p → d ≡ q → Moves c b (bodyOf s b) (bodyOf y b) r d

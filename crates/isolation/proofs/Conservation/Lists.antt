@@ -19,10 +19,10 @@ use Rattle.scheduler.specs.Choice.{Candidate, idle, byHolding}
 use Rattle.scheduler.specs.State.{State, noBody, bodyOf, runner}
 use Rattle.scheduler.specs.Event.{Event}
 use Rattle.scheduler.specs.Tick.{counted, dues}
-use Rattle.scheduler.specs.Call.{caller, statusOf, effectOf, refusalOf}
+use Rattle.scheduler.specs.Call.{caller, statusOf, effectOf, elseOf}
 use Rattle.scheduler.specs.Scheduler.{begins, markOf, newBody, unstarted, leaves, step, stepBy, seen, seenBy, fresh, after, afterBy}
 use Rattle.scheduler.proofs.Choice.{Taken, no-one, body, chosen-from, candidate-active, current-own}
-use Rattle.scheduler.proofs.Effects.{length-changing, effectOf-keeps, refusalOf-keeps, activatingDue-keeps, entered}
+use Rattle.scheduler.proofs.Effects.{length-changing, effectOf-keeps, elseOf-keeps, activatingDue-keeps, entered}
 use Rattle.scheduler.proofs.Refusals.{runner-same, underway-named, underway-step, underway-fresh}
 use Rattle.scheduler.proofs.Named.{timed-body}
 use Rattle.scheduler.proofs.Order.{orderly-step, orderly-unstarted, orderly-fresh}
@@ -39,11 +39,11 @@ past-second c s i past h =
 -- no event adds a body
 leaves-long : (s : State) (e : Event) (c : Config) → length (leaves c s e .bodies) ≡ length (s .bodies)
 leaves-long s e c =
-    cond-either Long (eqb (statusOf c s e) done) (effectOf c s e) (refusalOf c s (statusOf c s e) e)
+    cond-either Long (eqb (statusOf c s e) done) (effectOf c s e) (elseOf c s (statusOf c s e) e)
     (effectOf-keeps c s Long (λ i f x k h. length-changing i f x ∙ h) (λ js x h. h) (λ t y. refl) refl e
     (λ q. activatingDue-keeps c Long (λ js x h. h) (λ t v x h. length-changing t (entered v) x ∙ h)
     (dues c (counted s)) (c .task) (counted s) refl))
-    (refusalOf-keeps c s Long refl (statusOf c s e) e (λ i _ _ _. length-changing i loses s))
+    (elseOf-keeps c s Long refl (statusOf c s e) e (λ i _ _ _. length-changing i loses s))
   where
     Long : State → Type 0
     Long x = length (x .bodies) ≡ length (s .bodies)

@@ -19,7 +19,7 @@ use Rattle.scheduler.specs.Event.{Event, Stop}
 use Rattle.scheduler.specs.Call.{stop, statusOf}
 use Rattle.scheduler.specs.Scheduler.{Seen, markOf, leaves, stepBy}
 use Rattle.machine.specs.Model.{Core, Model, Outcome, withCore}
-use Rattle.machine.specs.Machine.{freshModel, effectOf, refusalOf, machineStep, runnerOf, machineSeen}
+use Rattle.machine.specs.Machine.{freshModel, effectOf, elseOf, machineStep, runnerOf, machineSeen}
 use Rattle.machine.specs.Machine as Machine
 use Rattle.machine.proofs.Relation.Whole.{Sim}
 use Rattle.machine.proofs.Whole.Fresh.{fresh-sim}
@@ -35,7 +35,7 @@ module _ (c : Config) (ok : Configuration.Accepted c) (shaped : Configuration.Sh
         cond-either (λ (x : State). runner c x ≡ runner c s) (eqb (statusOf c s (Stop 0)) done) (stop 0 s) s refl refl
 
     stop-core : machineStep c (planOf c) m (Stop 0) .model .core ≡ m .core
-    unfolding effectOf refusalOf
+    unfolding effectOf elseOf
     stop-core =
         cond-either (λ (o : Outcome). o .model .core ≡ m .core)
         (eqb (Machine.statusOf c (planOf c) m (Stop 0)) done) _ _

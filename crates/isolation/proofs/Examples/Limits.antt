@@ -21,7 +21,7 @@ use Rattle.machine.specs.Model.{Model}
 use Rattle.machine.specs.Arbiter.{arbitrated}
 use Rattle.machine.specs.Cells.{countersTicked, switchesTicked, marks, some, spread, requestsDue}
 use Rattle.machine.specs.Events.{tick}
-use Rattle.machine.specs.Machine.{freshModel, statusOf, effectOf, refusalOf, machineSeen, machineAfter}
+use Rattle.machine.specs.Machine.{freshModel, statusOf, effectOf, elseOf, machineSeen, machineAfter}
 use Rattle.isolation.specs.Above.{Answer, answer, answersAbove}
 use Rattle.isolation.specs.Models.{waitingWith}
 use Rattle.isolation.proofs.Examples.Sample.{sample}
@@ -75,7 +75,7 @@ pub record Limits : Type 0 where
 pub limits : Limits
 unfolding planOf stored marked below tableIn greatestIn entriesBefore has with without union highestBelow winner
     tickCellIn emptyRow topRow secondRow pushRow popRow firstGiven anySet withBits withoutBits arbitrated
-    countersTicked switchesTicked marks some spread requestsDue tick statusOf effectOf refusalOf machineSeen
+    countersTicked switchesTicked marks some spread requestsDue tick statusOf effectOf elseOf machineSeen
     machineAfter answersAbove
 limits =
     record {

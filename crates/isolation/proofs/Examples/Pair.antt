@@ -21,7 +21,7 @@ use Rattle.machine.specs.Model.{Model}
 use Rattle.machine.specs.Arbiter.{arbitrated}
 use Rattle.machine.specs.Cells.{countersTicked, switchesTicked, marks, some, spread, requestsDue}
 use Rattle.machine.specs.Events.{tick}
-use Rattle.machine.specs.Machine.{freshModel, statusOf, effectOf, refusalOf, machineSeen, machineAfter}
+use Rattle.machine.specs.Machine.{freshModel, statusOf, effectOf, elseOf, machineSeen, machineAfter}
 use Rattle.isolation.specs.Above.{AllNameAbove, Answer, answer, answersAbove}
 use Rattle.isolation.specs.Models.{waitingWith, LowRank, SameModel}
 use Rattle.isolation.proofs.Models.Lists.{isolation-models}
@@ -68,7 +68,7 @@ pub record Computed : Type 0 where
 
 pub computed : Computed
 unfolding has with without union highestBelow winner tickCellIn emptyRow topRow secondRow pushRow popRow firstGiven
-    arbitrated countersTicked switchesTicked marks some spread requestsDue tick statusOf effectOf refusalOf
+    arbitrated countersTicked switchesTicked marks some spread requestsDue tick statusOf effectOf elseOf
     machineSeen machineAfter answersAbove
 computed =
     record {

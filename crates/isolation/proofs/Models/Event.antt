@@ -25,7 +25,7 @@ use Rattle.machine.specs.Model.{Model, doneWith}
 use Rattle.machine.specs.Arbiter.{settled, leaving, requesting, triggering, timed, returning}
 use Rattle.machine.specs.Resources.{releasing}
 use Rattle.machine.specs.Events.{bitsAt, dueOf, ticking, tick, pausing, receiving, begunWord, marksOf}
-use Rattle.machine.specs.Machine.{statusOf, effectOf, refusalOf, machineStep}
+use Rattle.machine.specs.Machine.{statusOf, effectOf, elseOf, machineStep}
 use Rattle.isolation.specs.Above.{above, NamesAbove}
 use Rattle.isolation.specs.Models.{waitingWith, LowRank, SameWord, SameLosses, SameModel}
 use Rattle.isolation.proofs.Models.Rank.{high-rank}
@@ -147,8 +147,8 @@ module _ (c : Config) (ok : Configuration.Accepted c) (shaped : Configuration.Sh
     kept = record { rest = refl; requests = same; losses = lost }
 
     refusal-same : (st : ℕ) (e : Event)
-        → SameModel c L (refusalOf c (planOf c) m st e) (refusalOf c (planOf c) other st e)
-    unfolding refusalOf
+        → SameModel c L (elseOf c (planOf c) m st e) (elseOf c (planOf c) other st e)
+    unfolding elseOf
     refusal-same st (Activate t) = kept
     refusal-same st Finish = kept
     refusal-same st (Chain t) = kept

@@ -21,7 +21,7 @@ use Rattle.scheduler.specs.Choice.{Candidate}
 use Rattle.scheduler.specs.State.{State, Table, noBody, bodyOf, changing, withTable, heldIn, among}
 use Rattle.scheduler.specs.Event.{Event, Activate, Finish, Chain, Get, Release, Tick, Line, Start, Stop, Wait, Set, Clear}
 use Rattle.scheduler.specs.Tick.{counting, counted, dues, duesFrom, starting, trigger, enter, activatingDue, ticked}
-use Rattle.scheduler.specs.Call.{noCaller, effectFor, refusalOf, finish, finishTimed}
+use Rattle.scheduler.specs.Call.{noCaller, effectFor, elseOf, finish, finishTimed}
 use Rattle.scheduler.specs.Scheduler.{begins, phaseBegun, dispatchedTo, statusFor, leavesFor}
 use Rattle.isolation.specs.Above.{above, NamesAbove}
 use Rattle.isolation.specs.States.{begunPhase, begunPart, SameState}
@@ -288,7 +288,7 @@ module _ (c : Config) (L : ℕ) where
     effect-same (Clear w) u z =
         follows-begun same (k .number) (clears w) (clears-part w) (begun (first (noCaller k) _ z))
 
-    refusal-same : (st : ℕ) (e : Event) → SameState c L (refusalOf c s st e) (refusalOf c s′ st e)
+    refusal-same : (st : ℕ) (e : Event) → SameState c L (elseOf c s st e) (elseOf c s′ st e)
     refusal-same st (Activate t) = same
     refusal-same st Finish = same
     refusal-same st (Chain t) = same

@@ -16,10 +16,10 @@ use Rattle.scheduler.specs.Body.{isSuspended, loses}
 use Rattle.scheduler.specs.State.{State, bodyOf, changing, runner, among}
 use Rattle.scheduler.specs.Event.{Event, Activate, Finish, Chain, Get, Release, Tick, Line, Start, Stop, Wait, Set, Clear}
 use Rattle.scheduler.specs.Tick.{counted, dues, starting, enter}
-use Rattle.scheduler.specs.Call.{caller, finish, finishTimed, statusOf, effectOf, refusalOf}
+use Rattle.scheduler.specs.Call.{caller, finish, finishTimed, statusOf, effectOf, elseOf}
 use Rattle.scheduler.specs.Scheduler.{dispatched, unstarted, leaves, step, stepBy, fresh, after, afterBy}
 use Rattle.scheduler.proofs.Distinct.{none-among, among-rest}
-use Rattle.scheduler.proofs.Effects.{enters-keep, dispatched-keeps, refusalOf-keeps}
+use Rattle.scheduler.proofs.Effects.{enters-keep, dispatched-keeps, elseOf-keeps}
 use Rattle.scheduler.proofs.Refusals.{Underway, underway-named, underway-step, underway-fresh}
 use Rattle.scheduler.proofs.Named.{timed-body}
 use Rattle.scheduler.proofs.Apart.{Kept, holder, holders, set-holds, step-kept, leaves-kept, fresh-kept}
@@ -63,9 +63,9 @@ module _ (c : Config) where
 
   pub timed-leaves : (s : State) (e : Event) → Timed s → Timed (leaves c s e)
   timed-leaves s e n =
-      cond-either Timed (eqb (statusOf c s e) done) (effectOf c s e) (refusalOf c s (statusOf c s e) e)
+      cond-either Timed (eqb (statusOf c s e) done) (effectOf c s e) (elseOf c s (statusOf c s e) e)
       (timed-effect s e n)
-      (refusalOf-keeps c s Timed n (statusOf c s e) e (λ i _ _ _. n))
+      (elseOf-keeps c s Timed n (statusOf c s e) e (λ i _ _ _. n))
 
   timed-dispatched : (s : State) → Timed s → Timed (dispatched c s)
   timed-dispatched s n = dispatched-keeps Timed (λ i f x h. h) c s n

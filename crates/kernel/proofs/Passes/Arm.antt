@@ -21,7 +21,7 @@ use Rattle.event.specs.Event.{lastCode, known, arguments, event, accepted, read
 use Rattle.plan.specs.declared.Plan.{Plan}
 use Rattle.machine.specs.Model.{Model, Outcome}
 use Rattle.machine.specs.Events.{activate, finish, chain, get, release, tick, line, start, stop, wait, setEvent, clear}
-use Rattle.machine.specs.Machine.{statusOf, effectOf, refusalOf, machineStep}
+use Rattle.machine.specs.Machine.{statusOf, effectOf, elseOf, machineStep}
 use Rattle.run.specs.Run.{callOf}
 use Rattle.kernel.proofs.Passes.Read.{PairAt, none-read, one-read, two-read}
 
@@ -73,63 +73,63 @@ module _ {c : Config} {p : Plan} {ts : List ℕ} {m : Model} {at : ℕ} (inside 
     module _ {next : ℕ} {o : Outcome} where
       pub activate-arm : getD ts at 0 ≡ 1 → {a : NumberRead} → a ≡ readNumber ts (at + 1)
           → o ≡ activate (p .callable) (p .priority) m (a .value) → next ≡ a .place → Arm c p ts m at next o
-      unfolding known arguments callOf statusOf effectOf refusalOf activate
+      unfolding known arguments callOf statusOf effectOf elseOf activate
       activate-arm code read stepped after = arm-one 1 refl code refl read stepped after
 
       pub finish-arm : getD ts at 0 ≡ 2 → o ≡ finish (p .priority) m → next ≡ at + 1 → Arm c p ts m at next o
-      unfolding known arguments callOf statusOf effectOf refusalOf finish
+      unfolding known arguments callOf statusOf effectOf elseOf finish
       finish-arm code stepped after = arm-none 2 refl code refl stepped after
 
       pub chain-arm : getD ts at 0 ≡ 3 → {a : NumberRead} → a ≡ readNumber ts (at + 1)
           → o ≡ chain (p .isrs) (p .callable) (p .priority) m (a .value) → next ≡ a .place → Arm c p ts m at next o
-      unfolding known arguments callOf statusOf effectOf refusalOf chain
+      unfolding known arguments callOf statusOf effectOf elseOf chain
       chain-arm code read stepped after = arm-one 3 refl code refl read stepped after
 
       pub get-arm : getD ts at 0 ≡ 4 → {a : NumberRead} → a ≡ readNumber ts (at + 1)
           → o ≡ get (c .resources) (p .users) (p .ceiling) m (a .value) → next ≡ a .place → Arm c p ts m at next o
-      unfolding known arguments callOf statusOf effectOf refusalOf get
+      unfolding known arguments callOf statusOf effectOf elseOf get
       get-arm code read stepped after = arm-one 4 refl code refl read stepped after
 
       pub release-arm : getD ts at 0 ≡ 5 → {a : NumberRead} → a ≡ readNumber ts (at + 1)
           → o ≡ release (c .resources) (p .priority) m (a .value) → next ≡ a .place → Arm c p ts m at next o
-      unfolding known arguments callOf statusOf effectOf refusalOf release
+      unfolding known arguments callOf statusOf effectOf elseOf release
       release-arm code read stepped after = arm-one 5 refl code refl read stepped after
 
       pub tick-arm : getD ts at 0 ≡ 6 → o ≡ tick (p .compare) (p .entry) (p .priority) m → next ≡ at + 1
           → Arm c p ts m at next o
-      unfolding known arguments callOf statusOf effectOf refusalOf tick
+      unfolding known arguments callOf statusOf effectOf elseOf tick
       tick-arm code stepped after = arm-none 6 refl code refl stepped after
 
       pub line-arm : getD ts at 0 ≡ 7 → {a : NumberRead} → a ≡ readNumber ts (at + 1)
           → o ≡ line (countsLines c) (p .line) (p .priority) m (a .value) → next ≡ a .place → Arm c p ts m at next o
-      unfolding known arguments callOf statusOf effectOf refusalOf line
+      unfolding known arguments callOf statusOf effectOf elseOf line
       line-arm code read stepped after = arm-one 7 refl code refl read stepped after
 
       pub start-arm : getD ts at 0 ≡ 8 → {a : Pair} → PairAt ts (at + 1) a
           → o ≡ start (c .tables) (p .first) (c .entries) (c .period) (c .offset) m (a .first) (a .second)
           → next ≡ a .place → Arm c p ts m at next o
-      unfolding known arguments callOf statusOf effectOf refusalOf start
+      unfolding known arguments callOf statusOf effectOf elseOf start
       start-arm code read stepped after = arm-two 8 refl code refl read stepped after
 
       pub stop-arm : getD ts at 0 ≡ 9 → {a : NumberRead} → a ≡ readNumber ts (at + 1)
           → o ≡ stop (c .tables) (p .first) (c .entries) m (a .value) → next ≡ a .place → Arm c p ts m at next o
-      unfolding known arguments callOf statusOf effectOf refusalOf stop
+      unfolding known arguments callOf statusOf effectOf elseOf stop
       stop-arm code read stepped after = arm-one 9 refl code refl read stepped after
 
       pub wait-arm : getD ts at 0 ≡ 10 → {a : NumberRead} → a ≡ readNumber ts (at + 1)
           → o ≡ wait (p .extended) (p .priority) m (a .value) → next ≡ a .place → Arm c p ts m at next o
-      unfolding known arguments callOf statusOf effectOf refusalOf wait
+      unfolding known arguments callOf statusOf effectOf elseOf wait
       wait-arm code read stepped after = arm-one 10 refl code refl read stepped after
 
       pub set-arm : getD ts at 0 ≡ 11 → {a : Pair} → PairAt ts (at + 1) a
           → o ≡ setEvent (p .isrs) (p .extended) (p .rank) (p .priority) m (a .first) (a .second) → next ≡ a .place
           → Arm c p ts m at next o
-      unfolding known arguments callOf statusOf effectOf refusalOf setEvent
+      unfolding known arguments callOf statusOf effectOf elseOf setEvent
       set-arm code read stepped after = arm-two 11 refl code refl read stepped after
 
       pub clear-arm : getD ts at 0 ≡ 12 → {a : NumberRead} → a ≡ readNumber ts (at + 1)
           → o ≡ clear (p .extended) m (a .value) → next ≡ a .place → Arm c p ts m at next o
-      unfolding known arguments callOf statusOf effectOf refusalOf clear
+      unfolding known arguments callOf statusOf effectOf elseOf clear
       clear-arm code read stepped after = arm-one 12 refl code refl read stepped after
 
 past : (n : ℕ) {k : ℕ} → n ≤ k → (k ≡ n → ⊥) → n < k

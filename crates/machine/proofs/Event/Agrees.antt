@@ -26,7 +26,7 @@ use Rattle.scheduler.specs.Body.{Phase, started, waiting, triggered, isSuspende
 use Rattle.scheduler.specs.Choice.{Candidate, byHolding, chosen}
 use Rattle.scheduler.specs.State.{State, noBody, runner, changing, latestOf}
 use Rattle.scheduler.specs.Event.{isTick}
-use Rattle.scheduler.specs.Call.{nobodyRuns, nobodyCalls, caller, statusOf, effectOf, refusalOf}
+use Rattle.scheduler.specs.Call.{nobodyRuns, nobodyCalls, caller, statusOf, effectOf, elseOf}
 use Rattle.scheduler.specs.Tick.{dues}
 use Rattle.scheduler.specs.Scheduler as Plain
 use Rattle.scheduler.specs.Scheduler.{Event, step, stepBy, begins, phaseBegun, dispatched, ending, noneDue, markOf}
@@ -221,7 +221,7 @@ pub record Enters (c : Config) (rk : ℕ → ℕ) (m : Model) (s : State) (j : �
 -- the dispatch of a Tick a task may have been triggered that has still to begin
 pub record Keeps (c : Config) (s : State) : Type 0 where
   pub effect : (e : Event) → isTick e ≡ false → statusOf c s e ≡ done → Orderly c (effectOf c s e)
-  pub refusal : (e : Event) → Orderly c (refusalOf c s (statusOf c s e) e)
+  pub refusal : (e : Event) → Orderly c (elseOf c s (statusOf c s e) e)
   pub next : (e : Event) → Orderly c (step c s e .state)
 
 -- the runner, body b of the nest, as both sides see it

@@ -26,7 +26,7 @@ use Rattle.machine.specs.Model.{Core, Model, noRank, withBegun, doneWith
 use Rattle.machine.specs.Arbiter.{settled}
 use Rattle.machine.specs.Events as Machine
 use Rattle.machine.specs.Events.{bitsAt, pausing, receiving, clearing}
-use Rattle.machine.specs.Machine.{statusOf, effectOf, refusalOf}
+use Rattle.machine.specs.Machine.{statusOf, effectOf, elseOf}
 use Rattle.plan.proofs.Fitted.{Fitted}
 use Rattle.machine.proofs.Relation.Words.{at, busy-is, words-changed, marks-same, unmoved-same, started-competes, competes-active}
 use Rattle.machine.proofs.Relation.Losses.{lost-same}
@@ -103,7 +103,7 @@ module _ {c : Config} {p : Plan} {rk : ℕ → ℕ} (fit : Fitted c p rk) {m : M
       (paused-noted k w)
 
   pub agrees-wait : (w : ℕ) → Agrees c p rk m s (Wait w)
-  unfolding statusOf effectOf refusalOf stepBy
+  unfolding statusOf effectOf elseOf stepBy
   agrees-wait w =
       agrees-attempt fit sim keeps long (Wait w) (Machine.waitEffect (p .priority) m w) (wait (caller c s) w s)
       refl refl refl (wait-status w)
@@ -146,7 +146,7 @@ module _ {c : Config} {p : Plan} {rk : ℕ → ℕ} (fit : Fitted c p rk) {m : M
       (λ _. refl))))
 
   pub agrees-set : (t w : ℕ) → Agrees c p rk m s (Set t w)
-  unfolding statusOf effectOf refusalOf stepBy
+  unfolding statusOf effectOf elseOf stepBy
   agrees-set t w =
       agrees-attempt fit sim keeps long (Set t w)
       (settled (p .priority) (receiving (getD (p .rank) t noRank) w m)) (setEvent t w s)
@@ -189,7 +189,7 @@ module _ {c : Config} {p : Plan} {rk : ℕ → ℕ} (fit : Fitted c p rk) {m : M
       same = withBegun (m .core) (m .core .started) (m .core .aside)
 
   pub agrees-clear : (w : ℕ) → Agrees c p rk m s (Clear w)
-  unfolding statusOf effectOf refusalOf stepBy
+  unfolding statusOf effectOf elseOf stepBy
   agrees-clear w =
       agrees-attempt fit sim keeps long (Clear w) (doneWith (clearing w m) false) (clear (caller c s) w s)
       refl refl refl (clear-status w)

@@ -32,7 +32,7 @@ use Rattle.machine.specs.Arbiter.{settled, leaving, requesting, timed, r
 use Rattle.machine.specs.Resources.{holding}
 use Rattle.machine.specs.Cells.{oneLost}
 use Rattle.machine.specs.Events as Machine
-use Rattle.machine.specs.Machine.{statusOf, effectOf, refusalOf}
+use Rattle.machine.specs.Machine.{statusOf, effectOf, elseOf}
 use Rattle.plan.proofs.Fitted.{Fitted}
 use Rattle.machine.proofs.Relation.Words.{at, wants, isAside, busy-is}
 use Rattle.machine.proofs.Relation.Rows.{Shows, row-shows-popped}
@@ -95,7 +95,7 @@ module _ {c : Config} {p : Plan} {rk : ℕ → ℕ} (fit : Fitted c p rk) where
 
     -- Activate
     pub agrees-activate : (t : ℕ) → Agrees c p rk m s (Activate t)
-    unfolding statusOf effectOf refusalOf stepBy
+    unfolding statusOf effectOf elseOf stepBy
     agrees-activate t =
         agrees-attempt fit sim keeps long (Activate t)
         (settled (p .priority) (requesting (getD (p .callable) t noRank) m)) (activate t s)
@@ -149,10 +149,10 @@ module _ {c : Config} {p : Plan} {rk : ℕ → ℕ} (fit : Fitted c p rk) where
 
     -- what a refused Line leaves on the two sides
     abbrev lineLeft : ℕ → Model
-    lineLeft i = Machine.lineRefusal (countsLines c) (p .line) m i (lineStatus c s i)
+    lineLeft i = Machine.lineElse (countsLines c) (p .line) m i (lineStatus c s i)
 
     abbrev plainLeft : ℕ → State
-    plainLeft i = Plain.refusalOf c s (lineStatus c s i) (Line i)
+    plainLeft i = Plain.elseOf c s (lineStatus c s i) (Line i)
 
     line-refused : (i : ℕ) → Sim c p rk (lineLeft i) (plainLeft i)
     line-refused i = by-test (isIsr c i) of-isr (λ e. rw (no-line i e) (rw (and-false (countsLines c)) sim))
@@ -187,11 +187,11 @@ module _ {c : Config} {p : Plan} {rk : ℕ → ℕ} (fit : Fitted c p rk) where
     line-noted i i< (triggered false) e h = absurd (true≢false (rw e at h))
 
     pub agrees-line : (i : ℕ) → Agrees c p rk m s (Line i)
-    unfolding statusOf effectOf refusalOf stepBy
+    unfolding statusOf effectOf elseOf stepBy
     agrees-line i =
         agrees-either fit sim keeps long (Line i)
         (settled (p .priority) (requesting (getD (p .line) i noRank) m)) (line i s)
-        (Machine.lineRefusal (countsLines c) (p .line) m i (Machine.lineStatus (p .line) m i)) (plainLeft i)
+        (Machine.lineElse (countsLines c) (p .line) m i (Machine.lineStatus (p .line) m i)) (plainLeft i)
         refl refl refl (line-status i)
         (λ z.
         let a = line-passed c s i z in
@@ -296,7 +296,7 @@ module _ {c : Config} {p : Plan} {rk : ℕ → ℕ} (fit : Fitted c p rk) where
             (latest-free (sim .orderly) j js (k .order-is)) row exist))
 
     pub agrees-finish : Agrees c p rk m s Finish
-    unfolding statusOf effectOf refusalOf stepBy
+    unfolding statusOf effectOf elseOf stepBy
     agrees-finish =
         agrees-attempt fit sim keeps long Finish
         (Machine.finishEffect (p .priority) m) (effect (runner c s .timed))
@@ -385,7 +385,7 @@ module _ {c : Config} {p : Plan} {rk : ℕ → ℕ} (fit : Fitted c p rk) where
           out = cond-either (λ (x : Body). eventBits x ≡ 0) (calling c s .pending) _ _ refl refl
 
     pub agrees-chain : (t : ℕ) → Agrees c p rk m s (Chain t)
-    unfolding statusOf effectOf refusalOf stepBy
+    unfolding statusOf effectOf elseOf stepBy
     agrees-chain t =
         agrees-attempt fit sim keeps long (Chain t)
         (settled (p .priority) (requesting (getD (p .callable) t noRank) (leaving m))) (chain (caller c s) t s)

@@ -24,7 +24,7 @@ use Rattle.machine.specs.Model.{Model, doneWith}
 use Rattle.machine.specs.Arbiter.{settled}
 use Rattle.machine.specs.Resources.{getting, releasing}
 use Rattle.machine.specs.Events as Machine
-use Rattle.machine.specs.Machine.{statusOf, effectOf, refusalOf}
+use Rattle.machine.specs.Machine.{statusOf, effectOf, elseOf}
 use Rattle.plan.proofs.Fitted.{Fitted}
 use Rattle.machine.proofs.Relation.Words.{at, started-competes}
 use Rattle.machine.proofs.Relation.Slots.{Slot, slotsFor, slotsAlong, resourcesIn}
@@ -165,7 +165,7 @@ module _ {c : Config} {p : Plan} {rk : ℕ → ℕ} (fit : Fitted c p rk) {m : M
   raised r = max (getD (p .ceiling) r 0) (m .core .level)
 
   pub agrees-get : (r : ℕ) → Agrees c p rk m s (Get r)
-  unfolding statusOf effectOf refusalOf stepBy
+  unfolding statusOf effectOf elseOf stepBy
   agrees-get r =
       agrees-attempt fit sim keeps long (Get r) (doneWith (getting r (raised r) m) false) (get (caller c s) r s)
       refl refl refl (get-status r)
@@ -196,7 +196,7 @@ module _ {c : Config} {p : Plan} {rk : ℕ → ℕ} (fit : Fitted c p rk) {m : M
       (λ _. refl)))
 
   pub agrees-release : (r : ℕ) → Agrees c p rk m s (Release r)
-  unfolding statusOf effectOf refusalOf stepBy
+  unfolding statusOf effectOf elseOf stepBy
   agrees-release r =
       agrees-attempt fit sim keeps long (Release r)
       (settled (p .priority) (releasing (p .priority) r m)) (release (caller c s) s)

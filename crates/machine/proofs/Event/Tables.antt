@@ -30,7 +30,7 @@ use Rattle.machine.specs.Model.{Model, withCells, doneWith}
 use Rattle.machine.specs.Cells.{switchOff, isOn, hasTurn, switchFor, cellAt, spread, someLong}
 use Rattle.machine.specs.Events as Machine
 use Rattle.machine.specs.Events.{runs, cellCount, starting, stopping}
-use Rattle.machine.specs.Machine.{statusOf, effectOf, refusalOf, cellIn}
+use Rattle.machine.specs.Machine.{statusOf, effectOf, elseOf, cellIn}
 use Rattle.plan.proofs.Fitted.{Fitted}
 use Rattle.machine.proofs.Relation.Cells.{CellFits, CellsTied, CellsOf}
 use Rattle.machine.proofs.Relation.Whole.{Sim}
@@ -251,7 +251,7 @@ module _ {c : Config} {p : Plan} {rk : ℕ → ℕ} (fit : Fitted c p rk) {m : M
         u e u< n low high)
 
   pub agrees-start : (t d : ℕ) → Agrees c p rk m s (Start t d)
-  unfolding statusOf effectOf refusalOf stepBy
+  unfolding statusOf effectOf elseOf stepBy
   agrees-start t d =
       agrees-attempt fit sim keeps long (Start t d) (doneWith (launching t d) false) (start t d s)
       refl refl refl (start-status t d)
@@ -293,7 +293,7 @@ module _ {c : Config} {p : Plan} {rk : ℕ → ℕ} (fit : Fitted c p rk) {m : M
         (other-cell fit t t< (sim .cells) (λ _. 0) (λ _. switchOff) (m .turning) (λ w. w) u e u< n low high)
 
   pub agrees-stop : (t : ℕ) → Agrees c p rk m s (Stop t)
-  unfolding statusOf effectOf refusalOf stepBy
+  unfolding statusOf effectOf elseOf stepBy
   agrees-stop t =
       agrees-attempt fit sim keeps long (Stop t) (doneWith (halting t) false) (stop t s)
       refl refl refl (stop-status t)

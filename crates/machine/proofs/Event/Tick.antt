@@ -28,7 +28,7 @@ use Rattle.machine.specs.Model.{Model, withCore, withRequest, withRest, 
 use Rattle.machine.specs.Arbiter.{bids, settled, launching}
 use Rattle.machine.specs.Cells.{Tally, oneLost, matchAt, requestsDue}
 use Rattle.machine.specs.Events.{begunWord, marksOf, dueOf, ticking, tick}
-use Rattle.machine.specs.Machine.{statusOf, effectOf, refusalOf}
+use Rattle.machine.specs.Machine.{statusOf, effectOf, elseOf}
 use Rattle.plan.proofs.Fitted.{Fitted}
 use Rattle.machine.proofs.Relation.Rows.{Shows, row-shows-pushed}
 use Rattle.machine.proofs.Relation.Words.{at, isAside, busy-is}
@@ -209,7 +209,7 @@ module _ {c : Config} {p : Plan} {rk : ℕ → ℕ} (fit : Fitted c p rk) {m : M
 
   -- no time-triggered task is started: the highest by priority is dispatched
   plain-tick : then .order ≡ s .order → Orderly c then → Agrees c p rk m s Tick
-  unfolding statusOf effectOf refusalOf tick stepBy firstGiven
+  unfolding statusOf effectOf elseOf tick stepBy firstGiven
   plain-tick same o =
       let t : Tied c rk now (then .bodies) (then .order) (sim .nest) = rw same ticked-tied in
       let row : Shows (rowBytes (now .triggered)) (map rk (then .order)) = rw same (sim .row) in
@@ -218,7 +218,7 @@ module _ {c : Config} {p : Plan} {rk : ℕ → ℕ} (fit : Fitted c p rk) {m : M
 
   -- one is
   timed-tick : (j : ℕ) → Started c s j → Agrees c p rk m s Tick
-  unfolding statusOf effectOf refusalOf tick stepBy firstGiven
+  unfolding statusOf effectOf elseOf tick stepBy firstGiven
   timed-tick j y =
       agrees fit Tick (doneWith (launching now) true) done ms then
       (launches fit ticked-tied j (y .in-range) (y .timed) (y .to-begin) task others) refl

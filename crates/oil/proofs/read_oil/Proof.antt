@@ -1,6 +1,6 @@
--- `read_oil` meets its contract: the words come before the uses.
+-- `read_oil` meets its contract: the tokens come before the uses.
 use Rattle.oil_grammar.proofs.Places.{walked-place}
-use Rattle.oil.proofs.Answer.{words-in-order, words-refused}
+use Rattle.oil.proofs.Answer.{tokens-in-order, tokens-refused}
 use borrow.Author.Needs.{needs}
 use Rattle.oil.proofs.read_oil.Statement.{statement}
 use Rattle.oil.proofs.read_oil.Tie as tie
@@ -12,13 +12,13 @@ refused-requires c κs =
 returns : tie.Need-returns
 returns c =
     let v = c .before .before .before .walk in
-    words-in-order (c .before .before .before .before .before .args .text .now) (v .ensures)
-    (c .before .if1 .taken) (c .after-words .ensures)
+    tokens-in-order (c .before .before .before .before .before .args .text .now) (v .ensures)
+    (c .before .if1 .taken) (c .after-tokens .ensures)
 
 returns-2 : tie.Need-returns-2
 returns-2 c =
     let v = c .before .before .before .walk in
-    words-refused (c .before .before .before .before .before .args .text .now) (v .ensures)
+    tokens-refused (c .before .before .before .before .before .args .text .now) (v .ensures)
     (c .before .if1 .left) (c .refused .ensures)
 
 pub read-oil-spec : {M : Type 1} → statement M

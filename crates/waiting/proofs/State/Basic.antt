@@ -24,7 +24,7 @@ use Rattle.scheduler.specs.Scheduler.{begins, phaseBegun, dispatched, newBody, 
 use Rattle.scheduler.specs.History.{AcceptedIn}
 use Rattle.scheduler.proofs.Choice.{Taken, no-one, body, chosen-from, candidate-active, runner-untimed}
 use Rattle.scheduler.proofs.Checks.{activate-passed, chain-passed, wait-passed}
-use Rattle.scheduler.proofs.Effects.{bodyOf-changing-same, bodyOf-changing-other, length-changing, refusalOf-keeps, enters-keep}
+use Rattle.scheduler.proofs.Effects.{bodyOf-changing-same, bodyOf-changing-other, length-changing, elseOf-keeps, enters-keep}
 use Rattle.waiting.proofs.State.BasicKinds.{Basic}
 
 -- suspended, ready or started, and only a started one has a request waiting besides
@@ -189,7 +189,7 @@ module _ (c : Config) where
         (by-eq (statusOf c s e) done
         (λ a. rw (eq-eqb (statusOf c s e) done a) (effect-basic r e a))
         (λ n. rw (ne-eqb (statusOf c s e) done n)
-        (refusalOf-keeps c s BasicState r (statusOf c s e) e
+        (elseOf-keeps c s BasicState r (statusOf c s e) e
         (λ i _ _ _. changing-basic r i loses (r .bodies i)))))
 
     after-basic : (es : List Event) (s : State) → BasicState s → BasicState (after c s es)

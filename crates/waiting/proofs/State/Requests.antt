@@ -21,7 +21,7 @@ use Rattle.scheduler.specs.Call.{caller, finish, finishTimed, statusOf, effectO
 use Rattle.scheduler.specs.Scheduler.{begins, phaseBegun, dispatched, newBody, unstarted, leaves, step, stepBy, fresh, after, afterBy}
 use Rattle.scheduler.specs.History.{AcceptedIn}
 use Rattle.scheduler.proofs.Checks.{line-passed}
-use Rattle.scheduler.proofs.Effects.{bodyOf-changing-same, bodyOf-changing-other, length-changing, refusalOf-keeps, entered, activatingDue-keeps}
+use Rattle.scheduler.proofs.Effects.{bodyOf-changing-same, bodyOf-changing-other, length-changing, elseOf-keeps, entered, activatingDue-keeps}
 
 module _ (c : Config) where
   abbrev IsrsOnly : State → Type 0
@@ -96,7 +96,7 @@ module _ (c : Config) where
       (by-eq (statusOf c s e) done
       (λ a. rw (eq-eqb (statusOf c s e) done a) (isrs-only-effect s r e a))
       (λ n. rw (ne-eqb (statusOf c s e) done n)
-      (refusalOf-keeps c s IsrsOnly r (statusOf c s e) e (λ i _ _ _. isrs-only-changing i loses s r (r i)))))
+      (elseOf-keeps c s IsrsOnly r (statusOf c s e) e (λ i _ _ _. isrs-only-changing i loses s r (r i)))))
 
   isrs-only-from : (es : List Event) (s : State) → IsrsOnly s → IsrsOnly (after c s es)
   unfolding afterBy

@@ -1,6 +1,6 @@
 -- `sign` meets its contract: by the four comparisons.
 use borrow.Author.Tests.{eq-eqb, ne-eqb}
-use Rattle.oil_grammar.specs.Word.{signOf}
+use Rattle.oil_grammar.specs.Token.{signOf}
 use Rattle.oil.proofs.bytes.sign.Statement.{statement}
 use Rattle.oil.proofs.bytes.sign.Tie as tie
 

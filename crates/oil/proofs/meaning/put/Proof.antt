@@ -7,25 +7,25 @@ use Rattle.config.specs.Value.{withPriority, withAutostart}
 use Rattle.oil_grammar.specs.declared.Want.{Want}
 use Rattle.oil_grammar.specs.declared.Want.the-variants.{Object, Name, Open, Attribute, PriorityEquals, PriorityNumber, AutostartEquals, AutostartValue, UseEquals, Use, AttributeEnd, ObjectEnd}
 use Rattle.oil_grammar.specs.Next.{spelling}
-use Rattle.oil_grammar.specs.Machine.{fresh}
+use Rattle.oil_grammar.specs.Automaton.{fresh}
 use Rattle.oil_grammar.specs.Walk.{mask, putAt, put}
 use Rattle.oil.proofs.Walks.{put-at}
 use borrow.Author.Needs.{needs}
 use Rattle.oil.proofs.meaning.put.Statement.{statement}
 use Rattle.oil.proofs.meaning.put.Tie as tie
 
--- the masks of the resources by their names, and what the word spells
+-- the masks of the resources by their names, and what the token spells
 abbrev masks : tie.Start → List ℕ → ℕ
-masks k x = mask (k .args .words) (k .args .text .now) 0 fresh x 0 0
+masks k x = mask (k .args .tokens) (k .args .text .now) 0 fresh x 0 0
 
-abbrev word : tie.Start → List ℕ
-word k = spelling (k .args .text .now) (k .args .w)
+abbrev token : tie.Start → List ℕ
+token k = spelling (k .args .text .now) (k .args .w)
 
 -- the arm of the want v
 arm : (k : tie.Start) (v : Want) → k .args .s .want ≡ v → {r : Config}
-    → r ≡ putAt v (masks k) (k .args .s) (k .args .c) (k .args .w .sort) (word k)
-    → r ≡ put (masks k) (k .args .s) (k .args .c) (k .args .w .sort) (word k)
-arm k v e {r} = put-at (masks k) (k .args .s) (k .args .c) (k .args .w .sort) (word k) v e r
+    → r ≡ putAt v (masks k) (k .args .s) (k .args .c) (k .args .w .sort) (token k)
+    → r ≡ put (masks k) (k .args .s) (k .args .c) (k .args .w .sort) (token k)
+arm k v e {r} = put-at (masks k) (k .args .s) (k .args .c) (k .args .w .sort) (token k) v e r
 
 returns-6 : tie.Need-returns-6
 unfolding putAt

@@ -1,4 +1,4 @@
--- `start_of` meets its contract: by the word's sort.
+-- `start_of` meets its contract: by the token's sort.
 use borrow.Author.Tests.{eq-eqb, ne-eqb}
 use Rattle.oil.proofs.meaning.start_of.Statement.{statement}
 use Rattle.oil.proofs.meaning.start_of.Tie as tie

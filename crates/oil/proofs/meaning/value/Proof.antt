@@ -3,7 +3,7 @@ use Prim.Native.Nat.{_-_, _≤_}
 use mathlib.Core.Path.{_≡_, refl, _∙_}
 use native.Mathlib.Omega.{arith}
 use lib.ListN.{take, drop}
-use Rattle.oil_grammar.specs.Word.{decimal}
+use Rattle.oil_grammar.specs.Token.{decimal}
 use Rattle.oil_grammar.specs.Meaning.{held}
 use borrow.Author.Needs.{needs}
 use Rattle.oil.proofs.Digits.{digits-step, digits-done}

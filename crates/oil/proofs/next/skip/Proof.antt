@@ -1,4 +1,4 @@
--- `skip` meets its contract: the next word from `at` on begins where that from `i` on does.
+-- `skip` meets its contract: the next token from `at` on begins where that from `i` on does.
 use Prim.Native.Nat.{_-_, _≤_}
 use mathlib.Core.Path.{_≡_, refl, sym, _∙_}
 use native.Mathlib.Omega.{arith}

@@ -1,9 +1,9 @@
--- `spelled_sort` meets its contract: the first of OIL's words that is the same.
+-- `spelled_sort` meets its contract: the first of OIL's tokens that is the same.
 use Prim.Native.Nat.{ℕ}
 use mathlib.Core.Path.{_≡_, sym, _∙_}
 use mathlib.Core.Bool.{Bool, true}
 use mathlib.Core.List.{List}
-use Rattle.oil_grammar.specs.Word.{same, spelledSort, taskWord, isrWord, resourceWord, priorityWord, autostartWord, trueWord, falseWord}
+use Rattle.oil_grammar.specs.Token.{same, spelledSort, taskToken, isrToken, resourceToken, priorityToken, autostartToken, trueToken, falseToken}
 use Rattle.oil_grammar.proofs.Spelling.{same-result}
 use borrow.Author.Needs.{needs}
 use Rattle.oil.proofs.next.spelled_sort.Statement.{statement}
@@ -18,8 +18,8 @@ unfolding spelledSort
 returns-2 c =
     let e₁ = c .before .before .before in
     simp (
-      tested taskWord (e₁ .before .same .ensures) (e₁ .if1 .left),
-      tested isrWord (c .before .same2 .ensures) (c .if2 .taken),
+      tested taskToken (e₁ .before .same .ensures) (e₁ .if1 .left),
+      tested isrToken (c .before .same2 .ensures) (c .if2 .taken),
     )
 
 returns-3 : tie.Need-returns-3
@@ -27,9 +27,9 @@ unfolding spelledSort
 returns-3 c =
     let e₂ = c .before .before .before in let e₁ = e₂ .before .before .before in
     simp (
-      tested taskWord (e₁ .before .same .ensures) (e₁ .if1 .left),
-      tested isrWord (e₂ .before .same2 .ensures) (e₂ .if2 .left),
-      tested resourceWord (c .before .same3 .ensures) (c .if3 .taken),
+      tested taskToken (e₁ .before .same .ensures) (e₁ .if1 .left),
+      tested isrToken (e₂ .before .same2 .ensures) (e₂ .if2 .left),
+      tested resourceToken (c .before .same3 .ensures) (c .if3 .taken),
     )
 
 returns-4 : tie.Need-returns-4
@@ -38,10 +38,10 @@ returns-4 c =
     let e₃ = c .before .before .before in let e₂ = e₃ .before .before .before in
     let e₁ = e₂ .before .before .before in
     simp (
-      tested taskWord (e₁ .before .same .ensures) (e₁ .if1 .left),
-      tested isrWord (e₂ .before .same2 .ensures) (e₂ .if2 .left),
-      tested resourceWord (e₃ .before .same3 .ensures) (e₃ .if3 .left),
-      tested priorityWord (c .before .same4 .ensures) (c .if4 .taken),
+      tested taskToken (e₁ .before .same .ensures) (e₁ .if1 .left),
+      tested isrToken (e₂ .before .same2 .ensures) (e₂ .if2 .left),
+      tested resourceToken (e₃ .before .same3 .ensures) (e₃ .if3 .left),
+      tested priorityToken (c .before .same4 .ensures) (c .if4 .taken),
     )
 
 returns-5 : tie.Need-returns-5
@@ -50,11 +50,11 @@ returns-5 c =
     let e₄ = c .before .before .before in let e₃ = e₄ .before .before .before in
     let e₂ = e₃ .before .before .before in let e₁ = e₂ .before .before .before in
     simp (
-      tested taskWord (e₁ .before .same .ensures) (e₁ .if1 .left),
-      tested isrWord (e₂ .before .same2 .ensures) (e₂ .if2 .left),
-      tested resourceWord (e₃ .before .same3 .ensures) (e₃ .if3 .left),
-      tested priorityWord (e₄ .before .same4 .ensures) (e₄ .if4 .left),
-      tested autostartWord (c .before .same5 .ensures) (c .if5 .taken),
+      tested taskToken (e₁ .before .same .ensures) (e₁ .if1 .left),
+      tested isrToken (e₂ .before .same2 .ensures) (e₂ .if2 .left),
+      tested resourceToken (e₃ .before .same3 .ensures) (e₃ .if3 .left),
+      tested priorityToken (e₄ .before .same4 .ensures) (e₄ .if4 .left),
+      tested autostartToken (c .before .same5 .ensures) (c .if5 .taken),
     )
 
 returns-6 : tie.Need-returns-6
@@ -64,12 +64,12 @@ returns-6 c =
     let e₃ = e₄ .before .before .before in let e₂ = e₃ .before .before .before in
     let e₁ = e₂ .before .before .before in
     simp (
-      tested taskWord (e₁ .before .same .ensures) (e₁ .if1 .left),
-      tested isrWord (e₂ .before .same2 .ensures) (e₂ .if2 .left),
-      tested resourceWord (e₃ .before .same3 .ensures) (e₃ .if3 .left),
-      tested priorityWord (e₄ .before .same4 .ensures) (e₄ .if4 .left),
-      tested autostartWord (e₅ .before .same5 .ensures) (e₅ .if5 .left),
-      tested trueWord (c .before .same6 .ensures) (c .if6 .taken),
+      tested taskToken (e₁ .before .same .ensures) (e₁ .if1 .left),
+      tested isrToken (e₂ .before .same2 .ensures) (e₂ .if2 .left),
+      tested resourceToken (e₃ .before .same3 .ensures) (e₃ .if3 .left),
+      tested priorityToken (e₄ .before .same4 .ensures) (e₄ .if4 .left),
+      tested autostartToken (e₅ .before .same5 .ensures) (e₅ .if5 .left),
+      tested trueToken (c .before .same6 .ensures) (c .if6 .taken),
     )
 
 returns-7 : tie.Need-returns-7
@@ -79,13 +79,13 @@ returns-7 c =
     let e₄ = e₅ .before .before .before in let e₃ = e₄ .before .before .before in
     let e₂ = e₃ .before .before .before in let e₁ = e₂ .before .before .before in
     simp (
-      tested taskWord (e₁ .before .same .ensures) (e₁ .if1 .left),
-      tested isrWord (e₂ .before .same2 .ensures) (e₂ .if2 .left),
-      tested resourceWord (e₃ .before .same3 .ensures) (e₃ .if3 .left),
-      tested priorityWord (e₄ .before .same4 .ensures) (e₄ .if4 .left),
-      tested autostartWord (e₅ .before .same5 .ensures) (e₅ .if5 .left),
-      tested trueWord (e₆ .before .same6 .ensures) (e₆ .if6 .left),
-      tested falseWord (c .before .same7 .ensures) (c .if7 .taken),
+      tested taskToken (e₁ .before .same .ensures) (e₁ .if1 .left),
+      tested isrToken (e₂ .before .same2 .ensures) (e₂ .if2 .left),
+      tested resourceToken (e₃ .before .same3 .ensures) (e₃ .if3 .left),
+      tested priorityToken (e₄ .before .same4 .ensures) (e₄ .if4 .left),
+      tested autostartToken (e₅ .before .same5 .ensures) (e₅ .if5 .left),
+      tested trueToken (e₆ .before .same6 .ensures) (e₆ .if6 .left),
+      tested falseToken (c .before .same7 .ensures) (c .if7 .taken),
     )
 
 returns-8 : tie.Need-returns-8
@@ -95,13 +95,13 @@ returns-8 c =
     let e₄ = e₅ .before .before .before in let e₃ = e₄ .before .before .before in
     let e₂ = e₃ .before .before .before in let e₁ = e₂ .before .before .before in
     simp (
-      tested taskWord (e₁ .before .same .ensures) (e₁ .if1 .left),
-      tested isrWord (e₂ .before .same2 .ensures) (e₂ .if2 .left),
-      tested resourceWord (e₃ .before .same3 .ensures) (e₃ .if3 .left),
-      tested priorityWord (e₄ .before .same4 .ensures) (e₄ .if4 .left),
-      tested autostartWord (e₅ .before .same5 .ensures) (e₅ .if5 .left),
-      tested trueWord (e₆ .before .same6 .ensures) (e₆ .if6 .left),
-      tested falseWord (c .before .same7 .ensures) (c .if7 .left),
+      tested taskToken (e₁ .before .same .ensures) (e₁ .if1 .left),
+      tested isrToken (e₂ .before .same2 .ensures) (e₂ .if2 .left),
+      tested resourceToken (e₃ .before .same3 .ensures) (e₃ .if3 .left),
+      tested priorityToken (e₄ .before .same4 .ensures) (e₄ .if4 .left),
+      tested autostartToken (e₅ .before .same5 .ensures) (e₅ .if5 .left),
+      tested trueToken (e₆ .before .same6 .ensures) (e₆ .if6 .left),
+      tested falseToken (c .before .same7 .ensures) (c .if7 .left),
     )
 
 pub spelled-sort-spec : {M : Type 1} → statement M
@@ -110,7 +110,7 @@ spelled-sort-spec =
     tie.close
     (tie.spec
     (λ c. search needs) (λ c κs. search needs)
-    (λ c. simp (tested taskWord (c .before .same .ensures) (c .if1 .taken)))
+    (λ c. simp (tested taskToken (c .before .same .ensures) (c .if1 .taken)))
     (λ c. search needs) (λ c κs. search needs)
     returns-2
     (λ c. search needs) (λ c κs. search needs)

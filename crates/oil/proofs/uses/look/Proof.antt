@@ -40,7 +40,7 @@ returns-4 : tie.Need-returns-4
 unfolding unborneAt
 returns-4 c =
     let a = c .before .before .before .before .before .before .before .before .args in (
-      rw (c .keep .ensures) (kept-sound (a .text .now) (a .words) (a .k)
+      rw (c .keep .ensures) (kept-sound (a .text .now) (a .tokens) (a .k)
           (c .before .before .before .before .before .before .before .before .pre .0) (a .w .start) (a .w .end)
           (c .before .before .before .before .before .before .before .before .pre .1 .0)
           (c .before .before .before .before .before .before .before .before .pre .1 .1)

@@ -8,10 +8,10 @@ use Rattle.oil.proofs.uses.search.Statement.{statement}
 use Rattle.oil.proofs.uses.search.Tie as tie
 
 abbrev Inv-loop : tie.InvT-loop
-Inv-loop text words start end n from to i₀ i = i ≤ n
+Inv-loop text tokens start end n from to i₀ i = i ≤ n
 
 abbrev μ-loop : tie.MeasureT-loop
-μ-loop text words start end n from to i₀ i = n - i
+μ-loop text tokens start end n from to i₀ i = n - i
 
 loop-holds : tie.Need-loop-holds Inv-loop μ-loop
 loop-holds c = omega arith
@@ -36,7 +36,7 @@ part-same-end c =
 returns : tie.Need-returns Inv-loop μ-loop
 returns c =
     let s = c .before .before .before .before .before .before .before .before .before in let a = s .args in
-    kept-borne (a .text .now) (a .words) (a .k) (s .pre .0) (c .before .before .before .before .before .loop .i)
+    kept-borne (a .text .now) (a .tokens) (a .k) (s .pre .0) (c .before .before .before .before .before .loop .i)
     (c .before .before .before .before .loop-test .taken) (take (a .end - a .start) (drop (a .start) (a .text .now)))
     (c .before .same .ensures .0 (c .if1 .taken))
 

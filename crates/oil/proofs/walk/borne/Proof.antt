@@ -1,13 +1,13 @@
--- `borne` meets its contract: what is left of the words says whether the name is borne.
+-- `borne` meets its contract: what is left of the tokens says whether the name is borne.
 use Prim.Native.Nat.{_-_, _≤_}
 use mathlib.Core.Path.{_≡_, sym, _∙_}
 use native.Mathlib.Omega.{arith}
 use native.Mathlib.Nat.{sub-zero}
 use lib.ListN.{length, take, drop}
-use Rattle.oil_grammar.specs.Machine.{fresh}
+use Rattle.oil_grammar.specs.Automaton.{fresh}
 use Rattle.oil_grammar.specs.Walk.{borne}
 use borrow.Author.Needs.{needs}
-use Rattle.oil.proofs.Walks.{word-inside, borne-found, borne-step, borne-done}
+use Rattle.oil.proofs.Walks.{token-inside, borne-found, borne-step, borne-done}
 use Rattle.oil.proofs.walk.borne.Statement.{statement}
 use Rattle.oil.proofs.walk.borne.Tie as tie
 
@@ -25,8 +25,8 @@ loop-holds c = (omega arith, rw (c .fresh .ensures, sub-zero))
 borne-here-requires : tie.Need-borne-here-requires Inv-loop μ-loop
 borne-here-requires c κs =
     let l = c .before .before .loop in
-    let w = c .next-word in (
-      word-inside (c .before .before .before .before .before .args .text .now) (l .at) (l .inv .0) (w .ensures),
+    let w = c .next-token in (
+      token-inside (c .before .before .before .before .before .args .text .now) (l .at) (l .inv .0) (w .ensures),
       c .before .before .before .before .before .pre,
     )
 
@@ -34,7 +34,7 @@ returns : tie.Need-returns Inv-loop μ-loop
 returns c =
     let a = c .before .before .before .before .before .before .before .args in
     let l = c .before .before .before .before .loop in
-    let w = c .before .before .next-word in
+    let w = c .before .before .next-token in
     borne-found (a .text .now) (a .count) (l .i) (l .at) (l .s) (a .resource)
     (take (a .end - a .start) (drop (a .start) (a .text .now)))
     (w .ensures) (c .before .before .before .loop-test .taken)
@@ -44,8 +44,8 @@ loop-again : tie.Need-loop-again Inv-loop μ-loop
 loop-again c =
     let a = c .before .before .before .before .before .before .before .before .args in
     let l = c .before .before .before .before .before .loop in
-    let w = c .before .before .before .next-word in (
-      word-inside (a .text .now) (l .at) (l .inv .0) (w .ensures) .1,
+    let w = c .before .before .before .next-token in (
+      token-inside (a .text .now) (l .at) (l .inv .0) (w .ensures) .1,
       borne-step (a .text .now) (a .count) (l .i) (l .at) (l .s)
           (a .resource) (take (a .end - a .start) (drop (a .start) (a .text .now))) (w .ensures)
           (c .before .before .before .before .loop-test .taken)

@@ -1,7 +1,7 @@
 -- `fault_in` meets its contract: the sort's refusal comes before the name's.
 use mathlib.Core.Path.{sym, _∙_}
 use borrow.Author.Tests.{eq-eqb, ne-eqb}
-use Rattle.oil_grammar.specs.Machine.{fault}
+use Rattle.oil_grammar.specs.Automaton.{fault}
 use Rattle.oil_grammar.specs.Walk.{faultIn}
 use borrow.Author.Needs.{needs}
 use Rattle.oil.proofs.walk.fault_in.Statement.{statement}
