@@ -1,9 +1,12 @@
 // What the task of an entry may be: a task, after the entry before it, and of kind 3 in one table alone.
-use crate::limits::BAD_FIELD;
-use crate::limits::ISR;
-use crate::limits::TIME_TRIGGERED;
 use crate::limits::unless;
 use crate::position::Position;
+use config::BAD_FIELD;
+use config::ISR;
+use config::MIXED_TABLE;
+use config::SHARED_OFFSET;
+use config::TIME_TRIGGERED;
+use config::UNSORTED;
 ghost use mathlib.Core.Path.{_≡_};
 ghost use mathlib.Core.Bool.{true, false, not, _&&_, _||_};
 ghost use Prim.Native.Nat.{_+_, _-_, _<_, _≤_};
@@ -12,13 +15,6 @@ ghost use lib.ListN.{getD, take};
 ghost use Rattle.config.specs.Meaning.{isr, timeTriggered};
 ghost use Rattle.config.specs.Draft.{rises, someTimed};
 ghost use Rattle.config_codec.specs.Entry.{bodiesOf, entryAt, kindFault, tableFault, entryFault};
-
-// An entry does not come after the one before it.
-const UNSORTED: u8 = 7;
-// An entry has the offset of the one before it, and either is of kind 3.
-const SHARED_OFFSET: u8 = 13;
-// A table has entries of kind 3 and others, or is the second that has entries of kind 3.
-const MIXED_TABLE: u8 = 14;
 
 // An entry, and what stands before it: whether it is the `first` of its table, the offset `reached` by the entry before
 // and the task of that, the `latest`, and how many entries the tables before have.

@@ -10,18 +10,14 @@ mod writer;
 
 use config::Config;
 use config::ConfigRead;
+use config::LEFT_OVER;
+use config::TOO_LONG;
 use number::NO_ROOM;
 use number::Written;
 ghost use mathlib.Core.Path.{_≡_};
 ghost use lib.ListN.{length};
 ghost use Rattle.config.specs.Reader.{readConfig};
 ghost use Rattle.config.specs.Writer.{writeConfig, wroteConfig};
-
-// Bytes are left over.
-const LEFT_OVER: u8 = 9;
-
-// A configuration is longer than 4,096 bytes.
-const TOO_LONG: u8 = 10;
 
 const MAX_LENGTH: usize = 4096;
 

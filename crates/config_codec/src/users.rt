@@ -1,10 +1,10 @@
 // What a resource's mask of users may be: of the bodies that there are, and of none that is of kind 3.
 use crate::among::among;
-use crate::limits::BAD_FIELD;
-use crate::limits::TIME_TRIGGERED;
 use crate::limits::and_then;
 use crate::limits::outside;
 use crate::limits::unless;
+use config::BAD_FIELD;
+use config::TIME_TRIGGERED;
 ghost use mathlib.Core.Path.{_≡_};
 ghost use mathlib.Core.Bool.{not, _&&_};
 ghost use Prim.Native.Nat.{_-_, _%_, _^_, _≤_};

@@ -2,9 +2,6 @@
 // place.
 use crate::entry::entry_at;
 use crate::entry::entry_fault;
-use crate::limits::BAD_COUNT;
-use crate::limits::BAD_FIELD;
-use crate::limits::BAD_VERSION;
 use crate::limits::LAST_KIND;
 use crate::limits::MAX_BODIES;
 use crate::limits::MAX_RESOURCES;
@@ -23,6 +20,9 @@ use crate::users::users_fault;
 use crate::value::asked;
 use crate::value::no_config;
 use crate::value::refused;
+use config::BAD_COUNT;
+use config::BAD_FIELD;
+use config::BAD_VERSION;
 use config::Config;
 use config::ConfigRead;
 use config::Field;
