@@ -221,7 +221,7 @@ enum {
  *     trace, trace_len
  *     body                  the body's number
  *
- * Result: refusal * 2^32 + place, or, with refusal 0, the number of ends (osek_ends). Nothing is written. Some 40 KB of
+ * Result: refusal * 2^32 + place, or, with refusal 0, the number of ends (osek_ends). Nothing is written. Some 42 KB of
  * stack are used.
  */
 uint64_t osek_wait(const uint8_t *config, size_t config_len,

@@ -1,15 +1,17 @@
 -- How long a body waits to begin, if only Finish events follow. Each law stands here in full, over
 -- specs/ alone; the modules it cites prove it.
 --
--- In order: the closed count; when the body begins, and that there is one such number; who counts
--- twice; when 35 and 32 are given; the call by the words of the machine's model.
+-- In order: the closed count; when the body begins, and that there is one such number; the result
+-- that says it; who counts twice; when 35 and 32 are given; the call by the words of the machine's
+-- model.
 use Prim.Native.Nat.{ℕ, _+_, _^_, _<_}
 use mathlib.Core.Path.{_≡_, sym, _∙_}
 use mathlib.Core.Bool.{true, false, true≢false}
 use mathlib.Core.List.{List, []}
 use mathlib.Core.Logic.{_↔_}
 use native.Mathlib.Omega.{arith}
-use Rattle.number.proofs.Cases.{by-test}
+use borrow.Author.Tests.{le-leb, lt-leb}
+use Rattle.number.proofs.Cases.{by-test, by-lt}
 use Rattle.config.specs.declared.Config.{Config}
 use Rattle.config.specs.Meaning.{isIsr, isExtended, isTimed}
 use Rattle.config.specs.Accepted.{Accepted, Shaped}
@@ -19,6 +21,7 @@ use Rattle.scheduler.specs.Body.{isStarted}
 use Rattle.scheduler.specs.State.{State, bodyOf}
 use Rattle.scheduler.specs.Scheduler.{Event, fresh, after}
 use Rattle.machine.specs.Machine.{freshModel, machineAfter}
+use Rattle.run.proofs.Theorems.{places}
 use Rattle.waiting.specs.Conditions.{beyondBasic, waitsToBegin, resourceHeld}
 use Rattle.waiting.specs.Finishes.{finishesUntil, BeginsAt}
 use Rattle.waiting.specs.Jobs.{jobsAhead}
@@ -50,6 +53,22 @@ module _ (c : Config) (ok : Accepted c) (shaped : Shaped c) (basic : beyondBasic
 -- there is no other number of which that holds
 pub begins-at-unique : {c : Config} {s : State} {b n k : ℕ} → BeginsAt c s b n → BeginsAt c s b k → n ≡ k
 begins-at-unique {n = n} {k = k} p q = sym (p .enough (n + k) (omega arith)) ∙ q .enough (n + k) (omega arith)
+
+-- so a result that says no refusal is the number of the Finish in which the body begins
+pub wait-begins : (c : Config) → Accepted c → Shaped c → (es : List Event) (b : ℕ)
+    → waitIn c (after c (fresh c) es) b < places
+    → BeginsAt c (after c (fresh c) es) b (waitIn c (after c (fresh c) es) b)
+unfolding waitIn
+wait-begins c ok shaped es b low =
+    by-test (beyondBasic c)
+    (λ other. let far = simp other at low in absurd (omega arith))
+    (λ basic. by-lt b (c .bodies)
+    (λ l. by-test (waitsToBegin (after c (fresh c) es) b)
+    (λ w. by-test (resourceHeld (after c (fresh c) es))
+    (λ h. let far = simp (basic, lt-leb (c .bodies) b l, w, h) at low in absurd (omega arith))
+    (λ h. simp (basic, lt-leb (c .bodies) b l, w, h) (begins-at c ok shaped basic es b w h)))
+    (λ w. let far = simp (basic, lt-leb (c .bodies) b l, w) at low in absurd (omega arith)))
+    (λ l. let far = simp (basic, le-leb (c .bodies) b l) at low in absurd (omega arith)))
 
 -- "a started ISR requested again": whoever has a request waiting besides is an ISR, and where no
 -- task is extended or time-triggered it is started
