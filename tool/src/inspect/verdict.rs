@@ -1,9 +1,9 @@
-//! The verdict of request A14 on recorded answers.
+//! The library's verdict on recorded answers, as request A14 says.
 
-use crate::reference::{self, ANSWER_SIZE};
+use crate::reference;
 
 /// Who judges, for reports.
-pub const BY: &str = "the verdict of request A14, by the proved run";
+pub const BY: &str = "osek_verdict, which is proved (request A14)";
 
 #[derive(Clone, Copy, PartialEq, Eq, Debug)]
 pub enum Verdict {
@@ -14,12 +14,9 @@ pub enum Verdict {
 
 /// Of the answers recorded for an accepted configuration and trace; there are no more of them than events.
 pub fn verdict(config: &[u8], trace: &[u8], recorded: &[u8]) -> Verdict {
-    let Ok(run) = reference::run(config, trace) else { unreachable!("the configuration and the trace are accepted") };
-    let output = run.output();
-    let expected = output[..ANSWER_SIZE * run.answers.len()].chunks(ANSWER_SIZE);
-    let mut given = recorded.chunks_exact(ANSWER_SIZE);
-    match expected.into_iter().position(|answer| given.next() != Some(answer)) {
-        None => Verdict::Pass,
-        Some(event) => Verdict::Event(event),
+    match reference::verdict(config, trace, recorded) {
+        reference::Verdict::Pass => Verdict::Pass,
+        reference::Verdict::Fails(event) => Verdict::Event(event),
+        reference::Verdict::Refused(refused) => unreachable!("the case is accepted: {}", refused.line()),
     }
 }

@@ -85,7 +85,8 @@ fn differences_are_grouped_where_it_keeps_going() {
     assert!(said.out.starts_with("differs: ") && said.out.contains(" of 6 traces, 360 events, in "), "{}", said.out);
     assert!(count(&said.out, 1) > 1, "{}", said.out);
     assert!(said.out.contains("\ndifferences by what differs:\n"), "{}", said.out);
-    assert!(said.out.contains("  Finish: level: "), "{}", said.out);
+    // All that differ at a Finish are one group.
+    assert_eq!(said.out.matches("\n  Finish: level: ").count(), 1, "{}", said.out);
     check(&folder, "r", "differs", 6, count(&said.out, 1));
 }
 
