@@ -60,26 +60,3 @@ pub fn compare(
     let differs = Some(differs.into_inner()).filter(|number| *number != u64::MAX);
     Ok(Dealt { differs, accepted: accepted.into_inner() })
 }
-
-#[cfg(test)]
-mod tests {
-    use std::time::Duration;
-
-    use osek_tests::cases;
-
-    use super::*;
-    use crate::compare::simulator::Subject;
-    use crate::unit::Way;
-
-    /// Every case differs, and the first of them takes longest.
-    #[test]
-    fn the_first_difference_is_told_though_it_takes_longest() {
-        let case = |number| cases::case(1, number);
-        let first = case(0).config.len();
-        assert!((1..4).all(|number| case(number).config.len() != first));
-        let slow = format!("f() {{ test $(wc -c < \"$1\") = {first} && sleep 1; echo x; }}; f");
-        let simulator = || Simulator::new(Subject::Command(slow.clone()), Way::Whole, Duration::from_secs(10));
-        let dealt = compare(0..4, 4, case, simulator);
-        assert_eq!(dealt.map(|dealt| dealt.differs).unwrap_or_else(|failure| panic!("{failure:?}")), Some(0));
-    }
-}

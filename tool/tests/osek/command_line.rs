@@ -9,7 +9,8 @@ use osek_tests::cases::Random;
 use super::common::*;
 
 const COMMANDS: [&str; 13] = [
-    "run", "explain", "timeline", "wait", "asm", "dump", "salvage", "draw", "cases", "compare", "inspect", "coverage", "power",
+    "run", "explain", "timeline", "wait", "asm", "dump", "salvage", "draw", "cases", "compare", "inspect", "coverage",
+    "power",
 ];
 
 /// A command line of each command that prints something, in a folder with `both.txt` and `trace.txt`.

@@ -4,6 +4,7 @@ use std::fs;
 use std::path::{Path, PathBuf};
 use std::process::Command;
 
+use osek_tests::cases;
 use osek_tests::subject::LIBRARY;
 
 use super::common::*;
@@ -131,8 +132,15 @@ fn a_refused_case_is_not_played_on_a_unit() {
 }
 
 #[test]
-fn the_first_difference_is_the_same_however_many_run_at_once() {
+fn the_first_difference_is_told_however_many_run_at_once() {
     let folder = Folder::new();
+    // Every case differs, and the first of them takes longest.
+    let first = cases::case(1, 0).config.len();
+    assert!((1..4).all(|number| cases::case(1, number).config.len() != first));
+    let sleeps = format!("test $(wc -c < \"$1\") = {first} && ! test -e slept && touch slept && sleep 1");
+    let slow = format!("f() {{ {sleeps}; echo x; }}; f");
+    let said = folder.osek(&["compare", "--sim", &slow, "--jobs", "4", "--count", "4"]);
+    assert!(said.out.starts_with("case 0 of seed 1 differs\n"), "{}{}", said.out, said.err);
     let simulator = format!("{} tenth_tick_lost", stand_in().display());
     let first = |jobs: &str| {
         let said = folder.osek(&["compare", "--sim", &simulator, "--jobs", jobs, "-o", jobs]);
