@@ -253,7 +253,8 @@ enum {
  *     place                 two numbers: line and column of the refusal, in bytes from 1, a line ending after its LF; 0 and 0
  *                           where no place is at fault, and where the text is accepted
  *
- * The outputs must not overlap each other or the text. No pointer may be null, as above.
+ * The outputs must not overlap each other or the text. A pointer whose length is 0 may be null, as above; place has no
+ * length, and may not.
  *
  * Result: refusal * 2^32, for OSEK_OUTPUT_TOO_SHORT with the bytes needed added, or, with refusal 0, the configuration's
  * length. A refused call leaves config untouched; an accepted one leaves the bytes behind what it wrote.

@@ -10,7 +10,7 @@ use std::sync::Barrier;
 use osek_tests::cases;
 use osek_tests::compare::{outcome, FAST, SUBJECT};
 use osek_tests::listing::{DOCUMENT_CONFIG, DOCUMENT_TRACE};
-use osek_tests::subject::{osek_draw, osek_run, osek_verdict};
+use osek_tests::subject::{osek_draw, osek_oil, osek_run, osek_salvage, osek_verdict};
 
 /// The functions that a library defines for others.
 fn exported(library: &str, option: &str) -> Vec<String> {
@@ -61,6 +61,43 @@ fn a_pointer_of_length_0_may_be_null() {
         assert_eq!(osek_verdict(config.as_ptr(), config.len(), trace.as_ptr(), trace.len(), null(), 0), 0);
     }
     assert!(out[6..].iter().all(|byte| *byte == 77));
+}
+
+#[test]
+fn a_pointer_of_length_0_may_be_null_in_a_salvage() {
+    // A Tick, a byte to drop, a Tick.
+    let trace: [u8; 3] = [6, 0, 6];
+    let (mut events, mut list) = ([77; 8], [77; 8]);
+    unsafe {
+        // No trace: nothing kept, nothing dropped, and nothing needed.
+        assert_eq!(osek_salvage(null(), 0, null_mut(), 0, null_mut(), 0), 0);
+        assert_eq!(osek_salvage(null(), 0, events.as_mut_ptr(), events.len(), list.as_mut_ptr(), list.len()), 0);
+        // No room for the events, which need two bytes, then none for the list, which needs two.
+        let result = osek_salvage(trace.as_ptr(), trace.len(), null_mut(), 0, list.as_mut_ptr(), list.len());
+        assert_eq!(result, 30 << 32 | 2);
+        let result = osek_salvage(trace.as_ptr(), trace.len(), events.as_mut_ptr(), events.len(), null_mut(), 0);
+        assert_eq!(result, 30 << 32 | 2);
+        assert_eq!((events, list), ([77; 8], [77; 8]));
+        // A readable trace drops nothing, and its list needs no room.
+        let result = osek_salvage(trace.as_ptr(), 1, events.as_mut_ptr(), events.len(), null_mut(), 0);
+        assert_eq!((result, events[..2].to_vec()), (1, vec![6, 77]));
+    }
+}
+
+#[test]
+fn a_pointer_of_length_0_may_be_null_in_a_reading_of_oil() {
+    let text = b"TASK a { PRIORITY = 1; };";
+    let mut config = [77; 8];
+    let mut place = [5, 5];
+    unsafe {
+        // No text: no body, which is 4, at no line.
+        assert_eq!(osek_oil(null(), 0, null_mut(), 0, place.as_mut_ptr()), 4 << 32);
+        assert_eq!(place, [0, 0]);
+        assert_eq!(osek_oil(null(), 0, config.as_mut_ptr(), config.len(), place.as_mut_ptr()), 4 << 32);
+        // No room: the configuration takes seven bytes.
+        assert_eq!(osek_oil(text.as_ptr(), text.len(), null_mut(), 0, place.as_mut_ptr()), 30 << 32 | 7);
+    }
+    assert_eq!((config, place), ([77; 8], [0, 0]));
 }
 
 #[test]
