@@ -1,11 +1,15 @@
-"""osek.py on document 01's listing, on every refusal, and on drawn cases with the answers of the Rust version.
+"""The package osek on document 01's listing, on every refusal, and on drawn cases with the answers of the Rust version.
 
 OSEK_CASES names the file of drawn cases that tests/tests/python.rs writes, a line each: configuration, trace, result and
 output, all but the result in hexadecimal, - for nothing.
 """
 
 import os
+import re
+import subprocess
+import sys
 import unittest
+from pathlib import Path
 
 import osek
 
@@ -227,6 +231,85 @@ class OsekTest(unittest.TestCase):
             shown = bytes(b for a in run.answers for b in (a.status, 255 if a.runner is None else a.runner, a.level, a.begun))
             shown += b"".join(loss.to_bytes(2, "little") for loss in run.losses)
             self.assertEqual(shown.hex(), expected)
+
+
+HEADER = Path(__file__).resolve().parent.parent / "include" / "osek.h"
+
+
+class Names(unittest.TestCase):
+    """The numbers with their names are the header's."""
+
+    def test_every_number_of_the_header_has_its_name(self):
+        text = HEADER.read_text()
+        known = {"EVENT_": osek.EventCode, "E_": osek.Status}
+        known.update({prefix: osek.Refusal for prefix in ("CONFIG_", "TRACE_", "OUTPUT_", "WAIT_", "DRAW_", "OIL_", "RECORD_")})
+        found = 0
+        for name, value in re.findall(r"^ +OSEK_(\w+) = (\d+)", text, re.MULTILINE):
+            prefix = max((p for p in known if name.startswith(p)), key=len, default=None)
+            if prefix is None:
+                continue
+            members = known[prefix]
+            name = name[len(prefix) :] if members is osek.EventCode else name
+            self.assertEqual(members[name], int(value), name)
+            found += 1
+        self.assertGreaterEqual(found, 51)
+        self.assertEqual(set(osek.ARGUMENTS), set(osek.EventCode))
+
+    def test_every_refusal_has_words(self):
+        self.assertLessEqual({int(code) for code in osek.Refusal}, set(osek.REFUSALS))
+
+    def test_the_version_is_the_header_s(self):
+        self.assertIn(f'#define OSEK_VERSION "{osek.__version__}"', HEADER.read_text())
+
+    def test_a_missing_library_names_what_to_do(self):
+        environment = {**os.environ, "OSEK_LIBRARY": "/no/such/libosek.so"}
+        done = subprocess.run([sys.executable, "-c", "import osek"], env=environment, capture_output=True, text=True)
+        self.assertIn("ImportError: the library /no/such/libosek.so can't be loaded", done.stderr)
+        self.assertIn("run `make lib` in the clone, or name it in OSEK_LIBRARY", done.stderr)
+
+
+class Values(unittest.TestCase):
+    """Configurations and traces as values."""
+
+    def test_document_01_as_values(self):
+        config = osek.Configuration(
+            bodies=[osek.Body(osek.Kind.TASK, 2, 1), osek.Body(osek.Kind.TASK, 5), osek.Body(osek.Kind.ISR, 9)],
+            resources=[{0, 1}],
+            tables=[osek.Table(4, [osek.Entry(0, 1), osek.Entry(2, 0)])],
+        )
+        self.assertEqual(config.encode(), CONFIG)
+        code = osek.EventCode
+        events = [osek.Event(code.START, (0, 1)), osek.Event(code.GET, (0,)), osek.Event(code.TICK)]
+        self.assertEqual(osek.encode_trace(events), TRACE[:6])
+        self.assertEqual(osek.decode_trace(TRACE)[:3], events)
+        self.assertEqual(str(events[0]), "Start 0 1")
+        self.assertEqual(osek.Configuration.decode(CONFIG).tables[0].entries, ((0, 1), (2, 0)))
+        self.assertEqual(osek.run(CONFIG, TRACE).answers[4].status, osek.Status.E_OS_CALLEVEL)
+
+    def test_numbers_have_their_shortest_form(self):
+        for value, data in ((0, "00"), (127, "7f"), (128, "8001"), (4_294_967_295, "ffffffff0f")):
+            self.assertEqual(osek.encode_number(value).hex(), data)
+            self.assertEqual(list(osek.decode_numbers(bytes.fromhex(data))), [value])
+        for value in (-1, 4_294_967_296):
+            self.assertRaises(ValueError, osek.encode_number, value)
+
+    def test_what_can_not_be_read_is_refused(self):
+        self.assertRaises(osek.Refused, osek.Configuration.decode, b"\x07")
+        self.assertRaises(osek.Refused, osek.decode_trace, b"\x08")
+        self.assertRaises(ValueError, osek.encode_trace, [osek.Event(osek.EventCode.TICK, (1,))])
+
+    @unittest.skipUnless("OSEK_CASES" in os.environ, "OSEK_CASES names no file of drawn cases")
+    def test_drawn_files_that_are_accepted_come_back(self):
+        seen = 0
+        for line in open(os.environ["OSEK_CASES"]):
+            config, trace = (bytes.fromhex("" if word == "-" else word) for word in line.split()[:2])
+            try:
+                values, events = osek.Configuration.decode(config), osek.decode_trace(trace)
+            except osek.Refused:
+                continue
+            self.assertEqual((values.encode(), osek.encode_trace(events)), (config, trace))
+            seen += 1
+        self.assertGreater(seen, 300)
 
 
 if __name__ == "__main__":

@@ -1,4 +1,4 @@
-//! python/osek.py: its own tests, with drawn cases and what the fast Rust version answers, and README's example.
+//! python/osek: its own tests, with drawn cases and what the fast Rust version answers, and README's example.
 
 use std::fmt::Write;
 use std::path::{Path, PathBuf};

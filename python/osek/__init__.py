@@ -8,6 +8,10 @@
     verdict(config, trace, recorded)   None for a unit that passes, or the first event whose answer differs or is missing
     osek_run(..)           the C calls themselves, for buffers of one's own
     osek_salvage(..), osek_oil(..), osek_draw(..), osek_wait(..), osek_verdict(..)
+    Configuration, Event   configurations and events as values: to bytes and back (values.py)
+    EventCode, Status, Refusal, Kind
+                           the numbers with their names (codes.py)
+    text                   the text form, by the bench tool (text.py)
 
 All inputs are bytes, as docs/RULES.md has them. The library is the file that OSEK_LIBRARY names, or the one that `make lib`
 left in the clone, or the one that is installed.
@@ -16,7 +20,14 @@ left in the clone, or the one that is installed.
 import ctypes
 import os
 from pathlib import Path
-from typing import List, NamedTuple, Optional, Tuple
+from typing import Any, Iterable, List, NamedTuple, Optional, Sequence, Tuple, Union
+
+from . import text
+from ._version import version as __version__
+from .codes import ARGUMENTS, EventCode, Kind, Refusal, Status
+from .values import Body, Configuration, Entry, Event, Table, decode_numbers, decode_trace, encode_number, encode_trace
+
+Data = Union[bytes, bytearray, memoryview]  # what is only read
 
 OUTPUT_MAX = 32832  # suffices for every run
 CONFIG_MAX = 4096  # suffices for every configuration
@@ -102,9 +113,14 @@ class RefusedText(Exception):
 
 
 def _library() -> ctypes.CDLL:
-    built = Path(__file__).resolve().parent.parent / "build" / "libosek.so"
-    named = os.environ.get("OSEK_LIBRARY")
-    library = ctypes.CDLL(named or (str(built) if built.exists() else "libosek.so.1"))
+    built = Path(__file__).resolve().parents[2] / "build" / "libosek.so"
+    named = os.environ.get("OSEK_LIBRARY") or (str(built) if built.exists() else "libosek.so.1")
+    try:
+        library = ctypes.CDLL(named)
+    except OSError as error:
+        raise ImportError(
+            f"the library {named} can't be loaded ({error}): run `make lib` in the clone, or name it in OSEK_LIBRARY"
+        ) from error
     # Without these a result would be cut to 32 bits, and every refusal lost.
     for function in (library.osek_run, library.osek_salvage, library.osek_verdict):
         function.restype = ctypes.c_uint64
@@ -123,37 +139,37 @@ _Limits = ctypes.c_uint16 * 4  # of bodies, resources, tables and delays
 _LIBRARY = _library()
 
 
-def osek_run(config, trace, out) -> int:
+def osek_run(config: Data, trace: Data, out: bytearray) -> int:
     """The C call: writes the output into the writable buffer `out`; refusal * 2**32 + place, or the number of events."""
-    return _LIBRARY.osek_run(*_lent(config), *_lent(trace), *_taken(out))
+    return int(_LIBRARY.osek_run(*_lent(config), *_lent(trace), *_taken(out)))
 
 
-def osek_salvage(trace, events, stretches) -> int:
+def osek_salvage(trace: Data, events: bytearray, stretches: bytearray) -> int:
     """The C call: writes into the writable buffers; refusal * 2**32 + place, or the list's length * 65,536 + the events'."""
-    return _LIBRARY.osek_salvage(*_lent(trace), *_taken(events), *_taken(stretches))
+    return int(_LIBRARY.osek_salvage(*_lent(trace), *_taken(events), *_taken(stretches)))
 
 
-def osek_oil(text, config, place) -> int:
+def osek_oil(text: Data, config: bytearray, place: "ctypes.Array[ctypes.c_uint64]") -> int:
     """The C call: writes the configuration, and line and column into an array of two `c_uint64`; refusal * 2**32, or the length."""
-    return _LIBRARY.osek_oil(*_lent(text), *_taken(config), place)
+    return int(_LIBRARY.osek_oil(*_lent(text), *_taken(config), place))
 
 
-def osek_wait(config, trace, body) -> int:
+def osek_wait(config: Data, trace: Data, body: int) -> int:
     """The C call: refusal * 2**32 + place, or the number of Finish events until the body begins."""
-    return _LIBRARY.osek_wait(*_lent(config), *_lent(trace), body)
+    return int(_LIBRARY.osek_wait(*_lent(config), *_lent(trace), body))
 
 
-def osek_draw(start, weights, limits, count, out) -> int:
+def osek_draw(start: int, weights: Sequence[int], limits: Sequence[int], count: int, out: bytearray) -> int:
     """The C call: writes the trace into the writable buffer `out`; refusal * 2**32 + place, or the length of the trace."""
-    return _LIBRARY.osek_draw(start, _Weights(*weights), _Limits(*limits), count, *_taken(out))
+    return int(_LIBRARY.osek_draw(start, _Weights(*weights), _Limits(*limits), count, *_taken(out)))
 
 
-def osek_verdict(config, trace, recorded) -> int:
+def osek_verdict(config: Data, trace: Data, recorded: Data) -> int:
     """The C call: PASS, the index of the first event that differs or is missing, or refusal * 2**32 + place."""
-    return _LIBRARY.osek_verdict(*_lent(config), *_lent(trace), *_lent(recorded))
+    return int(_LIBRARY.osek_verdict(*_lent(config), *_lent(trace), *_lent(recorded)))
 
 
-def run(config, trace) -> Run:
+def run(config: Data, trace: Data) -> Run:
     """Runs the trace from the configuration's fresh start."""
     out = bytearray(OUTPUT_MAX)
     low = _accepted(osek_run(config, trace, out))
@@ -164,15 +180,15 @@ def run(config, trace) -> Run:
     return Run(answers, losses)
 
 
-def salvage(trace) -> Salvaged:
+def salvage(trace: Data) -> Salvaged:
     """Reads the trace event by event; where none can be read a byte is dropped, and the next is tried."""
     events, stretches = bytearray(TRACE_MAX), bytearray(STRETCHES_MAX)
     listed, kept = divmod(_accepted(osek_salvage(trace, events, stretches)), 1 << 16)
-    numbers = _numbers(stretches[:listed])
+    numbers = list(decode_numbers(stretches[:listed]))
     return Salvaged(bytes(events[:kept]), list(zip(numbers[::2], numbers[1::2])))
 
 
-def oil(text) -> bytes:
+def oil(text: Data) -> bytes:
     """The configuration of the TASK, ISR and RESOURCE objects in an OIL text, which is bytes."""
     config, place = bytearray(CONFIG_MAX), (ctypes.c_uint64 * 2)()
     code, low = divmod(osek_oil(text, config, place), 1 << 32)
@@ -181,69 +197,59 @@ def oil(text) -> bytes:
     return bytes(config[:low])
 
 
-def wait(config, trace, body) -> int:
+def wait(config: Data, trace: Data, body: int) -> int:
     """How many Finish events are accepted after the trace until the body with this number begins, if only such events follow."""
     if not 0 <= body < 1 << 32:
         raise ValueError("a body's number is 0 to 4,294,967,295")
     return _accepted(osek_wait(config, trace, body))
 
 
-def draw(start, weights, limits, count) -> bytes:
+def draw(start: int, weights: Iterable[int], limits: Iterable[int], count: int) -> bytes:
     """A trace of `count` events, drawn from the 32-bit value `start` on.
 
     `weights` are twelve numbers of 16 bits in the order of the event codes, `limits` four: an argument is below that of
     bodies, resources, tables or delays.
     """
-    weights, limits = _numbers_of(16, weights, 12, "weights"), _numbers_of(16, limits, 4, "limits")
+    twelve, four = _numbers_of(16, weights, 12, "weights"), _numbers_of(16, limits, 4, "limits")
     start, count = _numbers_of(32, (start, count), 2, "start and count")
     out = bytearray(TRACE_MAX)
-    return bytes(out[: _accepted(osek_draw(start, weights, limits, count, out))])
+    return bytes(out[: _accepted(osek_draw(start, twelve, four, count, out))])
 
 
-def _numbers_of(bits, numbers, many, name):
-    numbers = tuple(numbers)
+def _numbers_of(bits: int, numbers: Iterable[int], many: int, name: str) -> Tuple[int, ...]:
+    all_numbers = tuple(numbers)
     # ctypes would cut a larger number to its low bits.
-    if len(numbers) != many or not all(0 <= number < 1 << bits for number in numbers):
+    if len(all_numbers) != many or not all(0 <= number < 1 << bits for number in all_numbers):
         raise ValueError(f"{name}: {many} numbers of {bits} bits each")
-    return numbers
+    return all_numbers
 
 
-def verdict(config, trace, recorded) -> Optional[int]:
+def verdict(config: Data, trace: Data, recorded: Data) -> Optional[int]:
     """Judges four recorded bytes an event: None for pass, else the index of the first event that differs or is missing."""
     result = osek_verdict(config, trace, recorded)
     return None if result == PASS else _accepted(result)
 
 
-def _lent(data):
+def _lent(data: Data) -> Tuple[Any, int]:
     data = _bytes(data)
     return ctypes.create_string_buffer(data, len(data)), len(data)
 
 
-def _taken(out):
+def _taken(out: bytearray) -> Tuple[Any, int]:
     return (ctypes.c_uint8 * len(out)).from_buffer(out), len(out)
 
 
-def _accepted(result) -> int:
+def _accepted(result: int) -> int:
     code, low = divmod(result, 1 << 32)
     if code:
         raise Refused(code, low)
     return low
 
 
-def _numbers(data) -> List[int]:
-    numbers, value, shift = [], 0, 0
-    for byte in data:
-        value, shift = value | (byte & 127) << shift, shift + 7
-        if byte < 128:
-            numbers.append(value)
-            value, shift = 0, 0
-    return numbers
-
-
-def _answer(four) -> Answer:
+def _answer(four: Data) -> Answer:
     status, runner, level, begun = four
     return Answer(status, None if runner == IDLE else runner, level, begun == 1)
 
 
-def _bytes(data) -> bytes:
+def _bytes(data: Data) -> bytes:
     return memoryview(data).tobytes()  # a number or a text is a TypeError, not so many zeros
