@@ -2,7 +2,6 @@
 //!
 //! It plays the events on the tests' fast Rust version and spoils what the fault says; `none` spoils nothing. A fault
 //! that begins with `output` makes it print the output's bytes, others the listing.
-
 use std::fmt::Write as _;
 use std::io::Write as _;
 use std::{env, fs, process, thread, time};
@@ -17,6 +16,7 @@ fn main() {
     let mut out = vec![0; OUTPUT_MAX];
     let result = fast::run::<NextDue>(&config, &trace, &mut out);
     let said = match result >> 32 {
+        0 if fault == "no_extended" && is_extended(&config, &trace) => b"refused 5 0\n".to_vec(),
         0 => played(fault, &config, &trace),
         9 if fault == "left_over_accepted" => played(fault, &config[..result as u32 as usize], &trace),
         23 if fault == "unknown_code_one_later" => format!("refused 23 {}\n", (result as u32) + 1).into_bytes(),
@@ -30,6 +30,19 @@ fn main() {
     std::io::stdout().write_all(&said).expect("standard output can be written");
 }
 
+/// An extended task, or an event of its bits.
+fn is_extended(config: &[u8], trace: &[u8]) -> bool {
+    let config = fast::read_config(config).expect("the configuration is accepted");
+    let mut at = 0;
+    while let Ok((event, next)) = fast::read_event(trace, at) {
+        if matches!(event, Event::Wait(_) | Event::Set(..) | Event::Clear(_)) {
+            return true;
+        }
+        at = next;
+    }
+    (0..config.bodies()).any(|body| config.is_extended(body as u32))
+}
+
 fn played(fault: &str, config_bytes: &[u8], trace: &[u8]) -> Vec<u8> {
     let config = fast::read_config(config_bytes).expect("the configuration is accepted");
     let mut kernel = Kernel::<NextDue>::fresh(&config);
@@ -41,7 +54,7 @@ fn played(fault: &str, config_bytes: &[u8], trace: &[u8]) -> Vec<u8> {
         ticks += u32::from(event == Event::Tick);
         let mut answer = step(fault, &mut kernel, &config, event, ticks);
         match (fault, event) {
-            ("limit_is_id", Event::Activate(_)) if answer.status == 4 => answer.status = 3,
+            ("limit_is_id" | "two_faults", Event::Activate(_)) if answer.status == 4 => answer.status = 3,
             ("ceiling_not_shown", _) => {
                 if let Some(runner) = kernel.runner().filter(|runner| !config.is_timed(*runner)) {
                     answer.level = config.priority(runner);
@@ -111,7 +124,7 @@ fn step(fault: &str, kernel: &mut Kernel<NextDue>, config: &fast::Config, event:
 fn listed(fault: &str, answers: &[(u8, Answer)], losses: &[u16]) -> Vec<u8> {
     let mut text = String::from("step event status runner level begun\n");
     for (index, (code, answer)) in answers.iter().enumerate() {
-        let idle = if fault == "idle_as_255" { "255" } else { "-" };
+        let idle = if matches!(fault, "idle_as_255" | "two_faults") { "255" } else { "-" };
         let runner = if answer.runner == fast::IDLE { idle.into() } else { answer.runner.to_string() };
         let _ = writeln!(text, "{index} {code} {} {runner} {} {}", answer.status, answer.level, answer.begun);
     }

@@ -5,10 +5,10 @@ use std::fmt::Write;
 use osek_tests::compare::hex;
 
 use crate::fields;
-use crate::input::{Pair, Source};
+use crate::input::{self, Pair, Source};
 use crate::layout::{self, Break, Field, Objects, TraceField};
 use crate::names::Names;
-use crate::reference::Refused;
+use crate::reference::{self, Refused};
 use crate::words::{self, counted, grouped, About, Part};
 
 /// A sentence, and the bytes that it is about.
@@ -41,10 +41,34 @@ pub fn refusal(pair: &Pair, refused: Refused) -> String {
         }
         About::LeftOver => tell(&mut text, config, left_over(&config.bytes, place)),
         About::TooLong(part) => {
-            _ = writeln!(text, "{} has {}.", of(part).file, counted(of(part).bytes.len(), "byte"));
+            let Source { file, bytes, .. } = of(part);
+            let size = counted(bytes.len(), "byte");
+            let whole = if part == Part::Config { "configuration" } else { "trace" };
+            _ = if of(part).is_text() {
+                writeln!(text, "The {whole} that {file} describes has {size}.")
+            } else {
+                writeln!(text, "{file} has {size}.")
+            };
         }
         About::Output => _ = writeln!(text, "The output needs {}.", counted(place, "byte")),
         About::Unreadable(_) | About::Record => {}
+    }
+    text + &causes(pair, word.about)
+}
+
+/// What may be behind a refusal: a text that is none, or two files in the wrong order.
+fn causes(pair: &Pair, about: About) -> String {
+    let in_trace = matches!(about, About::Unread(Part::Trace) | About::UnknownEvent | About::TooLong(Part::Trace));
+    let source = if in_trace { &pair.trace } else { &pair.config.source };
+    let mut text = String::new();
+    if let Some(why) = input::no_text_because(&source.bytes).filter(|_| !source.is_text()) {
+        let _ = writeln!(text, "{} is read as bytes and not as a text: {why}.", source.file);
+    }
+    let (config, trace) = (&pair.config.source.bytes, &pair.trace.bytes);
+    let other_is_config = reference::config_refusal(trace).is_none();
+    if !in_trace && other_is_config && reference::trace_refusal(config).is_none() {
+        let (first, second) = (&pair.config.source.file, &pair.trace.file);
+        let _ = writeln!(text, "{second} is a configuration and {first} a trace: are they exchanged?");
     }
     text
 }
@@ -61,8 +85,9 @@ fn tell(text: &mut String, source: &Source, told: Option<Told>) {
 
 /// The configuration's number that can't be read.
 fn unread_field(bytes: &[u8], names: &Names) -> Option<Told> {
-    let (field, why) = layout::config(bytes).broken?;
-    Some(unread(bytes, &fields::name(field, names), why))
+    let layout::Config { objects, broken, .. } = layout::config(bytes);
+    let (field, why) = broken?;
+    Some(unread(bytes, &fields::name(field, &objects, names), why))
 }
 
 /// The number of the configuration at `place`, its value, and what was allowed.
@@ -92,7 +117,8 @@ fn not_allowed(bytes: &[u8], about: About, place: usize, names: &Names) -> Optio
         (About::EntryTotal, Field::EntryCount(table)) => fields::entries_left(&objects, table),
         _ => usual,
     };
-    let sentence = format!("{} is {}. Allowed: {allowed}.", fields::name(field, names), grouped(number.value.into()));
+    let (name, value) = (fields::name(field, &objects, names), fields::value(field, number.value, &objects, names));
+    let sentence = format!("{name} {value}. Allowed: {allowed}.");
     Some(Told { sentence, from: number.offset, to: number.end })
 }
 
@@ -114,7 +140,7 @@ fn mixed(objects: &Objects, table: usize, entry: usize, names: &Names) -> Option
         return Some(format!("{rule}; {one} is one, and {not} in the same table is not"));
     }
     let first = objects.tables.iter().position(|table| table.entries.iter().any(timed))?;
-    Some(format!("{rule}; {name} is one, and table {first} {} has such tasks already", names.tables.get(first)?))
+    Some(format!("{rule}; {name} is one, and {} has such tasks already", fields::table(first, names)))
 }
 
 fn left_over(bytes: &[u8], place: usize) -> Option<Told> {

@@ -10,10 +10,10 @@ use crate::names::Names;
 use crate::words::{self, grouped, KINDS, VERSIONS};
 
 /// A field as a sentence calls it.
-pub fn name(field: Field, names: &Names) -> String {
-    let body = |body: usize| numbered("body", body, names.bodies.get(body));
-    let resource = |resource: usize| numbered("resource", resource, names.resources.get(resource));
-    let table = |table: usize| numbered("table", table, names.tables.get(table));
+pub fn name(field: Field, objects: &Objects, names: &Names) -> String {
+    let body = |at: usize| body(at, objects, names);
+    let resource = |at: usize| numbered("resource", at, names.resources.get(at), names);
+    let table = |at: usize| numbered("table", at, names.tables.get(at), names);
     match field {
         Field::Version => "the version".into(),
         Field::BodyCount => "the body count".into(),
@@ -30,8 +30,45 @@ pub fn name(field: Field, names: &Names) -> String {
     }
 }
 
-fn numbered(thing: &str, number: usize, name: Option<&String>) -> String {
-    name.map_or_else(|| format!("{thing} {number}"), |name| format!("{thing} {number} {name}"))
+/// `ISR door` where a text names it, otherwise `body 3 isr3`.
+fn body(at: usize, objects: &Objects, names: &Names) -> String {
+    let kind = objects.bodies.get(at).and_then(|body| words::kind(body.kind));
+    let thing = kind.filter(|_| names.given).map_or("body", |kind| kind.name);
+    numbered(thing, at, names.bodies.get(at), names)
+}
+
+/// A thing by its name, with its number where no text gave the name.
+fn numbered(thing: &str, number: usize, name: Option<&String>, names: &Names) -> String {
+    match name {
+        Some(name) if names.given => format!("{thing} {name}"),
+        Some(name) => format!("{thing} {number} {name}"),
+        None => format!("{thing} {number}"),
+    }
+}
+
+/// A table by its name.
+pub fn table(at: usize, names: &Names) -> String {
+    numbered("table", at, names.tables.get(at), names)
+}
+
+/// What a field is, as a sentence goes on: `is 5`, `is modem, an ISR`, `are sensor and radio`.
+pub fn value(field: Field, value: u32, objects: &Objects, names: &Names) -> String {
+    let known = |body: u32| objects.bodies.get(body as usize).and_then(|body| words::kind(body.kind));
+    match field {
+        Field::Task(..) => match known(value) {
+            Some(kind) if names.given => format!("is {}, {}", names.body(value), kind.with_article()),
+            Some(kind) => format!("is {value} {}, {}", names.body(value), kind.with_article()),
+            None => format!("is {}", grouped(value.into())),
+        },
+        Field::Users(_)
+            if names.given && value != 0 && (0..32).all(|bit| value >> bit & 1 == 0 || known(bit).is_some()) =>
+        {
+            let users: Vec<String> = (0..32).filter(|bit| value >> bit & 1 == 1).map(|bit| names.body(bit)).collect();
+            format!("are {}", words::listed(&users))
+        }
+        Field::Users(_) => format!("are {value:#b}"),
+        _ => format!("is {}", grouped(value.into())),
+    }
 }
 
 /// A field and its value, for a dump.
@@ -81,8 +118,14 @@ pub fn allowed(field: Field, objects: &Objects, names: &Names) -> String {
         Field::Users(_) => {
             let last = objects.bodies.len().saturating_sub(1);
             let barred = |body: &layout::Body| words::kind(body.kind).is_some_and(|kind| !kind.in_masks);
-            let but = if objects.bodies.iter().any(barred) { ", none of a time-triggered task" } else { "" };
-            format!("a mask with bits of the bodies 0 to {last} only{but}, and not 0")
+            let any = objects.bodies.iter().any(barred);
+            if names.given {
+                let but = if any { ", none of them a time-triggered task" } else { "" };
+                format!("bodies of the configuration, at least one{but}")
+            } else {
+                let but = if any { ", none of a time-triggered task" } else { "" };
+                format!("a mask with bits of the bodies 0 to {last} only{but}, and not 0")
+            }
         }
         Field::TableCount => format!("0 to {TABLES_MAX}"),
         Field::Period(_) => format!("1 to {}", grouped(TICKS_MAX.into())),
@@ -97,7 +140,14 @@ pub fn allowed(field: Field, objects: &Objects, names: &Names) -> String {
                 .iter()
                 .enumerate()
                 .filter(|(_, body)| words::kind(body.kind).is_some_and(|kind| kind.in_tables))
-                .map(|(number, _)| format!("{number} {}", names.body(number as u32)))
+                .map(|(number, _)| {
+                    let name = names.body(number as u32);
+                    if names.given {
+                        name
+                    } else {
+                        format!("{number} {name}")
+                    }
+                })
                 .collect();
             match allowed.len() {
                 0 => "the number of a task, and there is none".into(),
@@ -111,7 +161,7 @@ pub fn allowed(field: Field, objects: &Objects, names: &Names) -> String {
 /// The first body that has this priority.
 pub fn priority_owner(objects: &Objects, priority: u32, names: &Names) -> Option<String> {
     let owner = objects.bodies.iter().position(|body| body.priority == priority)?;
-    Some(numbered("body", owner, names.bodies.get(owner)))
+    Some(body(owner, objects, names))
 }
 
 /// Whether an entry of a table names a time-triggered task.

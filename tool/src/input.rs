@@ -1,14 +1,15 @@
 //! Files by content, bytes or the text form, and from them a configuration and a trace.
 
 use std::fs::File;
-use std::io::Read;
+use std::io::{self, Read};
 
 use crate::failure::{self, Failure};
 use crate::layout;
 use crate::names::Names;
+use crate::oil;
 use crate::text::line::{Fault, Position};
 use crate::text::{self, Assembled, Sheet, LENGTH_MAX};
-use crate::words::Part;
+use crate::words::{grouped, Part};
 
 /// Why an input is not there.
 pub enum InputFault {
@@ -29,11 +30,19 @@ impl From<InputFault> for Failure {
 pub enum Content {
     Bytes(Vec<u8>),
     Text(String),
+    /// A configuration in OIL.
+    Oil(Vec<u8>),
 }
 
 /// Reads a file.
 pub fn read(name: &str, part: Part) -> Result<Content, InputFault> {
-    read_bytes(name, part).map(content)
+    read_bytes(name, part).map(|bytes| {
+        if part == Part::Config && oil::is_oil(&bytes) {
+            Content::Oil(bytes)
+        } else {
+            content(bytes)
+        }
+    })
 }
 
 /// Reads a file, whatever it holds, as bytes.
@@ -42,11 +51,60 @@ pub fn read_bytes(name: &str, part: Part) -> Result<Vec<u8>, InputFault> {
         InputFault::Unreadable(part, format!("{name} can't be read: {}", failure::reason(&error)))
     };
     let mut bytes = Vec::new();
-    File::open(name).and_then(|file| file.take(LENGTH_MAX as u64 + 1).read_to_end(&mut bytes)).map_err(unreadable)?;
+    let mut take = |source: &mut dyn Read| source.take(LENGTH_MAX as u64 + 1).read_to_end(&mut bytes);
+    let read = if name == STANDARD_INPUT {
+        take(&mut io::stdin())
+    } else {
+        File::open(name).and_then(|mut file| take(&mut file))
+    };
+    read.map_err(unreadable)?;
     if bytes.len() > LENGTH_MAX {
-        return Err(InputFault::Wrong(format!("{name} is longer than {LENGTH_MAX} bytes")));
+        return Err(InputFault::Wrong(format!(
+            "{name} is longer than {} bytes, and is not read",
+            grouped(LENGTH_MAX as u64)
+        )));
     }
     Ok(bytes)
+}
+
+/// The name of standard input and standard output.
+pub const STANDARD_INPUT: &str = "-";
+
+/// Why bytes that look like a text are none; none if they don't look like one.
+pub fn no_text_because(bytes: &[u8]) -> Option<String> {
+    if bytes.is_empty() {
+        return Some("it is empty".into());
+    }
+    if bytes.starts_with(b"\xff\xfe") || bytes.starts_with(b"\xfe\xff") {
+        return Some("it is UTF-16: save it as UTF-8".into());
+    }
+    let plain = |byte: &&u8| (32..127).contains(*byte) || matches!(**byte, b'\t' | b'\n' | b'\r');
+    let (even, odd): (Vec<_>, Vec<_>) = bytes.iter().enumerate().partition(|(at, _)| at % 2 == 0);
+    let zeros = |half: &[(usize, &u8)]| 2 * half.iter().filter(|(_, byte)| **byte == 0).count() > half.len();
+    if bytes.len() > 8 && zeros(&even) != zeros(&odd) && 5 * bytes.iter().filter(plain).count() > 2 * bytes.len() {
+        return Some("it looks like UTF-16: save it as UTF-8".into());
+    }
+    // A text with a few odd bytes.
+    let letters = bytes.iter().filter(|byte| byte.is_ascii_alphabetic()).count();
+    if 10 * bytes.iter().filter(plain).count() < 9 * bytes.len() || 2 * letters < bytes.len() {
+        return None;
+    }
+    let valid = std::str::from_utf8(bytes).map_or_else(|error| error.valid_up_to(), str::len);
+    let text = String::from_utf8_lossy(&bytes[..valid]);
+    let text = text.strip_prefix(BYTE_ORDER_MARK).unwrap_or(&text);
+    let place = |before: &str| {
+        let column = before.rsplit('\n').next().unwrap_or_default().chars().count() + 1;
+        format!("line {}, column {column}", before.matches('\n').count() + 1)
+    };
+    if text.starts_with(['\n', '\r', '\t']) {
+        return Some("its first line is empty or begins with a tab".into());
+    }
+    if let Some((at, sign)) =
+        text.char_indices().find(|(_, sign)| sign.is_control() && !matches!(sign, '\t' | '\n' | '\r'))
+    {
+        return Some(format!("it has the control character {:02X} at {}", u32::from(sign), place(&text[..at])));
+    }
+    bytes.get(valid).map(|byte| format!("it is not UTF-8 at {} (byte {byte:02X})", place(text)))
 }
 
 /// What UTF-8 files of some editors begin with.
@@ -110,6 +168,11 @@ impl Source {
         Source { file: file.into(), bytes: assembled.bytes.clone(), assembled: Some(assembled) }
     }
 
+    /// Whether it was made from a text.
+    pub fn is_text(&self) -> bool {
+        self.assembled.is_some()
+    }
+
     /// Where the text says the number that covers this offset.
     pub fn position(&self, offset: usize) -> Option<Position> {
         self.assembled.as_ref().and_then(|assembled| assembled.position(offset))
@@ -122,6 +185,13 @@ pub struct Config {
 }
 
 impl Config {
+    fn of_oil(file: &str, text: &[u8]) -> Result<Config, InputFault> {
+        match oil::read(file, text) {
+            Ok((bytes, names)) => Ok(Config { source: Source::of_bytes(file, bytes), names }),
+            Err(refused) => Err(InputFault::Wrong(refused.message)),
+        }
+    }
+
     pub fn of_bytes(file: &str, bytes: Vec<u8>) -> Config {
         let names = Names::of(&layout::config(&bytes).objects);
         Config { source: Source::of_bytes(file, bytes), names }
@@ -161,28 +231,43 @@ pub fn read_config(file: &str) -> Result<Config, InputFault> {
     config_of(file, read(file, Part::Config)?)
 }
 
-fn config_of(file: &str, content: Content) -> Result<Config, InputFault> {
+/// A configuration from what its file holds.
+pub fn config_of(file: &str, content: Content) -> Result<Config, InputFault> {
     let text = match content {
         Content::Bytes(bytes) => return Ok(Config::of_bytes(file, bytes)),
+        Content::Oil(text) => return Config::of_oil(file, &text),
         Content::Text(text) => text,
     };
     let sheet = Sheet { trace: None, ..Sheet::of(plain(&text), Some(Part::Config)) };
+    if let Some(fault) = trace_in_the_place_of_a_configuration(file, &text) {
+        return Err(fault);
+    }
     assemble_sheet(file, &text, sheet, None)?.config.ok_or_else(|| no_configuration(file))
 }
 
+/// A text whose first statement is an event's, or that begins with the line `trace`.
+fn trace_in_the_place_of_a_configuration(file: &str, text: &str) -> Option<InputFault> {
+    let guessed = Sheet::of(plain(text), None);
+    guessed.config.is_none().then(|| no_configuration(file))
+}
+
 fn no_configuration(file: &str) -> InputFault {
-    InputFault::Wrong(format!("{file} holds a trace alone, no configuration"))
+    InputFault::Wrong(format!("{file} holds a trace alone, no configuration, which comes first"))
 }
 
 fn trace_of(file: &str, content: Content, names: &Names) -> Result<Source, InputFault> {
     let text = match content {
-        Content::Bytes(bytes) => return Ok(Source::of_bytes(file, bytes)),
+        Content::Bytes(bytes) | Content::Oil(bytes) => return Ok(Source::of_bytes(file, bytes)),
         Content::Text(text) => text,
     };
     let sheet = Sheet::of(plain(&text), Some(Part::Trace));
     if sheet.config.is_some() {
         let message = format!("{file} holds a configuration of its own: give it as the only file, or a trace alone");
         return Err(InputFault::Wrong(message));
+    }
+    let first = sheet.trace.as_ref().and_then(|lines| lines.first()).and_then(|line| line.peek());
+    if first.is_some_and(text::config::begins) {
+        return Err(InputFault::Wrong(format!("{file} holds a configuration, no trace, which comes second")));
     }
     let trace = assemble_sheet(file, &text, sheet, Some(names))?.trace;
     Ok(trace.unwrap_or_else(|| Source::of_bytes(file, Vec::new())))
@@ -215,12 +300,19 @@ pub fn read_pair(files: &[String]) -> Result<Pair, InputFault> {
 }
 
 fn both_of(file: &str, content: Content) -> Result<Pair, InputFault> {
-    let Content::Text(text) = content else {
-        return Err(InputFault::Wrong(format!("{file} holds bytes: the trace has to be a second file")));
+    let text = match content {
+        Content::Text(text) => text,
+        Content::Oil(_) => {
+            return Err(InputFault::Wrong(format!("{file} holds OIL: the trace has to be a second file")));
+        }
+        Content::Bytes(bytes) => {
+            let why = no_text_because(&bytes).map_or_else(String::new, |why| format!(" ({why})"));
+            return Err(InputFault::Wrong(format!("{file} holds bytes{why}: the trace has to be a second file")));
+        }
     };
     let sheet = Sheet::of(plain(&text), Some(Part::Config));
-    if sheet.config.is_none() {
-        return Err(no_configuration(file));
+    if let Some(fault) = trace_in_the_place_of_a_configuration(file, &text) {
+        return Err(fault);
     }
     match assemble_sheet(file, &text, sheet, None)? {
         Holds { config: Some(config), trace: Some(trace) } => Ok(Pair { config, trace }),

@@ -4,26 +4,32 @@
 //! Words of document 01 are in [`words`], the places of numbers in [`layout`], the text form in [`text`], each command
 //! in [`commands`].
 
+mod choice;
 mod commands;
 mod compare;
 mod coverage;
 mod explain;
 mod failure;
 mod fields;
+mod history;
 mod input;
 mod inspect;
 mod json;
 mod layout;
+mod manual;
 mod names;
+mod oil;
 mod options;
 mod output;
 mod power;
 mod progress;
+mod record;
 mod reference;
 mod text;
 mod timeline;
 mod unit;
 mod verdict;
+mod why;
 mod words;
 
 use std::process::ExitCode;
@@ -55,7 +61,9 @@ fn dispatch(arguments: &[String]) -> Result<Ending, Failure> {
             }
         }
         compare::library::CALL => return compare::library::call(rest),
-        "--version" => return show(concat!("osek ", env!("CARGO_PKG_VERSION"), "\n")),
+        "--man" => return show(&manual::page()),
+        "--completion" => return show(&manual::completion()),
+        "--version" => return show(&format!("osek {}\n", reference::version())),
         _ => {}
     }
     let command = commands::find(name)?;

@@ -6,6 +6,8 @@ use crate::words::{self, Sort};
 
 #[derive(Clone, PartialEq, Eq, Debug, Default)]
 pub struct Names {
+    /// Whether a text gave them.
+    pub given: bool,
     pub bodies: Vec<String>,
     pub resources: Vec<String>,
     pub tables: Vec<String>,
@@ -17,6 +19,7 @@ impl Names {
         let kind = |number| words::kind(number).map_or("body", |kind| kind.word);
         let numbered = |thing: &str, count: usize| (0..count).map(|number| format!("{thing}{number}")).collect();
         Names {
+            given: false,
             bodies: objects.bodies.iter().enumerate().map(|(i, body)| format!("{}{i}", kind(body.kind))).collect(),
             resources: numbered("resource", objects.resources.len()),
             tables: numbered("table", objects.tables.len()),

@@ -63,6 +63,10 @@ impl Options {
         if self.files.len() < needed {
             return Err(self.wrong(&format!("{} is missing", accepts.files[self.files.len()])));
         }
+        let inputs = self.files.iter().map(String::as_str).chain(self.value("--config"));
+        if inputs.filter(|name| *name == "-").count() > 1 {
+            return Err(self.wrong("standard input, -, can be read once"));
+        }
         match self.files.get(accepts.files.len()) {
             Some(extra) => Err(self.wrong(&format!("one argument too many: {extra}"))),
             None => Ok(()),

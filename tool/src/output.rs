@@ -2,6 +2,7 @@
 
 use std::fs;
 use std::io::{self, Write};
+use std::os::unix::fs::MetadataExt;
 use std::path::Path;
 
 use crate::failure::Failure;
@@ -26,6 +27,18 @@ pub fn write(name: &str, bytes: impl AsRef<[u8]>) -> Result<(), Failure> {
         return print(bytes);
     }
     fs::write(name, bytes).map_err(|error| Failure::write(name, &error))
+}
+
+/// An output that is one of the inputs would be gone before it is of use.
+pub fn not_over(out: &str, inputs: &[String]) -> Result<(), Failure> {
+    let same = |input: &String| {
+        let found = |name: &str| fs::metadata(name).map(|file| (file.dev(), file.ino())).ok();
+        out != "-" && input != "-" && fs::metadata(out).is_ok_and(|file| file.is_file()) && found(out) == found(input)
+    };
+    match inputs.iter().find(|input| same(input)) {
+        Some(input) => Err(Failure::Output(format!("{out} is not written: it is the input {input}"))),
+        None => Ok(()),
+    }
 }
 
 /// Writes a file of a folder.

@@ -7,6 +7,13 @@ use osek_tests::{listing, subject, verdict};
 
 use crate::layout;
 
+/// The library's version, which its header has.
+pub fn version() -> &'static str {
+    const HEADER: &str = include_str!("../../include/osek.h");
+    let after = HEADER.split_once("#define OSEK_VERSION \"").map_or("", |(_, after)| after);
+    after.split('"').next().unwrap_or_default()
+}
+
 /// Bytes of an answer and of a loss count in the output.
 pub const ANSWER_SIZE: usize = 4;
 pub const LOSS_SIZE: usize = 2;

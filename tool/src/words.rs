@@ -38,8 +38,6 @@ pub struct EventWord {
     /// As the text form writes it.
     pub word: &'static str,
     pub arguments: &'static [Sort],
-    /// The statuses other than 0 in the order of their checks, each with what it says of this event.
-    pub statuses: &'static [(u8, &'static str)],
 }
 
 impl EventWord {
@@ -49,107 +47,28 @@ impl EventWord {
 
     /// Whether an answer to this event says that a line is lost.
     pub fn loses_a_line(&self, status: u8) -> bool {
-        self.code == LINE && status == REQUEST_WAITS.0
+        self.code == LINE && status == LIMIT
     }
 }
 
 const TICK: u32 = 6;
 const LINE: u32 = 7;
 
-const NOBODY_RUNS: (u8, &str) = (2, "nobody runs");
-const NO_CALLER: (u8, &str) = (2, "nobody runs, or a time-triggered task does");
-const NO_TASK: (u8, &str) = (3, "no task has this number");
-const NO_OSEK_TASK: (u8, &str) = (3, "no task has this number, or a time-triggered one has");
-const NO_RESOURCE: (u8, &str) = (3, "no resource has this number");
-const NO_TABLE: (u8, &str) = (3, "no table has this number");
-const NOT_SUSPENDED: (u8, &str) = (4, "the task is not suspended");
-const HOLDS: (u8, &str) = (6, "the running body holds a resource");
-const RUNNER_NOT_EXTENDED: (u8, &str) = (1, "the running body is no extended task");
-const REQUEST_WAITS: (u8, &str) = (4, "a request of this ISR waits already");
+const LIMIT: u8 = 4;
 
 pub const EVENTS: [EventWord; 12] = [
-    EventWord {
-        code: 1,
-        name: "Activate",
-        word: "activate",
-        arguments: &[Sort::Body],
-        statuses: &[NO_CALLER, NO_OSEK_TASK, NOT_SUSPENDED],
-    },
-    EventWord { code: 2, name: "Finish", word: "finish", arguments: &[], statuses: &[NOBODY_RUNS, HOLDS] },
-    EventWord {
-        code: 3,
-        name: "Chain",
-        word: "chain",
-        arguments: &[Sort::Body],
-        statuses: &[(2, "nobody runs, or an ISR or a time-triggered task does"), NO_OSEK_TASK, HOLDS, NOT_SUSPENDED],
-    },
-    EventWord {
-        code: 4,
-        name: "Get",
-        word: "get",
-        arguments: &[Sort::Resource],
-        statuses: &[
-            NO_CALLER,
-            NO_RESOURCE,
-            (33, "the running body is no declared user of the resource"),
-            (1, "the resource is held already"),
-        ],
-    },
-    EventWord {
-        code: 5,
-        name: "Release",
-        word: "release",
-        arguments: &[Sort::Resource],
-        statuses: &[NO_CALLER, NO_RESOURCE, (5, "it is not the resource that the running body took last")],
-    },
-    EventWord { code: TICK, name: "Tick", word: "tick", arguments: &[], statuses: &[] },
-    EventWord {
-        code: LINE,
-        name: "Line",
-        word: "line",
-        arguments: &[Sort::Body],
-        statuses: &[(3, "no ISR has this number"), REQUEST_WAITS],
-    },
-    EventWord {
-        code: 8,
-        name: "Start",
-        word: "start",
-        arguments: &[Sort::Table, Sort::Delay],
-        statuses: &[
-            NO_CALLER,
-            NO_TABLE,
-            (8, "the delay is 0, or with the table's smallest offset above 65,535"),
-            (7, "the table already runs"),
-        ],
-    },
-    EventWord {
-        code: 9,
-        name: "Stop",
-        word: "stop",
-        arguments: &[Sort::Table],
-        statuses: &[NO_CALLER, NO_TABLE, (5, "the table is stopped")],
-    },
-    EventWord {
-        code: 10,
-        name: "Wait",
-        word: "wait",
-        arguments: &[Sort::Mask],
-        statuses: &[NO_CALLER, RUNNER_NOT_EXTENDED, HOLDS],
-    },
-    EventWord {
-        code: 11,
-        name: "Set",
-        word: "set",
-        arguments: &[Sort::Body, Sort::Mask],
-        statuses: &[NO_CALLER, NO_TASK, (1, "the task is no extended task"), (7, "the task is suspended")],
-    },
-    EventWord {
-        code: 12,
-        name: "Clear",
-        word: "clear",
-        arguments: &[Sort::Mask],
-        statuses: &[NO_CALLER, RUNNER_NOT_EXTENDED],
-    },
+    EventWord { code: 1, name: "Activate", word: "activate", arguments: &[Sort::Body] },
+    EventWord { code: 2, name: "Finish", word: "finish", arguments: &[] },
+    EventWord { code: 3, name: "Chain", word: "chain", arguments: &[Sort::Body] },
+    EventWord { code: 4, name: "Get", word: "get", arguments: &[Sort::Resource] },
+    EventWord { code: 5, name: "Release", word: "release", arguments: &[Sort::Resource] },
+    EventWord { code: TICK, name: "Tick", word: "tick", arguments: &[] },
+    EventWord { code: LINE, name: "Line", word: "line", arguments: &[Sort::Body] },
+    EventWord { code: 8, name: "Start", word: "start", arguments: &[Sort::Table, Sort::Delay] },
+    EventWord { code: 9, name: "Stop", word: "stop", arguments: &[Sort::Table] },
+    EventWord { code: 10, name: "Wait", word: "wait", arguments: &[Sort::Mask] },
+    EventWord { code: 11, name: "Set", word: "set", arguments: &[Sort::Body, Sort::Mask] },
+    EventWord { code: 12, name: "Clear", word: "clear", arguments: &[Sort::Mask] },
 ];
 
 pub fn event(code: u32) -> Option<&'static EventWord> {
@@ -184,11 +103,6 @@ pub fn status_words(number: u8) -> String {
     status(number).map_or_else(|| number.to_string(), |name| format!("{number} {name}"))
 }
 
-/// What a status says of an event.
-pub fn status_meaning(event: &EventWord, status: u8) -> &'static str {
-    event.statuses.iter().find(|(number, _)| *number == status).map_or("done", |(_, meaning)| meaning)
-}
-
 /// A version of the configuration.
 pub struct VersionWord {
     pub number: u32,
@@ -218,6 +132,8 @@ pub struct KindWord {
     pub autostarts: bool,
     pub in_tables: bool,
     pub in_masks: bool,
+    /// Whether it has event bits.
+    pub has_bits: bool,
     /// Whether entries alone start it, and it preempts whoever runs.
     pub time_triggered: bool,
 }
@@ -239,6 +155,7 @@ pub const KINDS: [KindWord; 4] = [
         autostarts: true,
         in_tables: true,
         in_masks: true,
+        has_bits: false,
         time_triggered: false,
     },
     KindWord {
@@ -249,6 +166,7 @@ pub const KINDS: [KindWord; 4] = [
         autostarts: false,
         in_tables: false,
         in_masks: true,
+        has_bits: false,
         time_triggered: false,
     },
     KindWord {
@@ -259,6 +177,7 @@ pub const KINDS: [KindWord; 4] = [
         autostarts: true,
         in_tables: true,
         in_masks: true,
+        has_bits: true,
         time_triggered: false,
     },
     KindWord {
@@ -269,6 +188,7 @@ pub const KINDS: [KindWord; 4] = [
         autostarts: false,
         in_tables: true,
         in_masks: false,
+        has_bits: false,
         time_triggered: true,
     },
 ];
@@ -281,6 +201,19 @@ pub fn kind(number: u32) -> Option<&'static KindWord> {
 pub fn is_time_triggered(number: u32) -> bool {
     kind(number).is_some_and(|kind| kind.time_triggered)
 }
+
+/// A class of systems: what it adds to the first one.
+pub struct ClassWord {
+    pub name: &'static str,
+    pub adds_kinds: &'static [u32],
+    pub adds_events: &'static [u32],
+}
+
+pub const CLASSES: [ClassWord; 3] = [
+    ClassWord { name: "bcc1", adds_kinds: &[], adds_events: &[] },
+    ClassWord { name: "ecc1", adds_kinds: &[2], adds_events: &[10, 11, 12] },
+    ClassWord { name: "timed", adds_kinds: &[3], adds_events: &[] },
+];
 
 /// What a refusal is about, and with it what its place counts.
 #[derive(Clone, Copy, PartialEq, Eq, Debug)]
@@ -379,14 +312,40 @@ pub fn counted(number: usize, thing: &str) -> String {
 
 /// `a`, `a or b`, `a, b or c`.
 pub fn either<T: AsRef<str>>(words: &[T]) -> String {
+    joined(words, "or")
+}
+
+/// `a`, `a and b`, `a, b and c`.
+pub fn listed<T: AsRef<str>>(words: &[T]) -> String {
+    joined(words, "and")
+}
+
+fn joined<T: AsRef<str>>(words: &[T], before_last: &str) -> String {
     match words {
         [] => String::new(),
         [word] => word.as_ref().into(),
         [most @ .., last] => {
             let most: Vec<&str> = most.iter().map(AsRef::as_ref).collect();
-            format!("{} or {}", most.join(", "), last.as_ref())
+            format!("{} {before_last} {}", most.join(", "), last.as_ref())
         }
     }
+}
+
+/// A text of others as a terminal may show it: control characters are written as `\\x1b`, and a long line is cut.
+pub fn visible(text: &str) -> String {
+    const SHOWN: usize = 160;
+    let mut shown = String::new();
+    for sign in text.chars().take(SHOWN) {
+        if sign.is_control() && sign != '\t' {
+            shown.push_str(&format!("\\x{:02x}", u32::from(sign)));
+        } else {
+            shown.push(sign);
+        }
+    }
+    if text.chars().count() > SHOWN {
+        shown.push_str("..");
+    }
+    shown
 }
 
 /// A sentence lists at most so many things, then `..`.
@@ -402,8 +361,6 @@ mod tests {
         for (code, name, statuses) in coverage::STATUSES {
             let event = event(u32::from(code)).expect("a covered event has a word");
             assert_eq!(event.name, name);
-            let worded: Vec<u8> = [0].into_iter().chain(event.statuses.iter().map(|(status, _)| *status)).collect();
-            assert_eq!(worded, statuses);
             for number in statuses {
                 assert!(status(*number).is_some());
             }

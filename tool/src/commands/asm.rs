@@ -27,9 +27,17 @@ fn run(options: &Options) -> Result<Ending, Failure> {
     let out = options.required("-o")?;
     let config = options.value("--config").map(input::read_config).transpose()?;
     let file = &options.files[0];
+    output::not_over(out, &options.files)?;
     let text = match input::read(file, Part::Config)? {
         Content::Bytes(bytes) => {
+            if let Some(why) = input::no_text_because(&bytes).filter(|_| !bytes.is_empty()) {
+                return Err(Failure::Input(format!("{file} can't be read as a text: {why}")));
+            }
             output::write(out, bytes)?;
+            return Ok(Ending::Done);
+        }
+        oil @ Content::Oil(_) => {
+            output::write(out, input::config_of(file, oil)?.source.bytes)?;
             return Ok(Ending::Done);
         }
         Content::Text(text) => text,

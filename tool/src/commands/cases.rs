@@ -2,9 +2,8 @@
 
 use std::fmt::Write;
 
-use osek_tests::cases;
-
 use super::Command;
+use crate::choice::{self, Choice};
 use crate::failure::{Ending, Failure};
 use crate::options::{Accepts, Options};
 use crate::output;
@@ -29,7 +28,12 @@ same that the tests draw.
   --first K   the number of the first case; 0 if not given
   --count N   how many, 1 to 1000000
 ",
-    accepts: Accepts { flags: &[], values: &["--seed", "--first", "--count", "-o"], files: &[], optional: 0 },
+    accepts: Accepts {
+        flags: &[choice::ACCEPTED],
+        values: &["--seed", "--first", "--count", choice::CLASS, choice::VERSIONS_OPTION, "-o"],
+        files: &[],
+        optional: 0,
+    },
     run,
 };
 
@@ -38,12 +42,12 @@ fn run(options: &Options) -> Result<Ending, Failure> {
     let first = options.number("--first", 0, 0, u64::MAX - COUNT_MAX)?;
     options.required("--count")?;
     let count = options.number("--count", 0, 1, COUNT_MAX)?;
+    let choice = Choice::of(options)?;
     let folder = output::new_folder(options.required("-o")?)?;
     let digits = (first + count - 1).to_string().len().max(4);
     let mut index = String::from("case,config_bytes,trace_bytes,events,refusal,place\n");
     let mut progress = Progress::new(count);
-    for number in first..first + count {
-        let case = cases::case(seed, number);
+    for (done, (number, case)) in (1..=count).zip(choice.cases(seed, first)) {
         let outcome = reference::run(&case.config, &case.trace);
         let name = format!("{number:0digits$}");
         output::write_in(folder, &format!("{name}.config.bin"), &case.config)?;
@@ -55,7 +59,7 @@ fn run(options: &Options) -> Result<Ending, Failure> {
             Err(Refused { code, place }) => format!(",{code},{place}"),
         };
         let _ = writeln!(index, "{name},{},{},{result}", case.config.len(), case.trace.len());
-        progress.at(number - first + 1);
+        progress.at(done);
     }
     output::write_in(folder, "index.csv", index)?;
     Ok(Ending::Done)

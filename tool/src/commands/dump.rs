@@ -39,6 +39,7 @@ fn run(options: &Options) -> Result<Ending, Failure> {
             Part::Config => config_text(Config::of_bytes(file, bytes)),
             Part::Trace => dump::trace(&bytes, &names.unwrap_or_default()),
         },
+        oil @ Content::Oil(_) => config_text(input::config_of(file, oil)?),
         Content::Text(text) => {
             let holds = input::assemble(file, &text, wanted, names.as_ref())?;
             let own = holds.config.as_ref().map(|config| config.names.clone()).or(names).unwrap_or_default();

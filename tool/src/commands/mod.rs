@@ -2,6 +2,7 @@
 
 mod asm;
 mod cases;
+mod check;
 mod compare;
 mod coverage;
 mod draw;
@@ -18,6 +19,7 @@ mod wait;
 
 use std::fmt::Write;
 
+use crate::choice;
 use crate::failure::{Ending, Failure, EXIT_STATUSES};
 use crate::options::{Accepts, Options};
 
@@ -33,9 +35,10 @@ pub struct Command {
     pub run: fn(&Options) -> Result<Ending, Failure>,
 }
 
-const COMMANDS: [&Command; 15] = [
+pub const COMMANDS: [&Command; 16] = [
     &run::COMMAND,
     &explain::COMMAND,
+    &check::COMMAND,
     &timeline::COMMAND,
     &wait::COMMAND,
     &asm::COMMAND,
@@ -51,16 +54,28 @@ const COMMANDS: [&Command; 15] = [
     &power::COMMAND,
 ];
 
-const INPUTS: &str = "\
-CONFIG and TRACE are files of bytes or of the text form, told apart by their content. LOGGER is one text that holds
-both, with a line `trace` between. docs/TEXT.md has the text form.
+pub const INPUTS: &str = "\
+CONFIG and TRACE are files of bytes or of the text form, told apart by their content, - for standard input; a CONFIG may
+be OIL, too. LOGGER is one text that holds both, with a line `trace` between. docs/TEXT.md has the text form. Files over
+16 MiB (16,777,216 bytes) are not read.
 ";
 
 impl Command {
+    /// What follows the name on a command line.
+    pub fn usage(&self) -> &'static [&'static str] {
+        self.usage
+    }
+
+    /// What it does, and its options.
+    pub fn details(&self) -> String {
+        let choice = if self.accepts.values.contains(&choice::CLASS) { choice::DETAILS } else { "" };
+        format!("{}{choice}", self.details)
+    }
+
     pub fn help(&self) -> String {
         let usage: Vec<String> = self.usage.iter().map(|usage| format!("osek {} {usage}", self.name)).collect();
         let inputs = if self.accepts.files.contains(&"TRACE") { format!("{INPUTS}\n") } else { String::new() };
-        format!("usage: {}\n\n{}\n{inputs}{EXIT_STATUSES}", usage.join("\n       "), self.details)
+        format!("usage: {}\n\n{}\n{inputs}{EXIT_STATUSES}", usage.join("\n       "), self.details())
     }
 }
 

@@ -75,6 +75,11 @@ impl Listing {
     fn shown(&self, options: &Options) -> String {
         let run = match &self.outcome {
             Err(refused) if options.flag("--json") => return json_refused(*refused),
+            Err(refused) if options.flag("--names") => {
+                let meaning = words::refusal(refused.code).map_or("", |word| word.meaning);
+                let files = options.files.join(" ");
+                return format!("{}: {meaning}\nosek explain {files} says where and why\n", refused.line().trim_end());
+            }
             Err(refused) => return refused.line(),
             Ok(run) => run,
         };

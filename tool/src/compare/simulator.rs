@@ -15,6 +15,7 @@ use osek_tests::cases::Case;
 
 use super::library;
 use crate::failure::{self, Failure};
+use crate::record;
 use crate::unit::{self, Played, Unit, Way};
 
 /// Which simulator.
@@ -177,9 +178,8 @@ fn reply(played: Played, config: &[u8]) -> Reply {
     }
 }
 
-/// A listing begins with its header or with `refused`; no status has the number of an s or an r.
 fn printed(bytes: Vec<u8>) -> Reply {
-    let is_listing = bytes.starts_with(b"step ") || bytes.starts_with(b"refused ");
+    let is_listing = record::is_listing(&bytes);
     match String::from_utf8(bytes) {
         Ok(text) if is_listing => Reply::Listing(text),
         Ok(text) => Reply::Output(text.into_bytes()),

@@ -27,6 +27,11 @@ pub fn is_reserved(word: &str) -> bool {
     fixed.contains(&word) || KINDS.iter().any(|kind| kind.word == word)
 }
 
+/// Whether a configuration begins with this word.
+pub fn begins(word: &str) -> bool {
+    [VERSION, BODY, RESOURCE, TABLE].contains(&word) || KINDS.iter().any(|kind| kind.word == word)
+}
+
 /// A number and where it stands.
 type Placed = (u32, Position);
 
@@ -82,6 +87,7 @@ pub fn assemble(lines: Vec<Line>) -> Result<(Assembled, Names), Fault> {
         let names = Names::of(&layout::config(&raw.bytes).objects);
         return Ok((raw, names));
     };
+    objects.names.given = true;
     let mut assembled = objects.write(version)?;
     let objects_end = assembled.bytes.len();
     assembled.bytes.extend(raw.bytes);
@@ -254,10 +260,13 @@ pub fn resolve(names: &Names, sort: Sort, reference: &Reference, position: Posit
     names.number(sort, name).ok_or_else(|| {
         let thing = sort.name();
         let known = names.known(sort);
+        let other =
+            [Sort::Body, Sort::Resource, Sort::Table].into_iter().find(|sort| names.number(*sort, name).is_some());
+        let is = other.map_or_else(String::new, |other| format!(" (it is a {})", other.name()));
         let message = if known.is_empty() {
-            format!("no {thing} is named `{name}`: the configuration names none")
+            format!("no {thing} is named `{name}`{is}: the configuration names none")
         } else {
-            format!("no {thing} is named `{name}`: the configuration has {known}")
+            format!("no {thing} is named `{name}`{is}: the configuration has {known}")
         };
         Fault { position, width: reference_width(reference), message }
     })

@@ -58,7 +58,7 @@ pub fn config(bytes: &[u8], names: &Names) -> String {
                     number_row(bytes, statement, number, fields::meaning(*field, number.value, names))
                 })
                 .collect();
-            let why = format!("{}: {}", fields::name(field, names), break_words(why));
+            let why = format!("{}: {}", fields::name(field, &read.objects, names), break_words(why));
             rows.extend(bytes_rows(bytes, read.end, &why));
             rows
         }
@@ -66,7 +66,11 @@ pub fn config(bytes: &[u8], names: &Names) -> String {
     let mut text = format!("# configuration, {}\n", words::counted(bytes.len(), "byte"));
     write_rows(&mut text, &rows);
     if let Some((field, Break::Cut { offset })) = read.broken.filter(|(_, why)| why.offset() == bytes.len()) {
-        let _ = writeln!(text, "# it ends at offset {offset}, where {} is missing", fields::name(field, names));
+        let _ = writeln!(
+            text,
+            "# it ends at offset {offset}, where {} is missing",
+            fields::name(field, &read.objects, names)
+        );
     }
     text
 }

@@ -1,6 +1,7 @@
 //! A timeline as trace events in JSON, for Perfetto and chrome://tracing.
 
-use super::{Moment, State, Timeline};
+use super::times;
+use crate::history::{History, Moment, State};
 use crate::json;
 use crate::words;
 
@@ -12,12 +13,12 @@ const BODIES: u32 = 2;
 const EVENTS: usize = 0;
 const STATUSES: usize = 1;
 
-pub fn write(timeline: &Timeline) -> String {
-    let mut events = names(timeline);
-    events.extend(states(timeline));
-    events.extend(steps(timeline));
-    events.extend(levels(timeline));
-    events.extend(losses(timeline));
+pub fn write(history: &History) -> String {
+    let mut events = names(history);
+    events.extend(states(history));
+    events.extend(steps(history));
+    events.extend(levels(history));
+    events.extend(losses(history));
     format!("{{\"displayTimeUnit\": \"ms\", \"traceEvents\": {}}}\n", json::lines(&events))
 }
 
@@ -37,7 +38,7 @@ fn event(phase: &str, name: &str, process: u32, row: usize, rest: &[(&str, Strin
     json::object(&members)
 }
 
-fn names(timeline: &Timeline) -> Vec<String> {
+fn names(history: &History) -> Vec<String> {
     let called = |kind: &str, process, row, name: &str| {
         event("M", kind, process, row, &[("args", json::object(&[("name", json::string(name))]))])
     };
@@ -47,8 +48,10 @@ fn names(timeline: &Timeline) -> Vec<String> {
         called("thread_name", RUN, STATUSES, "statuses other than 0"),
         called("process_name", BODIES, 0, "bodies"),
     ];
-    for (place, body) in timeline.by_priority().into_iter().enumerate() {
-        let name = format!("{} (priority {})", timeline.names.body(body as u32), timeline.priority(body));
+    for (place, body) in history.by_priority().into_iter().enumerate() {
+        let sort = if history.is_time_triggered(body) { "time-triggered, " } else { "" };
+        let priority = history.objects.bodies[body].priority;
+        let name = format!("{} ({sort}priority {priority})", history.names.body(body as u32));
         events.push(called("thread_name", BODIES, body, &name));
         let order = json::object(&[("sort_index", place.to_string())]);
         events.push(event("M", "thread_sort_index", BODIES, body, &[("args", order)]));
@@ -57,15 +60,15 @@ fn names(timeline: &Timeline) -> Vec<String> {
 }
 
 /// A stretch for each state other than suspended.
-fn states(timeline: &Timeline) -> Vec<String> {
-    let moments: Vec<&Moment> = timeline.moments().collect();
-    let times: Vec<u64> = std::iter::once(0).chain(timeline.times()).collect();
+fn states(history: &History) -> Vec<String> {
+    let moments: Vec<&Moment> = history.moments().collect();
+    let times: Vec<u64> = std::iter::once(0).chain(times(history)).collect();
     let mut events = Vec::new();
-    for body in 0..timeline.bodies.len() {
+    for body in 0..history.objects.bodies.len() {
         let mut first = 0;
         while first < moments.len() {
             let state = moments[first].states[body];
-            let begins = |moment: &usize| *moment > first && timeline.steps[*moment - 1].answer.begun == 1;
+            let begins = |moment: &usize| *moment > first && history.steps[*moment - 1].answer.begun == 1;
             // A body that ends and begins again in one event goes on running: the stretch is parted there.
             let again = |moment: &usize| state == State::Running && begins(moment);
             let same = |moment: &usize| moments[*moment].states[body] == state && !again(moment);
@@ -84,10 +87,10 @@ fn states(timeline: &Timeline) -> Vec<String> {
     events
 }
 
-fn steps(timeline: &Timeline) -> Vec<String> {
-    let times = timeline.times();
+fn steps(history: &History) -> Vec<String> {
+    let times = times(history);
     let mut events = Vec::new();
-    for (index, step) in timeline.steps.iter().enumerate() {
+    for (index, step) in history.steps.iter().enumerate() {
         let status = step.answer.status;
         let args = json::object(&[
             ("step", index.to_string()),
@@ -102,7 +105,7 @@ fn steps(timeline: &Timeline) -> Vec<String> {
             ("dur", micro(length)),
             ("args", args.clone()),
         ];
-        events.push(event("X", &timeline.names.event(&step.event), RUN, EVENTS, &rest));
+        events.push(event("X", &history.names.event(&step.event), RUN, EVENTS, &rest));
         if status != 0 {
             let rest = [
                 ("cat", json::string("status")),
@@ -116,15 +119,15 @@ fn steps(timeline: &Timeline) -> Vec<String> {
     events
 }
 
-fn levels(timeline: &Timeline) -> Vec<String> {
-    let times = std::iter::once(0).chain(timeline.times());
+fn levels(history: &History) -> Vec<String> {
+    let times = std::iter::once(0).chain(times(history));
     let counter = |time: u64, level: u8| {
         let args = json::object(&[("level", level.to_string())]);
         event("C", "level", RUN, EVENTS, &[("ts", micro(time)), ("args", args)])
     };
     let mut before = None;
     let mut events = Vec::new();
-    for (time, moment) in times.zip(timeline.moments()) {
+    for (time, moment) in times.zip(history.moments()) {
         if before != Some(moment.level) {
             events.push(counter(time, moment.level));
         }
@@ -133,16 +136,16 @@ fn levels(timeline: &Timeline) -> Vec<String> {
     events
 }
 
-fn losses(timeline: &Timeline) -> Vec<String> {
-    let times = timeline.times();
+fn losses(history: &History) -> Vec<String> {
+    let times = times(history);
     let mut events = Vec::new();
-    for (index, step) in timeline.steps.iter().enumerate() {
-        let before = &timeline.before(index).losses;
+    for (index, step) in history.steps.iter().enumerate() {
+        let before = &history.before(index).losses;
         for (body, count) in step.after.losses.iter().enumerate().filter(|(body, count)| **count > before[*body]) {
             let args = json::object(&[("tick", step.tick.to_string()), ("count", count.to_string())]);
             let rest =
                 [("cat", json::string("loss")), ("ts", micro(times[index])), ("s", json::string("t")), ("args", args)];
-            let request = words::kind(timeline.bodies[body].kind).map_or("request", |kind| kind.request);
+            let request = words::kind(history.objects.bodies[body].kind).map_or("request", |kind| kind.request);
             events.push(event("i", &format!("lost {request}"), BODIES, body, &rest));
         }
     }

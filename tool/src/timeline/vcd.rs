@@ -1,9 +1,11 @@
 //! A timeline as a value change dump (IEEE 1364), with GTKWave's strings for states and names.
 
 use std::fmt::Write;
+use std::path::Path;
 
-use super::{Moment, Step, Timeline};
-use crate::words;
+use super::times;
+use crate::history::{History, Moment, Step};
+use crate::words::{self, Sort};
 
 /// A variable: its name, its width in bits or none for a string, and its value at each moment.
 struct Variable {
@@ -12,6 +14,46 @@ struct Variable {
     width: Option<u32>,
     values: Vec<String>,
 }
+
+/// Formats of GTKWave's save files: a string, decimal, hex, binary, and the name of a group.
+const STRING: u32 = 0x22;
+const DECIMAL: u32 = 0x24;
+const HEX: u32 = 0x22;
+const BINARY: u32 = 0x28;
+const GROUP: u32 = 0x200;
+
+/// A save file for GTKWave, which opens it on the whole run, the runner and its level first, numbers in decimal.
+pub fn save_file(history: &History, dump: &str) -> String {
+    let file = Path::new(dump).file_name().map_or_else(|| dump.into(), |name| name.to_string_lossy().into_owned());
+    let last = times(history).last().copied().unwrap_or(1);
+    // GTKWave's zoom is the binary logarithm of the time in a frame, negative.
+    let zoom = -((last as f64 * FRAME / SHOWN).log2());
+    let rest = " -1".repeat(26);
+    let mut text = format!(
+        "[*] osek timeline: gtkwave {file} {0}\n[dumpfile] \"{file}\"\n[timestart] 0\n[size] 1400 800\n\
+         [pos] -1 -1\n*{zoom:.6} 0{rest}\n[sst_width] 220\n[signals_width] 200\n",
+        file.replace(".vcd", ".gtkw")
+    );
+    let mut scope = "";
+    for variable in variables(history) {
+        if variable.scope != scope {
+            scope = variable.scope;
+            let _ = writeln!(text, "@{GROUP:x}\n-{scope}");
+        }
+        let (format, range) = match variable.width {
+            None => (STRING, String::new()),
+            Some(1) => (BINARY, String::new()),
+            Some(width) if scope == "bits" => (HEX, format!("[{}:0]", width - 1)),
+            Some(width) => (DECIMAL, format!("[{}:0]", width - 1)),
+        };
+        let _ = writeln!(text, "@{format:x}\nosek.{scope}.{}{range}", variable.name);
+    }
+    text
+}
+
+/// Pixels: a frame of GTKWave's, and its waves at the size above.
+const FRAME: f64 = 200.0;
+const SHOWN: f64 = 880.0;
 
 /// Variables that are told apart by short names of printable signs.
 fn identifier(mut index: usize) -> String {
@@ -28,12 +70,12 @@ fn identifier(mut index: usize) -> String {
     }
 }
 
-pub fn write(timeline: &Timeline) -> String {
+pub fn write(history: &History) -> String {
     let mut text = String::from(
         "$comment osek timeline: a tick is 1 ms, and the events between two ticks are spread evenly $end\n\
          $timescale 1 ns $end\n$scope module osek $end\n",
     );
-    let variables = variables(timeline);
+    let variables = variables(history);
     let mut scope = "";
     for (index, variable) in variables.iter().enumerate() {
         if variable.scope != scope {
@@ -51,12 +93,12 @@ pub fn write(timeline: &Timeline) -> String {
         };
     }
     text.push_str("$upscope $end\n$upscope $end\n$enddefinitions $end\n");
-    write_changes(&mut text, timeline, &variables);
+    write_changes(&mut text, history, &variables);
     text
 }
 
-fn write_changes(text: &mut String, timeline: &Timeline, variables: &[Variable]) {
-    let times = timeline.times();
+fn write_changes(text: &mut String, history: &History, variables: &[Variable]) {
+    let times = times(history);
     text.push_str("#0\n$dumpvars\n");
     for moment in 0..times.len() {
         if moment > 0 {
@@ -79,16 +121,16 @@ fn write_changes(text: &mut String, timeline: &Timeline, variables: &[Variable])
     let _ = writeln!(text, "#{}", times[times.len() - 1]);
 }
 
-fn variables(timeline: &Timeline) -> Vec<Variable> {
-    let moments: Vec<&Moment> = timeline.moments().collect();
+fn variables(history: &History) -> Vec<Variable> {
+    let moments: Vec<&Moment> = history.moments().collect();
     let of_moments = |value: &dyn Fn(&Moment) -> String| moments.iter().map(|moment| value(moment)).collect();
     // The fresh start is no event: its values of an event's variables are `fresh`.
     let of_steps = |fresh: &str, value: &dyn Fn(usize, &Step) -> String| {
-        let steps = timeline.steps.iter().enumerate().map(|(index, step)| value(index, step));
+        let steps = history.steps.iter().enumerate().map(|(index, step)| value(index, step));
         std::iter::once(fresh.to_string()).chain(steps).collect()
     };
     let binary = |value: u32| format!("{value:b}");
-    let names = &timeline.names;
+    let names = &history.names;
     let named = |body: Option<u8>| body.map_or_else(|| "-".into(), |body| names.body(body.into()));
     let mut variables = Vec::new();
     let mut add = |scope, name: &str, width, values| {
@@ -103,16 +145,26 @@ fn variables(timeline: &Timeline) -> Vec<Variable> {
     add("run", "runner", None, of_moments(&|moment| named(moment.runner)));
     add("run", "level", Some(8), of_moments(&|moment| binary(moment.level.into())));
     add("run", "begun", Some(1), of_steps("0", &|_, step| binary(step.answer.begun.into())));
-    for body in timeline.by_priority() {
-        let name = names.body(body as u32);
+    for body in history.by_priority() {
+        let name = format!("{}_state", names.body(body as u32));
         add("states", &name, None, of_moments(&|moment| moment.states[body].word().into()));
     }
-    for body in timeline.by_priority() {
+    for resource in 0..history.objects.resources.len() as u32 {
+        let name = format!("{}_holder", names.name(Sort::Resource, resource));
+        let holder = |moment: &Moment| moment.held.iter().position(|held| held.contains(&resource));
+        add("resources", &name, None, of_moments(&|moment| named(holder(moment).map(|body| body as u8))));
+    }
+    for body in history.by_priority().into_iter().filter(|body| history.is_extended(*body)) {
         let name = names.body(body as u32);
+        add("bits", &format!("{name}_bits"), Some(32), of_moments(&|moment| binary(moment.bits[body])));
+        add("bits", &format!("{name}_waits_for"), Some(32), of_moments(&|moment| binary(moment.waited[body])));
+    }
+    for body in history.by_priority() {
+        let name = format!("{}_requested", names.body(body as u32));
         add("requests", &name, Some(1), of_moments(&|moment| binary(moment.requests[body].into())));
     }
-    for body in timeline.by_priority() {
-        let name = names.body(body as u32);
+    for body in history.by_priority() {
+        let name = format!("{}_lost", names.body(body as u32));
         add("losses", &name, Some(16), of_moments(&|moment| binary(moment.losses[body].into())));
     }
     variables

@@ -29,6 +29,19 @@ if named:
     ticks = sum(int(t.split()[0]) if t.endswith(" ticks") else t == "Tick" for t in ("".join(l.itertext()) for l in labels))
     assert ticks == sum(row[1] == TICK for row in rows)
     assert sum(not t.endswith("icks") and t != "Tick" for t in ("".join(l.itertext()) for l in labels)) == calls + 1
+else:
+    # A mark for each refused event, and one in the legend.
+    assert classes.count("refusal") == 1 + sum(row[2] != 0 for row in rows)
+# A tooltip for each column, which says who runs.
+tips = [element.find(SVG + "title").text for element in picture.iter(SVG + "rect") if element.get("class") == "column"]
+assert len(tips) > 0 or not rows
+for tip in tips:
+    first = int(tip.split()[1])
+    last = int(tip.split()[3]) if tip.startswith("events") else first
+    step, code, status, runner, level, begun = rows[last]
+    said = "nobody" if runner is None else tip.split(", ")[-1].split(" runs at ")[0]
+    assert tip.endswith(f" runs at {level}") and f": status {status} " in tip, (tip, rows[last])
+    assert (runner is None) == (said == "nobody"), tip
 for element in picture.iter(SVG + "rect"):
     if element.get("class"):
         assert 0 <= float(element.get("x")) and float(element.get("x")) + float(element.get("width")) <= width

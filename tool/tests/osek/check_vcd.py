@@ -48,7 +48,10 @@ end = (tick + 1) * LENGTH
 
 assert history[0][0] == 0 and history[-1][0] == end, (history[0][0], history[-1][0], end)
 now = dict(history[0][1])
+leaves = [name.split("/")[1] for name in now]
+assert len(leaves) == len(set(leaves)), "two signals have one leaf name"
 states = [name for name in now if name.startswith("states/")]
+holders = [name for name in now if name.startswith("resources/")]
 at = 1
 ticks = 0
 for row, time in zip(rows, times):
@@ -61,7 +64,9 @@ for row, time in zip(rows, times):
     assert (now["run/status"], now["run/level"], now["run/begun"]) == (status, level, begun), (row, now)
     assert now["run/runner"] == "-" if runner is None else number(now["run/runner"]) == runner, (row, now)
     running = [name for name in states if now[name] == "running"]
-    assert [number(name.split("/")[1]) for name in running] == ([] if runner is None else [runner]), (row, now)
+    assert [number(name.split("/")[1].removesuffix("_state")) for name in running] == ([] if runner is None else [runner]), (row, now)
     assert all(now[name] in ("suspended", "ready", "running", "preempted", "waiting") for name in states)
-lost = {number(name.split("/")[1]): now[name] for name in now if name.startswith("losses/") and now[name]}
+    # Whoever holds a resource has begun, and is not suspended.
+    assert all(now[name] == "-" or now["states/" + now[name] + "_state"] in ("running", "preempted") for name in holders)
+lost = {number(name.split("/")[1].removesuffix("_lost")): now[name] for name in now if name.startswith("losses/") and now[name]}
 assert lost == losses, (lost, losses)

@@ -8,9 +8,9 @@ use osek_tests::cases::Random;
 
 use super::common::*;
 
-const COMMANDS: [&str; 13] = [
-    "run", "explain", "timeline", "wait", "asm", "dump", "salvage", "draw", "cases", "compare", "inspect", "coverage",
-    "power",
+const COMMANDS: [&str; 16] = [
+    "run", "explain", "check", "timeline", "wait", "asm", "oil", "dump", "salvage", "draw", "verdict", "cases",
+    "compare", "inspect", "coverage", "power",
 ];
 
 /// A command line of each command that prints something, in a folder with `both.txt` and `trace.txt`.
@@ -40,7 +40,10 @@ fn help_is_there_for_everything() {
         assert!(help.contains("\nExit status: 0 done;"), "{help}");
         assert!(help.lines().all(|line| line.chars().count() <= 120), "{help}");
     }
-    assert!(folder.osek(&["--version"]).done().starts_with("osek "));
+    // The library's version.
+    let header = include_str!("../../../include/osek.h");
+    let version = header.split("#define OSEK_VERSION \"").nth(1).and_then(|after| after.split('"').next());
+    folder.osek(&["--version"]).prints(&format!("osek {}\n", version.expect("the header has a version")), 0);
 }
 
 #[test]
@@ -114,6 +117,118 @@ fn empty_files_are_bytes_of_length_0() {
     assert!(folder.osek(&["timeline", "ok.txt", "empty", "--vcd", "-"]).done().starts_with("$comment "));
 }
 
+/// `-` is standard input wherever a file may stand, once.
+#[test]
+fn standard_input_is_read_everywhere() {
+    let folder = Folder::document()
+        .with("both.txt", DOCUMENT_TEXT)
+        .with("listing", DOCUMENT_LISTING)
+        .with("one.oil", "TASK a { PRIORITY = 1; AUTOSTART = TRUE; };");
+    let from = |file: &str, arguments: &[&str]| {
+        let input = File::open(folder.0.join(file)).expect("the file opens");
+        Said::of(arguments, folder.command(arguments).stdin(input).output().expect("the tool runs"))
+    };
+    from("both.txt", &["run", "-"]).prints(DOCUMENT_LISTING, 0);
+    from("config.bin", &["run", "-", "trace.bin"]).prints(DOCUMENT_LISTING, 0);
+    from("trace.bin", &["run", "config.bin", "-"]).prints(DOCUMENT_LISTING, 0);
+    from("both.txt", &["explain", "-"]).done();
+    from("listing", &["check", "both.txt", "-"]).prints("equal: 17 answers and the losses\n", 0);
+    assert!(from("both.txt", &["timeline", "-", "--svg", "-"]).done().starts_with("<svg "));
+    from("config.bin", &["asm", "-", "-o", "out"]).prints("", 0);
+    assert_eq!(folder.read("out"), DOCUMENT_CONFIG);
+    assert!(from("config.bin", &["dump", "-"]).done().starts_with("# configuration, 20 bytes"));
+    assert!(from("both.txt", &["dump", "trace.bin", "--config", "-"]).done().contains("start beacon 1"));
+    from("trace.bin", &["salvage", "-", "-o", "out"]).prints("kept 24 of 24 bytes\n", 0);
+    from("one.oil", &["oil", "-", "-o", "out"]).prints("", 0);
+    assert_eq!(folder.read("out"), [1, 1, 0, 1, 1, 0, 0]);
+    assert!(from("one.oil", &["dump", "-"]).done().contains("task a priority 1 autostart"));
+    from("both.txt", &["run", "-", "-"]).fails(2, "run: standard input, -, can be read once; see osek run --help");
+}
+
+#[test]
+fn an_output_never_goes_over_its_input() {
+    let folder = Folder::document().with("both.txt", DOCUMENT_TEXT).with("l.oil", "TASK a { PRIORITY = 1; };");
+    std::os::unix::fs::symlink("both.txt", folder.0.join("link.txt")).expect("a link can be made");
+    for (arguments, out, input) in [
+        (&["asm", "config.bin", "-o", "config.bin"][..], "config.bin", "config.bin"),
+        (&["salvage", "trace.bin", "-o", "./trace.bin"], "./trace.bin", "trace.bin"),
+        (&["salvage", "trace.bin", "-o", "x", "--dropped", "trace.bin"], "trace.bin", "trace.bin"),
+        (&["oil", "l.oil", "-o", "l.oil"], "l.oil", "l.oil"),
+        (&["timeline", "both.txt", "--svg", "link.txt"], "link.txt", "both.txt"),
+    ] {
+        folder.osek(arguments).fails(3, &format!("{out} is not written: it is the input {input}"));
+    }
+    assert_eq!(folder.text("both.txt"), DOCUMENT_TEXT);
+    assert_eq!(folder.read("trace.bin"), DOCUMENT_TRACE);
+}
+
+/// Each mistake is told by its cause.
+#[test]
+fn files_that_are_not_what_they_should_be_are_told_by_their_cause() {
+    let (config, trace) = DOCUMENT_TEXT.split_once("trace\n").expect("it has both parts");
+    let wide: Vec<u8> = [0xff, 0xfe].into_iter().chain(DOCUMENT_TEXT.bytes().flat_map(|byte| [byte, 0])).collect();
+    let folder = Folder::document()
+        .with("config.txt", config)
+        .with("trace.txt", trace)
+        .with("empty", "")
+        .with("latin1.txt", [b"version 1\ntask f".as_slice(), b"\xfchler priority 2\n"].concat())
+        .with("wide.txt", &wide)
+        .with("blank.txt", format!("\n{DOCUMENT_TEXT}"))
+        .with("bell.txt", DOCUMENT_TEXT.replace("task low", "task low\u{7}"))
+        .with("ticks.txt", format!("{config}trace\ntick 9003\n"));
+    let said = |arguments: &[&str]| folder.osek(arguments).out;
+    let ends = |arguments: &[&str], last: &str| {
+        let said = said(arguments);
+        assert_eq!(said.lines().last(), Some(last), "{said}");
+    };
+    ends(&["explain", "empty", "trace.bin"], "empty is read as bytes and not as a text: it is empty.");
+    ends(
+        &["explain", "latin1.txt", "trace.bin"],
+        "latin1.txt is read as bytes and not as a text: it is not UTF-8 at line 2, column 7 (byte FC).",
+    );
+    ends(
+        &["explain", "wide.txt", "trace.bin"],
+        "wide.txt is read as bytes and not as a text: it is UTF-16: save it as UTF-8.",
+    );
+    folder.write("wide.txt", &wide[2..]);
+    ends(
+        &["explain", "wide.txt", "trace.bin"],
+        "wide.txt is read as bytes and not as a text: it looks like UTF-16: save it as UTF-8.",
+    );
+    ends(
+        &["explain", "blank.txt", "trace.bin"],
+        "blank.txt is read as bytes and not as a text: its first line is empty or begins with a tab.",
+    );
+    ends(
+        &["explain", "bell.txt", "trace.bin"],
+        "bell.txt is read as bytes and not as a text: it has the control character 07 at line 2, column 9.",
+    );
+    ends(&["explain", "ticks.txt"], "The trace that ticks.txt describes has 9,003 bytes.");
+    let why = "it is not UTF-8 at line 2, column 7 (byte FC)";
+    folder.osek(&["asm", "latin1.txt", "-o", "x"]).fails(4, &format!("latin1.txt can't be read as a text: {why}"));
+    folder
+        .osek(&["run", "latin1.txt"])
+        .fails(4, &format!("latin1.txt holds bytes ({why}): the trace has to be a second file"));
+    folder.osek(&["run", "empty"]).fails(4, "empty holds bytes (it is empty): the trace has to be a second file");
+    // Exchanged, as texts and as bytes.
+    let first = "trace.txt holds a trace alone, no configuration, which comes first";
+    folder.osek(&["run", "trace.txt", "config.txt"]).fails(4, first);
+    folder
+        .osek(&["run", "config.bin", "config.txt"])
+        .fails(4, "config.txt holds a configuration, no trace, which comes second");
+    folder.write("ticks.bin", [6, 6, 6]);
+    ends(
+        &["explain", "ticks.bin", "config.bin"],
+        "config.bin is a configuration and ticks.bin a trace: are they exchanged?",
+    );
+    // A refusal in words points to explain.
+    folder.osek(&["run", "empty", "trace.bin", "--names"]).prints(
+        "refused 1 0: the input ends where a number, or the rest of one, is missing\n\
+         osek explain empty trace.bin says where and why\n",
+        1,
+    );
+}
+
 #[test]
 fn huge_files_are_judged_or_refused() {
     let ticks = vec![6; 200_000];
@@ -135,7 +250,7 @@ fn huge_files_are_judged_or_refused() {
         &["salvage", "huge.bin", "-o", "x"],
         &["compare", "--sim", "true", "huge.bin", "trace.bin"],
     ] {
-        folder.osek(arguments).fails(4, "huge.bin is longer than 16777216 bytes");
+        folder.osek(arguments).fails(4, "huge.bin is longer than 16,777,216 bytes, and is not read");
     }
 }
 

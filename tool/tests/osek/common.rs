@@ -135,6 +135,12 @@ impl Said {
         self.out
     }
 
+    /// It ended with 1, said this on standard error, and printed nothing.
+    #[track_caller]
+    pub fn fails_plainly(&self, message: &str) {
+        assert_eq!((self.out.as_str(), self.err.as_str(), self.code), ("", message, Some(1)), "{}", self.arguments);
+    }
+
     /// It failed with this status and this message, and printed nothing.
     #[track_caller]
     pub fn fails(&self, code: i32, message: &str) {

@@ -3,6 +3,7 @@
 use std::path::{Path, PathBuf};
 use std::process::Command;
 
+use osek_tests::fast::read_number;
 use osek_tests::subject::LIBRARY;
 
 use super::common::*;
@@ -48,8 +49,15 @@ fn planted_faults_are_found_made_small_and_told() {
         let said = folder.osek(&["compare", "--sim", &simulator(fault), "-o", fault]);
         assert_eq!((said.code, said.err.as_str()), (Some(1), ""), "{fault}: {}", said.out);
         let lines: Vec<&str> = said.out.lines().collect();
-        assert_eq!(lines.len(), 5, "{fault}: {}", said.out);
         assert!(lines[2].contains(told), "{fault}: {}", said.out);
+        // Of an answer the states and the rule are told, of losses where they happen.
+        let reasons = lines[3..lines.len() - 2].iter();
+        let first = if lines[2].starts_with("event ") { "  at      tick " } else { "  event " };
+        assert!(reasons.clone().all(|line| line.starts_with("  ")), "{fault}: {}", said.out);
+        let of_the_run =
+            lines[2].starts_with("event ") || (lines[2].starts_with("losses ") && !lines[2].contains(": 0 "));
+        let given = reasons.clone().next().is_some_and(|line| line.starts_with(first));
+        assert_eq!(given, of_the_run, "{fault}: {}", said.out);
         let (config, trace) = (folder.read(&format!("{fault}/config.bin")), folder.read(&format!("{fault}/trace.bin")));
         assert!(config.len() <= config_most && trace.len() <= trace_most, "{fault}: {config:?} {trace:?}");
         shows_again(&folder, fault, &lines);
@@ -59,7 +67,8 @@ fn planted_faults_are_found_made_small_and_told() {
 /// The command that is given shows the difference a second time, and the files say the same.
 #[track_caller]
 fn shows_again(folder: &Folder, fault: &str, lines: &[&str]) {
-    let command = lines[4].strip_prefix("to see it again: osek ").expect("the last line is a command");
+    let last = lines.last().expect("there are lines");
+    let command = last.strip_prefix("to see it again: osek ").expect("the last line is a command");
     let output = Command::new("sh").arg("-c").arg(format!("{OSEK} {command}")).current_dir(&folder.0).output();
     let again = Said::of(&[command], output.expect("sh runs"));
     assert!(again.out.contains(lines[2]), "{fault}: {}{}", again.out, again.err);
@@ -124,12 +133,19 @@ fn a_simulator_that_can_not_be_started_is_no_difference() {
 #[test]
 fn exactly_one_simulator_is_named() {
     let folder = Folder::document();
-    let needed = "compare: one of --sim, --unit and --lib is needed; see osek compare --help";
-    folder.osek(&["compare"]).fails(2, needed);
-    folder.osek(&["compare", "--sim", "x", "--lib", "y"]).fails(2, needed);
+    let see = "; see osek compare --help";
+    folder.osek(&["compare"]).fails(2, &format!("compare: --sim, --unit or --lib is missing{see}"));
     folder
-        .osek(&["compare", "--sim", "true", "--count", "3", "config.bin", "trace.bin"])
-        .fails(2, "compare: --seed, --first and --count go with drawn cases; see osek compare --help");
+        .osek(&["compare", "--sim", "x", "--lib", "y"])
+        .fails(2, &format!("compare: --sim, --unit and --lib exclude each other{see}"));
+    for (option, value) in [("--count", "3"), ("--class", "bcc1"), ("--earlier", "x")] {
+        folder
+            .osek(&["compare", "--sim", "true", option, value, "config.bin", "trace.bin"])
+            .fails(2, &format!("compare: {option} goes with drawn cases, and not with files{see}"));
+    }
+    folder
+        .osek(&["compare", "--sim", "true", "--keep-going", "config.bin", "trace.bin"])
+        .fails(2, &format!("compare: --keep-going goes with drawn cases, and not with files{see}"));
 }
 
 /// A shared library of C sources.
@@ -204,9 +220,140 @@ fn a_library_is_compared_with_its_whole_output() {
         assert_eq!(said.code, Some(1), "{name}: {}{}", said.out, said.err);
         let lines: Vec<&str> = said.out.lines().collect();
         assert!(lines[2].contains(told), "{name}: {}", said.out);
-        let command = lines[4].strip_prefix("to see it again: osek ").expect("the last line is a command");
+        let last = lines.last().expect("there are lines");
+        let command = last.strip_prefix("to see it again: osek ").expect("the last line is a command");
         let output = Command::new("sh").arg("-c").arg(format!("{OSEK} {command}")).current_dir(&folder.0).output();
         let again = Said::of(&[command], output.expect("sh runs"));
         assert!(again.out.contains(lines[2]), "{name}: {}{}", again.out, again.err);
+    }
+}
+
+/// Whether a case is accepted, the kinds of its bodies, its version and its event codes.
+fn contents(folder: &Folder, name: &str) -> (bool, Vec<u32>, u32, Vec<u32>) {
+    let listing = folder.text(&format!("{name}.expected"));
+    let config = folder.read(&format!("{name}.config.bin"));
+    let mut numbers = Vec::new();
+    let mut at = 0;
+    while let Ok((number, next)) = read_number(&config, at) {
+        numbers.push(number);
+        at = next;
+    }
+    let kinds = numbers[2..].iter().step_by(3).take(numbers[1] as usize).copied().collect();
+    let rows = listing.lines().skip(1).filter(|line| !line.starts_with("lost"));
+    let events = rows.filter_map(|line| line.split(' ').nth(1)?.parse().ok()).collect();
+    (!listing.starts_with("refused"), kinds, numbers[0], events)
+}
+
+#[test]
+fn cases_are_chosen_by_what_a_simulator_knows() {
+    let folder = Folder::new();
+    let classes: [(&str, &[u32], &[u32]); 4] = [
+        ("bcc1", &[0, 1], &[1, 2, 3, 4, 5, 6, 7, 8, 9]),
+        ("ecc1", &[0, 1, 2], &[1, 2, 3, 4, 5, 6, 7, 8, 9, 10, 11, 12]),
+        ("timed", &[0, 1, 3], &[1, 2, 3, 4, 5, 6, 7, 8, 9]),
+        ("ecc1,timed", &[0, 1, 2, 3], &[1, 2, 3, 4, 5, 6, 7, 8, 9, 10, 11, 12]),
+    ];
+    for (class, kinds, events) in classes {
+        let chosen = ["cases", "--accepted", "--class", class, "--versions", "1", "--count", "25", "-o", class];
+        folder.osek(&chosen).prints("", 0);
+        let index = folder.text(&format!("{class}/index.csv"));
+        let names: Vec<&str> = index.lines().skip(1).filter_map(|line| line.split(',').next()).collect();
+        assert_eq!(names.len(), 25);
+        let (mut seen_kinds, mut seen_events) = (Vec::new(), Vec::new());
+        for name in names {
+            let (accepted, has_kinds, version, has_events) = contents(&folder, &format!("{class}/{name}"));
+            assert!(accepted && version == 1, "{class} {name}");
+            seen_kinds.extend(has_kinds);
+            seen_events.extend(has_events);
+        }
+        let distinct = |mut numbers: Vec<u32>| {
+            numbers.sort_unstable();
+            numbers.dedup();
+            numbers
+        };
+        assert_eq!(distinct(seen_kinds), kinds, "{class}");
+        assert_eq!(distinct(seen_events), events, "{class}");
+    }
+    // A simulator that knows no extended tasks agrees on its own class, and not on all.
+    let basic = simulator("no_extended");
+    let said = folder.osek(&["compare", "--sim", &basic, "--class", "bcc1,timed", "--count", "60"]).done();
+    assert!(said.starts_with("60 cases of seed 1: all equal ("), "{said}");
+    assert_eq!(folder.osek(&["compare", "--sim", &basic, "--count", "60"]).code, Some(1));
+    folder.osek(&["cases", "--class", "bcc2", "--count", "1", "-o", "x"]).fails(
+        2,
+        "cases: --class takes bcc1, ecc1 or timed, or several with commas between them, not bcc2; see osek cases --help",
+    );
+}
+
+#[test]
+fn all_differences_are_counted_by_their_sort_and_played_first_the_next_time() {
+    let folder = Folder::new();
+    let wrong = simulator("two_faults");
+    let said =
+        folder.osek(&["compare", "--sim", &wrong, "--count", "80", "--keep-going", "-o", "found", "--shrink", "2"]);
+    assert_eq!(said.code, Some(1), "{}{}", said.out, said.err);
+    let first = said.out.lines().next().unwrap_or_default();
+    assert!(first.starts_with("80 cases of seed 1: ") && first.contains(" different, of "), "{first}");
+    let is_sort = |line: &&str| line.split_once(". ").is_some_and(|(number, _)| number.parse::<u32>().is_ok());
+    let sorts: Vec<&str> = said.out.lines().filter(is_sort).collect();
+    assert!(sorts.iter().any(|sort| sort.contains(": status 4 E_OS_LIMIT expected, 3 E_OS_ID given: ")), "{sorts:?}");
+    assert!(sorts.iter().any(|sort| sort.contains(": runner: ")), "{sorts:?}");
+    // `1. SORT: 25 cases; case 3 of seed 1 differs`
+    let count = |sort: &&str| sort.split("; case ").next()?.rsplit(": ").next()?.split(' ').next()?.parse::<u32>().ok();
+    let counted: u32 = sorts.iter().filter_map(count).sum();
+    let different = first.split(", ").nth(1).and_then(|words| words.split(' ').next()?.parse().ok());
+    assert_eq!(Some(counted), different, "{}", said.out);
+    for number in 1..=sorts.len() {
+        assert!(folder.0.join(format!("found/{number}/config.bin")).is_file(), "{number}");
+    }
+    // A right simulator passes them, and one with one of the faults meets it among them.
+    let right = folder.osek(&["compare", "--sim", &simulator("none"), "--earlier", "found", "--count", "5"]).done();
+    assert!(right.starts_with(&format!("{} earlier cases and 5 cases of seed 1: all equal (", sorts.len())), "{right}");
+    let again = folder.osek(&["compare", "--sim", &simulator("limit_is_id"), "--earlier", "found", "--count", "5"]);
+    assert!(again.out.starts_with("found/") && again.code == Some(1), "{}", again.out);
+    folder.write("empty.txt", "");
+    std::fs::create_dir(folder.0.join("none")).expect("a folder can be made");
+    folder
+        .osek(&["compare", "--sim", "true", "--earlier", "none"])
+        .fails(4, "none holds no case: no config.bin with a trace.bin");
+}
+
+#[test]
+fn what_a_simulator_prints_is_shown_and_given_has_the_form_of_expected() {
+    let folder = Folder::new()
+        .with("both.txt", DOCUMENT_TEXT)
+        .with("record.lst", DOCUMENT_LISTING.replace("3 7 0 2 9 1", "3 7 0 2 5 1"));
+    let chatty = "f() { printf 'usage: sim CONFIG\\nno \\033[31mcolour\\n'; }; f";
+    let said = folder.osek(&["compare", "--sim", chatty, "both.txt"]);
+    assert!(said.out.starts_with("17 events expected, ") || said.out.starts_with("event 0 "), "{}", said.out);
+    assert!(!said.out.contains('\x1b'), "{}", said.out);
+    let text = "f() { printf 'usage: sim CONFIG\\n'; }; f";
+    let said = folder.osek(&["compare", "--sim", text, "both.txt"]);
+    let told = "17 events expected, and neither a listing nor an output given, but: `usage: sim CONFIG`";
+    assert!(said.out.starts_with(told), "{}", said.out);
+    assert!(!said.out.contains('\x1b'), "{}", said.out);
+    // A record is no simulator: its own difference is told first, with the text's names, and the command for it.
+    let said = folder.osek(&["compare", "--sim", "f() { cat record.lst; }; f", "both.txt"]);
+    let lines: Vec<&str> = said.out.lines().collect();
+    assert_eq!(lines[0], "event 3 Line door: level 9 expected, 5 given");
+    assert_eq!(lines[1], "  at      both.txt:13, tick 1");
+    assert_eq!(lines[6], "it says the same of an empty trace: osek check compares a record");
+    // Output in bytes is written as a listing, too.
+    let said = folder.osek(&["compare", "--sim", &simulator("output_losses_high_byte_first"), "-o", "high"]);
+    assert_eq!(said.code, Some(1));
+    let (expected, given) = (folder.text("high/expected"), folder.text("high/given"));
+    let answers = |text: &str| text.split("lost ").next().map(String::from);
+    assert_eq!(answers(&expected), answers(&given));
+    assert!(expected != given && given.contains("\nlost "), "{given}");
+}
+
+#[test]
+fn making_it_small_has_its_time_and_says_when_it_is_over() {
+    let folder = Folder::new();
+    let over = "it may be smaller yet: the 0 s for it were over, and --shrink T gives others";
+    for (shrink, says) in [("0", true), ("30", false)] {
+        let arguments = ["compare", "--sim", &simulator("idle_as_255"), "--shrink", shrink];
+        let said = folder.osek(&arguments);
+        assert_eq!(said.out.contains(over), says, "{}", said.out);
     }
 }

@@ -51,11 +51,11 @@ fn each_refusal_of_the_configuration_is_a_sentence() {
         (
             damaged(12, &[8]),
             "5 12",
-            "offset 12: the users of resource 0 resource0 is 8. Allowed: a mask with bits of the bodies 0 to 2 only, and not 0.",
+            "offset 12: the users of resource 0 resource0 are 0b1000. Allowed: a mask with bits of the bodies 0 to 2 only, and not 0.",
         ),
         (damaged(14, &[0x80, 0x80, 4]), "5 14", "offset 14: the period of table 0 table0 is 65,536. Allowed: 1 to 65,535."),
         (damaged(16, &[4]), "5 16", "offset 16: the offset of entry 0 of table 0 table0 is 4. Allowed: 0 to 3, below the period."),
-        (damaged(17, &[2]), "5 17", "offset 17: the task of entry 0 of table 0 table0 is 2. Allowed: a task: 0 task0 or 1 task1."),
+        (damaged(17, &[2]), "5 17", "offset 17: the task of entry 0 of table 0 table0 is 2 isr2, an ISR. Allowed: a task: 0 task0 or 1 task1."),
         (
             damaged(6, &[2]),
             "6 6",
@@ -64,7 +64,7 @@ fn each_refusal_of_the_configuration_is_a_sentence() {
         (
             damaged(18, &[0]),
             "7 19",
-            "offset 19: the task of entry 1 of table 0 table0 is 0. Allowed: an entry after the one before it, rising by offset, then by task, none twice; offset 0, task task0 does not come after offset 0, task task1.",
+            "offset 19: the task of entry 1 of table 0 table0 is 0 task0, a task. Allowed: an entry after the one before it, rising by offset, then by task, none twice; offset 0, task task0 does not come after offset 0, task task1.",
         ),
         (
             entries(&[16, 16, 16, 15, 2]),
@@ -95,37 +95,37 @@ fn what_is_refused_of_a_time_triggered_task_is_a_sentence() {
         (
             bodies.replace("timed one priority 2", "timed one priority 2 autostart"),
             "5 7",
-            "3:22: the autostart of body 1 one is 1. Allowed: 0, because it is a time-triggered task.",
+            "3:22: the autostart of time-triggered task one is 1. Allowed: 0, because it is a time-triggered task.",
         ),
         (
             format!("{bodies}resource flash users low two\n"),
             "5 15",
-            "6:1: the users of resource 0 flash is 5. Allowed: a mask with bits of the bodies 0 to 3 only, none of a time-triggered task, and not 0.",
+            "6:1: the users of resource flash are low and two. Allowed: bodies of the configuration, at least one, none of them a time-triggered task.",
         ),
         (
             format!("{bodies}table round period 9\nat 3 one\nat 3 two\n"),
             "13 21",
-            "8:6: the task of entry 1 of table 0 round is 2. Allowed: an offset of its own for each time-triggered task; one and two share 3, and two is one.",
+            "8:6: the task of entry 1 of table round is two, a time-triggered task. Allowed: an offset of its own for each time-triggered task; one and two share 3, and two is one.",
         ),
         (
             format!("{bodies}table round period 9\nat 3 one\nat 3 high\n"),
             "13 21",
-            "8:6: the task of entry 1 of table 0 round is 3. Allowed: an offset of its own for each time-triggered task; one and high share 3, and one is one.",
+            "8:6: the task of entry 1 of table round is high, a task. Allowed: an offset of its own for each time-triggered task; one and high share 3, and one is one.",
         ),
         (
             format!("{bodies}table round period 9\nat 3 one\nat 4 high\n"),
             "14 21",
-            "8:6: the task of entry 1 of table 0 round is 3. Allowed: time-triggered tasks in one table, and nobody else in it; one is one, and high in the same table is not.",
+            "8:6: the task of entry 1 of table round is high, a task. Allowed: time-triggered tasks in one table, and nobody else in it; one is one, and high in the same table is not.",
         ),
         (
             format!("{bodies}table round period 9\nat 3 low\nat 4 two\n"),
             "14 21",
-            "8:6: the task of entry 1 of table 0 round is 2. Allowed: time-triggered tasks in one table, and nobody else in it; two is one, and low in the same table is not.",
+            "8:6: the task of entry 1 of table round is two, a time-triggered task. Allowed: time-triggered tasks in one table, and nobody else in it; two is one, and low in the same table is not.",
         ),
         (
             format!("{bodies}table round period 9\nat 3 one\ntable other period 9\nat 4 two\n"),
             "14 23",
-            "9:6: the task of entry 0 of table 1 other is 2. Allowed: time-triggered tasks in one table, and nobody else in it; two is one, and table 0 round has such tasks already.",
+            "9:6: the task of entry 0 of table other is two, a time-triggered task. Allowed: time-triggered tasks in one table, and nobody else in it; two is one, and table round has such tasks already.",
         ),
     ];
     for (text, refusal, sentence) in cases {
@@ -141,17 +141,25 @@ fn what_is_refused_of_a_time_triggered_task_is_a_sentence() {
 fn the_calls_of_a_time_triggered_task_and_those_that_name_it_are_told() {
     let text = "version 1\ntask low priority 1 autostart\ntimed one priority 2\ntable round period 9\nat 0 one\n\
                 trace\nactivate one\nchain one\nset one 1\nstart round 1\ntick\nactivate low\nchain low\nstop round\nclear 1\nfinish\n";
-    Folder::new().with("both.txt", text).osek(&["explain", "both.txt"]).prints(
-        "\
-accepted: 10 events, 7 with a status other than 0
-event 0 Activate one while low runs: status 3 E_OS_ID: no task has this number, or a time-triggered one has
-event 1 Chain one while low runs: status 3 E_OS_ID: no task has this number, or a time-triggered one has
-event 2 Set one 0x1 while low runs: status 1 E_OS_ACCESS: the task is no extended task
-event 5 Activate low while one runs: status 2 E_OS_CALLEVEL: nobody runs, or a time-triggered task does
-event 6 Chain low while one runs: status 2 E_OS_CALLEVEL: nobody runs, or an ISR or a time-triggered task does
-event 7 Stop round while one runs: status 2 E_OS_CALLEVEL: nobody runs, or a time-triggered task does
-event 8 Clear 0x1 while one runs: status 2 E_OS_CALLEVEL: nobody runs, or a time-triggered task does
-",
+    let low = "  low running at 1\n";
+    let one = "  one running at 201; low preempted at 1\n";
+    let entries =
+        "while low runs at 1: status 3 E_OS_ID: one is a time-triggered task, which entries of a table alone start";
+    let finish =
+        "while one runs at 201: status 2 E_OS_CALLEVEL: one is a time-triggered task, which makes no call but Finish";
+    Folder::new().with("b.txt", text).osek(&["explain", "b.txt"]).prints(
+        &format!(
+            "\
+accepted: 10 events, 7 with a status other than 0, 0 losses
+event 0 Activate one (b.txt:7, tick 0) {entries}
+{low}event 1 Chain one (b.txt:8, tick 0) {entries}
+{low}event 2 Set one 0x1 (b.txt:9, tick 0) while low runs at 1: status 1 E_OS_ACCESS: one is a time-triggered task, no extended one
+{low}event 5 Activate low (b.txt:12, tick 1) {finish}
+{one}event 6 Chain low (b.txt:13, tick 1) {finish}
+{one}event 7 Stop round (b.txt:14, tick 1) {finish}
+{one}event 8 Clear 0x1 (b.txt:15, tick 1) {finish}
+{one}"
+        ),
         0,
     );
 }
@@ -213,22 +221,137 @@ fn a_text_is_refused_at_its_line() {
     let said = folder.osek(&["explain", "both.txt"]);
     assert_eq!(
         said.out.lines().nth(1),
-        Some("both.txt:4:19: the priority of body 2 door is 5. Allowed: 1 to 200, each used once; body 1 high has this one already.")
+        Some("both.txt:4:19: the priority of ISR door is 5. Allowed: 1 to 200, each used once; task high has this one already.")
     );
+    // A thing is called by the text's name, with what it is.
+    folder.write("both.txt", DOCUMENT_TEXT.replace("at 2 low", "at 2 door"));
+    let said = folder.osek(&["explain", "both.txt"]);
+    let entry = "both.txt:8:8: the task of entry 1 of table beacon is door, an ISR. Allowed: a task: low or high.";
+    assert_eq!(said.out.lines().nth(1), Some(entry));
+    folder.write("both.txt", DOCUMENT_TEXT.replace("stop beacon", "stop door"));
+    let said = folder.osek(&["explain", "both.txt"]);
+    let message = "osek: both.txt:22:6: no table is named `door` (it is a body): the configuration has beacon";
+    assert_eq!(said.err.lines().next(), Some(message));
 }
 
 #[test]
-fn an_accepted_run_says_which_events_were_refused_and_why() {
+fn an_accepted_run_says_which_events_were_refused_or_lost_something_and_why() {
     let folder = Folder::new().with("both.txt", DOCUMENT_TEXT);
     folder.osek(&["explain", "both.txt"]).prints(
         "\
-accepted: 17 events, 3 with a status other than 0
-event 4 Chain high while door runs: status 2 E_OS_CALLEVEL: nobody runs, or an ISR or a time-triggered task does
-event 6 Finish while low runs: status 6 E_OS_RESOURCE: the running body holds a resource
-event 16 Finish while nobody runs: status 2 E_OS_CALLEVEL: nobody runs
+accepted: 17 events, 3 with a status other than 0, 1 loss
+event 4 Chain high (both.txt:14, tick 1) while door runs at 9: status 2 E_OS_CALLEVEL: door is an ISR, and only a task makes the call Chain
+  door running at 9; high ready at 5; low preempted at 5, holds flash (ceiling 5)
+event 6 Finish (both.txt:16, tick 1) while low runs at 5: status 6 E_OS_RESOURCE: low holds flash (ceiling 5)
+  high ready at 5; low running at 5, holds flash (ceiling 5)
+event 9 Tick (both.txt:18, tick 3) while high runs at 5: the entry of beacon at 2 is due while low is preempted: an activation of it is lost, which makes 1
+  high running at 5; low preempted at 2
+event 16 Finish (both.txt:24, tick 5) while nobody runs: status 2 E_OS_CALLEVEL: nobody runs
+  every body is suspended
 ",
         0,
     );
+}
+
+/// The events of document 01's listing and of others, in full: states, priorities, holders and the rule that decides.
+#[test]
+fn an_event_is_told_with_the_rule_that_decides() {
+    let folder = Folder::new().with("both.txt", DOCUMENT_TEXT);
+    folder.osek(&["explain", "both.txt", "--event", "2"]).prints(
+        "\
+event 2 Tick (both.txt:12, tick 1): status 0 E_OK
+  before  low running at 5, holds flash (ceiling 5)
+  does    the entry of beacon at 0 is due: high becomes ready
+  after   high ready at 5; low running at 5, holds flash (ceiling 5)
+  runs    low goes on: it holds flash (ceiling 5), high is at 5 too, and on equal priority the holder goes first
+",
+        0,
+    );
+    folder.osek(&["explain", "both.txt", "--event=7"]).prints(
+        "\
+event 7 Release flash (both.txt:17, tick 1): status 0 E_OK
+  before  high ready at 5; low running at 5, holds flash (ceiling 5)
+  does    low gives flash back; its current priority falls from 5 to 2
+  after   high running at 5; low preempted at 2
+  runs    high begins: it is at 5, above low at 2
+",
+        0,
+    );
+    let all = folder.osek(&["explain", "both.txt", "--all"]).done();
+    assert_eq!(all.lines().count(), 17 * 5);
+    for words in [
+        "does    beacon starts: first due are high at tick 1, low at tick 3\n",
+        "does    low takes flash (ceiling 5); its current priority rises from 2 to 5\n",
+        "runs    door begins: it is at 9, above low at 5\n",
+        "runs    low is resumed: it holds flash (ceiling 5), high is at 5 too, and on equal priority the holder goes first\n",
+        "runs    nobody: every body is suspended\n",
+        "does    no entry is due\n",
+        "does    beacon stops\n",
+    ] {
+        assert!(all.contains(words), "{words} is not in\n{all}");
+    }
+    folder
+        .osek(&["explain", "both.txt", "--event", "17"])
+        .fails(2, "explain: --event takes 0 to 16, not 17; see osek explain --help");
+    folder
+        .osek(&["explain", "both.txt", "--event", "1", "--all"])
+        .fails(2, "explain: --event and --all exclude each other; see osek explain --help");
+}
+
+/// Event bits, second requests, self-chains and the latest start, each by its sentence.
+#[test]
+fn every_event_says_what_it_does() {
+    let text = "version 2\ntask main priority 5 autostart\nextended radio priority 3\nisr door priority 9\n\
+                timed sample priority 2\ntimed flush priority 1\nresource flash users main radio\nresource log users main\n\
+                table round period 100\nat 0 sample\nat 1 flush\n\
+                trace\nactivate radio\nset radio 0x4\nline door\nline door\nfinish\nfinish\nchain main\nget flash\nget log\n\
+                release flash\nrelease log\nrelease log\nstart round 0\nstart round 1\nstart round 1\ntick 2\nfinish\nfinish\n\
+                release flash\nfinish\nwait 0x6\nwait 0x1\nline door\nset radio 0x8\nset radio 0x1\nfinish\nclear 0x5\n\
+                wait 0\nline main\nline 9\nline door\nline door\nline door\nget flash\nstop round\nstop round\n";
+    let all = Folder::new().with("b.txt", text).osek(&["explain", "b.txt", "--all"]).done();
+    let told: Vec<Vec<&str>> = all.lines().collect::<Vec<_>>().chunks(5).map(<[&str]>::to_vec).collect();
+    let does = [
+        (0, "radio becomes ready"),
+        (1, "radio has bits 0x4"),
+        (2, "door becomes ready"),
+        (3, "door has begun, and one more request of it waits"),
+        (4, "door ends, and is ready again by the request that waits"),
+        (5, "door ends"),
+        (6, "main ends; main becomes ready"),
+        (8, "main takes log (ceiling 5); its current priority stays 5"),
+        (9, "main took log after flash, and has to give it back first"),
+        (11, "main does not hold log"),
+        (12, "the delay is 0"),
+        (13, "round starts: first due are sample at tick 1, flush at tick 2"),
+        (14, "round runs already, since 0 ticks ago"),
+        (15, "the entry of round at 0 is due: sample is started"),
+        (21, "radio goes on at once: of 0x6 it has 0x4 already"),
+        (22, "radio waits for 0x1"),
+        (24, "radio has bits 0xc; it waited for 0x1 and still waits"),
+        (25, "radio has bits 0xd; it waited for 0x1 and no longer waits"),
+        (27, "radio has bits 0x8 left"),
+        (28, "radio waits for 0x0, which no Set can end"),
+        (29, "main is a task, no ISR"),
+        (30, "there is no ISR 9: the bodies are 0 to 4"),
+        (33, "a request of door waits already; the line is counted as lost, which makes 1"),
+        (34, "door is no declared user of flash, which main or radio may take"),
+        (35, "round stops"),
+        (36, "round is stopped"),
+    ];
+    for (step, words) in does {
+        assert_eq!(told[step][2], format!("  does    {words}"), "event {step}");
+    }
+    let runs = [
+        (4, "door begins again: it is at 9, above main at 5"),
+        (6, "main begins again: it is at 5, above radio at 3"),
+        (15, "sample begins: it is time-triggered, and runs above all others, at 201"),
+        (16, "flush begins: of the time-triggered tasks that have begun and not ended it began last, at 201"),
+        (22, "nobody: every body is suspended or waits"),
+        (26, "radio is resumed: nobody else is ready or has begun; it is at 3"),
+    ];
+    for (step, words) in runs {
+        assert_eq!(told[step][4], format!("  runs    {words}"), "event {step}");
+    }
 }
 
 #[test]
@@ -236,17 +359,19 @@ fn what_is_refused_about_events_is_told() {
     let text = "version 1\ntask plain priority 2 autostart\nextended radio priority 5\nisr door priority 9\n\
                 resource flash users radio\ntrace\nwait 1\nclear 0x3\nset door 1\nset plain 1\nset radio 1\n\
                 activate radio\nget flash\nwait 0x80000000\n";
-    Folder::new().with("both.txt", text).osek(&["explain", "both.txt"]).prints(
-        "\
-accepted: 8 events, 6 with a status other than 0
-event 0 Wait 0x1 while plain runs: status 1 E_OS_ACCESS: the running body is no extended task
-event 1 Clear 0x3 while plain runs: status 1 E_OS_ACCESS: the running body is no extended task
-event 2 Set door 0x1 while plain runs: status 3 E_OS_ID: no task has this number
-event 3 Set plain 0x1 while plain runs: status 1 E_OS_ACCESS: the task is no extended task
-event 4 Set radio 0x1 while plain runs: status 7 E_OS_STATE: the task is suspended
-event 7 Wait 0x80000000 while radio runs: status 6 E_OS_RESOURCE: the running body holds a resource
-",
-        0,
+    let said = Folder::new().with("b.txt", text).osek(&["explain", "b.txt"]).done();
+    let told: Vec<&str> = said.lines().filter(|line| line.starts_with("event ")).collect();
+    let bits = "plain is a task, and only an extended task has event bits";
+    assert_eq!(
+        told,
+        [
+            format!("event 0 Wait 0x1 (b.txt:7, tick 0) while plain runs at 2: status 1 E_OS_ACCESS: {bits}"),
+            format!("event 1 Clear 0x3 (b.txt:8, tick 0) while plain runs at 2: status 1 E_OS_ACCESS: {bits}"),
+            "event 2 Set door 0x1 (b.txt:9, tick 0) while plain runs at 2: status 3 E_OS_ID: door is an ISR, no task".into(),
+            "event 3 Set plain 0x1 (b.txt:10, tick 0) while plain runs at 2: status 1 E_OS_ACCESS: plain is a task, no extended one".into(),
+            "event 4 Set radio 0x1 (b.txt:11, tick 0) while plain runs at 2: status 7 E_OS_STATE: radio is suspended".into(),
+            "event 7 Wait 0x80000000 (b.txt:14, tick 0) while radio runs at 5: status 6 E_OS_RESOURCE: radio holds flash (ceiling 5)".into(),
+        ]
     );
 }
 
@@ -254,11 +379,13 @@ event 7 Wait 0x80000000 while radio runs: status 6 E_OS_RESOURCE: the running bo
 fn a_body_that_is_no_user_is_told_so() {
     let text = "version 1\ntask low priority 2 autostart\ntask high priority 5\nresource flash users high\n\
                 resource own users low\ntrace\nget flash\nget own\nget own\n";
-    Folder::new().with("both.txt", text).osek(&["explain", "both.txt"]).prints(
+    Folder::new().with("b.txt", text).osek(&["explain", "b.txt"]).prints(
         "\
-accepted: 3 events, 2 with a status other than 0
-event 0 Get flash while low runs: status 33 E_USER: the running body is no declared user of the resource
-event 2 Get own while low runs: status 1 E_OS_ACCESS: the resource is held already
+accepted: 3 events, 2 with a status other than 0, 0 losses
+event 0 Get flash (b.txt:7, tick 0) while low runs at 2: status 33 E_USER: low is no declared user of flash, which high may take
+  low running at 2
+event 2 Get own (b.txt:9, tick 0) while low runs at 2: status 1 E_OS_ACCESS: own is held already, by low
+  low running at 2, holds own (ceiling 2)
 ",
         0,
     );
@@ -268,25 +395,36 @@ event 2 Get own while low runs: status 1 E_OS_ACCESS: the resource is held alrea
 fn a_lost_line_is_said_to_be_counted_in_version_2_alone() {
     let bounces = "isr door priority 9\ntrace\nline door\nline door\nline door\nline 1\nline door\n";
     let folder = Folder::new();
-    for (version, lost) in [(1, ""), (2, "; the line is counted as lost")] {
-        folder.write("bounces.txt", format!("version {version}\n{bounces}"));
-        let waits = "while door runs: status 4 E_OS_LIMIT: a request of this ISR waits already";
-        folder.osek(&["explain", "bounces.txt"]).prints(
+    for (version, losses) in [(1, "0 losses"), (2, "2 losses")] {
+        folder.write("b.txt", format!("version {version}\n{bounces}"));
+        let waits = "while door runs at 9: status 4 E_OS_LIMIT: a request of door waits already";
+        let lost = |count: u32| {
+            if version == 1 {
+                String::new()
+            } else {
+                format!("; the line is counted as lost, which makes {count}")
+            }
+        };
+        let states = "  door running at 9, is requested again\n";
+        folder.osek(&["explain", "b.txt"]).prints(
             &format!(
                 "\
-accepted: 5 events, 3 with a status other than 0
-event 2 Line door {waits}{lost}
-event 3 Line 1 while door runs: status 3 E_OS_ID: no ISR has this number
-event 4 Line door {waits}{lost}
-"
+accepted: 5 events, 3 with a status other than 0, {losses}
+event 2 Line door (b.txt:6, tick 0) {waits}{}
+{states}event 3 Line 1 (b.txt:7, tick 0) while door runs at 9: status 3 E_OS_ID: there is no ISR 1: the only body is 0
+{states}event 4 Line door (b.txt:8, tick 0) {waits}{}
+{states}",
+                lost(1),
+                lost(2),
             ),
             0,
         );
     }
 }
 
+/// What is said to be lost, event by event, is what the library counts.
 #[test]
-fn the_lines_that_are_said_to_be_counted_are_the_library_s_losses() {
+fn the_losses_that_are_told_are_the_library_s() {
     let folder = Folder::new();
     let mut counted = 0;
     for number in 0..150 {
@@ -295,14 +433,33 @@ fn the_lines_that_are_said_to_be_counted_are_the_library_s_losses() {
         folder.write("trace.bin", &case.trace);
         let listing = folder.osek(&["run", "config.bin", "trace.bin", "--names"]).out;
         let said = folder.osek(&["explain", "config.bin", "trace.bin"]).out;
-        for (name, lost) in listing.lines().filter_map(|line| line.strip_prefix("lost isr")?.split_once(' ')) {
-            let of_it = |line: &&str| line.contains(&format!(" Line isr{name} ")) && line.ends_with("counted as lost");
-            assert_eq!(said.lines().filter(of_it).count().to_string(), lost, "case {number}, isr{name}");
-            counted += 1;
+        let mut all = 0;
+        for (name, lost) in listing.lines().filter_map(|line| line.strip_prefix("lost ")?.split_once(' ')) {
+            let lost: usize = lost.parse().expect("a count");
+            let line = format!(" Line {name} ");
+            let lines = said.lines().filter(|told| told.contains(&line) && told.contains("counted as lost")).count();
+            // Of an entry at the same tick as another one the name stands behind, of any other before.
+            let before = said.matches(&format!(" while {name} is ")).count();
+            let behind = said.matches(&format!("an activation of {name} is lost")).count();
+            assert_eq!(lines + before + behind, lost, "case {number}, {name}: {said}");
+            all += lost;
         }
-        assert_eq!(said.contains("counted as lost"), listing.contains("lost isr"), "case {number}");
+        if listing.starts_with("refused") {
+            continue;
+        }
+        let words = if all == 1 { ", 1 loss\n".into() } else { format!(" {} losses\n", grouped(all)) };
+        assert!(said.contains(&words), "case {number}: {words} {said}");
+        counted += all;
     }
-    assert!(counted > 20, "{counted}");
+    assert!(counted > 200, "{counted}");
+}
+
+fn grouped(number: usize) -> String {
+    let digits = number.to_string();
+    match digits.len() {
+        0..=3 => digits,
+        length => format!("{},{}", &digits[..length - 3], &digits[length - 3..]),
+    }
 }
 
 #[test]

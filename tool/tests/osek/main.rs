@@ -1,6 +1,7 @@
 //! The bench tool, run as a process on files.
 
 mod cases;
+mod check;
 mod command_line;
 mod common;
 mod compare;

@@ -123,7 +123,7 @@ fn empty_and_huge_files_are_judged_by_the_library() {
     folder.osek(&["run", "config.bin", "empty"]).prints(&format!("{header}\n"), 0);
     folder.osek(&["run", "huge", "huge"]).prints("refused 10 0\n", 1);
     folder.osek(&["run", "config.bin", "huge"]).prints("refused 20 0\n", 1);
-    folder.osek(&["run", "config.bin", "more"]).fails(4, "more is longer than 16777216 bytes");
+    folder.osek(&["run", "config.bin", "more"]).fails(4, "more is longer than 16,777,216 bytes, and is not read");
 }
 
 #[test]
@@ -137,8 +137,10 @@ fn one_file_has_to_hold_both_parts() {
     folder
         .osek(&["run", "config.txt"])
         .fails(4, "config.txt holds a configuration alone, no trace: it follows a line `trace`, or is a second file");
-    folder.osek(&["run", "trace.txt"]).fails(4, "trace.txt holds a trace alone, no configuration");
-    folder.osek(&["run", "trace.txt", "trace.bin"]).fails(4, "trace.txt holds a trace alone, no configuration");
+    folder.osek(&["run", "trace.txt"]).fails(4, "trace.txt holds a trace alone, no configuration, which comes first");
+    folder
+        .osek(&["run", "trace.txt", "trace.bin"])
+        .fails(4, "trace.txt holds a trace alone, no configuration, which comes first");
     folder
         .osek(&["run", "config.bin", "both.txt"])
         .fails(4, "both.txt holds a configuration of its own: give it as the only file, or a trace alone");

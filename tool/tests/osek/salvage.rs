@@ -40,6 +40,24 @@ fn a_trace_that_looks_like_a_text_is_taken_for_bytes() {
 }
 
 #[test]
+fn events_go_to_standard_output_and_words_to_standard_error_or_into_json() {
+    let folder = Folder::new().with("damaged.bin", DAMAGED);
+    let output = folder.command(&["salvage", "damaged.bin", "-o", "-"]).output().expect("the tool runs");
+    assert_eq!(output.stdout, [0x04, 0x00, 0x06, 0x07, 0x02]);
+    assert!(output.stderr.starts_with(b"kept 5 of 10 bytes\ndropped 1 byte at 2: "));
+    folder.osek(&["salvage", "damaged.bin", "--json"]).prints(
+        "\
+{\"bytes\": 10, \"kept\": 5, \"dropped\": [
+  {\"offset\": 2, \"length\": 1, \"bytes\": \"ff\", \"why\": \"an event code is unknown\"},
+  {\"offset\": 4, \"length\": 2, \"bytes\": \"00 00\", \"why\": \"an event code is unknown\"},
+  {\"offset\": 8, \"length\": 2, \"bytes\": \"08 00\", \"why\": \"the input ends where a number, or the rest of one, is missing\"}
+]}
+",
+        0,
+    );
+}
+
+#[test]
 fn a_long_stretch_stands_in_several_lines() {
     let folder = Folder::new().with("damaged.bin", [[0x80; 17].as_slice(), &[0x00]].concat());
     let said = folder.osek(&["salvage", "damaged.bin", "-o", "kept.bin"]).done();
@@ -51,7 +69,9 @@ fn a_long_stretch_stands_in_several_lines() {
 #[test]
 fn a_trace_that_is_too_long_is_refused_and_nothing_is_written() {
     let folder = Folder::new().with("long.bin", vec![2; 8_193]);
-    folder.osek(&["salvage", "long.bin", "-o", "kept.bin", "--dropped", "dropped.bin"]).prints("refused 20 0\n", 1);
+    let said = folder.osek(&["salvage", "long.bin", "-o", "kept.bin", "--dropped", "dropped.bin"]);
+    let refused = "refused 20 0: the trace is longer than 8,192 bytes\n";
+    assert_eq!((said.out.as_str(), said.err.as_str(), said.code), ("", refused, Some(1)));
     assert!(!folder.0.join("kept.bin").exists() && !folder.0.join("dropped.bin").exists());
 }
 
@@ -61,9 +81,9 @@ fn a_bad_command_line_says_what_is_missing() {
     let help = "; see osek salvage --help";
     folder.osek(&["salvage", "-o", "x"]).fails(2, &format!("salvage: the trace is missing{help}"));
     folder.osek(&["salvage", "damaged.bin"]).fails(2, &format!("salvage: -o is missing{help}"));
-    for arguments in [&["-o", "-"][..], &["-o", "x", "--dropped", "-"]] {
-        let words = format!("salvage: standard output takes the words: name files{help}");
-        folder.osek(&[&["salvage", "damaged.bin"], arguments].concat()).fails(2, &words);
+    let one = format!("salvage: of -o, --dropped and --json one alone can have standard output{help}");
+    for arguments in [&["-o", "-", "--dropped", "-"][..], &["-o", "-", "--json"], &["--json", "--dropped", "-"]] {
+        folder.osek(&[&["salvage", "damaged.bin"], arguments].concat()).fails(2, &one);
     }
     folder.osek(&["salvage", "none.bin", "-o", "x"]).fails(4, "none.bin can't be read: No such file or directory");
 }

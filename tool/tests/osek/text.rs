@@ -298,3 +298,18 @@ fn line_ends_comments_and_a_byte_order_mark_are_no_matter() {
     let folder = Folder::new().with("both.txt", format!("\u{feff}# für\r\n{}", DOCUMENT_TEXT.replace('\n', "  #\r\n")));
     folder.osek(&["run", "both.txt"]).prints(DOCUMENT_LISTING, 0);
 }
+
+/// python/osek/text.py by this tool.
+#[test]
+fn python_reads_and_writes_texts_by_the_tool() {
+    let root = std::path::Path::new(env!("CARGO_MANIFEST_DIR")).join("..");
+    let output = std::process::Command::new("python3")
+        .args(["-B", "-m", "unittest", "test_text"])
+        .current_dir(root.join("python"))
+        .env("OSEK_TOOL", OSEK)
+        .env("OSEK_LIBRARY", root.join("build/libosek.so"))
+        .output()
+        .expect("python3 runs");
+    let said = String::from_utf8_lossy(&output.stderr);
+    assert!(output.status.success() && said.ends_with("\nOK\n"), "{said}");
+}

@@ -138,8 +138,13 @@ fn a_task_that_waits_shows_so() {
     assert_eq!(states(0), ["running", "waiting", "preempted", "running"]);
     assert_eq!(states(1), ["running"]);
     let picture = folder.osek(&["timeline", "radio.txt", "--svg", "-"]).done();
-    // The body's bar, and the legend's.
-    assert_eq!(picture.matches("class=\"waiting\"").count(), 2, "{picture}");
+    // The body's bar, the one in the lane of its bits, and the legend's.
+    assert_eq!(picture.matches("class=\"waiting\"").count(), 3, "{picture}");
+    assert!(picture.contains(">radio bits<") && picture.matches("class=\"bits\"").count() == 1, "{picture}");
+    let dump = folder.osek(&["timeline", "radio.txt", "--vcd", "-"]).done();
+    for signal in ["$var wire 32 ' radio_bits [31:0]", "radio_waits_for [31:0]"] {
+        assert!(dump.contains(&signal[signal.len() - 18..]), "{signal}: {dump}");
+    }
 }
 
 #[test]
@@ -149,8 +154,8 @@ fn time_triggered_tasks_stand_on_top_at_their_level() {
                 table round period 20\nat 0 one\nat 1 two\ntrace\nstart round 1\ntick 3\nfinish\nfinish\n";
     let folder = Folder::new().with("round.txt", text);
     let json = folder.osek(&["timeline", "round.txt", "--json", "-"]).done();
-    let called: Vec<&str> = json.lines().filter(|line| line.contains("(priority ")).collect();
-    let shown = ["one (priority 201)", "two (priority 201)", "low (priority 9)"];
+    let called: Vec<&str> = json.lines().filter(|line| line.contains("priority ")).collect();
+    let shown = ["one (time-triggered, priority 2)", "two (time-triggered, priority 1)", "low (priority 9)"];
     assert!(called.len() == 3 && called.iter().zip(shown).all(|(line, name)| line.contains(name)), "{called:?}");
     let states = |body: u32| -> Vec<String> {
         let of_body = format!("\"pid\": 2, \"tid\": {body}, \"cat\": \"state\"");
@@ -185,7 +190,7 @@ fn a_timeline_needs_a_run_that_is_accepted_and_somewhere_to_go() {
     let folder = Folder::document();
     folder
         .osek(&["timeline", "config.bin", "trace.bin"])
-        .fails(2, "timeline: --vcd, --svg or --json is missing; see osek timeline --help");
+        .fails(2, "timeline: --html, --svg, --vcd or --json is missing; see osek timeline --help");
     folder
         .osek(&["timeline", "config.bin", "trace.bin", "--svg", "-", "--vcd", "-"])
         .fails(2, "timeline: only one output can be standard output; see osek timeline --help");
@@ -198,4 +203,138 @@ fn a_timeline_needs_a_run_that_is_accepted_and_somewhere_to_go() {
     assert_eq!((said.code, said.out.as_str()), (Some(1), ""));
     assert!(said.err.starts_with("refused 1 1: "), "{}", said.err);
     assert!(!folder.0.join("out.svg").exists());
+}
+
+#[test]
+fn lanes_show_who_holds_what() {
+    let folder = Folder::new().with("logger.txt", LOGGER);
+    let picture = folder.osek(&["timeline", "logger.txt", "--svg", "-"]).done();
+    // The radio holds the flash, then the record.
+    assert_eq!(picture.matches("class=\"held\"").count(), 2, "{picture}");
+    let holders: Vec<&str> =
+        picture.split("class=\"held\"").skip(1).filter_map(|rest| rest.split('>').nth(2)?.split('<').next()).collect();
+    assert_eq!(holders, ["radio", "record"]);
+    folder.osek(&["timeline", "logger.txt", "--vcd", "run.vcd"]).prints("", 0);
+    let dump = folder.text("run.vcd");
+    let id = dump.lines().find_map(|line| line.strip_suffix(" flash_holder $end")?.split(' ').next_back());
+    let id = id.expect("the holder is a signal");
+    let held: Vec<&str> =
+        dump.lines().filter_map(|line| line.strip_prefix('s')?.strip_suffix(&format!(" {id}"))).collect();
+    assert_eq!(held, ["-", "radio", "-", "record", "-"]);
+}
+
+/// Levels are equally far apart, so that 201 does not press the others together.
+#[test]
+fn a_level_of_201_does_not_flatten_the_others() {
+    let text = "version 1\ntask low priority 1 autostart\ntask high priority 2\ntimed one priority 3\n\
+                table round period 9\nat 0 one\ntrace\nactivate high\nstart round 1\ntick\nfinish\nfinish\nfinish\n";
+    let picture = Folder::new().with("t.txt", text).osek(&["timeline", "t.txt", "--svg", "-"]).done();
+    let path = picture.lines().find(|line| line.contains("class=\"level\"")).expect("there is a level");
+    let mut heights: Vec<i64> = path
+        .split(['M', 'V'])
+        .skip(1)
+        .filter_map(|part| {
+            part.split([' ', '"']).find(|word| word.contains('.') && !word.contains('H')).or(part.split(' ').nth(1))
+        })
+        .filter_map(|number| number.parse::<f64>().ok())
+        .map(|height| height.round() as i64)
+        .collect();
+    heights.remove(0);
+    heights.sort_unstable();
+    heights.dedup();
+    // 0, 1, 2 and 201.
+    assert_eq!(heights.len(), 4, "{path}");
+    let gaps: Vec<i64> = heights.windows(2).map(|pair| pair[1] - pair[0]).collect();
+    assert!(gaps.iter().max().zip(gaps.iter().min()).is_some_and(|(most, least)| most - least <= 1), "{gaps:?}");
+}
+
+#[test]
+fn a_part_of_a_run_is_drawn_and_says_so() {
+    let folder = Folder::new().with("logger.txt", LOGGER);
+    let picture = folder.osek(&["timeline", "logger.txt", "--svg", "-", "--from", "5", "--to", "9"]).done();
+    assert!(picture.contains(">logger.txt (events 5 to 9 of 65; --from and --to show others)<"), "{picture}");
+    assert!(picture.contains(">after event 4<") && !picture.contains("fresh start"), "{picture}");
+    assert_eq!(picture.matches("class=\"column\"").count(), 5);
+    let help = "see osek timeline --help";
+    folder
+        .osek(&["timeline", "logger.txt", "--svg", "-", "--from", "9", "--to", "8"])
+        .fails(2, &format!("timeline: --to takes 9 to 64, not 8; {help}"));
+    folder
+        .osek(&["timeline", "logger.txt", "--vcd", "-", "--from", "9"])
+        .fails(2, &format!("timeline: --from goes with --svg; {help}"));
+    // A run of very many events says what is left out.
+    let calls: String = (0..3_900).map(|_| "line 0\nfinish\n").collect();
+    folder.write("long.txt", format!("version 1\nisr door priority 9\ntrace\n{}", &calls[..calls.len() / 2]));
+    let picture = folder.osek(&["timeline", "long.txt", "--svg", "-"]).done();
+    assert!(picture.contains("(events 0 to 2999 of 3,900; --from and --to show others)"), "{}", &picture[..2_000]);
+}
+
+#[test]
+fn a_save_file_for_gtkwave_names_every_signal_of_the_dump() {
+    let folder = Folder::new().with("logger.txt", LOGGER);
+    folder.osek(&["timeline", "logger.txt", "--vcd", "run.vcd"]).prints("", 0);
+    let (dump, save) = (folder.text("run.vcd"), folder.text("run.gtkw"));
+    assert!(save.contains("[dumpfile] \"run.vcd\"\n"), "{save}");
+    let mut scope = "";
+    let mut signals = 0;
+    for line in dump.lines() {
+        let words: Vec<&str> = line.split(' ').collect();
+        match words[..] {
+            ["$scope", _, name, _] => scope = name,
+            ["$var", _, _, _, name, ref range @ ..] => {
+                let range = range.first().filter(|word| word.starts_with('[')).copied().unwrap_or_default();
+                assert!(save.contains(&format!("\nosek.{scope}.{name}{range}\n")), "{line}: {save}");
+                signals += 1;
+            }
+            _ => {}
+        }
+    }
+    assert_eq!(save.lines().filter(|line| line.starts_with("osek.")).count(), signals);
+    // Decimal is format 24.
+    assert!(save.contains("@24\nosek.run.level[7:0]\n"), "{save}");
+}
+
+/// A browser runs the page where there is one; what it reads is compared with the listing in any case.
+#[test]
+fn a_page_has_the_run_and_nothing_from_a_network() {
+    let folder = Folder::new().with("listing", DOCUMENT_LISTING);
+    std::fs::create_dir(folder.0.join("a<")).expect("a folder can be made");
+    folder.write("a</script>.txt", DOCUMENT_TEXT);
+    folder.osek(&["timeline", "a</script>.txt", "--html", "run.html"]).prints("", 0);
+    let page = folder.text("run.html");
+    for outside in ["http:", "https:", "src=", "<link", "@import", "url("] {
+        assert!(!page.contains(outside), "{outside}");
+    }
+    python(&folder, "check_html.py", &["run.html", "listing"]);
+    let drawn = accepted(44, 6, 900);
+    for (config, trace) in drawn {
+        write(&folder, &config, &trace);
+        folder.osek(&["timeline", "config.bin", "trace.bin", "--html", "drawn.html"]).prints("", 0);
+        python(&folder, "check_html.py", &["drawn.html", "listing"]);
+    }
+    let address = format!("file://{}/run.html?E_OS_RESOURCE#13", folder.0.display());
+    let browser = Command::new("timeout")
+        .args([
+            "60",
+            "chromium",
+            "--headless",
+            "--no-sandbox",
+            "--disable-gpu",
+            "--virtual-time-budget=3000",
+            "--dump-dom",
+        ])
+        .arg(&address)
+        .env("HOME", &folder.0)
+        .output();
+    match browser {
+        Ok(output) if output.status.success() => {
+            let page = String::from_utf8_lossy(&output.stdout).into_owned();
+            assert!(page.contains("data-ready=\"17 events, 1 found, 13 chosen\""), "the page's script did not end");
+            assert!(
+                page.contains("high begins: nobody else is ready or has begun; it is at 5"),
+                "the reasons are not shown"
+            );
+        }
+        _ => println!("skipped: chromium is not here"),
+    }
 }

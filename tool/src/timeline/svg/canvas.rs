@@ -58,6 +58,16 @@ impl Canvas {
         );
     }
 
+    /// A field that says something to a pointer over it.
+    pub fn tooltip(&mut self, class: &str, x: f64, y: f64, width: f64, height: f64, said: &str) {
+        let said = escaped(said);
+        let _ = writeln!(
+            self.0,
+            "<rect class=\"{class}\" x=\"{x:.1}\" y=\"{y:.1}\" width=\"{width:.1}\" \
+             height=\"{height:.1}\"><title>{said}</title></rect>"
+        );
+    }
+
     pub fn path(&mut self, class: &str, data: &str) {
         let _ = writeln!(self.0, "<path class=\"{class}\" d=\"{data}\"/>");
     }
