@@ -22,7 +22,7 @@ ARCHIVES = $(EXPORTS:%=target/staticlib/lib%.a)
 SOURCES := KIT crates.txt $(shell find crates -name must-fail -prune -o -type f -print)
 
 .NOTPARALLEL:
-.PHONY: help run test host lib tool unit unit-check install uninstall fuzz speed clean need need-cargo
+.PHONY: help run test host lib tool unit unit-check install uninstall dist fuzz speed clean need need-cargo
 
 ## make run          proves the bench program and runs it on the listing of document 01
 ## make test         the gate: every crate proved, every must-fail edit refused, every test run
@@ -31,7 +31,8 @@ SOURCES := KIT crates.txt $(shell find crates -name must-fail -prune -o -type f 
 ## make tool         build/osek, the bench tool: text in, words and pictures out, a simulator beside the reference
 ## make unit         the emulated unit: a Sloth kernel for QEMU's Cortex-M3, right and with each planted fault (unit/README.md)
 ## make unit-check   the unit beside the reference, and every fault found
-## make install      header, libraries, osek.pc, host and manual page under PREFIX=/usr/local; make uninstall
+## make install      header, libraries, osek.pc, host, tool, manual pages and python/ under PREFIX=/usr/local; make uninstall
+## make dist         build/dist: a tarball and a .deb of what is installed, after `make test` of this commit; needs no kit to use
 ## make fuzz         drawn cases beside the Rust versions of tests/: SEED=7 COUNT=20000
 ## make speed        the run timed beside Rust; WRITE=1 puts the tables into docs/PERFORMANCE.md
 ## make clean        removes all that was built, what is known to be proved too
@@ -73,11 +74,15 @@ lib: need $(LIBRARY) $(SHARED)
 host: need build/osek_host
 	@echo 'build/osek_host CONFIG TRACE runs the trace in one file over the configuration in another'
 
-# Where things are installed; DESTDIR goes before PREFIX.
+# Where things are installed; DESTDIR goes before PREFIX. Python looks in PYTHON_DIR under /usr, elsewhere by PYTHONPATH.
+PYTHON_DIR = lib/python3/dist-packages
+PYTHON_FILES = $(patsubst python/%,%,$(wildcard python/osek/*.py)) osek/py.typed osek/VERSION
+PAGES = README.md CHANGELOG.md $(wildcard docs/*.md docs/logger.*)
 INSTALLED = include/osek.h lib/libosek.a lib/libosek.so lib/$(SONAME) lib/libosek.so.$(VERSION) \
-            lib/pkgconfig/osek.pc bin/osek_host share/man/man1/osek_host.1
+            lib/pkgconfig/osek.pc bin/osek_host share/man/man1/osek_host.1 bin/osek share/man/man1/osek.1 \
+            share/bash-completion/completions/osek $(PYTHON_FILES:%=$(PYTHON_DIR)/%)
 
-install: lib host
+install: lib host tool
 	@install -d $(sort $(dir $(INSTALLED:%=$(DESTDIR)$(PREFIX)/%)))
 	@install -m 644 include/osek.h $(DESTDIR)$(PREFIX)/include
 	@install -m 644 $(LIBRARY) $(DESTDIR)$(PREFIX)/lib
@@ -85,12 +90,20 @@ install: lib host
 	@ln -sf libosek.so.$(VERSION) $(DESTDIR)$(PREFIX)/lib/$(SONAME)
 	@ln -sf $(SONAME) $(DESTDIR)$(PREFIX)/lib/libosek.so
 	@sed -e 's|@PREFIX@|$(PREFIX)|' -e 's|@VERSION@|$(VERSION)|' host/osek.pc.in > $(DESTDIR)$(PREFIX)/lib/pkgconfig/osek.pc
-	@install -m 755 build/osek_host $(DESTDIR)$(PREFIX)/bin
+	@install -m 755 build/osek_host build/osek $(DESTDIR)$(PREFIX)/bin
 	@install -m 644 host/osek_host.1 $(DESTDIR)$(PREFIX)/share/man/man1
+	@build/osek --man > $(DESTDIR)$(PREFIX)/share/man/man1/osek.1
+	@build/osek --completion > $(DESTDIR)$(PREFIX)/share/bash-completion/completions/osek
+	@install -m 644 python/osek/*.py python/osek/py.typed $(DESTDIR)$(PREFIX)/$(PYTHON_DIR)/osek
+	@echo $(VERSION) > $(DESTDIR)$(PREFIX)/$(PYTHON_DIR)/osek/VERSION
 	@printf '%s\n' $(INSTALLED:%=$(DESTDIR)$(PREFIX)/%)
 
 uninstall:
 	@rm -f $(INSTALLED:%=$(DESTDIR)$(PREFIX)/%)
+
+# What `make install` puts under /usr, with the pages and the tally of the gate, as a tarball and as a Debian package.
+dist: lib host tool
+	@scripts/dist $(VERSION) "$(UNGATED)" $(PAGES)
 
 # The bench tool: build/osek --help
 tool: need-cargo lib
