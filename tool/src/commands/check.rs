@@ -9,7 +9,7 @@ use crate::layout;
 use crate::options::{Accepts, Options};
 use crate::output;
 use crate::record::{Record, Recorded};
-use crate::reference::{self, Refused, Run};
+use crate::reference::{self, Answer, Refused, Run, Verdict};
 use crate::why::{self, Why};
 use crate::words::{self, counted, grouped, Part};
 
@@ -76,6 +76,17 @@ fn equal(outcome: &Result<Run, Refused>, record: &Record) -> String {
     }
 }
 
+/// The first event whose answer differs or is missing, by the proved verdict on the answers; none if all pass. An answer
+/// that the record leaves out ends what is judged, and answers beyond the events are left aside.
+fn first_by_verdict(pair: &Pair, events: usize, recorded: &[Option<Recorded>]) -> Option<usize> {
+    let answers = recorded.iter().take(events).map_while(|recorded| recorded.map(|recorded| recorded.answer));
+    let bytes = Run { answers: answers.collect(), losses: Vec::new() }.output();
+    match reference::verdict(&pair.config.source.bytes, &pair.trace.bytes, &bytes) {
+        Verdict::Fails(step) => Some(step),
+        Verdict::Pass | Verdict::Refused(_) => None,
+    }
+}
+
 /// Every difference, each with its line end; the first with its reasons.
 fn of_runs(
     pair: &Pair,
@@ -85,6 +96,12 @@ fn of_runs(
 ) -> Result<Vec<String>, Failure> {
     let history = History::of(pair, run)?;
     let names = &pair.config.names;
+    let differs = |(step, expected): (usize, &Answer)| {
+        recorded.get(step).copied().flatten().is_none_or(|recorded| recorded.answer != *expected)
+    };
+    if run.answers.iter().enumerate().position(differs) != first_by_verdict(pair, run.answers.len(), recorded) {
+        return Err(Failure::Output("the library's verdict and its run differ: nothing is said of the record".into()));
+    }
     let mut told = Vec::new();
     let mut tell = |words: String, reasons: &dyn Fn() -> String| {
         let reasons = if told.is_empty() { reasons() } else { String::new() };
