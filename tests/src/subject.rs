@@ -21,7 +21,7 @@ extern "C" {
         stretches_len: usize,
     ) -> u64;
     pub fn osek_oil(text: *const u8, text_len: usize, config: *mut u8, config_len: usize, place: *mut u64) -> u64;
-    fn osek_wait(config: *const u8, config_len: usize, trace: *const u8, trace_len: usize, body: u32) -> u64;
+    pub fn osek_wait(config: *const u8, config_len: usize, trace: *const u8, trace_len: usize, body: u32) -> u64;
     pub fn osek_draw(
         start: u32,
         weights: *const u16,

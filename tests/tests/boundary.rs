@@ -10,7 +10,7 @@ use std::sync::Barrier;
 use osek_tests::cases;
 use osek_tests::compare::{outcome, FAST, SUBJECT};
 use osek_tests::listing::{DOCUMENT_CONFIG, DOCUMENT_TRACE};
-use osek_tests::subject::{osek_draw, osek_oil, osek_run, osek_salvage, osek_verdict};
+use osek_tests::subject::{osek_draw, osek_oil, osek_run, osek_salvage, osek_verdict, osek_wait};
 
 /// The functions that a library defines for others.
 fn exported(library: &str, option: &str) -> Vec<String> {
@@ -98,6 +98,17 @@ fn a_pointer_of_length_0_may_be_null_in_a_reading_of_oil() {
         assert_eq!(osek_oil(text.as_ptr(), text.len(), null_mut(), 0, place.as_mut_ptr()), 30 << 32 | 7);
     }
     assert_eq!((config, place), ([77; 8], [0, 0]));
+}
+
+#[test]
+fn a_pointer_of_length_0_may_be_null_in_a_wait() {
+    let (config, trace) = (&DOCUMENT_CONFIG, &DOCUMENT_TRACE);
+    unsafe {
+        // No configuration: 1 at place 0. No trace: body 0 has begun at the fresh start, and does not wait.
+        assert_eq!(osek_wait(null(), 0, null(), 0, 0), 1 << 32);
+        assert_eq!(osek_wait(null(), 0, trace.as_ptr(), trace.len(), 0), 1 << 32);
+        assert_eq!(osek_wait(config.as_ptr(), config.len(), null(), 0, 0), 31 << 32);
+    }
 }
 
 #[test]
