@@ -192,13 +192,13 @@ module _ (c : Config) (ok : Configuration.Accepted c) (b : ℕ) where
             quiet : bodyOf s k .pending ≡ false
             quiet = unstarted-quiet (bodyOf s k .phase) (bodyOf s k .pending) (a .basic .bodies k) n
 
-            one-turn : jobs started (bodyOf s k .pending) ≡ jobs (bodyOf s k .phase) (bodyOf s k .pending)
-            one-turn = rw (quiet, ready-is (bodyOf s k .phase) (l .active) n)
+            one-step : jobs started (bodyOf s k .pending) ≡ jobs (bodyOf s k .phase) (bodyOf s k .pending)
+            one-step = rw (quiet, ready-is (bodyOf s k .phase) (l .active) n)
 
             before-same : jobsBefore c b k (become started (bodyOf s k)) ≡ jobsBefore c b k (bodyOf s k)
             before-same =
                 before-above c b k (become started (bodyOf s k)) d (above a waits l d)
-                ∙ one-turn ∙ sym (before-above c b k (bodyOf s k) d (above a waits l d))
+                ∙ one-step ∙ sym (before-above c b k (bodyOf s k) d (above a waits l d))
 
   -- A Finish, as a whole: accepted, the runner ends, and the next one is chosen
   finish-step : {s : State} → NoHolder c s → {k : ℕ} → Leads c s k

@@ -29,7 +29,7 @@ jobs-le started false = lit≤ tt
 jobs-le (waiting w) pending = lit≤ tt
 jobs-le (triggered x) pending = lit≤ tt
 
--- whoever may run has a turn, and nobody else
+-- whoever may run has a job, and nobody else
 pub jobs-some : (p : Phase) (pending : Bool) → competes p ≡ true → 1 ≤ jobs p pending
 jobs-some suspended pending h = absurd (true≢false (sym h))
 jobs-some ready pending h = lit≤ tt

@@ -18,7 +18,7 @@ use Rattle.config_codec.specs.Entry.{bodiesOf, entryFault}
 use Rattle.config_codec.specs.Position.{draftAt}
 use Rattle.config_codec.proofs.EntryTests.{entry-same}
 use Rattle.config_codec.proofs.NextNumber.{Placed, placed}
-use Rattle.config_codec.proofs.Turn.{Turned, turned-at, fits, WalksOn, walk-start, walk-stands, walk-small, walk-end, turn-unreadable, turn-refused, turn-fewer, turn-next}
+use Rattle.config_codec.proofs.Step.{Stepped, stepped-at, fits, WalksOn, walk-start, walk-stands, walk-small, walk-end, step-unreadable, step-refused, step-fewer, step-next}
 use borrow.Author.Needs.{needs}
 use Rattle.config_codec.proofs.walk.walk.Statement.{statement}
 use Rattle.config_codec.proofs.walk.walk.Tie as tie
@@ -29,7 +29,7 @@ Inv-loop writing value bytes c₀ p₀ at₀ c p at = WalksOn writing value byte
 abbrev μ-loop : tie.MeasureT-loop
 μ-loop writing value bytes c₀ p₀ at₀ c p at = left (draftAt c p)
 
--- at the loop's head, and the number that a turn has
+-- at the loop's head, and the number that a step has
 abbrev head : tie.After-byte Inv-loop μ-loop → tie.At-loop Inv-loop μ-loop
 head b = b .before .before .before .before .before .before
 
@@ -108,11 +108,11 @@ element-write-c-8 c = let t = c .before .before .before .before .before .before 
     element Task (t .before .before) (t .enum-told12 .given .1) .1
 
 -- what the arms leave is the number tested and put
-turned : (j : tie.At-match-came Inv-loop μ-loop)
-    → Turned (head (j .before) .loop .c) (head (j .before) .loop .p) (number (j .before)) (j .match .refusal)
+stepped : (j : tie.At-match-came Inv-loop μ-loop)
+    → Stepped (head (j .before) .loop .c) (head (j .before) .loop .p) (number (j .before)) (j .match .refusal)
     (j .match .c)
 unfolding faultAt putAt
-turned j =
+stepped j =
     let b = j .before in
     let l = head b .loop in
     let c = l .c in
@@ -120,46 +120,46 @@ turned j =
     let e = l .p .entry in
     let is = b .byte .ensures in
     ⊎-elim
-    (λ w. turned-at Version (w .1 .given .1) (w .4 ∙ w .2 .ensures)
+    (λ w. stepped-at Version (w .1 .given .1) (w .4 ∙ w .2 .ensures)
     (λ z h. w .3 ∙ ap (withVersion c) (fits 256 is (omega arith))))
     (⊎-elim
-    (λ w. turned-at Bodies (w .1 .given .1) (w .4 ∙ w .2 .ensures)
+    (λ w. stepped-at Bodies (w .1 .given .1) (w .4 ∙ w .2 .ensures)
     (λ z h. w .3 ∙ ap (withBodies c) (fits 256 is (omega arith))))
     (⊎-elim
-    (λ w. turned-at Kind (w .1 .given .1) (w .4 ∙ w .2 .ensures)
+    (λ w. stepped-at Kind (w .1 .given .1) (w .4 ∙ w .2 .ensures)
     (λ z h. w .3 ∙ ap (withKind c i) (fits 256 is (omega arith))))
     (⊎-elim
-    (λ w. turned-at Priority (w .1 .given .1) (w .5 ∙ w .3 .ensures)
+    (λ w. stepped-at Priority (w .1 .given .1) (w .5 ∙ w .3 .ensures)
     (λ z h. w .4 ∙ ap (withPriority c i) (fits 256 is (omega arith))))
     (⊎-elim
-    (λ w. turned-at Autostart (w .1 .given .1)
+    (λ w. stepped-at Autostart (w .1 .given .1)
     (w .6 ∙ w .4 .ensures ∙ ap (λ (m : ℕ). outside 0 m (number b) badField) (w .3 .ensures))
     (λ z h. w .5 ∙ ap (withAutostart c i) (fits 256 is (omega (arith, most-le (getD (c .kind) i 0))))))
     (⊎-elim
-    (λ w. turned-at Resources (w .1 .given .1) (w .4 ∙ w .2 .ensures)
+    (λ w. stepped-at Resources (w .1 .given .1) (w .4 ∙ w .2 .ensures)
     (λ z h. w .3 ∙ ap (withResources c) (fits 256 is (omega arith))))
     (⊎-elim
-    (λ w. turned-at Users (w .1 .given .1) (w .5 ∙ w .3 .ensures) (λ z h. w .4))
+    (λ w. stepped-at Users (w .1 .given .1) (w .5 ∙ w .3 .ensures) (λ z h. w .4))
     (⊎-elim
-    (λ w. turned-at Tables (w .1 .given .1) (w .4 ∙ w .2 .ensures)
+    (λ w. stepped-at Tables (w .1 .given .1) (w .4 ∙ w .2 .ensures)
     (λ z h. w .3 ∙ ap (withTables c) (fits 256 is (omega arith))))
     (⊎-elim
-    (λ w. turned-at Period (w .1 .given .1) (w .5 ∙ w .2 .ensures)
+    (λ w. stepped-at Period (w .1 .given .1) (w .5 ∙ w .2 .ensures)
     (λ z h. w .4 ∙ ap (withPeriod c i) (fits 65536 (w .3 .ensures) (omega arith))))
     (⊎-elim
-    (λ w. turned-at Entries (w .1 .given .1) (w .4 ∙ w .2 .ensures)
+    (λ w. stepped-at Entries (w .1 .given .1) (w .4 ∙ w .2 .ensures)
     (λ z h. w .3 ∙ ap (withEntries c i) (fits 256 is (omega arith))))
     (⊎-elim
-    (λ w. turned-at Offset (w .1 .given .1) (w .6 ∙ w .3 .ensures .0)
+    (λ w. stepped-at Offset (w .1 .given .1) (w .6 ∙ w .3 .ensures .0)
     (λ z h. w .5 ∙ ap (withOffset c e) (fits 65536 (w .4 .ensures)
     (let n = w .3 .ensures .1 (sym (w .6) ∙ z) in omega arith))))
     (⊎-elim
-    (λ w. turned-at Task (w .1 .given .1)
+    (λ w. stepped-at Task (w .1 .given .1)
     (w .12 ∙ w .10 .ensures ∙ ap (entryFault (bodiesOf (c .bodies) (c .kind)) (c .task)) (w .6 .ensures)
     ∙ entry-same c (l .p) (number b))
     (λ z h. w .11 ∙ ap (withTask c e) (fits 256 is
     (omega (arith, isTask-true c (number b) (h .0) .0, l .inv .within .bodies-le)))))
-    (λ w. turned-at End (w .1 .given .1) (w .3) (λ z h. w .2))))))))))))) (j .match .came)
+    (λ w. stepped-at End (w .1 .given .1) (w .3) (λ z h. w .2))))))))))))) (j .match .came)
 
 -- the walk has not ended
 going : (t : tie.Then1 Inv-loop μ-loop) → ended (t .before .before .loop .p .field) ≡ false
@@ -175,7 +175,7 @@ number-at-requires c κs = let l = c .before .before in
 returns : tie.Need-returns Inv-loop μ-loop
 returns c = let n = c .before .before .before in
     rw (c .refused .ensures)
-    (turn-unreadable (n .before .before .before .loop .inv) (going (n .before)) (n .number-at .ensures .0)
+    (step-unreadable (n .before .before .before .loop .inv) (going (n .before)) (n .number-at .ensures .0)
     (n .number-at .ensures .1) (c .before .if2 .taken))
 
 returns-2 : tie.Need-returns-2 Inv-loop μ-loop
@@ -183,8 +183,8 @@ returns-2 c = let j = c .before .before in
     let b = j .before in
     let n = b .before .before .before in
     rw (c .refused2 .ensures)
-    (turn-refused (head b .loop .inv) (going (n .before)) (n .number-at .ensures .0) (n .number-at .ensures .1)
-    (b .before .if2 .left) (turned j) (c .before .if3 .taken))
+    (step-refused (head b .loop .inv) (going (n .before)) (n .number-at .ensures .0) (n .number-at .ensures .1)
+    (b .before .if2 .left) (stepped j) (c .before .if3 .taken))
 
 next-requires : tie.Need-next-requires Inv-loop μ-loop
 next-requires c κs = walk-stands (head (c .before .before) .loop .inv)
@@ -193,15 +193,15 @@ loop-less : tie.Need-loop-less Inv-loop μ-loop
 loop-less c = let j = c .before .before in
     let b = j .before in
     let n = b .before .before .before in
-    turn-fewer (head b .loop .inv) (going (n .before)) (n .number-at .ensures .0) (n .number-at .ensures .1)
-    (b .before .if2 .left) (turned j) (c .before .if3 .left) (c .next .ensures)
+    step-fewer (head b .loop .inv) (going (n .before)) (n .number-at .ensures .0) (n .number-at .ensures .1)
+    (b .before .if2 .left) (stepped j) (c .before .if3 .left) (c .next .ensures)
 
 loop-again : tie.Need-loop-again Inv-loop μ-loop
 loop-again c = let j = c .before .before in
     let b = j .before in
     let n = b .before .before .before in
-    turn-next (head b .loop .inv) (going (n .before)) (n .number-at .ensures .0) (n .number-at .ensures .1)
-    (b .before .if2 .left) (turned j) (c .before .if3 .left) (c .next .ensures)
+    step-next (head b .loop .inv) (going (n .before)) (n .number-at .ensures .0) (n .number-at .ensures .1)
+    (b .before .if2 .left) (stepped j) (c .before .if3 .left) (c .next .ensures)
 
 returns-3 : tie.Need-returns-3 Inv-loop μ-loop
 returns-3 c = walk-end (c .before .before .loop .inv) (sym (c .before .ended .ensures) ∙ not-false _ (c .if1 .left))

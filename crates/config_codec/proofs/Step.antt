@@ -1,4 +1,4 @@
--- A turn of the walk. Its loop keeps `WalksOn`; an arm that tests and stores by its field's `fault` and `put` (`Turned`)
+-- A step of the walk. Its loop keeps `WalksOn`; an arm that tests and stores by its field's `fault` and `put` (`Stepped`)
 -- ends the walk with its `Outcome` or takes it to the next number.
 use Prim.Native.Nat.{ℕ, _+_, _%_, _≤_, _<_}
 use mathlib.Core.Path.{_≡_, refl, sym, ap, subst, _∙_}
@@ -27,16 +27,16 @@ use Rattle.config_codec.proofs.Reading.{ReadsOn, reads-start, unreadabl
 use Rattle.config_codec.proofs.Measuring.{MeasuresOn, measures-start, measures-small, measures-refused, measures-next, measures-end}
 
 -- the number v at p gives the refusal r and, where there is none, the configuration c′
-pub record Turned (c : Config) (p : Position) (v r : ℕ) (c′ : Config) : Type 0 where
+pub record Stepped (c : Config) (p : Position) (v r : ℕ) (c′ : Config) : Type 0 where
   pub refusal : r ≡ fault (draftAt c p) v
   pub stored : r ≡ none → c′ ≡ put (draftAt c p) v .config
 
 -- the arm of the field f
-pub turned-at : {c : Config} {p : Position} {v r : ℕ} {c′ : Config} (f : Field) → p .field ≡ f
+pub stepped-at : {c : Config} {p : Position} {v r : ℕ} {c′ : Config} (f : Field) → p .field ≡ f
     → r ≡ faultAt f (draftAt c p) v
     → (r ≡ none → InRange f (draftAt c p) v → c′ ≡ putAt f (draftAt c p) v .config)
-    → Turned c p v r c′
-turned-at {c} {p} {v} {r} {c′} f e h s =
+    → Stepped c p v r c′
+stepped-at {c} {p} {v} {r} {c′} f e h s =
     record {
       refusal = subst (λ (g : Field). r ≡ faultAt g (draftAt c p) v) (sym e) h;
       stored = λ z. subst (λ (g : Field). c′ ≡ putAt g (draftAt c p) v .config) (sym e)
@@ -84,8 +84,8 @@ module _ {writing : Bool} {value : Config} {bs : List ℕ} {c : Config} {p : Pos
   -- one more number, read or asked
   module _ (more : ended (p .field) ≡ false) {r : NumberRead} (read : writing ≡ false → r ≡ readNumber bs at)
       (told : writing ≡ true → r ≡ given value p at) where
-    pub turn-unreadable : (r .refusal ≡ none → ⊥) → Outcome writing value bs (refused (r .refusal) (r .place))
-    turn-unreadable n = (
+    pub step-unreadable : (r .refusal ≡ none → ⊥) → Outcome writing value bs (refused (r .refusal) (r .place))
+    step-unreadable n = (
       λ w. (λ z. absurd (n z), λ _. unreadable (o .reads w) more (read w) n),
       λ w. absurd (n (ap (λ (x : NumberRead). x .refusal) (told w))),
     )
@@ -99,9 +99,9 @@ module _ {writing : Bool} {value : Config} {bs : List ℕ} {c : Config} {p : Pos
         ∙ sym (ap (λ (x : NumberRead). x .place) (told w))
 
     -- tested and stored
-    module _ (h : r .refusal ≡ none) {s : ℕ} {c′ : Config} (t : Turned c p (r .value) s c′) where
-      pub turn-refused : (s ≡ none → ⊥) → Outcome writing value bs (refused s at)
-      turn-refused n = (
+    module _ (h : r .refusal ≡ none) {s : ℕ} {c′ : Config} (t : Stepped c p (r .value) s c′) where
+      pub step-refused : (s ≡ none → ⊥) → Outcome writing value bs (refused s at)
+      step-refused n = (
         λ w. (
           λ z. absurd (n z),
           λ _. ap (λ (x : ℕ). refused x at) (t .refusal)
@@ -120,11 +120,11 @@ module _ {writing : Bool} {value : Config} {bs : List ℕ} {c : Config} {p : Pos
         step : Moved d (draftAt c′ q)
         step = subst (λ (x : Draft). Moved d x) after (moved d (r .value) more fine (o .within))
 
-        pub turn-fewer : left (draftAt c′ q) < left d
-        turn-fewer = step .fewer
+        pub step-fewer : left (draftAt c′ q) < left d
+        step-fewer = step .fewer
 
-        pub turn-next : WalksOn writing value bs c′ q (r .place)
-        turn-next =
+        pub step-next : WalksOn writing value bs c′ q (r .place)
+        step-next =
             record {
               within = step .within;
               reads = λ w. subst (λ (x : Draft). ReadsOn bs (r .place) x) after
