@@ -16,6 +16,8 @@ pub struct Finding {
     pub told: String,
     /// The event at which it shows; none for the fresh start, the losses and the reset.
     pub event: Option<usize>,
+    /// The body whose losses alone differ.
+    pub loser: Option<usize>,
     /// Four bytes an event, as far as the unit answered.
     pub given: Vec<u8>,
     pub expected: Run,
@@ -37,11 +39,11 @@ impl Finding {
             }
             Played::Refused(refused) => {
                 let told = format!("the unit refuses the case: {}", refused.line().trim_end());
-                (Vec::new(), Some(Found { group: "refusal".into(), told, event: None }))
+                (Vec::new(), Some(Found { group: "refusal".into(), told, event: None, loser: None }))
             }
         };
-        let Found { group, told, event } = found?;
-        Some(Finding { trace: trace.to_vec(), group, told, event, given, expected })
+        let Found { group, told, event, loser } = found?;
+        Some(Finding { trace: trace.to_vec(), group, told, event, loser, given, expected })
     }
 
     pub fn given(&self, event: usize) -> Option<Answer> {
@@ -54,6 +56,7 @@ struct Found {
     group: String,
     told: String,
     event: Option<usize>,
+    loser: Option<usize>,
 }
 
 struct Judge<'a> {
@@ -72,6 +75,7 @@ impl Judge<'_> {
             group: "the fresh start".into(),
             told: format!("the fresh start: {}", told(&fields)),
             event: None,
+            loser: None,
         })
     }
 
@@ -95,14 +99,17 @@ impl Judge<'_> {
         let answers = Run::of(given, given.len() / ANSWER_SIZE).answers;
         let (word, words) = self.event(event);
         match answers.get(event) {
-            None => {
-                Found { group: format!("{word}: no answer"), told: format!("{words}: no answer"), event: Some(event) }
-            }
+            None => Found {
+                group: format!("{word}: no answer"),
+                told: format!("{words}: no answer"),
+                event: Some(event),
+                loser: None,
+            },
             Some(given) => {
                 let fields = self.fields(self.expected.answers[event], *given);
                 let which: Vec<&str> = fields.iter().map(|(field, ..)| *field).collect();
                 let group = format!("{word}: {}", which.join(", "));
-                Found { group, told: format!("{words}: {}", told(&fields)), event: Some(event) }
+                Found { group, told: format!("{words}: {}", told(&fields)), event: Some(event), loser: None }
             }
         }
     }
@@ -120,16 +127,26 @@ impl Judge<'_> {
             self.expected.losses[body],
             given[body]
         );
-        Some(Found { group: format!("losses of a body of kind {kind}"), told, event: None })
+        Some(Found { group: format!("losses of a body of kind {kind}"), told, event: None, loser: Some(body) })
     }
 
     fn broken(&self, broken: &Broken) -> Found {
         let Point::Event(event) = broken.at else {
-            return Found { group: broken.to_string(), told: format!("the unit was {broken}"), event: None };
+            return Found {
+                group: broken.to_string(),
+                told: format!("the unit was {broken}"),
+                event: None,
+                loser: None,
+            };
         };
         let (word, words) = self.event(event);
         let how = broken.how.word();
-        Found { group: format!("{word}: {how}"), told: format!("{words}: the unit was {broken}"), event: Some(event) }
+        Found {
+            group: format!("{word}: {how}"),
+            told: format!("{words}: the unit was {broken}"),
+            event: Some(event),
+            loser: None,
+        }
     }
 
     /// The event's name; with its number and arguments.

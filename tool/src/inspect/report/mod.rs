@@ -4,18 +4,21 @@ mod date;
 pub mod html;
 pub mod json;
 pub mod junit;
-mod picture;
 pub mod text;
 
+use super::finding::Finding;
 use super::plan::{Kinds, Source};
 use super::{draw, setting, verdict, Difference, Inspection};
 use crate::coverage::Row;
+use crate::history::History;
+use crate::layout;
 use crate::names::Names;
 use crate::reference::Answer;
 use crate::text::dump;
+use crate::timeline::svg;
 use crate::unit::{self, Way};
+use crate::why::{self, Why};
 use crate::words::{self, counted, grouped};
-use crate::{input, layout};
 
 /// How an inspection ended.
 #[derive(Clone, Copy, PartialEq, Eq, Debug)]
@@ -132,33 +135,35 @@ impl Report {
         format!("{}, {runner} at {level}{begins}", words::status_words(status))
     }
 
+    fn history(&self, difference: &Difference) -> Option<History> {
+        let config = &self.inspection.order.config.source.bytes;
+        let Finding { trace, expected, .. } = &difference.finding;
+        History::of_bytes(config, trace, self.names(), expected).ok()
+    }
+
     /// Why the reference answers as it does where a difference shows.
-    fn why(&self, _difference: &Difference) -> String {
-        String::new()
-    }
-
-    /// The picture of a difference, cut after the event at which it shows: who runs when by the reference.
-    fn picture(&self, difference: &Difference) -> Option<String> {
-        picture::svg(self.pair(difference), &difference.finding.told)
-    }
-
-    /// The difference as a pair, its trace up to the event at which it shows.
-    fn pair(&self, difference: &Difference) -> input::Pair {
-        let trace = &difference.finding.trace;
-        let event = difference.finding.event.and_then(|event| layout::trace(trace).events.get(event).cloned());
-        let end = event.map_or(trace.len(), |event| event.end);
-        let config = &self.inspection.order.config;
-        let source = input::Source::of_bytes(&config.source.file, config.source.bytes.clone());
-        input::Pair {
-            config: input::Config { source, names: config.names.clone() },
-            trace: input::Source::of_bytes("trace.bin", trace[..end].to_vec()),
+    fn why(&self, difference: &Difference) -> String {
+        let Some(history) = self.history(difference) else { return String::new() };
+        match (difference.finding.event, difference.finding.loser) {
+            (Some(event), _) => Why::of(&history, event).lines_with_place(),
+            (None, Some(body)) => why::lost_by(&history, body),
+            (None, None) => String::new(),
         }
+    }
+
+    /// The picture of a difference, up to the event at which it shows: who runs when by the reference.
+    fn picture(&self, difference: &Difference) -> Option<String> {
+        let history = self.history(difference)?;
+        let end = difference.finding.event.map_or(history.steps.len(), |event| event + 1);
+        Some(svg::write(&history, &difference.finding.told, end.saturating_sub(PICTURE_BEFORE)..end))
     }
 }
 
 /// So many events are listed before and after a difference.
 const ROWS_BEFORE: usize = 12;
 const ROWS_AFTER: usize = 2;
+/// So many are drawn up to it.
+const PICTURE_BEFORE: usize = 40;
 
 pub struct ListingRow {
     pub step: usize,
