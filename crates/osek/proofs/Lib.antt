@@ -1,2 +1,3 @@
--- What holds of the library's functions together. `Theorems` is the file to read.
+-- What holds of the library: `Theorems` is the page to read first, of the whole repository.
+mod Verdict
 pub mod Theorems
