@@ -21,7 +21,8 @@ use Rattle.scheduler.specs.Scheduler.{Seen, Event, seenBy, stepBy}
 use Rattle.run.specs.Run.{answerBytes}
 use Rattle.conformance.specs.Verdict.{pass, fail, refusal, rightAnswers, judged, badRecord, isRecord, recordVerdict}
 use Rattle.conformance.specs.Record.{FirstWrong}
-use Rattle.conformance.proofs.Right.{right-le, first-wrong, wrong-first, all-right, right-all, length-answerBytes}
+use Rattle.run.proofs.Answers.{length-answerBytes}
+use Rattle.conformance.proofs.Right.{right-le, first-wrong, wrong-first, all-right, right-all}
 
 pub length-seen : (q : Tie) (c : Config) (es : List Event) (s : State) → length (seenBy q c s es) ≡ length es
 unfolding seenBy

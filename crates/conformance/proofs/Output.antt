@@ -10,7 +10,7 @@ use Rattle.scheduler.specs.Choice.{byHolding}
 use Rattle.scheduler.specs.Scheduler.{Event, fresh, seen, after, lossesOf}
 use Rattle.run.specs.Run.{lossBytes, answers, outputOf, runOutput}
 use Rattle.conformance.specs.Record.{expected, Runs}
-use Rattle.conformance.proofs.Right.{length-answerBytes}
+use Rattle.run.proofs.Answers.{length-answerBytes}
 use Rattle.conformance.proofs.Judging.{length-seen}
 
 -- the losses, and "bytes beyond stay"

@@ -140,11 +140,6 @@ unfolding rightAnswers answerBytes
 right-all [] = refl
 right-all (x ∷ xs) = rw (with-begin (fourBytes x) (answerBytes (x ∷ xs)) refl) (ap suc (right-all xs))
 
-pub length-answerBytes : (xs : List Seen) → length (answerBytes xs) ≡ 4 * length xs
-unfolding answerBytes
-length-answerBytes [] = refl
-length-answerBytes (x ∷ xs) = let h = length-answerBytes xs in omega arith
-
 -- how much of an answer is there
 length-answerAt : (bs : List ℕ) (j : ℕ) → length (answerAt bs j) ≡ min 4 (length bs - 4 * j)
 length-answerAt bs j = length-take 4 (drop (4 * j) bs) ∙ ap (min 4) (length-drop (4 * j) bs)

@@ -16,7 +16,8 @@ use Rattle.scheduler.specs.Scheduler.{Event, Seen, fresh, seen}
 use Rattle.run.specs.Run.{refused, readRun, answerBytes, answers, runOutput}
 use Rattle.conformance.specs.Verdict.{Verdict, pass, fail, refusal, fourBytes, isRecord, recordVerdict, verdictOn, verdict, verdictResult}
 use Rattle.conformance.specs.Record.{answerAt, FirstWrong, expected, Runs}
-use Rattle.conformance.proofs.Right.{length-answerBytes, differs-missing, answers-alike, taken-wrong}
+use Rattle.run.proofs.Answers.{length-answerBytes}
+use Rattle.conformance.proofs.Right.{differs-missing, answers-alike, taken-wrong}
 use Rattle.conformance.proofs.Judging as Judging
 use Rattle.conformance.proofs.Output.{output-front}
 use Rattle.conformance.proofs.Results as Results

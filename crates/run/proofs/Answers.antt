@@ -24,7 +24,7 @@ use Rattle.run.specs.Run.{answerBytes, lossBytes, answers}
 use Rattle.run.specs.Steps.{machineAnswers}
 
 -- "four bytes an event", "two bytes a body"
-length-answerBytes : (xs : List Seen) → length (answerBytes xs) ≡ 4 * length xs
+pub length-answerBytes : (xs : List Seen) → length (answerBytes xs) ≡ 4 * length xs
 unfolding answerBytes
 length-answerBytes [] = refl
 length-answerBytes (x ∷ xs) = let h = length-answerBytes xs in omega arith

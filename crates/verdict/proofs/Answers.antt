@@ -17,7 +17,8 @@ use Rattle.scheduler.specs.Scheduler.{Seen}
 use Rattle.run.specs.Run.{answerBytes}
 use Rattle.conformance.specs.Verdict.{rightAnswers}
 use Rattle.conformance.specs.Record.{answerAt, FirstWrong}
-use Rattle.conformance.proofs.Right.{right-le, wrong-there, first-wrong, front-answer, right-there, length-answerBytes}
+use Rattle.run.proofs.Answers.{length-answerBytes}
+use Rattle.conformance.proofs.Right.{right-le, wrong-there, first-wrong, front-answer, right-there}
 use Rattle.verdict.specs.Answers.{RightAnswers, wordAt}
 
 -- a byte of an answer
