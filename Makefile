@@ -1,8 +1,9 @@
 # `make help` lists what can be made. Everything beyond the kit, a C compiler, cargo and python3 is built here.
 
 # The crates whose exported functions are the library, each an archive of its own that `lib` joins. A new function needs no
-# archive: three lines in crates/osek export it, and the crate that proves it is not proved again.
-EXPORTS = osek
+# archive: three lines in crates/osek export it, and the crate that proves it is not proved again. One that wants the run's
+# last model gets an archive: a second caller of `run` beside `osek_run` makes the run slower (docs/PERFORMANCE.md).
+EXPORTS = osek waits
 
 KIT_BIN = $(or $(RATTLE_HOME),/opt/rattle)/bin
 export PATH := $(PATH):$(KIT_BIN)

@@ -1,13 +1,12 @@
 // The library that C links, as include/osek.h declares it: each function is that of the crate that proves it, with
 // the same contract. A crate of its own, so that an archive is built from the proved crates below it and none of them
-// is proved again.
+// is proved again. `osek_wait` is in the archive of crate waits.
 ghost use mathlib.Core.Path.{_≡_};
 ghost use lib.ListN.{length};
 ghost use Rattle.run.specs.Run.{runResult, runOutput};
 ghost use Rattle.run.specs.Steps.{machineOutput};
 ghost use Rattle.oil_grammar.specs.Reader.{oilResult, oilOutput, oilPlace};
 ghost use Rattle.drawing.specs.Answer.{drawResult, drawOutput};
-ghost use Rattle.waiting.specs.Result.{waitResult};
 ghost use Rattle.salvage.specs.Salvage.{salvaged, eventsAfter, stretchesAfter, resultOf};
 ghost use Rattle.conformance.specs.Verdict.{verdictResult};
 
@@ -57,13 +56,6 @@ pub extern "C" fn osek_draw(
         ≡ drawOutput start (now (weights .entry)) (now (limits .entry)) count (now (out .entry)) ⌝ }
 {
     draw::osek_draw(start, weights, limits, count, out)
-}
-
-#[no_mangle]
-pub extern "C" fn osek_wait(config: &[u8], trace: &[u8], body: u32) -> u64
-    ensures { λ r. ⌜ r ≡ waitResult (now (config .entry)) (now (trace .entry)) body ⌝ }
-{
-    waits::osek_wait(config, trace, body)
 }
 
 #[no_mangle]
