@@ -17,7 +17,7 @@ row-ticks (suc n) cs = row-ticks n (tickedRow cs) ∙ map-map (ticks n) tickCell
 pub row-length-same : (n : ℕ) (cs : List Cell) → length (rowTicks n cs) ≡ length cs
 row-length-same n cs = ap length (row-ticks n cs) ∙ length-map cs (ticks n)
 
--- whatever stands for a place past the end
+-- whatever stands for an index past the end
 map-at : (f : Cell → Cell) (cs : List Cell) (i : ℕ) (d e : Cell) → i < length cs → getD (map f cs) i d ≡ f (getD cs i e)
 map-at f [] i d e within = absurd (omega arith)
 map-at f (c ∷ cs) zero d e within = refl

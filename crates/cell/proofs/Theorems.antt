@@ -133,7 +133,7 @@ left-above-one P u c one-le = OnTime.left-above-one P one-le c u
 pub left-one : (P : ℕ) (c : Cell) → 1 ≤ P → Left c P 1 → (tickCell c .matched ≡ true) × Left (tickCell c) P P
 left-one P c one-le = OnTime.left-one P one-le c
 
--- a row keeps its length, and its cells their places: each is ticked for itself
+-- a row keeps its length, and its cells their order: each is ticked for itself
 pub row-length-same : (n : ℕ) (cs : List Cell) → length (rowTicks n cs) ≡ length cs
 row-length-same = Rows.row-length-same
 

@@ -1,4 +1,4 @@
--- One more loss at rank r, by a pass over all places: what it has done before place i, from its start to its end.
+-- One more loss at rank r, by a pass over all ranks: what it has done before rank i, from its start to its end.
 use Prim.Native.Nat.{ℕ, _+_, _-_, _%_, _≤_, _<_}
 use mathlib.Core.Path.{_≡_, sym, ap, _∙_}
 use mathlib.Core.Bool.{Bool, true, cond, _||_}
@@ -47,7 +47,7 @@ above-next b b′ r i above wraps =
     ap (λ (x : ℕ). x % 65536) e ∙ sym (mod-add-mod (b′ + 1) 65536 i) ∙ ap (λ (x : ℕ). (x + i) % 65536) wraps ∙ above
 
 module _ (r : ℕ) (ls₀ : List ℕ) where
-  -- the places before i are passed: ls are the losses, and r is b above i
+  -- the ranks before i are passed: ls are the losses, and r is b above i
   pub record Losing (ls : List ℕ) (b i : ℕ) : Type 0 where
     pub reached : i ≤ maxBodies
     pub above : Above b r i

@@ -15,7 +15,7 @@ module _ (at f : ℕ → ℕ) where
   unfolding stored
   stored-more n l = rw add-one
 
-  -- a step of a loop that stores: the value v at the place i
+  -- a step of a loop that stores: the value v at the index i
   pub stored-step : (n : ℕ) (l : List ℕ) {t : List ℕ} {i v : ℕ} → t ≡ stored at f n l → i ≡ at n → v ≡ f n
       → set t i v ≡ stored at f (n + 1) l
   stored-step n l e p q = rw (e, p, q) (stored-more n l)
@@ -25,7 +25,7 @@ module _ (at f : ℕ → ℕ) where
   length-stored zero l = refl
   length-stored (suc n) l = simp length-set (length-stored n l)
 
-  -- where no two are stored at one place, each stays
+  -- where no two are stored at one index, each stays
   pub stored-at : (n : ℕ) (l : List ℕ) → ((i j : ℕ) → i < n → j < n → at i ≡ at j → i ≡ j)
       → (i d : ℕ) → i < n → at i < length l → getD (stored at f n l) (at i) d ≡ f i
   unfolding stored
@@ -45,7 +45,7 @@ module _ (at f : ℕ → ℕ) where
       getD-set-other (stored at f n l) (at n) j (f n) d (ne n (omega arith))
       ∙ stored-past n l j d (λ i h. ne i (omega arith))
 
--- only the places and values below n count
+-- only the indices and values below n count
 pub stored-cong : (at at′ f g : ℕ → ℕ) (n : ℕ) (l : List ℕ)
     → ((i : ℕ) → i < n → at i ≡ at′ i) → ((i : ℕ) → i < n → f i ≡ g i) → stored at f n l ≡ stored at′ g n l
 unfolding stored

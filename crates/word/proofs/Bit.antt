@@ -1,4 +1,4 @@
--- One bit of a number, at any place: what adding its worth and taking it away do to it and to the other bits.
+-- One bit of a number, at any index: what adding its worth and taking it away do to it and to the other bits.
 --
 -- In order: the lowest bit and those above it; a clear bit added; the highest bit; a set bit taken away; numbers with
 -- the same bits; a number all of whose bits are set.
@@ -10,7 +10,7 @@ use native.Mathlib.Numerals.{one-add}
 use native.Mathlib.Omega.{arith}
 use lib.Pow.{shr-shr}
 
--- 1 where the bit of w at place i is set, else 0
+-- 1 where the bit of w at index i is set, else 0
 abbrev pub bit : ℕ → ℕ → ℕ
 bit w i = w / 2 ^ i % 2
 

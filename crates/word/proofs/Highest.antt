@@ -43,7 +43,7 @@ pow-le : (i j : ℕ) → 2 ^ i < 2 ^ suc j → i ≤ j
 pow-le i j h = le-of-suc-le-suc (lt-of-not-le (λ g. not-le-of-lt h (pow-mono g)))
 
 module _ (w : ℕ) (some : 0 < w) (fits : w < 2 ^ ranks) where
-  -- the place of the highest bit is a rank in the word, so the search finds it or a higher one
+  -- the index of the highest bit is a rank in the word, so the search finds it or a higher one
   top-found : (leading-top ranks w some fits .0 ≤ winner w) × (has w (winner w) ≡ true)
   top-found = let t = leading-top ranks w some fits in
       winner-found w (t .0) (set-has w (t .0) (omega arith) (top-set w (t .0) (t .2) (t .3)))

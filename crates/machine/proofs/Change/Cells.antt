@@ -1,4 +1,4 @@
--- What starting and stopping a run of cells stores: inside the run each place gets its value, outside it all stays.
+-- What starting and stopping a run of cells stores: inside the run each cell gets its value, outside it all stays.
 use Prim.Native.Nat.{ℕ, zero, suc, _+_, _≤_, _<_}
 use mathlib.Core.Path.{_≡_, refl, _∙_}
 use mathlib.Core.List.{List}

@@ -93,7 +93,7 @@ module _ {c : Config} {p : Plan} {rk : ℕ → ℕ} (fit : Fitted c p rk) {m : M
   hold′ : AllHold bs′ ns
   hold′ = hold-alike alike (seat .1 .1)
 
-  -- the row has the rank of the one before it, if any, in its second place
+  -- the row has the rank of the one before it, if any, as its second byte
   second-is : (is : List ℕ) → js ≡ is → secondRow (m .triggered) ≡ getD (map rk is) 0 noRank
   second-is is e =
       row-shows-second (m .triggered) (rk j) (map rk js) row ∙ ap (λ (is : List ℕ). getD (map rk is) 0 noRank) e

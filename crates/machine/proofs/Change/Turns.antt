@@ -44,7 +44,7 @@ module _ (f : ℕ → Bool) where
   pub some-none : (k e i : ℕ) → e ≤ i → i < e + k → some f k e ≡ false → f i ≡ false
   some-none k e i low high h = refuted (f i) (λ q. true≢false (sym (some-holds k e i low high q) ∙ h))
 
--- the switches after a tick, place by place
+-- the switches after a tick, one by one
 module _ (ks ns : List ℕ) where
   length-switches : (k e : ℕ) (on : List ℕ) → length (switchesTicked k e ks ns on) ≡ length on
   unfolding switchesTicked

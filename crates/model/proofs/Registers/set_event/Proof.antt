@@ -1,5 +1,5 @@
 -- `set_event` meets its contract, case by case in the order of its checks. An extended task has a rank, so the rows
--- have a place for it.
+-- have an element for it.
 use mathlib.Core.Path.{refl, sym, _∙_}
 use borrow.Author.Tests.{not-true, not-false}
 use Rattle.word.proofs.Theorems.{has-lt}

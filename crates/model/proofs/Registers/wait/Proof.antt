@@ -1,5 +1,5 @@
 -- `wait` meets its contract, case by case in the order of its checks. An extended task has a rank, so the row of
--- masks has a place for it.
+-- masks has an element for it.
 use mathlib.Core.Path.{refl, sym, ap, _∙_}
 use borrow.Author.Tests.{not-true, not-false}
 use Rattle.word.proofs.Theorems.{has-lt}
