@@ -173,12 +173,13 @@ impl Bench<'_> {
             .then(|| choice.cases(seed, first).take(count as usize).map(|(number, _)| number).collect());
         // Earlier cases have the first places, drawn ones follow.
         let number = |place: u64| chosen.as_ref().map_or(first + place, |chosen| chosen[place as usize]);
-        let is_library = matches!(self.simulator.subject(), Subject::Library(_));
+        let draws_room = matches!(self.simulator.subject(), Subject::Library(_)) && !options.flag(choice::ACCEPTED);
         let draw = |place: u64| match earlier.as_ref().and_then(|earlier| earlier.get(place as usize)) {
             Some((_, case)) => case.clone(),
             None => {
                 let case = cases::case(seed, number(place - before));
-                let out_len = if is_library { case.out_len } else { OUTPUT_MAX };
+                // A drawn output may be too short, and the case then refused with 30.
+                let out_len = if draws_room { case.out_len } else { OUTPUT_MAX };
                 Case { fill: 0, out_len, ..case }
             }
         };

@@ -357,3 +357,11 @@ fn making_it_small_has_its_time_and_says_when_it_is_over() {
         assert_eq!(said.out.contains(over), says, "{}", said.out);
     }
 }
+
+#[test]
+fn a_library_that_is_given_accepted_cases_gets_room_for_every_output() {
+    let folder = Folder::new();
+    let library = concat!(env!("CARGO_MANIFEST_DIR"), "/../build/libosek.so");
+    let said = folder.osek(&["compare", "--lib", library, "--accepted", "--count", "60"]);
+    said.prints("60 cases of seed 1: all equal (60 accepted, 0 refused)\n", 0);
+}
