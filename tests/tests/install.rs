@@ -1,5 +1,5 @@
-//! `make install` in a folder of its own: README's C example is compiled and linked by what pkg-config says, by every
-//! compiler that is there, and prints what README says; `make uninstall` leaves no file. `make dist` packs the same.
+//! `make install` in a folder of its own: the C example of docs/USE.md is compiled and linked by what pkg-config says, by
+//! every compiler that is there, and prints what the page says; `make uninstall` leaves no file. `make dist` packs the same.
 
 use std::path::{Path, PathBuf};
 use std::process::{Command, Output};
@@ -9,13 +9,13 @@ fn root() -> PathBuf {
     fs::canonicalize(Path::new(env!("CARGO_MANIFEST_DIR")).join("..")).expect("the tests lie in the repository")
 }
 
-/// The indented block of README.md that begins with this line.
-fn readme_block(first: &str) -> String {
-    let text = fs::read_to_string(root().join("README.md")).expect("README.md can be read");
-    let from = text.find(&format!("    {first}\n")).unwrap_or_else(|| panic!("README.md has no block {first}"));
+/// The indented block of docs/USE.md that begins with this line.
+fn block(first: &str) -> String {
+    let text = fs::read_to_string(root().join("docs/USE.md")).expect("docs/USE.md can be read");
+    let from = text.find(&format!("    {first}\n")).unwrap_or_else(|| panic!("docs/USE.md has no block {first}"));
     let lines = text[from..].lines().take_while(|line| line.is_empty() || line.starts_with("    "));
-    let block: Vec<&str> = lines.map(|line| line.strip_prefix("    ").unwrap_or("")).collect();
-    format!("{}\n", block.join("\n").trim_end())
+    let lines: Vec<&str> = lines.map(|line| line.strip_prefix("    ").unwrap_or("")).collect();
+    format!("{}\n", lines.join("\n").trim_end())
 }
 
 fn make(goal: &str, prefix: &Path) {
@@ -129,7 +129,7 @@ fn a_package_is_used_without_kit_and_clone() {
     assert_python(&prefix.join("lib/python3/dist-packages"), &prefix.join("lib/libosek.so"), version);
     let gate = fs::read_to_string(prefix.join("share/doc/osek/GATE")).expect("it says which gate it passed");
     assert!(gate.contains("\ncommit "), "{gate}");
-    for page in ["README.md", "docs/RULES.md", "docs/TEXT.md"] {
+    for page in ["README.md", "docs/RULES.md", "docs/TEXT.md", "docs/USE.md"] {
         assert!(prefix.join("share/doc/osek").join(page).is_file(), "{page}");
     }
     if is_there("pkg-config") {
@@ -154,7 +154,7 @@ fn a_package_is_used_without_kit_and_clone() {
 }
 
 #[test]
-fn readme_example_is_built_from_an_installed_library() {
+fn the_example_is_built_from_an_installed_library() {
     if !is_there("pkg-config") {
         return;
     }
@@ -163,8 +163,8 @@ fn readme_example_is_built_from_an_installed_library() {
     make("install", &prefix);
 
     let example = prefix.join("example.c");
-    fs::write(&example, readme_block("#include <osek.h>")).expect("a file can be written");
-    let expected = readme_block("0: body 0 runs at level 2");
+    fs::write(&example, block("#include <osek.h>")).expect("a file can be written");
+    let expected = block("0: body 0 runs at level 2");
     let run = |program: &Path, compiler: &str| {
         let output = Command::new(program).env("LD_LIBRARY_PATH", prefix.join("lib")).output().expect("it runs");
         assert_done(&output, compiler);

@@ -1,6 +1,8 @@
-//! What the pages say can be looked up: the index of docs/READING.md, the must-fail edits in docs/REQUIREMENTS.md, the whole
-//! run and the refusals of docs/RULES.md.
+//! What the pages say can be looked up: names of theorems, crates, files, links and commands; excerpts and numbers of lines; the
+//! must-fail edits in docs/REQUIREMENTS.md; the whole run and the refusals of docs/RULES.md; the shape of docs/DECISIONS.md and
+//! of docs/changes.
 
+use std::collections::BTreeSet;
 use std::fs;
 use std::path::{Path, PathBuf};
 
@@ -32,8 +34,9 @@ fn names(text: &str) -> Vec<&str> {
 /// Whether a file of Rattle or antt declares a name.
 fn declares(text: &str, name: &str) -> bool {
     text.lines().map(str::trim_start).any(|line| {
-        let line =
-            ["unfoldable ", "abbrev ", "pub "].iter().fold(line, |line, mark| line.strip_prefix(mark).unwrap_or(line));
+        let line = ["unfoldable ", "abbrev ", "pub ", "extern \"C\" "]
+            .iter()
+            .fold(line, |line, mark| line.strip_prefix(mark).unwrap_or(line));
         let declared = line.strip_prefix("fn ").unwrap_or(line);
         declared.strip_prefix(name).is_some_and(|rest| rest.starts_with([' ', '(', '<']))
     })
@@ -46,7 +49,7 @@ fn assert_declared(file: &str, name: &str) {
 
 #[test]
 fn names_of_the_index_stand_in_their_files() {
-    let rows = rows("docs/READING.md", "Where each event stands");
+    let rows = rows("docs/READING.md", "Where to find each event");
     let (head, rows) = rows[1..].split_first().expect("the index has rows");
     let (events, parts): (Vec<_>, Vec<_>) = rows.iter().partition(|row| row.len() == head.len());
     assert_eq!(events.len(), 12);
@@ -111,5 +114,264 @@ fn the_rules_list_every_refusal() {
         .collect();
     for refusal in REFUSALS {
         assert!(listed.contains(&u32::from(refusal)), "docs/RULES.md does not list {refusal}");
+    }
+}
+
+fn crates() -> Vec<String> {
+    let text = read("crates.txt");
+    let names = text.lines().filter(|line| !line.starts_with('#')).filter_map(|line| line.split_once(':'));
+    names.map(|(name, _)| name.to_string()).collect()
+}
+
+/// All files under a folder, or the file itself, with one of these endings.
+fn files(path: &Path, endings: &[&str]) -> Vec<PathBuf> {
+    if path.is_file() {
+        return vec![path.to_path_buf()];
+    }
+    let Ok(entries) = fs::read_dir(path) else { return Vec::new() };
+    let paths = entries.map(|entry| entry.expect("an entry").path());
+    let found = paths.flat_map(|path| if path.is_dir() { files(&path, endings) } else { vec![path] });
+    found.filter(|path| endings.iter().any(|ending| path.to_string_lossy().ends_with(ending))).collect()
+}
+
+/// Whether a crate has code of its own.
+fn has_functions(name: &str) -> bool {
+    let sources = files(&root().join("crates").join(name).join("src"), &[".rt"]);
+    sources.iter().any(|file| fs::read_to_string(file).expect("a source can be read").contains("fn "))
+}
+
+/// Whether a file of one of these crates declares a name.
+fn declared_in(crates: &[String], name: &str) -> bool {
+    let folders = crates.iter().map(|name| root().join("crates").join(name));
+    let sources = folders.flat_map(|folder| files(&folder, &[".antt", ".rt"]));
+    sources.into_iter().any(|file| declares(&fs::read_to_string(file).expect("a source can be read"), name))
+}
+
+/// The pages, without the notes of docs/changes.
+fn pages() -> Vec<String> {
+    let mut pages: Vec<String> = ["README.md", "CONTRIBUTING.md", "CHANGELOG.md"].map(String::from).into();
+    pages.extend(["tests/README.md", "tool/README.md", "unit/README.md"].map(String::from));
+    pages.extend(names_in("docs", ".md").iter().map(|name| format!("docs/{name}")));
+    pages
+}
+
+fn notes() -> Vec<String> {
+    names_in("docs/changes", ".md").iter().map(|name| format!("docs/changes/{name}")).collect()
+}
+
+fn names_in(folder: &str, ending: &str) -> Vec<String> {
+    let entries = fs::read_dir(root().join(folder)).expect("a folder can be read");
+    let names = entries.map(|entry| entry.expect("an entry").file_name().to_string_lossy().into_owned());
+    names.filter(|name| name.ends_with(ending)).collect()
+}
+
+#[test]
+fn the_map_has_every_crate_in_its_table() {
+    let rows = rows("README.md", "The crates");
+    let mut bare = true;
+    let mut named = Vec::new();
+    for row in rows {
+        if row[0] == "crate" {
+            bare = row[1].contains("alone");
+            continue;
+        }
+        for name in row[0].split(", ") {
+            assert_ne!(has_functions(name), bare, "README.md has {name} in the other table");
+            named.push(name.to_string());
+        }
+    }
+    let mut crates = crates();
+    named.sort();
+    crates.sort();
+    assert_eq!(named, crates);
+}
+
+#[test]
+fn the_rooms_name_every_crate_without_functions() {
+    let text = read("CONTRIBUTING.md");
+    let from = text.find("theorems alone (").expect("CONTRIBUTING.md lists the crates without functions") + 16;
+    let mut named: Vec<&str> = text[from..].split(')').next().unwrap_or_default().split(',').map(str::trim).collect();
+    let mut bare = crates();
+    bare.retain(|name| !has_functions(name));
+    named.sort_unstable();
+    bare.sort();
+    assert_eq!(named, bare);
+}
+
+#[test]
+fn the_claims_of_the_readme_stand_on_the_page_of_theorems() {
+    let page = read("crates/osek/proofs/Theorems.antt");
+    let code = read("crates/osek/src/lib.rt");
+    let rows = &rows("README.md", "What is proved")[1..];
+    assert!(rows.len() >= 10);
+    for name in rows.iter().flat_map(|row| names(&row[1])) {
+        assert!(declares(&page, name) || declares(&code, name), "the page of theorems has no {name}");
+    }
+}
+
+#[test]
+fn the_names_of_each_demand_are_declared_in_its_crates() {
+    for row in rows("docs/READING.md", "Where each demand is stated") {
+        let crates: Vec<String> = row[1].split(", ").map(String::from).collect();
+        if row[1] == "crates" || row[1] == "all" {
+            continue;
+        }
+        for name in names(&row[2]) {
+            assert!(declared_in(&crates, name), "docs/READING.md: {} has no {name}", row[1]);
+        }
+    }
+}
+
+/// A page's number is the counted one, but for rounding and a tenth.
+#[track_caller]
+fn assert_counted(told: &str, counted: usize, what: &str) {
+    let told: usize = told.replace(',', "").parse().unwrap_or_else(|_| panic!("{told} is no number"));
+    assert!(
+        told.abs_diff(counted) <= counted / 10 + 10,
+        "docs/READING.md says {told} lines, there are {counted}: {what}"
+    );
+}
+
+#[test]
+fn the_lines_to_read_are_counted() {
+    for row in &rows("docs/READING.md", "What one has to read to believe it")[1..] {
+        let sources: BTreeSet<PathBuf> =
+            names(&row[2]).iter().flat_map(|path| files(&root().join(path), &[".antt"])).collect();
+        assert!(!sources.is_empty(), "{}", row[2]);
+        let text: String = sources.iter().map(|file| fs::read_to_string(file).expect("a source can be read")).collect();
+        let defines = |line: &&str| {
+            let line = line.trim_start();
+            !line.is_empty() && !line.starts_with("--") && !line.starts_with("use ")
+        };
+        assert_counted(&row[3], text.lines().count(), &row[0]);
+        assert_counted(&row[4], text.lines().filter(defines).count(), &row[0]);
+    }
+    let count = |folder: &str, ending: &str| -> usize {
+        let folders = crates().into_iter().map(|name| root().join("crates").join(name).join(folder));
+        let sources = folders.flat_map(|folder| files(&folder, &[ending]));
+        sources.map(|file| fs::read_to_string(file).expect("a source can be read").lines().count()).sum()
+    };
+    let page = read("docs/READING.md").replace('\n', " ");
+    let (code, rest) = page.split_once(" lines of code and ").expect("the page counts the lines of code");
+    assert_counted(code.rsplit(' ').next().unwrap_or_default(), count("src", ".rt"), "code");
+    assert_counted(rest.split(' ').next().unwrap_or_default(), count("proofs", ".antt"), "proofs");
+}
+
+/// A fenced block shows a file, which the line before it names; `..` alone on a line leaves something out.
+#[test]
+fn excerpts_are_found_word_for_word_in_their_files() {
+    for (page, least) in [("docs/PROOF.md", 12), ("docs/READING.md", 2)] {
+        let text = read(page);
+        let mut lines = text.lines();
+        let mut before = "";
+        let mut found = 0;
+        while let Some(line) = lines.next() {
+            if line != "```" {
+                before = if line.is_empty() { before } else { line };
+                continue;
+            }
+            let excerpt: Vec<&str> = lines.by_ref().take_while(|line| *line != "```").collect();
+            let file = *names(before).last().unwrap_or_else(|| panic!("{page}: no file named in: {before}"));
+            let source = read(file);
+            let mut rest = format!("\n{source}");
+            for part in excerpt.join("\n").split("\n..\n") {
+                let at = rest.find(&format!("\n{part}\n"));
+                let at = at.unwrap_or_else(|| panic!("{page}: {file} does not have\n{part}"));
+                rest = rest[at + part.len()..].to_string();
+            }
+            found += 1;
+        }
+        assert!(found >= least, "{page} has only {found} excerpts");
+    }
+}
+
+/// The words of a page that are paths of this repository.
+fn paths(text: &str) -> Vec<&str> {
+    let folders = ["crates/", "docs/", "tests/", "tool/", "unit/", "host/", "include/", "python/", "scripts/"];
+    let parts = |c: char| !(c.is_alphanumeric() || "_./-{}*".contains(c));
+    let words = text.split(parts).map(|word| word.trim_end_matches(['.', '/', '-']));
+    words.filter(|word| folders.iter().any(|folder| word.starts_with(folder)) && !word.contains(['{', '*'])).collect()
+}
+
+#[test]
+fn every_path_in_a_page_is_there() {
+    for page in pages().into_iter().chain(notes()) {
+        for path in paths(&read(&page)) {
+            let short = path.strip_prefix("tests/").map(|name| format!("tests/tests/{name}.rs"));
+            let there = root().join(path).exists() || short.is_some_and(|path| root().join(path).exists());
+            assert!(there, "{page}: there is no {path}");
+        }
+    }
+}
+
+/// A heading as a link names it.
+fn anchor(heading: &str) -> String {
+    let kept = heading.to_lowercase();
+    kept.chars().filter(|c| c.is_alphanumeric() || " -_".contains(*c)).collect::<String>().replace(' ', "-")
+}
+
+#[test]
+fn every_link_leads_somewhere() {
+    for page in pages().into_iter().chain(notes()) {
+        let text = read(&page);
+        let targets = text.split("](").skip(1).filter_map(|rest| rest.split(')').next());
+        for target in targets.filter(|target| !target.starts_with("http")) {
+            let (file, part) = target.split_once('#').unwrap_or((target, ""));
+            let folder = Path::new(&page).parent().expect("a page is in a folder");
+            let file = if file.is_empty() { PathBuf::from(&page) } else { folder.join(file) };
+            assert!(root().join(&file).exists(), "{page}: there is no {target}");
+            let there = part.is_empty()
+                || read(&file.to_string_lossy()).lines().any(|line| {
+                    line.trim_start_matches('#').strip_prefix(' ').is_some_and(|heading| anchor(heading) == part)
+                });
+            assert!(there, "{page}: {target} leads to no heading");
+        }
+    }
+}
+
+#[test]
+fn every_make_goal_in_a_page_is_one() {
+    let makefile = read("Makefile");
+    for page in pages().into_iter().chain(notes()) {
+        let text = read(&page);
+        let indented = text.lines().filter(|line| line.starts_with("    make "));
+        let commands = names(&text).into_iter().filter(|name| name.starts_with("make ")).chain(indented);
+        for command in commands {
+            let words = command.trim_start().split("  ").next().unwrap_or_default().split(' ').skip(1);
+            for goal in words.filter(|word| !word.contains('=')) {
+                let there = makefile.lines().any(|line| line.split(':').next().is_some_and(|head| head == goal));
+                assert!(there, "{page}: `{command}` names no goal {goal}");
+            }
+        }
+    }
+}
+
+#[test]
+fn decisions_are_short() {
+    for line in read("docs/DECISIONS.md").lines().filter(|line| line.starts_with("| ")) {
+        for cell in line.trim_matches('|').split(" | ") {
+            let words = cell.split_whitespace().count();
+            assert!(words <= 40, "docs/DECISIONS.md: {words} words: {cell}");
+        }
+    }
+}
+
+#[test]
+fn notes_of_changes_have_one_shape() {
+    for note in notes() {
+        let text = read(&note);
+        let stem = note.trim_start_matches("docs/changes/").trim_end_matches(".md");
+        assert!(text.starts_with(&format!("# {stem}: ")), "{note} has another title");
+        let headings: Vec<&str> = text.lines().filter_map(|line| line.strip_prefix("## ")).collect();
+        assert_eq!(headings, ["Moved", "Stayed", "Cost"], "{note}");
+        let moved = &rows(&note, "Moved");
+        assert_eq!(moved[0], ["what", "where", "how"], "{note}");
+        let mut seen = BTreeSet::new();
+        for row in moved {
+            assert_eq!(row.len(), 3, "{note}: {row:?}");
+            assert!(seen.insert((&row[0], &row[1])), "{note} has two rows of {}, {}", row[0], row[1]);
+        }
+        let changelog = read("CHANGELOG.md");
+        assert!(changelog.contains(&format!("- {stem}: ")), "CHANGELOG.md does not have {stem}");
     }
 }

@@ -1,4 +1,4 @@
-//! python/osek: its own tests, with drawn cases and what the fast Rust version answers, and README's example.
+//! python/osek: its own tests, with drawn cases and what the fast Rust version answers, and the example of docs/USE.md.
 
 use std::fmt::Write;
 use std::path::{Path, PathBuf};
@@ -56,9 +56,9 @@ fn python_tests_pass_on_1_000_drawn_cases() {
 }
 
 #[test]
-fn readme_example_runs() {
-    let text = fs::read_to_string(root().join("README.md")).expect("README.md can be read");
-    let from = text.find("    import osek\n").expect("README.md has a Python example");
+fn the_example_runs() {
+    let text = fs::read_to_string(root().join("docs/USE.md")).expect("docs/USE.md can be read");
+    let from = text.find("    import osek\n").expect("docs/USE.md has a Python example");
     let lines = text[from..].lines().take_while(|line| line.is_empty() || line.starts_with("    "));
     let example: Vec<&str> = lines.map(|line| line.strip_prefix("    ").unwrap_or("")).collect();
     let Some(output) = python(&["-c", &example.join("\n")], Path::new("")) else { return };
