@@ -347,11 +347,16 @@ fn every_make_goal_in_a_page_is_one() {
 }
 
 #[test]
-fn decisions_are_short() {
+fn decisions_are_short_and_readings_link_to_their_rules() {
     for line in read("docs/DECISIONS.md").lines().filter(|line| line.starts_with("| ")) {
         for cell in line.trim_matches('|').split(" | ") {
             let words = cell.split_whitespace().count();
             assert!(words <= 40, "docs/DECISIONS.md: {words} words: {cell}");
+        }
+    }
+    for heading in ["Readings of document 01", "Readings of document 02"] {
+        for row in &rows("docs/DECISIONS.md", heading)[1..] {
+            assert!(row.iter().any(|cell| cell.contains("](R")), "docs/DECISIONS.md: no link to the rule: {}", row[0]);
         }
     }
 }
