@@ -380,3 +380,39 @@ fn notes_of_changes_have_one_shape() {
         assert!(changelog.contains(&format!("- {stem}: ")), "CHANGELOG.md does not have {stem}");
     }
 }
+
+/// The bounds of docs/PERFORMANCE.md hold or do not as it says, by its own tables of drawn traces.
+#[test]
+fn the_last_run_meets_the_bounds_that_it_is_said_to_meet() {
+    let greatest = |column: &str| {
+        let mut head: Vec<String> = Vec::new();
+        let mut greatest: f64 = 0.0;
+        for row in rows("docs/PERFORMANCE.md", "The last run") {
+            if row[1].parse::<u32>().is_err() && row[2].parse::<u32>().is_err() {
+                head = row;
+            } else if let (true, Some(at)) = (head[0] == "traces", head.iter().position(|name| name == column)) {
+                greatest = greatest.max(row[at].parse().expect("a ratio"));
+            }
+        }
+        assert!(greatest > 0.0, "no table has {column}");
+        greatest
+    };
+    let page = read("docs/PERFORMANCE.md");
+    for (bound, column) in [
+        ("a run takes at most 2.0 times", "osek_run / Rust"),
+        ("a run takes at most 1.15 times", "osek_run / Rust"),
+        ("a verdict takes at most 1.1 times", "osek_verdict / osek_run"),
+    ] {
+        let row = page.lines().find(|line| line.contains(bound)).unwrap_or_else(|| panic!("no row: {bound}"));
+        let limit: f64 = bound.split(' ').nth(5).and_then(|number| number.parse().ok()).expect("a bound");
+        assert_eq!(row.ends_with("| yes |"), greatest(column) <= limit, "{bound}");
+    }
+}
+
+/// What was tried is one table, and every shape has its reason.
+#[test]
+fn what_was_tried_is_one_table() {
+    let rows = rows("docs/PERFORMANCE.md", "What was tried");
+    assert_eq!(rows[0], ["shape", "instructions", "why not kept"]);
+    assert!(rows.iter().all(|row| row.len() == 3 && row.iter().all(|cell| !cell.is_empty())));
+}
