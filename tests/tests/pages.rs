@@ -293,13 +293,15 @@ fn paths(text: &str) -> Vec<&str> {
     words.filter(|word| folders.iter().any(|folder| word.starts_with(folder)) && !word.contains(['{', '*'])).collect()
 }
 
+/// From the root of the repository or from the page's folder; a host test may be named without its folder and ending.
 #[test]
 fn every_path_in_a_page_is_there() {
     for page in pages().into_iter().chain(notes()) {
+        let folder = Path::new(&page).parent().expect("a page is in a folder").to_path_buf();
         for path in paths(&read(&page)) {
-            let short = path.strip_prefix("tests/").map(|name| format!("tests/tests/{name}.rs"));
-            let there = root().join(path).exists() || short.is_some_and(|path| root().join(path).exists());
-            assert!(there, "{page}: there is no {path}");
+            let test = format!("tests/{}.rs", path.trim_end_matches(".rs"));
+            let there = [PathBuf::from(path), folder.join(path), PathBuf::from(test)];
+            assert!(there.iter().any(|path| root().join(path).exists()), "{page}: there is no {path}");
         }
     }
 }
