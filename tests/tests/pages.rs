@@ -331,6 +331,17 @@ fn every_link_leads_somewhere() {
     }
 }
 
+/// scripts/prove and scripts/test compare what they took with these sentences.
+#[test]
+fn the_readme_says_how_long_both_commands_take() {
+    let page = read("README.md").replace('\n', " ");
+    for sentence in ["every crate it needs, about ", "`make test` takes about "] {
+        let (_, rest) = page.split_once(sentence).unwrap_or_else(|| panic!("README.md does not say: {sentence}"));
+        let (minutes, unit) = rest.split_once(' ').expect("a number and its unit");
+        assert!(minutes.parse::<u32>().is_ok_and(|minutes| minutes > 0) && unit.starts_with("minutes"), "{sentence}");
+    }
+}
+
 #[test]
 fn every_make_goal_in_a_page_is_one() {
     let makefile = read("Makefile");
