@@ -107,13 +107,18 @@ fn the_whole_run_of_the_rules_is_the_listing() {
 
 #[test]
 fn the_rules_list_every_refusal() {
-    let rows = rows("docs/RULES.md", "Refusals");
-    let listed: Vec<u32> = rows[1..]
-        .iter()
-        .flat_map(|row| row[0].split(", ").map(|code| code.parse().expect("a code")).collect::<Vec<_>>())
-        .collect();
-    for refusal in REFUSALS {
-        assert!(listed.contains(&u32::from(refusal)), "docs/RULES.md does not list {refusal}");
+    let rows = [rows("docs/RULES.md", "Refusals"), rows("docs/RULES.md", "Configurations from OIL")].concat();
+    let listed: Vec<u32> =
+        rows.iter().flat_map(|row| row[0].split(", ")).filter_map(|code| code.parse().ok()).collect();
+    let header = read("include/osek.h");
+    let numbers = header.lines().filter_map(|line| line.trim_start().split_once(" = "));
+    let refusals = numbers.filter(|(name, _)| !name.starts_with("OSEK_EVENT_") && !name.starts_with("OSEK_E_"));
+    let declared = refusals.filter(|(name, _)| name.starts_with("OSEK_") && !name.contains(' '));
+    let declared: Vec<u32> =
+        declared.filter_map(|(_, rest)| rest.split([',', ' ']).next().and_then(|number| number.parse().ok())).collect();
+    assert!(declared.len() > 25, "{declared:?}");
+    for refusal in declared.into_iter().chain(REFUSALS.map(u32::from)) {
+        assert!(listed.contains(&refusal), "docs/RULES.md does not list {refusal}");
     }
 }
 
