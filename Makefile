@@ -78,7 +78,7 @@ host: need build/osek_host
 # Where things are installed; DESTDIR goes before PREFIX. Python looks in PYTHON_DIR under /usr, elsewhere by PYTHONPATH.
 PYTHON_DIR = lib/python3/dist-packages
 PYTHON_FILES = $(patsubst python/%,%,$(wildcard python/osek/*.py)) osek/py.typed osek/VERSION
-PAGES = README.md CHANGELOG.md $(wildcard docs/*.md docs/*.txt docs/*.svg docs/*.png)
+PAGES = README.md CHANGELOG.md CONTRIBUTING.md $(wildcard docs/*.md docs/*.txt docs/*.svg docs/*.png)
 INSTALLED = include/osek.h lib/libosek.a lib/libosek.so lib/$(SONAME) lib/libosek.so.$(VERSION) \
             lib/pkgconfig/osek.pc bin/osek_host share/man/man1/osek_host.1 bin/osek share/man/man1/osek.1 \
             share/bash-completion/completions/osek $(PYTHON_FILES:%=$(PYTHON_DIR)/%)
