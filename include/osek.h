@@ -132,10 +132,9 @@ enum {
     OSEK_E_USER = 33        /* Get: the running body is not one of the resource's users; OSEK has no number for it */
 };
 
-/* Refusals. The place is the offset of the first byte of the number at fault, where nothing else is said; of a number
- * that can't be read it is the byte that decides it, whatever follows. Checked in this order: OSEK_CONFIG_TOO_LONG, the
- * configuration number by number, OSEK_TRACE_TOO_LONG, the trace number by number, OSEK_OUTPUT_TOO_SHORT. Only the first
- * one found is given. */
+/* Refusals. Unless stated, the place is the offset of the offending number; for an unreadable one, of the byte that made
+ * it so. Checked in this order: OSEK_CONFIG_TOO_LONG, the configuration number by number, OSEK_TRACE_TOO_LONG, the trace
+ * number by number, OSEK_OUTPUT_TOO_SHORT. Only the first one found is given. */
 enum {
     OSEK_CONFIG_CUT = 1,           /* the configuration ends where a number, or the rest of one, is missing; place: its
                                       end, config_len */
@@ -187,8 +186,8 @@ uint64_t osek_run(const uint8_t *config, size_t config_len,
  *     trace, trace_len            the trace's bytes; only read
  *     events, events_len          where the kept events go: the bytes of the trace that are not dropped, in their order
  *     stretches, stretches_len    where the dropped stretches are listed: for each, in order, the offset of its first
- *                                 byte in the trace and its length, as two numbers. A stretch is as long as it goes, so
- *                                 at least one byte is kept between two of them.
+ *                                 byte in the trace and its length, as two numbers. Adjacent dropped bytes form one
+ *                                 stretch, so at least one byte is kept between two of them.
  *
  * The outputs must not overlap each other or the trace. A pointer whose length is 0 may be null, as above.
  *

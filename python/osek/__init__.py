@@ -1,7 +1,7 @@
 """The OSEK reference from Python: a trace of events run over a configuration, by libosek.so.
 
     run(config, trace)     the answers and the losses, or the exception Refused
-    salvage(trace)         what is kept of a damaged trace, and where something was dropped
+    salvage(trace)         the readable events of a damaged trace, and where something was dropped
     oil(text)              the configuration that an OIL text describes, or the exception RefusedText
     wait(config, trace, body)   how many bodies end before this one begins, or the exception Refused
     draw(start, ..)        a drawn trace
