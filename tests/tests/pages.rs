@@ -227,6 +227,20 @@ fn the_names_of_each_demand_are_declared_in_its_crates() {
     }
 }
 
+/// docs/USE.md has a row for every function that the header declares, and for no other.
+#[test]
+fn the_use_page_lists_every_call() {
+    let header = read("include/osek.h");
+    let lines = header.lines().filter_map(|line| line.strip_prefix("uint64_t "));
+    let declared: BTreeSet<&str> = lines.filter_map(|line| line.split('(').next()).collect();
+    let page = read("docs/USE.md");
+    let rows = page.lines().filter_map(|line| line.strip_prefix("| `osek_"));
+    let listed: BTreeSet<String> =
+        rows.map(|row| format!("osek_{}", row.split('`').next().unwrap_or_default())).collect();
+    assert!(declared.len() >= 6, "{declared:?}");
+    assert_eq!(listed.iter().map(String::as_str).collect::<BTreeSet<_>>(), declared);
+}
+
 /// A page's number is the counted one, but for rounding and a tenth.
 #[track_caller]
 fn assert_counted(told: &str, counted: usize, what: &str) {
