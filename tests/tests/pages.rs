@@ -227,6 +227,37 @@ fn the_names_of_each_demand_are_declared_in_its_crates() {
     }
 }
 
+/// The words of the sources, and the names of edits and of planted faults.
+fn words() -> BTreeSet<String> {
+    let folders =
+        ["crates", "include", "tests/src", "tests/tests", "tool/src", "tool/tests", "python", "unit", "scripts"];
+    let mut sources: Vec<PathBuf> = ["crates.txt", "Makefile", "tests/build.rs"].map(|name| root().join(name)).into();
+    sources.extend(folders.iter().flat_map(|folder| files(&root().join(folder), &[""])));
+    let mut words = BTreeSet::new();
+    for source in sources.into_iter().filter(|source| source.extension().is_none_or(|ending| ending != "md")) {
+        words.extend(source.file_stem().map(|name| name.to_string_lossy().into_owned()));
+        let Ok(text) = fs::read_to_string(source) else { continue };
+        let parts = text.split(|c: char| !(c.is_alphanumeric() || "_-'′".contains(c)));
+        words.extend(parts.filter(|word| !word.is_empty()).map(String::from));
+    }
+    words
+}
+
+/// A name between backquotes is a word of the sources. The grammar of docs/TEXT.md has words of its own.
+#[test]
+fn every_name_in_a_page_is_a_word_of_the_sources() {
+    let words = words();
+    for page in pages().into_iter().filter(|page| page != "docs/TEXT.md") {
+        let text = read(&page);
+        for name in text.lines().flat_map(names) {
+            let plain = name.chars().all(|c| c.is_ascii_alphanumeric() || "_-′".contains(c));
+            if plain && name.starts_with(|c: char| c.is_ascii_alphabetic()) && !name.ends_with('-') {
+                assert!(words.contains(name), "{page}: no source has {name}");
+            }
+        }
+    }
+}
+
 /// docs/USE.md has a row for every function that the header declares, and for no other.
 #[test]
 fn the_use_page_lists_every_call() {
@@ -406,6 +437,9 @@ fn notes_of_changes_have_one_shape() {
         let mut seen = BTreeSet::new();
         for row in moved {
             assert_eq!(row.len(), 3, "{note}: {row:?}");
+            let first = row[1].split(|c: char| !(c.is_alphanumeric() || c == '_')).next().unwrap_or_default();
+            let known = ["where", "the", "include", "tests", "tool"].contains(&first);
+            assert!(known || crates().iter().any(|name| name == first), "{note}: no crate {first}");
             assert!(seen.insert((&row[0], &row[1])), "{note} has two rows of {}, {}", row[0], row[1]);
         }
         let changelog = read("CHANGELOG.md");
