@@ -381,6 +381,18 @@ fn every_link_leads_somewhere() {
     }
 }
 
+/// What README.md shows of `make run` is the listing, with lines left out at `..`.
+#[test]
+fn the_readme_shows_the_listing() {
+    let page = read("README.md");
+    let from = page.find("    step event status").expect("README.md shows the listing");
+    let block: String =
+        page[from..].lines().take_while(|line| !line.is_empty()).map(|line| format!("{}\n", &line[4..])).collect();
+    let (first, last) = block.split_once("..\n").expect("README.md leaves lines out");
+    assert!(DOCUMENT_LISTING.starts_with(first), "{first}");
+    assert!(DOCUMENT_LISTING.ends_with(last), "{last}");
+}
+
 /// scripts/prove and scripts/test compare what they took with these sentences.
 #[test]
 fn the_readme_says_how_long_both_commands_take() {
