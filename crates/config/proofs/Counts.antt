@@ -11,11 +11,12 @@ use Rattle.number.proofs.Cases.{by-eq}
 use Rattle.config.specs.declared.Config.{Config}
 use Rattle.config.specs.declared.Draft.{Draft}
 use Rattle.config.specs.declared.Field.{Field}
-use Rattle.config.specs.declared.Field.the-variants.{Version, Bodies, Kind, Priority, Autostart, Resources}
+use Rattle.config.specs.declared.Field.the-variants.{Version, Bodies, Kind, Priority, Autostart, Deadline, Resources}
 use Rattle.config.specs.Refusal.{badCount}
 use Rattle.config.specs.Value.{maxBodies, maxResources, withResources}
 use Rattle.config.specs.Draft.{faultAt, fault, putAt, put, askedAt, asked, ended, start, Within}
-use Rattle.config.specs.Writer.{maxNumbers, faultFrom, firstFault}
+use Rattle.config.specs.Reader.{maxNumbers}
+use Rattle.config.specs.Writer.{faultFrom, firstFault}
 use Rattle.config.proofs.Position.{left, moved, some-left, start-within}
 use Rattle.config.proofs.Walk.{fault-step, fault-stop}
 
@@ -26,7 +27,7 @@ unfolding faultFrom faultAt putAt askedAt ended
 second-number k c v h = rw (v, le-leb 1 (c .bodies) (omega arith), lt-leb (c .bodies) maxBodies h) refl
 
 pub too-many-bodies : (c : Config) → c .version ≡ 1 → maxBodies < c .bodies → firstFault c ≡ badCount
-too-many-bodies c v h = second-number 258 c v h
+too-many-bodies c v h = second-number 290 c v h
 
 -- the fields before the count of resources
 data Early : Field → Type 0 where
@@ -35,6 +36,7 @@ data Early : Field → Type 0 where
   kind : Early Kind
   priority : Early Priority
   autostart : Early Autostart
+  deadline : Early Deadline
 
 abbrev UpToResources : Field → Type 0
 UpToResources f = Early f ⊎ (f ≡ Resources)
@@ -46,6 +48,7 @@ not-ended (inl count) = refl
 not-ended (inl kind) = refl
 not-ended (inl priority) = refl
 not-ended (inl autostart) = refl
+not-ended (inl deadline) = refl
 not-ended (inr e) = rw e refl
 
 next : {f : Field} → Early f → (d : Draft) (v : ℕ) → UpToResources (putAt f d v .field)
@@ -54,7 +57,8 @@ next version d v = inl count
 next count d v = inl kind
 next kind d v = inl priority
 next priority d v = inl autostart
-next autostart d v =
+next autostart d v = inl deadline
+next deadline d v =
     by-eq (d .index + 1) (d .config .bodies)
     (λ e. rw (eq-eqb (d .index + 1) (d .config .bodies) e) (inr refl))
     (λ n. rw (ne-eqb (d .index + 1) (d .config .bodies) n) (inl kind))
@@ -70,6 +74,7 @@ module _ (c : Config) (many : maxResources < c .resources) where
   asked-same kind d = refl
   asked-same priority d = refl
   asked-same autostart d = refl
+  asked-same deadline d = refl
 
   at-resources : (k : ℕ) (d : Draft) → d .field ≡ Resources → faultFrom (suc k) c d ≡ badCount
   unfolding faultFrom faultAt askedAt ended

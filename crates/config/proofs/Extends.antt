@@ -18,7 +18,7 @@ use Rattle.number.proofs.Cases.{by-eq}
 use Rattle.config.specs.declared.Config.{Config}
 use Rattle.config.specs.declared.Draft.{Draft}
 use Rattle.config.specs.declared.Field.{Field}
-use Rattle.config.specs.declared.Field.the-variants.{Version, Bodies, Kind, Priority, Autostart, Resources, Users, Tables, Period, Entries, Offset, Task, End}
+use Rattle.config.specs.declared.Field.the-variants.{Version, Bodies, Kind, Priority, Autostart, Deadline, Resources, Users, Tables, Period, Entries, Offset, Task, End}
 use Rattle.config.specs.Value.{maxBodies, maxResources, maxTables, maxEntries}
 use Rattle.config.specs.Draft.{put, putAt, asked, askedAt, ended, start, Inside, Within}
 use Rattle.config.specs.Accepted.{Shaped, padded}
@@ -32,6 +32,7 @@ pub record Counts : Type 0 where
   pub kinds : ℕ
   pub priorities : ℕ
   pub autostarts : ℕ
+  pub deadlines : ℕ
   pub resources : ℕ
   pub users : ℕ
   pub tables : ℕ
@@ -40,14 +41,15 @@ pub record Counts : Type 0 where
   pub offsets : ℕ
   pub tasks : ℕ
 
-abbrev counts : ℕ → ℕ → ℕ → ℕ → ℕ → ℕ → ℕ → ℕ → ℕ → ℕ → ℕ → ℕ → Counts
-counts v b k p a r u t n m o w =
+abbrev counts : ℕ → ℕ → ℕ → ℕ → ℕ → ℕ → ℕ → ℕ → ℕ → ℕ → ℕ → ℕ → ℕ → Counts
+counts v b k p a q r u t n m o w =
     record {
       versions = v;
       bodies = b;
       kinds = k;
       priorities = p;
       autostarts = a;
+      deadlines = q;
       resources = r;
       users = u;
       tables = t;
@@ -58,19 +60,22 @@ counts v b k p a r u t n m o w =
     }
 
 abbrev pub filled : Field → Config → ℕ → ℕ → Counts
-filled Version c i e = counts 0 0 0 0 0 0 0 0 0 0 e e
-filled Bodies c i e = counts 1 0 0 0 0 0 0 0 0 0 e e
-filled Kind c i e = counts 1 1 i i i 0 0 0 0 0 e e
-filled Priority c i e = counts 1 1 (i + 1) i i 0 0 0 0 0 e e
-filled Autostart c i e = counts 1 1 (i + 1) (i + 1) i 0 0 0 0 0 e e
-filled Resources c i e = counts 1 1 (c .bodies) (c .bodies) (c .bodies) 0 0 0 0 0 e e
-filled Users c i e = counts 1 1 (c .bodies) (c .bodies) (c .bodies) 1 i 0 0 0 e e
-filled Tables c i e = counts 1 1 (c .bodies) (c .bodies) (c .bodies) 1 (c .resources) 0 0 0 e e
-filled Period c i e = counts 1 1 (c .bodies) (c .bodies) (c .bodies) 1 (c .resources) 1 i i e e
-filled Entries c i e = counts 1 1 (c .bodies) (c .bodies) (c .bodies) 1 (c .resources) 1 (i + 1) i e e
-filled Offset c i e = counts 1 1 (c .bodies) (c .bodies) (c .bodies) 1 (c .resources) 1 (i + 1) (i + 1) e e
-filled Task c i e = counts 1 1 (c .bodies) (c .bodies) (c .bodies) 1 (c .resources) 1 (i + 1) (i + 1) (e + 1) e
-filled End c i e = counts 1 1 (c .bodies) (c .bodies) (c .bodies) 1 (c .resources) 1 (c .tables) (c .tables) e e
+filled Version c i e = counts 0 0 0 0 0 0 0 0 0 0 0 e e
+filled Bodies c i e = counts 1 0 0 0 0 0 0 0 0 0 0 e e
+filled Kind c i e = counts 1 1 i i i i 0 0 0 0 0 e e
+filled Priority c i e = counts 1 1 (i + 1) i i i 0 0 0 0 0 e e
+filled Autostart c i e = counts 1 1 (i + 1) (i + 1) i i 0 0 0 0 0 e e
+filled Deadline c i e = counts 1 1 (i + 1) (i + 1) (i + 1) i 0 0 0 0 0 e e
+filled Resources c i e = counts 1 1 (c .bodies) (c .bodies) (c .bodies) (c .bodies) 0 0 0 0 0 e e
+filled Users c i e = counts 1 1 (c .bodies) (c .bodies) (c .bodies) (c .bodies) 1 i 0 0 0 e e
+filled Tables c i e = counts 1 1 (c .bodies) (c .bodies) (c .bodies) (c .bodies) 1 (c .resources) 0 0 0 e e
+filled Period c i e = counts 1 1 (c .bodies) (c .bodies) (c .bodies) (c .bodies) 1 (c .resources) 1 i i e e
+filled Entries c i e = counts 1 1 (c .bodies) (c .bodies) (c .bodies) (c .bodies) 1 (c .resources) 1 (i + 1) i e e
+filled Offset c i e = counts 1 1 (c .bodies) (c .bodies) (c .bodies) (c .bodies) 1 (c .resources) 1 (i + 1) (i + 1) e e
+filled Task c i e =
+    counts 1 1 (c .bodies) (c .bodies) (c .bodies) (c .bodies) 1 (c .resources) 1 (i + 1) (i + 1) (e + 1) e
+filled End c i e =
+    counts 1 1 (c .bodies) (c .bodies) (c .bodies) (c .bodies) 1 (c .resources) 1 (c .tables) (c .tables) e e
 
 -- the same after the number there, whether or not its row is the last
 abbrev after : Field → Config → ℕ → ℕ → Counts
@@ -78,7 +83,8 @@ after Version c i e = filled Bodies c i e
 after Bodies c i e = filled Kind c 0 e
 after Kind c i e = filled Priority c i e
 after Priority c i e = filled Autostart c i e
-after Autostart c i e = filled Kind c (i + 1) e
+after Autostart c i e = filled Deadline c i e
+after Deadline c i e = filled Kind c (i + 1) e
 after Resources c i e = filled Users c 0 e
 after Users c i e = filled Users c (i + 1) e
 after Tables c i e = filled Period c 0 e
@@ -101,6 +107,7 @@ cut n c =
       kind = padded maxBodies (n .kinds) (c .kind);
       priority = padded maxBodies (n .priorities) (c .priority);
       autostart = padded maxBodies (n .autostarts) (c .autostart);
+      deadline = padded maxBodies (n .deadlines) (c .deadline);
       resources = kept (n .resources) (c .resources);
       users = padded maxResources (n .users) (c .users);
       tables = kept (n .tables) (c .tables);
@@ -134,6 +141,7 @@ record Below (n m : Counts) : Type 0 where
   kinds : n .kinds ≤ m .kinds
   priorities : n .priorities ≤ m .priorities
   autostarts : n .autostarts ≤ m .autostarts
+  deadlines : n .deadlines ≤ m .deadlines
   resources : n .resources ≤ m .resources
   users : n .users ≤ m .users
   tables : n .tables ≤ m .tables
@@ -148,6 +156,7 @@ grows Bodies c i e = omega arith
 grows Kind c i e = omega arith
 grows Priority c i e = omega arith
 grows Autostart c i e = omega arith
+grows Deadline c i e = omega arith
 grows Resources c i e = omega arith
 grows Users c i e = omega arith
 grows Tables c i e = omega arith
@@ -171,6 +180,7 @@ cut-cut n m c s b =
       padded-padded maxBodies (c .kind) (s .kinds) (n .kinds) (m .kinds) (b .kinds),
       padded-padded maxBodies (c .priority) (s .priorities) (n .priorities) (m .priorities) (b .priorities),
       padded-padded maxBodies (c .autostart) (s .autostarts) (n .autostarts) (m .autostarts) (b .autostarts),
+      padded-padded maxBodies (c .deadline) (s .deadlines) (n .deadlines) (m .deadlines) (b .deadlines),
       kept-kept (n .resources) (m .resources) (c .resources) (b .resources),
       padded-padded maxResources (c .users) (s .masks) (n .users) (m .users) (b .users),
       kept-kept (n .tables) (m .tables) (c .tables) (b .tables),
@@ -190,7 +200,8 @@ module _ (c : Config) (d : Draft) (v : ℕ) where
   next-filled Bodies t h = refl
   next-filled Kind t h = refl
   next-filled Priority t h = refl
-  next-filled Autostart t h =
+  next-filled Autostart t h = refl
+  next-filled Deadline t h =
       by-eq (d .index + 1) (d .config .bodies)
       (λ p. rw (eq-eqb (d .index + 1) (d .config .bodies) p, ← ap (λ (y : Config). y .bodies) h, ← p))
       (λ p. rw (ne-eqb (d .index + 1) (d .config .bodies) p))
@@ -226,6 +237,7 @@ module _ (c : Config) (d : Draft) (s : Shaped c) where
   put-cut Kind h = rw (h, set-padded maxBodies (c .kind) (s .kinds) (d .index))
   put-cut Priority h = rw (h, set-padded maxBodies (c .priority) (s .priorities) (d .index))
   put-cut Autostart h = rw (h, set-padded maxBodies (c .autostart) (s .autostarts) (d .index))
+  put-cut Deadline h = rw (h, set-padded maxBodies (c .deadline) (s .deadlines) (d .index))
   put-cut Resources h = rw h
   put-cut Users h = rw (h, set-padded maxResources (c .users) (s .masks) (d .index))
   put-cut Tables h = rw h
@@ -251,6 +263,7 @@ module _ (c : Config) (d : Draft) (s : Shaped c) where
   asked-cut Priority x = getD-padded maxBodies (c .priority) (s .priorities) (d .index + 1) (d .index) (omega arith)
   asked-cut Autostart x =
       getD-padded maxBodies (c .autostart) (s .autostarts) (d .index + 1) (d .index) (omega arith)
+  asked-cut Deadline x = getD-padded maxBodies (c .deadline) (s .deadlines) (d .index + 1) (d .index) (omega arith)
   asked-cut Resources x = refl
   asked-cut Users x = getD-padded maxResources (c .users) (s .masks) (d .index + 1) (d .index) (omega arith)
   asked-cut Tables x = refl
@@ -262,13 +275,14 @@ module _ (c : Config) (d : Draft) (s : Shaped c) where
 
 -- the lengths of the arrays
 abbrev Lengths : Type 0
-Lengths = ℕ × ℕ × ℕ × ℕ × ℕ × ℕ × ℕ × ℕ
+Lengths = ℕ × ℕ × ℕ × ℕ × ℕ × ℕ × ℕ × ℕ × ℕ
 
 abbrev lengths : Config → Lengths
 lengths c = (
   length (c .kind),
   length (c .priority),
   length (c .autostart),
+  length (c .deadline),
   length (c .users),
   length (c .period),
   length (c .entries),
@@ -282,11 +296,12 @@ same-lengths c x e s =
       kinds = ap (λ (l : Lengths). l .0) e ∙ s .kinds;
       priorities = ap (λ (l : Lengths). l .1) e ∙ s .priorities;
       autostarts = ap (λ (l : Lengths). l .2) e ∙ s .autostarts;
-      masks = ap (λ (l : Lengths). l .3) e ∙ s .masks;
-      periods = ap (λ (l : Lengths). l .4) e ∙ s .periods;
-      counts = ap (λ (l : Lengths). l .5) e ∙ s .counts;
-      offsets = ap (λ (l : Lengths). l .6) e ∙ s .offsets;
-      tasks = ap (λ (l : Lengths). l .7) e ∙ s .tasks;
+      deadlines = ap (λ (l : Lengths). l .3) e ∙ s .deadlines;
+      masks = ap (λ (l : Lengths). l .4) e ∙ s .masks;
+      periods = ap (λ (l : Lengths). l .5) e ∙ s .periods;
+      counts = ap (λ (l : Lengths). l .6) e ∙ s .counts;
+      offsets = ap (λ (l : Lengths). l .7) e ∙ s .offsets;
+      tasks = ap (λ (l : Lengths). l .8) e ∙ s .tasks;
     }
 
 module _ (d : Draft) (v : ℕ) where
@@ -299,6 +314,7 @@ module _ (d : Draft) (v : ℕ) where
   put-kept Kind = rw (padded-set maxBodies (d .config .kind) (d .index) v)
   put-kept Priority = rw (padded-set maxBodies (d .config .priority) (d .index) v)
   put-kept Autostart = rw (padded-set maxBodies (d .config .autostart) (d .index) v)
+  put-kept Deadline = rw (padded-set maxBodies (d .config .deadline) (d .index) v)
   put-kept Resources = refl
   put-kept Users = rw (padded-set maxResources (d .config .users) (d .index) v)
   put-kept Tables = refl
@@ -315,6 +331,7 @@ module _ (d : Draft) (v : ℕ) where
   put-filled Kind = refl
   put-filled Priority = refl
   put-filled Autostart = refl
+  put-filled Deadline = refl
   put-filled Resources = refl
   put-filled Users = refl
   put-filled Tables = refl
@@ -333,6 +350,7 @@ module _ (d : Draft) (v : ℕ) where
   asked-put Kind t s p = getD-set-same (d .config .kind) (d .index) v 0 (omega arith)
   asked-put Priority t s p = getD-set-same (d .config .priority) (d .index) v 0 (omega arith)
   asked-put Autostart t s p = getD-set-same (d .config .autostart) (d .index) v 0 (omega arith)
+  asked-put Deadline t s p = getD-set-same (d .config .deadline) (d .index) v 0 (omega arith)
   asked-put Resources t s p = refl
   asked-put Users t s p = getD-set-same (d .config .users) (d .index) v 0 (omega arith)
   asked-put Tables t s p = refl
@@ -350,6 +368,7 @@ module _ (d : Draft) (v : ℕ) where
   lengths-put Kind = rw length-set
   lengths-put Priority = rw length-set
   lengths-put Autostart = rw length-set
+  lengths-put Deadline = rw length-set
   lengths-put Resources = refl
   lengths-put Users = rw length-set
   lengths-put Tables = refl

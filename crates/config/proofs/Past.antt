@@ -9,11 +9,12 @@ use Rattle.number.proofs.Cases.{by-test, by-eq}
 use Rattle.config.specs.declared.Config.{Config}
 use Rattle.config.specs.declared.Draft.{Draft}
 use Rattle.config.specs.declared.Field.{Field}
-use Rattle.config.specs.declared.Field.the-variants.{Version, Bodies, Kind, Priority, Autostart, Resources, Users, Tables, Period, Entries, Offset, Task, End}
+use Rattle.config.specs.declared.Field.the-variants.{Version, Bodies, Kind, Priority, Autostart, Deadline, Resources, Users, Tables, Period, Entries, Offset, Task, End}
 use Rattle.config.specs.Meaning.{firstOf}
 use Rattle.config.specs.Value.{maxBodies, maxResources, maxTables, maxEntries}
 use Rattle.config.specs.Draft.{fault, put, asked, askedAt, ended, start}
-use Rattle.config.specs.Writer.{maxNumbers, faultFrom, firstFault, configBytes, writeConfig, wroteConfig}
+use Rattle.config.specs.Reader.{maxNumbers}
+use Rattle.config.specs.Writer.{faultFrom, firstFault, configBytes, writeConfig, wroteConfig}
 use Rattle.config.specs.Accepted.{Shaped, trimmed}
 use Rattle.config.proofs.Padded.{getD-padded}
 use Rattle.config.proofs.Ranges.{in-range}
@@ -37,6 +38,7 @@ module _ (c : Config) (s : Shaped c) where
   asked-trimmed Kind d p = getD-padded maxBodies (c .kind) (s .kinds) (c .bodies) (d .index) (p .1)
   asked-trimmed Priority d p = getD-padded maxBodies (c .priority) (s .priorities) (c .bodies) (d .index) (p .1)
   asked-trimmed Autostart d p = getD-padded maxBodies (c .autostart) (s .autostarts) (c .bodies) (d .index) (p .1)
+  asked-trimmed Deadline d p = getD-padded maxBodies (c .deadline) (s .deadlines) (c .bodies) (d .index) (p .1)
   asked-trimmed Resources d p = refl
   asked-trimmed Users d p = getD-padded maxResources (c .users) (s .masks) (c .resources) (d .index) (p .1)
   asked-trimmed Tables d p = refl

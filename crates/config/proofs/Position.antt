@@ -1,21 +1,24 @@
 -- Where a draft stands: inside its arrays, and at most `left` numbers before the end. A number in order keeps the first
--- and lowers the second, so that the 260 of `maxNumbers` are enough.
+-- and lowers the second, so that the 292 of `maxNumbers` are enough.
 use Prim.Native.Nat.{ℕ, zero, suc, _+_, _*_, _-_, _≤_, _<_}
 use mathlib.Core.Path.{_≡_}
-use mathlib.Core.Bool.{false, true≢false}
+use mathlib.Core.Bool.{false, not, _&&_, true≢false}
 use mathlib.Core.List.{List, [], _∷_}
 use native.Mathlib.Omega.{arith}
+use lib.Dec.{eqb}
 use lib.ListN.{getD, set}
 use lib.Pow.{pow-mono}
 use borrow.Author.Tests.{eq-eqb, ne-eqb}
 use Rattle.number.specs.Refusal.{none}
 use Rattle.number.specs.Number.{numberBound}
 use Rattle.number.proofs.Cases.{by-eq, cond-either}
+use Rattle.config.specs.declared.Config.{Config}
 use Rattle.config.specs.declared.Draft.{Draft}
 use Rattle.config.specs.declared.Field.{Field}
-use Rattle.config.specs.declared.Field.the-variants.{Version, Bodies, Kind, Priority, Autostart, Resources, Users, Tables, Period, Entries, Offset, Task, End}
+use Rattle.config.specs.declared.Field.the-variants.{Version, Bodies, Kind, Priority, Autostart, Deadline, Resources, Users, Tables, Period, Entries, Offset, Task, End}
 use Rattle.config.specs.Value.{maxBodies, maxResources, maxTables, maxEntries}
-use Rattle.config.specs.Draft.{startable, mostAutostart, fault, put, putAt, ended, start, Inside, Within}
+use Rattle.config.specs.Meaning.{isr, hasDeadlines}
+use Rattle.config.specs.Draft.{startable, mostAutostart, mostDeadline, fault, put, putAt, ended, start, Inside, Within}
 use Rattle.config.proofs.Padded.{getD-zeros}
 use Rattle.config.proofs.Tables.{isTask-true}
 use Rattle.config.proofs.Ranges.{InRange, in-range}
@@ -53,11 +56,12 @@ within d s =
 
 -- the most numbers that are still to come, this one included
 abbrev leftAt : Field → Draft → ℕ
-leftAt Version d = 132 + 2 * (64 - d .entry)
-leftAt Bodies d = 131 + 2 * (64 - d .entry)
-leftAt Kind d = 3 * (32 - d .index) + 34 + 2 * (64 - d .entry)
-leftAt Priority d = 3 * (32 - d .index) + 33 + 2 * (64 - d .entry)
-leftAt Autostart d = 3 * (32 - d .index) + 32 + 2 * (64 - d .entry)
+leftAt Version d = 164 + 2 * (64 - d .entry)
+leftAt Bodies d = 163 + 2 * (64 - d .entry)
+leftAt Kind d = 4 * (32 - d .index) + 34 + 2 * (64 - d .entry)
+leftAt Priority d = 4 * (32 - d .index) + 33 + 2 * (64 - d .entry)
+leftAt Autostart d = 4 * (32 - d .index) + 32 + 2 * (64 - d .entry)
+leftAt Deadline d = 4 * (32 - d .index) + 31 + 2 * (64 - d .entry)
 leftAt Resources d = 34 + 2 * (64 - d .entry)
 leftAt Users d = (16 - d .index) + 17 + 2 * (64 - d .entry)
 leftAt Tables d = 17 + 2 * (64 - d .entry)
@@ -100,6 +104,10 @@ start-paced t = rw (getD-zeros maxTables t) (omega arith)
 pub most-le : (k : ℕ) → mostAutostart k ≤ 1
 most-le k = cond-either (λ n. n ≤ 1) (startable k) 1 0 (omega arith) (omega arith)
 
+pub most-deadline-le : (c : Config) (k : ℕ) → mostDeadline c k ≤ 65535
+most-deadline-le c k =
+    cond-either (λ n. n ≤ 65535) (hasDeadlines c && not (eqb k isr)) 65535 0 (omega arith) (omega arith)
+
 -- a number in order, put
 module _ (d : Draft) (v : ℕ) where
   moved-at : (f : Field) → ended f ≡ false → Standing f d → InRange f d v
@@ -109,7 +117,8 @@ module _ (d : Draft) (v : ℕ) where
   moved-at Bodies e s h = omega arith
   moved-at Kind e s h = omega arith
   moved-at Priority e s h = omega arith
-  moved-at Autostart e s h =
+  moved-at Autostart e s h = omega arith
+  moved-at Deadline e s h =
       by-eq (d .index + 1) (d .config .bodies)
       (λ p. rw (eq-eqb (d .index + 1) (d .config .bodies) p) (omega arith))
       (λ p. rw (ne-eqb (d .index + 1) (d .config .bodies) p) (omega arith))
@@ -149,6 +158,7 @@ module _ (d : Draft) (v : ℕ) where
   paced-at Kind h p = p
   paced-at Priority h p = p
   paced-at Autostart h p = p
+  paced-at Deadline h p = p
   paced-at Resources h p = p
   paced-at Users h p = p
   paced-at Tables h p = p
@@ -169,6 +179,8 @@ module _ (d : Draft) (v : ℕ) where
   small-at Kind e s p h = omega arith
   small-at Priority e s p h = omega arith
   small-at Autostart e s p h = omega (arith, most-le (getD (d .config .kind) (d .index) 0))
+  small-at Deadline e s p h =
+      omega (arith, most-deadline-le (d .config) (getD (d .config .kind) (d .index) 0))
   small-at Resources e s p h = omega arith
   small-at Users e s p h = let q = pow-mono (s .bodies-le) in omega arith
   small-at Tables e s p h = omega arith
@@ -189,6 +201,7 @@ some-left-at Bodies d e s = omega arith
 some-left-at Kind d e s = omega arith
 some-left-at Priority d e s = omega arith
 some-left-at Autostart d e s = omega arith
+some-left-at Deadline d e s = omega arith
 some-left-at Resources d e s = omega arith
 some-left-at Users d e s = omega arith
 some-left-at Tables d e s = omega arith

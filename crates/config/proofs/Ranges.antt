@@ -12,12 +12,12 @@ use Rattle.number.proofs.Cases.{by-eq, and-true}
 use Rattle.number.specs.Refusal.{none}
 use Rattle.config.specs.declared.Draft.{Draft}
 use Rattle.config.specs.declared.Field.{Field}
-use Rattle.config.specs.declared.Field.the-variants.{Version, Bodies, Kind, Priority, Autostart, Resources, Users, Tables, Period, Entries, Offset, Task, End}
+use Rattle.config.specs.declared.Field.the-variants.{Version, Bodies, Kind, Priority, Autostart, Deadline, Resources, Users, Tables, Period, Entries, Offset, Task, End}
 use Rattle.config.specs.Refusal.{badVersion, badCount, badField, usedPriority, unsorted, tooManyEntries, sharedOffset, mixedTable}
 use Rattle.config.specs.Meaning.{lastKind, isTask}
 use Rattle.config.specs.Value.{newestVersion, maxPriority, maxBodies, maxResources, maxTables, maxEntries}
 use Rattle.config.specs.Among.{among}
-use Rattle.config.specs.Draft.{unless, outside, andThen, sorted, sharesOffset, mixes, secondTable, mostAutostart, timedUser, faultAt}
+use Rattle.config.specs.Draft.{unless, outside, andThen, sorted, sharesOffset, mixes, secondTable, mostAutostart, mostDeadline, timedUser, faultAt}
 
 abbrev pub InRange : Field → Draft → ℕ → Type 0
 InRange Version d v = (1 ≤ v) × (v ≤ newestVersion)
@@ -25,6 +25,7 @@ InRange Bodies d v = (1 ≤ v) × (v ≤ maxBodies)
 InRange Kind d v = v ≤ lastKind
 InRange Priority d v = (1 ≤ v) × (v ≤ maxPriority) × (among v (take (d .index) (d .config .priority)) ≡ false)
 InRange Autostart d v = v ≤ mostAutostart (getD (d .config .kind) (d .index) 0)
+InRange Deadline d v = v ≤ mostDeadline (d .config) (getD (d .config .kind) (d .index) 0)
 InRange Resources d v = v ≤ maxResources
 InRange Users d v = (1 ≤ v) × (v < 2 ^ d .config .bodies) × (timedUser (d .config) v ≡ false)
 InRange Tables d v = v ≤ maxTables
@@ -75,6 +76,8 @@ module _ (d : Draft) (v : ℕ) where
       let r = not-outside 1 maxPriority v badField (lit< tt) (h .0) in
       (r .0, r .1, failed used usedPriority (lit< tt) (h .1))
   in-range Autostart e = not-outside 0 (mostAutostart (getD (d .config .kind) (d .index) 0)) v badField (lit< tt) e .1
+  in-range Deadline e =
+      not-outside 0 (mostDeadline (d .config) (getD (d .config .kind) (d .index) 0)) v badField (lit< tt) e .1
   in-range Resources e = not-outside 0 maxResources v badCount (lit< tt) e .1
   in-range Users e =
       let timed = timedUser (d .config) v in
@@ -116,6 +119,8 @@ module _ (d : Draft) (v : ℕ) where
       (inside 1 maxPriority v badField (h .0) (h .1))
       (ap (λ (t : Bool). unless (not t) usedPriority) (h .2))
   no-fault Autostart h = inside 0 (mostAutostart (getD (d .config .kind) (d .index) 0)) v badField (omega arith) h
+  no-fault Deadline h =
+      inside 0 (mostDeadline (d .config) (getD (d .config .kind) (d .index) 0)) v badField (omega arith) h
   no-fault Resources h = inside 0 maxResources v badCount (omega arith) h
   no-fault Users h =
       passed-andThen

@@ -11,18 +11,20 @@ use lib.ListN.{length, getD, take}
 use borrow.Author.Tests.{eq-eqb, ne-eqb, le-leb, lt-leb}
 use Rattle.number.specs.Refusal.{none, cut, malformed}
 use Rattle.number.specs.Number.{readNumber}
+use Rattle.number.specs.declared.NumberRead.{NumberRead}
 use Rattle.number.proofs.Cases.{by-test, by-lt, by-eq}
 use Rattle.number.proofs.Theorems as Number
 use Rattle.config.specs.declared.ConfigRead.{ConfigRead}
 use Rattle.config.specs.declared.Draft.{Draft}
 use Rattle.config.specs.declared.Field.{Field}
-use Rattle.config.specs.declared.Field.the-variants.{Version, Bodies, Kind, Priority, Autostart, Resources, Users, Tables, Period, Entries, Offset, Task, End}
+use Rattle.config.specs.declared.Field.the-variants.{Version, Bodies, Kind, Priority, Autostart, Deadline, Resources, Users, Tables, Period, Entries, Offset, Task, End}
 use Rattle.config.specs.Refusal.{badVersion, badCount, badField, usedPriority, unsorted, tooManyEntries, leftOver, tooLong, sharedOffset, mixedTable}
 use Rattle.config.specs.Meaning.{lastKind, isTask}
 use Rattle.config.specs.Value.{newestVersion, maxPriority, maxBodies, maxResources, maxTables, maxEntries, noConfig}
 use Rattle.config.specs.Among.{among}
-use Rattle.config.specs.Draft.{unless, outside, andThen, sorted, sharesOffset, mixes, secondTable, mostAutostart, timedUser, fault, faultAt, put, ended, start}
-use Rattle.config.specs.Reader.{numberFault, faultPlace, finished, refused, readFrom, maxLength, readConfig}
+use Rattle.config.specs.Draft.{unless, outside, andThen, sorted, sharesOffset, mixes, secondTable, mostAutostart, mostDeadline, timedUser, fault, faultAt, put, ended, silent, start, Within}
+use Rattle.config.specs.Reader.{numberAt, numberFault, faultPlace, finished, refused, readFrom, maxNumbers, maxLength, readConfig}
+use Rattle.config.proofs.Position.{left, moved, some-left, start-within}
 use Rattle.config.proofs.Walk.{number-fine, read-end, read-zero, read-step, read-stop, readFrom-elim}
 
 -- a refusal of the configuration reader's, or none: 0 to 10, 13 or 14
@@ -63,6 +65,8 @@ module _ (d : Draft) (v : ℕ) where
       (plain-tested (not (among v (take (d .index) (d .config .priority)))) usedPriority (lit≤ tt) (lit≤ tt))
   fault-tested Autostart =
       outside-tested 0 (mostAutostart (getD (d .config .kind) (d .index) 0)) v badField (lit≤ tt) (lit≤ tt)
+  fault-tested Deadline =
+      outside-tested 0 (mostDeadline (d .config) (getD (d .config .kind) (d .index) 0)) v badField (lit≤ tt) (lit≤ tt)
   fault-tested Resources = outside-tested 0 maxResources v badCount (lit≤ tt) (lit≤ tt)
   fault-tested Users =
       andThen-tested
@@ -97,12 +101,39 @@ finished-bounded bs at d h =
     (record { refusals = inl (lit≤ tt); inside = h; zero-value = λ n. absurd (n refl) }))
     (λ e. rw (ne-eqb at (length bs) e) (refused-bounded bs leftOver at (inl (lit≤ tt)) h))
 
+-- what the number reader says of its answers holds of the number where d is
+record Numbered (bs : List ℕ) (at : ℕ) (n : NumberRead) : Type 0 where
+  refusals : n .refusal ≤ malformed
+  place-le : at ≤ length bs → n .place ≤ length bs
+  at-end : at ≤ length bs → n .refusal ≡ cut → n .place ≡ length bs
+  there : n .refusal ≡ malformed → (readNumber bs at .refusal ≡ malformed) × (n .place ≡ readNumber bs at .place)
+
+numbered : (d : Draft) (bs : List ℕ) (at : ℕ) → Numbered bs at (numberAt d bs at)
+unfolding numberAt
+numbered d bs at =
+    by-test (silent d)
+    (λ q. rw q
+    (record {
+      refusals = lit≤ tt;
+      place-le = λ h. h;
+      at-end = λ h e. absurd (omega arith);
+      there = λ e. absurd (omega arith);
+    }))
+    (λ q. rw q
+    (let s = Number.reading bs at in
+    record {
+      refusals = s .refusals;
+      place-le = s .place-le;
+      at-end = λ h e. omega (arith, s .at-end e);
+      there = λ e. (e, refl);
+    }))
+
 -- the refusal of a number and its place
 number-bounded : (bs : List ℕ) (at : ℕ) (d : Draft) → at ≤ length bs
-    → Bounded bs (refused (numberFault d (readNumber bs at)) (faultPlace at (readNumber bs at)))
+    → Bounded bs (refused (numberFault d (numberAt d bs at)) (faultPlace at (numberAt d bs at)))
 number-bounded bs at d h =
-    let n = readNumber bs at in
-    let s = Number.reading bs at in
+    let n = numberAt d bs at in
+    let s = numbered d bs at in
     by-eq (n .refusal) none
     (λ e. rw (eq-eqb (n .refusal) none e)
     (refused-bounded bs (fault d (n .value)) at (fault-tested d (n .value) (d .field) .known) h))
@@ -115,14 +146,14 @@ readFrom-bounded bs =
     (λ at d t h. finished-bounded bs at d h)
     (λ at d h. refused-bounded bs cut at (inl (lit≤ tt)) h)
     (λ at d f h. number-bounded bs at d h)
-    (λ at d r t f rest h. rest (Number.reading bs at .inside (number-fine d (readNumber bs at) f .0)))
+    (λ at d r t f rest h. rest (numbered d bs at .place-le h))
 
 pub bounded : (bs : List ℕ) → Bounded bs (readConfig bs)
 unfolding readConfig
 bounded bs =
     by-lt maxLength (length bs)
     (λ h. rw (lt-leb (length bs) maxLength h) (refused-bounded bs tooLong 0 (inl (lit≤ tt)) (omega arith)))
-    (λ h. rw (le-leb (length bs) maxLength h) (readFrom-bounded bs (length bs) 0 start (omega arith)))
+    (λ h. rw (le-leb (length bs) maxLength h) (readFrom-bounded bs maxNumbers 0 start (omega arith)))
 
 -- after the last number nothing is cut off
 finished-not-cut : (bs : List ℕ) (at : ℕ) (d : Draft) → finished bs at d .refusal ≡ cut → ⊥
@@ -132,31 +163,31 @@ finished-not-cut bs at d e =
     (λ h. let z : _≡_ {A = ℕ} leftOver cut = rw (ne-eqb at (length bs) h) at e in omega arith)
 
 -- the place of a number refused with 1
-number-cut : (bs : List ℕ) (at : ℕ) (d : Draft) → at ≤ length bs → numberFault d (readNumber bs at) ≡ cut
-    → faultPlace at (readNumber bs at) ≡ length bs
+number-cut : (bs : List ℕ) (at : ℕ) (d : Draft) → at ≤ length bs → numberFault d (numberAt d bs at) ≡ cut
+    → faultPlace at (numberAt d bs at) ≡ length bs
 number-cut bs at d h c =
-    let n = readNumber bs at in
+    let n = numberAt d bs at in
     by-eq (n .refusal) none
     (λ e. let f : fault d (n .value) ≡ cut = rw (eq-eqb (n .refusal) none e) at c in
     absurd (omega (arith, fault-tested d (n .value) (d .field) .late (λ z. omega arith))))
     (λ e. let f : n .refusal ≡ cut = rw (ne-eqb (n .refusal) none e) at c in
-    rw (ne-eqb (n .refusal) none e) (omega (arith, Number.reading bs at .at-end f)))
+    rw (ne-eqb (n .refusal) none e) (numbered d bs at .at-end h f))
 
--- with numbers enough for the bytes that are left, what is cut off is refused at the input's end
-readFrom-cut : (k : ℕ) (bs : List ℕ) (at : ℕ) (d : Draft) → at ≤ length bs → length bs ≤ at + k
+-- with fuel enough, what is cut off is refused at the input's end
+readFrom-cut : (k : ℕ) (bs : List ℕ) (at : ℕ) (d : Draft) → at ≤ length bs → Within d → left d ≤ k
     → readFrom k bs at d .refusal ≡ cut → readFrom k bs at d .place ≡ length bs
-readFrom-cut zero bs at d h m e =
+readFrom-cut zero bs at d h w m e =
     by-test (ended (d .field))
     (λ t. absurd (finished-not-cut bs at d (rw (read-end zero bs at d t) at e)))
-    (λ t. rw (read-zero bs at d t) (omega arith))
-readFrom-cut (suc k) bs at d h m e =
-    let n = readNumber bs at in
+    (λ t. absurd (omega (arith, some-left d t w)))
+readFrom-cut (suc k) bs at d h w m e =
+    let n = numberAt d bs at in
     by-test (ended (d .field))
     (λ t. absurd (finished-not-cut bs at d (rw (read-end (suc k) bs at d t) at e)))
     (λ t. by-eq (numberFault d n) none
-    (λ f. let r = Number.reading bs at in let a = number-fine d n f .0 in
+    (λ f. let r = moved d (n .value) t (number-fine d n f .1) w in
     rw (read-step k bs at d n refl t f)
-    (readFrom-cut k bs (n .place) (put d (n .value)) (r .inside a) (omega (arith, r .after a))
+    (readFrom-cut k bs (n .place) (put d (n .value)) (numbered d bs at .place-le h) (r .within) (omega (arith, r .fewer))
     (rw (read-step k bs at d n refl t f) at e)))
     (λ f. rw (read-stop k bs at d n refl t f) (number-cut bs at d h (rw (read-stop k bs at d n refl t f) at e))))
 
@@ -166,14 +197,15 @@ cut-place bs e =
     by-lt maxLength (length bs)
     (λ h. let z : _≡_ {A = ℕ} tooLong cut = rw (lt-leb (length bs) maxLength h) at e in absurd (omega arith))
     (λ h. rw (le-leb (length bs) maxLength h)
-    (readFrom-cut (length bs) bs 0 start (omega arith) (omega arith) (rw (le-leb (length bs) maxLength h) at e)))
+    (readFrom-cut maxNumbers bs 0 start (omega arith) start-within (omega arith) (rw (le-leb (length bs) maxLength h) at e)))
 
 -- the place of a number that can't be read is the number reader's
-pub unreadable-there : (k : ℕ) (bs : List ℕ) (at : ℕ) (d : Draft) → ended (d .field) ≡ false
+pub unreadable-there : (k : ℕ) (bs : List ℕ) (at : ℕ) (d : Draft) → ended (d .field) ≡ false → silent d ≡ false
     → (readNumber bs at .refusal ≡ none → ⊥)
     → readFrom (suc k) bs at d ≡ refused (readNumber bs at .refusal) (readNumber bs at .place)
-unreadable-there k bs at d t n =
-    read-stop k bs at d (readNumber bs at) refl t (λ f. n (number-fine d (readNumber bs at) f .0))
+unfolding numberAt
+unreadable-there k bs at d t q n =
+    read-stop k bs at d (readNumber bs at) (rw q) t (λ f. n (number-fine d (readNumber bs at) f .0))
     ∙ rw (ne-eqb (readNumber bs at .refusal) none n)
 
 abbrev Malformed : List ℕ → ConfigRead → Type 0
@@ -182,13 +214,14 @@ Malformed bs r =
     → (at : ℕ) × (readNumber bs at .refusal ≡ malformed) × (r .place ≡ readNumber bs at .place)
 
 number-malformed : (bs : List ℕ) (at : ℕ) (d : Draft)
-    → Malformed bs (refused (numberFault d (readNumber bs at)) (faultPlace at (readNumber bs at)))
+    → Malformed bs (refused (numberFault d (numberAt d bs at)) (faultPlace at (numberAt d bs at)))
 number-malformed bs at d m =
-    let n = readNumber bs at in
+    let n = numberAt d bs at in
     by-eq (n .refusal) none
     (λ e. let f : fault d (n .value) ≡ malformed = rw (eq-eqb (n .refusal) none e) at m in
     absurd (omega (arith, fault-tested d (n .value) (d .field) .late (λ z. omega arith))))
-    (λ e. (at, rw (ne-eqb (n .refusal) none e) at m, rw (ne-eqb (n .refusal) none e)))
+    (λ e. let h = numbered d bs at .there (rw (ne-eqb (n .refusal) none e) at m) in
+    (at, h .0, rw (ne-eqb (n .refusal) none e) (h .1)))
 
 finished-fine : (bs : List ℕ) (at : ℕ) (d : Draft) → Malformed bs (finished bs at d)
 finished-fine bs at d e =
@@ -207,4 +240,4 @@ malformed-there bs =
     (λ at d e. absurd (omega arith))
     (λ at d f. number-malformed bs at d)
     (λ at d r t f rest. rest)
-    (length bs) 0 start))
+    maxNumbers 0 start))

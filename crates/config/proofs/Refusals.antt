@@ -1,4 +1,4 @@
--- Document 01's refusals of a configuration with their places, and document 02's for kind 3, row by row and with the
+-- Document 01's refusals of a configuration with their places, and document 02's for kind 3 and deadlines, row by row and with the
 -- numbers written out: the reader's on both sides of each limit, the order of two faults, then the writer's. Each is
 -- computed from the definitions that the contracts cite.
 --
@@ -11,11 +11,11 @@ use lib.ListN.{drop, replicate}
 use Rattle.number.specs.Number.{readNumber, groups, continued, fifthGroup, numberBytes, groupBytes}
 use Rattle.number.specs.Output.{writing, written}
 use Rattle.config.specs.declared.Config.{Config}
-use Rattle.config.specs.Value.{withVersion, withBodies, withKind, withPriority, withAutostart, withUsers, withTables, withPeriod, withEntries, withOffset, withTask}
+use Rattle.config.specs.Value.{withVersion, withBodies, withKind, withPriority, withAutostart, withDeadline, withUsers, withTables, withPeriod, withEntries, withOffset, withTask}
 use Rattle.config.specs.Among.{among}
 use Rattle.config.specs.Draft.{faultAt, putAt, askedAt, ended, timedIn, someTimed}
-use Rattle.config.specs.Reader.{readFrom, readConfig}
-use Rattle.config.specs.Writer.{faultFrom, bytesFrom, writeConfig, wroteConfig}
+use Rattle.config.specs.Reader.{readFrom, numberAt, readConfig}
+use Rattle.config.specs.Writer.{bytesAt, faultFrom, bytesFrom, writeConfig, wroteConfig}
 
 -- the reader's refusal and place for each of some bytes that follow others
 abbrev answers : List ℕ → List (List ℕ) → List (ℕ × ℕ)
@@ -59,8 +59,8 @@ pub record ReaderRows : Type 0 where
   pub lengths : answers [] ([] ∷ replicate 4096 0x00 ∷ replicate 4097 0x00 ∷ []) ≡ (1, 0) ∷ (3, 0) ∷ (10, 0) ∷ []
   -- readable before in range; cut at the end, malformed at the byte that decides it
   pub unreadable : answers [] ((0x80 ∷ []) ∷ (0x80 ∷ 0x00 ∷ 0x07 ∷ []) ∷ []) ≡ (1, 1) ∷ (2, 1) ∷ []
-  pub version : answers [] ((0x00 ∷ []) ∷ (0x01 ∷ []) ∷ (0x02 ∷ []) ∷ (0x03 ∷ []) ∷ [])
-      ≡ (3, 0) ∷ (1, 1) ∷ (1, 1) ∷ (3, 0) ∷ []
+  pub version : answers [] ((0x00 ∷ []) ∷ (0x01 ∷ []) ∷ (0x02 ∷ []) ∷ (0x03 ∷ []) ∷ (0x04 ∷ []) ∷ [])
+      ≡ (3, 0) ∷ (1, 1) ∷ (1, 1) ∷ (1, 1) ∷ (3, 0) ∷ []
   pub body-count : answers (0x01 ∷ []) ((0x00 ∷ []) ∷ (0x01 ∷ []) ∷ (0x20 ∷ []) ∷ (0x21 ∷ []) ∷ [])
       ≡ (4, 1) ∷ (1, 2) ∷ (1, 2) ∷ (4, 1) ∷ []
   pub kind : answers (0x01 ∷ 0x01 ∷ []) ((0x00 ∷ []) ∷ (0x01 ∷ []) ∷ (0x02 ∷ []) ∷ (0x03 ∷ []) ∷ (0x04 ∷ []) ∷ [])
@@ -78,6 +78,23 @@ pub record ReaderRows : Type 0 where
   -- an extended task may be autostart
   pub autostart-extended : answers (0x01 ∷ 0x01 ∷ 0x02 ∷ 0x05 ∷ []) ((0x00 ∷ []) ∷ (0x01 ∷ []) ∷ (0x02 ∷ []) ∷ [])
       ≡ (1, 5) ∷ (1, 5) ∷ (5, 4) ∷ []
+  -- a body of each kind in each version: the deadline, a byte of 0 here, stands in version 3 alone
+  pub versions-kinds : map (λ (v : ℕ). answers (v ∷ 0x01 ∷ [])
+      (map (λ (k : ℕ). k ∷ 0x05 ∷ 0x00 ∷ 0x00 ∷ 0x00 ∷ []) (0 ∷ 1 ∷ 2 ∷ 3 ∷ []))) (1 ∷ 2 ∷ 3 ∷ [])
+      ≡ ((0, 7) ∷ (0, 7) ∷ (0, 7) ∷ (0, 7) ∷ []) ∷ ((0, 7) ∷ (0, 7) ∷ (0, 7) ∷ (0, 7) ∷ [])
+      ∷ ((1, 7) ∷ (1, 7) ∷ (1, 7) ∷ (1, 7) ∷ []) ∷ []
+  -- "1 to 65,535 ticks", "0 for none": 0, 1, 65,535 and 65,536, and none, of kinds 0, 2 and 3
+  pub deadline : map (λ (k : ℕ). answers (0x03 ∷ 0x01 ∷ k ∷ 0x05 ∷ 0x00 ∷ [])
+      ((0x00 ∷ []) ∷ (0x01 ∷ []) ∷ (0xFF ∷ 0xFF ∷ 0x03 ∷ []) ∷ (0x80 ∷ 0x80 ∷ 0x04 ∷ []) ∷ [] ∷ [])) (0 ∷ 2 ∷ 3 ∷ [])
+      ≡ ((1, 6) ∷ (1, 6) ∷ (1, 8) ∷ (5, 5) ∷ (1, 5) ∷ []) ∷ ((1, 6) ∷ (1, 6) ∷ (1, 8) ∷ (5, 5) ∷ (1, 5) ∷ [])
+      ∷ ((1, 6) ∷ (1, 6) ∷ (1, 8) ∷ (5, 5) ∷ (1, 5) ∷ []) ∷ []
+  pub deadline-isr : answers (0x03 ∷ 0x01 ∷ 0x01 ∷ 0x05 ∷ 0x00 ∷ [])
+      ((0x00 ∷ []) ∷ (0x01 ∷ []) ∷ (0x80 ∷ 0x80 ∷ 0x04 ∷ []) ∷ [])
+      ≡ (1, 6) ∷ (5, 5) ∷ (5, 5) ∷ []
+  -- each body has its own: of two tasks the second has 2, and no number stands between its deadline and the count
+  pub deadline-each : answers (0x03 ∷ 0x02 ∷ 0x00 ∷ 0x05 ∷ 0x00 ∷ 0x01 ∷ 0x00 ∷ 0x06 ∷ 0x00 ∷ 0x02 ∷ [])
+      ((0x00 ∷ 0x00 ∷ []) ∷ (0x11 ∷ []) ∷ [])
+      ≡ (0, 12) ∷ (4, 10) ∷ []
   pub resource-count : answers oneTask ((0x10 ∷ []) ∷ (0x11 ∷ []) ∷ []) ≡ (1, 6) ∷ (4, 5) ∷ []
   -- the masks of one body
   pub users : answers (oneTask ++ 0x01 ∷ []) ((0x00 ∷ []) ∷ (0x01 ∷ []) ∷ (0x02 ∷ []) ∷ (0x03 ∷ []) ∷ [])
@@ -178,7 +195,7 @@ pub record ReaderRows : Type 0 where
       ≡ (0, 7) ∷ (9, 7) ∷ (9, 7) ∷ []
 
 pub reader-rows : ReaderRows
-unfolding readNumber groups continued fifthGroup readConfig readFrom faultAt putAt ended among timedIn someTimed
+unfolding readNumber groups continued fifthGroup readConfig readFrom numberAt faultAt putAt ended among timedIn someTimed
 reader-rows =
     record {
       lengths = refl;
@@ -191,6 +208,10 @@ reader-rows =
       autostart-task = refl;
       autostart-isr = refl;
       autostart-extended = refl;
+      versions-kinds = refl;
+      deadline = refl;
+      deadline-isr = refl;
+      deadline-each = refl;
       resource-count = refl;
       users = refl;
       users-of-many = (refl, refl);
@@ -226,6 +247,12 @@ listing =
 abbrev value : Config
 value = readConfig listing .config
 
+-- the listing in version 3, with a deadline of 300 of its first task
+abbrev thirdListing : List ℕ
+thirdListing =
+    0x03 ∷ 0x03 ∷ 0x00 ∷ 0x02 ∷ 0x01 ∷ 0xAC ∷ 0x02 ∷ 0x00 ∷ 0x05 ∷ 0x00 ∷ 0x00 ∷ 0x01 ∷ 0x09 ∷ 0x00 ∷ 0x00 ∷ 0x01 ∷ 0x03
+    ∷ 0x01 ∷ 0x04 ∷ 0x02 ∷ 0x00 ∷ 0x01 ∷ 0x02 ∷ 0x00 ∷ []
+
 -- a value with 64 entries
 abbrev full : Config
 full = readConfig (noResource ++ 0x04 ∷ sixtyFour) .config
@@ -246,19 +273,31 @@ pub record WriterRows : Type 0 where
   pub room : (answer 21 value ≡ (0, 20)) × (answer 20 value ≡ (0, 20)) × (answer 19 value ≡ (30, 20))
   -- 3 to 8 at place 0, before 30, and the first in the reader's order
   pub refused : map (answer 0) (
-      withVersion value 0 ∷ withVersion value 3 ∷ withBodies value 33 ∷ withKind value 1 4 ∷ withPriority value 2 5
+      withVersion value 0 ∷ withVersion value 4 ∷ withBodies value 33 ∷ withKind value 1 4 ∷ withPriority value 2 5
       ∷ withAutostart value 2 1 ∷ withUsers value 0 8
       ∷ withPeriod value 0 0 ∷ withEntries value 0 17 ∷ withOffset value 1 0 ∷ withTask value 1 2
-      ∷ withEntries (withPeriod (withTables full 5) 4 1) 4 1 ∷ withVersion (withBodies value 33) 3 ∷ []
+      ∷ withEntries (withPeriod (withTables full 5) 4 1) 4 1 ∷ withVersion (withBodies value 33) 4 ∷ []
       )
       ≡ (3, 0) ∷ (3, 0) ∷ (4, 0) ∷ (5, 0) ∷ (6, 0) ∷ (5, 0) ∷ (5, 0) ∷ (5, 0) ∷ (4, 0) ∷ (7, 0) ∷ (5, 0) ∷ (8, 0)
       ∷ (3, 0) ∷ []
   -- bytes beyond the length stay; too short or refused, all stay
   pub output : (wroteConfig value (replicate 22 0xFF) ≡ listing ++ 0xFF ∷ 0xFF ∷ [])
       × (wroteConfig value (replicate 19 0xFF) ≡ replicate 19 0xFF)
-      × (wroteConfig (withVersion value 3) (replicate 22 0xFF) ≡ replicate 22 0xFF)
+      × (wroteConfig (withVersion value 4) (replicate 22 0xFF) ≡ replicate 22 0xFF)
   -- version 2 is written as it is
   pub second : wroteConfig (withVersion value 2) (replicate 20 0xFF) ≡ 0x02 ∷ drop 1 listing
+  -- a deadline in versions 1 and 2, in version 3 one above 65,535 and one of an ISR; where its number would stand: before
+  -- the next body's priority, which is used, and after its own
+  pub refused-deadline : map (answer 0) (
+      withDeadline value 0 1 ∷ withVersion (withDeadline value 1 1) 2 ∷ withVersion (withDeadline value 0 65536) 3
+      ∷ withVersion (withDeadline value 2 1) 3 ∷ withPriority (withDeadline value 0 1) 1 2
+      ∷ withPriority (withDeadline value 1 1) 1 2 ∷ []
+      )
+      ≡ (5, 0) ∷ (5, 0) ∷ (5, 0) ∷ (5, 0) ∷ (5, 0) ∷ (6, 0) ∷ []
+  -- a deadline of 300 of the first task in version 3, written, and read back
+  pub third : (wroteConfig (withVersion (withDeadline value 0 300) 3) (replicate 24 0xFF) ≡ thirdListing)
+      × (readConfig thirdListing .config .deadline ≡ 300 ∷ replicate 31 0)
+      × (readConfig thirdListing .place ≡ 24)
   -- kind 3: its autostart, a mask bit for it; offset 1 for both entries, with task 3 as the second too, and with task 2
   -- for both; task 0 as the first, task 3 as the second; a second table; kind 4
   pub refused-timed : map (answer 0) (
@@ -274,14 +313,16 @@ pub record WriterRows : Type 0 where
   pub past : answer 20 (withKind (withUsers (withTask value 2 200) 1 77) 3 9) ≡ (0, 20)
 
 pub writer-rows : WriterRows
-unfolding readNumber groups continued fifthGroup numberBytes groupBytes writing written readConfig readFrom faultAt
-    putAt askedAt ended among timedIn someTimed faultFrom bytesFrom
+unfolding readNumber groups continued fifthGroup numberBytes groupBytes writing written readConfig readFrom numberAt faultAt
+    putAt askedAt ended among timedIn someTimed bytesAt faultFrom bytesFrom
 writer-rows =
     record {
       room = (refl, refl, refl);
       refused = refl;
       output = (refl, refl, refl);
       second = refl;
+      refused-deadline = refl;
+      third = (refl, refl, refl);
       refused-timed = refl;
       written-timed = (refl, refl);
       past = refl;

@@ -18,11 +18,11 @@ use Rattle.number.proofs.Cases.{by-test, by-lt, by-eq, neither}
 use Rattle.config.specs.declared.Config.{Config}
 use Rattle.config.specs.declared.Draft.{Draft}
 use Rattle.config.specs.declared.Field.{Field}
-use Rattle.config.specs.declared.Field.the-variants.{Version, Bodies, Kind, Priority, Autostart, Resources, Users, Tables, Period, Entries, Offset, Task, End}
-use Rattle.config.specs.Meaning.{isr, timeTriggered, lastKind, isTask, isTimed, isUser, priorityOf, firstOf, timedEntry}
+use Rattle.config.specs.declared.Field.the-variants.{Version, Bodies, Kind, Priority, Autostart, Deadline, Resources, Users, Tables, Period, Entries, Offset, Task, End}
+use Rattle.config.specs.Meaning.{isr, timeTriggered, lastKind, isTask, isTimed, isUser, priorityOf, hasDeadlines, deadlineOf, firstOf, timedEntry}
 use Rattle.config.specs.Value.{newestVersion, maxPriority, maxBodies, maxResources, maxTables, maxEntries}
 use Rattle.config.specs.Among.{among}
-use Rattle.config.specs.Draft.{rises, firstEntry, sorted, sharesOffset, mixes, someTimed, tasksBefore, secondTable, mostAutostart, timedIn, timedUser, putAt, askedAt, ended}
+use Rattle.config.specs.Draft.{rises, firstEntry, sorted, sharesOffset, mixes, someTimed, tasksBefore, secondTable, mostAutostart, mostDeadline, timedIn, timedUser, putAt, askedAt, ended}
 use Rattle.config.specs.Accepted.{Shaped, Accepted, padded}
 use Rattle.config.proofs.Padded.{length-padded, getD-padded, take-padded, among-none, none-among}
 use Rattle.config.proofs.Ranges.{InRange}
@@ -46,6 +46,7 @@ Place Bodies c d = d .entry ≡ 0
 Place Kind c d = (d .entry ≡ 0) × (d .index < c .bodies) × (c .bodies ≤ maxBodies)
 Place Priority c d = (d .entry ≡ 0) × (d .index < c .bodies) × (c .bodies ≤ maxBodies)
 Place Autostart c d = (d .entry ≡ 0) × (d .index < c .bodies) × (c .bodies ≤ maxBodies)
+Place Deadline c d = (d .entry ≡ 0) × (d .index < c .bodies) × (c .bodies ≤ maxBodies)
 Place Resources c d = d .entry ≡ 0
 Place Users c d = (d .entry ≡ 0) × (d .index < c .resources)
 Place Tables c d = d .entry ≡ 0
@@ -63,7 +64,8 @@ module _ (c : Config) (d : Draft) where
   place-put Bodies t x h p = omega arith
   place-put Kind t x h p = p
   place-put Priority t x h p = p
-  place-put Autostart t x h p = rw (ap (λ (y : Config). y .bodies) x)
+  place-put Autostart t x h p = p
+  place-put Deadline t x h p = rw (ap (λ (y : Config). y .bodies) x)
       (by-eq (d .index + 1) (c .bodies)
       (λ q. rw (eq-eqb (d .index + 1) (c .bodies) q) (p .0))
       (λ q. rw (ne-eqb (d .index + 1) (c .bodies) q) (omega arith)))
@@ -108,6 +110,12 @@ AutostartFits c b =
     (getD (c .autostart) b 0 ≤ 1)
     × (getD (c .kind) b 0 ≡ isr → getD (c .autostart) b 0 ≡ 0)
     × (getD (c .kind) b 0 ≡ timeTriggered → getD (c .autostart) b 0 ≡ 0)
+
+abbrev pub DeadlineFits : Config → ℕ → Type 0
+DeadlineFits c b =
+    (deadlineOf c b ≤ 65535)
+    × (getD (c .kind) b 0 ≡ isr → deadlineOf c b ≡ 0)
+    × (hasDeadlines c ≡ false → deadlineOf c b ≡ 0)
 
 abbrev pub UsersFit : Config → ℕ → Type 0
 UsersFit c r =
@@ -155,6 +163,7 @@ Fits Bodies c i e = (1 ≤ c .bodies) × (c .bodies ≤ maxBodies)
 Fits Kind c i e = KindFits c i
 Fits Priority c i e = PriorityFits c i
 Fits Autostart c i e = AutostartFits c i
+Fits Deadline c i e = DeadlineFits c i
 Fits Resources c i e = c .resources ≤ maxResources
 Fits Users c i e = UsersFit c i
 Fits Tables c i e = c .tables ≤ maxTables
@@ -182,6 +191,24 @@ most-autostart k a h z y =
     (λ u. rw (eq-eqb k timeTriggered u) (let n = y u in omega arith))
     (λ u. rw (ne-eqb k timeTriggered u) h)))
 
+deadline-most : (c : Config) (k v : ℕ) → v ≤ mostDeadline c k
+    → (v ≤ 65535) × (k ≡ isr → v ≡ 0) × (hasDeadlines c ≡ false → v ≡ 0)
+deadline-most c k v =
+    by-test (hasDeadlines c)
+    (λ t. rw t (by-eq k isr
+    (λ q. rw (eq-eqb k isr q) (λ h. (omega arith, λ _. omega arith, λ _. omega arith)))
+    (λ q. rw (ne-eqb k isr q) (λ h. (h, λ e. absurd (q e), λ e. absurd (true≢false e))))))
+    (λ t. rw t (λ h. (omega arith, λ _. omega arith, λ _. omega arith)))
+
+most-deadline : (c : Config) (k v : ℕ) → v ≤ 65535 → (k ≡ isr → v ≡ 0) → (hasDeadlines c ≡ false → v ≡ 0)
+    → v ≤ mostDeadline c k
+most-deadline c k v h z y =
+    by-test (hasDeadlines c)
+    (λ t. rw t (by-eq k isr
+    (λ q. rw (eq-eqb k isr q) (let n = z q in omega arith))
+    (λ q. rw (ne-eqb k isr q) h)))
+    (λ t. rw t (let n = y t in omega arith))
+
 -- the draft's tests of what came before it, as tests of c
 module _ (c : Config) (s : Shaped c) (d : Draft) where
   -- a field of the draft's own row
@@ -191,6 +218,12 @@ module _ (c : Config) (s : Shaped c) (d : Draft) where
 
   kind-same : Extends c Autostart d → getD (d .config .kind) (d .index) 0 ≡ getD (c .kind) (d .index) 0
   kind-same x = field-same maxBodies (c .kind) (d .config .kind) (s .kinds) (ap (λ (y : Config). y .kind) x)
+
+  most-same : Extends c Deadline d
+      → mostDeadline (d .config) (getD (d .config .kind) (d .index) 0) ≡ mostDeadline c (getD (c .kind) (d .index) 0)
+  most-same x =
+      rw (field-same maxBodies (c .kind) (d .config .kind) (s .kinds) (ap (λ (y : Config). y .kind) x))
+      (rw (ap (λ (y : Config). y .version) x))
 
   period-same : Extends c Offset d → getD (d .config .period) (d .index) 0 ≡ getD (c .period) (d .index) 0
   period-same x = field-same maxTables (c .period) (d .config .period) (s .periods) (ap (λ (y : Config). y .period) x)
@@ -306,6 +339,8 @@ module _ (c : Config) (s : Shaped c) (d : Draft) where
           among-none (priorityOf c (d .index)) (d .index) (d .config .priority) (priority-long x (omega arith)) (h .2)
   fits Autostart x p h =
       autostart-most (getD (c .kind) (d .index) 0) (getD (c .autostart) (d .index) 0) (rw (kind-same x) at h)
+  fits Deadline x p h =
+      deadline-most c (getD (c .kind) (d .index) 0) (deadlineOf c (d .index)) (rw (most-same x) at h)
   fits Resources x p h = h
   fits Users x p h = (
     h .0,
@@ -340,6 +375,9 @@ module _ (c : Config) (s : Shaped c) (d : Draft) where
   fits-back Autostart x p h =
       rw (kind-same x)
       (most-autostart (getD (c .kind) (d .index) 0) (getD (c .autostart) (d .index) 0) (h .0) (h .1) (h .2))
+  fits-back Deadline x p h =
+      rw (most-same x)
+      (most-deadline c (getD (c .kind) (d .index) 0) (deadlineOf c (d .index)) (h .0) (h .1) (h .2))
   fits-back Resources x p h = h
   fits-back Users x p h = (
     h .0,
@@ -413,6 +451,8 @@ module _ (c : Config) (a : Accepted c) where
   )
   accepted-fits Autostart d p =
       (a .autostart-known (d .index) (p .1), a .autostart-task (d .index) (p .1), a .autostart-osek (d .index) (p .1))
+  accepted-fits Deadline d p =
+      (a .deadline-high (d .index) (p .1), a .deadline-task (d .index) (p .1), a .deadline-version (d .index) (p .1))
   accepted-fits Resources d p = a .few-resources
   accepted-fits Users d p =
       (a .some-user (d .index) (p .1), a .users-exist (d .index) (p .1), λ b. a .users-osek (d .index) b (p .1))

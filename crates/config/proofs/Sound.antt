@@ -15,7 +15,7 @@ use Rattle.number.proofs.Cases.{by-test, by-lt, by-eq}
 use Rattle.config.specs.declared.Config.{Config}
 use Rattle.config.specs.declared.Draft.{Draft}
 use Rattle.config.specs.declared.Field.{Field}
-use Rattle.config.specs.declared.Field.the-variants.{Version, Bodies, Kind, Priority, Autostart, Resources, Users, Tables, Period, Entries, Offset, Task, End}
+use Rattle.config.specs.declared.Field.the-variants.{Version, Bodies, Kind, Priority, Autostart, Deadline, Resources, Users, Tables, Period, Entries, Offset, Task, End}
 use Rattle.config.specs.Meaning.{isTask, firstOf, timedEntry}
 use Rattle.config.specs.Value.{newestVersion, maxBodies, maxResources, maxTables, maxEntries}
 use Rattle.config.specs.Draft.{rises, put, putAt, asked, askedAt, ended, start}
@@ -25,7 +25,7 @@ use Rattle.config.proofs.Ranges.{InRange, in-range, no-fault}
 use Rattle.config.proofs.Walk.{InOrder, Asks, last, fault-end, fault-step}
 use Rattle.config.proofs.Extends.{Extends, onward, start-extends, extends-put}
 use Rattle.config.proofs.Tables.{firstOf-step, firstOf-zero, firstOf-rises, one-table}
-use Rattle.config.proofs.Rows.{Place, place-put, Fits, KindFits, PriorityFits, AutostartFits, UsersFit, PeriodFits, EntriesFit, OffsetFits, TaskFits, risesAt, sharesAt, mixesAt, FirstTimed, fits, fits-back, accepted-fits}
+use Rattle.config.proofs.Rows.{Place, place-put, Fits, KindFits, PriorityFits, AutostartFits, DeadlineFits, UsersFit, PeriodFits, EntriesFit, OffsetFits, TaskFits, risesAt, sharesAt, mixesAt, FirstTimed, fits, fits-back, accepted-fits}
 use Rattle.config.proofs.Timed as Timed
 
 -- P of each number below n
@@ -42,6 +42,7 @@ record BodyFits (c : Config) (b : ℕ) : Type 0 where
   kind : KindFits c b
   priority : PriorityFits c b
   autostart : AutostartFits c b
+  deadline : DeadlineFits c b
 
 record TableFits (c : Config) (t : ℕ) : Type 0 where
   period : PeriodFits c t
@@ -82,6 +83,7 @@ SoFar Bodies c i e = (1 ≤ c .version) × (c .version ≤ newestVersion)
 SoFar Kind c i e = BodiesFit c i
 SoFar Priority c i e = BodiesFit c i × KindFits c i
 SoFar Autostart c i e = BodiesFit c i × KindFits c i × PriorityFits c i
+SoFar Deadline c i e = BodiesFit c i × KindFits c i × PriorityFits c i × AutostartFits c i
 SoFar Resources c i e = BodiesFit c (c .bodies)
 SoFar Users c i e = ResourcesFit c i
 SoFar Tables c i e = ResourcesFit c (c .resources)
@@ -142,8 +144,10 @@ module _ (c : Config) (d : Draft) where
       }
   so-far-put Kind t x p h s = (s, h)
   so-far-put Priority t x p h s = (s .0, s .1, h)
-  so-far-put Autostart t x p h s = rw (ap (λ (y : Config). y .bodies) x)
-      (let n = one-body c (d .index) (s .0) (record { kind = s .1; priority = s .2; autostart = h }) in
+  so-far-put Autostart t x p h s = (s .0, s .1, s .2, h)
+  so-far-put Deadline t x p h s = rw (ap (λ (y : Config). y .bodies) x)
+      (let n =
+      one-body c (d .index) (s .0) (record { kind = s .1; priority = s .2; autostart = s .3; deadline = h }) in
       by-eq (d .index + 1) (c .bodies)
       (λ q. rw (eq-eqb (d .index + 1) (c .bodies) q) (rw q at n))
       (λ q. rw (ne-eqb (d .index + 1) (c .bodies) q) n))
@@ -198,6 +202,9 @@ at-end c e p s =
       autostart-known = λ b q. bodies b q .autostart .0;
       autostart-task = λ b q. bodies b q .autostart .1;
       autostart-osek = λ b q. bodies b q .autostart .2;
+      deadline-high = λ b q. bodies b q .deadline .0;
+      deadline-task = λ b q. bodies b q .deadline .1;
+      deadline-version = λ b q. bodies b q .deadline .2;
       few-resources = s .resources .few;
       some-user = λ r q. s .resources .each r q .0;
       users-exist = λ r q. s .resources .each r q .1;
@@ -279,6 +286,7 @@ only-end Bodies t = absurd (true≢false (sym t))
 only-end Kind t = absurd (true≢false (sym t))
 only-end Priority t = absurd (true≢false (sym t))
 only-end Autostart t = absurd (true≢false (sym t))
+only-end Deadline t = absurd (true≢false (sym t))
 only-end Resources t = absurd (true≢false (sym t))
 only-end Users t = absurd (true≢false (sym t))
 only-end Tables t = absurd (true≢false (sym t))

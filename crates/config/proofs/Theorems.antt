@@ -1,7 +1,7 @@
 -- What the crate shows beyond its contracts. Each law stands here in full, over specs/ alone;
 -- the modules it cites prove it.
 --
--- In order: what every reading satisfies, where a number can't be read, the two versions, and every accepted value; its entries, tables and bodies of kind 3; a
+-- In order: what every reading satisfies, where a number can't be read, versions 1 and 2, and every accepted value; its entries, tables and bodies of kind 3; a
 -- resource's ceiling and its users; both round trips; which values the writer accepts; counts that are too great; what
 -- stands past the counts; that the fuel of the definitions is enough.
 use Prim.Native.Nat.{ℕ, zero, suc, _+_, _≤_, _<_}
@@ -21,9 +21,9 @@ use Rattle.config.specs.Refusal.{badCount, tooLong, sharedOffset, mixedT
 use Rattle.config.specs.Value.{maxBodies, maxResources, noConfig, withResources}
 use Rattle.config.specs.Meaning.{isr, lastKind, isTimed, isUser, priorityOf, ceiling, firstOf, timedEntry, smallestOffset, executionLevel, triggerLevel}
 use Rattle.config.specs.declared.Draft.{Draft}
-use Rattle.config.specs.Draft.{ended, start}
-use Rattle.config.specs.Reader.{accepted, refused, inSecond, readFrom, readConfig}
-use Rattle.config.specs.Writer.{maxNumbers, faultFrom, firstFault, bytesFrom, configBytes, writeConfig, wroteConfig}
+use Rattle.config.specs.Draft.{ended, silent, start}
+use Rattle.config.specs.Reader.{accepted, refused, inSecond, readFrom, maxNumbers, readConfig}
+use Rattle.config.specs.Writer.{faultFrom, firstFault, bytesFrom, configBytes, writeConfig, wroteConfig}
 use Rattle.config.specs.Accepted.{Shaped, Accepted, trimmed}
 use Rattle.config.proofs.Tables as Tables
 use Rattle.config.proofs.Timed as Timed
@@ -63,7 +63,7 @@ reading bs =
 
 -- A number that can't be read is refused with the number reader's refusal and place (document 02, A2), whichever number
 -- it is and wherever it begins; so the place of every refusal 2 is that of a number at which the number reader says so
-pub unreadable-there : (k : ℕ) (bs : List ℕ) (at : ℕ) (d : Draft) → ended (d .field) ≡ false
+pub unreadable-there : (k : ℕ) (bs : List ℕ) (at : ℕ) (d : Draft) → ended (d .field) ≡ false → silent d ≡ false
     → (readNumber bs at .refusal ≡ none → ⊥)
     → readFrom (suc k) bs at d ≡ refused (readNumber bs at .refusal) (readNumber bs at .place)
 unreadable-there = Reading.unreadable-there
@@ -72,7 +72,7 @@ pub malformed-there : (bs : List ℕ) → readConfig bs .refusal ≡ malformed
     → (at : ℕ) × (readNumber bs at .refusal ≡ malformed) × (readConfig bs .place ≡ readNumber bs at .place)
 malformed-there = Reading.malformed-there
 
--- "Version 1 or 2 at the head of the configuration": what stands after it is read alike
+-- "Version 1 or 2 at the head of the configuration": what stands after it is read alike, and neither has deadlines
 pub versions-read : (bs : List ℕ) → readConfig (2 ∷ bs) ≡ inSecond (readConfig (1 ∷ bs))
 versions-read = Editions.versions-read
 
@@ -184,8 +184,8 @@ pub written-read : (bs : List ℕ) → Bytes bs → readConfig bs .refusal ≡ n
     → (firstFault (readConfig bs .config) ≡ none) × (configBytes (readConfig bs .config) ≡ bs)
 written-read bs b e = (RoundTrip.read-faultless bs e, RoundTrip.written-read bs e b)
 
--- at most 260 numbers of "1 to 5 groups"
-pub length-configBytes : (c : Config) → length (configBytes c) ≤ 1300
+-- at most 292 numbers of "1 to 5 groups"
+pub length-configBytes : (c : Config) → length (configBytes c) ≤ 1460
 length-configBytes = RoundTrip.few-bytes
 
 -- the bytes of a value without a fault are bytes
@@ -211,12 +211,11 @@ pub past-ignored : (b c : Config) → Shaped b → Shaped c → trimmed b ≡ tr
     → (writeConfig b n ≡ writeConfig c n) × (wroteConfig b d ≡ wroteConfig c d)
 past-ignored b c sb sc e n d = (Past.same-answer b c sb sc e n, Past.same-output b c sb sc e d)
 
--- as many numbers as there are bytes are enough (specs/Reader.antt): more fuel reads the same
-pub readFrom-enough : (bs : List ℕ) (k : ℕ) → length bs ≤ k → readFrom k bs 0 start ≡ readFrom (length bs) bs 0 start
+-- no configuration has more numbers than `maxNumbers` (specs/Reader.antt): more fuel reads the same, finds the same
+-- fault and, where there is none, writes the same bytes
+pub readFrom-enough : (bs : List ℕ) (k : ℕ) → maxNumbers ≤ k → readFrom k bs 0 start ≡ readFrom maxNumbers bs 0 start
 readFrom-enough = Fuel.readFrom-enough
 
--- no configuration has more numbers than `maxNumbers` (specs/Writer.antt): more fuel finds the same fault and, where
--- there is none, writes the same bytes
 pub faultFrom-enough : (c : Config) (k : ℕ) → maxNumbers ≤ k → faultFrom k c start ≡ firstFault c
 faultFrom-enough = Fuel.faultFrom-enough
 

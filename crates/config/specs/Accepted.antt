@@ -6,7 +6,7 @@ use mathlib.Core.Bool.{true, false}
 use lib.ListN.{length, getD, take, replicate}
 use Rattle.config.specs.declared.Config.{Config}
 use Rattle.config.specs.Value.{newestVersion, maxPriority, maxBodies, maxResources, maxTables, maxEntries}
-use Rattle.config.specs.Meaning.{isr, timeTriggered, lastKind, isTask, isTimed, isUser, firstOf, timedEntry, priorityOf}
+use Rattle.config.specs.Meaning.{isr, timeTriggered, lastKind, isTask, isTimed, isUser, firstOf, timedEntry, priorityOf, hasDeadlines, deadlineOf}
 use Rattle.config.specs.Draft.{rises}
 
 -- the arrays have the lengths of the type's own
@@ -14,6 +14,7 @@ pub record Shaped (c : Config) : Type 0 where
   pub kinds : length (c .kind) ≡ maxBodies
   pub priorities : length (c .priority) ≡ maxBodies
   pub autostarts : length (c .autostart) ≡ maxBodies
+  pub deadlines : length (c .deadline) ≡ maxBodies
   pub masks : length (c .users) ≡ maxResources
   pub periods : length (c .period) ≡ maxTables
   pub counts : length (c .entries) ≡ maxTables
@@ -33,6 +34,9 @@ pub record Accepted (c : Config) : Type 0 where
   pub autostart-known : (b : ℕ) → b < c .bodies → getD (c .autostart) b 0 ≤ 1
   pub autostart-task : (b : ℕ) → b < c .bodies → getD (c .kind) b 0 ≡ isr → getD (c .autostart) b 0 ≡ 0
   pub autostart-osek : (b : ℕ) → b < c .bodies → getD (c .kind) b 0 ≡ timeTriggered → getD (c .autostart) b 0 ≡ 0
+  pub deadline-high : (b : ℕ) → b < c .bodies → deadlineOf c b ≤ 65535
+  pub deadline-task : (b : ℕ) → b < c .bodies → getD (c .kind) b 0 ≡ isr → deadlineOf c b ≡ 0
+  pub deadline-version : (b : ℕ) → b < c .bodies → hasDeadlines c ≡ false → deadlineOf c b ≡ 0
   pub few-resources : c .resources ≤ maxResources
   pub some-user : (r : ℕ) → r < c .resources → 1 ≤ getD (c .users) r 0
   pub users-exist : (r : ℕ) → r < c .resources → getD (c .users) r 0 < 2 ^ c .bodies
@@ -71,6 +75,7 @@ trimmed c =
       kind = padded maxBodies (c .bodies) (c .kind);
       priority = padded maxBodies (c .bodies) (c .priority);
       autostart = padded maxBodies (c .bodies) (c .autostart);
+      deadline = padded maxBodies (c .bodies) (c .deadline);
       resources = c .resources;
       users = padded maxResources (c .resources) (c .users);
       tables = c .tables;

@@ -3,6 +3,7 @@
 --   fault d v   the refusal of the number v where d is, 0 where it is in order
 --   put d v     d with v in its place, at the number that follows
 --   asked c d   the number of the value c that stands where d is
+--   silent d    the number stands in no byte
 --
 -- The reader puts the numbers that it reads, the writer those of the value that it writes, so both refuse alike.
 use Prim.Native.Nat.{ℕ, _+_, _-_, _/_, _%_, _^_, _≤_, _<_}
@@ -14,11 +15,11 @@ use Rattle.number.specs.Refusal.{none}
 use Rattle.config.specs.declared.Config.{Config}
 use Rattle.config.specs.declared.Draft.{Draft}
 use Rattle.config.specs.declared.Field.{Field}
-use Rattle.config.specs.declared.Field.the-variants.{Version, Bodies, Kind, Priority, Autostart, Resources, Users, Tables, Period, Entries, Offset, Task, End}
+use Rattle.config.specs.declared.Field.the-variants.{Version, Bodies, Kind, Priority, Autostart, Deadline, Resources, Users, Tables, Period, Entries, Offset, Task, End}
 use Rattle.config.specs.Refusal.{badVersion, badCount, badField, usedPriority, unsorted, tooManyEntries, sharedOffset, mixedTable}
-use Rattle.config.specs.Meaning.{isr, timeTriggered, lastKind, isTask, isTimed}
+use Rattle.config.specs.Meaning.{isr, timeTriggered, lastKind, isTask, isTimed, hasDeadlines}
 use Rattle.config.specs.Among.{among}
-use Rattle.config.specs.Value.{newestVersion, maxPriority, maxBodies, maxResources, maxTables, maxEntries, noConfig, withVersion, withBodies, withKind, withPriority, withAutostart, withResources, withUsers, withTables, withPeriod, withEntries, withOffset, withTask}
+use Rattle.config.specs.Value.{newestVersion, maxPriority, maxBodies, maxResources, maxTables, maxEntries, noConfig, withVersion, withBodies, withKind, withPriority, withAutostart, withDeadline, withResources, withUsers, withTables, withPeriod, withEntries, withOffset, withTask}
 
 -- the refusal r, unless the test holds
 abbrev pub unless : Bool → ℕ → ℕ
@@ -88,6 +89,10 @@ startable kind = not (eqb kind isr || eqb kind timeTriggered)
 abbrev pub mostAutostart : ℕ → ℕ
 mostAutostart kind = cond (startable kind) 1 0
 
+-- "5 for a deadline above 65,535, on an ISR or, not 0, in a version below 3"
+abbrev pub mostDeadline : Config → ℕ → ℕ
+mostDeadline c kind = cond (hasDeadlines c && not (eqb kind isr)) 65535 0
+
 -- the mask has a bit of kind 3, where the list has the bodies' kinds, that of the lowest bit first
 unfoldable pub timedIn : ℕ → List ℕ → Bool
 timedIn m [] = false
@@ -105,6 +110,7 @@ faultAt Priority d v =
     andThen (outside 1 maxPriority v badField)
     (unless (not (among v (take (d .index) (d .config .priority)))) usedPriority)
 faultAt Autostart d v = outside 0 (mostAutostart (getD (d .config .kind) (d .index) 0)) v badField
+faultAt Deadline d v = outside 0 (mostDeadline (d .config) (getD (d .config .kind) (d .index) 0)) v badField
 faultAt Resources d v = outside 0 maxResources v badCount
 faultAt Users d v = andThen (outside 1 (2 ^ d .config .bodies - 1) v badField)
     (unless (not (timedUser (d .config) v)) badField)
@@ -137,9 +143,9 @@ putAt Version d v = onTo d (withVersion (d .config) v) Bodies
 putAt Bodies d v = row d (withBodies (d .config) v) Kind 0
 putAt Kind d v = onTo d (withKind (d .config) (d .index) v) Priority
 putAt Priority d v = onTo d (withPriority (d .config) (d .index) v) Autostart
-putAt Autostart d v =
-    row d (withAutostart (d .config) (d .index) v) (orOn (d .index + 1) (d .config .bodies) Kind Resources)
-    (d .index + 1)
+putAt Autostart d v = onTo d (withAutostart (d .config) (d .index) v) Deadline
+putAt Deadline d v =
+    row d (withDeadline (d .config) (d .index) v) (orOn (d .index + 1) (d .config .bodies) Kind Resources) (d .index + 1)
 putAt Resources d v = row d (withResources (d .config) v) (orOn 0 v Users Tables) 0
 putAt Users d v =
     row d (withUsers (d .config) (d .index) v) (orOn (d .index + 1) (d .config .resources) Users Tables) (d .index + 1)
@@ -173,6 +179,7 @@ askedAt Bodies c d = c .bodies
 askedAt Kind c d = getD (c .kind) (d .index) 0
 askedAt Priority c d = getD (c .priority) (d .index) 0
 askedAt Autostart c d = getD (c .autostart) (d .index) 0
+askedAt Deadline c d = getD (c .deadline) (d .index) 0
 askedAt Resources c d = c .resources
 askedAt Users c d = getD (c .users) (d .index) 0
 askedAt Tables c d = c .tables
@@ -192,6 +199,7 @@ ended Bodies = false
 ended Kind = false
 ended Priority = false
 ended Autostart = false
+ended Deadline = false
 ended Resources = false
 ended Users = false
 ended Tables = false
@@ -200,6 +208,26 @@ ended Entries = false
 ended Offset = false
 ended Task = false
 ended End = true
+
+-- the number stands in no byte and is 0: a deadline, where the version has none
+abbrev pub silentAt : Field → Config → Bool
+silentAt Version c = false
+silentAt Bodies c = false
+silentAt Kind c = false
+silentAt Priority c = false
+silentAt Autostart c = false
+silentAt Deadline c = not (hasDeadlines c)
+silentAt Resources c = false
+silentAt Users c = false
+silentAt Tables c = false
+silentAt Period c = false
+silentAt Entries c = false
+silentAt Offset c = false
+silentAt Task c = false
+silentAt End c = false
+
+abbrev pub silent : Draft → Bool
+silent d = silentAt (d .field) (d .config)
 
 -- before the first number
 abbrev pub start : Draft
@@ -212,6 +240,7 @@ Inside Bodies d = Unit {0}
 Inside Kind d = d .index < d .config .bodies
 Inside Priority d = d .index < d .config .bodies
 Inside Autostart d = d .index < d .config .bodies
+Inside Deadline d = d .index < d .config .bodies
 Inside Resources d = Unit {0}
 Inside Users d = d .index < d .config .resources
 Inside Tables d = Unit {0}

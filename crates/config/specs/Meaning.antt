@@ -1,4 +1,4 @@
--- What the rules ask of a configuration: whether it counts lost lines, which bodies are tasks, extended or
+-- What the rules ask of a configuration: whether it counts lost lines and has deadlines, which bodies are tasks, extended or
 -- time-triggered ones, and ISRs, a resource's users and its ceiling, a table's entries.
 -- A kind is a number in the bytes alone: whatever else needs it asks one of these questions.
 use Prim.Native.Nat.{ℕ, zero, suc, _+_, _/_, _%_, _^_, max}
@@ -12,6 +12,10 @@ use Rattle.config.specs.declared.Config.{Config}
 -- the version is the edition of the procedure
 abbrev pub countsLines : Config → Bool
 countsLines c = leb 2 (c .version)
+
+-- "a number after each body's autostart, 0 for none, in version 3"
+abbrev pub hasDeadlines : Config → Bool
+hasDeadlines c = leb 3 (c .version)
 
 -- "kind (0 task, 1 ISR)"
 abbrev pub isr : ℕ
@@ -60,6 +64,10 @@ isOsekTask c b = isTask c b && not (isTimed c b)
 -- a body's own priority
 abbrev pub priorityOf : Config → ℕ → ℕ
 priorityOf c b = getD (c .priority) b 0
+
+-- how many ticks a body may take from its becoming ready to its end, 0 for any number
+abbrev pub deadlineOf : Config → ℕ → ℕ
+deadlineOf c b = getD (c .deadline) b 0
 
 -- b is a declared user of the resource r: "its users as a mask", in which the bit of body b is worth 2 ^ b
 abbrev pub isUser : Config → ℕ → ℕ → Bool

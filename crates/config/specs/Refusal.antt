@@ -1,7 +1,7 @@
 -- The refusals of a configuration's numbers. Those of `number`, 1, 2 and 30, are given too.
 use Prim.Native.Nat.{ℕ}
 
--- "for versions other than 1 and 2"
+-- "3 for a version 0 or above 3"
 abbrev pub badVersion : ℕ
 badVersion = 3
 
@@ -10,7 +10,8 @@ abbrev pub badCount : ℕ
 badCount = 4
 
 -- "another field outside its range, an entry's task that is an ISR too";
--- "5 for its autostart or a mask bit for it", kind 3
+-- "5 for its autostart or a mask bit for it", kind 3;
+-- "5 for a deadline above 65,535, on an ISR or, not 0, in a version below 3 (writer)"
 abbrev pub badField : ℕ
 badField = 5
 

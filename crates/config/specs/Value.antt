@@ -4,9 +4,9 @@ use mathlib.Core.List.{List}
 use lib.ListN.{set, replicate}
 use Rattle.config.specs.declared.Config.{Config}
 
--- "Version 1 or 2 at the head of the configuration"
+-- "Version 1 or 2 at the head of the configuration", and from document 02, A11, version 3
 abbrev pub newestVersion : ℕ
-newestVersion = 2
+newestVersion = 3
 
 -- "There are 1 to 32" bodies
 abbrev pub maxBodies : ℕ
@@ -37,6 +37,7 @@ noConfig =
       kind = replicate maxBodies 0;
       priority = replicate maxBodies 0;
       autostart = replicate maxBodies 0;
+      deadline = replicate maxBodies 0;
       resources = 0;
       users = replicate maxResources 0;
       tables = 0;
@@ -55,6 +56,7 @@ withCounts c v b r t =
       kind = c .kind;
       priority = c .priority;
       autostart = c .autostart;
+      deadline = c .deadline;
       resources = r;
       users = c .users;
       tables = t;
@@ -64,15 +66,16 @@ withCounts c v b r t =
       task = c .task;
     }
 
--- c with other lists of its bodies: kinds, priorities, autostarts
-abbrev pub withBodyLists : Config → List ℕ → List ℕ → List ℕ → Config
-withBodyLists c ks ps ss =
+-- c with other lists of its bodies: kinds, priorities, autostarts, deadlines
+abbrev pub withBodyLists : Config → List ℕ → List ℕ → List ℕ → List ℕ → Config
+withBodyLists c ks ps ss ds =
     record {
       version = c .version;
       bodies = c .bodies;
       kind = ks;
       priority = ps;
       autostart = ss;
+      deadline = ds;
       resources = c .resources;
       users = c .users;
       tables = c .tables;
@@ -91,6 +94,7 @@ withTableLists c ps ns os ts =
       kind = c .kind;
       priority = c .priority;
       autostart = c .autostart;
+      deadline = c .deadline;
       resources = c .resources;
       users = c .users;
       tables = c .tables;
@@ -108,13 +112,16 @@ abbrev pub withBodies : Config → ℕ → Config
 withBodies c v = withCounts c (c .version) v (c .resources) (c .tables)
 
 abbrev pub withKind : Config → ℕ → ℕ → Config
-withKind c i v = withBodyLists c (set (c .kind) i v) (c .priority) (c .autostart)
+withKind c i v = withBodyLists c (set (c .kind) i v) (c .priority) (c .autostart) (c .deadline)
 
 abbrev pub withPriority : Config → ℕ → ℕ → Config
-withPriority c i v = withBodyLists c (c .kind) (set (c .priority) i v) (c .autostart)
+withPriority c i v = withBodyLists c (c .kind) (set (c .priority) i v) (c .autostart) (c .deadline)
 
 abbrev pub withAutostart : Config → ℕ → ℕ → Config
-withAutostart c i v = withBodyLists c (c .kind) (c .priority) (set (c .autostart) i v)
+withAutostart c i v = withBodyLists c (c .kind) (c .priority) (set (c .autostart) i v) (c .deadline)
+
+abbrev pub withDeadline : Config → ℕ → ℕ → Config
+withDeadline c i v = withBodyLists c (c .kind) (c .priority) (c .autostart) (set (c .deadline) i v)
 
 abbrev pub withResources : Config → ℕ → Config
 withResources c v = withCounts c (c .version) (c .bodies) v (c .tables)
@@ -127,6 +134,7 @@ withUsers c i v =
       kind = c .kind;
       priority = c .priority;
       autostart = c .autostart;
+      deadline = c .deadline;
       resources = c .resources;
       users = set (c .users) i v;
       tables = c .tables;

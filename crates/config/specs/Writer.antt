@@ -14,12 +14,12 @@ use Rattle.number.specs.Output.{unwritten, writing, written}
 use Rattle.number.specs.declared.Written.{Written}
 use Rattle.config.specs.declared.Config.{Config}
 use Rattle.config.specs.declared.Draft.{Draft}
-use Rattle.config.specs.Draft.{fault, put, asked, ended, start}
+use Rattle.config.specs.Draft.{fault, put, asked, ended, silent, start}
+use Rattle.config.specs.Reader.{maxNumbers}
 
--- the most numbers that a configuration has: 2, 3 for each of 32 bodies, 1 and 16 for resources,
--- 1, 2 for each of 8 tables and 2 for each of 64 entries
-abbrev pub maxNumbers : ℕ
-maxNumbers = 260
+-- the bytes of the number v where d is: none, where it stands in no byte
+unfoldable pub bytesAt : Draft → ℕ → List ℕ
+bytesAt d v = cond (silent d) [] (numberBytes v)
 
 unfoldable pub faultFrom : ℕ → Config → Draft → ℕ
 faultFrom zero c d = none
@@ -34,7 +34,7 @@ firstFault c = faultFrom maxNumbers c start
 unfoldable pub bytesFrom : ℕ → Config → Draft → List ℕ
 bytesFrom zero c d = []
 bytesFrom (suc k) c d =
-    let rest = numberBytes (asked c d) ++ bytesFrom k c (put d (asked c d)) in
+    let rest = bytesAt d (asked c d) ++ bytesFrom k c (put d (asked c d)) in
     cond (ended (d .field)) [] rest
 
 abbrev pub configBytes : Config → List ℕ

@@ -1,7 +1,7 @@
 // A configuration as a value, and as far as its numbers have come; its kinds and its refusals (error codes). What its
 // bytes are, read and written, is defined in specs/; no code runs here.
 
-// The version is neither 1 nor 2.
+// The version is not 1 to 3.
 pub const BAD_VERSION: u8 = 3;
 // A count is outside its range.
 pub const BAD_COUNT: u8 = 4;
@@ -34,6 +34,7 @@ pub enum Field {
     Kind,
     Priority,
     Autostart,
+    Deadline,
     Resources,
     Users,
     Tables,
@@ -44,9 +45,9 @@ pub enum Field {
     End,
 }
 
-// A configuration. A body (a task or an ISR, OSEK's control flow) has an element in `kind`,
-// `priority` and `autostart`; a resource one in `users`, a mask of bodies; a table (schedule table)
-// one in `period` and `entries`, its number of entries (expiry points). The entries of all tables
+// A configuration. A body (a task or an ISR, OSEK's control flow) has an element in `kind`, `priority`, `autostart` and
+// `deadline`, ticks from its becoming ready or 0 for none; a resource one in `users`, a mask of bodies; a table
+// (schedule table) one in `period` and `entries`, its number of entries (expiry points). The entries of all tables
 // stand one after the other in `offset` and `task`.
 pub struct Config {
     pub version: u8,
@@ -54,6 +55,7 @@ pub struct Config {
     pub kind: [u8; 32],
     pub priority: [u8; 32],
     pub autostart: [u8; 32],
+    pub deadline: [u16; 32],
     pub resources: u8,
     pub users: [u32; 16],
     pub tables: u8,
