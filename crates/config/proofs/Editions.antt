@@ -134,21 +134,21 @@ put-version Offset d v e = refl
 put-version Task d v e = refl
 put-version End d v e = refl
 
-silent-second : (f : Field) (c : Config) → c .version ≡ 1 → silentAt f (withVersion c 2) ≡ silentAt f c
-silent-second Version c e = refl
-silent-second Bodies c e = refl
-silent-second Kind c e = refl
-silent-second Priority c e = refl
-silent-second Autostart c e = refl
-silent-second Deadline c e = rw e refl
-silent-second Resources c e = refl
-silent-second Users c e = refl
-silent-second Tables c e = refl
-silent-second Period c e = refl
-silent-second Entries c e = refl
-silent-second Offset c e = refl
-silent-second Task c e = refl
-silent-second End c e = refl
+silent-second : (f : Field) (version : ℕ) → version ≡ 1 → silentAt f 2 ≡ silentAt f version
+silent-second Version v e = refl
+silent-second Bodies v e = refl
+silent-second Kind v e = refl
+silent-second Priority v e = refl
+silent-second Autostart v e = refl
+silent-second Deadline v e = rw e refl
+silent-second Resources v e = refl
+silent-second Users v e = refl
+silent-second Tables v e = refl
+silent-second Period v e = refl
+silent-second Entries v e = refl
+silent-second Offset v e = refl
+silent-second Task v e = refl
+silent-second End v e = refl
 
 fault-same : (d : Draft) (n : NumberRead) → d .config .version ≡ 1 → numberFault (second d) n ≡ numberFault d n
 fault-same d n e = ap (λ x. cond (eqb (n .refusal) none) x (n .refusal)) (fault-second (d .field) d (n .value) e)
@@ -163,7 +163,7 @@ module _ (bs : List ℕ) where
       → numberAt (second d) (2 ∷ bs) at ≡ numberAt d (1 ∷ bs) at
   unfolding numberAt readNumber
   number-same zero d h v = absurd (omega arith)
-  number-same (suc at) d h v = rw (silent-second (d .field) (d .config) v) refl
+  number-same (suc at) d h v = rw (silent-second (d .field) (d .config .version) v) refl
 
   -- and leads on
   number-onward : (at : ℕ) (d : Draft) → 1 ≤ at → numberAt d (1 ∷ bs) at .refusal ≡ none

@@ -12,7 +12,6 @@ use borrow.Author.Tests.{eq-eqb, ne-eqb}
 use Rattle.number.specs.Refusal.{none}
 use Rattle.number.specs.Number.{numberBound}
 use Rattle.number.proofs.Cases.{by-eq, cond-either}
-use Rattle.config.specs.declared.Config.{Config}
 use Rattle.config.specs.declared.Draft.{Draft}
 use Rattle.config.specs.declared.Field.{Field}
 use Rattle.config.specs.declared.Field.the-variants.{Version, Bodies, Kind, Priority, Autostart, Deadline, Resources, Users, Tables, Period, Entries, Offset, Task, End}
@@ -104,9 +103,9 @@ start-paced t = rw (getD-zeros maxTables t) (omega arith)
 pub most-le : (k : ℕ) → mostAutostart k ≤ 1
 most-le k = cond-either (λ n. n ≤ 1) (startable k) 1 0 (omega arith) (omega arith)
 
-pub most-deadline-le : (c : Config) (k : ℕ) → mostDeadline c k ≤ 65535
-most-deadline-le c k =
-    cond-either (λ n. n ≤ 65535) (hasDeadlines c && not (eqb k isr)) 65535 0 (omega arith) (omega arith)
+pub most-deadline-le : (version k : ℕ) → mostDeadline version k ≤ 65535
+most-deadline-le version k =
+    cond-either (λ n. n ≤ 65535) (hasDeadlines version && not (eqb k isr)) 65535 0 (omega arith) (omega arith)
 
 -- a number in order, put
 module _ (d : Draft) (v : ℕ) where
@@ -180,7 +179,7 @@ module _ (d : Draft) (v : ℕ) where
   small-at Priority e s p h = omega arith
   small-at Autostart e s p h = omega (arith, most-le (getD (d .config .kind) (d .index) 0))
   small-at Deadline e s p h =
-      omega (arith, most-deadline-le (d .config) (getD (d .config .kind) (d .index) 0))
+      omega (arith, most-deadline-le (d .config .version) (getD (d .config .kind) (d .index) 0))
   small-at Resources e s p h = omega arith
   small-at Users e s p h = let q = pow-mono (s .bodies-le) in omega arith
   small-at Tables e s p h = omega arith

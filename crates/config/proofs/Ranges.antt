@@ -25,7 +25,7 @@ InRange Bodies d v = (1 ≤ v) × (v ≤ maxBodies)
 InRange Kind d v = v ≤ lastKind
 InRange Priority d v = (1 ≤ v) × (v ≤ maxPriority) × (among v (take (d .index) (d .config .priority)) ≡ false)
 InRange Autostart d v = v ≤ mostAutostart (getD (d .config .kind) (d .index) 0)
-InRange Deadline d v = v ≤ mostDeadline (d .config) (getD (d .config .kind) (d .index) 0)
+InRange Deadline d v = v ≤ mostDeadline (d .config .version) (getD (d .config .kind) (d .index) 0)
 InRange Resources d v = v ≤ maxResources
 InRange Users d v = (1 ≤ v) × (v < 2 ^ d .config .bodies) × (timedUser (d .config) v ≡ false)
 InRange Tables d v = v ≤ maxTables
@@ -77,7 +77,7 @@ module _ (d : Draft) (v : ℕ) where
       (r .0, r .1, failed used usedPriority (lit< tt) (h .1))
   in-range Autostart e = not-outside 0 (mostAutostart (getD (d .config .kind) (d .index) 0)) v badField (lit< tt) e .1
   in-range Deadline e =
-      not-outside 0 (mostDeadline (d .config) (getD (d .config .kind) (d .index) 0)) v badField (lit< tt) e .1
+      not-outside 0 (mostDeadline (d .config .version) (getD (d .config .kind) (d .index) 0)) v badField (lit< tt) e .1
   in-range Resources e = not-outside 0 maxResources v badCount (lit< tt) e .1
   in-range Users e =
       let timed = timedUser (d .config) v in
@@ -120,7 +120,7 @@ module _ (d : Draft) (v : ℕ) where
       (ap (λ (t : Bool). unless (not t) usedPriority) (h .2))
   no-fault Autostart h = inside 0 (mostAutostart (getD (d .config .kind) (d .index) 0)) v badField (omega arith) h
   no-fault Deadline h =
-      inside 0 (mostDeadline (d .config) (getD (d .config .kind) (d .index) 0)) v badField (omega arith) h
+      inside 0 (mostDeadline (d .config .version) (getD (d .config .kind) (d .index) 0)) v badField (omega arith) h
   no-fault Resources h = inside 0 maxResources v badCount (omega arith) h
   no-fault Users h =
       passed-andThen

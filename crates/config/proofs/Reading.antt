@@ -66,7 +66,7 @@ module _ (d : Draft) (v : ℕ) where
   fault-tested Autostart =
       outside-tested 0 (mostAutostart (getD (d .config .kind) (d .index) 0)) v badField (lit≤ tt) (lit≤ tt)
   fault-tested Deadline =
-      outside-tested 0 (mostDeadline (d .config) (getD (d .config .kind) (d .index) 0)) v badField (lit≤ tt) (lit≤ tt)
+      outside-tested 0 (mostDeadline (d .config .version) (getD (d .config .kind) (d .index) 0)) v badField (lit≤ tt) (lit≤ tt)
   fault-tested Resources = outside-tested 0 maxResources v badCount (lit≤ tt) (lit≤ tt)
   fault-tested Users =
       andThen-tested

@@ -115,7 +115,7 @@ abbrev pub DeadlineFits : Config → ℕ → Type 0
 DeadlineFits c b =
     (deadlineOf c b ≤ 65535)
     × (getD (c .kind) b 0 ≡ isr → deadlineOf c b ≡ 0)
-    × (hasDeadlines c ≡ false → deadlineOf c b ≡ 0)
+    × (hasDeadlines (c .version) ≡ false → deadlineOf c b ≡ 0)
 
 abbrev pub UsersFit : Config → ℕ → Type 0
 UsersFit c r =
@@ -191,19 +191,19 @@ most-autostart k a h z y =
     (λ u. rw (eq-eqb k timeTriggered u) (let n = y u in omega arith))
     (λ u. rw (ne-eqb k timeTriggered u) h)))
 
-deadline-most : (c : Config) (k v : ℕ) → v ≤ mostDeadline c k
-    → (v ≤ 65535) × (k ≡ isr → v ≡ 0) × (hasDeadlines c ≡ false → v ≡ 0)
-deadline-most c k v =
-    by-test (hasDeadlines c)
+deadline-most : (version k v : ℕ) → v ≤ mostDeadline version k
+    → (v ≤ 65535) × (k ≡ isr → v ≡ 0) × (hasDeadlines version ≡ false → v ≡ 0)
+deadline-most version k v =
+    by-test (hasDeadlines version)
     (λ t. rw t (by-eq k isr
     (λ q. rw (eq-eqb k isr q) (λ h. (omega arith, λ _. omega arith, λ _. omega arith)))
     (λ q. rw (ne-eqb k isr q) (λ h. (h, λ e. absurd (q e), λ e. absurd (true≢false e))))))
     (λ t. rw t (λ h. (omega arith, λ _. omega arith, λ _. omega arith)))
 
-most-deadline : (c : Config) (k v : ℕ) → v ≤ 65535 → (k ≡ isr → v ≡ 0) → (hasDeadlines c ≡ false → v ≡ 0)
-    → v ≤ mostDeadline c k
-most-deadline c k v h z y =
-    by-test (hasDeadlines c)
+most-deadline : (version k v : ℕ) → v ≤ 65535 → (k ≡ isr → v ≡ 0) → (hasDeadlines version ≡ false → v ≡ 0)
+    → v ≤ mostDeadline version k
+most-deadline version k v h z y =
+    by-test (hasDeadlines version)
     (λ t. rw t (by-eq k isr
     (λ q. rw (eq-eqb k isr q) (let n = z q in omega arith))
     (λ q. rw (ne-eqb k isr q) h)))
@@ -220,7 +220,8 @@ module _ (c : Config) (s : Shaped c) (d : Draft) where
   kind-same x = field-same maxBodies (c .kind) (d .config .kind) (s .kinds) (ap (λ (y : Config). y .kind) x)
 
   most-same : Extends c Deadline d
-      → mostDeadline (d .config) (getD (d .config .kind) (d .index) 0) ≡ mostDeadline c (getD (c .kind) (d .index) 0)
+      → mostDeadline (d .config .version) (getD (d .config .kind) (d .index) 0)
+      ≡ mostDeadline (c .version) (getD (c .kind) (d .index) 0)
   most-same x =
       rw (field-same maxBodies (c .kind) (d .config .kind) (s .kinds) (ap (λ (y : Config). y .kind) x))
       (rw (ap (λ (y : Config). y .version) x))
@@ -340,7 +341,7 @@ module _ (c : Config) (s : Shaped c) (d : Draft) where
   fits Autostart x p h =
       autostart-most (getD (c .kind) (d .index) 0) (getD (c .autostart) (d .index) 0) (rw (kind-same x) at h)
   fits Deadline x p h =
-      deadline-most c (getD (c .kind) (d .index) 0) (deadlineOf c (d .index)) (rw (most-same x) at h)
+      deadline-most (c .version) (getD (c .kind) (d .index) 0) (deadlineOf c (d .index)) (rw (most-same x) at h)
   fits Resources x p h = h
   fits Users x p h = (
     h .0,
@@ -377,7 +378,7 @@ module _ (c : Config) (s : Shaped c) (d : Draft) where
       (most-autostart (getD (c .kind) (d .index) 0) (getD (c .autostart) (d .index) 0) (h .0) (h .1) (h .2))
   fits-back Deadline x p h =
       rw (most-same x)
-      (most-deadline c (getD (c .kind) (d .index) 0) (deadlineOf c (d .index)) (h .0) (h .1) (h .2))
+      (most-deadline (c .version) (getD (c .kind) (d .index) 0) (deadlineOf c (d .index)) (h .0) (h .1) (h .2))
   fits-back Resources x p h = h
   fits-back Users x p h = (
     h .0,

@@ -68,14 +68,14 @@ number-fine d r h =
 silent-zero : (d : Draft) (v : ℕ) → silent d ≡ true → fault d v ≡ none → v ≡ 0
 silent-zero d v q e = at-field (d .field) q (in-range d v (d .field) e)
   where
-    at-field : (f : Field) → silentAt f (d .config) ≡ true → InRange f d v → v ≡ 0
+    at-field : (f : Field) → silentAt f (d .config .version) ≡ true → InRange f d v → v ≡ 0
     at-field Version q h = absurd (true≢false (sym q))
     at-field Bodies q h = absurd (true≢false (sym q))
     at-field Kind q h = absurd (true≢false (sym q))
     at-field Priority q h = absurd (true≢false (sym q))
     at-field Autostart q h = absurd (true≢false (sym q))
     at-field Deadline q h =
-        let z : v ≤ 0 = rw (not-true (hasDeadlines (d .config)) q) at h in omega arith
+        let z : v ≤ 0 = rw (not-true (hasDeadlines (d .config .version)) q) at h in omega arith
     at-field Resources q h = absurd (true≢false (sym q))
     at-field Users q h = absurd (true≢false (sym q))
     at-field Tables q h = absurd (true≢false (sym q))

@@ -36,7 +36,7 @@ pub record Accepted (c : Config) : Type 0 where
   pub autostart-osek : (b : ℕ) → b < c .bodies → getD (c .kind) b 0 ≡ timeTriggered → getD (c .autostart) b 0 ≡ 0
   pub deadline-high : (b : ℕ) → b < c .bodies → deadlineOf c b ≤ 65535
   pub deadline-task : (b : ℕ) → b < c .bodies → getD (c .kind) b 0 ≡ isr → deadlineOf c b ≡ 0
-  pub deadline-version : (b : ℕ) → b < c .bodies → hasDeadlines c ≡ false → deadlineOf c b ≡ 0
+  pub deadline-version : (b : ℕ) → b < c .bodies → hasDeadlines (c .version) ≡ false → deadlineOf c b ≡ 0
   pub few-resources : c .resources ≤ maxResources
   pub some-user : (r : ℕ) → r < c .resources → 1 ≤ getD (c .users) r 0
   pub users-exist : (r : ℕ) → r < c .resources → getD (c .users) r 0 < 2 ^ c .bodies

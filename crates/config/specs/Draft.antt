@@ -90,8 +90,8 @@ abbrev pub mostAutostart : ℕ → ℕ
 mostAutostart kind = cond (startable kind) 1 0
 
 -- "5 for a deadline above 65,535, on an ISR or, not 0, in a version below 3"
-abbrev pub mostDeadline : Config → ℕ → ℕ
-mostDeadline c kind = cond (hasDeadlines c && not (eqb kind isr)) 65535 0
+abbrev pub mostDeadline : ℕ → ℕ → ℕ
+mostDeadline version kind = cond (hasDeadlines version && not (eqb kind isr)) 65535 0
 
 -- the mask has a bit of kind 3, where the list has the bodies' kinds, that of the lowest bit first
 unfoldable pub timedIn : ℕ → List ℕ → Bool
@@ -110,7 +110,7 @@ faultAt Priority d v =
     andThen (outside 1 maxPriority v badField)
     (unless (not (among v (take (d .index) (d .config .priority)))) usedPriority)
 faultAt Autostart d v = outside 0 (mostAutostart (getD (d .config .kind) (d .index) 0)) v badField
-faultAt Deadline d v = outside 0 (mostDeadline (d .config) (getD (d .config .kind) (d .index) 0)) v badField
+faultAt Deadline d v = outside 0 (mostDeadline (d .config .version) (getD (d .config .kind) (d .index) 0)) v badField
 faultAt Resources d v = outside 0 maxResources v badCount
 faultAt Users d v = andThen (outside 1 (2 ^ d .config .bodies - 1) v badField)
     (unless (not (timedUser (d .config) v)) badField)
@@ -210,24 +210,24 @@ ended Task = false
 ended End = true
 
 -- the number stands in no byte and is 0: a deadline, where the version has none
-abbrev pub silentAt : Field → Config → Bool
-silentAt Version c = false
-silentAt Bodies c = false
-silentAt Kind c = false
-silentAt Priority c = false
-silentAt Autostart c = false
-silentAt Deadline c = not (hasDeadlines c)
-silentAt Resources c = false
-silentAt Users c = false
-silentAt Tables c = false
-silentAt Period c = false
-silentAt Entries c = false
-silentAt Offset c = false
-silentAt Task c = false
-silentAt End c = false
+abbrev pub silentAt : Field → ℕ → Bool
+silentAt Version version = false
+silentAt Bodies version = false
+silentAt Kind version = false
+silentAt Priority version = false
+silentAt Autostart version = false
+silentAt Deadline version = not (hasDeadlines version)
+silentAt Resources version = false
+silentAt Users version = false
+silentAt Tables version = false
+silentAt Period version = false
+silentAt Entries version = false
+silentAt Offset version = false
+silentAt Task version = false
+silentAt End version = false
 
 abbrev pub silent : Draft → Bool
-silent d = silentAt (d .field) (d .config)
+silent d = silentAt (d .field) (d .config .version)
 
 -- before the first number
 abbrev pub start : Draft

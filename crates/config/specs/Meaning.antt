@@ -13,9 +13,9 @@ use Rattle.config.specs.declared.Config.{Config}
 abbrev pub countsLines : Config → Bool
 countsLines c = leb 2 (c .version)
 
--- "a number after each body's autostart, 0 for none, in version 3"
-abbrev pub hasDeadlines : Config → Bool
-hasDeadlines c = leb 3 (c .version)
+-- "a number after each body's autostart, 0 for none, in version 3": whether a version has deadlines
+abbrev pub hasDeadlines : ℕ → Bool
+hasDeadlines version = leb 3 version
 
 -- "kind (0 task, 1 ISR)"
 abbrev pub isr : ℕ
