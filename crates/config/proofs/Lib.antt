@@ -1,14 +1,14 @@
 -- The laws of `config`. `Theorems` is the file to read and the one that other crates cite; `Refusals` computes document
 -- 01's table; `Tables` has the entries' places for every crate.
 -- The rest is in the order of the proofs: lists and tests, one number, all numbers, the value that they make.
--- `Position` serves the proofs of the code too.
+-- `Ranges`, `Position` and `Walk` serve the proofs of the code too.
 pub mod Theorems
 pub mod Refusals
 pub mod Tables
 mod Padded
 pub mod Ranges
 pub mod Position
-mod Walk
+pub mod Walk
 mod Extends
 mod Rows
 mod Sound

@@ -1,7 +1,7 @@
 -- Where a draft stands: inside its arrays, and at most `left` numbers before the end. A number in order keeps the first
 -- and lowers the second, so that the 292 of `maxNumbers` are enough.
 use Prim.Native.Nat.{ℕ, zero, suc, _+_, _*_, _-_, _≤_, _<_}
-use mathlib.Core.Path.{_≡_}
+use mathlib.Core.Path.{_≡_, refl, ap, _∙_}
 use mathlib.Core.Bool.{false, not, _&&_, true≢false}
 use mathlib.Core.List.{List, [], _∷_}
 use native.Mathlib.Omega.{arith}
@@ -72,6 +72,26 @@ leftAt End d = 0
 
 abbrev pub left : Draft → ℕ
 left d = leftAt (d .field) d
+
+-- it depends on the position alone
+left-at : (f : Field) (d e : Draft) → d .index ≡ e .index → d .entry ≡ e .entry → leftAt f d ≡ leftAt f e
+left-at Version d e i n = rw n
+left-at Bodies d e i n = rw n
+left-at Kind d e i n = rw (i, n)
+left-at Priority d e i n = rw (i, n)
+left-at Autostart d e i n = rw (i, n)
+left-at Deadline d e i n = rw (i, n)
+left-at Resources d e i n = rw n
+left-at Users d e i n = rw (i, n)
+left-at Tables d e i n = rw n
+left-at Period d e i n = rw (i, n)
+left-at Entries d e i n = rw (i, n)
+left-at Offset d e i n = rw (i, n)
+left-at Task d e i n = rw (i, n)
+left-at End d e i n = refl
+
+pub left-same : (d e : Draft) → d .field ≡ e .field → d .index ≡ e .index → d .entry ≡ e .entry → left d ≡ left e
+left-same d e f i n = ap (λ (g : Field). leftAt g d) f ∙ left-at (e .field) d e i n
 
 record MovedAt (f : Field) (d : Draft) (f′ : Field) (d′ : Draft) : Type 0 where
   standing : Standing f′ d′

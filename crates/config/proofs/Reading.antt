@@ -11,9 +11,7 @@ use lib.ListN.{length, getD, take}
 use borrow.Author.Tests.{eq-eqb, ne-eqb, le-leb, lt-leb}
 use Rattle.number.specs.Refusal.{none, cut, malformed}
 use Rattle.number.specs.Number.{readNumber}
-use Rattle.number.specs.declared.NumberRead.{NumberRead}
 use Rattle.number.proofs.Cases.{by-test, by-lt, by-eq}
-use Rattle.number.proofs.Theorems as Number
 use Rattle.config.specs.declared.ConfigRead.{ConfigRead}
 use Rattle.config.specs.declared.Draft.{Draft}
 use Rattle.config.specs.declared.Field.{Field}
@@ -25,7 +23,7 @@ use Rattle.config.specs.Among.{among}
 use Rattle.config.specs.Draft.{unless, outside, andThen, sorted, sharesOffset, mixes, secondTable, mostAutostart, mostDeadline, timedUser, fault, faultAt, put, ended, silent, start, Within}
 use Rattle.config.specs.Reader.{numberAt, numberFault, faultPlace, finished, refused, readFrom, maxNumbers, maxLength, readConfig}
 use Rattle.config.proofs.Position.{left, moved, some-left, start-within}
-use Rattle.config.proofs.Walk.{number-fine, read-end, read-zero, read-step, read-stop, readFrom-elim}
+use Rattle.config.proofs.Walk.{numbered, number-fine, read-end, read-zero, read-step, read-stop, readFrom-elim}
 
 -- a refusal of the configuration reader's, or none: 0 to 10, 13 or 14
 abbrev pub Known : ℕ → Type 0
@@ -100,33 +98,6 @@ finished-bounded bs at d h =
     (λ e. rw (eq-eqb at (length bs) e)
     (record { refusals = inl (lit≤ tt); inside = h; zero-value = λ n. absurd (n refl) }))
     (λ e. rw (ne-eqb at (length bs) e) (refused-bounded bs leftOver at (inl (lit≤ tt)) h))
-
--- what the number reader says of its answers holds of the number where d is
-record Numbered (bs : List ℕ) (at : ℕ) (n : NumberRead) : Type 0 where
-  refusals : n .refusal ≤ malformed
-  place-le : at ≤ length bs → n .place ≤ length bs
-  at-end : at ≤ length bs → n .refusal ≡ cut → n .place ≡ length bs
-  there : n .refusal ≡ malformed → (readNumber bs at .refusal ≡ malformed) × (n .place ≡ readNumber bs at .place)
-
-numbered : (d : Draft) (bs : List ℕ) (at : ℕ) → Numbered bs at (numberAt d bs at)
-unfolding numberAt
-numbered d bs at =
-    by-test (silent d)
-    (λ q. rw q
-    (record {
-      refusals = lit≤ tt;
-      place-le = λ h. h;
-      at-end = λ h e. absurd (omega arith);
-      there = λ e. absurd (omega arith);
-    }))
-    (λ q. rw q
-    (let s = Number.reading bs at in
-    record {
-      refusals = s .refusals;
-      place-le = s .place-le;
-      at-end = λ h e. omega (arith, s .at-end e);
-      there = λ e. (e, refl);
-    }))
 
 -- the refusal of a number and its place
 number-bounded : (bs : List ℕ) (at : ℕ) (d : Draft) → at ≤ length bs

@@ -15,8 +15,8 @@ use lib.Dec.{lit≤}
 use lib.ListN.{length, drop, length-append, length-drop, drop-of-length-le}
 use lib.Seq.{drop-drop, drop-append-seam}
 use borrow.Author.Tests.{eq-eqb, ne-eqb, not-true}
-use Rattle.number.specs.Refusal.{none, cut}
-use Rattle.number.specs.Number.{Bytes, numberBound}
+use Rattle.number.specs.Refusal.{none, cut, malformed}
+use Rattle.number.specs.Number.{Bytes, numberBound, readNumber}
 use Rattle.number.specs.declared.NumberRead.{NumberRead}
 use Rattle.number.proofs.Cases.{by-test, by-eq}
 use Rattle.number.proofs.Theorems as Number
@@ -85,6 +85,33 @@ silent-zero d v q e = at-field (d .field) q (in-range d v (d .field) e)
     at-field Task q h = absurd (true≢false (sym q))
     at-field End q h = absurd (true≢false (sym q))
 
+-- what the number reader says of its answers holds of the number where d is
+pub record Numbered (bs : List ℕ) (at : ℕ) (n : NumberRead) : Type 0 where
+  pub refusals : n .refusal ≤ malformed
+  pub place-le : at ≤ length bs → n .place ≤ length bs
+  pub at-end : at ≤ length bs → n .refusal ≡ cut → n .place ≡ length bs
+  pub there : n .refusal ≡ malformed → (readNumber bs at .refusal ≡ malformed) × (n .place ≡ readNumber bs at .place)
+
+pub numbered : (d : Draft) (bs : List ℕ) (at : ℕ) → Numbered bs at (numberAt d bs at)
+unfolding numberAt
+numbered d bs at =
+    by-test (silent d)
+    (λ q. rw q
+    (record {
+      refusals = lit≤ tt;
+      place-le = λ h. h;
+      at-end = λ h e. absurd (omega arith);
+      there = λ e. absurd (omega arith);
+    }))
+    (λ q. rw q
+    (let s = Number.reading bs at in
+    record {
+      refusals = s .refusals;
+      place-le = s .place-le;
+      at-end = λ h e. omega (arith, s .at-end e);
+      there = λ e. (e, refl);
+    }))
+
 -- a number in order is read back from its bytes
 number-back : (d : Draft) (bs : List ℕ) (at v : ℕ) (rest : List ℕ) → v < numberBound → fault d v ≡ none
     → drop at bs ≡ bytesAt d v ++ rest
@@ -107,7 +134,7 @@ number-bytes d bs at b =
     (λ q. rw q (λ e. refl))
     (λ q. rw q (λ e. Number.written-read bs at b e))
 
-length-bytesAt : (d : Draft) (v : ℕ) → length (bytesAt d v) ≤ 5
+pub length-bytesAt : (d : Draft) (v : ℕ) → length (bytesAt d v) ≤ 5
 unfolding bytesAt
 length-bytesAt d v =
     by-test (silent d)

@@ -4,8 +4,9 @@
 --   asked-same   the number of a value stands where it stands, whatever the draft has
 --   onward       the position after a number that is put, where the counts are those that were put
 --   Counted      the counts of a value are those of the draft, as far as they have come; `counted-at` keeps it
+--   silent-at    so both have a number that stands in no byte at the same places
 use Prim.Native.Nat.{ℕ, _+_, _<_}
-use mathlib.Core.Path.{_≡_, refl, ap, subst, _∙_}
+use mathlib.Core.Path.{_≡_, refl, sym, ap, subst, _∙_}
 use mathlib.Core.Bool.{Bool, false, cond, true≢false}
 use native.Mathlib.Omega.{arith}
 use lib.Dec.{eqb}
@@ -13,8 +14,8 @@ use Rattle.number.proofs.Cases.{cond-either}
 use Rattle.config.specs.declared.Config.{Config}
 use Rattle.config.specs.declared.Draft.{Draft}
 use Rattle.config.specs.declared.Field.{Field}
-use Rattle.config.specs.declared.Field.the-variants.{Version, Bodies, Kind, Priority, Autostart, Resources, Users, Tables, Period, Entries, Offset, Task, End}
-use Rattle.config.specs.Draft.{put, putAt, asked, askedAt, ended, Inside, Within}
+use Rattle.config.specs.declared.Field.the-variants.{Version, Bodies, Kind, Priority, Autostart, Deadline, Resources, Users, Tables, Period, Entries, Offset, Task, End}
+use Rattle.config.specs.Draft.{put, putAt, asked, askedAt, ended, silentAt, Inside, Within}
 use Rattle.config_codec.specs.declared.position.Position.{Position}
 use Rattle.config_codec.specs.Position.{draftAt, positionOf, Follows}
 
@@ -25,6 +26,7 @@ Placed Bodies p = Unit {0}
 Placed Kind p = p .index < 32
 Placed Priority p = p .index < 32
 Placed Autostart p = p .index < 32
+Placed Deadline p = p .index < 32
 Placed Resources p = Unit {0}
 Placed Users p = p .index < 16
 Placed Tables p = Unit {0}
@@ -42,6 +44,7 @@ module _ (c : Config) (p : Position) (w : Within (draftAt c p)) where
   placed-at Kind i = omega (arith, i, w .bodies-le)
   placed-at Priority i = omega (arith, i, w .bodies-le)
   placed-at Autostart i = omega (arith, i, w .bodies-le)
+  placed-at Deadline i = omega (arith, i, w .bodies-le)
   placed-at Resources i = tt
   placed-at Users i = omega (arith, i, w .resources-le)
   placed-at Tables i = tt
@@ -63,6 +66,7 @@ module _ (c g h : Config) (p : Position) where
   asked-at Kind = refl
   asked-at Priority = refl
   asked-at Autostart = refl
+  asked-at Deadline = refl
   asked-at Resources = refl
   asked-at Users = refl
   asked-at Tables = refl
@@ -85,6 +89,7 @@ module _ (c : Config) (p : Position) (v : ℕ) where
   same-at Kind = refl
   same-at Priority = refl
   same-at Autostart = refl
+  same-at Deadline = refl
   same-at Resources = refl
   same-at Users = refl
   same-at Tables = refl
@@ -101,13 +106,14 @@ module _ (c : Config) (p : Position) (v : ℕ) where
       f c′ refl refl refl ∙ ap (λ (g : Config). positionOf (put (draftAt g p) v)) e ∙ same-at (p .field) in
       ap (λ (g : Config). draftAt g q) e ∙ ap (draftAt (put (draftAt c p) v .config)) is
 
--- the count that says whether another row follows is the value's
+-- the count that says whether another row follows is the value's, and so is the version that says which numbers do
 abbrev pub Counted : Field → Config → Config → Type 0
 Counted Version c g = Unit {0}
-Counted Bodies c g = Unit {0}
-Counted Kind c g = g .bodies ≡ c .bodies
-Counted Priority c g = g .bodies ≡ c .bodies
-Counted Autostart c g = g .bodies ≡ c .bodies
+Counted Bodies c g = g .version ≡ c .version
+Counted Kind c g = (g .bodies ≡ c .bodies) × (g .version ≡ c .version)
+Counted Priority c g = (g .bodies ≡ c .bodies) × (g .version ≡ c .version)
+Counted Autostart c g = (g .bodies ≡ c .bodies) × (g .version ≡ c .version)
+Counted Deadline c g = (g .bodies ≡ c .bodies) × (g .version ≡ c .version)
 Counted Resources c g = Unit {0}
 Counted Users c g = g .resources ≡ c .resources
 Counted Tables c g = Unit {0}
@@ -124,11 +130,12 @@ module _ (c : Config) (d : Draft) where
   pub counted-at : (f : Field) → ended f ≡ false → Counted f c (d .config)
       → Counted (putAt f d (askedAt f c d) .field) c (putAt f d (askedAt f c d) .config)
   unfolding putAt askedAt ended
-  counted-at Version e h = tt
-  counted-at Bodies e h = refl
+  counted-at Version e h = refl
+  counted-at Bodies e h = (refl, h)
   counted-at Kind e h = h
   counted-at Priority e h = h
-  counted-at Autostart e h = chosen _ (eqb (d .index + 1) (d .config .bodies)) Resources Kind tt h
+  counted-at Autostart e h = h
+  counted-at Deadline e h = chosen _ (eqb (d .index + 1) (d .config .bodies)) Resources Kind tt h
   counted-at Resources e h = chosen _ (eqb 0 (c .resources)) Tables Users tt refl
   counted-at Users e h = chosen _ (eqb (d .index + 1) (d .config .resources)) Tables Users tt h
   counted-at Tables e h = chosen _ (eqb 0 (c .tables)) End Period tt refl
@@ -147,7 +154,8 @@ module _ (c : Config) (d : Draft) where
   follows-at v Bodies h = refl
   follows-at v Kind h = refl
   follows-at v Priority h = refl
-  follows-at v Autostart h = rw h
+  follows-at v Autostart h = refl
+  follows-at v Deadline h = rw (h .0)
   follows-at v Resources h = refl
   follows-at v Users h = rw h
   follows-at v Tables h = refl
@@ -156,3 +164,19 @@ module _ (c : Config) (d : Draft) where
   follows-at v Offset h = refl
   follows-at v Task h = rw h
   follows-at v End h = refl
+
+  pub silent-at : (f : Field) → Counted f c (d .config) → silentAt f (c .version) ≡ silentAt f (d .config .version)
+  silent-at Version h = refl
+  silent-at Bodies h = refl
+  silent-at Kind h = refl
+  silent-at Priority h = refl
+  silent-at Autostart h = refl
+  silent-at Deadline h = ap (silentAt Deadline) (sym (h .1))
+  silent-at Resources h = refl
+  silent-at Users h = refl
+  silent-at Tables h = refl
+  silent-at Period h = refl
+  silent-at Entries h = refl
+  silent-at Offset h = refl
+  silent-at Task h = refl
+  silent-at End h = refl

@@ -8,20 +8,20 @@ use native.Mathlib.Nat.{mod-eq-of-lt}
 use native.Mathlib.Omega.{arith}
 use lib.ListN.{length}
 use Rattle.number.specs.Refusal.{none}
-use Rattle.number.specs.Number.{readNumber, numberBytes}
 use Rattle.number.specs.declared.NumberRead.{NumberRead}
 use Rattle.number.proofs.Cases.{by-test}
 use Rattle.config.specs.declared.Config.{Config}
 use Rattle.config.specs.declared.ConfigRead.{ConfigRead}
 use Rattle.config.specs.declared.Draft.{Draft}
 use Rattle.config.specs.declared.Field.{Field}
-use Rattle.config.specs.Draft.{fault, faultAt, put, putAt, asked, ended, start, Within}
-use Rattle.config.specs.Reader.{accepted, refused, maxLength}
+use Rattle.config.specs.Draft.{fault, faultAt, put, putAt, asked, ended, silent, start, Within}
+use Rattle.config.specs.Reader.{accepted, refused, numberAt, maxLength}
+use Rattle.config.specs.Writer.{bytesAt}
 use Rattle.config.proofs.Ranges.{InRange, in-range}
 use Rattle.config.proofs.Position.{left, start-within, moved, Moved}
 use Rattle.config_codec.specs.declared.position.Position.{Position}
 use Rattle.config_codec.specs.Position.{draftAt, positionOf, Follows, Stands}
-use Rattle.config_codec.specs.Walk.{given, Answers, Measures}
+use Rattle.config_codec.specs.Walk.{shown, readUnless, given, Answers, Measures}
 use Rattle.config_codec.proofs.NextNumber.{asked-same, onward}
 use Rattle.config_codec.proofs.Reading.{ReadsOn, reads-start, unreadable, faulty, goes, reads-end}
 use Rattle.config_codec.proofs.Measuring.{MeasuresOn, measures-start, measures-small, measures-refused, measures-next, measures-end}
@@ -82,20 +82,26 @@ module _ {writing : Bool} {value : Config} {bs : List ℕ} {c : Config} {p : Pos
   )
 
   -- one more number, read or asked
-  module _ (more : ended (p .field) ≡ false) {r : NumberRead} (read : writing ≡ false → r ≡ readNumber bs at)
-      (told : writing ≡ true → r ≡ given value p at) where
+  module _ (more : ended (p .field) ≡ false) {b : Bool} (quiet : b ≡ silent d) {r : NumberRead}
+      (read : writing ≡ false → r ≡ readUnless b bs at) (told : writing ≡ true → r ≡ given value p b at) where
+    here : writing ≡ false → r ≡ numberAt d bs at
+    unfolding numberAt
+    here w = read w ∙ ap (λ (x : Bool). readUnless x bs at) quiet
+
     pub step-unreadable : (r .refusal ≡ none → ⊥) → Outcome writing value bs (refused (r .refusal) (r .place))
     step-unreadable n = (
-      λ w. (λ z. absurd (n z), λ _. unreadable (o .reads w) more (read w) n),
+      λ w. (λ z. absurd (n z), λ _. unreadable (o .reads w) more (here w) n),
       λ w. absurd (n (ap (λ (x : NumberRead). x .refusal) (told w))),
     )
 
     is-asked : writing ≡ true → r .value ≡ asked value d
     is-asked w = ap (λ (x : NumberRead). x .value) (told w) ∙ asked-same value value c p
 
-    place : writing ≡ true → at + length (numberBytes (r .value)) ≡ r .place
+    place : writing ≡ true → at + length (bytesAt d (r .value)) ≡ r .place
+    unfolding bytesAt
     place w =
-        ap (λ (x : NumberRead). at + length (numberBytes (x .value))) (told w)
+        ap (λ (x : NumberRead). at + length (bytesAt d (x .value))) (told w)
+        ∙ ap (λ (x : Bool). at + length (shown x (asked value (draftAt value p)))) (sym quiet)
         ∙ sym (ap (λ (x : NumberRead). x .place) (told w))
 
     -- tested and stored
@@ -105,7 +111,7 @@ module _ {writing : Bool} {value : Config} {bs : List ℕ} {c : Config} {p : Pos
         λ w. (
           λ z. absurd (n z),
           λ _. ap (λ (x : ℕ). refused x at) (t .refusal)
-              ∙ faulty (o .reads w) more (read w) h (λ z. n (t .refusal ∙ z)),
+              ∙ faulty (o .reads w) more (here w) h (λ z. n (t .refusal ∙ z)),
         ),
         λ w. (λ z. absurd (n z), λ _. measures-refused (o .measures w) more (is-asked w) (t .refusal) n),
       )
@@ -128,7 +134,7 @@ module _ {writing : Bool} {value : Config} {bs : List ℕ} {c : Config} {p : Pos
             record {
               within = step .within;
               reads = λ w. subst (λ (x : Draft). ReadsOn bs (r .place) x) after
-                  (goes (o .reads w) more (read w) h fine);
+                  (goes (o .reads w) more (here w) h fine);
               measures = λ w. subst (λ (x : Draft). MeasuresOn value (r .place) x) after
                   (subst (λ (n : ℕ). MeasuresOn value n (put d (r .value))) (place w)
                   (measures-next (o .measures w) more (is-asked w) fine));

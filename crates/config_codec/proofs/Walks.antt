@@ -2,20 +2,26 @@
 -- second writes them.
 use Prim.Native.Nat.{ℕ, zero, suc, _+_, _*_, _-_, _≤_}
 use mathlib.Core.Path.{_≡_, refl, sym, ap, _∙_}
-use mathlib.Core.Bool.{true, false}
+use mathlib.Core.Bool.{Bool, true, false}
 use mathlib.Core.List.{List, [], _++_, append-assoc, append-nil}
 use native.Mathlib.Omega.{arith}
-use borrow.Author.Tests.{eq-eqb, ne-eqb}
 use lib.ListN.{length, length-append}
 use Rattle.number.specs.Refusal.{none}
-use Rattle.number.specs.Number.{numberBytes}
 use Rattle.number.proofs.Cases.{by-eq}
 use Rattle.number.proofs.Theorems.{length-numberBytes}
 use Rattle.config.specs.declared.Config.{Config}
 use Rattle.config.specs.declared.Draft.{Draft}
 use Rattle.config.specs.Draft.{Within, fault, put, asked, ended, start}
-use Rattle.config.specs.Writer.{maxNumbers, faultFrom, firstFault, bytesFrom, configBytes}
+use Rattle.config.specs.Reader.{maxNumbers}
+use Rattle.config.specs.Writer.{bytesAt, faultFrom, firstFault, bytesFrom, configBytes}
 use Rattle.config.proofs.Position.{left, start-within, moved, some-left}
+use Rattle.config.proofs.Walk.{length-bytesAt, fault-end, fault-step, fault-stop}
+use Rattle.config_codec.specs.Walk.{shown}
+
+-- a number takes at most five bytes
+pub length-shown : (q : Bool) (v : ℕ) → length (shown q v) ≤ 5
+length-shown true v = omega arith
+length-shown false v = omega (arith, length-numberBytes v)
 
 -- after the numbers of c whose bytes are bs: what is left gives the first refusal F and, after bs, the bytes `all`
 pub record Walks (c : Config) (F : ℕ) (all : List ℕ) (d : Draft) (bs : List ℕ) : Type 0 where
@@ -37,30 +43,15 @@ walks-start c =
       few = omega arith;
     }
 
--- one step of the two definitions
+-- one step of the bytes
 module _ (c : Config) (d : Draft) where
-  fault-end : (k : ℕ) → ended (d .field) ≡ true → faultFrom k c d ≡ none
-  unfolding faultFrom
-  fault-end zero e = refl
-  fault-end (suc k) e = rw e
-
   bytes-end : (k : ℕ) → ended (d .field) ≡ true → bytesFrom k c d ≡ []
   unfolding bytesFrom
   bytes-end zero e = refl
   bytes-end (suc k) e = rw e
 
-  fault-refused : (k : ℕ) → ended (d .field) ≡ false → (fault d (asked c d) ≡ none → ⊥)
-      → faultFrom (suc k) c d ≡ fault d (asked c d)
-  unfolding faultFrom
-  fault-refused k e n = rw (e, ne-eqb (fault d (asked c d)) none n)
-
-  fault-next : (k : ℕ) → ended (d .field) ≡ false → fault d (asked c d) ≡ none
-      → faultFrom (suc k) c d ≡ faultFrom k c (put d (asked c d))
-  unfolding faultFrom
-  fault-next k e n = rw (e, eq-eqb (fault d (asked c d)) none n)
-
   bytes-next : (k : ℕ) → ended (d .field) ≡ false
-      → bytesFrom (suc k) c d ≡ numberBytes (asked c d) ++ bytesFrom k c (put d (asked c d))
+      → bytesFrom (suc k) c d ≡ bytesAt d (asked c d) ++ bytesFrom k c (put d (asked c d))
   unfolding bytesFrom
   bytes-next k e = rw e
 
@@ -68,7 +59,7 @@ module _ {c : Config} {F : ℕ} {all : List ℕ} {d : Draft} {bs : List ℕ} (o 
   -- no number is left
   pub walks-end : ended (d .field) ≡ true → (F ≡ none) × (bs ≡ all)
   walks-end e = (
-    sym (o .fault-rest) ∙ fault-end c d (o .turns) e,
+    sym (o .fault-rest) ∙ fault-end (o .turns) c d e,
     sym (append-nil bs) ∙ sym (ap (λ (l : List ℕ). bs ++ l) (bytes-end c d (o .turns) e)) ∙ o .bytes-rest,
   )
 
@@ -85,12 +76,12 @@ module _ {c : Config} {F : ℕ} {all : List ℕ} {d : Draft} {bs : List ℕ} (o 
 
     pub walks-refused : (fault d v ≡ none → ⊥) → F ≡ fault d v
     walks-refused n =
-        sym (o .fault-rest) ∙ ap (λ (j : ℕ). faultFrom j c d) one-more ∙ fault-refused c d (o .turns - 1) more n
+        sym (o .fault-rest) ∙ ap (λ (j : ℕ). faultFrom j c d) one-more ∙ fault-stop (o .turns - 1) c d v refl more n
 
     pub walks-faultless : F ≡ none → fault d v ≡ none
     walks-faultless e = by-eq (fault d v) none (λ h. h) (λ n. absurd (n (sym (walks-refused n) ∙ e)))
 
-    pub walks-next : fault d v ≡ none → Walks c F all (put d v) (bs ++ numberBytes v)
+    pub walks-next : fault d v ≡ none → Walks c F all (put d v) (bs ++ bytesAt d v)
     walks-next n =
         let m = moved d v more n (o .within) in
         record {
@@ -98,21 +89,21 @@ module _ {c : Config} {F : ℕ} {all : List ℕ} {d : Draft} {bs : List ℕ} (o 
           enough = omega (arith, o .enough, m .fewer);
           within = m .within;
           fault-rest =
-              sym (fault-next c d (o .turns - 1) more n) ∙ ap (λ (j : ℕ). faultFrom j c d) (sym one-more)
+              sym (fault-step (o .turns - 1) c d v refl more n) ∙ ap (λ (j : ℕ). faultFrom j c d) (sym one-more)
               ∙ o .fault-rest;
           bytes-rest =
-              append-assoc bs (numberBytes v) (bytesFrom (o .turns - 1) c (put d v))
+              append-assoc bs (bytesAt d v) (bytesFrom (o .turns - 1) c (put d v))
               ∙ ap (λ (l : List ℕ). bs ++ l)
               (sym (bytes-next c d (o .turns - 1) more) ∙ ap (λ (j : ℕ). bytesFrom j c d) (sym one-more))
               ∙ o .bytes-rest;
-          few = simp length-append (omega (arith, o .few, one-more, length-numberBytes v));
+          few = simp length-append (omega (arith, o .few, one-more, length-bytesAt d v));
         }
 
     -- five bytes a number are enough, and there is room for it among all the bytes
-    pub walks-few : length bs + length (numberBytes v) ≤ 5 * maxNumbers
-    walks-few = omega (arith, o .few, one-more, length-numberBytes v)
+    pub walks-few : length bs + length (bytesAt d v) ≤ 5 * maxNumbers
+    walks-few = omega (arith, o .few, one-more, length-bytesAt d v)
 
-    pub walks-room : length bs + length (numberBytes v) ≤ length all
+    pub walks-room : length bs + length (bytesAt d v) ≤ length all
     walks-room =
         rw (← o .bytes-rest, one-more, bytes-next c d (o .turns - 1) more)
         (simp length-append (omega arith))

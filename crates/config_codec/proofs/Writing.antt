@@ -9,18 +9,18 @@ use native.Mathlib.Nat.{zero-add}
 use borrow.Rule.Slice.PartMut.{putMid}
 use lib.ListN.{length, take, drop, length-append, length-take, length-drop}
 use Rattle.number.specs.Refusal.{none}
-use Rattle.number.specs.Number.{numberBytes}
-use Rattle.number.specs.Output.{writing, written, laid}
-use Rattle.number.specs.declared.Written.{Written}
-use Rattle.number.proofs.Theorems.{length-numberBytes, writing-fits}
+use Rattle.number.specs.Output.{written, laid}
 use Rattle.number.proofs.Laying.{length-laid, laid-laid, laid-zero, laid-part}
 use Rattle.config.specs.declared.Config.{Config}
 use Rattle.config.specs.declared.Draft.{Draft}
-use Rattle.config.specs.Draft.{fault, put, asked, ended, start}
-use Rattle.config.specs.Writer.{maxNumbers, firstFault, configBytes}
+use Rattle.config.specs.Draft.{fault, put, asked, ended, silent, silentAt, start}
+use Rattle.config.specs.Reader.{maxNumbers}
+use Rattle.config.specs.Writer.{bytesAt, firstFault, configBytes}
+use Rattle.config.proofs.Position.{left, left-same, moved}
 use Rattle.config_codec.specs.declared.position.Position.{Position}
 use Rattle.config_codec.specs.Position.{draftAt, positionOf, Stands, Follows}
-use Rattle.config_codec.proofs.NextNumber.{asked-same, Counted, counted-at, follows-at}
+use Rattle.config_codec.specs.Walk.{shown}
+use Rattle.config_codec.proofs.NextNumber.{asked-same, Counted, counted-at, follows-at, silent-at}
 use Rattle.config_codec.proofs.Walks.{Walks, walks-start, walks-end, walks-faultless, walks-next, walks-few, walks-room}
 
 -- the numbers of c before p are written up to the place `at`; the output was `before` and is `out`
@@ -65,8 +65,9 @@ module _ {c : Config} {before : List ℕ} {p : Position} {at : ℕ} {out : List 
       o .over ∙ ap (λ (l : List ℕ). laid 0 l before) (walks-end (o .walks) (ended-here true e) .1)
       ∙ sym (laid-zero (configBytes c) before (o .room))
 
-  -- one more number: v, as it is asked
-  module _ (going : ended (p .field) ≡ false) {v : ℕ} (told : v ≡ asked c (draftAt c p)) where
+  -- one more number: v, as it is asked, which may stand in no byte
+  module _ (going : ended (p .field) ≡ false) {v : ℕ} (told : v ≡ asked c (draftAt c p)) {q : Bool}
+      (quiet : q ≡ silentAt (p .field) (c .version)) where
     more : ended (o .draft .field) ≡ false
     more = ended-here false going
 
@@ -74,68 +75,76 @@ module _ {c : Config} {before : List ℕ} {p : Position} {at : ℕ} {out : List 
     is = told ∙ ap (λ (q : Position). asked c (draftAt c q)) (o .here)
         ∙ asked-same c c (o .draft .config) (positionOf (o .draft))
 
+    here-quiet : q ≡ silent (o .draft)
+    here-quiet = quiet ∙ ap (λ (q : Position). silentAt (q .field) (c .version)) (o .here)
+        ∙ silent-at c (o .draft) (o .draft .field) (o .counted)
+
+    same-bytes : shown q v ≡ bytesAt (o .draft) (asked c (o .draft))
+    unfolding bytesAt
+    same-bytes = rw (here-quiet, is) refl
+
     in-order : fault (o .draft) v ≡ none
     in-order = rw is (walks-faultless (o .walks) more refl)
 
-    fits-all : length (o .bytes) + length (numberBytes v) ≤ length (configBytes c)
-    fits-all = rw is (walks-room (o .walks) more)
+    fits-all : length (o .bytes) + length (shown q v) ≤ length (configBytes c)
+    fits-all = rw same-bytes (walks-room (o .walks) more)
 
     same-long : length out ≡ length before
     same-long = ap length (o .over) ∙ length-laid 0 (o .bytes) before (omega (arith, fits-all, o .room))
 
-    pub writes-room : at + length (numberBytes v) ≤ length out
+    pub writes-room : at + length (shown q v) ≤ length out
     writes-room = omega (arith, fits-all, same-long, o .long, o .room)
 
-    few : length (o .bytes) + length (numberBytes v) ≤ 5 * maxNumbers
-    few = rw is (walks-few (o .walks) more)
+    -- five bytes a number
+    pub writes-small : at + length (shown q v) ≤ 5 * maxNumbers
+    writes-small = rw (← o .long, same-bytes) (walks-few (o .walks) more)
 
-    pub writes-left : at < length (configBytes c)
-    writes-left = omega (arith, fits-all, o .long, length-numberBytes v)
-
-    -- what the number's writer is lent, and its answer w
+    -- what the number's writer is lent
     abbrev part : List ℕ
     part = take (length out - at) (drop at out)
 
-    part-room : length (numberBytes v) ≤ length part
+    pub part-room : length (shown q v) ≤ length part
     part-room = simp (length-take, length-drop) (omega (arith, writes-room))
 
-    module _ {w : Written} (answer : w ≡ writing (numberBytes v) (length part)) where
-      place : w .place ≡ length (numberBytes v)
-      place =
-          ap (λ (x : Written). x .place)
-          (answer ∙ sym (writing-fits (numberBytes v) (length part) (length (numberBytes v)) refl part-room))
+    over-next : {ys : List ℕ} → ys ≡ written (shown q v) part
+        → putMid at (length out - at) out ys ≡ laid 0 (o .bytes ++ shown q v) before
+    over-next e =
+        rw e
+        (laid-part at (shown q v) out writes-room
+        ∙ rw (← o .long, o .over)
+        (ap (λ (p : ℕ). laid p (shown q v) (laid 0 (o .bytes) before)) (sym (zero-add (length (o .bytes))))
+        ∙ laid-laid 0 (o .bytes) (shown q v) before (omega (arith, fits-all, o .room))))
 
-      -- a number has at most five bytes, and at least one
-      pub writes-small : at + w .place ≤ 5 * maxNumbers
-      writes-small = omega (arith, place, o .long, few)
+    module _ {p′ : Position} (f : Follows p v (c .bodies) (c .resources) (c .tables) p′) where
+      next-here : p′ ≡ positionOf (put (o .draft) v)
+      next-here = f c refl refl refl ∙ ap (λ (x : Position). positionOf (put (draftAt c x) v)) (o .here)
+          ∙ follows-at c (o .draft) v (o .draft .field) (o .counted)
 
-      pub writes-some : 1 ≤ w .place
-      writes-some = omega (arith, place, length-numberBytes v)
+      pub writes-fewer : left (draftAt c p′) < left (draftAt c p)
+      writes-fewer = omega (
+        arith,
+        moved (o .draft) v more in-order (o .walks .within) .fewer,
+        same p (o .draft) (o .here),
+        same p′ (put (o .draft) v) next-here,
+      )
+        where
+          same : (x : Position) (d : Draft) → x ≡ positionOf d → left (draftAt c x) ≡ left d
+          same x d e =
+              left-same (draftAt c x) d (ap (λ (y : Position). y .field) e) (ap (λ (y : Position). y .index) e)
+              (ap (λ (y : Position). y .entry) e)
 
-      over-next : {ys : List ℕ} → ys ≡ written (numberBytes v) part
-          → putMid at (length out - at) out ys ≡ laid 0 (o .bytes ++ numberBytes v) before
-      over-next e =
-          rw e
-          (laid-part at (numberBytes v) out writes-room
-          ∙ rw (← o .long, o .over)
-          (ap (λ (p : ℕ). laid p (numberBytes v) (laid 0 (o .bytes) before)) (sym (zero-add (length (o .bytes))))
-          ∙ laid-laid 0 (o .bytes) (numberBytes v) before (omega (arith, fits-all, o .room))))
-
-      pub writes-next : {ys : List ℕ} → ys ≡ written (numberBytes v) part → {q : Position}
-          → Follows p v (c .bodies) (c .resources) (c .tables) q
-          → WritesOn c before q (at + w .place) (putMid at (length out - at) out ys)
-      writes-next {ys} e {q} f =
+      pub writes-next : {n : ℕ} → n ≡ length (shown q v) → {ys : List ℕ} → ys ≡ written (shown q v) part
+          → WritesOn c before p′ (at + n) (putMid at (length out - at) out ys)
+      writes-next {n} wrote {ys} e =
           record {
             draft = put (o .draft) v;
-            here = f c refl refl refl ∙ ap (λ (x : Position). positionOf (put (draftAt c x) v)) (o .here)
-                ∙ follows-at c (o .draft) v (o .draft .field) (o .counted);
+            here = next-here;
             counted = subst (λ (x : ℕ). Counted (put (o .draft) x .field) c (put (o .draft) x .config)) (sym is)
                 (counted-at c (o .draft) (o .draft .field) more (o .counted));
-            bytes = o .bytes ++ numberBytes v;
-            walks = subst (λ (x : ℕ). Walks c none (configBytes c) (put (o .draft) x) (o .bytes ++ numberBytes x)) (sym is)
-                (walks-next (o .walks) more (walks-faultless (o .walks) more refl));
-            long = length-append (o .bytes) (numberBytes v) ∙ ap (λ (l : ℕ). l + length (numberBytes v)) (o .long)
-                ∙ ap (λ (l : ℕ). at + l) (sym place);
+            bytes = o .bytes ++ shown q v;
+            walks = rw (same-bytes, is) (walks-next (o .walks) more (walks-faultless (o .walks) more refl));
+            long = length-append (o .bytes) (shown q v) ∙ ap (λ (l : ℕ). l + length (shown q v)) (o .long)
+                ∙ ap (λ (l : ℕ). at + l) (sym wrote);
             over = over-next e;
             room = o .room;
           }

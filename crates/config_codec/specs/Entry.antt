@@ -23,6 +23,7 @@ bodiesOf b ks =
       kind = ks;
       priority = [];
       autostart = [];
+      deadline = [];
       resources = 0;
       users = [];
       tables = 0;

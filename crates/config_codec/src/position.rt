@@ -1,10 +1,11 @@
 // Where in a configuration's numbers a walk is: which number comes next, and which follows it.
+use crate::limits::has_deadlines;
 use config::Field;
 ghost use mathlib.Core.Path.{_≡_};
 ghost use Prim.Native.Nat.{_+_, _≤_, _<_};
 ghost use mathlib.Core.Bool.{cond};
 ghost use lib.Dec.{eqb};
-ghost use Rattle.config.specs.Draft.{ended, orOn, start};
+ghost use Rattle.config.specs.Draft.{ended, silentAt, orOn, start};
 ghost use Rattle.config_codec.specs.Position.{positionOf, rowAt, Stands, Follows};
 
 // `index` is the body, resource or table that is next, `entry` the entry, and `until` the entry after the last one of
@@ -34,6 +35,18 @@ pub fn ended(p: Position) -> bool
 {
     let f = p.field;
     if let Field::End = f { true } else { false }
+}
+
+// Whether the number stands in no byte, and is 0: a deadline, in a version that has none.
+pub fn silent(p: Position, version: u8) -> bool
+    ensures { λ r. ⌜ r ≡ silentAt (p .field) version ⌝ }
+{
+    let f = p.field;
+    if let Field::Deadline = f {
+        !has_deadlines(version)
+    } else {
+        false
+    }
 }
 
 // At another number of row `i`.
@@ -107,7 +120,8 @@ pub fn next(p: Position, v: u32, bodies: u8, resources: u8, tables: u8) -> Posit
         Field::Bodies => row(p, Field::Kind, 0),
         Field::Kind => row(p, Field::Priority, i),
         Field::Priority => row(p, Field::Autostart, i),
-        Field::Autostart => row_of(p, i + 1, bodies as usize, Field::Kind, Field::Resources),
+        Field::Autostart => row(p, Field::Deadline, i),
+        Field::Deadline => row_of(p, i + 1, bodies as usize, Field::Kind, Field::Resources),
         Field::Resources => row_of(p, 0, v as usize, Field::Users, Field::Tables),
         Field::Users => row_of(p, i + 1, resources as usize, Field::Users, Field::Tables),
         Field::Tables => row_of(p, 0, v as usize, Field::Period, Field::End),

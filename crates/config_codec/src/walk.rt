@@ -9,6 +9,7 @@ use crate::limits::MAX_TABLES;
 use crate::limits::NEWEST_VERSION;
 use crate::limits::entries_fault;
 use crate::limits::most_autostart;
+use crate::limits::most_deadline;
 use crate::limits::offset_fault;
 use crate::limits::outside;
 use crate::limits::priority_fault;
@@ -16,6 +17,7 @@ use crate::position::Position;
 use crate::position::ended;
 use crate::position::first;
 use crate::position::next;
+use crate::position::silent;
 use crate::users::users_fault;
 use crate::value::asked;
 use crate::value::no_config;
@@ -33,24 +35,51 @@ ghost use mathlib.Core.Path.{_≡_};
 ghost use mathlib.Core.Bool.{true, false};
 ghost use Prim.Native.Nat.{_%_, _≤_};
 ghost use lib.ListN.{length};
-ghost use Rattle.number.specs.Number.{readNumber};
 ghost use Rattle.config_codec.specs.Position.{Stands};
-ghost use Rattle.config_codec.specs.Walk.{given, Answers, Measures};
+ghost use Rattle.config_codec.specs.Walk.{shown, readUnless, given, Answers, Measures};
+
+// How many bytes a number takes, which may stand in none.
+fn length_at(silent: bool, v: u32) -> usize
+    ensures { λ r. ⌜ r ≡ length (shown silent v) ⌝ }
+{
+    if silent { 0 } else { number_length(v) }
+}
+
+// The number at a place of the input, or 0 where it stands in no byte.
+fn read_at(silent: bool, bytes: &[u8], at: usize) -> NumberRead
+    ensures { λ r. ⌜ r ≡ readUnless silent (now (bytes .entry)) at ⌝ }
+{
+    if silent {
+        return NumberRead {
+            value: 0,
+            refusal: 0,
+            place: at,
+        };
+    }
+    read_number(bytes, at)
+}
 
 // The next number: of the value, where one is written, or of the input.
-fn number_at(writing: bool, value: Config, p: Position, bytes: &[u8], at: usize) -> NumberRead
+fn number_at(
+    writing: bool,
+    silent: bool,
+    value: Config,
+    p: Position,
+    bytes: &[u8],
+    at: usize,
+) -> NumberRead
     requires { ⌜ Stands p × (at ≤ 4294967296) ⌝ }
-    ensures read { λ r. ⌜ (writing ≡ false → r ≡ readNumber (now (bytes .entry)) at) ⌝ }
-    ensures asked { λ r. ⌜ (writing ≡ true → r ≡ given value p at) ⌝ }
+    ensures read { λ r. ⌜ (writing ≡ false → r ≡ readUnless silent (now (bytes .entry)) at) ⌝ }
+    ensures asked { λ r. ⌜ (writing ≡ true → r ≡ given value p silent at) ⌝ }
 {
     if !writing {
-        return read_number(bytes, at);
+        return read_at(silent, bytes, at);
     }
     let v = asked(value, p);
     NumberRead {
         value: v,
         refusal: 0,
-        place: at + number_length(v),
+        place: at + length_at(silent, v),
     }
 }
 
@@ -78,7 +107,7 @@ pub fn walk(writing: bool, value: Config, bytes: &[u8]) -> ConfigRead
     let mut p = first();
     let mut at = 0;
     while !ended(p) {
-        let r = number_at(writing, value, p, bytes, at);
+        let r = number_at(writing, silent(p, c.version), value, p, bytes, at);
         if r.refusal != 0 {
             return refused(r.refusal, r.place);
         }
@@ -108,6 +137,10 @@ pub fn walk(writing: bool, value: Config, bytes: &[u8]) -> ConfigRead
             Field::Autostart => {
                 refusal = outside(0, most_autostart(c.kind[i]), v, BAD_FIELD);
                 c.autostart[i] = b;
+            }
+            Field::Deadline => {
+                refusal = outside(0, most_deadline(c.version, c.kind[i]), v, BAD_FIELD);
+                c.deadline[i] = two_bytes(v);
             }
             Field::Resources => {
                 refusal = outside(0, MAX_RESOURCES, v, BAD_COUNT);
