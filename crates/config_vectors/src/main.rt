@@ -70,6 +70,7 @@ fn bodies() {
     read(b"\x00");
     read(b"\x02");
     read(b"\x03");
+    read(b"\x04");
     read(b"\x01\x00");
     read(b"\x01\x21");
     read(b"\x01\x01\x03");
@@ -86,6 +87,21 @@ fn bodies() {
     read(b"\x01\x01\x03\x05\x01");
     read(b"\x01\x01\x03\x05\x00\x00\x00");
     read(b"\x01\x02\x03\x05\x00\x03\x05");
+}
+
+// The deadlines of version 3, by kind.
+fn deadlines() {
+    title(b"deadlines");
+    read(b"\x02\x01\x00\x05\x00\x00\x00");
+    read(b"\x03\x01\x00\x05\x00");
+    read(b"\x03\x01\x00\x05\x00\x00\x00\x00");
+    read(b"\x03\x01\x00\x05\x00\x07\x00\x00");
+    read(b"\x03\x01\x00\x05\x00\xff\xff\x03\x00\x00");
+    read(b"\x03\x01\x00\x05\x00\x80\x80\x04");
+    read(b"\x03\x01\x01\x05\x00\x00\x00\x00");
+    read(b"\x03\x01\x01\x05\x00\x01");
+    read(b"\x03\x01\x02\x05\x01\x01\x00\x00");
+    read(b"\x03\x01\x03\x05\x00\x01\x00\x00");
 }
 
 // The resources.
@@ -266,10 +282,33 @@ fn written() {
     write(d);
 }
 
+// A task with a deadline.
+fn written_deadline() {
+    title(b"written deadline");
+    let mut a = read_config(b"\x01\x01\x00\x05\x00\x00\x00").config;
+    a.version = 3;
+    write(a);
+    a.deadline[0] = 300;
+    write(a);
+}
+
+fn refused_deadlines() {
+    title(b"refused deadlines");
+    let mut a = listing();
+    a.deadline[0] = 1;
+    write(a);
+    a.version = 2;
+    write(a);
+    let mut b = listing();
+    b.version = 3;
+    b.deadline[2] = 1;
+    write(b);
+}
+
 fn refused_bodies() {
     title(b"refused bodies");
     let mut a = listing();
-    a.version = 3;
+    a.version = 4;
     write_tight(a);
     let mut b = listing();
     b.bodies = 33;
@@ -342,12 +381,15 @@ fn refused_timed() {
 fn main() {
     numbers();
     bodies();
+    deadlines();
     resources();
     tables();
     entries();
     timed();
     lengths();
     written();
+    written_deadline();
+    refused_deadlines();
     refused_bodies();
     refused_tables();
     refused_timed();

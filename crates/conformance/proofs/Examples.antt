@@ -6,7 +6,7 @@ use mathlib.Core.List.{List, [], _∷_, _++_}
 use lib.ListN.{take, set}
 use Rattle.number.specs.Number.{readNumber, groups, continued, fifthGroup}
 use Rattle.config.specs.Draft.{faultAt, putAt, ended, timedIn}
-use Rattle.config.specs.Reader.{readFrom, readConfig}
+use Rattle.config.specs.Reader.{numberAt, readFrom, readConfig}
 use Rattle.config.specs.Meaning.{greatestIn, entriesBefore}
 use Rattle.event.specs.Event.{known, arguments, afterNumber, readArguments, readEvent}
 use Rattle.event.specs.Trace.{readFrom as eventsFrom, readRest}
@@ -66,7 +66,7 @@ pub record Examples : Type 0 where
       × (verdictResult configuration [] (0 ∷ 0 ∷ 2 ∷ 0 ∷ []) ≡ refused70)
 
 pub examples : Examples
-unfolding readNumber groups continued fifthGroup faultAt putAt timedIn ended readFrom readConfig greatestIn
+unfolding readNumber groups continued fifthGroup faultAt putAt timedIn ended numberAt readFrom readConfig greatestIn
     entriesBefore known arguments afterNumber readArguments readEvent eventsFrom readRest due firstGiven candidate
     chosenFrom among heldIn counting entryDue duesFrom activatingDue stepBy seenBy callOf readRun answerBytes beginWith
     rightAnswers isRecord verdictOn resultOf

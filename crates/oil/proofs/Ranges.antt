@@ -14,21 +14,22 @@ use Rattle.number.proofs.Cases.{by-eq}
 use Rattle.number.proofs.Theorems.{writing-no-room, length-numberBytes}
 use Rattle.config.specs.declared.Config.{Config}
 use Rattle.config.specs.declared.Draft.{Draft}
-use Rattle.config.specs.Draft.{start, put, asked, ended}
+use Rattle.config.specs.Draft.{start, put, asked, ended, silent}
 use Rattle.config.proofs.Theorems.{length-configBytes}
 use Rattle.oil_grammar.proofs.Spelling.{by-test}
-use Rattle.config.specs.Writer.{firstFault, bytesFrom, configBytes, writeConfig}
+use Rattle.config.specs.Writer.{firstFault, bytesAt, bytesFrom, configBytes, writeConfig}
 
 -- a configuration takes a byte at least: its version's
-some-from : (k : ℕ) (c : Config) (d : Draft) → ended (d .field) ≡ false → 0 < length (bytesFrom (suc k) c d)
-unfolding bytesFrom
-some-from k c d e =
-    rw (e, length-append (numberBytes (asked c d)) (bytesFrom k c (put d (asked c d))))
+some-from : (k : ℕ) (c : Config) (d : Draft) → ended (d .field) ≡ false → silent d ≡ false
+    → 0 < length (bytesFrom (suc k) c d)
+unfolding bytesAt bytesFrom
+some-from k c d e q =
+    rw (e, q, length-append (numberBytes (asked c d)) (bytesFrom k c (put d (asked c d))))
     (let h = length-numberBytes (asked c d) .0 in omega arith)
 
 some-byte : (c : Config) → 0 < length (configBytes c)
 unfolding ended
-some-byte c = some-from 259 c start refl
+some-byte c = some-from 291 c start refl refl
 
 module _ (c : Config) {w : Written} (e : w ≡ writeConfig c 0) where
   no-room : firstFault c ≡ none → w ≡ unwritten noRoom (length (configBytes c))

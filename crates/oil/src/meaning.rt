@@ -38,6 +38,7 @@ pub fn empty(version: u8) -> Config
         kind: [0u8; 32],
         priority: [0u8; 32],
         autostart: [0u8; 32],
+        deadline: [0u16; 32],
         resources: 0,
         users: [0u32; 16],
         tables: 0,

@@ -10,7 +10,7 @@ use lib.ListN.{replicate}
 use Rattle.number.specs.Number.{numberBytes, groupBytes}
 use Rattle.config.specs.Among.{among}
 use Rattle.config.specs.Draft.{timedIn, faultAt as numberFaultAt, putAt as numberPutAt, askedAt, ended as numbersEnded}
-use Rattle.config.specs.Writer.{faultFrom, bytesFrom, configBytes}
+use Rattle.config.specs.Writer.{faultFrom, bytesAt, bytesFrom, configBytes}
 use Rattle.word.specs.Word.{has, with}
 use Rattle.oil_grammar.specs.Byte.{isSpace, isDigit, isLetter, isNameByte, isLineByte, span}
 use Rattle.oil_grammar.specs.Token.{same, spelledSort, signOf, decimal}
@@ -30,7 +30,7 @@ unfolding ascii isSpace isDigit isLetter isNameByte isLineByte span same spelled
 told t = let r = readOil t in r .refusal ∷ r .line ∷ r .column ∷ []
 
 unfoldable pub bytes : List ℕ → List ℕ
-unfolding told bytesFrom numberBytes groupBytes
+unfolding told bytesAt bytesFrom numberBytes groupBytes
 bytes t = configBytes (readOil t .config)
 
 -- source document 000, Table 4.1: three tasks, an ISR and two resources, each used by Task1 and Task3

@@ -9,7 +9,7 @@ use Rattle.number.specs.Refusal.{malformed}
 use Rattle.number.specs.Number.{accepted, refused, readNumber, groups, continued, fifthGroup, numberBytes, groupBytes}
 use Rattle.config.specs.declared.Config.{Config}
 use Rattle.config.specs.Draft.{faultAt, putAt, ended, timedIn}
-use Rattle.config.specs.Reader.{readConfig, readFrom}
+use Rattle.config.specs.Reader.{readConfig, numberAt, readFrom}
 use Rattle.config.specs.Meaning.{greatestIn, entriesBefore, smallestOffset}
 use Rattle.cell.specs.Cell.{startCell}
 use Rattle.cell.specs.Due.{due}
@@ -82,7 +82,7 @@ unfolding due
 each-tick n = simp (leb·suc-suc 0 n, leb·zero n, mod-one (suc n - 1))
 
 pub edges : Edges
-unfolding listing numberBytes groupBytes readNumber groups continued fifthGroup readConfig readFrom faultAt putAt
+unfolding listing numberBytes groupBytes readNumber groups continued fifthGroup readConfig numberAt readFrom faultAt putAt
     timedIn ended greatestIn entriesBefore due firstGiven candidate chosenFrom among heldIn counting entryDue
     duesFrom activatingDue stepBy seenBy
 edges =

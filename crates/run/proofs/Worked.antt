@@ -7,7 +7,7 @@ use lib.ListN.{replicate}
 use Rattle.number.specs.Output.{written}
 use Rattle.number.specs.Number.{readNumber, groups, continued, fifthGroup}
 use Rattle.config.specs.Draft.{faultAt, putAt, ended, timedIn}
-use Rattle.config.specs.Reader.{readFrom, readConfig}
+use Rattle.config.specs.Reader.{numberAt, readFrom, readConfig}
 use Rattle.config.specs.Meaning.{greatestIn, entriesBefore}
 use Rattle.event.specs.Event.{event, known, arguments, afterNumber, readArguments, readEvent}
 use Rattle.event.specs.Trace.{readFrom as eventsFrom, readRest}
@@ -93,7 +93,7 @@ pub record Worked : Type 0 where
   pub low-first : lossBytes (258 ∷ 65535 ∷ []) ≡ 2 ∷ 1 ∷ 255 ∷ 255 ∷ []
 
 pub worked : Worked
-unfolding written readNumber groups continued fifthGroup faultAt putAt timedIn ended readFrom readConfig
+unfolding written readNumber groups continued fifthGroup faultAt putAt timedIn ended numberAt readFrom readConfig
     greatestIn entriesBefore known arguments afterNumber readArguments readEvent eventsFrom readRest due firstGiven
     anySet withBits withoutBits candidate chosenFrom among heldIn counting entryDue duesFrom activatingDue stepBy seenBy
     afterBy callOf readRun answerBytes lossBytes answers resultOf outputOf

@@ -10,7 +10,7 @@ use Rattle.number.specs.Number.{readNumber, groups, continued, fifthGroup}
 use Rattle.config.specs.declared.Config.{Config}
 use Rattle.config.specs.Value.{withVersion}
 use Rattle.config.specs.Draft.{faultAt, putAt, ended, timedIn, someTimed}
-use Rattle.config.specs.Reader.{readConfig, readFrom}
+use Rattle.config.specs.Reader.{readConfig, numberAt, readFrom}
 use Rattle.config.specs.Meaning.{greatestIn, entriesBefore}
 use Rattle.cell.specs.Due.{due}
 use Rattle.scheduler.specs.Status.{firstGiven}
@@ -173,7 +173,7 @@ pub record Examples : Type 0 where
       ∷ (false ∷ true ∷ true ∷ []) ∷ []
 
 pub examples : Examples
-unfolding sample secondEdition twoAutostart threeTasks twoTables readConfig readFrom readNumber groups continued fifthGroup
+unfolding sample secondEdition twoAutostart threeTasks twoTables readConfig numberAt readFrom readNumber groups continued fifthGroup
     faultAt putAt ended timedIn someTimed greatestIn entriesBefore due firstGiven candidate chosenFrom among heldIn
     counting entryDue duesFrom activatingDue stepBy seenBy
 examples =
@@ -303,7 +303,7 @@ pub record ExtendedExamples : Type 0 where
   pub due-while-waiting-losses : lossesOf (after extendedTasks (fresh extendedTasks) lostWaiting) ≡ 1 ∷ 0 ∷ 0 ∷ 0 ∷ []
 
 pub extended-examples : ExtendedExamples
-unfolding extendedTasks readConfig readFrom readNumber groups continued fifthGroup faultAt putAt ended timedIn
+unfolding extendedTasks readConfig numberAt readFrom readNumber groups continued fifthGroup faultAt putAt ended timedIn
     someTimed greatestIn entriesBefore due firstGiven candidate chosenFrom among heldIn counting entryDue duesFrom
     activatingDue anySet withBits withoutBits stepBy seenBy afterBy
 extended-examples =
@@ -399,7 +399,7 @@ pub record TimedExamples : Type 0 where
       ≡ row 0 0 4 0 ∷ row 0 255 0 0 ∷ row 0 255 0 0 ∷ row 0 1 201 1 ∷ row 0 255 0 0 ∷ row 2 255 0 0 ∷ []
 
 pub timed-examples : TimedExamples
-unfolding timedTasks readConfig readFrom readNumber groups continued fifthGroup faultAt putAt ended timedIn someTimed
+unfolding timedTasks readConfig numberAt readFrom readNumber groups continued fifthGroup faultAt putAt ended timedIn someTimed
     greatestIn entriesBefore due firstGiven candidate chosenFrom among heldIn counting entryDue duesFrom activatingDue
     anySet withBits withoutBits stepBy seenBy
 timed-examples =

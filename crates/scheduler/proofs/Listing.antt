@@ -5,7 +5,7 @@ use mathlib.Core.List.{List, [], _∷_, map}
 use Rattle.number.specs.Number.{readNumber, groups, continued, fifthGroup}
 use Rattle.config.specs.declared.Config.{Config}
 use Rattle.config.specs.Draft.{faultAt, putAt, ended, timedIn, someTimed}
-use Rattle.config.specs.Reader.{readConfig, readFrom}
+use Rattle.config.specs.Reader.{readConfig, numberAt, readFrom}
 use Rattle.config.specs.Meaning.{greatestIn, entriesBefore}
 use Rattle.cell.specs.Due.{due}
 use Rattle.scheduler.specs.Status.{firstGiven}
@@ -45,13 +45,13 @@ rows : map rowOf (seen listing (fresh listing) events)
     ≡ row 0 0 2 0 ∷ row 0 0 5 0 ∷ row 0 0 5 0 ∷ row 0 2 9 1 ∷ row 2 2 9 0 ∷ row 0 0 5 0 ∷ row 6 0 5 0 ∷ row 0 1 5 1
     ∷ row 0 1 5 0 ∷ row 0 1 5 0
     ∷ row 0 0 2 0 ∷ row 0 255 0 0 ∷ row 0 255 0 0 ∷ row 0 1 5 1 ∷ row 0 1 5 0 ∷ row 0 255 0 0 ∷ row 2 255 0 0 ∷ []
-unfolding listing events readConfig readFrom readNumber groups continued fifthGroup faultAt putAt ended timedIn
+unfolding listing events readConfig numberAt readFrom readNumber groups continued fifthGroup faultAt putAt ended timedIn
     someTimed greatestIn entriesBefore due firstGiven candidate chosenFrom among heldIn counting entryDue duesFrom
     activatingDue stepBy seenBy
 rows = refl
 
 losses : lossesOf (after listing (fresh listing) events) ≡ 1 ∷ 0 ∷ 0 ∷ []
-unfolding listing events readConfig readFrom readNumber groups continued fifthGroup faultAt putAt ended timedIn
+unfolding listing events readConfig numberAt readFrom readNumber groups continued fifthGroup faultAt putAt ended timedIn
     someTimed greatestIn entriesBefore due firstGiven candidate chosenFrom among heldIn counting entryDue duesFrom
     activatingDue stepBy afterBy
 losses = refl

@@ -4,7 +4,7 @@ use mathlib.Core.Path.{_≡_, refl}
 use mathlib.Core.List.{List, [], _∷_}
 use Rattle.number.specs.Number.{readNumber, groups, continued, fifthGroup}
 use Rattle.config.specs.Draft.{faultAt, putAt, ended, timedIn, someTimed}
-use Rattle.config.specs.Reader.{readFrom, readConfig}
+use Rattle.config.specs.Reader.{numberAt, readFrom, readConfig}
 use Rattle.config.specs.Meaning.{greatestIn, entriesBefore}
 use Rattle.event.specs.Event.{known, arguments, afterNumber, readArguments, readEvent}
 use Rattle.event.specs.Trace.{readFrom as eventsFrom, readRest}
@@ -62,7 +62,7 @@ pub record Calls : Type 0 where
   pub bad-code : waitResult extendedTask (2 ∷ 99 ∷ []) 9 ≡ 23 * 4294967296 + 1
 
 pub calls : Calls
-unfolding readConfig readFrom readNumber groups continued fifthGroup faultAt putAt ended timedIn someTimed greatestIn
+unfolding readConfig numberAt readFrom readNumber groups continued fifthGroup faultAt putAt ended timedIn someTimed greatestIn
     entriesBefore known arguments afterNumber readArguments readEvent eventsFrom readRest due firstGiven anySet
     withBits withoutBits candidate chosenFrom among heldIn counting entryDue duesFrom activatingDue stepBy seenBy
     afterBy callOf readRun someBeyondBasic someHold finishesWithin waitIn waitAfter

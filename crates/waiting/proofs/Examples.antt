@@ -7,7 +7,7 @@ use lib.ListN.{replicate}
 use Rattle.number.specs.Number.{readNumber, groups, continued, fifthGroup}
 use Rattle.config.specs.declared.Config.{Config}
 use Rattle.config.specs.Draft.{faultAt, putAt, ended, timedIn, someTimed}
-use Rattle.config.specs.Reader.{readConfig, readFrom}
+use Rattle.config.specs.Reader.{readConfig, numberAt, readFrom}
 use Rattle.config.specs.Meaning.{greatestIn, entriesBefore}
 use Rattle.cell.specs.Due.{due}
 use Rattle.scheduler.specs.Status.{firstGiven}
@@ -104,7 +104,7 @@ pub record Examples : Type 0 where
       (replicate 3 Finish)) ≡ false ∷ true ∷ false ∷ []
 
 pub examples : Examples
-unfolding threeTasks threeIsrs doorAndRadio bodiesOf allIsrs eightIsrs twice readConfig readFrom readNumber groups
+unfolding threeTasks threeIsrs doorAndRadio bodiesOf allIsrs eightIsrs twice readConfig numberAt readFrom readNumber groups
     continued fifthGroup faultAt putAt ended timedIn someTimed greatestIn entriesBefore due firstGiven
     candidate chosenFrom among heldIn counting entryDue duesFrom activatingDue stepBy seenBy afterBy
     someHold finishesWithin jobsBefore jobsAheadFrom

@@ -36,6 +36,7 @@ extendedBelow =
       kind = 2 ∷ replicate 31 0;
       priority = 2 ∷ 5 ∷ replicate 30 0;
       autostart = 0 ∷ 1 ∷ replicate 30 0;
+      deadline = replicate 32 0;
       resources = 0;
       users = replicate 16 0;
       tables = 0;

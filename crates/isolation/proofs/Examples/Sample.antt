@@ -9,7 +9,7 @@ use Rattle.config.specs.declared.Config.{Config}
 use Rattle.config.specs.declared.ConfigRead.{ConfigRead}
 use Rattle.config.specs.Accepted.{Accepted, Shaped}
 use Rattle.config.specs.Draft.{faultAt, putAt, ended, timedIn, someTimed}
-use Rattle.config.specs.Reader.{readConfig, readFrom}
+use Rattle.config.specs.Reader.{readConfig, numberAt, readFrom}
 use Rattle.config.specs.Meaning.{greatestIn, entriesBefore}
 use Rattle.config.proofs.Theorems.{accepted-ranges, reading}
 use Rattle.scheduler.specs.State.{among}
@@ -34,6 +34,7 @@ sample =
       kind = 0 ∷ 0 ∷ 1 ∷ 1 ∷ replicate 28 0;
       priority = 2 ∷ 5 ∷ 9 ∷ 3 ∷ replicate 28 0;
       autostart = 0 ∷ 1 ∷ replicate 30 0;
+      deadline = replicate 32 0;
       resources = 1;
       users = 6 ∷ replicate 15 0;
       tables = 1;
@@ -44,7 +45,7 @@ sample =
     }
 
 read : readConfig bytes ≡ record { config = sample; refusal = none; place = 21 }
-unfolding readNumber groups continued fifthGroup readConfig readFrom faultAt putAt ended timedIn someTimed greatestIn
+unfolding readNumber groups continued fifthGroup readConfig numberAt readFrom faultAt putAt ended timedIn someTimed greatestIn
     entriesBefore among
 read = refl
 
