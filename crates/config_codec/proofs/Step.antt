@@ -21,7 +21,7 @@ use Rattle.config.proofs.Ranges.{InRange, in-range}
 use Rattle.config.proofs.Position.{left, start-within, moved, Moved}
 use Rattle.config_codec.specs.declared.position.Position.{Position}
 use Rattle.config_codec.specs.Position.{draftAt, positionOf, Follows, Stands}
-use Rattle.config_codec.specs.Walk.{shown, readUnless, given, Answers, Measures}
+use Rattle.config_codec.specs.Walk.{readUnless, given, Answers, Measures}
 use Rattle.config_codec.proofs.NextNumber.{asked-same, onward}
 use Rattle.config_codec.proofs.Reading.{ReadsOn, reads-start, unreadable, faulty, goes, reads-end}
 use Rattle.config_codec.proofs.Measuring.{MeasuresOn, measures-start, measures-small, measures-refused, measures-next, measures-end}
@@ -82,11 +82,12 @@ module _ {writing : Bool} {value : Config} {bs : List ℕ} {c : Config} {p : Pos
   )
 
   -- one more number, read or asked
-  module _ (more : ended (p .field) ≡ false) {b : Bool} (quiet : b ≡ silent d) {r : NumberRead}
-      (read : writing ≡ false → r ≡ readUnless b bs at) (told : writing ≡ true → r ≡ given value p b at) where
+  module _ (more : ended (p .field) ≡ false) {r : NumberRead}
+      (read : writing ≡ false → r ≡ readUnless (silent d) bs at)
+      (told : writing ≡ true → r ≡ given value p (silent d) at) where
     here : writing ≡ false → r ≡ numberAt d bs at
     unfolding numberAt
-    here w = read w ∙ ap (λ (x : Bool). readUnless x bs at) quiet
+    here = read
 
     pub step-unreadable : (r .refusal ≡ none → ⊥) → Outcome writing value bs (refused (r .refusal) (r .place))
     step-unreadable n = (
@@ -101,7 +102,6 @@ module _ {writing : Bool} {value : Config} {bs : List ℕ} {c : Config} {p : Pos
     unfolding bytesAt
     place w =
         ap (λ (x : NumberRead). at + length (bytesAt d (x .value))) (told w)
-        ∙ ap (λ (x : Bool). at + length (shown x (asked value (draftAt value p)))) (sym quiet)
         ∙ sym (ap (λ (x : NumberRead). x .place) (told w))
 
     -- tested and stored

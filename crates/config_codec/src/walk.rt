@@ -35,6 +35,7 @@ ghost use mathlib.Core.Path.{_≡_};
 ghost use mathlib.Core.Bool.{true, false};
 ghost use Prim.Native.Nat.{_%_, _≤_};
 ghost use lib.ListN.{length};
+ghost use Rattle.config.specs.Draft.{silentAt};
 ghost use Rattle.config_codec.specs.Position.{Stands};
 ghost use Rattle.config_codec.specs.Walk.{shown, readUnless, given, Answers, Measures};
 
@@ -59,27 +60,27 @@ fn read_at(silent: bool, bytes: &[u8], at: usize) -> NumberRead
     read_number(bytes, at)
 }
 
-// The next number: of the value, where one is written, or of the input.
+// The next number of a configuration of this version: of the value, where one is written, or of the input.
 fn number_at(
     writing: bool,
-    silent: bool,
+    version: u8,
     value: Config,
     p: Position,
     bytes: &[u8],
     at: usize,
 ) -> NumberRead
     requires { ⌜ Stands p × (at ≤ 4294967296) ⌝ }
-    ensures read { λ r. ⌜ (writing ≡ false → r ≡ readUnless silent (now (bytes .entry)) at) ⌝ }
-    ensures asked { λ r. ⌜ (writing ≡ true → r ≡ given value p silent at) ⌝ }
+    ensures read { λ r. ⌜ (writing ≡ false → r ≡ readUnless (silentAt (p .field) version) (now (bytes .entry)) at) ⌝ }
+    ensures asked { λ r. ⌜ (writing ≡ true → r ≡ given value p (silentAt (p .field) version) at) ⌝ }
 {
     if !writing {
-        return read_at(silent, bytes, at);
+        return read_at(silent(p, version), bytes, at);
     }
     let v = asked(value, p);
     NumberRead {
         value: v,
         refusal: 0,
-        place: at + length_at(silent, v),
+        place: at + length_at(silent(p, version), v),
     }
 }
 
@@ -107,7 +108,7 @@ pub fn walk(writing: bool, value: Config, bytes: &[u8]) -> ConfigRead
     let mut p = first();
     let mut at = 0;
     while !ended(p) {
-        let r = number_at(writing, silent(p, c.version), value, p, bytes, at);
+        let r = number_at(writing, c.version, value, p, bytes, at);
         if r.refusal != 0 {
             return refused(r.refusal, r.place);
         }

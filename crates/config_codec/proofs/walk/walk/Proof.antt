@@ -31,7 +31,7 @@ abbrev μ-loop : tie.MeasureT-loop
 
 -- at the loop's head, and the number that a step has
 abbrev head : tie.After-byte Inv-loop μ-loop → tie.At-loop Inv-loop μ-loop
-head b = b .before .before .before .before .before .before .before
+head b = b .before .before .before .before .before .before
 
 abbrev number : tie.After-byte Inv-loop μ-loop → ℕ
 number b = b .before .before .before .number-at .result .value
@@ -185,14 +185,13 @@ loop-holds : tie.Need-loop-holds Inv-loop μ-loop
 loop-holds c = rw (c .before .no-config .ensures, c .first .ensures) (walk-start _ _ _)
 
 number-at-requires : tie.Need-number-at-requires Inv-loop μ-loop
-number-at-requires c κs = let l = c .before .before .before in
+number-at-requires c κs = let l = c .before .before in
     (walk-stands (l .loop .inv), walk-small (l .loop .inv) (l .before .before .before .before .pre))
 
 returns : tie.Need-returns Inv-loop μ-loop
 returns c = let n = c .before .before .before in
     rw (c .refused .ensures)
-    (step-unreadable (n .before .before .before .before .loop .inv) (going (n .before .before)) (n .before .silent .ensures)
-    (n .number-at .ensures .0)
+    (step-unreadable (n .before .before .before .loop .inv) (going (n .before)) (n .number-at .ensures .0)
     (n .number-at .ensures .1) (c .before .if2 .taken))
 
 returns-2 : tie.Need-returns-2 Inv-loop μ-loop
@@ -200,7 +199,7 @@ returns-2 c = let j = c .before .before in
     let b = j .before in
     let n = b .before .before .before in
     rw (c .refused2 .ensures)
-    (step-refused (head b .loop .inv) (going (n .before .before)) (n .before .silent .ensures) (n .number-at .ensures .0) (n .number-at .ensures .1)
+    (step-refused (head b .loop .inv) (going (n .before)) (n .number-at .ensures .0) (n .number-at .ensures .1)
     (b .before .if2 .left) (stepped j) (c .before .if3 .taken))
 
 next-requires : tie.Need-next-requires Inv-loop μ-loop
@@ -210,14 +209,14 @@ loop-less : tie.Need-loop-less Inv-loop μ-loop
 loop-less c = let j = c .before .before in
     let b = j .before in
     let n = b .before .before .before in
-    step-fewer (head b .loop .inv) (going (n .before .before)) (n .before .silent .ensures) (n .number-at .ensures .0) (n .number-at .ensures .1)
+    step-fewer (head b .loop .inv) (going (n .before)) (n .number-at .ensures .0) (n .number-at .ensures .1)
     (b .before .if2 .left) (stepped j) (c .before .if3 .left) (c .next .ensures)
 
 loop-again : tie.Need-loop-again Inv-loop μ-loop
 loop-again c = let j = c .before .before in
     let b = j .before in
     let n = b .before .before .before in
-    step-next (head b .loop .inv) (going (n .before .before)) (n .before .silent .ensures) (n .number-at .ensures .0) (n .number-at .ensures .1)
+    step-next (head b .loop .inv) (going (n .before)) (n .number-at .ensures .0) (n .number-at .ensures .1)
     (b .before .if2 .left) (stepped j) (c .before .if3 .left) (c .next .ensures)
 
 returns-3 : tie.Need-returns-3 Inv-loop μ-loop
@@ -229,7 +228,7 @@ walk-spec =
     (tie.spec
     Inv-loop
     μ-loop
-    (λ c κs. tt) (λ c κs. tt) loop-holds (λ c κs. tt) (λ c κs. tt) number-at-requires (λ c κs. tt) returns (λ c κs. tt)
+    (λ c κs. tt) (λ c κs. tt) loop-holds (λ c κs. tt) number-at-requires (λ c κs. tt) returns (λ c κs. tt)
     (λ c. search needs) (λ c κs. tt) (λ c. search needs) (λ c κs. tt) (λ c. search needs) (λ c κs. tt)
     element-write-c
     (λ c. search needs) priority-fault-requires element-write-c-2
