@@ -1,0 +1,35 @@
+-- What the call returns and what it leaves in the list that it is lent: "A call of its own, refusing as the run does,
+-- gives the first 64 misses .. and as its result the count of all"; "30 for a list too short for the misses it gets".
+use Prim.Native.Nat.{ℕ}
+use mathlib.Core.Bool.{cond}
+use mathlib.Core.List.{List}
+use lib.Dec.{leb}
+use lib.ListN.{length}
+use Rattle.number.specs.Refusal.{noRoom}
+use Rattle.number.specs.Output.{packed, written}
+use Rattle.config.specs.declared.Config.{Config}
+use Rattle.scheduler.specs.Event.{Event}
+use Rattle.run.specs.Run.{Input, refused, played, readRun}
+use Rattle.deadlines.specs.Miss.{Miss, deadlinesOf, misses}
+use Rattle.deadlines.specs.Report.{firstMisses, missBytes, bytesNeeded}
+
+abbrev pub missesIn : Config → List Event → List Miss
+missesIn c es = misses c (deadlinesOf c) es
+
+-- of a list of misses, where n bytes are lent
+abbrev pub countOf : ℕ → List Miss → ℕ
+countOf n ms = cond (leb (bytesNeeded ms) n) (length ms) (packed noRoom (bytesNeeded ms))
+
+unfoldable pub missesAfterReading : ℕ → Input → ℕ
+missesAfterReading n (refused r p) = packed r p
+missesAfterReading n (played c es) = countOf n (missesIn c es)
+
+unfoldable pub listAfterReading : List ℕ → Input → List ℕ
+listAfterReading d (refused r p) = d
+listAfterReading d (played c es) = written (missBytes (firstMisses (missesIn c es))) d
+
+abbrev pub missesResult : List ℕ → List ℕ → ℕ → ℕ
+missesResult cs ts n = missesAfterReading n (readRun cs ts)
+
+abbrev pub missesOutput : List ℕ → List ℕ → List ℕ → List ℕ
+missesOutput cs ts d = listAfterReading d (readRun cs ts)
