@@ -270,7 +270,7 @@ accepted-next c s e ok = ap (dispatched c) (leaves-effect (statusOf c s e) ok)
     leaves-effect st ok = rw (eq-eqb st done ok)
 
 module _ (c : Config) (s : State) (o : Orderly c s) (e : Event) where
-  some-runs : isEnd e ≡ true → statusOf c s e ≡ done → isNobody (runner c s) ≡ false
+  pub some-runs : isEnd e ≡ true → statusOf c s e ≡ done → isNobody (runner c s) ≡ false
   some-runs is ok =
       ⊎-elim
       (λ f. finish-passed c s (rw f at ok) .0)
@@ -349,7 +349,7 @@ module _ (c : Config) (s : State) (o : Orderly c s) (b : ℕ) (quiet : Quiet b s
   told false false false true was ends anew stays = (refl, refl)
   told false false false false was ends anew stays = (refl, refl)
 
-  both-told : (endsAt c s e b ≡ (active s b && not (active (next c s e) b)) || chainsItself c s e b)
+  pub both-told : (endsAt c s e b ≡ (active s b && not (active (next c s e) b)) || chainsItself c s e b)
       × (readyAt c s e b ≡ (active (next c s e) b && not (active s b)) || chainsItself c s e b)
   unfolding readyAt chainsItself
   both-told =
