@@ -38,10 +38,10 @@ use Rattle.machine.proofs.Whole.Fresh.{fresh-sim}
 use Rattle.machine.proofs.Whole.Lists.{event-agrees}
 use Rattle.deadlines.specs.Activation.{isEnd, endsAt, readyAt, chainsTo, chainsItself}
 use Rattle.deadlines.specs.Miss.{Miss, deadlineOf, misses}
-use Rattle.deadlines.specs.DeadlineCells.{restingCell, startedCell, countedCell, movedCell, freshCell, rowOf, stepRow, matchesOf, runRow, cellMisses}
-use Rattle.deadlines.specs.Words.{awakeAt, rankIn, chainsBy, endsBy, readyBy, stepRowBy, machineRow, freshCellBy, machineMisses}
+use Rattle.deadlines.specs.DeadlineCells.{offCell, readyCell, countedCell, movedCell, freshCell, rowOf, stepRow, matchesOf, runRow, cellMisses}
+use Rattle.deadlines.specs.Words.{activeAt, planRank, chainsBy, endsBy, readyBy, stepRowBy, machineRow, freshCellBy, machineMisses}
 use Rattle.deadlines.proofs.Rows.{run-misses}
-use Rattle.deadlines.proofs.Told.{some-runs, both-told}
+use Rattle.deadlines.proofs.States.{some-runs, both-told}
 
 -- within a list it does not matter what lies past it
 past-any : (xs : List ℕ) (n d e : ℕ) → n < length xs → getD xs n d ≡ getD xs n e
@@ -65,13 +65,13 @@ chains-end b (Clear w) h = h
 
 -- the model m stands for the state s
 module _ {c : Config} {p : Plan} {rk : ℕ → ℕ} (fit : Fitted c p rk) where
-  rank-is : (b : ℕ) → b < c .bodies → rankIn p b ≡ rk b
+  rank-is : (b : ℕ) → b < c .bodies → planRank p b ≡ rk b
   rank-is b b< =
       past-any (p .rank) b 0 noRank (omega (arith, fit .ranks-long, fit .few)) ∙ fit .body-rank b b<
 
-  awake-is : {m : Model} {s : State} → Sim c p rk m s → (b : ℕ) → b < c .bodies → awakeAt m (rankIn p b) ≡ active s b
+  awake-is : {m : Model} {s : State} → Sim c p rk m s → (b : ℕ) → b < c .bodies → activeAt m (planRank p b) ≡ active s b
   awake-is {m} sim b b< =
-      ap (awakeAt m) (rank-is b b<)
+      ap (activeAt m) (rank-is b b<)
       ∙ ap (λ (x : Bool). has (m .core .request) (rk b) || x) (sym (has-union (m .core .started) (m .core .aside) (rk b)))
       ∙ busy-is (sim .tied .words) b b<
 
@@ -118,8 +118,8 @@ module _ {c : Config} {p : Plan} {rk : ℕ → ℕ} (fit : Fitted c p rk) where
           (sym (both-told c s (sim .orderly) b (task-quiet b task) e .1))
 
 -- a body without a deadline has a cell that stays as it is, whatever happens
-moved-resting : (r q t : Bool) → movedCell 0 r q t (restingCell 0) ≡ restingCell 0
-unfolding movedCell startedCell countedCell tickCellIn
+moved-resting : (r q t : Bool) → movedCell 0 r q t (offCell 0) ≡ offCell 0
+unfolding movedCell readyCell countedCell tickCellIn
 moved-resting true q t = refl
 moved-resting false true t = refl
 moved-resting false false true = refl
@@ -128,10 +128,10 @@ moved-resting false false false = refl
 -- the cells xs from body b on are those of bodies, and those of bodies without a deadline rest
 unfoldable Row : Config → List ℕ → ℕ → List Cell → Type 0
 Row c ds b [] = Unit {0}
-Row c ds b (x ∷ xs) = (b < c .bodies) × ((deadlineOf ds b ≡ 0 → x ≡ restingCell 0) × Row c ds (suc b) xs)
+Row c ds b (x ∷ xs) = (b < c .bodies) × ((deadlineOf ds b ≡ 0 → x ≡ offCell 0) × Row c ds (suc b) xs)
 
 module _ (c : Config) (ds : List ℕ) where
-  fresh-row : (f : ℕ → Cell) → ((b : ℕ) → deadlineOf ds b ≡ 0 → f b ≡ restingCell 0)
+  fresh-row : (f : ℕ → Cell) → ((b : ℕ) → deadlineOf ds b ≡ 0 → f b ≡ offCell 0)
       → (b n : ℕ) → b + n ≤ c .bodies → Row c ds b (rowOf f b n)
   unfolding Row rowOf
   fresh-row f rests b zero fits = tt
@@ -181,9 +181,9 @@ module _ (c : Config) (ok : Accepted c) (shaped : Shaped c) (ds : List ℕ)
   fresh-is b (suc n) fits =
       rw (awake-is fit (fresh-sim fit) b (omega arith), fresh-is (suc b) n (omega arith))
 
-  fresh-rests : (b : ℕ) → deadlineOf ds b ≡ 0 → freshCell c (deadlineOf ds b) b ≡ restingCell 0
-  unfolding freshCell startedCell
-  fresh-rests b z = rw z (cond-either (λ (x : Cell). x ≡ restingCell 0) (active (fresh c) b) _ _ refl refl)
+  fresh-rests : (b : ℕ) → deadlineOf ds b ≡ 0 → freshCell c (deadlineOf ds b) b ≡ offCell 0
+  unfolding freshCell readyCell
+  fresh-rests b z = rw z (cond-either (λ (x : Cell). x ≡ offCell 0) (active (fresh c) b) _ _ refl refl)
 
   machine-cells : (es : List Event) → machineMisses c (planOf c) ds es ≡ cellMisses c ds es
   machine-cells es =

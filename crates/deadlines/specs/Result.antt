@@ -1,5 +1,7 @@
--- What the call returns and what it leaves in the list that it is lent: "A call of its own, refusing as the run does,
--- gives the first 64 misses .. and as its result the count of all"; "30 for a list too short for the misses it gets".
+-- What the call returns and what it leaves in the list that it is lent.
+--
+--   missesResult cs ts n   what it returns for the bytes of a configuration and a trace, with n bytes lent for the list
+--   missesOutput cs ts d   what it leaves in the list d
 use Prim.Native.Nat.{ℕ}
 use mathlib.Core.Bool.{cond}
 use mathlib.Core.List.{List}
@@ -16,14 +18,16 @@ use Rattle.deadlines.specs.Report.{firstMisses, missBytes, bytesNeeded}
 abbrev pub missesIn : Config → List Event → List Miss
 missesIn c es = misses c (deadlinesOf c) es
 
--- of a list of misses, where n bytes are lent
+-- "as its result the count of all"; "30 for a list too short for the misses it gets", with the bytes needed
 abbrev pub countOf : ℕ → List Miss → ℕ
 countOf n ms = cond (leb (bytesNeeded ms) n) (length ms) (packed noRoom (bytesNeeded ms))
 
+-- "refusing as the run does"
 unfoldable pub missesAfterReading : ℕ → Input → ℕ
 missesAfterReading n (refused r p) = packed r p
 missesAfterReading n (played c es) = countOf n (missesIn c es)
 
+-- a refused call writes nothing
 unfoldable pub listAfterReading : List ℕ → Input → List ℕ
 listAfterReading d (refused r p) = d
 listAfterReading d (played c es) = written (missBytes (firstMisses (missesIn c es))) d

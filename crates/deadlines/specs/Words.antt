@@ -1,8 +1,8 @@
--- The same by the machine's model, as the code computes it: who is awake is told by the words before and after a step.
+-- The same by the machine: its words before and after an event tell who is active, and so who ended and who became ready.
 --
---   awakeAt m r          in the model m the body with rank r isn't suspended
---   chainsBy p m e o b   the event e, which met m and handed o back, is an accepted Chain of b to itself
---   endsBy, readyBy      that event ended b, made b ready
+--   activeAt m r              in the model m the body with rank r isn't suspended
+--   chainsBy p m e o b        the event e, which met m and handed o back, is an accepted Chain of b to itself
+--   endsBy, readyBy           that event ended b, made b ready
 --   machineMisses c p ds es   the run of the events es on the machine with a row of deadline cells
 --
 -- Main law: `machine-tells-misses` (proofs/Theorems.antt).
@@ -21,25 +21,26 @@ use Rattle.machine.specs.Model.{Model, Outcome}
 use Rattle.machine.specs.Machine.{freshModel, runnerOf, machineStep}
 use Rattle.deadlines.specs.Activation.{chainsTo}
 use Rattle.deadlines.specs.Miss.{Miss, deadlineOf}
-use Rattle.deadlines.specs.DeadlineCells.{restingCell, startedCell, movedCell, rowOf, matchesOf}
+use Rattle.deadlines.specs.DeadlineCells.{offCell, readyCell, movedCell, rowOf, matchesOf}
 
 -- a request of it waits, or it has begun: it goes on by its priority, or is aside
-abbrev pub awakeAt : Model → ℕ → Bool
-awakeAt m r = has (m .core .request) r || (has (m .core .started) r || has (m .core .aside) r)
+abbrev pub activeAt : Model → ℕ → Bool
+activeAt m r = has (m .core .request) r || (has (m .core .started) r || has (m .core .aside) r)
 
-abbrev pub rankIn : Plan → ℕ → ℕ
-rankIn p b = getD (p .rank) b 0
+abbrev pub planRank : Plan → ℕ → ℕ
+planRank p b = getD (p .rank) b 0
 
+-- it leaves the words as they were
 abbrev pub chainsBy : Plan → Model → Event → Outcome → ℕ → Bool
 chainsBy p m e o b = chainsTo b e && (eqb (o .status) done && eqb (runnerOf p m) b)
 
 abbrev pub endsBy : Plan → Model → Event → Outcome → ℕ → Bool
 endsBy p m e o b =
-    (awakeAt m (rankIn p b) && not (awakeAt (o .model) (rankIn p b))) || chainsBy p m e o b
+    (activeAt m (planRank p b) && not (activeAt (o .model) (planRank p b))) || chainsBy p m e o b
 
 abbrev pub readyBy : Plan → Model → Event → Outcome → ℕ → Bool
 readyBy p m e o b =
-    (awakeAt (o .model) (rankIn p b) && not (awakeAt m (rankIn p b))) || chainsBy p m e o b
+    (activeAt (o .model) (planRank p b) && not (activeAt m (planRank p b))) || chainsBy p m e o b
 
 -- the row of cells from body b on after the event e, which met m and handed o back
 unfoldable pub stepRowBy : Plan → List ℕ → Model → Event → Outcome → ℕ → List Cell → List Cell
@@ -58,7 +59,7 @@ machineRow c p ds k m xs (e ∷ es) =
 
 abbrev pub freshCellBy : Plan → List ℕ → ℕ → Cell
 freshCellBy p ds b =
-    cond (awakeAt (freshModel p) (rankIn p b)) (startedCell (deadlineOf ds b)) (restingCell (deadlineOf ds b))
+    cond (activeAt (freshModel p) (planRank p b)) (readyCell (deadlineOf ds b)) (offCell (deadlineOf ds b))
 
 abbrev pub machineMisses : Config → Plan → List ℕ → List Event → List Miss
 machineMisses c p ds es = machineRow c p ds 0 (freshModel p) (rowOf (freshCellBy p ds) 0 (c .bodies)) es

@@ -1,4 +1,4 @@
--- A body that isn't suspended stays so until an event ends it (`awake-until-end`).
+-- A body that isn't suspended stays so until an event ends it (`active-until-end`).
 use Prim.Native.Nat.{ℕ}
 use mathlib.Core.Path.{_≡_, refl, sym, ap, _∙_}
 use mathlib.Core.Bool.{Bool, true, false, true≢false, cond, not, _||_, or-true}
@@ -113,9 +113,9 @@ module _ (b : ℕ) where
       (λ ends same. true≢false (sym (simp (ends, ok, eq-eqb (caller c s) b (sym same))) ∙ none)) h))
       (λ bad. rw bad (refusal-awake c s (statusOf c s e) e h)))
 
-  pub awake-until-end : (c : Config) (s : State) (e : Event) → active s b ≡ true → endsAt c s e b ≡ false
+  pub active-until-end : (c : Config) (s : State) (e : Event) → active s b ≡ true → endsAt c s e b ≡ false
       → active (next c s e) b ≡ true
-  awake-until-end c s e h none = ap not (step-awake c s e none (not-true _ h))
+  active-until-end c s e h none = ap not (step-awake c s e none (not-true _ h))
 
 -- a body isn't suspended exactly if a request of it waits, or it has begun: what the machine's words say
 pub active-words : (s : State) (b : ℕ)

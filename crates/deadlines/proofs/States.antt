@@ -34,7 +34,7 @@ use Rattle.scheduler.proofs.Refusals.{begins-some}
 use Rattle.scheduler.proofs.Distinct.{Distinct, among-head}
 use Rattle.scheduler.proofs.Order.{Orderly, orderly-fresh, orderly-after}
 use Rattle.deadlines.specs.Activation.{isEnd, endsAt, readyAt, chainsTo, chainsItself}
-use Rattle.deadlines.proofs.Awake.{Awake, dispatched-awake, awake-until-end}
+use Rattle.deadlines.proofs.Active.{Awake, dispatched-awake, active-until-end}
 
 -- no request of the body b waits
 abbrev Quiet : ℕ → State → Type 0
@@ -354,7 +354,7 @@ module _ (c : Config) (s : State) (o : Orderly c s) (b : ℕ) (quiet : Quiet b s
   unfolding readyAt chainsItself
   both-told =
       told (active s b) (active (next c s e) b) (endsAt c s e b) (chainsTo b e) ended-active ended-inactive anew-active
-      (awake-until-end b c s e)
+      (active-until-end b c s e)
 
 -- after every list of events
 pub states-tell : (c : Config) → Accepted c → Shaped c → (b : ℕ) → isIsr c b ≡ false → (es : List Event) (e : Event)
