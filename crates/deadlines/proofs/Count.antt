@@ -80,3 +80,13 @@ module _ (p : Plan) (ds : List ℕ) where
       (rw (length-step m e (machineStep c p m e) 0 xs) at
       (row-le c (cond (isTick e) (suc k) k) (machineStep c p m e .model)
       (stepRowBy p ds m e (machineStep c p m e) 0 xs) es))
+
+-- each byte of a list of such misses is one
+pub miss-byte : (ms : List Miss) → ((m : Miss) → List·Memᴰ m ms → (m .tick < 65536) × (m .body < 256))
+    → (i : ℕ) → getD (missBytes ms) i 0 < 256
+unfolding missBytes
+miss-byte [] small i = omega arith
+miss-byte (m ∷ ms) small zero = omega arith
+miss-byte (m ∷ ms) small (suc zero) = let h = small m (List·Memᴰ·head refl) in omega arith
+miss-byte (m ∷ ms) small (suc (suc zero)) = small m (List·Memᴰ·head refl) .1
+miss-byte (m ∷ ms) small (suc (suc (suc i))) = miss-byte ms (λ n h. small n (List·Memᴰ·tail h)) i

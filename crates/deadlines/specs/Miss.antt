@@ -61,7 +61,7 @@ missedFrom c D b s (e ∷ es) =
 unfoldable pub missed : Config → ℕ → ℕ → List Event → Bool
 missed c D b es = (active (fresh c) b && missedSince c D b (fresh c) es) || missedFrom c D b (fresh c) es
 
--- a line of the list: the Tick's number, from 1 on, and the body
+-- one of the list: the Tick's number, from 1 on, and the body
 pub record Miss : Type 0 where
   pub tick : ℕ
   pub body : ℕ
