@@ -22,9 +22,9 @@ use Rattle.scheduler.specs.Event.{Event}
 use Rattle.run.specs.Run.{Input, refused, played, readRun}
 use Rattle.run.proofs.Input.{config-refused, trace-too-long, trace-refused, all-readable}
 use Rattle.deadlines.specs.Miss.{Miss, deadlinesOf}
-use Rattle.deadlines.specs.Report.{firstMisses, missBytes, bytesNeeded}
+use Rattle.deadlines.specs.Report.{bytesNeeded}
 use Rattle.deadlines.specs.Words.{machineMisses}
-use Rattle.deadlines.specs.Result.{missesIn, countOf, missesAfterReading, listAfterReading, missesResult, missesOutput}
+use Rattle.deadlines.specs.Result.{missesIn, countOf, listOf, missesAfterReading, listAfterReading, missesResult, missesOutput}
 use Rattle.deadlines.proofs.Report as Report
 use Rattle.deadlines.proofs.Machine as Machine
 use Rattle.deadlines.proofs.Bounds.{deadline-le, isr-none}
@@ -80,9 +80,9 @@ module _ (cs ts d : List ℕ) where
     unfolding missesAfterReading
     result-is = ap (missesAfterReading (length d)) e ∙ ap (countOf (length d)) (sym told-all)
 
-    output-is : missesOutput cs ts d ≡ written (missBytes (firstMisses ms)) d
+    output-is : missesOutput cs ts d ≡ listOf d ms
     unfolding listAfterReading
-    output-is = ap (listAfterReading d) e ∙ ap (λ (l : List Miss). written (missBytes (firstMisses l)) d) (sym told-all)
+    output-is = ap (listAfterReading d) e ∙ ap (listOf d) (sym told-all)
 
     pub gave-short : (x : ℕ) → length d < bytesNeeded ms → x ≡ packed noRoom (bytesNeeded ms) → Gave cs ts d x d
     unfolding written
@@ -93,7 +93,7 @@ module _ (cs ts d : List ℕ) where
         }
 
     pub gave-whole : (x : ℕ) (d₁ : List ℕ) → bytesNeeded ms ≤ length d → x ≡ length ms
-        → d₁ ≡ written (missBytes (firstMisses ms)) d
+        → d₁ ≡ listOf d ms
         → Gave cs ts d x d₁
     gave-whole x d₁ room count wrote =
         record {

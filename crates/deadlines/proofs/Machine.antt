@@ -4,7 +4,7 @@
 -- of a body without a deadline stays as it is; the two rows, step by step.
 use Prim.Native.Nat.{ℕ, zero, suc, _+_, _≤_, _<_}
 use mathlib.Core.Path.{_≡_, refl, sym, ap, ap₂, _∙_}
-use mathlib.Core.Bool.{Bool, true, false, true≢false, cond, not, _&&_, _||_}
+use mathlib.Core.Bool.{Bool, true, false, true≢false, cond, _||_}
 use mathlib.Core.List.{List, [], _∷_, _++_}
 use native.Mathlib.Omega.{arith}
 use borrow.Author.Tests.{eqb-true}
@@ -15,8 +15,8 @@ use Rattle.config.specs.declared.Config.{Config}
 use Rattle.config.specs.Meaning.{isIsr}
 use Rattle.config.specs.Accepted.{Accepted, Shaped}
 use Rattle.cell.specs.declared.Cell.{Cell}
-use Rattle.cell.specs.Cell.{tickCell, tickCellIn}
-use Rattle.word.specs.Word.{has, union}
+use Rattle.cell.specs.Cell.{tickCellIn}
+use Rattle.word.specs.Word.{has}
 use Rattle.word.proofs.Theorems.{has-union}
 use Rattle.plan.specs.declared.Plan.{Plan}
 use Rattle.plan.specs.Rank.{noRank, rankOf}
@@ -26,10 +26,9 @@ use Rattle.scheduler.specs.Status.{done}
 use Rattle.scheduler.specs.State.{State, bodyOf}
 use Rattle.scheduler.specs.Event.{Event, Activate, Finish, Chain, Get, Release, Tick, Line, Start, Stop, Wait, Set, Clear, isTick}
 use Rattle.scheduler.specs.Call.{active, caller, statusOf}
-use Rattle.scheduler.specs.Scheduler.{Seen, step, stepBy, fresh}
-use Rattle.scheduler.specs.History.{next}
+use Rattle.scheduler.specs.Scheduler.{Seen, stepBy, fresh}
 use Rattle.machine.specs.Model.{Model, Outcome}
-use Rattle.machine.specs.Machine.{freshModel, runnerOf, machineStep}
+use Rattle.machine.specs.Machine.{runnerOf, machineStep}
 use Rattle.machine.proofs.Relation.Words.{busy-is}
 use Rattle.machine.proofs.Relation.Whole.{Sim}
 use Rattle.machine.proofs.Arbitration.Dispatch.{runnerOf-is}

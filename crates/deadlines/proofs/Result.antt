@@ -17,7 +17,7 @@ use Rattle.run.proofs.Theorems.{Bounded, input-bounded, highHalf, lowHalf}
 use Rattle.deadlines.specs.Miss.{Miss, deadlinesOf}
 use Rattle.deadlines.specs.Report.{firstMisses, missBytes, bytesNeeded}
 use Rattle.deadlines.specs.Result.{missesIn, missesAfterReading, listAfterReading, missesResult, missesOutput}
-use Rattle.deadlines.proofs.Count.{misses-le, miss-bounds, miss-byte}
+use Rattle.deadlines.proofs.Size.{misses-le, miss-bounds, miss-byte}
 use Rattle.deadlines.proofs.Input.{played-accepted}
 use Rattle.deadlines.proofs.Report.{bytes-needed}
 

@@ -22,15 +22,18 @@ missesIn c es = misses c (deadlinesOf c) es
 abbrev pub countOf : ℕ → List Miss → ℕ
 countOf n ms = cond (leb (bytesNeeded ms) n) (length ms) (packed noRoom (bytesNeeded ms))
 
--- "refusing as the run does"
+-- what a list of misses leaves in d: the first 64, or d as it was where they do not fit
+abbrev pub listOf : List ℕ → List Miss → List ℕ
+listOf d ms = written (missBytes (firstMisses ms)) d
+
+-- "refusing as the run does", with nothing written
 unfoldable pub missesAfterReading : ℕ → Input → ℕ
 missesAfterReading n (refused r p) = packed r p
 missesAfterReading n (played c es) = countOf n (missesIn c es)
 
--- a refused call writes nothing
 unfoldable pub listAfterReading : List ℕ → Input → List ℕ
 listAfterReading d (refused r p) = d
-listAfterReading d (played c es) = written (missBytes (firstMisses (missesIn c es))) d
+listAfterReading d (played c es) = listOf d (missesIn c es)
 
 abbrev pub missesResult : List ℕ → List ℕ → ℕ → ℕ
 missesResult cs ts n = missesAfterReading n (readRun cs ts)

@@ -15,7 +15,7 @@ use Rattle.scheduler.specs.Event.{Event, Tick, isTick}
 use Rattle.scheduler.specs.History.{tickCount}
 use Rattle.machine.specs.Model.{Model, Outcome}
 use Rattle.machine.specs.Machine.{machineStep}
-use Rattle.deadlines.specs.Miss.{Miss, missesWhere, missesAt, missesAfter, misses, IsMiss}
+use Rattle.deadlines.specs.Miss.{Miss, missesWhere, missesAt, missesAfter, misses}
 use Rattle.deadlines.specs.Report.{missBytes}
 use Rattle.deadlines.specs.DeadlineCells.{matchesOf}
 use Rattle.deadlines.specs.Words.{stepRowBy, machineRow}
