@@ -68,8 +68,8 @@ module _ {c : Config} {p : Plan} {rk : ℕ → ℕ} (fit : Fitted c p rk) where
   rank-is b b< =
       past-any (p .rank) b 0 noRank (omega (arith, fit .ranks-long, fit .few)) ∙ fit .body-rank b b<
 
-  awake-is : {m : Model} {s : State} → Sim c p rk m s → (b : ℕ) → b < c .bodies → activeAt m (planRank p b) ≡ active s b
-  awake-is {m} sim b b< =
+  active-is : {m : Model} {s : State} → Sim c p rk m s → (b : ℕ) → b < c .bodies → activeAt m (planRank p b) ≡ active s b
+  active-is {m} sim b b< =
       ap (activeAt m) (rank-is b b<)
       ∙ ap (λ (x : Bool). has (m .core .request) (rk b) || x) (sym (has-union (m .core .started) (m .core .aside) (rk b)))
       ∙ busy-is (sim .tied .words) b b<
@@ -108,12 +108,12 @@ module _ {c : Config} {p : Plan} {rk : ℕ → ℕ} (fit : Fitted c p rk) where
     module _ (b : ℕ) (b< : b < c .bodies) (task : isIsr c b ≡ false) where
       ends-is : endsBy p m e outcome b ≡ endsAt c s e b
       ends-is =
-          rw (awake-is sim b b<, awake-is (agrees .sim) b b<, chains-is b)
+          rw (active-is sim b b<, active-is (agrees .sim) b b<, chains-is b)
           (sym (both-told c s (sim .orderly) b (task-quiet b task) e .0))
 
       ready-is : readyBy p m e outcome b ≡ readyAt c s e b
       ready-is =
-          rw (awake-is sim b b<, awake-is (agrees .sim) b b<, chains-is b)
+          rw (active-is sim b b<, active-is (agrees .sim) b b<, chains-is b)
           (sym (both-told c s (sim .orderly) b (task-quiet b task) e .1))
 
 -- a body without a deadline has a cell that stays as it is, whatever happens
@@ -178,7 +178,7 @@ module _ (c : Config) (ok : Accepted c) (shaped : Shaped c) (ds : List ℕ)
   unfolding rowOf freshCell
   fresh-is b zero fits = refl
   fresh-is b (suc n) fits =
-      rw (awake-is fit (fresh-sim fit) b (omega arith), fresh-is (suc b) n (omega arith))
+      rw (active-is fit (fresh-sim fit) b (omega arith), fresh-is (suc b) n (omega arith))
 
   fresh-rests : (b : ℕ) → deadlineOf ds b ≡ 0 → freshCell c (deadlineOf ds b) b ≡ offCell 0
   unfolding freshCell readyCell

@@ -1,5 +1,5 @@
--- The two states tell who ended and who became ready (`ends-told`, `ready-told`, at the end of the file), but for a Chain
--- to the caller itself.
+-- The states before and after an event tell who ended and who became ready, but for a Chain to the caller itself
+-- (`both-told` of one event, `states-tell` after a list of events, at the end of the file).
 --
 -- In order: no request of a task waits (`Quiet`); who runs isn't suspended; who ended is suspended, and the dispatch does
 -- not choose it; a Chain to the caller leaves it ready.
