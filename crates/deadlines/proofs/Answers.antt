@@ -8,7 +8,7 @@ use lib.ListN.{drop, replicate}
 use Rattle.number.specs.Output.{written}
 use Rattle.number.specs.Number.{readNumber, groups, continued, fifthGroup}
 use Rattle.config.specs.Draft.{faultAt, putAt, ended, timedIn, someTimed}
-use Rattle.config.specs.Reader.{readConfig, readFrom}
+use Rattle.config.specs.Reader.{readConfig, numberAt, readFrom}
 use Rattle.config.specs.Meaning.{greatestIn, entriesBefore}
 use Rattle.cell.specs.Due.{due}
 use Rattle.event.specs.Event.{known, arguments, afterNumber, readArguments, readEvent}
@@ -64,12 +64,15 @@ pub list-left : (listOf (91 ∷ 92 ∷ 93 ∷ 94 ∷ []) (at 258 7 ∷ []) ≡ 2
 unfolding missBytes written
 list-left = (refl, refl)
 
--- two autostart tasks, by version 1 and by version 2
+-- two autostart tasks, by version 1, by version 2, and by version 3 with the deadlines 1 and 2
 abbrev pub first : List ℕ
 first = 1 ∷ 2 ∷ 0 ∷ 2 ∷ 1 ∷ 0 ∷ 5 ∷ 1 ∷ 0 ∷ 0 ∷ []
 
 abbrev pub second : List ℕ
 second = 2 ∷ 2 ∷ 0 ∷ 2 ∷ 1 ∷ 0 ∷ 5 ∷ 1 ∷ 0 ∷ 0 ∷ []
+
+abbrev pub third : List ℕ
+third = 3 ∷ 2 ∷ 0 ∷ 2 ∷ 1 ∷ 1 ∷ 0 ∷ 5 ∷ 1 ∷ 2 ∷ 0 ∷ 0 ∷ []
 
 -- what the call returns for cs and ts without room for the list, and what it leaves of one with room
 abbrev Returns : List ℕ → List ℕ → ℕ → Type 0
@@ -88,9 +91,13 @@ pub record Refused : Type 0 where
   -- versions 1 and 2 have no deadlines: no misses, and no room is needed
   pub first-version : Returns first (6 ∷ 6 ∷ 6 ∷ []) 0
   pub second-version : Returns second (6 ∷ 6 ∷ 6 ∷ []) 0
+  -- in version 3 both are missed: two, of six bytes; 30 with them where there is no room; a byte beyond stays
+  pub third-version : Returns third (6 ∷ 6 ∷ 6 ∷ []) 128849018886
+  pub third-listed : (missesResult third (6 ∷ 6 ∷ 6 ∷ []) 6 ≡ 2)
+      × (missesOutput third (6 ∷ 6 ∷ 6 ∷ []) (replicate 7 99) ≡ 1 ∷ 0 ∷ 0 ∷ 2 ∷ 0 ∷ 1 ∷ 99 ∷ [])
 
 pub refusals : Refused
-unfolding missesAfterReading listAfterReading readRun callOf readConfig readFrom readNumber groups continued fifthGroup
+unfolding missesAfterReading listAfterReading readRun callOf readConfig numberAt readFrom readNumber groups continued fifthGroup
     faultAt putAt ended timedIn someTimed greatestIn entriesBefore known arguments afterNumber readArguments readEvent
     eventsFrom readRest due firstGiven candidate chosenFrom among heldIn counting entryDue duesFrom activatingDue stepBy
     tickCount endsAt readyAt noEnd missedSince missedFrom missed missesWhere missesAfter missBytes written
@@ -104,4 +111,6 @@ refusals =
       trace-unknown = (refl, refl);
       first-version = (refl, refl);
       second-version = (refl, refl);
+      third-version = (refl, refl);
+      third-listed = (refl, refl);
     }

@@ -33,7 +33,7 @@ use Rattle.deadlines.proofs.Bounds.{deadline-le, isr-none}
 pub machine-misses : (c : Config) → Accepted c → Shaped c → (es : List Event)
     → machineMisses c (planOf c) (deadlinesOf c) es ≡ missesIn c es
 machine-misses c ok shaped es =
-    Machine.machine-misses c ok shaped (deadlinesOf c) (isr-none c ok shaped) (deadline-le c ok shaped) es
+    Machine.machine-misses c ok shaped (deadlinesOf c) (isr-none c ok) (deadline-le c ok) es
 
 -- the configuration of an input that is played
 unfoldable Sound : Input → Type 0

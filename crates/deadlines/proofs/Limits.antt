@@ -10,7 +10,7 @@ use lib.ListN.{replicate}
 use Rattle.number.specs.Number.{readNumber, groups, continued, fifthGroup}
 use Rattle.config.specs.declared.Config.{Config}
 use Rattle.config.specs.Draft.{faultAt, putAt, ended, timedIn, someTimed}
-use Rattle.config.specs.Reader.{readConfig, readFrom}
+use Rattle.config.specs.Reader.{readConfig, numberAt, readFrom}
 use Rattle.config.specs.Meaning.{greatestIn, entriesBefore}
 use Rattle.cell.specs.Cell.{tickCellIn}
 use Rattle.cell.specs.Due.{due}
@@ -41,14 +41,14 @@ abbrev lateTicks : List ℕ
 lateTicks = 255 ∷ 256 ∷ []
 
 late-cells : cellMisses twoAutostart lateTicks (replicate 256 Tick) ≡ at 255 0 ∷ at 256 1 ∷ []
-unfolding twoAutostart readConfig readFrom readNumber groups continued fifthGroup faultAt putAt ended timedIn someTimed
+unfolding twoAutostart readConfig numberAt readFrom readNumber groups continued fifthGroup faultAt putAt ended timedIn someTimed
     greatestIn entriesBefore due firstGiven candidate chosenFrom among heldIn counting entryDue duesFrom activatingDue
     stepBy tickCellIn endsAt readyAt readyCell countedCell movedCell freshCell rowOf stepRow matchesOf runRow
 late-cells = refl
 
 pub late-ticks : misses twoAutostart lateTicks (replicate 256 Tick) ≡ at 255 0 ∷ at 256 1 ∷ []
 late-ticks =
-    sym (cells-tell-misses twoAutostart lateTicks (λ b. few 255 256 b (omega arith) (omega arith)) (replicate 256 Tick))
+    sym (cells-tell-misses twoAutostart lateTicks (λ b _. few 255 256 b (omega arith) (omega arith)) (replicate 256 Tick))
     ∙ late-cells
 
 -- a task that is ready at the fresh start and never ends misses at the Tick of its deadline, the longest one too
@@ -68,7 +68,7 @@ never-ended c b n on =
     rw (on, ticks-no-end c b (fresh c) n, ticks-counted n, eq-eqb (suc n) (suc n) refl)
 
 autostarted : active (fresh sample) 0 ≡ true
-unfolding sample readConfig readFrom readNumber groups continued fifthGroup faultAt putAt ended timedIn someTimed
+unfolding sample readConfig numberAt readFrom readNumber groups continued fifthGroup faultAt putAt ended timedIn someTimed
     greatestIn entriesBefore candidate chosenFrom among
 autostarted = refl
 
@@ -85,10 +85,10 @@ lateOnes n = misses sample (1 ∷ 0 ∷ []) (activations n)
 
 by-cells : (n : ℕ) → cellMisses sample (1 ∷ 0 ∷ []) (activations n) ≡ missesFrom 1 n → lateOnes n ≡ missesFrom 1 n
 by-cells n h =
-    sym (cells-tell-misses sample (1 ∷ 0 ∷ []) (λ b. few 1 0 b (omega arith) (omega arith)) (activations n)) ∙ h
+    sym (cells-tell-misses sample (1 ∷ 0 ∷ []) (λ b _. few 1 0 b (omega arith) (omega arith)) (activations n)) ∙ h
 
 pub late-ones : (lateOnes 63 ≡ missesFrom 1 63) × (lateOnes 64 ≡ missesFrom 1 64) × (lateOnes 65 ≡ missesFrom 1 65)
-unfolding activations missesFrom sample readConfig readFrom readNumber groups continued fifthGroup faultAt putAt ended
+unfolding activations missesFrom sample readConfig numberAt readFrom readNumber groups continued fifthGroup faultAt putAt ended
     timedIn someTimed greatestIn entriesBefore due firstGiven candidate chosenFrom among heldIn counting entryDue duesFrom
     activatingDue stepBy tickCellIn endsAt readyAt readyCell countedCell movedCell freshCell rowOf stepRow matchesOf
     runRow

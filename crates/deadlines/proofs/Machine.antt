@@ -189,6 +189,6 @@ module _ (c : Config) (ok : Accepted c) (shaped : Shaped c) (ds : List ℕ)
       rw (fresh-is 0 (c .bodies) (omega arith))
       (run-is es 0 (fresh-sim fit) _ (fresh-row c ds _ fresh-rests 0 (c .bodies) (omega arith)))
 
-  pub machine-misses : ((b : ℕ) → deadlineOf ds b ≤ 65535) → (es : List Event)
+  pub machine-misses : ((b : ℕ) → b < c .bodies → deadlineOf ds b ≤ 65535) → (es : List Event)
       → machineMisses c (planOf c) ds es ≡ misses c ds es
-  machine-misses few es = machine-cells es ∙ run-misses c ds (λ b. let h = few b in omega arith) es
+  machine-misses few es = machine-cells es ∙ run-misses c ds (λ b l. let h = few b l in omega arith) es

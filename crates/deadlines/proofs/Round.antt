@@ -13,7 +13,7 @@ use lib.ListN.{replicate}
 use Rattle.number.specs.Number.{readNumber, groups, continued, fifthGroup}
 use Rattle.config.specs.declared.Config.{Config}
 use Rattle.config.specs.Draft.{faultAt, putAt, ended, timedIn, someTimed}
-use Rattle.config.specs.Reader.{readConfig, readFrom}
+use Rattle.config.specs.Reader.{readConfig, numberAt, readFrom}
 use Rattle.config.specs.Meaning.{greatestIn, entriesBefore}
 use Rattle.cell.specs.Cell.{tickCellIn}
 use Rattle.cell.specs.Due.{due}
@@ -92,7 +92,7 @@ abbrev Tells : List Event → List Miss → Type 0
 Tells es ms = (misses round deadlines es ≡ ms) × (cellMisses round deadlines es ≡ ms)
 
 tells : (es : List Event) {ms : List Miss} → cellMisses round deadlines es ≡ ms → Tells es ms
-tells es h = (sym (cells-tell-misses round deadlines few es) ∙ h, h)
+tells es h = (sym (cells-tell-misses round deadlines (λ b _. few b) es) ∙ h, h)
 
 pub record Rounds : Type 0 where
   pub in-time : Tells inTime []
@@ -105,7 +105,7 @@ pub record Rounds : Type 0 where
   pub short-endless : Gives shortRound shortDeadlines (Start 0 1 ∷ replicate 20 Tick) (at 8 2 ∷ at 10 1 ∷ [])
 
 pub rounds : Rounds
-unfolding round shortRound readConfig readFrom readNumber groups continued fifthGroup faultAt putAt ended timedIn someTimed
+unfolding round shortRound readConfig numberAt readFrom readNumber groups continued fifthGroup faultAt putAt ended timedIn someTimed
     greatestIn entriesBefore due firstGiven candidate chosenFrom among heldIn counting entryDue duesFrom activatingDue
     stepBy tickCount tickCellIn endsAt readyAt noEnd missedSince missedFrom missed missesWhere missesAfter readyCell
     countedCell movedCell freshCell rowOf stepRow matchesOf runRow has with without union highestBelow winner emptyRow

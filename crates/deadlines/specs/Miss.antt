@@ -13,7 +13,7 @@ use mathlib.Core.Bool.{Bool, true, false, cond, not, _&&_, _||_}
 use mathlib.Core.List.{List, [], _∷_, _++_, List·Memᴰ}
 use mathlib.Core.Logic.{_⊎_}
 use lib.Dec.{eqb}
-use lib.ListN.{getD, replicate}
+use lib.ListN.{getD}
 use Rattle.config.specs.declared.Config.{Config}
 use Rattle.scheduler.specs.State.{State}
 use Rattle.scheduler.specs.Event.{Event, Tick, isTick}
@@ -74,7 +74,7 @@ missesWhere p k b (suc n) =
 
 -- the deadlines by body, "0 for none"
 abbrev pub deadlinesOf : Config → List ℕ
-deadlinesOf c = replicate 32 0
+deadlinesOf c = c .deadline
 
 abbrev pub deadlineOf : List ℕ → ℕ → ℕ
 deadlineOf ds b = getD ds b 0
