@@ -1,0 +1,12 @@
+-- `awake` meets its contract: the ranks of all three words.
+use mathlib.Core.Path.{ap, _∙_}
+use borrow.Author.Needs.{needs}
+use Rattle.word.specs.Word.{union}
+use Rattle.misses.proofs.change.awake.Statement.{statement}
+use Rattle.misses.proofs.change.awake.Tie as tie
+
+returns : tie.Need-returns
+returns c = c .union2 .ensures ∙ ap (union (c .before .before .args .registers .request)) (c .before .union .ensures)
+
+pub awake-spec : {M : Type 1} → statement M
+awake-spec = tie.close (tie.spec (λ c κs. search needs) (λ c κs. search needs) returns)
