@@ -18,7 +18,7 @@ use Rattle.run.proofs.Theorems.{places, played-split, room-enough}
 use Rattle.deadlines.specs.Miss.{Miss, deadlinesOf}
 use Rattle.deadlines.specs.Report.{firstMisses, missBytes}
 use Rattle.deadlines.specs.Words.{machineMisses}
-use Rattle.deadlines.specs.Result.{countOf, missesAfterReading, listAfterReading, missesResult, missesOutput}
+use Rattle.deadlines.specs.Result.{countOf, missesAfterReading, listAfterReading}
 use Rattle.deadlines.proofs.Theorems.{played-misses}
 use Rattle.deadlines.proofs.Input.{played-accepted, Gave, gave-refused}
 use Rattle.misses.specs.Watched.{Watchable}

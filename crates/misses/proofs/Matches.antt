@@ -1,7 +1,7 @@
 -- The matches of a row at a Tick, noted body by body.
 --
 -- `Noting` is the invariant: `noting-start`, `noting-match`, `noting-none`, `noting-end`.
-use Prim.Native.Nat.{ℕ, zero, suc, _+_, _≤_, _<_}
+use Prim.Native.Nat.{ℕ, suc, _+_, _≤_, _<_}
 use mathlib.Core.Path.{_≡_, refl, sym, ap, _∙_}
 use mathlib.Core.Bool.{true, false}
 use mathlib.Core.List.{List, [], _∷_}

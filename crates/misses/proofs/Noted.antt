@@ -1,9 +1,9 @@
 -- The bytes of the first 64 misses, noted one by one: `noted-first`.
-use Prim.Native.Nat.{ℕ, zero, suc, _+_, _*_, _-_, _/_, _%_, _≤_, _<_, min}
+use Prim.Native.Nat.{ℕ, suc, _+_, _*_, _-_, _/_, _%_, _≤_, _<_, min}
 use mathlib.Core.Path.{_≡_, refl, sym, ap, _∙_}
 use mathlib.Core.List.{List, [], _∷_, _++_, append-assoc}
 use native.Mathlib.Omega.{arith}
-use lib.ListN.{length, take, drop, set, length-append, length-take, take-append-drop}
+use lib.ListN.{length, take, drop, set, length-take, take-append-drop}
 use lib.Seq.{take-nil, take-at, sets-eq}
 use borrow.Author.Tests.{lt-ltb, le-ltb}
 use Rattle.number.specs.Output.{laid}

@@ -4,7 +4,6 @@ use mathlib.Core.Path.{_≡_, refl, sym, ap, _∙_}
 use mathlib.Core.Bool.{Bool, true, false, cond, _&&_, _||_}
 use mathlib.Core.List.{List, [], _∷_, _++_}
 use native.Mathlib.Omega.{arith}
-use native.Mathlib.Nat.{zero-add}
 use lib.Dec.{eqb}
 use lib.ListN.{length, getD, take, drop, set, length-take}
 use lib.Seq.{take-suc-set, drop-cons}
@@ -20,7 +19,7 @@ use Rattle.machine.specs.Model.{Model, Outcome, noRank}
 use Rattle.machine.specs.Machine.{freshModel}
 use Rattle.deadlines.specs.Activation.{chainsTo}
 use Rattle.deadlines.specs.DeadlineCells.{movedCell, rowOf}
-use Rattle.deadlines.specs.Words.{awakeAt, rankIn, chainsBy, readyBy, endsBy, stepRowBy, freshCellBy}
+use Rattle.deadlines.specs.Words.{awakeAt, rankIn, readyBy, endsBy, stepRowBy, freshCellBy}
 use Rattle.misses.specs.Change.{awakeWord, chainedBody, bodyAt, changeBy, cellAfter, cellBy, offCell, rowBy, freshCellIn, freshRowBy}
 
 -- one cell more

@@ -1,6 +1,6 @@
 -- `list_misses` meets its contract: what was noted are the first misses on the machine, and they are handed over.
 use Prim.Native.Nat.{ℕ}
-use mathlib.Core.Path.{_≡_, refl, ap, _∙_}
+use mathlib.Core.Path.{refl, ap, _∙_}
 use mathlib.Core.List.{List}
 use lib.ListN.{length, replicate}
 use borrow.Author.Needs.{needs}

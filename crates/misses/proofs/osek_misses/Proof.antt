@@ -1,5 +1,5 @@
 -- `osek_misses` meets its contract: the run is refused exactly as the call is, or what the machine tells is the answer.
-use mathlib.Core.Path.{ap, _∙_}
+use mathlib.Core.Path.{ap}
 use native.Mathlib.Omega.{arith}
 use borrow.Author.Needs.{needs}
 use Rattle.config.specs.declared.ConfigRead.{ConfigRead}

@@ -3,11 +3,9 @@ use Prim.Native.Nat.{ℕ, suc, _+_, _-_, _≤_}
 use mathlib.Core.Path.{_≡_, refl, sym, ap, _∙_}
 use mathlib.Core.List.{List, _++_}
 use native.Mathlib.Omega.{arith}
-use native.Mathlib.Numerals.{add-one}
 use native.Mathlib.Nat.{zero-add}
 use lib.ListN.{length, getD, take, drop, set, length-set}
-use lib.Seq.{paste, paste-zero, paste-suc, length-paste, length-take-le}
-use borrow.Author.Needs.{needs}
+use lib.Seq.{paste, paste-zero, paste-suc, length-take-le}
 use Rattle.number.proofs.Theorems.{written-fits}
 use Rattle.misses.proofs.list.copy.Statement.{statement}
 use Rattle.misses.proofs.list.copy.Tie as tie

@@ -1,8 +1,6 @@
 -- `counted_cell` meets its contract: its test is the definition's.
-use mathlib.Core.Path.{sym, ap, _∙_}
+use mathlib.Core.Path.{sym}
 use borrow.Author.Needs.{needs}
-use Rattle.cell.specs.declared.Cell.{Cell}
-use Rattle.cell.specs.Cell.{tickCell, stopCell}
 use Rattle.deadlines.specs.DeadlineCells.{countedCell}
 use Rattle.misses.proofs.row.counted_cell.Statement.{statement}
 use Rattle.misses.proofs.row.counted_cell.Tie as tie

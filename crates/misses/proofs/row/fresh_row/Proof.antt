@@ -1,12 +1,11 @@
 -- `fresh_row` meets its contract: each turn fills one cell more.
-use Prim.Native.Nat.{_-_, _≤_, _<_}
+use Prim.Native.Nat.{_-_, _≤_}
 use mathlib.Core.Path.{_≡_, refl, ap, _∙_}
 use mathlib.Core.Bool.{Bool}
 use native.Mathlib.Omega.{arith}
 use lib.ListN.{length, getD, take, replicate, length-set}
 use borrow.Author.Needs.{needs}
 use Rattle.word.specs.Word.{has}
-use Rattle.deadlines.specs.DeadlineCells.{rowOf}
 use Rattle.misses.specs.Change.{freshCellIn, freshRowBy}
 use Rattle.misses.proofs.Rows.{row-start, row-step}
 use Rattle.misses.proofs.row.fresh_row.Statement.{statement}

@@ -1,9 +1,7 @@
 -- `resting_cell` meets its contract: a cell that was started and stopped.
-use Prim.Native.Nat.{_+_}
 use mathlib.Core.Path.{ap, _∙_}
-use native.Mathlib.Omega.{arith}
 use borrow.Author.Needs.{needs}
-use Rattle.cell.specs.Cell.{startCell, stopCell}
+use Rattle.cell.specs.Cell.{stopCell}
 use Rattle.misses.proofs.row.resting_cell.Statement.{statement}
 use Rattle.misses.proofs.row.resting_cell.Tie as tie
 

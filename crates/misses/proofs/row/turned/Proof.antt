@@ -1,7 +1,6 @@
 -- `turned` meets its contract: the first test decides, or else the others.
 use mathlib.Core.Path.{_≡_, refl}
 use mathlib.Core.Bool.{Bool, true, false, not, _&&_, _||_}
-use borrow.Author.Needs.{needs}
 use Rattle.misses.proofs.row.turned.Statement.{statement}
 use Rattle.misses.proofs.row.turned.Tie as tie
 
