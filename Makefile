@@ -2,8 +2,9 @@
 
 # The crates whose exported functions are the library, each an archive of its own that `lib` joins. A new function needs no
 # archive: three lines in crates/osek export it, and the crate that proves it is not proved again. One that wants the run's
-# last model gets an archive: a second caller of `run` beside `osek_run` makes the run slower (docs/PERFORMANCE.md).
-EXPORTS = osek waits
+# last model, or plays events by a loop of its own, gets an archive: a second caller of `run` beside `osek_run` makes the run
+# slower (docs/PERFORMANCE.md), and a second loop twice as slow.
+EXPORTS = osek waits misses
 
 KIT_BIN = $(or $(RATTLE_HOME),/opt/rattle)/bin
 export PATH := $(PATH):$(KIT_BIN)
