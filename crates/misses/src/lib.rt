@@ -1,5 +1,10 @@
-// The misses of deadlines in a trace: a deadline cell for each body beside the machine's model, which goes by value
-// from event to event.
+// The missed deadlines of a trace: `osek_misses`, which C calls.
+//
+// Configuration and trace are refused as the run refuses them. Then the events are played on the machine's model, which
+// goes by value from step to step, with a deadline cell for each body beside it: watch.rt has the loop, change.rt what an
+// event changed, by the words before and after it, row.rt the cells, list.rt the list of the first 64 misses. Their
+// contracts cite the run on the machine with a row of cells (deadlines, `machineMisses`), that of `osek_misses` the
+// definition over the list of events alone (`misses`): deadlines' law `played-misses` says that they are the same.
 mod change;
 mod list;
 mod row;

@@ -82,7 +82,7 @@ fn cell_after(
     if tick { counted_cell(cell) } else { cell }
 }
 
-// Whether a body is as `to` says and was not before; one that chained to itself was both awake and suspended.
+// Whether an event made a body awake that was not, or, with the two exchanged, suspended; a Chain to itself does both.
 fn turned(from: bool, to: bool, chained: bool) -> bool
     ensures { λ r. ⌜ r ≡ (to && not from) || chained ⌝ }
 {
