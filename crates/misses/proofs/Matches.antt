@@ -13,7 +13,7 @@ use Rattle.cell.specs.declared.Cell.{Cell}
 use Rattle.cell.specs.Cell.{tickCell}
 use Rattle.deadlines.specs.Miss.{Miss}
 use Rattle.deadlines.specs.DeadlineCells.{matchesOf}
-use Rattle.misses.specs.Change.{offCell}
+use Rattle.misses.specs.Change.{blankCell}
 use Rattle.misses.specs.Noted.{listRoom, notedOne, noted}
 use Rattle.misses.proofs.Noted.{one-long}
 
@@ -47,22 +47,22 @@ module _ {k n : ℕ} {row : List Cell} {count : ℕ} {d : List ℕ} where
 
     -- the cell of b
     module _ (inside : b < n) (fits : n ≤ length row) where
-      here : drop b (take n row) ≡ getD row b offCell ∷ drop (suc b) (take n row)
+      here : drop b (take n row) ≡ getD row b blankCell ∷ drop (suc b) (take n row)
       here =
-          drop-cons (take n row) b offCell (rw (length-take-le n row fits) inside)
-          ∙ rw (getD-take n row b offCell inside)
+          drop-cons (take n row) b blankCell (rw (length-take-le n row fits) inside)
+          ∙ rw (getD-take n row b blankCell inside)
 
-      matched : tickCell (getD row b offCell) .matched ≡ true
+      matched : tickCell (getD row b blankCell) .matched ≡ true
           → left k n row b ≡ record { tick = k; body = b } ∷ left k n row (suc b)
       unfolding matchesOf
       matched h = ap (matchesOf k b) here ∙ rw h
 
-      unmatched : tickCell (getD row b offCell) .matched ≡ false → left k n row b ≡ left k n row (suc b)
+      unmatched : tickCell (getD row b blankCell) .matched ≡ false → left k n row b ≡ left k n row (suc b)
       unfolding matchesOf
       unmatched h = ap (matchesOf k b) here ∙ rw h
 
       module _ {list′ : List ℕ} {misses′ : ℕ} where
-        pub noting-match : tickCell (getD row b offCell) .matched ≡ true
+        pub noting-match : tickCell (getD row b blankCell) .matched ≡ true
             → list′ ≡ notedOne misses (record { tick = k; body = b }) list
             → misses′ ≡ misses + 1
             → Noting k n row count d list′ misses′ (b + 1)
@@ -79,7 +79,7 @@ module _ {k n : ℕ} {row : List Cell} {count : ℕ} {d : List ℕ} where
                   ∙ sym (ap (λ (l : List Miss). noted misses l list) (matched h)) ∙ g .bytes;
             })
 
-        pub noting-none : tickCell (getD row b offCell) .matched ≡ false → list′ ≡ list → misses′ ≡ misses
+        pub noting-none : tickCell (getD row b blankCell) .matched ≡ false → list′ ≡ list → misses′ ≡ misses
             → Noting k n row count d list′ misses′ (b + 1)
         noting-none h same none =
             rw (none, same, add-one)

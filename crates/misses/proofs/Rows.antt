@@ -19,8 +19,8 @@ use Rattle.machine.specs.Model.{Model, Outcome, noRank}
 use Rattle.machine.specs.Machine.{freshModel}
 use Rattle.deadlines.specs.Activation.{chainsTo}
 use Rattle.deadlines.specs.DeadlineCells.{movedCell, rowOf}
-use Rattle.deadlines.specs.Words.{awakeAt, rankIn, readyBy, endsBy, stepRowBy, freshCellBy}
-use Rattle.misses.specs.Change.{awakeWord, chainedBody, bodyAt, changeBy, cellAfter, cellBy, offCell, rowBy, freshCellIn, freshRowBy}
+use Rattle.deadlines.specs.Words.{activeAt, planRank, readyBy, endsBy, stepRowBy, freshCellBy}
+use Rattle.misses.specs.Change.{awakeWord, chainedBody, bodyAt, changeBy, cellAfter, cellBy, blankCell, rowBy, freshCellIn, freshRowBy}
 
 -- one cell more
 pub row-more : (f : ℕ → Cell) (a n : ℕ) → rowOf f a (suc n) ≡ rowOf f a n ++ f (a + n) ∷ []
@@ -60,7 +60,7 @@ row-same f g same a (suc n) =
     ap (λ (x : Cell). x ∷ rowOf f (suc a) n) (same a) ∙ ap (λ (l : List Cell). g a ∷ l) (row-same f g same (suc a) n)
 
 -- who is awake, by one word for three
-awake-has : (m : Model) (r : ℕ) → has (awakeWord m) r ≡ awakeAt m r
+awake-has : (m : Model) (r : ℕ) → has (awakeWord m) r ≡ activeAt m r
 awake-has m r =
     has-union (m .core .request) (union (m .core .started) (m .core .aside)) r
     ∙ ap (λ (t : Bool). has (m .core .request) r || t) (has-union (m .core .started) (m .core .aside) r)
@@ -69,7 +69,7 @@ pub fresh-row-by : (p : Plan) (ds : List ℕ) (n : ℕ)
     → freshRowBy (awakeWord (freshModel p)) (p .rank) ds n ≡ rowOf (freshCellBy p ds) 0 n
 fresh-row-by p ds n =
     row-same (λ b. freshCellIn (has (awakeWord (freshModel p)) (getD (p .rank) b 0)) (getD ds b 0)) (freshCellBy p ds)
-    (λ b. ap (λ (t : Bool). freshCellIn t (getD ds b 0)) (awake-has (freshModel p) (rankIn p b))) 0 n
+    (λ b. ap (λ (t : Bool). freshCellIn t (getD ds b 0)) (awake-has (freshModel p) (planRank p b))) 0 n
 
 and-false : (t s : Bool) → t && (s && false) ≡ false
 and-false true true = refl
@@ -102,19 +102,19 @@ module _ (b : ℕ) (body : b < 32) where
 -- the event e, which met m and handed o back
 module _ (p : Plan) (ds : List ℕ) (m : Model) (e : Event) (o : Outcome) where
   cell-by : (b D : ℕ) (c : Cell) → b < 32
-      → cellBy (changeBy (p .body) m e o) b (rankIn p b) D c
+      → cellBy (changeBy (p .body) m e o) b (planRank p b) D c
       ≡ movedCell D (readyBy p m e o b) (endsBy p m e o b) (isTick e) c
   cell-by b D c body =
-      ap (λ (t : Bool). cellAfter D t (has (awakeWord (o .model)) (rankIn p b))
-      (eqb (chainedBody (bodyAt (p .body) (m .core .runner)) e (o .status)) b) (isTick e) c) (awake-has m (rankIn p b))
-      ∙ ap (λ (t : Bool). cellAfter D (awakeAt m (rankIn p b)) t
-      (eqb (chainedBody (bodyAt (p .body) (m .core .runner)) e (o .status)) b) (isTick e) c) (awake-has (o .model) (rankIn p b))
-      ∙ ap (λ (t : Bool). cellAfter D (awakeAt m (rankIn p b)) (awakeAt (o .model) (rankIn p b)) t (isTick e) c)
+      ap (λ (t : Bool). cellAfter D t (has (awakeWord (o .model)) (planRank p b))
+      (eqb (chainedBody (bodyAt (p .body) (m .core .runner)) e (o .status)) b) (isTick e) c) (awake-has m (planRank p b))
+      ∙ ap (λ (t : Bool). cellAfter D (activeAt m (planRank p b)) t
+      (eqb (chainedBody (bodyAt (p .body) (m .core .runner)) e (o .status)) b) (isTick e) c) (awake-has (o .model) (planRank p b))
+      ∙ ap (λ (t : Bool). cellAfter D (activeAt m (planRank p b)) (activeAt (o .model) (planRank p b)) t (isTick e) c)
       (chained-by b body (bodyAt (p .body) (m .core .runner)) (o .status) e)
 
   module _ (xs : List Cell) where
     abbrev moved : ℕ → Cell
-    moved b = cellBy (changeBy (p .body) m e o) b (rankIn p b) (getD ds b 0) (getD xs b offCell)
+    moved b = cellBy (changeBy (p .body) m e o) b (planRank p b) (getD ds b 0) (getD xs b blankCell)
 
     row-by-from : (n a : ℕ) → a + n ≤ 32 → a + n ≤ length xs
         → rowOf moved a n ≡ stepRowBy p ds m e o a (take n (drop a xs))
@@ -123,8 +123,8 @@ module _ (p : Plan) (ds : List ℕ) (m : Model) (e : Event) (o : Outcome) where
     row-by-from (suc n) a few fits =
         ap (λ (l : List Cell). moved a ∷ l) (row-by-from n (suc a) (omega arith) (omega arith))
         ∙ ap (λ (x : Cell). x ∷ stepRowBy p ds m e o (suc a) (take n (drop (suc a) xs)))
-        (cell-by a (getD ds a 0) (getD xs a offCell) (omega arith))
-        ∙ ap (λ (l : List Cell). stepRowBy p ds m e o a (take (suc n) l)) (sym (drop-cons xs a offCell (omega arith)))
+        (cell-by a (getD ds a 0) (getD xs a blankCell) (omega arith))
+        ∙ ap (λ (l : List Cell). stepRowBy p ds m e o a (take (suc n) l)) (sym (drop-cons xs a blankCell (omega arith)))
 
     pub row-by-words : (n : ℕ) → n ≤ 32 → n ≤ length xs
         → rowBy (changeBy (p .body) m e o) (p .rank) ds n xs ≡ stepRowBy p ds m e o 0 (take n xs)

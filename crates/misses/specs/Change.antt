@@ -20,7 +20,7 @@ use Rattle.scheduler.specs.Status.{done}
 use Rattle.scheduler.specs.Event.{Event, isTick}
 use Rattle.machine.specs.Model.{Model, Outcome, noRank}
 use Rattle.deadlines.specs.Activation.{chainsTo}
-use Rattle.deadlines.specs.DeadlineCells.{restingCell, startedCell, movedCell, rowOf}
+use Rattle.deadlines.specs.DeadlineCells.{offCell, readyCell, movedCell, rowOf}
 use Rattle.misses.specs.declared.change.Change.{Change}
 
 abbrev pub awakeIn : ℕ → ℕ → ℕ → ℕ
@@ -54,15 +54,15 @@ abbrev pub cellBy : Change → ℕ → ℕ → ℕ → Cell → Cell
 cellBy x b r D c = cellAfter D (has (x .before) r) (has (x .after) r) (eqb (x .chained) b) (x .tick) c
 
 -- what a row is filled with
-abbrev pub offCell : Cell
-offCell = unmarked 0 0 false false
+abbrev pub blankCell : Cell
+blankCell = unmarked 0 0 false false
 
 -- of the first n bodies
 abbrev pub rowBy : Change → List ℕ → List ℕ → ℕ → List Cell → List Cell
-rowBy x rs ds n xs = rowOf (λ b. cellBy x b (getD rs b 0) (getD ds b 0) (getD xs b offCell)) 0 n
+rowBy x rs ds n xs = rowOf (λ b. cellBy x b (getD rs b 0) (getD ds b 0) (getD xs b blankCell)) 0 n
 
 abbrev pub freshCellIn : Bool → ℕ → Cell
-freshCellIn awake D = cond awake (startedCell D) (restingCell D)
+freshCellIn awake D = cond awake (readyCell D) (offCell D)
 
 abbrev pub freshRowBy : ℕ → List ℕ → List ℕ → ℕ → List Cell
 freshRowBy w rs ds n = rowOf (λ b. freshCellIn (has w (getD rs b 0)) (getD ds b 0)) 0 n

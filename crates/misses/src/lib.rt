@@ -65,13 +65,7 @@ fn list_misses<'a, 'b>(config: Config, trace: &'a [u8], list: &'b mut [u8]) -> u
 {
     let mut found = [0u8; 192];
     let plan = plan_of(config);
-    let count = watch(config, plan, deadlines_of(config), trace, &mut found);
+    let deadlines = config.deadline;
+    let count = watch(config, plan, deadlines, trace, &mut found);
     hand_over(count, &found, list)
-}
-
-// The deadlines by body, 0 for none.
-fn deadlines_of(config: Config) -> [u16; 32]
-    ensures { λ r. ⌜ r ≡ deadlinesOf config ⌝ }
-{
-    [0u16; 32]
 }

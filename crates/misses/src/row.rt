@@ -4,7 +4,7 @@ ghost use mathlib.Core.Bool.{not, _&&_, _||_};
 ghost use Prim.Native.Nat.{_≤_};
 ghost use lib.ListN.{take};
 ghost use Rattle.config.specs.Value.{maxBodies};
-ghost use Rattle.deadlines.specs.DeadlineCells.{restingCell, startedCell, countedCell};
+ghost use Rattle.deadlines.specs.DeadlineCells.{offCell, readyCell, countedCell};
 ghost use Rattle.misses.specs.Change.{cellAfter, cellBy, rowBy, freshCellIn, freshRowBy};
 use crate::change::Change;
 use cell::Cell;
@@ -104,7 +104,7 @@ fn fresh_cell(awake: bool, deadline: u16) -> Cell
 
 // The cell of a body that becomes ready; without a deadline it stays off.
 fn started_cell(deadline: u16) -> Cell
-    ensures { λ r. ⌜ r ≡ startedCell deadline ⌝ }
+    ensures { λ r. ⌜ r ≡ readyCell deadline ⌝ }
 {
     if deadline == 0 {
         return resting_cell(deadline);
@@ -113,7 +113,7 @@ fn started_cell(deadline: u16) -> Cell
 }
 
 fn resting_cell(deadline: u16) -> Cell
-    ensures { λ r. ⌜ r ≡ restingCell deadline ⌝ }
+    ensures { λ r. ⌜ r ≡ offCell deadline ⌝ }
 {
     Cell::start(deadline, deadline, 0).stop()
 }

@@ -22,23 +22,20 @@ empty = replicate 192 0
 hand-over-requires : tie.Need-hand-over-requires
 hand-over-requires c κs =
     let w = c .before .before in
-    let y = w .before .before in
-    let p = y .before in
+    let p = w .before .before .before in
     let a = p .before .before .before .args in
     ap length (w .watch .ensures .1)
     ∙ noted-long 0
-    (machineMisses (a .config) (p .plan-of .result) (y .deadlines-of .result) (callsOf (a .trace .now))) empty refl
+    (machineMisses (a .config) (p .plan-of .result) (deadlinesOf (a .config)) (callsOf (a .trace .now))) empty refl
 
 returns : tie.Need-returns
 returns c =
     let h = c .before .before in
     let w = h .before .before .before in
-    let y = w .before .before in
-    let p = y .before in
+    let p = w .before .before .before in
     let a = p .before .before .before .args in
     let es = callsOf (a .trace .now) in
-    let told = ap (λ (q : Plan). machineMisses (a .config) q (y .deadlines-of .result) es) (p .plan-of .ensures)
-    ∙ ap (λ (ds : List ℕ). machineMisses (a .config) (planOf (a .config)) ds es) (y .deadlines-of .ensures) in
+    let told = ap (λ (q : Plan). machineMisses (a .config) q (deadlinesOf (a .config)) es) (p .plan-of .ensures) in
     handed-all (machineMisses (a .config) (planOf (a .config)) (deadlinesOf (a .config)) es) empty (a .list .now) refl
     (w .watch .ensures .0 ∙ ap length told)
     (w .watch .ensures .1 ∙ ap (λ (ms : List Miss). noted 0 ms empty) told)
@@ -48,4 +45,4 @@ pub list-misses-spec : {M : Type 1} → statement M
 list-misses-spec =
     tie.close
     (tie.spec
-    (λ c κs. search needs) (λ c κs. search needs) (λ c κs. search needs) hand-over-requires (λ c. search needs) returns)
+    (λ c κs. search needs) (λ c κs. search needs) hand-over-requires (λ c. search needs) returns)

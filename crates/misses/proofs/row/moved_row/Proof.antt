@@ -4,7 +4,7 @@ use mathlib.Core.Path.{_≡_}
 use native.Mathlib.Omega.{arith}
 use lib.ListN.{length, getD, take, length-set}
 use borrow.Author.Needs.{needs}
-use Rattle.misses.specs.Change.{cellBy, rowBy, offCell}
+use Rattle.misses.specs.Change.{cellBy, rowBy, blankCell}
 use Rattle.misses.proofs.Rows.{row-start, row-step}
 use Rattle.misses.proofs.row.moved_row.Statement.{statement}
 use Rattle.misses.proofs.row.moved_row.Tie as tie
@@ -22,7 +22,7 @@ loop-holds c =
     let long : length (a .t1) ≡ 32 = search needs in (
       omega arith,
       long,
-      row-start (λ b. cellBy (a .change) b (getD (a .t3) b 0) (getD (a .t4) b 0) (getD (a .t1) b offCell)) (a .t1),
+      row-start (λ b. cellBy (a .change) b (getD (a .t3) b 0) (getD (a .t4) b 0) (getD (a .t1) b blankCell)) (a .t1),
     )
 
 loop-again : tie.Need-loop-again Inv-loop μ-loop
@@ -31,7 +31,7 @@ loop-again c =
     let a = c .before .before .before .before .args in (
       omega arith,
       simp length-set (l .inv .1),
-      row-step (λ b. cellBy (a .change) b (getD (a .t3) b 0) (getD (a .t4) b 0) (getD (a .t1) b offCell)) (l .b) (l .cells)
+      row-step (λ b. cellBy (a .change) b (getD (a .t3) b 0) (getD (a .t4) b 0) (getD (a .t1) b blankCell)) (l .b) (l .cells)
           (c .moved-cell .result) (omega arith) (l .inv .2) (c .moved-cell .ensures),
     )
 

@@ -5,16 +5,16 @@ use native.Mathlib.Omega.{arith}
 use borrow.Author.Needs.{needs}
 use borrow.Author.Tests.{eq-eqb, ne-eqb}
 use Rattle.cell.specs.Cell.{startCell}
-use Rattle.deadlines.specs.DeadlineCells.{startedCell}
+use Rattle.deadlines.specs.DeadlineCells.{readyCell}
 use Rattle.misses.proofs.row.started_cell.Statement.{statement}
 use Rattle.misses.proofs.row.started_cell.Tie as tie
 
 returns : tie.Need-returns
-unfolding startedCell
+unfolding readyCell
 returns c = rw (eq-eqb (c .before .before .args .deadline) 0 (c .before .if1 .taken)) (c .resting-cell .ensures)
 
 returns-2 : tie.Need-returns-2
-unfolding startedCell
+unfolding readyCell
 returns-2 c =
     let D = c .before .before .args .deadline in
     let no-offset : D + 0 ≡ D = omega arith in
