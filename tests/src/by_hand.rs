@@ -2,7 +2,7 @@
 
 use crate::cases::{push_number, Case};
 use crate::compare::{check, others};
-use crate::fast::OUTPUT_MAX;
+use crate::fast::{read_number, OUTPUT_MAX};
 use crate::guard::GuardedRun;
 use crate::listing::listing;
 
@@ -31,6 +31,23 @@ pub fn assert_refused(config: &[u8], trace: &[u8], code: u32, place: usize) {
 pub fn number(value: u32) -> Vec<u8> {
     let mut bytes = Vec::new();
     push_number(&mut bytes, value);
+    bytes
+}
+
+/// The same configuration in version 3, with these deadlines of its bodies.
+pub fn with_deadlines(config: &[u8], deadlines: &[u32]) -> Vec<u8> {
+    assert_eq!(deadlines.len(), usize::from(config[1]), "a deadline for each body");
+    let mut bytes = vec![3, config[1]];
+    let mut at = 2;
+    for deadline in deadlines {
+        let body = at;
+        for _ in ["kind", "priority", "autostart"] {
+            at = read_number(config, at).expect("the body is whole").1;
+        }
+        bytes.extend(&config[body..at]);
+        push_number(&mut bytes, *deadline);
+    }
+    bytes.extend(&config[at..]);
     bytes
 }
 

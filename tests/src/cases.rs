@@ -5,7 +5,7 @@
 
 use crate::fast::{
     self, Config, Event, Kernel, NextDue, CONFIG_MAX, ENTRIES_MAX, EXTENDED, ISR, OUTPUT_MAX, TABLES_MAX,
-    TABLE_ENTRIES_MAX, TIME_TRIGGERED, TRACE_MAX, TURN,
+    TABLE_ENTRIES_MAX, TICKS_MAX, TIME_TRIGGERED, TRACE_MAX, TURN, VERSION_MAX,
 };
 
 // Random numbers
@@ -71,6 +71,8 @@ struct Body {
     kind: u32,
     priority: u32,
     autostart: u32,
+    /// Written in the newest version alone.
+    deadline: u32,
 }
 
 impl Body {
@@ -115,6 +117,7 @@ enum Role {
     Kind,
     Priority,
     Autostart,
+    Deadline,
     ResourceCount,
     Users,
     TableCount,
@@ -131,6 +134,9 @@ impl Plan {
             numbers.push((Role::Kind, body.kind));
             numbers.push((Role::Priority, body.priority));
             numbers.push((Role::Autostart, body.autostart));
+            if self.version == VERSION_MAX {
+                numbers.push((Role::Deadline, body.deadline));
+            }
         }
         numbers.push((Role::ResourceCount, self.resources.len() as u32));
         numbers.extend(self.resources.iter().map(|users| (Role::Users, *users)));
@@ -164,8 +170,11 @@ fn number_bytes(numbers: &[(Role, u32)]) -> Vec<u8> {
 }
 
 fn draw_plan(random: &mut Random) -> Plan {
-    let version = random.pick(&[1, 2]);
-    let bodies = draw_bodies(random);
+    let version = random.between(1, VERSION_MAX as usize) as u32;
+    let mut bodies = draw_bodies(random);
+    if version == VERSION_MAX {
+        draw_deadlines(random, &mut bodies);
+    }
     let resources = draw_resources(random, &bodies);
     let tables =
         draw_tables(random, &numbers_where(&bodies, Body::is_osek_task), &numbers_where(&bodies, Body::is_timed));
@@ -203,7 +212,7 @@ fn draw_bodies(random: &mut Random) -> Vec<Body> {
             };
             let starts = kind == TASK || kind == EXTENDED;
             let autostart = u32::from(starts && random.chance(autostart_percent));
-            Body { kind, priority: priorities[body], autostart }
+            Body { kind, priority: priorities[body], autostart, deadline: 0 }
         })
         .collect();
     // A configuration that can never leave idle says little.
@@ -215,6 +224,23 @@ fn draw_bodies(random: &mut Random) -> Vec<Body> {
         bodies[first].autostart = 1;
     }
     bodies
+}
+
+/// Deadlines of the tasks, mostly short, so that they are missed as well as met.
+fn draw_deadlines(random: &mut Random, bodies: &mut [Body]) {
+    let percent = random.pick(&[10, 60, 100, 100]);
+    let longest = random.pick(&[1, 2, 5, 30, 30, 200]);
+    for body in bodies.iter_mut().filter(|body| !body.is_isr()) {
+        if random.chance(percent) {
+            body.deadline = match random.below(12) {
+                0 => 1,
+                1 => 2,
+                2 => TICKS_MAX,
+                3 => random.between(1, TICKS_MAX as usize) as u32,
+                _ => random.between(1, longest) as u32,
+            };
+        }
+    }
 }
 
 fn draw_resources(random: &mut Random, bodies: &[Body]) -> Vec<u32> {
@@ -712,11 +738,12 @@ fn out_of_range(random: &mut Random, plan: &Plan, role: Role, value: u32) -> u32
     let isr = plan.bodies.iter().position(Body::is_isr).map_or(bodies, |isr| isr as u32);
     let timed = plan.bodies.iter().position(Body::is_timed).map_or(bodies, |timed| timed as u32);
     match role {
-        Role::Version => random.pick(&[0, 3 - value.min(2), 3, 4, 128, 257, 258]),
+        Role::Version => random.pick(&[0, 1, 2, 3, 4, 128, 257, 258, 259]),
         Role::BodyCount => random.pick(&[0, 33, 34, bodies + 1, bodies - 1, u32::MAX]),
         Role::Kind => random.pick(&[4, 5, (value + 1) % 4, (value + 2) % 4, (value + 3) % 4, 128, 256]),
         Role::Priority => random.pick(&[0, 201, 255, 256, 257, plan.bodies[0].priority]),
         Role::Autostart => random.pick(&[2, 1 - value.min(1), 1 - value.min(1), 256]),
+        Role::Deadline => random.pick(&[TICKS_MAX + 1, TICKS_MAX, 1, value + 1, 1 << 16 | value, u32::MAX]),
         Role::ResourceCount => random.pick(&[17, value + 1, value.saturating_sub(1), 255, 256]),
         Role::Users => random.pick(&[0, 1 << (bodies % 32), u32::MAX, value | 1 << 31, value | 1 << (timed % 32)]),
         Role::TableCount => random.pick(&[9, value + 1, value.saturating_sub(1), 256]),
@@ -802,6 +829,7 @@ fn damage_config(random: &mut Random, plan: &mut Plan) -> Vec<u8> {
             random.pick(&[
                 Role::Version,
                 Role::BodyCount,
+                Role::Deadline,
                 Role::ResourceCount,
                 Role::TableCount,
                 Role::Users,
@@ -950,7 +978,7 @@ pub fn case(seed: u64, number: u64) -> Case {
             };
             config = noise(&mut random, 60);
             if random.chance(70) && config.len() >= 2 {
-                config[0] = random.pick(&[1, 2]);
+                config[0] = random.pick(&[1, 2, 3]);
                 config[1] = 1 + config[1] % 4;
             }
             trace = noise(&mut random, 60);
@@ -1000,7 +1028,7 @@ fn timed_plan(random: &mut Random, shape: Shape) -> Plan {
                 (1, Shape::TimeTriggered) => TIME_TRIGGERED,
                 _ => TASK,
             };
-            Body { kind, priority: priorities[body], autostart: u32::from(body % 2 == 0) }
+            Body { kind, priority: priorities[body], autostart: u32::from(body % 2 == 0), deadline: 0 }
         })
         .collect();
     let timed = numbers_where(&bodies, Body::is_timed);

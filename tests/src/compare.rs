@@ -1,4 +1,5 @@
-//! Drawn cases, run by every implementation and compared byte for byte: the result and the whole output buffer.
+//! Drawn cases, run by every implementation and compared byte for byte: the result and the whole output buffer. The misses,
+//! which are asked for in the same way, are compared likewise.
 
 use std::fmt::Write;
 use std::sync::atomic::{AtomicU64, Ordering};
@@ -9,7 +10,7 @@ use crate::fast::{self, Cells, NextDue};
 use crate::guard::{self, GuardedRun, Run, Side};
 use crate::{plain, shrink};
 
-/// An implementation of the run.
+/// An implementation of the run, or of the misses.
 #[derive(Clone, Copy)]
 pub struct Implementation {
     pub name: &'static str,
@@ -38,6 +39,20 @@ pub fn others() -> Vec<Implementation> {
     ]
 }
 
+/// The misses that all others are compared with.
+pub const FAST_MISSES: Implementation =
+    Implementation { name: "misses of fast", run: fast::misses::<NextDue>, guarded: false };
+
+/// The misses of every other implementation.
+pub fn other_misses() -> Vec<Implementation> {
+    vec![
+        #[cfg(feature = "linked")]
+        Implementation { name: "osek_misses", run: crate::subject::misses, guarded: true },
+        Implementation { name: "misses of fast with cells", run: fast::misses::<Cells>, guarded: false },
+        Implementation { name: "misses of the plain scheduler", run: plain::misses, guarded: false },
+    ]
+}
+
 /// A result and the output buffer after the run.
 pub type Outcome = (u64, Vec<u8>);
 
@@ -56,25 +71,39 @@ fn outcomes(implementation: Implementation, case: &Case, memory: &mut GuardedRun
     }
 }
 
-/// Compares a case; a difference is told in full, with the shortest trace that still shows it.
+/// Compares runs of a case; a difference is told in full, with the shortest trace that still shows it.
 pub fn check(case: &Case, implementations: &[Implementation], memory: &mut GuardedRun) -> Result<Outcome, String> {
-    let expected = outcome(FAST, case);
+    check_with(FAST, case, implementations, memory)
+}
+
+/// Compares the misses of a case, whose output is the list.
+pub fn check_misses(case: &Case, memory: &mut GuardedRun) -> Result<Outcome, String> {
+    check_with(FAST_MISSES, case, &other_misses(), memory)
+}
+
+fn check_with(
+    first: Implementation,
+    case: &Case,
+    implementations: &[Implementation],
+    memory: &mut GuardedRun,
+) -> Result<Outcome, String> {
+    let expected = outcome(first, case);
     for implementation in implementations {
         if outcomes(*implementation, case, memory).iter().any(|outcome| *outcome != expected) {
-            return Err(describe(case, *implementation));
+            return Err(describe(first, case, *implementation));
         }
     }
     Ok(expected)
 }
 
-fn describe(case: &Case, implementation: Implementation) -> String {
+fn describe(first: Implementation, case: &Case, implementation: Implementation) -> String {
     let first_difference = |case: &Case| {
-        let expected = outcome(FAST, case);
+        let expected = outcome(first, case);
         let differing = outcomes(implementation, case, &mut GuardedRun::default()).into_iter().find(|o| *o != expected);
         differing.map(|outcome| (expected, outcome))
     };
     let shrunk = shrink::shrink(case, |case| first_difference(case).is_some());
-    let mut text = format!("{} differs from {}\n", implementation.name, FAST.name);
+    let mut text = format!("{} differs from {}\n", implementation.name, first.name);
     let _ = writeln!(text, "configuration  {}", hex(&shrunk.config));
     let _ = writeln!(text, "trace          {}", hex(&shrunk.trace));
     let _ = writeln!(
@@ -88,7 +117,7 @@ fn describe(case: &Case, implementation: Implementation) -> String {
     let Some((expected, got)) = first_difference(&shrunk) else {
         return text + "the difference does not show a second time\n";
     };
-    for (name, (result, out)) in [(FAST.name, &expected), (implementation.name, &got)] {
+    for (name, (result, out)) in [(first.name, &expected), (implementation.name, &got)] {
         let _ = writeln!(text, "{name}: {}", result_words(*result));
         let shown = out.len().min(4 * shrunk.trace.len() + 64);
         let _ = writeln!(text, "  {}", hex(&out[..shown]));
@@ -102,7 +131,7 @@ fn describe(case: &Case, implementation: Implementation) -> String {
 
 fn result_words(result: u64) -> String {
     match result >> 32 {
-        0 => format!("{result} events"),
+        0 => format!("result {result}"),
         refusal => format!("refused {refusal} {}", result & 0xffff_ffff),
     }
 }

@@ -31,8 +31,8 @@ pub const STATUSES: [(u8, &str, &[u8]); 12] = [
 pub struct Coverage {
     pub cases: u64,
     pub accepted: u64,
-    /// Accepted cases of version 1 and of version 2.
-    pub versions: [u64; 2],
+    /// Accepted cases of each version.
+    pub versions: [u64; fast::VERSION_MAX as usize],
     pub events: u64,
     refusals: [u64; 31],
     /// By event and place of the status in its row of [`STATUSES`].
@@ -93,7 +93,7 @@ impl Coverage {
         let events = result as usize;
         self.events += events as u64;
         let config = fast::read_config(&case.config).expect("the run accepted the configuration");
-        self.versions[usize::from(config.counts_lines())] += 1;
+        self.versions[config.version() as usize - 1] += 1;
         let mut watch = Watch::of(&config);
         let mut at = 0;
         for answer in out.chunks_exact(4).take(events) {
@@ -203,10 +203,10 @@ impl Coverage {
 
 impl fmt::Display for Coverage {
     fn fmt(&self, f: &mut fmt::Formatter) -> fmt::Result {
-        let [version1, version2] = self.versions;
+        let [first, second, third] = self.versions;
         writeln!(
             f,
-            "{} cases, {} accepted ({version1} of version 1, {version2} of version 2), {} events",
+            "{} cases, {} accepted ({first} of version 1, {second} of 2, {third} of 3), {} events",
             self.cases, self.accepted, self.events
         )?;
         write!(f, "refusals")?;

@@ -1,7 +1,7 @@
 //! Document 01 with document 02's requests in Rust, written for speed: ready and started bodies and those that stand aside are
 //! a word each, everything is changed in place. It follows the documents and shares nothing with the Rattle code.
 //!
-//! In order: numbers, the configuration, events, the two kinds of timers, the kernel, the run.
+//! In order: numbers, the configuration, events, the two kinds of timers, the kernel, the run, deadlines.
 //!
 //! The timers come in two kinds that give the same answers. [`Cells`] counts every entry's 16-bit cell as document 01
 //! describes them; [`NextDue`] keeps for each table how far its next entry is, and so does a tick's work once per
@@ -21,6 +21,11 @@ pub const PRIORITY_MAX: u32 = 200;
 pub const EXECUTION_LEVEL: u8 = 201;
 pub const TRIGGER_LEVEL: u8 = 202;
 pub const TICKS_MAX: u32 = 65_535;
+/// The newest version of a configuration, the first one that has deadlines.
+pub const VERSION_MAX: u32 = 3;
+/// How many misses are listed, and the bytes of each.
+pub const MISSES_MAX: usize = 64;
+pub const MISS_SIZE: usize = 3;
 /// The ticks in which a cell's counter comes round.
 pub const TURN: u32 = 65_536;
 
@@ -89,8 +94,7 @@ pub const TIME_TRIGGERED: u32 = 3;
 /// above all others; only the callers' ids and the answers bear body numbers.
 #[derive(Clone, Debug)]
 pub struct Config {
-    /// Version 2: a Line refused because a request waits is a loss of its ISR.
-    counts_lines: bool,
+    version: u32,
     bodies: usize,
     resources: usize,
     tables: usize,
@@ -109,6 +113,8 @@ pub struct Config {
     number: [u8; BODIES_MAX],
     /// By rank; of time-triggered bodies the trigger level.
     priority: [u8; BODIES_MAX],
+    /// By rank; 0 for none.
+    deadline: [u16; BODIES_MAX],
     ceiling: [u8; RESOURCES_MAX],
     /// Body numbers of each resource's users, one bit each.
     users: [u32; RESOURCES_MAX],
@@ -167,10 +173,11 @@ pub fn read_config(bytes: &[u8]) -> Result<Config, Refusal> {
         return refuse(10, 0);
     }
     let mut fields = Fields { bytes, place: 0, next: 0 };
-    let counts_lines = fields.number(1..=2, 3)? == 2;
+    let version = fields.number(1..=VERSION_MAX, 3)?;
 
     let bodies = fields.count(1, BODIES_MAX)?;
     let mut priority_of = [0u8; BODIES_MAX];
+    let mut deadline_of = [0u16; BODIES_MAX];
     let mut task_numbers = 0u32;
     let mut extended_numbers = 0u32;
     let mut timed_numbers = 0u32;
@@ -186,6 +193,9 @@ pub fn read_config(bytes: &[u8]) -> Result<Config, Refusal> {
         owner[priority as usize] = Some(body as u8);
         *own = priority as u8;
         let autostart = fields.field(0, if kind == ISR || kind == TIME_TRIGGERED { 0 } else { 1 })?;
+        if version == VERSION_MAX {
+            deadline_of[body] = fields.field(0, if kind == ISR { 0 } else { TICKS_MAX })? as u16;
+        }
         task_numbers |= u32::from(kind != ISR) << body;
         extended_numbers |= u32::from(kind == EXTENDED) << body;
         timed_numbers |= u32::from(kind == TIME_TRIGGERED) << body;
@@ -194,7 +204,7 @@ pub fn read_config(bytes: &[u8]) -> Result<Config, Refusal> {
     let all_bodies = u32::MAX >> (BODIES_MAX - bodies);
 
     let mut config = Config {
-        counts_lines,
+        version,
         bodies,
         resources: 0,
         tables: 0,
@@ -209,6 +219,7 @@ pub fn read_config(bytes: &[u8]) -> Result<Config, Refusal> {
         rank: [0; BODIES_MAX],
         number: [0; BODIES_MAX],
         priority: [0; BODIES_MAX],
+        deadline: [0; BODIES_MAX],
         ceiling: [0; RESOURCES_MAX],
         users: [0; RESOURCES_MAX],
         table: [Table::default(); TABLES_MAX],
@@ -221,6 +232,7 @@ pub fn read_config(bytes: &[u8]) -> Result<Config, Refusal> {
         config.number[rank] = body;
         config.rank[body as usize] = rank as u8;
         config.priority[rank] = if is_timed(u32::from(body)) { TRIGGER_LEVEL } else { priority_of[body as usize] };
+        config.deadline[rank] = deadline_of[body as usize];
         config.isr_ranks |= (config.isr_numbers >> body & 1) << rank;
         config.autostart_ranks |= (autostart_numbers >> body & 1) << rank;
         config.timed_ranks |= (timed_numbers >> body & 1) << rank;
@@ -288,8 +300,13 @@ pub fn read_config(bytes: &[u8]) -> Result<Config, Refusal> {
 }
 
 impl Config {
+    pub fn version(&self) -> u32 {
+        self.version
+    }
+
+    /// A Line refused because a request waits is a loss of its ISR.
     pub fn counts_lines(&self) -> bool {
-        self.counts_lines
+        self.version >= 2
     }
 
     pub fn bodies(&self) -> usize {
@@ -631,7 +648,7 @@ pub struct Kernel<'c, T> {
     /// Event bits and, while a task waits, the ones it waits for, by rank.
     events: [u32; BODIES_MAX],
     waited: [u32; BODIES_MAX],
-    /// Lost activations and, in version 2, lost lines, by body number.
+    /// Lost activations and, from version 2 on, lost lines, by body number.
     losses: [u16; BODIES_MAX],
 }
 
@@ -759,8 +776,13 @@ impl<'c, T: Timers> Kernel<'c, T> {
         self.held[self.held_count].holder.rank == self.running.rank
     }
 
+    /// The bodies that are not suspended, one bit per rank.
+    fn active(&self) -> u32 {
+        self.ready | self.started | self.aside
+    }
+
     fn is_free(&self, bit: u32) -> bool {
-        (self.ready | self.started | self.aside) & bit == 0
+        self.active() & bit == 0
     }
 
     /// Makes a suspended task ready.
@@ -884,7 +906,7 @@ impl<'c, T: Timers> Kernel<'c, T> {
         }
         let bit = self.rank_bit(isr);
         if self.ready & bit != 0 {
-            if self.config.counts_lines {
+            if self.config.counts_lines() {
                 lose(&mut self.losses[isr as usize]);
             }
             return 4;
@@ -1137,6 +1159,94 @@ fn accepted(config: &[u8], trace: &[u8], out_len: usize) -> Result<(Config, usiz
     Ok((config, events))
 }
 
+// Deadlines
+
+/// The deadline counters: by rank the ticks until a task is due, 0 for one that does not count.
+#[derive(Clone)]
+pub struct Deadlines {
+    left: [u16; BODIES_MAX],
+}
+
+/// The places of the bits that are set, the lowest first.
+fn places(mut bits: u32) -> impl Iterator<Item = usize> {
+    std::iter::from_fn(move || {
+        let place = (bits != 0).then(|| bits.trailing_zeros() as usize)?;
+        bits &= bits - 1;
+        Some(place)
+    })
+}
+
+impl Deadlines {
+    /// Of a kernel that has just been started.
+    pub fn fresh<T: Timers>(kernel: &Kernel<T>) -> Self {
+        let mut deadlines = Deadlines { left: [0; BODIES_MAX] };
+        deadlines.start(kernel.config, kernel.active());
+        deadlines
+    }
+
+    /// Steps the kernel. Gives its answer and who misses a deadline at this event, one bit per body number.
+    #[inline(always)]
+    pub fn step<T: Timers>(&mut self, kernel: &mut Kernel<T>, event: Event) -> (Answer, u32) {
+        let missed = if event == Event::Tick { self.count(kernel.config) } else { 0 };
+        let (before, running) = (kernel.active(), kernel.running);
+        let answer = kernel.step(event);
+        let after = kernel.active();
+        // A Chain to the running task itself leaves it active, and counts anew.
+        let chained = matches!(event, Event::Chain(task) if answer.status == 0 && task == u32::from(running.number));
+        let anew = if chained { 1 << running.rank } else { 0 };
+        places(before & !after).for_each(|rank| self.left[rank] = 0);
+        self.start(kernel.config, after & !before | anew);
+        (answer, missed)
+    }
+
+    fn start(&mut self, config: &Config, ranks: u32) {
+        places(ranks).for_each(|rank| self.left[rank] = config.deadline[rank]);
+    }
+
+    /// Counts a tick; a counter that comes to 0 is a miss, and stays there.
+    fn count(&mut self, config: &Config) -> u32 {
+        let mut missed = 0;
+        for (left, number) in self.left.iter_mut().zip(config.number).filter(|(left, _)| **left > 0) {
+            *left -= 1;
+            missed |= u32::from(*left == 0) << number;
+        }
+        missed
+    }
+}
+
+/// The misses as osek_misses promises them.
+pub fn misses<T: Timers>(config: &[u8], trace: &[u8], list: &mut [u8]) -> u64 {
+    match accepted(config, trace, usize::MAX) {
+        Err(refusal) => refusal.result(),
+        Ok((config, _)) => listed_misses::<T>(&config, trace, list).unwrap_or_else(Refusal::result),
+    }
+}
+
+fn listed_misses<T: Timers>(config: &Config, trace: &[u8], list: &mut [u8]) -> Result<u64, Refusal> {
+    let mut kernel = Kernel::<T>::fresh(config);
+    let mut deadlines = Deadlines::fresh(&kernel);
+    let mut first = [[0u8; MISS_SIZE]; MISSES_MAX];
+    let (mut count, mut tick, mut at) = (0usize, 0u16, 0);
+    while let Ok((event, next)) = read_event(trace, at) {
+        at = next;
+        tick += u16::from(event == Event::Tick);
+        let (_, missed) = deadlines.step(&mut kernel, event);
+        for body in places(missed) {
+            if let Some(miss) = first.get_mut(count) {
+                let [low, high] = tick.to_le_bytes();
+                *miss = [low, high, body as u8];
+            }
+            count += 1;
+        }
+    }
+    let bytes = first[..count.min(MISSES_MAX)].as_flattened();
+    if list.len() < bytes.len() {
+        return refuse(30, bytes.len());
+    }
+    list[..bytes.len()].copy_from_slice(bytes);
+    Ok(count as u64)
+}
+
 #[cfg(test)]
 mod tests {
     //! What a run can't reach, or does not show: counters of cells, and counts beyond 8,192 bytes.
@@ -1291,6 +1401,17 @@ mod tests {
         for lost in 1..=65_537u32 {
             assert_eq!(kernel.step(Event::Line(0)).status, 4);
             assert_eq!(u32::from(kernel.losses()[0]), lost.min(65_535));
+        }
+    }
+    #[test]
+    fn the_longest_deadline_is_missed_at_tick_65_535() {
+        // One autostart task with the deadline 65,535.
+        let config = read_config(&[3, 1, 0, 1, 1, 0xff, 0xff, 3, 0, 0]).expect("the configuration is accepted");
+        let mut kernel = Kernel::<Cells>::fresh(&config);
+        let mut deadlines = Deadlines::fresh(&kernel);
+        for tick in 1..=200_000 {
+            let (_, missed) = deadlines.step(&mut kernel, Event::Tick);
+            assert_eq!(missed == 1, tick == 65_535, "{tick}");
         }
     }
 }

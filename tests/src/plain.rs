@@ -94,6 +94,8 @@ struct Body {
     kind: Kind,
     priority: u64,
     autostart: bool,
+    /// "0 for none"
+    deadline: u64,
     state: State,
     /// "for a started ISR also whether a request waits"
     request_waits: bool,
@@ -141,7 +143,7 @@ fn read_configuration(input: &[u8]) -> Result<Scheduler, Refused> {
     ensure(input.len() <= 4096, 10, 0)?;
     let mut cursor = Cursor { input, base: 0, next: 0 };
     let (version, at) = cursor.take()?;
-    ensure(version == 1 || version == 2, 3, at)?;
+    ensure((1..=3).contains(&version), 3, at)?;
 
     let (body_count, at) = cursor.take()?;
     ensure((1..=32).contains(&body_count), 4, at)?;
@@ -156,10 +158,18 @@ fn read_configuration(input: &[u8]) -> Result<Scheduler, Refused> {
         let kind = [Kind::Task, Kind::Isr, Kind::Extended, Kind::TimeTriggered][kind as usize];
         let may_autostart = matches!(kind, Kind::Task | Kind::Extended);
         ensure(autostart == 0 || (autostart == 1 && may_autostart), 5, at)?;
+        // "The configuration gains a number after each body's autostart .. in version 3".
+        let mut deadline = 0;
+        if version == 3 {
+            let at;
+            (deadline, at) = cursor.take()?;
+            ensure(deadline <= if kind == Kind::Isr { 0 } else { 65535 }, 5, at)?;
+        }
         bodies.push(Body {
             kind,
             priority,
             autostart: autostart == 1,
+            deadline,
             state: State::Suspended,
             request_waits: false,
             events: 0,
@@ -531,7 +541,8 @@ impl Scheduler {
             self.take_effect(code, arguments);
         }
         // "From edition two a Line that meets a waiting request adds to that ISR's loss count .. besides giving status 4."
-        if self.version == 2 && code == 7 && status == 4 {
+        // "version 3, which counts lines as 2 does"
+        if self.version >= 2 && code == 7 && status == 4 {
             self.lose(arguments[0] as usize);
         }
         let begun = self.choose();
@@ -611,6 +622,82 @@ pub fn wait(config: &[u8], trace: &[u8], body: u32) -> u64 {
     }
 }
 
+/// What an event, or the fresh start, does to tasks: whom it ends and whom it makes ready.
+struct Moment {
+    /// The Ticks so far, this event among them.
+    ticks: u64,
+    ended: Option<usize>,
+    made_ready: Vec<usize>,
+}
+
+impl Scheduler {
+    fn fresh_moment(&mut self) -> Moment {
+        self.fresh_start();
+        let made_ready = (0..self.bodies.len()).filter(|body| self.bodies[*body].autostart).collect();
+        Moment { ticks: 0, ended: None, made_ready }
+    }
+
+    /// "Finish and Chain end it; Chain to itself ends it and counts anew; waiting is no end, being resumed is no readiness."
+    fn moment(&mut self, ticks: u64, code: u64, arguments: &[u64]) -> Moment {
+        let before = self.clone();
+        let [status, ..] = self.answer(code, arguments);
+        let ended = before.runner.filter(|_| status == 0 && (code == 2 || code == 3));
+        let was_free = |body: &usize| before.suspended(*body) || ended == Some(*body);
+        let made_ready = (0..self.bodies.len()).filter(|body| was_free(body) && !self.suspended(*body)).collect();
+        Moment { ticks: ticks + u64::from(code == 6), ended, made_ready }
+    }
+}
+
+/// Tick and task of each miss, "in order of time, then of body". A task misses at the Tick numbered "k + deadline, where k is
+/// the Ticks so far, the present one included", if nothing has ended it before.
+fn missed(moments: &[Moment], deadline: impl Fn(usize) -> u64) -> Vec<(u64, usize)> {
+    let last_tick = moments.last().map_or(0, |moment| moment.ticks);
+    let mut misses = Vec::new();
+    for (index, moment) in moments.iter().enumerate() {
+        for task in moment.made_ready.iter().copied().filter(|task| deadline(*task) != 0) {
+            let due = moment.ticks + deadline(task);
+            let mut until_due = moments[index + 1..].iter().take_while(|later| later.ticks < due);
+            if due <= last_tick && until_due.all(|later| later.ended != Some(task)) {
+                misses.push((due, task));
+            }
+        }
+    }
+    misses.sort_unstable();
+    misses
+}
+
+/// The misses of these events from the fresh start on.
+fn misses_of(scheduler: &mut Scheduler, events: &[PlainEvent]) -> Vec<(u64, usize)> {
+    let mut moments = vec![scheduler.fresh_moment()];
+    for (code, arguments) in events {
+        let ticks = moments[moments.len() - 1].ticks;
+        moments.push(scheduler.moment(ticks, *code, arguments));
+    }
+    missed(&moments, |task| scheduler.bodies[task].deadline)
+}
+
+fn miss_list(config: &[u8], trace: &[u8], list_len: usize) -> Result<(u64, Vec<u8>), Refused> {
+    let mut scheduler = read_configuration(config)?;
+    let events = read_trace(trace)?;
+    let misses = misses_of(&mut scheduler, &events);
+    // "the first 64 misses, tick (from 1, two bytes, low first) and task (one)"
+    let first = misses.iter().take(64);
+    let bytes: Vec<u8> = first.flat_map(|(tick, task)| [(tick % 256) as u8, (tick / 256) as u8, *task as u8]).collect();
+    ensure(list_len >= bytes.len(), 30, bytes.len())?;
+    Ok((misses.len() as u64, bytes))
+}
+
+/// The misses as osek_misses promises them.
+pub fn misses(config: &[u8], trace: &[u8], list: &mut [u8]) -> u64 {
+    match miss_list(config, trace, list.len()) {
+        Ok((count, bytes)) => {
+            list[..bytes.len()].copy_from_slice(&bytes);
+            count
+        }
+        Err((refusal, place)) => refusal * 4_294_967_296 + place as u64,
+    }
+}
+
 #[cfg(test)]
 mod tests {
     //! What no run is long enough to reach.
@@ -663,5 +750,20 @@ mod tests {
             assert_eq!(scheduler.answer(7, &[0]), [4, 0, 1, 0]);
             assert_eq!(scheduler.bodies[0].losses, lost.min(65_535));
         }
+    }
+    #[test]
+    fn the_longest_deadline_is_missed_at_tick_65_535() {
+        // One autostart task with the deadline 65,535.
+        let config = [3, 1, 0, 1, 1, 0xff, 0xff, 3, 0, 0];
+        let misses = |events: &[PlainEvent]| {
+            let mut scheduler = read_configuration(&config).expect("the configuration is accepted");
+            misses_of(&mut scheduler, events)
+        };
+        let mut events = vec![(6, vec![]); 65_535];
+        assert_eq!(misses(&events[..65_534]), []);
+        assert_eq!(misses(&events), [(65_535, 0)]);
+        events[65_533] = (2, vec![]);
+        events.push((6, vec![]));
+        assert_eq!(misses(&events), []);
     }
 }

@@ -7,7 +7,7 @@ use crate::triggered;
 const TURN_PASSED: &str = "a turn of a counter that passes unmatched";
 const LINES_LOST: [[&str; 2]; 2] = [
     ["a line of a ready ISR lost in version 1", "a line of a started ISR lost in version 1"],
-    ["a line of a ready ISR lost in version 2", "a line of a started ISR lost in version 2"],
+    ["a line of a ready ISR lost in version 2 or 3", "a line of a started ISR lost in version 2 or 3"],
 ];
 // A resource that another body holds has a ceiling below the runner's own priority; the runner is a user of its own ones.
 const NO_USER_BELOW: &str = "Get of a free resource by no user of it, its level below the ceiling";

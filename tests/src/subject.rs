@@ -1,4 +1,4 @@
-//! The proved run, salvage, reading of OIL texts, draw, wait and verdict, linked from the static libraries.
+//! The proved run, salvage, reading of OIL texts, draw, wait, misses and verdict, linked from the static libraries.
 
 /// The static library's file.
 pub const LIBRARY: &str = env!("OSEK_LIBRARY");
@@ -22,6 +22,14 @@ extern "C" {
     ) -> u64;
     pub fn osek_oil(text: *const u8, text_len: usize, config: *mut u8, config_len: usize, place: *mut u64) -> u64;
     pub fn osek_wait(config: *const u8, config_len: usize, trace: *const u8, trace_len: usize, body: u32) -> u64;
+    pub fn osek_misses(
+        config: *const u8,
+        config_len: usize,
+        trace: *const u8,
+        trace_len: usize,
+        list: *mut u8,
+        list_len: usize,
+    ) -> u64;
     pub fn osek_draw(
         start: u32,
         weights: *const u16,
@@ -71,6 +79,12 @@ pub fn oil(text: &[u8], config: &mut [u8], place: &mut [u64; 2]) -> u64 {
 #[inline(never)]
 pub fn wait(config: &[u8], trace: &[u8], body: u32) -> u64 {
     unsafe { osek_wait(config.as_ptr(), config.len(), trace.as_ptr(), trace.len(), body) }
+}
+
+/// Safe for the same reasons.
+#[inline(never)]
+pub fn misses(config: &[u8], trace: &[u8], list: &mut [u8]) -> u64 {
+    unsafe { osek_misses(config.as_ptr(), config.len(), trace.as_ptr(), trace.len(), list.as_mut_ptr(), list.len()) }
 }
 
 /// Safe for the same reasons.

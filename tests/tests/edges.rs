@@ -1,7 +1,7 @@
 //! Document 01's listing and edges, worked by hand, shown by every implementation. P6 and P11 lie beyond a run's length and
 //! stand with the cells in src/fast.rs.
 
-use osek_tests::by_hand::{assert_refused, assert_rows, number, shown, Script};
+use osek_tests::by_hand::{assert_refused, assert_rows, number, shown, with_deadlines, Script};
 use osek_tests::cases::push_number;
 use osek_tests::listing::{DOCUMENT_CONFIG, DOCUMENT_LISTING, DOCUMENT_TRACE};
 
@@ -180,15 +180,18 @@ fn edge_p12_a_started_isr_takes_one_more_request() {
     );
 }
 
-/// A configuration with another version.
+/// A configuration with another version, without deadlines.
 fn of_version(version: u8, config: &[u8]) -> Vec<u8> {
+    if version == 3 {
+        return with_deadlines(config, &vec![0; config[1].into()]);
+    }
     let mut config = config.to_vec();
     config[0] = version;
     config
 }
 
 #[test]
-fn a_line_lost_on_a_started_isr_counts_in_version_2() {
+fn a_line_lost_on_a_started_isr_counts_in_versions_2_and_3() {
     let rows = "0 7 0 0 5 1
                 1 7 0 0 5 0
                 2 7 4 0 5 0
@@ -198,11 +201,13 @@ fn a_line_lost_on_a_started_isr_counts_in_version_2() {
                 6 7 4 0 5 0";
     let trace = [7, 0, 7, 0, 7, 0, 7, 0, 2, 7, 0, 7, 0];
     assert_rows(&of_version(1, &TWO_ISRS), &trace, rows);
-    assert_rows(&of_version(2, &TWO_ISRS), &trace, &format!("{rows}\nlost 0 3"));
+    for version in [2, 3] {
+        assert_rows(&of_version(version, &TWO_ISRS), &trace, &format!("{rows}\nlost 0 3"));
+    }
 }
 
 #[test]
-fn a_line_lost_on_a_ready_isr_counts_in_version_2() {
+fn a_line_lost_on_a_ready_isr_counts_in_versions_2_and_3() {
     // ISR 0 runs at the ceiling 9, so that ISR 1 waits to begin.
     let rows = "0 7 0 0 5 1
                 1 4 0 0 9 0
@@ -213,35 +218,39 @@ fn a_line_lost_on_a_ready_isr_counts_in_version_2() {
                 6 7 0 1 9 0";
     let trace = [7, 0, 4, 0, 7, 1, 7, 1, 7, 1, 5, 0, 7, 1];
     assert_rows(&of_version(1, &TWO_ISRS), &trace, rows);
-    assert_rows(&of_version(2, &TWO_ISRS), &trace, &format!("{rows}\nlost 1 2"));
+    for version in [2, 3] {
+        assert_rows(&of_version(version, &TWO_ISRS), &trace, &format!("{rows}\nlost 1 2"));
+    }
 }
 
 #[test]
-fn no_other_refusal_is_a_loss_in_version_2() {
+fn no_other_refusal_is_a_loss_in_versions_2_and_3() {
     // Task 0 (4, runs), task 1 (1), ISR 2 (9). A Line to a task or to nobody is 3; a refused Activate or Chain is no loss.
     let config = [2, 3, 0, 4, 1, 0, 1, 0, 1, 9, 0, 0, 0];
-    assert_rows(
-        &config,
-        &[7, 0, 7, 1, 7, 3, 1, 0, 1, 1, 1, 1, 3, 1, 7, 2, 7, 2, 3, 1, 1, 1, 7, 2],
-        "0 7 3 0 4 0
-         1 7 3 0 4 0
-         2 7 3 0 4 0
-         3 1 4 0 4 0
-         4 1 0 0 4 0
-         5 1 4 0 4 0
-         6 3 4 0 4 0
-         7 7 0 2 9 1
-         8 7 0 2 9 0
-         9 3 2 2 9 0
-         10 1 4 2 9 0
-         11 7 4 2 9 0
-         lost 2 1",
-    );
+    for version in [2, 3] {
+        assert_rows(
+            &of_version(version, &config),
+            &[7, 0, 7, 1, 7, 3, 1, 0, 1, 1, 1, 1, 3, 1, 7, 2, 7, 2, 3, 1, 1, 1, 7, 2],
+            "0 7 3 0 4 0
+             1 7 3 0 4 0
+             2 7 3 0 4 0
+             3 1 4 0 4 0
+             4 1 0 0 4 0
+             5 1 4 0 4 0
+             6 3 4 0 4 0
+             7 7 0 2 9 1
+             8 7 0 2 9 0
+             9 3 2 2 9 0
+             10 1 4 2 9 0
+             11 7 4 2 9 0
+             lost 2 1",
+        );
+    }
 }
 
 #[test]
-fn lost_activations_count_alike_in_both_versions() {
-    for version in [1, 2] {
+fn lost_activations_count_alike_in_all_versions() {
+    for version in [1, 2, 3] {
         assert_rows(
             &of_version(version, &TWO_TABLES),
             &[8, 0, 1, 6, 6, 6],

@@ -112,11 +112,78 @@ fn a_number_too_large_or_not_shortest_is_2_at_the_byte_that_decides() {
 }
 
 #[test]
-fn a_version_other_than_1_and_2_is_3() {
+fn a_version_other_than_1_to_3_is_3() {
     assert_eq!(result(&with(0, 1, &[2]), &[], 6), (0, 0));
-    for version in [&[0][..], &[3], &[4], &[0x81, 1], &[0x82, 1], &[0xff, 0xff, 0xff, 0xff, 0x0f]] {
+    for version in [&[0][..], &[4], &[5], &[0x81, 1], &[0x82, 1], &[0x83, 1], &[0xff, 0xff, 0xff, 0xff, 0x0f]] {
         assert_config(&with(0, 1, version), 3, 0);
     }
+}
+
+/// Version 3: task 0 of priority 1 (autostart) with the deadline 300, ISR 1 of priority 2, extended task 2 of priority 3 with the
+/// deadline 65,535, time-triggered body 3 of priority 4 with the deadline 1. The places:
+///
+/// 0 version, 1 body count, 2 kind, 3 priority, 4 autostart, 5 deadline, 7 to 9 the same, 10 deadline, 11 to 13 the same,
+/// 14 deadline, 17 to 19 the same, 20 deadline, 21 resource count, 22 table count, 23 end
+const DEADLINES: [u8; 23] = [3, 4, 0, 1, 1, 0xac, 2, 1, 2, 0, 0, 2, 3, 0, 0xff, 0xff, 3, 3, 4, 0, 1, 0, 0];
+
+/// That configuration with `bytes` in the place of the `length` bytes at `place`.
+fn deadlines_with(place: usize, length: usize, bytes: &[u8]) -> Vec<u8> {
+    [&DEADLINES[..place], bytes, &DEADLINES[place + length..]].concat()
+}
+
+/// The deadlines of the three tasks: where they stand, and their lengths.
+const OF_TASKS: [(usize, usize); 3] = [(5, 2), (14, 3), (20, 1)];
+
+#[test]
+fn a_task_of_any_kind_has_a_deadline_of_0_to_65_535() {
+    for (place, length) in OF_TASKS {
+        for deadline in [&[0][..], &[1], &[0x80, 1], &[0xff, 0xff, 3]] {
+            assert_eq!(result(&deadlines_with(place, length, deadline), &[], 8), (0, 0));
+        }
+        for deadline in [&[0x80, 0x80, 4][..], &[0x81, 0x80, 4], &[0xff, 0xff, 0xff, 0xff, 0x0f]] {
+            assert_config(&deadlines_with(place, length, deadline), 5, place as u64);
+        }
+    }
+}
+
+#[test]
+fn a_deadline_of_an_isr_is_5() {
+    for deadline in [&[1][..], &[0xac, 2], &[0xff, 0xff, 3], &[0x80, 0x80, 4]] {
+        assert_config(&deadlines_with(10, 1, deadline), 5, 10);
+    }
+}
+
+#[test]
+fn a_deadline_that_can_not_be_read_is_1_or_2() {
+    for (place, length) in [(5, 2), (10, 1), (14, 3), (20, 1)] {
+        for groups in 0..=4 {
+            let cut = [&DEADLINES[..place], &vec![0x80; groups]].concat();
+            assert_config(&cut, 1, (place + groups) as u64);
+        }
+        for (bytes, decides) in BAD_NUMBERS {
+            assert_config(&deadlines_with(place, length, bytes), 2, (place + decides) as u64);
+        }
+    }
+}
+
+#[test]
+fn a_deadline_is_read_after_the_autostart_and_before_the_next_body() {
+    // A priority used twice and an autostart out of range come before a deadline that can't be.
+    assert_config(&deadlines_with(8, 3, &[1, 0, 9]), 6, 8);
+    assert_config(&deadlines_with(9, 2, &[1, 9]), 5, 9);
+    assert_config(&deadlines_with(9, 3, &[0, 9, 7]), 5, 10);
+}
+
+#[test]
+fn versions_1_and_2_have_no_deadlines() {
+    // What is a deadline in version 3 is the kind of the next body there.
+    for version in [1, 2] {
+        assert_config(&deadlines_with(0, 1, &[version]), 5, 5);
+        assert_eq!(result(&[version, 1, 0, 1, 1, 0, 0], &[], 2), (0, 0));
+        assert_config(&[version, 1, 0, 1, 1, 0, 0, 0], 9, 7);
+    }
+    assert_config(&[3, 1, 0, 1, 1, 0, 0], 1, 7);
+    assert_eq!(result(&[3, 1, 0, 1, 1, 0, 0, 0], &[], 2), (0, 0));
 }
 
 #[test]
