@@ -2,10 +2,11 @@
  * OSEK OS reference, classes BCC1 and ECC1, with OSEKtime's time-triggered tasks above them: from a configuration and a
  * trace of events to who runs after each event.
  *
- * Six functions: osek_run, osek_verdict for the answers that a unit recorded, osek_salvage for damaged traces, osek_oil for
- * configurations in OIL, osek_draw for drawn traces, and osek_wait, which says how long a body waits to begin. They allocate
- * nothing, keep nothing between calls and never fail in another way than by the refusals below: any bytes may be handed
- * to them. They may be called from several threads at once, each with outputs of its own; they may share their inputs.
+ * Seven functions: osek_run, osek_verdict for the answers that a unit recorded, osek_salvage for damaged traces, osek_oil for
+ * configurations in OIL, osek_draw for drawn traces, osek_wait, which says how long a body waits to begin, and osek_misses,
+ * which lists missed deadlines. They allocate nothing, keep nothing between calls and never fail in another way than by the
+ * refusals below: any bytes may be handed to them. They may be called from several threads at once, each with outputs of its
+ * own; they may share their inputs.
  *
  *     static uint8_t out[OSEK_OUTPUT_MAX];
  *     uint64_t result = osek_run(config, config_len, trace, trace_len, out, sizeof out);
@@ -29,10 +30,11 @@
  * 7F, 128 is 80 01.
  *
  * CONFIGURATION, in this order:
- *     version            1, or 2, which also counts lost lines
+ *     version            1; 2, which also counts lost lines; or 3, which counts them too and has deadlines
  *     body count         1 to 32
  *     per body           kind (0 task, 1 ISR, 2 extended task, 3 time-triggered task), priority (1 to 200, each used
- *                        once; of kind 3 it has no other use), autostart (0 or 1; kinds 1 and 3: 0)
+ *                        once; of kind 3 it has no other use), autostart (0 or 1; kinds 1 and 3: 0), and in version 3
+ *                        deadline (1 to 65,535 ticks, 0 for none; kind 1: 0), which osek_misses alone looks at
  *     resource count     0 to 16
  *     per resource       its users, bit b for body b; not 0, none of kind 3. The ceiling is their greatest priority.
  *     table count        0 to 8
@@ -91,7 +93,7 @@ extern "C" {
  *     byte 4 i + 3    1 if the event made a body begin from its start, otherwise 0 (a resumed body: 0)
  *     byte 4 e + 2 j, 4 e + 2 j + 1
  *                     low and high byte of the losses of body j: how often an entry was due while its task was not
- *                     suspended; in version 2 also how often a Line got OSEK_E_OS_LIMIT; stays at 65,535 once there
+ *                     suspended; from version 2 on also how often a Line got OSEK_E_OS_LIMIT; stays at 65,535 once there
  */
 #define OSEK_ANSWER_SIZE 4
 #define OSEK_LOSS_SIZE 2
@@ -114,7 +116,7 @@ enum {
 };
 
 /* Statuses, with OSEK's names and numbers; the last one's are ours. An event with a status other than 0 changes nothing,
- * but that in version 2 a Line with OSEK_E_OS_LIMIT adds 1 to the losses of its ISR. */
+ * but that from version 2 on a Line with OSEK_E_OS_LIMIT adds 1 to the losses of its ISR. */
 enum {
     OSEK_E_OK = 0,          /* done */
     OSEK_E_OS_ACCESS = 1,   /* Get: the resource is held: by the running body itself, since 33 comes first;
@@ -140,7 +142,7 @@ enum {
                                       end, config_len */
     OSEK_CONFIG_NUMBER = 2,        /* a number above 4,294,967,295, place: its fifth byte; or not in its shortest form,
                                       place: its last byte, the superfluous 00 */
-    OSEK_CONFIG_VERSION = 3,       /* the version is neither 1 nor 2 */
+    OSEK_CONFIG_VERSION = 3,       /* the version is not 1, 2 or 3 */
     OSEK_CONFIG_COUNT = 4,         /* a count of bodies, resources, tables or entries outside its range */
     OSEK_CONFIG_FIELD = 5,         /* another field outside its range; an entry's task that is no task; a mask with a
                                       bit for a body of kind 3 */
@@ -226,6 +228,35 @@ enum {
 uint64_t osek_wait(const uint8_t *config, size_t config_len,
                    const uint8_t *trace, size_t trace_len,
                    uint32_t body);
+
+/* How many misses a list has at most, and the bytes of each; OSEK_MISSES_MAX * OSEK_MISS_SIZE bytes suffice for every list.
+ *     byte 3 i, 3 i + 1    low and high byte of the tick of miss i: the number of its Tick in the trace, from 1
+ *     byte 3 i + 2         the task
+ */
+#define OSEK_MISSES_MAX 64
+#define OSEK_MISS_SIZE 3
+
+/*
+ * Lists the deadlines that tasks miss. A task with a deadline that becomes ready after k Ticks of the trace, the present
+ * event included, is due at Tick k + deadline; at the fresh start k is 0. It misses if it has not ended before that Tick: an
+ * accepted Finish or Chain of its own ends it, Waiting does not. A Chain to itself ends it and makes it ready anew. It misses
+ * once for each time that it became ready.
+ *
+ *     config, config_len    as for osek_run; versions 1 and 2 have no deadlines, and no misses
+ *     trace, trace_len
+ *     list, list_len        where the first OSEK_MISSES_MAX misses go, in order of time, then of body. Must not overlap the
+ *                           inputs; may hold anything before the call.
+ *
+ * A pointer whose length is 0 may be null, as above.
+ *
+ * Result: refusal * 2^32 + place, or, with refusal 0, the count of all misses (osek_miss_count), listed or not. The refusals
+ * are those of osek_run; OSEK_OUTPUT_TOO_SHORT is for a list too short for the misses that it gets, with the bytes needed as
+ * place: OSEK_MISS_SIZE times the count, or times OSEK_MISSES_MAX if that is less. A refused call leaves list untouched; an
+ * accepted one leaves the bytes behind what it wrote.
+ */
+uint64_t osek_misses(const uint8_t *config, size_t config_len,
+                     const uint8_t *trace, size_t trace_len,
+                     uint8_t *list, size_t list_len);
 
 /* Refusals of an OIL text, with line and column. Given in reading order; OSEK_OIL_NO_RESOURCE after the whole text; then
  * OSEK_CONFIG_COUNT, OSEK_CONFIG_FIELD and OSEK_CONFIG_PRIORITY_USED in the order of a configuration's numbers, at line 0,
@@ -339,6 +370,12 @@ static inline uint32_t osek_events(uint64_t result) { return (uint32_t)result; }
 
 /* The number of ends that a body waits for. */
 static inline uint32_t osek_ends(uint64_t result) { return (uint32_t)result; }
+
+/* The number of misses, and the number of those that the list has. */
+static inline uint32_t osek_miss_count(uint64_t result) { return (uint32_t)result; }
+static inline uint32_t osek_listed_count(uint64_t result) {
+    return (uint32_t)(result < OSEK_MISSES_MAX ? result : OSEK_MISSES_MAX);
+}
 
 /* The length of an accepted text's configuration. */
 static inline uint32_t osek_config_length(uint64_t result) { return (uint32_t)result; }

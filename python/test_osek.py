@@ -1,7 +1,7 @@
 """The package osek on document 01's listing, on every refusal, and on drawn cases with the answers of the Rust version.
 
 OSEK_CASES names the file of drawn cases that tests/tests/python.rs writes, a line each: configuration, trace, result and
-output, all but the result in hexadecimal, - for nothing.
+output of the run, count and list of the misses, all but the numbers in hexadecimal, - for nothing.
 """
 
 import os
@@ -41,6 +41,10 @@ LISTING = """\
 ROUND = bytes.fromhex("0103 000101 030200 030300 00 01 0502 0001 0102")
 
 
+# CONFIG in version 3: task 0 has the deadline 2, task 1 the deadline 1.
+DEADLINES = bytes.fromhex("0303 00020102 00050001 01090000 01 03 01 0402 0001 0200")
+
+
 def config_with(place, byte, config=CONFIG):
     changed = bytearray(config)
     changed[place] = byte
@@ -53,7 +57,7 @@ MANY = bytes([1, 1, 0, 1, 1, 0, 5]) + 5 * (bytes([16, 16]) + bytes(b for offset 
 REFUSED = [
     (b"", b"", 1, 0),
     (b"\x81\x00", b"", 2, 1),
-    (config_with(0, 3), b"", 3, 0),
+    (config_with(0, 4), b"", 3, 0),
     (config_with(1, 33), b"", 4, 1),
     (config_with(2, 4), b"", 5, 2),
     (config_with(6, 2), b"", 6, 6),
@@ -107,10 +111,10 @@ class OsekTest(unittest.TestCase):
         self.assertEqual(shown, rows)
         self.assertEqual(losses, [1, 0, 0])
 
-    def test_lost_lines_are_counted_in_version_2(self):
+    def test_lost_lines_are_counted_from_version_2_on(self):
         # ISR 2 begins, one request more waits, two are refused.
-        for version, lost in ((1, 0), (2, 2)):
-            answers, losses = osek.run(config_with(0, version), b"\x07\x02\x07\x02\x07\x02\x07\x02")
+        for config, lost in ((CONFIG, 0), (config_with(0, 2), 2), (DEADLINES, 2)):
+            answers, losses = osek.run(config, b"\x07\x02\x07\x02\x07\x02\x07\x02")
             self.assertEqual([answer.status for answer in answers], [0, 0, 4, 4])
             self.assertEqual(losses, [0, 0, lost])
 
@@ -157,6 +161,32 @@ class OsekTest(unittest.TestCase):
         self.assertEqual((raised.exception.code, raised.exception.place), (23, 1))
         for wrong in (-1, 1 << 32):
             self.assertRaises(ValueError, osek.wait, CONFIG, b"", wrong)
+
+    def test_the_first_64_misses_and_the_count_of_all(self):
+        # Task 0 runs and is due at tick 2; an entry makes task 1 ready at tick 1, due at tick 2.
+        self.assertEqual(osek.misses(DEADLINES, bytes.fromhex("080001 06 06")), (2, [(2, 0), (2, 1)]))
+        # Task 1 ends in time.
+        self.assertEqual(osek.misses(DEADLINES, bytes.fromhex("080001 06 02 06 06")), (1, [(2, 0)]))
+        # A task with the deadline 1 misses at every tick, and chains to itself.
+        one = bytes.fromhex("0301 00010101 00 00")
+        for times in (64, 65, 300):
+            expected = [(tick, 0) for tick in range(1, 65)]
+            self.assertEqual(osek.misses(one, times * b"\x06\x03\x00"), (times, expected))
+        # Tick 300 is two bytes.
+        late = bytes.fromhex("0301 000101ac02 00 00")
+        self.assertEqual(osek.misses(late, 300 * b"\x06"), (1, [(300, 0)]))
+        # Versions 1 and 2 have no deadlines.
+        for version in (1, 2):
+            self.assertEqual(osek.misses(config_with(0, version), TRACE), (0, []))
+
+    def test_misses_are_refused_as_the_run_is_then_with_the_bytes_needed(self):
+        for config, trace, code, place in REFUSED:
+            with self.subTest(code=code), self.assertRaises(osek.Refused) as raised:
+                osek.misses(config, trace)
+            self.assertEqual((raised.exception.code, raised.exception.place), (code, place))
+        first = bytearray(b"\x4d" * 5)
+        self.assertEqual(osek.osek_misses(DEADLINES, bytes.fromhex("080001 06 06"), first), 30 << 32 | 6)
+        self.assertEqual(first, b"\x4d" * 5)
 
     def test_an_oil_text_is_read_or_refused_at_its_place(self):
         text = b"ISR wake { PRIORITY = 9; }; // first\nTASK log { AUTOSTART = TRUE; PRIORITY = 2; RESOURCE = r; }; RESOURCE r { };"
@@ -211,6 +241,7 @@ class OsekTest(unittest.TestCase):
             self.assertRaises(TypeError, osek.salvage, wrong)
             self.assertRaises(TypeError, osek.oil, wrong)
             self.assertRaises(TypeError, osek.wait, CONFIG, wrong, 0)
+            self.assertRaises(TypeError, osek.misses, CONFIG, wrong)
             self.assertRaises(TypeError, osek.verdict, CONFIG, TRACE, wrong)
         self.assertEqual(osek.run(bytearray(CONFIG), memoryview(TRACE)), osek.run(CONFIG, TRACE))
 
@@ -219,7 +250,7 @@ class OsekTest(unittest.TestCase):
         with open(os.environ["OSEK_CASES"], encoding="ascii") as lines:
             cases = [line.split() for line in lines]
         self.assertGreaterEqual(len(cases), 1000)
-        for config, trace, result, expected in cases:
+        for config, trace, result, expected, *_ in cases:
             config, trace, expected = ["" if word == "-" else word for word in (config, trace, expected)]
             code, low = divmod(int(result), 1 << 32)
             try:
@@ -231,6 +262,24 @@ class OsekTest(unittest.TestCase):
             shown = bytes(b for a in run.answers for b in (a.status, 255 if a.runner is None else a.runner, a.level, a.begun))
             shown += b"".join(loss.to_bytes(2, "little") for loss in run.losses)
             self.assertEqual(shown.hex(), expected)
+
+
+    @unittest.skipUnless("OSEK_CASES" in os.environ, "OSEK_CASES names no file")
+    def test_drawn_cases_give_the_misses_of_the_rust_version(self):
+        missed = 0
+        for line in open(os.environ["OSEK_CASES"], encoding="ascii"):
+            config, trace, count, expected = ["" if word == "-" else word for word in (*line.split()[:2], *line.split()[4:])]
+            code, low = divmod(int(count), 1 << 32)
+            try:
+                misses = osek.misses(bytes.fromhex(config), bytes.fromhex(trace))
+            except osek.Refused as refused:
+                self.assertEqual((refused.code, refused.place), (code, low))
+                continue
+            self.assertEqual((0, misses.count), (code, low))
+            shown = b"".join(miss.tick.to_bytes(2, "little") + bytes([miss.task]) for miss in misses.first)
+            self.assertEqual(shown.hex(), expected)
+            missed += bool(misses.count)
+        self.assertGreater(missed, 20)
 
 
 HEADER = Path(__file__).resolve().parent.parent / "include" / "osek.h"
@@ -285,6 +334,15 @@ class Values(unittest.TestCase):
         self.assertEqual(str(events[0]), "Start 0 1")
         self.assertEqual(osek.Configuration.decode(CONFIG).tables[0].entries, ((0, 1), (2, 0)))
         self.assertEqual(osek.run(CONFIG, TRACE).answers[4].status, osek.Status.E_OS_CALLEVEL)
+
+    def test_deadlines_as_values(self):
+        bodies = [osek.Body(osek.Kind.TASK, 2, 1, 2), osek.Body(osek.Kind.TASK, 5, deadline=1), osek.Body(osek.Kind.ISR, 9)]
+        tables = [osek.Table(4, [osek.Entry(0, 1), osek.Entry(2, 0)])]
+        self.assertEqual(osek.Configuration(bodies, [{0, 1}], tables, version=3).encode(), DEADLINES)
+        self.assertEqual([body.deadline for body in osek.Configuration.decode(DEADLINES).bodies], [2, 1, 0])
+        self.assertEqual([body.deadline for body in osek.Configuration.decode(CONFIG).bodies], [0, 0, 0])
+        for version in (1, 2):
+            self.assertRaises(ValueError, osek.Configuration(bodies, version=version).encode)
 
     def test_numbers_have_their_shortest_form(self):
         for value, data in ((0, "00"), (127, "7f"), (128, "8001"), (4_294_967_295, "ffffffff0f")):

@@ -4,10 +4,11 @@
     salvage(trace)         the readable events of a damaged trace, and where something was dropped
     oil(text)              the configuration that an OIL text describes, or the exception RefusedText
     wait(config, trace, body)   how many bodies end before this one begins, or the exception Refused
+    misses(config, trace)  how many deadlines are missed, and the first of them, or the exception Refused
     draw(start, ..)        a drawn trace
     verdict(config, trace, recorded)   None for a unit that passes, or the first event whose answer differs or is missing
     osek_run(..)           the C calls themselves, for buffers of one's own
-    osek_salvage(..), osek_oil(..), osek_draw(..), osek_wait(..), osek_verdict(..)
+    osek_salvage(..), osek_oil(..), osek_draw(..), osek_wait(..), osek_misses(..), osek_verdict(..)
     Configuration, Event   configurations and events as values: to bytes and back (values.py)
     EventCode, Status, Refusal, Kind
                            the numbers with their names (codes.py)
@@ -33,15 +34,17 @@ OUTPUT_MAX = 32832  # suffices for every run
 CONFIG_MAX = 4096  # suffices for every configuration
 TRACE_MAX = 8192  # suffices for what is kept of every trace
 STRETCHES_MAX = 12224  # suffices for every list of dropped stretches
+MISSES_MAX = 64  # how many misses are listed
 ANSWER_SIZE = 4
 LOSS_SIZE = 2
+MISS_SIZE = 3
 IDLE = 255
 PASS = 2**64 - 1  # the verdict on a unit that passes
 
 REFUSALS = {
     1: "the configuration ends inside a number, or where one is missing",
     2: "a number of the configuration is too large or not in its shortest form",
-    3: "the version is not 1 or 2",
+    3: "the version is not 1, 2 or 3",
     4: "a count is outside its range",
     5: "a field is outside its range, an entry's task is an ISR, or a resource's user is time-triggered",
     6: "a priority is used already",
@@ -84,7 +87,21 @@ class Run(NamedTuple):
     """An accepted run."""
 
     answers: List[Answer]  # one for each event
-    losses: List[int]  # one for each body: its lost activations; in version 2 an ISR's lost lines, too
+    losses: List[int]  # one for each body: its lost activations; from version 2 on an ISR's lost lines, too
+
+
+class Miss(NamedTuple):
+    """A deadline that was missed."""
+
+    tick: int  # the number of its Tick in the trace, from 1
+    task: int
+
+
+class Misses(NamedTuple):
+    """The deadlines that a trace misses."""
+
+    count: int  # of all
+    first: List[Miss]  # the first 64, in order of time, then of body
 
 
 class Salvaged(NamedTuple):
@@ -122,7 +139,7 @@ def _library() -> ctypes.CDLL:
             f"the library {named} can't be loaded ({error}): run `make lib` in the clone, or name it in OSEK_LIBRARY"
         ) from error
     # Without these a result would be cut to 32 bits, and every refusal lost.
-    for function in (library.osek_run, library.osek_salvage, library.osek_verdict):
+    for function in (library.osek_run, library.osek_salvage, library.osek_verdict, library.osek_misses):
         function.restype = ctypes.c_uint64
         function.argtypes = 3 * [ctypes.c_void_p, ctypes.c_size_t]
     library.osek_oil.restype = ctypes.c_uint64
@@ -157,6 +174,11 @@ def osek_oil(text: Data, config: bytearray, place: "ctypes.Array[ctypes.c_uint64
 def osek_wait(config: Data, trace: Data, body: int) -> int:
     """The C call: refusal * 2**32 + place, or the number of Finish events until the body begins."""
     return int(_LIBRARY.osek_wait(*_lent(config), *_lent(trace), body))
+
+
+def osek_misses(config: Data, trace: Data, first: bytearray) -> int:
+    """The C call: writes the first misses into the writable buffer; refusal * 2**32 + place, or the count of all."""
+    return int(_LIBRARY.osek_misses(*_lent(config), *_lent(trace), *_taken(first)))
 
 
 def osek_draw(start: int, weights: Sequence[int], limits: Sequence[int], count: int, out: bytearray) -> int:
@@ -202,6 +224,14 @@ def wait(config: Data, trace: Data, body: int) -> int:
     if not 0 <= body < 1 << 32:
         raise ValueError("a body's number is 0 to 4,294,967,295")
     return _accepted(osek_wait(config, trace, body))
+
+
+def misses(config: Data, trace: Data) -> Misses:
+    """The deadlines that tasks miss, from the configuration's fresh start on."""
+    out = bytearray(MISSES_MAX * MISS_SIZE)
+    count = _accepted(osek_misses(config, trace, out))
+    places = range(0, MISS_SIZE * min(count, MISSES_MAX), MISS_SIZE)
+    return Misses(count, [Miss(int.from_bytes(out[at : at + 2], "little"), out[at + 2]) for at in places])
 
 
 def draw(start: int, weights: Iterable[int], limits: Iterable[int], count: int) -> bytes:

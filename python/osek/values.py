@@ -10,6 +10,7 @@ from typing import Iterable, Iterator, List, NamedTuple, Sequence, Tuple
 from .codes import ARGUMENTS, EventCode, Kind
 
 NUMBER_MAX = 4_294_967_295
+DEADLINES_VERSION = 3  # whose bodies have deadlines
 
 
 class Event(NamedTuple):
@@ -29,6 +30,7 @@ class Body:
     kind: int  # a Kind
     priority: int
     autostart: int = 0
+    deadline: int = 0  # in ticks, of a task; 0 for none
 
 
 class Entry(NamedTuple):
@@ -56,10 +58,14 @@ class Configuration:
     version: int = 1
 
     def encode(self) -> bytes:
-        """The configuration's bytes, accepted or not."""
+        """The configuration's bytes, accepted or not; a deadline is for version 3."""
+        has_deadlines = self.version == DEADLINES_VERSION
+        if not has_deadlines and any(body.deadline for body in self.bodies):
+            raise ValueError(f"version {self.version} has no deadlines")
         numbers = [self.version, len(self.bodies)]
         for body in self.bodies:
             numbers += [body.kind, body.priority, int(body.autostart)]
+            numbers += [body.deadline] if has_deadlines else []
         numbers.append(len(self.resources))
         numbers += [sum(1 << user for user in set(users)) for users in self.resources]
         numbers.append(len(self.tables))
@@ -77,7 +83,9 @@ class Configuration:
         run(data, b"")
         numbers = decode_numbers(data)
         version = next(numbers)
-        bodies = [Body(Kind(next(numbers)), next(numbers), next(numbers)) for _ in range(next(numbers))]
+        fields = 4 if version == DEADLINES_VERSION else 3
+        rows = [[next(numbers) for _ in range(fields)] for _ in range(next(numbers))]
+        bodies = [Body(Kind(kind), *others) for kind, *others in rows]
         masks = [next(numbers) for _ in range(next(numbers))]
         resources = [frozenset(bit for bit in range(32) if mask >> bit & 1) for mask in masks]
         tables = []

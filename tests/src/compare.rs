@@ -43,11 +43,15 @@ pub fn others() -> Vec<Implementation> {
 pub const FAST_MISSES: Implementation =
     Implementation { name: "misses of fast", run: fast::misses::<NextDue>, guarded: false };
 
+#[cfg(feature = "linked")]
+pub const SUBJECT_MISSES: Implementation =
+    Implementation { name: "osek_misses", run: crate::subject::misses, guarded: true };
+
 /// The misses of every other implementation.
 pub fn other_misses() -> Vec<Implementation> {
     vec![
         #[cfg(feature = "linked")]
-        Implementation { name: "osek_misses", run: crate::subject::misses, guarded: true },
+        SUBJECT_MISSES,
         Implementation { name: "misses of fast with cells", run: fast::misses::<Cells>, guarded: false },
         Implementation { name: "misses of the plain scheduler", run: plain::misses, guarded: false },
     ]

@@ -7,10 +7,11 @@ use std::process::Command;
 use std::ptr::{null, null_mut};
 use std::sync::Barrier;
 
+use osek_tests::by_hand::with_deadlines;
 use osek_tests::cases;
-use osek_tests::compare::{outcome, FAST, SUBJECT};
+use osek_tests::compare::{outcome, FAST, FAST_MISSES, SUBJECT, SUBJECT_MISSES};
 use osek_tests::listing::{DOCUMENT_CONFIG, DOCUMENT_TRACE};
-use osek_tests::subject::{osek_draw, osek_oil, osek_run, osek_salvage, osek_verdict, osek_wait};
+use osek_tests::subject::{osek_draw, osek_misses, osek_oil, osek_run, osek_salvage, osek_verdict, osek_wait};
 
 /// The functions that a library defines for others.
 fn exported(library: &str, option: &str) -> Vec<String> {
@@ -112,20 +113,42 @@ fn a_pointer_of_length_0_may_be_null_in_a_wait() {
 }
 
 #[test]
+fn a_pointer_of_length_0_may_be_null_in_a_list_of_misses() {
+    // Body 0 has begun at the fresh start; with the deadline 1 it misses at the first Tick.
+    let config = with_deadlines(&DOCUMENT_CONFIG, &[1, 0, 0]);
+    let (config, trace) = (&config, &DOCUMENT_TRACE);
+    let mut list = [77; 6];
+    unsafe {
+        // No configuration: 1 at place 0. No trace: no misses, whatever the list.
+        assert_eq!(osek_misses(null(), 0, null(), 0, null_mut(), 0), 1 << 32);
+        assert_eq!(osek_misses(null(), 0, trace.as_ptr(), trace.len(), list.as_mut_ptr(), list.len()), 1 << 32);
+        assert_eq!(osek_misses(config.as_ptr(), config.len(), null(), 0, null_mut(), 0), 0);
+        assert_eq!(osek_misses(config.as_ptr(), config.len(), null(), 0, list.as_mut_ptr(), list.len()), 0);
+        // No list: three bytes are needed.
+        let result = osek_misses(config.as_ptr(), config.len(), trace.as_ptr(), trace.len(), null_mut(), 0);
+        assert_eq!(result, 30 << 32 | 3);
+        assert_eq!(list, [77; 6]);
+        let result = osek_misses(config.as_ptr(), config.len(), trace.as_ptr(), trace.len(), list.as_mut_ptr(), 6);
+        assert_eq!((result, list), (1, [1, 0, 0, 77, 77, 77]));
+    }
+}
+
+#[test]
 fn several_threads_may_run_at_once() {
     const THREADS: usize = 8;
     let cases: Vec<_> = (0..500).map(|number| cases::case(11, number)).collect();
-    let expected: Vec<_> = cases.iter().map(|case| outcome(FAST, case)).collect();
+    let both = |run, misses, case| (outcome(run, case), outcome(misses, case));
+    let expected: Vec<_> = cases.iter().map(|case| both(FAST, FAST_MISSES, case)).collect();
     let barrier = Barrier::new(THREADS);
     std::thread::scope(|scope| {
         for thread in 0..THREADS {
-            let (cases, expected, barrier) = (&cases, &expected, &barrier);
+            let (cases, expected, barrier, both) = (&cases, &expected, &barrier, &both);
             scope.spawn(move || {
                 barrier.wait();
                 // Half of the threads share their inputs, the others are elsewhere in the row.
                 let from = if thread % 2 == 0 { 0 } else { thread * 50 };
                 for (case, expected) in cases.iter().zip(expected).cycle().skip(from).take(cases.len()) {
-                    assert_eq!(outcome(SUBJECT, case), *expected);
+                    assert_eq!(both(SUBJECT, SUBJECT_MISSES, case), *expected);
                 }
             });
         }

@@ -6,7 +6,7 @@ use std::path::{Path, PathBuf};
 use std::process::Command;
 
 use osek_tests::coverage::REFUSALS;
-use osek_tests::fast::{CONFIG_MAX, IDLE, OUTPUT_MAX, TRACE_MAX};
+use osek_tests::fast::{CONFIG_MAX, IDLE, MISSES_MAX, MISS_SIZE, OUTPUT_MAX, TRACE_MAX};
 use osek_tests::salvage::STRETCHES_MAX;
 
 fn header() -> PathBuf {
@@ -42,6 +42,8 @@ fn constants_are_those_of_the_documents() {
     assert_eq!(value("OSEK_OUTPUT_MAX"), OUTPUT_MAX as u64);
     assert_eq!((CONFIG_MAX, TRACE_MAX, OUTPUT_MAX), (4_096, 8_192, 32_832));
     assert_eq!(value("OSEK_STRETCHES_MAX"), STRETCHES_MAX as u64);
+    assert_eq!((value("OSEK_MISSES_MAX"), value("OSEK_MISS_SIZE")), (MISSES_MAX as u64, MISS_SIZE as u64));
+    assert_eq!((MISSES_MAX, MISS_SIZE), (64, 3));
     assert_eq!(value("OSEK_IDLE"), u64::from(IDLE));
     let group = |prefixes: &[&str], without: &str| -> Vec<u64> {
         let has = |name: &str| prefixes.iter().any(|prefix| name.starts_with(prefix)) && !name.ends_with(without);

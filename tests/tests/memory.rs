@@ -1,4 +1,4 @@
-//! The guarded memory is seen to catch what it should, and the run's stack use is measured.
+//! The guarded memory is seen to catch what it should, and the stack use of the run and of the misses is measured.
 
 use std::process::Command;
 
@@ -75,7 +75,7 @@ fn a_write_far_from_the_guarded_side_is_seen() {
 fn empty_slices_are_not_touched() {
     let case = Case { config: vec![], trace: vec![], out_len: 0, fill: 0 };
     let mut memory = GuardedRun::default();
-    for implementation in [&[compare::FAST][..], &compare::others()].concat() {
+    for implementation in [runs(), misses()].concat() {
         for side in [Side::Before, Side::After] {
             assert_eq!(memory.run(implementation.run, &case, side), (1 << 32, vec![]), "{}", implementation.name);
         }
@@ -93,16 +93,23 @@ fn stack_use_is_measured() {
     assert!((10_000..25_000).contains(&used), "measured {used} bytes");
 }
 
+fn runs() -> Vec<Implementation> {
+    [&[compare::FAST][..], &compare::others()].concat()
+}
+
+fn misses() -> Vec<Implementation> {
+    [&[compare::FAST_MISSES][..], &compare::other_misses()].concat()
+}
+
 /// Above what any implementation may use.
 const STACK_LIMIT: usize = 64 * 1024;
 
 #[test]
-fn a_run_needs_little_stack() {
+fn a_run_and_the_misses_need_little_stack() {
     let mut cases: Vec<Case> = (0..2_000).map(|number| cases::case(5, number)).collect();
     let shapes = [Shape::NoTicks, Shape::Mixed, Shape::Ticks, Shape::Waiting, Shape::TimeTriggered];
     cases.extend(shapes.map(|shape| cases::timed(1, shape, 8_192)));
-    let implementations: Vec<Implementation> = [&[compare::FAST][..], &compare::others()].concat();
-    for implementation in implementations {
+    for implementation in [runs(), misses()].concat() {
         let used = stack::used(implementation.run, &cases);
         println!("stack use of {}: {used} bytes", implementation.name);
         assert!(used < STACK_LIMIT, "{} uses {used} bytes of stack", implementation.name);

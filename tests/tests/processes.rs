@@ -7,6 +7,7 @@ use std::path::{Path, PathBuf};
 use std::process::Command;
 use std::sync::atomic::{AtomicUsize, Ordering};
 
+use osek_tests::by_hand::with_deadlines;
 use osek_tests::cases::{self, Case};
 use osek_tests::compare::{outcome, FAST};
 use osek_tests::fast::OUTPUT_MAX;
@@ -121,14 +122,16 @@ fn each_refusal_is_printed_with_its_place() {
         many.extend([16, 16]);
         many.extend((0..16).flat_map(|offset| [offset, 0]));
     }
-    let refused: [(Vec<u8>, &[u8], &str); 18] = [
+    let refused: [(Vec<u8>, &[u8], &str); 19] = [
         (vec![], &[], "refused 1 0\n"),
         (DOCUMENT_CONFIG[..19].to_vec(), &[], "refused 1 19\n"),
         (vec![1, 0x81, 0x80], &[], "refused 1 3\n"),
         (vec![0x81, 0], &[], "refused 2 1\n"),
-        (config(0, 3), &[], "refused 3 0\n"),
+        (config(0, 4), &[], "refused 3 0\n"),
         (config(1, 33), &[], "refused 4 1\n"),
         (config(2, 4), &[], "refused 5 2\n"),
+        // A deadline of the ISR.
+        (with_deadlines(&DOCUMENT_CONFIG, &[1, 0, 1]), &[], "refused 5 13\n"),
         (config(6, 2), &[], "refused 6 6\n"),
         (config(18, 0), &[], "refused 7 19\n"),
         (many, &[], "refused 8 144\n"),

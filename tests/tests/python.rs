@@ -6,8 +6,8 @@ use std::process::{Command, Output};
 use std::{env, fs};
 
 use osek_tests::cases::{self, Case};
-use osek_tests::compare::{outcome, FAST};
-use osek_tests::fast::{self, OUTPUT_MAX};
+use osek_tests::compare::{outcome, FAST, FAST_MISSES};
+use osek_tests::fast::{self, MISSES_MAX, MISS_SIZE, OUTPUT_MAX};
 
 fn root() -> PathBuf {
     Path::new(env!("CARGO_MANIFEST_DIR")).join("..")
@@ -27,7 +27,7 @@ fn hex(bytes: &[u8]) -> String {
     bytes.iter().map(|byte| format!("{byte:02x}")).collect()
 }
 
-/// Configuration, trace, result and output of a drawn case, with room for every output.
+/// Configuration, trace, result and output of a drawn case, count and list of its misses, with room for every output.
 fn line(number: u64) -> String {
     let Case { config, trace, .. } = cases::case(13, number);
     let case = Case { config, trace, out_len: OUTPUT_MAX, fill: 0 };
@@ -36,7 +36,15 @@ fn line(number: u64) -> String {
         Ok(config) if result >> 32 == 0 => 4 * result as usize + 2 * config.bodies(),
         _ => 0,
     };
-    format!("{} {} {result} {}", hex(&case.config), hex(&case.trace), hex(&out[..used]))
+    let (count, list) = outcome(FAST_MISSES, &case);
+    let listed = if count >> 32 == 0 { MISS_SIZE * (count as usize).min(MISSES_MAX) } else { 0 };
+    format!(
+        "{} {} {result} {} {count} {}",
+        hex(&case.config),
+        hex(&case.trace),
+        hex(&out[..used]),
+        hex(&list[..listed])
+    )
 }
 
 #[test]

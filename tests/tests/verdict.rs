@@ -189,7 +189,7 @@ fn drawn_units_are_judged_alike() {
     let mut memory = GuardedVerdict::default();
     let mut seen = Seen::default();
     for seed in [1, 20_261_117] {
-        for number in 0..3_000 {
+        for number in 0..4_000 {
             announce(seed, number);
             let unit = unit(seed, number);
             let result = agreed(&unit, &mut memory, seed, number);
