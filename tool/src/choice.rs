@@ -17,7 +17,7 @@ pub const DETAILS: &str = "\
   --accepted        only cases that the reference accepts
   --class LIST      only cases with the bodies and events of these classes: bcc1 (tasks and ISRs, events 1 to 9), ecc1
                     (extended tasks and events 10 to 12 too), timed (time-triggered tasks too); a comma between them
-  --versions LIST   only cases of these versions of the configuration: 1, 2 or 1,2
+  --versions LIST   only cases of these versions of the configuration: 1, 2 or 3; a comma between them
 ";
 
 pub struct Choice {

@@ -20,6 +20,7 @@ pub fn name(field: Field, objects: &Objects, names: &Names) -> String {
         Field::Kind(at) => format!("the kind of {}", body(at)),
         Field::Priority(at) => format!("the priority of {}", body(at)),
         Field::Autostart(at) => format!("the autostart of {}", body(at)),
+        Field::Deadline(at) => format!("the deadline of {}", body(at)),
         Field::ResourceCount => "the resource count".into(),
         Field::Users(at) => format!("the users of {}", resource(at)),
         Field::TableCount => "the table count".into(),
@@ -76,8 +77,10 @@ pub fn meaning(field: Field, value: u32, names: &Names) -> String {
     match field {
         Field::Version => {
             let counts = words::version(value).is_some_and(|version| version.counts_lines);
-            let said = if counts { format!(", {}", words::LINES_COUNTED) } else { String::new() };
-            format!("version {value}{said}")
+            let lines = if counts { format!(", {}", words::LINES_COUNTED) } else { String::new() };
+            let deadlines =
+                if words::has_deadlines(value) { format!(", {}", words::DEADLINES_READ) } else { String::new() };
+            format!("version {value}{lines}{deadlines}")
         }
         Field::BodyCount => format!("body count {value}"),
         Field::Kind(body) => {
@@ -86,6 +89,8 @@ pub fn meaning(field: Field, value: u32, names: &Names) -> String {
         }
         Field::Priority(_) => format!("priority {value}"),
         Field::Autostart(_) => format!("autostart {value}"),
+        Field::Deadline(_) if value == 0 => "deadline 0, none".into(),
+        Field::Deadline(_) => format!("deadline {value}"),
         Field::ResourceCount => format!("resource count {value}"),
         Field::Users(resource) => format!("resource {resource}: users {value:#b}"),
         Field::TableCount => format!("table count {value}"),
@@ -113,6 +118,10 @@ pub fn allowed(field: Field, objects: &Objects, names: &Names) -> String {
         Field::Autostart(body) => match objects.bodies.get(body).and_then(|body| words::kind(body.kind)) {
             Some(kind) if !kind.autostarts => format!("0, because it is {}", kind.with_article()),
             _ => "0 or 1".into(),
+        },
+        Field::Deadline(body) => match objects.bodies.get(body).and_then(|body| words::kind(body.kind)) {
+            Some(kind) if !kind.has_deadline => format!("0, because it is {}", kind.with_article()),
+            _ => format!("0 (none) to {}", grouped(TICKS_MAX.into())),
         },
         Field::ResourceCount => format!("0 to {RESOURCES_MAX}"),
         Field::Users(_) => {

@@ -1,16 +1,16 @@
-//! Who is in which state when, from the fresh start on, who holds what, and which tables run.
+//! Who is in which state when, from the fresh start on, who holds what, which tables run, and who misses a deadline.
 //!
 //! The library's answers say who runs, not who waits. The states in between come from the Rust version that the tests
-//! keep; every answer of it, and its losses, are compared with the library's before anything is said. Held resources
-//! and tables follow from the events and their statuses.
+//! keep; every answer of it, its losses and its misses are compared with the library's before anything is said. Held
+//! resources and tables follow from the events and their statuses.
 
-use osek_tests::fast::{self, Kernel, NextDue, EXECUTION_LEVEL};
+use osek_tests::fast::{self, Deadlines, Kernel, NextDue, EXECUTION_LEVEL};
 
 use crate::failure::Failure;
 use crate::input::Pair;
 use crate::layout::{self, Body, Event, Objects};
 use crate::names::Names;
-use crate::reference::{self, Answer, Run};
+use crate::reference::{self, Answer, Miss, Misses, Run};
 use crate::text::line::Position;
 use crate::words;
 
@@ -73,6 +73,8 @@ pub struct Step {
     pub after: Moment,
     /// Ticks so far, this event included.
     pub tick: u32,
+    /// The bodies that miss a deadline at this event, by number.
+    pub missed: Vec<usize>,
     /// Where the text says it, if there is one.
     pub position: Option<Position>,
 }
@@ -104,6 +106,7 @@ impl History {
         let fresh_answer = reference::fresh_start(config);
         let read = fast::read_config(config).map_err(|_| disagreement("reading the configuration"))?;
         let mut kernel = Kernel::<NextDue>::fresh(&read);
+        let mut deadlines = Deadlines::fresh(&kernel);
         let fresh = moment(&kernel, None, &objects);
         if fresh_answer.map(|answer| (answer.runner, answer.level)) != Some((fresh.runner, fresh.level)) {
             return Err(disagreement("the fresh start"));
@@ -114,7 +117,7 @@ impl History {
         for (index, event) in layout::trace(trace).events.into_iter().enumerate() {
             let place = format!("event {index}");
             let (call, _) = fast::read_event(trace, event.offset).map_err(|_| disagreement(&place))?;
-            let given = kernel.step(call);
+            let (given, missed) = deadlines.step(&mut kernel, call);
             let answer = *run.answers.get(index).ok_or_else(|| disagreement(&place))?;
             let before = history.before(index);
             let mut after = moment(&kernel, Some(before), &history.objects);
@@ -126,12 +129,27 @@ impl History {
                 return Err(disagreement(&place));
             }
             tick += u32::from(event.word.is_tick());
-            history.steps.push(Step { event, answer, after, tick, position: None });
+            let missed = (0..kernel.losses().len()).filter(|body| missed >> body & 1 == 1).collect();
+            history.steps.push(Step { event, answer, after, tick, missed, position: None });
         }
         if kernel.losses() != run.losses {
             return Err(disagreement("the losses"));
         }
+        if reference::misses(config, trace) != Ok(Misses::of(history.misses())) {
+            return Err(disagreement("the misses"));
+        }
         Ok(history)
+    }
+
+    /// The missed deadlines, in order of time, then of body.
+    fn misses(&self) -> impl Iterator<Item = Miss> + '_ {
+        self.steps.iter().flat_map(|step| step.missed.iter().map(|task| Miss { tick: step.tick, task: *task as u32 }))
+    }
+
+    /// Whether this step is a tick at which nothing changes but the ticks of tables, and nobody misses a deadline.
+    pub fn is_quiet(&self, step: usize) -> bool {
+        let Step { event, after, missed, .. } = &self.steps[step];
+        event.word.is_tick() && after.looks_like(self.before(step)) && missed.is_empty()
     }
 
     /// The moments, the fresh start first.
@@ -161,6 +179,10 @@ impl History {
         words::kind(self.objects.bodies[body].kind).is_some_and(|kind| kind.has_bits)
     }
 
+    pub fn has_deadline(&self, body: usize) -> bool {
+        self.objects.bodies[body].deadline > 0
+    }
+
     /// At which priority a body runs that holds no resource: its own, or the level of time-triggered ones.
     pub fn priority(&self, body: usize) -> u32 {
         if self.is_time_triggered(body) {
@@ -186,7 +208,7 @@ impl History {
 
 impl Moment {
     /// Whether nothing but the ticks of its tables is different.
-    pub fn looks_like(&self, other: &Moment) -> bool {
+    fn looks_like(&self, other: &Moment) -> bool {
         let on = |moment: &Moment| moment.tables.iter().map(Option::is_some).collect::<Vec<_>>();
         *self == Moment { tables: self.tables.clone(), ..other.clone() } && on(self) == on(other)
     }
@@ -253,11 +275,12 @@ mod tests {
     use osek_tests::cases;
     use std::collections::{BTreeMap, BTreeSet};
 
-    /// Whether a request of the body waits, by what the library answers if the body is asked for after the trace and the ends of
-    /// `timed` time-triggered bodies, which could not ask.
+    /// Whether a request of the body waits, by what the library answers if the body is asked for after the trace. A task is asked
+    /// for after the ends of `timed` time-triggered bodies, which could not ask; an ISR at once.
     fn refused_at_its_limit(config: &[u8], trace: &[u8], timed: usize, body: usize, kind: u32) -> bool {
         const LIMIT: u8 = 4;
-        let word = if words::kind(kind).is_some_and(|kind| kind.in_tables) { "activate" } else { "line" };
+        let is_task = words::kind(kind).is_some_and(|kind| kind.in_tables);
+        let (word, timed) = if is_task { ("activate", timed) } else { ("line", 0) };
         let code = words::event_named(word).expect("it is an event").code;
         let finish = words::event_named("finish").expect("it is an event").code;
         let asked = [trace, &vec![finish as u8; timed], &[code as u8, body as u8]].concat();
@@ -290,6 +313,18 @@ mod tests {
         if let (1, Some(runner)) = (step.answer.begun, step.answer.runner) {
             started.insert(runner.into());
         }
+    }
+
+    #[test]
+    fn quiet_ticks_have_no_miss() {
+        // One autostart task with the deadline 2, and four Ticks.
+        let (config, trace) = ([3, 1, 0, 1, 1, 2, 0, 0], [6; 4]);
+        let run = reference::run(&config, &trace).expect("the run is accepted");
+        let names = Names::of(&layout::config(&config).objects);
+        let history = History::of_bytes(&config, &trace, &names, &run).expect("the versions agree");
+        let missed: Vec<&[usize]> = history.steps.iter().map(|step| &step.missed[..]).collect();
+        assert_eq!(missed, [&[][..], &[0], &[], &[]]);
+        assert_eq!([0, 1, 2, 3].map(|step| history.is_quiet(step)), [true, false, true, true]);
     }
 
     #[test]

@@ -112,14 +112,20 @@ const BYTE_ORDER_MARK: &str = "\u{feff}";
 
 /// A text begins with a sign that is not a control character, and has none but tabs and line ends. No accepted
 /// configuration or trace begins so: versions and event codes are below 32.
+fn reads_as_text(text: &str) -> bool {
+    let text = plain(text);
+    text.starts_with(|first: char| !first.is_control())
+        && text.chars().all(|sign| !sign.is_control() || matches!(sign, '\t' | '\n' | '\r'))
+}
+
+/// Whether a file of these bytes is taken for a text.
+pub fn is_text(bytes: &[u8]) -> bool {
+    std::str::from_utf8(bytes).is_ok_and(reads_as_text)
+}
+
 fn content(bytes: Vec<u8>) -> Content {
-    let is_text = |text: &str| {
-        let text = text.strip_prefix(BYTE_ORDER_MARK).unwrap_or(text);
-        text.starts_with(|first: char| !first.is_control())
-            && text.chars().all(|sign| !sign.is_control() || matches!(sign, '\t' | '\n' | '\r'))
-    };
     match String::from_utf8(bytes) {
-        Ok(text) if is_text(&text) => Content::Text(text),
+        Ok(text) if reads_as_text(&text) => Content::Text(text),
         Ok(text) => Content::Bytes(text.into_bytes()),
         Err(not_utf8) => Content::Bytes(not_utf8.into_bytes()),
     }
@@ -326,10 +332,6 @@ fn both_of(file: &str, content: Content) -> Result<Pair, InputFault> {
 #[cfg(test)]
 mod tests {
     use super::*;
-
-    fn is_text(bytes: &[u8]) -> bool {
-        matches!(content(bytes.to_vec()), Content::Text(_))
-    }
 
     #[test]
     fn no_accepted_file_is_taken_for_a_text() {

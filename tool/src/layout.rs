@@ -13,6 +13,7 @@ pub enum Field {
     Kind(usize),
     Priority(usize),
     Autostart(usize),
+    Deadline(usize),
     ResourceCount,
     Users(usize),
     TableCount,
@@ -76,6 +77,8 @@ pub struct Body {
     pub kind: u32,
     pub priority: u32,
     pub autostart: u32,
+    /// 0 for none; always 0 in a version that has no deadlines.
+    pub deadline: u32,
 }
 
 /// An entry of a table, document 01's word for an expiry point.
@@ -105,7 +108,10 @@ impl Objects {
     /// The numbers of the configuration, in order.
     pub fn numbers(&self) -> Vec<u32> {
         let mut numbers = vec![self.version, self.bodies.len() as u32];
-        numbers.extend(self.bodies.iter().flat_map(|body| [body.kind, body.priority, body.autostart]));
+        for Body { kind, priority, autostart, deadline } in &self.bodies {
+            numbers.extend([kind, priority, autostart]);
+            numbers.extend(words::has_deadlines(self.version).then_some(deadline));
+        }
         numbers.push(self.resources.len() as u32);
         numbers.extend(&self.resources);
         numbers.push(self.tables.len() as u32);
@@ -153,7 +159,9 @@ impl Reader<'_> {
             let kind = self.next(Field::Kind(body))?;
             let priority = self.next(Field::Priority(body))?;
             let autostart = self.next(Field::Autostart(body))?;
-            self.config.objects.bodies.push(Body { kind, priority, autostart });
+            let has_deadline = words::has_deadlines(self.config.objects.version);
+            let deadline = if has_deadline { self.next(Field::Deadline(body))? } else { 0 };
+            self.config.objects.bodies.push(Body { kind, priority, autostart, deadline });
         }
         for resource in 0..self.next(Field::ResourceCount)? as usize {
             let users = self.next(Field::Users(resource))?;

@@ -1,11 +1,11 @@
 //! The proved functions: what the run says of a configuration and a trace, the verdict on recorded answers, what is salvaged
-//! of a damaged trace, drawn traces, and how long a body waits to begin.
+//! of a damaged trace, drawn traces, how long a body waits to begin, and which deadlines are missed.
 
-use osek_tests::fast::{IDLE, OUTPUT_MAX, TRACE_MAX};
+use osek_tests::fast::{IDLE, MISSES_MAX, MISS_SIZE, OUTPUT_MAX, TRACE_MAX};
 use osek_tests::salvage::STRETCHES_MAX;
 use osek_tests::{listing, subject, verdict};
 
-use crate::layout;
+use crate::{json, layout, words};
 
 /// The library's version, which its header has.
 pub fn version() -> &'static str {
@@ -68,6 +68,14 @@ impl Refused {
     /// `refused CODE PLACE`, as the bench program prints it.
     pub fn line(self) -> String {
         format!("refused {} {}\n", self.code, self.place)
+    }
+
+    /// One object, with the refusal in words.
+    pub fn json(self) -> String {
+        let Refused { code, place } = self;
+        let meaning = words::refusal(code).map_or("", |word| word.meaning);
+        let members = [("code", code.to_string()), ("place", place.to_string()), ("meaning", json::string(meaning))];
+        format!("{{\"refused\": {}}}\n", json::object(&members))
     }
 
     pub fn result(self) -> u64 {
@@ -174,6 +182,41 @@ pub fn ends(config: &[u8], trace: &[u8], count: usize) -> Option<Vec<u32>> {
         _ => answers[finish - 1].runner,
     };
     (before..answers.len()).map(|finish| runner(finish).map(u32::from)).collect()
+}
+
+/// A missed deadline: the number of its Tick, from 1, and the task.
+#[derive(Clone, Copy, PartialEq, Eq, Debug)]
+pub struct Miss {
+    pub tick: u32,
+    pub task: u32,
+}
+
+/// How many deadlines are missed, and the first of them.
+#[derive(Clone, PartialEq, Eq, Debug)]
+pub struct Misses {
+    pub count: usize,
+    pub first: Vec<Miss>,
+}
+
+impl Misses {
+    /// Of these misses all are counted, and the first are listed.
+    pub fn of(misses: impl Iterator<Item = Miss>) -> Misses {
+        let mut first: Vec<Miss> = misses.collect();
+        let count = first.len();
+        first.truncate(MISSES_MAX);
+        Misses { count, first }
+    }
+}
+
+pub fn misses(config: &[u8], trace: &[u8]) -> Result<Misses, Refused> {
+    let mut list = [0; MISSES_MAX * MISS_SIZE];
+    let result = subject::misses(config, trace, &mut list);
+    if let Some(refused) = Refused::of(result) {
+        return Err(refused);
+    }
+    let miss = |bytes: &[u8]| Miss { tick: u16::from_le_bytes([bytes[0], bytes[1]]).into(), task: bytes[2].into() };
+    let count = result as usize;
+    Ok(Misses { count, first: list.chunks_exact(MISS_SIZE).take(count).map(miss).collect() })
 }
 
 /// A drawn trace.

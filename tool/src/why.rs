@@ -79,6 +79,12 @@ pub fn losses(history: &History, step: usize) -> Vec<(usize, String)> {
     activations.chain(line).collect()
 }
 
+/// Who misses a deadline at this event, a sentence each.
+pub fn misses(history: &History, step: usize) -> Vec<String> {
+    let scene = Scene::of(history, step);
+    scene.step.missed.iter().map(|body| scene.miss(*body)).collect()
+}
+
 /// Where a body loses what it loses, a line each; the first few if there are many.
 pub fn lost_by(history: &History, body: usize) -> String {
     let mut text = String::new();
@@ -318,13 +324,20 @@ impl<'h> Scene<'h> {
         format!("its current priority {way}")
     }
 
+    /// Who misses a deadline, then which entries are due.
     fn ticked(&self) -> Vec<String> {
-        let due: Vec<String> = self.due().iter().map(|due| self.due_words(due)).collect();
-        if !due.is_empty() {
-            return due;
+        let misses = self.step.missed.iter().map(|body| self.miss(*body));
+        let told: Vec<String> = misses.chain(self.due().iter().map(|due| self.due_words(due))).collect();
+        if !told.is_empty() {
+            return told;
         }
         let runs = self.before.tables.iter().any(Option::is_some);
         vec![if runs { "no entry is due".into() } else { "no table runs".into() }]
+    }
+
+    fn miss(&self, body: usize) -> String {
+        let deadline = self.history.objects.bodies[body].deadline;
+        format!("{} {}", self.body(body), words::missed(self.step.tick, deadline))
     }
 
     fn started(&self) -> String {

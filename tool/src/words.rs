@@ -108,18 +108,44 @@ pub struct VersionWord {
     pub number: u32,
     /// Whether a lost line adds to its ISR's losses.
     pub counts_lines: bool,
+    /// Whether each body has a number for its deadline.
+    pub has_deadlines: bool,
 }
 
-pub const VERSIONS: [VersionWord; 2] =
-    [VersionWord { number: 1, counts_lines: false }, VersionWord { number: 2, counts_lines: true }];
+pub const VERSIONS: [VersionWord; 3] = [
+    VersionWord { number: 1, counts_lines: false, has_deadlines: false },
+    VersionWord { number: 2, counts_lines: true, has_deadlines: false },
+    VersionWord { number: 3, counts_lines: true, has_deadlines: true },
+];
 
 pub fn version(number: u32) -> Option<&'static VersionWord> {
     VERSIONS.iter().find(|version| version.number == number)
 }
 
+/// Of a version's number.
+pub fn has_deadlines(number: u32) -> bool {
+    version(number).is_some_and(|version| version.has_deadlines)
+}
+
 /// What a version that counts lost lines says of itself, and of such a line.
 pub const LINES_COUNTED: &str = "lost lines are counted";
 pub const LINE_COUNTED: &str = "the line is counted as lost";
+/// What a version that has deadlines says of itself.
+pub const DEADLINES_READ: &str = "tasks have deadlines";
+
+/// What a body does that misses its deadline at a tick: it became ready so many ticks before.
+pub fn missed(tick: u32, deadline: u32) -> String {
+    format!(
+        "misses its deadline, {} after tick {}",
+        counted(deadline as usize, "tick"),
+        grouped((tick - deadline).into())
+    )
+}
+
+/// `1 miss`, `2 misses`.
+pub fn misses(count: usize) -> String {
+    format!("{} {}", grouped(count as u64), if count == 1 { "miss" } else { "misses" })
+}
 
 /// A kind of body: its number in a configuration, its word in the text form and its name in sentences.
 pub struct KindWord {
@@ -132,6 +158,8 @@ pub struct KindWord {
     pub autostarts: bool,
     pub in_tables: bool,
     pub in_masks: bool,
+    /// Whether it may have a deadline.
+    pub has_deadline: bool,
     /// Whether it has event bits.
     pub has_bits: bool,
     /// Whether entries alone start it, and it preempts whoever runs.
@@ -155,6 +183,7 @@ pub const KINDS: [KindWord; 4] = [
         autostarts: true,
         in_tables: true,
         in_masks: true,
+        has_deadline: true,
         has_bits: false,
         time_triggered: false,
     },
@@ -166,6 +195,7 @@ pub const KINDS: [KindWord; 4] = [
         autostarts: false,
         in_tables: false,
         in_masks: true,
+        has_deadline: false,
         has_bits: false,
         time_triggered: false,
     },
@@ -177,6 +207,7 @@ pub const KINDS: [KindWord; 4] = [
         autostarts: true,
         in_tables: true,
         in_masks: true,
+        has_deadline: true,
         has_bits: true,
         time_triggered: false,
     },
@@ -188,6 +219,7 @@ pub const KINDS: [KindWord; 4] = [
         autostarts: false,
         in_tables: true,
         in_masks: false,
+        has_deadline: true,
         has_bits: false,
         time_triggered: true,
     },

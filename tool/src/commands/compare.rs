@@ -357,7 +357,10 @@ impl Bench<'_> {
         if case.out_len != OUTPUT_MAX {
             words.extend(["--out-len".into(), case.out_len.to_string()]);
         }
-        words.extend(["config.bin", "trace.bin"].map(|file| quoted(&format!("{folder}/{file}"))));
+        // Bytes that look like a text would be read as one.
+        let texts = input::is_text(&case.config) || input::is_text(&case.trace);
+        let files: &[&str] = if texts { &["case.txt"] } else { &["config.bin", "trace.bin"] };
+        words.extend(files.iter().map(|file| quoted(&format!("{folder}/{file}"))));
         words.join(" ")
     }
 }

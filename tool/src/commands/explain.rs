@@ -19,9 +19,9 @@ pub const COMMAND: Command = Command {
     summary: "a refusal as a sentence; why who runs",
     details: "\
 Says why a run is refused: the field or event, its offset (and its line, in a text), its value, what was allowed, and
-the bytes around the place, marked. Of an accepted run it says which events got a status other than 0 and which lost an
-activation or a line, each with its line in a text, its tick, the reason, and the bodies that are not suspended with
-their current priorities and resources.
+the bytes around the place, marked. Of an accepted run it says which events got a status other than 0, which lost an
+activation or a line and at which a deadline was missed, each with its line in a text, its tick, the reason, and the
+bodies that are not suspended with their current priorities and resources.
 
   --event N   this event of an accepted run alone: the states before and after, what it does, and the rule by which
               the one that runs was chosen
@@ -58,32 +58,34 @@ fn run(options: &Options) -> Result<Ending, Failure> {
     Ok(Ending::Done)
 }
 
-/// The events that were refused or lost something.
+/// The events that were refused, lost something or missed a deadline.
 fn notable(history: &History) -> String {
-    let mut refused = 0;
-    let mut lost = 0;
+    let (mut refused, mut lost, mut missed) = (0, 0, 0);
     let mut told = String::new();
     for step in 0..history.steps.len() {
-        let losses = why::losses(history, step);
+        let (losses, misses) = (why::losses(history, step), why::misses(history, step));
         lost += losses.len();
+        missed += misses.len();
         let event = format!("{} ({})", why::event(history, step), why::place(history, step));
         let status = history.steps[step].answer.status;
         if let Some(check) = why::failed_check(history, step) {
             refused += 1;
             let _ =
                 writeln!(told, "{event}{}: status {}: {check}", running(history, step), words::status_words(status));
-        } else if !losses.is_empty() {
-            let losses: Vec<String> = losses.into_iter().map(|(_, words)| words).collect();
-            let _ = writeln!(told, "{event}{}: {}", running(history, step), losses.join("; "));
+        } else if !losses.is_empty() || !misses.is_empty() {
+            let said: Vec<String> = misses.into_iter().chain(losses.into_iter().map(|(_, words)| words)).collect();
+            let _ = writeln!(told, "{event}{}: {}", running(history, step), said.join("; "));
         } else {
             continue;
         }
         let _ = writeln!(told, "  {}", why::states(history, history.before(step)));
     }
     let losses = if lost == 1 { "1 loss".into() } else { format!("{} losses", words::grouped(lost as u64)) };
+    let has_deadlines = (0..history.objects.bodies.len()).any(|body| history.has_deadline(body));
+    let misses = if has_deadlines { format!(", {}", words::misses(missed)) } else { String::new() };
     let refused = words::grouped(refused);
     format!(
-        "accepted: {}, {refused} with a status other than 0, {losses}\n{told}",
+        "accepted: {}, {refused} with a status other than 0, {losses}{misses}\n{told}",
         counted(history.steps.len(), "event")
     )
 }

@@ -9,6 +9,7 @@ mod draw;
 mod dump;
 mod explain;
 mod inspect;
+mod misses;
 mod oil;
 mod power;
 mod run;
@@ -35,12 +36,13 @@ pub struct Command {
     pub run: fn(&Options) -> Result<Ending, Failure>,
 }
 
-pub const COMMANDS: [&Command; 16] = [
+pub const COMMANDS: [&Command; 17] = [
     &run::COMMAND,
     &explain::COMMAND,
     &check::COMMAND,
     &timeline::COMMAND,
     &wait::COMMAND,
+    &misses::COMMAND,
     &asm::COMMAND,
     &oil::COMMAND,
     &dump::COMMAND,

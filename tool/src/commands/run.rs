@@ -18,8 +18,8 @@ pub const COMMAND: Command = Command {
     summary: "the listing of a run",
     details: "\
 Runs a trace over a configuration and prints the listing: per event its index, code, status, the running body (- when
-idle), the level and the begun mark, then `lost BODY COUNT` for every body that lost activations or (in version 2)
-lines. A refused run prints `refused CODE PLACE` alone; `osek explain` says it in a sentence. 40 and 41: CONFIG or
+idle), the level and the begun mark, then `lost BODY COUNT` for every body that lost activations or (from version 2
+on) lines. A refused run prints `refused CODE PLACE` alone; `osek explain` says it in a sentence. 40 and 41: CONFIG or
 TRACE can't be read.
 
   --names    the same in words: names, OSEK's status names, ticks with equal answers in one line
@@ -67,14 +67,14 @@ fn run(options: &Options) -> Result<Ending, Failure> {
 fn unreadable(part: Part, message: &str, options: &Options) -> Result<Ending, Failure> {
     let refused = Refused { code: words::unreadable(part), place: 0 };
     output::complain(&format!("osek: {message}\n"));
-    output::print(if options.flag("--json") { json_refused(refused) } else { refused.line() })?;
+    output::print(if options.flag("--json") { refused.json() } else { refused.line() })?;
     Ok(Ending::Refused)
 }
 
 impl Listing {
     fn shown(&self, options: &Options) -> String {
         let run = match &self.outcome {
-            Err(refused) if options.flag("--json") => return json_refused(*refused),
+            Err(refused) if options.flag("--json") => return refused.json(),
             Err(refused) if options.flag("--names") => {
                 let meaning = words::refusal(refused.code).map_or("", |word| word.meaning);
                 let files = options.files.join(" ");
@@ -211,13 +211,6 @@ impl Listing {
         }
         text
     }
-}
-
-fn json_refused(refused: Refused) -> String {
-    let Refused { code, place } = refused;
-    let meaning = words::refusal(code).map_or("", |word| word.meaning);
-    let members = [("code", code.to_string()), ("place", place.to_string()), ("meaning", json::string(meaning))];
-    format!("{{\"refused\": {}}}\n", json::object(&members))
 }
 
 /// Columns as wide as their widest cell; numbers to the right.

@@ -168,6 +168,7 @@ impl Pieces {
         changed(&|other| other.shift_masks());
         for body in 0..self.objects.bodies.len() {
             changed(&|other| other.objects.bodies[body].autostart = 0);
+            changed(&|other| other.objects.bodies[body].deadline = 0);
             // Another kind that may stand wherever this one does.
             let simplest =
                 |kind: u32| words::kind(kind).filter(|kind| kind.in_tables).map_or(kind, |_| KINDS[0].number);

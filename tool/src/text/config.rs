@@ -6,7 +6,7 @@ use super::line::{quoted, Fault, Line, Position, Reference};
 use super::{Assembled, BYTES, NUMBER, TRACE};
 use crate::layout;
 use crate::names::Names;
-use crate::words::{self, Sort, KINDS};
+use crate::words::{self, Sort, KINDS, VERSIONS};
 
 const VERSION: &str = "version";
 /// A body of any kind, with its numbers.
@@ -17,13 +17,16 @@ const ENTRY: &str = "at";
 const KIND: &str = "kind";
 const PRIORITY: &str = "priority";
 const AUTOSTART: &str = "autostart";
+const DEADLINE: &str = "deadline";
 const USERS: &str = "users";
 const MASK: &str = "mask";
 const PERIOD: &str = "period";
 
 pub fn is_reserved(word: &str) -> bool {
-    let fixed =
-        [VERSION, BODY, RESOURCE, TABLE, ENTRY, KIND, PRIORITY, AUTOSTART, USERS, MASK, PERIOD, NUMBER, BYTES, TRACE];
+    let fixed = [
+        VERSION, BODY, RESOURCE, TABLE, ENTRY, KIND, PRIORITY, AUTOSTART, DEADLINE, USERS, MASK, PERIOD, NUMBER, BYTES,
+        TRACE,
+    ];
     fixed.contains(&word) || KINDS.iter().any(|kind| kind.word == word)
 }
 
@@ -40,6 +43,7 @@ struct Body {
     kind: Placed,
     priority: Placed,
     autostart: Placed,
+    deadline: Placed,
 }
 
 enum Users {
@@ -146,15 +150,41 @@ impl Objects {
         };
         line.keyword(PRIORITY)?;
         let priority = line.number("the priority, a number")?;
-        let mut autostart = (0, at);
+        let (mut autostart, mut deadline) = ((0, at), (0, at));
+        let mut expected = vec![AUTOSTART];
         if line.peek() == Some(AUTOSTART) {
-            let (_, position) = line.take();
-            autostart = if line.peek().is_some() { line.number("a number or nothing")? } else { (1, position) };
-        } else if line.peek().is_some() {
-            return Err(line.expected(&format!("`{AUTOSTART}` or the end of the line")));
+            autostart = autostart_number(line)?;
+            expected.clear();
         }
-        self.bodies.push(Body { at, kind, priority, autostart });
+        if self.has_deadlines() {
+            expected.push(DEADLINE);
+            if line.peek() == Some(DEADLINE) {
+                line.take();
+                deadline = line.number("the deadline, a number")?;
+                expected.clear();
+            }
+        }
+        if line.peek().is_some() {
+            return Err(self.no_more(line, &expected));
+        }
+        self.bodies.push(Body { at, kind, priority, autostart, deadline });
         Ok(())
+    }
+
+    fn has_deadlines(&self) -> bool {
+        self.version.is_some_and(|(version, _)| words::has_deadlines(version))
+    }
+
+    /// What stands where a body's line should go on with one of these words, or end.
+    fn no_more(&self, line: &Line, expected: &[&str]) -> Fault {
+        if line.peek() == Some(DEADLINE) && !self.has_deadlines() {
+            let with: Vec<String> =
+                VERSIONS.iter().filter(|version| version.has_deadlines).map(|word| word.number.to_string()).collect();
+            let version = words::either(&with);
+            return line.wrong(format!("expected the end of the line: a `{DEADLINE}` is for version {version}"));
+        }
+        let words: Vec<String> = expected.iter().map(|word| format!("`{word}`")).collect();
+        line.expected(&words::either(&[&words[..], &["the end of the line".into()]].concat()))
     }
 
     fn resource(&mut self, line: &mut Line) -> Result<(), Fault> {
@@ -206,7 +236,8 @@ impl Objects {
         let first = |at: Option<Position>| at.unwrap_or(version.1);
         out.number(self.bodies.len() as u32, first(self.bodies.first().map(|body| body.at)));
         for body in &self.bodies {
-            for (value, position) in [body.kind, body.priority, body.autostart] {
+            let deadline = words::has_deadlines(version.0).then_some(body.deadline);
+            for (value, position) in [body.kind, body.priority, body.autostart].into_iter().chain(deadline) {
                 out.number(value, position);
             }
         }
@@ -241,6 +272,15 @@ impl Objects {
             mask |= bit;
         }
         Ok(mask)
+    }
+}
+
+/// The word `autostart`, which stands for 1, or the number after it.
+fn autostart_number(line: &mut Line) -> Result<Placed, Fault> {
+    let (_, position) = line.take();
+    match line.peek() {
+        None | Some(DEADLINE) => Ok((1, position)),
+        Some(_) => line.number("a number or nothing"),
     }
 }
 
@@ -290,7 +330,8 @@ pub mod statement {
             1 if usual => format!(" {AUTOSTART}"),
             other => format!(" {AUTOSTART} {other}"),
         };
-        format!("{head} {PRIORITY} {}{autostart}", body.priority)
+        let deadline = if body.deadline == 0 { String::new() } else { format!(" {DEADLINE} {}", body.deadline) };
+        format!("{head} {PRIORITY} {}{autostart}{deadline}", body.priority)
     }
 
     pub fn resource(name: &str, users: u32, names: &Names) -> String {

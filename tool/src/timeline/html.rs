@@ -116,6 +116,7 @@ fn events(history: &History, rows: &[usize]) -> Vec<String> {
             ("runner", json::string(&runner)),
             ("begins", begins.map_or_else(|| "null".into(), |body| place(body.into()))),
             ("lost", list(lost)),
+            ("missed", list(step.missed.iter().map(|body| place(*body)))),
             ("why", json::string(&format!("{text}\n{}", why.lines()))),
             ("text", json::string(&text)),
         ]));

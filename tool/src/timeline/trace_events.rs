@@ -19,6 +19,7 @@ pub fn write(history: &History) -> String {
     events.extend(steps(history));
     events.extend(levels(history));
     events.extend(losses(history));
+    events.extend(misses(history));
     format!("{{\"displayTimeUnit\": \"ms\", \"traceEvents\": {}}}\n", json::lines(&events))
 }
 
@@ -147,6 +148,21 @@ fn losses(history: &History) -> Vec<String> {
                 [("cat", json::string("loss")), ("ts", micro(times[index])), ("s", json::string("t")), ("args", args)];
             let request = words::kind(history.objects.bodies[body].kind).map_or("request", |kind| kind.request);
             events.push(event("i", &format!("lost {request}"), BODIES, body, &rest));
+        }
+    }
+    events
+}
+
+fn misses(history: &History) -> Vec<String> {
+    let times = times(history);
+    let mut events = Vec::new();
+    for (index, step) in history.steps.iter().enumerate() {
+        for body in &step.missed {
+            let deadline = history.objects.bodies[*body].deadline;
+            let args = json::object(&[("tick", step.tick.to_string()), ("deadline", deadline.to_string())]);
+            let rest =
+                [("cat", json::string("miss")), ("ts", micro(times[index])), ("s", json::string("t")), ("args", args)];
+            events.push(event("i", "deadline missed", BODIES, *body, &rest));
         }
     }
     events

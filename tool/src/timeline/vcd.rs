@@ -167,6 +167,14 @@ fn variables(history: &History) -> Vec<Variable> {
         let name = format!("{}_lost", names.body(body as u32));
         add("losses", &name, Some(16), of_moments(&|moment| binary(moment.losses[body].into())));
     }
+    for body in history.by_priority().into_iter().filter(|body| history.has_deadline(*body)) {
+        let name = format!("{}_missed", names.body(body as u32));
+        let so_far = history.steps.iter().scan(0, |count, step| {
+            *count += u32::from(step.missed.contains(&body));
+            Some(*count)
+        });
+        add("misses", &name, Some(16), std::iter::once(0).chain(so_far).map(binary).collect());
+    }
     variables
 }
 

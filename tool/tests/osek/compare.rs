@@ -73,8 +73,12 @@ fn shows_again(folder: &Folder, fault: &str, lines: &[&str]) {
     let again = Said::of(&[command], output.expect("sh runs"));
     assert!(again.out.contains(lines[2]), "{fault}: {}{}", again.out, again.err);
     assert_eq!(again.code, Some(1));
-    let expected = folder.osek(&["run", &format!("{fault}/config.bin"), &format!("{fault}/trace.bin")]).out;
-    assert_eq!(folder.text(&format!("{fault}/expected")), expected);
+    let expected = folder.text(&format!("{fault}/expected"));
+    // Bytes that look like a text are shown again by the text of the case.
+    if command.ends_with("trace.bin") {
+        let run = ["run", &format!("{fault}/config.bin"), &format!("{fault}/trace.bin")];
+        assert_eq!(folder.osek(&run).out, expected);
+    }
     let text = folder.text(&format!("{fault}/case.txt"));
     assert!(text.starts_with(&format!("# {}\n", lines[2])), "{text}");
     assert_eq!(folder.osek(&["run", &format!("{fault}/case.txt")]).out, expected);

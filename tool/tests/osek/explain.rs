@@ -35,7 +35,7 @@ fn each_refusal_of_the_configuration_is_a_sentence() {
             "2 4",
             "offset 4: the priority of body 0 is not in its shortest form: of 82 00 the 00 is superfluous.",
         ),
-        (damaged(0, &[3]), "3 0", "offset 0: the version is 3. Allowed: 1 or 2."),
+        (damaged(0, &[4]), "3 0", "offset 0: the version is 4. Allowed: 1, 2 or 3."),
         (damaged(1, &[33]), "4 1", "offset 1: the body count is 33. Allowed: 1 to 32."),
         (damaged(11, &[17]), "4 11", "offset 11: the resource count is 17. Allowed: 0 to 16."),
         (damaged(13, &[9]), "4 13", "offset 13: the table count is 9. Allowed: 0 to 8."),
@@ -473,6 +473,11 @@ fn every_drawn_refusal_is_explained_at_its_place() {
             break;
         }
         let case = cases::case(5, number);
+        // Bytes that look like a text are read as one.
+        let is_text = |bytes: &[u8]| !bytes.is_empty() && bytes.iter().all(|byte| (b' '..=b'~').contains(byte));
+        if is_text(&case.config) || is_text(&case.trace) {
+            continue;
+        }
         folder.write("config.bin", &case.config);
         folder.write("trace.bin", &case.trace);
         let said = folder.osek(&["explain", "config.bin", "trace.bin"]);

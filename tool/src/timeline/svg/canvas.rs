@@ -86,6 +86,11 @@ impl Canvas {
         );
     }
 
+    pub fn diamond(&mut self, class: &str, x: f64, y: f64) {
+        let (left, right, top, bottom) = (x - 6.0, x + 6.0, y - 6.0, y + 6.0);
+        self.path(class, &format!("M{x:.1} {top:.1} L{right:.1} {y:.1} L{x:.1} {bottom:.1} L{left:.1} {y:.1} Z"));
+    }
+
     pub fn dot(&mut self, class: &str, x: f64, y: f64) {
         let _ = writeln!(self.0, "<circle class=\"{class}\" cx=\"{x:.1}\" cy=\"{y:.1}\" r=\"3.2\"/>");
     }

@@ -1,5 +1,5 @@
 //! A timeline as a picture: a column for each event, a row for each body, the greatest priority on top, a row for each
-//! resource that is held and for the event bits of each task that has some, and the level.
+//! resource that is held and for the event bits of each task that has some, and the level. Missed deadlines are marked.
 
 mod canvas;
 
@@ -54,6 +54,7 @@ text { font-family: 'DejaVu Sans', Verdana, Arial, sans-serif; font-size: 11px; 
 .begin { fill: #ffffff; }
 .request { fill: #d97706; }
 .loss { stroke: #b91c1c; stroke-width: 2.5; fill: none; }
+.miss { stroke: #ffffff; stroke-width: 1; fill: #b91c1c; }
 .level { stroke: #047857; stroke-width: 1.8; fill: none; }
 .column { fill: #000000; fill-opacity: 0; }
 .column:hover { fill-opacity: 0.06; }
@@ -110,10 +111,7 @@ fn label(history: &History, step: &Step) -> String {
 
 /// The steps of each column: one, or several ticks that change nothing.
 fn stretches(history: &History, range: Range<usize>) -> Vec<(usize, usize)> {
-    let quiet = |step: &usize| {
-        let here = &history.steps[*step];
-        here.event.word.is_tick() && here.after.looks_like(history.before(*step))
-    };
+    let quiet = |step: &usize| history.is_quiet(*step);
     let mut stretches = Vec::new();
     let mut first = range.start;
     while first < range.end {
@@ -295,7 +293,7 @@ impl<'t> Picture<'t> {
         self.stretch(|moment| moment.states[body], |canvas, x, width, state| bar(canvas, *state, x, width, middle));
     }
 
-    /// Begins, second requests and losses.
+    /// Begins, second requests, losses and missed deadlines.
     fn marks(&mut self, body: usize, middle: f64) {
         let mut waited = false;
         for column in &self.columns {
@@ -310,6 +308,9 @@ impl<'t> Picture<'t> {
             waited = waits;
             if self.loses(column, body) {
                 self.canvas.cross("loss", column.x, middle);
+            }
+            if column.steps.is_some_and(|(first, _)| self.history.steps[first].missed.contains(&body)) {
+                self.canvas.diamond("miss", column.x, middle);
             }
         }
     }
@@ -414,6 +415,9 @@ impl<'t> Picture<'t> {
         named(canvas, &begin, "begins");
         named(canvas, &|canvas, x| canvas.dot("request", x + 9.0, y), "a second request waits");
         named(canvas, &|canvas, x| canvas.cross("loss", x + 9.0, y), "activation or line lost");
+        if self.rows.iter().any(|body| self.history.has_deadline(*body)) {
+            named(canvas, &|canvas, x| canvas.diamond("miss", x + 9.0, y), "deadline missed");
+        }
         if !self.named {
             named(canvas, &|canvas, x| canvas.line("refusal", (x + 9.0, y - 5.0), (x + 9.0, y + 5.0)), "refused");
         }
