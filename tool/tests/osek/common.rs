@@ -16,6 +16,9 @@ pub const LOGGER: &str = include_str!("../../../docs/logger.txt");
 /// A logger in which a body waits for others.
 pub const DOOR: &str = include_str!("../../../docs/door.txt");
 
+/// A logger in which deadlines are missed.
+pub const DEADLINES: &str = include_str!("../../../docs/deadlines.txt");
+
 /// Document 01's configuration and trace as a text.
 pub const DOCUMENT_TEXT: &str = "\
 version 1

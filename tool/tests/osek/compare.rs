@@ -242,10 +242,30 @@ fn contents(folder: &Folder, name: &str) -> (bool, Vec<u32>, u32, Vec<u32>) {
         numbers.push(number);
         at = next;
     }
-    let kinds = numbers[2..].iter().step_by(3).take(numbers[1] as usize).copied().collect();
+    let fields = if numbers[0] == 3 { 4 } else { 3 };
+    let kinds = numbers[2..].iter().step_by(fields).take(numbers[1] as usize).copied().collect();
     let rows = listing.lines().skip(1).filter(|line| !line.starts_with("lost"));
     let events = rows.filter_map(|line| line.split(' ').nth(1)?.parse().ok()).collect();
     (!listing.starts_with("refused"), kinds, numbers[0], events)
+}
+
+#[test]
+fn cases_are_chosen_by_their_version() {
+    let folder = Folder::new();
+    for list in ["1", "2", "3", "1,2", "2,3"] {
+        folder.osek(&["cases", "--accepted", "--versions", list, "--count", "20", "-o", list]).prints("", 0);
+        let index = folder.text(&format!("{list}/index.csv"));
+        let names = index.lines().skip(1).filter_map(|line| line.split(',').next());
+        let mut versions: Vec<u32> = names.map(|name| contents(&folder, &format!("{list}/{name}")).2).collect();
+        assert_eq!(versions.len(), 20);
+        versions.sort_unstable();
+        versions.dedup();
+        let known: Vec<u32> = list.split(',').filter_map(|number| number.parse().ok()).collect();
+        assert_eq!(versions, known);
+    }
+    let message =
+        "cases: --versions takes 1, 2 or 3, or several with commas between them, not 4; see osek cases --help";
+    folder.osek(&["cases", "--versions", "4", "--count", "1", "-o", "new"]).fails(2, message);
 }
 
 #[test]

@@ -88,6 +88,27 @@ fn each_refusal_of_the_configuration_is_a_sentence() {
 }
 
 #[test]
+fn what_is_refused_of_a_deadline_is_a_sentence() {
+    let cases = [
+        (
+            "task log priority 1 deadline 65536",
+            "2:30: the deadline of task log is 65,536. Allowed: 0 (none) to 65,535.",
+        ),
+        ("isr door priority 9 deadline 3", "2:30: the deadline of ISR door is 3. Allowed: 0, because it is an ISR."),
+    ];
+    for (body, sentence) in cases {
+        let folder = Folder::new().with("config.txt", format!("version 3\n{body}\ntrace\n"));
+        let out = folder.osek(&["explain", "config.txt"]).out;
+        let lines: Vec<&str> = out.lines().collect();
+        assert_eq!(lines[..2], ["refused 5 5: a field is outside its range", &format!("config.txt:{sentence}")]);
+    }
+    // Bytes that end where the deadline is due.
+    let folder = Folder::document().with("config.bin", [3, 1, 0, 1, 1]);
+    let out = folder.osek(&["explain", "config.bin", "trace.bin"]).out;
+    assert!(out.contains("offset 5: the deadline of body 0 is missing: the input ends here."), "{out}");
+}
+
+#[test]
 fn what_is_refused_of_a_time_triggered_task_is_a_sentence() {
     let bodies =
         "version 1\ntask low priority 1 autostart\ntimed one priority 2\ntimed two priority 3\ntask high priority 4\n";
@@ -424,9 +445,9 @@ event 2 Line door (b.txt:6, tick 0) {waits}{}
 
 /// What is said to be lost, event by event, is what the library counts.
 #[test]
-fn the_losses_that_are_told_are_the_library_s() {
+fn the_losses_and_misses_that_are_told_are_the_library_s() {
     let folder = Folder::new();
-    let mut counted = 0;
+    let (mut counted, mut missed) = (0, 0);
     for number in 0..150 {
         let case = cases::case(6, number);
         folder.write("config.bin", &case.config);
@@ -447,11 +468,21 @@ fn the_losses_that_are_told_are_the_library_s() {
         if listing.starts_with("refused") {
             continue;
         }
-        let words = if all == 1 { ", 1 loss\n".into() } else { format!(" {} losses\n", grouped(all)) };
-        assert!(said.contains(&words), "case {number}: {words} {said}");
+        let first: Vec<&str> = said.lines().next().unwrap_or_default().split(", ").collect();
+        let losses = if all == 1 { "1 loss".into() } else { format!("{} losses", grouped(all)) };
+        assert_eq!(first.get(2), Some(&&*losses), "case {number}: {said}");
         counted += all;
+        let misses = folder.osek(&["misses", "config.bin", "trace.bin"]).done();
+        let told = said.matches(" misses its deadline, ").count();
+        match misses.lines().last() {
+            Some("no task has a deadline") => assert_eq!(first.len(), 3, "case {number}: {said}"),
+            Some("no deadline is missed") => assert_eq!((first[3], told), ("0 misses", 0), "case {number}: {said}"),
+            last => assert_eq!(last.and_then(|last| last.split(", ").next()), Some(first[3]), "case {number}: {said}"),
+        }
+        assert!(first.get(3).is_none_or(|misses| misses.starts_with(&format!("{} miss", grouped(told)))), "{said}");
+        missed += told;
     }
-    assert!(counted > 200, "{counted}");
+    assert!(counted > 200 && missed > 50, "{counted} {missed}");
 }
 
 fn grouped(number: usize) -> String {

@@ -9,6 +9,7 @@ mod documents;
 mod draw;
 mod explain;
 mod inspect;
+mod misses;
 mod oil;
 mod run;
 mod salvage;

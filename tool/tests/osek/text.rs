@@ -186,6 +186,20 @@ fn a_wrong_text_is_refused_at_its_line_and_column() {
         ),
         ("version 1\ntask a priority 1 autostrat", "2:19: expected `autostart` or the end of the line, found `autostrat`"),
         ("version 1\ntask a priority 1 autostart x", "2:29: expected a number or nothing, found `x`"),
+        ("version 3\ntask a priority 1 x", "2:19: expected `autostart`, `deadline` or the end of the line, found `x`"),
+        ("version 3\ntask a priority 1 autostart 1 x", "2:31: expected `deadline` or the end of the line, found `x`"),
+        ("version 3\ntask a priority 1 deadline", "2:27: expected the deadline, a number, found the end of the line"),
+        ("version 3\ntask a priority 1 deadline soon", "2:28: expected the deadline, a number, found `soon`"),
+        ("version 3\ntask a priority 1 deadline 5 autostart", "2:30: expected the end of the line, found `autostart`"),
+        ("version 1\ntask a priority 1 deadline 5", "2:19: expected the end of the line: a `deadline` is for version 3"),
+        (
+            "version 2\ntask a priority 1 autostart deadline 0",
+            "2:29: expected the end of the line: a `deadline` is for version 3",
+        ),
+        (
+            "version 3\ntask deadline priority 1",
+            "2:6: expected the body's name and no word of the text form, found `deadline`",
+        ),
         ("version 1\ntask a priority 1\nisr  a priority 2", "3:6: expected a new name: line 2 has given this one"),
         ("version 1\nbody a priority 1", "2:8: expected `kind`, found `priority`"),
         ("version 1\nresource r", "2:11: expected `users` or `mask`, found the end of the line"),
@@ -265,6 +279,53 @@ table table0 period 9            # 11  09     table 0: period 9
 ",
         0,
     );
+}
+
+#[test]
+fn deadlines_have_their_word() {
+    let text = "version 3\ntask low priority 1 autostart deadline 300\nextended radio priority 2 deadline 1\n\
+                timed sample priority 3 autostart 0 deadline 65535\nisr door priority 9\ntask idle priority 4 deadline 0\n";
+    let folder = Folder::new().with("late.txt", text);
+    folder.osek(&["asm", "late.txt", "-o", "late.bin"]).prints("", 0);
+    let bodies = [&[0, 1, 1, 0xac, 2][..], &[2, 2, 0, 1], &[3, 3, 0, 0xff, 0xff, 3], &[1, 9, 0, 0], &[0, 4, 0, 0]];
+    assert_eq!(folder.read("late.bin"), [&[3, 5][..], &bodies.concat(), &[0, 0]].concat());
+    folder.osek(&["dump", "late.bin"]).prints(
+        "\
+# configuration, 27 bytes
+version 3                                     #  0  03        version 3, lost lines are counted, tasks have deadlines
+                                              #  1  05        body count 5
+task task0 priority 1 autostart deadline 300  #  2  00        body 0: kind 0, task
+                                              #  3  01        priority 1
+                                              #  4  01        autostart 1
+                                              #  5  AC 02     deadline 300
+extended extended1 priority 2 deadline 1      #  7  02        body 1: kind 2, extended task
+                                              #  8  02        priority 2
+                                              #  9  00        autostart 0
+                                              # 10  01        deadline 1
+timed timed2 priority 3 deadline 65535        # 11  03        body 2: kind 3, time-triggered task
+                                              # 12  03        priority 3
+                                              # 13  00        autostart 0
+                                              # 14  FF FF 03  deadline 65535
+isr isr3 priority 9                           # 17  01        body 3: kind 1, ISR
+                                              # 18  09        priority 9
+                                              # 19  00        autostart 0
+                                              # 20  00        deadline 0, none
+task task4 priority 4                         # 21  00        body 4: kind 0, task
+                                              # 22  04        priority 4
+                                              # 23  00        autostart 0
+                                              # 24  00        deadline 0, none
+                                              # 25  00        resource count 0
+                                              # 26  00        table count 0
+",
+        0,
+    );
+    // Out of range, on an ISR and beside an autostart that is none: written as they stand.
+    folder.write("odd.txt", "version 3\nisr a priority 1 autostart 7 deadline 70000\n");
+    folder.osek(&["asm", "odd.txt", "-o", "odd.bin"]).prints("", 0);
+    assert_eq!(folder.read("odd.bin"), [3, 1, 1, 1, 7, 0xf0, 0xa2, 4, 0, 0]);
+    folder.write("again.txt", folder.osek(&["dump", "odd.bin"]).done());
+    folder.osek(&["asm", "again.txt", "-o", "again.bin"]).prints("", 0);
+    assert_eq!(folder.read("again.bin"), folder.read("odd.bin"));
 }
 
 #[test]

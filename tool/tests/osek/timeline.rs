@@ -172,9 +172,43 @@ fn time_triggered_tasks_stand_on_top_at_their_level() {
 }
 
 #[test]
+fn missed_deadlines_are_marked() {
+    let folder = Folder::new().with("logger.txt", DEADLINES);
+    let json = folder.osek(&["timeline", "logger.txt", "--json", "-"]).done();
+    let missed: Vec<&str> = json.lines().filter(|line| line.contains("\"cat\": \"miss\"")).collect();
+    let at = |line: &str, body: u32, tick: u32, deadline: u32| {
+        line.contains(&format!("\"deadline missed\", \"pid\": 2, \"tid\": {body}"))
+            && line.contains(&format!("\"tick\": {tick}, \"deadline\": {deadline}"))
+    };
+    assert!(missed.len() == 2 && at(missed[0], 2, 9, 6) && at(missed[1], 1, 23, 20), "{missed:?}");
+    let picture = folder.osek(&["timeline", "logger.txt", "--svg", "-"]).done();
+    // Two marks, and the legend's; the tick of a miss has a column of its own.
+    assert_eq!(picture.matches("class=\"miss\"").count(), 3, "{picture}");
+    assert!(picture.contains(">deadline missed<"), "{picture}");
+    assert!(picture.contains(">5 ticks<") && picture.contains("event 13 Tick, tick 9: "), "{picture}");
+    let dump = folder.osek(&["timeline", "logger.txt", "--vcd", "-"]).done();
+    let counts = |name: &str| -> Vec<String> {
+        let id =
+            dump.lines().find_map(|line| line.strip_suffix(&format!(" {name} [15:0] $end"))?.split(' ').next_back());
+        let value = format!(" {}", id.expect("it is a signal"));
+        dump.lines().filter_map(|line| Some(line.strip_prefix('b')?.strip_suffix(&value)?.to_string())).collect()
+    };
+    assert_eq!((counts("record_missed"), counts("sensor_missed")), (vec!["0".into(), "1".into()], vec!["0".into()]));
+    assert!(!dump.contains("door_missed"), "{dump}");
+    let page = folder.osek(&["timeline", "logger.txt", "--html", "-"]).done();
+    // By row: door, record, sensor, radio, main.
+    let marks: Vec<&str> = page.split("\"missed\": ").skip(1).filter_map(|rest| rest.split(", \"why").next()).collect();
+    assert_eq!(marks.iter().filter(|mark| **mark != "[]").collect::<Vec<_>>(), [&"[1]", &"[3]"]);
+    // Without deadlines nothing is said of them.
+    let folder = Folder::new().with("logger.txt", LOGGER);
+    let picture = folder.osek(&["timeline", "logger.txt", "--svg", "-"]).done();
+    assert!(!picture.contains("deadline") && !picture.contains("class=\"miss\""), "{picture}");
+}
+
+#[test]
 fn a_lost_line_shows_where_it_is_counted() {
     let folder = Folder::new();
-    for (version, expected) in [(1, 0), (2, 2)] {
+    for (version, expected) in [(1, 0), (2, 2), (3, 2)] {
         let text =
             format!("version {version}\nisr door priority 9\ntrace\nline door\nline door\nline door\nline door\n");
         folder.write("bounces.txt", text);
