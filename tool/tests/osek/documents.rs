@@ -17,6 +17,7 @@ fn workplace() -> Folder {
     fs::create_dir(folder.0.join("build")).expect("a folder can be made");
     folder.write("docs/logger.txt", LOGGER);
     folder.write("docs/door.txt", DOOR);
+    folder.write("docs/deadlines.txt", DEADLINES);
     std::os::unix::fs::symlink(OSEK, folder.0.join("build/osek")).expect("a link can be made");
     folder
 }
