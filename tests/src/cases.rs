@@ -4,8 +4,8 @@
 //! about half of the calls succeed, damage, the mix of all of them in [`case`], and long traces for timing.
 
 use crate::fast::{
-    self, Config, Event, Kernel, NextDue, CONFIG_MAX, ENTRIES_MAX, EXTENDED, ISR, OUTPUT_MAX, TABLES_MAX,
-    TABLE_ENTRIES_MAX, TICKS_MAX, TIME_TRIGGERED, TRACE_MAX, TURN, VERSION_MAX,
+    self, Config, Event, Kernel, NextDue, CONFIG_MAX, ENTRIES_MAX, EXTENDED, ISR, MISSES_MAX, MISS_SIZE, OUTPUT_MAX,
+    TABLES_MAX, TABLE_ENTRIES_MAX, TICKS_MAX, TIME_TRIGGERED, TRACE_MAX, TURN, VERSION_MAX,
 };
 
 // Random numbers
@@ -938,6 +938,23 @@ impl Case {
     pub fn prefilled(&self) -> Vec<u8> {
         (0..self.out_len).map(|i| (i as u8).wrapping_mul(167).wrapping_add(self.fill)).collect()
     }
+}
+
+/// The same case with room for the list of its misses, or for less, or for more.
+pub fn with_list(case: Case) -> Case {
+    let mut random = Random::new((case.out_len as u64) << 8 | u64::from(case.fill));
+    let mut list = [0; MISSES_MAX * MISS_SIZE];
+    let count = fast::misses::<NextDue>(&case.config, &case.trace, &mut list);
+    let needed = if count >> 32 == 0 { MISS_SIZE * (count as usize).min(MISSES_MAX) } else { 0 };
+    let out_len = match random.below(8) {
+        0 => needed.saturating_sub(1),
+        1 => random.below(needed + 1),
+        2 => 0,
+        3 | 4 => needed,
+        5 => needed + random.between(1, 9),
+        _ => list.len(),
+    };
+    Case { out_len, ..case }
 }
 
 fn draw_out_len(random: &mut Random, config: &[u8], trace: &[u8]) -> usize {

@@ -144,49 +144,73 @@ pub fn hex(bytes: &[u8]) -> String {
     bytes.iter().map(|byte| format!("{byte:02X}")).collect::<Vec<_>>().join(" ")
 }
 
-/// Compares the cases `numbers` of a seed with `threads` threads. Returns what they covered, or the difference of the
-/// lowest case that has one.
+/// Compares the runs of the cases `numbers` of a seed with `threads` threads. Returns what they covered, or the difference of
+/// the lowest case that has one.
 pub fn compare(
     seed: u64,
     numbers: std::ops::Range<u64>,
     threads: u64,
     implementations: &[Implementation],
 ) -> Result<Coverage, String> {
+    let parts = each_case(seed, numbers, threads, |case, memory, coverage: &mut Coverage| {
+        let (result, out) = check(&case, implementations, memory)?;
+        coverage.add(&case, result, &out);
+        Ok(())
+    })?;
+    let mut coverage = Coverage::default();
+    parts.iter().for_each(|part| coverage.merge(part));
+    Ok(coverage)
+}
+
+/// Compares the misses of the cases in the same way. Returns how many were counted.
+pub fn compare_misses(seed: u64, numbers: std::ops::Range<u64>, threads: u64) -> Result<u64, String> {
+    let parts = each_case(seed, numbers, threads, |case, memory, misses: &mut u64| {
+        let (result, _) = check_misses(&cases::with_list(case), memory)?;
+        *misses += if result >> 32 == 0 { result } else { 0 };
+        Ok(())
+    })?;
+    Ok(parts.iter().sum())
+}
+
+/// Does `look` with every case, in each thread with memory and findings of its own. Returns the findings, or the difference of
+/// the lowest case that has one.
+fn each_case<T: Default + Send>(
+    seed: u64,
+    numbers: std::ops::Range<u64>,
+    threads: u64,
+    look: impl Fn(Case, &mut GuardedRun, &mut T) -> Result<(), String> + Sync,
+) -> Result<Vec<T>, String> {
     guard::report_faults();
     let lowest = AtomicU64::new(u64::MAX);
     let work = |thread: u64| {
-        let mut coverage = Coverage::default();
+        let mut found = T::default();
         let mut memory = GuardedRun::default();
         for number in numbers.clone().skip(thread as usize).step_by(threads as usize) {
             if number > lowest.load(Ordering::Relaxed) {
                 break;
             }
             guard::announce(seed, number);
-            let case = cases::case(seed, number);
-            match check(&case, implementations, &mut memory) {
-                Ok((result, out)) => coverage.add(&case, result, &out),
-                Err(difference) => {
-                    lowest.fetch_min(number, Ordering::Relaxed);
-                    return Err((number, format!("seed {seed} case {number}: {difference}")));
-                }
+            if let Err(difference) = look(cases::case(seed, number), &mut memory, &mut found) {
+                lowest.fetch_min(number, Ordering::Relaxed);
+                return Err((number, format!("seed {seed} case {number}: {difference}")));
             }
         }
-        Ok(coverage)
+        Ok(found)
     };
     let work = &work;
     std::thread::scope(|scope| {
         let workers: Vec<_> = (0..threads).map(|thread| scope.spawn(move || work(thread))).collect();
-        let mut coverage = Coverage::default();
+        let mut all = Vec::new();
         let mut differences = Vec::new();
         for worker in workers {
             match worker.join() {
-                Ok(Ok(part)) => coverage.merge(&part),
+                Ok(Ok(found)) => all.push(found),
                 Ok(Err(difference)) => differences.push(difference),
                 Err(panic) => std::panic::resume_unwind(panic),
             }
         }
         match differences.into_iter().min() {
-            None => Ok(coverage),
+            None => Ok(all),
             Some((_, text)) => Err(text),
         }
     })

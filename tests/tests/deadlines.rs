@@ -4,10 +4,10 @@
 use std::collections::BTreeMap;
 
 use osek_tests::by_hand::with_deadlines;
-use osek_tests::cases::{case, draw_trace, Case, Random};
+use osek_tests::cases::{case, draw_trace, with_list, Case, Random};
 use osek_tests::compare::check_misses;
 use osek_tests::coverage::REFUSALS;
-use osek_tests::fast::{self, Config, Deadlines, Event, Kernel, NextDue, MISSES_MAX, MISS_SIZE, TRACE_MAX};
+use osek_tests::fast::{self, Config, Deadlines, Event, Kernel, NextDue, TRACE_MAX};
 use osek_tests::guard::{announce, report_faults, GuardedRun};
 
 const TICK: u8 = 6;
@@ -398,18 +398,6 @@ fn see(config: &Config, trace: &[u8], seen: &mut Seen) {
     }
 }
 
-/// Room for a list of so many bytes, or less, or more.
-fn draw_list_len(random: &mut Random, needed: usize) -> usize {
-    match random.below(8) {
-        0 => needed.saturating_sub(1),
-        1 => random.below(needed + 1),
-        2 => 0,
-        3 | 4 => needed,
-        5 => needed + random.between(1, 9),
-        _ => MISSES_MAX * MISS_SIZE,
-    }
-}
-
 /// A drawn case; of some that have deadlines the trace is long, so that more are missed than listed.
 fn draw_case(random: &mut Random, seed: u64, number: u64) -> Case {
     let mut case = case(seed, number);
@@ -418,7 +406,7 @@ fn draw_case(random: &mut Random, seed: u64, number: u64) -> Case {
             case.trace = draw_trace(random, &config, TRACE_MAX);
         }
     }
-    case
+    with_list(case)
 }
 
 #[test]
@@ -432,11 +420,7 @@ fn drawn_cases_give_equal_misses() {
     let (mut refusals, mut counts) = (BTreeMap::new(), BTreeMap::new());
     for number in 0..12_000 {
         announce(seed, number);
-        let mut case = draw_case(&mut random, seed, number);
-        let mut room = [0; MISSES_MAX * MISS_SIZE];
-        let count = fast::misses::<NextDue>(&case.config, &case.trace, &mut room);
-        let needed = if count >> 32 == 0 { MISS_SIZE * (count as usize).min(MISSES_MAX) } else { 0 };
-        case.out_len = draw_list_len(&mut random, needed);
+        let case = draw_case(&mut random, seed, number);
         let (result, list) = check_misses(&case, &mut memory).unwrap_or_else(|why| panic!("case {number}: {why}"));
         if result >> 32 != 0 {
             assert_eq!(list, case.prefilled(), "case {number} is refused and writes");

@@ -1,4 +1,5 @@
-//! Compares drawn cases: `fuzz [SEED [COUNT [CASE]]]`. With CASE, that case alone is run, and shown.
+//! Compares drawn cases, their runs and then their misses: `fuzz [SEED [COUNT [CASE]]]`. With CASE, that case alone is run, and
+//! shown.
 
 use std::process::ExitCode;
 use std::time::Instant;
@@ -31,9 +32,13 @@ fn main() -> ExitCode {
     let names: Vec<&str> = implementations.iter().map(|implementation| implementation.name).collect();
     println!("seed {seed}: {} against {}", compare::FAST.name, names.join(", "));
     let start = Instant::now();
-    match compare::compare(seed, cases, 2, &implementations) {
-        Ok(coverage) => {
-            println!("{coverage}\nall equal, {:.1} s", start.elapsed().as_secs_f64());
+    let compared = compare::compare(seed, cases.clone(), 2, &implementations).and_then(|coverage| {
+        println!("{coverage}");
+        compare::compare_misses(seed, cases, 2)
+    });
+    match compared {
+        Ok(misses) => {
+            println!("missed deadlines: {misses}\nall equal, {:.1} s", start.elapsed().as_secs_f64());
             ExitCode::SUCCESS
         }
         Err(difference) => {
