@@ -32,7 +32,7 @@ const LEVELS: f64 = 64.0;
 const MARGIN: f64 = 14.0;
 /// About the width of a letter.
 const LETTER: f64 = 6.7;
-/// The room of the legend.
+/// The least room of the legend.
 const LEGEND: f64 = 900.0;
 
 const STYLE: &str = "\
@@ -82,6 +82,8 @@ struct Picture<'t> {
     left: f64,
     top: f64,
     right: f64,
+    /// Where the legend ends.
+    legend: f64,
     named: bool,
     canvas: Canvas,
 }
@@ -160,7 +162,8 @@ impl<'t> Picture<'t> {
             x += width;
         }
         let (rows, canvas) = (history.by_priority(), Canvas::default());
-        Picture { history, range, columns, rows, resources, bits, levels, left, top, right: x, named, canvas }
+        let (right, legend) = (x, LEGEND);
+        Picture { history, range, columns, rows, resources, bits, levels, left, top, right, legend, named, canvas }
     }
 
     fn rows_end(&self) -> f64 {
@@ -182,7 +185,7 @@ impl<'t> Picture<'t> {
     fn finished(&self, title: &str) -> String {
         // The last name rises beyond the last column.
         let beyond = if self.named { 0.75 * (self.top - 40.0) + 14.0 } else { 20.0 };
-        let width = (self.right + beyond).max(LEGEND) + MARGIN;
+        let width = (self.right + beyond).max(self.legend) + MARGIN;
         let height = self.height();
         let all = self.history.steps.len();
         let part = if self.range.len() < all {
@@ -421,6 +424,7 @@ impl<'t> Picture<'t> {
         if !self.named {
             named(canvas, &|canvas, x| canvas.line("refusal", (x + 9.0, y - 5.0), (x + 9.0, y + 5.0)), "refused");
         }
+        self.legend = x.max(LEGEND);
     }
 
     /// What a pointer over a column is told.
