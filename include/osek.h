@@ -74,7 +74,7 @@ extern "C" {
 
 /* The first number changes when a program has to be compiled or linked anew, the second with what the calls answer or
  * offer, the last with everything else. CHANGELOG.md says what each one brought. */
-#define OSEK_VERSION "1.5.0"
+#define OSEK_VERSION "1.6.0"
 
 /* Sizes in bytes. Longer inputs are refused; an output of OSEK_OUTPUT_MAX suffices for every run, which is proved as
  * `room-enough` in crates/run/proofs/Theorems.antt. */

@@ -7,7 +7,7 @@ use Prim.Native.Nat.{ℕ, suc, _+_, min, _≤_, _<_}
 use mathlib.Core.Path.{_≡_}
 use mathlib.Core.Logic.{_≢_, _↔_}
 use mathlib.Core.Bool.{true, false}
-use mathlib.Core.List.{List, [], _∷_, _++_, map}
+use mathlib.Core.List.{List, [], _∷_, _++_, map, List·Memᴰ}
 use lib.ListN.{length, take, drop}
 use Rattle.number.specs.Refusal.{none, malformed}
 use Rattle.number.specs.Number as Number
@@ -24,7 +24,7 @@ use Rattle.config.proofs.Theorems as Configurations
 use Rattle.event.specs.Trace.{readTrace, traceBytes, AllWritable}
 use Rattle.event.specs.declared.Event as Trace
 use Rattle.event.proofs.Theorems as Traces
-use Rattle.cell.specs.Cell.{modulus, startCounter, sums, startCell, ticks}
+use Rattle.cell.specs.Cell.{modulus, startCounter, sums, startCell, tickCell, ticks}
 use Rattle.cell.specs.Due.{due}
 use Rattle.cell.proofs.Theorems as Cells
 use Rattle.plan.specs.declared.Plan.{Plan}
@@ -51,6 +51,10 @@ use Rattle.isolation.proofs.Theorems as Isolation
 use Rattle.waiting.specs.Finishes.{BeginsAt}
 use Rattle.waiting.specs.Result.{waitIn}
 use Rattle.waiting.proofs.Theorems as Waiting
+use Rattle.deadlines.specs.Miss.{Miss, MissedDeadline, IsMiss, InOrder, deadlinesOf, misses}
+use Rattle.deadlines.specs.DeadlineCells.{cellAfter}
+use Rattle.deadlines.specs.Words.{machineMisses}
+use Rattle.deadlines.proofs.Theorems as Deadlines
 use Rattle.drawing.specs.Weights.{weight, total}
 use Rattle.drawing.specs.Drawing.{drawEvents, drawBytes, Within, Each, Limited, firstSort, secondSort}
 use Rattle.drawing.proofs.Theorems as Drawing
@@ -186,6 +190,23 @@ conservation = Isolation.conservation
 pub runner-timed : (c : Config) (s : State) (j : ℕ) (js : List ℕ) → s .order ≡ j ∷ js
     → (runner c s .number ≡ j) × (runner c s .level ≡ 201) × (runner c s .began ≡ hasBegun (bodyOf s j .phase))
 runner-timed = Scheduler.runner-timed
+
+-- A11: "a miss is counted exactly when the task has not ended since by the due tick": by a deadline cell, over the list
+-- of events alone; the run on the machine gives the list of misses, in order of time, then of body
+pub cell-exactly : (c : Config) (D b : ℕ) → D ≤ 65535 → (es : List Event)
+    → (tickCell (cellAfter c D b es) .matched ≡ true) ↔ MissedDeadline c D b es
+cell-exactly = Deadlines.cell-exactly
+
+pub machine-tells-misses : (c : Config) → Accepted c → Shaped c → (es : List Event)
+    → machineMisses c (planOf c) (deadlinesOf c) es ≡ misses c (deadlinesOf c) es
+machine-tells-misses = Deadlines.machine-tells-misses
+
+pub misses-members : (c : Config) (ds : List ℕ) (es : List Event) (m : Miss)
+    → List·Memᴰ m (misses c ds es) ↔ IsMiss c ds es m
+misses-members = Deadlines.misses-members
+
+pub misses-order : (c : Config) (ds : List ℕ) (es : List Event) → InOrder (misses c ds es)
+misses-order = Deadlines.misses-order
 
 -- A12: the grammar, "written down without the parser", "accepts exactly the same texts", with the same configuration
 pub accepted-exactly : (t : List ℕ) (c : Config) → Describes t c

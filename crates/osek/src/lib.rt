@@ -1,6 +1,6 @@
 // The library that C links, as include/osek.h declares it: each function is that of the crate that proves it, with
 // the same contract. A crate of its own, so that an archive is built from the proved crates below it and none of them
-// is proved again. `osek_wait` is in the archive of crate waits.
+// is proved again. `osek_wait` and `osek_misses` are in archives of their own, those of crates waits and misses.
 ghost use mathlib.Core.Path.{_≡_};
 ghost use lib.ListN.{length};
 ghost use Rattle.run.specs.Run.{runResult, runOutput};
