@@ -37,7 +37,7 @@ use Rattle.machine.proofs.Whole.Fresh.{fresh-sim}
 use Rattle.machine.proofs.Whole.Lists.{event-agrees}
 use Rattle.deadlines.specs.Activation.{isEnd, endsAt, readyAt, chainsTo, chainsItself}
 use Rattle.deadlines.specs.Miss.{Miss, deadlineOf, misses}
-use Rattle.deadlines.specs.DeadlineCells.{offCell, readyCell, countedCell, movedCell, freshCell, rowOf, stepRow, matchesOf, runRow, cellMisses}
+use Rattle.deadlines.specs.DeadlineCells.{suspendedCell, readyCell, countedCell, movedCell, freshCell, rowOf, stepRow, matchesOf, runRow, cellMisses}
 use Rattle.deadlines.specs.Words.{activeAt, planRank, chainsBy, endsBy, readyBy, stepRowBy, machineRow, freshCellBy, machineMisses}
 use Rattle.deadlines.proofs.Rows.{run-misses}
 use Rattle.deadlines.proofs.States.{some-runs, both-told}
@@ -117,7 +117,7 @@ module _ {c : Config} {p : Plan} {rk : ℕ → ℕ} (fit : Fitted c p rk) where
           (sym (both-told c s (sim .orderly) b (task-quiet b task) e .1))
 
 -- a body without a deadline has a cell that stays as it is, whatever happens
-moved-resting : (r q t : Bool) → movedCell 0 r q t (offCell 0) ≡ offCell 0
+moved-resting : (r q t : Bool) → movedCell 0 r q t (suspendedCell 0) ≡ suspendedCell 0
 unfolding movedCell readyCell countedCell tickCellIn
 moved-resting true q t = refl
 moved-resting false true t = refl
@@ -127,10 +127,10 @@ moved-resting false false false = refl
 -- the cells xs from body b on are those of bodies, and those of bodies without a deadline rest
 unfoldable Row : Config → List ℕ → ℕ → List Cell → Type 0
 Row c ds b [] = Unit {0}
-Row c ds b (x ∷ xs) = (b < c .bodies) × ((deadlineOf ds b ≡ 0 → x ≡ offCell 0) × Row c ds (suc b) xs)
+Row c ds b (x ∷ xs) = (b < c .bodies) × ((deadlineOf ds b ≡ 0 → x ≡ suspendedCell 0) × Row c ds (suc b) xs)
 
 module _ (c : Config) (ds : List ℕ) where
-  fresh-row : (f : ℕ → Cell) → ((b : ℕ) → deadlineOf ds b ≡ 0 → f b ≡ offCell 0)
+  fresh-row : (f : ℕ → Cell) → ((b : ℕ) → deadlineOf ds b ≡ 0 → f b ≡ suspendedCell 0)
       → (b n : ℕ) → b + n ≤ c .bodies → Row c ds b (rowOf f b n)
   unfolding Row rowOf
   fresh-row f rests b zero fits = tt
@@ -180,9 +180,9 @@ module _ (c : Config) (ok : Accepted c) (shaped : Shaped c) (ds : List ℕ)
   fresh-is b (suc n) fits =
       rw (active-is fit (fresh-sim fit) b (omega arith), fresh-is (suc b) n (omega arith))
 
-  fresh-rests : (b : ℕ) → deadlineOf ds b ≡ 0 → freshCell c (deadlineOf ds b) b ≡ offCell 0
+  fresh-rests : (b : ℕ) → deadlineOf ds b ≡ 0 → freshCell c (deadlineOf ds b) b ≡ suspendedCell 0
   unfolding freshCell readyCell
-  fresh-rests b z = rw z (cond-either (λ (x : Cell). x ≡ offCell 0) (active (fresh c) b) _ _ refl refl)
+  fresh-rests b z = rw z (cond-either (λ (x : Cell). x ≡ suspendedCell 0) (active (fresh c) b) _ _ refl refl)
 
   machine-cells : (es : List Event) → machineMisses c (planOf c) ds es ≡ cellMisses c ds es
   machine-cells es =

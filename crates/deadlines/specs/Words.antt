@@ -21,7 +21,7 @@ use Rattle.machine.specs.Model.{Model, Outcome}
 use Rattle.machine.specs.Machine.{freshModel, runnerOf, machineStep}
 use Rattle.deadlines.specs.Activation.{chainsTo}
 use Rattle.deadlines.specs.Miss.{Miss, deadlineOf}
-use Rattle.deadlines.specs.DeadlineCells.{offCell, readyCell, movedCell, rowOf, matchesOf}
+use Rattle.deadlines.specs.DeadlineCells.{suspendedCell, readyCell, movedCell, rowOf, matchesOf}
 
 -- a request of it waits, or it has begun: it goes on by its priority, or is aside
 abbrev pub activeAt : Model → ℕ → Bool
@@ -59,7 +59,7 @@ machineRow c p ds k m xs (e ∷ es) =
 
 abbrev pub freshCellBy : Plan → List ℕ → ℕ → Cell
 freshCellBy p ds b =
-    cond (activeAt (freshModel p) (planRank p b)) (readyCell (deadlineOf ds b)) (offCell (deadlineOf ds b))
+    cond (activeAt (freshModel p) (planRank p b)) (readyCell (deadlineOf ds b)) (suspendedCell (deadlineOf ds b))
 
 abbrev pub machineMisses : Config → Plan → List ℕ → List Event → List Miss
 machineMisses c p ds es = machineRow c p ds 0 (freshModel p) (rowOf (freshCellBy p ds) 0 (c .bodies)) es
