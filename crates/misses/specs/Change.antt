@@ -20,7 +20,7 @@ use Rattle.scheduler.specs.Status.{done}
 use Rattle.scheduler.specs.Event.{Event, isTick}
 use Rattle.machine.specs.Model.{Model, Outcome, noRank}
 use Rattle.deadlines.specs.Activation.{chainsTo}
-use Rattle.deadlines.specs.DeadlineCells.{offCell, readyCell, movedCell, rowOf}
+use Rattle.deadlines.specs.DeadlineCells.{suspendedCell, readyCell, movedCell, rowOf}
 use Rattle.misses.specs.declared.change.Change.{Change}
 
 abbrev pub awakeIn : ℕ → ℕ → ℕ → ℕ
@@ -62,7 +62,7 @@ abbrev pub rowBy : Change → List ℕ → List ℕ → ℕ → List Cell → Li
 rowBy x rs ds n xs = rowOf (λ b. cellBy x b (getD rs b 0) (getD ds b 0) (getD xs b blankCell)) 0 n
 
 abbrev pub freshCellIn : Bool → ℕ → Cell
-freshCellIn awake D = cond awake (readyCell D) (offCell D)
+freshCellIn awake D = cond awake (readyCell D) (suspendedCell D)
 
 abbrev pub freshRowBy : ℕ → List ℕ → List ℕ → ℕ → List Cell
 freshRowBy w rs ds n = rowOf (λ b. freshCellIn (has w (getD rs b 0)) (getD ds b 0)) 0 n

@@ -4,7 +4,7 @@ ghost use mathlib.Core.Bool.{not, _&&_, _||_};
 ghost use Prim.Native.Nat.{_≤_};
 ghost use lib.ListN.{take};
 ghost use Rattle.config.specs.Value.{maxBodies};
-ghost use Rattle.deadlines.specs.DeadlineCells.{offCell, readyCell, countedCell};
+ghost use Rattle.deadlines.specs.DeadlineCells.{suspendedCell, readyCell, countedCell};
 ghost use Rattle.misses.specs.Change.{cellAfter, cellBy, rowBy, freshCellIn, freshRowBy};
 use crate::change::Change;
 use cell::Cell;
@@ -113,7 +113,7 @@ fn started_cell(deadline: u16) -> Cell
 }
 
 fn resting_cell(deadline: u16) -> Cell
-    ensures { λ r. ⌜ r ≡ offCell deadline ⌝ }
+    ensures { λ r. ⌜ r ≡ suspendedCell deadline ⌝ }
 {
     Cell::start(deadline, deadline, 0).stop()
 }

@@ -8,7 +8,7 @@ use mathlib.Core.Path.{_≡_}
 use mathlib.Core.Logic.{_≢_, _↔_}
 use mathlib.Core.Bool.{true, false}
 use mathlib.Core.List.{List, [], _∷_, _++_, map, List·Memᴰ}
-use lib.ListN.{length, take, drop}
+use lib.ListN.{length, getD, take, drop}
 use Rattle.number.specs.Refusal.{none, malformed}
 use Rattle.number.specs.Number as Number
 use Rattle.number.specs.Number.{numberBound, Bytes, readNumber, numberBytes}
@@ -52,6 +52,7 @@ use Rattle.waiting.specs.Finishes.{BeginsAt}
 use Rattle.waiting.specs.Result.{waitIn}
 use Rattle.waiting.proofs.Theorems as Waiting
 use Rattle.deadlines.specs.Miss.{Miss, MissedDeadline, IsMiss, InOrder, deadlinesOf, misses}
+use Rattle.deadlines.specs.Report.{BytesOf, firstMisses, missBytes}
 use Rattle.deadlines.specs.DeadlineCells.{cellAfter}
 use Rattle.deadlines.specs.Words.{machineMisses}
 use Rattle.deadlines.proofs.Theorems as Deadlines
@@ -207,6 +208,11 @@ misses-members = Deadlines.misses-members
 
 pub misses-order : (c : Config) (ds : List ℕ) (es : List Event) → InOrder (misses c ds es)
 misses-order = Deadlines.misses-order
+
+-- "the list is the first 64 of them"
+pub first-listed : (ms : List Miss) (i : ℕ) (none : Miss) → i < 64 → i < length ms
+    → BytesOf (missBytes (firstMisses ms)) i (getD ms i none)
+first-listed = Deadlines.first-listed
 
 -- A12: the grammar, "written down without the parser", "accepts exactly the same texts", with the same configuration
 pub accepted-exactly : (t : List ℕ) (c : Config) → Describes t c
