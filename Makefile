@@ -110,7 +110,7 @@ dist: lib host tool
 # The bench tool: build/osek --help
 tool: need-cargo lib
 	@cargo build --quiet --release --offline --locked --manifest-path tool/Cargo.toml --target-dir tool/target
-	@install tool/target/release/osek build/osek
+	@cmp -s tool/target/release/osek build/osek || install tool/target/release/osek build/osek
 	@echo 'build/osek --help lists its commands'
 
 # The emulated unit, and its checks; skipped with a word where its packages can't be had
