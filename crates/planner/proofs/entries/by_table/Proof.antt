@@ -34,29 +34,11 @@ loop-holds : tie.Need-loop-holds Inv-loop μ-loop
 unfolding stored entriesBefore
 loop-holds c = (omega arith, omega arith, refl, refl)
 
-array-read-k : tie.Need-array-read-k Inv-loop μ-loop
-array-read-k c = omega arith
-
-cast-k : tie.Need-cast-k Inv-loop μ-loop
-cast-k c = search needs
-
-at-most-requires : tie.Need-at-most-requires Inv-loop μ-loop
-at-most-requires c κs = tt
-
 cast-first : tie.Need-cast-first Inv-loop μ-loop
 cast-first c = omega (arith, c .at-most .ensures)
 
-array-write-first : tie.Need-array-write-first Inv-loop μ-loop
-array-write-first c = omega arith
-
 add-e : tie.Need-add-e Inv-loop μ-loop
 add-e c = omega (arith, small (c .before .before .before) (c .before .before .loop .t) (omega arith))
-
-add-t : tie.Need-add-t Inv-loop μ-loop
-add-t c = omega arith
-
-loop-less : tie.Need-loop-less Inv-loop μ-loop
-loop-less c = omega arith
 
 loop-again : tie.Need-loop-again Inv-loop μ-loop
 loop-again c = let a = c .before .before .before .args in let l = c .before .before .loop in
@@ -67,9 +49,6 @@ loop-again c = let a = c .before .before .before .args in let l = c .before .bef
       table-passed (a .t1) (l .t) (l .e) (omega (arith, sized (c .before .before .before))) (l .inv .2),
       stored-step _ _ _ _ (l .inv .3) refl known,
     )
-
-at-most-requires-2 : tie.Need-at-most-requires-2 Inv-loop μ-loop
-at-most-requires-2 c κs = tt
 
 returns : tie.Need-returns Inv-loop μ-loop
 returns c = let h : c .before .before .loop .t ≡ c .before .before .before .args .n = omega arith in
@@ -82,14 +61,14 @@ by-table-spec =
     Inv-loop
     μ-loop
     loop-holds
-    array-read-k
-    cast-k
-    at-most-requires
+    (λ c. search needs)
+    (λ c. search needs)
+    (λ c κs. search needs)
     cast-first
-    array-write-first
+    (λ c. search needs)
     add-e
-    add-t
-    loop-less
+    (λ c. search needs)
+    (λ c. search needs)
     loop-again
-    at-most-requires-2
+    (λ c κs. search needs)
     returns)

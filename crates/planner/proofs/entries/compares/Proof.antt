@@ -7,6 +7,7 @@ use Rattle.config.specs.Value.{maxEntries}
 use Rattle.plan.specs.Stored.{stored, listed}
 use Rattle.plan.specs.Entry.{entryCompareIn}
 use Rattle.plan.proofs.Stored.{stored-step}
+use borrow.Author.Needs.{needs}
 use Rattle.planner.proofs.entries.compares.Statement.{statement}
 use Rattle.planner.proofs.entries.compares.Tie as tie
 
@@ -20,24 +21,6 @@ abbrev μ-loop : tie.MeasureT-loop
 loop-holds : tie.Need-loop-holds Inv-loop μ-loop
 unfolding stored
 loop-holds c = (omega arith, refl)
-
-table-of-requires : tie.Need-table-of-requires Inv-loop μ-loop
-table-of-requires c κs = tt
-
-compare-requires : tie.Need-compare-requires Inv-loop μ-loop
-compare-requires c κs = tt
-
-mul-t : tie.Need-mul-t Inv-loop μ-loop
-mul-t c = omega arith
-
-array-write-t : tie.Need-array-write-t Inv-loop μ-loop
-array-write-t c = omega arith
-
-add-e : tie.Need-add-e Inv-loop μ-loop
-add-e c = omega arith
-
-loop-less : tie.Need-loop-less Inv-loop μ-loop
-loop-less c = omega arith
 
 loop-again : tie.Need-loop-again Inv-loop μ-loop
 loop-again c =
@@ -55,11 +38,11 @@ compares-spec =
     Inv-loop
     μ-loop
     loop-holds
-    table-of-requires
-    compare-requires
-    mul-t
-    array-write-t
-    add-e
-    loop-less
+    (λ c κs. search needs)
+    (λ c κs. search needs)
+    (λ c. search needs)
+    (λ c. search needs)
+    (λ c. search needs)
+    (λ c. search needs)
     loop-again
     returns)

@@ -22,24 +22,6 @@ loop-holds : tie.Need-loop-holds Inv-loop μ-loop
 unfolding stored
 loop-holds c = (omega arith, refl)
 
-array-read-b : tie.Need-array-read-b Inv-loop μ-loop
-array-read-b c = omega arith
-
-cast-b : tie.Need-cast-b Inv-loop μ-loop
-cast-b c = search needs
-
-rank-of-requires : tie.Need-rank-of-requires Inv-loop μ-loop
-rank-of-requires c κs = tt
-
-array-write-t : tie.Need-array-write-t Inv-loop μ-loop
-array-write-t c = omega arith
-
-add-e : tie.Need-add-e Inv-loop μ-loop
-add-e c = omega arith
-
-loop-less : tie.Need-loop-less Inv-loop μ-loop
-loop-less c = omega arith
-
 loop-again : tie.Need-loop-again Inv-loop μ-loop
 loop-again c = (omega arith, stored-step _ _ _ _ (c .before .before .loop .inv .1) refl (c .rank-of .ensures))
 
@@ -54,11 +36,11 @@ entry-ranks-spec =
     Inv-loop
     μ-loop
     loop-holds
-    array-read-b
-    cast-b
-    rank-of-requires
-    array-write-t
-    add-e
-    loop-less
+    (λ c. search needs)
+    (λ c. search needs)
+    (λ c κs. search needs)
+    (λ c. search needs)
+    (λ c. search needs)
+    (λ c. search needs)
     loop-again
     returns)

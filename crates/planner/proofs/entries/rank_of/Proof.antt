@@ -9,9 +9,6 @@ use Rattle.plan.proofs.Stored.{getD-any}
 use Rattle.planner.proofs.entries.rank_of.Statement.{statement}
 use Rattle.planner.proofs.entries.rank_of.Tie as tie
 
-array-read-result : tie.Need-array-read-result
-array-read-result c = search needs
-
 returns : tie.Need-returns
 returns c = let a = c .before .args in
     let l : length (a .t1) ≡ maxBodies = search needs in
@@ -23,4 +20,4 @@ returns-2 c = let a = c .before .args in
     sym (List·getD-eq-default (a .t1) noRank {n = a .b} (omega arith))
 
 pub rank-of-spec : {M : Type 1} → statement M
-rank-of-spec = tie.close (tie.spec array-read-result returns returns-2)
+rank-of-spec = tie.close (tie.spec (λ c. search needs) returns returns-2)

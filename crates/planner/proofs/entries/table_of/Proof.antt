@@ -23,22 +23,10 @@ long c = search needs
 loop-holds : tie.Need-loop-holds Inv-loop μ-loop
 loop-holds c = (omega arith, omega arith)
 
-array-read-k : tie.Need-array-read-k Inv-loop μ-loop
-array-read-k c = omega arith
-
-cast-k : tie.Need-cast-k Inv-loop μ-loop
-cast-k c = search needs
-
 returns : tie.Need-returns Inv-loop μ-loop
 returns c = let a = c .before .before .before .args in let l = c .before .before .loop in
     let inside : l .t < length (a .t1) = omega (arith, long (c .before .before .before)) in
     omega (arith, table-here (a .t1) (l .t) (l .left) inside (c .if1 .taken), l .inv .1)
-
-add-t : tie.Need-add-t Inv-loop μ-loop
-add-t c = omega arith
-
-loop-less : tie.Need-loop-less Inv-loop μ-loop
-loop-less c = omega arith
 
 loop-again : tie.Need-loop-again Inv-loop μ-loop
 loop-again c = let a = c .before .before .before .args in let l = c .before .before .loop in
@@ -56,10 +44,10 @@ table-of-spec =
     Inv-loop
     μ-loop
     loop-holds
-    array-read-k
-    cast-k
+    (λ c. search needs)
+    (λ c. search needs)
     returns
-    add-t
-    loop-less
+    (λ c. search needs)
+    (λ c. search needs)
     loop-again
     returns-2)

@@ -9,6 +9,7 @@ use Rattle.config.specs.Meaning.{greatestIn}
 use Rattle.plan.specs.Stored.{stored, listed}
 use Rattle.plan.specs.Marked.{marked}
 use Rattle.plan.proofs.Stored.{stored-step}
+use borrow.Author.Needs.{needs}
 use Rattle.planner.proofs.resources.by_resource.Statement.{statement}
 use Rattle.planner.proofs.resources.by_resource.Tie as tie
 
@@ -29,33 +30,6 @@ loop-holds : tie.Need-loop-holds Inv-loop μ-loop
 unfolding stored
 loop-holds c = (omega arith, refl, refl)
 
-mul-m : tie.Need-mul-m Inv-loop μ-loop
-mul-m c = omega arith
-
-array-read-m : tie.Need-array-read-m Inv-loop μ-loop
-array-read-m c = omega arith
-
-ceiling-requires : tie.Need-ceiling-requires Inv-loop μ-loop
-ceiling-requires c κs = omega arith
-
-array-write-by : tie.Need-array-write-by Inv-loop μ-loop
-array-write-by c = omega arith
-
-user-ranks-requires : tie.Need-user-ranks-requires Inv-loop μ-loop
-user-ranks-requires c κs = omega arith
-
-mul-users : tie.Need-mul-users Inv-loop μ-loop
-mul-users c = omega arith
-
-array-write-users : tie.Need-array-write-users Inv-loop μ-loop
-array-write-users c = omega arith
-
-add-r : tie.Need-add-r Inv-loop μ-loop
-add-r c = omega arith
-
-loop-less : tie.Need-loop-less Inv-loop μ-loop
-loop-less c = omega arith
-
 loop-again : tie.Need-loop-again Inv-loop μ-loop
 loop-again c = let w = c .before in let l = w .before .before .loop in (
   omega arith,
@@ -74,14 +48,14 @@ by-resource-spec =
     Inv-loop
     μ-loop
     loop-holds
-    mul-m
-    array-read-m
-    ceiling-requires
-    array-write-by
-    user-ranks-requires
-    mul-users
-    array-write-users
-    add-r
-    loop-less
+    (λ c. search needs)
+    (λ c. search needs)
+    (λ c κs. search needs)
+    (λ c. search needs)
+    (λ c κs. search needs)
+    (λ c. search needs)
+    (λ c. search needs)
+    (λ c. search needs)
+    (λ c. search needs)
     loop-again
     returns)

@@ -24,18 +24,6 @@ long c = let l : length (c .args .t2) ≡ 32 = search needs in omega arith
 loop-holds : tie.Need-loop-holds Inv-loop μ-loop
 loop-holds c = (omega arith, omega arith)
 
-array-read-greater : tie.Need-array-read-greater Inv-loop μ-loop
-array-read-greater c = omega arith
-
-greater-requires : tie.Need-greater-requires Inv-loop μ-loop
-greater-requires c κs = tt
-
-add-b : tie.Need-add-b Inv-loop μ-loop
-add-b c = omega arith
-
-loop-less : tie.Need-loop-less Inv-loop μ-loop
-loop-less c = omega arith
-
 loop-again : tie.Need-loop-again Inv-loop μ-loop
 loop-again c = let a = c .before .before .before .args in let l = c .before .before .loop in
     let fits = long (c .before .before .before) in
@@ -60,9 +48,9 @@ ceiling-spec =
     Inv-loop
     μ-loop
     loop-holds
-    array-read-greater
-    greater-requires
-    add-b
-    loop-less
+    (λ c. search needs)
+    (λ c κs. search needs)
+    (λ c. search needs)
+    (λ c. search needs)
     loop-again
     returns)
