@@ -1,6 +1,7 @@
 // The bench program: runs `config.bin` and `trace.bin` of the current folder, and prints the answers
 // or the refusal. Everything goes to standard output.
 use config_codec::read_config;
+use event::MAX_TRACE;
 use event_codec::read_event;
 use kernel::osek_run;
 use libc::STDOUT_FILENO;
@@ -16,7 +17,7 @@ const NO_TRACE: u64 = 41;
 const REFUSAL: u64 = 0x1_0000_0000;
 
 // No trace has more events than bytes.
-const MAX_EVENTS: usize = 8192;
+const MAX_EVENTS: usize = MAX_TRACE;
 
 // In the place of a runner: nobody runs.
 const IDLE: u64 = 255;

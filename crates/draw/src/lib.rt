@@ -4,6 +4,8 @@ mod generator;
 mod trace;
 mod weights;
 
+use event::MAX_TRACE;
+use event::TRACE_TOO_LONG;
 use number::NO_ROOM;
 use number::Written;
 use trace::measure;
@@ -16,10 +18,6 @@ ghost use Rattle.drawing.specs.Drawing.{drawBytes};
 ghost use Rattle.drawing.specs.Answer.{zeroLimit, writingTrace, drawAnswer, filled, drawOutput, drawResult};
 ghost use Rattle.draw.specs.Drawable.{Drawable};
 
-const MAX_TRACE: usize = 8192;
-
-// The trace would be longer than that.
-const TRACE_TOO_LONG: u8 = 20;
 // The start value is 0.
 const ZERO_START: u8 = 50;
 // All weights are 0, or a limit is.

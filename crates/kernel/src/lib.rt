@@ -7,6 +7,8 @@ mod play;
 use answer::answer;
 use config_codec::read_config;
 use count::count_events;
+use event::MAX_TRACE;
+use event::TRACE_TOO_LONG;
 use model::Model;
 use number::NO_ROOM;
 ghost use mathlib.Core.Path.{_≡_};
@@ -17,11 +19,6 @@ ghost use Rattle.run.specs.Run.{runResult, runOutput};
 ghost use Rattle.run.specs.Steps.{machineOutput, lastModel};
 ghost use Rattle.machine.specs.Machine.{unstarted};
 ghost use Rattle.model.specs.View.{modelOf};
-
-const MAX_TRACE: usize = 8192;
-
-// The trace is longer than that.
-const TRACE_TOO_LONG: u8 = 20;
 
 // How a run ends: the number of events, or a refusal with its place, and the model that the last event handed back.
 pub struct RunEnd {

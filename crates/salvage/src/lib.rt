@@ -2,17 +2,14 @@
 mod walk;
 mod write;
 
+use event::MAX_TRACE;
+use event::TRACE_TOO_LONG;
 use number::NO_ROOM;
 use walk::measure;
 use write::write_both;
 ghost use mathlib.Core.Path.{_≡_};
 ghost use lib.ListN.{length};
 ghost use Rattle.salvage.specs.Salvage.{salvaged, eventsAfter, stretchesAfter, resultOf, refused};
-
-const MAX_TRACE: usize = 8192;
-
-// The trace is longer than that.
-const TRACE_TOO_LONG: u8 = 20;
 
 // How many bytes the kept events and the list of stretches take.
 pub struct Lengths {
