@@ -9,6 +9,8 @@ ghost use Rattle.machine.specs.Cells.{isOn, hasTurn, countersTicked, switchFor,
 ghost use Rattle.cells.specs.Methods.{tallyWith, group, marksWord};
 ghost use Rattle.word.specs.Word.{has};
 use cell::Cell;
+use config::MAX_BODIES;
+use config::MAX_ENTRIES;
 use stack::NO_BYTE;
 use word::has;
 use word::with;
@@ -24,10 +26,10 @@ pub use lookup::word_at;
 pub const NO_RANK: u8 = NO_BYTE;
 
 // One cell for each entry that there may be.
-const CELLS: usize = 64;
+const CELLS: usize = MAX_ENTRIES;
 
 // One loss count for each body that there may be.
-const BODIES: usize = 32;
+const BODIES: usize = MAX_BODIES;
 
 // The switch of a cell (its enable): a number as wide as a counter, so that the compiler ticks several cells at once.
 pub const OFF: u16 = 0;

@@ -22,9 +22,6 @@ use stack::Row;
 // The level that a time-triggered task runs at, and nobody else.
 const EXECUTION_LEVEL: u8 = 201;
 
-// The level that a request of one is compared with.
-const TRIGGER_LEVEL: u8 = 202;
-
 // The statuses (OSEK's status codes) of an event. One that is refused changes nothing.
 pub const DONE: u8 = 0;
 

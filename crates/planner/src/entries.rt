@@ -1,9 +1,9 @@
 // Tables and their entries: where a table's entries begin, and what each entry's cell has.
-use crate::MAX_BODIES;
-use crate::MAX_ENTRIES;
-use crate::MAX_TABLES;
 use crate::NO_RANK;
 use crate::at_most;
+use config::MAX_BODIES;
+use config::MAX_ENTRIES;
+use config::MAX_TABLES;
 ghost use mathlib.Core.Path.{_≡_};
 ghost use Prim.Native.Nat.{_-_, _≤_};
 ghost use lib.ListN.{getD, replicate};

@@ -4,6 +4,11 @@ mod entries;
 mod resources;
 
 use config::Config;
+use config::EXTENDED;
+use config::ISR;
+use config::MAX_BODIES;
+use config::MAX_RESOURCES;
+use config::MAX_TABLES;
 use plan::Plan;
 ghost use mathlib.Core.Path.{_≡_};
 ghost use Prim.Native.Nat.{min};
@@ -12,27 +17,10 @@ ghost use Rattle.plan.specs.Plan.{planOf};
 // The rank of whatever has none.
 pub const NO_RANK: u8 = 255;
 
-// The kinds that are asked for, and the flag of an autostart task.
-const ISR: u8 = 1;
-
-const EXTENDED: u8 = 2;
-
-const TIME_TRIGGERED: u8 = 3;
-
+// The flag of an autostart task.
 const AUTOSTART: u8 = 1;
 
-// The level of a request of a time-triggered task, above the one that it runs at.
-const TRIGGER_LEVEL: u8 = 202;
-
 const MAX_PRIORITY: u16 = 200;
-
-const MAX_BODIES: usize = 32;
-
-const MAX_RESOURCES: usize = 16;
-
-const MAX_TABLES: usize = 8;
-
-const MAX_ENTRIES: usize = 64;
 
 // The plan of a configuration.
 pub fn plan_of(config: Config) -> Plan

@@ -1,5 +1,7 @@
 // How long a body waits to begin: how many bodies end before it does, counted by bits of the last model's words.
 use config::Config;
+use config::EXTENDED;
+use config::TIME_TRIGGERED;
 use config_codec::read_config;
 use kernel::run;
 use planner::plan_of;
@@ -15,11 +17,6 @@ ghost use Rattle.word.specs.Word.{ranks};
 ghost use Rattle.waiting.specs.Conditions.{someBeyondBasic};
 ghost use Rattle.waiting.specs.Result.{waitResult};
 ghost use Rattle.waiting.specs.Words.{jobsAheadIn, waitAt, waitBy};
-
-// The kinds of the configurations that are refused.
-const EXTENDED: u8 = 2;
-
-const TIME_TRIGGERED: u8 = 3;
 
 // Refusals, each at place 0.
 const OTHER_KINDS: u64 = 35 << 32;
