@@ -24,8 +24,21 @@ pub const MIXED_TABLE: u8 = 14;
 
 // An ISR's kind; whatever is no ISR is a task.
 pub const ISR: u8 = 1;
+// An extended task's kind.
+pub const EXTENDED: u8 = 2;
 // A time-triggered task's kind.
 pub const TIME_TRIGGERED: u8 = 3;
+// The level that a request of a time-triggered task is compared with, above the one that it runs at.
+pub const TRIGGER_LEVEL: u8 = 202;
+
+// How many bodies, resources, tables and entries of all tables there are at most.
+pub const MAX_BODIES: usize = 32;
+
+pub const MAX_RESOURCES: usize = 16;
+
+pub const MAX_TABLES: usize = 8;
+
+pub const MAX_ENTRIES: usize = 64;
 
 // Which number of a configuration comes next.
 pub enum Field {
@@ -83,18 +96,3 @@ pub struct ConfigRead {
     pub refusal: u8,
     pub place: usize,
 }
-
-// An extended task's kind.
-pub const EXTENDED: u8 = 2;
-
-// How many bodies, resources, tables and entries of all tables there are at most.
-pub const MAX_BODIES: usize = 32;
-
-pub const MAX_RESOURCES: usize = 16;
-
-pub const MAX_TABLES: usize = 8;
-
-pub const MAX_ENTRIES: usize = 64;
-
-// The level that a request of a time-triggered task is compared with, above the one that it runs at.
-pub const TRIGGER_LEVEL: u8 = 202;
