@@ -151,6 +151,7 @@ fn waiting_is_no_end_and_being_resumed_is_no_readiness() {
     let config = with_deadlines(&EXTENDED, &[3, 0]);
     // It waits for bit 0, and nobody sets it.
     assert_misses(&config, &[10, 1, 6, 6, 6, 6], &[(3, 0)]);
+    assert_misses(&config, &[6, 10, 1, 6, 6, 6], &[(3, 0)]);
     // The ISR sets it after the first Tick, and the task goes on.
     let resumed = [10, 1, 6, 7, 1, 11, 0, 1, 2];
     assert_misses(&config, &[&resumed[..], &[6, 6, 6, 6, 6]].concat(), &[(3, 0)]);
