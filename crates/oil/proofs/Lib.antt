@@ -3,7 +3,11 @@ mod Classes
 mod Comment
 mod Tokens
 mod Walks
+mod TokenNumbers
+mod Gathering
+mod Order
+mod FirstUse
 mod Digits
+mod Hash
 mod Ranges
-mod KeptNames
 mod Answer

@@ -1,2 +1,3 @@
 -- What the contracts of `oil` cite beside the grammar's definitions.
-pub mod Kept
+pub mod Tokens
+pub mod Names

@@ -2,6 +2,7 @@
 mod automaton;
 mod bytes;
 mod meaning;
+mod names;
 mod next;
 mod place;
 mod sorts;

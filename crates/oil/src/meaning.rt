@@ -227,16 +227,19 @@ fn put_object(c: Config, w: u8) -> Config
     with_kind(c, kind_of(w))
 }
 
-// `c` with the users of the RESOURCE that is named by the bytes from `start` to `end`.
+// `c` with the users of the RESOURCE that is named by the bytes from `start` to `end`, if a configuration has room for it.
 fn put_name(text: &[u8], tokens: usize, kind: u8, c: Config, start: usize, end: usize) -> Config
     requires { ⌜ (start ≤ end) × (end ≤ length (now text)) ⌝ }
     ensures { λ r. ⌜ r ≡ cond (isResource kind) (withUsers c (c .resources)
         (mask tokens (now (text .entry)) 0 fresh (take (end - start) (drop start (now (text .entry)))) 0 0)) c ⌝ }
 {
-    if kind == RESOURCE {
-        return with_users(c, mask(text, tokens, start, end));
+    if kind != RESOURCE {
+        return c;
     }
-    c
+    if MAX_RESOURCES <= c.resources as usize {
+        return c;
+    }
+    with_users(c, mask(text, tokens, start, end))
 }
 
 // `c` with what a token says.

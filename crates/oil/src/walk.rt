@@ -4,6 +4,8 @@ use crate::automaton::after;
 use crate::automaton::fault;
 use crate::automaton::fresh;
 use crate::automaton::names_object;
+use crate::names::first_repeated;
+use crate::names::token_start;
 use crate::next::next_token;
 use crate::sorts::END;
 use crate::sorts::RESOURCE;
@@ -18,11 +20,12 @@ ghost use lib.ListN.{length, take, drop};
 ghost use Rattle.oil_grammar.specs.Token.{same};
 ghost use Rattle.oil_grammar.specs.Next.{spelling};
 ghost use Rattle.oil_grammar.specs.Automaton.{fresh};
-ghost use Rattle.oil_grammar.specs.Walk.{bears, borne, nameFault, faultIn, refusedAt};
+ghost use Rattle.oil_grammar.specs.Walk.{bears, borne, refusedAt};
 ghost use Rattle.oil_grammar.specs.Reader.{walked};
+ghost use Rattle.oil.specs.Tokens.{Ordered};
 
 // Whether a name is wanted that an object, or only a RESOURCE, will bear.
-fn bears(resource: bool, s: Progress) -> bool
+pub fn bears(resource: bool, s: Progress) -> bool
     ensures { λ r. ⌜ r ≡ bears resource s ⌝ }
 {
     let names = names_object(s);
@@ -70,32 +73,6 @@ pub fn borne(text: &[u8], count: usize, resource: bool, start: usize, end: usize
     false
 }
 
-// The refusal of an earlier object's name.
-fn name_fault(text: &[u8], s: Progress, tokens: usize, w: Token) -> u8
-    requires { ⌜ (w .start ≤ w .end) × (w .end ≤ length (now text)) ⌝ }
-    ensures { λ r. ⌜ r ≡ nameFault (now (text .entry)) s tokens w ⌝ }
-{
-    if !names_object(s) {
-        return 0;
-    }
-    if borne(text, tokens, false, w.start, w.end) {
-        return GIVEN_TWICE;
-    }
-    0
-}
-
-// The refusal of a token where the text has come as far as `s` and `tokens` tokens stand before.
-fn fault_in(text: &[u8], s: Progress, tokens: usize, w: Token) -> u8
-    requires { ⌜ (w .start ≤ w .end) × (w .end ≤ length (now text)) ⌝ }
-    ensures { λ r. ⌜ r ≡ faultIn (now (text .entry)) s tokens w ⌝ }
-{
-    let refusal = fault(s, w.sort);
-    if refusal != 0 {
-        return refusal;
-    }
-    name_fault(text, s, tokens, w)
-}
-
 // A refusal and its place.
 pub fn refused_at(refusal: u8, place: usize) -> Found
     ensures { λ r. ⌜ r ≡ refusedAt refusal place ⌝ }
@@ -107,28 +84,52 @@ pub fn refused_at(refusal: u8, place: usize) -> Found
     }
 }
 
-// The first refusal, or the number of tokens.
-pub fn walk(text: &[u8]) -> Found
-    ensures { λ r. ⌜ r ≡ walked (now (text .entry)) ⌝ }
+// The first refusal of a token by its sort alone, or none, with its place and the number of tokens before it.
+fn ordered(text: &[u8]) -> Found
+    ensures { λ r. ⌜ Ordered (now (text .entry)) r ⌝ }
 {
     let mut s = fresh();
     let mut at = 0;
     let mut tokens = 0;
     loop {
         let w = next_token(text, at);
-        let refusal = fault_in(text, s, tokens, w);
+        let refusal = fault(s, w.sort);
         if refusal != 0 {
-            return refused_at(refusal, w.start);
+            return Found {
+                refusal: refusal,
+                place: w.start,
+                tokens: tokens,
+            };
         }
         if w.sort == END {
             return Found {
                 refusal: 0,
-                place: 0,
+                place: w.start,
                 tokens: tokens,
             };
         }
         s = after(s, w.sort);
         at = w.end;
         tokens += 1;
+    }
+}
+
+// The first refusal, or the number of tokens.
+pub fn walk(text: &[u8]) -> Found
+    ensures { λ r. ⌜ r ≡ walked (now (text .entry)) ⌝ }
+{
+    let v = ordered(text);
+    let n = v.tokens;
+    let d = first_repeated(text, n);
+    if d < n {
+        return refused_at(GIVEN_TWICE, token_start(text, d));
+    }
+    if v.refusal != 0 {
+        return refused_at(v.refusal, v.place);
+    }
+    Found {
+        refusal: 0,
+        place: 0,
+        tokens: n,
     }
 }

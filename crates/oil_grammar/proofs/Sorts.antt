@@ -80,11 +80,16 @@ unfolding faultIn
 fault-none t s n w e =
     by-test (eqb (fault s (w .sort)) 0) (λ f. eqb-true (fault s (w .sort)) 0 f) (λ f. rw f at e)
 
-pub going : (t : List ℕ) (at : ℕ) (s : Progress) (n : ℕ) → faultIn t s n (nextToken t at) ≡ 0
+-- a token that is in order and not the end has a byte at least
+pub goes : (t : List ℕ) (at : ℕ) (s : Progress) → fault s (nextToken t at .sort) ≡ 0
     → (nextToken t at .sort ≡ endSort → ⊥) → leb endSort (nextToken t at .sort) ≡ false
 unfolding nextToken
-going t at s n e d =
+goes t at s e d =
     let l = sort-le (skipped t at) (drop (skipped t at) t) in
     by-eq (nextToken t at .sort) unreadableSort
-    (λ u. absurd (unreadable-refused (s .want) s (rw u at (fault-none t s n (nextToken t at) e))))
+    (λ u. absurd (unreadable-refused (s .want) s (rw u at e)))
     (λ u. lt-leb endSort (nextToken t at .sort) (omega arith))
+
+pub going : (t : List ℕ) (at : ℕ) (s : Progress) (n : ℕ) → faultIn t s n (nextToken t at) ≡ 0
+    → (nextToken t at .sort ≡ endSort → ⊥) → leb endSort (nextToken t at .sort) ≡ false
+going t at s n e d = goes t at s (fault-none t s n (nextToken t at) e) d

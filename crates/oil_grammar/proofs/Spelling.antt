@@ -15,12 +15,12 @@ by-test false f g = g refl
 pub false-true : false ≡ true → ⊥
 false-true e = let z : _≡_ {A = ℕ} 0 1 = cc in omega arith
 
-same-refl : (x : List ℕ) → same x x ≡ true
+pub same-refl : (x : List ℕ) → same x x ≡ true
 unfolding same
 same-refl [] = refl
 same-refl (b ∷ x) = rw (eq-eqb b b refl) (same-refl x)
 
-same-equal : (x y : List ℕ) → same x y ≡ true → x ≡ y
+pub same-equal : (x y : List ℕ) → same x y ≡ true → x ≡ y
 unfolding same
 same-equal [] [] e = refl
 same-equal [] (c ∷ y) e = absurd (false-true e)
