@@ -159,6 +159,24 @@ fn counts_are_tested_after_the_whole_text() {
     refused(&(resources(300) + "RESOURCE r299"), 63, 302, 10);
 }
 
+#[test]
+fn every_byte_of_a_name_counts() {
+    let long = |last: char| format!("TASK {}{last} {{ PRIORITY = {}; }};\n", "x".repeat(39), last as u32 - 'a' as u32 + 1);
+    accepted(&(long('a') + &long('b')), &[1, 2, 0, 1, 0, 0, 2, 0, 0, 0]);
+    refused(&(long('a') + &long('b') + &long('a')), 63, 3, 6);
+    accepted("TASK Ab { PRIORITY = 1; }; TASK aB { PRIORITY = 2; };", &[1, 2, 0, 1, 0, 0, 2, 0, 0, 0]);
+    refused("TASK Ab { PRIORITY = 1; RESOURCE = R; }; RESOURCE r { };", 64, 1, 36);
+    accepted("TASK _Zz9 { PRIORITY = 1; };", &[1, 1, 0, 1, 0, 0, 0]);
+}
+
+#[test]
+fn spaces_are_those_of_c() {
+    accepted("\tTASK\u{b}a\u{c}{\rPRIORITY\n= 1;};", &[1, 1, 0, 1, 0, 0, 0]);
+    refused("TASK\u{8}a", 60, 1, 5);
+    refused("TASK\u{e}a", 60, 1, 5);
+    refused("// a\r#\n\t#", 60, 2, 2);
+}
+
 /// How often each refusal was seen, 0 for accepted texts.
 #[test]
 fn drawn_texts_are_read_alike() {
@@ -192,7 +210,7 @@ fn seconds() -> f64 {
     time[0] as f64 + time[1] as f64 * 1e-9
 }
 
-/// Time goes with the length while there are at most 48 objects, however many uses there are.
+/// Time goes with the length where a configuration's 48 objects stand, however many uses there are.
 #[cfg(feature = "linked")]
 #[test]
 fn time_is_linear_in_the_text_for_48_objects() {
@@ -213,4 +231,64 @@ fn time_is_linear_in_the_text_for_48_objects() {
     let (few, many) = (time(1_000), time(16_000));
     println!("{few} s a byte, {many} s");
     assert!(many < 4.0 * few, "{few} s a byte for 1,000 uses, {many} s for 16,000");
+}
+
+/// The hash of a name at a key, as the reading takes it to tell classes of names.
+#[cfg(feature = "linked")]
+fn hash(key: u64, name: &str) -> u64 {
+    name.bytes().fold(0, |hash, byte| (hash * key + u64::from(byte)) % 4_294_967_291)
+}
+
+/// A name of letters for each number.
+#[cfg(feature = "linked")]
+fn named(mut number: usize, length: usize) -> String {
+    let letter = |place: usize| char::from(b"abcdefghijklmnopqrstuvwxyzABCDEFGHIJKLMNOPQRSTUVWXYZ_"[place % 53]);
+    (0..length).map(|_| (letter(number), number /= 53).0).collect()
+}
+
+/// A megabyte of any sort of text takes seconds at most, also where it is refused for its many names.
+#[cfg(feature = "linked")]
+#[test]
+fn a_megabyte_is_read_in_time() {
+    const SIZE: usize = 1_000_000;
+    let fill = |start: &str, part: &dyn Fn(usize) -> String| {
+        let mut text = start.to_string();
+        for number in 0.. {
+            if text.len() >= SIZE {
+                break;
+            }
+            text += &part(number);
+        }
+        text
+    };
+    let object = |name: &str| format!("RESOURCE {name}{{}};");
+    let objects = fill("", &|i| object(&named(i, 3)));
+    let half: String = (0..33_000).map(|i| object(&named(i, 3))).collect();
+    let uses = fill(&(half + "TASK t__{PRIORITY=1;"), &|i| format!("RESOURCE={};", named(i * 7_919 % 33_000, 3)));
+    // At a key that does not go by the text these would be of one class, whether there are 40 or 20 of them.
+    let together: Vec<String> =
+        (0..).map(|i| named(i, 5)).filter(|name| hash(65_599, name) % 840 == 0).take(SIZE / 17).collect();
+    let texts = [
+        ("objects", objects.clone()),
+        ("a name twice at the end", objects.clone() + "ISR aaa{PRIORITY=1;};"),
+        ("uses", uses.clone() + "};"),
+        ("a use that is not borne at the end", uses + "RESOURCE=zzzz;};"),
+        ("names that are alike up to the end", fill("", &|i| object(&("x".repeat(96) + &named(i, 4))))),
+        ("names of one class at a common key", together.iter().map(|name| object(name)).collect()),
+        ("one comment", format!("{ONE}/*{}*/", "/* ".repeat(SIZE / 3))),
+        ("an open comment", format!("{ONE}/*{}", " *".repeat(SIZE / 2))),
+        ("line comments", format!("{ONE}{}", "//\n".repeat(SIZE / 3))),
+        ("one number", format!("TASK a {{ PRIORITY = {}; }};", "9".repeat(SIZE))),
+    ];
+    for (what, text) in &texts {
+        let start = seconds();
+        let (mut bytes, mut place) = ([0; 40], [0; 2]);
+        let result = osek_tests::subject::oil(text.as_bytes(), &mut bytes, &mut place);
+        let time = seconds() - start;
+        println!("{what}: {time} s");
+        let (mut expected, mut there) = ([0; 40], [0; 2]);
+        assert_eq!(result, oil(text.as_bytes(), &mut expected, &mut there), "{what}");
+        assert_eq!((bytes, place), (expected, there), "{what}");
+        assert!(time < 5.0, "{what}: {time} s");
+    }
 }

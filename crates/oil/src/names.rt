@@ -3,6 +3,7 @@
 // none has to be looked for in the text.
 use crate::automaton::after;
 use crate::automaton::fresh;
+use crate::automaton::names_object;
 use crate::automaton::uses_resource;
 use crate::next::next_token;
 use crate::walk::bears;
@@ -26,11 +27,11 @@ const ROOM: usize = 2048;
 // The modulus of the hash.
 const PRIME: u64 = 4294967291;
 
-// The hash goes by a text's own bytes, so that no names fall into one class in every text.
+// The key of a text's own hash. That hash is the key of its names, so that no names fall into one class in every text.
 const TEXT_KEY: u64 = 65599;
 
-// An object has at least five tokens, so that about 1,600 names fall into a class at most.
-const TOKENS_PER_CLASS: usize = 8192;
+// How many names fall into a class: few enough that a class with more names than are kept does not come about by chance.
+const NAMES_PER_CLASS: usize = 1600;
 
 // The names whose hash at `key`, modulo `count`, is `number`.
 pub struct Class {
@@ -231,12 +232,46 @@ fn gather(
     k
 }
 
-// How many classes there are for a text of `tokens` tokens.
-fn classes(tokens: usize) -> u64
+// One more, if so.
+fn counted(n: usize, more: bool) -> usize
+    requires { ⌜ n < 18446744073709551615 ⌝ }
+    ensures { λ r. ⌜ r ≤ n + 1 ⌝ }
+{
+    if more { n + 1 } else { n }
+}
+
+// How many of the first `tokens` tokens are names of objects.
+fn objects(text: &[u8], tokens: usize) -> usize {
+    let mut n = 0;
+    let mut s = fresh();
+    let mut at = 0;
+    let mut i = 0;
+    while i < tokens {
+        let w = next_token(text, at);
+        n = counted(n, names_object(s));
+        s = after(s, w.sort);
+        at = w.end;
+        i += 1;
+    }
+    n
+}
+
+// How many classes there are.
+fn classes(text: &[u8], tokens: usize) -> u64
     ensures { λ r. ⌜ 0 < r ⌝ }
 {
-    let n = tokens / TOKENS_PER_CLASS;
+    let n = objects(text, tokens) / NAMES_PER_CLASS;
     n as u64 + 1
+}
+
+// The key of the hash: with one class any will do.
+fn key_of(text: &[u8], classes: u64) -> u64
+    ensures { λ r. ⌜ r < prime ⌝ }
+{
+    if classes == 1 {
+        return TEXT_KEY;
+    }
+    hash(text, TEXT_KEY, 0, text.len())
 }
 
 // The first of the first `tokens` tokens that is a name of the class and an earlier object's; `tokens` where there is none.
@@ -255,8 +290,8 @@ fn first_of_class(text: &[u8], tokens: usize, c: Class) -> usize
 pub fn first_repeated(text: &[u8], tokens: usize) -> usize
     ensures { λ r. ⌜ Least tokens (repeatedAt (now (text .entry)) false) r ⌝ }
 {
-    let key = hash(text, TEXT_KEY, 0, text.len());
-    let count = classes(tokens);
+    let count = classes(text, tokens);
+    let key = key_of(text, count);
     let mut r = tokens;
     let mut number: u64 = 0;
     while number < count {
@@ -361,8 +396,8 @@ fn missing_of_class(text: &[u8], tokens: usize, bound: usize, c: Class) -> usize
 pub fn first_unborne(text: &[u8], tokens: usize) -> usize
     ensures { λ r. ⌜ Least tokens (unborneNo (now (text .entry)) tokens) r ⌝ }
 {
-    let key = hash(text, TEXT_KEY, 0, text.len());
-    let count = classes(tokens);
+    let count = classes(text, tokens);
+    let key = key_of(text, count);
     let mut r = tokens;
     let mut number: u64 = 0;
     while number < count {

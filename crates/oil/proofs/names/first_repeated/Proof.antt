@@ -11,18 +11,18 @@ use Rattle.oil.proofs.names.first_repeated.Statement.{statement}
 use Rattle.oil.proofs.names.first_repeated.Tie as tie
 
 abbrev Inv-loop : tie.InvT-loop
-Inv-loop text tokens key count r₀ number₀ r number =
+Inv-loop text tokens count key r₀ number₀ r number =
     (number ≤ count)
     × Passed tokens (repeatedAt text false) (λ i. hashed key 0 (spelled text i) % count) number r
 
 abbrev μ-loop : tie.MeasureT-loop
-μ-loop text tokens key count r₀ number₀ r number = count - number
+μ-loop text tokens count key r₀ number₀ r number = count - number
 
 loop-holds : tie.Need-loop-holds Inv-loop μ-loop
 loop-holds c = (omega arith, passed-start)
 
 first-of-class-requires : tie.Need-first-of-class-requires Inv-loop μ-loop
-first-of-class-requires c κs = (c .before .before .before .hash .ensures .1, c .before .before .classes .ensures)
+first-of-class-requires c κs = (c .before .before .key-of .ensures, c .before .before .before .classes .ensures)
 
 loop-again : tie.Need-loop-again Inv-loop μ-loop
 unfolding twiceAt inClass
@@ -34,7 +34,7 @@ returns c =
     let b = c .before .before .before .before .before .args in
     passed-end (c .before .loop .inv .1)
     (λ i.
-    let h = mod-lt (hashed (c .before .before .before .hash .result) 0 (spelled (b .text .now) i)) (c .before .before .classes .ensures) in
+    let h = mod-lt (hashed (c .before .before .key-of .result) 0 (spelled (b .text .now) i)) (c .before .before .before .classes .ensures) in
     let g = c .loop-test .left in
     omega arith)
 
