@@ -1,12 +1,12 @@
 -- Which codes are known, as the arms of a `match` on a code and the count of its arguments show it.
-use Prim.Native.Nat.{ℕ, zero, suc, _≤_, _<_}
+use Prim.Native.Nat.{ℕ, zero, suc, _+_, _*_, _/_, _%_, _^_, _≤_, _<_}
 use mathlib.Core.Path.{_≡_, refl, sym}
-use mathlib.Core.Bool.{Bool, true, false, cond}
-use lib.Dec.{leb}
+use mathlib.Core.Bool.{Bool, true, false, cond, _&&_}
+use lib.Dec.{leb, eqb}
 use native.Mathlib.Omega.{arith}
-use borrow.Author.Tests.{leb-true, le-leb, lt-leb}
+use borrow.Author.Tests.{leb-true, le-leb, lt-leb, eqb-true}
 use Rattle.event.specs.Event.{activate, lastCode, known, arguments, noEvent}
-use Rattle.number.proofs.Cases.{by-test}
+use Rattle.number.proofs.Cases.{by-test, by-lt, and-true}
 use Rattle.event.proofs.Codes.{known-le}
 
 -- a code that is none of 1 to n, as a `match` with an arm for each of them tells it
@@ -26,7 +26,7 @@ known-no-arm code r = let h : lastCode < code = above code lastCode (omega (arit
     simp (le-leb activate code (omega arith), lt-leb code lastCode h)
 
 -- no event has three arguments, so that a count tells a known code from an unknown one
-arguments-le : (code : ℕ) → arguments code ≤ 2
+pub arguments-le : (code : ℕ) → arguments code ≤ 2
 unfolding arguments
 arguments-le code = leb-true (arguments code) 2 (simp (leb-cond, cond-same))
   where
@@ -58,3 +58,22 @@ module _ (code n : ℕ) (same : n ≡ cond (known code) (arguments code) noEvent
       by-test (known code)
       (λ k. let e : n ≡ arguments code = rw k at same in absurd (omega (arith, arguments-le code)))
       (λ u. u)
+
+-- f holds of all numbers below n
+unfoldable allBelow : (ℕ → Bool) → ℕ → Bool
+allBelow f zero = true
+allBelow f (suc n) = allBelow f n && f n
+
+below-all : (f : ℕ → Bool) (n i : ℕ) → allBelow f n ≡ true → i < n → f i ≡ true
+unfolding allBelow
+below-all f zero i h lt = absurd (omega arith)
+below-all f (suc n) i h lt =
+    by-lt i n (λ below. below-all f n i (and-true (allBelow f n) (f n) h .0) below)
+    (λ ge. let e : i ≡ n = omega arith in rw e (and-true (allBelow f n) (f n) h .1))
+
+-- the bytes of an event of a known code, its numbers of a byte each, as a number tells them by two bits for each code
+pub short-lengths : (code : ℕ) → code < 32 → 48994968 / 2 ^ (2 * code) % 4 ≡ cond (known code) (1 + arguments code) 0
+unfolding allBelow known arguments
+short-lengths code lt =
+    eqb-true _ _
+    (below-all (λ i. eqb (48994968 / 2 ^ (2 * i) % 4) (cond (known i) (1 + arguments i) 0)) 32 code refl lt)

@@ -8,9 +8,10 @@ use number_codec::number_length;
 use number_codec::read_number;
 use number_codec::write_number;
 ghost use mathlib.Core.Path.{_≡_};
-ghost use mathlib.Core.Bool.{true, cond};
+ghost use mathlib.Core.Bool.{true, cond, _&&_};
 ghost use mathlib.Core.List.{_∷_, _++_};
-ghost use Prim.Native.Nat.{_+_, _≤_, _<_};
+ghost use Prim.Native.Nat.{_+_, _/_, _%_, _≤_, _<_};
+ghost use lib.Dec.{ltb};
 ghost use lib.ListN.{length};
 ghost use Rattle.number.specs.Refusal.{none};
 ghost use Rattle.number.specs.Number.{numberBytes};
@@ -29,8 +30,11 @@ const IN_TRACE: u8 = 20;
 // In the place of a count of arguments: no event has the code.
 const NO_EVENT: u8 = 3;
 
-// The most bytes of an event whose numbers have one byte each.
-const SHORT: usize = 3;
+// How many bytes are read as one number. An event whose numbers have one byte each has three at most.
+const WORD: usize = 4;
+
+// The bytes of such an event, by its code, two bits each; 0 where no event has the code.
+const SHORT_LENGTHS: u64 = 48994968;
 
 // Where an event ends: the place after it, or a refusal with its place.
 pub struct EventEnd {
@@ -61,27 +65,46 @@ pub fn read_event(trace: &[u8], at: usize) -> EventRead
 }
 
 // Where the event at a place of `trace` ends, or why it is refused and where: as `read_event` says it, without the
-// event. Most numbers of a trace have one byte, so these come first.
+// event. Most numbers of a trace have one byte, so these come first. Where such an event ends is computed, because a
+// branch on the code is one that the processor does not foresee.
 pub fn event_end(trace: &[u8], at: usize) -> EventEnd
     ensures refusal { λ r. ⌜ r .refusal ≡ readEvent (now (trace .entry)) at .refusal ⌝ }
     ensures place { λ r. ⌜ r .place ≡ readEvent (now (trace .entry)) at .place ⌝ }
 {
-    if trace.len() <= at || trace.len() - at < SHORT {
+    if trace.len() <= at || trace.len() - at < WORD {
         return long_end(trace, at);
     }
-    let count = arguments(trace[at] as u32);
-    let next = at + 1;
-    if count == 0 {
-        return short_end(next);
+    let word = word_of(trace[at], trace[at + 1], trace[at + 2], trace[at + 3]);
+    if !is_short(word) {
+        return long_end(trace, at);
     }
-    let first = trace[next];
-    if count == 1 && first < 128 {
-        return short_end(next + 1);
+    let length = short_length(word % 256);
+    if length == 0 {
+        return long_end(trace, at);
     }
-    if count == 2 && first < 128 && trace[next + 1] < 128 {
-        return short_end(next + 2);
-    }
-    long_end(trace, at)
+    short_end(at + length)
+}
+
+// Four bytes as one number, the first the lowest: the compiler makes one load of them.
+fn word_of(a: u8, b: u8, c: u8, d: u8) -> u32
+    ensures { λ r. ⌜ (r % 256 ≡ a) × (r / 256 % 256 ≡ b) × (r / 65536 % 256 ≡ c) ⌝ }
+{
+    a as u32 + 256 * b as u32 + 65536 * c as u32 + 16777216 * d as u32
+}
+
+// Whether the lowest byte is small enough for a code, and the two after it are numbers of one byte.
+fn is_short(word: u32) -> bool
+    ensures { λ r. ⌜ r ≡ (ltb (word % 256) 32 && ltb (word / 256 % 256) 128) && ltb (word / 65536 % 256) 128 ⌝ }
+{
+    (word % 256 < 32) & (word / 256 % 256 < 128) & (word / 65536 % 256 < 128)
+}
+
+// How many bytes an event of this code has, if its numbers have one byte each.
+fn short_length(code: u32) -> usize
+    requires { ⌜ code < 32 ⌝ }
+    ensures { λ r. ⌜ r ≡ cond (known code) (1 + arguments code) 0 ⌝ }
+{
+    ((SHORT_LENGTHS >> 2 * code) % 4) as usize
 }
 
 // The end of an event that is accepted.

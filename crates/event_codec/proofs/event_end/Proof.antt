@@ -1,60 +1,56 @@
 -- `event_end` meets its contract: an event whose numbers have one byte each is accepted as a law of `Reading` says, and
 -- any other is read number by number.
 use Prim.Native.Nat.{_+_, _-_, _≤_}
+use mathlib.Core.Path.{refl}
 use native.Mathlib.Omega.{arith}
 use lib.ListN.{length}
-use borrow.Author.Tests.{ltb-true, ltb-false}
+use borrow.Author.Tests.{ltb-false}
 use borrow.Author.Needs.{needs}
-use Rattle.event_codec.proofs.Arms.{counted}
-use Rattle.event_codec.proofs.Reading.{none-accepted, one-accepted, two-accepted, accepted-as-read}
+use Rattle.event_codec.proofs.Reading.{Short, short-word, some-length, word-accepted, accepted-as-read}
 use Rattle.event_codec.proofs.event_end.Statement.{statement}
 use Rattle.event_codec.proofs.event_end.Tie as tie
 
-cast-arguments : tie.Need-cast-arguments
-cast-arguments c = omega (arith, c .shared-slice-known2 .given (c .before .before .before .before .args .at))
-
-returns-2 : tie.Need-returns-2
-returns-2 c = let s = c .before .before in
-    accepted-as-read
-    (none-accepted _ _ (s .before .before .before .if1 .left)
-    (counted _ _ (s .arguments .ensures) (λ h. omega arith)) (c .before .if3 .taken))
-    (c .short-end .ensures) (omega arith)
-
--- the bytes of the arguments are there
-there : (t : tie.Else2) → t .before .before .before .args .at + 3 ≤ length (t .before .before .before .args .trace .now)
+-- the bytes of the word are there
+there : (t : tie.Else2) → t .before .before .before .args .at + 4 ≤ length (t .before .before .before .args .trace .now)
 there t =
     let a = t .before .before .before .args in
-    let h : 3 ≤ length (a .trace .now) - a .at = ltb-false _ _ (t .if2 .left) in
+    let h : 4 ≤ length (a .trace .now) - a .at = ltb-false _ _ (t .if2 .left) in
     omega (arith, h, t .before .if1 .left)
 
-read-first : tie.Need-shared-slice-read-first
-read-first c = omega (arith, there (c .before .before .before .before))
+read-2 : tie.Need-shared-slice-read-word-of-2
+read-2 c = omega (arith, there (c .before .before))
 
-returns-3 : tie.Need-returns-3
-returns-3 c = let s = c .before .before .before .before .before in
-    accepted-as-read
-    (one-accepted _ _ (s .before .before .before .if1 .left)
-    (counted _ _ (s .arguments .ensures) (λ h. omega arith)) (omega (arith, there (s .before .before)))
-    (ltb-true _ _ (c .before .if5 .taken)) (c .before .before .if4 .taken))
-    (c .short-end2 .ensures) (omega arith)
+read-3 : tie.Need-shared-slice-read-word-of-3
+read-3 c = omega (arith, there (c .before .before .before))
 
-read-second : tie.Need-shared-slice-read-if8
-read-second c = omega (arith, there (c .before .before .before .before .before .before .before .before))
+read-4 : tie.Need-shared-slice-read-word-of-4
+read-4 c = omega (arith, there (c .before .before .before .before))
+
+short-length-requires : tie.Need-short-length-requires
+short-length-requires c κs = short-word (c .before .is-short .ensures) (c .if3 .left) .code
+
+add-short-end : tie.Need-add-short-end
+add-short-end c =
+    let l = c .before in
+    let t = l .before .before .before .before .before .before .before .before in
+    let n = some-length _ (l .short-length .ensures) (c .if4 .left) in
+    omega (arith, there t, n .2)
 
 returns-4 : tie.Need-returns-4
-returns-4 c = let s = c .before .before .before .before .before .before .before .before in
+returns-4 c =
+    let l = c .before .before in
+    let s = l .before .before in
+    let t = s .before .before .before .before .before .before in
     accepted-as-read
-    (two-accepted _ _ (s .before .before .before .if1 .left)
-    (counted _ _ (s .arguments .ensures) (λ h. omega arith)) (omega (arith, there (s .before .before)))
-    (ltb-true _ _ (c .before .before .before .if7 .taken)) (c .before .before .before .before .if6 .taken)
-    (omega (arith, there (s .before .before))) (ltb-true _ _ (c .before .if8 .taken)))
-    (c .short-end3 .ensures) (omega arith)
+    (word-accepted _ _ _ _ (there t) (s .before .word-of .ensures) (short-word (s .is-short .ensures) (l .before .if3 .left))
+    (l .short-length .ensures) (c .before .if4 .left))
+    (c .short-end .ensures) refl
 
 pub event-end-spec : {M : Type 1} → statement M
 event-end-spec =
     tie.close
     (tie.spec
-    (λ c. search needs) (λ c κs. search needs) (λ c. search needs) (λ c. search needs) cast-arguments
-    (λ c κs. search needs) (λ c. search needs) (λ c κs. search needs) returns-2 read-first
-    (λ c. search needs) (λ c κs. search needs) returns-3 (λ c. search needs) read-second (λ c. search needs)
-    (λ c κs. search needs) returns-4 (λ c κs. search needs) (λ c. search needs))
+    (λ c. search needs) (λ c κs. search needs) (λ c. search needs) (λ c. search needs) (λ c. search needs) read-2
+    (λ c. search needs) read-3 (λ c. search needs) read-4 (λ c κs. search needs) (λ c κs. search needs)
+    (λ c κs. search needs) (λ c. search needs) short-length-requires (λ c κs. search needs) (λ c. search needs)
+    add-short-end (λ c κs. search needs) returns-4)
