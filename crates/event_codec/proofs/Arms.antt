@@ -60,7 +60,7 @@ module _ (code n : ℕ) (same : n ≡ cond (known code) (arguments code) noEvent
       (λ u. u)
 
 -- f holds of all numbers below n
-unfoldable allBelow : (ℕ → Bool) → ℕ → Bool
+unfoldable pub allBelow : (ℕ → Bool) → ℕ → Bool
 allBelow f zero = true
 allBelow f (suc n) = allBelow f n && f n
 
@@ -71,9 +71,8 @@ below-all f (suc n) i h lt =
     by-lt i n (λ below. below-all f n i (and-true (allBelow f n) (f n) h .0) below)
     (λ ge. let e : i ≡ n = omega arith in rw e (and-true (allBelow f n) (f n) h .1))
 
--- the bytes of an event of a known code, its numbers of a byte each, as a number tells them by two bits for each code
-pub short-lengths : (code : ℕ) → code < 32 → 48994968 / 2 ^ (2 * code) % 4 ≡ cond (known code) (1 + arguments code) 0
-unfolding allBelow known arguments
-short-lengths code lt =
-    eqb-true _ _
-    (below-all (λ i. eqb (48994968 / 2 ^ (2 * i) % 4) (cond (known i) (1 + arguments i) 0)) 32 code refl lt)
+-- the lengths of events whose numbers have a byte each, as a number t tells them by two bits for each code below 32
+pub short-lengths : (t : ℕ)
+    → allBelow (λ i. eqb (t / 2 ^ (2 * i) % 4) (cond (known i) (1 + arguments i) 0)) 32 ≡ true
+    → (code : ℕ) → code < 32 → t / 2 ^ (2 * code) % 4 ≡ cond (known code) (1 + arguments code) 0
+short-lengths t computed code lt = eqb-true _ _ (below-all _ 32 code computed lt)

@@ -12,7 +12,7 @@ ghost use mathlib.Core.Bool.{true, cond, _&&_};
 ghost use mathlib.Core.List.{_∷_, _++_};
 ghost use Prim.Native.Nat.{_+_, _/_, _%_, _≤_, _<_};
 ghost use lib.Dec.{ltb};
-ghost use lib.ListN.{length};
+ghost use lib.ListN.{length, getD};
 ghost use Rattle.number.specs.Refusal.{none};
 ghost use Rattle.number.specs.Number.{numberBytes};
 ghost use Rattle.number.specs.Output.{unwritten, writing, written};
@@ -74,7 +74,7 @@ pub fn event_end(trace: &[u8], at: usize) -> EventEnd
     if trace.len() <= at || trace.len() - at < WORD {
         return long_end(trace, at);
     }
-    let word = word_of(trace[at], trace[at + 1], trace[at + 2], trace[at + 3]);
+    let word = word_at(trace, at);
     if !is_short(word) {
         return long_end(trace, at);
     }
@@ -85,7 +85,16 @@ pub fn event_end(trace: &[u8], at: usize) -> EventEnd
     short_end(at + length)
 }
 
-// Four bytes as one number, the first the lowest: the compiler makes one load of them.
+// Four bytes as one number, the first the lowest: the compiler makes one load of it.
+fn word_at(bytes: &[u8], at: usize) -> u32
+    requires { ⌜ at + 4 ≤ length (now bytes) ⌝ }
+    ensures { λ r. ⌜ (r % 256 ≡ getD (now (bytes .entry)) at 0) × (r / 256 % 256 ≡ getD (now (bytes .entry)) (at + 1) 0)
+        × (r / 65536 % 256 ≡ getD (now (bytes .entry)) (at + 2) 0) ⌝ }
+{
+    word_of(bytes[at], bytes[at + 1], bytes[at + 2], bytes[at + 3])
+}
+
+// The same of the bytes themselves.
 fn word_of(a: u8, b: u8, c: u8, d: u8) -> u32
     ensures { λ r. ⌜ (r % 256 ≡ a) × (r / 256 % 256 ≡ b) × (r / 65536 % 256 ≡ c) ⌝ }
 {

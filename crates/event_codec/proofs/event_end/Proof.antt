@@ -17,14 +17,8 @@ there t =
     let h : 4 ≤ length (a .trace .now) - a .at = ltb-false _ _ (t .if2 .left) in
     omega (arith, h, t .before .if1 .left)
 
-read-2 : tie.Need-shared-slice-read-word-of-2
-read-2 c = omega (arith, there (c .before .before))
-
-read-3 : tie.Need-shared-slice-read-word-of-3
-read-3 c = omega (arith, there (c .before .before .before))
-
-read-4 : tie.Need-shared-slice-read-word-of-4
-read-4 c = omega (arith, there (c .before .before .before .before))
+word-at-requires : tie.Need-word-at-requires
+word-at-requires c κs = there c
 
 short-length-requires : tie.Need-short-length-requires
 short-length-requires c κs = short-word (c .before .is-short .ensures) (c .if3 .left) .code
@@ -32,7 +26,7 @@ short-length-requires c κs = short-word (c .before .is-short .ensures) (c .if3 
 add-short-end : tie.Need-add-short-end
 add-short-end c =
     let l = c .before in
-    let t = l .before .before .before .before .before .before .before .before in
+    let t = l .before .before .before .before in
     let n = some-length _ (l .short-length .ensures) (c .if4 .left) in
     omega (arith, there t, n .2)
 
@@ -40,9 +34,9 @@ returns-4 : tie.Need-returns-4
 returns-4 c =
     let l = c .before .before in
     let s = l .before .before in
-    let t = s .before .before .before .before .before .before in
+    let t = s .before .before in
     accepted-as-read
-    (word-accepted _ _ _ _ (there t) (s .before .word-of .ensures) (short-word (s .is-short .ensures) (l .before .if3 .left))
+    (word-accepted _ _ _ _ (there t) (s .before .word-at .ensures) (short-word (s .is-short .ensures) (l .before .if3 .left))
     (l .short-length .ensures) (c .before .if4 .left))
     (c .short-end .ensures) refl
 
@@ -50,7 +44,6 @@ pub event-end-spec : {M : Type 1} → statement M
 event-end-spec =
     tie.close
     (tie.spec
-    (λ c. search needs) (λ c κs. search needs) (λ c. search needs) (λ c. search needs) (λ c. search needs) read-2
-    (λ c. search needs) read-3 (λ c. search needs) read-4 (λ c κs. search needs) (λ c κs. search needs)
+    (λ c. search needs) (λ c κs. search needs) (λ c. search needs) word-at-requires (λ c κs. search needs)
     (λ c κs. search needs) (λ c. search needs) short-length-requires (λ c κs. search needs) (λ c. search needs)
     add-short-end (λ c κs. search needs) returns-4)

@@ -1,15 +1,20 @@
 -- The first pass over a trace: what is left to read, after the events counted so far.
-use Prim.Native.Nat.{ℕ, _+_, _≤_, _<_}
+use Prim.Native.Nat.{ℕ, zero, suc, _+_, _≤_, _<_}
 use mathlib.Core.Path.{_≡_, refl, sym, ap, _∙_}
+use mathlib.Core.Bool.{Bool, true, false, _&&_, true≢false}
 use mathlib.Core.List.{List}
 use native.Mathlib.Omega.{arith}
 use native.Mathlib.Nat.{zero-add}
-use lib.ListN.{length}
+use lib.ListN.{length, getD}
+use borrow.Author.Tests.{ne-eqb}
 use Rattle.number.specs.Refusal.{none}
-use Rattle.event.specs.Event.{readEvent}
+use Rattle.number.proofs.Cases.{by-lt, by-eq, and-true}
+use Rattle.event.specs.declared.EventRead.{EventRead}
+use Rattle.event.specs.Event.{finish, tick, known, arguments, readArguments, readEvent}
 use Rattle.event.specs.Trace.{TraceRead, ended, broken, before, readRest, readTrace}
+use Rattle.event.proofs.Reading.{read-byte}
 use Rattle.event.proofs.Theorems.{event-reading, rest-end, rest-step, rest-refused}
-use Rattle.kernel.specs.Passes.{counted}
+use Rattle.kernel.specs.Passes.{counted, bare, Bare}
 
 -- n events lie before the place at, and the rest is that of the whole trace
 pub record Passed (bs : List ℕ) (at n : ℕ) : Type 0 where
@@ -72,3 +77,40 @@ module _ (bs : List ℕ) (at n : ℕ) (p : Passed bs at n) where
             refusal = rw (said .1) (sym (ap (λ (t : TraceRead). t .refusal) more) ∙ p .refusal);
             place = rw (said .1) (sym (ap (λ (t : TraceRead). t .place) more) ∙ p .place);
           }
+
+-- an event without arguments is its code
+module _ (bs : List ℕ) (at : ℕ) (within : at < length bs) where
+  of-code : (k : ℕ) → getD bs at 0 ≡ k → known k ≡ true → arguments k ≡ 0
+      → (none ≡ readEvent bs at .refusal) × (at + 1 ≡ readEvent bs at .place)
+  unfolding readArguments
+  of-code k e is-known no-arguments =
+      let r : readEvent bs at ≡ readArguments 0 bs k (at + 1) = read-byte bs at k within e is-known ∙ rw no-arguments in
+      (sym (ap (λ (x : EventRead). x .refusal) r), sym (ap (λ (x : EventRead). x .place) r))
+
+  bare-read : bare (getD bs at 0) ≡ true → (none ≡ readEvent bs at .refusal) × (at + 1 ≡ readEvent bs at .place)
+  unfolding known arguments
+  bare-read b =
+      by-eq (getD bs at 0) finish (λ e. of-code finish e refl refl)
+      (λ n. by-eq (getD bs at 0) tick (λ e. of-code tick e refl refl)
+      (λ m. absurd (true≢false (sym b ∙ simp (ne-eqb _ _ n, ne-eqb _ _ m)))))
+
+passed-to : {bs : List ℕ} {a n b m : ℕ} → Passed bs a n → a ≡ b → n ≡ m → Passed bs b m
+passed-to p e g = rw (sym e, sym g) p
+
+-- so many of them are passed at once
+pub passed-bare : (bs : List ℕ) (at n : ℕ) → Passed bs at n → (k : ℕ) → Bare bs at k → Passed bs (at + k) (n + k)
+passed-bare bs at n p zero b = passed-to p (omega arith) (omega arith)
+passed-bare bs at n p (suc k) b =
+    passed-to
+    (passed-step bs (at + k) (n + k)
+    (passed-bare bs at n p k (record { inside = omega (arith, b .inside); each = λ i h. b .each i (omega arith) }))
+    (bare-read bs (at + k) (omega (arith, b .inside)) (b .each k (omega arith))) refl)
+    (omega arith) (omega arith)
+
+-- the first i bytes from a place on are such codes, where a search says so that looks at the next
+pub bare-more : (bs : List ℕ) (at i : ℕ) (here all : Bool) → here ≡ bare (getD bs (at + i) 0)
+    → (all ≡ true → (j : ℕ) → j < i → bare (getD bs (at + j) 0) ≡ true)
+    → here && all ≡ true → (j : ℕ) → j < i + 1 → bare (getD bs (at + j) 0) ≡ true
+bare-more bs at i here all e before t j h =
+    let s = and-true here all t in
+    by-lt j i (before (s .1) j) (λ ge. let same : j ≡ i = omega arith in rw same (sym e ∙ s .0))
