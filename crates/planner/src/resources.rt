@@ -1,16 +1,27 @@
 // The ceilings of resources, and their users by rank.
 ghost use mathlib.Core.Path.{_≡_};
+ghost use mathlib.Core.Bool.{cond};
 ghost use Prim.Native.Nat.{_/_, _%_, _^_, _≤_, max};
 ghost use lib.ListN.{take, getD, replicate};
 ghost use Rattle.config.specs.Value.{maxBodies, maxResources};
 ghost use Rattle.config.specs.Meaning.{greatestIn};
 ghost use Rattle.plan.specs.Stored.{listed};
 ghost use Rattle.plan.specs.Marked.{marked};
+ghost use Rattle.word.specs.Word.{with};
 
 fn greater(a: u8, b: u8) -> u8
     ensures { λ r. ⌜ r ≡ max a b ⌝ }
 {
     if a < b { b } else { a }
+}
+
+// The same where the test holds, else the first. Who uses a resource is no pattern that the processor could foresee, so
+// that a choice is quicker here than a branch.
+fn greater_where(test: bool, a: u8, b: u8) -> u8
+    ensures { λ r. ⌜ r ≡ cond test (max a b) a ⌝ }
+{
+    let most = greater(a, b);
+    if test { most } else { a }
 }
 
 // The greatest of the first `n` priorities whose bits are set in `users`.
@@ -22,13 +33,19 @@ fn ceiling(users: u32, priority: [u8; 32], n: usize) -> u8
     let mut r: u8 = 0;
     let mut b = 0;
     while b < n {
-        if m % 2 == 1 {
-            r = greater(r, priority[b]);
-        }
+        r = greater_where(m % 2 == 1, r, priority[b]);
         m = m / 2;
         b += 1;
     }
     r
+}
+
+// The word with this rank where the test holds.
+fn with_where(test: bool, word: u32, rank: u32) -> u32
+    ensures { λ r. ⌜ r ≡ cond test (with word rank) word ⌝ }
+{
+    let all = word::with(word, rank);
+    if test { all } else { word }
 }
 
 // The word of the ranks of the first `n` bodies whose bits are set in `users`, a mask by body number.
@@ -39,9 +56,7 @@ fn user_ranks(users: u32, ranks: [u8; 32], n: usize) -> u32
     let mut w: u32 = 0;
     let mut b = 0;
     while b < n {
-        if (users >> b as u32) % 2 == 1 {
-            w = word::with(w, ranks[b] as u32);
-        }
+        w = with_where((users >> b as u32) % 2 == 1, w, ranks[b] as u32);
         b += 1;
     }
     w

@@ -1,11 +1,12 @@
 -- `ceiling` meets its contract: the greatest so far and what is left to choose from make the whole.
-use Prim.Native.Nat.{_-_, _≤_, max}
+use Prim.Native.Nat.{_-_, _%_, _≤_, max}
 use mathlib.Core.Path.{_≡_, sym, _∙_}
-use mathlib.Core.Logic.{⊎-elim}
 use native.Mathlib.Omega.{arith}
 use native.Mathlib.Numerals.{add-one}
 use lib.ListN.{length, take, drop}
+use borrow.Author.Tests.{eq-eqb, ne-eqb}
 use borrow.Author.Needs.{needs}
+use Rattle.number.proofs.Cases.{by-eq}
 use Rattle.config.specs.Meaning.{greatestIn}
 use Rattle.plan.proofs.Greatest.{chosen-next, unchosen-next, chosen-all}
 use Rattle.planner.proofs.resources.ceiling.Statement.{statement}
@@ -24,6 +25,18 @@ long c = let l : length (c .args .t2) ≡ 32 = search needs in omega arith
 loop-holds : tie.Need-loop-holds Inv-loop μ-loop
 loop-holds c = (omega arith, omega arith)
 
+array-read-greater-where : tie.Need-array-read-greater-where Inv-loop μ-loop
+array-read-greater-where c = omega arith
+
+greater-where-requires : tie.Need-greater-where-requires Inv-loop μ-loop
+greater-where-requires c κs = tt
+
+add-b : tie.Need-add-b Inv-loop μ-loop
+add-b c = omega arith
+
+loop-less : tie.Need-loop-less Inv-loop μ-loop
+loop-less c = omega arith
+
 loop-again : tie.Need-loop-again Inv-loop μ-loop
 loop-again c = let a = c .before .before .before .args in let l = c .before .before .loop in
     let fits = long (c .before .before .before) in
@@ -31,10 +44,9 @@ loop-again c = let a = c .before .before .before .args in let l = c .before .bef
     let unchosen = unchosen-next (l .m) (l .r) (a .n) (a .t2) fits (l .b) (omega arith) in
     rw add-one (
       omega arith,
-      ⊎-elim
-          (λ w. rw (w .2, w .1 .ensures) (chosen (w .0 .taken) ∙ l .inv .1))
-          (λ w. rw (w .1) (unchosen (w .0 .left) ∙ l .inv .1))
-          (c .if1 .came),
+      by-eq (l .m % 2) 1
+          (λ e. rw (c .greater-where .ensures, eq-eqb _ _ e) (chosen e ∙ l .inv .1))
+          (λ n. rw (c .greater-where .ensures, ne-eqb _ _ n) (unchosen n ∙ l .inv .1)),
     )
 
 returns : tie.Need-returns Inv-loop μ-loop
@@ -48,9 +60,9 @@ ceiling-spec =
     Inv-loop
     μ-loop
     loop-holds
-    (λ c. search needs)
-    (λ c κs. search needs)
-    (λ c. search needs)
-    (λ c. search needs)
+    array-read-greater-where
+    greater-where-requires
+    add-b
+    loop-less
     loop-again
     returns)

@@ -1,10 +1,11 @@
 -- `user_ranks` meets its contract: each turn takes in the rank of a body whose bit is set.
 use Prim.Native.Nat.{_-_, _/_, _%_, _^_, _≤_}
 use mathlib.Core.Path.{_≡_, refl, _∙_}
-use mathlib.Core.Logic.{⊎-elim}
 use native.Mathlib.Omega.{arith}
 use lib.ListN.{getD}
+use borrow.Author.Tests.{eq-eqb, ne-eqb}
 use borrow.Author.Needs.{needs}
+use Rattle.number.proofs.Cases.{by-eq}
 use Rattle.plan.specs.Marked.{marked}
 use Rattle.plan.proofs.Words.{marked-step, marked-without}
 use Rattle.planner.proofs.resources.user_ranks.Statement.{statement}
@@ -20,13 +21,33 @@ loop-holds : tie.Need-loop-holds Inv-loop μ-loop
 unfolding marked
 loop-holds c = (omega arith, refl)
 
+cast-with-where : tie.Need-cast-with-where Inv-loop μ-loop
+cast-with-where c = omega arith
+
+shr-with-where : tie.Need-shr-with-where Inv-loop μ-loop
+shr-with-where c = omega arith
+
+array-read-with-where : tie.Need-array-read-with-where Inv-loop μ-loop
+array-read-with-where c = omega arith
+
+cast-with-where-2 : tie.Need-cast-with-where-2 Inv-loop μ-loop
+cast-with-where-2 c = search needs
+
+with-where-requires : tie.Need-with-where-requires Inv-loop μ-loop
+with-where-requires c κs = tt
+
+add-b : tie.Need-add-b Inv-loop μ-loop
+add-b c = omega arith
+
+loop-less : tie.Need-loop-less Inv-loop μ-loop
+loop-less c = omega arith
+
 loop-again : tie.Need-loop-again Inv-loop μ-loop
-loop-again c = let l = c .before .before .loop in (
+loop-again c = let l = c .before .before .loop in let a = c .before .before .before .args in (
   omega arith,
-  ⊎-elim
-      (λ w. w .2 ∙ w .1 .ensures ∙ marked-step _ _ _ _ _ (l .inv .1) (w .0 .taken))
-      (λ w. w .1 ∙ l .inv .1 ∙ marked-without _ _ _ _ (w .0 .left))
-      (c .if1 .came),
+  by-eq (a .users / 2 ^ l .b % 2) 1
+      (λ e. rw (c .with-where .ensures, eq-eqb _ _ e) (marked-step _ _ _ _ _ (l .inv .1) e))
+      (λ n. rw (c .with-where .ensures, ne-eqb _ _ n) (l .inv .1 ∙ marked-without _ _ _ _ n)),
 )
 
 returns : tie.Need-returns Inv-loop μ-loop
@@ -40,12 +61,12 @@ user-ranks-spec =
     Inv-loop
     μ-loop
     loop-holds
-    (λ c. search needs)
-    (λ c. search needs)
-    (λ c. search needs)
-    (λ c. search needs)
-    (λ c κs. search needs)
-    (λ c. search needs)
-    (λ c. search needs)
+    cast-with-where
+    shr-with-where
+    array-read-with-where
+    cast-with-where-2
+    with-where-requires
+    add-b
+    loop-less
     loop-again
     returns)
