@@ -19,7 +19,7 @@ use Rattle.scheduler.specs.Call.{active, requestWaits, caller, finish, finishTi
 use Rattle.scheduler.specs.Tick.{counted, dues}
 use Rattle.scheduler.specs.Scheduler.{begins, phaseBegun, stepBy, leaves, dispatched}
 use Rattle.scheduler.specs.History.{next}
-use Rattle.scheduler.proofs.Effects.{bodyOf-changing-same, bodyOf-changing-other, elseOf-keeps, entered, activatingDue-keeps}
+use Rattle.scheduler.proofs.Event.Effects.{bodyOf-changing-same, bodyOf-changing-other, elseOf-keeps, entered, activatingDue-keeps}
 use Rattle.deadlines.specs.Activation.{isEnd, endsAt}
 
 -- the body b isn't suspended

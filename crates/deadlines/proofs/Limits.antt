@@ -22,7 +22,7 @@ use Rattle.scheduler.specs.Call.{active}
 use Rattle.scheduler.specs.Tick.{counting, entryDue, duesFrom, activatingDue}
 use Rattle.scheduler.specs.Scheduler.{stepBy, fresh}
 use Rattle.scheduler.specs.History.{next, tickCount}
-use Rattle.scheduler.proofs.Examples.{sample, twoAutostart}
+use Rattle.scheduler.proofs.Worked.Examples.{sample, twoAutostart}
 use Rattle.deadlines.specs.Activation.{endsAt, readyAt}
 use Rattle.deadlines.specs.Miss.{noEnd, missedSince, missed, Miss, deadlineOf, misses}
 use Rattle.deadlines.specs.DeadlineCells.{readyCell, countedCell, movedCell, freshCell, rowOf, stepRow, matchesOf, runRow, cellMisses}

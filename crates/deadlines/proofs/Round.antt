@@ -19,8 +19,8 @@ use Rattle.cell.specs.Cell.{tickCellIn}
 use Rattle.cell.specs.Due.{due}
 use Rattle.word.specs.Word.{has, with, without, union, highestBelow, winner}
 use Rattle.stack.specs.Stack.{emptyRow, topRow, secondRow, pushRow, popRow}
-use Rattle.plan.specs.Stored.{stored}
-use Rattle.plan.specs.Marked.{marked}
+use Rattle.plan.specs.Stores.{stored}
+use Rattle.plan.specs.Words.{marked}
 use Rattle.plan.specs.Rank.{below}
 use Rattle.plan.specs.Entry.{tableIn}
 use Rattle.plan.specs.Plan.{planOf}

@@ -13,7 +13,7 @@ use Rattle.event.specs.Event.{activate, finish, chain, get, release, tick, line
 use Rattle.scheduler.specs.Event as Plain
 use Rattle.scheduler.specs.Event.{Activate, Finish, Chain, Get, Release, Tick, Line, Start, Stop, Wait, Set, Clear, isTick}
 use Rattle.scheduler.specs.Status.{done}
-use Rattle.plan.proofs.Stored.{getD-any}
+use Rattle.plan.proofs.Stores.{getD-any}
 use Rattle.machine.specs.Model.{noRank}
 use Rattle.run.specs.Run.{callOf}
 use Rattle.deadlines.specs.Activation.{chainsTo}

@@ -8,7 +8,7 @@ use lib.Seq.{length-take-le}
 use borrow.Author.Tests.{eq-eqb, ne-eqb}
 use Rattle.number.proofs.Cases.{by-eq}
 use Rattle.config.specs.Meaning.{greatestIn}
-use Rattle.plan.proofs.Stored.{drop-take-cons}
+use Rattle.plan.proofs.Stores.{drop-take-cons}
 
 max-assoc : (a b c : ℕ) → max (max a b) c ≡ max a (max b c)
 max-assoc a b c = omega arith

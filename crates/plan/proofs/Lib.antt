@@ -1,11 +1,15 @@
--- The laws of the plan. `Theorems` states them; the others prove them.
+-- The laws of the plan. `Theorems` is the file to read; the others prove it.
+--
+-- In the order of the proof: lists filled in turn, words of ranks, how many are below a number, the greatest that a
+-- mask chooses, the entries of all tables; the ranks and their order; the plan by its parts; what the machine's events
+-- count on.
 pub mod Theorems
-pub mod Fitted
-pub mod Stored
+pub mod Stores
 pub mod Words
-pub mod Below
+pub mod Count
 pub mod Greatest
 pub mod Entry
 pub mod Ranking
 pub mod Order
-pub mod Made
+pub mod Parts
+pub mod Fitted

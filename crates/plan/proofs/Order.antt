@@ -15,7 +15,7 @@ use Rattle.config.specs.Accepted.{Accepted, Shaped}
 use Rattle.config.proofs.Theorems.{priority-inj}
 use Rattle.plan.specs.Rank.{bodyCount, keyOf, keys, rankOf}
 use Rattle.plan.specs.Plan.{triggerOf}
-use Rattle.plan.proofs.Below.{below-mono, below-order}
+use Rattle.plan.proofs.Count.{below-mono, below-order}
 use Rattle.plan.proofs.Ranking as Ranking
 
 module _ (c : Config) (accepted : Accepted c) (shaped : Shaped c) where

@@ -22,12 +22,12 @@ use Rattle.config.specs.Meaning.{isr, extended, timeTriggered, executionLevel, 
 use Rattle.config.specs.Accepted.{Accepted, Shaped}
 use Rattle.config.proofs.Tables.{isTask-true}
 use Rattle.plan.specs.declared.Plan.{Plan}
-use Rattle.plan.specs.Stored.{stored, listed}
-use Rattle.plan.specs.Marked.{marked}
+use Rattle.plan.specs.Stores.{stored, listed}
+use Rattle.plan.specs.Words.{marked}
 use Rattle.plan.specs.Rank.{noRank, keyOf, rankOf, bodyCount, callableRank, lineRank}
 use Rattle.plan.specs.Entry.{entryTable, tableCount, entryCount, tableFirst, compareOf, entryRank}
 use Rattle.plan.specs.Plan.{triggerOf, resourceCount, usersOf, planOf}
-use Rattle.plan.proofs.Stored.{length-stored, stored-at, listed-at, listed-past, getD-any}
+use Rattle.plan.proofs.Stores.{length-stored, stored-at, listed-at, listed-past, getD-any}
 use Rattle.plan.proofs.Words.{marked-has, marked-some, marked-lt}
 use Rattle.plan.proofs.Greatest.{greatestIn-le}
 use Rattle.plan.proofs.Entry.{entriesBefore-le, table-found, table-among}

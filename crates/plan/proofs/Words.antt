@@ -9,7 +9,7 @@ use borrow.Author.Tests.{eq-eqb, ne-eqb}
 use Rattle.number.proofs.Cases.{by-eq}
 use Rattle.word.specs.Word.{ranks, has, with}
 use Rattle.word.proofs.Theorems as Word
-use Rattle.plan.specs.Marked.{marked}
+use Rattle.plan.specs.Words.{marked}
 
 -- only the ranks and fields below n count
 pub marked-cong : (at at′ f : ℕ → ℕ) (v n : ℕ) → ((i : ℕ) → i < n → at i ≡ at′ i) → marked at f v n ≡ marked at′ f v n

@@ -10,8 +10,8 @@ use Rattle.config.specs.declared.Config.{Config}
 use Rattle.config.specs.Value.{maxBodies, maxResources, maxTables, maxEntries}
 use Rattle.config.specs.Meaning.{isr, extended, timeTriggered, triggerLevel, ceiling}
 use Rattle.plan.specs.declared.Plan.{Plan}
-use Rattle.plan.specs.Stored.{stored, listed}
-use Rattle.plan.specs.Marked.{marked}
+use Rattle.plan.specs.Stores.{stored, listed}
+use Rattle.plan.specs.Words.{marked}
 use Rattle.plan.specs.Rank.{bodyCount, rankOf, bodyRanks, callableRanks, lineRanks}
 use Rattle.plan.specs.Entry.{tableCount, entryCount, tableFirst, compareOf, entryRank}
 

@@ -8,7 +8,7 @@ ghost use mathlib.Core.Path.{_≡_};
 ghost use Prim.Native.Nat.{_-_, _≤_};
 ghost use lib.ListN.{getD, replicate};
 ghost use Rattle.config.specs.Value.{maxTables, maxEntries};
-ghost use Rattle.plan.specs.Stored.{listed};
+ghost use Rattle.plan.specs.Stores.{listed};
 ghost use Rattle.plan.specs.Rank.{noRank};
 ghost use Rattle.plan.specs.Entry.{tableIn, firstIn, entryCompareIn};
 

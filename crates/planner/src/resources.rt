@@ -5,8 +5,8 @@ ghost use Prim.Native.Nat.{_/_, _%_, _^_, _≤_, max};
 ghost use lib.ListN.{take, getD, replicate};
 ghost use Rattle.config.specs.Value.{maxBodies, maxResources};
 ghost use Rattle.config.specs.Meaning.{greatestIn};
-ghost use Rattle.plan.specs.Stored.{listed};
-ghost use Rattle.plan.specs.Marked.{marked};
+ghost use Rattle.plan.specs.Stores.{listed};
+ghost use Rattle.plan.specs.Words.{marked};
 ghost use Rattle.word.specs.Word.{with};
 
 fn greater(a: u8, b: u8) -> u8

@@ -19,7 +19,7 @@ use Rattle.scheduler.specs.Choice.{candidate, chosenFrom}
 use Rattle.scheduler.specs.State.{among, heldIn}
 use Rattle.scheduler.specs.Tick.{counting, entryDue, duesFrom, activatingDue}
 use Rattle.scheduler.specs.Scheduler.{Event, Chain, Get, Release, Tick, Line, Start, stepBy, fresh, seen, seenBy}
-use Rattle.scheduler.proofs.Listing.{Row, row, rowOf, listing}
+use Rattle.scheduler.proofs.Worked.Listing.{Row, row, rowOf, listing}
 use Rattle.machine.specs.Cells.{oneMore}
 
 -- a configuration by its bytes

@@ -1,30 +1,15 @@
--- The laws of the plain scheduler. `Theorems` is the file to read; the agreement of machine and scheduler also cites
--- the modules below it. `Listing` is document 01's listing, `Examples` are worked lists of events.
+-- The laws of the plain scheduler. `Theorems` is the file to read.
+--
+-- In the order of the proof: numbers that stand in a list (`Members`); who is chosen, and ties (`Choice`); what an event
+-- checks, does and leaves as it was (`Event`); tables and the entries that are due (`Table`); the order of the started
+-- time-triggered tasks (`Order`); who holds a resource (`Resource`); the editions of the procedure (`Version`). `Worked`
+-- has document 01's listing and lists of events worked out by hand. `Event` and `Choice` cite each other's modules.
 pub mod Theorems
-pub mod Listing
-pub mod Examples
-pub mod Bits
-pub mod EventBits
-pub mod Versions
-pub mod LineLosses
+pub mod Members
 pub mod Choice
-pub mod Checks
-pub mod Conditions
-pub mod Outcomes
-pub mod Effects
-pub mod Refusals
-pub mod Named
-pub mod Tables
-pub mod Requests
-pub mod Losses
-pub mod Apart
-pub mod Ties
-pub mod Dues
-pub mod Entries
-pub mod Timed
-pub mod Distinct
-pub mod Placed
-pub mod Trigger
+pub mod Event
+pub mod Table
 pub mod Order
-pub mod Users
-pub mod Declared
+pub mod Resource
+pub mod Version
+pub mod Worked

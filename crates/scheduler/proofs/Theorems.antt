@@ -32,27 +32,28 @@ use Rattle.scheduler.specs.Entries.{entryOf, entriesOf, entryAt}
 use Rattle.scheduler.specs.History.{AcceptedIn, Ends, next, NoStart, NoStop, tickCount, History, dueMark, DueAt, linesLost, unlost}
 use Rattle.scheduler.specs.Conditions as Conditions
 use Rattle.scheduler.specs.Outcomes as Outcomes
-use Rattle.scheduler.proofs.Bits as Bits
-use Rattle.scheduler.proofs.Conditions as Statuses
-use Rattle.scheduler.proofs.Outcomes as Left
-use Rattle.scheduler.proofs.Versions as Versions
-use Rattle.scheduler.proofs.EventBits as EventBits
-use Rattle.scheduler.proofs.LineLosses as LineLosses
-use Rattle.scheduler.proofs.Choice as Choice
-use Rattle.scheduler.proofs.Checks as Checks
-use Rattle.scheduler.proofs.Effects as Effects
-use Rattle.scheduler.proofs.Refusals as Refusals
-use Rattle.scheduler.proofs.Named as Named
-use Rattle.scheduler.proofs.Requests as Requests
-use Rattle.scheduler.proofs.Users as Users
-use Rattle.scheduler.proofs.Declared as Declared
-use Rattle.scheduler.proofs.Losses as Losses
-use Rattle.scheduler.proofs.Ties as Ties
-use Rattle.scheduler.proofs.Tables as Tables
-use Rattle.scheduler.proofs.Dues as Dues
-use Rattle.scheduler.proofs.Entries as Entries
-use Rattle.scheduler.proofs.Timed as Timed
-use Rattle.scheduler.proofs.Order as Order
+use Rattle.scheduler.proofs.Event.Masks as Bits
+use Rattle.scheduler.proofs.Event.Conditions as Statuses
+use Rattle.scheduler.proofs.Event.Outcomes as Left
+use Rattle.scheduler.proofs.Version.Agreement as Versions
+use Rattle.scheduler.proofs.Event.Bits as EventBits
+use Rattle.scheduler.proofs.Version.Losses as LineLosses
+use Rattle.scheduler.proofs.Choice.Runner as Choice
+use Rattle.scheduler.proofs.Event.Checks as Checks
+use Rattle.scheduler.proofs.Event.Effects as Effects
+use Rattle.scheduler.proofs.Choice.Dispatch as Dispatch
+use Rattle.scheduler.proofs.Event.Refusals as Refusals
+use Rattle.scheduler.proofs.Order.Range as Named
+use Rattle.scheduler.proofs.Event.Requests as Requests
+use Rattle.scheduler.proofs.Resource.Users as Users
+use Rattle.scheduler.proofs.Resource.Refusal as Declared
+use Rattle.scheduler.proofs.Event.Losses as Losses
+use Rattle.scheduler.proofs.Choice.Ties as Ties
+use Rattle.scheduler.proofs.Table.History as Tables
+use Rattle.scheduler.proofs.Table.Dues as Dues
+use Rattle.scheduler.proofs.Table.Entries as Entries
+use Rattle.scheduler.proofs.Table.TimedEntries as Timed
+use Rattle.scheduler.proofs.Order.Invariant as Order
 
 -- what the body k is to the choice
 abbrev pub candidateOf : Config → State → ℕ → Candidate
@@ -271,19 +272,19 @@ pub refused-same : (c : Config) (es : List Event) (e : Event) → step c (after 
     → step c (after c (fresh c) es) e .state ≡ after c (fresh c) es
 refused-same c es e =
     Refusals.refused-same c (after c (fresh c) es) e
-    (Refusals.underway-after c es (fresh c) (Refusals.underway-fresh c))
+    (Dispatch.underway-after c es (fresh c) (Dispatch.underway-fresh c))
 
 pub lost-line : (c : Config) (es : List Event) (i : ℕ) → LostLine c (after c (fresh c) es) (Line i) i
     → step c (after c (fresh c) es) (Line i) .state ≡ changing i loses (after c (fresh c) es)
 lost-line c es i =
-    Refusals.lost-line c (after c (fresh c) es) i (Refusals.underway-after c es (fresh c) (Refusals.underway-fresh c))
+    Refusals.lost-line c (after c (fresh c) es) i (Dispatch.underway-after c es (fresh c) (Dispatch.underway-fresh c))
 
 pub lost-line-full : (c : Config) (es : List Event) (i : ℕ) → LostLine c (after c (fresh c) es) (Line i) i
     → bodyOf (after c (fresh c) es) i .losses ≡ 65535
     → step c (after c (fresh c) es) (Line i) .state ≡ after c (fresh c) es
 lost-line-full c es i =
     Refusals.lost-line-full c (after c (fresh c) es) i
-    (Refusals.underway-after c es (fresh c) (Refusals.underway-fresh c))
+    (Dispatch.underway-after c es (fresh c) (Dispatch.underway-fresh c))
 
 -- in version 1 there is none, so a refused event changes nothing at all
 pub refused-same-one : (c : Config) → c .version ≡ 1 → (es : List Event) (e : Event)
@@ -304,9 +305,9 @@ pub runner-dispatched : (c : Config) (s : State)
     → (runner c (dispatched c s) .number ≡ runner c s .number) × (runner c (dispatched c s) .level ≡ runner c s .level)
     × (((j : ℕ) → among j (s .order) ≡ true → j < length (s .bodies)) → begins (runner c (dispatched c s)) ≡ false)
 runner-dispatched c s = (
-  Refusals.runner-same c s .0,
-  Refusals.runner-same c s .1,
-  λ named. Refusals.underway-named c (dispatched c s) (Refusals.dispatched-underway c s) (kept named),
+  Dispatch.runner-same c s .0,
+  Dispatch.runner-same c s .1,
+  λ named. Dispatch.underway-named c (dispatched c s) (Dispatch.dispatched-underway c s) (kept named),
 )
   where
     kept : ((j : ℕ) → among j (s .order) ≡ true → j < length (s .bodies))
@@ -321,7 +322,7 @@ runner-dispatched c s = (
 pub underway : (c : Config) (s : State) (e : Event)
     → ((j : ℕ) → among j (step c s e .state .order) ≡ true → j < length (step c s e .state .bodies))
     → begins (runner c (step c s e .state)) ≡ false
-underway c s e = Refusals.underway-named c (step c s e .state) (Refusals.underway-step c s e)
+underway c s e = Dispatch.underway-named c (step c s e .state) (Dispatch.underway-step c s e)
 
 pub started-named : (c : Config) (es : List Event) (j : ℕ) → among j (after c (fresh c) es .order) ≡ true
     → j < c .bodies
@@ -331,8 +332,8 @@ started-named c es = Named.named-after c es (fresh c) (Named.named-fresh c)
 pub always-underway : (c : Config) → Configuration.Accepted c → Configuration.Shaped c → (es : List Event)
     → begins (runner c (after c (fresh c) es)) ≡ false
 always-underway c ok shaped es =
-    Refusals.underway-named c (after c (fresh c) es)
-    (Refusals.underway-after c es (fresh c) (Refusals.underway-fresh c))
+    Dispatch.underway-named c (after c (fresh c) es)
+    (Dispatch.underway-after c es (fresh c) (Dispatch.underway-fresh c))
     (λ j h. rw (Order.orderly-after c ok shaped es (Order.orderly-fresh c ok shaped) .bodies-there)
     (started-named c es j h))
 
@@ -403,7 +404,7 @@ begins-after-finish = Requests.begins-after-finish
 pub stop-bodies : (c : Config) (es : List Event) (t : ℕ)
     → step c (after c (fresh c) es) (Stop t) .state .bodies ≡ after c (fresh c) es .bodies
 stop-bodies c es t =
-    Requests.stop-bodies c (after c (fresh c) es) t (Refusals.underway-after c es (fresh c) (Refusals.underway-fresh c))
+    Requests.stop-bodies c (after c (fresh c) es) t (Dispatch.underway-after c es (fresh c) (Dispatch.underway-fresh c))
 
 -- event bits, each bit by itself: a Set sets those of its mask, a Clear clears them,
 -- and one waited bit that is set suffices

@@ -11,7 +11,7 @@ use Rattle.scheduler.specs.Bits.{anySet, withBits}
 use Rattle.scheduler.specs.Body.{Phase, suspended, ready, started, waiting, triggered, isSuspended, hasBegun, Body, become, activated, triggers, ended, finished, requested, loses, waits, resumed, receives}
 use Rattle.scheduler.specs.Call.{requestWaits}
 use Rattle.scheduler.specs.Scheduler.{markOf}
-use Rattle.scheduler.proofs.Effects.{entered}
+use Rattle.scheduler.proofs.Event.Effects.{entered}
 
 -- begun by its priority, and not ended
 abbrev pub inBody : Phase → Bool

@@ -18,12 +18,12 @@ use Rattle.scheduler.specs.Event.{Event}
 use Rattle.scheduler.specs.Tick.{ticked}
 use Rattle.scheduler.specs.Call.{statusOf}
 use Rattle.scheduler.specs.Scheduler.{begins, phaseBegun, markOf, dispatched, leaves, stepBy}
-use Rattle.scheduler.proofs.Choice.{Taken, no-one, body, chosen-from, candidate-active, runner-timed, runner-untimed}
-use Rattle.scheduler.proofs.Effects.{bodyOf-changing-same, bodyOf-changing-other, by-tick, no-tick}
-use Rattle.scheduler.proofs.Refusals.{begins-some}
-use Rattle.scheduler.proofs.Named.{timed-body}
-use Rattle.scheduler.proofs.Distinct.{among-head}
-use Rattle.scheduler.proofs.Order.{Orderly, TickOrder, order-same, starts, tick-order, effect-orderly, refusal-orderly}
+use Rattle.scheduler.proofs.Choice.Runner.{Taken, no-one, body, chosen-from, candidate-active, runner-timed, runner-untimed}
+use Rattle.scheduler.proofs.Event.Effects.{bodyOf-changing-same, bodyOf-changing-other, by-tick, no-tick}
+use Rattle.scheduler.proofs.Choice.Dispatch.{begins-some}
+use Rattle.scheduler.proofs.Order.Range.{timed-body}
+use Rattle.scheduler.proofs.Members.{among-head}
+use Rattle.scheduler.proofs.Order.Invariant.{Orderly, TickOrder, order-same, starts, tick-order, effect-orderly, refusal-orderly}
 use Rattle.isolation.proofs.Conservation.Body.{Second, Begun, unbegun, begins-once}
 
 -- the latest time-triggered task that is started is a body, and not suspended

@@ -22,10 +22,10 @@ use Rattle.scheduler.specs.Event.{Event, Activate, Finish, Chain, Get, Release,
 use Rattle.scheduler.specs.Tick.{counted, dues, enter, activatingDue, ticked, naming}
 use Rattle.scheduler.specs.Call.{caller, finish, finishTimed, statusOf, effectOf, elseOf}
 use Rattle.scheduler.specs.Scheduler.{begins, markOf, leaves, step, stepBy}
-use Rattle.scheduler.proofs.Choice.{Taken, no-one, body, chosen-from, candidate-active, runner-timed, runner-untimed}
-use Rattle.scheduler.proofs.Checks.{activate-passed, finish-passed, chain-passed, line-passed, wait-passed}
-use Rattle.scheduler.proofs.Effects.{bodyOf-changing-same, bodyOf-changing-other, length-changing, elseOf-keeps, entered, enter-bodies, by-tick}
-use Rattle.scheduler.proofs.Order.{Orderly}
+use Rattle.scheduler.proofs.Choice.Runner.{Taken, no-one, body, chosen-from, candidate-active, runner-timed, runner-untimed}
+use Rattle.scheduler.proofs.Event.Checks.{activate-passed, finish-passed, chain-passed, line-passed, wait-passed}
+use Rattle.scheduler.proofs.Event.Effects.{bodyOf-changing-same, bodyOf-changing-other, length-changing, elseOf-keeps, entered, enter-bodies, by-tick}
+use Rattle.scheduler.proofs.Order.Invariant.{Orderly}
 use Rattle.machine.proofs.Relation.Order.{of-one-kind}
 use Rattle.isolation.specs.Requests.{asksFor, endsRunner, requestsAt, endsAt}
 use Rattle.isolation.proofs.Conservation.Body.{Second, Moves, stays, then, quiet, activated-moves, finished-moves, waits-moves, receives-moves, requested-moves, entered-moves, entered-active}

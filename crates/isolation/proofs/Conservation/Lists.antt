@@ -21,11 +21,11 @@ use Rattle.scheduler.specs.Event.{Event}
 use Rattle.scheduler.specs.Tick.{counted, dues}
 use Rattle.scheduler.specs.Call.{caller, statusOf, effectOf, elseOf}
 use Rattle.scheduler.specs.Scheduler.{begins, markOf, newBody, unstarted, leaves, step, stepBy, seen, seenBy, fresh, after, afterBy}
-use Rattle.scheduler.proofs.Choice.{Taken, no-one, body, chosen-from, candidate-active, current-own}
-use Rattle.scheduler.proofs.Effects.{length-changing, effectOf-keeps, elseOf-keeps, activatingDue-keeps, entered}
-use Rattle.scheduler.proofs.Refusals.{runner-same, underway-named, underway-step, underway-fresh}
-use Rattle.scheduler.proofs.Named.{timed-body}
-use Rattle.scheduler.proofs.Order.{orderly-step, orderly-unstarted, orderly-fresh}
+use Rattle.scheduler.proofs.Choice.Runner.{Taken, no-one, body, chosen-from, candidate-active, current-own}
+use Rattle.scheduler.proofs.Event.Effects.{length-changing, effectOf-keeps, elseOf-keeps, activatingDue-keeps, entered}
+use Rattle.scheduler.proofs.Choice.Dispatch.{runner-same, underway-named, underway-step, underway-fresh}
+use Rattle.scheduler.proofs.Order.Range.{timed-body}
+use Rattle.scheduler.proofs.Order.Invariant.{orderly-step, orderly-unstarted, orderly-fresh}
 use Rattle.isolation.specs.Requests.{requestsAt, endsAt, requests, ends, markAt, marks, autostarted, freshRunner, freshMark, waitsToBegin, underWay}
 use Rattle.isolation.proofs.Conservation.Body.{Second, waitMark, begunMark, left-none, Begun}
 use Rattle.isolation.proofs.Conservation.Event.{Between, leaves-moves}

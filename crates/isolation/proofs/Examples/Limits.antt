@@ -9,8 +9,8 @@ use Rattle.config.specs.Meaning.{greatestIn, entriesBefore}
 use Rattle.cell.specs.Cell.{tickCellIn}
 use Rattle.word.specs.Word.{has, with, without, union, highestBelow, winner}
 use Rattle.stack.specs.Stack.{emptyRow, topRow, secondRow, pushRow, popRow}
-use Rattle.plan.specs.Stored.{stored}
-use Rattle.plan.specs.Marked.{marked}
+use Rattle.plan.specs.Stores.{stored}
+use Rattle.plan.specs.Words.{marked}
 use Rattle.plan.specs.Rank.{below}
 use Rattle.plan.specs.Plan.{planOf}
 use Rattle.plan.specs.Entry.{tableIn}

@@ -13,7 +13,7 @@ use Rattle.cell.specs.Cell.{tickCellIn}
 use Rattle.stack.specs.Stack.{emptyRow, topRow, secondRow, pushRow, popRow}
 use Rattle.plan.specs.declared.Plan.{Plan}
 use Rattle.plan.specs.Rank.{below}
-use Rattle.plan.specs.Stored.{stored}
+use Rattle.plan.specs.Stores.{stored}
 use Rattle.scheduler.specs.Status.{firstGiven}
 use Rattle.scheduler.specs.Event.{Event, Activate, Finish, Chain, Get, Release, Tick, Line, Start, Stop}
 use Rattle.scheduler.specs.Scheduler.{Seen}

@@ -14,8 +14,8 @@ use Rattle.config.specs.Meaning.{greatestIn, entriesBefore}
 use Rattle.config.proofs.Theorems.{accepted-ranges, reading}
 use Rattle.scheduler.specs.State.{among}
 use Rattle.plan.specs.declared.Plan.{Plan}
-use Rattle.plan.specs.Stored.{stored}
-use Rattle.plan.specs.Marked.{marked}
+use Rattle.plan.specs.Stores.{stored}
+use Rattle.plan.specs.Words.{marked}
 use Rattle.plan.specs.Rank.{below}
 use Rattle.plan.specs.Plan.{planOf}
 use Rattle.plan.specs.Entry.{tableIn}

@@ -20,7 +20,7 @@ use Rattle.config.specs.Meaning.{isTimed, priorityOf}
 use Rattle.config.specs.Accepted as Configuration
 use Rattle.plan.specs.Rank.{bodyCount, rankOf}
 use Rattle.plan.specs.Plan.{triggerOf, planOf}
-use Rattle.plan.proofs.Stored.{stored-past}
+use Rattle.plan.proofs.Stores.{stored-past}
 use Rattle.plan.proofs.Order.{all-bodies}
 use Rattle.plan.proofs.Fitted.{Fitted, fitted}
 use Rattle.machine.proofs.Relation.Kinds.{trigger-plain}

@@ -18,11 +18,11 @@ use Rattle.scheduler.specs.Event.{Event, Activate, Finish, Chain, Get, Release,
 use Rattle.scheduler.specs.Tick.{counted, dues, starting, enter}
 use Rattle.scheduler.specs.Call.{caller, finish, finishTimed, statusOf, effectOf, elseOf}
 use Rattle.scheduler.specs.Scheduler.{dispatched, unstarted, leaves, step, stepBy, fresh, after, afterBy}
-use Rattle.scheduler.proofs.Distinct.{none-among, among-rest}
-use Rattle.scheduler.proofs.Effects.{enters-keep, dispatched-keeps, elseOf-keeps}
-use Rattle.scheduler.proofs.Refusals.{Underway, underway-named, underway-step, underway-fresh}
-use Rattle.scheduler.proofs.Named.{timed-body}
-use Rattle.scheduler.proofs.Apart.{Kept, holder, holders, set-holds, step-kept, leaves-kept, fresh-kept}
+use Rattle.scheduler.proofs.Members.{none-among, among-rest}
+use Rattle.scheduler.proofs.Event.Effects.{enters-keep, dispatched-keeps, elseOf-keeps}
+use Rattle.scheduler.proofs.Choice.Dispatch.{Underway, underway-named, underway-step, underway-fresh}
+use Rattle.scheduler.proofs.Order.Range.{timed-body}
+use Rattle.scheduler.proofs.Choice.Separation.{Kept, holder, holders, set-holds, step-kept, leaves-kept, fresh-kept}
 use Rattle.isolation.specs.States.{Sound}
 
 module _ (c : Config) where

@@ -14,10 +14,10 @@ use Rattle.scheduler.specs.State.{State, bodyOf, runner}
 use Rattle.scheduler.specs.Event.{Event}
 use Rattle.scheduler.specs.Call.{noCaller}
 use Rattle.scheduler.specs.Scheduler.{begins, markOf, dispatchedTo, statusFor, leavesFor, leaves, step, stepBy, seen, seenBy}
-use Rattle.scheduler.proofs.Choice.{Taken, no-one, body, chosen-from, candidate-active, runner-timed, runner-untimed}
-use Rattle.scheduler.proofs.Distinct.{among-head}
-use Rattle.scheduler.proofs.Refusals.{begins-some}
-use Rattle.scheduler.proofs.Refusals as Refusals
+use Rattle.scheduler.proofs.Choice.Runner.{Taken, no-one, body, chosen-from, candidate-active, runner-timed, runner-untimed}
+use Rattle.scheduler.proofs.Members.{among-head}
+use Rattle.scheduler.proofs.Choice.Dispatch.{begins-some}
+use Rattle.scheduler.proofs.Choice.Dispatch as Dispatch
 use Rattle.isolation.specs.Above.{NamesAbove, AllNameAbove, Answer, answer, answersAbove}
 use Rattle.isolation.specs.States.{SameState, Sound}
 use Rattle.isolation.proofs.Conservation.Event.{caller-begun}
@@ -111,7 +111,7 @@ module _ (c : Config) (ok : Configuration.Accepted c) (L : ℕ) where
   -- the level that is seen is that of the runner of the state after it
   level-seen : (s : State) (e : Event) → step c s e .seen .level ≡ runner c (step c s e .state) .level
   unfolding stepBy
-  level-seen s e = sym (Refusals.runner-same c (leaves c s e) .1)
+  level-seen s e = sym (Dispatch.runner-same c (leaves c s e) .1)
 
   level-left : (s : State) (e : Event) → step c s e .seen .level ≡ runner c (leaves c s e) .level
   unfolding stepBy

@@ -19,7 +19,7 @@ use Rattle.scheduler.specs.Body.{Phase, suspended, ready, started, waiting, tri
 use Rattle.scheduler.specs.Choice.{Candidate, byHolding, nobody, chosen}
 use Rattle.scheduler.specs.State.{among}
 use Rattle.scheduler.specs.Scheduler.{markOf}
-use Rattle.scheduler.proofs.Choice.{contender, weight, markOf-le, weight-before, chosen-best, chosen-nobody, current-own, current-free, candidate-active}
+use Rattle.scheduler.proofs.Choice.Runner.{contender, weight, markOf-le, weight-before, chosen-best, chosen-nobody, current-own, current-free, candidate-active}
 use Rattle.machine.specs.Model.{Model}
 use Rattle.plan.proofs.Fitted.{Fitted}
 use Rattle.machine.proofs.Relation.Words.{at, started-competes}

@@ -22,7 +22,7 @@ use Rattle.scheduler.specs.Body.{Phase, suspended, ready, started, waiting, tri
 use Rattle.scheduler.specs.Choice.{Candidate, chosen, nobody}
 use Rattle.scheduler.specs.State.{State, noBody, among, changing, latestOf, runner}
 use Rattle.scheduler.specs.Scheduler.{begins, dispatchedTo, dispatched}
-use Rattle.scheduler.proofs.Choice.{current-own}
+use Rattle.scheduler.proofs.Choice.Runner.{current-own}
 use Rattle.machine.specs.Model.{Core, Picked, Model, Outcome, withCore}
 use Rattle.machine.specs.Arbiter.{bids, winning, beginning, dispatching, arbitrated, settled}
 use Rattle.machine.specs.Machine.{runnerOf}

@@ -14,7 +14,7 @@ use Rattle.plan.specs.declared.Plan.{Plan}
 use Rattle.plan.proofs.Fitted.{Fitted}
 use Rattle.scheduler.specs.Body.{Body, current}
 use Rattle.scheduler.specs.State.{among}
-use Rattle.scheduler.proofs.Choice.{current-own}
+use Rattle.scheduler.proofs.Choice.Runner.{current-own}
 use Rattle.machine.specs.Model.{Model}
 use Rattle.machine.proofs.Relation.Words.{at}
 use Rattle.machine.proofs.Relation.Slots.{levelWith, slotsFor, slotsAlong, SlotsOf}

@@ -21,7 +21,7 @@ use Rattle.word.proofs.Theorems.{has-with-same, has-with-other, with-lt, has-wi
 use Rattle.stack.specs.Stack.{topRow}
 use Rattle.scheduler.specs.Body.{Body, isStarted, started, waiting, become, activated, ended, finished, holds, current}
 use Rattle.scheduler.specs.State.{noBody}
-use Rattle.scheduler.proofs.Distinct.{among-head, among-tail}
+use Rattle.scheduler.proofs.Members.{among-head, among-tail}
 use Rattle.machine.specs.Model.{Model, noRank, withCore}
 use Rattle.machine.specs.Arbiter.{lastLevel, leftWith, vacated, leaving, paused}
 use Rattle.machine.specs.Events.{pausing}

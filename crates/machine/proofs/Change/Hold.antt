@@ -21,7 +21,7 @@ use Rattle.stack.specs.declared.Row.{Row}
 use Rattle.scheduler.specs.Body.{Body, isStarted, holds, current}
 use Rattle.scheduler.specs.State.{noBody, among}
 use Rattle.scheduler.specs.Call.{latestIs}
-use Rattle.scheduler.proofs.Distinct.{among-head, among-tail}
+use Rattle.scheduler.proofs.Members.{among-head, among-tail}
 use Rattle.machine.specs.Model.{Model, noRank, withLevel, withSlots}
 use Rattle.machine.specs.Resources.{holding, latest}
 use Rattle.plan.proofs.Fitted.{Fitted}

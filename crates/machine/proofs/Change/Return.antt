@@ -18,7 +18,7 @@ use Rattle.stack.specs.Stack.{secondRow, rowBytes}
 use Rattle.scheduler.specs.Body.{Body, isStarted, triggered, ended, finished}
 use Rattle.scheduler.specs.State.{noBody, among}
 use Rattle.scheduler.specs.Call.{requestWaits}
-use Rattle.scheduler.proofs.Distinct.{among-head}
+use Rattle.scheduler.proofs.Members.{among-head}
 use Rattle.machine.specs.Model.{Model, noRank}
 use Rattle.machine.specs.Arbiter.{alone, returned, returning}
 use Rattle.plan.proofs.Fitted.{Fitted}

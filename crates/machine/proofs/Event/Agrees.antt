@@ -30,10 +30,10 @@ use Rattle.scheduler.specs.Call.{nobodyRuns, nobodyCalls, caller, statusOf, eff
 use Rattle.scheduler.specs.Tick.{dues}
 use Rattle.scheduler.specs.Scheduler as Plain
 use Rattle.scheduler.specs.Scheduler.{Event, step, stepBy, begins, phaseBegun, dispatched, ending, noneDue, markOf}
-use Rattle.scheduler.proofs.Choice.{current-own, candidate-active, Taken, no-one, body, chosen-from}
-use Rattle.scheduler.proofs.Refusals.{begins-some}
-use Rattle.scheduler.proofs.Order.{Orderly, effect-orderly, refusal-orderly, orderly-step}
-use Rattle.scheduler.proofs.Effects.{tables-dispatched, no-tick}
+use Rattle.scheduler.proofs.Choice.Runner.{current-own, candidate-active, Taken, no-one, body, chosen-from}
+use Rattle.scheduler.proofs.Choice.Dispatch.{begins-some}
+use Rattle.scheduler.proofs.Order.Invariant.{Orderly, effect-orderly, refusal-orderly, orderly-step}
+use Rattle.scheduler.proofs.Event.Effects.{tables-dispatched, no-tick}
 use Rattle.machine.specs.Model.{Model, Outcome, noRank, doneWith, refusedWith}
 use Rattle.stack.specs.Stack.{rowBytes}
 use Rattle.machine.specs.Arbiter.{settled, timed}

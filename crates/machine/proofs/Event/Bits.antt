@@ -20,8 +20,8 @@ use Rattle.scheduler.specs.State.{State, noBody, changing}
 use Rattle.scheduler.specs.Call.{caller, waitStatus, setStatus, clearStatus, wait, setEvent, clear}
 use Rattle.scheduler.specs.Tick.{dues}
 use Rattle.scheduler.specs.Scheduler.{Wait, Set, Clear, stepBy}
-use Rattle.scheduler.proofs.Checks.{wait-passed, set-passed}
-use Rattle.scheduler.proofs.Order.{Orderly}
+use Rattle.scheduler.proofs.Event.Checks.{wait-passed, set-passed}
+use Rattle.scheduler.proofs.Order.Invariant.{Orderly}
 use Rattle.machine.specs.Model.{Core, Model, noRank, withBegun, doneWith}
 use Rattle.machine.specs.Arbiter.{settled}
 use Rattle.machine.specs.Events as Machine

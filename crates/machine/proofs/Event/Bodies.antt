@@ -23,10 +23,10 @@ use Rattle.scheduler.specs.Call.{nobodyCalls, caller, calling, finishStatus, ch
 use Rattle.scheduler.specs.Call as Plain
 use Rattle.scheduler.specs.Tick.{dues}
 use Rattle.scheduler.specs.Scheduler.{Activate, Finish, Chain, Line, stepBy}
-use Rattle.scheduler.proofs.Effects.{finished-losses}
-use Rattle.scheduler.proofs.Order.{Orderly}
-use Rattle.scheduler.proofs.Checks.{activate-passed, finish-passed, chain-passed, line-passed}
-use Rattle.scheduler.proofs.Distinct.{among-tail}
+use Rattle.scheduler.proofs.Event.Effects.{finished-losses}
+use Rattle.scheduler.proofs.Order.Invariant.{Orderly}
+use Rattle.scheduler.proofs.Event.Checks.{activate-passed, finish-passed, chain-passed, line-passed}
+use Rattle.scheduler.proofs.Members.{among-tail}
 use Rattle.machine.specs.Model.{Model, noRank, withLosses}
 use Rattle.machine.specs.Arbiter.{settled, leaving, requesting, timed, returning}
 use Rattle.machine.specs.Resources.{holding}

@@ -18,8 +18,8 @@ use Rattle.scheduler.specs.State.{State, among, heldIn, bodyOf}
 use Rattle.scheduler.specs.Call.{caller, latestIs, getStatus, releaseStatus, get, release}
 use Rattle.scheduler.specs.Tick.{dues}
 use Rattle.scheduler.specs.Scheduler.{Get, Release, stepBy}
-use Rattle.scheduler.proofs.Checks.{get-passed, release-passed}
-use Rattle.scheduler.proofs.Distinct.{among-tail}
+use Rattle.scheduler.proofs.Event.Checks.{get-passed, release-passed}
+use Rattle.scheduler.proofs.Members.{among-tail}
 use Rattle.machine.specs.Model.{Model, doneWith}
 use Rattle.machine.specs.Arbiter.{settled}
 use Rattle.machine.specs.Resources.{getting, releasing}

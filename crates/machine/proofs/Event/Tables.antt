@@ -24,8 +24,8 @@ use Rattle.scheduler.specs.State.{Table, stopped, running, isRunning, State, ta
 use Rattle.scheduler.specs.Call.{longestDelay, startStatus, stopStatus, start, stop}
 use Rattle.scheduler.specs.Tick.{dues}
 use Rattle.scheduler.specs.Scheduler.{Start, Stop, stepBy}
-use Rattle.scheduler.proofs.Order.{Orderly}
-use Rattle.scheduler.proofs.Checks.{start-passed, stop-passed}
+use Rattle.scheduler.proofs.Order.Invariant.{Orderly}
+use Rattle.scheduler.proofs.Event.Checks.{start-passed, stop-passed}
 use Rattle.machine.specs.Model.{Model, withCells, doneWith}
 use Rattle.machine.specs.Cells.{switchOff, isOn, hasTurn, switchFor, cellAt, spread, someLong}
 use Rattle.machine.specs.Events as Machine

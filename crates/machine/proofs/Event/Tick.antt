@@ -21,9 +21,9 @@ use Rattle.scheduler.specs.State.{State, among, bodyOf, changing, runner}
 use Rattle.scheduler.specs.Tick.{counting, counted, dues, starting, enter, activatingDue}
 use Rattle.scheduler.specs.Tick as Plain
 use Rattle.scheduler.specs.Scheduler.{Tick, stepBy}
-use Rattle.scheduler.proofs.Effects.{tables-ticked}
-use Rattle.scheduler.proofs.Placed.{Place, other, asleep, awake}
-use Rattle.scheduler.proofs.Order.{Orderly, Started, TickOrder, order-same, starts, tick-order}
+use Rattle.scheduler.proofs.Event.Effects.{tables-ticked}
+use Rattle.scheduler.proofs.Order.Standing.{Place, other, asleep, awake}
+use Rattle.scheduler.proofs.Order.Invariant.{Orderly, Started, TickOrder, order-same, starts, tick-order}
 use Rattle.machine.specs.Model.{Model, withCore, withRequest, withRest, doneWith}
 use Rattle.machine.specs.Arbiter.{bids, settled, launching}
 use Rattle.machine.specs.Cells.{Tally, oneLost, matchAt, requestsDue}

@@ -21,8 +21,8 @@ use Rattle.config.specs.declared.Config.{Config}
 use Rattle.config.specs.Meaning.{executionLevel, priorityOf}
 use Rattle.scheduler.specs.Body.{Body, isStarted, holds, current}
 use Rattle.scheduler.specs.State.{noBody, among}
-use Rattle.scheduler.proofs.Choice.{current-own}
-use Rattle.scheduler.proofs.Distinct.{among-head, among-other, among-tail}
+use Rattle.scheduler.proofs.Choice.Runner.{current-own}
+use Rattle.scheduler.proofs.Members.{among-head, among-other, among-tail}
 use Rattle.machine.specs.Model.{noRank}
 use Rattle.machine.proofs.Relation.Words.{at}
 use Rattle.machine.proofs.Relation.Slots.{Slot, levelWith, slotsFor, slotsAlong}

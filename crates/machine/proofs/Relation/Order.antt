@@ -17,8 +17,8 @@ use Rattle.config.specs.declared.Config.{Config}
 use Rattle.config.specs.Meaning.{isTimed}
 use Rattle.scheduler.specs.Body.{Phase, suspended, ready, started, waiting, triggered, hasBegun, competes}
 use Rattle.scheduler.specs.State.{State, among}
-use Rattle.scheduler.proofs.Order.{Orderly}
-use Rattle.scheduler.proofs.Distinct.{among-head}
+use Rattle.scheduler.proofs.Order.Invariant.{Orderly}
+use Rattle.scheduler.proofs.Members.{among-head}
 use Rattle.machine.proofs.Relation.Words.{at}
 use Rattle.machine.proofs.Relation.Kinds.{isBidding, Kinds}
 

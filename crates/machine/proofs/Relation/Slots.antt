@@ -15,7 +15,7 @@ use Rattle.stack.specs.declared.Row.{Row}
 use Rattle.stack.specs.Stack.{rowBytes}
 use Rattle.scheduler.specs.Body.{Body}
 use Rattle.scheduler.specs.State.{among}
-use Rattle.scheduler.proofs.Distinct.{Distinct}
+use Rattle.scheduler.proofs.Members.{Distinct}
 use Rattle.machine.specs.Model.{Model}
 use Rattle.machine.proofs.Relation.Rows.{Shows}
 use Rattle.machine.proofs.Relation.Words.{at}

@@ -16,7 +16,7 @@ use Rattle.plan.specs.declared.Plan.{Plan}
 use Rattle.scheduler.specs.Body.{Body, competes}
 use Rattle.stack.specs.Stack.{rowBytes}
 use Rattle.scheduler.specs.State.{State, among}
-use Rattle.scheduler.proofs.Order.{Orderly}
+use Rattle.scheduler.proofs.Order.Invariant.{Orderly}
 use Rattle.machine.specs.Model.{Model}
 use Rattle.machine.proofs.Relation.Rows.{Shows}
 use Rattle.machine.proofs.Relation.Words.{at, Words}

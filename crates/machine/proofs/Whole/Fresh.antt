@@ -15,8 +15,8 @@ use Rattle.scheduler.specs.Body.{Body, isStarted, isWaiting, activated}
 use Rattle.scheduler.specs.State.{stopped, State, noBody, among}
 use Rattle.scheduler.specs.Scheduler as Plain
 use Rattle.scheduler.specs.Scheduler.{newBody, fresh}
-use Rattle.scheduler.proofs.Effects.{tables-dispatched}
-use Rattle.scheduler.proofs.Order.{orderly-unstarted, orderly-fresh}
+use Rattle.scheduler.proofs.Event.Effects.{tables-dispatched}
+use Rattle.scheduler.proofs.Order.Invariant.{orderly-unstarted, orderly-fresh}
 use Rattle.machine.specs.Machine.{unstarted, freshModel}
 use Rattle.machine.proofs.Relation.Rows.{same-everywhere, row-empty-shows}
 use Rattle.machine.specs.Cells.{switchOff, isOn, hasTurn}

@@ -31,8 +31,8 @@ use Rattle.scheduler.specs.Choice.{Candidate}
 use Rattle.scheduler.specs.State.{State, bodyOf, among, heldIn}
 use Rattle.scheduler.specs.Call.{nobodyRuns, nobodyCalls, caller, calling, getStatus}
 use Rattle.scheduler.specs.Scheduler.{Get, Seen, stepBy}
-use Rattle.scheduler.proofs.Choice.{current-held}
-use Rattle.scheduler.proofs.Distinct.{among-head, among-tail}
+use Rattle.scheduler.proofs.Choice.Runner.{current-held}
+use Rattle.scheduler.proofs.Members.{among-head, among-tail}
 use Rattle.machine.specs.Model.{Model, noRank}
 use Rattle.machine.specs.Events.{idles}
 use Rattle.machine.specs.Machine.{machineStep, runnerOf}

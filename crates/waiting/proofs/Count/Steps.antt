@@ -12,8 +12,8 @@ use Rattle.scheduler.specs.Status.{done}
 use Rattle.scheduler.specs.State.{State}
 use Rattle.scheduler.specs.Event.{Event, Finish}
 use Rattle.scheduler.specs.Scheduler.{Seen, fresh, after, seen, seenBy}
-use Rattle.scheduler.proofs.Apart.{holders, set-holds, reached-kept}
-use Rattle.scheduler.proofs.Refusals.{Underway, underway-fresh, underway-after}
+use Rattle.scheduler.proofs.Choice.Separation.{holders, set-holds, reached-kept}
+use Rattle.scheduler.proofs.Choice.Dispatch.{Underway, underway-fresh, underway-after}
 use Rattle.waiting.specs.Conditions.{waitsToBegin, resourceHeld}
 use Rattle.waiting.specs.Finishes.{beginsIn, finishesWithin, finishesUntil, mostFinishes, BeginsAt}
 use Rattle.waiting.specs.Jobs.{jobsAhead}

@@ -18,7 +18,7 @@ use Rattle.config.specs.Meaning.{priorityOf}
 use Rattle.scheduler.specs.Body.{Phase, suspended, ready, started, waiting, triggered, isStarted, competes, Body}
 use Rattle.scheduler.specs.State.{noBody}
 use Rattle.scheduler.specs.Scheduler.{markOf}
-use Rattle.scheduler.proofs.Choice.{markOf-le}
+use Rattle.scheduler.proofs.Choice.Runner.{markOf-le}
 use Rattle.waiting.specs.Jobs.{jobs, jobsBefore, jobsAheadFrom}
 
 jobs-le : (p : Phase) (pending : Bool) → jobs p pending ≤ 2

@@ -11,7 +11,7 @@ use Rattle.word.specs.Word.{ranks}
 use Rattle.word.proofs.Theorems.{none-has}
 use Rattle.scheduler.specs.Body.{Body}
 use Rattle.scheduler.specs.State.{State, among}
-use Rattle.scheduler.proofs.Distinct.{among-other}
+use Rattle.scheduler.proofs.Members.{among-other}
 use Rattle.plan.specs.declared.Plan.{Plan}
 use Rattle.machine.specs.Model.{Model}
 use Rattle.machine.proofs.Relation.Words.{at}

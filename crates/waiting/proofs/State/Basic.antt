@@ -22,9 +22,9 @@ use Rattle.scheduler.specs.Tick.{counted, dues, enter}
 use Rattle.scheduler.specs.Call.{caller, finish, finishTimed, statusOf, effectOf}
 use Rattle.scheduler.specs.Scheduler.{begins, phaseBegun, dispatched, newBody, unstarted, leaves, step, stepBy, fresh, after, afterBy}
 use Rattle.scheduler.specs.History.{AcceptedIn}
-use Rattle.scheduler.proofs.Choice.{Taken, no-one, body, chosen-from, candidate-active, runner-untimed}
-use Rattle.scheduler.proofs.Checks.{activate-passed, chain-passed, wait-passed}
-use Rattle.scheduler.proofs.Effects.{bodyOf-changing-same, bodyOf-changing-other, length-changing, elseOf-keeps, enters-keep}
+use Rattle.scheduler.proofs.Choice.Runner.{Taken, no-one, body, chosen-from, candidate-active, runner-untimed}
+use Rattle.scheduler.proofs.Event.Checks.{activate-passed, chain-passed, wait-passed}
+use Rattle.scheduler.proofs.Event.Effects.{bodyOf-changing-same, bodyOf-changing-other, length-changing, elseOf-keeps, enters-keep}
 use Rattle.waiting.proofs.State.BasicKinds.{Basic}
 
 -- suspended, ready or started, and only a started one has a request waiting besides

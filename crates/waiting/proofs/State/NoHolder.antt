@@ -16,8 +16,8 @@ use Rattle.scheduler.specs.Body.{isStarted, competes, Body, holds, activated, e
 use Rattle.scheduler.specs.Choice.{Candidate, byHolding, chosen, isNobody}
 use Rattle.scheduler.specs.State.{State, noBody, bodyOf, changing, runner}
 use Rattle.scheduler.specs.Call.{finish}
-use Rattle.scheduler.proofs.Choice.{Taken, no-one, body, chosen-from, chosen-greatest, chosen-someone, candidate-active, current-free, runner-untimed}
-use Rattle.scheduler.proofs.Effects.{bodyOf-changing-same, bodyOf-changing-other, length-changing}
+use Rattle.scheduler.proofs.Choice.Runner.{Taken, no-one, body, chosen-from, chosen-greatest, chosen-someone, candidate-active, current-free, runner-untimed}
+use Rattle.scheduler.proofs.Event.Effects.{bodyOf-changing-same, bodyOf-changing-other, length-changing}
 use Rattle.waiting.specs.Conditions.{someHold, resourceHeld}
 use Rattle.waiting.proofs.State.Basic.{BasicBody, BasicState, changing-basic, finished-basic}
 

@@ -20,8 +20,8 @@ use Rattle.scheduler.specs.Tick.{counted, dues}
 use Rattle.scheduler.specs.Call.{caller, finish, finishTimed, statusOf, effectOf}
 use Rattle.scheduler.specs.Scheduler.{begins, phaseBegun, dispatched, newBody, unstarted, leaves, step, stepBy, fresh, after, afterBy}
 use Rattle.scheduler.specs.History.{AcceptedIn}
-use Rattle.scheduler.proofs.Checks.{line-passed}
-use Rattle.scheduler.proofs.Effects.{bodyOf-changing-same, bodyOf-changing-other, length-changing, elseOf-keeps, entered, activatingDue-keeps}
+use Rattle.scheduler.proofs.Event.Checks.{line-passed}
+use Rattle.scheduler.proofs.Event.Effects.{bodyOf-changing-same, bodyOf-changing-other, length-changing, elseOf-keeps, entered, activatingDue-keeps}
 
 module _ (c : Config) where
   abbrev IsrsOnly : State → Type 0

@@ -22,7 +22,7 @@ use Rattle.scheduler.specs.State.{State, noBody, bodyOf}
 use Rattle.scheduler.specs.Event.{Event}
 use Rattle.scheduler.specs.Call.{requestWaits}
 use Rattle.scheduler.specs.Scheduler.{markOf, fresh, after}
-use Rattle.scheduler.proofs.Apart.{holders, set-holds, reached-kept}
+use Rattle.scheduler.proofs.Choice.Separation.{holders, set-holds, reached-kept}
 use Rattle.waiting.specs.Conditions.{waitsToBegin}
 use Rattle.waiting.specs.Jobs.{jobs, jobsBefore, jobsAheadFrom, jobsAhead}
 use Rattle.waiting.proofs.Count.Sum.{before-own, before-above, before-below}

@@ -11,7 +11,7 @@ use lib.ListN.{length, getD, take, drop, drop-of-length-le}
 use lib.Seq.{length-take-le}
 use borrow.Author.Needs.{needs}
 use Rattle.config.specs.Meaning.{extended, timeTriggered}
-use Rattle.plan.proofs.Stored.{drop-take-cons}
+use Rattle.plan.proofs.Stores.{drop-take-cons}
 use Rattle.waiting.specs.Conditions.{someBeyondBasic}
 use Rattle.waits.proofs.beyond_basic.Statement.{statement}
 use Rattle.waits.proofs.beyond_basic.Tie as tie

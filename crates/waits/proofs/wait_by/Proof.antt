@@ -11,7 +11,7 @@ use Rattle.word.specs.Word.{ranks}
 use Rattle.plan.specs.declared.Plan.{Plan}
 use Rattle.plan.specs.Rank.{noRank, rankOf}
 use Rattle.plan.specs.Plan.{planOf}
-use Rattle.plan.proofs.Stored.{getD-any}
+use Rattle.plan.proofs.Stores.{getD-any}
 use Rattle.plan.proofs.Theorems.{plan-sized, body-rank, rank-lt}
 use Rattle.waiting.specs.Words.{waitBy}
 use Rattle.waits.proofs.wait_by.Statement.{statement}

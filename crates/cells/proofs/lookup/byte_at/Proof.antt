@@ -2,7 +2,7 @@
 use mathlib.Core.Path.{sym}
 use borrow.Author.Needs.{needs}
 use lib.ListN.{List·getD-eq-default}
-use Rattle.plan.proofs.Stored.{getD-any}
+use Rattle.plan.proofs.Stores.{getD-any}
 use Rattle.cells.proofs.lookup.byte_at.Statement.{statement}
 use Rattle.cells.proofs.lookup.byte_at.Tie as tie
 

@@ -8,8 +8,8 @@ use borrow.Author.Needs.{needs}
 use Rattle.config.specs.Value.{maxTables}
 use Rattle.config.specs.Meaning.{entriesBefore}
 use Rattle.plan.specs.Entry.{firstIn}
-use Rattle.plan.specs.Stored.{stored, listed}
-use Rattle.plan.proofs.Stored.{stored-step}
+use Rattle.plan.specs.Stores.{stored, listed}
+use Rattle.plan.proofs.Stores.{stored-step}
 use mir.Val.{Fits}
 use mir.Syntax.{w8}
 use Rattle.plan.proofs.Entry.{table-passed, first-known}

@@ -4,9 +4,9 @@ use mathlib.Core.Path.{_≡_, refl}
 use native.Mathlib.Omega.{arith}
 use lib.ListN.{replicate}
 use Rattle.config.specs.Value.{maxEntries}
-use Rattle.plan.specs.Stored.{stored, listed}
+use Rattle.plan.specs.Stores.{stored, listed}
 use Rattle.plan.specs.Entry.{entryCompareIn}
-use Rattle.plan.proofs.Stored.{stored-step}
+use Rattle.plan.proofs.Stores.{stored-step}
 use borrow.Author.Needs.{needs}
 use Rattle.planner.proofs.entries.compares.Statement.{statement}
 use Rattle.planner.proofs.entries.compares.Tie as tie

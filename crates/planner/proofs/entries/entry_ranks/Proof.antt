@@ -5,9 +5,9 @@ use native.Mathlib.Omega.{arith}
 use lib.ListN.{getD, replicate}
 use borrow.Author.Needs.{needs}
 use Rattle.config.specs.Value.{maxEntries}
-use Rattle.plan.specs.Stored.{stored, listed}
+use Rattle.plan.specs.Stores.{stored, listed}
 use Rattle.plan.specs.Rank.{noRank}
-use Rattle.plan.proofs.Stored.{stored-step}
+use Rattle.plan.proofs.Stores.{stored-step}
 use Rattle.planner.proofs.entries.entry_ranks.Statement.{statement}
 use Rattle.planner.proofs.entries.entry_ranks.Tie as tie
 

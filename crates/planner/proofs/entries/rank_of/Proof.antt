@@ -5,7 +5,7 @@ use lib.ListN.{length, List·getD-eq-default}
 use borrow.Author.Needs.{needs}
 use Rattle.config.specs.Value.{maxBodies}
 use Rattle.plan.specs.Rank.{noRank}
-use Rattle.plan.proofs.Stored.{getD-any}
+use Rattle.plan.proofs.Stores.{getD-any}
 use Rattle.planner.proofs.entries.rank_of.Statement.{statement}
 use Rattle.planner.proofs.entries.rank_of.Tie as tie
 

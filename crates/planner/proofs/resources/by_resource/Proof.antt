@@ -6,9 +6,9 @@ use native.Mathlib.Omega.{arith}
 use lib.ListN.{take, getD, replicate}
 use Rattle.config.specs.Value.{maxResources}
 use Rattle.config.specs.Meaning.{greatestIn}
-use Rattle.plan.specs.Stored.{stored, listed}
-use Rattle.plan.specs.Marked.{marked}
-use Rattle.plan.proofs.Stored.{stored-step}
+use Rattle.plan.specs.Stores.{stored, listed}
+use Rattle.plan.specs.Words.{marked}
+use Rattle.plan.proofs.Stores.{stored-step}
 use borrow.Author.Needs.{needs}
 use Rattle.planner.proofs.resources.by_resource.Statement.{statement}
 use Rattle.planner.proofs.resources.by_resource.Tie as tie

@@ -6,7 +6,7 @@ use lib.ListN.{getD}
 use borrow.Author.Tests.{eq-eqb, ne-eqb}
 use borrow.Author.Needs.{needs}
 use Rattle.number.proofs.Cases.{by-eq}
-use Rattle.plan.specs.Marked.{marked}
+use Rattle.plan.specs.Words.{marked}
 use Rattle.plan.proofs.Words.{marked-step, marked-without}
 use Rattle.planner.proofs.resources.user_ranks.Statement.{statement}
 use Rattle.planner.proofs.resources.user_ranks.Tie as tie

@@ -25,10 +25,10 @@ use Rattle.scheduler.specs.Tick.{counted, dues, enter, ticked}
 use Rattle.scheduler.specs.Call.{nobodyRuns, caller, calling, requestWaits, finish, statusOf, effectOf}
 use Rattle.scheduler.specs.Scheduler.{begins, phaseBegun, dispatched, newBody, unstarted, fresh, leaves, stepBy}
 use Rattle.scheduler.specs.History.{AcceptedIn, Ends, next}
-use Rattle.scheduler.proofs.Bits.{clears-bit, receives-bit, waits-bits, waits-on, waits-for, resumed-on, resumed-not, activated-bits, new-bits}
-use Rattle.scheduler.proofs.Choice.{Taken, no-one, body, chosen-from, candidate-active, runner-untimed}
-use Rattle.scheduler.proofs.Checks.{accepted-untimed, activate-passed, chain-passed, set-passed, clear-passed, wait-passed, line-passed}
-use Rattle.scheduler.proofs.Effects.{bodyOf-changing-same, bodyOf-changing-other, length-changing, elseOf-keeps, entered, enter-bodies, enters-keep}
+use Rattle.scheduler.proofs.Event.Masks.{clears-bit, receives-bit, waits-bits, waits-on, waits-for, resumed-on, resumed-not, activated-bits, new-bits}
+use Rattle.scheduler.proofs.Choice.Runner.{Taken, no-one, body, chosen-from, candidate-active, runner-untimed}
+use Rattle.scheduler.proofs.Event.Checks.{accepted-untimed, activate-passed, chain-passed, set-passed, clear-passed, wait-passed, line-passed}
+use Rattle.scheduler.proofs.Event.Effects.{bodyOf-changing-same, bodyOf-changing-other, length-changing, elseOf-keeps, entered, enter-bodies, enters-keep}
 
 -- who runs, where no time-triggered task does, is a body of the state
 caller-there : (c : Config) (s : State) → s .order ≡ [] → nobodyRuns c s ≡ false → caller c s < length (s .bodies)

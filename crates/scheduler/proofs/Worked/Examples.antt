@@ -20,7 +20,7 @@ use Rattle.scheduler.specs.State.{among, heldIn}
 use Rattle.scheduler.specs.Event.{Event, Activate, Finish, Chain, Get, Release, Tick, Line, Start, Stop, Wait, Set, Clear}
 use Rattle.scheduler.specs.Tick.{counting, entryDue, duesFrom, activatingDue}
 use Rattle.scheduler.specs.Scheduler.{stepBy, fresh, seen, seenBy, after, afterBy, lossesOf}
-use Rattle.scheduler.proofs.Listing.{Row, row, rowOf}
+use Rattle.scheduler.proofs.Worked.Listing.{Row, row, rowOf}
 
 -- Bodies: tasks 0, 1, 2 of priority 4, 2, 6, of which 0 is autostart; ISRs 3 and 4 of priority 9 and 3. Resources 0 to
 -- 3 with the users 0 and 2, 1, 0, 0 and 3, so with the ceilings 6, 2, 4, 9. Tables: 0 of period 4 with task 2 at offset

@@ -24,11 +24,11 @@ use Rattle.scheduler.specs.Tick.{dues, counted}
 use Rattle.scheduler.specs.Call.{caller, finish, finishTimed, stop, statusOf, effectOf, elseOf}
 use Rattle.scheduler.specs.Scheduler.{begins, markOf, leaves, step, stepBy}
 use Rattle.scheduler.specs.History.{AcceptedIn, Ends}
-use Rattle.scheduler.proofs.Bits.{resumed-begun}
-use Rattle.scheduler.proofs.Choice.{Taken, no-one, body, chosen-from, candidate-active, runner-timed, runner-untimed}
-use Rattle.scheduler.proofs.Checks.{activate-passed, chain-passed}
-use Rattle.scheduler.proofs.Effects.{bodyOf-changing-same, bodyOf-changing-other, elseOf-keeps, entered, activatingDue-keeps}
-use Rattle.scheduler.proofs.Refusals.{begins-some, Underway, dispatched-same}
+use Rattle.scheduler.proofs.Event.Masks.{resumed-begun}
+use Rattle.scheduler.proofs.Choice.Runner.{Taken, no-one, body, chosen-from, candidate-active, runner-timed, runner-untimed}
+use Rattle.scheduler.proofs.Event.Checks.{activate-passed, chain-passed}
+use Rattle.scheduler.proofs.Event.Effects.{bodyOf-changing-same, bodyOf-changing-other, elseOf-keeps, entered, activatingDue-keeps}
+use Rattle.scheduler.proofs.Choice.Dispatch.{begins-some, Underway, dispatched-same}
 
 -- the body that begins had not begun
 begins-unbegun : (c : Config) (s : State) → begins (runner c s) ≡ true

@@ -21,7 +21,7 @@ use Rattle.config.proofs.Tables.{firstOf-step, firstOf-zero, firstOf-rises, tab
 use Rattle.config.proofs.Theorems.{timed-one-table, timed-offsets-differ}
 use Rattle.scheduler.specs.State.{State, Table, stopped, running, tableOf}
 use Rattle.scheduler.specs.Tick.{entryDue, duesFrom, dues}
-use Rattle.scheduler.proofs.Entries.{getD-map-in, length-offsets}
+use Rattle.scheduler.proofs.Table.Entries.{getD-map-in, length-offsets}
 
 -- of one period and one start
 due-apart : (P d o o′ n : ℕ) → o < P → o′ < P → due P (d + o) n ≡ true → due P (d + o′) n ≡ true → o ≡ o′

@@ -23,8 +23,8 @@ use Rattle.scheduler.specs.Event.{Event, Activate, Finish, Chain, Get, R
 use Rattle.scheduler.specs.Call.{noCaller, nobodyRuns, caller, calling, active, latestIs, requestWaits, checksOf, activateStatus, finishStatus, chainStatus, getStatus, releaseStatus, lineStatus, longestDelay, startStatus, stopStatus, waitStatus, setStatus, clearStatus}
 use Rattle.scheduler.specs.Scheduler.{step, stepBy}
 use Rattle.scheduler.specs.History.{AcceptedIn}
-use Rattle.scheduler.proofs.Choice.{runner-timed}
-use Rattle.scheduler.proofs.Effects.{clash}
+use Rattle.scheduler.proofs.Choice.Runner.{runner-timed}
+use Rattle.scheduler.proofs.Event.Effects.{clash}
 
 -- none of the checks gives status 0; none of them fails
 abbrev Refusing : List Check → Type 0

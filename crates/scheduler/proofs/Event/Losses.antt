@@ -20,7 +20,7 @@ use Rattle.scheduler.specs.Event.{Event}
 use Rattle.scheduler.specs.Tick.{counted, dues, enter, activatingDue, ticked, naming, dueFor}
 use Rattle.scheduler.specs.Call.{statusOf, effectOf, elseOf}
 use Rattle.scheduler.specs.Scheduler.{newBody, unstarted, dispatched, lossesOf, leaves, step, stepBy, fresh, after, afterBy}
-use Rattle.scheduler.proofs.Effects.{bodyOf-changing-same, bodyOf-changing-other, length-changing, effectOf-keeps, elseOf-keeps, entered, enter-bodies, activatingDue-keeps, losses-dispatched}
+use Rattle.scheduler.proofs.Event.Effects.{bodyOf-changing-same, bodyOf-changing-other, length-changing, effectOf-keeps, elseOf-keeps, entered, enter-bodies, activatingDue-keeps, losses-dispatched}
 
 -- n entries that name the body b, one after the other; x: it is time-triggered
 times : Bool → ℕ → Body → Body

@@ -23,10 +23,10 @@ use Rattle.scheduler.specs.State.{State, noBody, bodyOf, runner, among, 
 use Rattle.scheduler.specs.Event.{Event, Get}
 use Rattle.scheduler.specs.Call.{nobodyRuns, caller, calling, noCaller}
 use Rattle.scheduler.specs.Scheduler.{step, stepBy, fresh, after}
-use Rattle.scheduler.proofs.Choice.{Taken, no-one, body, chosen-from, chosen-someone, candidate-active, current-held, runner-timed, runner-untimed}
-use Rattle.scheduler.proofs.Apart.{Kept, started-competes, holder, holders, set-holds, outranks, reached-kept}
-use Rattle.scheduler.proofs.Order.{orderly-fresh, orderly-after}
-use Rattle.scheduler.proofs.Distinct.{none-among, among-head}
+use Rattle.scheduler.proofs.Choice.Runner.{Taken, no-one, body, chosen-from, chosen-someone, candidate-active, current-held, runner-timed, runner-untimed}
+use Rattle.scheduler.proofs.Choice.Separation.{Kept, started-competes, holder, holders, set-holds, outranks, reached-kept}
+use Rattle.scheduler.proofs.Order.Invariant.{orderly-fresh, orderly-after}
+use Rattle.scheduler.proofs.Members.{none-among, among-head}
 
 -- who holds a resource holds something
 among-holds : (r : ℕ) (rs : List ℕ) → among r rs ≡ true → holds rs ≡ true

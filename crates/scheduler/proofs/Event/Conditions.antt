@@ -20,8 +20,8 @@ use Rattle.scheduler.specs.State.{State, Table, stopped, running, isRunn
 use Rattle.scheduler.specs.Call.{noCaller, caller, calling, latestIs, requestWaits}
 use Rattle.scheduler.specs.Scheduler.{stepBy}
 use Rattle.scheduler.specs.Conditions.{Rule, _if_, Decided, Task, OsekTask, Isr, Extended, User, NobodyRuns, NobodyCalls, In, Requested, Conditions}
-use Rattle.scheduler.proofs.Choice.{Taken, no-one, body, chosen-from, candidate-active, runner-timed, runner-untimed}
-use Rattle.scheduler.proofs.Effects.{clash}
+use Rattle.scheduler.proofs.Choice.Runner.{Taken, no-one, body, chosen-from, candidate-active, runner-timed, runner-untimed}
+use Rattle.scheduler.proofs.Event.Effects.{clash}
 
 -- the test b says whether P holds
 record Decides (b : Bool) (P : Type 0) : Type 0 where

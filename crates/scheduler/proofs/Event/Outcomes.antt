@@ -19,10 +19,10 @@ use Rattle.scheduler.specs.Call.{caller, calling, finish, finishTimed, e
 use Rattle.scheduler.specs.Scheduler.{leaves, stepBy}
 use Rattle.scheduler.specs.History.{AcceptedIn}
 use Rattle.scheduler.specs.Outcomes.{Alone, Activated, Finished, Chained, Taken, Released, Counted, Asked, TableSet, Outcomes}
-use Rattle.scheduler.proofs.Choice.{runner-timed, runner-untimed}
-use Rattle.scheduler.proofs.Conditions.{chosen-untimed}
-use Rattle.scheduler.proofs.Effects.{clash, bodyOf-changing-same, bodyOf-changing-other, length-changing, tables-ticked}
-use Rattle.scheduler.proofs.EventBits.{accepted-leaves}
+use Rattle.scheduler.proofs.Choice.Runner.{runner-timed, runner-untimed}
+use Rattle.scheduler.proofs.Event.Conditions.{chosen-untimed}
+use Rattle.scheduler.proofs.Event.Effects.{clash, bodyOf-changing-same, bodyOf-changing-other, length-changing, tables-ticked}
+use Rattle.scheduler.proofs.Event.Bits.{accepted-leaves}
 
 alone-changing : (t : ℕ) (f : Body → Body) (s : State) → Alone t s (changing t f s)
 alone-changing t f s =

@@ -24,7 +24,7 @@ use Rattle.scheduler.specs.Tick.{counting, counted, entryDue, duesFrom, 
 use Rattle.scheduler.specs.Call.{requestWaits, finish, finishTimed, checksFor, effectFor, elseOf}
 use Rattle.scheduler.specs.Scheduler.{begins, phaseBegun, dispatchedTo, endingTo, duesAt, statusFor, leavesFor, step, stepBy, unstarted, fresh, seen, seenBy}
 use Rattle.scheduler.specs.History.{unlost}
-use Rattle.scheduler.proofs.Effects.{entered, elseOf-keeps}
+use Rattle.scheduler.proofs.Event.Effects.{entered, elseOf-keeps}
 
 -- a body but for its losses
 abbrev quiet : Body → Body

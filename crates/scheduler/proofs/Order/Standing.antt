@@ -24,10 +24,10 @@ use Rattle.scheduler.specs.Event.{Event, Activate, Finish, Chain, Get, R
 use Rattle.scheduler.specs.Call.{nobodyRuns, caller, finish, finishTimed, effectOf}
 use Rattle.scheduler.specs.Scheduler.{stepBy}
 use Rattle.scheduler.specs.History.{AcceptedIn}
-use Rattle.scheduler.proofs.Choice.{Taken, no-one, body, chosen-from, candidate-active, runner-timed, runner-untimed}
-use Rattle.scheduler.proofs.Checks.{activate-passed, finish-passed, chain-passed, get-passed, release-passed, line-passed, wait-passed, set-passed, clear-passed, accepted-untimed}
-use Rattle.scheduler.proofs.Named.{timed-body}
-use Rattle.scheduler.proofs.Distinct.{Distinct, among-head, among-other, among-tail}
+use Rattle.scheduler.proofs.Choice.Runner.{Taken, no-one, body, chosen-from, candidate-active, runner-timed, runner-untimed}
+use Rattle.scheduler.proofs.Event.Checks.{activate-passed, finish-passed, chain-passed, get-passed, release-passed, line-passed, wait-passed, set-passed, clear-passed, accepted-untimed}
+use Rattle.scheduler.proofs.Order.Range.{timed-body}
+use Rattle.scheduler.proofs.Members.{Distinct, among-head, among-other, among-tail}
 
 abbrev pub isTriggered : Phase → Bool
 isTriggered suspended = false

@@ -23,11 +23,11 @@ use Rattle.scheduler.specs.Event.{Event, Set}
 use Rattle.scheduler.specs.Call.{statusOf}
 use Rattle.scheduler.specs.Scheduler.{Seen, markOf, dispatchedTo, endingTo, duesAt, statusFor, leavesFor, leaves, unstarted, fresh, freshBy, step, stepBy, seen, seenBy, after, afterBy}
 use Rattle.scheduler.specs.History.{AcceptedIn}
-use Rattle.scheduler.proofs.Choice.{contender, weight, weight-before, chosen-tie, chosen-same, candidate-active, current-own, current-free, Taken, no-one, body, runner-timed, runner-untimed}
-use Rattle.scheduler.proofs.Checks.{set-passed}
-use Rattle.scheduler.proofs.Refusals.{Underway, underway-named, underway-fresh, underway-step, underway-after}
-use Rattle.scheduler.proofs.Named.{named-fresh, named-after}
-use Rattle.scheduler.proofs.Apart.{at, Kept, Question, holder, begunBody, holders, begunBodies, weighs, set-holds, leaves-kept, step-kept, unstarted-kept, fresh-kept, reached-kept}
+use Rattle.scheduler.proofs.Choice.Runner.{contender, weight, weight-before, chosen-tie, chosen-same, candidate-active, current-own, current-free, Taken, no-one, body, runner-timed, runner-untimed}
+use Rattle.scheduler.proofs.Event.Checks.{set-passed}
+use Rattle.scheduler.proofs.Choice.Dispatch.{Underway, underway-named, underway-fresh, underway-step, underway-after}
+use Rattle.scheduler.proofs.Order.Range.{named-fresh, named-after}
+use Rattle.scheduler.proofs.Choice.Separation.{at, Kept, Question, holder, begunBody, holders, begunBodies, weighs, set-holds, leaves-kept, step-kept, unstarted-kept, fresh-kept, reached-kept}
 
 -- of a configuration that the reader accepts
 module _ (c : Config) (ok : Configuration.Accepted c) where

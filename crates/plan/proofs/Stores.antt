@@ -7,7 +7,7 @@ use native.Mathlib.Numerals.{add-one}
 use lib.ListN.{length, getD, set, take, drop, replicate, length-set, length-replicate, getD-replicate, List·getD-eq-default}
 use lib.Seq.{getD-set-same, getD-set-other, drop-cons, getD-take, length-take-le}
 use Rattle.number.proofs.Cases.{by-lt, by-eq}
-use Rattle.plan.specs.Stored.{stored, listed}
+use Rattle.plan.specs.Stores.{stored, listed}
 
 module _ (at f : ℕ → ℕ) where
   -- one store more, as a loop that counts up makes it

@@ -20,9 +20,9 @@ use Rattle.scheduler.specs.Tick.{dues, counted}
 use Rattle.scheduler.specs.Call.{caller, finish, finishTimed, statusOf, effectOf}
 use Rattle.scheduler.specs.Scheduler.{begins, phaseBegun, dispatched, newBody, unstarted, leaves, step, stepBy, fresh, after, afterBy}
 use Rattle.scheduler.specs.History.{AcceptedIn}
-use Rattle.scheduler.proofs.Checks.{get-passed}
-use Rattle.scheduler.proofs.Effects.{bodyOf-changing-same, bodyOf-changing-other, length-changing, elseOf-keeps, entered, activatingDue-keeps}
-use Rattle.scheduler.proofs.Distinct.{none-among, among-rest}
+use Rattle.scheduler.proofs.Event.Checks.{get-passed}
+use Rattle.scheduler.proofs.Event.Effects.{bodyOf-changing-same, bodyOf-changing-other, length-changing, elseOf-keeps, entered, activatingDue-keeps}
+use Rattle.scheduler.proofs.Members.{none-among, among-rest}
 
 -- nothing is held of an empty list
 module _ (c : Config) where

@@ -30,11 +30,11 @@ use Rattle.scheduler.specs.Tick.{counted, dues}
 use Rattle.scheduler.specs.Call.{caller, finish, finishTimed, statusOf, effectOf}
 use Rattle.scheduler.specs.Scheduler.{begins, phaseBegun, markOf, dispatched, newBody, leaves, unstarted, fresh, step, stepBy, after, afterBy}
 use Rattle.scheduler.specs.History.{AcceptedIn}
-use Rattle.scheduler.proofs.Choice.{contender, weight, chosen-weight, chosen-from, candidate-active, current-own, current-free, Taken, no-one, body, runner-timed, runner-untimed}
-use Rattle.scheduler.proofs.Checks.{activate-passed, finish-passed, chain-passed, get-passed, release-passed, wait-passed, accepted-untimed}
-use Rattle.scheduler.proofs.Effects.{entered, activatingDue-keeps, elseOf-keeps}
-use Rattle.scheduler.proofs.Refusals.{begins-some, Underway, underway-untimed, underway-fresh, underway-step}
-use Rattle.scheduler.proofs.Losses.{entered-active}
+use Rattle.scheduler.proofs.Choice.Runner.{contender, weight, chosen-weight, chosen-from, candidate-active, current-own, current-free, Taken, no-one, body, runner-timed, runner-untimed}
+use Rattle.scheduler.proofs.Event.Checks.{activate-passed, finish-passed, chain-passed, get-passed, release-passed, wait-passed, accepted-untimed}
+use Rattle.scheduler.proofs.Event.Effects.{entered, activatingDue-keeps, elseOf-keeps}
+use Rattle.scheduler.proofs.Choice.Dispatch.{begins-some, Underway, underway-untimed, underway-fresh, underway-step}
+use Rattle.scheduler.proofs.Event.Losses.{entered-active}
 
 -- a body of a list
 abbrev pub at : List Body → ℕ → Body

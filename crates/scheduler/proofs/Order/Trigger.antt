@@ -17,13 +17,13 @@ use Rattle.config.specs.Accepted.{Accepted, Shaped}
 use Rattle.scheduler.specs.Body.{suspended, triggered, isSuspended, Body, activated, triggers, loses, activatedByEntry}
 use Rattle.scheduler.specs.State.{State, noBody, bodyOf, changing, among}
 use Rattle.scheduler.specs.Tick.{counting, counted, dues, starting, trigger, enter, activatingDue, ticked}
-use Rattle.scheduler.proofs.Effects.{bodyOf-changing-other}
-use Rattle.scheduler.proofs.Dues.{length-dues}
-use Rattle.scheduler.proofs.Entries.{entries-long}
-use Rattle.scheduler.proofs.Named.{timed-body}
-use Rattle.scheduler.proofs.Distinct.{among-head, among-other}
-use Rattle.scheduler.proofs.Placed.{isTriggered, Place, other, asleep, awake, Placed, plain-placed, loses-placed}
-use Rattle.scheduler.proofs.Timed.{timed-once}
+use Rattle.scheduler.proofs.Event.Effects.{bodyOf-changing-other}
+use Rattle.scheduler.proofs.Table.Dues.{length-dues}
+use Rattle.scheduler.proofs.Table.Entries.{entries-long}
+use Rattle.scheduler.proofs.Order.Range.{timed-body}
+use Rattle.scheduler.proofs.Members.{among-head, among-other}
+use Rattle.scheduler.proofs.Order.Standing.{isTriggered, Place, other, asleep, awake, Placed, plain-placed, loses-placed}
+use Rattle.scheduler.proofs.Table.TimedEntries.{timed-once}
 
 entry-plain : (b : Body) → isTriggered (b .phase) ≡ false → isTriggered (activatedByEntry b .phase) ≡ false
 entry-plain b h = go (isSuspended (b .phase))

@@ -21,8 +21,8 @@ use Rattle.scheduler.specs.Tick.{counting}
 use Rattle.scheduler.specs.Call.{caller, finish, finishTimed, statusOf, effectOf, elseOf}
 use Rattle.scheduler.specs.Scheduler.{leaves, stepBy, fresh, after, afterBy}
 use Rattle.scheduler.specs.History.{AcceptedIn, next, NoneAccepted, StartOf, StopOf, NoStart, NoStop, tickCount, History, never-started, since-start, since-stop}
-use Rattle.scheduler.proofs.Checks.{start-passed, stop-passed}
-use Rattle.scheduler.proofs.Effects.{clash, after-append, elseOf-keeps, tables-dispatched, tables-ticked, tables-fresh, length-tables-step, length-tables-fresh}
+use Rattle.scheduler.proofs.Event.Checks.{start-passed, stop-passed}
+use Rattle.scheduler.proofs.Event.Effects.{clash, after-append, elseOf-keeps, tables-dispatched, tables-ticked, tables-fresh, length-tables-step, length-tables-fresh}
 
 -- what the event e, met in the state s, does to the table t
 data Turn (c : Config) (t : ℕ) (s : State) (e : Event) : Type 0 where

@@ -18,8 +18,8 @@ use Rattle.scheduler.specs.Event.{Event, Activate, Finish, Chain, Get, R
 use Rattle.scheduler.specs.Tick.{counted, dues, starting, enter}
 use Rattle.scheduler.specs.Call.{caller, finish, finishTimed, statusOf, effectOf, elseOf}
 use Rattle.scheduler.specs.Scheduler.{dispatched, unstarted, leaves, step, stepBy, fresh, after, afterBy}
-use Rattle.scheduler.proofs.Distinct.{none-among, among-rest}
-use Rattle.scheduler.proofs.Effects.{enters-keep, dispatched-keeps, elseOf-keeps}
+use Rattle.scheduler.proofs.Members.{none-among, among-rest}
+use Rattle.scheduler.proofs.Event.Effects.{enters-keep, dispatched-keeps, elseOf-keeps}
 
 pub timed-body : (c : Config) (t : ℕ) → isTimed c t ≡ true → t < c .bodies
 timed-body c t h = ltb-true t (c .bodies) (and-true (ltb t (c .bodies)) (eqb (getD (c .kind) t 0) timeTriggered) h .0)

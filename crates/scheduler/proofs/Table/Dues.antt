@@ -20,9 +20,9 @@ use Rattle.scheduler.specs.Tick.{counting, counted, entryDue, duesFrom, 
 use Rattle.scheduler.specs.Scheduler.{step, stepBy, fresh, seen, seenBy, after, afterBy}
 use Rattle.scheduler.specs.Entries.{Entry, entryOf, entriesFrom, entriesOf, entryAt}
 use Rattle.scheduler.specs.History.{History, never-started, since-start, since-stop, dueMark, DueAt}
-use Rattle.scheduler.proofs.Effects.{by-tick, no-tick, length-tables-fresh}
-use Rattle.scheduler.proofs.Entries.{getD-map-in}
-use Rattle.scheduler.proofs.Tables.{table-history, history-of-table, fits-after}
+use Rattle.scheduler.proofs.Event.Effects.{by-tick, no-tick, length-tables-fresh}
+use Rattle.scheduler.proofs.Table.Entries.{getD-map-in}
+use Rattle.scheduler.proofs.Table.History.{table-history, history-of-table, fits-after}
 
 -- the marks of the i-th event
 seen-at : (c : Config) (es : List Event) (i : ℕ) (s : State) → i < length es

@@ -27,10 +27,10 @@ use Rattle.scheduler.specs.Call.{finish, finishTimed, effectFor, elseOf}
 use Rattle.scheduler.specs.Scheduler.{begins, phaseBegun, dispatchedTo, markOf, statusFor, leaves, step, stepBy, newBody, unstarted, fresh, seen, after, afterBy}
 use Rattle.scheduler.specs.History.{isLineOf, linesLost}
 use Rattle.scheduler.specs.Conditions.{_if_, Decided, Isr, Requested}
-use Rattle.scheduler.proofs.Effects.{bodyOf-changing-same, bodyOf-changing-other, entered, enter-bodies, finished-losses, requested-losses, waits-losses}
-use Rattle.scheduler.proofs.Conditions.{conditions}
-use Rattle.scheduler.proofs.EventBits.{there}
-use Rattle.scheduler.proofs.Versions.{Alike, alike-both, alike-turned, phase-alike, length-alike, Blind, alike-changing, blind-requested, blind-waits, alike-loses, runner-alike, enter-alike, dues-same, counted-alike, effect-alike, status-alike, step-alike, fresh-alike}
+use Rattle.scheduler.proofs.Event.Effects.{bodyOf-changing-same, bodyOf-changing-other, entered, enter-bodies, finished-losses, requested-losses, waits-losses}
+use Rattle.scheduler.proofs.Event.Conditions.{conditions}
+use Rattle.scheduler.proofs.Event.Bits.{there}
+use Rattle.scheduler.proofs.Version.Agreement.{Alike, alike-both, alike-turned, phase-alike, length-alike, Blind, alike-changing, blind-requested, blind-waits, alike-loses, runner-alike, enter-alike, dues-same, counted-alike, effect-alike, status-alike, step-alike, fresh-alike}
 
 -- Of the body i: the second of two alike states has lost n more, "up to 65,535"
 record Behind (i n : ℕ) (s s′ : State) : Type 0 where
