@@ -6,6 +6,8 @@
 -- has document 01's listing and lists of events worked out by hand. `Event` and `Choice` cite each other's modules.
 pub mod Theorems
 pub mod Members
+pub mod Body
+pub mod Kind
 pub mod Choice
 pub mod Event
 pub mod Table

@@ -11,6 +11,7 @@ use Rattle.scheduler.specs.Bits.{anySet, withBits}
 use Rattle.scheduler.specs.Body.{Phase, suspended, ready, started, waiting, triggered, isSuspended, hasBegun, Body, become, activated, triggers, ended, finished, requested, loses, waits, resumed, receives}
 use Rattle.scheduler.specs.Call.{requestWaits}
 use Rattle.scheduler.specs.Scheduler.{markOf}
+use Rattle.scheduler.proofs.Body.{suspended-is}
 use Rattle.scheduler.proofs.Event.Effects.{entered}
 
 -- begun by its priority, and not ended
@@ -197,22 +198,15 @@ module _ (c : Config) (i : ℕ) where
       go (waiting w) e f = record { second = rw e (λ p. (isr, refl)); waits = rw (e, f) refl; begun = rw e refl }
       go (triggered b) e f = absurd (untriggered b e)
 
-  is-suspended : (p : Phase) → isSuspended p ≡ true → p ≡ suspended
-  is-suspended suspended h = refl
-  is-suspended ready h = absurd (true≢false (sym h))
-  is-suspended started h = absurd (true≢false (sym h))
-  is-suspended (waiting w) h = absurd (true≢false (sym h))
-  is-suspended (triggered b) h = absurd (true≢false (sym h))
-
   -- a due entry; it leaves the body active
   pub entered-moves : (t : Bool) (x : Body) → Moves c i x (entered t x) (markOf (isSuspended (x .phase))) 0
   entered-moves true x =
       by-test (isSuspended (x .phase))
-      (λ h. rw h (triggers-moves x (is-suspended (x .phase) h)))
+      (λ h. rw h (triggers-moves x (suspended-is (x .phase) h)))
       (λ h. rw h (quiet x (loses x) refl refl))
   entered-moves false x =
       by-test (isSuspended (x .phase))
-      (λ h. rw h (activated-moves x (is-suspended (x .phase) h)))
+      (λ h. rw h (activated-moves x (suspended-is (x .phase) h)))
       (λ h. rw h (quiet x (loses x) refl refl))
 
   pub entered-active : (t : Bool) (x : Body) → isSuspended (entered t x .phase) ≡ false

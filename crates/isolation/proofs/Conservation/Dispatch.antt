@@ -21,7 +21,7 @@ use Rattle.scheduler.specs.Scheduler.{begins, phaseBegun, markOf, dispatched, l
 use Rattle.scheduler.proofs.Choice.Runner.{Taken, no-one, body, chosen-from, candidate-active, runner-timed, runner-untimed}
 use Rattle.scheduler.proofs.Event.Effects.{bodyOf-changing-same, bodyOf-changing-other, by-tick, no-tick}
 use Rattle.scheduler.proofs.Choice.Dispatch.{begins-some}
-use Rattle.scheduler.proofs.Order.Range.{timed-body}
+use Rattle.scheduler.proofs.Kind.{timed-body}
 use Rattle.scheduler.proofs.Members.{among-head}
 use Rattle.scheduler.proofs.Order.Invariant.{Orderly, TickOrder, order-same, starts, tick-order, effect-orderly, refusal-orderly}
 use Rattle.isolation.proofs.Conservation.Body.{Second, Begun, unbegun, begins-once}

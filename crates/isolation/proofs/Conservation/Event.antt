@@ -26,7 +26,7 @@ use Rattle.scheduler.proofs.Choice.Runner.{Taken, no-one, body, chosen-from, ca
 use Rattle.scheduler.proofs.Event.Checks.{activate-passed, finish-passed, chain-passed, line-passed, wait-passed}
 use Rattle.scheduler.proofs.Event.Effects.{bodyOf-changing-same, bodyOf-changing-other, length-changing, elseOf-keeps, entered, enter-bodies, by-tick}
 use Rattle.scheduler.proofs.Order.Invariant.{Orderly}
-use Rattle.machine.proofs.Relation.Order.{of-one-kind}
+use Rattle.scheduler.proofs.Kind.{of-one-kind}
 use Rattle.isolation.specs.Requests.{asksFor, endsRunner, requestsAt, endsAt}
 use Rattle.isolation.proofs.Conservation.Body.{Second, Moves, stays, then, quiet, activated-moves, finished-moves, waits-moves, receives-moves, requested-moves, entered-moves, entered-active}
 

@@ -14,17 +14,18 @@ use Rattle.number.proofs.Cases.{by-lt, by-eq, cond-either}
 use Rattle.config.specs.declared.Config.{Config}
 use Rattle.config.specs.Accepted as Configuration
 use Rattle.scheduler.specs.Status.{done}
-use Rattle.scheduler.specs.Body.{Phase, suspended, ready, started, waiting, triggered, isSuspended, isStarted, hasBegun, Body, activated, loses}
+use Rattle.scheduler.specs.Body.{isSuspended, hasBegun, Body, activated, loses}
 use Rattle.scheduler.specs.Choice.{Candidate, idle, byHolding}
 use Rattle.scheduler.specs.State.{State, noBody, bodyOf, runner}
 use Rattle.scheduler.specs.Event.{Event}
 use Rattle.scheduler.specs.Tick.{counted, dues}
 use Rattle.scheduler.specs.Call.{caller, statusOf, effectOf, elseOf}
 use Rattle.scheduler.specs.Scheduler.{begins, markOf, newBody, unstarted, leaves, step, stepBy, seen, seenBy, fresh, after, afterBy}
+use Rattle.scheduler.proofs.Body.{unbegun-unstarted}
 use Rattle.scheduler.proofs.Choice.Runner.{Taken, no-one, body, chosen-from, candidate-active, current-own}
 use Rattle.scheduler.proofs.Event.Effects.{length-changing, effectOf-keeps, elseOf-keeps, activatingDue-keeps, entered}
 use Rattle.scheduler.proofs.Choice.Dispatch.{runner-same, underway-named, underway-step, underway-fresh}
-use Rattle.scheduler.proofs.Order.Range.{timed-body}
+use Rattle.scheduler.proofs.Kind.{timed-body}
 use Rattle.scheduler.proofs.Order.Invariant.{orderly-step, orderly-unstarted, orderly-fresh}
 use Rattle.isolation.specs.Requests.{requestsAt, endsAt, requests, ends, markAt, marks, autostarted, freshRunner, freshMark, waitsToBegin, underWay}
 use Rattle.isolation.proofs.Conservation.Body.{Second, waitMark, begunMark, left-none, Begun}
@@ -186,15 +187,8 @@ module _ (c : Config) (ok : Configuration.Accepted c) (shaped : Configuration.Sh
       let level = ap (λ (y : Candidate). y .level) is in
       let some = ne-eqb (runner c (unstarted c) .level) 0
       (λ e. absurd (omega (arith, ok .priority-low k there, current-own c k (bodyOf (unstarted c) k), level, e))) in
-      let began = ap (λ (y : Candidate). y .began) is ∙ out (bodyOf (unstarted c) k .phase) (new-unbegun k) in
+      let began = ap (λ (y : Candidate). y .began) is ∙ unbegun-unstarted (bodyOf (unstarted c) k .phase) (new-unbegun k) in
       ap₂ (λ (v w : Bool). markOf ((not v && not w) && eqb (runner c (unstarted c) .number) b)) some began
-    where
-      out : (q : Phase) → hasBegun q ≡ false → isStarted q ≡ false
-      out suspended e = refl
-      out ready e = refl
-      out started e = e
-      out (waiting w) e = refl
-      out (triggered v) e = refl
 
   fresh-mark : (b : ℕ) → b < c .bodies
       → markOf (begins (runner c (unstarted c)) && eqb (runner c (unstarted c) .number) b) ≡ freshMark c b

@@ -25,6 +25,7 @@ use Rattle.scheduler.specs.Call.{noCaller, effectFor, elseOf, finish, finishTim
 use Rattle.scheduler.specs.Scheduler.{begins, phaseBegun, dispatchedTo, statusFor, leavesFor}
 use Rattle.isolation.specs.Above.{above, NamesAbove}
 use Rattle.isolation.specs.States.{begunPhase, begunPart, SameState}
+use Rattle.scheduler.proofs.Body.{begun-active}
 
 -- what holds of each two bodies holds after the k-th became y and y′
 pair : (P : ℕ → Body → Body → Type 0) (bs bs′ : List Body) → length bs ≡ length bs′
@@ -72,14 +73,6 @@ entry-part b =
     (λ h. rw h
     (ap (λ (p : Phase). partWith p (b .held)) (unbegun-part (b .phase) (suspended-unbegun (b .phase) h))))
     (λ h. rw (h, h))
-
--- one that has begun is not suspended, so its event bits count
-begun-active : (p : Phase) → hasBegun p ≡ true → isSuspended p ≡ false
-begun-active suspended h = absurd (true≢false (sym h))
-begun-active ready h = refl
-begun-active started h = refl
-begun-active (waiting w) h = refl
-begun-active (triggered x) h = refl
 
 begun-kept : (p : Phase) → hasBegun (begunPhase p) ≡ hasBegun p
 begun-kept suspended = refl

@@ -21,8 +21,9 @@ use Rattle.scheduler.specs.Body.{Phase, suspended, ready, started, waiting, tri
 use Rattle.scheduler.specs.Choice.{Candidate, candidate, byHolding, preferred, chosenFrom, chosen}
 use Rattle.scheduler.specs.State.{State, noBody, bodyOf, among, runner}
 use Rattle.scheduler.specs.Scheduler.{markOf}
+use Rattle.scheduler.proofs.Body.{started-competes}
 use Rattle.scheduler.proofs.Choice.Runner.{contender, weight, markOf-le, weight-before, weight-after, candidate-active, candidate-none, current-free, Taken, no-one, body, chosen-from, runner-timed, runner-untimed}
-use Rattle.scheduler.proofs.Choice.Separation.{Steady, Kept, holder, started-competes}
+use Rattle.scheduler.proofs.Choice.Separation.{Steady, Kept, holder}
 use Rattle.isolation.specs.Above.{above}
 use Rattle.isolation.specs.States.{begunPhase, SameState}
 

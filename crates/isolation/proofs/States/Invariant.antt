@@ -21,7 +21,7 @@ use Rattle.scheduler.specs.Scheduler.{dispatched, unstarted, leaves, step, step
 use Rattle.scheduler.proofs.Members.{none-among, among-rest}
 use Rattle.scheduler.proofs.Event.Effects.{enters-keep, dispatched-keeps, elseOf-keeps}
 use Rattle.scheduler.proofs.Choice.Dispatch.{Underway, underway-named, underway-step, underway-fresh}
-use Rattle.scheduler.proofs.Order.Range.{timed-body}
+use Rattle.scheduler.proofs.Kind.{timed-body}
 use Rattle.scheduler.proofs.Choice.Separation.{Kept, holder, holders, set-holds, step-kept, leaves-kept, fresh-kept}
 use Rattle.isolation.specs.States.{Sound}
 

@@ -8,12 +8,13 @@ use lib.Dec.{leb}
 use Rattle.number.proofs.Cases.{by-test, neither}
 use Rattle.config.specs.declared.Config.{Config}
 use Rattle.config.specs.Accepted as Configuration
-use Rattle.scheduler.specs.Body.{Phase, suspended, ready, started, waiting, triggered, isSuspended, hasBegun, competes}
+use Rattle.scheduler.specs.Body.{isSuspended, hasBegun}
 use Rattle.scheduler.specs.Choice.{Candidate, isNobody, byHolding, chosen}
 use Rattle.scheduler.specs.State.{State, bodyOf, runner}
 use Rattle.scheduler.specs.Event.{Event}
 use Rattle.scheduler.specs.Call.{noCaller}
 use Rattle.scheduler.specs.Scheduler.{begins, markOf, dispatchedTo, statusFor, leavesFor, leaves, step, stepBy, seen, seenBy}
+use Rattle.scheduler.proofs.Body.{competes-active}
 use Rattle.scheduler.proofs.Choice.Runner.{Taken, no-one, body, chosen-from, candidate-active, runner-timed, runner-untimed}
 use Rattle.scheduler.proofs.Members.{among-head}
 use Rattle.scheduler.proofs.Choice.Dispatch.{begins-some}
@@ -30,19 +31,12 @@ chosen-active : (c : Config) (x : State) → x .order ≡ [] → isNobody (runne
     → isSuspended (bodyOf x (runner c x .number) .phase) ≡ false
 chosen-active c x o some = go (chosen-from byHolding refl c (x .bodies))
   where
-    awake : (p : Phase) → competes p ≡ true → isSuspended p ≡ false
-    awake suspended h = absurd (true≢false (sym h))
-    awake ready h = refl
-    awake started h = refl
-    awake (waiting w) h = refl
-    awake (triggered y) h = refl
-
     go : Taken c (x .bodies) (chosen c (x .bodies)) → isSuspended (bodyOf x (runner c x .number) .phase) ≡ false
     go (no-one z) = absurd (true≢false (sym (ap isNobody (runner-untimed c x o ∙ z)) ∙ some))
     go (body k h p z) =
         let is = runner-untimed c x o ∙ z ∙ candidate-active c k (bodyOf x k) (bodyOf x k .phase) p in
         ap (λ (n : ℕ). isSuspended (bodyOf x n .phase)) (ap (λ (y : Candidate). y .number) is)
-        ∙ awake (bodyOf x k .phase) p
+        ∙ competes-active (bodyOf x k .phase) p
 
 module _ (c : Config) (ok : Configuration.Accepted c) (L : ℕ) where
   -- a body that is to begin is above L, being time-triggered, or in neither state suspended

@@ -11,7 +11,7 @@ use native.Mathlib.Omega.{arith}
 use borrow.Author.Tests.{lt-ltb, le-ltb, ne-eqb}
 use lib.Dec.{eqb}
 use lib.ListN.{set, length-set}
-use lib.Seq.{getD-set-same, getD-set-other, set-getD}
+use lib.Seq.{getD-set-same, set-getD}
 use Rattle.number.proofs.Cases.{by-lt, by-eq, cond-either}
 use Rattle.config.specs.declared.Config.{Config}
 use Rattle.config.specs.Meaning.{priorityOf}
@@ -27,7 +27,7 @@ use Rattle.machine.specs.Model.{Core, Picked, Model, Outcome, withCore}
 use Rattle.machine.specs.Arbiter.{bids, winning, beginning, dispatching, arbitrated, settled}
 use Rattle.machine.specs.Machine.{runnerOf}
 use Rattle.plan.proofs.Fitted.{Fitted}
-use Rattle.machine.proofs.Relation.Words.{at, Words, words-changed, competes-on, started-waits}
+use Rattle.machine.proofs.Relation.Words.{at, at-other, Words, words-changed, competes-on, started-waits}
 use Rattle.machine.proofs.Relation.Slots.{slotsFor, slotsAlong}
 use Rattle.machine.proofs.Relation.Nest.{levelAt, Nested, Seats, AlikeAlong, alike-outside, among-tail-false, nest-level, levelAt-alike, nested-alike, slotsAlong-alike, hold-alike}
 use Rattle.machine.proofs.Relation.Kinds.{Kinds}
@@ -160,9 +160,6 @@ module _ {c : Config} {p : Plan} {rk : ℕ → ℕ} (fit : Fitted c p rk) where
     at-w : at bs′ w ≡ become started (at bs w)
     at-w = getD-set-same bs w (become started (at bs w)) noBody (rw (t .size) (v .exists))
 
-    at-other : (i : ℕ) → i ≢ w → at bs′ i ≡ at bs i
-    at-other i n = getD-set-other bs w i (become started (at bs w)) noBody n
-
     -- a body that had begun stays as it is
     resumed-same : isStarted (at bs w .phase) ≡ true → bs′ ≡ bs
     resumed-same h = ap (set bs w) (go (at bs w) (at bs w .phase) refl h) ∙ set-getD bs w noBody
@@ -283,14 +280,14 @@ module _ {c : Config} {p : Plan} {rk : ℕ → ℕ} (fit : Fitted c p rk) where
           slots = rw (sym slots-same) (below .slots);
           loose = λ i h. by-eq i w
               (λ e. rw (e, at-w) free)
-              (λ n. rw (at-other i n) (below .loose i (among-tail-false i w ks h)));
+              (λ n. rw (at-other bs w (become started (at bs w)) i n) (below .loose i (among-tail-false i w ks h)));
         }
 
     calm′ : Calm c (winning (p .priority) (m .core)) bs′
     calm′ i i< a =
         by-eq i w
         (λ e. omega (arith, winning-is fit (t .words) kinds v, ap (priorityOf c) e))
-        (λ n. omega (arith, winning-is fit (t .words) kinds v, best i i< n (rw (at-other i n) at a)))
+        (λ n. omega (arith, winning-is fit (t .words) kinds v, best i i< n (rw (at-other bs w (become started (at bs w)) i n) at a)))
 
     -- "it is dispatched only if its priority is strictly above the level", which it is
     dispatches : arbitrated (p .priority) (m .core) ≡ record { core = k′; begun = beginning (m .core) }

@@ -11,7 +11,7 @@ use mathlib.Core.List.{List, [], _∷_, _++_}
 use native.Mathlib.Omega.{arith}
 use borrow.Author.Tests.{eq-eqb, ne-eqb}
 use lib.ListN.{set, length-set}
-use lib.Seq.{getD-set-same, getD-set-other}
+use lib.Seq.{getD-set-same}
 use Rattle.number.proofs.Cases.{by-eq, cond-either, refuted}
 use Rattle.config.specs.declared.Config.{Config}
 use Rattle.config.specs.Meaning.{isIsr}
@@ -21,13 +21,14 @@ use Rattle.word.proofs.Theorems.{has-with-same, has-with-other, with-lt, has-wi
 use Rattle.stack.specs.Stack.{topRow}
 use Rattle.scheduler.specs.Body.{Body, isStarted, started, waiting, become, activated, ended, finished, holds, current}
 use Rattle.scheduler.specs.State.{noBody}
+use Rattle.scheduler.proofs.Body.{started-competes}
 use Rattle.scheduler.proofs.Members.{among-head, among-tail}
 use Rattle.machine.specs.Model.{Model, noRank, withCore}
 use Rattle.machine.specs.Arbiter.{lastLevel, leftWith, vacated, leaving, paused}
 use Rattle.machine.specs.Events.{pausing}
 use Rattle.plan.proofs.Fitted.{Fitted}
 use Rattle.machine.proofs.Relation.Rows.{row-shows-top}
-use Rattle.machine.proofs.Relation.Words.{at, wants, isAside, Words, words-changed, started-competes, competes-on, started-waits}
+use Rattle.machine.proofs.Relation.Words.{at, at-other, wants, isAside, Words, words-changed, competes-on, started-waits}
 use Rattle.machine.proofs.Relation.Slots.{slotsFor, slotsAlong, SlotsOf}
 use Rattle.machine.proofs.Relation.Nest.{Nested, AllHold, Seats, AlikeAlong, alike-outside, not-among, nest-other, nested-alike, hold-alike, slotsAlong-alike}
 use Rattle.machine.proofs.Relation.Whole.{Tied}
@@ -86,9 +87,6 @@ module _ {c : Config} {p : Plan} {rk : ℕ → ℕ} (fit : Fitted c p rk) {m : M
     at-b : at bs′ b ≡ y
     at-b = getD-set-same bs b y noBody (rw (t .size) exists)
 
-    at-other : (i : ℕ) → i ≢ b → at bs′ i ≡ at bs i
-    at-other i n = getD-set-other bs b i y noBody n
-
     alike : AlikeAlong bs bs′ ns
     alike = alike-outside b y (λ i h. nest-other c bs b i ns (t .nested) h)
 
@@ -110,7 +108,7 @@ module _ {c : Config} {p : Plan} {rk : ℕ → ℕ} (fit : Fitted c p rk) {m : M
           slots = slots′;
           loose = λ i h. by-eq i b
               (λ z. rw (z, at-b) held)
-              (λ n. rw (at-other i n) (t .loose i (not-among i b ns n h)));
+              (λ n. rw (at-other bs b y i n) (t .loose i (not-among i b ns n h)));
         }
 
   -- the ended runner, by whether a request waits

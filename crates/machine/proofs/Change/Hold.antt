@@ -5,14 +5,13 @@
 --   latest-is     and then it is that of the latest of them
 use Prim.Native.Nat.{ℕ, _<_}
 use mathlib.Core.Path.{_≡_, refl, sym, ap, _∙_}
-use mathlib.Core.Logic.{_≢_}
 use mathlib.Core.Bool.{true, false, true≢false}
 use mathlib.Core.List.{List, [], _∷_, _++_}
 use native.Mathlib.Omega.{arith}
 use borrow.Author.Tests.{eq-eqb, ne-eqb}
 use lib.Dec.{eqb}
 use lib.ListN.{getD, set, length-set}
-use lib.Seq.{getD-set-same, getD-set-other}
+use lib.Seq.{getD-set-same}
 use Rattle.number.proofs.Cases.{by-eq}
 use Rattle.config.specs.declared.Config.{Config}
 use Rattle.config.specs.Meaning.{priorityOf}
@@ -26,7 +25,7 @@ use Rattle.machine.specs.Model.{Model, noRank, withLevel, withSlots}
 use Rattle.machine.specs.Resources.{holding, latest}
 use Rattle.plan.proofs.Fitted.{Fitted}
 use Rattle.machine.proofs.Relation.Rows.{row-shows-top}
-use Rattle.machine.proofs.Relation.Words.{at, words-changed, marks-same, unmoved-same, isAside}
+use Rattle.machine.proofs.Relation.Words.{at, at-other, words-changed, marks-same, unmoved-same, isAside}
 use Rattle.machine.proofs.Relation.Slots.{Slot, slot, levelWith, slotsFor, slotsAlong, holdersIn, Slots, SlotsOf}
 use Rattle.machine.proofs.Relation.Nest.{levelAt, Nested, Seats, AlikeAlong, alike-outside, nest-other, nest-exists, nest-started, levelAt-alike, nested-alike, hold-alike, slotsAlong-alike}
 use Rattle.machine.proofs.Relation.Whole.{Tied}
@@ -141,11 +140,8 @@ module _ {c : Config} {p : Plan} {rk : ℕ → ℕ} (fit : Fitted c p rk) {m : M
     at-b : at bs′ b ≡ y
     at-b = getD-set-same bs b y noBody (rw (t .size) exists)
 
-    at-other : (i : ℕ) → i ≢ b → at bs′ i ≡ at bs i
-    at-other i n = getD-set-other bs b i y noBody n
-
     begun-same : (i : ℕ) → isStarted (at bs′ i .phase) ≡ isStarted (at bs i .phase)
-    begun-same i = by-eq i b (λ e. rw (e, at-b) (ap isStarted phase)) (λ n. rw (at-other i n))
+    begun-same i = by-eq i b (λ e. rw (e, at-b) (ap isStarted phase)) (λ n. rw (at-other bs b y i n))
 
     alike : AlikeAlong bs bs′ ns
     alike = alike-outside b y (λ i h. nest-other c bs b i ns (t .nested) h)
@@ -168,5 +164,5 @@ module _ {c : Config} {p : Plan} {rk : ℕ → ℕ} (fit : Fitted c p rk) {m : M
           slots = rw (at-b, sym (slotsAlong-alike c rk alike)) slots;
           loose = λ i h. by-eq i b
               (λ e. absurd (true≢false (sym (among-head b ns) ∙ (rw e at h))))
-              (λ n. rw (at-other i n) (t .loose i h));
+              (λ n. rw (at-other bs b y i n) (t .loose i h));
         }

@@ -12,7 +12,7 @@ use native.Mathlib.Omega.{arith}
 use borrow.Author.Tests.{lt-ltb, le-ltb, eq-eqb, ne-eqb}
 use lib.Dec.{ltb, eqb}
 use lib.ListN.{getD, set, length-set}
-use lib.Seq.{getD-set-same, getD-set-other}
+use lib.Seq.{getD-set-same}
 use Rattle.number.proofs.Cases.{by-lt, by-eq}
 use Rattle.config.specs.declared.Config.{Config}
 use Rattle.config.specs.Meaning.{executionLevel, triggerLevel, isIsr, isTimed}
@@ -24,7 +24,7 @@ use Rattle.scheduler.specs.State.{noBody, among}
 use Rattle.machine.specs.Model.{Model, doneWith}
 use Rattle.machine.specs.Arbiter.{bids, winning, isTriggered, entering, launching, triggering, settled}
 use Rattle.plan.proofs.Fitted.{Fitted}
-use Rattle.machine.proofs.Relation.Words.{at, Words, words-changed}
+use Rattle.machine.proofs.Relation.Words.{at, at-other, Words, words-changed}
 use Rattle.machine.proofs.Relation.Nest.{AlikeAlong, alike-outside, nest-started, timed-seats, nested-alike, hold-alike, slotsAlong-alike}
 use Rattle.machine.proofs.Relation.Kinds.{isBidding, Kinds, trigger-timed}
 use Rattle.machine.proofs.Relation.Whole.{Tied, latest-seat}
@@ -91,9 +91,6 @@ module _ {c : Config} {p : Plan} {rk : ℕ → ℕ} (fit : Fitted c p rk) {m : M
   at-j : at bs′ j ≡ y
   at-j = getD-set-same bs j y noBody (rw (t .size) j<)
 
-  at-other : (i : ℕ) → i ≢ j → at bs′ i ≡ at bs i
-  at-other i n = getD-set-other bs j i y noBody n
-
   words′ : Words c rk (entering (m .core)) bs′
   words′ =
       words-changed fit (t .words) (t .size) j j< y (entering (m .core)) (t .words .suits j .0, λ _. task)
@@ -136,5 +133,5 @@ module _ {c : Config} {p : Plan} {rk : ℕ → ℕ} (fit : Fitted c p rk) {m : M
         slots = rw (sym (slotsAlong-alike c rk alike)) (below .slots);
         loose = λ i h. by-eq i j
             (λ e. rw (e, at-j) (below .loose j (rw e at h)))
-            (λ n. rw (at-other i n) (below .loose i h));
+            (λ n. rw (at-other bs j y i n) (below .loose i h));
       }

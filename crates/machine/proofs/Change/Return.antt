@@ -8,7 +8,7 @@ use mathlib.Core.List.{List, [], _∷_, map}
 use native.Mathlib.Omega.{arith}
 use borrow.Author.Tests.{eq-eqb, ne-eqb}
 use lib.ListN.{getD, set, length-set}
-use lib.Seq.{getD-set-same, getD-set-other}
+use lib.Seq.{getD-set-same}
 use Rattle.number.proofs.Cases.{by-eq}
 use Rattle.config.specs.declared.Config.{Config}
 use Rattle.config.specs.Meaning.{executionLevel}
@@ -23,7 +23,7 @@ use Rattle.machine.specs.Model.{Model, noRank}
 use Rattle.machine.specs.Arbiter.{alone, returned, returning}
 use Rattle.plan.proofs.Fitted.{Fitted}
 use Rattle.machine.proofs.Relation.Rows.{Shows, row-shows-second}
-use Rattle.machine.proofs.Relation.Words.{at, wants, isAside, Words, words-changed}
+use Rattle.machine.proofs.Relation.Words.{at, at-other, wants, isAside, Words, words-changed}
 use Rattle.machine.proofs.Relation.Slots.{slotsAlong, SlotsOf}
 use Rattle.machine.proofs.Relation.Nest.{Nested, AllHold, Seats, AlikeAlong, alike-outside, nest-started, timed-seats, nested-alike, hold-alike, slotsAlong-alike}
 use Rattle.machine.proofs.Relation.Whole.{Tied, latest-seat}
@@ -53,9 +53,6 @@ module _ {c : Config} {p : Plan} {rk : ℕ → ℕ} (fit : Fitted c p rk) {m : M
 
   at-j : at bs′ j ≡ y
   at-j = getD-set-same bs j y noBody (rw (t .size) j<)
-
-  at-other : (i : ℕ) → i ≢ j → at bs′ i ≡ at bs i
-  at-other i n = getD-set-other bs j i y noBody n
 
   -- whoever is in the nest is started
   other : (i : ℕ) → among i ns ≡ true → i ≢ j
@@ -119,5 +116,5 @@ module _ {c : Config} {p : Plan} {rk : ℕ → ℕ} (fit : Fitted c p rk) {m : M
         slots = slots′;
         loose = λ i h. by-eq i j
             (λ e. rw (e, at-j) (ap (λ (x : Body). x .held) y-is ∙ held))
-            (λ n. rw (at-other i n) (t .loose i h));
+            (λ n. rw (at-other bs j y i n) (t .loose i h));
       }

@@ -10,12 +10,12 @@ use mathlib.Core.Bool.{Bool, false, _&&_}
 use mathlib.Core.List.{List, [], _∷_, _++_, map}
 use native.Mathlib.Nat.{zero-add, add-zero}
 use native.Mathlib.Omega.{arith}
-use lib.ListN.{length, getD, set, take, drop, replicate, length-append, length-take, length-drop, length-map, length-set, List·getD-map}
+use lib.ListN.{length, getD, set, take, drop, replicate, length-map, length-set, List·getD-map}
 use lib.Seq.{getD-set-same, getD-set-other, drop-cons}
 use Rattle.number.proofs.Cases.{by-eq}
 use Rattle.config.specs.declared.Config.{Config}
 use Rattle.config.specs.Value.{maxEntries}
-use Rattle.config.specs.Meaning.{firstOf, offsets}
+use Rattle.config.specs.Meaning.{firstOf}
 use Rattle.config.proofs.Tables.{firstOf-step, firstOf-rises, firstOf-zero}
 use Rattle.plan.specs.declared.Plan.{Plan}
 use Rattle.cell.specs.declared.Cell.{Cell}
@@ -23,6 +23,8 @@ use Rattle.cell.specs.Cell.{unmarked, tickCell}
 use Rattle.cell.proofs.Theorems.{off-ticked-same, on-time-matched, on-time-numbers}
 use Rattle.scheduler.specs.State.{Table, stopped, running, State}
 use Rattle.scheduler.specs.Tick.{counting, entryDue, duesFrom, dues}
+use Rattle.scheduler.proofs.Table.Entries.{entries-long}
+use Rattle.scheduler.proofs.Table.Dues.{length-dues}
 use Rattle.machine.specs.Cells.{isOn, hasTurn, cellAt, countersTicked, marks, Tally, requestsDue}
 use Rattle.plan.proofs.Fitted.{Fitted}
 use Rattle.machine.proofs.Relation.Cells.{CellFits, CellsTied}
@@ -111,31 +113,10 @@ module _ (w : Bool) (ks on : List ℕ) where
       (table-marks n (suc e) ns os f (omega arith) (λ i a b. each i (omega arith) (omega arith))))
 
 module _ {c : Config} {p : Plan} {rk : ℕ → ℕ} (fit : Fitted c p rk) where
-  length-offsets : (t : ℕ) → t < c .tables → length (offsets c t) ≡ getD (c .entries) t 0
-  length-offsets t h =
-      length-take (getD (c .entries) t 0) (drop (firstOf c t) (c .offset))
-      ∙ rw (length-drop (firstOf c t) (c .offset))
-      (omega (arith, fit .offsets-long, fit .few-entries, firstOf-step c t, firstOf-rises c (suc t) (c .tables) h))
-
-  dues-from-long : (ts : List Table) (t : ℕ) → t + length ts ≡ c .tables
-      → firstOf c t + length (duesFrom c t ts) ≡ firstOf c (c .tables)
-  unfolding duesFrom
-  dues-from-long [] t e = let q : t ≡ c .tables = omega arith in rw q (omega arith)
-  dues-from-long (x ∷ xs) t e =
-      let r = dues-from-long xs (suc t) (omega arith) in
-      rw (
-        length-append (map (due x t) (offsets c t)) (duesFrom c (suc t) xs),
-        length-map (offsets c t) (due x t),
-        length-offsets t (omega arith),
-      )
-      (omega (arith, firstOf-step c t))
-    where
-      due : Table → ℕ → ℕ → Bool
-      due x t = entryDue (getD (c .period) t 0) x
-
   -- as many entries as cells
   pub dues-long : (s : State) → length (s .tables) ≡ c .tables → length (dues c s) ≡ p .count
-  dues-long s h = omega (arith, dues-from-long (s .tables) 0 (omega arith), firstOf-zero c, fit .count-is)
+  dues-long s h =
+      length-dues c s h ∙ entries-long c (omega (arith, fit .offsets-long, fit .few-entries)) ∙ sym (fit .count-is)
 
 -- a cell matches exactly if its entry is due at this tick
 cell-due : (P o : ℕ) (x : Cell) (t : Table) → CellFits P o x t → tickCell x .matched ≡ entryDue P (counting t) o

@@ -30,6 +30,7 @@ use Rattle.scheduler.specs.Call.{nobodyRuns, nobodyCalls, caller, statusOf, eff
 use Rattle.scheduler.specs.Tick.{dues}
 use Rattle.scheduler.specs.Scheduler as Plain
 use Rattle.scheduler.specs.Scheduler.{Event, step, stepBy, begins, phaseBegun, dispatched, ending, noneDue, markOf}
+use Rattle.scheduler.proofs.Body.{competes-active}
 use Rattle.scheduler.proofs.Choice.Runner.{current-own, candidate-active, Taken, no-one, body, chosen-from}
 use Rattle.scheduler.proofs.Choice.Dispatch.{begins-some}
 use Rattle.scheduler.proofs.Order.Invariant.{Orderly, effect-orderly, refusal-orderly, orderly-step}
@@ -41,7 +42,7 @@ use Rattle.machine.specs.Events as Machine
 use Rattle.machine.specs.Events.{idles, noCaller}
 use Rattle.machine.specs.Machine.{machineStep, lossesOf, matched, observed}
 use Rattle.plan.proofs.Fitted.{Fitted}
-use Rattle.machine.proofs.Relation.Words.{at, competes-active}
+use Rattle.machine.proofs.Relation.Words.{at}
 use Rattle.machine.proofs.Relation.Nest.{Nested, Seats}
 use Rattle.machine.proofs.Relation.Rows.{Shows}
 use Rattle.machine.proofs.Relation.Order.{latest-exists, latest-begun, kinds-of}

@@ -20,6 +20,9 @@ use Rattle.scheduler.specs.State.{State, noBody, changing}
 use Rattle.scheduler.specs.Call.{caller, waitStatus, setStatus, clearStatus, wait, setEvent, clear}
 use Rattle.scheduler.specs.Tick.{dues}
 use Rattle.scheduler.specs.Scheduler.{Wait, Set, Clear, stepBy}
+use Rattle.scheduler.proofs.Kind.{of-one-kind}
+use Rattle.scheduler.proofs.Body.{nothing-held}
+use Rattle.scheduler.proofs.Body.{competes-active, started-competes}
 use Rattle.scheduler.proofs.Event.Checks.{wait-passed, set-passed}
 use Rattle.scheduler.proofs.Order.Invariant.{Orderly}
 use Rattle.machine.specs.Model.{Core, Model, noRank, withBegun, doneWith}
@@ -28,17 +31,17 @@ use Rattle.machine.specs.Events as Machine
 use Rattle.machine.specs.Events.{bitsAt, pausing, receiving, clearing}
 use Rattle.machine.specs.Machine.{statusOf, effectOf, elseOf}
 use Rattle.plan.proofs.Fitted.{Fitted}
-use Rattle.machine.proofs.Relation.Words.{at, busy-is, words-changed, marks-same, unmoved-same, started-competes, competes-active}
+use Rattle.machine.proofs.Relation.Words.{at, busy-is, words-changed, marks-same, unmoved-same}
 use Rattle.machine.proofs.Relation.Losses.{lost-same}
 use Rattle.machine.proofs.Relation.Bits.{NotedOf, noted-changed}
 use Rattle.machine.proofs.Relation.Whole.{Tied, Sim}
-use Rattle.machine.proofs.Relation.Order.{of-one-kind, untriggered}
+use Rattle.machine.proofs.Relation.Order.{untriggered}
 use Rattle.machine.proofs.Arbitration.Dispatch.{rank-below}
 use Rattle.machine.proofs.Change.Request.{touched-tied, event-bits-tied}
 use Rattle.machine.proofs.Change.End.{pause-tied}
 use Rattle.machine.proofs.Change.Bits.{bits-of, receive-tied, receive-noted, clear-noted}
 use Rattle.machine.proofs.Event.Agrees.{kept, first-same, Agrees, Done, Keeps, Runs, call-same, by-call, caller-same, untimed-tied, settled-done, calm-done, agrees-attempt}
-use Rattle.machine.proofs.Event.Bodies.{task-exists, nothing-held, holding-same}
+use Rattle.machine.proofs.Event.Bodies.{task-exists, holding-same}
 
 module _ {c : Config} {p : Plan} {rk : ℕ → ℕ} (fit : Fitted c p rk) {m : Model} {s : State} (sim : Sim c p rk m s)
     (keeps : Keeps c s) (long : length (dues c s) ≡ p .count) where

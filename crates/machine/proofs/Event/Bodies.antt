@@ -3,7 +3,7 @@ use Prim.Native.Nat.{ℕ, _<_}
 use mathlib.Core.Path.{_≡_, refl, sym, ap, ap₂, subst, _∙_}
 use mathlib.Core.Logic.{_≢_}
 use mathlib.Core.Bool.{Bool, true, false, true≢false, cond, not, _&&_, and-false}
-use mathlib.Core.List.{List, [], _∷_, map}
+use mathlib.Core.List.{List, _∷_, map}
 use native.Mathlib.Omega.{arith}
 use borrow.Author.Tests.{eq-eqb, ne-eqb, ltb-true, not-false}
 use lib.Dec.{ltb, eqb}
@@ -23,6 +23,8 @@ use Rattle.scheduler.specs.Call.{nobodyCalls, caller, calling, finishStatus, ch
 use Rattle.scheduler.specs.Call as Plain
 use Rattle.scheduler.specs.Tick.{dues}
 use Rattle.scheduler.specs.Scheduler.{Activate, Finish, Chain, Line, stepBy}
+use Rattle.scheduler.proofs.Body.{nothing-held}
+use Rattle.scheduler.proofs.Kind.{timed-body}
 use Rattle.scheduler.proofs.Event.Effects.{finished-losses}
 use Rattle.scheduler.proofs.Order.Invariant.{Orderly}
 use Rattle.scheduler.proofs.Event.Checks.{activate-passed, finish-passed, chain-passed, line-passed}
@@ -36,7 +38,7 @@ use Rattle.machine.specs.Machine.{statusOf, effectOf, elseOf}
 use Rattle.plan.proofs.Fitted.{Fitted}
 use Rattle.machine.proofs.Relation.Words.{at, wants, isAside, busy-is}
 use Rattle.machine.proofs.Relation.Rows.{Shows, row-shows-popped}
-use Rattle.machine.proofs.Relation.Order.{timed-exists, latest-free}
+use Rattle.machine.proofs.Relation.Order.{latest-free}
 use Rattle.machine.proofs.Relation.Losses.{lost-same, lost-one}
 use Rattle.machine.proofs.Relation.Bits.{eventBits, Noted, NotedOf, noted-touched, noted-changed}
 use Rattle.machine.proofs.Relation.Whole.{Tied, Sim}
@@ -56,11 +58,6 @@ module _ (c : Config) where
 
   isr-exists : (i : ℕ) → isIsr c i ≡ true → i < c .bodies
   isr-exists i e = ltb-true i (c .bodies) (and-true (ltb i (c .bodies)) _ e .0)
-
--- a runner that holds nothing
-pub nothing-held : (rs : List ℕ) → holds rs ≡ false → rs ≡ []
-nothing-held [] h = refl
-nothing-held (r ∷ rs) h = absurd (true≢false h)
 
 module _ {c : Config} {p : Plan} {rk : ℕ → ℕ} (fit : Fitted c p rk) where
   -- a test that both sides make: whether a body has a rank among those of its kind
@@ -285,7 +282,7 @@ module _ {c : Config} {p : Plan} {rk : ℕ → ℕ} (fit : Fitted c p rk) where
         row = subst (λ (js : List ℕ). Shows (rowBytes (m .triggered)) (map rk js)) (k .order-is) (sim .row)
 
         exist : (i : ℕ) → among i js ≡ true → i < c .bodies
-        exist i h = timed-exists c i (sim .orderly .started-timed i (rw (k .order-is) (among-tail i j js h)))
+        exist i h = timed-body c i (sim .orderly .started-timed i (rw (k .order-is) (among-tail i j js h)))
 
         left : Tied c rk (returning m) (finishTimed (caller c s) s .bodies) (rest (s .order)) (sim .nest)
         left =

@@ -18,6 +18,7 @@ use Rattle.scheduler.specs.State.{State, among, heldIn, bodyOf}
 use Rattle.scheduler.specs.Call.{caller, latestIs, getStatus, releaseStatus, get, release}
 use Rattle.scheduler.specs.Tick.{dues}
 use Rattle.scheduler.specs.Scheduler.{Get, Release, stepBy}
+use Rattle.scheduler.proofs.Body.{started-competes}
 use Rattle.scheduler.proofs.Event.Checks.{get-passed, release-passed}
 use Rattle.scheduler.proofs.Members.{among-tail}
 use Rattle.machine.specs.Model.{Model, doneWith}
@@ -26,7 +27,7 @@ use Rattle.machine.specs.Resources.{getting, releasing}
 use Rattle.machine.specs.Events as Machine
 use Rattle.machine.specs.Machine.{statusOf, effectOf, elseOf}
 use Rattle.plan.proofs.Fitted.{Fitted}
-use Rattle.machine.proofs.Relation.Words.{at, started-competes}
+use Rattle.machine.proofs.Relation.Words.{at}
 use Rattle.machine.proofs.Relation.Slots.{Slot, slotsFor, slotsAlong, resourcesIn}
 use Rattle.machine.proofs.Relation.Nest.{Nested, by-among, among-nil}
 use Rattle.machine.proofs.Relation.Losses.{lost-same}

@@ -15,12 +15,14 @@ use Rattle.plan.specs.declared.Plan.{Plan}
 use Rattle.word.specs.Word.{winner}
 use Rattle.stack.specs.Stack.{pushRow, rowBytes}
 use Rattle.scheduler.specs.Status.{done, firstGiven}
-use Rattle.scheduler.specs.Body.{Phase, suspended, ready, started, waiting, triggered, isSuspended, isStarted, isWaiting, hasBegun, Body, become, activated, triggers, loses}
+use Rattle.scheduler.specs.Body.{Phase, suspended, triggered, isSuspended, isStarted, isWaiting, hasBegun, Body, become, activated, triggers, loses}
 use Rattle.scheduler.specs.Choice.{Candidate}
 use Rattle.scheduler.specs.State.{State, among, bodyOf, changing, runner}
 use Rattle.scheduler.specs.Tick.{counting, counted, dues, starting, enter, activatingDue}
 use Rattle.scheduler.specs.Tick as Plain
 use Rattle.scheduler.specs.Scheduler.{Tick, stepBy}
+use Rattle.scheduler.proofs.Body.{suspended-is}
+use Rattle.scheduler.proofs.Kind.{of-one-kind}
 use Rattle.scheduler.proofs.Event.Effects.{tables-ticked}
 use Rattle.scheduler.proofs.Order.Standing.{Place, other, asleep, awake}
 use Rattle.scheduler.proofs.Order.Invariant.{Orderly, Started, TickOrder, order-same, starts, tick-order}
@@ -36,7 +38,7 @@ use Rattle.machine.proofs.Relation.Cells.{CellsOf}
 use Rattle.machine.proofs.Relation.Losses.{Lost, lost-same, lost-one}
 use Rattle.machine.proofs.Relation.Bits.{NotedOf, noted-touched}
 use Rattle.machine.proofs.Relation.Kinds.{isBidding}
-use Rattle.machine.proofs.Relation.Order.{of-one-kind, kinds-of}
+use Rattle.machine.proofs.Relation.Order.{kinds-of}
 use Rattle.machine.proofs.Relation.Whole.{Tied, Sim}
 use Rattle.machine.proofs.Arbitration.Seat.{holders}
 use Rattle.machine.proofs.Arbitration.Dispatch.{Arbitrated, rank-below, runnerOf-is}
@@ -63,13 +65,6 @@ module _ (c : Config) (rk : ℕ → ℕ) (rs ts : List ℕ) where
       let x = each e (omega arith) (omega arith) in
       let later = entries-from ms (suc e) (omega arith) (omega arith) (λ i a l. each i (omega arith) (omega arith)) in
       rw (drop-cons rs e 0 (omega arith), drop-cons ts e 0 (omega arith)) (x .0, (x .1, later))
-
-suspended-is : (q : Phase) → isSuspended q ≡ true → q ≡ suspended
-suspended-is suspended h = refl
-suspended-is ready h = absurd (true≢false (sym h))
-suspended-is started h = absurd (true≢false (sym h))
-suspended-is (waiting w) h = absurd (true≢false (sym h))
-suspended-is (triggered x) h = absurd (true≢false (sym h))
 
 -- the model with other requests and losses
 abbrev withTally : Model → Tally → Model

@@ -1,40 +1,22 @@
 -- What a state in order (crate scheduler, `Orderly`) says of its bodies, in the words of the relation.
 --
---   of-one-kind                a body of one kind is of no other
---   timed-exists               a time-triggered task is a body
 --   untriggered                no other body is triggered
 --   kinds-of                   who bids for the processor by priority is no time-triggered task
 use Prim.Native.Nat.{ℕ, _<_}
 use mathlib.Core.Path.{_≡_, refl, sym, ap, _∙_}
 use mathlib.Core.Logic.{_≢_}
-use mathlib.Core.Bool.{Bool, true, false, true≢false, _&&_, and-false}
+use mathlib.Core.Bool.{Bool, true, false, true≢false}
 use mathlib.Core.List.{List, [], _∷_}
-use borrow.Author.Tests.{ltb-true, eqb-true, ne-eqb}
-use lib.Dec.{ltb, eqb}
-use lib.ListN.{getD}
-use Rattle.number.proofs.Cases.{by-test, and-true, refuted}
+use Rattle.number.proofs.Cases.{by-test, refuted}
 use Rattle.config.specs.declared.Config.{Config}
 use Rattle.config.specs.Meaning.{isTimed}
 use Rattle.scheduler.specs.Body.{Phase, suspended, ready, started, waiting, triggered, hasBegun, competes}
 use Rattle.scheduler.specs.State.{State, among}
+use Rattle.scheduler.proofs.Kind.{timed-body}
 use Rattle.scheduler.proofs.Order.Invariant.{Orderly}
 use Rattle.scheduler.proofs.Members.{among-head}
 use Rattle.machine.proofs.Relation.Words.{at}
 use Rattle.machine.proofs.Relation.Kinds.{isBidding, Kinds}
-
--- a body of one kind is of no other
-pub of-one-kind : (c : Config) (b k k′ : ℕ) → k ≢ k′ → ltb b (c .bodies) && eqb (getD (c .kind) b 0) k ≡ true
-    → ltb b (c .bodies) && eqb (getD (c .kind) b 0) k′ ≡ false
-of-one-kind c b k k′ n h =
-    ap (λ (x : Bool). ltb b (c .bodies) && x)
-    (ne-eqb (getD (c .kind) b 0) k′ (λ e. n (sym kind ∙ e)))
-    ∙ and-false (ltb b (c .bodies))
-  where
-    kind : getD (c .kind) b 0 ≡ k
-    kind = eqb-true (getD (c .kind) b 0) k (and-true (ltb b (c .bodies)) _ h .1)
-
-pub timed-exists : (c : Config) (j : ℕ) → isTimed c j ≡ true → j < c .bodies
-timed-exists c j timed = ltb-true j (c .bodies) (and-true (ltb j (c .bodies)) _ timed .0)
 
 module _ {c : Config} {s : State} (o : Orderly c s) where
   -- the latest time-triggered task that is started
@@ -46,7 +28,7 @@ module _ {c : Config} {s : State} (o : Orderly c s) where
     latest-timed = o .started-timed j first
 
     pub latest-exists : j < c .bodies
-    latest-exists = timed-exists c j latest-timed
+    latest-exists = timed-body c j latest-timed
 
     pub latest-begun : at (s .bodies) j .phase ≡ triggered true
     latest-begun = o .started-begun j first

@@ -2,7 +2,7 @@
 --
 --   Words c rk k bs   the words of the core k are those of the bodies bs
 --   words-changed     one body is changed, and the words follow it
---   started-competes  what one answer about a phase says of another; competes-active, competes-on, started-waits
+--   competes-on       what one answer about a phase says of another; started-waits
 --   busy-is           which bodies have a bit at all
 use Prim.Native.Nat.{ℕ, _^_, _<_}
 use mathlib.Core.Path.{_≡_, refl, sym, ap, ap₂, _∙_}
@@ -26,6 +26,10 @@ use Rattle.plan.proofs.Fitted.{Fitted}
 -- body b of a list of bodies
 abbrev pub at : List Body → ℕ → Body
 at bs b = getD bs b noBody
+
+-- a change of one leaves the others
+pub at-other : (bs : List Body) (b : ℕ) (y : Body) (i : ℕ) → i ≢ b → at (set bs b y) i ≡ at bs i
+at-other bs b y i n = getD-set-other bs b i y noBody n
 
 -- it has begun, and does not go on by its priority
 abbrev pub isAside : Phase → Bool
@@ -83,29 +87,26 @@ module _ {c : Config} {p : Plan} {rk : ℕ → ℕ} (fit : Fitted c p rk) {k : C
         aside-lt = there .aside-lt;
         asks = λ i i<. by-eq i b
             (λ e. rw (e, at-b) (here .asks))
-            (λ n. rw (at-other i n) (there .asks (rk i) (other-rank i i< n) ∙ w .asks i i<));
+            (λ n. rw (at-other bs b y i n) (there .asks (rk i) (other-rank i i< n) ∙ w .asks i i<));
         goes-on = λ i i<. by-eq i b
             (λ e. rw (e, at-b) (here .goes-on))
-            (λ n. rw (at-other i n) (there .goes-on (rk i) (other-rank i i< n) ∙ w .goes-on i i<));
+            (λ n. rw (at-other bs b y i n) (there .goes-on (rk i) (other-rank i i< n) ∙ w .goes-on i i<));
         put-aside = λ i i<. by-eq i b
             (λ e. rw (e, at-b) (here .put-aside))
-            (λ n. rw (at-other i n) (there .put-aside (rk i) (other-rank i i< n) ∙ w .put-aside i i<));
+            (λ n. rw (at-other bs b y i n) (there .put-aside (rk i) (other-rank i i< n) ∙ w .put-aside i i<));
         real = λ r h. by-eq r (rk b)
             (λ e. (b, (b<, sym e)))
             (λ n. w .real r (bids-other r n ∙ h));
         quiet = λ i h. by-eq i b
             (λ e. rw (e, at-b) (here .quiet (rw (e, at-b) at h)))
-            (λ n. rw (at-other i n) (w .quiet i (rw (at-other i n) at h)));
+            (λ n. rw (at-other bs b y i n) (w .quiet i (rw (at-other bs b y i n) at h)));
         suits = λ i. by-eq i b
             (λ e. rw (e, at-b) fits)
-            (λ n. rw (at-other i n) (w .suits i));
+            (λ n. rw (at-other bs b y i n) (w .suits i));
       }
     where
       at-b : at (set bs b y) b ≡ y
       at-b = getD-set-same bs b y noBody (rw size b<)
-
-      at-other : (i : ℕ) → i ≢ b → at (set bs b y) i ≡ at bs i
-      at-other i n = getD-set-other bs b i y noBody n
 
       other-rank : (i : ℕ) → i < c .bodies → i ≢ b → rk i ≢ rk b
       other-rank i i< n e = n (fit .rank-inj i b i< b< e)
@@ -121,22 +122,6 @@ waits-same x y ready e = refl
 waits-same x y started e = e
 waits-same x y (waiting w) e = e
 waits-same x y (triggered z) e = refl
-
--- who is started may run by its priority
-pub started-competes : (q : Phase) → isStarted q ≡ true → competes q ≡ true
-started-competes suspended h = h
-started-competes ready h = refl
-started-competes started h = refl
-started-competes (waiting w) h = h
-started-competes (triggered x) h = h
-
--- who may is neither suspended nor put aside
-pub competes-active : (q : Phase) → competes q ≡ true → isSuspended q ≡ false
-competes-active suspended h = absurd (true≢false (sym h))
-competes-active ready h = refl
-competes-active started h = refl
-competes-active (waiting w) h = refl
-competes-active (triggered x) h = refl
 
 pub competes-on : (q : Phase) → competes q ≡ true → isAside q ≡ false
 competes-on suspended h = refl

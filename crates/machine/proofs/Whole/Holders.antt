@@ -31,12 +31,13 @@ use Rattle.scheduler.specs.Choice.{Candidate}
 use Rattle.scheduler.specs.State.{State, bodyOf, among, heldIn}
 use Rattle.scheduler.specs.Call.{nobodyRuns, nobodyCalls, caller, calling, getStatus}
 use Rattle.scheduler.specs.Scheduler.{Get, Seen, stepBy}
+use Rattle.scheduler.proofs.Body.{started-competes}
 use Rattle.scheduler.proofs.Choice.Runner.{current-held}
 use Rattle.scheduler.proofs.Members.{among-head, among-tail}
 use Rattle.machine.specs.Model.{Model, noRank}
 use Rattle.machine.specs.Events.{idles}
 use Rattle.machine.specs.Machine.{machineStep, runnerOf}
-use Rattle.machine.proofs.Relation.Words.{at, started-competes}
+use Rattle.machine.proofs.Relation.Words.{at}
 use Rattle.machine.proofs.Relation.Slots.{Slot, slotsFor, slotsAlong, resourcesIn, holdersIn, levelsIn, levelWith}
 use Rattle.machine.proofs.Relation.Nest.{Nested, Seats, by-among, nest-level, nest-exists}
 use Rattle.machine.proofs.Relation.Kinds.{trigger-plain, trigger-timed}

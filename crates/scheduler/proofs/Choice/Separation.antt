@@ -30,6 +30,7 @@ use Rattle.scheduler.specs.Tick.{counted, dues}
 use Rattle.scheduler.specs.Call.{caller, finish, finishTimed, statusOf, effectOf}
 use Rattle.scheduler.specs.Scheduler.{begins, phaseBegun, markOf, dispatched, newBody, leaves, unstarted, fresh, step, stepBy, after, afterBy}
 use Rattle.scheduler.specs.History.{AcceptedIn}
+use Rattle.scheduler.proofs.Body.{started-competes, unbegun-unstarted}
 use Rattle.scheduler.proofs.Choice.Runner.{contender, weight, chosen-weight, chosen-from, candidate-active, current-own, current-free, Taken, no-one, body, runner-timed, runner-untimed}
 use Rattle.scheduler.proofs.Event.Checks.{activate-passed, finish-passed, chain-passed, get-passed, release-passed, wait-passed, accepted-untimed}
 use Rattle.scheduler.proofs.Event.Effects.{entered, activatingDue-keeps, elseOf-keeps}
@@ -69,13 +70,6 @@ record Quiet (In : Body → Bool) (x y : Body) : Type 0 where
   held : x .held ≡ y .held
   among : In y ≡ true → In x ≡ true
   steady : Steady x → Steady y
-
-pub started-competes : (q : Phase) → isStarted q ≡ true → competes q ≡ true
-started-competes suspended h = absurd (true≢false (sym h))
-started-competes ready h = absurd (true≢false (sym h))
-started-competes started h = refl
-started-competes (waiting w) h = absurd (true≢false (sym h))
-started-competes (triggered x) h = absurd (true≢false (sym h))
 
 -- which bodies are kept apart: those that hold a resource are among them, all of them are started, and nobody else
 -- comes to be one but by a dispatch, a Get, and for the last one a Set
@@ -433,14 +427,7 @@ module _ (c : Config) (ok : Configuration.Accepted c) where
             subst⁻¹ (λ (x : Candidate). Kept c In (changing (x .number) (become (phaseBegun x)) s .bodies)) is
             (quiet s a j (become (triggered true))
             (becomes-triggered K (bodyOf s j) true
-            (unbegun (bodyOf s j .phase) (sym (ap (λ (x : Candidate). x .began) is) ∙ begins-some (runner c s) e .1))))
-          where
-            unbegun : (p : Phase) → hasBegun p ≡ false → isStarted p ≡ false
-            unbegun suspended h = refl
-            unbegun ready h = refl
-            unbegun started h = h
-            unbegun (waiting w) h = refl
-            unbegun (triggered x) h = refl
+            (unbegun-unstarted (bodyOf s j .phase) (sym (ap (λ (x : Candidate). x .began) is) ∙ begins-some (runner c s) e .1))))
 
     pub step-kept : (s : State) → Kept c In (s .bodies) → Underway c s → (e : Event)
         → Kept c In (step c s e .state .bodies)

@@ -18,7 +18,7 @@ use Rattle.config.specs.declared.Config.{Config}
 use Rattle.config.specs.Meaning.{countsLines, isTimed}
 use Rattle.scheduler.specs.Bits.{anySet}
 use Rattle.scheduler.specs.Status.{done, limitReached}
-use Rattle.scheduler.specs.Body.{ready, isSuspended, hasBegun, Body, become, activated, triggers, rest, finished, requested, gets, releases, activatedByEntry, loses, waits, receives, clears}
+use Rattle.scheduler.specs.Body.{isSuspended, hasBegun, Body, become, activated, triggers, rest, finished, requested, gets, releases, activatedByEntry, loses, waits, receives, clears}
 use Rattle.scheduler.specs.State.{State, Table, stopped, noBody, bodyOf, changing, withTable, runner}
 use Rattle.scheduler.specs.Call.{caller, finish, finishTimed, statusOf, effectOf, elseOf}
 use Rattle.scheduler.specs.Tick.{counting, counted, starting, trigger, enter, activatingDue, dues, ticked}
@@ -88,10 +88,6 @@ requested-losses b = cond-either (λ (x : Body). x .losses ≡ b .losses) (hasBe
 
 pub waits-losses : (w : ℕ) → KeepsLosses (waits w)
 waits-losses w b = cond-either (λ (x : Body). x .losses ≡ b .losses) (anySet (b .bits) w) _ _ refl refl
-
--- a request that waits at the end of its body makes it ready
-finished-waiting : (b : Body) → b .pending ≡ true → finished b .phase ≡ ready
-finished-waiting b h = rw h
 
 -- what the effects keep: each changes bodies and leaves their losses, or changes a table, or is that of a Tick; a
 -- time-triggered task that ends leaves the order besides

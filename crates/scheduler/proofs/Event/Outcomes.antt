@@ -1,24 +1,21 @@
 -- What an accepted event leaves: `outcomes`, at the end of the file.
-use Prim.Native.Nat.{ℕ, suc, _<_}
-use mathlib.Core.Path.{_≡_, refl, sym, ap, _∙_}
-use mathlib.Core.Bool.{Bool, true, false, cond}
-use mathlib.Core.List.{List, [], _∷_, map}
-use mathlib.Core.Logic.{_≢_}
-use native.Mathlib.Omega.{arith}
-use lib.ListN.{length, getD, set, List·getD-map}
+use Prim.Native.Nat.{ℕ, _<_}
+use mathlib.Core.Path.{_≡_, refl, ap, _∙_}
+use mathlib.Core.Bool.{true, false}
+use mathlib.Core.List.{List, [], _∷_}
+use lib.ListN.{length, getD, List·getD-map}
 use lib.Seq.{getD-set-same, getD-set-other}
-use Rattle.number.proofs.Cases.{cond-either}
 use Rattle.config.specs.declared.Config.{Config}
 use Rattle.scheduler.specs.Status.{firstGiven}
-use Rattle.scheduler.specs.Body.{Body, Phase, suspended, ready, hasBegun, activated, ended, finished, rest, requested, gets, releases}
+use Rattle.scheduler.specs.Body.{Body, suspended, ready, activated, finished, rest, requested, gets, releases}
 use Rattle.scheduler.specs.Choice.{Candidate}
 use Rattle.scheduler.specs.State.{State, Table, stopped, running, bodyOf, tableOf, changing, withTable, runner}
-use Rattle.scheduler.specs.Event.{Event, Activate, Finish, Chain, Get, Release, Tick, Line, Start, Stop}
+use Rattle.scheduler.specs.Event.{Activate, Finish, Chain, Get, Release, Tick, Line, Start, Stop}
 use Rattle.scheduler.specs.Tick.{counting, ticked}
-use Rattle.scheduler.specs.Call.{caller, calling, finish, finishTimed, effectOf}
-use Rattle.scheduler.specs.Scheduler.{leaves, stepBy}
-use Rattle.scheduler.specs.History.{AcceptedIn}
+use Rattle.scheduler.specs.Call.{caller, finish, effectOf}
+use Rattle.scheduler.specs.Scheduler.{leaves}
 use Rattle.scheduler.specs.Outcomes.{Alone, Activated, Finished, Chained, Taken, Released, Counted, Asked, TableSet, Outcomes}
+use Rattle.scheduler.proofs.Body.{finished-used}
 use Rattle.scheduler.proofs.Choice.Runner.{runner-timed, runner-untimed}
 use Rattle.scheduler.proofs.Event.Conditions.{chosen-untimed}
 use Rattle.scheduler.proofs.Event.Effects.{clash, bodyOf-changing-same, bodyOf-changing-other, length-changing, tables-ticked}
@@ -33,9 +30,6 @@ finished-free b h = rw h
 
 finished-again : (b : Body) → b .pending ≡ true → finished b .phase ≡ ready
 finished-again b h = rw h
-
-finished-used : (b : Body) → finished b .pending ≡ false
-finished-used b = cond-either (λ (x : Body). x .pending ≡ false) (b .pending) _ _ refl refl
 
 module _ (s : State) where
   activates : (t : ℕ) → Activated t s (changing t activated s)

@@ -15,7 +15,7 @@ use Rattle.number.proofs.Cases.{by-lt, by-eq, cond-either}
 use Rattle.config.specs.declared.Config.{Config}
 use Rattle.config.specs.Meaning.{isIsr}
 use Rattle.scheduler.specs.Status.{done}
-use Rattle.scheduler.specs.Body.{Body, Phase, suspended, ready, started, waiting, triggered, isSuspended, isStarted, hasBegun, competes, become, activated, loses, requested, gets, releases, finished, waits, receives, clears}
+use Rattle.scheduler.specs.Body.{Body, Phase, suspended, ready, started, waiting, triggered, isStarted, hasBegun, competes, become, activated, loses, requested, gets, releases, finished, waits, receives, clears}
 use Rattle.scheduler.specs.Bits.{anySet, withBits}
 use Rattle.scheduler.specs.Choice.{byHolding, chosen}
 use Rattle.scheduler.specs.State.{State, noBody, bodyOf, changing, runner}
@@ -24,6 +24,7 @@ use Rattle.scheduler.specs.Tick.{dues, counted}
 use Rattle.scheduler.specs.Call.{caller, finish, finishTimed, stop, statusOf, effectOf, elseOf}
 use Rattle.scheduler.specs.Scheduler.{begins, markOf, leaves, step, stepBy}
 use Rattle.scheduler.specs.History.{AcceptedIn, Ends}
+use Rattle.scheduler.proofs.Body.{begun-active}
 use Rattle.scheduler.proofs.Event.Masks.{resumed-begun}
 use Rattle.scheduler.proofs.Choice.Runner.{Taken, no-one, body, chosen-from, candidate-active, runner-timed, runner-untimed}
 use Rattle.scheduler.proofs.Event.Checks.{activate-passed, chain-passed}
@@ -74,14 +75,6 @@ waits-begun w b h =
 
 receives-begun : (w : ℕ) → KeepsBegun (receives w)
 receives-begun w b h = resumed-begun (withBits (b .bits) w) (b .phase) ∙ h
-
--- who has begun is not suspended
-begun-active : (p : Phase) → hasBegun p ≡ true → isSuspended p ≡ false
-begun-active suspended h = absurd (true≢false (sym h))
-begun-active ready h = refl
-begun-active started h = refl
-begun-active (waiting w) h = refl
-begun-active (triggered x) h = refl
 
 entry-begun : (x : Bool) → KeepsBegun (entered x)
 entry-begun true b h = rw (begun-active (b .phase) h) h

@@ -31,7 +31,7 @@ use Rattle.scheduler.specs.History.{AcceptedIn}
 use Rattle.scheduler.proofs.Choice.Runner.{runner-timed}
 use Rattle.scheduler.proofs.Event.Effects.{bodyOf-changing-same, bodyOf-changing-other, by-tick, no-tick, elseOf-keeps}
 use Rattle.scheduler.proofs.Choice.Dispatch.{begins-some}
-use Rattle.scheduler.proofs.Order.Range.{timed-body}
+use Rattle.scheduler.proofs.Kind.{timed-body}
 use Rattle.scheduler.proofs.Members.{Distinct, distinct-fits, none-among, among-head, among-place}
 use Rattle.scheduler.proofs.Order.Standing.{isTriggered, never-triggered, Place, other, asleep, awake, Placed, placed-with, placed-weaken, awake-place, triggered-place, becomes-placed, plain-placed, loses-placed, runner-placed, effect-placed}
 use Rattle.scheduler.proofs.Order.Trigger as Trigger

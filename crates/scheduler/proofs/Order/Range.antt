@@ -5,12 +5,11 @@ use Prim.Native.Nat.{ℕ, _<_}
 use mathlib.Core.Path.{_≡_}
 use mathlib.Core.Bool.{true}
 use mathlib.Core.List.{List, [], _∷_}
-use borrow.Author.Tests.{ltb-true, ne-eqb}
-use lib.Dec.{ltb, eqb}
-use lib.ListN.{getD}
-use Rattle.number.proofs.Cases.{by-test, by-eq, and-true, cond-either}
+use borrow.Author.Tests.{ne-eqb}
+use lib.Dec.{eqb}
+use Rattle.number.proofs.Cases.{by-test, by-eq, cond-either}
 use Rattle.config.specs.declared.Config.{Config}
-use Rattle.config.specs.Meaning.{isTimed, timeTriggered}
+use Rattle.config.specs.Meaning.{isTimed}
 use Rattle.scheduler.specs.Status.{done}
 use Rattle.scheduler.specs.Body.{isSuspended, loses}
 use Rattle.scheduler.specs.State.{State, bodyOf, changing, runner, among}
@@ -18,11 +17,9 @@ use Rattle.scheduler.specs.Event.{Event, Activate, Finish, Chain, Get, R
 use Rattle.scheduler.specs.Tick.{counted, dues, starting, enter}
 use Rattle.scheduler.specs.Call.{caller, finish, finishTimed, statusOf, effectOf, elseOf}
 use Rattle.scheduler.specs.Scheduler.{dispatched, unstarted, leaves, step, stepBy, fresh, after, afterBy}
+use Rattle.scheduler.proofs.Kind.{timed-body}
 use Rattle.scheduler.proofs.Members.{none-among, among-rest}
 use Rattle.scheduler.proofs.Event.Effects.{enters-keep, dispatched-keeps, elseOf-keeps}
-
-pub timed-body : (c : Config) (t : ℕ) → isTimed c t ≡ true → t < c .bodies
-timed-body c t h = ltb-true t (c .bodies) (and-true (ltb t (c .bodies)) (eqb (getD (c .kind) t 0) timeTriggered) h .0)
 
 module _ (c : Config) where
   abbrev pub Named : State → Type 0

@@ -5,17 +5,15 @@
 -- that body i may be triggered and still have to begin: nobody after an event, the latest before a dispatch.
 use Prim.Native.Nat.{ℕ, _≤_, _<_}
 use mathlib.Core.Path.{_≡_, refl, sym, ap, subst, subst⁻¹, _∙_}
-use mathlib.Core.Bool.{Bool, true, false, true≢false, cond, not, _&&_}
+use mathlib.Core.Bool.{Bool, true, false, true≢false, cond}
 use mathlib.Core.List.{List, [], _∷_}
 use mathlib.Core.Logic.{_≢_}
 use native.Mathlib.Omega.{arith}
-use borrow.Author.Tests.{eqb-true}
-use lib.Dec.{ltb, eqb}
 use lib.ListN.{length, getD, set, length-set}
 use lib.Seq.{set-out, getD-set-same, getD-set-other}
-use Rattle.number.proofs.Cases.{by-test, by-lt, by-eq, and-true, cond-either}
+use Rattle.number.proofs.Cases.{by-lt, by-eq, cond-either}
 use Rattle.config.specs.declared.Config.{Config}
-use Rattle.config.specs.Meaning.{isTask, isOsekTask, isIsr, isExtended, isTimed, firstOf}
+use Rattle.config.specs.Meaning.{isTimed, firstOf}
 use Rattle.scheduler.specs.Bits.{anySet, withBits}
 use Rattle.scheduler.specs.Body.{Phase, suspended, ready, started, waiting, triggered, hasBegun, competes, Body, become, activated, ended, finished, requested, gets, rest, releases, loses, waits, resumed, receives, clears}
 use Rattle.scheduler.specs.Choice.{Candidate, byHolding, chosen}
@@ -26,7 +24,7 @@ use Rattle.scheduler.specs.Scheduler.{stepBy}
 use Rattle.scheduler.specs.History.{AcceptedIn}
 use Rattle.scheduler.proofs.Choice.Runner.{Taken, no-one, body, chosen-from, candidate-active, runner-timed, runner-untimed}
 use Rattle.scheduler.proofs.Event.Checks.{activate-passed, finish-passed, chain-passed, get-passed, release-passed, line-passed, wait-passed, set-passed, clear-passed, accepted-untimed}
-use Rattle.scheduler.proofs.Order.Range.{timed-body}
+use Rattle.scheduler.proofs.Kind.{timed-body, isr-untimed, extended-untimed, osek-untimed}
 use Rattle.scheduler.proofs.Members.{Distinct, among-head, among-other, among-tail}
 
 abbrev pub isTriggered : Phase → Bool
@@ -82,30 +80,6 @@ receives-plain w b h = go (b .phase) h
         cond-either (λ (p : Phase). isTriggered p ≡ false) (anySet (withBits (b .bits) w) v) started (waiting v)
         refl refl
     go (triggered x) e = e
-
--- an ISR, an extended task and one of OSEK are not time-triggered
-not-timed : (c : Config) (i k : ℕ) → k ≢ 3 → ltb i (c .bodies) && eqb (getD (c .kind) i 0) k ≡ true
-    → isTimed c i ≡ false
-not-timed c i k d h =
-    let p = and-true (ltb i (c .bodies)) (eqb (getD (c .kind) i 0) k) h in
-    by-test (isTimed c i)
-    (λ t.
-    let q = and-true (ltb i (c .bodies)) (eqb (getD (c .kind) i 0) 3) t in
-    absurd (d (sym (eqb-true (getD (c .kind) i 0) k (p .1)) ∙ eqb-true (getD (c .kind) i 0) 3 (q .1))))
-    (λ n. n)
-
-isr-untimed : (c : Config) (i : ℕ) → isIsr c i ≡ true → isTimed c i ≡ false
-isr-untimed c i h = not-timed c i 1 (λ e. omega arith) h
-
-extended-untimed : (c : Config) (i : ℕ) → isExtended c i ≡ true → isTimed c i ≡ false
-extended-untimed c i h = not-timed c i 2 (λ e. omega arith) h
-
-osek-untimed : (c : Config) (i : ℕ) → isOsekTask c i ≡ true → isTimed c i ≡ false
-osek-untimed c i h = go (isTimed c i) (and-true (isTask c i) (not (isTimed c i)) h .1)
-  where
-    go : (b : Bool) → not b ≡ true → b ≡ false
-    go true e = absurd (true≢false (sym e))
-    go false e = refl
 
 module _ (c : Config) where
   -- the same of those that are still to begin

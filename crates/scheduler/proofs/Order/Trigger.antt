@@ -20,7 +20,7 @@ use Rattle.scheduler.specs.Tick.{counting, counted, dues, starting, trig
 use Rattle.scheduler.proofs.Event.Effects.{bodyOf-changing-other}
 use Rattle.scheduler.proofs.Table.Dues.{length-dues}
 use Rattle.scheduler.proofs.Table.Entries.{entries-long}
-use Rattle.scheduler.proofs.Order.Range.{timed-body}
+use Rattle.scheduler.proofs.Kind.{timed-body}
 use Rattle.scheduler.proofs.Members.{among-head, among-other}
 use Rattle.scheduler.proofs.Order.Standing.{isTriggered, Place, other, asleep, awake, Placed, plain-placed, loses-placed}
 use Rattle.scheduler.proofs.Table.TimedEntries.{timed-once}

@@ -23,8 +23,9 @@ use Rattle.scheduler.specs.State.{State, noBody, bodyOf, runner, among, 
 use Rattle.scheduler.specs.Event.{Event, Get}
 use Rattle.scheduler.specs.Call.{nobodyRuns, caller, calling, noCaller}
 use Rattle.scheduler.specs.Scheduler.{step, stepBy, fresh, after}
+use Rattle.scheduler.proofs.Body.{started-competes}
 use Rattle.scheduler.proofs.Choice.Runner.{Taken, no-one, body, chosen-from, chosen-someone, candidate-active, current-held, runner-timed, runner-untimed}
-use Rattle.scheduler.proofs.Choice.Separation.{Kept, started-competes, holder, holders, set-holds, outranks, reached-kept}
+use Rattle.scheduler.proofs.Choice.Separation.{Kept, holder, holders, set-holds, outranks, reached-kept}
 use Rattle.scheduler.proofs.Order.Invariant.{orderly-fresh, orderly-after}
 use Rattle.scheduler.proofs.Members.{none-among, among-head}
 

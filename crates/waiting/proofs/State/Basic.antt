@@ -22,6 +22,7 @@ use Rattle.scheduler.specs.Tick.{counted, dues, enter}
 use Rattle.scheduler.specs.Call.{caller, finish, finishTimed, statusOf, effectOf}
 use Rattle.scheduler.specs.Scheduler.{begins, phaseBegun, dispatched, newBody, unstarted, leaves, step, stepBy, fresh, after, afterBy}
 use Rattle.scheduler.specs.History.{AcceptedIn}
+use Rattle.scheduler.proofs.Body.{finished-used}
 use Rattle.scheduler.proofs.Choice.Runner.{Taken, no-one, body, chosen-from, candidate-active, runner-untimed}
 use Rattle.scheduler.proofs.Event.Checks.{activate-passed, chain-passed, wait-passed}
 use Rattle.scheduler.proofs.Event.Effects.{bodyOf-changing-same, bodyOf-changing-other, length-changing, elseOf-keeps, enters-keep}
@@ -58,10 +59,6 @@ suspended-quiet x h e = unstarted-quiet (x .phase) (x .pending) h (rw e)
 
 pub finished-basic : (x : Body) → BasicBody (finished x)
 finished-basic x = cond-either BasicBody (x .pending) (activated (ended x)) (ended x) refl refl
-
-finished-quiet : (x : Body) → finished x .pending ≡ false
-finished-quiet x =
-    cond-either (λ (y : Body). y .pending ≡ false) (x .pending) (activated (ended x)) (ended x) refl refl
 
 requested-basic : (x : Body) → BasicBody x → BasicBody (requested x)
 requested-basic x h = go (x .phase) refl h
@@ -144,7 +141,7 @@ module _ (c : Config) where
         by-eq t (caller c s)
         (λ same. by-lt (caller c s) (length (s .bodies))
         (λ fits. rw (same, bodyOf-changing-same (caller c s) finished s fits)
-        (finished-quiet (bodyOf s (caller c s))))
+        (finished-used (bodyOf s (caller c s))))
         (λ past.
         let beyond : length (finish (caller c s) s .bodies) ≤ t =
         rw (same, length-changing (caller c s) finished s) past in

@@ -5,7 +5,6 @@ use Prim.Native.Nat.{ℕ, zero, suc, _≤_, _<_}
 use mathlib.Core.Path.{_≡_, refl, sym, ap, _∙_}
 use mathlib.Core.Bool.{true, false, true≢false}
 use mathlib.Core.List.{List, [], _∷_}
-use mathlib.Core.Logic.{_≢_}
 use native.Mathlib.Omega.{arith}
 use lib.ListN.{length, getD, List·getD-eq-default}
 use Rattle.number.proofs.Cases.{by-lt, by-eq, neither, cond-either}
@@ -16,6 +15,7 @@ use Rattle.scheduler.specs.Body.{isStarted, competes, Body, holds, activated, e
 use Rattle.scheduler.specs.Choice.{Candidate, byHolding, chosen, isNobody}
 use Rattle.scheduler.specs.State.{State, noBody, bodyOf, changing, runner}
 use Rattle.scheduler.specs.Call.{finish}
+use Rattle.scheduler.proofs.Body.{nothing-held}
 use Rattle.scheduler.proofs.Choice.Runner.{Taken, no-one, body, chosen-from, chosen-greatest, chosen-someone, candidate-active, current-free, runner-untimed}
 use Rattle.scheduler.proofs.Event.Effects.{bodyOf-changing-same, bodyOf-changing-other, length-changing}
 use Rattle.waiting.specs.Conditions.{someHold, resourceHeld}
@@ -28,12 +28,8 @@ nobody-holds [] h i = refl
 nobody-holds (x ∷ xs) h zero = neither (holds (x .held)) (someHold xs) h .0
 nobody-holds (x ∷ xs) h (suc i) = nobody-holds xs (neither (holds (x .held)) (someHold xs) h .1) i
 
-holds-none : (rs : List ℕ) → holds rs ≡ false → rs ≡ []
-holds-none [] h = refl
-holds-none (r ∷ rs) h = absurd (true≢false h)
-
 pub held-none : (s : State) → resourceHeld s ≡ false → (i : ℕ) → bodyOf s i .held ≡ []
-held-none s h i = holds-none (bodyOf s i .held) (nobody-holds (s .bodies) h i)
+held-none s h i = nothing-held (bodyOf s i .held) (nobody-holds (s .bodies) h i)
 
 some-hold : (bs : List Body) → ((b : ℕ) → getD bs b noBody .held ≡ []) → someHold bs ≡ false
 unfolding someHold
