@@ -1,4 +1,4 @@
--- The twelve events, each of which does the same to the model as to the state.
+-- The twelve events, each of which does the same to the model as to the state; what a refused one leaves.
 pub mod Agrees
 pub mod Bodies
 pub mod Resources
@@ -6,3 +6,4 @@ pub mod Tick
 pub mod Tables
 pub mod Bits
 pub mod Waits
+pub mod Refusals

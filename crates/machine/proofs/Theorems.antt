@@ -5,51 +5,40 @@
 -- Start and Stop make of the cells; that a refused event leaves the model as it was, but for the count of a lost
 -- line; that a Wait that does not go on is a Finish, but for what is kept of the runner.
 use Prim.Native.Nat.{ℕ, suc, _+_, _≤_, _<_}
-use mathlib.Core.Path.{_≡_, refl, sym, ap, _∙_}
+use mathlib.Core.Path.{_≡_, sym, ap, _∙_}
 use mathlib.Core.Logic.{_≢_, _↔_}
-use mathlib.Core.Bool.{Bool, true, false, true≢false, cond, _&&_}
+use mathlib.Core.Bool.{true, false}
 use mathlib.Core.List.{List}
 use lib.ListN.{length, getD, set, take}
-use native.Mathlib.Omega.{arith}
-use lib.Dec.{eqb}
-use borrow.Author.Tests.{eq-eqb, ne-eqb}
 use Rattle.number.specs.Refusal.{none}
-use Rattle.number.proofs.Cases.{by-eq, cond-either}
 use Rattle.config.specs.declared.Config.{Config}
 use Rattle.config.specs.Accepted.{Accepted, Shaped}
 use Rattle.config.specs.Reader.{readConfig}
 use Rattle.config.proofs.Theorems.{accepted-ranges, reading}
-use Rattle.config.specs.Meaning.{countsLines, isUser, ceiling, firstOf}
+use Rattle.config.specs.Meaning.{isUser, ceiling, firstOf}
 use Rattle.plan.specs.declared.Plan.{Plan}
-use Rattle.plan.specs.Rank.{rankOf}
 use Rattle.plan.specs.Plan.{triggerOf, planOf}
 use Rattle.cell.specs.Cell.{startCell, stopCell}
-use Rattle.scheduler.specs.Status.{done, limitReached}
+use Rattle.scheduler.specs.Status.{done}
 use Rattle.scheduler.specs.Bits.{anySet}
 use Rattle.scheduler.specs.Body.{current}
 use Rattle.scheduler.specs.State.{bodyOf, among}
-use Rattle.scheduler.specs.Tick.{dues}
 use Rattle.scheduler.specs.Call.{nobodyRuns, caller, calling}
 use Rattle.scheduler.specs.Entries.{entriesOf, entryAt}
-use Rattle.scheduler.specs.Scheduler.{Event, Activate, Finish, Chain, Get, Release, Tick, Line, Start, Stop, Wait, Set, Clear, Seen, step, stepBy, fresh, seen, after}
+use Rattle.scheduler.specs.Scheduler.{Event, Finish, Get, Tick, Line, Start, Stop, Wait, step, stepBy, fresh, seen, after}
 use Rattle.scheduler.specs.History.{dueMark, DueAt}
 use Rattle.scheduler.proofs.Theorems.{held-by-user, due-exactly}
 use Rattle.word.specs.Word.{has, with}
 use Rattle.stack.specs.Stack.{rowBytes}
 use Rattle.machine.specs.Model.{Model, Outcome, noRank, withBegun, withLosses, withEventBits}
-use Rattle.machine.specs.Arbiter.{isTriggered}
 use Rattle.machine.specs.Cells.{oneLost}
-use Rattle.machine.specs.Events.{attempt, idles, ticking, tick, bitsAt}
+use Rattle.machine.specs.Events.{idles, bitsAt}
 use Rattle.machine.specs.Machine.{freshModel, statusOf, effectOf, elseOf, machineStep, LostLine, cellIn, runnerOf, observed, machineSeen, machineAfter}
-use Rattle.machine.proofs.Relation.Whole.{Sim}
-use Rattle.machine.proofs.Change.Ticks.{dues-long}
-use Rattle.machine.proofs.Event.Agrees.{Keeps, keeps-of}
 use Rattle.machine.proofs.Event.Tables as Tables
-use Rattle.machine.proofs.Event.Bits as Bits
 use Rattle.machine.proofs.Event.Waits as Waits
 use Rattle.plan.proofs.Fitted.{fitted}
-use Rattle.machine.proofs.Whole.Fresh.{fresh-sim}
-use Rattle.machine.proofs.Whole.Lists.{event-agrees, agreement-from, after-sim}
+use Rattle.machine.proofs.Event.Refusals as Refusals
+use Rattle.machine.proofs.Whole.Reached as Reached
 use Rattle.machine.proofs.Whole.Holders as Holders
 
 -- For every accepted configuration and every list of events, from the fresh start, the machine and the plain
@@ -57,7 +46,7 @@ use Rattle.machine.proofs.Whole.Holders as Holders
 -- after it, and a cell's match where its entry is due.
 pub agreement : (c : Config) → Accepted c → Shaped c → (es : List Event)
     → machineSeen c (planOf c) (freshModel (planOf c)) es ≡ seen c (fresh c) es
-agreement c ok shaped es = agreement-from (fitted c ok shaped) es (fresh-sim (fitted c ok shaped))
+agreement = Reached.agreement
 
 -- Demand 3, undivided: the equation, and for the i-th event and the k-th entry that its cell matches exactly if that
 -- event is a Tick at which the entry is due "by the table's arithmetic, counted from the table's last accepted start
@@ -89,18 +78,15 @@ reached c es = machineAfter c (planOf c) (freshModel (planOf c)) es
 -- trigger level of a time-triggered task, is above the level of every other body that holds a resource, and so above
 -- that resource's ceiling. (Where nobody runs, nothing is held.)
 module _ (c : Config) (ok : Accepted c) (shaped : Shaped c) (es : List Event) where
-  standing : Sim c (planOf c) (rankOf c) (reached c es) (after c (fresh c) es)
-  standing = after-sim (fitted c ok shaped) es (fresh-sim (fitted c ok shaped))
-
   pub holder-below : (i r : ℕ) → i ≢ caller c (after c (fresh c) es)
       → among r (bodyOf (after c (fresh c) es) i .held) ≡ true
       → current c i (bodyOf (after c (fresh c) es) i) < triggerOf c (caller c (after c (fresh c) es))
-  holder-below = Holders.holder-below (fitted c ok shaped) standing
+  holder-below = Holders.holder-below (fitted c ok shaped) (Reached.sim c ok shaped es)
 
   pub ceiling-below : (i r : ℕ) → i ≢ caller c (after c (fresh c) es)
       → among r (bodyOf (after c (fresh c) es) i .held) ≡ true
       → ceiling c r < triggerOf c (caller c (after c (fresh c) es))
-  ceiling-below = Holders.ceiling-below (fitted c ok shaped) standing
+  ceiling-below = Holders.ceiling-below (fitted c ok shaped) (Reached.sim c ok shaped es)
 
   -- "a declared basic task or ISR is refused a resource only when it holds that resource itself": with status 1
   pub declared-refused : (r : ℕ) → nobodyRuns c (after c (fresh c) es) ≡ false
@@ -109,7 +95,7 @@ module _ (c : Config) (ok : Accepted c) (shaped : Shaped c) (es : List Event) wh
       → (step c (after c (fresh c) es) (Get r) .seen .status ≡ 1)
       × (among r (calling c (after c (fresh c) es) .held) ≡ true)
   unfolding stepBy
-  declared-refused = Holders.declared-refused (fitted c ok shaped) standing
+  declared-refused = Holders.declared-refused (fitted c ok shaped) (Reached.sim c ok shaped es)
 
   -- The same of the machine: the k-th slot from the top has a resource, its holder's rank and its level, and past the
   -- last one there is no holder. A slot of another holder is below the runner's own priority; every holder is a
@@ -118,13 +104,13 @@ module _ (c : Config) (ok : Accepted c) (shaped : Shaped c) (es : List Event) wh
   pub slot-below : (k : ℕ) → getD (rowBytes (reached c es .holder)) k noRank ≢ noRank
       → getD (rowBytes (reached c es .holder)) k noRank ≢ reached c es .core .runner
       → getD (rowBytes (reached c es .raised)) k noRank < getD (planOf c .priority) (reached c es .core .runner) 0
-  slot-below = Holders.slot-below (fitted c ok shaped) standing
+  slot-below = Holders.slot-below (fitted c ok shaped) (Reached.sim c ok shaped es)
 
   pub slot-user : (k : ℕ) → getD (rowBytes (reached c es .holder)) k noRank ≢ noRank
       → has
       (getD (planOf c .users) (getD (rowBytes (reached c es .resource)) k noRank) 0)
       (getD (rowBytes (reached c es .holder)) k noRank) ≡ true
-  slot-user = Holders.slot-user (fitted c ok shaped) standing (held-by-user c es)
+  slot-user = Holders.slot-user (fitted c ok shaped) (Reached.sim c ok shaped es) (held-by-user c es)
 
   pub machine-refused : (r : ℕ) → idles (reached c es) ≡ false → isUser c r (runnerOf (planOf c) (reached c es)) ≡ true
       → machineStep c (planOf c) (reached c es) (Get r) .status ≢ 0
@@ -132,134 +118,61 @@ module _ (c : Config) (ok : Accepted c) (shaped : Shaped c) (es : List Event) wh
       × ((k : ℕ)
       × (getD (rowBytes (reached c es .resource)) k noRank ≡ r)
       × (getD (rowBytes (reached c es .holder)) k noRank ≡ reached c es .core .runner))
-  machine-refused = Holders.machine-refused (fitted c ok shaped) standing
+  machine-refused = Holders.machine-refused (fitted c ok shaped) (Reached.sim c ok shaped es)
 
 -- Start and Stop are the cell's own, for each cell of the table, and leave every other cell as it was: wherever they
 -- are accepted
 module _ (c : Config) (ok : Accepted c) (shaped : Shaped c) (es : List Event) (t : ℕ) (t< : t < c .tables) (e : ℕ) where
-  sim : Sim c (planOf c) (rankOf c) (reached c es) (after c (fresh c) es)
-  sim = standing c ok shaped es
-
-  long : length (dues c (after c (fresh c) es)) ≡ planOf c .count
-  long = dues-long (fitted c ok shaped) (after c (fresh c) es) (sim .cells .tables-long)
-
-  keeps : Keeps c (after c (fresh c) es)
-  keeps = keeps-of (fitted c ok shaped) (sim .orderly)
-
   -- "an entry at offset o has first delay D = d + o; its counter becomes (P − 1 − D) modulo 65,536 and its switch
   -- goes on"
   pub start-cell : (d : ℕ) → firstOf c t ≤ e → e < firstOf c (suc t)
       → cellIn (planOf c) (effectOf c (planOf c) (reached c es) (Start t d) .model) e
       ≡ startCell (getD (c .period) t 0) (d + getD (c .offset) e 0)
   unfolding effectOf
-  start-cell d = Tables.start-cell (fitted c ok shaped) sim keeps long t d e t<
+  start-cell d =
+      Tables.start-cell (fitted c ok shaped) (Reached.sim c ok shaped es) (Reached.keeps c ok shaped es)
+      (Reached.long c ok shaped es) t d e t<
 
   pub start-other : (d u : ℕ) → u < c .tables → u ≢ t → firstOf c u ≤ e → e < firstOf c (suc u)
       → cellIn (planOf c) (effectOf c (planOf c) (reached c es) (Start t d) .model) e
       ≡ cellIn (planOf c) (reached c es) e
   unfolding effectOf
-  start-other d = Tables.start-other (fitted c ok shaped) sim keeps long t d e t<
+  start-other d =
+      Tables.start-other (fitted c ok shaped) (Reached.sim c ok shaped es) (Reached.keeps c ok shaped es)
+      (Reached.long c ok shaped es) t d e t<
 
   -- "Stop switches the table's cells off and sets their counters to 0"
   pub stop-cell : firstOf c t ≤ e → e < firstOf c (suc t)
       → cellIn (planOf c) (effectOf c (planOf c) (reached c es) (Stop t) .model) e
       ≡ stopCell (cellIn (planOf c) (reached c es) e)
   unfolding effectOf
-  stop-cell = Tables.stop-cell (fitted c ok shaped) sim keeps long t e t<
+  stop-cell =
+      Tables.stop-cell (fitted c ok shaped) (Reached.sim c ok shaped es) (Reached.keeps c ok shaped es)
+      (Reached.long c ok shaped es) t e t<
 
   pub stop-other : (u : ℕ) → u < c .tables → u ≢ t → firstOf c u ≤ e → e < firstOf c (suc u)
       → cellIn (planOf c) (effectOf c (planOf c) (reached c es) (Stop t) .model) e
       ≡ cellIn (planOf c) (reached c es) e
   unfolding effectOf
-  stop-other = Tables.stop-other (fitted c ok shaped) sim keeps long t e t<
+  stop-other =
+      Tables.stop-other (fitted c ok shaped) (Reached.sim c ok shaped es) (Reached.keeps c ok shaped es)
+      (Reached.long c ok shaped es) t e t<
 
--- a refused event leaves m
-attempt-same : (m : Model) (st : ℕ) (o : Outcome) → o .status ≡ done → attempt m st o .status ≢ done
-    → attempt m st o .model ≡ m
-attempt-same m st o e n =
-    by-eq st done
-    (λ z. absurd (n (rw (eq-eqb st done z) e)))
-    (λ z. rw (ne-eqb st done z))
-
--- what an event does where it is accepted has status 0
-effect-done : (c : Config) (p : Plan) (m : Model) (e : Event) → effectOf c p m e .status ≡ done
-unfolding effectOf tick
-effect-done c p m (Activate t) = refl
-effect-done c p m Finish = refl
-effect-done c p m (Chain t) = refl
-effect-done c p m (Get r) = refl
-effect-done c p m (Release r) = refl
-effect-done c p m Tick =
-    let now = ticking (p .compare) (p .entry) m in
-    cond-either (λ (o : Outcome). o .status ≡ done) (isTriggered (p .priority) (now .core)) _ _ refl refl
-effect-done c p m (Line i) = refl
-effect-done c p m (Start t d) = refl
-effect-done c p m (Stop t) = refl
-effect-done c p m (Wait w) =
-    cond-either (λ (o : Outcome). o .status ≡ done) (anySet (bitsAt m (m .core .runner)) w) _ _ refl refl
-effect-done c p m (Set t w) = refl
-effect-done c p m (Clear w) = refl
-
-attempt-status : (m : Model) (st : ℕ) (o : Outcome) → o .status ≡ done → attempt m st o .status ≡ st
-attempt-status m st o e =
-    by-eq st done
-    (λ z. rw (eq-eqb st done z) (e ∙ sym z))
-    (λ z. rw (ne-eqb st done z))
-
+-- "A status other than 0 changes nothing", whatever the model; "For version 2, demand 1's "changes nothing" excepts
+-- that count": a Line refused with 4 changes the losses at the ISR's rank, up to 65,535, and nothing else
 module _ (c : Config) (p : Plan) (m : Model) where
-  left : (e : Event) → machineStep c p m e .status ≢ done
-      → machineStep c p m e .model ≡ elseOf c p m (statusOf c p m e) e
-  left e =
-      attempt-same (elseOf c p m (statusOf c p m e) e) (statusOf c p m e) (effectOf c p m e) (effect-done c p m e)
-
-  status-is : (e : Event) → machineStep c p m e .status ≡ statusOf c p m e
-  status-is e =
-      attempt-status (elseOf c p m (statusOf c p m e) e) (statusOf c p m e) (effectOf c p m e) (effect-done c p m e)
-
-  -- what a refused event leaves
-  refusal-same : (e : Event) → ((i : ℕ) → LostLine c p m e i → ⊥) → elseOf c p m (statusOf c p m e) e ≡ m
-  unfolding elseOf
-  refusal-same (Activate t) kept = refl
-  refusal-same Finish kept = refl
-  refusal-same (Chain t) kept = refl
-  refusal-same (Get r) kept = refl
-  refusal-same (Release r) kept = refl
-  refusal-same Tick kept = refl
-  refusal-same (Line i) kept = go (countsLines c) refl
-    where
-      st : ℕ
-      st = statusOf c p m (Line i)
-
-      go : (b : Bool) → countsLines c ≡ b
-          → cond (b && eqb st limitReached) (withLosses m (oneLost (getD (p .line) i noRank) (m .losses))) m ≡ m
-      go true e =
-          by-eq st limitReached
-          (λ q. absurd (kept i (e, refl, status-is (Line i) ∙ q)))
-          (λ q. rw (ne-eqb st limitReached q))
-      go false e = refl
-  refusal-same (Start t d) kept = refl
-  refusal-same (Stop t) kept = refl
-  refusal-same (Wait w) kept = refl
-  refusal-same (Set t w) kept = refl
-  refusal-same (Clear w) kept = refl
-
-  -- "A status other than 0 changes nothing", whatever the model; "For version 2, demand 1's "changes nothing" excepts
-  -- that count": a Line refused with 4 changes the losses at the ISR's rank, up to 65,535, and nothing else
   pub refused-same : (e : Event) → machineStep c p m e .status ≢ done → ((i : ℕ) → LostLine c p m e i → ⊥)
       → machineStep c p m e .model ≡ m
-  refused-same e refused kept = left e refused ∙ refusal-same e kept
+  refused-same = Refusals.refused-same c p m
 
   pub lost-line : (i : ℕ) → LostLine c p m (Line i) i
       → machineStep c p m (Line i) .model ≡ withLosses m (oneLost (getD (p .line) i noRank) (m .losses))
-  unfolding elseOf
-  lost-line i lost =
-      left (Line i) (λ z. absurd (omega (arith, lost .2, z)))
-      ∙ rw (lost .0) (rw (eq-eqb (statusOf c p m (Line i)) limitReached (sym (status-is (Line i)) ∙ lost .2)))
+  lost-line = Refusals.lost-line c p m
 
   -- in version 1 there is none, so a refused event changes nothing at all
   pub refused-same-one : c .version ≡ 1 → (e : Event) → machineStep c p m e .status ≢ done
       → machineStep c p m e .model ≡ m
-  refused-same-one v e refused = refused-same e refused (λ i lost. true≢false (sym (lost .0) ∙ rw v))
+  refused-same-one = Refusals.refused-same-one c p m
 
 -- A Wait that does not go on is a Finish, but for what is kept of the runner: the runner leaves as by its end, and the
 -- same arbitration follows. Whatever the model, those that the two leave differ in the runner alone, which is aside, with
@@ -277,14 +190,14 @@ module _ (c : Config) (p : Plan) (m : Model) (w : ℕ) where
   unfolding statusOf effectOf elseOf
   machine-wait-leaves e unset =
       ap (λ (o : Outcome). o .model)
-      (Waits.as-finish (p .extended) (p .priority) m w (sym (status-is c p m (Wait w)) ∙ e) unset)
+      (Waits.as-finish (p .extended) (p .priority) m w (sym (Refusals.status-is c p m (Wait w)) ∙ e) unset)
 
   pub machine-wait-seen : machineStep c p m (Wait w) .status ≡ done → anySet (bitsAt m (m .core .runner)) w ≡ false
       → observed c p m (Wait w) (machineStep c p m (Wait w)) ≡ observed c p m Finish (machineStep c p m Finish)
   unfolding statusOf effectOf elseOf
   machine-wait-seen e unset =
       ap (observed c p m (Wait w))
-      (Waits.as-finish (p .extended) (p .priority) m w (sym (status-is c p m (Wait w)) ∙ e) unset)
+      (Waits.as-finish (p .extended) (p .priority) m w (sym (Refusals.status-is c p m (Wait w)) ∙ e) unset)
 
 -- So it is of the plain scheduler, after every list of events: what is seen of a Wait that does not go on is what would
 -- be seen of a Finish in its place
@@ -292,15 +205,4 @@ pub wait-as-finish : (c : Config) → Accepted c → Shaped c → (es : List Eve
     → step c (after c (fresh c) es) (Wait w) .seen .status ≡ done
     → anySet (calling c (after c (fresh c) es) .bits) w ≡ false
     → step c (after c (fresh c) es) (Wait w) .seen ≡ step c (after c (fresh c) es) Finish .seen
-unfolding stepBy
-wait-as-finish c ok shaped es w e unset =
-    let sim = standing c ok shaped es in
-    let fit = fitted c ok shaped in
-    let agrees = event-agrees fit (Wait w) sim in
-    let keeps = keeps-of fit (sim .orderly) in
-    let long = dues-long fit (after c (fresh c) es) (sim .cells .tables-long) in
-    sym (agrees .seen)
-    ∙ machine-wait-seen c (planOf c) (reached c es) w
-    (ap (λ (x : Seen). x .status) (agrees .seen) ∙ e)
-    (rw (Bits.caller-bits fit sim keeps long w e) unset)
-    ∙ event-agrees fit Finish sim .seen
+wait-as-finish = Reached.wait-as-finish

@@ -10,7 +10,7 @@ use mathlib.Core.Logic.{_↔_}
 use native.Mathlib.Omega.{arith}
 use native.Mathlib.Nat.{min-eq-left}
 use lib.Dec.{eqb}
-use lib.ListN.{length, getD, take, replicate, length-replicate, length-take}
+use lib.ListN.{length, getD, take, length-take}
 use lib.Seq.{getD-take}
 use borrow.Author.Tests.{lt-ltb, le-ltb}
 use Rattle.number.proofs.Cases.{by-lt}
@@ -22,16 +22,15 @@ use Rattle.config.specs.Meaning.{isr, extended, timeTriggered, executionLevel, 
 use Rattle.config.specs.Accepted.{Accepted, Shaped}
 use Rattle.config.proofs.Tables.{isTask-true}
 use Rattle.plan.specs.declared.Plan.{Plan}
-use Rattle.plan.specs.Stores.{stored, listed}
-use Rattle.plan.specs.Words.{marked}
 use Rattle.plan.specs.Rank.{noRank, keyOf, rankOf, bodyCount, callableRank, lineRank}
-use Rattle.plan.specs.Entry.{entryTable, tableCount, entryCount, tableFirst, compareOf, entryRank}
-use Rattle.plan.specs.Plan.{triggerOf, resourceCount, usersOf, planOf}
-use Rattle.plan.proofs.Stores.{length-stored, stored-at, listed-at, listed-past, getD-any}
-use Rattle.plan.proofs.Words.{marked-has, marked-some, marked-lt}
+use Rattle.plan.specs.Entry.{entryTable, tableCount, tableFirst, compareOf}
+use Rattle.plan.specs.Plan.{triggerOf, usersOf, planOf}
+use Rattle.plan.proofs.Stores.{length-stored, listed-at, getD-any}
+use Rattle.plan.proofs.Words.{marked-lt}
 use Rattle.plan.proofs.Greatest.{greatestIn-le}
-use Rattle.plan.proofs.Entry.{entriesBefore-le, table-found, table-among}
+use Rattle.plan.proofs.Entry.{table-found, table-among}
 use Rattle.plan.proofs.Order as Order
+use Rattle.plan.proofs.Lookups as Lookups
 
 -- the lengths of the lists, and the size of the words, of whatever configuration
 pub record Sized (p : Plan) : Type 0 where
@@ -87,41 +86,28 @@ module _ (c : Config) (accepted : Accepted c) (shaped : Shaped c) where
   rank-trigger a b ha hb l =
       Order.rank-rises c accepted shaped a b ha hb (Order.key-rises c accepted shaped a b ha hb l)
 
-  -- what is listed by body, inside and past the bodies
-  all : bodyCount c ≡ c .bodies
-  all = Order.all-bodies c accepted shaped
-
-  by-body : (f : ℕ → ℕ) (b : ℕ) → b < c .bodies
-      → getD (listed f (bodyCount c) (replicate maxBodies noRank)) b noRank ≡ f b
-  by-body f b h =
-      listed-at f (bodyCount c) maxBodies noRank b noRank (rw all h) (omega (arith, accepted .few-bodies))
-
-  past-bodies : (f : ℕ → ℕ) (b : ℕ) → c .bodies ≤ b
-      → getD (listed f (bodyCount c) (replicate maxBodies noRank)) b noRank ≡ noRank
-  past-bodies f b h = listed-past f (bodyCount c) maxBodies noRank b (rw all h)
-
   -- a body's rank; the same where it is a task and where it is an ISR, and nothing else has one
   pub body-rank : (b : ℕ) → b < c .bodies → getD (planOf c .rank) b noRank ≡ rankOf c b
   unfolding planOf
-  body-rank = by-body (rankOf c)
+  body-rank = Lookups.by-body c accepted shaped (rankOf c)
 
   pub rank-none : (b : ℕ) → c .bodies ≤ b → getD (planOf c .rank) b noRank ≡ noRank
   unfolding planOf
-  rank-none = past-bodies (rankOf c)
+  rank-none = Lookups.past-bodies c accepted shaped (rankOf c)
 
   pub callable-rank : (b : ℕ) → getD (planOf c .callable) b noRank ≡ cond (isOsekTask c b) (rankOf c b) noRank
   unfolding planOf
   callable-rank b =
       by-lt b (c .bodies)
-      (λ h. by-body (callableRank c) b h)
-      (λ h. past-bodies (callableRank c) b h ∙ simp (le-ltb b (c .bodies) h))
+      (λ h. Lookups.by-body c accepted shaped (callableRank c) b h)
+      (λ h. Lookups.past-bodies c accepted shaped (callableRank c) b h ∙ simp (le-ltb b (c .bodies) h))
 
   pub line-rank : (b : ℕ) → getD (planOf c .line) b noRank ≡ cond (isIsr c b) (rankOf c b) noRank
   unfolding planOf
   line-rank b =
       by-lt b (c .bodies)
-      (λ h. by-body (lineRank c) b h)
-      (λ h. past-bodies (lineRank c) b h ∙ simp (le-ltb b (c .bodies) h))
+      (λ h. Lookups.by-body c accepted shaped (lineRank c) b h)
+      (λ h. Lookups.past-bodies c accepted shaped (lineRank c) b h ∙ simp (le-ltb b (c .bodies) h))
 
   -- the same as the code reads it, where the default does not count
   pub callable-rank-read : (b d : ℕ) → b < maxBodies
@@ -132,20 +118,9 @@ module _ (c : Config) (accepted : Accepted c) (shaped : Shaped c) where
   pub line-rank-read : (b d : ℕ) → b < maxBodies → getD (planOf c .line) b d ≡ cond (isIsr c b) (rankOf c b) noRank
   line-rank-read b d h = getD-any (planOf c .line) b d noRank (omega (arith, plan-sized c .lines)) ∙ line-rank b
 
-  -- no two of the bodies that are counted have one rank
-  inj : (a b : ℕ) → a < bodyCount c → b < bodyCount c → rankOf c a ≡ rankOf c b → a ≡ b
-  inj a b ha hb = rank-inj a b (omega arith) (omega arith)
-
-  -- what is stored by rank
-  by-rank : (f : ℕ → ℕ) (b : ℕ) → b < c .bodies
-      → getD (stored (rankOf c) f (bodyCount c) (replicate maxBodies 0)) (rankOf c b) 0 ≡ f b
-  by-rank f b h =
-      stored-at (rankOf c) f (bodyCount c) (replicate maxBodies 0) inj b 0 (rw all h)
-      (rw length-replicate (omega (arith, rank-lt b h, accepted .few-bodies)))
-
   pub rank-priority : (b : ℕ) → b < c .bodies → getD (planOf c .priority) (rankOf c b) 0 ≡ triggerOf c b
   unfolding planOf
-  rank-priority = by-rank (triggerOf c)
+  rank-priority = Lookups.by-rank c accepted shaped (triggerOf c)
 
   -- a time-triggered task that is triggered "preempts all that runs":
   -- the level of its request is above the one that another of them runs at
@@ -155,68 +130,48 @@ module _ (c : Config) (accepted : Accepted c) (shaped : Shaped c) where
 
   pub rank-body : (b : ℕ) → b < c .bodies → getD (planOf c .body) (rankOf c b) 0 ≡ b
   unfolding planOf
-  rank-body = by-rank (λ b. b)
-
-  -- a body's rank is in the word of the bodies whose field f is v exactly if its own is,
-  -- and every rank in it is some body's
-  in-word : (f : ℕ → ℕ) (v b : ℕ) → b < c .bodies
-      → has (marked (rankOf c) f v (bodyCount c)) (rankOf c b) ≡ eqb (f b) v
-  in-word f v b h = marked-has (rankOf c) f v (bodyCount c) inj small b (rw all h)
-    where
-      small : (i : ℕ) → i < bodyCount c → rankOf c i < Word.ranks
-      small i l = omega (arith, rank-lt i (omega arith), accepted .few-bodies)
-
-  of-word : (f : ℕ → ℕ) (v r : ℕ) → has (marked (rankOf c) f v (bodyCount c)) r ≡ true
-      → (b : ℕ) × (b < c .bodies) × (rankOf c b ≡ r)
-  of-word f v r e = let x = marked-some (rankOf c) f v (bodyCount c) r e in (x .0, omega (arith, x .1), x .2)
+  rank-body = Lookups.by-rank c accepted shaped (λ b. b)
 
   -- the word of the ISRs, those of the extended and the time-triggered tasks,
   -- and that of the tasks that are ready at the fresh start
   pub rank-isr : (b : ℕ) → b < c .bodies → has (planOf c .isrs) (rankOf c b) ≡ isIsr c b
   unfolding planOf
-  rank-isr b h = rw (lt-ltb b (c .bodies) h) (in-word (λ i. getD (c .kind) i 0) isr b h)
+  rank-isr b h = rw (lt-ltb b (c .bodies) h) (Lookups.in-word c accepted shaped (λ i. getD (c .kind) i 0) isr b h)
 
   pub rank-extended : (b : ℕ) → b < c .bodies → has (planOf c .extended) (rankOf c b) ≡ isExtended c b
   unfolding planOf
-  rank-extended b h = rw (lt-ltb b (c .bodies) h) (in-word (λ i. getD (c .kind) i 0) extended b h)
+  rank-extended b h = rw (lt-ltb b (c .bodies) h) (Lookups.in-word c accepted shaped (λ i. getD (c .kind) i 0) extended b h)
 
   pub rank-autostart : (b : ℕ) → b < c .bodies
       → has (planOf c .autostart) (rankOf c b) ≡ eqb (getD (c .autostart) b 0) 1
   unfolding planOf
-  rank-autostart = in-word (λ i. getD (c .autostart) i 0) 1
+  rank-autostart = Lookups.in-word c accepted shaped (λ i. getD (c .autostart) i 0) 1
 
   -- every rank in them is some body's
   pub isrs-body : (r : ℕ) → has (planOf c .isrs) r ≡ true → (b : ℕ) × (b < c .bodies) × (rankOf c b ≡ r)
   unfolding planOf
-  isrs-body = of-word (λ i. getD (c .kind) i 0) isr
+  isrs-body = Lookups.of-word c accepted shaped (λ i. getD (c .kind) i 0) isr
 
   pub extended-body : (r : ℕ) → has (planOf c .extended) r ≡ true → (b : ℕ) × (b < c .bodies) × (rankOf c b ≡ r)
   unfolding planOf
-  extended-body = of-word (λ i. getD (c .kind) i 0) extended
+  extended-body = Lookups.of-word c accepted shaped (λ i. getD (c .kind) i 0) extended
 
   pub autostart-body : (r : ℕ) → has (planOf c .autostart) r ≡ true → (b : ℕ) × (b < c .bodies) × (rankOf c b ≡ r)
   unfolding planOf
-  autostart-body = of-word (λ i. getD (c .autostart) i 0) 1
-
-  -- what is listed by resource
-  by-resource : (f : ℕ → ℕ) (r : ℕ) → r < c .resources
-      → getD (listed f (resourceCount c) (replicate maxResources 0)) r 0 ≡ f r
-  by-resource f r h =
-      listed-at f (resourceCount c) maxResources 0 r 0 (omega (arith, accepted .few-resources))
-      (omega (arith, accepted .few-resources))
+  autostart-body = Lookups.of-word c accepted shaped (λ i. getD (c .autostart) i 0) 1
 
   -- a resource's ceiling
   pub resource-ceiling : (r : ℕ) → r < c .resources → getD (planOf c .ceiling) r 0 ≡ ceiling c r
   unfolding planOf
-  resource-ceiling = by-resource (ceiling c)
+  resource-ceiling = Lookups.by-resource c accepted shaped (ceiling c)
 
   -- its users: a body's rank is in the word exactly if the body is one of them
   pub resource-users : (r b : ℕ) → r < c .resources → b < c .bodies
       → has (getD (planOf c .users) r 0) (rankOf c b) ≡ isUser c r b
   unfolding planOf
   resource-users r b h l =
-      rw (by-resource (usersOf c) r h, lt-ltb r (c .resources) h)
-      (in-word (λ i. getD (c .users) r 0 / 2 ^ i % 2) 1 b l)
+      rw (Lookups.by-resource c accepted shaped (usersOf c) r h, lt-ltb r (c .resources) h)
+      (Lookups.in-word c accepted shaped (λ i. getD (c .users) r 0 / 2 ^ i % 2) 1 b l)
 
   pub ceiling-le : (r : ℕ) → ceiling c r ≤ maxPriority
   ceiling-le r = greatestIn-le (getD (c .users) r 0) maxPriority (take (c .bodies) (c .priority)) each
@@ -228,15 +183,12 @@ module _ (c : Config) (accepted : Accepted c) (shaped : Shaped c) where
           rw (getD-take (c .bodies) (c .priority) b 0 l) (accepted .priority-high b l)
 
   -- a table's first entry
-  first-le : (t : ℕ) → t ≤ c .tables → firstOf c t ≤ firstOf c (c .tables)
-  first-le t h = entriesBefore-le (c .entries) t (c .tables) h (omega (arith, accepted .few-tables, shaped .counts))
-
   pub table-first : (t : ℕ) → t < c .tables → getD (planOf c .first) t 0 ≡ firstOf c t
   unfolding planOf
   table-first t h =
       listed-at (tableFirst c) (tableCount c) maxTables 0 t 0 (omega (arith, accepted .few-tables))
       (omega (arith, accepted .few-tables))
-      ∙ min-eq-left (omega (arith, first-le t (omega arith), accepted .few-entries))
+      ∙ min-eq-left (omega (arith, Lookups.first-le c accepted shaped t (omega arith), accepted .few-entries))
 
   -- how many entries there are in all
   pub entry-count : planOf c .count ≡ firstOf c (c .tables)
@@ -251,30 +203,19 @@ module _ (c : Config) (accepted : Accepted c) (shaped : Shaped c) where
       → (entryTable c e < c .tables) × (firstOf c (entryTable c e) ≤ e) × (e < firstOf c (suc (entryTable c e)))
   entry-table e h = table-among (c .entries) (c .tables) e (omega (arith, entry-count))
 
-  -- what is listed by entry
-  by-entry : (f : ℕ → ℕ) (e : ℕ) → e < planOf c .count
-      → getD (listed f (entryCount c) (replicate maxEntries 0)) e 0 ≡ f e
-  unfolding planOf
-  by-entry f e h = listed-at f (entryCount c) maxEntries 0 e 0 h (omega arith)
-
   -- "Compare value: period P minus 1"
   pub entry-compare : (t e : ℕ) → t < c .tables → firstOf c t ≤ e → e < firstOf c (suc t)
       → getD (planOf c .compare) e 0 ≡ getD (c .period) t 0 - 1
   unfolding planOf
   entry-compare t e h lo hi =
-      by-entry (compareOf c) e (omega (arith, entry-count, first-le (suc t) (omega arith)))
+      Lookups.by-entry c accepted shaped (compareOf c) e (omega (arith, entry-count, Lookups.first-le c accepted shaped (suc t) (omega arith)))
       ∙ ap (λ k. getD (c .period) k 0 - 1) found
     where
       found : entryTable c e ≡ t
       found = table-found (c .entries) t e (omega (arith, accepted .few-tables, shaped .counts)) lo hi
 
   -- the rank of an entry's task
-  looked-up : (e : ℕ) → e < planOf c .count
-      → getD (planOf c .entry) e 0 ≡ getD (planOf c .rank) (getD (c .task) e 0) noRank
-  unfolding planOf
-  looked-up = by-entry (entryRank c)
-
   pub entry-rank : (e : ℕ) → e < planOf c .count → getD (planOf c .entry) e 0 ≡ rankOf c (getD (c .task) e 0)
   entry-rank e h =
       let task = isTask-true c (getD (c .task) e 0) (accepted .entry-task e (omega (arith, entry-count))) in
-      looked-up e h ∙ body-rank (getD (c .task) e 0) (task .0)
+      Lookups.entry-looked-up c accepted shaped e h ∙ body-rank (getD (c .task) e 0) (task .0)

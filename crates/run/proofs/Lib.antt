@@ -5,4 +5,5 @@ pub mod Worked
 pub mod Edges
 pub mod Answers
 pub mod Input
+pub mod Bounds
 pub mod Room

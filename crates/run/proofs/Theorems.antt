@@ -8,18 +8,16 @@ use mathlib.Core.Logic.{_≢_}
 use mathlib.Core.List.{List}
 use native.Mathlib.Omega.{arith}
 use borrow.Author.Tests.{le-leb, lt-leb}
-use lib.ListN.{length, length-map}
+use lib.ListN.{length}
 use Rattle.number.specs.Refusal.{none, noRoom}
-use Rattle.number.specs.Output.{packed}
 use Rattle.number.proofs.Cases.{by-lt, by-eq}
 use Rattle.config.specs.declared.Config.{Config}
-use Rattle.config.specs.Reader.{readConfig, maxLength}
-use Rattle.config.proofs.Theorems.{reading, accepted-ranges}
+use Rattle.config.specs.Reader.{readConfig}
 use Rattle.event.specs.Trace.{maxTrace, readTrace}
 use Rattle.event.proofs.Theorems.{trace-reading}
 use Rattle.scheduler.specs.Scheduler.{Event}
-use Rattle.run.specs.Run.{callOf, callsOf, Input, refused, played, readRun, answers, resultOf, runResult, runOutput}
-use Rattle.run.proofs.Answers.{length-answers}
+use Rattle.run.specs.Run.{Input, refused, played, readRun, answers, resultOf, runResult, runOutput}
+use Rattle.run.proofs.Bounds.{config-place-lt, few-events, few-answers, split}
 use Rattle.run.proofs.Input.{config-refused, trace-too-long, trace-refused, all-readable, refused-output, short-output}
 
 -- how many values a place has in a result
@@ -32,14 +30,6 @@ unfoldable pub Bounded : Input → Type 0
 Bounded (refused r p) = p < places
 Bounded (played c es) = (length es ≤ 8192) × (length (answers c es) ≤ 32832)
 
--- a configuration that is looked at is short
-config-place-lt : (cs : List ℕ) → readConfig cs .place < places
-unfolding readConfig
-config-place-lt cs = by-lt maxLength (length cs) too-long (λ h. omega (arith, reading cs .inside))
-  where
-    too-long : maxLength < length cs → readConfig cs .place < places
-    too-long h = rw (lt-leb (length cs) maxLength h) (omega arith)
-
 -- every input, by the run's checks in order
 pub input-bounded : (cs ts : List ℕ) → Bounded (readRun cs ts)
 unfolding Bounded
@@ -48,19 +38,9 @@ input-bounded cs ts =
     (λ ok. by-lt maxTrace (length ts)
     (λ long. rw (trace-too-long cs ts ok long) (omega arith))
     (λ short. by-eq (readTrace ts .refusal) none
-    (λ fine. rw (all-readable cs ts ok short fine) (few ok short, answers-few ok short))
+    (λ fine. rw (all-readable cs ts ok short fine) (few-events ts short, few-answers cs ts ok short))
     (λ bad. rw (trace-refused cs ts ok short bad) (omega (arith, trace-reading ts 0 (omega arith) .place-le)))))
     (λ bad. rw (config-refused cs ts bad) (config-place-lt cs))
-  where
-    few : readConfig cs .refusal ≡ none → length ts ≤ maxTrace → length (callsOf ts) ≤ 8192
-    few ok short = omega (arith, length-map (readTrace ts .events) callOf, trace-reading ts 0 (omega arith) .few)
-
-    answers-few : readConfig cs .refusal ≡ none → length ts ≤ maxTrace
-        → length (answers (readConfig cs .config) (callsOf ts)) ≤ 32832
-    answers-few ok short =
-        let accepted = accepted-ranges cs ok in
-        let size = length-answers (readConfig cs .config) accepted (reading cs .shaped) (callsOf ts) in
-        omega (arith, accepted .few-bodies, few ok short)
 
 -- "A trace of at most 8,192 bytes needs at most 32,832"
 pub room-enough : (cs ts : List ℕ) (c : Config) (es : List Event) → readRun cs ts ≡ played c es
@@ -74,9 +54,6 @@ highHalf n = n / places
 
 abbrev pub lowHalf : ℕ → ℕ
 lowHalf n = n % places
-
-split : (r p : ℕ) → p < places → (highHalf (packed r p) ≡ r) × (lowHalf (packed r p) ≡ p)
-split r p h = (omega arith, omega arith)
 
 pub refused-split : (cs ts : List ℕ) (n r p : ℕ) → readRun cs ts ≡ refused r p
     → (highHalf (runResult cs ts n) ≡ r) × (lowHalf (runResult cs ts n) ≡ p)
