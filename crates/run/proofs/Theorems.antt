@@ -2,7 +2,7 @@
 --
 -- In order: how many bytes the answers take; that refusal and place can be split again; that a refused run writes
 -- nothing. `Worked` has the run on bytes, computed, and `Edges` P1 to P13.
-use Prim.Native.Nat.{ℕ, _/_, _%_, _≤_, _<_}
+use Prim.Native.Nat.{ℕ, _≤_, _<_}
 use mathlib.Core.Path.{_≡_, refl}
 use mathlib.Core.Logic.{_≢_}
 use mathlib.Core.List.{List}
@@ -16,15 +16,12 @@ use Rattle.config.specs.Reader.{readConfig}
 use Rattle.event.specs.Trace.{maxTrace, readTrace}
 use Rattle.event.proofs.Theorems.{trace-reading}
 use Rattle.scheduler.specs.Scheduler.{Event}
+pub use Rattle.run.specs.Result.{places, highHalf, lowHalf}
 use Rattle.run.specs.Run.{Input, refused, played, readRun, answers, resultOf, runResult, runOutput}
 use Rattle.run.proofs.Bounds.{config-place-lt, few-events, few-answers, split}
 use Rattle.run.proofs.Input.{config-refused, trace-too-long, trace-refused, all-readable, refused-output, short-output}
 
--- how many values a place has in a result
-abbrev pub places : ℕ
-places = 4294967296
-
--- what holds of a run's input: a refusal's place is below that; of a trace that is played, the events and the bytes
+-- what holds of a run's input: a refusal's place fits into a result; of a trace that is played, the events and the bytes
 -- of their answers are few
 unfoldable pub Bounded : Input → Type 0
 Bounded (refused r p) = p < places
@@ -48,13 +45,7 @@ pub room-enough : (cs ts : List ℕ) (c : Config) (es : List Event) → readRun 
 unfolding Bounded
 room-enough cs ts c es e = (rw e at (input-bounded cs ts)) .1
 
--- a result is split as the header does it: the high half is the refusal, the low half its place or the number of events
-abbrev pub highHalf : ℕ → ℕ
-highHalf n = n / places
-
-abbrev pub lowHalf : ℕ → ℕ
-lowHalf n = n % places
-
+-- a result can be split again
 pub refused-split : (cs ts : List ℕ) (n r p : ℕ) → readRun cs ts ≡ refused r p
     → (highHalf (runResult cs ts n) ≡ r) × (lowHalf (runResult cs ts n) ≡ p)
 unfolding Bounded resultOf
