@@ -52,6 +52,7 @@ startCellIn M P D = unmarked (startCounterIn M (compareIn M P) D) (compareIn M P
 abbrev pub sumIn : ℕ → ℕ → ℕ
 sumIn M i = (i + 1) % M
 
+-- n times
 unfoldable pub sumsIn : ℕ → ℕ → ℕ → ℕ
 sumsIn M zero i = i
 sumsIn M (suc n) i = sumsIn M n (sumIn M i)
@@ -81,6 +82,7 @@ countedIn M c = cond (matchesIn M c) (resetIn M) (cond (c .on) (sumIn M (c .coun
 unfoldable pub tickCellIn : ℕ → Cell → Cell
 tickCellIn M c = cellOf (countedIn M c) (c .compare) (c .on) (matchesIn M c) (turnIn M c)
 
+-- n ticks
 unfoldable pub ticksIn : ℕ → ℕ → Cell → Cell
 ticksIn M zero c = c
 ticksIn M (suc n) c = ticksIn M n (tickCellIn M c)

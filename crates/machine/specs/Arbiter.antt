@@ -80,7 +80,8 @@ requesting r m = withCore m (withRequest (m .core) (with (m .core .request) r))
 abbrev pub isTriggered : List ℕ → Core → Bool
 isTriggered ps k = ltb (k .level) (winning ps k) && eqb (winning ps k) triggerLevel
 
--- it begins, and its wrapper lowers the level from that of the trigger to the common execution level
+-- it begins, and its wrapper lowers the level from that of the trigger to the common execution level (`launching`: and
+-- it is put on the row of the triggered ones)
 abbrev pub entering : Core → Core
 entering k =
     record {

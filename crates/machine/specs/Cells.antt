@@ -30,6 +30,7 @@ switchOn = 1
 abbrev pub switchTurn : ℕ
 switchTurn = 2
 
+-- the cell is on; a turn must pass
 abbrev pub isOn : ℕ → Bool
 isOn x = not (eqb x switchOff)
 

@@ -1,4 +1,5 @@
--- The machine's twelve events: each one's status "in order", its effect where that is 0, and the two put together.
+-- The machine's twelve events: each one's status "in order", its effect where that is 0, and the two put together:
+-- activateStatus, activateEffect and activate, and so on.
 --
 -- ps are the priorities by rank, trs and lrs the ranks of tasks and of ISRs by body, as the plan has them, ws and xs
 -- the words of the ranks that are ISRs and extended tasks.
@@ -130,6 +131,7 @@ line w lrs ps m i = attempt (lineElse w lrs m i (lineStatus lrs m i)) (lineStatu
 abbrev pub marksOf : ℕ → List ℕ → Model → List Bool
 marksOf n ks m = marks n 0 (m .turning) ks (m .on) (m .counter)
 
+-- the requests and losses that the matches leave
 abbrev pub dueOf : List ℕ → List ℕ → Model → Tally
 dueOf ks rs m =
     requestsDue (begunWord m) (marksOf maxEntries ks m) rs (record { request = m .core .request; losses = m .losses })
@@ -138,6 +140,7 @@ dueOf ks rs m =
 abbrev pub switchesOf : List ℕ → Model → List ℕ
 switchesOf ks m = cond (m .turning) (switchesTicked maxEntries 0 ks (m .counter) (m .on)) (m .on)
 
+-- the model after the tick, before arbitration
 abbrev pub ticking : List ℕ → List ℕ → Model → Model
 ticking ks rs m =
     withRest (withCore m (withRequest (m .core) (dueOf ks rs m .request)))
@@ -188,6 +191,7 @@ abbrev pub stopStatus : ℕ → List ℕ → Model → ℕ → ℕ
 stopStatus n fs m t =
     firstGiven ((noCaller m gives callLevel) ∷ (leb n t gives noSuch) ∷ (not (runs fs m t) gives noFunction) ∷ [])
 
+-- the k cells from e on, stopped
 abbrev pub stopping : ℕ → ℕ → Model → Model
 stopping k e m = withCells m (countersStopped k e (m .counter)) (switchesStopped k e (m .on)) (m .turning)
 
@@ -240,11 +244,13 @@ setStatus ws xs rs m t =
 abbrev pub resumes : ℕ → ℕ → Model → Bool
 resumes r b m = has (m .core .aside) r && anySet b (getD (m .waited) r 0)
 
+-- the event bits of the body of rank r become b; go: it goes on by its priority
 abbrev pub storingFor : Bool → ℕ → ℕ → Model → Model
 storingFor go r b m =
     storing r b (cond go (with (m .core .started) r) (m .core .started))
     (cond go (without (m .core .aside) r) (m .core .aside)) m
 
+-- the body of rank r gets the bits of w
 abbrev pub receiving : ℕ → ℕ → Model → Model
 receiving r w m = storingFor (resumes r (withBits (bitsAt m r) w) m) r (withBits (bitsAt m r) w) m
 
@@ -258,6 +264,7 @@ setEvent ws xs rs ps m t w = attempt m (setStatus ws xs rs m t) (setEffect rs ps
 abbrev pub clearStatus : ℕ → Model → ℕ
 clearStatus xs m = firstGiven ((noCaller m gives callLevel) ∷ (not (has xs (m .core .runner)) gives access) ∷ [])
 
+-- the runner's bits of w are cleared
 abbrev pub clearing : ℕ → Model → Model
 clearing w m =
     storing (m .core .runner) (withoutBits (bitsAt m (m .core .runner)) w) (m .core .started) (m .core .aside) m

@@ -54,6 +54,7 @@ pub record Outcome : Type 0 where
 abbrev pub noRank : ℕ
 noRank = noByte
 
+-- the model with another core
 abbrev pub withCore : Model → Core → Model
 withCore m k =
     record {
@@ -77,6 +78,7 @@ abbrev pub withRequest : Core → ℕ → Core
 withRequest k w =
     record { request = w; started = k .started; aside = k .aside; runner = k .runner; level = k .level }
 
+-- the core with another level
 abbrev pub withLevel : Core → ℕ → Core
 withLevel k l =
     record { request = k .request; started = k .started; aside = k .aside; runner = k .runner; level = l }
@@ -123,6 +125,7 @@ withRest m ns on w ls =
       triggered = m .triggered;
     }
 
+-- other counters and switches alone; other losses alone
 abbrev pub withCells : Model → List ℕ → List ℕ → Bool → Model
 withCells m ns on w = withRest m ns on w (m .losses)
 

@@ -20,6 +20,7 @@ use Rattle.plan.specs.Entry.{tableCount, entryCount, tableFirst, compare
 abbrev pub triggerIn : List ℕ → List ℕ → ℕ → ℕ
 triggerIn kinds ps b = cond (eqb (getD kinds b 0) timeTriggered) triggerLevel (getD ps b 0)
 
+-- the same of a configuration
 abbrev pub triggerOf : Config → ℕ → ℕ
 triggerOf c = triggerIn (c .kind) (c .priority)
 

@@ -21,6 +21,7 @@ unfoldable pub machineAnswers : Config → Plan → List Event → List ℕ
 machineAnswers c p es =
     answerBytes (machineSeen c p (freshModel p) es) ++ lossBytes (lossesOf c p (machineAfter c p (freshModel p) es))
 
+-- the same of an input that has been read
 unfoldable pub machineOutputOf : List ℕ → Input → List ℕ
 machineOutputOf d (refused r p) = d
 machineOutputOf d (played c es) = written (machineAnswers c (planOf c) es) d

@@ -14,6 +14,7 @@ pub data Phase : Type 0 where
   waiting : (mask : ℕ) → Phase
   triggered : (began : Bool) → Phase
 
+-- which phase it is
 abbrev pub isSuspended : Phase → Bool
 isSuspended suspended = true
 isSuspended ready = false
@@ -69,6 +70,7 @@ holds (r ∷ rs) = true
 abbrev pub current : Config → ℕ → Body → ℕ
 current c i b = foldr max (priorityOf c i) (map (ceiling c) (b .held))
 
+-- the body in another phase
 abbrev pub become : Phase → Body → Body
 become p b = record { phase = p; pending = b .pending; held = b .held; losses = b .losses; bits = b .bits }
 
@@ -104,6 +106,7 @@ abbrev pub rest : List ℕ → List ℕ
 rest [] = []
 rest (r ∷ rs) = rs
 
+-- the most recently taken resource is given back
 abbrev pub releases : Body → Body
 releases b =
     record { phase = b .phase; pending = b .pending; held = rest (b .held); losses = b .losses; bits = b .bits }
@@ -123,6 +126,7 @@ losing n b =
       bits = b .bits;
     }
 
+-- one activation lost
 abbrev pub loses : Body → Body
 loses b = losing 1 b
 

@@ -28,6 +28,7 @@ idle = 255
 abbrev pub nobody : Candidate
 nobody = record { number = idle; level = 0; began = false; holder = false; timed = false }
 
+-- only nobody has level 0: no priority is 0
 abbrev pub isNobody : Candidate → Bool
 isNobody k = eqb (k .level) 0
 
@@ -59,6 +60,7 @@ byBegun k = k .began
 abbrev pub goesBefore : Tie → Candidate → Candidate → Bool
 goesBefore q j k = ltb (k .level) (j .level) || (eqb (k .level) (j .level) && (q j && not (q k)))
 
+-- the one of j and k that goes before the other; j where neither does
 abbrev pub preferred : Tie → Candidate → Candidate → Candidate
 preferred q j k = cond (goesBefore q k j) k j
 

@@ -45,6 +45,7 @@ Task c t = (t < c .bodies) × (kindOf c t ≢ 1)
 abbrev pub OsekTask : Config → ℕ → Type 0
 OsekTask c t = Task c t × (kindOf c t ≢ 3)
 
+-- an ISR; an extended task
 abbrev pub Isr : Config → ℕ → Type 0
 Isr c i = (i < c .bodies) × (kindOf c i ≡ 1)
 

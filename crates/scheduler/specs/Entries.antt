@@ -11,6 +11,7 @@ pub record Entry : Type 0 where
   pub period : ℕ
   pub offset : ℕ
 
+-- the entry at offset o of table t
 abbrev pub entryOf : Config → ℕ → ℕ → Entry
 entryOf c t o = record { table = t; period = getD (c .period) t 0; offset = o }
 
@@ -19,6 +20,7 @@ unfoldable pub entriesFrom : Config → ℕ → ℕ → List Entry
 entriesFrom c zero t = []
 entriesFrom c (suc n) t = map (entryOf c t) (offsets c t) ++ entriesFrom c n (suc t)
 
+-- those of all tables
 abbrev pub entriesOf : Config → List Entry
 entriesOf c = entriesFrom c (c .tables) 0
 

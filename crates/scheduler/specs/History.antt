@@ -42,6 +42,7 @@ abbrev pub NoneAccepted : (Event → Type 0) → Config → State → List Event
 NoneAccepted P c s es =
     (e : Event) (before rest : List Event) → es ≡ before ++ e ∷ rest → P e → AcceptedIn c (after c s before) e → ⊥
 
+-- the event is a Start, a Stop, of table t
 abbrev pub StartOf : ℕ → Event → Type 0
 StartOf t e = (d : ℕ) × (e ≡ Start t d)
 
@@ -85,6 +86,7 @@ pub record DueAt (c : Config) (es : List Event) (e : Event) (x : Entry) : Type 0
   pub no-stop : NoStop c (x .table) (next c (after c (fresh c) before) (Start (x .table) d)) rest
   pub on-time : due (x .period) (d + x .offset) (suc (tickCount rest)) ≡ true
 
+-- the event is a Line of the ISR i
 abbrev pub isLineOf : ℕ → Event → Bool
 isLineOf i (Activate t) = false
 isLineOf i Finish = false

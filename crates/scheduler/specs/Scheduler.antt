@@ -30,6 +30,7 @@ pub record Seen : Type 0 where
   pub losses : List ℕ
   pub due : List Bool
 
+-- the state after an event, and what is seen of the event
 pub record Stepped : Type 0 where
   pub state : State
   pub seen : Seen
@@ -46,12 +47,15 @@ phaseBegun k = cond (k .timed) (triggered true) started
 abbrev pub dispatchedTo : Candidate → State → State
 dispatchedTo k s = cond (begins k) (changing (k .number) (become (phaseBegun k)) s) s
 
+-- the dispatch of whoever is chosen
 abbrev pub dispatched : Config → State → State
 dispatched c s = dispatchedTo (runner c s) s
 
+-- a mark as an answer has it
 abbrev pub markOf : Bool → ℕ
 markOf b = cond b 1 0
 
+-- every body's losses
 abbrev pub lossesOf : State → List ℕ
 lossesOf s = map (λ b. b .losses) (s .bodies)
 
@@ -70,6 +74,7 @@ endingTo k st ds s =
       };
     }
 
+-- the same where the rule for who runs chooses
 abbrev pub ending : Config → ℕ → List Bool → State → Stepped
 ending c st ds s = endingTo (runner c s) st ds s
 
@@ -87,6 +92,7 @@ statusFor c k s e = firstGiven (checksFor c k s e)
 abbrev pub leavesFor : Config → Candidate → State → Event → State
 leavesFor c k s e = cond (eqb (statusFor c k s e) done) (effectFor c k s e) (elseOf c s (statusFor c k s e) e)
 
+-- the same while whoever is chosen runs
 abbrev pub leaves : Config → State → Event → State
 leaves c s e = leavesFor c (runner c s) s e
 
@@ -107,6 +113,7 @@ LostLine c s e i = (countsLines c ≡ true) × (e ≡ Line i) × (step c s e .se
 abbrev pub newBody : ℕ → Body
 newBody autostart = cond (eqb autostart 1) (activated noBody) noBody
 
+-- the fresh start before its dispatch
 abbrev pub unstarted : Config → State
 unstarted c =
     record {

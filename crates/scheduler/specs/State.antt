@@ -29,6 +29,7 @@ pub record State : Type 0 where
 abbrev pub noBody : Body
 noBody = record { phase = suspended; pending = false; held = []; losses = 0; bits = 0 }
 
+-- body i; table t
 abbrev pub bodyOf : State → ℕ → Body
 bodyOf s i = getD (s .bodies) i noBody
 
@@ -39,6 +40,7 @@ tableOf s t = getD (s .tables) t stopped
 abbrev pub changing : ℕ → (Body → Body) → State → State
 changing i f s = record { bodies = set (s .bodies) i (f (bodyOf s i)); tables = s .tables; order = s .order }
 
+-- table t becomes x
 abbrev pub withTable : ℕ → Table → State → State
 withTable t x s = record { bodies = s .bodies; tables = set (s .tables) t x; order = s .order }
 

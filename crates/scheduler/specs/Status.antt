@@ -49,6 +49,7 @@ pub record Check : Type 0 where
   pub fails : Bool
   pub status : ℕ
 
+-- b gives s: the status s is given if b
 abbrev pub _gives_ : Bool → ℕ → Check
 b gives s = record { fails = b; status = s }
 

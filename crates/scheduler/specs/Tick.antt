@@ -17,6 +17,7 @@ use Rattle.cell.specs.Due.{due}
 use Rattle.scheduler.specs.Body.{isSuspended, triggers, loses, activatedByEntry}
 use Rattle.scheduler.specs.State.{Table, stopped, running, State, bodyOf, changing}
 
+-- the same of one table
 unfoldable pub counting : Table → Table
 counting stopped = stopped
 counting (running d n) = running d (suc n)
