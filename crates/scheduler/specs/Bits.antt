@@ -5,7 +5,7 @@
 --   anySet bits w        one of the bits that the mask w names is set
 --   withBits bits w      the bits with those of w set; withoutBits bits w: with those of w cleared
 --
--- Main laws: `any-set`, `with-bit` and `without-bit`, each bit by itself (proofs/Theorems.antt).
+-- Main laws: `any-set`, `with-bit` and `without-bit`, each bit by itself (proofs/Theorems/Bits.antt).
 use Prim.Native.Nat.{ℕ, _-_, _/_, _%_, _^_}
 use mathlib.Core.Bool.{Bool, not}
 use lib.Dec.{eqb}

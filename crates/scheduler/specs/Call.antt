@@ -8,7 +8,7 @@
 --                       the same while whoever is chosen runs; "the first status that applies is given"
 --
 -- In order: the tests, the first column, each event's effect, the second, what a refused event leaves, and both columns
--- while the chosen one runs. `event-table` (proofs/Theorems.antt) is the first column with its numbers written out.
+-- while the chosen one runs. `event-table` (proofs/Theorems/Events.antt) is the first column with its numbers written out.
 use Prim.Native.Nat.{ℕ, _+_}
 use mathlib.Core.Bool.{Bool, true, false, cond, not, _&&_, _||_}
 use mathlib.Core.List.{List, [], _∷_}

@@ -52,7 +52,7 @@ abbrev pub byHolding : Tie
 byHolding k = k .holder
 
 -- document 01's rule, which that replaces: "on equal priorities the one that already began goes first". Where no task
--- is extended both choose alike (`old-rule`, proofs/Theorems.antt).
+-- is extended both choose alike (`old-rule`, proofs/Theorems/Running.antt).
 abbrev pub byBegun : Tie
 byBegun k = k .began
 

@@ -5,7 +5,7 @@
 --   Decided st rs   st is the status of the first of the rules rs that applies, and 0 where none does
 --   Conditions c s  the rules of the twelve events that meet the state s
 --
--- `conditions` (proofs/Theorems.antt) says that they hold of every state.
+-- `conditions` (proofs/Theorems/Events.antt) says that they hold of every state.
 use Prim.Native.Nat.{ℕ, _+_, _/_, _%_, _^_, _≤_, _<_}
 use mathlib.Core.Path.{_≡_}
 use mathlib.Core.Logic.{_≢_, _⊎_}

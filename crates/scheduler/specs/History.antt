@@ -10,7 +10,7 @@
 --   linesLost c i s es    how many of the events es from the state s on are Lines of the ISR i that give 4
 --   unlost x              what was seen of an event, but for the losses
 --
--- Main laws: `table-history`, `due-exactly` (proofs/Theorems.antt).
+-- Main laws: `table-history`, `due-exactly` (proofs/Theorems/Tables.antt).
 use Prim.Native.Nat.{ℕ, suc, _+_}
 use mathlib.Core.Path.{_≡_}
 use mathlib.Core.Logic.{_⊎_}

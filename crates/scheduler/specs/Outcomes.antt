@@ -1,6 +1,6 @@
 -- What an accepted event leaves, in the words of the state and of document 01's column "effect": who changes, how, and
 -- that nobody else does. s is the state that the event meets, s′ what it leaves before the dispatch, k the runner. A
--- Tick's due entries have laws of their own (`tick-suspended`, `tick-triggered`, `tick-active` of proofs/Theorems.antt),
+-- Tick's due entries have laws of their own (`tick-suspended`, `tick-triggered`, `tick-active` of proofs/Theorems/Tables.antt),
 -- and so have Wait, Set and Clear.
 --
 --   Alone t s s′   of the states s and s′ no body but t, no table and no order differs

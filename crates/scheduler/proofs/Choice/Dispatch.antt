@@ -19,7 +19,7 @@ use Rattle.scheduler.specs.State.{State, bodyOf, changing, runner, among
 use Rattle.scheduler.specs.Event.{Event}
 use Rattle.scheduler.specs.Scheduler.{begins, phaseBegun, dispatched, leaves, step, stepBy, unstarted, fresh, after, afterBy}
 use Rattle.scheduler.proofs.Choice.Runner.{contender, candidate-active, chosen-mapped, Taken, no-one, body, chosen-from, runner-timed, runner-untimed}
-use Rattle.scheduler.proofs.Event.Effects.{bodyOf-changing-same}
+use Rattle.scheduler.proofs.Event.Effects.{bodyOf-changing-same, length-changing, dispatched-keeps}
 
 -- the candidate x, begun
 abbrev onceBegun : Candidate → Candidate
@@ -255,3 +255,22 @@ module _ (c : Config) where
   unfolding afterBy
   underway-after [] s h = h
   underway-after (e ∷ es) s h = underway-after es (step c s e .state) (underway-step s e)
+
+-- the one that a dispatch chose is chosen again, and has begun
+pub chosen-again-begun : (c : Config) (s : State)
+    → (runner c (dispatched c s) .number ≡ runner c s .number) × (runner c (dispatched c s) .level ≡ runner c s .level)
+    × (((j : ℕ) → among j (s .order) ≡ true → j < length (s .bodies)) → begins (runner c (dispatched c s)) ≡ false)
+chosen-again-begun c s = (
+  runner-same c s .0,
+  runner-same c s .1,
+  λ named. underway-named c (dispatched c s) (dispatched-underway c s) (kept named),
+)
+  where
+    kept : ((j : ℕ) → among j (s .order) ≡ true → j < length (s .bodies))
+        → (j : ℕ) → among j (dispatched c s .order) ≡ true → j < length (dispatched c s .bodies)
+    kept named =
+        dispatched-keeps (λ x. (j : ℕ) → among j (x .order) ≡ true → j < length (x .bodies))
+        (λ i f x h j a. rw (length-changing i f x) (h j a))
+        c
+        s
+        named

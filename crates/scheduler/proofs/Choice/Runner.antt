@@ -18,7 +18,7 @@ use Rattle.number.proofs.Cases.{by-lt, by-eq, cond-either}
 use Rattle.config.specs.declared.Config.{Config}
 use Rattle.config.specs.Meaning.{priorityOf, ceiling}
 use Rattle.scheduler.specs.Body.{Phase, suspended, ready, started, waiting, triggered, isStarted, competes, Body, holds, current, gets, releases}
-use Rattle.scheduler.specs.Choice.{Candidate, nobody, isNobody, candidate, Tie, goesBefore, preferred, chosenFrom, chosenBy, chosen}
+use Rattle.scheduler.specs.Choice.{Candidate, nobody, isNobody, candidate, Tie, byHolding, goesBefore, preferred, chosenFrom, chosenBy, chosen}
 use Rattle.scheduler.specs.State.{State, noBody, among, latestOf, runner}
 use Rattle.scheduler.specs.Scheduler.{markOf}
 
@@ -333,3 +333,14 @@ module _ (c : Config) (s : State) where
 
   pub runner-untimed : s .order ≡ [] → runner c s ≡ chosen c (s .bodies)
   runner-untimed e = ap (λ (l : List ℕ). latestOf (s .bodies) l (chosen c (s .bodies))) e
+
+-- somebody runs where a body may, by its priority or not
+pub runner-someone : (c : Config) (s : State) (k : ℕ) → competes (getD (s .bodies) k noBody .phase) ≡ true
+    → 1 ≤ priorityOf c k
+    → isNobody (runner c s) ≡ false
+runner-someone c s k active some = go (s .order) refl
+  where
+    go : (js : List ℕ) → s .order ≡ js → isNobody (runner c s) ≡ false
+    go [] o =
+        ap isNobody (runner-untimed c s o) ∙ chosen-someone byHolding refl c (s .bodies) k active some
+    go (j ∷ js) o = ap isNobody (runner-timed c s j js o)

@@ -7,7 +7,7 @@ use Prim.Native.Nat.{ℕ, _+_, _-_, _≤_, _<_, suc}
 use mathlib.Core.Path.{_≡_, refl, sym, ap, subst, subst⁻¹, _∙_}
 use mathlib.Core.Bool.{Bool, true, false, true≢false, cond, not}
 use mathlib.Core.List.{List, [], _∷_}
-use mathlib.Core.Logic.{_≢_}
+use mathlib.Core.Logic.{_≢_, _⊎_, inl, inr}
 use native.Mathlib.Omega.{arith}
 use borrow.Author.Tests.{eq-eqb, ne-eqb}
 use lib.Dec.{eqb}
@@ -410,3 +410,18 @@ module _ (c : Config) where
     -- whoever is triggered begins at once: after no list of events has one still to begin
     pub begun-once : (es : List Event) (i : ℕ) → bodyOf (after c (fresh c) es) i .phase ≢ triggered false
     begun-once es i h = placed (orderly-after es orderly-fresh) .to-begin i h
+
+-- a Tick starts one that was suspended, which is then the latest, or leaves the order
+pub tick-latest : (c : Config) → Accepted c → Shaped c → (es : List Event)
+    → (ticked c (after c (fresh c) es) .order ≡ after c (fresh c) es .order)
+    ⊎ ((j : ℕ) × (ticked c (after c (fresh c) es) .order ≡ j ∷ after c (fresh c) es .order) × (isTimed c j ≡ true)
+    × (bodyOf (after c (fresh c) es) j .phase ≡ suspended))
+tick-latest c ok shaped es =
+    go (tick-order c ok shaped (orderly-after c ok shaped es (orderly-fresh c ok shaped)))
+  where
+    go : TickOrder c (after c (fresh c) es)
+        → (ticked c (after c (fresh c) es) .order ≡ after c (fresh c) es .order)
+        ⊎ ((j : ℕ) × (ticked c (after c (fresh c) es) .order ≡ j ∷ after c (fresh c) es .order) × (isTimed c j ≡ true)
+        × (bodyOf (after c (fresh c) es) j .phase ≡ suspended))
+    go (order-same q o) = inl q
+    go (starts j x) = inr (j, x .order-is, x .timed, x .was-suspended)
