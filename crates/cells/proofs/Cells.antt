@@ -124,6 +124,9 @@ unfolding marks
 length-marks zero e w ks os ns = refl
 length-marks (suc k) e w ks os ns = ap suc (length-marks k (suc e) w ks os ns)
 
+pub length-group : (ms : List Bool) (e : ℕ) → e + group ≤ length ms → length (take group (drop e ms)) ≡ group
+length-group ms e h = length-take-le group (drop e ms) (rw (length-drop e ms) (omega arith))
+
 module _ (w : ℕ) where
   due-over : (rs : List ℕ) (x : Tally) → requestsDue w [] rs x ≡ x
   unfolding requestsDue
@@ -139,12 +142,9 @@ module _ (w : ℕ) where
         (sym (drop-drop group e rs))
         ∙ ap (requestsDue w (drop group (drop e ms)) (drop group (drop e rs))) is
         ∙ ap (λ (n : ℕ). requestsDue w (drop group (drop e ms)) (drop n (drop e rs))
-        (requestsDue w (take group (drop e ms)) (drop e rs) x)) (sym whole)
+        (requestsDue w (take group (drop e ms)) (drop e rs) x)) (sym (length-group ms e h))
         ∙ sym (due-append w (take group (drop e ms)) (drop group (drop e ms)) (drop e rs) x)
         ∙ ap (λ (bs : List Bool). requestsDue w bs (drop e rs) x) (take-append-drop group (drop e ms))
-      where
-        whole : length (take group (drop e ms)) ≡ group
-        whole = length-take-le group (drop e ms) (rw (length-drop e ms) (omega arith))
 
     pub groups-end : (e : ℕ) → length ms ≤ e → (x : Tally) → requestsDue w (drop e ms) (drop e rs) x ≡ x
     groups-end e h x = rw (drop-of-length-le ms {i = e} h) (due-over (drop e rs) x)

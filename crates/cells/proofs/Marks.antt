@@ -12,7 +12,7 @@ use native.Mathlib.Omega.{arith}
 use native.Mathlib.Nat.{add-zero, add-suc, mul-one}
 use mir.Val.{boolByte}
 use lib.ListN.{length, getD, take, drop, length-drop, drop-of-length-le, List·getD-eq-default}
-use lib.Seq.{drop-cons, drop-drop, getD-drop, take-nil, length-take-le}
+use lib.Seq.{drop-cons, drop-drop, getD-drop, take-nil}
 use lib.Count.{trailingZeros}
 use lib.Pow.{shr-shr}
 use lib.Bits.{shifted-half, shifted-even}
@@ -21,6 +21,7 @@ use Rattle.machine.specs.Model.{noRank}
 use Rattle.cells.specs.Methods.{group, marksWord}
 use Rattle.machine.specs.Cells.{Tally, matchAt, requestsDue}
 use Rattle.machine.proofs.Change.Matches.{due-none, due-marked}
+use Rattle.cells.proofs.Cells.{length-group}
 
 -- j digits further up there are j zeros more
 trailing-shifted : (k j n : ℕ) → trailingZeros (k + j) (n * 2 ^ j) ≡ trailingZeros k n + j
@@ -155,10 +156,9 @@ module _ {w : ℕ} {rs : List ℕ} {u : ℕ} {y : Tally} {e m : ℕ} {x : Tally}
 pub left-start : (w : ℕ) (rs : List ℕ) (e : ℕ) (ms : List Bool) (x : Tally) → e + group ≤ length ms → {m : ℕ}
     → m ≡ marksWord (take group (drop e ms))
     → Left w rs (e + group) (requestsDue w (take group (drop e ms)) (drop e rs) x) e m x (take group (drop e ms))
-left-start w rs e ms x h is = record { few = omega (arith, whole); until = omega (arith, whole); word = is; due = refl }
-  where
-    whole : length (take group (drop e ms)) ≡ group
-    whole = length-take-le group (drop e ms) (rw (length-drop e ms) (omega arith))
+left-start w rs e ms x h is =
+    let whole = length-group ms e h in
+    record { few = omega (arith, whole); until = omega (arith, whole); word = is; due = refl }
 
 -- the number as the code sums it up
 module _ (ms : List Bool) where

@@ -1,6 +1,6 @@
 -- One body: what one question about its phase says of another, and what its end leaves.
 use mathlib.Core.Path.{_≡_, refl, sym}
-use mathlib.Core.Bool.{true, false, true≢false}
+use mathlib.Core.Bool.{Bool, true, false, true≢false, cond}
 use mathlib.Core.List.{List, [], _∷_}
 use Prim.Native.Nat.{ℕ}
 use Rattle.number.proofs.Cases.{cond-either}
@@ -35,6 +35,10 @@ begun-active ready h = refl
 begun-active started h = refl
 begun-active (waiting w) h = refl
 begun-active (triggered x) h = refl
+
+-- whoever begins, by a call or by an entry
+pub begun-phase-active : (x : Bool) → isSuspended (cond x (triggered true) started) ≡ false
+begun-phase-active x = cond-either (λ (p : Phase). isSuspended p ≡ false) x _ _ refl refl
 
 pub unbegun-unstarted : (p : Phase) → hasBegun p ≡ false → isStarted p ≡ false
 unbegun-unstarted suspended h = refl

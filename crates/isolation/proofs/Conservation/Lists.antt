@@ -8,7 +8,7 @@ use mathlib.Core.List.{List, [], _∷_}
 use native.Mathlib.Omega.{arith}
 use borrow.Author.Tests.{eq-eqb, ne-eqb}
 use lib.Dec.{eqb}
-use lib.ListN.{length, getD, take, List·getD-map, List·getD-eq-default}
+use lib.ListN.{length, getD, take, List·getD-eq-default}
 use lib.Seq.{getD-take}
 use Rattle.number.proofs.Cases.{by-lt, by-eq, cond-either}
 use Rattle.config.specs.declared.Config.{Config}
@@ -23,7 +23,7 @@ use Rattle.scheduler.specs.Call.{caller, statusOf, effectOf, elseOf}
 use Rattle.scheduler.specs.Scheduler.{begins, markOf, newBody, unstarted, leaves, step, stepBy, seen, seenBy, fresh, after, afterBy}
 use Rattle.scheduler.proofs.Body.{unbegun-unstarted}
 use Rattle.scheduler.proofs.Choice.Runner.{Taken, no-one, body, chosen-from, candidate-active, current-own}
-use Rattle.scheduler.proofs.Event.Effects.{length-changing, effectOf-keeps, elseOf-keeps, activatingDue-keeps, entered}
+use Rattle.scheduler.proofs.Event.Effects.{length-changing, new-body, effectOf-keeps, elseOf-keeps, activatingDue-keeps, entered}
 use Rattle.scheduler.proofs.Choice.Dispatch.{runner-same, underway-named, underway-step, underway-fresh}
 use Rattle.scheduler.proofs.Kind.{timed-body}
 use Rattle.scheduler.proofs.Order.Invariant.{orderly-step, orderly-unstarted, orderly-fresh}
@@ -132,19 +132,16 @@ module _ (c : Config) (ok : Configuration.Accepted c) (shaped : Configuration.Sh
         begins-are = omega (arith, now .begins-are, next .begins-are);
       })
 
-  new-body : (i : ℕ) → bodyOf (unstarted c) i ≡ newBody (getD (take (c .bodies) (c .autostart)) i 0)
-  new-body i = List·getD-map newBody (take (c .bodies) (c .autostart)) i 0
-
   -- a new body has no second request, and has not begun
   new-second : (i : ℕ) → Second c i (bodyOf (unstarted c) i)
-  new-second i = rw (new-body i) (go (eqb (getD (take (c .bodies) (c .autostart)) i 0) 1))
+  new-second i = rw (new-body c i) (go (eqb (getD (take (c .bodies) (c .autostart)) i 0) 1))
     where
       go : (v : Bool) → Second c i (cond v (activated noBody) noBody)
       go true h = absurd (true≢false (sym h))
       go false h = absurd (true≢false (sym h))
 
   new-unbegun : (i : ℕ) → hasBegun (bodyOf (unstarted c) i .phase) ≡ false
-  new-unbegun i = rw (new-body i) (go (eqb (getD (take (c .bodies) (c .autostart)) i 0) 1))
+  new-unbegun i = rw (new-body c i) (go (eqb (getD (take (c .bodies) (c .autostart)) i 0) 1))
     where
       go : (v : Bool) → hasBegun (cond v (activated noBody) noBody .phase) ≡ false
       go true = refl
@@ -152,7 +149,7 @@ module _ (c : Config) (ok : Configuration.Accepted c) (shaped : Configuration.Sh
 
   new-waits : (b : ℕ) → b < c .bodies → waitMark (bodyOf (unstarted c) b) ≡ autostarted c b
   new-waits b fits =
-      ap waitMark (new-body b ∙ ap newBody (getD-take (c .bodies) (c .autostart) b 0 fits))
+      ap waitMark (new-body c b ∙ ap newBody (getD-take (c .bodies) (c .autostart) b 0 fits))
       ∙ go (eqb (getD (c .autostart) b 0) 1)
     where
       go : (v : Bool) → waitMark (cond v (activated noBody) noBody) ≡ markOf v

@@ -25,7 +25,7 @@ use Rattle.scheduler.specs.Call.{noCaller, effectFor, elseOf, finish, finishTim
 use Rattle.scheduler.specs.Scheduler.{begins, phaseBegun, dispatchedTo, statusFor, leavesFor}
 use Rattle.isolation.specs.Above.{above, NamesAbove}
 use Rattle.isolation.specs.States.{begunPhase, begunPart, SameState}
-use Rattle.scheduler.proofs.Body.{begun-active}
+use Rattle.scheduler.proofs.Body.{begun-active, begun-phase-active}
 
 -- what holds of each two bodies holds after the k-th became y and y′
 pair : (P : ℕ → Body → Body → Type 0) (bs bs′ : List Body) → length bs ≡ length bs′
@@ -312,10 +312,6 @@ module _ (c : Config) (L : ℕ) where
     active : isSuspended (bodyOf s (k .number) .phase) ≡ false → isSuspended (bodyOf s′ (k .number) .phase) ≡ false
         → Begins s s′ k
 
-  phase-active : (t : Bool) → isSuspended (cond t (triggered true) started) ≡ false
-  phase-active true = refl
-  phase-active false = refl
-
   pub dispatched-same : (k : Candidate) {s s′ : State} → SameState c L s s′ → (begins k ≡ true → Begins s s′ k)
       → SameState c L (dispatchedTo k s) (dispatchedTo k s′)
   dispatched-same k {s} {s′} same which =
@@ -330,4 +326,4 @@ module _ (c : Config) (L : ℕ) where
           changed same (k .number) (become (phaseBegun k)) (ap (λ (b : Body). begunPart (become (phaseBegun k) b)) e)
       go (active a a′) =
           follows same (k .number) (become (phaseBegun k)) (become (begunPhase (phaseBegun k)))
-          (λ b. begins-part (phaseBegun k) b (phase-active (k .timed))) a a′
+          (λ b. begins-part (phaseBegun k) b (begun-phase-active (k .timed))) a a′

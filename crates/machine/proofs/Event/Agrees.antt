@@ -30,7 +30,7 @@ use Rattle.scheduler.specs.Call.{nobodyRuns, nobodyCalls, caller, statusOf, eff
 use Rattle.scheduler.specs.Tick.{dues}
 use Rattle.scheduler.specs.Scheduler as Plain
 use Rattle.scheduler.specs.Scheduler.{Event, step, stepBy, begins, phaseBegun, dispatched, ending, noneDue, markOf}
-use Rattle.scheduler.proofs.Body.{competes-active}
+use Rattle.scheduler.proofs.Body.{begun-phase-active, competes-active}
 use Rattle.scheduler.proofs.Choice.Runner.{current-own, candidate-active, Taken, no-one, body, chosen-from}
 use Rattle.scheduler.proofs.Choice.Dispatch.{begins-some}
 use Rattle.scheduler.proofs.Order.Invariant.{Orderly, effect-orderly, refusal-orderly, orderly-step}
@@ -110,12 +110,9 @@ dispatched-losses c s i = go (begins (runner c s))
     go true = kept (λ x. x .losses) begun (λ x. refl) (s .bodies) (runner c s .number) i
     go false = refl
 
--- what has begun neither waits nor is suspended
+-- what has begun does not wait
 begun-awake : (x : Bool) → isWaiting (cond x (triggered true) started) ≡ false
 begun-awake x = cond-either (λ (q : Phase). isWaiting q ≡ false) x _ _ refl refl
-
-begun-active : (x : Bool) → isSuspended (cond x (triggered true) started) ≡ false
-begun-active x = cond-either (λ (q : Phase). isSuspended q ≡ false) x _ _ refl refl
 
 -- nor does a dispatch change event bits: who begins was not suspended, and does not wait
 module _ (c : Config) (s : State) (top : LatestActive s) where
@@ -142,7 +139,7 @@ module _ (c : Config) (s : State) (top : LatestActive s) where
       go true e =
           by-eq i r
           (λ z. rw z
-          (ap eventBits (at-runner e) ∙ rw (begun-active (runner c s .timed))
+          (ap eventBits (at-runner e) ∙ rw (begun-phase-active (runner c s .timed))
           (sym (rw (begins-unsuspended c s top e .1)))))
           (λ n. ap eventBits (at-other i n))
 

@@ -1,5 +1,5 @@
 -- Wait, Set and Clear do the same to the model as to the state.
-use Prim.Native.Nat.{ℕ, _<_}
+use Prim.Native.Nat.{ℕ}
 use mathlib.Core.Path.{_≡_, refl, sym, ap, _∙_}
 use mathlib.Core.Bool.{Bool, true, false, cond, not, Bool·not-not}
 use mathlib.Core.List.{List, [], _∷_}
@@ -127,15 +127,12 @@ module _ {c : Config} {p : Plan} {rk : ℕ → ℕ} (fit : Fitted c p rk) {m : M
   caller-bits w z = by-call fit sim _ z (λ b ns k. rw (k .calls) (runner-bits k))
 
   -- Set
-  rank-is : (t : ℕ) → t < c .bodies → getD (p .rank) t noRank ≡ rk t
-  rank-is t h = fit .body-rank t h
-
   no-task-is : (t : ℕ) → Machine.noTask (p .isrs) (getD (p .rank) t noRank) ≡ not (isTask c t)
   no-task-is t =
       by-lt t (c .bodies)
       (λ h.
       let some = ne-eqb (rk t) noRank (λ z. absurd (omega (arith, z, rank-below fit t h))) in
-      rw (rank-is t h, some, fit .isr-at t h, lt-ltb t (c .bodies) h)
+      rw (fit .body-rank t h, some, fit .isr-at t h, lt-ltb t (c .bodies) h)
       (sym (Bool·not-not (eqb (getD (c .kind) t 0) isr))))
       (λ h. rw (fit .rank-none t h, le-ltb t (c .bodies) h))
 
@@ -144,8 +141,8 @@ module _ {c : Config} {p : Plan} {rk : ℕ → ℕ} (fit : Fitted c p rk) {m : M
       first-same callLevel _ _ (caller-same fit sim)
       (λ _. first-same noSuch _ _ (no-task-is t)
       (λ h. let t< = task-exists c t (not-false (isTask c t) h) in
-      first-same access _ _ (rw (rank-is t t<) (ap not (fit .extended-at t t<)))
-      (λ _. first-same wrongState _ _ (rw (rank-is t t<) (ap not (busy-is (sim .tied .words) t t<)))
+      first-same access _ _ (rw (fit .body-rank t t<) (ap not (fit .extended-at t t<)))
+      (λ _. first-same wrongState _ _ (rw (fit .body-rank t t<) (ap not (busy-is (sim .tied .words) t t<)))
       (λ _. refl))))
 
   pub agrees-set : (t w : ℕ) → Agrees c p rk m s (Set t w)
@@ -160,7 +157,7 @@ module _ {c : Config} {p : Plan} {rk : ℕ → ℕ} (fit : Fitted c p rk) {m : M
       let untimed : isTimed c t ≡ false =
       of-one-kind c t extended timeTriggered (λ e. absurd (omega (arith, e))) (a .2) in
       let act : isSuspended (at bs t .phase) ≡ false = not-true (isSuspended (at bs t .phase)) (a .3) in
-      rw (rank-is t t<)
+      rw (fit .body-rank t t<)
       (settled-done fit (keeps .effect (Set t w) refl z)
       (receive-tied fit m t t< (sim .noted) act w (sim .tied) (untriggered (sim .orderly) t untimed))
       (sim .row)

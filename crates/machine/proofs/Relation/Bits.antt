@@ -20,7 +20,7 @@ use Rattle.scheduler.specs.Body.{waiting, isSuspended, Body}
 use Rattle.scheduler.specs.State.{noBody}
 use Rattle.plan.proofs.Fitted.{Fitted}
 use Rattle.machine.specs.Model.{Model}
-use Rattle.machine.proofs.Relation.Words.{at, at-other}
+use Rattle.machine.proofs.Relation.Words.{at, at-other, other-rank}
 
 -- the event bits of the rank r
 abbrev pub noted : ℕ → List ℕ → ℕ → ℕ
@@ -57,9 +57,6 @@ module _ {c : Config} {p : Plan} {rk : ℕ → ℕ} (fit : Fitted c p rk) {x : �
   at-b : at (set bs b y) b ≡ y
   at-b = getD-set-same bs b y noBody (rw size b<)
 
-  other-rank : (i : ℕ) → i < c .bodies → i ≢ b → rk i ≢ rk b
-  other-rank i i< d e = d (fit .rank-inj i b i< b< e)
-
   -- body b becomes y, the rows agree with y at its rank, and are as before elsewhere
   pub noted-changed : (x′ : ℕ) (es′ ws′ : List ℕ) → length es′ ≡ 32 → length ws′ ≡ 32
       → noted x′ es′ (rk b) ≡ eventBits y → ((w : ℕ) → y .phase ≡ waiting w → getD ws′ (rk b) 0 ≡ w)
@@ -71,10 +68,10 @@ module _ {c : Config} {p : Plan} {rk : ℕ → ℕ} (fit : Fitted c p rk) {x : �
         masks-long = masks-long;
         bits-are = λ i i<. by-eq i b
             (λ e. rw (e, at-b) bits)
-            (λ d. rw (at-other bs b y i d) (other-bits (rk i) (other-rank i i< d) ∙ n .bits-are i i<));
+            (λ d. rw (at-other bs b y i d) (other-bits (rk i) (other-rank fit b b< i i< d) ∙ n .bits-are i i<));
         mask-is = λ i w i< h. by-eq i b
             (λ e. rw e (mask w (rw (e, at-b) at h)))
-            (λ d. other-masks (rk i) (other-rank i i< d) ∙ n .mask-is i w i< (rw (at-other bs b y i d) at h));
+            (λ d. other-masks (rk i) (other-rank fit b b< i i< d) ∙ n .mask-is i w i< (rw (at-other bs b y i d) at h));
       }
 
   -- the rows stay, since y has the bits and the mask of the body before

@@ -31,6 +31,11 @@ at bs b = getD bs b noBody
 pub at-other : (bs : List Body) (b : ℕ) (y : Body) (i : ℕ) → i ≢ b → at (set bs b y) i ≡ at bs i
 at-other bs b y i n = getD-set-other bs b i y noBody n
 
+-- and other bodies have other ranks
+pub other-rank : {c : Config} {p : Plan} {rk : ℕ → ℕ} → Fitted c p rk → (b : ℕ) → b < c .bodies
+    → (i : ℕ) → i < c .bodies → i ≢ b → rk i ≢ rk b
+other-rank fit b b< i i< n e = n (fit .rank-inj i b i< b< e)
+
 -- it has begun, and does not go on by its priority
 abbrev pub isAside : Phase → Bool
 isAside suspended = false
@@ -87,13 +92,13 @@ module _ {c : Config} {p : Plan} {rk : ℕ → ℕ} (fit : Fitted c p rk) {k : C
         aside-lt = there .aside-lt;
         asks = λ i i<. by-eq i b
             (λ e. rw (e, at-b) (here .asks))
-            (λ n. rw (at-other bs b y i n) (there .asks (rk i) (other-rank i i< n) ∙ w .asks i i<));
+            (λ n. rw (at-other bs b y i n) (there .asks (rk i) (other-rank fit b b< i i< n) ∙ w .asks i i<));
         goes-on = λ i i<. by-eq i b
             (λ e. rw (e, at-b) (here .goes-on))
-            (λ n. rw (at-other bs b y i n) (there .goes-on (rk i) (other-rank i i< n) ∙ w .goes-on i i<));
+            (λ n. rw (at-other bs b y i n) (there .goes-on (rk i) (other-rank fit b b< i i< n) ∙ w .goes-on i i<));
         put-aside = λ i i<. by-eq i b
             (λ e. rw (e, at-b) (here .put-aside))
-            (λ n. rw (at-other bs b y i n) (there .put-aside (rk i) (other-rank i i< n) ∙ w .put-aside i i<));
+            (λ n. rw (at-other bs b y i n) (there .put-aside (rk i) (other-rank fit b b< i i< n) ∙ w .put-aside i i<));
         real = λ r h. by-eq r (rk b)
             (λ e. (b, (b<, sym e)))
             (λ n. w .real r (bids-other r n ∙ h));
@@ -107,9 +112,6 @@ module _ {c : Config} {p : Plan} {rk : ℕ → ℕ} (fit : Fitted c p rk) {k : C
     where
       at-b : at (set bs b y) b ≡ y
       at-b = getD-set-same bs b y noBody (rw size b<)
-
-      other-rank : (i : ℕ) → i < c .bodies → i ≢ b → rk i ≢ rk b
-      other-rank i i< n e = n (fit .rank-inj i b i< b< e)
 
       bids-other : (r : ℕ) → r ≢ rk b
           → has (union (k .request) (k .started)) r ≡ has (union (k′ .request) (k′ .started)) r

@@ -11,7 +11,7 @@ use mathlib.Core.Logic.{_≢_}
 use native.Mathlib.Omega.{arith}
 use borrow.Author.Tests.{eq-eqb, ne-eqb}
 use lib.Dec.{eqb}
-use lib.ListN.{length, length-set, length-map, length-replicate, replicate}
+use lib.ListN.{length, getD, take, length-set, length-map, length-replicate, replicate, List·getD-map}
 use lib.Seq.{getD-set-same, getD-set-other, map-set-same}
 use Rattle.number.proofs.Cases.{by-eq, cond-either}
 use Rattle.config.specs.declared.Config.{Config}
@@ -23,7 +23,7 @@ use Rattle.scheduler.specs.State.{State, Table, stopped, noBody, bodyOf,
 use Rattle.scheduler.specs.Call.{caller, finish, finishTimed, statusOf, effectOf, elseOf}
 use Rattle.scheduler.specs.Tick.{counting, counted, starting, trigger, enter, activatingDue, dues, ticked}
 use Rattle.scheduler.specs.Event.{Event, Activate, Finish, Chain, Get, Release, Tick, Line, Start, Stop, Wait, Set, Clear, isTick}
-use Rattle.scheduler.specs.Scheduler.{begins, phaseBegun, dispatched, lossesOf, unstarted, leaves, step, stepBy, LostLine, fresh, after, afterBy}
+use Rattle.scheduler.specs.Scheduler.{begins, phaseBegun, dispatched, lossesOf, newBody, unstarted, leaves, step, stepBy, LostLine, fresh, after, afterBy}
 
 module _ (i : ℕ) (f : Body → Body) (s : State) where
   pub bodyOf-changing-same : i < length (s .bodies) → bodyOf (changing i f s) i ≡ f (bodyOf s i)
@@ -301,3 +301,7 @@ pub after-append : (c : Config) (es fs : List Event) (s : State) → after c s (
 unfolding afterBy
 after-append c [] fs s = refl
 after-append c (e ∷ es) fs s = after-append c es fs (step c s e .state)
+
+-- a body at the fresh start
+pub new-body : (c : Config) (i : ℕ) → bodyOf (unstarted c) i ≡ newBody (getD (take (c .bodies) (c .autostart)) i 0)
+new-body c i = List·getD-map newBody (take (c .bodies) (c .autostart)) i 0

@@ -11,7 +11,7 @@ use mathlib.Core.Logic.{_≢_, _⊎_, inl, inr}
 use native.Mathlib.Omega.{arith}
 use borrow.Author.Tests.{eq-eqb, ne-eqb}
 use lib.Dec.{eqb}
-use lib.ListN.{length, getD, take, drop, length-take, length-drop, length-map, length-replicate, List·getD-map}
+use lib.ListN.{length, getD, take, drop, length-take, length-drop, length-map, length-replicate}
 use lib.Seq.{getD-take, getD-drop, length-take-le}
 use Rattle.number.proofs.Cases.{by-test, by-eq}
 use Rattle.config.specs.declared.Config.{Config}
@@ -29,7 +29,7 @@ use Rattle.scheduler.specs.Call.{statusOf, effectOf, elseOf}
 use Rattle.scheduler.specs.Scheduler.{begins, phaseBegun, dispatched, newBody, unstarted, leaves, step, stepBy, fresh, after, afterBy}
 use Rattle.scheduler.specs.History.{AcceptedIn}
 use Rattle.scheduler.proofs.Choice.Runner.{runner-timed}
-use Rattle.scheduler.proofs.Event.Effects.{bodyOf-changing-same, bodyOf-changing-other, by-tick, no-tick, elseOf-keeps}
+use Rattle.scheduler.proofs.Event.Effects.{bodyOf-changing-same, bodyOf-changing-other, by-tick, no-tick, elseOf-keeps, new-body}
 use Rattle.scheduler.proofs.Choice.Dispatch.{begins-some}
 use Rattle.scheduler.proofs.Kind.{timed-body}
 use Rattle.scheduler.proofs.Members.{Distinct, distinct-fits, none-among, among-head, among-place}
@@ -376,12 +376,9 @@ module _ (c : Config) where
           has-entry = λ j h. none-among j h;
         }
       where
-        new : (i : ℕ) → bodyOf (unstarted c) i ≡ newBody (getD (take (c .bodies) (c .autostart)) i 0)
-        new i = List·getD-map newBody (take (c .bodies) (c .autostart)) i 0
-
         plain : (i : ℕ) → isTriggered (bodyOf (unstarted c) i .phase) ≡ false
         plain i =
-            ap (λ (b : Body). isTriggered (b .phase)) (new i) ∙ go (eqb (getD (take (c .bodies) (c .autostart)) i 0) 1)
+            ap (λ (b : Body). isTriggered (b .phase)) (new-body c i) ∙ go (eqb (getD (take (c .bodies) (c .autostart)) i 0) 1)
           where
             go : (x : Bool) → isTriggered (cond x (activated noBody) noBody .phase) ≡ false
             go true = refl
@@ -393,7 +390,7 @@ module _ (c : Config) where
           where
             none : bodyOf (unstarted c) i ≡ noBody
             none =
-                new i
+                new-body c i
                 ∙ ap newBody (getD-take (c .bodies) (c .autostart) i 0 (timed-body c i t) ∙ timed-no-autostart c ok i t)
 
     pub orderly-unstarted : Orderly c (unstarted c)
