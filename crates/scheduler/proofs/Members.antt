@@ -1,16 +1,18 @@
--- Lists in which no number stands twice: such a list is no longer than one that has all its numbers (`distinct-fits`).
+-- Numbers that stand in a list (`among`), and lists in which none stands twice: such a list is no longer than one that
+-- has all its numbers (`distinct-fits`).
 --
--- In order: a list without one of its numbers; the law; what `among` says of a head, a tail and a place.
+-- In order: what `among` says of a head, a tail, an index and two lists put together; a list without one of its numbers;
+-- the law.
 use Prim.Native.Nat.{ℕ, zero, suc, _≤_, _<_}
 use mathlib.Core.Path.{_≡_, refl, sym, ap, _∙_}
-use mathlib.Core.Bool.{true, false, true≢false, cond, or-true}
-use mathlib.Core.List.{List, [], _∷_}
+use mathlib.Core.Bool.{Bool, true, false, true≢false, cond, _||_, or-true}
+use mathlib.Core.List.{List, [], _∷_, _++_}
 use mathlib.Core.Logic.{_≢_}
 use native.Mathlib.Omega.{arith}
 use borrow.Author.Tests.{eq-eqb, ne-eqb}
 use lib.Dec.{eqb}
 use lib.ListN.{length, getD}
-use Rattle.number.proofs.Cases.{by-eq}
+use Rattle.number.proofs.Cases.{by-eq, neither}
 use Rattle.scheduler.specs.Body.{rest}
 use Rattle.scheduler.specs.State.{among}
 
@@ -37,6 +39,47 @@ among-other i j js d = rw (ne-eqb i j d)
 pub among-tail : (i j : ℕ) (js : List ℕ) → among i js ≡ true → among i (j ∷ js) ≡ true
 unfolding among
 among-tail i j js h = rw h (or-true (eqb i j))
+
+-- i is the first of the list, or stands further on
+pub by-among {ℓ} : {C : Type ℓ} (i b : ℕ) (ns : List ℕ) → among i (b ∷ ns) ≡ true
+    → (i ≡ b → C) → ((i ≡ b → ⊥) → among i ns ≡ true → C) → C
+by-among i b ns h f g = by-eq i b f (λ n. g n (sym (among-other i b ns n) ∙ h))
+
+-- who is neither the first nor further on is not in the list
+pub not-among : (i b : ℕ) (ns : List ℕ) → (i ≡ b → ⊥) → among i ns ≡ false → among i (b ∷ ns) ≡ false
+not-among i b ns n h = among-other i b ns n ∙ h
+
+pub among-tail-false : (i b : ℕ) (ns : List ℕ) → among i (b ∷ ns) ≡ false → among i ns ≡ false
+unfolding among
+among-tail-false i b ns h = neither (eqb i b) (among i ns) h .1
+
+pub among-nil : (i : ℕ) → among i [] ≡ false
+unfolding among
+among-nil i = refl
+
+or-cases {ℓ} : {C : Type ℓ} (a b : Bool) → a || b ≡ true → (a ≡ true → C) → (b ≡ true → C) → C
+or-cases true b h f g = f refl
+or-cases false b h f g = g h
+
+-- a number in one of two lists
+pub among-append-left : (r : ℕ) (xs ys : List ℕ) → among r xs ≡ true → among r (xs ++ ys) ≡ true
+unfolding among
+among-append-left r [] ys h = absurd (true≢false (sym h))
+among-append-left r (x ∷ xs) ys h =
+    or-cases (eqb r x) (among r xs) h (λ e. rw e) (λ q. rw (among-append-left r xs ys q) (or-true (eqb r x)))
+
+pub among-append-right : (r : ℕ) (xs ys : List ℕ) → among r ys ≡ true → among r (xs ++ ys) ≡ true
+among-append-right r [] ys h = h
+among-append-right r (x ∷ xs) ys h = among-tail r x (xs ++ ys) (among-append-right r xs ys h)
+
+pub by-append {ℓ} : {C : Type ℓ} (r : ℕ) (xs ys : List ℕ) → among r (xs ++ ys) ≡ true
+    → (among r xs ≡ true → C) → (among r ys ≡ true → C) → C
+unfolding among
+by-append r [] ys h f g = g h
+by-append r (x ∷ xs) ys h f g =
+    or-cases (eqb r x) (among r (xs ++ ys)) h
+    (λ e. f (rw e))
+    (λ q. by-append r xs ys q (λ a. f (rw a (or-true (eqb r x)))) g)
 
 -- what is left of a list stood in it
 pub among-rest : (j : ℕ) (js : List ℕ) → among j (rest js) ≡ true → among j js ≡ true

@@ -21,10 +21,11 @@ use Rattle.scheduler.specs.State.{among}
 use Rattle.scheduler.specs.Scheduler.{markOf}
 use Rattle.scheduler.proofs.Body.{started-competes}
 use Rattle.scheduler.proofs.Choice.Runner.{contender, weight, markOf-le, weight-before, chosen-best, chosen-nobody, current-own, current-free, candidate-active}
+use Rattle.scheduler.proofs.Members.{by-among}
 use Rattle.machine.specs.Model.{Model}
 use Rattle.plan.proofs.Fitted.{Fitted}
 use Rattle.machine.proofs.Relation.Words.{at}
-use Rattle.machine.proofs.Relation.Nest.{levelAt, Nested, Seats, by-among, nest-level}
+use Rattle.machine.proofs.Relation.Nest.{levelAt, Nested, Seats, nest-level}
 use Rattle.machine.proofs.Relation.Whole.{Tied, Calm}
 
 -- body i as the choice by priority sees it

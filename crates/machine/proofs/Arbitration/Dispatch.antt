@@ -23,13 +23,14 @@ use Rattle.scheduler.specs.Choice.{Candidate, chosen, nobody}
 use Rattle.scheduler.specs.State.{State, noBody, among, changing, latestOf, runner}
 use Rattle.scheduler.specs.Scheduler.{begins, dispatchedTo, dispatched}
 use Rattle.scheduler.proofs.Choice.Runner.{current-own}
+use Rattle.scheduler.proofs.Members.{among-tail-false}
 use Rattle.machine.specs.Model.{Core, Picked, Model, Outcome, withCore}
 use Rattle.machine.specs.Arbiter.{bids, winning, beginning, dispatching, arbitrated, settled}
 use Rattle.machine.specs.Machine.{runnerOf}
 use Rattle.plan.proofs.Fitted.{Fitted}
 use Rattle.machine.proofs.Relation.Words.{at, at-other, Words, words-changed, competes-on, started-waits}
 use Rattle.machine.proofs.Relation.Slots.{slotsFor, slotsAlong}
-use Rattle.machine.proofs.Relation.Nest.{levelAt, Nested, Seats, AlikeAlong, alike-outside, among-tail-false, nest-level, levelAt-alike, nested-alike, slotsAlong-alike, hold-alike}
+use Rattle.machine.proofs.Relation.Nest.{levelAt, Nested, Seats, AlikeAlong, alike-outside, nest-level, levelAt-alike, nested-alike, slotsAlong-alike, hold-alike}
 use Rattle.machine.proofs.Relation.Kinds.{Kinds}
 use Rattle.machine.proofs.Relation.Whole.{Tied, Calm, latest-seat}
 use Rattle.machine.proofs.Arbitration.Seat.{Holders, holders}

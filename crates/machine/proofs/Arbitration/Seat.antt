@@ -15,10 +15,11 @@ use Rattle.plan.proofs.Fitted.{Fitted}
 use Rattle.scheduler.specs.Body.{Body, current}
 use Rattle.scheduler.specs.State.{among}
 use Rattle.scheduler.proofs.Choice.Runner.{current-own}
+use Rattle.scheduler.proofs.Members.{among-nil, by-among, not-among}
 use Rattle.machine.specs.Model.{Model}
 use Rattle.machine.proofs.Relation.Words.{at}
 use Rattle.machine.proofs.Relation.Slots.{levelWith, slotsFor, slotsAlong, SlotsOf}
-use Rattle.machine.proofs.Relation.Nest.{levelAt, Nested, AllHold, Seats, by-among, not-among, among-nil}
+use Rattle.machine.proofs.Relation.Nest.{levelAt, Nested, AllHold, Seats}
 use Rattle.machine.proofs.Relation.Whole.{Tied, latest-seat}
 
 pub record Holders (c : Config) (rk : ℕ → ℕ) (m : Model) (bs : List Body) : Type 0 where

@@ -22,7 +22,7 @@ use Rattle.stack.specs.Stack.{topRow}
 use Rattle.scheduler.specs.Body.{Body, isStarted, started, waiting, become, activated, ended, finished, holds, current}
 use Rattle.scheduler.specs.State.{noBody}
 use Rattle.scheduler.proofs.Body.{started-competes}
-use Rattle.scheduler.proofs.Members.{among-head, among-tail}
+use Rattle.scheduler.proofs.Members.{among-head, among-tail, not-among}
 use Rattle.machine.specs.Model.{Model, noRank, withCore}
 use Rattle.machine.specs.Arbiter.{lastLevel, leftWith, vacated, leaving, paused}
 use Rattle.machine.specs.Events.{pausing}
@@ -30,7 +30,7 @@ use Rattle.plan.proofs.Fitted.{Fitted}
 use Rattle.machine.proofs.Relation.Rows.{row-shows-top}
 use Rattle.machine.proofs.Relation.Words.{at, at-other, wants, isAside, Words, words-changed, competes-on, started-waits}
 use Rattle.machine.proofs.Relation.Slots.{slotsFor, slotsAlong, SlotsOf}
-use Rattle.machine.proofs.Relation.Nest.{Nested, AllHold, Seats, AlikeAlong, alike-outside, not-among, nest-other, nested-alike, hold-alike, slotsAlong-alike}
+use Rattle.machine.proofs.Relation.Nest.{Nested, AllHold, Seats, AlikeAlong, alike-outside, nest-other, nested-alike, hold-alike, slotsAlong-alike}
 use Rattle.machine.proofs.Relation.Whole.{Tied}
 use Rattle.machine.proofs.Arbitration.Dispatch.{rank-below}
 use Rattle.machine.proofs.Change.Request.{event-bits-tied}

@@ -1,11 +1,10 @@
 -- Get and Release do the same to the model as to the state.
-use Prim.Native.Nat.{ℕ, zero, suc, max, _<_}
+use Prim.Native.Nat.{ℕ, max, _<_}
 use mathlib.Core.Path.{_≡_, refl, sym, ap, _∙_}
-use mathlib.Core.Bool.{Bool, true, false, true≢false, not, _||_, or-true}
+use mathlib.Core.Bool.{Bool, true, false, true≢false, not}
 use mathlib.Core.List.{List, [], _∷_, _++_, map-append}
 use native.Mathlib.Omega.{arith}
 use borrow.Author.Tests.{eqb-true, leb-false}
-use lib.Dec.{eqb}
 use lib.ListN.{length, getD}
 use Rattle.number.proofs.Cases.{by-test}
 use Rattle.config.specs.declared.Config.{Config}
@@ -20,7 +19,8 @@ use Rattle.scheduler.specs.Tick.{dues}
 use Rattle.scheduler.specs.Scheduler.{Get, Release, stepBy}
 use Rattle.scheduler.proofs.Body.{started-competes}
 use Rattle.scheduler.proofs.Event.Checks.{get-passed, release-passed}
-use Rattle.scheduler.proofs.Members.{among-tail}
+use Rattle.scheduler.proofs.Members.{among-append-left, among-append-right, among-nil, by-among, by-append}
+use Rattle.scheduler.proofs.Resource.Users.{held-at, held-by}
 use Rattle.machine.specs.Model.{Model, doneWith}
 use Rattle.machine.specs.Arbiter.{settled}
 use Rattle.machine.specs.Resources.{getting, releasing}
@@ -29,7 +29,7 @@ use Rattle.machine.specs.Machine.{statusOf, effectOf, elseOf}
 use Rattle.plan.proofs.Fitted.{Fitted}
 use Rattle.machine.proofs.Relation.Words.{at}
 use Rattle.machine.proofs.Relation.Slots.{Slot, slotsFor, slotsAlong, resourcesIn}
-use Rattle.machine.proofs.Relation.Nest.{Nested, by-among, among-nil}
+use Rattle.machine.proofs.Relation.Nest.{Nested}
 use Rattle.machine.proofs.Relation.Losses.{lost-same}
 use Rattle.machine.proofs.Relation.Bits.{eventBits, noted-same}
 use Rattle.machine.proofs.Relation.Whole.{Tied, Sim}
@@ -44,46 +44,6 @@ iff-bool : (a b : Bool) → (a ≡ true → b ≡ true) → (b ≡ true → a �
 iff-bool true b f g = sym (f refl)
 iff-bool false true f g = g refl
 iff-bool false false f g = refl
-
-or-cases {ℓ} : {C : Type ℓ} (a b : Bool) → a || b ≡ true → (a ≡ true → C) → (b ≡ true → C) → C
-or-cases true b h f g = f refl
-or-cases false b h f g = g h
-
--- a number in one of two lists
-among-append-left : (r : ℕ) (xs ys : List ℕ) → among r xs ≡ true → among r (xs ++ ys) ≡ true
-unfolding among
-among-append-left r [] ys h = absurd (true≢false (sym h))
-among-append-left r (x ∷ xs) ys h =
-    or-cases (eqb r x) (among r xs) h (λ e. rw e) (λ q. rw (among-append-left r xs ys q) (or-true (eqb r x)))
-
-among-append-right : (r : ℕ) (xs ys : List ℕ) → among r ys ≡ true → among r (xs ++ ys) ≡ true
-among-append-right r [] ys h = h
-among-append-right r (x ∷ xs) ys h = among-tail r x (xs ++ ys) (among-append-right r xs ys h)
-
-by-append {ℓ} : {C : Type ℓ} (r : ℕ) (xs ys : List ℕ) → among r (xs ++ ys) ≡ true
-    → (among r xs ≡ true → C) → (among r ys ≡ true → C) → C
-unfolding among
-by-append r [] ys h f g = g h
-by-append r (x ∷ xs) ys h f g =
-    or-cases (eqb r x) (among r (xs ++ ys)) h
-    (λ e. f (rw e))
-    (λ q. by-append r xs ys q (λ a. f (rw a (or-true (eqb r x)))) g)
-
--- "held by anyone" is held by some body of the list
-held-at : (r : ℕ) (bs : List Body) (i : ℕ) → i < length bs → among r (at bs i .held) ≡ true → heldIn r bs ≡ true
-unfolding heldIn
-held-at r [] i h a = absurd (omega arith)
-held-at r (b ∷ bs) zero h a = rw a
-held-at r (b ∷ bs) (suc i) h a = rw (held-at r bs i (omega arith) a) (or-true (among r (b .held)))
-
-pub held-by : (r : ℕ) (bs : List Body) → heldIn r bs ≡ true
-    → (i : ℕ) × ((i < length bs) × (among r (at bs i .held) ≡ true))
-unfolding heldIn
-held-by r [] h = absurd (true≢false (sym h))
-held-by r (b ∷ bs) h =
-    or-cases (among r (b .held)) (heldIn r bs) h
-    (λ a. (zero, (omega arith, a)))
-    (λ q. let x = held-by r bs q in (suc (x .0), (omega (arith, x .1 .0), x .1 .1)))
 
 module _ (c : Config) (rk : ℕ → ℕ) (bs : List Body) where
   resources-for : (b : ℕ) (rs : List ℕ) → resourcesIn (slotsFor c rk b rs) ≡ rs
@@ -132,7 +92,7 @@ module _ {c : Config} {rk : ℕ → ℕ} {m : Model} {bs : List Body} {js ns : L
       t .slots .flags r
       ∙ iff-bool (among r (resourcesIn (slotsAlong c rk bs ns))) (heldIn r bs)
       (λ h. let x = slot-by c rk bs r ns (t .nested) h in held-at r bs (x .0) (rw (t .size) (x .1 .0)) (x .1 .1))
-      (λ h. let x = held-by r bs h in slot-of c rk bs r (x .0) ns (holder-nested r (x .0) (x .1 .1)) (x .1 .1))
+      (λ h. let x = held-by r bs h in slot-of c rk bs r (x .0) ns (holder-nested r (x .0) (x .2)) (x .2))
 
 -- the latest of a list of held resources
 latest-split : (r : ℕ) (rs : List ℕ) → latestIs r rs ≡ true → (q : List ℕ) × (rs ≡ r ∷ q)

@@ -10,19 +10,17 @@
 use Prim.Native.Nat.{ℕ, _≤_, _<_}
 use mathlib.Core.Path.{_≡_, refl, sym, ap, ap₂, _∙_}
 use mathlib.Core.Logic.{_≢_}
-use mathlib.Core.Bool.{true, false, true≢false}
+use mathlib.Core.Bool.{true, true≢false}
 use mathlib.Core.List.{List, [], _∷_, _++_}
 use native.Mathlib.Omega.{arith}
-use lib.Dec.{eqb}
 use lib.ListN.{set}
 use lib.Seq.{getD-set-other}
-use Rattle.number.proofs.Cases.{by-eq, neither}
 use Rattle.config.specs.declared.Config.{Config}
 use Rattle.config.specs.Meaning.{executionLevel, priorityOf}
 use Rattle.scheduler.specs.Body.{Body, isStarted, holds, current}
 use Rattle.scheduler.specs.State.{noBody, among}
 use Rattle.scheduler.proofs.Choice.Runner.{current-own}
-use Rattle.scheduler.proofs.Members.{among-head, among-other, among-tail}
+use Rattle.scheduler.proofs.Members.{among-head, among-tail, by-among}
 use Rattle.machine.specs.Model.{noRank}
 use Rattle.machine.proofs.Relation.Words.{at}
 use Rattle.machine.proofs.Relation.Slots.{Slot, levelWith, slotsFor, slotsAlong}
@@ -45,23 +43,6 @@ Seats c rk bs [] r l [] = (r ≡ noRank) × (l ≡ 0)
 Seats c rk bs [] r l (b ∷ ns) = (r ≡ rk b) × ((l ≡ current c b (at bs b)) × AllHold bs ns)
 Seats c rk bs (j ∷ js) r l [] = (r ≡ rk j) × ((l ≡ executionLevel) × AllHold bs [])
 Seats c rk bs (j ∷ js) r l (b ∷ ns) = (r ≡ rk j) × ((l ≡ executionLevel) × AllHold bs (b ∷ ns))
-
--- b is the first of the list, or stands further on
-pub by-among {ℓ} : {C : Type ℓ} (i b : ℕ) (ns : List ℕ) → among i (b ∷ ns) ≡ true
-    → (i ≡ b → C) → ((i ≡ b → ⊥) → among i ns ≡ true → C) → C
-by-among i b ns h f g = by-eq i b f (λ n. g n (sym (among-other i b ns n) ∙ h))
-
--- who is neither the first nor further on is not in the list
-pub not-among : (i b : ℕ) (ns : List ℕ) → (i ≡ b → ⊥) → among i ns ≡ false → among i (b ∷ ns) ≡ false
-not-among i b ns n h = among-other i b ns n ∙ h
-
-pub among-tail-false : (i b : ℕ) (ns : List ℕ) → among i (b ∷ ns) ≡ false → among i ns ≡ false
-unfolding among
-among-tail-false i b ns h = neither (eqb i b) (among i ns) h .1
-
-pub among-nil : (i : ℕ) → among i [] ≡ false
-unfolding among
-among-nil i = refl
 
 -- in a nest
 module _ (c : Config) (bs : List Body) where

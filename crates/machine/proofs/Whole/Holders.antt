@@ -33,13 +33,14 @@ use Rattle.scheduler.specs.Call.{nobodyRuns, nobodyCalls, caller, calling, getS
 use Rattle.scheduler.specs.Scheduler.{Get, Seen, stepBy}
 use Rattle.scheduler.proofs.Body.{started-competes}
 use Rattle.scheduler.proofs.Choice.Runner.{current-held}
-use Rattle.scheduler.proofs.Members.{among-head, among-tail}
+use Rattle.scheduler.proofs.Members.{among-head, among-tail, by-among}
+use Rattle.scheduler.proofs.Resource.Users.{held-by}
 use Rattle.machine.specs.Model.{Model, noRank}
 use Rattle.machine.specs.Events.{idles}
 use Rattle.machine.specs.Machine.{machineStep, runnerOf}
 use Rattle.machine.proofs.Relation.Words.{at}
 use Rattle.machine.proofs.Relation.Slots.{Slot, slotsFor, slotsAlong, resourcesIn, holdersIn, levelsIn, levelWith}
-use Rattle.machine.proofs.Relation.Nest.{Nested, Seats, by-among, nest-level, nest-exists}
+use Rattle.machine.proofs.Relation.Nest.{Nested, Seats, nest-level, nest-exists}
 use Rattle.machine.proofs.Relation.Kinds.{trigger-plain, trigger-timed}
 use Rattle.machine.proofs.Relation.Order.{latest-timed, latest-exists, plain-competes}
 use Rattle.machine.proofs.Relation.Whole.{Tied, Sim, latest-seat}
@@ -48,7 +49,7 @@ use Rattle.machine.proofs.Arbitration.Choice.{chosen-seated}
 use Rattle.machine.proofs.Arbitration.Dispatch.{runnerOf-is}
 use Rattle.machine.proofs.Change.Hold.{slots-are}
 use Rattle.machine.proofs.Event.Agrees.{runner-is, by-runner}
-use Rattle.machine.proofs.Event.Resources.{held-by, holder-nested}
+use Rattle.machine.proofs.Event.Resources.{holder-nested}
 use Rattle.machine.proofs.Whole.Lists.{event-agrees}
 
 -- a declared user's resource exists
@@ -163,10 +164,10 @@ module _ {c : Config} {p : Plan} {rk : ℕ → ℕ} (fit : Fitted c p rk) {m : M
   own-held r exists user h =
       let x = held-by r (s .bodies) h in
       by-eq (x .0) (caller c s)
-      (λ same. rw same at (x .1 .1))
+      (λ same. rw same at (x .2))
       (λ other. absurd (omega (
         arith,
-        ceiling-below (x .0) r other (x .1 .1),
+        ceiling-below (x .0) r other (x .2),
         fit .user-ceiling r (caller c s) exists user,
         trigger-plain c (caller c s) exists (user-untimed r (caller c s) user),
       )))

@@ -2,7 +2,7 @@
 --
 -- In order: the runner's own priority is above the current priority of every other body that holds a resource
 -- (`holder-below`), where no time-triggered task is started; so above that resource's ceiling, and no user's is.
-use Prim.Native.Nat.{ℕ, zero, suc, _<_}
+use Prim.Native.Nat.{ℕ, _<_}
 use mathlib.Core.Path.{_≡_, refl, sym, ap, _∙_}
 use mathlib.Core.Bool.{Bool, true, false, true≢false, cond}
 use mathlib.Core.List.{List, [], _∷_}
@@ -10,7 +10,7 @@ use mathlib.Core.Logic.{_≢_}
 use native.Mathlib.Omega.{arith}
 use borrow.Author.Tests.{ltb-true, lt-leb}
 use lib.Dec.{ltb}
-use lib.ListN.{length, getD, List·getD-eq-default}
+use lib.ListN.{length, List·getD-eq-default}
 use Rattle.number.proofs.Cases.{by-test, by-lt, by-eq, and-true}
 use Rattle.config.specs.declared.Config.{Config}
 use Rattle.config.specs.Meaning.{isUser, priorityOf, ceiling}
@@ -28,22 +28,13 @@ use Rattle.scheduler.proofs.Choice.Runner.{Taken, no-one, body, chosen-
 use Rattle.scheduler.proofs.Choice.Separation.{Kept, holder, holders, set-holds, outranks, reached-kept}
 use Rattle.scheduler.proofs.Order.Invariant.{orderly-fresh, orderly-after}
 use Rattle.scheduler.proofs.Members.{none-among, among-head}
+use Rattle.scheduler.proofs.Resource.Users.{held-by}
 
 -- who holds a resource holds something
 among-holds : (r : ℕ) (rs : List ℕ) → among r rs ≡ true → holds rs ≡ true
 unfolding among
 among-holds r [] h = h
 among-holds r (x ∷ xs) h = refl
-
--- one of them holds it
-held-by : (r : ℕ) (bs : List Body) → heldIn r bs ≡ true
-    → (i : ℕ) × (i < length bs) × (among r (getD bs i noBody .held) ≡ true)
-unfolding heldIn
-held-by r [] h = absurd (true≢false (sym h))
-held-by r (b ∷ bs) h =
-    by-test (among r (b .held))
-    (λ e. (zero, omega arith, e))
-    (λ e. let x = held-by r bs (rw e at h) in (suc (x .0), omega (arith, x .1), x .2))
 
 module _ (c : Config) (ok : Accepted c) (shaped : Shaped c) (es : List Event) where
   abbrev now : State

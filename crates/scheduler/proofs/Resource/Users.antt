@@ -1,20 +1,22 @@
--- Who holds a resource is one of its declared users: after every list of events, by `declared-after`.
+-- Who holds a resource is one of its declared users: after every list of events, by `declared-after`. First, what it is
+-- to be held by anyone.
 --
 -- Only a Get adds to what a body holds, and it is accepted of a declared user alone.
-use Prim.Native.Nat.{ℕ, _≤_}
+use Prim.Native.Nat.{ℕ, zero, suc, _≤_, _<_}
 use mathlib.Core.Path.{_≡_, refl, sym, ap, _∙_}
-use mathlib.Core.Bool.{Bool, true, false, cond}
+use mathlib.Core.Bool.{Bool, true, false, true≢false, cond, or-true}
 use mathlib.Core.List.{List, [], _∷_}
+use native.Mathlib.Omega.{arith}
 use borrow.Author.Tests.{eq-eqb, ne-eqb}
 use lib.Dec.{eqb}
 use lib.ListN.{length, getD, List·getD-eq-default, List·getD-map, take}
-use Rattle.number.proofs.Cases.{by-lt, by-eq, cond-either}
+use Rattle.number.proofs.Cases.{by-test, by-lt, by-eq, cond-either}
 use Rattle.config.specs.declared.Config.{Config}
 use Rattle.config.specs.Meaning.{isUser}
 use Rattle.scheduler.specs.Bits.{anySet}
 use Rattle.scheduler.specs.Status.{done}
 use Rattle.scheduler.specs.Body.{Body, waiting, isSuspended, hasBegun, become, activated, triggers, ended, finished, requested, gets, releases, loses, waits, receives, clears}
-use Rattle.scheduler.specs.State.{State, noBody, bodyOf, changing, runner, among}
+use Rattle.scheduler.specs.State.{State, noBody, bodyOf, changing, runner, among, heldIn}
 use Rattle.scheduler.specs.Event.{Event, Activate, Finish, Chain, Get, Release, Tick, Line, Start, Stop, Wait, Set, Clear}
 use Rattle.scheduler.specs.Tick.{dues, counted}
 use Rattle.scheduler.specs.Call.{caller, finish, finishTimed, statusOf, effectOf}
@@ -23,6 +25,22 @@ use Rattle.scheduler.specs.History.{AcceptedIn}
 use Rattle.scheduler.proofs.Event.Checks.{get-passed}
 use Rattle.scheduler.proofs.Event.Effects.{bodyOf-changing-same, bodyOf-changing-other, length-changing, elseOf-keeps, entered, activatingDue-keeps}
 use Rattle.scheduler.proofs.Members.{none-among, among-rest}
+
+-- "held by anyone" is held by some body of the list
+pub held-at : (r : ℕ) (bs : List Body) (i : ℕ) → i < length bs → among r (getD bs i noBody .held) ≡ true → heldIn r bs ≡ true
+unfolding heldIn
+held-at r [] i h a = absurd (omega arith)
+held-at r (b ∷ bs) zero h a = rw a
+held-at r (b ∷ bs) (suc i) h a = rw (held-at r bs i (omega arith) a) (or-true (among r (b .held)))
+
+pub held-by : (r : ℕ) (bs : List Body) → heldIn r bs ≡ true
+    → (i : ℕ) × (i < length bs) × (among r (getD bs i noBody .held) ≡ true)
+unfolding heldIn
+held-by r [] h = absurd (true≢false (sym h))
+held-by r (b ∷ bs) h =
+    by-test (among r (b .held))
+    (λ e. (zero, omega arith, e))
+    (λ e. let x = held-by r bs (rw e at h) in (suc (x .0), omega (arith, x .1), x .2))
 
 -- nothing is held of an empty list
 module _ (c : Config) where
