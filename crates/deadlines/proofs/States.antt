@@ -27,12 +27,12 @@ use Rattle.scheduler.specs.Call.{active, caller, finish, finishTimed, statusOf,
 use Rattle.scheduler.specs.Tick.{counted, dues}
 use Rattle.scheduler.specs.Scheduler.{begins, phaseBegun, newBody, unstarted, stepBy, leaves, dispatched, fresh, after, afterBy}
 use Rattle.scheduler.specs.History.{next}
-use Rattle.scheduler.proofs.Choice.{Taken, no-one, body, chosen-from, candidate-active, runner-timed, runner-untimed}
+use Rattle.scheduler.proofs.Choice.Runner.{Taken, no-one, body, chosen-from, candidate-active, runner-timed, runner-untimed}
 use Rattle.scheduler.proofs.Event.Checks.{finish-passed, chain-passed, line-passed, accepted-untimed}
 use Rattle.scheduler.proofs.Event.Effects.{bodyOf-changing-same, bodyOf-changing-other, length-changing, elseOf-keeps, entered, activatingDue-keeps}
 use Rattle.scheduler.proofs.Choice.Dispatch.{begins-some}
 use Rattle.scheduler.proofs.Members.{Distinct, among-head}
-use Rattle.scheduler.proofs.Order.{Orderly, orderly-fresh, orderly-after}
+use Rattle.scheduler.proofs.Order.Invariant.{Orderly, orderly-fresh, orderly-after}
 use Rattle.deadlines.specs.Activation.{isEnd, endsAt, readyAt, chainsTo, chainsItself}
 use Rattle.deadlines.proofs.Active.{Awake, dispatched-awake, active-until-end}
 
