@@ -265,9 +265,9 @@ fn a_megabyte_is_read_in_time() {
     let objects = fill("", &|i| object(&named(i, 3)));
     let half: String = (0..33_000).map(|i| object(&named(i, 3))).collect();
     let uses = fill(&(half + "TASK t__{PRIORITY=1;"), &|i| format!("RESOURCE={};", named(i * 7_919 % 33_000, 3)));
-    // At a key that does not go by the text these would be of one class, whether there are 40 or 20 of them.
+    // 37 classes for so many names: at a key that does not go by the text these would be of one.
     let together: Vec<String> =
-        (0..).map(|i| named(i, 5)).filter(|name| hash(65_599, name) % 840 == 0).take(SIZE / 17).collect();
+        (0..).map(|i| named(i, 5)).filter(|name| hash(65_599, name) % 37 == 0).take(SIZE / 17).collect();
     let texts = [
         ("objects", objects.clone()),
         ("a name twice at the end", objects.clone() + "ISR aaa{PRIORITY=1;};"),

@@ -16,7 +16,7 @@ use Rattle.oil_grammar.specs.Next.{spelling}
 use Rattle.oil_grammar.specs.Automaton.{fresh}
 use Rattle.oil_grammar.specs.Walk.{bears, borne, unborneAt}
 use Rattle.oil_grammar.proofs.Spelling.{same-refl}
-use Rattle.oil.specs.declared.names.Class.{Class}
+use Rattle.oil.specs.declared.hashing.Class.{Class}
 use Rattle.oil.specs.Tokens.{token, progressAfter}
 use Rattle.oil.specs.Names.{hashed, inClass, room, nameAt, Kept, Among, Gathered, spelled, repeatedAt, twiceAt, missingAt}
 use Rattle.oil.proofs.TokenNumbers.{borne-next, borne-more, borne-last, token-lies}

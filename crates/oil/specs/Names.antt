@@ -10,7 +10,7 @@ use mathlib.Core.Bool.{Bool, true, _&&_}
 use mathlib.Core.List.{List, [], _∷_}
 use lib.Dec.{eqb}
 use lib.ListN.{length, getD, take, drop}
-use Rattle.oil.specs.declared.names.Class.{Class}
+use Rattle.oil.specs.declared.hashing.Class.{Class}
 use Rattle.oil_grammar.specs.Next.{spelling}
 use Rattle.oil_grammar.specs.Automaton.{fresh}
 use Rattle.oil_grammar.specs.Walk.{bears, borne, unborneAt}

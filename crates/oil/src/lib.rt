@@ -1,6 +1,8 @@
 // OIL texts read into configurations: the tokens of a text, what each may be, the walks over them, the whole.
 mod automaton;
+mod borne;
 mod bytes;
+mod hashing;
 mod meaning;
 mod names;
 mod next;

@@ -1,71 +1,33 @@
-// The names of a text's objects: the first that an earlier object has, and the first use that no RESOURCE bears. Names
-// fall into classes by a hash, and the text is walked for one class after the other: those of a class are kept, so that
-// none has to be looked for in the text.
+// The names of a text's objects, a class at a time: those of a class are kept, so that none has to be looked for in the
+// text. The first name that an earlier object has.
 use crate::automaton::after;
 use crate::automaton::fresh;
-use crate::automaton::names_object;
-use crate::automaton::uses_resource;
+use crate::borne::bears;
+use crate::borne::borne;
+use crate::hashing::Class;
+use crate::hashing::classes;
+use crate::hashing::hash;
+use crate::hashing::key_of;
 use crate::next::next_token;
-use crate::walk::bears;
-use crate::walk::borne;
 use check::same;
 use oil_grammar::Progress;
 use oil_grammar::Token;
 ghost use mathlib.Core.Path.{_≡_};
-ghost use Prim.Native.Nat.{ℕ, _+_, _*_, _-_, _%_, _≤_, _<_, min};
-ghost use mathlib.Core.Bool.{true, false, cond, _&&_};
+ghost use Prim.Native.Nat.{ℕ, _+_, _-_, _≤_, _<_, min};
+ghost use mathlib.Core.Bool.{true, false, cond};
 ghost use lib.ListN.{length, getD, take, drop};
 ghost use Rattle.oil_grammar.specs.Automaton.{fresh};
-ghost use Rattle.oil_grammar.specs.Next.{spelling};
-ghost use Rattle.oil_grammar.specs.Walk.{borne, unborneAt};
+ghost use Rattle.oil_grammar.specs.Walk.{borne};
 ghost use Rattle.oil.specs.Tokens.{token, progressAfter, Least};
-ghost use Rattle.oil.specs.Names.{prime, hashed, inClass, room, nameAt, Kept, Among, Gathered, repeatedAt, twiceAt, unborneNo, missingAt};
+ghost use Rattle.oil.specs.Names.{prime, hashed, inClass, room, nameAt, Kept, Among, Gathered, repeatedAt, twiceAt};
 
 // How many names of a class are kept at most.
 const ROOM: usize = 2048;
 
-// The modulus of the hash.
-const PRIME: u64 = 4294967291;
-
-// The key of a text's own hash. That hash is the key of its names, so that no names fall into one class in every text.
-const TEXT_KEY: u64 = 65599;
-
-// How many names fall into a class: few enough that a class with more names than are kept does not come about by chance.
-const NAMES_PER_CLASS: usize = 1600;
-
-// The names whose hash at `key`, modulo `count`, is `number`.
-pub struct Class {
-    pub key: u64,
-    pub count: u64,
-    pub number: u64,
-}
-
 // How many names are kept, and the first token that is one of them again.
-struct Found {
-    count: usize,
-    twice: usize,
-}
-
-// The hash with one more byte.
-fn hash_after(key: u64, h: u64, b: u8) -> u64
-    requires { ⌜ (key < prime) × (h < prime) ⌝ }
-    ensures { λ r. ⌜ r ≡ (h * key + b) % prime ⌝ }
-{
-    (h * key + b as u64) % PRIME
-}
-
-// The hash of the bytes from `start` to `end`.
-fn hash(text: &[u8], key: u64, start: usize, end: usize) -> u64
-    requires { ⌜ (key < prime) × ((start ≤ end) × (end ≤ length (now text))) ⌝ }
-    ensures { λ r. ⌜ (r ≡ hashed key 0 (take (end - start) (drop start (now (text .entry))))) × (r < prime) ⌝ }
-{
-    let mut h: u64 = 0;
-    let mut i = start;
-    while i < end {
-        h = hash_after(key, h, text[i]);
-        i += 1;
-    }
-    h
+pub struct Tally {
+    pub count: usize,
+    pub twice: usize,
 }
 
 // Whether the bytes from `a` to `b`, whose hash is `g`, are those from `start` to `end`, whose hash is `h`.
@@ -112,7 +74,7 @@ fn search<'a>(
 
 // Whether an object, or a RESOURCE, among the first `tokens` tokens bears a name of the class: it is kept, or, where there
 // was no room, stands in the text.
-fn knows<'a>(
+pub fn knows<'a>(
     text: &'a [u8],
     tokens: usize,
     resource: bool,
@@ -152,8 +114,8 @@ fn keep(
     hashes: &mut [u64; 2048],
     from: &mut [usize; 2048],
     to: &mut [usize; 2048],
-    k: Found,
-) -> Found
+    k: Tally,
+) -> Tally
     requires { ⌜ Gathered (now text) resource i c (now hashes) (now from) (now to) (k .count) ⌝ }
     requires { ⌜ (s ≡ progressAfter (now text) i) × (w ≡ token (now text) i) ⌝ }
     requires { ⌜ ((w .start ≤ w .end) × (w .end ≤ length (now text))) × ((c .key < prime) × (0 < c .count)) ⌝ }
@@ -180,18 +142,18 @@ fn keep(
     hashes[n] = h;
     from[n] = start;
     to[n] = end;
-    Found {
+    Tally {
         count: n + 1,
         twice: k.twice,
     }
 }
 
 // The token `i` is kept already.
-fn again(k: Found, i: usize) -> Found
+fn again(k: Tally, i: usize) -> Tally
     ensures { λ r. ⌜ (r .count ≡ k .count) × (r .twice ≡ min i (k .twice)) ⌝ }
 {
     if i < k.twice {
-        return Found {
+        return Tally {
             count: k.count,
             twice: i,
         };
@@ -200,7 +162,7 @@ fn again(k: Found, i: usize) -> Found
 }
 
 // Keeps the names of the class that objects, or RESOURCE objects, among the first `tokens` tokens bear.
-fn gather(
+pub fn gather(
     text: &[u8],
     tokens: usize,
     resource: bool,
@@ -208,14 +170,14 @@ fn gather(
     hashes: &mut [u64; 2048],
     from: &mut [usize; 2048],
     to: &mut [usize; 2048],
-) -> Found
+) -> Tally
     requires { ⌜ (c .key < prime) × (0 < c .count) ⌝ }
     requires { ⌜ (length (now hashes) ≡ room) × ((length (now from) ≡ room) × (length (now to) ≡ room)) ⌝ }
     ensures gathered { λ r. ⌜ Gathered (now (text .entry)) resource tokens c (now (hashes .exit)) (now (from .exit))
         (now (to .exit)) (r .count) ⌝ }
     ensures twice { λ r. ⌜ Least tokens (twiceAt (now (text .entry)) resource c) (r .twice) ⌝ }
 {
-    let mut k = Found {
+    let mut k = Tally {
         count: 0,
         twice: tokens,
     };
@@ -230,48 +192,6 @@ fn gather(
         i += 1;
     }
     k
-}
-
-// One more, if so.
-fn counted(n: usize, more: bool) -> usize
-    requires { ⌜ n < 18446744073709551615 ⌝ }
-    ensures { λ r. ⌜ r ≤ n + 1 ⌝ }
-{
-    if more { n + 1 } else { n }
-}
-
-// How many of the first `tokens` tokens are names of objects.
-fn objects(text: &[u8], tokens: usize) -> usize {
-    let mut n = 0;
-    let mut s = fresh();
-    let mut at = 0;
-    let mut i = 0;
-    while i < tokens {
-        let w = next_token(text, at);
-        n = counted(n, names_object(s));
-        s = after(s, w.sort);
-        at = w.end;
-        i += 1;
-    }
-    n
-}
-
-// How many classes there are.
-fn classes(text: &[u8], tokens: usize) -> u64
-    ensures { λ r. ⌜ 0 < r ⌝ }
-{
-    let n = objects(text, tokens) / NAMES_PER_CLASS;
-    n as u64 + 1
-}
-
-// The key of the hash: with one class any will do.
-fn key_of(text: &[u8], classes: u64) -> u64
-    ensures { λ r. ⌜ r < prime ⌝ }
-{
-    if classes == 1 {
-        return TEXT_KEY;
-    }
-    hash(text, TEXT_KEY, 0, text.len())
 }
 
 // The first of the first `tokens` tokens that is a name of the class and an earlier object's; `tokens` where there is none.
@@ -307,124 +227,4 @@ pub fn first_repeated(text: &[u8], tokens: usize) -> usize
         number += 1;
     }
     r
-}
-
-// Whether a token is a use, of the class, that no RESOURCE among the first `tokens` tokens bears.
-fn missing<'a>(
-    text: &'a [u8],
-    tokens: usize,
-    s: Progress,
-    w: Token,
-    c: Class,
-    hashes: &'a [u64; 2048],
-    from: &'a [usize; 2048],
-    to: &'a [usize; 2048],
-    count: usize,
-) -> bool
-    requires { ⌜ Gathered (now text) true tokens c (now hashes) (now from) (now to) count ⌝ }
-    requires { ⌜ ((w .start ≤ w .end) × (w .end ≤ length (now text))) × ((c .key < prime) × (0 < c .count)) ⌝ }
-    ensures { λ r. ⌜ r ≡ inClass c (spelling (now (text .entry)) w) && unborneAt (now (text .entry)) s tokens w ⌝ }
-{
-    if !uses_resource(s) {
-        return false;
-    }
-    let start = w.start;
-    let end = w.end;
-    let h = hash(text, c.key, start, end);
-    if h % c.count != c.number {
-        return false;
-    }
-    let known = knows(
-        text,
-        tokens,
-        true,
-        c,
-        hashes,
-        from,
-        to,
-        count,
-        start,
-        end,
-        h,
-    );
-    !known
-}
-
-// The first of the first `bound` tokens that is such a use, `bound` where there is none.
-fn first_missing<'a>(
-    text: &'a [u8],
-    tokens: usize,
-    bound: usize,
-    c: Class,
-    hashes: &'a [u64; 2048],
-    from: &'a [usize; 2048],
-    to: &'a [usize; 2048],
-    count: usize,
-) -> usize
-    requires { ⌜ Gathered (now text) true tokens c (now hashes) (now from) (now to) count ⌝ }
-    requires { ⌜ (c .key < prime) × (0 < c .count) ⌝ }
-    ensures { λ r. ⌜ Least bound (missingAt (now (text .entry)) tokens c) r ⌝ }
-{
-    let mut s = fresh();
-    let mut at = 0;
-    let mut i = 0;
-    while i < bound {
-        let w = next_token(text, at);
-        if missing(text, tokens, s, w, c, hashes, from, to, count) {
-            return i;
-        }
-        s = after(s, w.sort);
-        at = w.end;
-        i += 1;
-    }
-    bound
-}
-
-// The same, with the names of the class still to be gathered.
-fn missing_of_class(text: &[u8], tokens: usize, bound: usize, c: Class) -> usize
-    requires { ⌜ (c .key < prime) × (0 < c .count) ⌝ }
-    ensures { λ r. ⌜ Least bound (missingAt (now (text .entry)) tokens c) r ⌝ }
-{
-    let mut hashes = [0u64; 2048];
-    let mut from = [0usize; 2048];
-    let mut to = [0usize; 2048];
-    let k = gather(text, tokens, true, c, &mut hashes, &mut from, &mut to);
-    first_missing(text, tokens, bound, c, &hashes, &from, &to, k.count)
-}
-
-// The first of the first `tokens` tokens that is a use that no RESOURCE bears, `tokens` where there is none.
-pub fn first_unborne(text: &[u8], tokens: usize) -> usize
-    ensures { λ r. ⌜ Least tokens (unborneNo (now (text .entry)) tokens) r ⌝ }
-{
-    let count = classes(text, tokens);
-    let key = key_of(text, count);
-    let mut r = tokens;
-    let mut number: u64 = 0;
-    while number < count {
-        r = missing_of_class(
-            text,
-            tokens,
-            r,
-            Class {
-                key: key,
-                count: count,
-                number: number,
-            },
-        );
-        number += 1;
-    }
-    r
-}
-
-// Where the token number `n` begins.
-pub fn token_start(text: &[u8], n: usize) -> usize
-    ensures { λ r. ⌜ r ≡ token (now (text .entry)) n .start ⌝ }
-{
-    let mut at = 0;
-    let mut i = 0;
-    while i < n {
-        at = next_token(text, at).end;
-        i += 1;
-    }
-    next_token(text, at).start
 }

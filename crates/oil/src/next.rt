@@ -26,6 +26,7 @@ ghost use mathlib.Core.Bool.{_&&_};
 ghost use Rattle.oil_grammar.specs.Byte.{slash, star, isNameByte, isDigit, isLineByte, span};
 ghost use Rattle.oil_grammar.specs.Token.{spelledSort};
 ghost use Rattle.oil_grammar.specs.Next.{closing, comment, blank, skipped, tokenAt, signAt, nextToken};
+ghost use Rattle.oil.specs.Tokens.{token};
 
 const SLASH: u8 = 47;
 
@@ -244,4 +245,17 @@ pub fn next_token(text: &[u8], at: usize) -> Token
 {
     let p = skip(text, at);
     token_at(text, p)
+}
+
+// Where the token number `n` begins.
+pub fn token_start(text: &[u8], n: usize) -> usize
+    ensures { λ r. ⌜ r ≡ token (now (text .entry)) n .start ⌝ }
+{
+    let mut at = 0;
+    let mut i = 0;
+    while i < n {
+        at = next_token(text, at).end;
+        i += 1;
+    }
+    next_token(text, at).start
 }

@@ -7,8 +7,8 @@ use Rattle.oil_grammar.specs.declared.Token.{Token}
 use Rattle.oil_grammar.specs.Next.{nextToken}
 use Rattle.oil.specs.Tokens.{placeAfter}
 use Rattle.oil.proofs.TokenNumbers.{place-inside, place-next}
-use Rattle.oil.proofs.names.token_start.Statement.{statement}
-use Rattle.oil.proofs.names.token_start.Tie as tie
+use Rattle.oil.proofs.next.token_start.Statement.{statement}
+use Rattle.oil.proofs.next.token_start.Tie as tie
 
 abbrev Inv-loop : tie.InvT-loop
 Inv-loop text n at₀ i₀ at i = (i ≤ n) × (at ≡ placeAfter text i)

@@ -6,8 +6,8 @@ use borrow.Author.Tests.{not-true, not-false}
 use Rattle.oil_grammar.specs.Next.{spelling}
 use Rattle.oil_grammar.proofs.Spelling.{same-result}
 use borrow.Author.Needs.{needs}
-use Rattle.oil.proofs.walk.borne_here.Statement.{statement}
-use Rattle.oil.proofs.walk.borne_here.Tie as tie
+use Rattle.oil.proofs.borne.borne_here.Statement.{statement}
+use Rattle.oil.proofs.borne.borne_here.Tie as tie
 
 returns : tie.Need-returns
 returns c = rw (sym (c .before .bears .ensures) ∙ not-true _ (c .if1 .taken))

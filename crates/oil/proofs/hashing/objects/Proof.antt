@@ -4,8 +4,8 @@ use native.Mathlib.Omega.{arith}
 use lib.ListN.{length}
 use borrow.Author.Needs.{needs}
 use Rattle.oil.proofs.Walks.{token-inside}
-use Rattle.oil.proofs.names.objects.Statement.{statement}
-use Rattle.oil.proofs.names.objects.Tie as tie
+use Rattle.oil.proofs.hashing.objects.Statement.{statement}
+use Rattle.oil.proofs.hashing.objects.Tie as tie
 
 abbrev Inv-loop : tie.InvT-loop
 Inv-loop text tokens n₀ s₀ at₀ i₀ n s at i = (at ≤ length text) × (n ≤ i)

@@ -6,8 +6,8 @@ use native.Mathlib.Nat.{mod-lt}
 use borrow.Author.Needs.{needs}
 use Rattle.oil.specs.Names.{hashed, inClass, spelled, unborneNo, missingAt}
 use Rattle.oil.proofs.TokenNumbers.{Passed, passed-start, passed-step, passed-end}
-use Rattle.oil.proofs.names.first_unborne.Statement.{statement}
-use Rattle.oil.proofs.names.first_unborne.Tie as tie
+use Rattle.oil.proofs.uses.first_unborne.Statement.{statement}
+use Rattle.oil.proofs.uses.first_unborne.Tie as tie
 
 abbrev Inv-loop : tie.InvT-loop
 Inv-loop text tokens count key r₀ number₀ r number =

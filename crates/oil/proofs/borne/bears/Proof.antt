@@ -3,8 +3,8 @@ use mathlib.Core.Path.{sym, _∙_}
 use borrow.Author.Tests.{not-true, not-false}
 use Rattle.oil_grammar.specs.Walk.{bears}
 use borrow.Author.Needs.{needs}
-use Rattle.oil.proofs.walk.bears.Statement.{statement}
-use Rattle.oil.proofs.walk.bears.Tie as tie
+use Rattle.oil.proofs.borne.bears.Statement.{statement}
+use Rattle.oil.proofs.borne.bears.Tie as tie
 
 returns : tie.Need-returns
 unfolding bears

@@ -7,8 +7,8 @@ use lib.ListN.{take, drop}
 use borrow.Author.Needs.{needs}
 use Rattle.oil.specs.Names.{prime, hashed}
 use Rattle.oil.proofs.Hash.{hash-step, hash-done}
-use Rattle.oil.proofs.names.hash.Statement.{statement}
-use Rattle.oil.proofs.names.hash.Tie as tie
+use Rattle.oil.proofs.hashing.hash.Statement.{statement}
+use Rattle.oil.proofs.hashing.hash.Tie as tie
 
 abbrev Inv-loop : tie.InvT-loop
 Inv-loop text key start end h₀ i₀ h i =

@@ -8,8 +8,8 @@ use Rattle.oil_grammar.specs.Automaton.{fresh}
 use Rattle.oil_grammar.specs.Walk.{borne}
 use borrow.Author.Needs.{needs}
 use Rattle.oil.proofs.Walks.{token-inside, borne-found, borne-step, borne-done}
-use Rattle.oil.proofs.walk.borne.Statement.{statement}
-use Rattle.oil.proofs.walk.borne.Tie as tie
+use Rattle.oil.proofs.borne.borne.Statement.{statement}
+use Rattle.oil.proofs.borne.borne.Tie as tie
 
 abbrev Inv-loop : tie.InvT-loop
 Inv-loop text count resource start end s₀ at₀ i₀ s at i =

@@ -2,8 +2,8 @@
 use native.Mathlib.Omega.{arith}
 use borrow.Author.Needs.{needs}
 use Rattle.oil.proofs.Hash.{product-small}
-use Rattle.oil.proofs.names.hash_after.Statement.{statement}
-use Rattle.oil.proofs.names.hash_after.Tie as tie
+use Rattle.oil.proofs.hashing.hash_after.Statement.{statement}
+use Rattle.oil.proofs.hashing.hash_after.Tie as tie
 
 mul-result : tie.Need-mul-result
 mul-result c =

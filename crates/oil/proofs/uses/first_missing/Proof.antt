@@ -11,8 +11,8 @@ use Rattle.oil.specs.Tokens.{placeAfter, token, progressAfter}
 use Rattle.oil.specs.Names.{missingAt}
 use Rattle.oil.proofs.TokenNumbers.{place-inside, token-lies, place-next, progress-next}
 use Rattle.oil.proofs.Gathering.{missing-is}
-use Rattle.oil.proofs.names.first_missing.Statement.{statement}
-use Rattle.oil.proofs.names.first_missing.Tie as tie
+use Rattle.oil.proofs.uses.first_missing.Statement.{statement}
+use Rattle.oil.proofs.uses.first_missing.Tie as tie
 
 abbrev Inv-loop : tie.InvT-loop
 Inv-loop text tokens bound c hashes from to count s₀ at₀ i₀ s at i =

@@ -7,8 +7,8 @@ use Rattle.oil_grammar.specs.Next.{spelling}
 use Rattle.oil_grammar.specs.Walk.{unborneAt}
 use Rattle.oil.specs.Names.{inClass}
 use Rattle.oil.proofs.Gathering.{class-is, and-false}
-use Rattle.oil.proofs.names.missing.Statement.{statement}
-use Rattle.oil.proofs.names.missing.Tie as tie
+use Rattle.oil.proofs.uses.missing.Statement.{statement}
+use Rattle.oil.proofs.uses.missing.Tie as tie
 
 returns : tie.Need-returns
 unfolding unborneAt
