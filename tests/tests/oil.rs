@@ -161,7 +161,8 @@ fn counts_are_tested_after_the_whole_text() {
 
 #[test]
 fn every_byte_of_a_name_counts() {
-    let long = |last: char| format!("TASK {}{last} {{ PRIORITY = {}; }};\n", "x".repeat(39), last as u32 - 'a' as u32 + 1);
+    let long =
+        |last: char| format!("TASK {}{last} {{ PRIORITY = {}; }};\n", "x".repeat(39), last as u32 - 'a' as u32 + 1);
     accepted(&(long('a') + &long('b')), &[1, 2, 0, 1, 0, 0, 2, 0, 0, 0]);
     refused(&(long('a') + &long('b') + &long('a')), 63, 3, 6);
     accepted("TASK Ab { PRIORITY = 1; }; TASK aB { PRIORITY = 2; };", &[1, 2, 0, 1, 0, 0, 2, 0, 0, 0]);
