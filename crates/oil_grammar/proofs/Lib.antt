@@ -22,6 +22,6 @@ pub mod Places
 mod Lexing
 mod Accepting
 mod Objects
-mod Back
+mod Recognition
 mod Folds
 mod Whole

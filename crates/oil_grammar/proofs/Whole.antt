@@ -21,7 +21,7 @@ use Rattle.oil_grammar.specs.Reader.{walked, filled, ranged, readOil}
 use Rattle.oil_grammar.proofs.Lexing.{Reads, reads-spells, spells-reads}
 use Rattle.oil_grammar.proofs.Accepting.{Accepts, AcceptedTokens, none-seen, walked-accepts, accepts-walked, reads-few}
 use Rattle.oil_grammar.proofs.Objects.{objects-accepted}
-use Rattle.oil_grammar.proofs.Back.{AsObjects, as-objects}
+use Rattle.oil_grammar.proofs.Recognition.{AsObjects, as-objects}
 use Rattle.oil_grammar.proofs.Folds.{borne-resources, mask-tokens, fill-tokens, unborne-none, none-unborne, resources-written, uses-written, mask-written, fill-written}
 
 -- functions of a name that agree at each give the same configuration

@@ -45,12 +45,15 @@ bodyFault s w =
     (cond (eqb w resourceSort) none
     (cond (eqb w autostartSort && eqb (s .kind) taskSort) (once (s .autostart)) (unknown w))))
 
+-- an attribute, or the closing brace
 unfoldable pub attributeFault : Progress → ℕ → ℕ
 attributeFault s w = cond (isResource (s .kind)) (cond (eqb w closeSort) none (unknown w)) (bodyFault s w)
 
+-- TRUE or FALSE
 unfoldable pub valueFault : ℕ → ℕ
 valueFault w = cond (eqb w trueSort) none (only falseSort w)
 
+-- by what the text wants
 unfoldable pub faultAt : Want → Progress → ℕ → ℕ
 faultAt Object s w = objectFault w
 faultAt Name s w = only nameSort w
@@ -76,6 +79,7 @@ to s v = record { want = v; kind = s .kind; priority = s .priority; autostart = 
 abbrev pub opened : ℕ → Progress
 opened w = record { want = Name; kind = w; priority = false; autostart = false }
 
+-- PRIORITY and AUTOSTART are given from here on
 unfoldable pub attributeBegun : Progress → ℕ → Progress
 attributeBegun s w =
     cond (eqb w closeSort) (to s ObjectEnd)
@@ -92,6 +96,7 @@ attributeBegun s w =
       autostart = true;
     })))
 
+-- by what the text wanted
 unfoldable pub afterAt : Want → Progress → ℕ → Progress
 afterAt Object s w = opened w
 afterAt Name s w = to s Open
@@ -128,12 +133,15 @@ namesAt Use = false
 namesAt AttributeEnd = false
 namesAt ObjectEnd = false
 
+-- the name of an object is wanted
 abbrev pub namesObject : Progress → Bool
 namesObject s = namesAt (s .want)
 
+-- the name of a RESOURCE object is wanted
 abbrev pub namesResource : Progress → Bool
 namesResource s = namesAt (s .want) && isResource (s .kind)
 
+-- the name in a RESOURCE attribute is wanted
 unfoldable pub usesAt : Want → Bool
 usesAt Object = false
 usesAt Name = false
@@ -148,5 +156,6 @@ usesAt Use = true
 usesAt AttributeEnd = false
 usesAt ObjectEnd = false
 
+-- the same of how far the text has come
 abbrev pub usesResource : Progress → Bool
 usesResource s = usesAt (s .want)

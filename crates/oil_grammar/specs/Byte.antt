@@ -13,12 +13,15 @@ use lib.Dec.{leb, eqb}
 abbrev pub within : ℕ → ℕ → ℕ → Bool
 within lo hi b = leb lo b && leb b hi
 
+-- LF, with which a line ends
 abbrev pub lineFeed : ℕ
 lineFeed = 10
 
+-- with // and /* a comment begins
 abbrev pub slash : ℕ
 slash = 47
 
+-- with */ one of these ends
 abbrev pub star : ℕ
 star = 42
 
@@ -26,6 +29,7 @@ star = 42
 unfoldable pub isSpace : ℕ → Bool
 isSpace b = eqb b 32 || within 9 13 b
 
+-- 0 to 9
 unfoldable pub isDigit : ℕ → Bool
 isDigit b = within 48 57 b
 

@@ -33,6 +33,7 @@ usersWith x n m (priority v ∷ rest) = usersWith x n m rest
 usersWith x n m (autostart b ∷ rest) = usersWith x n m rest
 usersWith x n m (uses y ∷ rest) = usersWith x n (cond (same y x) (with m n) m) rest
 
+-- the mask m with those of the objects in it that use x; n is the number of the next body
 unfoldable pub usersFrom : List ℕ → ℕ → ℕ → List Object → ℕ
 usersFrom x n m [] = m
 usersFrom x n m (o ∷ os) = usersFrom x (numberAfter (o .kind) n) (usersWith x n m (o .attributes)) os
@@ -45,6 +46,7 @@ usersOf x os = usersFrom x 0 0 os
 abbrev pub kindOf : ℕ → ℕ
 kindOf kind = kind - taskSort
 
+-- 1 for TRUE, 0 for FALSE
 abbrev pub startOf : Bool → ℕ
 startOf b = cond b 1 0
 
@@ -54,6 +56,7 @@ attributed c (priority v) = withPriority c (c .bodies) (held v)
 attributed c (autostart b) = withAutostart c (c .bodies) (startOf b)
 attributed c (uses x) = c
 
+-- c with attributes of its next body
 unfoldable pub attributedAll : Config → List Attribute → Config
 attributedAll c [] = c
 attributedAll c (a ∷ rest) = attributedAll (attributed c a) rest
@@ -68,6 +71,7 @@ begun users c o =
 unfoldable pub ended : ℕ → Config → Config
 ended kind c = cond (isResource kind) (withResources c (counted (c .resources))) (withBodies c (counted (c .bodies)))
 
+-- c with the objects after those that it has
 unfoldable pub placed : (List ℕ → ℕ) → Config → List Object → Config
 placed users c [] = c
 placed users c (o ∷ os) = placed users (ended (o .kind) (attributedAll (begun users c o) (o .attributes))) os

@@ -43,6 +43,7 @@ blanks (suc k) bs = let rest = blank bs + blanks k (drop (blank bs) bs) in cond 
 abbrev pub tokenOf : ℕ → ℕ → ℕ → Token
 tokenOf s p n = record { sort = s; start = p; end = p + n }
 
+-- the token of a sign's sort, 0 for a byte that is none
 abbrev pub signAt : ℕ → ℕ → Token
 signAt p s = cond (eqb s 0) (tokenOf unreadableSort p 0) (tokenOf s p 1)
 
@@ -63,6 +64,7 @@ nextToken t at = tokenAt (skipped t at) (drop (skipped t at) t)
 abbrev pub spelling : List ℕ → Token → List ℕ
 spelling t w = take (w .end - w .start) (drop (w .start) t)
 
+-- the token of the grammar of a sort, which x spells
 unfoldable pub tokenOfBytes : ℕ → List ℕ → W.Token
 tokenOfBytes s x = cond (leb s semicolonSort) (mark s) (cond (eqb s nameSort) (name x) (number (decimal 0 x)))
 

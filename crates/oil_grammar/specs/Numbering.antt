@@ -13,13 +13,16 @@ use lib.ListN.{getD}
 use Rattle.config.specs.declared.Config.{Config}
 use Rattle.oil_grammar.specs.Object.{Attribute, priority, autostart, Object, isResource}
 
+-- those of which p holds, in their order
 unfoldable pub members : (Object → Bool) → List Object → List Object
 members p [] = []
 members p (o ∷ os) = cond (p o) (o ∷ members p os) (members p os)
 
+-- a RESOURCE object
 abbrev pub isDeclared : Object → Bool
 isDeclared o = isResource (o .kind)
 
+-- a TASK or an ISR
 abbrev pub isBody : Object → Bool
 isBody o = not (isDeclared o)
 
@@ -33,6 +36,7 @@ declared os = members isDeclared os
 abbrev pub noObject : Object
 noObject = record { kind = 0; called = []; attributes = [] }
 
+-- the object number i
 abbrev pub nth : List Object → ℕ → Object
 nth os i = getD os i noObject
 

@@ -11,6 +11,7 @@ use mathlib.Core.List.{List, [], _∷_, _++_}
 use lib.Dec.{eqb}
 use Rattle.oil_grammar.specs.Token.{Token, mark, name, number, same, taskSort, isrSort, resourceSort, prioritySort, autostartSort, trueSort, falseSort, openSort, closeSort, equalsSort, semicolonSort}
 
+-- PRIORITY with its number, AUTOSTART with TRUE or FALSE, RESOURCE with a name
 pub data Attribute : Type 0 where
   priority : ℕ → Attribute
   autostart : Bool → Attribute
@@ -22,6 +23,7 @@ pub record Object : Type 0 where
   pub called : List ℕ
   pub attributes : List Attribute
 
+-- the token RESOURCE
 abbrev pub isResource : ℕ → Bool
 isResource kind = eqb kind resourceSort
 
@@ -32,6 +34,7 @@ attributeTokens (autostart b) =
     mark autostartSort ∷ mark equalsSort ∷ mark (cond b trueSort falseSort) ∷ mark semicolonSort ∷ []
 attributeTokens (uses x) = mark resourceSort ∷ mark equalsSort ∷ name x ∷ mark semicolonSort ∷ []
 
+-- one after the other
 unfoldable pub attributesTokens : List Attribute → List Token
 attributesTokens [] = []
 attributesTokens (a ∷ rest) = attributeTokens a ++ attributesTokens rest
@@ -49,12 +52,14 @@ unfoldable pub written : List Object → List Token
 written [] = []
 written (o ∷ os) = objectTokens o ++ written os
 
+-- how often PRIORITY stands
 unfoldable pub priorities : List Attribute → ℕ
 priorities [] = 0
 priorities (priority n ∷ rest) = suc (priorities rest)
 priorities (autostart b ∷ rest) = priorities rest
 priorities (uses x ∷ rest) = priorities rest
 
+-- how often AUTOSTART stands
 unfoldable pub autostarts : List Attribute → ℕ
 autostarts [] = 0
 autostarts (priority n ∷ rest) = autostarts rest
@@ -83,6 +88,7 @@ unfoldable pub resources : List Object → List (List ℕ)
 resources [] = []
 resources (o ∷ os) = cond (isResource (o .kind)) (o .called ∷ resources os) (resources os)
 
+-- the names of an object's RESOURCE attributes
 unfoldable pub attributeUses : List Attribute → List (List ℕ)
 attributeUses [] = []
 attributeUses (priority n ∷ rest) = attributeUses rest

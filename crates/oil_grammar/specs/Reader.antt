@@ -25,13 +25,16 @@ unfoldable pub lineAfter : ℕ → List ℕ → ℕ
 lineAfter l [] = l
 lineAfter l (b ∷ bs) = lineAfter (cond (eqb b lineFeed) (l + 1) l) bs
 
+-- the column after the bytes that stand before it
 unfoldable pub columnAfter : ℕ → List ℕ → ℕ
 columnAfter c [] = c
 columnAfter c (b ∷ bs) = columnAfter (cond (eqb b lineFeed) 1 (c + 1)) bs
 
+-- the line of a place
 abbrev pub lineOf : List ℕ → ℕ → ℕ
 lineOf t at = lineAfter 1 (take at t)
 
+-- the column of a place
 abbrev pub columnOf : List ℕ → ℕ → ℕ
 columnOf t at = columnAfter 1 (take at t)
 
@@ -53,11 +56,13 @@ filled t n = fill n t 0 fresh (λ x. mask n t 0 fresh x 0 0) empty
 abbrev pub afterUses : List ℕ → ℕ → Found → OilRead
 afterUses t n u = cond (eqb (u .refusal) none) (ranged (filled t n)) (refusedIn t (u .refusal) (u .place))
 
+-- a refusal of the first walk, or what the others give
 abbrev pub afterWalk : List ℕ → Found → OilRead
 afterWalk t v =
     cond (eqb (v .refusal) none) (afterUses t (v .tokens) (unborne (v .tokens) t 0 fresh (v .tokens)))
     (refusedIn t (v .refusal) (v .place))
 
+-- the first walk over the whole text
 abbrev pub walked : List ℕ → Found
 walked t = walk (suc (length t)) t 0 fresh 0
 

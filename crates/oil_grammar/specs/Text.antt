@@ -12,6 +12,7 @@ pub data Closes : List ℕ → List ℕ → Type 0 where
   here : {b c : ℕ} {bs : List ℕ} → b ≡ star → c ≡ slash → Closes (b ∷ c ∷ bs) bs
   later : {b c : ℕ} {bs r : List ℕ} → (b ≡ star → c ≡ slash → ⊥) → Closes (c ∷ bs) r → Closes (b ∷ c ∷ bs) r
 
+-- the bytes are these tokens, with spaces and comments between them
 pub data Spells : List ℕ → List Token → Type 0 where
   nothing : Spells [] []
   space : {b : ℕ} {bs : List ℕ} {ws : List Token} → isSpace b ≡ true → Spells bs ws → Spells (b ∷ bs) ws

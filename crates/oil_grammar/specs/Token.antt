@@ -57,6 +57,7 @@ endSort = 14
 abbrev pub unreadableSort : ℕ
 unreadableSort = 15
 
+-- a mark by its sort, a name by its bytes, a number by its value
 pub data Token : Type 0 where
   mark : ℕ → Token
   name : List ℕ → Token
@@ -74,6 +75,7 @@ same [] (y ∷ ys) = false
 same (x ∷ xs) [] = false
 same (x ∷ xs) (y ∷ ys) = eqb x y && same xs ys
 
+-- the seven words, byte by byte: TASK, ISR, RESOURCE, PRIORITY, AUTOSTART, TRUE, FALSE
 abbrev pub taskToken : List ℕ
 taskToken = 84 ∷ 65 ∷ 83 ∷ 75 ∷ []
 

@@ -38,9 +38,11 @@ borne (suc k) t at s r x =
     let rest = borne k t (w .end) (after s (w .sort)) r x in
     cond (bears r s && same (spelling t w) x) true rest
 
+-- the refusal r at the place p
 abbrev pub refusedAt : ℕ → ℕ → Found
 refusedAt r p = record { refusal = r; place = p; tokens = 0 }
 
+-- no refusal, and n tokens
 abbrev pub found : ℕ → Found
 found n = record { refusal = none; place = 0; tokens = n }
 
@@ -48,6 +50,7 @@ found n = record { refusal = none; place = 0; tokens = n }
 unfoldable pub nameFault : List ℕ → Progress → ℕ → Token → ℕ
 nameFault t s n w = cond (namesObject s && borne n t 0 fresh false (spelling t w)) givenTwice none
 
+-- by the token's sort, and then by its name
 unfoldable pub faultIn : List ℕ → Progress → ℕ → Token → ℕ
 faultIn t s n w = cond (eqb (fault s (w .sort)) none) (nameFault t s n w) (fault s (w .sort))
 
@@ -85,9 +88,11 @@ numberedAt Use s b = b
 numberedAt AttributeEnd s b = b
 numberedAt ObjectEnd s b = numberAfter (s .kind) b
 
+-- by how far the text has come
 abbrev pub numbered : Progress → ℕ → ℕ
 numbered s b = numberedAt (s .want) s b
 
+-- the mask m with body b in it, if y is the name x in a RESOURCE attribute
 unfoldable pub marked : Progress → List ℕ → List ℕ → ℕ → ℕ → ℕ
 marked s y x b m = cond (usesResource s && same y x) (with m b) m
 
@@ -112,6 +117,7 @@ putAt Use u s c w x = c
 putAt AttributeEnd u s c w x = c
 putAt ObjectEnd u s c w x = ended (s .kind) c
 
+-- by how far the text has come
 abbrev pub put : (List ℕ → ℕ) → Progress → Config → ℕ → List ℕ → Config
 put u s c w x = putAt (s .want) u s c w x
 
