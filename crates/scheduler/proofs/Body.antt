@@ -51,6 +51,12 @@ pub nothing-held : (rs : List ℕ) → holds rs ≡ false → rs ≡ []
 nothing-held [] h = refl
 nothing-held (r ∷ rs) h = absurd (true≢false h)
 
--- an end uses up the request that waits
+-- "the runner suspended, but ready if a request waits, which is then used up"
+pub finished-free : (b : Body) → b .pending ≡ false → finished b .phase ≡ suspended
+finished-free b h = rw h
+
+pub finished-again : (b : Body) → b .pending ≡ true → finished b .phase ≡ ready
+finished-again b h = rw h
+
 pub finished-used : (b : Body) → finished b .pending ≡ false
 finished-used b = cond-either (λ (x : Body). x .pending ≡ false) (b .pending) _ _ refl refl

@@ -7,7 +7,7 @@ use lib.ListN.{length, getD, List·getD-map}
 use lib.Seq.{getD-set-same, getD-set-other}
 use Rattle.config.specs.declared.Config.{Config}
 use Rattle.scheduler.specs.Status.{firstGiven}
-use Rattle.scheduler.specs.Body.{Body, suspended, ready, activated, finished, rest, requested, gets, releases}
+use Rattle.scheduler.specs.Body.{Body, activated, finished, rest, requested, gets, releases}
 use Rattle.scheduler.specs.Choice.{Candidate}
 use Rattle.scheduler.specs.State.{State, Table, stopped, running, bodyOf, tableOf, changing, withTable, runner}
 use Rattle.scheduler.specs.Event.{Activate, Finish, Chain, Get, Release, Tick, Line, Start, Stop}
@@ -15,7 +15,7 @@ use Rattle.scheduler.specs.Tick.{counting, ticked}
 use Rattle.scheduler.specs.Call.{caller, finish, effectOf}
 use Rattle.scheduler.specs.Scheduler.{leaves}
 use Rattle.scheduler.specs.Outcomes.{Alone, Activated, Finished, Chained, Taken, Released, Counted, Asked, TableSet, Outcomes}
-use Rattle.scheduler.proofs.Body.{finished-used}
+use Rattle.scheduler.proofs.Body.{finished-free, finished-again, finished-used}
 use Rattle.scheduler.proofs.Choice.Runner.{runner-timed, runner-untimed}
 use Rattle.scheduler.proofs.Event.Conditions.{chosen-untimed}
 use Rattle.scheduler.proofs.Event.Effects.{clash, bodyOf-changing-same, bodyOf-changing-other, length-changing, tables-ticked}
@@ -24,12 +24,6 @@ use Rattle.scheduler.proofs.Event.Bits.{accepted-leaves}
 alone-changing : (t : ℕ) (f : Body → Body) (s : State) → Alone t s (changing t f s)
 alone-changing t f s =
     record { bodies-same = λ b d. bodyOf-changing-other t f s b d; tables-same = refl; order-same = refl }
-
-finished-free : (b : Body) → b .pending ≡ false → finished b .phase ≡ suspended
-finished-free b h = rw h
-
-finished-again : (b : Body) → b .pending ≡ true → finished b .phase ≡ ready
-finished-again b h = rw h
 
 module _ (s : State) where
   activates : (t : ℕ) → Activated t s (changing t activated s)
