@@ -22,7 +22,7 @@ use Rattle.config.specs.declared.Field.the-variants.{Version, Bodies, Ki
 use Rattle.config.specs.Value.{maxBodies, maxResources, maxTables, maxEntries}
 use Rattle.config.specs.Draft.{put, putAt, asked, askedAt, ended, start, Inside, Within}
 use Rattle.config.specs.Accepted.{Shaped, padded}
-use Rattle.config.proofs.Padded.{getD-padded, set-padded, padded-padded, padded-set}
+use Rattle.config.proofs.Filled.{getD-padded, set-padded, padded-padded, padded-set}
 use Rattle.config.proofs.Position.{Standing, standing, moved}
 use Rattle.config.proofs.Walk.{InOrder, Asks, last}
 

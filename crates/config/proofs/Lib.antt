@@ -5,7 +5,7 @@
 pub mod Theorems
 pub mod Refusals
 pub mod Tables
-mod Padded
+mod Filled
 pub mod Ranges
 pub mod Position
 pub mod Walk
@@ -14,7 +14,7 @@ mod Rows
 mod Sound
 mod Reading
 mod RoundTrip
-mod Past
+mod Trimmed
 mod Counts
 mod Fuel
 mod Ceiling

@@ -18,7 +18,7 @@ use Rattle.config.specs.declared.Field.the-variants.{Version, Bodies, Ki
 use Rattle.config.specs.Value.{maxBodies, maxResources, maxTables, maxEntries}
 use Rattle.config.specs.Meaning.{isr, hasDeadlines}
 use Rattle.config.specs.Draft.{startable, mostAutostart, mostDeadline, fault, put, putAt, ended, start, Inside, Within}
-use Rattle.config.proofs.Padded.{getD-zeros}
+use Rattle.config.proofs.Filled.{getD-zeros}
 use Rattle.config.proofs.Tables.{isTask-true}
 use Rattle.config.proofs.Ranges.{InRange, in-range}
 

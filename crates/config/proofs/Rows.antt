@@ -24,7 +24,7 @@ use Rattle.config.specs.Value.{newestVersion, maxPriority, maxBodies, ma
 use Rattle.config.specs.Among.{among}
 use Rattle.config.specs.Draft.{rises, firstEntry, sorted, sharesOffset, mixes, someTimed, tasksBefore, secondTable, mostAutostart, mostDeadline, timedIn, timedUser, putAt, askedAt, ended}
 use Rattle.config.specs.Accepted.{Shaped, Accepted, padded}
-use Rattle.config.proofs.Padded.{length-padded, getD-padded, take-padded, among-none, none-among}
+use Rattle.config.proofs.Filled.{length-padded, getD-padded, take-padded, among-none, none-among}
 use Rattle.config.proofs.Ranges.{InRange}
 use Rattle.config.proofs.Tables.{firstOf-zero, firstOf-step, firstOf-rises, table-of}
 use Rattle.config.proofs.Extends.{Extends, onward}

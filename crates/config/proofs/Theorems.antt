@@ -33,7 +33,7 @@ use Rattle.config.proofs.Reading as Reading
 use Rattle.config.proofs.RoundTrip as RoundTrip
 use Rattle.config.proofs.Sound as Sound
 use Rattle.config.proofs.Counts as Counts
-use Rattle.config.proofs.Past as Past
+use Rattle.config.proofs.Trimmed as Trimmed
 use Rattle.config.proofs.Fuel as Fuel
 use Rattle.config.proofs.Editions as Editions
 
@@ -209,7 +209,7 @@ too-many-resources = Counts.too-many-resources
 -- values that differ only there get the same answer and leave the same output, refused ones too
 pub past-ignored : (b c : Config) → Shaped b → Shaped c → trimmed b ≡ trimmed c → (n : ℕ) (d : List ℕ)
     → (writeConfig b n ≡ writeConfig c n) × (wroteConfig b d ≡ wroteConfig c d)
-past-ignored b c sb sc e n d = (Past.same-answer b c sb sc e n, Past.same-output b c sb sc e d)
+past-ignored b c sb sc e n d = (Trimmed.same-answer b c sb sc e n, Trimmed.same-output b c sb sc e d)
 
 -- no configuration has more numbers than `maxNumbers` (specs/Reader.antt): more fuel reads the same, finds the same
 -- fault and, where there is none, writes the same bytes

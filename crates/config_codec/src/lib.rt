@@ -16,6 +16,7 @@ use number::NO_ROOM;
 use number::Written;
 ghost use mathlib.Core.Path.{_≡_};
 ghost use lib.ListN.{length};
+ghost use Rattle.config.specs.Value.{noConfig};
 ghost use Rattle.config.specs.Reader.{readConfig};
 ghost use Rattle.config.specs.Writer.{writeConfig, wroteConfig};
 
@@ -28,7 +29,7 @@ pub fn read_config(bytes: &[u8]) -> ConfigRead
     if MAX_LENGTH < bytes.len() {
         return value::refused(TOO_LONG, 0);
     }
-    let r = walk::walk(false, value::no_config(), bytes);
+    let r = walk::walk(false, no_config(), bytes);
     if r.refusal != 0 {
         return r;
     }
@@ -61,5 +62,26 @@ pub fn write_config(config: Config, out: &mut [u8]) -> Written
     Written {
         refusal: 0,
         place: n,
+    }
+}
+
+// The all-zero value.
+pub fn no_config() -> Config
+    ensures { λ r. ⌜ r ≡ noConfig ⌝ }
+{
+    Config {
+        version: 0,
+        bodies: 0,
+        kind: [0u8; 32],
+        priority: [0u8; 32],
+        autostart: [0u8; 32],
+        deadline: [0u16; 32],
+        resources: 0,
+        users: [0u32; 16],
+        tables: 0,
+        period: [0u16; 8],
+        entries: [0u8; 8],
+        offset: [0u16; 64],
+        task: [0u8; 64],
     }
 }

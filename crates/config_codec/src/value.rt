@@ -1,34 +1,13 @@
-// A configuration by position: the all-zero value, and the number that stands at a position.
+// A refused reading, and the number of a configuration at a position.
+use crate::no_config;
 use crate::position::Position;
 use config::Config;
 use config::ConfigRead;
 use config::Field;
 ghost use mathlib.Core.Path.{_≡_};
-ghost use Rattle.config.specs.Value.{noConfig};
 ghost use Rattle.config.specs.Draft.{asked};
 ghost use Rattle.config.specs.Reader.{refused};
 ghost use Rattle.config_codec.specs.Position.{draftAt, Stands};
-
-// The all-zero value.
-pub fn no_config() -> Config
-    ensures { λ r. ⌜ r ≡ noConfig ⌝ }
-{
-    Config {
-        version: 0,
-        bodies: 0,
-        kind: [0u8; 32],
-        priority: [0u8; 32],
-        autostart: [0u8; 32],
-        deadline: [0u16; 32],
-        resources: 0,
-        users: [0u32; 16],
-        tables: 0,
-        period: [0u16; 8],
-        entries: [0u8; 8],
-        offset: [0u16; 64],
-        task: [0u8; 64],
-    }
-}
 
 // No configuration, with the reason and its place.
 pub fn refused(refusal: u8, place: usize) -> ConfigRead

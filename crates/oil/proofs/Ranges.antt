@@ -10,13 +10,12 @@ use Rattle.number.specs.Refusal.{none, noRoom}
 use Rattle.number.specs.Number.{numberBytes}
 use Rattle.number.specs.Output.{writing, unwritten}
 use Rattle.number.specs.declared.Written.{Written}
-use Rattle.number.proofs.Cases.{by-eq}
+use Rattle.number.proofs.Cases.{by-test, by-eq}
 use Rattle.number.proofs.Theorems.{writing-no-room, length-numberBytes}
 use Rattle.config.specs.declared.Config.{Config}
 use Rattle.config.specs.declared.Draft.{Draft}
 use Rattle.config.specs.Draft.{start, put, asked, ended, silent}
 use Rattle.config.proofs.Theorems.{length-configBytes}
-use Rattle.oil_grammar.proofs.Spelling.{by-test}
 use Rattle.config.specs.Writer.{firstFault, bytesAt, bytesFrom, configBytes, writeConfig}
 
 -- a configuration takes a byte at least: its version's

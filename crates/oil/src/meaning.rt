@@ -7,6 +7,9 @@ use crate::sorts::RESOURCE;
 use crate::sorts::TRUE;
 use check::same;
 use config::Config;
+use config::MAX_BODIES;
+use config::MAX_RESOURCES;
+use config_codec::no_config;
 use oil_grammar::Progress;
 use oil_grammar::Token;
 use oil_grammar::Want;
@@ -24,29 +27,13 @@ ghost use Rattle.oil_grammar.specs.Automaton.{fresh};
 ghost use Rattle.oil_grammar.specs.Walk.{numbered, marked, mask, put};
 ghost use Rattle.oil_grammar.specs.Reader.{filled};
 
-const MAX_BODIES: usize = 32;
-
-const MAX_RESOURCES: usize = 16;
-
 // No object yet, in a configuration of this version.
 pub fn empty(version: u8) -> Config
     ensures { λ r. ⌜ r ≡ withVersion noConfig version ⌝ }
 {
-    Config {
-        version: version,
-        bodies: 0,
-        kind: [0u8; 32],
-        priority: [0u8; 32],
-        autostart: [0u8; 32],
-        deadline: [0u16; 32],
-        resources: 0,
-        users: [0u32; 16],
-        tables: 0,
-        period: [0u16; 8],
-        entries: [0u8; 8],
-        offset: [0u16; 64],
-        task: [0u8; 64],
-    }
+    let mut c = no_config();
+    c.version = version;
+    c
 }
 
 // One more, held as a byte.

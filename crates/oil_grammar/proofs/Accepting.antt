@@ -9,7 +9,7 @@ use native.Mathlib.Omega.{arith}
 use lib.Dec.{eqb}
 use lib.ListN.{length, take, drop}
 use borrow.Author.Tests.{eq-eqb, ne-eqb, le-leb, lt-leb, leb-false}
-use Rattle.number.proofs.Cases.{by-eq, by-lt}
+use Rattle.number.proofs.Cases.{by-test, by-eq, by-lt}
 use Rattle.oil_grammar.specs.declared.Token.{Token}
 use Rattle.oil_grammar.specs.declared.Progress.{Progress}
 use Rattle.oil_grammar.specs.declared.Want.{Want}
@@ -20,7 +20,7 @@ use Rattle.oil_grammar.specs.Token.{mark, name, number, sortOf, same, sp
 use Rattle.oil_grammar.specs.Next.{tokenAt, skipped, nextToken, spelling, tokenOfBytes}
 use Rattle.oil_grammar.specs.Automaton.{fault, faultAt, only, unexpected, after, fresh, namesAt, namesObject}
 use Rattle.oil_grammar.specs.Walk.{bears, borne, nameFault, faultIn, found, walk}
-use Rattle.oil_grammar.proofs.Spelling.{by-test, false-true}
+use Rattle.oil_grammar.proofs.Spelling.{false-true}
 use Rattle.oil_grammar.proofs.Bounds.{next-inside}
 use Rattle.oil_grammar.proofs.Sorts.{going, fault-none}
 use Rattle.oil_grammar.proofs.Lexing.{Reads, ended, reads, sortFrom, spelledFrom, tokenFrom}

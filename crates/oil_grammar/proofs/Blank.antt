@@ -8,10 +8,9 @@ use lib.Dec.{eqb}
 use lib.ListN.{length, drop, getD, length-drop, drop-of-length-le}
 use lib.Seq.{drop-drop}
 use borrow.Author.Tests.{eq-eqb, ne-eqb}
-use Rattle.number.proofs.Cases.{by-eq}
+use Rattle.number.proofs.Cases.{by-test, by-eq}
 use Rattle.oil_grammar.specs.Byte.{slash, star, isSpace, isLineByte, span}
 use Rattle.oil_grammar.specs.Next.{closing, closed, comment, blank, blanks, skipped}
-use Rattle.oil_grammar.proofs.Spelling.{by-test}
 use Rattle.oil_grammar.proofs.Span.{span-le, drop-next}
 
 -- the end of a comment, told from n bytes earlier

@@ -6,11 +6,11 @@ use mathlib.Core.List.{List, [], _∷_}
 use native.Mathlib.Omega.{arith}
 use lib.Dec.{leb, eqb}
 use lib.ListN.{length, take, drop, length-drop}
+use Rattle.number.proofs.Cases.{by-test}
 use Rattle.oil_grammar.specs.declared.Token.{Token}
 use Rattle.oil_grammar.specs.Byte.{isLetter, isDigit, isNameByte, span}
 use Rattle.oil_grammar.specs.Token.{spelledSort, signOf, endSort}
 use Rattle.oil_grammar.specs.Next.{tokenAt, signAt, tokenOf, skipped, nextToken}
-use Rattle.oil_grammar.proofs.Spelling.{by-test}
 use Rattle.oil_grammar.proofs.Span.{span-le}
 use Rattle.oil_grammar.proofs.Blank.{skipped-le}
 

@@ -15,6 +15,7 @@ use mathlib.Core.List.{List, [], _∷_, _++_}
 use native.Mathlib.Omega.{arith}
 use lib.Dec.{leb, eqb}
 use borrow.Author.Tests.{eqb-true}
+use Rattle.number.proofs.Cases.{by-test}
 use Rattle.word.specs.Word.{has, with}
 use Rattle.config.specs.declared.Config.{Config}
 use Rattle.config.specs.Among.{among}
@@ -31,7 +32,7 @@ use Rattle.oil_grammar.specs.Grammar.{AllFit, fit-nil, fit-cons, Fresh, 
 use Rattle.oil_grammar.specs.Next.{closing, comment, blank, blanks, tokenAt, nextToken, tokenOfBytes, tokenIn}
 use Rattle.oil_grammar.specs.Reader.{readOil, ranged}
 use Rattle.oil_grammar.proofs.Ascii.{ascii}
-use Rattle.oil_grammar.proofs.Spelling.{by-test, false-true}
+use Rattle.oil_grammar.proofs.Spelling.{false-true}
 use Rattle.oil_grammar.proofs.Lexing.{Reads, ended as stops, reads, reads-spells}
 use Rattle.oil_grammar.proofs.Whole.{oil-read}
 

@@ -10,6 +10,7 @@ use native.Mathlib.Omega.{arith}
 use lib.Dec.{leb, eqb}
 use lib.ListN.{length}
 use borrow.Author.Tests.{leb-false}
+use Rattle.number.proofs.Cases.{by-test}
 use Rattle.word.specs.Word.{with}
 use Rattle.config.specs.declared.Config.{Config}
 use Rattle.config.specs.Value.{withKind, withPriority, withAutostart, withUsers}
@@ -26,7 +27,7 @@ use Rattle.oil_grammar.specs.Grammar.{Borne, borne-nil, borne-cons}
 use Rattle.oil_grammar.specs.Next.{tokenOfBytes}
 use Rattle.oil_grammar.specs.Automaton.{fault, faultAt, after, afterAt, attributeBegun, fresh, namesAt, namesObject, namesResource, usesAt, usesResource}
 use Rattle.oil_grammar.specs.Walk.{bears, borne, found, unborneAt, unborne, numberedAt, numbered, marked, mask, putAt, put, fill}
-use Rattle.oil_grammar.proofs.Spelling.{by-test, false-true}
+use Rattle.oil_grammar.proofs.Spelling.{false-true}
 use Rattle.oil_grammar.proofs.Lexing.{Reads, ended, reads, sortFrom, spelledFrom, tokenFrom}
 use Rattle.oil_grammar.proofs.Accepting.{bytesOf, Accepts, goes, only-that, name-wanted, sort-back, bytes-back, cond-or}
 use Rattle.oil_grammar.proofs.Objects.{at, object-tokens}

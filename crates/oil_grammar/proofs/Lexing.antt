@@ -12,14 +12,14 @@ use lib.Dec.{leb, eqb}
 use lib.ListN.{length, take, drop, length-drop}
 use lib.Seq.{drop-drop}
 use borrow.Author.Tests.{eq-eqb, ne-eqb, le-leb, lt-leb, leb-true, eqb-true}
-use Rattle.number.proofs.Cases.{by-eq, by-lt}
+use Rattle.number.proofs.Cases.{by-test, by-eq, by-lt}
 use Rattle.oil_grammar.specs.declared.Token.{Token}
 use Rattle.oil_grammar.specs.Byte.{slash, star, isSpace, isLetter, isDigit, isNameByte, isLineByte, span}
 use Rattle.oil_grammar.specs.Token as W
 use Rattle.oil_grammar.specs.Token.{mark, number, spelledSort, tokenOfSort, spelled, signOf, decimal, numberSort, endSort}
 use Rattle.oil_grammar.specs.Text.{Closes, here, later, Spells, nothing, space, lineComment, blockComment, sign, letters, digits}
 use Rattle.oil_grammar.specs.Next.{closing, comment, blank, blanks, tokenAt, skipped, nextToken, spelling, tokenOfBytes, tokenIn}
-use Rattle.oil_grammar.proofs.Spelling.{by-test, false-true}
+use Rattle.oil_grammar.proofs.Spelling.{false-true}
 use Rattle.oil_grammar.proofs.Span.{span-le, longest, longest-span}
 use Rattle.oil_grammar.proofs.Blank.{blank-le, blanks-none, blanks-some, skip-more, skip-stopped}
 use Rattle.oil_grammar.proofs.Bounds.{next-inside, token-lies}

@@ -14,6 +14,7 @@ use borrow.Author.Tests.{not-true, not-false}
 use lib.Dec.{lit≤}
 use lib.ListN.{length, getD, set, replicate, length-set, getD-replicate}
 use lib.Seq.{getD-set-same, getD-set-other, set-set, set-getD}
+use Rattle.number.proofs.Cases.{by-test}
 use Rattle.config.specs.declared.Config.{Config}
 use Rattle.config.specs.Value.{withBodies, withKind, withResources, withUsers}
 use Rattle.word.specs.Word.{has, with}
@@ -23,7 +24,7 @@ use Rattle.oil_grammar.specs.Object.{Attribute, priority, autostart, use
 use Rattle.oil_grammar.specs.Meaning.{held, counted, kindOf, startOf, usersWith, usersFrom, usersOf, attributed, attributedAll, begun, ended, placed, empty, configOf}
 use Rattle.oil_grammar.specs.Grammar.{AllFit, fit-nil, fit-cons}
 use Rattle.oil_grammar.specs.Numbering.{members, isDeclared, isBody, bodies, declared, noObject, nth, Says, BodyMeant}
-use Rattle.oil_grammar.proofs.Spelling.{by-test, false-true}
+use Rattle.oil_grammar.proofs.Spelling.{false-true}
 
 -- what one object makes of a configuration; u: a resource's users by its name
 abbrev step : (List ℕ → ℕ) → Config → Object → Config

@@ -8,9 +8,9 @@ use native.Mathlib.Numerals.{add-one}
 use lib.Dec.{eqb}
 use lib.ListN.{length, take, drop, getD, length-take, drop-of-length-le}
 use lib.Seq.{drop-cons, getD-take}
+use Rattle.number.proofs.Cases.{by-test}
 use Rattle.oil_grammar.specs.Byte.{lineFeed}
 use Rattle.oil_grammar.specs.Reader.{lineAfter, columnAfter, lineOf}
-use Rattle.oil_grammar.proofs.Spelling.{by-test}
 
 module _ (t : List ℕ) (at : ℕ) (all : at ≤ length t) where
   next-of : (i : ℕ) → i < at → drop i (take at t) ≡ getD t i 0 ∷ drop (i + 1) (take at t)

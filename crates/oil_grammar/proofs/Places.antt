@@ -4,13 +4,13 @@ use mathlib.Core.List.{List}
 use native.Mathlib.Omega.{arith}
 use lib.Dec.{eqb}
 use lib.ListN.{length}
+use Rattle.number.proofs.Cases.{by-test}
 use Rattle.oil_grammar.specs.declared.Progress.{Progress}
 use Rattle.oil_grammar.specs.Token.{endSort}
 use Rattle.oil_grammar.specs.Next.{nextToken}
 use Rattle.oil_grammar.specs.Automaton.{after, fresh}
 use Rattle.oil_grammar.specs.Walk.{faultIn, walk, unborneAt, unborne}
 use Rattle.oil_grammar.specs.Reader.{walked}
-use Rattle.oil_grammar.proofs.Spelling.{by-test}
 use Rattle.oil_grammar.proofs.Bounds.{next-inside}
 
 walk-place : (k : ℕ) (t : List ℕ) (at : ℕ) (s : Progress) (n : ℕ) → at ≤ length t → walk k t at s n .place ≤ length t

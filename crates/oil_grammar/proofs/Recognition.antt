@@ -6,7 +6,7 @@ use mathlib.Core.List.{List, [], _∷_, _++_, append-assoc}
 use native.Mathlib.Omega.{arith}
 use lib.Dec.{leb, eqb}
 use borrow.Author.Tests.{eq-eqb, ne-eqb, lt-leb, eqb-true}
-use Rattle.number.proofs.Cases.{by-eq, by-lt}
+use Rattle.number.proofs.Cases.{by-test, by-eq, by-lt}
 use Rattle.oil_grammar.specs.declared.Progress.{Progress}
 use Rattle.oil_grammar.specs.declared.Want.{Want}
 use Rattle.oil_grammar.specs.declared.Want.the-variants.{Object, Name, Open, Attribute, PriorityEquals, PriorityNumber, AutostartEquals, AutostartValue, UseEquals, Use, AttributeEnd, ObjectEnd}
@@ -16,7 +16,7 @@ use Rattle.oil_grammar.specs.Object as O
 use Rattle.oil_grammar.specs.Object.{priority, autostart, uses, isResource, attributeTokens, attributesTokens, written, priorities, autostarts, Fits, task, isr, resource, amongNames}
 use Rattle.oil_grammar.specs.Grammar.{AllFit, fit-nil, fit-cons, Fresh, fresh-nil, fresh-cons}
 use Rattle.oil_grammar.specs.Automaton.{faultAt, only, unexpected, unknown, objectFault, bodyFault, attributeFault, valueFault, afterAt, attributeBegun, fresh, namesAt}
-use Rattle.oil_grammar.proofs.Spelling.{by-test, false-true}
+use Rattle.oil_grammar.proofs.Spelling.{false-true}
 use Rattle.oil_grammar.proofs.Accepting.{Proper, proper-mark, proper-name, proper-number, bytesOf, Accepts, stops, goes, only-that}
 use Rattle.oil_grammar.proofs.Objects.{at, once, Left, Sees, sees-name, object-tokens}
 

@@ -7,7 +7,7 @@ use native.Mathlib.Omega.{arith}
 use lib.Dec.{leb, eqb}
 use lib.ListN.{take, drop}
 use borrow.Author.Tests.{lt-leb, eqb-true}
-use Rattle.number.proofs.Cases.{by-eq}
+use Rattle.number.proofs.Cases.{by-test, by-eq}
 use Rattle.oil_grammar.specs.declared.Token.{Token}
 use Rattle.oil_grammar.specs.declared.Progress.{Progress}
 use Rattle.oil_grammar.specs.declared.Want.{Want}
@@ -18,7 +18,6 @@ use Rattle.oil_grammar.specs.Next.{tokenAt, skipped, nextToken}
 use Rattle.oil_grammar.specs.Automaton.{fault, faultAt, unexpected, unknown, only, objectFault, bodyFault, attributeFault, valueFault}
 use Rattle.oil_grammar.specs.Walk.{faultIn}
 use Rattle.oil_grammar.specs.Object.{isResource}
-use Rattle.oil_grammar.proofs.Spelling.{by-test}
 
 -- the lesser of two sorts, by a test
 choice-le : (b : Bool) (x y n : ℕ) → x ≤ n → y ≤ n → cond b x y ≤ n

@@ -7,7 +7,7 @@ use native.Mathlib.Omega.{arith}
 use native.Mathlib.Numerals.{add-one}
 use lib.ListN.{length, take, drop, getD, length-drop, drop-of-length-le}
 use lib.Seq.{drop-cons}
-use Rattle.oil_grammar.proofs.Spelling.{by-test}
+use Rattle.number.proofs.Cases.{by-test}
 use Rattle.oil_grammar.specs.Byte.{span, Longest, end, stop, more}
 
 -- the bytes from a place on: the byte there, and those after it

@@ -1,16 +1,12 @@
--- Proofs by cases on a test, and spellings that are the same.
+-- Spellings that are the same.
 use Prim.Native.Nat.{ℕ}
 use mathlib.Core.Path.{_≡_, refl, sym, _∙_}
 use mathlib.Core.Bool.{Bool, true, false}
 use mathlib.Core.List.{List, [], _∷_}
 use native.Mathlib.Omega.{arith}
 use borrow.Author.Tests.{eq-eqb, ne-eqb}
-use Rattle.number.proofs.Cases.{by-eq}
+use Rattle.number.proofs.Cases.{by-test, by-eq}
 use Rattle.oil_grammar.specs.Token.{same}
-
-pub by-test {ℓ} : {C : Type ℓ} (b : Bool) → (b ≡ true → C) → (b ≡ false → C) → C
-by-test true f g = f refl
-by-test false f g = g refl
 
 pub false-true : false ≡ true → ⊥
 false-true e = let z : _≡_ {A = ℕ} 0 1 = cc in omega arith

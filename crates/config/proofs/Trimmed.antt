@@ -16,7 +16,7 @@ use Rattle.config.specs.Draft.{fault, put, asked, askedAt, ended, start}
 use Rattle.config.specs.Reader.{maxNumbers}
 use Rattle.config.specs.Writer.{faultFrom, firstFault, configBytes, writeConfig, wroteConfig}
 use Rattle.config.specs.Accepted.{Shaped, trimmed}
-use Rattle.config.proofs.Padded.{getD-padded}
+use Rattle.config.proofs.Filled.{getD-padded}
 use Rattle.config.proofs.Ranges.{in-range}
 use Rattle.config.proofs.Walk.{InOrder, Asks, fault-end, fault-step, fault-stop, walk-bytes}
 use Rattle.config.proofs.Extends.{Extends, start-extends, extends-put}
