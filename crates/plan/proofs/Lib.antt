@@ -8,6 +8,7 @@ pub mod Stores
 pub mod Words
 pub mod Count
 pub mod Greatest
+pub mod SetBits
 pub mod Entry
 pub mod Ranking
 pub mod Order

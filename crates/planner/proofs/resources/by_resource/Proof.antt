@@ -31,10 +31,10 @@ unfolding stored
 loop-holds c = (omega arith, refl, refl)
 
 loop-again : tie.Need-loop-again Inv-loop μ-loop
-loop-again c = let w = c .before in let l = w .before .before .loop in (
+loop-again c = let l = c .before .before .loop in (
   omega arith,
-  stored-step _ _ _ _ (l .inv .1) refl (w .ceiling .ensures),
-  stored-step _ _ _ _ (l .inv .2) refl (c .user-ranks .ensures),
+  stored-step _ _ _ _ (l .inv .1) refl (c .usage-of .ensures .0),
+  stored-step _ _ _ _ (l .inv .2) refl (c .usage-of .ensures .1),
 )
 
 returns : tie.Need-returns Inv-loop μ-loop
@@ -52,7 +52,6 @@ by-resource-spec =
     (λ c. search needs)
     (λ c κs. search needs)
     (λ c. search needs)
-    (λ c κs. search needs)
     (λ c. search needs)
     (λ c. search needs)
     (λ c. search needs)
