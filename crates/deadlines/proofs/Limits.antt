@@ -24,14 +24,14 @@ use Rattle.scheduler.specs.Scheduler.{stepBy, fresh}
 use Rattle.scheduler.specs.History.{next, tickCount}
 use Rattle.scheduler.proofs.Worked.Examples.{sample, twoAutostart}
 use Rattle.deadlines.specs.Activation.{endsAt, readyAt}
-use Rattle.deadlines.specs.Miss.{noEnd, missedSince, missed, Miss, deadlineOf, misses}
+use Rattle.deadlines.specs.Miss.{noEnd, missedSince, missed, Miss, deadlineIn, misses}
 use Rattle.deadlines.specs.DeadlineCells.{readyCell, countedCell, movedCell, freshCell, rowOf, stepRow, matchesOf, runRow, cellMisses}
 use Rattle.deadlines.proofs.Theorems.{cells-tell-misses}
 use Rattle.deadlines.proofs.Examples.{at}
 use Rattle.deadlines.proofs.Answers.{missesFrom}
 
 -- what the cells compute holds of the definition too
-few : (d e b : ℕ) → d ≤ 65535 → e ≤ 65535 → deadlineOf (d ∷ e ∷ []) b ≤ 65535
+few : (d e b : ℕ) → d ≤ 65535 → e ≤ 65535 → deadlineIn (d ∷ e ∷ []) b ≤ 65535
 few d e zero h k = h
 few d e (suc zero) h k = k
 few d e (suc (suc b)) h k = omega arith

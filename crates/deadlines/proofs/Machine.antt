@@ -36,7 +36,7 @@ use Rattle.machine.proofs.Event.Agrees.{Agrees, by-runner}
 use Rattle.machine.proofs.Whole.Fresh.{fresh-sim}
 use Rattle.machine.proofs.Whole.Lists.{event-agrees}
 use Rattle.deadlines.specs.Activation.{isEnd, endsAt, readyAt, chainsTo, chainsItself}
-use Rattle.deadlines.specs.Miss.{Miss, deadlineOf, misses}
+use Rattle.deadlines.specs.Miss.{Miss, deadlineIn, misses}
 use Rattle.deadlines.specs.DeadlineCells.{suspendedCell, readyCell, countedCell, movedCell, freshCell, rowOf, stepRow, matchesOf, runRow, cellMisses}
 use Rattle.deadlines.specs.Words.{activeAt, planRank, chainsBy, endsBy, readyBy, stepRowBy, machineRow, freshCellBy, machineMisses}
 use Rattle.deadlines.proofs.Rows.{run-misses}
@@ -127,10 +127,10 @@ moved-resting false false false = refl
 -- the cells xs from body b on are those of bodies, and those of bodies without a deadline rest
 unfoldable Row : Config → List ℕ → ℕ → List Cell → Type 0
 Row c ds b [] = Unit {0}
-Row c ds b (x ∷ xs) = (b < c .bodies) × ((deadlineOf ds b ≡ 0 → x ≡ suspendedCell 0) × Row c ds (suc b) xs)
+Row c ds b (x ∷ xs) = (b < c .bodies) × ((deadlineIn ds b ≡ 0 → x ≡ suspendedCell 0) × Row c ds (suc b) xs)
 
 module _ (c : Config) (ds : List ℕ) where
-  fresh-row : (f : ℕ → Cell) → ((b : ℕ) → deadlineOf ds b ≡ 0 → f b ≡ suspendedCell 0)
+  fresh-row : (f : ℕ → Cell) → ((b : ℕ) → deadlineIn ds b ≡ 0 → f b ≡ suspendedCell 0)
       → (b n : ℕ) → b + n ≤ c .bodies → Row c ds b (rowOf f b n)
   unfolding Row rowOf
   fresh-row f rests b zero fits = tt
@@ -144,7 +144,7 @@ module _ (c : Config) (ds : List ℕ) where
 
 -- of an ISR there is none
 module _ (c : Config) (ok : Accepted c) (shaped : Shaped c) (ds : List ℕ)
-    (tasks-alone : (b : ℕ) → isIsr c b ≡ true → deadlineOf ds b ≡ 0) where
+    (tasks-alone : (b : ℕ) → isIsr c b ≡ true → deadlineIn ds b ≡ 0) where
   abbrev Stands : Model → State → Type 0
   Stands = Sim c (planOf c) (rankOf c)
 
@@ -174,13 +174,13 @@ module _ (c : Config) (ok : Accepted c) (shaped : Shaped c) (ds : List ℕ)
       (step-row c ds s e 0 xs row)))
 
   fresh-is : (b n : ℕ) → b + n ≤ c .bodies
-      → rowOf (freshCellBy (planOf c) ds) b n ≡ rowOf (λ i. freshCell c (deadlineOf ds i) i) b n
+      → rowOf (freshCellBy (planOf c) ds) b n ≡ rowOf (λ i. freshCell c (deadlineIn ds i) i) b n
   unfolding rowOf freshCell
   fresh-is b zero fits = refl
   fresh-is b (suc n) fits =
       rw (active-is fit (fresh-sim fit) b (omega arith), fresh-is (suc b) n (omega arith))
 
-  fresh-rests : (b : ℕ) → deadlineOf ds b ≡ 0 → freshCell c (deadlineOf ds b) b ≡ suspendedCell 0
+  fresh-rests : (b : ℕ) → deadlineIn ds b ≡ 0 → freshCell c (deadlineIn ds b) b ≡ suspendedCell 0
   unfolding freshCell readyCell
   fresh-rests b z = rw z (cond-either (λ (x : Cell). x ≡ suspendedCell 0) (active (fresh c) b) _ _ refl refl)
 
@@ -189,6 +189,6 @@ module _ (c : Config) (ok : Accepted c) (shaped : Shaped c) (ds : List ℕ)
       rw (fresh-is 0 (c .bodies) (omega arith))
       (run-is es 0 (fresh-sim fit) _ (fresh-row c ds _ fresh-rests 0 (c .bodies) (omega arith)))
 
-  pub machine-misses : ((b : ℕ) → b < c .bodies → deadlineOf ds b ≤ 65535) → (es : List Event)
+  pub machine-misses : ((b : ℕ) → b < c .bodies → deadlineIn ds b ≤ 65535) → (es : List Event)
       → machineMisses c (planOf c) ds es ≡ misses c ds es
   machine-misses few es = machine-cells es ∙ run-misses c ds (λ b l. let h = few b l in omega arith) es

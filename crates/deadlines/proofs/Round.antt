@@ -36,7 +36,7 @@ use Rattle.machine.specs.Cells.{countersTicked, switchesTicked, marks, some, sp
 use Rattle.machine.specs.Events.{tick}
 use Rattle.machine.specs.Machine.{statusOf, effectOf, elseOf}
 use Rattle.deadlines.specs.Activation.{endsAt, readyAt}
-use Rattle.deadlines.specs.Miss.{noEnd, missedSince, missedFrom, missed, Miss, missesWhere, deadlineOf, missesAfter, misses}
+use Rattle.deadlines.specs.Miss.{noEnd, missedSince, missedFrom, missed, Miss, missesWhere, deadlineIn, missesAfter, misses}
 use Rattle.deadlines.specs.DeadlineCells.{readyCell, countedCell, movedCell, freshCell, rowOf, stepRow, matchesOf, runRow, cellMisses}
 use Rattle.deadlines.specs.Words.{stepRowBy, machineRow}
 use Rattle.deadlines.proofs.Theorems.{cells-tell-misses}
@@ -81,7 +81,7 @@ tooLate = ending 351 100 500 49
 abbrev endless : List Event
 endless = Start 0 1 ∷ replicate 1000 Tick
 
-few : (b : ℕ) → deadlineOf deadlines b ≤ 65535
+few : (b : ℕ) → deadlineIn deadlines b ≤ 65535
 few zero = omega arith
 few (suc zero) = omega arith
 few (suc (suc zero)) = omega arith

@@ -76,12 +76,13 @@ missesWhere p k b (suc n) =
 abbrev pub deadlinesOf : Config → List ℕ
 deadlinesOf c = c .deadline
 
-abbrev pub deadlineOf : List ℕ → ℕ → ℕ
-deadlineOf ds b = getD ds b 0
+-- that of body b
+abbrev pub deadlineIn : List ℕ → ℕ → ℕ
+deadlineIn ds b = getD ds b 0
 
 -- at a Tick that follows the events es
 abbrev pub missesAt : Config → List ℕ → List Event → List Miss
-missesAt c ds es = missesWhere (λ b. missed c (deadlineOf ds b) b es) (suc (tickCount es)) 0 (c .bodies)
+missesAt c ds es = missesWhere (λ b. missed c (deadlineIn ds b) b es) (suc (tickCount es)) 0 (c .bodies)
 
 -- at the Ticks of rest, which follows the events es
 unfoldable pub missesAfter : Config → List ℕ → List Event → List Event → List Miss
@@ -98,7 +99,7 @@ pub record IsMiss (c : Config) (ds : List ℕ) (es : List Event) (m : Miss) : Ty
   pub split : es ≡ before ++ Tick ∷ rest
   pub number : m .tick ≡ suc (tickCount before)
   pub body-there : m .body < c .bodies
-  pub missed-it : MissedDeadline c (deadlineOf ds (m .body)) (m .body) before
+  pub missed-it : MissedDeadline c (deadlineIn ds (m .body)) (m .body) before
 
 -- one stands before the other in the list: "in order of time, then of body"
 abbrev pub Before : Miss → Miss → Type 0

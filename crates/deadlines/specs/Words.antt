@@ -20,7 +20,7 @@ use Rattle.scheduler.specs.Event.{Event, isTick}
 use Rattle.machine.specs.Model.{Model, Outcome}
 use Rattle.machine.specs.Machine.{freshModel, runnerOf, machineStep}
 use Rattle.deadlines.specs.Activation.{chainsTo}
-use Rattle.deadlines.specs.Miss.{Miss, deadlineOf}
+use Rattle.deadlines.specs.Miss.{Miss, deadlineIn}
 use Rattle.deadlines.specs.DeadlineCells.{suspendedCell, readyCell, movedCell, rowOf, matchesOf}
 
 -- a request of it waits, or it has begun: it goes on by its priority, or is aside
@@ -46,7 +46,7 @@ readyBy p m e o b =
 unfoldable pub stepRowBy : Plan → List ℕ → Model → Event → Outcome → ℕ → List Cell → List Cell
 stepRowBy p ds m e o b [] = []
 stepRowBy p ds m e o b (x ∷ xs) =
-    movedCell (deadlineOf ds b) (readyBy p m e o b) (endsBy p m e o b) (isTick e) x
+    movedCell (deadlineIn ds b) (readyBy p m e o b) (endsBy p m e o b) (isTick e) x
     ∷ stepRowBy p ds m e o (suc b) xs
 
 -- k Ticks so far
@@ -59,7 +59,7 @@ machineRow c p ds k m xs (e ∷ es) =
 
 abbrev pub freshCellBy : Plan → List ℕ → ℕ → Cell
 freshCellBy p ds b =
-    cond (activeAt (freshModel p) (planRank p b)) (readyCell (deadlineOf ds b)) (suspendedCell (deadlineOf ds b))
+    cond (activeAt (freshModel p) (planRank p b)) (readyCell (deadlineIn ds b)) (suspendedCell (deadlineIn ds b))
 
 abbrev pub machineMisses : Config → Plan → List ℕ → List Event → List Miss
 machineMisses c p ds es = machineRow c p ds 0 (freshModel p) (rowOf (freshCellBy p ds) 0 (c .bodies)) es

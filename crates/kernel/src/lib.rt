@@ -20,6 +20,13 @@ ghost use Rattle.run.specs.Steps.{machineOutput, lastModel};
 ghost use Rattle.machine.specs.Machine.{unstarted};
 ghost use Rattle.model.specs.View.{modelOf};
 
+// What suffices for the output of every run, so that none is refused for it: four bytes for each of 8,192 events and two
+// for each of 32 bodies.
+pub const OUTPUT_MAX: usize = 32832;
+
+// The least result that says a refusal.
+pub const REFUSED: u64 = 1 << 32;
+
 // How a run ends: the number of events, or a refusal with its place, and the model that the last event handed back.
 pub struct RunEnd {
     pub result: u64,

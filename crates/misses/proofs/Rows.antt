@@ -20,7 +20,7 @@ use Rattle.machine.specs.Machine.{freshModel}
 use Rattle.deadlines.specs.Activation.{chainsTo}
 use Rattle.deadlines.specs.DeadlineCells.{movedCell, rowOf}
 use Rattle.deadlines.specs.Words.{activeAt, planRank, readyBy, endsBy, stepRowBy, freshCellBy}
-use Rattle.misses.specs.Change.{awakeWord, chainedBody, bodyAt, changeBy, cellAfter, cellBy, blankCell, rowBy, freshCellIn, freshRowBy}
+use Rattle.misses.specs.Change.{activeWord, chainedBody, bodyAt, changeBy, cellAfter, cellBy, blankCell, rowBy, freshCellIn, freshRowBy}
 
 -- one cell more
 pub row-more : (f : ℕ → Cell) (a n : ℕ) → rowOf f a (suc n) ≡ rowOf f a n ++ f (a + n) ∷ []
@@ -59,17 +59,17 @@ row-same f g same a zero = refl
 row-same f g same a (suc n) =
     ap (λ (x : Cell). x ∷ rowOf f (suc a) n) (same a) ∙ ap (λ (l : List Cell). g a ∷ l) (row-same f g same (suc a) n)
 
--- who is awake, by one word for three
-awake-has : (m : Model) (r : ℕ) → has (awakeWord m) r ≡ activeAt m r
-awake-has m r =
+-- who is active, by one word for three
+active-has : (m : Model) (r : ℕ) → has (activeWord m) r ≡ activeAt m r
+active-has m r =
     has-union (m .core .request) (union (m .core .started) (m .core .aside)) r
     ∙ ap (λ (t : Bool). has (m .core .request) r || t) (has-union (m .core .started) (m .core .aside) r)
 
 pub fresh-row-by : (p : Plan) (ds : List ℕ) (n : ℕ)
-    → freshRowBy (awakeWord (freshModel p)) (p .rank) ds n ≡ rowOf (freshCellBy p ds) 0 n
+    → freshRowBy (activeWord (freshModel p)) (p .rank) ds n ≡ rowOf (freshCellBy p ds) 0 n
 fresh-row-by p ds n =
-    row-same (λ b. freshCellIn (has (awakeWord (freshModel p)) (getD (p .rank) b 0)) (getD ds b 0)) (freshCellBy p ds)
-    (λ b. ap (λ (t : Bool). freshCellIn t (getD ds b 0)) (awake-has (freshModel p) (planRank p b))) 0 n
+    row-same (λ b. freshCellIn (has (activeWord (freshModel p)) (getD (p .rank) b 0)) (getD ds b 0)) (freshCellBy p ds)
+    (λ b. ap (λ (t : Bool). freshCellIn t (getD ds b 0)) (active-has (freshModel p) (planRank p b))) 0 n
 
 and-false : (t s : Bool) → t && (s && false) ≡ false
 and-false true true = refl
@@ -105,10 +105,10 @@ module _ (p : Plan) (ds : List ℕ) (m : Model) (e : Event) (o : Outcome) where
       → cellBy (changeBy (p .body) m e o) b (planRank p b) D c
       ≡ movedCell D (readyBy p m e o b) (endsBy p m e o b) (isTick e) c
   cell-by b D c body =
-      ap (λ (t : Bool). cellAfter D t (has (awakeWord (o .model)) (planRank p b))
-      (eqb (chainedBody (bodyAt (p .body) (m .core .runner)) e (o .status)) b) (isTick e) c) (awake-has m (planRank p b))
+      ap (λ (t : Bool). cellAfter D t (has (activeWord (o .model)) (planRank p b))
+      (eqb (chainedBody (bodyAt (p .body) (m .core .runner)) e (o .status)) b) (isTick e) c) (active-has m (planRank p b))
       ∙ ap (λ (t : Bool). cellAfter D (activeAt m (planRank p b)) t
-      (eqb (chainedBody (bodyAt (p .body) (m .core .runner)) e (o .status)) b) (isTick e) c) (awake-has (o .model) (planRank p b))
+      (eqb (chainedBody (bodyAt (p .body) (m .core .runner)) e (o .status)) b) (isTick e) c) (active-has (o .model) (planRank p b))
       ∙ ap (λ (t : Bool). cellAfter D (activeAt m (planRank p b)) (activeAt (o .model) (planRank p b)) t (isTick e) c)
       (chained-by b body (bodyAt (p .body) (m .core .runner)) (o .status) e)
 

@@ -27,7 +27,7 @@ use Rattle.run.specs.Run.{callOf, callsOf}
 use Rattle.deadlines.specs.Miss.{Miss}
 use Rattle.deadlines.specs.DeadlineCells.{matchesOf}
 use Rattle.deadlines.specs.Words.{stepRowBy, machineRow, machineMisses}
-use Rattle.misses.specs.Change.{awakeWord, changeBy, rowBy, freshRowBy}
+use Rattle.misses.specs.Change.{activeWord, changeBy, rowBy, freshRowBy}
 use Rattle.misses.specs.Noted.{listRoom, noted}
 use Rattle.misses.specs.Watched.{Watchable}
 use Rattle.misses.proofs.Noted.{noted-append, noted-long}
@@ -99,13 +99,13 @@ pub record Watching (c : Config) (p : Plan) (ds ts d list : List ℕ) (m : Model
 
 module _ {c : Config} {p : Plan} {ds ts d : List ℕ} where
   pub watching-start : Watchable c ts → length d ≡ listRoom → {m : Model} → m ≡ freshModel p → (row : List Cell)
-      → take (c .bodies) row ≡ freshRowBy (awakeWord m) (p .rank) ds (c .bodies)
+      → take (c .bodies) row ≡ freshRowBy (activeWord m) (p .rank) ds (c .bodies)
       → Watching c p ds ts d d m row 0 0 0
   watching-start given size {m} fresh row filled =
       let es = callsFrom ts 0 in
       let all : machineRow c p ds 0 m (take (c .bodies) row) es ≡ machineMisses c p ds es
       = ap (λ (xs : List Cell). machineRow c p ds 0 m xs es) filled
-      ∙ ap (λ (y : Model). machineRow c p ds 0 y (freshRowBy (awakeWord y) (p .rank) ds (c .bodies)) es) fresh
+      ∙ ap (λ (y : Model). machineRow c p ds 0 y (freshRowBy (activeWord y) (p .rank) ds (c .bodies)) es) fresh
       ∙ ap (λ (xs : List Cell). machineRow c p ds 0 (freshModel p) xs es) (fresh-row-by p ds (c .bodies)) in
       record {
         readable = given .readable;

@@ -1,9 +1,9 @@
-// What an event changed for the deadline cells: who was awake before and after it, and who chained to itself.
+// What an event changed for the deadline cells: who was active before and after it, and who chained to itself.
 ghost use mathlib.Core.Path.{_≡_};
 ghost use Rattle.run.specs.Run.{callOf};
 ghost use Rattle.model.specs.View.{view, viewOutcome};
 ghost use Rattle.deadlines.specs.Activation.{chainsTo};
-ghost use Rattle.misses.specs.Change.{awakeIn, chainedBody, changeBy};
+ghost use Rattle.misses.specs.Change.{activeIn, chainedBody, changeBy};
 use cells::NO_RANK;
 use cells::byte_at;
 use event::Event;
@@ -19,7 +19,7 @@ const CHAIN: u8 = 3;
 pub const TICK: u8 = 6;
 
 pub struct Change {
-    // The ranks that were awake before the event, and those that are after it, each as a word.
+    // The ranks that were active before the event, and those that are after it, each as a word.
     pub before: u32,
     pub after: u32,
     // The body that ended and became ready at once, by an accepted Chain to itself, or NO_RANK.
@@ -28,8 +28,8 @@ pub struct Change {
 }
 
 // The ranks that are not suspended: a request of them waits, or they have begun.
-pub fn awake(registers: Registers) -> u32
-    ensures { λ r. ⌜ r ≡ awakeIn (registers .request) (registers .started) (registers .aside) ⌝ }
+pub fn active(registers: Registers) -> u32
+    ensures { λ r. ⌜ r ≡ activeIn (registers .request) (registers .started) (registers .aside) ⌝ }
 {
     union(registers.request, union(registers.started, registers.aside))
 }
@@ -42,8 +42,8 @@ pub fn change_by(model: Model, event: Event, outcome: Outcome, body: [u8; 32]) -
     let left = outcome.model;
     let runner = byte_at(&body, met.runner as usize, NO_RANK);
     Change {
-        before: awake(met),
-        after: awake(left.registers),
+        before: active(met),
+        after: active(left.registers),
         chained: chained_body(runner, event, outcome.status),
         tick: event.code == TICK,
     }

@@ -12,6 +12,8 @@ mod watch;
 
 use config::Config;
 use config_codec::read_config;
+use kernel::OUTPUT_MAX;
+use kernel::REFUSED;
 use kernel::run;
 use list::hand_over;
 use planner::plan_of;
@@ -26,12 +28,6 @@ ghost use Rattle.deadlines.specs.Report.{firstMisses, missBytes};
 ghost use Rattle.deadlines.specs.Words.{machineMisses};
 ghost use Rattle.deadlines.specs.Result.{countOf, missesResult, missesOutput};
 ghost use Rattle.misses.specs.Watched.{Watchable};
-
-// What suffices for the output of every run, so that none is refused for it.
-const OUTPUT_MAX: usize = 32832;
-
-// The least result that says a refusal.
-const REFUSED: u64 = 1 << 32;
 
 // Writes the first 64 misses to the list and gives the count of all, or a refusal with its place; a refused call writes
 // nothing. The run says what is refused of configuration and trace.

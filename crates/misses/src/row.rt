@@ -10,16 +10,16 @@ use crate::change::Change;
 use cell::Cell;
 use word::has;
 
-// The cells at the fresh start: those of the ranks in `awake` count, where they have a deadline.
-pub fn fresh_row(awake: u32, ranks: [u8; 32], deadlines: [u16; 32], bodies: usize) -> [Cell; 32]
+// The cells at the fresh start: those of the ranks in `active` count, where they have a deadline.
+pub fn fresh_row(active: u32, ranks: [u8; 32], deadlines: [u16; 32], bodies: usize) -> [Cell; 32]
     requires { ⌜ bodies ≤ maxBodies ⌝ }
-    ensures { λ r. ⌜ take bodies r ≡ freshRowBy awake ranks deadlines bodies ⌝ }
+    ensures { λ r. ⌜ take bodies r ≡ freshRowBy active ranks deadlines bodies ⌝ }
 {
     let off = Cell::of(0, 0, false, false);
     let mut row = [off; 32];
     let mut b = 0;
     while b < bodies {
-        row[b] = fresh_cell(has(awake, ranks[b] as u32), deadlines[b]);
+        row[b] = fresh_cell(has(active, ranks[b] as u32), deadlines[b]);
         b += 1;
     }
     row
@@ -61,7 +61,7 @@ fn moved_cell(cell: Cell, change: Change, body: u8, rank: u8, deadline: u16) -> 
     )
 }
 
-// The same by whether the body was awake before the event and is after it, whether it chained to itself, and whether
+// The same by whether the body was active before the event and is after it, whether it chained to itself, and whether
 // the event is a Tick.
 fn cell_after(
     cell: Cell,
@@ -82,7 +82,7 @@ fn cell_after(
     if tick { counted_cell(cell) } else { cell }
 }
 
-// Whether an event made a body awake that was not, or, with the two exchanged, suspended; a Chain to itself does both.
+// Whether an event made a body active that was not, or, with the two exchanged, suspended; a Chain to itself does both.
 fn turned(from: bool, to: bool, chained: bool) -> bool
     ensures { λ r. ⌜ r ≡ (to && not from) || chained ⌝ }
 {
@@ -92,10 +92,10 @@ fn turned(from: bool, to: bool, chained: bool) -> bool
     to && !from
 }
 
-fn fresh_cell(awake: bool, deadline: u16) -> Cell
-    ensures { λ r. ⌜ r ≡ freshCellIn awake deadline ⌝ }
+fn fresh_cell(active: bool, deadline: u16) -> Cell
+    ensures { λ r. ⌜ r ≡ freshCellIn active deadline ⌝ }
 {
-    if awake {
+    if active {
         started_cell(deadline)
     } else {
         resting_cell(deadline)

@@ -6,7 +6,7 @@ ghost use Rattle.deadlines.specs.Words.{machineMisses};
 ghost use Rattle.misses.specs.Noted.{listRoom, noted};
 ghost use Rattle.misses.specs.Watched.{Watchable};
 use crate::change::TICK;
-use crate::change::awake;
+use crate::change::active;
 use crate::change::change_by;
 use crate::list::note_matches;
 use crate::row::fresh_row;
@@ -33,7 +33,7 @@ pub fn watch<'a, 'b>(
 {
     let bodies = config.bodies as usize;
     let mut model = Model::fresh(plan.autostart, &plan.priority);
-    let mut row = fresh_row(awake(model.registers), plan.rank, deadlines, bodies);
+    let mut row = fresh_row(active(model.registers), plan.rank, deadlines, bodies);
     let mut ticks: u16 = 0;
     let mut count: usize = 0;
     let mut at: usize = 0;

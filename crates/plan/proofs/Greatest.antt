@@ -43,6 +43,10 @@ module _ (m r n : ℕ) (l : List ℕ) (fits : n ≤ length l) (b : ℕ) where
   unfolding greatestIn
   chosen-all h = rw (drop-of-length-le (take n l) {i = b} (rw (length-take-le n l fits) h)) (max-zero r)
 
+-- one step further
+pub moved : (b k : ℕ) → suc b + k ≡ b + suc k
+moved b k = omega arith
+
 -- zero bits choose nothing: the mask's place may be moved past them
 module _ (n : ℕ) (l : List ℕ) (fits : n ≤ length l) where
   past-end : (m b : ℕ) → n ≤ b → leftIn n l m b ≡ 0
@@ -64,9 +68,6 @@ module _ (n : ℕ) (l : List ℕ) (fits : n ≤ length l) where
       ∙ left-shift q k (suc b)
       ∙ ap (leftIn n l q) (moved b k)
     where
-      moved : (b k : ℕ) → suc b + k ≡ b + suc k
-      moved b k = omega arith
-
       even : (q k : ℕ) → q * 2 ^ suc k ≡ 2 * (q * 2 ^ k)
       even q k = rw (two-pow-succ k) (omega arith)
 

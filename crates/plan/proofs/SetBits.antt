@@ -9,6 +9,7 @@ use lib.Pow.{pow-mono}
 use Rattle.number.proofs.Cases.{by-lt, by-eq}
 use Rattle.plan.specs.Words.{marked}
 use Rattle.plan.proofs.Words.{marked-without}
+use Rattle.plan.proofs.Greatest.{moved}
 
 -- a number is an odd one times the power of its trailing zeros
 pub record Lowest (d m : ℕ) : Type 0 where
@@ -38,9 +39,6 @@ lowest (suc d) m some few =
     zero-digit : (r t : ℕ) → r ≡ 0 → suc t ≡ under r t
     zero-digit zero t e = refl
     zero-digit (suc r) t e = absurd (omega arith)
-
-moved : (b k : ℕ) → suc b + k ≡ b + suc k
-moved b k = omega arith
 
 -- the bits of a mask, one by one
 module _ (at : ℕ → ℕ) (users n : ℕ) where

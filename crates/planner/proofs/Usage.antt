@@ -3,6 +3,7 @@ use Prim.Native.Nat.{ℕ, zero, suc, _+_, _*_, _/_, _%_, _^_, _≤_, _<_, max, m
 use mathlib.Core.Path.{_≡_, refl, sym, ap, _∙_}
 use mathlib.Core.List.{List}
 use native.Mathlib.Omega.{arith}
+use native.Mathlib.Numerals.{add-one}
 use native.Mathlib.Nat.{div-one, div-le-self, mul-div-cancel}
 use lib.Count.{trailingZeros}
 use lib.Pow.{pow-pos}
@@ -85,15 +86,12 @@ module _ (users n : ℕ) (priority ranks : List ℕ) where
             rest = next-rest;
             ceiling =
                 ap (λ (x : ℕ). max (max most (getD priority (b + z) 0)) (leftIn n priority (x / 2) (b + z + 1))) left-here
-                ∙ ap (λ (x : ℕ). max (max most (getD priority (b + z) 0)) (leftIn n priority (q / 2) x)) (one-more (b + z))
+                ∙ ap (λ (x : ℕ). max (max most (getD priority (b + z) 0)) (leftIn n priority (q / 2) x)) (add-one (b + z))
                 ∙ chosen-next q most n priority fits (b + z) l odd
                 ∙ ceiling-here;
             word = word-more;
           }
         where
-          one-more : (x : ℕ) → x + 1 ≡ suc x
-          one-more x = omega arith
-
           word-more : with w (getD ranks (b + z) 0) ≡ upTo (λ i. getD ranks i 0) users n (b + z + 1)
           word-more =
               let now : min (b + z) n ≡ b + z = omega arith in
@@ -107,14 +105,11 @@ module _ (users n : ℕ) (priority ranks : List ℕ) where
             rest = next-rest;
             ceiling =
                 ap (λ (x : ℕ). max most (leftIn n priority (x / 2) (b + z + 1))) left-here
-                ∙ ap (λ (x : ℕ). max most (leftIn n priority (q / 2) x)) (one-more (b + z))
+                ∙ ap (λ (x : ℕ). max most (leftIn n priority (q / 2) x)) (add-one (b + z))
                 ∙ chosen-or-past n priority fits q most (b + z) l
                 ∙ ceiling-here;
             word = word-here ∙ ap (λ (x : ℕ). marked (λ i. getD ranks i 0) (λ i. users / 2 ^ i % 2) 1 x) whole;
           }
         where
-          one-more : (x : ℕ) → x + 1 ≡ suc x
-          one-more x = omega arith
-
           whole : min (b + z) n ≡ min (b + z + 1) n
           whole = omega arith

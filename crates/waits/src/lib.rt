@@ -3,6 +3,8 @@ use config::Config;
 use config::EXTENDED;
 use config::TIME_TRIGGERED;
 use config_codec::read_config;
+use kernel::OUTPUT_MAX;
+use kernel::REFUSED;
 use kernel::run;
 use planner::plan_of;
 ghost use mathlib.Core.Path.{_≡_};
@@ -26,12 +28,6 @@ const NO_SUCH_BODY: u64 = 34 << 32;
 const NOT_WAITING: u64 = 31 << 32;
 
 const RESOURCE_IN_USE: u64 = 32 << 32;
-
-// What suffices for the output of every run, so that none is refused for it.
-const OUTPUT_MAX: usize = 32832;
-
-// The least result that says a refusal.
-const REFUSED: u64 = 1 << 32;
 
 // How many Finish events are accepted after the trace until the body begins, if only such events follow; or a refusal
 // with its place.

@@ -20,8 +20,8 @@ returns c =
     let a = s .args in
     λ i.
     record {
-      before = k .before .before .awake .ensures i;
-      after = k .before .awake2 .ensures i;
+      before = k .before .before .active .ensures i;
+      after = k .before .active2 .ensures i;
       chained =
           (k .chained-body .ensures
           ∙ ap (λ (r : ℕ). chainedBody r (callOf (a .event)) (a .outcome .status))

@@ -12,17 +12,17 @@ use Rattle.misses.proofs.row.fresh_row.Statement.{statement}
 use Rattle.misses.proofs.row.fresh_row.Tie as tie
 
 abbrev Inv-loop : tie.InvT-loop
-Inv-loop awake bodies ranks deadlines row₀ b₀ row b = (b ≤ bodies) × (length row ≡ 32) × (take b row ≡ freshRowBy awake ranks deadlines b)
+Inv-loop active bodies ranks deadlines row₀ b₀ row b = (b ≤ bodies) × (length row ≡ 32) × (take b row ≡ freshRowBy active ranks deadlines b)
 
 abbrev μ-loop : tie.MeasureT-loop
-μ-loop awake bodies ranks deadlines row₀ b₀ row b = bodies - b
+μ-loop active bodies ranks deadlines row₀ b₀ row b = bodies - b
 
 loop-holds : tie.Need-loop-holds Inv-loop μ-loop
 loop-holds c =
     let a = c .before .args in (
       omega arith,
       refl,
-      row-start (λ b. freshCellIn (has (a .awake) (getD (a .t2) b 0)) (getD (a .t3) b 0)) (replicate 32 (c .of .result)),
+      row-start (λ b. freshCellIn (has (a .active) (getD (a .t2) b 0)) (getD (a .t3) b 0)) (replicate 32 (c .of .result)),
     )
 
 loop-again : tie.Need-loop-again Inv-loop μ-loop
@@ -31,7 +31,7 @@ loop-again c =
     let a = c .before .before .before .before .before .args in (
       omega arith,
       simp length-set (l .inv .1),
-      row-step (λ b. freshCellIn (has (a .awake) (getD (a .t2) b 0)) (getD (a .t3) b 0)) (l .b) (l .row)
+      row-step (λ b. freshCellIn (has (a .active) (getD (a .t2) b 0)) (getD (a .t3) b 0)) (l .b) (l .row)
           (c .fresh-cell .result) (omega (arith, l .inv .1)) (l .inv .2)
           (c .fresh-cell .ensures ∙ ap (λ (t : Bool). freshCellIn t (getD (a .t3) (l .b) 0)) (c .before .has .ensures)),
     )

@@ -1,4 +1,4 @@
--- `moved_cell` meets its contract: the words tell whether the body was awake, and is.
+-- `moved_cell` meets its contract: the words tell whether the body was active, and is.
 use mathlib.Core.Path.{_∙_}
 use borrow.Author.Needs.{needs}
 use Rattle.misses.proofs.row.moved_cell.Statement.{statement}

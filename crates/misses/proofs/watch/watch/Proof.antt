@@ -33,7 +33,7 @@ loop-holds c =
     let s = f .before .before .before .before .before in
     watching-start (s .pre .0) (s .pre .1) (ap view (f .fresh .ensures)) (c .fresh-row .result)
     (c .fresh-row .ensures
-    ∙ ap (λ (a : ℕ). freshRowBy a (s .args .t2 .rank) (s .args .deadlines) (s .args .config .bodies)) (w .awake .ensures))
+    ∙ ap (λ (a : ℕ). freshRowBy a (s .args .t2 .rank) (s .args .deadlines) (s .args .config .bodies)) (w .active .ensures))
 
 -- where the loop is entered, of a turn
 abbrev start-of : tie.At-loop Inv-loop μ-loop → tie.Start Inv-loop μ-loop
