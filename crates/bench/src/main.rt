@@ -1,5 +1,6 @@
 // The bench program: runs `config.bin` and `trace.bin` of the current folder, and prints the answers
 // or the refusal. Everything goes to standard output.
+#![tactic(auto)]
 ghost use Rattle.std.specs.Prelude.{◌+◌, ◌≤◌, ◌<◌, length};
 
 use config_codec::read_config;

@@ -4,6 +4,7 @@
 // A row is the first cells of an array of 1,000, of six kinds in turn. A line has the row's length, how many of its
 // cells matched at each of nine ticks, after them the sum of its counters and how many of its cells have a turn to
 // pass, and the same for the cells past its end, which no tick may touch.
+#![tactic(auto)]
 ghost use Rattle.std.specs.Prelude.{◌≡◌, ◌++◌, ◌≤◌, take, drop};
 ghost use Rattle.cell.specs.Rows.{ticked_row};
 

@@ -1,5 +1,6 @@
 // A configuration as a value, and as far as its numbers have come; its kinds and its refusals (error codes). What its
 // bytes are, read and written, is defined in specs/; no code runs here.
+#![tactic(auto)]
 
 // The version is not 1 to 3.
 pub const BAD_VERSION: u8 = 3;

@@ -1,4 +1,5 @@
 // A configuration as bytes: read, written, and refused by document 01's rules.
+#![tactic(auto)]
 mod among;
 mod entry;
 mod limits;

@@ -1,5 +1,6 @@
 // Document 01's configuration rules, case by case: what the reader and the writer answer. `stdout`
 // has the answers that the document asks for.
+#![tactic(auto)]
 use config::Config;
 use config_codec::{read_config, write_config};
 use libc::STDOUT_FILENO;

@@ -1,4 +1,5 @@
 // Draws a trace: from a start value, by twelve weights and four limits, as many events as asked.
+#![tactic(auto)]
 mod events;
 mod generator;
 mod trace;

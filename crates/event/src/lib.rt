@@ -1,5 +1,6 @@
 // The events of a trace as values. What their bytes are, read and written, is defined in specs/; no
 // code runs here.
+#![tactic(auto)]
 
 // The most bytes that a trace has.
 pub const MAX_TRACE: usize = 8192;

@@ -1,6 +1,7 @@
 // Events read and written, and printed: document 01's listing trace, Wait, Set and Clear, and a case
 // for each refusal and place. The file `stdout` is worked out by hand from documents 01 and 02 and
 // not from this program.
+#![tactic(auto)]
 use event::{Event, EventRead};
 use event_codec::{read_event, write_event};
 use libc::STDOUT_FILENO;

@@ -5,6 +5,7 @@
 // event changed, by the words before and after it, row.rt the cells, list.rt the list of the first 64 misses. Their
 // contracts cite the run on the machine with a row of cells (deadlines, `machine_misses`), that of `osek_misses` the
 // definition over the list of events alone (`misses`): deadlines' law `played_misses` says that they are the same.
+#![tactic(auto)]
 mod change;
 mod list;
 mod row;

@@ -3,6 +3,7 @@
 // them back.
 //
 // A body stands in the model by its rank among the priorities, so that a greater rank is a greater priority.
+#![tactic(auto)]
 ghost use Rattle.std.specs.Prelude.{◌≡◌};
 ghost use Rattle.machine.specs.Model.{refused_with};
 ghost use Rattle.model.specs.View.{Arrays, view_with, view_step};

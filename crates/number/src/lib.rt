@@ -1,5 +1,6 @@
 // The numbers of the format: what a reading and a writing of one give, and its refusals (error codes).
 // What their bytes are is defined in specs/; no code runs here.
+#![tactic(auto)]
 
 // The input ends before the number does.
 pub const CUT: u8 = 1;

@@ -1,4 +1,5 @@
 // OIL texts read into configurations: the tokens of a text, what each may be, the walks over them, the whole.
+#![tactic(auto)]
 mod automaton;
 mod borne;
 mod bytes;

@@ -1,5 +1,6 @@
 // The grammar of OIL texts and the reading of them, as definitions and theorems, in specs/ and proofs/. No code runs
 // here: these are the values that the code of `oil` and the definitions share.
+#![tactic(auto)]
 
 use config::Config;
 

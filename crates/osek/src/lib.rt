@@ -1,6 +1,7 @@
 // The library that C links, as include/osek.h declares it: each function is that of the crate that proves it, with
 // the same contract. A crate of its own, so that an archive is built from the proved crates below it and none of them
 // is proved again. `osek_wait` and `osek_misses` are in archives of their own, those of crates waits and misses.
+#![tactic(auto)]
 ghost use Rattle.std.specs.Prelude.{◌≡◌, length};
 ghost use Rattle.run.specs.Run.{run_result, run_output};
 ghost use Rattle.run.specs.Steps.{machine_output};
