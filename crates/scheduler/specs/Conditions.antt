@@ -88,7 +88,7 @@ pub record Conditions (c : Config) (s : State) : Type 0 where
   pub two_finish : Decided (step c s Finish).seen.status ((2 if NobodyRuns c s) ∷ (6 if Holding c s) ∷ [])
   -- "for Chain also when an ISR runs"; "Chain to the caller itself is allowed"
   pub three_chain : (t : ℕ) → Decided (step c s (Chain t)).seen.status
-      ((2 if NobodyCalls c s ⊎ Isr c (caller c s)) ∷ (3 if ¬ OsekTask c t) ∷ (6 if Holding c s)
+      ((2 if (NobodyCalls c s ⊎ Isr c (caller c s))) ∷ (3 if ¬ OsekTask c t) ∷ (6 if Holding c s)
       ∷ (4 if ((body_of s t).phase ≢ suspended) × (t ≢ caller c s)) ∷ [])
   pub four_get : (r : ℕ) → Decided (step c s (Get r)).seen.status
       ((2 if NobodyCalls c s) ∷ (3 if c.resources ≤ r) ∷ (33 if ¬ User c r (caller c s)) ∷ (1 if Held s r) ∷ [])
