@@ -12,9 +12,7 @@ use Rattle.number.specs.Number.{number_bytes}
 use Rattle.number.specs.Output.{unwritten, writing, written}
 use Rattle.number.proofs.Theorems.{length_number_bytes, length_written, writing_fits, writing_no_room, written_no_room}
 use Rattle.event_codec.proofs.Parts.{part_fits, written_parts}
-use borrow.Author.Rules.{rules}
-use Rattle.event_codec.proofs.write_triple.Statement.{statement}
-use Rattle.event_codec.proofs.write_triple.Tie as tie
+use Rattle.event_codec.proofs.write_triple.Goals as goal
 
 -- both answers, where the two numbers are n and m bytes long
 module _ (code first second n m : ℕ) (d : List ℕ) (first-long : n ≡ length (number_bytes first))
@@ -42,40 +40,29 @@ module _ (code first second n m : ℕ) (d : List ℕ) (first-long : n ≡ length
       same : 1 + n + length (number_bytes second) ≤ length half
       same = omega (arith, ap length e ∙ length_written (code ∷ number_bytes first) d)
 
-add_at : tie.Need-overflow-add-at
-add_at c = let s = c.before.before in
-    omega (arith, c.number-length.ensures, length_number_bytes s.args.first)
+pub overflow_add-at : goal.overflow_add-at
+overflow_add-at c = omega (arith, c.number_length-at.ensures, length_number_bytes c.args.first)
 
-add-end : tie.Need-overflow-add-end
-add-end c = let s = c.before.before.before in
-    omega (
-      arith,
-      c.before.number-length.ensures,
-      length_number_bytes s.args.first,
-      c.number-length2.ensures,
-      length_number_bytes s.args.second,
-    )
+pub overflow_add-end : goal.overflow_add-end
+overflow_add-end c = omega (
+  arith,
+  c.number_length-at.ensures,
+  length_number_bytes c.args.first,
+  c.number_length.ensures,
+  length_number_bytes c.args.second,
+)
 
-returns : tie.Need-returns
-returns c = let s = c.before.before.before.before in let a = s.args in
-    let n = c.before.before.number-length in let m = c.before.number-length2 in
-    no_room_lem a.code a.first a.second n.result m.result a.out.now n.ensures m.ensures
-    (omega arith)
+pub returns-then-out-end : goal.returns-then-out-end
+returns-then-out-end c = let a = c.args in
+    let n = c.number_length-at in let m = c.number_length in
+    let both = no_room_lem a.code a.first a.second n.result m.result a.out.now n.ensures m.ensures
+    (omega arith) in record { result = both.0; output = both.1 }
 
-returns-2 : tie.Need-returns-2
-returns-2 c =
-    let s = c.before.before.before.before.before.before.before.before.before.before.before.before in
-    let a = s.args in
-    let n = c.before.before.before.before.before.before.before.before.before.before.number-length in
-    let m = c.before.before.before.before.before.before.before.before.before.number-length2 in
-    let p = c.before.before.before.before.before.before.write-pair in
-    let w = c.before.before.write-number in
-    fits a.code a.first a.second n.result m.result a.out.now n.ensures m.ensures
-    (omega arith) p.new.1.1.0 w.result w.new.1.0 p.ensures.1 w.ensures.0 w.ensures.1
-
-pub write_triple_spec : {M : Type 1} → statement M
-write_triple_spec =
-    tie.close
-    (tie.spec
-    (λ c κs. search rules) add_at (λ c κs. search rules) add-end returns (λ c κs. search rules) (λ c. search rules)
-    (λ c. search rules) (λ c. search rules) (λ c κs. search rules) (λ c. search rules) returns-2)
+pub returns : goal.returns
+returns c = let a = c.args in
+    let n = c.number_length-at in
+    let m = c.number_length in
+    let p = c.write_pair in
+    let w = c.write_number-w in
+    let both = fits a.code a.first a.second n.result m.result a.out.now n.ensures m.ensures
+    (omega arith) p.new.out w.result w.new.out p.ensures.output w.ensures.result w.ensures.output in record { result = both.0; output = both.1 }

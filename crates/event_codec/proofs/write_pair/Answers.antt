@@ -11,9 +11,7 @@ use Rattle.number.specs.Number.{number_bytes}
 use Rattle.number.specs.Output.{unwritten, writing, written}
 use Rattle.number.proofs.Theorems.{length_number_bytes, length_written, writing_fits, writing_no_room, written_no_room}
 use Rattle.event_codec.proofs.Parts.{part_fits, written_first}
-use borrow.Author.Rules.{rules}
-use Rattle.event_codec.proofs.write_pair.Statement.{statement}
-use Rattle.event_codec.proofs.write_pair.Tie as tie
+use Rattle.event_codec.proofs.write_pair.Goals as goal
 
 -- both answers, where the number is n bytes long
 module _ (code first n : ℕ) (d : List ℕ) (long : n ≡ length (number_bytes first)) where
@@ -36,34 +34,26 @@ module _ (code first n : ℕ) (d : List ℕ) (long : n ≡ length (number_bytes 
     written_first code (number_bytes first) d ys (omega arith) f,
   )
 
-add-n : tie.Need-overflow-add-n
-add-n c = let s = c.before.before in
-    omega (arith, c.number-length.ensures, length_number_bytes s.args.first)
+pub overflow_add-n : goal.overflow_add-n
+overflow_add-n c = omega (arith, c.number_length-n.ensures, length_number_bytes c.args.first)
 
-returns : tie.Need-returns
-returns c = let a = c.before.before.before.args in let n = c.before.number-length in
-    no_room_lem a.code a.first n.result a.out.now n.ensures (omega arith)
+pub returns-then-out-n : goal.returns-then-out-n
+returns-then-out-n c = let a = c.args in let n = c.number_length-n in
+    let both = no_room_lem a.code a.first n.result a.out.now n.ensures (omega arith) in record { result = both.0; output = both.1 }
 
-sub-write-number : tie.Need-overflow-sub-write-number
-sub-write-number c = simp length-set (omega (arith, c.before.number-length.ensures))
+pub slice_bounds-write_number-count : goal.slice_bounds-write_number-count
+slice_bounds-write_number-count c = simp length-set (omega (arith, c.number_length-n.ensures))
 
-part-write-number-start : tie.Need-slice-bounds-write-number-start
-part-write-number-start c = simp length-set (omega (arith, c.before.number-length.ensures))
+pub slice_bounds-write_number-start : goal.slice_bounds-write_number-start
+slice_bounds-write_number-start c = simp length-set (omega (arith, c.number_length-n.ensures))
 
-returns-2 : tie.Need-returns-2
-returns-2 c = let a = c.before.before.before.before.before.before.before.args in
-    let n = c.before.before.before.before.before.number-length in
-    let w = c.before.before.write-number in
-    fits a.code a.first n.result a.out.now n.ensures (omega arith) w.result w.new.1.0
-    w.ensures.0 w.ensures.1
+pub returns : goal.returns
+returns c = let a = c.args in
+    let n = c.number_length-n in
+    let w = c.write_number-w in
+    let both = fits a.code a.first n.result a.out.now n.ensures (omega arith) w.result w.new.out
+    w.ensures.result w.ensures.output in record { result = both.0; output = both.1 }
 
-same_length : tie.Need-same-length
-same_length c = let a = c.before.before.before.before.before.before.before.args in
-    ap length (returns-2 c).1 ∙ length_written (a.code ∷ number_bytes a.first) a.out.now
-
-pub write_pair_spec : {M : Type 1} → statement M
-write_pair_spec =
-    tie.close
-    (tie.spec
-    (λ c κs. search rules) add-n returns (λ c. search rules) sub-write-number part-write-number-start
-    (λ c. search rules) (λ c κs. search rules) same_length returns-2)
+pub shape_of-out : goal.shape_of-out
+shape_of-out c = let a = c.args in
+    ap length (returns c).output ∙ length_written (a.code ∷ number_bytes a.first) a.out.now
