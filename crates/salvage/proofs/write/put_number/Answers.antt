@@ -10,9 +10,7 @@ use Rattle.number.specs.Number.{number_bytes}
 use Rattle.number.specs.Output.{writing, written, laid}
 use Rattle.number.proofs.Theorems.{writing_fits}
 use Rattle.number.proofs.Laying.{laid_part}
-use borrow.Author.Rules.{rules}
-use Rattle.salvage.proofs.write.put_number.Statement.{statement}
-use Rattle.salvage.proofs.write.put_number.Tie as tie
+use Rattle.salvage.proofs.write.put_number.Goals as goal
 
 -- the writer's answer and what it leaves, where d is lent from the place on
 module _ (v at : ℕ) (d : List ℕ) (room : at + length (number_bytes v) ≤ length d) where
@@ -27,31 +25,18 @@ module _ (v at : ℕ) (d : List ℕ) (room : at + length (number_bytes v) ≤ le
   left : (ys : List ℕ) → ys ≡ written (number_bytes v) lent → put_mid at (length d - at) d ys ≡ laid at (number_bytes v) d
   left ys e = rw e (laid_part at (number_bytes v) d room)
 
-add-result : tie.Need-overflow-add-result
-add-result c =
-    let w = c.before.before.before.write-number in
-    let s = c.before.before.before.before.before.before in
+pub overflow_add-result : goal.overflow_add-result
+overflow_add-result c = let w = c.write_number-w in
     omega (
       arith,
-      s.requires,
-      answer s.args.value s.args.at s.args.list.now s.requires w.result
-          w.ensures.0,
+      c.requires,
+      answer c.args.value c.args.at c.args.list.now c.requires w.result
+          w.ensures.result,
     )
 
-returns : tie.Need-returns
-returns c =
-    let w = c.before.before.before.write-number in
-    let s = c.before.before.before.before.before.before in
-    let a = s.args in (
-      ap (λ (n : ℕ). a.at + n) (answer a.value a.at a.list.now s.requires w.result w.ensures.0),
-      left a.value a.at a.list.now s.requires w.new.1.0 w.ensures.1,
-    )
-
-pub put_number_spec : {M : Type 1} → statement M
-put_number_spec =
-    tie.close
-    (tie.spec
-    (λ c. search rules) (λ c. search rules) (λ c. search rules) (λ c κs. search rules)
-    add-result
-    (λ c. search rules)
-    returns)
+pub returns : goal.returns
+returns c = let w = c.write_number-w in
+    let a = c.args in record {
+      result = ap (λ (n : ℕ). a.at + n) (answer a.value a.at a.list.now c.requires w.result w.ensures.result);
+      output = left a.value a.at a.list.now c.requires w.new.out w.ensures.output;
+    }

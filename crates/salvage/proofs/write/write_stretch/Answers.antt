@@ -11,9 +11,7 @@ use Rattle.number.proofs.Laying.{length_laid, laid_laid}
 use Rattle.recording.specs.Stretch.{closed, stretch_bytes}
 use Rattle.salvage.proofs.Step.{closed_none, closed_some}
 use Rattle.salvage.proofs.Progress.{laid_nothing}
-use borrow.Author.Rules.{rules}
-use Rattle.salvage.proofs.write.write_stretch.Statement.{statement}
-use Rattle.salvage.proofs.write.write_stretch.Tie as tie
+use Rattle.salvage.proofs.write.write_stretch.Goals as goal
 
 -- nothing is written of a stretch without bytes
 nothing : (from n at : ℕ) (d : List ℕ) → n ≡ 0 → (at ≡ at + length (stretch_bytes (closed from n [])))
@@ -40,36 +38,22 @@ module _ (from n at : ℕ) (d : List ℕ) (some : n ≡ 0 → ⊥)
               ∙ rw (place, first) (laid_laid at (number_bytes from) (number_bytes n) d fits),
         )
 
-returns : tie.Need-returns
-returns c = let a = c.before.before.args in nothing a.offset a.size a.at a.list.now c.if1.true
+pub returns-then-size-eq0 : goal.returns-then-size-eq0
+returns-then-size-eq0 c = let a = c.args in let all = nothing a.offset a.size a.at a.list.now c.if-size-eq0.true in record { result = all.0; output = all.1 }
 
-put-number-requires : tie.Need-put-number-requires
-put-number-requires c κs = let s = c.before.before.before in let a = s.args in
-    let f = fits a.offset a.size a.at a.list.now c.before.if1.false s.requires.1 in omega arith
+pub put_number-next-requires : goal.put_number-next-requires
+put_number-next-requires c = let a = c.args in
+    let f = fits a.offset a.size a.at a.list.now c.if-size-eq0.false c.requires.1 in omega arith
 
-put-number-requires-2 : tie.Need-put-number-requires-2
-put-number-requires-2 c κs = let w = c.before.before.before.put-number in
-    let e = c.before.before.before.before.before in
-    let s = e.before.before in let a = s.args in
-    room-behind a.offset a.size a.at a.list.now e.if1.false s.requires.1 w.result w.new.1.1.0
-    w.ensures.0 w.ensures.1
+pub put_number-requires : goal.put_number-requires
+put_number-requires c = let w = c.put_number-next in
+    let a = c.args in
+    room-behind a.offset a.size a.at a.list.now c.if-size-eq0.false c.requires.1 w.result w.new.list
+    w.ensures.result w.ensures.output
 
-returns-2 : tie.Need-returns-2
-returns-2 c = let w₂ = c.before.before.put-number2 in
-    let w = c.before.before.before.before.before.before.put-number in
-    let e = c.before.before.before.before.before.before.before.before in
-    let s = e.before.before in let a = s.args in
-    both a.offset a.size a.at a.list.now e.if1.false s.requires.1 w.result w.new.1.1.0
-    w.ensures.0 w.ensures.1 w₂.result w₂.new.1.1.0 w₂.ensures.0 w₂.ensures.1
-
-pub write_stretch_spec : {M : Type 1} → statement M
-write_stretch_spec =
-    tie.close
-    (tie.spec
-    returns
-    (λ c. search rules)
-    put-number-requires
-    (λ c. search rules)
-    put-number-requires-2
-    (λ c. search rules)
-    returns-2)
+pub returns : goal.returns
+returns c = let w₂ = c.put_number in
+    let w = c.put_number-next in
+    let a = c.args in
+    let all = both a.offset a.size a.at a.list.now c.if-size-eq0.false c.requires.1 w.result w.new.list
+    w.ensures.result w.ensures.output w₂.result w₂.new.list w₂.ensures.result w₂.ensures.output in record { result = all.0; output = all.1 }
