@@ -33,10 +33,10 @@ loop-e-preserved c = let a = c.args in let l = c.loop-e in
 
 pub returns : goal.returns
 returns c = let a = c.args in let l = c.loop-e in record {
-      value = sym (some_end (λ i. long (a.delay + get_or a.offset.now i 0)) _ l.e l.some c.loop-e-test.false)
+  value = sym (some_end (λ i. long (a.delay + get_or a.offset.now i 0)) _ l.e l.some c.loop-e-test.false)
       ∙ l.invariant.1;
-      counter_after = sym (spread_end (λ i. (start_cell a.period (a.delay + get_or a.offset.now i 0)).counter) _ l.e
-        l.counter c.loop-e-test.false) ∙ l.invariant.2;
-      on_after = sym (spread_end (λ i. switch_for true (long (a.delay + get_or a.offset.now i 0))) _ l.e l.on
-        c.loop-e-test.false) ∙ l.invariant.3;
-    }
+  counter_after = sym (spread_end (λ i. (start_cell a.period (a.delay + get_or a.offset.now i 0)).counter) _ l.e
+      l.counter c.loop-e-test.false) ∙ l.invariant.2;
+  on_after = sym (spread_end (λ i. switch_for true (long (a.delay + get_or a.offset.now i 0))) _ l.e l.on
+      c.loop-e-test.false) ∙ l.invariant.3;
+}

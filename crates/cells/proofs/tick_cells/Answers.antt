@@ -35,5 +35,5 @@ returns c = let a = c.args in let l = c.loop-e in
       value = ended.0;
       counter_after = ended.1;
       on_after = sym (switches_end max_entries l.e a.compare.now l.counter l.on a.turning c.loop-e-test.false)
-            ∙ l.invariant.1;
+          ∙ l.invariant.1;
     }

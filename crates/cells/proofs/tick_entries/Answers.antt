@@ -11,16 +11,16 @@ take_matches-request-requires c = let a = c.args in
 
 pub returns-then-turning : goal.returns-then-turning
 returns-then-turning c = record {
-      losses_after = c.take_matches-request.ensures ∙ rw c.tick_cells-matched.ensures.value;
-      counter_after = c.tick_cells-matched.ensures.counter_after;
-      on_after = c.tick_cells-matched.ensures.on_after;
-      turning_value = rw c.if-turning.true c.some_turn-turning.ensures;
-    }
+  losses_after = c.take_matches-request.ensures ∙ rw c.tick_cells-matched.ensures.value;
+  counter_after = c.tick_cells-matched.ensures.counter_after;
+  on_after = c.tick_cells-matched.ensures.on_after;
+  turning_value = rw c.if-turning.true c.some_turn-turning.ensures;
+}
 
 pub returns-else-turning : goal.returns-else-turning
 returns-else-turning c = record {
-      losses_after = c.take_matches-request.ensures ∙ rw c.tick_cells-matched.ensures.value;
-      counter_after = c.tick_cells-matched.ensures.counter_after;
-      on_after = c.tick_cells-matched.ensures.on_after;
-      turning_value = rw c.if-turning.false;
-    }
+  losses_after = c.take_matches-request.ensures ∙ rw c.tick_cells-matched.ensures.value;
+  counter_after = c.tick_cells-matched.ensures.counter_after;
+  on_after = c.tick_cells-matched.ensures.on_after;
+  turning_value = rw c.if-turning.false;
+}
