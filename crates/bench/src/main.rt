@@ -1,6 +1,7 @@
 // The bench program: runs `config.bin` and `trace.bin` of the current folder, and prints the answers
 // or the refusal. Everything goes to standard output.
 #![tactic(auto)]
+
 ghost use Rattle.std.specs.Prelude.{◌+◌, ◌≤◌, ◌<◌, length};
 
 use config_codec::read_config;
@@ -26,7 +27,7 @@ const MAX_EVENTS: usize = MAX_TRACE;
 const IDLE: u64 = 255;
 
 // Whether a file could be read, and how many of its bytes are in the buffer.
-#[derive(Drop)]
+#[derive(Clone, Copy)]
 struct Loaded {
     ok: bool,
     len: usize,

@@ -5,6 +5,7 @@
 // cells matched at each of nine ticks, after them the sum of its counters and how many of its cells have a turn to
 // pass, and the same for the cells past its end, which no tick may touch.
 #![tactic(auto)]
+
 ghost use Rattle.std.specs.Prelude.{◌≡◌, ◌++◌, ◌≤◌, take, drop};
 ghost use Rattle.cell.specs.Rows.{ticked_row};
 

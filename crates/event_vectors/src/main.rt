@@ -2,6 +2,7 @@
 // for each refusal and place. The file `stdout` is worked out by hand from documents 01 and 02 and
 // not from this program.
 #![tactic(auto)]
+
 use event::{Event, EventRead};
 use event_codec::{read_event, write_event};
 use std::io;
@@ -23,7 +24,12 @@ fn main(rt: HostRuntime) -> io::Result<()> {
 
 fn read_accepted(rt: &impl Print) -> io::Result<()> {
     read(rt, "two-byte argument", b"\x01\xac\x02", 0)?;
-    read(rt, "largest argument", b"\x08\xff\xff\xff\xff\x0f\x80\x01", 0)?;
+    read(
+        rt,
+        "largest argument",
+        b"\x08\xff\xff\xff\xff\x0f\x80\x01",
+        0,
+    )?;
     read(rt, "from the middle", b"\x06\x05\x03\x06", 1)
 }
 
@@ -36,7 +42,12 @@ fn read_cut(rt: &impl Print) -> io::Result<()> {
     read(rt, "argument cut", b"\x01\x80", 0)?;
     read(rt, "no second argument", b"\x08\x05", 0)?;
     read(rt, "Set without mask", b"\x0b\x05", 0)?;
-    read(rt, "second argument cut", b"\x08\x85\x01\xff\xff\xff\xff", 0)
+    read(
+        rt,
+        "second argument cut",
+        b"\x08\x85\x01\xff\xff\xff\xff",
+        0,
+    )
 }
 
 fn read_malformed(rt: &impl Print) -> io::Result<()> {
@@ -69,7 +80,14 @@ fn write_accepted(rt: &impl Print) -> io::Result<()> {
     let mut seven = [0xaau8; 7];
     write(rt, "Set, exact room", 11, 2, 4294967295, &mut seven)?;
     let mut eight = [0xaau8; 8];
-    write(rt, "two arguments, exact room", 8, 4294967295, 128, &mut eight)
+    write(
+        rt,
+        "two arguments, exact room",
+        8,
+        4294967295,
+        128,
+        &mut eight,
+    )
 }
 
 fn write_refused(rt: &impl Print) -> io::Result<()> {
