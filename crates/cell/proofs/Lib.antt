@@ -1,5 +1,5 @@
--- The laws of the cell. `Theorems` states them. `Tick` to `Rows` prove them, and the walk of `tick_row` goes by
--- `Progress` and `Lent`.
+-- The laws of the cell. `Theorems` states them, `Tick` to `Rows` prove them, and the loop of `tick_row` goes by
+-- `Progress`.
 pub mod Theorems
 pub mod Tick
 pub mod Order
@@ -10,4 +10,3 @@ pub mod Match
 pub mod OnTime
 pub mod Rows
 pub mod Progress
-pub mod Lent

@@ -10,7 +10,7 @@ ghost use Rattle.cell.specs.Cell.{cell_of, unmarked, start_counter, long, start_
 
 pub mod row;
 
-#[derive(Drop)]
+#[derive(Clone, Copy)]
 pub struct Cell {
     // The counter register: that of the reset timer LTC.
     pub counter: u16,

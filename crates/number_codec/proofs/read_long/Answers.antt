@@ -9,23 +9,18 @@ use mir.Syntax.{w64}
 use Rattle.number.specs.declared.NumberRead.{NumberRead}
 use Rattle.number.specs.Number.{shifted, groups, leading, read_number}
 use Rattle.number.proofs.Size.{groups_sized}
-use borrow.Author.Rules.{rules}
-use Rattle.number_codec.proofs.read_long.Statement.{statement}
-use Rattle.number_codec.proofs.read_long.Tie as tie
+use Rattle.number_codec.proofs.read_long.Goals as goal
 
 -- past the end nothing is read, and elsewhere no further than the end
 place-fits : (l : List ℕ) (at : ℕ) → length l < 2 ^ 63 → at < 2 ^ 64 → (r : NumberRead)
     → r ≡ groups leading (drop at l) → Fits w64 (at + r.place)
 place-fits l at short small r e = rw e (let s = groups_sized leading (drop at l) in omega (arith, length-drop at l))
 
-add_r : tie.Need-overflow-add-r
-add_r c = let a = c.before.before.before.args in
-    place-fits a.bytes.now a.at (omega arith) (omega arith) c.before.read-groups.result
-    c.before.read-groups.ensures
+pub overflow_add-r : goal.overflow_add-r
+overflow_add-r c = let a = c.args in
+    place-fits a.bytes.now a.at (omega arith) (omega arith) c.read_groups-r.result
+    c.read_groups-r.ensures
 
-returns : tie.Need-returns
+pub returns : goal.returns
 unfolding read_number
-returns c = ap (shifted c.before.before.before.args.at) c.before.read-groups.ensures
-
-pub read_long_spec : {M : Type 1} → statement M
-read_long_spec = tie.close (tie.spec (λ c κs. search rules) add_r returns)
+returns c = ap (shifted c.args.at) c.read_groups-r.ensures
