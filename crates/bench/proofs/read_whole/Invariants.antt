@@ -3,7 +3,7 @@ use Rattle.std.proofs.Common.{◌-◌, ◌≤◌, length}
 use Rattle.bench.proofs.read_whole.Given as goal
 
 abbrev pub invariant-loop-len : goal.invariant-loop-len
-invariant-loop-len l = l.len ≤ length l.buffer
+invariant-loop-len g l = l.len ≤ length l.buffer
 
 abbrev pub decreases-loop-len : goal.decreases-loop-len
-decreases-loop-len l = length l.initial.buffer - l.len
+decreases-loop-len g l = length l.initial.buffer - l.len
