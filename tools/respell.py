@@ -124,9 +124,13 @@ def respell_line(line, table, quiet, mark):
     return turned(line[:at], table, quiet) + turned_comment(line[at:].replace(mark, "--", 1), table).replace("--", mark, 1)
 
 
-def respell_rt(line, table):
-    parts = re.split(r'("(?:[^"\\]|\\.)*")', line)
-    return "".join(p if i % 2 else respell_line(p, table, set(), "//") for i, p in enumerate(parts))
+def outside_strings(line, table, quiet, mark):
+    """A line respelled but for its strings; in a comment marks are quotations, and no strings."""
+    at = line.find(mark)
+    code, comment = (line, "") if at < 0 or line[:at].count('"') % 2 else (line[:at], line[at:])
+    parts = re.split(r'("(?:[^"\\]|\\.)*")', code)
+    code = "".join(p if i % 2 else turned(p, table, quiet) for i, p in enumerate(parts))
+    return code + respell_line(comment, table, quiet, mark)
 
 
 ENTRY = re.compile(r"^--   (?! )(\S.*?) {2,}(\S.*)$")
@@ -161,13 +165,13 @@ def respell(root):
                 text = f.read()
             if ending == ".antt":
                 quiet = brought(code_of(text), own)
-                lines = [respell_line(line, table, quiet, "--") for line in text.split("\n")]
+                lines = [outside_strings(line, table, quiet, "--") for line in text.split("\n")]
                 aligned(lines)
                 new = "\n".join(lines)
             else:
                 # a name of src/ keeps its spelling
                 own_names = {old: new for old, new in table.items() if "-" in old or camel(old)}
-                new = "\n".join(respell_rt(line, own_names) for line in text.split("\n"))
+                new = "\n".join(outside_strings(line, own_names, set(), "//") for line in text.split("\n"))
             if new != text:
                 changed += 1
                 with open(path, "w", encoding="utf-8") as f:

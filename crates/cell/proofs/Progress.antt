@@ -1,7 +1,7 @@
 -- How far a loop is that goes through a list and puts f x in the place of each x: the elements before i are done, the
 -- others are as they were. It starts with none done, each turn does one more, and at the end the list is `map f` of the
 -- whole.
-use Rattle.std.proofs.Common.{◌≡◌, ℕ, zero, suc, ◌+◌, ◌<◌, List, [], ◌∷◌, ◌++◌, map, length, get_or, set, take, drop, refl, ap, ◌∙◌, add-one, arith}
+use Rattle.std.proofs.Common.{◌≡◌, ℕ, zero, suc, ◌+◌, ◌<◌, List, [], ◌∷◌, ◌++◌, map, length, get_or, set, take, drop, refl, ap, add-one, arith}
 
 -- the list when the elements before i are done
 abbrev pub done_below : {X : Type 0} → (X → X) → List X → ℕ → List X

@@ -5,6 +5,7 @@
 // document 002, where two local timer cells (LTC) of a TriCore TC1796 make a timer cell: one in reset timer mode
 // counts, the next one in compare mode compares.
 #![tactic(auto)]
+
 ghost use Rattle.std.specs.Prelude.{◌≡◌, ◌+◌, true, false};
 ghost use Rattle.cell.specs.Cell.{cell_of, unmarked, start_counter, long, start_cell, tick_cell, stop_cell};
 

@@ -30,7 +30,7 @@ ticks_le (e ∷ es) =
     cond_either (λ (n : ℕ). n ≤ length (e ∷ es)) (is_tick e) _ _ (omega arith) (omega arith)
 
 take_member : (n : ℕ) (ms : List Miss) (m : Miss) → Memᴰ m (take n ms) → Memᴰ m ms
-take_member zero ms m h = absurd (Memᴰ.not_nil h)
+take_member zero ms m h = absurd (Memᴰ.not-nil h)
 take_member (suc n) [] m h = h
 take_member (suc n) (x ∷ ms) m h =
     ⊎_elim (λ e. Memᴰ.head e) (λ t. Memᴰ.tail (take_member n ms m t)) (Memᴰ.cases_cons h)

@@ -130,7 +130,7 @@ module _ (c : Config) (ok : Accepted c) (shaped : Shaped c) (es : List Event) (t
       ≡ start_cell (get_or c.period t 0) (d + get_or c.offset e 0)
   unfolding effect_of
   start_cell_lem d =
-      Tables.start_cell (fitted c ok shaped) (Reached.sim c ok shaped es) (Reached.keeps c ok shaped es)
+      Tables.start_cell_lem (fitted c ok shaped) (Reached.sim c ok shaped es) (Reached.keeps c ok shaped es)
       (Reached.long c ok shaped es) t d e t<
 
   pub start_other : (d u : ℕ) → u < c.tables → u ≢ t → first_of c u ≤ e → e < first_of c (suc u)

@@ -38,7 +38,7 @@ abbrev table : List ℕ
 table =
     ascii "TASK Task1 { PRIORITY = 1; AUTOSTART = TRUE; RESOURCE = Res1; RESOURCE = Res2; };\n"
     ++ (ascii "TASK Task3 { PRIORITY = 3; RESOURCE = Res1; RESOURCE = Res2; };\n"
-    ++ ascii "TASK Task4 { PRIORITY = 4; };\n_isr ISR2 { PRIORITY = 2; };\n_resource Res1 { };\n_resource Res2 { };\n")
+    ++ ascii "TASK Task4 { PRIORITY = 4; };\nISR ISR2 { PRIORITY = 2; };\nRESOURCE Res1 { };\nRESOURCE Res2 { };\n")
 
 pub table_accepted : told table ≡ 0 ∷ 0 ∷ 0 ∷ []
 unfolding told
@@ -170,7 +170,7 @@ unfolding told
 attribute_in_a_resource = refl
 
 -- 63 at an earlier object's name, of whatever kind
-pub name_twice : told (ascii "TASK a { PRIORITY = 1; };\r\n_resource a { };") ≡ 63 ∷ 2 ∷ 10 ∷ []
+pub name_twice : told (ascii "TASK a { PRIORITY = 1; };\r\nRESOURCE a { };") ≡ 63 ∷ 2 ∷ 10 ∷ []
 unfolding told
 name_twice = refl
 
@@ -281,7 +281,7 @@ every_space = refl
 
 -- names of letters, digits and _, which differ in case alone
 pub names_accepted : told
-    (ascii "TASK _Zz{PRIORITY=1;};TASK z_z_9{PRIORITY=2;};TASK A{PRIORITY=3;};TASK a{PRIORITY=4;};")
+    (ascii "TASK _Zz{PRIORITY=1;};TASK zZ_9{PRIORITY=2;};TASK A{PRIORITY=3;};TASK a{PRIORITY=4;};")
     ≡ 0 ∷ 0 ∷ 0 ∷ []
 unfolding told
 names_accepted = refl
@@ -291,7 +291,7 @@ pub long_names : (told
     (ascii "TASK " ++ (replicate 39 120 ++ ascii "a{PRIORITY=1;};TASK " ++ (replicate 39 120 ++ ascii "b{PRIORITY=2;};")))
     ≡ 0 ∷ 0 ∷ 0 ∷ [])
     × (told
-    (ascii "TASK " ++ (replicate 39 120 ++ ascii "a{PRIORITY=1;};\n_task " ++ (replicate 39 120 ++ ascii "a{PRIORITY=2;};")))
+    (ascii "TASK " ++ (replicate 39 120 ++ ascii "a{PRIORITY=1;};\nTASK " ++ (replicate 39 120 ++ ascii "a{PRIORITY=2;};")))
     ≡ 63 ∷ 2 ∷ 6 ∷ [])
 unfolding told
 long_names = (refl, refl)
@@ -308,7 +308,7 @@ unfolding told
 comment_of_three = refl
 
 -- no name has a -, a ., a $ or a byte above 127
-pub no_name_byte : (told (ascii "TASK a_b") ≡ 60 ∷ 1 ∷ 7 ∷ []) × (told (ascii "TASK a.b") ≡ 60 ∷ 1 ∷ 7 ∷ [])
+pub no_name_byte : (told (ascii "TASK a-b") ≡ 60 ∷ 1 ∷ 7 ∷ []) × (told (ascii "TASK a.b") ≡ 60 ∷ 1 ∷ 7 ∷ [])
     × (told (ascii "TASK a$b") ≡ 60 ∷ 1 ∷ 7 ∷ []) × (told (ascii "TASK a" ++ 195 ∷ 169 ∷ []) ≡ 60 ∷ 1 ∷ 7 ∷ [])
 unfolding told
 no_name_byte = (refl, refl, refl, refl)

@@ -88,7 +88,7 @@ pub record Conditions (c : Config) (s : State) : Type 0 where
   pub two_finish : Decided (step c s Finish).seen.status ((2 if NobodyRuns c s) ∷ (6 if Holding c s) ∷ [])
   -- "for Chain also when an ISR runs"; "Chain to the caller itself is allowed"
   pub three_chain : (t : ℕ) → Decided (step c s (Chain t)).seen.status
-      ((2 if NobodyCalls c s ⊎ Isr c (caller c s)) ∷ (3 if ¬ OsekTask c t) ∷ (6 if Holding c s)
+      ((2 if (NobodyCalls c s ⊎ Isr c (caller c s))) ∷ (3 if ¬ OsekTask c t) ∷ (6 if Holding c s)
       ∷ (4 if ((body_of s t).phase ≢ suspended) × (t ≢ caller c s)) ∷ [])
   pub four_get : (r : ℕ) → Decided (step c s (Get r)).seen.status
       ((2 if NobodyCalls c s) ∷ (3 if c.resources ≤ r) ∷ (33 if ¬ User c r (caller c s)) ∷ (1 if Held s r) ∷ [])
@@ -98,7 +98,7 @@ pub record Conditions (c : Config) (s : State) : Type 0 where
   pub seven_line : (i : ℕ) → Decided (step c s (Line i)).seen.status
       ((3 if ¬ Isr c i) ∷ (4 if Requested (body_of s i)) ∷ [])
   pub eight_start : (t d : ℕ) → Decided (step c s (Start t d)).seen.status
-      ((2 if NobodyCalls c s) ∷ (3 if c.tables ≤ t) ∷ (8 if (d ≡ 0) ⊎ (65535 < d + smallest_offset c t))
+      ((2 if NobodyCalls c s) ∷ (3 if c.tables ≤ t) ∷ (8 if ((d ≡ 0) ⊎ (65535 < d + smallest_offset c t)))
       ∷ (7 if table_of s t ≢ stopped) ∷ [])
   pub nine_stop : (t : ℕ) → Decided (step c s (Stop t)).seen.status
       ((2 if NobodyCalls c s) ∷ (3 if c.tables ≤ t) ∷ (5 if table_of s t ≡ stopped) ∷ [])

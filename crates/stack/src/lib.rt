@@ -4,6 +4,7 @@
 // bottom lies 255: a pop brings it in, and a push onto a full stack drops the byte at the bottom. The laws are in
 // proofs/Theorems.antt.
 #![tactic(auto)]
+
 ghost use Rattle.std.specs.Prelude.{◌≡◌};
 ghost use Rattle.stack.specs.Stack.{push_word, pop_word, first_byte, last_byte, empty_row, top_row, second_row, push_row, pop_row};
 

@@ -1,5 +1,6 @@
 // A 32-bit word as a set of ranks: bit r is set where rank r is in the word.
 #![tactic(auto)]
+
 ghost use Rattle.std.specs.Prelude.{◌≡◌};
 ghost use Rattle.word.specs.Word.{has, with, without, union, winner};
 

@@ -6,7 +6,7 @@ use Prim.Native.Nat.{ℕ, ◌^◌, ◌≤◌, ◌<◌}
 use mathlib.Core.Path.{◌≡◌, refl, sym, ap, subst, ◌∙◌}
 use mathlib.Core.Logic.{◌≢◌}
 use mathlib.Core.Bool.{Bool, true, false, true≢false, cond, not, ◌&&◌, and-false}
-use mathlib.Core.List.{List, [], ◌∷◌}
+use mathlib.Core.List.{List, [], ◌∷◌, ◌++◌}
 use native.Mathlib.Omega.{arith}
 use borrow.Author.Tests.{lt-ltb, le-ltb, ne_eqb}
 use lib.Dec.{eqb}
@@ -268,7 +268,7 @@ module _ {c : Config} {p : Plan} {rk : ℕ → ℕ} (fit : Fitted c p rk) where
     unfolding slots_along slots_for
     slots_same =
         slots_along_alike c rk alike
-        ∙ sym (rw (at_w, free))
+        ∙ ap (λ hs. slots_for c rk w hs ++ slots_along c rk bs' ks) (sym (ap (λ (x : Body). x.held) at_w ∙ free))
 
     tied' : Tied c rk (with_core m k') bs' [] (w ∷ ks)
     unfolding Seats

@@ -176,7 +176,7 @@ module _ (c : Config) (s : State) (free : no_caller (runner c s) ≡ false) (t :
   timed_set w = rw (free, is_task_lem, no_extended)
     where
       both : (ltb t c.bodies ≡ true) × (eqb (get_or c.kind t 0) 3 ≡ true)
-      both = Cases.and-true (ltb t c.bodies) (eqb (get_or c.kind t 0) 3) timed
+      both = Cases.and_true (ltb t c.bodies) (eqb (get_or c.kind t 0) 3) timed
 
       third : get_or c.kind t 0 ≡ 3
       third = eqb-true (get_or c.kind t 0) 3 both.1
