@@ -1,9 +1,9 @@
 # `make help` lists what can be made. Everything beyond the kit, a C compiler, cargo and python3 is built here.
 
-# The crates whose exported functions are the library, each an archive of its own that `lib` joins. A new function needs no
-# archive: three lines in crates/osek export it, and the crate that proves it is not proved again. One that wants the run's
-# last model, or plays events by a loop of its own, gets an archive: a second caller of `run` beside `osek_run` makes the run
-# slower (docs/PERFORMANCE.md), and a second loop twice as slow.
+# The crates whose functions are the library, each exported by a crate NAME_c, an archive of its own that `lib` joins. A new
+# function needs no archive: some lines in crates/osek and crates/osek_c export it, and the crate that proves it is not proved
+# again. One that wants the run's last model, or plays events by a loop of its own, gets an archive: a second caller of `run`
+# beside `osek_run` makes the run slower (docs/PERFORMANCE.md), and a second loop twice as slow.
 EXPORTS = osek waits misses
 
 KIT_BIN = $(or $(RATTLE_HOME),/opt/rattle)/bin
@@ -20,8 +20,8 @@ SONAME := libosek.so.$(firstword $(subst ., ,$(VERSION)))
 
 LIBRARY = build/libosek.a
 SHARED = build/libosek.so
-ARCHIVES = $(EXPORTS:%=target/staticlib/lib%.a)
-SOURCES := KIT crates.txt $(shell find crates -name must-fail -prune -o -type f -print)
+ARCHIVES = $(EXPORTS:%=build/archive/lib%.a)
+SOURCES := KIT crates.txt $(shell find crates \( -name must-fail -o -name out \) -prune -o -type f -print)
 
 .NOTPARALLEL:
 .PHONY: help run test host lib tool unit unit-check install uninstall dist fuzz speed clean need need-cargo
@@ -52,20 +52,24 @@ test:
 
 run: need
 	@scripts/prove program bench
-	@cd crates/bench/data && ../../../target/bin/bench
+	@cd crates/bench/data && ../out/bench
 
 # Proved and built again only where a source is newer.
-target/staticlib/lib%.a: $(SOURCES)
-	@scripts/prove archive $*
+build/archive/lib%.a: $(SOURCES)
+	@scripts/prove archive $*_c
+	@mkdir -p build/archive
+	@cp crates/$*_c/out/lib$*_c.a $@
 
 $(LIBRARY): $(ARCHIVES)
 	@mkdir -p build
 	@scripts/join $@ $^
 
+# Copies in the place of links, since rt ci stops at a link below the folder in which it runs.
 $(SHARED): $(LIBRARY) include/osek.h
+	@rm -f $@ $@.*
 	@$(CC) -shared -Wl,-soname,$(SONAME) -Wl,--whole-archive $(LIBRARY) -Wl,--no-whole-archive -o $@.$(VERSION)
-	@ln -sf libosek.so.$(VERSION) build/$(SONAME)
-	@ln -sf $(SONAME) $@
+	@cp $@.$(VERSION) build/$(SONAME)
+	@cp $@.$(VERSION) $@
 
 build/osek_host: host/osek_host.c include/osek.h $(LIBRARY)
 	@$(CC) $(CFLAGS) -Iinclude $< $(LIBRARY) -o $@
@@ -130,4 +134,4 @@ speed: need-cargo lib
 	@cargo run $(CARGO) --bin speed -- $(if $(WRITE),--write docs/PERFORMANCE.md)
 
 clean:
-	@rm -rf build target tests/target tool/target
+	@rm -rf build crates/*/out tests/target tool/target

@@ -77,7 +77,7 @@ extern "C" {
 #define OSEK_VERSION "1.6.0"
 
 /* Sizes in bytes. Longer inputs are refused; an output of OSEK_OUTPUT_MAX suffices for every run, which is proved as
- * `room-enough` in crates/run/proofs/Theorems.antt. */
+ * `room_enough` in crates/run/proofs/Theorems.antt. */
 #define OSEK_CONFIG_MAX 4096
 #define OSEK_TRACE_MAX 8192
 #define OSEK_OUTPUT_MAX 32832

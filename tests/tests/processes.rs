@@ -1,5 +1,5 @@
 //! The bench program and the C host, run as processes on files. OSEK_BENCH and OSEK_HOST say where they are; otherwise
-//! ../target/bin/bench and ../build/osek_host.
+//! ../crates/bench/out/bench and ../build/osek_host.
 
 use std::ffi::OsStr;
 use std::fs;
@@ -23,7 +23,7 @@ const PROGRAMS: [Program; 2] = [Program::Bench, Program::Host];
 
 fn path(program: Program) -> PathBuf {
     let (variable, usual) = match program {
-        Program::Bench => ("OSEK_BENCH", "../target/bin/bench"),
+        Program::Bench => ("OSEK_BENCH", "../crates/bench/out/bench"),
         Program::Host => ("OSEK_HOST", "../build/osek_host"),
     };
     let path =

@@ -5,11 +5,12 @@
 // cells matched at each of nine ticks, after them the sum of its counters and how many of its cells have a turn to
 // pass, and the same for the cells past its end, which no tick may touch.
 #![tactic(auto)]
+
 ghost use Rattle.std.specs.Prelude.{◌≡◌, ◌++◌, ◌≤◌, take, drop};
 ghost use Rattle.cell.specs.Rows.{ticked_row};
 
 use cell::Cell;
-use libc::STDOUT_FILENO;
+use std::io;
 
 // Lends the first n cells to the row tick.
 fn tick_first(mut row: [Cell; 1000], n: usize) -> [Cell; 1000]
@@ -89,35 +90,33 @@ fn turns(row: [Cell; 1000], from: usize, to: usize) -> u64
     count
 }
 
-fn print(n: u64) {
-    io::print_decimal(STDOUT_FILENO, n);
-    io::write_all(STDOUT_FILENO, b" ");
+fn print(rt: &impl Print, n: u64) -> io::Result<()> {
+    print!(rt; "{n} ")
 }
 
-fn print_last(n: u64) {
-    io::print_decimal(STDOUT_FILENO, n);
-    io::write_all(STDOUT_FILENO, b"\n");
+fn print_last(rt: &impl Print, n: u64) -> io::Result<()> {
+    println!(rt; "{n}")
 }
 
-fn show(n: usize)
+fn show(rt: &impl Print, n: usize) -> io::Result<()>
     requires { n ≤ 1000 }
 {
-    print(n as u64);
+    print(rt, n as u64)?;
     let mut row = cells();
     for _ in 0usize..9 {
         let next = tick_first(row, n);
         row = next;
-        print(matches(row, n));
+        print(rt, matches(row, n))?;
     }
-    print(counters(row, 0, n));
-    print(turns(row, 0, n));
-    print(counters(row, n, 1000));
-    print_last(turns(row, n, 1000));
+    print(rt, counters(row, 0, n))?;
+    print(rt, turns(row, 0, n))?;
+    print(rt, counters(row, n, 1000))?;
+    print_last(rt, turns(row, n, 1000))
 }
 
-fn main() {
-    show(0);
-    show(1);
-    show(64);
-    show(1000);
+fn main(rt: HostRuntime) -> io::Result<()> {
+    show(&rt, 0)?;
+    show(&rt, 1)?;
+    show(&rt, 64)?;
+    show(&rt, 1000)
 }

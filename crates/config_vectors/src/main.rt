@@ -1,222 +1,256 @@
 // Document 01's configuration rules, case by case: what the reader and the writer answer. `stdout`
 // has the answers that the document asks for.
 #![tactic(auto)]
+
 use config::Config;
 use config_codec::{read_config, write_config};
-use libc::STDOUT_FILENO;
+use std::io;
 
 // A refusal and its place.
-fn print(refusal: u8, place: usize) {
-    io::print_decimal(STDOUT_FILENO, refusal as u64);
-    io::write_all(STDOUT_FILENO, b" ");
-    io::print_decimal(STDOUT_FILENO, place as u64);
+fn print(rt: &impl Print, refusal: u8, place: usize) -> io::Result<()> {
+    print!(rt; "{refusal} {place}")
 }
 
-fn end_line() {
-    io::write_all(STDOUT_FILENO, b"\n");
+fn end_line(rt: &impl Print) -> io::Result<()> {
+    println!(rt)
 }
 
-fn title(name: &[u8]) {
-    io::write_all(STDOUT_FILENO, name);
-    end_line();
+fn title(rt: &impl Print, name: &str) -> io::Result<()> {
+    println!(rt; "{name}")
 }
 
 // What the reader answers.
-fn answer(bytes: &[u8]) {
+fn answer(rt: &impl Print, bytes: &[u8]) -> io::Result<()> {
     let r = read_config(bytes);
-    print(r.refusal, r.place);
+    print(rt, r.refusal, r.place)
 }
 
-fn print_byte(b: u8) {
-    io::write_all(STDOUT_FILENO, b" ");
-    io::print_hex(STDOUT_FILENO, b as u64, 2);
+fn print_byte(rt: &impl Print, b: u8) -> io::Result<()> {
+    print!(rt; " {b:02x}")
 }
 
-fn print_bytes(bytes: &[u8]) {
-    let mut i = 0;
-    while i < bytes.len() {
-        print_byte(bytes[i]);
-        i += 1;
+fn print_bytes(rt: &impl Print, bytes: &[u8]) -> io::Result<()> {
+    for b in bytes {
+        print_byte(rt, *b)?;
     }
+    Ok(())
 }
 
 // The reader's answer and what it read.
-fn read(bytes: &[u8]) {
-    answer(bytes);
-    print_bytes(bytes);
-    end_line();
+fn read(rt: &impl Print, bytes: &[u8]) -> io::Result<()> {
+    answer(rt, bytes)?;
+    print_bytes(rt, bytes)?;
+    end_line(rt)
 }
 
 // The listing, and numbers that cannot be read.
-fn numbers() {
-    title(b"numbers");
-    read(b"\x01\x03\x00\x02\x01\x00\x05\x00\x01\x09\x00\x01\x03\x01\x04\x02\x00\x01\x02\x00");
-    read(b"");
-    read(b"\x01");
-    read(b"\x80");
-    read(b"\x80\x00");
-    read(b"\x80\x80\x00");
-    read(b"\x80\x80\x80\x80\x00");
-    read(b"\x80\x80\x80\x80\x80");
-    read(b"\xff\xff\xff\xff\x10");
-    read(b"\x81\x80\x80\x80");
-    read(b"\x01\x01\x00\x85");
-    read(b"\x01\x01\x00\x85\x00");
+fn numbers(rt: &impl Print) -> io::Result<()> {
+    title(rt, "numbers")?;
+    read(
+        rt,
+        b"\x01\x03\x00\x02\x01\x00\x05\x00\x01\x09\x00\x01\x03\x01\x04\x02\x00\x01\x02\x00",
+    )?;
+    read(rt, b"")?;
+    read(rt, b"\x01")?;
+    read(rt, b"\x80")?;
+    read(rt, b"\x80\x00")?;
+    read(rt, b"\x80\x80\x00")?;
+    read(rt, b"\x80\x80\x80\x80\x00")?;
+    read(rt, b"\x80\x80\x80\x80\x80")?;
+    read(rt, b"\xff\xff\xff\xff\x10")?;
+    read(rt, b"\x81\x80\x80\x80")?;
+    read(rt, b"\x01\x01\x00\x85")?;
+    read(rt, b"\x01\x01\x00\x85\x00")
 }
 
 // The version and the bodies.
-fn bodies() {
-    title(b"bodies");
-    read(b"\x00");
-    read(b"\x02");
-    read(b"\x03");
-    read(b"\x04");
-    read(b"\x01\x00");
-    read(b"\x01\x21");
-    read(b"\x01\x01\x03");
-    read(b"\x01\x01\x04");
-    read(b"\x01\x01\x00\x00");
-    read(b"\x01\x01\x00\xc9\x01");
-    read(b"\x01\x01\x00\xc8\x01\x00\x00\x00");
-    read(b"\x01\x02\x00\x05\x00\x00\x05");
-    read(b"\x01\x01\x00\x05\x02");
-    read(b"\x01\x01\x01\x05\x01");
-    read(b"\x01\x01\x01\x05\x00\x00\x00");
-    read(b"\x01\x01\x02\x05\x02");
-    read(b"\x01\x01\x02\x05\x01\x00\x00");
-    read(b"\x01\x01\x03\x05\x01");
-    read(b"\x01\x01\x03\x05\x00\x00\x00");
-    read(b"\x01\x02\x03\x05\x00\x03\x05");
+fn bodies(rt: &impl Print) -> io::Result<()> {
+    title(rt, "bodies")?;
+    read(rt, b"\x00")?;
+    read(rt, b"\x02")?;
+    read(rt, b"\x03")?;
+    read(rt, b"\x04")?;
+    read(rt, b"\x01\x00")?;
+    read(rt, b"\x01\x21")?;
+    read(rt, b"\x01\x01\x03")?;
+    read(rt, b"\x01\x01\x04")?;
+    read(rt, b"\x01\x01\x00\x00")?;
+    read(rt, b"\x01\x01\x00\xc9\x01")?;
+    read(rt, b"\x01\x01\x00\xc8\x01\x00\x00\x00")?;
+    read(rt, b"\x01\x02\x00\x05\x00\x00\x05")?;
+    read(rt, b"\x01\x01\x00\x05\x02")?;
+    read(rt, b"\x01\x01\x01\x05\x01")?;
+    read(rt, b"\x01\x01\x01\x05\x00\x00\x00")?;
+    read(rt, b"\x01\x01\x02\x05\x02")?;
+    read(rt, b"\x01\x01\x02\x05\x01\x00\x00")?;
+    read(rt, b"\x01\x01\x03\x05\x01")?;
+    read(rt, b"\x01\x01\x03\x05\x00\x00\x00")?;
+    read(rt, b"\x01\x02\x03\x05\x00\x03\x05")
 }
 
 // The deadlines of version 3, by kind.
-fn deadlines() {
-    title(b"deadlines");
-    read(b"\x02\x01\x00\x05\x00\x00\x00");
-    read(b"\x03\x01\x00\x05\x00");
-    read(b"\x03\x01\x00\x05\x00\x00\x00\x00");
-    read(b"\x03\x01\x00\x05\x00\x07\x00\x00");
-    read(b"\x03\x01\x00\x05\x00\xff\xff\x03\x00\x00");
-    read(b"\x03\x01\x00\x05\x00\x80\x80\x04");
-    read(b"\x03\x01\x01\x05\x00\x00\x00\x00");
-    read(b"\x03\x01\x01\x05\x00\x01");
-    read(b"\x03\x01\x02\x05\x01\x01\x00\x00");
-    read(b"\x03\x01\x03\x05\x00\x01\x00\x00");
+fn deadlines(rt: &impl Print) -> io::Result<()> {
+    title(rt, "deadlines")?;
+    read(rt, b"\x02\x01\x00\x05\x00\x00\x00")?;
+    read(rt, b"\x03\x01\x00\x05\x00")?;
+    read(rt, b"\x03\x01\x00\x05\x00\x00\x00\x00")?;
+    read(rt, b"\x03\x01\x00\x05\x00\x07\x00\x00")?;
+    read(rt, b"\x03\x01\x00\x05\x00\xff\xff\x03\x00\x00")?;
+    read(rt, b"\x03\x01\x00\x05\x00\x80\x80\x04")?;
+    read(rt, b"\x03\x01\x01\x05\x00\x00\x00\x00")?;
+    read(rt, b"\x03\x01\x01\x05\x00\x01")?;
+    read(rt, b"\x03\x01\x02\x05\x01\x01\x00\x00")?;
+    read(rt, b"\x03\x01\x03\x05\x00\x01\x00\x00")
 }
 
 // The resources.
-fn resources() {
-    title(b"resources");
-    read(b"\x01\x01\x00\x05\x00\x11");
-    read(b"\x01\x01\x00\x05\x00\x01\x00");
-    read(b"\x01\x01\x00\x05\x00\x01\x02");
-    read(b"\x01\x01\x00\x05\x00\x01\x01\x00");
-    read(b"\x01\x02\x00\x05\x00\x03\x06\x00\x01\x01\x00");
-    read(b"\x01\x02\x00\x05\x00\x03\x06\x00\x01\x02\x00");
-    read(b"\x01\x02\x00\x05\x00\x03\x06\x00\x01\x03\x00");
+fn resources(rt: &impl Print) -> io::Result<()> {
+    title(rt, "resources")?;
+    read(rt, b"\x01\x01\x00\x05\x00\x11")?;
+    read(rt, b"\x01\x01\x00\x05\x00\x01\x00")?;
+    read(rt, b"\x01\x01\x00\x05\x00\x01\x02")?;
+    read(rt, b"\x01\x01\x00\x05\x00\x01\x01\x00")?;
+    read(rt, b"\x01\x02\x00\x05\x00\x03\x06\x00\x01\x01\x00")?;
+    read(rt, b"\x01\x02\x00\x05\x00\x03\x06\x00\x01\x02\x00")?;
+    read(rt, b"\x01\x02\x00\x05\x00\x03\x06\x00\x01\x03\x00")?;
     read(
+        rt,
         b"\x01\x20\x00\x01\x00\x00\x02\x00\x00\x03\x00\x00\x04\x00\x00\x05\x00\x00\x06\x00\x00\x07\x00\x00\x08\x00\x00\x09\x00\x00\x0a\x00\x00\x0b\x00\x00\x0c\x00\x00\x0d\x00\x00\x0e\x00\x00\x0f\x00\x00\x10\x00\x00\x11\x00\x00\x12\x00\x00\x13\x00\x00\x14\x00\x00\x15\x00\x00\x16\x00\x00\x17\x00\x00\x18\x00\x00\x19\x00\x00\x1a\x00\x00\x1b\x00\x00\x1c\x00\x00\x1d\x00\x00\x1e\x00\x00\x1f\x00\x00\x20\x00\x01\xff\xff\xff\xff\x0f\x00",
-    );
+    )?;
     read(
+        rt,
         b"\x01\x1f\x00\x01\x00\x00\x02\x00\x00\x03\x00\x00\x04\x00\x00\x05\x00\x00\x06\x00\x00\x07\x00\x00\x08\x00\x00\x09\x00\x00\x0a\x00\x00\x0b\x00\x00\x0c\x00\x00\x0d\x00\x00\x0e\x00\x00\x0f\x00\x00\x10\x00\x00\x11\x00\x00\x12\x00\x00\x13\x00\x00\x14\x00\x00\x15\x00\x00\x16\x00\x00\x17\x00\x00\x18\x00\x00\x19\x00\x00\x1a\x00\x00\x1b\x00\x00\x1c\x00\x00\x1d\x00\x00\x1e\x00\x00\x1f\x00\x01\x80\x80\x80\x80\x08\x00",
-    );
+    )
 }
 
 // The tables and their counts.
-fn tables() {
-    title(b"tables");
-    read(b"\x01\x01\x00\x05\x00\x00\x09");
-    read(b"\x01\x01\x00\x05\x00\x00\x01\x00");
-    read(b"\x01\x01\x00\x05\x00\x00\x01\x80\x80\x04");
-    read(b"\x01\x01\x00\x05\x00\x00\x01\xff\xff\x03\x00");
-    read(b"\x01\x01\x00\x05\x00\x00\x01\x04\x11");
+fn tables(rt: &impl Print) -> io::Result<()> {
+    title(rt, "tables")?;
+    read(rt, b"\x01\x01\x00\x05\x00\x00\x09")?;
+    read(rt, b"\x01\x01\x00\x05\x00\x00\x01\x00")?;
+    read(rt, b"\x01\x01\x00\x05\x00\x00\x01\x80\x80\x04")?;
+    read(rt, b"\x01\x01\x00\x05\x00\x00\x01\xff\xff\x03\x00")?;
+    read(rt, b"\x01\x01\x00\x05\x00\x00\x01\x04\x11")?;
     read(
+        rt,
         b"\x01\x01\x00\x05\x00\x00\x04\x10\x10\x00\x00\x01\x00\x02\x00\x03\x00\x04\x00\x05\x00\x06\x00\x07\x00\x08\x00\x09\x00\x0a\x00\x0b\x00\x0c\x00\x0d\x00\x0e\x00\x0f\x00\x10\x10\x00\x00\x01\x00\x02\x00\x03\x00\x04\x00\x05\x00\x06\x00\x07\x00\x08\x00\x09\x00\x0a\x00\x0b\x00\x0c\x00\x0d\x00\x0e\x00\x0f\x00\x10\x10\x00\x00\x01\x00\x02\x00\x03\x00\x04\x00\x05\x00\x06\x00\x07\x00\x08\x00\x09\x00\x0a\x00\x0b\x00\x0c\x00\x0d\x00\x0e\x00\x0f\x00\x10\x10\x00\x00\x01\x00\x02\x00\x03\x00\x04\x00\x05\x00\x06\x00\x07\x00\x08\x00\x09\x00\x0a\x00\x0b\x00\x0c\x00\x0d\x00\x0e\x00\x0f\x00",
-    );
+    )?;
     read(
+        rt,
         b"\x01\x01\x00\x05\x00\x00\x05\x10\x10\x00\x00\x01\x00\x02\x00\x03\x00\x04\x00\x05\x00\x06\x00\x07\x00\x08\x00\x09\x00\x0a\x00\x0b\x00\x0c\x00\x0d\x00\x0e\x00\x0f\x00\x10\x10\x00\x00\x01\x00\x02\x00\x03\x00\x04\x00\x05\x00\x06\x00\x07\x00\x08\x00\x09\x00\x0a\x00\x0b\x00\x0c\x00\x0d\x00\x0e\x00\x0f\x00\x10\x10\x00\x00\x01\x00\x02\x00\x03\x00\x04\x00\x05\x00\x06\x00\x07\x00\x08\x00\x09\x00\x0a\x00\x0b\x00\x0c\x00\x0d\x00\x0e\x00\x0f\x00\x10\x10\x00\x00\x01\x00\x02\x00\x03\x00\x04\x00\x05\x00\x06\x00\x07\x00\x08\x00\x09\x00\x0a\x00\x0b\x00\x0c\x00\x0d\x00\x0e\x00\x0f\x00\x01\x01",
-    );
+    )?;
     read(
+        rt,
         b"\x01\x01\x00\x05\x00\x00\x05\x10\x10\x00\x00\x01\x00\x02\x00\x03\x00\x04\x00\x05\x00\x06\x00\x07\x00\x08\x00\x09\x00\x0a\x00\x0b\x00\x0c\x00\x0d\x00\x0e\x00\x0f\x00\x10\x10\x00\x00\x01\x00\x02\x00\x03\x00\x04\x00\x05\x00\x06\x00\x07\x00\x08\x00\x09\x00\x0a\x00\x0b\x00\x0c\x00\x0d\x00\x0e\x00\x0f\x00\x10\x10\x00\x00\x01\x00\x02\x00\x03\x00\x04\x00\x05\x00\x06\x00\x07\x00\x08\x00\x09\x00\x0a\x00\x0b\x00\x0c\x00\x0d\x00\x0e\x00\x0f\x00\x10\x10\x00\x00\x01\x00\x02\x00\x03\x00\x04\x00\x05\x00\x06\x00\x07\x00\x08\x00\x09\x00\x0a\x00\x0b\x00\x0c\x00\x0d\x00\x0e\x00\x0f\x00\x01\x11",
-    );
+    )
 }
 
 // The entries, and a byte left over.
-fn entries() {
-    title(b"entries");
-    read(b"\x01\x01\x00\x05\x00\x00\x01\x04\x01\x04");
-    read(b"\x01\x01\x01\x05\x00\x00\x01\x04\x01\x03\x00");
-    read(b"\x01\x01\x00\x05\x00\x00\x01\x04\x01\x03\x01");
-    read(b"\x01\x01\x02\x05\x00\x00\x01\x04\x01\x03\x00");
-    read(b"\x01\x01\x00\x05\x00\x00\x01\x04\x02\x01\x00\x01\x00");
-    read(b"\x01\x01\x00\x05\x00\x00\x01\x04\x02\x02\x00\x01\x00");
-    read(b"\x01\x02\x00\x05\x00\x01\x06\x00\x00\x01\x04\x02\x01\x00\x00\x01");
-    read(b"\x01\x02\x00\x05\x00\x00\x06\x00\x00\x01\x04\x02\x01\x00\x01\x01");
-    read(b"\x01\x01\x00\x05\x00\x00\x02\x04\x01\x03\x00\x04\x01\x00\x00");
-    read(b"\x01\x01\x00\x05\x00\x00\x00\x00");
+fn entries(rt: &impl Print) -> io::Result<()> {
+    title(rt, "entries")?;
+    read(rt, b"\x01\x01\x00\x05\x00\x00\x01\x04\x01\x04")?;
+    read(rt, b"\x01\x01\x01\x05\x00\x00\x01\x04\x01\x03\x00")?;
+    read(rt, b"\x01\x01\x00\x05\x00\x00\x01\x04\x01\x03\x01")?;
+    read(rt, b"\x01\x01\x02\x05\x00\x00\x01\x04\x01\x03\x00")?;
+    read(rt, b"\x01\x01\x00\x05\x00\x00\x01\x04\x02\x01\x00\x01\x00")?;
+    read(rt, b"\x01\x01\x00\x05\x00\x00\x01\x04\x02\x02\x00\x01\x00")?;
+    read(
+        rt,
+        b"\x01\x02\x00\x05\x00\x01\x06\x00\x00\x01\x04\x02\x01\x00\x00\x01",
+    )?;
+    read(
+        rt,
+        b"\x01\x02\x00\x05\x00\x00\x06\x00\x00\x01\x04\x02\x01\x00\x01\x01",
+    )?;
+    read(
+        rt,
+        b"\x01\x01\x00\x05\x00\x00\x02\x04\x01\x03\x00\x04\x01\x00\x00",
+    )?;
+    read(rt, b"\x01\x01\x00\x05\x00\x00\x00\x00")
 }
 
 // Bodies of kind 3 and their table.
-fn timed() {
-    title(b"timed");
-    read(b"\x01\x04\x00\x05\x00\x03\x06\x00\x03\x07\x00\x00\x08\x00\x00\x00");
-    read(b"\x01\x04\x00\x05\x00\x03\x06\x00\x03\x07\x00\x00\x08\x00\x00\x01\x04\x01\x03\x01");
+fn timed(rt: &impl Print) -> io::Result<()> {
+    title(rt, "timed")?;
     read(
+        rt,
+        b"\x01\x04\x00\x05\x00\x03\x06\x00\x03\x07\x00\x00\x08\x00\x00\x00",
+    )?;
+    read(
+        rt,
+        b"\x01\x04\x00\x05\x00\x03\x06\x00\x03\x07\x00\x00\x08\x00\x00\x01\x04\x01\x03\x01",
+    )?;
+    read(
+        rt,
         b"\x01\x04\x00\x05\x00\x03\x06\x00\x03\x07\x00\x00\x08\x00\x00\x01\x04\x02\x01\x01\x02\x02",
-    );
+    )?;
     read(
+        rt,
         b"\x01\x04\x00\x05\x00\x03\x06\x00\x03\x07\x00\x00\x08\x00\x00\x01\x04\x02\x01\x00\x01\x03",
-    );
+    )?;
     read(
+        rt,
         b"\x01\x04\x00\x05\x00\x03\x06\x00\x03\x07\x00\x00\x08\x00\x00\x01\x04\x02\x01\x00\x01\x01",
-    );
+    )?;
     read(
+        rt,
         b"\x01\x04\x00\x05\x00\x03\x06\x00\x03\x07\x00\x00\x08\x00\x00\x01\x04\x02\x01\x01\x01\x03",
-    );
+    )?;
     read(
+        rt,
         b"\x01\x04\x00\x05\x00\x03\x06\x00\x03\x07\x00\x00\x08\x00\x00\x01\x04\x02\x01\x01\x01\x02",
-    );
+    )?;
     read(
+        rt,
         b"\x01\x04\x00\x05\x00\x03\x06\x00\x03\x07\x00\x00\x08\x00\x00\x01\x04\x02\x01\x01\x01\x04",
-    );
+    )?;
     read(
+        rt,
         b"\x01\x04\x00\x05\x00\x03\x06\x00\x03\x07\x00\x00\x08\x00\x00\x01\x04\x02\x01\x02\x01\x01",
-    );
+    )?;
     read(
+        rt,
         b"\x01\x04\x00\x05\x00\x03\x06\x00\x03\x07\x00\x00\x08\x00\x00\x01\x04\x02\x01\x00\x02\x01",
-    );
+    )?;
     read(
+        rt,
         b"\x01\x04\x00\x05\x00\x03\x06\x00\x03\x07\x00\x00\x08\x00\x00\x01\x04\x02\x01\x01\x02\x00",
-    );
+    )?;
     read(
+        rt,
         b"\x01\x04\x00\x05\x00\x03\x06\x00\x03\x07\x00\x00\x08\x00\x00\x01\x04\x02\x01\x01\x00\x00",
-    );
+    )?;
     read(
+        rt,
         b"\x01\x04\x00\x05\x00\x03\x06\x00\x03\x07\x00\x00\x08\x00\x00\x01\x04\x03\x00\x01\x01\x02\x02\x00",
-    );
+    )?;
     read(
+        rt,
         b"\x01\x04\x00\x05\x00\x03\x06\x00\x03\x07\x00\x00\x08\x00\x00\x02\x04\x01\x01\x01\x04\x01\x01\x00",
-    );
+    )?;
     read(
+        rt,
         b"\x01\x04\x00\x05\x00\x03\x06\x00\x03\x07\x00\x00\x08\x00\x00\x02\x04\x01\x01\x01\x04\x01\x01\x02",
-    );
+    )?;
     read(
+        rt,
         b"\x01\x04\x00\x05\x00\x03\x06\x00\x03\x07\x00\x00\x08\x00\x00\x02\x04\x01\x01\x01\x04\x02\x01\x00\x01\x01",
-    );
+    )?;
     read(
+        rt,
         b"\x01\x04\x00\x05\x00\x03\x06\x00\x03\x07\x00\x00\x08\x00\x00\x03\x04\x01\x00\x01\x04\x01\x00\x00\x04\x01\x00\x02",
-    );
+    )
 }
 
 // The longest input that is read, and one byte more.
-fn lengths() {
-    title(b"lengths");
+fn lengths(rt: &impl Print) -> io::Result<()> {
+    title(rt, "lengths")?;
     let long = [0u8; 4096];
-    answer(&long);
-    end_line();
+    answer(rt, &long)?;
+    end_line(rt)?;
     let longer = [0u8; 4097];
-    answer(&longer);
-    end_line();
+    answer(rt, &longer)?;
+    end_line(rt)
 }
 
 // The value of document 01's listing.
@@ -241,156 +275,156 @@ fn timed_listing() -> Config {
 }
 
 // Writes into an output of 22 bytes, each 255 before, and prints the answer and the output.
-fn write(c: Config) {
+fn write(rt: &impl Print, c: Config) -> io::Result<()> {
     let mut out = [255u8; 22];
     let w = write_config(c, &mut out);
-    print(w.refusal, w.place);
-    print_bytes(&out);
-    end_line();
+    print(rt, w.refusal, w.place)?;
+    print_bytes(rt, &out)?;
+    end_line(rt)
 }
 
 // The same with outputs of just as many bytes as the listing takes, and of one byte less.
-fn write_tight(c: Config) {
+fn write_tight(rt: &impl Print, c: Config) -> io::Result<()> {
     let mut out = [255u8; 20];
     let w = write_config(c, &mut out);
-    print(w.refusal, w.place);
-    print_bytes(&out);
-    end_line();
+    print(rt, w.refusal, w.place)?;
+    print_bytes(rt, &out)?;
+    end_line(rt)?;
     let mut short = [255u8; 19];
     let s = write_config(c, &mut short);
-    print(s.refusal, s.place);
-    print_bytes(&short);
-    end_line();
+    print(rt, s.refusal, s.place)?;
+    print_bytes(rt, &short)?;
+    end_line(rt)
 }
 
 // What the writer refuses, and what it ignores.
-fn written() {
-    title(b"written");
+fn written(rt: &impl Print) -> io::Result<()> {
+    title(rt, "written")?;
     let a = listing();
-    write(a);
-    write_tight(a);
+    write(rt, a)?;
+    write_tight(rt, a)?;
     let mut b = a;
     b.kind[3] = 9;
     b.users[1] = 77;
     b.task[2] = 200;
-    write(b);
+    write(rt, b)?;
     let mut c = a;
     c.version = 2;
-    write(c);
+    write(rt, c)?;
     let mut d = a;
     d.kind[1] = 2;
-    write(d);
+    write(rt, d)
 }
 
 // A task with a deadline.
-fn written_deadline() {
-    title(b"written deadline");
+fn written_deadline(rt: &impl Print) -> io::Result<()> {
+    title(rt, "written deadline")?;
     let mut a = read_config(b"\x01\x01\x00\x05\x00\x00\x00").config;
     a.version = 3;
-    write(a);
+    write(rt, a)?;
     a.deadline[0] = 300;
-    write(a);
+    write(rt, a)
 }
 
-fn refused_deadlines() {
-    title(b"refused deadlines");
+fn refused_deadlines(rt: &impl Print) -> io::Result<()> {
+    title(rt, "refused deadlines")?;
     let mut a = listing();
     a.deadline[0] = 1;
-    write(a);
+    write(rt, a)?;
     a.version = 2;
-    write(a);
+    write(rt, a)?;
     let mut b = listing();
     b.version = 3;
     b.deadline[2] = 1;
-    write(b);
+    write(rt, b)
 }
 
-fn refused_bodies() {
-    title(b"refused bodies");
+fn refused_bodies(rt: &impl Print) -> io::Result<()> {
+    title(rt, "refused bodies")?;
     let mut a = listing();
     a.version = 4;
-    write_tight(a);
+    write_tight(rt, a)?;
     let mut b = listing();
     b.bodies = 33;
-    write(b);
+    write(rt, b)?;
     let mut c = listing();
     c.kind[1] = 4;
-    write(c);
+    write(rt, c)?;
     let mut d = listing();
     d.priority[2] = 5;
-    write(d);
+    write(rt, d)?;
     let mut e = listing();
     e.autostart[2] = 1;
-    write(e);
+    write(rt, e)
 }
 
-fn refused_tables() {
-    title(b"refused tables");
+fn refused_tables(rt: &impl Print) -> io::Result<()> {
+    title(rt, "refused tables")?;
     let mut a = listing();
     a.users[0] = 8;
-    write(a);
+    write(rt, a)?;
     let mut b = listing();
     b.period[0] = 0;
-    write(b);
+    write(rt, b)?;
     let mut c = listing();
     c.entries[0] = 17;
-    write(c);
+    write(rt, c)?;
     let mut d = listing();
     d.task[1] = 2;
-    write(d);
+    write(rt, d)?;
     let mut e = listing();
     e.offset[1] = 0;
-    write(e);
+    write(rt, e)?;
     let mut f = full();
     f.tables = 5;
     f.period[4] = 1;
     f.entries[4] = 1;
-    write(f);
+    write(rt, f)
 }
 
-fn refused_timed() {
-    title(b"refused timed");
+fn refused_timed(rt: &impl Print) -> io::Result<()> {
+    title(rt, "refused timed")?;
     let a = timed_listing();
-    write(a);
+    write(rt, a)?;
     let mut b = a;
     b.autostart[1] = 1;
-    write(b);
+    write(rt, b)?;
     let mut c = a;
     c.resources = 1;
     c.users[0] = 3;
-    write(c);
+    write(rt, c)?;
     let mut d = a;
     d.offset[1] = 1;
-    write(d);
+    write(rt, d)?;
     let mut e = a;
     e.task[0] = 0;
-    write(e);
+    write(rt, e)?;
     let mut f = a;
     f.task[1] = 3;
-    write(f);
+    write(rt, f)?;
     f.offset[1] = 1;
-    write(f);
+    write(rt, f)?;
     let mut g = a;
     g.tables = 2;
     g.period[1] = 4;
     g.entries[1] = 1;
     g.task[2] = 1;
-    write(g);
+    write(rt, g)
 }
 
-fn main() {
-    numbers();
-    bodies();
-    deadlines();
-    resources();
-    tables();
-    entries();
-    timed();
-    lengths();
-    written();
-    written_deadline();
-    refused_deadlines();
-    refused_bodies();
-    refused_tables();
-    refused_timed();
+fn main(rt: HostRuntime) -> io::Result<()> {
+    numbers(&rt)?;
+    bodies(&rt)?;
+    deadlines(&rt)?;
+    resources(&rt)?;
+    tables(&rt)?;
+    entries(&rt)?;
+    timed(&rt)?;
+    lengths(&rt)?;
+    written(&rt)?;
+    written_deadline(&rt)?;
+    refused_deadlines(&rt)?;
+    refused_bodies(&rt)?;
+    refused_tables(&rt)?;
+    refused_timed(&rt)
 }

@@ -1,7 +1,8 @@
-// The library that C links, as include/osek.h declares it: each function is that of the crate that proves it, with
-// the same contract. A crate of its own, so that an archive is built from the proved crates below it and none of them
-// is proved again. `osek_wait` and `osek_misses` are in archives of their own, those of crates waits and misses.
+// The functions that C calls, as include/osek.h declares them: each is that of the crate that proves it, with the same
+// contract. Crate osek_c exports them, so that an archive is built from the proved crates below it and none of them is
+// proved again. `osek_wait` and `osek_misses` are those of crates waits and misses, which waits_c and misses_c export.
 #![tactic(auto)]
+
 ghost use Rattle.std.specs.Prelude.{◌≡◌, length};
 ghost use Rattle.run.specs.Run.{run_result, run_output};
 ghost use Rattle.run.specs.Steps.{machine_output};

@@ -1,0 +1,9 @@
+-- `read_whole` ends: each turn fills more of the buffer, and never more than it holds.
+use Rattle.std.proofs.Common.{◌-◌, ◌≤◌, length}
+use Rattle.bench.proofs.read_whole.Given as goal
+
+abbrev pub invariant-loop-len : goal.invariant-loop-len
+invariant-loop-len g l = l.len ≤ length l.buffer
+
+abbrev pub decreases-loop-len : goal.decreases-loop-len
+decreases-loop-len g l = length l.initial.buffer - l.len
