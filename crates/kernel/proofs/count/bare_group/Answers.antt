@@ -1,11 +1,7 @@
 -- `bare_group` meets its contract: all bytes looked at are codes without arguments as long as the search says so.
-use Prim.Native.Nat.{◌+◌, ◌-◌, ◌≤◌}
-use mathlib.Core.Path.{◌≡◌, sym}
-use mathlib.Core.Bool.{true, true≢false}
+use mathlib.Core.Path.{sym}
+use mathlib.Core.Bool.{true≢false}
 use native.Mathlib.Omega.{arith}
-use lib.ListN.{length}
-use borrow.Author.Tests.{ltb-false}
-use Rattle.kernel.specs.Passes.{bare}
 use Rattle.kernel.proofs.Passes.Count.{bare_more}
 use Rattle.kernel.proofs.count.bare_group.Goals as goal
 

@@ -1,5 +1,4 @@
 -- `count_events` meets its contract: whatever is left to read, with the events counted, is the whole trace.
-use Prim.Native.Nat.{◌-◌}
 use native.Mathlib.Omega.{arith}
 use Rattle.kernel.proofs.Passes.Count.{passed_start, passed_end, passed_refused, passed_later, passed_step, passed_bare}
 use Rattle.kernel.proofs.count.count_events.Goals as goal

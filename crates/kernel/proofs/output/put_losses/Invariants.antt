@@ -1,6 +1,6 @@
 -- `put_losses` meets its contract: each turn lays the losses of one body more.
 use Prim.Native.Nat.{◌-◌, ◌≤◌}
-use mathlib.Core.Path.{◌≡◌, ap}
+use mathlib.Core.Path.{◌≡◌}
 use mathlib.Core.List.{map}
 use lib.ListN.{length, get_or, take}
 use Rattle.number.specs.Output.{laid}

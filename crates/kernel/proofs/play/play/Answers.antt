@@ -1,11 +1,9 @@
 -- `play` meets its contract: each step of the loop is that of the event that was read, and its answer is laid after
 -- those before it.
-use Prim.Native.Nat.{ℕ, ◌+◌, ◌-◌, ◌≤◌}
-use mathlib.Core.Path.{◌≡◌, ap, ◌∙◌}
-use mathlib.Core.Logic.{⊎_elim}
+use Prim.Native.Nat.{ℕ}
+use mathlib.Core.Path.{ap, ◌∙◌}
 use mathlib.Core.List.{[], ◌∷◌}
 use native.Mathlib.Omega.{arith}
-use lib.ListN.{length}
 use Rattle.number.specs.Output.{laid}
 use Rattle.scheduler.specs.Scheduler.{mark_of}
 use Rattle.model.specs.View.{view, model_of, view_outcome}
