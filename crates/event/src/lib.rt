@@ -9,7 +9,7 @@ pub const MAX_TRACE: usize = 8192;
 pub const TRACE_TOO_LONG: u8 = 20;
 
 // An event; an argument that it lacks is 0.
-#[derive(Drop)]
+#[derive(Clone, Copy)]
 pub struct Event {
     pub code: u8,
     pub first: u32,

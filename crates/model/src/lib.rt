@@ -93,7 +93,7 @@ pub struct Step {
 }
 
 // All that the machine keeps between events. It goes by value.
-#[derive(Drop)]
+#[derive(Clone, Copy)]
 pub struct Model {
     pub registers: Registers,
     // The cells by entry: their counters and switches.
@@ -106,7 +106,7 @@ pub struct Model {
 }
 
 // The next model with its answer.
-#[derive(Drop)]
+#[derive(Clone, Copy)]
 pub struct Outcome {
     pub model: Model,
     pub status: u8,
