@@ -6,6 +6,7 @@
 // contracts cite the run on the machine with a row of cells (deadlines, `machine_misses`), that of `osek_misses` the
 // definition over the list of events alone (`misses`): deadlines' law `played_misses` says that they are the same.
 #![tactic(auto)]
+
 mod change;
 mod list;
 mod row;

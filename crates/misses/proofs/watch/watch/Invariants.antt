@@ -1,0 +1,14 @@
+-- `watch` meets its contract: each turn is the event that was read, with the row of cells beside it.
+use Prim.Native.Nat.{◌-◌}
+use lib.ListN.{length}
+use Rattle.event.specs.Event.{tick}
+use Rattle.model.specs.View.{view}
+use Rattle.misses.proofs.Codes.{ticks}
+use Rattle.misses.proofs.Watching.{Watching}
+use Rattle.misses.proofs.watch.watch.Given as goal
+
+abbrev pub invariant-loop-at : goal.invariant-loop-at
+invariant-loop-at l = Watching l.config l.plan l.deadlines l.trace l.initial.list l.list (view l.model) l.row l.ticks l.count l.at
+
+abbrev pub decreases-loop-at : goal.decreases-loop-at
+decreases-loop-at l = length l.trace - l.at
