@@ -1,6 +1,6 @@
 -- `chained_body` meets its contract: its tests are the definition's.
 use mathlib.Core.Path.{sym, ◌∙◌}
-use borrow.Author.Tests.{eq-eqb, ne_eqb, not-true, not-false}
+use borrow.Author.Tests.{eq-eqb, ne_eqb}
 use Rattle.run.specs.Run.{call_of}
 use Rattle.misses.proofs.Codes.{chained_as}
 use Rattle.misses.proofs.change.chained_body.Goals as goal

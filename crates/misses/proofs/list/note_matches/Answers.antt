@@ -1,5 +1,5 @@
 -- `note_matches` meets its contract: what is noted so far and what is left of the row are the row's matches.
-use Prim.Native.Nat.{◌-◌, ◌≤◌}
+use Prim.Native.Nat.{◌≤◌}
 use mathlib.Core.Path.{◌≡◌, sym, ◌∙◌}
 use native.Mathlib.Omega.{arith}
 use lib.ListN.{length}

@@ -1,9 +1,8 @@
 -- `fresh_row` meets its contract: each turn fills one cell more.
-use Prim.Native.Nat.{◌-◌}
 use mathlib.Core.Path.{◌≡◌, refl, ap, ◌∙◌}
 use mathlib.Core.Bool.{Bool}
 use native.Mathlib.Omega.{arith}
-use lib.ListN.{length, get_or, replicate, length-set}
+use lib.ListN.{get_or, replicate, length-set}
 use Rattle.word.specs.Word.{has}
 use Rattle.misses.specs.Change.{fresh_cell_in}
 use Rattle.misses.proofs.Rows.{row_start, row_step}

@@ -1,5 +1,4 @@
 -- `moved_row` meets its contract: each turn moves one cell more.
-use Prim.Native.Nat.{◌-◌}
 use mathlib.Core.Path.{◌≡◌}
 use native.Mathlib.Omega.{arith}
 use lib.ListN.{length, get_or, length-set}

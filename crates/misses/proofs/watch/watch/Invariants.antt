@@ -1,9 +1,7 @@
 -- `watch` meets its contract: each turn is the event that was read, with the row of cells beside it.
 use Prim.Native.Nat.{◌-◌}
 use lib.ListN.{length}
-use Rattle.event.specs.Event.{tick}
 use Rattle.model.specs.View.{view}
-use Rattle.misses.proofs.Codes.{ticks}
 use Rattle.misses.proofs.Watching.{Watching}
 use Rattle.misses.proofs.watch.watch.Given as goal
 
