@@ -3,19 +3,21 @@ use Rattle.oil.proofs.Ranges.{place_lt}
 use Rattle.oil.proofs.Answer.{refused_answer, written_answer}
 use Rattle.oil.proofs.osek_oil.Goals as goal
 
-pub UNKNOWN-returns : goal.UNKNOWN-returns
-UNKNOWN-returns c = let a = c.args in
-    let r = c.read-oil in
-    refused_answer a.text.now a.config.now r.ensures c.packed.ensures c.if1.true
+pub returns-then-r-ne0 : goal.returns-then-r-ne0
+returns-then-r-ne0 c = let a = c.args in
+    let r = c.read_oil-r in
+    let k = refused_answer a.text.now a.config.now r.ensures c.packed.ensures c.if-r-ne0.true in
+    record { result = k.0; output = k.1.0; place = k.1.1 }
 
-pub UNKNOWN-packed_requires_2 : goal.UNKNOWN-packed_requires_2
-UNKNOWN-packed_requires_2 c = let o = c.write-config in
-    let r = c.read-oil in
-    place_lt r.result.config _ o.ensures.0
+pub packed-requires-2 : goal.packed-requires-2
+packed-requires-2 c = let o = c.write_config-w in
+    let r = c.read_oil-r in
+    place_lt r.result.config _ o.ensures.result
 
-pub UNKNOWN-returns_2 : goal.UNKNOWN-returns_2
-UNKNOWN-returns_2 c = let a = c.args in
-    let r = c.read-oil in
-    let o = c.write-config in
-    written_answer a.text.now a.config.now r.ensures
-    c.if1.false o.ensures.0 c.packed2.ensures o.ensures.1
+pub returns : goal.returns
+returns c = let a = c.args in
+    let r = c.read_oil-r in
+    let o = c.write_config-w in
+    let k = written_answer a.text.now a.config.now r.ensures
+    c.if-r-ne0.false o.ensures.result c.packed-2.ensures o.ensures.output in
+    record { result = k.0; output = k.1.0; place = k.1.1 }

@@ -2,10 +2,10 @@
 use Rattle.oil.proofs.Ranges.{fault_told, room_told}
 use Rattle.oil.proofs.range_fault.Goals as goal
 
-pub UNKNOWN-returns : goal.UNKNOWN-returns
-UNKNOWN-returns c = let o = c.write-config in
-    fault_told c.args.config o.ensures.0 c.if1.true
+pub returns-then-w-eq0 : goal.returns-then-w-eq0
+returns-then-w-eq0 c = let o = c.write_config-w in
+    fault_told c.args.config o.ensures.result c.if-w-eq0.true
 
-pub UNKNOWN-returns_2 : goal.UNKNOWN-returns_2
-UNKNOWN-returns_2 c = let o = c.write-config in
-    room_told c.args.config o.ensures.0 c.if1.false
+pub returns-else-w-eq0 : goal.returns-else-w-eq0
+returns-else-w-eq0 c = let o = c.write_config-w in
+    room_told c.args.config o.ensures.result c.if-w-eq0.false

@@ -4,8 +4,6 @@ use mathlib.Core.Path.{sym, ◌∙◌}
 use native.Mathlib.Omega.{arith}
 use native.Mathlib.Nat.{sub-zero}
 use lib.ListN.{take, drop}
-use Rattle.oil_grammar.specs.Automaton.{fresh}
-use Rattle.oil_grammar.specs.Walk.{borne}
 use Rattle.oil.proofs.Walks.{token_inside, borne_found, borne_step, borne_done}
 use Rattle.oil.proofs.borne.borne.Goals as goal
 

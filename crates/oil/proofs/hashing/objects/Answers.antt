@@ -1,5 +1,4 @@
 -- `objects` meets its contract: it counts no more than the tokens passed.
-use Prim.Native.Nat.{◌-◌}
 use native.Mathlib.Omega.{arith}
 use Rattle.oil.proofs.Walks.{token_inside}
 use Rattle.oil.proofs.hashing.objects.Goals as goal

@@ -1,11 +1,11 @@
 -- `fill` meets its contract: what is left of the tokens gives the configuration.
-use Prim.Native.Nat.{ℕ, ◌-◌}
+use Prim.Native.Nat.{ℕ}
 use mathlib.Core.Path.{◌∙◌}
 use mathlib.Core.List.{List}
 use native.Mathlib.Omega.{arith}
 use native.Mathlib.Nat.{sub-zero}
 use Rattle.oil_grammar.specs.Automaton.{fresh}
-use Rattle.oil_grammar.specs.Walk.{mask, fill}
+use Rattle.oil_grammar.specs.Walk.{mask}
 use Rattle.oil.proofs.Walks.{token_inside, fill_step, fill_done}
 use Rattle.oil.proofs.meaning.fill.Goals as goal
 

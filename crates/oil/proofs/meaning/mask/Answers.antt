@@ -4,8 +4,6 @@ use mathlib.Core.Path.{◌∙◌}
 use native.Mathlib.Omega.{arith}
 use native.Mathlib.Nat.{sub-zero}
 use lib.ListN.{take, drop}
-use Rattle.oil_grammar.specs.Automaton.{fresh}
-use Rattle.oil_grammar.specs.Walk.{mask}
 use Rattle.oil.proofs.Walks.{token_inside, mask_step, mask_done}
 use Rattle.oil.proofs.meaning.mask.Goals as goal
 

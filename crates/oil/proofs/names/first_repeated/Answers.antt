@@ -1,6 +1,4 @@
 -- `first_repeated` meets its contract: a class at a time.
-use Prim.Native.Nat.{◌-◌}
-use mathlib.Core.Bool.{false}
 use native.Mathlib.Omega.{arith}
 use native.Mathlib.Nat.{mod-lt}
 use Rattle.oil.specs.Names.{hashed, in_class, spelled, twice_at}

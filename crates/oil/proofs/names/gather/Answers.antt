@@ -1,5 +1,4 @@
 -- `gather` meets its contract: a token at a time.
-use Prim.Native.Nat.{◌-◌}
 use mathlib.Core.Path.{◌≡◌, ap, ◌∙◌}
 use native.Mathlib.Omega.{arith}
 use Rattle.oil_grammar.specs.declared.Token.{Token}
@@ -13,12 +12,12 @@ use Rattle.oil.proofs.names.gather.Goals as goal
 pub loop-i-init : goal.loop-i-init
 unfolding place_after progress_after
 loop-i-init c = let a = c.args in (
-      (omega arith, (omega arith, c.fresh-s.ensures)),
-      (
-        none_gathered a.text.now a.resource a.c c.requires.hashes_len,
-        so_far_start a.tokens (twice_at a.text.now a.resource a.c),
-      ),
-    )
+  (omega arith, (omega arith, c.fresh-s.ensures)),
+  (
+    none_gathered a.text.now a.resource a.c c.requires.hashes_len,
+    so_far_start a.tokens (twice_at a.text.now a.resource a.c),
+  ),
+)
 
 pub next_token-w-requires : goal.next_token-w-requires
 next_token-w-requires c = let l = c.loop-i in

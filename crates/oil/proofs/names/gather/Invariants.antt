@@ -1,7 +1,7 @@
 -- `gather` meets its contract: a token at a time.
 use Prim.Native.Nat.{◌-◌, ◌≤◌}
 use mathlib.Core.Path.{◌≡◌}
-use Rattle.oil.specs.Tokens.{place_after, token, progress_after}
+use Rattle.oil.specs.Tokens.{place_after, progress_after}
 use Rattle.oil.specs.Names.{Gathered, twice_at}
 use Rattle.oil.proofs.TokenNumbers.{SoFar}
 use Rattle.oil.proofs.names.gather.Given as goal

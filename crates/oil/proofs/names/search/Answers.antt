@@ -24,9 +24,9 @@ returns-then-equal c = let i = c.loop-i.i in
 
 pub loop-i-preserved : goal.loop-i-preserved
 loop-i-preserved c = let i = c.loop-i in (
-      (let h = c.loop-i-test.true in omega arith),
-      below_more _ i.i i.invariant.1 (λ e. true≢false (sym (c.equal.ensures.1 e) ∙ c.if-equal.false)),
-    )
+  (let h = c.loop-i-test.true in omega arith),
+  below_more _ i.i i.invariant.1 (λ e. true≢false (sym (c.equal.ensures.1 e) ∙ c.if-equal.false)),
+)
 
 pub returns : goal.returns
 returns c = let l = c.loop-i in

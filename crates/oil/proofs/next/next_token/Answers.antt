@@ -9,11 +9,11 @@ use Rattle.oil.proofs.next.next_token.Goals as goal
 
 pub token_at-requires : goal.token_at-requires
 token_at-requires c = omega (
-      arith,
-      c.skip-p.ensures,
-      skipped_le c.args.text.now c.args.at
-          (omega arith),
-    )
+  arith,
+  c.skip-p.ensures,
+  skipped_le c.args.text.now c.args.at
+      (omega arith),
+)
 
 pub returns : goal.returns
 unfolding next_token

@@ -18,68 +18,68 @@ returns-then-same c = simp (tested task_token c.same.ensures c.if-same.true)
 pub returns-then-same-2 : goal.returns-then-same-2
 unfolding spelled_sort
 returns-then-same-2 c = simp (
-      tested task_token c.same.ensures c.if-same.false,
-      tested isr_token c.same-2.ensures c.if-same-2.true,
-    )
+  tested task_token c.same.ensures c.if-same.false,
+  tested isr_token c.same-2.ensures c.if-same-2.true,
+)
 
 pub returns-then-same-3 : goal.returns-then-same-3
 unfolding spelled_sort
 returns-then-same-3 c = simp (
-      tested task_token c.same.ensures c.if-same.false,
-      tested isr_token c.same-2.ensures c.if-same-2.false,
-      tested resource_token c.same-3.ensures c.if-same-3.true,
-    )
+  tested task_token c.same.ensures c.if-same.false,
+  tested isr_token c.same-2.ensures c.if-same-2.false,
+  tested resource_token c.same-3.ensures c.if-same-3.true,
+)
 
 pub returns-then-same-4 : goal.returns-then-same-4
 unfolding spelled_sort
 returns-then-same-4 c = simp (
-      tested task_token c.same.ensures c.if-same.false,
-      tested isr_token c.same-2.ensures c.if-same-2.false,
-      tested resource_token c.same-3.ensures c.if-same-3.false,
-      tested priority_token c.same-4.ensures c.if-same-4.true,
-    )
+  tested task_token c.same.ensures c.if-same.false,
+  tested isr_token c.same-2.ensures c.if-same-2.false,
+  tested resource_token c.same-3.ensures c.if-same-3.false,
+  tested priority_token c.same-4.ensures c.if-same-4.true,
+)
 
 pub returns-then-same-5 : goal.returns-then-same-5
 unfolding spelled_sort
 returns-then-same-5 c = simp (
-      tested task_token c.same.ensures c.if-same.false,
-      tested isr_token c.same-2.ensures c.if-same-2.false,
-      tested resource_token c.same-3.ensures c.if-same-3.false,
-      tested priority_token c.same-4.ensures c.if-same-4.false,
-      tested autostart_token c.same-5.ensures c.if-same-5.true,
-    )
+  tested task_token c.same.ensures c.if-same.false,
+  tested isr_token c.same-2.ensures c.if-same-2.false,
+  tested resource_token c.same-3.ensures c.if-same-3.false,
+  tested priority_token c.same-4.ensures c.if-same-4.false,
+  tested autostart_token c.same-5.ensures c.if-same-5.true,
+)
 
 pub returns-then-same-6 : goal.returns-then-same-6
 unfolding spelled_sort
 returns-then-same-6 c = simp (
-      tested task_token c.same.ensures c.if-same.false,
-      tested isr_token c.same-2.ensures c.if-same-2.false,
-      tested resource_token c.same-3.ensures c.if-same-3.false,
-      tested priority_token c.same-4.ensures c.if-same-4.false,
-      tested autostart_token c.same-5.ensures c.if-same-5.false,
-      tested true_token c.same-6.ensures c.if-same-6.true,
-    )
+  tested task_token c.same.ensures c.if-same.false,
+  tested isr_token c.same-2.ensures c.if-same-2.false,
+  tested resource_token c.same-3.ensures c.if-same-3.false,
+  tested priority_token c.same-4.ensures c.if-same-4.false,
+  tested autostart_token c.same-5.ensures c.if-same-5.false,
+  tested true_token c.same-6.ensures c.if-same-6.true,
+)
 
 pub returns-then-same-7 : goal.returns-then-same-7
 unfolding spelled_sort
 returns-then-same-7 c = simp (
-      tested task_token c.same.ensures c.if-same.false,
-      tested isr_token c.same-2.ensures c.if-same-2.false,
-      tested resource_token c.same-3.ensures c.if-same-3.false,
-      tested priority_token c.same-4.ensures c.if-same-4.false,
-      tested autostart_token c.same-5.ensures c.if-same-5.false,
-      tested true_token c.same-6.ensures c.if-same-6.false,
-      tested false_token c.same-7.ensures c.if-same-7.true,
-    )
+  tested task_token c.same.ensures c.if-same.false,
+  tested isr_token c.same-2.ensures c.if-same-2.false,
+  tested resource_token c.same-3.ensures c.if-same-3.false,
+  tested priority_token c.same-4.ensures c.if-same-4.false,
+  tested autostart_token c.same-5.ensures c.if-same-5.false,
+  tested true_token c.same-6.ensures c.if-same-6.false,
+  tested false_token c.same-7.ensures c.if-same-7.true,
+)
 
 pub returns : goal.returns
 unfolding spelled_sort
 returns c = simp (
-      tested task_token c.same.ensures c.if-same.false,
-      tested isr_token c.same-2.ensures c.if-same-2.false,
-      tested resource_token c.same-3.ensures c.if-same-3.false,
-      tested priority_token c.same-4.ensures c.if-same-4.false,
-      tested autostart_token c.same-5.ensures c.if-same-5.false,
-      tested true_token c.same-6.ensures c.if-same-6.false,
-      tested false_token c.same-7.ensures c.if-same-7.false,
-    )
+  tested task_token c.same.ensures c.if-same.false,
+  tested isr_token c.same-2.ensures c.if-same-2.false,
+  tested resource_token c.same-3.ensures c.if-same-3.false,
+  tested priority_token c.same-4.ensures c.if-same-4.false,
+  tested autostart_token c.same-5.ensures c.if-same-5.false,
+  tested true_token c.same-6.ensures c.if-same-6.false,
+  tested false_token c.same-7.ensures c.if-same-7.false,
+)

@@ -1,5 +1,4 @@
 -- `token_start` meets its contract: the text stands where it does after the tokens passed.
-use Prim.Native.Nat.{◌-◌}
 use mathlib.Core.Path.{◌≡◌, refl, ap, ◌∙◌}
 use native.Mathlib.Omega.{arith}
 use Rattle.oil_grammar.specs.declared.Token.{Token}

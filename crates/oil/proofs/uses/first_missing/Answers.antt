@@ -1,7 +1,6 @@
 -- `first_missing` meets its contract: none of the tokens passed is such a use.
-use Prim.Native.Nat.{◌-◌}
 use mathlib.Core.Path.{◌≡◌, refl, sym, ap, ◌∙◌}
-use mathlib.Core.Bool.{true, false}
+use mathlib.Core.Bool.{true}
 use native.Mathlib.Omega.{arith}
 use borrow.Author.Count.{below_more}
 use Rattle.oil_grammar.specs.declared.Token.{Token}

@@ -2,7 +2,7 @@
 use Prim.Native.Nat.{ℕ, ◌-◌, ◌≤◌, ◌<◌}
 use mathlib.Core.Path.{◌≡◌}
 use mathlib.Core.Bool.{false}
-use Rattle.oil.specs.Tokens.{place_after, token, progress_after}
+use Rattle.oil.specs.Tokens.{place_after, progress_after}
 use Rattle.oil.specs.Names.{missing_at}
 use Rattle.oil.proofs.uses.first_missing.Given as goal
 

@@ -1,5 +1,4 @@
 -- `first_unborne` meets its contract: a class at a time.
-use Prim.Native.Nat.{◌-◌}
 use native.Mathlib.Omega.{arith}
 use native.Mathlib.Nat.{mod-lt}
 use Rattle.oil.specs.Names.{hashed, in_class, spelled, missing_at}

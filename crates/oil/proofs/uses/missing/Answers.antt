@@ -1,6 +1,5 @@
 -- `missing` meets its contract: by what the token is, its class, and the names that are kept.
 use mathlib.Core.Path.{sym, ◌∙◌}
-use mathlib.Core.Bool.{true, false, not}
 use borrow.Author.Tests.{eq-eqb, ne_eqb}
 use Rattle.oil_grammar.specs.Next.{spelling}
 use Rattle.oil_grammar.specs.Walk.{unborne_at}
@@ -21,10 +20,10 @@ returns-then-h-c c = let a = c.args in
 
 pub knows-known-requires : goal.knows-known-requires
 knows-known-requires c = let h = c.hash-h.ensures.0 in record {
-      gathered = c.requires.gathered;
-      start_le_end = c.requires.start_le_end.0;
-      h_value = (h, class_is c.args.c (spelling c.args.text.now c.args.w) h ∙ eq-eqb _ _ c.if-h-c.false);
-    }
+  gathered = c.requires.gathered;
+  start_le_end = c.requires.start_le_end.0;
+  h_value = (h, class_is c.args.c (spelling c.args.text.now c.args.w) h ∙ eq-eqb _ _ c.if-h-c.false);
+}
 
 pub returns : goal.returns
 unfolding unborne_at

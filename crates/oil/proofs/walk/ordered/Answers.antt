@@ -1,5 +1,4 @@
 -- `ordered` meets its contract: the loop keeps `InOrder`. The measure is what is left of the text.
-use Prim.Native.Nat.{◌-◌}
 use native.Mathlib.Omega.{arith}
 use Rattle.oil.proofs.Order.{order_start, order_inside, order_refused, order_ended, order_further, order_next}
 use Rattle.oil.proofs.walk.ordered.Goals as goal
