@@ -6,7 +6,7 @@ use mathlib.Core.Bool.{or_assoc, or-false}
 use lib.Seq.{set-get_or}
 use Rattle.config.specs.Value.{max_entries}
 use Rattle.cell.specs.declared.Cell.{Cell}
-use Rattle.cell.specs.Cell.{unmarked, long, tick_cell}
+use Rattle.cell.specs.Cell.{unmarked, tick_cell}
 use Rattle.cells.specs.Methods.{group}
 use Rattle.machine.specs.Cells.{is_on, has_turn, switch_for, cell_at, counters_ticked, switches_ticked, some, marks, Tally, requests_due, in_row, spread}
 use Rattle.machine.proofs.Change.Matches.{due_append}

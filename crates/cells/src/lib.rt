@@ -1,5 +1,6 @@
 // The cells of the entries, as parallel arrays: what a tick, a start and a stop make of them.
 #![tactic(auto)]
+
 ghost use Rattle.std.specs.Prelude.{◌≡◌, ◌+◌, ◌≤◌, min, cond, ◌&&◌, ◌||◌, length, take, drop, if◌then◌else◌, nat_lt};
 ghost use Rattle.config.specs.Value.{max_bodies, max_entries};
 ghost use Rattle.machine.specs.Cells.{is_on, has_turn, counters_ticked, switch_for, switches_ticked, some_turn, marks, counters_started, switches_started, in_row, spread, some_long, one_more, one_lost, match_at, requests_due};

@@ -3,28 +3,26 @@
 --
 -- In order: a draft in version 2; no later number looks at the version; bytes that differ in the first alone.
 use Prim.Native.Nat.{ℕ, zero, suc, ◌+◌, ◌≤◌}
-use mathlib.Core.Path.{◌≡◌, refl, sym, ap, ap₂, ◌∙◌}
+use mathlib.Core.Path.{◌≡◌, refl, sym, ap, ◌∙◌}
 use mathlib.Core.Bool.{Bool, true, false, true≢false, cond, ◌||◌}
 use mathlib.Core.List.{List, [], ◌∷◌}
 use native.Mathlib.Omega.{arith}
 use lib.Dec.{leb, eqb, lit≤}
 use lib.ListN.{length}
-use borrow.Author.Tests.{eq-eqb, ne_eqb}
-use Rattle.number.specs.Refusal.{none, cut}
+use borrow.Author.Tests.{ne_eqb}
+use Rattle.number.specs.Refusal.{none}
 use Rattle.number.specs.declared.NumberRead.{NumberRead}
-use Rattle.number.specs.Number.{read_number, groups, continued, fifth_group}
-use Rattle.number.proofs.Cases.{by_test, by_lt, by_eq, cond_either}
+use Rattle.number.specs.Number.{read_number, groups}
+use Rattle.number.proofs.Cases.{by_test, by_eq, cond_either}
 use Rattle.number.proofs.Theorems as Number
 use Rattle.config.specs.declared.Config.{Config}
-use Rattle.config.specs.declared.ConfigRead.{ConfigRead}
 use Rattle.config.specs.declared.Draft.{Draft}
 use Rattle.config.specs.declared.Field.{Field}
 use Rattle.config.specs.declared.Field.TheVariants.{Version, Bodies, Kind, Priority, Autostart, Deadline, Resources, Users, Tables, Period, Entries, Offset, Task, End}
-use Rattle.config.specs.Refusal.{left_over, too_long}
 use Rattle.config.specs.Meaning.{is_timed}
 use Rattle.config.specs.Value.{with_version}
-use Rattle.config.specs.Draft.{or_on, unless, and_then, mixes, second_table, shares_offset, sorted, some_timed, fault, fault_at, put, put_at, ended, silent, silent_at, start}
-use Rattle.config.specs.Reader.{accepted, refused, number_at, number_fault, fault_place, finished, read_from, max_numbers, max_length, read_config, in_second}
+use Rattle.config.specs.Draft.{some_timed, fault_at, put, put_at, ended, silent, silent_at, start}
+use Rattle.config.specs.Reader.{refused, number_at, number_fault, fault_place, finished, read_from, max_numbers, max_length, read_config, in_second}
 use Rattle.config.proofs.Walk.{number_fine, read_end, read_zero, read_step, read_stop}
 
 -- a draft in version 2

@@ -23,7 +23,7 @@ use Rattle.config.specs.Among.{among}
 use Rattle.config.specs.Draft.{unless, outside, and_then, sorted, shares_offset, mixes, second_table, most_autostart, most_deadline, timed_user, fault, fault_at, put, ended, silent, start, Within}
 use Rattle.config.specs.Reader.{number_at, number_fault, fault_place, finished, refused, read_from, max_numbers, max_length, read_config}
 use Rattle.config.proofs.Position.{left, moved, some_left, start_within}
-use Rattle.config.proofs.Walk.{numbered, number_fine, read_end, read_zero, read_step, read_stop, read_from_elim}
+use Rattle.config.proofs.Walk.{numbered, number_fine, read_end, read_step, read_stop, read_from_elim}
 
 -- a refusal of the configuration reader's, or none: 0 to 10, 13 or 14
 abbrev pub Known : ℕ → Type 0

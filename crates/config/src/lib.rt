@@ -42,7 +42,7 @@ pub const MAX_TABLES: usize = 8;
 pub const MAX_ENTRIES: usize = 64;
 
 // Which number of a configuration comes next.
-#[derive(Drop)]
+#[derive(Clone, Copy)]
 pub enum Field {
     Version,
     Bodies,
@@ -64,7 +64,7 @@ pub enum Field {
 // `deadline`, ticks from its becoming ready or 0 for none; a resource one in `users`, a mask of bodies; a table
 // (schedule table) one in `period` and `entries`, its number of entries (expiry points). The entries of all tables
 // stand one after the other in `offset` and `task`.
-#[derive(Drop)]
+#[derive(Clone, Copy)]
 pub struct Config {
     pub version: u8,
     pub bodies: u8,

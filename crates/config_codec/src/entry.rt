@@ -10,7 +10,7 @@ use config::{BAD_FIELD, ISR, MIXED_TABLE, SHARED_OFFSET, TIME_TRIGGERED, UNSORTE
 
 // An entry, and what stands before it: whether it is the `first` of its table, the offset `reached` by the entry before
 // and the task of that, the `latest`, and how many entries the tables before have.
-#[derive(Drop)]
+#[derive(Clone, Copy)]
 pub struct Entry {
     pub offset: u16,
     pub task: u32,

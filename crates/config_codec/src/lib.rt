@@ -1,5 +1,6 @@
 // A configuration as bytes: read, written, and refused by document 01's rules.
 #![tactic(auto)]
+
 mod among;
 mod entry;
 mod limits;

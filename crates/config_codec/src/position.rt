@@ -8,7 +8,7 @@ use config::Field;
 
 // `index` is the body, resource or table that is next, `entry` the entry, and `until` the entry after the last one of
 // its table.
-#[derive(Drop)]
+#[derive(Clone, Copy)]
 pub struct Position {
     pub field: Field,
     pub index: usize,

@@ -1,5 +1,6 @@
 // Draws a trace: from a start value, by twelve weights and four limits, as many events as asked.
 #![tactic(auto)]
+
 mod events;
 mod generator;
 mod trace;

@@ -1,5 +1,6 @@
 // What a draw gives, as values. How it is drawn is defined in specs/; no code runs here.
 #![tactic(auto)]
+
 use event::Event;
 
 // What an argument is the number of. A mask of event bits is drawn whole; Lacking: the event has no such argument.

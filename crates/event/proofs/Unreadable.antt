@@ -1,7 +1,7 @@
 -- A number of an event that can't be read is refused at the number reader's place, be it the code, the first argument
 -- or the second.
 use Prim.Native.Nat.{ℕ, zero, suc, ◌≤◌}
-use mathlib.Core.Path.{◌≡◌, refl, ap, ◌∙◌}
+use mathlib.Core.Path.{◌≡◌, ◌∙◌}
 use mathlib.Core.Bool.{true}
 use mathlib.Core.List.{List}
 use native.Mathlib.Omega.{arith}
@@ -10,7 +10,7 @@ use Rattle.number.specs.Refusal.{none}
 use Rattle.number.specs.declared.NumberRead.{NumberRead}
 use Rattle.number.specs.Number.{read_number}
 use Rattle.event.specs.declared.EventRead.{EventRead}
-use Rattle.event.specs.Event.{known, arguments, unreadable, after_number, read_one, read_second, read_two, read_arguments, read_event}
+use Rattle.event.specs.Event.{known, arguments, unreadable, after_number, read_arguments, read_event}
 
 after_refused : (n : NumberRead) (f : ℕ → ℕ → EventRead) → (n.refusal ≡ none → ⊥) → after_number n f ≡ unreadable n
 unfolding after_number

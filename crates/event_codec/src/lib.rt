@@ -1,5 +1,6 @@
 // The events of a trace, read and written: a code, then its arguments, each a number of the format.
 #![tactic(auto)]
+
 ghost use Rattle.std.specs.Prelude.{◌≡◌, true, cond, ◌&&◌, ◌∷◌, ◌++◌, ◌+◌, ◌/◌, ◌%◌, ◌≤◌, ◌<◌, ltb, length, get_or};
 ghost use Rattle.number.specs.Refusal.{none};
 ghost use Rattle.number.specs.Number.{number_bytes};

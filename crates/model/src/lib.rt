@@ -4,6 +4,7 @@
 //
 // A body stands in the model by its rank among the priorities, so that a greater rank is a greater priority.
 #![tactic(auto)]
+
 ghost use Rattle.std.specs.Prelude.{◌≡◌};
 ghost use Rattle.machine.specs.Model.{refused_with};
 ghost use Rattle.model.specs.View.{Arrays, view_with, view_step};
@@ -60,7 +61,7 @@ pub struct Picked {
 //
 // Fields of one width stand together, so that one byte at most lies unused between them: more of them the compiler
 // would copy by way of memory at every event, and then no longer see which arrays the event leaves alone.
-#[derive(Drop)]
+#[derive(Clone, Copy)]
 pub struct Registers {
     // The ranks that wait to begin, those that began and go on by their priority, and those that began and do not:
     // extended tasks that wait for an event bit, and time-triggered tasks. Each as a word.

@@ -4,7 +4,7 @@
 -- without bits. Each law goes by halving, so that omega sees the lowest bit only.
 use Prim.Native.Nat.{ℕ, zero, suc, ◌+◌, ◌-◌, ◌*◌, ◌/◌, ◌%◌, ◌^◌, max, min, ◌≤◌, ◌<◌}
 use mathlib.Core.Path.{◌≡◌, refl, sym, ap, ◌∙◌}
-use mathlib.Core.Bool.{true, false, true≢false, not, ◌&&◌, ◌||◌}
+use mathlib.Core.Bool.{false, true≢false, not, ◌&&◌, ◌||◌}
 use native.Mathlib.Nat.{pow-suc, div-one}
 use native.Mathlib.Numerals.{one-add}
 use native.Mathlib.Omega.{arith}

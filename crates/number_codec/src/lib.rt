@@ -1,6 +1,7 @@
 // The numbers of the format, read and written: unsigned LEB128 in its shortest (canonical) form, at
 // most five bytes.
 #![tactic(auto)]
+
 ghost use Rattle.std.specs.Prelude.{◌≡◌, ◌+◌, ◌*◌, ◌%◌, ◌^◌, ◌≤◌, ◌<◌, length, drop};
 ghost use Rattle.number.specs.Number.{number_bound, accepted, refused, continued, fifth_group, groups, leading, read_number, number_bytes};
 ghost use Rattle.number.specs.Output.{writing, written};

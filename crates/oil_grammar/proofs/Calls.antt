@@ -2,7 +2,7 @@
 -- The checker computes each.
 use Prim.Native.Nat.{ℕ, ◌+◌, ◌*◌}
 use mathlib.Core.Path.{◌≡◌, refl}
-use mathlib.Core.List.{List, [], ◌∷◌, ◌++◌, map}
+use mathlib.Core.List.{List, [], ◌∷◌, map}
 use lib.ListN.{replicate}
 use Rattle.number.specs.Output.{writing, written}
 use Rattle.oil_grammar.specs.Reader.{oil_result, oil_output, oil_place}

@@ -13,7 +13,6 @@ use lib.ListN.{length, take, drop, length-drop}
 use lib.Seq.{drop-drop}
 use borrow.Author.Tests.{eq-eqb, ne_eqb, le-leb, lt-leb, leb-true, eqb-true}
 use Rattle.number.proofs.Cases.{by_test, by_eq, by_lt}
-use Rattle.oil_grammar.specs.declared.Token.{Token}
 use Rattle.oil_grammar.specs.Byte.{slash, star, is_space, is_letter, is_digit, is_name_byte, is_line_byte, span}
 use Rattle.oil_grammar.specs.Token as W
 use Rattle.oil_grammar.specs.Token.{mark, number, spelled_sort, token_of_sort, spelled, sign_of, decimal, number_sort, end_sort}

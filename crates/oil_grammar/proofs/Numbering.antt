@@ -3,15 +3,14 @@
 --
 -- In order: one object's step; a field of the configuration that the objects of a sort fill in their order (`Field`), and
 -- what is in it after all of them; kinds, priorities, autostarts and users as such fields; the attributes; the bits.
-use Prim.Native.Nat.{ℕ, zero, suc, ◌+◌, ◌-◌, ◌≤◌, ◌<◌, min}
-use mathlib.Core.Path.{◌≡◌, refl, sym, ap, ap₂, ◌∙◌}
-use mathlib.Core.Bool.{Bool, true, false, cond, not, ◌||◌, or-true, or-false}
+use Prim.Native.Nat.{ℕ, zero, suc, ◌+◌, ◌≤◌, ◌<◌, min}
+use mathlib.Core.Path.{◌≡◌, refl, sym, ap, ◌∙◌}
+use mathlib.Core.Bool.{Bool, true, false, cond, ◌||◌, or-true, or-false}
 use mathlib.Core.List.{List, [], ◌∷◌, ◌++◌}
-use mathlib.Core.Logic.{◌≢◌, ◌↔◌, ◌⊎◌, inl, inr}
+use mathlib.Core.Logic.{◌≢◌, ◌⊎◌, inl, inr}
 use native.Mathlib.Nat.{add-zero, zero-add}
 use native.Mathlib.Omega.{arith}
 use borrow.Author.Tests.{not-true, not-false}
-use lib.Dec.{lit≤}
 use lib.ListN.{length, get_or, set, replicate, length-set, get_or-replicate}
 use lib.Seq.{get_or-set_same, get_or-set_other, set-set, set-get_or}
 use Rattle.number.proofs.Cases.{by_test}
@@ -20,10 +19,10 @@ use Rattle.config.specs.Value.{with_bodies, with_kind, with_resources, with_user
 use Rattle.word.specs.Word.{has, with}
 use Rattle.word.proofs.Theorems as Bits
 use Rattle.oil_grammar.specs.Token.{same}
-use Rattle.oil_grammar.specs.Object.{Attribute, priority, autostart, uses, Object, is_resource, priorities, autostarts, Fits, task, isr, resource, among_names, attribute_uses}
+use Rattle.oil_grammar.specs.Object.{Attribute, priority, autostart, uses, Object, priorities, autostarts, Fits, task, isr, resource, among_names, attribute_uses}
 use Rattle.oil_grammar.specs.Meaning.{held, counted, kind_of, start_of, users_with, users_from, users_of, attributed, attributed_all, begun, ended, placed, empty, config_of}
-use Rattle.oil_grammar.specs.Grammar.{AllFit, fit_nil, fit_cons}
-use Rattle.oil_grammar.specs.Numbering.{members, is_declared, is_body, bodies, declared, no_object, nth, Says, BodyMeant}
+use Rattle.oil_grammar.specs.Grammar.{AllFit, fit_cons}
+use Rattle.oil_grammar.specs.Numbering.{members, is_declared, is_body, bodies, declared, nth, Says, BodyMeant}
 use Rattle.oil_grammar.proofs.Spelling.{false_true}
 
 -- what one object makes of a configuration; u: a resource's users by its name

@@ -10,7 +10,6 @@ use Rattle.number.specs.Refusal.{none}
 use Rattle.number.proofs.Cases.{by_eq}
 use Rattle.config.specs.declared.Config.{Config}
 use Rattle.config.specs.Writer.{first_fault}
-use Rattle.oil_grammar.specs.Token as W
 use Rattle.oil_grammar.specs.Object as O
 use Rattle.oil_grammar.specs.Object.{written, resources, object_uses, among_names}
 use Rattle.oil_grammar.specs.Grammar.{Oil, Borne, Describes}

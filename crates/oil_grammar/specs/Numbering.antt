@@ -4,7 +4,7 @@
 --   bodies os, declared os  the TASK and ISR objects, and the RESOURCE objects
 --   Says a o                the attribute a stands in the object o
 --   BodyMeant c i o         body i of the configuration c is the object o
-use Rattle.std.specs.Prelude.{ℕ, ◌≤◌, ◌≡◌, Bool, true, false, cond, not, List, [], ◌∷◌, ◌++◌, ◌↔◌, get_or}
+use Rattle.std.specs.Prelude.{ℕ, ◌≤◌, ◌≡◌, Bool, true, cond, not, List, [], ◌∷◌, ◌++◌, ◌↔◌, get_or}
 use Rattle.config.specs.declared.Config.{Config}
 use Rattle.oil_grammar.specs.Object.{Attribute, priority, autostart, Object, is_resource}
 

@@ -22,7 +22,7 @@ use Rattle.config.specs.Meaning.{isr, extended, time_triggered, execution_level,
 use Rattle.config.specs.Accepted.{Accepted, Shaped}
 use Rattle.config.proofs.Tables.{is_task_true}
 use Rattle.plan.specs.declared.Plan.{Plan}
-use Rattle.plan.specs.Rank.{no_rank, key_of, rank_of, body_count, callable_rank, line_rank}
+use Rattle.plan.specs.Rank.{no_rank, key_of, rank_of, callable_rank, line_rank}
 use Rattle.plan.specs.Entry.{entry_table, table_count, table_first, compare_of}
 use Rattle.plan.specs.Plan.{trigger_of, users_of, plan_of}
 use Rattle.plan.proofs.Stores.{length_stored, listed_at, get_d_any}

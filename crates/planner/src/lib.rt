@@ -1,5 +1,6 @@
 // The static tables that the machine's events look up, derived once from a configuration.
 #![tactic(auto)]
+
 mod bodies;
 mod entries;
 mod resources;

@@ -1,15 +1,12 @@
 -- The list of stretches reads back: `list_read`, at the end of the file.
 use Prim.Native.Nat.{ℕ, zero, suc, ◌+◌, ◌≤◌, ◌<◌}
-use mathlib.Core.Path.{◌≡◌, refl, sym, ap, ap₂, ◌∙◌}
-use mathlib.Core.Bool.{true, false, cond}
+use mathlib.Core.Path.{◌≡◌, refl, sym, ap, ◌∙◌}
 use mathlib.Core.List.{List, [], ◌∷◌, ◌++◌}
 use native.Mathlib.Omega.{arith}
 use borrow.Author.Tests.{lt-ltb, le-ltb}
-use lib.Dec.{ltb}
 use lib.ListN.{length, drop, length-append, length-drop}
 use lib.Seq.{drop-drop, drop-append_seam}
 use Rattle.number.specs.Number.{number_bound, accepted, read_number, number_bytes}
-use Rattle.number.specs.declared.NumberRead.{NumberRead}
 use Rattle.number.proofs.Theorems as Number
 use Rattle.recording.specs.Stretch.{Stretch, stretch_bytes, listed_from, listed, Apart}
 

@@ -1,5 +1,6 @@
 // Salvages a damaged recording: the events that can be read are kept, and the stretches between them are listed.
 #![tactic(auto)]
+
 mod walk;
 mod write;
 

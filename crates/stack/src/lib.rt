@@ -18,7 +18,7 @@ const HIGHEST: u64 = 72057594037927936;
 const EMPTY: u64 = 18446744073709551615;
 
 // 16 bytes.
-#[derive(Drop)]
+#[derive(Clone, Copy)]
 pub struct Row {
     // The eight bytes nearest the top.
     pub near: u64,

@@ -1,6 +1,5 @@
 -- What each code's event does to the model is the machine's step.
-use Prim.Native.Nat.{ℕ}
-use mathlib.Core.Path.{◌≡◌, refl}
+use mathlib.Core.Path.{◌≡◌}
 use borrow.Author.Tests.{ne_eqb}
 use Rattle.config.specs.declared.Config.{Config}
 use Rattle.config.specs.Meaning.{counts_lines}

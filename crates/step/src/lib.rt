@@ -1,6 +1,7 @@
 // One event of a trace on the machine's model: the next model with its answer. The run reads the arguments in the arm of
 // a code and does not come here; a call that looks at the model between events does.
 #![tactic(auto)]
+
 ghost use Rattle.std.specs.Prelude.{◌≡◌};
 ghost use Rattle.machine.specs.Machine.{machine_step};
 ghost use Rattle.run.specs.Run.{call_of};

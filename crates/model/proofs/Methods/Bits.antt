@@ -11,7 +11,7 @@ use Rattle.scheduler.specs.Status.{call_level, no_such, access, holds_resource, 
 use Rattle.scheduler.specs.Bits.{any_set, with_bits, without_bits}
 use Rattle.word.specs.Word.{has, with, without}
 use Rattle.stack.specs.Stack.{top_row}
-use Rattle.machine.specs.Model.{Core, Picked, Model, no_rank, with_core, with_begun, with_event_bits, done_with, refused_with}
+use Rattle.machine.specs.Model.{Picked, Model, no_rank, with_core, with_begun, with_event_bits, done_with, refused_with}
 use Rattle.machine.specs.Arbiter.{arbitrated, settled}
 use Rattle.model.specs.View.{core}
 use Rattle.machine.specs.Events.{no_caller, begun_word, bits_at, no_task, wait, set_event, clear}

@@ -1,10 +1,10 @@
 -- The events of tables, case by case in the order of their checks, as the code goes through them.
-use Prim.Native.Nat.{ℕ, zero, suc, ◌+◌, ◌≤◌, ◌<◌}
-use mathlib.Core.Path.{◌≡◌, refl, sym, ap, ◌∙◌}
+use Prim.Native.Nat.{ℕ, ◌+◌, ◌≤◌, ◌<◌}
+use mathlib.Core.Path.{◌≡◌, sym, ap, ◌∙◌}
 use mathlib.Core.Bool.{Bool, true, false, ◌&&◌, ◌||◌}
 use mathlib.Core.List.{List}
 use lib.Dec.{ltb, eqb}
-use lib.ListN.{length, get_or}
+use lib.ListN.{get_or}
 use borrow.Author.Tests.{ltb-false, le-leb, lt-leb}
 use Rattle.number.proofs.Cases.{neither}
 use Rattle.config.specs.Value.{max_entries}
@@ -12,10 +12,9 @@ use Rattle.scheduler.specs.Status.{call_level, no_such, bad_delay, wrong_state, 
 use Rattle.scheduler.specs.Call.{longest_delay}
 use Rattle.machine.specs.Model.{Model, with_core, with_request, with_rest, with_cells, done_with, refused_with}
 use Rattle.machine.specs.Arbiter.{triggering}
-use Rattle.machine.specs.Cells.{is_on, counters_ticked, some_turn, marks, counters_started, switches_started, some_long, counters_stopped, switches_stopped, in_row, Tally, requests_due}
+use Rattle.machine.specs.Cells.{is_on, counters_ticked, some_turn, counters_started, switches_started, some_long, counters_stopped, switches_stopped, in_row, Tally, requests_due}
 use Rattle.machine.specs.Events.{no_caller, begun_word, marks_of, switches_of, tick, start, stop}
 use Rattle.cells.specs.Methods.{tally_with}
-use Rattle.model.specs.View.{core}
 
 -- Tick, up to arbitration. v has who has begun, q and ls are the requests and losses, ns, ws and z the cells after it.
 module _ (ks rs ps : List ℕ) (m : Model) {v : ℕ} (begun : v ≡ begun_word m) {q : ℕ} {ls : List ℕ}

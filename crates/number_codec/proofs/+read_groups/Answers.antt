@@ -9,25 +9,25 @@ use Rattle.number_codec.proofs.Room.{continued_fits}
 use Rattle.number_codec.proofs.+read_groups.Goals as goal
 
 pub returns-then-bytes-at : goal.returns-then-bytes-at
-returns-then-bytes-at c = c.refused.ensures ∙ sym (groups_past _ _ _ c.if-bytes-at.true)
+returns-then-bytes-at t c = c.refused.ensures ∙ sym (groups_past _ _ _ c.if-bytes-at.true)
 
 pub returns-then-more-eq0 : goal.returns-then-more-eq0
-returns-then-more-eq0 c = c.fifth.ensures ∙ (let a =
+returns-then-more-eq0 t c = c.fifth.ensures ∙ (let a =
     c.args in
     sym (groups_at_last a.bytes.now a.at a.more (omega arith) c.if-more-eq0.true))
 
 pub returns-then-b-lt128 : goal.returns-then-b-lt128
-returns-then-b-lt128 c = c.single.ensures ∙ (let a =
+returns-then-b-lt128 t c = c.single.ensures ∙ (let a =
     c.args in
     sym (groups_at_end a.bytes.now a.at a.more (omega arith) (omega arith) c.if-b-lt128.true))
 
 pub continued-requires : goal.continued-requires
-continued-requires c = let a = c.args in
+continued-requires t c = let a = c.args in
     continued_fits a.bytes.now a.at a.more (omega arith) (omega arith) (omega arith)
     c.read_groups.result c.read_groups.ensures
 
 pub returns : goal.returns
-returns c = let a = c.args in
+returns t c = let a = c.args in
     c.continued.ensures ∙ ap (continued (get_or a.bytes.now a.at 0 % 128)) c.read_groups.ensures
     ∙ sym (groups_at_more a.bytes.now a.at a.more (omega arith) (omega arith)
     c.if-b-lt128.false)

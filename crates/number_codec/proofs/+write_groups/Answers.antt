@@ -40,34 +40,34 @@ module _ (d : List ℕ) (v : ℕ) (h : 128 ≤ v) (small : v < number_bound) (ro
       (laid_first (128 + v % 128) (number_bytes (v / 128)) d long)
 
 pub bounds-out-0 : goal.bounds-out-0
-bounds-out-0 c = omega (arith, length_number_bytes c.args.value)
+bounds-out-0 t c = omega (arith, length_number_bytes c.args.value)
 
 pub shape_of-out-then-value-lt128 : goal.shape_of-out-then-value-lt128
-shape_of-out-then-value-lt128 c = simp length-set
+shape_of-out-then-value-lt128 t c = simp length-set
 
 pub returns-then-value-lt128 : goal.returns-then-value-lt128
-returns-then-value-lt128 c = let a = c.args in
+returns-then-value-lt128 t c = let a = c.args in
     stored a.out.now a.value c.if-value-lt128.true (omega (arith, length_number_bytes a.value))
 
 pub bounds-out-0-2 : goal.bounds-out-0-2
-bounds-out-0-2 c = omega (arith, length_number_bytes c.args.value)
+bounds-out-0-2 t c = omega (arith, length_number_bytes c.args.value)
 
 pub slice_bounds-write_groups-count : goal.slice_bounds-write_groups-count
-slice_bounds-write_groups-count c = simp length-set (omega (arith, length_number_bytes c.args.value))
+slice_bounds-write_groups-count t c = simp length-set (omega (arith, length_number_bytes c.args.value))
 
-pub UNKNOWN-slice_bounds_write_groups_start : goal.UNKNOWN-slice_bounds_write_groups_start
-UNKNOWN-slice_bounds_write_groups_start c = simp length-set (omega (arith, length_number_bytes c.args.value))
+pub slice_bounds-write_groups-start : goal.slice_bounds-write_groups-start
+slice_bounds-write_groups-start t c = simp length-set (omega (arith, length_number_bytes c.args.value))
 
 pub write_groups-requires : goal.write_groups-requires
-write_groups-requires c = let a = c.args in
+write_groups-requires t c = let a = c.args in
     (omega arith, lent_fits a.out.now a.value (omega arith) (omega arith) (omega arith))
 
 pub returns : goal.returns
-returns c = let a = c.args in
+returns t c = let a = c.args in
     more-written a.out.now a.value (omega arith) (omega arith) (omega arith)
-    c.write_groups.new.1.0 c.write_groups.ensures
+    c.write_groups.new.out c.write_groups.ensures
 
 pub shape_of-out : goal.shape_of-out
-shape_of-out c = ap length (returns-2 c)
+shape_of-out t c = ap length (returns t c)
     ∙ length_written (number_bytes c.args.value)
     c.args.out.now

@@ -1,6 +1,5 @@
 -- `write_groups` meets its contract: one byte stored, and the rest written to the part after it. The measure is the
 -- value.
-use Prim.Native.Nat.{◌-◌}
 use Rattle.number_codec.proofs.+write_groups.Given as goal
 
 -- measure: value

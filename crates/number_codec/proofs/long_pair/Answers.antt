@@ -10,4 +10,4 @@ returns c = let bs = c.args.bytes.now in
     let b = c.read_number-second.ensures in
     let value = ap (λ (n : NumberRead). n.value) b ∙ ap (λ (n : NumberRead). (read_number bs n.place).value) a in
     let place = ap (λ (n : NumberRead). n.place) b ∙ ap (λ (n : NumberRead). (read_number bs n.place).place) a in
-    (ap (λ (n : NumberRead). n.value) a, (value, place))
+    record { first = ap (λ (n : NumberRead). n.value) a; second = value; place = place }

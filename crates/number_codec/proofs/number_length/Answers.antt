@@ -12,32 +12,32 @@ returns-then-value-lt128 c = simp (lt-ltb c.args.value 128 (omega arith))
 pub returns-then-value-lt16384 : goal.returns-then-value-lt16384
 unfolding number_bytes group_bytes
 returns-then-value-lt16384 c = simp (
-      le-ltb c.args.value 128 (omega arith),
-      lt-ltb (c.args.value / 128) 128 (omega arith),
-    )
+  le-ltb c.args.value 128 (omega arith),
+  lt-ltb (c.args.value / 128) 128 (omega arith),
+)
 
 pub returns-then-value-lt2097152 : goal.returns-then-value-lt2097152
 unfolding number_bytes group_bytes
 returns-then-value-lt2097152 c = simp (
-      le-ltb c.args.value 128 (omega arith),
-      le-ltb (c.args.value / 128) 128 (omega arith),
-      lt-ltb ((c.args.value / 128) / 128) 128 (omega arith),
-    )
+  le-ltb c.args.value 128 (omega arith),
+  le-ltb (c.args.value / 128) 128 (omega arith),
+  lt-ltb ((c.args.value / 128) / 128) 128 (omega arith),
+)
 
 pub returns-then-value-lt268435456 : goal.returns-then-value-lt268435456
 unfolding number_bytes group_bytes
 returns-then-value-lt268435456 c = simp (
-      le-ltb c.args.value 128 (omega arith),
-      le-ltb (c.args.value / 128) 128 (omega arith),
-      le-ltb ((c.args.value / 128) / 128) 128 (omega arith),
-      lt-ltb (((c.args.value / 128) / 128) / 128) 128 (omega arith),
-    )
+  le-ltb c.args.value 128 (omega arith),
+  le-ltb (c.args.value / 128) 128 (omega arith),
+  le-ltb ((c.args.value / 128) / 128) 128 (omega arith),
+  lt-ltb (((c.args.value / 128) / 128) / 128) 128 (omega arith),
+)
 
 pub returns-else-value-lt268435456 : goal.returns-else-value-lt268435456
 unfolding number_bytes group_bytes
 returns-else-value-lt268435456 c = simp (
-      le-ltb c.args.value 128 (omega arith),
-      le-ltb (c.args.value / 128) 128 (omega arith),
-      le-ltb ((c.args.value / 128) / 128) 128 (omega arith),
-      le-ltb (((c.args.value / 128) / 128) / 128) 128 (omega arith),
-    )
+  le-ltb c.args.value 128 (omega arith),
+  le-ltb (c.args.value / 128) 128 (omega arith),
+  le-ltb ((c.args.value / 128) / 128) 128 (omega arith),
+  le-ltb (((c.args.value / 128) / 128) / 128) 128 (omega arith),
+)

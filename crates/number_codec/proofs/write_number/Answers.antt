@@ -8,10 +8,10 @@ use Rattle.number_codec.proofs.write_number.Goals as goal
 
 pub returns-then-out-n : goal.returns-then-out-n
 returns-then-out-n c = let a = c.args in record {
-      result = writing_no_room (number_bytes a.value) (length a.out.now) c.number_length-n.result
+  result = writing_no_room (number_bytes a.value) (length a.out.now) c.number_length-n.result
       c.number_length-n.ensures (omega arith);
-      output = sym (written_no_room (number_bytes a.value) a.out.now (omega arith));
-    }
+  output = sym (written_no_room (number_bytes a.value) a.out.now (omega arith));
+}
 
 pub returns : goal.returns
 returns c = let a = c.args in

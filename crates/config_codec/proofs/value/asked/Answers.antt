@@ -1,0 +1,98 @@
+-- `asked` meets its contract: each arm is the number of its field.
+use native.Mathlib.Omega.{arith}
+use Rattle.config.specs.declared.Field.TheVariants.{Kind, Priority, Autostart, Deadline, Users, Period, Entries, Offset, Task}
+use Rattle.config.specs.Draft.{asked_at}
+use Rattle.config_codec.proofs.NextNumber.{placed}
+use Rattle.config_codec.proofs.value.asked.Goals as goal
+
+pub bounds-c-i : goal.bounds-c-i
+bounds-c-i c = let h = placed c.requires.config c.args.p c.requires.within Kind c.in-Kind.is in omega arith
+
+pub bounds-c-i-in-Priority : goal.bounds-c-i-in-Priority
+bounds-c-i-in-Priority c = let h = placed c.requires.config c.args.p c.requires.within Priority c.in-Priority.is in omega arith
+
+pub bounds-c-i-in-Autostart : goal.bounds-c-i-in-Autostart
+bounds-c-i-in-Autostart c = let h = placed c.requires.config c.args.p c.requires.within Autostart c.in-Autostart.is in omega arith
+
+pub offset_bounds-c-i : goal.offset_bounds-c-i
+offset_bounds-c-i c = let h = placed c.requires.config c.args.p c.requires.within Deadline c.in-Deadline.is in omega arith
+
+pub bounds-c-i-in-Deadline : goal.bounds-c-i-in-Deadline
+bounds-c-i-in-Deadline c = let h = placed c.requires.config c.args.p c.requires.within Deadline c.in-Deadline.is in omega arith
+
+pub offset_bounds-c-i-in-Users : goal.offset_bounds-c-i-in-Users
+offset_bounds-c-i-in-Users c = let h = placed c.requires.config c.args.p c.requires.within Users c.in-Users.is in omega arith
+
+pub bounds-c-i-in-Users : goal.bounds-c-i-in-Users
+bounds-c-i-in-Users c = let h = placed c.requires.config c.args.p c.requires.within Users c.in-Users.is in omega arith
+
+pub offset_bounds-c-i-in-Period : goal.offset_bounds-c-i-in-Period
+offset_bounds-c-i-in-Period c = let h = placed c.requires.config c.args.p c.requires.within Period c.in-Period.is in omega arith
+
+pub bounds-c-i-in-Period : goal.bounds-c-i-in-Period
+bounds-c-i-in-Period c = let h = placed c.requires.config c.args.p c.requires.within Period c.in-Period.is in omega arith
+
+pub bounds-c-i-in-Entries : goal.bounds-c-i-in-Entries
+bounds-c-i-in-Entries c = let h = placed c.requires.config c.args.p c.requires.within Entries c.in-Entries.is in omega arith
+
+pub bounds-c-e : goal.bounds-c-e
+bounds-c-e c = let h = placed c.requires.config c.args.p c.requires.within Offset c.in-Offset.is in omega arith
+
+pub bounds-c-e-in-Task : goal.bounds-c-e-in-Task
+bounds-c-e-in-Task c = let h = placed c.requires.config c.args.p c.requires.within Task c.in-Task.is in omega arith
+
+pub returns-in-Version : goal.returns-in-Version
+unfolding asked_at
+returns-in-Version c = rw c.in-Version.is
+
+pub returns-in-Bodies : goal.returns-in-Bodies
+unfolding asked_at
+returns-in-Bodies c = rw c.in-Bodies.is
+
+pub returns-in-Kind : goal.returns-in-Kind
+unfolding asked_at
+returns-in-Kind c = rw c.in-Kind.is
+
+pub returns-in-Priority : goal.returns-in-Priority
+unfolding asked_at
+returns-in-Priority c = rw c.in-Priority.is
+
+pub returns-in-Autostart : goal.returns-in-Autostart
+unfolding asked_at
+returns-in-Autostart c = rw c.in-Autostart.is
+
+pub returns-in-Deadline : goal.returns-in-Deadline
+unfolding asked_at
+returns-in-Deadline c = rw c.in-Deadline.is
+
+pub returns-in-Resources : goal.returns-in-Resources
+unfolding asked_at
+returns-in-Resources c = rw c.in-Resources.is
+
+pub returns-in-Users : goal.returns-in-Users
+unfolding asked_at
+returns-in-Users c = rw c.in-Users.is
+
+pub returns-in-Tables : goal.returns-in-Tables
+unfolding asked_at
+returns-in-Tables c = rw c.in-Tables.is
+
+pub returns-in-Period : goal.returns-in-Period
+unfolding asked_at
+returns-in-Period c = rw c.in-Period.is
+
+pub returns-in-Entries : goal.returns-in-Entries
+unfolding asked_at
+returns-in-Entries c = rw c.in-Entries.is
+
+pub returns-in-Offset : goal.returns-in-Offset
+unfolding asked_at
+returns-in-Offset c = rw c.in-Offset.is
+
+pub returns-in-Task : goal.returns-in-Task
+unfolding asked_at
+returns-in-Task c = rw c.in-Task.is
+
+pub returns-in-End : goal.returns-in-End
+unfolding asked_at
+returns-in-End c = rw c.in-End.is
