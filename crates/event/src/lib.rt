@@ -9,7 +9,7 @@ pub const MAX_TRACE: usize = 8192;
 pub const TRACE_TOO_LONG: u8 = 20;
 
 // An event; an argument that it lacks is 0.
-#[derive(Drop)]
+#[derive(Clone, Copy)]
 pub struct Event {
     pub code: u8,
     pub first: u32,
@@ -18,7 +18,7 @@ pub struct Event {
 
 // What a reading gives: the event with refusal 0 and the place after it, or the all-zero event with
 // the refusal and its place.
-#[derive(Drop)]
+#[derive(Clone, Copy)]
 pub struct EventRead {
     pub event: Event,
     pub refusal: u8,

@@ -15,7 +15,7 @@ const CHAIN: u8 = 3;
 
 pub const TICK: u8 = 6;
 
-#[derive(Drop)]
+#[derive(Clone, Copy)]
 pub struct Change {
     // The ranks that were active before the event, and those that are after it, each as a word.
     pub before: u32,

@@ -46,7 +46,7 @@ const BAD_DELAY: u8 = 8;
 const NOT_USER: u8 = 33;
 
 // Who runs after arbitration, with the words that it leaves, and whether a body began.
-#[derive(Drop)]
+#[derive(Clone, Copy)]
 pub struct Picked {
     pub request: u32,
     pub started: u32,
@@ -85,7 +85,7 @@ pub struct Registers {
 }
 
 // The next registers with the answer.
-#[derive(Drop)]
+#[derive(Clone, Copy)]
 pub struct Step {
     pub registers: Registers,
     pub status: u8,
@@ -93,7 +93,7 @@ pub struct Step {
 }
 
 // All that the machine keeps between events. It goes by value.
-#[derive(Drop)]
+#[derive(Clone, Copy)]
 pub struct Model {
     pub registers: Registers,
     // The cells by entry: their counters and switches.
@@ -106,7 +106,7 @@ pub struct Model {
 }
 
 // The next model with its answer.
-#[derive(Drop)]
+#[derive(Clone, Copy)]
 pub struct Outcome {
     pub model: Model,
     pub status: u8,

@@ -4,7 +4,7 @@
 // A rank is a body's number in the order of priorities, 0 the lowest; time-triggered tasks stand above all others.
 #![tactic(auto)]
 
-#[derive(Drop)]
+#[derive(Clone, Copy)]
 pub struct Plan {
     // By body its rank; the same where it is a task that a call may activate, and where it is an ISR, else NO_RANK.
     pub rank: [u8; 32],
