@@ -38,7 +38,7 @@ const TURN: u16 = 2;
 const GROUP: usize = 8;
 
 // What a tick leaves: the requests, and whether any cell has a turn to pass.
-#[derive(Drop)]
+#[derive(Clone, Copy)]
 pub struct Ticked {
     pub request: u32,
     pub turning: bool,

@@ -84,7 +84,7 @@ pub struct Config {
 // A configuration as far as its numbers have come. `index` is the body, resource or table that is next, `entry` the
 // entry, and `until` the entry after the last one of its table. The code keeps the configuration and the rest apart,
 // since a draft by value would be copied at every number.
-#[derive(Drop)]
+#[derive(Clone, Copy)]
 pub struct Draft {
     pub config: Config,
     pub field: Field,
@@ -95,7 +95,7 @@ pub struct Draft {
 
 // What a reading gives: the configuration with refusal 0 and the place after it, or the all-zero
 // value with the refusal and its place.
-#[derive(Drop)]
+#[derive(Clone, Copy)]
 pub struct ConfigRead {
     pub config: Config,
     pub refusal: u8,

@@ -4,7 +4,7 @@
 use event::Event;
 
 // What an argument is the number of. A mask of event bits is drawn whole; Lacking: the event has no such argument.
-#[derive(Drop)]
+#[derive(Clone, Copy)]
 pub enum Sort {
     Lacking,
     Body,
@@ -15,14 +15,14 @@ pub enum Sort {
 }
 
 // A drawn argument, and the generator's value after it.
-#[derive(Drop)]
+#[derive(Clone, Copy)]
 pub struct Argument {
     pub number: u32,
     pub value: u32,
 }
 
 // A drawn event, and the generator's value after it.
-#[derive(Drop)]
+#[derive(Clone, Copy)]
 pub struct Drawn {
     pub event: Event,
     pub value: u32,

@@ -18,7 +18,7 @@ pub struct Event {
 
 // What a reading gives: the event with refusal 0 and the place after it, or the all-zero event with
 // the refusal and its place.
-#[derive(Drop)]
+#[derive(Clone, Copy)]
 pub struct EventRead {
     pub event: Event,
     pub refusal: u8,

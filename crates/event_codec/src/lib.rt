@@ -30,7 +30,7 @@ const WORD: usize = 4;
 const SHORT_LENGTHS: u64 = 48994968;
 
 // Where an event ends: the place after it, or a refusal with its place.
-#[derive(Drop)]
+#[derive(Clone, Copy)]
 pub struct EventEnd {
     pub refusal: u8,
     pub place: usize,

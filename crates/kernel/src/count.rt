@@ -6,7 +6,7 @@ ghost use Rattle.kernel.specs.Passes.{counted, bare, Bare};
 use event_codec::event_end;
 
 // How many events were read; the refusal is 0 where they are the whole trace.
-#[derive(Drop)]
+#[derive(Clone, Copy)]
 pub struct Counted {
     pub events: usize,
     pub refusal: u8,

@@ -28,7 +28,7 @@ pub const OUTPUT_MAX: usize = 32832;
 pub const REFUSED: u64 = 1 << 32;
 
 // How a run ends: the number of events, or a refusal with its place, and the model that the last event handed back.
-#[derive(Drop)]
+#[derive(Clone, Copy)]
 pub struct RunEnd {
     pub result: u64,
     pub model: Model,

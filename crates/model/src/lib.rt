@@ -46,7 +46,7 @@ const BAD_DELAY: u8 = 8;
 const NOT_USER: u8 = 33;
 
 // Who runs after arbitration, with the words that it leaves, and whether a body began.
-#[derive(Drop)]
+#[derive(Clone, Copy)]
 pub struct Picked {
     pub request: u32,
     pub started: u32,
@@ -85,7 +85,7 @@ pub struct Registers {
 }
 
 // The next registers with the answer.
-#[derive(Drop)]
+#[derive(Clone, Copy)]
 pub struct Step {
     pub registers: Registers,
     pub status: u8,

@@ -11,7 +11,7 @@ pub const NO_ROOM: u8 = 30;
 
 // What a reading gives: the value with refusal 0 and the place after it, or value 0 with the
 // refusal (error code) and its place (byte offset): the byte that decides it, or the input's end.
-#[derive(Drop)]
+#[derive(Clone, Copy)]
 pub struct NumberRead {
     pub value: u32,
     pub refusal: u8,
@@ -20,7 +20,7 @@ pub struct NumberRead {
 
 // What a writer answers: refusal 0 and the length written, or the refusal and its place, which for
 // NO_ROOM is the number of bytes needed.
-#[derive(Drop)]
+#[derive(Clone, Copy)]
 pub struct Written {
     pub refusal: u8,
     pub place: usize,

@@ -12,7 +12,7 @@ use number::{CUT, MALFORMED, NO_ROOM, NumberRead, Written};
 const LEADING: usize = 4;
 
 // Two numbers, and the place behind the second; a number that can't be read is 0.
-#[derive(Drop)]
+#[derive(Clone, Copy)]
 pub struct Pair {
     pub first: u32,
     pub second: u32,

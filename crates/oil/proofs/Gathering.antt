@@ -1,6 +1,6 @@
 -- The names that are kept stay those of the class that objects bear: a token more.
 use Prim.Native.Nat.{ℕ, ◌+◌, ◌-◌, ◌%◌, ◌≤◌, ◌<◌}
-use mathlib.Core.Path.{◌≡◌, refl, sym, ap, ◌∙◌}
+use mathlib.Core.Path.{◌≡◌, refl, sym, ◌∙◌}
 use mathlib.Core.Bool.{Bool, true, false, true≢false, ◌&&◌}
 use mathlib.Core.List.{List}
 use mathlib.Core.Logic.{⊎_elim}
@@ -8,17 +8,16 @@ use native.Mathlib.Omega.{arith}
 use lib.ListN.{length, get_or, take, drop, set, length-set}
 use lib.Seq.{get_or-set_same, get_or-set_other}
 use lib.Dec.{eqb}
-use Rattle.number.proofs.Cases.{by_test, by_eq, refuted}
+use Rattle.number.proofs.Cases.{by_eq, refuted}
 use Rattle.oil_grammar.specs.declared.Token.{Token}
 use Rattle.oil_grammar.specs.declared.Progress.{Progress}
-use Rattle.oil_grammar.specs.Token.{same}
 use Rattle.oil_grammar.specs.Next.{spelling}
 use Rattle.oil_grammar.specs.Automaton.{fresh}
 use Rattle.oil_grammar.specs.Walk.{bears, borne, unborne_at}
 use Rattle.oil_grammar.proofs.Spelling.{same_refl}
 use Rattle.oil.specs.declared.hashing.Class.{Class}
 use Rattle.oil.specs.Tokens.{token, progress_after}
-use Rattle.oil.specs.Names.{hashed, in_class, room, name_at, Kept, Among, Gathered, spelled, repeated_at, twice_at, missing_at}
+use Rattle.oil.specs.Names.{hashed, in_class, room, name_at, Among, Gathered, spelled, repeated_at, twice_at, missing_at}
 use Rattle.oil.proofs.TokenNumbers.{borne_next, borne_more, borne_last, token_lies}
 
 pub and_false : (b : Bool) → (b && false) ≡ false

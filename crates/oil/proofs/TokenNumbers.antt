@@ -11,10 +11,10 @@ use lib.ListN.{length}
 use borrow.Author.Tests.{eq-eqb}
 use Rattle.number.proofs.Cases.{by_test, by_lt, by_eq, and_true}
 use Rattle.oil_grammar.specs.Token.{same}
-use Rattle.oil_grammar.specs.Next.{next_token, spelling}
+use Rattle.oil_grammar.specs.Next.{spelling}
 use Rattle.oil_grammar.specs.Automaton.{after, fresh}
 use Rattle.oil_grammar.specs.Walk.{bears, borne}
-use Rattle.oil_grammar.proofs.Spelling.{same_refl, same_equal}
+use Rattle.oil_grammar.proofs.Spelling.{same_equal}
 use Rattle.oil_grammar.proofs.Bounds.{next_inside}
 use Rattle.oil.specs.Tokens.{place_after, token, progress_after, Least}
 

@@ -12,12 +12,11 @@ use Rattle.number.specs.Refusal.{none}
 use Rattle.config.specs.declared.Config.{Config}
 use Rattle.oil_grammar.specs.declared.Token.{Token}
 use Rattle.oil_grammar.specs.declared.Progress.{Progress}
-use Rattle.oil_grammar.specs.declared.Want.{Want}
 use Rattle.oil_grammar.specs.Refusal.{no_resource}
 use Rattle.oil_grammar.specs.Token.{same, end_sort}
 use Rattle.oil_grammar.specs.Next.{next_token, spelling}
 use Rattle.oil_grammar.specs.Automaton.{after, fresh}
-use Rattle.oil_grammar.specs.Walk.{bears, borne, fault_in, refused_at, found, walk, unborne_at, unborne, numbered, marked, mask, put_at, put, fill}
+use Rattle.oil_grammar.specs.Walk.{bears, borne, fault_in, refused_at, found, walk, unborne_at, unborne, numbered, marked, mask, put, fill}
 use Rattle.oil_grammar.specs.Reader.{walked}
 use Rattle.oil_grammar.proofs.Bounds.{next_inside}
 use Rattle.oil_grammar.proofs.Sorts.{going}
@@ -136,8 +135,3 @@ module _ {t : List ℕ} {at : ℕ} {s : Progress} {n : ℕ} (k : WalksOn t at s 
               add-one,
             ) at k.on);
       }
-
--- what a token puts into a configuration, where the want is known
-pub put_at_lem : (u : List ℕ → ℕ) (s : Progress) (c : Config) (w : ℕ) (x : List ℕ) (v : Want) → s.want ≡ v → (r : Config)
-    → r ≡ put_at v u s c w x → r ≡ put u s c w x
-put_at_lem u s c w x v e r q = q ∙ sym (ap (λ (z : Want). put_at z u s c w x) e)

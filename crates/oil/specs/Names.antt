@@ -4,7 +4,7 @@
 --   in_class c xs                      the name xs is of the class c
 --   Kept, Gathered                     what is known of the names that are kept, each from a byte up to another
 --   repeated_at, twice_at, missing_at  of the token i: it is a name borne before, one of the class; a use that is not borne
-use Rattle.std.specs.Prelude.{ℕ, zero, suc, ◌+◌, ◌*◌, ◌-◌, ◌%◌, ◌≤◌, ◌<◌, ◌≡◌, Bool, true, ◌&&◌, List, [], ◌∷◌, eqb, length, get_or, take, drop}
+use Rattle.std.specs.Prelude.{ℕ, ◌+◌, ◌*◌, ◌-◌, ◌%◌, ◌≤◌, ◌<◌, ◌≡◌, Bool, true, ◌&&◌, List, [], ◌∷◌, eqb, length, get_or, take, drop}
 use Rattle.oil.specs.declared.hashing.Class.{Class}
 use Rattle.oil_grammar.specs.Next.{spelling}
 use Rattle.oil_grammar.specs.Automaton.{fresh}

@@ -4,7 +4,7 @@
 --   token t i                            the token that comes then
 --   Least n p r                          r is the first number below n of which p holds, or n
 --   Ordered t v                          v is what the tokens alone are refused with, and how many stand before it
-use Rattle.std.specs.Prelude.{ℕ, zero, suc, ◌≤◌, ◌<◌, ◌≡◌, Bool, true, false, List, length}
+use Rattle.std.specs.Prelude.{ℕ, zero, suc, ◌≤◌, ◌<◌, ◌≡◌, Bool, true, false, List}
 use Rattle.number.specs.Refusal.{none}
 use Rattle.oil_grammar.specs.declared.Token.{Token}
 use Rattle.oil_grammar.specs.declared.Progress.{Progress}

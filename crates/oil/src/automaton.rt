@@ -116,6 +116,7 @@ fn attribute_fault(s: Progress, w: u8) -> u8
 }
 
 // The refusal of a token of the sort `w` where the text has come as far as `s`, 0 where it is in order.
+#[tactic(auto, unfolding(oil_grammar::specs::Automaton::fault_at))]
 pub fn fault(s: Progress, w: u8) -> u8
     ensures { result ≡ fault s w }
 {
@@ -175,6 +176,7 @@ fn attribute_begun(s: Progress, w: u8) -> Progress
 }
 
 // How far the text has come after a token of the sort `w`.
+#[tactic(auto, unfolding(oil_grammar::specs::Automaton::after_at))]
 pub fn after(s: Progress, w: u8) -> Progress
     ensures { result ≡ after s w }
 {
@@ -213,6 +215,7 @@ pub fn fresh() -> Progress
 }
 
 // Whether the name of an object is wanted.
+#[tactic(auto, unfolding(oil_grammar::specs::Automaton::names_at))]
 pub fn names_object(s: Progress) -> bool
     ensures { result ≡ names_object s }
 {
@@ -221,6 +224,7 @@ pub fn names_object(s: Progress) -> bool
 }
 
 // Whether the name of a RESOURCE attribute is wanted.
+#[tactic(auto, unfolding(oil_grammar::specs::Automaton::uses_at))]
 pub fn uses_resource(s: Progress) -> bool
     ensures { result ≡ uses_resource s }
 {

@@ -15,7 +15,7 @@ const TEXT_KEY: u64 = 65599;
 const NAMES_PER_CLASS: usize = 1600;
 
 // The names whose hash at `key`, modulo `count`, is `number`.
-#[derive(Drop)]
+#[derive(Clone, Copy)]
 pub struct Class {
     pub key: u64,
     pub count: u64,

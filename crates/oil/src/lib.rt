@@ -1,5 +1,6 @@
 // OIL texts read into configurations: the tokens of a text, what each may be, the walks over them, the whole.
 #![tactic(auto)]
+
 mod automaton;
 mod borne;
 mod bytes;

@@ -34,6 +34,7 @@ fn counted(n: u8) -> u8
 }
 
 // The number of the next body after a token.
+#[tactic(auto, unfolding(oil_grammar::specs::Walk::numbered_at))]
 fn numbered(s: Progress, b: u8) -> u8
     ensures { result ≡ numbered s b }
 {
@@ -220,6 +221,7 @@ fn put_name(text: &[u8], tokens: usize, kind: u8, c: Config, start: usize, end: 
 }
 
 // `c` with what a token says.
+#[tactic(auto, unfolding(oil_grammar::specs::Walk::put_at))]
 fn put(text: &[u8], tokens: usize, s: Progress, c: Config, w: Token) -> Config
     requires { (w.start ≤ w.end) × (w.end ≤ length text.now) }
     ensures { result ≡ put (λ x. mask tokens text.now 0 fresh x 0 0) s c w.sort

@@ -17,7 +17,7 @@ use oil_grammar::{Progress, Token};
 const ROOM: usize = 2048;
 
 // How many names are kept, and the first token that is one of them again.
-#[derive(Drop)]
+#[derive(Clone, Copy)]
 pub struct Tally {
     pub count: usize,
     pub twice: usize,

@@ -5,7 +5,7 @@
 use config::Config;
 
 // A token of the text, from byte `start` up to byte `end`. Its sort is a number, `specs/Token.antt` lists them.
-#[derive(Drop)]
+#[derive(Clone, Copy)]
 pub struct Token {
     pub sort: u8,
     pub start: usize,
@@ -13,7 +13,7 @@ pub struct Token {
 }
 
 // What the text wants next.
-#[derive(Drop)]
+#[derive(Clone, Copy)]
 pub enum Want {
     Object,
     Name,
@@ -31,7 +31,7 @@ pub enum Want {
 
 // How far a text has come: what it wants next, the token that its present object begins with, and which of the
 // attributes that may stand once that object has had.
-#[derive(Drop)]
+#[derive(Clone, Copy)]
 pub struct Progress {
     pub want: Want,
     pub kind: u8,
@@ -41,7 +41,7 @@ pub struct Progress {
 
 // What a walk over the text finds: refusal 0 and the number of tokens before the end, or the refusal with its place
 // (byte offset).
-#[derive(Drop)]
+#[derive(Clone, Copy)]
 pub struct Found {
     pub refusal: u8,
     pub place: usize,
@@ -50,7 +50,7 @@ pub struct Found {
 
 // What a reading gives: the configuration with refusal 0, or the all-zero value with the refusal and its line and
 // column.
-#[derive(Drop)]
+#[derive(Clone, Copy)]
 pub struct OilRead {
     pub config: Config,
     pub refusal: u8,

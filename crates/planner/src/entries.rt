@@ -9,7 +9,7 @@ use crate::{NO_RANK, at_most};
 use config::{MAX_BODIES, MAX_ENTRIES, MAX_TABLES};
 
 // By table its first entry, and how many entries there are in all.
-#[derive(Drop)]
+#[derive(Clone, Copy)]
 pub struct ByTable {
     pub first: [u8; 8],
     pub count: usize,

@@ -12,7 +12,7 @@ fn greater(a: u8, b: u8) -> u8
 }
 
 // A resource's ceiling, and its users by rank.
-#[derive(Drop)]
+#[derive(Clone, Copy)]
 struct Usage {
     ceiling: u8,
     users: u32,
@@ -46,7 +46,7 @@ fn usage_of(users: u32, priority: [u8; 32], ranks: [u8; 32], n: usize) -> Usage
 }
 
 // The ceilings and the words of users, each by resource.
-#[derive(Drop)]
+#[derive(Clone, Copy)]
 pub struct ByResource {
     pub ceiling: [u8; 16],
     pub users: [u32; 16],

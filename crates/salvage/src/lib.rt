@@ -13,7 +13,7 @@ use walk::measure;
 use write::write_both;
 
 // How many bytes the kept events and the list of stretches take.
-#[derive(Drop)]
+#[derive(Clone, Copy)]
 pub struct Lengths {
     pub events: usize,
     pub stretches: usize,
@@ -21,7 +21,7 @@ pub struct Lengths {
 
 // What a salvage answers: the lengths of both outputs with refusal 0, or zeros with the refusal and
 // its place, which for NO_ROOM is the number of bytes that the output at fault needs.
-#[derive(Drop)]
+#[derive(Clone, Copy)]
 pub struct Salvaged {
     pub events: usize,
     pub stretches: usize,

@@ -5,7 +5,7 @@
 --
 --   Alone t s s'  of the states s and s' no body but t, no table and no order differs
 --   Outcomes c s  what each event leaves that meets the state s and is accepted
-use Rattle.std.specs.Prelude.{ℕ, suc, ◌<◌, ◌≡◌, ◌≢◌, true, false, List, [], ◌∷◌, length}
+use Rattle.std.specs.Prelude.{ℕ, suc, ◌<◌, ◌≡◌, ◌≢◌, true, false, List, ◌∷◌, length}
 use Rattle.config.specs.declared.Config.{Config}
 use Rattle.scheduler.specs.Body.{suspended, ready, has_begun}
 use Rattle.scheduler.specs.State.{State, Table, stopped, running, body_of, table_of}

@@ -19,7 +19,7 @@ use Rattle.plan.specs.declared.Plan.{Plan}
 use Rattle.word.specs.Word.{with, without}
 use Rattle.word.proofs.Theorems.{has_with_same, has_with_other, with_lt, has_without_same, has_without_other, without_lt}
 use Rattle.stack.specs.Stack.{top_row}
-use Rattle.scheduler.specs.Body.{Body, is_started, started, waiting, become, activated, ended, finished, holds, current}
+use Rattle.scheduler.specs.Body.{Body, is_started, waiting, become, activated, ended, finished, holds, current}
 use Rattle.scheduler.specs.State.{no_body}
 use Rattle.scheduler.proofs.Body.{started_competes}
 use Rattle.scheduler.proofs.Members.{among_head, among_tail, not_among}

@@ -15,7 +15,7 @@ use Rattle.plan.specs.declared.Plan.{Plan}
 use Rattle.word.specs.Word.{has, without}
 use Rattle.scheduler.specs.Status.{done, call_level, no_such, access, holds_resource, wrong_state}
 use Rattle.scheduler.specs.Bits.{any_set, without_bits}
-use Rattle.scheduler.specs.Body.{started, waiting, is_suspended, competes, Body, become, receives, clears}
+use Rattle.scheduler.specs.Body.{waiting, is_suspended, competes, Body, become, receives, clears}
 use Rattle.scheduler.specs.State.{State, no_body, changing}
 use Rattle.scheduler.specs.Call.{caller, wait_status, set_status, clear_status, wait, set_event, clear}
 use Rattle.scheduler.specs.Tick.{dues}

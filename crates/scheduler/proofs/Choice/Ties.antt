@@ -16,7 +16,7 @@ use Rattle.config.specs.declared.Config.{Config}
 use Rattle.config.specs.Meaning.{is_extended, priority_of}
 use Rattle.config.specs.Accepted as Configuration
 use Rattle.config.proofs.Theorems.{priority_inj}
-use Rattle.scheduler.specs.Body.{is_started, competes, Body, holds, current, rest, receives}
+use Rattle.scheduler.specs.Body.{is_started, competes, Body, holds, current, receives}
 use Rattle.scheduler.specs.Choice.{Candidate, by_holding, by_begun, goes_before, chosen_by}
 use Rattle.scheduler.specs.State.{State, body_of, latest_of, runner_by, runner}
 use Rattle.scheduler.specs.Event.{Event, Set}

@@ -4,7 +4,7 @@
 -- what an activation clears; every other event keeps the bits of whoever is not suspended.
 use Prim.Native.Nat.{ℕ, ◌≤◌, ◌<◌}
 use mathlib.Core.Path.{◌≡◌, refl, sym, ap, ◌∙◌}
-use mathlib.Core.Bool.{Bool, true, false, true≢false, cond, not, ◌&&◌, ◌||◌}
+use mathlib.Core.Bool.{Bool, true, false, true≢false, not, ◌&&◌, ◌||◌}
 use mathlib.Core.List.{List, []}
 use mathlib.Core.Logic.{◌≢◌, inl, inr}
 use native.Mathlib.Omega.{arith}
@@ -16,7 +16,7 @@ use Rattle.number.proofs.Cases.{by_lt, by_eq, cond_either}
 use Rattle.config.specs.declared.Config.{Config}
 use Rattle.config.specs.Meaning.{is_timed}
 use Rattle.scheduler.specs.Status.{done, first_given}
-use Rattle.scheduler.specs.Bits.{bit_set, any_set, with_bits}
+use Rattle.scheduler.specs.Bits.{bit_set, with_bits}
 use Rattle.scheduler.specs.Body.{Phase, suspended, ready, started, waiting, triggered, is_suspended, Body, activated, become, loses, finished, requested, gets, releases, waits, resumed, receives, clears}
 use Rattle.scheduler.specs.Choice.{Candidate, by_holding, is_nobody, chosen}
 use Rattle.scheduler.specs.State.{State, no_body, body_of, changing, runner}

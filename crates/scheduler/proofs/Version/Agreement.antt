@@ -3,11 +3,10 @@
 -- In order: states that are alike but for their losses; changes of a body that do not look at them (`Blind`); the choice,
 -- the statuses, the effects and the dues of two editions in two such states.
 -- v and w are the editions, s and s' the states that they meet.
-use Prim.Native.Nat.{ℕ, zero, suc, ◌+◌}
+use Prim.Native.Nat.{ℕ, zero, suc}
 use mathlib.Core.Path.{◌≡◌, refl, sym, ap, ap₂, ◌∙◌}
 use mathlib.Core.Bool.{Bool, true, false, true≢false, cond, not}
 use mathlib.Core.List.{List, [], ◌∷◌, ◌++◌, map}
-use mathlib.Core.Logic.{◌≢◌}
 use lib.Dec.{eqb}
 use lib.ListN.{length, get_or, set, replicate, length-map, get_or-map}
 use lib.Seq.{map-set_same}

@@ -6,7 +6,7 @@ use Prim.Native.Nat.{ℕ, ◌+◌, ◌≤◌, ◌<◌, min}
 use mathlib.Core.Path.{◌≡◌, refl, sym, ap, ◌∙◌}
 use mathlib.Core.Bool.{Bool, true, false, true≢false, cond, ◌&&◌, and-false}
 use mathlib.Core.List.{List, [], ◌∷◌}
-use mathlib.Core.Logic.{◌≢◌, inl, inr}
+use mathlib.Core.Logic.{inl, inr}
 use native.Mathlib.Nat.{zero-add, add_assoc}
 use native.Mathlib.Omega.{arith}
 use borrow.Author.Tests.{le-leb, eq-eqb, ne_eqb, eqb-true}
@@ -24,7 +24,7 @@ use Rattle.scheduler.specs.State.{State, no_body, body_of, changing, runner}
 use Rattle.scheduler.specs.Event.{Event, Activate, Finish, Chain, Get, Release, Tick, Line, Start, Stop, Wait, Set, Clear}
 use Rattle.scheduler.specs.Tick.{counted, dues, enter, activating_due}
 use Rattle.scheduler.specs.Call.{finish, finish_timed, effect_for, else_of}
-use Rattle.scheduler.specs.Scheduler.{begins, phase_begun, dispatched_to, mark_of, status_for, leaves, step, step_by, new_body, unstarted, fresh, seen, after, after_by}
+use Rattle.scheduler.specs.Scheduler.{begins, phase_begun, dispatched_to, mark_of, status_for, leaves, step, step_by, new_body, unstarted, fresh, after, after_by}
 use Rattle.scheduler.specs.History.{is_line_of, lines_lost}
 use Rattle.scheduler.specs.Conditions.{◌if◌, Decided, Isr, Requested}
 use Rattle.scheduler.proofs.Event.Effects.{body_of_changing_same, body_of_changing_other, entered, enter_bodies, finished_losses, requested_losses, waits_losses}

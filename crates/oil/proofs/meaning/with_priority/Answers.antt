@@ -1,0 +1,11 @@
+-- `with_priority` meets its contract: past the array nothing is stored.
+use mathlib.Core.Path.{◌≡◌, sym}
+use native.Mathlib.Omega.{arith}
+use lib.ListN.{length}
+use lib.Seq.{set_out}
+use borrow.Author.Rules.{rules}
+use Rattle.oil.proofs.meaning.with_priority.Goals as goal
+
+pub returns-then-n-ge-MAX_BODIES : goal.returns-then-n-ge-MAX_BODIES
+returns-then-n-ge-MAX_BODIES c = let a = c.args in let l : length a.c.priority ≡ 32 = search rules in
+    sym (rw (set_out a.c.priority a.c.bodies a.v (omega arith)))

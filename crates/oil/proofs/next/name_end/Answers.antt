@@ -1,0 +1,28 @@
+-- `name_end` meets its contract: the run has come as far as `i`.
+use mathlib.Core.Path.{refl, sym, ◌∙◌}
+use native.Mathlib.Omega.{arith}
+use Rattle.oil_grammar.specs.Byte.{is_name_byte}
+use Rattle.oil_grammar.proofs.Span.{run_stopped, run_ended, run_more}
+use Rattle.oil.proofs.next.name_end.Goals as goal
+
+pub loop-i-init : goal.loop-i-init
+loop-i-init c = (omega arith, refl)
+
+pub returns-then-not-is_name_byte : goal.returns-then-not-is_name_byte
+returns-then-not-is_name_byte c = let a = c.args in
+    let l = c.loop-i in
+    run_stopped is_name_byte a.text.now a.at l.i l.invariant.1 c.loop-i-test.true
+    (sym c.is_name_byte.ensures ∙ c.if-not-is_name_byte.true)
+
+pub loop-i-preserved : goal.loop-i-preserved
+loop-i-preserved c = let a = c.args in
+    let l = c.loop-i in (
+      omega arith,
+      run_more is_name_byte a.text.now a.at l.i l.invariant.1 c.loop-i-test.true
+          (sym c.is_name_byte.ensures ∙ c.if-not-is_name_byte.false),
+    )
+
+pub returns : goal.returns
+returns c = let a = c.args in
+    let l = c.loop-i in
+    run_ended is_name_byte a.text.now a.at l.i l.invariant.1 c.loop-i-test.false
