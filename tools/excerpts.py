@@ -36,9 +36,11 @@ def nearest(line, lines, low, high, table, at=None):
     return (best[2], best[0])
 
 
-def anew(page, file, excerpt, table):
+def anew(page, file, excerpt, whole, table):
     with open(os.path.join(ROOT, file), encoding="utf-8") as f:
         lines = f.read().split("\n")
+    if whole:
+        return "\n".join(lines).strip("\n").split("\n")
     parts, low = [], 0
     for part in "\n".join(excerpt).split("\n..\n"):
         part = part.split("\n")
@@ -70,7 +72,7 @@ def main(check):
             end = lines.index("```", at + 1)
             excerpt = lines[at + 1 : end]
             file = re.findall(r"`([^`]*)`", before)[-1]
-            made = anew(page, file, excerpt, table)
+            made = anew(page, file, excerpt, before.startswith("The whole of "), table)
             if made != excerpt:
                 stale = True
                 print("\n".join(difflib.unified_diff(excerpt, made, page, file, lineterm="")))

@@ -124,17 +124,18 @@ fn the_rules_list_every_refusal() {
 
 fn crates() -> Vec<String> {
     let text = read("crates.txt");
-    let names = text.lines().filter(|line| !line.starts_with('#')).filter_map(|line| line.split_once(':'));
-    names.map(|(name, _)| name.to_string()).collect()
+    let heads = text.lines().filter(|line| !line.starts_with('#')).filter_map(|line| line.split_once(':'));
+    // `staticlib` may follow a name.
+    heads.filter_map(|(head, _)| head.split_whitespace().next()).map(String::from).collect()
 }
 
-/// All files under a folder, or the file itself, with one of these endings.
+/// All files under a folder, or the file itself, with one of these endings; not what rt made of them in a folder `out`.
 fn files(path: &Path, endings: &[&str]) -> Vec<PathBuf> {
     if path.is_file() {
         return vec![path.to_path_buf()];
     }
     let Ok(entries) = fs::read_dir(path) else { return Vec::new() };
-    let paths = entries.map(|entry| entry.expect("an entry").path());
+    let paths = entries.map(|entry| entry.expect("an entry").path()).filter(|path| !path.ends_with("out"));
     let found = paths.flat_map(|path| if path.is_dir() { files(&path, endings) } else { vec![path] });
     found.filter(|path| endings.iter().any(|ending| path.to_string_lossy().ends_with(ending))).collect()
 }
@@ -251,7 +252,7 @@ fn every_name_in_a_page_is_a_word_of_the_sources() {
         let text = read(&page);
         for name in text.lines().flat_map(names) {
             let plain = name.chars().all(|c| c.is_ascii_alphanumeric() || "_-′".contains(c));
-            if plain && name.starts_with(|c: char| c.is_ascii_alphabetic()) && !name.ends_with('-') {
+            if plain && name.starts_with(|c: char| c.is_ascii_alphabetic()) && !name.ends_with(['-', '_']) {
                 assert!(words.contains(name), "{page}: no source has {name}");
             }
         }
@@ -335,12 +336,13 @@ fn excerpts_are_found_word_for_word_in_their_files() {
     }
 }
 
-/// The words of a page that are paths of this repository.
+/// The words of a page that are paths of this repository, without what rt makes in a crate's folder `out`.
 fn paths(text: &str) -> Vec<&str> {
     let folders = ["crates/", "docs/", "tests/", "tool/", "unit/", "host/", "include/", "python/", "scripts/"];
     let parts = |c: char| !(c.is_alphanumeric() || "_./-{}*".contains(c));
     let words = text.split(parts).map(|word| word.trim_end_matches(['.', '/', '-']));
-    words.filter(|word| folders.iter().any(|folder| word.starts_with(folder)) && !word.contains(['{', '*'])).collect()
+    let kept = |word: &&str| !word.contains(['{', '*']) && !word.contains("/out/");
+    words.filter(|word| folders.iter().any(|folder| word.starts_with(folder))).filter(kept).collect()
 }
 
 /// From the root of the repository or from the page's folder; a host test may be named without its folder and ending.

@@ -119,7 +119,7 @@ fn read_all(rt: &impl Print, trace: &[u8]) -> io::Result<()> {
     let mut at = 0;
     while at < trace.len() {
         let r = read_event(trace, at);
-        print_read(rt, r)?;
+        print_read(rt, &r)?;
         if r.refusal != 0 {
             return Ok(());
         }
@@ -130,7 +130,7 @@ fn read_all(rt: &impl Print, trace: &[u8]) -> io::Result<()> {
 
 fn read(rt: &impl Print, label: &str, trace: &[u8], at: usize) -> io::Result<()> {
     print!(rt; "{label}: ")?;
-    print_read(rt, read_event(trace, at))
+    print_read(rt, &read_event(trace, at))
 }
 
 fn write(
@@ -153,9 +153,11 @@ fn write(
     println!(rt)
 }
 
-fn print_read(rt: &impl Print, r: EventRead) -> io::Result<()> {
-    let e = r.event;
-    print!(rt; "event {} {} {}, ", e.code, e.first, e.second)?;
+fn print_read(rt: &impl Print, r: &EventRead) -> io::Result<()> {
+    print!(rt;
+        "event {} {} {}, ",
+        r.event.code, r.event.first, r.event.second
+    )?;
     print_answer(rt, r.refusal, r.place)?;
     println!(rt)
 }

@@ -1,5 +1,6 @@
 // The run of a trace on a configuration, which C calls.
 #![tactic(auto)]
+
 mod answer;
 mod count;
 mod output;

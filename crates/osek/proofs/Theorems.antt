@@ -7,8 +7,8 @@ use Prim.Native.Nat.{ℕ, suc, ◌+◌, min, ◌≤◌, ◌<◌}
 use mathlib.Core.Path.{◌≡◌}
 use mathlib.Core.Logic.{◌≢◌, ◌↔◌}
 use mathlib.Core.Bool.{true, false}
-use mathlib.Core.List.{List, [], ◌∷◌, ◌++◌, map, Memᴰ}
-use lib.ListN.{length, get_or, take, drop}
+use mathlib.Core.List.{List, [], ◌∷◌, map, Memᴰ}
+use lib.ListN.{length, get_or, take}
 use Rattle.number.specs.Refusal.{none, malformed}
 use Rattle.number.specs.Number as Number
 use Rattle.number.specs.Number.{number_bound, Bytes, read_number, number_bytes}

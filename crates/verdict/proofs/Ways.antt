@@ -2,7 +2,7 @@
 --
 --   no_whole, too_many, differs, passes   those of `judge`
 --   run_refused, run-counted, run-judged  those of `osek_verdict`, by the result and the output of the run
-use Prim.Native.Nat.{ℕ, ◌+◌, ◌*◌, ◌%◌, ◌≤◌, ◌<◌}
+use Prim.Native.Nat.{ℕ, ◌*◌, ◌%◌, ◌≤◌, ◌<◌}
 use mathlib.Core.Path.{◌≡◌, refl, sym, ap, ◌∙◌}
 use mathlib.Core.List.{List, ◌++◌}
 use mathlib.Core.Logic.{◌≢◌, inl, inr}

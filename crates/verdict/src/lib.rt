@@ -1,5 +1,6 @@
 // The verdict on a unit: whether the answers that it recorded are those of the run. Of the run it knows the contract.
 #![tactic(auto)]
+
 mod compare;
 
 ghost use Rattle.std.specs.Prelude.{◌≡◌, List, ◌++◌, ℕ, ◌*◌, ◌≤◌, length};

@@ -1,5 +1,6 @@
 // How long a body waits to begin: how many bodies end before it does, counted by bits of the last model's words.
 #![tactic(auto)]
+
 ghost use Rattle.std.specs.Prelude.{◌≡◌, ◌≤◌, ◌<◌, ◌||◌, eqb, take};
 ghost use Rattle.config.specs.Value.{max_bodies};
 ghost use Rattle.config.specs.Meaning.{extended, time_triggered};

@@ -13,7 +13,7 @@ use Rattle.number.proofs.Laying.{laid_laid, length_laid}
 use Rattle.config.specs.declared.Config.{Config}
 use Rattle.event.specs.declared.EventRead.{EventRead}
 use Rattle.event.specs.Event.{read_event}
-use Rattle.event.specs.Trace.{TraceRead, before, read_rest, read_trace}
+use Rattle.event.specs.Trace.{TraceRead, before, read_rest}
 use Rattle.event.proofs.Theorems.{event_reading, rest_end, rest_step, rest_refused}
 use Rattle.plan.specs.declared.Plan.{Plan}
 use Rattle.scheduler.specs.Scheduler as Plain

@@ -1,0 +1,54 @@
+-- `wait_by` meets its contract: its tests are the definition's, and the plan has the body's rank.
+use Prim.Native.Nat.{ℕ, ◌<◌}
+use mathlib.Core.Path.{◌≡◌, sym, ap, ◌∙◌}
+use native.Mathlib.Omega.{arith}
+use lib.ListN.{get_or}
+use borrow.Author.Tests.{le-leb, lt-leb}
+use Rattle.config.specs.declared.Config.{Config}
+use Rattle.config.specs.Accepted.{Accepted, Shaped}
+use Rattle.word.specs.Word.{ranks}
+use Rattle.plan.specs.declared.Plan.{Plan}
+use Rattle.plan.specs.Rank.{no_rank, rank_of}
+use Rattle.plan.specs.Plan.{plan_of}
+use Rattle.plan.proofs.Stores.{get_d_any}
+use Rattle.plan.proofs.Theorems.{plan_sized, body_rank, rank_lt}
+use Rattle.waiting.specs.Words.{wait_by}
+use Rattle.waits.proofs.wait_by.Goals as goal
+
+-- the rank that is read of a plan
+module _ (c : Config) (ok : Accepted c) (shaped : Shaped c) (p : Plan) (planned : p ≡ plan_of c) (b : ℕ)
+    (fits : b < c.bodies) where
+  rank_read : get_or p.rank b 0 ≡ rank_of c b
+  rank_read =
+      ap (λ (q : Plan). get_or q.rank b 0) planned
+      ∙ get_d_any (plan_of c).rank b 0 no_rank (omega (arith, (plan_sized c).ranks, ok.few_bodies))
+      ∙ body_rank c ok shaped b fits
+
+  rank_read_lt : get_or p.rank b 0 < ranks
+  rank_read_lt = omega (arith, rank_read, rank_lt c ok shaped b fits, ok.few_bodies)
+
+pub returns-then-beyond_basic : goal.returns-then-beyond_basic
+unfolding wait_by
+returns-then-beyond_basic c = simp (sym c.beyond_basic.ensures, c.if-beyond_basic.true)
+
+pub returns-then-config-body : goal.returns-then-config-body
+unfolding wait_by
+returns-then-config-body c = simp (
+  sym c.beyond_basic.ensures,
+  c.if-beyond_basic.false,
+  le-leb c.args.config.bodies c.args.body c.if-config-body.true,
+)
+
+pub wait_at-requires : goal.wait_at-requires
+wait_at-requires c = rank_read_lt c.args.config c.requires.accepted c.requires.shaped c.plan_of-plan.result c.plan_of-plan.ensures c.args.body
+    c.if-config-body.false
+
+pub returns : goal.returns
+unfolding wait_by
+returns c = simp (
+  sym c.beyond_basic.ensures,
+  c.if-beyond_basic.false,
+  lt-leb c.args.config.bodies c.args.body c.if-config-body.false,
+  sym (rank_read c.args.config c.requires.accepted c.requires.shaped c.plan_of-plan.result c.plan_of-plan.ensures c.args.body
+      c.if-config-body.false),
+) c.wait_at.ensures
