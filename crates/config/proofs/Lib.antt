@@ -17,6 +17,7 @@ mod RoundTrip
 mod Trimmed
 mod Counts
 mod Fuel
+mod FirstFault
 mod Ceiling
 mod Mask
 mod Timed

@@ -4,7 +4,7 @@ use Prim.Native.Nat.{ℕ, zero, suc, ◌+◌, ◌-◌, ◌^◌, ◌≤◌}
 use mathlib.Core.Path.{◌≡◌, refl, ◌∙◌}
 use mathlib.Core.Bool.{Bool, true, false, not, ◌&&◌, ◌||◌}
 use mathlib.Core.List.{List}
-use mathlib.Core.Logic.{◌⊎◌, inl, inr}
+use mathlib.Core.Logic.{◌≢◌, ◌⊎◌, inl, inr, ⊎_elim}
 use native.Mathlib.Omega.{arith}
 use lib.Dec.{leb, ltb, lit≤}
 use lib.ListN.{length, get_or, take}
@@ -12,6 +12,7 @@ use borrow.Author.Tests.{eq-eqb, ne_eqb, le-leb, lt-leb}
 use Rattle.number.specs.Refusal.{none, cut, malformed}
 use Rattle.number.specs.Number.{read_number}
 use Rattle.number.proofs.Cases.{by_test, by_lt, by_eq}
+use Rattle.config.specs.declared.Config.{Config}
 use Rattle.config.specs.declared.ConfigRead.{ConfigRead}
 use Rattle.config.specs.declared.Draft.{Draft}
 use Rattle.config.specs.declared.Field.{Field}
@@ -20,7 +21,8 @@ use Rattle.config.specs.Refusal.{bad_version, bad_count, bad_field, used_priorit
 use Rattle.config.specs.Meaning.{last_kind, is_task}
 use Rattle.config.specs.Value.{newest_version, max_priority, max_bodies, max_resources, max_tables, max_entries, no_config}
 use Rattle.config.specs.Among.{among}
-use Rattle.config.specs.Draft.{unless, outside, and_then, sorted, shares_offset, mixes, second_table, most_autostart, most_deadline, timed_user, fault, fault_at, put, ended, silent, start, Within}
+use Rattle.config.specs.Draft.{unless, outside, and_then, sorted, shares_offset, mixes, second_table, most_autostart, most_deadline, timed_user, fault, fault_at, put, asked, ended, silent, start, Within}
+use Rattle.config.specs.Writer.{fault_from}
 use Rattle.config.specs.Reader.{number_at, number_fault, fault_place, finished, refused, read_from, max_numbers, max_length, read_config}
 use Rattle.config.proofs.Position.{left, moved, some_left, start_within}
 use Rattle.config.proofs.Walk.{numbered, number_fine, read_end, read_step, read_stop, read_from_elim}
@@ -29,14 +31,17 @@ use Rattle.config.proofs.Walk.{numbered, number_fine, read_end, read_step, read_
 abbrev pub Known : ℕ → Type 0
 Known r = (r ≤ too_long) ⊎ ((r ≡ shared_offset) ⊎ (r ≡ mixed_table))
 
--- a test's answer: nothing, or a refusal from 3 on
-record Tested (r : ℕ) : Type 0 where
-  known : Known r
-  late : (r ≡ none → ⊥) → bad_version ≤ r
+-- the refusal of a number that is read: 3 to 8, 13 or 14
+abbrev pub OfRead : ℕ → Type 0
+OfRead r = ((bad_version ≤ r) × (r ≤ too_many_entries)) ⊎ ((r ≡ shared_offset) ⊎ (r ≡ mixed_table))
 
-unless_tested : (t : Bool) (r : ℕ) → bad_version ≤ r → Known r → Tested (unless t r)
-unless_tested true r low high = record { known = inl (lit≤ tt); late = λ n. absurd (n refl) }
-unless_tested false r low high = record { known = high; late = λ n. low }
+-- a test's answer: nothing, or such a refusal
+abbrev pub Tested : ℕ → Type 0
+Tested r = (r ≡ none) ⊎ OfRead r
+
+unless_tested : (t : Bool) (r : ℕ) → OfRead r → Tested (unless t r)
+unless_tested true r h = inl refl
+unless_tested false r h = inr h
 
 and_then_tested : {r s : ℕ} → Tested r → Tested s → Tested (and_then r s)
 and_then_tested {r} {s} p q =
@@ -44,11 +49,11 @@ and_then_tested {r} {s} p q =
     (λ e. rw (eq-eqb r none e) q)
     (λ e. rw (ne_eqb r none e) p)
 
--- of a refusal from 3 to 10
-plain_tested : (t : Bool) (r : ℕ) → bad_version ≤ r → r ≤ too_long → Tested (unless t r)
-plain_tested t r low high = unless_tested t r low (inl high)
+-- of a refusal from 3 to 8
+plain_tested : (t : Bool) (r : ℕ) → bad_version ≤ r → r ≤ too_many_entries → Tested (unless t r)
+plain_tested t r low high = unless_tested t r (inl (low, high))
 
-outside_tested : (lo hi v r : ℕ) → bad_version ≤ r → r ≤ too_long → Tested (outside lo hi v r)
+outside_tested : (lo hi v r : ℕ) → bad_version ≤ r → r ≤ too_many_entries → Tested (outside lo hi v r)
 outside_tested lo hi v r low high = plain_tested (leb lo v && leb v hi) r low high
 
 module _ (d : Draft) (v : ℕ) where
@@ -80,9 +85,35 @@ module _ (d : Draft) (v : ℕ) where
   fault_tested Task =
       and_then_tested (plain_tested (is_task d.config v) bad_field (lit≤ tt) (lit≤ tt))
       (and_then_tested (plain_tested (sorted d v) unsorted (lit≤ tt) (lit≤ tt))
-      (and_then_tested (unless_tested (not (shares_offset d v)) shared_offset (lit≤ tt) (inr (inl refl)))
-      (unless_tested (not (mixes d v || second_table d v)) mixed_table (lit≤ tt) (inr (inr refl)))))
-  fault_tested End = record { known = inl (lit≤ tt); late = λ n. absurd (n refl) }
+      (and_then_tested (unless_tested (not (shares_offset d v)) shared_offset (inr (inl refl)))
+      (unless_tested (not (mixes d v || second_table d v)) mixed_table (inr (inr refl)))))
+  fault_tested End = inl refl
+
+-- a number that is read and at fault is refused with none of 1, 2, 9 and 10
+pub fault_late : (d : Draft) (v : ℕ) → (fault d v ≡ none → ⊥) → bad_version ≤ fault d v
+fault_late d v bad =
+    ⊎_elim (λ z. absurd (bad z)) (⊎_elim (λ h. h.0) (⊎_elim (λ h. omega arith) (λ h. omega arith)))
+    (fault_tested d v d.field)
+
+pub fault_not_over : (d : Draft) (v : ℕ) → fault d v ≢ left_over
+fault_not_over d v z =
+    ⊎_elim (λ h. omega arith) (⊎_elim (λ h. omega arith) (⊎_elim (λ h. omega arith) (λ h. omega arith)))
+    (fault_tested d v d.field)
+
+fault_known : (d : Draft) (v : ℕ) → Known (fault d v)
+fault_known d v = ⊎_elim (λ h. inl (omega arith)) (⊎_elim (λ h. inl (omega arith)) inr) (fault_tested d v d.field)
+
+-- so has the writer's first fault
+pub first_tested : (k : ℕ) (c : Config) (d : Draft) → Tested (fault_from k c d)
+unfolding fault_from
+first_tested zero c d = inl refl
+first_tested (suc k) c d =
+    let v = asked c d in
+    by_test (ended d.field)
+    (λ t. rw t (inl refl))
+    (λ t. by_eq (fault d v) none
+    (λ e. rw (t, eq-eqb (fault d v) none e) (first_tested k c (put d v)))
+    (λ e. rw (t, ne_eqb (fault d v) none e) (fault_tested d v d.field)))
 
 pub record Bounded (bs : List ℕ) (r : ConfigRead) : Type 0 where
   pub refusals : Known r.refusal
@@ -107,7 +138,7 @@ number_bounded bs at d h =
     let s = numbered d bs at in
     by_eq n.refusal none
     (λ e. rw (eq-eqb n.refusal none e)
-    (refused_bounded bs (fault d n.value) at (fault_tested d n.value d.field).known h))
+    (refused_bounded bs (fault d n.value) at (fault_known d n.value) h))
     (λ e. rw (ne_eqb n.refusal none e)
     (refused_bounded bs n.refusal n.place (inl (omega (arith, s.refusals))) (s.place_le h)))
 
@@ -140,7 +171,7 @@ number_cut bs at d h c =
     let n = number_at d bs at in
     by_eq n.refusal none
     (λ e. let f : fault d n.value ≡ cut = rw (eq-eqb n.refusal none e) at c in
-    absurd (omega (arith, (fault_tested d n.value d.field).late (λ z. omega arith))))
+    absurd (omega (arith, fault_late d n.value (λ z. omega arith))))
     (λ e. let f : n.refusal ≡ cut = rw (ne_eqb n.refusal none e) at c in
     rw (ne_eqb n.refusal none e) ((numbered d bs at).at_end h f))
 
@@ -190,7 +221,7 @@ number_malformed bs at d m =
     let n = number_at d bs at in
     by_eq n.refusal none
     (λ e. let f : fault d n.value ≡ malformed = rw (eq-eqb n.refusal none e) at m in
-    absurd (omega (arith, (fault_tested d n.value d.field).late (λ z. omega arith))))
+    absurd (omega (arith, fault_late d n.value (λ z. omega arith))))
     (λ e. let h = (numbered d bs at).there (rw (ne_eqb n.refusal none e) at m) in
     (at, h.0, rw (ne_eqb n.refusal none e) h.1))
 

@@ -1,35 +1,38 @@
 -- What the crate shows beyond its contracts. Each law stands here in full, over specs/ alone;
 -- the modules it cites prove it.
 --
--- In order: what every reading satisfies, where a number can't be read, versions 1 and 2, and every accepted value; its entries, tables and bodies of kind 3; a
--- resource's ceiling and its users; both round trips; which values the writer accepts; counts that are too great; what
--- stands past the counts; that the fuel of the definitions is enough.
+-- In order: what every reading satisfies; where a number can't be read; which bytes decide a refusal; versions 1 and 2;
+-- every accepted value, its entries, tables and bodies of kind 3; a resource's ceiling and its users; both round trips;
+-- which values the writer accepts; counts that are too great; what stands past the counts; that the fuel of the
+-- definitions is enough.
 use Prim.Native.Nat.{ℕ, zero, suc, ◌+◌, ◌≤◌, ◌<◌}
 use mathlib.Core.Path.{◌≡◌, refl, sym, ◌∙◌}
 use mathlib.Core.Bool.{true, false}
-use mathlib.Core.List.{List, ◌∷◌}
-use mathlib.Core.Logic.{◌↔◌, ◌⊎◌, inl, inr}
+use mathlib.Core.List.{List, ◌∷◌, ◌++◌}
+use mathlib.Core.Logic.{◌≢◌, ◌↔◌, ◌⊎◌, inl, inr, ⊎_elim}
 use native.Mathlib.Omega.{arith}
-use lib.ListN.{length, get_or}
+use lib.ListN.{length, get_or, take}
 use borrow.Author.Tests.{le-ltb}
 use Rattle.number.specs.Refusal.{none, cut, malformed}
 use Rattle.number.specs.Number.{Bytes, read_number}
 use Rattle.number.proofs.Cases.{by_lt}
 use Rattle.config.specs.declared.Config.{Config}
 use Rattle.config.specs.declared.ConfigRead.{ConfigRead}
-use Rattle.config.specs.Refusal.{bad_count, too_long, shared_offset, mixed_table}
+use Rattle.config.specs.Refusal.{bad_version, bad_count, too_many_entries, left_over, too_long, shared_offset, mixed_table}
 use Rattle.config.specs.Value.{max_bodies, max_resources, no_config, with_resources}
 use Rattle.config.specs.Meaning.{isr, last_kind, is_timed, is_user, priority_of, ceiling, first_of, timed_entry, smallest_offset, execution_level, trigger_level}
 use Rattle.config.specs.declared.Draft.{Draft}
 use Rattle.config.specs.Draft.{ended, silent, start}
-use Rattle.config.specs.Reader.{accepted, refused, in_second, read_from, max_numbers, read_config}
+use Rattle.config.specs.Reader.{accepted, refused, in_second, read_from, max_numbers, max_length, read_config}
 use Rattle.config.specs.Writer.{fault_from, first_fault, bytes_from, config_bytes, write_config, wrote_config}
 use Rattle.config.specs.Accepted.{Shaped, Accepted, trimmed}
+use Rattle.config.specs.Decisive.{OfNumber, decisive}
 use Rattle.config.proofs.Tables as Tables
 use Rattle.config.proofs.Timed as Timed
 use Rattle.config.proofs.Mask as Mask
 use Rattle.config.proofs.Ceiling as Ceiling
 use Rattle.config.proofs.Reading as Reading
+use Rattle.config.proofs.FirstFault as FirstFault
 use Rattle.config.proofs.RoundTrip as RoundTrip
 use Rattle.config.proofs.Sound as Sound
 use Rattle.config.proofs.Counts as Counts
@@ -71,6 +74,25 @@ unreadable_there = Reading.unreadable_there
 pub malformed_there : (bs : List ℕ) → (read_config bs).refusal ≡ malformed
     → (at : ℕ) × ((read_number bs at).refusal ≡ malformed) × ((read_config bs).place ≡ (read_number bs at).place)
 malformed_there = Reading.malformed_there
+
+-- "the configuration in reading order": the first number at fault decides. Whatever follows it, the refusal is the same;
+-- the bytes before its place break off there, so no number of theirs is at fault
+pub fault_decided : (bs cs : List ℕ) → OfNumber (read_config bs).refusal → length cs ≤ max_length
+    → take (decisive bs (read_config bs)) cs ≡ take (decisive bs (read_config bs)) bs → read_config cs ≡ read_config bs
+fault_decided bs cs o = FirstFault.fault_decided bs o cs
+
+pub fault_cut_before : (bs : List ℕ) → OfNumber (read_config bs).refusal
+    → read_config (take (read_config bs).place bs) ≡ refused cut (read_config bs).place
+fault_cut_before = FirstFault.fault_cut_before
+
+-- "9: the first byte left over": what stands before it is accepted, and whatever is accepted can have bytes left over
+pub left_over_before : (bs : List ℕ) → (read_config bs).refusal ≡ left_over
+    → (read_config (take (read_config bs).place bs)).refusal ≡ none
+left_over_before = FirstFault.left_over_before
+
+pub left_over_after : (bs : List ℕ) → (read_config bs).refusal ≡ none → (b : ℕ) (rest : List ℕ)
+    → length (bs ++ b ∷ rest) ≤ max_length → read_config (bs ++ b ∷ rest) ≡ refused left_over (length bs)
+left_over_after = FirstFault.left_over_after
 
 -- "Version 1 or 2 at the head of the configuration": what stands after it is read alike, and neither has deadlines
 pub versions_read : (bs : List ℕ) → read_config (2 ∷ bs) ≡ in_second (read_config (1 ∷ bs))
@@ -195,6 +217,12 @@ config_bytes_are_bytes = RoundTrip.config_bytes_are_bytes
 -- the writer accepts exactly the values whose fields are in their ranges
 pub writer_accepts : (c : Config) → Shaped c → (first_fault c ≡ none) ↔ Accepted c
 writer_accepts c s = (RoundTrip.faultless_accepted c s, λ a. Sound.accepted_faultless c s a max_numbers)
+
+-- "or refuse with 3 to 8", and with A10's 13 and 14
+pub writer_refusals : (c : Config) → first_fault c ≢ none
+    → ((bad_version ≤ first_fault c) × (first_fault c ≤ too_many_entries))
+    ⊎ ((first_fault c ≡ shared_offset) ⊎ (first_fault c ≡ mixed_table))
+writer_refusals c d = ⊎_elim (λ z. absurd (d z)) (λ h. h) (Reading.first_tested max_numbers c start)
 
 -- a count that is too great is the first fault:
 -- of the bodies, and of the resources where the value without them has none

@@ -26,7 +26,7 @@ use Rattle.config.specs.declared.Draft.{Draft}
 use Rattle.config.specs.declared.Field.{Field}
 use Rattle.config.specs.declared.Field.TheVariants.{Version, Bodies, Kind, Priority, Autostart, Deadline, Resources, Users, Tables, Period, Entries, Offset, Task, End}
 use Rattle.config.specs.Meaning.{has_deadlines}
-use Rattle.config.specs.Draft.{fault, put, asked, ended, silent, silent_at, Within}
+use Rattle.config.specs.Draft.{fault, fault_at, put, asked, ended, silent, silent_at, Within}
 use Rattle.config.specs.Reader.{accepted, refused, number_at, number_fault, fault_place, finished, read_from}
 use Rattle.config.specs.Writer.{bytes_at, fault_from, bytes_from}
 use Rattle.config.proofs.Ranges.{InRange, in_range}
@@ -64,26 +64,37 @@ number_fine d r h =
     (λ e. (e, rw (eq-eqb r.refusal none e) at h))
     (λ e. absurd (e (rw (ne_eqb r.refusal none e) at h)))
 
--- a number that stands in no byte is 0 where it is in order
-silent_zero : (d : Draft) (v : ℕ) → silent d ≡ true → fault d v ≡ none → v ≡ 0
-silent_zero d v q e = at_field d.field q (in_range d v d.field e)
-  where
-    at_field : (f : Field) → silent_at f d.config.version ≡ true → InRange f d v → v ≡ 0
-    at_field Version q h = absurd (true≢false (sym q))
-    at_field Bodies q h = absurd (true≢false (sym q))
-    at_field Kind q h = absurd (true≢false (sym q))
-    at_field Priority q h = absurd (true≢false (sym q))
-    at_field Autostart q h = absurd (true≢false (sym q))
-    at_field Deadline q h =
-        let z : v ≤ 0 = rw (not-true (has_deadlines d.config.version) q) at h in omega arith
-    at_field Resources q h = absurd (true≢false (sym q))
-    at_field Users q h = absurd (true≢false (sym q))
-    at_field Tables q h = absurd (true≢false (sym q))
-    at_field Period q h = absurd (true≢false (sym q))
-    at_field Entries q h = absurd (true≢false (sym q))
-    at_field Offset q h = absurd (true≢false (sym q))
-    at_field Task q h = absurd (true≢false (sym q))
-    at_field End q h = absurd (true≢false (sym q))
+-- a deadline is the only number that may stand in no byte
+silent_deadline : (f : Field) (version : ℕ) → silent_at f version ≡ true
+    → (f ≡ Deadline) × (has_deadlines version ≡ false)
+silent_deadline Version version q = absurd (true≢false (sym q))
+silent_deadline Bodies version q = absurd (true≢false (sym q))
+silent_deadline Kind version q = absurd (true≢false (sym q))
+silent_deadline Priority version q = absurd (true≢false (sym q))
+silent_deadline Autostart version q = absurd (true≢false (sym q))
+silent_deadline Deadline version q = (refl, not-true (has_deadlines version) q)
+silent_deadline Resources version q = absurd (true≢false (sym q))
+silent_deadline Users version q = absurd (true≢false (sym q))
+silent_deadline Tables version q = absurd (true≢false (sym q))
+silent_deadline Period version q = absurd (true≢false (sym q))
+silent_deadline Entries version q = absurd (true≢false (sym q))
+silent_deadline Offset version q = absurd (true≢false (sym q))
+silent_deadline Task version q = absurd (true≢false (sym q))
+silent_deadline End version q = absurd (true≢false (sym q))
+
+module _ (d : Draft) (q : silent d ≡ true) where
+  -- it is 0 where it is in order, and 0 is in order
+  silent_zero : (v : ℕ) → fault d v ≡ none → v ≡ 0
+  silent_zero v e =
+      let s = silent_deadline d.field d.config.version q in
+      let h : InRange Deadline d v = rw s.0 at (in_range d v d.field e) in
+      let z : v ≤ 0 = rw s.1 at h in omega arith
+
+  pub silent_fine : fault d 0 ≡ none
+  unfolding fault_at
+  silent_fine =
+      let s = silent_deadline d.field d.config.version q in
+      rw (s.0, s.1)
 
 -- what the number reader says of its answers holds of the number where d is
 pub record Numbered (bs : List ℕ) (at : ℕ) (n : NumberRead) : Type 0 where
@@ -119,7 +130,7 @@ number_back : (d : Draft) (bs : List ℕ) (at v : ℕ) (rest : List ℕ) → v <
 unfolding number_at bytes_at
 number_back d bs at v rest small fine e =
     by_test (silent d)
-    (λ q. rw (q, silent_zero d v q fine) (ap (unread 0) (omega arith)))
+    (λ q. rw (q, silent_zero d q v fine) (ap (unread 0) (omega arith)))
     (λ q. rw q (Number.read_at bs at v rest small (rw q at e)))
   where
     unread : ℕ → ℕ → NumberRead

@@ -11,3 +11,4 @@ mod RoundTrip
 mod Size
 mod Trace
 mod Unreadable
+mod FirstFault

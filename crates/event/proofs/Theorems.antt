@@ -1,16 +1,17 @@
 -- What the crate shows beyond its contracts. Each law stands here in full, over specs/ alone; the modules it cites
 -- prove it.
 --
--- In order: what every reading satisfies, one past the end, and where a number can't be read; both round trips; how long an event's bytes are; what
--- the writer refuses; the trace as a list of events.
+-- In order: what every reading satisfies, one past the end, and where a number can't be read; both round trips; how
+-- long an event's bytes are; what the writer refuses; the trace as a list of events, and which bytes decide its refusal.
 use Prim.Native.Nat.{ℕ, ◌+◌, ◌-◌, ◌≤◌, ◌<◌, max}
 use mathlib.Core.Path.{◌≡◌, refl, ap, ◌∙◌}
-use mathlib.Core.Bool.{true}
+use mathlib.Core.Bool.{true, cond}
+use mathlib.Core.Logic.{◌≢◌}
 use mathlib.Core.List.{List, ◌++◌}
 use native.Mathlib.Omega.{arith}
 use native.Mathlib.Nat.{zero-add}
-use lib.Dec.{lit≤}
-use lib.ListN.{length, drop, length-append, length-drop}
+use lib.Dec.{lit≤, eqb}
+use lib.ListN.{length, take, drop, length-append, length-drop}
 use lib.Seq.{drop_at}
 use Rattle.number.specs.Refusal.{none}
 use Rattle.number.specs.Number.{number_bound, Bytes, read_number}
@@ -18,14 +19,15 @@ use Rattle.number.proofs.Cases.{by_lt}
 use Rattle.number.proofs.Theorems as Number
 use Rattle.event.specs.declared.Event.{Event}
 use Rattle.event.specs.declared.EventRead.{EventRead}
-use Rattle.event.specs.Refusal.{trace_cut, in_trace, unknown_event}
+use Rattle.event.specs.Refusal.{trace_cut, trace_malformed, in_trace, unknown_event}
 use Rattle.event.specs.Event.{known, arguments, event, accepted, refused, after_number, read_event, event_bytes, writer_refusal, write_event, event_written, Writable}
-use Rattle.event.specs.Trace.{TraceRead, ended, broken, before, read_from, read_rest, read_trace, trace_bytes, AllWritable}
+use Rattle.event.specs.Trace.{TraceRead, ended, broken, before, read_from, read_rest, read_trace, decisive, trace_bytes, AllWritable}
 use Rattle.event.proofs.RoundTrip as RoundTrip
 use Rattle.event.proofs.Size as Size
 use Rattle.event.proofs.Writing as Writing
 use Rattle.event.proofs.Trace as Trace
 use Rattle.event.proofs.Unreadable as Unreadable
+use Rattle.event.proofs.FirstFault as FirstFault
 
 -- whatever is read: an accepted event can be written and covers at least one byte of the input; a refused one is all
 -- zero, and one cut off has its place at the input's end, "(a start past it keeps its own place)"
@@ -211,3 +213,19 @@ trace_reading bs =
       place_le = q.place_le;
       at_end = q.at_end;
     })
+
+-- "the whole trace", in reading order: the first number at fault decides, whatever follows it
+pub trace_decided : (bs cs : List ℕ) → (read_trace bs).refusal ≢ none → (read_trace bs).refusal ≢ trace_cut
+    → take (decisive bs (read_trace bs)) cs ≡ take (decisive bs (read_trace bs)) bs → read_trace cs ≡ read_trace bs
+trace_decided bs cs some whole = FirstFault.trace_decided bs some whole cs
+
+-- and the events before it are read without it: a trace that ends before an unknown code is accepted, and one that ends
+-- before the byte that decides a 22 is cut off
+pub trace_before : (bs : List ℕ) → (read_trace bs).refusal ≢ none → (read_trace bs).refusal ≢ trace_cut
+    → read_trace (take (read_trace bs).place bs)
+    ≡ record {
+      events = (read_trace bs).events;
+      refusal = cond (eqb (read_trace bs).refusal trace_malformed) trace_cut none;
+      place = (read_trace bs).place;
+    }
+trace_before = FirstFault.trace_before

@@ -1,6 +1,6 @@
 -- Refusals that the readers and the writer of events give besides none (0) and no_room (30), which `number` names.
 use Rattle.std.specs.Prelude.{ℕ, ◌+◌}
-use Rattle.number.specs.Refusal.{cut}
+use Rattle.number.specs.Refusal.{cut, malformed}
 
 -- "trace longer than 8,192 bytes"; the readers of events take a trace of any length and never give it
 abbrev pub trace_too_long : ℕ
@@ -12,6 +12,9 @@ in_trace r = 20 + r
 
 abbrev pub trace_cut : ℕ
 trace_cut = in_trace cut
+
+abbrev pub trace_malformed : ℕ
+trace_malformed = in_trace malformed
 
 -- "23 now for codes not 1 to 12"
 abbrev pub unknown_event : ℕ

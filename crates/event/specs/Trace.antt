@@ -3,13 +3,16 @@
 --   read_trace bs    the events of bs up to its end or to the first that is refused
 --   read_rest bs at  the same from a place on
 --   trace_bytes es   the bytes of a list of events
+--   decisive bs r    how many bytes of bs decide its reading r, where that is refused with 22 or 23
 --
 -- Main laws: `rest_step`, `rest_end` and `rest_refused` tie `read_rest` to the reader of one event; `trace_read_written`
 -- and `trace_written_read` are the round trips (proofs/Theorems.antt).
 use Rattle.std.specs.Prelude.{ℕ, zero, suc, ◌-◌, cond, List, [], ◌∷◌, ◌++◌, ltb, eqb, length}
 use Rattle.number.specs.Refusal.{none}
+use Rattle.number.specs.Number as Number
 use Rattle.event.specs.declared.Event.{Event}
 use Rattle.event.specs.declared.EventRead.{EventRead}
+use Rattle.event.specs.Refusal.{trace_malformed}
 use Rattle.event.specs.Event.{Writable, read_event, event_bytes}
 
 -- "trace longer than 8,192 bytes": whoever is lent one refuses it with `trace_too_long`
@@ -51,6 +54,9 @@ read_rest bs at = read_from (length bs - at) bs at
 -- "A trace is events"
 abbrev pub read_trace : List ℕ → TraceRead
 read_trace bs = read_rest bs 0
+
+abbrev pub decisive : List ℕ → TraceRead → ℕ
+decisive bs r = Number.decisive (eqb r.refusal trace_malformed) bs r.place
 
 unfoldable pub trace_bytes : List Event → List ℕ
 trace_bytes [] = []

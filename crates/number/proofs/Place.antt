@@ -1,23 +1,17 @@
--- Which byte decides a refused reading, group by group: no byte after it matters (`decided`), those before it leave the
--- reading open (`cut_before`), and a reading that breaks off could still have become a number (`completed`).
-use Prim.Native.Nat.{ℕ, zero, suc, ◌+◌, ◌%◌, ◌≤◌}
-use mathlib.Core.Path.{◌≡◌, refl, sym, ap, ◌∙◌}
+-- Which bytes decide a reading, group by group: no byte after them matters (`decided`), those before a malformed number's
+-- place leave it open (`cut_before`), and a reading that breaks off could still have become a number (`completed`).
+use Prim.Native.Nat.{ℕ, zero, suc, ◌+◌, ◌%◌, ◌≤◌, ◌<◌}
+use mathlib.Core.Path.{◌≡◌, refl, ap, ◌∙◌}
 use mathlib.Core.List.{List, [], ◌∷◌, ◌++◌}
 use native.Mathlib.Omega.{arith}
 use native.Mathlib.Numerals.{one-add}
-use native.Mathlib.Nat.{zero-add, suc-add}
 use lib.ListN.{length, take, drop}
-use lib.Seq.{take-nil, drop-append-le}
+use lib.Seq.{drop-append-le}
 use Rattle.number.specs.declared.NumberRead.{NumberRead}
 use Rattle.number.specs.Refusal.{none, cut, malformed}
 use Rattle.number.specs.Number.{refused, continued, fifth_group, groups, shifted, leading, read_number}
+use Rattle.number.proofs.Front.{drop_take, agree_from}
 use Rattle.number.proofs.Groups.{fifth_small, fifth_large, groups_end, groups_step, continued_refused, continued_zero, continued_more, groups_elim}
-
--- what lies at a place of a list's first bytes
-drop_take : (at n : ℕ) (l : List ℕ) → drop at (take (at + n) l) ≡ take n (drop at l)
-drop_take zero n l = rw zero-add
-drop_take (suc at) n [] = rw (suc-add, take-nil n)
-drop_take (suc at) n (x ∷ xs) = rw suc-add (drop_take at n xs)
 
 -- what a group with its top bit set makes of a reading that is known
 on_step : (k b : ℕ) (bs : List ℕ) (r s : NumberRead) → 128 ≤ b → groups k bs ≡ r → continued (b % 128) r ≡ s
@@ -103,6 +97,19 @@ cut_before =
         → groups (suc k) (b ∷ bs) ≡ refused cut (1 + p)
     broken k b bs p h e = on_step k b bs _ _ h e (continued_refused (b % 128) (refused cut p) (λ n. omega arith))
 
+-- and there are some: no number is malformed at its first byte
+malformed_later : (k : ℕ) (bs : List ℕ) → (groups k bs).refusal ≡ malformed → 1 ≤ k → 1 ≤ (groups k bs).place
+unfolding groups
+malformed_later =
+    groups_elim (λ k bs r. r.refusal ≡ malformed → 1 ≤ k → 1 ≤ r.place)
+    (λ k e. absurd (omega arith))
+    (λ b bs h e some. absurd (omega arith))
+    (λ b bs h e. absurd (omega arith))
+    (λ k b bs h e. absurd (omega arith))
+    (λ k b bs r h a z p e. absurd (omega arith))
+    (λ k b bs r h a z p e some. omega arith)
+    (λ k b bs r h n p e some. omega arith)
+
 -- bs is read as a number other than 0
 abbrev Positive : ℕ → List ℕ → Type 0
 Positive k bs = ((groups k bs).refusal ≡ none) × ((groups k bs).value ≡ 0 → ⊥)
@@ -130,7 +137,15 @@ completed =
         rw (groups_step k b (bs ++ 1 ∷ []) h, continued_more (b % 128) (groups k (bs ++ 1 ∷ [])) a z)
         (refl, λ e. omega arith)
 
--- the three at a place of a list
+-- the same at a place of a list
+pub covered_at : (bs cs : List ℕ) (at : ℕ) → (read_number bs at).refusal ≡ none
+    → take (read_number bs at).place cs ≡ take (read_number bs at).place bs → read_number cs at ≡ read_number bs at
+unfolding read_number
+covered_at bs cs at ok agree =
+    ap (shifted at)
+    ((decided leading (drop at bs)).by_covered ok (drop at cs)
+    (agree_from bs cs at (groups leading (drop at bs)).place agree))
+
 module _ (bs : List ℕ) (at p : ℕ) (e : read_number bs at ≡ refused malformed p) where
   -- the place counted from at
   abbrev q : ℕ
@@ -146,13 +161,16 @@ module _ (bs : List ℕ) (at p : ℕ) (e : read_number bs at ≡ refused malform
 
   pub decided_at : (cs : List ℕ) → take (suc p) cs ≡ take (suc p) bs → read_number cs at ≡ refused malformed p
   unfolding read_number
-  decided_at cs agree = ap (shifted at) ((decided leading (drop at bs)).by_place bad (drop at cs) same) ∙ e
+  decided_at cs agree =
+      ap (shifted at)
+      ((decided leading (drop at bs)).by_place bad (drop at cs) (agree_from bs cs at (suc q) (rw long at agree)))
+      ∙ e
     where
       long : suc p ≡ at + suc q
       long = omega (arith, from)
 
-      same : take (suc q) (drop at cs) ≡ take (suc q) (drop at bs)
-      same = sym (drop_take at (suc q) cs) ∙ ap (drop at) (rw long at agree) ∙ drop_take at (suc q) bs
+  pub later_at : at < p
+  later_at = omega (arith, from, malformed_later leading (drop at bs) bad (omega arith))
 
   pub cut_before_at : read_number (take p bs) at ≡ refused cut p
   unfolding read_number

@@ -1,7 +1,7 @@
 -- What the crate shows beyond its contracts. Each law stands here in full, over specs/ alone; the modules it cites
 -- prove it.
 --
--- In order: what every reading satisfies; which byte decides a refused one; a number of one byte; both round trips; how
+-- In order: what every reading satisfies; which bytes decide it; a number of one byte; both round trips; how
 -- long a number's bytes are; what a writer does.
 use Prim.Native.Nat.{ℕ, suc, ◌+◌, ◌≤◌, ◌<◌, max}
 use mathlib.Core.Path.{◌≡◌, refl, ap, ◌∙◌}
@@ -57,10 +57,18 @@ pub malformed_decided : (bs cs : List ℕ) (at p : ℕ) → read_number bs at �
     → take (suc p) cs ≡ take (suc p) bs → read_number cs at ≡ refused malformed p
 malformed_decided bs cs at p e = Place.decided_at bs at p e cs
 
--- and not before it: the bytes before p alone are refused with 1 at p
+-- and not before it: the bytes before p alone are refused with 1 at p, and there are some
 pub malformed_cut_before : (bs : List ℕ) (at p : ℕ) → read_number bs at ≡ refused malformed p
     → read_number (take p bs) at ≡ refused cut p
 malformed_cut_before = Place.cut_before_at
+
+pub malformed_later : (bs : List ℕ) (at p : ℕ) → read_number bs at ≡ refused malformed p → at < p
+malformed_later = Place.later_at
+
+-- an accepted number is decided by the bytes up to its end
+pub accepted_decided : (bs cs : List ℕ) (at : ℕ) → (read_number bs at).refusal ≡ none
+    → take (read_number bs at).place cs ≡ take (read_number bs at).place bs → read_number cs at ≡ read_number bs at
+accepted_decided = Place.covered_at
 
 -- a reading that breaks off is still open: with one byte more it can become a number
 pub cut_completed : (bs : List ℕ) (at : ℕ) → at ≤ length bs → (read_number bs at).refusal ≡ cut

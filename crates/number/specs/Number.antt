@@ -3,10 +3,11 @@
 --   groups k bs        the number at the head of bs, with at most k groups before its last one
 --   read_number bs at  the number at a place of bs
 --   number_bytes v     the bytes of v
+--   decisive u bs p    how many bytes of bs decide a refusal at p; u says that a number can't be read
 --
 -- Main laws: `read_written` and `Written-Read`; `malformed_decided` and `malformed_cut_before` for a refusal's place
 -- (proofs/Theorems.antt).
-use Rattle.std.specs.Prelude.{ℕ, zero, suc, ◌+◌, ◌*◌, ◌/◌, ◌%◌, ◌<◌, cond, List, [], ◌∷◌, ltb, eqb, drop, get_or}
+use Rattle.std.specs.Prelude.{ℕ, zero, suc, ◌+◌, ◌*◌, ◌/◌, ◌%◌, ◌<◌, Bool, cond, List, [], ◌∷◌, ltb, eqb, drop, get_or}
 use Rattle.number.specs.declared.NumberRead.{NumberRead}
 use Rattle.number.specs.Refusal.{none, cut, malformed}
 
@@ -72,6 +73,10 @@ leading = 4
 -- the number at a place; at the input's end refusal 1 there, and "a start past it keeps its own place"
 unfoldable pub read_number : List ℕ → ℕ → NumberRead
 read_number bs at = shifted at (groups leading (drop at bs))
+
+-- those up to the end of the number at p, or, where it can't be read, up to "the byte that decides it"
+abbrev pub decisive : Bool → List ℕ → ℕ → ℕ
+decisive unreadable bs p = cond unreadable (p + 1) (read_number bs p).place
 
 -- v in at most k groups before the last one
 unfoldable pub group_bytes : ℕ → ℕ → List ℕ

@@ -4,7 +4,8 @@
 -- refused at a table or a text. `Numbering` has which object is which body. Then the laws that the
 -- proofs of `oil` cite too: spellings, runs of bytes, spaces and comments, where a token lies, lines and columns, sorts,
 -- places. Last, in the order of the proof: the tokens of a text are those that it spells; the walk accepts tokens that
--- are in order; these are the tokens of objects, both ways; what the later walks come to; the whole.
+-- are in order; these are the tokens of objects, both ways; what the later walks come to; the whole; which
+-- token decides a refusal.
 pub mod Alphabet
 pub mod Answers
 pub mod Calls
@@ -25,3 +26,4 @@ mod Objects
 mod Recognition
 mod Folds
 mod Whole
+mod FirstFault

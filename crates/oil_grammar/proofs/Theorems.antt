@@ -1,12 +1,13 @@
--- What the crate shows: the reading and the grammar accept the same texts, with the same configurations; and which object
--- is which body and resource. Each law stands here in full, over specs/ alone; the modules it cites prove it.
+-- What the crate shows: the reading and the grammar accept the same texts, with the same configurations; which word
+-- decides a refusal; and which object is which body and resource. Each law stands here in full, over specs/ alone; the
+-- modules it cites prove it.
 use Prim.Native.Nat.{ℕ, ◌+◌, ◌*◌, ◌-◌, ◌≤◌, ◌<◌}
 use mathlib.Core.Path.{◌≡◌, refl, sym, ap, ◌∙◌}
 use mathlib.Core.List.{List, [], ◌∷◌, ◌++◌}
-use mathlib.Core.Logic.{◌↔◌}
+use mathlib.Core.Logic.{◌↔◌, ◌≢◌}
 use native.Mathlib.Omega.{arith}
 use borrow.Author.Tests.{eq-eqb, ne_eqb}
-use lib.ListN.{length, get_or}
+use lib.ListN.{length, get_or, take}
 use Rattle.number.specs.Refusal.{none}
 use Rattle.config.specs.declared.Config.{Config}
 use Rattle.config.specs.Value.{no_config, with_resources}
@@ -14,14 +15,18 @@ use Rattle.config.specs.Writer.{first_fault}
 use Rattle.config.proofs.Theorems as Config
 use Rattle.word.specs.Word.{has}
 use Rattle.oil_grammar.specs.declared.OilRead.{OilRead}
+use Rattle.oil_grammar.specs.Refusal.{no_resource}
+use Rattle.oil_grammar.specs.Byte.{slash}
+use Rattle.oil_grammar.specs.Text.{Spells}
 use Rattle.oil_grammar.specs.Token.{decimal}
-use Rattle.oil_grammar.specs.Object.{Object, among_names, attribute_uses}
+use Rattle.oil_grammar.specs.Object.{Object, among_names, attribute_uses, object_uses, resources, written}
 use Rattle.oil_grammar.specs.Meaning.{config_of}
 use Rattle.oil_grammar.specs.Numbering.{bodies, declared, nth, BodyMeant}
-use Rattle.oil_grammar.specs.Grammar.{AllFit, Oil, Describes}
-use Rattle.oil_grammar.specs.Reader.{ranged, read_oil}
+use Rattle.oil_grammar.specs.Grammar.{AllFit, Fresh, Borne, Oil, Describes}
+use Rattle.oil_grammar.specs.Reader.{ranged, walked, decisive, read_oil}
 use Rattle.oil_grammar.proofs.Numbering as Numbering
 use Rattle.oil_grammar.proofs.Whole as Whole
+use Rattle.oil_grammar.proofs.FirstFault as FirstFault
 use Rattle.oil_grammar.proofs.Counts.{version_one}
 
 abbrev accepted : Config → OilRead
@@ -73,6 +78,18 @@ writer_takes t e = (read_described t e).in_range
 pub out_of_range : (t : List ℕ) (os : List Object) → Oil t os → (first_fault (config_of os) ≡ none → ⊥)
     → read_oil t ≡ unranged (first_fault (config_of os))
 out_of_range t os o d = oil_read t os o ∙ rw (ne_eqb (first_fault (config_of os)) none d)
+
+-- "60 .. 63 .. in reading order": the first word at fault decides. Texts that agree up to the byte after it get the same
+-- refusal, line and column. A slash can begin a comment, and the text's end is no word: more bytes can change what is
+-- refused there
+pub fault_decided : (t u : List ℕ) → (walked t).refusal ≢ none → (walked t).place < length t
+    → get_or t (walked t).place 0 ≢ slash → take (decisive t) u ≡ take (decisive t) t → read_oil u ≡ read_oil t
+fault_decided = FirstFault.fault_decided
+
+-- "after the whole text 64 .. name no RESOURCE bears": exactly what would be OIL with another RESOURCE
+pub no_resource_exactly : (t : List ℕ) (os : List Object) → Spells t (written os) → AllFit os → Fresh [] os
+    → ((read_oil t).refusal ≡ no_resource) ↔ (Borne (resources os) (object_uses os) → ⊥)
+no_resource_exactly = Whole.no_resource_exactly
 
 counted : (t : List ℕ) (os : List Object) → Oil t os → first_fault (config_of os) ≡ 4 → read_oil t ≡ unranged 4
 counted t os o e = out_of_range t os o (λ f. omega arith) ∙ ap unranged e

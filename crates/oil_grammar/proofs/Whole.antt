@@ -1,21 +1,28 @@
 -- The reading of a text that is OIL of objects, and the objects of a text that is read.
-use Prim.Native.Nat.{ℕ, suc}
-use mathlib.Core.Path.{◌≡◌, refl, ap, ◌∙◌}
+use Prim.Native.Nat.{ℕ, zero, suc}
+use mathlib.Core.Path.{◌≡◌, refl, sym, ap, ◌∙◌}
 use mathlib.Core.Bool.{true, false}
 use mathlib.Core.List.{List, [], ◌∷◌}
+use mathlib.Core.Logic.{◌≢◌, ◌↔◌, ⊎_elim}
 use native.Mathlib.Omega.{arith}
 use lib.ListN.{length}
 use borrow.Author.Tests.{eq-eqb, ne_eqb}
 use Rattle.number.specs.Refusal.{none}
-use Rattle.number.proofs.Cases.{by_eq}
+use Rattle.number.proofs.Cases.{by_test, by_eq}
 use Rattle.config.specs.declared.Config.{Config}
 use Rattle.config.specs.Writer.{first_fault}
+use Rattle.config.proofs.Theorems as Config
 use Rattle.oil_grammar.specs.Object as O
 use Rattle.oil_grammar.specs.Object.{written, resources, object_uses, among_names}
-use Rattle.oil_grammar.specs.Grammar.{Oil, Borne, Describes}
+use Rattle.oil_grammar.specs.declared.Progress.{Progress}
+use Rattle.oil_grammar.specs.declared.OilRead.{OilRead}
+use Rattle.oil_grammar.specs.Refusal.{no_resource}
+use Rattle.oil_grammar.specs.Text.{Spells}
+use Rattle.oil_grammar.specs.Next.{next_token}
+use Rattle.oil_grammar.specs.Grammar.{AllFit, Fresh, Oil, Borne, Describes}
 use Rattle.oil_grammar.specs.Meaning.{users_of, attributed_all, begun, ended, empty, config_of, placed}
-use Rattle.oil_grammar.specs.Automaton.{fresh}
-use Rattle.oil_grammar.specs.Walk.{borne, found, unborne, mask}
+use Rattle.oil_grammar.specs.Automaton.{after, fresh}
+use Rattle.oil_grammar.specs.Walk.{borne, found, unborne_at, unborne, mask}
 use Rattle.oil_grammar.specs.Reader.{walked, filled, ranged, read_oil}
 use Rattle.oil_grammar.proofs.Lexing.{Reads, reads_spells, spells_reads}
 use Rattle.oil_grammar.proofs.Accepting.{Accepts, AcceptedTokens, none_seen, walked_accepts, accepts_walked, reads_few}
@@ -128,3 +135,42 @@ read_described t z =
       ne_eqb (unborne (walked t).tokens t 0 fresh (walked t).tokens).refusal none d,
     ) at z))))
     (λ d. absurd (d (rw (ne_eqb (walked t).refusal none d) at z)))
+
+-- a use without its RESOURCE is refused with 64
+unborne_refusal : (k : ℕ) (t : List ℕ) (at : ℕ) (s : Progress) (n : ℕ) → (unborne k t at s n).refusal ≢ none
+    → (unborne k t at s n).refusal ≡ no_resource
+unfolding unborne
+unborne_refusal zero t at s n d = absurd (d refl)
+unborne_refusal (suc k) t at s n d =
+    let w = next_token t at in
+    by_test (unborne_at t s n w)
+    (λ e. rw e)
+    (λ e. rw e (unborne_refusal k t w.end (after s w.sort) n (rw e at d)))
+
+-- and nothing else is: of objects that are OIL but for their uses
+pub no_resource_exactly : (t : List ℕ) (os : List O.Object) → Spells t (written os) → AllFit os → Fresh [] os
+    → ((read_oil t).refusal ≡ no_resource) ↔ (Borne (resources os) (object_uses os) → ⊥)
+unfolding read_oil
+no_resource_exactly t os sp fi fr = (
+  (λ e b. let o : Oil t os = record { spells = sp; fits = fi; fresh = fr; borne = b } in
+      unranged (config_of os) (sym (ap (λ (x : OilRead). x.refusal) (oil_read t os o)) ∙ e)),
+  λ n. let d = unborne_refusal k t 0 fresh k (λ z. n (uses_borne t os r acc z)) in
+      rw (counted t os r acc) (rw (ne_eqb (unborne k t 0 fresh k).refusal none (λ z. omega arith)) d),
+)
+  where
+    r : Reads t 0 (written os)
+    r = spells_reads t sp 0 (omega arith) refl
+
+    acc : Accepts fresh (none_seen t) (written os)
+    acc = objects_accepted (none_seen t) [] os fi fr none_among 0 false false
+
+    k : ℕ
+    k = length (written os)
+
+    -- no range is refused with 64
+    unranged : (c : Config) → (ranged c).refusal ≢ no_resource
+    unranged c e =
+        by_eq (first_fault c) none
+        (λ z. let y : ◌≡◌ {A = ℕ} none no_resource = rw (eq-eqb (first_fault c) none z) at e in omega arith)
+        (λ z. let y : first_fault c ≡ no_resource = rw (ne_eqb (first_fault c) none z) at e in
+        ⊎_elim (λ h. omega arith) (⊎_elim (λ h. omega arith) (λ h. omega arith)) (Config.writer_refusals c z))

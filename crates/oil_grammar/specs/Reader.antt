@@ -1,9 +1,10 @@
 -- The whole reading of a text: its configuration, or the one refusal with its line and column.
 --
 --   read_oil t                      what the reading gives
+--   decisive t                      how many bytes of t decide a refusal of the first walk, of 60 to 63
 --   oil_result t n, oil_output t d  what the call from C answers, and what it leaves in its output
 --   oil_place t n                   what it tells of the place
-use Rattle.std.specs.Prelude.{ℕ, suc, ◌+◌, cond, List, [], ◌∷◌, eqb, length, take}
+use Rattle.std.specs.Prelude.{ℕ, suc, ◌+◌, cond, List, [], ◌∷◌, eqb, length, take, drop}
 use Rattle.number.specs.Refusal.{none}
 use Rattle.number.specs.Output.{packed}
 use Rattle.config.specs.declared.Config.{Config}
@@ -13,6 +14,7 @@ use Rattle.oil_grammar.specs.declared.Found.{Found}
 use Rattle.oil_grammar.specs.declared.OilRead.{OilRead}
 use Rattle.oil_grammar.specs.Byte.{line_feed}
 use Rattle.oil_grammar.specs.Meaning.{empty}
+use Rattle.oil_grammar.specs.Next.{token_at}
 use Rattle.oil_grammar.specs.Automaton.{fresh}
 use Rattle.oil_grammar.specs.Walk.{walk, unborne, mask, fill}
 
@@ -61,6 +63,10 @@ after_walk t v =
 -- the first walk over the whole text
 abbrev pub walked : List ℕ → Found
 walked t = walk (suc (length t)) t 0 fresh 0
+
+-- "each word as long as it goes": those of the word at the refusal's place, and the byte after it
+abbrev pub decisive : List ℕ → ℕ
+decisive t = (token_at (walked t).place (drop (walked t).place t)).end + 1
 
 unfoldable pub read_oil : List ℕ → OilRead
 read_oil t = after_walk t (walked t)

@@ -18,9 +18,13 @@ use Rattle.config.specs.Value.{with_version}
 use Rattle.config.specs.Accepted.{Accepted, Shaped, trimmed}
 use Rattle.config.specs.Meaning.{is_user, is_extended}
 use Rattle.config.specs.Reader as Reader
-use Rattle.config.specs.Reader.{read_config}
+use Rattle.config.specs.Reader.{max_length, read_config}
+use Rattle.config.specs.Decisive as Config
+use Rattle.config.specs.Decisive.{OfNumber}
 use Rattle.config.specs.Writer.{first_fault, config_bytes}
 use Rattle.config.proofs.Theorems as Configurations
+use Rattle.event.specs.Refusal.{trace_cut}
+use Rattle.event.specs.Trace as TraceRead
 use Rattle.event.specs.Trace.{read_trace, trace_bytes, AllWritable}
 use Rattle.event.specs.declared.Event as Trace
 use Rattle.event.proofs.Theorems as Traces
@@ -75,6 +79,17 @@ use Rattle.osek.proofs.Verdict.{machine_expected}
 -- contract of `osek_run`.
 pub refused_run : (cs ts d : List ℕ) → high_half (run_result cs ts (length d)) ≢ 0 → run_output cs ts d ≡ d
 refused_run = Run.refused_same
+
+-- The one refusal is that of the first number at fault, "in reading order": whatever follows it, the answer is the same
+pub config_decided : (bs cs : List ℕ) → OfNumber (read_config bs).refusal → length cs ≤ max_length
+    → take (Config.decisive bs (read_config bs)) cs ≡ take (Config.decisive bs (read_config bs)) bs
+    → read_config cs ≡ read_config bs
+config_decided = Configurations.fault_decided
+
+pub trace_decided : (bs cs : List ℕ) → (read_trace bs).refusal ≢ none → (read_trace bs).refusal ≢ trace_cut
+    → take (TraceRead.decisive bs (read_trace bs)) cs ≡ take (TraceRead.decisive bs (read_trace bs)) bs
+    → read_trace cs ≡ read_trace bs
+trace_decided = Traces.trace_decided
 
 -- "A refused system call changes nothing in the model", but for the loss count of a lost line from edition two on (A8)
 pub refused_call : (c : Config) (p : Plan) (m : Model) (e : Event) → (machine_step c p m e).status ≢ done
