@@ -85,6 +85,7 @@ unfoldable pub ticks_in : ℕ → ℕ → Cell → Cell
 ticks_in M zero c = c
 ticks_in M (suc n) c = ticks_in M n (tick_cell_in M c)
 
+-- the same of the counters that the chip has, of 16 bits
 abbrev pub start_counter : ℕ → ℕ → ℕ
 start_counter = start_counter_in modulus
 

@@ -82,6 +82,7 @@ second_table d v = is_timed d.config v && some_timed d.config (tasks_before d)
 abbrev pub startable : ℕ → Bool
 startable kind = not (eqb kind isr || eqb kind time_triggered)
 
+-- the greatest flag that a body of this kind may have
 abbrev pub most_autostart : ℕ → ℕ
 most_autostart kind = cond (startable kind) 1 0
 
@@ -98,6 +99,7 @@ timed_in m (k ∷ ks) = (eqb (m % 2) 1 && eqb k time_triggered) || timed_in (m /
 abbrev pub timed_user : Config → ℕ → Bool
 timed_user c m = timed_in m (take c.bodies c.kind)
 
+-- for each field what is tested of its number, in order
 unfoldable pub fault_at : Field → Draft → ℕ → ℕ
 fault_at Version d v = outside 1 newest_version v bad_version
 fault_at Bodies d v = outside 1 max_bodies v bad_count
@@ -134,6 +136,7 @@ row d c f i = record { config = c; field = f; index = i; entry = d.entry; until 
 abbrev pub or_on : ℕ → ℕ → Field → Field → Field
 or_on i n again on = cond (eqb i n) on again
 
+-- for each field where its number goes, and which number follows
 unfoldable pub put_at : Field → Draft → ℕ → Draft
 put_at Version d v = on_to d (with_version d.config v) Bodies
 put_at Bodies d v = row d (with_bodies d.config v) Kind 0
@@ -169,6 +172,7 @@ put_at End d v = d
 abbrev pub put : Draft → ℕ → Draft
 put d v = put_at d.field d v
 
+-- for each field the number that c has for it
 unfoldable pub asked_at : Field → Config → Draft → ℕ
 asked_at Version c d = c.version
 asked_at Bodies c d = c.bodies

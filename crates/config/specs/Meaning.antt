@@ -92,6 +92,7 @@ first_of c t = entries_before c.entries t
 abbrev pub of_table : Config → ℕ → List ℕ → List ℕ
 of_table c t l = take (get_or c.entries t 0) (drop (first_of c t) l)
 
+-- the offsets of table t, and the tasks that its entries start
 abbrev pub offsets : Config → ℕ → List ℕ
 offsets c t = of_table c t c.offset
 

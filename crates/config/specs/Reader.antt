@@ -12,6 +12,7 @@ use Rattle.config.specs.Refusal.{left_over, too_long}
 use Rattle.config.specs.Value.{no_config, with_version}
 use Rattle.config.specs.Draft.{fault, put, ended, silent, start}
 
+-- "An accepted reading has refusal 0 and the place after it"
 abbrev pub accepted : Config → ℕ → ConfigRead
 accepted c p = record { config = c; refusal = none; place = p }
 
@@ -58,5 +59,6 @@ max_numbers = 292
 abbrev pub max_length : ℕ
 max_length = 4096
 
+-- "Checks: 10, the configuration in reading order"
 unfoldable pub read_config : List ℕ → ConfigRead
 read_config bs = cond (leb (length bs) max_length) (read_from max_numbers bs 0 start) (refused too_long 0)

@@ -17,6 +17,7 @@ use Rattle.config.specs.Reader.{max_numbers}
 unfoldable pub bytes_at : Draft → ℕ → List ℕ
 bytes_at d v = cond (silent d) [] (number_bytes v)
 
+-- the refusal of the first that is not in order, among at most k numbers of c from d on
 unfoldable pub fault_from : ℕ → Config → Draft → ℕ
 fault_from zero c d = none
 fault_from (suc k) c d =
@@ -27,6 +28,7 @@ fault_from (suc k) c d =
 abbrev pub first_fault : Config → ℕ
 first_fault c = fault_from max_numbers c start
 
+-- the bytes of at most k numbers of c, from d on
 unfoldable pub bytes_from : ℕ → Config → Draft → List ℕ
 bytes_from zero c d = []
 bytes_from (suc k) c d =

@@ -48,11 +48,13 @@ kind_fault first same was here second =
     and_then (unless (not (not first && (same && (was || here)))) shared_offset)
     (unless (not ((not first && cond here (not was) was) || (here && second))) mixed_table)
 
+-- the same of the entry x, after the entries with the tasks ts
 abbrev pub table_fault : Config → List ℕ → Entry → ℕ
 table_fault c ts x =
     kind_fault x.first (eqb x.reached x.offset) (is_timed c x.latest) (is_timed c x.task)
     (some_timed c (take x.earlier ts))
 
+-- 5 where its task is none, then 7 where it does not rise, then 13 and 14
 abbrev pub entry_fault : Config → List ℕ → Entry → ℕ
 entry_fault c ts x =
     and_then (unless (is_task c x.task) bad_field)

@@ -8,6 +8,7 @@ use Rattle.number.specs.Output.{packed}
 use Rattle.scheduler.specs.Scheduler.{Seen, fresh, seen}
 use Rattle.run.specs.Run.{Input, refused, played, read_run, answer_bytes}
 
+-- "pass"; "the first event" whose answer is wrong or missing; a refusal of the run's, with its place
 pub data Verdict : Type 0 where
   pass : Verdict
   fail : (event : ℕ) → Verdict

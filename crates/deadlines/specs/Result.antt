@@ -11,6 +11,7 @@ use Rattle.run.specs.Run.{Input, refused, played, read_run}
 use Rattle.deadlines.specs.Miss.{Miss, deadlines_of, misses}
 use Rattle.deadlines.specs.Report.{first_misses, miss_bytes, bytes_needed}
 
+-- the misses of a trace, by the deadlines that the configuration has
 abbrev pub misses_in : Config → List Event → List Miss
 misses_in c es = misses c (deadlines_of c) es
 
@@ -27,6 +28,7 @@ unfoldable pub misses_after_reading : ℕ → Input → ℕ
 misses_after_reading n (refused r p) = packed r p
 misses_after_reading n (played c es) = count_of n (misses_in c es)
 
+-- the list after it
 unfoldable pub list_after_reading : List ℕ → Input → List ℕ
 list_after_reading d (refused r p) = d
 list_after_reading d (played c es) = list_of d (misses_in c es)

@@ -23,6 +23,7 @@ use Rattle.deadlines.specs.DeadlineCells.{suspended_cell, ready_cell, moved_cell
 abbrev pub active_at : Model → ℕ → Bool
 active_at m r = has m.core.request r || (has m.core.started r || has m.core.aside r)
 
+-- the rank of body b, as the plan has it
 abbrev pub plan_rank : Plan → ℕ → ℕ
 plan_rank p b = get_or p.rank b 0
 
@@ -53,6 +54,7 @@ machine_row c p ds k m xs (e ∷ es) =
     cond (is_tick e) (matches_of (suc k) 0 xs) [] ++
     machine_row c p ds (cond (is_tick e) (suc k) k) o.model (step_row_by p ds m e o 0 xs) es
 
+-- the cell of b at the fresh start
 abbrev pub fresh_cell_by : Plan → List ℕ → ℕ → Cell
 fresh_cell_by p ds b =
     cond (active_at (fresh_model p) (plan_rank p b)) (ready_cell (deadline_in ds b)) (suspended_cell (deadline_in ds b))

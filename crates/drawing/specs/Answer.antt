@@ -20,6 +20,7 @@ zero_start = 50
 abbrev pub nothing_to_draw : ℕ
 nothing_to_draw = 51
 
+-- "a limit 0"
 unfoldable pub zero_limit : List ℕ → Bool
 zero_limit ls = eqb (body_limit ls) 0 || eqb (resource_limit ls) 0 || eqb (table_limit ls) 0 || eqb (delay_limit ls) 0
 

@@ -55,6 +55,7 @@ draw_whole x = record { number = next x; value = next x }
 abbrev pub not_drawn : ℕ → Argument
 not_drawn x = record { number = 0; value = x }
 
+-- an argument of a sort, drawn after x
 unfoldable pub draw_argument : List ℕ → Sort → ℕ → Argument
 draw_argument ls Lacking x = not_drawn x
 draw_argument ls Body x = draw_below (body_limit ls) x

@@ -103,6 +103,7 @@ read_second bs code first at = after_number (read_number bs at) (λ second p. ac
 abbrev pub read_two : List ℕ → ℕ → ℕ → EventRead
 read_two bs code at = after_number (read_number bs at) (λ first p. read_second bs code first p)
 
+-- an event whose code, with so many arguments, was read
 unfoldable pub read_arguments : ℕ → List ℕ → ℕ → ℕ → EventRead
 read_arguments zero bs code at = read_none code at
 read_arguments (suc zero) bs code at = read_one bs code at
@@ -114,6 +115,7 @@ read_event bs at =
     after_number (read_number bs at)
     (λ code p. cond (known code) (read_arguments (arguments code) bs code p) (refused unknown_event at))
 
+-- the bytes of the first arguments of e, as many as the number says
 unfoldable pub argument_bytes : ℕ → Event → List ℕ
 argument_bytes zero e = []
 argument_bytes (suc zero) e = number_bytes e.first

@@ -10,6 +10,7 @@ trace_too_long = 20
 abbrev pub in_trace : ℕ → ℕ
 in_trace r = 20 + r
 
+-- 21: the trace ends within an event
 abbrev pub trace_cut : ℕ
 trace_cut = in_trace cut
 

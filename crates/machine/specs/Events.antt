@@ -53,6 +53,7 @@ activate trs ps m t = attempt m (activate_status trs m t) (activate_effect trs p
 abbrev pub finish_status : Model → ℕ
 finish_status m = first_given ((idles m gives call_level) ∷ (holding m gives holds_resource) ∷ [])
 
+-- a time-triggered task gives way to the one that it preempted, another runner to the latest holder of a resource
 abbrev pub finish_effect : List ℕ → Model → Outcome
 finish_effect ps m = settled ps (cond (timed m) (returning m) (leaving m))
 
@@ -69,6 +70,7 @@ chain_status ws trs m t =
     (busy m (get_or trs t no_rank) && not (eqb (get_or trs t no_rank) m.core.runner) gives limit_reached) ∷
     [])
 
+-- "as Finish, then as Activate", with one arbitration for both
 abbrev pub chain_effect : List ℕ → List ℕ → Model → ℕ → Outcome
 chain_effect trs ps m t = settled ps (requesting (get_or trs t no_rank) (leaving m))
 
@@ -97,6 +99,7 @@ abbrev pub release_status : ℕ → Model → ℕ → ℕ
 release_status n m r =
     first_given ((no_caller m gives call_level) ∷ (leb n r gives no_such) ∷ (not (latest m r) gives no_function) ∷ [])
 
+-- the level falls, and whoever waits above it is dispatched
 abbrev pub release_effect : List ℕ → Model → ℕ → Outcome
 release_effect ps m r = settled ps (releasing ps r m)
 
@@ -145,6 +148,7 @@ ticking ks rs m =
     (m.turning && some_turn max_entries 0 (switches_of ks m))
     (due_of ks rs m).losses
 
+-- a time-triggered task that is due begins; else arbitration
 unfoldable pub tick : List ℕ → List ℕ → List ℕ → Model → Outcome
 tick ks rs ps m = triggering ps (ticking ks rs m)
 

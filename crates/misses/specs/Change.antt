@@ -19,6 +19,7 @@ use Rattle.deadlines.specs.Activation.{chains_to}
 use Rattle.deadlines.specs.DeadlineCells.{suspended_cell, ready_cell, moved_cell, row_of}
 use Rattle.misses.specs.declared.change.Change.{Change}
 
+-- the ranks with a request, those started and those aside, as one word
 abbrev pub active_in : ℕ → ℕ → ℕ → ℕ
 active_in w v a = union w (union v a)
 
@@ -57,6 +58,7 @@ blank_cell = unmarked 0 0 false false
 abbrev pub row_by : Change → List ℕ → List ℕ → ℕ → List Cell → List Cell
 row_by x rs ds n xs = row_of (λ b. cell_by x b (get_or rs b 0) (get_or ds b 0) (get_or xs b blank_cell)) 0 n
 
+-- the cell of a body at the fresh start
 abbrev pub fresh_cell_in : Bool → ℕ → Cell
 fresh_cell_in active D = cond active (ready_cell D) (suspended_cell D)
 

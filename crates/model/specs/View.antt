@@ -42,6 +42,7 @@ pub record Arrays : Type 0 where
 abbrev pub arrays : List ℕ → List ℕ → List ℕ → List ℕ → List ℕ → Arrays
 arrays ns on ls bs ms = record { counter = ns; on = on; losses = ls; bits = bs; waited = ms }
 
+-- those of a model
 abbrev pub arrays_of : Model → Arrays
 arrays_of m = arrays m.counter m.on m.losses m.bits m.waited
 
@@ -77,6 +78,7 @@ view_with r x =
       triggered = r.triggered;
     }
 
+-- what a method on registers hands back
 abbrev pub view_step : Step → Arrays → Machine.Outcome
 view_step s x = record { model = view_with s.registers x; status = s.status; begun = s.begun }
 

@@ -10,7 +10,7 @@ use lib.Seq.{drop-append-le}
 use Rattle.number.specs.declared.NumberRead.{NumberRead}
 use Rattle.number.specs.Refusal.{none, cut, malformed}
 use Rattle.number.specs.Number.{refused, continued, fifth_group, groups, shifted, leading, read_number}
-use Rattle.number.proofs.Front.{drop_take, agree_from}
+use Rattle.number.proofs.Front.{drop_take, agree_fewer, agree_from}
 use Rattle.number.proofs.Groups.{fifth_small, fifth_large, groups_end, groups_step, continued_refused, continued_zero, continued_more, groups_elim}
 
 -- what a group with its top bit set makes of a reading that is known
@@ -142,9 +142,10 @@ pub covered_at : (bs cs : List ℕ) (at : ℕ) → (read_number bs at).refusal �
     → take (read_number bs at).place cs ≡ take (read_number bs at).place bs → read_number cs at ≡ read_number bs at
 unfolding read_number
 covered_at bs cs at ok agree =
+    let r = groups leading (drop at bs) in
     ap (shifted at)
     ((decided leading (drop at bs)).by_covered ok (drop at cs)
-    (agree_from bs cs at (groups leading (drop at bs)).place agree))
+    (agree_from bs cs at r.place (agree_fewer bs cs (at + r.place) (shifted at r).place (omega (arith, ok)) agree)))
 
 module _ (bs : List ℕ) (at p : ℕ) (e : read_number bs at ≡ refused malformed p) where
   -- the place counted from at

@@ -7,7 +7,8 @@
 --
 -- Main laws: `read_written` and `Written-Read`; `malformed_decided` and `malformed_cut_before` for a refusal's place
 -- (proofs/Theorems.antt).
-use Rattle.std.specs.Prelude.{ℕ, zero, suc, ◌+◌, ◌*◌, ◌/◌, ◌%◌, ◌<◌, Bool, cond, List, [], ◌∷◌, ltb, eqb, drop, get_or}
+use Rattle.std.specs.Prelude.{ℕ, zero, suc, ◌+◌, ◌*◌, ◌/◌, ◌%◌, ◌<◌, cond, List, [], ◌∷◌, ltb, eqb, drop, get_or}
+use Rattle.std.specs.Prelude.{Bool}
 use Rattle.number.specs.declared.NumberRead.{NumberRead}
 use Rattle.number.specs.Refusal.{none, cut, malformed}
 

@@ -26,6 +26,7 @@ in_class c x = eqb (hashed c.key 0 x % c.count) c.number
 abbrev pub room : ℕ
 room = 2048
 
+-- the j-th of the names that are kept
 abbrev pub name_at : List ℕ → List ℕ → List ℕ → ℕ → List ℕ
 name_at t from to j = take (get_or to j 0 - get_or from j 0) (drop (get_or from j 0) t)
 
@@ -47,6 +48,7 @@ pub record Gathered (t : List ℕ) (r : Bool) (i : ℕ) (c : Class) (hashes from
   pub known : (j : ℕ) → j < n → borne i t 0 fresh r (name_at t from to j) ≡ true
   pub whole : n < room → (x : List ℕ) → in_class c x ≡ true → borne i t 0 fresh r x ≡ true → Among t from to n x
 
+-- the bytes of the token i
 abbrev pub spelled : List ℕ → ℕ → List ℕ
 spelled t i = spelling t (token t i)
 

@@ -41,6 +41,7 @@ equals_sort = 10
 abbrev pub semicolon_sort : ℕ
 semicolon_sort = 11
 
+-- letters and digits that are none of OIL's words, and digits alone
 abbrev pub name_sort : ℕ
 name_sort = 12
 

@@ -24,6 +24,7 @@ unfoldable pub belonging : ℕ → List ℕ → ℕ
 belonging zero bs = covered bs
 belonging (suc left) bs = suc left
 
+-- a byte is kept where some bytes from it on belong to an event
 unfoldable pub fate_of : ℕ → Fate
 fate_of zero = dropped
 fate_of (suc n) = kept

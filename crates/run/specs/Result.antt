@@ -6,6 +6,7 @@ use Rattle.std.specs.Prelude.{ℕ, ◌/◌, ◌%◌}
 abbrev pub places : ℕ
 places = 4294967296
 
+-- the refusal, or 0; its place, or the number of events
 abbrev pub high_half : ℕ → ℕ
 high_half n = n / places
 

@@ -23,6 +23,7 @@ pub record Fitting (bs : List ℕ) (n m : ℕ) : Type 0 where
   pub events : length (kept_bytes bs) ≤ n
   pub stretches : length (list_bytes bs) ≤ m
 
+-- zeros with the refusal and its place, or the lengths of both outputs
 abbrev pub refused : ℕ → ℕ → Salvaged
 refused r p = record { events = 0; stretches = 0; refusal = r; place = p }
 

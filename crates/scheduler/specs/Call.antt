@@ -138,6 +138,7 @@ set_event t w s = changing t (receives w) s
 abbrev pub clear : ℕ → ℕ → State → State
 clear i w s = changing i (clears w) s
 
+-- the effect of an accepted event, while k runs
 abbrev pub effect_for : Config → Candidate → State → Event → State
 effect_for c k s (Activate t) = activate t s
 effect_for c k s Finish = cond k.timed (finish_timed k.number s) (finish k.number s)
@@ -183,6 +184,7 @@ caller c s = (runner c s).number
 abbrev pub calling : Config → State → Body
 calling c s = body_of s (caller c s)
 
+-- the checks and the effect of an event that meets the state s
 abbrev pub checks_of : Config → State → Event → List Check
 checks_of c s e = checks_for c (runner c s) s e
 

@@ -15,6 +15,7 @@ use Rattle.scheduler.specs.Event.{Activate, Finish, Chain, Get, Release, Tick, L
 use Rattle.scheduler.specs.Call.{caller, calling}
 use Rattle.scheduler.specs.Scheduler.{step}
 
+-- a status, and when it is given
 pub record Rule : Type 1 where
   pub status : ℕ
   pub applies : Type 0

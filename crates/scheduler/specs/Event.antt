@@ -16,6 +16,7 @@ pub data Event : Type 0 where
   Set : (t w : ℕ) → Event
   Clear : (w : ℕ) → Event
 
+-- time passes at a Tick alone
 abbrev pub is_tick : Event → Bool
 is_tick (Activate t) = false
 is_tick Finish = false

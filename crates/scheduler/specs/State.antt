@@ -12,6 +12,7 @@ pub data Table : Type 0 where
   stopped : Table
   running : (d n : ℕ) → Table
 
+-- it was started, and has not been stopped since
 abbrev pub is_running : Table → Bool
 is_running stopped = false
 is_running (running d n) = true

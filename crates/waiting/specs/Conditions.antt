@@ -12,6 +12,7 @@ unfoldable pub some_beyond_basic : List ℕ → Bool
 some_beyond_basic [] = false
 some_beyond_basic (k ∷ ks) = (eqb k extended || eqb k time_triggered) || some_beyond_basic ks
 
+-- the same of a configuration's bodies
 abbrev pub beyond_basic : Config → Bool
 beyond_basic c = some_beyond_basic (take c.bodies c.kind)
 
@@ -24,5 +25,6 @@ unfoldable pub some_hold : List Body → Bool
 some_hold [] = false
 some_hold (x ∷ xs) = holds x.held || some_hold xs
 
+-- the same of a state's
 abbrev pub resource_held : State → Bool
 resource_held s = some_hold s.bodies

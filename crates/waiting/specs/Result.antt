@@ -25,5 +25,6 @@ unfoldable pub wait_after : ℕ → Input → ℕ
 wait_after b (refused r p) = packed r p
 wait_after b (played c es) = wait_in c (after c (fresh c) es) b
 
+-- of the bytes of a configuration and of a trace
 abbrev pub wait_result : List ℕ → List ℕ → ℕ → ℕ
 wait_result cs ts b = wait_after b (read_run cs ts)
