@@ -8,7 +8,7 @@
 --   tick_cell c         c after a tick; ticks n c: after n
 --   stop_cell c         c after its table was stopped
 --
--- Each rule is written for a counter of M values (its name ends in `In`) and then taken at 16 bits, so that a fact
+-- Each rule is written for a counter of M values (its name ends in `_in`) and then taken at 16 bits, so that a fact
 -- about the counter is proved once over its width. When the cell's entry is due is in `Due`.
 use Rattle.std.specs.Prelude.{ℕ, zero, suc, ◌+◌, ◌-◌, ◌%◌, Bool, true, false, cond, not, ◌&&◌, ◌==◌, nat_lt}
 use Rattle.cell.specs.declared.Cell.{Cell}
