@@ -119,7 +119,7 @@ fn read_all(rt: &impl Print, trace: &[u8]) -> io::Result<()> {
     let mut at = 0;
     while at < trace.len() {
         let r = read_event(trace, at);
-        print_read(rt, &r)?;
+        print_read(rt, r)?;
         if r.refusal != 0 {
             return Ok(());
         }
@@ -129,8 +129,9 @@ fn read_all(rt: &impl Print, trace: &[u8]) -> io::Result<()> {
 }
 
 fn read(rt: &impl Print, label: &str, trace: &[u8], at: usize) -> io::Result<()> {
-    print!(rt; "{label}: ")?;
-    print_read(rt, &read_event(trace, at))
+    print(rt, label)?;
+    print(rt, ": ")?;
+    print_read(rt, read_event(trace, at))
 }
 
 fn write(
@@ -147,23 +148,25 @@ fn write(
         second,
     };
     let w = write_event(e, out);
-    print!(rt; "{label}: ")?;
+    print(rt, label)?;
+    print(rt, ": ")?;
     print_answer(rt, w.refusal, w.place)?;
     print_bytes(rt, out)?;
-    println!(rt)
+    print(rt, "\n")
 }
 
-fn print_read(rt: &impl Print, r: &EventRead) -> io::Result<()> {
-    print!(rt;
-        "event {} {} {}, ",
-        r.event.code, r.event.first, r.event.second
-    )?;
+fn print_read(rt: &impl Print, r: EventRead) -> io::Result<()> {
+    print_number(rt, "event ", r.event.code as u64)?;
+    print_number(rt, " ", r.event.first as u64)?;
+    print_number(rt, " ", r.event.second as u64)?;
+    print(rt, ", ")?;
     print_answer(rt, r.refusal, r.place)?;
-    println!(rt)
+    print(rt, "\n")
 }
 
 fn print_answer(rt: &impl Print, refusal: u8, place: usize) -> io::Result<()> {
-    print!(rt; "refusal {refusal} place {place}")
+    print_number(rt, "refusal ", refusal as u64)?;
+    print_number(rt, " place ", place as u64)
 }
 
 fn print_bytes(rt: &impl Print, bytes: &[u8]) -> io::Result<()> {
@@ -175,4 +178,12 @@ fn print_bytes(rt: &impl Print, bytes: &[u8]) -> io::Result<()> {
 
 fn print_byte(rt: &impl Print, b: u8) -> io::Result<()> {
     print!(rt; " {b:02x}")
+}
+
+fn print_number(rt: &impl Print, before: &str, n: u64) -> io::Result<()> {
+    print!(rt; "{before}{n}")
+}
+
+fn print(rt: &impl Print, text: &str) -> io::Result<()> {
+    print!(rt; "{text}")
 }
