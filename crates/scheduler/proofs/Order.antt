@@ -1,5 +1,6 @@
 -- The order of the started time-triggered tasks: who is in it, and what each event makes of it.
-pub mod Range
+pub mod Tasks
 pub mod Standing
 pub mod Trigger
 pub mod Invariant
+pub mod Latest
