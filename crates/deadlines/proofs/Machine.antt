@@ -21,7 +21,7 @@ use Rattle.word.proofs.Theorems.{has_union}
 use Rattle.plan.specs.declared.Plan.{Plan}
 use Rattle.plan.specs.Rank.{no_rank, rank_of}
 use Rattle.plan.specs.Plan.{plan_of}
-use Rattle.plan.proofs.Fit.{PlanFits, plan_fits}
+use Rattle.plan.proofs.Fitted.{Fitted, fitted}
 use Rattle.scheduler.specs.Status.{done}
 use Rattle.scheduler.specs.State.{State, body_of}
 use Rattle.scheduler.specs.Event.{Event, Activate, Finish, Chain, Get, Release, Tick, Line, Start, Stop, Wait, Set, Clear, is_tick}
@@ -63,7 +63,7 @@ chains_end b (Set t w) h = h
 chains_end b (Clear w) h = h
 
 -- the model m stands for the state s
-module _ {c : Config} {p : Plan} {rk : ℕ → ℕ} (fit : PlanFits c p rk) where
+module _ {c : Config} {p : Plan} {rk : ℕ → ℕ} (fit : Fitted c p rk) where
   rank_is : (b : ℕ) → b < c.bodies → plan_rank p b ≡ rk b
   rank_is b b< =
       past_any p.rank b 0 no_rank (omega (arith, fit.ranks_long, fit.few)) ∙ fit.body_rank b b<
@@ -148,8 +148,8 @@ module _ (c : Config) (ok : Accepted c) (shaped : Shaped c) (ds : List ℕ)
   abbrev Stands : Model → State → Type 0
   Stands = Sim c (plan_of c) (rank_of c)
 
-  fit : PlanFits c (plan_of c) (rank_of c)
-  fit = plan_fits c ok shaped
+  fit : Fitted c (plan_of c) (rank_of c)
+  fit = fitted c ok shaped
 
   row_is : {m : Model} {s : State} → Stands m s → (e : Event) (b : ℕ) (xs : List Cell) → Row c ds b xs
       → step_row_by (plan_of c) ds m e (machine_step c (plan_of c) m e) b xs ≡ step_row c ds s e b xs

@@ -64,8 +64,7 @@ short_deadlines = 0 ∷ 7 ∷ 3 ∷ []
 -- the round up to its end, where TTTask2 ends after i Ticks, TTTask1 after j more and again after k more
 abbrev ending : ℕ → ℕ → ℕ → ℕ → List Event
 ending i j k rest =
-    Start 0 1 ∷
-    (replicate i Tick ++ Finish ∷ (replicate j Tick ++ Finish ∷ (replicate k Tick ++ Finish ∷ replicate rest Tick)))
+    Start 0 1 ∷ (replicate i Tick ++ Finish ∷ (replicate j Tick ++ Finish ∷ (replicate k Tick ++ Finish ∷ replicate rest Tick)))
 
 -- as in Figure 4.8: TTTask2 ends at 300, TTTask1 at 400 and at 700
 abbrev in_time : List Event

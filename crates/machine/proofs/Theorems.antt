@@ -36,7 +36,7 @@ use Rattle.machine.specs.Events.{idles, bits_at}
 use Rattle.machine.specs.Machine.{fresh_model, status_of, effect_of, else_of, machine_step, LostLine, cell_in, runner_of, observed, machine_seen, machine_after}
 use Rattle.machine.proofs.Event.Tables as Tables
 use Rattle.machine.proofs.Event.Waits as Waits
-use Rattle.plan.proofs.Fit.{plan_fits}
+use Rattle.plan.proofs.Fitted.{fitted}
 use Rattle.machine.proofs.Event.Refusals as Refusals
 use Rattle.machine.proofs.Whole.Reached as Reached
 use Rattle.machine.proofs.Whole.Holders as Holders
@@ -81,12 +81,12 @@ module _ (c : Config) (ok : Accepted c) (shaped : Shaped c) (es : List Event) wh
   pub holder_below : (i r : ℕ) → i ≢ caller c (after c (fresh c) es)
       → among r (body_of (after c (fresh c) es) i).held ≡ true
       → current c i (body_of (after c (fresh c) es) i) < trigger_of c (caller c (after c (fresh c) es))
-  holder_below = Holders.holder_below (plan_fits c ok shaped) (Reached.sim c ok shaped es)
+  holder_below = Holders.holder_below (fitted c ok shaped) (Reached.sim c ok shaped es)
 
   pub ceiling_below : (i r : ℕ) → i ≢ caller c (after c (fresh c) es)
       → among r (body_of (after c (fresh c) es) i).held ≡ true
       → ceiling c r < trigger_of c (caller c (after c (fresh c) es))
-  ceiling_below = Holders.ceiling_below (plan_fits c ok shaped) (Reached.sim c ok shaped es)
+  ceiling_below = Holders.ceiling_below (fitted c ok shaped) (Reached.sim c ok shaped es)
 
   -- "a declared basic task or ISR is refused a resource only when it holds that resource itself": with status 1
   pub declared_refused : (r : ℕ) → nobody_runs c (after c (fresh c) es) ≡ false
@@ -95,7 +95,7 @@ module _ (c : Config) (ok : Accepted c) (shaped : Shaped c) (es : List Event) wh
       → ((step c (after c (fresh c) es) (Get r)).seen.status ≡ 1)
       × (among r (calling c (after c (fresh c) es)).held ≡ true)
   unfolding step_by
-  declared_refused = Holders.declared_refused (plan_fits c ok shaped) (Reached.sim c ok shaped es)
+  declared_refused = Holders.declared_refused (fitted c ok shaped) (Reached.sim c ok shaped es)
 
   -- The same of the machine: the k-th slot from the top has a resource, its holder's rank and its level, and past the
   -- last one there is no holder. A slot of another holder is below the runner's own priority; every holder is a
@@ -104,13 +104,13 @@ module _ (c : Config) (ok : Accepted c) (shaped : Shaped c) (es : List Event) wh
   pub slot_below : (k : ℕ) → get_or (row_bytes (reached c es).holder) k no_rank ≢ no_rank
       → get_or (row_bytes (reached c es).holder) k no_rank ≢ (reached c es).core.runner
       → get_or (row_bytes (reached c es).raised) k no_rank < get_or (plan_of c).priority (reached c es).core.runner 0
-  slot_below = Holders.slot_below (plan_fits c ok shaped) (Reached.sim c ok shaped es)
+  slot_below = Holders.slot_below (fitted c ok shaped) (Reached.sim c ok shaped es)
 
   pub slot_user : (k : ℕ) → get_or (row_bytes (reached c es).holder) k no_rank ≢ no_rank
       → has
       (get_or (plan_of c).users (get_or (row_bytes (reached c es).resource) k no_rank) 0)
       (get_or (row_bytes (reached c es).holder) k no_rank) ≡ true
-  slot_user = Holders.slot_user (plan_fits c ok shaped) (Reached.sim c ok shaped es) (held_by_user c es)
+  slot_user = Holders.slot_user (fitted c ok shaped) (Reached.sim c ok shaped es) (held_by_user c es)
 
   pub machine_refused : (r : ℕ) → idles (reached c es) ≡ false → is_user c r (runner_of (plan_of c) (reached c es)) ≡ true
       → (machine_step c (plan_of c) (reached c es) (Get r)).status ≢ 0
@@ -118,7 +118,7 @@ module _ (c : Config) (ok : Accepted c) (shaped : Shaped c) (es : List Event) wh
       × ((k : ℕ)
       × (get_or (row_bytes (reached c es).resource) k no_rank ≡ r)
       × (get_or (row_bytes (reached c es).holder) k no_rank ≡ (reached c es).core.runner))
-  machine_refused = Holders.machine_refused (plan_fits c ok shaped) (Reached.sim c ok shaped es)
+  machine_refused = Holders.machine_refused (fitted c ok shaped) (Reached.sim c ok shaped es)
 
 -- Start and Stop are the cell's own, for each cell of the table, and leave every other cell as it was: wherever they
 -- are accepted
@@ -130,7 +130,7 @@ module _ (c : Config) (ok : Accepted c) (shaped : Shaped c) (es : List Event) (t
       ≡ start_cell (get_or c.period t 0) (d + get_or c.offset e 0)
   unfolding effect_of
   start_cell_lem d =
-      Tables.start_cell_lem (plan_fits c ok shaped) (Reached.sim c ok shaped es) (Reached.keeps c ok shaped es)
+      Tables.start_cell_lem (fitted c ok shaped) (Reached.sim c ok shaped es) (Reached.keeps c ok shaped es)
       (Reached.long c ok shaped es) t d e t<
 
   pub start_other : (d u : ℕ) → u < c.tables → u ≢ t → first_of c u ≤ e → e < first_of c (suc u)
@@ -138,7 +138,7 @@ module _ (c : Config) (ok : Accepted c) (shaped : Shaped c) (es : List Event) (t
       ≡ cell_in (plan_of c) (reached c es) e
   unfolding effect_of
   start_other d =
-      Tables.start_other (plan_fits c ok shaped) (Reached.sim c ok shaped es) (Reached.keeps c ok shaped es)
+      Tables.start_other (fitted c ok shaped) (Reached.sim c ok shaped es) (Reached.keeps c ok shaped es)
       (Reached.long c ok shaped es) t d e t<
 
   -- "Stop switches the table's cells off and sets their counters to 0"
@@ -147,7 +147,7 @@ module _ (c : Config) (ok : Accepted c) (shaped : Shaped c) (es : List Event) (t
       ≡ stop_cell (cell_in (plan_of c) (reached c es) e)
   unfolding effect_of
   stop_cell_lem =
-      Tables.stop_cell_lem (plan_fits c ok shaped) (Reached.sim c ok shaped es) (Reached.keeps c ok shaped es)
+      Tables.stop_cell_lem (fitted c ok shaped) (Reached.sim c ok shaped es) (Reached.keeps c ok shaped es)
       (Reached.long c ok shaped es) t e t<
 
   pub stop_other : (u : ℕ) → u < c.tables → u ≢ t → first_of c u ≤ e → e < first_of c (suc u)
@@ -155,7 +155,7 @@ module _ (c : Config) (ok : Accepted c) (shaped : Shaped c) (es : List Event) (t
       ≡ cell_in (plan_of c) (reached c es) e
   unfolding effect_of
   stop_other =
-      Tables.stop_other (plan_fits c ok shaped) (Reached.sim c ok shaped es) (Reached.keeps c ok shaped es)
+      Tables.stop_other (fitted c ok shaped) (Reached.sim c ok shaped es) (Reached.keeps c ok shaped es)
       (Reached.long c ok shaped es) t e t<
 
 -- "A status other than 0 changes nothing", whatever the model; "For version 2, demand 1's "changes nothing" excepts

@@ -14,4 +14,4 @@ pub mod Ranking
 pub mod Order
 pub mod Lookups
 pub mod Parts
-pub mod Fit
+pub mod Fitted

@@ -208,8 +208,7 @@ module _ (c : Config) (accepted : Accepted c) (shaped : Shaped c) where
       → get_or (plan_of c).compare e 0 ≡ get_or c.period t 0 - 1
   unfolding plan_of
   entry_compare t e h lo hi =
-      Lookups.by_entry c accepted shaped (compare_of c) e
-      (omega (arith, entry_count_lem, Lookups.first_le c accepted shaped (suc t) (omega arith)))
+      Lookups.by_entry c accepted shaped (compare_of c) e (omega (arith, entry_count_lem, Lookups.first_le c accepted shaped (suc t) (omega arith)))
       ∙ ap (λ k. get_or c.period k 0 - 1) found
     where
       found : entry_table c e ≡ t

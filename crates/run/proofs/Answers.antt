@@ -16,7 +16,7 @@ use Rattle.plan.specs.Plan.{plan_of}
 use Rattle.scheduler.specs.Scheduler.{Event, Seen, fresh, after}
 use Rattle.machine.specs.Model.{Model}
 use Rattle.machine.specs.Machine.{fresh_model, machine_step, losses_of, machine_seen, machine_after}
-use Rattle.plan.proofs.Fit.{PlanFits, plan_fits}
+use Rattle.plan.proofs.Fitted.{Fitted, fitted}
 use Rattle.machine.proofs.Event.Agrees.{losses_seen_lem}
 use Rattle.machine.proofs.Whole.Lists.{agreement_from, after_sim}
 use Rattle.machine.proofs.Whole.Fresh.{fresh_sim}
@@ -39,7 +39,7 @@ unfolding machine_seen
 length_seen c p [] m = refl
 length_seen c p (e ∷ es) m = let h = length_seen c p es (machine_step c p m e).model in omega arith
 
-module _ (c : Config) (p : Plan) (fit : PlanFits c p (rank_of c)) where
+module _ (c : Config) (p : Plan) (fit : Fitted c p (rank_of c)) where
   pub length_losses : (m : Model) → length (loss_bytes (losses_of c p m)) ≡ 2 * c.bodies
   length_losses m =
       length_loss_bytes (losses_of c p m)
@@ -70,13 +70,13 @@ module _ (c : Config) (p : Plan) (fit : PlanFits c p (rank_of c)) where
         let m = machine_after c p (fresh_model p) es in
         ap₂ (λ (xs : List Seen) (ns : List ℕ). answer_bytes xs ++ loss_bytes ns)
         (agreement_from fit es start)
-        (losses_seen_lem fit m (after c (fresh c) es).bodies end.tied.size end.losses_tied)
+        (losses_seen_lem fit m (after c (fresh c) es).bodies end.tied.size end.lost)
 
 module _ (c : Config) (ok : Accepted c) (shaped : Shaped c) (es : List Event) where
   -- the two sides of demand 3, as bytes
   pub answers_same : machine_answers c (plan_of c) es ≡ answers c es
-  answers_same = machine_same c (plan_of c) (plan_fits c ok shaped) es
+  answers_same = machine_same c (plan_of c) (fitted c ok shaped) es
 
   -- "four bytes an event .., then two bytes a body"
   pub length_answers : length (answers c es) ≡ 4 * length es + 2 * c.bodies
-  length_answers = sym (ap length answers_same) ∙ length_machine c (plan_of c) (plan_fits c ok shaped) es
+  length_answers = sym (ap length answers_same) ∙ length_machine c (plan_of c) (fitted c ok shaped) es

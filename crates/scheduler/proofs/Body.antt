@@ -47,14 +47,6 @@ unbegun_unstarted started h = h
 unbegun_unstarted (waiting w) h = refl
 unbegun_unstarted (triggered x) h = refl
 
--- of those who may run, who is not started has not begun
-pub unstarted_unbegun : (p : Phase) → competes p ≡ true → is_started p ≡ false → has_begun p ≡ false
-unstarted_unbegun suspended h e = refl
-unstarted_unbegun ready h e = refl
-unstarted_unbegun started h e = e
-unstarted_unbegun (waiting w) h e = absurd (true≢false (sym h))
-unstarted_unbegun (triggered x) h e = absurd (true≢false (sym h))
-
 pub nothing_held : (rs : List ℕ) → holds rs ≡ false → rs ≡ []
 nothing_held [] h = refl
 nothing_held (r ∷ rs) h = absurd (true≢false h)

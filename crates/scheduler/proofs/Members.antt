@@ -1,5 +1,5 @@
 -- Numbers that stand in a list (`among`), and lists in which none stands twice: such a list is no longer than one that
--- has all its numbers (`none_twice_fits`).
+-- has all its numbers (`distinct_fits`).
 --
 -- In order: what `among` says of a head, a tail, an index and two lists put together; a list without one of its numbers;
 -- the law.
@@ -16,9 +16,13 @@ use Rattle.number.proofs.Cases.{by_eq, neither}
 use Rattle.scheduler.specs.Body.{rest}
 use Rattle.scheduler.specs.State.{among}
 
-abbrev pub NoneTwice : List ℕ → Type 0
-NoneTwice [] = Unit {0}
-NoneTwice (j ∷ js) = (among j js ≡ false) × NoneTwice js
+abbrev pub Distinct : List ℕ → Type 0
+Distinct [] = Unit {0}
+Distinct (j ∷ js) = (among j js ≡ false) × Distinct js
+
+distinct_rest : (js : List ℕ) → Distinct js → Distinct (rest js)
+distinct_rest [] d = d
+distinct_rest (j ∷ js) d = d.1
 
 pub none_among : {C : Type 0} (j : ℕ) → among j [] ≡ true → C
 unfolding among
@@ -112,14 +116,14 @@ among_removed i j (x ∷ xs) d h =
     (λ here. rw here (among_head x (removed j xs)))
     (λ n. among_tail i x (removed j xs) (among_removed i j xs d (sym (among_other i x xs n) ∙ h)))))
 
-pub none_twice_fits : (js l : List ℕ) → NoneTwice js → ((i : ℕ) → among i js ≡ true → among i l ≡ true)
+pub distinct_fits : (js l : List ℕ) → Distinct js → ((i : ℕ) → among i js ≡ true → among i l ≡ true)
     → length js ≤ length l
-none_twice_fits [] l d all = omega arith
-none_twice_fits (j ∷ js) l d all =
+distinct_fits [] l d all = omega arith
+distinct_fits (j ∷ js) l d all =
     omega (
       arith,
       length_removed j l (all j (among_head j js)),
-      none_twice_fits js (removed j l) d.1
+      distinct_fits js (removed j l) d.1
           (λ i h. among_removed i j l (λ e. true≢false (sym h ∙ ap (λ (k : ℕ). among k js) e ∙ d.0))
           (all i (among_tail i j js h))),
     )

@@ -1,4 +1,4 @@
--- What becomes of one body's requests and begins where it is changed: `Balances`, one law for each change.
+-- What becomes of one body's requests and begins where it is changed: `Moves`, one law for each change.
 use Prim.Native.Nat.{ℕ, ◌+◌}
 use mathlib.Core.Path.{◌≡◌, refl, sym, ap, ◌∙◌}
 use mathlib.Core.Bool.{Bool, true, false, true≢false, cond}
@@ -23,8 +23,8 @@ in_body (waiting w) = true
 in_body (triggered x) = false
 
 -- a second request waits of an ISR alone, and while it is in its body
-abbrev pub SecondOfIsr : Config → ℕ → Body → Type 0
-SecondOfIsr c i b = b.pending ≡ true → (is_isr c i ≡ true) × (in_body b.phase ≡ true)
+abbrev pub Second : Config → ℕ → Body → Type 0
+Second c i b = b.pending ≡ true → (is_isr c i ≡ true) × (in_body b.phase ≡ true)
 
 abbrev pub wait_mark : Body → ℕ
 wait_mark b = mark_of (request_waits b b.phase)
@@ -33,13 +33,13 @@ abbrev pub begun_mark : Body → ℕ
 begun_mark b = mark_of (has_begun b.phase)
 
 -- r requests and d ends make x to y
-pub record Balance (c : Config) (i : ℕ) (x y : Body) (r d : ℕ) : Type 0 where
-  pub second : SecondOfIsr c i y
+pub record Moved (c : Config) (i : ℕ) (x y : Body) (r d : ℕ) : Type 0 where
+  pub second : Second c i y
   pub waits : wait_mark x + r ≡ wait_mark y
   pub begun : begun_mark x ≡ begun_mark y + d
 
-abbrev pub Balances : Config → ℕ → Body → Body → ℕ → ℕ → Type 0
-Balances c i x y r d = SecondOfIsr c i x → Balance c i x y r d
+abbrev pub Moves : Config → ℕ → Body → Body → ℕ → ℕ → Type 0
+Moves c i x y r d = Second c i x → Moved c i x y r d
 
 abbrev in_phase : Phase → Bool → Body → Body
 in_phase p x b = record { phase = p; pending = x; held = b.held; losses = b.losses; bits = b.bits }
@@ -59,11 +59,11 @@ left_none b = go b.phase b.pending
     go (triggered false) x = refl
 
 module _ (c : Config) (i : ℕ) where
-  pub stays : (x : Body) → Balances c i x x 0 0
+  pub stays : (x : Body) → Moves c i x x 0 0
   stays x h = record { second = h; waits = omega arith; begun = omega arith }
 
-  pub then : (x y z : Body) (r p q d e f : ℕ) → r ≡ p + q → d ≡ e + f → Balances c i x y p e → Balances c i y z q f
-      → Balances c i x z r d
+  pub then : (x y z : Body) (r p q d e f : ℕ) → r ≡ p + q → d ≡ e + f → Moves c i x y p e → Moves c i y z q f
+      → Moves c i x z r d
   then x y z r p q d e f rs ds m n h =
       let a = m h in
       let b = n a.second in
@@ -74,7 +74,7 @@ module _ (c : Config) (i : ℕ) where
       }
 
   -- not in its body: no second request
-  alone : (x : Body) → in_body x.phase ≡ false → SecondOfIsr c i x → x.pending ≡ false
+  alone : (x : Body) → in_body x.phase ≡ false → Second c i x → x.pending ≡ false
   alone x n h = go x.pending refl
     where
       go : (p : Bool) → x.pending ≡ p → p ≡ false
@@ -85,7 +85,7 @@ module _ (c : Config) (i : ℕ) where
   none p n h = absurd (true≢false (sym h ∙ n))
 
   -- a change of neither the phase nor what waits
-  pub quiet : (x y : Body) → y.phase ≡ x.phase → y.pending ≡ x.pending → Balances c i x y 0 0
+  pub quiet : (x y : Body) → y.phase ≡ x.phase → y.pending ≡ x.pending → Moves c i x y 0 0
   quiet x y e f h =
       record {
         second = λ p. let a = h (sym f ∙ p) in (a.0, ap in_body e ∙ a.1);
@@ -103,16 +103,16 @@ module _ (c : Config) (i : ℕ) where
           go (waiting w) = ap mark_of (sym f)
           go (triggered b) = refl
 
-  pub activated_balances : (x : Body) → x.phase ≡ suspended → Balances c i x (activated x) 1 0
-  activated_balances x e h =
+  pub activated_moves : (x : Body) → x.phase ≡ suspended → Moves c i x (activated x) 1 0
+  activated_moves x e h =
       record { second = λ p. none x.pending (alone x (ap in_body e) h) p; waits = rw e refl; begun = rw e refl }
 
-  pub triggers_balances : (x : Body) → x.phase ≡ suspended → Balances c i x (triggers x) 1 0
-  triggers_balances x e h =
+  pub triggers_moves : (x : Body) → x.phase ≡ suspended → Moves c i x (triggers x) 1 0
+  triggers_moves x e h =
       record { second = λ p. none x.pending (alone x (ap in_body e) h) p; waits = rw e refl; begun = rw e refl }
 
   -- what waits of one that has begun
-  begun_wait : (x : Body) → has_begun x.phase ≡ true → SecondOfIsr c i x → wait_mark x ≡ mark_of x.pending
+  begun_wait : (x : Body) → has_begun x.phase ≡ true → Second c i x → wait_mark x ≡ mark_of x.pending
   begun_wait x b h = go x.phase refl b
     where
       go : (p : Phase) → x.phase ≡ p → has_begun p ≡ true → mark_of (request_waits x p) ≡ mark_of x.pending
@@ -123,21 +123,21 @@ module _ (c : Config) (i : ℕ) where
       go (triggered true) e k = ap mark_of (sym (alone x (ap in_body e) h))
       go (triggered false) e k = absurd (true≢false (sym k))
 
-  pub finished_balances : (x : Body) → has_begun x.phase ≡ true → Balances c i x (finished x) 0 1
-  finished_balances x b h = go x.pending (begun_wait x b h)
+  pub finished_moves : (x : Body) → has_begun x.phase ≡ true → Moves c i x (finished x) 0 1
+  finished_moves x b h = go x.pending (begun_wait x b h)
     where
       one : begun_mark x ≡ 1
       one = ap mark_of b
 
-      go : (p : Bool) → wait_mark x ≡ mark_of p → Balance c i x (cond p (activated (ended x)) (ended x)) 0 1
+      go : (p : Bool) → wait_mark x ≡ mark_of p → Moved c i x (cond p (activated (ended x)) (ended x)) 0 1
       go true e =
           record { second = λ k. absurd (true≢false (sym k)); waits = omega arith; begun = omega (arith, one) }
       go false e =
           record { second = λ k. absurd (true≢false (sym k)); waits = omega arith; begun = omega (arith, one) }
 
-  pub waits_balances : (w : ℕ) (x : Body) → has_begun x.phase ≡ true → Balances c i x (waits w x) 0 0
-  waits_balances w x b h =
-      cond_either (λ (y : Body). Balance c i x y 0 0) (any_set x.bits w) x (become (waiting w) x)
+  pub waits_moves : (w : ℕ) (x : Body) → has_begun x.phase ≡ true → Moves c i x (waits w x) 0 0
+  waits_moves w x b h =
+      cond_either (λ (y : Body). Moved c i x y 0 0) (any_set x.bits w) x (become (waiting w) x)
       (stays x h)
       (record {
         second = λ p. ((h p).0, refl);
@@ -145,8 +145,8 @@ module _ (c : Config) (i : ℕ) where
         begun = omega (arith, ap mark_of b);
       })
 
-  pub receives_balances : (w : ℕ) (x : Body) → Balances c i x (receives w x) 0 0
-  receives_balances w x h =
+  pub receives_moves : (w : ℕ) (x : Body) → Moves c i x (receives w x) 0 0
+  receives_moves w x h =
       record {
         second = λ p. let a = h p in (a.0, in_body_lem x.phase ∙ a.1);
         waits = omega (arith, same x.phase);
@@ -181,12 +181,12 @@ module _ (c : Config) (i : ℕ) where
       same (triggered b) = refl
 
   -- a Line of an ISR of which no request waits
-  pub requested_balances : (x : Body) → is_isr c i ≡ true → ((b : Bool) → x.phase ≡ triggered b → ⊥)
+  pub requested_moves : (x : Body) → is_isr c i ≡ true → ((b : Bool) → x.phase ≡ triggered b → ⊥)
       → request_waits x x.phase ≡ false
-      → Balances c i x (requested x) 1 0
-  requested_balances x isr untriggered free h = go x.phase refl free
+      → Moves c i x (requested x) 1 0
+  requested_moves x isr untriggered free h = go x.phase refl free
     where
-      go : (p : Phase) → x.phase ≡ p → request_waits x p ≡ false → Balance c i x (requested x) 1 0
+      go : (p : Phase) → x.phase ≡ p → request_waits x p ≡ false → Moved c i x (requested x) 1 0
       go suspended e f =
           record {
             second = rw e (λ p. none x.pending (alone x (ap in_body e) h) p);
@@ -199,14 +199,14 @@ module _ (c : Config) (i : ℕ) where
       go (triggered b) e f = absurd (untriggered b e)
 
   -- a due entry; it leaves the body active
-  pub entered_balances : (t : Bool) (x : Body) → Balances c i x (entered t x) (mark_of (is_suspended x.phase)) 0
-  entered_balances true x =
+  pub entered_moves : (t : Bool) (x : Body) → Moves c i x (entered t x) (mark_of (is_suspended x.phase)) 0
+  entered_moves true x =
       by_test (is_suspended x.phase)
-      (λ h. rw h (triggers_balances x (suspended_is x.phase h)))
+      (λ h. rw h (triggers_moves x (suspended_is x.phase h)))
       (λ h. rw h (quiet x (loses x) refl refl))
-  entered_balances false x =
+  entered_moves false x =
       by_test (is_suspended x.phase)
-      (λ h. rw h (activated_balances x (suspended_is x.phase h)))
+      (λ h. rw h (activated_moves x (suspended_is x.phase h)))
       (λ h. rw h (quiet x (loses x) refl refl))
 
   pub entered_active : (t : Bool) (x : Body) → is_suspended (entered t x).phase ≡ false
@@ -214,19 +214,19 @@ module _ (c : Config) (i : ℕ) where
   entered_active false x = by_test (is_suspended x.phase) (λ h. rw h) (λ h. rw h h)
 
 -- n begins make x to y: each uses up a request
-pub record BeginBalance (c : Config) (i : ℕ) (x y : Body) (n : ℕ) : Type 0 where
-  pub second : SecondOfIsr c i y
+pub record Begun (c : Config) (i : ℕ) (x y : Body) (n : ℕ) : Type 0 where
+  pub second : Second c i y
   pub waits : wait_mark x ≡ n + wait_mark y
   pub begun : begun_mark x + n ≡ begun_mark y
 
 module _ (c : Config) (i : ℕ) where
-  pub unbegun : (x : Body) → SecondOfIsr c i x → BeginBalance c i x x 0
+  pub unbegun : (x : Body) → Second c i x → Begun c i x x 0
   unbegun x h = record { second = h; waits = omega arith; begun = omega arith }
 
   pub begins_once : (p : Phase) (x : Body) → has_begun p ≡ true → has_begun x.phase ≡ false
       → is_suspended x.phase ≡ false
-      → SecondOfIsr c i x
-      → BeginBalance c i x (become p x) 1
+      → Second c i x
+      → Begun c i x (become p x) 1
   begins_once p x b n a h =
       record {
         second = λ k. none c i x.pending single k;

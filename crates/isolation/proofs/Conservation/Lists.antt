@@ -24,17 +24,16 @@ use Rattle.scheduler.specs.Scheduler.{begins, mark_of, new_body, unstarted, leav
 use Rattle.scheduler.proofs.Body.{unbegun_unstarted}
 use Rattle.scheduler.proofs.Choice.Runner.{Taken, no_one, body, chosen_from_lem, candidate_active, current_own}
 use Rattle.scheduler.proofs.Event.Effects.{length_changing, new_body_lem, effect_of_keeps, else_of_keeps, activating_due_keeps, entered}
-use Rattle.scheduler.proofs.Choice.Dispatch.{runner_same, underway_bodies, underway_step, underway_fresh}
+use Rattle.scheduler.proofs.Choice.Dispatch.{runner_same, underway_named, underway_step, underway_fresh}
 use Rattle.scheduler.proofs.Kind.{timed_body}
 use Rattle.scheduler.proofs.Order.Invariant.{orderly_step, orderly_unstarted, orderly_fresh}
 use Rattle.isolation.specs.Requests.{requests_at, ends_at, requests, ends, mark_at, marks, autostarted, fresh_runner, fresh_mark, waits_to_begin, under_way}
-use Rattle.isolation.proofs.Conservation.Body.{SecondOfIsr, wait_mark, begun_mark, left_none, BeginBalance}
-use Rattle.isolation.proofs.Conservation.Event.{Between, leaves_balances}
-use Rattle.scheduler.proofs.Order.Latest.{orderly_latest, leaves_latest}
-use Rattle.isolation.proofs.Conservation.Dispatch.{dispatched_begins}
+use Rattle.isolation.proofs.Conservation.Body.{Second, wait_mark, begun_mark, left_none, Begun}
+use Rattle.isolation.proofs.Conservation.Event.{Between, leaves_moves}
+use Rattle.isolation.proofs.Conservation.Dispatch.{dispatched_begins, orderly_headed, leaves_headed}
 
 -- a body that is past the last
-past_second : (c : Config) (s : State) (i : ℕ) → length s.bodies ≤ i → SecondOfIsr c i (body_of s i)
+past_second : (c : Config) (s : State) (i : ℕ) → length s.bodies ≤ i → Second c i (body_of s i)
 past_second c s i past h =
     absurd (true≢false (sym h ∙ ap (λ (x : Body). x.pending) (get_or-eq_default s.bodies no_body past)))
 
@@ -57,25 +56,25 @@ marked false w = refl
 -- from event to event, of a configuration that the reader accepts
 module _ (c : Config) (ok : Configuration.Accepted c) (shaped : Configuration.Shaped c) where
   module _ {s : State} (a : Between c s) (e : Event) where
-    left_second : (i : ℕ) → SecondOfIsr c i (body_of (leaves c s e) i)
+    left_second : (i : ℕ) → Second c i (body_of (leaves c s e) i)
     left_second i =
         by_lt i (length s.bodies)
-        (λ fits. (leaves_balances c s a i fits (wait_mark (body_of s i) + begun_mark (body_of s i)) (left_none (body_of s i)) e
+        (λ fits. (leaves_moves c s a i fits (wait_mark (body_of s i) + begun_mark (body_of s i)) (left_none (body_of s i)) e
         (a.second i)).second)
         (λ past. past_second c (leaves c s e) i (rw (leaves_long s e c) past))
 
     stepped : (b : ℕ)
-        → BeginBalance c b (body_of (leaves c s e) b) (body_of (step c s e).state b)
+        → Begun c b (body_of (leaves c s e) b) (body_of (step c s e).state b)
         (mark_of (begins (runner c (leaves c s e)) && eqb (runner c (leaves c s e)).number b))
     unfolding step_by
-    stepped b = dispatched_begins c (leaves c s e) (leaves_latest c ok shaped a.orderly e) left_second b
+    stepped b = dispatched_begins c (leaves c s e) (leaves_headed c ok shaped a.orderly e) left_second b
 
     between_step : Between c (step c s e).state
     between_step =
         let o = orderly_step c ok shaped a.orderly e in
         record {
           orderly = o;
-          underway = underway_bodies c (step c s e).state (underway_step c s e)
+          underway = underway_named c (step c s e).state (underway_step c s e)
               (λ j h. rw o.bodies_there (timed_body c j (o.started_timed j h)));
           second = λ i. (stepped i).second;
         }
@@ -102,7 +101,7 @@ module _ (c : Config) (ok : Configuration.Accepted c) (shaped : Configuration.Sh
       counted_step =
           let there : b < length s.bodies = rw a.orderly.bodies_there fits in
           let none = ap (λ (n : ℕ). eqb n 0) left ∙ left_none (body_of s b) in
-          let m = leaves_balances c s a b there o none e (a.second b) in
+          let m = leaves_moves c s a b there o none e (a.second b) in
           let n = stepped b in
           let mark = marked (begins (runner c (leaves c s e))) (eqb (runner c (leaves c s e)).number b) in
           record {
@@ -134,10 +133,10 @@ module _ (c : Config) (ok : Configuration.Accepted c) (shaped : Configuration.Sh
       })
 
   -- a new body has no second request, and has not begun
-  new_second : (i : ℕ) → SecondOfIsr c i (body_of (unstarted c) i)
+  new_second : (i : ℕ) → Second c i (body_of (unstarted c) i)
   new_second i = rw (new_body_lem c i) (go (eqb (get_or (take c.bodies c.autostart) i 0) 1))
     where
-      go : (v : Bool) → SecondOfIsr c i (cond v (activated no_body) no_body)
+      go : (v : Bool) → Second c i (cond v (activated no_body) no_body)
       go true h = absurd (true≢false (sym h))
       go false h = absurd (true≢false (sym h))
 
@@ -158,16 +157,16 @@ module _ (c : Config) (ok : Configuration.Accepted c) (shaped : Configuration.Sh
       go false = refl
 
   begun_fresh : (b : ℕ)
-      → BeginBalance c b (body_of (unstarted c) b) (body_of (fresh c) b)
+      → Begun c b (body_of (unstarted c) b) (body_of (fresh c) b)
       (mark_of (begins (runner c (unstarted c)) && eqb (runner c (unstarted c)).number b))
-  begun_fresh b = dispatched_begins c (unstarted c) (orderly_latest c (orderly_unstarted c ok shaped)) new_second b
+  begun_fresh b = dispatched_begins c (unstarted c) (orderly_headed c (orderly_unstarted c ok shaped)) new_second b
 
   between_fresh : Between c (fresh c)
   between_fresh =
       let o = orderly_fresh c ok shaped in
       record {
         orderly = o;
-        underway = underway_bodies c (fresh c) (underway_fresh c)
+        underway = underway_named c (fresh c) (underway_fresh c)
             (λ j h. rw o.bodies_there (timed_body c j (o.started_timed j h)));
         second = λ i. (begun_fresh i).second;
       }

@@ -11,7 +11,7 @@ use Rattle.config.specs.Accepted as Configuration
 use Rattle.word.specs.Word.{has}
 use Rattle.plan.specs.Rank.{rank_of}
 use Rattle.plan.specs.Plan.{plan_of}
-use Rattle.plan.proofs.Fit.{plan_fits}
+use Rattle.plan.proofs.Fitted.{fitted}
 use Rattle.scheduler.specs.Status.{done}
 use Rattle.scheduler.specs.Choice.{Candidate}
 use Rattle.scheduler.specs.State.{State, runner}
@@ -46,7 +46,7 @@ module _ (c : Config) (ok : Configuration.Accepted c) (shaped : Configuration.Sh
     unfolding step_by
     runner_stands =
         ap (λ (k : Core). runner_of (plan_of c) (with_core m k)) (sym stop_core)
-        ∙ ap (λ (x : Seen). x.runner) (event_agrees (plan_fits c ok shaped) (Stop 0) sim).seen
+        ∙ ap (λ (x : Seen). x.runner) (event_agrees (fitted c ok shaped) (Stop 0) sim).seen
         ∙ ap (λ (k : Candidate). k.number) stop_runner
 
   pub machine_conservation : (es : List Event) (b : ℕ) → b < c.bodies
@@ -57,7 +57,7 @@ module _ (c : Config) (ok : Configuration.Accepted c) (shaped : Configuration.Sh
       + marks b (machine_seen c (plan_of c) (fresh_model (plan_of c)) es)
       + mark_of (has (reached c es).core.request (rank_of c b))
   machine_conservation es b fits =
-      let start = fresh_sim (plan_fits c ok shaped) in
-      let now = after_sim (plan_fits c ok shaped) es start in
+      let start = fresh_sim (fitted c ok shaped) in
+      let now = after_sim (fitted c ok shaped) es start in
       rw (agreement c ok shaped es, runner_stands start, now.tied.words.asks b fits)
       (conservation c ok shaped es b fits)

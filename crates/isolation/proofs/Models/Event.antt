@@ -17,7 +17,7 @@ use Rattle.config.specs.Accepted as Configuration
 use Rattle.word.specs.Word.{has, with}
 use Rattle.plan.specs.Rank.{no_rank, rank_of}
 use Rattle.plan.specs.Plan.{plan_of}
-use Rattle.plan.proofs.Fit.{PlanFits, plan_fits}
+use Rattle.plan.proofs.Fitted.{Fitted, fitted}
 use Rattle.scheduler.specs.Status.{done, limit_reached, first_given}
 use Rattle.scheduler.specs.Bits.{any_set}
 use Rattle.scheduler.specs.Event.{Event, Activate, Finish, Chain, Get, Release, Tick, Line, Start, Stop, Wait, Set, Clear}
@@ -33,8 +33,8 @@ use Rattle.isolation.proofs.Models.Dispatch.{SameOutcome, Follows, settled_same,
 use Rattle.isolation.proofs.Models.Match.{with_same, lost_same, SameTally, requests_due_same}
 
 module _ (c : Config) (ok : Configuration.Accepted c) (shaped : Configuration.Shaped c) (L : ℕ) where
-  fit : PlanFits c (plan_of c) (rank_of c)
-  fit = plan_fits c ok shaped
+  fit : Fitted c (plan_of c) (rank_of c)
+  fit = fitted c ok shaped
 
   -- a rank by which the body t is named, or none
   named_high : (t r : ℕ) (is : Bool) → r ≡ cond is (rank_of c t) no_rank → (is ≡ true → t < c.bodies)

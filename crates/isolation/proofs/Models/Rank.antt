@@ -22,31 +22,31 @@ use Rattle.plan.specs.Rank.{body_count, rank_of}
 use Rattle.plan.specs.Plan.{trigger_of, plan_of}
 use Rattle.plan.proofs.Stores.{stored_past}
 use Rattle.plan.proofs.Order.{all_bodies}
-use Rattle.plan.proofs.Fit.{PlanFits, plan_fits}
+use Rattle.plan.proofs.Fitted.{Fitted, fitted}
 use Rattle.machine.proofs.Relation.Kinds.{trigger_plain}
 use Rattle.machine.proofs.Relation.Rows.{same_everywhere}
 use Rattle.isolation.specs.Above.{above}
 use Rattle.isolation.specs.Models.{LowRank}
 
 -- one of the first n bodies has the rank r, or none has
-pub record BodyOfRank (c : Config) (n r : ℕ) : Type 0 where
+pub record Ranked (c : Config) (n r : ℕ) : Type 0 where
   pub body : ℕ
   pub exists : body < n
   pub rank : rank_of c body ≡ r
 
-body_of_rank_or_none : (c : Config) (r n : ℕ) → BodyOfRank c n r ⊎ ((b : ℕ) → b < n → rank_of c b ≢ r)
-body_of_rank_or_none c r zero = inr (λ b h e. omega arith)
-body_of_rank_or_none c r (suc n) =
+ranked_or_not : (c : Config) (r n : ℕ) → Ranked c n r ⊎ ((b : ℕ) → b < n → rank_of c b ≢ r)
+ranked_or_not c r zero = inr (λ b h e. omega arith)
+ranked_or_not c r (suc n) =
     by_eq (rank_of c n) r
     (λ e. inl (record { body = n; exists = omega arith; rank = e }))
     (λ d. ⊎_elim
     (λ x. inl (record { body = x.body; exists = omega arith; rank = x.rank }))
     (λ none. inr (λ b h. by_eq b n (λ e. rw e d) (λ other. none b (omega arith))))
-    (body_of_rank_or_none c r n))
+    (ranked_or_not c r n))
 
 module _ (c : Config) (ok : Configuration.Accepted c) (shaped : Configuration.Shaped c) where
-  fit : PlanFits c (plan_of c) (rank_of c)
-  fit = plan_fits c ok shaped
+  fit : Fitted c (plan_of c) (rank_of c)
+  fit = fitted c ok shaped
 
   abbrev pub priority_at : ℕ → ℕ
   priority_at r = get_or (plan_of c).priority r 0
@@ -58,11 +58,11 @@ module _ (c : Config) (ok : Configuration.Accepted c) (shaped : Configuration.Sh
       (λ i h e. none i (rw (all_bodies c ok shaped) at h) (sym e))
       ∙ same_everywhere max_bodies 0 r
 
-  pub by_body : (r : ℕ) → 0 < priority_at r → BodyOfRank c c.bodies r
+  pub by_body : (r : ℕ) → 0 < priority_at r → Ranked c c.bodies r
   by_body r some =
-      ⊎_elim (λ x. x) (λ none. absurd (omega (arith, unranked r none))) (body_of_rank_or_none c r c.bodies)
+      ⊎_elim (λ x. x) (λ none. absurd (omega (arith, unranked r none))) (ranked_or_not c r c.bodies)
 
-  pub priority_is : {r : ℕ} (x : BodyOfRank c c.bodies r) → priority_at r ≡ trigger_of c x.body
+  pub priority_is : {r : ℕ} (x : Ranked c c.bodies r) → priority_at r ≡ trigger_of c x.body
   priority_is x = rw (sym x.rank) (fit.priority_at_lem x.body x.exists)
 
   module _ (L : ℕ) where
@@ -78,7 +78,7 @@ module _ (c : Config) (ok : Configuration.Accepted c) (shaped : Configuration.Sh
         (record { body = l.body; exists = l.exists; low = l.low; rank = l.rank ∙ sym x.rank })))
         (λ a. inl (record { body = x.body; exists = x.exists; low = a; rank = x.rank })))
         (λ none. inr (λ l. none l.body l.exists l.rank))
-        (body_of_rank_or_none c r c.bodies)
+        (ranked_or_not c r c.bodies)
 
     -- a body that is not above L
     module _ (b : ℕ) (exists : b < c.bodies) (low : above c L b ≡ false) where

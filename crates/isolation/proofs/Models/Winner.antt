@@ -17,15 +17,15 @@ use Rattle.word.specs.Word.{ranks, has, winner}
 use Rattle.word.proofs.Theorems.{winner_highest, winner_rank, winner_in}
 use Rattle.plan.specs.Rank.{rank_of}
 use Rattle.plan.specs.Plan.{trigger_of, plan_of}
-use Rattle.plan.proofs.Fit.{PlanFits, plan_fits}
+use Rattle.plan.proofs.Fitted.{Fitted, fitted}
 use Rattle.machine.proofs.Relation.Kinds.{trigger_timed, trigger_plain}
 use Rattle.isolation.specs.Above.{above}
 use Rattle.isolation.specs.Models.{LowRank, SameWord}
-use Rattle.isolation.proofs.Models.Rank.{BodyOfRank, priority_at, by_body, priority_is, high_rank, low_or_not, low_trigger, low_priority}
+use Rattle.isolation.proofs.Models.Rank.{Ranked, priority_at, by_body, priority_is, high_rank, low_or_not, low_trigger, low_priority}
 
 module _ (c : Config) (ok : Configuration.Accepted c) (shaped : Configuration.Shaped c) (L : ℕ) where
-  fit : PlanFits c (plan_of c) (rank_of c)
-  fit = plan_fits c ok shaped
+  fit : Fitted c (plan_of c) (rank_of c)
+  fit = fitted c ok shaped
 
   abbrev priority : ℕ → ℕ
   priority = priority_at c ok shaped
@@ -36,7 +36,7 @@ module _ (c : Config) (ok : Configuration.Accepted c) (shaped : Configuration.Sh
 
   -- the body whose rank wins
   abbrev WinnerOf : ℕ → Type 0
-  WinnerOf w = BodyOfRank c c.bodies (winner w)
+  WinnerOf w = Ranked c c.bodies (winner w)
 
   module _ (w w' : ℕ) (same : SameWord c L w w') where
     -- one that is above L is in the other word, too, whose winner is then no lower
@@ -83,14 +83,14 @@ module _ (c : Config) (ok : Configuration.Accepted c) (shaped : Configuration.Sh
       (λ h'. inr (h, h')))
 
   -- one above L whose level is L is time-triggered
-  timed_at : {r : ℕ} (x : BodyOfRank c c.bodies r) → priority r ≡ L → above c L x.body ≡ true → L ≡ trigger_level
+  timed_at : {r : ℕ} (x : Ranked c c.bodies r) → priority r ≡ L → above c L x.body ≡ true → L ≡ trigger_level
   timed_at x e a =
       by_test (is_timed c x.body)
       (λ t. omega (arith, e, priority_is c ok shaped x, trigger_timed c x.body x.exists t))
       (λ t. let more = ltb-true L (priority_of c x.body) (rw t at a) in
       absurd (omega (arith, e, priority_is c ok shaped x, trigger_plain c x.body x.exists t, more)))
 
-  low_at : {r : ℕ} (x : BodyOfRank c c.bodies r) → priority r ≡ L → above c L x.body ≡ false
+  low_at : {r : ℕ} (x : Ranked c c.bodies r) → priority r ≡ L → above c L x.body ≡ false
       → (priority_of c x.body ≡ L) × (L ≤ max_priority)
   low_at x e a =
       let p : priority_of c x.body ≡ L =

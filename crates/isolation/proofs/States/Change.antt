@@ -20,14 +20,12 @@ use Rattle.scheduler.specs.Body.{Phase, suspended, ready, started, waiting, trig
 use Rattle.scheduler.specs.Choice.{Candidate}
 use Rattle.scheduler.specs.State.{State, Table, no_body, body_of, changing, with_table, held_in, among}
 use Rattle.scheduler.specs.Event.{Event, Activate, Finish, Chain, Get, Release, Tick, Line, Start, Stop, Wait, Set, Clear}
-use Rattle.scheduler.specs.Tick.{counting, counted, dues, dues_from, starting, trigger, enter, ticked}
+use Rattle.scheduler.specs.Tick.{counting, counted, dues, dues_from, starting, trigger, enter, activating_due, ticked}
 use Rattle.scheduler.specs.Call.{no_caller, effect_for, else_of, finish, finish_timed}
 use Rattle.scheduler.specs.Scheduler.{begins, phase_begun, dispatched_to, status_for, leaves_for}
 use Rattle.isolation.specs.Above.{above, NamesAbove}
 use Rattle.isolation.specs.States.{begun_phase, begun_part, SameState}
-use Rattle.isolation.proofs.States.Choice.{held_same}
-use Rattle.scheduler.proofs.Event.Effects.{enters_relate}
-use Rattle.scheduler.proofs.Body.{suspended_is, begun_active, begun_phase_active}
+use Rattle.scheduler.proofs.Body.{begun_active, begun_phase_active}
 
 -- what holds of each two bodies holds after the k-th became y and y'
 pair : (P : ℕ → Body → Body → Type 0) (bs bs' : List Body) → length bs ≡ length bs'
@@ -62,11 +60,18 @@ unbegun_part (waiting w) h = absurd (true≢false h)
 unbegun_part (triggered true) h = absurd (true≢false h)
 unbegun_part (triggered false) h = refl
 
+suspended_unbegun : (p : Phase) → is_suspended p ≡ true → has_begun p ≡ false
+suspended_unbegun suspended h = refl
+suspended_unbegun ready h = refl
+suspended_unbegun started h = absurd (true≢false (sym h))
+suspended_unbegun (waiting w) h = absurd (true≢false (sym h))
+suspended_unbegun (triggered x) h = absurd (true≢false (sym h))
+
 entry_part : (b : Body) → begun_part (activated_by_entry b) ≡ begun_part b
 entry_part b =
     by_test (is_suspended b.phase)
     (λ h. rw h
-    (ap (λ (p : Phase). part_with p b.held) (unbegun_part b.phase (ap has_begun (suspended_is b.phase h)))))
+    (ap (λ (p : Phase). part_with p b.held) (unbegun_part b.phase (suspended_unbegun b.phase h))))
     (λ h. rw (h, h))
 
 begun_kept : (p : Phase) → has_begun (begun_phase p) ≡ has_begun p
@@ -114,10 +119,13 @@ module _ (c : Config) (L : ℕ) where
               (f (body_of s i)) (f (body_of s' i)) e;
         }
 
+    held_same : (i : ℕ) → (body_of s i).held ≡ (body_of s' i).held
+    held_same i = ap (λ (b : Body). b.held) (same.low i)
+
     -- a change after which the begun_part is that of a phase and of what was held
     settles : (i : ℕ) (f : Body → Body) (p : Phase) → ((b : Body) → begun_part (f b) ≡ part_with p b.held)
         → SameState c L (changing i f s) (changing i f s')
-    settles i f p g = changed i f (g (body_of s i) ∙ ap (part_with p) (held_same c L same i) ∙ sym (g (body_of s' i)))
+    settles i f p g = changed i f (g (body_of s i) ∙ ap (part_with p) (held_same i) ∙ sym (g (body_of s' i)))
 
     -- a change that leaves the begun_part
     keeps : (i : ℕ) (f : Body → Body) → ((b : Body) → begun_part (f b) ≡ begun_part b)
@@ -170,11 +178,19 @@ module _ (c : Config) (L : ℕ) where
           go false true e = absurd (true≢false (sym e))
           go false false e = keeps same t loses (λ b. refl)
 
+  activating_due_same : (ds : List Bool) (ts : List ℕ) {s s' : State} → SameState c L s s'
+      → SameState c L (activating_due c ds ts s) (activating_due c ds ts s')
+  unfolding activating_due
+  activating_due_same [] ts same = same
+  activating_due_same (true ∷ ds) [] same = same
+  activating_due_same (false ∷ ds) [] same = same
+  activating_due_same (true ∷ ds) (t ∷ ts) same = activating_due_same ds ts (enter_same t same)
+  activating_due_same (false ∷ ds) (t ∷ ts) same = activating_due_same ds ts same
+
   ticked_same : {s s' : State} → SameState c L s s' → SameState c L (ticked c s) (ticked c s')
   ticked_same {s} {s'} same =
       rw (ap (λ (xs : List Table). dues_from c 0 (map counting xs)) same.tables)
-      (enters_relate (SameState c L) c c (λ t _ _. enter_same t) (dues c (counted s')) c.task (counted s) (counted s')
-      (count_same same))
+      (activating_due_same (dues c (counted s')) c.task (count_same same))
 
   module _ {s s' : State} (same : SameState c L s s') where
     begun_same : (i : ℕ) → has_begun (body_of s i).phase ≡ has_begun (body_of s' i).phase
@@ -183,15 +199,13 @@ module _ (c : Config) (L : ℕ) where
         ∙ begun_kept (body_of s' i).phase
 
     -- a change of one that is not suspended, which its begun_part follows
-    follows : (i : ℕ) (f g : Body → Body)
-        → ((b : Body) → is_suspended b.phase ≡ false → begun_part (f b) ≡ g (begun_part b))
+    follows : (i : ℕ) (f g : Body → Body) → ((b : Body) → is_suspended b.phase ≡ false → begun_part (f b) ≡ g (begun_part b))
         → is_suspended (body_of s i).phase ≡ false
         → is_suspended (body_of s' i).phase ≡ false
         → SameState c L (changing i f s) (changing i f s')
     follows i f g h a a' = changed same i f (h (body_of s i) a ∙ ap g (same.low i) ∙ sym (h (body_of s' i) a'))
 
-    follows_begun : (i : ℕ) (f : Body → Body)
-        → ((b : Body) → is_suspended b.phase ≡ false → begun_part (f b) ≡ f (begun_part b))
+    follows_begun : (i : ℕ) (f : Body → Body) → ((b : Body) → is_suspended b.phase ≡ false → begun_part (f b) ≡ f (begun_part b))
         → has_begun (body_of s i).phase ≡ true
         → SameState c L (changing i f s) (changing i f s')
     follows_begun i f h begun =
@@ -213,15 +227,15 @@ module _ (c : Config) (L : ℕ) where
     pub status_same : (e : Event) → NamesAbove c L e → status_for c k s e ≡ status_for c k s' e
     unfolding first_given
     status_same (Activate t) u = rw (named_same t u)
-    status_same Finish u = rw (held_same c L same k.number)
-    status_same (Chain t) u = rw (named_same t u, held_same c L same k.number)
-    status_same (Get r) u = rw (held_in_same r s.bodies s'.bodies same.size (held_same c L same))
-    status_same (Release r) u = rw (held_same c L same k.number)
+    status_same Finish u = rw (held_same same k.number)
+    status_same (Chain t) u = rw (named_same t u, held_same same k.number)
+    status_same (Get r) u = rw (held_in_same r s.bodies s'.bodies same.size (held_same same))
+    status_same (Release r) u = rw (held_same same k.number)
     status_same Tick u = refl
     status_same (Line i) u = rw (named_same i u)
     status_same (Start t d) u = rw same.tables
     status_same (Stop t) u = rw same.tables
-    status_same (Wait w) u = rw (held_same c L same k.number)
+    status_same (Wait w) u = rw (held_same same k.number)
     status_same (Set t w) u =
         by_test (is_extended c t)
         (λ e. rw (same.high t (u e)))

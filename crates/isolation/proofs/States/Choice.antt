@@ -7,7 +7,7 @@ use Prim.Native.Nat.{ℕ, zero, suc, ◌+◌, ◌*◌, ◌≤◌, ◌<◌, max}
 use mathlib.Core.Path.{◌≡◌, refl, sym, ap, ap₂, ◌∙◌}
 use mathlib.Core.Bool.{Bool, true, false, true≢false}
 use mathlib.Core.List.{List, [], ◌∷◌, foldr, map}
-use native.Mathlib.Nat.{zero-add, add-zero, add-suc, suc-add}
+use native.Mathlib.Nat.{zero-add, add-zero}
 use native.Mathlib.Omega.{arith}
 use borrow.Author.Tests.{ltb-false, eq-eqb}
 use lib.Dec.{ltb}
@@ -23,7 +23,7 @@ use Rattle.scheduler.specs.State.{State, no_body, body_of, among, runner}
 use Rattle.scheduler.specs.Scheduler.{mark_of}
 use Rattle.scheduler.proofs.Body.{started_competes}
 use Rattle.scheduler.proofs.Choice.Runner.{contender, weight, mark_of_le, weight_before, weight_after, candidate_active, candidate_none, current_free, Taken, no_one, body, chosen_from_lem, runner_timed, runner_untimed}
-use Rattle.scheduler.proofs.Choice.Separation.{HolderStarted, Separation, holder}
+use Rattle.scheduler.proofs.Choice.Separation.{Steady, Kept, holder}
 use Rattle.isolation.specs.Above.{above}
 use Rattle.isolation.specs.States.{begun_phase, SameState}
 
@@ -67,6 +67,9 @@ module _ (L : ℕ) where
   preferred_near {x} {y} {x'} {y'} (light p p') (light q q') =
       light (light_preferred x y p q) (light_preferred x' y' p' q')
 
+  shift : (i k : ℕ) → i + suc k ≡ suc i + k
+  shift i k = omega arith
+
   chosen_from_near : (c : Config) (i : ℕ) (bs bs' : List Body) → length bs ≡ length bs'
       → ((k : ℕ) → Near L (candidate c (i + k) (get_or bs k no_body) (get_or bs k no_body).phase)
       (candidate c (i + k) (get_or bs' k no_body) (get_or bs' k no_body).phase))
@@ -77,7 +80,7 @@ module _ (L : ℕ) where
   chosen_from_near c i (b ∷ bs) [] e all = absurd (omega arith)
   chosen_from_near c i (b ∷ bs) (b' ∷ bs') e all =
       preferred_near (rw add-zero at (all zero))
-      (chosen_from_near c (suc i) bs bs' (omega arith) (λ k. rw (add-suc i k, ← suc-add i k) at (all (suc k))))
+      (chosen_from_near c (suc i) bs bs' (omega arith) (λ k. rw (shift i k) at (all (suc k))))
 
 -- a body that is not above L
 module _ (c : Config) (L i : ℕ) (below : above c L i ≡ false) where
@@ -85,8 +88,8 @@ module _ (c : Config) (L i : ℕ) (below : above c L i ≡ false) where
   priority_le = ltb-false L (priority_of c i) (neither (is_timed c i) (ltb L (priority_of c i)) below).1
 
   -- that has not begun
-  unbegun_light : (b : Body) → HolderStarted b → is_started b.phase ≡ false → heavy (candidate c i b b.phase) ≤ 2 * L
-  unbegun_light b holder_started n =
+  unbegun_light : (b : Body) → Steady b → is_started b.phase ≡ false → heavy (candidate c i b b.phase) ≤ 2 * L
+  unbegun_light b steady n =
       by_test (competes b.phase)
       (λ p. rw (candidate_active c i b b.phase p)
       (go b.held refl))
@@ -94,7 +97,7 @@ module _ (c : Config) (L i : ℕ) (below : above c L i ≡ false) where
     where
       go : (rs : List ℕ) → b.held ≡ rs → 2 * current c i b + mark_of (holds b.held) ≤ 2 * L
       go [] e = rw e (omega (arith, priority_le))
-      go (r ∷ rs) e = absurd (true≢false (sym (holder_started (rw e)) ∙ n))
+      go (r ∷ rs) e = absurd (true≢false (sym (steady (rw e)) ∙ n))
 
 -- a body that is chosen at the level L and weighs no more than that: its priority is L
 at_level : (c : Config) (L : ℕ) (bs : List Body) (k : ℕ) (x : Candidate) → x ≡ contender c bs k
@@ -148,7 +151,7 @@ module _ (c : Config) (L : ℕ) {s s' : State} (same : SameState c L s s') where
       }) (held_same i) (started_same i)
       ∙ sym (candidate_active c i (body_of s' i) (body_of s' i).phase p')
 
-  module _ (separation : Separation c holder s.bodies) (separation' : Separation c holder s'.bodies) where
+  module _ (kept : Kept c holder s.bodies) (kept' : Kept c holder s'.bodies) where
     contenders_near : (i : ℕ) → Near L (contender c s.bodies i) (contender c s'.bodies i)
     contenders_near i =
         by_test (above c L i)
@@ -157,8 +160,8 @@ module _ (c : Config) (L : ℕ) {s s' : State} (same : SameState c L s s') where
         (λ h. equal
         (candidate_same i (started_competes (body_of s i).phase h)
         (started_competes (body_of s' i).phase (sym (started_same i) ∙ h))))
-        (λ n. light (unbegun_light c L i a (body_of s i) (separation.holder_started i) n)
-        (unbegun_light c L i a (body_of s' i) (separation'.holder_started i) (sym (started_same i) ∙ n))))
+        (λ n. light (unbegun_light c L i a (body_of s i) (kept.steady i) n)
+        (unbegun_light c L i a (body_of s' i) (kept'.steady i) (sym (started_same i) ∙ n))))
 
     chosen_near : Near L (chosen c s.bodies) (chosen c s'.bodies)
     chosen_near =
@@ -181,40 +184,39 @@ module _ (c : Config) (L : ℕ) {s s' : State} (same : SameState c L s s') where
                   absurd (omega (
                     arith,
                     at_level c L s'.bodies k (chosen c s'.bodies) z' q high' p',
-                    ok.priority_low k (rw separation'.size at h),
+                    ok.priority_low k (rw kept'.size at h),
                     ap (λ (y : Candidate). y.level) z,
                   ))
               settle (body k h q z) (no_one z') =
                   absurd (omega (
                     arith,
                     at_level c L s.bodies k (chosen c s.bodies) z q high p,
-                    ok.priority_low k (rw separation.size at h),
+                    ok.priority_low k (rw kept.size at h),
                     ap (λ (y : Candidate). y.level) z',
                   ))
               settle (body k h q z) (body k' h' q' z') =
                   let k_is = at_level c L s.bodies k (chosen c s.bodies) z q high p in
                   let k'_is = at_level c L s'.bodies k' (chosen c s'.bodies) z' q' high' p' in
                   let e : k ≡ k' =
-                  priority_inj c ok k k' (rw separation.size at h) (rw separation'.size at h') (k_is ∙ sym k'_is) in
+                  priority_inj c ok k k' (rw kept.size at h) (rw kept'.size at h') (k_is ∙ sym k'_is) in
                   z ∙ ap (contender c s.bodies) e ∙ candidate_same k' (rw e at q) q' ∙ sym z'
 
 -- who runs: a started time-triggered task is the same in both
 pub runner_same : (c : Config) → Configuration.Accepted c → (L : ℕ) {s s' : State} → SameState c L s s'
-    → Separation c holder s.bodies
-    → Separation c holder s'.bodies
+    → Kept c holder s.bodies
+    → Kept c holder s'.bodies
     → ((j : ℕ) → among j s.order ≡ true → is_timed c j ≡ true)
     → L ≤ (runner c s).level
     → L ≤ (runner c s').level
     → runner c s ≡ runner c s'
 unfolding among
-runner_same c ok L {s} {s'} same separation separation' timed high high' = go s.order refl
+runner_same c ok L {s} {s'} same kept kept' timed high high' = go s.order refl
   where
     go : (js : List ℕ) → s.order ≡ js → runner c s ≡ runner c s'
     go [] o =
         let o' = sym same.order ∙ o in
         runner_untimed c s o
-        ∙ chosen_same c L same separation separation' ok (rw (runner_untimed c s o) at high)
-        (rw (runner_untimed c s' o') at high')
+        ∙ chosen_same c L same kept kept' ok (rw (runner_untimed c s o) at high) (rw (runner_untimed c s' o') at high')
         ∙ sym (runner_untimed c s' o')
     go (j ∷ js) o =
         let o' = sym same.order ∙ o in

@@ -1,7 +1,7 @@
 -- Isolation of the plain scheduler's states: one event, and over lists of events `isolation_states`.
 use Prim.Native.Nat.{ℕ, ◌≤◌}
 use mathlib.Core.Path.{◌≡◌, refl, sym, ap, ap₂, subst, ◌∙◌}
-use mathlib.Core.Bool.{true, false}
+use mathlib.Core.Bool.{true, false, true≢false}
 use mathlib.Core.List.{List, [], ◌∷◌}
 use borrow.Author.Tests.{leb-true}
 use lib.Dec.{leb}
@@ -9,33 +9,38 @@ use Rattle.number.proofs.Cases.{by_test, neither}
 use Rattle.config.specs.declared.Config.{Config}
 use Rattle.config.specs.Accepted as Configuration
 use Rattle.scheduler.specs.Body.{is_suspended, has_begun}
-use Rattle.scheduler.specs.Choice.{Candidate, is_nobody}
+use Rattle.scheduler.specs.Choice.{Candidate, is_nobody, by_holding, chosen}
 use Rattle.scheduler.specs.State.{State, body_of, runner}
 use Rattle.scheduler.specs.Event.{Event}
 use Rattle.scheduler.specs.Call.{no_caller}
 use Rattle.scheduler.specs.Scheduler.{begins, mark_of, dispatched_to, status_for, leaves_for, leaves, step, step_by, seen, seen_by}
 use Rattle.scheduler.proofs.Body.{competes_active}
-use Rattle.scheduler.proofs.Choice.Runner.{runner_timed, by_priority}
+use Rattle.scheduler.proofs.Choice.Runner.{Taken, no_one, body, chosen_from_lem, candidate_active, runner_timed, runner_untimed}
 use Rattle.scheduler.proofs.Members.{among_head}
 use Rattle.scheduler.proofs.Choice.Dispatch.{begins_some}
 use Rattle.scheduler.proofs.Choice.Dispatch as Dispatch
-use Rattle.scheduler.proofs.Order.Tasks.{OrderTimed, order_timed_leaves}
 use Rattle.isolation.specs.Above.{NamesAbove, AllNameAbove, Answer, answer, answers_above}
 use Rattle.isolation.specs.States.{SameState, Sound}
 use Rattle.isolation.proofs.Conservation.Event.{caller_begun}
-use Rattle.isolation.proofs.States.Invariant.{separation_of, separation_leaves, sound_step}
+use Rattle.isolation.proofs.States.Invariant.{Timed, kept_of, kept_leaves, timed_leaves, sound_step}
 use Rattle.isolation.proofs.States.Choice.{runner_same}
 use Rattle.isolation.proofs.States.Change.{status_same, leaves_same, Begins, alike, active, dispatched_same}
 
 -- who is chosen by priority is not suspended
 chosen_active : (c : Config) (x : State) → x.order ≡ [] → is_nobody (runner c x) ≡ false
     → is_suspended (body_of x (runner c x).number).phase ≡ false
-chosen_active c x o some =
-    competes_active (body_of x (runner c x).number).phase (by_priority c x o some).may_run
+chosen_active c x o some = go (chosen_from_lem by_holding refl c x.bodies)
+  where
+    go : Taken c x.bodies (chosen c x.bodies) → is_suspended (body_of x (runner c x).number).phase ≡ false
+    go (no_one z) = absurd (true≢false (sym (ap is_nobody (runner_untimed c x o ∙ z)) ∙ some))
+    go (body k h p z) =
+        let is = runner_untimed c x o ∙ z ∙ candidate_active c k (body_of x k) (body_of x k).phase p in
+        ap (λ (n : ℕ). is_suspended (body_of x n).phase) (ap (λ (y : Candidate). y.number) is)
+        ∙ competes_active (body_of x k).phase p
 
 module _ (c : Config) (ok : Configuration.Accepted c) (L : ℕ) where
   -- a body that is to begin is above L, being time-triggered, or in neither state suspended
-  begins_same : {x x' : State} → SameState c L x x' → OrderTimed c x → runner c x ≡ runner c x' → begins (runner c x) ≡ true
+  begins_same : {x x' : State} → SameState c L x x' → Timed c x → runner c x ≡ runner c x' → begins (runner c x) ≡ true
       → Begins c L x x' (runner c x)
   begins_same {x} {x'} same timed e b = go x.order refl
     where
@@ -54,7 +59,7 @@ module _ (c : Config) (ok : Configuration.Accepted c) (L : ℕ) where
   module _ {s s' : State} (sound : Sound c s) (sound' : Sound c s') (same : SameState c L s s')
       (high : L ≤ (runner c s).level) (high' : L ≤ (runner c s').level) (e : Event) (u : NamesAbove c L e) where
     runs_same : runner c s ≡ runner c s'
-    runs_same = runner_same c ok L same (separation_of c sound) (separation_of c sound') sound.order_timed high high'
+    runs_same = runner_same c ok L same (kept_of c sound) (kept_of c sound') sound.order_timed high high'
 
     begun : no_caller (runner c s) ≡ false → has_begun (body_of s (runner c s).number).phase ≡ true
     begun h =
@@ -74,8 +79,8 @@ module _ (c : Config) (ok : Configuration.Accepted c) (L : ℕ) where
     module _ (then : L ≤ (runner c (leaves c s e)).level) (then' : L ≤ (runner c (leaves c s' e)).level) where
       next_same : runner c (leaves c s e) ≡ runner c (leaves c s' e)
       next_same =
-          runner_same c ok L left_same (separation_leaves c ok sound e) (separation_leaves c ok sound' e)
-          (order_timed_leaves c s e sound.order_timed) then then'
+          runner_same c ok L left_same (kept_leaves c ok sound e) (kept_leaves c ok sound' e)
+          (timed_leaves c s e sound.order_timed) then then'
 
       answer_same : answer (step c s e).seen ≡ answer (step c s' e).seen
       unfolding step_by
@@ -95,7 +100,7 @@ module _ (c : Config) (ok : Configuration.Accepted c) (L : ℕ) where
           (dispatched_to k (leaves c s' e)))
           next_same
           (dispatched_same c L (runner c (leaves c s e)) left_same
-          (begins_same left_same (order_timed_leaves c s e sound.order_timed) next_same))
+          (begins_same left_same (timed_leaves c s e sound.order_timed) next_same))
 
   -- the level that is seen is that of the runner of the state after it
   level_seen : (s : State) (e : Event) → (step c s e).seen.level ≡ (runner c (step c s e).state).level

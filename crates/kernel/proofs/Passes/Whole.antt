@@ -26,7 +26,7 @@ use Rattle.plan.specs.Plan.{plan_of}
 use Rattle.scheduler.specs.Scheduler.{Event}
 use Rattle.machine.specs.Model.{Model}
 use Rattle.machine.specs.Machine.{unstarted, fresh_model, losses_of, machine_seen, machine_after}
-use Rattle.plan.proofs.Fit.{PlanFits, plan_fits}
+use Rattle.plan.proofs.Fitted.{Fitted, fitted}
 use Rattle.run.specs.Run.{call_of, calls_of, played, read_run, answer_bytes, loss_bytes}
 use Rattle.run.specs.Steps.{machine_answers}
 use Rattle.run.proofs.Answers.{events, length_events, length_losses}
@@ -34,7 +34,7 @@ use Rattle.run.proofs.Input.{config_refused, trace_too_long_lem, trace_refused, 
 use Rattle.kernel.specs.declared.count.Counted.{Counted}
 use Rattle.kernel.specs.Passes.{counted}
 
-module _ (c : Config) (p : Plan) (fit : PlanFits c p (rank_of c)) (es : List Event) where
+module _ (c : Config) (p : Plan) (fit : Fitted c p (rank_of c)) (es : List Event) where
   -- the losses, laid after the answers
   both_laid : (n : ℕ) (d d₁ d₂ : List ℕ) (m : Model) → n ≡ length es → 4 * n + 2 * c.bodies ≤ length d
       → d₁ ≡ laid 0 (events c p fit es) d → m ≡ machine_after c p (fresh_model p) es
@@ -64,7 +64,7 @@ module _ (c : Config) (ok : Accepted c) (shaped : Shaped c) (es : List Event) wh
       → d₁ ≡ laid 0 (answer_bytes (machine_seen c p m₀ es)) d → m ≡ machine_after c p m₀ es
       → d₂ ≡ laid (4 * n) (loss_bytes (losses_of c p m)) d₁ → d₂ ≡ written (machine_answers c (plan_of c) es) d
   answered p m₀ n d d₁ d₂ m planned begun count room first last then =
-      both_laid c p (rw planned (plan_fits c ok shaped)) es n d d₁ d₂ m count room
+      both_laid c p (rw planned (fitted c ok shaped)) es n d d₁ d₂ m count room
       (first ∙ ap (λ (x : Model). laid 0 (answer_bytes (machine_seen c p x es)) d) begun)
       (last ∙ ap (λ (x : Model). machine_after c p x es) begun) then
       ∙ ap (λ (q : Plan). written (machine_answers c q es) d) planned

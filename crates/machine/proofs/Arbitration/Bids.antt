@@ -1,9 +1,9 @@
 -- Who bids for the processor: exactly the bodies that are ready or started; and whose rank wins.
 --
---   none_above_lower  the winner is not above the level: nobody is
---   winner_above      it is above the level: it is a body
---   winner_best       and its priority is above every other's that bids
---   trigger_wins      a time-triggered task that has still to begin wins
+--   calm_below    the winner is not above the level: nobody is
+--   winner_above  it is above the level: it is a body
+--   winner_best   and its priority is above every other's that bids
+--   trigger_wins  a time-triggered task that has still to begin wins
 use Prim.Native.Nat.{ℕ, ◌^◌, ◌≤◌, ◌<◌}
 use mathlib.Core.Path.{◌≡◌, refl, sym, ap, ap₂, ◌∙◌}
 use mathlib.Core.Logic.{◌≢◌, ⊎_elim}
@@ -23,12 +23,12 @@ use Rattle.scheduler.specs.Body.{Phase, suspended, ready, started, waiting, trig
 use Rattle.scheduler.specs.Call.{request_waits}
 use Rattle.machine.specs.Model.{Core}
 use Rattle.machine.specs.Arbiter.{bids, winning}
-use Rattle.plan.proofs.Fit.{PlanFits}
+use Rattle.plan.proofs.Fitted.{Fitted}
 use Rattle.machine.proofs.Relation.Words.{at, Words}
 use Rattle.machine.proofs.Relation.Kinds.{is_bidding, Kinds, trigger_plain, trigger_timed}
-use Rattle.machine.proofs.Relation.Whole.{NoneAbove}
+use Rattle.machine.proofs.Relation.Whole.{Calm}
 
-module _ {c : Config} {p : Plan} {rk : ℕ → ℕ} (fit : PlanFits c p rk) where
+module _ {c : Config} {p : Plan} {rk : ℕ → ℕ} (fit : Fitted c p rk) where
   -- of two bodies the one with the lower rank has the lower level of a request
   trigger_le : (a b : ℕ) → a < c.bodies → b < c.bodies → rk a ≤ rk b → trigger_of c a ≤ trigger_of c b
   trigger_le a b ha hb le =
@@ -98,7 +98,7 @@ module _ {c : Config} {p : Plan} {rk : ℕ → ℕ} (fit : PlanFits c p rk) wher
         pub body : ℕ
         pub exists : body < c.bodies
         pub rank : rk body ≡ winner (bids k)
-        pub may_run : competes (at bs body).phase ≡ true
+        pub awake : competes (at bs body).phase ≡ true
 
       winner_real : 0 < bids k → Winner
       winner_real some =
@@ -108,7 +108,7 @@ module _ {c : Config} {p : Plan} {rk : ℕ → ℕ} (fit : PlanFits c p rk) wher
             body = v.0;
             exists = v.1.0;
             rank = v.1.1;
-            may_run = kinds.entered v.0 v.1.0 (sym (bids_is v.0 v.1.0) ∙ rw v.1.1 h.1);
+            awake = kinds.entered v.0 v.1.0 (sym (bids_is v.0 v.1.0) ∙ rw v.1.1 h.1);
           }
 
       -- what it is compared by is its priority
@@ -117,17 +117,17 @@ module _ {c : Config} {p : Plan} {rk : ℕ → ℕ} (fit : PlanFits c p rk) wher
 
       pub winning_is : (v : Winner) → winning p.priority k ≡ priority_of c v.body
       winning_is v =
-          rw (sym v.rank) (fit.priority_at_lem v.body v.exists) ∙ plain v.body v.exists v.may_run
+          rw (sym v.rank) (fit.priority_at_lem v.body v.exists) ∙ plain v.body v.exists v.awake
 
       winner_le : (v : Winner) (b : ℕ) → b < c.bodies → competes (at bs b).phase ≡ true
           → priority_of c b ≤ priority_of c v.body
       winner_le v b h a =
           let le = trigger_le b v.body h v.exists (omega (arith, active_le b h a, v.rank)) in
-          omega (arith, le, plain b h a, plain v.body v.exists v.may_run)
+          omega (arith, le, plain b h a, plain v.body v.exists v.awake)
 
       -- where the winner is not above the level nobody is
-      pub none_above_lower : winning p.priority k ≤ k.level → NoneAbove c k.level bs
-      none_above_lower low b h a =
+      pub calm_below : winning p.priority k ≤ k.level → Calm c k.level bs
+      calm_below low b h a =
           let v = winner_real (some_bid (rk b) (active_bids b h a)) in
           omega (arith, winner_le v b h a, winning_is v)
 

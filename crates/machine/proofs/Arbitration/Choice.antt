@@ -23,16 +23,16 @@ use Rattle.scheduler.proofs.Body.{started_competes}
 use Rattle.scheduler.proofs.Choice.Runner.{contender, weight, mark_of_le, weight_before, chosen_best, chosen_nobody, current_own, current_free, candidate_active}
 use Rattle.scheduler.proofs.Members.{by_among}
 use Rattle.machine.specs.Model.{Model}
-use Rattle.plan.proofs.Fit.{PlanFits}
+use Rattle.plan.proofs.Fitted.{Fitted}
 use Rattle.machine.proofs.Relation.Words.{at}
 use Rattle.machine.proofs.Relation.Nest.{level_at, Nested, Seats, nest_level}
-use Rattle.machine.proofs.Relation.Whole.{Tied, NoneAbove}
+use Rattle.machine.proofs.Relation.Whole.{Tied, Calm}
 
 -- body i as the choice by priority sees it
 abbrev pub bidder : ℕ → ℕ → Bool → Bool → Candidate
 bidder i level began holder = record { number = i; level = level; began = began; holder = holder; timed = false }
 
-module _ {c : Config} {p : Plan} {rk : ℕ → ℕ} (fit : PlanFits c p rk) {m : Model} {bs : List Body} {ns : List ℕ}
+module _ {c : Config} {p : Plan} {rk : ℕ → ℕ} (fit : Fitted c p rk) {m : Model} {bs : List Body} {ns : List ℕ}
     (t : Tied c rk m bs [] ns) where
   -- what a body that is ready or started is to the choice
   contends : (i : ℕ) → competes (at bs i).phase ≡ true
@@ -56,7 +56,7 @@ module _ {c : Config} {p : Plan} {rk : ℕ → ℕ} (fit : PlanFits c p rk) {m :
       go [] k = k.1
       go (b ∷ ns) k = k.1.0
 
-  module _ (none_above : NoneAbove c m.core.level bs) where
+  module _ (calm : Calm c m.core.level bs) where
     -- no body is above the level, so the first of the nest is chosen
     pub chosen_seated : (b : ℕ) (rest : List ℕ) → ns ≡ b ∷ rest
         → chosen c bs ≡ bidder b (current c b (at bs b)) true (holds (at bs b).held)
@@ -101,22 +101,22 @@ module _ {c : Config} {p : Plan} {rk : ℕ → ℕ} (fit : PlanFits c p rk) {m :
             let below = nest_level c bs i rest k.1.1.1 w in
             omega (arith, below, k.1.1.0, current_own c b (at bs b), mark_of_le (holds (at bs i).held))))
             (λ h. rw (own_outside i h, ap holds (t.loose i h))
-            (loose_lighter i i< other (omega (arith, none_above i i< a, level)) (at bs b).held refl)))
+            (loose_lighter i i< other (omega (arith, calm i i< a, level)) (at bs b).held refl)))
 
     -- nobody is chosen where the nest is empty
     pub chosen_none : ns ≡ [] → chosen c bs ≡ nobody
     unfolding level_at
-    chosen_none e = chosen_nobody by_holding refl c bs (λ i i<. none_competes i (rw t.size at i<) (at bs i).phase refl)
+    chosen_none e = chosen_nobody by_holding refl c bs (λ i i<. asleep i (rw t.size at i<) (at bs i).phase refl)
       where
         idle : m.core.level ≡ 0
         idle = level_is ∙ ap (level_at c bs) e
 
-        none_competes : (i : ℕ) → i < c.bodies → (q : Phase) → (at bs i).phase ≡ q → competes q ≡ false
-        none_competes i i< suspended e = refl
-        none_competes i i< ready e = absurd (omega (arith, fit.own_some i i<, none_above i i< (rw e), idle))
-        none_competes i i< started e = absurd (omega (arith, fit.own_some i i<, none_above i i< (rw e), idle))
-        none_competes i i< (waiting w) e = refl
-        none_competes i i< (triggered x) e = refl
+        asleep : (i : ℕ) → i < c.bodies → (q : Phase) → (at bs i).phase ≡ q → competes q ≡ false
+        asleep i i< suspended e = refl
+        asleep i i< ready e = absurd (omega (arith, fit.own_some i i<, calm i i< (rw e), idle))
+        asleep i i< started e = absurd (omega (arith, fit.own_some i i<, calm i i< (rw e), idle))
+        asleep i i< (waiting w) e = refl
+        asleep i i< (triggered x) e = refl
 
   -- a body above the level that is above every other one is chosen
   module _ (w : ℕ) (w< : w < c.bodies) (act : competes (at bs w).phase ≡ true)

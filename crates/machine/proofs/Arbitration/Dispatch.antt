@@ -1,7 +1,7 @@
 -- After arbitration the model stands for the bodies after the dispatch, and who runs is the one that is chosen.
 --
---   none_above_arbitrated  no body is above the level: nothing changes
---   settled_tied           whatever the model; where a time-triggered task is started it runs on
+--   calm_arbitrated  no body is above the level: nothing changes
+--   settled_tied     whatever the model; where a time-triggered task is started it runs on
 use Prim.Native.Nat.{ℕ, ◌^◌, ◌≤◌, ◌<◌}
 use mathlib.Core.Path.{◌≡◌, refl, sym, ap, subst, ◌∙◌}
 use mathlib.Core.Logic.{◌≢◌}
@@ -27,14 +27,14 @@ use Rattle.scheduler.proofs.Members.{among_tail_false}
 use Rattle.machine.specs.Model.{Core, Picked, Model, Outcome, with_core}
 use Rattle.machine.specs.Arbiter.{bids, winning, beginning, dispatching, arbitrated, settled}
 use Rattle.machine.specs.Machine.{runner_of}
-use Rattle.plan.proofs.Fit.{PlanFits}
+use Rattle.plan.proofs.Fitted.{Fitted}
 use Rattle.machine.proofs.Relation.Words.{at, at_other, Words, words_changed, competes_on, started_waits}
 use Rattle.machine.proofs.Relation.Slots.{slots_for, slots_along}
 use Rattle.machine.proofs.Relation.Nest.{level_at, Nested, Seats, AlikeAlong, alike_outside, nest_level, level_at_alike, nested_alike, slots_along_alike, hold_alike}
 use Rattle.machine.proofs.Relation.Kinds.{Kinds}
-use Rattle.machine.proofs.Relation.Whole.{Tied, NoneAbove, latest_seat}
+use Rattle.machine.proofs.Relation.Whole.{Tied, Calm, latest_seat}
 use Rattle.machine.proofs.Arbitration.Seat.{Holders, holders}
-use Rattle.machine.proofs.Arbitration.Bids.{Winner, winning_is, none_above_lower, winner_above, winner_best}
+use Rattle.machine.proofs.Arbitration.Bids.{Winner, winning_is, calm_below, winner_above, winner_best}
 use Rattle.machine.proofs.Arbitration.Choice.{bidder, chosen_seated, chosen_none, outside, chosen_above}
 
 -- the model that the machine hands back stands for the bodies after the dispatch to k, who runs; js: the time-triggered
@@ -43,7 +43,7 @@ pub record ArbitratedTo (c : Config) (p : Plan) (rk : ℕ → ℕ) (o : Outcome)
     (after : List Body) : Type 0 where
   pub nest : List ℕ
   pub tied : Tied c rk o.model after js nest
-  pub none_above : NoneAbove c o.model.core.level after
+  pub calm : Calm c o.model.core.level after
   pub number : runner_of p o.model ≡ k.number
   pub level : o.model.core.level ≡ k.level
   pub begun : o.begun ≡ begins k
@@ -59,15 +59,15 @@ ArbitratedAs c p rk o s js =
     ArbitratedTo c p rk o js k (dispatched_to k s).bodies
 
 -- the latest time-triggered task that is started exists, and has begun
-abbrev pub LatestBegun : Config → State → Type 0
-LatestBegun c s =
+abbrev pub Seated : Config → State → Type 0
+Seated c s =
     (j : ℕ) (js : List ℕ) → s.order ≡ j ∷ js → (j < c.bodies) × (has_begun (at s.bodies j).phase ≡ true)
 
 -- the model as it is
 abbrev still : Model → ℕ → Outcome
 still m st = record { model = m; status = st; begun = false }
 
-module _ {c : Config} {p : Plan} {rk : ℕ → ℕ} (fit : PlanFits c p rk) where
+module _ {c : Config} {p : Plan} {rk : ℕ → ℕ} (fit : Fitted c p rk) where
   pub rank_below : (b : ℕ) → b < c.bodies → rk b < 32
   rank_below b h = omega (arith, fit.rank_lt b h, fit.few)
 
@@ -81,13 +81,13 @@ module _ {c : Config} {p : Plan} {rk : ℕ → ℕ} (fit : PlanFits c p rk) wher
     begun : begins (chosen c bs) ≡ false
 
   module _ {m : Model} {bs : List Body} where
-    shown : (ns : List ℕ) → Tied c rk m bs [] ns → NoneAbove c m.core.level bs → Shown m bs
+    shown : (ns : List ℕ) → Tied c rk m bs [] ns → Calm c m.core.level bs → Shown m bs
     unfolding Seats Nested
-    shown [] t none_above =
-        let h : chosen c bs ≡ nobody = chosen_none fit t none_above refl in
+    shown [] t calm =
+        let h : chosen c bs ≡ nobody = chosen_none fit t calm refl in
         record { number = rw (t.seats.0, h); level = rw h t.seats.1; begun = rw h }
-    shown (b ∷ ns) t none_above =
-        let h = chosen_seated fit t none_above b ns refl in
+    shown (b ∷ ns) t calm =
+        let h = chosen_seated fit t calm b ns refl in
         record {
           number = rw h (runner_of_is m b t.nested.0 t.seats.0);
           level = rw h t.seats.1.0;
@@ -95,15 +95,15 @@ module _ {c : Config} {p : Plan} {rk : ℕ → ℕ} (fit : PlanFits c p rk) wher
         }
 
   -- where nobody is above the level the model stays as it is
-  none_above_plain : {m : Model} {ns : List ℕ} (s : State) (st : ℕ)
-      → Tied c rk m s.bodies [] ns → NoneAbove c m.core.level s.bodies → ArbitratedAs c p rk (still m st) s []
-  none_above_plain {m} {ns} s st t none_above =
-      let seat = shown ns t none_above in
+  calm_plain : {m : Model} {ns : List ℕ} (s : State) (st : ℕ)
+      → Tied c rk m s.bodies [] ns → Calm c m.core.level s.bodies → ArbitratedAs c p rk (still m st) s []
+  calm_plain {m} {ns} s st t calm =
+      let seat = shown ns t calm in
       let stays : (dispatched_to (chosen c s.bodies) s).bodies ≡ s.bodies = rw seat.begun in
       rw stays (record {
         nest = ns;
         tied = t;
-        none_above = none_above;
+        calm = calm;
         number = seat.number;
         level = seat.level;
         begun = sym seat.begun;
@@ -130,7 +130,7 @@ module _ {c : Config} {p : Plan} {rk : ℕ → ℕ} (fit : PlanFits c p rk) wher
           rw stays (record {
             nest = ns;
             tied = t;
-            none_above = λ b b< _. omega (arith, seat.1.0, fit.own_few b b<);
+            calm = λ b b< _. omega (arith, seat.1.0, fit.own_few b b<);
             number = runner_of_is m j j< seat.0;
             level = seat.1.0;
             begun = sym (rw entered);
@@ -152,11 +152,11 @@ module _ {c : Config} {p : Plan} {rk : ℕ → ℕ} (fit : PlanFits c p rk) wher
     best : (i : ℕ) → i < c.bodies → i ≢ w → competes (at bs i).phase ≡ true → priority_of c i < priority_of c w
     best = winner_best fit t.words kinds v
 
-    winner_chosen : chosen c bs ≡ bidder w (priority_of c w) (is_started (at bs w).phase) false
-    winner_chosen = chosen_above fit t w v.exists v.may_run above best
+    chosen_w : chosen c bs ≡ bidder w (priority_of c w) (is_started (at bs w).phase) false
+    chosen_w = chosen_above fit t w v.exists v.awake above best
 
     free : (at bs w).held ≡ []
-    free = t.loose w (outside fit t w v.exists v.may_run above best)
+    free = t.loose w (outside fit t w v.exists v.awake above best)
 
     at_w : at bs' w ≡ become started (at bs w)
     at_w = get_or-set_same bs w (become started (at bs w)) no_body (rw t.size v.exists)
@@ -174,7 +174,7 @@ module _ {c : Config} {p : Plan} {rk : ℕ → ℕ} (fit : PlanFits c p rk) wher
         go x (triggered z) e h = absurd (true≢false (sym h))
 
     dispatched_is : (dispatched_to (chosen c bs) s).bodies ≡ bs'
-    dispatched_is = rw winner_chosen (go (is_started (at bs w).phase) refl)
+    dispatched_is = rw chosen_w (go (is_started (at bs w).phase) refl)
       where
         go : (b : Bool) → is_started (at bs w).phase ≡ b
             → (cond (not (eqb (priority_of c w) 0) && not b) (changing w (become started) s) s).bodies ≡ bs'
@@ -201,7 +201,7 @@ module _ {c : Config} {p : Plan} {rk : ℕ → ℕ} (fit : PlanFits c p rk) wher
         (record {
           asks = asked;
           goes_on = rw v.rank (has_with_same m.core.started W winner_lt);
-          put_aside = t.words.put_aside w v.exists ∙ competes_on (at bs w).phase v.may_run;
+          put_aside = t.words.put_aside w v.exists ∙ competes_on (at bs w).phase v.awake;
           quiet = λ h. absurd (true≢false h);
         })
         (record {
@@ -284,13 +284,11 @@ module _ {c : Config} {p : Plan} {rk : ℕ → ℕ} (fit : PlanFits c p rk) wher
               (λ n. rw (at_other bs w (become started (at bs w)) i n) (below.loose i (among_tail_false i w ks h)));
         }
 
-    none_above' : NoneAbove c (winning p.priority m.core) bs'
-    none_above' i i< a =
+    calm' : Calm c (winning p.priority m.core) bs'
+    calm' i i< a =
         by_eq i w
         (λ e. omega (arith, winning_is fit t.words kinds v, ap (priority_of c) e))
-        (λ n.
-        let may_run = rw (at_other bs w (become started (at bs w)) i n) at a in
-        omega (arith, winning_is fit t.words kinds v, best i i< n may_run))
+        (λ n. omega (arith, winning_is fit t.words kinds v, best i i< n (rw (at_other bs w (become started (at bs w)) i n) at a)))
 
     -- "it is dispatched only if its priority is strictly above the level", which it is
     dispatches : arbitrated p.priority m.core ≡ record { core = k'; begun = beginning m.core }
@@ -308,10 +306,10 @@ module _ {c : Config} {p : Plan} {rk : ℕ → ℕ} (fit : PlanFits c p rk) wher
         (record {
           nest = w ∷ ks;
           tied = tied';
-          none_above = none_above';
-          number = rw winner_chosen (runner_of_is (with_core m k') w v.exists (sym v.rank));
-          level = rw winner_chosen (winning_is fit t.words kinds v);
-          begun = rw winner_chosen (beginning_is ∙ begins_is (is_started (at bs w).phase));
+          calm = calm';
+          number = rw chosen_w (runner_of_is (with_core m k') w v.exists (sym v.rank));
+          level = rw chosen_w (winning_is fit t.words kinds v);
+          begun = rw chosen_w (beginning_is ∙ begins_is (is_started (at bs w).phase));
         })
       where
         begins_is : (b : Bool) → not b ≡ not (eqb (priority_of c w) 0) && not b
@@ -325,7 +323,7 @@ module _ {c : Config} {p : Plan} {rk : ℕ → ℕ} (fit : PlanFits c p rk) wher
       (λ above. let v = winner_above fit t.words kinds above in
       settled_above s t kinds v (rw (sym (winning_is fit t.words kinds v)) above))
       (λ low. rw (le-ltb m.core.level (winning p.priority m.core) low)
-      (none_above_plain s 0 t (none_above_lower fit t.words kinds low)))
+      (calm_plain s 0 t (calm_below fit t.words kinds low)))
 
   -- no priority is above the level of a time-triggered task
   timed_settled : {m : Model} {bs : List Body} {ns : List ℕ} {j : ℕ} {js : List ℕ} → Kinds c bs
@@ -344,7 +342,7 @@ module _ {c : Config} {p : Plan} {rk : ℕ → ℕ} (fit : PlanFits c p rk) wher
       (λ low. rw (le-ltb m.core.level (winning p.priority m.core) low))
 
   -- whoever runs
-  pub settled_tied : {m : Model} {ns : List ℕ} (s : State) → LatestBegun c s → Kinds c s.bodies
+  pub settled_tied : {m : Model} {ns : List ℕ} (s : State) → Seated c s → Kinds c s.bodies
       → Tied c rk m s.bodies s.order ns → Arbitrated c p rk (settled p.priority m) s
   settled_tied {m} {ns} s seated kinds t = by s.order refl
     where
@@ -354,11 +352,11 @@ module _ {c : Config} {p : Plan} {rk : ℕ → ℕ} (fit : PlanFits c p rk) wher
           let h = seated j js e in
           rw (timed_settled kinds (rw e at t)) (timed_on s 0 j js e h.0 h.1 t)
 
-  pub none_above_arbitrated : {m : Model} {ns : List ℕ} (s : State) (st : ℕ) → LatestBegun c s
-      → Tied c rk m s.bodies s.order ns → NoneAbove c m.core.level s.bodies
+  pub calm_arbitrated : {m : Model} {ns : List ℕ} (s : State) (st : ℕ) → Seated c s
+      → Tied c rk m s.bodies s.order ns → Calm c m.core.level s.bodies
       → Arbitrated c p rk (still m st) s
-  none_above_arbitrated {m} {ns} s st seated t none_above = by s.order refl
+  calm_arbitrated {m} {ns} s st seated t calm = by s.order refl
     where
       by : (js : List ℕ) → s.order ≡ js → Arbitrated c p rk (still m st) s
-      by [] e = plainly s e (none_above_plain s st (rw e at t) none_above)
+      by [] e = plainly s e (calm_plain s st (rw e at t) calm)
       by (j ∷ js) e = let h = seated j js e in timed_on s st j js e h.0 h.1 t

@@ -11,7 +11,7 @@ use Rattle.number.proofs.Cases.{by_eq}
 use Rattle.config.specs.declared.Config.{Config}
 use Rattle.config.specs.Value.{max_priority}
 use Rattle.plan.specs.declared.Plan.{Plan}
-use Rattle.plan.proofs.Fit.{PlanFits}
+use Rattle.plan.proofs.Fitted.{Fitted}
 use Rattle.scheduler.specs.Body.{Body, current}
 use Rattle.scheduler.specs.State.{among}
 use Rattle.scheduler.proofs.Choice.Runner.{current_own}
@@ -31,7 +31,7 @@ pub record Holders (c : Config) (rk : ℕ → ℕ) (m : Model) (bs : List Body) 
   pub loose : (b : ℕ) → among b nest ≡ false → (at bs b).held ≡ []
 
 -- every current priority is one that a body may have
-module _ {c : Config} {p : Plan} {rk : ℕ → ℕ} (fit : PlanFits c p rk) where
+module _ {c : Config} {p : Plan} {rk : ℕ → ℕ} (fit : Fitted c p rk) where
   pub current_few : (b : ℕ) (x : Body) → b < c.bodies → current c b x ≤ max_priority
   current_few b x h = go x.held
     where
@@ -44,7 +44,7 @@ module _ {c : Config} {p : Plan} {rk : ℕ → ℕ} (fit : PlanFits c p rk) wher
   level_few bs [] k = omega arith
   level_few bs (b ∷ ns) k = current_few b (at bs b) k.0
 
-module _ {c : Config} {p : Plan} {rk : ℕ → ℕ} (fit : PlanFits c p rk) {m : Model} {bs : List Body} where
+module _ {c : Config} {p : Plan} {rk : ℕ → ℕ} (fit : Fitted c p rk) {m : Model} {bs : List Body} where
   -- whoever runs stays among them if it holds a resource; a time-triggered task holds none
   pub holders : (js : List ℕ) {ns : List ℕ} → Tied c rk m bs js ns → Holders c rk m bs
   unfolding Nested Seats level_at slots_along slots_for

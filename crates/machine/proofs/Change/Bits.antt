@@ -1,7 +1,7 @@
 -- The event bits of one body change: it gets some by a Set, which may resume it, or its own are cleared.
 --
---   receive_tied, receive_bits_tied  the body b gets the bits of w
---   clear_bits_tied                  the bits of w of body b are cleared
+--   receive_tied, receive-noted  the body b gets the bits of w
+--   clear_noted                  the bits of w of body b are cleared
 use Prim.Native.Nat.{ℕ, ◌^◌, ◌<◌}
 use mathlib.Core.Path.{◌≡◌, refl, sym, ap, ap₂, subst, ◌∙◌}
 use mathlib.Core.Logic.{◌≢◌}
@@ -18,25 +18,24 @@ use Rattle.word.proofs.Theorems.{has_with_same, has_with_other, with_lt, has_wit
 use Rattle.scheduler.specs.Bits.{any_set, with_bits, without_bits}
 use Rattle.scheduler.specs.Body.{Phase, suspended, ready, started, waiting, triggered, is_suspended, is_started, is_waiting, Body, resumed, receives, clears}
 use Rattle.scheduler.specs.Call.{request_waits}
-use Rattle.scheduler.proofs.Event.Masks.{resumed_active}
 use Rattle.machine.specs.Model.{Core, Model, with_begun}
 use Rattle.machine.specs.Events.{bits_at, resumes, receiving}
-use Rattle.plan.proofs.Fit.{PlanFits}
+use Rattle.plan.proofs.Fitted.{Fitted}
 use Rattle.machine.proofs.Relation.Words.{at, is_aside, Words, words_changed}
-use Rattle.machine.proofs.Relation.Bits.{bits_of_rank, BitsTied, BitsOf, bits_tied_changed}
+use Rattle.machine.proofs.Relation.Bits.{noted, Noted, NotedOf, noted_changed}
 use Rattle.machine.proofs.Relation.Nest.{nest_started}
 use Rattle.machine.proofs.Relation.Whole.{Tied}
 use Rattle.machine.proofs.Arbitration.Dispatch.{rank_below}
 use Rattle.machine.proofs.Change.Request.{touched_tied, event_bits_tied}
 
 -- the bits that count of a body that isn't suspended are its bits
-module _ {c : Config} {rk : ℕ → ℕ} (m : Model) {bs : List Body} (n : BitsOf c rk m bs) (b : ℕ) (b< : b < c.bodies)
+module _ {c : Config} {rk : ℕ → ℕ} (m : Model) {bs : List Body} (n : NotedOf c rk m bs) (b : ℕ) (b< : b < c.bodies)
     (active : is_suspended (at bs b).phase ≡ false) where
   pub bits_of : bits_at m (rk b) ≡ (at bs b).bits
   bits_of = n.bits_are b b< ∙ rw active
 
-module _ {c : Config} {p : Plan} {rk : ℕ → ℕ} (fit : PlanFits c p rk) (m : Model) {bs : List Body} (b : ℕ)
-    (b< : b < c.bodies) (n : BitsOf c rk m bs) (active : is_suspended (at bs b).phase ≡ false) (w : ℕ) where
+module _ {c : Config} {p : Plan} {rk : ℕ → ℕ} (fit : Fitted c p rk) (m : Model) {bs : List Body} (b : ℕ)
+    (b< : b < c.bodies) (n : NotedOf c rk m bs) (active : is_suspended (at bs b).phase ≡ false) (w : ℕ) where
   abbrev e : ℕ
   e = with_bits (at bs b).bits w
 
@@ -44,6 +43,13 @@ module _ {c : Config} {p : Plan} {rk : ℕ → ℕ} (fit : PlanFits c p rk) (m :
   bits_after = ap (λ (v : ℕ). with_bits v w) (bits_of m n b b< active)
 
   -- the phase of the body afterwards
+  resumed_active : (q : Phase) → is_suspended q ≡ false → is_suspended (resumed e q) ≡ false
+  resumed_active suspended h = absurd (true≢false h)
+  resumed_active ready h = refl
+  resumed_active started h = refl
+  resumed_active (waiting v) h = cond_either (λ (q : Phase). is_suspended q ≡ false) (any_set e v) _ _ refl refl
+  resumed_active (triggered x) h = refl
+
   resumed_waits : (q : Phase) (v : ℕ) → resumed e q ≡ waiting v → q ≡ waiting v
   resumed_waits suspended v h = h
   resumed_waits ready v h = h
@@ -57,13 +63,13 @@ module _ {c : Config} {p : Plan} {rk : ℕ → ℕ} (fit : PlanFits c p rk) (m :
 
   -- the bits stored at its rank, and no others, are other bits, which count from now on
   module _ (v : ℕ) where
-    stored_here : bits_of_rank (without m.cleared (rk b)) (set m.bits (rk b) v) (rk b) ≡ v
+    stored_here : noted (without m.cleared (rk b)) (set m.bits (rk b) v) (rk b) ≡ v
     stored_here =
         ap (λ (z : Bool). cond z 0 (get_or (set m.bits (rk b) v) (rk b) 0)) (has_without_same m.cleared (rk b))
         ∙ get_or-set_same m.bits (rk b) v 0 (omega (arith, n.bits_long, rank_below fit b b<))
 
     stored_other : (r : ℕ) → r ≢ rk b
-        → bits_of_rank (without m.cleared (rk b)) (set m.bits (rk b) v) r ≡ bits_of_rank m.cleared m.bits r
+        → noted (without m.cleared (rk b)) (set m.bits (rk b) v) r ≡ noted m.cleared m.bits r
     stored_other r d =
         ap₂ (λ (z : Bool) (u : ℕ). cond z 0 u)
         (has_without_other m.cleared (rk b) r d)
@@ -73,12 +79,12 @@ module _ {c : Config} {p : Plan} {rk : ℕ → ℕ} (fit : PlanFits c p rk) (m :
   received : bits_at (receiving (rk b) w m) (rk b) ≡ e
   received = stored_here (with_bits (bits_at m (rk b)) w) ∙ bits_after
 
-  pub receive_bits_tied : length bs ≡ c.bodies → BitsOf c rk (receiving (rk b) w m) (set bs b (receives w (at bs b)))
-  receive_bits_tied size =
-      bits_tied_changed fit n size b b< (receives w (at bs b)) _ _ _
+  pub receive_noted : length bs ≡ c.bodies → NotedOf c rk (receiving (rk b) w m) (set bs b (receives w (at bs b)))
+  receive_noted size =
+      noted_changed fit n size b b< (receives w (at bs b)) _ _ _
       (length-set m.bits (rk b) _ ∙ n.bits_long)
       n.masks_long
-      (received ∙ sym (ap (λ (z : Bool). cond z 0 e) (resumed_active e (at bs b).phase active)))
+      (received ∙ sym (ap (λ (z : Bool). cond z 0 e) (resumed_active (at bs b).phase active)))
       (λ v h. n.mask_is b v b< (resumed_waits (at bs b).phase v h))
       (stored_other (with_bits (bits_at m (rk b)) w))
       (λ r d. refl)
@@ -217,10 +223,10 @@ module _ {c : Config} {p : Plan} {rk : ℕ → ℕ} (fit : PlanFits c p rk) (m :
   abbrev left : ℕ
   left = without_bits (bits_at m (rk b)) w
 
-  pub clear_bits_tied : length bs ≡ c.bodies
-      → BitsTied c rk (without m.cleared (rk b)) (set m.bits (rk b) left) m.waited (set bs b (clears w (at bs b)))
-  clear_bits_tied size =
-      bits_tied_changed fit n size b b< (clears w (at bs b)) _ _ _
+  pub clear_noted : length bs ≡ c.bodies
+      → Noted c rk (without m.cleared (rk b)) (set m.bits (rk b) left) m.waited (set bs b (clears w (at bs b)))
+  clear_noted size =
+      noted_changed fit n size b b< (clears w (at bs b)) _ _ _
       (length-set m.bits (rk b) left ∙ n.bits_long)
       n.masks_long
       (stored_here left

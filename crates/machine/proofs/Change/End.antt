@@ -26,7 +26,7 @@ use Rattle.scheduler.proofs.Members.{among_head, among_tail, not_among}
 use Rattle.machine.specs.Model.{Model, no_rank, with_core}
 use Rattle.machine.specs.Arbiter.{last_level, left_with, vacated, leaving, paused}
 use Rattle.machine.specs.Events.{pausing}
-use Rattle.plan.proofs.Fit.{PlanFits}
+use Rattle.plan.proofs.Fitted.{Fitted}
 use Rattle.machine.proofs.Relation.Rows.{row_shows_top}
 use Rattle.machine.proofs.Relation.Words.{at, at_other, wants, is_aside, Words, words_changed, competes_on, started_waits}
 use Rattle.machine.proofs.Relation.Slots.{slots_for, slots_along, SlotsOf}
@@ -36,7 +36,7 @@ use Rattle.machine.proofs.Arbitration.Dispatch.{rank_below}
 use Rattle.machine.proofs.Change.Request.{event_bits_tied}
 
 -- the last slot's holder takes the seat, at its level
-module _ {c : Config} {p : Plan} {rk : ℕ → ℕ} (fit : PlanFits c p rk) (m : Model) (bs : List Body) where
+module _ {c : Config} {p : Plan} {rk : ℕ → ℕ} (fit : Fitted c p rk) (m : Model) (bs : List Body) where
   pub last_seated : (ns : List ℕ) → Nested c bs ns → AllHold bs ns → SlotsOf m (slots_along c rk bs ns)
       → Seats c rk bs [] (top_row m.holder) (last_level m) ns
   unfolding Seats slots_along slots_for Nested
@@ -58,7 +58,7 @@ module _ {c : Config} {p : Plan} {rk : ℕ → ℕ} (fit : PlanFits c p rk) (m :
           (first, (raised ∙ level, λ i a. h i (among_tail i b ns a)))
 
 -- the runner b, which holds nothing, becomes y, and leaves the level; the words are s and a then
-module _ {c : Config} {p : Plan} {rk : ℕ → ℕ} (fit : PlanFits c p rk) {m : Model} {bs : List Body} {b : ℕ} {ns : List ℕ}
+module _ {c : Config} {p : Plan} {rk : ℕ → ℕ} (fit : Fitted c p rk) {m : Model} {bs : List Body} {b : ℕ} {ns : List ℕ}
     (t : Tied c rk m bs [] (b ∷ ns)) (free : (at bs b).held ≡ []) where
   exists : b < c.bodies
   unfolding Nested

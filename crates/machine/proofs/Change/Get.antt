@@ -16,7 +16,7 @@ use Rattle.scheduler.specs.Body.{Body, current, gets}
 use Rattle.scheduler.specs.State.{among}
 use Rattle.machine.specs.Model.{Model}
 use Rattle.machine.specs.Resources.{getting}
-use Rattle.plan.proofs.Fit.{PlanFits}
+use Rattle.plan.proofs.Fitted.{Fitted}
 use Rattle.machine.proofs.Relation.Rows.{row_shows_pushed}
 use Rattle.machine.proofs.Relation.Words.{at}
 use Rattle.machine.proofs.Relation.Slots.{Slot, slot, slots_for, slots_along, resources_in, holders_in, levels_in, missing, SlotsOf}
@@ -26,7 +26,7 @@ use Rattle.machine.proofs.Arbitration.Seat.{current_few}
 use Rattle.machine.proofs.Arbitration.Dispatch.{rank_below}
 use Rattle.machine.proofs.Change.Hold.{exists, runner_rank, level_was, slots_are, held_tied}
 
-module _ {c : Config} {p : Plan} {rk : ℕ → ℕ} (fit : PlanFits c p rk) {m : Model} {bs : List Body} {b : ℕ} {ns : List ℕ}
+module _ {c : Config} {p : Plan} {rk : ℕ → ℕ} (fit : Fitted c p rk) {m : Model} {bs : List Body} {b : ℕ} {ns : List ℕ}
     (t : Tied c rk m bs [] (b ∷ ns)) (r : ℕ) (r< : r < c.resources) (free : has m.held r ≡ false) where
   abbrev level' : ℕ
   level' = max (get_or p.ceiling r 0) m.core.level

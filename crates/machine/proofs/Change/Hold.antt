@@ -23,9 +23,9 @@ use Rattle.scheduler.specs.Call.{latest_is}
 use Rattle.scheduler.proofs.Members.{among_head, among_tail}
 use Rattle.machine.specs.Model.{Model, no_rank, with_level, with_slots}
 use Rattle.machine.specs.Resources.{holding, latest}
-use Rattle.plan.proofs.Fit.{PlanFits}
+use Rattle.plan.proofs.Fitted.{Fitted}
 use Rattle.machine.proofs.Relation.Rows.{row_shows_top}
-use Rattle.machine.proofs.Relation.Words.{at, at_other, words_changed, rank_shows_same, unmoved_same, is_aside}
+use Rattle.machine.proofs.Relation.Words.{at, at_other, words_changed, marks_same, unmoved_same, is_aside}
 use Rattle.machine.proofs.Relation.Slots.{Slot, slot, level_with, slots_for, slots_along, holders_in, Slots, SlotsOf}
 use Rattle.machine.proofs.Relation.Nest.{level_at, Nested, Seats, AlikeAlong, alike_outside, nest_other, nest_exists, nest_started, level_at_alike, nested_alike, hold_alike, slots_along_alike}
 use Rattle.machine.proofs.Relation.Whole.{Tied}
@@ -56,7 +56,7 @@ eqb_sym : (a b : ℕ) → eqb a b ≡ eqb b a
 eqb_sym a b = by_eq a b (λ e. rw e) (λ n. ne_eqb a b n ∙ sym (ne_eqb b a (λ e. n (sym e))))
 
 -- a runner that isn't started, as no time-triggered task is, holds nothing
-module _ {c : Config} {p : Plan} {rk : ℕ → ℕ} (fit : PlanFits c p rk) {m : Model} {bs : List Body} {js ns : List ℕ}
+module _ {c : Config} {p : Plan} {rk : ℕ → ℕ} (fit : Fitted c p rk) {m : Model} {bs : List Body} {js ns : List ℕ}
     (t : Tied c rk m bs js ns) {j : ℕ} (rank : m.core.runner ≡ rk j) (j< : j < c.bodies)
     (unstarted : is_started (at bs j).phase ≡ false) where
   none_own : {ss : List Slot} → Held rk ns ss → eqb (get_or (holders_in ss) 0 no_rank) m.core.runner ≡ false
@@ -74,7 +74,7 @@ module _ {c : Config} {p : Plan} {rk : ℕ → ℕ} (fit : PlanFits c p rk) {m :
       ∙ none_own (along_held c rk bs ns)
 
 -- the runner is b
-module _ {c : Config} {p : Plan} {rk : ℕ → ℕ} (fit : PlanFits c p rk) {m : Model} {bs : List Body} {b : ℕ} {ns : List ℕ}
+module _ {c : Config} {p : Plan} {rk : ℕ → ℕ} (fit : Fitted c p rk) {m : Model} {bs : List Body} {b : ℕ} {ns : List ℕ}
     (t : Tied c rk m bs [] (b ∷ ns)) where
   pub exists : b < c.bodies
   unfolding Nested
@@ -157,7 +157,7 @@ module _ {c : Config} {p : Plan} {rk : ℕ → ℕ} (fit : PlanFits c p rk) {m :
           size = length-set bs b y ∙ t.size;
           words = words_changed fit t.words t.size b exists y (with_level m.core l)
               ((λ h. (t.words.suits b).0 (sym second ∙ h)), λ h. (t.words.suits b).1 (ap is_aside (sym phase) ∙ h))
-              (rank_shows_same t.words b exists y phase second m.core.runner l)
+              (marks_same t.words b exists y phase second m.core.runner l)
               (unmoved_same t.words m.core.runner l (rk b));
           nested = (exists, (begun_same b ∙ t.nested.1.0, (lower, nested_alike c alike below)));
           seats = (runner_rank, (rw at_b level, hold_alike alike t.seats.1.1));

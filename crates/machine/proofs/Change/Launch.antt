@@ -23,7 +23,7 @@ use Rattle.scheduler.specs.Body.{Body, is_started, triggered, become}
 use Rattle.scheduler.specs.State.{no_body, among}
 use Rattle.machine.specs.Model.{Model, done_with}
 use Rattle.machine.specs.Arbiter.{bids, winning, is_triggered, entering, launching, triggering, settled}
-use Rattle.plan.proofs.Fit.{PlanFits}
+use Rattle.plan.proofs.Fitted.{Fitted}
 use Rattle.machine.proofs.Relation.Words.{at, at_other, Words, words_changed}
 use Rattle.machine.proofs.Relation.Nest.{AlikeAlong, alike_outside, nest_started, timed_seats, nested_alike, hold_alike, slots_along_alike}
 use Rattle.machine.proofs.Relation.Kinds.{is_bidding, Kinds, trigger_timed}
@@ -33,7 +33,7 @@ use Rattle.machine.proofs.Arbitration.Bids.{trigger_wins, winning_is, winner_abo
 use Rattle.machine.proofs.Arbitration.Choice.{level_is}
 use Rattle.machine.proofs.Arbitration.Dispatch.{rank_below}
 
-module _ {c : Config} {p : Plan} {rk : ℕ → ℕ} (fit : PlanFits c p rk) {m : Model} {bs : List Body} where
+module _ {c : Config} {p : Plan} {rk : ℕ → ℕ} (fit : Fitted c p rk) {m : Model} {bs : List Body} where
   -- no level is above that of a time-triggered task
   level_low : (js : List ℕ) {ns : List ℕ} → Tied c rk m bs js ns → m.core.level ≤ execution_level
   level_low [] {ns} t = omega (arith, level_is fit t, level_few fit bs ns t.nested)
@@ -56,7 +56,7 @@ module _ {c : Config} {p : Plan} {rk : ℕ → ℕ} (fit : PlanFits c p rk) {m :
       best : ℕ
       best = winning p.priority m.core
 
-module _ {c : Config} {p : Plan} {rk : ℕ → ℕ} (fit : PlanFits c p rk) {m : Model} {bs : List Body} {js ns : List ℕ}
+module _ {c : Config} {p : Plan} {rk : ℕ → ℕ} (fit : Fitted c p rk) {m : Model} {bs : List Body} {js ns : List ℕ}
     (t : Tied c rk m bs js ns) (j : ℕ) (j< : j < c.bodies) (timed : is_timed c j ≡ true)
     (fresh : (at bs j).phase ≡ triggered false) (task : is_isr c j ≡ false)
     (others : (i : ℕ) → i < c.bodies → i ≢ j → is_bidding (at bs i).phase ≡ true → is_timed c i ≡ false) where

@@ -18,7 +18,7 @@ use Rattle.scheduler.specs.Body.{Body, holds, current, releases}
 use Rattle.scheduler.specs.State.{among}
 use Rattle.machine.specs.Model.{Model}
 use Rattle.machine.specs.Resources.{level_without, releasing}
-use Rattle.plan.proofs.Fit.{PlanFits}
+use Rattle.plan.proofs.Fitted.{Fitted}
 use Rattle.machine.proofs.Relation.Rows.{Shows, row_shows_popped, row_shows_second}
 use Rattle.machine.proofs.Relation.Words.{at}
 use Rattle.machine.proofs.Relation.Slots.{Slot, slot, level_with, slots_for, slots_along, levels_in, missing, SlotsOf}
@@ -28,7 +28,7 @@ use Rattle.machine.proofs.Relation.Whole.{Tied}
 use Rattle.machine.proofs.Change.Hold.{exists, runner_rank, first_own, slots_are, held_tied}
 
 -- the runner b holds r, taken after rs
-module _ {c : Config} {p : Plan} {rk : ℕ → ℕ} (fit : PlanFits c p rk) {m : Model} {bs : List Body} {b : ℕ} {ns : List ℕ}
+module _ {c : Config} {p : Plan} {rk : ℕ → ℕ} (fit : Fitted c p rk) {m : Model} {bs : List Body} {b : ℕ} {ns : List ℕ}
     (t : Tied c rk m bs [] (b ∷ ns)) (untimed : is_timed c b ≡ false) (r : ℕ) (r< : r < c.resources) (rs : List ℕ)
     (held_is : (at bs b).held ≡ r ∷ rs) where
   abbrev y : Body

@@ -19,8 +19,8 @@ use Rattle.scheduler.specs.Body.{Body, is_started, has_begun, Phase, suspended, 
 use Rattle.scheduler.specs.State.{no_body, among}
 use Rattle.machine.specs.Model.{Core, Model, with_core, with_request, with_rest, with_event_bits}
 use Rattle.machine.specs.Arbiter.{requesting}
-use Rattle.plan.proofs.Fit.{PlanFits}
-use Rattle.machine.proofs.Relation.Words.{at, wants, is_aside, Suits, Words, words_changed, rank_shows_same, unmoved_same}
+use Rattle.plan.proofs.Fitted.{Fitted}
+use Rattle.machine.proofs.Relation.Words.{at, wants, is_aside, Suits, Words, words_changed, marks_same, unmoved_same}
 use Rattle.machine.proofs.Relation.Nest.{alike_same, AlikeAlong, nested_alike, seats_alike, slots_along_alike}
 use Rattle.machine.proofs.Relation.Whole.{Tied}
 use Rattle.machine.proofs.Arbitration.Dispatch.{rank_below}
@@ -48,7 +48,7 @@ module _ {c : Config} {rk : ℕ → ℕ} {m : Model} {bs : List Body} {js ns : L
         loose = t.loose;
       }
 
-  module _ {p : Plan} (fit : PlanFits c p rk) (b : ℕ) (b< : b < c.bodies) where
+  module _ {p : Plan} (fit : Fitted c p rk) (b : ℕ) (b< : b < c.bodies) where
     -- body b becomes y, which holds what it held and in the nest is started as it was, and the words are those of k
     module _ (y : Body) (held : (at bs b).held ≡ y.held)
         (like : among b ns ≡ true → is_started (at bs b).phase ≡ is_started y.phase) (k : Core)
@@ -126,7 +126,7 @@ module _ {c : Config} {rk : ℕ → ℕ} {m : Model} {bs : List Body} {js ns : L
     loss_tied =
         touched_tied (loses (at bs b)) refl (λ _. refl) m.core
         (words_changed fit t.words t.size b b< (loses (at bs b)) m.core (t.words.suits b)
-        (rank_shows_same t.words b b< (loses (at bs b)) refl refl m.core.runner m.core.level)
+        (marks_same t.words b b< (loses (at bs b)) refl refl m.core.runner m.core.level)
         (unmoved_same t.words m.core.runner m.core.level (rk b)))
         refl
         refl
@@ -135,17 +135,17 @@ module _ {c : Config} {rk : ℕ → ℕ} {m : Model} {bs : List Body} {js ns : L
     pub line_tied : is_isr c b ≡ true → Tied c rk (requesting (rk b) m) (set bs b (requested (at bs b))) js ns
     line_tied isr = go (at bs b).phase refl
       where
-        not_aside : is_aside (at bs b).phase ≡ false
-        not_aside = refuted (is_aside (at bs b).phase) (λ e. true≢false (sym isr ∙ (t.words.suits b).1 e))
+        awake : is_aside (at bs b).phase ≡ false
+        awake = refuted (is_aside (at bs b).phase) (λ e. true≢false (sym isr ∙ (t.words.suits b).1 e))
 
         go : (q : Phase) → (at bs b).phase ≡ q → Tied c rk (requesting (rk b) m) (set bs b (requested (at bs b))) js ns
-        go suspended e = rw (ap has_begun e) (activate_tied (ap is_started e) not_aside)
-        go ready e = rw (ap has_begun e) (activate_tied (ap is_started e) not_aside)
+        go suspended e = rw (ap has_begun e) (activate_tied (ap is_started e) awake)
+        go ready e = rw (ap has_begun e) (activate_tied (ap is_started e) awake)
         go started e =
             rw (ap has_begun e)
             (asked_tied _ refl refl refl (rw e)
             (λ h. absurd (true≢false (sym (ap is_started e) ∙ h)))
             ((λ _. isr), (t.words.suits b).1))
-        go (waiting w) e = absurd (true≢false (sym (ap is_aside e) ∙ not_aside))
-        go (triggered false) e = rw (ap has_begun e) (activate_tied (ap is_started e) not_aside)
-        go (triggered true) e = absurd (true≢false (sym (ap is_aside e) ∙ not_aside))
+        go (waiting w) e = absurd (true≢false (sym (ap is_aside e) ∙ awake))
+        go (triggered false) e = rw (ap has_begun e) (activate_tied (ap is_started e) awake)
+        go (triggered true) e = absurd (true≢false (sym (ap is_aside e) ∙ awake))

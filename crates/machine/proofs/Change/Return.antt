@@ -21,7 +21,7 @@ use Rattle.scheduler.specs.Call.{request_waits}
 use Rattle.scheduler.proofs.Members.{among_head}
 use Rattle.machine.specs.Model.{Model, no_rank}
 use Rattle.machine.specs.Arbiter.{alone, returned, returning}
-use Rattle.plan.proofs.Fit.{PlanFits}
+use Rattle.plan.proofs.Fitted.{Fitted}
 use Rattle.machine.proofs.Relation.Rows.{Shows, row_shows_second}
 use Rattle.machine.proofs.Relation.Words.{at, at_other, wants, is_aside, Words, words_changed}
 use Rattle.machine.proofs.Relation.Slots.{slots_along, SlotsOf}
@@ -31,7 +31,7 @@ use Rattle.machine.proofs.Arbitration.Dispatch.{rank_below}
 use Rattle.machine.proofs.Change.End.{last_seated}
 
 -- the time-triggered task j, the latest of those started, ends
-module _ {c : Config} {p : Plan} {rk : ℕ → ℕ} (fit : PlanFits c p rk) {m : Model} {bs : List Body} {j : ℕ} (js : List ℕ)
+module _ {c : Config} {p : Plan} {rk : ℕ → ℕ} (fit : Fitted c p rk) {m : Model} {bs : List Body} {j : ℕ} (js : List ℕ)
     {ns : List ℕ} (t : Tied c rk m bs (j ∷ js) ns) (j< : j < c.bodies) (phase : (at bs j).phase ≡ triggered true)
     (held : (at bs j).held ≡ []) (row : Shows (row_bytes m.triggered) (map rk (j ∷ js)))
     (exist : (i : ℕ) → among i js ≡ true → i < c.bodies) where

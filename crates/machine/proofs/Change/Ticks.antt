@@ -8,7 +8,7 @@ use Prim.Native.Nat.{ℕ, zero, suc, ◌+◌, ◌-◌, ◌≤◌, ◌<◌}
 use mathlib.Core.Path.{◌≡◌, refl, sym, ap, ap₂, ◌∙◌}
 use mathlib.Core.Bool.{Bool, false, ◌&&◌}
 use mathlib.Core.List.{List, [], ◌∷◌, ◌++◌, map}
-use native.Mathlib.Nat.{zero-add, add-zero, add-suc, suc-add}
+use native.Mathlib.Nat.{zero-add, add-zero}
 use native.Mathlib.Omega.{arith}
 use lib.ListN.{length, get_or, set, take, drop, replicate, length-map, length-set, get_or-map}
 use lib.Seq.{get_or-set_same, get_or-set_other, drop-cons}
@@ -26,7 +26,7 @@ use Rattle.scheduler.specs.Tick.{counting, entry_due, dues_from, dues}
 use Rattle.scheduler.proofs.Table.Entries.{entries_long}
 use Rattle.scheduler.proofs.Table.Dues.{length_dues}
 use Rattle.machine.specs.Cells.{is_on, has_turn, cell_at, counters_ticked, marks, Tally, requests_due}
-use Rattle.plan.proofs.Fit.{PlanFits}
+use Rattle.plan.proofs.Fitted.{Fitted}
 use Rattle.machine.proofs.Relation.Cells.{CellFits, CellsTied}
 use Rattle.machine.proofs.Change.Matches.{due_append, due_quiet}
 use Rattle.machine.proofs.Change.Turns.{switches_after, turning_after, length_after, on_after, turn_after, off_after, none_after}
@@ -63,10 +63,15 @@ module _ (w : Bool) (ks on : List ℕ) where
   unfolding marks
   marks_append zero k e ns = rw (zero-add, add-zero)
   marks_append (suc j) k e ns =
-      ap (λ (n : ℕ). marks n e w ks on ns) (suc-add j k)
+      ap (λ (n : ℕ). marks n e w ks on ns) (sum j k)
       ∙ ap (λ (l : List Bool). (tick_cell (cell_at w ks on ns e)).matched ∷ l)
-      (marks_append j k (suc e) ns
-      ∙ ap (λ (n : ℕ). marks j (suc e) w ks on ns ++ marks k n w ks on ns) (suc-add e j ∙ sym (add-suc e j)))
+      (marks_append j k (suc e) ns ∙ ap (λ (n : ℕ). marks j (suc e) w ks on ns ++ marks k n w ks on ns) (shift e j))
+    where
+      sum : (j k : ℕ) → suc j + k ≡ suc (j + k)
+      sum j k = omega arith
+
+      shift : (e j : ℕ) → suc e + j ≡ e + suc j
+      shift e j = omega arith
 
   -- cells that are off do not match
   off_marks : (k e : ℕ) (ns : List ℕ) → ((i : ℕ) → e ≤ i → is_on (get_or on i 0) ≡ false)
@@ -107,7 +112,7 @@ module _ (w : Bool) (ks on : List ℕ) where
       (ap₂ (λ (b : Bool) (l : List Bool). b ∷ l) (each e (omega arith) (omega arith))
       (table_marks n (suc e) ns os f (omega arith) (λ i a b. each i (omega arith) (omega arith))))
 
-module _ {c : Config} {p : Plan} {rk : ℕ → ℕ} (fit : PlanFits c p rk) where
+module _ {c : Config} {p : Plan} {rk : ℕ → ℕ} (fit : Fitted c p rk) where
   -- as many entries as cells
   pub dues_long : (s : State) → length s.tables ≡ c.tables → length (dues c s) ≡ p.count
   dues_long s h =
@@ -127,7 +132,7 @@ unfolding CellFits counting
 cell_counted P o i k on turn stopped h = h
 cell_counted P o i k on turn (running d n) h = on_time_numbers P (d + o) n i k on turn h
 
-module _ {c : Config} {p : Plan} {rk : ℕ → ℕ} (fit : PlanFits c p rk) (w : Bool) (ns on : List ℕ) where
+module _ {c : Config} {p : Plan} {rk : ℕ → ℕ} (fit : Fitted c p rk) (w : Bool) (ns on : List ℕ) where
   abbrev ks : List ℕ
   ks = p.compare
 
@@ -173,7 +178,7 @@ module _ {c : Config} {p : Plan} {rk : ℕ → ℕ} (fit : PlanFits c p rk) (w :
           rw q at (fits (suc i) f (omega arith) (rw q a) (rw q b))
 
 -- the cells of the tables ts
-module _ {c : Config} {p : Plan} {rk : ℕ → ℕ} (fit : PlanFits c p rk) {w : Bool} {ns on : List ℕ} {ts : List Table}
+module _ {c : Config} {p : Plan} {rk : ℕ → ℕ} (fit : Fitted c p rk) {w : Bool} {ns on : List ℕ} {ts : List Table}
     (cells : CellsTied c p ns on w ts) where
   -- the cells that match are those of the due entries
   pub marks_due : marks p.count 0 w p.compare on ns ≡ dues_from c 0 (map counting ts)

@@ -4,7 +4,7 @@
 --   agrees               an event that ends in an arbitrated model
 --   agrees_either        an event with the same status on both sides; agrees-attempt: one that changes nothing where
 --                        it is refused
---   settled_done         what an accepted event leaves that may dispatch another body; none_above_done: one that does not
+--   settled_done         what an accepted event leaves that may dispatch another body; calm_done: one that does not
 --   by_caller            nobody who may call runs on both sides, or one body on both; by-runner: who may not, too
 --   call_same, by_call   the same of a status, and of an accepted call
 use Prim.Native.Nat.{ℕ, zero, suc, ◌<◌}
@@ -23,37 +23,36 @@ use Rattle.config.specs.Meaning.{execution_level}
 use Rattle.plan.specs.declared.Plan.{Plan}
 use Rattle.scheduler.specs.Status.{done, call_level, Check, ◌gives◌, first_given}
 use Rattle.scheduler.specs.Body.{Phase, started, waiting, triggered, is_suspended, is_waiting, is_started, has_begun, Body, current, become}
-use Rattle.scheduler.specs.Choice.{Candidate, chosen}
+use Rattle.scheduler.specs.Choice.{Candidate, by_holding, chosen}
 use Rattle.scheduler.specs.State.{State, no_body, runner, changing, latest_of}
 use Rattle.scheduler.specs.Event.{is_tick}
 use Rattle.scheduler.specs.Call.{nobody_runs, nobody_calls, caller, status_of, effect_of, else_of}
 use Rattle.scheduler.specs.Tick.{dues}
 use Rattle.scheduler.specs.Scheduler as Plain
 use Rattle.scheduler.specs.Scheduler.{Event, step, step_by, begins, phase_begun, dispatched, ending, none_due, mark_of}
-use Rattle.scheduler.proofs.Body.{begun_phase_active}
-use Rattle.scheduler.proofs.Choice.Runner.{current_own}
+use Rattle.scheduler.proofs.Body.{begun_phase_active, competes_active}
+use Rattle.scheduler.proofs.Choice.Runner.{current_own, candidate_active, Taken, no_one, body, chosen_from_lem}
 use Rattle.scheduler.proofs.Choice.Dispatch.{begins_some}
 use Rattle.scheduler.proofs.Order.Invariant.{Orderly, effect_orderly, refusal_orderly, orderly_step}
-use Rattle.scheduler.proofs.Order.Latest.{LatestActive, runner_active, orderly_latest}
-use Rattle.scheduler.proofs.Event.Effects.{dispatched_keeps, tables_dispatched, no_tick}
+use Rattle.scheduler.proofs.Event.Effects.{tables_dispatched, no_tick}
 use Rattle.machine.specs.Model.{Model, Outcome, no_rank, done_with, refused_with}
 use Rattle.stack.specs.Stack.{row_bytes}
 use Rattle.machine.specs.Arbiter.{settled, timed}
 use Rattle.machine.specs.Events as Machine
 use Rattle.machine.specs.Events.{idles, no_caller}
 use Rattle.machine.specs.Machine.{machine_step, losses_of, matched, observed}
-use Rattle.plan.proofs.Fit.{PlanFits}
+use Rattle.plan.proofs.Fitted.{Fitted}
 use Rattle.machine.proofs.Relation.Words.{at}
 use Rattle.machine.proofs.Relation.Nest.{Nested, Seats}
 use Rattle.machine.proofs.Relation.Rows.{Shows}
 use Rattle.machine.proofs.Relation.Order.{latest_exists, latest_begun, kinds_of}
 use Rattle.machine.proofs.Relation.Cells.{CellsOf}
-use Rattle.machine.proofs.Relation.Losses.{LossesTied, losses_tied_same}
-use Rattle.machine.proofs.Relation.Bits.{event_bits, BitsOf, bits_tied_same}
-use Rattle.machine.proofs.Relation.Whole.{Tied, NoneAbove, Sim, latest_seat}
+use Rattle.machine.proofs.Relation.Losses.{Lost, lost_same}
+use Rattle.machine.proofs.Relation.Bits.{event_bits, NotedOf, noted_same}
+use Rattle.machine.proofs.Relation.Whole.{Tied, Calm, Sim, latest_seat}
 use Rattle.machine.proofs.Arbitration.Choice.{chosen_seated, chosen_none}
 use Rattle.machine.proofs.Arbitration.Seat.{current_few}
-use Rattle.machine.proofs.Arbitration.Dispatch.{LatestBegun, Arbitrated, rank_below, settled_tied, none_above_arbitrated}
+use Rattle.machine.proofs.Arbitration.Dispatch.{Seated, Arbitrated, rank_below, settled_tied, calm_arbitrated}
 
 -- what a change of one body keeps, it keeps of every body
 pub kept {ℓ} : {A : Type ℓ} (g : Body → A) (f : Body → Body) → ((x : Body) → g (f x) ≡ g x)
@@ -65,22 +64,55 @@ kept g f k (b ∷ bs) zero (suc j) = refl
 kept g f k (b ∷ bs) (suc i) zero = refl
 kept g f k (b ∷ bs) (suc i) (suc j) = kept g f k bs i j
 
+-- i is a body that isn't suspended
+abbrev Active : State → ℕ → Type 0
+Active s i = (i < length s.bodies) × (is_suspended (at s.bodies i).phase ≡ false)
+
+-- the latest time-triggered task that is started is one
+abbrev pub LatestActive : State → Type 0
+LatestActive s = (j : ℕ) (js : List ℕ) → s.order ≡ j ∷ js → Active s j
+
 -- who runs, where js are the time-triggered tasks started
 pub runner_is : (c : Config) (s : State) {js : List ℕ} → s.order ≡ js
     → runner c s ≡ latest_of s.bodies js (chosen c s.bodies)
 runner_is c s e = ap (λ (js : List ℕ). latest_of s.bodies js (chosen c s.bodies)) e
 
+-- who begins is one, too
+begins_unsuspended : (c : Config) (s : State) → LatestActive s → begins (runner c s) ≡ true
+    → Active s (runner c s).number
+begins_unsuspended c s top b = by s.order refl
+  where
+    go : (k : Candidate) → begins k ≡ true → Taken c s.bodies k → Active s k.number
+    go k b (no_one z) = absurd (true≢false (rw z at (begins_some k b).0))
+    go k b (body i h p z) =
+        let known = candidate_active c i (at s.bodies i) (at s.bodies i).phase p in
+        let n : k.number ≡ i = ap (λ (x : Candidate). x.number) (z ∙ known) in
+        rw n (h, competes_active (at s.bodies i).phase p)
+
+    by : (js : List ℕ) → s.order ≡ js → Active s (runner c s).number
+    by [] e =
+        let k = runner_is c s e in
+        rw k (go (chosen c s.bodies) (rw k at b) (chosen_from_lem by_holding refl c s.bodies))
+    by (j ∷ js) e =
+        let k : (runner c s).number ≡ j = ap (λ (x : Candidate). x.number) (runner_is c s e) in
+        rw k (top j js e)
+
 -- a dispatch changes no losses
 pub dispatched_losses : (c : Config) (s : State) (i : ℕ)
     → (at (dispatched c s).bodies i).losses ≡ (at s.bodies i).losses
-dispatched_losses c s i =
-    cond_either (λ x. (at x.bodies i).losses ≡ (at s.bodies i).losses) (begins (runner c s)) _ s
-    (kept (λ x. x.losses) (become (phase_begun (runner c s))) (λ x. refl) s.bodies (runner c s).number i)
-    refl
+dispatched_losses c s i = go (begins (runner c s))
+  where
+    begun : Body → Body
+    begun = become (phase_begun (runner c s))
+
+    go : (b : Bool)
+        → (at (cond b (changing (runner c s).number begun s) s).bodies i).losses ≡ (at s.bodies i).losses
+    go true = kept (λ x. x.losses) begun (λ x. refl) s.bodies (runner c s).number i
+    go false = refl
 
 -- what has begun does not wait
-begun_not_waiting : (x : Bool) → is_waiting (cond x (triggered true) started) ≡ false
-begun_not_waiting x = cond_either (λ (q : Phase). is_waiting q ≡ false) x _ _ refl refl
+begun_awake : (x : Bool) → is_waiting (cond x (triggered true) started) ≡ false
+begun_awake x = cond_either (λ (q : Phase). is_waiting q ≡ false) x _ _ refl refl
 
 -- nor does a dispatch change event bits: who begins was not suspended, and does not wait
 module _ (c : Config) (s : State) (top : LatestActive s) where
@@ -93,11 +125,8 @@ module _ (c : Config) (s : State) (top : LatestActive s) where
   abbrev r : ℕ
   r = (runner c s).number
 
-  active : begins (runner c s) ≡ true → (r < length s.bodies) × (is_suspended (at s.bodies r).phase ≡ false)
-  active e = runner_active c s top (begins_some (runner c s) e).0
-
   at_runner : begins (runner c s) ≡ true → at (then true) r ≡ began (at s.bodies r)
-  at_runner e = get_or-set_same s.bodies r (began (at s.bodies r)) no_body (active e).0
+  at_runner e = get_or-set_same s.bodies r (began (at s.bodies r)) no_body (begins_unsuspended c s top e).0
 
   at_other : (i : ℕ) → i ≢ r → at (then true) i ≡ at s.bodies i
   at_other i n = get_or-set_other s.bodies r i (began (at s.bodies r)) no_body n
@@ -111,7 +140,7 @@ module _ (c : Config) (s : State) (top : LatestActive s) where
           by_eq i r
           (λ z. rw z
           (ap event_bits (at_runner e) ∙ rw (begun_phase_active (runner c s).timed)
-          (sym (rw (active e).1))))
+          (sym (rw (begins_unsuspended c s top e).1))))
           (λ n. ap event_bits (at_other i n))
 
   pub dispatched_masks : (i w : ℕ) → (at (dispatched c s).bodies i).phase ≡ waiting w
@@ -123,13 +152,17 @@ module _ (c : Config) (s : State) (top : LatestActive s) where
       go true e h =
           by_eq i r
           (λ z.
-          let not_waiting_lem : is_waiting (at (then true) i).phase ≡ false =
-          rw (z, at_runner e) (begun_not_waiting (runner c s).timed) in
-          absurd (true≢false (sym (ap is_waiting h) ∙ not_waiting_lem)))
+          let awake : is_waiting (at (then true) i).phase ≡ false =
+          rw (z, at_runner e) (begun_awake (runner c s).timed) in
+          absurd (true≢false (sym (ap is_waiting h) ∙ awake)))
           (λ n. ap (λ (x : Body). x.phase) (sym (at_other i n)) ∙ h)
 
   pub order_dispatched : (dispatched c s).order ≡ s.order
-  order_dispatched = dispatched_keeps (λ x. x.order ≡ s.order) (λ i f x h. h) c s refl
+  order_dispatched = go (begins (runner c s))
+    where
+      go : (b : Bool) → (cond b (changing (runner c s).number began s) s).order ≡ s.order
+      go true = refl
+      go false = refl
 
 -- the same tests in the same order give the same status
 pub first_same : {a a' : Bool} (st : ℕ) (ks ks' : List Check) → a ≡ a' → (a' ≡ false → first_given ks ≡ first_given ks')
@@ -163,8 +196,8 @@ pub record Answered (c : Config) (p : Plan) (rk : ℕ → ℕ) (o : Outcome) (st
   pub row : Shows (row_bytes o.model.triggered) (map rk s'.order)
   pub size : length s'.bodies ≡ c.bodies
   pub cells : CellsOf c p o.model s'.tables
-  pub losses_tied : LossesTied c rk o.model.losses s'.bodies
-  pub bits_tied : BitsOf c rk o.model s'.bodies
+  pub lost : Lost c rk o.model.losses s'.bodies
+  pub noted : NotedOf c rk o.model s'.bodies
 
 -- they accept it
 abbrev pub Done : Config → Plan → (ℕ → ℕ) → Outcome → State → Type 0
@@ -204,9 +237,9 @@ pub record Runs (c : Config) (rk : ℕ → ℕ) (m : Model) (s : State) (b : ℕ
   pub plainly : timed m ≡ false
   pub untimed : (runner c s).timed ≡ false
 
-module _ {c : Config} {p : Plan} {rk : ℕ → ℕ} (fit : PlanFits c p rk) where
+module _ {c : Config} {p : Plan} {rk : ℕ → ℕ} (fit : Fitted c p rk) where
   -- the losses by rank, looked up in body order, are the bodies' losses
-  pub losses_seen_lem : (m : Model) (bs : List Body) → length bs ≡ c.bodies → LossesTied c rk m.losses bs
+  pub losses_seen_lem : (m : Model) (bs : List Body) → length bs ≡ c.bodies → Lost c rk m.losses bs
       → losses_of c p m ≡ map (λ b. b.losses) bs
   losses_seen_lem m bs size l =
       ext_get_or 0 (losses_of c p m) (map (λ b. b.losses) bs) long
@@ -236,17 +269,17 @@ module _ {c : Config} {p : Plan} {rk : ℕ → ℕ} (fit : PlanFits c p rk) wher
   unfolding Nested Seats
   by_runner {C = C} {m = m} {s = s} sim f g h = by s.order refl sim.tied
     where
-      go : s.order ≡ [] → (ns : List ℕ) → Tied c rk m s.bodies [] ns → NoneAbove c m.core.level s.bodies → C
-      go e [] t none_above =
-          f (eq-eqb m.core.runner no_rank t.seats.0) (rw (runner_is c s e ∙ chosen_none fit t none_above refl))
-      go e (b ∷ ns) t none_above =
-          let h = runner_is c s e ∙ chosen_seated fit t none_above b ns refl in
+      go : s.order ≡ [] → (ns : List ℕ) → Tied c rk m s.bodies [] ns → Calm c m.core.level s.bodies → C
+      go e [] t calm =
+          f (eq-eqb m.core.runner no_rank t.seats.0) (rw (runner_is c s e ∙ chosen_none fit t calm refl))
+      go e (b ∷ ns) t calm =
+          let h = runner_is c s e ∙ chosen_seated fit t calm b ns refl in
           let level = current c b (at s.bodies b) in
           let rank = rank_below fit b t.nested.0 in
           let few = current_few fit b (at s.bodies b) t.nested.0 in
           let low = current_own c b (at s.bodies b) in
           let some = fit.own_some b t.nested.0 in
-          let not_idle : idles m ≡ false = ne_eqb m.core.runner no_rank (λ z. absurd (omega (arith, t.seats.0, z))) in
+          let awake : idles m ≡ false = ne_eqb m.core.runner no_rank (λ z. absurd (omega (arith, t.seats.0, z))) in
           let plain : timed m ≡ false =
           ne_eqb m.core.level execution_level (λ z. absurd (omega (arith, z, t.seats.1.0))) in
           let runs : nobody_runs c s ≡ false = rw h (ne_eqb level 0 (λ z. absurd (omega (arith, z)))) in
@@ -254,9 +287,9 @@ module _ {c : Config} {p : Plan} {rk : ℕ → ℕ} (fit : PlanFits c p rk) wher
           (record {
             tied = t;
             none_timed = e;
-            may_call = ap₂ (λ (x y : Bool). x || y) not_idle plain;
+            may_call = ap₂ (λ (x y : Bool). x || y) awake plain;
             plainly = plain;
-            not_idle = not_idle;
+            not_idle = awake;
             calls_there = rw runs (ap (λ (x : Candidate). x.timed) h);
             untimed = ap (λ (x : Candidate). x.timed) h;
             somebody = runs;
@@ -267,7 +300,7 @@ module _ {c : Config} {p : Plan} {rk : ℕ → ℕ} (fit : PlanFits c p rk) wher
           })
 
       by : (js : List ℕ) → s.order ≡ js → Tied c rk m s.bodies s.order sim.nest → C
-      by [] e t = go e sim.nest (rw e at t) sim.none_above
+      by [] e t = go e sim.nest (rw e at t) sim.calm
       by (j ∷ js) e t =
           let seat = latest_seat (rw e at t) in
           let k = runner_is c s e in
@@ -327,8 +360,11 @@ module _ {c : Config} {p : Plan} {rk : ℕ → ℕ} (fit : PlanFits c p rk) wher
       }
 
   -- of a state in order the latest time-triggered task has begun
-  latest_begun_of : {s : State} → Orderly c s → LatestBegun c s
-  latest_begun_of o j js e = (latest_exists o j js e, ap has_begun (latest_begun o j js e))
+  seated_of : {s : State} → Orderly c s → Seated c s
+  seated_of o j js e = (latest_exists o j js e, ap has_begun (latest_begun o j js e))
+
+  pub latest_of_lem : {s : State} → Orderly c s → LatestActive s
+  latest_of_lem o j js e = (rw o.bodies_there (latest_exists o j js e), ap is_suspended (latest_begun o j js e))
 
   -- where no time-triggered task is started
   pub untimed_tied : {m : Model} {bs : List Body} {ns js : List ℕ} → js ≡ []
@@ -338,37 +374,37 @@ module _ {c : Config} {p : Plan} {rk : ℕ → ℕ} (fit : PlanFits c p rk) wher
   -- an event that leaves a state in order ends in arbitration
   pub settled_orderly : {m : Model} {ns : List ℕ} (s : State) → Orderly c s → Tied c rk m s.bodies s.order ns
       → Arbitrated c p rk (settled p.priority m) s
-  settled_orderly s o t = settled_tied fit s (latest_begun_of o) (kinds_of o) t
+  settled_orderly s o t = settled_tied fit s (seated_of o) (kinds_of o) t
 
   -- an accepted event leaves the model m and the state s, in order; another body may be above the level
   module _ {m : Model} {s : State} {ns : List ℕ} (o : Orderly c s) (t : Tied c rk m s.bodies s.order ns)
       (row : Shows (row_bytes m.triggered) (map rk s.order)) (cells : CellsOf c p m s.tables)
-      (losses_tied : LossesTied c rk m.losses s.bodies) (bits_tied : BitsOf c rk m s.bodies) where
+      (lost : Lost c rk m.losses s.bodies) (noted : NotedOf c rk m s.bodies) where
     pub settled_done : Done c p rk (settled p.priority m) s
     settled_done =
         record {
           status = refl;
           arb = settled_orderly s o t;
-          latest = orderly_latest c o;
+          latest = latest_of_lem o;
           row = row;
           size = o.bodies_there;
           cells = cells;
-          losses_tied = losses_tied;
-          bits_tied = bits_tied;
+          lost = lost;
+          noted = noted;
         }
 
     -- none is
-    pub none_above_done : NoneAbove c m.core.level s.bodies → Done c p rk (done_with m false) s
-    none_above_done none_above =
+    pub calm_done : Calm c m.core.level s.bodies → Done c p rk (done_with m false) s
+    calm_done calm =
         record {
           status = refl;
-          arb = none_above_arbitrated fit s done (latest_begun_of o) t none_above;
-          latest = orderly_latest c o;
+          arb = calm_arbitrated fit s done (seated_of o) t calm;
+          latest = latest_of_lem o;
           row = row;
           size = o.bodies_there;
           cells = cells;
-          losses_tied = losses_tied;
-          bits_tied = bits_tied;
+          lost = lost;
+          noted = noted;
         }
 
   -- a refused event leaves what it finds, or what it counts
@@ -376,13 +412,13 @@ module _ {c : Config} {p : Plan} {rk : ℕ → ℕ} (fit : PlanFits c p rk) wher
   refused_answered {s = s} st sim =
       record {
         status = refl;
-        arb = none_above_arbitrated fit s st (latest_begun_of sim.orderly) sim.tied sim.none_above;
-        latest = orderly_latest c sim.orderly;
+        arb = calm_arbitrated fit s st (seated_of sim.orderly) sim.tied sim.calm;
+        latest = latest_of_lem sim.orderly;
         row = sim.row;
         size = sim.tied.size;
         cells = sim.cells;
-        losses_tied = sim.losses_tied;
-        bits_tied = sim.bits_tied;
+        lost = sim.lost;
+        noted = sim.noted;
       }
 
   -- an event with the outcome o on the machine's side; on the other the status st, and s'' before the dispatch
@@ -399,13 +435,13 @@ module _ {c : Config} {p : Plan} {rk : ℕ → ℕ} (fit : PlanFits c p rk) wher
               (record {
                 nest = a.arb.nest;
                 tied = rw (order_dispatched c s'' a.latest) a.arb.tied;
-                none_above = a.arb.none_above;
+                calm = a.arb.calm;
                 cells = rw (tables_dispatched c s'') a.cells;
-                losses_tied = losses_tied_same (dispatched_losses c s'') a.losses_tied;
-                bits_tied = bits_tied_same
+                lost = lost_same (dispatched_losses c s'') a.lost;
+                noted = noted_same
                     (dispatched_bits c s'' a.latest)
                     (dispatched_masks c s'' a.latest)
-                    a.bits_tied;
+                    a.noted;
                 orderly = rw plain at orderly;
                 row = rw (order_dispatched c s'' a.latest) a.row;
               });
@@ -418,7 +454,7 @@ module _ {c : Config} {p : Plan} {rk : ℕ → ℕ} (fit : PlanFits c p rk) wher
               runner = a.arb.number i;
               level = a.arb.level i;
               begun = mark_of (a.arb.begun i);
-              losses = losses_seen_lem o.model s''.bodies a.size a.losses_tied i;
+              losses = losses_seen_lem o.model s''.bodies a.size a.lost i;
               due = due i;
             }
 

@@ -30,20 +30,20 @@ use Rattle.machine.specs.Arbiter.{settled}
 use Rattle.machine.specs.Events as Machine
 use Rattle.machine.specs.Events.{bits_at, pausing, receiving, clearing}
 use Rattle.machine.specs.Machine.{status_of, effect_of, else_of}
-use Rattle.plan.proofs.Fit.{PlanFits}
-use Rattle.machine.proofs.Relation.Words.{at, busy_is, words_changed, rank_shows_same, unmoved_same}
-use Rattle.machine.proofs.Relation.Losses.{losses_tied_same}
-use Rattle.machine.proofs.Relation.Bits.{BitsOf, bits_tied_changed}
+use Rattle.plan.proofs.Fitted.{Fitted}
+use Rattle.machine.proofs.Relation.Words.{at, busy_is, words_changed, marks_same, unmoved_same}
+use Rattle.machine.proofs.Relation.Losses.{lost_same}
+use Rattle.machine.proofs.Relation.Bits.{NotedOf, noted_changed}
 use Rattle.machine.proofs.Relation.Whole.{Tied, Sim}
 use Rattle.machine.proofs.Relation.Order.{untriggered}
 use Rattle.machine.proofs.Arbitration.Dispatch.{rank_below}
 use Rattle.machine.proofs.Change.Request.{touched_tied, event_bits_tied}
 use Rattle.machine.proofs.Change.End.{pause_tied}
-use Rattle.machine.proofs.Change.Bits.{bits_of, receive_tied, receive_bits_tied, clear_bits_tied}
-use Rattle.machine.proofs.Event.Agrees.{kept, first_same, Agrees, Done, Keeps, Runs, call_same, by_call, caller_same, untimed_tied, settled_done, none_above_done, agrees_attempt}
+use Rattle.machine.proofs.Change.Bits.{bits_of, receive_tied, receive_noted, clear_noted}
+use Rattle.machine.proofs.Event.Agrees.{kept, first_same, Agrees, Done, Keeps, Runs, call_same, by_call, caller_same, untimed_tied, settled_done, calm_done, agrees_attempt}
 use Rattle.machine.proofs.Event.Bodies.{task_exists, holding_same}
 
-module _ {c : Config} {p : Plan} {rk : ℕ → ℕ} (fit : PlanFits c p rk) {m : Model} {s : State} (sim : Sim c p rk m s)
+module _ {c : Config} {p : Plan} {rk : ℕ → ℕ} (fit : Fitted c p rk) {m : Model} {s : State} (sim : Sim c p rk m s)
     (keeps : Keeps c s) (long : length (dues c s) ≡ p.count) where
   abbrev bs : List Body
   bs = s.bodies
@@ -57,7 +57,7 @@ module _ {c : Config} {p : Plan} {rk : ℕ → ℕ} (fit : PlanFits c p rk) {m :
   runner_active {b} k = competes_active (at bs b).phase (started_competes (at bs b).phase k.started_now)
 
   runner_bits : {b : ℕ} {ns : List ℕ} → Runs c rk m s b ns → bits_at m m.core.runner ≡ (at bs b).bits
-  runner_bits {b} k = ap (bits_at m) k.rank ∙ bits_of m sim.bits_tied b k.exists (runner_active k)
+  runner_bits {b} k = ap (bits_at m) k.rank ∙ bits_of m sim.noted b k.exists (runner_active k)
 
   -- Wait
   wait_status_lem : (w : ℕ) → Machine.wait_status p.extended m ≡ wait_status c s w
@@ -67,13 +67,13 @@ module _ {c : Config} {p : Plan} {rk : ℕ → ℕ} (fit : PlanFits c p rk) {m :
       (λ _. first_same holds_resource _ _ (holding_same fit sim keeps long k) (λ _. refl)))
 
   -- where no waited bit is set the runner waits
-  paused_bits_tied : {b : ℕ} {ns : List ℕ} → Runs c rk m s b ns → (w : ℕ)
-      → BitsOf c rk (pausing w m) (set bs b (become (waiting w) (at bs b)))
-  paused_bits_tied {b} k w =
-      bits_tied_changed fit sim.bits_tied sim.tied.size b k.exists (become (waiting w) (at bs b)) _ _ _
-      sim.bits_tied.bits_long
-      (length-set m.waited m.core.runner w ∙ sim.bits_tied.masks_long)
-      (bits_of m sim.bits_tied b k.exists (runner_active k))
+  paused_noted : {b : ℕ} {ns : List ℕ} → Runs c rk m s b ns → (w : ℕ)
+      → NotedOf c rk (pausing w m) (set bs b (become (waiting w) (at bs b)))
+  paused_noted {b} k w =
+      noted_changed fit sim.noted sim.tied.size b k.exists (become (waiting w) (at bs b)) _ _ _
+      sim.noted.bits_long
+      (length-set m.waited m.core.runner w ∙ sim.noted.masks_long)
+      (bits_of m sim.noted b k.exists (runner_active k))
       (λ v h. waits_for ∙ mask w v h)
       (λ r d. refl)
       (λ r d. get_or-set_other m.waited m.core.runner r w 0 (λ e. d (e ∙ k.rank)))
@@ -82,7 +82,7 @@ module _ {c : Config} {p : Plan} {rk : ℕ → ℕ} (fit : PlanFits c p rk) {m :
       waits_for : get_or (pausing w m).waited (rk b) 0 ≡ w
       waits_for =
           ap (λ (r : ℕ). get_or (set m.waited r w) (rk b) 0) k.rank
-          ∙ get_or-set_same m.waited (rk b) w 0 (omega (arith, sim.bits_tied.masks_long, rank_below fit b k.exists))
+          ∙ get_or-set_same m.waited (rk b) w 0 (omega (arith, sim.noted.masks_long, rank_below fit b k.exists))
 
       mask : (u v : ℕ) → waiting u ≡ waiting v → u ≡ v
       mask u v h = cc
@@ -96,14 +96,14 @@ module _ {c : Config} {p : Plan} {rk : ℕ → ℕ} (fit : PlanFits c p rk) {m :
       → Done c p rk (cond z (done_with m false) (settled p.priority (pausing w m))) (waits b w z)
   wait_done {b} k task w free true mid =
       rw (set-get_or bs b no_body)
-      (none_above_done fit sim.orderly sim.tied sim.row sim.cells sim.losses_tied sim.bits_tied sim.none_above)
+      (calm_done fit sim.orderly sim.tied sim.row sim.cells sim.lost sim.noted sim.calm)
   wait_done {b} k task w free false mid =
       settled_done fit mid
       (untimed_tied fit k.none_timed (pause_tied fit k.tied free task w))
       sim.row
       sim.cells
-      (losses_tied_same (kept (λ x. x.losses) (become (waiting w)) (λ x. refl) bs b) sim.losses_tied)
-      (paused_bits_tied k w)
+      (lost_same (kept (λ x. x.losses) (become (waiting w)) (λ x. refl) bs b) sim.lost)
+      (paused_noted k w)
 
   pub agrees_wait : (w : ℕ) → Agrees c p rk m s (Wait w)
   unfolding status_of effect_of else_of step_by
@@ -159,11 +159,11 @@ module _ {c : Config} {p : Plan} {rk : ℕ → ℕ} (fit : PlanFits c p rk) {m :
       let act : is_suspended (at bs t).phase ≡ false = not-true (is_suspended (at bs t).phase) a.3 in
       rw (fit.body_rank t t<)
       (settled_done fit (keeps.effect (Set t w) refl z)
-      (receive_tied fit m t t< sim.bits_tied act w sim.tied (untriggered sim.orderly t untimed))
+      (receive_tied fit m t t< sim.noted act w sim.tied (untriggered sim.orderly t untimed))
       sim.row
       sim.cells
-      (losses_tied_same (kept (λ x. x.losses) (receives w) (λ x. refl) bs t) sim.losses_tied)
-      (receive_bits_tied fit m t t< sim.bits_tied act w sim.tied.size)))
+      (lost_same (kept (λ x. x.losses) (receives w) (λ x. refl) bs t) sim.lost)
+      (receive_noted fit m t t< sim.noted act w sim.tied.size)))
 
   -- Clear
   clear_status_lem : (w : ℕ) → Machine.clear_status p.extended m ≡ clear_status c s w
@@ -177,7 +177,7 @@ module _ {c : Config} {p : Plan} {rk : ℕ → ℕ} (fit : PlanFits c p rk) {m :
       (touched_tied k.tied fit b k.exists (clears w (at bs b)) refl (λ _. refl) same
       (words_changed fit k.tied.words k.tied.size b k.exists (clears w (at bs b)) same
       (k.tied.words.suits b)
-      (rank_shows_same k.tied.words b k.exists (clears w (at bs b)) refl refl m.core.runner m.core.level)
+      (marks_same k.tied.words b k.exists (clears w (at bs b)) refl refl m.core.runner m.core.level)
       (unmoved_same k.tied.words m.core.runner m.core.level (rk b)))
       refl
       refl)
@@ -195,10 +195,10 @@ module _ {c : Config} {p : Plan} {rk : ℕ → ℕ} (fit : PlanFits c p rk) {m :
       refl refl refl (clear_status_lem w)
       (λ z. by_call fit sim _ z
       (λ b ns k. rw k.calls
-      (none_above_done fit (rw k.calls at (keeps.effect (Clear w) refl z))
+      (calm_done fit (rw k.calls at (keeps.effect (Clear w) refl z))
       (untimed_tied fit k.none_timed (clear_tied k w))
       sim.row
       sim.cells
-      (losses_tied_same (kept (λ x. x.losses) (clears w) (λ x. refl) bs b) sim.losses_tied)
-      (rw k.rank (clear_bits_tied fit m b k.exists sim.bits_tied (runner_active k) w sim.tied.size))
-      (λ i i< u. sim.none_above i i< (sym (kept (λ x. competes x.phase) (clears w) (λ x. refl) bs b i) ∙ u)))))
+      (lost_same (kept (λ x. x.losses) (clears w) (λ x. refl) bs b) sim.lost)
+      (rw k.rank (clear_noted fit m b k.exists sim.noted (runner_active k) w sim.tied.size))
+      (λ i i< u. sim.calm i i< (sym (kept (λ x. competes x.phase) (clears w) (λ x. refl) bs b i) ∙ u)))))

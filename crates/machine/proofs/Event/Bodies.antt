@@ -35,12 +35,12 @@ use Rattle.machine.specs.Resources.{holding}
 use Rattle.machine.specs.Cells.{one_lost}
 use Rattle.machine.specs.Events as Machine
 use Rattle.machine.specs.Machine.{status_of, effect_of, else_of}
-use Rattle.plan.proofs.Fit.{PlanFits}
+use Rattle.plan.proofs.Fitted.{Fitted}
 use Rattle.machine.proofs.Relation.Words.{at, wants, is_aside, busy_is}
 use Rattle.machine.proofs.Relation.Rows.{Shows, row_shows_popped}
 use Rattle.machine.proofs.Relation.Order.{latest_free}
-use Rattle.machine.proofs.Relation.Losses.{losses_tied_same, losses_tied_one}
-use Rattle.machine.proofs.Relation.Bits.{event_bits, BitsTied, BitsOf, bits_tied_touched, bits_tied_changed}
+use Rattle.machine.proofs.Relation.Losses.{lost_same, lost_one}
+use Rattle.machine.proofs.Relation.Bits.{event_bits, Noted, NotedOf, noted_touched, noted_changed}
 use Rattle.machine.proofs.Relation.Whole.{Tied, Sim}
 use Rattle.machine.proofs.Arbitration.Dispatch.{rank_below}
 use Rattle.machine.proofs.Change.Request.{elsewhere, activate_tied, loss_tied, line_tied}
@@ -59,7 +59,7 @@ module _ (c : Config) where
   isr_exists : (i : ℕ) → is_isr c i ≡ true → i < c.bodies
   isr_exists i e = ltb-true i c.bodies (and_true (ltb i c.bodies) _ e).0
 
-module _ {c : Config} {p : Plan} {rk : ℕ → ℕ} (fit : PlanFits c p rk) where
+module _ {c : Config} {p : Plan} {rk : ℕ → ℕ} (fit : Fitted c p rk) where
   -- a test that both sides make: whether a body has a rank among those of its kind
   missing_rank : (exists : ℕ → Bool) → ((b : ℕ) → exists b ≡ true → b < c.bodies)
       → (t : ℕ) {r : ℕ} → r ≡ cond (exists t) (rk t) no_rank → eqb r no_rank ≡ not (exists t)
@@ -79,11 +79,11 @@ module _ {c : Config} {p : Plan} {rk : ℕ → ℕ} (fit : PlanFits c p rk) wher
   line_rank_is i h = fit.line_rank_lem i ∙ rw h
 
   -- a body that is activated has no event bits afterwards, and had none that count
-  activated_bits_tied : {x : ℕ} {es ws : List ℕ} {bs : List Body} → BitsTied c rk x es ws bs → length bs ≡ c.bodies
+  activated_noted : {x : ℕ} {es ws : List ℕ} {bs : List Body} → Noted c rk x es ws bs → length bs ≡ c.bodies
       → (b : ℕ) → b < c.bodies
-      → event_bits (at bs b) ≡ 0 → BitsTied c rk x es ws (set bs b (activated (at bs b)))
-  activated_bits_tied {bs = bs} n size b b< none =
-      bits_tied_touched fit n size b b< (activated (at bs b)) none (λ w h. absurd (true≢false (sym (ap is_waiting h))))
+      → event_bits (at bs b) ≡ 0 → Noted c rk x es ws (set bs b (activated (at bs b)))
+  activated_noted {bs = bs} n size b b< none =
+      noted_touched fit n size b b< (activated (at bs b)) none (λ w h. absurd (true≢false (sym (ap is_waiting h))))
 
   module _ {m : Model} {s : State} (sim : Sim c p rk m s) (keeps : Keeps c s)
       (long : length (dues c s) ≡ p.count) where
@@ -111,8 +111,8 @@ module _ {c : Config} {p : Plan} {rk : ℕ → ℕ} (fit : PlanFits c p rk) wher
         (activate_tied sim.tied fit t t< (ap is_started a.2) (ap is_aside a.2))
         sim.row
         sim.cells
-        (losses_tied_same (kept (λ x. x.losses) activated (λ x. refl) bs t) sim.losses_tied)
-        (activated_bits_tied sim.bits_tied sim.tied.size t t< (rw a.2))))
+        (lost_same (kept (λ x. x.losses) activated (λ x. refl) bs t) sim.lost)
+        (activated_noted sim.noted sim.tied.size t t< (rw a.2))))
 
     -- Line
     line_status_lem : (i : ℕ) → Machine.line_status p.line m i ≡ line_status c s i
@@ -131,10 +131,10 @@ module _ {c : Config} {p : Plan} {rk : ℕ → ℕ} (fit : PlanFits c p rk) wher
           nest = sim.nest;
           tied = elsewhere (loss_tied sim.tied fit i i<)
               m.counter m.on m.turning (one_lost (rk i) m.losses);
-          none_above = λ b b< h. sim.none_above b b< (sym (kept (λ x. competes x.phase) loses (λ x. refl) bs i b) ∙ h);
+          calm = λ b b< h. sim.calm b b< (sym (kept (λ x. competes x.phase) loses (λ x. refl) bs i b) ∙ h);
           cells = sim.cells;
-          losses_tied = losses_tied_one fit sim.tied.size sim.losses_tied i i<;
-          bits_tied = bits_tied_touched fit sim.bits_tied sim.tied.size i i< (loses (at bs i)) refl (λ w h. h);
+          lost = lost_one fit sim.tied.size sim.lost i i<;
+          noted = noted_touched fit sim.noted sim.tied.size i i< (loses (at bs i)) refl (λ w h. h);
           orderly = mid;
           row = sim.row;
         }
@@ -171,17 +171,17 @@ module _ {c : Config} {p : Plan} {rk : ℕ → ℕ} (fit : PlanFits c p rk) wher
             (counted counts (isr_exists c i e) (keeps.refusal (Line i)))
 
     -- a Line that is accepted finds no body ready
-    line_bits_tied : (i : ℕ) → i < c.bodies → (q : Phase) → (at bs i).phase ≡ q → wants (at bs i) ≡ false
-        → BitsOf c rk m (line i s).bodies
-    line_bits_tied i i< suspended e h = rw (ap has_begun e) (activated_bits_tied sim.bits_tied sim.tied.size i i< (rw e))
-    line_bits_tied i i< ready e h = absurd (true≢false (rw e at h))
-    line_bits_tied i i< started e h =
-        rw (ap has_begun e) (bits_tied_touched fit sim.bits_tied sim.tied.size i i< _ refl (λ w z. z))
-    line_bits_tied i i< (waiting v) e h =
-        rw (ap has_begun e) (bits_tied_touched fit sim.bits_tied sim.tied.size i i< _ refl (λ w z. z))
-    line_bits_tied i i< (triggered true) e h =
-        rw (ap has_begun e) (bits_tied_touched fit sim.bits_tied sim.tied.size i i< _ refl (λ w z. z))
-    line_bits_tied i i< (triggered false) e h = absurd (true≢false (rw e at h))
+    line_noted : (i : ℕ) → i < c.bodies → (q : Phase) → (at bs i).phase ≡ q → wants (at bs i) ≡ false
+        → NotedOf c rk m (line i s).bodies
+    line_noted i i< suspended e h = rw (ap has_begun e) (activated_noted sim.noted sim.tied.size i i< (rw e))
+    line_noted i i< ready e h = absurd (true≢false (rw e at h))
+    line_noted i i< started e h =
+        rw (ap has_begun e) (noted_touched fit sim.noted sim.tied.size i i< _ refl (λ w z. z))
+    line_noted i i< (waiting v) e h =
+        rw (ap has_begun e) (noted_touched fit sim.noted sim.tied.size i i< _ refl (λ w z. z))
+    line_noted i i< (triggered true) e h =
+        rw (ap has_begun e) (noted_touched fit sim.noted sim.tied.size i i< _ refl (λ w z. z))
+    line_noted i i< (triggered false) e h = absurd (true≢false (rw e at h))
 
     pub agrees_line : (i : ℕ) → Agrees c p rk m s (Line i)
     unfolding status_of effect_of else_of step_by
@@ -198,8 +198,8 @@ module _ {c : Config} {p : Plan} {rk : ℕ → ℕ} (fit : PlanFits c p rk) wher
         (line_tied sim.tied fit i i< a.0)
         sim.row
         sim.cells
-        (losses_tied_same (kept (λ x. x.losses) requested (λ x. same_losses x (has_begun x.phase)) bs i) sim.losses_tied)
-        (line_bits_tied i i< (at bs i).phase refl a.1)))
+        (lost_same (kept (λ x. x.losses) requested (λ x. same_losses x (has_begun x.phase)) bs i) sim.lost)
+        (line_noted i i< (at bs i).phase refl a.1)))
         (λ _. rw (line_status_lem i) (line_refused i))
       where
         same_losses : (x : Body) (b : Bool)
@@ -233,14 +233,14 @@ module _ {c : Config} {p : Plan} {rk : ℕ → ℕ} (fit : PlanFits c p rk) wher
     finish_losses = kept (λ x. x.losses) finished finished_losses bs (caller c s)
 
     -- the bits of the one that ended count as 0
-    finish_bits_tied : (b : ℕ) → caller c s ≡ b → m.core.runner ≡ rk b → b < c.bodies
-        → BitsOf c rk (leaving m) (finish (caller c s) s).bodies
-    finish_bits_tied b calls rank exists =
+    finish_noted : (b : ℕ) → caller c s ≡ b → m.core.runner ≡ rk b → b < c.bodies
+        → NotedOf c rk (leaving m) (finish (caller c s) s).bodies
+    finish_noted b calls rank exists =
         rw calls
-        (bits_tied_changed fit sim.bits_tied sim.tied.size b exists (finished (at bs b)) _ _ _
-        sim.bits_tied.bits_long sim.bits_tied.masks_long
+        (noted_changed fit sim.noted sim.tied.size b exists (finished (at bs b)) _ _ _
+        sim.noted.bits_long sim.noted.masks_long
         (rw gone (sym none))
-        (λ w h. absurd (true≢false (sym (ap is_waiting h) ∙ not_waiting_lem)))
+        (λ w h. absurd (true≢false (sym (ap is_waiting h) ∙ awake)))
         (λ r n. ap (λ (z : Bool). cond z 0 (get_or m.bits r 0)) (others r n))
         (λ r n. refl))
       where
@@ -254,8 +254,8 @@ module _ {c : Config} {p : Plan} {rk : ℕ → ℕ} (fit : PlanFits c p rk) wher
         none : event_bits (finished (at bs b)) ≡ 0
         none = cond_either (λ (x : Body). event_bits x ≡ 0) (at bs b).pending _ _ refl refl
 
-        not_waiting_lem : is_waiting (finished (at bs b)).phase ≡ false
-        not_waiting_lem = cond_either (λ (x : Body). is_waiting x.phase ≡ false) (at bs b).pending _ _ refl refl
+        awake : is_waiting (finished (at bs b)).phase ≡ false
+        awake = cond_either (λ (x : Body). is_waiting x.phase ≡ false) (at bs b).pending _ _ refl refl
 
     -- a runner of OSEK's ends
     ended_done : {b : ℕ} {ns : List ℕ} → Runs c rk m s b ns → holds (calling c s).held ≡ false
@@ -264,8 +264,8 @@ module _ {c : Config} {p : Plan} {rk : ℕ → ℕ} (fit : PlanFits c p rk) wher
         settled_done fit mid (finish_tied k free)
         sim.row
         sim.cells
-        (losses_tied_same finish_losses sim.losses_tied)
-        (finish_bits_tied b k.calls k.rank k.exists)
+        (lost_same finish_losses sim.lost)
+        (finish_noted b k.calls k.rank k.exists)
 
     -- a time-triggered task ends
     returned_done : {j : ℕ} {js : List ℕ} → Enters c rk m s j js → Orderly c (finish_timed (caller c s) s)
@@ -275,8 +275,8 @@ module _ {c : Config} {p : Plan} {rk : ℕ → ℕ} (fit : PlanFits c p rk) wher
         (subst (λ (js : List ℕ). Shows (row_bytes (pop_row m.triggered)) (map rk (rest js))) (sym k.order_is)
         (row_shows_popped m.triggered (rk j) (map rk js) row))
         sim.cells
-        (losses_tied_same finish_losses sim.losses_tied)
-        (finish_bits_tied j k.calls k.rank k.exists)
+        (lost_same finish_losses sim.lost)
+        (finish_noted j k.calls k.rank k.exists)
       where
         row : Shows (row_bytes m.triggered) (rk j ∷ map rk js)
         row = subst (λ (js : List ℕ). Shows (row_bytes m.triggered) (map rk js)) k.order_is sim.row
@@ -348,7 +348,7 @@ module _ {c : Config} {p : Plan} {rk : ℕ → ℕ} (fit : PlanFits c p rk) wher
 
     -- after the runner's end the chained task is suspended, and has no event bits that count
     module _ {b : ℕ} {ns : List ℕ} (k : Runs c rk m s b ns) (t : ℕ)
-        (suspended_else : t ≢ caller c s → (body_of s t).phase ≡ suspended) where
+        (asleep : t ≢ caller c s → (body_of s t).phase ≡ suspended) where
       -- the bodies then
       abbrev then : List Body
       then = (finish (caller c s) s).bodies
@@ -360,23 +360,23 @@ module _ {c : Config} {p : Plan} {rk : ℕ → ℕ} (fit : PlanFits c p rk) wher
       at_task : t ≢ caller c s → at then t ≡ at bs t
       at_task n = get_or-set_other bs (caller c s) t (finished (calling c s)) no_body n
 
-      chained_unstarted : (is_started (at then t).phase ≡ false) × (is_aside (at then t).phase ≡ false)
-      chained_unstarted =
+      chained_asleep : (is_started (at then t).phase ≡ false) × (is_aside (at then t).phase ≡ false)
+      chained_asleep =
           by_eq t (caller c s)
           (λ e. rw e (rw at_caller out))
-          (λ n. rw (at_task n) (ap is_started (suspended_else n), ap is_aside (suspended_else n)))
+          (λ n. rw (at_task n) (ap is_started (asleep n), ap is_aside (asleep n)))
         where
-          Unstarted : Body → Type 0
-          Unstarted x = (is_started x.phase ≡ false) × (is_aside x.phase ≡ false)
+          Asleep : Body → Type 0
+          Asleep x = (is_started x.phase ≡ false) × (is_aside x.phase ≡ false)
 
-          out : Unstarted (finished (calling c s))
-          out = cond_either Unstarted (calling c s).pending _ _ (refl, refl) (refl, refl)
+          out : Asleep (finished (calling c s))
+          out = cond_either Asleep (calling c s).pending _ _ (refl, refl) (refl, refl)
 
       chained_none : event_bits (at then t) ≡ 0
       chained_none =
           by_eq t (caller c s)
           (λ e. rw e (ap event_bits at_caller ∙ out))
-          (λ n. ap event_bits (at_task n) ∙ rw (suspended_else n))
+          (λ n. ap event_bits (at_task n) ∙ rw (asleep n))
         where
           out : event_bits (finished (calling c s)) ≡ 0
           out = cond_either (λ (x : Body). event_bits x ≡ 0) (calling c s).pending _ _ refl refl
@@ -394,14 +394,14 @@ module _ {c : Config} {p : Plan} {rk : ℕ → ℕ} (fit : PlanFits c p rk) wher
         by_caller fit sim
         (λ i n. absurd (true≢false (sym n ∙ (neither (nobody_calls c s) (is_isr c (caller c s)) passed).0)))
         (λ b ns k.
-        let q = chained_unstarted k t a.4 in
+        let q = chained_asleep k t a.4 in
         rw (callable_rank_is t a.2)
         (settled_done fit (keeps.effect (Chain t) refl z)
         (activate_tied (finish_tied k a.3) fit t t< q.0 q.1)
         sim.row
         sim.cells
-        (losses_tied_same
+        (lost_same
         (λ i. kept (λ x. x.losses) activated (λ x. refl) (finish (caller c s) s).bodies t i ∙ finish_losses i)
-        sim.losses_tied)
-        (activated_bits_tied (finish_bits_tied b k.calls k.rank k.exists)
+        sim.lost)
+        (activated_noted (finish_noted b k.calls k.rank k.exists)
         (length-set bs (caller c s) (finished (calling c s)) ∙ sim.tied.size) t t< (chained_none k t a.4)))))

@@ -26,18 +26,18 @@ use Rattle.machine.specs.Arbiter.{settled}
 use Rattle.machine.specs.Resources.{getting, releasing}
 use Rattle.machine.specs.Events as Machine
 use Rattle.machine.specs.Machine.{status_of, effect_of, else_of}
-use Rattle.plan.proofs.Fit.{PlanFits}
+use Rattle.plan.proofs.Fitted.{Fitted}
 use Rattle.machine.proofs.Relation.Words.{at}
 use Rattle.machine.proofs.Relation.Slots.{Slot, slots_for, slots_along, resources_in}
 use Rattle.machine.proofs.Relation.Nest.{Nested}
-use Rattle.machine.proofs.Relation.Losses.{losses_tied_same}
-use Rattle.machine.proofs.Relation.Bits.{event_bits, bits_tied_same}
+use Rattle.machine.proofs.Relation.Losses.{lost_same}
+use Rattle.machine.proofs.Relation.Bits.{event_bits, noted_same}
 use Rattle.machine.proofs.Relation.Whole.{Tied, Sim}
 use Rattle.machine.proofs.Relation.Order.{plain_competes}
 use Rattle.machine.proofs.Change.Hold.{latest_is_lem}
 use Rattle.machine.proofs.Change.Get.{get_tied}
 use Rattle.machine.proofs.Change.Release.{release_tied}
-use Rattle.machine.proofs.Event.Agrees.{kept, first_same, Agrees, Keeps, call_same, by_call, untimed_tied, settled_done, none_above_done, agrees_attempt}
+use Rattle.machine.proofs.Event.Agrees.{kept, first_same, Agrees, Keeps, call_same, by_call, untimed_tied, settled_done, calm_done, agrees_attempt}
 
 -- a Bool is what another is if each follows from the other
 iff_bool : (a b : Bool) → (a ≡ true → b ≡ true) → (b ≡ true → a ≡ true) → a ≡ b
@@ -99,7 +99,7 @@ latest_split : (r : ℕ) (rs : List ℕ) → latest_is r rs ≡ true → (q : Li
 latest_split r [] h = absurd (true≢false (sym h))
 latest_split r (x ∷ xs) h = (xs, ap (λ (y : ℕ). y ∷ xs) (sym (eqb-true r x h)))
 
-module _ {c : Config} {p : Plan} {rk : ℕ → ℕ} (fit : PlanFits c p rk) {m : Model} {s : State} (sim : Sim c p rk m s)
+module _ {c : Config} {p : Plan} {rk : ℕ → ℕ} (fit : Fitted c p rk) {m : Model} {s : State} (sim : Sim c p rk m s)
     (keeps : Keeps c s) (long : length (dues c s) ≡ p.count) where
   abbrev bs : List Body
   bs = s.bodies
@@ -117,7 +117,7 @@ module _ {c : Config} {p : Plan} {rk : ℕ → ℕ} (fit : PlanFits c p rk) {m :
       (λ _. first_same access _ _ (flag_is sim.tied r) (λ _. refl))))
 
   -- Get changes no phase
-  get_phase : {A : Type 0} (f : Body → A) → ((x : Body) (r : ℕ) → f (gets r x) ≡ f x) → (r i : ℕ)
+  get_phase {ℓ} : {A : Type ℓ} (f : Body → A) → ((x : Body) (r : ℕ) → f (gets r x) ≡ f x) → (r i : ℕ)
       → f (at (get (caller c s) r s).bodies i) ≡ f (at bs i)
   get_phase f keeps r = kept f (gets r) (λ x. keeps x r) bs (caller c s)
 
@@ -137,14 +137,14 @@ module _ {c : Config} {p : Plan} {rk : ℕ → ℕ} (fit : PlanFits c p rk) {m :
       let free = flag_is sim.tied r ∙ a.3 in
       let t : Tied c rk (getting r (raised r) m) (get (caller c s) r s).bodies s.order (b ∷ ns) =
       untimed_tied fit k.none_timed (rw k.calls (get_tied fit k.tied r a.1 free)) in
-      none_above_done fit (keeps.effect (Get r) refl z) t
+      calm_done fit (keeps.effect (Get r) refl z) t
       sim.row
       sim.cells
-      (losses_tied_same (get_phase (λ x. x.losses) (λ x _. refl) r) sim.losses_tied)
-      (bits_tied_same (get_phase event_bits (λ x _. refl) r)
-      (λ i w h. sym (get_phase (λ x. x.phase) (λ x _. refl) r i) ∙ h) sim.bits_tied)
+      (lost_same (get_phase (λ x. x.losses) (λ x _. refl) r) sim.lost)
+      (noted_same (get_phase event_bits (λ x _. refl) r)
+      (λ i w h. sym (get_phase (λ x. x.phase) (λ x _. refl) r i) ∙ h) sim.noted)
       (λ i i< u.
-      let q = sim.none_above i i< (sym (get_phase (λ x. competes x.phase) (λ x _. refl) r i) ∙ u) in
+      let q = sim.calm i i< (sym (get_phase (λ x. competes x.phase) (λ x _. refl) r i) ∙ u) in
       omega arith)))
 
   -- Release
@@ -173,6 +173,6 @@ module _ {c : Config} {p : Plan} {rk : ℕ → ℕ} (fit : PlanFits c p rk) {m :
       settled_done fit (keeps.effect (Release r) refl z) t
       sim.row
       sim.cells
-      (losses_tied_same (kept (λ x. x.losses) releases (λ x. refl) bs (caller c s)) sim.losses_tied)
-      (bits_tied_same (kept event_bits releases (λ x. refl) bs (caller c s))
-      (λ i w h. sym (kept (λ x. x.phase) releases (λ x. refl) bs (caller c s) i) ∙ h) sim.bits_tied)))
+      (lost_same (kept (λ x. x.losses) releases (λ x. refl) bs (caller c s)) sim.lost)
+      (noted_same (kept event_bits releases (λ x. refl) bs (caller c s))
+      (λ i w h. sym (kept (λ x. x.phase) releases (λ x. refl) bs (caller c s) i) ∙ h) sim.noted)))

@@ -31,11 +31,11 @@ use Rattle.machine.specs.Cells.{switch_off, is_on, has_turn, switch_for, cell_at
 use Rattle.machine.specs.Events as Machine
 use Rattle.machine.specs.Events.{runs, cell_count, starting, stopping}
 use Rattle.machine.specs.Machine.{status_of, effect_of, else_of, cell_in}
-use Rattle.plan.proofs.Fit.{PlanFits}
+use Rattle.plan.proofs.Fitted.{Fitted}
 use Rattle.machine.proofs.Relation.Cells.{CellFits, CellsTied, CellsOf}
 use Rattle.machine.proofs.Relation.Whole.{Sim}
 use Rattle.machine.proofs.Change.Request.{elsewhere}
-use Rattle.machine.proofs.Event.Agrees.{first_same, Agrees, Done, Keeps, caller_same, none_above_done, agrees_attempt}
+use Rattle.machine.proofs.Event.Agrees.{first_same, Agrees, Done, Keeps, caller_same, calm_done, agrees_attempt}
 use Rattle.machine.proofs.Change.Cells.{length_spread, spread_before, spread_after, spread_inside}
 use Rattle.machine.proofs.Change.Turns.{switch_on_lem, switch_turn_lem, some_holds, some_none}
 
@@ -57,7 +57,7 @@ was_false : (w w' : Bool) → (w ≡ true → w' ≡ true) → w' ≡ false → 
 was_false true w' keeps none = absurd (true≢false (sym (keeps refl) ∙ none))
 was_false false w' keeps none = refl
 
-module _ {c : Config} {p : Plan} {rk : ℕ → ℕ} (fit : PlanFits c p rk) where
+module _ {c : Config} {p : Plan} {rk : ℕ → ℕ} (fit : Fitted c p rk) where
   module _ (t : ℕ) (t< : t < c.tables) where
     abbrev count : ℕ
     count = get_or c.entries t 0
@@ -140,7 +140,7 @@ module _ {c : Config} {p : Plan} {rk : ℕ → ℕ} (fit : PlanFits c p rk) wher
             rises : first_of c (suc t) ≤ first_of c c.tables
             rises = first_of_rises c (suc t) c.tables t<
 
-module _ {c : Config} {p : Plan} {rk : ℕ → ℕ} (fit : PlanFits c p rk) {m : Model} {s : State} (sim : Sim c p rk m s)
+module _ {c : Config} {p : Plan} {rk : ℕ → ℕ} (fit : Fitted c p rk) {m : Model} {s : State} (sim : Sim c p rk m s)
     (keeps : Keeps c s) (long : length (dues c s) ≡ p.count) where
   -- the first cell of a table is on exactly if the table runs
   runs_is : (t : ℕ) → t < c.tables → runs p.first m t ≡ is_running (table_of s t)
@@ -169,7 +169,7 @@ module _ {c : Config} {p : Plan} {rk : ℕ → ℕ} (fit : PlanFits c p rk) {m :
   cells_done : {ns on : List ℕ} {w : Bool} {ts : List Table} → Orderly c (with_tables ts) → CellsTied c p ns on w ts
       → Done c p rk (done_with (with_cells m ns on w) false) (with_tables ts)
   cells_done {ns} {on} {w} o cells =
-      none_above_done fit o (elsewhere sim.tied ns on w m.losses) sim.row cells sim.losses_tied sim.bits_tied sim.none_above
+      calm_done fit o (elsewhere sim.tied ns on w m.losses) sim.row cells sim.lost sim.noted sim.calm
 
   -- Start
   abbrev launching : ℕ → ℕ → Model

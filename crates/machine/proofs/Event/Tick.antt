@@ -24,19 +24,19 @@ use Rattle.scheduler.specs.Scheduler.{Tick, step_by}
 use Rattle.scheduler.proofs.Body.{suspended_is}
 use Rattle.scheduler.proofs.Kind.{of_one_kind}
 use Rattle.scheduler.proofs.Event.Effects.{tables_ticked}
-use Rattle.scheduler.proofs.Order.Standing.{Standing, other, outside, inside}
+use Rattle.scheduler.proofs.Order.Standing.{Place, other, asleep, awake}
 use Rattle.scheduler.proofs.Order.Invariant.{Orderly, Started, TickOrder, order_same, starts, tick_order}
 use Rattle.machine.specs.Model.{Model, with_core, with_request, with_rest, done_with}
 use Rattle.machine.specs.Arbiter.{bids, settled, launching}
 use Rattle.machine.specs.Cells.{Tally, one_lost, match_at, requests_due}
 use Rattle.machine.specs.Events.{begun_word, marks_of, due_of, ticking, tick}
 use Rattle.machine.specs.Machine.{status_of, effect_of, else_of}
-use Rattle.plan.proofs.Fit.{PlanFits}
+use Rattle.plan.proofs.Fitted.{Fitted}
 use Rattle.machine.proofs.Relation.Rows.{Shows, row_shows_pushed}
 use Rattle.machine.proofs.Relation.Words.{at, is_aside, busy_is}
 use Rattle.machine.proofs.Relation.Cells.{CellsOf}
-use Rattle.machine.proofs.Relation.Losses.{LossesTied, losses_tied_same, losses_tied_one}
-use Rattle.machine.proofs.Relation.Bits.{BitsOf, bits_tied_touched}
+use Rattle.machine.proofs.Relation.Losses.{Lost, lost_same, lost_one}
+use Rattle.machine.proofs.Relation.Bits.{NotedOf, noted_touched}
 use Rattle.machine.proofs.Relation.Kinds.{is_bidding}
 use Rattle.machine.proofs.Relation.Order.{kinds_of}
 use Rattle.machine.proofs.Relation.Whole.{Tied, Sim}
@@ -45,8 +45,7 @@ use Rattle.machine.proofs.Arbitration.Dispatch.{Arbitrated, rank_below, runner_o
 use Rattle.machine.proofs.Change.Request.{elsewhere, activate_tied, trigger_tied, loss_tied}
 use Rattle.machine.proofs.Change.Launch.{plain_triggering, wins, launches, launch_tied}
 use Rattle.machine.proofs.Change.Ticks.{dues_long, marks_due, due_first_cells, ticked_cells}
-use Rattle.scheduler.proofs.Order.Latest.{ticked_latest}
-use Rattle.machine.proofs.Event.Agrees.{kept, Agrees, Keeps, settled_done, agrees, runner_is}
+use Rattle.machine.proofs.Event.Agrees.{kept, Agrees, Keeps, LatestActive, settled_done, agrees, runner_is}
 use Rattle.machine.proofs.Event.Bodies.{task_exists}
 
 -- the entries of a list of marks have the ranks rs and the tasks ts
@@ -71,12 +70,12 @@ module _ (c : Config) (rk : ℕ → ℕ) (rs ts : List ℕ) where
 abbrev with_tally : Model → Tally → Model
 with_tally m x = with_rest (with_core m (with_request m.core x.request)) m.counter m.on m.turning x.losses
 
-module _ {c : Config} {p : Plan} {rk : ℕ → ℕ} (fit : PlanFits c p rk) (js ns : List ℕ) where
+module _ {c : Config} {p : Plan} {rk : ℕ → ℕ} (fit : Fitted c p rk) (js ns : List ℕ) where
   -- what is owed after some entries; js: the time-triggered tasks that were started before them
   record Owed (m : Model) (x : Tally) (s : State) : Type 0 where
     tied : Tied c rk (with_tally m x) s.bodies js ns
-    losses_tied : LossesTied c rk x.losses s.bodies
-    bits_tied : BitsOf c rk m s.bodies
+    lost : Lost c rk x.losses s.bodies
+    noted : NotedOf c rk m s.bodies
 
   -- a match at the rank of a task
   module _ (m : Model) (x : Tally) (s : State) (owed : Owed m x s) (t : ℕ) (task : is_task c t ≡ true) where
@@ -95,8 +94,8 @@ module _ {c : Config} {p : Plan} {rk : ℕ → ℕ} (fit : PlanFits c p rk) (js 
         (record {
           tied = elsewhere (loss_tied owed.tied fit t exists)
               m.counter m.on m.turning (one_lost (rk t) x.losses);
-          losses_tied = losses_tied_one fit owed.tied.size owed.losses_tied t exists;
-          bits_tied = bits_tied_touched fit owed.bits_tied owed.tied.size t exists (loses (at bs t)) refl (λ w h. h);
+          lost = lost_one fit owed.tied.size owed.lost t exists;
+          noted = noted_touched fit owed.noted owed.tied.size t exists (loses (at bs t)) refl (λ w h. h);
         })
 
     activation : (at bs t).phase ≡ suspended → Owed m next (changing t activated s)
@@ -105,8 +104,8 @@ module _ {c : Config} {p : Plan} {rk : ℕ → ℕ} (fit : PlanFits c p rk) (js 
         (record {
           tied = elsewhere (activate_tied owed.tied fit t exists (ap is_started e) (ap is_aside e))
               m.counter m.on m.turning x.losses;
-          losses_tied = losses_tied_same (kept (λ y. y.losses) activated (λ y. refl) bs t) owed.losses_tied;
-          bits_tied = bits_tied_touched fit owed.bits_tied owed.tied.size t exists (activated (at bs t)) (rw e)
+          lost = lost_same (kept (λ y. y.losses) activated (λ y. refl) bs t) owed.lost;
+          noted = noted_touched fit owed.noted owed.tied.size t exists (activated (at bs t)) (rw e)
               (λ w h. absurd (true≢false (sym (ap is_waiting h))));
         })
 
@@ -116,8 +115,8 @@ module _ {c : Config} {p : Plan} {rk : ℕ → ℕ} (fit : PlanFits c p rk) (js 
         (record {
           tied = elsewhere (trigger_tied owed.tied fit t exists (ap is_started e) (ap is_aside e))
               m.counter m.on m.turning x.losses;
-          losses_tied = losses_tied_same (kept (λ y. y.losses) triggers (λ y. refl) bs t) owed.losses_tied;
-          bits_tied = bits_tied_touched fit owed.bits_tied owed.tied.size t exists (triggers (at bs t)) (rw e)
+          lost = lost_same (kept (λ y. y.losses) triggers (λ y. refl) bs t) owed.lost;
+          noted = noted_touched fit owed.noted owed.tied.size t exists (triggers (at bs t)) (rw e)
               (λ w h. absurd (true≢false (sym (ap is_waiting h))));
         })
 
@@ -125,8 +124,8 @@ module _ {c : Config} {p : Plan} {rk : ℕ → ℕ} (fit : PlanFits c p rk) (js 
     match_owed =
         by_test (is_suspended (at bs t).phase)
         (λ e.
-        let outside = suspended_is (at bs t).phase e in
-        cond_either (Owed m next) (is_timed c t) _ _ (rw e (trigger_owed outside)) (rw e (activation outside)))
+        let asleep = suspended_is (at bs t).phase e in
+        cond_either (Owed m next) (is_timed c t) _ _ (rw e (trigger_owed asleep)) (rw e (activation asleep)))
         (λ e. cond_either (Owed m next) (is_timed c t) _ _ (rw e (loss e)) (rw e (loss e)))
 
   due_owed : (m : Model) (ms : List Bool) (rs ts : List ℕ) → Entries c rk ms rs ts → (x : Tally) (s : State) → Owed m x s
@@ -142,7 +141,7 @@ module _ {c : Config} {p : Plan} {rk : ℕ → ℕ} (fit : PlanFits c p rk) (js 
       (rw k.0 (match_owed m x s o t k.1.0))
   due_owed m (false ∷ ms) (r ∷ rs) (t ∷ ts) k x s o = due_owed m ms rs ts k.1.1 x s o
 
-module _ {c : Config} {p : Plan} {rk : ℕ → ℕ} (fit : PlanFits c p rk) {m : Model} {s : State} (sim : Sim c p rk m s)
+module _ {c : Config} {p : Plan} {rk : ℕ → ℕ} (fit : Fitted c p rk) {m : Model} {s : State} (sim : Sim c p rk m s)
     (keeps : Keeps c s) where
   abbrev ms : List Bool
   ms = dues c (counted s)
@@ -175,8 +174,8 @@ module _ {c : Config} {p : Plan} {rk : ℕ → ℕ} (fit : PlanFits c p rk) {m :
       due_owed fit s.order sim.nest m ms p.entry c.task entries asked (counted s)
       (record {
         tied = elsewhere sim.tied m.counter m.on m.turning m.losses;
-        losses_tied = sim.losses_tied;
-        bits_tied = sim.bits_tied;
+        lost = sim.lost;
+        noted = sim.noted;
       })
 
   due_is : due_of p.compare p.entry m ≡ due
@@ -200,8 +199,8 @@ module _ {c : Config} {p : Plan} {rk : ℕ → ℕ} (fit : PlanFits c p rk) {m :
   cells : CellsOf c p now then.tables
   cells = rw (tables_ticked c s) (ticked_cells fit sim.cells)
 
-  losses_tied : LossesTied c rk now.losses then.bodies
-  losses_tied = rw due_is owed.losses_tied
+  lost : Lost c rk now.losses then.bodies
+  lost = rw due_is owed.lost
 
   -- no time-triggered task is started: the highest by priority is dispatched
   plain_tick : then.order ≡ s.order → Orderly c then → Agrees c p rk m s Tick
@@ -210,7 +209,7 @@ module _ {c : Config} {p : Plan} {rk : ℕ → ℕ} (fit : PlanFits c p rk) {m :
       let t : Tied c rk now then.bodies then.order sim.nest = rw same ticked_tied in
       let row : Shows (row_bytes now.triggered) (map rk then.order) = rw same sim.row in
       agrees fit Tick (settled p.priority now) done ms then (plain_triggering fit ticked_tied (kinds_of o)) refl
-      marks_are (settled_done fit o t row cells losses_tied owed.bits_tied) (keeps.next Tick)
+      marks_are (settled_done fit o t row cells lost owed.noted) (keeps.next Tick)
 
   -- one is
   timed_tick : (j : ℕ) → Started c s j → Agrees c p rk m s Tick
@@ -222,12 +221,12 @@ module _ {c : Config} {p : Plan} {rk : ℕ → ℕ} (fit : PlanFits c p rk) {m :
       (record {
         status = refl;
         arb = arb;
-        latest = ticked_latest c (starts j y);
+        latest = latest;
         row = row;
         size = ticked_tied.size;
         cells = cells;
-        losses_tied = losses_tied;
-        bits_tied = owed.bits_tied;
+        lost = lost;
+        noted = owed.noted;
       })
       (keeps.next Tick)
     where
@@ -236,13 +235,13 @@ module _ {c : Config} {p : Plan} {rk : ℕ → ℕ} (fit : PlanFits c p rk) {m :
 
       -- no other that bids for the processor is time-triggered
       others : (i : ℕ) → i < c.bodies → i ≢ j → is_bidding (at then.bodies i).phase ≡ true → is_timed c i ≡ false
-      others i i< n h = by (y.standings.stands i)
+      others i i< n h = by (y.placed.places i)
         where
-          by : Standing c i (body_of then i) (among i then.order) → is_timed c i ≡ false
+          by : Place c i (body_of then i) (among i then.order) → is_timed c i ≡ false
           by (other k _ _) = k
-          by (outside k _ e _ _) = absurd (true≢false (sym h ∙ ap is_bidding e))
-          by (inside k _ true e _ _) = absurd (true≢false (sym h ∙ ap is_bidding e))
-          by (inside k _ false e _ _) = absurd (y.others_begun i n e)
+          by (asleep k _ e _ _) = absurd (true≢false (sym h ∙ ap is_bidding e))
+          by (awake k _ true e _ _) = absurd (true≢false (sym h ∙ ap is_bidding e))
+          by (awake k _ false e _ _) = absurd (y.others_begun i n e)
 
       wins_is : winner (bids now.core) ≡ rk j
       wins_is = wins fit ticked_tied j y.in_range y.timed y.to_begin task others
@@ -263,11 +262,16 @@ module _ {c : Config} {p : Plan} {rk : ℕ → ℕ} (fit : PlanFits c p rk) {m :
           (record {
             nest = (holders fit s.order ticked_tied).nest;
             tied = tied;
-            none_above = λ b b< _. omega (arith, fit.own_few b b<);
+            calm = λ b b< _. omega (arith, fit.own_few b b<);
             number = runner_of_is fit (launching now) j y.in_range wins_is;
             level = refl;
             begun = refl;
           })
+
+      latest : LatestActive then
+      latest i is e =
+          let same : i ≡ j = ap (λ (js : List ℕ). get_or js 0 0) (sym e ∙ y.order_is) in
+          rw same (rw ticked_tied.size y.in_range, ap is_suspended y.to_begin)
 
       row : Shows (row_bytes (push_row m.triggered (winner (bids now.core)))) (map rk then.order)
       row =

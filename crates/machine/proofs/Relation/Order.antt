@@ -42,10 +42,10 @@ module _ {c : Config} {s : State} (o : Orderly c s) where
 
   -- who may run by priority is not time-triggered
   pub plain_competes : (i : ℕ) → competes (at s.bodies i).phase ≡ true → is_timed c i ≡ false
-  plain_competes i h = refuted (is_timed c i) (λ t. true≢false (sym h ∙ none_competes t))
+  plain_competes i h = refuted (is_timed c i) (λ t. true≢false (sym h ∙ asleep t))
     where
-      none_competes : is_timed c i ≡ true → competes (at s.bodies i).phase ≡ false
-      none_competes t =
+      asleep : is_timed c i ≡ true → competes (at s.bodies i).phase ≡ false
+      asleep t =
           by_test (among i s.order)
           (λ e. ap competes (o.started_begun i e))
           (λ e. ap competes (o.timed_suspended i t e))

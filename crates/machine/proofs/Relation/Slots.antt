@@ -15,7 +15,7 @@ use Rattle.stack.specs.declared.Row.{Row}
 use Rattle.stack.specs.Stack.{row_bytes}
 use Rattle.scheduler.specs.Body.{Body}
 use Rattle.scheduler.specs.State.{among}
-use Rattle.scheduler.proofs.Members.{NoneTwice}
+use Rattle.scheduler.proofs.Members.{Distinct}
 use Rattle.machine.specs.Model.{Model}
 use Rattle.machine.proofs.Relation.Rows.{Shows}
 use Rattle.machine.proofs.Relation.Words.{at}
@@ -61,7 +61,7 @@ pub record Slots (w : ℕ) (rs hs ls : Row) (ss : List Slot) : Type 0 where
   pub holders : Shows (row_bytes hs) (holders_in ss)
   pub levels : Shows (row_bytes ls) (levels_in ss)
   pub flags : (r : ℕ) → has w r ≡ among r (resources_in ss)
-  pub distinct : NoneTwice (resources_in ss)
+  pub distinct : Distinct (resources_in ss)
   pub counted : length ss + missing 16 w ≡ 16
 
 abbrev pub SlotsOf : Model → List Slot → Type 0

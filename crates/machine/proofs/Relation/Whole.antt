@@ -1,8 +1,8 @@
 -- How a model of the machine stands for a state of the plain scheduler.
 --
---   Tied       words, runner and held resources are those of the bodies; another body may still be above the level
---   NoneAbove  none is
---   Sim        the whole: tied, none_above, with the cells, the losses, the event bits and the order of the time-triggered tasks
+--   Tied  words, runner and held resources are those of the bodies; another body may still be above the level
+--   Calm  none is
+--   Sim   the whole: tied, calm, with the cells, the losses, the event bits and the order of the time-triggered tasks
 --
 -- and `latest_seat`, who runs while a time-triggered task is started.
 use Prim.Native.Nat.{ℕ, ◌≤◌, ◌<◌}
@@ -23,8 +23,8 @@ use Rattle.machine.proofs.Relation.Words.{at, Words}
 use Rattle.machine.proofs.Relation.Slots.{slots_along, SlotsOf}
 use Rattle.machine.proofs.Relation.Nest.{Nested, AllHold, Seats, timed_seat}
 use Rattle.machine.proofs.Relation.Cells.{CellsOf}
-use Rattle.machine.proofs.Relation.Losses.{LossesTied}
-use Rattle.machine.proofs.Relation.Bits.{BitsOf}
+use Rattle.machine.proofs.Relation.Losses.{Lost}
+use Rattle.machine.proofs.Relation.Bits.{NotedOf}
 
 -- js: the time-triggered tasks that are started
 pub record Tied (c : Config) (rk : ℕ → ℕ) (m : Model) (bs : List Body) (js ns : List ℕ) : Type 0 where
@@ -37,17 +37,17 @@ pub record Tied (c : Config) (rk : ℕ → ℕ) (m : Model) (bs : List Body) (js
   pub loose : (b : ℕ) → among b ns ≡ false → (at bs b).held ≡ []
 
 -- no body that is ready or started has an own priority above the level
-abbrev pub NoneAbove : Config → ℕ → List Body → Type 0
-NoneAbove c l bs = (b : ℕ) → b < c.bodies → competes (at bs b).phase ≡ true → priority_of c b ≤ l
+abbrev pub Calm : Config → ℕ → List Body → Type 0
+Calm c l bs = (b : ℕ) → b < c.bodies → competes (at bs b).phase ≡ true → priority_of c b ≤ l
 
 -- the model m of the machine stands for the state s of the plain scheduler
 pub record Sim (c : Config) (p : Plan) (rk : ℕ → ℕ) (m : Model) (s : State) : Type 0 where
   pub nest : List ℕ
   pub tied : Tied c rk m s.bodies s.order nest
-  pub none_above : NoneAbove c m.core.level s.bodies
+  pub calm : Calm c m.core.level s.bodies
   pub cells : CellsOf c p m s.tables
-  pub losses_tied : LossesTied c rk m.losses s.bodies
-  pub bits_tied : BitsOf c rk m s.bodies
+  pub lost : Lost c rk m.losses s.bodies
+  pub noted : NotedOf c rk m s.bodies
   pub orderly : Orderly c s
   pub row : Shows (row_bytes m.triggered) (map rk s.order)
 

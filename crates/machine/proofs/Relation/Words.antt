@@ -9,7 +9,7 @@ use mathlib.Core.Path.{◌≡◌, refl, sym, ap, ap₂, ◌∙◌}
 use mathlib.Core.Logic.{◌≢◌}
 use mathlib.Core.Bool.{Bool, true, false, true≢false, not, ◌||◌, or-true, not-or_self}
 use mathlib.Core.List.{List}
-use lib.ListN.{length, set}
+use lib.ListN.{length, get_or, set}
 use lib.Seq.{get_or-set_same, get_or-set_other}
 use Rattle.number.proofs.Cases.{by_eq}
 use Rattle.config.specs.declared.Config.{Config}
@@ -20,16 +20,19 @@ use Rattle.word.proofs.Theorems.{has_union}
 use Rattle.scheduler.specs.Body.{Phase, suspended, ready, started, waiting, triggered, is_suspended, is_started, competes, Body}
 use Rattle.scheduler.specs.State.{no_body}
 use Rattle.scheduler.specs.Call.{request_waits}
-pub use Rattle.scheduler.proofs.Choice.Separation.{at}
 use Rattle.machine.specs.Model.{Core}
-use Rattle.plan.proofs.Fit.{PlanFits}
+use Rattle.plan.proofs.Fitted.{Fitted}
+
+-- body b of a list of bodies
+abbrev pub at : List Body → ℕ → Body
+at bs b = get_or bs b no_body
 
 -- a change of one leaves the others
 pub at_other : (bs : List Body) (b : ℕ) (y : Body) (i : ℕ) → i ≢ b → at (set bs b y) i ≡ at bs i
 at_other bs b y i n = get_or-set_other bs b i y no_body n
 
 -- and other bodies have other ranks
-pub other_rank : {c : Config} {p : Plan} {rk : ℕ → ℕ} → PlanFits c p rk → (b : ℕ) → b < c.bodies
+pub other_rank : {c : Config} {p : Plan} {rk : ℕ → ℕ} → Fitted c p rk → (b : ℕ) → b < c.bodies
     → (i : ℕ) → i < c.bodies → i ≢ b → rk i ≢ rk b
 other_rank fit b b< i i< n e = n (fit.rank_inj i b i< b< e)
 
@@ -63,7 +66,7 @@ pub record Words (c : Config) (rk : ℕ → ℕ) (k : Core) (bs : List Body) : T
   pub suits : (b : ℕ) → Suits c b (at bs b)
 
 -- the words of k agree with the body y at the rank r
-pub record RankShows (k : Core) (r : ℕ) (y : Body) : Type 0 where
+pub record Marks (k : Core) (r : ℕ) (y : Body) : Type 0 where
   pub asks : has k.request r ≡ wants y
   pub goes_on : has k.started r ≡ is_started y.phase
   pub put_aside : has k.aside r ≡ is_aside y.phase
@@ -79,9 +82,9 @@ pub record Unmoved (k' k : Core) (r : ℕ) : Type 0 where
   pub put_aside : (i : ℕ) → i ≢ r → has k'.aside i ≡ has k.aside i
 
 -- body b becomes y, the words agree with y at its rank, and are as before elsewhere
-module _ {c : Config} {p : Plan} {rk : ℕ → ℕ} (fit : PlanFits c p rk) {k : Core} {bs : List Body} (w : Words c rk k bs)
+module _ {c : Config} {p : Plan} {rk : ℕ → ℕ} (fit : Fitted c p rk) {k : Core} {bs : List Body} (w : Words c rk k bs)
     (size : length bs ≡ c.bodies) (b : ℕ) (b< : b < c.bodies) (y : Body) (k' : Core) where
-  pub words_changed : Suits c b y → RankShows k' (rk b) y → Unmoved k' k (rk b) → Words c rk k' (set bs b y)
+  pub words_changed : Suits c b y → Marks k' (rk b) y → Unmoved k' k (rk b) → Words c rk k' (set bs b y)
   words_changed fits here there =
       record {
         request_lt = there.request_lt;
@@ -144,8 +147,8 @@ seated_by k r l = record { request = k.request; started = k.started; aside = k.a
 -- a body of the same phase and with the same second request has the same marks
 module _ {c : Config} {rk : ℕ → ℕ} {k : Core} {bs : List Body} (w : Words c rk k bs) (b : ℕ) (b< : b < c.bodies)
     (y : Body) (phase : y.phase ≡ (at bs b).phase) (second : y.pending ≡ (at bs b).pending) (r l : ℕ) where
-  pub rank_shows_same : RankShows (seated_by k r l) (rk b) y
-  rank_shows_same =
+  pub marks_same : Marks (seated_by k r l) (rk b) y
+  marks_same =
       record {
         asks = w.asks b b< ∙ waits_same (at bs b) y (at bs b).phase (sym second) ∙ ap (request_waits y) (sym phase);
         goes_on = w.goes_on b b< ∙ ap is_started (sym phase);

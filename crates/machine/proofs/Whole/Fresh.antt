@@ -17,20 +17,19 @@ use Rattle.scheduler.specs.Scheduler as Plain
 use Rattle.scheduler.specs.Scheduler.{new_body, fresh}
 use Rattle.scheduler.proofs.Event.Effects.{tables_dispatched}
 use Rattle.scheduler.proofs.Order.Invariant.{orderly_unstarted, orderly_fresh}
-use Rattle.scheduler.proofs.Order.Latest.{orderly_latest}
 use Rattle.machine.specs.Machine.{unstarted, fresh_model}
 use Rattle.machine.proofs.Relation.Rows.{same_everywhere, row_empty_shows}
 use Rattle.machine.specs.Cells.{switch_off, is_on, has_turn}
-use Rattle.plan.proofs.Fit.{PlanFits}
+use Rattle.plan.proofs.Fitted.{Fitted}
 use Rattle.machine.proofs.Relation.Words.{at, wants, is_aside}
 use Rattle.machine.proofs.Relation.Slots.{slots_along}
 use Rattle.machine.proofs.Relation.Free.{missing_empty}
 use Rattle.machine.proofs.Relation.Nest.{Nested, Seats}
 use Rattle.machine.proofs.Relation.Cells.{CellFits, CellsTied}
-use Rattle.machine.proofs.Relation.Losses.{LossesTied, losses_tied_same}
-use Rattle.machine.proofs.Relation.Bits.{event_bits, BitsTied, bits_tied_same}
+use Rattle.machine.proofs.Relation.Losses.{Lost, lost_same}
+use Rattle.machine.proofs.Relation.Bits.{event_bits, Noted, noted_same}
 use Rattle.machine.proofs.Relation.Whole.{Tied, Sim}
-use Rattle.machine.proofs.Event.Agrees.{dispatched_losses, dispatched_bits, dispatched_masks, order_dispatched, settled_orderly}
+use Rattle.machine.proofs.Event.Agrees.{dispatched_losses, dispatched_bits, dispatched_masks, order_dispatched, latest_of_lem, settled_orderly}
 
 -- whatever a new body is, it has not begun, holds nothing and lost nothing
 new_wants : (a : ℕ) → wants (new_body a) ≡ eqb a 1
@@ -47,7 +46,7 @@ new_same f e a = go (eqb a 1)
     go true = e
     go false = refl
 
-module _ {c : Config} {p : Plan} {rk : ℕ → ℕ} (fit : PlanFits c p rk) where
+module _ {c : Config} {p : Plan} {rk : ℕ → ℕ} (fit : Fitted c p rk) where
   abbrev unbegun : State
   unbegun = Plain.unstarted c
 
@@ -114,8 +113,8 @@ module _ {c : Config} {p : Plan} {rk : ℕ → ℕ} (fit : PlanFits c p rk) wher
         unturned = λ _ e. ap has_turn (same_everywhere 64 switch_off e);
       }
 
-  unbegun_bits_tied : BitsTied c rk 0 (replicate 32 0) (replicate 32 0) unbegun.bodies
-  unbegun_bits_tied =
+  unbegun_noted : Noted c rk 0 (replicate 32 0) (replicate 32 0) unbegun.bodies
+  unbegun_noted =
       record {
         bits_long = refl;
         masks_long = refl;
@@ -123,8 +122,8 @@ module _ {c : Config} {p : Plan} {rk : ℕ → ℕ} (fit : PlanFits c p rk) wher
         mask_is = λ b w b< h. absurd (true≢false (sym (ap is_waiting h) ∙ at_same (λ x. is_waiting x.phase) refl b));
       }
 
-  unbegun_losses_tied : LossesTied c rk (replicate 32 0) unbegun.bodies
-  unbegun_losses_tied =
+  unbegun_lost : Lost c rk (replicate 32 0) unbegun.bodies
+  unbegun_lost =
       record {
         losses_long = refl;
         of_body = λ b b<. same_everywhere 32 0 (rk b) ∙ sym (at_same (λ x. x.losses) refl b);
@@ -134,14 +133,14 @@ module _ {c : Config} {p : Plan} {rk : ℕ → ℕ} (fit : PlanFits c p rk) wher
   fresh_sim =
       let ready = orderly_unstarted c fit.accepted fit.shaped in
       let arb = settled_orderly fit unbegun ready unbegun_tied in
-      let top = orderly_latest c ready in
+      let top = latest_of_lem fit ready in
       record {
         nest = arb.nest;
         tied = rw (order_dispatched c unbegun top) arb.tied;
-        none_above = arb.none_above;
+        calm = arb.calm;
         cells = rw (tables_dispatched c unbegun) unbegun_cells;
-        losses_tied = losses_tied_same (dispatched_losses c unbegun) unbegun_losses_tied;
-        bits_tied = bits_tied_same (dispatched_bits c unbegun top) (dispatched_masks c unbegun top) unbegun_bits_tied;
+        lost = lost_same (dispatched_losses c unbegun) unbegun_lost;
+        noted = noted_same (dispatched_bits c unbegun top) (dispatched_masks c unbegun top) unbegun_noted;
         orderly = orderly_fresh c fit.accepted fit.shaped;
         row = rw (order_dispatched c unbegun top) row_empty_shows;
       }

@@ -22,7 +22,7 @@ use Rattle.config.specs.Meaning.{trigger_level, is_timed, is_user, priority_of, 
 use Rattle.config.proofs.Theorems.{timed_no_user}
 use Rattle.plan.specs.declared.Plan.{Plan}
 use Rattle.plan.specs.Plan.{trigger_of}
-use Rattle.plan.proofs.Fit.{PlanFits}
+use Rattle.plan.proofs.Fitted.{Fitted}
 use Rattle.word.specs.Word.{has}
 use Rattle.stack.specs.Stack.{row_bytes}
 use Rattle.scheduler.specs.Status.{done, access, first_given}
@@ -97,7 +97,7 @@ module _ (c : Config) (rk : ℕ → ℕ) where
         go below (r ∷ rs) zero low own = inr (b, among_head b ns, refl, low, own r (among_head r rs))
         go below (r ∷ rs) (suc j) low own = go below rs j (omega arith) (λ q h. own q (among_tail q r rs h))
 
-module _ {c : Config} {p : Plan} {rk : ℕ → ℕ} (fit : PlanFits c p rk) {m : Model} {s : State} (sim : Sim c p rk m s) where
+module _ {c : Config} {p : Plan} {rk : ℕ → ℕ} (fit : Fitted c p rk) {m : Model} {s : State} (sim : Sim c p rk m s) where
   -- of the nest all but the first are below the first one's own priority
   nest_below : (b : ℕ) (ns : List ℕ) → Nested c s.bodies (b ∷ ns) → (i : ℕ) → among i (b ∷ ns) ≡ true → i ≢ b
       → current c i (body_of s i) < priority_of c b
@@ -137,7 +137,7 @@ module _ {c : Config} {p : Plan} {rk : ℕ → ℕ} (fit : PlanFits c p rk) {m :
           → current c i (body_of s i) < trigger_of c (caller c s)
       go e [] t = absurd (true≢false (sym (holder_nested t r i h)))
       go e (b ∷ ns) t =
-          let runs = runner_is c s e ∙ chosen_seated fit t sim.none_above b ns refl in
+          let runs = runner_is c s e ∙ chosen_seated fit t sim.calm b ns refl in
           let calls : caller c s ≡ b = ap (λ (x : Candidate). x.number) runs in
           rw (calls, nested_plain b ns t.nested)
           (nest_below b ns t.nested i (holder_nested t r i h) (λ e. other (e ∙ sym calls)))

@@ -18,7 +18,7 @@ use Rattle.scheduler.specs.Tick.{dues}
 use Rattle.scheduler.specs.Scheduler.{Event, Activate, Finish, Chain, Get, Release, Tick, Line, Start, Stop, Wait, Set, Clear, Seen, seen, seen_by, after, after_by}
 use Rattle.machine.specs.Model.{Model}
 use Rattle.machine.specs.Machine.{machine_seen, machine_after}
-use Rattle.plan.proofs.Fit.{PlanFits}
+use Rattle.plan.proofs.Fitted.{Fitted}
 use Rattle.machine.proofs.Relation.Whole.{Sim}
 use Rattle.machine.proofs.Change.Ticks.{dues_long}
 use Rattle.machine.proofs.Event.Agrees.{Agrees, Keeps, keeps_of}
@@ -28,7 +28,7 @@ use Rattle.machine.proofs.Event.Tick.{agrees_tick}
 use Rattle.machine.proofs.Event.Tables.{agrees_start, agrees_stop}
 use Rattle.machine.proofs.Event.Bits.{agrees_wait, agrees_set, agrees_clear}
 
-module _ {c : Config} {p : Plan} {rk : ℕ → ℕ} (fit : PlanFits c p rk) where
+module _ {c : Config} {p : Plan} {rk : ℕ → ℕ} (fit : Fitted c p rk) where
   pub event_agrees : {m : Model} {s : State} (e : Event) → Sim c p rk m s → Agrees c p rk m s e
   event_agrees {m} {s} e sim = by e (dues_long fit s sim.cells.tables_long)
     where

@@ -5,14 +5,14 @@ use Rattle.config.specs.Value.{max_bodies}
 use Rattle.config.specs.Meaning.{isr, extended}
 use Rattle.plan.specs.Entry.{entry_count}
 use Rattle.plan.specs.Plan.{trigger_of}
-use Rattle.plan.proofs.Ranking.{RankLists, ranks_made, rank_inside, callables_made, lines_made, by_rank_made, marked_made, ceilings_made, users_made, entries_made}
-use Rattle.plan.proofs.Parts.{parts_right}
+use Rattle.plan.proofs.Ranking.{Ranked, ranks_made, rank_inside, callables_made, lines_made, by_rank_made, marked_made, ceilings_made, users_made, entries_made}
+use Rattle.plan.proofs.Parts.{plan_made}
 use borrow.Author.Rules.{rules}
 use Rattle.planner.proofs.plan_of.Goals as goal
 
 pub by_rank-ranked-requires : goal.by_rank-ranked-requires
 by_rank-ranked-requires c =
-    let g : RankLists c.args.config c.at_most-n.result c.keys-keys.result c.ranks-by.result = record {
+    let g : Ranked c.args.config c.at_most-n.result c.keys-keys.result c.ranks-by.result = record {
       sized = search rules;
       counted = c.at_most-n.ensures;
       keyed = c.keys-keys.ensures;
@@ -25,7 +25,7 @@ by_rank-ranked-requires c =
 
 pub returns : goal.returns
 returns c =
-    let g : RankLists c.args.config c.at_most-n.result c.keys-keys.result c.ranks-by.result = record {
+    let g : Ranked c.args.config c.at_most-n.result c.keys-keys.result c.ranks-by.result = record {
       sized = search rules;
       counted = c.at_most-n.ensures;
       keyed = c.keys-keys.ensures;
@@ -34,7 +34,7 @@ returns c =
     let some = c.at_most-some in
     let tables = c.at_most-tables.ensures in
     let count : c.by_table-table.result.count ≡ entry_count (c.args.config) = rw tables at c.by_table-table.ensures.count in
-    parts_right
+    plan_made
     (record {
       rank = ranks_made g;
       callable = c.by_kind-kinds.ensures.callables ∙ callables_made g;

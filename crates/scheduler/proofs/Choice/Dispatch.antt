@@ -18,8 +18,7 @@ use Rattle.scheduler.specs.Choice.{Candidate, is_nobody, candidate, by_holding, 
 use Rattle.scheduler.specs.State.{State, body_of, changing, runner, among}
 use Rattle.scheduler.specs.Event.{Event}
 use Rattle.scheduler.specs.Scheduler.{begins, phase_begun, dispatched, leaves, step, step_by, unstarted, fresh, after, after_by}
-use Rattle.scheduler.proofs.Body.{unstarted_unbegun}
-use Rattle.scheduler.proofs.Choice.Runner.{contender, candidate_active, chosen_mapped, Taken, no_one, body, chosen_from_lem, runner_timed, runner_untimed, by_priority}
+use Rattle.scheduler.proofs.Choice.Runner.{contender, candidate_active, chosen_mapped, Taken, no_one, body, chosen_from_lem, runner_timed, runner_untimed}
 use Rattle.scheduler.proofs.Event.Effects.{body_of_changing_same, length_changing, dispatched_keeps}
 
 -- the candidate x, begun
@@ -165,21 +164,6 @@ module _ (c : Config) (s : State) (j : ℕ) (js : List ℕ) (latest : s.order �
         is : runner c s ≡ it (has_begun (body_of s j).phase)
         is = runner_timed c s j js latest
 
--- whoever is to begin has not begun
-pub begins_unbegun : (c : Config) (s : State) → begins (runner c s) ≡ true
-    → has_begun (body_of s (runner c s).number).phase ≡ false
-begins_unbegun c s b = by_order s.order refl
-  where
-    by_order : (js : List ℕ) → s.order ≡ js → has_begun (body_of s (runner c s).number).phase ≡ false
-    by_order [] o =
-        let runs = by_priority c s o (begins_some (runner c s) b).0 in
-        unstarted_unbegun (body_of s (runner c s).number).phase runs.may_run
-        (sym runs.began_is ∙ (begins_some (runner c s) b).1)
-    by_order (j ∷ js) o =
-        let is = runner_timed c s j js o in
-        ap (λ n. has_begun (body_of s n).phase) (ap (λ x. x.number) is) ∙ sym (ap (λ x. x.began) is)
-        ∙ (begins_some (runner c s) b).1
-
 -- the dispatch makes the chosen body begin, and it is chosen again
 pub runner_dispatched : (c : Config) (s : State) → (runner c s).number < length s.bodies
     → runner c (dispatched c s) ≡ once_begun (runner c s)
@@ -234,15 +218,18 @@ runner_same c s =
 module _ (c : Config) (s : State) (underway : Underway c s) where
   -- where no time-triggered task is started
   pub underway_untimed : s.order ≡ [] → begins (runner c s) ≡ false
-  underway_untimed o =
-      by_test (begins (runner c s))
-      (λ e. absurd (omega (arith, underway e, (by_priority c s o (begins_some (runner c s) e).0).there)))
-      (λ e. e)
+  underway_untimed o = by_test (begins (runner c s)) (λ e. go e (chosen_from_lem by_holding refl c s.bodies)) (λ e. e)
+    where
+      go : begins (runner c s) ≡ true → Taken c s.bodies (chosen c s.bodies) → begins (runner c s) ≡ false
+      go e (no_one z) = ap begins (runner_untimed c s o ∙ z)
+      go e (body k h p z) =
+          let is = runner_untimed c s o ∙ z ∙ candidate_active c k (body_of s k) (body_of s k).phase p in
+          absurd (omega (arith, underway e, ap (λ (x : Candidate). x.number) is))
 
   -- where all that are started are bodies
-  pub underway_bodies : ((j : ℕ) → among j s.order ≡ true → j < length s.bodies) → begins (runner c s) ≡ false
+  pub underway_named : ((j : ℕ) → among j s.order ≡ true → j < length s.bodies) → begins (runner c s) ≡ false
   unfolding among
-  underway_bodies there = go s.order refl
+  underway_named named = go s.order refl
     where
       go : (js : List ℕ) → s.order ≡ js → begins (runner c s) ≡ false
       go [] o = underway_untimed o
@@ -251,7 +238,7 @@ module _ (c : Config) (s : State) (underway : Underway c s) where
           (λ e. absurd (omega (
             arith,
             underway e,
-            there j (rw o (rw (eq-eqb j j refl))),
+            named j (rw o (rw (eq-eqb j j refl))),
             ap (λ (x : Candidate). x.number) (runner_timed c s j js o),
           )))
           (λ e. e)
@@ -276,14 +263,14 @@ pub chosen_again_begun : (c : Config) (s : State)
 chosen_again_begun c s = (
   (runner_same c s).0,
   (runner_same c s).1,
-  λ there. underway_bodies c (dispatched c s) (dispatched_underway c s) (still there),
+  λ named. underway_named c (dispatched c s) (dispatched_underway c s) (kept named),
 )
   where
-    still : ((j : ℕ) → among j s.order ≡ true → j < length s.bodies)
+    kept : ((j : ℕ) → among j s.order ≡ true → j < length s.bodies)
         → (j : ℕ) → among j (dispatched c s).order ≡ true → j < length (dispatched c s).bodies
-    still there =
+    kept named =
         dispatched_keeps (λ x. (j : ℕ) → among j x.order ≡ true → j < length x.bodies)
         (λ i f x h j a. rw (length_changing i f x) (h j a))
         c
         s
-        there
+        named

@@ -3,13 +3,13 @@
 -- In order: the order of candidates as an order of numbers (`weight`); whom the choice takes, and that nobody goes
 -- before him; the choice where one body is changed (`chosen_mapped`), and by two rules for ties that agree
 -- (`chosen_same`); the choice from above (`chosen_best`, `chosen_nobody`); the current priority; that of the chosen
--- one; who runs where a time-triggered task is started, and where none is (`by_priority`). q is the rule for ties.
+-- one; who runs where a time-triggered task is started, and where none is. q is the rule for ties.
 use Prim.Native.Nat.{ℕ, zero, suc, ◌+◌, ◌*◌, ◌≤◌, ◌<◌, max}
 use mathlib.Core.Path.{◌≡◌, refl, sym, ap, ap₂, ◌∙◌}
 use mathlib.Core.Logic.{◌≢◌}
 use mathlib.Core.Bool.{Bool, true, false, true≢false, cond, not, ◌&&◌, ◌||◌}
 use mathlib.Core.List.{List, [], ◌∷◌, foldr, map}
-use native.Mathlib.Nat.{zero-add, add-zero, add-suc, suc-add}
+use native.Mathlib.Nat.{zero-add, add-zero}
 use native.Mathlib.Omega.{arith}
 use borrow.Author.Tests.{ltb-true, lt-ltb, le-ltb, eq-eqb, ne_eqb, eqb-false}
 use lib.Dec.{ltb, eqb, lit≤}
@@ -19,7 +19,7 @@ use Rattle.config.specs.declared.Config.{Config}
 use Rattle.config.specs.Meaning.{priority_of, ceiling}
 use Rattle.scheduler.specs.Body.{Phase, suspended, ready, started, waiting, triggered, is_started, competes, Body, holds, current, gets, releases}
 use Rattle.scheduler.specs.Choice.{Candidate, nobody, is_nobody, candidate, Tie, by_holding, goes_before, preferred, chosen_from, chosen_by, chosen}
-use Rattle.scheduler.specs.State.{State, no_body, body_of, among, latest_of, runner}
+use Rattle.scheduler.specs.State.{State, no_body, among, latest_of, runner}
 use Rattle.scheduler.specs.Scheduler.{mark_of}
 
 -- what the k-th of the bodies bs is to the choice
@@ -89,11 +89,14 @@ data From (c : Config) (i : ℕ) (bs : List Body) (x : Candidate) : Type 0 where
   none : x ≡ nobody → From c i bs x
   one : (k : ℕ) → k < length bs → competes (get_or bs k no_body).phase ≡ true → x ≡ contender_from c i bs k → From c i bs x
 
+shift : (i k : ℕ) → i + suc k ≡ suc i + k
+shift i k = omega arith
+
 from_later : {c : Config} {i : ℕ} {b : Body} {bs : List Body} {x : Candidate} → From c (suc i) bs x
     → From c i (b ∷ bs) x
 unfolding contender_from
 from_later (none e) = none e
-from_later {i = i} (one k h p e) = one (suc k) (omega arith) p (rw (add-suc i k, ← suc-add i k) e)
+from_later {i = i} (one k h p e) = one (suc k) (omega arith) p (rw (shift i k) e)
 
 from_first : (c : Config) (i : ℕ) (b : Body) (bs : List Body) → From c i (b ∷ bs) (candidate c i b b.phase)
 unfolding contender_from candidate
@@ -113,7 +116,7 @@ chosen_from_top q c i [] k = omega arith
 chosen_from_top q c i (b ∷ bs) zero =
     rw add-zero (omega (arith, preferred_left q (candidate c i b b.phase) (chosen_from q c (suc i) bs)))
 chosen_from_top q c i (b ∷ bs) (suc k) =
-    rw (add-suc i k, ← suc-add i k)
+    rw (shift i k)
     (omega (
       arith,
       chosen_from_top q c (suc i) bs k,
@@ -210,6 +213,9 @@ module _ (q : Tie) (unasked : q nobody ≡ false) (c : Config) (bs : List Body) 
       let n : mark_of (q nobody) ≡ 0 = ap mark_of unasked in
       let top = rw zero-add at (chosen_from_top q c 0 bs k) in
       omega arith
+
+  chosen_top : (k : ℕ) → goes_before q (contender c bs k) (chosen_by q c bs) ≡ false
+  chosen_top k = weight_after q (contender c bs k) (chosen_by q c bs) (chosen_weight k)
 
   -- a body that goes before every other one that may run is chosen
   pub chosen_best : (k : ℕ) → is_nobody (contender c bs k) ≡ false
@@ -317,6 +323,10 @@ module _ (q : Tie) (unasked : q nobody
 
 -- a started time-triggered task goes before all others, the latest first
 module _ (c : Config) (s : State) where
+  -- "one common execution level 201"
+  timed_level : (j : ℕ) (js : List ℕ) → s.order ≡ j ∷ js → (runner c s).level ≡ 201
+  timed_level j js e = ap (λ (l : List ℕ). (latest_of s.bodies l (chosen c s.bodies)).level) e
+
   pub runner_timed : (j : ℕ) (js : List ℕ) → s.order ≡ j ∷ js
       → runner c s ≡ latest_of s.bodies (j ∷ js) (chosen c s.bodies)
   runner_timed j js e = ap (λ (l : List ℕ). latest_of s.bodies l (chosen c s.bodies)) e
@@ -334,28 +344,3 @@ runner_someone c s k active some = go s.order refl
     go [] o =
         ap is_nobody (runner_untimed c s o) ∙ chosen_someone by_holding refl c s.bodies k active some
     go (j ∷ js) o = ap is_nobody (runner_timed c s j js o)
-
--- a runner that is chosen by its priority
-pub record RunsByPriority (c : Config) (s : State) : Type 0 where
-  pub there : (runner c s).number < length s.bodies
-  pub may_run : competes (body_of s (runner c s).number).phase ≡ true
-  pub is_chosen : chosen c s.bodies ≡ contender c s.bodies (runner c s).number
-  pub began_is : (runner c s).began ≡ is_started (body_of s (runner c s).number).phase
-  pub untimed : (runner c s).timed ≡ false
-
--- whoever runs where no time-triggered task is started is one
-pub by_priority : (c : Config) (s : State) → s.order ≡ [] → is_nobody (runner c s) ≡ false → RunsByPriority c s
-by_priority c s o some = go (chosen_from_lem by_holding refl c s.bodies)
-  where
-    go : Taken c s.bodies (chosen c s.bodies) → RunsByPriority c s
-    go (no_one z) = absurd (true≢false (sym (ap is_nobody (runner_untimed c s o ∙ z)) ∙ some))
-    go (body k h p z) =
-        let is = runner_untimed c s o ∙ z ∙ candidate_active c k (body_of s k) (body_of s k).phase p in
-        let number_is : (runner c s).number ≡ k = ap (λ (x : Candidate). x.number) is in
-        record {
-          there = rw number_is h;
-          may_run = rw number_is p;
-          is_chosen = rw number_is z;
-          began_is = rw number_is (ap (λ (x : Candidate). x.began) is);
-          untimed = ap (λ (x : Candidate). x.timed) is;
-        }

@@ -25,9 +25,9 @@ use Rattle.scheduler.specs.Scheduler.{Seen, mark_of, dispatched_to, ending_to, d
 use Rattle.scheduler.specs.History.{AcceptedIn}
 use Rattle.scheduler.proofs.Choice.Runner.{contender, weight, weight_before, chosen_tie, chosen_same, candidate_active, current_own, current_free, Taken, no_one, body, runner_timed, runner_untimed}
 use Rattle.scheduler.proofs.Event.Checks.{set_passed}
-use Rattle.scheduler.proofs.Choice.Dispatch.{Underway, underway_bodies, underway_fresh, underway_step, underway_after}
-use Rattle.scheduler.proofs.Order.Tasks.{order_bodies, order_timed_fresh, order_timed_after}
-use Rattle.scheduler.proofs.Choice.Separation.{at, Separation, Question, holder, begun_body, holders, begun_bodies, weighs, set_holds, leaves_separated, step_separated, unstarted_separated, fresh_separated, reached_separated}
+use Rattle.scheduler.proofs.Choice.Dispatch.{Underway, underway_named, underway_fresh, underway_step, underway_after}
+use Rattle.scheduler.proofs.Order.Range.{named_fresh, named_after}
+use Rattle.scheduler.proofs.Choice.Separation.{at, Kept, Question, holder, begun_body, holders, begun_bodies, weighs, set_holds, leaves_kept, step_kept, unstarted_kept, fresh_kept, reached_kept}
 
 -- of a configuration that the reader accepts
 module _ (c : Config) (ok : Configuration.Accepted c) where
@@ -37,7 +37,7 @@ module _ (c : Config) (ok : Configuration.Accepted c) where
   level_is bs i a = ap (λ (x : Candidate). x.level) (candidate_active c i (at bs i) (at bs i).phase a)
 
   -- two that tie: not both hold, and one does
-  module _ {In : Body → Bool} (K : Question In) {bs : List Body} (a : Separation c In bs) (i j : ℕ)
+  module _ {In : Body → Bool} (K : Question In) {bs : List Body} (a : Kept c In bs) (i j : ℕ)
       (i< : i < c.bodies) (j< : j < c.bodies) (d : i ≢ j)
       (equal : current c i (at bs i) ≡ current c j (at bs j)) where
     not_apart : In (at bs i) ≡ true → In (at bs j) ≡ true → ⊥
@@ -57,11 +57,10 @@ module _ (c : Config) (ok : Configuration.Accepted c) where
         go [] (q ∷ qs) e f = refl
         go (r ∷ rs) [] e f = refl
         go (r ∷ rs) (q ∷ qs) e f =
-            absurd (not_apart (K.holding (at bs i) (a.holder_started i) (rw e))
-            (K.holding (at bs j) (a.holder_started j) (rw f)))
+            absurd (not_apart (K.holding (at bs i) (a.steady i) (rw e)) (K.holding (at bs j) (a.steady j) (rw f)))
 
   -- of two that may run one goes before the other
-  decided : {bs : List Body} → Separation c holder bs → (i j : ℕ) → i < c.bodies → j < c.bodies → i ≢ j
+  decided : {bs : List Body} → Kept c holder bs → (i j : ℕ) → i < c.bodies → j < c.bodies → i ≢ j
       → competes (at bs i).phase ≡ true
       → competes (at bs j).phase ≡ true
       → (goes_before by_holding (contender c bs i) (contender c bs j) ≡ true)
@@ -100,7 +99,7 @@ module _ (c : Config) (ok : Configuration.Accepted c) where
           go false false e m = true≢false (sym e)
 
   -- where the started bodies are apart the old rule and the new one agree
-  module _ {bs : List Body} (a : Separation c begun_body bs) where
+  module _ {bs : List Body} (a : Kept c begun_body bs) where
     -- in a tie, who holds has begun and who does not hold has not
     begun_holds : (i j : ℕ) → i < c.bodies → j < c.bodies → i ≢ j → current c i (at bs i) ≡ current c j (at bs j)
         → is_started (at bs i).phase ≡ holds (at bs i).held
@@ -114,10 +113,10 @@ module _ (c : Config) (ok : Configuration.Accepted c) where
             flip false h = absurd (true≢false (sym h))
 
         go : (b : Bool) → holds (at bs i).held ≡ b → is_started (at bs i).phase ≡ b
-        go true e = a.holder_started i e
+        go true e = a.steady i e
         go false e =
             refuted (is_started (at bs i).phase)
-            (λ h. not_apart begun_bodies a i j i< j< d equal h (a.holder_started j (other e)))
+            (λ h. not_apart begun_bodies a i j i< j< d equal h (a.steady j (other e)))
 
     agree : (x y : Candidate) → Taken c bs x → Taken c bs y → goes_before by_begun x y ≡ goes_before by_holding x y
     agree x y (no_one e) (no_one f) = rw (e, f)
@@ -163,7 +162,7 @@ module _ (c : Config) (ok : Configuration.Accepted c) where
     same_choice : chosen_by by_begun c bs ≡ chosen_by by_holding c bs
     same_choice = chosen_same by_begun by_holding c bs agree
 
-  same_runner : (s : State) → Separation c begun_body s.bodies → runner_by by_begun c s ≡ runner c s
+  same_runner : (s : State) → Kept c begun_body s.bodies → runner_by by_begun c s ≡ runner c s
   same_runner s a = ap (latest_of s.bodies s.order) (same_choice a)
 
   -- no task is extended
@@ -173,33 +172,33 @@ module _ (c : Config) (ok : Configuration.Accepted c) where
     unfolding step_by
     no_set s t w z b h = absurd (true≢false (sym (set_passed c s t w z).2 ∙ basic t))
 
-    old_step : (s : State) → Separation c begun_body s.bodies → Underway c s → (e : Event)
+    old_step : (s : State) → Kept c begun_body s.bodies → Underway c s → (e : Event)
         → step_by by_begun c s e ≡ step c s e
     unfolding step_by
     old_step s a underway e =
         ap (λ (k : Candidate). ending_to (runner_by by_begun c (leaves_for c k s e)) (status_for c k s e) (dues_at c s e)
         (leaves_for c k s e)) (same_runner s a)
         ∙ ap (λ (k : Candidate). ending_to k (status_of c s e) (dues_at c s e) (leaves c s e))
-        (same_runner (leaves c s e) (leaves_separated c ok begun_bodies no_set s a underway e))
+        (same_runner (leaves c s e) (leaves_kept c ok begun_bodies no_set s a underway e))
 
-    old_from : (es : List Event) (s : State) → Separation c begun_body s.bodies → Underway c s
+    old_from : (es : List Event) (s : State) → Kept c begun_body s.bodies → Underway c s
         → (seen_by by_begun c s es ≡ seen c s es) × (after_by by_begun c s es ≡ after c s es)
     unfolding seen_by after_by
     old_from [] s a underway = (refl, refl)
     old_from (e ∷ es) s a underway =
-        let separation = step_separated c ok begun_bodies no_set s a underway e in
-        let rest = old_from es (step c s e).state separation (underway_step c s e) in
+        let kept = step_kept c ok begun_bodies no_set s a underway e in
+        let rest = old_from es (step c s e).state kept (underway_step c s e) in
         rw (old_step s a underway e) (ap (λ (xs : List Seen). (step c s e).seen ∷ xs) rest.0, rest.1)
 
     old_fresh : fresh_by by_begun c ≡ fresh c
     old_fresh =
         ap (λ (k : Candidate). dispatched_to k (unstarted c))
-        (same_runner (unstarted c) (unstarted_separated c ok begun_bodies no_set shaped))
+        (same_runner (unstarted c) (unstarted_kept c ok begun_bodies no_set shaped))
 
     pub old_rule : (es : List Event)
         → (seen_by by_begun c (fresh_by by_begun c) es ≡ seen c (fresh c) es)
         × (after_by by_begun c (fresh_by by_begun c) es ≡ after c (fresh c) es)
-    old_rule es = rw old_fresh (old_from es (fresh c) (fresh_separated c ok begun_bodies no_set shaped) (underway_fresh c))
+    old_rule es = rw old_fresh (old_from es (fresh c) (fresh_kept c ok begun_bodies no_set shaped) (underway_fresh c))
 
     -- "on equal priorities the one that already began goes first"
     pub runner_began : (es : List Event) (k : ℕ) → competes (body_of (after c (fresh c) es) k).phase ≡ true
@@ -211,8 +210,8 @@ module _ (c : Config) (ok : Configuration.Accepted c) where
         s : State
         s = after c (fresh c) es
 
-        a : Separation c begun_body s.bodies
-        a = reached_separated c ok begun_bodies no_set shaped es
+        a : Kept c begun_body s.bodies
+        a = reached_kept c ok begun_bodies no_set shaped es
 
         chosen_began : s.order ≡ [] → (runner c s).began ≡ true
         chosen_began o =
@@ -230,8 +229,8 @@ module _ (c : Config) (ok : Configuration.Accepted c) where
             let is = runner_timed c s j js o in
             not-false (runner c s).began
             (sym (ap (λ (n : ℕ). not (eqb n 0) && not (runner c s).began) (ap (λ (x : Candidate). x.level) is))
-            ∙ underway_bodies c s (underway_after c es (fresh c) (underway_fresh c))
-            (λ i h. rw a.size (order_bodies c s (order_timed_after c es (fresh c) (order_timed_fresh c)) i h)))
+            ∙ underway_named c s (underway_after c es (fresh c) (underway_fresh c))
+            (λ i h. rw a.size (named_after c es (fresh c) (named_fresh c) i h)))
 
   -- where the choice is made: at the fresh start, after every list of events, and after the event that comes next
   module _ (shaped : Configuration.Shaped c) where
@@ -240,10 +239,10 @@ module _ (c : Config) (ok : Configuration.Accepted c) where
         → competes (body_of (unstarted c) j).phase ≡ true
         → (goes_before by_holding (contender c (unstarted c).bodies i) (contender c (unstarted c).bodies j) ≡ true)
         ⊎ (goes_before by_holding (contender c (unstarted c).bodies j) (contender c (unstarted c).bodies i) ≡ true)
-    decided_fresh = decided (unstarted_separated c ok holders (set_holds c) shaped)
+    decided_fresh = decided (unstarted_kept c ok holders (set_holds c) shaped)
 
-    separation : (es : List Event) → Separation c holder (after c (fresh c) es).bodies
-    separation = reached_separated c ok holders (set_holds c) shaped
+    kept : (es : List Event) → Kept c holder (after c (fresh c) es).bodies
+    kept = reached_kept c ok holders (set_holds c) shaped
 
     pub decided_after : (es : List Event) (i j : ℕ) → i < c.bodies → j < c.bodies → i ≢ j
         → competes (body_of (after c (fresh c) es) i).phase ≡ true
@@ -252,7 +251,7 @@ module _ (c : Config) (ok : Configuration.Accepted c) where
         (contender c (after c (fresh c) es).bodies j) ≡ true)
         ⊎ (goes_before by_holding (contender c (after c (fresh c) es).bodies j)
         (contender c (after c (fresh c) es).bodies i) ≡ true)
-    decided_after es = decided (separation es)
+    decided_after es = decided (kept es)
 
     pub decided_at : (es : List Event) (e : Event) (i j : ℕ) → i < c.bodies → j < c.bodies → i ≢ j
         → competes (body_of (leaves c (after c (fresh c) es) e) i).phase ≡ true
@@ -263,5 +262,5 @@ module _ (c : Config) (ok : Configuration.Accepted c) where
         (contender c (leaves c (after c (fresh c) es) e).bodies i) ≡ true)
     decided_at es e =
         decided
-        (leaves_separated c ok holders (set_holds c) (after c (fresh c) es) (separation es)
+        (leaves_kept c ok holders (set_holds c) (after c (fresh c) es) (kept es)
         (underway_after c es (fresh c) (underway_fresh c)) e)

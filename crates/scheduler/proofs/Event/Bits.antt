@@ -5,8 +5,9 @@
 use Prim.Native.Nat.{ℕ, ◌≤◌, ◌<◌}
 use mathlib.Core.Path.{◌≡◌, refl, sym, ap, ◌∙◌}
 use mathlib.Core.Bool.{Bool, true, false, true≢false, not, ◌&&◌, ◌||◌}
-use mathlib.Core.List.{List}
+use mathlib.Core.List.{List, []}
 use mathlib.Core.Logic.{◌≢◌, inl, inr}
+use native.Mathlib.Omega.{arith}
 use borrow.Author.Tests.{eq-eqb, ne_eqb}
 use lib.Dec.{eqb}
 use lib.ListN.{length, get_or, set, take, get_or-map, get_or-eq_default}
@@ -17,24 +18,33 @@ use Rattle.config.specs.Meaning.{is_timed}
 use Rattle.scheduler.specs.Status.{done, first_given}
 use Rattle.scheduler.specs.Bits.{bit_set, with_bits}
 use Rattle.scheduler.specs.Body.{Phase, suspended, ready, started, waiting, triggered, is_suspended, Body, activated, become, loses, finished, requested, gets, releases, waits, resumed, receives, clears}
+use Rattle.scheduler.specs.Choice.{Candidate, by_holding, is_nobody, chosen}
 use Rattle.scheduler.specs.State.{State, no_body, body_of, changing, runner}
 use Rattle.scheduler.specs.Event.{Event, Activate, Finish, Chain, Get, Release, Tick, Line, Start, Stop, Wait, Set, Clear}
 use Rattle.scheduler.specs.Tick.{counted, dues, enter, ticked}
-use Rattle.scheduler.specs.Call.{caller, calling, request_waits, finish, status_of, effect_of}
+use Rattle.scheduler.specs.Call.{nobody_runs, caller, calling, request_waits, finish, status_of, effect_of}
 use Rattle.scheduler.specs.Scheduler.{begins, phase_begun, dispatched, new_body, unstarted, fresh, leaves, step_by}
 use Rattle.scheduler.specs.History.{AcceptedIn, Ends, next}
 use Rattle.scheduler.proofs.Event.Masks.{clears_bit, receives_bit, waits_bits, waits_on, waits_for, resumed_on, resumed_not, activated_bits, new_bits}
-use Rattle.scheduler.proofs.Choice.Runner.{by_priority}
+use Rattle.scheduler.proofs.Choice.Runner.{Taken, no_one, body, chosen_from_lem, candidate_active, runner_untimed}
 use Rattle.scheduler.proofs.Event.Checks.{accepted_untimed, activate_passed, chain_passed, set_passed, clear_passed, wait_passed, line_passed}
 use Rattle.scheduler.proofs.Event.Effects.{body_of_changing_same, body_of_changing_other, length_changing, else_of_keeps, entered, enter_bodies, enters_keep}
 
--- whoever is not suspended is a body of the state
-pub active_there : (s : State) (t : ℕ) → is_suspended (body_of s t).phase ≡ false → t < length s.bodies
-active_there s t h =
+-- who runs, where no time-triggered task does, is a body of the state
+caller_there : (c : Config) (s : State) → s.order ≡ [] → nobody_runs c s ≡ false → caller c s < length s.bodies
+caller_there c s none some = go (chosen_from_lem by_holding refl c s.bodies)
+  where
+    go : Taken c s.bodies (chosen c s.bodies) → caller c s < length s.bodies
+    go (no_one e) = absurd (true≢false (sym (ap is_nobody (runner_untimed c s none ∙ e)) ∙ some))
+    go (body k h p e) =
+        let is = runner_untimed c s none ∙ e ∙ candidate_active c k (body_of s k) (body_of s k).phase p in
+        omega (arith, ap (λ (x : Candidate). x.number) is)
+
+-- and so is whoever is not suspended
+pub there : (s : State) (t : ℕ) → is_suspended (body_of s t).phase ≡ false → t < length s.bodies
+there s t h =
     by_lt t (length s.bodies) (λ l. l)
-    (λ past.
-    let none = ap (λ (b : Body). is_suspended b.phase) (get_or-eq_default s.bodies no_body past) in
-    absurd (true≢false (sym none ∙ h)))
+    (λ past. absurd (true≢false (sym (ap (λ (b : Body). is_suspended b.phase) (get_or-eq_default s.bodies no_body past)) ∙ h)))
 
 -- a change that keeps the bits of the body that it changes keeps all
 bits_changing : (i : ℕ) (f : Body → Body) (s : State) → (f (body_of s i)).bits ≡ (body_of s i).bits
@@ -82,7 +92,7 @@ module _ (c : Config) where
         ∙ ap (λ (x : State). (body_of x (caller c s)).bits) (accepted_leaves s (Clear w) a)
         ∙ ap (λ (b : Body). b.bits)
         (body_of_changing_same (caller c s) (clears w) s
-        (by_priority c s (accepted_untimed c s (Clear w) refl a) (clear_passed c s w a).0).there))
+        (caller_there c s (accepted_untimed c s (Clear w) refl a) (clear_passed c s w a).0)))
         ∙ clears_bit w (calling c s) i
 
     pub clear_others : (b : ℕ) → b ≢ caller c s → (body_of (next c s (Clear w)) b).bits ≡ (body_of s b).bits
@@ -95,7 +105,7 @@ module _ (c : Config) where
   module _ (s : State) (t w : ℕ) where
     set_there : AcceptedIn c s (Set t w) → t < length s.bodies
     unfolding step_by
-    set_there a = active_there s t (quiet (is_suspended (body_of s t).phase) (set_passed c s t w a).3)
+    set_there a = there s t (quiet (is_suspended (body_of s t).phase) (set_passed c s t w a).3)
       where
         quiet : (p : Bool) → not p ≡ true → p ≡ false
         quiet true h = absurd (true≢false (sym h))
@@ -165,7 +175,7 @@ module _ (c : Config) where
     wait_waits a none =
         ap (λ (x : State). body_of x (caller c s)) (accepted_leaves s (Wait w) a)
         ∙ body_of_changing_same (caller c s) (waits w) s
-        (by_priority c s (accepted_untimed c s (Wait w) refl a) (wait_passed c s w a).0).there
+        (caller_there c s (accepted_untimed c s (Wait w) refl a) (wait_passed c s w a).0)
         ∙ waits_for w (calling c s) none
 
     pub wait_alone : (b : ℕ) → b ≢ caller c s → body_of (leaves c s (Wait w)) b ≡ body_of s b
@@ -231,7 +241,7 @@ module _ (c : Config) where
             (λ q.
             let h : is_suspended (body_of x t).phase ≡ false = rw q at k.1 in
             let p = entered_keeps (is_timed c t) (body_of x t) h in
-            let is = it (active_there x t h) in
+            let is = it (there x t h) in
             rw q (rw is (p.0 ∙ rw q at k.0, p.1)))
             (λ d. rw (other d) k)
 

@@ -6,24 +6,23 @@
 use Prim.Native.Nat.{ℕ, ◌+◌, ◌≤◌, ◌<◌}
 use mathlib.Core.Path.{◌≡◌, refl, sym, ap, ap₂, ◌∙◌}
 use mathlib.Core.Bool.{Bool, true, false, true≢false, cond, not, ◌&&◌, and-true, and-false}
-use mathlib.Core.List.{List, [], ◌∷◌, ◌++◌}
+use mathlib.Core.List.{List, [], ◌∷◌, ◌++◌, map}
 use mathlib.Core.Logic.{◌≢◌, ◌↔◌}
 use native.Mathlib.Omega.{arith}
-use borrow.Author.Tests.{leb-false, ltb-false, eqb-true, eqb-false, ne_eqb, not-false}
+use borrow.Author.Tests.{lt-leb, leb-false, ltb-false, eqb-true, eqb-false, ne_eqb, not-false}
 use lib.Dec.{ltb, eqb}
 use lib.ListN.{get_or}
 use Rattle.number.proofs.Cases as Cases
 use Rattle.config.specs.declared.Config.{Config}
 use Rattle.config.specs.Meaning.{is_task, is_osek_task, is_isr, is_extended, is_timed, is_user, smallest_offset}
 use Rattle.scheduler.specs.Status.{Check, done, call_level, no_such, limit_reached, ◌gives◌, first_given, NoneFails}
-use Rattle.scheduler.specs.Body.{suspended, is_suspended, holds}
+use Rattle.scheduler.specs.Body.{Phase, suspended, ready, started, waiting, triggered, is_suspended, holds}
 use Rattle.scheduler.specs.Choice.{is_nobody}
 use Rattle.scheduler.specs.State.{State, is_running, body_of, table_of, runner, held_in}
 use Rattle.scheduler.specs.Event.{Event, Activate, Finish, Chain, Get, Release, Tick, Line, Start, Stop, Wait, Set, Clear}
 use Rattle.scheduler.specs.Call.{no_caller, nobody_runs, caller, calling, active, latest_is, request_waits, checks_of, activate_status, finish_status, chain_status, get_status, release_status, line_status, longest_delay, start_status, stop_status, wait_status, set_status, clear_status}
 use Rattle.scheduler.specs.Scheduler.{step, step_by}
 use Rattle.scheduler.specs.History.{AcceptedIn}
-use Rattle.scheduler.proofs.Body.{suspended_is}
 use Rattle.scheduler.proofs.Choice.Runner.{runner_timed}
 use Rattle.scheduler.proofs.Event.Effects.{clash}
 
@@ -99,8 +98,14 @@ unfolding step_by
 first_given_lem c s e before k rest q none f = ap first_given q ∙ first_fails before k rest (none_passed before none) f
 
 inactive : (s : State) (t : ℕ) → active s t ≡ false → (body_of s t).phase ≡ suspended
-inactive s t e =
-    suspended_is (body_of s t).phase (not-false (is_suspended (body_of s t).phase) e)
+inactive s t e = go (body_of s t).phase e
+  where
+    go : (p : Phase) → not (is_suspended p) ≡ false → p ≡ suspended
+    go suspended e = refl
+    go ready e = absurd (true≢false e)
+    go started e = absurd (true≢false e)
+    go (waiting w) e = absurd (true≢false e)
+    go (triggered x) e = absurd (true≢false e)
 
 -- the nine calls that a time-triggered task may not make: "no call but Finish"
 abbrev is_barred : Event → Bool
@@ -185,6 +190,17 @@ module _ (c : Config) (s : State) (free : no_caller (runner c s) ≡ false) (t :
 -- who gets a resource is a declared user, and gets what nobody holds; Start's statuses come in this order
 get_user : (c : Config) (s : State) (r : ℕ) → get_status c s r ≡ done → is_user c r (caller c s) ≡ true
 get_user c s r e = not-false (is_user c r (caller c s)) (all_passed (checks_of c s (Get r)) (omega arith) e).1.1.0
+
+get_accepted : (c : Config) (s : State) (r : ℕ) → no_caller (runner c s) ≡ false → r < c.resources
+    → is_user c r (caller c s) ≡ true
+    → held_in r s.bodies ≡ false
+    → get_status c s r ≡ done
+unfolding first_given
+get_accepted c s r free there user none = rw (free, lt-leb c.resources r there, user, none)
+
+start_statuses : (c : Config) (s : State) (t d : ℕ)
+    → map (λ k. k.status) (checks_of c s (Start t d)) ≡ 2 ∷ 3 ∷ 8 ∷ 7 ∷ []
+start_statuses c s t d = refl
 
 module _ (c : Config) (s : State) where
   -- somebody runs whom the call is open to

@@ -1,9 +1,9 @@
 -- What an event leaves as it was.
 --
--- In order: a change of one body leaves the others, and what it is to each body (`each_changing`); what every effect
--- (`effect_of_keeps`) and every refusal (`else_of_keeps`) keeps; no event adds a body or a table; no call but a lost line
--- that is counted changes a loss.
-use Prim.Native.Nat.{ℕ, zero, suc, ◌<◌}
+-- In order: a change of one body leaves the others and the tables; what every effect (`effect_of_keeps`) and every
+-- refusal (`else_of_keeps`) keeps; no event adds a body or a table; no call but a lost line that is counted changes a
+-- loss.
+use Prim.Native.Nat.{ℕ, ◌<◌}
 use mathlib.Core.Path.{◌≡◌, refl, sym, ap, ◌∙◌}
 use mathlib.Core.Bool.{Bool, true, false, true≢false, cond, ◌&&◌}
 use mathlib.Core.List.{List, [], ◌∷◌, ◌++◌, map}
@@ -11,7 +11,7 @@ use mathlib.Core.Logic.{◌≢◌}
 use native.Mathlib.Omega.{arith}
 use borrow.Author.Tests.{eq-eqb, ne_eqb}
 use lib.Dec.{eqb}
-use lib.ListN.{length, get_or, set, take, length-set, length-map, length-replicate, replicate, get_or-map}
+use lib.ListN.{length, get_or, take, length-set, length-map, length-replicate, replicate, get_or-map}
 use lib.Seq.{get_or-set_same, get_or-set_other, map-set_same}
 use Rattle.number.proofs.Cases.{by_eq, cond_either}
 use Rattle.config.specs.declared.Config.{Config}
@@ -35,27 +35,43 @@ module _ (i : ℕ) (f : Body → Body) (s : State) where
   pub length_changing : length (changing i f s).bodies ≡ length s.bodies
   length_changing = length-set s.bodies i (f (body_of s i))
 
--- what holds between each body and itself, and between body k and y,
--- holds between each body and what it is after body k became y
-pub each_becoming : (P : Body → Body → Type 0) → ((x : Body) → P x x) → (bs : List Body) (k : ℕ) (y : Body)
-    → P (get_or bs k no_body) y
-    → (i : ℕ)
-    → P (get_or bs i no_body) (get_or (set bs k y) i no_body)
-each_becoming P same [] k y h i = same no_body
-each_becoming P same (b ∷ bs) zero y h zero = h
-each_becoming P same (b ∷ bs) zero y h (suc i) = same (get_or bs i no_body)
-each_becoming P same (b ∷ bs) (suc k) y h zero = same b
-each_becoming P same (b ∷ bs) (suc k) y h (suc i) = each_becoming P same bs k y h i
-
-pub each_changing : (P : Body → Body → Type 0) → ((x : Body) → P x x) → (k : ℕ) (f : Body → Body) (s : State)
-    → P (body_of s k) (f (body_of s k))
-    → (i : ℕ)
-    → P (body_of s i) (body_of (changing k f s) i)
-each_changing P same k f s = each_becoming P same s.bodies k (f (body_of s k))
+  tables_changing : (changing i f s).tables ≡ s.tables
+  tables_changing = refl
 
 -- the same state but for the order of the started time-triggered tasks
 abbrev with_order : List ℕ → State → State
 with_order js s = record { bodies = s.bodies; tables = s.tables; order = js }
+
+-- what Activate, Chain, Wait, Set and Clear do, and that the fresh start ends as every event does
+activate_effect_lem : (c : Config) (s : State) (t : ℕ) → effect_of c s (Activate t) ≡ changing t activated s
+activate_effect_lem c s t = refl
+
+chain_effect_lem : (c : Config) (s : State) (t : ℕ)
+    → effect_of c s (Chain t) ≡ changing t activated (changing (caller c s) finished s)
+chain_effect_lem c s t = refl
+
+wait_effect_lem : (c : Config) (s : State) (w : ℕ) → effect_of c s (Wait w) ≡ changing (caller c s) (waits w) s
+wait_effect_lem c s w = refl
+
+set_effect_lem : (c : Config) (s : State) (t w : ℕ) → effect_of c s (Set t w) ≡ changing t (receives w) s
+set_effect_lem c s t w = refl
+
+clear_effect_lem : (c : Config) (s : State) (w : ℕ) → effect_of c s (Clear w) ≡ changing (caller c s) (clears w) s
+clear_effect_lem c s w = refl
+
+fresh_dispatched : (c : Config) → fresh c ≡ dispatched c (unstarted c)
+fresh_dispatched c = refl
+
+-- a time-triggered task that is started is the latest, and leaves the order at its end; due while it is started it
+-- loses
+starting_latest : (t : ℕ) (s : State) → (starting t s).order ≡ t ∷ s.order
+starting_latest t s = refl
+
+finish_latest : (i : ℕ) (s : State) → (finish_timed i s).order ≡ rest s.order
+finish_latest i s = refl
+
+trigger_loses : (t : ℕ) (s : State) → is_suspended (body_of s t).phase ≡ false → trigger t s ≡ changing t loses s
+trigger_loses t s h = rw h
 
 -- two events of different kinds are not equal
 pub clash : ◌≡◌ {A = ℕ} 0 1 → ⊥
@@ -151,25 +167,16 @@ abbrev pub entered : Bool → Body → Body
 entered true = triggered_by_entry
 entered false = activated_by_entry
 
--- what every due entry keeps between two states
-pub enters_relate : (R : State → State → Type 0) (c c' : Config)
-    → ((t : ℕ) (s s' : State) → R s s' → R (enter c t s) (enter c' t s'))
-    → (ds : List Bool) (ts : List ℕ) (s s' : State)
-    → R s s'
-    → R (activating_due c ds ts s) (activating_due c' ds ts s')
-unfolding activating_due
-enters_relate R c c' on_entry [] ts s s' r = r
-enters_relate R c c' on_entry (true ∷ ds) [] s s' r = r
-enters_relate R c c' on_entry (false ∷ ds) [] s s' r = r
-enters_relate R c c' on_entry (true ∷ ds) (t ∷ ts) s s' r =
-    enters_relate R c c' on_entry ds ts (enter c t s) (enter c' t s') (on_entry t s s' r)
-enters_relate R c c' on_entry (false ∷ ds) (t ∷ ts) s s' r = enters_relate R c c' on_entry ds ts s s' r
-
--- and of one
+-- what every due entry keeps
 module _ (c : Config) (P : State → Type 0) where
   pub enters_keep : ((t : ℕ) (s : State) → P s → P (enter c t s)) → (ds : List Bool) (ts : List ℕ) (s : State) → P s
       → P (activating_due c ds ts s)
-  enters_keep on_entry ds ts s = enters_relate (λ x _. P x) c c (λ t x _. on_entry t x) ds ts s s
+  unfolding activating_due
+  enters_keep on_entry [] ts s p = p
+  enters_keep on_entry (true ∷ ds) [] s p = p
+  enters_keep on_entry (false ∷ ds) [] s p = p
+  enters_keep on_entry (true ∷ ds) (t ∷ ts) s p = enters_keep on_entry ds ts (enter c t s) (on_entry t s p)
+  enters_keep on_entry (false ∷ ds) (t ∷ ts) s p = enters_keep on_entry ds ts s p
 
   -- an entry changes its task's body, and perhaps the order
   enter_keeps : (t : ℕ) (s : State)
@@ -223,6 +230,17 @@ module _ (P : State → Type 0) (on_body : (i : ℕ) (f : Body → Body) (s : St
 
 -- no event adds or takes away a body or a table
 module _ (c : Config) where
+  length_bodies_step : (s : State) (e : Event) → length (step c s e).state.bodies ≡ length s.bodies
+  length_bodies_step s =
+      step_keeps (λ x. length x.bodies ≡ length s.bodies)
+      (λ i f x h. length_changing i f x ∙ h)
+      (λ js x h. h)
+      (λ t y x h. h)
+      (λ x h. h)
+      c
+      s
+      refl
+
   pub length_tables_step : (s : State) (e : Event) → length (step c s e).state.tables ≡ length s.tables
   length_tables_step s =
       step_keeps (λ x. length x.tables ≡ length s.tables)

@@ -67,15 +67,19 @@ times_active x (suc n) b h few =
     one_more_lem = omega arith
 
 -- a suspended one is ready, or triggered, after the first, and loses the others
-times_suspended : (x : Bool) (n : ℕ) (b : Body) → b.phase ≡ suspended → b.losses ≤ most_losses
-    → times x (suc n) b ≡ losing n (cond x (triggers b) (activated b))
+times_suspended : (n : ℕ) (b : Body) → b.phase ≡ suspended → b.losses ≤ most_losses
+    → times false (suc n) b ≡ losing n (activated b)
 unfolding times
-times_suspended true n b h few =
-    let first : entered true b ≡ triggers b = rw h in
-    ap (times true n) first ∙ times_active true n (triggers b) refl few
-times_suspended false n b h few =
+times_suspended n b h few =
     let first : entered false b ≡ activated b = rw h in
     ap (times false n) first ∙ times_active false n (activated b) refl few
+
+times_triggered : (n : ℕ) (b : Body) → b.phase ≡ suspended → b.losses ≤ most_losses
+    → times true (suc n) b ≡ losing n (triggers b)
+unfolding times
+times_triggered n b h few =
+    let first : entered true b ≡ triggers b = rw h in
+    ap (times true n) first ∙ times_active true n (triggers b) refl few
 
 -- no count is above 65,535
 abbrev FewLosses : State → Type 0
@@ -154,26 +158,22 @@ module _ (c : Config) where
     few : (body_of (after c (fresh c) es) t).losses ≤ most_losses
     few = few_after es (fresh c) few_fresh t
 
-    tick_first : (x : Bool) (k : ℕ) → is_timed c t ≡ x → (body_of (after c (fresh c) es) t).phase ≡ suspended
-        → due_for c (after c (fresh c) es) t ≡ suc k
-        → body_of (ticked c (after c (fresh c) es)) t
-        ≡ losing k
-        (cond x (triggers (body_of (after c (fresh c) es) t)) (activated (body_of (after c (fresh c) es) t)))
-    tick_first x k kind h n =
-        due_times
-        ∙ ap₂ (λ (y : Bool) (m : ℕ). times y m (body_of (after c (fresh c) es) t)) kind n
-        ∙ times_suspended x k (body_of (after c (fresh c) es) t) h few
-
     pub tick_suspended : (k : ℕ) → is_timed c t ≡ false → (body_of (after c (fresh c) es) t).phase ≡ suspended
         → due_for c (after c (fresh c) es) t ≡ suc k
         → body_of (ticked c (after c (fresh c) es)) t ≡ losing k (activated (body_of (after c (fresh c) es) t))
-    tick_suspended = tick_first false
+    tick_suspended k free h n =
+        due_times
+        ∙ ap₂ (λ (x : Bool) (m : ℕ). times x m (body_of (after c (fresh c) es) t)) free n
+        ∙ times_suspended k (body_of (after c (fresh c) es) t) h few
 
     -- a time-triggered one is triggered once
     pub tick_triggered : (k : ℕ) → is_timed c t ≡ true → (body_of (after c (fresh c) es) t).phase ≡ suspended
         → due_for c (after c (fresh c) es) t ≡ suc k
         → body_of (ticked c (after c (fresh c) es)) t ≡ losing k (triggers (body_of (after c (fresh c) es) t))
-    tick_triggered = tick_first true
+    tick_triggered k timed h n =
+        due_times
+        ∙ ap₂ (λ (x : Bool) (m : ℕ). times x m (body_of (after c (fresh c) es) t)) timed n
+        ∙ times_triggered k (body_of (after c (fresh c) es) t) h few
 
     -- "If the task isn't suspended, its loss count rises", by one for each
     pub tick_active : is_suspended (body_of (after c (fresh c) es) t).phase ≡ false

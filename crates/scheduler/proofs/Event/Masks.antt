@@ -1,16 +1,17 @@
 -- Event bits, each bit by itself; what Clear, Set, Wait and an activation make of those of a body; who is resumed.
-use Prim.Native.Nat.{ℕ}
+use Prim.Native.Nat.{ℕ, ◌-◌, ◌^◌, ◌<◌}
 use mathlib.Core.Path.{◌≡◌, refl, sym, ap, ◌∙◌}
 use mathlib.Core.Bool.{Bool, true, false, true≢false, cond, not, ◌&&◌, ◌||◌}
 use mathlib.Core.Logic.{◌↔◌}
+use native.Mathlib.Omega.{arith}
 use borrow.Author.Tests.{eqb-true, eq-eqb, not-false}
 use lib.Bits.{bit_and, and_zero_r}
 use lib.Dec.{eqb}
 use Rattle.number.proofs.Cases.{cond_either}
-use Rattle.number.proofs.Bits.{or_bit, and_bits, no_bit}
+use Rattle.number.proofs.Bits.{or_bit, and_bits, and_not, no_bit}
 use Rattle.number.proofs.Bits as Number
 use Rattle.scheduler.specs.Bits.{bit_set, any_set, with_bits, without_bits}
-use Rattle.scheduler.specs.Body.{Phase, suspended, ready, started, waiting, triggered, is_suspended, has_begun, Body, become, activated, clears, waits, resumed, receives}
+use Rattle.scheduler.specs.Body.{Phase, suspended, ready, started, waiting, triggered, has_begun, Body, become, activated, clears, waits, resumed, receives}
 use Rattle.scheduler.specs.Scheduler.{new_body}
 
 module _ (bits w : ℕ) where
@@ -36,6 +37,11 @@ module _ (bits w : ℕ) where
   pub without_bit : (i : ℕ) → bit_set (without_bits bits w) i ≡ bit_set bits i && not (bit_set w i)
   unfolding without_bits
   without_bit = Number.without_bit bits w
+
+  -- the machine's `&` with the complement clears the same
+  without_and : bits < 2 ^ 32 → w < 2 ^ 32 → bit_and bits (2 ^ 32 - 1 - w) ≡ without_bits bits w
+  unfolding without_bits
+  without_and h k = omega (arith, and_not 32 bits w h k)
 
 -- a body
 module _ (w : ℕ) (b : Body) where
@@ -95,12 +101,3 @@ resumed_begun bits (waiting w) = go (any_set bits w)
     go true = refl
     go false = refl
 resumed_begun bits (triggered x) = refl
-
--- who is resumed was not suspended, and is not
-pub resumed_active : (bits : ℕ) (p : Phase) → is_suspended p ≡ false → is_suspended (resumed bits p) ≡ false
-resumed_active bits suspended h = h
-resumed_active bits ready h = refl
-resumed_active bits started h = refl
-resumed_active bits (waiting w) h =
-    cond_either (λ (p : Phase). is_suspended p ≡ false) (any_set bits w) started (waiting w) refl refl
-resumed_active bits (triggered x) h = refl

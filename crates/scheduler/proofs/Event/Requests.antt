@@ -5,6 +5,7 @@
 use Prim.Native.Nat.{ℕ}
 use mathlib.Core.Path.{◌≡◌, refl, sym, ap, ◌∙◌}
 use mathlib.Core.Bool.{Bool, true, false, true≢false}
+use mathlib.Core.List.{List, [], ◌∷◌}
 use mathlib.Core.Logic.{◌≢◌, ◌⊎◌, inl, inr, ⊎_elim}
 use native.Mathlib.Omega.{arith}
 use borrow.Author.Tests.{eq-eqb, ne_eqb}
@@ -14,19 +15,48 @@ use Rattle.number.proofs.Cases.{by_lt, by_eq, cond_either}
 use Rattle.config.specs.declared.Config.{Config}
 use Rattle.config.specs.Meaning.{is_isr}
 use Rattle.scheduler.specs.Status.{done}
-use Rattle.scheduler.specs.Body.{Body, suspended, waiting, has_begun, become, activated, loses, requested, gets, releases, finished, waits, receives, clears}
+use Rattle.scheduler.specs.Body.{Body, Phase, suspended, ready, started, waiting, triggered, is_started, has_begun, competes, become, activated, loses, requested, gets, releases, finished, waits, receives, clears}
 use Rattle.scheduler.specs.Bits.{any_set, with_bits}
+use Rattle.scheduler.specs.Choice.{by_holding, chosen}
 use Rattle.scheduler.specs.State.{State, no_body, body_of, changing, runner}
 use Rattle.scheduler.specs.Event.{Event, Activate, Finish, Chain, Get, Release, Tick, Line, Start, Stop, Wait, Set, Clear}
 use Rattle.scheduler.specs.Tick.{dues, counted}
 use Rattle.scheduler.specs.Call.{caller, finish, finish_timed, stop, status_of, effect_of, else_of}
-use Rattle.scheduler.specs.Scheduler.{mark_of, leaves, step, step_by}
+use Rattle.scheduler.specs.Scheduler.{begins, mark_of, leaves, step, step_by}
 use Rattle.scheduler.specs.History.{AcceptedIn, Ends}
 use Rattle.scheduler.proofs.Body.{begun_active}
 use Rattle.scheduler.proofs.Event.Masks.{resumed_begun}
+use Rattle.scheduler.proofs.Choice.Runner.{Taken, no_one, body, chosen_from_lem, candidate_active, runner_timed, runner_untimed}
 use Rattle.scheduler.proofs.Event.Checks.{activate_passed, chain_passed}
 use Rattle.scheduler.proofs.Event.Effects.{body_of_changing_same, body_of_changing_other, else_of_keeps, entered, activating_due_keeps}
-use Rattle.scheduler.proofs.Choice.Dispatch.{begins_unbegun, Underway, dispatched_same}
+use Rattle.scheduler.proofs.Choice.Dispatch.{begins_some, Underway, dispatched_same}
+
+-- the body that begins had not begun
+begins_unbegun : (c : Config) (s : State) → begins (runner c s) ≡ true
+    → has_begun (body_of s (runner c s).number).phase ≡ false
+begins_unbegun c s b = by_order s.order refl
+  where
+    unbegun : (p : Phase) → competes p ≡ true → is_started p ≡ false → has_begun p ≡ false
+    unbegun suspended h e = refl
+    unbegun ready h e = refl
+    unbegun started h e = e
+    unbegun (waiting w) h e = absurd (true≢false (sym h))
+    unbegun (triggered x) h e = absurd (true≢false (sym h))
+
+    go : s.order ≡ [] → Taken c s.bodies (chosen c s.bodies)
+        → has_begun (body_of s (runner c s).number).phase ≡ false
+    go o (no_one z) = absurd (true≢false (rw (runner_untimed c s o ∙ z) at (begins_some (runner c s) b).0))
+    go o (body k h p z) =
+        let is = runner_untimed c s o ∙ z ∙ candidate_active c k (body_of s k) (body_of s k).phase p in
+        ap (λ n. has_begun (body_of s n).phase) (ap (λ x. x.number) is)
+        ∙ unbegun (body_of s k).phase p (sym (ap (λ x. x.began) is) ∙ (begins_some (runner c s) b).1)
+
+    by_order : (js : List ℕ) → s.order ≡ js → has_begun (body_of s (runner c s).number).phase ≡ false
+    by_order [] o = go o (chosen_from_lem by_holding refl c s.bodies)
+    by_order (j ∷ js) o =
+        let is = runner_timed c s j js o in
+        ap (λ n. has_begun (body_of s n).phase) (ap (λ x. x.number) is) ∙ sym (ap (λ x. x.began) is)
+        ∙ (begins_some (runner c s) b).1
 
 marked : (b : Bool) → mark_of b ≡ 1 → b ≡ true
 marked true e = refl

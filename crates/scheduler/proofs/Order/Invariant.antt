@@ -1,7 +1,7 @@
 -- The order of the started time-triggered tasks: what holds of it after every list of events (`Orderly`), and what a
 -- Tick does before its dispatch (`tick_order`).
 --
--- In order: the invariant; as a standing of each body; at most 16 are started; a Tick; the other events; the dispatch;
+-- In order: the invariant; as a place for each body; at most 16 are started; a Tick; the other events; the dispatch;
 -- from the fresh start on.
 use Prim.Native.Nat.{ℕ, ◌+◌, ◌-◌, ◌≤◌, ◌<◌, suc}
 use mathlib.Core.Path.{◌≡◌, refl, sym, ap, subst, subst⁻¹, ◌∙◌}
@@ -32,8 +32,8 @@ use Rattle.scheduler.proofs.Choice.Runner.{runner_timed}
 use Rattle.scheduler.proofs.Event.Effects.{body_of_changing_same, body_of_changing_other, by_tick, no_tick, else_of_keeps, new_body_lem}
 use Rattle.scheduler.proofs.Choice.Dispatch.{begins_some}
 use Rattle.scheduler.proofs.Kind.{timed_body}
-use Rattle.scheduler.proofs.Members.{NoneTwice, none_twice_fits, none_among, among_head, among_place}
-use Rattle.scheduler.proofs.Order.Standing.{is_triggered, never_triggered, Standing, other, outside, inside, Standings, standings_with, standings_weaken, inside_standing, triggered_inside, becomes_standings, plain_standings, loses_standings, caller_untimed, effect_standings}
+use Rattle.scheduler.proofs.Members.{Distinct, distinct_fits, none_among, among_head, among_place}
+use Rattle.scheduler.proofs.Order.Standing.{is_triggered, never_triggered, Place, other, asleep, awake, Placed, placed_with, placed_weaken, awake_place, triggered_place, becomes_placed, plain_placed, loses_placed, runner_placed, effect_placed}
 use Rattle.scheduler.proofs.Order.Trigger as Trigger
 
 -- what holds of the order and of the time-triggered tasks after every list of events
@@ -41,7 +41,7 @@ pub record Orderly (c : Config) (s : State) : Type 0 where
   pub bodies_there : length s.bodies ≡ c.bodies
   pub tables_there : length s.tables ≡ c.tables
   -- nobody is started twice
-  pub none_twice : NoneTwice s.order
+  pub none_twice : Distinct s.order
   -- who is started is time-triggered, and has begun
   pub started_timed : (j : ℕ) → among j s.order ≡ true → is_timed c j ≡ true
   pub started_begun : (j : ℕ) → among j s.order ≡ true → (body_of s j).phase ≡ triggered true
@@ -58,25 +58,25 @@ phase_clash : {C : Type 0} → triggered false ≡ triggered true → C
 phase_clash e = absurd (true≢false (sym (ap has_begun e)))
 
 module _ (c : Config) where
-  -- the invariant, as a standing of each body
-  pub standings : {s : State} → Orderly c s → Standings c (λ i. ⊥) s
-  standings {s} o =
+  -- the invariant, as a place for each body
+  pub placed : {s : State} → Orderly c s → Placed c (λ i. ⊥) s
+  placed {s} o =
       record {
         bodies_there = o.bodies_there;
         tables_there = o.tables_there;
         none_twice = o.none_twice;
-        stands = λ i. by_test (is_timed c i) (λ t. timed i t) (λ n. plain i n);
+        places = λ i. by_test (is_timed c i) (λ t. timed i t) (λ n. plain i n);
         to_begin = λ i h. phase_clash (sym h ∙ o.started_begun i (o.triggered_started i false h));
         has_entry = o.has_entry;
       }
     where
-      timed : (i : ℕ) → is_timed c i ≡ true → Standing c i (body_of s i) (among i s.order)
+      timed : (i : ℕ) → is_timed c i ≡ true → Place c i (body_of s i) (among i s.order)
       timed i t =
           by_test (among i s.order)
-          (λ m. inside t m true (o.started_begun i m) (o.timed_free i t) (o.timed_single i t))
-          (λ m. outside t m (o.timed_suspended i t m) (o.timed_free i t) (o.timed_single i t))
+          (λ m. awake t m true (o.started_begun i m) (o.timed_free i t) (o.timed_single i t))
+          (λ m. asleep t m (o.timed_suspended i t m) (o.timed_free i t) (o.timed_single i t))
 
-      plain : (i : ℕ) → is_timed c i ≡ false → Standing c i (body_of s i) (among i s.order)
+      plain : (i : ℕ) → is_timed c i ≡ false → Place c i (body_of s i) (among i s.order)
       plain i n =
           by_test (among i s.order)
           (λ m. absurd (true≢false (sym (o.started_timed i m) ∙ n)))
@@ -89,18 +89,18 @@ module _ (c : Config) where
           untriggered (waiting w) f = refl
           untriggered (triggered x) f = absurd (f x refl)
 
-  pub orderly : {s : State} → Standings c (λ i. ⊥) s → Orderly c s
+  pub orderly : {s : State} → Placed c (λ i. ⊥) s → Orderly c s
   orderly {s} p =
       record {
         bodies_there = p.bodies_there;
         tables_there = p.tables_there;
         none_twice = p.none_twice;
-        started_timed = λ j m. (inside_standing c m (p.stands j)).0;
-        started_begun = λ j m. let a = inside_standing c m (p.stands j) in begun j a.1.0 a.1.1;
-        triggered_started = λ i x h. triggered_inside c x h (p.stands i);
-        timed_suspended = λ i t m. at_rest i t m (p.stands i);
-        timed_free = λ i t. free i t (p.stands i);
-        timed_single = λ i t. single i t (p.stands i);
+        started_timed = λ j m. (awake_place c m (p.places j)).0;
+        started_begun = λ j m. let a = awake_place c m (p.places j) in begun j a.1.0 a.1.1;
+        triggered_started = λ i x h. triggered_place c x h (p.places i);
+        timed_suspended = λ i t m. at_rest i t m (p.places i);
+        timed_free = λ i t. free i t (p.places i);
+        timed_single = λ i t. single i t (p.places i);
         has_entry = p.has_entry;
       }
     where
@@ -108,40 +108,40 @@ module _ (c : Config) where
       begun j true h = h
       begun j false h = absurd (p.to_begin j h)
 
-      at_rest : (i : ℕ) → is_timed c i ≡ true → among i s.order ≡ false → Standing c i (body_of s i) (among i s.order)
+      at_rest : (i : ℕ) → is_timed c i ≡ true → among i s.order ≡ false → Place c i (body_of s i) (among i s.order)
           → (body_of s i).phase ≡ suspended
       at_rest i t m (other n _ h) = absurd (true≢false (sym t ∙ n))
-      at_rest i t m (outside n _ q h r) = q
-      at_rest i t m (inside n k x q h r) = absurd (true≢false (sym k ∙ m))
+      at_rest i t m (asleep n _ q h r) = q
+      at_rest i t m (awake n k x q h r) = absurd (true≢false (sym k ∙ m))
 
-      free : (i : ℕ) → is_timed c i ≡ true → Standing c i (body_of s i) (among i s.order) → (body_of s i).held ≡ []
+      free : (i : ℕ) → is_timed c i ≡ true → Place c i (body_of s i) (among i s.order) → (body_of s i).held ≡ []
       free i t (other n _ h) = absurd (true≢false (sym t ∙ n))
-      free i t (outside n _ q h r) = h
-      free i t (inside n k x q h r) = h
+      free i t (asleep n _ q h r) = h
+      free i t (awake n k x q h r) = h
 
-      single : (i : ℕ) → is_timed c i ≡ true → Standing c i (body_of s i) (among i s.order) → (body_of s i).pending ≡ false
+      single : (i : ℕ) → is_timed c i ≡ true → Place c i (body_of s i) (among i s.order) → (body_of s i).pending ≡ false
       single i t (other n _ h) = absurd (true≢false (sym t ∙ n))
-      single i t (outside n _ q h r) = r
-      single i t (inside n k x q h r) = r
+      single i t (asleep n _ q h r) = r
+      single i t (awake n k x q h r) = r
 
   module _ (ok : Accepted c) (shaped : Shaped c) where
     -- all entries of kind 3 lie in one table, which has at most 16
-    standings_few : {late : ℕ → Type 0} {s : State} → Standings c late s → length s.order ≤ 16
-    standings_few {s = s} p = go s.order refl
+    placed_few : {late : ℕ → Type 0} {s : State} → Placed c late s → length s.order ≤ 16
+    placed_few {s = s} p = go s.order refl
       where
         go : (js : List ℕ) → s.order ≡ js → length js ≤ 16
         go [] o = omega arith
         go (j ∷ js) o =
             omega (
               arith,
-              none_twice_fits (j ∷ js) (tasks c table) (subst NoneTwice o p.none_twice)
+              distinct_fits (j ∷ js) (tasks c table) (subst Distinct o p.none_twice)
                   (λ i h. stands i (subst⁻¹ (λ (l : List ℕ). among i l ≡ true) o h)),
               long,
               ok.few_of_table table at.1,
             )
           where
             started : (i : ℕ) → among i s.order ≡ true → is_timed c i ≡ true
-            started i h = (inside_standing c h (p.stands i)).0
+            started i h = (awake_place c h (p.places i)).0
 
             head : among j s.order ≡ true
             head = subst⁻¹ (λ (l : List ℕ). among j l ≡ true) o (among_head j js)
@@ -212,7 +212,7 @@ module _ (c : Config) where
                     ∙ own.2
 
     pub few_started : {s : State} → Orderly c s → length s.order ≤ 16
-    few_started o = standings_few (standings o)
+    few_started o = placed_few (placed o)
 
   -- the time-triggered task j is started at a Tick
   pub record Started (s : State) (j : ℕ) : Type 0 where
@@ -225,7 +225,7 @@ module _ (c : Config) where
     pub others_begun : (i : ℕ) → i ≢ j → (body_of (ticked c s) i).phase ≢ triggered false
     pub few : length (ticked c s).order ≤ 16
     -- where each body stands before j begins
-    pub standings : Standings c (λ i. i ≡ j) (ticked c s)
+    pub placed : Placed c (λ i. i ≡ j) (ticked c s)
 
   -- what a Tick does before its dispatch: at most one is started
   pub data TickOrder (s : State) : Type 0 where
@@ -234,10 +234,10 @@ module _ (c : Config) where
 
   module _ (ok : Accepted c) (shaped : Shaped c) where
     pub tick_order : {s : State} → Orderly c s → TickOrder s
-    tick_order {s} o = go (Trigger.tick_outcome c ok shaped s (standings o))
+    tick_order {s} o = go (Trigger.tick_outcome c ok shaped s (placed o))
       where
         go : Trigger.Outcome c s (ticked c s) → TickOrder s
-        go (Trigger.same a) = order_same a.order_same (orderly a.standings)
+        go (Trigger.same a) = order_same a.order_same (orderly a.placed)
         go (Trigger.starts j a) =
             starts j
             (record {
@@ -247,16 +247,16 @@ module _ (c : Config) where
               new = a.new;
               was_suspended = a.was_suspended;
               to_begin = a.to_begin;
-              others_begun = λ i d h. d (a.standings.to_begin i h);
-              few = standings_few ok shaped a.standings;
-              standings = a.standings;
+              others_begun = λ i d h. d (a.placed.to_begin i h);
+              few = placed_few ok shaped a.placed;
+              placed = a.placed;
             })
 
   -- the dispatch: the latest begins, if it has to
   abbrev Latest : State → ℕ → Type 0
   Latest s i = (js : List ℕ) × (s.order ≡ i ∷ js)
 
-  orderly_dispatched : {s : State} → Standings c (Latest s) s → Orderly c (dispatched c s)
+  orderly_dispatched : {s : State} → Placed c (Latest s) s → Orderly c (dispatched c s)
   orderly_dispatched {s} p = by_order s.order refl
     where
       -- nobody is started
@@ -267,12 +267,12 @@ module _ (c : Config) where
       chosen_begins o =
           by_test (begins (runner c s))
           (λ e.
-          let is = caller_untimed c p o (begins_some (runner c s) e).0 in
+          let is = runner_placed c p o (begins_some (runner c s) e).0 in
           rw e (rw is.1
           (orderly
-          (plain_standings c (standings_weaken c p (none_late o)) (runner c s).number is.0 (become started)
+          (plain_placed c (placed_weaken c p (none_late o)) (runner c s).number is.0 (become started)
           (λ b h. refl)))))
-          (λ e. rw e (orderly (standings_weaken c p (none_late o))))
+          (λ e. rw e (orderly (placed_weaken c p (none_late o))))
 
       latest_is_lem : (i j : ℕ) (js : List ℕ) → s.order ≡ j ∷ js → Latest s i → i ≡ j
       latest_is_lem i j js o l =
@@ -285,7 +285,7 @@ module _ (c : Config) where
       latest_begins j js o true h =
           rw begun
           (orderly
-          (standings_with c p
+          (placed_with c p
           (λ i q. phase_clash
           (sym q ∙ ap (λ (k : ℕ). (body_of s k).phase) (latest_is_lem i j js o (p.to_begin i q)) ∙ h))))
         where
@@ -296,31 +296,31 @@ module _ (c : Config) where
           (subst⁻¹ (λ (k : Candidate). Orderly c (changing k.number (become (phase_begun k)) s))
           (runner_timed c s j js o)
           (orderly
-          (standings_with c now
+          (placed_with c now
           (λ i q. by_eq i j (λ e. phase_clash (sym q ∙ here i e))
           (λ d. d (latest_is_lem i j js o (p.to_begin i (sym (there i d) ∙ q))))))))
         where
           begun : begins (runner c s) ≡ true
           begun = ap begins (runner_timed c s j js o) ∙ ap (λ (q : Phase). not (has_begun q)) h
 
-          stands : Standing c j (body_of s j) (among j s.order)
-          stands = p.stands j
+          stands : Place c j (body_of s j) (among j s.order)
+          stands = p.places j
 
           head : among j s.order ≡ true
           head = subst⁻¹ (λ (l : List ℕ). among j l ≡ true) o (among_head j js)
 
-          now : Standings c (Latest s) (changing j (become (triggered true)) s)
+          now : Placed c (Latest s) (changing j (become (triggered true)) s)
           now =
-              let a = inside_standing c head (p.stands j) in
-              becomes_standings c p j (become (triggered true) (body_of s j))
-              (λ _. inside a.0 head true refl a.2 a.3) (λ _. (js, o))
+              let a = awake_place c head (p.places j) in
+              becomes_placed c p j (become (triggered true) (body_of s j))
+              (λ _. awake a.0 head true refl a.2 a.3) (λ _. (js, o))
 
           here : (i : ℕ) → i ≡ j → (body_of (changing j (become (triggered true)) s) i).phase ≡ triggered true
           here i e =
               ap (λ (k : ℕ). (body_of (changing j (become (triggered true)) s) k).phase) e
               ∙ ap (λ (b : Body). b.phase)
               (body_of_changing_same j (become (triggered true)) s
-              (omega (arith, p.bodies_there, timed_body c j (inside_standing c head (p.stands j)).0)))
+              (omega (arith, p.bodies_there, timed_body c j (awake_place c head (p.places j)).0)))
 
           there : (i : ℕ) → i ≢ j → (body_of (changing j (become (triggered true)) s) i).phase ≡ (body_of s i).phase
           there i d = ap (λ (b : Body). b.phase) (body_of_changing_other j (become (triggered true)) s i d)
@@ -328,22 +328,22 @@ module _ (c : Config) where
       by_order : (js : List ℕ) → s.order ≡ js → Orderly c (dispatched c s)
       by_order [] o = chosen_begins o
       by_order (j ∷ js) o =
-          let a = inside_standing c (subst⁻¹ (λ (l : List ℕ). among j l ≡ true) o (among_head j js)) (p.stands j) in
+          let a = awake_place c (subst⁻¹ (λ (l : List ℕ). among j l ≡ true) o (among_head j js)) (p.places j) in
           latest_begins j js o a.1.0 a.1.1
 
   -- every effect but a Tick's, and every refusal, leaves the order in order
   pub effect_orderly : {s : State} → Orderly c s → (e : Event) → e ≢ Tick → AcceptedIn c s e
       → Orderly c (effect_of c s e)
-  effect_orderly o e n a = orderly (effect_standings c (standings o) e n a)
+  effect_orderly o e n a = orderly (effect_placed c (placed o) e n a)
 
   pub refusal_orderly : {s : State} → Orderly c s → (st : ℕ) (e : Event) → Orderly c (else_of c s st e)
-  refusal_orderly {s} o st e = else_of_keeps c s (Orderly c) o st e (λ i _ _ _. orderly (loses_standings c (standings o) i))
+  refusal_orderly {s} o st e = else_of_keeps c s (Orderly c) o st e (λ i _ _ _. orderly (loses_placed c (placed o) i))
 
   module _ (ok : Accepted c) (shaped : Shaped c) where
     -- before the dispatch
-    leaves_standings : {s : State} → Orderly c s → (e : Event) → Standings c (Latest (leaves c s e)) (leaves c s e)
+    leaves_placed : {s : State} → Orderly c s → (e : Event) → Placed c (Latest (leaves c s e)) (leaves c s e)
     unfolding step_by
-    leaves_standings {s} o e =
+    leaves_placed {s} o e =
         by_eq (status_of c s e) done
         (λ a. rw (eq-eqb (status_of c s e) done a)
         (by_tick e
@@ -351,27 +351,27 @@ module _ (c : Config) where
         (λ n. none (effect_orderly o e (no_tick e n) a))))
         (λ n. rw (ne_eqb (status_of c s e) done n) (none (refusal_orderly o (status_of c s e) e)))
       where
-        none : {x : State} → Orderly c x → Standings c (Latest x) x
-        none y = standings_weaken c (standings y) (λ i f. absurd f)
+        none : {x : State} → Orderly c x → Placed c (Latest x) x
+        none y = placed_weaken c (placed y) (λ i f. absurd f)
 
-        ticks : TickOrder s → Standings c (Latest (ticked c s)) (ticked c s)
+        ticks : TickOrder s → Placed c (Latest (ticked c s)) (ticked c s)
         ticks (order_same q y) = none y
         ticks (starts j y) =
-            standings_weaken c y.standings (λ i h. (s.order, y.order_is ∙ ap (λ (k : ℕ). k ∷ s.order) (sym h)))
+            placed_weaken c y.placed (λ i h. (s.order, y.order_is ∙ ap (λ (k : ℕ). k ∷ s.order) (sym h)))
 
     pub orderly_step : {s : State} → Orderly c s → (e : Event) → Orderly c (step c s e).state
     unfolding step_by
-    orderly_step o e = orderly_dispatched (leaves_standings o e)
+    orderly_step o e = orderly_dispatched (leaves_placed o e)
 
-    unstarted_standings : Standings c (λ i. ⊥) (unstarted c)
+    unstarted_placed : Placed c (λ i. ⊥) (unstarted c)
     unfolding among
-    unstarted_standings =
+    unstarted_placed =
         record {
           bodies_there = length-map (take c.bodies c.autostart) new_body
               ∙ length-take-le c.bodies c.autostart (omega (arith, ok.few_bodies, shaped.autostarts));
           tables_there = length-replicate c.tables stopped;
           none_twice = tt;
-          stands = λ i. by_test (is_timed c i) (λ t. timed i t) (λ n. other n refl (plain i));
+          places = λ i. by_test (is_timed c i) (λ t. timed i t) (λ n. other n refl (plain i));
           to_begin = λ i h. never_triggered (body_of (unstarted c) i).phase false (plain i) h;
           has_entry = λ j h. none_among j h;
         }
@@ -385,8 +385,8 @@ module _ (c : Config) where
             go false = refl
 
         -- none is autostart
-        timed : (i : ℕ) → is_timed c i ≡ true → Standing c i (body_of (unstarted c) i) false
-        timed i t = rw (none) (outside t refl refl refl refl)
+        timed : (i : ℕ) → is_timed c i ≡ true → Place c i (body_of (unstarted c) i) false
+        timed i t = rw (none) (asleep t refl refl refl refl)
           where
             none : body_of (unstarted c) i ≡ no_body
             none =
@@ -394,10 +394,10 @@ module _ (c : Config) where
                 ∙ ap new_body (get_or-take c.bodies c.autostart i 0 (timed_body c i t) ∙ timed_no_autostart c ok i t)
 
     pub orderly_unstarted : Orderly c (unstarted c)
-    orderly_unstarted = orderly unstarted_standings
+    orderly_unstarted = orderly unstarted_placed
 
     pub orderly_fresh : Orderly c (fresh c)
-    orderly_fresh = orderly_dispatched (standings_weaken c unstarted_standings (λ i f. absurd f))
+    orderly_fresh = orderly_dispatched (placed_weaken c unstarted_placed (λ i f. absurd f))
 
     pub orderly_after : (es : List Event) {s : State} → Orderly c s → Orderly c (after c s es)
     unfolding after_by
@@ -406,7 +406,7 @@ module _ (c : Config) where
 
     -- whoever is triggered begins at once: after no list of events has one still to begin
     pub begun_once : (es : List Event) (i : ℕ) → (body_of (after c (fresh c) es) i).phase ≢ triggered false
-    begun_once es i h = (standings (orderly_after es orderly_fresh)).to_begin i h
+    begun_once es i h = (placed (orderly_after es orderly_fresh)).to_begin i h
 
 -- a Tick starts one that was suspended, which is then the latest, or leaves the order
 pub tick_latest : (c : Config) → Accepted c → Shaped c → (es : List Event)

@@ -1,7 +1,7 @@
--- Where each body stands to the order of the started time-triggered tasks (`Standings`), and that every effect but a
--- Tick's leaves it so (`effect_standings`, at the end of the file).
+-- Where each body stands to the order of the started time-triggered tasks (`Placed`), and that every effect but a
+-- Tick's leaves it so (`effect_placed`, at the end of the file).
 --
--- In order: one body's standing; what a change of one body, an end and the runner are to it; the effects. `late i` says
+-- In order: one body's place; what a change of one body, an end and the runner are to it; the effects. `late i` says
 -- that body i may be triggered and still have to begin: nobody after an event, the latest before a dispatch.
 use Prim.Native.Nat.{ℕ, ◌≤◌, ◌<◌}
 use mathlib.Core.Path.{◌≡◌, refl, sym, ap, subst, subst⁻¹, ◌∙◌}
@@ -16,16 +16,16 @@ use Rattle.config.specs.declared.Config.{Config}
 use Rattle.config.specs.Meaning.{is_timed, first_of}
 use Rattle.scheduler.specs.Bits.{any_set, with_bits}
 use Rattle.scheduler.specs.Body.{Phase, suspended, ready, started, waiting, triggered, has_begun, competes, Body, become, activated, ended, finished, requested, gets, rest, releases, loses, waits, resumed, receives, clears}
-use Rattle.scheduler.specs.Choice.{Candidate}
+use Rattle.scheduler.specs.Choice.{Candidate, by_holding, chosen}
 use Rattle.scheduler.specs.State.{State, Table, no_body, body_of, changing, with_table, runner, among}
 use Rattle.scheduler.specs.Event.{Event, Activate, Finish, Chain, Get, Release, Tick, Line, Start, Stop, Wait, Set, Clear}
 use Rattle.scheduler.specs.Call.{nobody_runs, caller, finish, finish_timed, effect_of}
 use Rattle.scheduler.specs.Scheduler.{step_by}
 use Rattle.scheduler.specs.History.{AcceptedIn}
-use Rattle.scheduler.proofs.Choice.Runner.{runner_timed, by_priority}
+use Rattle.scheduler.proofs.Choice.Runner.{Taken, no_one, body, chosen_from_lem, candidate_active, runner_timed, runner_untimed}
 use Rattle.scheduler.proofs.Event.Checks.{activate_passed, finish_passed, chain_passed, get_passed, release_passed, line_passed, wait_passed, set_passed, clear_passed, accepted_untimed}
 use Rattle.scheduler.proofs.Kind.{timed_body, isr_untimed, extended_untimed, osek_untimed}
-use Rattle.scheduler.proofs.Members.{NoneTwice, among_head, among_other, among_tail}
+use Rattle.scheduler.proofs.Members.{Distinct, among_head, among_other, among_tail}
 
 abbrev pub is_triggered : Phase → Bool
 is_triggered suspended = false
@@ -38,17 +38,17 @@ pub never_triggered : {C : Type 0} (p : Phase) (x : Bool) → is_triggered p ≡
 never_triggered p x n e = absurd (true≢false (sym (ap is_triggered e) ∙ n))
 
 -- where body i, which is b, stands; m: whether it is in the order
-pub data Standing (c : Config) (i : ℕ) (b : Body) (m : Bool) : Type 0 where
-  other : is_timed c i ≡ false → m ≡ false → is_triggered b.phase ≡ false → Standing c i b m
-  outside : is_timed c i ≡ true → m ≡ false → b.phase ≡ suspended → b.held ≡ [] → b.pending ≡ false → Standing c i b m
-  inside : is_timed c i ≡ true → m ≡ true → (x : Bool) → b.phase ≡ triggered x → b.held ≡ [] → b.pending ≡ false
-      → Standing c i b m
+pub data Place (c : Config) (i : ℕ) (b : Body) (m : Bool) : Type 0 where
+  other : is_timed c i ≡ false → m ≡ false → is_triggered b.phase ≡ false → Place c i b m
+  asleep : is_timed c i ≡ true → m ≡ false → b.phase ≡ suspended → b.held ≡ [] → b.pending ≡ false → Place c i b m
+  awake : is_timed c i ≡ true → m ≡ true → (x : Bool) → b.phase ≡ triggered x → b.held ≡ [] → b.pending ≡ false
+      → Place c i b m
 
-pub record Standings (c : Config) (late : ℕ → Type 0) (s : State) : Type 0 where
+pub record Placed (c : Config) (late : ℕ → Type 0) (s : State) : Type 0 where
   pub bodies_there : length s.bodies ≡ c.bodies
   pub tables_there : length s.tables ≡ c.tables
-  pub none_twice : NoneTwice s.order
-  pub stands : (i : ℕ) → Standing c i (body_of s i) (among i s.order)
+  pub none_twice : Distinct s.order
+  pub places : (i : ℕ) → Place c i (body_of s i) (among i s.order)
   pub to_begin : (i : ℕ) → (body_of s i).phase ≡ triggered false → late i
   pub has_entry : (j : ℕ) → among j s.order ≡ true → (e : ℕ) × (e < first_of c c.tables) × (get_or c.task e 0 ≡ j)
 
@@ -83,115 +83,115 @@ receives_plain w b h = go b.phase h
 
 module _ (c : Config) where
   -- the same of those that are still to begin
-  pub standings_with : {late later : ℕ → Type 0} {s : State} → Standings c late s
+  pub placed_with : {late later : ℕ → Type 0} {s : State} → Placed c late s
       → ((i : ℕ) → (body_of s i).phase ≡ triggered false → later i)
-      → Standings c later s
-  standings_with p f =
+      → Placed c later s
+  placed_with p f =
       record {
         bodies_there = p.bodies_there;
         tables_there = p.tables_there;
         none_twice = p.none_twice;
-        stands = p.stands;
+        places = p.places;
         to_begin = f;
         has_entry = p.has_entry;
       }
 
-  pub standings_weaken : {late later : ℕ → Type 0} {s : State} → Standings c late s → ((i : ℕ) → late i → later i)
-      → Standings c later s
-  standings_weaken p f = standings_with p (λ i h. f i (p.to_begin i h))
+  pub placed_weaken : {late later : ℕ → Type 0} {s : State} → Placed c late s → ((i : ℕ) → late i → later i)
+      → Placed c later s
+  placed_weaken p f = placed_with p (λ i h. f i (p.to_begin i h))
 
   -- who is not time-triggered is not in the order
-  untimed_standing : {i : ℕ} {b : Body} {m : Bool} → is_timed c i ≡ false → Standing c i b m
+  untimed_place : {i : ℕ} {b : Body} {m : Bool} → is_timed c i ≡ false → Place c i b m
       → (m ≡ false) × (is_triggered b.phase ≡ false)
-  untimed_standing t (other n m h) = (m, h)
-  untimed_standing t (outside n m p h q) = absurd (true≢false (sym n ∙ t))
-  untimed_standing t (inside n m x p h q) = absurd (true≢false (sym n ∙ t))
+  untimed_place t (other n m h) = (m, h)
+  untimed_place t (asleep n m p h q) = absurd (true≢false (sym n ∙ t))
+  untimed_place t (awake n m x p h q) = absurd (true≢false (sym n ∙ t))
 
   -- who is in the order is a triggered body that holds nothing
-  pub inside_standing : {i : ℕ} {b : Body} {m : Bool} → m ≡ true → Standing c i b m
+  pub awake_place : {i : ℕ} {b : Body} {m : Bool} → m ≡ true → Place c i b m
       → (is_timed c i ≡ true) × ((x : Bool) × (b.phase ≡ triggered x)) × (b.held ≡ []) × (b.pending ≡ false)
-  inside_standing t (other n m h) = absurd (true≢false (sym t ∙ m))
-  inside_standing t (outside n m p h q) = absurd (true≢false (sym t ∙ m))
-  inside_standing t (inside n m x p h q) = (n, (x, p), h, q)
+  awake_place t (other n m h) = absurd (true≢false (sym t ∙ m))
+  awake_place t (asleep n m p h q) = absurd (true≢false (sym t ∙ m))
+  awake_place t (awake n m x p h q) = (n, (x, p), h, q)
 
   -- who is triggered is in it
-  pub triggered_inside : {i : ℕ} {b : Body} {m : Bool} (x : Bool) → b.phase ≡ triggered x → Standing c i b m → m ≡ true
-  triggered_inside {b = b} x e (other n m h) = never_triggered b.phase x h e
-  triggered_inside {b = b} x e (outside n m p h q) = never_triggered b.phase x (ap is_triggered p) e
-  triggered_inside x e (inside n m y p h q) = m
+  pub triggered_place : {i : ℕ} {b : Body} {m : Bool} (x : Bool) → b.phase ≡ triggered x → Place c i b m → m ≡ true
+  triggered_place {b = b} x e (other n m h) = never_triggered b.phase x h e
+  triggered_place {b = b} x e (asleep n m p h q) = never_triggered b.phase x (ap is_triggered p) e
+  triggered_place x e (awake n m y p h q) = m
 
   module _ {late : ℕ → Type 0} where
     -- body k becomes y
-    pub becomes_standings : {s : State} → Standings c late s → (k : ℕ) (y : Body)
-        → (Standing c k (body_of s k) (among k s.order) → Standing c k y (among k s.order))
+    pub becomes_placed : {s : State} → Placed c late s → (k : ℕ) (y : Body)
+        → (Place c k (body_of s k) (among k s.order) → Place c k y (among k s.order))
         → (y.phase ≡ triggered false → late k)
-        → Standings c late (record { bodies = set s.bodies k y; tables = s.tables; order = s.order })
-    becomes_standings {s} p k y stands begin =
+        → Placed c late (record { bodies = set s.bodies k y; tables = s.tables; order = s.order })
+    becomes_placed {s} p k y stands begin =
         record {
           bodies_there = length-set s.bodies k y ∙ p.bodies_there;
           tables_there = p.tables_there;
           none_twice = p.none_twice;
-          stands = λ i. (at i).0;
+          places = λ i. (at i).0;
           to_begin = λ i. (at i).1;
           has_entry = p.has_entry;
         }
       where
         Fine : ℕ → Body → Type 0
-        Fine i b = Standing c i b (among i s.order) × (b.phase ≡ triggered false → late i)
+        Fine i b = Place c i b (among i s.order) × (b.phase ≡ triggered false → late i)
 
         at : (i : ℕ) → Fine i (get_or (set s.bodies k y) i no_body)
         at i =
             by_eq i k
             (λ same. by_lt k (length s.bodies)
-            (λ fits. rw (same, get_or-set_same s.bodies k y no_body fits) (stands (p.stands k), begin))
-            (λ past. rw (set_out s.bodies k y past) (p.stands i, p.to_begin i)))
-            (λ differs. rw (get_or-set_other s.bodies k i y no_body differs) (p.stands i, p.to_begin i))
+            (λ fits. rw (same, get_or-set_same s.bodies k y no_body fits) (stands (p.places k), begin))
+            (λ past. rw (set_out s.bodies k y past) (p.places i, p.to_begin i)))
+            (λ differs. rw (get_or-set_other s.bodies k i y no_body differs) (p.places i, p.to_begin i))
 
     -- a body that is not time-triggered stays so
-    pub plain_standings : {s : State} → Standings c late s → (k : ℕ) → is_timed c k ≡ false → (f : Body → Body) → KeepsPlain f
-        → Standings c late (changing k f s)
-    plain_standings {s} p k t f keeps =
-        let now = untimed_standing t (p.stands k) in
+    pub plain_placed : {s : State} → Placed c late s → (k : ℕ) → is_timed c k ≡ false → (f : Body → Body) → KeepsPlain f
+        → Placed c late (changing k f s)
+    plain_placed {s} p k t f keeps =
+        let now = untimed_place t (p.places k) in
         let still = keeps (body_of s k) now.1 in
-        becomes_standings p k (f (body_of s k)) (λ _. other t now.0 still)
+        becomes_placed p k (f (body_of s k)) (λ _. other t now.0 still)
         (λ e. never_triggered (f (body_of s k)).phase false still e)
 
-    pub loses_standings : {s : State} → Standings c late s → (k : ℕ) → Standings c late (changing k loses s)
-    loses_standings {s} p k = becomes_standings p k (loses (body_of s k)) go (p.to_begin k)
+    pub loses_placed : {s : State} → Placed c late s → (k : ℕ) → Placed c late (changing k loses s)
+    loses_placed {s} p k = becomes_placed p k (loses (body_of s k)) go (p.to_begin k)
       where
-        go : Standing c k (body_of s k) (among k s.order) → Standing c k (loses (body_of s k)) (among k s.order)
+        go : Place c k (body_of s k) (among k s.order) → Place c k (loses (body_of s k)) (among k s.order)
         go (other n m h) = other n m h
-        go (outside n m q h r) = outside n m q h r
-        go (inside n m x q h r) = inside n m x q h r
+        go (asleep n m q h r) = asleep n m q h r
+        go (awake n m x q h r) = awake n m x q h r
 
     -- the latest ends
-    ended_standings : {s : State} → Standings c late s → (j : ℕ) (js : List ℕ) → s.order ≡ j ∷ js
-        → Standings c late (record { bodies = set s.bodies j (finished (body_of s j)); tables = s.tables; order = js })
-    ended_standings {s} p j js o =
+    ended_placed : {s : State} → Placed c late s → (j : ℕ) (js : List ℕ) → s.order ≡ j ∷ js
+        → Placed c late (record { bodies = set s.bodies j (finished (body_of s j)); tables = s.tables; order = js })
+    ended_placed {s} p j js o =
         record {
           bodies_there = length-set s.bodies j (finished (body_of s j)) ∙ p.bodies_there;
           tables_there = p.tables_there;
-          none_twice = once.1;
-          stands = λ i. (at i).0;
+          none_twice = distinct.1;
+          places = λ i. (at i).0;
           to_begin = λ i. (at i).1;
           has_entry = λ i h. p.has_entry i (subst⁻¹ (λ (l : List ℕ). among i l ≡ true) o (among_tail i j js h));
         }
       where
-        once : NoneTwice (j ∷ js)
-        once = subst NoneTwice o p.none_twice
+        distinct : Distinct (j ∷ js)
+        distinct = subst Distinct o p.none_twice
 
-        stood : (i : ℕ) → Standing c i (body_of s i) (among i (j ∷ js))
-        stood i = subst (λ (l : List ℕ). Standing c i (body_of s i) (among i l)) o (p.stands i)
+        stood : (i : ℕ) → Place c i (body_of s i) (among i (j ∷ js))
+        stood i = subst (λ (l : List ℕ). Place c i (body_of s i) (among i l)) o (p.places i)
 
         Fine : ℕ → Body → Type 0
-        Fine i b = Standing c i b (among i js) × (b.phase ≡ triggered false → late i)
+        Fine i b = Place c i b (among i js) × (b.phase ≡ triggered false → late i)
 
         -- it held nothing, and no request waited
         end : Fine j (finished (body_of s j))
         end =
-            let a = inside_standing (among_head j js) (stood j) in
+            let a = awake_place (among_head j js) (stood j) in
             rw a.3
-            (outside a.0 once.0 refl a.2 refl, λ e. never_triggered suspended false refl e)
+            (asleep a.0 distinct.0 refl a.2 refl, λ e. never_triggered suspended false refl e)
 
         at : (i : ℕ) → Fine i (get_or (set s.bodies j (finished (body_of s j))) i no_body)
         at i =
@@ -207,76 +207,83 @@ module _ (c : Config) where
             past_last : {C : Type 0} → length s.bodies ≤ j → C
             past_last past =
                 absurd (omega
-                (arith, past, p.bodies_there, timed_body c j (inside_standing (among_head j js) (stood j)).0))
+                (arith, past, p.bodies_there, timed_body c j (awake_place (among_head j js) (stood j)).0))
 
     -- the runner, where no time-triggered task is started
-    pub caller_untimed : {s : State} → Standings c late s → s.order ≡ [] → nobody_runs c s ≡ false
+    pub runner_placed : {s : State} → Placed c late s → s.order ≡ [] → nobody_runs c s ≡ false
         → (is_timed c (caller c s) ≡ false) × ((runner c s).timed ≡ false)
-    caller_untimed {s} p o some =
-        let runs = by_priority c s o some in
-        (up (caller c s) runs.may_run (p.stands (caller c s)), runs.untimed)
+    runner_placed {s} p o some = go (chosen_from_lem by_holding refl c s.bodies)
       where
-        up : (k : ℕ) → competes (body_of s k).phase ≡ true → Standing c k (body_of s k) (among k s.order)
+        up : (k : ℕ) → competes (body_of s k).phase ≡ true → Place c k (body_of s k) (among k s.order)
             → is_timed c k ≡ false
         up k h (other n m t) = n
-        up k h (outside n m q r t) = absurd (true≢false (sym h ∙ ap competes q))
-        up k h (inside n m x q r t) = absurd (true≢false (sym h ∙ ap competes q))
+        up k h (asleep n m q r t) = absurd (true≢false (sym h ∙ ap competes q))
+        up k h (awake n m x q r t) = absurd (true≢false (sym h ∙ ap competes q))
 
-    module _ {s : State} (p : Standings c late s) where
-      tabled : (t : ℕ) (x : Table) → Standings c late (with_table t x s)
+        go : Taken c s.bodies (chosen c s.bodies) → (is_timed c (caller c s) ≡ false) × ((runner c s).timed ≡ false)
+        go (no_one z) = absurd (true≢false (sym (rw (runner_untimed c s o ∙ z)) ∙ some))
+        go (body k h q z) =
+            let is = runner_untimed c s o ∙ z ∙ candidate_active c k (body_of s k) (body_of s k).phase q in (
+              ap (λ (x : Candidate). is_timed c x.number) is
+                  ∙ up k q (p.places k),
+              ap (λ (x : Candidate). x.timed) is,
+            )
+
+    module _ {s : State} (p : Placed c late s) where
+      tabled : (t : ℕ) (x : Table) → Placed c late (with_table t x s)
       tabled t x =
           record {
             bodies_there = p.bodies_there;
             tables_there = length-set s.tables t x ∙ p.tables_there;
             none_twice = p.none_twice;
-            stands = p.stands;
+            places = p.places;
             to_begin = p.to_begin;
             has_entry = p.has_entry;
           }
 
       -- a call of a body that is not time-triggered
       call : (f : Body → Body) → KeepsPlain f → s.order ≡ [] → nobody_runs c s ≡ false
-          → Standings c late (changing (caller c s) f s)
-      call f keeps o some = plain_standings p (caller c s) (caller_untimed p o some).0 f keeps
+          → Placed c late (changing (caller c s) f s)
+      call f keeps o some = plain_placed p (caller c s) (runner_placed p o some).0 f keeps
 
-      ends : AcceptedIn c s Finish → Standings c late (effect_of c s Finish)
+      ends : AcceptedIn c s Finish → Placed c late (effect_of c s Finish)
       unfolding step_by
       ends a = go s.order refl
         where
-          go : (js : List ℕ) → s.order ≡ js → Standings c late (effect_of c s Finish)
+          go : (js : List ℕ) → s.order ≡ js → Placed c late (effect_of c s Finish)
           go [] o =
               let some = (finish_passed c s a).0 in
-              rw (caller_untimed p o some).1 (call finished finished_plain o some)
+              rw (runner_placed p o some).1 (call finished finished_plain o some)
           go (j ∷ js) o =
-              subst⁻¹ (λ (x : Candidate). Standings c late
+              subst⁻¹ (λ (x : Candidate). Placed c late
               (cond x.timed (finish_timed x.number s) (finish x.number s)))
               (runner_timed c s j js o)
               (subst⁻¹
-              (λ (l : List ℕ). Standings c late
+              (λ (l : List ℕ). Placed c late
               (record { bodies = (finish j s).bodies; tables = s.tables; order = rest l }))
               o
-              (ended_standings p j js o))
+              (ended_placed p j js o))
 
-      pub effect_standings : (e : Event) → e ≢ Tick → AcceptedIn c s e → Standings c late (effect_of c s e)
+      pub effect_placed : (e : Event) → e ≢ Tick → AcceptedIn c s e → Placed c late (effect_of c s e)
       unfolding step_by
-      effect_standings (Activate t) n a =
-          plain_standings p t (osek_untimed c t (activate_passed c s t a).1) activated (λ b h. refl)
-      effect_standings Finish n a = ends a
-      effect_standings (Chain t) n a =
+      effect_placed (Activate t) n a =
+          plain_placed p t (osek_untimed c t (activate_passed c s t a).1) activated (λ b h. refl)
+      effect_placed Finish n a = ends a
+      effect_placed (Chain t) n a =
           let q = chain_passed c s t a in
-          plain_standings (call finished finished_plain (accepted_untimed c s (Chain t) refl a) q.0) t
+          plain_placed (call finished finished_plain (accepted_untimed c s (Chain t) refl a) q.0) t
           (osek_untimed c t q.2) activated
           (λ b h. refl)
-      effect_standings (Get r) n a = call (gets r) (λ b h. h) (accepted_untimed c s (Get r) refl a) (get_passed c s r a).0
-      effect_standings (Release r) n a =
+      effect_placed (Get r) n a = call (gets r) (λ b h. h) (accepted_untimed c s (Get r) refl a) (get_passed c s r a).0
+      effect_placed (Release r) n a =
           call releases (λ b h. h) (accepted_untimed c s (Release r) refl a) (release_passed c s r a).0
-      effect_standings Tick n a = absurd (n refl)
-      effect_standings (Line i) n a = plain_standings p i (isr_untimed c i (line_passed c s i a).0) requested requested_plain
-      effect_standings (Start t d) n a = tabled t _
-      effect_standings (Stop t) n a = tabled t _
-      effect_standings (Wait w) n a =
+      effect_placed Tick n a = absurd (n refl)
+      effect_placed (Line i) n a = plain_placed p i (isr_untimed c i (line_passed c s i a).0) requested requested_plain
+      effect_placed (Start t d) n a = tabled t _
+      effect_placed (Stop t) n a = tabled t _
+      effect_placed (Wait w) n a =
           call (waits w) (waits_plain w) (accepted_untimed c s (Wait w) refl a) (wait_passed c s w a).0
-      effect_standings (Set t w) n a =
-          plain_standings p t (extended_untimed c t (set_passed c s t w a).2) (receives w) (receives_plain w)
-      effect_standings (Clear w) n a =
+      effect_placed (Set t w) n a =
+          plain_placed p t (extended_untimed c t (set_passed c s t w a).2) (receives w) (receives_plain w)
+      effect_placed (Clear w) n a =
           call (clears w) (λ b h. h) (accepted_untimed c s (Clear w) refl a) (clear_passed c s w a).0

@@ -18,14 +18,14 @@ use Rattle.config.specs.Accepted.{Accepted, Shaped}
 use Rattle.config.proofs.Theorems.{user_ceiling, timed_no_user}
 use Rattle.scheduler.specs.Status.{first_given}
 use Rattle.scheduler.specs.Body.{Body, competes, holds, current}
-use Rattle.scheduler.specs.Choice.{Candidate, by_holding, is_nobody}
+use Rattle.scheduler.specs.Choice.{Candidate, by_holding, chosen, is_nobody}
 use Rattle.scheduler.specs.State.{State, no_body, body_of, runner, among, held_in}
 use Rattle.scheduler.specs.Event.{Event, Get}
 use Rattle.scheduler.specs.Call.{nobody_runs, caller, calling, no_caller}
 use Rattle.scheduler.specs.Scheduler.{step, step_by, fresh, after}
 use Rattle.scheduler.proofs.Body.{started_competes}
-use Rattle.scheduler.proofs.Choice.Runner.{chosen_someone, current_held, runner_timed, runner_untimed, by_priority}
-use Rattle.scheduler.proofs.Choice.Separation.{Separation, holder, holders, set_holds, outranks, reached_separated}
+use Rattle.scheduler.proofs.Choice.Runner.{Taken, no_one, body, chosen_from_lem, chosen_someone, candidate_active, current_held, runner_timed, runner_untimed}
+use Rattle.scheduler.proofs.Choice.Separation.{Kept, holder, holders, set_holds, outranks, reached_kept}
 use Rattle.scheduler.proofs.Order.Invariant.{orderly_fresh, orderly_after}
 use Rattle.scheduler.proofs.Members.{none_among, among_head}
 use Rattle.scheduler.proofs.Resource.Users.{held_by}
@@ -40,27 +40,34 @@ module _ (c : Config) (ok : Accepted c) (shaped : Shaped c) (es : List Event) wh
   abbrev now : State
   now = after c (fresh c) es
 
-  separation : Separation c holder now.bodies
-  separation = reached_separated c ok holders (set_holds c) shaped es
+  kept : Kept c holder now.bodies
+  kept = reached_kept c ok holders (set_holds c) shaped es
 
   -- who runs where no time-triggered task is started
   runs : now.order ≡ [] → nobody_runs c now ≡ false → (caller c now < c.bodies)
       × ((j : ℕ) → j < c.bodies → j ≢ caller c now → holds (body_of now j).held ≡ true
       → current c j (body_of now j) < priority_of c (caller c now))
-  runs o some =
-      let runs = by_priority c now o some in
-      let fits : caller c now < c.bodies = rw separation.size at runs.there in
-      (fits, outranks c ok holders separation (caller c now) fits runs.may_run runs.is_chosen)
+  runs o some = go (chosen_from_lem by_holding refl c now.bodies)
+    where
+      go : Taken c now.bodies (chosen c now.bodies) → (caller c now < c.bodies)
+          × ((j : ℕ) → j < c.bodies → j ≢ caller c now → holds (body_of now j).held ≡ true
+          → current c j (body_of now j) < priority_of c (caller c now))
+      go (no_one z) = absurd (true≢false (sym (ap is_nobody (runner_untimed c now o ∙ z)) ∙ some))
+      go (body k h p z) =
+          let is = runner_untimed c now o ∙ z ∙ candidate_active c k (body_of now k) (body_of now k).phase p in
+          let at : caller c now ≡ k = ap (λ (x : Candidate). x.number) is in
+          let k< : k < c.bodies = rw kept.size at h in
+          rw at (k<, outranks c ok holders kept k k< p z)
 
   -- who holds a resource is one of the bodies, and may run
   holder_there : (i r : ℕ) → among r (body_of now i).held ≡ true
       → (i < c.bodies) × (competes (body_of now i).phase ≡ true)
   holder_there i r h = (
     by_lt i (length now.bodies)
-        (λ l. rw separation.size at l)
+        (λ l. rw kept.size at l)
         (λ l. none_among r
         (sym (ap (λ (b : Body). among r b.held) (get_or-eq_default now.bodies no_body l)) ∙ h)),
-    started_competes (body_of now i).phase (separation.holder_started i (among_holds r (body_of now i).held h)),
+    started_competes (body_of now i).phase (kept.steady i (among_holds r (body_of now i).held h)),
   )
 
   pub holder_below : now.order ≡ [] → (i r : ℕ) → i ≢ caller c now → among r (body_of now i).held ≡ true
@@ -104,7 +111,13 @@ module _ (c : Config) (ok : Accepted c) (shaped : Shaped c) (es : List Event) wh
       none = user_untimed r user
 
       free : no_caller (runner c now) ≡ false
-      free = rw (some, (by_priority c now none some).untimed)
+      free = go (chosen_from_lem by_holding refl c now.bodies)
+        where
+          go : Taken c now.bodies (chosen c now.bodies) → no_caller (runner c now) ≡ false
+          go (no_one z) = absurd (true≢false (sym (ap is_nobody (runner_untimed c now none ∙ z)) ∙ some))
+          go (body k h p z) =
+              let is = runner_untimed c now none ∙ z ∙ candidate_active c k (body_of now k) (body_of now k).phase p in
+              rw (some, ap (λ (x : Candidate). x.timed) is)
 
       there : r < c.resources
       there = ltb-true r c.resources (and_true (ltb r c.resources) _ user).0

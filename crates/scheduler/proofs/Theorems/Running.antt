@@ -22,7 +22,7 @@ use Rattle.scheduler.specs.Scheduler.{begins, dispatched, step, fresh, seen, aft
 use Rattle.scheduler.specs.History.{AcceptedIn, Ends}
 use Rattle.scheduler.proofs.Choice.Runner as Runner
 use Rattle.scheduler.proofs.Choice.Dispatch as Dispatch
-use Rattle.scheduler.proofs.Order.Tasks as Tasks
+use Rattle.scheduler.proofs.Order.Range as Range
 use Rattle.scheduler.proofs.Event.Requests as Requests
 use Rattle.scheduler.proofs.Choice.Ties as Ties
 use Rattle.scheduler.proofs.Order.Invariant as Invariant
@@ -138,18 +138,17 @@ runner_dispatched = Dispatch.chosen_again_begun
 pub underway : (c : Config) (s : State) (e : Event)
     → ((j : ℕ) → among j (step c s e).state.order ≡ true → j < length (step c s e).state.bodies)
     → begins (runner c (step c s e).state) ≡ false
-underway c s e = Dispatch.underway_bodies c (step c s e).state (Dispatch.underway_step c s e)
+underway c s e = Dispatch.underway_named c (step c s e).state (Dispatch.underway_step c s e)
 
 pub started_named : (c : Config) (es : List Event) (j : ℕ) → among j (after c (fresh c) es).order ≡ true
     → j < c.bodies
-started_named c es =
-    Tasks.order_bodies c (after c (fresh c) es) (Tasks.order_timed_after c es (fresh c) (Tasks.order_timed_fresh c))
+started_named c es = Range.named_after c es (fresh c) (Range.named_fresh c)
 
 -- so of a configuration that the reader accepts nobody is left to begin, after every list of events
 pub always_underway : (c : Config) → Configuration.Accepted c → Configuration.Shaped c → (es : List Event)
     → begins (runner c (after c (fresh c) es)) ≡ false
 always_underway c ok shaped es =
-    Dispatch.underway_bodies c (after c (fresh c) es)
+    Dispatch.underway_named c (after c (fresh c) es)
     (Dispatch.underway_after c es (fresh c) (Dispatch.underway_fresh c))
     (λ j h. rw (Invariant.orderly_after c ok shaped es (Invariant.orderly_fresh c ok shaped)).bodies_there
     (started_named c es j h))

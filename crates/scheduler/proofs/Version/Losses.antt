@@ -22,14 +22,14 @@ use Rattle.scheduler.specs.Body.{is_suspended, Body, become, activated, finished
 use Rattle.scheduler.specs.Choice.{Candidate}
 use Rattle.scheduler.specs.State.{State, no_body, body_of, changing, runner}
 use Rattle.scheduler.specs.Event.{Event, Activate, Finish, Chain, Get, Release, Tick, Line, Start, Stop, Wait, Set, Clear}
-use Rattle.scheduler.specs.Tick.{counted, dues, enter}
+use Rattle.scheduler.specs.Tick.{counted, dues, enter, activating_due}
 use Rattle.scheduler.specs.Call.{finish, finish_timed, effect_for, else_of}
 use Rattle.scheduler.specs.Scheduler.{begins, phase_begun, dispatched_to, mark_of, status_for, leaves, step, step_by, new_body, unstarted, fresh, after, after_by}
 use Rattle.scheduler.specs.History.{is_line_of, lines_lost}
 use Rattle.scheduler.specs.Conditions.{◌if◌, Decided, Isr, Requested}
-use Rattle.scheduler.proofs.Event.Effects.{body_of_changing_same, body_of_changing_other, entered, enter_bodies, enters_relate, finished_losses, requested_losses, waits_losses}
+use Rattle.scheduler.proofs.Event.Effects.{body_of_changing_same, body_of_changing_other, entered, enter_bodies, finished_losses, requested_losses, waits_losses}
 use Rattle.scheduler.proofs.Event.Conditions.{conditions}
-use Rattle.scheduler.proofs.Event.Bits.{active_there}
+use Rattle.scheduler.proofs.Event.Bits.{there}
 use Rattle.scheduler.proofs.Version.Agreement.{Alike, alike_both, alike_turned, phase_alike, length_alike, Blind, alike_changing, blind_requested, blind_waits, alike_loses, runner_alike, enter_alike, dues_same, counted_alike, effect_alike, status_alike, step_alike, fresh_alike}
 
 -- Of the body i: the second of two alike states has lost n more, "up to 65,535"
@@ -105,6 +105,15 @@ module _ (c : Config) (v : ℕ) (counts : 2 ≤ v) (i : ℕ) where
           ∙ ap (λ bs. min ((get_or bs i no_body).losses + n) most_losses) (sym out)))
           (λ d. rw (body_of_changing_other t (entered x) s i d, body_of_changing_other t (entered x) s' i d) b.losses)
 
+  entering_behind : (ds : List Bool) (ts : List ℕ) {n : ℕ} {s s' : State} → Behind i n s s'
+      → Behind i n (activating_due first ds ts s) (activating_due later ds ts s')
+  unfolding activating_due
+  entering_behind [] ts b = b
+  entering_behind (true ∷ ds) [] b = b
+  entering_behind (false ∷ ds) [] b = b
+  entering_behind (true ∷ ds) (t ∷ ts) b = entering_behind ds ts (enter_behind t b)
+  entering_behind (false ∷ ds) (t ∷ ts) b = entering_behind ds ts b
+
   dispatched_losses : (k : Candidate) (s : State) → (body_of (dispatched_to k s) i).losses ≡ (body_of s i).losses
   dispatched_losses k s =
       cond_either (λ (x : State). (body_of x i).losses ≡ (body_of s i).losses) (begins k) _ s
@@ -148,8 +157,7 @@ module _ (c : Config) (v : ℕ) (counts : 2 ≤ v) (i : ℕ) where
     effect_behind (Release r) = changed k.number releases (λ x. refl) (λ x. refl)
     effect_behind Tick =
         rw (dues_same c 1 v (counted_alike c 1 v b.alike))
-        (enters_relate (Behind i n) first later (λ t x x'. enter_behind t) (dues later (counted s')) c.task (counted s)
-        (counted s')
+        (entering_behind (dues later (counted s')) c.task
         (kept b (counted_alike c 1 v b.alike) refl refl))
     effect_behind (Line j) = changed j requested blind_requested requested_losses
     effect_behind (Start t d) = kept b (effect_alike c 1 v b.alike k (Start t d)) refl refl
@@ -209,7 +217,7 @@ module _ (c : Config) (v : ℕ) (counts : 2 ≤ v) (i : ℕ) where
             ((3 if ¬ Isr later i) ∷ (4 if Requested (body_of s' i)) ∷ [])
             → i < length s'.bodies
         go (inl (p, e)) = absurd (omega (arith, four, e))
-        go (inr (p, inl (r, e))) = active_there s' i (waits_there r)
+        go (inr (p, inl (r, e))) = there s' i (waits_there r)
         go (inr (p, inr (r, e))) = absurd (omega (arith, four, e))
 
     leaves_behind : (e : Event)

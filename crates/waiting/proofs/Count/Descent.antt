@@ -29,7 +29,7 @@ use Rattle.scheduler.proofs.Choice.Dispatch.{Underway, underway_untimed, underwa
 use Rattle.waiting.specs.Conditions.{waits_to_begin}
 use Rattle.waiting.specs.Finishes.{begins_in}
 use Rattle.waiting.specs.Jobs.{jobs, jobs_before, jobs_ahead}
-use Rattle.waiting.proofs.Count.Sum.{jobs_some, before_own, before_above, before_some, jobs_ahead_set, jobs_ahead_part, jobs_ahead_some}
+use Rattle.waiting.proofs.Count.Sum.{jobs_some, before_own, before_above, before_some, ahead_set, ahead_part, ahead_some}
 use Rattle.waiting.proofs.State.Basic.{basic_phase, unstarted_quiet}
 use Rattle.waiting.proofs.State.NoHolder.{NoHolder, changing_free, finish_free, Leads, active_fits, leads}
 
@@ -96,20 +96,20 @@ module _ (c : Config) (ok : Configuration.Accepted c) (b : ℕ) where
       by_eq k b (λ h. h)
           (λ d. absurd (omega (
             arith,
-            jobs_ahead_part c b s.bodies k fits,
+            ahead_part c b s.bodies k fits,
             before_above c b k (body_of s k) d (above d),
             jobs_some (body_of s k).phase (body_of s k).pending l.active,
           ))),
       refuted (is_started (body_of s b).phase)
           (λ h.
           let own : jobs_before c b b (body_of s b) ≡ 1 = before_own c b (body_of s b) ∙ ap mark_of h in
-          omega (arith, jobs_ahead_part c b s.bodies b (rw a.size (b_fits a waits)))),
+          omega (arith, ahead_part c b s.bodies b (rw a.size (b_fits a waits)))),
     )
 
     -- something is left: it does not begin
     some_ahead : 1 ≤ jobs_ahead c s b → k ≡ b → is_started (body_of s b).phase ≡ false → ⊥
     some_ahead h e n =
-        let r = jobs_ahead_some c b s.bodies h in
+        let r = ahead_some c b s.bodies h in
         by_eq r.0 b
         (λ same.
         let own : jobs_before c b r.0 (body_of s r.0) ≡ 0 =
@@ -137,7 +137,7 @@ module _ (c : Config) (ok : Configuration.Accepted c) (b : ℕ) where
               ∙ rw (waiting_pending (body_of s b) (body_of s b).phase h waits)))
 
       finish_ahead : suc (jobs_ahead c (finish k s) b) ≡ jobs_ahead c s b
-      finish_ahead = omega (arith, jobs_ahead_set c b s.bodies k (finished (body_of s k)) fits, before_finished)
+      finish_ahead = omega (arith, ahead_set c b s.bodies k (finished (body_of s k)) fits, before_finished)
 
       finish_waits : waits_to_begin (finish k s) b ≡ true
       finish_waits =
@@ -181,7 +181,7 @@ module _ (c : Config) (ok : Configuration.Accepted c) (b : ℕ) where
               waiting = rw (body_of_changing_other k (become started) s b (λ e. d (sym e))) waits;
               count = omega (
                 arith,
-                jobs_ahead_set c b s.bodies k (become started (body_of s k)) (rw a.size l.fits),
+                ahead_set c b s.bodies k (become started (body_of s k)) (rw a.size l.fits),
                 before_same,
               );
             }

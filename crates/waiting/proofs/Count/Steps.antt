@@ -12,7 +12,7 @@ use Rattle.scheduler.specs.Status.{done}
 use Rattle.scheduler.specs.State.{State}
 use Rattle.scheduler.specs.Event.{Event, Finish}
 use Rattle.scheduler.specs.Scheduler.{Seen, fresh, after, seen, seen_by}
-use Rattle.scheduler.proofs.Choice.Separation.{holders, set_holds, reached_separated}
+use Rattle.scheduler.proofs.Choice.Separation.{holders, set_holds, reached_kept}
 use Rattle.scheduler.proofs.Choice.Dispatch.{Underway, underway_fresh, underway_after}
 use Rattle.waiting.specs.Conditions.{waits_to_begin, resource_held}
 use Rattle.waiting.specs.Finishes.{begins_in, finishes_within, finishes_until, most_finishes, BeginsAt}
@@ -32,7 +32,7 @@ module _ (c : Config) (ok : Configuration.Accepted c) where
       record {
         basic = reached_basic c basic es;
         free = held_none (after c (fresh c) es) free;
-        size = (reached_separated c ok holders (set_holds c) shaped es).size;
+        size = (reached_kept c ok holders (set_holds c) shaped es).size;
       }
 
   module _ (b : ℕ) where

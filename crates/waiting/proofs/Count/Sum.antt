@@ -1,7 +1,7 @@
 -- The closed count as a sum of shares, one of each body.
 --
--- In order: one body's share; the sum where one body is changed (`jobs_ahead_set`); a share is part of
--- the sum, and a sum that is not 0 has one that is not (`jobs_ahead_some`); the sum's bound.
+-- In order: one body's share; the sum where one body is changed (`ahead_set`); a share is part of
+-- the sum, and a sum that is not 0 has one that is not (`ahead_some`); the sum's bound.
 use Prim.Native.Nat.{ℕ, zero, suc, ◌+◌, ◌*◌, ◌≤◌, ◌<◌}
 use mathlib.Core.Path.{◌≡◌, refl, sym}
 use mathlib.Core.Bool.{Bool, true, false, true≢false}
@@ -87,10 +87,10 @@ module _ (c : Config) (b : ℕ) where
       let rest = set_from (suc i) xs k y (omega arith) in
       rw shift (omega arith)
 
-  pub jobs_ahead_set : (bs : List Body) (k : ℕ) (y : Body) → k < length bs
+  pub ahead_set : (bs : List Body) (k : ℕ) (y : Body) → k < length bs
       → jobs_ahead_from c b 0 (set bs k y) + jobs_before c b k (get_or bs k no_body)
       ≡ jobs_ahead_from c b 0 bs + jobs_before c b k y
-  jobs_ahead_set bs k y h = rw zero-add at (set_from 0 bs k y h)
+  ahead_set bs k y h = rw zero-add at (set_from 0 bs k y h)
 
   part_from : (i : ℕ) (bs : List Body) (k : ℕ) → k < length bs
       → jobs_before c b (i + k) (get_or bs k no_body) ≤ jobs_ahead_from c b i bs
@@ -102,9 +102,9 @@ module _ (c : Config) (b : ℕ) where
       let rest = part_from (suc i) xs k (omega arith) in
       rw shift (omega arith)
 
-  pub jobs_ahead_part : (bs : List Body) (k : ℕ) → k < length bs
+  pub ahead_part : (bs : List Body) (k : ℕ) → k < length bs
       → jobs_before c b k (get_or bs k no_body) ≤ jobs_ahead_from c b 0 bs
-  jobs_ahead_part bs k h = rw zero-add at (part_from 0 bs k h)
+  ahead_part bs k h = rw zero-add at (part_from 0 bs k h)
 
   -- a body with a share, among those that are numbered from i on
   record Some (i : ℕ) (bs : List Body) : Type 0 where
@@ -125,9 +125,9 @@ module _ (c : Config) (b : ℕ) where
           let shift : i + suc r.place ≡ suc i + r.place = omega arith in
           record { place = suc r.place; fits = omega (arith, r.fits); share = rw shift r.share }
 
-  pub jobs_ahead_some : (bs : List Body) → 1 ≤ jobs_ahead_from c b 0 bs
+  pub ahead_some : (bs : List Body) → 1 ≤ jobs_ahead_from c b 0 bs
       → (k : ℕ) × (k < length bs) × (1 ≤ jobs_before c b k (get_or bs k no_body))
-  jobs_ahead_some bs h =
+  ahead_some bs h =
       let r = some_from 0 bs h in
       (r.place, r.fits, rw zero-add at r.share)
 

@@ -14,7 +14,7 @@ use Rattle.config.specs.Meaning.{priority_of, time_triggered}
 use Rattle.config.specs.Accepted.{Accepted, Shaped}
 use Rattle.plan.specs.Rank.{rank_of}
 use Rattle.plan.specs.Plan.{trigger_of, plan_of}
-use Rattle.plan.proofs.Fit.{plan_fits}
+use Rattle.plan.proofs.Fitted.{fitted}
 use Rattle.word.specs.Word.{ranks, has}
 use Rattle.word.proofs.Theorems.{has_union}
 use Rattle.scheduler.specs.Event.{Event}
@@ -29,12 +29,12 @@ use Rattle.waiting.specs.Jobs.{jobs_ahead}
 use Rattle.waiting.proofs.State.BasicKinds.{Basic}
 use Rattle.waiting.proofs.Count.Steps.{finishes_jobs}
 use Rattle.waiting.specs.Words.{jobs_ahead_in}
-use Rattle.waiting.proofs.Words.Ahead.{RanksByPriority, WordsReflect, ahead_words}
+use Rattle.waiting.proofs.Words.Ahead.{Ranked, Reflected, ahead_words}
 use Rattle.waiting.proofs.Model.Held.{held_zero, zero_held}
 
 module _ (c : Config) (ok : Accepted c) (shaped : Shaped c) (es : List Event) where
   sim : Sim c (plan_of c) (rank_of c) (reached c es) (after c (fresh c) es)
-  sim = after_sim (plan_fits c ok shaped) es (fresh_sim (plan_fits c ok shaped))
+  sim = after_sim (fitted c ok shaped) es (fresh_sim (fitted c ok shaped))
 
   -- 32: a resource is held exactly where the word of held resources is not 0
   pub wait_held : (reached c es).held < 2 ^ ranks
@@ -53,16 +53,16 @@ module _ (c : Config) (ok : Accepted c) (shaped : Shaped c) (es : List Event) wh
         simp (lt-ltb b c.bodies h) at (basic.no_timed b) in
         rw other
 
-    ranked : RanksByPriority c (rank_of c)
+    ranked : Ranked c (rank_of c)
     ranked =
         record {
-          rank_lt = λ b h. omega (arith, (plan_fits c ok shaped).rank_lt b h, ok.few_bodies);
-          rank_order = λ a b ha hb l. (plan_fits c ok shaped).rank_order a b ha hb
+          rank_lt = λ b h. omega (arith, (fitted c ok shaped).rank_lt b h, ok.few_bodies);
+          rank_order = λ a b ha hb l. (fitted c ok shaped).rank_order a b ha hb
               (omega (arith, own_level a ha, own_level b hb));
-          rank_inj = (plan_fits c ok shaped).rank_inj;
+          rank_inj = (fitted c ok shaped).rank_inj;
         }
 
-    reflected : WordsReflect c (rank_of c) (reached c es).core.request (reached c es).core.started
+    reflected : Reflected c (rank_of c) (reached c es).core.request (reached c es).core.started
         (after c (fresh c) es)
     reflected =
         record {

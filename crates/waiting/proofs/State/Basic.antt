@@ -4,7 +4,7 @@
 --
 -- In order: one body; what each change of a body keeps; each event, from the fresh start on.
 use Prim.Native.Nat.{ℕ, ◌≤◌}
-use mathlib.Core.Path.{◌≡◌, refl, sym, ◌∙◌}
+use mathlib.Core.Path.{◌≡◌, refl, sym, ap, ◌∙◌}
 use mathlib.Core.Bool.{Bool, true, false, true≢false, cond, not}
 use mathlib.Core.List.{List, [], ◌∷◌}
 use mathlib.Core.Logic.{◌≢◌}
@@ -15,6 +15,7 @@ use Rattle.number.proofs.Cases.{by_test, by_lt, by_eq, cond_either}
 use Rattle.config.specs.declared.Config.{Config}
 use Rattle.scheduler.specs.Status.{done}
 use Rattle.scheduler.specs.Body.{Phase, suspended, ready, started, waiting, triggered, is_started, Body, become, activated, ended, finished, requested, gets, releases, loses, activated_by_entry, receives, clears}
+use Rattle.scheduler.specs.Choice.{Candidate, by_holding, chosen}
 use Rattle.scheduler.specs.State.{State, no_body, body_of, changing, runner}
 use Rattle.scheduler.specs.Event.{Event, Activate, Finish, Chain, Get, Release, Tick, Line, Start, Stop, Wait, Set, Clear}
 use Rattle.scheduler.specs.Tick.{counted, dues, enter}
@@ -22,10 +23,9 @@ use Rattle.scheduler.specs.Call.{caller, finish, finish_timed, status_of, effect
 use Rattle.scheduler.specs.Scheduler.{begins, phase_begun, dispatched, new_body, unstarted, leaves, step, step_by, fresh, after, after_by}
 use Rattle.scheduler.specs.History.{AcceptedIn}
 use Rattle.scheduler.proofs.Body.{finished_used}
-use Rattle.scheduler.proofs.Choice.Runner.{by_priority}
-use Rattle.scheduler.proofs.Choice.Dispatch.{begins_some}
+use Rattle.scheduler.proofs.Choice.Runner.{Taken, no_one, body, chosen_from_lem, candidate_active, runner_untimed}
 use Rattle.scheduler.proofs.Event.Checks.{activate_passed, chain_passed, wait_passed}
-use Rattle.scheduler.proofs.Event.Effects.{each_changing, body_of_changing_same, body_of_changing_other, length_changing, else_of_keeps, enters_keep}
+use Rattle.scheduler.proofs.Event.Effects.{body_of_changing_same, body_of_changing_other, length_changing, else_of_keeps, enters_keep}
 use Rattle.waiting.proofs.State.BasicKinds.{Basic}
 
 -- suspended, ready or started, and only a started one has a request waiting besides
@@ -97,19 +97,37 @@ pub record BasicState (s : State) : Type 0 where
 -- one body is changed
 pub changing_basic : {s : State} → BasicState s → (k : ℕ) (f : Body → Body) → BasicBody (f (body_of s k))
     → BasicState (changing k f s)
-changing_basic {s} r k f h =
-    record {
-      untimed = r.untimed;
-      bodies = λ i. each_changing (λ x y. BasicBody x → BasicBody y) (λ x b. b) k f s (λ _. h) i (r.bodies i);
-    }
+changing_basic {s} r k f h = record { untimed = r.untimed; bodies = at }
+  where
+    at : (i : ℕ) → BasicBody (body_of (changing k f s) i)
+    at i =
+        by_eq i k
+        (λ same. by_lt i (length s.bodies)
+        (λ fits. rw (← same, body_of_changing_same i f s fits) (rw same h))
+        (λ past.
+        let beyond : length (changing k f s).bodies ≤ i = rw (length_changing k f s) past in
+        rw (get_or-eq_default (changing k f s).bodies no_body beyond) refl))
+        (λ other. rw (body_of_changing_other k f s i other) (r.bodies i))
 
 module _ (c : Config) where
   pub dispatched_basic : {s : State} → BasicState s → BasicState (dispatched c s)
   dispatched_basic {s} r =
       by_test (begins (runner c s))
       (λ e. rw e (changing_basic r (runner c s).number (become (phase_begun (runner c s)))
-      (rw (by_priority c s r.untimed (begins_some (runner c s) e).0).untimed)))
+      (go (chosen_from_lem by_holding refl c s.bodies))))
       (λ e. rw e r)
+    where
+      untimed : (runner c s).timed ≡ false
+          → BasicBody (become (phase_begun (runner c s)) (body_of s (runner c s).number))
+      untimed e = rw e
+
+      go : Taken c s.bodies (chosen c s.bodies)
+          → BasicBody (become (phase_begun (runner c s)) (body_of s (runner c s).number))
+      go (no_one z) = untimed (ap (λ (x : Candidate). x.timed) (runner_untimed c s r.untimed ∙ z))
+      go (body k h p z) =
+          untimed
+          (ap (λ (x : Candidate). x.timed)
+          (runner_untimed c s r.untimed ∙ z ∙ candidate_active c k (body_of s k) (body_of s k).phase p))
 
   module _ (basic : Basic c) where
     enter_basic : (t : ℕ) (s : State) → BasicState s → BasicState (enter c t s)

@@ -21,7 +21,7 @@ use Rattle.scheduler.specs.State.{State, no_body, body_of}
 use Rattle.scheduler.specs.Event.{Event}
 use Rattle.scheduler.specs.Call.{request_waits}
 use Rattle.scheduler.specs.Scheduler.{mark_of, fresh, after}
-use Rattle.scheduler.proofs.Choice.Separation.{holders, set_holds, reached_separated}
+use Rattle.scheduler.proofs.Choice.Separation.{holders, set_holds, reached_kept}
 use Rattle.waiting.specs.Conditions.{waits_to_begin}
 use Rattle.waiting.specs.Jobs.{jobs, jobs_before, jobs_ahead_from, jobs_ahead}
 use Rattle.waiting.proofs.Count.Sum.{before_own, before_above, before_below}
@@ -32,13 +32,13 @@ use Rattle.waiting.proofs.Words.Sum.{sum_from, sum_add}
 use Rattle.waiting.proofs.Words.Ones.{ones_from}
 
 -- ranks by priority
-pub record RanksByPriority (c : Config) (rk : ℕ → ℕ) : Type 0 where
+pub record Ranked (c : Config) (rk : ℕ → ℕ) : Type 0 where
   pub rank_lt : (b : ℕ) → b < c.bodies → rk b < ranks
   pub rank_order : (a b : ℕ) → a < c.bodies → b < c.bodies → priority_of c a < priority_of c b → rk a < rk b
   pub rank_inj : (a b : ℕ) → a < c.bodies → b < c.bodies → rk a ≡ rk b → a ≡ b
 
 -- two words that stand for a state's bodies by rank: who waits to begin, and who is started
-pub record WordsReflect (c : Config) (rk : ℕ → ℕ) (request begun : ℕ) (s : State) : Type 0 where
+pub record Reflected (c : Config) (rk : ℕ → ℕ) (request begun : ℕ) (s : State) : Type 0 where
   pub request_lt : request < 2 ^ ranks
   pub begun_lt : begun < 2 ^ ranks
   pub asks : (b : ℕ) → b < c.bodies → has request (rk b) ≡ waits_to_begin s b
@@ -67,7 +67,7 @@ module _ (c : Config) (b : ℕ) where
       let shift : i + suc k ≡ suc i + k = omega arith in
       rw shift at (h (suc k) (omega arith))))
 
-module _ (c : Config) (ok : Configuration.Accepted c) (rk : ℕ → ℕ) (ranked : RanksByPriority c rk)
+module _ (c : Config) (ok : Configuration.Accepted c) (rk : ℕ → ℕ) (ranked : Ranked c rk)
     (b : ℕ) (b< : b < c.bodies) where
   abbrev mark : ℕ → ℕ → ℕ → ℕ
   mark w t j = mark_of (has w (rk j) && leb t (rk j))
@@ -79,7 +79,7 @@ module _ (c : Config) (ok : Configuration.Accepted c) (rk : ℕ → ℕ) (ranked
   mark_below w t j l = by_test (has w (rk j)) (λ h. simp (h, lt-leb t (rk j) l)) (λ h. simp h)
 
   module _ (request begun : ℕ) (s : State) (basic : BasicState s) (size : length s.bodies ≡ c.bodies)
-      (words : WordsReflect c rk request begun s) where
+      (words : Reflected c rk request begun s) where
     before_bits : (j : ℕ) → j < c.bodies
         → jobs_before c b j (body_of s j) ≡ mark request (suc (rk b)) j + mark begun (rk b) j
     before_bits j j< =
@@ -141,8 +141,8 @@ module _ (c : Config) (ok : Configuration.Accepted c) (rk : ℕ → ℕ) (ranked
 
   -- of every state that the fresh start leads to
   pub ahead_words : Configuration.Shaped c → Basic c → (es : List Event) (request begun : ℕ)
-      → WordsReflect c rk request begun (after c (fresh c) es)
+      → Reflected c rk request begun (after c (fresh c) es)
       → jobs_ahead c (after c (fresh c) es) b ≡ jobs_ahead_in request begun (rk b)
   ahead_words shaped basic es request begun =
       ahead_bits request begun (after c (fresh c) es) (reached_basic c basic es)
-      (reached_separated c ok holders (set_holds c) shaped es).size
+      (reached_kept c ok holders (set_holds c) shaped es).size

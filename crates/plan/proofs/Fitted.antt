@@ -18,7 +18,7 @@ use Rattle.plan.specs.Plan.{trigger_of, plan_of}
 use Rattle.config.proofs.Theorems as Configuration
 use Rattle.plan.proofs.Theorems as Plan
 
-pub record PlanFits (c : Config) (p : Plan) (rk : ℕ → ℕ) : Type 0 where
+pub record Fitted (c : Config) (p : Plan) (rk : ℕ → ℕ) : Type 0 where
   pub accepted : Accepted c
   pub shaped : Shaped c
   pub few : c.bodies ≤ max_bodies
@@ -64,8 +64,8 @@ pub record PlanFits (c : Config) (p : Plan) (rk : ℕ → ℕ) : Type 0 where
   pub users_at_lem : (r b : ℕ) → r < c.resources → b < c.bodies → has (get_or p.users r 0) (rk b) ≡ is_user c r b
   pub user_ceiling : (r b : ℕ) → b < c.bodies → is_user c r b ≡ true → priority_of c b ≤ ceiling c r
 
-pub plan_fits : (c : Config) → Accepted c → Shaped c → PlanFits c (plan_of c) (rank_of c)
-plan_fits c ok shaped =
+pub fitted : (c : Config) → Accepted c → Shaped c → Fitted c (plan_of c) (rank_of c)
+fitted c ok shaped =
     record {
       accepted = ok;
       shaped = shaped;
