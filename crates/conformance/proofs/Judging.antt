@@ -1,8 +1,8 @@
 -- The verdict on answers, by its outcomes, and on a record by its length.
 --
---   judged_pass, judged-fail, fail-judged  what pass and fail say of the answers
+--   judged_pass, judged_fail, fail_judged  what pass and fail say of the answers
 --   judged_whole                           one of them is given
---   record_true, record-false              what the test of a record's length says
+--   record_true, record_false              what the test of a record's length says
 use Prim.Native.Nat.{ℕ, ◌*◌, ◌%◌, ◌≤◌, ◌<◌}
 use mathlib.Core.Path.{◌≡◌, refl, sym, ap, ◌∙◌}
 use mathlib.Core.Bool.{true, false, true≢false}

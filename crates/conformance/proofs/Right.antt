@@ -1,8 +1,8 @@
 -- The answers of a record beside those that are expected: how many at the front are right.
 --
---   begin_with_lem, with-begin  what the test of four bytes says
---   answer_first, answer-later  the answers of a list of events, one by one
---   right_le .. first-right     `right_answers` is the first event that is wrong, or the number of events
+--   begin_with_lem, with_begin  what the test of four bytes says
+--   answer_first, answer_later  the answers of a list of events, one by one
+--   right_le .. first_right     `right_answers` is the first event that is wrong, or the number of events
 use Prim.Native.Nat.{ℕ, zero, suc, ◌+◌, ◌*◌, ◌-◌, ◌%◌, ◌≤◌, ◌<◌, min}
 use mathlib.Core.Path.{◌≡◌, refl, sym, ap, ap₂, ◌∙◌}
 use mathlib.Core.Bool.{true, false, true≢false}

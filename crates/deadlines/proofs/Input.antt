@@ -1,9 +1,9 @@
 -- What the call returns and leaves, by its input, with the misses as the machine tells them.
 --
 --   machine_misses_lem                    for every accepted configuration
---   played_accepted                       the configuration of an input that is played is one; played-misses
+--   played_accepted                       the configuration of an input that is played is one; played_misses
 --   Gave cs ts d r d₁                     the call with the list d returns r and leaves d₁ there
---   gave_refused, gave-short, gave-whole  its ways out
+--   gave_refused, gave_short, gave_whole  its ways out
 use Prim.Native.Nat.{ℕ, ◌≤◌, ◌<◌}
 use mathlib.Core.Path.{◌≡◌, sym, ap, ◌∙◌}
 use mathlib.Core.List.{List}

@@ -4,7 +4,7 @@
 --   total ws          the sum of all of them
 --   picked ws v       the code that a value below the sum picks
 --
--- Main laws: `Picked-first`, `picked_exactly`, `share_size`, `each_code_drawn` (proofs/Theorems.antt).
+-- Main laws: `picked_first`, `picked_exactly`, `share_size`, `each_code_drawn` (proofs/Theorems.antt).
 use Rattle.std.specs.Prelude.{ℕ, zero, suc, ◌+◌, ◌-◌, cond, List, [], ◌∷◌, ltb, take, get_or}
 use Rattle.event.specs.Event.{activate, last_code}
 

@@ -5,7 +5,7 @@
 --   event_bytes e     the bytes of e
 --   write_event e n   what the writer of e answers that is lent n bytes; event_written e d: what d holds afterwards
 --
--- Main laws: `read_written` and `Written-Read` (proofs/Theorems.antt).
+-- Main laws: `read_written` and `written_read` (proofs/Theorems.antt).
 use Rattle.std.specs.Prelude.{ℕ, zero, suc, ◌≤◌, ◌<◌, ◌≡◌, Bool, cond, ◌&&◌, ◌||◌, List, [], ◌++◌, leb, ltb, eqb}
 use Rattle.number.specs.declared.NumberRead.{NumberRead}
 use Rattle.number.specs.declared.Written.{Written}

@@ -5,7 +5,7 @@
 --   number_bytes v     the bytes of v
 --   decisive u bs p    how many bytes of bs decide a refusal at p; u says that a number can't be read
 --
--- Main laws: `read_written` and `Written-Read`; `malformed_decided` and `malformed_cut_before` for a refusal's place
+-- Main laws: `read_written` and `written_read`; `malformed_decided` and `malformed_cut_before` for a refusal's place
 -- (proofs/Theorems.antt).
 use Rattle.std.specs.Prelude.{ℕ, zero, suc, ◌+◌, ◌*◌, ◌/◌, ◌%◌, ◌<◌, cond, List, [], ◌∷◌, ltb, eqb, drop, get_or}
 use Rattle.std.specs.Prelude.{Bool}

@@ -6,7 +6,7 @@
 --   within ss p       the place p lies in one of the stretches ss
 --   rebuilt 0 ss ks bs the recording put together again from its kept bytes and its dropped stretches
 --
--- Main laws: `put_together`, `fate_told`, `stretches_apart`, `List-read`, `list_fits`
+-- Main laws: `put_together`, `fate_told`, `stretches_apart`, `list_read`, `list_fits`
 -- (proofs/Theorems.antt).
 use Rattle.std.specs.Prelude.{ℕ, zero, suc, ◌+◌, ◌-◌, ◌≤◌, Bool, false, cond, ◌&&◌, ◌||◌, List, [], ◌∷◌, ◌++◌, leb, ltb, length, take, drop}
 use Rattle.number.specs.Number.{read_number, number_bytes}

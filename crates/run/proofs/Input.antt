@@ -1,9 +1,9 @@
 -- What the run's input is, by its checks in order, and what the run returns and leaves for each.
 --
---   config_refused .. all-readable     what the input is
---   refused_output, short-output       what a refused run leaves
+--   config_refused .. all_readable     what the input is
+--   refused_output, short_output       what a refused run leaves
 --   Ran cs ts d r d₁ m                 the run of cs and ts on the slice d returns r with the last model m, and leaves d₁
---   ran_refused, ran-short, ran-whole  its ways out
+--   ran_refused, ran_short, ran_whole  its ways out
 use Prim.Native.Nat.{ℕ, ◌+◌, ◌*◌, ◌≤◌, ◌<◌}
 use mathlib.Core.Path.{◌≡◌, refl, sym, ap, ◌∙◌}
 use mathlib.Core.Bool.{cond}

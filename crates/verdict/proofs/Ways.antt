@@ -1,7 +1,7 @@
 -- The ways out of the code, each as the verdict that it is.
 --
 --   no_whole, too_many, differs, passes   those of `judge`
---   run_refused, run-counted, run-judged  those of `osek_verdict`, by the result and the output of the run
+--   run_refused, run_counted, run_judged  those of `osek_verdict`, by the result and the output of the run
 use Prim.Native.Nat.{ℕ, ◌*◌, ◌%◌, ◌≤◌, ◌<◌}
 use mathlib.Core.Path.{◌≡◌, refl, sym, ap, ◌∙◌}
 use mathlib.Core.List.{List, ◌++◌}

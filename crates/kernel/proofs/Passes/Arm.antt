@@ -1,7 +1,7 @@
 -- One step of the second pass: what the arm of each code leaves is the step of the event at the place.
 --
 --   Arm                        the event that was read, where the next one stands, and its step
---   activate_arm .. clear-arm  the arms
+--   activate_arm .. clear_arm  the arms
 --   one_of_twelve              there is an arm for every event
 use Prim.Native.Nat.{ℕ, ◌+◌, ◌≤◌, ◌<◌}
 use mathlib.Core.Path.{◌≡◌, refl, sym, ap, ◌∙◌}

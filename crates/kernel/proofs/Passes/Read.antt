@@ -2,7 +2,7 @@
 -- numbers behind it.
 --
 --   known_byte                     the byte at the place of an event that was accepted is a known code
---   none_read, one-read, two-read  the event of a code with no argument, with one and with two
+--   none_read, one_read, two_read  the event of a code with no argument, with one and with two
 use Prim.Native.Nat.{ℕ, ◌+◌, ◌≤◌, ◌<◌}
 use mathlib.Core.Path.{◌≡◌, refl, sym, ap, ◌∙◌}
 use mathlib.Core.Bool.{true}

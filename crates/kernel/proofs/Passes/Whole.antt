@@ -2,7 +2,7 @@
 --
 --   answered                       the answers and then the losses, laid one after the other, are the machine's answers
 --   last_model_lem                 the model after the events is the machine's, from the fresh start of the configuration's plan
---   ran_config_refused .. ran-all  the run's ways out, by what the code read
+--   ran_config_refused .. ran_all  the run's ways out, by what the code read
 --
 use Prim.Native.Nat.{ℕ, ◌+◌, ◌*◌, ◌≤◌, ◌<◌}
 use mathlib.Core.Path.{◌≡◌, sym, ap, ap₂, ◌∙◌}

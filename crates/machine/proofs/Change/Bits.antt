@@ -1,6 +1,6 @@
 -- The event bits of one body change: it gets some by a Set, which may resume it, or its own are cleared.
 --
---   receive_tied, receive-noted  the body b gets the bits of w
+--   receive_tied, receive_noted  the body b gets the bits of w
 --   clear_noted                  the bits of w of body b are cleared
 use Prim.Native.Nat.{ℕ, ◌^◌, ◌<◌}
 use mathlib.Core.Path.{◌≡◌, refl, sym, ap, ap₂, subst, ◌∙◌}

@@ -1,8 +1,8 @@
 -- A body that is changed without beginning or ending: asked for, losing an activation, or getting event bits.
 --
 --   touched_tied  the words follow the body, and the nest does not notice
---   elsewhere     cells and losses have no part in who runs; event-bits-tied: nor have event bits
---   asked_tied    a body is asked for: activate-tied, trigger-tied, line-tied
+--   elsewhere     cells and losses have no part in who runs; event_bits_tied: nor have event bits
+--   asked_tied    a body is asked for: activate_tied, trigger_tied, line_tied
 use Prim.Native.Nat.{ℕ, ◌<◌}
 use mathlib.Core.Path.{◌≡◌, refl, sym, ap, ◌∙◌}
 use mathlib.Core.Bool.{Bool, true, false, true≢false}

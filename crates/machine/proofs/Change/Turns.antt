@@ -1,8 +1,8 @@
 -- Turns of the counter that must pass unmatched: what the switches say of them after a tick, and at a start.
 --
---   switch_on_lem, switch-turn  a switch says whether its cell is on, and whether it has a turn to pass
---   some_holds, some-none       one of the cells from e on
---   on_after, turn-after        a cell's switch after a tick says what the tick made of the cell
+--   switch_on_lem, switch_turn_lem  a switch says whether its cell is on, and whether it has a turn to pass
+--   some_holds, some_none           one of the cells from e on
+--   on_after, turn_after            a cell's switch after a tick says what the tick made of the cell
 use Prim.Native.Nat.{ℕ, zero, suc, ◌+◌, ◌≤◌, ◌<◌}
 use mathlib.Core.Bool.{Bool, true, false, cond, true≢false, ◌&&◌, and-false, or-true}
 use mathlib.Core.List.{List}

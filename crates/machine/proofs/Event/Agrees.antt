@@ -2,10 +2,10 @@
 --
 --   Agrees c p rk m s e  the event e does the same to the model m and to the state s
 --   agrees               an event that ends in an arbitrated model
---   agrees_either        an event with the same status on both sides; agrees-attempt: one that changes nothing where
+--   agrees_either        an event with the same status on both sides; agrees_attempt: one that changes nothing where
 --                        it is refused
 --   settled_done         what an accepted event leaves that may dispatch another body; calm_done: one that does not
---   by_caller            nobody who may call runs on both sides, or one body on both; by-runner: who may not, too
+--   by_caller            nobody who may call runs on both sides, or one body on both; by_runner: who may not, too
 --   call_same, by_call   the same of a status, and of an accepted call
 use Prim.Native.Nat.{ℕ, zero, suc, ◌<◌}
 use mathlib.Core.Path.{◌≡◌, refl, sym, ap, ap₂, subst, ◌∙◌}

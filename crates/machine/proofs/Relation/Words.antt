@@ -2,7 +2,7 @@
 --
 --   Words c rk k bs  the words of the core k are those of the bodies bs
 --   words_changed    one body is changed, and the words follow it
---   competes_on      what one answer about a phase says of another; started-waits
+--   competes_on      what one answer about a phase says of another; started_waits
 --   busy_is          which bodies have a bit at all
 use Prim.Native.Nat.{ℕ, ◌^◌, ◌<◌}
 use mathlib.Core.Path.{◌≡◌, refl, sym, ap, ap₂, ◌∙◌}

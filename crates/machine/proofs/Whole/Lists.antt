@@ -6,7 +6,7 @@
 -- (machine) or whether it is due by the table's arithmetic (scheduler).
 --
 --   event_agrees  one event
---   agreement_from a list of events, from any model that stands for a state; after-sim: what it leaves
+--   agreement_from a list of events, from any model that stands for a state; after_sim: what it leaves
 use Prim.Native.Nat.{ℕ}
 use mathlib.Core.Path.{◌≡◌, refl, ap₂}
 use mathlib.Core.List.{List, [], ◌∷◌}
