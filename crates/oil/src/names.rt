@@ -25,8 +25,8 @@ pub struct Tally {
 
 // Whether the bytes from `a` to `b`, whose hash is `g`, are those from `start` to `end`, whose hash is `h`.
 fn equal(text: &[u8], a: usize, b: usize, g: u64, start: usize, end: usize, h: u64) -> bool
-    requires a_le_b { ((a ≤ b) × (b ≤ length text.now)) × ((start ≤ end) × (end ≤ length text.now)) }
-    requires g_value { take (b - a) (drop a text.now) ≡ take (end - start) (drop start text.now) → g ≡ h }
+    requires in_range { ((a ≤ b) × (b ≤ length text.now)) × ((start ≤ end) × (end ≤ length text.now)) }
+    requires same_hash { take (b - a) (drop a text.now) ≡ take (end - start) (drop start text.now) → g ≡ h }
     ensures { (result ≡ true → take (b - a) (drop a text.now) ≡ take (end - start) (drop start text.now))
         × (take (b - a) (drop a text.now) ≡ take (end - start) (drop start text.now) → result ≡ true) }
 {
@@ -48,7 +48,7 @@ fn search<'a>(
     h: u64,
 ) -> bool
     requires kept { Kept text.now from.now to.now count × ((start ≤ end) × (end ≤ length text.now)) }
-    requires by_index { (j : ℕ) → j < count → name_at text.now from.now to.now j ≡ take (end - start) (drop start text.now)
+    requires hashes_told { (j : ℕ) → j < count → name_at text.now from.now to.now j ≡ take (end - start) (drop start text.now)
         → get_or hashes.now j 0 ≡ h }
     ensures { (result ≡ true → Among text.now from.now to.now count
         (take (end - start) (drop start text.now)))
@@ -81,8 +81,8 @@ pub fn knows<'a>(
     h: u64,
 ) -> bool
     requires gathered { Gathered text.now resource tokens c hashes.now from.now to.now count }
-    requires start_le_end { (start ≤ end) × (end ≤ length text.now) }
-    requires h_value { (h ≡ hashed c.key 0 (take (end - start) (drop start text.now)))
+    requires in_range { (start ≤ end) × (end ≤ length text.now) }
+    requires hash_told { (h ≡ hashed c.key 0 (take (end - start) (drop start text.now)))
         × (in_class c (take (end - start) (drop start text.now)) ≡ true) }
     ensures { result ≡ borne tokens text.now 0 fresh resource
         (take (end - start) (drop start text.now)) }
@@ -109,9 +109,9 @@ fn keep(
     to: &mut [usize; 2048],
     k: Tally,
 ) -> Tally
-    requires gathered_2 { Gathered text.now resource i c hashes.old from.old to.old k.count }
-    requires s_value { (s ≡ progress_after text.now i) × (w ≡ token text.now i) }
-    requires start_le_end { ((w.start ≤ w.end) × (w.end ≤ length text.now)) × ((c.key < prime) × (0 < c.count)) }
+    requires gathered_before { Gathered text.now resource i c hashes.old from.old to.old k.count }
+    requires reached { (s ≡ progress_after text.now i) × (w ≡ token text.now i) }
+    requires in_range { ((w.start ≤ w.end) × (w.end ≤ length text.now)) × ((c.key < prime) × (0 < c.count)) }
     ensures gathered { Gathered text.now resource (i + 1) c hashes.new from.new
         to.new result.count }
     ensures twice { result.twice ≡ cond (twice_at text.now resource c i) (min i k.twice) k.twice }
@@ -164,7 +164,7 @@ pub fn gather(
     from: &mut [usize; 2048],
     to: &mut [usize; 2048],
 ) -> Tally
-    requires key_lt_prime { (c.key < prime) × (0 < c.count) }
+    requires in_range { (c.key < prime) × (0 < c.count) }
     requires hashes_len { (length hashes.old ≡ room) × ((length from.old ≡ room) × (length to.old ≡ room)) }
     ensures gathered { Gathered text.now resource tokens c hashes.new from.new
         to.new result.count }

@@ -28,7 +28,7 @@ fn missing<'a>(
     count: usize,
 ) -> bool
     requires gathered { Gathered text.now true tokens c hashes.now from.now to.now count }
-    requires start_le_end { ((w.start ≤ w.end) × (w.end ≤ length text.now)) × ((c.key < prime) × (0 < c.count)) }
+    requires in_range { ((w.start ≤ w.end) × (w.end ≤ length text.now)) × ((c.key < prime) × (0 < c.count)) }
     ensures { result ≡ in_class c (spelling text.now w) && unborne_at text.now s tokens w }
 {
     if !uses_resource(s) {
@@ -58,7 +58,7 @@ fn first_missing<'a>(
     count: usize,
 ) -> usize
     requires gathered { Gathered text.now true tokens c hashes.now from.now to.now count }
-    requires key_lt_prime { (c.key < prime) × (0 < c.count) }
+    requires in_range { (c.key < prime) × (0 < c.count) }
     ensures { Least bound (missing_at text.now tokens c) result }
 {
     let mut s = fresh();

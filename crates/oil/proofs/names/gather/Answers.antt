@@ -29,9 +29,9 @@ keep-k-requires c = let l = c.loop-i in
     let w : c.next_token-w.result ≡ token t l.i =
     c.next_token-w.ensures ∙ ap (next_token t) l.invariant.0.1.0 in
     record {
-      gathered_2 = l.invariant.1.0;
-      s_value = (l.invariant.0.1.1, w);
-      start_le_end = (rw w (token_lies t l.i), c.requires.key_lt_prime);
+      gathered_before = l.invariant.1.0;
+      reached = (l.invariant.0.1.1, w);
+      in_range = (rw w (token_lies t l.i), c.requires.in_range);
     }
 
 pub loop-i-preserved : goal.loop-i-preserved

@@ -14,69 +14,69 @@ use Rattle.oil.proofs.names.keep.Goals as goal
 pub returns-then-not-bears : goal.returns-then-not-bears
 returns-then-not-bears c = let a = c.args in
     let e : bears a.resource (progress_after a.text.now a.i) ≡ false =
-    rw c.requires.s_value.0 at (sym c.bears.ensures ∙ c.if-not-bears.true) in
+    rw c.requires.reached.0 at (sym c.bears.ensures ∙ c.if-not-bears.true) in
     record {
-      gathered = no_name a.text.now a.resource a.c c.requires.gathered_2 e;
+      gathered = no_name a.text.now a.resource a.c c.requires.gathered_before e;
       twice = rw (twice_unnamed a.text.now a.resource a.c a.i e);
     }
 
 pub returns-then-h-c : goal.returns-then-h-c
 returns-then-h-c c = let a = c.args in
     let e : in_class a.c (spelled a.text.now a.i) ≡ false =
-    rw c.requires.s_value.1 at (class_is a.c (spelling a.text.now a.w) c.hash-h.ensures.0 ∙ ne_eqb _ _ c.if-h-c.true) in
+    rw c.requires.reached.1 at (class_is a.c (spelling a.text.now a.w) c.hash-h.ensures.0 ∙ ne_eqb _ _ c.if-h-c.true) in
     record {
-      gathered = other_class a.text.now a.resource a.c c.requires.gathered_2 e;
+      gathered = other_class a.text.now a.resource a.c c.requires.gathered_before e;
       twice = rw (twice_other a.text.now a.resource a.c a.i e);
     }
 
 pub knows-requires : goal.knows-requires
 knows-requires c = let h = c.hash-h.ensures.0 in
     record {
-      gathered = c.requires.gathered_2;
-      start_le_end = c.requires.start_le_end.0;
-      h_value = (h, class_is c.args.c (spelling c.args.text.now c.args.w) h ∙ eq-eqb _ _ c.if-h-c.false);
+      gathered = c.requires.gathered_before;
+      in_range = c.requires.in_range.0;
+      hash_told = (h, class_is c.args.c (spelling c.args.text.now c.args.w) h ∙ eq-eqb _ _ c.if-h-c.false);
     }
 
 pub returns-then-knows : goal.returns-then-knows
 returns-then-knows c = let a = c.args in
     let named : bears a.resource (progress_after a.text.now a.i) ≡ true =
-    rw c.requires.s_value.0 at
+    rw c.requires.reached.0 at
     (sym c.bears.ensures
     ∙ c.if-not-bears.false) in
     let member : in_class a.c (spelled a.text.now a.i) ≡ true =
-    rw c.requires.s_value.1 at (class_is a.c (spelling a.text.now a.w) c.hash-h.ensures.0 ∙ eq-eqb _ _ c.if-h-c.false) in
+    rw c.requires.reached.1 at (class_is a.c (spelling a.text.now a.w) c.hash-h.ensures.0 ∙ eq-eqb _ _ c.if-h-c.false) in
     let known : borne a.i a.text.now 0 fresh a.resource (spelled a.text.now a.i) ≡ true =
-    rw c.requires.s_value.1 at (sym c.knows.ensures ∙ c.if-knows.true) in record {
-      gathered = rw c.again.ensures.0 (known_before a.text.now a.resource a.c c.requires.gathered_2 known);
+    rw c.requires.reached.1 at (sym c.knows.ensures ∙ c.if-knows.true) in record {
+      gathered = rw c.again.ensures.0 (known_before a.text.now a.resource a.c c.requires.gathered_before known);
       twice = c.again.ensures.1 ∙ rw (twice_is a.text.now a.resource a.c a.i named member ∙ known);
     }
 
 pub returns-then-n-ge-ROOM : goal.returns-then-n-ge-ROOM
 returns-then-n-ge-ROOM c = let a = c.args in
     let named : bears a.resource (progress_after a.text.now a.i) ≡ true =
-    rw c.requires.s_value.0 at
+    rw c.requires.reached.0 at
     (sym c.bears.ensures
     ∙ c.if-not-bears.false) in
     let member : in_class a.c (spelled a.text.now a.i) ≡ true =
-    rw c.requires.s_value.1 at (class_is a.c (spelling a.text.now a.w) c.hash-h.ensures.0 ∙ eq-eqb _ _ c.if-h-c.false) in
+    rw c.requires.reached.1 at (class_is a.c (spelling a.text.now a.w) c.hash-h.ensures.0 ∙ eq-eqb _ _ c.if-h-c.false) in
     let new : borne a.i a.text.now 0 fresh a.resource (spelled a.text.now a.i) ≡ false =
-    rw c.requires.s_value.1 at (sym c.knows.ensures ∙ c.if-knows.false) in record {
-      gathered = no_room_lem a.text.now a.resource a.c c.requires.gathered_2 c.if-n-ge-ROOM.true;
+    rw c.requires.reached.1 at (sym c.knows.ensures ∙ c.if-knows.false) in record {
+      gathered = no_room_lem a.text.now a.resource a.c c.requires.gathered_before c.if-n-ge-ROOM.true;
       twice = rw (twice_is a.text.now a.resource a.c a.i named member ∙ new);
     }
 
 pub returns : goal.returns
 returns c = let a = c.args in
     let named : bears a.resource (progress_after a.text.now a.i) ≡ true =
-    rw c.requires.s_value.0 at
+    rw c.requires.reached.0 at
     (sym c.bears.ensures
     ∙ c.if-not-bears.false) in
     let member : in_class a.c (spelled a.text.now a.i) ≡ true =
-    rw c.requires.s_value.1 at (class_is a.c (spelling a.text.now a.w) c.hash-h.ensures.0 ∙ eq-eqb _ _ c.if-h-c.false) in
+    rw c.requires.reached.1 at (class_is a.c (spelling a.text.now a.w) c.hash-h.ensures.0 ∙ eq-eqb _ _ c.if-h-c.false) in
     let new : borne a.i a.text.now 0 fresh a.resource (spelled a.text.now a.i) ≡ false =
-    rw c.requires.s_value.1 at (sym c.knows.ensures ∙ c.if-knows.false) in record {
-      gathered = one_more_lem a.text.now a.resource a.c c.requires.gathered_2 named c.if-n-ge-ROOM.false a.w.start a.w.end
-          c.hash-h.result (rw c.requires.s_value.1) (rw c.requires.s_value.1)
-          (c.hash-h.ensures.0 ∙ ap (λ (v : Token). hashed a.c.key 0 (spelling a.text.now v)) c.requires.s_value.1);
+    rw c.requires.reached.1 at (sym c.knows.ensures ∙ c.if-knows.false) in record {
+      gathered = one_more_lem a.text.now a.resource a.c c.requires.gathered_before named c.if-n-ge-ROOM.false a.w.start a.w.end
+          c.hash-h.result (rw c.requires.reached.1) (rw c.requires.reached.1)
+          (c.hash-h.ensures.0 ∙ ap (λ (v : Token). hashed a.c.key 0 (spelling a.text.now v)) c.requires.reached.1);
       twice = rw (twice_is a.text.now a.resource a.c a.i named member ∙ new);
     }

@@ -7,8 +7,8 @@ use Rattle.oil.proofs.names.knows.Goals as goal
 pub search-requires : goal.search-requires
 search-requires c = let g = c.requires.gathered in
     record {
-      kept = (g.kept, c.requires.start_le_end);
-      by_index = λ j l q. g.hash j l ∙ ap (hashed c.args.c.key 0) q ∙ sym c.requires.h_value.0;
+      kept = (g.kept, c.requires.in_range);
+      hashes_told = λ j l q. g.hash j l ∙ ap (hashed c.args.c.key 0) q ∙ sym c.requires.hash_told.0;
     }
 
 pub returns-then-search : goal.returns-then-search
@@ -17,5 +17,5 @@ returns-then-search c = let a = c.args in
 
 pub returns-then-count-lt-ROOM : goal.returns-then-count-lt-ROOM
 returns-then-count-lt-ROOM c = let a = c.args in
-    sym (not_among a.text.now a.resource a.c c.requires.gathered c.if-count-lt-ROOM.true c.requires.h_value.1
+    sym (not_among a.text.now a.resource a.c c.requires.gathered c.if-count-lt-ROOM.true c.requires.hash_told.1
     (c.search.ensures.1 c.if-search.false))

@@ -13,8 +13,8 @@ equal-requires c = let i = c.loop-i.i in
     let h = c.loop-i-test.true in
     let k = c.requires.kept.0 in
     record {
-      a_le_b = ((k.forward i h, k.inside i h), c.requires.kept.1);
-      g_value = c.requires.by_index i h;
+      in_range = ((k.forward i h, k.inside i h), c.requires.kept.1);
+      same_hash = c.requires.hashes_told i h;
     }
 
 pub returns-then-equal : goal.returns-then-equal

@@ -24,7 +24,7 @@ missing-requires c = let l = c.loop-i in
     let w : c.next_token-w.result ≡ token t l.i = c.next_token-w.ensures ∙ ap (next_token t) l.invariant.0.1.0 in
     record {
       gathered = c.requires.gathered;
-      start_le_end = (rw w (token_lies t l.i), c.requires.key_lt_prime);
+      in_range = (rw w (token_lies t l.i), c.requires.in_range);
     }
 
 pub returns-then-missing : goal.returns-then-missing

@@ -21,8 +21,8 @@ returns-then-h-c c = let a = c.args in
 pub knows-known-requires : goal.knows-known-requires
 knows-known-requires c = let h = c.hash-h.ensures.0 in record {
   gathered = c.requires.gathered;
-  start_le_end = c.requires.start_le_end.0;
-  h_value = (h, class_is c.args.c (spelling c.args.text.now c.args.w) h ∙ eq-eqb _ _ c.if-h-c.false);
+  in_range = c.requires.in_range.0;
+  hash_told = (h, class_is c.args.c (spelling c.args.text.now c.args.w) h ∙ eq-eqb _ _ c.if-h-c.false);
 }
 
 pub returns : goal.returns
