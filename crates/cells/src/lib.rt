@@ -148,7 +148,6 @@ fn take_matches(
     request: u32,
     losses: &mut [u16; 32],
 ) -> u32
-    requires { length matched.now ≡ max_entries }
     ensures { tally_with result losses.new
         ≡ requests_due begun matched.now ranks.now (tally_with request losses.old) }
 {
@@ -161,6 +160,7 @@ fn take_matches(
 
 // Takes the matches of the group of cells from `from` on. A mark that is set is found by the zeros below it, and not
 // by a branch for each mark, which the processor could not foresee.
+#[tactic(auto, using(crate::proofs::Marks::next_lt, crate::proofs::Marks::zeros_lt))]
 fn take_group(
     from: usize,
     matched: &[bool; 64],
@@ -169,7 +169,7 @@ fn take_group(
     request: u32,
     losses: &mut [u16; 32],
 ) -> u32
-    requires { (from + group ≤ max_entries) × (from + group ≤ length matched.now) }
+    requires { from + group ≤ max_entries }
     ensures { tally_with result losses.new
         ≡ requests_due begun (take group (drop from matched.now)) (drop from ranks.now)
         (tally_with request losses.old) }
