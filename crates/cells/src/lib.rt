@@ -263,9 +263,8 @@ pub fn fill(from: u8, count: u8, to: u16, row: &mut [u16; 64])
     ensures { row.new ≡ spread (λ _. to) (in_row count from) from row.old }
 {
     let until = row_end(from, count);
-    for e in from as usize..until {
-        row[e] = to;
-    }
+    let from = (from as usize).min(until);
+    row[from..until].fill(to);
 }
 
 // Where the `count` elements from `from` on end, or the row.
