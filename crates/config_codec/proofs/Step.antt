@@ -7,15 +7,14 @@ use mathlib.Core.List.{List}
 use native.Mathlib.Nat.{mod-eq_of_lt}
 use native.Mathlib.Omega.{arith}
 use lib.ListN.{length}
+use Rattle.number.specs.Number.{NumberRead}
 use Rattle.number.specs.Refusal.{none}
-use Rattle.number.specs.declared.NumberRead.{NumberRead}
 use Rattle.number.proofs.Cases.{by_test}
 use Rattle.config.specs.declared.Config.{Config}
-use Rattle.config.specs.declared.ConfigRead.{ConfigRead}
 use Rattle.config.specs.declared.Draft.{Draft}
 use Rattle.config.specs.declared.Field.{Field}
 use Rattle.config.specs.Draft.{fault, fault_at, put, put_at, asked, ended, silent, start, Within}
-use Rattle.config.specs.Reader.{accepted, refused, number_at, max_length}
+use Rattle.config.specs.Reader.{ConfigRead, accepted, refused, number_at, max_length}
 use Rattle.config.specs.Writer.{bytes_at}
 use Rattle.config.proofs.Ranges.{InRange, in_range}
 use Rattle.config.proofs.Position.{left, start_within, moved, Moved}

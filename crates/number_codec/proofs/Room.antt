@@ -4,8 +4,7 @@ use mathlib.Core.Path.{◌≡◌}
 use mathlib.Core.List.{List}
 use native.Mathlib.Omega.{arith}
 use lib.ListN.{length, drop, length-drop}
-use Rattle.number.specs.declared.NumberRead.{NumberRead}
-use Rattle.number.specs.Number.{number_bound, groups, leading}
+use Rattle.number.specs.Number.{NumberRead, number_bound, groups, leading}
 use Rattle.number.proofs.Size.{room, room_mono, groups_sized}
 
 -- what comes after a group with its top bit set leaves room for that group

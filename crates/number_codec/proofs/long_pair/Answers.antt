@@ -1,7 +1,6 @@
 -- `long_pair` meets its contract: the second number is read where the first ends.
 use mathlib.Core.Path.{ap, ◌∙◌}
-use Rattle.number.specs.declared.NumberRead.{NumberRead}
-use Rattle.number.specs.Number.{read_number}
+use Rattle.number.specs.Number.{NumberRead, read_number}
 use Rattle.number_codec.proofs.long_pair.Goals as goal
 
 pub returns : goal.returns

@@ -6,8 +6,7 @@ use native.Mathlib.Omega.{arith}
 use lib.ListN.{length, drop, length-drop}
 use mir.Val.{Fits}
 use mir.Syntax.{w64}
-use Rattle.number.specs.declared.NumberRead.{NumberRead}
-use Rattle.number.specs.Number.{shifted, groups, leading, read_number}
+use Rattle.number.specs.Number.{NumberRead, shifted, groups, leading, read_number}
 use Rattle.number.proofs.Size.{groups_sized}
 use Rattle.number_codec.proofs.read_long.Goals as goal
 

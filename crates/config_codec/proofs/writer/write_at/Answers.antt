@@ -7,8 +7,7 @@ use native.Mathlib.Omega.{arith}
 use lib.ListN.{length}
 use borrow.Author.Tests.{le-leb}
 use Rattle.number.specs.Number.{number_bytes}
-use Rattle.number.specs.Output.{writing, written}
-use Rattle.number.specs.declared.Written.{Written}
+use Rattle.number.specs.Output.{Written, writing, written}
 use Rattle.number.proofs.Theorems.{writing_fits, length_written}
 use Rattle.config_codec.specs.Walk.{shown}
 use Rattle.config_codec.proofs.writer.write_at.Goals as goal
