@@ -26,7 +26,7 @@ decode n =
     cond (eqb n 63) GivenTwice (cond (eqb n 64) NoResource (BadRecord)))))))))))))))))))))))))))))
 
 decode_code : (r : Refusal) → decode (code r) ≡ r
-unfolding decode code
+unfolding decode
 decode_code Cut = refl
 decode_code Malformed = refl
 decode_code BadVersion = refl
@@ -63,7 +63,6 @@ code_injective r s e = sym (decode_code r) ∙ ap decode e ∙ decode_code s
 
 -- no refusal has the number 0
 pub code_some : (r : Refusal) → code r ≡ none → ⊥
-unfolding code
 code_some Cut e = absurd (omega (arith, e))
 code_some Malformed e = absurd (omega (arith, e))
 code_some BadVersion e = absurd (omega (arith, e))

@@ -16,7 +16,7 @@ use Rattle.number.specs.Refusal.{none, cut, malformed, no_room}
 use Rattle.number.specs.Number.{NumberRead, accepted, refused}
 use Rattle.number.specs.Output.{Written, unwritten}
 
-unfoldable pub code : Refusal → ℕ
+abbrev pub code : Refusal → ℕ
 code Cut = cut
 code Malformed = malformed
 code BadVersion = 3

@@ -87,7 +87,6 @@ pub struct Reading<T> {
 
 impl Refusal {
     // Document 01's number.
-    #[tactic(auto, unfolding(crate::specs::Answer::code))]
     pub fn code(self) -> u8
         ensures { result ≡ code self }
     {
