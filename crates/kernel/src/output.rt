@@ -3,10 +3,7 @@ ghost use Rattle.std.specs.Prelude.{◌≡◌, cond, [], ◌∷◌, map, ◌+◌
 ghost use Rattle.number.specs.Output.{laid};
 ghost use Rattle.scheduler.specs.Scheduler.{mark_of};
 ghost use Rattle.machine.specs.Model.{no_rank};
-ghost use Rattle.model.specs.View.{status_number};
 ghost use Rattle.run.specs.Run.{loss_bytes};
-
-use model::Status;
 
 // Nobody runs.
 const IDLE: u8 = 255;
@@ -19,11 +16,11 @@ pub fn runner(body: &[u8; 32], rank: u8) -> u8
 }
 
 // Writes the answer of an event.
-pub fn put_answer(status: Status, runner: u8, level: u8, begun: bool, at: usize, out: &mut [u8])
+pub fn put_answer(status: u8, runner: u8, level: u8, begun: bool, at: usize, out: &mut [u8])
     requires { at + 4 ≤ length out.old }
-    ensures { out.new ≡ laid at (status_number status ∷ runner ∷ level ∷ mark_of begun ∷ []) out.old }
+    ensures { out.new ≡ laid at (status ∷ runner ∷ level ∷ mark_of begun ∷ []) out.old }
 {
-    out[at] = status as u8;
+    out[at] = status;
     out[at + 1] = runner;
     out[at + 2] = level;
     out[at + 3] = begun as u8;

@@ -121,8 +121,10 @@ pub fn play<'a, 'b>(
                 o.begun = false;
             }
         }
+        // Here the compiler still knows the arm's status; further down it would ask which one it is.
+        let status = o.status as u8;
         put_answer(
-            o.status,
+            status,
             runner(&plan.body, o.model.registers.runner),
             o.model.registers.level,
             o.begun,
