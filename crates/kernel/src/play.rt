@@ -122,7 +122,7 @@ pub fn play<'a, 'b>(
             }
         }
         // Here the compiler still knows the arm's status; further down it would ask which one it is.
-        let status = o.status as u8;
+        let status = o.status.number();
         put_answer(
             status,
             runner(&plan.body, o.model.registers.runner),

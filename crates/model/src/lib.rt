@@ -40,6 +40,14 @@ pub enum Status {
     NotUser = 33,
 }
 
+impl Status {
+    pub fn number(self) -> u8
+        ensures { result ≡ status_number self }
+    {
+        self as u8
+    }
+}
+
 // Who runs after arbitration, with the words that it leaves, and whether a body began.
 #[derive(Clone, Copy)]
 pub struct Picked {

@@ -11,7 +11,7 @@ use Rattle.kernel.proofs.Passes.Read.{known_byte}
 use Rattle.kernel.proofs.Passes.Arm.{Arm, activate_arm, finish_arm, chain_arm, get_arm, release_arm, tick_arm, line_arm, start_arm, stop_arm, wait_arm, set_arm, clear_arm, one_of_twelve}
 use Rattle.kernel.proofs.Passes.Play.{playing_start, length_out, playing_end, playing_fine, playing_room, playing_later, playing_step}
 use Rattle.kernel.proofs.play.play.Goals as goal
-use Rattle.kernel.proofs.play.play.Goals.{in-1, in-2, in-3, in-4, in-5, in-6, in-7, in-8, in-9, in-10, in-11, in-12, in-0, in-0-2}
+use Rattle.kernel.proofs.play.play.Goals.{in-1, in-2, in-3, in-4, in-5, in-6, in-7, in-8, in-9, in-10, in-11, in-12, in-0, in-0-1, in_default-1}
 
 -- what the arms leave is the step of the event that was read
 armed : (c : goal.After-slice_known-in-loop-at-1)
@@ -34,8 +34,10 @@ armed c =
       | in-10 w ↦ wait_arm inside fine w.in-10.is w.read_number-mask.ensures (ap view_outcome w.o-is ∙ w.wait-o.ensures) w.next-is
       | in-11 w ↦ set_arm inside fine w.in-11.is (w.read_pair-arguments-in-11.ensures.first, (w.read_pair-arguments-in-11.ensures.second, w.read_pair-arguments-in-11.ensures.place)) (ap view_outcome w.o-is ∙ w.set_event-o.ensures) w.next-is
       | in-12 w ↦ clear_arm inside fine w.in-12.is w.read_number-mask-in-12.ensures (ap view_outcome w.o-is ∙ w.clear-o.ensures) w.next-is
-      | in-0 w ↦ absurd (omega (arith, w.in-0.in-0-own.keys13, code))
-      | in-0-2 w ↦ let r = w.in-0.in-0-own.rest in absurd (one_of_twelve _ code.0 code.1 r.0.0.0.0.0.0.0.0.0.0.0.0.1 r.0.0.0.0.0.0.0.0.0.0.0.1 r.0.0.0.0.0.0.0.0.0.0.1 r.0.0.0.0.0.0.0.0.0.1 r.0.0.0.0.0.0.0.0.1 r.0.0.0.0.0.0.0.1 r.0.0.0.0.0.0.1 r.0.0.0.0.0.1 r.0.0.0.0.1 r.0.0.0.1 r.0.0.1 r.0.1)
+      | in-0 w ↦ absurd (elim w.in-0-1.branch [
+          | in-0-1 v ↦ omega (arith, v.in-0-1.keys13, code)
+          | in_default-1 v ↦ let r = v.in_default-1.rest in one_of_twelve _ code.0 code.1 r.0.0.0.0.0.0.0.0.0.0.0.0.1 r.0.0.0.0.0.0.0.0.0.0.0.1 r.0.0.0.0.0.0.0.0.0.0.1 r.0.0.0.0.0.0.0.0.0.1 r.0.0.0.0.0.0.0.0.1 r.0.0.0.0.0.0.0.1 r.0.0.0.0.0.0.1 r.0.0.0.0.0.1 r.0.0.0.0.1 r.0.0.0.1 r.0.0.1 r.0.1
+        ])
     ]
 
 pub loop-at-init : goal.loop-at-init
@@ -53,6 +55,9 @@ loop-at-smaller c = omega (arith, playing_later c.loop-at.invariant c.loop-at-te
 pub loop-at-preserved : goal.loop-at-preserved
 loop-at-preserved c = playing_step c.loop-at.invariant c.loop-at-test.true (armed c) _
     (c.put_answer.ensures
+    ∙ ap (λ (n : ℕ). laid c.loop-at.to
+    (n ∷ c.runner.result ∷ c.match-code.o.model.registers.level ∷ mark_of c.match-code.o.begun ∷ [])
+    c.loop-at.out) c.number-status.ensures
     ∙ ap (λ (n : ℕ). laid c.loop-at.to
     (status_number c.match-code.o.status ∷ n ∷ c.match-code.o.model.registers.level ∷ mark_of c.match-code.o.begun ∷ [])
     c.loop-at.out) c.runner.ensures)
