@@ -3,6 +3,7 @@ use Prim.Native.Nat.{ℕ}
 use mathlib.Core.Path.{◌≡◌, sym, ap, ◌∙◌}
 use lib.ListN.{length}
 use borrow.Author.Rules.{rules}
+use Rattle.model.specs.View.{status_number}
 use Rattle.run.specs.Run.{call_of}
 use Rattle.misses.specs.Change.{chained_body}
 use Rattle.misses.proofs.Codes.{ticks, body_read}
@@ -17,7 +18,7 @@ returns c = let a = c.args in
       after = c.active-2.ensures i;
       chained =
           (c.chained_body.ensures
-          ∙ ap (λ (r : ℕ). chained_body r (call_of a.event) a.outcome.status)
+          ∙ ap (λ (r : ℕ). chained_body r (call_of a.event) (status_number a.outcome.status))
           (c.byte_at-runner.ensures ∙ body_read a.body a.model.registers.runner long)) i;
       tick = sym (ticks a.event) i;
     }

@@ -4,7 +4,7 @@ use mathlib.Core.Path.{ap, ◌∙◌}
 use native.Mathlib.Omega.{arith}
 use borrow.Author.Tests.{eq-eqb, ne_eqb}
 use Rattle.event.specs.Event.{tick}
-use Rattle.model.specs.View.{view, view_outcome}
+use Rattle.model.specs.View.{view}
 use Rattle.misses.specs.Change.{fresh_row_by, row_by}
 use Rattle.misses.specs.declared.change.Change.{Change}
 use Rattle.misses.proofs.Codes.{ticks}
@@ -42,7 +42,7 @@ loop-at-preserved c = let inside = c.loop-at-test.true in
     let a = c.args in
     let event = c.read_event-read.result.event in
     watching_step c.loop-at.invariant inside c.read_event-read.ensures c.requires.0.few_bodies
-    (ap view_outcome c.step-outcome.ensures) c.moved_row-moved.result
+    c.step-outcome.ensures c.moved_row-moved.result
     (elim c.if-event-eq-TICK.branch [
       | then-event-eq-TICK w ↦ counting_tick (ticks event ∙ eq-eqb event.code tick w.if-event-eq-TICK.true) w.ticks-is (w.count-is ∙ w.note_matches-count.ensures.value)
           (w.list-is ∙ w.note_matches-count.ensures.list_after)
