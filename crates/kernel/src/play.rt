@@ -71,7 +71,9 @@ pub fn play<'a, 'b>(
             }
             8 => {
                 let arguments = read_pair(trace, next);
-                o = o.model.start(config, plan, arguments.first, arguments.second);
+                o = o
+                    .model
+                    .start(config, plan, arguments.first, arguments.second);
                 next = arguments.place;
             }
             9 => {
