@@ -29,7 +29,7 @@ pub fn watch<'a, 'b>(
         ≡ noted 0 (machine_misses config plan deadlines (calls_of trace.now)) list.old }
 {
     let bodies = config.bodies as usize;
-    let mut model = Model::fresh(plan.autostart, &plan.priority);
+    let mut model = Model::fresh(&plan);
     let mut row = fresh_row(active(model.registers), plan.rank, deadlines, bodies);
     let mut ticks: u16 = 0;
     let mut count: usize = 0;
@@ -41,7 +41,7 @@ pub fn watch<'a, 'b>(
             ticks += 1;
             count = note_matches(row, bodies, ticks, count, list);
         }
-        let outcome = step(model, config, plan, event);
+        let outcome = step(model, &config, &plan, event);
         let change = change_by(model, event, outcome, plan.body);
         let moved = moved_row(row, change, plan.rank, deadlines, bodies);
         row = moved;
