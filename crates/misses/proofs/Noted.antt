@@ -10,8 +10,8 @@ use mathlib.Core.List.{List, [], ◌∷◌, ◌++◌, append_assoc, append-nil, 
 use native.Mathlib.Omega.{arith}
 use native.Mathlib.Nat.{zero-add}
 use native.Mathlib.Numerals.{add-one}
-use lib.ListN.{length, get_or, take, drop, set, length-append, length-set}
-use lib.Seq.{take_all, take-suc, length-take-le, drop-drop}
+use lib.ListN.{length, get_or, take, set, length-append, length-set}
+use lib.Seq.{take_all, take-suc, length-take-le}
 use borrow.Rule.Slice.PartMut.{put_mid}
 use Rattle.std.proofs.lemmas.List.{map-set, take_more_set, take-append-le, take-map, length-map, get_or-map}
 use Rattle.number.specs.Output.{written, laid}
@@ -23,6 +23,7 @@ use Rattle.cell.specs.Cell.{tick_cell}
 use Rattle.deadlines.specs.Miss.{Miss}
 use Rattle.deadlines.specs.DeadlineCells.{matches_of}
 use Rattle.deadlines.specs.Report.{most_listed, first_misses, miss_bytes}
+use Rattle.kernel.proofs.Passes.Bytes.{laid_mid}
 use Rattle.deadlines.proofs.Theorems.{bytes_needed_lem}
 use Rattle.misses.specs.declared.list.Miss as Code
 use Rattle.misses.specs.declared.list.Misses.{Misses}
@@ -118,12 +119,6 @@ note_step {x} {y} {z} k xs i c {t} h tells so_far one =
     = matches_more k xs i c h
     ∙ ap (λ (b : Bool). matches_of k 0 (take i xs) ++ cond b (record { tick = k; body = i } ∷ []) []) tells in
     subst (NotesMore x z) (sym all) (notes_both _ _ so_far one)
-
-laid_mid : (at k : ℕ) (bs d : List ℕ) → length bs ≡ k → put_mid at k d bs ≡ laid at bs d
-unfolding laid
-laid_mid at k bs d long =
-    ap (λ (n : ℕ). take at d ++ (bs ++ drop n (drop at d))) (sym long)
-    ∙ ap (λ (l : List ℕ). take at d ++ (bs ++ l)) (drop-drop (length bs) at d)
 
 -- nothing is laid yet
 pub laid_none : (d : List ℕ) → d ≡ laid 0 (miss_bytes []) d
