@@ -1,6 +1,5 @@
--- The reader's definition where the code reads it by the count of a code's arguments, and where the numbers have one
--- byte each.
-use Prim.Native.Nat.{ℕ, zero, suc, ◌+◌, ◌/◌, ◌%◌, ◌≤◌, ◌<◌}
+-- The reader's definition where the numbers have one byte each.
+use Prim.Native.Nat.{ℕ, zero, suc, ◌+◌, ◌*◌, ◌^◌, ◌/◌, ◌%◌, ◌≤◌, ◌<◌}
 use mathlib.Core.Path.{◌≡◌, refl, sym, ap, ◌∙◌}
 use mathlib.Core.Bool.{Bool, true, false, cond, not, ◌&&◌}
 use mathlib.Core.List.{List}
@@ -9,24 +8,12 @@ use lib.Dec.{ltb}
 use lib.ListN.{length, get_or}
 use borrow.Author.Tests.{ltb-true}
 use Rattle.number.specs.Refusal.{none}
-use Rattle.number.specs.Number.{NumberRead, read_number}
 use Rattle.number.proofs.Cases.{by_test, and_true}
-use Rattle.number.proofs.Theorems.{reading, read_single}
+use Rattle.number.proofs.Theorems.{read_single}
 use Rattle.event.specs.declared.Event.{Event}
-use Rattle.event.specs.Event.{EventRead, known, arguments, event, accepted, read_arguments, read_event}
-use Rattle.event.proofs.Reading.{goes_on, read_known, read_byte}
-use Rattle.event_codec.specs.declared.EventEnd.{EventEnd}
+use Rattle.event.specs.Event.{EventRead, EventEnd, known, arguments, event, accepted, read_arguments, read_event, event_end}
+use Rattle.event.proofs.Reading.{goes_on, read_byte}
 use Rattle.event_codec.proofs.Arms.{Counted, counted, arguments_le}
-
--- a number's refusals are few, so that those of a trace fit a byte
-pub few_refusals : (n : NumberRead) (bs : List ℕ) (at : ℕ) → n ≡ read_number bs at → n.refusal ≤ 2
-few_refusals n bs at e = rw e (reading bs at).refusals
-
--- an event whose code was read, and has m arguments
-pub read_counted : (n : NumberRead) (bs : List ℕ) (at : ℕ) → n ≡ read_number bs at → n.refusal ≡ none → {m k : ℕ}
-    → Counted n.value m → m ≡ k
-    → read_event bs at ≡ read_arguments k bs n.value n.place
-read_counted n bs at same read h e = read_known n bs at same read n.value refl h.is_known ∙ rw (h.counts, e)
 
 -- the event at a place is accepted, and the next one stands at the place p
 pub record AcceptedTo (bs : List ℕ) (at p : ℕ) : Type 0 where
@@ -114,11 +101,13 @@ word_accepted bs at w n inside same short e some =
     (short_accepted bs at (omega arith) (rw same.0 at l.0) (rw same.1 at short.first)
     (rw (same.2, two) at short.second))
 
--- an end that says so has the refusal and the place of the reading
-pub accepted_as_read : {bs : List ℕ} {at p q : ℕ} {r : EventEnd} → AcceptedTo bs at p
-    → (r.refusal ≡ none) × (r.place ≡ q) → p ≡ q
-    → (r.refusal ≡ (read_event bs at).refusal) × (r.place ≡ (read_event bs at).place)
-accepted_as_read e h s =
-    let f = ap (λ (x : EventRead). x.refusal) e.read in
-    let q = ap (λ (x : EventRead). x.place) e.read in
-    (h.0 ∙ sym f, h.1 ∙ sym s ∙ sym q)
+-- four bytes as one number, the first the lowest
+pub bytes_of_word : (a b c d w : ℕ) → a < 256 → b < 256 → c < 256 → d < 256
+    → w ≡ a + b * 256 ^ 1 + c * 256 ^ 2 + d * 256 ^ 3
+    → (w % 256 ≡ a) × (w / 256 % 256 ≡ b) × (w / 65536 % 256 ≡ c)
+bytes_of_word a b c d w p q r s e = (omega arith, omega arith, omega arith)
+
+-- an accepted event ends there
+pub ends_there : {bs : List ℕ} {at p : ℕ} → AcceptedTo bs at p
+    → ◌≡◌ {A = EventEnd} (record { refusal = none; place = p }) (event_end bs at)
+ends_there a = sym (ap (λ (r : EventRead). record { refusal = r.refusal; place = r.place }) a.read)
