@@ -14,7 +14,7 @@ use word::{has, with};
 
 mod lookup;
 
-pub use lookup::{byte_at, short_at, word_at};
+pub use lookup::{at, byte_at, short_at, word_at};
 
 // No body: instead of a rank it says that nobody runs, or that there is no such task or ISR. It is what lies
 // past the bottom of the row of held resources.
@@ -184,7 +184,7 @@ fn take_group<'a, 'b>(
     while marks != 0 {
         let zeros = u64::trailing_zeros(marks);
         e += (zeros / 8) as usize;
-        let rank = byte_at(ranks, e, NO_RANK);
+        let rank = at(ranks, e, NO_RANK);
         word = take_match(rank, begun, word, losses);
         e += 1;
         marks = (marks >> zeros) / 256;

@@ -9,7 +9,7 @@ ghost use Rattle.kernel.specs.Passes.{Playable};
 
 use crate::output::{put_answer, runner};
 use config::Config;
-use model::{DONE, Model, Outcome, counts_lines};
+use model::{Model, Outcome, Status, counts_lines};
 use number_codec::{read_number, read_pair};
 use plan::Plan;
 
@@ -29,7 +29,7 @@ pub fn play<'a, 'b>(
 {
     let mut o = Outcome {
         model: fresh,
-        status: DONE,
+        status: Status::Done,
         begun: false,
     };
     let mut at: usize = 0;
@@ -117,12 +117,14 @@ pub fn play<'a, 'b>(
                 next = mask.place;
             }
             0 | 13..=255 => {
-                o.status = DONE;
+                o.status = Status::Done;
                 o.begun = false;
             }
         }
+        // Here the compiler still knows the arm's status; further down it would ask which one it is.
+        let status = o.status.number();
         put_answer(
-            o.status,
+            status,
             runner(&plan.body, o.model.registers.runner),
             o.model.registers.level,
             o.begun,

@@ -1,12 +1,12 @@
 // What an event changed for the deadline cells: who was active before and after it, and who chained to itself.
 ghost use Rattle.std.specs.Prelude.{◌≡◌};
 ghost use Rattle.run.specs.Run.{call_of};
-ghost use Rattle.model.specs.View.{view, view_outcome};
+ghost use Rattle.model.specs.View.{status_number, view, view_outcome};
 ghost use Rattle.deadlines.specs.Activation.{chains_to};
 ghost use Rattle.misses.specs.Change.{active_in, chained_body, change_by};
 
 use event::Event;
-use model::{DONE, Model, Outcome, Registers};
+use model::{Model, Outcome, Registers, Status};
 use word::union;
 
 // The codes of a Chain and of a Tick.
@@ -47,11 +47,11 @@ pub fn change_by(model: Model, event: Event, outcome: Outcome, body: &[u8; 32]) 
 }
 
 // The runner, where the event is an accepted Chain to it.
-fn chained_body(runner: Option<u8>, event: Event, status: u8) -> Option<u8>
-    ensures { result ≡ chained_body runner (call_of event) status }
+fn chained_body(runner: Option<u8>, event: Event, status: Status) -> Option<u8>
+    ensures { result ≡ chained_body runner (call_of event) (status_number status) }
 {
     match runner {
-        Some(body) if status == DONE && chains_to(body, event) => Some(body),
+        Some(body) if status == Status::Done && chains_to(body, event) => Some(body),
         _ => None,
     }
 }

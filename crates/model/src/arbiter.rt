@@ -8,7 +8,7 @@ ghost use Rattle.machine.specs.Model.{no_rank, with_core, with_request, with_tri
 ghost use Rattle.machine.specs.Arbiter.{arbitrated, settled, leaving, triggering, returning};
 ghost use Rattle.model.specs.View.{Arrays, core, core_of, view_with, view_step, picked_of};
 
-use crate::{DONE, EXECUTION_LEVEL, Picked, Registers, Step};
+use crate::{EXECUTION_LEVEL, Picked, Registers, Status, Step};
 use cells::{NO_RANK, byte_at};
 use config::TRIGGER_LEVEL;
 use stack::Row;
@@ -98,7 +98,7 @@ impl Registers {
         self.triggered = self.triggered.push(rank);
         Step {
             registers: self,
-            status: DONE,
+            status: Status::Done,
             begun: true,
         }
     }
@@ -115,7 +115,7 @@ impl Registers {
         self.level = picked.level;
         Step {
             registers: self,
-            status: DONE,
+            status: Status::Done,
             begun: picked.begun,
         }
     }

@@ -8,7 +8,7 @@ ghost use Rattle.model.specs.View.{Arrays, put_bits, put_event_bits, view_with, 
 
 use crate::arbiter::{arbitrated, latest_level, without_where};
 use crate::bodies::no_caller;
-use crate::{ACCESS, CALL_LEVEL, DONE, HOLDS_RESOURCE, NO_SUCH, Registers, Step, WRONG_STATE};
+use crate::{Registers, Status, Step};
 use cells::{NO_RANK, busy, byte_at};
 use word::{has, union, with, without};
 
@@ -27,19 +27,19 @@ impl Registers {
             (view_with self (put_event_bits bits.now waited.old x)) mask }
     {
         if no_caller(self.runner, self.level) {
-            return self.with_status(CALL_LEVEL);
+            return self.with_status(Status::CallLevel);
         }
         let rank = self.runner as u32;
         if !has(extended, rank) {
-            return self.with_status(ACCESS);
+            return self.with_status(Status::Access);
         }
         let holder = self.holder;
         if holder.top() == self.runner {
-            return self.with_status(HOLDS_RESOURCE);
+            return self.with_status(Status::HoldsResource);
         }
         let kept = bits[rank as usize];
         if any_set(bits_of(self.cleared, kept, rank), mask) {
-            return self.with_status(DONE);
+            return self.with_status(Status::Done);
         }
         waited[rank as usize] = mask;
         let level = latest_level(holder, self.raised);
@@ -66,17 +66,17 @@ impl Registers {
             (view_with self (put_event_bits bits.old waited.now x)) t mask }
     {
         if no_caller(self.runner, self.level) {
-            return self.with_status(CALL_LEVEL);
+            return self.with_status(Status::CallLevel);
         }
         let rank = byte_at(body_rank, t as usize, NO_RANK);
         if no_task(isrs, rank) {
-            return self.with_status(NO_SUCH);
+            return self.with_status(Status::NoSuch);
         }
         if !has(extended, rank as u32) {
-            return self.with_status(ACCESS);
+            return self.with_status(Status::Access);
         }
         if !busy(self.request, union(self.started, self.aside), rank) {
-            return self.with_status(WRONG_STATE);
+            return self.with_status(Status::WrongState);
         }
         let kept = bits[rank as usize];
         let set = with_bits(bits_of(self.cleared, kept, rank as u32), mask);
@@ -95,17 +95,17 @@ impl Registers {
             ≡ clear extended (view_with self (put_bits bits.old x)) mask }
     {
         if no_caller(self.runner, self.level) {
-            return self.with_status(CALL_LEVEL);
+            return self.with_status(Status::CallLevel);
         }
         let rank = self.runner as u32;
         if !has(extended, rank) {
-            return self.with_status(ACCESS);
+            return self.with_status(Status::Access);
         }
         let kept = bits[rank as usize];
         let left = without_bits(bits_of(self.cleared, kept, rank), mask);
         bits[rank as usize] = left;
         self.cleared = without(self.cleared, rank);
-        self.with_status(DONE)
+        self.with_status(Status::Done)
     }
 }
 

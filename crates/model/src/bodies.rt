@@ -6,7 +6,7 @@ ghost use Rattle.machine.specs.Model.{no_rank};
 ghost use Rattle.machine.specs.Events.{activate, finish, chain, line};
 ghost use Rattle.model.specs.View.{Arrays, put_losses, view_with, view_step};
 
-use crate::{CALL_LEVEL, EXECUTION_LEVEL, HOLDS_RESOURCE, LIMIT, NO_SUCH, Registers, Step};
+use crate::{EXECUTION_LEVEL, Registers, Status, Step};
 use cells::{NO_RANK, busy, byte_at, lose};
 use word::{has, union, with};
 
@@ -16,14 +16,14 @@ impl Registers {
             ≡ activate callable_rank.now priority.now (view_with self x) t }
     {
         if no_caller(self.runner, self.level) {
-            return self.with_status(CALL_LEVEL);
+            return self.with_status(Status::CallLevel);
         }
         let rank = byte_at(callable_rank, t as usize, NO_RANK);
         if rank == NO_RANK {
-            return self.with_status(NO_SUCH);
+            return self.with_status(Status::NoSuch);
         }
         if busy(self.request, union(self.started, self.aside), rank) {
-            return self.with_status(LIMIT);
+            return self.with_status(Status::Limit);
         }
         self.settled(with(self.request, rank as u32), priority)
     }
@@ -32,10 +32,10 @@ impl Registers {
         ensures { (x : Arrays) → view_step result x ≡ finish priority.now (view_with self x) }
     {
         if self.runner == NO_RANK {
-            return self.with_status(CALL_LEVEL);
+            return self.with_status(Status::CallLevel);
         }
         if self.holder.top() == self.runner {
-            return self.with_status(HOLDS_RESOURCE);
+            return self.with_status(Status::HoldsResource);
         }
         if self.level == EXECUTION_LEVEL {
             return self.returned(priority);
@@ -54,14 +54,14 @@ impl Registers {
             ≡ chain isrs callable_rank.now priority.now (view_with self x) t }
     {
         if no_task_calls(isrs, self.runner, self.level) {
-            return self.with_status(CALL_LEVEL);
+            return self.with_status(Status::CallLevel);
         }
         let rank = byte_at(callable_rank, t as usize, NO_RANK);
         if rank == NO_RANK {
-            return self.with_status(NO_SUCH);
+            return self.with_status(Status::NoSuch);
         }
         if self.holder.top() == self.runner {
-            return self.with_status(HOLDS_RESOURCE);
+            return self.with_status(Status::HoldsResource);
         }
         if busy_beside(
             self.request,
@@ -69,7 +69,7 @@ impl Registers {
             self.runner,
             rank,
         ) {
-            return self.with_status(LIMIT);
+            return self.with_status(Status::Limit);
         }
         self.ended(with(self.request, rank as u32), priority)
     }
@@ -89,13 +89,13 @@ impl Registers {
     {
         let rank = byte_at(line_rank, i as usize, NO_RANK);
         if rank == NO_RANK {
-            return self.with_status(NO_SUCH);
+            return self.with_status(Status::NoSuch);
         }
         if has(self.request, rank as u32) {
             if counts {
                 lose(losses, rank);
             }
-            return self.with_status(LIMIT);
+            return self.with_status(Status::Limit);
         }
         self.settled(with(self.request, rank as u32), priority)
     }

@@ -6,7 +6,7 @@ ghost use Rattle.model.specs.View.{Arrays, view_with, view_step};
 
 use crate::arbiter::arbitrated;
 use crate::bodies::no_caller;
-use crate::{ACCESS, CALL_LEVEL, DONE, NO_FUNCTION, NO_SUCH, NOT_USER, Registers, Step};
+use crate::{Registers, Status, Step};
 use cells::{byte_at, word_at};
 use stack::Row;
 use word::{has, with, without};
@@ -23,16 +23,16 @@ impl Registers {
             ≡ get resources users.now ceiling.now (view_with self x) r }
     {
         if no_caller(self.runner, self.level) {
-            return self.with_status(CALL_LEVEL);
+            return self.with_status(Status::CallLevel);
         }
         if resources as u32 <= r {
-            return self.with_status(NO_SUCH);
+            return self.with_status(Status::NoSuch);
         }
         if !has(word_at(users, r as usize), self.runner as u32) {
-            return self.with_status(NOT_USER);
+            return self.with_status(Status::NotUser);
         }
         if has(self.held, r) {
-            return self.with_status(ACCESS);
+            return self.with_status(Status::Access);
         }
         let level = higher(byte_at(ceiling, r as usize, 0), self.level);
         self.held = with(self.held, r);
@@ -40,7 +40,7 @@ impl Registers {
         self.holder = self.holder.push(self.runner);
         self.raised = self.raised.push(level);
         self.level = level;
-        self.with_status(DONE)
+        self.with_status(Status::Done)
     }
 
     pub fn release(mut self, resources: u8, priority: &[u8; 32], r: u32) -> Step
@@ -48,13 +48,13 @@ impl Registers {
             ≡ release resources priority.now (view_with self x) r }
     {
         if no_caller(self.runner, self.level) {
-            return self.with_status(CALL_LEVEL);
+            return self.with_status(Status::CallLevel);
         }
         if resources as u32 <= r {
-            return self.with_status(NO_SUCH);
+            return self.with_status(Status::NoSuch);
         }
         if !is_latest(self.resource, self.holder, self.runner, r) {
-            return self.with_status(NO_FUNCTION);
+            return self.with_status(Status::NoFunction);
         }
         let level = level_without(self.holder, self.raised, self.runner, priority);
         let picked = arbitrated(

@@ -6,7 +6,7 @@ ghost use Rattle.machine.specs.Events.{tick, start, stop};
 ghost use Rattle.model.specs.View.{Arrays, put_cells, put_losses, view_with, view_step};
 
 use crate::bodies::no_caller;
-use crate::{BAD_DELAY, CALL_LEVEL, DONE, NO_FUNCTION, NO_SUCH, Registers, Step, WRONG_STATE};
+use crate::{Registers, Status, Step};
 use cells::{OFF, byte_at, fill, short_at, start_cells, tick_entries};
 use word::union;
 
@@ -58,19 +58,19 @@ impl Registers {
             (view_with self (put_cells counter.old on.old x)) t d }
     {
         if no_caller(self.runner, self.level) {
-            return self.with_status(CALL_LEVEL);
+            return self.with_status(Status::CallLevel);
         }
         if tables as u32 <= t {
-            return self.with_status(NO_SUCH);
+            return self.with_status(Status::NoSuch);
         }
         let i = t as usize;
         let from = byte_at(first, i, 0);
         let e = from as usize;
         if is_bad_delay(d, short_at(offset, e)) {
-            return self.with_status(BAD_DELAY);
+            return self.with_status(Status::BadDelay);
         }
         if is_on(on, e) {
-            return self.with_status(WRONG_STATE);
+            return self.with_status(Status::WrongState);
         }
         let n = byte_at(entries, i, 0);
         self.turning = start_cells(
@@ -83,7 +83,7 @@ impl Registers {
             counter,
             on,
         );
-        self.with_status(DONE)
+        self.with_status(Status::Done)
     }
 
     pub fn stop<'a, 'b, 'c>(
@@ -100,21 +100,21 @@ impl Registers {
             (view_with self (put_cells counter.old on.old x)) t }
     {
         if no_caller(self.runner, self.level) {
-            return self.with_status(CALL_LEVEL);
+            return self.with_status(Status::CallLevel);
         }
         if tables as u32 <= t {
-            return self.with_status(NO_SUCH);
+            return self.with_status(Status::NoSuch);
         }
         let i = t as usize;
         let from = byte_at(first, i, 0);
         let e = from as usize;
         if !is_on(on, e) {
-            return self.with_status(NO_FUNCTION);
+            return self.with_status(Status::NoFunction);
         }
         let n = byte_at(entries, i, 0);
         fill(from, n, 0, counter);
         fill(from, n, OFF, on);
-        self.with_status(DONE)
+        self.with_status(Status::Done)
     }
 }
 

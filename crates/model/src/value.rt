@@ -2,7 +2,7 @@
 // taken out, lent to the method of the registers, and put back where it may have changed.
 ghost use Rattle.std.specs.Prelude.{◌≡◌};
 ghost use Rattle.machine.specs.Events.{activate, finish, chain, get, release, tick, line, start, stop, wait, set_event, clear};
-ghost use Rattle.model.specs.View.{arrays_of, view, view_step, outcome_of};
+ghost use Rattle.model.specs.View.{arrays_of, view, view_step, view_outcome};
 
 use crate::{Model, Outcome, Step};
 
@@ -13,15 +13,14 @@ impl Model {
         priority: &'a [u8; 32],
         t: u32,
     ) -> Outcome
-        ensures { result ≡ outcome_of
-            (activate callable_rank.now priority.now (view self) t) }
+        ensures { view_outcome result ≡ activate callable_rank.now priority.now (view self) t }
     {
         let step = self.registers.activate(callable_rank, priority, t);
         self.stepped(step)
     }
 
     pub fn finish(self, priority: &[u8; 32]) -> Outcome
-        ensures { result ≡ outcome_of (finish priority.now (view self)) }
+        ensures { view_outcome result ≡ finish priority.now (view self) }
     {
         let step = self.registers.finish(priority);
         self.stepped(step)
@@ -34,8 +33,7 @@ impl Model {
         priority: &'a [u8; 32],
         t: u32,
     ) -> Outcome
-        ensures { result ≡ outcome_of
-            (chain isrs callable_rank.now priority.now (view self) t) }
+        ensures { view_outcome result ≡ chain isrs callable_rank.now priority.now (view self) t }
     {
         let step = self.registers.chain(isrs, callable_rank, priority, t);
         self.stepped(step)
@@ -48,14 +46,14 @@ impl Model {
         ceiling: &'a [u8; 16],
         r: u32,
     ) -> Outcome
-        ensures { result ≡ outcome_of (get resources users.now ceiling.now (view self) r) }
+        ensures { view_outcome result ≡ get resources users.now ceiling.now (view self) r }
     {
         let step = self.registers.get(resources, users, ceiling, r);
         self.stepped(step)
     }
 
     pub fn release(self, resources: u8, priority: &[u8; 32], r: u32) -> Outcome
-        ensures { result ≡ outcome_of (release resources priority.now (view self) r) }
+        ensures { view_outcome result ≡ release resources priority.now (view self) r }
     {
         let step = self.registers.release(resources, priority, r);
         self.stepped(step)
@@ -67,9 +65,7 @@ impl Model {
         entry_rank: &'a [u8; 64],
         priority: &'a [u8; 32],
     ) -> Outcome
-        ensures { result
-            ≡ outcome_of
-            (tick compare.now entry_rank.now priority.now (view self)) }
+        ensures { view_outcome result ≡ tick compare.now entry_rank.now priority.now (view self) }
     {
         let mut counter = self.counter;
         let mut on = self.on;
@@ -96,8 +92,7 @@ impl Model {
         priority: &'a [u8; 32],
         i: u32,
     ) -> Outcome
-        ensures { result ≡ outcome_of
-            (line counts line_rank.now priority.now (view self) i) }
+        ensures { view_outcome result ≡ line counts line_rank.now priority.now (view self) i }
     {
         let mut losses = self.losses;
         let step = self
@@ -117,9 +112,7 @@ impl Model {
         t: u32,
         d: u32,
     ) -> Outcome
-        ensures { result
-            ≡ outcome_of (start tables first.now entries.now period.now
-            offset.now (view self) t d) }
+        ensures { view_outcome result ≡ start tables first.now entries.now period.now offset.now (view self) t d }
     {
         let mut counter = self.counter;
         let mut on = self.on;
@@ -146,7 +139,7 @@ impl Model {
         entries: &'a [u8; 8],
         t: u32,
     ) -> Outcome
-        ensures { result ≡ outcome_of (stop tables first.now entries.now (view self) t) }
+        ensures { view_outcome result ≡ stop tables first.now entries.now (view self) t }
     {
         let mut counter = self.counter;
         let mut on = self.on;
@@ -160,7 +153,7 @@ impl Model {
 
     // `extended`: the ranks that are extended tasks.
     pub fn wait(mut self, extended: u32, priority: &[u8; 32], mask: u32) -> Outcome
-        ensures { result ≡ outcome_of (wait extended priority.now (view self) mask) }
+        ensures { view_outcome result ≡ wait extended priority.now (view self) mask }
     {
         let bits = self.bits;
         let mut waited = self.waited;
@@ -181,9 +174,7 @@ impl Model {
         t: u32,
         mask: u32,
     ) -> Outcome
-        ensures { result
-            ≡ outcome_of
-            (set_event isrs extended body_rank.now priority.now (view self) t mask) }
+        ensures { view_outcome result ≡ set_event isrs extended body_rank.now priority.now (view self) t mask }
     {
         let waited = self.waited;
         let mut bits = self.bits;
@@ -195,7 +186,7 @@ impl Model {
     }
 
     pub fn clear(mut self, extended: u32, mask: u32) -> Outcome
-        ensures { result ≡ outcome_of (clear extended (view self) mask) }
+        ensures { view_outcome result ≡ clear extended (view self) mask }
     {
         let mut bits = self.bits;
         let step = self.registers.clear(extended, mask, &mut bits);
@@ -205,7 +196,7 @@ impl Model {
 
     // The model of these registers and its own arrays, with the answer.
     fn stepped(self, step: Step) -> Outcome
-        ensures { result ≡ outcome_of (view_step step (arrays_of self)) }
+        ensures { view_outcome result ≡ view_step step (arrays_of self) }
     {
         let registers = step.registers;
         let counter = self.counter;

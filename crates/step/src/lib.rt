@@ -5,7 +5,7 @@
 ghost use Rattle.std.specs.Prelude.{◌≡◌};
 ghost use Rattle.machine.specs.Machine.{machine_step};
 ghost use Rattle.run.specs.Run.{call_of};
-ghost use Rattle.model.specs.View.{view, outcome_of};
+ghost use Rattle.model.specs.View.{view, view_outcome};
 
 use config::Config;
 use event::Event;
@@ -14,7 +14,7 @@ use plan::Plan;
 
 // The codes are those of an event that was read; the last arm is Clear's.
 pub fn step(model: Model, config: Config, plan: Plan, event: Event) -> Outcome
-    ensures { result ≡ outcome_of (machine_step config plan (view model) (call_of event)) }
+    ensures { view_outcome result ≡ machine_step config plan (view model) (call_of event) }
 {
     let code = event.code;
     match code {

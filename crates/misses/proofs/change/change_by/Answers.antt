@@ -5,6 +5,7 @@ use lib.ListN.{length}
 use borrow.Author.Rules.{rules}
 use Rattle.std.specs.Prelude.{Option}
 use Rattle.std.specs.List.{slice_get}
+use Rattle.model.specs.View.{status_number}
 use Rattle.run.specs.Run.{call_of}
 use Rattle.misses.specs.Change.{chained_body}
 use Rattle.misses.proofs.Codes.{ticks, body_read, item_copied}
@@ -21,7 +22,7 @@ returns c = let a = c.args in
       after = c.active-2.ensures i;
       chained =
           (c.chained_body.ensures
-          ∙ ap (λ (r : Option ℕ). chained_body r (call_of a.event) a.outcome.status)
+          ∙ ap (λ (r : Option ℕ). chained_body r (call_of a.event) (status_number a.outcome.status))
           (runner ∙ body_read a.body.now a.model.registers.runner long)) i;
       tick = sym (ticks a.event) i;
     }

@@ -4,7 +4,7 @@ use mathlib.Core.Path.{ap, ◌∙◌}
 use native.Mathlib.Omega.{arith}
 use borrow.Author.Tests.{eq-eqb, ne_eqb}
 use Rattle.event.specs.Event.{tick}
-use Rattle.model.specs.View.{view, view_outcome}
+use Rattle.model.specs.View.{view}
 use Rattle.misses.specs.Change.{fresh_row_by, row_by}
 use Rattle.misses.specs.declared.change.Change.{Change}
 use Rattle.misses.proofs.Codes.{ticks}
@@ -30,7 +30,7 @@ loop-at-preserved c = let inside = c.loop-at-test.true in
     let cells = c.loop-at.cells in
     let moved = c.moved-cells.ensures in
     watching_step c.loop-at.invariant inside c.read_event-read.ensures c.requires.few_bodies
-    (ap view_outcome c.step-outcome.ensures)
+    c.step-outcome.ensures
     (elim c.if-event-eq-TICK.branch [
       | then-event-eq-TICK w ↦ counting_tick (ticks event ∙ eq-eqb event.code tick w.if-event-eq-TICK.true) w.ticks-is
           (rw w.misses-is w.note_matches.ensures)
