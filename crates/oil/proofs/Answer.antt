@@ -4,8 +4,7 @@ use mathlib.Core.Path.{◌≡◌, sym, ap, ◌∙◌}
 use mathlib.Core.List.{List, [], ◌∷◌}
 use lib.ListN.{length}
 use borrow.Author.Tests.{eq-eqb, ne_eqb}
-use Rattle.number.specs.Output.{packed}
-use Rattle.number.specs.declared.Written.{Written}
+use Rattle.number.specs.Output.{Written, packed}
 use Rattle.config.specs.Writer.{write_config, wrote_config}
 use Rattle.oil_grammar.specs.declared.Found.{Found}
 use Rattle.oil_grammar.specs.declared.OilRead.{OilRead}
