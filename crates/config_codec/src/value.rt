@@ -15,9 +15,9 @@ use config::{Config, Field, MAX_BODIES, MAX_RESOURCES, MAX_TABLES};
 use number::Refusal;
 
 // The number of `c` at `p`.
-pub fn asked(c: Config, p: Position) -> u32
+pub fn asked(c: &Config, p: Position) -> u32
     requires { Stands p }
-    ensures { result ≡ asked c (draft_at c p) }
+    ensures { result ≡ asked c.now (draft_at c.now p) }
 {
     let i = p.index;
     let e = p.entry;

@@ -4,7 +4,7 @@ use mathlib.Core.Bool.{false}
 use Rattle.config.specs.declared.Field.{Field}
 use Rattle.config.specs.declared.Field.TheVariants.{Version, Bodies, Kind, Priority, Autostart, Deadline, Resources, Users, Tables, Period, Entries, Offset, Task, End}
 use Rattle.config.specs.Draft.{ended}
-use Rattle.config_codec.proofs.position.ended.Goals as goal
+use Rattle.config_codec.proofs.position.Position.ended.Goals as goal
 
 others : (f : Field) → (f ≡ End → ⊥) → false ≡ ended f
 unfolding ended
@@ -28,4 +28,4 @@ unfolding ended
 returns-in-End c = sym (ap ended c.in-End.is)
 
 pub returns-in_default : goal.returns-in_default
-returns-in_default c = others c.args.p.field c.in_default.not-End
+returns-in_default c = others c.args.self.field c.in_default.not-End
