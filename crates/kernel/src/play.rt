@@ -10,7 +10,7 @@ ghost use Rattle.kernel.specs.Passes.{Playable};
 use crate::output::{put_answer, runner};
 use config::Config;
 use model::{Model, Outcome, Status, counts_lines};
-use number_codec::{read_number, read_pair};
+use number_codec::{number_at, read_pair};
 use plan::Plan;
 
 // Each event meets the model that the one before it handed back; the last one's is the result.
@@ -39,7 +39,7 @@ pub fn play<'a, 'b>(
         let mut next = at + 1;
         match code {
             1 => {
-                let task = read_number(trace, next);
+                let task = number_at(trace, next);
                 o = o.model.activate(&plan.callable, &plan.priority, task.value);
                 next = task.place;
             }
@@ -47,19 +47,19 @@ pub fn play<'a, 'b>(
                 o = o.model.finish(&plan.priority);
             }
             3 => {
-                let task = read_number(trace, next);
+                let task = number_at(trace, next);
                 o = o
                     .model
                     .chain(plan.isrs, &plan.callable, &plan.priority, task.value);
                 next = task.place;
             }
             4 => {
-                let resource = read_number(trace, next);
+                let resource = number_at(trace, next);
                 o = o.model.get(config.resources, &plan.users, &plan.ceiling, resource.value);
                 next = resource.place;
             }
             5 => {
-                let resource = read_number(trace, next);
+                let resource = number_at(trace, next);
                 o = o
                     .model
                     .release(config.resources, &plan.priority, resource.value);
@@ -69,7 +69,7 @@ pub fn play<'a, 'b>(
                 o = o.model.tick(&plan.compare, &plan.entry, &plan.priority);
             }
             7 => {
-                let isr = read_number(trace, next);
+                let isr = number_at(trace, next);
                 let counts = counts_lines(config.version);
                 o = o.model.line(counts, &plan.line, &plan.priority, isr.value);
                 next = isr.place;
@@ -88,14 +88,14 @@ pub fn play<'a, 'b>(
                 next = arguments.place;
             }
             9 => {
-                let table = read_number(trace, next);
+                let table = number_at(trace, next);
                 o = o
                     .model
                     .stop(config.tables, &plan.first, &config.entries, table.value);
                 next = table.place;
             }
             10 => {
-                let mask = read_number(trace, next);
+                let mask = number_at(trace, next);
                 o = o.model.wait(plan.extended, &plan.priority, mask.value);
                 next = mask.place;
             }
@@ -112,7 +112,7 @@ pub fn play<'a, 'b>(
                 next = arguments.place;
             }
             12 => {
-                let mask = read_number(trace, next);
+                let mask = number_at(trace, next);
                 o = o.model.clear(plan.extended, mask.value);
                 next = mask.place;
             }
