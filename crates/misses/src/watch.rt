@@ -20,7 +20,7 @@ pub fn watch(config: Config, plan: Plan, trace: &[u8]) -> Misses
     requires { Watchable config trace.now }
     ensures { Noted result (machine_misses config plan (deadlines_of config) (calls_of trace.now)) }
 {
-    let mut model = Model::fresh(plan.autostart, &plan.priority);
+    let mut model = Model::fresh(&plan);
     let mut cells = DeadlineCells::fresh(
         active(model.registers),
         plan.rank,
@@ -37,7 +37,7 @@ pub fn watch(config: Config, plan: Plan, trace: &[u8]) -> Misses
             ticks += 1;
             cells.note_matches(ticks, &mut misses);
         }
-        let outcome = step(model, config, plan, event);
+        let outcome = step(model, &config, &plan, event);
         cells = cells.moved(change_by(model, event, outcome, &plan.body));
         model = outcome.model;
         at = read.place;

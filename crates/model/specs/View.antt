@@ -7,6 +7,7 @@ use Rattle.std.specs.Prelude.{ℕ, List}
 use Rattle.scheduler.specs.Status.{done, access, call_level, no_such, limit_reached, no_function, holds_resource, wrong_state, bad_delay, not_user}
 use Rattle.model.specs.declared.Status.{Status}
 use Rattle.model.specs.declared.Status.TheVariants.{Done, Access, CallLevel, NoSuch, Limit, NoFunction, HoldsResource, WrongState, BadDelay, NotUser}
+use Rattle.model.specs.declared.Core.{Core}
 use Rattle.model.specs.declared.Picked.{Picked}
 use Rattle.model.specs.declared.Registers.{Registers}
 use Rattle.model.specs.declared.Step.{Step}
@@ -18,22 +19,12 @@ use Rattle.machine.specs.Model as Machine
 abbrev pub core : ℕ → ℕ → ℕ → ℕ → ℕ → Machine.Core
 core w v a r l = record { request = w; started = v; aside = a; runner = r; level = l }
 
-abbrev pub core_of : Picked → Machine.Core
-core_of p = core p.request p.started p.aside p.runner p.level
+abbrev pub view_core : Core → Machine.Core
+view_core k = core k.request k.started k.aside k.runner k.level
 
+-- the same after arbitration
 abbrev pub view_picked : Picked → Machine.Picked
-view_picked p = record { core = core_of p; begun = p.begun }
-
-abbrev pub picked_of : Machine.Picked → Picked
-picked_of p =
-    record {
-      request = p.core.request;
-      started = p.core.started;
-      aside = p.core.aside;
-      runner = p.core.runner;
-      level = p.core.level;
-      begun = p.begun;
-    }
+view_picked p = record { core = view_core p.core; begun = p.begun }
 
 -- The arrays of the machine: counters and switches of the cells, losses, event bits and masks.
 pub record Arrays : Type 0 where

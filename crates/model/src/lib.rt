@@ -17,8 +17,6 @@ mod resources;
 mod tables;
 mod value;
 
-pub use bodies::counts_lines;
-use cells::NO_RANK;
 use stack::Row;
 
 // The level that a time-triggered task runs at, and nobody else.
@@ -48,14 +46,21 @@ impl Status {
     }
 }
 
-// Who runs after arbitration, with the words that it leaves, and whether a body began.
+// What arbitration looks at: the words of who waits to begin, who goes on by its priority and who does not, as in
+// Registers, and who runs at which level.
 #[derive(Clone, Copy)]
-pub struct Picked {
+pub struct Core {
     pub request: u32,
     pub started: u32,
     pub aside: u32,
     pub runner: u8,
     pub level: u8,
+}
+
+// A core after arbitration, and whether a body began.
+#[derive(Clone, Copy)]
+pub struct Picked {
+    pub core: Core,
     pub begun: bool,
 }
 

@@ -15,7 +15,7 @@ use Rattle.kernel.proofs.play.play.Goals.{in-1, in-2, in-3, in-4, in-5, in-6, in
 
 -- what the arms leave is the step of the event that was read
 armed : (c : goal.After-slice_known-in-loop-at-1)
-    → Arm c.args.config c.args.plan c.args.trace.now (view c.loop-at.o.model) c.loop-at.at c.match-code.next
+    → Arm c.args.config.now c.args.plan.now c.args.trace.now (view c.loop-at.o.model) c.loop-at.at c.match-code.next
     (view_outcome c.match-code.o)
 armed c =
     let inside = c.loop-at-test.true in
@@ -28,7 +28,7 @@ armed c =
       | in-4 w ↦ get_arm inside fine w.in-4.is (w.number_at-resource.ensures.value, w.number_at-resource.ensures.place) (ap view_outcome w.o-is ∙ w.get-o.ensures) w.next-is
       | in-5 w ↦ release_arm inside fine w.in-5.is (w.number_at-resource-in-5.ensures.value, w.number_at-resource-in-5.ensures.place) (ap view_outcome w.o-is ∙ w.release-o.ensures) w.next-is
       | in-6 w ↦ tick_arm inside fine w.in-6.is (ap view_outcome w.o-is ∙ w.tick-o.ensures) w.next-is
-      | in-7 w ↦ line_arm inside fine w.in-7.is (w.number_at-isr.ensures.value, w.number_at-isr.ensures.place) (ap view_outcome w.o-is ∙ w.line-o.ensures ∙ rw w.counts_lines-counts.ensures) w.next-is
+      | in-7 w ↦ line_arm inside fine w.in-7.is (w.number_at-isr.ensures.value, w.number_at-isr.ensures.place) (ap view_outcome w.o-is ∙ w.line-o.ensures) w.next-is
       | in-8 w ↦ start_arm inside fine w.in-8.is (w.read_pair-arguments.ensures.first, (w.read_pair-arguments.ensures.second, w.read_pair-arguments.ensures.place)) (ap view_outcome w.o-is ∙ w.start-o.ensures) w.next-is
       | in-9 w ↦ stop_arm inside fine w.in-9.is (w.number_at-table.ensures.value, w.number_at-table.ensures.place) (ap view_outcome w.o-is ∙ w.stop-o.ensures) w.next-is
       | in-10 w ↦ wait_arm inside fine w.in-10.is (w.number_at-mask.ensures.value, w.number_at-mask.ensures.place) (ap view_outcome w.o-is ∙ w.wait-o.ensures) w.next-is

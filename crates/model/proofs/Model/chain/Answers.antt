@@ -5,4 +5,4 @@ use Rattle.model.proofs.Model.chain.Goals as goal
 
 pub returns : goal.returns
 returns c = let a = c.args in
-    c.stepped.ensures ∙ c.chain-step.ensures (arrays_of a.self)
+    c.stepped.ensures ∙ c.chain.ensures (arrays_of a.self)

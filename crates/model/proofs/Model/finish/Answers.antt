@@ -5,4 +5,4 @@ use Rattle.model.proofs.Model.finish.Goals as goal
 
 pub returns : goal.returns
 returns c = let a = c.args in
-    c.stepped.ensures ∙ c.finish-step.ensures (arrays_of a.self)
+    c.stepped.ensures ∙ c.finish.ensures (arrays_of a.self)

@@ -5,4 +5,4 @@ use Rattle.model.proofs.Model.get.Goals as goal
 
 pub returns : goal.returns
 returns c = let a = c.args in
-    c.stepped.ensures ∙ c.get-step.ensures (arrays_of a.self)
+    c.stepped.ensures ∙ c.get.ensures (arrays_of a.self)
