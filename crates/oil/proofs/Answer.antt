@@ -7,8 +7,8 @@ use borrow.Author.Tests.{eq-eqb, ne_eqb}
 use Rattle.number.specs.Output.{packed}
 use Rattle.number.specs.declared.Written.{Written}
 use Rattle.config.specs.Writer.{write_config, wrote_config}
-use Rattle.oil_grammar.specs.declared.Found.{Found}
-use Rattle.oil_grammar.specs.declared.OilRead.{OilRead}
+use Rattle.oil_grammar.specs.Records.{Found}
+use Rattle.oil_grammar.specs.Records.{OilRead}
 use Rattle.oil_grammar.specs.Automaton.{fresh}
 use Rattle.oil_grammar.specs.Walk.{unborne}
 use Rattle.oil_grammar.specs.Reader.{walked, filled, ranged, refused_in, after_uses, after_walk, read_oil, oil_result, oil_output, oil_place}

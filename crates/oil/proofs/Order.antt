@@ -9,9 +9,9 @@ use lib.ListN.{length}
 use borrow.Author.Tests.{eq-eqb, ne_eqb}
 use Rattle.number.specs.Refusal.{none}
 use Rattle.number.proofs.Cases.{by_eq}
-use Rattle.oil_grammar.specs.declared.Token.{Token}
-use Rattle.oil_grammar.specs.declared.Progress.{Progress}
-use Rattle.oil_grammar.specs.declared.Found.{Found}
+use Rattle.oil_grammar.specs.Records.{Token}
+use Rattle.oil_grammar.specs.Records.{Progress}
+use Rattle.oil_grammar.specs.Records.{Found}
 use Rattle.oil_grammar.specs.declared.Want.{Want}
 use Rattle.oil_grammar.specs.declared.Want.TheVariants.{Object, Name, Open, Attribute, PriorityEquals, PriorityNumber, AutostartEquals, AutostartValue, UseEquals, Use, AttributeEnd, ObjectEnd}
 use Rattle.oil_grammar.specs.Refusal.{given_twice}

@@ -6,7 +6,7 @@ use mathlib.Core.List.{List, ◌∷◌}
 use native.Mathlib.Omega.{arith}
 use native.Mathlib.Nat.{add-zero}
 use lib.ListN.{length, take, drop, get_or, drop_of_length-le}
-use Rattle.oil_grammar.specs.declared.Token.{Token}
+use Rattle.oil_grammar.specs.Records.{Token}
 use Rattle.oil_grammar.specs.Byte.{is_letter, is_digit, is_name_byte, span}
 use Rattle.oil_grammar.specs.Token.{spelled_sort, sign_of, end_sort, number_sort}
 use Rattle.oil_grammar.specs.Next.{token_at, sign_at}

@@ -6,9 +6,9 @@
 --   Ordered t v                          v is what the tokens alone are refused with, and how many stand before it
 use Rattle.std.specs.Prelude.{ℕ, zero, suc, ◌≤◌, ◌<◌, ◌≡◌, Bool, true, false, List}
 use Rattle.number.specs.Refusal.{none}
-use Rattle.oil_grammar.specs.declared.Token.{Token}
-use Rattle.oil_grammar.specs.declared.Progress.{Progress}
-use Rattle.oil_grammar.specs.declared.Found.{Found}
+use Rattle.oil_grammar.specs.Records.{Token}
+use Rattle.oil_grammar.specs.Records.{Progress}
+use Rattle.oil_grammar.specs.Records.{Found}
 use Rattle.oil_grammar.specs.Token.{end_sort}
 use Rattle.oil_grammar.specs.Next.{next_token}
 use Rattle.oil_grammar.specs.Automaton.{fault, after, fresh}

@@ -1,7 +1,7 @@
 -- `gather` meets its contract: a token at a time.
 use mathlib.Core.Path.{◌≡◌, ap, ◌∙◌}
 use native.Mathlib.Omega.{arith}
-use Rattle.oil_grammar.specs.declared.Token.{Token}
+use Rattle.oil_grammar.specs.Records.{Token}
 use Rattle.oil_grammar.specs.Next.{next_token}
 use Rattle.oil.specs.Tokens.{place_after, token, progress_after}
 use Rattle.oil.specs.Names.{twice_at}

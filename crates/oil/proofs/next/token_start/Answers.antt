@@ -1,7 +1,7 @@
 -- `token_start` meets its contract: the text stands where it does after the tokens passed.
 use mathlib.Core.Path.{◌≡◌, refl, ap, ◌∙◌}
 use native.Mathlib.Omega.{arith}
-use Rattle.oil_grammar.specs.declared.Token.{Token}
+use Rattle.oil_grammar.specs.Records.{Token}
 use Rattle.oil_grammar.specs.Next.{next_token}
 use Rattle.oil.specs.Tokens.{place_after}
 use Rattle.oil.proofs.TokenNumbers.{place_inside, place_next}

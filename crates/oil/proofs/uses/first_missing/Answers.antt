@@ -3,7 +3,7 @@ use mathlib.Core.Path.{◌≡◌, refl, sym, ap, ◌∙◌}
 use mathlib.Core.Bool.{true}
 use native.Mathlib.Omega.{arith}
 use borrow.Author.Count.{below_more}
-use Rattle.oil_grammar.specs.declared.Token.{Token}
+use Rattle.oil_grammar.specs.Records.{Token}
 use Rattle.oil_grammar.specs.Next.{next_token}
 use Rattle.oil.specs.Tokens.{place_after, token, progress_after}
 use Rattle.oil.proofs.TokenNumbers.{place_inside, token_lies, place_next, progress_next}
