@@ -2,6 +2,7 @@
 mod Classes
 mod Comment
 mod Tokens
+mod TokenLists
 mod Walks
 mod TokenNumbers
 mod Gathering

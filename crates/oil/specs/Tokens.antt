@@ -2,9 +2,10 @@
 --
 --   place_after t i, progress_after t i  where the text stands after i tokens, and what it wants there
 --   token t i                            the token that comes then
+--   tokens_from k t at s                 the next k tokens from a place on, each with how far the text, then at s, has come
 --   Least n p r                          r is the first number below n of which p holds, or n
 --   Ordered t v                          v is what the tokens alone are refused with, and how many stand before it
-use Rattle.std.specs.Prelude.{ℕ, zero, suc, ◌≤◌, ◌<◌, ◌≡◌, Bool, true, false, List}
+use Rattle.std.specs.Prelude.{ℕ, zero, suc, ◌≤◌, ◌<◌, ◌≡◌, Bool, true, false, List, [], ◌∷◌}
 use Rattle.number.specs.Refusal.{none}
 use Rattle.oil_grammar.specs.Records.{Token}
 use Rattle.oil_grammar.specs.Records.{Progress}
@@ -23,6 +24,10 @@ token t i = next_token t (place_after t i)
 unfoldable pub progress_after : List ℕ → ℕ → Progress
 progress_after t zero = fresh
 progress_after t (suc i) = after (progress_after t i) (token t i).sort
+
+unfoldable pub tokens_from : ℕ → List ℕ → ℕ → Progress → List (Progress × Token)
+tokens_from zero t at s = []
+tokens_from (suc k) t at s = let w = next_token t at in (s, w) ∷ tokens_from k t w.end (after s w.sort)
 
 pub record Least (n : ℕ) (p : ℕ → Bool) (r : ℕ) : Type 0 where
   pub within : r ≤ n

@@ -2,8 +2,8 @@
 ghost use Rattle.std.specs.Prelude.{◌≡◌, ◌+◌, ◌*◌, ◌-◌, ◌%◌, ◌≤◌, ◌<◌, length, take, drop};
 ghost use Rattle.oil.specs.Names.{prime, hashed};
 
-use crate::automaton::{after, fresh, names_object};
-use crate::next::next_token;
+use crate::automaton::names_object;
+use crate::token_walk::TokenWalk;
 
 // The modulus of the hash.
 const PRIME: u64 = 4294967291;
@@ -44,28 +44,11 @@ pub fn hash(text: &[u8], key: u64, start: usize, end: usize) -> u64
     h
 }
 
-// One more, if so.
-fn counted(n: usize, more: bool) -> usize
-    requires { n < 18446744073709551615 }
-    ensures { result ≤ n + 1 }
-{
-    if more { n + 1 } else { n }
-}
-
 // How many of the first `tokens` tokens are names of objects.
 fn objects(text: &[u8], tokens: usize) -> usize {
-    let mut n = 0;
-    let mut s = fresh();
-    let mut at = 0;
-    let mut i = 0;
-    while i < tokens {
-        let w = next_token(text, at);
-        n = counted(n, names_object(s));
-        s = after(s, w.sort);
-        at = w.end;
-        i += 1;
-    }
-    n
+    TokenWalk::new(text, tokens)
+        .filter(|(s, _)| names_object(*s))
+        .count()
 }
 
 // How many classes there are.

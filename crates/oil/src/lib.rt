@@ -10,6 +10,7 @@ mod names;
 mod next;
 mod place;
 mod sorts;
+mod token_walk;
 mod uses;
 mod walk;
 

@@ -1,13 +1,11 @@
--- `objects` meets its contract: it counts no more than the tokens passed.
-use native.Mathlib.Omega.{arith}
-use Rattle.oil.proofs.Walks.{token_inside}
+-- `objects` meets its contract: it counts no more than the tokens.
+use Rattle.std.proofs.Common.{◌≡◌, ◌∙◌, ap, inl, length, arith}
+use Rattle.oil_grammar.specs.Automaton.{fresh}
+use Rattle.oil.proofs.TokenLists.{length_tokens}
 use Rattle.oil.proofs.hashing.objects.Goals as goal
 
-pub loop-i-preserved : goal.loop-i-preserved
-loop-i-preserved c = let l = c.loop-i in
-    let n = c.next_token-w in (
-      (token_inside c.args.text.now l.at l.invariant.0
-          n.ensures
-          ).1,
-      (let e = c.counted-n.ensures in let h = l.invariant.1 in omega arith),
-    )
+pub count-requires-clause-fits : goal.count-requires-clause-fits
+count-requires-clause-fits c = let a = c.args in
+    let e : length c.filter.result.iter ≡ a.tokens =
+    ap length (c.filter.ensures.source ∙ c.new.ensures) ∙ length_tokens a.text.now a.tokens 0 fresh in
+    inl (let f = c.ranges.tokens.fits in omega arith)
