@@ -47,7 +47,7 @@ pub fn hash(text: &[u8], key: u64, start: usize, end: usize) -> u64
 // How many of the first `tokens` tokens are names of objects.
 fn objects(text: &[u8], tokens: usize) -> usize {
     TokenWalk::new(text, tokens)
-        .filter(|(s, _)| names_object(*s))
+        .filter(|step| names_object(step.progress))
         .count()
 }
 

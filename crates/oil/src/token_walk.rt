@@ -1,12 +1,32 @@
 // The tokens of a text in order, each with how far the text has come before it.
-ghost use Rattle.std.specs.Prelude.{◌≡◌};
+ghost use Rattle.std.specs.Prelude.{◌≡◌, ◌≤◌, length};
+ghost use Rattle.oil_grammar.specs.Next.{spelling};
 ghost use Rattle.oil_grammar.specs.Automaton.{fresh};
 ghost use Rattle.oil.specs.Tokens.{tokens_from};
+
+use std::marker::Model;
 
 use crate::automaton::{after, fresh};
 use crate::next::next_token;
 use oil_grammar::{Progress, Token};
-use std::marker::Model;
+
+// The bytes of a token.
+fn spelling(text: &[u8], token: Token) -> &[u8]
+    requires { (token.start ≤ token.end) × (token.end ≤ length text.now) }
+    ensures { result.now ≡ spelling text.now token }
+{
+    let start = token.start;
+    let end = token.end;
+    &text[start..end]
+}
+
+// A token, its bytes, and how far the text has come before it.
+#[derive(Clone, Copy)]
+pub struct Step<'a> {
+    pub progress: Progress,
+    pub token: Token,
+    pub spelling: &'a [u8],
+}
 
 // The next tokens of a text, `left` of them.
 #[derive(Drop)]
@@ -18,12 +38,12 @@ pub struct TokenWalk<'a> {
 }
 
 impl<'a> Model for TokenWalk<'a> {
-    ghost use Rattle.std.specs.Prelude.{List, ◌≤◌, length};
-    ghost use Rattle.oil_grammar.specs.declared.Progress.{Progress};
-    ghost use Rattle.oil_grammar.specs.declared.Token.{Token};
+    ghost use Rattle.std.specs.Prelude.{ℕ, List, ◌≤◌, length};
+    ghost use Rattle.oil_grammar.specs.Records.{Progress};
+    ghost use Rattle.oil_grammar.specs.Records.{Token};
     ghost use Rattle.oil.specs.Tokens.{tokens_from};
 
-    ghost Value = { List (Progress × Token) };
+    ghost Value = { List (Progress × Token × List ℕ) };
 
     ghost view = { λ w. tokens_from w.left w.text.now w.at w.progress };
 
@@ -45,20 +65,26 @@ impl<'a> TokenWalk<'a> {
 }
 
 impl<'a> Iterator for TokenWalk<'a> {
-    ghost use Rattle.std.specs.Iterator.{YieldsFirst, item_count};
+    ghost use Rattle.std.specs.Iterator.{YieldsFirstBy, item_count};
+    ghost use Rattle.oil.specs.Tokens.{step_of};
 
-    type Item = (Progress, Token);
+    type Item = Step<'a>;
 
-    ghost next_gives = { YieldsFirst (λ tokens. tokens) };
+    ghost next_gives = { YieldsFirstBy step_of (λ steps. steps) };
 
-    ghost remaining = { item_count (λ tokens. tokens) };
+    ghost remaining = { item_count (λ steps. steps) };
 
-    fn next(&mut self) -> Option<(Progress, Token)> {
+    fn next(&mut self) -> Option<Step<'a>> {
         self.left = self.left.checked_sub(1)?;
+        let text = self.text;
         let progress = self.progress;
-        let token = next_token(self.text, self.at);
+        let token = next_token(text, self.at);
         self.progress = after(progress, token.sort);
         self.at = token.end;
-        Some((progress, token))
+        Some(Step {
+            progress,
+            token,
+            spelling: spelling(text, token),
+        })
     }
 }
