@@ -6,6 +6,7 @@ mod TokenLists
 mod Walks
 mod TokenNumbers
 mod Gathering
+mod ByClass
 mod Order
 mod FirstUse
 mod Digits

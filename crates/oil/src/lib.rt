@@ -3,6 +3,7 @@
 
 mod automaton;
 mod borne;
+mod by_class;
 mod bytes;
 mod hashing;
 mod meaning;

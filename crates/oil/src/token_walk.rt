@@ -4,11 +4,10 @@ ghost use Rattle.oil_grammar.specs.Next.{spelling};
 ghost use Rattle.oil_grammar.specs.Automaton.{fresh};
 ghost use Rattle.oil.specs.Tokens.{tokens_from};
 
-use std::marker::Model;
-
 use crate::automaton::{after, fresh};
 use crate::next::next_token;
 use oil_grammar::{Progress, Token};
+use std::marker::Model;
 
 // The bytes of a token.
 fn spelling(text: &[u8], token: Token) -> &[u8]

@@ -57,8 +57,7 @@ pub fn walk(text: &[u8]) -> Found
 {
     let v = ordered(text);
     let n = v.tokens;
-    let d = first_repeated(text, n);
-    if d < n {
+    if let Some(d) = first_repeated(text, n) {
         return refused_at(GIVEN_TWICE, token_start(text, d));
     }
     if v.refusal != 0 {
