@@ -11,8 +11,7 @@ use lib.Dec.{leb, eqb, lit≤}
 use lib.ListN.{length}
 use borrow.Author.Tests.{ne_eqb}
 use Rattle.number.specs.Refusal.{none}
-use Rattle.number.specs.declared.NumberRead.{NumberRead}
-use Rattle.number.specs.Number.{read_number, groups}
+use Rattle.number.specs.Number.{NumberRead, read_number, groups}
 use Rattle.number.proofs.Cases.{by_test, by_eq, cond_either}
 use Rattle.number.proofs.Theorems as Number
 use Rattle.config.specs.declared.Config.{Config}

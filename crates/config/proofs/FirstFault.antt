@@ -13,16 +13,14 @@ use lib.Seq.{take-take, take-length, take-append_seam}
 use borrow.Author.Tests.{eq-eqb, ne_eqb, le-leb, lt-leb}
 use Rattle.number.specs.Refusal.{none, cut, malformed}
 use Rattle.number.specs.Number as Number
-use Rattle.number.specs.Number.{read_number}
-use Rattle.number.specs.declared.NumberRead.{NumberRead}
+use Rattle.number.specs.Number.{NumberRead, read_number}
 use Rattle.number.proofs.Cases.{by_test, by_lt, by_eq}
 use Rattle.number.proofs.Front.{agree_fewer}
 use Rattle.number.proofs.Theorems as Numbers
-use Rattle.config.specs.declared.ConfigRead.{ConfigRead}
 use Rattle.config.specs.declared.Draft.{Draft}
 use Rattle.config.specs.Refusal.{left_over, too_long, bad_version}
 use Rattle.config.specs.Draft.{fault, put, ended, silent, start}
-use Rattle.config.specs.Reader.{refused, number_at, number_fault, fault_place, finished, read_from, max_numbers, max_length, read_config}
+use Rattle.config.specs.Reader.{ConfigRead, refused, number_at, number_fault, fault_place, finished, read_from, max_numbers, max_length, read_config}
 use Rattle.config.specs.Decisive.{OfNumber, decisive}
 use Rattle.config.proofs.Walk.{number_fine, silent_fine, numbered, read_end, read_zero, read_step, read_stop}
 use Rattle.config.proofs.Reading.{fault_late, fault_not_over, bounded, unreadable_there}

@@ -13,7 +13,6 @@ use Rattle.number.specs.Refusal.{none, cut, malformed}
 use Rattle.number.specs.Number.{read_number}
 use Rattle.number.proofs.Cases.{by_test, by_lt, by_eq}
 use Rattle.config.specs.declared.Config.{Config}
-use Rattle.config.specs.declared.ConfigRead.{ConfigRead}
 use Rattle.config.specs.declared.Draft.{Draft}
 use Rattle.config.specs.declared.Field.{Field}
 use Rattle.config.specs.declared.Field.TheVariants.{Version, Bodies, Kind, Priority, Autostart, Deadline, Resources, Users, Tables, Period, Entries, Offset, Task, End}
@@ -23,7 +22,7 @@ use Rattle.config.specs.Value.{newest_version, max_priority, max_bodies, max_res
 use Rattle.config.specs.Among.{among}
 use Rattle.config.specs.Draft.{unless, outside, and_then, sorted, shares_offset, mixes, second_table, most_autostart, most_deadline, timed_user, fault, fault_at, put, asked, ended, silent, start, Within}
 use Rattle.config.specs.Writer.{fault_from}
-use Rattle.config.specs.Reader.{number_at, number_fault, fault_place, finished, refused, read_from, max_numbers, max_length, read_config}
+use Rattle.config.specs.Reader.{ConfigRead, number_at, number_fault, fault_place, finished, refused, read_from, max_numbers, max_length, read_config}
 use Rattle.config.proofs.Position.{left, moved, some_left, start_within}
 use Rattle.config.proofs.Walk.{numbered, number_fine, read_end, read_step, read_stop, read_from_elim}
 

@@ -11,11 +11,10 @@ use Rattle.number.specs.Number.{Bytes, number_bound}
 use Rattle.number.proofs.Cases.{by_test, by_lt, by_eq}
 use Rattle.number.proofs.Theorems as Number
 use Rattle.config.specs.declared.Config.{Config}
-use Rattle.config.specs.declared.ConfigRead.{ConfigRead}
 use Rattle.config.specs.declared.Draft.{Draft}
 use Rattle.config.specs.Meaning.{entries_before}
 use Rattle.config.specs.Draft.{put, silent, start, Within}
-use Rattle.config.specs.Reader.{accepted, max_numbers, max_length, read_config}
+use Rattle.config.specs.Reader.{ConfigRead, accepted, max_numbers, max_length, read_config}
 use Rattle.config.specs.Writer.{bytes_at, first_fault, config_bytes}
 use Rattle.config.specs.Accepted.{Shaped, Accepted, trimmed}
 use Rattle.config.proofs.Position.{moved, start_within, Paced, paced, start_paced, small}

@@ -17,13 +17,12 @@ use Rattle.number.specs.Refusal.{none, cut, malformed}
 use Rattle.number.specs.Number.{Bytes, read_number}
 use Rattle.number.proofs.Cases.{by_lt}
 use Rattle.config.specs.declared.Config.{Config}
-use Rattle.config.specs.declared.ConfigRead.{ConfigRead}
 use Rattle.config.specs.Refusal.{bad_version, bad_count, too_many_entries, left_over, too_long, shared_offset, mixed_table}
 use Rattle.config.specs.Value.{max_bodies, max_resources, no_config, with_resources}
 use Rattle.config.specs.Meaning.{isr, last_kind, is_timed, is_user, priority_of, ceiling, first_of, timed_entry, smallest_offset, execution_level, trigger_level}
 use Rattle.config.specs.declared.Draft.{Draft}
 use Rattle.config.specs.Draft.{ended, silent, start}
-use Rattle.config.specs.Reader.{accepted, refused, in_second, read_from, max_numbers, max_length, read_config}
+use Rattle.config.specs.Reader.{ConfigRead, accepted, refused, in_second, read_from, max_numbers, max_length, read_config}
 use Rattle.config.specs.Writer.{fault_from, first_fault, bytes_from, config_bytes, write_config, wrote_config}
 use Rattle.config.specs.Accepted.{Shaped, Accepted, trimmed}
 use Rattle.config.specs.Decisive.{OfNumber, decisive}

@@ -16,18 +16,16 @@ use lib.ListN.{length, drop, length-append, length-drop, drop_of_length-le}
 use lib.Seq.{drop-drop, drop-append_seam}
 use borrow.Author.Tests.{eq-eqb, ne_eqb, not-true}
 use Rattle.number.specs.Refusal.{none, cut, malformed}
-use Rattle.number.specs.Number.{Bytes, number_bound, read_number}
-use Rattle.number.specs.declared.NumberRead.{NumberRead}
+use Rattle.number.specs.Number.{NumberRead, Bytes, number_bound, read_number}
 use Rattle.number.proofs.Cases.{by_test, by_eq}
 use Rattle.number.proofs.Theorems as Number
 use Rattle.config.specs.declared.Config.{Config}
-use Rattle.config.specs.declared.ConfigRead.{ConfigRead}
 use Rattle.config.specs.declared.Draft.{Draft}
 use Rattle.config.specs.declared.Field.{Field}
 use Rattle.config.specs.declared.Field.TheVariants.{Version, Bodies, Kind, Priority, Autostart, Deadline, Resources, Users, Tables, Period, Entries, Offset, Task, End}
 use Rattle.config.specs.Meaning.{has_deadlines}
 use Rattle.config.specs.Draft.{fault, fault_at, put, asked, ended, silent, silent_at, Within}
-use Rattle.config.specs.Reader.{accepted, refused, number_at, number_fault, fault_place, finished, read_from}
+use Rattle.config.specs.Reader.{ConfigRead, accepted, refused, number_at, number_fault, fault_place, finished, read_from}
 use Rattle.config.specs.Writer.{bytes_at, fault_from, bytes_from}
 use Rattle.config.proofs.Ranges.{InRange, in_range}
 use Rattle.config.proofs.Position.{left, moved, Paced, paced, small, some_left}

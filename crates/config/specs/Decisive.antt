@@ -7,7 +7,7 @@
 use Rattle.std.specs.Prelude.{ℕ, List, ◌≢◌, eqb}
 use Rattle.number.specs.Refusal.{none, cut, malformed}
 use Rattle.number.specs.Number as Number
-use Rattle.config.specs.declared.ConfigRead.{ConfigRead}
+use Rattle.config.specs.Reader.{ConfigRead}
 use Rattle.config.specs.Refusal.{left_over, too_long}
 
 -- a number is at fault, and not the input's end, bytes left over or the length

@@ -1,16 +1,24 @@
 -- The configuration reader: number after number, until none is left to read.
 --
 --   read_config bs  the configuration that bs is, or the one refusal with its place
-use Rattle.std.specs.Prelude.{ℕ, zero, suc, cond, List, leb, eqb, length}
+use Rattle.std.specs.Prelude.{ℕ, zero, suc, cond, List, leb, eqb, length, Result, Ok, Err}
+use Rattle.number.specs.declared.Refused.{Refused}
+use Rattle.number.specs.declared.Reading.{Reading}
 use Rattle.number.specs.Refusal.{none, cut}
-use Rattle.number.specs.Number.{read_number}
-use Rattle.number.specs.declared.NumberRead.{NumberRead}
+use Rattle.number.specs.Answer.{code}
+use Rattle.number.specs.Number.{NumberRead, read_number}
 use Rattle.config.specs.declared.Config.{Config}
-use Rattle.config.specs.declared.ConfigRead.{ConfigRead}
 use Rattle.config.specs.declared.Draft.{Draft}
 use Rattle.config.specs.Refusal.{left_over, too_long}
 use Rattle.config.specs.Value.{no_config, with_version}
 use Rattle.config.specs.Draft.{fault, put, ended, silent, start}
+
+-- What a reading gives: the configuration with refusal 0 and the place after it, or the all-zero value with the refusal
+-- and its place.
+pub record ConfigRead : Type 0 where
+  pub config : Config
+  pub refusal : ℕ
+  pub place : ℕ
 
 -- "An accepted reading has refusal 0 and the place after it"
 abbrev pub accepted : Config → ℕ → ConfigRead
@@ -19,6 +27,11 @@ accepted c p = record { config = c; refusal = none; place = p }
 -- "A refused reader returns an all-zero value with refusal and place"
 abbrev pub refused : ℕ → ℕ → ConfigRead
 refused r p = record { config = no_config; refusal = r; place = p }
+
+-- the answer of a function, in document 01's numbers
+abbrev pub as_config_read : Result (Reading Config) Refused → ConfigRead
+as_config_read (Ok r) = accepted r.value r.place
+as_config_read (Err e) = refused (code e.refusal) e.place
 
 -- the same reading, in version 2
 abbrev pub in_second : ConfigRead → ConfigRead

@@ -6,8 +6,7 @@
 use Rattle.std.specs.Prelude.{ℕ, zero, suc, cond, List, [], ◌++◌, eqb, length}
 use Rattle.number.specs.Refusal.{none}
 use Rattle.number.specs.Number.{number_bytes}
-use Rattle.number.specs.Output.{unwritten, writing, written}
-use Rattle.number.specs.declared.Written.{Written}
+use Rattle.number.specs.Output.{Written, unwritten, writing, written}
 use Rattle.config.specs.declared.Config.{Config}
 use Rattle.config.specs.declared.Draft.{Draft}
 use Rattle.config.specs.Draft.{fault, put, asked, ended, silent, start}

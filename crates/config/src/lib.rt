@@ -1,27 +1,6 @@
-// A configuration as a value, and as far as its numbers have come; its kinds and its refusals (error codes). What its
-// bytes are, read and written, is defined in specs/; no code runs here.
+// A configuration as a value, and as far as its numbers have come; its kinds. What its bytes
+// are, read and written, is defined in specs/; no code runs here.
 #![tactic(auto)]
-
-// The version is not 1 to 3.
-pub const BAD_VERSION: u8 = 3;
-// A count is outside its range.
-pub const BAD_COUNT: u8 = 4;
-// Another field is outside its range, an entry's task is an ISR, or a mask has a bit for a body of kind 3.
-pub const BAD_FIELD: u8 = 5;
-// A body before has this priority.
-pub const USED_PRIORITY: u8 = 6;
-// An entry does not come after the one before it.
-pub const UNSORTED: u8 = 7;
-// This entry count takes the total over 64.
-pub const TOO_MANY_ENTRIES: u8 = 8;
-// Bytes are left over.
-pub const LEFT_OVER: u8 = 9;
-// A configuration is longer than 4,096 bytes.
-pub const TOO_LONG: u8 = 10;
-// An entry has the offset of the one before it, and either is of kind 3.
-pub const SHARED_OFFSET: u8 = 13;
-// A table has entries of kind 3 and others, or is the second that has entries of kind 3.
-pub const MIXED_TABLE: u8 = 14;
 
 // An ISR's kind; whatever is no ISR is a task.
 pub const ISR: u8 = 1;
@@ -91,13 +70,4 @@ pub struct Draft {
     pub index: usize,
     pub entry: usize,
     pub until: usize,
-}
-
-// What a reading gives: the configuration with refusal 0 and the place after it, or the all-zero
-// value with the refusal and its place.
-#[derive(Clone, Copy)]
-pub struct ConfigRead {
-    pub config: Config,
-    pub refusal: u8,
-    pub place: usize,
 }

@@ -7,8 +7,8 @@ use mathlib.Core.List.{List}
 use native.Mathlib.Omega.{arith}
 use borrow.Author.Tests.{eq-eqb, ne_eqb}
 use lib.ListN.{length}
+use Rattle.number.specs.Number.{NumberRead}
 use Rattle.number.specs.Refusal.{none}
-use Rattle.number.specs.declared.NumberRead.{NumberRead}
 use Rattle.config.specs.declared.Draft.{Draft}
 use Rattle.config.specs.Draft.{fault, put, ended, start, Within}
 use Rattle.config.specs.Reader.{refused, number_at, number_fault, fault_place, finished, read_from, max_numbers}

@@ -1,23 +1,19 @@
--- A step of the walk. Its loop keeps `WalksOn`; an arm that tests and stores by its field's `fault` and `put` (`Stepped`)
--- ends the walk with its `Outcome` or takes it to the next number.
-use Prim.Native.Nat.{ℕ, ◌+◌, ◌%◌, ◌≤◌, ◌<◌}
+-- A step of the walk. Its loop keeps `WalksOn`; a number that is tested by `fault` and stored by `put` ends the walk with
+-- its `Outcome` or takes it to the next number.
+use Prim.Native.Nat.{ℕ, ◌+◌, ◌≤◌, ◌<◌}
 use mathlib.Core.Path.{◌≡◌, refl, sym, ap, subst, ◌∙◌}
 use mathlib.Core.Bool.{Bool, true, false}
 use mathlib.Core.List.{List}
-use native.Mathlib.Nat.{mod-eq_of_lt}
 use native.Mathlib.Omega.{arith}
 use lib.ListN.{length}
+use Rattle.number.specs.Number.{NumberRead}
 use Rattle.number.specs.Refusal.{none}
-use Rattle.number.specs.declared.NumberRead.{NumberRead}
 use Rattle.number.proofs.Cases.{by_test}
 use Rattle.config.specs.declared.Config.{Config}
-use Rattle.config.specs.declared.ConfigRead.{ConfigRead}
 use Rattle.config.specs.declared.Draft.{Draft}
-use Rattle.config.specs.declared.Field.{Field}
-use Rattle.config.specs.Draft.{fault, fault_at, put, put_at, asked, ended, silent, start, Within}
-use Rattle.config.specs.Reader.{accepted, refused, number_at, max_length}
+use Rattle.config.specs.Draft.{fault, put, asked, ended, silent, start, Within}
+use Rattle.config.specs.Reader.{ConfigRead, accepted, refused, number_at, max_length}
 use Rattle.config.specs.Writer.{bytes_at}
-use Rattle.config.proofs.Ranges.{InRange, in_range}
 use Rattle.config.proofs.Position.{left, start_within, moved, Moved}
 use Rattle.config_codec.specs.declared.position.Position.{Position}
 use Rattle.config_codec.specs.Position.{draft_at, position_of, Follows, Stands}
@@ -25,27 +21,6 @@ use Rattle.config_codec.specs.Walk.{read_unless, given, Answers, Measures}
 use Rattle.config_codec.proofs.NextNumber.{asked_same, onward}
 use Rattle.config_codec.proofs.Reading.{ReadsOn, reads_start, unreadable, faulty, goes, reads_end}
 use Rattle.config_codec.proofs.Measuring.{MeasuresOn, measures_start, measures_small, measures_refused, measures_next, measures_end}
-
--- the number v at p gives the refusal r and, where there is none, the configuration c'
-pub record Stepped (c : Config) (p : Position) (v r : ℕ) (c' : Config) : Type 0 where
-  pub refusal : r ≡ fault (draft_at c p) v
-  pub stored : r ≡ none → c' ≡ (put (draft_at c p) v).config
-
--- the arm of the field f
-pub stepped_at : {c : Config} {p : Position} {v r : ℕ} {c' : Config} (f : Field) → p.field ≡ f
-    → r ≡ fault_at f (draft_at c p) v
-    → (r ≡ none → InRange f (draft_at c p) v → c' ≡ (put_at f (draft_at c p) v).config)
-    → Stepped c p v r c'
-stepped_at {c} {p} {v} {r} {c'} f e h s =
-    record {
-      refusal = subst (λ (g : Field). r ≡ fault_at g (draft_at c p) v) (sym e) h;
-      stored = λ z. subst (λ (g : Field). c' ≡ (put_at g (draft_at c p) v).config) (sym e)
-          (s z (in_range (draft_at c p) v f (sym h ∙ z)));
-    }
-
--- a number that fits its place is stored as it is
-pub fits : {b v : ℕ} (n : ℕ) → b ≡ v % n → v < n → b ≡ v
-fits n e h = e ∙ mod-eq_of_lt h
 
 -- the numbers so far are those of the draft, read or measured
 pub record WalksOn (writing : Bool) (value : Config) (bs : List ℕ) (c : Config) (p : Position) (at : ℕ) : Type 0 where
@@ -104,27 +79,25 @@ module _ {writing : Bool} {value : Config} {bs : List ℕ} {c : Config} {p : Pos
         ap (λ (x : NumberRead). at + length (bytes_at d x.value)) (told w)
         ∙ sym (ap (λ (x : NumberRead). x.place) (told w))
 
-    -- tested and stored
-    module _ (h : r.refusal ≡ none) {s : ℕ} {c' : Config} (t : Stepped c p r.value s c') where
-      pub step_refused : (s ≡ none → ⊥) → Outcome writing value bs (refused s at)
-      step_refused n = (
+    -- tested
+    module _ (h : r.refusal ≡ none) where
+      pub step_refused : {s : ℕ} → s ≡ fault d r.value → (s ≡ none → ⊥) → Outcome writing value bs (refused s at)
+      step_refused {s} t n = (
         λ w. (
           λ z. absurd (n z),
-          λ _. ap (λ (x : ℕ). refused x at) t.refusal
-              ∙ faulty (o.reads w) more (here w) h (λ z. n (t.refusal ∙ z)),
+          λ _. ap (λ (x : ℕ). refused x at) t ∙ faulty (o.reads w) more (here w) h (λ z. n (t ∙ z)),
         ),
-        λ w. (λ z. absurd (n z), λ _. measures_refused (o.measures w) more (is_asked w) t.refusal n),
+        λ w. (λ z. absurd (n z), λ _. measures_refused (o.measures w) more (is_asked w) t n),
       )
 
-      module _ (e : s ≡ none) {q : Position} (f : Follows p r.value c'.bodies c'.resources c'.tables q) where
-        fine : fault d r.value ≡ none
-        fine = sym t.refusal ∙ e
-
+      -- and stored
+      module _ (fine : none ≡ fault d r.value) {c' : Config} (stored : c' ≡ (put d r.value).config) {q : Position}
+          (f : Follows p r.value c'.bodies c'.resources c'.tables q) where
         after : put d r.value ≡ draft_at c' q
-        after = sym (onward c p r.value c' q (t.stored e) f)
+        after = sym (onward c p r.value c' q stored f)
 
         step : Moved d (draft_at c' q)
-        step = subst (λ (x : Draft). Moved d x) after (moved d r.value more fine o.within)
+        step = subst (λ (x : Draft). Moved d x) after (moved d r.value more (sym fine) o.within)
 
         pub step_fewer : left (draft_at c' q) < left d
         step_fewer = step.fewer
@@ -134,8 +107,8 @@ module _ {writing : Bool} {value : Config} {bs : List ℕ} {c : Config} {p : Pos
             record {
               within = step.within;
               reads = λ w. subst (λ (x : Draft). ReadsOn bs r.place x) after
-                  (goes (o.reads w) more (here w) h fine);
+                  (goes (o.reads w) more (here w) h (sym fine));
               measures = λ w. subst (λ (x : Draft). MeasuresOn value r.place x) after
                   (subst (λ (n : ℕ). MeasuresOn value n (put d r.value)) (place w)
-                  (measures_next (o.measures w) more (is_asked w) fine));
+                  (measures_next (o.measures w) more (is_asked w) (sym fine)));
             }

@@ -6,14 +6,12 @@
 --   given c p q at       the number of the value c at p, as if it had been read at the place `at`
 use Rattle.std.specs.Prelude.{ℕ, ◌+◌, ◌≡◌, Bool, cond, List, [], eqb, length}
 use Rattle.number.specs.Refusal.{none}
-use Rattle.number.specs.Number.{read_number, number_bytes}
+use Rattle.number.specs.Number.{NumberRead, read_number, number_bytes}
 use Rattle.number.specs.Output.{unwritten}
-use Rattle.number.specs.declared.NumberRead.{NumberRead}
 use Rattle.config.specs.declared.Config.{Config}
-use Rattle.config.specs.declared.ConfigRead.{ConfigRead}
 use Rattle.config.specs.Refusal.{left_over}
 use Rattle.config.specs.Draft.{asked, start}
-use Rattle.config.specs.Reader.{accepted, refused, max_numbers, read_from}
+use Rattle.config.specs.Reader.{ConfigRead, accepted, refused, max_numbers, read_from}
 use Rattle.config.specs.Writer.{measured}
 use Rattle.config_codec.specs.Position.{draft_at}
 use Rattle.config_codec.specs.declared.position.Position.{Position}

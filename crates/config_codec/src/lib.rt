@@ -11,56 +11,59 @@ mod walk;
 mod writer;
 
 ghost use Rattle.std.specs.Prelude.{◌≡◌, length};
+ghost use Rattle.number.specs.Answer.{as_written};
 ghost use Rattle.config.specs.Value.{no_config};
-ghost use Rattle.config.specs.Reader.{read_config};
+ghost use Rattle.config.specs.Reader.{as_config_read, read_config};
 ghost use Rattle.config.specs.Writer.{write_config, wrote_config};
 
-use config::{Config, ConfigRead, LEFT_OVER, TOO_LONG};
-use number::{NO_ROOM, Written};
+use config::Config;
+use number::{Reading, Refusal, Refused};
 
 const MAX_LENGTH: usize = 4096;
 
 // The configuration that `bytes` is.
-pub fn read_config(bytes: &[u8]) -> ConfigRead
-    ensures { result ≡ read_config bytes.now }
+pub fn read_config(bytes: &[u8]) -> Result<Reading<Config>, Refused>
+    ensures { as_config_read result ≡ read_config bytes.now }
 {
     if MAX_LENGTH < bytes.len() {
-        return value::refused(TOO_LONG, 0);
+        return Err(Refused {
+            refusal: Refusal::TooLong,
+            place: 0,
+        });
     }
-    let r = walk::walk(false, no_config(), bytes);
-    if r.refusal != 0 {
-        return r;
-    }
+    let r = walk::walk(false, no_config(), bytes)?;
     if r.place != bytes.len() {
-        return value::refused(LEFT_OVER, r.place);
+        return Err(Refused {
+            refusal: Refusal::LeftOver,
+            place: r.place,
+        });
     }
-    r
+    Ok(r)
 }
 
-// Writes the configuration at the start of `out`, or nothing where it is refused or does not fit.
-pub fn write_config(config: Config, out: &mut [u8]) -> Written
-    ensures result { result ≡ write_config config (length out.old) }
+// Writes the configuration at the start of `out`, or nothing where it is refused or does not fit; gives its length.
+pub fn write_config(config: Config, out: &mut [u8]) -> Result<usize, Refused>
+    ensures result { as_written result ≡ write_config config (length out.old) }
     ensures output { out.new ≡ wrote_config config out.old }
 {
-    let m = walk::walk(true, config, b"");
-    if m.refusal != 0 {
-        return Written {
-            refusal: m.refusal,
-            place: 0,
-        };
-    }
-    let n = m.place;
+    // A value's refusal has the place 0.
+    let n = match walk::walk(true, config, b"") {
+        Ok(measured) => measured.place,
+        Err(refused) => {
+            return Err(Refused {
+                refusal: refused.refusal,
+                place: 0,
+            });
+        }
+    };
     if out.len() < n {
-        return Written {
-            refusal: NO_ROOM,
+        return Err(Refused {
+            refusal: Refusal::NoRoom,
             place: n,
-        };
+        });
     }
     writer::write_numbers(config, out);
-    Written {
-        refusal: 0,
-        place: n,
-    }
+    Ok(n)
 }
 
 // The all-zero value.

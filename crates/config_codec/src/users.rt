@@ -3,10 +3,12 @@ ghost use Rattle.std.specs.Prelude.{◌≡◌, not, ◌&&◌, ◌-◌, ◌%◌, 
 ghost use Rattle.config.specs.Refusal.{bad_field};
 ghost use Rattle.config.specs.Meaning.{time_triggered};
 ghost use Rattle.config.specs.Draft.{unless, outside, and_then, timed_in};
+ghost use Rattle.config_codec.specs.Fault.{fault_code};
 
 use crate::among::among;
-use crate::limits::{and_then, outside, unless};
-use config::{BAD_FIELD, TIME_TRIGGERED};
+use crate::limits::within;
+use config::TIME_TRIGGERED;
+use number::Refusal;
 
 // The mask of all bodies.
 fn all_bodies(bodies: u8) -> u32
@@ -48,16 +50,15 @@ fn timed_in(mask: u32, n: usize, kind: [u8; 32]) -> bool
     false
 }
 
-// The refusal of a mask. Where no body is of kind 3 its bits need no look.
-pub fn users_fault(v: u32, bodies: u8, kind: [u8; 32]) -> u8
+// A mask of users. Where no body is of kind 3 its bits need no look.
+pub fn check_users(v: u32, bodies: u8, kind: [u8; 32]) -> Result<(), Refusal>
     requires { bodies ≤ 32 }
-    ensures { result ≡ and_then (outside 1 (2 ^ bodies - 1) v bad_field)
+    ensures { fault_code result ≡ and_then (outside 1 (2 ^ bodies - 1) v bad_field)
         (unless (not (timed_in v (take bodies kind))) bad_field) }
 {
-    let range = outside(1, all_bodies(bodies), v, BAD_FIELD);
-    if !among(TIME_TRIGGERED, kind) {
-        return range;
+    within(v, 1, all_bodies(bodies), Refusal::BadField)?;
+    if among(TIME_TRIGGERED, kind) && timed_in(v, bodies as usize, kind) {
+        return Err(Refusal::BadField);
     }
-    let bit = timed_in(v, bodies as usize, kind);
-    and_then(range, unless(!bit, BAD_FIELD))
+    Ok(())
 }

@@ -1,23 +1,18 @@
-// A refused reading, and the number of a configuration at a position.
-ghost use Rattle.std.specs.Prelude.{◌≡◌};
-ghost use Rattle.config.specs.Draft.{asked};
-ghost use Rattle.config.specs.Reader.{refused};
+// The numbers of a configuration: what each is, and where it goes.
+ghost use Rattle.std.specs.Prelude.{◌≡◌, OnOk};
+ghost use Rattle.config.specs.Draft.{asked, fault, put, Within};
+ghost use Rattle.config_codec.specs.Fault.{fault_code};
 ghost use Rattle.config_codec.specs.Position.{draft_at, Stands};
 
-use crate::no_config;
+use crate::entry::{check_entry, entry_at};
+use crate::limits::{
+    LAST_KIND, NEWEST_VERSION, check_entries, check_offset, check_priority, most_autostart,
+    most_deadline, within,
+};
 use crate::position::Position;
-use config::{Config, ConfigRead, Field};
-
-// No configuration, with the reason and its place.
-pub fn refused(refusal: u8, place: usize) -> ConfigRead
-    ensures { result ≡ refused refusal place }
-{
-    ConfigRead {
-        config: no_config(),
-        refusal: refusal,
-        place: place,
-    }
-}
+use crate::users::check_users;
+use config::{Config, Field, MAX_BODIES, MAX_RESOURCES, MAX_TABLES};
+use number::Refusal;
 
 // The number of `c` at `p`.
 pub fn asked(c: Config, p: Position) -> u32
@@ -26,8 +21,7 @@ pub fn asked(c: Config, p: Position) -> u32
 {
     let i = p.index;
     let e = p.entry;
-    let f = p.field;
-    match f {
+    match p.field {
         Field::Version => c.version as u32,
         Field::Bodies => c.bodies as u32,
         Field::Kind => c.kind[i] as u32,
@@ -43,4 +37,71 @@ pub fn asked(c: Config, p: Position) -> u32
         Field::Task => c.task[e] as u32,
         Field::End => 0,
     }
+}
+
+// Tests the number `v` at `p` by those before it, and puts it in its place.
+pub fn put(c: &mut Config, p: Position, v: u32) -> Result<(), Refusal>
+    requires { Within (draft_at c.old p) }
+    ensures refusal { fault_code result ≡ fault (draft_at c.old p) v }
+    ensures stored { OnOk result (c.new ≡ (put (draft_at c.old p) v).config) }
+{
+    let i = p.index;
+    let e = p.entry;
+    match p.field {
+        Field::Version => {
+            within(v, 1, NEWEST_VERSION, Refusal::BadVersion)?;
+            c.version = v as u8;
+        }
+        Field::Bodies => {
+            within(v, 1, MAX_BODIES as u32, Refusal::BadCount)?;
+            c.bodies = v as u8;
+        }
+        Field::Kind => {
+            within(v, 0, LAST_KIND, Refusal::BadField)?;
+            c.kind[i] = v as u8;
+        }
+        Field::Priority => {
+            check_priority(v, i, c.priority)?;
+            c.priority[i] = v as u8;
+        }
+        Field::Autostart => {
+            within(v, 0, most_autostart(c.kind[i]), Refusal::BadField)?;
+            c.autostart[i] = v as u8;
+        }
+        Field::Deadline => {
+            within(v, 0, most_deadline(c.version, c.kind[i]), Refusal::BadField)?;
+            c.deadline[i] = v as u16;
+        }
+        Field::Resources => {
+            within(v, 0, MAX_RESOURCES as u32, Refusal::BadCount)?;
+            c.resources = v as u8;
+        }
+        Field::Users => {
+            check_users(v, c.bodies, c.kind)?;
+            c.users[i] = v;
+        }
+        Field::Tables => {
+            within(v, 0, MAX_TABLES as u32, Refusal::BadCount)?;
+            c.tables = v as u8;
+        }
+        Field::Period => {
+            within(v, 1, 65_535, Refusal::BadField)?;
+            c.period[i] = v as u16;
+        }
+        Field::Entries => {
+            check_entries(v, e)?;
+            c.entries[i] = v as u8;
+        }
+        Field::Offset => {
+            check_offset(v, c.period[i])?;
+            c.offset[e] = v as u16;
+        }
+        Field::Task => {
+            let x = entry_at(v, p, &c.entries, &c.offset, &c.task);
+            check_entry(x, c.bodies, &c.kind, &c.task)?;
+            c.task[e] = v as u8;
+        }
+        Field::End => {}
+    }
+    Ok(())
 }

@@ -10,7 +10,7 @@ use crate::value::asked;
 use config::Config;
 use number_codec::write_number;
 
-// Writes a number at the start of `out`, or nothing where it stands in no byte; gives its length.
+// Writes a number at the start of `out`, which has room for it, or nothing where it stands in no byte; gives its length.
 fn write_at(silent: bool, v: u32, out: &mut [u8]) -> usize
     requires { length (shown silent v) ≤ length out.old }
     ensures result { result ≡ length (shown silent v) }
@@ -19,8 +19,7 @@ fn write_at(silent: bool, v: u32, out: &mut [u8]) -> usize
     if silent {
         return 0;
     }
-    let w = write_number(v, out);
-    w.place
+    write_number(v, out).unwrap()
 }
 
 // Writes the value's numbers, which are in order, at the start of `out`, which has room for them.

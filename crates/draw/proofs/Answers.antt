@@ -9,9 +9,8 @@ use native.Mathlib.Omega.{arith}
 use borrow.Author.Tests.{le-leb, lt-leb, eq-eqb, ne_eqb, eqb-false}
 use lib.Dec.{eqb, lit≤}
 use lib.ListN.{length}
-use Rattle.number.specs.declared.Written.{Written}
 use Rattle.number.specs.Refusal.{none, no_room}
-use Rattle.number.specs.Output.{unwritten, written}
+use Rattle.number.specs.Output.{Written, unwritten, written}
 use Rattle.number.proofs.Cases.{by_lt, cond_either, neither}
 use Rattle.number.proofs.Theorems.{writing_fits, writing_no_room}
 use Rattle.event.specs.Refusal.{trace_too_long}

@@ -4,9 +4,8 @@ use mathlib.Core.Path.{◌≡◌, refl, sym, ap, ◌∙◌}
 use mathlib.Core.List.{List}
 use borrow.Author.Tests.{eq-eqb}
 use lib.ListN.{length}
-use Rattle.number.specs.declared.Written.{Written}
 use Rattle.number.specs.Refusal.{none}
-use Rattle.number.specs.Output.{writing, written}
+use Rattle.number.specs.Output.{Written, writing, written}
 use Rattle.number.proofs.Cases.{by_lt}
 use Rattle.number.proofs.Theorems.{writing_fits, writing_no_room}
 use Rattle.event.specs.declared.Event.{Event}

@@ -4,9 +4,8 @@
 --   draw_output x ws ls n d  what the slice holds afterwards that held d
 --   draw_result x ws ls n m  the answer as one number, for C
 use Rattle.std.specs.Prelude.{ℕ, Bool, cond, ◌||◌, List, leb, eqb, length}
-use Rattle.number.specs.declared.Written.{Written}
 use Rattle.number.specs.Refusal.{none}
-use Rattle.number.specs.Output.{unwritten, writing, written, packed}
+use Rattle.number.specs.Output.{Written, unwritten, writing, written, packed}
 use Rattle.event.specs.Refusal.{trace_too_long}
 use Rattle.event.specs.Trace.{max_trace}
 use Rattle.drawing.specs.Weights.{total}

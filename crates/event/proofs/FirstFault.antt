@@ -14,15 +14,13 @@ use lib.Seq.{take-take}
 use borrow.Author.Tests.{eq-eqb, ne_eqb}
 use Rattle.number.specs.Refusal.{none, cut, malformed}
 use Rattle.number.specs.Number as Number
-use Rattle.number.specs.Number.{read_number}
-use Rattle.number.specs.declared.NumberRead.{NumberRead}
+use Rattle.number.specs.Number.{NumberRead, read_number}
 use Rattle.number.proofs.Cases.{by_test, by_eq}
 use Rattle.number.proofs.Front.{agree_fewer, agree_long}
 use Rattle.number.proofs.Theorems as Numbers
 use Rattle.event.specs.declared.Event.{Event}
-use Rattle.event.specs.declared.EventRead.{EventRead}
 use Rattle.event.specs.Refusal.{in_trace, trace_cut, trace_malformed, unknown_event}
-use Rattle.event.specs.Event.{known, arguments, event, accepted, refused, unreadable, after_number, read_arguments, read_event}
+use Rattle.event.specs.Event.{EventRead, known, arguments, event, accepted, refused, unreadable, after_number, read_arguments, read_event}
 use Rattle.event.specs.Trace.{TraceRead, broken, before, read_rest, read_trace, decisive}
 use Rattle.event.proofs.Reading.{goes_on, ends, read_known, read_unknown}
 use Rattle.event.proofs.RoundTrip.{read_elim}

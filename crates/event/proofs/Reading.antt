@@ -6,12 +6,10 @@ use mathlib.Core.List.{List}
 use native.Mathlib.Omega.{arith}
 use lib.ListN.{length, get_or}
 use borrow.Author.Tests.{eq-eqb, ne_eqb}
-use Rattle.number.specs.declared.NumberRead.{NumberRead}
 use Rattle.number.specs.Refusal.{none}
-use Rattle.number.specs.Number.{read_number}
+use Rattle.number.specs.Number.{NumberRead, read_number}
 use Rattle.number.proofs.Theorems.{read_single}
-use Rattle.event.specs.declared.EventRead.{EventRead}
-use Rattle.event.specs.Event.{known, arguments, refused, unreadable, after_number, read_arguments, read_event}
+use Rattle.event.specs.Event.{EventRead, known, arguments, refused, unreadable, after_number, read_arguments, read_event}
 use Rattle.event.specs.Refusal.{unknown_event}
 use Rattle.event.proofs.Codes.{known_le}
 

@@ -10,15 +10,13 @@ use native.Mathlib.Nat.{zero-add, add-zero, add_assoc}
 use lib.Dec.{lit<}
 use lib.ListN.{length, drop, length-append}
 use lib.Seq.{drop_at, drop-drop}
-use Rattle.number.specs.declared.NumberRead.{NumberRead}
 use Rattle.number.specs.Refusal.{none}
-use Rattle.number.specs.Number.{number_bound, Bytes, read_number, number_bytes}
+use Rattle.number.specs.Number.{NumberRead, number_bound, Bytes, read_number, number_bytes}
 use Rattle.number.proofs.Cases.{by_test, by_eq}
 use Rattle.number.proofs.Theorems as Number
 use Rattle.event.specs.declared.Event.{Event}
-use Rattle.event.specs.declared.EventRead.{EventRead}
 use Rattle.event.specs.Refusal.{unknown_event}
-use Rattle.event.specs.Event.{known, arguments, event, accepted, refused, unreadable, after_number, read_arguments, read_event, argument_bytes, event_bytes, write_event, event_written, Writable}
+use Rattle.event.specs.Event.{EventRead, known, arguments, event, accepted, refused, unreadable, after_number, read_arguments, read_event, argument_bytes, event_bytes, write_event, event_written, Writable}
 use Rattle.event.proofs.Codes.{known_true, known_le}
 use Rattle.event.proofs.Reading.{goes_on, ends, read_known}
 use Rattle.event.proofs.Writing.{writes_bytes, stray_none, accepted_writable, write_accepted, write_room}

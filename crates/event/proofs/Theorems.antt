@@ -18,9 +18,8 @@ use Rattle.number.specs.Number.{number_bound, Bytes, read_number}
 use Rattle.number.proofs.Cases.{by_lt}
 use Rattle.number.proofs.Theorems as Number
 use Rattle.event.specs.declared.Event.{Event}
-use Rattle.event.specs.declared.EventRead.{EventRead}
 use Rattle.event.specs.Refusal.{trace_cut, trace_malformed, in_trace, unknown_event}
-use Rattle.event.specs.Event.{known, arguments, event, accepted, refused, after_number, read_event, event_bytes, writer_refusal, write_event, event_written, Writable}
+use Rattle.event.specs.Event.{EventRead, known, arguments, event, accepted, refused, after_number, read_event, event_bytes, writer_refusal, write_event, event_written, Writable}
 use Rattle.event.specs.Trace.{TraceRead, ended, broken, before, read_from, read_rest, read_trace, decisive, trace_bytes, AllWritable}
 use Rattle.event.proofs.RoundTrip as RoundTrip
 use Rattle.event.proofs.Size as Size

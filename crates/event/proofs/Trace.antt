@@ -13,8 +13,7 @@ use Rattle.number.specs.Refusal.{none}
 use Rattle.number.specs.Number.{Bytes}
 use Rattle.number.proofs.Cases.{by_lt, by_eq}
 use Rattle.event.specs.declared.Event.{Event}
-use Rattle.event.specs.declared.EventRead.{EventRead}
-use Rattle.event.specs.Event.{accepted, read_event, event_bytes}
+use Rattle.event.specs.Event.{EventRead, accepted, read_event, event_bytes}
 use Rattle.event.specs.Trace.{TraceRead, ended, broken, before, read_from, read_rest, trace_bytes, AllWritable}
 use Rattle.event.proofs.RoundTrip.{read_at, read_spans, after_bytes}
 

@@ -7,10 +7,8 @@ use mathlib.Core.List.{List}
 use native.Mathlib.Omega.{arith}
 use borrow.Author.Tests.{eq-eqb, ne_eqb}
 use Rattle.number.specs.Refusal.{none}
-use Rattle.number.specs.declared.NumberRead.{NumberRead}
-use Rattle.number.specs.Number.{read_number}
-use Rattle.event.specs.declared.EventRead.{EventRead}
-use Rattle.event.specs.Event.{known, arguments, unreadable, after_number, read_arguments, read_event}
+use Rattle.number.specs.Number.{NumberRead, read_number}
+use Rattle.event.specs.Event.{EventRead, known, arguments, unreadable, after_number, read_arguments, read_event}
 
 after_refused : (n : NumberRead) (f : ℕ → ℕ → EventRead) → (n.refusal ≡ none → ⊥) → after_number n f ≡ unreadable n
 unfolding after_number

@@ -6,11 +6,10 @@ use mathlib.Core.List.{List, [], ◌∷◌, ◌++◌, append-nil}
 use native.Mathlib.Omega.{arith}
 use borrow.Author.Tests.{lt-ltb, le-ltb, lt-leb, eq-eqb, ne_eqb}
 use lib.ListN.{length}
-use Rattle.number.specs.declared.Written.{Written}
 use Rattle.number.specs.Refusal.{none, no_room}
 use Rattle.number.specs.Number.{number_bound, number_bytes, group_bytes}
 use Rattle.number.proofs.Cases.{by_test, by_lt, by_eq}
-use Rattle.number.specs.Output.{unwritten, writing, written}
+use Rattle.number.specs.Output.{Written, unwritten, writing, written}
 use Rattle.event.specs.declared.Event.{Event}
 use Rattle.event.specs.Refusal.{unknown_event, stray_argument}
 use Rattle.event.specs.Event.{known, arguments, argument_bytes, event_bytes, stray, writer_refusal, write_event, event_written, Writable}

@@ -6,15 +6,22 @@
 --   write_event e n   what the writer of e answers that is lent n bytes; event_written e d: what d holds afterwards
 --
 -- Main laws: `read_written` and `written_read` (proofs/Theorems.antt).
-use Rattle.std.specs.Prelude.{ℕ, zero, suc, ◌≤◌, ◌<◌, ◌≡◌, Bool, cond, ◌&&◌, ◌||◌, List, [], ◌++◌, leb, ltb, eqb}
-use Rattle.number.specs.declared.NumberRead.{NumberRead}
-use Rattle.number.specs.declared.Written.{Written}
+use Rattle.std.specs.Prelude.{ℕ, zero, suc, ◌≤◌, ◌<◌, ◌≡◌, Bool, cond, ◌&&◌, ◌||◌, List, [], ◌++◌, leb, ltb, eqb, Result, Ok, Err}
+use Rattle.number.specs.declared.Refused.{Refused}
+use Rattle.number.specs.declared.Reading.{Reading}
 use Rattle.number.specs.Refusal.{none}
-use Rattle.number.specs.Number.{number_bound, read_number, number_bytes}
-use Rattle.number.specs.Output.{unwritten, writing, written}
+use Rattle.number.specs.Answer.{code}
+use Rattle.number.specs.Number.{NumberRead, number_bound, read_number, number_bytes}
+use Rattle.number.specs.Output.{Written, unwritten, writing, written}
 use Rattle.event.specs.declared.Event.{Event}
-use Rattle.event.specs.declared.EventRead.{EventRead}
 use Rattle.event.specs.Refusal.{in_trace, unknown_event, stray_argument}
+
+-- What a reading gives: the event with refusal 0 and the place after it, or the all-zero event with the refusal and its
+-- place.
+pub record EventRead : Type 0 where
+  pub event : Event
+  pub refusal : ℕ
+  pub place : ℕ
 
 -- the codes, as document 01's table has them
 abbrev pub activate : ℕ
@@ -81,6 +88,11 @@ accepted e p = record { event = e; refusal = none; place = p }
 -- "A refused reader returns an all-zero value with refusal and place"
 abbrev pub refused : ℕ → ℕ → EventRead
 refused r p = record { event = event 0 0 0; refusal = r; place = p }
+
+-- the answer of a function, in document 01's numbers
+abbrev pub as_event_read : Result (Reading Event) Refused → EventRead
+as_event_read (Ok r) = accepted r.value r.place
+as_event_read (Err e) = refused (code e.refusal) e.place
 
 -- a number of the trace that can't be read; its place is the one that `number` gives
 abbrev pub unreadable : NumberRead → EventRead

@@ -11,9 +11,8 @@ use Rattle.std.specs.Prelude.{ℕ, zero, suc, ◌-◌, cond, List, [], ◌∷◌
 use Rattle.number.specs.Refusal.{none}
 use Rattle.number.specs.Number as Number
 use Rattle.event.specs.declared.Event.{Event}
-use Rattle.event.specs.declared.EventRead.{EventRead}
 use Rattle.event.specs.Refusal.{trace_malformed}
-use Rattle.event.specs.Event.{Writable, read_event, event_bytes}
+use Rattle.event.specs.Event.{EventRead, Writable, read_event, event_bytes}
 
 -- "trace longer than 8,192 bytes": whoever is lent one refuses it with `trace_too_long`
 abbrev pub max_trace : ℕ

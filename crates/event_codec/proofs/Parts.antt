@@ -6,9 +6,8 @@ use borrow.Rule.Slice.PartMut.{put_mid}
 use native.Mathlib.Omega.{arith}
 use native.Mathlib.Nat.{zero-add}
 use lib.ListN.{length, take, drop, set, length-set, length-take, length-drop, length-append}
-use Rattle.number.specs.declared.Written.{Written}
 use Rattle.number.specs.Refusal.{none}
-use Rattle.number.specs.Output.{writing, written}
+use Rattle.number.specs.Output.{Written, writing, written}
 use Rattle.number.proofs.Theorems.{writing_fits, length_written}
 use Rattle.number.proofs.Laying.{laid_zero, laid_part, laid_laid, laid_first}
 

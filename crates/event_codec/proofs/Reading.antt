@@ -8,14 +8,12 @@ use native.Mathlib.Omega.{arith}
 use lib.Dec.{ltb}
 use lib.ListN.{length, get_or}
 use borrow.Author.Tests.{ltb-true}
-use Rattle.number.specs.declared.NumberRead.{NumberRead}
 use Rattle.number.specs.Refusal.{none}
-use Rattle.number.specs.Number.{read_number}
+use Rattle.number.specs.Number.{NumberRead, read_number}
 use Rattle.number.proofs.Cases.{by_test, and_true}
 use Rattle.number.proofs.Theorems.{reading, read_single}
 use Rattle.event.specs.declared.Event.{Event}
-use Rattle.event.specs.declared.EventRead.{EventRead}
-use Rattle.event.specs.Event.{known, arguments, event, accepted, read_arguments, read_event}
+use Rattle.event.specs.Event.{EventRead, known, arguments, event, accepted, read_arguments, read_event}
 use Rattle.event.proofs.Reading.{goes_on, read_known, read_byte}
 use Rattle.event_codec.specs.declared.EventEnd.{EventEnd}
 use Rattle.event_codec.proofs.Arms.{Counted, counted, arguments_le}

@@ -12,8 +12,7 @@ use lib.ListN.{length, take, length-append, length-take}
 use Rattle.number.specs.Refusal.{none}
 use Rattle.number.proofs.Cases.{by_eq}
 use Rattle.config.specs.declared.Config.{Config}
-use Rattle.event.specs.declared.EventRead.{EventRead}
-use Rattle.event.specs.Event.{read_event}
+use Rattle.event.specs.Event.{EventRead, read_event}
 use Rattle.event.specs.Trace.{TraceRead, before, read_rest}
 use Rattle.event.proofs.Theorems.{event_reading, rest_end, rest_step, rest_refused}
 use Rattle.cell.specs.declared.Cell.{Cell}

@@ -8,9 +8,8 @@ use native.Mathlib.Numerals.{add-one}
 use borrow.Author.Tests.{lt-ltb, le-ltb, eq-eqb, ne_eqb}
 use lib.ListN.{length, drop, get_or, drop_of_length-le}
 use lib.Seq.{drop-cons}
-use Rattle.number.specs.declared.NumberRead.{NumberRead}
 use Rattle.number.specs.Refusal.{none}
-use Rattle.number.specs.Number.{accepted, too_large, superfluous, broken_off, refused_later, continued, fifth_group, groups}
+use Rattle.number.specs.Number.{NumberRead, accepted, too_large, superfluous, broken_off, refused_later, continued, fifth_group, groups}
 use Rattle.number.proofs.Cases.{by_lt, by_eq}
 
 -- a group that must be the last

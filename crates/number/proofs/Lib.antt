@@ -8,5 +8,6 @@ pub mod Theorems
 pub mod Laying
 pub mod Groups
 pub mod Size
+pub mod Answers
 mod Place
 mod RoundTrip

@@ -7,9 +7,8 @@ use native.Mathlib.Omega.{arith}
 use native.Mathlib.Numerals.{one-add}
 use lib.ListN.{length, take, drop}
 use lib.Seq.{drop-append-le}
-use Rattle.number.specs.declared.NumberRead.{NumberRead}
 use Rattle.number.specs.Refusal.{none, cut, malformed}
-use Rattle.number.specs.Number.{refused, continued, fifth_group, groups, shifted, leading, read_number}
+use Rattle.number.specs.Number.{NumberRead, refused, continued, fifth_group, groups, shifted, leading, read_number}
 use Rattle.number.proofs.Front.{drop_take, agree_fewer, agree_from}
 use Rattle.number.proofs.Groups.{fifth_small, fifth_large, groups_end, groups_step, continued_refused, continued_zero, continued_more, groups_elim}
 

@@ -6,9 +6,8 @@ use native.Mathlib.Omega.{arith}
 use native.Mathlib.Numerals.{one-add}
 use borrow.Author.Tests.{lt-ltb, le-ltb}
 use lib.ListN.{length, drop}
-use Rattle.number.specs.declared.NumberRead.{NumberRead}
 use Rattle.number.specs.Refusal.{none}
-use Rattle.number.specs.Number.{Bytes, accepted, groups, group_bytes}
+use Rattle.number.specs.Number.{NumberRead, Bytes, accepted, groups, group_bytes}
 use Rattle.number.proofs.Cases.{by_lt}
 use Rattle.number.proofs.Size.{room}
 use Rattle.number.proofs.Groups.{fifth_small, groups_elim, continued_more}

@@ -6,9 +6,8 @@ use native.Mathlib.Omega.{arith}
 use borrow.Author.Tests.{lt-ltb, le-ltb}
 use lib.Dec.{lit<, lit≤}
 use lib.ListN.{length, get_or}
-use Rattle.number.specs.declared.NumberRead.{NumberRead}
 use Rattle.number.specs.Refusal.{none, cut, malformed}
-use Rattle.number.specs.Number.{number_bound, Bytes, accepted, refused, groups, leading, group_bytes, number_bytes}
+use Rattle.number.specs.Number.{NumberRead, number_bound, Bytes, accepted, refused, groups, leading, group_bytes, number_bytes}
 use Rattle.number.proofs.Cases.{by_lt}
 use Rattle.number.proofs.Groups.{groups_elim}
 

@@ -12,10 +12,9 @@ use lib.Dec.{lit<}
 use lib.ListN.{length, take, drop, get_or, length-append, length-drop}
 use lib.Seq.{drop-drop, drop_at, get_or-drop}
 use borrow.Author.Tests.{le-leb, lt-leb}
-use Rattle.number.specs.declared.NumberRead.{NumberRead}
 use Rattle.number.specs.Refusal.{none, cut, malformed, no_room}
 use Rattle.number.specs.Output.{writing, written, unwritten}
-use Rattle.number.specs.Number.{number_bound, Bytes, accepted, refused, groups, shifted, leading, read_number, number_bytes}
+use Rattle.number.specs.Number.{NumberRead, number_bound, Bytes, accepted, refused, groups, shifted, leading, read_number, number_bytes}
 use Rattle.number.proofs.Cases.{by_lt}
 use Rattle.number.proofs.Groups as Groups
 use Rattle.number.proofs.Size as Size

@@ -6,3 +6,4 @@
 pub mod Refusal
 pub mod Output
 pub mod Number
+pub mod Answer

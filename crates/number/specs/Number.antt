@@ -9,8 +9,14 @@
 -- (proofs/Theorems.antt).
 use Rattle.std.specs.Prelude.{ℕ, zero, suc, ◌+◌, ◌*◌, ◌/◌, ◌%◌, ◌<◌, cond, List, [], ◌∷◌, ltb, eqb, drop, get_or}
 use Rattle.std.specs.Prelude.{Bool}
-use Rattle.number.specs.declared.NumberRead.{NumberRead}
 use Rattle.number.specs.Refusal.{none, cut, malformed}
+
+-- What a reading gives: the value with refusal 0 and the place after it, or value 0 with the refusal and its place: the
+-- byte that decides it, or the input's end.
+pub record NumberRead : Type 0 where
+  pub value : ℕ
+  pub refusal : ℕ
+  pub place : ℕ
 
 -- numbers are "at most 4,294,967,295", this less one
 abbrev pub number_bound : ℕ

@@ -7,8 +7,13 @@
 --
 -- They serve every writer of the format.
 use Rattle.std.specs.Prelude.{ℕ, ◌+◌, ◌*◌, cond, List, ◌++◌, leb, length, take, drop}
-use Rattle.number.specs.declared.Written.{Written}
 use Rattle.number.specs.Refusal.{none, no_room}
+
+-- What a writer answers: refusal 0 and the length written, or the refusal and its place, which for no_room is the number
+-- of bytes needed.
+pub record Written : Type 0 where
+  pub refusal : ℕ
+  pub place : ℕ
 
 -- a writer's refusal with its place
 abbrev pub unwritten : ℕ → ℕ → Written

@@ -1,2 +1,2 @@
 -- What the functions' proofs share; the laws of numbers are those of `number`.
-mod Room
+mod Steps

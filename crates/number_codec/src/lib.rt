@@ -2,16 +2,86 @@
 // most five bytes.
 #![tactic(auto)]
 
-ghost use Rattle.std.specs.Prelude.{◌≡◌, ◌+◌, ◌*◌, ◌%◌, ◌^◌, ◌≤◌, ◌<◌, length, drop};
-ghost use Rattle.number.specs.Number.{number_bound, accepted, refused, continued, fifth_group, groups, leading, read_number, number_bytes};
+ghost use Rattle.std.specs.Prelude.{◌≡◌, ◌≤◌, length, drop};
+ghost use Rattle.number.specs.Number.{shifted, groups, leading, read_number, number_bytes};
 ghost use Rattle.number.specs.Output.{writing, written};
+ghost use Rattle.number.specs.Answer.{as_number_read, as_written};
 
-use number::{CUT, MALFORMED, NO_ROOM, NumberRead, Written};
+use number::{Reading, Refusal, Refused};
 
 // How many groups may stand before the last one.
 const LEADING: usize = 4;
 
-// Two numbers, and the place behind the second; a number that can't be read is 0.
+// The number at a place of `bytes`. Most numbers of a trace have one byte, so these come first.
+pub fn read_number(bytes: &[u8], at: usize) -> Result<Reading<u32>, Refused>
+    ensures { as_number_read result ≡ read_number bytes.now at }
+{
+    if at < bytes.len() && bytes[at] < 128 {
+        return Ok(Reading {
+            value: bytes[at] as u32,
+            place: at + 1,
+        });
+    }
+    read_groups(bytes, at, LEADING)
+}
+
+// The number at `at`, with at most `more` groups before its last one.
+fn read_groups(bytes: &[u8], at: usize, more: usize) -> Result<Reading<u32>, Refused>
+    requires { more ≤ leading }
+    ensures { as_number_read result ≡ shifted at (groups more (drop at bytes.now)) }
+{
+    if bytes.len() <= at {
+        return Err(Refused {
+            refusal: Refusal::Cut,
+            place: at,
+        });
+    }
+    let b = bytes[at];
+    if more == 0 {
+        return if b < 16 {
+            Ok(Reading {
+                value: b as u32,
+                place: at + 1,
+            })
+        } else {
+            Err(Refused {
+                refusal: Refusal::Malformed,
+                place: at,
+            })
+        };
+    }
+    if b < 128 {
+        return Ok(Reading {
+            value: b as u32,
+            place: at + 1,
+        });
+    }
+    let rest = read_groups(bytes, at + 1, more - 1)?;
+    // The groups after this one make 0 only as one superfluous byte.
+    if rest.value == 0 {
+        return Err(Refused {
+            refusal: Refusal::Malformed,
+            place: at + 1,
+        });
+    }
+    Ok(Reading {
+        value: (b % 128) as u32 + 128 * rest.value,
+        place: rest.place,
+    })
+}
+
+// The number at a place where one was read before; 0 where it can't be read.
+pub fn number_at(bytes: &[u8], at: usize) -> Reading<u32>
+    ensures value { result.value ≡ (read_number bytes.now at).value }
+    ensures place { result.place ≡ (read_number bytes.now at).place }
+{
+    read_number(bytes, at).unwrap_or_else(|refused| Reading {
+        value: 0,
+        place: refused.place,
+    })
+}
+
+// Two numbers, and the place behind the second.
 #[derive(Clone, Copy)]
 pub struct Pair {
     pub first: u32,
@@ -19,105 +89,7 @@ pub struct Pair {
     pub place: usize,
 }
 
-// The number at a place of `bytes`. Most numbers of a trace have one byte, so these come first.
-pub fn read_number(bytes: &[u8], at: usize) -> NumberRead
-    ensures { result ≡ read_number bytes.now at }
-{
-    if bytes.len() <= at {
-        return read_long(bytes, at);
-    }
-    let b = bytes[at];
-    if b < 128 {
-        return NumberRead {
-            value: b as u32,
-            refusal: 0,
-            place: at + 1,
-        };
-    }
-    read_long(bytes, at)
-}
-
-// The same, group by group.
-fn read_long(bytes: &[u8], at: usize) -> NumberRead
-    ensures { result ≡ read_number bytes.now at }
-{
-    let mut r = read_groups(bytes, at, LEADING);
-    r.place = at + r.place;
-    r
-}
-
-// The number at `at`, with at most `more` groups before its last one; its place counts from `at`.
-fn read_groups(bytes: &[u8], at: usize, more: usize) -> NumberRead
-    requires { more ≤ leading }
-    ensures { result ≡ groups more (drop at bytes.now) }
-{
-    if bytes.len() <= at {
-        return refused(CUT, 0);
-    }
-    let b = bytes[at];
-    if more == 0 {
-        return fifth(b);
-    }
-    if b < 128 {
-        return single(b);
-    }
-    continued(b, read_groups(bytes, at + 1, more - 1))
-}
-
-// The group after which none may follow.
-fn fifth(b: u8) -> NumberRead
-    ensures { result ≡ fifth_group b }
-{
-    if b < 16 {
-        single(b)
-    } else {
-        refused(MALFORMED, 0)
-    }
-}
-
-// A group with its top bit set, and the number that the groups after it make. They make 0 only as one
-// superfluous byte.
-fn continued(b: u8, rest: NumberRead) -> NumberRead
-    requires { (128 * rest.value + 128 ≤ number_bound) × (rest.place < 2 ^ 63) }
-    ensures { result ≡ continued (b % 128) rest }
-{
-    if rest.refusal != 0 {
-        return refused(rest.refusal, 1 + rest.place);
-    }
-    if rest.value == 0 {
-        return refused(MALFORMED, 1);
-    }
-    NumberRead {
-        value: (b % 128) as u32 + 128 * rest.value,
-        refusal: 0,
-        place: 1 + rest.place,
-    }
-}
-
-// A number of one byte.
-fn single(b: u8) -> NumberRead
-    ensures { result ≡ accepted b 1 }
-{
-    NumberRead {
-        value: b as u32,
-        refusal: 0,
-        place: 1,
-    }
-}
-
-// No number, with the reason and the byte that decides it.
-fn refused(refusal: u8, place: usize) -> NumberRead
-    ensures { result ≡ refused refusal place }
-{
-    NumberRead {
-        value: 0,
-        refusal: refusal,
-        place: place,
-    }
-}
-
-// The two numbers at a place of `bytes`, one behind the other. Most numbers of a trace have one byte, so these come
-// first.
+// The same of two numbers, one behind the other. Most numbers of a trace have one byte, so these come first.
 pub fn read_pair(bytes: &[u8], at: usize) -> Pair
     ensures first { result.first ≡ (read_number bytes.now at).value }
     ensures second { result.second
@@ -149,8 +121,8 @@ fn long_pair(bytes: &[u8], at: usize) -> Pair
     ensures place { result.place
         ≡ (read_number bytes.now (read_number bytes.now at).place).place }
 {
-    let first = read_number(bytes, at);
-    let second = read_number(bytes, first.place);
+    let first = number_at(bytes, at);
+    let second = number_at(bytes, first.place);
     Pair {
         first: first.value,
         second: second.value,
@@ -175,23 +147,20 @@ pub fn number_length(value: u32) -> usize
     }
 }
 
-// Writes the number at the start of `out`, or nothing where it does not fit.
-pub fn write_number(value: u32, out: &mut [u8]) -> Written
-    ensures result { result ≡ writing (number_bytes value) (length out.old) }
+// Writes the number at the start of `out`, or nothing where it does not fit; gives its length.
+pub fn write_number(value: u32, out: &mut [u8]) -> Result<usize, Refused>
+    ensures result { as_written result ≡ writing (number_bytes value) (length out.old) }
     ensures output { out.new ≡ written (number_bytes value) out.old }
 {
     let n = number_length(value);
     if out.len() < n {
-        return Written {
-            refusal: NO_ROOM,
+        return Err(Refused {
+            refusal: Refusal::NoRoom,
             place: n,
-        };
+        });
     }
     write_groups(value, out);
-    Written {
-        refusal: 0,
-        place: n,
-    }
+    Ok(n)
 }
 
 // Writes the number at the start of `out`, which has room for it.

@@ -8,8 +8,7 @@ use lib.ListN.{length, length-append}
 use borrow.Author.Tests.{eq-eqb, ne_eqb}
 use Rattle.number.specs.Refusal.{none, no_room}
 use Rattle.number.specs.Number.{number_bytes}
-use Rattle.number.specs.Output.{writing, unwritten}
-use Rattle.number.specs.declared.Written.{Written}
+use Rattle.number.specs.Output.{Written, writing, unwritten}
 use Rattle.number.proofs.Cases.{by_test, by_eq}
 use Rattle.number.proofs.Theorems.{writing_no_room, length_number_bytes}
 use Rattle.config.specs.declared.Config.{Config}

@@ -6,10 +6,12 @@
 --   Least n p r                          r is the first number below n of which p holds, or n
 --   First n p r                          the same, where r may be none
 --   Ordered t v                          v is what the tokens alone are refused with, and how many stand before it
-use Rattle.std.specs.Prelude.{ℕ, zero, suc, ◌≤◌, ◌<◌, ◌≡◌, Bool, true, false, List, [], ◌∷◌, Option, MatchOption}
+use Rattle.std.specs.Prelude.{ℕ, zero, suc, ◌≤◌, ◌<◌, ◌≡◌, Bool, true, false, List, [], ◌∷◌, Option, MatchOption, Result, ⊤}
+use Rattle.number.specs.declared.Refused.{Refused}
 use Rattle.number.specs.Refusal.{none}
 use Rattle.oil_grammar.specs.Records.{Token, Progress, Found}
 use Rattle.oil.specs.declared.token_walk.Step.{Step}
+use Rattle.oil.specs.Answer.{as_token, as_progress, refusal_at, place_of}
 use Rattle.oil_grammar.specs.Token.{end_sort}
 use Rattle.oil_grammar.specs.Next.{next_token, spelling}
 use Rattle.oil_grammar.specs.Automaton.{fault, after, fresh}
@@ -33,7 +35,7 @@ tokens_from (suc k) t at s =
 
 -- what a step says
 abbrev pub step_of : Step → Progress × Token × List ℕ
-step_of s = (s.progress, s.token, s.spelling.now)
+step_of s = (as_progress s.progress, as_token s.token, s.spelling.now)
 
 pub record Least (n : ℕ) (p : ℕ → Bool) (r : ℕ) : Type 0 where
   pub within : r ≤ n
@@ -53,3 +55,7 @@ pub record Ordered (t : List ℕ) (v : Found) : Type 0 where
   pub refusal_is : v.refusal ≡ fault (progress_after t v.tokens) (token t v.tokens).sort
   pub place_is : v.place ≡ (token t v.tokens).start
   pub ends : v.refusal ≡ none → (token t v.tokens).sort ≡ end_sort
+
+-- the same of what the code gives: the number of tokens that are in order, and why the next is not
+abbrev pub as_order : List ℕ → ℕ → Result ⊤ Refused → Found
+as_order t n r = record { refusal = refusal_at r; place = place_of r (token t n).start; tokens = n }

@@ -2,18 +2,18 @@
 ghost use Rattle.std.specs.Prelude.{◌≡◌, ◌≤◌, length};
 ghost use Rattle.oil_grammar.specs.Next.{spelling};
 ghost use Rattle.oil_grammar.specs.Automaton.{fresh};
+ghost use Rattle.oil.specs.Answer.{as_token};
 ghost use Rattle.oil.specs.Tokens.{tokens_from};
 
-use std::marker::Model;
-
-use crate::automaton::{after, fresh};
+use crate::automaton::{Progress, after, fresh};
 use crate::next::next_token;
-use oil_grammar::{Progress, Token};
+use crate::token::Token;
+use std::marker::Model;
 
 // The bytes of a token.
 fn spelling(text: &[u8], token: Token) -> &[u8]
     requires { (token.start ≤ token.end) × (token.end ≤ length text.now) }
-    ensures { result.now ≡ spelling text.now token }
+    ensures { result.now ≡ spelling text.now (as_token token) }
 {
     let start = token.start;
     let end = token.end;
@@ -39,13 +39,13 @@ pub struct TokenWalk<'a> {
 
 impl<'a> Model for TokenWalk<'a> {
     ghost use Rattle.std.specs.Prelude.{ℕ, List, ◌≤◌, length};
-    ghost use Rattle.oil_grammar.specs.Records.{Progress};
-    ghost use Rattle.oil_grammar.specs.Records.{Token};
+    ghost use Rattle.oil_grammar.specs.Records as R;
+    ghost use Rattle.oil.specs.Answer.{as_progress};
     ghost use Rattle.oil.specs.Tokens.{tokens_from};
 
-    ghost Value = { List (Progress × Token × List ℕ) };
+    ghost Value = { List (R.Progress × R.Token × List ℕ) };
 
-    ghost view = { λ w. tokens_from w.left w.text.now w.at w.progress };
+    ghost view = { λ w. tokens_from w.left w.text.now w.at (as_progress w.progress) };
 
     ghost invariant = { λ w. w.at ≤ length w.text.now };
 }

@@ -15,8 +15,7 @@ use Rattle.number.specs.Refusal.{none}
 use Rattle.number.specs.Number.{Bytes}
 use Rattle.number.proofs.Cases.{by_eq}
 use Rattle.event.specs.declared.Event.{Event}
-use Rattle.event.specs.declared.EventRead.{EventRead}
-use Rattle.event.specs.Event.{accepted, read_event, event_bytes, Writable}
+use Rattle.event.specs.Event.{EventRead, accepted, read_event, event_bytes, Writable}
 use Rattle.event.specs.Trace.{trace_bytes, AllWritable}
 use Rattle.event.proofs.Theorems.{event_reading, read_at, written_read, place_read, length_event_bytes}
 use Rattle.recording.specs.Fate.{Fate, kept, dropped, covered, belonging, fate_of, fates_from, fates, selected, kept_bytes}

@@ -14,8 +14,7 @@ use lib.ListN.{length, drop, get_or, drop_of_length-le}
 use lib.Seq.{drop-cons}
 use Rattle.number.specs.Refusal.{none}
 use Rattle.number.specs.Number.{Bytes, number_bytes}
-use Rattle.event.specs.declared.EventRead.{EventRead}
-use Rattle.event.specs.Event.{read_event}
+use Rattle.event.specs.Event.{EventRead, read_event}
 use Rattle.event.proofs.Theorems.{event_reading}
 use Rattle.recording.specs.Fate.{kept, dropped, covered, belonging, fate_of, fates_from, selected}
 use Rattle.recording.specs.Stretch.{Stretch, closed, stretches_from, stretch_bytes}

@@ -2,8 +2,7 @@
 use Prim.Native.Nat.{◌≤◌}
 use mathlib.Core.Path.{ap}
 use native.Mathlib.Omega.{arith}
-use Rattle.number.specs.declared.Written.{Written}
-use Rattle.number.specs.Output.{packed}
+use Rattle.number.specs.Output.{Written, packed}
 use Rattle.draw.proofs.Answers.{answer_small}
 use Rattle.draw.proofs.osek_draw.Goals as goal
 

@@ -1,6 +1,6 @@
 -- `long_end` meets its contract: it hands on what `read_event` says.
 use mathlib.Core.Path.{ap}
-use Rattle.event.specs.declared.EventRead.{EventRead}
+use Rattle.event.specs.Event.{EventRead}
 use Rattle.event_codec.proofs.long_end.Goals as goal
 
 pub returns : goal.returns

@@ -5,10 +5,9 @@ use mathlib.Core.List.{List, ◌∷◌}
 use borrow.Rule.Slice.PartMut.{put_mid}
 use native.Mathlib.Omega.{arith}
 use lib.ListN.{length, take, drop, set, length-set}
-use Rattle.number.specs.declared.Written.{Written}
 use Rattle.number.specs.Refusal.{no_room}
 use Rattle.number.specs.Number.{number_bytes}
-use Rattle.number.specs.Output.{unwritten, writing, written}
+use Rattle.number.specs.Output.{Written, unwritten, writing, written}
 use Rattle.number.proofs.Theorems.{length_number_bytes, length_written, writing_fits, writing_no_room, written_no_room}
 use Rattle.event_codec.proofs.Parts.{part_fits, written_first}
 use Rattle.event_codec.proofs.write_pair.Goals as goal

@@ -1,8 +1,7 @@
 -- An accepted event covers a byte, so that the bytes after the place grow fewer.
 use Rattle.std.proofs.Common.{◌≡◌, ℕ, ◌-◌, ◌<◌, List, length, arith}
 use Rattle.number.specs.Refusal.{none}
-use Rattle.event.specs.declared.EventRead.{EventRead}
-use Rattle.event.specs.Event.{read_event}
+use Rattle.event.specs.Event.{EventRead, read_event}
 use Rattle.event.proofs.Theorems.{event_reading}
 use Rattle.event_vectors.proofs.read_all.Goals as goal
 

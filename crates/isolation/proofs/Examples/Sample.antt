@@ -6,10 +6,9 @@ use lib.ListN.{replicate}
 use Rattle.number.specs.Refusal.{none}
 use Rattle.number.specs.Number.{read_number, groups, continued, fifth_group}
 use Rattle.config.specs.declared.Config.{Config}
-use Rattle.config.specs.declared.ConfigRead.{ConfigRead}
 use Rattle.config.specs.Accepted.{Accepted, Shaped}
 use Rattle.config.specs.Draft.{fault_at, put_at, ended, timed_in, some_timed}
-use Rattle.config.specs.Reader.{read_config, number_at, read_from}
+use Rattle.config.specs.Reader.{ConfigRead, read_config, number_at, read_from}
 use Rattle.config.specs.Meaning.{greatest_in, entries_before}
 use Rattle.config.proofs.Theorems.{accepted_ranges, reading}
 use Rattle.scheduler.specs.State.{among}

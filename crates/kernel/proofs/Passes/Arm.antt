@@ -10,10 +10,9 @@ use mathlib.Core.List.{List}
 use native.Mathlib.Nat.{not-le_of_lt}
 use native.Mathlib.Omega.{arith}
 use lib.ListN.{length, get_or}
-use Rattle.number.specs.declared.NumberRead.{NumberRead}
 use Rattle.number.specs.Refusal.{none}
 use Rattle.number_codec.specs.declared.Pair.{Pair}
-use Rattle.number.specs.Number.{read_number}
+use Rattle.number.specs.Number.{NumberRead, read_number}
 use Rattle.config.specs.declared.Config.{Config}
 use Rattle.config.specs.Meaning.{counts_lines}
 use Rattle.event.specs.declared.Event.{Event}

@@ -9,8 +9,7 @@ use lib.ListN.{length, get_or}
 use borrow.Author.Tests.{ne_eqb}
 use Rattle.number.specs.Refusal.{none}
 use Rattle.number.proofs.Cases.{by_lt, by_eq, and_true}
-use Rattle.event.specs.declared.EventRead.{EventRead}
-use Rattle.event.specs.Event.{finish, tick, known, arguments, read_arguments, read_event}
+use Rattle.event.specs.Event.{EventRead, finish, tick, known, arguments, read_arguments, read_event}
 use Rattle.event.specs.Trace.{TraceRead, ended, broken, before, read_rest, read_trace}
 use Rattle.event.proofs.Reading.{read_byte}
 use Rattle.event.proofs.Theorems.{event_reading, rest_end, rest_step, rest_refused}

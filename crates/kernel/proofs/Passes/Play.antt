@@ -11,8 +11,7 @@ use Rattle.number.specs.Output.{laid}
 use Rattle.number.proofs.Cases.{by_eq}
 use Rattle.number.proofs.Laying.{laid_laid, length_laid}
 use Rattle.config.specs.declared.Config.{Config}
-use Rattle.event.specs.declared.EventRead.{EventRead}
-use Rattle.event.specs.Event.{read_event}
+use Rattle.event.specs.Event.{EventRead, read_event}
 use Rattle.event.specs.Trace.{TraceRead, before, read_rest}
 use Rattle.event.proofs.Theorems.{event_reading, rest_end, rest_step, rest_refused}
 use Rattle.plan.specs.declared.Plan.{Plan}

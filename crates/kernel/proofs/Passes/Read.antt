@@ -12,13 +12,11 @@ use native.Mathlib.Nat.{add-zero}
 use lib.ListN.{length, get_or}
 use lib.Seq.{get_or-drop}
 use borrow.Author.Tests.{lt-ltb}
-use Rattle.number.specs.declared.NumberRead.{NumberRead}
 use Rattle.number.specs.Refusal.{none}
-use Rattle.number.specs.Number.{Bytes, read_number, group_bytes, number_bytes}
+use Rattle.number.specs.Number.{NumberRead, Bytes, read_number, group_bytes, number_bytes}
 use Rattle.number.proofs.Cases.{by_eq}
 use Rattle.number_codec.specs.declared.Pair.{Pair}
-use Rattle.event.specs.declared.EventRead.{EventRead}
-use Rattle.event.specs.Event.{last_code, known, arguments, event, accepted, read_one, read_two, read_arguments, after_number, read_event, event_bytes}
+use Rattle.event.specs.Event.{EventRead, last_code, known, arguments, event, accepted, read_one, read_two, read_arguments, after_number, read_event, event_bytes}
 use Rattle.event.proofs.Reading.{goes_on, ends, read_byte}
 use Rattle.event.proofs.Theorems.{event_reading, written_read}
 

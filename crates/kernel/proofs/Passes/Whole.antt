@@ -14,8 +14,7 @@ use Rattle.number.specs.Output.{laid, written, packed}
 use Rattle.number.proofs.Laying.{laid_laid, laid_zero}
 use Rattle.config.specs.declared.Config.{Config}
 use Rattle.config.specs.Accepted.{Accepted, Shaped}
-use Rattle.config.specs.declared.ConfigRead.{ConfigRead}
-use Rattle.config.specs.Reader.{read_config}
+use Rattle.config.specs.Reader.{ConfigRead, read_config}
 use Rattle.config.proofs.Theorems.{reading, accepted_ranges}
 use Rattle.event.specs.Refusal.{trace_too_long}
 use Rattle.event.specs.Trace.{max_trace, read_trace}

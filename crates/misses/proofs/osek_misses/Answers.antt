@@ -1,7 +1,7 @@
 -- `osek_misses` meets its contract: the run is refused exactly as the call is, or what the machine tells is the answer.
 use mathlib.Core.Path.{ap}
 use native.Mathlib.Omega.{arith}
-use Rattle.config.specs.declared.ConfigRead.{ConfigRead}
+use Rattle.config.specs.Reader.{ConfigRead}
 use Rattle.misses.proofs.Input.{refused_same, watchable, answered}
 use Rattle.misses.proofs.osek_misses.Goals as goal
 

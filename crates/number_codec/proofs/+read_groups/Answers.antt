@@ -1,33 +1,63 @@
--- `read_groups` meets its contract: each answer is the law of `Groups` for that first byte. The measure is `more`.
-use Prim.Native.Nat.{◌%◌}
+-- `read_groups` meets its contract: each answer is the law of `Steps` for that first byte. The measure is `more`.
+use Prim.Native.Nat.{◌+◌, ◌*◌, ◌%◌}
 use mathlib.Core.Path.{sym, ap, ◌∙◌}
 use native.Mathlib.Omega.{arith}
-use lib.ListN.{get_or}
-use Rattle.number.specs.Number.{continued}
-use Rattle.number.proofs.Groups.{groups_past, groups_at_last, groups_at_end, groups_at_more}
-use Rattle.number_codec.proofs.Room.{continued_fits}
+use Rattle.std.proofs.lemmas.Result.{err_from_is_err_and}
+use Rattle.number.specs.Answer.{code}
+use Rattle.number.specs.Number.{accepted}
+use Rattle.number.proofs.Answers.{code_some}
+use Rattle.number_codec.proofs.Steps.{past, last_small, last_large, single, unread, superfluous, more, continued_fits}
 use Rattle.number_codec.proofs.+read_groups.Goals as goal
 
 pub returns-then-bytes-at : goal.returns-then-bytes-at
-returns-then-bytes-at t c = c.refused.ensures ∙ sym (groups_past _ _ _ c.if-bytes-at.true)
+returns-then-bytes-at t c = past c.args.bytes.now c.args.at c.args.more (omega arith)
 
-pub returns-then-more-eq0 : goal.returns-then-more-eq0
-returns-then-more-eq0 t c = c.fifth.ensures ∙ (let a =
-    c.args in
-    sym (groups_at_last a.bytes.now a.at a.more (omega arith) c.if-more-eq0.true))
+pub returns-then-b-lt16 : goal.returns-then-b-lt16
+returns-then-b-lt16 t c = let a = c.args in
+    last_small a.bytes.now a.at a.more (omega arith) c.if-more-eq0.true (omega arith)
+
+pub returns-else-b-lt16 : goal.returns-else-b-lt16
+returns-else-b-lt16 t c = let a = c.args in
+    last_large a.bytes.now a.at a.more (omega arith) c.if-more-eq0.true (omega arith)
 
 pub returns-then-b-lt128 : goal.returns-then-b-lt128
-returns-then-b-lt128 t c = c.single.ensures ∙ (let a =
-    c.args in
-    sym (groups_at_end a.bytes.now a.at a.more (omega arith) (omega arith) c.if-b-lt128.true))
+returns-then-b-lt128 t c = let a = c.args in
+    single a.bytes.now a.at a.more (omega arith) (omega arith) (omega arith)
 
-pub continued-requires : goal.continued-requires
-continued-requires t c = let a = c.args in
-    continued_fits a.bytes.now a.at a.more (omega arith) (omega arith) (omega arith)
-    c.read_groups.result c.read_groups.ensures
+pub returns-in_err-rest : goal.returns-in_err-rest
+returns-in_err-rest t c = let a = c.args in
+    let e = c.in_err-rest.field-0.0 in
+    let p = err_from_is_err_and c.from_residual.result c.from_residual.ensures.1 in
+    rw (p.1, p.2)
+    (unread a.bytes.now a.at a.more (omega arith) (omega arith) (omega arith) (code e.refusal) e.place
+    (code_some e.refusal) c.in_err-rest.ensures)
+
+pub returns-then-rest-eq0 : goal.returns-then-rest-eq0
+returns-then-rest-eq0 t c = let a = c.args in
+    let r = c.in_ok-rest.rest in
+    superfluous a.bytes.now a.at a.more (omega arith) (omega arith) (omega arith) r.value r.place
+    c.in_ok-rest.ensures c.if-rest-eq0.true
+
+pub overflow_mul-result : goal.overflow_mul-result
+overflow_mul-result t c = let a = c.args in
+    let r = c.in_ok-rest.rest in
+    omega (
+      arith,
+      continued_fits a.bytes.now a.at a.more r.value r.place (omega arith) (omega arith) (omega arith)
+          c.in_ok-rest.ensures,
+    )
+
+pub overflow_add-result-2 : goal.overflow_add-result-2
+overflow_add-result-2 t c = let a = c.args in
+    let r = c.in_ok-rest.rest in
+    omega (
+      arith,
+      continued_fits a.bytes.now a.at a.more r.value r.place (omega arith) (omega arith) (omega arith)
+          c.in_ok-rest.ensures,
+    )
 
 pub returns : goal.returns
 returns t c = let a = c.args in
-    c.continued.ensures ∙ ap (continued (get_or a.bytes.now a.at 0 % 128)) c.read_groups.ensures
-    ∙ sym (groups_at_more a.bytes.now a.at a.more (omega arith) (omega arith)
-    c.if-b-lt128.false)
+    let r = c.in_ok-rest.rest in
+    more a.bytes.now a.at a.more (omega arith) (omega arith) (omega arith) r.value r.place
+    c.in_ok-rest.ensures c.if-rest-eq0.false

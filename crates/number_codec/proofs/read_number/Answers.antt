@@ -2,9 +2,14 @@
 -- group.
 use mathlib.Core.Path.{sym}
 use native.Mathlib.Omega.{arith}
+use Rattle.number.specs.Number.{read_number}
 use Rattle.number.proofs.Theorems.{read_single}
 use Rattle.number_codec.proofs.read_number.Goals as goal
 
-pub returns-then-b-lt128 : goal.returns-then-b-lt128
-returns-then-b-lt128 c = let a = c.args in
-    sym (read_single a.bytes.now a.at (omega arith) c.if-b-lt128.true)
+pub returns-then-bytes-at-lt128 : goal.returns-then-bytes-at-lt128
+returns-then-bytes-at-lt128 c = let a = c.args in
+    sym (read_single a.bytes.now a.at (omega arith) (omega arith))
+
+pub returns : goal.returns
+unfolding read_number
+returns c = c.read_groups.ensures

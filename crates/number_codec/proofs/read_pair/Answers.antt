@@ -3,8 +3,7 @@
 use Prim.Native.Nat.{◌+◌}
 use mathlib.Core.Path.{sym, ap, ◌∙◌}
 use native.Mathlib.Omega.{arith}
-use Rattle.number.specs.declared.NumberRead.{NumberRead}
-use Rattle.number.specs.Number.{read_number}
+use Rattle.number.specs.Number.{NumberRead, read_number}
 use Rattle.number.proofs.Theorems.{read_single}
 use Rattle.number_codec.proofs.read_pair.Goals as goal
 

@@ -1,43 +1,41 @@
 -- `write_at` meets its contract: there is room for the number, so all of its bytes are written.
 use Prim.Native.Nat.{ℕ, ◌≤◌}
 use mathlib.Core.Path.{◌≡◌, refl, sym, ap, ◌∙◌}
-use mathlib.Core.Bool.{Bool, true, false, true≢false}
-use mathlib.Core.List.{List}
+use mathlib.Core.Bool.{Bool, false}
 use native.Mathlib.Omega.{arith}
 use lib.ListN.{length}
 use borrow.Author.Tests.{le-leb}
+use Rattle.std.specs.Prelude.{Result, Ok}
+use Rattle.number.specs.declared.Refused.{Refused}
 use Rattle.number.specs.Number.{number_bytes}
 use Rattle.number.specs.Output.{writing, written}
-use Rattle.number.specs.declared.Written.{Written}
-use Rattle.number.proofs.Theorems.{writing_fits, length_written}
+use Rattle.number.specs.Answer.{as_written}
+use Rattle.number.proofs.Answers.{as_written_injective}
+use Rattle.number.proofs.Theorems.{writing_fits}
 use Rattle.config_codec.specs.Walk.{shown}
 use Rattle.config_codec.proofs.writer.write_at.Goals as goal
 
-nothing : (q : Bool) (v : ℕ) (out : List ℕ) → q ≡ true → (0 ≡ length (shown q v)) × (out ≡ written (shown q v) out)
+-- a number that has room is written whole
+whole : (v n : ℕ) (q : Bool) (r : Result ℕ Refused) → q ≡ false → length (shown q v) ≤ n
+    → as_written r ≡ writing (number_bytes v) n → r ≡ Ok (length (shown q v))
+whole v n q r e h w =
+    rw e
+    (as_written_injective r (Ok (length (number_bytes v)))
+    (w ∙ sym (writing_fits (number_bytes v) n (length (number_bytes v)) refl (rw e at h))))
+
+pub returns-then-silent-clause-output : goal.returns-then-silent-clause-output
 unfolding written
-nothing true v out e = (refl, rw (le-leb 0 (length out) (omega arith)) refl)
-nothing false v out e = absurd (true≢false (sym e))
+returns-then-silent-clause-output c =
+    rw (c.if-silent.true, le-leb 0 (length c.args.out.now) (omega arith))
 
--- of the number's bytes over `before`, where its writer gives w and leaves `out`
-all-bytes : (q : Bool) (v : ℕ) (before out : List ℕ) (w : Written) → q ≡ false → length (shown q v) ≤ length before
-    → w ≡ writing (number_bytes v) (length before) → out ≡ written (number_bytes v) before
-    → (w.place ≡ length (shown q v)) × (out ≡ written (shown q v) before)
-all-bytes true v before out w e h answer left = absurd (true≢false e)
-all-bytes false v before out w e h answer left = (
-  ap (λ (x : Written). x.place)
-      (answer ∙ sym (writing_fits (number_bytes v) (length before) (length (number_bytes v)) refl h)),
-  left,
-)
+pub unwrap-requires : goal.unwrap-requires
+unwrap-requires c =
+    rw (whole c.args.v (length c.args.out.now) c.args.silent c.write_number.result c.if-silent.false c.requires
+    c.write_number.ensures.result)
 
-pub returns-then-silent : goal.returns-then-silent
-returns-then-silent c = let a = c.args in
-    let n = nothing a.silent a.v a.out.now c.if-silent.true in record { result = n.0; output = n.1 }
-
-pub returns : goal.returns
-returns c = let w = c.write_number-w in
-    let n = all-bytes c.args.silent c.args.v c.args.out.now w.new.out w.result
-    c.if-silent.false c.requires w.ensures.result w.ensures.output in record { result = n.0; output = n.1 }
-
-pub shape_of-out : goal.shape_of-out
-shape_of-out c = let a = c.args in
-    ap length c.write_number-w.ensures.output ∙ length_written (number_bytes a.v) a.out.now
+pub returns-clause-result : goal.returns-clause-result
+returns-clause-result c =
+    ap (λ (r : Result ℕ Refused). (as_written r).place)
+    (sym c.unwrap.ensures
+    ∙ whole c.args.v (length c.args.out.now) c.args.silent c.write_number.result c.if-silent.false c.requires
+    c.write_number.ensures.result)

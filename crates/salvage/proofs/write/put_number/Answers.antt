@@ -5,9 +5,8 @@ use mathlib.Core.List.{List}
 use borrow.Rule.Slice.PartMut.{put_mid}
 use native.Mathlib.Omega.{arith}
 use lib.ListN.{length, take, drop, length-take, length-drop}
-use Rattle.number.specs.declared.Written.{Written}
 use Rattle.number.specs.Number.{number_bytes}
-use Rattle.number.specs.Output.{writing, written, laid}
+use Rattle.number.specs.Output.{Written, writing, written, laid}
 use Rattle.number.proofs.Theorems.{writing_fits}
 use Rattle.number.proofs.Laying.{laid_part}
 use Rattle.salvage.proofs.write.put_number.Goals as goal

@@ -20,11 +20,11 @@ pub returns-clause-steps : goal.returns-clause-steps
 returns-clause-steps c = let e = c.in_ok-self-inside.ensures in
     sym c.self.view_is
     ∙ tokens_more c.self.inside.text.now c.self.inside.at e.0 e.1 c.next_token-token.ensures c.after-self-inside.ensures
-      c.spelling.ensures
+    c.spelling.ensures
 
 pub returns-clause-goes : goal.returns-clause-goes
 returns-clause-goes c = let e = c.in_ok-self-inside.ensures in
     let q = sym c.self.view_is
-        ∙ tokens_more c.self.inside.text.now c.self.inside.at e.0 e.1 c.next_token-token.ensures
-          c.after-self-inside.ensures c.spelling.ensures in
+    ∙ tokens_more c.self.inside.text.now c.self.inside.at e.0 e.1 c.next_token-token.ensures
+    c.after-self-inside.ensures c.spelling.ensures in
     grind (arith, common_steps)
