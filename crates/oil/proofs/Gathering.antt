@@ -20,13 +20,13 @@ use Rattle.oil.specs.declared.names.Names.{Names}
 use Rattle.oil.specs.Tokens.{progress_after}
 use Rattle.oil.specs.Hash.{hashed}
 use Rattle.oil.specs.Names.{in_class, spelled, repeated_at, twice_at}
-use Rattle.oil.specs.Gathered.{room, kept, Among, Gathered}
+use Rattle.oil.specs.Gathered.{kept, Among, Gathered}
 use Rattle.oil.proofs.TokenNumbers.{borne_next, borne_more, borne_last}
 
 pub none_gathered : (n : Names) → n.count ≡ 0 → Gathered n 0
 unfolding borne
 none_gathered n z =
-    let e : length (kept n) ≡ 0 = ap (λ k. length (take k n.kept)) z in
+    let e : length (kept n) ≡ 0 = ap (λ k. length (take k n.room.now)) z in
     record {
       hash = λ k d h. absurd (omega arith);
       known = λ k d h. absurd (omega arith);
@@ -55,12 +55,12 @@ module _ {n : Names} {i : ℕ} (g : Gathered n i) where
   pub among_borne : {x : List ℕ} → Among n x → true ≡ borne i n.text.now 0 fresh n.resource x
   among_borne m = sym (rw (ap (λ (y : Name). y.bytes.now) m.3 ∙ m.4) at (g.known m.0 m.1 m.2))
 
-  pub not_borne : n.count < room → {x : List ℕ} → in_class n.class x ≡ true → (Among n x → ⊥)
+  pub not_borne : n.count < length n.room.now → {x : List ℕ} → in_class n.class x ≡ true → (Among n x → ⊥)
       → borne i n.text.now 0 fresh n.resource x ≡ false
   not_borne l {x} q d = refuted (borne i n.text.now 0 fresh n.resource x) (λ e. d (g.whole l x q e))
 
   -- a token more that is kept by none of the names
-  stays : (n.count < room → (x : List ℕ) → in_class n.class x ≡ true → borne (i + 1) n.text.now 0 fresh n.resource x ≡ true
+  stays : (n.count < length n.room.now → (x : List ℕ) → in_class n.class x ≡ true → borne (i + 1) n.text.now 0 fresh n.resource x ≡ true
       → borne i n.text.now 0 fresh n.resource x ≡ true) → Gathered n (i + 1)
   stays f =
       record {
@@ -84,7 +84,7 @@ module _ {n : Names} {i : ℕ} (g : Gathered n i) where
   known_before e =
       stays (λ l x q b. ⊎_elim (λ a. a) (λ a. rw a.1 at e) (borne_last n.text.now n.resource x i b))
 
-  pub no_room_left : room ≤ n.count → Gathered n (i + 1)
+  pub no_room_left : length n.room.now ≤ n.count → Gathered n (i + 1)
   no_room_left h = stays (λ l. absurd (omega arith))
 
 -- the name m is kept beside those of n
@@ -94,7 +94,7 @@ pub record OneMore (n n' : Names) (m : Name) : Type 0 where
   pub class_same : n'.class ≡ n.class
   pub kept_more : kept n' ≡ kept n ++ m ∷ []
 
-module _ {n n' : Names} {i : ℕ} {m : Name} (g : Gathered n i) (o : OneMore n n' m) (some : n.count < room)
+module _ {n n' : Names} {i : ℕ} {m : Name} (g : Gathered n i) (o : OneMore n n' m) (some : n.count < length n.room.now)
     (named : bears n.resource (progress_after n.text.now i) ≡ true) (hash_is : m.hash ≡ hashed n.class.key 0 (spelled n.text.now i))
     (bytes_is : m.bytes.now ≡ spelled n.text.now i) where
   -- the token itself is borne

@@ -1,5 +1,5 @@
 -- What is known of the names that are kept.
-use Rattle.std.specs.Prelude.{ℕ, ◌<◌, ◌≡◌, Bool, true, List, take}
+use Rattle.std.specs.Prelude.{ℕ, ◌<◌, ◌≡◌, Bool, true, List, length, take}
 use Rattle.std.specs.List.{All, Any}
 use Rattle.oil.specs.declared.hashing.Class.{Class}
 use Rattle.oil.specs.declared.names.Name.{Name}
@@ -9,13 +9,9 @@ use Rattle.oil_grammar.specs.Walk.{borne}
 use Rattle.oil.specs.Hash.{hashed}
 use Rattle.oil.specs.Names.{in_class}
 
--- how many names are kept at most
-abbrev pub room : ℕ
-room = 2048
-
 -- the names that are kept
 abbrev pub kept : Names → List Name
-kept n = take n.count n.kept
+kept n = take n.count n.room.now
 
 -- x is one of them
 abbrev pub Among : Names → List ℕ → Type 0
@@ -31,4 +27,4 @@ pub record IsOf (n : Names) (t : List ℕ) (r : Bool) (c : Class) : Type 0 where
 pub record Gathered (n : Names) (i : ℕ) : Type 0 where
   pub hash : All (λ (m : Name). m.hash ≡ hashed n.class.key 0 m.bytes.now) (kept n)
   pub known : All (λ (m : Name). borne i n.text.now 0 fresh n.resource m.bytes.now ≡ true) (kept n)
-  pub whole : n.count < room → (x : List ℕ) → in_class n.class x ≡ true → borne i n.text.now 0 fresh n.resource x ≡ true → Among n x
+  pub whole : n.count < length n.room.now → (x : List ℕ) → in_class n.class x ≡ true → borne i n.text.now 0 fresh n.resource x ≡ true → Among n x

@@ -10,28 +10,35 @@ use crate::hashing::Class;
 use crate::token_walk::{Step, TokenWalk};
 
 // How many names of a class are kept at most.
-const ROOM: usize = 2048;
+pub const ROOM: usize = 2048;
 
 // A name, and its hash at the key of its class.
 #[derive(Clone, Copy)]
-struct Name<'a> {
+pub struct Name<'a> {
     hash: u64,
     bytes: &'a [u8],
 }
 
+impl<'a> Name<'a> {
+    // In the place of a name that is not kept yet.
+    pub const NONE: Name<'static> = Name {
+        hash: 0,
+        bytes: &[],
+    };
+}
+
 // The names of a class that a text's objects bear, or its RESOURCE objects alone: as many as there is room for.
 #[derive(Drop)]
-pub struct Names<'a> {
+pub struct Names<'a, 'b> {
     text: &'a [u8],
     resource: bool,
     class: Class,
-    kept: [Name<'a>; ROOM],
+    room: &'b mut [Name<'a>],
     count: usize,
-    ghost few: { count ≤ 2048 },
-    ghost rooms: { length kept ≡ 2048 },
+    ghost few: { count ≤ length room.now },
 }
 
-impl<'a> Names<'a> {
+impl<'a, 'b> Names<'a, 'b> {
     ghost use Rattle.std.specs.Prelude.{◌≡◌, ◌+◌, ◌==◌, ◌&&◌, not, true};
     ghost use Rattle.std.specs.List.{list_any};
     ghost use Rattle.std.specs.Str.{bytes_eq};
@@ -45,7 +52,7 @@ impl<'a> Names<'a> {
     ghost use Rattle.oil.specs.Gathered.{kept, Gathered, IsOf};
 
     // None yet.
-    pub fn new(text: &'a [u8], resource: bool, class: Class) -> Self
+    pub fn new(text: &'a [u8], resource: bool, class: Class, room: &'b mut [Name<'a>]) -> Self
         ensures of { IsOf result text.now resource class }
         ensures none { Gathered result 0 }
     {
@@ -53,10 +60,7 @@ impl<'a> Names<'a> {
             text,
             resource,
             class,
-            kept: [Name {
-                hash: 0,
-                bytes: text,
-            }; ROOM],
+            room,
             count: 0,
         }
     }
@@ -65,7 +69,7 @@ impl<'a> Names<'a> {
     fn keeps(&self, name: &[u8], hash: u64) -> bool
         ensures { result ≡ list_any (λ (n : Name). (n.hash == hash) && bytes_eq n.bytes.now name.now) (kept self.now) }
     {
-        self.kept[..self.count]
+        self.room[..self.count]
             .iter()
             .any(|n| n.hash == hash && n.bytes == name)
     }
@@ -80,7 +84,7 @@ impl<'a> Names<'a> {
         if self.keeps(name, hash) {
             return true;
         }
-        self.count == ROOM && borne(self.text, tokens, self.resource, name)
+        self.count == self.room.len() && borne(self.text, tokens, self.resource, name)
     }
 
     // Whether a name is of the class, and no object among the first `tokens` tokens bears it.
@@ -114,8 +118,8 @@ impl<'a> Names<'a> {
         if self.knows(i, name, hash) {
             return true;
         }
-        if self.count < ROOM {
-            self.kept[self.count] = Name { hash, bytes: name };
+        if self.count < self.room.len() {
+            self.room[self.count] = Name { hash, bytes: name };
             self.count += 1;
         }
         false
@@ -142,7 +146,8 @@ impl<'a> Names<'a> {
 fn first_twice(text: &[u8], tokens: usize, class: Class) -> Option<usize>
     ensures { First tokens (twice_at text.now false class) result }
 {
-    Names::new(text, false, class).gather(tokens)
+    let mut room = [Name::NONE; ROOM];
+    Names::new(text, false, class, &mut room).gather(tokens)
 }
 
 // The first of the first `tokens` tokens that is an earlier object's name.

@@ -38,28 +38,28 @@ returns-then-knows-clause-twice c = let n = c.args.self.now in
     twice_is n.text.now n.resource n.class c.args.i c.requires.reached (sym c.bears.ensures ∙ c.if-not-bears.false)
     c.in-Some.ensures.0 c.knows.ensures c.if-knows.true
 
-pub returns-then-self-lt-ROOM-clause-twice : goal.returns-then-self-lt-ROOM-clause-twice
-returns-then-self-lt-ROOM-clause-twice c = let n = c.args.self.now in
+pub returns-then-self-clause-twice : goal.returns-then-self-clause-twice
+returns-then-self-clause-twice c = let n = c.args.self.now in
     twice_is n.text.now n.resource n.class c.args.i c.requires.reached (sym c.bears.ensures ∙ c.if-not-bears.false)
     c.in-Some.ensures.0 c.knows.ensures c.if-knows.false
 
-pub returns-else-self-lt-ROOM-clause-twice : goal.returns-else-self-lt-ROOM-clause-twice
-returns-else-self-lt-ROOM-clause-twice c = let n = c.args.self.now in
+pub returns-else-self-clause-twice : goal.returns-else-self-clause-twice
+returns-else-self-clause-twice c = let n = c.args.self.now in
     twice_is n.text.now n.resource n.class c.args.i c.requires.reached (sym c.bears.ensures ∙ c.if-not-bears.false)
     c.in-Some.ensures.0 c.knows.ensures c.if-knows.false
 
-pub returns-else-self-lt-ROOM-clause-gathered : goal.returns-else-self-lt-ROOM-clause-gathered
-returns-else-self-lt-ROOM-clause-gathered c = no_room_left c.requires.gathered c.if-self-lt-ROOM.false
+pub returns-else-self-clause-gathered : goal.returns-else-self-clause-gathered
+returns-else-self-clause-gathered c = no_room_left c.requires.gathered c.if-self.false
 
-pub returns-then-self-lt-ROOM-clause-gathered : goal.returns-then-self-lt-ROOM-clause-gathered
-returns-then-self-lt-ROOM-clause-gathered c = let n = c.args.self.now in
+pub returns-then-self-clause-gathered : goal.returns-then-self-clause-gathered
+returns-then-self-clause-gathered c = let n = c.args.self.now in
     let m : Name = record { hash = c.in-Some.hash; bytes = c.args.step.spelling } in
     one_more {m = m} c.requires.gathered
     (record {
       text_same = refl;
       resource_same = refl;
       class_same = refl;
-      kept_more = rw add-one (take-suc-set n.kept n.count m (rw n.rooms c.if-self-lt-ROOM.true));
+      kept_more = rw add-one (take-suc-set n.room.now n.count m c.if-self.true);
     })
-    c.if-self-lt-ROOM.true (rw c.requires.reached.0 at (sym c.bears.ensures ∙ c.if-not-bears.false))
+    c.if-self.true (rw c.requires.reached.0 at (sym c.bears.ensures ∙ c.if-not-bears.false))
     (rw c.requires.reached.1 at c.in-Some.ensures.1) c.requires.reached.1
