@@ -1,5 +1,4 @@
--- The laws of the cell. `Theorems` states them, `Tick` to `Rows` prove them, and the loop of `tick_row` goes by
--- `Progress`.
+-- The laws of the cell. `Theorems` states them, `Tick` to `Rows` prove them.
 pub mod Theorems
 pub mod Tick
 pub mod Order
@@ -9,4 +8,3 @@ pub mod Due
 pub mod Match
 pub mod OnTime
 pub mod Rows
-pub mod Progress

@@ -33,10 +33,3 @@ turn_apart {M} {k} v fits some few same =
     let e : (k + v) % M ≡ k + v - M = mod-eq-sub-mod above ∙ mod-eq_of_lt (omega arith) in
     omega arith)
     (lt_or_le (k + v) M)
-
--- two differences one after the other are one: of b and c together
-pub minus_twice : {M r s a : ℕ} (b c : ℕ) → a < M → r < M → (s + b) % M ≡ a → (r + c) % M ≡ s → r ≡ minus M a (b + c)
-minus_twice {M} {r} {s} {a} b c fits below first second =
-    let e : r + (b + c) ≡ r + c + b = omega arith in
-    minus_unique a (b + c) below (ap (λ n. n % M) e ∙ sym (mod-add-mod (r + c) M b) ∙ ap (λ n. (n + b) % M) second
-    ∙ first ∙ sym (mod-eq_of_lt fits))

@@ -1,6 +1,5 @@
--- What one tick makes of a cell, for a counter of any modulus M: its four cases, the steps of the code, and a cell that
--- is off.
-use Rattle.std.proofs.Common.{◌≡◌, ℕ, zero, suc, Bool, true, false, cond, not, ◌&&◌, eqb, refl, ap, ◌∙◌, eq-eqb, ne_eqb}
+-- What one tick makes of a cell, for a counter of any modulus M: its four cases, and a cell that is off.
+use Rattle.std.proofs.Common.{◌≡◌, ℕ, zero, suc, true, false, refl, ap, ◌∙◌, eq-eqb, ne_eqb}
 use mathlib.Core.Bool.{and-true}
 use Rattle.cell.specs.declared.Cell.{Cell}
 use Rattle.cell.specs.Cell.{cell_of, unmarked, sum_in, reset_in, tick_cell_in, ticks_in}
@@ -25,20 +24,6 @@ module _ (M : ℕ) (c : Cell) where
     pub ticked_passed : (n ≡ c.compare → ⊥) → tick_cell_in M c ≡ unmarked n c.compare true c.turn
     unfolding tick_cell_in
     ticked_passed misses = simp (on, ← sum, ne_eqb _ _ misses, and-true)
-
--- the steps of the code, for a cell that is on or off: n is the count, r whether it is the compare value, m the mark,
--- next the counter that the cell is left with, t whether a turn must still pass
-pub ticked_made : (M : ℕ) (c : Cell) (n : ℕ) (r m : Bool) (next : ℕ) (t : Bool)
-    → n ≡ cond c.on (sum_in M c.counter) c.counter → r ≡ c.on && eqb n c.compare → m ≡ r && not c.turn
-    → next ≡ cond m (reset_in M) n → t ≡ c.turn && not r
-    → cell_of next c.compare c.on m t ≡ tick_cell_in M c
-unfolding tick_cell_in
-ticked_made M c n r m next t counts reaches marks sets turns =
-    rw (sets, turns, marks, reaches, counts, compares c.on (sum_in M c.counter) c.counter c.compare)
-  where
-    compares : (on : Bool) (s i k : ℕ) → on && eqb (cond on s i) k ≡ on && eqb s k
-    compares true s i k = refl
-    compares false s i k = refl
 
 pub off_ticks : (M n : ℕ) (c : Cell) → c.on ≡ false
     → ticks_in M (suc n) c ≡ unmarked c.counter c.compare false c.turn

@@ -7,7 +7,7 @@
 #![tactic(auto)]
 
 ghost use Rattle.std.specs.Prelude.{◌≡◌, ◌+◌, true, false};
-ghost use Rattle.cell.specs.Cell.{cell_of, unmarked, start_counter, long, start_cell, tick_cell, stop_cell};
+ghost use Rattle.cell.specs.Cell.{unmarked, start_counter, long, start_cell, tick_cell, stop_cell};
 
 pub mod row;
 
@@ -27,15 +27,14 @@ pub struct Cell {
 }
 
 // A match sets the counter register to 65,535 and not to 0: the next tick wraps it to 0, so no period is a tick short.
-const RESET: u16 = 65535;
+const RESET: u16 = u16::MAX;
 
 // The counter register at a start: the delay and then the offset are taken from the compare value, each by a 16-bit
 // subtraction that wraps.
 fn start_counter(compare: u16, delay: u16, offset: u16) -> u16
     ensures { result ≡ start_counter compare (delay + offset) }
 {
-    let delayed = std::num::wrapping_sub_u16(compare, delay);
-    std::num::wrapping_sub_u16(delayed, offset)
+    compare.wrapping_sub(delay).wrapping_sub(offset)
 }
 
 // Whether the first match is more than a turn of the counter ahead.
@@ -46,24 +45,17 @@ pub fn is_long(delay: u16, offset: u16) -> bool
 }
 
 impl Cell {
-    // The only place where the struct is written.
-    fn make(counter: u16, compare: u16, on: bool, matched: bool, turn: bool) -> Cell
-        ensures { result ≡ cell_of counter compare on matched turn }
+    // A cell of plain numbers, for whoever keeps cells as parallel arrays.
+    pub fn of(counter: u16, compare: u16, on: bool, turn: bool) -> Cell
+        ensures { result ≡ unmarked counter compare on turn }
     {
         Cell {
             counter,
             compare,
             on,
-            matched,
+            matched: false,
             turn,
         }
-    }
-
-    // A cell of plain numbers, for whoever keeps cells as parallel arrays.
-    pub fn of(counter: u16, compare: u16, on: bool, turn: bool) -> Cell
-        ensures { result ≡ unmarked counter compare on turn }
-    {
-        Cell::make(counter, compare, on, false, turn)
     }
 
     // The cell of an entry at `offset` of a table with this period, started with `delay`: its first match is `delay +
@@ -71,25 +63,25 @@ impl Cell {
     pub fn start(period: u16, delay: u16, offset: u16) -> Cell
         ensures { result ≡ start_cell period (delay + offset) }
     {
-        let compare = std::num::wrapping_sub_u16(period, 1);
+        let compare = period.wrapping_sub(1);
         let counter = start_counter(compare, delay, offset);
         Cell::of(counter, compare, true, is_long(delay, offset))
     }
 
+    #[tactic(auto, unfolding(crate::specs::Cell::tick_cell_in))]
     pub fn tick(self) -> Cell
         ensures { result ≡ tick_cell self }
     {
-        let compare = self.compare;
-        let counter = if self.on {
-            std::num::wrapping_add_u16(self.counter, 1)
-        } else {
-            self.counter
-        };
-        let reached = self.on && counter == compare;
+        let sum = self.counter.wrapping_add(1);
+        let counter = if self.on { sum } else { self.counter };
+        let reached = self.on && counter == self.compare;
         let matched = reached && !self.turn;
-        let next = if matched { RESET } else { counter };
-        let turn = self.turn && !reached;
-        Cell::make(next, compare, self.on, matched, turn)
+        Cell {
+            counter: if matched { RESET } else { counter },
+            matched,
+            turn: self.turn && !reached,
+            ..self
+        }
     }
 
     pub fn stop(self) -> Cell

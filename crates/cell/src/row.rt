@@ -8,9 +8,7 @@ use crate::Cell;
 pub fn tick_row(row: &mut [Cell])
     ensures { row.new ≡ ticked_row row.old }
 {
-    let mut i = 0;
-    while i < row.len() {
-        row[i] = row[i].tick();
-        i += 1;
+    for cell in row {
+        *cell = cell.tick();
     }
 }

@@ -14,7 +14,7 @@ use word::{has, with};
 
 mod lookup;
 
-pub use lookup::{byte_at, short_at, word_at};
+pub use lookup::{at, byte_at, short_at, word_at};
 
 // No body: instead of a rank it says that nobody runs, or that there is no such task or ISR. It is what lies
 // past the bottom of the row of held resources.
@@ -46,15 +46,15 @@ pub struct Ticked {
 
 // Ticks every cell and takes the matches in table order; `turning`: whether any cell has a turn to pass, `ranks`: those
 // of the entries' tasks, `begun`: the ranks that have begun and not ended.
-pub fn tick_entries<'a, 'b, 'c, 'd>(
+pub fn tick_entries(
     turning: bool,
-    compare: &'a [u16; 64],
-    ranks: &'a [u8; 64],
+    compare: &[u16; 64],
+    ranks: &[u8; 64],
     begun: u32,
     request: u32,
-    counter: &'b mut [u16; 64],
-    on: &'c mut [u16; 64],
-    losses: &'d mut [u16; 32],
+    counter: &mut [u16; 64],
+    on: &mut [u16; 64],
+    losses: &mut [u16; 32],
 ) -> Ticked
     ensures losses_after { tally_with result.request losses.new
         ≡ requests_due begun (marks max_entries 0 turning compare.now on.old counter.old)
@@ -73,11 +73,11 @@ pub fn tick_entries<'a, 'b, 'c, 'd>(
 }
 
 // Ticks every cell, and gives their match marks. The compiler makes two loops of the one, with turns and without.
-fn tick_cells<'a, 'b, 'c>(
+fn tick_cells(
     turning: bool,
-    compare: &'a [u16; 64],
-    counter: &'b mut [u16; 64],
-    on: &'c mut [u16; 64],
+    compare: &[u16; 64],
+    counter: &mut [u16; 64],
+    on: &mut [u16; 64],
 ) -> [bool; 64]
     ensures value { result
         ≡ marks max_entries 0 turning compare.now on.old counter.old }
@@ -88,15 +88,13 @@ fn tick_cells<'a, 'b, 'c>(
         on.old }
 {
     let mut matched = [false; 64];
-    let mut e = 0;
-    while e < CELLS {
+    for e in 0..CELLS {
         let switch = on[e];
         let turn = has_turn(turning, switch);
         let cell = Cell::of(counter[e], compare[e], switch != OFF, turn).tick();
         counter[e] = cell.counter;
         on[e] = switch_after(turning, switch, cell.turn);
         matched[e] = cell.matched;
-        e += 1;
     }
     matched
 }
@@ -113,18 +111,22 @@ fn switch_after(turning: bool, switch: u16, turn: bool) -> u16
     ensures { result ≡ (if turning then switch_for (is_on switch) turn else switch) }
 {
     if turning {
-        return switch_for(switch != OFF, turn);
+        switch_for(switch != OFF, turn)
+    } else {
+        switch
     }
-    switch
 }
 
 fn switch_for(on: bool, turn: bool) -> u16
     ensures { result ≡ switch_for on turn }
 {
     if turn {
-        return TURN;
+        TURN
+    } else if on {
+        ON
+    } else {
+        OFF
     }
-    if on { ON } else { OFF }
 }
 
 // Whether any cell has a turn to pass.
@@ -132,46 +134,40 @@ fn some_turn(on: &[u16; 64]) -> bool
     ensures { result ≡ some_turn max_entries 0 on.now }
 {
     let mut found = false;
-    let mut e = 0;
-    while e < CELLS {
-        if on[e] == TURN {
-            found = true;
-        }
-        e += 1;
+    for switch in on {
+        found |= *switch == TURN;
     }
     found
 }
 
 // Takes the matches in table order, and gives the requests after them.
-fn take_matches<'a, 'b>(
-    matched: &'a [bool; 64],
-    ranks: &'a [u8; 64],
+fn take_matches(
+    matched: &[bool; 64],
+    ranks: &[u8; 64],
     begun: u32,
     request: u32,
-    losses: &'b mut [u16; 32],
+    losses: &mut [u16; 32],
 ) -> u32
     requires { length matched.now ≡ max_entries }
     ensures { tally_with result losses.new
         ≡ requests_due begun matched.now ranks.now (tally_with request losses.old) }
 {
     let mut word = request;
-    let mut e = 0;
-    while e < CELLS {
-        word = take_group(e, matched, ranks, begun, word, losses);
-        e += GROUP;
+    for group in 0..CELLS / GROUP {
+        word = take_group(group * GROUP, matched, ranks, begun, word, losses);
     }
     word
 }
 
 // Takes the matches of the group of cells from `from` on. A mark that is set is found by the zeros below it, and not
 // by a branch for each mark, which the processor could not foresee.
-fn take_group<'a, 'b>(
+fn take_group(
     from: usize,
-    matched: &'a [bool; 64],
-    ranks: &'a [u8; 64],
+    matched: &[bool; 64],
+    ranks: &[u8; 64],
     begun: u32,
     request: u32,
-    losses: &'b mut [u16; 32],
+    losses: &mut [u16; 32],
 ) -> u32
     requires { (from + group ≤ max_entries) × (from + group ≤ length matched.now) }
     ensures { tally_with result losses.new
@@ -182,9 +178,9 @@ fn take_group<'a, 'b>(
     let mut e = from;
     let mut marks = group_word(matched, from);
     while marks != 0 {
-        let zeros = u64::trailing_zeros(marks);
+        let zeros = marks.trailing_zeros();
         e += (zeros / 8) as usize;
-        let rank = byte_at(ranks, e, NO_RANK);
+        let rank = at(ranks, e, NO_RANK);
         word = take_match(rank, begun, word, losses);
         e += 1;
         marks = (marks >> zeros) / 256;
@@ -198,14 +194,16 @@ fn group_word(matched: &[bool; 64], e: usize) -> u64
     requires { e + group ≤ max_entries }
     ensures { result ≡ marks_word (take group (drop e matched.now)) }
 {
-    matched[e] as u64
-        + 256 * matched[e + 1] as u64
-        + 65536 * matched[e + 2] as u64
-        + 16777216 * matched[e + 3] as u64
-        + 4294967296 * matched[e + 4] as u64
-        + 1099511627776 * matched[e + 5] as u64
-        + 281474976710656 * matched[e + 6] as u64
-        + 72057594037927936 * matched[e + 7] as u64
+    u64::from_le_bytes([
+        matched[e] as u8,
+        matched[e + 1] as u8,
+        matched[e + 2] as u8,
+        matched[e + 3] as u8,
+        matched[e + 4] as u8,
+        matched[e + 5] as u8,
+        matched[e + 6] as u8,
+        matched[e + 7] as u8,
+    ])
 }
 
 // A match of an entry whose task has this rank: a request where the task is suspended, else a loss.
@@ -219,40 +217,29 @@ fn take_match(rank: u8, begun: u32, request: u32, losses: &mut [u16; 32]) -> u32
     with(request, rank as u32)
 }
 
-// One more is lost at this rank; a number that is no rank changes nothing. Every element is written, because a row that is
-// read whole after a write to one of them makes the processor wait. `below` is how far the rank is above i, as wide as a
-// count, so that eight are tested at once.
+// One more is lost at this rank, and a count stays at 65,535 once there; a number that is no rank changes nothing. Every
+// element is written, because a row that is read whole after a write to one of them makes the processor wait. The ranks
+// are compared as numbers as wide as a count, so that eight are tested at once.
 pub fn lose(losses: &mut [u16; 32], rank: u8)
     ensures { losses.new
         ≡ (if nat_lt rank max_bodies then one_lost rank losses.old else losses.old) }
 {
-    let mut below = rank as u16;
-    let mut i = 0;
-    while i < BODIES {
-        losses[i] = one_more_where(below == 0, losses[i]);
-        below = std::num::wrapping_sub_u16(below, 1);
-        i += 1;
+    for r in 0..BODIES {
+        losses[r] = losses[r].saturating_add((r as u16 == rank as u16) as u16);
     }
-}
-
-// A loss count stays at 65,535 once there.
-fn one_more_where(test: bool, n: u16) -> u16
-    ensures { result ≡ (if test then one_more n else n) }
-{
-    if test && n < u16::MAX { n + 1 } else { n }
 }
 
 // Starts `count` cells, none past the row's end, and says whether any cell has a turn to pass then; `turning`: whether
 // one had before.
-pub fn start_cells<'a, 'b, 'c>(
+pub fn start_cells(
     turning: bool,
     from: u8,
     count: u8,
     period: u16,
     delay: u16,
-    offset: &'a [u16; 64],
-    counter: &'b mut [u16; 64],
-    on: &'c mut [u16; 64],
+    offset: &[u16; 64],
+    counter: &mut [u16; 64],
+    on: &mut [u16; 64],
 ) -> bool
     ensures value { result ≡ turning || some_long (in_row count from) from delay offset.now }
     ensures counter_after { counter.new
@@ -262,13 +249,11 @@ pub fn start_cells<'a, 'b, 'c>(
 {
     let until = row_end(from, count);
     let mut some = turning;
-    let mut e = from as usize;
-    while e < until {
+    for e in from as usize..until {
         let cell = Cell::start(period, delay, offset[e]);
         counter[e] = cell.counter;
         on[e] = switch_for(true, cell.turn);
-        some = some || cell.turn;
-        e += 1;
+        some |= cell.turn;
     }
     some
 }
@@ -278,10 +263,8 @@ pub fn fill(from: u8, count: u8, to: u16, row: &mut [u16; 64])
     ensures { row.new ≡ spread (λ _. to) (in_row count from) from row.old }
 {
     let until = row_end(from, count);
-    let mut e = from as usize;
-    while e < until {
+    for e in from as usize..until {
         row[e] = to;
-        e += 1;
     }
 }
 
@@ -289,8 +272,7 @@ pub fn fill(from: u8, count: u8, to: u16, row: &mut [u16; 64])
 fn row_end(from: u8, count: u8) -> usize
     ensures { result ≡ min (from + count) max_entries }
 {
-    let end = from as usize + count as usize;
-    if end < CELLS { end } else { CELLS }
+    (from as usize + count as usize).min(CELLS)
 }
 
 // Whether the body of this rank is ready, or has begun and not ended.

@@ -3,12 +3,16 @@
 #![tactic(auto)]
 
 use config::Config;
-use config_codec::{read_config, write_config};
+use config_codec::{no_config, read_config, write_config};
+use number::Refused;
 use std::io;
 
-// A refusal and its place.
-fn print(rt: &impl Print, refusal: u8, place: usize) -> io::Result<()> {
-    print!(rt; "{refusal} {place}")
+// A refusal and its place, or 0 and the place after what was read or written.
+fn print(rt: &impl Print, answer: Result<usize, Refused>) -> io::Result<()> {
+    match answer {
+        Ok(place) => print!(rt; "0 {place}"),
+        Err(Refused { refusal, place }) => print!(rt; "{} {place}", refusal.code()),
+    }
 }
 
 fn end_line(rt: &impl Print) -> io::Result<()> {
@@ -21,8 +25,7 @@ fn title(rt: &impl Print, name: &str) -> io::Result<()> {
 
 // What the reader answers.
 fn answer(rt: &impl Print, bytes: &[u8]) -> io::Result<()> {
-    let r = read_config(bytes);
-    print(rt, r.refusal, r.place)
+    print(rt, read_config(bytes).map(|read| read.place))
 }
 
 fn print_byte(rt: &impl Print, b: u8) -> io::Result<()> {
@@ -253,32 +256,37 @@ fn lengths(rt: &impl Print) -> io::Result<()> {
     end_line(rt)
 }
 
+// The value of bytes that are in order.
+fn value(bytes: &[u8]) -> Config {
+    match read_config(bytes) {
+        Ok(read) => read.value,
+        Err(_) => no_config(),
+    }
+}
+
 // The value of document 01's listing.
 fn listing() -> Config {
-    read_config(
-        b"\x01\x03\x00\x02\x01\x00\x05\x00\x01\x09\x00\x01\x03\x01\x04\x02\x00\x01\x02\x00",
-    ).config
+    value(b"\x01\x03\x00\x02\x01\x00\x05\x00\x01\x09\x00\x01\x03\x01\x04\x02\x00\x01\x02\x00")
 }
 
 // A value with as many entries as there may be.
 fn full() -> Config {
-    read_config(
+    value(
         b"\x01\x01\x00\x05\x00\x00\x04\x10\x10\x00\x00\x01\x00\x02\x00\x03\x00\x04\x00\x05\x00\x06\x00\x07\x00\x08\x00\x09\x00\x0a\x00\x0b\x00\x0c\x00\x0d\x00\x0e\x00\x0f\x00\x10\x10\x00\x00\x01\x00\x02\x00\x03\x00\x04\x00\x05\x00\x06\x00\x07\x00\x08\x00\x09\x00\x0a\x00\x0b\x00\x0c\x00\x0d\x00\x0e\x00\x0f\x00\x10\x10\x00\x00\x01\x00\x02\x00\x03\x00\x04\x00\x05\x00\x06\x00\x07\x00\x08\x00\x09\x00\x0a\x00\x0b\x00\x0c\x00\x0d\x00\x0e\x00\x0f\x00\x10\x10\x00\x00\x01\x00\x02\x00\x03\x00\x04\x00\x05\x00\x06\x00\x07\x00\x08\x00\x09\x00\x0a\x00\x0b\x00\x0c\x00\x0d\x00\x0e\x00\x0f\x00",
-    ).config
+    )
 }
 
 // A value with a table of kind 3.
 fn timed_listing() -> Config {
-    read_config(
+    value(
         b"\x01\x04\x00\x05\x00\x03\x06\x00\x03\x07\x00\x00\x08\x00\x00\x01\x04\x02\x01\x01\x02\x02",
-    ).config
+    )
 }
 
 // Writes into an output of 22 bytes, each 255 before, and prints the answer and the output.
 fn write(rt: &impl Print, c: Config) -> io::Result<()> {
     let mut out = [255u8; 22];
-    let w = write_config(c, &mut out);
-    print(rt, w.refusal, w.place)?;
+    print(rt, write_config(c, &mut out))?;
     print_bytes(rt, &out)?;
     end_line(rt)
 }
@@ -286,13 +294,11 @@ fn write(rt: &impl Print, c: Config) -> io::Result<()> {
 // The same with outputs of just as many bytes as the listing takes, and of one byte less.
 fn write_tight(rt: &impl Print, c: Config) -> io::Result<()> {
     let mut out = [255u8; 20];
-    let w = write_config(c, &mut out);
-    print(rt, w.refusal, w.place)?;
+    print(rt, write_config(c, &mut out))?;
     print_bytes(rt, &out)?;
     end_line(rt)?;
     let mut short = [255u8; 19];
-    let s = write_config(c, &mut short);
-    print(rt, s.refusal, s.place)?;
+    print(rt, write_config(c, &mut short))?;
     print_bytes(rt, &short)?;
     end_line(rt)
 }
@@ -319,7 +325,7 @@ fn written(rt: &impl Print) -> io::Result<()> {
 // A task with a deadline.
 fn written_deadline(rt: &impl Print) -> io::Result<()> {
     title(rt, "written deadline")?;
-    let mut a = read_config(b"\x01\x01\x00\x05\x00\x00\x00").config;
+    let mut a = value(b"\x01\x01\x00\x05\x00\x00\x00");
     a.version = 3;
     write(rt, a)?;
     a.deadline[0] = 300;

@@ -1,7 +1,7 @@
 -- One event of a trace: its code, then its arguments, each a number of the format.
 --
 --   arguments code    how many arguments an event has
---   read_event bs at  the event at a place of bs
+--   read_event bs at  the event at a place of bs; event_end bs at: where it ends
 --   event_bytes e     the bytes of e
 --   write_event e n   what the writer of e answers that is lent n bytes; event_written e d: what d holds afterwards
 --
@@ -94,6 +94,16 @@ abbrev pub as_event_read : Result (Reading Event) Refused → EventRead
 as_event_read (Ok r) = accepted r.value r.place
 as_event_read (Err e) = refused (code e.refusal) e.place
 
+-- where an event ends: refusal 0 and the place after it, or the refusal and its place
+pub record EventEnd : Type 0 where
+  pub refusal : ℕ
+  pub place : ℕ
+
+-- the answer of a function that says only this, in document 01's numbers
+abbrev pub as_event_end : Result ℕ Refused → EventEnd
+as_event_end (Ok p) = record { refusal = none; place = p }
+as_event_end (Err e) = record { refusal = code e.refusal; place = e.place }
+
 -- a number of the trace that can't be read; its place is the one that `number` gives
 abbrev pub unreadable : NumberRead → EventRead
 unreadable n = refused (in_trace n.refusal) n.place
@@ -126,6 +136,10 @@ unfoldable pub read_event : List ℕ → ℕ → EventRead
 read_event bs at =
     after_number (read_number bs at)
     (λ code p. cond (known code) (read_arguments (arguments code) bs code p) (refused unknown_event at))
+
+-- what a reading says without the event
+abbrev pub event_end : List ℕ → ℕ → EventEnd
+event_end bs at = record { refusal = (read_event bs at).refusal; place = (read_event bs at).place }
 
 -- the bytes of the first arguments of e, as many as the number says
 unfoldable pub argument_bytes : ℕ → Event → List ℕ

@@ -6,7 +6,7 @@
 pub const MAX_TRACE: usize = 8192;
 
 // An event; an argument that it lacks is 0.
-#[derive(Clone, Copy)]
+#[derive(Clone, Copy, Debug, Default, PartialEq, Eq)]
 pub struct Event {
     pub code: u8,
     pub first: u32,

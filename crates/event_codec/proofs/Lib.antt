@@ -1,4 +1,5 @@
 -- What the functions' proofs share; the laws of events are those of `event`.
 mod Arms
-mod Reading
+mod Steps
+mod Ends
 mod Parts

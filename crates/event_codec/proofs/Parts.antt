@@ -1,24 +1,29 @@
 -- What is written to a slice in two parts, the second by a callee that is lent the slice after the first.
 use Prim.Native.Nat.{ℕ, suc, ◌+◌, ◌-◌, ◌≤◌}
+use Rattle.std.specs.Prelude.{Err}
 use mathlib.Core.Path.{◌≡◌, refl, sym, ap, ◌∙◌}
 use mathlib.Core.List.{List, ◌∷◌, ◌++◌}
 use borrow.Rule.Slice.PartMut.{put_mid}
 use native.Mathlib.Omega.{arith}
 use native.Mathlib.Nat.{zero-add}
 use lib.ListN.{length, take, drop, set, length-set, length-take, length-drop, length-append}
-use Rattle.number.specs.Refusal.{none}
 use Rattle.number.specs.Output.{Written, writing, written}
+use Rattle.number.specs.Answer.{as_written}
+use Rattle.number.specs.declared.Refused.{Refused}
+use Rattle.number.proofs.Answers.{code_some}
 use Rattle.number.proofs.Theorems.{writing_fits, length_written}
 use Rattle.number.proofs.Laying.{laid_zero, laid_part, laid_laid, laid_first}
 
+-- a writer that has room for bs does not refuse
+pub taken : (bs : List ℕ) (n : ℕ) (e : Refused) → length bs ≤ n → as_written (Err e) ≡ writing bs n → ⊥
+taken bs n e room w =
+    code_some e.refusal (ap (λ (x : Written). x.refusal) (w ∙ sym (writing_fits bs n (length bs) refl room)))
+
 -- a callee that has room for cs in the part from a place on does not refuse
-pub part_fits : (at : ℕ) (cs d : List ℕ) (w : Written) → at + length cs ≤ length d
-    → w ≡ writing cs (length (take (length d - at) (drop at d)))
-    → w.refusal ≡ none
-part_fits at cs d w room e =
-    ap (λ (x : Written). x.refusal) (e
-    ∙ sym (writing_fits cs (length (take (length d - at) (drop at d))) (length cs) refl
-    (simp (length-take, length-drop) (omega arith))))
+pub part_taken : (at : ℕ) (cs d : List ℕ) (e : Refused) → at + length cs ≤ length d
+    → as_written (Err e) ≡ writing cs (length (take (length d - at) (drop at d)))
+    → ⊥
+part_taken at cs d e room w = taken cs (length (take (length d - at) (drop at d))) e (simp (length-take, length-drop) (omega arith)) w
 
 -- a byte stored, and cs written after it
 pub written_first : (b : ℕ) (cs d ys : List ℕ) → suc (length cs) ≤ length d

@@ -1,27 +1,17 @@
 // The events of a trace, read and written: a code, then its arguments, each a number of the format.
 #![tactic(auto)]
 
-ghost use Rattle.std.specs.Prelude.{◌≡◌, true, cond, ◌&&◌, ◌∷◌, ◌++◌, ◌+◌, ◌/◌, ◌%◌, ◌≤◌, ◌<◌, ltb, length, get_or};
-ghost use Rattle.number.specs.Refusal.{none};
-ghost use Rattle.number.specs.Number.{number_bytes};
-ghost use Rattle.number.specs.Output.{unwritten, writing, written};
-ghost use Rattle.event.specs.Event.{known, arguments, no_event, event, accepted, refused, unreadable, read_one, read_second, read_two, read_event, write_event, event_written};
-ghost use Rattle.event.specs.Refusal.{stray_argument};
+ghost use Rattle.std.specs.Prelude.{◌≡◌, true, cond, ◌&&◌, ◌∷◌, ◌++◌, ◌+◌, ◌/◌, ◌%◌, ◌<◌, ◌≤◌, ltb, length, get_or, MatchResult, SomeIff};
+ghost use Rattle.number.specs.Refusal.{none, malformed};
+ghost use Rattle.number.specs.Number.{accepted, read_number, number_bytes};
+ghost use Rattle.number.specs.Output.{writing, written};
+ghost use Rattle.number.specs.Answer.{code, as_written};
+ghost use Rattle.event.specs.Refusal.{in_trace};
+ghost use Rattle.event.specs.Event.{known, arguments, event, refused, unreadable, read_event, as_event_read, event_end, as_event_end, write_event, event_written};
 
-use event::{Event, EventRead};
-use number::{NO_ROOM, NumberRead, Written};
+use event::Event;
+use number::{Reading, Refusal, Refused};
 use number_codec::{number_length, read_number, write_number};
-
-// The code is none of 1 to 12.
-pub const UNKNOWN_EVENT: u8 = 23;
-// The writer's: an argument that the event lacks is not 0.
-pub const STRAY_ARGUMENT: u8 = 24;
-
-// The refusal of a number that is part of a trace is this much more than `number` gives.
-const IN_TRACE: u8 = 20;
-
-// In the place of a count of arguments: no event has the code.
-const NO_EVENT: u8 = 3;
 
 // How many bytes are read as one number. An event whose numbers have one byte each has three at most.
 const WORD: usize = 4;
@@ -29,46 +19,90 @@ const WORD: usize = 4;
 // The bytes of such an event, by its code, two bits each; 0 where no event has the code.
 const SHORT_LENGTHS: u64 = 48994968;
 
-// Where an event ends: the place after it, or a refusal with its place.
-#[derive(Clone, Copy)]
-pub struct EventEnd {
-    pub refusal: u8,
-    pub place: usize,
-}
+// The writer's refusal of an argument that the event lacks.
+const STRAY: Refused = Refused {
+    refusal: Refusal::StrayArgument,
+    place: 0,
+};
 
 // The event at a place of `trace`, read number by number.
-pub fn read_event(trace: &[u8], at: usize) -> EventRead
-    ensures { result ≡ read_event trace.now at }
+pub fn read_event(trace: &[u8], at: usize) -> Result<Reading<Event>, Refused>
+    ensures { as_event_read result ≡ read_event trace.now at }
 {
-    let head = read_number(trace, at);
-    if head.refusal != 0 {
-        return unreadable(head);
-    }
+    let head = trace_number(trace, at)?;
     let code = head.value;
-    let count = arguments(code);
-    if count == NO_EVENT {
-        return refused(UNKNOWN_EVENT, at);
+    match arguments(code) {
+        None => Err(Refused {
+            refusal: Refusal::UnknownEvent,
+            place: at,
+        }),
+        Some(0) => Ok(reading(code, 0, 0, head.place)),
+        Some(1) => {
+            let first = trace_number(trace, head.place)?;
+            Ok(reading(code, first.value, 0, first.place))
+        }
+        Some(_) => {
+            let first = trace_number(trace, head.place)?;
+            let second = trace_number(trace, first.place)?;
+            Ok(reading(code, first.value, second.value, second.place))
+        }
     }
-    if count == 0 {
-        return accepted(code as u8, 0, 0, head.place);
+}
+
+// A number of the trace: where it can't be read, the refusal is the trace's.
+fn trace_number(trace: &[u8], at: usize) -> Result<Reading<u32>, Refused>
+    ensures { MatchResult result (λ r. accepted r.value r.place ≡ read_number trace.now at)
+        (λ e. ((read_number trace.now at).refusal ≡ none → ⊥)
+        × (refused (code e.refusal) e.place ≡ unreadable (read_number trace.now at))) }
+{
+    match read_number(trace, at) {
+        Ok(number) => Ok(number),
+        Err(refused) => Err(in_trace(refused)),
     }
-    if count == 1 {
-        return read_one(trace, code as u8, head.place);
+}
+
+// A number's refusal, as the trace has it.
+fn in_trace(refused: Refused) -> Refused
+    ensures refusal { code refused.refusal ≤ malformed → code result.refusal ≡ in_trace (code refused.refusal) }
+    ensures place { result.place ≡ refused.place }
+{
+    let refusal = match refused.refusal {
+        Refusal::Cut => Refusal::TraceCut,
+        Refusal::Malformed => Refusal::TraceMalformed,
+        other => other,
+    };
+    Refused {
+        refusal,
+        place: refused.place,
     }
-    read_two(trace, code as u8, head.place)
+}
+
+// An event of a known code, and the place after it.
+fn reading(code: u32, first: u32, second: u32, place: usize) -> Reading<Event>
+    requires { code < 256 }
+    ensures value { result.value ≡ event code first second }
+    ensures place { result.place ≡ place }
+{
+    Reading {
+        value: Event {
+            code: code as u8,
+            first,
+            second,
+        },
+        place,
+    }
 }
 
 // Where the event at a place of `trace` ends, or why it is refused and where: as `read_event` says it, without the
 // event. Most numbers of a trace have one byte, so these come first. Where such an event ends is computed, because a
 // branch on the code is one that the processor does not foresee.
-pub fn event_end(trace: &[u8], at: usize) -> EventEnd
-    ensures refusal { result.refusal ≡ (read_event trace.now at).refusal }
-    ensures place { result.place ≡ (read_event trace.now at).place }
+pub fn event_end(trace: &[u8], at: usize) -> Result<usize, Refused>
+    ensures { as_event_end result ≡ event_end trace.now at }
 {
     if trace.len() <= at || trace.len() - at < WORD {
         return long_end(trace, at);
     }
-    let word = word_at(trace, at);
+    let word = u32::from_le_bytes([trace[at], trace[at + 1], trace[at + 2], trace[at + 3]]);
     if !is_short(word) {
         return long_end(trace, at);
     }
@@ -76,23 +110,7 @@ pub fn event_end(trace: &[u8], at: usize) -> EventEnd
     if length == 0 {
         return long_end(trace, at);
     }
-    short_end(at + length)
-}
-
-// Four bytes as one number, the first the lowest: the compiler makes one load of it.
-fn word_at(bytes: &[u8], at: usize) -> u32
-    requires { at + 4 ≤ length bytes.now }
-    ensures { (result % 256 ≡ get_or bytes.now at 0) × (result / 256 % 256 ≡ get_or bytes.now (at + 1) 0)
-        × (result / 65536 % 256 ≡ get_or bytes.now (at + 2) 0) }
-{
-    word_of(bytes[at], bytes[at + 1], bytes[at + 2], bytes[at + 3])
-}
-
-// The same of the bytes themselves.
-fn word_of(a: u8, b: u8, c: u8, d: u8) -> u32
-    ensures { (result % 256 ≡ a) × (result / 256 % 256 ≡ b) × (result / 65536 % 256 ≡ c) }
-{
-    a as u32 + 256 * b as u32 + 65536 * c as u32 + 16777216 * d as u32
+    Ok(at + length)
 }
 
 // Whether the lowest byte is small enough for a code, and the two after it are numbers of one byte.
@@ -110,124 +128,42 @@ fn short_length(code: u32) -> usize
     ((SHORT_LENGTHS >> 2 * code) % 4) as usize
 }
 
-// The end of an event that is accepted.
-fn short_end(place: usize) -> EventEnd
-    ensures { (result.refusal ≡ none) × (result.place ≡ place) }
-{
-    EventEnd { refusal: 0, place }
-}
-
 // The same, number by number.
-fn long_end(trace: &[u8], at: usize) -> EventEnd
-    ensures refusal { result.refusal ≡ (read_event trace.now at).refusal }
-    ensures place { result.place ≡ (read_event trace.now at).place }
+fn long_end(trace: &[u8], at: usize) -> Result<usize, Refused>
+    ensures { as_event_end result ≡ event_end trace.now at }
 {
-    let r = read_event(trace, at);
-    EventEnd {
-        refusal: r.refusal,
-        place: r.place,
-    }
+    Ok(read_event(trace, at)?.place)
 }
 
-// How many arguments follow the code.
-fn arguments(code: u32) -> u8
-    ensures { result ≡ cond (known code) (arguments code) no_event }
+// How many arguments follow the code, which may be that of no event.
+#[tactic(auto, unfolding(event::specs::Event::known, event::specs::Event::arguments))]
+fn arguments(code: u32) -> Option<u8>
+    ensures { SomeIff result (known code ≡ true) (arguments code) }
 {
     match code {
-        1 => 1, // Activate
-        2 => 0, // Finish
-        3 => 1, // Chain
-        4 => 1, // Get
-        5 => 1, // Release
-        6 => 0, // Tick
-        7 => 1, // Line
-        8 => 2, // Start
-        9 => 1, // Stop
-        10 => 1, // Wait
-        11 => 2, // Set
-        12 => 1, // Clear
-        0 | 13..=4294967295 => NO_EVENT,
+        1 => Some(1), // Activate
+        2 => Some(0), // Finish
+        3 => Some(1), // Chain
+        4 => Some(1), // Get
+        5 => Some(1), // Release
+        6 => Some(0), // Tick
+        7 => Some(1), // Line
+        8 => Some(2), // Start
+        9 => Some(1), // Stop
+        10 => Some(1), // Wait
+        11 => Some(2), // Set
+        12 => Some(1), // Clear
+        0 | 13..=4294967295 => None,
     }
 }
 
-// An event with two arguments, the first of them at `at`.
-fn read_two(trace: &[u8], code: u8, at: usize) -> EventRead
-    ensures { result ≡ read_two trace.now code at }
-{
-    let first = read_number(trace, at);
-    if first.refusal != 0 {
-        return unreadable(first);
-    }
-    read_second(trace, code, first.value, first.place)
-}
-
-// The second argument, at `at`.
-fn read_second(trace: &[u8], code: u8, first: u32, at: usize) -> EventRead
-    ensures { result ≡ read_second trace.now code first at }
-{
-    let second = read_number(trace, at);
-    if second.refusal != 0 {
-        return unreadable(second);
-    }
-    accepted(code, first, second.value, second.place)
-}
-
-// An event with one argument, at `at`.
-fn read_one(trace: &[u8], code: u8, at: usize) -> EventRead
-    ensures { result ≡ read_one trace.now code at }
-{
-    let first = read_number(trace, at);
-    if first.refusal != 0 {
-        return unreadable(first);
-    }
-    accepted(code, first.value, 0, first.place)
-}
-
-// An event, and the place after it.
-fn accepted(code: u8, first: u32, second: u32, place: usize) -> EventRead
-    ensures { result ≡ accepted (event code first second) place }
-{
-    EventRead {
-        event: Event {
-            code: code,
-            first: first,
-            second: second,
-        },
-        refusal: 0,
-        place: place,
-    }
-}
-
-// No event, because one of its numbers can't be read.
-fn unreadable(n: NumberRead) -> EventRead
-    requires { n.refusal ≤ 2 }
-    ensures { result ≡ unreadable n }
-{
-    refused(IN_TRACE + n.refusal, n.place)
-}
-
-// No event, with the reason.
-fn refused(refusal: u8, place: usize) -> EventRead
-    ensures { result ≡ refused refusal place }
-{
-    EventRead {
-        event: Event {
-            code: 0,
-            first: 0,
-            second: 0,
-        },
-        refusal: refusal,
-        place: place,
-    }
-}
-
-// Writes the event at the start of `out`, or nothing where it is refused.
-pub fn write_event(event: Event, out: &mut [u8]) -> Written
-    ensures result { result ≡ write_event event (length out.old) }
+// Writes the event at the start of `out`, or nothing where it is refused; gives its length.
+#[tactic(auto, unfolding(event::specs::Event::known, event::specs::Event::arguments))]
+pub fn write_event(event: Event, out: &mut [u8]) -> Result<usize, Refused>
+    ensures result { as_written result ≡ write_event event (length out.old) }
     ensures output { out.new ≡ event_written event out.old }
 {
-    let code = event.code;
-    match code {
+    match event.code {
         1 => write_one(event, out), // Activate
         2 => write_none(event, out), // Finish
         3 => write_one(event, out), // Chain
@@ -240,62 +176,49 @@ pub fn write_event(event: Event, out: &mut [u8]) -> Written
         10 => write_one(event, out), // Wait
         11 => write_two(event, out), // Set
         12 => write_one(event, out), // Clear
-        0 | 13..=255 => Written {
-            refusal: UNKNOWN_EVENT,
+        0 | 13..=255 => Err(Refused {
+            refusal: Refusal::UnknownEvent,
             place: 0,
-        },
+        }),
     }
 }
 
 // Writes an event without arguments.
-fn write_none(event: Event, out: &mut [u8]) -> Written
+fn write_none(event: Event, out: &mut [u8]) -> Result<usize, Refused>
     requires { (known event.code ≡ true) × (arguments event.code ≡ 0) }
-    ensures result { result ≡ write_event event (length out.old) }
+    ensures result { as_written result ≡ write_event event (length out.old) }
     ensures output { out.new ≡ event_written event out.old }
 {
-    if event.first != 0 {
-        return stray();
+    if event.first != 0 || event.second != 0 {
+        return Err(STRAY);
     }
-    if event.second != 0 {
-        return stray();
-    }
-    write_number(event.code as u32, out)
+    write_number(u32::from(event.code), out)
 }
 
 // Writes an event with one argument.
-fn write_one(event: Event, out: &mut [u8]) -> Written
+fn write_one(event: Event, out: &mut [u8]) -> Result<usize, Refused>
     requires { (known event.code ≡ true) × (arguments event.code ≡ 1) }
-    ensures result { result ≡ write_event event (length out.old) }
+    ensures result { as_written result ≡ write_event event (length out.old) }
     ensures output { out.new ≡ event_written event out.old }
 {
     if event.second != 0 {
-        return stray();
+        return Err(STRAY);
     }
     write_pair(event.code, event.first, out)
 }
 
-// The writer's refusal of an argument that the event lacks.
-fn stray() -> Written
-    ensures { result ≡ unwritten stray_argument 0 }
-{
-    Written {
-        refusal: STRAY_ARGUMENT,
-        place: 0,
-    }
-}
-
 // Writes an event with two arguments.
-fn write_two(event: Event, out: &mut [u8]) -> Written
+fn write_two(event: Event, out: &mut [u8]) -> Result<usize, Refused>
     requires { (known event.code ≡ true) × (arguments event.code ≡ 2) }
-    ensures result { result ≡ write_event event (length out.old) }
+    ensures result { as_written result ≡ write_event event (length out.old) }
     ensures output { out.new ≡ event_written event out.old }
 {
     write_triple(event.code, event.first, event.second, out)
 }
 
 // Writes a byte and two numbers after it, or nothing where they do not fit.
-fn write_triple(code: u8, first: u32, second: u32, out: &mut [u8]) -> Written
-    ensures result { result
+fn write_triple(code: u8, first: u32, second: u32, out: &mut [u8]) -> Result<usize, Refused>
+    ensures result { as_written result
         ≡ writing (code ∷ (number_bytes first ++ number_bytes second)) (length out.old) }
     ensures output { out.new
         ≡ written (code ∷ (number_bytes first ++ number_bytes second)) out.old }
@@ -303,35 +226,29 @@ fn write_triple(code: u8, first: u32, second: u32, out: &mut [u8]) -> Written
     let at = 1 + number_length(first);
     let end = at + number_length(second);
     if out.len() < end {
-        return Written {
-            refusal: NO_ROOM,
+        return Err(Refused {
+            refusal: Refusal::NoRoom,
             place: end,
-        };
+        });
     }
-    write_pair(code, first, out);
-    let w = write_number(second, &mut out[at..]);
-    Written {
-        refusal: w.refusal,
-        place: end,
-    }
+    write_pair(code, first, out)?;
+    write_number(second, &mut out[at..])?;
+    Ok(end)
 }
 
 // Writes a byte and a number after it, or nothing where they do not fit.
-fn write_pair(code: u8, first: u32, out: &mut [u8]) -> Written
-    ensures result { result ≡ writing (code ∷ number_bytes first) (length out.old) }
+fn write_pair(code: u8, first: u32, out: &mut [u8]) -> Result<usize, Refused>
+    ensures result { as_written result ≡ writing (code ∷ number_bytes first) (length out.old) }
     ensures output { out.new ≡ written (code ∷ number_bytes first) out.old }
 {
     let n = 1 + number_length(first);
     if out.len() < n {
-        return Written {
-            refusal: NO_ROOM,
+        return Err(Refused {
+            refusal: Refusal::NoRoom,
             place: n,
-        };
+        });
     }
     out[0] = code;
-    let w = write_number(first, &mut out[1..]);
-    Written {
-        refusal: w.refusal,
-        place: n,
-    }
+    write_number(first, &mut out[1..])?;
+    Ok(n)
 }

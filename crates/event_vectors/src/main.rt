@@ -3,8 +3,9 @@
 // not from this program.
 #![tactic(auto)]
 
-use event::{Event, EventRead};
+use event::Event;
 use event_codec::{read_event, write_event};
+use number::{Reading, Refused};
 use std::io;
 
 fn main(rt: HostRuntime) -> io::Result<()> {
@@ -118,19 +119,18 @@ fn write_without_room(rt: &impl Print) -> io::Result<()> {
 fn read_all(rt: &impl Print, trace: &[u8]) -> io::Result<()> {
     let mut at = 0;
     while at < trace.len() {
-        let r = read_event(trace, at);
-        print_read(rt, r)?;
-        if r.refusal != 0 {
+        let read = read_event(trace, at);
+        print_read(rt, read)?;
+        let Ok(event) = read else {
             return Ok(());
-        }
-        at = r.place;
+        };
+        at = event.place;
     }
     Ok(())
 }
 
 fn read(rt: &impl Print, label: &str, trace: &[u8], at: usize) -> io::Result<()> {
-    print(rt, label)?;
-    print(rt, ": ")?;
+    print!(rt; "{label}: ")?;
     print_read(rt, read_event(trace, at))
 }
 
@@ -142,48 +142,38 @@ fn write(
     second: u32,
     out: &mut [u8],
 ) -> io::Result<()> {
-    let e = Event {
+    let event = Event {
         code,
         first,
         second,
     };
-    let w = write_event(e, out);
-    print(rt, label)?;
-    print(rt, ": ")?;
-    print_answer(rt, w.refusal, w.place)?;
-    print_bytes(rt, out)?;
-    print(rt, "\n")
-}
-
-fn print_read(rt: &impl Print, r: EventRead) -> io::Result<()> {
-    print_number(rt, "event ", r.event.code as u64)?;
-    print_number(rt, " ", r.event.first as u64)?;
-    print_number(rt, " ", r.event.second as u64)?;
-    print(rt, ", ")?;
-    print_answer(rt, r.refusal, r.place)?;
-    print(rt, "\n")
-}
-
-fn print_answer(rt: &impl Print, refusal: u8, place: usize) -> io::Result<()> {
-    print_number(rt, "refusal ", refusal as u64)?;
-    print_number(rt, " place ", place as u64)
-}
-
-fn print_bytes(rt: &impl Print, bytes: &[u8]) -> io::Result<()> {
-    for b in bytes {
-        print_byte(rt, *b)?;
+    let answer = write_event(event, out);
+    print!(rt; "{label}: ")?;
+    print_answer(rt, answer)?;
+    for b in out {
+        print!(rt; " {b:02x}")?;
     }
-    Ok(())
+    println!(rt)
 }
 
-fn print_byte(rt: &impl Print, b: u8) -> io::Result<()> {
-    print!(rt; " {b:02x}")
+// A refused reading is printed as the event of zeros.
+fn print_read(rt: &impl Print, read: Result<Reading<Event>, Refused>) -> io::Result<()> {
+    let event = match read {
+        Ok(reading) => reading.value,
+        Err(_) => Event::default(),
+    };
+    print!(rt; "event {} {} {}, ", event.code, event.first, event.second)?;
+    print_answer(rt, read.map(|reading| reading.place))?;
+    println!(rt)
 }
 
-fn print_number(rt: &impl Print, before: &str, n: u64) -> io::Result<()> {
-    print!(rt; "{before}{n}")
-}
-
-fn print(rt: &impl Print, text: &str) -> io::Result<()> {
-    print!(rt; "{text}")
+fn print_answer(rt: &impl Print, answer: Result<usize, Refused>) -> io::Result<()> {
+    match answer {
+        Ok(place) => print!(rt; "refusal 0 place {place}"),
+        Err(refused) => print!(rt;
+            "refusal {} place {}",
+            refused.refusal.code(),
+            refused.place
+        ),
+    }
 }

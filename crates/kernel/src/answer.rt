@@ -23,8 +23,8 @@ pub fn answer<'a, 'b>(config: Config, trace: &'a [u8], events: usize, out: &'b m
         ≡ model_of (machine_after config (plan_of config) (fresh_model (plan_of config)) (calls_of trace.now)) }
 {
     let plan = plan_of(config);
-    let fresh = Model::fresh(plan.autostart, &plan.priority);
-    let last = play(config, plan, fresh, trace, out);
+    let fresh = Model::fresh(&plan);
+    let last = play(&config, &plan, fresh, trace, out);
     put_losses(
         &last.losses,
         &plan.rank,

@@ -56,10 +56,8 @@ fn bare_group(trace: &[u8], at: usize) -> bool
         return false;
     }
     let mut all = true;
-    let mut i = 0;
-    while i < GROUP {
-        all = is_bare(trace[at + i]) & all;
-        i += 1;
+    for &code in &trace[at..at + GROUP] {
+        all = is_bare(code) & all;
     }
     all
 }

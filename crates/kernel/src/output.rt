@@ -5,14 +5,13 @@ ghost use Rattle.scheduler.specs.Scheduler.{mark_of};
 ghost use Rattle.machine.specs.Model.{no_rank};
 ghost use Rattle.run.specs.Run.{loss_bytes};
 
-// Nobody runs.
-const IDLE: u8 = 255;
+use cells::NO_RANK;
 
 // The number of the body that runs; `body` has the bodies by rank.
 pub fn runner(body: &[u8; 32], rank: u8) -> u8
     ensures { result ≡ cond (ltb rank 32) (get_or body.now rank 0) no_rank }
 {
-    if rank < 32 { body[rank as usize] } else { IDLE }
+    body.get(rank as usize).copied().unwrap_or(NO_RANK)
 }
 
 // Writes the answer of an event.
@@ -27,31 +26,16 @@ pub fn put_answer(status: u8, runner: u8, level: u8, begun: bool, at: usize, out
 }
 
 // Writes the losses of the first `bodies` bodies, which stand in `losses` by rank; `ranks` are those of the bodies.
-pub fn put_losses<'a, 'b>(
-    losses: &'a [u16; 32],
-    ranks: &'a [u8; 32],
-    bodies: usize,
-    at: usize,
-    out: &'b mut [u8],
-)
+pub fn put_losses(losses: &[u16; 32], ranks: &[u8; 32], bodies: usize, at: usize, out: &mut [u8])
     requires { (bodies ≤ 32) × (bodies ≤ length ranks.now) × (at + 2 * bodies ≤ length out.old) }
     ensures { out.new
         ≡ laid at (loss_bytes (map (λ r. get_or losses.now r 0) (take bodies ranks.now)))
         out.old }
 {
-    let mut b = 0;
-    while b < bodies {
-        put_loss(loss(losses, ranks[b]), at + 2 * b, out);
-        b += 1;
+    for (b, &rank) in ranks[..bodies].iter().enumerate() {
+        let loss = losses.get(rank as usize).copied().unwrap_or(0);
+        put_loss(loss, at + 2 * b, out);
     }
-}
-
-// The losses of the body of this rank.
-fn loss(losses: &[u16], rank: u8) -> u16
-    ensures { result ≡ get_or losses.now rank 0 }
-{
-    let r = rank as usize;
-    if r < losses.len() { losses[r] } else { 0 }
 }
 
 // Writes two bytes, the low one first.
@@ -59,6 +43,5 @@ fn put_loss(n: u16, at: usize, out: &mut [u8])
     requires { at + 2 ≤ length out.old }
     ensures { out.new ≡ laid at (n % 256 ∷ n / 256 ∷ []) out.old }
 {
-    out[at] = (n % 256) as u8;
-    out[at + 1] = (n / 256) as u8;
+    out[at..at + 2].copy_from_slice(&n.to_le_bytes());
 }

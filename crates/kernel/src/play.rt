@@ -9,27 +9,27 @@ ghost use Rattle.kernel.specs.Passes.{Playable};
 
 use crate::output::{put_answer, runner};
 use config::Config;
-use model::{DONE, Model, Outcome, counts_lines};
+use model::{Model, Outcome, Status};
 use number_codec::{read_number, read_pair};
 use plan::Plan;
 
 // Each event meets the model that the one before it handed back; the last one's is the result.
 pub fn play<'a, 'b>(
-    config: Config,
-    plan: Plan,
+    config: &'a Config,
+    plan: &'a Plan,
     fresh: Model,
     trace: &'a [u8],
     out: &'b mut [u8],
 ) -> Model
     requires { Playable trace.now (length out.old) }
-    ensures value { result ≡ model_of (machine_after config plan (view fresh) (calls_of trace.now)) }
+    ensures value { result ≡ model_of (machine_after config.now plan.now (view fresh) (calls_of trace.now)) }
     ensures out_after { out.new
-        ≡ laid 0 (answer_bytes (machine_seen config plan (view fresh) (calls_of trace.now)))
+        ≡ laid 0 (answer_bytes (machine_seen config.now plan.now (view fresh) (calls_of trace.now)))
         out.old }
 {
     let mut o = Outcome {
         model: fresh,
-        status: DONE,
+        status: Status::Done,
         begun: false,
     };
     let mut at: usize = 0;
@@ -40,89 +40,71 @@ pub fn play<'a, 'b>(
         match code {
             1 => {
                 let task = read_number(trace, next);
-                o = o.model.activate(&plan.callable, &plan.priority, task.value);
+                o = o.model.activate(plan, task.value);
                 next = task.place;
             }
             2 => {
-                o = o.model.finish(&plan.priority);
+                o = o.model.finish(plan);
             }
             3 => {
                 let task = read_number(trace, next);
-                o = o
-                    .model
-                    .chain(plan.isrs, &plan.callable, &plan.priority, task.value);
+                o = o.model.chain(plan, task.value);
                 next = task.place;
             }
             4 => {
                 let resource = read_number(trace, next);
-                o = o.model.get(config.resources, &plan.users, &plan.ceiling, resource.value);
+                o = o.model.get(config, plan, resource.value);
                 next = resource.place;
             }
             5 => {
                 let resource = read_number(trace, next);
-                o = o
-                    .model
-                    .release(config.resources, &plan.priority, resource.value);
+                o = o.model.release(config, plan, resource.value);
                 next = resource.place;
             }
             6 => {
-                o = o.model.tick(&plan.compare, &plan.entry, &plan.priority);
+                o = o.model.tick(plan);
             }
             7 => {
                 let isr = read_number(trace, next);
-                let counts = counts_lines(config.version);
-                o = o.model.line(counts, &plan.line, &plan.priority, isr.value);
+                o = o.model.line(config, plan, isr.value);
                 next = isr.place;
             }
             8 => {
                 let arguments = read_pair(trace, next);
-                o = o.model.start(
-                    config.tables,
-                    &plan.first,
-                    &config.entries,
-                    &config.period,
-                    &config.offset,
-                    arguments.first,
-                    arguments.second,
-                );
+                o = o
+                    .model
+                    .start(config, plan, arguments.first, arguments.second);
                 next = arguments.place;
             }
             9 => {
                 let table = read_number(trace, next);
-                o = o
-                    .model
-                    .stop(config.tables, &plan.first, &config.entries, table.value);
+                o = o.model.stop(config, plan, table.value);
                 next = table.place;
             }
             10 => {
                 let mask = read_number(trace, next);
-                o = o.model.wait(plan.extended, &plan.priority, mask.value);
+                o = o.model.wait(plan, mask.value);
                 next = mask.place;
             }
             11 => {
                 let arguments = read_pair(trace, next);
-                o = o.model.set_event(
-                    plan.isrs,
-                    plan.extended,
-                    &plan.rank,
-                    &plan.priority,
-                    arguments.first,
-                    arguments.second,
-                );
+                o = o.model.set_event(plan, arguments.first, arguments.second);
                 next = arguments.place;
             }
             12 => {
                 let mask = read_number(trace, next);
-                o = o.model.clear(plan.extended, mask.value);
+                o = o.model.clear(plan, mask.value);
                 next = mask.place;
             }
             0 | 13..=255 => {
-                o.status = DONE;
+                o.status = Status::Done;
                 o.begun = false;
             }
         }
+        // Here the compiler still knows the arm's status; further down it would ask which one it is.
+        let status = o.status.number();
         put_answer(
-            o.status,
+            status,
             runner(&plan.body, o.model.registers.runner),
             o.model.registers.level,
             o.begun,

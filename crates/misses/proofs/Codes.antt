@@ -1,23 +1,25 @@
--- What an event's code says of it: whether it is a Tick, and whether it is a Chain to a body; who chains to itself.
+-- What an event's code says of it: whether it is a Tick, and whether it is a Chain to a body; the body of a rank.
 use Prim.Native.Nat.{ℕ}
 use mathlib.Core.Path.{◌≡◌, refl, sym, ap, ◌∙◌}
-use mathlib.Core.Bool.{Bool, true, false, cond, ◌&&◌}
+use mathlib.Core.Bool.{Bool, true, false, cond}
 use mathlib.Core.List.{List}
 use native.Mathlib.Omega.{arith}
 use lib.Dec.{eqb}
-use lib.ListN.{length, get_or, get_or-eq_default}
+use lib.ListN.{length}
 use borrow.Author.Tests.{ne_eqb, lt-ltb, le-ltb}
 use Rattle.number.proofs.Cases.{by_eq, by_lt}
 use Rattle.event.specs.declared.Event.{Event}
 use Rattle.event.specs.Event.{activate, finish, chain, get, release, tick, line, start, stop, wait, set}
 use Rattle.scheduler.specs.Event as Plain
 use Rattle.scheduler.specs.Event.{Activate, Finish, Chain, Get, Release, Tick, Line, Start, Stop, Wait, Set, Clear, is_tick}
-use Rattle.scheduler.specs.Status.{done}
-use Rattle.plan.proofs.Stores.{get_d_any}
-use Rattle.machine.specs.Model.{no_rank}
 use Rattle.run.specs.Run.{call_of}
 use Rattle.deadlines.specs.Activation.{chains_to}
-use Rattle.misses.specs.Change.{chained_body, body_at}
+use Rattle.misses.specs.Change.{body_at}
+use Rattle.std.proofs.Common.{Option, Some, None, Bor}
+use Rattle.std.specs.List.{slice_get}
+use Rattle.std.specs.Option.{option_copied}
+use Rattle.std.specs.Slice.{IsItemAt}
+use Rattle.std.proofs.lemmas.Option.{slice_get-get_or, slice_get_past}
 
 cond_same : (t x : Bool) → cond t x x ≡ x
 cond_same true x = refl
@@ -63,15 +65,13 @@ module _ (e : Event) where
   pub ticks : is_tick (call_of e) ≡ eqb e.code tick
   ticks = by_eq e.code tick ticks_is (λ n. ticks_not n ∙ sym (ne_eqb e.code tick n))
 
--- the body that chains to itself, where it is known whether the event is a Chain to the runner
-pub chained_as : (r st : ℕ) (e : Plain.Event) {t : Bool} → t ≡ chains_to r e
-    → chained_body r e st ≡ cond (t && eqb st done) r no_rank
-unfolding chained_body
-chained_as r st e h = ap (λ (u : Bool). cond (u && eqb st done) r no_rank) (sym h)
-
--- the body with the rank r, read with a default
-pub body_read : (bs : List ℕ) (r : ℕ) → length bs ≡ 32 → get_or bs r no_rank ≡ body_at bs r
+-- the body with the rank r, read of an array
+pub body_read : (bs : List ℕ) (r : ℕ) → length bs ≡ 32 → slice_get bs r ≡ body_at bs r
 body_read bs r long =
     by_lt r 32
-    (λ h. rw (lt-ltb r 32 h) (get_d_any bs r no_rank 0 (omega arith)))
-    (λ h. rw (le-ltb r 32 h) (get_or-eq_default bs no_rank {n = r} (omega arith)))
+    (λ h. slice_get-get_or bs r 0 (omega arith) ∙ sym (rw (lt-ltb r 32 h) refl))
+    (λ h. slice_get_past bs r (omega arith) ∙ sym (rw (le-ltb r 32 h) refl))
+
+pub item_copied : (r : Option (Bor ℕ)) (xs : List ℕ) (i : ℕ) → IsItemAt xs i r → option_copied r ≡ slice_get xs i
+item_copied None xs i e = sym (slice_get_past xs i e.3)
+item_copied (Some x) xs i e = ap Some (e.4 (omega arith) 0) ∙ sym (slice_get-get_or xs i 0 e.3.0)

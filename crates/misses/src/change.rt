@@ -1,13 +1,12 @@
 // What an event changed for the deadline cells: who was active before and after it, and who chained to itself.
 ghost use Rattle.std.specs.Prelude.{◌≡◌};
 ghost use Rattle.run.specs.Run.{call_of};
-ghost use Rattle.model.specs.View.{view, view_outcome};
+ghost use Rattle.model.specs.View.{status_number, view, view_outcome};
 ghost use Rattle.deadlines.specs.Activation.{chains_to};
 ghost use Rattle.misses.specs.Change.{active_in, chained_body, change_by};
 
-use cells::{NO_RANK, byte_at};
 use event::Event;
-use model::{DONE, Model, Outcome, Registers};
+use model::{Model, Outcome, Registers, Status};
 use word::union;
 
 // The codes of a Chain and of a Tick.
@@ -20,8 +19,8 @@ pub struct Change {
     // The ranks that were active before the event, and those that are after it, each as a word.
     pub before: u32,
     pub after: u32,
-    // The body that ended and became ready at once, by an accepted Chain to itself, or NO_RANK.
-    pub chained: u8,
+    // The body that ended and became ready at once, by an accepted Chain to itself.
+    pub chained: Option<u8>,
     pub tick: bool,
 }
 
@@ -33,12 +32,12 @@ pub fn active(registers: Registers) -> u32
 }
 
 // What the event changed that met `model` and handed `outcome` back; `body` has the bodies by rank.
-pub fn change_by(model: Model, event: Event, outcome: Outcome, body: [u8; 32]) -> Change
-    ensures { result ≡ change_by body (view model) (call_of event) (view_outcome outcome) }
+pub fn change_by(model: Model, event: Event, outcome: Outcome, body: &[u8; 32]) -> Change
+    ensures { result ≡ change_by body.now (view model) (call_of event) (view_outcome outcome) }
 {
     let met = model.registers;
     let left = outcome.model;
-    let runner = byte_at(&body, met.runner as usize, NO_RANK);
+    let runner = body.get(met.runner as usize).copied();
     Change {
         before: active(met),
         after: active(left.registers),
@@ -48,13 +47,13 @@ pub fn change_by(model: Model, event: Event, outcome: Outcome, body: [u8; 32]) -
 }
 
 // The runner, where the event is an accepted Chain to it.
-fn chained_body(runner: u8, event: Event, status: u8) -> u8
-    ensures { result ≡ chained_body runner (call_of event) status }
+fn chained_body(runner: Option<u8>, event: Event, status: Status) -> Option<u8>
+    ensures { result ≡ chained_body runner (call_of event) (status_number status) }
 {
-    if !chains_to(runner, event) {
-        return NO_RANK;
+    match runner {
+        Some(body) if status == Status::Done && chains_to(body, event) => Some(body),
+        _ => None,
     }
-    if status == DONE { runner } else { NO_RANK }
 }
 
 fn chains_to(body: u8, event: Event) -> bool

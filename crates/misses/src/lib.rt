@@ -2,9 +2,9 @@
 //
 // Configuration and trace are refused as the run refuses them. Then the events are played on the machine's model, which
 // goes by value from step to step, with a deadline cell for each body beside it: watch.rt has the loop, change.rt what an
-// event changed, by the words before and after it, row.rt the cells, list.rt the list of the first 64 misses. Their
-// contracts cite the run on the machine with a row of cells (deadlines, `machine_misses`), that of `osek_misses` the
-// definition over the list of events alone (`misses`): deadlines' law `played_misses` says that they are the same.
+// event changed, by the words before and after it, row.rt the cells, list.rt the misses and the list of the first 64.
+// Their contracts cite the run on the machine with a row of cells (deadlines, `machine_misses`), that of `osek_misses`
+// the definition over the list of events alone (`misses`): deadlines' law `played_misses` says that they are the same.
 #![tactic(auto)]
 
 mod change;
@@ -25,7 +25,6 @@ ghost use Rattle.misses.specs.Watched.{Watchable};
 use config::Config;
 use config_codec::read_config;
 use kernel::{OUTPUT_MAX, REFUSED, run};
-use list::hand_over;
 use planner::plan_of;
 use watch::watch;
 
@@ -49,7 +48,7 @@ pub extern "C" fn osek_misses(config: &[u8], trace: &[u8], list: &mut [u8]) -> u
 }
 
 // The same of a configuration and a trace that are accepted.
-fn list_misses<'a, 'b>(config: Config, trace: &'a [u8], list: &'b mut [u8]) -> u64
+fn list_misses(config: Config, trace: &[u8], list: &mut [u8]) -> u64
     requires { Watchable config trace.now }
     ensures value { result
         ≡ count_of (length list.old)
@@ -59,9 +58,6 @@ fn list_misses<'a, 'b>(config: Config, trace: &'a [u8], list: &'b mut [u8]) -> u
         (first_misses (machine_misses config (plan_of config) (deadlines_of config) (calls_of trace.now))))
         list.old }
 {
-    let mut found = [0u8; 192];
-    let plan = plan_of(config);
-    let deadlines = config.deadline;
-    let count = watch(config, plan, deadlines, trace, &mut found);
-    hand_over(count, &found, list)
+    let misses = watch(config, plan_of(config), trace);
+    misses.write(list)
 }

@@ -1,46 +1,91 @@
 // The deadline cells, one a body, by body.
-ghost use Rattle.std.specs.Prelude.{◌≡◌, not, ◌&&◌, ◌||◌, ◌≤◌, take};
+ghost use Rattle.std.specs.Prelude.{◌≡◌, not, ◌&&◌, ◌||◌, ◌+◌, ◌<◌, ◌≤◌, ◌^◌, take};
 ghost use Rattle.config.specs.Value.{max_bodies};
-ghost use Rattle.deadlines.specs.DeadlineCells.{suspended_cell, ready_cell, counted_cell};
+ghost use Rattle.deadlines.specs.DeadlineCells.{suspended_cell, ready_cell, counted_cell, matches_of};
 ghost use Rattle.misses.specs.Change.{cell_after, cell_by, row_by, fresh_cell_in, fresh_row_by};
+ghost use Rattle.misses.specs.Noted.{NotesMore};
 
 use crate::change::Change;
+use crate::list::{Miss, Misses};
 use cell::Cell;
+use std::array;
 use word::has;
 
-// The cells at the fresh start: those of the ranks in `active` count, where they have a deadline.
-pub fn fresh_row(active: u32, ranks: [u8; 32], deadlines: [u16; 32], bodies: usize) -> [Cell; 32]
-    requires { bodies ≤ max_bodies }
-    ensures { take bodies result ≡ fresh_row_by active ranks deadlines bodies }
-{
-    let off = Cell::of(0, 0, false, false);
-    let mut row = [off; 32];
-    let mut b = 0;
-    while b < bodies {
-        row[b] = fresh_cell(has(active, ranks[b] as u32), deadlines[b]);
-        b += 1;
-    }
-    row
+// The cells with what they go by: the rank and the deadline of each body, and how many bodies there are. These two are
+// the tables of the plan and of the configuration: a struct for each body would take them apart, and be no plainer.
+#[derive(Clone, Copy)]
+pub struct DeadlineCells {
+    pub cells: [Cell; 32],
+    pub ranks: [u8; 32],
+    pub deadlines: [u16; 32],
+    pub bodies: usize,
+    ghost few_bodies: { bodies ≤ max_bodies },
 }
 
-// The cells after an event.
-pub fn moved_row(
-    row: [Cell; 32],
-    change: Change,
-    ranks: [u8; 32],
-    deadlines: [u16; 32],
-    bodies: usize,
-) -> [Cell; 32]
-    requires { bodies ≤ max_bodies }
-    ensures { take bodies result ≡ row_by change ranks deadlines bodies row }
-{
-    let mut cells = row;
-    let mut b = 0;
-    while b < bodies {
-        cells[b] = moved_cell(row[b], change, b as u8, ranks[b], deadlines[b]);
-        b += 1;
+impl DeadlineCells {
+    // The cells at the fresh start: those of the ranks in `active` count, where they have a deadline.
+    pub fn fresh(active: u32, ranks: [u8; 32], deadlines: [u16; 32], bodies: usize) -> DeadlineCells
+        requires { bodies ≤ max_bodies }
+        ensures cells { take bodies result.cells ≡ fresh_row_by active ranks deadlines bodies }
+        ensures ranks { result.ranks ≡ ranks }
+        ensures deadlines { result.deadlines ≡ deadlines }
+        ensures bodies { result.bodies ≡ bodies }
+    {
+        let cells = array::from_fn(|b: usize| fresh_cell(
+            has(active, ranks[b] as u32),
+            deadlines[b],
+        ));
+        DeadlineCells {
+            cells,
+            ranks,
+            deadlines,
+            bodies,
+        }
     }
-    cells
+
+    // The cells after an event.
+    pub fn moved(self, change: Change) -> DeadlineCells
+        ensures cells { take self.bodies result.cells
+            ≡ row_by change self.ranks self.deadlines self.bodies self.cells }
+        ensures ranks { result.ranks ≡ self.ranks }
+        ensures deadlines { result.deadlines ≡ self.deadlines }
+        ensures bodies { result.bodies ≡ self.bodies }
+    {
+        let DeadlineCells {
+            cells,
+            ranks,
+            deadlines,
+            bodies,
+        } = self;
+        let cells = array::from_fn(|b: usize| moved_cell(
+            cells[b],
+            change,
+            b as u8,
+            ranks[b],
+            deadlines[b],
+        ));
+        DeadlineCells {
+            cells,
+            ranks,
+            deadlines,
+            bodies,
+        }
+    }
+
+    // Notes the cells that match at this Tick, in order of body.
+    pub fn note_matches(&self, tick: u16, misses: &mut Misses)
+        requires { misses.old.count < 2 ^ 62 }
+        ensures { NotesMore misses.old misses.new (matches_of tick 0 (take self.now.bodies self.now.cells)) }
+    {
+        for (body, cell) in self.cells[..self.bodies].iter().enumerate() {
+            if cell.tick().matched {
+                misses.note(Miss {
+                    tick,
+                    body: body as u8,
+                });
+            }
+        }
+    }
 }
 
 // The cell of a body after an event.
@@ -54,7 +99,7 @@ fn moved_cell(cell: Cell, change: Change, body: u8, rank: u8, deadline: u16) -> 
         deadline,
         before,
         after,
-        change.chained == body,
+        change.chained == Some(body),
         change.tick,
     )
 }
@@ -84,10 +129,7 @@ fn cell_after(
 fn turned(from: bool, to: bool, chained: bool) -> bool
     ensures { result ≡ (to && not from) || chained }
 {
-    if chained {
-        return true;
-    }
-    to && !from
+    chained || (to && !from)
 }
 
 fn fresh_cell(active: bool, deadline: u16) -> Cell

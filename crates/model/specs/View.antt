@@ -1,8 +1,13 @@
 -- The code's model is the machine's, field by field, and so is an outcome: `view` looks at a struct of the code as the
--- machine's record, `model_of` and `outcome_of` go back. A contract speaks of the machine's definitions through them.
+-- machine's record, `model_of` goes back. A status is the documents' number of its case. A contract speaks of the
+-- machine's definitions through them, and fixes what is handed back: `view_outcome_injective` (proofs/Views.antt).
 -- Registers are the machine's model once there are arrays beside them (`view_with`), and the contract of a method on
 -- registers holds whatever the arrays hold that it is not lent.
 use Rattle.std.specs.Prelude.{ℕ, List}
+use Rattle.scheduler.specs.Status.{done, access, call_level, no_such, limit_reached, no_function, holds_resource, wrong_state, bad_delay, not_user}
+use Rattle.model.specs.declared.Status.{Status}
+use Rattle.model.specs.declared.Status.TheVariants.{Done, Access, CallLevel, NoSuch, Limit, NoFunction, HoldsResource, WrongState, BadDelay, NotUser}
+use Rattle.model.specs.declared.Core.{Core}
 use Rattle.model.specs.declared.Picked.{Picked}
 use Rattle.model.specs.declared.Registers.{Registers}
 use Rattle.model.specs.declared.Step.{Step}
@@ -14,22 +19,12 @@ use Rattle.machine.specs.Model as Machine
 abbrev pub core : ℕ → ℕ → ℕ → ℕ → ℕ → Machine.Core
 core w v a r l = record { request = w; started = v; aside = a; runner = r; level = l }
 
-abbrev pub core_of : Picked → Machine.Core
-core_of p = core p.request p.started p.aside p.runner p.level
+abbrev pub view_core : Core → Machine.Core
+view_core k = core k.request k.started k.aside k.runner k.level
 
+-- the same after arbitration
 abbrev pub view_picked : Picked → Machine.Picked
-view_picked p = record { core = core_of p; begun = p.begun }
-
-abbrev pub picked_of : Machine.Picked → Picked
-picked_of p =
-    record {
-      request = p.core.request;
-      started = p.core.started;
-      aside = p.core.aside;
-      runner = p.core.runner;
-      level = p.core.level;
-      begun = p.begun;
-    }
+view_picked p = record { core = view_core p.core; begun = p.begun }
 
 -- The arrays of the machine: counters and switches of the cells, losses, event bits and masks.
 pub record Arrays : Type 0 where
@@ -78,16 +73,29 @@ view_with r x =
       triggered = r.triggered;
     }
 
+-- the number of a status
+abbrev pub status_number : Status → ℕ
+status_number Done = done
+status_number Access = access
+status_number CallLevel = call_level
+status_number NoSuch = no_such
+status_number Limit = limit_reached
+status_number NoFunction = no_function
+status_number HoldsResource = holds_resource
+status_number WrongState = wrong_state
+status_number BadDelay = bad_delay
+status_number NotUser = not_user
+
 -- what a method on registers hands back
 abbrev pub view_step : Step → Arrays → Machine.Outcome
-view_step s x = record { model = view_with s.registers x; status = s.status; begun = s.begun }
+view_step s x = record { model = view_with s.registers x; status = status_number s.status; begun = s.begun }
 
 -- a model
 abbrev pub view : Model → Machine.Model
 view m = view_with m.registers (arrays_of m)
 
 abbrev pub view_outcome : Outcome → Machine.Outcome
-view_outcome o = record { model = view o.model; status = o.status; begun = o.begun }
+view_outcome o = record { model = view o.model; status = status_number o.status; begun = o.begun }
 
 -- and back
 abbrev pub registers_of : Machine.Model → Registers
@@ -117,6 +125,3 @@ model_of m =
       bits = m.bits;
       waited = m.waited;
     }
-
-abbrev pub outcome_of : Machine.Outcome → Outcome
-outcome_of o = record { model = model_of o.model; status = o.status; begun = o.begun }

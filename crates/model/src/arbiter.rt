@@ -1,158 +1,169 @@
 // Who runs: of those that wait to begin or go on by their priority the highest wins, and is dispatched only strictly
 // above the level.
-ghost use Rattle.std.specs.Prelude.{◌≡◌, true, cond, ◌&&◌, ltb, eqb};
+ghost use Rattle.std.specs.Prelude.{◌≡◌, true, ◌&&◌, ltb, eqb};
 ghost use Rattle.config.specs.Meaning.{execution_level, trigger_level};
-ghost use Rattle.word.specs.Word.{has, with, without};
-ghost use Rattle.stack.specs.Stack.{top_row, push_row};
-ghost use Rattle.machine.specs.Model.{no_rank, with_core, with_request, with_triggered, done_with};
-ghost use Rattle.machine.specs.Arbiter.{arbitrated, settled, leaving, triggering, returning};
-ghost use Rattle.model.specs.View.{Arrays, core, core_of, view_with, view_step, picked_of};
+ghost use Rattle.word.specs.Word.{with, without};
+ghost use Rattle.stack.specs.Stack.{push_row};
+ghost use Rattle.machine.specs.Model.{with_core, with_request, with_triggered, done_with};
+ghost use Rattle.machine.specs.Arbiter.{arbitrated, settled, left_with, leaving, triggering, returning};
+ghost use Rattle.model.specs.View.{Arrays, core, view_core, view_picked, view_with, view_step};
 
-use crate::{DONE, EXECUTION_LEVEL, Picked, Registers, Step};
-use cells::{NO_RANK, byte_at};
+use crate::{Core, EXECUTION_LEVEL, Picked, Registers, Status, Step};
+use cells::{NO_RANK, at};
 use config::TRIGGER_LEVEL;
-use stack::Row;
+use plan::Plan;
+use std::hint::select_unpredictable;
 use word::{has, union, winner, with, without};
 
 impl Registers {
-    // The model after arbitration, with these requests.
-    pub fn settled(self, request: u32, priority: &[u8; 32]) -> Step
-        ensures { (x : Arrays) → view_step result x
-            ≡ settled priority.now
-            (with_core (view_with self x) (with_request (view_with self x).core request)) }
+    pub fn core(self) -> Core
+        ensures { (x : Arrays) → view_core result ≡ (view_with self x).core }
     {
-        let picked = arbitrated(
-            request,
-            self.started,
-            self.aside,
-            self.runner,
-            self.level,
-            priority,
-        );
-        self.seated(picked)
+        Core {
+            request: self.request,
+            started: self.started,
+            aside: self.aside,
+            runner: self.runner,
+            level: self.level,
+        }
     }
 
-    // The same once the runner has ended: whoever took the latest resource that is held takes its seat, or nobody does.
-    pub fn ended(mut self, request: u32, priority: &[u8; 32]) -> Step
+    // The model after arbitration, with this core.
+    pub fn settled(self, core: Core, plan: &Plan) -> Step
         ensures { (x : Arrays) → view_step result x
-            ≡ settled priority.now
+            ≡ settled plan.now.priority (with_core (view_with self x) (view_core core)) }
+    {
+        self.seated(arbitrated(core, plan))
+    }
+
+    // The core that a runner leaves, with these words of who has begun: whoever took the latest resource that is held
+    // takes its seat, or nobody does.
+    pub fn left_with(self, started: u32, aside: u32) -> Core
+        ensures { (x : Arrays) → view_core result ≡ left_with (view_with self x) started aside }
+    {
+        let runner = self.holder.top();
+        let level = select_unpredictable(runner == NO_RANK, 0, self.raised.top());
+        Core {
+            request: self.request,
+            started,
+            aside,
+            runner,
+            level,
+        }
+    }
+
+    // The model after arbitration, with these requests, once the runner has ended.
+    pub fn ended(mut self, request: u32, plan: &Plan) -> Step
+        ensures { (x : Arrays) → view_step result x
+            ≡ settled plan.now.priority
             (with_core (leaving (view_with self x)) (with_request (leaving (view_with self x)).core request)) }
     {
-        let started = without(self.started, self.runner as u32);
-        self.cleared = with(self.cleared, self.runner as u32);
-        let holder = self.holder;
-        let level = latest_level(holder, self.raised);
-        let picked = arbitrated(request, started, self.aside, holder.top(), level, priority);
-        self.seated(picked)
+        let rank = self.runner as u32;
+        let left = self.left_with(without(self.started, rank), self.aside);
+        self.cleared = with(self.cleared, rank);
+        self.settled(Core { request, ..left }, plan)
     }
 
     // The same once a time-triggered task has ended: the one that was started before it goes on, and where there is
     // none, the seat is left as by any other runner.
-    pub fn returned(mut self, priority: &[u8; 32]) -> Step
+    pub fn returned(mut self, plan: &Plan) -> Step
         ensures { (x : Arrays) → view_step result x
-            ≡ settled priority.now (returning (view_with self x)) }
+            ≡ settled plan.now.priority (returning (view_with self x)) }
     {
-        let aside = without(self.aside, self.runner as u32);
-        self.cleared = with(self.cleared, self.runner as u32);
+        let rank = self.runner as u32;
+        let left = self.left_with(self.started, without(self.aside, rank));
         let earlier = self.triggered.second();
-        let holder = self.holder;
-        let runner = earlier_or(earlier, holder.top());
-        let level = execution_or(earlier, latest_level(holder, self.raised));
+        let alone = earlier == NO_RANK;
+        let core = Core {
+            runner: select_unpredictable(alone, left.runner, earlier),
+            level: select_unpredictable(alone, left.level, EXECUTION_LEVEL),
+            ..left
+        };
+        self.cleared = with(self.cleared, rank);
         self.triggered = self.triggered.pop();
-        let picked = arbitrated(self.request, self.started, aside, runner, level, priority);
-        self.seated(picked)
+        self.settled(core, plan)
     }
 
-    // The same after a Tick, which alone may start a time-triggered task.
-    pub fn triggering(self, request: u32, priority: &[u8; 32]) -> Step
+    // The model after a Tick and arbitration, with these requests: a Tick alone may start a time-triggered task, which
+    // is whom arbitration picked where the level rose to the trigger level.
+    pub fn triggering(self, request: u32, plan: &Plan) -> Step
         ensures { (x : Arrays) → view_step result x
-            ≡ triggering priority.now
+            ≡ triggering plan.now.priority
             (with_core (view_with self x) (with_request (view_with self x).core request)) }
     {
-        let level = self.level;
-        let picked = arbitrated(
+        let core = Core {
             request,
-            self.started,
-            self.aside,
-            self.runner,
-            level,
-            priority,
-        );
-        if is_triggered(level, picked.level) {
-            return self.launched(request, picked.runner);
+            ..self.core()
+        };
+        let picked = arbitrated(core, plan);
+        if is_triggered(self.level, picked.core.level) {
+            return self.launched(request, picked.core.runner);
         }
         self.seated(picked)
     }
 
     // The model in which the time-triggered task of this rank begins, with these requests.
-    pub fn launched(mut self, request: u32, rank: u8) -> Step
+    pub fn launched(self, request: u32, rank: u8) -> Step
         ensures { (x : Arrays) → view_step result x
             ≡ done_with (with_triggered (view_with self x)
             (core (without request rank) self.started (with self.aside rank) rank execution_level)
             self.cleared (push_row self.triggered rank)) true }
     {
-        self.request = without(request, rank as u32);
-        self.aside = with(self.aside, rank as u32);
-        self.runner = rank;
-        self.level = EXECUTION_LEVEL;
-        self.triggered = self.triggered.push(rank);
+        let registers = Registers {
+            request: without(request, rank as u32),
+            aside: with(self.aside, rank as u32),
+            runner: rank,
+            level: EXECUTION_LEVEL,
+            triggered: self.triggered.push(rank),
+            ..self
+        };
         Step {
-            registers: self,
-            status: DONE,
+            registers,
+            status: Status::Done,
             begun: true,
         }
     }
 
     // The model with whom arbitration picked.
-    pub fn seated(mut self, picked: Picked) -> Step
+    pub fn seated(self, picked: Picked) -> Step
         ensures { (x : Arrays) → view_step result x
-            ≡ done_with (with_core (view_with self x) (core_of picked)) picked.begun }
+            ≡ done_with (with_core (view_with self x) (view_core picked.core)) picked.begun }
     {
-        self.request = picked.request;
-        self.started = picked.started;
-        self.aside = picked.aside;
-        self.runner = picked.runner;
-        self.level = picked.level;
+        let registers = Registers {
+            request: picked.core.request,
+            started: picked.core.started,
+            aside: picked.core.aside,
+            runner: picked.core.runner,
+            level: picked.core.level,
+            ..self
+        };
         Step {
-            registers: self,
-            status: DONE,
+            registers,
+            status: Status::Done,
             begun: picked.begun,
         }
     }
 }
 
-// Who runs after arbitration.
-pub fn arbitrated(
-    request: u32,
-    started: u32,
-    aside: u32,
-    runner: u8,
-    level: u8,
-    priority: &[u8; 32],
-) -> Picked
-    ensures { result ≡ picked_of (arbitrated priority.now (core request started aside runner level)) }
+// Who runs after arbitration. Of the requests the one by which a body begins is used up; where it is resumed, a second
+// one waits on.
+pub fn arbitrated(core: Core, plan: &Plan) -> Picked
+    ensures { view_picked result ≡ arbitrated plan.now.priority (view_core core) }
 {
-    let rank = winner(union(request, started));
-    let own = byte_at(priority, rank as usize, 0);
-    if own <= level {
-        return Picked {
-            request,
-            started,
-            aside,
-            runner,
-            level,
-            begun: false,
-        };
+    let rank = winner(union(core.request, core.started));
+    let own = at(&plan.priority, rank as usize, 0);
+    if own <= core.level {
+        return Picked { core, begun: false };
     }
-    let begun = !has(started, rank);
-    Picked {
-        request: without_where(begun, request, rank),
-        started: with(started, rank),
-        aside,
+    let begun = !has(core.started, rank);
+    let core = Core {
+        request: select_unpredictable(begun, without(core.request, rank), core.request),
+        started: with(core.started, rank),
         runner: rank as u8,
         level: own,
-        begun,
-    }
+        ..core
+    };
+    Picked { core, begun }
 }
 
 // Whether the body that arbitration picked is a time-triggered task that it dispatched: the level rises only by a
@@ -161,39 +172,4 @@ pub fn is_triggered(level: u8, next: u8) -> bool
     ensures { result ≡ ltb level next && eqb next trigger_level }
 {
     level < next && next == TRIGGER_LEVEL
-}
-
-// The word without this rank where the test holds. Of the requests the one by which a body begins is used up; where
-// it is resumed, a second one waits on.
-pub fn without_where(test: bool, word: u32, rank: u32) -> u32
-    ensures { result ≡ cond test (without word rank) word }
-{
-    let rest = without(word, rank);
-    if test { rest } else { word }
-}
-
-// The level of whoever took the latest resource that is held, 0 where none is.
-pub fn latest_level(holder: Row, raised: Row) -> u8
-    ensures { result ≡ cond (eqb (top_row holder) no_rank) 0 (top_row raised) }
-{
-    let level = raised.top();
-    if holder.top() == NO_RANK { 0 } else { level }
-}
-
-// Who goes on after a time-triggered task: the one that was started before it, or where there is none this one.
-fn earlier_or(earlier: u8, rank: u8) -> u8
-    ensures { result ≡ cond (eqb earlier no_rank) rank earlier }
-{
-    if earlier == NO_RANK { rank } else { earlier }
-}
-
-// The level of it.
-fn execution_or(earlier: u8, level: u8) -> u8
-    ensures { result ≡ cond (eqb earlier no_rank) level execution_level }
-{
-    if earlier == NO_RANK {
-        level
-    } else {
-        EXECUTION_LEVEL
-    }
 }

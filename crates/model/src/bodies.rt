@@ -1,103 +1,117 @@
 // The events of bodies: Activate, Finish, Chain and Line.
-ghost use Rattle.std.specs.Prelude.{◌≡◌, not, ◌&&◌, ◌||◌, leb, eqb};
-ghost use Rattle.config.specs.Meaning.{execution_level};
-ghost use Rattle.word.specs.Word.{has};
+ghost use Rattle.std.specs.Prelude.{◌≡◌, ◌||◌, leb, eqb};
+ghost use Rattle.config.specs.Meaning.{execution_level, counts_lines};
+ghost use Rattle.word.specs.Word.{has, union};
 ghost use Rattle.machine.specs.Model.{no_rank};
 ghost use Rattle.machine.specs.Events.{activate, finish, chain, line};
 ghost use Rattle.model.specs.View.{Arrays, put_losses, view_with, view_step};
 
-use crate::{CALL_LEVEL, EXECUTION_LEVEL, HOLDS_RESOURCE, LIMIT, NO_SUCH, Registers, Step};
-use cells::{NO_RANK, busy, byte_at, lose};
+use crate::{Core, EXECUTION_LEVEL, Registers, Status, Step};
+use cells::{NO_RANK, at, busy, lose};
+use config::Config;
+use plan::Plan;
 use word::{has, union, with};
 
 impl Registers {
-    pub fn activate<'a>(self, callable_rank: &'a [u8; 32], priority: &'a [u8; 32], t: u32) -> Step
+    pub fn activate(self, plan: &Plan, t: u32) -> Step
         ensures { (x : Arrays) → view_step result x
-            ≡ activate callable_rank.now priority.now (view_with self x) t }
+            ≡ activate plan.now.callable plan.now.priority (view_with self x) t }
     {
-        if no_caller(self.runner, self.level) {
-            return self.with_status(CALL_LEVEL);
+        if self.no_caller() {
+            return self.with_status(Status::CallLevel);
         }
-        let rank = byte_at(callable_rank, t as usize, NO_RANK);
+        let rank = at(&plan.callable, t as usize, NO_RANK);
         if rank == NO_RANK {
-            return self.with_status(NO_SUCH);
+            return self.with_status(Status::NoSuch);
         }
-        if busy(self.request, union(self.started, self.aside), rank) {
-            return self.with_status(LIMIT);
+        if self.busy(rank) {
+            return self.with_status(Status::Limit);
         }
-        self.settled(with(self.request, rank as u32), priority)
+        let core = Core {
+            request: with(self.request, rank as u32),
+            ..self.core()
+        };
+        self.settled(core, plan)
     }
 
-    pub fn finish(self, priority: &[u8; 32]) -> Step
-        ensures { (x : Arrays) → view_step result x ≡ finish priority.now (view_with self x) }
+    pub fn finish(self, plan: &Plan) -> Step
+        ensures { (x : Arrays) → view_step result x ≡ finish plan.now.priority (view_with self x) }
     {
         if self.runner == NO_RANK {
-            return self.with_status(CALL_LEVEL);
+            return self.with_status(Status::CallLevel);
         }
         if self.holder.top() == self.runner {
-            return self.with_status(HOLDS_RESOURCE);
+            return self.with_status(Status::HoldsResource);
         }
         if self.level == EXECUTION_LEVEL {
-            return self.returned(priority);
+            return self.returned(plan);
         }
-        self.ended(self.request, priority)
+        self.ended(self.request, plan)
     }
 
-    pub fn chain<'a>(
-        self,
-        isrs: u32,
-        callable_rank: &'a [u8; 32],
-        priority: &'a [u8; 32],
-        t: u32,
-    ) -> Step
+    pub fn chain(self, plan: &Plan, t: u32) -> Step
         ensures { (x : Arrays) → view_step result x
-            ≡ chain isrs callable_rank.now priority.now (view_with self x) t }
+            ≡ chain plan.now.isrs plan.now.callable plan.now.priority (view_with self x) t }
     {
-        if no_task_calls(isrs, self.runner, self.level) {
-            return self.with_status(CALL_LEVEL);
+        if self.no_caller() || has(plan.isrs, self.runner as u32) {
+            return self.with_status(Status::CallLevel);
         }
-        let rank = byte_at(callable_rank, t as usize, NO_RANK);
+        let rank = at(&plan.callable, t as usize, NO_RANK);
         if rank == NO_RANK {
-            return self.with_status(NO_SUCH);
+            return self.with_status(Status::NoSuch);
         }
         if self.holder.top() == self.runner {
-            return self.with_status(HOLDS_RESOURCE);
+            return self.with_status(Status::HoldsResource);
         }
-        if busy_beside(
-            self.request,
-            union(self.started, self.aside),
-            self.runner,
-            rank,
-        ) {
-            return self.with_status(LIMIT);
+        if rank != self.runner && self.busy(rank) {
+            return self.with_status(Status::Limit);
         }
-        self.ended(with(self.request, rank as u32), priority)
+        self.ended(with(self.request, rank as u32), plan)
     }
 
-    // `counts`: whether a line that is lost counts as a loss.
-    pub fn line<'a, 'b>(
-        self,
-        counts: bool,
-        line_rank: &'a [u8; 32],
-        priority: &'a [u8; 32],
-        i: u32,
-        losses: &'b mut [u16; 32],
-    ) -> Step
+    // From version 2 on a line that is lost counts as a loss.
+    pub fn line(self, config: &Config, plan: &Plan, i: u32, losses: &mut [u16; 32]) -> Step
         ensures { (x : Arrays) → view_step result (put_losses losses.new x)
-            ≡ line counts line_rank.now priority.now
+            ≡ line (counts_lines config.now) plan.now.line plan.now.priority
             (view_with self (put_losses losses.old x)) i }
     {
-        let rank = byte_at(line_rank, i as usize, NO_RANK);
+        let rank = at(&plan.line, i as usize, NO_RANK);
         if rank == NO_RANK {
-            return self.with_status(NO_SUCH);
+            return self.with_status(Status::NoSuch);
         }
         if has(self.request, rank as u32) {
-            if counts {
+            if counts_lines(config.version) {
                 lose(losses, rank);
             }
-            return self.with_status(LIMIT);
+            return self.with_status(Status::Limit);
         }
-        self.settled(with(self.request, rank as u32), priority)
+        let core = Core {
+            request: with(self.request, rank as u32),
+            ..self.core()
+        };
+        self.settled(core, plan)
+    }
+
+    // Whether nobody runs who may call: nobody at all, or a time-triggered task. Both are tested at once, so that one
+    // branch suffices.
+    pub fn no_caller(self) -> bool
+        ensures { result ≡ eqb self.runner no_rank || eqb self.level execution_level }
+    {
+        (self.runner == NO_RANK) | (self.level == EXECUTION_LEVEL)
+    }
+
+    // The ranks that have begun and not ended, as a word.
+    pub fn begun(self) -> u32
+        ensures { result ≡ union self.started self.aside }
+    {
+        union(self.started, self.aside)
+    }
+
+    // Whether the body of this rank is ready, or has begun and not ended.
+    pub fn busy(self, rank: u8) -> bool
+        ensures { result ≡ has self.request rank || has (union self.started self.aside) rank }
+    {
+        busy(self.request, self.begun(), rank)
     }
 }
 
@@ -106,26 +120,4 @@ pub fn counts_lines(version: u8) -> bool
     ensures { result ≡ leb 2 version }
 {
     2 <= version
-}
-
-// The same, of any body but the runner.
-fn busy_beside(request: u32, begun: u32, runner: u8, rank: u8) -> bool
-    ensures { result ≡ (has request rank || has begun rank) && not (eqb rank runner) }
-{
-    rank != runner && busy(request, begun, rank)
-}
-
-// Whether nobody runs who may call: nobody at all, or a time-triggered task. Both are tested at once, so that one
-// branch suffices.
-pub fn no_caller(runner: u8, level: u8) -> bool
-    ensures { result ≡ eqb runner no_rank || eqb level execution_level }
-{
-    (runner == NO_RANK) | (level == EXECUTION_LEVEL)
-}
-
-// The same, or an ISR runs.
-fn no_task_calls(isrs: u32, runner: u8, level: u8) -> bool
-    ensures { result ≡ (eqb runner no_rank || eqb level execution_level) || has isrs runner }
-{
-    no_caller(runner, level) || has(isrs, runner as u32)
 }

@@ -1,11 +1,11 @@
 // The fresh start, and a model in which nobody is ready.
 ghost use Rattle.std.specs.Prelude.{◌≡◌};
-ghost use Rattle.machine.specs.Machine.{unstarted, fresh_with};
+ghost use Rattle.machine.specs.Machine.{unstarted, fresh_model};
 ghost use Rattle.model.specs.View.{model_of};
 
-use crate::arbiter::arbitrated;
-use crate::{Model, Registers};
+use crate::{Core, Model, Registers};
 use cells::{NO_RANK, OFF};
+use plan::Plan;
 use stack::Row;
 
 impl Model {
@@ -38,18 +38,18 @@ impl Model {
     }
 
     // Autostart tasks are ready, the best one begins, all losses are 0, tables stopped.
-    pub fn fresh(autostart: u32, priority: &[u8; 32]) -> Model
-        ensures { result ≡ model_of (fresh_with autostart priority.now) }
+    pub fn fresh(plan: &Plan) -> Model
+        ensures { result ≡ model_of (fresh_model plan.now) }
     {
-        let picked = arbitrated(autostart, 0, 0, NO_RANK, 0, priority);
-        let mut model = Model::idle();
-        let mut registers = model.registers;
-        registers.request = picked.request;
-        registers.started = picked.started;
-        registers.aside = picked.aside;
-        registers.runner = picked.runner;
-        registers.level = picked.level;
-        model.registers = registers;
-        model
+        let idle = Model::idle();
+        let core = Core {
+            request: plan.autostart,
+            ..idle.registers.core()
+        };
+        let step = idle.registers.settled(core, plan);
+        Model {
+            registers: step.registers,
+            ..idle
+        }
     }
 }

@@ -7,7 +7,7 @@
 
 ghost use Rattle.std.specs.Prelude.{◌≡◌};
 ghost use Rattle.machine.specs.Model.{refused_with};
-ghost use Rattle.model.specs.View.{Arrays, view_with, view_step};
+ghost use Rattle.model.specs.View.{Arrays, status_number, view_with, view_step};
 
 mod arbiter;
 mod bits;
@@ -17,42 +17,50 @@ mod resources;
 mod tables;
 mod value;
 
-pub use bodies::counts_lines;
-use cells::NO_RANK;
 use stack::Row;
 
 // The level that a time-triggered task runs at, and nobody else.
 const EXECUTION_LEVEL: u8 = 201;
 
-// The statuses (OSEK's status codes) of an event. One that is refused changes nothing.
-pub const DONE: u8 = 0;
+// What an event answers: OSEK's status codes by their numbers, and 33, for which OSEK has none. An event that is
+// refused changes nothing.
+#[derive(Clone, Copy, Debug, PartialEq, Eq)]
+pub enum Status {
+    Done = 0,
+    Access = 1,
+    CallLevel = 2,
+    NoSuch = 3,
+    Limit = 4,
+    NoFunction = 5,
+    HoldsResource = 6,
+    WrongState = 7,
+    BadDelay = 8,
+    NotUser = 33,
+}
 
-const ACCESS: u8 = 1;
+impl Status {
+    pub fn number(self) -> u8
+        ensures { result ≡ status_number self }
+    {
+        self as u8
+    }
+}
 
-const CALL_LEVEL: u8 = 2;
-
-const NO_SUCH: u8 = 3;
-
-const LIMIT: u8 = 4;
-
-const NO_FUNCTION: u8 = 5;
-
-const HOLDS_RESOURCE: u8 = 6;
-
-const WRONG_STATE: u8 = 7;
-
-const BAD_DELAY: u8 = 8;
-
-const NOT_USER: u8 = 33;
-
-// Who runs after arbitration, with the words that it leaves, and whether a body began.
+// What arbitration looks at: the words of who waits to begin, who goes on by its priority and who does not, as in
+// Registers, and who runs at which level.
 #[derive(Clone, Copy)]
-pub struct Picked {
+pub struct Core {
     pub request: u32,
     pub started: u32,
     pub aside: u32,
     pub runner: u8,
     pub level: u8,
+}
+
+// A core after arbitration, and whether a body began.
+#[derive(Clone, Copy)]
+pub struct Picked {
+    pub core: Core,
     pub begun: bool,
 }
 
@@ -88,7 +96,7 @@ pub struct Registers {
 #[derive(Clone, Copy)]
 pub struct Step {
     pub registers: Registers,
-    pub status: u8,
+    pub status: Status,
     pub begun: bool,
 }
 
@@ -109,14 +117,14 @@ pub struct Model {
 #[derive(Clone, Copy)]
 pub struct Outcome {
     pub model: Model,
-    pub status: u8,
+    pub status: Status,
     pub begun: bool,
 }
 
 impl Registers {
     // The answer to an event that lets nobody begin.
-    fn with_status(self, status: u8) -> Step
-        ensures { (x : Arrays) → view_step result x ≡ refused_with (view_with self x) status }
+    fn with_status(self, status: Status) -> Step
+        ensures { (x : Arrays) → view_step result x ≡ refused_with (view_with self x) (status_number status) }
     {
         Step {
             registers: self,

@@ -1,96 +1,82 @@
 // The held resources, in the order taken: Get and Release.
-ghost use Rattle.std.specs.Prelude.{◌≡◌, cond, ◌&&◌, max, eqb, get_or};
+ghost use Rattle.std.specs.Prelude.{◌≡◌, cond, ◌&&◌, eqb, get_or};
 ghost use Rattle.stack.specs.Stack.{top_row, second_row};
 ghost use Rattle.machine.specs.Events.{get, release};
 ghost use Rattle.model.specs.View.{Arrays, view_with, view_step};
 
-use crate::arbiter::arbitrated;
-use crate::bodies::no_caller;
-use crate::{ACCESS, CALL_LEVEL, DONE, NO_FUNCTION, NO_SUCH, NOT_USER, Registers, Step};
-use cells::{byte_at, word_at};
-use stack::Row;
+use crate::{Core, Registers, Status, Step};
+use cells::at;
+use config::Config;
+use plan::Plan;
+use std::hint::select_unpredictable;
 use word::{has, with, without};
 
 impl Registers {
-    pub fn get<'a>(
-        mut self,
-        resources: u8,
-        users: &'a [u32; 16],
-        ceiling: &'a [u8; 16],
-        r: u32,
-    ) -> Step
+    pub fn get(mut self, config: &Config, plan: &Plan, r: u32) -> Step
         ensures { (x : Arrays) → view_step result x
-            ≡ get resources users.now ceiling.now (view_with self x) r }
+            ≡ get config.now.resources plan.now.users plan.now.ceiling (view_with self x) r }
     {
-        if no_caller(self.runner, self.level) {
-            return self.with_status(CALL_LEVEL);
+        if self.no_caller() {
+            return self.with_status(Status::CallLevel);
         }
-        if resources as u32 <= r {
-            return self.with_status(NO_SUCH);
+        if config.resources as u32 <= r {
+            return self.with_status(Status::NoSuch);
         }
-        if !has(word_at(users, r as usize), self.runner as u32) {
-            return self.with_status(NOT_USER);
+        if !has(at(&plan.users, r as usize, 0), self.runner as u32) {
+            return self.with_status(Status::NotUser);
         }
         if has(self.held, r) {
-            return self.with_status(ACCESS);
+            return self.with_status(Status::Access);
         }
-        let level = higher(byte_at(ceiling, r as usize, 0), self.level);
+        self.level = at(&plan.ceiling, r as usize, 0).max(self.level);
         self.held = with(self.held, r);
         self.resource = self.resource.push(r as u8);
         self.holder = self.holder.push(self.runner);
-        self.raised = self.raised.push(level);
-        self.level = level;
-        self.with_status(DONE)
+        self.raised = self.raised.push(self.level);
+        self.with_status(Status::Done)
     }
 
-    pub fn release(mut self, resources: u8, priority: &[u8; 32], r: u32) -> Step
+    pub fn release(mut self, config: &Config, plan: &Plan, r: u32) -> Step
         ensures { (x : Arrays) → view_step result x
-            ≡ release resources priority.now (view_with self x) r }
+            ≡ release config.now.resources plan.now.priority (view_with self x) r }
     {
-        if no_caller(self.runner, self.level) {
-            return self.with_status(CALL_LEVEL);
+        if self.no_caller() {
+            return self.with_status(Status::CallLevel);
         }
-        if resources as u32 <= r {
-            return self.with_status(NO_SUCH);
+        if config.resources as u32 <= r {
+            return self.with_status(Status::NoSuch);
         }
-        if !is_latest(self.resource, self.holder, self.runner, r) {
-            return self.with_status(NO_FUNCTION);
+        if !self.is_latest(r) {
+            return self.with_status(Status::NoFunction);
         }
-        let level = level_without(self.holder, self.raised, self.runner, priority);
-        let picked = arbitrated(
-            self.request,
-            self.started,
-            self.aside,
-            self.runner,
-            level,
-            priority,
-        );
+        let core = Core {
+            level: self.level_without(plan),
+            ..self.core()
+        };
         self.held = without(self.held, r);
         self.resource = self.resource.pop();
         self.holder = self.holder.pop();
         self.raised = self.raised.pop();
-        self.seated(picked)
+        self.settled(core, plan)
     }
-}
 
-// Whether the latest slot belongs to this body and has this resource.
-fn is_latest(resource: Row, holder: Row, rank: u8, r: u32) -> bool
-    ensures { result ≡ eqb (top_row holder) rank && eqb (top_row resource) r }
-{
-    holder.top() == rank && resource.top() as u32 == r
-}
+    // Whether the latest slot belongs to the runner and has this resource.
+    fn is_latest(self, r: u32) -> bool
+        ensures { result ≡ eqb (top_row self.holder) self.runner && eqb (top_row self.resource) r }
+    {
+        self.holder.top() == self.runner && self.resource.top() as u32 == r
+    }
 
-// The level of a body without its latest slot: that of the slot below if it is its own, else its own priority.
-fn level_without(holder: Row, raised: Row, rank: u8, priority: &[u8; 32]) -> u8
-    ensures { result ≡ cond (eqb (second_row holder) rank) (second_row raised) (get_or priority.now rank 0) }
-{
-    let own = byte_at(priority, rank as usize, 0);
-    let below = raised.second();
-    if holder.second() == rank { below } else { own }
-}
-
-fn higher(a: u8, b: u8) -> u8
-    ensures { result ≡ max a b }
-{
-    if a < b { b } else { a }
+    // The level of the runner without its latest slot: that of the slot below if it is its own, else its own priority.
+    fn level_without(self, plan: &Plan) -> u8
+        ensures { result ≡ cond (eqb (second_row self.holder) self.runner) (second_row self.raised)
+            (get_or plan.now.priority self.runner 0) }
+    {
+        let own = at(&plan.priority, self.runner as usize, 0);
+        select_unpredictable(
+            self.holder.second() == self.runner,
+            self.raised.second(),
+            own,
+        )
+    }
 }

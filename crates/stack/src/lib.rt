@@ -9,13 +9,10 @@ ghost use Rattle.std.specs.Prelude.{◌≡◌};
 ghost use Rattle.stack.specs.Stack.{push_word, pop_word, first_byte, last_byte, empty_row, top_row, second_row, push_row, pop_row};
 
 // What lies past the bottom.
-pub const NO_BYTE: u8 = 255;
-
-// What seven bytes hold: the worth of a word's highest byte.
-const HIGHEST: u64 = 72057594037927936;
+pub const NO_BYTE: u8 = u8::MAX;
 
 // Eight times NO_BYTE.
-const EMPTY: u64 = 18446744073709551615;
+const EMPTY: u64 = u64::MAX;
 
 // 16 bytes.
 #[derive(Clone, Copy)]
@@ -29,14 +26,14 @@ pub struct Row {
 fn push_word(w: u64, x: u8) -> u64
     ensures { result ≡ push_word w x }
 {
-    w % HIGHEST * 256 + x as u64
+    (w << 8) | x as u64
 }
 
 // The word without its lowest byte, y above the rest.
 fn pop_word(w: u64, y: u8) -> u64
     ensures { result ≡ pop_word w y }
 {
-    w / 256 + y as u64 * HIGHEST
+    (w >> 8) | (y as u64) << 56
 }
 
 fn first_byte(w: u64) -> u8
@@ -48,10 +45,11 @@ fn first_byte(w: u64) -> u8
 fn last_byte(w: u64) -> u8
     ensures { result ≡ last_byte w }
 {
-    (w / HIGHEST) as u8
+    (w >> 56) as u8
 }
 
 impl Row {
+    #[tactic(auto, unfolding(crate::specs::Stack::empty_row))]
     pub fn empty() -> Row
         ensures { result ≡ empty_row }
     {
@@ -61,6 +59,7 @@ impl Row {
         }
     }
 
+    #[tactic(auto, unfolding(crate::specs::Stack::top_row))]
     pub fn top(self) -> u8
         ensures { result ≡ top_row self }
     {
@@ -68,12 +67,14 @@ impl Row {
     }
 
     // The byte under the top.
+    #[tactic(auto, unfolding(crate::specs::Stack::second_row))]
     pub fn second(self) -> u8
         ensures { result ≡ second_row self }
     {
-        first_byte(self.near / 256)
+        first_byte(self.near >> 8)
     }
 
+    #[tactic(auto, unfolding(crate::specs::Stack::push_row))]
     pub fn push(self, x: u8) -> Row
         ensures { result ≡ push_row self x }
     {
@@ -83,6 +84,7 @@ impl Row {
     }
 
     // The row without its top.
+    #[tactic(auto, unfolding(crate::specs::Stack::pop_row))]
     pub fn pop(self) -> Row
         ensures { result ≡ pop_row self }
     {

@@ -5,50 +5,30 @@
 ghost use Rattle.std.specs.Prelude.{◌≡◌};
 ghost use Rattle.machine.specs.Machine.{machine_step};
 ghost use Rattle.run.specs.Run.{call_of};
-ghost use Rattle.model.specs.View.{view, outcome_of};
+ghost use Rattle.model.specs.View.{view, view_outcome};
 
 use config::Config;
 use event::Event;
-use model::{Model, Outcome, counts_lines};
+use model::{Model, Outcome};
 use plan::Plan;
 
 // The codes are those of an event that was read; the last arm is Clear's.
-pub fn step(model: Model, config: Config, plan: Plan, event: Event) -> Outcome
-    ensures { result ≡ outcome_of (machine_step config plan (view model) (call_of event)) }
+pub fn step(model: Model, config: &Config, plan: &Plan, event: Event) -> Outcome
+    ensures { view_outcome result
+        ≡ machine_step config.now plan.now (view model) (call_of event) }
 {
-    let code = event.code;
-    match code {
-        1 => model.activate(&plan.callable, &plan.priority, event.first),
-        2 => model.finish(&plan.priority),
-        3 => model.chain(plan.isrs, &plan.callable, &plan.priority, event.first),
-        4 => model.get(config.resources, &plan.users, &plan.ceiling, event.first),
-        5 => model.release(config.resources, &plan.priority, event.first),
-        6 => model.tick(&plan.compare, &plan.entry, &plan.priority),
-        7 => model.line(
-            counts_lines(config.version),
-            &plan.line,
-            &plan.priority,
-            event.first,
-        ),
-        8 => model.start(
-            config.tables,
-            &plan.first,
-            &config.entries,
-            &config.period,
-            &config.offset,
-            event.first,
-            event.second,
-        ),
-        9 => model.stop(config.tables, &plan.first, &config.entries, event.first),
-        10 => model.wait(plan.extended, &plan.priority, event.first),
-        11 => model.set_event(
-            plan.isrs,
-            plan.extended,
-            &plan.rank,
-            &plan.priority,
-            event.first,
-            event.second,
-        ),
-        _ => model.clear(plan.extended, event.first),
+    match event.code {
+        1 => model.activate(plan, event.first),
+        2 => model.finish(plan),
+        3 => model.chain(plan, event.first),
+        4 => model.get(config, plan, event.first),
+        5 => model.release(config, plan, event.first),
+        6 => model.tick(plan),
+        7 => model.line(config, plan, event.first),
+        8 => model.start(config, plan, event.first, event.second),
+        9 => model.stop(config, plan, event.first),
+        10 => model.wait(plan, event.first),
+        11 => model.set_event(plan, event.first, event.second),
+        _ => model.clear(plan, event.first),
     }
 }

@@ -1,12 +1,11 @@
 // How long a body waits to begin: how many bodies end before it does, counted by bits of the last model's words.
 #![tactic(auto)]
 
-ghost use Rattle.std.specs.Prelude.{◌≡◌, ◌≤◌, ◌<◌, ◌||◌, eqb, take};
+ghost use Rattle.std.specs.Prelude.{◌≡◌, ◌≤◌, ◌<◌};
 ghost use Rattle.config.specs.Value.{max_bodies};
-ghost use Rattle.config.specs.Meaning.{extended, time_triggered};
 ghost use Rattle.config.specs.Accepted.{Accepted, Shaped};
 ghost use Rattle.word.specs.Word.{ranks};
-ghost use Rattle.waiting.specs.Conditions.{some_beyond_basic};
+ghost use Rattle.waiting.specs.Conditions.{beyond_basic};
 ghost use Rattle.waiting.specs.Result.{wait_result};
 ghost use Rattle.waiting.specs.Words.{jobs_ahead_in, wait_at, wait_by};
 
@@ -48,16 +47,15 @@ fn wait_by(config: Config, request: u32, started: u32, resources: u32, body: u32
     requires shaped { Shaped config }
     ensures { result ≡ wait_by config request started resources body }
 {
-    let kind = config.kind;
-    if beyond_basic(kind, config.bodies as usize) {
+    if beyond_basic(&config) {
         return OTHER_KINDS;
     }
     if config.bodies as u32 <= body {
         return NO_SUCH_BODY;
     }
     let plan = plan_of(config);
-    let by = plan.rank;
-    wait_at(request, started, resources, by[body as usize] as u32)
+    let rank = plan.rank[body as usize];
+    wait_at(request, started, resources, u32::from(rank))
 }
 
 // The same of the body with this rank.
@@ -74,25 +72,15 @@ fn wait_at(request: u32, started: u32, resources: u32, rank: u32) -> u64
     jobs_ahead(request, started, rank) as u64
 }
 
-// Whether one of the first `n` bodies is an extended or a time-triggered task.
-fn beyond_basic(kind: [u8; 32], n: usize) -> bool
-    requires { n ≤ max_bodies }
-    ensures { result ≡ some_beyond_basic (take n kind) }
+// Whether one of the bodies is an extended or a time-triggered task.
+fn beyond_basic(config: &Config) -> bool
+    requires { config.now.bodies ≤ max_bodies }
+    ensures { result ≡ beyond_basic config.now }
 {
-    let mut b = 0;
-    while b < n {
-        if is_beyond(kind[b]) {
-            return true;
-        }
-        b += 1;
-    }
-    false
-}
-
-fn is_beyond(kind: u8) -> bool
-    ensures { result ≡ (eqb kind extended || eqb kind time_triggered) }
-{
-    kind == EXTENDED || kind == TIME_TRIGGERED
+    let bodies = usize::from(config.bodies);
+    config.kind[..bodies]
+        .iter()
+        .any(|&kind| kind == EXTENDED || kind == TIME_TRIGGERED)
 }
 
 // The requests above the rank, and the started ones from it on.
@@ -100,7 +88,5 @@ fn jobs_ahead(request: u32, started: u32, rank: u32) -> u32
     requires { rank < ranks }
     ensures { result ≡ jobs_ahead_in request started rank }
 {
-    let above = (request >> rank) >> 1;
-    let begun = started >> rank;
-    u32::count_ones(above) + u32::count_ones(begun)
+    (request >> rank >> 1).count_ones() + (started >> rank).count_ones()
 }

@@ -5,11 +5,12 @@ ghost use Rattle.std.specs.Prelude.{◌≡◌};
 ghost use Rattle.word.specs.Word.{has, with, without, union, winner};
 
 // How many ranks there are, 0 the lowest.
-pub const RANKS: u32 = 32;
+pub const RANKS: u32 = u32::BITS;
 // The winner of the empty word, which is no rank.
 pub const NO_WINNER: u32 = RANKS;
 
 // Whether the rank is in the word.
+#[tactic(auto, unfolding(crate::specs::Word::has))]
 pub fn has(word: u32, rank: u32) -> bool
     ensures { result ≡ has word rank }
 {
@@ -39,6 +40,7 @@ pub fn without(word: u32, rank: u32) -> u32
 }
 
 // The ranks of both words.
+#[tactic(auto, unfolding(crate::specs::Word::union))]
 pub fn union(word: u32, other: u32) -> u32
     ensures { result ≡ union word other }
 {
@@ -52,6 +54,6 @@ pub fn winner(word: u32) -> u32
     if word == 0 {
         NO_WINNER
     } else {
-        RANKS - 1 - u32::leading_zeros(word)
+        RANKS - 1 - word.leading_zeros()
     }
 }

@@ -1,11 +1,7 @@
--- `lose` meets its contract: the invariant is `Losing`.
-use Rattle.std.proofs.Common.{◌-◌}
-use Rattle.config.specs.Value.{max_bodies}
-use Rattle.cells.proofs.Losses.{Losing}
+-- `lose` meets its contract: once its rank is passed, it has lost one more.
+use Rattle.std.proofs.Common.{◌≡◌, cond, ltb}
+use Rattle.machine.specs.Cells.{one_lost}
 use Rattle.cells.proofs.lose.Given as goal
 
-abbrev pub invariant-loop-i : goal.invariant-loop-i
-invariant-loop-i l = Losing l.rank l.initial.losses l.losses l.below l.i
-
-abbrev pub decreases-loop-i : goal.decreases-loop-i
-decreases-loop-i l = max_bodies - l.i
+abbrev pub invariant-loop-r : goal.invariant-loop-r
+invariant-loop-r l = l.losses ≡ cond (ltb l.rank l.r) (one_lost l.rank l.initial.losses) l.initial.losses

@@ -35,7 +35,7 @@ pub loop-marks-smaller : goal.loop-marks-smaller
 loop-marks-smaller c = omega (arith, next_lt c.loop-marks.invariant.1 c.loop-marks-test.true)
 
 pub loop-marks-preserved : goal.loop-marks-preserved
-loop-marks-preserved c = left_step c.loop-marks.invariant.1 c.loop-marks-test.true c.byte_at-rank.ensures
+loop-marks-preserved c = left_step c.loop-marks.invariant.1 c.loop-marks-test.true c.at-rank.ensures
     c.take_match-word.ensures
 
 pub returns : goal.returns

@@ -1,14 +1,11 @@
 -- `tick_cells` meets its contract: the invariant is `Ticking`, and beside it what is left to do of the switches.
-use Rattle.std.proofs.Common.{◌+◌, cond, get_or, sym, refl, ap, ◌∙◌, arith}
+use Rattle.std.proofs.Common.{◌+◌, cond, get_or, sym, ap, ◌∙◌, arith}
 use Rattle.config.specs.Value.{max_entries}
 use Rattle.cell.specs.declared.Cell.{Cell}
 use Rattle.cell.specs.Cell.{tick_cell, unmarked}
 use Rattle.machine.specs.Cells.{is_on, switch_for}
-use Rattle.cells.proofs.Cells.{ticking_start, ticking_step, ticking_switched, ticking_end, switches_step, switches_end}
+use Rattle.cells.proofs.Cells.{ticking_step, ticking_switched, ticking_end, switches_step, switches_end}
 use Rattle.cells.proofs.tick_cells.Goals as goal
-
-pub loop-e-init : goal.loop-e-init
-loop-e-init c = let a = c.args in (ticking_start a.turning a.compare.now a.on.now a.counter.now, refl)
 
 pub loop-e-preserved : goal.loop-e-preserved
 loop-e-preserved c = let a = c.args in let l = c.loop-e in

@@ -9,6 +9,3 @@ abbrev pub invariant-loop-e : goal.invariant-loop-e
 invariant-loop-e l = Ticking l.turning l.compare l.initial.on l.initial.counter l.on l.counter l.matched l.e
     × (cond l.turning (switches_ticked (max_entries - l.e) l.e l.compare l.counter l.on) l.on
     ≡ cond l.turning (switches_ticked max_entries 0 l.compare l.initial.counter l.initial.on) l.initial.on)
-
-abbrev pub decreases-loop-e : goal.decreases-loop-e
-decreases-loop-e l = max_entries - l.e

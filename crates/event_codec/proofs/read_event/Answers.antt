@@ -1,51 +1,65 @@
--- `read_event` meets its contract: how many arguments follow the code says which reader goes on.
-use mathlib.Core.Path.{sym, ◌∙◌}
+-- `read_event` meets its contract: how many arguments follow the code says how many numbers are read.
 use native.Mathlib.Omega.{arith}
-use Rattle.event.specs.Event.{read_arguments, read_event}
-use Rattle.event_codec.proofs.Arms.{counted, uncounted}
-use Rattle.event.proofs.Reading.{ends, read_unknown}
-use Rattle.event_codec.proofs.Reading.{few_refusals, read_counted}
+use Rattle.event.proofs.Codes.{known_le}
+use Rattle.event.proofs.Theorems.{unreadable_code}
+use Rattle.event_codec.proofs.Steps.{handed_on, unknown, no_argument, first_unread, one_argument, second_unread, two_arguments}
 use Rattle.event_codec.proofs.read_event.Goals as goal
 
-pub unreadable-requires : goal.unreadable-requires
-unreadable-requires c = let n = c.read_number-head in let a = c.args in
-    few_refusals n.result a.trace.now a.at n.ensures
+pub returns-in_err-head : goal.returns-in_err-head
+returns-in_err-head c = let e = c.in_err-head.ensures in
+    handed_on c.from_residual.result _ c.from_residual.ensures.1 _ _ (unreadable_code c.args.trace.now c.args.at e.0) e.1
 
-pub returns-then-head-ne0 : goal.returns-then-head-ne0
-unfolding read_event
-returns-then-head-ne0 c = c.unreadable.ensures ∙ sym (ends _ _ _ c.read_number-head.ensures c.if-head-ne0.true)
+pub returns-in-None : goal.returns-in-None
+returns-in-None c = let h = c.in_ok-head in
+    unknown c.args.trace.now c.args.at h.head.value h.head.place h.ensures c.in-None.ensures
 
-pub returns-then-count-eq-NO_EVENT : goal.returns-then-count-eq-NO_EVENT
-returns-then-count-eq-NO_EVENT c = c.refused.ensures
-    ∙ sym (read_unknown _ _ _ c.read_number-head.ensures c.if-head-ne0.false
-    (uncounted _ _ c.arguments-count.ensures c.if-count-eq-NO_EVENT.true))
+pub reading-requires : goal.reading-requires
+reading-requires c = omega (arith, known_le _ c.in-Some-eq0.ensures.0)
 
-pub overflow_cast-code : goal.overflow_cast-code
-overflow_cast-code c = let k = counted _ _ c.arguments-count.ensures c.if-count-eq-NO_EVENT.false in omega arith
+pub returns-in-Some-eq0 : goal.returns-in-Some-eq0
+returns-in-Some-eq0 c = let h = c.in_ok-head in let s = c.in-Some-eq0 in
+    rw (c.reading.ensures.value, c.reading.ensures.place)
+    (no_argument c.args.trace.now c.args.at h.head.value h.head.place h.ensures s.ensures.0 (omega (arith, s.ensures.1)))
 
-pub returns-then-count-eq0 : goal.returns-then-count-eq0
-unfolding read_arguments
-returns-then-count-eq0 c = let k = counted _ _ c.arguments-count.ensures c.if-count-eq-NO_EVENT.false in
-    c.accepted.ensures
-    ∙ sym (read_counted _ _ _ c.read_number-head.ensures c.if-head-ne0.false k
-    c.if-count-eq0.true)
+pub returns-in_err-first-in-Some-eq1 : goal.returns-in_err-first-in-Some-eq1
+returns-in_err-first-in-Some-eq1 c = let h = c.in_ok-head in let s = c.in-Some-eq1 in
+    let e = c.in_err-first-in-Some-eq1.ensures in
+    handed_on c.from_residual-in_err-first-in-Some-eq1.result _ c.from_residual-in_err-first-in-Some-eq1.ensures.1 _ _
+    (first_unread c.args.trace.now c.args.at h.head.value h.head.place h.ensures s.ensures.0
+    (omega (arith, s.ensures.1)) e.0) e.1
 
-pub overflow_cast-code-then-count-eq1 : goal.overflow_cast-code-then-count-eq1
-overflow_cast-code-then-count-eq1 c = let k = counted _ _ c.arguments-count.ensures c.if-count-eq-NO_EVENT.false in omega arith
+pub reading-requires-in-Some-eq1 : goal.reading-requires-in-Some-eq1
+reading-requires-in-Some-eq1 c = omega (arith, known_le _ c.in-Some-eq1.ensures.0)
 
-pub returns-then-count-eq1 : goal.returns-then-count-eq1
-unfolding read_arguments
-returns-then-count-eq1 c = let k = counted _ _ c.arguments-count.ensures c.if-count-eq-NO_EVENT.false in
-    c.read_one.ensures
-    ∙ sym (read_counted _ _ _ c.read_number-head.ensures c.if-head-ne0.false k
-    c.if-count-eq1.true)
+pub returns-in_ok-first-in-Some-eq1 : goal.returns-in_ok-first-in-Some-eq1
+returns-in_ok-first-in-Some-eq1 c = let h = c.in_ok-head in let s = c.in-Some-eq1 in
+    let f = c.in_ok-first-in-Some-eq1 in
+    rw (c.reading-in-Some-eq1.ensures.value, c.reading-in-Some-eq1.ensures.place)
+    (one_argument c.args.trace.now c.args.at h.head.value h.head.place h.ensures s.ensures.0 f.first.value
+    f.first.place f.ensures (omega (arith, s.ensures.1)))
 
-pub overflow_cast-code-2 : goal.overflow_cast-code-2
-overflow_cast-code-2 c = let k = counted _ _ c.arguments-count.ensures c.if-count-eq-NO_EVENT.false in omega arith
+pub returns-in_err-first-in-Some : goal.returns-in_err-first-in-Some
+returns-in_err-first-in-Some c = let h = c.in_ok-head in let s = c.in-Some in
+    let e = c.in_err-first-in-Some.ensures in
+    handed_on c.from_residual-in_err-first-in-Some.result _ c.from_residual-in_err-first-in-Some.ensures.1 _ _
+    (first_unread c.args.trace.now c.args.at h.head.value h.head.place h.ensures s.ensures.0
+    (omega (arith, s.ensures.1)) e.0) e.1
 
-pub returns : goal.returns
-unfolding read_arguments
-returns c = let k = counted _ _ c.arguments-count.ensures c.if-count-eq-NO_EVENT.false in
-    c.read_two.ensures
-    ∙ sym (read_counted _ _ _ c.read_number-head.ensures c.if-head-ne0.false {k = 2} k
-    (omega arith))
+pub returns-in_err-second-in-Some : goal.returns-in_err-second-in-Some
+returns-in_err-second-in-Some c = let h = c.in_ok-head in let s = c.in-Some in
+    let f = c.in_ok-first-in-Some in
+    let e = c.in_err-second-in-Some.ensures in
+    handed_on c.from_residual-in_err-second-in-Some.result _ c.from_residual-in_err-second-in-Some.ensures.1 _ _
+    (second_unread c.args.trace.now c.args.at h.head.value h.head.place h.ensures s.ensures.0 f.first.value
+    f.first.place f.ensures (omega (arith, s.ensures.1)) e.0) e.1
+
+pub reading-requires-in-Some : goal.reading-requires-in-Some
+reading-requires-in-Some c = omega (arith, known_le _ c.in-Some.ensures.0)
+
+pub returns-in_ok-second-in-Some : goal.returns-in_ok-second-in-Some
+returns-in_ok-second-in-Some c = let h = c.in_ok-head in let s = c.in-Some in
+    let f = c.in_ok-first-in-Some in
+    let g = c.in_ok-second-in-Some in
+    rw (c.reading-in-Some.ensures.value, c.reading-in-Some.ensures.place)
+    (two_arguments c.args.trace.now c.args.at h.head.value h.head.place h.ensures s.ensures.0 f.first.value
+    f.first.place f.ensures (omega (arith, s.ensures.1)) g.second.value g.second.place g.ensures)

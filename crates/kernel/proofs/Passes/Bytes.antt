@@ -5,7 +5,10 @@ use mathlib.Core.List.{List, [], ◌∷◌, ◌++◌, map, map-append, append_as
 use native.Mathlib.Omega.{arith}
 use native.Mathlib.Numerals.{add-one}
 use lib.ListN.{length, get_or, take, drop, set, length-map, take-append-drop}
-use lib.Seq.{take-suc, sets-eq, length-take-le}
+use lib.Seq.{take-suc, sets-eq, length-take-le, drop-drop}
+use borrow.Rule.Slice.PartMut.{put_mid}
+use Rattle.std.proofs.Common.{w16}
+use Rattle.std.specs.Int.{to_le_bytes}
 use Rattle.number.specs.Output.{laid}
 use Rattle.number.proofs.Laying.{laid_laid}
 use Rattle.run.specs.Run.{loss_bytes}
@@ -19,11 +22,20 @@ laid_none at d = sym (rw (zero_more) (take-append-drop at d))
     zero_more : at + 0 ≡ at
     zero_more = omega arith
 
--- bytes that are stored one by one
-pub two_laid : (d : List ℕ) (at a b : ℕ) → at + 2 ≤ length d → set (set d at a) (at + 1) b ≡ laid at (a ∷ b ∷ []) d
+-- bytes that are written to a part of a slice
+pub laid_mid : (at k : ℕ) (bs d : List ℕ) → length bs ≡ k → put_mid at k d bs ≡ laid at bs d
 unfolding laid
-two_laid d at a b h = rw add-one (sets-eq (a ∷ b ∷ []) d at h ∙ append_assoc (take at d) (a ∷ b ∷ []) (drop (at + 2) d))
+laid_mid at k bs d long =
+    ap (λ (n : ℕ). take at d ++ (bs ++ drop n (drop at d))) (sym long)
+    ∙ ap (λ (l : List ℕ). take at d ++ (bs ++ l)) (drop-drop (length bs) at d)
 
+pub two_bytes : (n : ℕ) → n < 65536 → to_le_bytes w16 n ≡ n % 256 ∷ n / 256 ∷ []
+two_bytes n h = ap (λ (k : ℕ). n % 256 ∷ k ∷ []) high
+  where
+    high : n / 256 % 256 ≡ n / 256
+    high = omega arith
+
+-- bytes that are stored one by one
 pub four_laid : (d : List ℕ) (at a b c e : ℕ) → at + 4 ≤ length d
     → set (set (set (set d at a) (at + 1) b) (at + 2) c) (at + 3) e ≡ laid at (a ∷ b ∷ c ∷ e ∷ []) d
 unfolding laid

@@ -1,19 +1,19 @@
 -- The events of extended tasks, case by case in the order of their checks, as the code goes through them: refused
 -- with each status, and done. A variable before an equation is what the code has in its place.
 use Prim.Native.Nat.{ℕ}
-use mathlib.Core.Path.{◌≡◌, sym, ◌∙◌}
+use mathlib.Core.Path.{◌≡◌, refl, sym, ◌∙◌}
 use mathlib.Core.Bool.{Bool, true, false, cond, ◌&&◌, ◌||◌}
 use mathlib.Core.List.{List}
 use lib.Dec.{eqb}
 use lib.ListN.{get_or, set}
+use Rattle.std.specs.Int.Bits.{bit_or}
 use borrow.Author.Tests.{eq-eqb, ne_eqb}
 use Rattle.scheduler.specs.Status.{call_level, no_such, access, holds_resource, wrong_state, first_given}
 use Rattle.scheduler.specs.Bits.{any_set, with_bits, without_bits}
 use Rattle.word.specs.Word.{has, with, without}
 use Rattle.stack.specs.Stack.{top_row}
-use Rattle.machine.specs.Model.{Picked, Model, no_rank, with_core, with_begun, with_event_bits, done_with, refused_with}
-use Rattle.machine.specs.Arbiter.{arbitrated, settled}
-use Rattle.model.specs.View.{core}
+use Rattle.machine.specs.Model.{Core, Model, no_rank, with_core, with_begun, with_event_bits, done_with, refused_with}
+use Rattle.machine.specs.Arbiter.{settled, left_with}
 use Rattle.machine.specs.Events.{no_caller, begun_word, bits_at, no_task, wait, set_event, clear}
 
 -- Wait w
@@ -40,29 +40,29 @@ module _ (xs : ℕ) (ps : List ℕ) (m : Model) (w : ℕ) {a : Bool} (calls : a 
             rw (sym calls ∙ runs, sym kind ∙ extended, ← holder, ne_eqb h m.core.runner free, ← bits, sym some ∙ e)
 
         pub wait_pauses : s ≡ false → {ws : List ℕ} → ws ≡ set m.waited m.core.runner w
-            → {l : ℕ} → l ≡ cond (eqb (top_row m.holder) no_rank) 0 (top_row m.raised)
             → {c : ℕ} → c ≡ without m.core.started m.core.runner
             → {e : ℕ} → e ≡ with m.core.aside m.core.runner
-            → {q : ℕ} → q ≡ top_row m.holder
-            → {p : Picked} → p ≡ arbitrated ps (core m.core.request c e q l)
-            → done_with (with_core (with_event_bits m m.core m.cleared m.bits ws) p.core) p.begun
-            ≡ wait xs ps m w
+            → {k : Core} → k ≡ left_with m c e
+            → settled ps (with_core (with_event_bits m m.core m.cleared m.bits ws) k) ≡ wait xs ps m w
         unfolding wait first_given
-        wait_pauses z waits level left asleep seat picked =
+        wait_pauses z waits left asleep seat =
             rw (
               sym calls ∙ runs,
               sym kind ∙ extended,
               ← bits,
               sym some ∙ z,
-              picked,
+              seat,
               waits,
-              level,
               left,
               asleep,
-              seat,
               ← holder,
               ne_eqb h m.core.runner free,
             )
+
+-- the bits of a mask beside others
+pub more_bits : (b w : ℕ) → bit_or b w ≡ with_bits b w
+unfolding with_bits
+more_bits b w = refl
 
 -- Set t w
 module _ (ws xs : ℕ) (rs ps : List ℕ) (m : Model) (t w : ℕ) {a : Bool} (calls : a ≡ no_caller m) where
@@ -94,9 +94,11 @@ module _ (ws xs : ℕ) (rs ps : List ℕ) (m : Model) (t w : ℕ) {a : Bool} (ca
             → {g : Bool} → g ≡ has m.core.aside r && any_set u x
             → {c : ℕ} → c ≡ cond g (with m.core.started r) m.core.started
             → {e : ℕ} → e ≡ cond g (without m.core.aside r) m.core.aside
-            → settled ps (with_event_bits m (with_begun m.core c e) z bs m.waited) ≡ set_event ws xs rs ps m t w
+            → {k : Core} → k ≡ m.core
+            → settled ps (with_core (with_event_bits m m.core z bs m.waited) (with_begun k c e))
+            ≡ set_event ws xs rs ps m t w
         unfolding set_event first_given
-        set_done h bits more stored kept waits goes on aside =
+        set_done h bits more stored kept waits goes on aside same =
             rw (
               sym calls ∙ runs,
               ← rank,
@@ -104,6 +106,7 @@ module _ (ws xs : ℕ) (rs ps : List ℕ) (m : Model) (t w : ℕ) {a : Bool} (ca
               sym kind ∙ extended,
               ← begun,
               sym test ∙ h,
+              same,
               on,
               aside,
               goes,

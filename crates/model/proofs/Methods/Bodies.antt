@@ -12,9 +12,9 @@ use Rattle.config.specs.Meaning.{execution_level}
 use Rattle.word.specs.Word.{has, with, without}
 use Rattle.stack.specs.declared.Row.{Row}
 use Rattle.stack.specs.Stack.{top_row, push_row, pop_row}
-use Rattle.machine.specs.Model.{Picked, Model, no_rank, with_core, with_request, with_level, with_slots, with_losses, done_with, refused_with}
+use Rattle.machine.specs.Model.{Core, Model, no_rank, with_core, with_request, with_level, with_slots, with_losses, done_with, refused_with}
 use Rattle.machine.specs.Cells.{one_lost}
-use Rattle.machine.specs.Arbiter.{arbitrated, settled, leaving, returning}
+use Rattle.machine.specs.Arbiter.{settled, leaving, returning}
 use Rattle.machine.specs.Resources.{latest, level_without}
 use Rattle.machine.specs.Events.{no_caller, begun_word, activate, finish, chain, get, release, line}
 
@@ -209,8 +209,8 @@ module _ (n : ℕ) (ps : List ℕ) (m : Model) (r : ℕ) {a : Bool} (calls : a �
           → {xs : Row} → xs ≡ pop_row m.resource
           → {hs : Row} → hs ≡ pop_row m.holder
           → {vs : Row} → vs ≡ pop_row m.raised
-          → {p : Picked} → p ≡ arbitrated ps (with_level m.core l)
-          → done_with (with_core (with_slots m l w xs hs vs) p.core) p.begun ≡ release n ps m r
+          → {k : Core} → k ≡ m.core
+          → settled ps (with_core (with_slots m m.core.level w xs hs vs) (with_level k l)) ≡ release n ps m r
       unfolding release first_given
-      release_done h level x₁ x₂ x₃ x₄ picked =
-          rw (sym calls ∙ runs, lt-leb n r some, sym test ∙ h, picked, x₁, x₂, x₃, x₄, level)
+      release_done h level x₁ x₂ x₃ x₄ same =
+          rw (sym calls ∙ runs, lt-leb n r some, sym test ∙ h, same, x₁, x₂, x₃, x₄, level)

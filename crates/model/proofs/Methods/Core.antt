@@ -1,6 +1,6 @@
 -- What the code of the arbiter computes.
 use Prim.Native.Nat.{ℕ, ◌≤◌, ◌<◌}
-use mathlib.Core.Path.{◌≡◌, sym, ◌∙◌}
+use mathlib.Core.Path.{◌≡◌, sym, ap, ◌∙◌}
 use mathlib.Core.Bool.{Bool, true, false, cond, not, ◌&&◌}
 use mathlib.Core.List.{List}
 use native.Mathlib.Omega.{arith}
@@ -11,9 +11,9 @@ use Rattle.word.specs.Word.{has, with, without, winner}
 use Rattle.number.proofs.Cases.{by_lt}
 use Rattle.config.specs.Meaning.{execution_level, trigger_level}
 use Rattle.stack.specs.declared.Row.{Row}
-use Rattle.stack.specs.Stack.{top_row, second_row, push_row, pop_row}
+use Rattle.stack.specs.Stack.{second_row, push_row, pop_row}
 use Rattle.machine.specs.Model.{Core, Picked, Model, no_rank, with_core, with_request, with_event_bits, with_triggered, done_with}
-use Rattle.machine.specs.Arbiter.{bids, winning, arbitrated, settled, leaving, is_triggered, triggering, returning}
+use Rattle.machine.specs.Arbiter.{bids, winning, arbitrated, settled, left_with, leaving, is_triggered, triggering, returning}
 use Rattle.model.specs.View.{core}
 
 -- the winner r has the priority l
@@ -38,29 +38,31 @@ pub settled_made : (ps : List ℕ) (m : Model) (k : Core) {p : Picked} → p ≡
     → done_with (with_core m p.core) p.begun ≡ settled ps (with_core m k)
 settled_made ps m k picked = rw picked
 
+-- other requests q beside what a core k says
+pub asked : (ps : List ℕ) (m : Model) {k : Core} → k ≡ m.core → (q : ℕ)
+    → settled ps (with_core m (with_request k q)) ≡ settled ps (with_core m (with_request m.core q))
+asked ps m same q = ap (λ (k : Core). settled ps (with_core m (with_request k q))) same
+
 -- the model that a runner which ended leaves, after arbitration with the requests q
 pub ended_made : (ps : List ℕ) (m : Model) (q : ℕ) {v : ℕ} → v ≡ without m.core.started m.core.runner
     → {z : ℕ} → z ≡ with m.cleared m.core.runner
-    → {r : ℕ} → r ≡ top_row m.holder → {l : ℕ} → l ≡ cond (eqb (top_row m.holder) no_rank) 0 (top_row m.raised)
-    → {p : Picked} → p ≡ arbitrated ps
-    (record { request = q; started = v; aside = m.core.aside; runner = r; level = l })
-    → done_with (with_core (with_event_bits m m.core z m.bits m.waited) p.core) p.begun
+    → {k : Core} → k ≡ left_with m v m.core.aside
+    → settled ps (with_core (with_event_bits m m.core z m.bits m.waited) (with_request k q))
     ≡ settled ps (with_core (leaving m) (with_request (leaving m).core q))
-ended_made ps m q ended unset seat level picked = rw (picked, ended, unset, seat, level)
+ended_made ps m q ended unset left = rw (left, ended, unset)
 
 -- the model that a time-triggered task which ended leaves, after arbitration
 pub returned_made : (ps : List ℕ) (m : Model) {a : ℕ} → a ≡ without m.core.aside m.core.runner
     → {z : ℕ} → z ≡ with m.cleared m.core.runner
+    → {k : Core} → k ≡ left_with m m.core.started a
     → {e : ℕ} → e ≡ second_row m.triggered
-    → {t : ℕ} → t ≡ top_row m.holder
-    → {r : ℕ} → r ≡ cond (eqb e no_rank) t e
-    → {v : ℕ} → v ≡ cond (eqb (top_row m.holder) no_rank) 0 (top_row m.raised)
-    → {l : ℕ} → l ≡ cond (eqb e no_rank) v execution_level
+    → {r : ℕ} → r ≡ cond (eqb e no_rank) k.runner e
+    → {l : ℕ} → l ≡ cond (eqb e no_rank) k.level execution_level
     → {x : Row} → x ≡ pop_row m.triggered
-    → {p : Picked} → p ≡ arbitrated ps (core m.core.request m.core.started a r l)
-    → done_with (with_core (with_triggered m m.core z x) p.core) p.begun ≡ settled ps (returning m)
-returned_made ps m ended unset earlier seat next level last left picked =
-    rw (picked, ended, unset, next, last, left, level, seat, earlier)
+    → settled ps (with_core (with_triggered m m.core z x) (core k.request k.started k.aside r l))
+    ≡ settled ps (returning m)
+returned_made ps m ended unset left earlier next last popped =
+    rw (next, last, popped, left, ended, unset, earlier)
 
 -- Arbitration after a Tick of a model m: p is whom it picked, and b whether that is a time-triggered task that it
 -- dispatched.

@@ -40,8 +40,8 @@ returns-then-config-body c = simp (
 )
 
 pub wait_at-requires : goal.wait_at-requires
-wait_at-requires c = rank_read_lt c.args.config c.requires.accepted c.requires.shaped c.plan_of-plan.result c.plan_of-plan.ensures c.args.body
-    c.if-config-body.false
+wait_at-requires c = rw c.from.ensures (rank_read_lt c.args.config c.requires.accepted c.requires.shaped c.plan_of-plan.result c.plan_of-plan.ensures c.args.body
+    c.if-config-body.false)
 
 pub returns : goal.returns
 unfolding wait_by
@@ -51,4 +51,4 @@ returns c = simp (
   lt-leb c.args.config.bodies c.args.body c.if-config-body.false,
   sym (rank_read c.args.config c.requires.accepted c.requires.shaped c.plan_of-plan.result c.plan_of-plan.ensures c.args.body
       c.if-config-body.false),
-) c.wait_at.ensures
+) (rw c.from.ensures at c.wait_at.ensures)

@@ -1,25 +1,26 @@
 -- `bare_group` meets its contract: all bytes looked at are codes without arguments as long as the search says so.
-use mathlib.Core.Path.{sym}
-use mathlib.Core.Bool.{true≢false}
-use native.Mathlib.Omega.{arith}
+use Rattle.std.proofs.Common.{◌≡◌, ℕ, ◌+◌, ◌-◌, ◌<◌, List, length, take, drop, get_or, length-take, length-drop, ap, ◌∙◌, arith}
+use lib.Seq.{get_or-take, get_or-drop}
+use Rattle.kernel.specs.Passes.{bare}
 use Rattle.kernel.proofs.Passes.Count.{bare_more}
 use Rattle.kernel.proofs.count.bare_group.Goals as goal
 
-pub returns-then-trace-at : goal.returns-then-trace-at
-returns-then-trace-at c t = absurd (true≢false (sym t))
+-- the group's bytes are those of the trace
+module _ (bs : List ℕ) (at n i : ℕ) where
+  group_byte : i < length (take n (drop at bs)) → get_or (take n (drop at bs)) i 0 ≡ get_or bs (at + i) 0
+  group_byte h =
+      get_or-take n (drop at bs) i 0 (omega (arith, length-take n (drop at bs))) ∙ get_or-drop at bs i 0
 
-pub loop-i-init : goal.loop-i-init
-loop-i-init c = (omega arith, λ t j h. absurd (omega arith))
-
-pub loop-i-preserved : goal.loop-i-preserved
-loop-i-preserved c = let a = c.args in (
-  omega (arith, c.loop-i-test.true),
-  bare_more a.trace.now a.at c.loop-i.i _ c.loop-i.all c.is_bare-all.ensures c.loop-i.invariant.1,
-)
+pub loop-code-preserved : goal.loop-code-preserved
+loop-code-preserved c = let a = c.args in
+    let i = c.loop-code.code-index in
+    bare_more a.trace.now a.at i c.is_bare-all.result c.loop-code.all
+    (c.is_bare-all.ensures ∙ ap bare (group_byte a.trace.now a.at _ i c.loop-code-test.true)) c.loop-code.invariant
 
 pub returns : goal.returns
-returns c t =
+returns c t = let a = c.args in
     record {
       inside = omega arith;
-      each = λ i h. c.loop-i.invariant.1 t i (omega arith);
+      each = λ i h. c.loop-code.invariant t i
+          (omega (arith, length-take (a.at + 32 - a.at) (drop a.at a.trace.now), length-drop a.at a.trace.now));
     }

@@ -1,11 +1,10 @@
--- `put_loss` meets its contract: two stores are two bytes laid.
-use native.Mathlib.Omega.{arith}
-use lib.ListN.{length-set}
-use Rattle.kernel.proofs.Passes.Bytes.{two_laid}
+-- `put_loss` meets its contract: the two bytes of a number are laid.
+use Rattle.std.proofs.Common.{◌+◌, ◌-◌, ℕ, List, length, ap, ◌∙◌, arith}
+use Rattle.number.specs.Output.{laid}
+use Rattle.kernel.proofs.Passes.Bytes.{laid_mid, two_bytes}
 use Rattle.kernel.proofs.output.put_loss.Goals as goal
 
-pub bounds-out-at-2 : goal.bounds-out-at-2
-bounds-out-at-2 c = simp length-set (omega arith)
-
 pub returns : goal.returns
-returns c = two_laid c.args.out.now c.args.at _ _ c.requires
+returns c = let a = c.args in
+    let wrote = c.copy_from_slice.ensures.after ∙ c.to_le_bytes.ensures ∙ two_bytes a.n (omega arith) in
+    laid_mid a.at (a.at + 2 - a.at) _ a.out.now (omega (arith, ap length wrote)) ∙ ap (λ (l : List ℕ). laid a.at l a.out.now) wrote

@@ -1,9 +1,6 @@
 -- `put_losses` meets its contract: each turn lays the losses of one body more.
-use Prim.Native.Nat.{◌+◌, ◌*◌, ◌/◌, ◌%◌}
-use mathlib.Core.Path.{◌≡◌, refl, ap, ◌∙◌}
-use mathlib.Core.List.{[], ◌∷◌}
-use native.Mathlib.Omega.{arith}
-use lib.ListN.{get_or}
+use Rattle.std.proofs.Common.{◌≡◌, ℕ, List, [], ◌∷◌, ◌+◌, ◌*◌, ◌/◌, ◌%◌, map, take, get_or, length-take, ap, ◌∙◌, rules, arith}
+use lib.Seq.{take_all}
 use Rattle.number.specs.Output.{laid}
 use Rattle.run.specs.Run.{loss_bytes}
 use Rattle.kernel.proofs.Passes.Bytes.{laid_none, losses_step}
@@ -11,25 +8,20 @@ use Rattle.kernel.proofs.output.put_losses.Goals as goal
 
 pub loop-b-init : goal.loop-b-init
 unfolding loss_bytes
-loop-b-init c = (omega arith, refl, laid_none c.args.at c.args.out.now)
+loop-b-init c = laid_none c.args.at c.args.out.now
 
 pub loop-b-preserved : goal.loop-b-preserved
-loop-b-preserved c = let l = c.loop-b in
-    let a = c.args in (
-      omega arith,
-      c.put_loss.auto.out ∙ l.invariant.1,
-      c.put_loss.ensures
-          ∙ ap (laid (a.at + 2 * l.b)
-          (c.loss.result % 256 ∷ c.loss.result /
-          256 ∷ [])) l.invariant.2
-          ∙ losses_step (λ r. get_or a.losses.now r 0) a.ranks.now a.at a.out.now l.b
-          c.loss.result (omega arith) (omega arith)
-          c.loss.ensures,
-    )
-
-pub shape_of-out : goal.shape_of-out
-shape_of-out c = c.loop-b.invariant.1
+loop-b-preserved c = let a = c.args in
+    let b = c.loop-b.b in
+    let rs = take a.bodies a.ranks.now in
+    let loss : c.unwrap_or-loss.result ≡ get_or a.losses.now (get_or rs b 0) 0 = search rules in
+    c.put_loss.ensures
+    ∙ ap (laid (a.at + 2 * b) (c.unwrap_or-loss.result % 256 ∷ c.unwrap_or-loss.result / 256 ∷ [])) c.loop-b.invariant
+    ∙ losses_step (λ r. get_or a.losses.now r 0) rs a.at a.out.now b c.unwrap_or-loss.result c.loop-b-test.true
+    (omega (arith, length-take a.bodies a.ranks.now)) loss
 
 pub returns : goal.returns
-returns c = let h : c.loop-b.b ≡ c.args.bodies = omega arith in
-    rw h at c.loop-b.invariant.2
+returns c = let a = c.args in
+    c.loop-b.invariant
+    ∙ ap (λ (l : List ℕ). laid a.at (loss_bytes (map (λ r. get_or a.losses.now r 0) l)) a.out.now)
+    (take_all c.loop-b.b (take a.bodies a.ranks.now) c.loop-b-test.false)

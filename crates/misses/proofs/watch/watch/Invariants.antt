@@ -6,7 +6,7 @@ use Rattle.misses.proofs.Watching.{Watching}
 use Rattle.misses.proofs.watch.watch.Given as goal
 
 abbrev pub invariant-loop-at : goal.invariant-loop-at
-invariant-loop-at l = Watching l.config l.plan l.deadlines l.trace l.initial.list l.list (view l.model) l.row l.ticks l.count l.at
+invariant-loop-at l = Watching l.config l.plan l.trace (view l.model) l.cells l.misses l.ticks l.at
 
 abbrev pub decreases-loop-at : goal.decreases-loop-at
 decreases-loop-at l = length l.trace - l.at

@@ -1,8 +1,8 @@
 -- `stop` meets its contract: what the registers make of it with the arrays that they are lent.
-use mathlib.Core.Path.{ap, ◌∙◌}
-use Rattle.model.specs.View.{arrays_of, outcome_of}
+use mathlib.Core.Path.{◌∙◌}
+use Rattle.model.specs.View.{arrays_of}
 use Rattle.model.proofs.Model.stop.Goals as goal
 
 pub returns : goal.returns
 returns c = let a = c.args in
-    c.stepped.ensures ∙ ap outcome_of (c.stop-step.ensures (arrays_of a.self))
+    c.stepped.ensures ∙ c.stop-step.ensures (arrays_of a.self)

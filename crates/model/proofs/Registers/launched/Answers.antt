@@ -2,4 +2,4 @@
 use Rattle.model.proofs.Registers.launched.Goals as goal
 
 pub returns : goal.returns
-returns c = λ x. rw (c.without.ensures, c.with.ensures, c.push-self.ensures)
+returns c = λ x. rw (c.without.ensures, c.with.ensures, c.push.ensures)

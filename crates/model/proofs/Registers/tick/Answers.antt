@@ -7,6 +7,6 @@ use Rattle.model.proofs.Registers.tick.Goals as goal
 pub returns : goal.returns
 returns c = let t = c.tick_entries-ticked.ensures in let a = c.args in
     λ x. c.triggering.ensures _
-    ∙ tick_done a.compare.now a.entry_rank.now a.priority.now
+    ∙ tick_done a.plan.now.compare a.plan.now.entry a.plan.now.priority
     (view_with a.self (put_cells a.counter.now a.on.now (put_losses a.losses.now x)))
-    c.union-begun.ensures t.losses_after t.counter_after t.on_after t.turning_value
+    c.begun.ensures t.losses_after t.counter_after t.on_after t.turning_value

@@ -4,4 +4,4 @@ use Rattle.machine.specs.Cells.{is_on}
 use Rattle.model.proofs.tables.is_on.Goals as goal
 
 pub returns : goal.returns
-returns c = ap is_on c.short_at.ensures
+returns c = ap is_on c.at.ensures

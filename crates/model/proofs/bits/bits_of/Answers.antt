@@ -1,9 +1,0 @@
--- `bits_of` meets its contract, cleared or not.
-use mathlib.Core.Path.{sym, ◌∙◌}
-use Rattle.model.proofs.bits.bits_of.Goals as goal
-
-pub returns-then-has : goal.returns-then-has
-returns-then-has c = rw (sym c.has.ensures ∙ c.if-has.true)
-
-pub returns-else-has : goal.returns-else-has
-returns-else-has c = rw (sym c.has.ensures ∙ c.if-has.false)

@@ -1,8 +1,0 @@
--- `with_where` meets its contract, in its two cases.
-use Rattle.model.proofs.bits.with_where.Goals as goal
-
-pub returns-then-test : goal.returns-then-test
-returns-then-test c = rw c.if-test.true c.with-all.ensures
-
-pub returns-else-test : goal.returns-else-test
-returns-else-test c = rw c.if-test.false
