@@ -10,8 +10,8 @@ use lib.ListN.{length}
 use borrow.Author.Tests.{eq-eqb, ne_eqb}
 use Rattle.number.specs.Refusal.{none}
 use Rattle.config.specs.declared.Config.{Config}
-use Rattle.oil_grammar.specs.declared.Token.{Token}
-use Rattle.oil_grammar.specs.declared.Progress.{Progress}
+use Rattle.oil_grammar.specs.Records.{Token}
+use Rattle.oil_grammar.specs.Records.{Progress}
 use Rattle.oil_grammar.specs.Refusal.{no_resource}
 use Rattle.oil_grammar.specs.Token.{same, end_sort}
 use Rattle.oil_grammar.specs.Next.{next_token, spelling}

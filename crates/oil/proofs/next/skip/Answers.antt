@@ -1,40 +1,23 @@
--- `skip` meets its contract: the next token from `at` on begins where that from `i` on does.
-use mathlib.Core.Path.{refl, sym, ◌∙◌}
-use native.Mathlib.Omega.{arith}
+-- `skip` meets its contract: the next token from `at` on begins where that from `start` on does.
+use Rattle.std.proofs.Common.{◌≡◌, refl, sym, ap, ◌∙◌, arith, drop}
+use Rattle.oil_grammar.specs.Next.{blank}
 use Rattle.oil_grammar.proofs.Blank.{blank_inside, skip_stopped, skip_more}
+use Rattle.oil.proofs.Rest.{rest_of}
 use Rattle.oil.proofs.next.skip.Goals as goal
 
-pub loop-at-init : goal.loop-at-init
-loop-at-init c = (omega arith, refl)
+pub loop-n-init : goal.loop-n-init
+loop-n-init c = (omega arith, refl)
 
-pub returns-then-n-eq0 : goal.returns-then-n-eq0
-returns-then-n-eq0 c = let l = c.loop-at in
-    sym (skip_stopped c.args.text.now l.i
-    (sym c.blank-n.ensures ∙ c.if-n-eq0.true)) ∙ l.invariant.1
-
-pub overflow_add-i : goal.overflow_add-i
-overflow_add-i c = let l = c.loop-at in
-    omega (
-      arith,
-      c.blank-n.ensures,
-      blank_inside c.args.text.now l.i
-          l.invariant.0,
+pub loop-n-preserved : goal.loop-n-preserved
+loop-n-preserved c = let t = c.args.text.now in
+    let l = c.loop-n in
+    let e : c.in-Some.n ≡ blank (drop l.start t) = c.in-Some.ensures.bytes ∙ ap blank (rest_of t l.start) in
+    let some = c.in-Some.ensures.some in (
+      omega (arith, blank_inside t l.start l.invariant.0),
+      rw e (sym (skip_more t l.start l.invariant.0 (λ z. omega arith)) ∙ l.invariant.1),
     )
 
-pub loop-at-smaller : goal.loop-at-smaller
-loop-at-smaller c = let l = c.loop-at in
-    let h = c.if-n-eq0.false in omega (
-      arith,
-      c.blank-n.ensures,
-      blank_inside c.args.text.now l.i
-          l.invariant.0,
-    )
-
-pub loop-at-preserved : goal.loop-at-preserved
-loop-at-preserved c = let a = c.args in
-    let l = c.loop-at in (
-      omega (arith, c.blank-n.ensures, blank_inside a.text.now l.i l.invariant.0),
-      rw c.blank-n.ensures
-          (sym (skip_more a.text.now l.i l.invariant.0 (λ e. c.if-n-eq0.false (c.blank-n.ensures ∙ e)))
-          ∙ l.invariant.1),
-    )
+pub returns-clause-start : goal.returns-clause-start
+returns-clause-start c = let t = c.args.text.now in
+    let l = c.loop-n in
+    sym (skip_stopped t l.start (sym (c.in_default.ensures.bytes ∙ ap blank (rest_of t l.start)))) ∙ l.invariant.1
