@@ -14,7 +14,7 @@ use word::{has, with};
 
 mod lookup;
 
-pub use lookup::{at, byte_at, short_at, word_at};
+pub use lookup::at;
 
 // No body: instead of a rank it says that nobody runs, or that there is no such task or ISR. It is what lies
 // past the bottom of the row of held resources.
