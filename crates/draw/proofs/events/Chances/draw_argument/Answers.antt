@@ -1,6 +1,6 @@
 -- `draw_argument` meets its contract: an arm for each sort.
 use Rattle.drawing.specs.Drawing.{draw_argument}
-use Rattle.draw.proofs.events.draw_argument.Goals as goal
+use Rattle.draw.proofs.events.Chances.draw_argument.Goals as goal
 
 pub returns-in-Lacking : goal.returns-in-Lacking
 unfolding draw_argument
