@@ -1,12 +1,11 @@
 // A configuration as bytes: read, written, and refused by document 01's rules.
 #![tactic(auto)]
 
-mod among;
+mod bodies;
 mod entry;
 mod limits;
 mod numbers;
 mod position;
-mod users;
 mod value;
 mod walk;
 mod writer;
