@@ -4,7 +4,6 @@ mod Runs
 mod SortNumbers
 mod Steps
 mod Rest
-mod Position
 mod Comment
 mod TokenLists
 mod Walks

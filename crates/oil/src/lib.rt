@@ -37,19 +37,6 @@ pub struct OilRefused {
     pub column: u64,
 }
 
-// A refusal of the text, by the line and column of its place.
-fn refused_in(text: &[u8], refused: Refused) -> OilRefused
-    requires { refused.place ≤ length text.now }
-    ensures { as_oil_read (Err result) ≡ refused_in text.now (code refused.refusal) refused.place }
-{
-    let at = position_of(text, refused.place);
-    OilRefused {
-        refusal: refused.refusal,
-        line: at.line,
-        column: at.column,
-    }
-}
-
 // Whether the configuration's own numbers are in their ranges: a writer without room refuses a number with place 0, and
 // otherwise with the bytes needed.
 fn range_fault(config: Config) -> Result<(), Refusal>
@@ -92,7 +79,14 @@ pub fn read_oil(text: &[u8]) -> Result<Config, OilRefused>
 {
     match described(text) {
         Ok(config) => ranged(config),
-        Err(e) => Err(refused_in(text, e)),
+        Err(e) => {
+            let at = position_of(text, e.place);
+            Err(OilRefused {
+                refusal: e.refusal,
+                line: at.line,
+                column: at.column,
+            })
+        }
     }
 }
 

@@ -2,7 +2,7 @@
 ghost use Rattle.std.specs.Prelude.{◌≡◌, ℕ, ◌+◌, ◌≤◌, ◌<◌, Bool, length, drop, unwrap_or, IfSome};
 ghost use Rattle.oil_grammar.specs.Byte.{span};
 ghost use Rattle.oil_grammar.specs.Token.{spelled_sort};
-ghost use Rattle.oil_grammar.specs.Next.{closing, comment, blank, skipped, token_of, token_at, next_token};
+ghost use Rattle.oil_grammar.specs.Next.{closing, comment, blank, token_of, token_at, next_token};
 ghost use Rattle.oil.specs.Answer.{number_of, as_token};
 ghost use Rattle.oil.specs.Tokens.{token};
 
@@ -60,19 +60,6 @@ fn blank(rest: &[u8]) -> Option<usize>
     if *first == b'/' { comment(after) } else { None }
 }
 
-// Where the next token begins: past all spaces and comments.
-fn skip(text: &[u8], at: usize) -> usize
-    requires { at ≤ length text.now }
-    ensures start { result ≡ skipped text.now at }
-    ensures inside { result ≤ length text.now }
-{
-    let mut start = at;
-    while let Some(n) = blank(&text[start..]) {
-        start += n;
-    }
-    start
-}
-
 // The sort of what letters and digits spell: one of OIL's words, or a name.
 #[tactic(auto, using(crate::proofs::Words::words))]
 fn spelled_sort(token: &[u8]) -> Sort
@@ -112,12 +99,15 @@ fn first_token(rest: &[u8]) -> (Sort, usize)
     }
 }
 
-// The first token at or after `at`.
+// The first token at or after `at`, past all spaces and comments.
 pub fn next_token(text: &[u8], at: usize) -> Token
     requires { at ≤ length text.now }
     ensures { as_token result ≡ next_token text.now at }
 {
-    let start = skip(text, at);
+    let mut start = at;
+    while let Some(n) = blank(&text[start..]) {
+        start += n;
+    }
     let (sort, length) = first_token(&text[start..]);
     Token {
         sort,

@@ -1,6 +1,6 @@
 -- `position_of` meets its contract: what is left of the bytes before the place gives line and column.
 use Rattle.std.proofs.Common.{sym, ◌∙◌, arith}
-use Rattle.oil.proofs.Position.{line_more, line_same, line_end, column_first, column_more, column_end}
+use Rattle.oil_grammar.proofs.Place.{line_more, line_same, line_end, column_first, column_more, column_end}
 use Rattle.oil.proofs.place.position_of.Goals as goal
 use Rattle.oil.proofs.place.position_of.Goals.{then-b-eq10, else-b-eq10}
 
