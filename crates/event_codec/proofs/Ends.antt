@@ -1,11 +1,13 @@
 -- The reader's definition where the numbers have one byte each.
-use Prim.Native.Nat.{ℕ, zero, suc, ◌+◌, ◌*◌, ◌^◌, ◌/◌, ◌%◌, ◌≤◌, ◌<◌}
+use Prim.Native.Nat.{ℕ, zero, suc, ◌+◌, ◌-◌, ◌*◌, ◌/◌, ◌%◌, ◌≤◌, ◌<◌}
 use mathlib.Core.Path.{◌≡◌, refl, sym, ap, ◌∙◌}
 use mathlib.Core.Bool.{Bool, true, false, cond, not, ◌&&◌}
 use mathlib.Core.List.{List}
 use native.Mathlib.Omega.{arith}
 use lib.Dec.{ltb}
-use lib.ListN.{length, get_or}
+use Rattle.std.specs.List.{slice_range}
+use Rattle.std.proofs.lemmas.List.{get_or-take, get_or-drop}
+use lib.ListN.{length, take, drop, get_or}
 use borrow.Author.Tests.{ltb-true}
 use Rattle.number.specs.Refusal.{none}
 use Rattle.number.proofs.Cases.{by_test, and_true}
@@ -101,11 +103,27 @@ word_accepted bs at w n inside same short e some =
     (short_accepted bs at (omega arith) (rw same.0 at l.0) (rw same.1 at short.first)
     (rw (same.2, two) at short.second))
 
--- four bytes as one number, the first the lowest
-pub bytes_of_word : (a b c d w : ℕ) → a < 256 → b < 256 → c < 256 → d < 256
-    → w ≡ a + b * 256 ^ 1 + c * 256 ^ 2 + d * 256 ^ 3
-    → (w % 256 ≡ a) × (w / 256 % 256 ≡ b) × (w / 65536 % 256 ≡ c)
-bytes_of_word a b c d w p q r s e = (omega arith, omega arith, omega arith)
+-- the four bytes at a place, taken as a chunk and read as one number, the first the lowest
+module _ (bs rest chunk : List ℕ) (at w : ℕ) (from : rest ≡ slice_range bs at (length bs)) (first : chunk ≡ take 4 rest)
+    (inside : at + 4 ≤ length bs) (byte : (i : ℕ) → get_or bs i 0 < 256)
+    (word : w ≡ get_or chunk 0 0 + get_or chunk 1 0 * 256 + get_or chunk 2 0 * 65536 + get_or chunk 3 0 * 16777216)
+  where
+    at_chunk : (i p : ℕ) → i < 4 → at + i ≡ p → get_or chunk i 0 ≡ get_or bs p 0
+    at_chunk i p h e =
+        rw (first, from)
+        (get_or-take 4 (slice_range bs at (length bs)) i 0 h
+        ∙ get_or-take (length bs - at) (drop at bs) i 0 (omega arith)
+        ∙ get_or-drop at bs i 0 ∙ ap (λ (k : ℕ). get_or bs k 0) e)
+
+    pub word_bytes : (w % 256 ≡ get_or bs at 0) × (w / 256 % 256 ≡ get_or bs (at + 1) 0)
+        × (w / 65536 % 256 ≡ get_or bs (at + 2) 0)
+    word_bytes =
+        let a = at_chunk 0 at (omega arith) (omega arith) in
+        let b = at_chunk 1 (at + 1) (omega arith) refl in
+        let c = at_chunk 2 (at + 2) (omega arith) refl in
+        let d = at_chunk 3 (at + 3) (omega arith) refl in
+        let p = byte at in let q = byte (at + 1) in let r = byte (at + 2) in let s = byte (at + 3) in
+        (omega arith, omega arith, omega arith)
 
 -- an accepted event ends there
 pub ends_there : {bs : List ℕ} {at p : ℕ} → AcceptedTo bs at p

@@ -1,7 +1,7 @@
 // The events of a trace, read and written: a code, then its arguments, each a number of the format.
 #![tactic(auto)]
 
-ghost use Rattle.std.specs.Prelude.{◌≡◌, true, cond, ◌&&◌, ◌∷◌, ◌++◌, ◌+◌, ◌/◌, ◌%◌, ◌<◌, ◌≤◌, ltb, length, get_or, MatchResult, SomeIff};
+ghost use Rattle.std.specs.Prelude.{◌≡◌, true, cond, ◌&&◌, ◌∷◌, ◌++◌, ◌+◌, ◌/◌, ◌%◌, ◌<◌, ◌≤◌, ltb, length, get_or, MatchResult, SomeIff, IfSome, Ok};
 ghost use Rattle.number.specs.Refusal.{none, malformed};
 ghost use Rattle.number.specs.Number.{accepted, read_number, number_bytes};
 ghost use Rattle.number.specs.Output.{writing, written};
@@ -94,23 +94,29 @@ fn reading(code: u32, first: u32, second: u32, place: usize) -> Reading<Event>
 }
 
 // Where the event at a place of `trace` ends, or why it is refused and where: as `read_event` says it, without the
-// event. Most numbers of a trace have one byte, so these come first. Where such an event ends is computed, because a
-// branch on the code is one that the processor does not foresee.
+// event. Most numbers of a trace have one byte, so these come first.
 pub fn event_end(trace: &[u8], at: usize) -> Result<usize, Refused>
     ensures { as_event_end result ≡ event_end trace.now at }
 {
-    if trace.len() <= at || trace.len() - at < WORD {
-        return long_end(trace, at);
+    match short_end(trace, at) {
+        Some(end) => Ok(end),
+        None => Ok(read_event(trace, at)?.place),
     }
-    let word = u32::from_le_bytes([trace[at], trace[at + 1], trace[at + 2], trace[at + 3]]);
+}
+
+// Where an event ends that is accepted and whose numbers have one byte each, if four bytes are left. Its four bytes are
+// one load, and its length is computed, because a branch on the code is one that the processor does not foresee.
+fn short_end(trace: &[u8], at: usize) -> Option<usize>
+    ensures { IfSome result (λ end. as_event_end (Ok end) ≡ event_end trace.now at) }
+{
+    let word = u32::from_le_bytes(*trace.get(at..)?.first_chunk::<WORD>()?);
     if !is_short(word) {
-        return long_end(trace, at);
+        return None;
     }
-    let length = short_length(word % 256);
-    if length == 0 {
-        return long_end(trace, at);
+    match short_length(word % 256) {
+        0 => None,
+        length => Some(at + length),
     }
-    Ok(at + length)
 }
 
 // Whether the lowest byte is small enough for a code, and the two after it are numbers of one byte.
@@ -126,13 +132,6 @@ fn short_length(code: u32) -> usize
     ensures { result ≡ cond (known code) (1 + arguments code) 0 }
 {
     ((SHORT_LENGTHS >> 2 * code) % 4) as usize
-}
-
-// The same, number by number.
-fn long_end(trace: &[u8], at: usize) -> Result<usize, Refused>
-    ensures { as_event_end result ≡ event_end trace.now at }
-{
-    Ok(read_event(trace, at)?.place)
 }
 
 // How many arguments follow the code, which may be that of no event.
