@@ -1,4 +1,4 @@
--- The refusals of an entry's task, test by test, and that they are the draft's.
+-- The refusals of an entry's task are the draft's.
 use Prim.Native.Nat.{ℕ}
 use mathlib.Core.Path.{◌≡◌, refl}
 use mathlib.Core.Bool.{Bool, true, false}
@@ -11,17 +11,6 @@ use Rattle.config.specs.Draft.{some_timed, tasks_before, fault_at}
 use Rattle.config_codec.specs.Entry.{bodies_of, entry_at, kind_fault, entry_fault}
 use Rattle.config_codec.specs.Position.{draft_at}
 use Rattle.config_codec.specs.declared.position.Position.{Position}
-
--- neither is of kind 3
-pub calm : (f s : Bool) → none ≡ kind_fault f s false false false
-calm true s = refl
-calm false true = refl
-calm false false = refl
-
--- the same offset, and this one is of kind 3
-pub shared : (w x : Bool) → shared_offset ≡ kind_fault false true w true x
-shared true x = refl
-shared false x = refl
 
 -- only the kinds of the bodies are asked
 some_same : (c : Config) (l : List ℕ) → some_timed (bodies_of c.bodies c.kind) l ≡ some_timed c l

@@ -83,9 +83,6 @@ module _ {c : Config} {F : ℕ} {all : List ℕ} {d : Draft} {bs : List ℕ} (o 
     sym (append-nil bs) ∙ sym (ap (λ (l : List ℕ). bs ++ l) (bytes_end c d o.turns e)) ∙ o.bytes_rest,
   )
 
-  pub walks_small : length bs ≤ 5 * max_numbers
-  walks_small = omega (arith, o.few)
-
   -- one more number
   module _ (more : ended d.field ≡ false) where
     abbrev v : ℕ

@@ -50,12 +50,7 @@ pub fn write_config(config: Config, out: &mut [u8]) -> Result<usize, Refused>
     // A value's refusal has the place 0.
     let n = match walk::walk(&config) {
         Ok(measured) => measured.place,
-        Err(refused) => {
-            return Err(Refused {
-                refusal: refused.refusal,
-                place: 0,
-            });
-        }
+        Err(Refused { refusal, .. }) => return Err(Refused { refusal, place: 0 }),
     };
     if out.len() < n {
         return Err(Refused {
@@ -67,7 +62,7 @@ pub fn write_config(config: Config, out: &mut [u8]) -> Result<usize, Refused>
     Ok(n)
 }
 
-// The all-zero value.
+// The all-zero value. No Default: std has none for arrays of more than 32.
 pub fn no_config() -> Config
     ensures { result ≡ no_config }
 {

@@ -40,6 +40,7 @@ impl<'a> Numbers for Input<'a> {
 
     ghost near = { λ s d at. read_near d s.bytes.now at };
 
+    #[tactic(auto, unfolding(config::specs::Reader::number_at))]
     fn number(&self, p: Position, version: u8, at: usize) -> Result<Reading<u32>, Refused> {
         if p.silent(version) {
             return Ok(Reading {

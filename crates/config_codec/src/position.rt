@@ -8,6 +8,8 @@ use config::{Config, Field};
 
 // `index` is the body, resource or table that is next, `entry` the entry, and `until` the entry after the last one of
 // its table.
+// No ghost field says that it stands inside the arrays (`Stands`): that is a fact of the counts of the configuration beside
+// it, which each method that makes a position would have to be given.
 #[derive(Clone, Copy)]
 pub struct Position {
     pub field: Field,
@@ -30,6 +32,7 @@ impl Position {
     }
 
     // Whether no number is left.
+    #[tactic(auto, unfolding(config::specs::Draft::ended))]
     pub fn ended(self) -> bool
         ensures { result ≡ ended self.field }
     {
@@ -83,8 +86,8 @@ impl Position {
         }
     }
 
-    #[tactic(auto, unfolding(config::specs::Draft::put_at))]
     // The number after `v`, where `c` has the counts that come before.
+    #[tactic(auto, unfolding(config::specs::Draft::put_at))]
     pub fn next(self, v: u32, c: &Config) -> Position
         requires { Stands self }
         ensures { result ≡ position_of (put (draft_at c.now self) v) }

@@ -15,6 +15,7 @@ use config::{Config, Field, MAX_BODIES, MAX_RESOURCES, MAX_TABLES};
 use number::Refusal;
 
 // The number of `c` at `p`.
+#[tactic(auto, unfolding(config::specs::Draft::asked_at))]
 pub fn asked(c: &Config, p: Position) -> u32
     requires { Stands p }
     ensures { result ≡ asked c.now (draft_at c.now p) }
@@ -39,7 +40,9 @@ pub fn asked(c: &Config, p: Position) -> u32
     }
 }
 
-// Tests the number `v` at `p` by those before it, and puts it in its place.
+// Tests the number `v` at `p` by those before it, and puts it in its place. Inlined: either walk then knows its next field
+// without asking twice, and takes half the instructions.
+#[tactic(auto, unfolding(config::specs::Draft::fault_at, config::specs::Draft::put_at))]
 #[inline(always)]
 pub fn put(c: &mut Config, p: Position, v: u32) -> Result<(), Refusal>
     requires { Within (draft_at c.old p) }

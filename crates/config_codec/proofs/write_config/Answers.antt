@@ -13,7 +13,7 @@ use Rattle.config_codec.proofs.write_config.Goals as goal
 pub returns-in-Err : goal.returns-in-Err
 returns-in-Err c =
     let a = c.args in
-    let e = c.in-Err.refused in
+    let e = c.in-Err.field-0 in
     let m = measured_refused a.config (refused (code e.refusal) e.place) c.in-Err.ensures (code_some e.refusal) in
     let n = refused_answer a.config (unwritten (code e.refusal) 0) m a.out.now (code_some e.refusal) in
     record { result = n.0; output = n.1 }

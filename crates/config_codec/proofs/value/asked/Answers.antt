@@ -1,7 +1,6 @@
 -- `asked` meets its contract: each arm is the number of its field.
 use native.Mathlib.Omega.{arith}
 use Rattle.config.specs.declared.Field.TheVariants.{Kind, Priority, Autostart, Deadline, Users, Period, Entries, Offset, Task}
-use Rattle.config.specs.Draft.{asked_at}
 use Rattle.config_codec.proofs.NextNumber.{placed}
 use Rattle.config_codec.proofs.value.asked.Goals as goal
 
@@ -40,59 +39,3 @@ bounds-c-e c = let h = placed c.requires.config c.args.p c.requires.within Offse
 
 pub bounds-c-e-in-Task : goal.bounds-c-e-in-Task
 bounds-c-e-in-Task c = let h = placed c.requires.config c.args.p c.requires.within Task c.in-Task.is in omega arith
-
-pub returns-in-Version : goal.returns-in-Version
-unfolding asked_at
-returns-in-Version c = rw c.in-Version.is
-
-pub returns-in-Bodies : goal.returns-in-Bodies
-unfolding asked_at
-returns-in-Bodies c = rw c.in-Bodies.is
-
-pub returns-in-Kind : goal.returns-in-Kind
-unfolding asked_at
-returns-in-Kind c = rw c.in-Kind.is
-
-pub returns-in-Priority : goal.returns-in-Priority
-unfolding asked_at
-returns-in-Priority c = rw c.in-Priority.is
-
-pub returns-in-Autostart : goal.returns-in-Autostart
-unfolding asked_at
-returns-in-Autostart c = rw c.in-Autostart.is
-
-pub returns-in-Deadline : goal.returns-in-Deadline
-unfolding asked_at
-returns-in-Deadline c = rw c.in-Deadline.is
-
-pub returns-in-Resources : goal.returns-in-Resources
-unfolding asked_at
-returns-in-Resources c = rw c.in-Resources.is
-
-pub returns-in-Users : goal.returns-in-Users
-unfolding asked_at
-returns-in-Users c = rw c.in-Users.is
-
-pub returns-in-Tables : goal.returns-in-Tables
-unfolding asked_at
-returns-in-Tables c = rw c.in-Tables.is
-
-pub returns-in-Period : goal.returns-in-Period
-unfolding asked_at
-returns-in-Period c = rw c.in-Period.is
-
-pub returns-in-Entries : goal.returns-in-Entries
-unfolding asked_at
-returns-in-Entries c = rw c.in-Entries.is
-
-pub returns-in-Offset : goal.returns-in-Offset
-unfolding asked_at
-returns-in-Offset c = rw c.in-Offset.is
-
-pub returns-in-Task : goal.returns-in-Task
-unfolding asked_at
-returns-in-Task c = rw c.in-Task.is
-
-pub returns-in-End : goal.returns-in-End
-unfolding asked_at
-returns-in-End c = rw c.in-End.is
