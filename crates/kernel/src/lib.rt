@@ -6,7 +6,8 @@ mod count;
 mod output;
 mod play;
 
-ghost use Rattle.std.specs.Prelude.{◌≡◌, ◌<◌, ◌^◌, length, IfErr};
+ghost use Rattle.std.specs.Prelude.{◌≡◌, ◌≤◌, ◌<◌, ◌^◌, length, IfOk, IfErr};
+ghost use Rattle.event.specs.Trace.{max_trace};
 ghost use Rattle.run.specs.Run.{run_result, run_output};
 ghost use Rattle.run.specs.Steps.{machine_output, last_model};
 ghost use Rattle.model.specs.View.{model_of};
@@ -57,6 +58,7 @@ pub fn run(config: &[u8], trace: &[u8], out: &mut [u8]) -> Result<Played, Refuse
         ≡ machine_output config.now trace.now out.old }
     ensures model { model_left result
         ≡ model_of (last_model config.now trace.now (length out.old)) }
+    ensures few { IfOk result (λ played. played.events ≤ max_trace) }
     ensures place { IfErr result (λ refused. refused.place < 2 ^ 63) }
 {
     let read = read_config(config)?;

@@ -2,15 +2,19 @@
 --
 --   answered                       the answers and then the losses, laid one after the other, are the machine's answers
 --   last_model_lem                 the model after the events is the machine's, from the fresh start of the configuration's plan
+--   refused_high                   no refusal's number is one of events
 --   ran_config_refused .. ran_all  the run's ways out, by what the code read
---
 use Prim.Native.Nat.{ℕ, ◌+◌, ◌*◌, ◌≤◌, ◌<◌}
 use mathlib.Core.Path.{◌≡◌, sym, ap, ap₂, ◌∙◌}
 use mathlib.Core.List.{List, ◌++◌}
 use native.Mathlib.Omega.{arith}
 use lib.ListN.{length, length-append, length-map}
+use Rattle.number.specs.declared.Refusal.{Refusal}
+use Rattle.number.specs.Answer.{code}
 use Rattle.number.specs.Refusal.{none, no_room}
 use Rattle.number.specs.Output.{laid, written, packed}
+use Rattle.number.proofs.Answers.{code_some}
+use Rattle.number.proofs.Cases.{by_lt}
 use Rattle.number.proofs.Laying.{laid_laid, laid_zero}
 use Rattle.config.specs.declared.Config.{Config}
 use Rattle.config.specs.Accepted.{Accepted, Shaped}
@@ -28,6 +32,7 @@ use Rattle.machine.specs.Machine.{unstarted, fresh_model, losses_of, machine_see
 use Rattle.plan.proofs.Fitted.{Fitted, fitted}
 use Rattle.run.specs.Run.{call_of, calls_of, played, read_run, answer_bytes, loss_bytes}
 use Rattle.run.specs.Steps.{machine_answers}
+use Rattle.run.proofs.Theorems.{places}
 use Rattle.run.proofs.Answers.{events, length_events, length_losses}
 use Rattle.run.proofs.Input.{config_refused, trace_too_long_lem, trace_refused, all_readable, Ran, ran_refused, ran_short, ran_whole}
 
@@ -72,6 +77,11 @@ pub last_model_lem : (c : Config) (es : List Event) (p : Plan) (m₀ m : Model) 
 last_model_lem c es p m₀ m planned begun last =
     last ∙ ap (λ (x : Model). machine_after c p x es) begun
     ∙ ap (λ (q : Plan). machine_after c q (fresh_model q) es) planned
+
+-- refusals are not 0, so their numbers are high
+pub refused_high : (r : Refusal) (p : ℕ) → places ≤ packed (code r) p
+refused_high r p = let some = code_some r in
+    by_lt 0 (code r) (λ h. omega arith) (λ h. absurd (some (omega arith)))
 
 -- the run's ways out, by what the code read: rc of the configuration
 module _ (cs ts d : List ℕ) (rc : ConfigRead) (read : rc ≡ read_config cs) where

@@ -16,13 +16,14 @@ returns-in_err-read c = let a = c.args in
       output = h.output;
       steps = h.steps;
       model = rw p.1 (ap model_of h.model);
+      few = rw p.1 tt;
       place = rw (p.1, p.2) (omega (arith, config_place_le a.config.now a.trace.now a.out.now _ read, c.well_formed.0));
     }
 
 pub returns-then-trace-gt-MAX_TRACE : goal.returns-then-trace-gt-MAX_TRACE
 returns-then-trace-gt-MAX_TRACE c = let a = c.args in
     let h = ran_too_long a.config.now a.trace.now a.out.now _ c.in_ok-read.ensures refl _ c.if-trace-gt-MAX_TRACE.true refl in
-    record { result = h.result; output = h.output; steps = h.steps; model = ap model_of h.model; place = omega arith }
+    record { result = h.result; output = h.output; steps = h.steps; model = ap model_of h.model; few = tt; place = omega arith }
 
 pub returns-in_err-events : goal.returns-in_err-events
 returns-in_err-events c = let a = c.args in
@@ -36,6 +37,7 @@ returns-in_err-events c = let a = c.args in
       output = h.output;
       steps = h.steps;
       model = rw p.1 (ap model_of h.model);
+      few = rw p.1 tt;
       place = rw (p.1, p.2) (omega (arith, trace_place_le a.config.now a.trace.now a.out.now _ read refl short, told.1));
     }
 
@@ -67,6 +69,7 @@ returns-then-out-need c = let a = c.args in
       output = h.output;
       steps = h.steps;
       model = ap model_of h.model;
+      few = tt;
       place = omega (
         arith,
         few_events a.config.now a.trace.now a.out.now _ read refl short _ told,
@@ -87,7 +90,17 @@ answer-model-requires c = let a = c.args in
 
 pub returns : goal.returns
 returns c = let a = c.args in
+    let read = c.in_ok-read.ensures in
+    let short = c.if-trace-gt-MAX_TRACE.false in
+    let told = c.in_ok-events.ensures in
     let answered = c.answer-model.ensures in
-    let h = ran_all a.config.now a.trace.now a.out.now _ c.in_ok-read.ensures refl c.if-trace-gt-MAX_TRACE.false _
-    c.in_ok-events.ensures _ (view c.answer-model.result) c.if-out-need.false answered.out_after (ap view answered.value) in
-    record { result = h.result; output = h.output; steps = h.steps; model = ap model_of h.model; place = tt }
+    let h = ran_all a.config.now a.trace.now a.out.now _ read refl short _ told _ (view c.answer-model.result)
+    c.if-out-need.false answered.out_after (ap view answered.value) in
+    record {
+      result = h.result;
+      output = h.output;
+      steps = h.steps;
+      model = ap model_of h.model;
+      few = few_events a.config.now a.trace.now a.out.now _ read refl short _ told;
+      place = tt;
+    }
