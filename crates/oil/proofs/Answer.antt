@@ -1,10 +1,10 @@
 -- The whole reading: its steps one after the other.
-use Rattle.std.proofs.Common.{◌≡◌, ℕ, ◌≤◌, List, [], ◌∷◌, cond, eqb, length, Ok, Err, sym, ap, ◌∙◌}
+use Rattle.std.proofs.Common.{◌≡◌, ℕ, ◌≤◌, List, [], ◌∷◌, cond, eqb, length, Result, Ok, Err, sym, ap, ◌∙◌}
 use borrow.Author.Tests.{ne_eqb}
 use Rattle.number.specs.declared.Refused.{Refused}
 use Rattle.number.specs.Output.{Written, packed}
 use Rattle.number.specs.Answer.{code}
-use Rattle.number.proofs.Answers.{code_some}
+use Rattle.number.proofs.Answers.{code_injective, code_some}
 use Rattle.config.specs.declared.Config.{Config}
 use Rattle.config.specs.Value.{no_config}
 use Rattle.config.specs.Writer.{write_config, wrote_config}
@@ -77,3 +77,19 @@ module _ (t d : List ℕ) where
     pub read_place : ◌≡◌ {A = List ℕ} (0 ∷ 0 ∷ []) (oil_place t)
     unfolding oil_place
     read_place = ap (λ (r : OilRead). r.line ∷ r.column ∷ []) q
+
+-- the numbers of an answer tell its cases apart, so that the contract of `read_oil` fixes what it gives
+same_refused : (e f : OilRefused) → e.refusal ≡ f.refusal → e.line ≡ f.line → e.column ≡ f.column → e ≡ f
+same_refused e f r l c =
+    ap (λ u. record { refusal = u; line = e.line; column = e.column }) r
+    ∙ ap (λ n. record { refusal = f.refusal; line = n; column = e.column }) l
+    ∙ ap (λ n. record { refusal = f.refusal; line = f.line; column = n }) c
+
+pub as_oil_read_injective : (a b : Result Config OilRefused) → as_oil_read a ≡ as_oil_read b → a ≡ b
+as_oil_read_injective (Ok c) (Ok d) e = ap Ok (ap (λ (r : OilRead). r.config) e)
+as_oil_read_injective (Ok c) (Err f) e = absurd (code_some f.refusal (sym (ap (λ (r : OilRead). r.refusal) e)))
+as_oil_read_injective (Err f) (Ok c) e = absurd (code_some f.refusal (ap (λ (r : OilRead). r.refusal) e))
+as_oil_read_injective (Err e) (Err f) h =
+    ap Err
+    (same_refused e f (code_injective e.refusal f.refusal (ap (λ (r : OilRead). r.refusal) h))
+    (ap (λ (r : OilRead). r.line) h) (ap (λ (r : OilRead). r.column) h))

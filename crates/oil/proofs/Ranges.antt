@@ -45,9 +45,6 @@ module _ (c : Config) {w : Written} (e : w ≡ write_config c 0) where
       absurd (omega (arith, some_byte c)))
       (λ d. ap (λ (v : Written). v.refusal) (refused d))
 
-  pub room_told : (w.place ≡ 0 → ⊥) → 0 ≡ first_fault c
-  room_told r = by_eq (first_fault c) none (λ z. sym z) (λ d. absurd (r (ap (λ (v : Written). v.place) (refused d))))
-
 -- a writer's place is below 2 ^ 63
 pub place_lt : (c : Config) (n : ℕ) {w : Written} → w ≡ write_config c n → w.place < 9223372036854775808
 unfolding writing

@@ -14,6 +14,7 @@ use number::{Refusal, Refused};
 fn ordered(text: &[u8]) -> (usize, Result<(), Refused>)
     ensures { Ordered text.now (as_order text.now result.0 result.1) }
 {
+    // No TokenWalk: that is over so many tokens, and how many there are is what this finds.
     let mut progress = fresh();
     let mut at = 0;
     let mut tokens = 0;

@@ -1,7 +1,7 @@
 -- Runs of a class of bytes: how a run goes on, and that it is the longest.
-use Prim.Native.Nat.{ℕ, suc, ◌+◌, ◌≤◌, ◌<◌}
+use Prim.Native.Nat.{ℕ, ◌+◌, ◌≤◌, ◌<◌}
 use mathlib.Core.Path.{◌≡◌, refl, ap}
-use mathlib.Core.Bool.{Bool, true, false}
+use mathlib.Core.Bool.{Bool}
 use mathlib.Core.List.{List, [], ◌∷◌}
 use native.Mathlib.Omega.{arith}
 use native.Mathlib.Numerals.{add-one}
@@ -19,14 +19,6 @@ module _ (p : ℕ → Bool) where
   unfolding span
   span_le [] = omega arith
   span_le (b ∷ bs) = let h = span_le bs in by_test (p b) (λ e. rw e (omega arith)) (λ e. rw e (omega arith))
-
-  span_more : (b : ℕ) (bs : List ℕ) → p b ≡ true → span p (b ∷ bs) ≡ suc (span p bs)
-  unfolding span
-  span_more b bs e = rw e
-
-  span_stop : (b : ℕ) (bs : List ℕ) → p b ≡ false → span p (b ∷ bs) ≡ 0
-  unfolding span
-  span_stop b bs e = rw e
 
   -- the run is the longest, and there is no other that is
   pub longest : (bs : List ℕ) → Longest p bs (take (span p bs) bs) (drop (span p bs) bs)
