@@ -218,14 +218,17 @@ fn take_match(rank: u8, begun: u32, request: u32, losses: &mut [u16; 32]) -> u32
 }
 
 // One more is lost at this rank, and a count stays at 65,535 once there; a number that is no rank changes nothing. Every
-// element is written, because a row that is read whole after a write to one of them makes the processor wait. The ranks
-// are compared as numbers as wide as a count, so that eight are tested at once.
+// element is written, because a row that is read whole after a write to one of them makes the processor wait. `below` is
+// how far the rank is above r, as wide as a count, so that eight are tested at once: a test of r itself is made four
+// times as wide.
 pub fn lose(losses: &mut [u16; 32], rank: u8)
     ensures { losses.new
         ≡ (if nat_lt rank max_bodies then one_lost rank losses.old else losses.old) }
 {
+    let mut below = rank as u16;
     for r in 0..BODIES {
-        losses[r] = losses[r].saturating_add((r as u16 == rank as u16) as u16);
+        losses[r] = losses[r].saturating_add((below == 0) as u16);
+        below = below.wrapping_sub(1);
     }
 }
 
