@@ -2,6 +2,9 @@
 // are, read and written, is defined in specs/; no code runs here.
 #![tactic(auto)]
 
+// The kinds are document 01's numbers and no enum: a value that is to be written can have others, which are refused
+// (config_vectors gives 4), and the definitions speak of the number.
+
 // An ISR's kind; whatever is no ISR is a task.
 pub const ISR: u8 = 1;
 // An extended task's kind.
@@ -42,7 +45,8 @@ pub enum Field {
 // A configuration. A body (a task or an ISR, OSEK's control flow) has an element in `kind`, `priority`, `autostart` and
 // `deadline`, ticks from its becoming ready or 0 for none; a resource one in `users`, a mask of bodies; a table
 // (schedule table) one in `period` and `entries`, its number of entries (expiry points). The entries of all tables
-// stand one after the other in `offset` and `task`.
+// stand one after the other in `offset` and `task`. The arrays are document 01's layout of the value, by which the
+// definitions of specs/ and their theorems speak of it: no structs of a body, and no array of a number's own length.
 #[derive(Clone, Copy)]
 pub struct Config {
     pub version: u8,
@@ -61,8 +65,8 @@ pub struct Config {
 }
 
 // A configuration as far as its numbers have come. `index` is the body, resource or table that is next, `entry` the
-// entry, and `until` the entry after the last one of its table. The code keeps the configuration and the rest apart,
-// since a draft by value would be copied at every number.
+// entry, and `until` the entry after the last one of its table. The definitions walk it; the code lends the configuration
+// and has the rest as a `Position`, since the writer's second pass has no configuration but the value.
 #[derive(Clone, Copy)]
 pub struct Draft {
     pub config: Config,
