@@ -1,14 +1,11 @@
 -- The refusals of an entry's task are the draft's.
 use Prim.Native.Nat.{ℕ}
 use mathlib.Core.Path.{◌≡◌, refl}
-use mathlib.Core.Bool.{Bool, true, false}
 use mathlib.Core.List.{List, [], ◌∷◌}
-use Rattle.number.specs.Refusal.{none}
 use Rattle.config.specs.declared.Config.{Config}
 use Rattle.config.specs.declared.Field.TheVariants.{Task}
-use Rattle.config.specs.Refusal.{shared_offset}
 use Rattle.config.specs.Draft.{some_timed, tasks_before, fault_at}
-use Rattle.config_codec.specs.Entry.{bodies_of, entry_at, kind_fault, entry_fault}
+use Rattle.config_codec.specs.Entry.{bodies_of, entry_at, entry_fault}
 use Rattle.config_codec.specs.Position.{draft_at}
 use Rattle.config_codec.specs.declared.position.Position.{Position}
 
