@@ -12,6 +12,7 @@ use config::Config;
 use plan::Plan;
 use word::{has, union, with};
 
+// The plan's rows have NO_RANK where there is no such task or ISR, as plan's definitions say.
 impl Registers {
     pub fn activate(self, plan: &Plan, t: u32) -> Step
         ensures { (x : Arrays) → view_step result x

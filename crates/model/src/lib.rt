@@ -94,7 +94,8 @@ pub struct Registers {
     pub triggered: Row,
 }
 
-// The next registers with the answer.
+// The next registers with the answer. A status is no error: after a refused event the next one meets these registers, and
+// `begun` is told with it, so a Result would be taken apart at once.
 #[derive(Clone, Copy)]
 pub struct Step {
     pub registers: Registers,
@@ -102,7 +103,8 @@ pub struct Step {
     pub begun: bool,
 }
 
-// All that the machine keeps between events. It goes by value.
+// All that the machine keeps between events. It goes by value. The arrays lie apart, and are no rows of structs: an event
+// takes out those that it touches, and pairs took more instructions (docs/PERFORMANCE.md, "What was tried").
 #[derive(Clone, Copy)]
 pub struct Model {
     pub registers: Registers,

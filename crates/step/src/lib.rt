@@ -12,7 +12,8 @@ use event::Event;
 use model::{Model, Outcome};
 use plan::Plan;
 
-// The codes are those of an event that was read; the last arm is Clear's.
+// A match over the codes is a named form (docs/DECISIONS.md). They are those of an event that was read; the last arm is
+// Clear's.
 pub fn step(model: Model, config: &Config, plan: &Plan, event: Event) -> Outcome
     ensures { view_outcome result
         ≡ machine_step config.now plan.now (view model) (call_of event) }
