@@ -6,7 +6,7 @@
 // pass, and the same for the cells past its end, which no tick may touch.
 #![tactic(auto)]
 
-ghost use Rattle.std.specs.Prelude.{◌≡◌, ◌++◌, ◌≤◌, take, drop};
+ghost use Rattle.std.specs.Prelude.{◌≡◌, ◌++◌, ◌≤◌, length, take, drop};
 ghost use Rattle.cell.specs.Rows.{ticked_row};
 
 use cell::Cell;
@@ -23,9 +23,10 @@ fn tick_first(mut row: [Cell; 1000], n: usize) -> [Cell; 1000]
 
 // A cell that is off, a tick before its compare value, with a mark from before.
 fn off_and_marked(turn: bool) -> Cell {
-    let mut c = Cell::of(4, 5, false, turn);
-    c.matched = true;
-    c
+    Cell {
+        matched: true,
+        ..Cell::of(4, 5, false, turn)
+    }
 }
 
 // In turn: a cell due at ticks 3 and 7; one due at every tick; one that is off; one that wraps at tick 1 and matches at
@@ -42,52 +43,17 @@ fn kind(i: usize) -> Cell {
     }
 }
 
-fn cells() -> [Cell; 1000] {
-    let mut row = [kind(0); 1000];
-    for i in 0..1000 {
-        row[i] = kind(i);
-    }
-    row
+// How many of the cells pass the test.
+fn count<F: Fn(&Cell) -> bool>(cells: &[Cell], test: F) -> u64
+    requires { F.IsAlwaysCallable test }
+{
+    cells.iter().filter(|cell| test(cell)).count() as u64
 }
 
-fn matches(row: [Cell; 1000], n: usize) -> u64
-    requires { n ≤ 1000 }
+fn counters(cells: &[Cell]) -> u64
+    requires { length cells.now ≤ 1000 }
 {
-    let mut count: u64 = 0;
-    for i in 0..n {
-        if row[i].matched {
-            count += 1;
-        }
-    }
-    count
-}
-
-fn wide(x: u16) -> u64
-    ensures { result ≤ 65535 }
-{
-    x as u64
-}
-
-fn counters(row: [Cell; 1000], from: usize, to: usize) -> u64
-    requires { to ≤ 1000 }
-{
-    let mut sum: u64 = 0;
-    for i in from..to {
-        sum += wide(row[i].counter);
-    }
-    sum
-}
-
-fn turns(row: [Cell; 1000], from: usize, to: usize) -> u64
-    requires { to ≤ 1000 }
-{
-    let mut count: u64 = 0;
-    for i in from..to {
-        if row[i].turn {
-            count += 1;
-        }
-    }
-    count
+    cells.iter().map(|cell| cell.counter as u64).sum()
 }
 
 fn print(rt: &impl Print, n: u64) -> io::Result<()> {
@@ -102,21 +68,21 @@ fn show(rt: &impl Print, n: usize) -> io::Result<()>
     requires { n ≤ 1000 }
 {
     print(rt, n as u64)?;
-    let mut row = cells();
+    let mut row: [Cell; 1000] = std::array::from_fn(kind);
     for _ in 0usize..9 {
         let next = tick_first(row, n);
         row = next;
-        print(rt, matches(row, n))?;
+        print(rt, count(&row[..n], |cell| cell.matched))?;
     }
-    print(rt, counters(row, 0, n))?;
-    print(rt, turns(row, 0, n))?;
-    print(rt, counters(row, n, 1000))?;
-    print_last(rt, turns(row, n, 1000))
+    print(rt, counters(&row[..n]))?;
+    print(rt, count(&row[..n], |cell| cell.turn))?;
+    print(rt, counters(&row[n..]))?;
+    print_last(rt, count(&row[n..], |cell| cell.turn))
 }
 
 fn main(rt: HostRuntime) -> io::Result<()> {
-    show(&rt, 0)?;
-    show(&rt, 1)?;
-    show(&rt, 64)?;
-    show(&rt, 1000)
+    for n in [0usize, 1, 64, 1000] {
+        show(&rt, n)?;
+    }
+    Ok(())
 }

@@ -1,9 +1,10 @@
 -- The loops over the cells: what each has done of its definition before entry e, from its start to its end.
 --
 -- In order: a tick's counters and match marks; a tick's requests and losses; its switches; starts and stops.
-use Rattle.std.proofs.Common.{◌≡◌, ℕ, zero, suc, ◌+◌, ◌-◌, ◌<◌, ◌≤◌, min, Bool, true, false, cond, ◌&&◌, ◌||◌, List, [], ◌∷◌, ◌++◌, length, get_or, take, drop, set, replicate, sym, refl, ap, ◌∙◌, ap₂, append_assoc, append-nil, add-one, arith, length-drop, length-set, take-append-drop, drop_of_length-le, length-take-le, take_all, get_or-set_other, drop-drop, take-suc-set}
+use Rattle.std.proofs.Common.{◌≡◌, ℕ, zero, suc, ◌+◌, ◌-◌, ◌<◌, ◌≤◌, min, Bool, true, false, cond, ◌&&◌, ◌||◌, List, [], ◌∷◌, ◌++◌, length, get_or, take, drop, set, replicate, sym, refl, ap, ◌∙◌, ap₂, append_assoc, append-nil, add-one, add-zero, arith, drop-set-lt, length-drop, length-set, take-append-drop, drop_of_length-le, length-take-le, take_all, get_or-set_other, drop-drop, take-suc-set}
 use mathlib.Core.Bool.{or_assoc, or-false}
 use lib.Seq.{set-get_or}
+use Rattle.number.proofs.Cases.{by_lt}
 use Rattle.config.specs.Value.{max_entries}
 use Rattle.cell.specs.declared.Cell.{Cell}
 use Rattle.cell.specs.Cell.{unmarked, tick_cell}
@@ -182,3 +183,31 @@ module _ (f : ℕ → ℕ) (u e : ℕ) (l : List ℕ) where
   pub spread_end : u ≤ e → spread f (u - e) e l ≡ l
   unfolding spread
   spread_end h = rw (none u e h)
+
+-- k elements from f on set to v, as the code writes them: those before and those behind stay
+module _ (v : ℕ) where
+  spread_filled : (k f : ℕ) (l : List ℕ) → f + k ≤ length l
+      → spread (λ _. v) k f l ≡ take f l ++ (replicate k v ++ drop (f + k) l)
+  unfolding spread
+  spread_filled zero f l h = rw add-zero (sym (take-append-drop f l))
+  spread_filled (suc k) f l h =
+      spread_filled k (suc f) (set l f v) (rw length-set (omega arith))
+      ∙ rw (take-suc-set l f v (omega arith), drop-set-lt (suc f + k) l f v (omega arith), append_assoc)
+      (let e : suc f + k ≡ f + suc k = omega arith in ap (λ (n : ℕ). take f l ++ v ∷ (replicate k v ++ drop n l)) e)
+
+  -- none, where they begin past the end e of the row; u is where they end
+  pub part_filled : (f k e u : ℕ) (l : List ℕ) → e ≡ length l → u ≡ min (f + k) e
+      → take (min f u) l ++ (replicate (u - min f u) v ++ drop (u - min f u) (drop (min f u) l))
+      ≡ spread (λ _. v) (min k (e - f)) f l
+  unfolding spread
+  part_filled f k e u l whole ends =
+      by_lt f e
+      (λ inside.
+      let from : min f u ≡ f = omega arith in
+      let many : u - f ≡ min k (e - f) = omega arith in
+      rw (from, many, drop-drop (min k (e - f)) f l) (sym (spread_filled (min k (e - f)) f l (omega arith))))
+      (λ past.
+      let from : min f u ≡ u = omega arith in
+      let none : u - u ≡ 0 = omega arith in
+      let few : min k (e - f) ≡ 0 = omega arith in
+      rw (from, none, few) (take-append-drop u l))

@@ -1,5 +1,4 @@
 -- The laws of the loops over the cells.
 pub mod Tests
 pub mod Cells
-pub mod Losses
 pub mod Marks

@@ -158,13 +158,6 @@ module _ (ms : List Bool) where
   abbrev bit : ℕ → ℕ
   bit i = bool_byte (get_or ms i false)
 
-  bit_le : (i : ℕ) → bit i ≤ 1
-  bit_le i = either (get_or ms i false)
-    where
-      either : (b : Bool) → bool_byte b ≤ 1
-      either true = omega arith
-      either false = omega arith
-
   bit_is : (b : Bool) → cond b 1 0 ≡ bool_byte b
   bit_is true = refl
   bit_is false = refl
@@ -188,20 +181,6 @@ module _ (ms : List Bool) where
     word_end : marks_word (take 0 (drop (e + group) ms)) ≡ 0
     unfolding marks_word
     word_end = refl
-
-    pub bits_le : (bit e ≤ 1) × (bit (e + 1) ≤ 1) × (bit (e + 2) ≤ 1) × (bit (e + 3) ≤ 1) × (bit (e + 4) ≤ 1)
-        × (bit (e + 5) ≤ 1)
-        × (bit (e + 6) ≤ 1) × (bit (e + 7) ≤ 1)
-    bits_le = (
-      bit_le e,
-      bit_le (e + 1),
-      bit_le (e + 2),
-      bit_le (e + 3),
-      bit_le (e + 4),
-      bit_le (e + 5),
-      bit_le (e + 6),
-      bit_le (e + 7),
-    )
 
     pub word_sum : bit e + 256 * bit (e + 1) + 65536 * bit (e + 2) + 16777216 * bit (e + 3) + 4294967296 * bit (e + 4)
         + 1099511627776 * bit (e + 5) + 281474976710656 * bit (e + 6) + 72057594037927936 * bit (e + 7)

@@ -14,7 +14,7 @@ use word::{has, with};
 
 mod lookup;
 
-pub use lookup::{at, byte_at, short_at, word_at};
+pub use lookup::at;
 
 // No body: instead of a rank it says that nobody runs, or that there is no such task or ISR. It is what lies
 // past the bottom of the row of held resources.
@@ -148,7 +148,6 @@ fn take_matches(
     request: u32,
     losses: &mut [u16; 32],
 ) -> u32
-    requires { length matched.now ≡ max_entries }
     ensures { tally_with result losses.new
         ≡ requests_due begun matched.now ranks.now (tally_with request losses.old) }
 {
@@ -161,6 +160,7 @@ fn take_matches(
 
 // Takes the matches of the group of cells from `from` on. A mark that is set is found by the zeros below it, and not
 // by a branch for each mark, which the processor could not foresee.
+#[tactic(auto, using(crate::proofs::Marks::next_lt, crate::proofs::Marks::zeros_lt))]
 fn take_group(
     from: usize,
     matched: &[bool; 64],
@@ -169,7 +169,7 @@ fn take_group(
     request: u32,
     losses: &mut [u16; 32],
 ) -> u32
-    requires { (from + group ≤ max_entries) × (from + group ≤ length matched.now) }
+    requires { from + group ≤ max_entries }
     ensures { tally_with result losses.new
         ≡ requests_due begun (take group (drop from matched.now)) (drop from ranks.now)
         (tally_with request losses.old) }
@@ -263,9 +263,8 @@ pub fn fill(from: u8, count: u8, to: u16, row: &mut [u16; 64])
     ensures { row.new ≡ spread (λ _. to) (in_row count from) from row.old }
 {
     let until = row_end(from, count);
-    for e in from as usize..until {
-        row[e] = to;
-    }
+    let from = (from as usize).min(until);
+    row[from..until].fill(to);
 }
 
 // Where the `count` elements from `from` on end, or the row.

@@ -5,58 +5,45 @@ mod bodies;
 mod entries;
 mod resources;
 
-ghost use Rattle.std.specs.Prelude.{◌≡◌, min};
+ghost use Rattle.std.specs.Prelude.{◌≡◌, ℕ, ◌≤◌, ◌<◌, slice_index_or};
 ghost use Rattle.plan.specs.Plan.{plan_of};
 
-use config::{Config, EXTENDED, ISR, MAX_BODIES, MAX_RESOURCES, MAX_TABLES};
+use bodies::{Bodies, ByRank};
+use config::{Config, EXTENDED, ISR};
 use plan::Plan;
+use resources::ByResource;
 
 // The rank of whatever has none.
-pub const NO_RANK: u8 = 255;
+pub const NO_RANK: u8 = u8::MAX;
 
 // The flag of an autostart task.
 const AUTOSTART: u8 = 1;
-
-const MAX_PRIORITY: u16 = 200;
 
 // The plan of a configuration.
 pub fn plan_of(config: Config) -> Plan
     ensures { result ≡ plan_of config }
 {
-    let kind = config.kind;
-    let priority = config.priority;
-    let flags = config.autostart;
-    let masks = config.users;
-    let counts = config.entries;
-    let period = config.period;
-    let tasks = config.task;
-    let n = at_most(config.bodies as usize, MAX_BODIES);
-    let keys = bodies::keys(kind, priority, n);
-    let by = bodies::ranks(keys, n);
-    let kinds = bodies::by_kind(kind, by, n);
-    let ranked = bodies::by_rank(kind, priority, by, n);
-    let isrs = bodies::marked(kind, ISR, by, n);
-    let extended = bodies::marked(kind, EXTENDED, by, n);
-    let autostart = bodies::marked(flags, AUTOSTART, by, n);
-    let some = at_most(config.resources as usize, MAX_RESOURCES);
-    let resource = resources::by_resource(masks, some, priority, by, n);
-    let tables = at_most(config.tables as usize, MAX_TABLES);
-    let table = entries::by_table(counts, tables);
-    let count = table.count;
-    let compare = entries::compares(counts, period, count);
-    let callable = kinds.callable;
-    let entry = entries::entry_ranks(tasks, by, count);
-    let line = kinds.line;
-    let level = ranked.priority;
-    let body = ranked.body;
-    let ceiling = resource.ceiling;
-    let users = resource.users;
-    let first = table.first;
+    let bodies = Bodies::of(&config);
+    let ranked = bodies.by_rank();
+    let resources = bodies.by_resource(&config);
+    let tables = entries::by_table(&config);
+    let count = tables.count;
+    let callable = bodies.callable();
+    let line = bodies.line();
+    let isrs = bodies.marked(&config.kind, ISR);
+    let extended = bodies.marked(&config.kind, EXTENDED);
+    let autostart = bodies.marked(&config.autostart, AUTOSTART);
+    let compare = entries::compares(&config, count);
+    let entry = entries::entry_ranks(&config.task, &bodies.rank, count);
+    let rank = bodies.rank;
+    let ByRank { priority, body } = ranked;
+    let ByResource { ceiling, users } = resources;
+    let first = tables.first;
     Plan {
-        rank: by,
+        rank,
         callable,
         line,
-        priority: level,
+        priority,
         body,
         isrs,
         extended,
@@ -70,9 +57,16 @@ pub fn plan_of(config: Config) -> Plan
     }
 }
 
-// A count, but no more than the arrays hold.
-fn at_most(n: usize, most: usize) -> usize
-    ensures { result ≡ min n most }
+// The array with `f` of each index below `n`, and `rest` from there on.
+fn listed<T: Copy, const N: usize, F: Fn(usize) -> T>(n: usize, rest: T, f: F) -> [T; N]
+    requires fits { n ≤ N }
+    requires callable { (i : ℕ) → i < n → F.pre f i }
+    ensures below { (i : ℕ) (d : T) → i < n → F.post f i (slice_index_or result i d) }
+    ensures past { (i : ℕ) (d : T) → n ≤ i → i < N → slice_index_or result i d ≡ rest }
 {
-    if n < most { n } else { most }
+    let mut array = [rest; N];
+    for i in 0..n {
+        array[i] = f(i);
+    }
+    array
 }

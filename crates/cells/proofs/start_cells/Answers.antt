@@ -1,9 +1,9 @@
 -- `start_cells` meets its contract: what is left to do at entry e is what the definitions do from there on.
-use Rattle.std.proofs.Common.{Bool, ◌||◌, ◌+◌, true, get_or, sym, ap, ◌∙◌, arith}
+use Rattle.std.proofs.Common.{Bool, ◌||◌, ◌+◌, true, get_or, sym, ap, ◌∙◌}
 use Rattle.cell.specs.declared.Cell.{Cell}
 use Rattle.cell.specs.Cell.{long, start_cell}
 use Rattle.machine.specs.Cells.{switch_for}
-use Rattle.cells.proofs.Cells.{span, some_step, some_end, spread_step, spread_end}
+use Rattle.cells.proofs.Cells.{some_step, some_end, spread_step, spread_end}
 use Rattle.cells.proofs.start_cells.Goals as goal
 
 pub loop-e-preserved : goal.loop-e-preserved

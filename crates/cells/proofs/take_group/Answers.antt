@@ -1,35 +1,18 @@
 -- `take_group` meets its contract: the marks of the group that are not taken yet are `Left`, and a turn takes the
 -- next that is set.
-use Rattle.std.proofs.Common.{take, drop, sym, ◌∙◌, arith}
-use lib.Count.{trailing_le}
+use Rattle.std.proofs.Common.{◌≡◌, length, take, drop, sym, ◌∙◌, arith, rules}
+use Rattle.config.specs.Value.{max_entries}
 use Rattle.cells.specs.Methods.{tally_with, group}
-use Rattle.cells.proofs.Marks.{due_unmarked, left_start, zeros_lt, next_lt, left_step}
+use Rattle.cells.proofs.Marks.{due_unmarked, left_start, next_lt, left_step}
 use Rattle.cells.proofs.take_group.Goals as goal
 
-pub group_word-marks-requires : goal.group_word-marks-requires
-group_word-marks-requires c = c.requires.0
-
 pub loop-marks-init : goal.loop-marks-init
-loop-marks-init c = let a = c.args in (
-  take group (drop a.from a.matched.now),
-  left_start a.begun a.ranks.now a.from a.matched.now (tally_with a.request a.losses.now)
-      c.requires.1 c.group_word-marks.ensures,
-)
-
-pub overflow_cast-e : goal.overflow_cast-e
-overflow_cast-e c = omega (arith, trailing_le 64 c.loop-marks.marks)
-
-pub overflow_add-e : goal.overflow_add-e
-overflow_add-e c = omega (arith, next_lt c.loop-marks.invariant.1 c.loop-marks-test.true, c.requires.0)
-
-pub overflow_add-e-in-loop-marks : goal.overflow_add-e-in-loop-marks
-overflow_add-e-in-loop-marks c = omega (arith, next_lt c.loop-marks.invariant.1 c.loop-marks-test.true, c.requires.0)
-
-pub overflow_cast-marks : goal.overflow_cast-marks
-overflow_cast-marks c = omega (arith, trailing_le 64 c.loop-marks.marks)
-
-pub overflow_shr-marks : goal.overflow_shr-marks
-overflow_shr-marks c = zeros_lt c.loop-marks.invariant.1 c.loop-marks-test.true
+loop-marks-init c = let a = c.args in
+    let sized : length a.matched.now ≡ max_entries = search rules in (
+      take group (drop a.from a.matched.now),
+      left_start a.begun a.ranks.now a.from a.matched.now (tally_with a.request a.losses.now)
+          (omega (arith, c.requires)) c.group_word-marks.ensures,
+    )
 
 pub loop-marks-smaller : goal.loop-marks-smaller
 loop-marks-smaller c = omega (arith, next_lt c.loop-marks.invariant.1 c.loop-marks-test.true)

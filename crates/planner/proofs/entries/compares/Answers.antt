@@ -1,18 +1,10 @@
--- `compares` meets its contract: each turn stores one compare value more.
-use mathlib.Core.Path.{◌≡◌, refl}
-use native.Mathlib.Omega.{arith}
-use Rattle.plan.specs.Stores.{stored}
-use Rattle.plan.proofs.Stores.{stored_step}
+-- `compares` meets its contract: each element is what the closure gives.
+use Rattle.std.proofs.Common.{rules}
+use Rattle.plan.specs.Entry.{compare_of}
+use Rattle.planner.proofs.Filled.{listed_made}
 use Rattle.planner.proofs.entries.compares.Goals as goal
 
-pub loop-e-init : goal.loop-e-init
-unfolding stored
-loop-e-init c = (omega arith, refl)
-
-pub loop-e-preserved : goal.loop-e-preserved
-loop-e-preserved c = let value = rw c.table_of.ensures at c.compare.ensures in
-    (omega arith, stored_step _ _ _ _ c.loop-e.invariant.1 refl value)
-
 pub returns : goal.returns
-returns c = let h : c.loop-e.e ≡ c.args.count = omega arith in
-    rw h at c.loop-e.invariant.1
+returns c = let a = c.args in
+    listed_made (compare_of a.config.now) _ _ _ c.listed.result (search rules) (search rules)
+    (λ i d h. let e = c.listed.ensures.below i d h in search rules) c.listed.ensures.past

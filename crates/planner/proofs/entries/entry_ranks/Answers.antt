@@ -1,17 +1,10 @@
--- `entry_ranks` meets its contract: each turn stores one rank more.
-use mathlib.Core.Path.{◌≡◌, refl}
-use native.Mathlib.Omega.{arith}
-use Rattle.plan.specs.Stores.{stored}
-use Rattle.plan.proofs.Stores.{stored_step}
+-- `entry_ranks` meets its contract: each element is what the closure gives.
+use Rattle.std.proofs.Common.{get_or, rules}
+use Rattle.plan.specs.Rank.{no_rank}
+use Rattle.planner.proofs.Filled.{listed_made}
 use Rattle.planner.proofs.entries.entry_ranks.Goals as goal
 
-pub loop-e-init : goal.loop-e-init
-unfolding stored
-loop-e-init c = (omega arith, refl)
-
-pub loop-e-preserved : goal.loop-e-preserved
-loop-e-preserved c = (omega arith, stored_step _ _ _ _ c.loop-e.invariant.1 refl c.rank_of.ensures)
-
 pub returns : goal.returns
-returns c = let h : c.loop-e.e ≡ c.args.count = omega arith in
-    rw h at c.loop-e.invariant.1
+returns c = let a = c.args in
+    listed_made (λ e. get_or a.ranks.now (get_or a.task.now e 0) no_rank) _ _ _ c.listed.result (search rules) (search rules)
+    (λ i d h. let e = c.listed.ensures.below i d h in search rules) c.listed.ensures.past

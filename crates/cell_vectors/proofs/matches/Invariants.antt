@@ -1,6 +1,0 @@
--- `matches` counts at most one for each cell passed.
-use Rattle.std.proofs.Common.{◌≤◌}
-use Rattle.cell_vectors.proofs.matches.Given as goal
-
-abbrev pub invariant-loop-i : goal.invariant-loop-i
-invariant-loop-i l = l.count ≤ l.i
