@@ -146,94 +146,94 @@ module _ {c : Config} {p : Plan} {ts : List ℕ} where
 
     -- the event at the place was read, and the next one stands at next
     module _ {event : Event} {next : ℕ} (read : accepted event next ≡ read_event ts at) where
-        fine : (read_event ts at).refusal ≡ none
-        fine = sym (ap (λ (x : EventRead). x.refusal) read)
+      fine : (read_event ts at).refusal ≡ none
+      fine = sym (ap (λ (x : EventRead). x.refusal) read)
 
-        there : next ≡ (read_event ts at).place
-        there = ap (λ (x : EventRead). x.place) read
+      there : next ≡ (read_event ts at).place
+      there = ap (λ (x : EventRead). x.place) read
 
-        pub watching_later : at < next
-        watching_later = omega (arith, there, (event_reading ts at).after fine)
+      pub watching_later : at < next
+      watching_later = omega (arith, there, (event_reading ts at).after fine)
 
-        place_le : next ≤ length ts
-        place_le = omega (arith, there, (event_reading ts at).inside fine)
+      place_le : next ≤ length ts
+      place_le = omega (arith, there, (event_reading ts at).inside fine)
 
-        pub watching_inside : at < length ts
-        watching_inside = omega (arith, watching_later, place_le)
+      pub watching_inside : at < length ts
+      watching_inside = omega (arith, watching_later, place_le)
 
-        more : read_rest ts at ≡ before event (read_rest ts next)
-        more =
-            rest_step ts at fine
-            ∙ ap (λ (x : EventRead). before x.event (read_rest ts x.place)) (sym read)
+      more : read_rest ts at ≡ before event (read_rest ts next)
+      more =
+          rest_step ts at fine
+          ∙ ap (λ (x : EventRead). before x.event (read_rest ts x.place)) (sym read)
 
-        abbrev call : Plain.Event
-        call = call_of event
+      abbrev call : Plain.Event
+      call = call_of event
 
-        abbrev xs : List Cell
-        xs = take cells.bodies cells.cells
+      abbrev xs : List Cell
+      xs = take cells.bodies cells.cells
 
-        module _ (bodies : c.bodies ≤ 32) {o : Outcome} (stepped : o ≡ machine_step c p m call)
-            {k' : ℕ} {x' : Misses} (met : Counting call xs k x k' x') (cells' : DeadlineCells)
-            (moved : take cells.bodies cells'.cells
-            ≡ row_by (change_by p.body m call o) cells.ranks cells.deadlines cells.bodies cells.cells)
-            (same : cells'.bodies ≡ cells.bodies) (ranks : cells'.ranks ≡ cells.ranks)
-            (deadlines : cells'.deadlines ≡ cells.deadlines) where
-          abbrev rest : List Miss
-          rest = machine_row c p (deadlines_of c) k' o.model (take cells'.bodies cells'.cells) (calls_from ts next)
+      module _ (bodies : c.bodies ≤ 32) {o : Outcome} (stepped : o ≡ machine_step c p m call)
+          {k' : ℕ} {x' : Misses} (met : Counting call xs k x k' x') (cells' : DeadlineCells)
+          (moved : take cells.bodies cells'.cells
+          ≡ row_by (change_by p.body m call o) cells.ranks cells.deadlines cells.bodies cells.cells)
+          (same : cells'.bodies ≡ cells.bodies) (ranks : cells'.ranks ≡ cells.ranks)
+          (deadlines : cells'.deadlines ≡ cells.deadlines) where
+        abbrev rest : List Miss
+        rest = machine_row c p (deadlines_of c) k' o.model (take cells'.bodies cells'.cells) (calls_from ts next)
 
-          row : take cells'.bodies cells'.cells ≡ step_row_by p (deadlines_of c) m call o 0 xs
-          row =
-              ap (λ (n : ℕ). take n cells'.cells) same
-              ∙ moved
-              ∙ ap (λ (rs : List ℕ). row_by (change_by p.body m call o) rs cells.deadlines cells.bodies cells.cells) g.ranks
-              ∙ ap (λ (l : List ℕ). row_by (change_by p.body m call o) p.rank l cells.bodies cells.cells) g.deadlines
-              ∙ row_by_words p (deadlines_of c) m call o cells.cells cells.bodies (omega (arith, bodies, g.bodies)) g.wide
+        row : take cells'.bodies cells'.cells ≡ step_row_by p (deadlines_of c) m call o 0 xs
+        row =
+            ap (λ (n : ℕ). take n cells'.cells) same
+            ∙ moved
+            ∙ ap (λ (rs : List ℕ). row_by (change_by p.body m call o) rs cells.deadlines cells.bodies cells.cells) g.ranks
+            ∙ ap (λ (l : List ℕ). row_by (change_by p.body m call o) p.rank l cells.bodies cells.cells) g.deadlines
+            ∙ row_by_words p (deadlines_of c) m call o cells.cells cells.bodies (omega (arith, bodies, g.bodies)) g.wide
 
-          split : machine_row c p (deadlines_of c) k m xs (calls_from ts at) ≡ here call k xs ++ rest
-          unfolding machine_row
-          split =
-              let es = calls_from ts next in
-              ap (λ (t : TraceRead). machine_row c p (deadlines_of c) k m xs (map call_of t.events)) more
-              ∙ ap (λ (y : Outcome). here call k xs ++ machine_row c p (deadlines_of c) (cond (is_tick call) (suc k) k) y.model
-              (step_row_by p (deadlines_of c) m call y 0 xs) es) (sym stepped)
-              ∙ ap (λ (i : ℕ). here call k xs ++ machine_row c p (deadlines_of c) i o.model (step_row_by p (deadlines_of c) m call o 0 xs) es)
-              (sym met.ticks)
-              ∙ ap (λ (l : List Cell). here call k xs ++ machine_row c p (deadlines_of c) k' o.model l es) (sym row)
+        split : machine_row c p (deadlines_of c) k m xs (calls_from ts at) ≡ here call k xs ++ rest
+        unfolding machine_row
+        split =
+            let es = calls_from ts next in
+            ap (λ (t : TraceRead). machine_row c p (deadlines_of c) k m xs (map call_of t.events)) more
+            ∙ ap (λ (y : Outcome). here call k xs ++ machine_row c p (deadlines_of c) (cond (is_tick call) (suc k) k) y.model
+            (step_row_by p (deadlines_of c) m call y 0 xs) es) (sym stepped)
+            ∙ ap (λ (i : ℕ). here call k xs ++ machine_row c p (deadlines_of c) i o.model (step_row_by p (deadlines_of c) m call o 0 xs) es)
+            (sym met.ticks)
+            ∙ ap (λ (l : List Cell). here call k xs ++ machine_row c p (deadlines_of c) k' o.model l es) (sym row)
 
-          few_by : (t : Bool) → k' ≡ cond t (suc k) k
-              → (k' ≤ next) × (length g.so_far + length (cond t (matches_of (suc k) 0 xs) []) ≤ 32 * k')
-          few_by true e = (
-            omega (arith, e, g.few_ticks, watching_later),
-            omega (
-              arith,
-              e,
-              g.few,
-              g.bodies,
-              bodies,
-              matches_few (suc k) 0 xs,
-              length-take cells.bodies cells.cells,
-            ),
-          )
-          few_by false e = (omega (arith, e, g.few_ticks, watching_later), omega (arith, e, g.few))
+        few_by : (t : Bool) → k' ≡ cond t (suc k) k
+            → (k' ≤ next) × (length g.so_far + length (cond t (matches_of (suc k) 0 xs) []) ≤ 32 * k')
+        few_by true e = (
+          omega (arith, e, g.few_ticks, watching_later),
+          omega (
+            arith,
+            e,
+            g.few,
+            g.bodies,
+            bodies,
+            matches_few (suc k) 0 xs,
+            length-take cells.bodies cells.cells,
+          ),
+        )
+        few_by false e = (omega (arith, e, g.few_ticks, watching_later), omega (arith, e, g.few))
 
-          few_both : (k' ≤ next) × (length g.so_far + length (here call k xs) ≤ 32 * k')
-          few_both = few_by (is_tick call) met.ticks
+        few_both : (k' ≤ next) × (length g.so_far + length (here call k xs) ≤ 32 * k')
+        few_both = few_by (is_tick call) met.ticks
 
-          pub watching_step : Watching c p ts o.model cells' x' k' next
-          watching_step =
-              record {
-                readable = sym (ap (λ (t : TraceRead). t.refusal) more) ∙ g.readable;
-                at_le = place_le;
-                few_ticks = few_both.0;
-                bodies = same ∙ g.bodies;
-                ranks = ranks ∙ g.ranks;
-                deadlines = deadlines ∙ g.deadlines;
-                wide = rw same (row_wide _ cells.bodies cells'.cells moved);
-                so_far = g.so_far ++ here call k xs;
-                noted = met.notes g.so_far g.noted;
-                few = omega (arith, few_both.1, length-append g.so_far (here call k xs));
-                told =
-                    append_assoc g.so_far (here call k xs) rest
-                    ∙ sym (ap (λ (l : List Miss). g.so_far ++ l) split)
-                    ∙ g.told;
-              }
+        pub watching_step : Watching c p ts o.model cells' x' k' next
+        watching_step =
+            record {
+              readable = sym (ap (λ (t : TraceRead). t.refusal) more) ∙ g.readable;
+              at_le = place_le;
+              few_ticks = few_both.0;
+              bodies = same ∙ g.bodies;
+              ranks = ranks ∙ g.ranks;
+              deadlines = deadlines ∙ g.deadlines;
+              wide = rw same (row_wide _ cells.bodies cells'.cells moved);
+              so_far = g.so_far ++ here call k xs;
+              noted = met.notes g.so_far g.noted;
+              few = omega (arith, few_both.1, length-append g.so_far (here call k xs));
+              told =
+                  append_assoc g.so_far (here call k xs) rest
+                  ∙ sym (ap (λ (l : List Miss). g.so_far ++ l) split)
+                  ∙ g.told;
+            }

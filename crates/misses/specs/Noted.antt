@@ -4,7 +4,7 @@
 --   Noted x ms        x counts the misses ms and lists the first of them
 --   NotesMore x y ms  y has the misses ms noted behind those of x
 --   ForNoted x P      P holds of the misses that were noted
---   noted n ms d      the bytes d after the misses ms, noted one by one after n others; list_room: the bytes that hold them
+--   noted n ms d      the bytes d after the misses ms, noted one by one after n others; list_room: how many bytes
 --
 -- Main laws: `noted_listed`, `noted_counted` (proofs/Noted.antt); `noted_first` (proofs/Laid.antt).
 use Rattle.std.specs.Prelude.{ℕ, suc, ◌*◌, cond, ltb, ◌≡◌, List, [], ◌∷◌, ◌++◌, length, map, take}

@@ -1,5 +1,5 @@
 -- `missed` meets its contract: the run is refused exactly as the call is, or what the machine tells is the answer.
-use Rattle.std.proofs.Common.{ap, ◌∙◌, arith, rules}
+use Rattle.std.proofs.Common.{ap, ◌∙◌, arith}
 use Rattle.std.proofs.lemmas.Result.{err_from_is_err_and}
 use Rattle.number.proofs.Answers.{code_some}
 use Rattle.config.specs.Reader.{ConfigRead}

@@ -1,7 +1,6 @@
 -- `chained_body` meets its contract: its tests are the definition's.
 use Rattle.std.proofs.Common.{◌≡◌, ℕ, Bool, true, false, ◌&&◌, cond, Some, None, refl, sym, rules}
 use borrow.Author.Tests.{ne_eqb}
-use Rattle.model.specs.declared.Status.{Status}
 use Rattle.model.specs.declared.Status.TheVariants.{Done}
 use Rattle.model.specs.View.{status_number}
 use Rattle.model.proofs.Views.{status_number_injective}
