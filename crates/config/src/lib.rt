@@ -1,7 +1,10 @@
-// A configuration as a value, and as far as its numbers have come; its kinds. What its bytes
-// are, read and written, is defined in specs/; no code runs here.
+// A configuration as a value, and as far as its numbers have come; its kinds. What its bytes are, read and written, is
+// defined in specs/; no code runs here.
 #![tactic(auto)]
 
+// Kinds are numbers, and a configuration has its rows as arrays, since `write_config` is given any value and refuses
+// kinds that are none (config_vectors), and the definitions of specs/ speak of these fields.
+//
 // An ISR's kind; whatever is no ISR is a task.
 pub const ISR: u8 = 1;
 // An extended task's kind.

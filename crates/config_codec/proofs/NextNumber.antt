@@ -17,7 +17,7 @@ use Rattle.config.specs.declared.Field.{Field}
 use Rattle.config.specs.declared.Field.TheVariants.{Version, Bodies, Kind, Priority, Autostart, Deadline, Resources, Users, Tables, Period, Entries, Offset, Task, End}
 use Rattle.config.specs.Draft.{put, put_at, asked, asked_at, ended, silent_at, Inside, Within}
 use Rattle.config_codec.specs.declared.position.Position.{Position}
-use Rattle.config_codec.specs.Position.{draft_at, position_of, Follows}
+use Rattle.config_codec.specs.Position.{draft_at, position_of}
 
 -- the element that a number goes to lies inside its array
 abbrev pub Placed : Field → Position → Type 0
@@ -100,10 +100,10 @@ module _ (c : Config) (p : Position) (v : ℕ) where
   same_at End = refl
 
   pub onward : (c' : Config) (q : Position) → c' ≡ (put (draft_at c p) v).config
-      → Follows p v c'.bodies c'.resources c'.tables q → draft_at c' q ≡ put (draft_at c p) v
+      → q ≡ position_of (put (draft_at c' p) v) → draft_at c' q ≡ put (draft_at c p) v
   onward c' q e f =
       let is : q ≡ position_of (put (draft_at c p) v) =
-      f c' refl refl refl ∙ ap (λ (g : Config). position_of (put (draft_at g p) v)) e ∙ same_at p.field in
+      f ∙ ap (λ (g : Config). position_of (put (draft_at g p) v)) e ∙ same_at p.field in
       ap (λ (g : Config). draft_at g q) e ∙ ap (draft_at (put (draft_at c p) v).config) is
 
 -- the count that says whether another row follows is the value's, and so is the version that says which numbers do

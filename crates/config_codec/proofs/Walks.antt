@@ -1,22 +1,42 @@
--- The walk over a value's numbers (`Walks`), which both passes of the writer make: the first adds their lengths up, the
--- second writes them.
+-- One step of the walk, whatever gives the numbers; and the walk over a value's numbers (`Walks`), which the writer's
+-- second pass makes.
 use Prim.Native.Nat.{ℕ, zero, suc, ◌+◌, ◌*◌, ◌-◌, ◌≤◌}
 use mathlib.Core.Path.{◌≡◌, refl, sym, ap, ◌∙◌}
 use mathlib.Core.Bool.{Bool, true, false}
 use mathlib.Core.List.{List, [], ◌++◌, append_assoc, append-nil}
 use native.Mathlib.Omega.{arith}
+use borrow.Author.Tests.{eq-eqb, ne_eqb}
 use lib.ListN.{length, length-append}
 use Rattle.number.specs.Refusal.{none}
+use Rattle.number.specs.Number.{NumberRead}
 use Rattle.number.proofs.Cases.{by_eq}
 use Rattle.number.proofs.Theorems.{length_number_bytes}
 use Rattle.config.specs.declared.Config.{Config}
 use Rattle.config.specs.declared.Draft.{Draft}
 use Rattle.config.specs.Draft.{Within, fault, put, asked, ended, start}
-use Rattle.config.specs.Reader.{max_numbers}
+use Rattle.config.specs.Reader.{accepted, refused, number_fault, fault_place, max_numbers}
 use Rattle.config.specs.Writer.{bytes_at, fault_from, first_fault, bytes_from, config_bytes}
 use Rattle.config.proofs.Position.{left, start_within, moved, some_left}
 use Rattle.config.proofs.Walk.{length_bytes_at, fault_end, fault_step, fault_stop}
-use Rattle.config_codec.specs.Walk.{shown}
+use Rattle.config_codec.specs.Walk.{walk_from, shown}
+
+-- one step of the walk
+module _ (source : Draft → ℕ → NumberRead) where
+  pub walk_end : (k at : ℕ) (d : Draft) → ended d.field ≡ true → walk_from source k at d ≡ accepted d.config at
+  unfolding walk_from
+  walk_end zero at d e = refl
+  walk_end (suc k) at d e = rw e
+
+  module _ (k at : ℕ) (d : Draft) (r : NumberRead) (is : source d at ≡ r) (e : ended d.field ≡ false) where
+    pub walk_step : number_fault d r ≡ none
+        → walk_from source (suc k) at d ≡ walk_from source k r.place (put d r.value)
+    unfolding walk_from
+    walk_step f = rw (e, is, eq-eqb (number_fault d r) none f)
+
+    pub walk_stop : (number_fault d r ≡ none → ⊥)
+        → walk_from source (suc k) at d ≡ refused (number_fault d r) (fault_place at r)
+    unfolding walk_from
+    walk_stop n = rw (e, is, ne_eqb (number_fault d r) none n)
 
 -- a number takes at most five bytes
 pub length_shown : (q : Bool) (v : ℕ) → length (shown q v) ≤ 5
@@ -45,12 +65,12 @@ walks_start c =
 
 -- one step of the bytes
 module _ (c : Config) (d : Draft) where
-  bytes_end : (k : ℕ) → ended d.field ≡ true → bytes_from k c d ≡ []
+  pub bytes_end : (k : ℕ) → ended d.field ≡ true → bytes_from k c d ≡ []
   unfolding bytes_from
   bytes_end zero e = refl
   bytes_end (suc k) e = rw e
 
-  bytes_next : (k : ℕ) → ended d.field ≡ false
+  pub bytes_next : (k : ℕ) → ended d.field ≡ false
       → bytes_from (suc k) c d ≡ bytes_at d (asked c d) ++ bytes_from k c (put d (asked c d))
   unfolding bytes_from
   bytes_next k e = rw e

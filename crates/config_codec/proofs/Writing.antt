@@ -18,7 +18,7 @@ use Rattle.config.specs.Reader.{max_numbers}
 use Rattle.config.specs.Writer.{bytes_at, first_fault, config_bytes}
 use Rattle.config.proofs.Position.{left, left_same, moved}
 use Rattle.config_codec.specs.declared.position.Position.{Position}
-use Rattle.config_codec.specs.Position.{draft_at, position_of, Stands, Follows}
+use Rattle.config_codec.specs.Position.{draft_at, position_of, Stands}
 use Rattle.config_codec.specs.Walk.{shown}
 use Rattle.config_codec.proofs.NextNumber.{asked_same, Counted, counted_at, follows_at, silent_at_lem}
 use Rattle.config_codec.proofs.Walks.{Walks, walks_start, walks_end, walks_faultless, walks_next, walks_few, walks_room}
@@ -115,9 +115,9 @@ module _ {c : Config} {before : List ℕ} {p : Position} {at : ℕ} {out : List 
         (ap (λ (p : ℕ). laid p (shown q v) (laid 0 o.bytes before)) (sym (zero-add (length o.bytes)))
         ∙ laid_laid 0 o.bytes (shown q v) before (omega (arith, fits_all, o.room))))
 
-    module _ {p' : Position} (f : Follows p v c.bodies c.resources c.tables p') where
+    module _ {p' : Position} (f : p' ≡ position_of (put (draft_at c p) v)) where
       next_here : p' ≡ position_of (put o.draft v)
-      next_here = f c refl refl refl ∙ ap (λ (x : Position). position_of (put (draft_at c x) v)) o.here
+      next_here = f ∙ ap (λ (x : Position). position_of (put (draft_at c x) v)) o.here
           ∙ follows_at c o.draft v o.draft.field o.counted
 
       pub writes_fewer : left (draft_at c p') < left (draft_at c p)

@@ -3,3 +3,4 @@ pub mod Position
 pub mod Entry
 pub mod Fault
 pub mod Walk
+pub mod Near

@@ -1,14 +1,13 @@
 -- A draft as the code has it: the configuration as far as its numbers have come, and the position beside it.
 --
---   draft_at c p      the draft
---   position_of d     the position of one
---   Stands p          some draft is there, inside its arrays
---   Follows p v .. q  q is the position after the number v at p, whatever the configuration with these counts
-use Rattle.std.specs.Prelude.{ℕ, ◌≡◌}
+--   draft_at c p   the draft
+--   position_of d  the position of one
+--   Stands p       some draft is there, inside its arrays
+use Rattle.std.specs.Prelude.{ℕ}
 use Rattle.config.specs.declared.Config.{Config}
 use Rattle.config.specs.declared.Draft.{Draft}
 use Rattle.config.specs.declared.Field.{Field}
-use Rattle.config.specs.Draft.{Within, put}
+use Rattle.config.specs.Draft.{Within}
 use Rattle.config_codec.specs.declared.position.Position.{Position}
 
 abbrev pub draft_at : Config → Position → Draft
@@ -24,7 +23,3 @@ row_at p f i = record { field = f; index = i; entry = p.entry; until = p.until }
 pub record Stands (p : Position) : Type 0 where
   pub config : Config
   pub within : Within (draft_at config p)
-
-abbrev pub Follows : Position → ℕ → ℕ → ℕ → ℕ → Position → Type 0
-Follows p v b n t q =
-    (c : Config) → c.bodies ≡ b → c.resources ≡ n → c.tables ≡ t → q ≡ position_of (put (draft_at c p) v)

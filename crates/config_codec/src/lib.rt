@@ -1,11 +1,11 @@
 // A configuration as bytes: read, written, and refused by document 01's rules.
 #![tactic(auto)]
 
-mod among;
+mod bodies;
 mod entry;
 mod limits;
+mod numbers;
 mod position;
-mod users;
 mod value;
 mod walk;
 mod writer;
@@ -16,6 +16,7 @@ ghost use Rattle.config.specs.Value.{no_config};
 ghost use Rattle.config.specs.Reader.{as_config_read, read_config};
 ghost use Rattle.config.specs.Writer.{write_config, wrote_config};
 
+use crate::numbers::Input;
 use config::Config;
 use number::{Reading, Refusal, Refused};
 
@@ -31,7 +32,7 @@ pub fn read_config(bytes: &[u8]) -> Result<Reading<Config>, Refused>
             place: 0,
         });
     }
-    let r = walk::walk(false, no_config(), bytes)?;
+    let r = walk::walk(&Input { bytes })?;
     if r.place != bytes.len() {
         return Err(Refused {
             refusal: Refusal::LeftOver,
@@ -47,7 +48,7 @@ pub fn write_config(config: Config, out: &mut [u8]) -> Result<usize, Refused>
     ensures output { out.new ≡ wrote_config config out.old }
 {
     // A value's refusal has the place 0.
-    let n = match walk::walk(true, config, b"") {
+    let n = match walk::walk(&config) {
         Ok(measured) => measured.place,
         Err(refused) => {
             return Err(Refused {

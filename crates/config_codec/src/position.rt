@@ -1,10 +1,10 @@
 // Where in a configuration's numbers a walk is: which number comes next, and which follows it.
 ghost use Rattle.std.specs.Prelude.{◌≡◌, ◌+◌, ◌≤◌, ◌<◌, cond, eqb};
-ghost use Rattle.config.specs.Draft.{ended, silent_at, or_on, start};
-ghost use Rattle.config_codec.specs.Position.{position_of, row_at, Stands, Follows};
+ghost use Rattle.config.specs.Draft.{ended, put, silent_at, or_on, start};
+ghost use Rattle.config_codec.specs.Position.{draft_at, position_of, row_at, Stands};
 
 use crate::limits::has_deadlines;
-use config::Field;
+use config::{Config, Field};
 
 // `index` is the body, resource or table that is next, `entry` the entry, and `until` the entry after the last one of
 // its table.
@@ -16,118 +16,99 @@ pub struct Position {
     pub until: usize,
 }
 
-// Before the first number.
-pub fn first() -> Position
-    ensures { result ≡ position_of start }
-{
-    Position {
-        field: Field::Version,
-        index: 0,
-        entry: 0,
-        until: 0,
+impl Position {
+    // Before the first number.
+    pub fn first() -> Position
+        ensures { result ≡ position_of start }
+    {
+        Position {
+            field: Field::Version,
+            index: 0,
+            entry: 0,
+            until: 0,
+        }
     }
-}
 
-// Whether no number is left.
-pub fn ended(p: Position) -> bool
-    ensures { result ≡ ended p.field }
-{
-    let f = p.field;
-    if let Field::End = f { true } else { false }
-}
-
-// Whether the number stands in no byte, and is 0: a deadline, in a version that has none.
-pub fn silent(p: Position, version: u8) -> bool
-    ensures { result ≡ silent_at p.field version }
-{
-    let f = p.field;
-    if let Field::Deadline = f {
-        !has_deadlines(version)
-    } else {
-        false
+    // Whether no number is left.
+    pub fn ended(self) -> bool
+        ensures { result ≡ ended self.field }
+    {
+        matches!(self.field, Field::End)
     }
-}
 
-// At another number of row `i`.
-fn row(p: Position, f: Field, i: usize) -> Position
-    ensures { result ≡ row_at p f i }
-{
-    Position {
-        field: f,
-        index: i,
-        entry: p.entry,
-        until: p.until,
+    // Whether the number stands in no byte, and is 0: a deadline, in a version that has none.
+    pub fn silent(self, version: u8) -> bool
+        ensures { result ≡ silent_at self.field version }
+    {
+        matches!(self.field, Field::Deadline) && !has_deadlines(version)
     }
-}
 
-// At row `i` of `n`, or on where there is none.
-fn row_of(p: Position, i: usize, n: usize, again: Field, on: Field) -> Position
-    ensures { result ≡ row_at p (or_on i n again on) i }
-{
-    if i == n {
-        row(p, on, i)
-    } else {
-        row(p, again, i)
+    // At another number of row `index`.
+    fn row(self, field: Field, index: usize) -> Position
+        ensures { result ≡ row_at self field index }
+    {
+        Position {
+            field,
+            index,
+            ..self
+        }
     }
-}
 
-// At the entries of a table, `n` of them.
-fn entries_of(p: Position, n: usize) -> Position
-    requires { (p.entry ≤ 64) × (n < 4294967296) }
-    ensures { result ≡ record { field = Field.Offset; index = p.index; entry = p.entry; until = p.entry + n } }
-{
-    Position {
-        field: Field::Offset,
-        index: p.index,
-        entry: p.entry,
-        until: p.entry + n,
+    // At row `i` of `n`, or on where there is none.
+    fn row_of(self, i: usize, n: u32, again: Field, on: Field) -> Position
+        ensures { result ≡ row_at self (or_on i n again on) i }
+    {
+        self.row(if i == n as usize { on } else { again }, i)
     }
-}
 
-// After an entry: at the next one of its table, or at the next table of `n`.
-fn after_entry(p: Position, n: usize) -> Position
-    requires { (p.index < 8) × (p.entry < 64) }
-    ensures { result ≡ record {
-      field = or_on (p.entry + 1) p.until Field.Offset (or_on (p.index + 1) n Field.Period Field.End);
-      index = cond (eqb (p.entry + 1) p.until) (p.index + 1) p.index;
-      entry = p.entry + 1;
-      until = p.until;
-    } }
-{
-    let q = Position {
-        field: Field::Offset,
-        index: p.index,
-        entry: p.entry + 1,
-        until: p.until,
-    };
-    if q.entry == q.until {
-        row_of(q, q.index + 1, n, Field::Period, Field::End)
-    } else {
-        q
+    // After an entry: at the next one of its table, or at the next table of `n`.
+    fn after_entry(self, n: u32) -> Position
+        requires { (self.index < 8) × (self.entry < 64) }
+        ensures { result ≡ record {
+          field = or_on (self.entry + 1) self.until Field.Offset (or_on (self.index + 1) n Field.Period Field.End);
+          index = cond (eqb (self.entry + 1) self.until) (self.index + 1) self.index;
+          entry = self.entry + 1;
+          until = self.until;
+        } }
+    {
+        let next = Position {
+            field: Field::Offset,
+            entry: self.entry + 1,
+            ..self
+        };
+        if next.entry == next.until {
+            next.row_of(next.index + 1, n, Field::Period, Field::End)
+        } else {
+            next
+        }
     }
-}
 
-// The number after `v`, where the counts that come before are those given.
-pub fn next(p: Position, v: u32, bodies: u8, resources: u8, tables: u8) -> Position
-    requires { Stands p }
-    ensures { Follows p v bodies resources tables result }
-{
-    let i = p.index;
-    let f = p.field;
-    match f {
-        Field::Version => row(p, Field::Bodies, i),
-        Field::Bodies => row(p, Field::Kind, 0),
-        Field::Kind => row(p, Field::Priority, i),
-        Field::Priority => row(p, Field::Autostart, i),
-        Field::Autostart => row(p, Field::Deadline, i),
-        Field::Deadline => row_of(p, i + 1, bodies as usize, Field::Kind, Field::Resources),
-        Field::Resources => row_of(p, 0, v as usize, Field::Users, Field::Tables),
-        Field::Users => row_of(p, i + 1, resources as usize, Field::Users, Field::Tables),
-        Field::Tables => row_of(p, 0, v as usize, Field::Period, Field::End),
-        Field::Period => row(p, Field::Entries, i),
-        Field::Entries => entries_of(p, v as usize),
-        Field::Offset => row(p, Field::Task, i),
-        Field::Task => after_entry(p, tables as usize),
-        Field::End => row(p, Field::End, i),
+    #[tactic(auto, unfolding(config::specs::Draft::put_at))]
+    // The number after `v`, where `c` has the counts that come before.
+    pub fn next(self, v: u32, c: &Config) -> Position
+        requires { Stands self }
+        ensures { result ≡ position_of (put (draft_at c.now self) v) }
+    {
+        let i = self.index;
+        match self.field {
+            Field::Version => self.row(Field::Bodies, i),
+            Field::Bodies => self.row(Field::Kind, 0),
+            Field::Kind => self.row(Field::Priority, i),
+            Field::Priority => self.row(Field::Autostart, i),
+            Field::Autostart => self.row(Field::Deadline, i),
+            Field::Deadline => self.row_of(i + 1, c.bodies.into(), Field::Kind, Field::Resources),
+            Field::Resources => self.row_of(0, v, Field::Users, Field::Tables),
+            Field::Users => self.row_of(i + 1, c.resources.into(), Field::Users, Field::Tables),
+            Field::Tables => self.row_of(0, v, Field::Period, Field::End),
+            Field::Period => self.row(Field::Entries, i),
+            Field::Entries => Position {
+                field: Field::Offset,
+                until: self.entry + v as usize,
+                ..self
+            },
+            Field::Offset => self.row(Field::Task, i),
+            Field::Task => self.after_entry(c.tables.into()),
+            Field::End => self,
+        }
     }
 }

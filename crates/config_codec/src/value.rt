@@ -4,20 +4,20 @@ ghost use Rattle.config.specs.Draft.{asked, fault, put, Within};
 ghost use Rattle.config_codec.specs.Fault.{fault_code};
 ghost use Rattle.config_codec.specs.Position.{draft_at, Stands};
 
+use crate::bodies::Bodies;
 use crate::entry::{check_entry, entry_at};
 use crate::limits::{
-    LAST_KIND, NEWEST_VERSION, check_entries, check_offset, check_priority, most_autostart,
-    most_deadline, within,
+    LAST_KIND, NEWEST_VERSION, check_entries, check_offset, check_priority, check_users,
+    most_autostart, most_deadline, within,
 };
 use crate::position::Position;
-use crate::users::check_users;
 use config::{Config, Field, MAX_BODIES, MAX_RESOURCES, MAX_TABLES};
 use number::Refusal;
 
 // The number of `c` at `p`.
-pub fn asked(c: Config, p: Position) -> u32
+pub fn asked(c: &Config, p: Position) -> u32
     requires { Stands p }
-    ensures { result ≡ asked c (draft_at c p) }
+    ensures { result ≡ asked c.now (draft_at c.now p) }
 {
     let i = p.index;
     let e = p.entry;
@@ -40,6 +40,7 @@ pub fn asked(c: Config, p: Position) -> u32
 }
 
 // Tests the number `v` at `p` by those before it, and puts it in its place.
+#[inline(always)]
 pub fn put(c: &mut Config, p: Position, v: u32) -> Result<(), Refusal>
     requires { Within (draft_at c.old p) }
     ensures refusal { fault_code result ≡ fault (draft_at c.old p) v }
@@ -61,7 +62,7 @@ pub fn put(c: &mut Config, p: Position, v: u32) -> Result<(), Refusal>
             c.kind[i] = v as u8;
         }
         Field::Priority => {
-            check_priority(v, i, c.priority)?;
+            check_priority(v, i, &c.priority)?;
             c.priority[i] = v as u8;
         }
         Field::Autostart => {
@@ -77,7 +78,11 @@ pub fn put(c: &mut Config, p: Position, v: u32) -> Result<(), Refusal>
             c.resources = v as u8;
         }
         Field::Users => {
-            check_users(v, c.bodies, c.kind)?;
+            let bodies = Bodies {
+                count: c.bodies,
+                kind: c.kind,
+            };
+            check_users(v, bodies)?;
             c.users[i] = v;
         }
         Field::Tables => {
@@ -97,8 +102,12 @@ pub fn put(c: &mut Config, p: Position, v: u32) -> Result<(), Refusal>
             c.offset[e] = v as u16;
         }
         Field::Task => {
-            let x = entry_at(v, p, &c.entries, &c.offset, &c.task);
-            check_entry(x, c.bodies, &c.kind, &c.task)?;
+            let x = entry_at(c, p, v);
+            let bodies = Bodies {
+                count: c.bodies,
+                kind: c.kind,
+            };
+            check_entry(x, bodies, &c.task)?;
             c.task[e] = v as u8;
         }
         Field::End => {}

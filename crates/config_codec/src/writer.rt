@@ -5,7 +5,7 @@ ghost use Rattle.number.specs.Output.{written};
 ghost use Rattle.config.specs.Writer.{first_fault, config_bytes};
 ghost use Rattle.config_codec.specs.Walk.{shown};
 
-use crate::position::{ended, first, next, silent};
+use crate::position::Position;
 use crate::value::asked;
 use config::Config;
 use number_codec::write_number;
@@ -27,11 +27,11 @@ pub fn write_numbers(c: Config, out: &mut [u8])
     requires { (first_fault c ≡ none) × (length (config_bytes c) ≤ length out.old) }
     ensures { out.new ≡ written (config_bytes c) out.old }
 {
-    let mut p = first();
+    let mut p = Position::first();
     let mut at = 0;
-    while !ended(p) {
-        let v = asked(c, p);
-        at += write_at(silent(p, c.version), v, &mut out[at..]);
-        p = next(p, v, c.bodies, c.resources, c.tables);
+    while !p.ended() {
+        let v = asked(&c, p);
+        at += write_at(p.silent(c.version), v, &mut out[at..]);
+        p = p.next(v, &c);
     }
 }

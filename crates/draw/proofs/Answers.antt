@@ -3,8 +3,10 @@
 -- In order: a trace that is too long, or does not fit, or is written; 50 and 51; what every answer satisfies.
 use Prim.Native.Nat.{ℕ, ◌≤◌, ◌<◌}
 use mathlib.Core.Path.{◌≡◌, refl, sym, ap, ◌∙◌}
+use Rattle.std.specs.List.{list_any}
+use Rattle.std.proofs.Math.Bool.{or_assoc, or-false}
 use mathlib.Core.Bool.{true, false, ◌||◌}
-use mathlib.Core.List.{List}
+use mathlib.Core.List.{List, [], ◌∷◌}
 use native.Mathlib.Omega.{arith}
 use borrow.Author.Tests.{le-leb, lt-leb, eq-eqb, ne_eqb, eqb-false}
 use lib.Dec.{eqb, lit≤}
@@ -83,6 +85,16 @@ module _ (x : ℕ) (ws ls : List ℕ) (n : ℕ) (d : List ℕ) (r : Written) whe
 
 positive : (n : ℕ) → eqb n 0 ≡ false → 1 ≤ n
 positive n e = let h = eqb-false n 0 e in omega arith
+
+-- the search for a 0 among four limits
+pub zero_among : (ls : List ℕ) → length ls ≡ 4 → list_any (λ y. eqb y 0) ls ≡ zero_limit ls
+unfolding zero_limit
+zero_among (a ∷ b ∷ c ∷ d ∷ []) n = simp (or_assoc, or-false)
+zero_among [] n = absurd (omega (arith, n))
+zero_among (a ∷ []) n = absurd (omega (arith, n))
+zero_among (a ∷ b ∷ []) n = absurd (omega (arith, n))
+zero_among (a ∷ b ∷ c ∷ []) n = absurd (omega (arith, n))
+zero_among (a ∷ b ∷ c ∷ d ∷ e ∷ l) n = absurd (omega (arith, n))
 
 pub limited : (ls : List ℕ) → zero_limit ls ≡ false → Limited ls
 unfolding zero_limit

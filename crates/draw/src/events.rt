@@ -1,6 +1,6 @@
 // One drawn event: its code, then its arguments, each one more value of the generator.
 ghost use Rattle.std.specs.Prelude.{◌≡◌, ◌≤◌};
-ghost use Rattle.drawing.specs.Drawing.{Limited, first_sort, second_sort, draw_below, draw_whole, draw_argument, with_arguments, draw_event};
+ghost use Rattle.drawing.specs.Drawing.{first_sort, second_sort, draw_below, draw_whole, draw_argument, with_arguments, draw_event};
 ghost use Rattle.draw.specs.Drawable.{Drawable};
 
 use crate::generator::next;
@@ -8,48 +8,54 @@ use crate::weights::pick;
 use drawing::{Argument, Drawn, Sort};
 use event::Event;
 
-// The event drawn after `value`; `sum` is that of the weights.
-pub fn draw_event(weights: &[u16; 12], sum: u32, limits: &[u16; 4], value: u32) -> Drawn
-    requires { Drawable weights.now sum limits.now }
-    ensures { result ≡ draw_event weights.now limits.now value }
-{
-    let picking = next(value);
-    let code = pick(weights, picking % sum);
-    draw_arguments(code, limits, picking)
+// What is drawn by: the weights and their sum, and the limits.
+#[derive(Clone, Copy)]
+pub struct Chances {
+    pub weights: [u16; 12],
+    pub limits: [u16; 4],
+    pub sum: u32,
+    ghost drawable: { Drawable weights sum limits },
 }
 
-// The event of a code, with its arguments drawn after `value`.
-fn draw_arguments(code: u8, limits: &[u16; 4], value: u32) -> Drawn
-    requires { Limited limits.now }
-    ensures { result ≡ with_arguments limits.now code value }
-{
-    let first = draw_argument(first_sort(code), limits, value);
-    let second = draw_argument(second_sort(code), limits, first.value);
-    Drawn {
-        event: Event {
-            code: code,
-            first: first.number,
-            second: second.number,
-        },
-        value: second.value,
+impl Chances {
+    // The event drawn after `value`.
+    pub fn draw_event(&self, value: u32) -> Drawn
+        ensures { result ≡ draw_event self.now.weights self.now.limits value }
+    {
+        let picking = next(value);
+        let code = pick(&self.weights, picking % self.sum);
+        self.draw_arguments(code, picking)
     }
-}
 
-// An argument of a sort, drawn after `value`; one that the event lacks is not drawn.
-fn draw_argument(sort: Sort, limits: &[u16; 4], value: u32) -> Argument
-    requires { Limited limits.now }
-    ensures { result ≡ draw_argument limits.now sort value }
-{
-    match sort {
-        Sort::Lacking => Argument {
-            number: 0,
-            value: value,
-        },
-        Sort::Body => draw_below(limits[0], value),
-        Sort::Resource => draw_below(limits[1], value),
-        Sort::Table => draw_below(limits[2], value),
-        Sort::Delay => draw_below(limits[3], value),
-        Sort::Mask => draw_whole(value),
+    // The event of a code, with its arguments drawn after `value`.
+    fn draw_arguments(&self, code: u8, value: u32) -> Drawn
+        ensures { result ≡ with_arguments self.now.limits code value }
+    {
+        let (first_sort, second_sort) = sorts(code);
+        let first = self.draw_argument(first_sort, value);
+        let second = self.draw_argument(second_sort, first.value);
+        Drawn {
+            event: Event {
+                code,
+                first: first.number,
+                second: second.number,
+            },
+            value: second.value,
+        }
+    }
+
+    // An argument of a sort, drawn after `value`; one that the event lacks is not drawn.
+    fn draw_argument(&self, sort: Sort, value: u32) -> Argument
+        ensures { result ≡ draw_argument self.now.limits sort value }
+    {
+        match sort {
+            Sort::Lacking => Argument { number: 0, value },
+            Sort::Body => draw_below(self.limits[0], value),
+            Sort::Resource => draw_below(self.limits[1], value),
+            Sort::Table => draw_below(self.limits[2], value),
+            Sort::Delay => draw_below(self.limits[3], value),
+            Sort::Mask => draw_whole(value),
+        }
     }
 }
 
@@ -60,7 +66,7 @@ fn draw_below(limit: u16, value: u32) -> Argument
 {
     let drawn = next(value);
     Argument {
-        number: drawn % limit as u32,
+        number: drawn % u32::from(limit),
         value: drawn,
     }
 }
@@ -76,34 +82,24 @@ fn draw_whole(value: u32) -> Argument
     }
 }
 
-// What the first argument of a code is the number of.
-fn first_sort(code: u8) -> Sort
-    ensures { result ≡ first_sort code }
+// What the arguments of a code are the numbers of.
+#[tactic(auto, unfolding(drawing::specs::Drawing::first_sort, drawing::specs::Drawing::second_sort))]
+fn sorts(code: u8) -> (Sort, Sort)
+    ensures { result ≡ (first_sort code, second_sort code) }
 {
     match code {
-        1 => Sort::Body, // Activate
-        2 => Sort::Lacking, // Finish
-        3 => Sort::Body, // Chain
-        4 => Sort::Resource, // Get
-        5 => Sort::Resource, // Release
-        6 => Sort::Lacking, // Tick
-        7 => Sort::Body, // Line
-        8 => Sort::Table, // Start
-        9 => Sort::Table, // Stop
-        10 => Sort::Mask, // Wait
-        11 => Sort::Body, // Set
-        12 => Sort::Mask, // Clear
-        0 | 13..=255 => Sort::Lacking,
-    }
-}
-
-// And the second.
-fn second_sort(code: u8) -> Sort
-    ensures { result ≡ second_sort code }
-{
-    match code {
-        8 => Sort::Delay, // Start
-        11 => Sort::Mask, // Set
-        0..=7 | 9..=10 | 12..=255 => Sort::Lacking,
+        1 => (Sort::Body, Sort::Lacking), // Activate
+        2 => (Sort::Lacking, Sort::Lacking), // Finish
+        3 => (Sort::Body, Sort::Lacking), // Chain
+        4 => (Sort::Resource, Sort::Lacking), // Get
+        5 => (Sort::Resource, Sort::Lacking), // Release
+        6 => (Sort::Lacking, Sort::Lacking), // Tick
+        7 => (Sort::Body, Sort::Lacking), // Line
+        8 => (Sort::Table, Sort::Delay), // Start
+        9 => (Sort::Table, Sort::Lacking), // Stop
+        10 => (Sort::Mask, Sort::Lacking), // Wait
+        11 => (Sort::Body, Sort::Mask), // Set
+        12 => (Sort::Mask, Sort::Lacking), // Clear
+        0 | 13..=255 => (Sort::Lacking, Sort::Lacking),
     }
 }

@@ -1,5 +1,5 @@
 // The weights of the twelve codes: their sum, and which code a value picks.
-ghost use Rattle.std.specs.Prelude.{◌≡◌, ◌<◌};
+ghost use Rattle.std.specs.Prelude.{◌≡◌};
 ghost use Rattle.drawing.specs.Weights.{total, picked};
 
 // How many weights there are.
@@ -9,9 +9,9 @@ const WEIGHTS: usize = 12;
 pub fn total(weights: &[u16; 12]) -> u32
     ensures { result ≡ total weights.now }
 {
-    let mut sum: u32 = 0;
-    for i in 0..WEIGHTS {
-        sum += wide(weights[i]);
+    let mut sum = 0;
+    for &weight in weights {
+        sum += u32::from(weight);
     }
     sum
 }
@@ -20,19 +20,12 @@ pub fn total(weights: &[u16; 12]) -> u32
 pub fn pick(weights: &[u16; 12], value: u32) -> u8
     ensures { result ≡ picked weights.now value }
 {
-    let mut sum: u32 = 0;
-    for i in 0..WEIGHTS - 1 {
-        sum += wide(weights[i]);
+    let mut sum = 0;
+    for (i, &weight) in weights[..WEIGHTS - 1].iter().enumerate() {
+        sum += u32::from(weight);
         if value < sum {
             return i as u8 + 1;
         }
     }
     WEIGHTS as u8
-}
-
-// A weight as a number of 32 bits.
-fn wide(weight: u16) -> u32
-    ensures { (result ≡ weight) × (result < 65536) }
-{
-    weight as u32
 }

@@ -1,11 +1,11 @@
-// The events of a trace as values. What their bytes are, read and written, is defined in specs/; no
-// code runs here.
+// The events of a trace as values. What their bytes are, read and written, is defined in specs/; no code runs here.
 #![tactic(auto)]
 
 // The most bytes that a trace has.
 pub const MAX_TRACE: usize = 8192;
 
-// An event; an argument that it lacks is 0.
+// An event; an argument that it lacks is 0. Its code is a number, since `write_event` is given any and refuses those that
+// no event has (event_vectors).
 #[derive(Clone, Copy, Debug, Default, PartialEq, Eq)]
 pub struct Event {
     pub code: u8,

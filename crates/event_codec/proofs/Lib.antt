@@ -1,5 +1,6 @@
--- What the functions' proofs share; the laws of events are those of `event`.
+-- What the functions' proofs share, and, in `Parts`, those of the crates above that write; the laws of events are those
+-- of `event`.
 mod Arms
 mod Steps
 mod Ends
-mod Parts
+pub mod Parts

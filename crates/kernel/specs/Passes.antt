@@ -1,18 +1,21 @@
 -- What the contracts of the run's helpers cite beside the run itself.
 --
---   counted r           what is left of a trace that was read, once its events are counted
+--   IsCount a r         a is the count of the events of a trace, of which r was read
 --   Bare bs at k        k events without arguments stand at a place
 --   Playable, Runnable  what playing a trace counts on, and answering it
-use Rattle.std.specs.Prelude.{ℕ, ◌+◌, ◌*◌, ◌≤◌, ◌<◌, ◌≡◌, Bool, true, ◌||◌, List, eqb, length, get_or}
+use Rattle.std.specs.Prelude.{ℕ, ◌+◌, ◌*◌, ◌≤◌, ◌<◌, ◌≡◌, Bool, true, ◌||◌, List, eqb, length, get_or, Result, Ok, Err}
+use Rattle.number.specs.declared.Refused.{Refused}
+use Rattle.number.specs.Answer.{code}
 use Rattle.number.specs.Refusal.{none}
 use Rattle.config.specs.declared.Config.{Config}
 use Rattle.config.specs.Accepted.{Accepted, Shaped}
 use Rattle.event.specs.Event.{finish, tick}
 use Rattle.event.specs.Trace.{TraceRead, read_trace}
-use Rattle.kernel.specs.declared.count.Counted.{Counted}
 
-abbrev pub counted : TraceRead → Counted
-counted r = record { events = length r.events; refusal = r.refusal; place = r.place }
+-- how many events a trace has, or its refusal with its place
+abbrev pub IsCount : Result ℕ Refused → TraceRead → Type 0
+IsCount (Ok n) r = (r.refusal ≡ none) × (n ≡ length r.events)
+IsCount (Err e) r = (code e.refusal ≡ r.refusal) × (e.place ≡ r.place)
 
 -- an event of this code has no arguments
 abbrev pub bare : ℕ → Bool

@@ -1,25 +1,18 @@
 // The first pass over a trace: it is read to its end or to its first refusal, and its events are counted.
 ghost use Rattle.std.specs.Prelude.{◌≡◌, true};
 ghost use Rattle.event.specs.Trace.{read_trace};
-ghost use Rattle.kernel.specs.Passes.{counted, bare, Bare};
+ghost use Rattle.kernel.specs.Passes.{IsCount, bare, Bare};
 
 use event_codec::event_end;
-
-// How many events were read; the refusal is 0 where they are the whole trace.
-#[derive(Clone, Copy)]
-pub struct Counted {
-    pub events: usize,
-    pub refusal: u8,
-    pub place: usize,
-}
+use number::Refused;
 
 // How many events without arguments are passed at once.
 const GROUP: usize = 32;
 
 // Where none of the events of a group has an argument, as in a stretch of ticks, the group is passed at once. It is
 // looked for only after each group of events, so that a trace without such stretches pays little for the look.
-pub fn count_events(trace: &[u8]) -> Counted
-    ensures { result ≡ counted (read_trace trace.now) }
+pub fn count_events(trace: &[u8]) -> Result<usize, Refused>
+    ensures { IsCount result (read_trace trace.now) }
 {
     let mut at: usize = 0;
     let mut events: usize = 0;
@@ -28,23 +21,11 @@ pub fn count_events(trace: &[u8]) -> Counted
             at += GROUP;
             events += GROUP;
         } else {
-            let r = event_end(trace, at);
-            if r.refusal != 0 {
-                return Counted {
-                    events,
-                    refusal: r.refusal,
-                    place: r.place,
-                };
-            }
-            at = r.place;
+            at = event_end(trace, at)?;
             events += 1;
         }
     }
-    Counted {
-        events,
-        refusal: 0,
-        place: at,
-    }
+    Ok(events)
 }
 
 // Whether a group of bytes from `at` on are codes of events without arguments. The loop goes on after one that is not:

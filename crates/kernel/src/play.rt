@@ -10,7 +10,7 @@ ghost use Rattle.kernel.specs.Passes.{Playable};
 use crate::output::{put_answer, runner};
 use config::Config;
 use model::{Model, Outcome, Status};
-use number_codec::{read_number, read_pair};
+use number_codec::{number_at, read_pair};
 use plan::Plan;
 
 // Each event meets the model that the one before it handed back; the last one's is the result.
@@ -39,7 +39,7 @@ pub fn play<'a, 'b>(
         let mut next = at + 1;
         match code {
             1 => {
-                let task = read_number(trace, next);
+                let task = number_at(trace, next);
                 o = o.model.activate(plan, task.value);
                 next = task.place;
             }
@@ -47,17 +47,17 @@ pub fn play<'a, 'b>(
                 o = o.model.finish(plan);
             }
             3 => {
-                let task = read_number(trace, next);
+                let task = number_at(trace, next);
                 o = o.model.chain(plan, task.value);
                 next = task.place;
             }
             4 => {
-                let resource = read_number(trace, next);
+                let resource = number_at(trace, next);
                 o = o.model.get(config, plan, resource.value);
                 next = resource.place;
             }
             5 => {
-                let resource = read_number(trace, next);
+                let resource = number_at(trace, next);
                 o = o.model.release(config, plan, resource.value);
                 next = resource.place;
             }
@@ -65,7 +65,7 @@ pub fn play<'a, 'b>(
                 o = o.model.tick(plan);
             }
             7 => {
-                let isr = read_number(trace, next);
+                let isr = number_at(trace, next);
                 o = o.model.line(config, plan, isr.value);
                 next = isr.place;
             }
@@ -77,12 +77,12 @@ pub fn play<'a, 'b>(
                 next = arguments.place;
             }
             9 => {
-                let table = read_number(trace, next);
+                let table = number_at(trace, next);
                 o = o.model.stop(config, plan, table.value);
                 next = table.place;
             }
             10 => {
-                let mask = read_number(trace, next);
+                let mask = number_at(trace, next);
                 o = o.model.wait(plan, mask.value);
                 next = mask.place;
             }
@@ -92,7 +92,7 @@ pub fn play<'a, 'b>(
                 next = arguments.place;
             }
             12 => {
-                let mask = read_number(trace, next);
+                let mask = number_at(trace, next);
                 o = o.model.clear(plan, mask.value);
                 next = mask.place;
             }

@@ -3,6 +3,7 @@ use Prim.Native.Nat.{ℕ, ◌≤◌, ◌<◌}
 use mathlib.Core.Path.{◌≡◌, sym, ap, ◌∙◌}
 use mathlib.Core.List.{List}
 use lib.ListN.{length}
+use Rattle.number.specs.Refusal.{none}
 use Rattle.number.specs.Output.{written}
 use Rattle.config.specs.declared.Config.{Config}
 use Rattle.config.specs.Reader.{read_config}
@@ -26,6 +27,9 @@ module _ (cs ts : List ℕ) {n x : ℕ} (ended : x ≡ run_result cs ts n) (room
       gave_refused cs ts d r.refusal r.place x r.input r.result
 
   module _ (low : x < places) where
+    pub config_read : (read_config cs).refusal ≡ none
+    config_read = (run_played cs ts ended room low).accepted
+
     pub watchable : Watchable (read_config cs).config ts
     watchable =
         let w = run_played cs ts ended room low in

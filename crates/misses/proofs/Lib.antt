@@ -4,5 +4,6 @@ pub mod Codes
 pub mod Made
 pub mod Rows
 pub mod Noted
+pub mod Laid
 pub mod Watching
 pub mod Input

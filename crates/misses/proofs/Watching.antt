@@ -5,13 +5,15 @@
 use Prim.Native.Nat.{ℕ, suc, ◌+◌, ◌*◌, ◌≤◌, ◌<◌}
 use mathlib.Core.Path.{◌≡◌, sym, ap, subst, ◌∙◌}
 use mathlib.Core.Bool.{Bool, true, false, cond}
+use mathlib.Core.Logic.{◌≢◌}
 use mathlib.Core.List.{List, [], ◌∷◌, ◌++◌, append_assoc, append-nil, map}
 use native.Mathlib.Omega.{arith}
 use lib.ListN.{length, take, length-append, length-take}
 use Rattle.number.specs.Refusal.{none}
-use Rattle.number.proofs.Cases.{by_eq}
+use Rattle.number.proofs.Cases.{by_lt}
 use Rattle.config.specs.declared.Config.{Config}
-use Rattle.event.specs.Event.{EventRead, read_event}
+use Rattle.event.specs.declared.Event.{Event}
+use Rattle.event.specs.Event.{EventRead, accepted, read_event}
 use Rattle.event.specs.Trace.{TraceRead, before, read_rest}
 use Rattle.event.proofs.Theorems.{event_reading, rest_end, rest_step, rest_refused}
 use Rattle.cell.specs.declared.Cell.{Cell}
@@ -135,29 +137,37 @@ module _ {c : Config} {p : Plan} {ts : List ℕ} where
         gone : machine_row c p (deadlines_of c) k m (take cells.bodies cells.cells) (calls_from ts at) ≡ []
         gone = ap (machine_row c p (deadlines_of c) k m (take cells.bodies cells.cells)) none_left
 
-    -- the event at the place
-    module _ (inside : at < length ts) where
-      watching_fine : (read_event ts at).refusal ≡ none
-      watching_fine =
-          by_eq (read_event ts at).refusal none
-          (λ h. h)
-          (λ n. absurd (n (sym (ap (λ (t : TraceRead). t.refusal) (rest_refused ts at inside n)) ∙ g.readable)))
+    -- no event is read at the place: it is the end
+    pub watching_done : (read_event ts at).refusal ≢ none → length ts ≤ at
+    watching_done n =
+        by_lt at (length ts)
+        (λ inside. absurd (n (sym (ap (λ (t : TraceRead). t.refusal) (rest_refused ts at inside n)) ∙ g.readable)))
+        (λ h. h)
 
-      -- it was read, and handed o back
-      module _ {r : EventRead} (read : r ≡ read_event ts at) where
-        pub watching_later : at < r.place
-        watching_later = rw read ((event_reading ts at).after watching_fine)
+    -- the event at the place was read, and the next one stands at next
+    module _ {event : Event} {next : ℕ} (read : accepted event next ≡ read_event ts at) where
+        fine : (read_event ts at).refusal ≡ none
+        fine = sym (ap (λ (x : EventRead). x.refusal) read)
 
-        place_le : r.place ≤ length ts
-        place_le = rw read ((event_reading ts at).inside watching_fine)
+        there : next ≡ (read_event ts at).place
+        there = ap (λ (x : EventRead). x.place) read
 
-        more : read_rest ts at ≡ before r.event (read_rest ts r.place)
+        pub watching_later : at < next
+        watching_later = omega (arith, there, (event_reading ts at).after fine)
+
+        place_le : next ≤ length ts
+        place_le = omega (arith, there, (event_reading ts at).inside fine)
+
+        pub watching_inside : at < length ts
+        watching_inside = omega (arith, watching_later, place_le)
+
+        more : read_rest ts at ≡ before event (read_rest ts next)
         more =
-            rest_step ts at watching_fine
+            rest_step ts at fine
             ∙ ap (λ (x : EventRead). before x.event (read_rest ts x.place)) (sym read)
 
         abbrev call : Plain.Event
-        call = call_of r.event
+        call = call_of event
 
         abbrev xs : List Cell
         xs = take cells.bodies cells.cells
@@ -169,7 +179,7 @@ module _ {c : Config} {p : Plan} {ts : List ℕ} where
             (same : cells'.bodies ≡ cells.bodies) (ranks : cells'.ranks ≡ cells.ranks)
             (deadlines : cells'.deadlines ≡ cells.deadlines) where
           abbrev rest : List Miss
-          rest = machine_row c p (deadlines_of c) k' o.model (take cells'.bodies cells'.cells) (calls_from ts r.place)
+          rest = machine_row c p (deadlines_of c) k' o.model (take cells'.bodies cells'.cells) (calls_from ts next)
 
           row : take cells'.bodies cells'.cells ≡ step_row_by p (deadlines_of c) m call o 0 xs
           row =
@@ -182,7 +192,7 @@ module _ {c : Config} {p : Plan} {ts : List ℕ} where
           split : machine_row c p (deadlines_of c) k m xs (calls_from ts at) ≡ here call k xs ++ rest
           unfolding machine_row
           split =
-              let es = calls_from ts r.place in
+              let es = calls_from ts next in
               ap (λ (t : TraceRead). machine_row c p (deadlines_of c) k m xs (map call_of t.events)) more
               ∙ ap (λ (y : Outcome). here call k xs ++ machine_row c p (deadlines_of c) (cond (is_tick call) (suc k) k) y.model
               (step_row_by p (deadlines_of c) m call y 0 xs) es) (sym stepped)
@@ -191,7 +201,7 @@ module _ {c : Config} {p : Plan} {ts : List ℕ} where
               ∙ ap (λ (l : List Cell). here call k xs ++ machine_row c p (deadlines_of c) k' o.model l es) (sym row)
 
           few_by : (t : Bool) → k' ≡ cond t (suc k) k
-              → (k' ≤ r.place) × (length g.so_far + length (cond t (matches_of (suc k) 0 xs) []) ≤ 32 * k')
+              → (k' ≤ next) × (length g.so_far + length (cond t (matches_of (suc k) 0 xs) []) ≤ 32 * k')
           few_by true e = (
             omega (arith, e, g.few_ticks, watching_later),
             omega (
@@ -206,10 +216,10 @@ module _ {c : Config} {p : Plan} {ts : List ℕ} where
           )
           few_by false e = (omega (arith, e, g.few_ticks, watching_later), omega (arith, e, g.few))
 
-          few_both : (k' ≤ r.place) × (length g.so_far + length (here call k xs) ≤ 32 * k')
+          few_both : (k' ≤ next) × (length g.so_far + length (here call k xs) ≤ 32 * k')
           few_both = few_by (is_tick call) met.ticks
 
-          pub watching_step : Watching c p ts o.model cells' x' k' r.place
+          pub watching_step : Watching c p ts o.model cells' x' k' next
           watching_step =
               record {
                 readable = sym (ap (λ (t : TraceRead). t.refusal) more) ∙ g.readable;

@@ -12,10 +12,11 @@ mod list;
 mod row;
 mod watch;
 
-ghost use Rattle.std.specs.Prelude.{◌≡◌, length};
+ghost use Rattle.std.specs.Prelude.{◌≡◌, ◌<◌, ◌^◌, length, IfErr};
 ghost use Rattle.number.specs.Output.{written};
 ghost use Rattle.plan.specs.Plan.{plan_of};
 ghost use Rattle.run.specs.Run.{calls_of};
+ghost use Rattle.kernel.specs.Ends.{as_result};
 ghost use Rattle.deadlines.specs.Miss.{deadlines_of};
 ghost use Rattle.deadlines.specs.Report.{first_misses, miss_bytes};
 ghost use Rattle.deadlines.specs.Words.{machine_misses};
@@ -24,7 +25,8 @@ ghost use Rattle.misses.specs.Watched.{Watchable};
 
 use config::Config;
 use config_codec::read_config;
-use kernel::{OUTPUT_MAX, REFUSED, run};
+use kernel::{OUTPUT_MAX, run};
+use number::Refused;
 use planner::plan_of;
 use watch::watch;
 
@@ -37,26 +39,36 @@ pub extern "C" fn osek_misses(config: &[u8], trace: &[u8], list: &mut [u8]) -> u
     ensures output { list.new
         ≡ misses_output config.now trace.now list.old }
 {
-    let mut out = [0u8; OUTPUT_MAX];
-    let end = run(config, trace, &mut out);
-    if REFUSED <= end.result {
-        return end.result;
+    match missed(config, trace, list) {
+        Ok(count) => count as u64,
+        Err(refused) => refused.packed(),
     }
-    let read = read_config(config);
-    let c = read.config;
-    list_misses(c, trace, list)
+}
+
+fn missed(config: &[u8], trace: &[u8], list: &mut [u8]) -> Result<usize, Refused>
+    ensures value { as_result result
+        ≡ misses_result config.now trace.now (length list.old) }
+    ensures output { list.new
+        ≡ misses_output config.now trace.now list.old }
+    ensures place { IfErr result (λ refused. refused.place < 2 ^ 63) }
+{
+    let mut out = [0u8; OUTPUT_MAX];
+    run(config, trace, &mut out)?;
+    let read = read_config(config)?;
+    list_misses(read.value, trace, list)
 }
 
 // The same of a configuration and a trace that are accepted.
-fn list_misses(config: Config, trace: &[u8], list: &mut [u8]) -> u64
+fn list_misses(config: Config, trace: &[u8], list: &mut [u8]) -> Result<usize, Refused>
     requires { Watchable config trace.now }
-    ensures value { result
+    ensures value { as_result result
         ≡ count_of (length list.old)
         (machine_misses config (plan_of config) (deadlines_of config) (calls_of trace.now)) }
     ensures list_after { list.new
         ≡ written (miss_bytes
         (first_misses (machine_misses config (plan_of config) (deadlines_of config) (calls_of trace.now))))
         list.old }
+    ensures place { IfErr result (λ refused. refused.place < 2 ^ 63) }
 {
     let misses = watch(config, plan_of(config), trace);
     misses.write(list)

@@ -1,11 +1,12 @@
 // The misses of a trace: how many there are, and the first 64 of them, which are listed.
-ghost use Rattle.std.specs.Prelude.{◌≡◌, ◌+◌, ◌<◌, ◌^◌, [], ◌∷◌, length};
+ghost use Rattle.std.specs.Prelude.{◌≡◌, ◌+◌, ◌<◌, ◌^◌, [], ◌∷◌, length, IfErr};
 ghost use Rattle.number.specs.Output.{written};
+ghost use Rattle.kernel.specs.Ends.{as_result};
 ghost use Rattle.deadlines.specs.Report.{first_misses, miss_bytes};
 ghost use Rattle.deadlines.specs.Result.{count_of};
 ghost use Rattle.misses.specs.Noted.{miss_of, Noted, ForNoted, NotesMore};
 
-use number::NO_ROOM;
+use number::{Refusal, Refused};
 
 const MOST_LISTED: usize = 64;
 
@@ -59,19 +60,23 @@ impl Misses {
     }
 
     // Writes the misses that are listed, and gives the count of all; or a refusal with the bytes needed.
-    pub fn write(&self, list: &mut [u8]) -> u64
-        ensures value { ForNoted self.now (λ ms. result ≡ count_of (length list.old) ms) }
+    pub fn write(&self, list: &mut [u8]) -> Result<usize, Refused>
+        ensures value { ForNoted self.now (λ ms. as_result result ≡ count_of (length list.old) ms) }
         ensures list_after { ForNoted self.now (λ ms. list.new ≡ written (miss_bytes (first_misses ms)) list.old) }
+        ensures place { IfErr result (λ refused. refused.place < 2 ^ 63) }
     {
         let listed = self.count.min(MOST_LISTED);
         let need = MISS_BYTES * listed;
         if list.len() < need {
-            return NO_ROOM as u64 * 4294967296 + need as u64;
+            return Err(Refused {
+                refusal: Refusal::NoRoom,
+                place: need,
+            });
         }
         for (i, miss) in self.listed[..listed].iter().enumerate() {
             let at = MISS_BYTES * i;
             list[at..at + MISS_BYTES].copy_from_slice(&miss.bytes());
         }
-        self.count as u64
+        Ok(self.count)
     }
 }

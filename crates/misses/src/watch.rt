@@ -30,9 +30,8 @@ pub fn watch(config: Config, plan: Plan, trace: &[u8]) -> Misses
     let mut misses = Misses::none();
     let mut ticks: u16 = 0;
     let mut at: usize = 0;
-    while at < trace.len() {
-        let read = read_event(trace, at);
-        let event = read.event;
+    while let Ok(read) = read_event(trace, at) {
+        let event = read.value;
         if event.code == TICK {
             ticks += 1;
             cells.note_matches(ticks, &mut misses);

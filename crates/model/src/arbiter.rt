@@ -16,7 +16,7 @@ use std::hint::select_unpredictable;
 use word::{has, union, winner, with, without};
 
 impl Registers {
-    pub fn core(self) -> Core
+    pub(crate) fn core(self) -> Core
         ensures { (x : Arrays) → view_core result ≡ (view_with self x).core }
     {
         Core {
@@ -38,7 +38,7 @@ impl Registers {
 
     // The core that a runner leaves, with these words of who has begun: whoever took the latest resource that is held
     // takes its seat, or nobody does.
-    pub fn left_with(self, started: u32, aside: u32) -> Core
+    pub(crate) fn left_with(self, started: u32, aside: u32) -> Core
         ensures { (x : Arrays) → view_core result ≡ left_with (view_with self x) started aside }
     {
         let runner = self.holder.top();

@@ -1,6 +1,6 @@
 // The events of extended tasks: Wait, Set and Clear. What OSEK calls an event is an event bit here: a task has 32.
 ghost use Rattle.std.specs.Prelude.{◌≡◌, cond, ◌&&◌, ◌||◌, eqb};
-ghost use Rattle.scheduler.specs.Bits.{any_set, without_bits};
+ghost use Rattle.scheduler.specs.Bits.{any_set};
 ghost use Rattle.word.specs.Word.{has};
 ghost use Rattle.machine.specs.Model.{no_rank};
 ghost use Rattle.machine.specs.Events.{wait, set_event, clear};
@@ -91,7 +91,7 @@ impl Registers {
         if !has(plan.extended, rank) {
             return self.with_status(Status::Access);
         }
-        bits[rank as usize] = without_bits(self.bits_of(bits[rank as usize], rank), mask);
+        bits[rank as usize] = self.bits_of(bits[rank as usize], rank) & !mask;
         self.cleared = without(self.cleared, rank);
         self.with_status(Status::Done)
     }
@@ -105,16 +105,11 @@ impl Registers {
 }
 
 // Whether one of the bits that the mask names is set.
+#[tactic(auto, unfolding(scheduler::specs::Bits::any_set))]
 fn any_set(bits: u32, mask: u32) -> bool
     ensures { result ≡ any_set bits mask }
 {
     bits & mask != 0
-}
-
-fn without_bits(bits: u32, mask: u32) -> u32
-    ensures { result ≡ without_bits bits mask }
-{
-    bits - (bits & mask)
 }
 
 // Whether this is no task's rank: nobody's, or an ISR's.

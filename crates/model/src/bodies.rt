@@ -94,21 +94,21 @@ impl Registers {
 
     // Whether nobody runs who may call: nobody at all, or a time-triggered task. Both are tested at once, so that one
     // branch suffices.
-    pub fn no_caller(self) -> bool
+    pub(crate) fn no_caller(self) -> bool
         ensures { result ≡ eqb self.runner no_rank || eqb self.level execution_level }
     {
         (self.runner == NO_RANK) | (self.level == EXECUTION_LEVEL)
     }
 
     // The ranks that have begun and not ended, as a word.
-    pub fn begun(self) -> u32
+    pub(crate) fn begun(self) -> u32
         ensures { result ≡ union self.started self.aside }
     {
         union(self.started, self.aside)
     }
 
     // Whether the body of this rank is ready, or has begun and not ended.
-    pub fn busy(self, rank: u8) -> bool
+    pub(crate) fn busy(self, rank: u8) -> bool
         ensures { result ≡ has self.request rank || has (union self.started self.aside) rank }
     {
         busy(self.request, self.begun(), rank)
@@ -116,7 +116,7 @@ impl Registers {
 }
 
 // Whether a configuration of this version counts the lines that are lost.
-pub fn counts_lines(version: u8) -> bool
+fn counts_lines(version: u8) -> bool
     ensures { result ≡ leb 2 version }
 {
     2 <= version

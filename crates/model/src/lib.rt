@@ -80,6 +80,8 @@ pub struct Registers {
     pub held: u32,
     // The ranks whose event bits count as 0, as a word.
     pub cleared: u32,
+    // NO_RANK where nobody runs, and no Option, which would be taken apart at each test against the rows: an empty row has
+    // this number on top.
     pub runner: u8,
     pub level: u8,
     // Whether any cell has a turn of its counter to pass.

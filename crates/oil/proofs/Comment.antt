@@ -1,50 +1,49 @@
--- The loop that looks for the end of a comment: the end from `at` on is the end from i on, told from i - at bytes
--- earlier.
-use Prim.Native.Nat.{ℕ, ◌+◌, ◌-◌, ◌≤◌, ◌<◌}
-use mathlib.Core.Path.{◌≡◌, sym, ap, ◌∙◌}
-use mathlib.Core.Bool.{true, false, ◌&&◌}
-use mathlib.Core.List.{List}
-use native.Mathlib.Omega.{arith}
-use lib.Dec.{eqb}
-use lib.ListN.{length, drop, get_or}
+-- The loop that looks for the end of a comment: no */ ends before the byte number `end`.
+use Rattle.std.proofs.Common.{◌≡◌, ℕ, ◌+◌, ◌-◌, ◌≤◌, ◌<◌, false, ◌&&◌, eqb, List, length, drop, get_or, sym, ap, ◌∙◌, arith}
 use borrow.Author.Tests.{eq-eqb, ne_eqb}
 use Rattle.number.proofs.Cases.{by_eq}
 use Rattle.oil_grammar.specs.Byte.{slash, star}
 use Rattle.oil_grammar.specs.Next.{closing}
 use Rattle.oil_grammar.proofs.Blank.{earlier, earlier_suc, closing_here, closing_later, closing_last, closing_past}
 
-pub record Seeks (t : List ℕ) (at i : ℕ) : Type 0 where
-  pub passed : at ≤ i
-  pub told : closing (drop at t) ≡ earlier (i - at) (closing (drop i t))
+pub record Unclosed (t : List ℕ) (end : ℕ) : Type 0 where
+  pub told : closing t ≡ earlier (end - 1) (closing (drop (end - 1) t))
 
-pub seeks_start : (t : List ℕ) (at : ℕ) → Seeks t at at
-seeks_start t at =
-    record {
-      passed = omega arith;
-      told =
-          by_eq (closing (drop at t)) 0
-          (λ e. rw (eq-eqb (closing (drop at t)) 0 e) e)
-          (λ d. rw (ne_eqb (closing (drop at t)) 0 d) (omega arith));
-    }
-
-module _ (t : List ℕ) (at i : ℕ) (s : Seeks t at i) where
-  pub seeks_here : i + 1 < length t → (eqb (get_or t i 0) star && eqb (get_or t (i + 1) 0) slash) ≡ true
-      → i - at + 2 ≡ closing (drop at t)
-  seeks_here h e = let q : closing (drop at t) ≡ 2 + (i - at) = s.told ∙ rw (closing_here t i h e) in omega arith
-
-  pub seeks_later : i + 1 < length t → (eqb (get_or t i 0) star && eqb (get_or t (i + 1) 0) slash) ≡ false
-      → Seeks t at (i + 1)
-  seeks_later h e =
-      let n : i - at + 1 ≡ i + 1 - at = omega (arith, s.passed) in
+module _ (t : List ℕ) where
+  pub unclosed_start : Unclosed t 1
+  unclosed_start =
       record {
-        passed = omega (arith, s.passed);
         told =
-            s.told ∙ ap (earlier (i - at)) (closing_later t i h e) ∙ earlier_suc (i - at) (closing (drop (i + 1) t))
-            ∙ ap (λ (m : ℕ). earlier m (closing (drop (i + 1) t))) n;
+            by_eq (closing t) 0
+            (λ e. rw (eq-eqb (closing t) 0 e) e)
+            (λ d. rw (ne_eqb (closing t) 0 d) (omega arith));
       }
 
-  pub seeks_last : i + 1 ≡ length t → 0 ≡ closing (drop at t)
-  seeks_last h = sym (s.told ∙ rw (closing_last t i h))
+  module _ {end : ℕ} (some : 1 ≤ end) (u : Unclosed t end) where
+    next : end - 1 + 1 ≡ end
+    next = omega arith
 
-  pub seeks_past : length t ≤ i → 0 ≡ closing (drop at t)
-  seeks_past h = sym (s.told ∙ rw (closing_past t i h))
+    pub closed_here : end < length t → get_or t (end - 1) 0 ≡ star → get_or t end 0 ≡ slash → end + 1 ≡ closing t
+    closed_here h e f =
+        let f' : get_or t (end - 1 + 1) 0 ≡ slash = rw next f in
+        let q : closing t ≡ 2 + (end - 1) =
+        u.told ∙ rw (closing_here t (end - 1) (omega arith) (rw (eq-eqb _ _ e, eq-eqb _ _ f'))) in
+        omega arith
+
+    pub closed_later : end < length t → (eqb (get_or t (end - 1) 0) star && eqb (get_or t end 0) slash) ≡ false
+        → Unclosed t (end + 1)
+    closed_later h e =
+        let e' : (eqb (get_or t (end - 1) 0) star && eqb (get_or t (end - 1 + 1) 0) slash) ≡ false = rw next e in
+        let n : end + 1 - 1 ≡ end - 1 + 1 = omega arith in
+        record {
+          told =
+              u.told ∙ ap (earlier (end - 1)) (closing_later t (end - 1) (omega arith) e')
+              ∙ earlier_suc (end - 1) (closing (drop (end - 1 + 1) t))
+              ∙ ap (λ (m : ℕ). earlier m (closing (drop m t))) (sym n);
+        }
+
+    pub closed_never : length t ≤ end → (1 ≤ length t → end ≤ length t) → 0 ≡ closing t
+    closed_never h k =
+        by_eq (length t) 0
+        (λ z. sym (u.told ∙ rw (closing_past t (end - 1) (omega arith))))
+        (λ d. let g = k (omega arith) in sym (u.told ∙ rw (closing_last t (end - 1) (omega arith))))

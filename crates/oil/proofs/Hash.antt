@@ -1,12 +1,8 @@
 -- The hash of a name, byte by byte.
-use Prim.Native.Nat.{ℕ, suc, ◌+◌, ◌*◌, ◌-◌, ◌%◌, ◌≤◌, ◌<◌}
-use mathlib.Core.Path.{◌≡◌}
-use mathlib.Core.List.{List}
-use native.Mathlib.Omega.{arith}
+use Rattle.std.proofs.Common.{ℕ, ◌+◌, ◌*◌, ◌%◌, ◌≤◌, ◌<◌, ◌≡◌, List, length, get_or, drop, sym, ap, ◌∙◌, arith}
 use native.Mathlib.Nat.{mul-le-mul}
-use lib.ListN.{length, take, drop, get_or}
-use Rattle.oil_grammar.proofs.Span.{drop_next}
-use Rattle.oil.specs.Names.{prime, hashed}
+use Rattle.std.proofs.lemmas.List.{at_drop_more, at_drop_all}
+use Rattle.oil.specs.Hash.{prime, hashed}
 
 -- the product fits
 pub product_small : (h k : ℕ) → h < prime → k < prime → h * k ≤ 18446744030759878656
@@ -15,12 +11,12 @@ product_small h k l m =
     let p = mul-le-mul a b in
     omega (arith, p)
 
-module _ (t : List ℕ) (k e i h : ℕ) where
-  pub hash_step : e ≤ length t → i < e → {g : ℕ} → g ≡ (h * k + get_or t i 0) % prime
-      → hashed k g (take (e - (i + 1)) (drop (i + 1) t)) ≡ hashed k h (take (e - i) (drop i t))
+module _ (t : List ℕ) (k i h : ℕ) where
+  pub hash_step : i < length t → {g : ℕ} → g ≡ (h * k + get_or t i 0) % prime
+      → hashed k g (drop (i + 1) t) ≡ hashed k h (drop i t)
   unfolding hashed
-  hash_step l m q = let n : e - i ≡ suc (e - (i + 1)) = omega arith in rw (n, drop_next t i (omega arith), q)
+  hash_step l q = ap (λ n. hashed k n (drop (i + 1) t)) q ∙ sym (at_drop_more (hashed k h) t i 0 l)
 
-  pub hash_done : e ≤ i → h ≡ hashed k h (take (e - i) (drop i t))
+  pub hash_done : length t ≤ i → h ≡ hashed k h (drop i t)
   unfolding hashed
-  hash_done l = let n : e - i ≡ 0 = omega arith in rw n
+  hash_done l = sym (at_drop_all (hashed k h) t i l)

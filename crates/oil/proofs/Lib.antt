@@ -1,10 +1,15 @@
 -- The laws that the functions' own proofs cite.
-mod Classes
+mod Words
+mod Runs
+mod SortNumbers
+mod Steps
+mod Rest
 mod Comment
-mod Tokens
+mod TokenLists
 mod Walks
 mod TokenNumbers
 mod Gathering
+mod ByClass
 mod Order
 mod FirstUse
 mod Digits

@@ -9,9 +9,7 @@ use lib.ListN.{length}
 use borrow.Author.Tests.{eq-eqb, ne_eqb}
 use Rattle.number.specs.Refusal.{none}
 use Rattle.number.proofs.Cases.{by_eq}
-use Rattle.oil_grammar.specs.declared.Token.{Token}
-use Rattle.oil_grammar.specs.declared.Progress.{Progress}
-use Rattle.oil_grammar.specs.declared.Found.{Found}
+use Rattle.oil_grammar.specs.Records.{Token, Progress, Found}
 use Rattle.oil_grammar.specs.declared.Want.{Want}
 use Rattle.oil_grammar.specs.declared.Want.TheVariants.{Object, Name, Open, Attribute, PriorityEquals, PriorityNumber, AutostartEquals, AutostartValue, UseEquals, Use, AttributeEnd, ObjectEnd}
 use Rattle.oil_grammar.specs.Refusal.{given_twice}
@@ -49,24 +47,6 @@ module _ {t : List ℕ} {at : ℕ} {s : Progress} {n : ℕ} (k : InOrder t at s 
 
     fault_is : f ≡ fault (progress_after t n) (token t n).sort
     fault_is = q ∙ rw (k.come, token_is)
-
-    pub order_refused : (f ≡ 0 → ⊥) → Ordered t (record { refusal = f; place = w.start; tokens = n })
-    order_refused d =
-        record {
-          goes = k.going;
-          refusal_is = fault_is;
-          place_is = ap (λ (v : Token). v.start) token_is;
-          ends = λ z. absurd (d z);
-        }
-
-    pub order_ended : f ≡ 0 → w.sort ≡ end_sort → Ordered t (record { refusal = 0; place = w.start; tokens = n })
-    order_ended z g =
-        record {
-          goes = k.going;
-          refusal_is = sym z ∙ fault_is;
-          place_is = ap (λ (v : Token). v.start) token_is;
-          ends = λ y. rw token_is at g;
-        }
 
     pub order_further : f ≡ 0 → (w.sort ≡ end_sort → ⊥) → (at < w.end) × (w.end ≤ length t)
     order_further z d =

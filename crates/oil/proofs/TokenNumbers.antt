@@ -1,22 +1,21 @@
 -- A text's tokens by number: the walks of the grammar, which go from the front, as what holds of each token.
-use Prim.Native.Nat.{ℕ, zero, suc, ◌+◌, ◌≤◌, ◌<◌, min}
+use Prim.Native.Nat.{ℕ, zero, suc, ◌+◌, ◌≤◌}
 use mathlib.Core.Path.{◌≡◌, refl, sym, ap, ◌∙◌}
 use mathlib.Core.Bool.{Bool, true, false, cond, ◌&&◌, ◌||◌}
 use mathlib.Core.List.{List}
+use Rattle.std.proofs.Common.{Some, None}
 use mathlib.Core.Logic.{◌⊎◌, inl, inr}
 use native.Mathlib.Omega.{arith}
 use native.Mathlib.Numerals.{add-one}
-use lib.Dec.{eqb}
 use lib.ListN.{length}
-use borrow.Author.Tests.{eq-eqb}
-use Rattle.number.proofs.Cases.{by_test, by_lt, by_eq, and_true}
+use Rattle.number.proofs.Cases.{by_test, and_true}
 use Rattle.oil_grammar.specs.Token.{same}
 use Rattle.oil_grammar.specs.Next.{spelling}
 use Rattle.oil_grammar.specs.Automaton.{after, fresh}
 use Rattle.oil_grammar.specs.Walk.{bears, borne}
 use Rattle.oil_grammar.proofs.Spelling.{same_equal}
 use Rattle.oil_grammar.proofs.Bounds.{next_inside}
-use Rattle.oil.specs.Tokens.{place_after, token, progress_after, Least}
+use Rattle.oil.specs.Tokens.{place_after, token, progress_after, Least, First}
 
 module _ (t : List ℕ) where
   pub place_inside : (i : ℕ) → place_after t i ≤ length t
@@ -84,84 +83,10 @@ module _ (t : List ℕ) where
         inr (a.0, same_equal (spelling t (token t i)) x a.1))
         (λ q. inl (rw q at (sym (borne_next i) ∙ e)))
 
--- a search that has come as far as i: r is the first number below i of which p holds, or n
-pub record SoFar (n : ℕ) (p : ℕ → Bool) (i r : ℕ) : Type 0 where
-  pub within : r ≤ n
-  pub none_before : (j : ℕ) → j < i → j < r → p j ≡ false
-  pub there : r < n → (r < i) × (p r ≡ true)
+-- the first number, as one that may be none
+module _ {n : ℕ} {p : ℕ → Bool} where
+  pub least_some : {k : ℕ} → First n p (Some k) → Least n p k
+  least_some f = record { within = let l = f.0 in omega arith; none_before = f.2; there = λ h. f.1 }
 
-module _ (n : ℕ) (p : ℕ → Bool) where
-  pub so_far_start : SoFar n p 0 n
-  so_far_start =
-      record {
-        within = omega arith;
-        none_before = λ j h. absurd (omega arith);
-        there = λ h. absurd (omega arith);
-      }
-
-  pub so_far_step : {i r : ℕ} → i < n → SoFar n p i r → SoFar n p (i + 1) (cond (p i) (min i r) r)
-  so_far_step {i} {r} l s = by_test (p i) (λ q. rw q (held q)) (λ q. rw q (passed q))
-    where
-      passed : p i ≡ false → SoFar n p (i + 1) r
-      passed q =
-          record {
-            within = s.within;
-            none_before = λ j h k. by_eq j i (λ e. rw e q) (λ d. s.none_before j (omega arith) k);
-            there = λ h. let t = s.there h in ((let u = t.0 in omega arith), t.1);
-          }
-
-      held : p i ≡ true → SoFar n p (i + 1) (min i r)
-      held q =
-          by_lt r i
-          (λ h. let e : min i r ≡ r = omega arith in
-          rw e (record {
-            within = s.within;
-            none_before = λ j k m. s.none_before j (omega arith) m;
-            there = λ k. let t = s.there k in ((let u = t.0 in omega arith), t.1);
-          }))
-          (λ h. let e : min i r ≡ i = omega arith in
-          rw e (record {
-            within = omega arith;
-            none_before = λ j k m. s.none_before j m (omega arith);
-            there = λ k. (omega arith, q);
-          }))
-
-  pub so_far_end : {r : ℕ} → SoFar n p n r → Least n p r
-  so_far_end {r} s =
-      record {
-        within = s.within;
-        none_before = λ j h. s.none_before j (let w = s.within in omega arith) h;
-        there = λ h. (s.there h).1;
-      }
-
--- a search class by class: below r none of the first m classes has a number of which p holds
-pub record Passed (n : ℕ) (p : ℕ → Bool) (class : ℕ → ℕ) (m r : ℕ) : Type 0 where
-  pub within : r ≤ n
-  pub none_before : (i : ℕ) → i < r → class i < m → p i ≡ false
-  pub there : r < n → p r ≡ true
-
-module _ {n : ℕ} {p : ℕ → Bool} {class : ℕ → ℕ} where
-  pub passed_start : Passed n p class 0 n
-  passed_start =
-      record {
-        within = omega arith;
-        none_before = λ i h k. absurd (omega arith);
-        there = λ h. absurd (omega arith);
-      }
-
-  pub passed_step : {m r u : ℕ} → Passed n p class m r → Least r (λ i. eqb (class i) m && p i) u
-      → Passed n p class (m + 1) u
-  passed_step {m} {r} {u} s l =
-      record {
-        within = let a = l.within in let b = s.within in omega arith;
-        none_before = λ i h k.
-            by_eq (class i) m
-            (λ e. rw (eq-eqb (class i) m e) at (l.none_before i h))
-            (λ d. s.none_before i (let a = l.within in omega arith) (omega arith));
-        there = λ h. by_lt u r
-            (λ k. (and_true (eqb (class u) m) (p u) (l.there k)).1)
-            (λ k. let e : u ≡ r = let a = l.within in omega arith in rw e (s.there (rw e at h)));
-      }
-
-  pub passed_end : {m r : ℕ} → Passed n p class m r → ((i : ℕ) → class i < m) → Least n p r
-  passed_end s f = record { within = s.within; none_before = λ i h. s.none_before i h (f i); there = s.there }
+  pub least_none : First n p None → Least n p n
+  least_none f = record { within = omega arith; none_before = f; there = λ h. absurd (omega arith) }

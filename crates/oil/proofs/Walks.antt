@@ -1,7 +1,7 @@
 -- The walks over a text's tokens, a turn of each loop at a time. i of n tokens are passed, `at` is the place after them.
 use Prim.Native.Nat.{ℕ, suc, ◌+◌, ◌-◌, ◌≤◌, ◌<◌}
 use mathlib.Core.Path.{◌≡◌, sym, ap, ◌∙◌}
-use mathlib.Core.Bool.{Bool, true, false, ◌&&◌}
+use mathlib.Core.Bool.{true, false}
 use mathlib.Core.List.{List}
 use native.Mathlib.Omega.{arith}
 use native.Mathlib.Nat.{sub-zero}
@@ -9,14 +9,12 @@ use native.Mathlib.Numerals.{add-one}
 use lib.ListN.{length}
 use borrow.Author.Tests.{eq-eqb, ne_eqb}
 use Rattle.number.specs.Refusal.{none}
-use Rattle.config.specs.declared.Config.{Config}
-use Rattle.oil_grammar.specs.declared.Token.{Token}
-use Rattle.oil_grammar.specs.declared.Progress.{Progress}
+use Rattle.oil_grammar.specs.Records.{Token, Progress}
 use Rattle.oil_grammar.specs.Refusal.{no_resource}
-use Rattle.oil_grammar.specs.Token.{same, end_sort}
-use Rattle.oil_grammar.specs.Next.{next_token, spelling}
+use Rattle.oil_grammar.specs.Token.{end_sort}
+use Rattle.oil_grammar.specs.Next.{next_token}
 use Rattle.oil_grammar.specs.Automaton.{after, fresh}
-use Rattle.oil_grammar.specs.Walk.{bears, borne, fault_in, refused_at, found, walk, unborne_at, unborne, numbered, marked, mask, put, fill}
+use Rattle.oil_grammar.specs.Walk.{fault_in, refused_at, found, walk, unborne_at, unborne}
 use Rattle.oil_grammar.specs.Reader.{walked}
 use Rattle.oil_grammar.proofs.Bounds.{next_inside}
 use Rattle.oil_grammar.proofs.Sorts.{going}
@@ -32,24 +30,6 @@ module _ (t : List ℕ) where
       → (w.start ≤ w.end) × (w.end ≤ length t)
   token_inside at h e = let n = next_inside t at h in rw e (n.forward, n.inside)
 
-  module _ (n i at : ℕ) (s : Progress) (r : Bool) (x : List ℕ) {w : Token} (e : w ≡ next_token t at) where
-    pub borne_found : i < n → (bears r s && same (spelling t w) x) ≡ true → true ≡ borne (n - i) t at s r x
-    unfolding borne
-    borne_found h q =
-        let p : (bears r s && same (spelling t (next_token t at)) x) ≡ true = rw e at q in
-        rw (left_suc n i h, p)
-
-    pub borne_step : i < n → (bears r s && same (spelling t w) x) ≡ false → {s' : Progress} → s' ≡ after s w.sort
-        → borne (n - (i + 1)) t w.end s' r x ≡ borne (n - i) t at s r x
-    unfolding borne
-    borne_step h q f =
-        let p : (bears r s && same (spelling t (next_token t at)) x) ≡ false = rw e at q in
-        rw (left_suc n i h, p, f, e)
-
-  pub borne_done : (n i at : ℕ) (s : Progress) (r : Bool) (x : List ℕ) → n ≤ i → false ≡ borne (n - i) t at s r x
-  unfolding borne
-  borne_done n i at s r x h = rw (left_none n i h)
-
   module _ (n m i at : ℕ) (s : Progress) {w : Token} (e : w ≡ next_token t at) where
     pub unborne_found : i < n → unborne_at t s m w ≡ true → refused_at no_resource w.start ≡ unborne (n - i) t at s m
     unfolding unborne
@@ -63,26 +43,6 @@ module _ (t : List ℕ) where
   pub unborne_done : (n m i at : ℕ) (s : Progress) → n ≤ i → found m ≡ unborne (n - i) t at s m
   unfolding unborne
   unborne_done n m i at s h = rw (left_none n i h)
-
-  pub mask_step : (n i at : ℕ) (s : Progress) (x : List ℕ) (b m : ℕ) {w : Token} → w ≡ next_token t at → i < n
-      → {s' : Progress} → s' ≡ after s w.sort → {b' : ℕ} → b' ≡ numbered s b → {m' : ℕ}
-      → m' ≡ marked s (spelling t w) x b m → mask (n - (i + 1)) t w.end s' x b' m' ≡ mask (n - i) t at s x b m
-  unfolding mask
-  mask_step n i at s x b m e h f g k = rw (left_suc n i h, k, g, f, e)
-
-  pub mask_done : (n i at : ℕ) (s : Progress) (x : List ℕ) (b m : ℕ) → n ≤ i → m ≡ mask (n - i) t at s x b m
-  unfolding mask
-  mask_done n i at s x b m h = rw (left_none n i h)
-
-  pub fill_step : (n i at : ℕ) (s : Progress) (u : List ℕ → ℕ) (c : Config) {w : Token} → w ≡ next_token t at → i < n
-      → {s' : Progress} → s' ≡ after s w.sort → {c' : Config} → c' ≡ put u s c w.sort (spelling t w)
-      → fill (n - (i + 1)) t w.end s' u c' ≡ fill (n - i) t at s u c
-  unfolding fill
-  fill_step n i at s u c e h f g = rw (left_suc n i h, g, f, e)
-
-  pub fill_done : (n i at : ℕ) (s : Progress) (u : List ℕ → ℕ) (c : Config) → n ≤ i → c ≡ fill (n - i) t at s u c
-  unfolding fill
-  fill_done n i at s u c h = rw (left_none n i h)
 
   -- the first walk: n tokens are passed
   pub record WalksOn (at : ℕ) (s : Progress) (n : ℕ) : Type 0 where

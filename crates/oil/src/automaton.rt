@@ -1,190 +1,177 @@
 // What a token may be, and how far it takes the text.
 ghost use Rattle.std.specs.Prelude.{◌≡◌};
 ghost use Rattle.oil_grammar.specs.Automaton.{unexpected, unknown, only, object_fault, once, body_fault, attribute_fault, value_fault, fault, to, attribute_begun, after, fresh, names_object, uses_resource};
+ghost use Rattle.number.specs.Answer.{code};
+ghost use Rattle.oil.specs.Answer.{number_of, as_progress, refusal_of};
 
-use crate::sorts::{
-    AUTOSTART, CLOSE, END, EQUALS, FALSE, NAME, NUMBER, OPEN, PRIORITY, RESOURCE, SEMICOLON, TASK,
-    TRUE, UNREADABLE,
-};
-use oil_grammar::{Progress, Want};
+use crate::token::Sort;
+use number::Refusal;
+use oil_grammar::Want;
 
-const UNREADABLE_SIGN: u8 = 60;
-
-const UNEXPECTED_WORD: u8 = 61;
-
-const UNKNOWN_THERE: u8 = 62;
-
-pub const GIVEN_TWICE: u8 = 63;
+// How far a text has come: what it wants next, the token that its present object begins with, and which of the
+// attributes that may stand once that object has had.
+#[derive(Clone, Copy, Debug, PartialEq, Eq)]
+pub struct Progress {
+    pub want: Want,
+    pub kind: Option<Sort>,
+    pub priority: bool,
+    pub autostart: bool,
+}
 
 // The refusal of a token that may not stand where it does.
-fn unexpected(w: u8) -> u8
-    ensures { result ≡ unexpected w }
+#[tactic(auto, unfolding(oil_grammar::specs::Automaton::unexpected))]
+fn unexpected(w: Sort) -> Refusal
+    ensures { code result ≡ unexpected (number_of w) }
 {
-    if w == UNREADABLE {
-        UNREADABLE_SIGN
-    } else {
-        UNEXPECTED_WORD
+    match w {
+        Sort::Unreadable => Refusal::UnreadableSign,
+        _ => Refusal::UnexpectedWord,
     }
 }
 
 // The same where an object or an attribute may stand.
-fn unknown(w: u8) -> u8
-    ensures { result ≡ unknown w }
+#[tactic(auto, unfolding(oil_grammar::specs::Automaton::unknown))]
+fn unknown(w: Sort) -> Refusal
+    ensures { code result ≡ unknown (number_of w) }
 {
-    if w <= FALSE {
-        return UNKNOWN_THERE;
+    match w {
+        Sort::Task
+        | Sort::Isr
+        | Sort::Resource
+        | Sort::Priority
+        | Sort::Autostart
+        | Sort::True
+        | Sort::False
+        | Sort::Name => Refusal::UnknownWord,
+        _ => unexpected(w),
     }
-    if w == NAME {
-        return UNKNOWN_THERE;
-    }
-    unexpected(w)
 }
 
-// The refusal of a token where one sort alone may stand.
-fn only(wanted: u8, w: u8) -> u8
-    ensures { result ≡ only wanted w }
+// Where one sort alone may stand.
+#[tactic(auto, unfolding(oil_grammar::specs::Automaton::only))]
+fn only(wanted: Sort, w: Sort) -> Result<(), Refusal>
+    ensures { refusal_of result ≡ only (number_of wanted) (number_of w) }
 {
     if w == wanted {
-        return 0;
+        Ok(())
+    } else {
+        Err(unexpected(w))
     }
-    unexpected(w)
 }
 
-fn object_fault(w: u8) -> u8
-    ensures { result ≡ object_fault w }
+#[tactic(auto, unfolding(oil_grammar::specs::Automaton::object_fault))]
+fn object_fault(w: Sort) -> Result<(), Refusal>
+    ensures { refusal_of result ≡ object_fault (number_of w) }
 {
-    if w <= RESOURCE {
-        return 0;
+    match w {
+        Sort::Task | Sort::Isr | Sort::Resource | Sort::End => Ok(()),
+        _ => Err(unknown(w)),
     }
-    if w == END {
-        return 0;
-    }
-    unknown(w)
 }
 
-fn value_fault(w: u8) -> u8
-    ensures { result ≡ value_fault w }
+#[tactic(auto, unfolding(oil_grammar::specs::Automaton::value_fault))]
+fn value_fault(w: Sort) -> Result<(), Refusal>
+    ensures { refusal_of result ≡ value_fault (number_of w) }
 {
-    if w == TRUE {
-        return 0;
+    match w {
+        Sort::True => Ok(()),
+        _ => only(Sort::False, w),
     }
-    only(FALSE, w)
 }
 
-// The refusal of an attribute that was given before.
-fn once(given: bool) -> u8
-    ensures { result ≡ once given }
+// An attribute may not have been given before.
+fn once(given: bool) -> Result<(), Refusal>
+    ensures { refusal_of result ≡ once given }
 {
-    if given { GIVEN_TWICE } else { 0 }
+    if given {
+        Err(Refusal::GivenTwice)
+    } else {
+        Ok(())
+    }
 }
 
 // Where an attribute of a body may stand.
-fn body_fault(s: Progress, w: u8) -> u8
-    ensures { result ≡ body_fault s w }
+#[tactic(auto, unfolding(oil_grammar::specs::Automaton::body_fault))]
+fn body_fault(s: Progress, w: Sort) -> Result<(), Refusal>
+    ensures { refusal_of result ≡ body_fault (as_progress s) (number_of w) }
 {
-    if w == CLOSE {
-        if s.priority {
-            return 0;
-        }
-        return UNEXPECTED_WORD;
+    match w {
+        Sort::Close if s.priority => Ok(()),
+        Sort::Close => Err(Refusal::UnexpectedWord),
+        Sort::Priority => once(s.priority),
+        Sort::Resource => Ok(()),
+        Sort::Autostart if s.kind == Some(Sort::Task) => once(s.autostart),
+        _ => Err(unknown(w)),
     }
-    if w == PRIORITY {
-        return once(s.priority);
-    }
-    if w == RESOURCE {
-        return 0;
-    }
-    if w != AUTOSTART {
-        return unknown(w);
-    }
-    if s.kind == TASK {
-        return once(s.autostart);
-    }
-    unknown(w)
 }
 
-fn attribute_fault(s: Progress, w: u8) -> u8
-    ensures { result ≡ attribute_fault s w }
+#[tactic(auto, unfolding(oil_grammar::specs::Automaton::attribute_fault))]
+fn attribute_fault(s: Progress, w: Sort) -> Result<(), Refusal>
+    ensures { refusal_of result ≡ attribute_fault (as_progress s) (number_of w) }
 {
-    if s.kind != RESOURCE {
+    if s.kind != Some(Sort::Resource) {
         return body_fault(s, w);
     }
-    if w == CLOSE {
-        return 0;
+    match w {
+        Sort::Close => Ok(()),
+        _ => Err(unknown(w)),
     }
-    unknown(w)
 }
 
-// The refusal of a token of the sort `w` where the text has come as far as `s`, 0 where it is in order.
+// The refusal of a token of the sort `w` where the text has come as far as `s`.
 #[tactic(auto, unfolding(oil_grammar::specs::Automaton::fault_at))]
-pub fn fault(s: Progress, w: u8) -> u8
-    ensures { result ≡ fault s w }
+pub fn fault(s: Progress, w: Sort) -> Result<(), Refusal>
+    ensures { refusal_of result ≡ fault (as_progress s) (number_of w) }
 {
-    let want = s.want;
-    match want {
+    match s.want {
         Want::Object => object_fault(w),
-        Want::Name => only(NAME, w),
-        Want::Open => only(OPEN, w),
+        Want::Name | Want::Use => only(Sort::Name, w),
+        Want::Open => only(Sort::Open, w),
         Want::Attribute => attribute_fault(s, w),
-        Want::PriorityEquals => only(EQUALS, w),
-        Want::PriorityNumber => only(NUMBER, w),
-        Want::AutostartEquals => only(EQUALS, w),
+        Want::PriorityEquals | Want::AutostartEquals | Want::UseEquals => only(Sort::Equals, w),
+        Want::PriorityNumber => only(Sort::Number, w),
         Want::AutostartValue => value_fault(w),
-        Want::UseEquals => only(EQUALS, w),
-        Want::Use => only(NAME, w),
-        Want::AttributeEnd => only(SEMICOLON, w),
-        Want::ObjectEnd => only(SEMICOLON, w),
+        Want::AttributeEnd | Want::ObjectEnd => only(Sort::Semicolon, w),
     }
 }
 
 // The same object, at another want.
 fn to(s: Progress, want: Want) -> Progress
-    ensures { result ≡ to s want }
+    ensures { as_progress result ≡ to (as_progress s) want }
 {
-    Progress {
-        want: want,
-        kind: s.kind,
-        priority: s.priority,
-        autostart: s.autostart,
-    }
+    Progress { want, ..s }
 }
 
 // After the token that begins an attribute, or the brace that ends them.
-fn attribute_begun(s: Progress, w: u8) -> Progress
-    ensures { result ≡ attribute_begun s w }
+#[tactic(auto, unfolding(oil_grammar::specs::Automaton::attribute_begun))]
+fn attribute_begun(s: Progress, w: Sort) -> Progress
+    ensures { as_progress result ≡ attribute_begun (as_progress s) (number_of w) }
 {
-    if w == CLOSE {
-        return to(s, Want::ObjectEnd);
-    }
-    if w == PRIORITY {
-        return Progress {
+    match w {
+        Sort::Close => to(s, Want::ObjectEnd),
+        Sort::Priority => Progress {
             want: Want::PriorityEquals,
-            kind: s.kind,
             priority: true,
-            autostart: s.autostart,
-        };
-    }
-    if w == RESOURCE {
-        return to(s, Want::UseEquals);
-    }
-    Progress {
-        want: Want::AutostartEquals,
-        kind: s.kind,
-        priority: s.priority,
-        autostart: true,
+            ..s
+        },
+        Sort::Resource => to(s, Want::UseEquals),
+        _ => Progress {
+            want: Want::AutostartEquals,
+            autostart: true,
+            ..s
+        },
     }
 }
 
 // How far the text has come after a token of the sort `w`.
 #[tactic(auto, unfolding(oil_grammar::specs::Automaton::after_at))]
-pub fn after(s: Progress, w: u8) -> Progress
-    ensures { result ≡ after s w }
+pub fn after(s: Progress, w: Sort) -> Progress
+    ensures { as_progress result ≡ after (as_progress s) (number_of w) }
 {
-    let want = s.want;
-    match want {
+    match s.want {
         Want::Object => Progress {
             want: Want::Name,
-            kind: w,
+            kind: Some(w),
             priority: false,
             autostart: false,
         },
@@ -192,11 +179,9 @@ pub fn after(s: Progress, w: u8) -> Progress
         Want::Open => to(s, Want::Attribute),
         Want::Attribute => attribute_begun(s, w),
         Want::PriorityEquals => to(s, Want::PriorityNumber),
-        Want::PriorityNumber => to(s, Want::AttributeEnd),
         Want::AutostartEquals => to(s, Want::AutostartValue),
-        Want::AutostartValue => to(s, Want::AttributeEnd),
         Want::UseEquals => to(s, Want::Use),
-        Want::Use => to(s, Want::AttributeEnd),
+        Want::PriorityNumber | Want::AutostartValue | Want::Use => to(s, Want::AttributeEnd),
         Want::AttributeEnd => to(s, Want::Attribute),
         Want::ObjectEnd => to(s, Want::Object),
     }
@@ -204,11 +189,11 @@ pub fn after(s: Progress, w: u8) -> Progress
 
 // Before the first token.
 pub fn fresh() -> Progress
-    ensures { result ≡ fresh }
+    ensures { as_progress result ≡ fresh }
 {
     Progress {
         want: Want::Object,
-        kind: 0,
+        kind: None,
         priority: false,
         autostart: false,
     }
@@ -217,17 +202,15 @@ pub fn fresh() -> Progress
 // Whether the name of an object is wanted.
 #[tactic(auto, unfolding(oil_grammar::specs::Automaton::names_at))]
 pub fn names_object(s: Progress) -> bool
-    ensures { result ≡ names_object s }
+    ensures { result ≡ names_object (as_progress s) }
 {
-    let want = s.want;
-    if let Want::Name = want { true } else { false }
+    matches!(s.want, Want::Name)
 }
 
 // Whether the name of a RESOURCE attribute is wanted.
 #[tactic(auto, unfolding(oil_grammar::specs::Automaton::uses_at))]
 pub fn uses_resource(s: Progress) -> bool
-    ensures { result ≡ uses_resource s }
+    ensures { result ≡ uses_resource (as_progress s) }
 {
-    let want = s.want;
-    if let Want::Use = want { true } else { false }
+    matches!(s.want, Want::Use)
 }

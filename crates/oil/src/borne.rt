@@ -1,61 +1,24 @@
 // Whether an object among the first tokens of a text bears a name.
-ghost use Rattle.std.specs.Prelude.{◌≡◌, ◌-◌, ◌≤◌, ◌&&◌, length, take, drop};
-ghost use Rattle.oil_grammar.specs.Token.{same};
-ghost use Rattle.oil_grammar.specs.Next.{spelling};
+ghost use Rattle.std.specs.Prelude.{◌≡◌};
 ghost use Rattle.oil_grammar.specs.Automaton.{fresh};
 ghost use Rattle.oil_grammar.specs.Walk.{bears, borne};
+ghost use Rattle.oil.specs.Answer.{as_progress};
 
-use crate::automaton::{after, fresh, names_object};
-use crate::next::next_token;
-use crate::sorts::RESOURCE;
-use check::same;
-use oil_grammar::{Progress, Token};
+use crate::automaton::{Progress, names_object};
+use crate::token::Sort;
+use crate::token_walk::TokenWalk;
 
 // Whether a name is wanted that an object, or only a RESOURCE, will bear.
+#[tactic(auto, unfolding(oil_grammar::specs::Walk::bears))]
 pub fn bears(resource: bool, s: Progress) -> bool
-    ensures { result ≡ bears resource s }
+    ensures { result ≡ bears resource (as_progress s) }
 {
-    let names = names_object(s);
-    if !resource {
-        return names;
-    }
-    if !names {
-        return false;
-    }
-    s.kind == RESOURCE
+    names_object(s) && (!resource || s.kind == Some(Sort::Resource))
 }
 
-// Whether the token is such a name, and is spelled as the bytes from `start` to `end`.
-fn borne_here(text: &[u8], resource: bool, s: Progress, w: Token, start: usize, end: usize) -> bool
-    requires { ((w.start ≤ w.end) × (w.end ≤ length text.now)) × ((start ≤ end) × (end ≤ length text.now)) }
-    ensures { result ≡ bears resource s && same (spelling text.now w)
-        (take (end - start) (drop start text.now)) }
+// Whether one of the first `count` tokens is such a name, and is spelled so.
+pub fn borne(text: &[u8], count: usize, resource: bool, name: &[u8]) -> bool
+    ensures { result ≡ borne count text.now 0 fresh resource name.now }
 {
-    if !bears(resource, s) {
-        return false;
-    }
-    let from = w.start;
-    let to = w.end;
-    same(&text[from..to], &text[start..end])
-}
-
-// Whether one of the first `count` tokens is such a name, and is spelled as the bytes from `start` to `end`.
-pub fn borne(text: &[u8], count: usize, resource: bool, start: usize, end: usize) -> bool
-    requires { (start ≤ end) × (end ≤ length text.now) }
-    ensures { result ≡ borne count text.now 0 fresh resource
-        (take (end - start) (drop start text.now)) }
-{
-    let mut s = fresh();
-    let mut at = 0;
-    let mut i = 0;
-    while i < count {
-        let w = next_token(text, at);
-        if borne_here(text, resource, s, w, start, end) {
-            return true;
-        }
-        s = after(s, w.sort);
-        at = w.end;
-        i += 1;
-    }
-    false
+    TokenWalk::new(text, count).any(|step| bears(resource, step.progress) && step.spelling == name)
 }

@@ -1,79 +1,60 @@
 // The bytes of a text by class.
 ghost use Rattle.std.specs.Prelude.{◌≡◌};
-ghost use Rattle.oil_grammar.specs.Byte.{is_space, is_digit, is_letter, is_name_byte};
+ghost use Rattle.oil_grammar.specs.Byte.{is_space, is_digit, is_letter, is_name_byte, is_line_byte};
 ghost use Rattle.oil_grammar.specs.Token.{sign_of};
+ghost use Rattle.oil.specs.Answer.{sort_number};
 
-use crate::sorts::{CLOSE, EQUALS, OPEN, SEMICOLON};
-
-// A line ends after it.
-pub const LINE_FEED: u8 = 10;
+use crate::token::Sort;
 
 // Space, HT, LF, VT, FF or CR.
+#[tactic(auto, unfolding(oil_grammar::specs::Byte::is_space))]
 pub fn is_space(b: u8) -> bool
     ensures { result ≡ is_space b }
 {
-    if b == 32 {
-        return true;
-    }
-    if b < 9 {
-        return false;
-    }
-    b <= 13
+    matches!(b, b' ' | b'\t'..=b'\r')
 }
 
+#[tactic(auto, unfolding(oil_grammar::specs::Byte::is_digit))]
 pub fn is_digit(b: u8) -> bool
     ensures { result ≡ is_digit b }
 {
-    if b < 48 {
-        return false;
-    }
-    b <= 57
+    b.is_ascii_digit()
 }
 
 // A letter or _.
+#[tactic(auto, unfolding(oil_grammar::specs::Byte::is_letter))]
 pub fn is_letter(b: u8) -> bool
     ensures { result ≡ is_letter b }
 {
-    if b == 95 {
-        return true;
-    }
-    if b < 65 {
-        return false;
-    }
-    if b <= 90 {
-        return true;
-    }
-    if b < 97 {
-        return false;
-    }
-    b <= 122
+    b == b'_' || b.is_ascii_alphabetic()
 }
 
 // A byte with which a name goes on.
+#[tactic(auto, unfolding(oil_grammar::specs::Byte::is_name_byte))]
 pub fn is_name_byte(b: u8) -> bool
     ensures { result ≡ is_name_byte b }
 {
-    if is_letter(b) {
-        return true;
-    }
-    is_digit(b)
+    is_letter(b) || is_digit(b)
 }
 
-// The sort of the sign that a byte is, 0 where it is none.
-pub fn sign(b: u8) -> u8
-    ensures { result ≡ sign_of b }
+// A byte with which a line goes on.
+#[tactic(auto, unfolding(oil_grammar::specs::Byte::is_line_byte))]
+pub fn is_line_byte(b: u8) -> bool
+    ensures { result ≡ is_line_byte b }
 {
-    if b == b'{' {
-        return OPEN;
+    b != b'\n'
+}
+
+// The sign that a byte is.
+#[tactic(auto, unfolding(oil_grammar::specs::Token::sign_of))]
+pub fn sign(b: u8) -> Option<Sort>
+    ensures { sort_number result ≡ sign_of b }
+{
+    match b {
+        b'{' => Some(Sort::Open),
+        b'}' => Some(Sort::Close),
+        b'=' => Some(Sort::Equals),
+        b';' => Some(Sort::Semicolon),
+        _ => None,
     }
-    if b == b'}' {
-        return CLOSE;
-    }
-    if b == b'=' {
-        return EQUALS;
-    }
-    if b == b';' {
-        return SEMICOLON;
-    }
-    0
 }

@@ -3,106 +3,91 @@
 
 mod automaton;
 mod borne;
+mod by_class;
 mod bytes;
 mod hashing;
 mod meaning;
 mod names;
 mod next;
 mod place;
-mod sorts;
+mod token;
+mod token_walk;
 mod uses;
 mod walk;
 
-ghost use Rattle.std.specs.Prelude.{◌≡◌, ◌≤◌, ◌<◌, length};
-ghost use Rattle.number.specs.Output.{packed};
+ghost use Rattle.std.specs.Prelude.{◌≡◌, ◌≤◌, length, MatchResult};
 ghost use Rattle.config.specs.Writer.{first_fault};
-ghost use Rattle.oil_grammar.specs.Walk.{unborne};
-ghost use Rattle.oil_grammar.specs.Automaton.{fresh};
-ghost use Rattle.oil_grammar.specs.Reader.{refused_in, ranged, after_uses, read_oil, oil_result, oil_output, oil_place};
+ghost use Rattle.oil_grammar.specs.Reader.{refused_in, ranged, read_oil, oil_result, oil_output, oil_place};
+ghost use Rattle.number.specs.Answer.{code};
+ghost use Rattle.oil.specs.Answer.{refusal_of, as_oil_read};
 
 use config::Config;
 use config_codec::write_config;
-use meaning::{empty, fill};
-use oil_grammar::OilRead;
-use place::{column_of, line_of};
+use meaning::fill;
+use number::{Refusal, Refused};
+use place::position_of;
 use uses::unborne;
 use walk::walk;
 
-// The text is refused, at the line and column of a place.
-fn refused(text: &[u8], refusal: u8, at: usize) -> OilRead
-    requires { at ≤ length text.now }
-    ensures { result ≡ refused_in text.now refusal at }
-{
-    OilRead {
-        config: empty(0),
-        refusal: refusal,
-        line: line_of(text, at),
-        column: column_of(text, at),
-    }
+// Why a text is refused, with the line and column of its place; both are 0 where a number is out of its range.
+#[derive(Clone, Copy, Debug, PartialEq, Eq)]
+pub struct OilRefused {
+    pub refusal: Refusal,
+    pub line: u64,
+    pub column: u64,
 }
 
-// The first refusal of the configuration's own numbers, 0 where there is none: a writer without room gives it at place
-// 0, and otherwise the bytes needed.
-fn range_fault(config: Config) -> u8
-    ensures { result ≡ first_fault config }
+// Whether the configuration's own numbers are in their ranges: a writer without room refuses a number with place 0, and
+// otherwise with the bytes needed.
+fn range_fault(config: Config) -> Result<(), Refusal>
+    ensures { refusal_of result ≡ first_fault config }
 {
     let mut none = [0u8; 0];
-    let w = write_config(config, &mut none);
-    if w.place == 0 { w.refusal } else { 0 }
+    match write_config(config, &mut none) {
+        Err(e) if e.place == 0 => Err(e.refusal),
+        _ => Ok(()),
+    }
 }
 
 // The configuration, if its fields are in their ranges.
-fn ranged(config: Config) -> OilRead
-    ensures { result ≡ ranged config }
+fn ranged(config: Config) -> Result<Config, OilRefused>
+    ensures { as_oil_read result ≡ ranged config }
 {
-    let refusal = range_fault(config);
-    if refusal == 0 {
-        OilRead {
-            config: config,
-            refusal: 0,
+    match range_fault(config) {
+        Ok(()) => Ok(config),
+        Err(refusal) => Err(OilRefused {
+            refusal,
             line: 0,
             column: 0,
-        }
-    } else {
-        OilRead {
-            config: empty(0),
-            refusal: refusal,
-            line: 0,
-            column: 0,
-        }
+        }),
     }
 }
 
-// The reading of a text of `tokens` tokens that are in order: its uses, then its configuration.
-fn after_tokens(text: &[u8], tokens: usize) -> OilRead
-    ensures { result ≡ after_uses text.now tokens (unborne tokens text.now 0 fresh tokens) }
+// The configuration that the objects of the text are, whatever its numbers, or the first refusal of the text.
+fn described(text: &[u8]) -> Result<Config, Refused>
+    ensures { MatchResult result (λ c. read_oil text.now ≡ ranged c)
+        (λ e. (e.place ≤ length text.now) × (read_oil text.now ≡ refused_in text.now (code e.refusal) e.place)) }
 {
-    let u = unborne(text, tokens);
-    if u.refusal == 0 {
-        ranged(fill(text, tokens))
-    } else {
-        refused(text, u.refusal, u.place)
-    }
+    let tokens = walk(text)?;
+    unborne(text, tokens)?;
+    Ok(fill(text, tokens))
 }
 
 // The configuration that the text describes, or the one refusal with its line and column.
-pub fn read_oil(text: &[u8]) -> OilRead
-    ensures { result ≡ read_oil text.now }
+pub fn read_oil(text: &[u8]) -> Result<Config, OilRefused>
+    ensures { as_oil_read result ≡ read_oil text.now }
 {
-    let v = walk(text);
-    if v.refusal == 0 {
-        after_tokens(text, v.tokens)
-    } else {
-        refused(text, v.refusal, v.place)
+    match described(text) {
+        Ok(config) => ranged(config),
+        Err(e) => {
+            let at = position_of(text, e.place);
+            Err(OilRefused {
+                refusal: e.refusal,
+                line: at.line,
+                column: at.column,
+            })
+        }
     }
-}
-
-// A refusal and its place as one number.
-fn packed(refusal: u8, place: usize) -> u64
-    requires { place < 9223372036854775808 }
-    ensures { result ≡ packed refusal place }
-{
-    refusal as u64 * 4294967296 + place as u64
 }
 
 // Reads an OIL text and writes the configuration's bytes. The result is their number, or the refusal, whose line and
@@ -113,12 +98,17 @@ pub extern "C" fn osek_oil(text: &[u8], config: &mut [u8], place: &mut [u64; 2])
     ensures output { config.new ≡ oil_output text.now config.old }
     ensures place { place.new ≡ oil_place text.now }
 {
-    let r = read_oil(text);
-    *place = [r.line, r.column];
-    if r.refusal != 0 {
-        return packed(r.refusal, 0);
+    let read = match read_oil(text) {
+        Ok(read) => read,
+        Err(e) => {
+            *place = [e.line, e.column];
+            let refusal = e.refusal;
+            return Refused { refusal, place: 0 }.packed();
+        }
+    };
+    *place = [0, 0];
+    match write_config(read, config) {
+        Ok(length) => length as u64,
+        Err(e) => e.packed(),
     }
-    let c = r.config;
-    let w = write_config(c, config);
-    packed(w.refusal, w.place)
 }

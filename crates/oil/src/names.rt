@@ -1,223 +1,158 @@
 // The names of a text's objects, a class at a time: those of a class are kept, so that none has to be looked for in the
 // text. The first name that an earlier object has.
-ghost use Rattle.std.specs.Prelude.{◌≡◌, ℕ, ◌+◌, ◌-◌, ◌≤◌, ◌<◌, min, true, false, cond, length, get_or, take, drop};
-ghost use Rattle.oil_grammar.specs.Automaton.{fresh};
-ghost use Rattle.oil_grammar.specs.Walk.{borne};
-ghost use Rattle.oil.specs.Tokens.{token, progress_after, Least};
-ghost use Rattle.oil.specs.Names.{prime, hashed, in_class, room, name_at, Kept, Among, Gathered, repeated_at, twice_at};
+ghost use Rattle.std.specs.Prelude.{◌≡◌, ◌≤◌, false, length};
+ghost use Rattle.oil.specs.Tokens.{First};
+ghost use Rattle.oil.specs.Names.{repeated_at, twice_at};
 
-use crate::automaton::{after, fresh};
 use crate::borne::{bears, borne};
-use crate::hashing::{Class, classes, hash, key_of};
-use crate::next::next_token;
-use check::same;
-use oil_grammar::{Progress, Token};
+use crate::by_class::first_by_class;
+use crate::hashing::Class;
+use crate::token_walk::{Step, TokenWalk};
 
 // How many names of a class are kept at most.
-const ROOM: usize = 2048;
+pub const ROOM: usize = 2048;
 
-// How many names are kept, and the first token that is one of them again.
+// A name, and its hash at the key of its class.
 #[derive(Clone, Copy)]
-pub struct Tally {
-    pub count: usize,
-    pub twice: usize,
+pub struct Name<'a> {
+    hash: u64,
+    bytes: &'a [u8],
 }
 
-// Whether the bytes from `a` to `b`, whose hash is `g`, are those from `start` to `end`, whose hash is `h`.
-fn equal(text: &[u8], a: usize, b: usize, g: u64, start: usize, end: usize, h: u64) -> bool
-    requires in_range { ((a ≤ b) × (b ≤ length text.now)) × ((start ≤ end) × (end ≤ length text.now)) }
-    requires same_hash { take (b - a) (drop a text.now) ≡ take (end - start) (drop start text.now) → g ≡ h }
-    ensures { (result ≡ true → take (b - a) (drop a text.now) ≡ take (end - start) (drop start text.now))
-        × (take (b - a) (drop a text.now) ≡ take (end - start) (drop start text.now) → result ≡ true) }
-{
-    if g != h {
-        return false;
-    }
-    same(&text[a..b], &text[start..end])
+impl<'a> Name<'a> {
+    // In the place of a name that is not kept yet.
+    pub const NONE: Name<'static> = Name {
+        hash: 0,
+        bytes: &[],
+    };
 }
 
-// Whether one of the `count` names that are kept is spelled as the bytes from `start` to `end`, whose hash is `h`.
-fn search<'a>(
+// The names of a class that a text's objects bear, or its RESOURCE objects alone: as many as there is room for.
+#[derive(Drop)]
+pub struct Names<'a, 'b> {
     text: &'a [u8],
-    hashes: &'a [u64; 2048],
-    from: &'a [usize; 2048],
-    to: &'a [usize; 2048],
+    resource: bool,
+    class: Class,
+    room: &'b mut [Name<'a>],
     count: usize,
-    start: usize,
-    end: usize,
-    h: u64,
-) -> bool
-    requires kept { Kept text.now from.now to.now count × ((start ≤ end) × (end ≤ length text.now)) }
-    requires hashes_told { (j : ℕ) → j < count → name_at text.now from.now to.now j ≡ take (end - start) (drop start text.now)
-        → get_or hashes.now j 0 ≡ h }
-    ensures { (result ≡ true → Among text.now from.now to.now count
-        (take (end - start) (drop start text.now)))
-        × (result ≡ false → Among text.now from.now to.now count
-        (take (end - start) (drop start text.now)) → ⊥) }
-{
-    let mut i = 0;
-    while i < count {
-        if equal(text, from[i], to[i], hashes[i], start, end, h) {
+    ghost few: { count ≤ length room.now },
+}
+
+impl<'a, 'b> Names<'a, 'b> {
+    ghost use Rattle.std.specs.Prelude.{◌≡◌, ◌+◌, ◌==◌, ◌&&◌, not, true};
+    ghost use Rattle.std.specs.List.{list_any};
+    ghost use Rattle.std.specs.Str.{bytes_eq};
+    ghost use Rattle.oil.specs.declared.names.Name.{Name};
+    ghost use Rattle.oil_grammar.specs.Automaton.{fresh};
+    ghost use Rattle.oil_grammar.specs.Walk.{borne};
+    ghost use Rattle.oil.specs.Answer.{as_progress};
+    ghost use Rattle.oil.specs.Hash.{hashed};
+    ghost use Rattle.oil.specs.Tokens.{progress_after, First};
+    ghost use Rattle.oil.specs.Names.{in_class, spelled, twice_at};
+    ghost use Rattle.oil.specs.Gathered.{kept, Gathered, IsOf};
+
+    // None yet.
+    pub fn new(text: &'a [u8], resource: bool, class: Class, room: &'b mut [Name<'a>]) -> Self
+        ensures of { IsOf result text.now resource class }
+        ensures none { Gathered result 0 }
+    {
+        Names {
+            text,
+            resource,
+            class,
+            room,
+            count: 0,
+        }
+    }
+
+    // Whether a name of this hash and spelling is kept.
+    fn keeps(&self, name: &[u8], hash: u64) -> bool
+        ensures { result ≡ list_any (λ (n : Name). (n.hash == hash) && bytes_eq n.bytes.now name.now) (kept self.now) }
+    {
+        self.room[..self.count]
+            .iter()
+            .any(|n| n.hash == hash && n.bytes == name)
+    }
+
+    // Whether an object among the first `tokens` tokens bears a name of the class: it is kept, or, where there was no
+    // room, stands in the text.
+    fn knows(&self, tokens: usize, name: &[u8], hash: u64) -> bool
+        requires gathered { Gathered self.now tokens }
+        requires hash_told { (in_class self.now.class name.now ≡ true) × (hash ≡ hashed self.now.class.key 0 name.now) }
+        ensures { result ≡ borne tokens self.now.text.now 0 fresh self.now.resource name.now }
+    {
+        if self.keeps(name, hash) {
             return true;
         }
-        i += 1;
+        self.count == self.room.len() && borne(self.text, tokens, self.resource, name)
     }
-    false
-}
 
-// Whether an object, or a RESOURCE, among the first `tokens` tokens bears a name of the class: it is kept, or, where there
-// was no room, stands in the text.
-pub fn knows<'a>(
-    text: &'a [u8],
-    tokens: usize,
-    resource: bool,
-    c: Class,
-    hashes: &'a [u64; 2048],
-    from: &'a [usize; 2048],
-    to: &'a [usize; 2048],
-    count: usize,
-    start: usize,
-    end: usize,
-    h: u64,
-) -> bool
-    requires gathered { Gathered text.now resource tokens c hashes.now from.now to.now count }
-    requires in_range { (start ≤ end) × (end ≤ length text.now) }
-    requires hash_told { (h ≡ hashed c.key 0 (take (end - start) (drop start text.now)))
-        × (in_class c (take (end - start) (drop start text.now)) ≡ true) }
-    ensures { result ≡ borne tokens text.now 0 fresh resource
-        (take (end - start) (drop start text.now)) }
-{
-    if search(text, hashes, from, to, count, start, end, h) {
-        return true;
+    // Whether a name is of the class, and no object among the first `tokens` tokens bears it.
+    pub fn lacks(&self, tokens: usize, name: &[u8]) -> bool
+        requires { Gathered self.now tokens }
+        ensures { result ≡ in_class self.now.class name.now
+            && not (borne tokens self.now.text.now 0 fresh self.now.resource name.now) }
+    {
+        match self.class.hash(name) {
+            Some(hash) => !self.knows(tokens, name, hash),
+            None => false,
+        }
     }
-    if count < ROOM {
-        return false;
-    }
-    borne(text, tokens, resource, start, end)
-}
 
-// Keeps the token `i` where it is a name of the class that is not kept yet.
-fn keep(
-    text: &[u8],
-    i: usize,
-    resource: bool,
-    s: Progress,
-    w: Token,
-    c: Class,
-    hashes: &mut [u64; 2048],
-    from: &mut [usize; 2048],
-    to: &mut [usize; 2048],
-    k: Tally,
-) -> Tally
-    requires gathered_before { Gathered text.now resource i c hashes.old from.old to.old k.count }
-    requires reached { (s ≡ progress_after text.now i) × (w ≡ token text.now i) }
-    requires in_range { ((w.start ≤ w.end) × (w.end ≤ length text.now)) × ((c.key < prime) × (0 < c.count)) }
-    ensures gathered { Gathered text.now resource (i + 1) c hashes.new from.new
-        to.new result.count }
-    ensures twice { result.twice ≡ cond (twice_at text.now resource c i) (min i k.twice) k.twice }
-{
-    if !bears(resource, s) {
-        return k;
-    }
-    let start = w.start;
-    let end = w.end;
-    let h = hash(text, c.key, start, end);
-    if h % c.count != c.number {
-        return k;
-    }
-    let n = k.count;
-    if knows(text, i, resource, c, hashes, from, to, n, start, end, h) {
-        return again(k, i);
-    }
-    if ROOM <= n {
-        return k;
-    }
-    hashes[n] = h;
-    from[n] = start;
-    to[n] = end;
-    Tally {
-        count: n + 1,
-        twice: k.twice,
-    }
-}
-
-// The token `i` is kept already.
-fn again(k: Tally, i: usize) -> Tally
-    ensures { (result.count ≡ k.count) × (result.twice ≡ min i k.twice) }
-{
-    if i < k.twice {
-        return Tally {
-            count: k.count,
-            twice: i,
+    // Takes in the token number `i`. Whether it is a name of the class that an object before it bears.
+    fn take_in(&mut self, i: usize, step: Step<'a>) -> bool
+        requires gathered { Gathered self.old i }
+        requires reached { (as_progress step.progress ≡ progress_after self.old.text.now i)
+            × (step.spelling.now ≡ spelled self.old.text.now i) }
+        ensures of { IsOf self.new self.old.text.now self.old.resource self.old.class }
+        ensures gathered { Gathered self.new (i + 1) }
+        ensures twice { result ≡ twice_at self.old.text.now self.old.resource self.old.class i }
+    {
+        if !bears(self.resource, step.progress) {
+            return false;
+        }
+        let name = step.spelling;
+        let Some(hash) = self.class.hash(name) else {
+            return false;
         };
+        if self.knows(i, name, hash) {
+            return true;
+        }
+        if self.count < self.room.len() {
+            self.room[self.count] = Name { hash, bytes: name };
+            self.count += 1;
+        }
+        false
     }
-    k
+
+    // Takes in the first `tokens` tokens. The first that is a name of the class that an object before it bears.
+    pub fn gather(&mut self, tokens: usize) -> Option<usize>
+        requires { Gathered self.old 0 }
+        ensures of { IsOf self.new self.old.text.now self.old.resource self.old.class }
+        ensures gathered { Gathered self.new tokens }
+        ensures twice { First tokens (twice_at self.old.text.now self.old.resource self.old.class) result }
+    {
+        let mut first = None;
+        for (i, step) in TokenWalk::new(self.text, tokens).enumerate() {
+            if self.take_in(i, step) {
+                first = first.or(Some(i));
+            }
+        }
+        first
+    }
 }
 
-// Keeps the names of the class that objects, or RESOURCE objects, among the first `tokens` tokens bear.
-pub fn gather(
-    text: &[u8],
-    tokens: usize,
-    resource: bool,
-    c: Class,
-    hashes: &mut [u64; 2048],
-    from: &mut [usize; 2048],
-    to: &mut [usize; 2048],
-) -> Tally
-    requires in_range { (c.key < prime) × (0 < c.count) }
-    requires hashes_len { (length hashes.old ≡ room) × ((length from.old ≡ room) × (length to.old ≡ room)) }
-    ensures gathered { Gathered text.now resource tokens c hashes.new from.new
-        to.new result.count }
-    ensures twice { Least tokens (twice_at text.now resource c) result.twice }
+// The first of the first `tokens` tokens that is a name of the class and an earlier object's.
+fn first_twice(text: &[u8], tokens: usize, class: Class) -> Option<usize>
+    ensures { First tokens (twice_at text.now false class) result }
 {
-    let mut k = Tally {
-        count: 0,
-        twice: tokens,
-    };
-    let mut s = fresh();
-    let mut at = 0;
-    let mut i = 0;
-    while i < tokens {
-        let w = next_token(text, at);
-        k = keep(text, i, resource, s, w, c, hashes, from, to, k);
-        s = after(s, w.sort);
-        at = w.end;
-        i += 1;
-    }
-    k
+    let mut room = [Name::NONE; ROOM];
+    Names::new(text, false, class, &mut room).gather(tokens)
 }
 
-// The first of the first `tokens` tokens that is a name of the class and an earlier object's; `tokens` where there is none.
-fn first_of_class(text: &[u8], tokens: usize, c: Class) -> usize
-    requires { (c.key < prime) × (0 < c.count) }
-    ensures { Least tokens (twice_at text.now false c) result }
+// The first of the first `tokens` tokens that is an earlier object's name.
+pub fn first_repeated(text: &[u8], tokens: usize) -> Option<usize>
+    ensures { First tokens (repeated_at text.now false) result }
 {
-    let mut hashes = [0u64; 2048];
-    let mut from = [0usize; 2048];
-    let mut to = [0usize; 2048];
-    let k = gather(text, tokens, false, c, &mut hashes, &mut from, &mut to);
-    k.twice
-}
-
-// The first of the first `tokens` tokens that is an earlier object's name, `tokens` where there is none.
-pub fn first_repeated(text: &[u8], tokens: usize) -> usize
-    ensures { Least tokens (repeated_at text.now false) result }
-{
-    let count = classes(text, tokens);
-    let key = key_of(text, count);
-    let mut r = tokens;
-    let mut number: u64 = 0;
-    while number < count {
-        r = first_of_class(
-            text,
-            r,
-            Class {
-                key: key,
-                count: count,
-                number: number,
-            },
-        );
-        number += 1;
-    }
-    r
+    first_by_class(text, tokens, |bound, class| first_twice(text, bound, class))
 }

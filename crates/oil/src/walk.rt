@@ -1,72 +1,48 @@
 // The first walk over a text: the refusals 60 to 63 in reading order, and how many tokens there are.
 ghost use Rattle.std.specs.Prelude.{◌≡◌};
-ghost use Rattle.oil_grammar.specs.Walk.{refused_at};
 ghost use Rattle.oil_grammar.specs.Reader.{walked};
-ghost use Rattle.oil.specs.Tokens.{Ordered};
+ghost use Rattle.oil.specs.Answer.{as_found};
+ghost use Rattle.oil.specs.Tokens.{Ordered, as_order};
 
-use crate::automaton::{GIVEN_TWICE, after, fault, fresh};
+use crate::automaton::{after, fault, fresh};
 use crate::names::first_repeated;
 use crate::next::{next_token, token_start};
-use crate::sorts::END;
-use oil_grammar::Found;
+use crate::token::Sort;
+use number::{Refusal, Refused};
 
-// A refusal and its place.
-pub fn refused_at(refusal: u8, place: usize) -> Found
-    ensures { result ≡ refused_at refusal place }
+// How many tokens are in order by their sorts alone, and why the next is not; there is none where that is the end.
+fn ordered(text: &[u8]) -> (usize, Result<(), Refused>)
+    ensures { Ordered text.now (as_order text.now result.0 result.1) }
 {
-    Found {
-        refusal: refusal,
-        place: place,
-        tokens: 0,
-    }
-}
-
-// The first refusal of a token by its sort alone, or none, with its place and the number of tokens before it.
-fn ordered(text: &[u8]) -> Found
-    ensures { Ordered text.now result }
-{
-    let mut s = fresh();
+    let mut progress = fresh();
     let mut at = 0;
     let mut tokens = 0;
     loop {
-        let w = next_token(text, at);
-        let refusal = fault(s, w.sort);
-        if refusal != 0 {
-            return Found {
-                refusal: refusal,
-                place: w.start,
-                tokens: tokens,
-            };
+        let token = next_token(text, at);
+        if let Err(refusal) = fault(progress, token.sort) {
+            let place = token.start;
+            return (tokens, Err(Refused { refusal, place }));
         }
-        if w.sort == END {
-            return Found {
-                refusal: 0,
-                place: w.start,
-                tokens: tokens,
-            };
+        if let Sort::End = token.sort {
+            return (tokens, Ok(()));
         }
-        s = after(s, w.sort);
-        at = w.end;
+        progress = after(progress, token.sort);
+        at = token.end;
         tokens += 1;
     }
 }
 
-// The first refusal, or the number of tokens.
-pub fn walk(text: &[u8]) -> Found
-    ensures { result ≡ walked text.now }
+// How many tokens there are, or the first refusal.
+pub fn walk(text: &[u8]) -> Result<usize, Refused>
+    ensures { as_found result ≡ walked text.now }
 {
-    let v = ordered(text);
-    let n = v.tokens;
-    let d = first_repeated(text, n);
-    if d < n {
-        return refused_at(GIVEN_TWICE, token_start(text, d));
+    let (tokens, order) = ordered(text);
+    if let Some(repeated) = first_repeated(text, tokens) {
+        return Err(Refused {
+            refusal: Refusal::GivenTwice,
+            place: token_start(text, repeated),
+        });
     }
-    if v.refusal != 0 {
-        return refused_at(v.refusal, v.place);
-    }
-    Found {
-        refusal: 0,
-        place: 0,
-        tokens: n,
-    }
+    order?;
+    Ok(tokens)
 }

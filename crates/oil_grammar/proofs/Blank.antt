@@ -9,8 +9,8 @@ use lib.ListN.{length, drop, get_or, length-drop, drop_of_length-le}
 use lib.Seq.{drop-drop}
 use borrow.Author.Tests.{eq-eqb, ne_eqb}
 use Rattle.number.proofs.Cases.{by_test, by_eq}
-use Rattle.oil_grammar.specs.Byte.{slash, star, is_space, is_line_byte, span}
-use Rattle.oil_grammar.specs.Next.{closing, closed, comment, blank, blanks, skipped}
+use Rattle.oil_grammar.specs.Byte.{slash, star, is_space, is_line_byte}
+use Rattle.oil_grammar.specs.Next.{closing, comment, blank, blanks, skipped}
 use Rattle.oil_grammar.proofs.Span.{span_le, drop_next}
 
 -- the end of a comment, told from n bytes earlier
@@ -79,9 +79,6 @@ module _ (t : List ℕ) where
   pub skipped_le : (at : ℕ) → at ≤ length t → skipped t at ≤ length t
   skipped_le at h = let l = rw length-drop at (blanks_le (length t) (drop at t)) in omega arith
 
-  pub closing_inside : (at : ℕ) → closing (drop at t) ≤ length t
-  closing_inside at = let l = rw length-drop at (closing_le (drop at t)) in omega arith
-
   pub blank_inside : (at : ℕ) → at ≤ length t → at + blank (drop at t) ≤ length t
   blank_inside at h = let l = rw length-drop at (blank_le (drop at t)) in omega arith
 
@@ -135,52 +132,3 @@ module _ (t : List ℕ) (i : ℕ) where
   pub closing_past : length t ≤ i → closing (drop i t) ≡ 0
   unfolding closing
   closing_past h = rw (drop_of_length-le t {i = i} h)
-
--- the comment whose slash stands before i, and the space or comment at i, by the byte at i
-module _ (t : List ℕ) (i : ℕ) where
-  pub comment_past : length t ≤ i → comment (drop i t) ≡ 0
-  unfolding comment
-  comment_past h = rw (drop_of_length-le t {i = i} h)
-
-  comment_line : i < length t → get_or t i 0 ≡ slash → comment (drop i t) ≡ span is_line_byte (drop (i + 1) t) + 2
-  unfolding comment
-  comment_line h e = rw (drop_next t i h, eq-eqb (get_or t i 0) slash e)
-
-  comment_block : i < length t → (get_or t i 0 ≡ slash → ⊥) → get_or t i 0 ≡ star
-      → comment (drop i t) ≡ closed (closing (drop (i + 1) t))
-  unfolding comment
-  comment_block h d e = rw (drop_next t i h, ne_eqb (get_or t i 0) slash d, eq-eqb (get_or t i 0) star e)
-
-  pub comment_none : i < length t → (get_or t i 0 ≡ slash → ⊥) → (get_or t i 0 ≡ star → ⊥) → comment (drop i t) ≡ 0
-  unfolding comment
-  comment_none h d e = rw (drop_next t i h, ne_eqb (get_or t i 0) slash d, ne_eqb (get_or t i 0) star e)
-
-  -- as the code works them out
-  pub line_comment_lem : i < length t → get_or t i 0 ≡ slash → {e : ℕ} → e ≡ i + 1 + span is_line_byte (drop (i + 1) t)
-      → e - (i + 1) + 2 ≡ comment (drop i t)
-  line_comment_lem h q f = omega (arith, comment_line h q)
-
-  pub open_comment : i < length t → (get_or t i 0 ≡ slash → ⊥) → get_or t i 0 ≡ star → closing (drop (i + 1) t) ≡ 0
-      → 0 ≡ comment (drop i t)
-  open_comment h d q z = sym (comment_block h d q ∙ rw (eq-eqb (closing (drop (i + 1) t)) 0 z))
-
-  pub block_comment_lem : i < length t → (get_or t i 0 ≡ slash → ⊥) → get_or t i 0 ≡ star → (closing (drop (i + 1) t) ≡ 0 → ⊥)
-      → closing (drop (i + 1) t) + 2 ≡ comment (drop i t)
-  block_comment_lem h d q z = sym (comment_block h d q ∙ rw (ne_eqb (closing (drop (i + 1) t)) 0 z))
-
-  pub blank_past : length t ≤ i → blank (drop i t) ≡ 0
-  unfolding blank
-  blank_past h = rw (drop_of_length-le t {i = i} h)
-
-  pub blank_space : i < length t → is_space (get_or t i 0) ≡ true → blank (drop i t) ≡ 1
-  unfolding blank
-  blank_space h e = rw (drop_next t i h, e)
-
-  pub blank_comment : i < length t → is_space (get_or t i 0) ≡ false → get_or t i 0 ≡ slash
-      → blank (drop i t) ≡ comment (drop (i + 1) t)
-  unfolding blank
-  blank_comment h d e = rw (drop_next t i h, d, eq-eqb (get_or t i 0) slash e)
-
-  pub blank_none : i < length t → is_space (get_or t i 0) ≡ false → (get_or t i 0 ≡ slash → ⊥) → blank (drop i t) ≡ 0
-  unfolding blank
-  blank_none h d e = rw (drop_next t i h, d, ne_eqb (get_or t i 0) slash e)

@@ -7,7 +7,7 @@ use native.Mathlib.Omega.{arith}
 use lib.Dec.{leb, eqb}
 use lib.ListN.{length, take, drop, length-drop}
 use Rattle.number.proofs.Cases.{by_test}
-use Rattle.oil_grammar.specs.declared.Token.{Token}
+use Rattle.oil_grammar.specs.Records.{Token}
 use Rattle.oil_grammar.specs.Byte.{is_letter, is_digit, is_name_byte, span}
 use Rattle.oil_grammar.specs.Token.{spelled_sort, sign_of, end_sort}
 use Rattle.oil_grammar.specs.Next.{token_at, sign_at, token_of, skipped, next_token}

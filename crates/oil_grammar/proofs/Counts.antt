@@ -21,7 +21,7 @@ use Rattle.config.specs.declared.Config.{Config}
 use Rattle.config.specs.Among.{among}
 use Rattle.config.specs.Draft.{timed_in, fault_at, put_at, asked_at, ended as numbers_ended}
 use Rattle.config.specs.Writer.{fault_from}
-use Rattle.oil_grammar.specs.declared.OilRead.{OilRead}
+use Rattle.oil_grammar.specs.Records.{OilRead}
 use Rattle.oil_grammar.specs.Byte.{is_space, is_digit, is_letter, is_name_byte, is_line_byte, span}
 use Rattle.oil_grammar.specs.Token as W
 use Rattle.oil_grammar.specs.Token.{same, spelled_sort, sign_of, decimal, task_sort, isr_sort, resource_sort, end_sort}

@@ -15,11 +15,11 @@ use lib.Seq.{get_or-drop}
 use borrow.Author.Tests.{eq-eqb, ne_eqb, leb-false}
 use Rattle.number.proofs.Cases.{by_test, by_eq, by_lt}
 use Rattle.number.proofs.Front.{agree_fewer, agree_from, agree_long, agree_whole}
-use Rattle.oil_grammar.specs.declared.Token.{Token}
+use Rattle.oil_grammar.specs.Records.{Token}
 use Rattle.oil_grammar.specs.Byte.{slash, star, is_space, is_letter, is_digit, is_name_byte, is_line_byte, span}
 use Rattle.number.specs.Refusal.{none}
-use Rattle.oil_grammar.specs.declared.Progress.{Progress}
-use Rattle.oil_grammar.specs.declared.Found.{Found}
+use Rattle.oil_grammar.specs.Records.{Progress}
+use Rattle.oil_grammar.specs.Records.{Found}
 use Rattle.oil_grammar.specs.Token.{sign_of, end_sort, unreadable_sort}
 use Rattle.oil_grammar.specs.Automaton.{after, fresh}
 use Rattle.oil_grammar.specs.Walk.{borne, name_fault, fault_in, refused_at, found, walk}

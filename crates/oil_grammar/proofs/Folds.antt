@@ -14,7 +14,7 @@ use Rattle.number.proofs.Cases.{by_test}
 use Rattle.word.specs.Word.{with}
 use Rattle.config.specs.declared.Config.{Config}
 use Rattle.config.specs.Value.{with_kind, with_priority, with_autostart, with_users}
-use Rattle.oil_grammar.specs.declared.Progress.{Progress}
+use Rattle.oil_grammar.specs.Records.{Progress}
 use Rattle.oil_grammar.specs.declared.Want.{Want}
 use Rattle.oil_grammar.specs.declared.Want.TheVariants.{Object, Name, Open, Attribute, PriorityEquals, PriorityNumber, AutostartEquals, AutostartValue, UseEquals, Use, AttributeEnd, ObjectEnd}
 use Rattle.oil_grammar.specs.Token as W

@@ -5,7 +5,7 @@ use native.Mathlib.Omega.{arith}
 use lib.Dec.{eqb}
 use lib.ListN.{length}
 use Rattle.number.proofs.Cases.{by_test}
-use Rattle.oil_grammar.specs.declared.Progress.{Progress}
+use Rattle.oil_grammar.specs.Records.{Progress}
 use Rattle.oil_grammar.specs.Token.{end_sort}
 use Rattle.oil_grammar.specs.Next.{next_token}
 use Rattle.oil_grammar.specs.Automaton.{after, fresh}

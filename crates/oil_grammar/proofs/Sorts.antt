@@ -8,8 +8,8 @@ use lib.Dec.{leb, eqb}
 use lib.ListN.{take, drop}
 use borrow.Author.Tests.{lt-leb, eqb-true}
 use Rattle.number.proofs.Cases.{by_test, by_eq}
-use Rattle.oil_grammar.specs.declared.Token.{Token}
-use Rattle.oil_grammar.specs.declared.Progress.{Progress}
+use Rattle.oil_grammar.specs.Records.{Token}
+use Rattle.oil_grammar.specs.Records.{Progress}
 use Rattle.oil_grammar.specs.declared.Want.{Want}
 use Rattle.oil_grammar.specs.declared.Want.TheVariants.{Object, Name, Open, Attribute, PriorityEquals, PriorityNumber, AutostartEquals, AutostartValue, UseEquals, Use, AttributeEnd, ObjectEnd}
 use Rattle.oil_grammar.specs.Byte.{is_letter, is_digit, is_name_byte, span}

@@ -14,7 +14,7 @@ use Rattle.config.specs.Value.{no_config, with_resources}
 use Rattle.config.specs.Writer.{first_fault}
 use Rattle.config.proofs.Theorems as Config
 use Rattle.word.specs.Word.{has}
-use Rattle.oil_grammar.specs.declared.OilRead.{OilRead}
+use Rattle.oil_grammar.specs.Records.{OilRead}
 use Rattle.oil_grammar.specs.Refusal.{no_resource}
 use Rattle.oil_grammar.specs.Byte.{slash}
 use Rattle.oil_grammar.specs.Text.{Spells}

@@ -14,8 +14,8 @@ use Rattle.config.specs.Writer.{first_fault}
 use Rattle.config.proofs.Theorems as Config
 use Rattle.oil_grammar.specs.Object as O
 use Rattle.oil_grammar.specs.Object.{written, resources, object_uses, among_names}
-use Rattle.oil_grammar.specs.declared.Progress.{Progress}
-use Rattle.oil_grammar.specs.declared.OilRead.{OilRead}
+use Rattle.oil_grammar.specs.Records.{Progress}
+use Rattle.oil_grammar.specs.Records.{OilRead}
 use Rattle.oil_grammar.specs.Refusal.{no_resource}
 use Rattle.oil_grammar.specs.Text.{Spells}
 use Rattle.oil_grammar.specs.Next.{next_token}

@@ -2,6 +2,7 @@
 -- what they mean and how they are numbered, what a text is OIL of. Then the reading, token by token: the next token, what it
 -- may be, the walks over the text, the whole.
 pub mod Refusal
+pub mod Records
 pub mod Byte
 pub mod Token
 pub mod Text

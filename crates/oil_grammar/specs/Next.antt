@@ -6,7 +6,7 @@
 --   next_token t at  the first token at or after a place
 --   spelling t w     its bytes; `token_in t w`: the token of the grammar that it is
 use Rattle.std.specs.Prelude.{ℕ, zero, suc, ◌+◌, ◌-◌, cond, ◌&&◌, List, [], ◌∷◌, leb, eqb, length, take, drop}
-use Rattle.oil_grammar.specs.declared.Token.{Token}
+use Rattle.oil_grammar.specs.Records.{Token}
 use Rattle.oil_grammar.specs.Byte.{slash, star, is_space, is_letter, is_digit, is_name_byte, is_line_byte, span}
 use Rattle.oil_grammar.specs.Token as W
 use Rattle.oil_grammar.specs.Token.{mark, name, number, spelled_sort, sign_of, decimal, semicolon_sort, name_sort, number_sort, end_sort, unreadable_sort}

@@ -10,8 +10,8 @@ use Rattle.number.specs.Output.{packed}
 use Rattle.config.specs.declared.Config.{Config}
 use Rattle.config.specs.Value.{no_config}
 use Rattle.config.specs.Writer.{first_fault, write_config, wrote_config}
-use Rattle.oil_grammar.specs.declared.Found.{Found}
-use Rattle.oil_grammar.specs.declared.OilRead.{OilRead}
+use Rattle.oil_grammar.specs.Records.{Found}
+use Rattle.oil_grammar.specs.Records.{OilRead}
 use Rattle.oil_grammar.specs.Byte.{line_feed}
 use Rattle.oil_grammar.specs.Meaning.{empty}
 use Rattle.oil_grammar.specs.Next.{token_at}

@@ -12,9 +12,9 @@ use Rattle.number.specs.Refusal.{none}
 use Rattle.word.specs.Word.{with}
 use Rattle.config.specs.declared.Config.{Config}
 use Rattle.config.specs.Value.{with_kind, with_priority, with_autostart, with_users}
-use Rattle.oil_grammar.specs.declared.Token.{Token}
-use Rattle.oil_grammar.specs.declared.Progress.{Progress}
-use Rattle.oil_grammar.specs.declared.Found.{Found}
+use Rattle.oil_grammar.specs.Records.{Token}
+use Rattle.oil_grammar.specs.Records.{Progress}
+use Rattle.oil_grammar.specs.Records.{Found}
 use Rattle.oil_grammar.specs.declared.Want.{Want}
 use Rattle.oil_grammar.specs.declared.Want.TheVariants.{Object, Name, Open, Attribute, PriorityEquals, PriorityNumber, AutostartEquals, AutostartValue, UseEquals, Use, AttributeEnd, ObjectEnd}
 use Rattle.oil_grammar.specs.Refusal.{unexpected_token, given_twice, no_resource}

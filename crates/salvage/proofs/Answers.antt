@@ -16,8 +16,7 @@ use Rattle.recording.specs.Fate.{kept_bytes}
 use Rattle.recording.specs.Stretch.{list_bytes}
 use Rattle.recording.proofs.Theorems.{kept_fit, list_fits}
 use Rattle.salvage.specs.declared.Lengths.{Lengths}
-use Rattle.salvage.specs.declared.Salvaged.{Salvaged}
-use Rattle.salvage.specs.Salvage.{Fitting, lengths, refused, accepted, salvaged, filled, events_after, stretches_after, both, result_of}
+use Rattle.salvage.specs.Salvage.{Salvaged, Fitting, lengths, refused, accepted, salvaged, filled, events_after, stretches_after, both, result_of}
 
 module _ (bs : List ℕ) (n m : ℕ) where
   salvaged_too_long : max_trace < length bs → salvaged bs n m ≡ refused trace_too_long 0
@@ -151,6 +150,9 @@ salvaged_small bs n m =
       refusal_le = lit≤ tt;
       place_le = lit≤ tt;
     }))))
+
+pub answer_small : (bs : List ℕ) (n m : ℕ) (r : Salvaged) → r ≡ salvaged bs n m → Small r
+answer_small bs n m r e = rw e (salvaged_small bs n m)
 
 -- both forms of the answer's number
 module _ (r : Salvaged) where

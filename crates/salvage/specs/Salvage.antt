@@ -3,15 +3,24 @@
 --   salvaged bs n m                the answer for the recording bs, where n and m bytes are lent for events and stretches
 --   events_after, stretches_after  what the two slices hold afterwards
 --   result_of r                    the answer as one number, for C
-use Rattle.std.specs.Prelude.{ℕ, ◌+◌, ◌*◌, ◌≤◌, cond, List, leb, eqb, length}
+use Rattle.std.specs.Prelude.{ℕ, ◌+◌, ◌*◌, ◌≤◌, cond, List, leb, eqb, length, Result, Ok, Err}
+use Rattle.number.specs.declared.Refused.{Refused}
 use Rattle.number.specs.Refusal.{none, no_room}
+use Rattle.number.specs.Answer.{code}
 use Rattle.number.specs.Output.{written, packed}
 use Rattle.event.specs.Refusal.{trace_too_long}
 use Rattle.event.specs.Trace.{max_trace}
 use Rattle.recording.specs.Fate.{kept_bytes}
 use Rattle.recording.specs.Stretch.{list_bytes}
 use Rattle.salvage.specs.declared.Lengths.{Lengths}
-use Rattle.salvage.specs.declared.Salvaged.{Salvaged}
+
+-- What the call answers: the lengths of both outputs with refusal 0, or zeros with the refusal and its place, which for
+-- no_room is the number of bytes that the output at fault needs.
+pub record Salvaged : Type 0 where
+  pub events : ℕ
+  pub stretches : ℕ
+  pub refusal : ℕ
+  pub place : ℕ
 
 -- how many bytes each output takes
 abbrev pub lengths : List ℕ → Lengths
@@ -29,6 +38,11 @@ refused r p = record { events = 0; stretches = 0; refusal = r; place = p }
 
 abbrev pub accepted : Lengths → Salvaged
 accepted n = record { events = n.events; stretches = n.stretches; refusal = none; place = 0 }
+
+-- the answer of the function, in document 01's numbers
+abbrev pub as_salvaged : Result Lengths Refused → Salvaged
+as_salvaged (Ok n) = accepted n
+as_salvaged (Err e) = refused (code e.refusal) e.place
 
 -- "Refusals: 20, then 30 for the events, then 30 for the stretches"; 30's place is "the bytes needed"
 unfoldable pub salvaged : List ℕ → ℕ → ℕ → Salvaged

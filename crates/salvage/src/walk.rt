@@ -17,11 +17,10 @@ pub fn belonging(trace: &[u8], at: usize, left: usize) -> usize
     if left != 0 {
         return left;
     }
-    let r = read_event(trace, at);
-    if r.refusal != 0 {
-        return 0;
+    match read_event(trace, at) {
+        Ok(event) => event.place - at,
+        Err(_) => 0,
     }
-    r.place - at
 }
 
 // How many bytes a stretch takes in the list; none where it has no byte.

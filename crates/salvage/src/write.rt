@@ -57,6 +57,5 @@ fn put_number(value: u32, at: usize, list: &mut [u8]) -> usize
     ensures result { result ≡ at + length (number_bytes value) }
     ensures output { list.new ≡ laid at (number_bytes value) list.old }
 {
-    let w = write_number(value, &mut list[at..]);
-    at + w.place
+    at + write_number(value, &mut list[at..]).unwrap()
 }

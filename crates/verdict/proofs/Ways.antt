@@ -15,7 +15,7 @@ use Rattle.scheduler.specs.Scheduler.{Seen, fresh, seen}
 use Rattle.run.specs.Run.{Input, refused, played, read_run, answer_bytes, answers, run_result, run_output}
 use Rattle.run.specs.Run as Run
 use Rattle.run.proofs.Theorems.{places, Bounded, input_bounded, room_enough}
-use Rattle.conformance.specs.Verdict.{fail, judged, right_answers, record_verdict, verdict_on, result_of, verdict_result, passed}
+use Rattle.conformance.specs.Verdict.{fail, judged, right_answers, record_verdict, verdict_on, result_of, verdict_result, Verdict, pass, refusal, bad_record}
 use Rattle.conformance.proofs.Judging.{length_seen, true_record, false_record, judged_all, judged_some}
 use Rattle.conformance.proofs.Output.{behind, output_answers}
 use Rattle.conformance.proofs.Results.{Refusals, run_bounds}
@@ -23,12 +23,10 @@ use Rattle.verdict.specs.Answers.{RightAnswers}
 use Rattle.verdict.proofs.Answers.{right_counted}
 
 module _ (xs : List Seen) (n : ℕ) (rs : List ℕ) where
-  pub no_whole : length rs % 4 ≢ 0 → 300647710720 ≡ result_of (record_verdict xs n rs)
-  unfolding result_of
+  pub no_whole : length rs % 4 ≢ 0 → refusal bad_record 0 ≡ record_verdict xs n rs
   no_whole h = rw (false_record (length rs) n (inl h)) refl
 
-  pub too_many : 4 * n < length rs → 300647710720 ≡ result_of (record_verdict xs n rs)
-  unfolding result_of
+  pub too_many : 4 * n < length rs → refusal bad_record 0 ≡ record_verdict xs n rs
   too_many h = rw (false_record (length rs) n (inr h)) refl
 
   module _ (zs : List ℕ) (many : length xs ≡ n) (whole : length rs % 4 ≡ 0) (few : length rs ≤ 4 * n) (r : ℕ)
@@ -39,15 +37,11 @@ module _ (xs : List Seen) (n : ℕ) (rs : List ℕ) where
     as_judged : record_verdict xs n rs ≡ judged xs rs
     as_judged = rw (true_record (length rs) n whole few)
 
-    pub differs : r < n → r ≡ result_of (record_verdict xs n rs)
-    unfolding result_of
-    differs h =
-        sym (ap result_of (as_judged ∙ judged_some xs rs (λ e. omega (arith, counted)) ∙ ap fail counted))
+    pub differs : r < n → fail r ≡ record_verdict xs n rs
+    differs h = sym (as_judged ∙ judged_some xs rs (λ e. omega (arith, counted)) ∙ ap fail counted)
 
-    pub passes : n ≤ r → passed ≡ result_of (record_verdict xs n rs)
-    unfolding result_of
-    passes h =
-        sym (ap result_of (as_judged ∙ judged_all xs rs (omega (arith, counted, a.there))))
+    pub passes : n ≤ r → pass ≡ record_verdict xs n rs
+    passes h = sym (as_judged ∙ judged_all xs rs (omega (arith, counted, a.there)))
 
 -- what a run with room enough returned, by its input; r is its result
 unfoldable pub Returned : List ℕ → ℕ → Input → Type 0
@@ -86,17 +80,17 @@ module _ (cs ts d rs : List ℕ) (r : ℕ) (room : length d ≡ 32832) (ran : r 
       by_input (refused a p) k = absurd (omega (arith, k.0))
       by_input (played c es) k = omega (arith, k.1)
 
-  -- and are judged: d₁ is what the run left, x what `judge` gave
-  pub run_judged : (d₁ : List ℕ) (x : ℕ) → r < places → d₁ ≡ run_output cs ts d
-      → ((xs : List Seen) (zs : List ℕ) → d₁ ≡ answer_bytes xs ++ zs → length xs ≡ r → x ≡ result_of (record_verdict xs r rs))
-      → x ≡ verdict_result cs ts rs
+  -- and are judged: d₁ is what the run left, v what `judge` gave
+  pub run_judged : (d₁ : List ℕ) (v : Verdict) → r < places → d₁ ≡ run_output cs ts d
+      → ((xs : List Seen) (zs : List ℕ) → d₁ ≡ answer_bytes xs ++ zs → length xs ≡ r → v ≡ record_verdict xs r rs)
+      → result_of v ≡ verdict_result cs ts rs
   unfolding Returned verdict_on
-  run_judged d₁ x h left gave = by_input (read_run cs ts) refl returned
+  run_judged d₁ v h left gave = ap result_of (by_input (read_run cs ts) refl returned)
     where
-      by_input : (i : Input) → read_run cs ts ≡ i → Returned rs r i → x ≡ result_of (verdict_on rs i)
+      by_input : (i : Input) → read_run cs ts ≡ i → Returned rs r i → v ≡ verdict_on rs i
       by_input (refused a p) e k = absurd (omega (arith, k.0))
       by_input (played c es) e k =
           let many : length (seen c (fresh c) es) ≡ r = length_seen by_holding c es (fresh c) ∙ sym k.0 in
           gave (seen c (fresh c) es) (behind c es d)
           (left ∙ output_answers cs ts c es e d (omega (arith, room_enough cs ts c es e))) many
-          ∙ ap (λ (n : ℕ). result_of (record_verdict (seen c (fresh c) es) n rs)) k.0
+          ∙ ap (λ (n : ℕ). record_verdict (seen c (fresh c) es) n rs) k.0

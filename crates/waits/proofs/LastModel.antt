@@ -5,6 +5,7 @@ use mathlib.Core.List.{List}
 use native.Mathlib.Omega.{arith}
 use borrow.Author.Tests.{le-leb}
 use lib.ListN.{length}
+use Rattle.number.specs.Refusal.{none}
 use Rattle.config.specs.Accepted.{Accepted, Shaped}
 use Rattle.config.specs.Reader.{read_config}
 use Rattle.config.proofs.Theorems.{reading, accepted_ranges}
@@ -30,6 +31,9 @@ module _ (cs ts : List ℕ) {n x : ℕ} (ended : x ≡ run_result cs ts n) (room
   module _ (low : x < places) where
     whole : Played cs ts
     whole = run_played cs ts ended room low
+
+    pub config_read : (read_config cs).refusal ≡ none
+    config_read = whole.accepted
 
     pub config_accepted : Accepted (read_config cs).config × Shaped (read_config cs).config
     config_accepted = (accepted_ranges cs whole.accepted, (reading cs).shaped)

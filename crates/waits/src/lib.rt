@@ -1,27 +1,20 @@
 // How long a body waits to begin: how many bodies end before it does, counted by bits of the last model's words.
 #![tactic(auto)]
 
-ghost use Rattle.std.specs.Prelude.{◌≡◌, ◌≤◌, ◌<◌};
+ghost use Rattle.std.specs.Prelude.{◌≡◌, ◌≤◌, ◌<◌, ◌^◌, IfErr};
 ghost use Rattle.config.specs.Value.{max_bodies};
 ghost use Rattle.config.specs.Accepted.{Accepted, Shaped};
 ghost use Rattle.word.specs.Word.{ranks};
+ghost use Rattle.kernel.specs.Ends.{as_result};
 ghost use Rattle.waiting.specs.Conditions.{beyond_basic};
 ghost use Rattle.waiting.specs.Result.{wait_result};
 ghost use Rattle.waiting.specs.Words.{jobs_ahead_in, wait_at, wait_by};
 
 use config::{Config, EXTENDED, TIME_TRIGGERED};
 use config_codec::read_config;
-use kernel::{OUTPUT_MAX, REFUSED, run};
+use kernel::{OUTPUT_MAX, run};
+use number::{Refusal, Refused};
 use planner::plan_of;
-
-// Refusals, each at place 0.
-const OTHER_KINDS: u64 = 35 << 32;
-
-const NO_SUCH_BODY: u64 = 34 << 32;
-
-const NOT_WAITING: u64 = 31 << 32;
-
-const RESOURCE_IN_USE: u64 = 32 << 32;
 
 // How many Finish events are accepted after the trace until the body begins, if only such events follow; or a refusal
 // with its place.
@@ -29,29 +22,41 @@ const RESOURCE_IN_USE: u64 = 32 << 32;
 pub extern "C" fn osek_wait(config: &[u8], trace: &[u8], body: u32) -> u64
     ensures { result ≡ wait_result config.now trace.now body }
 {
-    let mut out = [0u8; OUTPUT_MAX];
-    let end = run(config, trace, &mut out);
-    if REFUSED <= end.result {
-        return end.result;
+    match wait(config, trace, body) {
+        Ok(jobs) => u64::from(jobs),
+        Err(refused) => refused.packed(),
     }
-    let read = read_config(config);
-    let c = read.config;
-    let model = end.model;
-    let last = model.registers;
-    wait_by(c, last.request, last.started, last.held, body)
+}
+
+fn wait(config: &[u8], trace: &[u8], body: u32) -> Result<u32, Refused>
+    ensures value { as_result result ≡ wait_result config.now trace.now body }
+    ensures place { IfErr result (λ refused. refused.place < 2 ^ 63) }
+{
+    let mut out = [0u8; OUTPUT_MAX];
+    let played = run(config, trace, &mut out)?;
+    let read = read_config(config)?;
+    let last = played.model.registers;
+    wait_by(read.value, last.request, last.started, last.held, body)
 }
 
 // The answer by the words of the last model: who waits to begin and who is started, by rank, and what is held.
-fn wait_by(config: Config, request: u32, started: u32, resources: u32, body: u32) -> u64
+fn wait_by(
+    config: Config,
+    request: u32,
+    started: u32,
+    resources: u32,
+    body: u32,
+) -> Result<u32, Refused>
     requires accepted { Accepted config }
     requires shaped { Shaped config }
-    ensures { result ≡ wait_by config request started resources body }
+    ensures value { as_result result ≡ wait_by config request started resources body }
+    ensures place { IfErr result (λ refused. refused.place ≡ 0) }
 {
     if beyond_basic(&config) {
-        return OTHER_KINDS;
+        return Err(refused(Refusal::OtherKinds));
     }
-    if config.bodies as u32 <= body {
-        return NO_SUCH_BODY;
+    if u32::from(config.bodies) <= body {
+        return Err(refused(Refusal::NoSuchBody));
     }
     let plan = plan_of(config);
     let rank = plan.rank[body as usize];
@@ -59,17 +64,25 @@ fn wait_by(config: Config, request: u32, started: u32, resources: u32, body: u32
 }
 
 // The same of the body with this rank.
-fn wait_at(request: u32, started: u32, resources: u32, rank: u32) -> u64
+fn wait_at(request: u32, started: u32, resources: u32, rank: u32) -> Result<u32, Refused>
     requires { rank < ranks }
-    ensures { result ≡ wait_at request started resources rank }
+    ensures value { as_result result ≡ wait_at request started resources rank }
+    ensures place { IfErr result (λ refused. refused.place ≡ 0) }
 {
     if !word::has(request, rank) {
-        return NOT_WAITING;
+        return Err(refused(Refusal::NotWaiting));
     }
     if resources != 0 {
-        return RESOURCE_IN_USE;
+        return Err(refused(Refusal::ResourceInUse));
     }
-    jobs_ahead(request, started, rank) as u64
+    Ok(jobs_ahead(request, started, rank))
+}
+
+// A refusal that no byte decides.
+fn refused(refusal: Refusal) -> Refused
+    ensures { result ≡ record { refusal = refusal; place = 0 } }
+{
+    Refused { refusal, place: 0 }
 }
 
 // Whether one of the bodies is an extended or a time-triggered task.

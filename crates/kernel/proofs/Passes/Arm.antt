@@ -12,7 +12,7 @@ use native.Mathlib.Omega.{arith}
 use lib.ListN.{length, get_or}
 use Rattle.number.specs.Refusal.{none}
 use Rattle.number_codec.specs.declared.Pair.{Pair}
-use Rattle.number.specs.Number.{NumberRead, read_number}
+use Rattle.number.specs.declared.Reading.{Reading}
 use Rattle.config.specs.declared.Config.{Config}
 use Rattle.config.specs.Meaning.{counts_lines}
 use Rattle.event.specs.declared.Event.{Event}
@@ -22,7 +22,7 @@ use Rattle.machine.specs.Model.{Model, Outcome}
 use Rattle.machine.specs.Events.{activate, finish, chain, get, release, tick, line, start, stop, wait, set_event, clear}
 use Rattle.machine.specs.Machine.{status_of, effect_of, else_of, machine_step}
 use Rattle.run.specs.Run.{call_of}
-use Rattle.kernel.proofs.Passes.Read.{PairAt, none_read, one_read, two_read}
+use Rattle.kernel.proofs.Passes.Read.{NumberAt, PairAt, none_read, one_read, two_read}
 
 -- what an arm leaves in the model m: the event at the place `at` was read, the next one stands at `next`, and o is the
 -- step
@@ -46,7 +46,7 @@ module _ {c : Config} {p : Plan} {ts : List ℕ} {m : Model} {at : ℕ} (inside 
             stepped = stepped;
           }
 
-      arm_one : arguments k ≡ 1 → {a : NumberRead} → a ≡ read_number ts (at + 1)
+      arm_one : arguments k ≡ 1 → {a : Reading ℕ} → NumberAt ts (at + 1) a
           → o ≡ machine_step c p m (call_of (event k a.value 0)) → next ≡ a.place
           → Arm c p ts m at next o
       arm_one n {a} read stepped after =
@@ -70,7 +70,7 @@ module _ {c : Config} {p : Plan} {ts : List ℕ} {m : Model} {at : ℕ} (inside 
 
     -- what each arm leaves; o is what its method hands back, a what it read
     module _ {next : ℕ} {o : Outcome} where
-      pub activate_arm : get_or ts at 0 ≡ 1 → {a : NumberRead} → a ≡ read_number ts (at + 1)
+      pub activate_arm : get_or ts at 0 ≡ 1 → {a : Reading ℕ} → NumberAt ts (at + 1) a
           → o ≡ activate p.callable p.priority m a.value → next ≡ a.place → Arm c p ts m at next o
       unfolding known arguments call_of status_of effect_of else_of activate
       activate_arm code read stepped after = arm_one 1 refl code refl read stepped after
@@ -79,17 +79,17 @@ module _ {c : Config} {p : Plan} {ts : List ℕ} {m : Model} {at : ℕ} (inside 
       unfolding known arguments call_of status_of effect_of else_of finish
       finish_arm code stepped after = arm_none 2 refl code refl stepped after
 
-      pub chain_arm : get_or ts at 0 ≡ 3 → {a : NumberRead} → a ≡ read_number ts (at + 1)
+      pub chain_arm : get_or ts at 0 ≡ 3 → {a : Reading ℕ} → NumberAt ts (at + 1) a
           → o ≡ chain p.isrs p.callable p.priority m a.value → next ≡ a.place → Arm c p ts m at next o
       unfolding known arguments call_of status_of effect_of else_of chain
       chain_arm code read stepped after = arm_one 3 refl code refl read stepped after
 
-      pub get_arm : get_or ts at 0 ≡ 4 → {a : NumberRead} → a ≡ read_number ts (at + 1)
+      pub get_arm : get_or ts at 0 ≡ 4 → {a : Reading ℕ} → NumberAt ts (at + 1) a
           → o ≡ get c.resources p.users p.ceiling m a.value → next ≡ a.place → Arm c p ts m at next o
       unfolding known arguments call_of status_of effect_of else_of get
       get_arm code read stepped after = arm_one 4 refl code refl read stepped after
 
-      pub release_arm : get_or ts at 0 ≡ 5 → {a : NumberRead} → a ≡ read_number ts (at + 1)
+      pub release_arm : get_or ts at 0 ≡ 5 → {a : Reading ℕ} → NumberAt ts (at + 1) a
           → o ≡ release c.resources p.priority m a.value → next ≡ a.place → Arm c p ts m at next o
       unfolding known arguments call_of status_of effect_of else_of release
       release_arm code read stepped after = arm_one 5 refl code refl read stepped after
@@ -99,7 +99,7 @@ module _ {c : Config} {p : Plan} {ts : List ℕ} {m : Model} {at : ℕ} (inside 
       unfolding known arguments call_of status_of effect_of else_of tick
       tick_arm code stepped after = arm_none 6 refl code refl stepped after
 
-      pub line_arm : get_or ts at 0 ≡ 7 → {a : NumberRead} → a ≡ read_number ts (at + 1)
+      pub line_arm : get_or ts at 0 ≡ 7 → {a : Reading ℕ} → NumberAt ts (at + 1) a
           → o ≡ line (counts_lines c) p.line p.priority m a.value → next ≡ a.place → Arm c p ts m at next o
       unfolding known arguments call_of status_of effect_of else_of line
       line_arm code read stepped after = arm_one 7 refl code refl read stepped after
@@ -110,12 +110,12 @@ module _ {c : Config} {p : Plan} {ts : List ℕ} {m : Model} {at : ℕ} (inside 
       unfolding known arguments call_of status_of effect_of else_of start
       start_arm code read stepped after = arm_two 8 refl code refl read stepped after
 
-      pub stop_arm : get_or ts at 0 ≡ 9 → {a : NumberRead} → a ≡ read_number ts (at + 1)
+      pub stop_arm : get_or ts at 0 ≡ 9 → {a : Reading ℕ} → NumberAt ts (at + 1) a
           → o ≡ stop c.tables p.first c.entries m a.value → next ≡ a.place → Arm c p ts m at next o
       unfolding known arguments call_of status_of effect_of else_of stop
       stop_arm code read stepped after = arm_one 9 refl code refl read stepped after
 
-      pub wait_arm : get_or ts at 0 ≡ 10 → {a : NumberRead} → a ≡ read_number ts (at + 1)
+      pub wait_arm : get_or ts at 0 ≡ 10 → {a : Reading ℕ} → NumberAt ts (at + 1) a
           → o ≡ wait p.extended p.priority m a.value → next ≡ a.place → Arm c p ts m at next o
       unfolding known arguments call_of status_of effect_of else_of wait
       wait_arm code read stepped after = arm_one 10 refl code refl read stepped after
@@ -126,7 +126,7 @@ module _ {c : Config} {p : Plan} {ts : List ℕ} {m : Model} {at : ℕ} (inside 
       unfolding known arguments call_of status_of effect_of else_of set_event
       set_arm code read stepped after = arm_two 11 refl code refl read stepped after
 
-      pub clear_arm : get_or ts at 0 ≡ 12 → {a : NumberRead} → a ≡ read_number ts (at + 1)
+      pub clear_arm : get_or ts at 0 ≡ 12 → {a : Reading ℕ} → NumberAt ts (at + 1) a
           → o ≡ clear p.extended m a.value → next ≡ a.place → Arm c p ts m at next o
       unfolding known arguments call_of status_of effect_of else_of clear
       clear_arm code read stepped after = arm_one 12 refl code refl read stepped after

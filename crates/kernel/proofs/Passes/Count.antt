@@ -9,11 +9,11 @@ use lib.ListN.{length, get_or}
 use borrow.Author.Tests.{ne_eqb}
 use Rattle.number.specs.Refusal.{none}
 use Rattle.number.proofs.Cases.{by_lt, by_eq, and_true}
-use Rattle.event.specs.Event.{EventRead, finish, tick, known, arguments, read_arguments, read_event}
-use Rattle.event.specs.Trace.{TraceRead, ended, broken, before, read_rest, read_trace}
+use Rattle.event.specs.Event.{EventRead, finish, tick, known, arguments, read_arguments, read_event, EventEnd, event_end}
+use Rattle.event.specs.Trace.{TraceRead, before, read_rest, read_trace}
 use Rattle.event.proofs.Reading.{read_byte}
 use Rattle.event.proofs.Theorems.{event_reading, rest_end, rest_step, rest_refused}
-use Rattle.kernel.specs.Passes.{counted, bare, Bare}
+use Rattle.kernel.specs.Passes.{bare, Bare}
 
 -- n events lie before the place at, and the rest is that of the whole trace
 pub record Passed (bs : List ℕ) (at n : ℕ) : Type 0 where
@@ -36,45 +36,46 @@ passed_start bs =
     }
 
 module _ (bs : List ℕ) (at n : ℕ) (p : Passed bs at n) where
-  -- the rest is r
-  same_counted : (m : ℕ) (r : TraceRead) → read_rest bs at ≡ r → m ≡ n + length r.events
-      → record { events = m; refusal = r.refusal; place = r.place } ≡ counted (read_trace bs)
-  same_counted m r s e i =
-      record {
-        events = (e ∙ ap (λ (t : TraceRead). n + length t.events) (sym s) ∙ p.events) i;
-        refusal = (ap (λ (t : TraceRead). t.refusal) (sym s) ∙ p.refusal) i;
-        place = (ap (λ (t : TraceRead). t.place) (sym s) ∙ p.place) i;
-      }
-
-  pub passed_end : length bs ≤ at → record { events = n; refusal = none; place = at } ≡ counted (read_trace bs)
-  passed_end h = same_counted n (ended at) (rest_end bs at h) (omega arith)
+  pub passed_end : length bs ≤ at → ((read_trace bs).refusal ≡ none) × (n ≡ length (read_trace bs).events)
+  passed_end h =
+      let r = rest_end bs at h in (
+        sym p.refusal ∙ ap (λ (t : TraceRead). t.refusal) r,
+        omega (arith, p.events, ap (λ (t : TraceRead). length t.events) r),
+      )
 
   -- the event at the place, of which the first pass sees its refusal f and the place q behind it
-  module _ {f q : ℕ} (said : (f ≡ (read_event bs at).refusal) × (q ≡ (read_event bs at).place)) where
-    pub passed_refused : at < length bs → (f ≡ none → ⊥)
-        → record { events = n; refusal = f; place = q } ≡ counted (read_trace bs)
+  module _ {f q : ℕ} (said : record { refusal = f; place = q } ≡ event_end bs at) where
+    why : f ≡ (read_event bs at).refusal
+    why = ap (λ (x : EventEnd). x.refusal) said
+
+    where_to : q ≡ (read_event bs at).place
+    where_to = ap (λ (x : EventEnd). x.place) said
+
+    pub passed_refused : at < length bs → (f ≡ none → ⊥) → (f ≡ (read_trace bs).refusal) × (q ≡ (read_trace bs).place)
     passed_refused h bad =
-        rw (said.0, said.1)
-        (same_counted n (broken (read_event bs at)) (rest_refused bs at h (rw said.0 at bad)) (omega arith))
+        let r = rest_refused bs at h (rw why at bad) in (
+          why ∙ sym (ap (λ (t : TraceRead). t.refusal) r) ∙ p.refusal,
+          where_to ∙ sym (ap (λ (t : TraceRead). t.place) r) ∙ p.place,
+        )
 
     module _ (ok : f ≡ none) where
       fine : (read_event bs at).refusal ≡ none
-      fine = sym said.0 ∙ ok
+      fine = sym why ∙ ok
 
       more : read_rest bs at ≡ before (read_event bs at).event (read_rest bs (read_event bs at).place)
       more = rest_step bs at fine
 
       pub passed_later : at < q
-      passed_later = rw said.1 ((event_reading bs at).after fine)
+      passed_later = rw where_to ((event_reading bs at).after fine)
 
       pub passed_step : Passed bs q (n + 1)
       passed_step =
           record {
-            at_le = rw said.1 ((event_reading bs at).inside fine);
+            at_le = rw where_to ((event_reading bs at).inside fine);
             few = omega (arith, p.few, passed_later);
-            events = rw said.1 (omega (arith, p.events, ap (λ (t : TraceRead). length t.events) more));
-            refusal = rw said.1 (sym (ap (λ (t : TraceRead). t.refusal) more) ∙ p.refusal);
-            place = rw said.1 (sym (ap (λ (t : TraceRead). t.place) more) ∙ p.place);
+            events = rw where_to (omega (arith, p.events, ap (λ (t : TraceRead). length t.events) more));
+            refusal = rw where_to (sym (ap (λ (t : TraceRead). t.refusal) more) ∙ p.refusal);
+            place = rw where_to (sym (ap (λ (t : TraceRead). t.place) more) ∙ p.place);
           }
 
 -- an event without arguments is its code
@@ -93,6 +94,10 @@ module _ (bs : List ℕ) (at : ℕ) (within : at < length bs) where
       (λ n. by_eq (get_or bs at 0) tick (λ e. of_code tick e refl refl)
       (λ m. absurd (true≢false (sym b ∙ simp (ne_eqb _ _ n, ne_eqb _ _ m)))))
 
+  bare_end : bare (get_or bs at 0) ≡ true → record { refusal = none; place = at + 1 } ≡ event_end bs at
+  bare_end b =
+      let r = bare_read b in λ i. record { refusal = r.0 i; place = r.1 i }
+
 passed_to : {bs : List ℕ} {a n b m : ℕ} → Passed bs a n → a ≡ b → n ≡ m → Passed bs b m
 passed_to p e g = rw (sym e, sym g) p
 
@@ -103,7 +108,7 @@ passed_bare bs at n p (suc k) b =
     passed_to
     (passed_step bs (at + k) (n + k)
     (passed_bare bs at n p k (record { inside = omega (arith, b.inside); each = λ i h. b.each i (omega arith) }))
-    (bare_read bs (at + k) (omega (arith, b.inside)) (b.each k (omega arith))) refl)
+    (bare_end bs (at + k) (omega (arith, b.inside)) (b.each k (omega arith))) refl)
     (omega arith) (omega arith)
 
 -- the first i bytes from a place on are such codes, where a search says so that looks at the next

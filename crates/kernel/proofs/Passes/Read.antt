@@ -15,6 +15,7 @@ use borrow.Author.Tests.{lt-ltb}
 use Rattle.number.specs.Refusal.{none}
 use Rattle.number.specs.Number.{NumberRead, Bytes, read_number, group_bytes, number_bytes}
 use Rattle.number.proofs.Cases.{by_eq}
+use Rattle.number.specs.declared.Reading.{Reading}
 use Rattle.number_codec.specs.declared.Pair.{Pair}
 use Rattle.event.specs.Event.{EventRead, last_code, known, arguments, event, accepted, read_one, read_two, read_arguments, after_number, read_event, event_bytes}
 use Rattle.event.proofs.Reading.{goes_on, ends, read_byte}
@@ -34,6 +35,10 @@ pub known_byte : (bs : List ℕ) (at : ℕ) → Bytes bs → (read_event bs at).
 known_byte bs at bytes fine =
     let w = (event_reading bs at).writable fine in
     rw (code_byte bs at bytes fine) (w.at_least, w.at_most)
+
+-- a is the number of bs at a place
+abbrev pub NumberAt : List ℕ → ℕ → Reading ℕ → Type 0
+NumberAt bs at a = (a.value ≡ (read_number bs at).value) × (a.place ≡ (read_number bs at).place)
 
 -- a is the two numbers of bs from a place on
 abbrev pub PairAt : List ℕ → ℕ → Pair → Type 0
@@ -60,12 +65,12 @@ module _ (bs : List ℕ) (at : ℕ) (within : at < length bs) (fine : (read_even
     unfolding read_arguments
     none_read e = behind ∙ rw e
 
-    pub one_read : arguments k ≡ 1 → {a : NumberRead} → a ≡ read_number bs (at + 1)
+    pub one_read : arguments k ≡ 1 → {a : Reading ℕ} → NumberAt bs (at + 1) a
         → read_event bs at ≡ accepted (event k a.value 0) a.place
     unfolding read_arguments
-    one_read e first =
+    one_read e number =
         let h : read_event bs at ≡ read_one bs k (at + 1) = behind ∙ rw e in
-        past_number _ _ fine h first
+        rw (number.0, number.1) (past_number _ _ fine h refl)
 
     pub two_read : arguments k ≡ 2 → {a : Pair} → PairAt bs (at + 1) a
         → read_event bs at ≡ accepted (event k a.first a.second) a.place

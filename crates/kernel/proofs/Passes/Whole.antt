@@ -2,15 +2,19 @@
 --
 --   answered                       the answers and then the losses, laid one after the other, are the machine's answers
 --   last_model_lem                 the model after the events is the machine's, from the fresh start of the configuration's plan
+--   refused_high                   no refusal's number is one of events
 --   ran_config_refused .. ran_all  the run's ways out, by what the code read
---
 use Prim.Native.Nat.{ℕ, ◌+◌, ◌*◌, ◌≤◌, ◌<◌}
 use mathlib.Core.Path.{◌≡◌, sym, ap, ap₂, ◌∙◌}
 use mathlib.Core.List.{List, ◌++◌}
 use native.Mathlib.Omega.{arith}
 use lib.ListN.{length, length-append, length-map}
+use Rattle.number.specs.declared.Refusal.{Refusal}
+use Rattle.number.specs.Answer.{code}
 use Rattle.number.specs.Refusal.{none, no_room}
 use Rattle.number.specs.Output.{laid, written, packed}
+use Rattle.number.proofs.Answers.{code_some}
+use Rattle.number.proofs.Cases.{by_lt}
 use Rattle.number.proofs.Laying.{laid_laid, laid_zero}
 use Rattle.config.specs.declared.Config.{Config}
 use Rattle.config.specs.Accepted.{Accepted, Shaped}
@@ -28,10 +32,9 @@ use Rattle.machine.specs.Machine.{unstarted, fresh_model, losses_of, machine_see
 use Rattle.plan.proofs.Fitted.{Fitted, fitted}
 use Rattle.run.specs.Run.{call_of, calls_of, played, read_run, answer_bytes, loss_bytes}
 use Rattle.run.specs.Steps.{machine_answers}
+use Rattle.run.proofs.Theorems.{places}
 use Rattle.run.proofs.Answers.{events, length_events, length_losses}
 use Rattle.run.proofs.Input.{config_refused, trace_too_long_lem, trace_refused, all_readable, Ran, ran_refused, ran_short, ran_whole}
-use Rattle.kernel.specs.declared.count.Counted.{Counted}
-use Rattle.kernel.specs.Passes.{counted}
 
 module _ (c : Config) (p : Plan) (fit : Fitted c p (rank_of c)) (es : List Event) where
   -- the losses, laid after the answers
@@ -75,7 +78,12 @@ last_model_lem c es p m₀ m planned begun last =
     last ∙ ap (λ (x : Model). machine_after c p x es) begun
     ∙ ap (λ (q : Plan). machine_after c q (fresh_model q) es) planned
 
--- the run's ways out, by what the code read: rc of the configuration, k of the trace
+-- refusals are not 0, so their numbers are high
+pub refused_high : (r : Refusal) (p : ℕ) → places ≤ packed (code r) p
+refused_high r p = let some = code_some r in
+    by_lt 0 (code r) (λ h. omega arith) (λ h. absurd (some (omega arith)))
+
+-- the run's ways out, by what the code read: rc of the configuration
 module _ (cs ts d : List ℕ) (rc : ConfigRead) (read : rc ≡ read_config cs) where
   pub config_place_le : rc.place ≤ length cs
   config_place_le = rw read (reading cs).inside
@@ -98,44 +106,40 @@ module _ (cs ts d : List ℕ) (rc : ConfigRead) (read : rc ≡ read_config cs) w
     pub config_shaped : Shaped rc.config
     config_shaped = rw read (reading cs).shaped
 
-    module _ (short : length ts ≤ max_trace) (k : Counted) (count : k ≡ counted (read_trace ts)) where
-      pub few_events : k.events ≤ max_trace
-      few_events = rw count (omega (arith, (trace_reading ts 0 (omega arith)).few))
+    module _ (short : length ts ≤ max_trace) where
+      pub trace_place_le : (read_trace ts).place ≤ max_trace
+      trace_place_le = omega (arith, (trace_reading ts 0 (omega arith)).place_le)
 
-      pub trace_place_le : k.place ≤ max_trace
-      trace_place_le = rw count (omega (arith, (trace_reading ts 0 (omega arith)).place_le))
-
-      pub ran_trace_refused : (x : ℕ) → (k.refusal ≡ none → ⊥) → x ≡ packed k.refusal k.place → Ran cs ts d x d (unstarted 0)
-      ran_trace_refused x n same =
+      pub ran_trace_refused : (f q x : ℕ) → (f ≡ none → ⊥) → (f ≡ (read_trace ts).refusal) × (q ≡ (read_trace ts).place)
+          → x ≡ packed f q → Ran cs ts d x d (unstarted 0)
+      ran_trace_refused f q x n told same =
           ran_refused cs ts d (read_trace ts).refusal (read_trace ts).place x
-          (trace_refused cs ts accepted short (rw count at n))
-          (same ∙ ap (λ (r : Counted). packed r.refusal r.place) count)
+          (trace_refused cs ts accepted short (rw told.0 at n))
+          (same ∙ ap₂ packed told.0 told.1)
 
-      module _ (fine : k.refusal ≡ none) where
-        pub trace_readable : (read_trace ts).refusal ≡ none
-        trace_readable = rw count at fine
+      -- n events, all readable
+      module _ (n : ℕ) (told : ((read_trace ts).refusal ≡ none) × (n ≡ length (read_trace ts).events)) where
+        pub few_events : n ≤ max_trace
+        few_events = omega (arith, told.1, (trace_reading ts 0 (omega arith)).few)
 
-        pub events_counted : k.events ≡ length (read_trace ts).events
-        events_counted = ap (λ (r : Counted). r.events) count
-
-        calls_counted : k.events ≡ length (calls_of ts)
-        calls_counted = events_counted ∙ sym (length-map (read_trace ts).events call_of)
+        calls_counted : n ≡ length (calls_of ts)
+        calls_counted = told.1 ∙ sym (length-map (read_trace ts).events call_of)
 
         reads : read_run cs ts ≡ played rc.config (calls_of ts)
         reads =
-            all_readable cs ts accepted short trace_readable
+            all_readable cs ts accepted short told.0
             ∙ ap (λ (r : ConfigRead). played r.config (calls_of ts)) (sym read)
 
-        pub ran_no_room : (need x : ℕ) → need ≡ 4 * k.events + 2 * rc.config.bodies → length d < need
+        pub ran_no_room : (need x : ℕ) → need ≡ 4 * n + 2 * rc.config.bodies → length d < need
             → x ≡ packed no_room need → Ran cs ts d x d (unstarted 0)
         ran_no_room need x long less same =
             ran_short cs ts d rc.config config_accepted config_shaped (calls_of ts) reads need x
             (omega (arith, calls_counted)) less same
 
-        pub ran_all : (d₁ : List ℕ) (m : Model) → 4 * k.events + 2 * rc.config.bodies ≤ length d
+        pub ran_all : (d₁ : List ℕ) (m : Model) → 4 * n + 2 * rc.config.bodies ≤ length d
             → d₁ ≡ written (machine_answers rc.config (plan_of rc.config) (calls_of ts)) d
             → m ≡ machine_after rc.config (plan_of rc.config) (fresh_model (plan_of rc.config)) (calls_of ts)
-            → Ran cs ts d k.events d₁ m
+            → Ran cs ts d n d₁ m
         ran_all d₁ m room wrote last =
-            ran_whole cs ts d rc.config config_accepted config_shaped (calls_of ts) reads k.events d₁ m
+            ran_whole cs ts d rc.config config_accepted config_shaped (calls_of ts) reads n d₁ m
             (omega (arith, calls_counted)) calls_counted wrote last

@@ -1,13 +1,14 @@
 -- The events of extended tasks, case by case in the order of their checks, as the code goes through them: refused
 -- with each status, and done. A variable before an equation is what the code has in its place.
-use Prim.Native.Nat.{ℕ}
+use Prim.Native.Nat.{ℕ, ◌-◌, ◌^◌, ◌<◌}
 use mathlib.Core.Path.{◌≡◌, refl, sym, ◌∙◌}
 use mathlib.Core.Bool.{Bool, true, false, cond, ◌&&◌, ◌||◌}
 use mathlib.Core.List.{List}
-use lib.Dec.{eqb}
+use native.Mathlib.Omega.{arith}
 use lib.ListN.{get_or, set}
-use Rattle.std.specs.Int.Bits.{bit_or}
+use Rattle.std.specs.Int.Bits.{bit_and, bit_or}
 use borrow.Author.Tests.{eq-eqb, ne_eqb}
+use Rattle.number.proofs.Bits.{and_not}
 use Rattle.scheduler.specs.Status.{call_level, no_such, access, holds_resource, wrong_state, first_given}
 use Rattle.scheduler.specs.Bits.{any_set, with_bits, without_bits}
 use Rattle.word.specs.Word.{has, with, without}
@@ -63,6 +64,11 @@ module _ (xs : ℕ) (ps : List ℕ) (m : Model) (w : ℕ) {a : Bool} (calls : a 
 pub more_bits : (b w : ℕ) → bit_or b w ≡ with_bits b w
 unfolding with_bits
 more_bits b w = refl
+
+-- and those of others that it does not have
+pub other_bits : (b w : ℕ) → b < 2 ^ 32 → w < 2 ^ 32 → bit_and b (2 ^ 32 - 1 - w) ≡ without_bits b w
+unfolding without_bits
+other_bits b w lo hi = omega (arith, and_not 32 b w lo hi)
 
 -- Set t w
 module _ (ws xs : ℕ) (rs ps : List ℕ) (m : Model) (t w : ℕ) {a : Bool} (calls : a ≡ no_caller m) where

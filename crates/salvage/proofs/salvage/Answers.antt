@@ -5,20 +5,20 @@ use Rattle.salvage.proofs.salvage.Goals as goal
 
 pub returns-then-trace-gt-MAX_TRACE : goal.returns-then-trace-gt-MAX_TRACE
 returns-then-trace-gt-MAX_TRACE c = let a = c.args in
-    let all = did_too_long a.trace.now a.events.now a.stretches.now c.refused.result c.if-trace-gt-MAX_TRACE.true
-    c.refused.ensures in record { result = all.0; events = all.1.0; stretches = all.1.1 }
+    let all = did_too_long a.trace.now a.events.now a.stretches.now _ c.if-trace-gt-MAX_TRACE.true
+    refl in record { result = all.0; events = all.1.0; stretches = all.1.1 }
 
 pub returns-then-events-need : goal.returns-then-events-need
 returns-then-events-need c = let m = c.measure-need in
     let a = c.args in
-    let all = did_no_room a.trace.now a.events.now a.stretches.now c.refused-then-events-need.result c.if-trace-gt-MAX_TRACE.false m.result
-    m.ensures c.if-events-need.true c.refused-then-events-need.ensures in record { result = all.0; events = all.1.0; stretches = all.1.1 }
+    let all = did_no_room a.trace.now a.events.now a.stretches.now _ c.if-trace-gt-MAX_TRACE.false m.result
+    m.ensures c.if-events-need.true refl in record { result = all.0; events = all.1.0; stretches = all.1.1 }
 
 pub returns-then-stretches-need : goal.returns-then-stretches-need
 returns-then-stretches-need c = let m = c.measure-need in
     let a = c.args in
-    let all = did_no_list a.trace.now a.events.now a.stretches.now c.refused-then-stretches-need.result c.if-trace-gt-MAX_TRACE.false m.result
-    m.ensures c.if-events-need.false c.if-stretches-need.true c.refused-then-stretches-need.ensures in record { result = all.0; events = all.1.0; stretches = all.1.1 }
+    let all = did_no_list a.trace.now a.events.now a.stretches.now _ c.if-trace-gt-MAX_TRACE.false m.result
+    m.ensures c.if-events-need.false c.if-stretches-need.true refl in record { result = all.0; events = all.1.0; stretches = all.1.1 }
 
 pub write_both-requires : goal.write_both-requires
 write_both-requires c = let m = c.measure-need in

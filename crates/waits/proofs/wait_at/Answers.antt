@@ -4,17 +4,17 @@ use borrow.Author.Tests.{eq-eqb, ne_eqb}
 use Rattle.waiting.specs.Words.{wait_at}
 use Rattle.waits.proofs.wait_at.Goals as goal
 
-pub returns-then-not-has : goal.returns-then-not-has
+pub returns-then-not-has-clause-value : goal.returns-then-not-has-clause-value
 unfolding wait_at
-returns-then-not-has c = simp (sym c.has.ensures, c.if-not-has.true)
+returns-then-not-has-clause-value c = simp (c.refused.ensures, sym c.has.ensures, c.if-not-has.true)
 
-pub returns-then-resources-ne0 : goal.returns-then-resources-ne0
+pub returns-then-resources-ne0-clause-value : goal.returns-then-resources-ne0-clause-value
 unfolding wait_at
-returns-then-resources-ne0 c = simp (sym c.has.ensures, c.if-not-has.false, ne_eqb c.args.resources 0 c.if-resources-ne0.true)
+returns-then-resources-ne0-clause-value c = simp (c.refused-then-resources-ne0.ensures, sym c.has.ensures, c.if-not-has.false, ne_eqb c.args.resources 0 c.if-resources-ne0.true)
 
-pub returns : goal.returns
+pub returns-clause-value : goal.returns-clause-value
 unfolding wait_at
-returns c = simp (
+returns-clause-value c = simp (
   sym c.has.ensures,
   c.if-not-has.false,
   eq-eqb c.args.resources 0 c.if-resources-ne0.false,

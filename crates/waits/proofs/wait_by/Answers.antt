@@ -1,5 +1,5 @@
 -- `wait_by` meets its contract: its tests are the definition's, and the plan has the body's rank.
-use Prim.Native.Nat.{ℕ, ◌<◌}
+use Prim.Native.Nat.{ℕ, ◌≤◌, ◌<◌}
 use mathlib.Core.Path.{◌≡◌, sym, ap, ◌∙◌}
 use native.Mathlib.Omega.{arith}
 use lib.ListN.{get_or}
@@ -27,28 +27,33 @@ module _ (c : Config) (ok : Accepted c) (shaped : Shaped c) (p : Plan) (planned 
   rank_read_lt : get_or p.rank b 0 < ranks
   rank_read_lt = omega (arith, rank_read, rank_lt c ok shaped b fits, ok.few_bodies)
 
-pub returns-then-beyond_basic : goal.returns-then-beyond_basic
+pub returns-then-beyond_basic-clause-value : goal.returns-then-beyond_basic-clause-value
 unfolding wait_by
-returns-then-beyond_basic c = simp (sym c.beyond_basic.ensures, c.if-beyond_basic.true)
+returns-then-beyond_basic-clause-value c = simp (c.refused.ensures, sym c.beyond_basic.ensures, c.if-beyond_basic.true)
 
-pub returns-then-config-body : goal.returns-then-config-body
+pub returns-then-from-body-clause-value : goal.returns-then-from-body-clause-value
 unfolding wait_by
-returns-then-config-body c = simp (
-  sym c.beyond_basic.ensures,
-  c.if-beyond_basic.false,
-  le-leb c.args.config.bodies c.args.body c.if-config-body.true,
-)
+returns-then-from-body-clause-value c = let past : c.args.config.bodies ≤ c.args.body = omega (arith, c.from.ensures, c.if-from-body.true) in
+    simp (
+      c.refused-then-from-body.ensures,
+      sym c.beyond_basic.ensures,
+      c.if-beyond_basic.false,
+      le-leb c.args.config.bodies c.args.body past,
+    )
 
 pub wait_at-requires : goal.wait_at-requires
-wait_at-requires c = rw c.from.ensures (rank_read_lt c.args.config c.requires.accepted c.requires.shaped c.plan_of-plan.result c.plan_of-plan.ensures c.args.body
-    c.if-config-body.false)
+wait_at-requires c = let within : c.args.body < c.args.config.bodies = omega (arith, c.from.ensures, c.if-from-body.false) in
+    rw c.from-2.ensures
+    (rank_read_lt c.args.config c.requires.accepted c.requires.shaped c.plan_of-plan.result c.plan_of-plan.ensures
+    c.args.body within)
 
-pub returns : goal.returns
+pub returns-clause-value : goal.returns-clause-value
 unfolding wait_by
-returns c = simp (
-  sym c.beyond_basic.ensures,
-  c.if-beyond_basic.false,
-  lt-leb c.args.config.bodies c.args.body c.if-config-body.false,
-  sym (rank_read c.args.config c.requires.accepted c.requires.shaped c.plan_of-plan.result c.plan_of-plan.ensures c.args.body
-      c.if-config-body.false),
-) (rw c.from.ensures at c.wait_at.ensures)
+returns-clause-value c = let within : c.args.body < c.args.config.bodies = omega (arith, c.from.ensures, c.if-from-body.false) in
+    simp (
+      sym c.beyond_basic.ensures,
+      c.if-beyond_basic.false,
+      lt-leb c.args.config.bodies c.args.body within,
+      sym (rank_read c.args.config c.requires.accepted c.requires.shaped c.plan_of-plan.result c.plan_of-plan.ensures
+          c.args.body within),
+    ) (rw c.from-2.ensures at c.wait_at.ensures.value)

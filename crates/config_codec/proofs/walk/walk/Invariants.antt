@@ -4,8 +4,8 @@ use Rattle.config_codec.specs.Position.{draft_at}
 use Rattle.config_codec.proofs.Step.{WalksOn}
 use Rattle.config_codec.proofs.walk.walk.Given as goal
 
-abbrev pub invariant-loop-value : goal.invariant-loop-value
-invariant-loop-value l = WalksOn l.writing l.value l.bytes l.c l.p l.at
+abbrev pub invariant-loop-p : goal.invariant-loop-p
+invariant-loop-p g l = WalksOn (g.N.Numbers.number l.numbers) l.c l.p l.at
 
-abbrev pub decreases-loop-value : goal.decreases-loop-value
-decreases-loop-value l = left (draft_at l.c l.p)
+abbrev pub decreases-loop-p : goal.decreases-loop-p
+decreases-loop-p g l = left (draft_at l.c l.p)

@@ -2,4 +2,4 @@
 use Rattle.draw.proofs.events.draw_below.Goals as goal
 
 pub returns : goal.returns
-returns c = rw c.next-drawn.ensures
+returns c = rw (c.next-drawn.ensures, c.from.ensures)

@@ -6,9 +6,6 @@ use Rattle.draw.proofs.trace.measure.Goals as goal
 pub loop-i-init : goal.loop-i-init
 loop-i-init c = (omega arith, reached_start _ _ c.args.start c.ranges.start.fits)
 
-pub draw_event-drawn-requires : goal.draw_event-drawn-requires
-draw_event-drawn-requires c = c.requires.0
-
 pub event_length-length-requires : goal.event_length-length-requires
 event_length-length-requires c = let d = c.draw_event-drawn in
     next_writable c.loop-i.invariant.1 d.result d.ensures
@@ -19,7 +16,7 @@ overflow_add-length c = let d = c.draw_event-drawn in
     omega (
       arith,
       c.event_length-length.ensures,
-      reached_few next (omega (arith, c.requires.1, c.loop-i-test.true)),
+      reached_few next (omega (arith, c.requires, c.loop-i-test.true)),
     )
 
 pub loop-i-preserved : goal.loop-i-preserved

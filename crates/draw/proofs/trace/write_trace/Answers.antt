@@ -14,15 +14,12 @@ loop-i-init c = (
   (reached_start _ _ c.args.start c.ranges.start.fits, output_start _ _ c.args.start c.args.out.now),
 )
 
-pub draw_event-drawn-requires : goal.draw_event-drawn-requires
-draw_event-drawn-requires c = c.requires.0
-
 pub put_event-at-requires : goal.put_event-at-requires
 put_event-at-requires c = let d = c.draw_event-drawn in
     let l = c.loop-i in (
       next_writable l.invariant.1.0 d.result d.ensures,
       next_room l.invariant.1.0 d.result d.ensures c.args.count c.loop-i-test.true l.out
-          c.args.out.now c.requires.1 l.invariant.1.1,
+          c.args.out.now c.requires l.invariant.1.1,
     )
 
 pub loop-i-preserved : goal.loop-i-preserved
@@ -34,16 +31,16 @@ loop-i-preserved c = let w = c.put_event-at in
         rw w.ensures.result (reached_step l.invariant.1.0 d.result d.ensures),
         w.ensures.output
             ∙ next_laid l.invariant.1.0 d.result d.ensures c.args.count c.loop-i-test.true l.out
-            c.args.out.now c.requires.1 l.invariant.1.1,
+            c.args.out.now c.requires l.invariant.1.1,
       ),
     )
 
 pub returns : goal.returns
 returns c = let l = c.loop-i in
     let same : l.i ≡ c.args.count = omega (arith, l.invariant.0, c.loop-i-test.false) in
-    output_end _ _ c.args.start c.args.count l.out c.args.out.now c.requires.1 (rw same at l.invariant.1.1)
+    output_end _ _ c.args.start c.args.count l.out c.args.out.now c.requires (rw same at l.invariant.1.1)
 
 pub shape_of-out : goal.shape_of-out
 shape_of-out c = let a = c.args in
     ap length (returns c)
-    ∙ length_written (draw_bytes a.weights.now a.limits.now a.start a.count) a.out.now
+    ∙ length_written (draw_bytes a.chances.now.weights a.chances.now.limits a.start a.count) a.out.now

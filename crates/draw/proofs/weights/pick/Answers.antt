@@ -1,5 +1,6 @@
 -- `pick` meets its contract: the value is at least the running sum so far. The measure is how many weights are left.
-use mathlib.Core.Path.{sym}
+use Rattle.std.proofs.lemmas.List.{get_or-take}
+use mathlib.Core.Path.{sym, ◌∙◌}
 use native.Mathlib.Omega.{arith}
 use Rattle.drawing.proofs.Shares.{picked_last}
 use Rattle.draw.proofs.Sums.{summed_start, summed_step, summed_end, summed_picks}
@@ -9,16 +10,22 @@ pub loop-i-init : goal.loop-i-init
 loop-i-init c = (omega arith, (summed_start _, omega arith))
 
 pub overflow_add-sum : goal.overflow_add-sum
-overflow_add-sum c = omega (arith, c.wide-sum.ensures.1, c.loop-i.invariant.1.0.small)
+overflow_add-sum c = omega (arith, c.from-sum.ensures, c.loop-i.invariant.1.0.small)
 
 pub returns-then-value-sum : goal.returns-then-value-sum
-returns-then-value-sum c = let w = c.wide-sum in
-    summed_picks c.loop-i.invariant.1.0 w.ensures.0 w.ensures.1 c.args.value (omega arith)
+returns-then-value-sum c = summed_picks c.loop-i.invariant.1.0
+    (c.from-sum.ensures ∙ get_or-take 11 c.args.weights.now c.loop-i.i 0 (omega arith)) (omega (arith, c.from-sum.ensures)) c.args.value (omega arith)
     c.loop-i.invariant.1.1 c.if-value-sum.true
 
 pub loop-i-preserved : goal.loop-i-preserved
-loop-i-preserved c = let w = c.wide-sum in
-    (omega arith, (summed_step c.loop-i.invariant.1.0 w.ensures.0 w.ensures.1, c.if-value-sum.false))
+loop-i-preserved c = (
+  omega arith,
+  (
+    summed_step c.loop-i.invariant.1.0
+        (c.from-sum.ensures ∙ get_or-take 11 c.args.weights.now c.loop-i.i 0 (omega arith)) (omega (arith, c.from-sum.ensures)),
+    c.if-value-sum.false,
+  ),
+)
 
 pub returns : goal.returns
 returns c = let e = summed_end c.loop-i.invariant.1.0 11 (omega (arith, c.loop-i.invariant.0, c.loop-i-test.false)) in

@@ -3,16 +3,16 @@ use native.Mathlib.Omega.{arith}
 use Rattle.draw.proofs.Sums.{summed_start, summed_step, summed_end}
 use Rattle.draw.proofs.weights.total.Goals as goal
 
-pub loop-i-init : goal.loop-i-init
-loop-i-init c = (omega arith, summed_start _)
+pub loop-weight-init : goal.loop-weight-init
+loop-weight-init c = (omega arith, summed_start _)
 
 pub overflow_add-sum : goal.overflow_add-sum
-overflow_add-sum c = omega (arith, c.wide-sum.ensures.1, c.loop-i.invariant.1.small)
+overflow_add-sum c = omega (arith, c.from-sum.ensures, c.loop-weight.invariant.1.small)
 
-pub loop-i-preserved : goal.loop-i-preserved
-loop-i-preserved c = let w = c.wide-sum in
-    (omega arith, summed_step c.loop-i.invariant.1 w.ensures.0 w.ensures.1)
+pub loop-weight-preserved : goal.loop-weight-preserved
+loop-weight-preserved c =
+    (omega arith, summed_step c.loop-weight.invariant.1 c.from-sum.ensures (omega (arith, c.from-sum.ensures)))
 
 pub returns : goal.returns
-returns c = let l = c.loop-i in
-    summed_end l.invariant.1 12 (omega (arith, l.invariant.0, c.loop-i-test.false))
+returns c = let l = c.loop-weight in
+    summed_end l.invariant.1 12 (omega (arith, l.invariant.0, c.loop-weight-test.false))

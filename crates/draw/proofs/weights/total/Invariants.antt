@@ -3,8 +3,8 @@ use Prim.Native.Nat.{◌-◌, ◌≤◌}
 use Rattle.draw.proofs.Sums.{Summed}
 use Rattle.draw.proofs.weights.total.Given as goal
 
-abbrev pub invariant-loop-i : goal.invariant-loop-i
-invariant-loop-i l = (l.i ≤ 12) × Summed l.weights l.i l.sum
+abbrev pub invariant-loop-weight : goal.invariant-loop-weight
+invariant-loop-weight l = (l.weight-index ≤ 12) × Summed l.weights l.weight-index l.sum
 
-abbrev pub decreases-loop-i : goal.decreases-loop-i
-decreases-loop-i l = 12 - l.i
+abbrev pub decreases-loop-weight : goal.decreases-loop-weight
+decreases-loop-weight l = 12 - l.weight-index

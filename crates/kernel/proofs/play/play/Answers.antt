@@ -22,18 +22,18 @@ armed c =
     let fine = playing_fine c.loop-at.invariant inside in
     let code = known_byte _ _ (λ i. omega (arith, c.type_inv.trace i)) fine in
     elim c.match-code.branch [
-      | in-1 w ↦ activate_arm inside fine w.in-1.is w.read_number-task.ensures (ap view_outcome w.o-is ∙ w.activate-o.ensures) w.next-is
+      | in-1 w ↦ activate_arm inside fine w.in-1.is (w.number_at-task.ensures.value, w.number_at-task.ensures.place) (ap view_outcome w.o-is ∙ w.activate-o.ensures) w.next-is
       | in-2 w ↦ finish_arm inside fine w.in-2.is (ap view_outcome w.o-is ∙ w.finish-o.ensures) w.next-is
-      | in-3 w ↦ chain_arm inside fine w.in-3.is w.read_number-task-in-3.ensures (ap view_outcome w.o-is ∙ w.chain-o.ensures) w.next-is
-      | in-4 w ↦ get_arm inside fine w.in-4.is w.read_number-resource.ensures (ap view_outcome w.o-is ∙ w.get-o.ensures) w.next-is
-      | in-5 w ↦ release_arm inside fine w.in-5.is w.read_number-resource-in-5.ensures (ap view_outcome w.o-is ∙ w.release-o.ensures) w.next-is
+      | in-3 w ↦ chain_arm inside fine w.in-3.is (w.number_at-task-in-3.ensures.value, w.number_at-task-in-3.ensures.place) (ap view_outcome w.o-is ∙ w.chain-o.ensures) w.next-is
+      | in-4 w ↦ get_arm inside fine w.in-4.is (w.number_at-resource.ensures.value, w.number_at-resource.ensures.place) (ap view_outcome w.o-is ∙ w.get-o.ensures) w.next-is
+      | in-5 w ↦ release_arm inside fine w.in-5.is (w.number_at-resource-in-5.ensures.value, w.number_at-resource-in-5.ensures.place) (ap view_outcome w.o-is ∙ w.release-o.ensures) w.next-is
       | in-6 w ↦ tick_arm inside fine w.in-6.is (ap view_outcome w.o-is ∙ w.tick-o.ensures) w.next-is
-      | in-7 w ↦ line_arm inside fine w.in-7.is w.read_number-isr.ensures (ap view_outcome w.o-is ∙ w.line-o.ensures) w.next-is
+      | in-7 w ↦ line_arm inside fine w.in-7.is (w.number_at-isr.ensures.value, w.number_at-isr.ensures.place) (ap view_outcome w.o-is ∙ w.line-o.ensures) w.next-is
       | in-8 w ↦ start_arm inside fine w.in-8.is (w.read_pair-arguments.ensures.first, (w.read_pair-arguments.ensures.second, w.read_pair-arguments.ensures.place)) (ap view_outcome w.o-is ∙ w.start-o.ensures) w.next-is
-      | in-9 w ↦ stop_arm inside fine w.in-9.is w.read_number-table.ensures (ap view_outcome w.o-is ∙ w.stop-o.ensures) w.next-is
-      | in-10 w ↦ wait_arm inside fine w.in-10.is w.read_number-mask.ensures (ap view_outcome w.o-is ∙ w.wait-o.ensures) w.next-is
+      | in-9 w ↦ stop_arm inside fine w.in-9.is (w.number_at-table.ensures.value, w.number_at-table.ensures.place) (ap view_outcome w.o-is ∙ w.stop-o.ensures) w.next-is
+      | in-10 w ↦ wait_arm inside fine w.in-10.is (w.number_at-mask.ensures.value, w.number_at-mask.ensures.place) (ap view_outcome w.o-is ∙ w.wait-o.ensures) w.next-is
       | in-11 w ↦ set_arm inside fine w.in-11.is (w.read_pair-arguments-in-11.ensures.first, (w.read_pair-arguments-in-11.ensures.second, w.read_pair-arguments-in-11.ensures.place)) (ap view_outcome w.o-is ∙ w.set_event-o.ensures) w.next-is
-      | in-12 w ↦ clear_arm inside fine w.in-12.is w.read_number-mask-in-12.ensures (ap view_outcome w.o-is ∙ w.clear-o.ensures) w.next-is
+      | in-12 w ↦ clear_arm inside fine w.in-12.is (w.number_at-mask-in-12.ensures.value, w.number_at-mask-in-12.ensures.place) (ap view_outcome w.o-is ∙ w.clear-o.ensures) w.next-is
       | in-0 w ↦ absurd (elim w.in-0-1.branch [
         | in-0-1 v ↦ omega (arith, v.in-0-1.keys13, code)
         | in_default-1 v ↦ let r = v.in_default-1.rest in one_of_twelve _ code.0 code.1 r.0.0.0.0.0.0.0.0.0.0.0.0.1 r.0.0.0.0.0.0.0.0.0.0.0.1 r.0.0.0.0.0.0.0.0.0.0.1 r.0.0.0.0.0.0.0.0.0.1 r.0.0.0.0.0.0.0.0.1 r.0.0.0.0.0.0.0.1 r.0.0.0.0.0.0.1 r.0.0.0.0.0.1 r.0.0.0.0.1 r.0.0.0.1 r.0.0.1 r.0.1

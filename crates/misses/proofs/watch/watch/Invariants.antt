@@ -5,8 +5,8 @@ use Rattle.model.specs.View.{view}
 use Rattle.misses.proofs.Watching.{Watching}
 use Rattle.misses.proofs.watch.watch.Given as goal
 
-abbrev pub invariant-loop-at : goal.invariant-loop-at
-invariant-loop-at l = Watching l.config l.plan l.trace (view l.model) l.cells l.misses l.ticks l.at
+abbrev pub invariant-loop-read : goal.invariant-loop-read
+invariant-loop-read l = Watching l.config l.plan l.trace (view l.model) l.cells l.misses l.ticks l.at
 
-abbrev pub decreases-loop-at : goal.decreases-loop-at
-decreases-loop-at l = length l.trace - l.at
+abbrev pub decreases-loop-read : goal.decreases-loop-read
+decreases-loop-read l = length l.trace - l.at

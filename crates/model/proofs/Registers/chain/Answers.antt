@@ -1,6 +1,6 @@
 -- `chain` meets its contract, case by case in the order of its checks.
 use mathlib.Core.Path.{◌≡◌, sym, refl, ◌∙◌}
-use mathlib.Core.Bool.{Bool, true, false, ◌||◌, ◌&&◌, not, and-true, and-false}
+use mathlib.Core.Bool.{false, ◌||◌, ◌&&◌, not, and-true, and-false}
 use lib.Dec.{eqb}
 use borrow.Author.Tests.{eq-eqb, ne_eqb}
 use Rattle.word.specs.Word.{has, union}

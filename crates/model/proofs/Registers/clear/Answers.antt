@@ -1,8 +1,9 @@
 -- `clear` meets its contract, case by case in the order of its checks.
 use mathlib.Core.Path.{refl, sym, ◌∙◌}
+use native.Mathlib.Omega.{arith}
 use Rattle.word.proofs.Theorems.{has_lt}
 use Rattle.model.specs.View.{put_bits, view_with}
-use Rattle.model.proofs.Methods.Bits.{clear_idle, clear_basic, clear_done}
+use Rattle.model.proofs.Methods.Bits.{clear_idle, clear_basic, clear_done, other_bits}
 use Rattle.model.proofs.Registers.clear.Goals as goal
 
 pub returns-then-no_caller : goal.returns-then-no_caller
@@ -30,4 +31,4 @@ returns c = let a = c.args in
     λ x. c.with_status-2.ensures _
     ∙ clear_done a.plan.now.extended (view_with a.self (put_bits a.bits.now x)) a.mask
     c.no_caller.ensures c.if-no_caller.false c.has.ensures c.if-not-has.false
-    c.bits_of.ensures c.without_bits.ensures refl c.without.ensures
+    c.bits_of.ensures (other_bits c.bits_of.result a.mask (omega (arith, c.bits_of.type_inv)) (omega (arith, c.ranges.mask))) refl c.without.ensures

@@ -1,46 +1,17 @@
--- `borne` meets its contract: what is left of the tokens says whether the name is borne.
-use Prim.Native.Nat.{◌-◌}
-use mathlib.Core.Path.{sym, ◌∙◌}
-use native.Mathlib.Omega.{arith}
-use native.Mathlib.Nat.{sub-zero}
-use lib.ListN.{take, drop}
-use Rattle.oil.proofs.Walks.{token_inside, borne_found, borne_step, borne_done}
+-- `borne` meets its contract: a token after another.
+use Rattle.std.proofs.Common.{◌&&◌, ◌∙◌, rules, tests}
+use Rattle.std.specs.Str.{bytes_eq}
+use Rattle.std.proofs.lemmas.Iterator.Search.{any_from_yields_List}
+use Rattle.std.proofs.lemmas.Iterator.Consumers.{YieldsList-from_first}
+use Rattle.oil_grammar.specs.Automaton.{fresh}
+use Rattle.oil_grammar.specs.Walk.{bears}
+use Rattle.oil.specs.Tokens.{step_of}
+use Rattle.oil.proofs.TokenLists.{borne_any}
 use Rattle.oil.proofs.borne.borne.Goals as goal
 
-pub loop-i-init : goal.loop-i-init
-loop-i-init c = (omega arith, rw (c.fresh-s.ensures, sub-zero))
-
-pub borne_here-requires : goal.borne_here-requires
-borne_here-requires c = let l = c.loop-i in
-    let w = c.next_token-w in (
-      token_inside c.args.text.now l.at l.invariant.0 w.ensures,
-      c.requires,
-    )
-
-pub returns-then-borne_here : goal.returns-then-borne_here
-returns-then-borne_here c = let a = c.args in
-    let l = c.loop-i in
-    let w = c.next_token-w in
-    borne_found a.text.now a.count l.i l.at l.s a.resource
-    (take (a.end - a.start) (drop a.start a.text.now))
-    w.ensures c.loop-i-test.true
-    (sym c.borne_here.ensures ∙ c.if-borne_here.true) ∙ l.invariant.1
-
-pub loop-i-preserved : goal.loop-i-preserved
-loop-i-preserved c = let a = c.args in
-    let l = c.loop-i in
-    let w = c.next_token-w in (
-      (token_inside a.text.now l.at l.invariant.0 w.ensures).1,
-      borne_step a.text.now a.count l.i l.at l.s
-          a.resource (take (a.end - a.start) (drop a.start a.text.now)) w.ensures
-          c.loop-i-test.true
-          (sym c.borne_here.ensures ∙ c.if-borne_here.false)
-          c.after-s.ensures ∙ l.invariant.1,
-    )
-
 pub returns : goal.returns
-returns c = let a = c.args in
-    let l = c.loop-i in
-    borne_done a.text.now a.count l.i l.at l.s a.resource
-    (take (a.end - a.start) (drop a.start a.text.now))
-    c.loop-i-test.false ∙ l.invariant.1
+returns c =
+    let a = c.args in
+    any_from_yields_List (λ p. bears a.resource p.0 && bytes_eq p.2 a.name.now) _ _ _ c.any.ensures.ran
+    (YieldsList-from_first step_of (λ steps. steps) _ c.new.ensures) (λ x b q k. search (rules, tests))
+    ∙ borne_any a.text.now a.count 0 fresh a.resource a.name.now

@@ -1,29 +1,16 @@
--- `value` meets its contract: the digits passed and those left make the number, held as a byte.
-use mathlib.Core.Path.{refl, ◌∙◌}
-use native.Mathlib.Omega.{arith}
-use borrow.Author.Rules.{rules}
-use Rattle.oil.proofs.Digits.{digits_step, digits_done}
+-- `value` meets its contract: a digit more, held as a byte.
+use Rattle.std.proofs.Common.{◌≡◌, ℕ, List, Bor, rules}
+use Rattle.std.proofs.lemmas.Fn.{fold_over, slice_gives, fronts}
+use Rattle.oil_grammar.specs.Token.{decimal}
+use Rattle.oil_grammar.specs.Meaning.{held}
+use Rattle.oil.proofs.Digits.{held_last, held_none}
 use Rattle.oil.proofs.meaning.value.Goals as goal
 
-pub loop-i-init : goal.loop-i-init
-loop-i-init c = ((omega arith, omega arith), (omega arith, refl))
-
-pub loop-i-preserved : goal.loop-i-preserved
-loop-i-preserved c = let a = c.args in
-    let l = c.loop-i in (
-      (omega arith, omega arith),
-      (
-        let e = c.value_after-v.ensures in omega arith,
-        digits_step a.text.now a.end l.i l.v
-            (let p = c.requires in omega arith)
-            c.loop-i-test.true c.value_after-v.ensures ∙ l.invariant.1.1,
-      ),
-    )
-
-pub overflow_cast-result : goal.overflow_cast-result
-overflow_cast-result c = let h = c.loop-i.invariant.1.0 in search rules
-
 pub returns : goal.returns
-returns c = let a = c.args in
-    let l = c.loop-i in
-    digits_done a.text.now a.end l.i l.v l.invariant.1.0 c.loop-i-test.false ∙ l.invariant.1.1
+returns c =
+    let rest = c.iter.result.rest.now in
+    let r : c.fold.result ≡ held (decimal 0 rest) =
+    fold_over fronts (λ (y : Bor ℕ). y.now) _ (λ (xs : List ℕ) (v : ℕ). v ≡ held (decimal 0 xs)) _
+    (λ ys a x b f so_far called. (held_last ys a b x.now so_far (search rules), search rules))
+    c.iter.result rest 0 c.fold.result (slice_gives c.iter.result) held_none c.fold.ensures.ran in
+    rw c.iter.ensures.rest at r

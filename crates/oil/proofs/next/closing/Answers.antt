@@ -1,34 +1,24 @@
--- `closing` meets its contract: the end from `at` on is the end from `i` on, told from earlier.
-use mathlib.Core.Path.{sym, ◌∙◌}
-use native.Mathlib.Omega.{arith}
-use Rattle.oil.proofs.Comment.{seeks_start, seeks_here, seeks_later, seeks_last, seeks_past}
+-- `closing` meets its contract: no */ ends before `end`.
+use borrow.Author.Tests.{eq-eqb, ne_eqb}
+use Rattle.oil.proofs.Comment.{unclosed_start, closed_here, closed_later, closed_never}
 use Rattle.oil.proofs.next.closing.Goals as goal
+use Rattle.oil.proofs.next.closing.Goals.{else-rest-end-eq42-via-then-rest-end-eq42+else-rest-end-eq47, else-rest-end-eq42-via-else-rest-end-eq42}
 
-pub loop-i-init : goal.loop-i-init
-loop-i-init c = (omega arith, seeks_start _ _)
+pub loop-end-init : goal.loop-end-init
+loop-end-init c = unclosed_start _
 
-pub returns-then-next-text : goal.returns-then-next-text
-returns-then-next-text c = let a = c.args in
-    let l = c.loop-i in
-    seeks_last a.text.now a.at l.i l.invariant.1 c.if-next-text.true
+pub returns-then-rest-end-eq47-clause-bytes : goal.returns-then-rest-end-eq47-clause-bytes
+returns-then-rest-end-eq47-clause-bytes c = let l = c.loop-end in
+    closed_here c.args.rest.now l.auto.end l.invariant c.loop-end-test.true c.if-rest-end-eq42.true c.if-rest-end-eq47.true
 
-pub returns-then-closes : goal.returns-then-closes
-returns-then-closes c = let a = c.args in
-    let l = c.loop-i in
-    let h = c.if-next-text.false in
-    seeks_here a.text.now a.at l.i l.invariant.1 (omega arith)
-    (sym c.closes.ensures ∙ c.if-closes.true)
+pub loop-end-preserved : goal.loop-end-preserved
+loop-end-preserved c = let l = c.loop-end in
+    closed_later c.args.rest.now l.auto.end l.invariant c.loop-end-test.true
+    (elim c.else-rest-end-eq42.branch [
+      | else-rest-end-eq42-via-then-rest-end-eq42+else-rest-end-eq47 w ↦ rw (eq-eqb _ _ w.if-rest-end-eq42.true, ne_eqb _ _ w.if-rest-end-eq47.false)
+      | else-rest-end-eq42-via-else-rest-end-eq42 w ↦ rw (ne_eqb _ _ w.if-rest-end-eq42.false)
+    ])
 
-pub loop-i-preserved : goal.loop-i-preserved
-loop-i-preserved c = let a = c.args in
-    let l = c.loop-i in
-    let h = c.if-next-text.false in (
-      omega arith,
-      seeks_later a.text.now a.at l.i l.invariant.1 (omega arith)
-          (sym c.closes.ensures ∙ c.if-closes.false),
-    )
-
-pub returns : goal.returns
-returns c = let a = c.args in
-    let l = c.loop-i in
-    seeks_past a.text.now a.at l.i l.invariant.1 c.loop-i-test.false
+pub returns-clause-bytes : goal.returns-clause-bytes
+returns-clause-bytes c = let l = c.loop-end in
+    closed_never c.args.rest.now l.auto.end l.invariant c.loop-end-test.false l.auto.end-end

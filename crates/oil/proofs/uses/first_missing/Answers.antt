@@ -1,68 +1,38 @@
--- `first_missing` meets its contract: none of the tokens passed is such a use.
-use mathlib.Core.Path.{◌≡◌, refl, sym, ap, ◌∙◌}
-use mathlib.Core.Bool.{true}
-use native.Mathlib.Omega.{arith}
-use borrow.Author.Count.{below_more}
-use Rattle.oil_grammar.specs.declared.Token.{Token}
-use Rattle.oil_grammar.specs.Next.{next_token}
-use Rattle.oil.specs.Tokens.{place_after, token, progress_after}
-use Rattle.oil.proofs.TokenNumbers.{place_inside, token_lies, place_next, progress_next}
-use Rattle.oil.proofs.Gathering.{missing_is}
+-- `first_missing` meets its contract: by the names of RESOURCE objects that are gathered.
+use Rattle.std.proofs.Common.{ℕ, List, Bool, true, false, ◌≡◌, ◌&&◌, not, length, refl, sym, rules, tests, ap, ◌∙◌, inl, arith}
+use Rattle.std.proofs.lemmas.Iterator.{IsFirst-from_position}
+use Rattle.std.proofs.lemmas.Iterator.Consumers.{YieldsList-from_first}
+use Rattle.oil_grammar.specs.Automaton.{fresh, uses_resource}
+use Rattle.oil_grammar.specs.Walk.{borne, unborne_at}
+use Rattle.oil_grammar.specs.Records.{Progress}
+use Rattle.oil_grammar.specs.Records.{Token}
+use Rattle.oil.specs.Tokens.{step_of, token, progress_after}
+use Rattle.oil.specs.Names.{in_class, spelled, missing_at}
+use Rattle.oil.proofs.TokenLists.{length_tokens, first_at, first_same}
 use Rattle.oil.proofs.uses.first_missing.Goals as goal
 
-pub loop-i-init : goal.loop-i-init
-unfolding place_after progress_after
-loop-i-init c = ((omega arith, (refl, c.fresh-s.ensures)), λ j h. absurd (omega arith))
+pub position-requires-clause-fits : goal.position-requires-clause-fits
+position-requires-clause-fits c = let a = c.args in
+    let e = ap length c.new.ensures ∙ length_tokens a.text.now a.bound 0 fresh in
+    inl (let f = c.ranges.bound.fits in omega arith)
 
-pub next_token-w-requires : goal.next_token-w-requires
-next_token-w-requires c = let l = c.loop-i in
-    rw l.invariant.0.1.0 (place_inside c.args.text.now l.i)
-
-pub missing-requires : goal.missing-requires
-missing-requires c = let l = c.loop-i in
-    let t = c.args.text.now in
-    let w : c.next_token-w.result ≡ token t l.i = c.next_token-w.ensures ∙ ap (next_token t) l.invariant.0.1.0 in
-    record {
-      gathered = c.requires.gathered;
-      in_range = (rw w (token_lies t l.i), c.requires.in_range);
-    }
-
-pub returns-then-missing : goal.returns-then-missing
-returns-then-missing c = let l = c.loop-i in
-    let a = c.args in
-    let t = a.text.now in
-    let n = c.next_token-w in
-    let w : n.result ≡ token t l.i = n.ensures ∙ ap (next_token t) l.invariant.0.1.0 in
-    record {
-      within = l.invariant.0.0;
-      none_before = l.invariant.1;
-      there = λ h. sym (missing_is t true a.c l.i a.tokens w l.invariant.0.1.1)
-          ∙ sym c.missing.ensures ∙ c.if-missing.true;
-    }
-
-pub loop-i-preserved : goal.loop-i-preserved
-loop-i-preserved c = let l = c.loop-i in
-    let a = c.args in
-    let t = a.text.now in
-    let n = c.next_token-w in
-    let w : n.result ≡ token t l.i = n.ensures ∙ ap (next_token t) l.invariant.0.1.0 in
-    let h = c.loop-i-test.true in (
-      (
-        omega arith,
-        (
-          ap (λ (v : Token). v.end) w ∙ place_next t l.i,
-          c.after-s.ensures ∙ rw (l.invariant.0.1.1, w) (progress_next t l.i),
-        ),
-      ),
-      below_more _ l.i l.invariant.1
-          (sym (missing_is t true a.c l.i a.tokens w l.invariant.0.1.1)
-          ∙ sym c.missing.ensures ∙ c.if-missing.false),
-    )
+and_swap : (a b d : Bool) → (b && (a && d)) ≡ (a && (b && d))
+and_swap true b d = refl
+and_swap false true d = refl
+and_swap false false d = refl
 
 pub returns : goal.returns
-returns c = let l = c.loop-i in
-    record {
-      within = omega arith;
-      none_before = λ j h. l.invariant.1 j (let g = c.loop-i-test.false in omega arith);
-      there = λ h. absurd (omega arith);
-    }
+unfolding missing_at unborne_at
+returns c = let a = c.args in
+    let t = a.text.now in
+    let n = c.gather.new.self in
+    let of = c.gather.ensures.of in
+    let new = c.new-names.ensures.of in
+    let test = λ (p : Progress × Token × List ℕ).
+    uses_resource p.0 && (in_class n.class p.2 && not (borne a.tokens n.text.now 0 fresh n.resource p.2)) in
+    first_same a.bound (λ i. test (progress_after t i, token t i, spelled t i)) (missing_at t a.tokens a.class) c.position.result
+    (λ i. rw (of.class_is ∙ new.class_is, of.text_is ∙ new.text_is, of.resource_is ∙ new.resource_is)
+    (sym (and_swap (in_class a.class (spelled t i)) (uses_resource (progress_after t i)) _)))
+    (first_at t a.bound test c.position.result
+    (IsFirst-from_position _ _ c.position.result (λ p. test p ≡ true) (λ p. test p ≡ false) c.position.ensures.ran
+    (YieldsList-from_first step_of (λ steps. steps) _ c.new.ensures) (λ x q k. search (rules, tests)) (λ x q k. search (rules, tests))))

@@ -1,15 +1,13 @@
 -- `unborne` meets its contract: by the first use that no RESOURCE bears.
-use mathlib.Core.Path.{ap, ◌∙◌}
+use Rattle.std.proofs.Common.{ap, ◌∙◌}
 use Rattle.oil_grammar.specs.Refusal.{no_resource}
 use Rattle.oil_grammar.specs.Walk.{refused_at}
 use Rattle.oil.proofs.FirstUse.{first_refused, all_borne}
 use Rattle.oil.proofs.uses.unborne.Goals as goal
 
-pub returns-then-u-tokens : goal.returns-then-u-tokens
-returns-then-u-tokens c = let a = c.args in
-    c.refused_at.ensures ∙ ap (refused_at no_resource) c.token_start.ensures
-    ∙ first_refused a.text.now a.tokens c.first_unborne-u.result c.first_unborne-u.ensures c.if-u-tokens.true
+pub returns-in-Some : goal.returns-in-Some
+returns-in-Some c = ap (refused_at no_resource) c.token_start.ensures
+    ∙ first_refused c.args.text.now c.args.tokens c.in-Some.u c.in-Some.ensures
 
-pub returns : goal.returns
-returns c = let a = c.args in
-    all_borne a.text.now a.tokens c.first_unborne-u.result c.first_unborne-u.ensures c.if-u-tokens.false
+pub returns-in-None : goal.returns-in-None
+returns-in-None c = all_borne c.args.text.now c.args.tokens c.in-None.ensures

@@ -1,41 +1,28 @@
 -- `ordered` meets its contract: the loop keeps `InOrder`. The measure is what is left of the text.
-use native.Mathlib.Omega.{arith}
-use Rattle.oil.proofs.Order.{order_start, order_inside, order_refused, order_ended, order_further, order_next}
+use Rattle.std.proofs.Common.{refl, arith}
+use Rattle.oil.proofs.Order.{order_start, order_inside, order_further, order_next}
+use Rattle.oil.proofs.SortNumbers.{is_end}
 use Rattle.oil.proofs.walk.ordered.Goals as goal
 
-pub loop-s-init : goal.loop-s-init
-loop-s-init c = order_start c.args.text.now c.fresh-s.ensures
+pub loop-refusal-init : goal.loop-refusal-init
+loop-refusal-init c = order_start c.args.text.now c.fresh-progress.ensures
 
-pub next_token-w-requires : goal.next_token-w-requires
-next_token-w-requires c = order_inside c.loop-s.invariant
-
-pub returns-then-refusal-ne0 : goal.returns-then-refusal-ne0
-returns-then-refusal-ne0 c = order_refused c.loop-s.invariant c.next_token-w.ensures c.fault-refusal.ensures
-    c.if-refusal-ne0.true
-
-pub returns-then-w-eq-END : goal.returns-then-w-eq-END
-returns-then-w-eq-END c = let l = c.loop-s in
-    let w = c.next_token-w in
-    let f = c.fault-refusal in
-    order_ended l.invariant w.ensures f.ensures c.if-refusal-ne0.false c.if-w-eq-END.true
+pub next_token-token-requires : goal.next_token-token-requires
+next_token-token-requires c = order_inside c.loop-refusal.invariant
 
 pub overflow_add-tokens : goal.overflow_add-tokens
-overflow_add-tokens c = let l = c.loop-s in
-    let w = c.next_token-w in
-    let f = order_further l.invariant w.ensures c.fault-refusal.ensures
-    c.if-refusal-ne0.false c.if-w-eq-END.false in
-    omega (arith, l.invariant.few)
+overflow_add-tokens c = let k = c.loop-refusal.invariant in
+    let further = order_further k c.next_token-token.ensures c.in_default.ensures refl
+    (λ e. c.in_default-sort.not-End (is_end _ e)) in
+    omega (arith, k.few)
 
-pub loop-s-smaller : goal.loop-s-smaller
-loop-s-smaller c = let l = c.loop-s in
-    let w = c.next_token-w in
-    let f = order_further l.invariant w.ensures c.fault-refusal.ensures
-    c.if-refusal-ne0.false c.if-w-eq-END.false in
+pub loop-refusal-smaller : goal.loop-refusal-smaller
+loop-refusal-smaller c = let k = c.loop-refusal.invariant in
+    let further = order_further k c.next_token-token.ensures c.in_default.ensures refl
+    (λ e. c.in_default-sort.not-End (is_end _ e)) in
     omega arith
 
-pub loop-s-preserved : goal.loop-s-preserved
-loop-s-preserved c = let l = c.loop-s in
-    let w = c.next_token-w in
-    let f = c.fault-refusal in
-    order_next l.invariant w.ensures f.ensures c.if-refusal-ne0.false c.if-w-eq-END.false
-    c.after-s.ensures
+pub loop-refusal-preserved : goal.loop-refusal-preserved
+loop-refusal-preserved c =
+    order_next c.loop-refusal.invariant c.next_token-token.ensures c.in_default.ensures refl
+    (λ e. c.in_default-sort.not-End (is_end _ e)) c.after-progress.ensures

@@ -1,11 +1,11 @@
 -- `ordered` meets its contract: the loop keeps `InOrder`. The measure is what is left of the text.
-use Prim.Native.Nat.{◌-◌}
-use lib.ListN.{length}
+use Rattle.std.proofs.Common.{◌-◌, length}
+use Rattle.oil.specs.Answer.{as_progress}
 use Rattle.oil.proofs.Order.{InOrder}
 use Rattle.oil.proofs.walk.ordered.Given as goal
 
-abbrev pub invariant-loop-s : goal.invariant-loop-s
-invariant-loop-s l = InOrder l.text l.at l.s l.tokens
+abbrev pub invariant-loop-refusal : goal.invariant-loop-refusal
+invariant-loop-refusal l = InOrder l.text l.at (as_progress l.progress) l.tokens
 
-abbrev pub decreases-loop-s : goal.decreases-loop-s
-decreases-loop-s l = length l.text - l.at
+abbrev pub decreases-loop-refusal : goal.decreases-loop-refusal
+decreases-loop-refusal l = length l.text - l.at

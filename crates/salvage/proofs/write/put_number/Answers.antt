@@ -1,41 +1,31 @@
 -- `put_number` meets its contract: the list is lent from the place on, and the number fits.
-use Prim.Native.Nat.{ℕ, ◌+◌, ◌-◌, ◌≤◌}
-use mathlib.Core.Path.{◌≡◌, refl, sym, ap, ◌∙◌}
-use mathlib.Core.List.{List}
-use borrow.Rule.Slice.PartMut.{put_mid}
+use Prim.Native.Nat.{ℕ, ◌+◌}
+use mathlib.Core.Path.{refl, ap}
 use native.Mathlib.Omega.{arith}
-use lib.ListN.{length, take, drop, length-take, length-drop}
 use Rattle.number.specs.Number.{number_bytes}
-use Rattle.number.specs.Output.{Written, writing, written, laid}
-use Rattle.number.proofs.Theorems.{writing_fits}
 use Rattle.number.proofs.Laying.{laid_part}
+use Rattle.event_codec.proofs.Parts.{part_fits, part_length}
 use Rattle.salvage.proofs.write.put_number.Goals as goal
 
--- the writer's answer and what it leaves, where d is lent from the place on
-module _ (v at : ℕ) (d : List ℕ) (room : at + length (number_bytes v) ≤ length d) where
-  abbrev lent : List ℕ
-  lent = take (length d - at) (drop at d)
-
-  answer : (w : Written) → w ≡ writing (number_bytes v) (length lent) → w.place ≡ length (number_bytes v)
-  answer w e =
-      ap (λ (x : Written). x.place)
-      (e ∙ sym (writing_fits (number_bytes v) (length lent) _ refl (simp (length-take, length-drop) (omega arith))))
-
-  left : (ys : List ℕ) → ys ≡ written (number_bytes v) lent → put_mid at (length d - at) d ys ≡ laid at (number_bytes v) d
-  left ys e = rw e (laid_part at (number_bytes v) d room)
+pub unwrap-requires : goal.unwrap-requires
+unwrap-requires c = let a = c.args in
+    rw (part_fits a.at (number_bytes a.value) a.list.now c.write_number.result c.requires c.write_number.ensures.result) refl
 
 pub overflow_add-result : goal.overflow_add-result
-overflow_add-result c = let w = c.write_number-w in
+overflow_add-result c = let a = c.args in
     omega (
       arith,
       c.requires,
-      answer c.args.value c.args.at c.args.list.now c.requires w.result
-          w.ensures.result,
+      part_length a.at (number_bytes a.value) a.list.now c.write_number.result c.unwrap.result c.requires
+          c.write_number.ensures.result c.unwrap.ensures,
     )
 
-pub returns : goal.returns
-returns c = let w = c.write_number-w in
-    let a = c.args in record {
-      result = ap (λ (n : ℕ). a.at + n) (answer a.value a.at a.list.now c.requires w.result w.ensures.result);
-      output = left a.value a.at a.list.now c.requires w.new.out w.ensures.output;
-    }
+pub returns-clause-result : goal.returns-clause-result
+returns-clause-result c = let a = c.args in
+    ap (λ (n : ℕ). a.at + n)
+    (part_length a.at (number_bytes a.value) a.list.now c.write_number.result c.unwrap.result c.requires
+    c.write_number.ensures.result c.unwrap.ensures)
+
+pub returns-clause-output : goal.returns-clause-output
+returns-clause-output c = let a = c.args in
+    rw c.write_number.ensures.output (laid_part a.at (number_bytes a.value) a.list.now c.requires)

@@ -1,9 +1,0 @@
--- `is_digit` meets its contract: by the two comparisons.
-use Rattle.oil.proofs.Classes.{digit_low, digit_rest}
-use Rattle.oil.proofs.bytes.is_digit.Goals as goal
-
-pub returns-then-b-lt48 : goal.returns-then-b-lt48
-returns-then-b-lt48 c = digit_low _ c.if-b-lt48.true
-
-pub returns : goal.returns
-returns c = digit_rest _ c.if-b-lt48.false
