@@ -56,28 +56,23 @@ fn counters(cells: &[Cell]) -> u64
     cells.iter().map(|cell| cell.counter as u64).sum()
 }
 
-fn print(rt: &impl Print, n: u64) -> io::Result<()> {
-    print!(rt; "{n} ")
-}
-
-fn print_last(rt: &impl Print, n: u64) -> io::Result<()> {
-    println!(rt; "{n}")
-}
-
 fn show(rt: &impl Print, n: usize) -> io::Result<()>
     requires { n ≤ 1000 }
 {
-    print(rt, n as u64)?;
+    print!(rt; "{n}")?;
     let mut row: [Cell; 1000] = std::array::from_fn(kind);
     for _ in 0usize..9 {
         let next = tick_first(row, n);
         row = next;
-        print(rt, count(&row[..n], |cell| cell.matched))?;
+        let matched = count(&row[..n], |cell| cell.matched);
+        print!(rt; " {matched}")?;
     }
-    print(rt, counters(&row[..n]))?;
-    print(rt, count(&row[..n], |cell| cell.turn))?;
-    print(rt, counters(&row[n..]))?;
-    print_last(rt, count(&row[n..], |cell| cell.turn))
+    for part in [&row[..n], &row[n..]] {
+        let sum = counters(part);
+        let turns = count(part, |cell| cell.turn);
+        print!(rt; " {sum} {turns}")?;
+    }
+    println!(rt)
 }
 
 fn main(rt: HostRuntime) -> io::Result<()> {

@@ -1,9 +1,12 @@
-// The cells of the entries, as parallel arrays: what a tick, a start and a stop make of them.
+// The cells of the entries: what a tick, a start and a stop make of them.
+//
+// Parallel arrays, lent one by one, and no row of structs: the compiler then ticks several cells at once, and copies only
+// the arrays that an event touches (docs/PERFORMANCE.md).
 #![tactic(auto)]
 
-ghost use Rattle.std.specs.Prelude.{◌≡◌, ◌+◌, ◌≤◌, min, cond, ◌&&◌, ◌||◌, length, take, drop, if◌then◌else◌, nat_lt};
+ghost use Rattle.std.specs.Prelude.{◌≡◌, ◌+◌, ◌≤◌, min, cond, ◌&&◌, ◌||◌, take, drop, if◌then◌else◌, nat_lt};
 ghost use Rattle.config.specs.Value.{max_bodies, max_entries};
-ghost use Rattle.machine.specs.Cells.{is_on, has_turn, counters_ticked, switch_for, switches_ticked, some_turn, marks, counters_started, switches_started, in_row, spread, some_long, one_more, one_lost, match_at, requests_due};
+ghost use Rattle.machine.specs.Cells.{is_on, has_turn, counters_ticked, switch_for, switches_ticked, some_turn, marks, counters_started, switches_started, in_row, spread, some_long, one_lost, match_at, requests_due};
 ghost use Rattle.cells.specs.Methods.{tally_with, group, marks_word};
 ghost use Rattle.word.specs.Word.{has};
 
@@ -17,7 +20,7 @@ mod lookup;
 pub use lookup::at;
 
 // No body: instead of a rank it says that nobody runs, or that there is no such task or ISR. It is what lies
-// past the bottom of the row of held resources.
+// past the bottom of the row of held resources. A number and no Option: the definitions (`no_rank`) store it in the plan.
 pub const NO_RANK: u8 = NO_BYTE;
 
 // One cell for each entry that there may be.
@@ -26,7 +29,8 @@ const CELLS: usize = MAX_ENTRIES;
 // One loss count for each body that there may be.
 const BODIES: usize = MAX_BODIES;
 
-// The switch of a cell (its enable): a number as wide as a counter, so that the compiler ticks several cells at once.
+// The switch of a cell (its enable): a number, as in the definitions (`switch_off` ..), and as wide as a counter, so that
+// the compiler ticks several cells at once.
 pub const OFF: u16 = 0;
 
 const ON: u16 = 1;
@@ -159,7 +163,8 @@ fn take_matches(
 }
 
 // Takes the matches of the group of cells from `from` on. A mark that is set is found by the zeros below it, and not
-// by a branch for each mark, which the processor could not foresee.
+// by a branch for each mark, which the processor could not foresee. The loop goes over bits and not indices, and an
+// iterator of its own for this one place is no plainer.
 #[tactic(auto, using(crate::proofs::Marks::next_lt, crate::proofs::Marks::zeros_lt))]
 fn take_group(
     from: usize,

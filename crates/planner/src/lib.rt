@@ -13,7 +13,7 @@ use config::{Config, EXTENDED, ISR};
 use plan::Plan;
 use resources::ByResource;
 
-// The rank of whatever has none.
+// The rank of whatever has none. A number and no Option: the definitions (`no_rank`) store it in the plan.
 pub const NO_RANK: u8 = u8::MAX;
 
 // The flag of an autostart task.

@@ -44,7 +44,8 @@ impl Bodies {
     }
 
     // Of a mask of users by body number, the greatest of their priorities and the word of their ranks. Who uses a
-    // resource is no pattern that the processor could foresee, so the loop goes from set bit to set bit.
+    // resource is no pattern that the processor could foresee, so the loop goes over the mask's set bits and not over an
+    // index.
     #[tactic(auto, using(crate::proofs::Usage::set_low))]
     fn usage_of(&self, users: u32) -> Usage
         ensures ceiling { result.ceiling ≡ greatest_in users (take self.now.count self.now.priority) }

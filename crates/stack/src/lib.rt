@@ -8,7 +8,7 @@
 ghost use Rattle.std.specs.Prelude.{◌≡◌};
 ghost use Rattle.stack.specs.Stack.{push_word, pop_word, first_byte, last_byte, empty_row, top_row, second_row, push_row, pop_row};
 
-// What lies past the bottom.
+// What lies past the bottom. A number and no Option: the definitions (`pop_row`) bring it in.
 pub const NO_BYTE: u8 = u8::MAX;
 
 // Eight times NO_BYTE.

@@ -6,7 +6,7 @@ ghost use Rattle.word.specs.Word.{has, with, without, union, winner};
 
 // How many ranks there are, 0 the lowest.
 pub const RANKS: u32 = u32::BITS;
-// The winner of the empty word, which is no rank.
+// The winner of the empty word, which is no rank. A number and no Option: the definition `winner` gives it.
 pub const NO_WINNER: u32 = RANKS;
 
 // Whether the rank is in the word.
