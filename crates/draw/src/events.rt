@@ -19,6 +19,7 @@ pub struct Chances {
 
 impl Chances {
     // The event drawn after `value`.
+    #[tactic(auto, unfolding(drawing::specs::Drawing::draw_event))]
     pub fn draw_event(&self, value: u32) -> Drawn
         ensures { result ≡ draw_event self.now.weights self.now.limits value }
     {
@@ -28,6 +29,7 @@ impl Chances {
     }
 
     // The event of a code, with its arguments drawn after `value`.
+    #[tactic(auto, unfolding(drawing::specs::Drawing::with_arguments))]
     fn draw_arguments(&self, code: u8, value: u32) -> Drawn
         ensures { result ≡ with_arguments self.now.limits code value }
     {
@@ -45,6 +47,7 @@ impl Chances {
     }
 
     // An argument of a sort, drawn after `value`; one that the event lacks is not drawn.
+    #[tactic(auto, unfolding(drawing::specs::Drawing::draw_argument))]
     fn draw_argument(&self, sort: Sort, value: u32) -> Argument
         ensures { result ≡ draw_argument self.now.limits sort value }
     {

@@ -3,6 +3,7 @@ ghost use Rattle.std.specs.Prelude.{◌≡◌};
 ghost use Rattle.drawing.specs.Xorshift.{next};
 
 // The value after `x`.
+#[tactic(auto, unfolding(drawing::specs::Xorshift::xor_left, drawing::specs::Xorshift::xor_right, drawing::specs::Xorshift::next))]
 pub fn next(x: u32) -> u32
     ensures { result ≡ next x }
 {

@@ -1,8 +1,6 @@
 -- `fill` meets its contract: each of its four ways out is a law of `Answers`.
-use mathlib.Core.Path.{refl, ap, ◌∙◌}
+use mathlib.Core.Path.{refl}
 use native.Mathlib.Omega.{arith}
-use lib.ListN.{length}
-use Rattle.number.proofs.Theorems.{length_written}
 use Rattle.drawing.specs.Drawing.{draw_bytes}
 use Rattle.draw.proofs.Answers.{did_too_long, did_no_room, did_whole, too_many}
 use Rattle.draw.proofs.fill.Goals as goal
@@ -27,9 +25,6 @@ returns-then-out-need c = let m = c.measure-need in
     let all = did_no_room (draw_bytes ch.weights ch.limits a.start a.count) a.out.now m.result m.ensures
     c.if-need-gt-MAX_TRACE.false _ c.if-out-need.true refl in record { result = all.0; output = all.1 }
 
-pub write_trace-requires : goal.write_trace-requires
-write_trace-requires c = omega (arith, c.measure-need.ensures, c.if-out-need.false)
-
 pub returns : goal.returns
 returns c = let w = c.write_trace in
     let m = c.measure-need in
@@ -37,9 +32,3 @@ returns c = let w = c.write_trace in
     let ch = a.chances.now in
     let all = did_whole (draw_bytes ch.weights ch.limits a.start a.count) a.out.now m.result
     m.ensures c.if-need-gt-MAX_TRACE.false c.if-out-need.false _ w.ensures in record { result = all.0; output = all.1 }
-
-pub shape_of-out : goal.shape_of-out
-shape_of-out c = let a = c.args in
-    let ch = a.chances.now in
-    ap length c.write_trace.ensures
-    ∙ length_written (draw_bytes ch.weights ch.limits a.start a.count) a.out.now

@@ -6,9 +6,6 @@ use native.Mathlib.Omega.{arith}
 use Rattle.event_codec.proofs.Ends.{short_word, some_length, word_bytes, word_accepted, ends_there}
 use Rattle.event_codec.proofs.short_end.Goals as goal
 
-pub short_length-requires : goal.short_length-requires
-short_length-requires c = (short_word c.is_short.ensures (rw c.if-not-is_short.false)).code
-
 pub overflow_add-result : goal.overflow_add-result
 overflow_add-result c =
     let some : c.short_length.result ≡ 0 → ⊥ = search rules in

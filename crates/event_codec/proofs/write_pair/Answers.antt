@@ -1,7 +1,7 @@
 -- `write_pair` meets its contract: it tests the length, stores the byte, and lends the rest for the number.
 use Prim.Native.Nat.{ℕ, ◌+◌, ◌-◌, ◌≤◌, ◌<◌}
 use Rattle.std.specs.Prelude.{Ok, Err}
-use mathlib.Core.Path.{◌≡◌, sym, ap, ◌∙◌}
+use mathlib.Core.Path.{◌≡◌, sym}
 use mathlib.Core.List.{List, ◌∷◌}
 use borrow.Rule.Slice.PartMut.{put_mid}
 use native.Mathlib.Omega.{arith}
@@ -11,7 +11,7 @@ use Rattle.number.specs.Number.{number_bytes}
 use Rattle.number.specs.Output.{unwritten, writing, written}
 use Rattle.number.specs.Answer.{as_written}
 use Rattle.number.specs.declared.Refused.{Refused}
-use Rattle.number.proofs.Theorems.{length_number_bytes, length_written, writing_fits, writing_no_room, written_no_room}
+use Rattle.number.proofs.Theorems.{length_number_bytes, writing_fits, writing_no_room, written_no_room}
 use Rattle.event_codec.proofs.Parts.{part_taken, written_first}
 use Rattle.event_codec.proofs.write_pair.Goals as goal
 
@@ -45,12 +45,6 @@ pub returns-then-out-n : goal.returns-then-out-n
 returns-then-out-n c = let a = c.args in let n = c.number_length-n in
     let both = no_room_lem a.code a.first n.result a.out.now n.ensures (omega arith) in record { result = both.0; output = both.1 }
 
-pub slice_bounds-write_number-count : goal.slice_bounds-write_number-count
-slice_bounds-write_number-count c = simp length-set (omega (arith, c.number_length-n.ensures))
-
-pub slice_bounds-write_number-start : goal.slice_bounds-write_number-start
-slice_bounds-write_number-start c = simp length-set (omega (arith, c.number_length-n.ensures))
-
 pub returns : goal.returns
 returns c = let a = c.args in
     let n = c.number_length-n in
@@ -63,7 +57,3 @@ returns-in_err-write_number c = let a = c.args in
     let n = c.number_length-n in
     let e = c.in_err-write_number in
     absurd (never a.code a.first n.result a.out.now n.ensures (omega arith) e.field-0.0 e.ensures.result)
-
-pub shape_of-out : goal.shape_of-out
-shape_of-out c = let a = c.args in
-    ap length (returns c).output ∙ length_written (a.code ∷ number_bytes a.first) a.out.now

@@ -1,6 +1,6 @@
 -- `salvage` meets its contract: each of its four ways out is a law of `Answers`.
 use mathlib.Core.Path.{refl}
-use Rattle.salvage.proofs.Answers.{did_too_long, did_no_room, did_no_list, did_whole, fitting}
+use Rattle.salvage.proofs.Answers.{did_too_long, did_no_room, did_no_list, did_whole}
 use Rattle.salvage.proofs.salvage.Goals as goal
 
 pub returns-then-trace-gt-MAX_TRACE : goal.returns-then-trace-gt-MAX_TRACE
@@ -19,11 +19,6 @@ returns-then-stretches-need c = let m = c.measure-need in
     let a = c.args in
     let all = did_no_list a.trace.now a.events.now a.stretches.now _ c.if-trace-gt-MAX_TRACE.false m.result
     m.ensures c.if-events-need.false c.if-stretches-need.true refl in record { result = all.0; events = all.1.0; stretches = all.1.1 }
-
-pub write_both-requires : goal.write_both-requires
-write_both-requires c = let m = c.measure-need in
-    fitting c.args.trace.now m.result m.ensures _ _ c.if-trace-gt-MAX_TRACE.false
-    c.if-events-need.false c.if-stretches-need.false
 
 pub returns : goal.returns
 returns c = let w = c.write_both in

@@ -1,6 +1,4 @@
--- `write_trace` meets its contract: after i events their bytes stand at the start of the output. The measure is how many
--- events are left.
-use Prim.Native.Nat.{◌-◌, ◌≤◌}
+-- `write_trace` meets its contract: after i events their bytes stand at the start of the output.
 use mathlib.Core.Path.{◌≡◌}
 use Rattle.number.specs.Output.{laid}
 use Rattle.drawing.specs.Drawing.{draw_bytes}
@@ -8,7 +6,4 @@ use Rattle.draw.proofs.Progress.{Reached}
 use Rattle.draw.proofs.trace.write_trace.Given as goal
 
 abbrev pub invariant-loop-i : goal.invariant-loop-i
-invariant-loop-i l = (l.i ≤ l.count) × (Reached l.chances.weights l.chances.limits l.start l.i l.value l.at × (l.out ≡ laid 0 (draw_bytes l.chances.weights l.chances.limits l.start l.i) l.initial.out))
-
-abbrev pub decreases-loop-i : goal.decreases-loop-i
-decreases-loop-i l = l.count - l.i
+invariant-loop-i l = Reached l.chances.weights l.chances.limits l.start l.i l.value l.at × (l.out ≡ laid 0 (draw_bytes l.chances.weights l.chances.limits l.start l.i) l.initial.out)
