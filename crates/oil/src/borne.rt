@@ -8,7 +8,8 @@ use crate::automaton::{Progress, names_object};
 use crate::token::Sort;
 use crate::token_walk::TokenWalk;
 
-// Whether a name is wanted that an object, or only a RESOURCE, will bear.
+// Whether a name is wanted that an object, or only a RESOURCE, will bear. The flag is that of the definitions `bears` and
+// `borne` of oil_grammar, which may not change.
 #[tactic(auto, unfolding(oil_grammar::specs::Walk::bears))]
 pub fn bears(resource: bool, s: Progress) -> bool
     ensures { result ≡ bears resource (as_progress s) }

@@ -108,6 +108,7 @@ pub extern "C" fn osek_oil(text: &[u8], config: &mut [u8], place: &mut [u64; 2])
     };
     *place = [0, 0];
     match write_config(read, config) {
+        // usize has no From into u64.
         Ok(length) => length as u64,
         Err(e) => e.packed(),
     }

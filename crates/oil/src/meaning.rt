@@ -87,6 +87,7 @@ fn store<T: Copy>(row: &mut [T], n: u8, value: T)
 fn kind_of(sort: Sort) -> u8
     ensures { result ≡ kind_of (number_of sort) }
 {
+    // `as` is how an enum gives its number.
     (sort as u8) - 1
 }
 

@@ -105,6 +105,7 @@ pub fn next_token(text: &[u8], at: usize) -> Token
     ensures { as_token result ≡ next_token text.now at }
 {
     let mut start = at;
+    // No range: each space or comment says itself how far it goes.
     while let Some(n) = blank(&text[start..]) {
         start += n;
     }
