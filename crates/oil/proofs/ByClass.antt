@@ -1,4 +1,4 @@
--- A search class by class: among the first m classes, among one more, among all.
+-- A search class by class: among one class more, among all.
 use Rattle.std.proofs.Common.{ℕ, List, ◌%◌, ◌+◌, ◌≤◌, ◌<◌, ◌≡◌, Bool, true, false, ◌&&◌, Option, Some, None, eqb, ltb, unwrap_or, arith}
 use Rattle.std.specs.Option.{option_or}
 use Rattle.std.proofs.lemmas.Bool.{lt-ltb, le-ltb, ltb-true, eq-eqb, eqb-true}
@@ -12,9 +12,6 @@ module _ (n : ℕ) (p : ℕ → Bool) (class : ℕ → ℕ) where
   -- p holds of the number i, which is of one of the first m classes
   abbrev pub within : ℕ → ℕ → Bool
   within m i = ltb (class i) m && p i
-
-  pub first_start : First n (within 0) None
-  first_start i h = rw (le-ltb (class i) 0 (omega arith))
 
   within_more : (m i : ℕ) → within m i ≡ true → within (m + 1) i ≡ true
   within_more m i e =

@@ -23,9 +23,6 @@ module _ (t : List ℕ) where
   place_inside zero = omega arith
   place_inside (suc i) = (next_inside t (place_after t i) (place_inside i)).inside
 
-  pub token_lies : (i : ℕ) → ((token t i).start ≤ (token t i).end) × ((token t i).end ≤ length t)
-  token_lies i = let n = next_inside t (place_after t i) (place_inside i) in (n.forward, n.inside)
-
   pub place_next : (i : ℕ) → (token t i).end ≡ place_after t (i + 1)
   unfolding place_after
   place_next i = rw add-one

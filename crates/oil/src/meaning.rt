@@ -121,7 +121,8 @@ fn put(text: &[u8], tokens: usize, step: Step, mut c: Config) -> Config
             }
         }
         Want::Name => {
-            if progress.kind == Some(Sort::Resource) {
+            // A mask goes over the whole text, so none is asked for without room for it.
+            if progress.kind == Some(Sort::Resource) && usize::from(resource) < c.users.len() {
                 let users = mask(text, tokens, step.spelling);
                 store(&mut c.users, resource, users);
             }

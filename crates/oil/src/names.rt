@@ -28,6 +28,7 @@ impl<'a> Name<'a> {
 }
 
 // The names of a class that a text's objects bear, or its RESOURCE objects alone: as many as there is room for.
+// The room is lent and has a count beside it: there is no heap, and a struct that holds its 48 KB is built twice on the stack.
 #[derive(Drop)]
 pub struct Names<'a, 'b> {
     text: &'a [u8],
