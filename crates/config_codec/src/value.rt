@@ -40,8 +40,8 @@ pub fn asked(c: &Config, p: Position) -> u32
     }
 }
 
-// Tests the number `v` at `p` by those before it, and puts it in its place. Inlined: either walk then knows its next field
-// without asking twice, and takes half the instructions.
+// Tests the number `v` at `p` by those before it, and puts it in its place. Inlined: not so, a walk takes half as many
+// instructions again.
 #[tactic(auto, unfolding(config::specs::Draft::fault_at, config::specs::Draft::put_at))]
 #[inline(always)]
 pub fn put(c: &mut Config, p: Position, v: u32) -> Result<(), Refusal>
