@@ -23,19 +23,19 @@ pub fn asked(c: &Config, p: Position) -> u32
     let i = p.index;
     let e = p.entry;
     match p.field {
-        Field::Version => c.version as u32,
-        Field::Bodies => c.bodies as u32,
-        Field::Kind => c.kind[i] as u32,
-        Field::Priority => c.priority[i] as u32,
-        Field::Autostart => c.autostart[i] as u32,
-        Field::Deadline => c.deadline[i] as u32,
-        Field::Resources => c.resources as u32,
+        Field::Version => c.version.into(),
+        Field::Bodies => c.bodies.into(),
+        Field::Kind => c.kind[i].into(),
+        Field::Priority => c.priority[i].into(),
+        Field::Autostart => c.autostart[i].into(),
+        Field::Deadline => c.deadline[i].into(),
+        Field::Resources => c.resources.into(),
         Field::Users => c.users[i],
-        Field::Tables => c.tables as u32,
-        Field::Period => c.period[i] as u32,
-        Field::Entries => c.entries[i] as u32,
-        Field::Offset => c.offset[e] as u32,
-        Field::Task => c.task[e] as u32,
+        Field::Tables => c.tables.into(),
+        Field::Period => c.period[i].into(),
+        Field::Entries => c.entries[i].into(),
+        Field::Offset => c.offset[e].into(),
+        Field::Task => c.task[e].into(),
         Field::End => 0,
     }
 }
