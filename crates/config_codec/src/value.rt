@@ -23,25 +23,25 @@ pub fn asked(c: &Config, p: Position) -> u32
     let i = p.index;
     let e = p.entry;
     match p.field {
-        Field::Version => c.version as u32,
-        Field::Bodies => c.bodies as u32,
-        Field::Kind => c.kind[i] as u32,
-        Field::Priority => c.priority[i] as u32,
-        Field::Autostart => c.autostart[i] as u32,
-        Field::Deadline => c.deadline[i] as u32,
-        Field::Resources => c.resources as u32,
+        Field::Version => c.version.into(),
+        Field::Bodies => c.bodies.into(),
+        Field::Kind => c.kind[i].into(),
+        Field::Priority => c.priority[i].into(),
+        Field::Autostart => c.autostart[i].into(),
+        Field::Deadline => c.deadline[i].into(),
+        Field::Resources => c.resources.into(),
         Field::Users => c.users[i],
-        Field::Tables => c.tables as u32,
-        Field::Period => c.period[i] as u32,
-        Field::Entries => c.entries[i] as u32,
-        Field::Offset => c.offset[e] as u32,
-        Field::Task => c.task[e] as u32,
+        Field::Tables => c.tables.into(),
+        Field::Period => c.period[i].into(),
+        Field::Entries => c.entries[i].into(),
+        Field::Offset => c.offset[e].into(),
+        Field::Task => c.task[e].into(),
         Field::End => 0,
     }
 }
 
-// Tests the number `v` at `p` by those before it, and puts it in its place. Inlined: either walk then knows its next field
-// without asking twice, and takes half the instructions.
+// Tests the number `v` at `p` by those before it, and puts it in its place. Inlined: not so, a walk takes half as many
+// instructions again.
 #[tactic(auto, unfolding(config::specs::Draft::fault_at, config::specs::Draft::put_at))]
 #[inline(always)]
 pub fn put(c: &mut Config, p: Position, v: u32) -> Result<(), Refusal>
