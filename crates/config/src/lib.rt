@@ -65,8 +65,8 @@ pub struct Config {
 }
 
 // A configuration as far as its numbers have come. `index` is the body, resource or table that is next, `entry` the
-// entry, and `until` the entry after the last one of its table. The definitions walk it; the code lends the configuration
-// and has the rest as a `Position`, since the writer's second pass has no configuration but the value.
+// entry, and `until` the entry after the last one of its table. The definitions walk it; the code lends the
+// configuration and has the rest as a `Position`, since the writer's second pass has no configuration but the value.
 #[derive(Clone, Copy)]
 pub struct Draft {
     pub config: Config,
