@@ -62,8 +62,8 @@ pub fn write_config(config: Config, out: &mut [u8]) -> Result<usize, Refused>
     Ok(n)
 }
 
-// The all-zero value. No derived Default: of an array it says each element (AllOfLen), and nine lists would have to be shown
-// to be those of the definition `no_config`.
+// The all-zero value. No derived Default: of an array its contract tells each element (AllOfLen), and nine lists would
+// have to be shown to be those of the definition `no_config`.
 pub fn no_config() -> Config
     ensures { result ≡ no_config }
 {

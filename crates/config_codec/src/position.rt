@@ -8,7 +8,7 @@ use config::{Config, Field};
 
 // `index` is the body, resource or table that is next, `entry` the entry, and `until` the entry after the last one of
 // its table.
-// No ghost field says that it stands inside the arrays (`Stands`): that is a fact of the counts of the configuration beside
+// No ghost field says that it stands inside the arrays (`Stands`): that hangs on the counts of the configuration beside
 // it, which each method that makes a position would have to be given.
 #[derive(Clone, Copy)]
 pub struct Position {
