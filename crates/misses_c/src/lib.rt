@@ -1,4 +1,5 @@
-// `osek_misses` for C, as include/osek.h declares it: the function of crate misses, with the same contract.
+// `osek_misses` for C, as include/osek.h declares it: the function of crate misses, with the same contract. The C interface
+// needs it written out: an archive exports the functions of its own crate alone.
 #![tactic(auto)]
 
 ghost use Rattle.std.specs.Prelude.{◌≡◌, length};

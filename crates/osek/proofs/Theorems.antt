@@ -1,6 +1,6 @@
 -- What is proved, on one page. Each claim stands here in full, over the definitions in specs/ alone, and cites the
--- crate that proves it. Besides, every function meets its contract: src/lib.rt has those of the library, which fix each
--- result and every byte by such definitions.
+-- crate that proves it. Besides, every function meets its contract: crates/osek_c/src/lib.rt has those of the library,
+-- which fix each result and every byte by such definitions.
 --
 -- In order: demand 1, the round trips of demand 2, demand 3; then the requests of document 02 by their numbers.
 use Prim.Native.Nat.{ℕ, suc, ◌+◌, min, ◌≤◌, ◌<◌}

@@ -1,68 +1,10 @@
-// The functions that C calls, as include/osek.h declares them: each is that of the crate that proves it, with the same
-// contract. Crate osek_c exports them, so that an archive is built from the proved crates below it and none of them is
-// proved again. `osek_wait` and `osek_misses` are those of crates waits and misses, which waits_c and misses_c export.
+// The functions that C calls, as include/osek.h declares them, each from the crate that proves it. Crate osek_c exports
+// them, so that an archive is built from the proved crates below it and none of them is proved again. `osek_wait` and
+// `osek_misses` are those of crates waits and misses, which waits_c and misses_c export.
 #![tactic(auto)]
 
-ghost use Rattle.std.specs.Prelude.{◌≡◌, length};
-ghost use Rattle.run.specs.Run.{run_result, run_output};
-ghost use Rattle.run.specs.Steps.{machine_output};
-ghost use Rattle.oil_grammar.specs.Reader.{oil_result, oil_output, oil_place};
-ghost use Rattle.drawing.specs.Answer.{draw_result, draw_output};
-ghost use Rattle.salvage.specs.Salvage.{salvaged, events_after, stretches_after, result_of};
-ghost use Rattle.conformance.specs.Verdict.{verdict_result};
-
-#[unsafe(no_mangle)]
-pub extern "C" fn osek_run(config: &[u8], trace: &[u8], out: &mut [u8]) -> u64
-    ensures result { result ≡ run_result config.now trace.now (length out.old) }
-    ensures output { out.new
-        ≡ run_output config.now trace.now out.old }
-    ensures steps { out.new
-        ≡ machine_output config.now trace.now out.old }
-{
-    kernel::osek_run(config, trace, out)
-}
-
-#[unsafe(no_mangle)]
-pub extern "C" fn osek_salvage(trace: &[u8], events: &mut [u8], stretches: &mut [u8]) -> u64
-    ensures result { result
-        ≡ result_of (salvaged trace.now (length events.old) (length stretches.old)) }
-    ensures events { events.new
-        ≡ events_after trace.now events.old stretches.old }
-    ensures stretches { stretches.new
-        ≡ stretches_after trace.now events.old stretches.old }
-{
-    salvage::osek_salvage(trace, events, stretches)
-}
-
-#[unsafe(no_mangle)]
-pub extern "C" fn osek_oil(text: &[u8], config: &mut [u8], place: &mut [u64; 2]) -> u64
-    ensures result { result ≡ oil_result text.now (length config.old) }
-    ensures output { config.new ≡ oil_output text.now config.old }
-    ensures place { place.new ≡ oil_place text.now }
-{
-    oil::osek_oil(text, config, place)
-}
-
-#[unsafe(no_mangle)]
-pub extern "C" fn osek_draw(
-    start: u32,
-    weights: &[u16; 12],
-    limits: &[u16; 4],
-    count: u32,
-    out: &mut [u8],
-) -> u64
-    ensures result { result
-        ≡ draw_result start weights.now limits.now count (length out.old) }
-    ensures output { out.new
-        ≡ draw_output start weights.now limits.now count out.old }
-{
-    draw::osek_draw(start, weights, limits, count, out)
-}
-
-#[unsafe(no_mangle)]
-pub extern "C" fn osek_verdict(config: &[u8], trace: &[u8], recorded: &[u8]) -> u64
-    ensures { result
-        ≡ verdict_result config.now trace.now recorded.now }
-{
-    verdict::osek_verdict(config, trace, recorded)
-}
+pub use draw::osek_draw;
+pub use kernel::osek_run;
+pub use oil::osek_oil;
+pub use salvage::osek_salvage;
+pub use verdict::osek_verdict;

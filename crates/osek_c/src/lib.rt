@@ -1,6 +1,6 @@
-// The library that C links, as include/osek.h declares it: each function is that of crate osek, with the same contract.
-// A crate of its own, since a crate is a library or an archive and not both. `osek_wait` and `osek_misses` are in archives
-// of their own, those of crates waits_c and misses_c.
+// The library that C links, as include/osek.h declares it: each function is that of crate osek, with its contract. The
+// C interface needs them written out: an archive exports the functions of its own crate, and none that it passes on by
+// `use`. `osek_wait` and `osek_misses` are in archives of their own, those of crates waits_c and misses_c.
 #![tactic(auto)]
 
 ghost use Rattle.std.specs.Prelude.{◌≡◌, length};

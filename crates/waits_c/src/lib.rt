@@ -1,4 +1,5 @@
-// `osek_wait` for C, as include/osek.h declares it: the function of crate waits, with the same contract.
+// `osek_wait` for C, as include/osek.h declares it: the function of crate waits, with the same contract. The C interface
+// needs it written out: an archive exports the functions of its own crate alone.
 #![tactic(auto)]
 
 ghost use Rattle.std.specs.Prelude.{◌≡◌};
