@@ -59,6 +59,7 @@ fn read_whole(file: &mut impl Read, buffer: &mut [u8]) -> io::Result<usize>
     ensures { IfOk result (λ len. len ≤ length buffer.new) }
 {
     let mut len = 0;
+    // A `while`, since a read gives as many bytes as it likes.
     while len < buffer.len() {
         let more = file.read(&mut buffer[len..])?;
         if more == 0 {

@@ -11,6 +11,7 @@ use config::Config;
 use number_codec::write_number;
 
 // Writes a number at the start of `out`, which has room for it, or nothing where it stands in no byte; gives its length.
+// The flag is that of the definition `shown`.
 fn write_at(silent: bool, v: u32, out: &mut [u8]) -> usize
     requires { length (shown silent v) ≤ length out.old }
     ensures result { result ≡ length (shown silent v) }

@@ -10,7 +10,8 @@ use number::Refused;
 const GROUP: usize = 32;
 
 // Where none of the events of a group has an argument, as in a stretch of ticks, the group is passed at once. It is
-// looked for only after each group of events, so that a trace without such stretches pays little for the look.
+// looked for only after each group of events, so that a trace without such stretches pays little for the look. A `while`,
+// since each turn finds how far it goes.
 pub fn count_events(trace: &[u8]) -> Result<usize, Refused>
     ensures { IsCount result (read_trace trace.now) }
 {

@@ -19,10 +19,7 @@ pub fn put_answer(status: u8, runner: u8, level: u8, begun: bool, at: usize, out
     requires { at + 4 ≤ length out.old }
     ensures { out.new ≡ laid at (status ∷ runner ∷ level ∷ mark_of begun ∷ []) out.old }
 {
-    out[at] = status;
-    out[at + 1] = runner;
-    out[at + 2] = level;
-    out[at + 3] = begun as u8;
+    out[at..at + 4].copy_from_slice(&[status, runner, level, begun as u8]);
 }
 
 // Writes the losses of the first `bodies` bodies, which stand in `losses` by rank; `ranks` are those of the bodies.

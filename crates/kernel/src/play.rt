@@ -13,7 +13,8 @@ use model::{Model, Outcome, Status};
 use number_codec::{number_at, read_pair};
 use plan::Plan;
 
-// Each event meets the model that the one before it handed back; the last one's is the result.
+// Each event meets the model that the one before it handed back; the last one's is the result. A `while`, since the arm
+// of a code finds where the next event begins.
 pub fn play<'a, 'b>(
     config: &'a Config,
     plan: &'a Plan,
