@@ -6,6 +6,7 @@
 pub const MAX_TRACE: usize = 8192;
 
 // An event; an argument that it lacks is 0.
+// A struct and no enum: `write_event` promises refusals of unknown codes and stray arguments, which no variant would have.
 #[derive(Clone, Copy, Debug, Default, PartialEq, Eq)]
 pub struct Event {
     pub code: u8,
