@@ -17,6 +17,7 @@ use number_codec::{number_length, read_number, write_number};
 const WORD: usize = 4;
 
 // The bytes of such an event, by its code, two bits each; 0 where no event has the code.
+// One word and no table: the shape of which docs/PERFORMANCE.md tells (`event_end`).
 const SHORT_LENGTHS: u64 = 48994968;
 
 // The writer's refusal of an argument that the event lacks.
@@ -50,6 +51,7 @@ pub fn read_event(trace: &[u8], at: usize) -> Result<Reading<Event>, Refused>
 }
 
 // A number of the trace: where it can't be read, the refusal is the trace's.
+// A match and no `map_err(in_trace)`: that was tried, and the proof that it hands on what `in_trace` says did not close.
 fn trace_number(trace: &[u8], at: usize) -> Result<Reading<u32>, Refused>
     ensures { MatchResult result (λ r. accepted r.value r.place ≡ read_number trace.now at)
         (λ e. ((read_number trace.now at).refusal ≡ none → ⊥)
@@ -119,7 +121,8 @@ fn short_end(trace: &[u8], at: usize) -> Option<usize>
     }
 }
 
-// Whether the lowest byte is small enough for a code, and the two after it are numbers of one byte.
+// Whether the lowest byte is small enough for a code, and the two after it are numbers of one byte: `&` and not `&&`, for
+// one test without branches.
 fn is_short(word: u32) -> bool
     ensures { result ≡ (ltb (word % 256) 32 && ltb (word / 256 % 256) 128) && ltb (word / 65536 % 256) 128 }
 {
@@ -135,6 +138,7 @@ fn short_length(code: u32) -> usize
 }
 
 // How many arguments follow the code, which may be that of no event.
+// Twelve arms and a range: document 01 names this form (docs/DECISIONS.md).
 #[tactic(auto, unfolding(event::specs::Event::known, event::specs::Event::arguments))]
 fn arguments(code: u32) -> Option<u8>
     ensures { SomeIff result (known code ≡ true) (arguments code) }
@@ -157,6 +161,7 @@ fn arguments(code: u32) -> Option<u8>
 }
 
 // Writes the event at the start of `out`, or nothing where it is refused; gives its length.
+// Twelve arms and a range: document 01 names this form (docs/DECISIONS.md).
 #[tactic(auto, unfolding(event::specs::Event::known, event::specs::Event::arguments))]
 pub fn write_event(event: Event, out: &mut [u8]) -> Result<usize, Refused>
     ensures result { as_written result ≡ write_event event (length out.old) }
