@@ -8,17 +8,17 @@ use Rattle.std.proofs.Math.Bool.{or_assoc, or-false}
 use mathlib.Core.Bool.{true, false, ◌||◌}
 use mathlib.Core.List.{List, [], ◌∷◌}
 use native.Mathlib.Omega.{arith}
-use borrow.Author.Tests.{le-leb, lt-leb, eq-eqb, ne_eqb, eqb-false}
+use borrow.Author.Tests.{le-leb, lt-leb, eq-eqb, ne_eqb}
 use lib.Dec.{eqb, lit≤}
 use lib.ListN.{length}
 use Rattle.number.specs.Refusal.{none, no_room}
 use Rattle.number.specs.Output.{Written, unwritten, written}
-use Rattle.number.proofs.Cases.{by_lt, cond_either, neither}
+use Rattle.number.proofs.Cases.{by_lt, cond_either}
 use Rattle.number.proofs.Theorems.{writing_fits, writing_no_room}
 use Rattle.event.specs.Refusal.{trace_too_long}
 use Rattle.event.specs.Trace.{max_trace}
 use Rattle.drawing.specs.Weights.{total}
-use Rattle.drawing.specs.Drawing.{body_limit, resource_limit, table_limit, delay_limit, draw_bytes, Limited}
+use Rattle.drawing.specs.Drawing.{draw_bytes}
 use Rattle.drawing.specs.Answer.{zero_start, nothing_to_draw, zero_limit, writing_trace, draw_answer, filled, draw_output}
 use Rattle.drawing.proofs.Theorems.{drawn_size}
 
@@ -83,9 +83,6 @@ module _ (x : ℕ) (ws ls : List ℕ) (n : ℕ) (d : List ℕ) (r : Written) whe
           whole : r ≡ draw_answer x ws ls n (length d)
           whole = did.0 ∙ sym (passes x ws ls n (length d) start some limits)
 
-positive : (n : ℕ) → eqb n 0 ≡ false → 1 ≤ n
-positive n e = let h = eqb-false n 0 e in omega arith
-
 -- the search for a 0 among four limits
 pub zero_among : (ls : List ℕ) → length ls ≡ 4 → list_any (λ y. eqb y 0) ls ≡ zero_limit ls
 unfolding zero_limit
@@ -95,19 +92,6 @@ zero_among (a ∷ []) n = absurd (omega (arith, n))
 zero_among (a ∷ b ∷ []) n = absurd (omega (arith, n))
 zero_among (a ∷ b ∷ c ∷ []) n = absurd (omega (arith, n))
 zero_among (a ∷ b ∷ c ∷ d ∷ e ∷ l) n = absurd (omega (arith, n))
-
-pub limited : (ls : List ℕ) → zero_limit ls ≡ false → Limited ls
-unfolding zero_limit
-limited ls e =
-    let t = neither (eqb (body_limit ls) 0 || eqb (resource_limit ls) 0 || eqb (table_limit ls) 0) _ e in
-    let s = neither (eqb (body_limit ls) 0 || eqb (resource_limit ls) 0) _ t.0 in
-    let r = neither (eqb (body_limit ls) 0) _ s.0 in
-    record {
-      bodies = positive (body_limit ls) r.0;
-      resources = positive (resource_limit ls) r.1;
-      tables = positive (table_limit ls) s.1;
-      delays = positive (delay_limit ls) t.1;
-    }
 
 -- an accepted answer
 pub record Accepted (x : ℕ) (ws ls : List ℕ) (n m : ℕ) : Type 0 where
