@@ -11,12 +11,12 @@ use std::io::Read;
 use std::rt::Files;
 use std::{fs, io};
 
-// The first or the second file can't be read.
+// The first or the second file can't be read; numbers that the program prints.
 const NO_CONFIG: u8 = 40;
 
 const NO_TRACE: u8 = 41;
 
-// In place of a runner: nobody runs.
+// In place of a runner: nobody runs. The output's bytes have it.
 const IDLE: u8 = 255;
 
 fn main(rt: HostRuntime) -> io::Result<()> {

@@ -62,7 +62,7 @@ impl Chances {
     }
 }
 
-// An argument below its limit.
+// An argument below its limit. A mask has none, so that one function of both would take an Option and be no plainer.
 fn draw_below(limit: u16, value: u32) -> Argument
     requires { 1 ≤ limit }
     ensures { result ≡ draw_below limit value }

@@ -36,7 +36,8 @@ fn event_length(event: Event) -> usize
     }
 }
 
-// Writes the trace at the start of `out`, which has room for it.
+// Writes the trace at the start of `out`, which has room for it. A walk of both passes over what is done with an event
+// would carry the output as a state, and be no plainer.
 pub fn write_trace(chances: &Chances, start: u32, count: u32, out: &mut [u8])
     requires { length (draw_bytes chances.now.weights chances.now.limits start count) ≤ length out.old }
     ensures { out.new

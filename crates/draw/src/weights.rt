@@ -5,7 +5,7 @@ ghost use Rattle.drawing.specs.Weights.{total, picked};
 // How many weights there are.
 const WEIGHTS: usize = 12;
 
-// The sum of the weights.
+// The sum of the weights. The proof of `iter().map().sum()` did not close.
 pub fn total(weights: &[u16; 12]) -> u32
     ensures { result ≡ total weights.now }
 {

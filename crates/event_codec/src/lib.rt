@@ -187,7 +187,7 @@ pub fn write_event(event: Event, out: &mut [u8]) -> Result<usize, Refused>
     }
 }
 
-// Writes an event without arguments.
+// Writes an event without arguments. Each arm above knows its code to be known, and no code before the `match` does.
 fn write_none(event: Event, out: &mut [u8]) -> Result<usize, Refused>
     requires { (known event.code ≡ true) × (arguments event.code ≡ 0) }
     ensures result { as_written result ≡ write_event event (length out.old) }

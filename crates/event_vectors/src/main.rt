@@ -118,6 +118,7 @@ fn write_without_room(rt: &impl Print) -> io::Result<()> {
 // Reads event by event, up to the end or a refusal.
 fn read_all(rt: &impl Print, trace: &[u8]) -> io::Result<()> {
     let mut at = 0;
+    // No range: each event says where the next begins.
     while at < trace.len() {
         let read = read_event(trace, at);
         print_read(rt, read)?;

@@ -9,7 +9,7 @@ use event::Event;
 use model::{Model, Outcome, Registers, Status};
 use word::union;
 
-// The codes of a Chain and of a Tick.
+// The codes of a Chain and of a Tick; why codes are numbers says crate event.
 const CHAIN: u8 = 3;
 
 pub const TICK: u8 = 6;

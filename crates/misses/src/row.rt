@@ -105,7 +105,7 @@ fn moved_cell(cell: Cell, change: Change, body: u8, rank: u8, deadline: u16) -> 
 }
 
 // The same by whether the body was active before the event and is after it, whether it chained to itself, and whether
-// the event is a Tick.
+// the event is a Tick: the parameters of the definition `cell_after`.
 fn cell_after(
     cell: Cell,
     deadline: u16,

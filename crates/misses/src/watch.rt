@@ -30,6 +30,7 @@ pub fn watch(config: Config, plan: Plan, trace: &[u8]) -> Misses
     let mut misses = Misses::none();
     let mut ticks: u16 = 0;
     let mut at: usize = 0;
+    // No range: each event says where the next begins.
     while let Ok(read) = read_event(trace, at) {
         let event = read.value;
         if event.code == TICK {

@@ -16,10 +16,11 @@ use resources::ByResource;
 // The rank of whatever has none. A number and no Option: the definitions (`no_rank`) store it in the plan.
 pub const NO_RANK: u8 = u8::MAX;
 
-// The flag of an autostart task.
+// The flag of an autostart task, a number of a configuration's row.
 const AUTOSTART: u8 = 1;
 
-// The plan of a configuration.
+// The plan of a configuration. Its rows, by body, rank, resource, table or entry, are arrays of their own, as plan's
+// definitions have them.
 pub fn plan_of(config: Config) -> Plan
     ensures { result ≡ plan_of config }
 {

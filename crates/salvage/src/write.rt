@@ -12,6 +12,8 @@ use number_codec::write_number;
 
 // Writes the kept bytes and the list of stretches. `kept` and `listed` bytes are written so far, and
 // `gap` bytes before `at` are dropped and not yet listed.
+// A walk of this pass and of `measure` over what is done with a byte would carry both outputs as a state, and be no
+// plainer.
 pub fn write_both(trace: &[u8], events: &mut [u8], stretches: &mut [u8])
     requires { Fitting trace.now (length events.old) (length stretches.old) }
     ensures events { events.new ≡ written (kept_bytes trace.now) events.old }

@@ -13,7 +13,7 @@ use compare::right_answers;
 use kernel::{OUTPUT_MAX, osek_run};
 use number::{Refusal, Refused};
 
-// The least result of a run that is a refusal.
+// The least result of a run that is a refusal: a number of the C interface, as is PASS.
 const REFUSED: u64 = 1 << 32;
 
 const PASS: u64 = u64::MAX;
