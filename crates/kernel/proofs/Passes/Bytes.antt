@@ -1,11 +1,11 @@
 -- The bytes of the run's output, laid one piece after the other.
-use Prim.Native.Nat.{ℕ, ◌+◌, ◌*◌, ◌/◌, ◌%◌, ◌≤◌, ◌<◌}
+use Prim.Native.Nat.{ℕ, suc, ◌+◌, ◌*◌, ◌/◌, ◌%◌, ◌≤◌, ◌<◌}
 use mathlib.Core.Path.{◌≡◌, refl, sym, ap, ◌∙◌}
-use mathlib.Core.List.{List, [], ◌∷◌, ◌++◌, map, map-append}
+use mathlib.Core.List.{List, [], ◌∷◌, ◌++◌, map, map-append, append_assoc}
 use native.Mathlib.Omega.{arith}
 use native.Mathlib.Numerals.{add-one}
-use lib.ListN.{length, get_or, take, drop, length-map, take-append-drop}
-use lib.Seq.{take-suc, length-take-le, drop-drop}
+use lib.ListN.{length, get_or, take, drop, set, length-map, take-append-drop}
+use lib.Seq.{take-suc, sets-eq, length-take-le, drop-drop}
 use borrow.Rule.Slice.PartMut.{put_mid}
 use Rattle.std.proofs.Common.{w16}
 use Rattle.std.specs.Int.{to_le_bytes}
@@ -34,6 +34,17 @@ two_bytes n h = ap (λ (k : ℕ). n % 256 ∷ k ∷ []) high
   where
     high : n / 256 % 256 ≡ n / 256
     high = omega arith
+
+-- bytes that are stored one by one
+pub four_laid : (d : List ℕ) (at a b c e : ℕ) → at + 4 ≤ length d
+    → set (set (set (set d at a) (at + 1) b) (at + 2) c) (at + 3) e ≡ laid at (a ∷ b ∷ c ∷ e ∷ []) d
+unfolding laid
+four_laid d at a b c e h =
+    let one : at + 1 ≡ suc at = omega arith in
+    let two : at + 2 ≡ suc (suc at) = omega arith in
+    let three : at + 3 ≡ suc (suc (suc at)) = omega arith in
+    rw (one, two, three) (sets-eq (a ∷ b ∷ c ∷ e ∷ []) d at h
+    ∙ append_assoc (take at d) (a ∷ b ∷ c ∷ e ∷ []) (drop (at + 4) d))
 
 loss_bytes_append : (ns ks : List ℕ) → loss_bytes (ns ++ ks) ≡ loss_bytes ns ++ loss_bytes ks
 unfolding loss_bytes

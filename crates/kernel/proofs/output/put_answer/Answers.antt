@@ -1,9 +1,14 @@
--- `put_answer` meets its contract: the four bytes of an answer are laid.
-use Rattle.std.proofs.Common.{◌+◌, ◌-◌, ℕ, Bool, true, false, List, [], ◌∷◌, length, ◌≡◌, refl, ap, ◌∙◌, arith}
+-- `put_answer` meets its contract: four stores are four bytes laid.
+use Prim.Native.Nat.{ℕ}
+use mathlib.Core.Path.{◌≡◌, refl, ap, ◌∙◌}
+use mathlib.Core.Bool.{Bool, true, false}
+use mathlib.Core.List.{[], ◌∷◌}
+use native.Mathlib.Omega.{arith}
 use mir.Val.{bool_byte}
 use Rattle.number.specs.Output.{laid}
 use Rattle.scheduler.specs.Scheduler.{mark_of}
-use Rattle.kernel.proofs.Passes.Bytes.{laid_mid}
+use lib.ListN.{length-set}
+use Rattle.kernel.proofs.Passes.Bytes.{four_laid}
 use Rattle.kernel.proofs.output.put_answer.Goals as goal
 
 -- a mark is the byte of its flag
@@ -11,8 +16,16 @@ mark : (b : Bool) → bool_byte b ≡ mark_of b
 mark true = refl
 mark false = refl
 
+pub bounds-out-at-2 : goal.bounds-out-at-2
+bounds-out-at-2 c = simp length-set (omega arith)
+
+pub bounds-out-at-3 : goal.bounds-out-at-3
+bounds-out-at-3 c = simp length-set (omega arith)
+
+pub bounds-out-at-4 : goal.bounds-out-at-4
+bounds-out-at-4 c = simp length-set (omega arith)
+
 pub returns : goal.returns
 returns c = let a = c.args in
-    let marked = ap (λ (n : ℕ). a.status ∷ a.runner ∷ a.level ∷ n ∷ []) (mark a.begun) in
-    let wrote = c.copy_from_slice.ensures.after ∙ marked in
-    laid_mid a.at (a.at + 4 - a.at) _ a.out.now (omega (arith, ap length wrote)) ∙ ap (λ (l : List ℕ). laid a.at l a.out.now) wrote
+    four_laid a.out.now a.at a.status a.runner a.level (bool_byte a.begun) c.requires
+    ∙ ap (λ (n : ℕ). laid a.at (a.status ∷ a.runner ∷ a.level ∷ n ∷ []) a.out.now) (mark a.begun)
