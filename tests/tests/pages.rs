@@ -143,7 +143,8 @@ fn files(path: &Path, endings: &[&str]) -> Vec<PathBuf> {
 /// Whether a crate has code of its own.
 fn has_functions(name: &str) -> bool {
     let sources = files(&root().join("crates").join(name).join("src"), &[".rt"]);
-    sources.iter().any(|file| fs::read_to_string(file).expect("a source can be read").contains("fn "))
+    let texts = sources.iter().map(|file| fs::read_to_string(file).expect("a source can be read"));
+    texts.into_iter().any(|text| text.contains("fn ") || text.contains("\npub use "))
 }
 
 /// Whether a file of one of these crates declares a name.
@@ -208,7 +209,7 @@ fn the_rooms_name_every_crate_without_functions() {
 #[test]
 fn the_claims_of_the_readme_stand_on_the_page_of_theorems() {
     let page = read("crates/osek/proofs/Theorems.antt");
-    let code = read("crates/osek/src/lib.rt");
+    let code = read("crates/osek_c/src/lib.rt");
     let rows = &rows("README.md", "What is proved")[1..];
     assert!(rows.len() >= 10);
     for name in rows.iter().flat_map(|row| names(&row[1])) {

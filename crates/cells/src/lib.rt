@@ -133,7 +133,7 @@ fn switch_for(on: bool, turn: bool) -> u16
     }
 }
 
-// Whether any cell has a turn to pass.
+// Whether any cell has a turn to pass. Without a second way out the loop is a few vector instructions.
 fn some_turn(on: &[u16; 64]) -> bool
     ensures { result ≡ some_turn max_entries 0 on.now }
 {

@@ -11,3 +11,4 @@ mod Reading
 mod Measuring
 mod Writing
 mod Answer
+pub mod Told

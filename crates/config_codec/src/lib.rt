@@ -47,7 +47,7 @@ pub fn write_config(config: Config, out: &mut [u8]) -> Result<usize, Refused>
     ensures result { as_written result ≡ write_config config (length out.old) }
     ensures output { out.new ≡ wrote_config config out.old }
 {
-    // A value's refusal has the place 0.
+    // A value's refusal has the place 0. A `match`, where the proof of `map_err(..)?` did not close.
     let n = match walk::walk(&config) {
         Ok(measured) => measured.place,
         Err(Refused { refusal, .. }) => return Err(Refused { refusal, place: 0 }),

@@ -1,5 +1,5 @@
 // Where in a configuration's numbers a walk is: which number comes next, and which follows it.
-ghost use Rattle.std.specs.Prelude.{◌≡◌, ◌+◌, ◌≤◌, ◌<◌, cond, eqb};
+ghost use Rattle.std.specs.Prelude.{◌≡◌, ◌+◌, ◌<◌, cond, eqb};
 ghost use Rattle.config.specs.Draft.{ended, put, silent_at, or_on, start};
 ghost use Rattle.config_codec.specs.Position.{draft_at, position_of, row_at, Stands};
 

@@ -18,6 +18,7 @@ pub fn walk<N: Numbers>(numbers: &N) -> Result<Reading<Config>, Refused>
     let mut c = no_config();
     let mut p = Position::first();
     let mut at = 0;
+    // No range: it steps a position. The `if let` stands where the proof of `map_err(..)?` did not close.
     while !p.ended() {
         let number = numbers.number(p, c.version, at)?;
         if let Err(refusal) = put(&mut c, p, number.value) {

@@ -30,6 +30,7 @@ pub fn write_numbers(c: Config, out: &mut [u8])
 {
     let mut p = Position::first();
     let mut at = 0;
+    // No range: it steps a position.
     while !p.ended() {
         let v = asked(&c, p);
         at += write_at(p.silent(c.version), v, &mut out[at..]);

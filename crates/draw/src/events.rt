@@ -85,7 +85,7 @@ fn draw_whole(value: u32) -> Argument
     }
 }
 
-// What the arguments of a code are the numbers of.
+// What the arguments of a code are the numbers of. A `match` over the codes is a form that document 01 names.
 #[tactic(auto, unfolding(drawing::specs::Drawing::first_sort, drawing::specs::Drawing::second_sort))]
 fn sorts(code: u8) -> (Sort, Sort)
     ensures { result ≡ (first_sort code, second_sort code) }

@@ -4,3 +4,4 @@ mod Arms
 mod Steps
 mod Ends
 pub mod Parts
+pub mod Told

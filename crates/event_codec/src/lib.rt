@@ -1,7 +1,7 @@
 // The events of a trace, read and written: a code, then its arguments, each a number of the format.
 #![tactic(auto)]
 
-ghost use Rattle.std.specs.Prelude.{◌≡◌, true, cond, ◌&&◌, ◌∷◌, ◌++◌, ◌+◌, ◌/◌, ◌%◌, ◌<◌, ◌≤◌, ltb, length, get_or, MatchResult, SomeIff, IfSome, Ok};
+ghost use Rattle.std.specs.Prelude.{◌≡◌, true, cond, ◌&&◌, ◌∷◌, ◌++◌, ◌+◌, ◌/◌, ◌%◌, ◌<◌, ◌≤◌, ltb, length, MatchResult, SomeIff, IfSome, Ok};
 ghost use Rattle.number.specs.Refusal.{none, malformed};
 ghost use Rattle.number.specs.Number.{accepted, read_number, number_bytes};
 ghost use Rattle.number.specs.Output.{writing, written};
@@ -129,7 +129,7 @@ fn is_short(word: u32) -> bool
     (word % 256 < 32) & (word / 256 % 256 < 128) & (word / 65536 % 256 < 128)
 }
 
-// How many bytes an event of this code has, if its numbers have one byte each.
+// How many bytes an event of this code has, if its numbers have one byte each; 0, without a branch, if it is unknown.
 fn short_length(code: u32) -> usize
     requires { code < 32 }
     ensures { result ≡ cond (known code) (1 + arguments code) 0 }

@@ -135,6 +135,7 @@ fn read(rt: &impl Print, label: &str, trace: &[u8], at: usize) -> io::Result<()>
     print_read(rt, read_event(trace, at))
 }
 
+// The parts of an event and the output meet in this one call.
 fn write(
     rt: &impl Print,
     label: &str,

@@ -1,5 +1,5 @@
 // The deadline cells, one a body, by body.
-ghost use Rattle.std.specs.Prelude.{◌≡◌, not, ◌&&◌, ◌||◌, ◌+◌, ◌<◌, ◌≤◌, ◌^◌, take};
+ghost use Rattle.std.specs.Prelude.{◌≡◌, not, ◌&&◌, ◌||◌, ◌<◌, ◌≤◌, ◌^◌, take};
 ghost use Rattle.config.specs.Value.{max_bodies};
 ghost use Rattle.deadlines.specs.DeadlineCells.{suspended_cell, ready_cell, counted_cell, matches_of};
 ghost use Rattle.misses.specs.Change.{cell_after, cell_by, row_by, fresh_cell_in, fresh_row_by};

@@ -1,4 +1,5 @@
-// The events of extended tasks: Wait, Set and Clear. What OSEK calls an event is an event bit here: a task has 32.
+// The events of extended tasks: Wait, Set and Clear. What OSEK calls an event is an event bit here: a task has 32. Each
+// is lent the rows that it reads or changes: why says `Model`.
 ghost use Rattle.std.specs.Prelude.{◌≡◌, cond, ◌&&◌, ◌||◌, eqb};
 ghost use Rattle.scheduler.specs.Bits.{any_set};
 ghost use Rattle.word.specs.Word.{has};

@@ -1,4 +1,4 @@
-// The events of tables: Tick, Start and Stop.
+// The events of tables: Tick, Start and Stop. Each is lent the arrays that it reads or changes: why says `Model`.
 ghost use Rattle.std.specs.Prelude.{◌≡◌, ◌||◌, ◌+◌, ltb, eqb, get_or};
 ghost use Rattle.scheduler.specs.Call.{longest_delay};
 ghost use Rattle.machine.specs.Cells.{is_on};

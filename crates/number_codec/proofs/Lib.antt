@@ -1,2 +1,3 @@
 -- What the functions' proofs share; the laws of numbers are those of `number`.
 mod Steps
+pub mod Refusals

@@ -1,5 +1,5 @@
 // A search among the tokens of a text that goes by classes of names.
-ghost use Rattle.std.specs.Prelude.{◌≡◌, ℕ, Bool};
+ghost use Rattle.std.specs.Prelude.{ℕ, Bool};
 ghost use Rattle.oil.specs.Tokens.{First};
 ghost use Rattle.oil.specs.ByClass.{FindsFirst};
 

@@ -29,7 +29,8 @@ use place::position_of;
 use uses::unborne;
 use walk::walk;
 
-// Why a text is refused, with the line and column of its place; both are 0 where a number is out of its range.
+// Why a text is refused, with the line and column of its place; both are 0 where a number is out of its range,
+// as the C interface has it.
 #[derive(Clone, Copy, Debug, PartialEq, Eq)]
 pub struct OilRefused {
     pub refusal: Refusal,

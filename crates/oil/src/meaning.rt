@@ -1,6 +1,6 @@
 // The third walk over a text: its configuration. Bodies and resources are numbered as they stand.
 ghost use Rattle.std.specs.Prelude.{◌≡◌, slice_set};
-ghost use Rattle.config.specs.Value.{no_config, with_version};
+ghost use Rattle.config.specs.Value.{no_config};
 ghost use Rattle.oil_grammar.specs.Token.{decimal};
 ghost use Rattle.oil_grammar.specs.Meaning.{held, kind_of, empty, ended};
 ghost use Rattle.oil_grammar.specs.Automaton.{fresh};

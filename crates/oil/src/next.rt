@@ -1,5 +1,5 @@
 // The next token of a text, from a place on. A comment ends with its line, or with the first */.
-ghost use Rattle.std.specs.Prelude.{◌≡◌, ℕ, ◌+◌, ◌≤◌, ◌<◌, Bool, length, drop, unwrap_or, IfSome};
+ghost use Rattle.std.specs.Prelude.{◌≡◌, ℕ, ◌+◌, ◌≤◌, ◌<◌, Bool, length, unwrap_or, IfSome};
 ghost use Rattle.oil_grammar.specs.Byte.{span};
 ghost use Rattle.oil_grammar.specs.Token.{spelled_sort};
 ghost use Rattle.oil_grammar.specs.Next.{closing, comment, blank, token_of, token_at, next_token};

@@ -33,7 +33,7 @@ pub fn by_table(config: &Config) -> ByTable
     }
 }
 
-// The table that an entry is of; 8 where it is of none.
+// The table that an entry is of; 8 where it is of none, as the definition `table_in` has it.
 fn table_of(entries: &[u8; 8], e: usize) -> usize
     ensures { result ≡ table_in entries.now e }
 {

@@ -13,7 +13,8 @@ use config::{Config, EXTENDED, ISR};
 use plan::Plan;
 use resources::ByResource;
 
-// The rank of whatever has none. A number and no Option: the definitions (`no_rank`) store it in the plan.
+// The rank of whatever has none. A number and no Option: the definitions (`no_rank`) store it in the plan. Crate cells,
+// which this one does not see, has it too.
 pub const NO_RANK: u8 = u8::MAX;
 
 // The flag of an autostart task, a number of a configuration's row.

@@ -7,3 +7,4 @@ mod Totals
 mod Progress
 mod Outputs
 mod Answers
+pub mod Told

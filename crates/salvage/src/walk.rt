@@ -10,7 +10,7 @@ use event_codec::read_event;
 use number_codec::number_length;
 
 // How many bytes from `at` on belong to an event: the `left` ones of an event that began before, or
-// those of one that begins here; 0 where the byte at `at` is to be dropped.
+// those of one that begins here; 0 where the byte at `at` is to be dropped, as the definition `belonging` has it.
 pub fn belonging(trace: &[u8], at: usize, left: usize) -> usize
     ensures { result ≡ belonging left (drop at trace.now) }
 {

@@ -39,7 +39,8 @@ fn wait(config: &[u8], trace: &[u8], body: u32) -> Result<u32, Refused>
     wait_by(read.value, last.request, last.started, last.held, body)
 }
 
-// The answer by the words of the last model: who waits to begin and who is started, by rank, and what is held.
+// The answer by the words of the last model: who waits to begin and who is started, by rank, and what is held. They are
+// the parameters of the definition `wait_by`.
 fn wait_by(
     config: Config,
     request: u32,
