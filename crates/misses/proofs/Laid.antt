@@ -1,6 +1,6 @@
--- The bytes of the first 64 misses, noted one by one: `noted_first`.
+-- The bytes of the first 64 misses, noted one by one: `noted_more`, `noted_first`.
 use Prim.Native.Nat.{ℕ, suc, ◌+◌, ◌*◌, ◌-◌, ◌≤◌, ◌<◌, min}
-use mathlib.Core.Path.{◌≡◌, sym, ap, ◌∙◌}
+use mathlib.Core.Path.{◌≡◌, refl, sym, ap, ◌∙◌}
 use mathlib.Core.List.{List, [], ◌∷◌, ◌++◌}
 use native.Mathlib.Omega.{arith}
 use lib.ListN.{length, take, drop, length-take, take-append-drop}
@@ -13,7 +13,20 @@ use Rattle.deadlines.specs.Miss.{Miss}
 use Rattle.deadlines.specs.Report.{most_listed, first_misses, miss_bytes, bytes_needed}
 use Rattle.deadlines.proofs.Theorems.{bytes_needed_lem}
 use Rattle.misses.specs.Noted.{list_room, noted_one, noted}
-use Rattle.misses.proofs.Noted.{bytes_length}
+
+pub bytes_length : (ms : List Miss) → length (miss_bytes ms) ≡ 3 * length ms
+unfolding miss_bytes
+bytes_length [] = refl
+bytes_length (m ∷ ms) = omega (arith, bytes_length ms)
+
+-- one miss behind the others
+pub noted_more : (n : ℕ) (ms : List Miss) (m : Miss) (d : List ℕ)
+    → noted n (ms ++ m ∷ []) d ≡ noted_one (n + length ms) m (noted n ms d)
+unfolding noted
+noted_more n [] m d = ap (λ (k : ℕ). noted_one k m d) (omega arith)
+noted_more n (x ∷ ms) m d =
+    noted_more (suc n) ms m (noted_one n x d)
+    ∙ ap (λ (k : ℕ). noted_one k m (noted (suc n) ms (noted_one n x d))) (omega arith)
 
 laid_none : (at : ℕ) (d : List ℕ) → laid at [] d ≡ d
 unfolding laid
@@ -28,7 +41,7 @@ unfolding miss_bytes
 none_left n d = laid_none n d
 
 module _ (n : ℕ) (m : Miss) (d : List ℕ) where
-  one_laid : n < most_listed → noted_one n m d ≡ laid (3 * n) (miss_bytes (m ∷ [])) d
+  pub one_laid : n < most_listed → noted_one n m d ≡ laid (3 * n) (miss_bytes (m ∷ [])) d
   unfolding noted_one
   one_laid few = rw (lt-ltb n most_listed few)
 

@@ -1,33 +1,35 @@
 -- The misses noted one by one, those of a row of cells, and the bytes of those that are listed.
 --
+--   noted_blank                  no miss yet
 --   noted_listed, noted_counted  a miss more, with a place for it and without
 --   note_step                    the matches of a row, by one cell more
---   laid_more                    the list, by one miss more; list_short, list_whole: what it is left as
-use Prim.Native.Nat.{ℕ, suc, ◌+◌, ◌*◌, ◌/◌, ◌%◌, ◌≤◌, ◌<◌, min}
+--   list_short, list_whole       what the list is left as
+use Prim.Native.Nat.{ℕ, zero, suc, ◌+◌, ◌*◌, ◌≤◌, ◌<◌, min}
 use mathlib.Core.Path.{◌≡◌, refl, sym, ap, ◌∙◌, subst}
 use mathlib.Core.Bool.{Bool, true, false, cond}
-use mathlib.Core.List.{List, [], ◌∷◌, ◌++◌, append_assoc, append-nil, map}
+use mathlib.Core.List.{List, [], ◌∷◌, ◌++◌, append_assoc, append-nil}
 use native.Mathlib.Omega.{arith}
 use native.Mathlib.Nat.{zero-add}
 use native.Mathlib.Numerals.{add-one}
-use lib.ListN.{length, get_or, take, set, length-append, length-set}
-use lib.Seq.{take_all, take-suc, length-take-le}
+use lib.ListN.{length, get_or, take, drop, set, replicate, length-append, length-set}
+use lib.Seq.{take-suc, length-take-le, drop_at, take-append-add, drop-append-add}
 use borrow.Rule.Slice.PartMut.{put_mid}
-use Rattle.std.proofs.lemmas.List.{map-set, take_more_set, take-append-le, take-map, length-map, get_or-map}
+use Rattle.std.specs.List.{All}
+use Rattle.std.proofs.lemmas.List.{length-replicate, get_or-replicate}
+use Rattle.std.proofs.lemmas.List.Elements.{All-set}
 use Rattle.number.specs.Output.{written, laid}
-use Rattle.number.proofs.Cases.{by_lt}
-use Rattle.number.proofs.Laying.{laid_laid, laid_zero}
+use Rattle.number.proofs.Laying.{laid_zero}
 use Rattle.number.proofs.Theorems.{written_no_room}
 use Rattle.cell.specs.declared.Cell.{Cell}
 use Rattle.cell.specs.Cell.{tick_cell}
 use Rattle.deadlines.specs.Miss.{Miss}
 use Rattle.deadlines.specs.DeadlineCells.{matches_of}
-use Rattle.deadlines.specs.Report.{most_listed, first_misses, miss_bytes}
+use Rattle.deadlines.specs.Report.{most_listed, first_misses, miss_bytes, bytes_needed}
 use Rattle.kernel.proofs.Passes.Bytes.{laid_mid}
 use Rattle.deadlines.proofs.Theorems.{bytes_needed_lem}
-use Rattle.misses.specs.declared.list.Miss as Code
 use Rattle.misses.specs.declared.list.Misses.{Misses}
-use Rattle.misses.specs.Noted.{miss_of, Noted, NotesMore}
+use Rattle.misses.specs.Noted.{noted_one, noted, IsRow, bytes_of, bytes_in, Noted, NotesMore}
+use Rattle.misses.proofs.Laid.{bytes_length, noted_more, one_laid, one_left, noted_first}
 
 -- nothing more
 pub notes_none : (x : Misses) → NotesMore x x []
@@ -36,37 +38,80 @@ notes_none x before g = subst (Noted x) (sym (append-nil before)) g
 pub notes_both : {x y z : Misses} (ms ks : List Miss) → NotesMore x y ms → NotesMore y z ks → NotesMore x z (ms ++ ks)
 notes_both {x} {y} {z} ms ks f g before h = subst (Noted z) (append_assoc before ms ks) (g (before ++ ms) (f before h))
 
+-- a row put in the place of one of the rows rs
+row_laid : (rs : List (List ℕ)) (i : ℕ) (r : List ℕ) → All IsRow rs → i < length rs → IsRow r
+    → bytes_of (set rs i r) ≡ laid (3 * i) r (bytes_of rs)
+unfolding laid
+row_laid [] i r each inside row = absurd (omega arith)
+row_laid (x ∷ xs) zero r each inside row =
+    let long : length x ≡ length r = each 0 [] (omega arith) ∙ sym row in
+    ap (λ (l : List ℕ). r ++ l) (sym (rw zero-add (drop_at x (bytes_of xs) (length r) long)))
+row_laid (x ∷ xs) (suc i) r each inside row =
+    let ys = bytes_of xs in
+    let long : length x ≡ 3 = each 0 [] (omega arith) in
+    let front : 3 * suc i ≡ length x + 3 * i = omega arith in
+    let behind : 3 * suc i + length r ≡ length x + (3 * i + length r) = omega arith in
+    ap (λ (l : List ℕ). x ++ l) (row_laid xs i r (λ k d h. each (suc k) d (omega arith)) (omega arith) row)
+    ∙ sym (append_assoc x (take (3 * i) ys) (r ++ drop (3 * i + length r) ys))
+    ∙ sym (ap (λ (n : ℕ). take (3 * suc i) (x ++ ys) ++ (r ++ drop n (x ++ ys))) behind
+    ∙ ap (λ (n : ℕ). take n (x ++ ys) ++ (r ++ drop (length x + (3 * i + length r)) (x ++ ys))) front
+    ∙ ap (λ (l : List ℕ). l ++ (r ++ drop (length x + (3 * i + length r)) (x ++ ys))) (take-append-add x ys (3 * i))
+    ∙ ap (λ (l : List ℕ). (x ++ take (3 * i) ys) ++ (r ++ l)) (drop-append-add x ys (3 * i + length r)))
+
+abbrev pub blank_row : List ℕ
+blank_row = 0 ∷ 0 ∷ 0 ∷ []
+
+-- no miss yet
+pub noted_blank : Noted (record { count = 0; listed = replicate most_listed blank_row }) []
+unfolding noted
+noted_blank =
+    record {
+      room = length-replicate most_listed blank_row;
+      rows = λ k d h. ap length (get_or-replicate most_listed k blank_row d (rw length-replicate at h));
+      counted = refl;
+      blank = bytes_of (replicate most_listed blank_row);
+      size = refl;
+      bytes = refl;
+    }
+
 -- one miss more
-module _ (x : Misses) (m : Code.Miss) where
-  pub noted_listed : x.count < most_listed
-      → NotesMore x (record { count = x.count + 1; listed = set x.listed x.count m }) (miss_of m ∷ [])
-  noted_listed few before g =
-      let room : x.count < length (map miss_of x.listed) = omega (arith, length-map x.listed miss_of, g.room) in
-      let short : length before ≤ most_listed = omega (arith, g.counted) in
-      let all : length (before ++ miss_of m ∷ []) ≤ most_listed
-      = omega (arith, g.counted, length-append before (miss_of m ∷ [])) in
+module _ (x : Misses) (m : Miss) where
+  -- with its bytes in the row r
+  pub noted_listed : {r : List ℕ} → x.count < most_listed → r ≡ miss_bytes (m ∷ [])
+      → NotesMore x (record { count = x.count + 1; listed = set x.listed x.count r }) (m ∷ [])
+  noted_listed {r} few is before g =
+      let row : IsRow r = ap length is ∙ bytes_length (m ∷ []) in
+      let here : x.count ≡ 0 + length before = omega (arith, g.counted) in
       record {
-        room = length-set x.listed x.count m ∙ g.room;
-        counted = omega (arith, g.counted, length-append before (miss_of m ∷ []));
-        first =
-            ap (take (x.count + 1)) (map-set miss_of x.listed x.count m)
-            ∙ take_more_set (map miss_of x.listed) x.count (miss_of m) room
-            ∙ ap (λ (l : List Miss). l ++ miss_of m ∷ []) (g.first ∙ take_all most_listed before short)
-            ∙ sym (take_all most_listed (before ++ miss_of m ∷ []) all);
+        room = length-set x.listed x.count r ∙ g.room;
+        rows = All-set IsRow x.listed x.count r row g.rows;
+        counted = omega (arith, g.counted, length-append before (m ∷ []));
+        blank = g.blank;
+        size = g.size;
+        bytes =
+            row_laid x.listed x.count r g.rows (omega (arith, g.room)) row
+            ∙ ap (λ (l : List ℕ). laid (3 * x.count) l (bytes_in x)) is
+            ∙ sym (one_laid x.count m (bytes_in x) few)
+            ∙ ap (noted_one x.count m) g.bytes
+            ∙ ap (λ (n : ℕ). noted_one n m (noted 0 before g.blank)) here
+            ∙ sym (noted_more 0 before m g.blank);
       }
 
-  pub noted_counted : most_listed ≤ x.count
-      → NotesMore x (record { count = x.count + 1; listed = x.listed }) (miss_of m ∷ [])
+  -- without a place for it
+  pub noted_counted : most_listed ≤ x.count → NotesMore x (record { count = x.count + 1; listed = x.listed }) (m ∷ [])
   noted_counted many before g =
-      let size : length (map miss_of x.listed) ≡ most_listed = length-map x.listed miss_of ∙ g.room in
+      let here : x.count ≡ 0 + length before = omega (arith, g.counted) in
       record {
         room = g.room;
-        counted = omega (arith, g.counted, length-append before (miss_of m ∷ []));
-        first =
-            take_all (x.count + 1) (map miss_of x.listed) (omega arith)
-            ∙ sym (take_all x.count (map miss_of x.listed) (omega arith))
-            ∙ g.first
-            ∙ sym (take-append-le most_listed before (miss_of m ∷ []) (omega (arith, g.counted)));
+        rows = g.rows;
+        counted = omega (arith, g.counted, length-append before (m ∷ []));
+        blank = g.blank;
+        size = g.size;
+        bytes =
+            sym (one_left x.count m (bytes_in x) many)
+            ∙ ap (noted_one x.count m) g.bytes
+            ∙ ap (λ (n : ℕ). noted_one n m (noted 0 before g.blank)) here
+            ∙ sym (noted_more 0 before m g.blank);
       }
 
 -- the matches at the k-th Tick of a row and of one behind it
@@ -96,17 +141,6 @@ matches_more k xs i c h =
     ∙ ap (λ (n : ℕ). matches_of k 0 (take i xs) ++ matches_of k n (get_or xs i c ∷ []))
     (zero-add _ ∙ length-take-le i xs (omega arith))
 
-pub bytes_length : (ms : List Miss) → length (miss_bytes ms) ≡ 3 * length ms
-unfolding miss_bytes
-bytes_length [] = refl
-bytes_length (m ∷ ms) = omega (arith, bytes_length ms)
-
-pub bytes_append : (ms ks : List Miss) → miss_bytes (ms ++ ks) ≡ miss_bytes ms ++ miss_bytes ks
-unfolding miss_bytes
-bytes_append [] ks = refl
-bytes_append (m ∷ ms) ks =
-    ap (λ (l : List ℕ). m.tick % 256 ∷ m.tick / 256 ∷ m.body ∷ l) (bytes_append ms ks)
-
 -- the step of a loop over the cells xs; t: the cell of i matches
 pub note_step : {x y z : Misses} (k : ℕ) (xs : List Cell) (i : ℕ) (c : Cell) {t : Bool} → i < length xs
     → (tick_cell (get_or xs i c)).matched ≡ t
@@ -120,59 +154,25 @@ note_step {x} {y} {z} k xs i c {t} h tells so_far one =
     ∙ ap (λ (b : Bool). matches_of k 0 (take i xs) ++ cond b (record { tick = k; body = i } ∷ []) []) tells in
     subst (NotesMore x z) (sym all) (notes_both _ _ so_far one)
 
--- nothing is laid yet
-pub laid_none : (d : List ℕ) → d ≡ laid 0 (miss_bytes []) d
-unfolding laid miss_bytes
-laid_none d = refl
-
--- one miss more
-pub laid_more : (ms : List Code.Miss) (i : ℕ) (m : Code.Miss) {list part : List ℕ} (d : List ℕ) (k : ℕ) → i < length ms
-    → 3 * length ms ≤ length d → k ≡ 3
-    → list ≡ laid 0 (miss_bytes (take i (map miss_of ms))) d
-    → part ≡ miss_bytes (miss_of (get_or ms i m) ∷ [])
-    → put_mid (3 * i) k list part ≡ laid 0 (miss_bytes (take (i + 1) (map miss_of ms))) d
-laid_more ms i m {list} {part} d k h room three so_far new =
-    let bs = miss_bytes (take i (map miss_of ms)) in
-    let inside : i < length (map miss_of ms) = omega (arith, length-map ms miss_of) in
-    let size : length bs ≡ 3 * i
-    = bytes_length (take i (map miss_of ms)) ∙ ap (λ (n : ℕ). 3 * n) (length-take-le i (map miss_of ms) (omega arith)) in
-    let one : length part ≡ 3 = ap length new ∙ bytes_length (miss_of (get_or ms i m) ∷ []) in
-    let front : 3 * i ≡ 0 + length bs = omega arith in
-    let next : take (i + 1) (map miss_of ms) ≡ take i (map miss_of ms) ++ miss_of (get_or ms i m) ∷ []
-    = rw add-one (take-suc (map miss_of ms) i (miss_of m) inside)
-    ∙ ap (λ (x : Miss). take i (map miss_of ms) ++ x ∷ []) (get_or-map miss_of ms i m (miss_of m) h) in
-    laid_mid (3 * i) k part list (one ∙ sym three)
-    ∙ ap (laid (3 * i) part) so_far
-    ∙ ap (λ (n : ℕ). laid n part (laid 0 bs d)) front
-    ∙ laid_laid 0 bs part d (omega arith)
-    ∙ ap (λ (l : List ℕ). laid 0 (bs ++ l) d) new
-    ∙ ap (λ (l : List ℕ). laid 0 l d) (sym (bytes_append (take i (map miss_of ms)) (miss_of (get_or ms i m) ∷ [])))
-    ∙ ap (λ (l : List Miss). laid 0 (miss_bytes l) d) (sym next)
-
--- n misses are listed in x
+-- n misses are listed in x, which has the misses ms
 module _ (x : Misses) (ms : List Miss) (g : Noted x ms) (n : ℕ) (listed : n ≡ min x.count most_listed) where
-  size : length (map miss_of x.listed) ≡ most_listed
-  size = length-map x.listed miss_of ∙ g.room
-
-  first_all : (i : ℕ) → length (take n x.listed) ≤ i → take i (map miss_of (take n x.listed)) ≡ first_misses ms
-  first_all i h =
-      take_all i (map miss_of (take n x.listed)) (omega (arith, length-map (take n x.listed) miss_of))
-      ∙ sym (take-map miss_of n x.listed)
-      ∙ by_lt x.count most_listed
-      (λ few. ap (λ (k : ℕ). take k (map miss_of x.listed)) (omega arith))
-      (λ many. take_all n (map miss_of x.listed) (omega (arith, size))
-      ∙ sym (take_all x.count (map miss_of x.listed) (omega (arith, size))))
-      ∙ g.first
+  need : 3 * n ≡ bytes_needed ms
+  need = omega (arith, g.counted)
 
   -- too short for them
   pub list_short : (d : List ℕ) → length d < 3 * n → d ≡ written (miss_bytes (first_misses ms)) d
   list_short d short =
-      sym (written_no_room (miss_bytes (first_misses ms)) d (omega (arith, bytes_needed_lem ms, g.counted)))
+      sym (written_no_room (miss_bytes (first_misses ms)) d (omega (arith, bytes_needed_lem ms, need)))
 
-  pub list_whole : (i : ℕ) (d : List ℕ) {list : List ℕ} → length (take n x.listed) ≤ i → 3 * n ≤ length d
-      → list ≡ laid 0 (miss_bytes (take i (map miss_of (take n x.listed)))) d
-      → list ≡ written (miss_bytes (first_misses ms)) d
-  list_whole i d all fits lies =
-      lies
-      ∙ ap (λ (l : List Miss). laid 0 (miss_bytes l) d) (first_all i all)
-      ∙ sym (laid_zero (miss_bytes (first_misses ms)) d (omega (arith, bytes_needed_lem ms, g.counted)))
+  -- the bytes at the front of x are those of the first misses
+  pub list_whole : (d : List ℕ) {part : List ℕ} → 3 * n ≤ length d → part ≡ take (3 * n) (bytes_in x)
+      → put_mid 0 (3 * n) d part ≡ written (miss_bytes (first_misses ms)) d
+  list_whole d {part} fits copied =
+      let told : part ≡ miss_bytes (first_misses ms)
+      = copied
+      ∙ ap (λ (k : ℕ). take k (bytes_in x)) need
+      ∙ ap (take (bytes_needed ms)) g.bytes
+      ∙ noted_first ms g.blank g.size in
+      laid_mid 0 (3 * n) part d (ap length told ∙ bytes_needed_lem ms ∙ sym need)
+      ∙ ap (λ (l : List ℕ). laid 0 l d) told
+      ∙ sym (laid_zero (miss_bytes (first_misses ms)) d (omega (arith, bytes_needed_lem ms, need)))

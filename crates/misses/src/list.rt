@@ -30,31 +30,31 @@ impl Miss {
     }
 }
 
+// Of those listed the bytes are kept, a row for each miss.
 #[derive(Clone, Copy)]
 pub struct Misses {
     pub count: usize,
-    pub listed: [Miss; MOST_LISTED],
+    pub listed: [[u8; MISS_BYTES]; MOST_LISTED],
 }
 
 impl Misses {
     pub fn none() -> Misses
         ensures { Noted result [] }
     {
-        let blank = Miss { tick: 0, body: 0 };
         Misses {
             count: 0,
-            listed: [blank; MOST_LISTED],
+            listed: [[0; MISS_BYTES]; MOST_LISTED],
         }
     }
 
     // Counts a miss, and lists it where there is a place for it.
     pub fn note(&mut self, miss: Miss)
-        requires { self.old.count < 2 ^ 63 }
+        requires { self.old.count + 1 < 2 ^ 64 }
         ensures counted { self.new.count ≡ self.old.count + 1 }
         ensures noted { NotesMore self.old self.new (miss_of miss ∷ []) }
     {
         if self.count < MOST_LISTED {
-            self.listed[self.count] = miss;
+            self.listed[self.count] = miss.bytes();
         }
         self.count += 1;
     }
@@ -65,18 +65,14 @@ impl Misses {
         ensures list_after { ForNoted self.now (λ ms. list.new ≡ written (miss_bytes (first_misses ms)) list.old) }
         ensures place { IfErr result (λ refused. refused.place < 2 ^ 63) }
     {
-        let listed = self.count.min(MOST_LISTED);
-        let need = MISS_BYTES * listed;
+        let need = MISS_BYTES * self.count.min(MOST_LISTED);
         if list.len() < need {
             return Err(Refused {
                 refusal: Refusal::NoRoom,
                 place: need,
             });
         }
-        for (i, miss) in self.listed[..listed].iter().enumerate() {
-            let at = MISS_BYTES * i;
-            list[at..at + MISS_BYTES].copy_from_slice(&miss.bytes());
-        }
+        list[..need].copy_from_slice(&self.listed.as_flattened()[..need]);
         Ok(self.count)
     }
 }

@@ -74,7 +74,7 @@ impl DeadlineCells {
 
     // Notes the cells that match at this Tick, in order of body.
     pub fn note_matches(&self, tick: u16, misses: &mut Misses)
-        requires { misses.old.count < 2 ^ 62 }
+        requires { misses.old.count < 2 ^ 63 }
         ensures { NotesMore misses.old misses.new (matches_of tick 0 (take self.now.bodies self.now.cells)) }
     {
         for (body, cell) in self.cells[..self.bodies].iter().enumerate() {
