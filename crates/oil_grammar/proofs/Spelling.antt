@@ -1,11 +1,11 @@
 -- Spellings that are the same.
 use Prim.Native.Nat.{ℕ}
-use mathlib.Core.Path.{◌≡◌, refl}
-use mathlib.Core.Bool.{true, false}
+use mathlib.Core.Path.{◌≡◌, refl, sym, ◌∙◌}
+use mathlib.Core.Bool.{Bool, true, false}
 use mathlib.Core.List.{List, [], ◌∷◌}
 use native.Mathlib.Omega.{arith}
 use borrow.Author.Tests.{eq-eqb, ne_eqb}
-use Rattle.number.proofs.Cases.{by_eq}
+use Rattle.number.proofs.Cases.{by_test, by_eq}
 use Rattle.oil_grammar.specs.Token.{same}
 
 pub false_true : false ≡ true → ⊥
@@ -28,3 +28,8 @@ same_equal (b ∷ x) (c ∷ y) e =
   where
     cong : {b c : ℕ} {x y : List ℕ} → b ≡ c → x ≡ y → b ∷ x ≡ c ∷ y
     cong h k = cc
+
+-- a test that is true exactly where two lists are equal is `same`
+pub same_result : (r : Bool) (x y : List ℕ) → (r ≡ true → x ≡ y) × (x ≡ y → r ≡ true) → r ≡ same x y
+same_result true x y h = sym (rw (h.0 refl) (same_refl y))
+same_result false x y h = by_test (same x y) (λ e. h.1 (same_equal x y e) ∙ sym e) (λ e. sym e)
