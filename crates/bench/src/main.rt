@@ -5,16 +5,20 @@
 ghost use Rattle.std.specs.Prelude.{◌≤◌, ◌<◌, length, IfOk};
 
 use config_codec::read_config;
+use event::MAX_TRACE;
 use event_codec::read_event;
-use kernel::run;
+use kernel::osek_run;
 use std::io::Read;
 use std::rt::Files;
 use std::{fs, io};
 
 // The first or the second file can't be read; numbers that the program prints.
-const NO_CONFIG: u8 = 40;
+const NO_CONFIG: u64 = 40;
 
-const NO_TRACE: u8 = 41;
+const NO_TRACE: u64 = 41;
+
+// The run's result is its refusal times this, plus the place; or the number of events.
+const REFUSAL: u64 = 0x1_0000_0000;
 
 // In place of a runner: nobody runs. The output's bytes have it.
 const IDLE: u8 = 255;
@@ -37,13 +41,15 @@ fn main(rt: HostRuntime) -> io::Result<()> {
 
 // Runs the trace, and prints its answers or the refusal.
 fn report(rt: &impl Print, config: &[u8], trace: &[u8], out: &mut [u8]) -> io::Result<()> {
-    match run(config, trace, out) {
-        Ok(played) => {
-            print_events(rt, trace, out, played.events)?;
-            print_losses(rt, config, out, played.events)
-        }
-        Err(refused) => print_refused(rt, refused.refusal.code(), refused.place),
+    // The function that C calls, and not `run`: what is printed is then what C gets.
+    let result = osek_run(config, trace, out);
+    if REFUSAL <= result {
+        return print_refused(rt, result / REFUSAL, result % REFUSAL);
     }
+    // No trace has more events than bytes.
+    let events = MAX_TRACE.min(result as usize);
+    print_events(rt, trace, out, events)?;
+    print_losses(rt, config, out, events)
 }
 
 // Reads a file into the buffer, until it ends or the buffer is full, and gives how many bytes it has there. A read that
@@ -70,7 +76,7 @@ fn read_whole(file: &mut impl Read, buffer: &mut [u8]) -> io::Result<usize>
     Ok(len)
 }
 
-fn print_refused(rt: &impl Print, refusal: u8, place: usize) -> io::Result<()> {
+fn print_refused(rt: &impl Print, refusal: u64, place: u64) -> io::Result<()> {
     println!(rt; "refused {refusal} {place}")
 }
 

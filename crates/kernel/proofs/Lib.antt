@@ -1,2 +1,3 @@
 -- The laws of the run.
+pub mod Ends
 pub mod Passes

@@ -3,6 +3,9 @@
 --   as_result a      what a call returns to C: a count, or the refusal with its place as one number
 --   as_run_result a  the same of a run, which counts its events
 --   model_left a     the model after the last event; a refused run plays none, and nobody is ready
+--
+-- Main law: `as_result_injective` (proofs/Ends.antt): with a count and a place below 2 ^ 32 the number tells the results
+-- apart.
 use Rattle.std.specs.Prelude.{ℕ, Result, Ok, Err}
 use Rattle.number.specs.declared.Refused.{Refused}
 use Rattle.number.specs.Answer.{code}

@@ -25,7 +25,7 @@ ghost use Rattle.misses.specs.Watched.{Watchable};
 
 use config::Config;
 use config_codec::read_config;
-use kernel::{OUTPUT_MAX, run};
+use kernel::{OUTPUT_MAX, try_run};
 use number::Refused;
 use planner::plan_of;
 use watch::watch;
@@ -53,7 +53,7 @@ fn missed(config: &[u8], trace: &[u8], list: &mut [u8]) -> Result<usize, Refused
     ensures place { IfErr result (λ refused. refused.place < 2 ^ 63) }
 {
     let mut out = [0u8; OUTPUT_MAX];
-    run(config, trace, &mut out)?;
+    try_run(config, trace, &mut out)?;
     let read = read_config(config)?;
     list_misses(read.value, trace, list)
 }

@@ -12,7 +12,7 @@ ghost use Rattle.waiting.specs.Words.{jobs_ahead_in, wait_at, wait_by};
 
 use config::{Config, EXTENDED, TIME_TRIGGERED};
 use config_codec::read_config;
-use kernel::{OUTPUT_MAX, run};
+use kernel::{OUTPUT_MAX, try_run};
 use number::{Refusal, Refused};
 use planner::plan_of;
 
@@ -33,7 +33,7 @@ fn wait(config: &[u8], trace: &[u8], body: u32) -> Result<u32, Refused>
     ensures place { IfErr result (λ refused. refused.place < 2 ^ 63) }
 {
     let mut out = [0u8; OUTPUT_MAX];
-    let played = run(config, trace, &mut out)?;
+    let played = try_run(config, trace, &mut out)?;
     let read = read_config(config)?;
     let last = played.model.registers;
     wait_by(read.value, last.request, last.started, last.held, body)

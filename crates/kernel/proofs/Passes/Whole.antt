@@ -32,6 +32,7 @@ use Rattle.machine.specs.Machine.{unstarted, fresh_model, losses_of, machine_see
 use Rattle.plan.proofs.Fitted.{Fitted, fitted}
 use Rattle.run.specs.Run.{call_of, calls_of, played, read_run, answer_bytes, loss_bytes}
 use Rattle.run.specs.Steps.{machine_answers}
+use Rattle.run.proofs.Bounds.{config_place_lt}
 use Rattle.run.proofs.Theorems.{places}
 use Rattle.run.proofs.Answers.{events, length_events, length_losses}
 use Rattle.run.proofs.Input.{config_refused, trace_too_long_lem, trace_refused, all_readable, Ran, ran_refused, ran_short, ran_whole}
@@ -85,8 +86,8 @@ refused_high r p = let some = code_some r in
 
 -- the run's ways out, by what the code read: rc of the configuration
 module _ (cs ts d : List ℕ) (rc : ConfigRead) (read : rc ≡ read_config cs) where
-  pub config_place_le : rc.place ≤ length cs
-  config_place_le = rw read (reading cs).inside
+  pub config_place_small : rc.place < places
+  config_place_small = rw read (config_place_lt cs)
 
   pub ran_config_refused : (x : ℕ) → (rc.refusal ≡ none → ⊥) → x ≡ packed rc.refusal rc.place → Ran cs ts d x d (unstarted 0)
   ran_config_refused x n same =

@@ -14,7 +14,7 @@ returns-in_err-played c = let a = c.args in
     let ended = c.in_err-played.ensures in
     record {
       value = rw (p.1, p.2) (refused_same a.config.now a.trace.now ended.result (omega arith) a.body (refused_high _ _));
-      place = rw (p.1, p.2) ended.place;
+      place = rw (p.1, p.2) (omega (arith, ended.place));
     }
 
 pub returns-in_err-read : goal.returns-in_err-read

@@ -1,10 +1,10 @@
--- `run` meets its contract: each way out is one of the run's checks, or the whole run.
+-- `try_run` meets its contract: each way out is one of the run's checks, or the whole run.
 use Rattle.std.proofs.Common.{refl, ap, arith}
 use Rattle.std.proofs.lemmas.Result.{err_from_is_err_and}
 use Rattle.model.specs.View.{view, model_of}
 use Rattle.number.proofs.Answers.{code_some}
-use Rattle.kernel.proofs.Passes.Whole.{config_place_le, ran_config_refused, ran_too_long, config_accepted, config_shaped, few_events, trace_place_le, ran_trace_refused, ran_no_room, ran_all}
-use Rattle.kernel.proofs.run.Goals as goal
+use Rattle.kernel.proofs.Passes.Whole.{config_place_small, ran_config_refused, ran_too_long, config_accepted, config_shaped, few_events, trace_place_le, ran_trace_refused, ran_no_room, ran_all}
+use Rattle.kernel.proofs.try_run.Goals as goal
 
 pub returns-in_err-read : goal.returns-in_err-read
 returns-in_err-read c = let a = c.args in
@@ -17,7 +17,7 @@ returns-in_err-read c = let a = c.args in
       steps = h.steps;
       model = rw p.1 (ap model_of h.model);
       few = rw p.1 tt;
-      place = rw (p.1, p.2) (omega (arith, config_place_le a.config.now a.trace.now a.out.now _ read, c.well_formed.0));
+      place = rw (p.1, p.2) (omega (arith, config_place_small a.config.now a.trace.now a.out.now _ read));
     }
 
 pub returns-then-trace-gt-MAX_TRACE : goal.returns-then-trace-gt-MAX_TRACE
