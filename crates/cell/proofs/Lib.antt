@@ -1,4 +1,5 @@
--- The laws of the cell. `Theorems` states them, `Tick` to `Rows` prove them.
+-- The laws of the cell. `Theorems` states them, `Tick` to `Rows` prove them, and the loop of `tick_row` goes by
+-- `Progress`.
 pub mod Theorems
 pub mod Tick
 pub mod Order
@@ -8,3 +9,4 @@ pub mod Due
 pub mod Match
 pub mod OnTime
 pub mod Rows
+pub mod Progress
