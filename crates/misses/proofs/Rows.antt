@@ -2,14 +2,14 @@
 use Prim.Native.Nat.{ℕ, zero, suc, ◌+◌, ◌≤◌, ◌<◌}
 use mathlib.Core.Path.{◌≡◌, refl, sym, ap, ◌∙◌}
 use mathlib.Core.Bool.{Bool, true, false, cond, ◌&&◌, ◌||◌}
-use mathlib.Core.List.{List, ◌∷◌, map}
+use mathlib.Core.List.{List, [], ◌∷◌, ◌++◌, map}
 use Rattle.std.specs.Prelude.{Some, None}
 use Rattle.std.specs.List.{range_with_len}
 use Rattle.std.proofs.lemmas.List.FromFn.{fill_by_all, take-map-range_with_len}
 use native.Mathlib.Omega.{arith}
 use lib.Dec.{eqb, ltb}
-use lib.ListN.{length, get_or, take, drop, length-take}
-use lib.Seq.{drop-cons}
+use lib.ListN.{length, get_or, take, drop, set, length-take}
+use lib.Seq.{take-suc-set, drop-cons}
 use borrow.Author.Tests.{ne_eqb}
 use Rattle.number.proofs.Cases.{by_eq}
 use Rattle.cell.specs.declared.Cell.{Cell}
@@ -37,6 +37,30 @@ pub row_filled : (f : ℕ → Cell) (xs : List Cell) (m n : ℕ) → length xs �
 row_filled f xs m n long few each =
     ap (take n) (fill_by_all f xs m blank_cell long each)
     ∙ take-map-range_with_len f 0 m n few ∙ sym (row_map f 0 n)
+
+-- one cell more
+row_more : (f : ℕ → Cell) (a n : ℕ) → row_of f a (suc n) ≡ row_of f a n ++ f (a + n) ∷ []
+unfolding row_of
+row_more f a zero = ap (λ (k : ℕ). f k ∷ []) (omega arith)
+row_more f a (suc n) =
+    ap (λ (l : List Cell). f a ∷ l)
+    (row_more f (suc a) n ∙ ap (λ (k : ℕ). row_of f (suc a) n ++ f k ∷ []) (omega arith))
+
+-- nothing is filled
+pub row_start : (f : ℕ → Cell) (xs : List Cell) → take 0 xs ≡ row_of f 0 0
+unfolding row_of
+row_start f xs = refl
+
+-- a row that is filled up to the place b, and then there
+pub row_step : (f : ℕ → Cell) (b : ℕ) (xs : List Cell) (x : Cell) → b < length xs → take b xs ≡ row_of f 0 b → x ≡ f b
+    → take (b + 1) (set xs b x) ≡ row_of f 0 (b + 1)
+row_step f b xs x within filled same =
+    let one : b + 1 ≡ suc b = omega arith in
+    rw one
+    (take-suc-set xs b x within
+    ∙ ap (λ (l : List Cell). l ++ x ∷ []) filled
+    ∙ ap (λ (y : Cell). row_of f 0 b ++ y ∷ []) same
+    ∙ sym (row_more f 0 b ∙ ap (λ (k : ℕ). row_of f 0 b ++ f k ∷ []) (omega arith)))
 
 pub row_length : (f : ℕ → Cell) (a n : ℕ) → length (row_of f a n) ≡ n
 unfolding row_of

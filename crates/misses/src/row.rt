@@ -43,7 +43,7 @@ impl DeadlineCells {
         }
     }
 
-    // The cells after an event.
+    // The cells after an event: only those of the bodies move.
     pub fn moved(self, change: Change) -> DeadlineCells
         ensures cells { take self.bodies result.cells
             ≡ row_by change self.ranks self.deadlines self.bodies self.cells }
@@ -52,18 +52,15 @@ impl DeadlineCells {
         ensures bodies { result.bodies ≡ self.bodies }
     {
         let DeadlineCells {
-            cells,
+            cells: met,
             ranks,
             deadlines,
             bodies,
         } = self;
-        let cells = array::from_fn(|b: usize| moved_cell(
-            cells[b],
-            change,
-            b as u8,
-            ranks[b],
-            deadlines[b],
-        ));
+        let mut cells = met;
+        for b in 0..bodies {
+            cells[b] = moved_cell(met[b], change, b as u8, ranks[b], deadlines[b]);
+        }
         DeadlineCells {
             cells,
             ranks,
