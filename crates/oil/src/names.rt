@@ -12,6 +12,9 @@ use crate::token_walk::{Step, TokenWalk};
 // How many names of a class are kept at most.
 pub const ROOM: usize = 2048;
 
+// A text of no more tokens gets this room, which suffices for it: to fill the other takes longer than to read such a text.
+pub const FEW: usize = 128;
+
 // A name, and its hash at the key of its class.
 #[derive(Clone, Copy)]
 pub struct Name<'a> {
@@ -147,6 +150,10 @@ impl<'a, 'b> Names<'a, 'b> {
 fn first_twice(text: &[u8], tokens: usize, class: Class) -> Option<usize>
     ensures { First tokens (twice_at text.now false class) result }
 {
+    if tokens <= FEW {
+        let mut room = [Name::NONE; FEW];
+        return Names::new(text, false, class, &mut room).gather(tokens);
+    }
     let mut room = [Name::NONE; ROOM];
     Names::new(text, false, class, &mut room).gather(tokens)
 }

@@ -17,7 +17,12 @@ fn span<F: Fn(u8) -> bool>(rest: &[u8], is_of: F) -> usize
     ensures run { result ≡ span class rest.now }
     ensures inside { result ≤ length rest.now }
 {
-    rest.iter().take_while(|b| is_of(**b)).count()
+    for (i, &b) in rest.iter().enumerate() {
+        if !is_of(b) {
+            return i;
+        }
+    }
+    rest.len()
 }
 
 // How many bytes there are up to and with the first */.

@@ -9,7 +9,7 @@ ghost use Rattle.oil.specs.Names.{unborne_no, missing_at};
 use crate::automaton::uses_resource;
 use crate::by_class::first_by_class;
 use crate::hashing::Class;
-use crate::names::{Name, Names, ROOM};
+use crate::names::{FEW, Name, Names, ROOM};
 use crate::next::token_start;
 use crate::token_walk::TokenWalk;
 use number::{Refusal, Refused};
@@ -18,8 +18,25 @@ use number::{Refusal, Refused};
 fn first_missing(text: &[u8], tokens: usize, bound: usize, class: Class) -> Option<usize>
     ensures { First bound (missing_at text.now tokens class) result }
 {
+    if tokens <= FEW {
+        let mut room = [Name::NONE; FEW];
+        return missing_in(text, tokens, bound, class, &mut room);
+    }
     let mut room = [Name::NONE; ROOM];
-    let mut names = Names::new(text, true, class, &mut room);
+    missing_in(text, tokens, bound, class, &mut room)
+}
+
+// The same with a room for the names.
+fn missing_in<'a, 'b>(
+    text: &'a [u8],
+    tokens: usize,
+    bound: usize,
+    class: Class,
+    room: &'b mut [Name<'a>],
+) -> Option<usize>
+    ensures { First bound (missing_at text.now tokens class) result }
+{
+    let mut names = Names::new(text, true, class, room);
     names.gather(tokens);
     TokenWalk::new(text, bound).position(|step| uses_resource(step.progress)
         && names.lacks(tokens, step.spelling))

@@ -1,16 +1,21 @@
--- `span` meets its contract: as many bytes as `take_while` takes.
-use Rattle.std.proofs.Common.{rules, sym, ◌∙◌}
-use Rattle.std.proofs.lemmas.Iterator.{YieldsList-from_slice}
-use Rattle.std.proofs.lemmas.Iterator.Consumers.{count_from_yields_List}
-use Rattle.std.proofs.lemmas.Iterator.Search.{YieldsList-from_take_while}
-use Rattle.std.proofs.lemmas.List.Folds.{length-prefix_len}
-use Rattle.oil.proofs.Runs.{span_prefix}
+-- `span` meets its contract: the run has come as far as the index.
+use Rattle.std.proofs.Common.{◌≡◌, true, false, get_or, refl, rules, arith}
+use Rattle.oil_grammar.proofs.Span.{span_le, run_stopped, run_ended, run_more}
 use Rattle.oil.proofs.next.span.Goals as goal
 
+pub loop-i-init : goal.loop-i-init
+loop-i-init g c = refl
+
+pub returns-then-not-is_of-clause-run : goal.returns-then-not-is_of-clause-run
+returns-then-not-is_of-clause-run g c =
+    let out : g.class (get_or c.args.rest.now c.loop-i.i 0) ≡ false = search rules in
+    omega (arith, run_stopped g.class c.args.rest.now 0 c.loop-i.i c.loop-i.invariant (omega arith) out)
+
+pub loop-i-preserved : goal.loop-i-preserved
+loop-i-preserved g c =
+    let in_run : g.class (get_or c.args.rest.now c.loop-i.i 0) ≡ true = search rules in
+    run_more g.class c.args.rest.now 0 c.loop-i.i c.loop-i.invariant (omega arith) in_run
+
 pub returns-clause-run : goal.returns-clause-run
-returns-clause-run g c =
-    let rest = c.args.rest.now in
-    count_from_yields_List c.take_while.result _ c.count.ensures.ran
-    (YieldsList-from_take_while _ g.class (YieldsList-from_slice rest cc) c.take_while.ensures.closure
-    c.take_while.ensures.done (λ x b q k. search rules))
-    ∙ length-prefix_len g.class rest ∙ sym (span_prefix g.class rest)
+returns-clause-run g c = let rest = c.args.rest.now in
+    omega (arith, run_ended g.class rest 0 c.loop-i.i c.loop-i.invariant (omega arith), span_le g.class rest)

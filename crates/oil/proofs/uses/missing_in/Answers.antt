@@ -1,4 +1,4 @@
--- `first_missing` meets its contract: by the names of RESOURCE objects that are gathered.
+-- `missing_in` meets its contract: by the names of RESOURCE objects that are gathered.
 use Rattle.std.proofs.Common.{ℕ, List, Bool, true, false, ◌≡◌, ◌&&◌, not, length, refl, sym, rules, tests, ap, ◌∙◌, inl, arith}
 use Rattle.std.proofs.lemmas.Iterator.{IsFirst-from_position}
 use Rattle.std.proofs.lemmas.Iterator.Consumers.{YieldsList-from_first}
@@ -9,7 +9,7 @@ use Rattle.oil_grammar.specs.Records.{Token}
 use Rattle.oil.specs.Tokens.{step_of, token, progress_after}
 use Rattle.oil.specs.Names.{in_class, spelled, missing_at}
 use Rattle.oil.proofs.TokenLists.{length_tokens, first_at, first_same}
-use Rattle.oil.proofs.uses.first_missing.Goals as goal
+use Rattle.oil.proofs.uses.missing_in.Goals as goal
 
 pub position-requires-clause-fits : goal.position-requires-clause-fits
 position-requires-clause-fits c = let a = c.args in
