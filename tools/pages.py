@@ -51,7 +51,7 @@ def pages():
     found = ["README.md", "CONTRIBUTING.md", "CHANGELOG.md", "tests/README.md", "tool/README.md", "unit/README.md", "include/osek.h"]
     for pattern in ("docs/*.md", "docs/changes/*.md"):
         found += sorted(os.path.relpath(it, root()) for it in glob.glob(os.path.join(root(), pattern)))
-    return [it for it in found if it not in ("docs/PORT.md", "docs/DESIGN-PASS.md")]
+    return [it for it in found if it not in ("docs/PORT.md", "docs/DESIGN-PASS.md", "docs/LOOK-BACK.md")]
 
 
 def respell(page, text, table, known):

@@ -154,12 +154,13 @@ fn declared_in(crates: &[String], name: &str) -> bool {
     sources.into_iter().any(|file| declares(&fs::read_to_string(file).expect("a source can be read"), name))
 }
 
-/// The pages, without the notes of docs/changes, and without docs/PORT.md and docs/DESIGN-PASS.md, which name what was.
+/// The pages, without the notes of docs/changes, and without docs/PORT.md, docs/DESIGN-PASS.md and docs/LOOK-BACK.md, which
+/// name what was.
 fn pages() -> Vec<String> {
     let mut pages: Vec<String> = ["README.md", "CONTRIBUTING.md", "CHANGELOG.md"].map(String::from).into();
     pages.extend(["tests/README.md", "tool/README.md", "unit/README.md"].map(String::from));
     pages.extend(names_in("docs", ".md").iter().map(|name| format!("docs/{name}")));
-    pages.retain(|page| page != "docs/PORT.md" && page != "docs/DESIGN-PASS.md");
+    pages.retain(|page| !["docs/PORT.md", "docs/DESIGN-PASS.md", "docs/LOOK-BACK.md"].contains(&page.as_str()));
     pages
 }
 
