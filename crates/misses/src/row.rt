@@ -43,17 +43,29 @@ impl DeadlineCells {
         }
     }
 
-    // Moves the cells of the bodies by an event.
-    pub fn moved(&mut self, change: Change)
-        ensures cells { take self.old.bodies self.new.cells
-            ≡ row_by change self.old.ranks self.old.deadlines self.old.bodies self.old.cells }
-        ensures ranks { self.new.ranks ≡ self.old.ranks }
-        ensures deadlines { self.new.deadlines ≡ self.old.deadlines }
-        ensures bodies { self.new.bodies ≡ self.old.bodies }
+    // The cells after an event: only those of the bodies move.
+    pub fn moved(self, change: Change) -> DeadlineCells
+        ensures cells { take self.bodies result.cells
+            ≡ row_by change self.ranks self.deadlines self.bodies self.cells }
+        ensures ranks { result.ranks ≡ self.ranks }
+        ensures deadlines { result.deadlines ≡ self.deadlines }
+        ensures bodies { result.bodies ≡ self.bodies }
     {
-        let met = self.cells;
-        for b in 0..self.bodies {
-            self.cells[b] = moved_cell(met[b], change, b as u8, self.ranks[b], self.deadlines[b]);
+        let DeadlineCells {
+            cells: met,
+            ranks,
+            deadlines,
+            bodies,
+        } = self;
+        let mut cells = met;
+        for b in 0..bodies {
+            cells[b] = moved_cell(met[b], change, b as u8, ranks[b], deadlines[b]);
+        }
+        DeadlineCells {
+            cells,
+            ranks,
+            deadlines,
+            bodies,
         }
     }
 

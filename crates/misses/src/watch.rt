@@ -38,7 +38,7 @@ pub fn watch(config: Config, plan: Plan, trace: &[u8]) -> Misses
             cells.note_matches(ticks, &mut misses);
         }
         let outcome = step(model, &config, &plan, event);
-        cells.moved(change_by(model, event, outcome, &plan.body));
+        cells = cells.moved(change_by(model, event, outcome, &plan.body));
         model = outcome.model;
         at = read.place;
     }

@@ -28,14 +28,14 @@ loop-read-smaller c = let read = c.in-Ok.ensures in
 pub loop-read-preserved : goal.loop-read-preserved
 loop-read-preserved c = let event = c.in-Ok.read.value in
     let cells = c.loop-read.cells in
-    let moved = c.moved.ensures in
+    let moved = c.moved-cells.ensures in
     watching_step c.loop-read.invariant c.in-Ok.ensures c.requires.few_bodies c.step-outcome.ensures
     (elim c.if-event-eq-TICK.branch [
       | then-event-eq-TICK w ↦ counting_tick (ticks event ∙ eq-eqb event.code tick w.if-event-eq-TICK.true) w.ticks-is
           (rw w.misses-is w.note_matches.ensures)
       | else-event-eq-TICK w ↦ counting_none (ticks event ∙ ne_eqb event.code tick w.if-event-eq-TICK.false) w.ticks-is w.misses-is
     ])
-    c.moved.new.self
+    c.moved-cells.result
     (moved.cells
     ∙ ap (λ (y : Change). row_by y cells.ranks cells.deadlines cells.bodies cells.cells) c.change_by.ensures)
     moved.bodies moved.ranks moved.deadlines
