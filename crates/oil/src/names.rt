@@ -12,7 +12,7 @@ use crate::token_walk::{Step, TokenWalk};
 // How many names of a class are kept at most.
 pub const ROOM: usize = 2048;
 
-// A text of no more tokens gets this room, which suffices for it: to fill the other takes longer than to read such a text.
+// A text of no more tokens gets this room, which suffices for it: to fill the other takes most of the time of a small text.
 pub const FEW: usize = 128;
 
 // A name, and its hash at the key of its class.
